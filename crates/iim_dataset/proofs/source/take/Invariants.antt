@@ -1,0 +1,8 @@
+use Rattle.iim_dataset.specs.Devices.{Interrupts}
+use Rattle.iim_dataset.proofs.source.take.Given as goal
+
+abbrev pub invariant-loop : goal.invariant-loop
+invariant-loop g l = record {
+  interrupted : Interrupts l.counter (g.R.Source.state l.fn.reader) (g.R.Source.state l.reader);
+  leads : g.R.Source.leads l.fn.reader l.reader;
+}

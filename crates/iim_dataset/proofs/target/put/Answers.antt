@@ -1,0 +1,22 @@
+use Rattle.std.proofs.Common.{take, drop, arith, length-take, length-drop, ◌∙◌}
+use Rattle.std.proofs.Math.Seq.{take-add}
+use Rattle.iim_dataset.proofs.Devices.{appends_appends, rest_whole}
+use Rattle.iim_dataset.proofs.target.put.Goals as goal
+
+pub loop-at-preserved : goal.loop-at-preserved
+loop-at-preserved g c =
+    let piece = c.args.piece.now in
+    let at = c.loop-at.at in
+    let old = g.W.Target.state c.args.writer.now in
+    let middle = g.W.Target.state c.loop-at.writer in
+    let new = g.W.Target.state c.send.new.writer in
+    let sent = c.in-Ok.ensures.ok in
+    let out = c.loop-at.invariant.out in
+    record {
+      within = omega (arith, simp (length-take, length-drop) at sent.0);
+      out = (
+        rw (take-add at c.in-Ok.taken piece) (appends_appends old.octets middle.octets new.octets (take at piece) (take c.in-Ok.taken (drop at piece)) out.0
+            (rw (rest_whole piece at) at sent.1)),
+        (omega (arith, sent.3, out.1.0), omega (arith, sent.2, out.1.1)),
+      );
+    }

@@ -1,0 +1,5 @@
+use Rattle.iim_dataset.specs.Devices.{Interrupts}
+use Rattle.iim_dataset.proofs.target.send.Given as goal
+
+abbrev pub invariant-loop : goal.invariant-loop
+invariant-loop g l = Interrupts l.counter (g.W.Target.state l.fn.writer) (g.W.Target.state l.writer)

@@ -1,0 +1,78 @@
+-- Datasets, and how octets spell them (IIM version 4, the chapter on DataSets).
+use Rattle.std.specs.Prelude.{◌≡◌, ℕ, ◌<◌, ◌≤◌, nat_lt, ◌⊎◌, if◌then◌else◌, List, [], ◌∷◌, ◌++◌, length}
+use Rattle.byteorder.specs.Endian.{big_bytes}
+use Rattle.iim_dataset.specs.Octets.{IsOctet, Octets, IsProperPrefix, number}
+use Rattle.iim_dataset.specs.declared.head.Head.{Head}
+
+-- a dataset: the number of its record, its number in the record, and its data
+pub record Dataset : Type 0 where
+  pub rec : ℕ
+  pub set : ℕ
+  pub octets : List ℕ
+
+-- what the tag of a dataset tells
+abbrev pub head_of : Dataset → Head
+head_of d = record { rec = d.rec; set = d.set; count = length d.octets }
+
+-- The most octets of an extended count behind its first two. None: every count has the standard form.
+abbrev pub count_octets : ℕ
+count_octets = 0
+
+-- The standard form of a count: two octets, of which the first is below 80h.
+abbrev pub IsStandardCount : ℕ → ℕ → ℕ → List ℕ → Type 0
+IsStandardCount count high low more = (high < 128) × IsOctet low × (more ≡ []) × (number (high ∷ low ∷ []) ≡ count)
+
+-- The extended form: the first two octets hold 8000h and how many octets follow, at most `limit`, and those hold the count.
+abbrev pub IsExtendedCount : ℕ → ℕ → ℕ → ℕ → List ℕ → Type 0
+IsExtendedCount limit count high low more =
+    (high ≡ 128) × (low ≡ length more) × (1 ≤ low) × (low ≤ limit) × Octets more × (number more ≡ count)
+
+-- The octets spell the count of a tag.
+abbrev pub SpellsCount : ℕ → ℕ → List ℕ → Type 0
+SpellsCount limit count [] = ⊥
+SpellsCount limit count (high ∷ []) = ⊥
+SpellsCount limit count (high ∷ low ∷ more) = IsStandardCount count high low more ⊎ IsExtendedCount limit count high low more
+
+-- A tag: the tag marker 1Ch, the record number, the dataset number and the count.
+pub record SpellsTag (limit : ℕ) (h : Head) (tag : List ℕ) : Type 0 where
+  pub rec : IsOctet h.rec
+  pub set : IsOctet h.set
+  pub count : List ℕ
+  pub is_count : SpellsCount limit h.count count
+  pub parts : tag ≡ 28 ∷ h.rec ∷ h.set ∷ count
+
+-- A dataset: its tag, and then as many octets of data as the tag counts.
+pub record SpellsDataset (limit : ℕ) (d : Dataset) (xs : List ℕ) : Type 0 where
+  pub tag : List ℕ
+  pub is_tag : SpellsTag limit (head_of d) tag
+  pub data_octets : Octets d.octets
+  pub parts : xs ≡ tag ++ d.octets
+
+-- A stream: spellings of the datasets, joined in order.
+abbrev pub SpellsStream : ℕ → List Dataset → List ℕ → Type 0
+SpellsStream limit [] xs = xs ≡ []
+SpellsStream limit (d ∷ ds) xs = (first : List ℕ) × (rest : List ℕ)
+    × SpellsDataset limit d first × SpellsStream limit ds rest × (xs ≡ first ++ rest)
+
+-- less than the whole spelling of one dataset
+pub record IsPart (limit : ℕ) (xs : List ℕ) : Type 0 where
+  pub begun : Dataset
+  pub octets : List ℕ
+  pub spelled : SpellsDataset limit begun octets
+  pub is_part : IsProperPrefix xs octets
+
+-- The octets so far split into whole datasets and a rest that is less than a whole one.
+pub record SplitsInto (limit : ℕ) (xs : List ℕ) (whole : List Dataset) (rest : List ℕ) : Type 0 where
+  pub front : List ℕ
+  pub is_front : SpellsStream limit whole front
+  pub is_rest : IsPart limit rest
+  pub parts : xs ≡ front ++ rest
+
+-- ---- how a writer spells
+
+-- the shortest spelling of a count: two octets up to 32,767, above that an extended count of four
+abbrev pub canonical_count : ℕ → List ℕ
+canonical_count n = if nat_lt n 32768 then big_bytes 2 n else 128 ∷ 4 ∷ big_bytes 4 n
+
+abbrev pub canonical_tag : Head → List ℕ
+canonical_tag h = 28 ∷ h.rec ∷ h.set ∷ canonical_count h.count

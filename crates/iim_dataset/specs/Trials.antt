@@ -1,0 +1,48 @@
+-- Test devices, as contracts see them.
+use Rattle.std.specs.Prelude.{◌≡◌, ℕ, ◌+◌, ◌≤◌, List, length, drop, Some, None, Option}
+use Rattle.iim_dataset.specs.Devices.{Device, LaterThan}
+use Rattle.iim_dataset.specs.declared.trial.Plan.{Plan}
+use Rattle.iim_dataset.specs.declared.trial.Trouble.{Trouble}
+use Rattle.iim_dataset.specs.declared.trial.Trouble.TheVariants.{Failure, Interruptions}
+use Rattle.iim_dataset.specs.declared.trial.TrialReader.{TrialReader}
+use Rattle.iim_dataset.specs.declared.trial.TrialWriter.{TrialWriter}
+
+-- a device with the faults of a plan
+abbrev pub planned : Option (List ℕ) → Plan → Device
+planned octets p = record { octets = octets; failures = p.failures; interruptions = p.interruptions }
+
+-- the interruptions that are still to come
+abbrev pub to_come : Trouble → ℕ
+to_come Failure = 0
+to_come (Interruptions left) = left
+
+-- Where interruptions are planned, no call fails.
+abbrev pub KeepsFailures : Trouble → ℕ → ℕ → Type 0
+KeepsFailures Failure old new = old ≤ new
+KeepsFailures (Interruptions left) old new = new ≡ old
+
+abbrev pub SameTrouble : Trouble → Trouble → Type 0
+SameTrouble Failure Failure = Unit {0}
+SameTrouble Failure (Interruptions left) = ⊥
+SameTrouble (Interruptions left) Failure = ⊥
+SameTrouble (Interruptions left) (Interruptions less) = Unit {0}
+
+-- Trouble comes as it was planned: no failure where interruptions are, and no interruption beyond those that were to come.
+pub record GoesByPlan (old new : Plan) : Type 0 where
+  pub trouble : SameTrouble old.trouble new.trouble
+  pub failures : KeepsFailures old.trouble old.failures new.failures
+  pub interruptions : new.interruptions + to_come new.trouble ≤ old.interruptions + to_come old.trouble
+  pub later : old.interruptions ≤ new.interruptions
+
+-- a reader of known octets as a device
+abbrev pub trial_device : TrialReader → Device
+trial_device r = planned (Some (drop r.at r.octets.now)) r.plan
+
+-- Where reads can lead: some octets fewer, and trouble by the plan.
+pub record ReadsOn (old new : TrialReader) : Type 0 where
+  pub later : LaterThan (trial_device old) (trial_device new)
+  pub plan : GoesByPlan old.plan new.plan
+
+-- what a test target took
+abbrev pub taken_octets : {N : ℕ} → TrialWriter N → List ℕ
+taken_octets w = w.octets.items

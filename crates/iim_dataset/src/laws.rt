@@ -1,0 +1,13 @@
+//! What holds of all spellings, whatever form the counts have.
+
+ghost use Rattle.iim_dataset.specs.Laws.{NoDatasetBeginsAnother, OctetsSplitOneWay};
+
+/// No spelling of a dataset begins another: what is spelled at the front of octets is determined.
+pub fn no_dataset_begins_another()
+    ensures { NoDatasetBeginsAnother }
+{}
+
+/// Octets split in one way at most into whole datasets and a rest that is less than one.
+pub fn octets_split_one_way()
+    ensures { OctetsSplitOneWay }
+{}

@@ -1,0 +1,20 @@
+//! Datasets of the Information Interchange Model: their tags, and the devices that octets come from and go to.
+//!
+//! Stands on `byteorder` and `arrayvec`. The crates above read tags by [`read_head`], write them by [`head_bytes`], and
+//! reach readers and writers by [`take`] and [`put`] alone.
+#![tactic(auto)]
+
+mod device;
+mod head;
+mod laws;
+mod source;
+mod stop;
+mod target;
+mod trial;
+
+pub use device::IoFault;
+pub use head::{Head, HeadCause, HeadFault, TAG_MARKER, read_head};
+pub use source::{FromRead, Source, take};
+pub use stop::Stop;
+pub use target::{FromWrite, Target, put};
+pub use trial::{TrialReader, TrialWriter, Trouble};

@@ -1,0 +1,102 @@
+//! Where octets go.
+
+ghost use Rattle.std.specs.Prelude.{◌≡◌, ◌<◌, ℕ, length, IfOk, IfErr, OnOk, OnErr};
+ghost use Rattle.iim_dataset.specs.Devices.{Device, Accepted, Faulted, Wrote, Stopped, Sent, unbroken, writer_device};
+
+use crate::device::{IoFault, MAX_INTERRUPTIONS};
+use std::io::{ErrorKind, Write};
+
+/// Where octets go. Contracts see it as a device: the octets that it took, where they are known, and its faults so far.
+pub trait Target {
+    ghost state: { Self → Device };
+
+    /// Takes octets from the front of the piece, and answers how many. A target that faults took nothing, and nothing
+    /// taken of a piece that is not empty is a failure.
+    fn write(&mut self, piece: &[u8]) -> Result<usize, IoFault>
+        ensures ok { IfOk result (Accepted (state self.old) (state self.new) piece.now) }
+        ensures err { IfErr result (Faulted (state self.old) (state self.new)) };
+}
+
+/// Writes once, past interruptions: the millionth in a row is answered.
+fn send<W: Target>(writer: &mut W, piece: &[u8]) -> Result<usize, IoFault>
+    requires { 0 < length piece.now }
+    ensures ok { IfOk result (Sent (W.state writer.old) (W.state writer.new) piece.now) }
+    ensures err { OnErr result (Stopped (W.state writer.old) (W.state writer.new) piece.now 0) }
+{
+    for _ in 0..MAX_INTERRUPTIONS {
+        match writer.write(piece) {
+            Err(IoFault::Interrupted) => {}
+            answer => return answer,
+        }
+    }
+    Err(IoFault::Interrupted)
+}
+
+/// Writes the whole piece. At a failure, at a write that takes nothing and at a million interruptions in a row it
+/// answers how many octets of the piece are out.
+pub fn put<W: Target>(writer: &mut W, piece: &[u8]) -> Result<(), usize>
+    ensures ok { OnOk result (Wrote (W.state writer.old) (W.state writer.new) piece.now) }
+    ensures err { IfErr result (Stopped (W.state writer.old) (W.state writer.new) piece.now) }
+{
+    let mut at = 0;
+    while at < piece.len() {
+        match send(writer, &piece[at..]) {
+            Ok(0) | Err(_) => return Err(at),
+            Ok(taken) => at += taken,
+        }
+    }
+    Ok(())
+}
+
+/// A writer of std's as a target. It counts its faults up to the greatest number of 64 bits.
+#[derive(Drop)]
+pub struct FromWrite<W> {
+    writer: W,
+    failures: u64,
+    interruptions: u64,
+}
+
+impl<W: Write> FromWrite<W> {
+    /// The writer as a target without a fault so far.
+    pub fn new(writer: W) -> FromWrite<W>
+        ensures { writer_device W.contents result ≡ unbroken (W.contents writer) }
+    {
+        FromWrite {
+            writer,
+            failures: 0,
+            interruptions: 0,
+        }
+    }
+
+    /// The writer, with what it took.
+    pub fn into_inner(self) -> W
+        ensures { W.contents result ≡ (writer_device W.contents self).octets }
+    {
+        self.writer
+    }
+}
+
+impl<W: Write> Target for FromWrite<W> {
+    ghost state = { writer_device W.contents };
+
+    fn write(&mut self, piece: &[u8]) -> Result<usize, IoFault> {
+        match self.writer.write(piece) {
+            Ok(count) => {
+                if count == 0 && !piece.is_empty() {
+                    self.failures = self.failures.saturating_add(1);
+                }
+                Ok(count)
+            }
+            Err(error) => match error.kind() {
+                ErrorKind::Interrupted => {
+                    self.interruptions = self.interruptions.saturating_add(1);
+                    Err(IoFault::Interrupted)
+                }
+                _ => {
+                    self.failures = self.failures.saturating_add(1);
+                    Err(IoFault::Failed)
+                }
+            },
+        }
+    }
+}

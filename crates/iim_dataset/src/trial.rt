@@ -1,0 +1,196 @@
+//! A reader and a writer that fail at a chosen call, for tests.
+
+ghost use Rattle.std.specs.Prelude.{◌≡◌, [], Some, None, drop, IfErr, OnOk};
+ghost use Rattle.iim_dataset.specs.Devices.{Calm, Faulted, CountedFailure, unbroken};
+ghost use Rattle.iim_dataset.specs.Trials.{planned, trial_device, taken_octets, GoesByPlan, ReadsOn};
+
+use crate::device::IoFault;
+use crate::source::Source;
+use crate::target::Target;
+use arrayvec::ArrayVec;
+
+/// What goes wrong at a call.
+#[derive(Clone, Copy, Debug, PartialEq, Eq)]
+pub enum Trouble {
+    /// This call and all later ones fail.
+    Failure,
+    /// So many interruptions come, and then nothing goes wrong any more.
+    Interruptions(u32),
+}
+
+/// How many calls are good, what goes wrong then, and what went wrong so far.
+#[derive(Clone, Copy)]
+struct Plan {
+    good: u64,
+    trouble: Trouble,
+    failures: u64,
+    interruptions: u64,
+}
+
+impl Plan {
+    fn new(good: u64, trouble: Trouble) -> Plan
+        ensures untroubled { planned None result ≡ unbroken None }
+        ensures trouble { result.trouble ≡ trouble }
+    {
+        Plan {
+            good,
+            trouble,
+            failures: 0,
+            interruptions: 0,
+        }
+    }
+
+    /// Begins a call, and answers what goes wrong with it.
+    fn call(&mut self) -> Result<(), IoFault>
+        ensures ok { OnOk result (Calm (planned None self.old) (planned None self.new)) }
+        ensures err { IfErr result (Faulted (planned None self.old) (planned None self.new)) }
+        ensures plan { GoesByPlan self.old self.new }
+    {
+        if self.good > 0 {
+            self.good -= 1;
+            return Ok(());
+        }
+        match self.trouble {
+            Trouble::Failure => {
+                self.fail();
+                Err(IoFault::Failed)
+            }
+            Trouble::Interruptions(0) => Ok(()),
+            Trouble::Interruptions(left) => {
+                self.trouble = Trouble::Interruptions(left - 1);
+                self.interruptions = self.interruptions.saturating_add(1);
+                Err(IoFault::Interrupted)
+            }
+        }
+    }
+
+    fn fail(&mut self)
+        ensures counted { CountedFailure (planned None self.old) (planned None self.new) }
+        ensures trouble { self.new.trouble ≡ self.old.trouble }
+    {
+        self.failures = self.failures.saturating_add(1);
+    }
+}
+
+/// A source of known octets that gives one a call, with trouble after so many good calls.
+#[derive(Drop)]
+pub struct TrialReader<'a> {
+    octets: &'a [u8],
+    at: usize,
+    plan: Plan,
+}
+
+impl<'a> TrialReader<'a> {
+    /// A source of these octets with `good` good calls before the trouble.
+    pub fn new(octets: &'a [u8], good: u64, trouble: Trouble) -> TrialReader<'a>
+        ensures { trial_device result ≡ unbroken (Some octets.entry.now) }
+    {
+        TrialReader {
+            octets,
+            at: 0,
+            plan: Plan::new(good, trouble),
+        }
+    }
+}
+
+impl Source for TrialReader<'_> {
+    ghost state = { trial_device };
+
+    ghost leads = { ReadsOn };
+
+    ghost use Rattle.iim_dataset.specs.TrialLaws.{reads_on_stays, reads_on_goes_on};
+
+    ghost stays = { reads_on_stays };
+
+    ghost goes_on = { reads_on_goes_on };
+
+    fn read(&mut self, buffer: &mut [u8]) -> Result<usize, IoFault> {
+        self.plan.call()?;
+        if self.at >= self.octets.len() || buffer.is_empty() {
+            return Ok(0);
+        }
+        buffer[0] = self.octets[self.at];
+        self.at += 1;
+        Ok(1)
+    }
+}
+
+/// A target that takes one octet a call while it has room for it and then none, with trouble after so many good calls.
+#[derive(Drop)]
+pub struct TrialWriter<const N: usize> {
+    octets: ArrayVec<u8, N>,
+    plan: Plan,
+}
+
+impl<const N: usize> TrialWriter<N> {
+    /// An empty target with `good` good calls before the trouble.
+    pub fn new(good: u64, trouble: Trouble) -> TrialWriter<N>
+        ensures { taken_octets result ≡ [] }
+    {
+        TrialWriter {
+            octets: ArrayVec::new(),
+            plan: Plan::new(good, trouble),
+        }
+    }
+
+    /// The octets that were taken.
+    pub fn octets(&self) -> &[u8]
+        ensures { result.now ≡ taken_octets self.now }
+    {
+        self.octets.as_slice()
+    }
+}
+
+impl<const N: usize> Target for TrialWriter<N> {
+    ghost state = { λ s. planned (Some (taken_octets s)) s.plan };
+
+    fn write(&mut self, piece: &[u8]) -> Result<usize, IoFault> {
+        self.plan.call()?;
+        if piece.is_empty() {
+            return Ok(0);
+        }
+        if self.octets.is_full() {
+            self.plan.fail();
+            return Ok(0);
+        }
+        self.octets.push(piece[0]);
+        Ok(1)
+    }
+}
+
+#[cfg(test)]
+mod tests {
+    use super::{TrialReader, TrialWriter, Trouble};
+    use crate::{IoFault, put, take};
+
+    #[test]
+    fn writer_at_a_million_interruptions(rt: HostRuntime) {
+        for (running, want) in [(999_999, Ok(())), (1_000_000, Err(2))] {
+            let mut writer: TrialWriter<8> = TrialWriter::new(2, Trouble::Interruptions(running));
+            assert_eq!(rt; put(&mut writer, b"abcde"), want, "at {running}");
+        }
+        let mut writer: TrialWriter<8> = TrialWriter::new(2, Trouble::Interruptions(999_999));
+        assert_eq!(rt; put(&mut writer, b"abcde"), Ok(()));
+        assert_eq!(rt; writer.octets(), b"abcde".as_slice());
+        let mut full: TrialWriter<3> = TrialWriter::new(8, Trouble::Failure);
+        assert_eq!(rt; put(&mut full, b"abcde"), Err(3));
+        assert_eq!(rt; full.octets(), b"abc".as_slice());
+        let mut broken: TrialWriter<8> = TrialWriter::new(4, Trouble::Failure);
+        assert_eq!(rt; put(&mut broken, b"abcde"), Err(4));
+        assert_eq!(rt; broken.octets(), b"abcd".as_slice());
+    }
+
+    #[test]
+    fn reader_at_a_million_interruptions(rt: HostRuntime) {
+        for (running, want) in [(999_999, Ok(1)), (1_000_000, Err(IoFault::Interrupted))] {
+            let mut reader = TrialReader::new(b"ab", 0, Trouble::Interruptions(running));
+            let mut buffer = [0u8; 4];
+            assert_eq!(rt; take(&mut reader, &mut buffer), want, "at {running}");
+        }
+        let mut reader = TrialReader::new(b"ab", 1, Trouble::Failure);
+        let mut buffer = [0u8; 4];
+        assert_eq!(rt; take(&mut reader, &mut buffer), Ok(1));
+        assert_eq!(rt; buffer[0], b'a');
+        assert_eq!(rt; take(&mut reader, &mut buffer), Err(IoFault::Failed));
+    }
+}
