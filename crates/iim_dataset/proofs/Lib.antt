@@ -1,3 +1,4 @@
 pub mod Devices
 pub mod Fronts
 pub mod Spellings
+pub mod Canonical

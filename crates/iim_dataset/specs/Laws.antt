@@ -1,6 +1,10 @@
 -- What holds of all spellings.
-use Rattle.std.specs.Prelude.{◌≡◌, ℕ, List, ◌++◌}
-use Rattle.iim_dataset.specs.Datasets.{Dataset, SpellsDataset, SplitsInto}
+use Rattle.std.specs.Prelude.{◌≡◌, ℕ, ◌≤◌, List, ◌++◌, length}
+use Rattle.iim_dataset.specs.Octets.{IsOctet}
+use Rattle.iim_dataset.specs.Datasets.{Dataset, SpellsDataset, SplitsInto, canonical_tag, count_octets}
+use Rattle.iim_dataset.specs.Tags.{BeginsTag, HasTag, HasNoTag}
+use Rattle.iim_dataset.specs.declared.head.Head.{Head}
+use Rattle.iim_dataset.specs.declared.head.HeadFault.{HeadFault}
 
 -- Spellings of two datasets that lists begin with, where these lists are equal, are equal, and so are the datasets and what follows.
 abbrev pub NoDatasetBeginsAnother : Type 0
@@ -11,3 +15,15 @@ NoDatasetBeginsAnother = (limit : ℕ) (d e : Dataset) (o p x y : List ℕ) → 
 abbrev pub OctetsSplitOneWay : Type 0
 OctetsSplitOneWay = (limit : ℕ) (xs : List ℕ) (ds es : List Dataset) (t u : List ℕ) → SplitsInto limit xs ds t → SplitsInto limit xs es u
     → (ds ≡ es) × (t ≡ u)
+
+-- A tag of this head and length is all that a reader of tags can find at the front of the octets.
+pub record ReadsAs (octets : List ℕ) (head : Head) (used : ℕ) : Type 0 where
+  pub tag : HasTag octets head used
+  pub only : (h : Head) (n : ℕ) → HasTag octets h n → (h ≡ head) × (n ≡ used)
+  pub is_whole : BeginsTag count_octets octets → ⊥
+  pub no_fault : (fault : HeadFault) → HasNoTag octets fault → ⊥
+
+-- The canonical tag of a head is read as that head, whatever follows it.
+abbrev pub CanonicalTagsReadBack : Type 0
+CanonicalTagsReadBack = (head : Head) (more : List ℕ) → IsOctet head.rec → IsOctet head.set → head.count ≤ 32767
+    → ReadsAs (canonical_tag head ++ more) head (length (canonical_tag head))

@@ -1,9 +1,10 @@
 //! The tag of a dataset: a marker, two numbers and a count.
 
-ghost use Rattle.std.specs.Prelude.{IfOk, IfErr, MatchOption};
-ghost use Rattle.iim_dataset.specs.Datasets.{count_octets};
+ghost use Rattle.std.specs.Prelude.{◌≡◌, ◌≤◌, IfOk, IfErr, MatchOption};
+ghost use Rattle.iim_dataset.specs.Datasets.{SpellsTag, canonical_tag, count_octets};
 ghost use Rattle.iim_dataset.specs.Tags.{BeginsTag, HasTag, HasNoTag};
 
+use arrayvec::ArrayVec;
 use byteorder::{BigEndian, ByteOrder};
 
 /// What a tag tells (IIM version 4, the chapter on DataSets): the number of the record, the number of the dataset in
@@ -66,4 +67,23 @@ pub fn read_head(octets: &[u8]) -> Result<Option<(Head, usize)>, HeadFault>
         }
         _ => Ok(None),
     }
+}
+
+/// The canonical tag of a head, in the fewest octets: a standard count, since until extended counts come a head counts
+/// at most 32,767 octets.
+pub fn head_bytes(head: Head) -> ArrayVec<u8, 9>
+    requires { head.count ≤ 32767 }
+    ensures canonical { result.items ≡ canonical_tag head }
+    ensures spells { SpellsTag count_octets head result.items }
+{
+    let mut count = [0; 2];
+    BigEndian::write_u16(&mut count, head.count as u16);
+    let [high, low] = count;
+    let mut tag = ArrayVec::new();
+    tag.push(TAG_MARKER);
+    tag.push(head.rec);
+    tag.push(head.set);
+    tag.push(high);
+    tag.push(low);
+    tag
 }

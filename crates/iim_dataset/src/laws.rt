@@ -1,6 +1,6 @@
 //! What holds of all spellings, whatever form the counts have.
 
-ghost use Rattle.iim_dataset.specs.Laws.{NoDatasetBeginsAnother, OctetsSplitOneWay};
+ghost use Rattle.iim_dataset.specs.Laws.{CanonicalTagsReadBack, NoDatasetBeginsAnother, OctetsSplitOneWay};
 
 /// No spelling of a dataset begins another: what is spelled at the front of octets is determined.
 pub fn no_dataset_begins_another()
@@ -10,4 +10,9 @@ pub fn no_dataset_begins_another()
 /// Octets split in one way at most into whole datasets and a rest that is less than one.
 pub fn octets_split_one_way()
     ensures { OctetsSplitOneWay }
+{}
+
+/// What `head_bytes` writes, followed by anything, is read as that head and no longer tag.
+pub fn canonical_tags_read_back()
+    ensures { CanonicalTagsReadBack }
 {}

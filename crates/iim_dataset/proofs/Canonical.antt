@@ -1,0 +1,61 @@
+-- Canonical tags are spellings, and are read back.
+use Rattle.std.proofs.Common.{◌≡◌, ℕ, ◌+◌, ◌-◌, ◌<◌, ◌≤◌, List, [], ◌∷◌, ◌++◌, length, take, drop, refl, sym, ap, subst, ◌∙◌, arith, inl, inr, append_assoc, append-nil, length-append, length-take}
+use Rattle.std.proofs.lemmas.List.{take-append-drop, take-append-le}
+use Rattle.std.proofs.Math.Seq.{take-append_seam, take-append-add}
+use Rattle.std.proofs.lemmas.Bool.{lt-ltb, cases_lt}
+use Rattle.byteorder.specs.Numbers.{big_number-reads_back}
+use Rattle.iim_dataset.specs.Octets.{IsOctet}
+use Rattle.iim_dataset.specs.Datasets.{SpellsCount, SpellsTag, canonical_count, canonical_tag, count_octets}
+use Rattle.iim_dataset.specs.Tags.{BeginsTag, HasTag, HasNoTag}
+use Rattle.iim_dataset.specs.Laws.{ReadsAs, CanonicalTagsReadBack}
+use Rattle.iim_dataset.specs.declared.head.Head.{Head}
+use Rattle.iim_dataset.specs.declared.head.HeadFault.{HeadFault}
+use Rattle.iim_dataset.proofs.Spellings.{one_tag}
+
+pub count_spells : (limit n : ℕ) → n ≤ 32767 → SpellsCount limit n (canonical_count n)
+count_spells limit n h =
+    let lt : n < 32768 = omega arith in
+    rw (lt-ltb n 32768 lt) (inl (omega arith, omega arith, refl, big_number-reads_back 2 n [] (omega arith)))
+
+pub tag_spells : (limit : ℕ) (h : Head) → IsOctet h.rec → IsOctet h.set → h.count ≤ 32767 → SpellsTag limit h (canonical_tag h)
+tag_spells limit h r s c = record { rec = r; set = s; count = canonical_count h.count; is_count = count_spells limit h.count c; parts = refl }
+
+-- a tag that begins with a whole tag and goes on is none
+no_longer : (limit : ℕ) (h k : Head) (tag x more : List ℕ) → SpellsTag limit h tag → 0 < length more → SpellsTag limit k ((tag ++ x) ++ more) → ⊥
+no_longer limit h k tag x more s long t =
+    let same = one_tag limit h k tag ((tag ++ x) ++ more) (x ++ more) [] s t (sym (append_assoc tag x more) ∙ sym (append-nil ((tag ++ x) ++ more))) in
+    omega (arith, simp length-append at (ap length same.2))
+
+-- no octet of a tag is dead
+no_dead : (limit at : ℕ) (h : Head) (tag more : List ℕ) → SpellsTag limit h tag → at < length tag
+    → ((k : Head) (rest : List ℕ) → SpellsTag limit k (take (at + 1) (tag ++ more) ++ rest) → ⊥) → ⊥
+no_dead limit at h tag more s lt dead =
+    let front : take (at + 1) (tag ++ more) ≡ take (at + 1) tag = take-append-le (at + 1) tag more (omega arith) in
+    let whole : tag ≡ take (at + 1) (tag ++ more) ++ drop (at + 1) tag = sym (take-append-drop (at + 1) tag) ∙ ap (λ (t : List ℕ). t ++ drop (at + 1) tag) (sym front) in
+    dead h (drop (at + 1) tag) (subst (SpellsTag limit h) whole s)
+
+no_fault : (limit at : ℕ) (h : Head) (tag more : List ℕ) → SpellsTag limit h tag → BeginsTag limit (take at (tag ++ more))
+    → ((k : Head) (rest : List ℕ) → SpellsTag limit k (take (at + 1) (tag ++ more) ++ rest) → ⊥) → ⊥
+no_fault limit at h tag more s begun dead = elim (cases_lt at (length tag)) [
+  | inl lt ↦ no_dead limit at h tag more s lt dead
+  | inr ge ↦
+    let place : at ≡ length tag + (at - length tag) = omega arith in
+    let front : take at (tag ++ more) ≡ tag ++ take (at - length tag) more =
+    ap (λ (n : ℕ). take n (tag ++ more)) place ∙ take-append-add tag more (at - length tag) in
+    no_longer limit h begun.head tag (take (at - length tag) more) begun.more s begun.some_more
+    (subst (λ (t : List ℕ). SpellsTag limit begun.head (t ++ begun.more)) front begun.whole)
+]
+
+pub canonical_reads : CanonicalTagsReadBack
+canonical_reads head more r s c =
+    let tag = canonical_tag head in
+    let spelled = tag_spells count_octets head r s c in
+    let front : take (length tag) (tag ++ more) ≡ tag = take-append_seam tag more in
+    record {
+      tag = record { within = omega (arith, length-append tag more); tag = subst (SpellsTag count_octets head) (sym front) spelled };
+      only = λ h n found.
+          let same = one_tag count_octets h head (take n (tag ++ more)) tag (drop n (tag ++ more)) more found.tag spelled (take-append-drop n (tag ++ more)) in
+          (same.0, omega (arith, found.within, length-take n (tag ++ more), ap length same.1));
+      is_whole = λ begun. no_longer count_octets head begun.head tag more begun.more spelled begun.some_more begun.whole;
+      no_fault = λ fault found. no_fault count_octets fault.at head tag more spelled found.begun found.dead;
+    }
