@@ -1,7 +1,7 @@
 -- Datasets, and how octets spell them (IIM version 4, the chapter on DataSets).
 use Rattle.std.specs.Prelude.{◌≡◌, ℕ, ◌<◌, ◌≤◌, nat_lt, ◌⊎◌, if◌then◌else◌, List, [], ◌∷◌, ◌++◌, length}
 use Rattle.byteorder.specs.Endian.{big_bytes}
-use Rattle.iim_dataset.specs.Octets.{IsOctet, Octets, IsProperPrefix, number}
+use Rattle.iim_dataset.specs.Octets.{IsOctet, Octets, number}
 use Rattle.iim_dataset.specs.declared.head.Head.{Head}
 
 -- a dataset: the number of its record, its number in the record, and its data
@@ -53,20 +53,6 @@ abbrev pub SpellsStream : ℕ → List Dataset → List ℕ → Type 0
 SpellsStream limit [] xs = xs ≡ []
 SpellsStream limit (d ∷ ds) xs = (first : List ℕ) × (rest : List ℕ)
     × SpellsDataset limit d first × SpellsStream limit ds rest × (xs ≡ first ++ rest)
-
--- less than the whole spelling of one dataset
-pub record IsPart (limit : ℕ) (xs : List ℕ) : Type 0 where
-  pub begun : Dataset
-  pub octets : List ℕ
-  pub spelled : SpellsDataset limit begun octets
-  pub is_part : IsProperPrefix xs octets
-
--- The octets so far split into whole datasets and a rest that is less than a whole one.
-pub record SplitsInto (limit : ℕ) (xs : List ℕ) (whole : List Dataset) (rest : List ℕ) : Type 0 where
-  pub front : List ℕ
-  pub is_front : SpellsStream limit whole front
-  pub is_rest : IsPart limit rest
-  pub parts : xs ≡ front ++ rest
 
 -- ---- how a writer spells
 

@@ -1,12 +1,18 @@
 -- What holds of all spellings.
 use Rattle.std.specs.Prelude.{◌≡◌, ℕ, ◌≤◌, List, ◌++◌, length}
 use Rattle.iim_dataset.specs.Octets.{IsOctet}
-use Rattle.iim_dataset.specs.Datasets.{Dataset, SpellsDataset, SplitsInto, canonical_tag, count_octets}
+use Rattle.iim_dataset.specs.Datasets.{Dataset, SpellsTag, SpellsDataset, canonical_tag, count_octets}
+use Rattle.iim_dataset.specs.Splits.{SplitsInto}
 use Rattle.iim_dataset.specs.Tags.{BeginsTag, HasTag, HasNoTag}
 use Rattle.iim_dataset.specs.declared.head.Head.{Head}
 use Rattle.iim_dataset.specs.declared.head.HeadFault.{HeadFault}
 
--- Spellings of two datasets that lists begin with, where these lists are equal, are equal, and so are the datasets and what follows.
+-- Tags that equal lists begin with are equal, and so are their heads and what follows.
+abbrev pub NoTagBeginsAnother : Type 0
+NoTagBeginsAnother = (limit : ℕ) (h k : Head) (o p x y : List ℕ) → SpellsTag limit h o → SpellsTag limit k p → o ++ x ≡ p ++ y
+    → (h ≡ k) × (o ≡ p) × (x ≡ y)
+
+-- Spellings of datasets that equal lists begin with are equal, and so are the datasets and what follows.
 abbrev pub NoDatasetBeginsAnother : Type 0
 NoDatasetBeginsAnother = (limit : ℕ) (d e : Dataset) (o p x y : List ℕ) → SpellsDataset limit d o → SpellsDataset limit e p → o ++ x ≡ p ++ y
     → (d ≡ e) × (o ≡ p) × (x ≡ y)

@@ -1,5 +1,6 @@
 pub mod Octets
 pub mod Datasets
+pub mod Splits
 pub mod Tags
 pub mod Devices
 pub mod Later

@@ -1,6 +1,11 @@
 //! What holds of all spellings, whatever form the counts have.
 
-ghost use Rattle.iim_dataset.specs.Laws.{CanonicalTagsReadBack, NoDatasetBeginsAnother, OctetsSplitOneWay};
+ghost use Rattle.iim_dataset.specs.Laws.{CanonicalTagsReadBack, NoDatasetBeginsAnother, NoTagBeginsAnother, OctetsSplitOneWay};
+
+/// No tag begins another.
+pub fn no_tag_begins_another()
+    ensures { NoTagBeginsAnother }
+{}
 
 /// No spelling of a dataset begins another: what is spelled at the front of octets is determined.
 pub fn no_dataset_begins_another()
