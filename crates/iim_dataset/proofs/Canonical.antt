@@ -39,11 +39,11 @@ no_fault : (limit at : ℕ) (h : Head) (tag more : List ℕ) → SpellsTag limit
 no_fault limit at h tag more s begun dead = elim (cases_lt at (length tag)) [
   | inl lt ↦ no_dead limit at h tag more s lt dead
   | inr ge ↦
-    let place : at ≡ length tag + (at - length tag) = omega arith in
-    let front : take at (tag ++ more) ≡ tag ++ take (at - length tag) more =
-    ap (λ (n : ℕ). take n (tag ++ more)) place ∙ take-append-add tag more (at - length tag) in
-    no_longer limit h begun.head tag (take (at - length tag) more) begun.more s begun.some_more
-    (subst (λ (t : List ℕ). SpellsTag limit begun.head (t ++ begun.more)) front begun.whole)
+      let place : at ≡ length tag + (at - length tag) = omega arith in
+      let front : take at (tag ++ more) ≡ tag ++ take (at - length tag) more =
+      ap (λ (n : ℕ). take n (tag ++ more)) place ∙ take-append-add tag more (at - length tag) in
+      no_longer limit h begun.head tag (take (at - length tag) more) begun.more s begun.some_more
+      (subst (λ (t : List ℕ). SpellsTag limit begun.head (t ++ begun.more)) front begun.whole)
 ]
 
 pub canonical_reads : CanonicalTagsReadBack
@@ -52,7 +52,7 @@ canonical_reads head more r s c =
     let spelled = tag_spells count_octets head r s c in
     let front : take (length tag) (tag ++ more) ≡ tag = take-append_seam tag more in
     record {
-      tag = record { within = omega (arith, length-append tag more); tag = subst (SpellsTag count_octets head) (sym front) spelled };
+      tag = record { some = omega arith; within = omega (arith, length-append tag more); tag = subst (SpellsTag count_octets head) (sym front) spelled };
       only = λ h n found.
           let same = one_tag count_octets h head (take n (tag ++ more)) tag (drop n (tag ++ more)) more found.tag spelled (take-append-drop n (tag ++ more)) in
           (same.0, omega (arith, found.within, length-take n (tag ++ more), ap length same.1));

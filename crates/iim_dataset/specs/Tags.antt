@@ -24,6 +24,7 @@ Concerns CountForm at = 3 ≤ at
 
 -- The first `used` octets are the tag of this head.
 pub record HasTag (octets : List ℕ) (head : Head) (used : ℕ) : Type 0 where
+  pub some : 0 < used
   pub within : used ≤ length octets
   pub tag : SpellsTag count_octets head (take used octets)
 

@@ -7,6 +7,10 @@ use Rattle.iim_dataset.specs.declared.trial.Trouble.TheVariants.{Failure, Interr
 use Rattle.iim_dataset.specs.declared.trial.TrialReader.{TrialReader}
 use Rattle.iim_dataset.specs.declared.trial.TrialWriter.{TrialWriter}
 
+-- so many good calls and then the trouble, and no fault so far
+abbrev pub new_plan : ℕ → Trouble → Plan
+new_plan good trouble = record { good = good; trouble = trouble; failures = 0; interruptions = 0 }
+
 -- a device with the faults of a plan
 abbrev pub planned : Option (List ℕ) → Plan → Device
 planned octets p = record { octets = octets; failures = p.failures; interruptions = p.interruptions }
@@ -37,6 +41,12 @@ pub record GoesByPlan (old new : Plan) : Type 0 where
 -- a reader of known octets as a device
 abbrev pub trial_device : TrialReader → Device
 trial_device r = planned (Some (drop r.at r.octets.now)) r.plan
+
+abbrev pub reader_plan : TrialReader → Plan
+reader_plan r = r.plan
+
+abbrev pub writer_plan : {N : ℕ} → TrialWriter N → Plan
+writer_plan w = w.plan
 
 -- Where reads can lead: some octets fewer, and trouble by the plan.
 pub record ReadsOn (old new : TrialReader) : Type 0 where

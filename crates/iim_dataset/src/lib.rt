@@ -15,7 +15,8 @@ mod trial;
 pub use device::IoFault;
 pub use head::{Head, HeadCause, HeadFault, TAG_MARKER, head_bytes, read_head};
 pub use laws::{
-    canonical_tags_read_back, no_dataset_begins_another, no_tag_begins_another, octets_split_one_way,
+    canonical_tags_read_back, no_dataset_begins_another, no_tag_begins_another,
+    octets_split_one_way,
 };
 pub use source::{FromRead, Source, take};
 pub use stop::Stop;

@@ -2,7 +2,7 @@
 
 ghost use Rattle.std.specs.Prelude.{◌≡◌, [], Some, None, drop, IfErr, OnOk};
 ghost use Rattle.iim_dataset.specs.Devices.{Calm, Faulted, CountedFailure, unbroken};
-ghost use Rattle.iim_dataset.specs.Trials.{planned, trial_device, taken_octets, GoesByPlan, ReadsOn};
+ghost use Rattle.iim_dataset.specs.Trials.{planned, new_plan, trial_device, reader_plan, writer_plan, taken_octets, GoesByPlan, ReadsOn};
 
 use crate::device::IoFault;
 use crate::source::Source;
@@ -29,8 +29,7 @@ struct Plan {
 
 impl Plan {
     fn new(good: u64, trouble: Trouble) -> Plan
-        ensures untroubled { planned None result ≡ unbroken None }
-        ensures trouble { result.trouble ≡ trouble }
+        ensures { result ≡ new_plan good trouble }
     {
         Plan {
             good,
@@ -83,7 +82,8 @@ pub struct TrialReader<'a> {
 impl<'a> TrialReader<'a> {
     /// A source of these octets with `good` good calls before the trouble.
     pub fn new(octets: &'a [u8], good: u64, trouble: Trouble) -> TrialReader<'a>
-        ensures { trial_device result ≡ unbroken (Some octets.entry.now) }
+        ensures device { trial_device result ≡ unbroken (Some octets.entry.now) }
+        ensures plan { reader_plan result ≡ new_plan good trouble }
     {
         TrialReader {
             octets,
@@ -125,7 +125,8 @@ pub struct TrialWriter<const N: usize> {
 impl<const N: usize> TrialWriter<N> {
     /// An empty target with `good` good calls before the trouble.
     pub fn new(good: u64, trouble: Trouble) -> TrialWriter<N>
-        ensures { taken_octets result ≡ [] }
+        ensures empty { taken_octets result ≡ [] }
+        ensures plan { writer_plan result ≡ new_plan good trouble }
     {
         TrialWriter {
             octets: ArrayVec::new(),

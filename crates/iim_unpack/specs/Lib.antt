@@ -1,0 +1,6 @@
+pub mod Names
+pub mod Records
+pub mod Framed
+pub mod Orders
+pub mod Answers
+pub mod Laws

@@ -1,0 +1,17 @@
+//! Takes envelopes of the Information Interchange Model apart.
+//!
+//! Stands on `iim_dataset`. The crate above uses [`scan`], which finds the envelope that octets begin with or says at
+//! which octet, by which layer, on which dataset and why they are refused.
+#![tactic(auto)]
+
+mod answer;
+mod envelope;
+mod laws;
+mod order;
+mod records;
+mod refusal;
+
+pub use answer::Scan;
+pub use envelope::scan;
+pub use laws::no_envelope_begins_another;
+pub use refusal::{Cause, Layer, Refusal};
