@@ -78,12 +78,12 @@ seen_more xs s n fits = elim (eqb_tells s n) [
   | inr other ↦ get_or-set_other xs s n true false (λ e. other.1 (sym e)) ∙ sym (ap (λ b. b || get_or xs n false) other.0)
 ]
 
-nothing_seen : (k n : ℕ) → get_or (replicate k false) n false ≡ false
+pub nothing_seen : (k n : ℕ) → get_or (replicate k false) n false ≡ false
 nothing_seen zero n = refl
 nothing_seen (suc k) zero = refl
 nothing_seen (suc k) (suc n) = nothing_seen k n
 
-or_false : (b : Bool) → (b || false) ≡ b
+pub or_false : (b : Bool) → (b || false) ≡ b
 or_false true = refl
 or_false false = refl
 
