@@ -10,6 +10,8 @@ mod laws;
 mod order;
 mod records;
 mod refusal;
+#[cfg(test)]
+mod tests;
 
 pub use answer::Scan;
 pub use envelope::scan;

@@ -1,0 +1,335 @@
+//! The scan on the smallest envelope and what breaks it.
+
+use crate::{Cause, Layer, Refusal, Scan, scan};
+use iim_dataset::{Head, HeadCause, HeadFault, read_head};
+use std::alloc::{AllocError, Global};
+use std::test::Fail;
+
+/// The mandatory datasets alone, and a story of one empty line.
+const SMALLEST: [u8; 114] = [
+    0x1c, 0x01, 0x00, 0x00, 0x02, 0x00, 0x04, 0x1c, 0x01, 0x14, 0x00, 0x02, 0x00, 0x02, 0x1c, 0x01,
+    0x16, 0x00, 0x02, 0x00, 0x01, 0x1c, 0x01, 0x1e, 0x00, 0x03, 0x54, 0x53, 0x54, 0x1c, 0x01, 0x28,
+    0x00, 0x08, 0x30, 0x30, 0x30, 0x30, 0x30, 0x30, 0x30, 0x31, 0x1c, 0x01, 0x46, 0x00, 0x08, 0x32,
+    0x30, 0x32, 0x34, 0x30, 0x33, 0x30, 0x31, 0x1c, 0x02, 0x00, 0x00, 0x02, 0x00, 0x04, 0x1c, 0x07,
+    0x0a, 0x00, 0x01, 0x01, 0x1c, 0x07, 0x14, 0x00, 0x04, 0x00, 0x00, 0x04, 0x00, 0x1c, 0x07, 0x5a,
+    0x00, 0x04, 0x00, 0x00, 0x00, 0x0e, 0x1c, 0x08, 0x0a, 0x00, 0x0e, 0x01, 0x58, 0x31, 0x20, 0x34,
+    0x20, 0x4e, 0x20, 0x30, 0x0d, 0x0a, 0x02, 0x03, 0x04, 0x1c, 0x09, 0x0a, 0x00, 0x04, 0x00, 0x00,
+    0x00, 0x0e,
+];
+
+/// Where each tag of the smallest envelope begins, its record and number, and its count.
+const TAGS: [(usize, u8, u8, usize); 12] = [
+    (0, 1, 0, 2),
+    (7, 1, 20, 2),
+    (14, 1, 22, 2),
+    (21, 1, 30, 3),
+    (29, 1, 40, 8),
+    (42, 1, 70, 8),
+    (55, 2, 0, 2),
+    (62, 7, 10, 1),
+    (68, 7, 20, 4),
+    (77, 7, 90, 4),
+    (86, 8, 10, 14),
+    (105, 9, 10, 4),
+];
+
+/// The datasets that a record must have, lowest first.
+const MANDATORY: [(u8, u8); 11] = [
+    (1, 0),
+    (1, 20),
+    (1, 22),
+    (1, 30),
+    (1, 40),
+    (1, 70),
+    (2, 0),
+    (7, 10),
+    (7, 20),
+    (8, 10),
+    (9, 10),
+];
+
+/// The datasets that records 7, 8 and 9 may have.
+const KNOWN: [(u8, u8); 6] = [(7, 10), (7, 20), (7, 90), (7, 95), (8, 10), (9, 10)];
+
+fn refused(layer: Layer, rec: u8, set: u8, octet: usize, cause: Cause) -> Result<Scan, Refusal> {
+    Err(Refusal {
+        layer,
+        rec,
+        set,
+        octet: octet as u64,
+        cause,
+    })
+}
+
+fn joined(alloc: Global, pieces: &[&[u8]]) -> Result<Vec<u8>, AllocError> {
+    let mut all = Vec::new(alloc);
+    for piece in pieces {
+        all.extend_from_slice(piece)?;
+    }
+    Ok(all)
+}
+
+/// What the rule says of a head behind others: record order, then known datasets, then missing ones.
+fn fault_by_rule(behind: &[(u8, u8)], rec: u8, set: u8) -> Option<(u8, u8, Cause)> {
+    let present = behind.last().map_or(0, |head| head.0);
+    let next = match present {
+        0 => 1,
+        1 => 2,
+        2 => 7,
+        7 => 8,
+        8 => 9,
+        _ => 0,
+    };
+    if rec == 0 || (rec != present && rec != next) {
+        return Some((rec, set, Cause::RecordOrder));
+    }
+    if rec > 2 && !KNOWN.contains(&(rec, set)) {
+        return Some((rec, set, Cause::UnknownDataset));
+    }
+    if rec == present {
+        return None;
+    }
+    for (mandatory, number) in MANDATORY {
+        if mandatory == present && !behind.contains(&(mandatory, number)) {
+            return Some((mandatory, number, Cause::Missing));
+        }
+    }
+    None
+}
+
+/// What the rule says of these tags, each with the offset of its last octet, in octets that end where the datasets do.
+fn by_rule(
+    alloc: Global,
+    tags: &[(u8, u8, usize)],
+    end: usize,
+) -> Result<Result<Scan, Refusal>, AllocError> {
+    let mut behind = Vec::new(alloc);
+    for (rec, set, octet) in tags {
+        if let Some((rec, set, cause)) = fault_by_rule(behind.as_slice(), *rec, *set) {
+            return Ok(refused(Layer::Record, rec, set, *octet, cause));
+        }
+        behind.push((*rec, *set))?;
+    }
+    match behind.last() {
+        Some((9, 10)) => Ok(Ok(Scan { used: end as u64 })),
+        _ => Ok(refused(Layer::Dataset, 0, 0, end, Cause::Truncated)),
+    }
+}
+
+/// The tags of the smallest envelope, where the one at `place` tells `rec` and `set` instead.
+fn with_numbers(
+    alloc: Global,
+    place: usize,
+    rec: u8,
+    set: u8,
+) -> Result<Vec<(u8, u8, usize)>, AllocError> {
+    let mut tags = Vec::new(alloc);
+    for (index, (offset, old_rec, old_set, _)) in TAGS.iter().enumerate() {
+        let end = offset.saturating_add(4);
+        if index == place {
+            tags.push((rec, set, end))?;
+        } else {
+            tags.push((*old_rec, *old_set, end))?;
+        }
+    }
+    Ok(tags)
+}
+
+/// What the rule says where the tag at `place` counts so many octets. No octet of data is a tag marker.
+fn with_count(
+    alloc: Global,
+    place: usize,
+    count: usize,
+) -> Result<Result<Scan, Refusal>, AllocError> {
+    let mut tags = Vec::new(alloc);
+    let mut after = 0usize;
+    for (index, (offset, rec, set, _)) in TAGS.iter().enumerate() {
+        let end = offset.saturating_add(4);
+        if index <= place {
+            tags.push((*rec, *set, end))?;
+            after = offset.saturating_add(5).saturating_add(count);
+        } else if *offset >= after {
+            tags.push((*rec, *set, end))?;
+        }
+        if index == place && after > 114 {
+            return Ok(refused(Layer::Dataset, *rec, *set, 114, Cause::Truncated));
+        }
+    }
+    if place == 11 {
+        return Ok(Ok(Scan { used: after as u64 }));
+    }
+    if after != 114 && !TAGS.iter().any(|tag| tag.0 == after) {
+        return Ok(refused(Layer::Dataset, 0, 0, after, Cause::Marker));
+    }
+    by_rule(alloc, tags.as_slice(), 114)
+}
+
+/// What the rule says where octet `part` of the tag at `place` is `value`: of the tag itself, and of the scan.
+fn expected(
+    alloc: Global,
+    place: usize,
+    part: usize,
+    value: u8,
+) -> Result<
+    (
+        Result<Option<(Head, usize)>, HeadFault>,
+        Result<Scan, Refusal>,
+    ),
+    AllocError,
+> {
+    let (offset, rec, set, count) = TAGS.get(place).copied().unwrap_or((0, 0, 0, 0));
+    let head = |rec: u8, set: u8, count: usize| {
+        Ok(Some((
+            Head {
+                rec,
+                set,
+                count: count as u64,
+            },
+            5usize,
+        )))
+    };
+    match part {
+        0 => Ok((
+            Err(HeadFault {
+                cause: HeadCause::Marker,
+                at: 0,
+            }),
+            refused(Layer::Dataset, 0, 0, offset, Cause::Marker),
+        )),
+        1 => Ok((
+            head(value, set, count),
+            by_rule(
+                alloc,
+                with_numbers(alloc, place, value, set)?.as_slice(),
+                114,
+            )?,
+        )),
+        2 => Ok((
+            head(rec, value, count),
+            by_rule(
+                alloc,
+                with_numbers(alloc, place, rec, value)?.as_slice(),
+                114,
+            )?,
+        )),
+        3 if value >= 0x80 => Ok((
+            Err(HeadFault {
+                cause: HeadCause::CountForm,
+                at: 3,
+            }),
+            refused(
+                Layer::Dataset,
+                rec,
+                set,
+                offset.saturating_add(3),
+                Cause::CountForm,
+            ),
+        )),
+        3 => {
+            let count = usize::from(value) * 256 + count % 256;
+            Ok((head(rec, set, count), with_count(alloc, place, count)?))
+        }
+        _ => {
+            let count = usize::from(value);
+            Ok((head(rec, set, count), with_count(alloc, place, count)?))
+        }
+    }
+}
+
+#[test]
+fn every_change_of_a_tag(rt: HostRuntime) -> Result<(), Fail> {
+    for (place, (offset, ..)) in TAGS.iter().enumerate() {
+        assert!(rt; *offset + 5 <= 114);
+        for part in 0..5 {
+            for value in 0..=255u8 {
+                let mut octets = SMALLEST;
+                if octets[*offset + part] == value {
+                    continue;
+                }
+                octets[*offset + part] = value;
+                let (head, answer) = expected(rt.alloc(), place, part, value)?;
+                assert_eq!(rt;
+                    read_head(&octets[*offset..]),
+                    head,
+                    "{place} {part} {value}"
+                );
+                assert_eq!(rt; scan(&octets), answer, "{place} {part} {value}");
+            }
+        }
+    }
+    Ok(())
+}
+
+#[test]
+fn worked_envelopes(rt: HostRuntime) -> Result<(), Fail> {
+    let whole: &[u8] = &SMALLEST;
+    assert_eq!(rt; scan(whole), Ok(Scan { used: 114 }));
+    let rows: [(&[&[u8]], Result<Scan, Refusal>); 9] = [
+        (&[&SMALLEST, b"\x1c\x01"], Ok(Scan { used: 114 })),
+        (
+            &[b"\x1d", &SMALLEST[1..]],
+            refused(Layer::Dataset, 0, 0, 0, Cause::Marker),
+        ),
+        (
+            &[&SMALLEST[..3], b"\x81\x01", &SMALLEST[5..]],
+            refused(Layer::Dataset, 1, 0, 3, Cause::CountForm),
+        ),
+        (
+            &[&SMALLEST[..42], &SMALLEST[55..]],
+            refused(Layer::Record, 1, 70, 46, Cause::Missing),
+        ),
+        (
+            &[&SMALLEST[..21], &SMALLEST[29..42], &SMALLEST[55..]],
+            refused(Layer::Record, 1, 30, 38, Cause::Missing),
+        ),
+        (
+            &[&SMALLEST[..56], b"\x03", &SMALLEST[57..]],
+            refused(Layer::Record, 3, 0, 59, Cause::RecordOrder),
+        ),
+        (
+            &[&SMALLEST[..64], b"\x1e", &SMALLEST[65..]],
+            refused(Layer::Record, 7, 30, 66, Cause::UnknownDataset),
+        ),
+        (
+            &[&SMALLEST[..100]],
+            refused(Layer::Dataset, 8, 10, 100, Cause::Truncated),
+        ),
+        (&[], refused(Layer::Dataset, 0, 0, 0, Cause::Truncated)),
+    ];
+    for (pieces, answer) in rows {
+        let octets = joined(rt.alloc(), pieces)?;
+        assert_eq!(rt; scan(octets.as_slice()), answer);
+    }
+    Ok(())
+}
+
+#[test]
+fn every_front_is_truncated(rt: HostRuntime) {
+    for end in 0..114usize {
+        match scan(&SMALLEST[..end]) {
+            Err(refusal) => {
+                assert_eq!(rt; refusal.cause, Cause::Truncated, "at {end}");
+                assert_eq!(rt; refusal.octet, end as u64, "at {end}");
+            }
+            Ok(_) => assert!(rt; false, "at {end}"),
+        }
+    }
+}
+
+#[test]
+fn names_and_numbers(rt: HostRuntime) {
+    let rows = [
+        (Cause::Marker, 1, "Marker"),
+        (Cause::CountForm, 2, "CountForm"),
+        (Cause::Truncated, 3, "Truncated"),
+        (Cause::RecordOrder, 10, "RecordOrder"),
+        (Cause::UnknownDataset, 11, "UnknownDataset"),
+        (Cause::Missing, 14, "Missing"),
+    ];
+    for (cause, number, name) in rows {
+        assert_eq!(rt; cause.number(), number);
+        assert_eq!(rt; cause.name(), name);
+    }
+    assert_eq!(rt; Layer::Dataset.name(), "dataset");
+    assert_eq!(rt; Layer::Record.name(), "record");
+}
