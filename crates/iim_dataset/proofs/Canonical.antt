@@ -1,15 +1,14 @@
 -- Canonical tags are spellings, and are read back.
-use Rattle.std.proofs.Common.{◌≡◌, ℕ, ◌+◌, ◌-◌, ◌<◌, ◌≤◌, List, [], ◌∷◌, ◌++◌, length, take, drop, refl, sym, ap, subst, ◌∙◌, arith, inl, inr, append_assoc, append-nil, length-append, length-take}
+use Rattle.std.proofs.Common.{◌≡◌, ℕ, ◌+◌, ◌-◌, ◌<◌, ◌≤◌, List, [], ◌++◌, length, take, drop, refl, sym, ap, subst, ◌∙◌, arith, inl, inr, append_assoc, append-nil, length-append, length-take}
 use Rattle.std.proofs.lemmas.List.{take-append-drop, take-append-le}
 use Rattle.std.proofs.Math.Seq.{take-append_seam, take-append-add}
 use Rattle.std.proofs.lemmas.Bool.{lt-ltb, cases_lt}
 use Rattle.byteorder.specs.Numbers.{big_number-reads_back}
 use Rattle.iim_dataset.specs.Octets.{IsOctet}
 use Rattle.iim_dataset.specs.Datasets.{SpellsCount, SpellsTag, canonical_count, canonical_tag, count_octets}
-use Rattle.iim_dataset.specs.Tags.{BeginsTag, HasTag, HasNoTag}
-use Rattle.iim_dataset.specs.Laws.{ReadsAs, CanonicalTagsReadBack}
+use Rattle.iim_dataset.specs.Tags.{BeginsTag}
+use Rattle.iim_dataset.specs.Laws.{CanonicalTagsReadBack}
 use Rattle.iim_dataset.specs.declared.head.Head.{Head}
-use Rattle.iim_dataset.specs.declared.head.HeadFault.{HeadFault}
 use Rattle.iim_dataset.proofs.Spellings.{one_tag}
 
 pub count_spells : (limit n : ℕ) → n ≤ 32767 → SpellsCount limit n (canonical_count n)

@@ -1,5 +1,5 @@
 -- What several calls of one device come to.
-use Rattle.std.proofs.Common.{◌≡◌, [], ℕ, ◌+◌, ◌-◌, ◌≤◌, List, ◌++◌, length, take, drop, None, Some, Option, refl, ap, sym, ◌∙◌, inl, inr, arith, append_assoc, length-drop}
+use Rattle.std.proofs.Common.{◌≡◌, [], ℕ, ◌-◌, List, ◌++◌, length, take, drop, None, Some, Option, ap, sym, ◌∙◌, append_assoc, length-drop}
 use Rattle.std.proofs.Math.Seq.{take-length}
 use Rattle.std.proofs.lemmas.List.{append-nil}
 use Rattle.std.specs.Io.KnownBytes.{Keeps, Appends, Consumes}

@@ -1,9 +1,8 @@
 -- What the octets at the front say of a tag.
 use Rattle.std.proofs.Common.{◌≡◌, ◌≢◌, ℕ, ◌<◌, ◌≤◌, List, [], ◌∷◌, ◌++◌, length, take, get_or, refl, ap, inl, inr, arith}
 use Rattle.iim_dataset.specs.Octets.{number}
-use Rattle.iim_dataset.specs.Datasets.{SpellsCount, SpellsTag, count_octets}
+use Rattle.iim_dataset.specs.Datasets.{SpellsCount, count_octets}
 use Rattle.iim_dataset.specs.Tags.{BeginsTag, BeginsNoTag}
-use Rattle.iim_dataset.specs.declared.head.Head.{Head}
 
 -- each is an octet
 abbrev pub Fit : List ℕ → Type 0

@@ -1,5 +1,5 @@
 -- The laws of the test reader, handed in by its impl.
-use Rattle.std.proofs.Common.{◌≡◌, ℕ, ◌+◌, ◌≤◌, refl, ◌∙◌, arith}
+use Rattle.std.proofs.Common.{ℕ, refl, ◌∙◌, arith}
 use Rattle.iim_dataset.specs.declared.trial.Plan.{Plan}
 use Rattle.iim_dataset.specs.declared.trial.Trouble.{Trouble}
 use Rattle.iim_dataset.specs.declared.trial.Trouble.TheVariants.{Failure, Interruptions}

@@ -1,5 +1,5 @@
 -- Test devices, as contracts see them.
-use Rattle.std.specs.Prelude.{◌≡◌, ℕ, ◌+◌, ◌≤◌, List, length, drop, Some, None, Option}
+use Rattle.std.specs.Prelude.{◌≡◌, ℕ, ◌+◌, ◌≤◌, List, drop, Some, Option}
 use Rattle.iim_dataset.specs.Devices.{Device, LaterThan}
 use Rattle.iim_dataset.specs.declared.trial.Plan.{Plan}
 use Rattle.iim_dataset.specs.declared.trial.Trouble.{Trouble}

@@ -1,11 +1,11 @@
 -- Framed octets, from where the checker of heads stands.
-use Rattle.std.proofs.Common.{◌≡◌, ◌≢◌, ℕ, ◌+◌, ◌-◌, ◌<◌, ◌≤◌, ◌⊎◌, true, List, [], ◌∷◌, ◌++◌, length, map, take, drop, refl, ap, sym, subst, ◌∙◌, inl, inr, arith, append_assoc, length-append, length-take, length-drop}
+use Rattle.std.proofs.Common.{◌≡◌, ℕ, ◌≤◌, ◌⊎◌, true, List, [], ◌∷◌, ◌++◌, length, map, take, drop, refl, ap, sym, subst, ◌∙◌, inl, inr, arith, append_assoc, length-append, length-take}
 use Rattle.std.proofs.lemmas.List.{append-nil, take-append-drop, append_cancel_left, map-append}
 use Rattle.std.proofs.lemmas.Bool.Decides.{eqb_tells}
 use Rattle.iim_dataset.specs.Datasets.{Dataset, SpellsDataset, SpellsStream, head_of, count_octets}
 use Rattle.iim_dataset.specs.Laws.{NoDatasetBeginsAnother}
 use Rattle.iim_dataset.specs.declared.head.Head.{Head}
-use Rattle.iim_unpack.specs.Framed.{AreHeads, Framed, Clashes, BeginsUnframed}
+use Rattle.iim_unpack.specs.Framed.{Framed, Clashes, BeginsUnframed}
 use Rattle.iim_unpack.specs.Laws.{NoEnvelopeBeginsAnother}
 use Rattle.iim_unpack.specs.Orders.{nothing, Moves, Refuses, has_seen}
 use Rattle.iim_unpack.specs.Steps.{Takes}

@@ -1,16 +1,15 @@
 -- What the checker's state says of the heads so far.
-use Rattle.std.proofs.Common.{◌≡◌, ◌≢◌, ℕ, ◌<◌, ◌⊎◌, Bool, true, false, ◌||◌, cond, nat_eq, List, [], ◌∷◌, ◌++◌, length, map, flat_map, get_or, slice_set, Option, Some, refl, ap, sym, ◌∙◌, inl, inr, arith, subst, append_assoc, append-nil}
-use Rattle.std.specs.List.{AllByRecursion, list_any, filter}
+use Rattle.std.proofs.Common.{◌≡◌, ℕ, ◌<◌, Bool, true, false, ◌||◌, cond, nat_eq, List, [], ◌∷◌, ◌++◌, length, get_or, refl, ap, sym, ◌∙◌, inl, inr, arith, subst, append_assoc}
+use Rattle.std.specs.List.{AllByRecursion, list_any}
 use Rattle.std.proofs.lemmas.List.Elements.{filter-append}
 use Rattle.std.proofs.lemmas.List.Folds.{list_any-append}
 use Rattle.std.proofs.lemmas.Bool.Decides.{eqb_tells}
 use Rattle.iim_dataset.specs.declared.head.Head.{Head}
-use Rattle.iim_unpack.specs.Records.{mandatory, is_known, after, occurs, of_record, records}
+use Rattle.iim_unpack.specs.Records.{mandatory, is_known, after, occurs, of_record}
 use Rattle.iim_unpack.specs.Framed.{AreOf, IsRun, AreRuns, AreHeads, AreAlive}
 use Rattle.iim_unpack.specs.Orders.{nothing, has_seen, Moves, Refuses, last_record, present_record, head_fault, fault_behind}
 use Rattle.iim_unpack.specs.declared.order.Order.{Order}
-use Rattle.iim_unpack.specs.declared.order.OrderFault.{OrderFault}
-use Rattle.iim_unpack.proofs.Orders.{From, Goes, IsOpen, all_map, seen_more, seen_one, nothing_seen, or_false, after_tail, not_after_itself, from_more, from_less, from_refused, start_from, from_start}
+use Rattle.iim_unpack.proofs.Orders.{From, IsOpen, all_map, seen_more, seen_one, nothing_seen, or_false, from_more, from_less, from_refused, start_from, from_start}
 
 -- ---- a whole record can follow
 

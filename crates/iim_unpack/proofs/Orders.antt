@@ -1,13 +1,13 @@
 -- How the heads of an envelope go on from where the checker of heads stands.
 use Rattle.std.proofs.Common.{◌≡◌, ◌≢◌, ℕ, ◌+◌, ◌<◌, ◌≤◌, ◌⊎◌, Bool, true, false, ◌||◌, cond, nat_eq, List, [], ◌∷◌, ◌++◌, length, get_or, replicate, slice_set, refl, ap, sym, ◌∙◌, inl, inr, arith, zero, suc, subst, get_or-set_other, length-set}
 use Rattle.std.proofs.lemmas.Grind.{get_or-set_at}
-use Rattle.std.specs.List.{All, AllByRecursion}
+use Rattle.std.specs.List.{AllByRecursion}
 use Rattle.std.proofs.lemmas.List.Elements.{recursion_from_All, All-from_recursion}
 use Rattle.std.proofs.lemmas.Bool.Decides.{eqb_tells}
 use Rattle.iim_dataset.specs.declared.head.Head.{Head}
 use Rattle.iim_unpack.specs.Records.{mandatory, is_known, after, occurs}
 use Rattle.iim_unpack.specs.Framed.{AreOf, IsRun, AreRuns}
-use Rattle.iim_unpack.specs.Orders.{nothing, has_seen, AllSeen, Moves, Refuses}
+use Rattle.iim_unpack.specs.Orders.{nothing, has_seen, Moves, Refuses}
 use Rattle.iim_unpack.specs.declared.order.Order.{Order}
 
 -- the rest of the present record's datasets

@@ -1,23 +1,21 @@
 -- What a dataset that is not taken says of all the octets.
-use Rattle.std.proofs.Common.{◌≡◌, ◌≢◌, ℕ, zero, suc, ◌+◌, ◌-◌, ◌<◌, ◌≤◌, ◌⊎◌, List, [], ◌∷◌, ◌++◌, length, map, take, drop, get_or, Some, refl, ap, sym, subst, ◌∙◌, inl, inr, arith, length-take, length-drop, get_or-drop}
-use Rattle.std.proofs.lemmas.List.{append-nil, take-append-drop, take_more, drop_all}
+use Rattle.std.proofs.Common.{◌≡◌, ℕ, zero, suc, ◌+◌, ◌-◌, ◌<◌, ◌≤◌, List, [], ◌∷◌, ◌++◌, length, map, take, drop, get_or, refl, ap, sym, subst, ◌∙◌, inl, inr, arith, length-drop, get_or-drop}
+use Rattle.std.proofs.lemmas.List.{take-append-drop, take_more, drop_all}
 use Rattle.std.proofs.Math.Seq.{take-add}
 use Rattle.std.proofs.lemmas.Bool.Decides.{eqb_tells}
-use Rattle.iim_dataset.specs.Octets.{Octets}
-use Rattle.iim_dataset.specs.Datasets.{Dataset, SpellsTag, head_of, count_octets}
-use Rattle.iim_dataset.specs.Splits.{Begun, InTag, InData, IsBegun, Reads, heads}
-use Rattle.iim_dataset.specs.Tags.{BeginsTag, BeginsNoTag, HasTag, HasNoTag, Concerns}
+use Rattle.iim_dataset.specs.Datasets.{head_of, count_octets}
+use Rattle.iim_dataset.specs.Splits.{InTag, InData, IsBegun}
+use Rattle.iim_dataset.specs.Tags.{BeginsTag, BeginsNoTag, Concerns}
 use Rattle.iim_dataset.specs.Laws.{NoTagBeginsAnother}
 use Rattle.iim_dataset.specs.declared.head.Head.{Head}
 use Rattle.iim_dataset.specs.declared.head.HeadCause.{HeadCause}
 use Rattle.iim_dataset.specs.declared.head.HeadCause.TheVariants.{Marker, CountForm}
-use Rattle.iim_unpack.specs.Framed.{AreAlive, BeginsUnframed, Clashes}
+use Rattle.iim_unpack.specs.Framed.{AreAlive}
 use Rattle.iim_unpack.specs.Orders.{Moves}
 use Rattle.iim_unpack.specs.Answers.{GoesOn, IsTruncated, IsBadTag, IsBadHead, IsRefused, tag_cause}
-use Rattle.iim_unpack.specs.Steps.{EndsInTag, EndsInData, HasBadTag, HasBadHead, Fails, cause_of, truncated_at, bad_tag_at, bad_head_at}
+use Rattle.iim_unpack.specs.Steps.{EndsInTag, EndsInData, HasBadTag, HasBadHead, Fails, cause_of, truncated_at}
 use Rattle.iim_unpack.specs.declared.order.Order.{Order}
 use Rattle.iim_unpack.specs.declared.refusal.Refusal.{Refusal}
-use Rattle.iim_unpack.specs.declared.refusal.Cause.{Cause}
 use Rattle.iim_unpack.specs.declared.refusal.Cause.TheVariants as causes
 use Rattle.iim_unpack.specs.declared.refusal.Layer.TheVariants as layers
 use Rattle.iim_unpack.proofs.Orders.{IsOpen, last_seen, open_next}

@@ -1,8 +1,8 @@
 -- One dataset at the front of what is left.
-use Rattle.std.proofs.Common.{◌≡◌, ℕ, ◌+◌, ◌-◌, ◌<◌, ◌≤◌, List, [], ◌∷◌, ◌++◌, zero, suc, length, take, drop, get_or, refl, ap, sym, subst, ◌∙◌, arith, length-take, length-drop}
+use Rattle.std.proofs.Common.{◌≡◌, ℕ, ◌+◌, ◌-◌, ◌<◌, ◌≤◌, List, [], ◌∷◌, zero, suc, length, take, drop, get_or, ap, sym, subst, ◌∙◌, arith, length-take, length-drop}
 use Rattle.std.proofs.Math.Seq.{take-add, take-length}
 use Rattle.iim_dataset.specs.Octets.{Octets}
-use Rattle.iim_dataset.specs.Datasets.{Dataset, SpellsTag, SpellsDataset, head_of, count_octets}
+use Rattle.iim_dataset.specs.Datasets.{SpellsTag, count_octets}
 use Rattle.iim_dataset.specs.Tags.{HasTag}
 use Rattle.iim_dataset.specs.declared.head.Head.{Head}
 use Rattle.iim_unpack.specs.Orders.{Moves}

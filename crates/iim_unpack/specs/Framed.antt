@@ -1,5 +1,5 @@
 -- Octets that have the frame of an envelope.
-use Rattle.std.specs.Prelude.{◌≡◌, ℕ, true, ◌<◌, List, [], ◌∷◌, ◌++◌, length, map}
+use Rattle.std.specs.Prelude.{◌≡◌, ℕ, true, List, [], ◌∷◌, ◌++◌, length, map}
 use Rattle.std.specs.List.{AllByRecursion}
 use Rattle.iim_dataset.specs.Datasets.{Dataset, SpellsStream, head_of, count_octets}
 use Rattle.iim_dataset.specs.declared.head.Head.{Head}

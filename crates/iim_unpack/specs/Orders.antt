@@ -1,5 +1,5 @@
 -- Where a head may stand, by the present record and the numbers that occurred in it.
-use Rattle.std.specs.Prelude.{◌≡◌, ◌≢◌, ℕ, Bool, true, false, not, ◌&&◌, ◌||◌, ◌==◌, ◌⊎◌, if◌then◌else◌, List, [], ◌∷◌, ◌++◌, replicate, slice_set, slice_index_or, Option, Some, None}
+use Rattle.std.specs.Prelude.{◌≡◌, ◌≢◌, ℕ, Bool, true, false, not, ◌&&◌, ◌||◌, ◌==◌, ◌⊎◌, if◌then◌else◌, List, [], ◌∷◌, replicate, slice_set, slice_index_or, Option, Some, None}
 use Rattle.std.specs.List.{All, find}
 use Rattle.iim_dataset.specs.declared.head.Head.{Head}
 use Rattle.iim_unpack.specs.Records.{mandatory, is_known, after, occurs, of_record}

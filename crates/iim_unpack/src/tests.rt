@@ -164,74 +164,49 @@ fn with_count(
     by_rule(alloc, tags.as_slice(), 114)
 }
 
-/// What the rule says where octet `part` of the tag at `place` is `value`: of the tag itself, and of the scan.
-fn expected(
+/// What the rule says of the tag at `place`, where octet `part` of it is `value`.
+fn expected_head(place: usize, part: usize, value: u8) -> Result<Option<(Head, usize)>, HeadFault> {
+    let (_, rec, set, count) = TAGS.get(place).copied().unwrap_or((0, 0, 0, 0));
+    let (rec, set, count) = match part {
+        0 => {
+            return Err(HeadFault {
+                cause: HeadCause::Marker,
+                at: 0,
+            });
+        }
+        1 => (value, set, count),
+        2 => (rec, value, count),
+        3 if value >= 0x80 => {
+            return Err(HeadFault {
+                cause: HeadCause::CountForm,
+                at: 3,
+            });
+        }
+        3 => (rec, set, usize::from(value) * 256 + count % 256),
+        _ => (rec, set, usize::from(value)),
+    };
+    let count = count as u64;
+    Ok(Some((Head { rec, set, count }, 5)))
+}
+
+/// What the rule says of the envelope, where octet `part` of the tag at `place` is `value`.
+fn expected_scan(
     alloc: Global,
     place: usize,
     part: usize,
     value: u8,
-) -> Result<
-    (
-        Result<Option<(Head, usize)>, HeadFault>,
-        Result<Scan, Refusal>,
-    ),
-    AllocError,
-> {
-    let (offset, rec, set, count) = TAGS.get(place).copied().unwrap_or((0, 0, 0, 0));
-    let head = |rec: u8, set: u8, count: usize| {
-        Ok(Some((
-            Head {
-                rec,
-                set,
-                count: count as u64,
-            },
-            5usize,
-        )))
-    };
-    match part {
-        0 => Ok((
-            Err(HeadFault {
-                cause: HeadCause::Marker,
-                at: 0,
-            }),
-            refused(Layer::Dataset, 0, 0, offset, Cause::Marker),
-        )),
-        1 => Ok((
-            head(value, set, count),
-            by_rule(
-                alloc,
-                with_numbers(alloc, place, value, set)?.as_slice(),
-                114,
-            )?,
-        )),
-        2 => Ok((
-            head(rec, value, count),
-            by_rule(
-                alloc,
-                with_numbers(alloc, place, rec, value)?.as_slice(),
-                114,
-            )?,
-        )),
-        3 if value >= 0x80 => Ok((
-            Err(HeadFault {
-                cause: HeadCause::CountForm,
-                at: 3,
-            }),
-            refused(
-                Layer::Dataset,
-                rec,
-                set,
-                offset.saturating_add(3),
-                Cause::CountForm,
-            ),
-        )),
-        3 => {
-            let count = usize::from(value) * 256 + count % 256;
-            Ok((head(rec, set, count), with_count(alloc, place, count)?))
+) -> Result<Result<Scan, Refusal>, AllocError> {
+    let (offset, rec, set, _) = TAGS.get(place).copied().unwrap_or((0, 0, 0, 0));
+    match expected_head(place, part, value) {
+        Ok(Some((head, _))) if part < 3 => {
+            let tags = with_numbers(alloc, place, head.rec, head.set)?;
+            by_rule(alloc, tags.as_slice(), 114)
         }
+        Ok(Some((head, _))) => with_count(alloc, place, (head.count % 65536) as usize),
+        _ if part == 0 => Ok(refused(Layer::Dataset, 0, 0, offset, Cause::Marker)),
         _ => {
-            let count = usize::from(value);
-            Ok((head(rec, set, count), with_count(alloc, place, count)?))
+            let octet = offset.saturating_add(3);
+            Ok(refused(Layer::Dataset, rec, set, octet, Cause::CountForm))
         }
     }
 }
@@ -247,7 +222,8 @@ fn every_change_of_a_tag(rt: HostRuntime) -> Result<(), Fail> {
                     continue;
                 }
                 octets[*offset + part] = value;
-                let (head, answer) = expected(rt.alloc(), place, part, value)?;
+                let head = expected_head(place, part, value);
+                let answer = expected_scan(rt.alloc(), place, part, value)?;
                 assert_eq!(rt;
                     read_head(&octets[*offset..]),
                     head,

@@ -1,4 +1,4 @@
-use Rattle.std.proofs.Common.{take, drop, arith, length-take, length-drop, ◌∙◌}
+use Rattle.std.proofs.Common.{take, drop, arith, length-take, length-drop}
 use Rattle.std.proofs.Math.Seq.{take-add}
 use Rattle.iim_dataset.proofs.Devices.{appends_appends, rest_whole}
 use Rattle.iim_dataset.proofs.target.put.Goals as goal

@@ -1,4 +1,4 @@
-use Rattle.std.proofs.Common.{◌≡◌, ℕ, ◌+◌, ◌-◌, drop, length, arith, subst, length-drop, length-take, get_or-drop}
+use Rattle.std.proofs.Common.{◌≡◌, ℕ, ◌+◌, ◌-◌, drop, arith, subst, length-drop, length-take, get_or-drop}
 use Rattle.iim_unpack.specs.Steps.{Takes}
 use Rattle.iim_unpack.proofs.Steps.{takes, rest_whole}
 use Rattle.iim_unpack.proofs.envelope.take_dataset.Goals as goal
