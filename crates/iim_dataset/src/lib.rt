@@ -10,6 +10,8 @@ mod laws;
 mod source;
 mod stop;
 mod target;
+#[cfg(test)]
+mod tests;
 mod trial;
 
 pub use device::IoFault;
