@@ -1,0 +1,4 @@
+pub mod InstantLemmas
+pub mod NumberLemmas
+pub mod RowLemmas
+pub mod WorkedRows
