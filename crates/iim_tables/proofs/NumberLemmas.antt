@@ -1,7 +1,11 @@
--- The number that octets spell, octet by octet.
-use Rattle.std.proofs.Common.{◌≡◌, ℕ, ◌+◌, ◌*◌, ◌^◌, ◌∷◌, List, length, ap}
+-- The number that octets spell, and the one that `byteorder` reads of them.
+use Rattle.std.proofs.Common.{◌≡◌, ℕ, ◌+◌, ◌*◌, ◌^◌, ◌<◌, ◌≤◌, [], ◌∷◌, List, length, ap, ◌∙◌, sym, refl, arith}
+use Rattle.byteorder.specs.Endian.{big_number}
 use Rattle.byteorder.specs.Numbers.{big_from-cons}
 use Rattle.iim_tables.specs.Numbers.{number}
 
-pub number-cons : (b : ℕ) (bs : List ℕ) → number (b ∷ bs) ≡ b * 256 ^ length bs + number bs
-number-cons b bs = ap (λ (r : ℕ). b * 256 ^ length bs + r) (big_from-cons 0 (length bs) b bs)
+-- what `byteorder` reads of all the octets is the number that they spell
+pub big_number-all : (xs : List ℕ) → big_number (length xs) xs ≡ number xs
+big_number-all [] = refl
+big_number-all (b ∷ bs) =
+    ap (λ (r : ℕ). b * 256 ^ length bs + r) (big_from-cons 0 (length bs) b bs ∙ big_number-all bs)

@@ -1,5 +1,5 @@
 -- Dates in eight digits, CCYYMMDD: days of the proleptic Gregorian calendar, of the years 1 to 9999.
-use Rattle.std.specs.Prelude.{ℕ, ◌+◌, ◌*◌, ◌-◌, Bool, ◌&&◌, ◌||◌, ◌==◌, nat_le, List, length, slice_index, pos}
+use Rattle.std.specs.Prelude.{◌≡◌, IsTrue, ℕ, ◌+◌, ◌*◌, ◌-◌, ◌/◌, ◌%◌, Bool, ◌&&◌, ◌||◌, ◌==◌, nat_le, List, [], ◌∷◌, ◌++◌, length, slice_index, pos}
 use Rattle.std.specs.List.{list_all}
 use Rattle.jiff.specs.Words.{days_in_month}
 use Rattle.iim_tables.specs.Octets.{within, digit_zero, is_digit}
@@ -50,3 +50,15 @@ is_date xs = are_eight_digits xs && is_day (year_in xs) (month_in xs) (day_in xs
 -- eight digits that name a day, a month or a year
 abbrev pub is_part_date : List ℕ → Bool
 is_part_date xs = are_eight_digits xs && is_part_day (year_in xs) (month_in xs) (day_in xs)
+
+-- a number below 100 in two digits
+abbrev pub two_digits : ℕ → List ℕ
+two_digits n = (digit_zero + n / 10) ∷ (digit_zero + n % 10) ∷ []
+
+-- century, year, month and day, in two digits each
+abbrev pub date_text : ℕ → ℕ → ℕ → List ℕ
+date_text y m d = two_digits (y / 100) ++ two_digits (y % 100) ++ two_digits m ++ two_digits d
+
+-- the octets are eight digits of this year, month and day
+abbrev pub ReadsDate : List ℕ → ℕ → ℕ → ℕ → Type 0
+ReadsDate xs y m d = IsTrue (are_eight_digits xs) × (year_in xs ≡ y) × (month_in xs ≡ m) × (day_in xs ≡ d)

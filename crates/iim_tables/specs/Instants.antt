@@ -1,10 +1,10 @@
 -- Times of day in eleven octets, HHMMSS, + or -, HHMM, and the instant that a date and a time name.
-use Rattle.std.specs.Prelude.{ℕ, ◌+◌, ◌*◌, Bool, ◌&&◌, ◌||◌, ◌==◌, nat_lt, if◌then◌else◌, List, length, take, drop, slice_index, Option, Some, None, IsTrue, ℤ, pos, neg_ℤ, ◌+ℤ◌, ◌-ℤ◌, ◌*ℤ◌, int_le}
+use Rattle.std.specs.Prelude.{◌≡◌, ℕ, ◌+◌, ◌*◌, Bool, ◌&&◌, ◌||◌, ◌==◌, nat_lt, if◌then◌else◌, List, length, take, drop, slice_index, ◌∷◌, ◌++◌, Option, Some, None, IsTrue, ℤ, pos, neg_ℤ, ◌+ℤ◌, ◌-ℤ◌, ◌*ℤ◌, int_le}
 use Rattle.std.specs.List.{list_all}
 use Rattle.jiff.specs.Words.{IsTimestampNanos, nanos_of_seconds}
 use Rattle.jiff_core.specs.Calendar.{days_from_civil}
 use Rattle.iim_tables.specs.Octets.{plus, minus, is_digit}
-use Rattle.iim_tables.specs.Dates.{pair_at, year_in, month_in, day_in, is_date}
+use Rattle.iim_tables.specs.Dates.{pair_at, year_in, month_in, day_in, is_date, two_digits}
 
 -- + where the clock is ahead of universal time, - where it is behind
 abbrev pub is_sign : ℕ → Bool
@@ -22,6 +22,21 @@ is_clock hour minute second = nat_lt hour 24 && nat_lt minute 60 && nat_lt secon
 -- a time of day, and how far the clock is from universal time, in hours and minutes
 abbrev pub is_time : List ℕ → Bool
 is_time xs = has_time_form xs && is_clock (pair_at xs 0) (pair_at xs 2) (pair_at xs 4) && is_clock (pair_at xs 7) (pair_at xs 9) 0
+
+-- the octet before the hours and minutes
+abbrev pub sign_of : Bool → ℕ
+sign_of is_behind = if is_behind then minus else plus
+
+-- hour, minute and second, the sign, and hours and minutes, in two digits each
+abbrev pub time_text : ℕ → ℕ → ℕ → Bool → ℕ → ℕ → List ℕ
+time_text hour minute second is_behind hours minutes =
+    two_digits hour ++ two_digits minute ++ two_digits second ++ sign_of is_behind ∷ (two_digits hours ++ two_digits minutes)
+
+-- the octets have the form of a time, with these parts
+abbrev pub ReadsTime : List ℕ → ℕ → ℕ → ℕ → Bool → ℕ → ℕ → Type 0
+ReadsTime xs hour minute second is_behind hours minutes =
+    IsTrue (has_time_form xs) × (pair_at xs 0 ≡ hour) × (pair_at xs 2 ≡ minute) × (pair_at xs 4 ≡ second)
+    × ((slice_index xs 6 == minus) ≡ is_behind) × (pair_at xs 7 ≡ hours) × (pair_at xs 9 ≡ minutes)
 
 -- seconds since midnight
 abbrev pub clock_seconds : ℕ → ℕ → ℕ → ℕ

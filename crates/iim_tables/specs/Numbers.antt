@@ -1,6 +1,5 @@
 -- The numbers that octets spell, and how large a size may be.
-use Rattle.std.specs.Prelude.{ℕ, List, length}
-use Rattle.byteorder.specs.Endian.{big_number}
+use Rattle.std.specs.Prelude.{ℕ, ◌+◌, ◌*◌, ◌^◌, List, [], ◌∷◌, length}
 
 -- the most octets of a size
 abbrev pub size_octets : ℕ
@@ -12,4 +11,5 @@ greatest_size = 4_294_967_295
 
 -- the unsigned number that the octets spell, high octet first
 abbrev pub number : List ℕ → ℕ
-number xs = big_number (length xs) xs
+number [] = 0
+number (b ∷ bs) = b * 256 ^ length bs + number bs

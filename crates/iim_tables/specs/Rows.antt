@@ -1,8 +1,8 @@
 -- The rows: how many octets each dataset may have, of which kind, whether it must occur and whether it may repeat.
-use Rattle.std.specs.Prelude.{ℕ, Bool, true, false, ◌&&◌, ◌||◌, ◌==◌, if◌then◌else◌, List, [], ◌∷◌, length, Option, Some, None}
+use Rattle.std.specs.Prelude.{◌≡◌, ℕ, IsTrue, Bool, true, false, ◌&&◌, ◌||◌, ◌==◌, if◌then◌else◌, List, [], ◌∷◌, length, Option, Some, None}
 use Rattle.std.specs.List.{find}
 use Rattle.std.specs.Option.{option_map, option_or}
-use Rattle.iim_tables.specs.Octets.{within}
+use Rattle.iim_tables.specs.Octets.{AreOctets, within}
 use Rattle.iim_tables.specs.Numbers.{size_octets, greatest_size}
 use Rattle.iim_tables.specs.Kinds.{has_kind}
 use Rattle.iim_tables.specs.declared.shape.Kind.{Kind}
@@ -86,3 +86,7 @@ row_of rec set = option_or (row_in table rec set) (row_of_others rec)
 -- the number of octets lies in the row's bounds, and they are of its kind
 abbrev pub is_admitted : Row → List ℕ → Bool
 is_admitted r xs = within r.min r.max (length xs) && has_kind r.kind xs
+
+-- some octets, so many, are as the row says
+abbrev pub HasValue : Row → ℕ → Type 0
+HasValue r n = (xs : List ℕ) × AreOctets xs × (length xs ≡ n) × IsTrue (is_admitted r xs)

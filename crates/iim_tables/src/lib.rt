@@ -9,6 +9,7 @@
 mod dates;
 mod instants;
 mod kinds;
+mod laws;
 mod numbers;
 mod octets;
 mod shape;
