@@ -1,12 +1,11 @@
 -- Two digits and the number that they write, and from there the texts of dates and times.
-use Rattle.std.proofs.Common.{◌≡◌, ℕ, suc, ◌+◌, ◌*◌, ◌-◌, ◌/◌, ◌%◌, ◌<◌, ◌≤◌, Bool, true, false, ◌&&◌, ◌==◌, List, [], ◌∷◌, ◌++◌, length, refl, sym, arith, ◌∙◌, ap}
+use Rattle.std.proofs.Common.{◌≡◌, ℕ, ◌+◌, ◌*◌, ◌-◌, ◌/◌, ◌%◌, ◌<◌, ◌≤◌, true, ◌==◌, List, [], ◌∷◌, ◌++◌, length, refl, arith, ◌∙◌, ap}
 use Rattle.std.specs.List.{list_all}
-use Rattle.std.specs.Prelude.{slice_index, nat_le}
+use Rattle.std.specs.Prelude.{nat_le}
 use Rattle.std.proofs.lemmas.Bool.{and_parts, and_from, eqb-true, le-leb}
 use Rattle.std.proofs.lemmas.Bool.Decides.{nat_tests}
-use Rattle.iim_tables.specs.Octets.{within, is_digit, plus, minus}
-use Rattle.iim_tables.specs.Dates.{pair_at, year_in, month_in, day_in, are_eight_digits, two_digits, date_text, ReadsDate}
-use Rattle.iim_tables.specs.Instants.{is_sign, has_time_form, sign_of, time_text, ReadsTime}
+use Rattle.iim_tables.specs.Octets.{is_digit}
+use Rattle.iim_tables.specs.Dates.{year_in, month_in, day_in, are_eight_digits, two_digits, date_text, ReadsDate}
 
 -- the number that two digits write
 abbrev pub pair : ℕ → ℕ → ℕ

@@ -1,8 +1,9 @@
 -- For each row and each length in its bounds there is data that the row admits: a head with such a count can always go on.
-use Rattle.std.proofs.Common.{◌⊎◌, inl, inr, if◌then◌else◌, Option, Some, None, IsTrue, ap, ◌∙◌, cond, ◌≡◌, ℕ, zero, suc, ◌^◌, ◌<◌, ◌≤◌, Bool, true, false, ◌&&◌, ◌||◌, ◌==◌, nat_le, List, [], ◌∷◌, ◌++◌, length, replicate, codes, refl, sym, arith, length-append, zero-mul}
+use Rattle.std.proofs.Common.{◌⊎◌, inl, inr, if◌then◌else◌, Option, Some, None, ap, ◌∙◌, ◌≡◌, ℕ, zero, suc, ◌^◌, ◌<◌, ◌≤◌, Bool, true, false, ◌&&◌, ◌||◌, ◌==◌, nat_le, List, [], ◌∷◌, ◌++◌, length, replicate, codes, refl, sym, arith, length-append, zero-mul}
 use Rattle.std.specs.List.{list_all}
 use Rattle.std.proofs.lemmas.List.{length-replicate}
 use Rattle.std.proofs.lemmas.Bool.{and_from, and_parts, eqb-true, le-leb}
+use Rattle.iim_tables.proofs.NumberLemmas.{number-cons}
 use Rattle.iim_tables.specs.Octets.{AreOctets, within, is_digit, is_letter, is_graphic, is_spaced, is_spaced_or_line_end}
 use Rattle.iim_tables.specs.Numbers.{number, size_octets, greatest_size}
 use Rattle.iim_tables.specs.Kinds.{has_kind, is_size_from}
@@ -41,11 +42,11 @@ octets_same b (suc n) h = (h, octets_same b n h)
 
 number-zeros : (n : ℕ) → number (replicate n 0) ≡ 0
 number-zeros zero = refl
-number-zeros (suc n) = omega (arith, zero-mul (256 ^ length {A = ℕ} (replicate n 0)), number-zeros n)
+number-zeros (suc n) = omega (arith, number-cons 0 (replicate n 0), zero-mul (256 ^ length {A = ℕ} (replicate n 0)), number-zeros n)
 
 number-zeros_one : (n : ℕ) → number (replicate n 0 ++ (1 ∷ [])) ≡ 1
 number-zeros_one zero = refl
-number-zeros_one (suc n) = omega (arith, zero-mul (256 ^ length {A = ℕ} (replicate n 0 ++ (1 ∷ []))), number-zeros_one n)
+number-zeros_one (suc n) = omega (arith, number-cons 0 (replicate n 0 ++ (1 ∷ [])), zero-mul (256 ^ length {A = ℕ} (replicate n 0 ++ (1 ∷ []))), number-zeros_one n)
 
 octets_append : (xs ys : List ℕ) → AreOctets xs → AreOctets ys → AreOctets (xs ++ ys)
 octets_append [] ys h k = k
@@ -139,10 +140,11 @@ row_fits rec set r found =
     ]
 
 -- each number of octets that a row allows is that of some that it admits
-pub row_values : (rec set n : ℕ) (r : Row) → row_of rec set ≡ Some r → within r.min r.max n ≡ true → HasValue r n
+pub row_values : (rec set n : ℕ) (r : Row) → row_of rec set ≡ Some r → within r.min r.max n ≡ true → HasValue rec set n
 row_values rec set n r found t =
     let fits = row_fits rec set r found in
     let ends = and_parts (has_length r.kind r.min) (has_length r.kind r.max) fits in
     let value = value_of r.kind n (between r.kind r.min r.max n ends.0 ends.1 t) in
     let in_bounds : within r.min r.max (length value.0) ≡ true = rw value.1 t in
-    (value.0, value.3, value.1, and_from (within r.min r.max (length value.0)) (has_kind r.kind value.0) in_bounds value.2)
+    let admitted : is_admitted r value.0 ≡ true = and_from (within r.min r.max (length value.0)) (has_kind r.kind value.0) in_bounds value.2 in
+    (value.0, value.3, value.1, rw found admitted)

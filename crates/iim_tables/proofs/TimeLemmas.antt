@@ -1,13 +1,13 @@
 -- The text of a time and its parts.
-use Rattle.std.proofs.Common.{◌≡◌, ℕ, ◌<◌, Bool, true, false, ◌&&◌, ◌||◌, ◌==◌, List, [], ◌∷◌, ◌++◌, length, take, drop, refl, sym, arith, ◌∙◌}
+use Rattle.std.proofs.Common.{◌≡◌, ℕ, Bool, true, ◌&&◌, ◌==◌, List, [], ◌∷◌, length, take, drop, arith}
 use Rattle.std.specs.Prelude.{slice_index}
 use Rattle.std.specs.List.{list_all}
-use Rattle.std.proofs.lemmas.Bool.{and_parts, and_from, eqb-true}
+use Rattle.std.proofs.lemmas.Bool.{and_parts, eqb-true}
 use Rattle.std.proofs.lemmas.Bool.Decides.{nat_tests}
-use Rattle.iim_tables.specs.Octets.{is_digit, plus, minus}
+use Rattle.iim_tables.specs.Octets.{is_digit, minus}
 use Rattle.iim_tables.specs.Dates.{pair_at, two_digits}
-use Rattle.iim_tables.specs.Instants.{is_sign, has_time_form, sign_of, time_text, ReadsTime}
-use Rattle.iim_tables.proofs.DateLemmas.{pair, front, two_digits-pair, pair-two_digits, digits_before}
+use Rattle.iim_tables.specs.Instants.{is_sign, has_time_form, sign_of, time_text}
+use Rattle.iim_tables.proofs.DateLemmas.{pair, front, two_digits-pair}
 
 -- what a time is made of, whole
 record TimeForm (xs : List ℕ) : Type 0 where

@@ -1,5 +1,6 @@
 -- The numbers that octets spell, and how large a size may be.
-use Rattle.std.specs.Prelude.{ℕ, ◌+◌, ◌*◌, ◌^◌, List, [], ◌∷◌, length}
+use Rattle.std.specs.Prelude.{ℕ, List, length}
+use Rattle.byteorder.specs.Endian.{big_number}
 
 -- the most octets of a size
 abbrev pub size_octets : ℕ
@@ -9,7 +10,6 @@ size_octets = 4
 abbrev pub greatest_size : ℕ
 greatest_size = 4_294_967_295
 
--- the unsigned number that the octets spell, high octet first
+-- the unsigned binary number that the octets spell, high octet first
 abbrev pub number : List ℕ → ℕ
-number [] = 0
-number (b ∷ bs) = b * 256 ^ length bs + number bs
+number xs = big_number (length xs) xs

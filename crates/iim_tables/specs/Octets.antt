@@ -1,10 +1,10 @@
 -- Octets, and the classes of octets that the kinds are made of.
-use Rattle.std.specs.Prelude.{ℕ, ◌<◌, Bool, ◌&&◌, ◌||◌, ◌==◌, nat_le, List, [], ◌∷◌}
+use Rattle.std.specs.Prelude.{ℕ, ◌<◌, Bool, ◌&&◌, ◌||◌, ◌==◌, nat_le, List}
+use Rattle.std.specs.List.{AllByRecursion}
 
 -- each is an octet: a whole number from 0 to 255
 abbrev pub AreOctets : List ℕ → Type 0
-AreOctets [] = Unit {0}
-AreOctets (b ∷ bs) = (b < 256) × AreOctets bs
+AreOctets xs = AllByRecursion (λ b. b < 256) xs
 
 -- b is one of low to high
 abbrev pub within : ℕ → ℕ → ℕ → Bool

@@ -1,5 +1,5 @@
 -- The rows: how many octets each dataset may have, of which kind, whether it must occur and whether it may repeat.
-use Rattle.std.specs.Prelude.{◌≡◌, ℕ, IsTrue, Bool, true, false, ◌&&◌, ◌||◌, ◌==◌, if◌then◌else◌, List, [], ◌∷◌, length, Option, Some, None}
+use Rattle.std.specs.Prelude.{◌≡◌, ℕ, IsTrue, Bool, true, false, ◌&&◌, ◌||◌, ◌==◌, if◌then◌else◌, List, [], ◌∷◌, length, Option, Some, None, IsSomeAnd}
 use Rattle.std.specs.List.{find}
 use Rattle.std.specs.Option.{option_map, option_or}
 use Rattle.iim_tables.specs.Octets.{AreOctets, within}
@@ -87,6 +87,10 @@ row_of rec set = option_or (row_in table rec set) (row_of_others rec)
 abbrev pub is_admitted : Row → List ℕ → Bool
 is_admitted r xs = within r.min r.max (length xs) && has_kind r.kind xs
 
--- some octets, so many, are as the row says
-abbrev pub HasValue : Row → ℕ → Type 0
-HasValue r n = (xs : List ℕ) × AreOctets xs × (length xs ≡ n) × IsTrue (is_admitted r xs)
+-- the dataset has a row, and the octets are as it says
+abbrev pub Meets : ℕ → ℕ → List ℕ → Type 0
+Meets rec set xs = IsSomeAnd (row_of rec set) (λ r. IsTrue (is_admitted r xs))
+
+-- some octets, so many, meet the row of the dataset
+abbrev pub HasValue : ℕ → ℕ → ℕ → Type 0
+HasValue rec set n = (xs : List ℕ) × AreOctets xs × (length xs ≡ n) × Meets rec set xs

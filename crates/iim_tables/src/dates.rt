@@ -24,17 +24,6 @@ fn year_in(octets: &[u8]) -> u32
     100 * u32::from(pair_at(octets, 0)) + u32::from(pair_at(octets, 2))
 }
 
-// The day, where the calendar has it.
-fn day_of(year: u32, month: u16, day: u16) -> Option<Date>
-    ensures exactly { IsSome result ↔ IsTrue (is_day year month day) }
-    ensures day { IfSome result (IsYmd (pos year) (pos month) (pos day)) }
-{
-    if year < 1 || year > 9999 || month > 12 || day > 31 {
-        return None;
-    }
-    Date::new(year as i16, month as i8, day as i8).ok()
-}
-
 fn is_year(year: u32) -> bool
     ensures { result ≡ is_year year }
 {
@@ -45,6 +34,17 @@ fn is_month(month: u16) -> bool
     ensures { result ≡ is_month month }
 {
     (1..=12).contains(&month)
+}
+
+// The day, where the calendar has it.
+fn day_of(year: u32, month: u16, day: u16) -> Option<Date>
+    ensures exactly { IsSome result ↔ IsTrue (is_day year month day) }
+    ensures day { IfSome result (IsYmd (pos year) (pos month) (pos day)) }
+{
+    if !is_year(year) || !is_month(month) || day > 31 {
+        return None;
+    }
+    Date::new(year as i16, month as i8, day as i8).ok()
 }
 
 // Whether the month is missing, and the day is then 00 to 31, or the day is missing.

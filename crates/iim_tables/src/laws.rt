@@ -22,8 +22,9 @@ pub fn times_are_written_in_one_way()
         → ReadsTime (time_text hour minute second is_behind hours minutes) hour minute second is_behind hours minutes }
 {}
 
-/// Each number of octets that a row allows is that of some octets that the row admits: no row bounds
-/// what its kind can't have.
+/// Each number of octets that a row allows is that of some octets that meet it: no row bounds what its
+/// kind can't have.
 pub fn each_row_has_values()
-    ensures { (rec set n : ℕ) (r : Row) → row_of rec set ≡ Some r → IsTrue (within r.min r.max n) → HasValue r n }
+    ensures { (rec set n : ℕ) (r : Row) → row_of rec set ≡ Some r → IsTrue (within r.min r.max n)
+        → HasValue rec set n }
 {}

@@ -20,6 +20,9 @@ mod tests;
 pub use crate::dates::date_of;
 pub use crate::instants::instant_of;
 pub use crate::kinds::admits;
+pub use crate::laws::{
+    dates_are_written_in_one_way, each_row_has_values, times_are_written_in_one_way,
+};
 pub use crate::numbers::{GREATEST_SIZE, SIZE_OCTETS, number_of};
 pub use crate::shape::{Duty, Kind, Row};
 pub use crate::table::row;
