@@ -40,6 +40,7 @@ lacks_part m d = ((m == 0) && nat_le d 31) || (is_month m && (d == 0))
 abbrev pub is_part_day : ℕ → ℕ → ℕ → Bool
 is_part_day y m d = is_day y m d || (is_year y && lacks_part m d)
 
+-- eight octets, each a digit
 abbrev pub are_eight_digits : List ℕ → Bool
 are_eight_digits xs = (length xs == 8) && list_all is_digit xs
 
@@ -47,7 +48,7 @@ are_eight_digits xs = (length xs == 8) && list_all is_digit xs
 abbrev pub is_date : List ℕ → Bool
 is_date xs = are_eight_digits xs && is_day (year_in xs) (month_in xs) (day_in xs)
 
--- eight digits that name a day, a month or a year
+-- eight digits that name a day, or lack the month, the day or both
 abbrev pub is_part_date : List ℕ → Bool
 is_part_date xs = are_eight_digits xs && is_part_day (year_in xs) (month_in xs) (day_in xs)
 

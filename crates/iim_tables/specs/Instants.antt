@@ -47,6 +47,7 @@ abbrev pub offset_seconds : Bool → ℕ → ℕ → ℤ
 offset_seconds is_behind hour minute =
     if is_behind then neg_ℤ (pos (clock_seconds hour minute 0)) else pos (clock_seconds hour minute 0)
 
+-- the same of a time: its sign, hours and minutes
 abbrev pub offset_in : List ℕ → ℤ
 offset_in xs = offset_seconds (slice_index xs 6 == minus) (pair_at xs 7) (pair_at xs 9)
 

@@ -18,6 +18,7 @@ line_feed = 0x0a
 abbrev pub carriage_return : ℕ
 carriage_return = 0x0d
 
+-- SP
 abbrev pub space : ℕ
 space = 0x20
 

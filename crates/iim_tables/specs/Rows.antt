@@ -17,6 +17,7 @@ abbrev pub entry : ℕ → ℕ → ℕ → ℕ → Kind → Duty → Bool → En
 entry rec set least greatest kind duty repeats =
     record { rec = rec; set = set; row = record { min = least; max = greatest; kind = kind; duty = duty; repeats = repeats } }
 
+-- the datasets of the records 1, 2, 7, 8 and 9, in the order and by the names of the standard
 unfoldable pub table : List Entry
 table =
     entry 1 0 2 2 Binary Mandatory false  -- Model Version

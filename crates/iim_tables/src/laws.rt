@@ -16,10 +16,12 @@ pub fn dates_are_written_in_one_way()
 /// text are these.
 pub fn times_are_written_in_one_way()
     ensures only { (xs : List ℕ) → IsTrue (has_time_form xs)
-        → xs ≡ time_text (pair_at xs 0) (pair_at xs 2) (pair_at xs 4) (slice_index xs 6 == minus) (pair_at xs 7) (pair_at xs 9) }
+        → xs ≡ time_text (pair_at xs 0) (pair_at xs 2) (pair_at xs 4)
+        (slice_index xs 6 == minus) (pair_at xs 7) (pair_at xs 9) }
     ensures each { (hour minute second hours minutes : ℕ) (is_behind : Bool)
         → hour < 100 → minute < 100 → second < 100 → hours < 100 → minutes < 100
-        → ReadsTime (time_text hour minute second is_behind hours minutes) hour minute second is_behind hours minutes }
+        → ReadsTime (time_text hour minute second is_behind hours minutes)
+        hour minute second is_behind hours minutes }
 {}
 
 /// Each number of octets that a row allows is that of some octets that meet it: no row bounds what its
