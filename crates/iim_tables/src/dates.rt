@@ -1,0 +1,97 @@
+ghost use Rattle.std.specs.Prelude.{◌≡◌, ◌↔◌, ◌+◌, ◌<◌, pos, length, IsTrue, IsSome, IfSome};
+ghost use Rattle.jiff.specs.Words.{IsYmd};
+ghost use Rattle.iim_tables.specs.Dates.{pair_at, year_in, month_in, day_in, is_year, is_month, is_day, lacks_part, is_part_day, are_eight_digits, is_date, is_part_date};
+
+use crate::kinds::are_digits;
+use crate::octets::DIGIT_ZERO;
+use jiff::civil::Date;
+
+// The number that the two digits at a place write.
+pub(crate) fn pair_at(octets: &[u8], at: usize) -> u16
+    requires { at + 1 < length octets.now }
+    ensures { result ≡ pair_at octets.now at }
+{
+    let tens = octets[at].saturating_sub(DIGIT_ZERO);
+    let ones = octets[at + 1].saturating_sub(DIGIT_ZERO);
+    10 * u16::from(tens) + u16::from(ones)
+}
+
+// The year of a date, from century and year.
+fn year_in(octets: &[u8]) -> u32
+    requires { length octets.now ≡ 8 }
+    ensures { result ≡ year_in octets.now }
+{
+    100 * u32::from(pair_at(octets, 0)) + u32::from(pair_at(octets, 2))
+}
+
+fn is_year(year: u32) -> bool
+    ensures { result ≡ is_year year }
+{
+    (1..=9999).contains(&year)
+}
+
+fn is_month(month: u16) -> bool
+    ensures { result ≡ is_month month }
+{
+    (1..=12).contains(&month)
+}
+
+// The day, where the calendar has it.
+fn day_of(year: u32, month: u16, day: u16) -> Option<Date>
+    ensures exactly { IsSome result ↔ IsTrue (is_day year month day) }
+    ensures day { IfSome result (IsYmd (pos year) (pos month) (pos day)) }
+{
+    if !is_year(year) || !is_month(month) || day > 31 {
+        return None;
+    }
+    Date::new(year as i16, month as i8, day as i8).ok()
+}
+
+// Whether the month is missing, and the day is then 00 to 31, or the day is missing.
+fn lacks_part(month: u16, day: u16) -> bool
+    ensures { result ≡ lacks_part month day }
+{
+    (month == 0 && day <= 31) || (is_month(month) && day == 0)
+}
+
+fn is_part_day(year: u32, month: u16, day: u16) -> bool
+    ensures { result ≡ is_part_day year month day }
+{
+    day_of(year, month, day).is_some() || (is_year(year) && lacks_part(month, day))
+}
+
+fn are_eight_digits(octets: &[u8]) -> bool
+    ensures { result ≡ are_eight_digits octets.now }
+{
+    octets.len() == 8 && are_digits(octets)
+}
+
+/// The day that eight digits name, CCYYMMDD, and `None` where they name none: where they are no eight
+/// digits, or the proleptic Gregorian calendar has no such day in the years 1 to 9999.
+///
+/// So are 1:70 Date Sent and 2:55 Date Created written, the latter with parts that may be missing: a
+/// date that lacks a part has no day.
+pub fn date_of(octets: &[u8]) -> Option<Date>
+    ensures exactly { IsSome result ↔ IsTrue (is_date octets.now) }
+    ensures day { IfSome result
+        (IsYmd (pos (year_in octets.now)) (pos (month_in octets.now)) (pos (day_in octets.now))) }
+{
+    if !are_eight_digits(octets) {
+        return None;
+    }
+    day_of(year_in(octets), pair_at(octets, 4), pair_at(octets, 6))
+}
+
+// Whether the octets are a full date.
+pub(crate) fn is_date(octets: &[u8]) -> bool
+    ensures { result ≡ is_date octets.now }
+{
+    date_of(octets).is_some()
+}
+
+// Whether the octets are a date whose month or day may be missing.
+pub(crate) fn is_part_date(octets: &[u8]) -> bool
+    ensures { result ≡ is_part_date octets.now }
+{
+    are_eight_digits(octets) && is_part_day(year_in(octets), pair_at(octets, 4), pair_at(octets, 6))
+}

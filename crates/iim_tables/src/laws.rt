@@ -1,0 +1,32 @@
+ghost use Rattle.std.specs.Prelude.{◌≡◌, ◌==◌, ◌<◌, ℕ, Bool, List, slice_index, Option, Some, IsTrue};
+ghost use Rattle.iim_tables.specs.Octets.{minus, within};
+ghost use Rattle.iim_tables.specs.Dates.{pair_at, year_in, month_in, day_in, are_eight_digits, date_text, ReadsDate};
+ghost use Rattle.iim_tables.specs.Instants.{has_time_form, time_text, ReadsTime};
+ghost use Rattle.iim_tables.specs.Rows.{row_of, HasValue};
+ghost use Rattle.iim_tables.specs.declared.shape.Row.{Row};
+
+/// Eight digits are the text of one year, month and day, and what is read of that text are these.
+pub fn dates_are_written_in_one_way()
+    ensures only { (xs : List ℕ) → IsTrue (are_eight_digits xs)
+        → xs ≡ date_text (year_in xs) (month_in xs) (day_in xs) }
+    ensures each { (y m d : ℕ) → y < 10_000 → m < 100 → d < 100 → ReadsDate (date_text y m d) y m d }
+{}
+
+/// Six digits, a sign and four digits are the text of one time and offset, and what is read of that
+/// text are these.
+pub fn times_are_written_in_one_way()
+    ensures only { (xs : List ℕ) → IsTrue (has_time_form xs)
+        → xs ≡ time_text (pair_at xs 0) (pair_at xs 2) (pair_at xs 4)
+        (slice_index xs 6 == minus) (pair_at xs 7) (pair_at xs 9) }
+    ensures each { (hour minute second hours minutes : ℕ) (is_behind : Bool)
+        → hour < 100 → minute < 100 → second < 100 → hours < 100 → minutes < 100
+        → ReadsTime (time_text hour minute second is_behind hours minutes)
+        hour minute second is_behind hours minutes }
+{}
+
+/// Each number of octets that a row allows is that of some octets that meet it: no row bounds what its
+/// kind can't have.
+pub fn each_row_has_values()
+    ensures { (rec set n : ℕ) (r : Row) → row_of rec set ≡ Some r → IsTrue (within r.min r.max n)
+        → HasValue rec set n }
+{}

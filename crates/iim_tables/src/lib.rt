@@ -1,0 +1,28 @@
+//! The tables of the Information Interchange Model, version 4, with the choices of this project's
+//! profile: which octets each dataset of the records 1, 2, 7, 8 and 9 may have, the numbers that octets
+//! spell, and the days and instants that dates and times name.
+//!
+//! The crates above ask two questions: `row`, what the table says of a dataset, and `admits`, whether
+//! octets are as a row says. Nothing here takes memory.
+#![tactic(auto)]
+
+mod dates;
+mod instants;
+mod kinds;
+mod laws;
+mod numbers;
+mod octets;
+mod shape;
+mod table;
+#[cfg(test)]
+mod tests;
+
+pub use crate::dates::date_of;
+pub use crate::instants::instant_of;
+pub use crate::kinds::admits;
+pub use crate::laws::{
+    dates_are_written_in_one_way, each_row_has_values, times_are_written_in_one_way,
+};
+pub use crate::numbers::{GREATEST_SIZE, SIZE_OCTETS, number_of};
+pub use crate::shape::{Duty, Kind, Row};
+pub use crate::table::row;
