@@ -1,8 +1,8 @@
 -- Canonical tags are spellings, and are read back.
-use Rattle.std.proofs.Common.{◌≡◌, ℕ, ◌+◌, ◌-◌, ◌<◌, ◌≤◌, List, [], ◌++◌, length, take, drop, refl, sym, ap, subst, ◌∙◌, arith, inl, inr, append_assoc, append-nil, length-append, length-take}
+use Rattle.std.proofs.Common.{◌≡◌, ℕ, ◌+◌, ◌-◌, ◌^◌, ◌<◌, List, [], ◌++◌, length, take, drop, refl, sym, ap, subst, ◌∙◌, arith, inl, inr, append_assoc, append-nil, length-append, length-take}
 use Rattle.std.proofs.lemmas.List.{take-append-drop, take-append-le}
 use Rattle.std.proofs.Math.Seq.{take-append_seam, take-append-add}
-use Rattle.std.proofs.lemmas.Bool.{lt-ltb, cases_lt}
+use Rattle.std.proofs.lemmas.Bool.{lt-ltb, le-ltb, cases_lt}
 use Rattle.byteorder.specs.Numbers.{big_number-reads_back}
 use Rattle.iim_dataset.specs.Octets.{IsOctet}
 use Rattle.iim_dataset.specs.Datasets.{SpellsCount, SpellsTag, canonical_count, canonical_tag, count_octets}
@@ -11,13 +11,14 @@ use Rattle.iim_dataset.specs.Laws.{CanonicalTagsReadBack}
 use Rattle.iim_dataset.specs.declared.head.Head.{Head}
 use Rattle.iim_dataset.proofs.Spellings.{one_tag}
 
-pub count_spells : (limit n : ℕ) → n ≤ 32767 → SpellsCount limit n (canonical_count n)
-count_spells limit n h =
-    let lt : n < 32768 = omega arith in
-    rw (lt-ltb n 32768 lt) (inl (omega arith, omega arith, refl, big_number-reads_back 2 n [] (omega arith)))
+pub count_spells : (n : ℕ) → n < 256 ^ count_octets → SpellsCount count_octets n (canonical_count n)
+count_spells n h = elim (cases_lt n 32768) [
+  | inl lt ↦ rw (lt-ltb n 32768 lt) (inl (omega arith, omega arith, refl, big_number-reads_back 2 n [] (omega arith)))
+  | inr ge ↦ rw (le-ltb n 32768 ge) (inr (refl, refl, omega arith, omega arith, (omega arith, (omega arith, (omega arith, (omega arith, tt)))), big_number-reads_back 4 n [] h))
+]
 
-pub tag_spells : (limit : ℕ) (h : Head) → IsOctet h.rec → IsOctet h.set → h.count ≤ 32767 → SpellsTag limit h (canonical_tag h)
-tag_spells limit h r s c = record { rec = r; set = s; count = canonical_count h.count; is_count = count_spells limit h.count c; parts = refl }
+pub tag_spells : (h : Head) → IsOctet h.rec → IsOctet h.set → h.count < 256 ^ count_octets → SpellsTag count_octets h (canonical_tag h)
+tag_spells h r s c = record { rec = r; set = s; count = canonical_count h.count; is_count = count_spells h.count c; parts = refl }
 
 -- a tag that begins with a whole tag and goes on is none
 no_longer : (limit : ℕ) (h k : Head) (tag x more : List ℕ) → SpellsTag limit h tag → 0 < length more → SpellsTag limit k ((tag ++ x) ++ more) → ⊥
@@ -48,7 +49,7 @@ no_fault limit at h tag more s begun dead = elim (cases_lt at (length tag)) [
 pub canonical_reads : CanonicalTagsReadBack
 canonical_reads head more r s c =
     let tag = canonical_tag head in
-    let spelled = tag_spells count_octets head r s c in
+    let spelled = tag_spells head r s c in
     let front : take (length tag) (tag ++ more) ≡ tag = take-append_seam tag more in
     record {
       tag = record { some = omega arith; within = omega (arith, length-append tag more); tag = subst (SpellsTag count_octets head) (sym front) spelled };

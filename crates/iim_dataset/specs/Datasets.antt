@@ -14,9 +14,9 @@ pub record Dataset : Type 0 where
 abbrev pub head_of : Dataset → Head
 head_of d = record { rec = d.rec; set = d.set; count = length d.octets }
 
--- The most octets of an extended count behind its first two. None: every count has the standard form.
+-- the most octets of an extended count behind its first two (the profile's)
 abbrev pub count_octets : ℕ
-count_octets = 0
+count_octets = 4
 
 -- The standard form of a count: two octets, of which the first is below 80h.
 abbrev pub IsStandardCount : ℕ → ℕ → ℕ → List ℕ → Type 0
@@ -56,7 +56,7 @@ SpellsStream limit (d ∷ ds) xs = (first : List ℕ) × (rest : List ℕ)
 
 -- ---- how a writer spells
 
--- the shortest spelling of a count: two octets up to 32,767, above that an extended count of four
+-- the canonical spelling of a count: two octets up to 32,767, above that an extended count of four
 abbrev pub canonical_count : ℕ → List ℕ
 canonical_count n = if nat_lt n 32768 then big_bytes 2 n else 128 ∷ 4 ∷ big_bytes 4 n
 

@@ -1,5 +1,5 @@
 -- What holds of all spellings.
-use Rattle.std.specs.Prelude.{◌≡◌, ℕ, ◌≤◌, List, ◌++◌, length}
+use Rattle.std.specs.Prelude.{◌≡◌, ℕ, ◌^◌, ◌<◌, List, ◌++◌, length}
 use Rattle.iim_dataset.specs.Octets.{IsOctet}
 use Rattle.iim_dataset.specs.Datasets.{Dataset, SpellsTag, SpellsDataset, canonical_tag, count_octets}
 use Rattle.iim_dataset.specs.Splits.{SplitsInto}
@@ -31,5 +31,5 @@ pub record ReadsAs (octets : List ℕ) (head : Head) (used : ℕ) : Type 0 where
 
 -- The canonical tag of a head is read as that head, whatever follows it.
 abbrev pub CanonicalTagsReadBack : Type 0
-CanonicalTagsReadBack = (head : Head) (more : List ℕ) → IsOctet head.rec → IsOctet head.set → head.count ≤ 32767
+CanonicalTagsReadBack = (head : Head) (more : List ℕ) → IsOctet head.rec → IsOctet head.set → head.count < 256 ^ count_octets
     → ReadsAs (canonical_tag head ++ more) head (length (canonical_tag head))

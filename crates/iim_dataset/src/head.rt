@@ -1,6 +1,6 @@
 //! The tag of a dataset: a marker, two numbers and a count.
 
-ghost use Rattle.std.specs.Prelude.{◌≡◌, ◌≤◌, IfOk, IfErr, MatchOption};
+ghost use Rattle.std.specs.Prelude.{◌≡◌, ◌^◌, ◌<◌, IfOk, IfErr, MatchOption};
 ghost use Rattle.iim_dataset.specs.Datasets.{SpellsTag, canonical_tag, count_octets};
 ghost use Rattle.iim_dataset.specs.Tags.{BeginsTag, HasTag, HasNoTag};
 
@@ -35,55 +35,78 @@ pub struct HeadFault {
 /// The octet that each tag begins with.
 pub const TAG_MARKER: u8 = 0x1c;
 
-/// The first octet of an extended count has its top bit set.
+/// The first octet of an extended count: its top bit is set, and no count has more than 255 octets.
 const EXTENDED: u8 = 0x80;
 
-/// The octets of a tag with a standard count.
+/// The most octets of an extended count behind its first two (profile).
+const COUNT_OCTETS: u8 = 4;
+
+/// The octets of a tag up to the end of a standard count.
 const TAG_LENGTH: usize = 5;
 
-/// Reads the tag at the front: its head and its length in octets. `None` where the octets end inside the tag. Until
-/// extended counts come, an octet from 80 hex up in the fourth place is a fault.
+/// The greatest count that has the standard form.
+const MAX_STANDARD: u64 = 32_767;
+
+/// Reads the tag at the front: its head and its length in octets. `None` where the octets end inside the tag.
+///
+/// A count of two octets has its top bit clear. An extended count is 80 hex, how many octets follow (1 to 4), and the
+/// count in these, high octet first; leading zeros are accepted, and so is an extended count of few octets.
 pub fn read_head(octets: &[u8]) -> Result<Option<(Head, usize)>, HeadFault>
     ensures found { IfOk result (λ found. MatchOption found (BeginsTag count_octets octets.now) (λ f. HasTag octets.now f.0 f.1)) }
     ensures fault { IfErr result (HasNoTag octets.now) }
 {
     match octets {
-        [marker, ..] if *marker != TAG_MARKER => Err(HeadFault {
-            cause: HeadCause::Marker,
-            at: 0,
-        }),
-        [_, _, _, high, ..] if *high >= EXTENDED => Err(HeadFault {
-            cause: HeadCause::CountForm,
-            at: 3,
-        }),
-        [_, rec, set, high, low, ..] => {
-            let count = BigEndian::read_u16(&[*high, *low]);
-            let head = Head {
-                rec: *rec,
-                set: *set,
-                count: u64::from(count),
-            };
-            Ok(Some((head, TAG_LENGTH)))
+        [marker, ..] if *marker != TAG_MARKER => Err(fault(HeadCause::Marker, 0)),
+        [_, _, _, high, ..] if *high > EXTENDED => Err(fault(HeadCause::CountForm, 3)),
+        [_, rec, set, high, low, ..] if *high < EXTENDED => {
+            let count = u64::from(BigEndian::read_u16(&[*high, *low]));
+            let (rec, set) = (*rec, *set);
+            Ok(Some((Head { rec, set, count }, TAG_LENGTH)))
+        }
+        [_, _, _, _, 0, ..] => Err(fault(HeadCause::CountForm, 4)),
+        [_, _, _, _, length, ..] if *length > COUNT_OCTETS => Err(fault(HeadCause::CountForm, 4)),
+        [_, rec, set, _, length, count @ ..] if count.len() >= usize::from(*length) => {
+            let length = usize::from(*length);
+            let count = BigEndian::read_uint(count, length);
+            let (rec, set) = (*rec, *set);
+            Ok(Some((Head { rec, set, count }, TAG_LENGTH + length)))
         }
         _ => Ok(None),
     }
 }
 
-/// The canonical tag of a head, in the fewest octets: a standard count, since until extended counts come a head counts
-/// at most 32,767 octets.
+fn fault(cause: HeadCause, at: usize) -> HeadFault
+    ensures { result ≡ record { cause = cause; at = at } }
+{
+    HeadFault { cause, at }
+}
+
+/// The canonical tag of a head: a standard count up to 32,767, above that an extended count of four octets.
 pub fn head_bytes(head: Head) -> ArrayVec<u8, 9>
-    requires { head.count ≤ 32767 }
+    requires { head.count < 256 ^ count_octets }
     ensures canonical { result.items ≡ canonical_tag head }
     ensures spells { SpellsTag count_octets head result.items }
 {
-    let mut count = [0; 2];
-    BigEndian::write_u16(&mut count, head.count as u16);
-    let [high, low] = count;
     let mut tag = ArrayVec::new();
     tag.push(TAG_MARKER);
     tag.push(head.rec);
     tag.push(head.set);
-    tag.push(high);
-    tag.push(low);
+    if head.count <= MAX_STANDARD {
+        let mut count = [0; 2];
+        BigEndian::write_u16(&mut count, head.count as u16);
+        let [high, low] = count;
+        tag.push(high);
+        tag.push(low);
+        return tag;
+    }
+    let mut count = [0; 4];
+    BigEndian::write_u32(&mut count, head.count as u32);
+    let [first, second, third, last] = count;
+    tag.push(EXTENDED);
+    tag.push(COUNT_OCTETS);
+    tag.push(first);
+    tag.push(second);
+    tag.push(third);
+    tag.push(last);
     tag
 }

@@ -33,6 +33,23 @@ const TAGS: [(usize, u8, u8, usize); 12] = [
     (105, 9, 10, 4),
 ];
 
+/// How many octets an extended count has at each tag of the smallest envelope where octet 4 is 80, which octet 5 then
+/// tells, and the count in these.
+const AS_EXTENDED: [(usize, u64); 12] = [
+    (2, 4),
+    (2, 2),
+    (2, 1),
+    (3, 0x54_53_54),
+    (8, 0),
+    (8, 0),
+    (2, 4),
+    (1, 1),
+    (4, 1024),
+    (4, 14),
+    (14, 0),
+    (4, 14),
+];
+
 /// The datasets that a record must have, lowest first.
 const MANDATORY: [(u8, u8); 11] = [
     (1, 0),
@@ -164,6 +181,18 @@ fn with_count(
     by_rule(alloc, tags.as_slice(), 114)
 }
 
+/// What the rule says of the tag at `place`, where octet 4 of it is 80.
+fn extended_head(place: usize, rec: u8, set: u8) -> Result<Option<(Head, usize)>, HeadFault> {
+    let (length, count) = AS_EXTENDED.get(place).copied().unwrap_or((0, 0));
+    if length > 4 {
+        return Err(HeadFault {
+            cause: HeadCause::CountForm,
+            at: 4,
+        });
+    }
+    Ok(Some((Head { rec, set, count }, length.saturating_add(5))))
+}
+
 /// What the rule says of the tag at `place`, where octet `part` of it is `value`.
 fn expected_head(place: usize, part: usize, value: u8) -> Result<Option<(Head, usize)>, HeadFault> {
     let (_, rec, set, count) = TAGS.get(place).copied().unwrap_or((0, 0, 0, 0));
@@ -176,7 +205,8 @@ fn expected_head(place: usize, part: usize, value: u8) -> Result<Option<(Head, u
         }
         1 => (value, set, count),
         2 => (rec, value, count),
-        3 if value >= 0x80 => {
+        3 if value == 0x80 => return extended_head(place, rec, set),
+        3 if value > 0x80 => {
             return Err(HeadFault {
                 cause: HeadCause::CountForm,
                 at: 3,
@@ -202,12 +232,21 @@ fn expected_scan(
             let tags = with_numbers(alloc, place, head.rec, head.set)?;
             by_rule(alloc, tags.as_slice(), 114)
         }
-        Ok(Some((head, _))) => with_count(alloc, place, (head.count % 65536) as usize),
-        _ if part == 0 => Ok(refused(Layer::Dataset, 0, 0, offset, Cause::Marker)),
-        _ => {
-            let octet = offset.saturating_add(3);
+        Ok(Some((head, 5))) => with_count(alloc, place, (head.count % 65536) as usize),
+        Ok(Some((head, used))) => {
+            let end = offset
+                .saturating_add(used)
+                .saturating_add((head.count % 0x100_0000) as usize);
+            if end > 114 {
+                return Ok(refused(Layer::Dataset, rec, set, 114, Cause::Truncated));
+            }
+            Ok(refused(Layer::Dataset, 0, 0, end, Cause::Marker))
+        }
+        Err(fault) if fault.cause == HeadCause::CountForm => {
+            let octet = offset.saturating_add(fault.at);
             Ok(refused(Layer::Dataset, rec, set, octet, Cause::CountForm))
         }
+        _ => Ok(refused(Layer::Dataset, 0, 0, offset, Cause::Marker)),
     }
 }
 
@@ -240,7 +279,7 @@ fn every_change_of_a_tag(rt: HostRuntime) -> Result<(), Fail> {
 fn worked_envelopes(rt: HostRuntime) -> Result<(), Fail> {
     let whole: &[u8] = &SMALLEST;
     assert_eq!(rt; scan(whole), Ok(Scan { used: 114 }));
-    let rows: [(&[&[u8]], Result<Scan, Refusal>); 9] = [
+    let rows: [(&[&[u8]], Result<Scan, Refusal>); 12] = [
         (&[&SMALLEST, b"\x1c\x01"], Ok(Scan { used: 114 })),
         (
             &[b"\x1d", &SMALLEST[1..]],
@@ -249,6 +288,22 @@ fn worked_envelopes(rt: HostRuntime) -> Result<(), Fail> {
         (
             &[&SMALLEST[..3], b"\x81\x01", &SMALLEST[5..]],
             refused(Layer::Dataset, 1, 0, 3, Cause::CountForm),
+        ),
+        (
+            &[&SMALLEST[..3], b"\x80\x00", &SMALLEST[5..]],
+            refused(Layer::Dataset, 1, 0, 4, Cause::CountForm),
+        ),
+        (
+            &[&SMALLEST[..3], b"\x80\x05", &SMALLEST[5..]],
+            refused(Layer::Dataset, 1, 0, 4, Cause::CountForm),
+        ),
+        (
+            &[
+                &SMALLEST[..24],
+                b"\x80\x04\x00\x00\x00\x03",
+                &SMALLEST[26..],
+            ],
+            Ok(Scan { used: 118 }),
         ),
         (
             &[&SMALLEST[..42], &SMALLEST[55..]],
