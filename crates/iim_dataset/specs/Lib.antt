@@ -1,6 +1,7 @@
 pub mod Octets
 pub mod Datasets
 pub mod Splits
+pub mod Languages
 pub mod Tags
 pub mod Devices
 pub mod Later

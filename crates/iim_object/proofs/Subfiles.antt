@@ -1,0 +1,270 @@
+-- The object layer while subfiles come and at its end: it is alive exactly where they fit.
+use Rattle.std.proofs.Common.{◌≡◌, ◌↔◌, ℕ, zero, suc, ◌+◌, ◌-◌, ◌<◌, ◌≤◌, Bool, true, false, List, [], ◌∷◌, ◌++◌, length, replicate, map, sum, Option, Some, None, is_some, IfSome, refl, sym, ap, subst, ◌∙◌, arith, append_assoc, append-nil, length-append}
+use Rattle.std.specs.List.{AllByRecursion}
+use Rattle.std.proofs.lemmas.List.{map-append}
+use Rattle.std.proofs.lemmas.List.Sums.{sum_by-cons, sum_by-append}
+use Rattle.iim_dataset.specs.Languages.{IsAlive}
+use Rattle.iim_tables.specs.Numbers.{greatest_size}
+use Rattle.iim_object.specs.Sizes.{Stated, AreStated, Agree, number_at, mode_number, sizes_at}
+use Rattle.iim_object.specs.Living.{NoClash, HasDuties, Fit, IsWhole, NumbersLiveWithoutClash, SubfilesLiveWhileTheyFit, ObjectsEndWhereTheyAreWhole, TotalsAreConfirmed}
+use Rattle.iim_object.specs.Objects.{ObjectToken, NumberRead, SubfileBegun, ObjectEnded, Confirmed, ObjectLanguage, number_tokens}
+use Rattle.iim_object.proofs.Numbers.{numbers_alive, numbers_live, in_row_at, at_least_one, at_most_size, short_ones, sum-ones}
+
+pub numbers_law : NumbersLiveWithoutClash
+numbers_law ps stated = (numbers_live ps, numbers_alive ps stated)
+
+-- ---- what follows completes
+
+-- the tokens of the end
+abbrev ending : ℕ → List ObjectToken
+ending n = ObjectEnded ∷ Confirmed n ∷ []
+
+each_append : (subfile : ℕ) (xs ys : List ℕ) → AllByRecursion (λ n. n ≤ subfile) xs → AllByRecursion (λ n. n ≤ subfile) ys → AllByRecursion (λ n. n ≤ subfile) (xs ++ ys)
+each_append subfile [] ys h k = k
+each_append subfile (x ∷ xs) ys h k = (h.0, each_append subfile xs ys h.1 k)
+
+each_front : (subfile : ℕ) (xs ys : List ℕ) → AllByRecursion (λ n. n ≤ subfile) (xs ++ ys) → AllByRecursion (λ n. n ≤ subfile) xs
+each_front subfile [] ys h = tt
+each_front subfile (x ∷ xs) ys h = (h.0, each_front subfile xs ys h.1)
+
+sum_append : (xs ys : List ℕ) → sum (xs ++ ys) ≡ sum xs + sum ys
+sum_append xs ys = sum_by-append (λ n. n) xs ys
+
+one_at_least : (known : Bool) (subfile : ℕ) (ps : List Stated) → HasDuties known subfile ps → 1 ≤ subfile
+one_at_least known subfile ps d = at_least_one subfile (in_row_at 20 subfile ps d.stated.each d.largest)
+
+-- an object of these lengths and no others
+whole_object : (known : Bool) (subfile : ℕ) (ps : List Stated) (lengths : List ℕ) → HasDuties known subfile ps → 0 < length lengths → Fit known subfile ps lengths → IsWhole ps lengths
+    → ObjectLanguage (number_tokens ps ++ (map SubfileBegun lengths ++ ending (sum lengths)))
+whole_object known subfile ps lengths d some fit whole = record {
+  stated = ps;
+  lengths = lengths;
+  confirmed = sum lengths;
+  known = known;
+  subfile = subfile;
+  are_stated = d.stated;
+  mode = d.mode;
+  largest = d.largest;
+  some = some;
+  agree = record {
+    by_mode = fit.by_mode;
+    announced_fits = fits (number_at 90 ps) refl;
+    each_subfile = fit.each;
+    total_fits = fit.total;
+    within_maximum = fit.maximum;
+    as_announced = whole;
+    as_confirmed = refl;
+  };
+  tokens_are = refl;
+}
+  where
+    under : (a : ℕ) → number_at 90 ps ≡ Some a → (o : Option ℕ) → number_at 95 ps ≡ o → IfSome o (λ m. a ≤ m)
+    under a e None f = tt
+    under a e (Some m) f = fit.clash.sizes a m e f
+
+    fits : (o : Option ℕ) → number_at 90 ps ≡ o → IfSome o (λ a. IfSome (number_at 95 ps) (λ m. a ≤ m))
+    fits None e = tt
+    fits (Some a) e = under a e (number_at 95 ps) refl
+
+-- with subfiles of one octet up to the announced size
+fill : (a : ℕ) (lengths : List ℕ) → List ℕ
+fill a lengths = replicate (a - sum lengths) 1
+
+filled_sum : (a : ℕ) (lengths : List ℕ) → sum lengths ≤ a → sum (lengths ++ fill a lengths) ≡ a
+unfolding fill
+filled_sum a lengths h = omega (arith, sum_append lengths (replicate (a - sum lengths) 1), sum-ones (a - sum lengths))
+
+filled_fits : (known : Bool) (subfile : ℕ) (ps : List Stated) (lengths : List ℕ) (a : ℕ) → HasDuties known subfile ps → Fit known subfile ps lengths → number_at 90 ps ≡ Some a → sum lengths ≤ a
+    → Fit known subfile ps (lengths ++ fill a lengths)
+unfolding fill
+filled_fits known subfile ps lengths a d fit e h =
+    let total : sum (lengths ++ fill a lengths) ≡ a = filled_sum a lengths h in
+    record {
+      clash = fit.clash;
+      by_mode = fit.by_mode;
+      each = each_append subfile lengths (fill a lengths) fit.each (short_ones (a - sum lengths) subfile (one_at_least known subfile ps d));
+      total = omega (arith, total, at_most_size a (in_row_at 90 a ps d.stated.each e));
+      announced = subst (λ (o : Option ℕ). IfSome o (λ x. sum (lengths ++ fill a lengths) ≤ x)) (sym e) (omega (arith, total));
+      maximum = under (number_at 95 ps) refl;
+    }
+  where
+    under : (o : Option ℕ) → number_at 95 ps ≡ o → IfSome o (λ m. sum (lengths ++ fill a lengths) ≤ m)
+    under None f = tt
+    under (Some m) f = omega (arith, filled_sum a lengths h, fit.clash.sizes a m e f)
+
+subfiles_alive : (known : Bool) (subfile : ℕ) (ps : List Stated) (lengths : List ℕ) → HasDuties known subfile ps → 0 < length lengths → Fit known subfile ps lengths
+    → IsAlive ObjectLanguage (number_tokens ps ++ map SubfileBegun lengths)
+unfolding fill
+subfiles_alive known subfile ps lengths d some fit = by_announced (number_at 90 ps) refl
+  where
+    by_announced : (o : Option ℕ) → number_at 90 ps ≡ o → IsAlive ObjectLanguage (number_tokens ps ++ map SubfileBegun lengths)
+    by_announced None e =
+        let whole : IsWhole ps lengths = subst (λ (o : Option ℕ). IfSome o (λ a. sum lengths ≡ a)) (sym e) tt in
+        (ending (sum lengths), subst ObjectLanguage (sym (append_assoc (number_tokens ps) (map SubfileBegun lengths) (ending (sum lengths)))) (whole_object known subfile ps lengths d some fit whole))
+    by_announced (Some a) e =
+        let h : sum lengths ≤ a = subst (λ (o : Option ℕ). IfSome o (λ x. sum lengths ≤ x)) e fit.announced in
+        let more : List ℕ = fill a lengths in
+        let all : List ℕ = lengths ++ more in
+        let whole : IsWhole ps all = subst (λ (o : Option ℕ). IfSome o (λ x. sum all ≡ x)) (sym e) (filled_sum a lengths h) in
+        let long : 0 < length all = omega (arith, length-append lengths more) in
+        let object = whole_object known subfile ps all d long (filled_fits known subfile ps lengths a d fit e h) whole in
+        let parts : number_tokens ps ++ (map SubfileBegun all ++ ending (sum all)) ≡ (number_tokens ps ++ map SubfileBegun lengths) ++ (map SubfileBegun more ++ ending (sum all)) =
+        ap (λ (t : List ObjectToken). number_tokens ps ++ (t ++ ending (sum all))) (map-append SubfileBegun lengths more)
+        ∙ (ap (λ (t : List ObjectToken). number_tokens ps ++ t) (append_assoc (map SubfileBegun lengths) (map SubfileBegun more) (ending (sum all)))
+        ∙ sym (append_assoc (number_tokens ps) (map SubfileBegun lengths) (map SubfileBegun more ++ ending (sum all)))) in
+        (map SubfileBegun more ++ ending (sum all), subst ObjectLanguage parts object)
+
+-- ---- and what completes has these parts
+
+-- behind the numbers come the subfiles
+numbers_end : (ps all : List Stated) (l n : ℕ) (rest : List ObjectToken) (lengths : List ℕ)
+    → number_tokens ps ++ (SubfileBegun l ∷ rest) ≡ number_tokens all ++ (map SubfileBegun lengths ++ ending n)
+    → (ps ≡ all) × (SubfileBegun l ∷ rest ≡ map SubfileBegun lengths ++ ending n)
+numbers_end [] [] l n rest lengths e = (refl, e)
+numbers_end [] (q ∷ all) l n rest lengths e = absurd cc
+numbers_end (p ∷ ps) [] l n rest [] e = absurd cc
+numbers_end (p ∷ ps) [] l n rest (k ∷ lengths) e = absurd cc
+numbers_end (p ∷ ps) (q ∷ all) l n rest lengths e =
+    let sets : p.set ≡ q.set = cc in
+    let numbers : p.number ≡ q.number = cc in
+    let tails : number_tokens ps ++ (SubfileBegun l ∷ rest) ≡ number_tokens all ++ (map SubfileBegun lengths ++ ending n) = cc in
+    let more = numbers_end ps all l n rest lengths tails in
+    ((λ i. record { set = sets i; number = numbers i } ∷ more.0 i), more.1)
+
+subfiles_front : (ls lengths : List ℕ) (n : ℕ) (rest : List ObjectToken) → map SubfileBegun ls ++ rest ≡ map SubfileBegun lengths ++ ending n → (more : List ℕ) × (lengths ≡ ls ++ more)
+subfiles_front [] lengths n rest e = (lengths, refl)
+subfiles_front (l ∷ ls) [] n rest e = absurd cc
+subfiles_front (l ∷ ls) (k ∷ lengths) n rest e =
+    let same : k ≡ l = cc in
+    let tails : map SubfileBegun ls ++ rest ≡ map SubfileBegun lengths ++ ending n = cc in
+    let more = subfiles_front ls lengths n rest tails in
+    (more.0, (λ i. same i ∷ more.1 i))
+
+subfiles_end : (ls lengths : List ℕ) (n : ℕ) (rest : List ObjectToken) → map SubfileBegun ls ++ (ObjectEnded ∷ rest) ≡ map SubfileBegun lengths ++ ending n
+    → (lengths ≡ ls) × (rest ≡ Confirmed n ∷ [])
+subfiles_end [] [] n rest e = (refl, cc)
+subfiles_end [] (k ∷ lengths) n rest e = absurd cc
+subfiles_end (l ∷ ls) [] n rest e = absurd cc
+subfiles_end (l ∷ ls) (k ∷ lengths) n rest e =
+    let same : k ≡ l = cc in
+    let tails : map SubfileBegun ls ++ (ObjectEnded ∷ rest) ≡ map SubfileBegun lengths ++ ending n = cc in
+    let more = subfiles_end ls lengths n rest tails in
+    ((λ i. same i ∷ more.0 i), more.1)
+
+-- the parts of an object whose tokens begin so
+pub record Begins (ps : List Stated) (lengths : List ℕ) (rest : List ObjectToken) : Type 0 where
+  pub all : List ℕ
+  pub confirmed : ℕ
+  pub known : Bool
+  pub subfile : ℕ
+  pub mode : number_at 10 ps ≡ Some (mode_number known)
+  pub largest : number_at 20 ps ≡ Some subfile
+  pub agree : Agree (sizes_at known subfile ps all) all confirmed
+  pub tokens_are : map SubfileBegun lengths ++ rest ≡ map SubfileBegun all ++ ending confirmed
+
+begins : (ps : List Stated) (l : ℕ) (lengths : List ℕ) (rest : List ObjectToken) → ObjectLanguage (number_tokens ps ++ (map SubfileBegun (l ∷ lengths) ++ rest)) → Begins ps (l ∷ lengths) rest
+begins ps l lengths rest o =
+    let parts = numbers_end ps o.stated l o.confirmed (map SubfileBegun lengths ++ rest) o.lengths o.tokens_are in
+    let same = sym parts.0 in
+    record {
+      all = o.lengths;
+      confirmed = o.confirmed;
+      known = o.known;
+      subfile = o.subfile;
+      mode = subst (λ (qs : List Stated). number_at 10 qs ≡ Some (mode_number o.known)) same o.mode;
+      largest = subst (λ (qs : List Stated). number_at 20 qs ≡ Some o.subfile) same o.largest;
+      agree = subst (λ (qs : List Stated). Agree (sizes_at o.known o.subfile qs o.lengths) o.lengths o.confirmed) same o.agree;
+      tokens_are = parts.1;
+    }
+
+mode_is : (a b : Bool) → Some (mode_number a) ≡ Some (mode_number b) → a ≡ b
+mode_is true true e = refl
+mode_is true false e = absurd cc
+mode_is false true e = absurd cc
+mode_is false false e = refl
+
+number_is : (a b : ℕ) → Some a ≡ Some b → a ≡ b
+number_is a b e = cc
+
+-- a front of lengths that agree fits
+front_fits : (known : Bool) (subfile : ℕ) (ps : List Stated) (lengths more : List ℕ) (rest : List ObjectToken) → HasDuties known subfile ps → (b : Begins ps lengths rest) → b.all ≡ lengths ++ more → Fit known subfile ps lengths
+front_fits known subfile ps lengths more rest d b e =
+    let same : b.known ≡ known = mode_is b.known known (sym b.mode ∙ d.mode) in
+    let largest : b.subfile ≡ subfile = number_is b.subfile subfile (sym b.largest ∙ d.largest) in
+    let total : sum b.all ≡ sum lengths + sum more = ap sum e ∙ sum_append lengths more in
+    let each : AllByRecursion (λ n. n ≤ subfile) (lengths ++ more) =
+    subst (λ (xs : List ℕ). AllByRecursion (λ n. n ≤ subfile) xs) e (subst (λ (k : ℕ). AllByRecursion (λ n. n ≤ k) b.all) largest b.agree.each_subfile) in
+    record {
+      clash = record { mode = λ z. no_size z (number_at 90 ps) refl; sizes = λ a m x y. subst (λ (o : Option ℕ). IfSome o (λ k. a ≤ k)) y (subst (λ (o : Option ℕ). IfSome o (λ k. IfSome (number_at 95 ps) (λ j. k ≤ j))) x b.agree.announced_fits) };
+      by_mode = b.agree.by_mode ∙ same;
+      each = each_front subfile lengths more each;
+      total = omega (arith, total, b.agree.total_fits);
+      announced = less (number_at 90 ps) total b.agree.as_announced;
+      maximum = under (number_at 95 ps) total b.agree.within_maximum;
+    }
+  where
+    no_size : number_at 10 ps ≡ Some 0 → (o : Option ℕ) → number_at 90 ps ≡ o → number_at 90 ps ≡ None
+    no_size z None f = f
+    no_size z (Some a) f =
+        let yes_known : true ≡ b.known = sym (ap (λ (o : Option ℕ). is_some o) f) ∙ b.agree.by_mode in
+        let one : number_at 10 ps ≡ Some 1 = b.mode ∙ ap (λ (t : Bool). Some (mode_number t)) (sym yes_known) in
+        let clash : ◌≡◌ {A = Option ℕ} (Some 0) (Some 1) = sym z ∙ one in absurd cc
+
+    less : (o : Option ℕ) → sum b.all ≡ sum lengths + sum more → IfSome o (λ a. sum b.all ≡ a) → IfSome o (λ a. sum lengths ≤ a)
+    less None t h = tt
+    less (Some a) t h = omega arith
+
+    under : (o : Option ℕ) → sum b.all ≡ sum lengths + sum more → IfSome o (λ m. sum b.all ≤ m) → IfSome o (λ m. sum lengths ≤ m)
+    under None t h = tt
+    under (Some m) t h = omega arith
+
+subfiles_live : (known : Bool) (subfile : ℕ) (ps : List Stated) (lengths : List ℕ) → HasDuties known subfile ps → 0 < length lengths
+    → IsAlive ObjectLanguage (number_tokens ps ++ map SubfileBegun lengths) → Fit known subfile ps lengths
+subfiles_live known subfile ps [] d some alive = absurd (omega arith)
+subfiles_live known subfile ps (l ∷ lengths) d some alive =
+    let b = begins ps l lengths alive.0 (subst ObjectLanguage (append_assoc (number_tokens ps) (map SubfileBegun (l ∷ lengths)) alive.0) alive.1) in
+    let front = subfiles_front (l ∷ lengths) b.all b.confirmed alive.0 b.tokens_are in
+    front_fits known subfile ps (l ∷ lengths) front.0 alive.0 d b front.1
+
+pub subfiles_law : SubfilesLiveWhileTheyFit
+subfiles_law known subfile ps lengths d some = (subfiles_live known subfile ps lengths d some, subfiles_alive known subfile ps lengths d some)
+
+-- ---- the end
+
+-- what an object that ends here, with these tokens behind it, has
+ended : (known : Bool) (subfile : ℕ) (ps : List Stated) (lengths : List ℕ) (rest : List ObjectToken) → HasDuties known subfile ps → 0 < length lengths
+    → ObjectLanguage (number_tokens ps ++ (map SubfileBegun lengths ++ (ObjectEnded ∷ rest)))
+    → Fit known subfile ps lengths × (IsWhole ps lengths × (rest ≡ Confirmed (sum lengths) ∷ []))
+ended known subfile ps [] rest d some o = absurd (omega arith)
+ended known subfile ps (l ∷ lengths) rest d some o =
+    let b = begins ps l lengths (ObjectEnded ∷ rest) o in
+    let end = subfiles_end (l ∷ lengths) b.all b.confirmed rest b.tokens_are in
+    let total : sum b.all ≡ sum (l ∷ lengths) = ap sum end.0 in (
+      front_fits known subfile ps (l ∷ lengths) [] (ObjectEnded ∷ rest) d b (end.0 ∙ sym (append-nil (l ∷ lengths))),
+      (
+        subst (λ (n : ℕ). IfSome (number_at 90 ps) (λ a. n ≡ a)) total b.agree.as_announced,
+        end.1 ∙ ap (λ (n : ℕ). Confirmed n ∷ []) (b.agree.as_confirmed ∙ total),
+      ),
+    )
+
+end_parts : (ps : List Stated) (lengths : List ℕ) (xs rest : List ObjectToken) → (number_tokens ps ++ (map SubfileBegun lengths ++ xs)) ++ rest ≡ number_tokens ps ++ (map SubfileBegun lengths ++ (xs ++ rest))
+end_parts ps lengths xs rest = append_assoc (number_tokens ps) (map SubfileBegun lengths ++ xs) rest ∙ ap (λ (t : List ObjectToken). number_tokens ps ++ t) (append_assoc (map SubfileBegun lengths) xs rest)
+
+pub ends_law : ObjectsEndWhereTheyAreWhole
+ends_law known subfile ps lengths d some = (
+  (λ alive.
+      let e = ended known subfile ps lengths alive.0 d some (subst ObjectLanguage (end_parts ps lengths (ObjectEnded ∷ []) alive.0) alive.1) in (e.0, e.1.0)),
+  (λ h. (Confirmed (sum lengths) ∷ [], subst ObjectLanguage (sym (end_parts ps lengths (ObjectEnded ∷ []) (Confirmed (sum lengths) ∷ []))) (whole_object known subfile ps lengths d some h.0 h.1))),
+)
+
+confirmed_is : (n m : ℕ) (rest : List ObjectToken) → ◌≡◌ {A = List ObjectToken} (Confirmed n ∷ rest) (Confirmed m ∷ []) → n ≡ m
+confirmed_is n m rest e = cc
+
+pub confirmed_law : TotalsAreConfirmed
+confirmed_law known subfile ps lengths n d some = (
+  (λ alive.
+      let e = ended known subfile ps lengths (Confirmed n ∷ alive.0) d some (subst ObjectLanguage (end_parts ps lengths (ObjectEnded ∷ Confirmed n ∷ []) alive.0) alive.1) in
+      (e.0, e.1.0, confirmed_is n (sum lengths) alive.0 e.1.1)),
+  (λ h. ([], subst ObjectLanguage (sym (append-nil (number_tokens ps ++ (map SubfileBegun lengths ++ (ObjectEnded ∷ Confirmed n ∷ [])))))
+      (subst (λ (k : ℕ). ObjectLanguage (number_tokens ps ++ (map SubfileBegun lengths ++ (ObjectEnded ∷ Confirmed k ∷ [])))) (sym h.2) (whole_object known subfile ps lengths d some h.0 h.1)))),
+)

@@ -1,0 +1,4 @@
+pub mod Plans
+pub mod Sizes
+pub mod Objects
+pub mod Living

@@ -1,0 +1,15 @@
+//! The sizes of an object and its subfiles (records 7 to 9 of the Information Interchange Model, version 4).
+//!
+//! Stands on `iim_tables` and `iim_dataset`.
+#![tactic(auto)]
+
+mod laws;
+mod plan;
+mod size;
+
+pub use laws::{
+    numbers_live_without_clash, objects_end_where_they_are_whole, subfiles_live_while_they_fit,
+    totals_are_confirmed,
+};
+pub use plan::Plan;
+pub use size::{Size, Sizes};
