@@ -20,14 +20,14 @@ at-append set n (p ∷ ps) qs e = by_test (λ f. at-append set n ps qs f) (p.set
     by_test more true f = f
     by_test more false f = more f
 
-none_parts : (set : ℕ) (p : Stated) (ps : List Stated) → number_at set (p ∷ ps) ≡ None → ((p.set == set) ≡ false) × (number_at set ps ≡ None)
+pub none_parts : (set : ℕ) (p : Stated) (ps : List Stated) → number_at set (p ∷ ps) ≡ None → ((p.set == set) ≡ false) × (number_at set ps ≡ None)
 none_parts set p ps e = by_test (p.set == set) e
   where
     by_test : (t : Bool) → cond t (Some p.number) (number_at set ps) ≡ None → (t ≡ false) × (number_at set ps ≡ None)
     by_test true f = absurd cc
     by_test false f = (refl, f)
 
-none-append : (set : ℕ) (ps qs : List Stated) → number_at set ps ≡ None → number_at set (ps ++ qs) ≡ number_at set qs
+pub none-append : (set : ℕ) (ps qs : List Stated) → number_at set ps ≡ None → number_at set (ps ++ qs) ≡ number_at set qs
 none-append set [] qs e = refl
 none-append set (p ∷ ps) qs e = let n = none_parts set p ps e in rw (n.0) (none-append set ps qs n.1)
 
@@ -87,7 +87,7 @@ in_row_at set n (p ∷ ps) h e = elim (cases_Bool (p.set == set)) [
     some_is : (a b : ℕ) → Some a ≡ Some b → a ≡ b
     some_is a b e = cc
 
-read-append : (ps qs : List Stated) → number_tokens (ps ++ qs) ≡ number_tokens ps ++ number_tokens qs
+pub read-append : (ps qs : List Stated) → number_tokens (ps ++ qs) ≡ number_tokens ps ++ number_tokens qs
 read-append [] qs = refl
 read-append (p ∷ ps) qs = ap (λ (t : List ObjectToken). NumberRead p.set p.number ∷ t) (read-append ps qs)
 
@@ -183,7 +183,7 @@ at_most_size n (inl h) = absurd (omega (arith, h.0))
 at_most_size n (inr (inl h)) = absurd (omega (arith, h.0))
 at_most_size n (inr (inr h)) = h.1
 
-mode_at_most_one : (n : ℕ) → InRow (record { set = 10; number = n }) → n ≤ 1
+pub mode_at_most_one : (n : ℕ) → InRow (record { set = 10; number = n }) → n ≤ 1
 mode_at_most_one n (inl h) = h.1
 mode_at_most_one n (inr (inl h)) = absurd (omega (arith, h.0))
 mode_at_most_one n (inr (inr h)) = elim h.0 [ inl e ↦ absurd (omega arith) | inr e ↦ absurd (omega arith) ]

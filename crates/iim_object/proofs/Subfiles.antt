@@ -19,7 +19,7 @@ numbers_law ps stated = (numbers_live ps, numbers_alive ps stated)
 abbrev ending : ℕ → List ObjectToken
 ending n = ObjectEnded ∷ Confirmed n ∷ []
 
-each_append : (subfile : ℕ) (xs ys : List ℕ) → AllByRecursion (λ n. n ≤ subfile) xs → AllByRecursion (λ n. n ≤ subfile) ys → AllByRecursion (λ n. n ≤ subfile) (xs ++ ys)
+pub each_append : (subfile : ℕ) (xs ys : List ℕ) → AllByRecursion (λ n. n ≤ subfile) xs → AllByRecursion (λ n. n ≤ subfile) ys → AllByRecursion (λ n. n ≤ subfile) (xs ++ ys)
 each_append subfile [] ys h k = k
 each_append subfile (x ∷ xs) ys h k = (h.0, each_append subfile xs ys h.1 k)
 
@@ -27,7 +27,7 @@ each_front : (subfile : ℕ) (xs ys : List ℕ) → AllByRecursion (λ n. n ≤ 
 each_front subfile [] ys h = tt
 each_front subfile (x ∷ xs) ys h = (h.0, each_front subfile xs ys h.1)
 
-sum_append : (xs ys : List ℕ) → sum (xs ++ ys) ≡ sum xs + sum ys
+pub sum_append : (xs ys : List ℕ) → sum (xs ++ ys) ≡ sum xs + sum ys
 sum_append xs ys = sum_by-append (λ n. n) xs ys
 
 one_at_least : (known : Bool) (subfile : ℕ) (ps : List Stated) → HasDuties known subfile ps → 1 ≤ subfile
@@ -183,7 +183,7 @@ mode_is true false e = absurd cc
 mode_is false true e = absurd cc
 mode_is false false e = refl
 
-number_is : (a b : ℕ) → Some a ≡ Some b → a ≡ b
+pub number_is : (a b : ℕ) → Some a ≡ Some b → a ≡ b
 number_is a b e = cc
 
 -- a front of lengths that agree fits

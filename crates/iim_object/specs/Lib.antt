@@ -2,3 +2,8 @@ pub mod Plans
 pub mod Sizes
 pub mod Objects
 pub mod Living
+pub mod Events
+pub mod Places
+pub mod Causes
+pub mod States
+pub mod Reading

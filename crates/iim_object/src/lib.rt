@@ -3,13 +3,19 @@
 //! Stands on `iim_tables` and `iim_dataset`.
 #![tactic(auto)]
 
+mod fault;
 mod laws;
 mod plan;
+mod sink;
 mod size;
+mod state;
+mod step;
 
+pub use fault::{ObjectFault, SizeCause};
 pub use laws::{
     numbers_live_without_clash, objects_end_where_they_are_whole, subfiles_live_while_they_fit,
     totals_are_confirmed,
 };
 pub use plan::Plan;
+pub use sink::ObjectSink;
 pub use size::{Size, Sizes};

@@ -1,0 +1,9 @@
+use Rattle.std.proofs.Common.{sym, ◌∙◌}
+use Rattle.iim_object.proofs.Steps.{end_goes_on, end_refused}
+use Rattle.iim_object.proofs.step.take_end.Goals as goal
+
+pub returns-in-Some-clause-refused : goal.returns-in-Some-clause-refused
+returns-in-Some-clause-refused c = end_refused c.args.state c.in-Some.cause (sym c.end_cause.ensures ∙ c.in-Some.is)
+
+pub returns-in-None-clause-goes_on : goal.returns-in-None-clause-goes_on
+returns-in-None-clause-goes_on c = end_goes_on c.args.state (sym c.end_cause.ensures ∙ c.in-None.is)

@@ -1,0 +1,20 @@
+use Rattle.std.proofs.Common.{◌≡◌, Option, Some, None, sym, ◌∙◌, ap, subst, rules}
+use Rattle.iim_object.specs.declared.state.State.{State}
+use Rattle.iim_object.specs.Objects.{NumberRead}
+use Rattle.iim_object.specs.Reading.{GoesOn}
+use Rattle.iim_object.specs.States.{state_with}
+use Rattle.iim_object.specs.Causes.{number_cause}
+use Rattle.iim_object.proofs.Steps.{number_goes_on, number_refused}
+use Rattle.iim_object.proofs.step.take_number.Goals as goal
+
+pub returns-in-Some-clause-refused : goal.returns-in-Some-clause-refused
+returns-in-Some-clause-refused c =
+    let new : State = state_with c.args.state c.args.set c.args.number in
+    number_refused c.args.state c.args.set c.args.number c.in-Some.cause
+    (sym (ap (λ (s : State). number_cause s.mode s.announced s.maximum) c.with_number-new.ensures) ∙ (sym c.number_cause.ensures ∙ c.in-Some.is))
+
+pub returns-in-None-clause-goes_on : goal.returns-in-None-clause-goes_on
+returns-in-None-clause-goes_on c =
+    subst (λ (s : State). GoesOn (Some c.args.state) (NumberRead c.args.set c.args.number) (Some s)) (sym c.with_number-new.ensures)
+    (number_goes_on c.args.state c.args.set c.args.number
+    (sym (ap (λ (s : State). number_cause s.mode s.announced s.maximum) c.with_number-new.ensures) ∙ (sym c.number_cause.ensures ∙ c.in-None.is)))

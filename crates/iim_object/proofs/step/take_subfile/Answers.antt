@@ -1,0 +1,14 @@
+use Rattle.std.proofs.Common.{◌≡◌, ◌<◌, ◌^◌, Some, sym, ◌∙◌, subst, rules, arith}
+use Rattle.iim_object.specs.declared.state.State.{State}
+use Rattle.iim_object.specs.Objects.{SubfileBegun}
+use Rattle.iim_object.specs.Reading.{GoesOn}
+use Rattle.iim_object.proofs.Steps.{subfile_goes_on, subfile_refused}
+use Rattle.iim_object.proofs.step.take_subfile.Goals as goal
+
+pub returns-in-Some-clause-refused : goal.returns-in-Some-clause-refused
+returns-in-Some-clause-refused c = subfile_refused c.args.state c.args.count c.in-Some.cause (sym c.subfile_cause.ensures ∙ c.in-Some.is)
+
+pub returns-in-None-clause-goes_on : goal.returns-in-None-clause-goes_on
+returns-in-None-clause-goes_on c =
+    subst (λ (s : State). GoesOn (Some c.args.state) (SubfileBegun c.args.count) (Some s)) (sym c.with_subfile.ensures)
+    (subfile_goes_on c.args.state c.args.count (search rules) (search rules) (omega arith) (sym c.subfile_cause.ensures ∙ c.in-None.is))

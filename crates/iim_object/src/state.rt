@@ -1,0 +1,148 @@
+//! What records 7 to 9 have told of an object so far.
+
+ghost use Rattle.std.specs.Prelude.{◌≡◌, ◌+◌, ◌-◌, ◌^◌, min};
+ghost use Rattle.iim_object.specs.States.{state_start, state_with};
+ghost use Rattle.iim_object.specs.Causes.{is_given, is_above, number_cause, bound, is_past, subfile_cause, end_cause, confirmed_cause};
+
+use crate::fault::SizeCause;
+use iim_tables::GREATEST_SIZE;
+
+/// The numbers of record 7, how many subfiles came, and how many octets they count together.
+#[derive(Clone, Copy, Debug, PartialEq, Eq)]
+pub(crate) struct State {
+    pub mode: Option<u64>,
+    pub subfile: Option<u64>,
+    pub announced: Option<u64>,
+    pub maximum: Option<u64>,
+    pub subfiles: u64,
+    pub total: u64,
+}
+
+fn is_given(number: Option<u64>, wanted: u64) -> bool
+    ensures { result ≡ is_given number wanted }
+{
+    match number {
+        Some(number) => number == wanted,
+        None => false,
+    }
+}
+
+fn is_above(announced: Option<u64>, maximum: Option<u64>) -> bool
+    ensures { result ≡ is_above announced maximum }
+{
+    match (announced, maximum) {
+        (Some(announced), Some(maximum)) => announced > maximum,
+        _ => false,
+    }
+}
+
+/// The most octets that the object may have.
+fn bound(announced: Option<u64>, maximum: Option<u64>) -> u64
+    ensures { result ≡ bound announced maximum }
+{
+    announced
+        .unwrap_or(GREATEST_SIZE)
+        .min(maximum.unwrap_or(GREATEST_SIZE))
+}
+
+impl State {
+    /// Where nothing has been read.
+    pub fn new() -> State
+        ensures { result ≡ state_start }
+    {
+        State {
+            mode: None,
+            subfile: None,
+            announced: None,
+            maximum: None,
+            subfiles: 0,
+            total: 0,
+        }
+    }
+
+    /// With the number of a dataset of record 7.
+    pub fn with_number(self, set: u8, number: u64) -> State
+        ensures { result ≡ state_with self set number }
+    {
+        let mut new = self;
+        match set {
+            10 => new.mode = Some(number),
+            20 => new.subfile = Some(number),
+            90 => new.announced = Some(number),
+            95 => new.maximum = Some(number),
+            _ => {}
+        }
+        new
+    }
+
+    /// With a subfile of so many octets.
+    pub fn with_subfile(self, count: u64) -> State
+        ensures { result ≡ record self { subfiles = min (self.subfiles + 1) (2 ^ 64 - 1); total = min (self.total + count) (2 ^ 64 - 1) } }
+    {
+        State {
+            subfiles: self.subfiles.saturating_add(1),
+            total: self.total.saturating_add(count),
+            ..self
+        }
+    }
+
+    /// What is wrong with the numbers of record 7.
+    pub fn number_cause(&self) -> Option<SizeCause>
+        ensures { result ≡ number_cause self.now.mode self.now.announced self.now.maximum }
+    {
+        if is_given(self.mode, 0) && self.announced.is_some() {
+            return Some(SizeCause::ModeClash);
+        }
+        if is_above(self.announced, self.maximum) {
+            return Some(SizeCause::SizeClash);
+        }
+        None
+    }
+
+    /// Whether the object has more octets than it may, with so many more.
+    fn is_past(&self, count: u64) -> bool
+        ensures { result ≡ is_past (bound self.now.announced self.now.maximum) self.now.total count }
+    {
+        let most = bound(self.announced, self.maximum);
+        match self.total.checked_add(count) {
+            Some(total) => total > most,
+            None => true,
+        }
+    }
+
+    /// What is wrong with a subfile of so many octets.
+    pub fn subfile_cause(&self, count: u64) -> Option<SizeCause>
+        ensures { result ≡ subfile_cause self.now.mode self.now.subfile self.now.announced self.now.maximum self.now.total count }
+    {
+        if is_given(self.mode, 1) && self.announced.is_none() {
+            return Some(SizeCause::ModeClash);
+        }
+        if count > self.subfile.unwrap_or(0) {
+            return Some(SizeCause::SubfileTooLong);
+        }
+        if self.is_past(count) {
+            return Some(SizeCause::PastSize);
+        }
+        None
+    }
+
+    /// What is wrong with the end of the object.
+    pub fn end_cause(&self) -> Option<SizeCause>
+        ensures { result ≡ end_cause self.now.announced self.now.total }
+    {
+        if self.total < self.announced.unwrap_or(0) {
+            return Some(SizeCause::Short);
+        }
+        None
+    }
+
+    /// What is wrong with the confirmed size.
+    pub fn confirmed_cause(&self, number: u64) -> Option<SizeCause>
+        ensures { result ≡ confirmed_cause self.now.total number }
+    {
+        if number == self.total {
+            return None;
+        }
+        Some(SizeCause::ConfirmedWrong)
+    }
+}
