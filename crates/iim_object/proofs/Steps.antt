@@ -12,10 +12,10 @@ use Rattle.iim_object.specs.declared.fault.SizeCause.TheVariants.{ModeClash, Siz
 use Rattle.iim_object.specs.Sizes.{Stated, InRow, AreOnce, AreStated, number_at, mode_number}
 use Rattle.iim_object.specs.Objects.{ObjectToken, NumberRead, SubfileBegun, ObjectEnded, Confirmed, ObjectLanguage, number_tokens}
 use Rattle.iim_object.specs.Living.{NoClash, HasDuties, Fit, IsWhole}
-use Rattle.iim_object.specs.Places.{Place, Ending, NotEnded, Ended, ConfirmedAs, ending_tokens, tokens_of, place_after, MayFollow, HasBoth}
+use Rattle.iim_object.specs.Places.{Place, Ending, NotEnded, Ended, ConfirmedAs, ending_tokens, tokens_of, place_after, place_start, MayFollow, HasBoth}
 use Rattle.iim_object.specs.Causes.{is_given, is_above, number_cause, bound, is_past, subfile_cause, end_cause, confirmed_cause, cause_at}
-use Rattle.iim_object.specs.Reading.{Tells, StandsAt, GoesOn, Refuses}
-use Rattle.iim_object.specs.States.{set_where, state_with}
+use Rattle.iim_object.specs.Reading.{Tells, StandsAt, GoesOn, Refuses, IsSizes}
+use Rattle.iim_object.specs.States.{set_where, state_start, state_with}
 use Rattle.iim_object.proofs.Numbers.{at-append, at_most_size, in_row_at, mode_at_most_one, none-append, none_parts, read-append}
 use Rattle.iim_object.proofs.Subfiles.{numbers_law, subfiles_law, ends_law, confirmed_law, each_append, sum_append, number_is}
 
@@ -376,11 +376,15 @@ subfile_refused s count c e p st (not_ended, both, few) =
     let t = tells_of s p st in
     let duties = both_of p.stated st.stated both in
     let d = duties.2 in
-    let cause = sym (subfile_cause_is s p count t) ∙ e in
-    ((st.alive, λ alive.
-        let fit = (subfiles_law duties.0 duties.1 p.stated (p.lengths ++ count ∷ []) d (some_longer p.lengths count)).0 (subst (IsAlive ObjectLanguage) (subfile_tokens p count not_ended) alive) in
-        caused_of p.stated (sum p.lengths) count c cause (fits_clear duties.0 duties.1 p.stated p.lengths count d fit)),
-    cause)
+    let cause = sym (subfile_cause_is s p count t) ∙ e in (
+      (
+        st.alive,
+        λ alive.
+            let fit = (subfiles_law duties.0 duties.1 p.stated (p.lengths ++ count ∷ []) d (some_longer p.lengths count)).0 (subst (IsAlive ObjectLanguage) (subfile_tokens p count not_ended) alive) in
+            caused_of p.stated (sum p.lengths) count c cause (fits_clear duties.0 duties.1 p.stated p.lengths count d fit),
+      ),
+      cause,
+    )
 
 -- ---- the end
 
@@ -435,11 +439,15 @@ end_refused s c e p st (not_ended, some) =
     let both = st.duties some in
     let duties = both_of p.stated st.stated both in
     let d = duties.2 in
-    let cause = sym (end_cause_is s p t) ∙ e in
-    ((st.alive, λ alive.
-        let w = (ends_law duties.0 duties.1 p.stated p.lengths d some).0 (subst (IsAlive ObjectLanguage) (end_tokens p not_ended) alive) in
-        short_of (number_at 90 p.stated) (sum p.lengths) c cause w.1),
-    cause)
+    let cause = sym (end_cause_is s p t) ∙ e in (
+      (
+        st.alive,
+        λ alive.
+            let w = (ends_law duties.0 duties.1 p.stated p.lengths d some).0 (subst (IsAlive ObjectLanguage) (end_tokens p not_ended) alive) in
+            short_of (number_at 90 p.stated) (sum p.lengths) c cause w.1,
+      ),
+      cause,
+    )
 
 -- ---- the confirmed size
 
@@ -499,8 +507,47 @@ confirmed_refused s n c e p st ended =
     let both = st.duties some in
     let duties = both_of p.stated st.stated both in
     let d = duties.2 in
-    let cause = sym (confirmed_cause_is s p n t) ∙ e in
-    ((st.alive, λ alive.
-        let w = (confirmed_law duties.0 duties.1 p.stated p.lengths n d some).0 (subst (IsAlive ObjectLanguage) (confirmed_tokens p n ended) alive) in
-        confirmed_wrong (sum p.lengths) n c cause w.2),
-    cause)
+    let cause = sym (confirmed_cause_is s p n t) ∙ e in (
+      (
+        st.alive,
+        λ alive.
+            let w = (confirmed_law duties.0 duties.1 p.stated p.lengths n d some).0 (subst (IsAlive ObjectLanguage) (confirmed_tokens p n ended) alive) in
+            confirmed_wrong (sum p.lengths) n c cause w.2,
+      ),
+      cause,
+    )
+
+-- ---- the beginning, and the sizes at the end
+
+pub starts : StandsAt (Some state_start) place_start
+starts = record {
+  state = state_start;
+  is_state = refl;
+  tells = record { mode = refl; largest = refl; announced = refl; maximum = refl; subfiles = refl; total = refl };
+  stated = record { each = tt; once = tt };
+  subfiles = λ e. refl;
+  duties = λ some. absurd (omega arith);
+  alive = (numbers_law [] (record { each = tt; once = tt })).1 (record { mode = λ e. refl; sizes = λ a m e f. absurd cc });
+}
+
+known_is : (o : Option ℕ) (k : Bool) → o ≡ Some (mode_number k) → is_given o 1 ≡ k
+known_is o true e = is_given_by o 1 e
+known_is o false e = ap (λ (x : Option ℕ). is_given x 1) e
+
+-- behind the confirmed size a subfile has come
+some_confirmed : (s : State) (p : Place) (n : ℕ) → StandsAt (Some s) p → p.ending ≡ ConfirmedAs n → 0 < length p.lengths
+some_confirmed s p n st e = by_lengths p.lengths refl
+  where
+    by_lengths : (ls : List ℕ) → p.lengths ≡ ls → 0 < length p.lengths
+    by_lengths [] f = let clash : ◌≡◌ {A = Ending} NotEnded (ConfirmedAs n) = sym (st.subfiles f) ∙ e in absurd cc
+    by_lengths (l ∷ ls) f = omega (arith, ap length f)
+
+pub sizes_are : (s : State) (p : Place) (n : ℕ) → StandsAt (Some s) p → p.ending ≡ ConfirmedAs n
+    → IsSizes p (record { known = is_given s.mode 1; subfile = unwrap_or s.subfile 0; announced = s.announced; maximum = s.maximum; subfiles = s.subfiles; total = s.total })
+sizes_are s p n st e =
+    let t = tells_of s p st in
+    let duties = both_of p.stated st.stated (st.duties (some_confirmed s p n st e)) in
+    let d = duties.2 in
+    let known : is_given s.mode 1 ≡ duties.0 = known_is s.mode duties.0 (t.mode ∙ d.mode) in
+    let largest : unwrap_or s.subfile 0 ≡ duties.1 = ap (λ (o : Option ℕ). unwrap_or o 0) (t.largest ∙ d.largest) in
+    (duties.0, duties.1, d.mode, d.largest, (λ i. record { known = known i; subfile = largest i; announced = t.announced i; maximum = t.maximum i; subfiles = t.subfiles i; total = t.total i }))

@@ -265,6 +265,9 @@ confirmed_law known subfile ps lengths n d some = (
   (λ alive.
       let e = ended known subfile ps lengths (Confirmed n ∷ alive.0) d some (subst ObjectLanguage (end_parts ps lengths (ObjectEnded ∷ Confirmed n ∷ []) alive.0) alive.1) in
       (e.0, e.1.0, confirmed_is n (sum lengths) alive.0 e.1.1)),
-  (λ h. ([], subst ObjectLanguage (sym (append-nil (number_tokens ps ++ (map SubfileBegun lengths ++ (ObjectEnded ∷ Confirmed n ∷ [])))))
-      (subst (λ (k : ℕ). ObjectLanguage (number_tokens ps ++ (map SubfileBegun lengths ++ (ObjectEnded ∷ Confirmed k ∷ [])))) (sym h.2) (whole_object known subfile ps lengths d some h.0 h.1)))),
+  (λ h. (
+    [],
+    subst ObjectLanguage (sym (append-nil (number_tokens ps ++ (map SubfileBegun lengths ++ (ObjectEnded ∷ Confirmed n ∷ [])))))
+        (subst (λ (k : ℕ). ObjectLanguage (number_tokens ps ++ (map SubfileBegun lengths ++ (ObjectEnded ∷ Confirmed k ∷ [])))) (sym h.2) (whole_object known subfile ps lengths d some h.0 h.1)),
+  )),
 )

@@ -6,10 +6,13 @@
 mod fault;
 mod laws;
 mod plan;
+mod reader;
 mod sink;
 mod size;
 mod state;
 mod step;
+#[cfg(test)]
+mod tests;
 
 pub use fault::{ObjectFault, SizeCause};
 pub use laws::{
@@ -17,5 +20,6 @@ pub use laws::{
     totals_are_confirmed,
 };
 pub use plan::Plan;
+pub use reader::ObjectReader;
 pub use sink::ObjectSink;
 pub use size::{Size, Sizes};

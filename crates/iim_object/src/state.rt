@@ -18,7 +18,8 @@ pub(crate) struct State {
     pub total: u64,
 }
 
-fn is_given(number: Option<u64>, wanted: u64) -> bool
+/// Whether a number is given, and is this one.
+pub(crate) fn is_given(number: Option<u64>, wanted: u64) -> bool
     ensures { result ≡ is_given number wanted }
 {
     match number {

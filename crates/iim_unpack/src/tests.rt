@@ -3,6 +3,7 @@
 use crate::{Cause, Layer, Refusal, Scan, scan};
 use iim_dataset::{Head, HeadCause, HeadFault, read_head};
 use std::alloc::{AllocError, Global};
+use std::process::Abort;
 use std::test::Fail;
 
 /// The mandatory datasets alone, and a story of one empty line.
@@ -275,63 +276,69 @@ fn every_change_of_a_tag(rt: HostRuntime) -> Result<(), Fail> {
     Ok(())
 }
 
+fn compare(
+    rt: &impl Abort,
+    alloc: Global,
+    rows: &[(&[&[u8]], Result<Scan, Refusal>)],
+) -> Result<(), Fail> {
+    for (pieces, answer) in rows {
+        let octets = joined(alloc, pieces)?;
+        assert_eq!(rt; scan(octets.as_slice()), *answer);
+    }
+    Ok(())
+}
+
 #[test]
-fn worked_envelopes(rt: HostRuntime) -> Result<(), Fail> {
-    let whole: &[u8] = &SMALLEST;
-    assert_eq!(rt; scan(whole), Ok(Scan { used: 114 }));
-    let rows: [(&[&[u8]], Result<Scan, Refusal>); 12] = [
+fn worked_tags(rt: HostRuntime) -> Result<(), Fail> {
+    let refused = |rec, set, octet, cause| refused(Layer::Dataset, rec, set, octet, cause);
+    let extended: &[u8] = b"\x80\x04\x00\x00\x00\x03";
+    let rows: [(&[&[u8]], Result<Scan, Refusal>); 8] = [
         (&[&SMALLEST, b"\x1c\x01"], Ok(Scan { used: 114 })),
         (
-            &[b"\x1d", &SMALLEST[1..]],
-            refused(Layer::Dataset, 0, 0, 0, Cause::Marker),
+            &[&SMALLEST[..24], extended, &SMALLEST[26..]],
+            Ok(Scan { used: 118 }),
         ),
+        (&[b"\x1d", &SMALLEST[1..]], refused(0, 0, 0, Cause::Marker)),
         (
             &[&SMALLEST[..3], b"\x81\x01", &SMALLEST[5..]],
-            refused(Layer::Dataset, 1, 0, 3, Cause::CountForm),
+            refused(1, 0, 3, Cause::CountForm),
         ),
         (
             &[&SMALLEST[..3], b"\x80\x00", &SMALLEST[5..]],
-            refused(Layer::Dataset, 1, 0, 4, Cause::CountForm),
+            refused(1, 0, 4, Cause::CountForm),
         ),
         (
             &[&SMALLEST[..3], b"\x80\x05", &SMALLEST[5..]],
-            refused(Layer::Dataset, 1, 0, 4, Cause::CountForm),
+            refused(1, 0, 4, Cause::CountForm),
         ),
-        (
-            &[
-                &SMALLEST[..24],
-                b"\x80\x04\x00\x00\x00\x03",
-                &SMALLEST[26..],
-            ],
-            Ok(Scan { used: 118 }),
-        ),
+        (&[&SMALLEST[..100]], refused(8, 10, 100, Cause::Truncated)),
+        (&[], refused(0, 0, 0, Cause::Truncated)),
+    ];
+    compare(&rt, rt.alloc(), &rows)
+}
+
+#[test]
+fn worked_heads(rt: HostRuntime) -> Result<(), Fail> {
+    let refused = |rec, set, octet, cause| refused(Layer::Record, rec, set, octet, cause);
+    let rows: [(&[&[u8]], Result<Scan, Refusal>); 4] = [
         (
             &[&SMALLEST[..42], &SMALLEST[55..]],
-            refused(Layer::Record, 1, 70, 46, Cause::Missing),
+            refused(1, 70, 46, Cause::Missing),
         ),
         (
             &[&SMALLEST[..21], &SMALLEST[29..42], &SMALLEST[55..]],
-            refused(Layer::Record, 1, 30, 38, Cause::Missing),
+            refused(1, 30, 38, Cause::Missing),
         ),
         (
             &[&SMALLEST[..56], b"\x03", &SMALLEST[57..]],
-            refused(Layer::Record, 3, 0, 59, Cause::RecordOrder),
+            refused(3, 0, 59, Cause::RecordOrder),
         ),
         (
             &[&SMALLEST[..64], b"\x1e", &SMALLEST[65..]],
-            refused(Layer::Record, 7, 30, 66, Cause::UnknownDataset),
+            refused(7, 30, 66, Cause::UnknownDataset),
         ),
-        (
-            &[&SMALLEST[..100]],
-            refused(Layer::Dataset, 8, 10, 100, Cause::Truncated),
-        ),
-        (&[], refused(Layer::Dataset, 0, 0, 0, Cause::Truncated)),
     ];
-    for (pieces, answer) in rows {
-        let octets = joined(rt.alloc(), pieces)?;
-        assert_eq!(rt; scan(octets.as_slice()), answer);
-    }
-    Ok(())
+    compare(&rt, rt.alloc(), &rows)
 }
 
 #[test]

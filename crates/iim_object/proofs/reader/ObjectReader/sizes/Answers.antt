@@ -1,0 +1,30 @@
+use Rattle.std.proofs.Common.{◌≡◌, Bool, true, false, cond, Option, Some, None, IsSome, ap, subst, sym, ◌∙◌}
+use Rattle.iim_object.specs.declared.state.State.{State}
+use Rattle.iim_object.specs.declared.size.Sizes.{Sizes}
+use Rattle.iim_object.specs.Causes.{is_given}
+use Rattle.iim_object.specs.Places.{Place}
+use Rattle.iim_object.specs.Reading.{StandsAt, IsSizes}
+use Rattle.iim_object.proofs.Steps.{sizes_are}
+use Rattle.iim_object.proofs.reader.ObjectReader.sizes.Goals as goal
+
+-- a reader that takes calls shows its state
+seen : (failed : Bool) (s : State) (shown : Option State) → cond failed None (Some s) ≡ shown → IsSome shown → Some s ≡ shown
+seen true s None e h = let bad : false ≡ true = h in absurd cc
+seen true s (Some x) e h = absurd cc
+seen false s shown e h = e
+
+pub returns : goal.returns
+returns c = λ p n st e.
+    let s : State = c.self.inside.state in
+    let same : Some s ≡ c.args.self.now = seen c.self.inside.failed s c.args.self.now c.self.view_is c.requires in
+    let sizes = sizes_are s p n (subst (λ (o : Option State). StandsAt o p) (sym same) st) e in
+    subst (λ (x : Sizes). IsSizes p x)
+    (λ i. record {
+      known = sym c.is_given.ensures i;
+      subfile = sym c.unwrap_or.ensures i;
+      announced = s.announced;
+      maximum = s.maximum;
+      subfiles = s.subfiles;
+      total = s.total;
+    })
+    sizes

@@ -1,0 +1,189 @@
+//! The reader of an object.
+
+ghost use Rattle.std.specs.Prelude.{◌≡◌, [], ◌∷◌, ℕ, Option, if◌then◌else◌, is_none, map, sum, Some, None, IsSome, IfErr, OnOk, OnErr};
+ghost use Rattle.iim_object.specs.declared.state.State.{State};
+ghost use Rattle.iim_object.specs.Events.{ObjectOctet, ObjectEnd};
+ghost use Rattle.iim_object.specs.Objects.{ObjectEnded};
+ghost use Rattle.iim_object.specs.Places.{Place, ConfirmedAs, place_start, value_token, head_token};
+ghost use Rattle.iim_object.specs.Reading.{StandsAt, GoesOn, RefusesValue, RefusesHead, RefusesRun, IsSizes, events_at};
+
+use crate::fault::{ObjectFault, SizeCause};
+use crate::sink::ObjectSink;
+use crate::size::Sizes;
+use crate::state::{State, is_given};
+use crate::step::{take_confirmed, take_end, take_number, take_subfile};
+use std::marker::Model;
+
+/// The post-ObjectData descriptor record, which ends an envelope.
+const POST_OBJECT: u8 = 9;
+
+/// The size mode of an object whose size is known at the start.
+const KNOWN: u64 = 1;
+
+/// A reader of an object: the numbers of record 7, the heads of its subfiles, its octets, its end, and the size that
+/// record 9 confirms. It holds a few numbers, and no octet.
+///
+/// What its contracts say holds of tokens that the record layer and the limits have admitted: wherever the reader stands,
+/// a token leads it on, or the object layer dies with it and the fault is the first cause. Contracts see the reader as
+/// the numbers that it keeps, and as None after a refusal.
+#[derive(Debug, Drop)]
+pub struct ObjectReader {
+    state: State,
+    failed: bool,
+}
+
+impl Model for ObjectReader {
+    ghost Value = { Option State };
+
+    ghost view = { λ reader. if reader.failed then None else Some reader.state };
+}
+
+impl ObjectReader {
+    /// The reader of an object of which nothing has come.
+    pub fn new() -> ObjectReader
+        ensures takes_calls { IsSome result }
+        ensures stands { StandsAt result place_start }
+    {
+        ObjectReader {
+            state: State::new(),
+            failed: false,
+        }
+    }
+
+    /// Whether a call was refused.
+    pub fn is_failed(&self) -> bool
+        ensures { result ≡ is_none self.now }
+    {
+        self.failed
+    }
+
+    /// Takes the number of a complete value: of dataset 7:`set`, or of 9:10, the confirmed size.
+    pub fn value(&mut self, rec: u8, set: u8, number: u64) -> Result<(), ObjectFault>
+        requires { IsSome self.old }
+        ensures takes_calls { OnOk result (IsSome self.new) }
+        ensures goes_on { OnOk result (GoesOn self.old (value_token rec set number) self.new) }
+        ensures failed { OnErr result (self.new ≡ None) }
+        ensures refused { IfErr result (RefusesValue self.old (value_token rec set number)) }
+    {
+        if rec == POST_OBJECT {
+            return match take_confirmed(self.state, number) {
+                Ok(()) => Ok(()),
+                Err(cause) => Err(self.fail(cause)),
+            };
+        }
+        match take_number(self.state, set, number) {
+            Ok(state) => {
+                self.state = state;
+                Ok(())
+            }
+            Err(cause) => Err(self.fail(cause)),
+        }
+    }
+
+    /// Takes a complete head: of a subfile, 8:10, with so many octets; or of 9:10, where the object ends and the sink is
+    /// told so.
+    pub fn head<S: ObjectSink>(
+        &mut self,
+        rec: u8,
+        _set: u8,
+        count: u64,
+        sink: &mut S,
+    ) -> Result<(), ObjectFault>
+        requires { IsSome self.old }
+        ensures takes_calls { OnOk result (IsSome self.new) }
+        ensures goes_on { OnOk result (GoesOn self.old (head_token rec count) self.new) }
+        ensures told { OnOk result (S.goes sink.old (events_at rec) sink.new) }
+        ensures failed { OnErr result (self.new ≡ None) }
+        ensures refused { IfErr result (RefusesHead S.goes S.stops self.old (head_token rec count) sink.old sink.new) }
+    {
+        if rec == POST_OBJECT {
+            return self.end(sink);
+        }
+        match take_subfile(self.state, count) {
+            Ok(state) => {
+                self.state = state;
+                Ok(())
+            }
+            Err(cause) => Err(self.fail(cause)),
+        }
+    }
+
+    /// Takes the end of the object.
+    fn end<S: ObjectSink>(&mut self, sink: &mut S) -> Result<(), ObjectFault>
+        requires { IsSome self.old }
+        ensures takes_calls { OnOk result (IsSome self.new) }
+        ensures goes_on { OnOk result (GoesOn self.old ObjectEnded self.new) }
+        ensures told { OnOk result (S.goes sink.old (ObjectEnd ∷ []) sink.new) }
+        ensures failed { OnErr result (self.new ≡ None) }
+        ensures refused { IfErr result (RefusesHead S.goes S.stops self.old ObjectEnded sink.old sink.new) }
+    {
+        match take_end(self.state) {
+            Ok(()) => {}
+            Err(cause) => return Err(self.fail(cause)),
+        }
+        match sink.close() {
+            Ok(()) => Ok(()),
+            Err(stop) => {
+                self.failed = true;
+                Err(ObjectFault::Stopped(stop))
+            }
+        }
+    }
+
+    /// Hands octets of the object on to the sink. They are those behind the heads of subfiles, in any cut.
+    pub fn run<S: ObjectSink>(&mut self, run: &[u8], sink: &mut S) -> Result<(), ObjectFault>
+        requires { IsSome self.old }
+        ensures same { OnOk result (self.new ≡ self.old) }
+        ensures told { OnOk result (S.goes sink.old (map ObjectOctet run.now) sink.new) }
+        ensures failed { OnErr result (self.new ≡ None) }
+        ensures refused { IfErr result (RefusesRun S.stops run.now sink.old sink.new) }
+    {
+        match sink.run(run) {
+            Ok(()) => Ok(()),
+            Err(stop) => {
+                self.failed = true;
+                Err(ObjectFault::Stopped(stop))
+            }
+        }
+    }
+
+    /// How many octets the subfiles so far count together.
+    pub fn total(&self) -> u64
+        requires { IsSome self.now }
+        ensures { (p : Place) → StandsAt self.now p → result ≡ sum p.lengths }
+    {
+        self.state.total
+    }
+
+    /// What records 7 to 9 have said of the object, once its size is confirmed.
+    pub fn sizes(&self) -> Sizes
+        requires { IsSome self.now }
+        ensures { (p : Place) (n : ℕ) → StandsAt self.now p → p.ending ≡ ConfirmedAs n → IsSizes p result }
+    {
+        let State {
+            mode,
+            subfile,
+            announced,
+            maximum,
+            subfiles,
+            total,
+        } = self.state;
+        Sizes {
+            known: is_given(mode, KNOWN),
+            subfile: subfile.unwrap_or(0),
+            announced,
+            maximum,
+            subfiles,
+            total,
+        }
+    }
+
+    /// Fails for a cause.
+    fn fail(&mut self, cause: SizeCause) -> ObjectFault
+        ensures failed { self.new ≡ None }
+        ensures fault { result ≡ ObjectFault.Size cause }
+    {
+        self.failed = true;
+        ObjectFault::Size { cause }
+    }
+}
