@@ -1,5 +1,5 @@
 -- Which lines make a text, and the octets that stand for them.
-use Rattle.std.proofs.Common.{◌≡◌, ℕ, suc, ◌<◌, true, List, [], ◌∷◌, ◌++◌, map, length, refl, ap, ◌∙◌, arith, IsTrue}
+use Rattle.std.proofs.Common.{◌≡◌, ℕ, true, List, [], ◌∷◌, ◌++◌, map, refl, ap, ◌∙◌, arith, IsTrue}
 use Rattle.std.specs.List.{list_all, join_with_byte}
 use Rattle.std.proofs.lemmas.Bool.{and_parts, and_from}
 use Rattle.wire_story.specs.Texts.{is_line_octet, IsText, MakeText, packed_text}

@@ -1,6 +1,5 @@
 -- How a piece leads a reader on, and how it is refused.
-use Rattle.std.proofs.Common.{◌≡◌, ◌≢◌, ℕ, zero, suc, ◌+◌, ◌<◌, ◌≤◌, Bool, true, false, ◌==◌, nat_lt, ◌&&◌, List, [], ◌∷◌, ◌++◌, take, length, get_or, slice_index, Option, Some, None, refl, sym, ap, subst, ◌∙◌, arith, append-nil, append_assoc, option_and_then, get_or-drop, if◌then◌else◌}
-use Rattle.std.specs.List.{list_all}
+use Rattle.std.proofs.Common.{◌≡◌, ◌≢◌, ℕ, ◌+◌, ◌<◌, ◌≤◌, Bool, true, false, ◌==◌, nat_lt, ◌&&◌, List, [], ◌∷◌, ◌++◌, take, slice_index, Option, Some, None, refl, sym, ap, subst, ◌∙◌, arith, append-nil, append_assoc, option_and_then, get_or-drop}
 use Rattle.std.proofs.lemmas.Bool.{true≢false}
 use Rattle.std.proofs.lemmas.Bool.Decides.{nat_tests}
 use Rattle.wire_story.specs.Texts.{is_line_octet, IsLine, Holds}
@@ -8,7 +7,6 @@ use Rattle.wire_story.specs.Tokens.{LivesWith}
 use Rattle.wire_story.specs.Reading.{StandsAt, GoesOn, IsLoneReturn, IsControl, HasCause, Refuses}
 use Rattle.wire_story.specs.declared.fault.TextCause.{TextCause}
 use Rattle.wire_story.specs.declared.fault.TextCause.TheVariants.{LoneReturn, ControlOctet, Sink}
-use Rattle.wire_story.specs.declared.fault.TextFault.{TextFault}
 use Rattle.wire_story.proofs.Rests.{rest_of, rest_is, take-front}
 use Rattle.wire_story.proofs.HeldReturns.{held_after, after_octet, chosen, some_is, held_line, line_octet_step}
 use Rattle.wire_story.proofs.Lives.{held_joined, held_of, holds, live_of, dies}
@@ -22,9 +20,6 @@ goes_on h piece k e octets w =
 
 pub goes_on_in_line : (run : List ℕ) → IsLine run → GoesOn (Some 0) run (Some 0)
 goes_on_in_line run l = goes_on 0 run 0 (ap (held_after 0) (sym (append-nil run)) ∙ held_line run [] l)
-
-pub goes_on_nowhere : (old : Option ℕ) → GoesOn old [] old
-goes_on_nowhere old octets w = subst (StandsAt old) (sym (append-nil octets)) w
 
 pub goes_on_front : (old mid new : Option ℕ) (piece : List ℕ) (i k : ℕ) → GoesOn old (take i piece) mid → GoesOn mid (take k (rest_of piece i)) new → GoesOn old (take (i + k) piece) new
 goes_on_front old mid new piece i k f g octets w =
@@ -115,10 +110,7 @@ refuses_control held b z l n m e octets w =
     let h : Holds (octets ++ []) 0 = subst (Holds (octets ++ [])) z (held_by held octets w) in
     (dies (octets ++ []) 0 b h (octet_control b n m e), h, control b l n m e)
 
--- an octet that may follow, and then the sink refuses it
-by_sink : (octets : List ℕ) (b k : ℕ) (new : Option ℕ) → StandsAt new (octets ++ b ∷ []) → LivesWith (octets ++ b ∷ [])
-by_sink octets b k new w = live_of (octets ++ b ∷ []) w.0 w.2
-
+-- an octet that may follow, and the sink refuses it
 pub refuses_end : (held b : ℕ) → b ≡ 10 → Refuses (Some held) (b ∷ []) (record { taken = 0; cause = Sink })
 refuses_end held b e octets w =
     let next = goes_on_end held b e octets w in
@@ -135,14 +127,8 @@ refuses_in_line piece t l o octets w =
     let next = one_octet 0 0 b (line_octet_step b o) (octets ++ take t piece) s in
     (live_of ((octets ++ take t piece) ++ b ∷ []) next.0 next.2, not13 b o)
 
--- ---- the inside of a reader
+-- ---- a reader
 
--- the inside of a reader that stands somewhere
-pub stood : (failed : Bool) (held : ℕ) (octets : List ℕ) (w : StandsAt (if failed then None else Some held) octets) → Holds octets held
-stood true held octets w = absurd cc
-stood false held octets w = subst (Holds octets) (sym (some_is held w.0 w.1)) w.2
-
--- what is said of the held CR is said of the reader
-pub reader_goes_on : (failed : Bool) (h k : ℕ) (piece : List ℕ) → GoesOn (Some h) piece (Some k) → GoesOn (if failed then None else Some h) piece (if failed then None else Some k)
-reader_goes_on true h k piece f octets w = absurd cc
-reader_goes_on false h k piece f octets w = f octets w
+-- what a reader that stands somewhere holds
+pub stood : (reader : Option ℕ) (held : ℕ) (octets : List ℕ) → reader ≡ Some held → StandsAt reader octets → Holds octets held
+stood reader held octets e w = subst (Holds octets) (sym (some_is held w.0 (sym e ∙ w.1))) w.2

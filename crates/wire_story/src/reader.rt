@@ -1,6 +1,7 @@
 //! The reader of a text, for any cut into runs.
 
-ghost use Rattle.std.specs.Prelude.{◌≡◌, ◌<◌, ◌≤◌, [], List, ℕ, Option, if◌then◌else◌, is_none, length, take, Some, None, IsSome, IfErr, OnOk, OnErr};
+ghost use Rattle.std.specs.Prelude.{◌≡◌, ◌<◌, ◌≤◌, [], List, ℕ, Option, is_none, length, take, None, IsSome, IfErr, OnOk, OnErr};
+ghost use Rattle.std.specs.Option.{ForSome};
 ghost use Rattle.wire_story.specs.Texts.{AreLines};
 ghost use Rattle.wire_story.specs.Delivery.{delivered};
 ghost use Rattle.wire_story.specs.Tokens.{End, StoryDiesAt};
@@ -16,16 +17,15 @@ use std::marker::Model;
 /// Contracts see it as that number, and as None after a refusal.
 #[derive(Debug, Drop)]
 pub struct TextReader {
-    held: u8,
-    failed: bool,
+    held: Option<u8>,
 }
 
 impl Model for TextReader {
     ghost Value = { Option ℕ };
 
-    ghost view = { λ reader. if reader.failed then None else Some reader.held };
+    ghost view = { λ reader. reader.held };
 
-    ghost invariant = { λ reader. reader.held ≤ 2 };
+    ghost invariant = { λ reader. ForSome reader.held (λ held. held ≤ 2) };
 }
 
 impl TextReader {
@@ -34,17 +34,14 @@ impl TextReader {
         ensures takes_calls { IsSome result }
         ensures stands { StandsAt result [] }
     {
-        TextReader {
-            held: 0,
-            failed: false,
-        }
+        TextReader { held: Some(0) }
     }
 
     /// Whether a call was refused.
     pub fn is_failed(&self) -> bool
         ensures { result ≡ is_none self.now }
     {
-        self.failed
+        self.held.is_none()
     }
 
     /// Takes the next octets of the text, and tells the sink what is delivered of them, or of those before the refused one.
@@ -66,13 +63,13 @@ impl TextReader {
         ensures counted { IfErr result (λ fault.
             CountsCause (S.failures sink.old) (S.failures sink.new) fault.cause) }
     {
-        match take_piece(self.held, piece, sink) {
+        match take_piece(self.held.unwrap(), piece, sink) {
             Ok(held) => {
-                self.held = held;
+                self.held = Some(held);
                 Ok(())
             }
             Err(fault) => {
-                self.failed = true;
+                self.held = None;
                 Err(fault)
             }
         }
@@ -91,13 +88,13 @@ impl TextReader {
         ensures fault { IfErr result (λ fault. (fault.taken ≡ 0) × (fault.cause ≡ TextCause.LoneReturn)) }
         ensures refused { OnErr result ((octets : List ℕ) → StandsAt self.old octets → StoryDiesAt octets End) }
     {
-        if self.held > 0 {
-            self.failed = true;
-            return Err(TextFault {
-                taken: 0,
-                cause: TextCause::LoneReturn,
-            });
+        if self.held.unwrap() == 0 {
+            return Ok(());
         }
-        Ok(())
+        self.held = None;
+        Err(TextFault {
+            taken: 0,
+            cause: TextCause::LoneReturn,
+        })
     }
 }

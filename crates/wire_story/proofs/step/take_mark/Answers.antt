@@ -1,4 +1,4 @@
-use Rattle.std.proofs.Common.{sym, ◌∙◌, arith}
+use Rattle.std.proofs.Common.{arith}
 use Rattle.wire_story.proofs.Pieces.{goes_on_end, goes_on_return, refuses_end, refuses_third, refuses_after_return, refuses_control}
 use Rattle.wire_story.proofs.step.take_mark.Goals as goal
 

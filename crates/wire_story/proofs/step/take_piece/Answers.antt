@@ -1,4 +1,4 @@
-use Rattle.std.proofs.Common.{◌≡◌, ℕ, ◌+◌, ◌<◌, ◌≤◌, List, ◌++◌, length, take, Some, subst, sym, ◌∙◌, arith}
+use Rattle.std.proofs.Common.{ℕ, List, Some, subst, ◌∙◌, arith}
 use Rattle.std.proofs.lemmas.List.{take_all}
 use Rattle.wire_story.specs.Delivery.{Event}
 use Rattle.wire_story.specs.Reading.{GoesOn, CountsCause}
