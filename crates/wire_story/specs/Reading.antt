@@ -11,7 +11,7 @@ use Rattle.wire_story.specs.declared.fault.TextFault.{TextFault}
 abbrev pub StandsAt : Option ℕ → List ℕ → Type 0
 StandsAt reader octets = (held : ℕ) × (reader ≡ Some held) × Holds octets held
 
--- For all octets so far, a piece leads a reader on.
+-- A piece leads a reader on: whichever octets so far it stood at, it then stands at these and the piece.
 abbrev pub GoesOn : Option ℕ → List ℕ → Option ℕ → Type 0
 GoesOn old piece new = (octets : List ℕ) → StandsAt old octets → StandsAt new (octets ++ piece)
 
@@ -23,13 +23,13 @@ IsLoneReturn held octet = (0 < held) × (octet ≢ 10) × (octet ≡ 13 → held
 abbrev pub IsControl : ℕ → Type 0
 IsControl octet = (1 ≤ octet) × (octet ≤ 4)
 
--- Why an octet is refused after others. Without a sink's refusal the story dies with it.
+-- Why an octet is refused after others: the story dies with it, or it lives and the sink refuses what it is told.
 abbrev pub HasCause : TextCause → List ℕ → ℕ → Type 0
 HasCause LoneReturn octets octet = StoryDiesAt octets (Octet octet) × ((held : ℕ) × Holds octets held × IsLoneReturn held octet)
 HasCause ControlOctet octets octet = StoryDiesAt octets (Octet octet) × Holds octets 0 × IsControl octet
 HasCause Sink octets octet = LivesWith (octets ++ octet ∷ []) × (octet ≢ 13)
 
--- For all octets so far, the octet of the piece behind the first `taken` is refused for that cause.
+-- Whichever octets so far the reader stood at, the octet behind the first `taken` of the piece is refused for that cause.
 abbrev pub Refuses : Option ℕ → List ℕ → TextFault → Type 0
 Refuses old piece fault = (octets : List ℕ) → StandsAt old octets →
     HasCause fault.cause (octets ++ take fault.taken piece) (slice_index piece fault.taken)
