@@ -4,6 +4,9 @@
 //! what is here joins it to the arguments, files and streams of a process.
 #![tactic(auto)]
 
+ghost use Rattle.std.specs.Prelude.{◌≡◌, ◌⊎◌};
+ghost use Rattle.std.specs.Process.{exit_status};
+
 mod fault;
 mod finish;
 mod input;
@@ -21,14 +24,15 @@ use run::run;
 use status::{FAILED, USAGE};
 use std::fmt::Display;
 use std::fs::File;
-use std::io::{BufWriter, Read};
+use std::io::{BufWriter, ErrorKind, Read};
 use std::process::ExitCode;
 use std::{env, io};
 
 fn main(rt: HostRuntime) -> ExitCode {
     let alloc = rt.alloc();
-    let Ok(arguments) = env::args(&rt) else {
-        return complain(&rt, "arguments are no text\n", USAGE);
+    let arguments = match env::args(&rt) {
+        Ok(arguments) => arguments,
+        Err(error) => return refuse(&rt, &error, "arguments are no text\n", USAGE),
     };
     let words: Vec<String> = match arguments.collect(alloc) {
         Ok(words) => words,
@@ -41,16 +45,30 @@ fn main(rt: HostRuntime) -> ExitCode {
     }
 }
 
-/// Prints a text on standard error, and ends with the status.
-fn complain(rt: &HostRuntime, text: impl Display + Drop, status: u8) -> ExitCode {
+/// Prints a text on standard error, and ends with the status, or with that of a fault where the text can't be printed.
+fn complain(rt: &HostRuntime, text: impl Display + Drop, status: u8) -> ExitCode
+    ensures { (exit_status result ≡ status) ⊎ (exit_status result ≡ 3) }
+{
     match rt.eprint(text) {
         Ok(()) => ExitCode::from(status),
         Err(_) => ExitCode::from(FAILED),
     }
 }
 
+/// Tells why something was not to be had: memory was refused, or else what the text says.
+fn refuse(rt: &HostRuntime, error: &io::Error, text: impl Display + Drop, status: u8) -> ExitCode
+    ensures { (exit_status result ≡ status) ⊎ (exit_status result ≡ 3) }
+{
+    match error.kind() {
+        ErrorKind::OutOfMemory => fail(rt, Fault::OutOfMemory),
+        _ => complain(rt, text, status),
+    }
+}
+
 /// Tells a fault, and ends.
-fn fail(rt: &HostRuntime, fault: Fault) -> ExitCode {
+fn fail(rt: &HostRuntime, fault: Fault) -> ExitCode
+    ensures { exit_status result ≡ 3 }
+{
     complain(rt, fault.line(), FAILED)
 }
 
@@ -61,7 +79,7 @@ fn serve(rt: &HostRuntime, request: Request<'_>) -> ExitCode {
     };
     match File::open(rt, name) {
         Ok(file) => perform(rt, request, file),
-        Err(_) => complain(rt, format_args!("cannot open {name}\n"), FAILED),
+        Err(error) => refuse(rt, &error, format_args!("cannot open {name}\n"), FAILED),
     }
 }
 

@@ -80,3 +80,6 @@ pub fn parse<'a>(alloc: Global, words: &'a [String]) -> Result<Request<'a>, Usag
         job: Job::Check,
     })
 }
+
+#[cfg(test)]
+mod tests;

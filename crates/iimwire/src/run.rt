@@ -121,3 +121,6 @@ pub fn run<R: Source + Drop, W: Target, E: Target>(
     };
     (status, output, errors)
 }
+
+#[cfg(test)]
+mod tests;
