@@ -15,11 +15,13 @@ job_name Check = codes "check"
 abbrev pub file_command : Text → App
 file_command name = with_rule (new_app name) (new_rule (codes "FILE"))
 
+-- a command that wants to be given one of its own, and has none for help
+abbrev pub wanting : App → App
+wanting a = record a { top = record a.top { subcommand_required = true; disable_help_subcommand = true } }
+
 -- the program, which wants to be given one of its commands
 abbrev pub program : App
-program = with_subcommand (record (new_app (codes "iimwire")) {
-  top = record (new_app (codes "iimwire")).top { subcommand_required = true; disable_help_subcommand = true };
-}) (file_command (codes "check")).top
+program = with_subcommand (wanting (new_app (codes "iimwire"))) (file_command (codes "check")).top
 
 -- the command that the words name, and the value of its FILE
 abbrev pub command_and_file : List Text → Option (Text × Option Text)

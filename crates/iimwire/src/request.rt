@@ -59,8 +59,11 @@ ghost use Rattle.iimwire.specs.Requests.{AsksFor, IsFaultOf, program};
 fn command<'a>(alloc: Global) -> Result<Command<'a>, AllocError>
     ensures { IfOk result (λ command. app_of command ≡ program) }
 {
-    let check = Command::new(alloc, "check").arg(Arg::new(alloc, "FILE"))?;
+    let check = Command::new(alloc, "check")
+        .about("Lists the envelopes of FILE, or else of standard input, up to the first refusal")
+        .arg(Arg::new(alloc, "FILE"))?;
     Command::new(alloc, "iimwire")
+        .about("Reads envelopes of the IPTC-NAA Information Interchange Model")
         .subcommand_required(true)
         .disable_help_subcommand(true)
         .subcommand(check)
