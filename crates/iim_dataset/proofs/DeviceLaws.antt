@@ -1,6 +1,6 @@
 -- Faults behind calls that went well.
 use Rattle.std.proofs.Common.{ℕ, ◌≤◌, inl, inr, arith, ◌∙◌}
-use Rattle.iim_dataset.specs.Devices.{Device, Unfailed, Broke, Rose, RoseAtLeast, max_interruptions}
+use Rattle.iim_dataset.specs.Devices.{Device, Unfailed, Broke, RoseAtLeast, max_interruptions}
 
 higher : (m n o : ℕ) → m ≤ n → RoseAtLeast max_interruptions n o → RoseAtLeast max_interruptions m o
 higher m n o le (inl some) = inl (omega (arith, some, le))

@@ -1,12 +1,12 @@
 -- What the program's command line comes to, by the rules of clap.
-use Rattle.std.proofs.Common.{◌≡◌, Bool, true, false, not, ◌&&◌, List, [], ◌∷◌, Option, Some, None, refl, ap, sym, ◌∙◌, codes, option_map, is_some, Box}
+use Rattle.std.proofs.Common.{◌≡◌, Bool, true, false, not, ◌&&◌, List, [], ◌∷◌, Option, Some, None, refl, ap, sym, ◌∙◌, codes, option_map, is_some}
 use Rattle.std.specs.Prelude.{find, option_and_then, cond}
 use Rattle.std.specs.Box.{box_value}
 use Rattle.std.specs.List.{list_any, slice_index_or}
 use Rattle.clap.specs.Facts.{explicit_source}
 use Rattle.clap.specs.Faults.{check_fault, defaults_fault, entered_fault, settle_fault, walk_fault}
 use Rattle.clap.specs.Kinds.{Kinds, or_else, check_kinds}
-use Rattle.clap.specs.Matches.{first_value, found_of, subcommand_name_of}
+use Rattle.clap.specs.Matches.{first_value, subcommand_name_of}
 use Rattle.clap.specs.Simple.{Shape, argument_words, built, entered, label_of, names_of, rows_at, subcommand_rows, subcommand_rows_of}
 use Rattle.clap.specs.Takes.{is_given}
 use Rattle.clap.specs.Walk.{Row, Text, answers_to, finished, first_of, nothing_held, rows_of, settled, walk, walk_from}
@@ -14,7 +14,6 @@ use Rattle.clap.specs.Words.{fault_of, is_simple, is_simple_and_free, subcommand
 use Rattle.clap.specs.declared.parser.matches.ArgMatches.{ArgMatches}
 use Rattle.clap.specs.declared.parser.matches.ArgMatches.TheViews.{out-ArgMatches, out-SubCommand}
 use Rattle.clap.specs.declared.parser.matches.Found.{Found}
-use Rattle.clap.specs.declared.parser.matches.SubCommand.{SubCommand}
 use Rattle.clap.proofs.OnLiterals.{clap_on_literals}
 use Rattle.clap.proofs.WalkLemmas.{first_value-rows}
 use Rattle.iimwire.specs.Requests.{command_and_file, program}

@@ -1,10 +1,7 @@
 -- Faults that `?` hands on.
 use Rattle.std.proofs.Common.{◌≡◌, ℕ, List, Option, Result, Ok, Err, ◌∙◌, IsErrAnd, IfErr}
 use Rattle.iim_dataset.specs.Devices.{Device}
-use Rattle.iim_dataset.specs.DeviceLaws.{HasGiven}
 use Rattle.iimwire.specs.declared.fault.Fault.{Fault}
-use Rattle.iimwire.specs.declared.fault.Fault.TheVariants.{OutOfMemory}
-use Rattle.iimwire.specs.Inputs.{IsUnread}
 use Rattle.iimwire.specs.Outcomes.{IsLineAt, IsUnsaid, Told}
 
 -- a line inside which the output broke

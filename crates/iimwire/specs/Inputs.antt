@@ -1,5 +1,5 @@
 -- What reading a whole input comes to.
-use Rattle.std.specs.Prelude.{ℕ, ◌≤◌, ◌<◌, ◌⊎◌, List, length, Result, Ok, Err}
+use Rattle.std.specs.Prelude.{ℕ, ◌≤◌, ◌<◌, ◌⊎◌, List, length}
 use Rattle.std.specs.Io.KnownBytes.{IsAtEnd}
 use Rattle.iim_dataset.specs.Devices.{Device}
 use Rattle.iim_dataset.specs.DeviceLaws.{HasGiven, BrokeBehind}

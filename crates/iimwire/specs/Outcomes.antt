@@ -1,5 +1,5 @@
 -- What a run leaves.
-use Rattle.std.specs.Prelude.{◌≡◌, ℕ, ◌<◌, ◌≤◌, ◌+◌, ◌⊎◌, List, [], ◌∷◌, ◌++◌, length, codes, Option, Some, None, Result, Ok, Err}
+use Rattle.std.specs.Prelude.{◌≡◌, ℕ, ◌<◌, ◌≤◌, ◌+◌, ◌⊎◌, List, length, codes, Option, Some, None, Result, Ok, Err}
 use Rattle.iim_dataset.specs.Devices.{Device, Wrote, Stopped}
 use Rattle.iim_unpack.specs.Answers.{IsAccepted}
 use Rattle.iimwire.specs.declared.request.Job.{Job}

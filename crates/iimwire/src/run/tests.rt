@@ -56,6 +56,35 @@ const LEAST: [u8; 55] = [
     0x1c, 9, 10, 0, 0,
 ];
 
+/// A dataset of the smallest envelope by its place, another in its place, and the line for that.
+static BROKEN: [(usize, &[u8], &str); 5] = [
+    (
+        5,
+        b"",
+        "1 refused at octet 46 by layer record on 1:70, cause 14 Missing\n",
+    ),
+    (
+        6,
+        b"\x1c\x03\x00\x00\x02\x00\x04",
+        "1 refused at octet 59 by layer record on 3:00, cause 10 RecordOrder\n",
+    ),
+    (
+        7,
+        b"\x1c\x07\x1e\x00\x01\x01",
+        "1 refused at octet 66 by layer record on 7:30, cause 11 UnknownDataset\n",
+    ),
+    (
+        0,
+        b"\x1d\x01\x00\x00\x02\x00\x04",
+        "1 refused at octet 0 by layer dataset on 0:00, cause 1 Marker\n",
+    ),
+    (
+        0,
+        b"\x1c\x01\x00\x81\x01\x00\x04",
+        "1 refused at octet 3 by layer dataset on 1:00, cause 2 CountForm\n",
+    ),
+];
+
 const FIRST_LINE: &str = "1 accepted 114 octets\n";
 
 const CHECK: Request<'static> = Request {
@@ -110,34 +139,7 @@ fn lists_each_envelope(rt: HostRuntime) -> Result<(), Fail> {
 
 #[test]
 fn tells_the_first_refusal(rt: HostRuntime) -> Result<(), Fail> {
-    let changes: [(usize, &[u8], &str); 5] = [
-        (
-            5,
-            b"",
-            "1 refused at octet 46 by layer record on 1:70, cause 14 Missing\n",
-        ),
-        (
-            6,
-            b"\x1c\x03\x00\x00\x02\x00\x04",
-            "1 refused at octet 59 by layer record on 3:00, cause 10 RecordOrder\n",
-        ),
-        (
-            7,
-            b"\x1c\x07\x1e\x00\x01\x01",
-            "1 refused at octet 66 by layer record on 7:30, cause 11 UnknownDataset\n",
-        ),
-        (
-            0,
-            b"\x1d\x01\x00\x00\x02\x00\x04",
-            "1 refused at octet 0 by layer dataset on 0:00, cause 1 Marker\n",
-        ),
-        (
-            0,
-            b"\x1c\x01\x00\x81\x01\x00\x04",
-            "1 refused at octet 3 by layer dataset on 1:00, cause 2 CountForm\n",
-        ),
-    ];
-    for (place, piece, line) in changes {
+    for (place, piece, line) in BROKEN {
         let mut pieces = SMALLEST;
         assert!(rt; place < 12);
         pieces[place] = piece;

@@ -1,4 +1,4 @@
-use Rattle.std.proofs.Common.{◌≡◌, [], ◌≤◌, List, ℕ, ◌++◌, inl, inr, arith}
+use Rattle.std.proofs.Common.{[], List, ℕ, ◌++◌, inl, inr, arith}
 use Rattle.std.proofs.lemmas.List.{append-nil}
 use Rattle.iim_dataset.specs.Devices.{Device, Missed}
 use Rattle.iim_dataset.specs.DeviceLaws.{HasGiven, BrokeBehind}

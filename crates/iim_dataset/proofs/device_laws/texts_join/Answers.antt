@@ -1,4 +1,4 @@
-use Rattle.std.proofs.Common.{◌≡◌, ◌<◌, ℕ, ◌+◌, List, ◌++◌, length, arith, sym, length-append}
+use Rattle.std.proofs.Common.{ℕ, ◌+◌, List, ◌++◌, length, arith, length-append}
 use Rattle.std.proofs.Math.Seq.{take-append-add}
 use Rattle.iim_dataset.specs.Devices.{Device, Wrote, Stopped}
 use Rattle.iim_dataset.proofs.Devices.{appends_appends, appends_none}

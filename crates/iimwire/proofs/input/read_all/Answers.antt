@@ -1,5 +1,4 @@
 use Rattle.std.proofs.Common.{◌++◌, take}
-use Rattle.iim_dataset.specs.DeviceLaws.{HasGiven}
 use Rattle.iimwire.specs.Inputs.{IsUnread}
 use Rattle.iimwire.proofs.Told.{handed_on}
 use Rattle.iimwire.specs.declared.fault.Fault.TheVariants.{OutOfMemory}

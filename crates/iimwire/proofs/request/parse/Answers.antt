@@ -1,7 +1,7 @@
-use Rattle.std.proofs.Common.{◌≡◌, [], ap, sym, ◌∙◌, true, map, option_map, string_bytes}
+use Rattle.std.proofs.Common.{◌≡◌, [], ap, sym, ◌∙◌, map, option_map, string_bytes}
 use Rattle.clap.specs.Matches.{found_of}
 use Rattle.clap.specs.Simple.{App, subcommand_rows_of}
-use Rattle.clap.specs.Words.{app_of, is_simple, is_simple_and_free, fault_of, subcommand_of}
+use Rattle.clap.specs.Words.{is_simple, is_simple_and_free, fault_of, subcommand_of}
 use Rattle.iimwire.specs.Requests.{program}
 use Rattle.iimwire.proofs.Requests.{asks, names_check, program_simple, program_free}
 use Rattle.iimwire.proofs.request.parse.Goals as goal

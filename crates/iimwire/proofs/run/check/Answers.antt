@@ -1,4 +1,4 @@
-use Rattle.std.proofs.Common.{◌≡◌, inr}
+use Rattle.std.proofs.Common.{inr}
 use Rattle.std.proofs.lemmas.Result.{IfErr-weaker}
 use Rattle.iimwire.specs.Outcomes.{IsUnchecked, IsUnreported}
 use Rattle.iimwire.proofs.run.check.Goals as goal

@@ -1,4 +1,4 @@
-use Rattle.std.proofs.Common.{◌≡◌, ◌<◌, ◌≤◌, ◌+◌, ◌-◌, ℕ, List, [], Option, Some, None, Err, refl, sym, subst, arith, length, take, drop, length-drop}
+use Rattle.std.proofs.Common.{◌≡◌, ◌≤◌, ◌-◌, ℕ, List, [], Option, Some, None, Err, refl, sym, subst, arith, length, take, drop, length-drop}
 use Rattle.std.proofs.Math.ListN.{drop_of_length-le}
 use Rattle.iimwire.specs.Listings.{Whole}
 use Rattle.iimwire.specs.Outcomes.{IsLineAt, IsUnreported, Told}

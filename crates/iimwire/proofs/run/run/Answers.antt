@@ -1,7 +1,7 @@
-use Rattle.std.proofs.Common.{◌≡◌, ℕ, ap, ◌∙◌, inl, inr}
+use Rattle.std.proofs.Common.{ℕ, ap, ◌∙◌, inl, inr}
 use Rattle.iimwire.specs.declared.request.Job.{Job}
 use Rattle.iimwire.specs.declared.request.Job.TheVariants.{Check}
-use Rattle.iimwire.specs.Outcomes.{Checked, Complained, Devices, Ran}
+use Rattle.iimwire.specs.Outcomes.{Checked, Devices, Ran}
 use Rattle.iimwire.proofs.run.run.Goals.{in-Ok, in-Err}
 use Rattle.iimwire.proofs.run.run.Goals as goal
 
