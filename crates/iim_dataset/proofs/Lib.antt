@@ -1,4 +1,5 @@
 pub mod Devices
+pub mod DeviceLaws
 pub mod Fronts
 pub mod Spellings
 pub mod Canonical

@@ -8,3 +8,4 @@ pub mod Later
 pub mod Trials
 pub mod TrialLaws
 pub mod Laws
+pub mod DeviceLaws

@@ -5,6 +5,7 @@
 #![tactic(auto)]
 
 mod device;
+mod device_laws;
 mod head;
 mod laws;
 mod source;
@@ -15,6 +16,7 @@ mod tests;
 mod trial;
 
 pub use device::IoFault;
+pub use device_laws::{gifts_join, texts_join};
 pub use head::{Head, HeadCause, HeadFault, TAG_MARKER, head_bytes, read_head};
 pub use laws::{
     canonical_tags_read_back, no_dataset_begins_another, no_tag_begins_another,

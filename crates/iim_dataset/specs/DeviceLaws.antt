@@ -1,0 +1,25 @@
+-- What several calls of one device come to.
+use Rattle.std.specs.Prelude.{ℕ, ◌+◌, List, [], ◌++◌, length}
+use Rattle.std.specs.Io.KnownBytes.{Consumes}
+use Rattle.iim_dataset.specs.Devices.{Device, Unfailed, Broke, Missed, Wrote, Stopped}
+use Rattle.iim_dataset.specs.declared.device.IoFault.{IoFault}
+
+-- Reads gave just these octets, and none failed.
+abbrev pub HasGiven : Device → Device → List ℕ → Type 0
+HasGiven old new octets = Consumes old.octets new.octets octets × Unfailed old new
+
+-- Reads gave just these octets, and then one failed or was interrupted a million times in a row.
+abbrev pub BrokeBehind : Device → Device → List ℕ → Type 0
+BrokeBehind old new octets = Consumes old.octets new.octets octets × Broke old new
+
+-- Octets that were given one after another were given joined, and a fault comes behind all of them.
+pub record GiftsJoin : Type 0 where
+  pub none : (a : Device) → HasGiven a a []
+  pub more : (a b c : Device) (xs ys : List ℕ) → HasGiven a b xs → HasGiven b c ys → HasGiven a c (xs ++ ys)
+  pub fault : (a b c : Device) (xs : List ℕ) (fault : IoFault) → HasGiven a b xs → Missed b c fault → BrokeBehind a c xs
+
+-- Texts that were written one after another were written joined, and where the second stopped, so did the joined one.
+pub record TextsJoin : Type 0 where
+  pub none : (a : Device) → Wrote a a []
+  pub more : (a b c : Device) (xs ys : List ℕ) → Wrote a b xs → Wrote b c ys → Wrote a c (xs ++ ys)
+  pub stopped : (a b c : Device) (xs ys : List ℕ) (n : ℕ) → Wrote a b xs → Stopped b c ys n → Stopped a c (xs ++ ys) (length xs + n)

@@ -1,0 +1,13 @@
+//! What several calls of one device come to.
+
+ghost use Rattle.iim_dataset.specs.DeviceLaws.{GiftsJoin, TextsJoin};
+
+/// Octets that a source gave one after another were given joined, and a fault comes behind all of them.
+pub fn gifts_join()
+    ensures { GiftsJoin }
+{}
+
+/// Texts that a target took one after another were taken joined, and where the second stopped, so did the joined one.
+pub fn texts_join()
+    ensures { TextsJoin }
+{}

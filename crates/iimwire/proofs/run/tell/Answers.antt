@@ -1,0 +1,24 @@
+use Rattle.std.proofs.Common.{rules, ◌≡◌, refl, Some, None, ◌+◌}
+use Rattle.iimwire.specs.Lines.{accepted_line, refused_line}
+use Rattle.iimwire.specs.Listings.{RefusedBy}
+use Rattle.iimwire.proofs.Told.{told_unsaid}
+use Rattle.iimwire.proofs.run.tell.Goals as goal
+
+pub returns-in_err-say-in-Ok : goal.returns-in_err-say-in-Ok
+returns-in_err-say-in-Ok g c =
+    let text : c.as_str.result.now ≡ accepted_line (c.args.count + 1) c.in-Ok.found.used = search rules in
+    told_unsaid c.args.count c.args.rest.now (g.W.Target.state c.args.output.now) (g.W.Target.state c.say.new.output) c.as_str.result.now
+    (Some c.in-Ok.found.used) c.from_residual-in_err-say-in-Ok.result c.in_err-say-in-Ok.field-0.0 c.from_residual-in_err-say-in-Ok.ensures.1
+    c.in_err-say-in-Ok.ensures.err (c.if-count-lt-MAX_ENVELOPES.true, c.in-Ok.ensures.accepted, text)
+
+pub returns-in_err-say-in-Err : goal.returns-in_err-say-in-Err
+returns-in_err-say-in-Err g c =
+    let text : c.as_str-in-Err.result.now ≡ refused_line (c.args.count + 1) c.in-Err.refusal = search rules in
+    told_unsaid c.args.count c.args.rest.now (g.W.Target.state c.args.output.now) (g.W.Target.state c.say-in-Err.new.output) c.as_str-in-Err.result.now
+    None c.from_residual-in_err-say-in-Err.result c.in_err-say-in-Err.field-0.0 c.from_residual-in_err-say-in-Err.ensures.1
+    c.in_err-say-in-Err.ensures.err (RefusedBy c.in-Err.refusal, (c.requires.some, c.in-Err.ensures.refused), refl, text)
+
+pub returns-in_ok-say-in-Err : goal.returns-in_ok-say-in-Err
+returns-in_ok-say-in-Err g c =
+    let text : c.as_str-in-Err.result.now ≡ refused_line (c.args.count + 1) c.in-Err.refusal = search rules in
+    (c.as_str-in-Err.result.now, (RefusedBy c.in-Err.refusal, (c.requires.some, c.in-Err.ensures.refused), refl, text), c.in_ok-say-in-Err.ensures.ok)

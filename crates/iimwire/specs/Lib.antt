@@ -1,0 +1,6 @@
+pub mod Listings
+pub mod Lines
+pub mod Inputs
+pub mod Outcomes
+pub mod Faults
+pub mod Requests

@@ -1,0 +1,303 @@
+//! `check` on envelopes, on what breaks them, and on devices that break.
+
+use super::{list, run};
+use crate::request::{Job, Request};
+use crate::status::{ACCEPTED, FAILED, REFUSED};
+use iim_dataset::{FromRead, FromWrite, TrialReader, TrialWriter, Trouble};
+use std::alloc::{AllocError, Global};
+use std::process::Abort;
+use std::test::Fail;
+
+/// The mandatory datasets alone, and a story of one empty line.
+static SMALLEST: [&[u8]; 12] = [
+    b"\x1c\x01\x00\x00\x02\x00\x04",
+    b"\x1c\x01\x14\x00\x02\x00\x02",
+    b"\x1c\x01\x16\x00\x02\x00\x01",
+    b"\x1c\x01\x1e\x00\x03TST",
+    b"\x1c\x01\x28\x00\x0800000001",
+    b"\x1c\x01\x46\x00\x0820240301",
+    b"\x1c\x02\x00\x00\x02\x00\x04",
+    b"\x1c\x07\x0a\x00\x01\x01",
+    b"\x1c\x07\x14\x00\x04\x00\x00\x04\x00",
+    b"\x1c\x07\x5a\x00\x04\x00\x00\x00\x0e",
+    b"\x1c\x08\x0a\x00\x0e\x01X1 4 N 0\r\n\x02\x03\x04",
+    b"\x1c\x09\x0a\x00\x04\x00\x00\x00\x0e",
+];
+
+/// An envelope with by-lines, keywords and a story of two lines.
+static STORY: [&[u8]; 21] = [
+    b"\x1c\x01\x00\x00\x02\x00\x04",
+    b"\x1c\x01\x14\x00\x02\x00\x02",
+    b"\x1c\x01\x16\x00\x02\x00\x01",
+    b"\x1c\x01\x1e\x00\x03TST",
+    b"\x1c\x01\x28\x00\x0800000002",
+    b"\x1c\x01\x46\x00\x0820240301",
+    b"\x1c\x02\x00\x00\x02\x00\x04",
+    b"\x1c\x02\x69\x00\x0aRates held",
+    b"\x1c\x02\x50\x00\x07A. Moor",
+    b"\x1c\x02\x55\x00\x06Editor",
+    b"\x1c\x02\x50\x00\x07B. Lund",
+    b"\x1c\x02\x55\x00\x06Writer",
+    b"\x1c\x02\x19\x00\x05rates",
+    b"\x1c\x02\x19\x00\x04bank",
+    b"\x1c\x02\x19\x00\x04euro",
+    b"\x1c\x02\xfa\x00\x02\x00\xff",
+    b"\x1c\x07\x0a\x00\x01\x01",
+    b"\x1c\x07\x14\x00\x04\x00\x00\x04\x00",
+    b"\x1c\x07\x5a\x00\x04\x00\x00\x00\x32",
+    b"\x1c\x08\x0a\x00\x32\x01TST0007 4 ECO 5 rates\r\n\x02Rates stay.\r\nNo change.\x03\x04",
+    b"\x1c\x09\x0a\x00\x04\x00\x00\x00\x32",
+];
+
+/// The heads that an envelope must have, each with a count of 0.
+const LEAST: [u8; 55] = [
+    0x1c, 1, 0, 0, 0, 0x1c, 1, 20, 0, 0, 0x1c, 1, 22, 0, 0, 0x1c, 1, 30, 0, 0, 0x1c, 1, 40, 0, 0,
+    0x1c, 1, 70, 0, 0, 0x1c, 2, 0, 0, 0, 0x1c, 7, 10, 0, 0, 0x1c, 7, 20, 0, 0, 0x1c, 8, 10, 0, 0,
+    0x1c, 9, 10, 0, 0,
+];
+
+/// A dataset of the smallest envelope by its place, another in its place, and the line for that.
+static BROKEN: [(usize, &[u8], &str); 5] = [
+    (
+        5,
+        b"",
+        "1 refused at octet 46 by layer record on 1:70, cause 14 Missing\n",
+    ),
+    (
+        6,
+        b"\x1c\x03\x00\x00\x02\x00\x04",
+        "1 refused at octet 59 by layer record on 3:00, cause 10 RecordOrder\n",
+    ),
+    (
+        7,
+        b"\x1c\x07\x1e\x00\x01\x01",
+        "1 refused at octet 66 by layer record on 7:30, cause 11 UnknownDataset\n",
+    ),
+    (
+        0,
+        b"\x1d\x01\x00\x00\x02\x00\x04",
+        "1 refused at octet 0 by layer dataset on 0:00, cause 1 Marker\n",
+    ),
+    (
+        0,
+        b"\x1c\x01\x00\x81\x01\x00\x04",
+        "1 refused at octet 3 by layer dataset on 1:00, cause 2 CountForm\n",
+    ),
+];
+
+const FIRST_LINE: &str = "1 accepted 114 octets\n";
+
+const CHECK: Request<'static> = Request {
+    file: None,
+    job: Job::Check,
+};
+
+/// Adds octets that are given piece by piece.
+fn add(octets: &mut Vec<u8>, pieces: &[&[u8]]) -> Result<(), AllocError> {
+    for piece in pieces {
+        octets.extend_from_slice(piece)?;
+    }
+    Ok(())
+}
+
+fn joined(alloc: Global, pieces: &[&[u8]]) -> Result<Vec<u8>, AllocError> {
+    let mut octets = Vec::new(alloc);
+    add(&mut octets, pieces)?;
+    Ok(octets)
+}
+
+fn reader(octets: &[u8]) -> TrialReader<'_> {
+    TrialReader::new(octets, 0, Trouble::Interruptions(0))
+}
+
+fn writer() -> TrialWriter<256> {
+    TrialWriter::new(0, Trouble::Interruptions(0))
+}
+
+/// Checks that `check` writes the line and nothing else, with the status.
+fn expect(rt: &impl Abort, alloc: Global, octets: &[u8], line: &str, status: u8) {
+    let (found, output, errors) = run(alloc, CHECK, reader(octets), writer(), writer());
+    assert_eq!(rt; output.octets(), line.as_bytes(), "for {line:?}");
+    assert_eq!(rt; found, status, "for {line:?}");
+    assert!(rt; errors.octets().is_empty(), "for {line:?}");
+}
+
+#[test]
+fn lists_each_envelope(rt: HostRuntime) -> Result<(), Fail> {
+    expect(&rt, rt.alloc(), &[], "", ACCEPTED);
+    let mut octets = joined(rt.alloc(), SMALLEST.as_slice())?;
+    expect(&rt, rt.alloc(), octets.as_slice(), FIRST_LINE, ACCEPTED);
+    add(&mut octets, STORY.as_slice())?;
+    let lines = "1 accepted 114 octets\n2 accepted 246 octets\n";
+    expect(&rt, rt.alloc(), octets.as_slice(), lines, ACCEPTED);
+    add(&mut octets, &[b"\x1c\x01\x00\x00\x02\x00\x04\x1c"])?;
+    let lines = "1 accepted 114 octets\n2 accepted 246 octets\n\
+        3 refused at octet 8 by layer dataset on 0:00, cause 3 Truncated\n";
+    expect(&rt, rt.alloc(), octets.as_slice(), lines, REFUSED);
+    Ok(())
+}
+
+#[test]
+fn tells_the_first_refusal(rt: HostRuntime) -> Result<(), Fail> {
+    for (place, piece, line) in BROKEN {
+        let mut pieces = SMALLEST;
+        assert!(rt; place < 12);
+        pieces[place] = piece;
+        let octets = joined(rt.alloc(), pieces.as_slice())?;
+        expect(&rt, rt.alloc(), octets.as_slice(), line, REFUSED);
+    }
+    let mut pieces = SMALLEST;
+    pieces[3] = b"";
+    pieces[5] = b"";
+    let octets = joined(rt.alloc(), pieces.as_slice())?;
+    expect(
+        &rt,
+        rt.alloc(),
+        octets.as_slice(),
+        "1 refused at octet 38 by layer record on 1:30, cause 14 Missing\n",
+        REFUSED,
+    );
+    let octets = joined(rt.alloc(), SMALLEST.as_slice())?;
+    let front = octets.as_slice().get(..100).ok_or("100 octets")?;
+    expect(
+        &rt,
+        rt.alloc(),
+        front,
+        "1 refused at octet 100 by layer dataset on 8:10, cause 3 Truncated\n",
+        REFUSED,
+    );
+    Ok(())
+}
+
+#[test]
+fn tells_a_reader_that_fails(rt: HostRuntime) -> Result<(), Fail> {
+    let octets = joined(rt.alloc(), SMALLEST.as_slice())?;
+    for good in 0..116 {
+        let source = TrialReader::new(octets.as_slice(), good, Trouble::Failure);
+        let (status, output, errors) = run(rt.alloc(), CHECK, source, writer(), writer());
+        if good < 115 {
+            assert_eq!(rt; status, FAILED, "at {good}");
+            assert!(rt; output.octets().is_empty(), "at {good}");
+            assert_eq!(rt; errors.octets(), b"cannot read\n".as_slice(), "at {good}");
+        } else {
+            assert_eq!(rt; status, ACCEPTED, "at {good}");
+            assert_eq!(rt; output.octets(), FIRST_LINE.as_bytes(), "at {good}");
+        }
+    }
+    Ok(())
+}
+
+#[test]
+fn reads_past_interruptions(rt: HostRuntime) -> Result<(), Fail> {
+    let octets = joined(rt.alloc(), SMALLEST.as_slice())?;
+    for (running, want) in [(999_999, ACCEPTED), (1_000_000, FAILED)] {
+        let source = TrialReader::new(octets.as_slice(), 50, Trouble::Interruptions(running));
+        let (status, output, errors) = run(rt.alloc(), CHECK, source, writer(), writer());
+        let (line, told) = if want == FAILED {
+            ("", "cannot read\n")
+        } else {
+            (FIRST_LINE, "")
+        };
+        assert_eq!(rt; status, want, "at {running}");
+        assert_eq!(rt; output.octets(), line.as_bytes(), "at {running}");
+        assert_eq!(rt; errors.octets(), told.as_bytes(), "at {running}");
+    }
+    Ok(())
+}
+
+#[test]
+fn tells_a_writer_that_fails(rt: HostRuntime) -> Result<(), Fail> {
+    let octets = joined(rt.alloc(), SMALLEST.as_slice())?;
+    for trouble in [Trouble::Failure, Trouble::Interruptions(1_000_000)] {
+        for good in [0, 1, 7, 21] {
+            let target: TrialWriter<64> = TrialWriter::new(good, trouble);
+            let (status, output, errors) = run(
+                rt.alloc(),
+                CHECK,
+                reader(octets.as_slice()),
+                target,
+                writer(),
+            );
+            assert_eq!(rt; status, FAILED, "at {good}");
+            assert_eq!(rt;
+                Some(output.octets()),
+                FIRST_LINE.as_bytes().get(..good as usize),
+                "at {good}"
+            );
+            assert_eq!(rt; errors.octets(), b"cannot write\n".as_slice(), "at {good}");
+        }
+    }
+    let full: TrialWriter<3> = TrialWriter::new(0, Trouble::Interruptions(0));
+    let (status, output, errors) = run(
+        rt.alloc(),
+        CHECK,
+        reader(octets.as_slice()),
+        full,
+        writer(),
+    );
+    assert_eq!(rt; status, FAILED);
+    assert_eq!(rt; output.octets(), b"1 a".as_slice());
+    assert_eq!(rt; errors.octets(), b"cannot write\n".as_slice());
+    let slow: TrialWriter<64> = TrialWriter::new(4, Trouble::Interruptions(999_999));
+    let (status, output, _) = run(rt.alloc(), CHECK, reader(octets.as_slice()), slow, writer());
+    assert_eq!(rt; status, ACCEPTED);
+    assert_eq!(rt; output.octets(), FIRST_LINE.as_bytes());
+    Ok(())
+}
+
+#[test]
+fn keeps_the_status_where_it_can_t_complain(rt: HostRuntime) {
+    let source = TrialReader::new(b"", 0, Trouble::Failure);
+    let errors: TrialWriter<64> = TrialWriter::new(5, Trouble::Failure);
+    let (status, output, errors) = run(rt.alloc(), CHECK, source, writer(), errors);
+    assert_eq!(rt; status, FAILED);
+    assert!(rt; output.octets().is_empty());
+    assert_eq!(rt; errors.octets(), b"canno".as_slice());
+}
+
+#[test]
+fn reads_sixteen_mebioctets_and_no_more(rt: HostRuntime) -> Result<(), Fail> {
+    let octets = vec![in rt.alloc(); 0u8; 16_777_217]?;
+    let marker = "1 refused at octet 0 by layer dataset on 0:00, cause 1 Marker\n";
+    for (many, want, line, told) in [
+        (16_777_216, REFUSED, marker, ""),
+        (16_777_217, FAILED, "", "cannot read\n"),
+    ] {
+        let front = octets.as_slice().get(..many).ok_or("so many octets")?;
+        let (status, output, errors) = run(
+            rt.alloc(),
+            CHECK,
+            FromRead::new(front),
+            writer(),
+            writer(),
+        );
+        assert_eq!(rt; status, want, "at {many}");
+        assert_eq!(rt; output.octets(), line.as_bytes(), "at {many}");
+        assert_eq!(rt; errors.octets(), told.as_bytes(), "at {many}");
+    }
+    Ok(())
+}
+
+#[test]
+fn lists_a_million_envelopes_and_no_more(rt: HostRuntime) -> Result<(), Fail> {
+    let alloc = rt.alloc();
+    let mut octets = Vec::with_capacity(alloc, 55_000_055)?;
+    for _ in 0..1_000_001 {
+        octets.extend_from_slice(&LEAST)?;
+    }
+    let last = "\n1000000 accepted 55 octets\n";
+    let too_many = "\n1000000 accepted 55 octets\ntoo many envelopes\n";
+    for (many, want, ending) in [
+        (55_000_000, ACCEPTED, last),
+        (55_000_055, REFUSED, too_many),
+    ] {
+        let front = octets.as_slice().get(..many).ok_or("so many octets")?;
+        let mut output = FromWrite::new(Vec::new(alloc));
+        assert_eq!(rt; list(alloc, front, &mut output), Ok(want), "at {many}");
+        assert!(rt;
+            output.into_inner().as_slice().ends_with(ending.as_bytes()),
+            "at {many}"
+        );
+    }
+    Ok(())
+}
