@@ -1,4 +1,4 @@
-use Rattle.std.proofs.Common.{rules, ◌≡◌, refl, Some, None, ◌+◌}
+use Rattle.std.proofs.Common.{rules, ◌≡◌, refl, Some, None, ◌+◌, ◌<◌, arith}
 use Rattle.iimwire.specs.Lines.{accepted_line, refused_line}
 use Rattle.iimwire.specs.Listings.{RefusedBy}
 use Rattle.iimwire.proofs.Told.{told_unsaid}
@@ -9,7 +9,7 @@ returns-in_err-say-in-Ok g c =
     let text : c.as_str.result.now ≡ accepted_line (c.args.count + 1) c.in-Ok.found.used = search rules in
     told_unsaid c.args.count c.args.rest.now (g.W.Target.state c.args.output.now) (g.W.Target.state c.say.new.output) c.as_str.result.now
     (Some c.in-Ok.found.used) c.from_residual-in_err-say-in-Ok.result c.in_err-say-in-Ok.field-0.0 c.from_residual-in_err-say-in-Ok.ensures.1
-    c.in_err-say-in-Ok.ensures.err (c.if-count-lt-MAX_ENVELOPES.true, c.in-Ok.ensures.accepted, text)
+    c.in_err-say-in-Ok.ensures.err (omega arith, c.in-Ok.ensures.accepted, text)
 
 pub returns-in_err-say-in-Err : goal.returns-in_err-say-in-Err
 returns-in_err-say-in-Err g c =
