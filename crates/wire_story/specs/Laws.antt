@@ -32,9 +32,13 @@ DeliveryMayBeCut = (x y : List ℕ) → delivered (x ++ y) ≡ delivered x ++ de
 abbrev pub StoriesLiveAsTextsSoFar : Type 0
 StoriesLiveAsTextsSoFar = (x : List ℕ) → LivesWith x ↔ ((held : ℕ) × Holds x held)
 
--- A story may end after octets exactly where they are a text, that is a text so far that holds no CR.
+-- A story may end after octets exactly where they are a text.
 abbrev pub StoriesEndAsTexts : Type 0
-StoriesEndAsTexts = (x : List ℕ) → (IsAlive StoryLanguage (map Octet x ++ End ∷ []) ↔ AreLines x) × (AreLines x ↔ Holds x 0)
+StoriesEndAsTexts = (x : List ℕ) → IsAlive StoryLanguage (map Octet x ++ End ∷ []) ↔ AreLines x
+
+-- A text so far is a text exactly where it holds no CR.
+abbrev pub TextsHoldNoReturn : Type 0
+TextsHoldNoReturn = (x : List ℕ) → AreLines x ↔ Holds x 0
 
 -- What is packed of lines that make a text is a text of these lines.
 abbrev pub PackedLinesAreAText : Type 0

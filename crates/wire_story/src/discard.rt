@@ -19,11 +19,17 @@ impl StorySink for Discard {
 
     ghost joined = { λ a b c xs ys first then. then ∙ first };
 
-    fn text(&mut self, _run: &[u8]) -> Result<(), Stop> {
+    fn text(&mut self, _run: &[u8]) -> Result<(), Stop>
+        ensures takes { IsOk result }
+        ensures same { self.new ≡ self.old }
+    {
         Ok(())
     }
 
-    fn line_end(&mut self) -> Result<(), Stop> {
+    fn line_end(&mut self) -> Result<(), Stop>
+        ensures takes { IsOk result }
+        ensures same { self.new ≡ self.old }
+    {
         Ok(())
     }
 }

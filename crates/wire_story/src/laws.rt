@@ -1,6 +1,10 @@
 //! What holds of all texts. The functions do nothing: their contracts are the laws.
 
-ghost use Rattle.wire_story.specs.Laws.{TextsHaveOneReading, TextsSoFarHaveOneReading, TextsAreDeliveredAsLines, TextsSoFarAreDeliveredAsLines, DeliveryMayBeCut, StoriesLiveAsTextsSoFar, StoriesEndAsTexts, PackedLinesAreAText, LinesOfATextMakeOne, LinesAreJoinedByLineFeeds, TextsAreCollectedAsLines};
+ghost use Rattle.std.specs.Prelude.{◌≡◌};
+ghost use Rattle.wire_story.specs.Texts.{line_end};
+ghost use Rattle.wire_story.specs.Laws.{TextsHaveOneReading, TextsSoFarHaveOneReading, TextsAreDeliveredAsLines, TextsSoFarAreDeliveredAsLines, DeliveryMayBeCut, StoriesLiveAsTextsSoFar, StoriesEndAsTexts, TextsHoldNoReturn, PackedLinesAreAText, LinesOfATextMakeOne, LinesAreJoinedByLineFeeds, TextsAreCollectedAsLines};
+
+use crate::line::LINE_END;
 
 /// Octets are the lines of a text in one way at most.
 pub fn texts_have_one_reading()
@@ -35,6 +39,16 @@ pub fn stories_live_as_texts_so_far()
 /// A story may end after octets exactly where they are a text.
 pub fn stories_end_as_texts()
     ensures { StoriesEndAsTexts }
+{}
+
+/// A text so far is a text exactly where it holds no CR.
+pub fn texts_hold_no_return()
+    ensures { TextsHoldNoReturn }
+{}
+
+/// A packer's line end is CR LF.
+pub fn line_ends_are_packed_as_return_and_feed()
+    ensures { LINE_END ≡ line_end 1 }
 {}
 
 /// What is packed of lines that make a text is a text of these lines.

@@ -19,6 +19,7 @@ pub(crate) const CR: u8 = 0x0d;
 pub const LINE_END: [u8; 2] = [CR, LF];
 
 /// Whether the octet may stand in a line.
+#[inline(always)]
 pub(crate) fn may_stand(octet: u8) -> bool
     ensures { result ≡ is_line_octet octet }
 {

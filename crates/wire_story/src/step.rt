@@ -13,6 +13,7 @@ use crate::sink::StorySink;
 const MAX_RETURNS: u8 = 2;
 
 /// The length of the longest front that lies in one line, after so many held CR.
+#[inline(always)]
 fn run_len(held: u8, octets: &[u8]) -> usize
     ensures within { result ≤ length octets.now }
     ensures line { IsLine (take result octets.now) }
@@ -31,6 +32,7 @@ fn run_len(held: u8, octets: &[u8]) -> usize
 }
 
 /// Takes an octet that is none of a line, or stands after held CR, and answers how many are held then.
+#[inline(always)]
 fn take_mark<S: StorySink>(held: u8, octet: u8, sink: &mut S) -> Result<u8, TextCause>
     requires few { held ≤ 2 }
     requires mark { held ≡ 0 → is_line_octet octet ≡ false }
@@ -62,6 +64,7 @@ fn take_mark<S: StorySink>(held: u8, octet: u8, sink: &mut S) -> Result<u8, Text
 
 /// Takes a front of the octets that are left, the longest that lies in one line, and answers how many CR are held then
 /// and how many octets it took.
+#[inline(always)]
 fn take_front<S: StorySink>(held: u8, rest: &[u8], sink: &mut S) -> Result<(u8, usize), TextFault>
     requires few { held ≤ 2 }
     requires some { 0 < length rest.now }
