@@ -9,6 +9,7 @@ use crate::{
     text_len,
 };
 use iim_dataset::{Stop, TrialWriter, Trouble};
+use std::alloc::Global;
 use std::process::Abort;
 use std::test::Fail;
 
@@ -67,6 +68,37 @@ fn read_by_octets<S: StorySink>(text: &[u8], sink: &mut S) -> Result<(), TextFau
     reader.close()
 }
 
+/// How a text is cut into runs.
+#[derive(Clone, Copy)]
+enum Cut {
+    At(usize),
+    EachOctet,
+}
+
+/// Reads a text into lines. Where a growth is refused it reads once more, so that each test bears a refusal.
+fn read_lines(alloc: Global, text: &[u8], cut: Cut) -> (Lines, Result<(), TextFault>) {
+    let mut lines = Lines::new(alloc);
+    let mut answer = read_cut(text, cut, &mut lines);
+    if let Err(
+        TextFault {
+            taken: _,
+            cause: TextCause::Sink,
+        },
+    ) = answer
+    {
+        lines = Lines::new(alloc);
+        answer = read_cut(text, cut, &mut lines);
+    }
+    (lines, answer)
+}
+
+fn read_cut<S: StorySink>(text: &[u8], cut: Cut, sink: &mut S) -> Result<(), TextFault> {
+    match cut {
+        Cut::At(at) if at <= text.len() => read_in_two(&text[..at], &text[at..], sink),
+        _ => read_by_octets(text, sink),
+    }
+}
+
 /// Whether the lines are those.
 fn has_lines(lines: &Lines, want: &[&[u8]]) -> bool {
     let mut left = lines.iter();
@@ -87,21 +119,14 @@ fn line_ends_of_each_form(rt: HostRuntime) {
         b"c".as_slice(),
         b"d".as_slice(),
     ];
-    let mut whole = Lines::new(rt.alloc());
-    assert_eq!(rt; read_in_two(FOUR, b"", &mut whole), Ok(()));
-    assert!(rt; has_lines(&whole, &want));
-    assert_eq!(rt; text_len(&whole), Some(10));
-    let mut single = Lines::new(rt.alloc());
-    assert_eq!(rt; read_by_octets(FOUR, &mut single), Ok(()));
-    assert!(rt; has_lines(&single, &want));
-    for cut in 0..=FOUR.len() {
-        let mut lines = Lines::new(rt.alloc());
-        assert_eq!(rt;
-            read_in_two(&FOUR[..cut], &FOUR[cut..], &mut lines),
-            Ok(()),
-            "at {cut}"
-        );
-        assert!(rt; has_lines(&lines, &want), "at {cut}");
+    let (lines, answer) = read_lines(rt.alloc(), FOUR, Cut::EachOctet);
+    assert_eq!(rt; answer, Ok(()));
+    assert!(rt; has_lines(&lines, &want));
+    assert_eq!(rt; text_len(&lines), Some(10));
+    for at in 0..=FOUR.len() {
+        let (lines, answer) = read_lines(rt.alloc(), FOUR, Cut::At(at));
+        assert_eq!(rt; answer, Ok(()), "at {at}");
+        assert!(rt; has_lines(&lines, &want), "at {at}");
     }
 }
 
@@ -114,18 +139,12 @@ fn refused_texts(rt: HostRuntime) {
         (b"a\r\x01".as_slice(), 2, TextCause::LoneReturn),
     ];
     for (text, taken, cause) in texts {
-        let mut whole = Lines::new(rt.alloc());
-        assert_eq!(rt;
-            read_in_two(text, b"", &mut whole),
-            Err(TextFault { taken, cause })
-        );
-        assert!(rt; has_lines(&whole, &[b"a".as_slice()]));
-        let mut single = Lines::new(rt.alloc());
-        assert_eq!(rt;
-            read_by_octets(text, &mut single),
-            Err(TextFault { taken: 0, cause })
-        );
-        assert!(rt; has_lines(&single, &[b"a".as_slice()]));
+        let (lines, answer) = read_lines(rt.alloc(), text, Cut::At(0));
+        assert_eq!(rt; answer, Err(TextFault { taken, cause }));
+        assert!(rt; has_lines(&lines, &[b"a".as_slice()]));
+        let (lines, answer) = read_lines(rt.alloc(), text, Cut::EachOctet);
+        assert_eq!(rt; answer, Err(TextFault { taken: 0, cause }));
+        assert!(rt; has_lines(&lines, &[b"a".as_slice()]));
     }
     let mut reader = TextReader::new();
     assert!(rt; !reader.is_failed());
@@ -142,10 +161,12 @@ fn refused_texts(rt: HostRuntime) {
 
 #[test]
 fn lines_filled_and_read(rt: HostRuntime) {
-    let mut lines = Lines::new(rt.alloc());
+    let (lines, answer) = read_lines(rt.alloc(), b"", Cut::At(0));
+    assert_eq!(rt; answer, Ok(()));
     assert!(rt; has_lines(&lines, &[b"".as_slice()]));
     assert_eq!(rt; text_len(&lines), Some(0));
-    assert_eq!(rt; read_in_two(RATES, b"", &mut lines), Ok(()));
+    let (lines, answer) = read_lines(rt.alloc(), RATES, Cut::At(0));
+    assert_eq!(rt; answer, Ok(()));
     assert!(rt;
         has_lines(
             &lines,
@@ -153,10 +174,10 @@ fn lines_filled_and_read(rt: HostRuntime) {
         )
     );
     assert_eq!(rt; text_len(&lines), Some(23));
-    let mut ends = Lines::new(rt.alloc());
-    assert_eq!(rt; read_by_octets(b"\n\n", &mut ends), Ok(()));
-    assert!(rt; has_lines(&ends, &[b"".as_slice(), b"".as_slice(), b"".as_slice()]));
-    assert_eq!(rt; text_len(&ends), Some(4));
+    let (lines, answer) = read_lines(rt.alloc(), b"\n\n", Cut::EachOctet);
+    assert_eq!(rt; answer, Ok(()));
+    assert!(rt; has_lines(&lines, &[b"".as_slice(), b"".as_slice(), b"".as_slice()]));
+    assert_eq!(rt; text_len(&lines), Some(4));
 }
 
 #[test]
