@@ -30,6 +30,10 @@ pub record WritesOn (old new : Device) (stops_old stops_new : ℕ) (text : List 
   pub broken : stops_old < stops_new → HasBroken old new
   pub unbroken : stops_new ≡ stops_old → stops_new + 1 < 2 ^ 64 → new.failures ≡ old.failures
 
--- A writer of lines was told these events, and wrote the octets for them.
+-- From one value to another a writer of lines wrote these octets.
+abbrev pub WritesOctets : {W : Type 0} → (W → Device) → LineWriter W → List ℕ → LineWriter W → Type 0
+WritesOctets state old octets new = WritesOn (device_of state old) (device_of state new) (stops_of old) (stops_of new) octets
+
+-- It was told these events, and wrote the octets for them.
 abbrev pub WritesLines : {W : Type 0} → (W → Device) → LineWriter W → List Event → LineWriter W → Type 0
-WritesLines state old events new = WritesOn (device_of state old) (device_of state new) (stops_of old) (stops_of new) (map octet_for events)
+WritesLines state old events new = WritesOctets state old (map octet_for events) new

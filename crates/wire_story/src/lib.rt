@@ -8,6 +8,7 @@ mod discard;
 mod fault;
 mod laws;
 mod line;
+mod line_iter;
 mod lines;
 mod reader;
 mod sink;
@@ -27,7 +28,8 @@ pub use laws::{
     texts_so_far_have_one_reading,
 };
 pub use line::{LINE_END, is_text};
-pub use lines::{LineIter, Lines};
+pub use line_iter::LineIter;
+pub use lines::Lines;
 pub use reader::TextReader;
 pub use sink::StorySink;
 pub use size::text_len;

@@ -1,15 +1,13 @@
 //! A sink that collects the lines.
 
-ghost use Rattle.std.specs.Prelude.{◌≡◌, ◌<◌, ◌==◌, ℕ, List, [], ◌∷◌, ◌++◌, length, map, take, refl, IfErr, OnOk, OnErr};
-ghost use Rattle.std.specs.Iterator.{YieldsFirstRef, item_count};
-ghost use Rattle.std.specs.List.{position_or_len};
-ghost use Rattle.std.specs.Option.{option_copied};
+ghost use Rattle.std.specs.Prelude.{◌≡◌, ◌<◌, [], ◌∷◌, length, map, take, refl, IfErr, OnOk, OnErr};
 ghost use Rattle.iim_dataset.specs.Devices.{Rose};
 ghost use Rattle.wire_story.specs.Texts.{IsLine, MakeText};
-ghost use Rattle.wire_story.specs.Delivery.{LineOctet, LineEnd};
-ghost use Rattle.wire_story.specs.Collecting.{Collected, collect, lines_in, lines_left};
+ghost use Rattle.wire_story.specs.Delivery.{LineOctet};
+ghost use Rattle.wire_story.specs.Collecting.{Collected, collect, lines_in};
 
 use crate::line::LF;
+use crate::line_iter::LineIter;
 use crate::sink::StorySink;
 use iim_dataset::Stop;
 use std::alloc::Global;
@@ -50,9 +48,7 @@ impl Lines {
         ensures lines { result ≡ self.now.lines }
         ensures text { MakeText self.now.lines }
     {
-        LineIter {
-            rest: Some(&self.octets),
-        }
+        LineIter::new(&self.octets)
     }
 
     /// The lines joined by LF.
@@ -89,8 +85,11 @@ impl StorySink for Lines {
         ensures ok { OnOk result (self.new.lines ≡ collect self.old.lines (map LineOctet run.now)) }
         ensures calm { OnOk result (self.new.failures ≡ self.old.failures) }
         ensures refused { IfErr result (λ stop. stop.taken < length run.now) }
-        ensures front { IfErr result (λ stop. self.new.lines ≡ collect self.old.lines (map LineOctet (take stop.taken run.now))) }
+        ensures front { IfErr result (λ stop.
+            self.new.lines ≡ collect self.old.lines (map LineOctet (take stop.taken run.now))) }
         ensures counted { OnErr result (Rose self.old.failures self.new.failures) }
+
+        // No growth is done by halves.
         ensures unchanged { OnErr result (self.new.lines ≡ self.old.lines) }
     {
         if run.is_empty() {
@@ -106,51 +105,6 @@ impl StorySink for Lines {
         match self.octets.push(LF) {
             Ok(()) => Ok(()),
             Err(_) => Err(self.refused()),
-        }
-    }
-}
-
-/// The lines of a text, in order. Contracts see it as the list of those that are left.
-#[derive(Debug, Drop)]
-pub struct LineIter<'a> {
-    // What is left, joined by LF, or None after the last line.
-    rest: Option<&'a [u8]>,
-}
-
-impl<'a> Model for LineIter<'a> {
-    ghost Value = { List (List ℕ) };
-
-    ghost view = { λ lines. lines_left (option_copied lines.rest) };
-}
-
-/// The length of the first line.
-fn first_len(octets: &[u8]) -> usize
-    ensures { result ≡ position_or_len (λ b. b == 10) octets.now }
-{
-    for (at, octet) in octets.iter().enumerate() {
-        if *octet == LF {
-            return at;
-        }
-    }
-    octets.len()
-}
-
-impl<'a> Iterator for LineIter<'a> {
-    type Item = &'a [u8];
-
-    ghost next_gives = { YieldsFirstRef (λ lines. lines) };
-
-    ghost remaining = { item_count (λ lines. lines) };
-
-    fn next(&mut self) -> Option<&'a [u8]> {
-        let rest = self.rest?;
-        let end = first_len(rest);
-        if end < rest.len() {
-            self.rest = Some(&rest[end + 1..]);
-            Some(&rest[..end])
-        } else {
-            self.rest = None;
-            Some(rest)
         }
     }
 }

@@ -1,6 +1,6 @@
 //! The reader of a text, for any cut into runs.
 
-ghost use Rattle.std.specs.Prelude.{◌≡◌, ◌<◌, ◌≤◌, ◌↔◌, ◌++◌, [], List, ℕ, Option, if◌then◌else◌, IsTrue, length, take, Some, None, IsSome, IfErr, OnOk, OnErr};
+ghost use Rattle.std.specs.Prelude.{◌≡◌, ◌<◌, ◌≤◌, [], List, ℕ, Option, if◌then◌else◌, is_none, length, take, Some, None, IsSome, IfErr, OnOk, OnErr};
 ghost use Rattle.wire_story.specs.Texts.{AreLines};
 ghost use Rattle.wire_story.specs.Delivery.{delivered};
 ghost use Rattle.wire_story.specs.Tokens.{End, StoryDiesAt};
@@ -42,7 +42,7 @@ impl TextReader {
 
     /// Whether a call was refused.
     pub fn is_failed(&self) -> bool
-        ensures { IsTrue result ↔ (self.now ≡ None) }
+        ensures { result ≡ is_none self.now }
     {
         self.failed
     }
@@ -61,8 +61,10 @@ impl TextReader {
         ensures failed { OnErr result (self.new ≡ None) }
         ensures before { IfErr result (λ fault. fault.taken < length piece.now) }
         ensures refused { IfErr result (Refuses self.old piece.now) }
-        ensures told_front { IfErr result (λ fault. S.goes sink.old (delivered (take fault.taken piece.now)) sink.new) }
-        ensures counted { IfErr result (λ fault. CountsCause (S.failures sink.old) (S.failures sink.new) fault.cause) }
+        ensures told_front { IfErr result (λ fault.
+            S.goes sink.old (delivered (take fault.taken piece.now)) sink.new) }
+        ensures counted { IfErr result (λ fault.
+            CountsCause (S.failures sink.old) (S.failures sink.new) fault.cause) }
     {
         match take_piece(self.held, piece, sink) {
             Ok(held) => {

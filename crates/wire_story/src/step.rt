@@ -18,7 +18,8 @@ fn run_len(held: u8, octets: &[u8]) -> usize
     ensures within { result ≤ length octets.now }
     ensures line { IsLine (take result octets.now) }
     ensures held { 0 < result → held ≡ 0 }
-    ensures longest { held ≡ 0 → result < length octets.now → is_line_octet (slice_index octets.now result) ≡ false }
+    ensures longest { held ≡ 0 → result < length octets.now →
+        is_line_octet (slice_index octets.now result) ≡ false }
 {
     if held > 0 {
         return 0;
@@ -40,7 +41,8 @@ fn take_mark<S: StorySink>(held: u8, octet: u8, sink: &mut S) -> Result<u8, Text
     ensures goes_on { IfOk result (λ now. GoesOn (Some held) (octet ∷ []) (Some now)) }
     ensures told { OnOk result (S.goes sink.old (delivered (octet ∷ [])) sink.new) }
     ensures calm { OnOk result (S.failures sink.new ≡ S.failures sink.old) }
-    ensures refused { IfErr result (λ cause. Refuses (Some held) (octet ∷ []) (record { taken = 0; cause = cause })) }
+    ensures refused { IfErr result (λ cause.
+        Refuses (Some held) (octet ∷ []) (record { taken = 0; cause = cause })) }
     ensures silent { OnErr result (S.goes sink.old [] sink.new) }
     ensures counted { IfErr result (CountsCause (S.failures sink.old) (S.failures sink.new)) }
 {
@@ -71,13 +73,17 @@ fn take_front<S: StorySink>(held: u8, rest: &[u8], sink: &mut S) -> Result<(u8, 
     ensures few { IfOk result (λ front. front.0 ≤ 2) }
     ensures some { IfOk result (λ front. 0 < front.1) }
     ensures within { IfOk result (λ front. front.1 ≤ length rest.now) }
-    ensures goes_on { IfOk result (λ front. GoesOn (Some held) (take front.1 rest.now) (Some front.0)) }
-    ensures told { IfOk result (λ front. S.goes sink.old (delivered (take front.1 rest.now)) sink.new) }
+    ensures goes_on { IfOk result (λ front.
+        GoesOn (Some held) (take front.1 rest.now) (Some front.0)) }
+    ensures told { IfOk result (λ front.
+        S.goes sink.old (delivered (take front.1 rest.now)) sink.new) }
     ensures calm { OnOk result (S.failures sink.new ≡ S.failures sink.old) }
     ensures before { IfErr result (λ fault. fault.taken < length rest.now) }
     ensures refused { IfErr result (Refuses (Some held) rest.now) }
-    ensures told_front { IfErr result (λ fault. S.goes sink.old (delivered (take fault.taken rest.now)) sink.new) }
-    ensures counted { IfErr result (λ fault. CountsCause (S.failures sink.old) (S.failures sink.new) fault.cause) }
+    ensures told_front { IfErr result (λ fault.
+        S.goes sink.old (delivered (take fault.taken rest.now)) sink.new) }
+    ensures counted { IfErr result (λ fault.
+        CountsCause (S.failures sink.old) (S.failures sink.new) fault.cause) }
 {
     let run = run_len(held, rest);
     if run > 0 {
@@ -108,8 +114,10 @@ pub(crate) fn take_piece<S: StorySink>(
     ensures calm { OnOk result (S.failures sink.new ≡ S.failures sink.old) }
     ensures before { IfErr result (λ fault. fault.taken < length piece.now) }
     ensures refused { IfErr result (Refuses (Some held) piece.now) }
-    ensures told_front { IfErr result (λ fault. S.goes sink.old (delivered (take fault.taken piece.now)) sink.new) }
-    ensures counted { IfErr result (λ fault. CountsCause (S.failures sink.old) (S.failures sink.new) fault.cause) }
+    ensures told_front { IfErr result (λ fault.
+        S.goes sink.old (delivered (take fault.taken piece.now)) sink.new) }
+    ensures counted { IfErr result (λ fault.
+        CountsCause (S.failures sink.old) (S.failures sink.new) fault.cause) }
 {
     let mut now = held;
     let mut at = 0;

@@ -17,7 +17,7 @@ pub struct LineWriter<W> {
 }
 
 impl<W: Target> LineWriter<W> {
-    ghost use Rattle.wire_story.specs.Writing.{writer_of, device_of, stops_of, WritesOn};
+    ghost use Rattle.wire_story.specs.Writing.{writer_of, device_of, stops_of, WritesOctets};
 
     /// A sink that writes lines to this target.
     pub fn new(writer: W) -> LineWriter<W>
@@ -37,11 +37,13 @@ impl<W: Target> LineWriter<W> {
 
     /// Writes octets, or those before the one at which it stops.
     fn write(&mut self, octets: &[u8]) -> Result<(), Stop>
-        ensures ok { OnOk result (WritesOn (device_of W.state self.old) (device_of W.state self.new) (stops_of self.old) (stops_of self.new) octets.now) }
+        ensures ok { OnOk result (WritesOctets W.state self.old octets.now self.new) }
         ensures calm { OnOk result (stops_of self.new ≡ stops_of self.old) }
-        ensures front { IfErr result (λ stop. WritesOn (device_of W.state self.old) (device_of W.state self.new) (stops_of self.old) (stops_of self.new) (take stop.taken octets.now)) }
+        ensures front { IfErr result (λ stop.
+            WritesOctets W.state self.old (take stop.taken octets.now) self.new) }
         ensures wrote { OnOk result (Wrote (device_of W.state self.old) (device_of W.state self.new) octets.now) }
-        ensures stopped { IfErr result (λ stop. Stopped (device_of W.state self.old) (device_of W.state self.new) octets.now stop.taken) }
+        ensures stopped { IfErr result (λ stop.
+            Stopped (device_of W.state self.old) (device_of W.state self.new) octets.now stop.taken) }
         ensures counted { OnErr result (Rose (stops_of self.old) (stops_of self.new)) }
     {
         match put(&mut self.writer, octets) {
@@ -55,7 +57,7 @@ impl<W: Target> LineWriter<W> {
 }
 
 impl<W: Target> StorySink for LineWriter<W> {
-    ghost use Rattle.wire_story.specs.Writing.{writer_of, device_of, stops_of, WritesLines};
+    ghost use Rattle.wire_story.specs.Writing.{device_of, stops_of, WritesLines};
 
     ghost goes = { WritesLines W.state };
 
@@ -66,19 +68,22 @@ impl<W: Target> StorySink for LineWriter<W> {
     ghost nothing = { λ sink. writes_nothing (device_of W.state sink) (stops_of sink) };
 
     ghost joined = { λ a b c xs ys first then.
-        writes_joined (device_of W.state a) (device_of W.state b) (device_of W.state c) (stops_of a) (stops_of b) (stops_of c) xs ys first then };
+        writes_joined (device_of W.state a) (device_of W.state b) (device_of W.state c)
+        (stops_of a) (stops_of b) (stops_of c) xs ys first then };
 
     fn text(&mut self, run: &[u8]) -> Result<(), Stop>
         requires { IsLine run.now }
         ensures ok { OnOk result (WritesLines W.state self.old (map LineOctet run.now) self.new) }
         ensures calm { OnOk result (stops_of self.new ≡ stops_of self.old) }
         ensures refused { IfErr result (λ stop. stop.taken < length run.now) }
-        ensures front { IfErr result (λ stop. WritesLines W.state self.old (map LineOctet (take stop.taken run.now)) self.new) }
+        ensures front { IfErr result (λ stop.
+            WritesLines W.state self.old (map LineOctet (take stop.taken run.now)) self.new) }
         ensures counted { OnErr result (Rose (stops_of self.old) (stops_of self.new)) }
 
         // It stops only where the target failed in this call, or was interrupted a million times in a row.
         ensures wrote { OnOk result (Wrote (device_of W.state self.old) (device_of W.state self.new) run.now) }
-        ensures stopped { IfErr result (λ stop. Stopped (device_of W.state self.old) (device_of W.state self.new) run.now stop.taken) }
+        ensures stopped { IfErr result (λ stop.
+            Stopped (device_of W.state self.old) (device_of W.state self.new) run.now stop.taken) }
     {
         self.write(run)
     }

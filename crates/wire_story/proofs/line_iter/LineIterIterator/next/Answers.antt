@@ -6,7 +6,7 @@ use Rattle.std.proofs.lemmas.List.Sums.{fails_before_first}
 use Rattle.std.proofs.lemmas.List.Elements.{All-from_get_or}
 use Rattle.wire_story.specs.Collecting.{lines_in, lines_left}
 use Rattle.wire_story.proofs.Rests.{rest_of, rest_is}
-use Rattle.wire_story.proofs.lines.LineIterIterator.next.Goals as goal
+use Rattle.wire_story.proofs.line_iter.LineIterIterator.next.Goals as goal
 
 -- the first line, and those that are left behind its LF
 first_line : (octets : List ℕ) (end : ℕ) → end ≡ position_or_len (λ b. b == 10) octets → end < length octets

@@ -1,7 +1,7 @@
 use Rattle.std.proofs.Common.{◌≡◌, ℕ, ◌==◌, true, length, get_or, sym, arith}
 use Rattle.std.proofs.lemmas.Bool.{eq-eqb}
 use Rattle.std.proofs.lemmas.List.Sums.{position_or_len_is}
-use Rattle.wire_story.proofs.lines.first_len.Goals as goal
+use Rattle.wire_story.proofs.line_iter.first_len.Goals as goal
 
 pub returns-then-octet-eq-LF : goal.returns-then-octet-eq-LF
 returns-then-octet-eq-LF c =
