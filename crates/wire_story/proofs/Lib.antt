@@ -1,0 +1,9 @@
+pub mod Spans
+pub mod Rests
+pub mod HeldReturns
+pub mod Lives
+pub mod Told
+pub mod Readings
+pub mod Pieces
+pub mod MadeTexts
+pub mod Collected

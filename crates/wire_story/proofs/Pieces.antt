@@ -1,0 +1,148 @@
+-- How a piece leads a reader on, and how it is refused.
+use Rattle.std.proofs.Common.{◌≡◌, ◌≢◌, ℕ, zero, suc, ◌+◌, ◌<◌, ◌≤◌, Bool, true, false, ◌==◌, nat_lt, ◌&&◌, List, [], ◌∷◌, ◌++◌, take, length, get_or, slice_index, Option, Some, None, refl, sym, ap, subst, ◌∙◌, arith, append-nil, append_assoc, option_and_then, get_or-drop, if◌then◌else◌}
+use Rattle.std.specs.List.{list_all}
+use Rattle.std.proofs.lemmas.Bool.{true≢false}
+use Rattle.std.proofs.lemmas.Bool.Decides.{nat_tests}
+use Rattle.wire_story.specs.Texts.{is_line_octet, IsLine, Holds}
+use Rattle.wire_story.specs.Tokens.{LivesWith}
+use Rattle.wire_story.specs.Reading.{StandsAt, GoesOn, IsLoneReturn, IsControl, HasCause, Refuses}
+use Rattle.wire_story.specs.declared.fault.TextCause.{TextCause}
+use Rattle.wire_story.specs.declared.fault.TextCause.TheVariants.{LoneReturn, ControlOctet, Sink}
+use Rattle.wire_story.specs.declared.fault.TextFault.{TextFault}
+use Rattle.wire_story.proofs.Rests.{rest_of, rest_is, take-front}
+use Rattle.wire_story.proofs.HeldReturns.{held_after, after_octet, chosen, some_is, held_line, line_octet_step}
+use Rattle.wire_story.proofs.Lives.{held_joined, held_of, holds, live_of, dies}
+
+-- ---- pieces
+
+pub goes_on : (h : ℕ) (piece : List ℕ) (k : ℕ) → held_after h piece ≡ Some k → GoesOn (Some h) piece (Some k)
+goes_on h piece k e octets w =
+    let same : w.0 ≡ h = sym (some_is h w.0 w.1) in
+    (k, refl, holds (octets ++ piece) k (held_joined 0 octets piece w.0 k (held_of octets w.0 w.2) (ap (λ n. held_after n piece) same ∙ e)))
+
+pub goes_on_in_line : (run : List ℕ) → IsLine run → GoesOn (Some 0) run (Some 0)
+goes_on_in_line run l = goes_on 0 run 0 (ap (held_after 0) (sym (append-nil run)) ∙ held_line run [] l)
+
+pub goes_on_nowhere : (old : Option ℕ) → GoesOn old [] old
+goes_on_nowhere old octets w = subst (StandsAt old) (sym (append-nil octets)) w
+
+pub goes_on_front : (old mid new : Option ℕ) (piece : List ℕ) (i k : ℕ) → GoesOn old (take i piece) mid → GoesOn mid (take k (rest_of piece i)) new → GoesOn old (take (i + k) piece) new
+goes_on_front old mid new piece i k f g octets w =
+    subst (StandsAt new) (append_assoc octets (take i piece) (take k (rest_of piece i)) ∙ ap (λ t. octets ++ t) (sym (take-front piece i k)))
+    (g (octets ++ take i piece) (f octets w))
+
+-- an octet of what is left is refused in the whole
+pub refuses_front : (old mid : Option ℕ) (piece : List ℕ) (i k : ℕ) (cause : TextCause) → GoesOn old (take i piece) mid
+    → Refuses mid (rest_of piece i) (record { taken = k; cause = cause }) → Refuses old piece (record { taken = i + k; cause = cause })
+refuses_front old mid piece i k cause f g octets w =
+    let front : (octets ++ take i piece) ++ take k (rest_of piece i) ≡ octets ++ take (i + k) piece =
+    append_assoc octets (take i piece) (take k (rest_of piece i)) ∙ ap (λ t. octets ++ t) (sym (take-front piece i k)) in
+    let octet : slice_index (rest_of piece i) k ≡ slice_index piece (i + k) = ap (λ r. slice_index r k) (rest_is piece i) ∙ get_or-drop i piece k 0 in
+    subst (λ (t : List ℕ). HasCause cause t (slice_index piece (i + k))) front
+    (subst (λ (b : ℕ). HasCause cause ((octets ++ take i piece) ++ take k (rest_of piece i)) b) octet (g (octets ++ take i piece) (f octets w)))
+
+-- ---- what an octet does
+
+lt_true : (a b : ℕ) → a < b → nat_lt a b ≡ true
+lt_true a b l = grind (arith, nat_tests)
+
+lt_false : (a b : ℕ) → b ≤ a → nat_lt a b ≡ false
+lt_false a b l = grind (arith, nat_tests)
+
+is_not : (a b : ℕ) → a ≢ b → (a == b) ≡ false
+is_not a b ne = grind (arith, nat_tests)
+
+octet_end : (held b : ℕ) → b ≡ 10 → after_octet held b ≡ Some 0
+octet_end held b e = rw e refl
+
+octet_return : (held b : ℕ) → b ≡ 13 → held < 2 → after_octet held b ≡ Some (held + 1)
+octet_return held b e l = rw (e, lt_true held 2 l) (ap Some (omega arith))
+
+octet_third : (held b : ℕ) → b ≡ 13 → 2 ≤ held → after_octet held b ≡ None
+octet_third held b e l = rw (e, lt_false held 2 l) refl
+
+chosen_other : (lf cr more line : Bool) (held : ℕ) → lf ≡ false → cr ≡ false → line ≡ false → chosen lf cr more line held ≡ None
+chosen_other true cr more line held p q r = absurd cc
+chosen_other false true more line held p q r = absurd cc
+chosen_other false false more true held p q r = absurd cc
+chosen_other false false more false held p q r = refl
+
+and_false : (a b : Bool) → b ≡ false → (a && b) ≡ false
+and_false true b e = e
+and_false false b e = refl
+
+octet_after_return : (held b : ℕ) → b ≢ 10 → b ≢ 13 → 0 < held → after_octet held b ≡ None
+octet_after_return held b n m l = chosen_other (b == 10) (b == 13) (nat_lt held 2) (is_line_octet b && (held == 0)) held (is_not b 10 n) (is_not b 13 m) (and_false (is_line_octet b) (held == 0) (is_not held 0 (omega (arith, l))))
+
+false_and : (a b : Bool) → a ≡ false → (a && b) ≡ false
+false_and true b e = absurd cc
+false_and false b e = refl
+
+octet_control : (b : ℕ) → b ≢ 10 → b ≢ 13 → is_line_octet b ≡ false → after_octet 0 b ≡ None
+octet_control b n m l = chosen_other (b == 10) (b == 13) true (is_line_octet b && true) 0 (is_not b 10 n) (is_not b 13 m) (false_and (is_line_octet b) true l)
+
+-- below 256 what is no octet of a line, nor LF or CR, is a control octet
+control : (b : ℕ) → b < 256 → b ≢ 10 → b ≢ 13 → is_line_octet b ≡ false → IsControl b
+control b l n m e = (grind (arith, nat_tests), grind (arith, nat_tests))
+
+-- ---- one octet
+
+one_octet : (held k b : ℕ) → after_octet held b ≡ Some k → GoesOn (Some held) (b ∷ []) (Some k)
+one_octet held k b e = goes_on held (b ∷ []) k (ap (option_and_then (λ n. Some n)) e)
+
+held_by : (held : ℕ) (octets : List ℕ) → StandsAt (Some held) octets → Holds (octets ++ []) held
+held_by held octets w = subst (λ (t : List ℕ). Holds t held) (sym (append-nil octets)) (subst (Holds octets) (sym (some_is held w.0 w.1)) w.2)
+
+pub goes_on_end : (held b : ℕ) → b ≡ 10 → GoesOn (Some held) (b ∷ []) (Some 0)
+goes_on_end held b e = one_octet held 0 b (octet_end held b e)
+
+pub goes_on_return : (held b : ℕ) → b ≡ 13 → held < 2 → GoesOn (Some held) (b ∷ []) (Some (held + 1))
+goes_on_return held b e l = one_octet held (held + 1) b (octet_return held b e l)
+
+lone : (held b : ℕ) → after_octet held b ≡ None → IsLoneReturn held b → Refuses (Some held) (b ∷ []) (record { taken = 0; cause = LoneReturn })
+lone held b none is octets w =
+    let h = held_by held octets w in
+    (dies (octets ++ []) held b h none, (held, h, is))
+
+pub refuses_third : (held b : ℕ) → b ≡ 13 → 2 ≤ held → held ≤ 2 → Refuses (Some held) (b ∷ []) (record { taken = 0; cause = LoneReturn })
+refuses_third held b e l m = lone held b (octet_third held b e l) (omega (arith, l), (λ f. omega (arith, e, f)), λ f. omega (arith, l, m))
+
+pub refuses_after_return : (held b : ℕ) → b ≢ 10 → b ≢ 13 → 0 < held → Refuses (Some held) (b ∷ []) (record { taken = 0; cause = LoneReturn })
+refuses_after_return held b n m l = lone held b (octet_after_return held b n m l) (l, n, λ f. absurd (m f))
+
+pub refuses_control : (held b : ℕ) → held ≡ 0 → b < 256 → b ≢ 10 → b ≢ 13 → is_line_octet b ≡ false → Refuses (Some held) (b ∷ []) (record { taken = 0; cause = ControlOctet })
+refuses_control held b z l n m e octets w =
+    let h : Holds (octets ++ []) 0 = subst (Holds (octets ++ [])) z (held_by held octets w) in
+    (dies (octets ++ []) 0 b h (octet_control b n m e), h, control b l n m e)
+
+-- an octet that may follow, and then the sink refuses it
+by_sink : (octets : List ℕ) (b k : ℕ) (new : Option ℕ) → StandsAt new (octets ++ b ∷ []) → LivesWith (octets ++ b ∷ [])
+by_sink octets b k new w = live_of (octets ++ b ∷ []) w.0 w.2
+
+pub refuses_end : (held b : ℕ) → b ≡ 10 → Refuses (Some held) (b ∷ []) (record { taken = 0; cause = Sink })
+refuses_end held b e octets w =
+    let next = goes_on_end held b e octets w in
+    (subst (λ (t : List ℕ). LivesWith (t ++ b ∷ [])) (sym (append-nil octets)) (live_of (octets ++ b ∷ []) next.0 next.2), omega (arith, e))
+
+not13 : (b : ℕ) → is_line_octet b ≡ true → b ≢ 13
+not13 b t e = absurd (true≢false (sym t ∙ ap is_line_octet e))
+
+-- octet t of a run in a line, refused by the sink
+pub refuses_in_line : (piece : List ℕ) (t : ℕ) → IsLine (take t piece) → is_line_octet (slice_index piece t) ≡ true → Refuses (Some 0) piece (record { taken = t; cause = Sink })
+refuses_in_line piece t l o octets w =
+    let b = slice_index piece t in
+    let s = goes_on_in_line (take t piece) l octets w in
+    let next = one_octet 0 0 b (line_octet_step b o) (octets ++ take t piece) s in
+    (live_of ((octets ++ take t piece) ++ b ∷ []) next.0 next.2, not13 b o)
+
+-- ---- the inside of a reader
+
+-- the inside of a reader that stands somewhere
+pub stood : (failed : Bool) (held : ℕ) (octets : List ℕ) (w : StandsAt (if failed then None else Some held) octets) → Holds octets held
+stood true held octets w = absurd cc
+stood false held octets w = subst (Holds octets) (sym (some_is held w.0 w.1)) w.2
+
+-- what is said of the held CR is said of the reader
+pub reader_goes_on : (failed : Bool) (h k : ℕ) (piece : List ℕ) → GoesOn (Some h) piece (Some k) → GoesOn (if failed then None else Some h) piece (if failed then None else Some k)
+reader_goes_on true h k piece f octets w = absurd cc
+reader_goes_on false h k piece f octets w = f octets w

@@ -1,0 +1,53 @@
+use Rattle.std.proofs.Common.{◌≡◌, ℕ, ◌+◌, ◌-◌, ◌<◌, ◌≤◌, ◌==◌, false, List, [], ◌∷◌, length, take, drop, Option, Some, Bor, refl, sym, ap, ◌∙◌, arith, get_or}
+use Rattle.std.specs.List.{position_or_len}
+use Rattle.std.specs.Option.{option_copied}
+use Rattle.std.proofs.lemmas.List.Splits.{slice_split_first, slice_split_none}
+use Rattle.std.proofs.lemmas.List.Sums.{fails_before_first}
+use Rattle.std.proofs.lemmas.List.Elements.{All-from_get_or}
+use Rattle.wire_story.specs.Collecting.{lines_in, lines_left}
+use Rattle.wire_story.proofs.Rests.{rest_of, rest_is}
+use Rattle.wire_story.proofs.line_iter.LineIterIterator.next.Goals as goal
+
+-- the first line, and those that are left behind its LF
+first_line : (octets : List ℕ) (end : ℕ) → end ≡ position_or_len (λ b. b == 10) octets → end < length octets
+    → lines_in octets ≡ take end octets ∷ lines_in (rest_of octets (end + 1))
+first_line octets end e l =
+    slice_split_first (λ b. b == 10) octets 0 (omega (arith, e, l))
+    ∙ ap (λ (n : ℕ). take n octets ∷ lines_in (drop (n + 1) octets)) (sym e)
+    ∙ ap (λ (rest : List ℕ). take end octets ∷ lines_in rest) (sym (rest_is octets (end + 1)))
+
+-- the last line
+last_line : (octets : List ℕ) (end : ℕ) → end ≡ position_or_len (λ b. b == 10) octets → length octets ≤ end → lines_in octets ≡ octets ∷ []
+last_line octets end e l =
+    slice_split_none (λ b. b == 10) octets (All-from_get_or (λ b. (b == 10) ≡ false) octets 0 (λ k within. fails_before_first (λ b. b == 10) octets k 0 (omega (arith, e, l, within))))
+
+-- what is seen of an iterator with octets left
+seen : (left : Option (Bor (List ℕ))) (rest : Bor (List ℕ)) (lines : List (List ℕ)) → lines_left (option_copied left) ≡ lines → left ≡ Some rest → lines ≡ lines_in rest.now
+seen left rest lines view is = sym view ∙ ap (λ (o : Option (Bor (List ℕ))). lines_left (option_copied o)) is
+
+pub returns-then-end-rest-clause-steps : goal.returns-then-end-rest-clause-steps
+returns-then-end-rest-clause-steps c =
+    seen c.self.inside.rest c.in_ok-rest.rest c.args.self.now c.self.view_is c.in_ok-rest.was
+    ∙ first_line c.in_ok-rest.rest.now c.first_len-end.result c.first_len-end.ensures c.if-end-rest.true
+
+pub returns-then-end-rest-clause-goes : goal.returns-then-end-rest-clause-goes
+returns-then-end-rest-clause-goes c =
+    let rest = c.in_ok-rest.rest in
+    let end = c.first_len-end.result in
+    let steps : c.args.self.now ≡ take end rest.now ∷ lines_in (rest_of rest.now (end + 1)) =
+    seen c.self.inside.rest rest c.args.self.now c.self.view_is c.in_ok-rest.was ∙ first_line rest.now end c.first_len-end.ensures c.if-end-rest.true in
+    let shorter : length (lines_in (rest_of rest.now (end + 1))) < length c.args.self.now = omega (arith, ap length steps) in
+    record { on = λ finite. (tt, tt, shorter); keeps = tt; rests = λ finite. tt }
+
+pub returns-else-end-rest-clause-steps : goal.returns-else-end-rest-clause-steps
+returns-else-end-rest-clause-steps c =
+    seen c.self.inside.rest c.in_ok-rest.rest c.args.self.now c.self.view_is c.in_ok-rest.was
+    ∙ last_line c.in_ok-rest.rest.now c.first_len-end.result c.first_len-end.ensures c.if-end-rest.false
+
+pub returns-else-end-rest-clause-goes : goal.returns-else-end-rest-clause-goes
+returns-else-end-rest-clause-goes c =
+    let rest = c.in_ok-rest.rest in
+    let steps : c.args.self.now ≡ rest.now ∷ [] =
+    seen c.self.inside.rest rest c.args.self.now c.self.view_is c.in_ok-rest.was ∙ last_line rest.now c.first_len-end.result c.first_len-end.ensures c.if-end-rest.false in
+    let shorter : 0 < length c.args.self.now = omega (arith, ap length steps) in
+    record { on = λ finite. (tt, tt, shorter); keeps = tt; rests = λ finite. tt }

@@ -1,0 +1,9 @@
+pub mod Texts
+pub mod Delivery
+pub mod Tokens
+pub mod Reading
+pub mod Writing
+pub mod Collecting
+pub mod Laws
+pub mod CollectingLaws
+pub mod WritingLaws

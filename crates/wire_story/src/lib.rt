@@ -1,0 +1,36 @@
+//! The text of a story: its lines, its line ends, and the sinks that they go to.
+//!
+//! Stands on `iim_dataset`. The crates above read a text by [`TextReader`], for any cut into runs: the sink is told exactly
+//! what is delivered of the octets so far, and a fault stands exactly where no text can go on from them.
+#![tactic(auto)]
+
+mod discard;
+mod fault;
+mod laws;
+mod line;
+mod line_iter;
+mod lines;
+mod reader;
+mod sink;
+mod size;
+mod step;
+#[cfg(test)]
+mod tests;
+mod writer;
+
+pub use discard::Discard;
+pub use fault::{TextCause, TextFault};
+pub use laws::{
+    delivery_may_be_cut, line_ends_are_packed_as_return_and_feed, lines_are_joined_by_line_feeds,
+    lines_of_a_text_make_one, packed_lines_are_a_text, stories_end_as_texts,
+    stories_live_as_texts_so_far, texts_are_collected_as_lines, texts_are_delivered_as_lines,
+    texts_have_one_reading, texts_hold_no_return, texts_so_far_are_delivered_as_lines,
+    texts_so_far_have_one_reading,
+};
+pub use line::{LINE_END, is_text};
+pub use line_iter::LineIter;
+pub use lines::Lines;
+pub use reader::TextReader;
+pub use sink::StorySink;
+pub use size::text_len;
+pub use writer::LineWriter;

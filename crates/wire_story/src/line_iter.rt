@@ -1,0 +1,64 @@
+//! The lines of a text one after the other, where they lie joined by LF.
+
+ghost use Rattle.std.specs.Prelude.{◌≡◌, ◌==◌, ℕ, List};
+ghost use Rattle.std.specs.Iterator.{YieldsFirstRef, item_count};
+ghost use Rattle.std.specs.List.{position_or_len};
+ghost use Rattle.std.specs.Option.{option_copied};
+ghost use Rattle.wire_story.specs.Collecting.{lines_in, lines_left};
+
+use crate::line::LF;
+use std::marker::Model;
+
+/// The lines of a text, in order. Contracts see it as the list of those that are left.
+#[derive(Debug, Drop)]
+pub struct LineIter<'a> {
+    // What is left, joined by LF, or None after the last line.
+    rest: Option<&'a [u8]>,
+}
+
+impl<'a> Model for LineIter<'a> {
+    ghost Value = { List (List ℕ) };
+
+    ghost view = { λ lines. lines_left (option_copied lines.rest) };
+}
+
+impl<'a> LineIter<'a> {
+    /// The lines that these octets are, joined by LF.
+    pub(crate) fn new(octets: &'a [u8]) -> LineIter<'a>
+        ensures { result ≡ lines_in octets.entry.now }
+    {
+        LineIter { rest: Some(octets) }
+    }
+}
+
+/// The length of the first line.
+fn first_len(octets: &[u8]) -> usize
+    ensures { result ≡ position_or_len (λ b. b == 10) octets.now }
+{
+    for (at, octet) in octets.iter().enumerate() {
+        if *octet == LF {
+            return at;
+        }
+    }
+    octets.len()
+}
+
+impl<'a> Iterator for LineIter<'a> {
+    type Item = &'a [u8];
+
+    ghost next_gives = { YieldsFirstRef (λ lines. lines) };
+
+    ghost remaining = { item_count (λ lines. lines) };
+
+    fn next(&mut self) -> Option<&'a [u8]> {
+        let rest = self.rest?;
+        let end = first_len(rest);
+        if end < rest.len() {
+            self.rest = Some(&rest[end + 1..]);
+            Some(&rest[..end])
+        } else {
+            self.rest = None;
+            Some(rest)
+        }
+    }
+}

@@ -1,0 +1,110 @@
+//! A sink that collects the lines.
+
+ghost use Rattle.std.specs.Prelude.{◌≡◌, ◌<◌, [], ◌∷◌, length, map, take, refl, IfErr, OnOk, OnErr};
+ghost use Rattle.iim_dataset.specs.Devices.{Rose};
+ghost use Rattle.wire_story.specs.Texts.{IsLine, MakeText};
+ghost use Rattle.wire_story.specs.Delivery.{LineOctet};
+ghost use Rattle.wire_story.specs.Collecting.{Collected, collect, lines_in};
+
+use crate::line::LF;
+use crate::line_iter::LineIter;
+use crate::sink::StorySink;
+use iim_dataset::Stop;
+use std::alloc::Global;
+use std::marker::Model;
+
+/// Lines that grow as they are told. A refused growth leaves them unchanged.
+///
+/// Contracts see them as the list of lines, one at least, and the number of refusals.
+#[derive(Drop)]
+pub struct Lines {
+    // The lines joined by LF, which stands in none of them.
+    octets: Vec<u8>,
+    failures: u64,
+}
+
+impl Model for Lines {
+    ghost Value = { Collected };
+
+    ghost view = { λ lines. record { lines = lines_in lines.octets.items; failures = lines.failures } };
+
+    ghost invariant = { λ lines. MakeText (lines_in lines.octets.items) };
+}
+
+impl Lines {
+    /// One empty line. Takes no memory.
+    pub fn new(alloc: Global) -> Lines
+        ensures lines { result.lines ≡ [] ∷ [] }
+        ensures failures { result.failures ≡ 0 }
+    {
+        Lines {
+            octets: Vec::new(alloc),
+            failures: 0,
+        }
+    }
+
+    /// The lines, in order.
+    pub fn iter(&self) -> LineIter<'_>
+        ensures lines { result ≡ self.now.lines }
+        ensures text { MakeText self.now.lines }
+    {
+        LineIter::new(&self.octets)
+    }
+
+    /// The lines joined by LF.
+    pub(crate) fn octets(&self) -> &[u8]
+        ensures { lines_in result.now ≡ self.now.lines }
+    {
+        &self.octets
+    }
+
+    /// Counts a refused growth.
+    fn refused(&mut self) -> Stop
+        ensures taken { result.taken ≡ 0 }
+        ensures lines { self.new.lines ≡ self.old.lines }
+        ensures counted { Rose self.old.failures self.new.failures }
+    {
+        self.failures = self.failures.saturating_add(1);
+        Stop { taken: 0 }
+    }
+}
+
+impl StorySink for Lines {
+    ghost goes = { λ old events new. new.lines ≡ collect old.lines events };
+
+    ghost failures = { λ sink. sink.failures };
+
+    ghost use Rattle.wire_story.specs.CollectingLaws.{collect_joined};
+
+    ghost nothing = { λ sink. refl };
+
+    ghost joined = { λ a b c xs ys first then. collect_joined a.lines b.lines c.lines xs ys first then };
+
+    fn text(&mut self, run: &[u8]) -> Result<(), Stop>
+        requires { IsLine run.now }
+        ensures ok { OnOk result (self.new.lines ≡ collect self.old.lines (map LineOctet run.now)) }
+        ensures calm { OnOk result (self.new.failures ≡ self.old.failures) }
+        ensures refused { IfErr result (λ stop. stop.taken < length run.now) }
+        ensures front { IfErr result (λ stop.
+            self.new.lines ≡ collect self.old.lines (map LineOctet (take stop.taken run.now))) }
+        ensures counted { OnErr result (Rose self.old.failures self.new.failures) }
+
+        // No growth is done by halves.
+        ensures unchanged { OnErr result (self.new.lines ≡ self.old.lines) }
+    {
+        if run.is_empty() {
+            return Ok(());
+        }
+        match self.octets.extend_from_slice(run) {
+            Ok(()) => Ok(()),
+            Err(_) => Err(self.refused()),
+        }
+    }
+
+    fn line_end(&mut self) -> Result<(), Stop> {
+        match self.octets.push(LF) {
+            Ok(()) => Ok(()),
+            Err(_) => Err(self.refused()),
+        }
+    }
+}

@@ -1,0 +1,103 @@
+//! The reader of a text, for any cut into runs.
+
+ghost use Rattle.std.specs.Prelude.{◌≡◌, ◌<◌, ◌≤◌, [], List, ℕ, Option, if◌then◌else◌, is_none, length, take, Some, None, IsSome, IfErr, OnOk, OnErr};
+ghost use Rattle.wire_story.specs.Texts.{AreLines};
+ghost use Rattle.wire_story.specs.Delivery.{delivered};
+ghost use Rattle.wire_story.specs.Tokens.{End, StoryDiesAt};
+ghost use Rattle.wire_story.specs.Reading.{StandsAt, GoesOn, Refuses, CountsCause};
+
+use crate::fault::{TextCause, TextFault};
+use crate::sink::StorySink;
+use crate::step::take_piece;
+use std::marker::Model;
+
+/// A reader of a text. It holds nothing of the text but how many CR stand at its end.
+///
+/// Contracts see it as that number, and as None after a refusal.
+#[derive(Debug, Drop)]
+pub struct TextReader {
+    held: u8,
+    failed: bool,
+}
+
+impl Model for TextReader {
+    ghost Value = { Option ℕ };
+
+    ghost view = { λ reader. if reader.failed then None else Some reader.held };
+
+    ghost invariant = { λ reader. reader.held ≤ 2 };
+}
+
+impl TextReader {
+    /// The reader of a text of which no octet has come.
+    pub fn new() -> TextReader
+        ensures takes_calls { IsSome result }
+        ensures stands { StandsAt result [] }
+    {
+        TextReader {
+            held: 0,
+            failed: false,
+        }
+    }
+
+    /// Whether a call was refused.
+    pub fn is_failed(&self) -> bool
+        ensures { result ≡ is_none self.now }
+    {
+        self.failed
+    }
+
+    /// Takes the next octets of the text, and tells the sink what is delivered of them, or of those before the refused one.
+    pub fn run<S: StorySink>(&mut self, piece: &[u8], sink: &mut S) -> Result<(), TextFault>
+        requires { IsSome self.old }
+
+        // The octets so far, with the piece, are a text so far.
+        ensures takes_calls { OnOk result (IsSome self.new) }
+        ensures goes_on { OnOk result (GoesOn self.old piece.now self.new) }
+        ensures told { OnOk result (S.goes sink.old (delivered piece.now) sink.new) }
+        ensures calm { OnOk result (S.failures sink.new ≡ S.failures sink.old) }
+
+        // With the refused octet no text can go on from them, or the sink stopped.
+        ensures failed { OnErr result (self.new ≡ None) }
+        ensures before { IfErr result (λ fault. fault.taken < length piece.now) }
+        ensures refused { IfErr result (Refuses self.old piece.now) }
+        ensures told_front { IfErr result (λ fault.
+            S.goes sink.old (delivered (take fault.taken piece.now)) sink.new) }
+        ensures counted { IfErr result (λ fault.
+            CountsCause (S.failures sink.old) (S.failures sink.new) fault.cause) }
+    {
+        match take_piece(self.held, piece, sink) {
+            Ok(held) => {
+                self.held = held;
+                Ok(())
+            }
+            Err(fault) => {
+                self.failed = true;
+                Err(fault)
+            }
+        }
+    }
+
+    /// Takes the end of the text.
+    pub fn close(&mut self) -> Result<(), TextFault>
+        requires { IsSome self.old }
+
+        // The octets so far are a text.
+        ensures unchanged { OnOk result (self.new ≡ self.old) }
+        ensures text { OnOk result ((octets : List ℕ) → StandsAt self.old octets → AreLines octets) }
+
+        // A CR is held, so no text ends here.
+        ensures failed { OnErr result (self.new ≡ None) }
+        ensures fault { IfErr result (λ fault. (fault.taken ≡ 0) × (fault.cause ≡ TextCause.LoneReturn)) }
+        ensures refused { OnErr result ((octets : List ℕ) → StandsAt self.old octets → StoryDiesAt octets End) }
+    {
+        if self.held > 0 {
+            self.failed = true;
+            return Err(TextFault {
+                taken: 0,
+                cause: TextCause::LoneReturn,
+            });
+        }
+        Ok(())
+    }
+}

@@ -1,0 +1,27 @@
+//! How long a text is where it is packed.
+
+ghost use Rattle.std.specs.Prelude.{◌≡◌, ◌≤◌, ◌↔◌, ◌==◌, length, count_by, IsSome, IfSome};
+ghost use Rattle.wire_story.specs.Texts.{packed_text, greatest_size};
+
+use crate::line::LF;
+use crate::lines::Lines;
+
+/// No object is longer.
+const MAX_SIZE: u64 = 4_294_967_295;
+
+/// How many line ends stand in lines that are joined by LF.
+fn line_ends(octets: &[u8]) -> usize
+    ensures { result ≡ count_by (λ b. b == 10) octets.now }
+{
+    octets.iter().filter(|octet| **octet == LF).count()
+}
+
+/// The number of octets of the lines joined by CR LF, or None above the greatest size of an object.
+pub fn text_len(lines: &Lines) -> Option<u64>
+    ensures len { IfSome result (λ len. len ≡ length (packed_text lines.now.lines)) }
+    ensures fits { IsSome result ↔ (length (packed_text lines.now.lines) ≤ greatest_size) }
+{
+    let octets = lines.octets();
+    let len = (octets.len() as u64).checked_add(line_ends(octets) as u64)?;
+    if len <= MAX_SIZE { Some(len) } else { None }
+}

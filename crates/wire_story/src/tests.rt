@@ -1,0 +1,275 @@
+//! Texts read in pieces, collected and written. What is expected is worked out from the format.
+
+ghost use Rattle.std.specs.Prelude.{◌≡◌, ◌++◌, OnOk};
+ghost use Rattle.wire_story.specs.Texts.{AreLines};
+ghost use Rattle.wire_story.specs.Delivery.{delivered};
+
+use crate::{
+    Discard, LINE_END, LineWriter, Lines, StorySink, TextCause, TextFault, TextReader, is_text,
+    text_len,
+};
+use iim_dataset::{Stop, TrialWriter, Trouble};
+use std::alloc::Global;
+use std::process::Abort;
+use std::test::Fail;
+
+/// Four lines, with each of the line ends.
+const FOUR: &[u8] = b"a\nb\r\nc\r\r\nd";
+
+/// A story of two lines.
+const RATES: &[u8] = b"Rates stay.\r\nNo change.";
+
+/// Counts the calls of a sink, and the octets that came.
+struct Calls {
+    calls: u32,
+    octets: usize,
+}
+
+impl StorySink for Calls {
+    ghost goes = { λ old events new. Unit {0} };
+
+    ghost failures = { λ sink. 0 };
+
+    ghost nothing = { λ sink. tt };
+
+    ghost joined = { λ a b c xs ys first then. tt };
+
+    fn text(&mut self, run: &[u8]) -> Result<(), Stop> {
+        self.calls = self.calls.wrapping_add(1);
+        self.octets = self.octets.wrapping_add(run.len());
+        Ok(())
+    }
+
+    fn line_end(&mut self) -> Result<(), Stop> {
+        self.calls = self.calls.wrapping_add(1);
+        Ok(())
+    }
+}
+
+/// Reads a text that comes in two runs, for any sink: what the contracts of this crate say to the crate above.
+fn read_in_two<S: StorySink>(front: &[u8], back: &[u8], sink: &mut S) -> Result<(), TextFault>
+    ensures text { OnOk result (AreLines (front.now ++ back.now)) }
+    ensures told { OnOk result (S.goes sink.old (delivered (front.now ++ back.now)) sink.new) }
+    ensures calm { OnOk result (S.failures sink.new ≡ S.failures sink.old) }
+{
+    let mut reader = TextReader::new();
+    reader.run(front, sink)?;
+    reader.run(back, sink)?;
+    reader.close()
+}
+
+/// Reads a text octet by octet, with an empty run before each.
+fn read_by_octets<S: StorySink>(text: &[u8], sink: &mut S) -> Result<(), TextFault> {
+    let mut reader = TextReader::new();
+    for octet in text {
+        reader.run(&[], sink)?;
+        reader.run(&[*octet], sink)?;
+    }
+    reader.close()
+}
+
+/// How a text is cut into runs.
+#[derive(Clone, Copy)]
+enum Cut {
+    At(usize),
+    EachOctet,
+}
+
+/// Reads a text into lines. Where a growth is refused it reads once more, so that each test bears a refusal.
+fn read_lines(alloc: Global, text: &[u8], cut: Cut) -> (Lines, Result<(), TextFault>) {
+    let mut lines = Lines::new(alloc);
+    let mut answer = read_cut(text, cut, &mut lines);
+    if let Err(
+        TextFault {
+            taken: _,
+            cause: TextCause::Sink,
+        },
+    ) = answer
+    {
+        lines = Lines::new(alloc);
+        answer = read_cut(text, cut, &mut lines);
+    }
+    (lines, answer)
+}
+
+fn read_cut<S: StorySink>(text: &[u8], cut: Cut, sink: &mut S) -> Result<(), TextFault> {
+    match cut {
+        Cut::At(at) if at <= text.len() => read_in_two(&text[..at], &text[at..], sink),
+        _ => read_by_octets(text, sink),
+    }
+}
+
+/// Whether the lines are those.
+fn has_lines(lines: &Lines, want: &[&[u8]]) -> bool {
+    let mut left = lines.iter();
+    for line in want {
+        match left.next() {
+            Some(found) if found == *line => {}
+            _ => return false,
+        }
+    }
+    left.next().is_none()
+}
+
+#[test]
+fn line_ends_of_each_form(rt: HostRuntime) {
+    let want = [
+        b"a".as_slice(),
+        b"b".as_slice(),
+        b"c".as_slice(),
+        b"d".as_slice(),
+    ];
+    let (lines, answer) = read_lines(rt.alloc(), FOUR, Cut::EachOctet);
+    assert_eq!(rt; answer, Ok(()));
+    assert!(rt; has_lines(&lines, &want));
+    assert_eq!(rt; text_len(&lines), Some(10));
+    for at in 0..=FOUR.len() {
+        let (lines, answer) = read_lines(rt.alloc(), FOUR, Cut::At(at));
+        assert_eq!(rt; answer, Ok(()), "at {at}");
+        assert!(rt; has_lines(&lines, &want), "at {at}");
+    }
+}
+
+#[test]
+fn refused_texts(rt: HostRuntime) {
+    let texts = [
+        (b"a\r\r\r".as_slice(), 3, TextCause::LoneReturn),
+        (b"a\x02".as_slice(), 1, TextCause::ControlOctet),
+        (b"a\r\x03".as_slice(), 2, TextCause::LoneReturn),
+        (b"a\r\x01".as_slice(), 2, TextCause::LoneReturn),
+    ];
+    for (text, taken, cause) in texts {
+        let (lines, answer) = read_lines(rt.alloc(), text, Cut::At(0));
+        assert_eq!(rt; answer, Err(TextFault { taken, cause }));
+        assert!(rt; has_lines(&lines, &[b"a".as_slice()]));
+        let (lines, answer) = read_lines(rt.alloc(), text, Cut::EachOctet);
+        assert_eq!(rt; answer, Err(TextFault { taken: 0, cause }));
+        assert!(rt; has_lines(&lines, &[b"a".as_slice()]));
+    }
+    let mut reader = TextReader::new();
+    assert!(rt; !reader.is_failed());
+    assert_eq!(rt; reader.run(b"a\r", &mut Discard), Ok(()));
+    assert_eq!(rt;
+        reader.close(),
+        Err(TextFault {
+            taken: 0,
+            cause: TextCause::LoneReturn
+        })
+    );
+    assert!(rt; reader.is_failed());
+}
+
+#[test]
+fn lines_filled_and_read(rt: HostRuntime) {
+    let (lines, answer) = read_lines(rt.alloc(), b"", Cut::At(0));
+    assert_eq!(rt; answer, Ok(()));
+    assert!(rt; has_lines(&lines, &[b"".as_slice()]));
+    assert_eq!(rt; text_len(&lines), Some(0));
+    let (lines, answer) = read_lines(rt.alloc(), RATES, Cut::At(0));
+    assert_eq!(rt; answer, Ok(()));
+    assert!(rt;
+        has_lines(
+            &lines,
+            &[b"Rates stay.".as_slice(), b"No change.".as_slice()]
+        )
+    );
+    assert_eq!(rt; text_len(&lines), Some(23));
+    let (lines, answer) = read_lines(rt.alloc(), b"\n\n", Cut::EachOctet);
+    assert_eq!(rt; answer, Ok(()));
+    assert!(rt; has_lines(&lines, &[b"".as_slice(), b"".as_slice(), b"".as_slice()]));
+    assert_eq!(rt; text_len(&lines), Some(4));
+}
+
+#[test]
+fn runs_are_passed_on_whole(rt: HostRuntime) {
+    let mut calls = Calls {
+        calls: 0,
+        octets: 0,
+    };
+    assert_eq!(rt; read_in_two(RATES, b"", &mut calls), Ok(()));
+    assert_eq!(rt; (calls.calls, calls.octets), (3, 21));
+    let Calls {
+        calls: _,
+        octets: _,
+    } = calls;
+}
+
+/// Refuses nothing but want of memory: asks again, and says what the lines were meanwhile.
+fn insist(rt: &impl Abort, lines: &mut Lines, line: &[u8]) {
+    let before = text_len(lines);
+    if is_text(line) {
+        if let Err(stop) = lines.text(line) {
+            assert_eq!(rt; stop.taken, 0);
+            assert_eq!(rt; text_len(lines), before);
+            assert_eq!(rt; lines.text(line), Ok(()));
+        }
+    }
+    let before = text_len(lines);
+    if let Err(stop) = lines.line_end() {
+        assert_eq!(rt; stop.taken, 0);
+        assert_eq!(rt; text_len(lines), before);
+        assert_eq!(rt; lines.line_end(), Ok(()));
+    }
+}
+
+#[test]
+fn growths_refused_in_turn(rt: HostRuntime) {
+    let mut lines = Lines::new(rt.alloc());
+    for _ in 0..100 {
+        insist(&rt, &mut lines, b"0123456789");
+    }
+    assert_eq!(rt; text_len(&lines), Some(1200));
+    let full = lines
+        .iter()
+        .filter(|line| *line == b"0123456789".as_slice());
+    assert_eq!(rt; full.take(200).count(), 100);
+}
+
+#[test]
+fn lines_written(rt: HostRuntime) {
+    let target: TrialWriter<16> = TrialWriter::new(100, Trouble::Failure);
+    let mut sink = LineWriter::new(target);
+    assert_eq!(rt; read_in_two(FOUR, b"", &mut sink), Ok(()));
+    assert_eq!(rt; sink.into_writer().octets(), b"a\nb\nc\nd".as_slice());
+    let target: TrialWriter<32> = TrialWriter::new(5, Trouble::Interruptions(3));
+    let mut sink = LineWriter::new(target);
+    assert_eq!(rt; read_by_octets(RATES, &mut sink), Ok(()));
+    assert_eq!(rt;
+        sink.into_writer().octets(),
+        b"Rates stay.\nNo change.".as_slice()
+    );
+}
+
+#[test]
+fn writes_that_fail(rt: HostRuntime) {
+    // how many octets are written before a write fails, and where the text is refused then
+    for (good, taken) in [(0, 0), (4, 4), (11, 12), (12, 13), (21, 22)] {
+        let target: TrialWriter<32> = TrialWriter::new(good, Trouble::Failure);
+        let mut sink = LineWriter::new(target);
+        let fault = TextFault {
+            taken,
+            cause: TextCause::Sink,
+        };
+        assert_eq!(rt; read_in_two(RATES, b"", &mut sink), Err(fault), "at {good}");
+        assert_eq!(rt; sink.into_writer().octets().len() as u64, good);
+    }
+    let full: TrialWriter<3> = TrialWriter::new(100, Trouble::Failure);
+    let mut sink = LineWriter::new(full);
+    assert_eq!(rt; sink.text(b"abcd"), Err(Stop { taken: 3 }));
+    assert_eq!(rt; sink.line_end(), Err(Stop { taken: 0 }));
+    assert_eq!(rt; sink.into_writer().octets(), b"abc".as_slice());
+}
+
+#[test]
+fn octets_that_may_stand(rt: HostRuntime) -> Result<(), Fail> {
+    for octet in 0..=255 {
+        let octet = u8::try_from(octet)?;
+        let want = ![1, 2, 3, 4, 10, 13].contains(&octet);
+        assert_eq!(rt; is_text(&[octet]), want, "at {octet}");
+    }
+    assert!(rt; is_text(b""));
+    assert!(rt; is_text(b"na\xefve \x00\x7f\xff"));
+    assert!(rt; !is_text(b"two\nlines"));
+    assert_eq!(rt; LINE_END, [13, 10]);
+    Ok(())
+}

@@ -1,0 +1,104 @@
+//! A sink that writes the lines joined by LF.
+
+ghost use Rattle.std.specs.Prelude.{◌≡◌, ◌<◌, [], ◌∷◌, length, map, take, IfErr, OnOk, OnErr};
+ghost use Rattle.iim_dataset.specs.Devices.{Rose, Wrote, Stopped};
+ghost use Rattle.wire_story.specs.Texts.{IsLine};
+ghost use Rattle.wire_story.specs.Delivery.{LineOctet, LineEnd};
+
+use crate::line::LF;
+use crate::sink::StorySink;
+use iim_dataset::{Stop, Target, put};
+
+/// A sink that writes the lines joined by LF to a target. It counts its stops up to the greatest number of 64 bits.
+#[derive(Drop)]
+pub struct LineWriter<W> {
+    writer: W,
+    stops: u64,
+}
+
+impl<W: Target> LineWriter<W> {
+    ghost use Rattle.wire_story.specs.Writing.{writer_of, device_of, stops_of, WritesOctets};
+
+    /// A sink that writes lines to this target.
+    pub fn new(writer: W) -> LineWriter<W>
+        ensures writer { writer_of result ≡ writer }
+        ensures stops { stops_of result ≡ 0 }
+    {
+        LineWriter { writer, stops: 0 }
+    }
+
+    /// The target, with what was written.
+    pub fn into_writer(self) -> W
+        ensures { result ≡ writer_of self }
+    {
+        let LineWriter { writer, stops: _ } = self;
+        writer
+    }
+
+    /// Writes octets, or those before the one at which it stops.
+    fn write(&mut self, octets: &[u8]) -> Result<(), Stop>
+        ensures ok { OnOk result (WritesOctets W.state self.old octets.now self.new) }
+        ensures calm { OnOk result (stops_of self.new ≡ stops_of self.old) }
+        ensures front { IfErr result (λ stop.
+            WritesOctets W.state self.old (take stop.taken octets.now) self.new) }
+        ensures wrote { OnOk result (Wrote (device_of W.state self.old) (device_of W.state self.new) octets.now) }
+        ensures stopped { IfErr result (λ stop.
+            Stopped (device_of W.state self.old) (device_of W.state self.new) octets.now stop.taken) }
+        ensures counted { OnErr result (Rose (stops_of self.old) (stops_of self.new)) }
+    {
+        match put(&mut self.writer, octets) {
+            Ok(()) => Ok(()),
+            Err(taken) => {
+                self.stops = self.stops.saturating_add(1);
+                Err(Stop { taken })
+            }
+        }
+    }
+}
+
+impl<W: Target> StorySink for LineWriter<W> {
+    ghost use Rattle.wire_story.specs.Writing.{device_of, stops_of, WritesLines};
+
+    ghost goes = { WritesLines W.state };
+
+    ghost failures = { stops_of };
+
+    ghost use Rattle.wire_story.specs.WritingLaws.{writes_nothing, writes_joined};
+
+    ghost nothing = { λ sink. writes_nothing (device_of W.state sink) (stops_of sink) };
+
+    ghost joined = { λ a b c xs ys first then.
+        writes_joined (device_of W.state a) (device_of W.state b) (device_of W.state c)
+        (stops_of a) (stops_of b) (stops_of c) xs ys first then };
+
+    fn text(&mut self, run: &[u8]) -> Result<(), Stop>
+        requires { IsLine run.now }
+        ensures ok { OnOk result (WritesLines W.state self.old (map LineOctet run.now) self.new) }
+        ensures calm { OnOk result (stops_of self.new ≡ stops_of self.old) }
+        ensures refused { IfErr result (λ stop. stop.taken < length run.now) }
+        ensures front { IfErr result (λ stop.
+            WritesLines W.state self.old (map LineOctet (take stop.taken run.now)) self.new) }
+        ensures counted { OnErr result (Rose (stops_of self.old) (stops_of self.new)) }
+
+        // It stops only where the target failed in this call, or was interrupted a million times in a row.
+        ensures wrote { OnOk result (Wrote (device_of W.state self.old) (device_of W.state self.new) run.now) }
+        ensures stopped { IfErr result (λ stop.
+            Stopped (device_of W.state self.old) (device_of W.state self.new) run.now stop.taken) }
+    {
+        self.write(run)
+    }
+
+    fn line_end(&mut self) -> Result<(), Stop>
+        ensures ok { OnOk result (WritesLines W.state self.old (LineEnd ∷ []) self.new) }
+        ensures calm { OnOk result (stops_of self.new ≡ stops_of self.old) }
+        ensures refused { IfErr result (λ stop. stop.taken ≡ 0) }
+        ensures front { OnErr result (WritesLines W.state self.old [] self.new) }
+        ensures counted { OnErr result (Rose (stops_of self.old) (stops_of self.new)) }
+
+        // The same of the LF.
+        ensures wrote { OnOk result (Wrote (device_of W.state self.old) (device_of W.state self.new) (10 ∷ [])) }
+        ensures stopped { OnErr result (Stopped (device_of W.state self.old) (device_of W.state self.new) (10 ∷ []) 0) }
+    {
+        self.write(&[LF])
+    }
+}
