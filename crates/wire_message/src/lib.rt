@@ -1,0 +1,15 @@
+//! The message of IPTC 7901, in our own profile: header, text and trailer, read and written.
+//!
+//! Stands on `wire_story` for the text, and on `arrayvec` for parts of a fixed room. The crates above read an object by
+//! [`MessageReader`], for any cut into pieces: what came is a message so far with this header and trailer, the sink is told
+//! exactly what is delivered of its text, and a fault stands exactly where no message, or no text, can go on.
+#![tactic(auto)]
+
+mod class;
+mod field;
+mod head;
+mod octets;
+mod writing;
+
+pub use head::MessageHead;
+pub use writing::{head_text, is_trailer, tail_text};
