@@ -1,3 +1,6 @@
 pub mod Fields
 pub mod Messages
 pub mod Canonical
+pub mod Layers
+pub mod SoFar
+pub mod Laws

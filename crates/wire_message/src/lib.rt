@@ -8,8 +8,11 @@
 mod class;
 mod field;
 mod head;
+mod laws;
 mod octets;
+mod place;
 mod writing;
 
 pub use head::MessageHead;
+pub use laws::{canonical_objects_are_messages, messages_have_one_reading};
 pub use writing::{head_text, is_trailer, tail_text};
