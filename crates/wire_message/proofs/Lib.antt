@@ -3,3 +3,8 @@ pub mod Spans
 pub mod OneReading
 pub mod Packed
 pub mod Machine
+pub mod Runs
+pub mod Transitions
+pub mod Alive
+pub mod Stops
+pub mod Goings

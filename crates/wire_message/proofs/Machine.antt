@@ -2,8 +2,8 @@
 use Rattle.std.proofs.Common.{◌≡◌, ℕ, ◌+◌, ◌<◌, ◌≤◌, Bool, true, false, ◌&&◌, ◌||◌, ◌==◌, nat_lt, cond, List, [], ◌∷◌, ◌++◌, length, Option, Some, None, refl, sym, ap, subst, ◌∙◌, arith, inl, inr, ◌⊎◌, append_assoc, append-nil, length-append, option_and_then}
 use Rattle.std.proofs.lemmas.Bool.{and_parts, and_from, or_cases, or_right, or_left, ltb-true, eqb-true, lt-ltb, and_left}
 use Rattle.arrayvec.specs.ArrayVec.{ArrayVec}
-use Rattle.wire_message.specs.Fields.{Are, IsField, is_digit, is_letter, is_alphanumeric, is_info_octet, is_trailer_octet, is_filler_octet}
-use Rattle.wire_message.specs.Messages.{Header, header_of, IsHeader, IsMessage, IsFiller, IsGap, IsTrailer, SpellsInfo, fixed_header, has_feed, is_text_octet}
+use Rattle.wire_message.specs.Fields.{Are, IsField, is_digit, is_letter, is_alphanumeric, is_info_octet, is_trailer_octet, is_filler_octet, is_text_octet}
+use Rattle.wire_message.specs.Messages.{Header, header_of, IsHeader, IsMessage, IsFiller, IsGap, IsTrailer, SpellsInfo, fixed_header, has_feed}
 use Rattle.wire_message.specs.SoFar.{Spells}
 use Rattle.wire_message.specs.declared.place.Place.{Place}
 use Rattle.wire_message.specs.declared.place.Place.TheVariants.{Filler, Source, Number, Priority, PriorityRead, Category, Words, Info, Gap, Text, Trailer, AfterEnd}
@@ -81,7 +81,7 @@ first_step s q b e = let a = and_then_place (next s b) (λ t. Some t) q e in (a.
 -- ---- runs of octets
 
 -- a part is read octet by octet
-field_run : (mk : List ℕ → Place) (test : ℕ → Bool) (most : ℕ) → ((ys : List ℕ) (b : ℕ) → test b ≡ true → length ys < most → next (mk ys) b ≡ Some (mk (ys ++ (b ∷ []))))
+pub field_run : (mk : List ℕ → Place) (test : ℕ → Bool) (most : ℕ) → ((ys : List ℕ) (b : ℕ) → test b ≡ true → length ys < most → next (mk ys) b ≡ Some (mk (ys ++ (b ∷ []))))
     → (xs ys rest : List ℕ) → Are test xs → length ys + length xs ≤ most → run (mk ys) (xs ++ rest) ≡ run (mk (ys ++ xs)) rest
 field_run mk test most step [] ys rest h le = ap (λ (u : List ℕ). run (mk u) rest) (sym (append-nil ys))
 field_run mk test most step (b ∷ xs) ys rest h le =
@@ -89,10 +89,10 @@ field_run mk test most step (b ∷ xs) ys rest h le =
     ∙ (field_run mk test most step xs (ys ++ (b ∷ [])) rest (Are-tail test b xs h) (omega (arith, length-append ys (b ∷ [])))
     ∙ ap (λ (u : List ℕ). run (mk u) rest) (append_assoc ys (b ∷ []) xs))
 
-extends : (test : ℕ → Bool) (most : ℕ) (ys : List ℕ) (b : ℕ) → test b ≡ true → length ys < most → (test b && nat_lt (length ys) most) ≡ true
+pub extends : (test : ℕ → Bool) (most : ℕ) (ys : List ℕ) (b : ℕ) → test b ≡ true → length ys < most → (test b && nat_lt (length ys) most) ≡ true
 extends test most ys b t lt = and_from (test b) (nat_lt (length ys) most) t (lt-ltb (length ys) most lt)
 
-count_run : (mk : ℕ → Place) → ((k b : ℕ) → is_filler_octet b ≡ true → k < 32 → next (mk k) b ≡ Some (mk (k + 1)))
+pub count_run : (mk : ℕ → Place) → ((k b : ℕ) → is_filler_octet b ≡ true → k < 32 → next (mk k) b ≡ Some (mk (k + 1)))
     → (xs rest : List ℕ) (k : ℕ) → Are is_filler_octet xs → k + length xs ≤ 32 → run (mk k) (xs ++ rest) ≡ run (mk (k + length xs)) rest
 count_run mk step [] rest k h le = ap (λ (n : ℕ). run (mk n) rest) (let e : k ≡ k + 0 = omega arith in e)
 count_run mk step (b ∷ xs) rest k h le =
@@ -101,7 +101,7 @@ count_run mk step (b ∷ xs) rest k h le =
     ∙ (count_run mk step xs rest (k + 1) (Are-tail is_filler_octet b xs h) (omega arith)
     ∙ ap (λ (n : ℕ). run (mk n) rest) e)
 
-fill : (k b : ℕ) → is_filler_octet b ≡ true → k < 32 → (is_filler_octet b && nat_lt k 32) ≡ true
+pub fill : (k b : ℕ) → is_filler_octet b ≡ true → k < 32 → (is_filler_octet b && nat_lt k 32) ≡ true
 fill k b t lt = and_from (is_filler_octet b) (nat_lt k 32) t (lt-ltb k 32 lt)
 
 pub reads_filler : (f rest : List ℕ) → IsFiller f → run (Filler 0) (f ++ rest) ≡ run (Filler (length f)) rest

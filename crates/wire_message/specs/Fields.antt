@@ -1,8 +1,8 @@
 -- The classes of octets that the parts of a message are made of, and parts of bounded length.
-use Rattle.std.specs.Prelude.{ℕ, ◌≤◌, Bool, ◌&&◌, ◌||◌, ◌==◌, nat_le, IsTrue, List, length}
+use Rattle.std.specs.Prelude.{ℕ, ◌≤◌, Bool, ◌&&◌, ◌||◌, ◌==◌, not, nat_le, nat_lt, IsTrue, List, length}
 use Rattle.std.specs.List.{list_all}
 use Rattle.wire_message.specs.declared.class.Class.{Class}
-use Rattle.wire_message.specs.declared.class.Class.TheVariants.{Letter, Digit, Alphanumeric, Info, Trailer, Filler}
+use Rattle.wire_message.specs.declared.class.Class.TheVariants.{Letter, Digit, Alphanumeric, Info, Trailer, Filler, Text}
 
 -- b is one of low to high
 abbrev pub within : ℕ → ℕ → ℕ → Bool
@@ -31,6 +31,10 @@ is_trailer_octet b = is_info_octet b || b == 10 || b == 13
 abbrev pub is_filler_octet : ℕ → Bool
 is_filler_octet b = b == 0 || b == 10 || b == 13 || b == 22
 
+-- To the message the text is any octets but ETX.
+abbrev pub is_text_octet : ℕ → Bool
+is_text_octet b = nat_lt b 256 && not (b == 3)
+
 -- the octets of a class
 abbrev pub is_of : Class → ℕ → Bool
 is_of Letter = is_letter
@@ -39,6 +43,7 @@ is_of Alphanumeric = is_alphanumeric
 is_of Info = is_info_octet
 is_of Trailer = is_trailer_octet
 is_of Filler = is_filler_octet
+is_of Text = is_text_octet
 
 -- Each octet passes the test.
 abbrev pub Are : (ℕ → Bool) → List ℕ → Type 0

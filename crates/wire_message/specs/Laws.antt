@@ -1,8 +1,8 @@
 -- What holds of all messages.
 use Rattle.std.specs.Prelude.{◌≡◌, ℕ, List}
 use Rattle.wire_story.specs.Texts.{packed_text, IsText}
-use Rattle.wire_message.specs.Fields.{Are}
-use Rattle.wire_message.specs.Messages.{Header, IsHeader, IsTrailer, IsMessage, is_text_octet}
+use Rattle.wire_message.specs.Fields.{Are, is_text_octet}
+use Rattle.wire_message.specs.Messages.{Header, IsHeader, IsTrailer, IsMessage}
 use Rattle.wire_message.specs.Canonical.{canonical}
 
 -- An object is a message in one way at most.

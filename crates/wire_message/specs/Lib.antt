@@ -3,4 +3,5 @@ pub mod Messages
 pub mod Canonical
 pub mod Layers
 pub mod SoFar
+pub mod Reading
 pub mod Laws

@@ -1,7 +1,7 @@
 -- The message: filler, SOH, header, gap, STX, text, ETX, trailer, EOT, filler.
-use Rattle.std.specs.Prelude.{◌≡◌, ℕ, Bool, not, ◌&&◌, ◌==◌, nat_lt, ◌⊎◌, IsTrue, List, [], ◌∷◌, ◌++◌}
+use Rattle.std.specs.Prelude.{◌≡◌, ℕ, Bool, ◌==◌, ◌⊎◌, IsTrue, List, [], ◌∷◌, ◌++◌}
 use Rattle.std.specs.List.{list_any}
-use Rattle.wire_message.specs.Fields.{Are, IsField, is_digit, is_letter, is_alphanumeric, is_info_octet, is_trailer_octet, is_filler_octet}
+use Rattle.wire_message.specs.Fields.{Are, IsField, is_digit, is_letter, is_alphanumeric, is_info_octet, is_trailer_octet, is_filler_octet, is_text_octet}
 
 -- what a header says
 pub record Header : Type 0 where
@@ -41,10 +41,6 @@ has_feed xs = list_any (λ b. b == 10) xs
 -- A gap: filler octets, at least one of them LF.
 abbrev pub IsGap : List ℕ → Type 0
 IsGap xs = IsField is_filler_octet 1 32 xs × IsTrue (has_feed xs)
-
--- To the message the text is any octets but ETX.
-abbrev pub is_text_octet : ℕ → Bool
-is_text_octet b = nat_lt b 256 && not (b == 3)
 
 -- nothing for an empty info, or SP and the info
 abbrev pub SpellsInfo : List ℕ → List ℕ → Type 0

@@ -2,8 +2,8 @@
 use Rattle.std.specs.Prelude.{◌≡◌, ℕ, ◌≤◌, ◌||◌, nat_lt, IsTrue, IsSome, List, [], ◌∷◌, ◌++◌, length}
 use Rattle.wire_story.specs.Texts.{AreLines}
 use Rattle.wire_story.specs.Reading as story
-use Rattle.wire_message.specs.Fields.{Are, IsField, is_digit, is_letter, is_alphanumeric, is_filler_octet}
-use Rattle.wire_message.specs.Messages.{IsHeader, IsTrailer, IsFiller, IsGap, IsMessage, SpellsInfo, fixed_header, has_feed, is_text_octet}
+use Rattle.wire_message.specs.Fields.{Are, IsField, is_digit, is_letter, is_alphanumeric, is_filler_octet, is_text_octet}
+use Rattle.wire_message.specs.Messages.{IsHeader, IsTrailer, IsFiller, IsGap, IsMessage, SpellsInfo, fixed_header, has_feed}
 use Rattle.wire_message.specs.declared.place.Place.{Place}
 use Rattle.wire_message.specs.declared.place.Place.TheVariants.{Filler, Source, Number, Priority, PriorityRead, Category, Words, Info, Gap, Text, Trailer, AfterEnd}
 

@@ -3,7 +3,7 @@
 ghost use Rattle.std.specs.Prelude.{◌≡◌};
 ghost use Rattle.wire_message.specs.Fields.{is_letter, is_digit, is_info_octet, is_filler_octet, is_of};
 
-use crate::octets::{CR, LF, SYN};
+use crate::octets::{CR, ETX, LF, SYN};
 
 /// A class of octets.
 #[derive(Clone, Copy, Debug, PartialEq, Eq)]
@@ -20,6 +20,8 @@ pub(crate) enum Class {
     Trailer,
     /// NUL, LF, CR and SYN.
     Filler,
+    /// Any but ETX.
+    Text,
 }
 
 #[inline(always)]
@@ -62,5 +64,6 @@ pub(crate) fn is_in(class: Class, octet: u8) -> bool
         Class::Info => printable(octet),
         Class::Trailer => printable(octet) || octet == LF || octet == CR,
         Class::Filler => filler(octet),
+        Class::Text => octet != ETX,
     }
 }

@@ -1,9 +1,9 @@
 //! The header of a message.
 
-ghost use Rattle.std.specs.Prelude.{◌≡◌, ◌↔◌, IsTrue, IsSome, IfSome};
+ghost use Rattle.std.specs.Prelude.{◌≡◌, ◌↔◌, ◌≤◌, ◌<◌, ◌+◌, ◌++◌, [], false, length, take, slice_index, IsTrue, IsSome, IfSome};
 
 use crate::class::Class;
-use crate::field::{is_field, kept};
+use crate::field::{is_field, kept, take_run};
 use arrayvec::ArrayVec;
 use std::marker::Model;
 
@@ -31,7 +31,7 @@ impl Model for MessageHead {
 }
 
 ghost use Rattle.wire_message.specs.Messages.{header_of, IsHeader};
-ghost use Rattle.wire_message.specs.Fields.{is_letter, is_digit, is_alphanumeric, is_info_octet, IsField};
+ghost use Rattle.wire_message.specs.Fields.{is_letter, is_digit, is_alphanumeric, is_info_octet, Are, IsField};
 
 /// Whether the parts are those of a header.
 fn is_header(
@@ -88,6 +88,41 @@ impl MessageHead {
             words: kept(words),
             info: kept(info),
         })
+    }
+
+    /// The header of these parts, its info empty so far.
+    pub(crate) fn begun(
+        source: ArrayVec<u8, 8>,
+        number: ArrayVec<u8, 8>,
+        priority: ArrayVec<u8, 1>,
+        category: ArrayVec<u8, 8>,
+        words: ArrayVec<u8, 6>,
+    ) -> MessageHead
+        requires { IsHeader (header_of source.items number.items priority.items category.items words.items []) }
+        ensures parts { result ≡ header_of source.items number.items priority.items category.items words.items [] }
+        ensures is_header { IsHeader result }
+    {
+        MessageHead {
+            source,
+            number,
+            priority,
+            category,
+            words,
+            info: ArrayVec::new(),
+        }
+    }
+
+    /// Lengthens the info by the octets of it that follow, as many as there is room for, and answers how many.
+    pub(crate) fn take_info(&mut self, octets: &[u8]) -> usize
+        ensures within { result ≤ length octets.now }
+        ensures class { Are is_info_octet (take result octets.now) }
+        ensures lengthened { self.new ≡ record self.old { info = self.old.info ++ take result octets.now } }
+        ensures fits { length self.old.info + result ≤ 64 }
+        ensures is_header { IsHeader self.new }
+        ensures longest { result ≡ 0 → 0 < length octets.now → length self.old.info < 64 →
+            is_info_octet (slice_index octets.now 0) ≡ false }
+    {
+        take_run(&mut self.info, Class::Info, octets)
     }
 
     /// The source: 1 to 8 letters.

@@ -6,13 +6,17 @@
 #![tactic(auto)]
 
 mod class;
+mod fault;
 mod field;
 mod head;
 mod laws;
 mod octets;
 mod place;
+mod step;
+mod tail;
 mod writing;
 
+pub use fault::{MessageCause, MessageFault};
 pub use head::MessageHead;
 pub use laws::{canonical_objects_are_messages, messages_have_one_reading};
 pub use writing::{head_text, is_trailer, tail_text};
