@@ -35,9 +35,9 @@ pub words_to_gap : (s n p c w v : ArrayVec ℕ) (h : Header) (rest : List ℕ) (
 words_to_gap s n p c w v h rest feed some same head i fills e =
     went_one (Words s n p c w) (Gap h 1 feed) rest some (i, omega arith, omega arith, or_right feed true refl)
     (λ before text l.
-        subst (λ (f : Bool). Spells (before ++ (slice_index rest 0 ∷ [])) text (Gap h 1 f)) (sym e)
-        (subst (λ (k : Header). Spells (before ++ (slice_index rest 0 ∷ [])) text (Gap k 1 (slice_index rest 0 == 10))) (sym (head ∙ ap (begun s n p c) same))
-        (words_gap before text s n p c w (slice_index rest 0) fills l)))
+    subst (λ (f : Bool). Spells (before ++ (slice_index rest 0 ∷ [])) text (Gap h 1 f)) (sym e)
+    (subst (λ (k : Header). Spells (before ++ (slice_index rest 0 ∷ [])) text (Gap k 1 (slice_index rest 0 == 10))) (sym (head ∙ ap (begun s n p c) same))
+    (words_gap before text s n p c w (slice_index rest 0) fills l)))
     (λ text l. l)
 
 pub info_to_gap : (h k : Header) (rest : List ℕ) (feed : Bool) → 0 < length rest → k ≡ h → IsHeader h
@@ -45,9 +45,9 @@ pub info_to_gap : (h k : Header) (rest : List ℕ) (feed : Bool) → 0 < length 
 info_to_gap h k rest feed some same i fills e =
     went_one (Info h) (Gap k 1 feed) rest some (subst IsHeader (sym same) i, omega arith, omega arith, or_right feed true refl)
     (λ before text l.
-        subst (λ (f : Bool). Spells (before ++ (slice_index rest 0 ∷ [])) text (Gap k 1 f)) (sym e)
-        (subst (λ (g : Header). Spells (before ++ (slice_index rest 0 ∷ [])) text (Gap g 1 (slice_index rest 0 == 10))) (sym same)
-        (info_gap before text h (slice_index rest 0) fills l)))
+    subst (λ (f : Bool). Spells (before ++ (slice_index rest 0 ∷ [])) text (Gap k 1 f)) (sym e)
+    (subst (λ (g : Header). Spells (before ++ (slice_index rest 0 ∷ [])) text (Gap g 1 (slice_index rest 0 == 10))) (sym same)
+    (info_gap before text h (slice_index rest 0) fills l)))
     (λ text l. l)
 
 pub gap_on : (h : Header) (k : ℕ) (feed now : Bool) (rest : List ℕ) → 0 < length rest → IsPlace (Gap h k feed) → gap_goes_on k feed (slice_index rest 0) ≡ true
@@ -68,8 +68,8 @@ gap_ends h k feed reader rest some i j stands on =
     let parts = and_parts (b == 2) feed on in
     went_one (Gap h k feed) (Text h reader) rest some j
     (λ before text l.
-        subst (λ (n : ℕ). Spells (before ++ (n ∷ [])) text (Text h reader)) (sym (eqb-true b 2 parts.0))
-        (gap_stx before text h k reader i.1 i.2 (subst (λ (f : Bool). Spells before text (Gap h k f)) parts.1 l)))
+    subst (λ (n : ℕ). Spells (before ++ (n ∷ [])) text (Text h reader)) (sym (eqb-true b 2 parts.0))
+    (gap_stx before text h k reader i.1 i.2 (subst (λ (f : Bool). Spells before text (Gap h k f)) parts.1 l)))
     (λ text none. subst (story.StandsAt reader) (sym none) stands)
 
 pub trailer_on : (h : Header) (t v : ArrayVec ℕ) (rest : List ℕ) (n : ℕ) → 0 < n → n ≤ length rest → IsPlace (Trailer h t) → Are is_trailer_octet (take n rest)
@@ -88,8 +88,8 @@ pub trailer_ends : (h : Header) (t v : ArrayVec ℕ) (rest : List ℕ) → 0 < l
 trailer_ends h t v rest some i same eot =
     went_one (Trailer h t) (AfterEnd h v 0) rest some (i.0, subst (λ (u : ArrayVec ℕ). IsTrailer u.items) (sym same) i.1, omega arith)
     (λ before text l.
-        subst (λ (n : ℕ). Spells (before ++ (n ∷ [])) text (AfterEnd h v 0)) (sym eot)
-        (subst (λ (u : ArrayVec ℕ). Spells (before ++ (4 ∷ [])) text (AfterEnd h u 0)) (sym same) (trailer_eot before text h t i.0 i.1 l)))
+    subst (λ (n : ℕ). Spells (before ++ (n ∷ [])) text (AfterEnd h v 0)) (sym eot)
+    (subst (λ (u : ArrayVec ℕ). Spells (before ++ (4 ∷ [])) text (AfterEnd h u 0)) (sym same) (trailer_eot before text h t i.0 i.1 l)))
     (λ text l. l)
 
 pub end_on : (h : Header) (t : ArrayVec ℕ) (k : ℕ) (rest : List ℕ) → 0 < length rest → IsPlace (AfterEnd h t k) → (is_filler_octet (slice_index rest 0) && nat_lt k 32) ≡ true → Went (AfterEnd h t k) rest (AfterEnd h t (k + 1)) 1

@@ -8,3 +8,6 @@ pub mod Transitions
 pub mod Alive
 pub mod Stops
 pub mod Goings
+pub mod Rests
+pub mod TextSoFar
+pub mod Readings

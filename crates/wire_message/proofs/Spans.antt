@@ -1,7 +1,9 @@
 -- What of a list passes a test, up to the first element that doesn't.
-use Rattle.std.proofs.Common.{◌≡◌, ℕ, Bool, true, false, List, [], ◌∷◌, ◌++◌, refl, ap, ◌∙◌}
+use Rattle.std.proofs.Common.{◌≡◌, ℕ, ◌<◌, length, take, slice_index, Bool, true, false, List, [], ◌∷◌, ◌++◌, refl, ap, ◌∙◌}
 use Rattle.std.proofs.lemmas.Bool.{and_parts, and_from, both_ways}
 use Rattle.std.specs.List.{list_all}
+use Rattle.std.proofs.lemmas.List.Sums.{AllPass-from_list_all, list_all-from_AllPass}
+use Rattle.std.proofs.lemmas.List.Elements.{All-take}
 use Rattle.wire_message.specs.Fields.{Are}
 
 pub Are-head : (p : ℕ → Bool) (b : ℕ) (bs : List ℕ) → Are p (b ∷ bs) → p b ≡ true
@@ -46,3 +48,9 @@ span p a b c d x y pa pb pc pd e =
 pub no_stop : (p : ℕ → Bool) (b : List ℕ) (d : ℕ) (y : List ℕ) → Are p (b ++ (d ∷ y)) → p d ≡ false → ⊥
 no_stop p [] d y h pd = both_ways (p d) pd (Are-head p d y h)
 no_stop p (b ∷ bs) d y h pd = no_stop p bs d y (Are-tail p b (bs ++ (d ∷ y)) h) pd
+
+pub Are-take : (p : ℕ → Bool) (n : ℕ) (xs : List ℕ) → Are p xs → Are p (take n xs)
+Are-take p n xs h = list_all-from_AllPass p (take n xs) (All-take (λ x. p x ≡ true) n xs (AllPass-from_list_all p xs h))
+
+pub Are-at : (p : ℕ → Bool) (xs : List ℕ) (i : ℕ) → Are p xs → i < length xs → p (slice_index xs i) ≡ true
+Are-at p xs i h l = AllPass-from_list_all p xs h i 0 l

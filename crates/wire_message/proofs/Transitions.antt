@@ -37,10 +37,10 @@ header_from s n p c w h e k = subst IsHeader (sym e) k
 join1 : (a f r ys : List ℕ) → (a ++ (1 ∷ (f ++ r))) ++ ys ≡ a ++ (1 ∷ (f ++ (r ++ ys)))
 join1 a f r ys = append_assoc a (1 ∷ (f ++ r)) ys ∙ ap (λ (u : List ℕ). a ++ (1 ∷ u)) (append_assoc f r ys)
 
-join2 : (a f i g ys : List ℕ) → (a ++ (1 ∷ (f ++ (i ++ g)))) ++ ys ≡ a ++ (1 ∷ (f ++ (i ++ (g ++ ys))))
+pub join2 : (a f i g ys : List ℕ) → (a ++ (1 ∷ (f ++ (i ++ g)))) ++ ys ≡ a ++ (1 ∷ (f ++ (i ++ (g ++ ys))))
 join2 a f i g ys = join1 a f (i ++ g) ys ∙ ap (λ (u : List ℕ). a ++ (1 ∷ (f ++ u))) (append_assoc i g ys)
 
-join3 : (a f i g x ys : List ℕ) → (a ++ (1 ∷ (f ++ (i ++ (g ++ (2 ∷ x)))))) ++ ys ≡ a ++ (1 ∷ (f ++ (i ++ (g ++ (2 ∷ (x ++ ys))))))
+pub join3 : (a f i g x ys : List ℕ) → (a ++ (1 ∷ (f ++ (i ++ (g ++ (2 ∷ x)))))) ++ ys ≡ a ++ (1 ∷ (f ++ (i ++ (g ++ (2 ∷ (x ++ ys))))))
 join3 a f i g x ys = join2 a f i (g ++ (2 ∷ x)) ys ∙ ap (λ (u : List ℕ). a ++ (1 ∷ (f ++ (i ++ u)))) (append_assoc g (2 ∷ x) ys)
 
 join4 : (a f i g x t ys : List ℕ) → (a ++ (1 ∷ (f ++ (i ++ (g ++ (2 ∷ (x ++ (3 ∷ t)))))))) ++ ys ≡ a ++ (1 ∷ (f ++ (i ++ (g ++ (2 ∷ (x ++ (3 ∷ (t ++ ys))))))))

@@ -1,9 +1,11 @@
 -- Where a reader of messages stands, and why it refuses an octet.
-use Rattle.std.specs.Prelude.{◌≡◌, ◌≢◌, ℕ, ◌<◌, ◌≤◌, List, [], ◌∷◌, ◌++◌, length, take, slice_index, Option, Some, None}
+use Rattle.std.specs.Prelude.{◌≡◌, ◌≢◌, ℕ, ◌<◌, ◌≤◌, List, [], ◌∷◌, ◌++◌, length, take, slice_index, Bool, true, false, Option, Some, None}
 use Rattle.iim_dataset.specs.Devices.{Rose}
 use Rattle.wire_story.specs.Texts.{AreLines, Holds}
 use Rattle.wire_story.specs.Delivery.{Event, delivered}
 use Rattle.wire_story.specs.Tokens.{Octet}
+use Rattle.wire_story.specs.declared.fault.TextCause.{TextCause}
+use Rattle.wire_story.specs.declared.fault.TextCause.TheVariants as text_cause
 use Rattle.wire_message.specs.Messages.{Header, IsMessage}
 use Rattle.wire_message.specs.Layers.{MessageLivesWith, MessageDiesAt, text_so_far, StoryLivesIn}
 use Rattle.wire_message.specs.SoFar.{IsPlace, Spells, StoryStands, LeadTo}
@@ -38,6 +40,12 @@ ToldFront goes before old piece after = (more : List ℕ) × goes before (delive
 abbrev pub StoryDiesWith : List ℕ → ℕ → Type 0
 StoryDiesWith octets octet = StoryLivesIn octets × (StoryLivesIn (octets ++ octet ∷ []) → ⊥)
 
+-- the cause of a message for a cause of its text
+abbrev pub cause_of : TextCause → MessageCause
+cause_of text_cause.LoneReturn = LoneReturn
+cause_of text_cause.ControlOctet = ControlOctet
+cause_of text_cause.Sink = Sink
+
 -- Why an octet is refused after others: the message dies with it, or else the story, or else the sink stopped.
 abbrev pub HasCause : MessageCause → List ℕ → ℕ → Type 0
 HasCause BadOctet octets octet = MessageDiesAt octets (Octet octet)
@@ -71,12 +79,22 @@ trailer_read (Some (Trailer h t)) = t.items
 trailer_read (Some (AfterEnd h t count)) = t.items
 trailer_read _ = []
 
+-- whether EOT has come
+abbrev pub is_ended : Option Place → Bool
+is_ended (Some (AfterEnd h t count)) = true
+is_ended _ = false
+
 -- The octets are a message of the header and the trailer that were read, and of a text.
 abbrev pub IsWhole : Option Place → Type 0
 IsWhole reader = (octets text : List ℕ) → StandsAt reader octets text
     → (head : Header) × (head_read reader ≡ Some head) × IsMessage octets head text (trailer_read reader) × AreLines text
 
 -- ---- one place and the next
+
+-- It is not the text that is being read.
+abbrev pub IsNoText : Place → Type 0
+IsNoText (Text h reader) = ⊥
+IsNoText _ = Unit {0}
 
 -- What octets add to a place, where they add nothing to the text.
 abbrev pub Adds : Place → List ℕ → Place → Type 0

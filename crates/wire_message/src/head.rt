@@ -125,6 +125,20 @@ impl MessageHead {
         take_run(&mut self.info, Class::Info, octets)
     }
 
+    /// The same header once more.
+    pub(crate) fn copied(&self) -> MessageHead
+        ensures { result ≡ self.now }
+    {
+        MessageHead {
+            source: kept(&self.source),
+            number: kept(&self.number),
+            priority: kept(&self.priority),
+            category: kept(&self.category),
+            words: kept(&self.words),
+            info: kept(&self.info),
+        }
+    }
+
     /// The source: 1 to 8 letters.
     pub fn source(&self) -> &[u8]
         ensures part { result.now ≡ self.now.source }

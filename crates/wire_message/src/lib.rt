@@ -11,12 +11,16 @@ mod field;
 mod head;
 mod laws;
 mod octets;
+mod piece;
 mod place;
+mod reader;
 mod step;
 mod tail;
+mod text;
 mod writing;
 
 pub use fault::{MessageCause, MessageFault};
 pub use head::MessageHead;
 pub use laws::{canonical_objects_are_messages, messages_have_one_reading};
+pub use reader::MessageReader;
 pub use writing::{head_text, is_trailer, tail_text};

@@ -18,20 +18,9 @@ pub(crate) enum Place {
     /// Source, number, SP and priority.
     PriorityRead(ArrayVec<u8, 8>, ArrayVec<u8, 8>, ArrayVec<u8, 1>),
     /// All up to the second SP, and the category.
-    Category(
-        ArrayVec<u8, 8>,
-        ArrayVec<u8, 8>,
-        ArrayVec<u8, 1>,
-        ArrayVec<u8, 8>,
-    ),
+    Category(ArrayVec<u8, 8>, ArrayVec<u8, 8>, ArrayVec<u8, 1>, ArrayVec<u8, 8>),
     /// All up to the third SP, and the words.
-    Words(
-        ArrayVec<u8, 8>,
-        ArrayVec<u8, 8>,
-        ArrayVec<u8, 1>,
-        ArrayVec<u8, 8>,
-        ArrayVec<u8, 6>,
-    ),
+    Words(ArrayVec<u8, 8>, ArrayVec<u8, 8>, ArrayVec<u8, 1>, ArrayVec<u8, 8>, ArrayVec<u8, 6>),
     /// The header, its info begun by SP.
     Info(MessageHead),
     /// The header, and so many octets of the gap, with an LF among them or not yet.
