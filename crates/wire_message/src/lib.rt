@@ -16,6 +16,8 @@ mod place;
 mod reader;
 mod step;
 mod tail;
+#[cfg(test)]
+mod tests;
 mod text;
 mod writing;
 
