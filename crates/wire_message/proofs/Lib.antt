@@ -1,0 +1,13 @@
+pub mod Written
+pub mod Spans
+pub mod OneReading
+pub mod Packed
+pub mod Machine
+pub mod Runs
+pub mod Transitions
+pub mod Alive
+pub mod Stops
+pub mod Goings
+pub mod Rests
+pub mod TextSoFar
+pub mod Readings

@@ -1,0 +1,196 @@
+-- What a piece does to a reader that stands at a place, and to the story in it.
+use Rattle.std.proofs.Common.{◌≡◌, ℕ, zero, suc, ◌+◌, ◌<◌, ◌≤◌, true, false, not, ◌&&◌, ◌==◌, nat_lt, List, [], ◌∷◌, ◌++◌, length, take, slice_index, Option, Some, None, map, refl, sym, ap, subst, ◌∙◌, arith, append_assoc, append-nil}
+use Rattle.std.specs.Prelude.{IsSome, ◌↔◌}
+use Rattle.std.proofs.lemmas.Bool.Decides.{nat_tests}
+use Rattle.std.proofs.lemmas.List.Concat.{flat_map-append}
+use Rattle.wire_story.specs.Texts.{AreLines, Holds}
+use Rattle.wire_story.specs.Delivery.{Event, delivered, events_of}
+use Rattle.wire_story.specs.Tokens.{OctetOrEnd, Octet, End, IsAlive, StoryLanguage, LivesWith, StoryDiesAt}
+use Rattle.wire_story.specs.Laws.{StoriesLiveAsTextsSoFar, TextsHoldNoReturn, StoriesEndAsTexts}
+use Rattle.wire_story.specs.Reading as story
+use Rattle.wire_story.specs.declared.reader.TextReader.{TextReader}
+use Rattle.wire_story.specs.declared.fault.TextCause.{TextCause}
+use Rattle.wire_story.specs.declared.fault.TextCause.TheVariants as text_cause
+use Rattle.wire_message.specs.Fields.{Are, is_text_octet}
+use Rattle.wire_message.specs.Messages.{Header, IsHeader, IsMessage}
+use Rattle.wire_message.specs.Layers.{MessageLivesWith, MessageDiesAt}
+use Rattle.wire_message.specs.SoFar.{IsPlace, Spells, StoryStands, LeadTo}
+use Rattle.wire_message.specs.Reading.{StandsAt, GoesOn, GoesSomewhere, Refuses, HasCause, cause_of, StoryDiesWith, Went, DiesWith, IsWhole, is_ended, head_read, trailer_read}
+use Rattle.wire_message.specs.declared.fault.MessageCause.{MessageCause}
+use Rattle.wire_message.specs.declared.fault.MessageCause.TheVariants.{BadOctet, LoneReturn}
+use Rattle.wire_message.specs.declared.place.Place.{Place}
+use Rattle.wire_message.specs.declared.place.Place.TheVariants.{Filler, Source, Number, Priority, PriorityRead, Category, Words, Info, Gap, Text, Trailer, AfterEnd}
+use Rattle.wire_message.proofs.Machine.{of}
+use Rattle.wire_message.proofs.Spans.{Are-append}
+use Rattle.wire_message.proofs.Transitions.{text_more, text_etx, one_is, field_none}
+use Rattle.wire_message.proofs.Alive.{message_lives, map_snoc, message_unfinished, IsAfterEnd}
+use Rattle.wire_message.proofs.Runs.{unread}
+use Rattle.wire_message.proofs.TextSoFar.{text_is, tokens_are, tokens_at_etx}
+use Rattle.wire_message.proofs.Rests.{rest_of, rest_is, take-front}
+use Rattle.std.proofs.lemmas.List.{get_or-drop}
+
+-- ---- histories of a place
+
+same_place : (p q : Place) → ◌≡◌ {A = Option Place} (Some p) (Some q) → q ≡ p
+same_place p q e = cc
+
+pub goes_on_of : (p q : Place) (piece more : List ℕ) → ((octets text : List ℕ) → LeadTo octets text p → LeadTo (octets ++ piece) (text ++ more) q) → GoesOn (Some p) piece more (Some q)
+goes_on_of p q piece more f octets text s = (q, refl, f octets text (subst (LeadTo octets text) (same_place p s.0 s.1) s.2))
+
+pub goes_somewhere_of : (p : Place) (piece more : List ℕ) → ((octets text : List ℕ) → LeadTo octets text p → (q : Place) × LeadTo (octets ++ piece) (text ++ more) q) → GoesSomewhere (Some p) piece more
+goes_somewhere_of p piece more f octets text s = f octets text (subst (LeadTo octets text) (same_place p s.0 s.1) s.2)
+
+pub refuses_of : (p : Place) (rest : List ℕ) (taken : ℕ) (cause : MessageCause) → ((octets text : List ℕ) → LeadTo octets text p → HasCause cause (octets ++ take taken rest) (slice_index rest taken))
+    → Refuses (Some p) rest (record { taken = taken; cause = cause })
+refuses_of p rest taken cause f octets text s = f octets text (subst (LeadTo octets text) (same_place p s.0 s.1) s.2)
+
+-- ---- where nothing is added to the text
+
+pub leads_by : (p q : Place) (rest : List ℕ) (n : ℕ) → Went p rest q n → (octets text : List ℕ) → LeadTo octets text p → LeadTo (octets ++ take n rest) (text ++ []) q
+leads_by p q rest n w octets text l =
+    subst (λ (t : List ℕ). LeadTo (octets ++ take n rest) t q) (sym (append-nil text))
+    (record { is_place = w.is_place; spelled = w.adds octets text l.spelled; story = w.story text l.story })
+
+pub dies_in : (p : Place) (rest : List ℕ) → DiesWith p (slice_index rest 0) → Refuses (Some p) rest (record { taken = 0; cause = BadOctet })
+dies_in p rest d = refuses_of p rest 0 BadOctet (λ octets text l. subst (λ (u : List ℕ). HasCause BadOctet u (slice_index rest 0)) (sym (append-nil octets)) (d octets text l.spelled))
+
+pub stays_at : (p : Place) (octets text : List ℕ) → LeadTo octets text p → LeadTo (octets ++ []) (text ++ []) p
+stays_at p octets text l = subst (λ (u : List ℕ). LeadTo u (text ++ []) p) (sym (append-nil octets)) (subst (λ (t : List ℕ). LeadTo octets t p) (sym (append-nil text)) l)
+
+-- ---- the text
+
+pub text_leads : (h : Header) (old new : TextReader) (ys : List ℕ) → story.GoesOn old ys new → IsSome new → Are is_text_octet ys
+    → (octets text : List ℕ) → LeadTo octets text (Text h old) → LeadTo (octets ++ ys) (text ++ ys) (Text h new)
+text_leads h old new ys goes some are octets text l =
+    record { is_place = (l.is_place.0, some); spelled = text_more octets text ys h old new are l.spelled; story = goes text l.story }
+
+alive_before : (x : List ℕ) (b : ℕ) → LivesWith (x ++ (b ∷ [])) → LivesWith x
+alive_before x b a = (Octet b ∷ a.0, subst StoryLanguage (ap (λ (u : List OctetOrEnd). u ++ a.0) (sym (map_snoc x b)) ∙ append_assoc (map Octet x) (Octet b ∷ []) a.0) a.1)
+
+-- before an octet that a story refused its text could go on
+pub stood_before : StoriesLiveAsTextsSoFar → (cause : TextCause) (x : List ℕ) (b : ℕ) → story.HasCause cause x b → (held : ℕ) × Holds x held
+stood_before law text_cause.LoneReturn x b h = (h.1.0, h.1.1)
+stood_before law text_cause.ControlOctet x b h = (0, h.1)
+stood_before law text_cause.Sink x b h = (law x).0 (alive_before x b h.0)
+
+pub text_stops : StoriesLiveAsTextsSoFar → (h : Header) (old : TextReader) (ys : List ℕ) (b : ℕ) (cause : TextCause) → Are is_text_octet ys
+    → ((x : List ℕ) → story.StandsAt old x → story.HasCause cause (x ++ ys) b)
+    → (octets text : List ℕ) → LeadTo octets text (Text h old) → (q : Place) × LeadTo (octets ++ ys) (text ++ ys) q
+text_stops law h old ys b cause are refuses octets text l =
+    let stood = stood_before law cause (text ++ ys) b (refuses text l.story) in
+    let reader : TextReader = Some stood.0 in
+    (Text h reader, record { is_place = (l.is_place.0, refl); spelled = text_more octets text ys h old reader are l.spelled; story = (stood.0, refl, stood.1) })
+
+story_dies : (octets text : List ℕ) (h : Header) (reader : TextReader) (b : ℕ) → IsHeader h → is_text_octet b ≡ true → Spells octets text (Text h reader) → StoryDiesAt text (Octet b) → StoryDiesWith octets b
+story_dies octets text h reader b i t l d =
+    let more : Spells (octets ++ (b ∷ [])) (text ++ (b ∷ [])) (Text h reader) = text_more octets text (b ∷ []) h reader reader (one_is is_text_octet b t) l in (
+      subst (IsAlive StoryLanguage) (sym (tokens_are octets text h reader i l)) d.0,
+      λ alive. d.1 (subst (IsAlive StoryLanguage) (tokens_are (octets ++ (b ∷ [])) (text ++ (b ∷ [])) h reader i more ∙ sym (map_snoc text b)) alive),
+    )
+
+pub text_refuses : (cause : TextCause) (octets text : List ℕ) (h : Header) (reader : TextReader) (b : ℕ) → IsHeader h → is_text_octet b ≡ true → Spells octets text (Text h reader)
+    → story.HasCause cause text b → HasCause (cause_of cause) octets b
+text_refuses text_cause.LoneReturn octets text h reader b i t l c =
+    let more : Spells (octets ++ (b ∷ [])) (text ++ (b ∷ [])) (Text h (Some 0)) = text_more octets text (b ∷ []) h reader (Some 0) (one_is is_text_octet b t) l in (
+      message_lives (octets ++ (b ∷ [])) (text ++ (b ∷ [])) (Text h (Some 0)) (i, refl) more,
+      story_dies octets text h reader b i t l c.0,
+      (c.1.0, c.1.2.0, subst (λ (u : List ℕ). Holds u c.1.0) (sym (text_is octets text h reader i l)) c.1.1),
+    )
+text_refuses text_cause.ControlOctet octets text h reader b i t l c =
+    let more : Spells (octets ++ (b ∷ [])) (text ++ (b ∷ [])) (Text h (Some 0)) = text_more octets text (b ∷ []) h reader (Some 0) (one_is is_text_octet b t) l in (
+      message_lives (octets ++ (b ∷ [])) (text ++ (b ∷ [])) (Text h (Some 0)) (i, refl) more,
+      story_dies octets text h reader b i t l c.0,
+      subst (λ (u : List ℕ). Holds u 0) (sym (text_is octets text h reader i l)) c.1,
+    )
+text_refuses text_cause.Sink octets text h reader b i t l c =
+    let more : Spells (octets ++ (b ∷ [])) (text ++ (b ∷ [])) (Text h (Some 0)) = text_more octets text (b ∷ []) h reader (Some 0) (one_is is_text_octet b t) l in (
+      message_lives (octets ++ (b ∷ [])) (text ++ (b ∷ [])) (Text h (Some 0)) (i, refl) more,
+      subst (IsAlive StoryLanguage) (sym (tokens_are (octets ++ (b ∷ [])) (text ++ (b ∷ [])) h (Some 0) i more)) c.0,
+    )
+
+-- ---- ETX
+
+pub etx_is : (b : ℕ) → b < 256 → is_text_octet b ≡ false → b ≡ 3
+etx_is b lt h = grind (arith, nat_tests)
+
+pub etx_leads : (h : Header) (old : TextReader) → ((x : List ℕ) → story.StandsAt old x → AreLines x)
+    → (octets text : List ℕ) → LeadTo octets text (Text h old) → LeadTo (octets ++ (3 ∷ [])) (text ++ []) (Trailer h (of []))
+etx_leads h old lines octets text l =
+    subst (λ (t : List ℕ). LeadTo (octets ++ (3 ∷ [])) t (Trailer h (of []))) (sym (append-nil text))
+    (record { is_place = (l.is_place.0, (refl, omega arith, omega arith)); spelled = text_etx octets text h old l.spelled; story = lines text l.story })
+
+held_some : TextsHoldNoReturn → StoriesEndAsTexts → (x : List ℕ) (held : ℕ) → Holds x held → StoryDiesAt x End → 0 < held
+held_some law ends x zero h d = absurd (d.1 ((ends x).1 ((law x).1 h)))
+held_some law ends x (suc held) h d = omega arith
+
+pub etx_refuses : TextsHoldNoReturn → StoriesEndAsTexts → (h : Header) (old : TextReader) → ((x : List ℕ) → story.StandsAt old x → StoryDiesAt x End)
+    → (octets text : List ℕ) → LeadTo octets text (Text h old) → HasCause LoneReturn octets 3
+etx_refuses law ends h old dies octets text l =
+    let i = l.is_place.0 in
+    let d = dies text l.story in
+    let t : Spells (octets ++ (3 ∷ [])) text (Trailer h (of [])) = text_etx octets text h old l.spelled in (
+      message_lives (octets ++ (3 ∷ [])) text (Trailer h (of [])) (i, (refl, omega arith, omega arith)) t,
+      (subst (IsAlive StoryLanguage) (sym (tokens_are octets text h old i l.spelled)) d.0, λ alive. d.1 (subst (IsAlive StoryLanguage) (tokens_at_etx octets text h old i l.spelled) alive)),
+      (l.story.0, held_some law ends text l.story.0 l.story.2 d, subst (λ (u : List ℕ). Holds u l.story.0) (sym (text_is octets text h old i l.spelled)) l.story.2),
+    )
+
+-- ---- a piece after another
+
+pub goes_on_front : (a b c : Option Place) (piece : List ℕ) (at k : ℕ) (m n : List ℕ) → GoesOn a (take at piece) m b → GoesOn b (take k (rest_of piece at)) n c → GoesOn a (take (at + k) piece) (m ++ n) c
+goes_on_front a b c piece at k m n f g octets text s =
+    subst (λ (u : List ℕ). StandsAt c u (text ++ (m ++ n))) (append_assoc octets (take at piece) (take k (rest_of piece at)) ∙ ap (λ (u : List ℕ). octets ++ u) (sym (take-front piece at k)))
+    (subst (λ (t : List ℕ). StandsAt c ((octets ++ take at piece) ++ take k (rest_of piece at)) t) (append_assoc text m n) (g (octets ++ take at piece) (text ++ m) (f octets text s)))
+
+pub somewhere_front : (a b : Option Place) (piece : List ℕ) (at k : ℕ) (m n : List ℕ) → GoesOn a (take at piece) m b → GoesSomewhere b (take k (rest_of piece at)) n → GoesSomewhere a (take (at + k) piece) (m ++ n)
+somewhere_front a b piece at k m n f g octets text s =
+    let there = g (octets ++ take at piece) (text ++ m) (f octets text s) in (
+      there.0,
+      subst (λ (u : List ℕ). LeadTo u (text ++ (m ++ n)) there.0) (append_assoc octets (take at piece) (take k (rest_of piece at)) ∙ ap (λ (u : List ℕ). octets ++ u) (sym (take-front piece at k)))
+          (subst (λ (t : List ℕ). LeadTo ((octets ++ take at piece) ++ take k (rest_of piece at)) t there.0) (append_assoc text m n) there.1),
+    )
+
+pub delivered_both : (m n : List ℕ) → delivered m ++ delivered n ≡ delivered (m ++ n)
+delivered_both m n = sym (flat_map-append events_of m n)
+
+-- an octet of what is left is refused in the whole
+pub refuses_front : (a b : Option Place) (piece : List ℕ) (at k : ℕ) (m : List ℕ) (cause : MessageCause) → GoesOn a (take at piece) m b
+    → Refuses b (rest_of piece at) (record { taken = k; cause = cause }) → Refuses a piece (record { taken = at + k; cause = cause })
+refuses_front a b piece at k m cause f g octets text s =
+    let front : (octets ++ take at piece) ++ take k (rest_of piece at) ≡ octets ++ take (at + k) piece =
+    append_assoc octets (take at piece) (take k (rest_of piece at)) ∙ ap (λ (u : List ℕ). octets ++ u) (sym (take-front piece at k)) in
+    let octet : slice_index (rest_of piece at) k ≡ slice_index piece (at + k) = ap (λ (r : List ℕ). slice_index r k) (rest_is piece at) ∙ get_or-drop at piece k 0 in
+    subst (λ (t : List ℕ). HasCause cause t (slice_index piece (at + k))) front
+    (subst (λ (n : ℕ). HasCause cause ((octets ++ take at piece) ++ take k (rest_of piece at)) n) octet (g (octets ++ take at piece) (text ++ m) (f octets text s)))
+
+-- ---- no octet, and the end
+
+pub stays_standing : (p : Option Place) (piece : List ℕ) → GoesOn p (take 0 piece) [] p
+stays_standing p piece octets text s =
+    subst (λ (u : List ℕ). StandsAt p u (text ++ [])) (sym (append-nil octets)) (subst (λ (t : List ℕ). StandsAt p octets t) (sym (append-nil text)) s)
+
+ended_whole : (p : Place) → is_ended (Some p) ≡ true → (octets text : List ℕ) → LeadTo octets text p
+    → (head : Header) × (head_read (Some p) ≡ Some head) × IsMessage octets head text (trailer_read (Some p)) × AreLines text
+ended_whole (AfterEnd h t k) e octets text l = (h, refl, l.spelled.0, l.story)
+ended_whole p e octets text l = absurd cc
+
+pub is_whole : (reader : Option Place) → is_ended reader ≡ true → IsWhole reader
+is_whole None e octets text s = absurd cc
+is_whole (Some p) e octets text s = ended_whole p e octets text (subst (LeadTo octets text) (same_place p s.0 s.1) s.2)
+
+not_after_end : (p : Place) → is_ended (Some p) ≡ false → IsAfterEnd (unread p) → ⊥
+not_after_end (AfterEnd h t k) e h' = absurd cc
+not_after_end (Filler k) e h' = h'
+not_after_end (Source s) e h' = h'
+not_after_end (Number s n) e h' = h'
+not_after_end (Priority s n) e h' = h'
+not_after_end (PriorityRead s n p) e h' = h'
+not_after_end (Category s n p c) e h' = h'
+not_after_end (Words s n p c w) e h' = h'
+not_after_end (Info h) e h' = h'
+not_after_end (Gap h k f) e h' = h'
+not_after_end (Text h r) e h' = h'
+not_after_end (Trailer h t) e h' = h'
+
+pub is_unfinished : (reader : Option Place) → is_ended reader ≡ false → (octets text : List ℕ) → StandsAt reader octets text → MessageDiesAt octets End
+is_unfinished reader e octets text s =
+    message_unfinished octets text s.0 s.2.is_place s.2.spelled (not_after_end s.0 (subst (λ (r : Option Place). is_ended r ≡ false) s.1 e))

@@ -1,0 +1,19 @@
+use Rattle.std.proofs.Common.{[], take}
+use Rattle.wire_message.proofs.Readings.{goes_on_of, goes_somewhere_of, leads_by, dies_in, stays_at}
+use Rattle.wire_message.proofs.piece.in_silence.Goals as goal
+
+pub returns-in-Some-clause-told : goal.returns-in-Some-clause-told
+returns-in-Some-clause-told g c =
+    let p = c.args.place in
+    let q = c.in-Some.front.0 in
+    let n = c.in-Some.front.1 in
+    let rest = c.args.rest.now in
+    ([], g.met.S.StorySink.nothing c.args.sink.now, goes_on_of p q (take n rest) [] (leads_by p q rest n c.in-Some.ensures.went))
+
+pub returns-in-None-clause-refused : goal.returns-in-None-clause-refused
+returns-in-None-clause-refused g c = dies_in c.args.place c.args.rest.now c.in-None.ensures.dies
+
+pub returns-in-None-clause-told_front : goal.returns-in-None-clause-told_front
+returns-in-None-clause-told_front g c =
+    let p = c.args.place in
+    ([], g.met.S.StorySink.nothing c.args.sink.now, goes_somewhere_of p [] [] (λ octets text l. (p, stays_at p octets text l)))

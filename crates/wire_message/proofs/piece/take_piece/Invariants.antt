@@ -1,0 +1,16 @@
+use Rattle.std.proofs.Common.{◌≡◌, ◌≤◌, ◌-◌, take, length, Some}
+use Rattle.wire_message.specs.SoFar.{IsPlace}
+use Rattle.wire_message.specs.Reading.{Told}
+use Rattle.wire_message.proofs.piece.take_piece.Given as goal
+
+-- the octets so far have led here, and the sink was told what they deliver
+abbrev pub invariant-loop-at : goal.invariant-loop-at
+invariant-loop-at g l = record {
+  is_place : IsPlace l.now;
+  within : l.at ≤ length l.piece;
+  told : Told g.S.StorySink.goes l.initial.sink (Some l.fn.place) (take l.at l.piece) (Some l.now) l.sink;
+  calm : g.S.StorySink.failures l.sink ≡ g.S.StorySink.failures l.initial.sink;
+}
+
+abbrev pub decreases-loop-at : goal.decreases-loop-at
+decreases-loop-at g l = length l.piece - l.at

@@ -1,0 +1,18 @@
+-- What holds of all messages.
+use Rattle.std.specs.Prelude.{◌≡◌, ℕ, List}
+use Rattle.wire_story.specs.Texts.{packed_text, IsText}
+use Rattle.wire_message.specs.Fields.{Are, is_text_octet}
+use Rattle.wire_message.specs.Messages.{Header, IsHeader, IsTrailer, IsMessage}
+use Rattle.wire_message.specs.Canonical.{canonical}
+
+-- An object is a message in one way at most.
+abbrev pub MessagesHaveOneReading : Type 0
+MessagesHaveOneReading = (object : List ℕ) (head other : Header) (text other_text trailer other_trailer : List ℕ)
+    → IsMessage object head text trailer → IsMessage object other other_text other_trailer
+    → (head ≡ other) × (text ≡ other_text) × (trailer ≡ other_trailer)
+
+-- The canonical object of a header, lines that make a text, and a trailer is a message of them, and its text has these lines.
+abbrev pub CanonicalObjectsAreMessages : Type 0
+CanonicalObjectsAreMessages = (head : Header) (text : List ℕ) (lines : List (List ℕ)) (trailer : List ℕ)
+    → IsHeader head → IsText text lines → IsTrailer trailer
+    → IsMessage (canonical head lines trailer) head (packed_text lines) trailer × IsText (packed_text lines) lines

@@ -1,0 +1,189 @@
+//! The header of a message.
+
+ghost use Rattle.std.specs.Prelude.{◌≡◌, ◌↔◌, ◌≤◌, ◌<◌, ◌+◌, ◌++◌, [], false, length, take, slice_index, IsTrue, IsSome, IfSome};
+
+use crate::class::Class;
+use crate::field::{is_field, kept, take_run};
+use arrayvec::ArrayVec;
+use std::marker::Model;
+
+/// The header of a message: its parts have their lengths and octets. It holds 95 octets of them at most, and takes no memory.
+///
+/// Contracts see it as the six parts.
+#[derive(Debug, Drop)]
+pub struct MessageHead {
+    source: ArrayVec<u8, 8>,
+    number: ArrayVec<u8, 8>,
+    priority: ArrayVec<u8, 1>,
+    category: ArrayVec<u8, 8>,
+    words: ArrayVec<u8, 6>,
+    info: ArrayVec<u8, 64>,
+}
+
+impl Model for MessageHead {
+    ghost use Rattle.wire_message.specs.Messages.{Header, header_of, IsHeader};
+
+    ghost Value = { Header };
+
+    ghost view = { λ head. header_of head.source.items head.number.items head.priority.items head.category.items head.words.items head.info.items };
+
+    ghost invariant = { λ head. IsHeader (header_of head.source.items head.number.items head.priority.items head.category.items head.words.items head.info.items) };
+}
+
+ghost use Rattle.wire_message.specs.Messages.{header_of, IsHeader};
+ghost use Rattle.wire_message.specs.Fields.{is_letter, is_digit, is_alphanumeric, is_info_octet, Are, IsField};
+
+/// Whether the parts are those of a header.
+fn is_header(
+    source: &[u8],
+    number: &[u8],
+    priority: &[u8],
+    category: &[u8],
+    words: &[u8],
+    info: &[u8],
+) -> bool
+    ensures { IsTrue result ↔ IsHeader (header_of source.now number.now priority.now category.now words.now info.now) }
+{
+    if !is_field(Class::Letter, 1, 8, source) {
+        return false;
+    }
+    if !is_field(Class::Digit, 1, 8, number) {
+        return false;
+    }
+    if !is_field(Class::Digit, 1, 1, priority) {
+        return false;
+    }
+    if !is_field(Class::Alphanumeric, 1, 8, category) {
+        return false;
+    }
+    if !is_field(Class::Digit, 1, 6, words) {
+        return false;
+    }
+    is_field(Class::Info, 0, 64, info)
+}
+
+impl MessageHead {
+    /// The header of these parts, or None where one of them has another length or other octets than it may.
+    pub fn new(
+        source: &[u8],
+        number: &[u8],
+        priority: &[u8],
+        category: &[u8],
+        words: &[u8],
+        info: &[u8],
+    ) -> Option<MessageHead>
+        ensures admitted { IsSome result ↔
+            IsHeader (header_of source.now number.now priority.now category.now words.now info.now) }
+        ensures parts { IfSome result (λ head.
+            head ≡ header_of source.now number.now priority.now category.now words.now info.now) }
+    {
+        if !is_header(source, number, priority, category, words, info) {
+            return None;
+        }
+        Some(MessageHead {
+            source: kept(source),
+            number: kept(number),
+            priority: kept(priority),
+            category: kept(category),
+            words: kept(words),
+            info: kept(info),
+        })
+    }
+
+    /// The header of these parts, its info empty so far.
+    pub(crate) fn begun(
+        source: ArrayVec<u8, 8>,
+        number: ArrayVec<u8, 8>,
+        priority: ArrayVec<u8, 1>,
+        category: ArrayVec<u8, 8>,
+        words: ArrayVec<u8, 6>,
+    ) -> MessageHead
+        requires { IsHeader (header_of source.items number.items priority.items category.items words.items []) }
+        ensures parts { result ≡ header_of source.items number.items priority.items category.items words.items [] }
+        ensures is_header { IsHeader result }
+    {
+        MessageHead {
+            source,
+            number,
+            priority,
+            category,
+            words,
+            info: ArrayVec::new(),
+        }
+    }
+
+    /// Lengthens the info by the octets of it that follow, as many as there is room for, and answers how many.
+    pub(crate) fn take_info(&mut self, octets: &[u8]) -> usize
+        ensures within { result ≤ length octets.now }
+        ensures class { Are is_info_octet (take result octets.now) }
+        ensures lengthened { self.new ≡ record self.old { info = self.old.info ++ take result octets.now } }
+        ensures fits { length self.old.info + result ≤ 64 }
+        ensures is_header { IsHeader self.new }
+        ensures longest { result ≡ 0 → 0 < length octets.now → length self.old.info < 64 →
+            is_info_octet (slice_index octets.now 0) ≡ false }
+    {
+        take_run(&mut self.info, Class::Info, octets)
+    }
+
+    /// The same header once more.
+    pub(crate) fn copied(&self) -> MessageHead
+        ensures { result ≡ self.now }
+    {
+        MessageHead {
+            source: kept(&self.source),
+            number: kept(&self.number),
+            priority: kept(&self.priority),
+            category: kept(&self.category),
+            words: kept(&self.words),
+            info: kept(&self.info),
+        }
+    }
+
+    /// The source: 1 to 8 letters.
+    pub fn source(&self) -> &[u8]
+        ensures part { result.now ≡ self.now.source }
+        ensures letters { IsField is_letter 1 8 result.now }
+    {
+        &self.source
+    }
+
+    /// The number: 1 to 8 digits.
+    pub fn number(&self) -> &[u8]
+        ensures part { result.now ≡ self.now.number }
+        ensures digits { IsField is_digit 1 8 result.now }
+    {
+        &self.number
+    }
+
+    /// The priority: one digit.
+    pub fn priority(&self) -> &[u8]
+        ensures part { result.now ≡ self.now.priority }
+        ensures digit { IsField is_digit 1 1 result.now }
+    {
+        &self.priority
+    }
+
+    /// The category: 1 to 8 letters or digits.
+    pub fn category(&self) -> &[u8]
+        ensures part { result.now ≡ self.now.category }
+        ensures octets { IsField is_alphanumeric 1 8 result.now }
+    {
+        &self.category
+    }
+
+    /// The announced number of words: 1 to 6 digits.
+    pub fn words(&self) -> &[u8]
+        ensures part { result.now ≡ self.now.words }
+        ensures digits { IsField is_digit 1 6 result.now }
+    {
+        &self.words
+    }
+
+    /// The info: up to 64 octets.
+    pub fn info(&self) -> &[u8]
+        ensures part { result.now ≡ self.now.info }
+        ensures octets { IsField is_info_octet 0 64 result.now }
+    {
+        &self.info
+    }
+}

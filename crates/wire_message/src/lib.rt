@@ -1,0 +1,28 @@
+//! The message of IPTC 7901, in our own profile: header, text and trailer, read and written.
+//!
+//! Stands on `wire_story` for the text, and on `arrayvec` for parts of a fixed room. The crates above read an object by
+//! [`MessageReader`], for any cut into pieces: what came is a message so far with this header and trailer, the sink is told
+//! exactly what is delivered of its text, and a fault stands exactly where no message, or no text, can go on.
+#![tactic(auto)]
+
+mod class;
+mod fault;
+mod field;
+mod head;
+mod laws;
+mod octets;
+mod piece;
+mod place;
+mod reader;
+mod step;
+mod tail;
+#[cfg(test)]
+mod tests;
+mod text;
+mod writing;
+
+pub use fault::{MessageCause, MessageFault};
+pub use head::MessageHead;
+pub use laws::{canonical_objects_are_messages, messages_have_one_reading};
+pub use reader::MessageReader;
+pub use writing::{head_text, is_trailer, tail_text};

@@ -1,0 +1,141 @@
+//! How a piece of a message is read from a place on: by the longest runs that lie in one part, and else octet by octet.
+
+ghost use Rattle.std.specs.Prelude.{◌≡◌, ◌<◌, ◌≤◌, length, slice_index, take, Some, IfOk, IfErr, IfSome, IfNone, OnOk};
+ghost use Rattle.wire_message.specs.SoFar.{IsPlace};
+ghost use Rattle.wire_message.specs.Reading.{DiesWith, Went, IsNoText, Told, ToldFront, Refuses, CountsCause};
+
+use crate::fault::{MessageCause, MessageFault};
+use crate::place::Place;
+use crate::step::{
+    after_priority, in_category, in_filler, in_number, in_priority, in_source, in_words,
+};
+use crate::tail::{after_end, in_gap, in_info, in_trailer};
+use crate::text::in_text;
+use wire_story::StorySink;
+
+/// Takes octets outside the text, and answers the next place and how many, or None where the first dies.
+fn outside_text(place: Place, rest: &[u8]) -> Option<(Place, usize)>
+    requires place { IsPlace place }
+    requires outside { IsNoText place }
+    requires some { 0 < length rest.now }
+    ensures went { IfSome result (λ front. Went place rest.now front.0 front.1) }
+    ensures dies { IfNone result (DiesWith place (slice_index rest.now 0)) }
+{
+    match place {
+        Place::Filler(count) => in_filler(count, rest),
+        Place::Source(source) => in_source(source, rest),
+        Place::Number(source, number) => in_number(source, number, rest),
+        Place::Priority(source, number) => in_priority(source, number, rest),
+        Place::PriorityRead(source, number, priority) => {
+            after_priority(source, number, priority, rest)
+        }
+        Place::Category(source, number, priority, category) => {
+            in_category(source, number, priority, category, rest)
+        }
+        Place::Words(source, number, priority, category, words) => {
+            in_words(source, number, priority, category, words, rest)
+        }
+        Place::Info(head) => in_info(head, rest),
+        Place::Gap(head, count, feed) => in_gap(head, count, feed, rest),
+        Place::Text(_, _) => unreachable!(),
+        Place::Trailer(head, trailer) => in_trailer(head, trailer, rest),
+        Place::AfterEnd(head, trailer, count) => after_end(head, trailer, count, rest),
+    }
+}
+
+/// The same with a sink, which is told nothing.
+#[inline(always)]
+fn in_silence<S: StorySink>(
+    place: Place,
+    rest: &[u8],
+    sink: &mut S,
+) -> Result<(Place, usize), MessageFault>
+    requires place { IsPlace place }
+    requires outside { IsNoText place }
+    requires some { 0 < length rest.now }
+    ensures is_place { IfOk result (λ front. IsPlace front.0) }
+    ensures some { IfOk result (λ front. 0 < front.1) }
+    ensures within { IfOk result (λ front. front.1 ≤ length rest.now) }
+    ensures told { IfOk result (λ front.
+        Told S.goes sink.old (Some place) (take front.1 rest.now) (Some front.0) sink.new) }
+    ensures calm { OnOk result (S.failures sink.new ≡ S.failures sink.old) }
+    ensures before { IfErr result (λ fault. fault.taken < length rest.now) }
+    ensures refused { IfErr result (Refuses (Some place) rest.now) }
+    ensures told_front { IfErr result (λ fault.
+        ToldFront S.goes sink.old (Some place) (take fault.taken rest.now) sink.new) }
+    ensures counted { IfErr result (λ fault.
+        CountsCause (S.failures sink.old) (S.failures sink.new) fault.cause) }
+{
+    let _ = sink;
+    match outside_text(place, rest) {
+        Some(front) => Ok(front),
+        None => Err(MessageFault {
+            taken: 0,
+            cause: MessageCause::BadOctet,
+        }),
+    }
+}
+
+/// Takes a front of the octets that are left, and answers the next place and how many it took.
+#[inline(always)]
+fn take_front<S: StorySink>(
+    place: Place,
+    rest: &[u8],
+    sink: &mut S,
+) -> Result<(Place, usize), MessageFault>
+    requires place { IsPlace place }
+    requires some { 0 < length rest.now }
+    ensures is_place { IfOk result (λ front. IsPlace front.0) }
+    ensures some { IfOk result (λ front. 0 < front.1) }
+    ensures within { IfOk result (λ front. front.1 ≤ length rest.now) }
+    ensures told { IfOk result (λ front.
+        Told S.goes sink.old (Some place) (take front.1 rest.now) (Some front.0) sink.new) }
+    ensures calm { OnOk result (S.failures sink.new ≡ S.failures sink.old) }
+    ensures before { IfErr result (λ fault. fault.taken < length rest.now) }
+    ensures refused { IfErr result (Refuses (Some place) rest.now) }
+    ensures told_front { IfErr result (λ fault.
+        ToldFront S.goes sink.old (Some place) (take fault.taken rest.now) sink.new) }
+    ensures counted { IfErr result (λ fault.
+        CountsCause (S.failures sink.old) (S.failures sink.new) fault.cause) }
+{
+    match place {
+        Place::Text(head, text) => in_text(head, text, rest, sink),
+        other => in_silence(other, rest, sink),
+    }
+}
+
+/// Takes a piece from a place on, and answers the place after it.
+pub(crate) fn take_piece<S: StorySink>(
+    place: Place,
+    piece: &[u8],
+    sink: &mut S,
+) -> Result<Place, MessageFault>
+    requires { IsPlace place }
+    ensures is_place { IfOk result (λ now. IsPlace now) }
+    ensures told { IfOk result (λ now. Told S.goes sink.old (Some place) piece.now (Some now) sink.new) }
+    ensures calm { OnOk result (S.failures sink.new ≡ S.failures sink.old) }
+    ensures before { IfErr result (λ fault. fault.taken < length piece.now) }
+    ensures refused { IfErr result (Refuses (Some place) piece.now) }
+    ensures told_front { IfErr result (λ fault.
+        ToldFront S.goes sink.old (Some place) (take fault.taken piece.now) sink.new) }
+    ensures counted { IfErr result (λ fault.
+        CountsCause (S.failures sink.old) (S.failures sink.new) fault.cause) }
+{
+    let mut now = place;
+    let mut at = 0;
+    while at < piece.len() {
+        match take_front(now, &piece[at..], sink) {
+            Ok((next, used)) => {
+                now = next;
+                at += used;
+            }
+            Err(fault) => {
+                return Err(MessageFault {
+                    taken: at + fault.taken,
+                    cause: fault.cause,
+                });
+            }
+        }
+    }
+    Ok(now)
+}

@@ -1,0 +1,138 @@
+//! The reader of a message, for any cut into pieces.
+
+ghost use Rattle.std.specs.Prelude.{◌≡◌, ◌<◌, [], List, ℕ, Option, is_none, length, take, Some, None, IsSome, IfOk, IfErr, OnOk, OnErr};
+ghost use Rattle.wire_story.specs.Tokens.{End};
+ghost use Rattle.wire_message.specs.Layers.{MessageDiesAt};
+
+use crate::fault::{MessageCause, MessageFault};
+use crate::head::MessageHead;
+use crate::piece::take_piece;
+use crate::place::Place;
+use std::marker::Model;
+use wire_story::StorySink;
+
+/// A reader of a message. It holds the octets of the header and the trailer that have come, 159 at most, and a few counters:
+/// nothing of the text but how many CR stand at its end. No call takes memory.
+///
+/// Contracts see it as the place that the octets so far have led to, and as None after a refusal.
+#[derive(Debug, Drop)]
+pub struct MessageReader {
+    place: Option<Place>,
+}
+
+impl Model for MessageReader {
+    ghost use Rattle.std.specs.Prelude.{Option};
+    ghost use Rattle.std.specs.Option.{ForSome};
+    ghost use Rattle.wire_message.specs.declared.place.Place.{Place};
+
+    ghost Value = { Option Place };
+
+    ghost use Rattle.wire_message.specs.SoFar.{IsPlace};
+
+    ghost view = { λ reader. reader.place };
+
+    ghost invariant = { λ reader. ForSome reader.place IsPlace };
+}
+
+ghost use Rattle.wire_message.specs.Reading.{StandsAt, Told, ToldFront, Refuses, CountsCause, head_read, trailer_read, is_ended, IsWhole};
+
+impl MessageReader {
+    /// The reader of an object of which no octet has come.
+    pub fn new() -> MessageReader
+        ensures takes_calls { IsSome result }
+        ensures stands { StandsAt result [] [] }
+    {
+        MessageReader {
+            place: Some(Place::Filler(0)),
+        }
+    }
+
+    /// Whether a call was refused.
+    pub fn is_failed(&self) -> bool
+        ensures { result ≡ is_none self.now }
+    {
+        self.place.is_none()
+    }
+
+    /// Takes the next octets of the object, and tells the sink what is delivered of its text among them, or among those
+    /// before the refused one.
+    pub fn feed<S: StorySink>(&mut self, piece: &[u8], sink: &mut S) -> Result<(), MessageFault>
+        requires { IsSome self.old }
+
+        // The octets so far, with the piece, are a message so far, and its text is a text so far.
+        ensures takes_calls { OnOk result (IsSome self.new) }
+        ensures told { OnOk result (Told S.goes sink.old self.old piece.now self.new sink.new) }
+        ensures calm { OnOk result (S.failures sink.new ≡ S.failures sink.old) }
+
+        // With the refused octet no message can go on from them, or no text, or the sink stopped.
+        ensures failed { OnErr result (self.new ≡ None) }
+        ensures before { IfErr result (λ fault. fault.taken < length piece.now) }
+        ensures refused { IfErr result (Refuses self.old piece.now) }
+        ensures told_front { IfErr result (λ fault.
+            ToldFront S.goes sink.old self.old (take fault.taken piece.now) sink.new) }
+        ensures counted { IfErr result (λ fault.
+            CountsCause (S.failures sink.old) (S.failures sink.new) fault.cause) }
+    {
+        let place = self.place.take().unwrap();
+        match take_piece(place, piece, sink) {
+            Ok(next) => {
+                self.place = Some(next);
+                Ok(())
+            }
+            Err(fault) => Err(fault),
+        }
+    }
+
+    /// Takes the end of the object.
+    pub fn close(&mut self) -> Result<(), MessageFault>
+        requires { IsSome self.old }
+
+        // The octets so far are a message of the header and the trailer that were read, and of a text.
+        ensures unchanged { OnOk result (self.new ≡ self.old) }
+        ensures whole { OnOk result (IsWhole self.old) }
+
+        // No message ends here.
+        ensures failed { OnErr result (self.new ≡ None) }
+        ensures fault { IfErr result (λ fault. (fault.taken ≡ 0) × (fault.cause ≡ MessageCause.Unfinished)) }
+        ensures refused { OnErr result ((octets text : List ℕ) → StandsAt self.old octets text → MessageDiesAt octets End) }
+    {
+        if has_ended(&self.place) {
+            return Ok(());
+        }
+        self.place = None;
+        Err(MessageFault {
+            taken: 0,
+            cause: MessageCause::Unfinished,
+        })
+    }
+
+    /// The header, from STX on.
+    pub fn head(&self) -> Option<MessageHead>
+        ensures { result ≡ head_read self.now }
+    {
+        match &self.place {
+            Some(Place::Text(head, _)) => Some(head.copied()),
+            Some(Place::Trailer(head, _)) => Some(head.copied()),
+            Some(Place::AfterEnd(head, _, _)) => Some(head.copied()),
+            _ => None,
+        }
+    }
+
+    /// The octets of the trailer that have come: none before ETX, and all of them from EOT on.
+    pub fn trailer(&self) -> &[u8]
+        ensures { result.now ≡ trailer_read self.now }
+    {
+        match &self.place {
+            Some(Place::Trailer(_, trailer)) => trailer.as_slice(),
+            Some(Place::AfterEnd(_, trailer, _)) => trailer.as_slice(),
+            _ => &[],
+        }
+    }
+}
+
+/// Whether the message has ended, but for filler.
+fn has_ended(place: &Option<Place>) -> bool
+    ensures { result ≡ is_ended place.now }
+{
+    matches!(place, Some(Place::AfterEnd(_, _, _)))
+}

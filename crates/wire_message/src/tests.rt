@@ -1,0 +1,336 @@
+//! Messages read in pieces and written. What is expected is worked out from the format.
+
+use crate::{
+    MessageCause, MessageFault, MessageHead, MessageReader, head_text, is_trailer, tail_text,
+};
+use iim_dataset::{TrialWriter, Trouble};
+use std::process::Abort;
+use wire_story::{Discard, LineWriter, StorySink};
+
+/// The smallest message: a story of one empty line.
+const SMALL: &[u8] = b"\x01X1 4 N 0\r\n\x02\x03\x04";
+
+/// A story of two lines.
+const RATES: &[u8] = b"\x01TST0007 4 ECO 5 rates\r\n\x02Rates stay.\r\nNo change.\x03\x04";
+
+const EMPTY: &[u8] = b"";
+
+const ZEROS: &[u8] = &[b'0'; 66];
+
+/// Reads an object in one piece, or octet by octet, and answers where and why it is refused.
+fn read<S: StorySink>(
+    object: &[u8],
+    by_octets: bool,
+    sink: &mut S,
+) -> Option<(usize, MessageCause)> {
+    let mut reader = MessageReader::new();
+    if by_octets {
+        for (at, octet) in object.iter().enumerate() {
+            if let Err(fault) = reader.feed(&[*octet], sink) {
+                return Some((at, fault.cause));
+            }
+        }
+    } else if let Err(fault) = reader.feed(object, sink) {
+        return Some((fault.taken, fault.cause));
+    }
+    match reader.close() {
+        Ok(()) => None,
+        Err(fault) => Some((object.len(), fault.cause)),
+    }
+}
+
+/// Reads front, so many of an octet, and back, each way.
+fn expect(
+    rt: &impl Abort,
+    front: &[u8],
+    octet: u8,
+    times: usize,
+    back: &[u8],
+    want: Option<(usize, MessageCause)>,
+) {
+    let mut object: arrayvec::ArrayVec<u8, 256> = arrayvec::ArrayVec::new();
+    let _ = object.try_extend_from_slice(front);
+    for _ in 0..times {
+        let _ = object.try_push(octet);
+    }
+    let _ = object.try_extend_from_slice(back);
+    assert_eq!(rt; read(&object, false, &mut Discard), want);
+    assert_eq!(rt; read(&object, true, &mut Discard), want);
+}
+
+#[test]
+fn texts_and_their_faults(rt: HostRuntime) {
+    let front = b"\x01X1 4 N 0\r\n\x02".as_slice();
+    expect(&rt, SMALL, 0, 0, EMPTY, None);
+    expect(&rt, RATES, 0, 0, EMPTY, None);
+    expect(&rt, front, 0, 0, b"a\nb\r\nc\r\r\nd\x03\x04", None);
+    expect(
+        &rt,
+        front,
+        0,
+        0,
+        b"a\r\r\r",
+        Some((15, MessageCause::LoneReturn)),
+    );
+    expect(
+        &rt,
+        front,
+        0,
+        0,
+        b"a\x02",
+        Some((13, MessageCause::ControlOctet)),
+    );
+    expect(
+        &rt,
+        front,
+        0,
+        0,
+        b"a\r\x03",
+        Some((14, MessageCause::LoneReturn)),
+    );
+    expect(
+        &rt,
+        front,
+        0,
+        0,
+        b"a\r\x01",
+        Some((14, MessageCause::LoneReturn)),
+    );
+    expect(
+        &rt,
+        front,
+        0,
+        0,
+        b"\x03",
+        Some((13, MessageCause::Unfinished)),
+    );
+    expect(
+        &rt,
+        front,
+        0,
+        0,
+        b"\x03\x03",
+        Some((13, MessageCause::BadOctet)),
+    );
+    expect(&rt, EMPTY, 0, 0, EMPTY, Some((0, MessageCause::Unfinished)));
+}
+
+#[test]
+fn fillers_gaps_and_trailers(rt: HostRuntime) {
+    let bad = MessageCause::BadOctet;
+    let head = b"\x01X1 4 N 0".as_slice();
+    expect(&rt, head, b'\r', 31, b"\n\x02\x03\x04", None);
+    expect(&rt, head, b'\r', 32, b"\n\x02\x03\x04", Some((40, bad)));
+    expect(&rt, head, b'\n', 32, b"\x02\x03\x04", None);
+    expect(&rt, head, b'\n', 33, b"\x02\x03\x04", Some((41, bad)));
+    expect(&rt, head, b'\r', 1, b"\x02\x03\x04", Some((10, bad)));
+    expect(&rt, SMALL, b'\n', 32, EMPTY, None);
+    expect(&rt, SMALL, b'\n', 33, EMPTY, Some((46, bad)));
+    expect(&rt, EMPTY, 0, 32, SMALL, None);
+    expect(&rt, EMPTY, 0x16, 33, SMALL, Some((32, bad)));
+    let etx = b"\x01X1 4 N 0\r\n\x02\x03".as_slice();
+    expect(&rt, etx, b'\n', 64, b"\x04", None);
+    expect(&rt, etx, 0xff, 65, b"\x04", Some((77, bad)));
+    expect(&rt, b"\x01X1 4 N 0 ", b'i', 64, b"\n\x02\x03\x04", None);
+    expect(
+        &rt,
+        b"\x01X1 4 N 0 ",
+        b'i',
+        65,
+        b"\n\x02\x03\x04",
+        Some((74, bad)),
+    );
+    expect(&rt, b"\x01X1 4 N 0 ", 0, 0, b"\n\x02\x03\x04", None);
+}
+
+#[test]
+fn parts_of_each_length(rt: HostRuntime) {
+    let bad = MessageCause::BadOctet;
+    expect(&rt, b"\x01", b'X', 8, b"1 4 N 0\n\x02\x03\x04", None);
+    expect(
+        &rt,
+        b"\x01",
+        b'X',
+        9,
+        b"1 4 N 0\n\x02\x03\x04",
+        Some((9, bad)),
+    );
+    expect(
+        &rt,
+        b"\x01",
+        b'X',
+        0,
+        b"1 4 N 0\n\x02\x03\x04",
+        Some((1, bad)),
+    );
+    expect(&rt, b"\x01X", b'1', 8, b" 4 N 0\n\x02\x03\x04", None);
+    expect(
+        &rt,
+        b"\x01X",
+        b'1',
+        9,
+        b" 4 N 0\n\x02\x03\x04",
+        Some((10, bad)),
+    );
+    expect(
+        &rt,
+        b"\x01X",
+        b'1',
+        0,
+        b" 4 N 0\n\x02\x03\x04",
+        Some((2, bad)),
+    );
+    expect(
+        &rt,
+        b"\x01X1 ",
+        b'4',
+        2,
+        b" N 0\n\x02\x03\x04",
+        Some((5, bad)),
+    );
+    expect(&rt, b"\x01X1 4 ", b'N', 8, b" 0\n\x02\x03\x04", None);
+    expect(
+        &rt,
+        b"\x01X1 4 ",
+        b'N',
+        9,
+        b" 0\n\x02\x03\x04",
+        Some((14, bad)),
+    );
+    expect(
+        &rt,
+        b"\x01X1 4 ",
+        b'N',
+        0,
+        b" 0\n\x02\x03\x04",
+        Some((6, bad)),
+    );
+    expect(&rt, b"\x01X1 4 N ", b'0', 6, b"\n\x02\x03\x04", None);
+    expect(
+        &rt,
+        b"\x01X1 4 N ",
+        b'0',
+        7,
+        b"\n\x02\x03\x04",
+        Some((14, bad)),
+    );
+    expect(
+        &rt,
+        b"\x01X1 4 N ",
+        b'0',
+        0,
+        b"\n\x02\x03\x04",
+        Some((8, bad)),
+    );
+}
+
+#[test]
+fn each_octet_in_place_of_each(rt: HostRuntime) {
+    for at in 0..SMALL.len() {
+        for octet in 0..=255u8 {
+            let mut object = [0u8; 14];
+            object.copy_from_slice(SMALL);
+            object[at] = octet;
+            let whole = read(&object, false, &mut Discard);
+            assert_eq!(rt; read(&object, true, &mut Discard), whole, "{octet} at {at}");
+        }
+    }
+}
+
+#[test]
+fn headers_read_and_written(rt: HostRuntime) {
+    let mut reader = MessageReader::new();
+    assert_eq!(rt;
+        reader.feed(b"\x01TST0007 4 ECO 5 rates\r\n", &mut Discard),
+        Ok(())
+    );
+    assert!(rt; reader.head().is_none());
+    let mut sink: LineWriter<TrialWriter<32>> = LineWriter::new(TrialWriter::new(
+        100,
+        Trouble::Failure,
+    ));
+    assert_eq!(rt;
+        reader.feed(b"\x02Rates stay.\r\nNo change.\x03end", &mut sink),
+        Ok(())
+    );
+    assert_eq!(rt; reader.trailer(), b"end".as_slice());
+    assert!(rt; !reader.is_failed());
+    match reader.head() {
+        Some(head) => {
+            assert_eq!(rt; head.source(), b"TST".as_slice());
+            assert_eq!(rt; head.number(), b"0007".as_slice());
+            assert_eq!(rt; head.priority(), b"4".as_slice());
+            assert_eq!(rt; head.category(), b"ECO".as_slice());
+            assert_eq!(rt; head.words(), b"5".as_slice());
+            assert_eq!(rt; head.info(), b"rates".as_slice());
+            assert_eq!(rt;
+                head_text(&head).as_slice(),
+                b"\x01TST0007 4 ECO 5 rates\r\n\x02".as_slice()
+            );
+        }
+        None => assert!(rt; false),
+    }
+    assert_eq!(rt;
+        sink.into_writer().octets(),
+        b"Rates stay.\nNo change.".as_slice()
+    );
+    let fault = MessageFault {
+        taken: 0,
+        cause: MessageCause::Unfinished,
+    };
+    assert_eq!(rt; reader.close(), Err(fault));
+    assert!(rt; reader.is_failed());
+}
+
+/// Whether these parts make a header, of so long a source, number, category, words and info.
+fn makes(source: usize, number: usize, category: usize, words: usize, info: usize) -> bool {
+    let letters = [b'X'; 9];
+    if source > 9 || number > 9 || category > 9 || words > 9 || info > 66 {
+        return false;
+    }
+    MessageHead::new(
+        &letters[..source],
+        &ZEROS[..number],
+        b"4",
+        &letters[..category],
+        &ZEROS[..words],
+        &ZEROS[..info],
+    )
+    .is_some()
+}
+
+#[test]
+fn parts_that_make_a_header(rt: HostRuntime) {
+    assert!(rt; makes(1, 1, 1, 1, 0));
+    assert!(rt; makes(8, 8, 8, 6, 64));
+    let beyond = [
+        (0, 1, 1, 1, 0),
+        (9, 1, 1, 1, 0),
+        (1, 0, 1, 1, 0),
+        (1, 9, 1, 1, 0),
+        (1, 1, 0, 1, 0),
+        (1, 1, 9, 1, 0),
+        (1, 1, 1, 0, 0),
+        (1, 1, 1, 7, 0),
+        (1, 1, 1, 1, 65),
+    ];
+    for (source, number, category, words, info) in beyond {
+        assert!(rt; !makes(source, number, category, words, info));
+    }
+    assert!(rt; MessageHead::new(b"X", b"1", b"44", b"N", b"0", EMPTY).is_none());
+    assert!(rt; MessageHead::new(b"X", b"1", EMPTY, b"N", b"0", EMPTY).is_none());
+    if let Some(head) = MessageHead::new(b"X", b"1", b"4", b"N", b"0", EMPTY) {
+        assert_eq!(rt;
+            head_text(&head).as_slice(),
+            b"\x01X1 4 N 0\r\n\x02".as_slice()
+        );
+    }
+    assert!(rt; is_trailer(&ZEROS[..64]));
+    assert!(rt; !is_trailer(&ZEROS[..65]));
+    assert!(rt; !is_trailer(b"\x16"));
+    assert!(rt; tail_text(&ZEROS[..65]).is_none());
+    match tail_text(b"a\r\n") {
+        Some(tail) => assert_eq!(rt; tail.as_slice(), b"\x03a\r\n\x04".as_slice()),
+        None => assert!(rt; false),
+    }
+}

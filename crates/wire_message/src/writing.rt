@@ -1,0 +1,80 @@
+//! The octets of a message before and after its text, as a packer writes them.
+
+ghost use Rattle.std.specs.Prelude.{◌≡◌, ◌↔◌, ◌+◌, ◌≤◌, ◌∷◌, ◌++◌, length, IsTrue, IsSome, IfSome};
+ghost use Rattle.arrayvec.specs.ArrayVec.{array_vec_len};
+ghost use Rattle.wire_message.specs.Messages.{IsTrailer};
+ghost use Rattle.wire_message.specs.Canonical.{packed_head, packed_info, packed_tail};
+
+use crate::class::Class;
+use crate::field::is_field;
+use crate::head::MessageHead;
+use crate::octets::{CR, EOT, ETX, LF, SOH, SP, STX};
+use arrayvec::ArrayVec;
+
+/// Appends octets for which there is room.
+fn append<const ROOM: usize>(out: &mut ArrayVec<u8, ROOM>, octets: &[u8])
+    requires { array_vec_len out.old + length octets.now ≤ ROOM }
+    ensures items { out.new.items ≡ out.old.items ++ octets.now }
+    ensures len { array_vec_len out.new ≡ array_vec_len out.old + length octets.now }
+{
+    let _ = out.try_extend_from_slice(octets);
+}
+
+/// Appends SP and a part.
+fn append_part<const ROOM: usize>(out: &mut ArrayVec<u8, ROOM>, part: &[u8])
+    requires { array_vec_len out.old + 1 + length part.now ≤ ROOM }
+    ensures items { out.new.items ≡ out.old.items ++ (32 ∷ part.now) }
+    ensures len { array_vec_len out.new ≡ array_vec_len out.old + 1 + length part.now }
+{
+    append(out, &[SP]);
+    append(out, part);
+}
+
+/// Appends the info, and SP before it, or nothing for an empty one.
+fn append_info(out: &mut ArrayVec<u8, 128>, info: &[u8])
+    requires { array_vec_len out.old + 1 + length info.now ≤ 128 }
+    ensures items { out.new.items ≡ out.old.items ++ packed_info info.now }
+    ensures len { array_vec_len out.new ≤ array_vec_len out.old + 1 + length info.now }
+{
+    if !info.is_empty() {
+        append_part(out, info);
+    }
+}
+
+/// The octets of a message from SOH to STX, with the gap CR LF and no filler.
+pub fn head_text(head: &MessageHead) -> ArrayVec<u8, 128>
+    ensures { result.items ≡ packed_head head.now }
+{
+    let mut out = ArrayVec::new();
+    append(&mut out, &[SOH]);
+    append(&mut out, head.source());
+    append(&mut out, head.number());
+    append_part(&mut out, head.priority());
+    append_part(&mut out, head.category());
+    append_part(&mut out, head.words());
+    append_info(&mut out, head.info());
+    append(&mut out, &[CR, LF, STX]);
+    out
+}
+
+/// Whether the octets may be a trailer.
+pub fn is_trailer(octets: &[u8]) -> bool
+    ensures { IsTrue result ↔ IsTrailer octets.now }
+{
+    is_field(Class::Trailer, 0, 64, octets)
+}
+
+/// The octets of a message from ETX to EOT, or None where the octets may be no trailer.
+pub fn tail_text(trailer: &[u8]) -> Option<ArrayVec<u8, 66>>
+    ensures admitted { IsSome result ↔ IsTrailer trailer.now }
+    ensures octets { IfSome result (λ tail. tail.items ≡ packed_tail trailer.now) }
+{
+    if !is_trailer(trailer) {
+        return None;
+    }
+    let mut out = ArrayVec::new();
+    append(&mut out, &[ETX]);
+    append(&mut out, trailer);
+    append(&mut out, &[EOT]);
+    Some(out)
+}
