@@ -58,170 +58,72 @@ fn expect(
     assert_eq!(rt; read(&object, true, &mut Discard), want);
 }
 
+/// Reads the smallest header with this text and what follows it, each way.
+fn expect_text(rt: &impl Abort, back: &[u8], want: Option<(usize, MessageCause)>) {
+    expect(rt, b"\x01X1 4 N 0\r\n\x02", 0, 0, back, want);
+}
+
+/// Reads front, so many of an octet, and back, where the octet at that place is wrong.
+fn expect_bad(rt: &impl Abort, front: &[u8], octet: u8, times: usize, back: &[u8], at: usize) {
+    expect(
+        rt,
+        front,
+        octet,
+        times,
+        back,
+        Some((at, MessageCause::BadOctet)),
+    );
+}
+
 #[test]
 fn texts_and_their_faults(rt: HostRuntime) {
-    let front = b"\x01X1 4 N 0\r\n\x02".as_slice();
     expect(&rt, SMALL, 0, 0, EMPTY, None);
     expect(&rt, RATES, 0, 0, EMPTY, None);
-    expect(&rt, front, 0, 0, b"a\nb\r\nc\r\r\nd\x03\x04", None);
-    expect(
-        &rt,
-        front,
-        0,
-        0,
-        b"a\r\r\r",
-        Some((15, MessageCause::LoneReturn)),
-    );
-    expect(
-        &rt,
-        front,
-        0,
-        0,
-        b"a\x02",
-        Some((13, MessageCause::ControlOctet)),
-    );
-    expect(
-        &rt,
-        front,
-        0,
-        0,
-        b"a\r\x03",
-        Some((14, MessageCause::LoneReturn)),
-    );
-    expect(
-        &rt,
-        front,
-        0,
-        0,
-        b"a\r\x01",
-        Some((14, MessageCause::LoneReturn)),
-    );
-    expect(
-        &rt,
-        front,
-        0,
-        0,
-        b"\x03",
-        Some((13, MessageCause::Unfinished)),
-    );
-    expect(
-        &rt,
-        front,
-        0,
-        0,
-        b"\x03\x03",
-        Some((13, MessageCause::BadOctet)),
-    );
+    expect_text(&rt, b"a\nb\r\nc\r\r\nd\x03\x04", None);
+    expect_text(&rt, b"a\r\r\r", Some((15, MessageCause::LoneReturn)));
+    expect_text(&rt, b"a\x02", Some((13, MessageCause::ControlOctet)));
+    expect_text(&rt, b"a\r\x03", Some((14, MessageCause::LoneReturn)));
+    expect_text(&rt, b"a\r\x01", Some((14, MessageCause::LoneReturn)));
+    expect_text(&rt, b"\x03", Some((13, MessageCause::Unfinished)));
+    expect_text(&rt, b"\x03\x03", Some((13, MessageCause::BadOctet)));
     expect(&rt, EMPTY, 0, 0, EMPTY, Some((0, MessageCause::Unfinished)));
 }
 
 #[test]
 fn fillers_gaps_and_trailers(rt: HostRuntime) {
-    let bad = MessageCause::BadOctet;
     let head = b"\x01X1 4 N 0".as_slice();
     expect(&rt, head, b'\r', 31, b"\n\x02\x03\x04", None);
-    expect(&rt, head, b'\r', 32, b"\n\x02\x03\x04", Some((40, bad)));
+    expect_bad(&rt, head, b'\r', 32, b"\n\x02\x03\x04", 40);
     expect(&rt, head, b'\n', 32, b"\x02\x03\x04", None);
-    expect(&rt, head, b'\n', 33, b"\x02\x03\x04", Some((41, bad)));
-    expect(&rt, head, b'\r', 1, b"\x02\x03\x04", Some((10, bad)));
+    expect_bad(&rt, head, b'\n', 33, b"\x02\x03\x04", 41);
+    expect_bad(&rt, head, b'\r', 1, b"\x02\x03\x04", 10);
     expect(&rt, SMALL, b'\n', 32, EMPTY, None);
-    expect(&rt, SMALL, b'\n', 33, EMPTY, Some((46, bad)));
+    expect_bad(&rt, SMALL, b'\n', 33, EMPTY, 46);
     expect(&rt, EMPTY, 0, 32, SMALL, None);
-    expect(&rt, EMPTY, 0x16, 33, SMALL, Some((32, bad)));
+    expect_bad(&rt, EMPTY, 0x16, 33, SMALL, 32);
     let etx = b"\x01X1 4 N 0\r\n\x02\x03".as_slice();
     expect(&rt, etx, b'\n', 64, b"\x04", None);
-    expect(&rt, etx, 0xff, 65, b"\x04", Some((77, bad)));
+    expect_bad(&rt, etx, 0xff, 65, b"\x04", 77);
     expect(&rt, b"\x01X1 4 N 0 ", b'i', 64, b"\n\x02\x03\x04", None);
-    expect(
-        &rt,
-        b"\x01X1 4 N 0 ",
-        b'i',
-        65,
-        b"\n\x02\x03\x04",
-        Some((74, bad)),
-    );
+    expect_bad(&rt, b"\x01X1 4 N 0 ", b'i', 65, b"\n\x02\x03\x04", 74);
     expect(&rt, b"\x01X1 4 N 0 ", 0, 0, b"\n\x02\x03\x04", None);
 }
 
 #[test]
 fn parts_of_each_length(rt: HostRuntime) {
-    let bad = MessageCause::BadOctet;
     expect(&rt, b"\x01", b'X', 8, b"1 4 N 0\n\x02\x03\x04", None);
-    expect(
-        &rt,
-        b"\x01",
-        b'X',
-        9,
-        b"1 4 N 0\n\x02\x03\x04",
-        Some((9, bad)),
-    );
-    expect(
-        &rt,
-        b"\x01",
-        b'X',
-        0,
-        b"1 4 N 0\n\x02\x03\x04",
-        Some((1, bad)),
-    );
+    expect_bad(&rt, b"\x01", b'X', 9, b"1 4 N 0\n\x02\x03\x04", 9);
+    expect_bad(&rt, b"\x01", b'X', 0, b"1 4 N 0\n\x02\x03\x04", 1);
     expect(&rt, b"\x01X", b'1', 8, b" 4 N 0\n\x02\x03\x04", None);
-    expect(
-        &rt,
-        b"\x01X",
-        b'1',
-        9,
-        b" 4 N 0\n\x02\x03\x04",
-        Some((10, bad)),
-    );
-    expect(
-        &rt,
-        b"\x01X",
-        b'1',
-        0,
-        b" 4 N 0\n\x02\x03\x04",
-        Some((2, bad)),
-    );
-    expect(
-        &rt,
-        b"\x01X1 ",
-        b'4',
-        2,
-        b" N 0\n\x02\x03\x04",
-        Some((5, bad)),
-    );
+    expect_bad(&rt, b"\x01X", b'1', 9, b" 4 N 0\n\x02\x03\x04", 10);
+    expect_bad(&rt, b"\x01X", b'1', 0, b" 4 N 0\n\x02\x03\x04", 2);
+    expect_bad(&rt, b"\x01X1 ", b'4', 2, b" N 0\n\x02\x03\x04", 5);
     expect(&rt, b"\x01X1 4 ", b'N', 8, b" 0\n\x02\x03\x04", None);
-    expect(
-        &rt,
-        b"\x01X1 4 ",
-        b'N',
-        9,
-        b" 0\n\x02\x03\x04",
-        Some((14, bad)),
-    );
-    expect(
-        &rt,
-        b"\x01X1 4 ",
-        b'N',
-        0,
-        b" 0\n\x02\x03\x04",
-        Some((6, bad)),
-    );
+    expect_bad(&rt, b"\x01X1 4 ", b'N', 9, b" 0\n\x02\x03\x04", 14);
+    expect_bad(&rt, b"\x01X1 4 ", b'N', 0, b" 0\n\x02\x03\x04", 6);
     expect(&rt, b"\x01X1 4 N ", b'0', 6, b"\n\x02\x03\x04", None);
-    expect(
-        &rt,
-        b"\x01X1 4 N ",
-        b'0',
-        7,
-        b"\n\x02\x03\x04",
-        Some((14, bad)),
-    );
-    expect(
-        &rt,
-        b"\x01X1 4 N ",
-        b'0',
-        0,
-        b"\n\x02\x03\x04",
-        Some((8, bad)),
-    );
+    expect_bad(&rt, b"\x01X1 4 N ", b'0', 7, b"\n\x02\x03\x04", 14);
+    expect_bad(&rt, b"\x01X1 4 N ", b'0', 0, b"\n\x02\x03\x04", 8);
 }
 
 #[test]
@@ -235,6 +137,20 @@ fn each_octet_in_place_of_each(rt: HostRuntime) {
             assert_eq!(rt; read(&object, true, &mut Discard), whole, "{octet} at {at}");
         }
     }
+}
+
+/// The header is that of the story of two lines.
+fn expect_rates(rt: &impl Abort, head: &MessageHead) {
+    assert_eq!(rt; head.source(), b"TST".as_slice());
+    assert_eq!(rt; head.number(), b"0007".as_slice());
+    assert_eq!(rt; head.priority(), b"4".as_slice());
+    assert_eq!(rt; head.category(), b"ECO".as_slice());
+    assert_eq!(rt; head.words(), b"5".as_slice());
+    assert_eq!(rt; head.info(), b"rates".as_slice());
+    assert_eq!(rt;
+        head_text(head).as_slice(),
+        b"\x01TST0007 4 ECO 5 rates\r\n\x02".as_slice()
+    );
 }
 
 #[test]
@@ -256,18 +172,7 @@ fn headers_read_and_written(rt: HostRuntime) {
     assert_eq!(rt; reader.trailer(), b"end".as_slice());
     assert!(rt; !reader.is_failed());
     match reader.head() {
-        Some(head) => {
-            assert_eq!(rt; head.source(), b"TST".as_slice());
-            assert_eq!(rt; head.number(), b"0007".as_slice());
-            assert_eq!(rt; head.priority(), b"4".as_slice());
-            assert_eq!(rt; head.category(), b"ECO".as_slice());
-            assert_eq!(rt; head.words(), b"5".as_slice());
-            assert_eq!(rt; head.info(), b"rates".as_slice());
-            assert_eq!(rt;
-                head_text(&head).as_slice(),
-                b"\x01TST0007 4 ECO 5 rates\r\n\x02".as_slice()
-            );
-        }
+        Some(head) => expect_rates(&rt, &head),
         None => assert!(rt; false),
     }
     assert_eq!(rt;
