@@ -1,0 +1,350 @@
+-- The record layer dies exactly with a fault.
+use Rattle.std.proofs.Common.{◌≡◌, ◌≢◌, ℕ, ◌+◌, ◌<◌, ◌≤◌, ◌⊎◌, Bool, true, false, not, ◌&&◌, ◌||◌, cond, if◌then◌else◌, nat_eq, List, [], ◌∷◌, ◌++◌, length, refl, ap, sym, ◌∙◌, inl, inr, arith, subst, append_assoc, append-nil, Option, Some, None}
+use Rattle.std.specs.Prelude.{IsSomeAnd, IsTrue}
+use Rattle.std.specs.List.{AllByRecursion, find}
+use Rattle.std.specs.Option.{option_or}
+use Rattle.std.proofs.lemmas.Bool.{and_parts, and_from, or_cases, eqb-true}
+use Rattle.std.proofs.lemmas.Bool.Decides.{eqb_tells}
+use Rattle.iim_dataset.specs.Octets.{Octets}
+use Rattle.iim_dataset.specs.Datasets.{Dataset, head_of}
+use Rattle.iim_dataset.specs.declared.head.Head.{Head}
+use Rattle.iim_tables.specs.Octets.{within}
+use Rattle.iim_tables.specs.Kinds.{has_kind}
+use Rattle.iim_tables.specs.Rows.{row_of, is_admitted, Meets}
+use Rattle.iim_tables.specs.declared.shape.Row.{Row}
+use Rattle.iim_fields.specs.Records.{mandatory, after, records, repeats, may_repeat, occurs, occurrences, has_file_format, IsGoodDataset, IsGoodRecord, AreRecords, AreSections}
+use Rattle.iim_fields.specs.Alive.{IsAlive, IsAliveAt}
+use Rattle.iim_fields.specs.Faults.{present_record, present_run, is_first, is_in_order, fault_on, row_fault, missing_fault, missing_of, head_fault, record_fault, fault_by_row, value_fault}
+use Rattle.iim_fields.specs.declared.fault.FieldFault.{FieldFault}
+use Rattle.iim_fields.specs.declared.fault.FieldCause.TheVariants.{RecordOrder, BadValue, FileFormat}
+use Rattle.iim_fields.proofs.Table.{EachRowHasValues, after_tail, not_after_itself, no_row, value_for}
+use Rattle.iim_fields.proofs.Runs.{IsPart, part_front, part_of, part_more, no_part, part_completes, records_to_come, MayCome, occurrences_append, some_counts, eq_itself}
+use Rattle.iim_fields.proofs.Follows.{From, Follows, IsSame, IsNext, from_cons, same_from, next_from, alive_follows}
+
+-- ---- what a head without a fault has
+
+pub record HasNoFault (present : ℕ) (has : ℕ → Bool) (h : Head) : Type 0 where
+  pub order : is_in_order present h.rec ≡ true
+  pub row : Row
+  pub known : row_of h.rec h.set ≡ Some row
+  pub once : ((nat_eq h.rec present && has h.set) && not row.repeats) ≡ false
+  pub fits : within row.min row.max h.count ≡ true
+  pub whole : is_first h.rec (after present) ≡ true → missing_of present has ≡ None
+
+row_parts : (t s : Bool) (f g : FieldFault) (rest : Option FieldFault) → option_or (if t then Some f else if not s then Some g else None) rest ≡ None
+    → (t ≡ false) × (s ≡ true) × (rest ≡ None)
+row_parts true s f g rest h = absurd cc
+row_parts false true f g rest h = (refl, refl, h)
+row_parts false false f g rest h = absurd cc
+
+whole_parts : (c : Bool) (p : ℕ) (m : Option ℕ) → (if c then missing_fault p m else None) ≡ None → c ≡ true → m ≡ None
+whole_parts true p None h is = refl
+whole_parts true p (Some n) h is = absurd cc
+whole_parts false p m h is = absurd cc
+
+parts_by : (present : ℕ) (has : ℕ → Bool) (h : Head) (a : Bool) (o : Option Row) → is_in_order present h.rec ≡ a → row_of h.rec h.set ≡ o
+    → (if not a then Some (fault_on h RecordOrder) else option_or (row_fault (nat_eq h.rec present && has h.set) o h)
+    (if is_first h.rec (after present) then missing_fault present (missing_of present has) else None)) ≡ None → HasNoFault present has h
+parts_by present has h false o order known none = absurd cc
+parts_by present has h true None order known none = absurd cc
+parts_by present has h true (Some row) order known none =
+    let parts = row_parts ((nat_eq h.rec present && has h.set) && not row.repeats) (within row.min row.max h.count) _ _ _ none in
+    record {
+      order = order;
+      row = row;
+      known = known;
+      once = parts.0;
+      fits = parts.1;
+      whole = whole_parts (is_first h.rec (after present)) present (missing_of present has) parts.2;
+    }
+
+pub no_fault_parts : (present : ℕ) (has : ℕ → Bool) (h : Head) → head_fault present has h ≡ None → HasNoFault present has h
+no_fault_parts present has h none = parts_by present has h (is_in_order present h.rec) (row_of h.rec h.set) refl refl none
+
+row_built : (t s : Bool) (f g : FieldFault) (rest : Option FieldFault) → t ≡ false → s ≡ true → rest ≡ None → option_or (if t then Some f else if not s then Some g else None) rest ≡ None
+row_built true s f g rest h k r = absurd cc
+row_built false true f g rest h k r = r
+row_built false false f g rest h k r = absurd cc
+
+whole_built : (c : Bool) (p : ℕ) (m : Option ℕ) → (c ≡ true → m ≡ None) → (if c then missing_fault p m else None) ≡ None
+whole_built true p m h = ap (missing_fault p) (h refl)
+whole_built false p m h = refl
+
+built_by : (present : ℕ) (has : ℕ → Bool) (h : Head) (a : Bool) (o : Option Row) (row : Row) → a ≡ true → o ≡ Some row
+    → ((nat_eq h.rec present && has h.set) && not row.repeats) ≡ false → within row.min row.max h.count ≡ true
+    → (is_first h.rec (after present) ≡ true → missing_of present has ≡ None)
+    → (if not a then Some (fault_on h RecordOrder) else option_or (row_fault (nat_eq h.rec present && has h.set) o h)
+    (if is_first h.rec (after present) then missing_fault present (missing_of present has) else None)) ≡ None
+built_by present has h false o row order known once fits whole = absurd cc
+built_by present has h true None row order known once fits whole = absurd cc
+built_by present has h true (Some own) row order known once fits whole =
+    let same : row ≡ own = cc in
+    row_built ((nat_eq h.rec present && has h.set) && not own.repeats) (within own.min own.max h.count) _ _ _
+    (subst (λ (r : Row). ((nat_eq h.rec present && has h.set) && not r.repeats) ≡ false) same once)
+    (subst (λ (r : Row). within r.min r.max h.count ≡ true) same fits)
+    (whole_built (is_first h.rec (after present)) present (missing_of present has) whole)
+
+pub no_fault_built : (present : ℕ) (has : ℕ → Bool) (h : Head) → HasNoFault present has h → head_fault present has h ≡ None
+no_fault_built present has h f = built_by present has h (is_in_order present h.rec) (row_of h.rec h.set) f.row f.order f.known f.once f.fits f.whole
+
+-- ---- what is missing
+
+found_none : (b : Bool) (n : ℕ) (rest : Option ℕ) → (cond (not b) (Some n) rest) ≡ None → (b ≡ true) × (rest ≡ None)
+found_none true n rest h = (refl, h)
+found_none false n rest h = absurd cc
+
+pub none_missing : (has : ℕ → Bool) (ns : List ℕ) → find (λ n. not (has n)) ns ≡ None → AllByRecursion (λ n. has n ≡ true) ns
+none_missing has [] h = tt
+none_missing has (n ∷ ns) h =
+    let parts = found_none (has n) n (find (λ m. not (has m)) ns) h in (parts.0, none_missing has ns parts.1)
+
+passed_over : (b : Bool) (n : ℕ) (rest : Option ℕ) → b ≡ true → rest ≡ None → (cond (not b) (Some n) rest) ≡ None
+passed_over true n rest h k = k
+passed_over false n rest h k = absurd cc
+
+pub all_there : (has : ℕ → Bool) (ns : List ℕ) → AllByRecursion (λ n. has n ≡ true) ns → find (λ n. not (has n)) ns ≡ None
+all_there has [] h = refl
+all_there has (n ∷ ns) h = passed_over (has n) n (find (λ m. not (has m)) ns) h.0 (all_there has ns h.1)
+
+-- ---- the order
+
+first_is : (present r : ℕ) (rs : List ℕ) → after present ≡ rs → is_first r rs ≡ true → after present ≡ r ∷ after r
+first_is present r [] e h = absurd cc
+first_is present r (next ∷ more) e h =
+    let same : r ≡ next = eqb-true r next h in
+    let tail : more ≡ after next = (after_tail present next more e).0 in
+    e ∙ (ap (λ (qs : List ℕ). next ∷ qs) tail ∙ ap (λ (q : ℕ). q ∷ after q) (sym same))
+
+pub next_is : (present r : ℕ) → is_first r (after present) ≡ true → after present ≡ r ∷ after r
+next_is present r h = first_is present r (after present) refl h
+
+pub in_order_cases : (present r : ℕ) → is_in_order present r ≡ true → (r ≡ present) ⊎ (after present ≡ r ∷ after r)
+in_order_cases present r h = elim (or_cases (nat_eq r present && not (nat_eq r 0)) (is_first r (after present)) h) [
+  | inl same ↦ inl (eqb-true r present (and_parts (nat_eq r present) (not (nat_eq r 0)) same).0)
+  | inr first ↦ inr (next_is present r first)
+]
+
+is_first_of : (present r : ℕ) → after present ≡ r ∷ after r → is_first r (after present) ≡ true
+is_first_of present r e = ap (is_first r) e ∙ eq_itself r
+
+or_last : (a b : Bool) → b ≡ true → (a || b) ≡ true
+or_last true b h = refl
+or_last false b h = h
+
+or_first : (a b : Bool) → a ≡ true → (a || b) ≡ true
+or_first true b h = refl
+or_first false b h = absurd cc
+
+-- ---- no fault where the layer is alive
+
+-- the row that good data meet
+abbrev MeetsRow : Option Row → List ℕ → Type 0
+MeetsRow o xs = (row : Row) × (o ≡ Some row) × (within row.min row.max (length xs) ≡ true) × (is_admitted row xs ≡ true)
+
+meets_row : (o : Option Row) (xs : List ℕ) → IsSomeAnd o (λ r. IsTrue (is_admitted r xs)) → MeetsRow o xs
+meets_row None xs h = absurd h
+meets_row (Some row) xs h = (row, refl, (and_parts (within row.min row.max (length xs)) (has_kind row.kind xs) h).0, h)
+
+and_not : (a b : Bool) → (b ≡ false → a ≡ false) → (a && not b) ≡ false
+and_not true true h = refl
+and_not true false h = h refl
+and_not false b h = refl
+
+and_right : (a b : Bool) → b ≡ false → (a && b) ≡ false
+and_right true b h = h
+and_right false b h = refl
+
+and_left : (a b : Bool) → a ≡ false → (a && b) ≡ false
+and_left true b h = absurd cc
+and_left false b h = refl
+
+not_one_more : (b : Bool) (n : ℕ) (xs : List Dataset) → occurs n xs ≡ b → occurrences n xs ≡ 0 → b ≡ false
+not_one_more true n xs is none = let some = some_counts n xs is in absurd (omega arith)
+not_one_more false n xs is none = refl
+
+-- a dataset that doesn't repeat has not occurred before
+not_before : (r : ℕ) (xs : List Dataset) (d : Dataset) (ys : List Dataset) → IsGoodRecord r (xs ++ d ∷ ys) → repeats r d.set ≡ false → occurs d.set xs ≡ false
+not_before r xs d ys good single =
+    let most = good.once d.set single in
+    let sum = occurrences_append d.set xs (d ∷ ys) in
+    let front = occurrences_append d.set (d ∷ []) ys in
+    let one : occurrences d.set (d ∷ []) ≡ 1 = ap (λ (b : Bool). 0 + cond b 1 0) (eq_itself d.set) in
+    not_one_more (occurs d.set xs) d.set xs refl (omega arith)
+
+zero_has_none : (d : Dataset) (row : Row) → row_of d.rec d.set ≡ Some row → nat_eq d.rec 0 ≡ false
+zero_has_none d row known = elim (eqb_tells d.rec 0) [
+  | inl same ↦ absurd (let bad : None ≡ Some row = sym (no_row d.set) ∙ (ap (λ (r : ℕ). row_of r d.set) (sym same.1) ∙ known) in cc)
+  | inr other ↦ other.0
+]
+
+each_of : (r : ℕ) (xs : List Dataset) (d : Dataset) (ys : List Dataset) → AllByRecursion (λ x. (x.rec ≡ r) × IsGoodDataset x) (xs ++ d ∷ ys) → IsGoodDataset d
+each_of r [] d ys h = h.0.1
+each_of r (x ∷ xs) d ys h = each_of r xs d ys h.1
+
+pub good_next : (ds : List Dataset) (d : Dataset) (more : List Dataset) → From ds (d ∷ more) → IsGoodDataset d
+good_next ds d more from = elim (from_cons ds d more from) [
+  | inl s ↦ each_of (present_record ds) (present_run ds) d s.run s.good.each
+  | inr n ↦ n.good.each.0.1
+]
+
+same_no_fault : (ds : List Dataset) (d : Dataset) (more : List Dataset) → IsSame ds d more → IsGoodDataset d → HasNoFault (present_record ds) (λ n. occurs n (present_run ds)) (head_of d)
+same_no_fault ds d more s good =
+    let m = meets_row (row_of d.rec d.set) d.octets good.meets in
+    let present : ℕ = present_record ds in
+    let is : nat_eq d.rec present ≡ true = subst (λ (q : ℕ). nat_eq d.rec q ≡ true) s.same (eq_itself d.rec) in
+    record {
+      order = or_first (nat_eq d.rec present && not (nat_eq d.rec 0)) (is_first d.rec (after present))
+          (and_from (nat_eq d.rec present) (not (nat_eq d.rec 0)) is (ap not (zero_has_none d m.0 m.1)));
+      row = m.0;
+      known = m.1;
+      once = and_not (nat_eq d.rec present && occurs d.set (present_run ds)) m.0.repeats (λ single.
+          let alone : repeats present d.set ≡ false = ap (λ (q : ℕ). repeats q d.set) (sym s.same) ∙ (ap may_repeat m.1 ∙ single) in
+          and_right (nat_eq d.rec present) (occurs d.set (present_run ds)) (not_before present (present_run ds) d s.run s.good alone));
+      fits = m.2;
+      whole = λ first. absurd (not_after_itself present d.rec (after d.rec) (next_is present d.rec first) (sym s.same));
+    }
+
+next_no_fault : (ds : List Dataset) (d : Dataset) (more : List Dataset) → IsNext ds d more → IsGoodDataset d → HasNoFault (present_record ds) (λ n. occurs n (present_run ds)) (head_of d)
+next_no_fault ds d more n good =
+    let m = meets_row (row_of d.rec d.set) d.octets good.meets in
+    let present : ℕ = present_record ds in
+    let differ : nat_eq d.rec present ≡ false = elim (eqb_tells d.rec present) [
+      | inl same ↦ absurd (not_after_itself present d.rec (after d.rec) n.next (sym same.1))
+      | inr other ↦ other.0
+    ] in
+    record {
+      order = or_last (nat_eq d.rec present && not (nat_eq d.rec 0)) (is_first d.rec (after present)) (is_first_of present d.rec n.next);
+      row = m.0;
+      known = m.1;
+      once = and_left (nat_eq d.rec present && occurs d.set (present_run ds)) (not m.0.repeats) (and_left (nat_eq d.rec present) (occurs d.set (present_run ds)) differ);
+      fits = m.2;
+      whole = λ first. all_there (λ k. occurs k (present_run ds)) (mandatory present) n.done.mandatory;
+    }
+
+-- what can follow has no fault
+pub from_no_fault : (ds : List Dataset) (d : Dataset) (more : List Dataset) → From ds (d ∷ more) → record_fault ds (head_of d) ≡ None
+from_no_fault ds d more from =
+    let good = good_next ds d more from in
+    no_fault_built (present_record ds) (λ n. occurs n (present_run ds)) (head_of d) (elim (from_cons ds d more from) [
+      | inl s ↦ same_no_fault ds d more s good
+      | inr n ↦ next_no_fault ds d more n good
+    ])
+
+-- ---- alive where there is no fault
+
+part_so_far : (ds : List Dataset) (more : List Dataset) → From ds more → IsPart (present_record ds) (present_run ds)
+part_so_far ds more (run, rest, parts, good, later) = part_front (present_record ds) (present_run ds) run (part_of (present_record ds) (present_run ds ++ run) good)
+
+may_come : (r : ℕ) (xs : List Dataset) (d : Dataset) (a b : Bool) → repeats r d.set ≡ b → occurs d.set xs ≡ a → (a && not b) ≡ false → MayCome r xs d
+may_come r xs d a true rep occ h = inl rep
+may_come r xs d true false rep occ h = absurd cc
+may_come r xs d false false rep occ h = inr occ
+
+may_repeat_of : (r n : ℕ) (row : Row) → row_of r n ≡ Some row → repeats r n ≡ row.repeats
+may_repeat_of r n row e = ap may_repeat e
+
+alive_from : (ds : List Dataset) (d : Dataset) (more : List Dataset) → Follows ds → From ds (d ∷ more) → IsAlive (ds ++ d ∷ [])
+alive_from ds d more follows from = (more, subst AreSections (sym (append_assoc ds (d ∷ []) more)) (follows.comes (d ∷ more) from))
+
+same_alive : EachRowHasValues → (ds : List Dataset) (d : Dataset) → Follows ds → IsPart (present_record ds) (present_run ds) → IsGoodDataset d
+    → HasNoFault (present_record ds) (λ n. occurs n (present_run ds)) (head_of d) → d.rec ≡ present_record ds → IsAlive (ds ++ d ∷ [])
+same_alive values ds d follows part good f same =
+    let present : ℕ = present_record ds in
+    let is : nat_eq d.rec present ≡ true = subst (λ (q : ℕ). nat_eq d.rec q ≡ true) same (eq_itself d.rec) in
+    let once : (occurs d.set (present_run ds) && not f.row.repeats) ≡ false =
+    sym (ap (λ (b : Bool). (b && occurs d.set (present_run ds)) && not f.row.repeats) is) ∙ f.once in
+    let known : row_of present d.set ≡ Some f.row = subst (λ (q : ℕ). row_of q d.set ≡ Some f.row) same f.known in
+    let may = may_come present (present_run ds) d (occurs d.set (present_run ds)) f.row.repeats (may_repeat_of present d.set f.row known) refl once in
+    let done = part_completes values present (present_run ds ++ d ∷ []) (part_more present (present_run ds) d part same good may) in
+    let later = records_to_come values (after present) in
+    alive_from ds d (done.0 ++ later.0) follows (same_from ds d (done.0 ++ later.0) (record {
+      same = same;
+      run = done.0;
+      rest = later.0;
+      parts = refl;
+      good = subst (IsGoodRecord present) (append_assoc (present_run ds) (d ∷ []) done.0) done.1;
+      later = later.1;
+    }))
+
+next_alive : EachRowHasValues → (ds : List Dataset) (d : Dataset) → Follows ds → IsPart (present_record ds) (present_run ds) → IsGoodDataset d
+    → HasNoFault (present_record ds) (λ n. occurs n (present_run ds)) (head_of d) → after (present_record ds) ≡ d.rec ∷ after d.rec → IsAlive (ds ++ d ∷ [])
+next_alive values ds d follows part good f next =
+    let present : ℕ = present_record ds in
+    let whole = none_missing (λ k. occurs k (present_run ds)) (mandatory present) (f.whole (is_first_of present d.rec next)) in
+    let done = part_completes values d.rec (d ∷ []) (part_more d.rec [] d (no_part d.rec) refl good (inr refl)) in
+    let later = records_to_come values (after d.rec) in
+    alive_from ds d (done.0 ++ later.0) follows (next_from ds d (done.0 ++ later.0) (record {
+      next = next;
+      done = record { each = part.each; mandatory = whole; once = part.once };
+      run = done.0;
+      rest = later.0;
+      parts = refl;
+      good = done.1;
+      later = later.1;
+    }))
+
+-- a head without a fault, and good data of it, may come
+pub alive_next : EachRowHasValues → (ds : List Dataset) (d : Dataset) → IsAlive ds → record_fault ds (head_of d) ≡ None → IsGoodDataset d → IsAlive (ds ++ d ∷ [])
+alive_next values ds d alive none good =
+    let follows = alive_follows ds alive in
+    let part = part_so_far ds alive.0 (follows.goes alive.0 alive.1) in
+    let f = no_fault_parts (present_record ds) (λ n. occurs n (present_run ds)) (head_of d) none in
+    elim (in_order_cases (present_record ds) d.rec f.order) [
+      | inl same ↦ same_alive values ds d follows part good f same
+      | inr next ↦ next_alive values ds d follows part good f next
+    ]
+
+-- ---- the laws
+
+pub alive_before : (ds : List Dataset) (d : Dataset) → IsAlive (ds ++ d ∷ []) → IsAlive ds
+alive_before ds d alive = (d ∷ alive.0, subst AreSections (append_assoc ds (d ∷ []) alive.0) alive.1)
+
+pub from_alive : (ds : List Dataset) (d : Dataset) → (alive : IsAlive (ds ++ d ∷ [])) → From ds (d ∷ alive.0)
+from_alive ds d alive = (alive_follows ds (alive_before ds d alive)).goes (d ∷ alive.0) (subst AreSections (append_assoc ds (d ∷ []) alive.0) alive.1)
+
+pub head_alive : EachRowHasValues → (ds : List Dataset) (h : Head) → IsAlive ds → record_fault ds h ≡ None → IsAliveAt ds h
+head_alive values ds h alive none =
+    let f = no_fault_parts (present_record ds) (λ n. occurs n (present_run ds)) h none in
+    let d = value_for values h f.row f.known f.fits in
+    (d.0, d.1, alive_next values ds d.0 alive (subst (λ (k : Head). record_fault ds k ≡ None) (sym d.1) none) d.2)
+
+pub head_no_fault : (ds : List Dataset) (h : Head) → IsAliveAt ds h → record_fault ds h ≡ None
+head_no_fault ds h (d, is, alive) = subst (λ (k : Head). record_fault ds k ≡ None) is (from_no_fault ds d alive.0 (from_alive ds d alive))
+
+value_parts : (o : Option Row) (d : Dataset) → row_of d.rec d.set ≡ o → Octets d.octets → fault_by_row o d ≡ None → IsGoodDataset d
+value_parts None d known octets none = absurd cc
+value_parts (Some row) d known octets none = value_tests (is_admitted row d.octets) (has_file_format d) row d refl refl known octets none
+  where
+    value_tests : (a b : Bool) (row : Row) (d : Dataset) → is_admitted row d.octets ≡ a → has_file_format d ≡ b → row_of d.rec d.set ≡ Some row → Octets d.octets
+        → (if not a then Some (fault_on (head_of d) BadValue) else if not b then Some (fault_on (head_of d) FileFormat) else None) ≡ None → IsGoodDataset d
+    value_tests true true row d admitted format known octets none = record {
+      octets = octets;
+      meets = subst (λ (o : Option Row). IsSomeAnd o (λ r. IsTrue (is_admitted r d.octets))) (sym known) admitted;
+      file_format = format;
+    }
+    value_tests true false row d admitted format known octets none = absurd cc
+    value_tests false b row d admitted format known octets none = absurd cc
+
+pub value_good : (d : Dataset) → Octets d.octets → value_fault d ≡ None → IsGoodDataset d
+value_good d octets none = value_parts (row_of d.rec d.set) d refl octets none
+
+value_built : (o : Option Row) (d : Dataset) (row : Row) → o ≡ Some row → is_admitted row d.octets ≡ true → has_file_format d ≡ true → fault_by_row o d ≡ None
+value_built None d row known admitted format = absurd cc
+value_built (Some own) d row known admitted format =
+    let same : row ≡ own = cc in
+    let holds : is_admitted own d.octets ≡ true = subst (λ (r : Row). is_admitted r d.octets ≡ true) same admitted in
+    value_tests (is_admitted own d.octets) (has_file_format d) _ _ holds format
+  where
+    value_tests : (a b : Bool) (f g : FieldFault) → a ≡ true → b ≡ true → (if not a then Some f else if not b then Some g else None) ≡ None
+    value_tests true true f g h k = refl
+    value_tests true false f g h k = absurd cc
+    value_tests false b f g h k = absurd cc
+
+pub good_value : (d : Dataset) → IsGoodDataset d → value_fault d ≡ None
+good_value d good = let m = meets_row (row_of d.rec d.set) d.octets good.meets in value_built (row_of d.rec d.set) d m.0 m.1 m.3 good.file_format
+
+pub value_alive : EachRowHasValues → (ds : List Dataset) (d : Dataset) → IsAliveAt ds (head_of d) → Octets d.octets → value_fault d ≡ None → IsAlive (ds ++ d ∷ [])
+value_alive values ds d at octets none = alive_next values ds d (alive_before ds at.0 at.2) (head_no_fault ds (head_of d) at) (value_good d octets none)
+
+pub value_no_fault : (ds : List Dataset) (d : Dataset) → IsAlive (ds ++ d ∷ []) → value_fault d ≡ None
+value_no_fault ds d alive = good_value d (good_next ds d alive.0 (from_alive ds d alive))

@@ -1,0 +1,9 @@
+pub mod Table
+pub mod Runs
+pub mod Follows
+pub mod Dies
+pub mod Stand
+pub mod Build
+pub mod Finish
+pub mod Sound
+pub mod Mandatory

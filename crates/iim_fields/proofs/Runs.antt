@@ -1,0 +1,147 @@
+-- Parts of good records, and how they are completed.
+use Rattle.std.proofs.Common.{◌≡◌, ◌≢◌, ℕ, ◌+◌, ◌<◌, ◌≤◌, ◌⊎◌, Bool, true, false, ◌||◌, cond, nat_eq, List, [], ◌∷◌, ◌++◌, length, refl, ap, sym, ◌∙◌, inl, inr, arith, subst, append_assoc, append-nil}
+use Rattle.std.specs.List.{AllByRecursion, list_any}
+use Rattle.std.proofs.lemmas.List.Folds.{list_any-append}
+use Rattle.std.proofs.lemmas.List.Sums.{sum_by-append}
+use Rattle.std.proofs.lemmas.Bool.{or_parts}
+use Rattle.std.proofs.lemmas.Bool.Decides.{eqb_tells}
+use Rattle.iim_dataset.specs.Datasets.{Dataset}
+use Rattle.iim_fields.specs.Records.{mandatory, after, IsGoodDataset, IsGoodRecord, AreRecords, occurs, occurrences, repeats}
+use Rattle.iim_fields.proofs.Table.{EachRowHasValues, HasSample, samples}
+
+pub all_append : {X : Type 0} (P : X → Type 0) (xs ys : List X) → AllByRecursion P xs → AllByRecursion P ys → AllByRecursion P (xs ++ ys)
+all_append P [] ys h k = k
+all_append P (x ∷ xs) ys h k = (h.0, all_append P xs ys h.1 k)
+
+pub all_front : {X : Type 0} (P : X → Type 0) (xs ys : List X) → AllByRecursion P (xs ++ ys) → AllByRecursion P xs
+all_front P [] ys h = tt
+all_front P (x ∷ xs) ys h = (h.0, all_front P xs ys h.1)
+
+pub all_back : {X : Type 0} (P : X → Type 0) (xs ys : List X) → AllByRecursion P (xs ++ ys) → AllByRecursion P ys
+all_back P [] ys h = h
+all_back P (x ∷ xs) ys h = all_back P xs ys h.1
+
+pub occurrences_append : (n : ℕ) (xs ys : List Dataset) → occurrences n (xs ++ ys) ≡ occurrences n xs + occurrences n ys
+occurrences_append n xs ys = sum_by-append (λ (d : Dataset). cond (nat_eq d.set n) 1 0) xs ys
+
+pub none_counts : (n : ℕ) (xs : List Dataset) → occurs n xs ≡ false → occurrences n xs ≡ 0
+none_counts n [] h = refl
+none_counts n (x ∷ xs) h =
+    let parts = or_parts (nat_eq x.set n) (occurs n xs) h in
+    let later = none_counts n xs parts.1 in rw parts.0 later
+
+some_counts_by : (b : Bool) (rest : Bool) (count : ℕ) → (rest ≡ true → 1 ≤ count) → (b || rest) ≡ true → 1 ≤ cond b 1 0 + count
+some_counts_by true rest count more h = omega arith
+some_counts_by false rest count more h = let m = more h in omega arith
+
+pub some_counts : (n : ℕ) (xs : List Dataset) → occurs n xs ≡ true → 1 ≤ occurrences n xs
+some_counts n [] h = absurd cc
+some_counts n (x ∷ xs) h =
+    let sum = occurrences_append n (x ∷ []) xs in
+    let more = some_counts_by (nat_eq x.set n) (occurs n xs) (occurrences n xs) (some_counts n xs) h in omega arith
+
+or_left : (a b : Bool) → a ≡ true → (a || b) ≡ true
+or_left true b h = refl
+or_left false b h = absurd cc
+
+or_right : (a b : Bool) → b ≡ true → (a || b) ≡ true
+or_right true b h = refl
+or_right false b h = h
+
+pub occurs_front : (n : ℕ) (xs ys : List Dataset) → occurs n xs ≡ true → occurs n (xs ++ ys) ≡ true
+occurs_front n xs ys h = list_any-append (λ (d : Dataset). nat_eq d.set n) xs ys ∙ or_left (occurs n xs) (occurs n ys) h
+
+pub eq_itself : (n : ℕ) → nat_eq n n ≡ true
+eq_itself n = elim (eqb_tells n n) [ inl same ↦ same.0 | inr other ↦ absurd (other.1 refl) ]
+
+pub occurs_last : (n : ℕ) (xs : List Dataset) (d : Dataset) → d.set ≡ n → occurs n (xs ++ d ∷ []) ≡ true
+occurs_last n xs d is =
+    list_any-append (λ (d : Dataset). nat_eq d.set n) xs (d ∷ [])
+    ∙ or_right (occurs n xs) (nat_eq d.set n || false) (or_left (nat_eq d.set n) false (subst (λ (m : ℕ). nat_eq d.set m ≡ true) is (eq_itself d.set)))
+
+-- ---- a part of a record
+
+-- the datasets may be the first of a good record
+pub record IsPart (rec : ℕ) (ds : List Dataset) : Type 0 where
+  pub each : AllByRecursion (λ d. (d.rec ≡ rec) × IsGoodDataset d) ds
+  pub once : (n : ℕ) → repeats rec n ≡ false → occurrences n ds ≤ 1
+
+pub no_part : (r : ℕ) → IsPart r []
+no_part r = record { each = tt; once = λ n h. omega arith }
+
+pub part_front : (r : ℕ) (xs ys : List Dataset) → IsPart r (xs ++ ys) → IsPart r xs
+part_front r xs ys p = record {
+  each = all_front (λ (d : Dataset). (d.rec ≡ r) × IsGoodDataset d) xs ys p.each;
+  once = λ n h. let sum = occurrences_append n xs ys in let most = p.once n h in omega arith;
+}
+
+pub part_of : (r : ℕ) (xs : List Dataset) → IsGoodRecord r xs → IsPart r xs
+part_of r xs g = record { each = g.each; once = g.once }
+
+-- the number may occur again, or has not occurred
+abbrev pub MayCome : ℕ → List Dataset → Dataset → Type 0
+MayCome r xs d = (repeats r d.set ≡ true) ⊎ (occurs d.set xs ≡ false)
+
+once_more : (r : ℕ) (xs : List Dataset) (d : Dataset) → IsPart r xs → MayCome r xs d → (n : ℕ) → repeats r n ≡ false → occurrences n xs + (cond (nat_eq d.set n) 1 0 + 0) ≤ 1
+once_more r xs d p may n h = elim (eqb_tells d.set n) [
+  | inl same ↦ elim may [
+    | inl again ↦ absurd (let bad : repeats r n ≡ true = subst (λ (m : ℕ). repeats r m ≡ true) same.1 again in cc)
+    | inr none ↦
+        let zero_of : occurrences n xs ≡ 0 = none_counts n xs (subst (λ (m : ℕ). occurs m xs ≡ false) same.1 none) in
+        rw (same.0, zero_of) (omega arith)
+  ]
+  | inr other ↦ let most = p.once n h in rw other.0 (omega arith)
+]
+
+pub part_more : (r : ℕ) (xs : List Dataset) (d : Dataset) → IsPart r xs → d.rec ≡ r → IsGoodDataset d → MayCome r xs d → IsPart r (xs ++ d ∷ [])
+part_more r xs d p of good may = record {
+  each = all_append (λ (x : Dataset). (x.rec ≡ r) × IsGoodDataset x) xs (d ∷ []) p.each ((of, good), tt);
+  once = λ n h. let sum = occurrences_append n xs (d ∷ []) in let most = once_more r xs d p may n h in omega arith;
+}
+
+-- a part that is followed by a run in which these numbers occur
+abbrev Completed : ℕ → List Dataset → List ℕ → Type 0
+Completed r xs ns = (run : List Dataset) × IsPart r (xs ++ run) × AllByRecursion (λ n. occurs n (xs ++ run) ≡ true) ns
+
+complete_by : (b : Bool) (r : ℕ) (xs : List Dataset) (n : ℕ) (ns : List ℕ) → occurs n xs ≡ b → IsPart r xs → HasSample r n
+    → ((ys : List Dataset) → IsPart r ys → Completed r ys ns) → Completed r xs (n ∷ ns)
+complete_by true r xs n ns is p sample more =
+    let later = more xs p in (later.0, later.1, (occurs_front n xs later.0 is, later.2))
+complete_by false r xs n ns is p sample more =
+    let d : Dataset = sample.0 in
+    let next : IsPart r (xs ++ d ∷ []) = part_more r xs d p sample.1 sample.3 (inr (subst (λ (m : ℕ). occurs m xs ≡ false) (sym sample.2) is)) in
+    let later = more (xs ++ d ∷ []) next in
+    let same : (xs ++ d ∷ []) ++ later.0 ≡ xs ++ (d ∷ later.0) = append_assoc xs (d ∷ []) later.0 in (
+      d ∷ later.0,
+      subst (IsPart r) same later.1,
+      (
+        subst (λ (ys : List Dataset). occurs n ys ≡ true) same (occurs_front n (xs ++ d ∷ []) later.0 (occurs_last n xs d sample.2)),
+        subst (λ (ys : List Dataset). AllByRecursion (λ n. occurs n ys ≡ true) ns) same later.2,
+      ),
+    )
+
+complete : (r : ℕ) (ns : List ℕ) → AllByRecursion (HasSample r) ns → (xs : List Dataset) → IsPart r xs → Completed r xs ns
+complete r [] have xs p = ([], subst (IsPart r) (sym (append-nil xs)) p, tt)
+complete r (n ∷ ns) have xs p = complete_by (occurs n xs) r xs n ns refl p have.0 (complete r ns have.1)
+
+-- a part of a record goes on to a good one
+pub part_completes : EachRowHasValues → (r : ℕ) (xs : List Dataset) → IsPart r xs → (run : List Dataset) × IsGoodRecord r (xs ++ run)
+part_completes values r xs p =
+    let c = complete r (mandatory r) (samples values r) xs p in
+    (c.0, record { each = c.1.each; mandatory = c.2; once = c.1.once })
+
+-- there are records of these numbers
+pub records_to_come : EachRowHasValues → (rs : List ℕ) → (ds : List Dataset) × AreRecords rs ds
+records_to_come values [] = ([], refl)
+records_to_come values (r ∷ rs) =
+    let first = part_completes values r [] (no_part r) in
+    let later = records_to_come values rs in
+    (first.0 ++ later.0, (first.0, later.0, refl, first.1, later.1))
+
+none_occurs : (ns : List ℕ) → 0 < length ns → AllByRecursion (λ n. occurs n [] ≡ true) ns → ⊥
+none_occurs [] long h = absurd (omega arith)
+none_occurs (n ∷ ns) long h = let bad : false ≡ true = h.0 in cc
+
+-- a good record of this number has a dataset
+pub not_empty : (r : ℕ) → 0 < length (mandatory r) → IsGoodRecord r [] → ⊥
+not_empty r long g = none_occurs (mandatory r) long g.mandatory

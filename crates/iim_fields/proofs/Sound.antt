@@ -1,0 +1,22 @@
+-- The entries of an envelope's store end in order.
+use Rattle.std.proofs.Common.{◌≡◌, ℕ, ◌+◌, ◌-◌, ◌<◌, ◌≤◌, Bool, true, false, nat_le, List, [], ◌∷◌, ◌++◌, length, refl, ap, sym, ◌∙◌, arith, subst, length-append, append-nil}
+use Rattle.std.proofs.lemmas.Bool.{and_from, le-leb}
+use Rattle.iim_dataset.specs.Datasets.{Dataset}
+use Rattle.iim_fields.specs.Faults.{joined}
+use Rattle.iim_fields.specs.Stores.{Holds, entries_of}
+use Rattle.iim_fields.specs.Builders.{fields_of, IsEnvelopeStore}
+use Rattle.iim_fields.specs.Views.{is_sound}
+use Rattle.iim_fields.specs.declared.store.Store.{Store}
+
+sound_by : (from n : ℕ) (ks : List Dataset) → length (joined ks) ≤ n → is_sound from (entries_of from ks) n ≡ true
+sound_by from n [] fits = refl
+sound_by from n (k ∷ ks) fits =
+    let long : length k.octets + length (joined ks) ≤ n = omega (arith, length-append k.octets (joined ks)) in
+    let end : ℕ = from + length k.octets in
+    let later : is_sound end (entries_of end ks) (n - (end - from)) ≡ true = sound_by end (n - (end - from)) ks (omega arith) in
+    and_from (nat_le from end) _ (le-leb from end (omega arith)) (and_from (nat_le (end - from) n) _ (le-leb (end - from) n (omega arith)) later)
+
+pub sound : (store : Store) → IsEnvelopeStore store → is_sound 0 store.entries.items (length store.octets.items) ≡ true
+sound store good =
+    let long : length store.octets.items ≡ length (joined (fields_of store)) = ap (λ (xs : List ℕ). length xs) (good.holds.octets ∙ append-nil (joined (fields_of store))) in
+    ap (λ es. is_sound 0 es (length store.octets.items)) good.holds.entries ∙ sound_by 0 (length store.octets.items) (fields_of store) (omega arith)

@@ -1,0 +1,5 @@
+use Rattle.iim_fields.proofs.Dies.{head_alive, head_no_fault}
+use Rattle.iim_fields.proofs.laws.heads_die_with_their_fault.Goals as goal
+
+pub returns : goal.returns
+returns c = λ ds h alive. (head_alive c.each_row_has_values.ensures ds h alive, head_no_fault ds h)

@@ -1,0 +1,65 @@
+-- What a builder of envelopes has, and what an envelope is.
+use Rattle.std.specs.Prelude.{◌≡◌, ℕ, ◌-◌, Bool, false, not, ◌==◌, if◌then◌else◌, List, [], ◌∷◌, ◌++◌, take, drop, Option, Some, None}
+use Rattle.std.specs.List.{filter}
+use Rattle.std.specs.Option.{option_or}
+use Rattle.iim_dataset.specs.Datasets.{Dataset, head_of}
+use Rattle.iim_fields.specs.Records.{IsGoodRecord, occurs}
+use Rattle.iim_fields.specs.Faults.{first_fault, value_fault, missing_fault, missing_of, of_record, is_kept, kept, fault_on}
+use Rattle.iim_fields.specs.Stores.{Holds}
+use Rattle.iim_fields.specs.Standing.{StandsBehind}
+use Rattle.iim_fields.specs.declared.limits.Limits.{Limits}
+use Rattle.iim_fields.specs.declared.store.Entry.{Entry}
+use Rattle.iim_fields.specs.declared.store.Store.{Store}
+use Rattle.iim_fields.specs.declared.fields.Fields.{Fields}
+use Rattle.iim_fields.specs.declared.fault.FieldFault.{FieldFault}
+use Rattle.iim_fields.specs.declared.fault.FieldCause.TheVariants.{RecordOrder}
+
+-- the datasets of entries, the first of which begins there, with these octets
+abbrev pub fields_from : ℕ → List Entry → List ℕ → List Dataset
+fields_from from [] xs = []
+fields_from from (e ∷ es) xs =
+    record { rec = e.rec; set = e.set; octets = take (e.end - from) xs } ∷ fields_from e.end es (drop (e.end - from) xs)
+
+-- the datasets in a store
+abbrev pub fields_of : Store → List Dataset
+fields_of store = fields_from 0 store.entries.items store.octets.items
+
+-- A builder is seen as its limits and the datasets so far.
+pub record Building : Type 0 where
+  pub limits : Limits
+  pub fields : List Dataset
+
+abbrev pub building_of : Fields → Building
+building_of fields = record { limits = fields.limits; fields = fields_of fields.store }
+
+-- the builder's checker stands behind the datasets that are kept, and there are no others
+pub record IsBuilding (fields : Fields) : Type 0 where
+  pub stands : StandsBehind fields (fields_of fields.store)
+  pub all_kept : kept (fields_of fields.store) ≡ fields_of fields.store
+
+-- The first fault of a dataset that is added: its record is neither 1 nor 2, or else the fault of its head, or else of its value.
+abbrev pub add_fault : Limits → List Dataset → Dataset → Option FieldFault
+add_fault limits ds d =
+    if not (is_kept d.rec) then Some (fault_on (head_of d) RecordOrder)
+    else option_or (first_fault limits ds (head_of d)) (value_fault d)
+
+-- the lowest mandatory number of the record that is absent
+abbrev pub absent : ℕ → List Dataset → Option FieldFault
+absent r ds = missing_fault r (missing_of r (λ n. occurs n (of_record r ds)))
+
+-- What is missing of a whole envelope: of record 1, or else of record 2.
+abbrev pub finish_fault : List Dataset → Option FieldFault
+finish_fault ds = option_or (absent 1 ds) (absent 2 ds)
+
+-- The datasets are a good record 1 and then a good record 2.
+pub record IsEnvelope (ds : List Dataset) : Type 0 where
+  pub r1 : List Dataset
+  pub r2 : List Dataset
+  pub parts : ds ≡ r1 ++ r2
+  pub envelope : IsGoodRecord 1 r1
+  pub application : IsGoodRecord 2 r2
+
+-- the store has exactly the datasets of an envelope
+pub record IsEnvelopeStore (store : Store) : Type 0 where
+  pub holds : Holds store (fields_of store) []
+  pub envelope : IsEnvelope (fields_of store)

@@ -1,0 +1,15 @@
+-- Faults stand exactly where the record layer dies.
+use Rattle.std.specs.Prelude.{◌≡◌, ◌↔◌, List, [], ◌∷◌, ◌++◌, None}
+use Rattle.iim_dataset.specs.Octets.{Octets}
+use Rattle.iim_dataset.specs.Datasets.{Dataset, head_of}
+use Rattle.iim_dataset.specs.declared.head.Head.{Head}
+use Rattle.iim_fields.specs.Alive.{IsAlive, IsAliveAt}
+use Rattle.iim_fields.specs.Faults.{record_fault, value_fault}
+
+-- Behind datasets that are alive, a head has no fault exactly where the record layer is alive with it.
+abbrev pub HeadsDieWithTheirFault : Type 0
+HeadsDieWithTheirFault = (ds : List Dataset) (h : Head) → IsAlive ds → (record_fault ds h ≡ None) ↔ IsAliveAt ds h
+
+-- Behind a head that is alive, a value has no fault exactly where the record layer is alive with it.
+abbrev pub ValuesDieWithTheirFault : Type 0
+ValuesDieWithTheirFault = (ds : List Dataset) (d : Dataset) → IsAliveAt ds (head_of d) → Octets d.octets → (value_fault d ≡ None) ↔ IsAlive (ds ++ d ∷ [])

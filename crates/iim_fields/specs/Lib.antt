@@ -1,0 +1,11 @@
+pub mod Records
+pub mod Alive
+pub mod Faults
+pub mod Orders
+pub mod Values
+pub mod Stores
+pub mod Standing
+pub mod Builders
+pub mod Views
+pub mod Walks
+pub mod Laws

@@ -1,0 +1,23 @@
+-- Views of the datasets of an envelope.
+use Rattle.std.specs.Prelude.{◌≡◌, ℕ, ◌-◌, Bool, true, ◌&&◌, ◌==◌, nat_le, if◌then◌else◌, List, [], ◌∷◌, length, map, Option, Some, None}
+use Rattle.std.specs.List.{filter}
+use Rattle.iim_dataset.specs.Datasets.{Dataset}
+use Rattle.iim_fields.specs.declared.store.Entry.{Entry}
+
+-- the dataset has the numbers
+abbrev pub is_of : ℕ → ℕ → Dataset → Bool
+is_of rec set d = d.rec == rec && d.set == set
+
+-- the data of each dataset with the numbers, in order
+abbrev pub all_data : ℕ → ℕ → List Dataset → List (List ℕ)
+all_data rec set ds = map (λ d. d.octets) (filter (is_of rec set) ds)
+
+-- the data of the first dataset with the numbers
+abbrev pub first_data : ℕ → ℕ → List Dataset → Option (List ℕ)
+first_data rec set [] = None
+first_data rec set (d ∷ ds) = if is_of rec set d then Some d.octets else first_data rec set ds
+
+-- the entries end in order, within so many octets
+abbrev pub is_sound : ℕ → List Entry → ℕ → Bool
+is_sound from [] n = true
+is_sound from (e ∷ es) n = nat_le from e.end && (nat_le (e.end - from) n && is_sound e.end es (n - (e.end - from)))

@@ -1,0 +1,84 @@
+//! Envelopes, built dataset by dataset.
+
+ghost use Rattle.std.specs.Prelude.{◌≡◌, [], ◌∷◌, ◌++◌, Some, None, IfOk, IfErr, OnOk, OnErr};
+ghost use Rattle.iim_fields.specs.Builders.{add_fault, finish_fault};
+
+use crate::envelope::Envelope;
+use crate::fault::{FieldCause, FieldFault};
+use crate::fields::Fields;
+use crate::limits::Limits;
+use crate::order::fault_on;
+use crate::records::is_kept;
+use iim_dataset::Head;
+use iim_tables::each_row_has_values;
+use std::alloc::{AllocError, Global};
+use std::marker::Model;
+
+/// The datasets so far of an envelope that is built. It is seen as its limits and the list of them.
+#[derive(Drop)]
+pub struct EnvelopeBuilder {
+    fields: Fields,
+}
+
+impl Model for EnvelopeBuilder {
+    ghost use Rattle.iim_fields.specs.Builders.{Building, building_of, IsBuilding};
+
+    ghost Value = { Building };
+
+    ghost view = { λ b. building_of b.fields };
+
+    ghost invariant = { λ b. IsBuilding b.fields };
+}
+
+impl EnvelopeBuilder {
+    /// No datasets, with memory for all that the limits allow: no later call takes any.
+    pub fn new(alloc: Global, limits: Limits) -> Result<EnvelopeBuilder, AllocError>
+        ensures empty { IfOk result (λ builder. builder ≡ record { limits = limits; fields = [] }) }
+    {
+        let fields = Fields::new(alloc, limits)?;
+        Ok(EnvelopeBuilder { fields })
+    }
+
+    /// Adds a dataset, or answers its first fault and changes nothing: that of its head where [`crate::Fields`] stands
+    /// behind the datasets so far, or else that of its value. Records other than 1 and 2 are out of order here.
+    pub fn add(&mut self, rec: u8, set: u8, octets: &[u8]) -> Result<(), FieldFault>
+        ensures admitted { OnOk result (add_fault self.old.limits self.old.fields record { rec = rec; set = set; octets = octets.now } ≡ None) }
+        ensures added { OnOk result (self.new ≡ record self.old { fields = self.old.fields ++ record { rec = rec; set = set; octets = octets.now } ∷ [] }) }
+        ensures fault { IfErr result (λ fault. add_fault self.old.limits self.old.fields record { rec = rec; set = set; octets = octets.now } ≡ Some fault) }
+        ensures unchanged { OnErr result (self.new ≡ self.old) }
+    {
+        let head = Head {
+            rec,
+            set,
+            count: octets.len() as u64,
+        };
+        if !is_kept(rec) {
+            return Err(fault_on(head, FieldCause::RecordOrder));
+        }
+        match self.fields.admit(head, octets) {
+            Ok(row) => {
+                self.fields.place(head, row, octets);
+                Ok(())
+            }
+            Err(fault) => Err(fault),
+        }
+    }
+
+    /// The envelope, where nothing mandatory is absent. Else the builder is handed back as it was, with what is missing:
+    /// of record 1, or else of record 2.
+    pub fn finish(self) -> Result<Envelope, (EnvelopeBuilder, FieldFault)>
+        ensures whole { OnOk result (finish_fault self.fields ≡ None) }
+        ensures envelope { IfOk result (λ envelope. envelope ≡ self.fields) }
+        ensures fault { IfErr result (λ refused. finish_fault self.fields ≡ Some refused.1) }
+        ensures unchanged { IfErr result (λ refused. refused.0 ≡ self) }
+    {
+        each_row_has_values();
+        match self.fields.end_fault() {
+            Some(fault) => Err((self, fault)),
+            None => {
+                let store = self.fields.into_store();
+                Ok(Envelope { store })
+            }
+        }
+    }
+}

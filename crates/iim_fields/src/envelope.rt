@@ -1,0 +1,205 @@
+//! Envelopes: the datasets of records 1 and 2, and the views of them.
+
+use crate::records::{APPLICATION, ENVELOPE};
+use crate::store::Store;
+use crate::walk::{DataIter, FieldIter};
+use std::marker::Model;
+
+/// The datasets of a whole record 1 and a whole record 2, each good. It is seen as the list of them, in order.
+#[derive(Drop)]
+pub struct Envelope {
+    pub(crate) store: Store,
+}
+
+impl Model for Envelope {
+    ghost use Rattle.std.specs.Prelude.{List};
+    ghost use Rattle.iim_dataset.specs.Datasets.{Dataset};
+    ghost use Rattle.iim_fields.specs.Builders.{fields_of, IsEnvelopeStore};
+
+    ghost Value = { List Dataset };
+
+    ghost view = { λ e. fields_of e.store };
+
+    ghost invariant = { λ e. IsEnvelopeStore e.store };
+}
+
+impl Envelope {
+    ghost use Rattle.std.specs.Prelude.{◌≡◌, Some, ◌↔◌, IsTrue};
+    ghost use Rattle.std.specs.Option.{option_map};
+    ghost use Rattle.iim_fields.specs.Walks.{rest_of, data_left};
+    ghost use Rattle.iim_fields.specs.Views.{first_data, all_data};
+
+    /// All datasets, in order: record, number and data of each.
+    pub fn fields(&self) -> FieldIter<'_>
+        ensures { rest_of result ≡ self.now }
+    {
+        FieldIter {
+            from: 0,
+            entries: &self.store.entries,
+            octets: &self.store.octets,
+        }
+    }
+
+    /// The data of the first dataset with these numbers, of any record and number.
+    pub fn first(&self, rec: u8, set: u8) -> Option<&[u8]>
+        ensures { option_map (λ x. x.now) result ≡ first_data rec set self.now }
+    {
+        let mut fields = self.fields();
+        while let Some((field_rec, field_set, octets)) = fields.next() {
+            if field_rec == rec && field_set == set {
+                return Some(octets);
+            }
+        }
+        None
+    }
+
+    /// The data of each dataset with these numbers, in order.
+    pub fn all(&self, rec: u8, set: u8) -> DataIter<'_>
+        ensures { data_left result ≡ all_data rec set self.now }
+    {
+        DataIter {
+            fields: self.fields(),
+            rec,
+            set,
+        }
+    }
+
+    /// 1:30 Service Identifier, of the Envelope Record.
+    pub fn service(&self) -> &[u8]
+        ensures { first_data 1 30 self.now ≡ Some result.now }
+    {
+        let _ = &self.store;
+        self.first(ENVELOPE, 30).unwrap()
+    }
+
+    /// 1:40 Envelope Number.
+    pub fn number(&self) -> &[u8]
+        ensures { first_data 1 40 self.now ≡ Some result.now }
+    {
+        let _ = &self.store;
+        self.first(ENVELOPE, 40).unwrap()
+    }
+
+    /// 1:70 Date Sent, as eight digits, CCYYMMDD.
+    pub fn date_sent_text(&self) -> &[u8]
+        ensures { first_data 1 70 self.now ≡ Some result.now }
+    {
+        let _ = &self.store;
+        self.first(ENVELOPE, 70).unwrap()
+    }
+
+    /// 1:00 Model Version.
+    pub fn model_version(&self) -> &[u8]
+        ensures { first_data 1 0 self.now ≡ Some result.now }
+    {
+        let _ = &self.store;
+        self.first(ENVELOPE, 0).unwrap()
+    }
+
+    /// 1:22 File Format Version.
+    pub fn format_version(&self) -> &[u8]
+        ensures { first_data 1 22 self.now ≡ Some result.now }
+    {
+        let _ = &self.store;
+        self.first(ENVELOPE, 22).unwrap()
+    }
+
+    /// 2:00 Record Version, of the Application Record.
+    pub fn record_version(&self) -> &[u8]
+        ensures { first_data 2 0 self.now ≡ Some result.now }
+    {
+        let _ = &self.store;
+        self.first(APPLICATION, 0).unwrap()
+    }
+
+    /// 1:80 Time Sent, where it was sent.
+    pub fn time_sent(&self) -> Option<&[u8]>
+        ensures { option_map (λ x. x.now) result ≡ first_data 1 80 self.now }
+    {
+        self.first(ENVELOPE, 80)
+    }
+
+    /// 2:05 Object Name, where it was sent.
+    pub fn object_name(&self) -> Option<&[u8]>
+        ensures { option_map (λ x. x.now) result ≡ first_data 2 5 self.now }
+    {
+        self.first(APPLICATION, 5)
+    }
+
+    /// 2:10 Urgency, where it was sent.
+    pub fn urgency(&self) -> Option<&[u8]>
+        ensures { option_map (λ x. x.now) result ≡ first_data 2 10 self.now }
+    {
+        self.first(APPLICATION, 10)
+    }
+
+    /// 2:15 Category, where it was sent.
+    pub fn category(&self) -> Option<&[u8]>
+        ensures { option_map (λ x. x.now) result ≡ first_data 2 15 self.now }
+    {
+        self.first(APPLICATION, 15)
+    }
+
+    /// 2:105 Headline, where it was sent.
+    pub fn headline(&self) -> Option<&[u8]>
+        ensures { option_map (λ x. x.now) result ≡ first_data 2 105 self.now }
+    {
+        self.first(APPLICATION, 105)
+    }
+
+    /// Each 1:05 Destination, in order.
+    pub fn destinations(&self) -> DataIter<'_>
+        ensures { data_left result ≡ all_data 1 5 self.now }
+    {
+        self.all(ENVELOPE, 5)
+    }
+
+    /// Each 1:50 Product I.D., in order.
+    pub fn products(&self) -> DataIter<'_>
+        ensures { data_left result ≡ all_data 1 50 self.now }
+    {
+        self.all(ENVELOPE, 50)
+    }
+
+    /// Each 2:20 Supplemental Category, in order.
+    pub fn supplementals(&self) -> DataIter<'_>
+        ensures { data_left result ≡ all_data 2 20 self.now }
+    {
+        self.all(APPLICATION, 20)
+    }
+
+    /// Each 2:25 Keywords, in order.
+    pub fn keywords(&self) -> DataIter<'_>
+        ensures { data_left result ≡ all_data 2 25 self.now }
+    {
+        self.all(APPLICATION, 25)
+    }
+
+    /// Each 2:80 By-line, in order.
+    pub fn bylines(&self) -> DataIter<'_>
+        ensures { data_left result ≡ all_data 2 80 self.now }
+    {
+        self.all(APPLICATION, 80)
+    }
+
+    /// Each 2:85 By-line Title, in order.
+    pub fn byline_titles(&self) -> DataIter<'_>
+        ensures { data_left result ≡ all_data 2 85 self.now }
+    {
+        self.all(APPLICATION, 85)
+    }
+
+    /// Each 2:122 Writer/Editor, in order.
+    pub fn writers(&self) -> DataIter<'_>
+        ensures { data_left result ≡ all_data 2 122 self.now }
+    {
+        self.all(APPLICATION, 122)
+    }
+
+    /// Whether both have the same datasets in the same order.
+    pub fn same(&self, other: &Envelope) -> bool
+        ensures { IsTrue result ↔ (self.now ≡ other.now) }
+    {
+        self.store.octets == other.store.octets && self.store.entries == other.store.entries
+    }
+}

@@ -1,0 +1,26 @@
+//! The records of an envelope (IIM version 4): each dataset is checked against its row, records 1 and 2 are kept.
+//!
+//! Stands on `iim_tables` and `iim_dataset`.
+#![tactic(auto)]
+
+mod builder;
+mod envelope;
+mod fault;
+mod fields;
+mod laws;
+mod limits;
+mod order;
+mod records;
+mod store;
+#[cfg(test)]
+mod tests;
+mod value;
+mod walk;
+
+pub use builder::EnvelopeBuilder;
+pub use envelope::Envelope;
+pub use fault::{FieldCause, FieldFault};
+pub use fields::Fields;
+pub use laws::{heads_die_with_their_fault, values_die_with_their_fault};
+pub use limits::Limits;
+pub use walk::{DataIter, FieldIter};

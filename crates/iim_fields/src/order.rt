@@ -1,0 +1,161 @@
+//! Where a head may stand: the order of the records, and the rows of their datasets.
+
+ghost use Rattle.std.specs.Prelude.{◌≡◌, Some, None, IfOk, IfErr, OnOk};
+ghost use Rattle.iim_tables.specs.Rows.{row_of};
+ghost use Rattle.iim_fields.specs.Faults.{head_fault, row_fault, missing_of, missing_fault, is_in_order, is_first};
+ghost use Rattle.iim_fields.specs.Records.{after};
+ghost use Rattle.iim_fields.specs.Orders.{has_seen, nothing, Takes, end_fault, no_application};
+
+use crate::fault::{FieldCause, FieldFault};
+use crate::records::{APPLICATION, ENVELOPE, mandatory, next_record};
+use iim_dataset::Head;
+use iim_tables::{Row, row};
+
+/// What the heads so far leave open: the present record, 0 before the first, and the numbers that occurred in it.
+#[derive(Drop)]
+pub(crate) struct Order {
+    rec: u8,
+    seen: [bool; 256],
+}
+
+/// A fault on the dataset of a head.
+pub(crate) fn fault_on(head: Head, cause: FieldCause) -> FieldFault
+    ensures { result ≡ record { rec = head.rec; set = head.set; cause = cause } }
+{
+    FieldFault {
+        rec: head.rec,
+        set: head.set,
+        cause,
+    }
+}
+
+fn missing_on(rec: u8, set: u8) -> FieldFault
+    ensures { result ≡ record { rec = rec; set = set; cause = FieldCause.Missing } }
+{
+    FieldFault {
+        rec,
+        set,
+        cause: FieldCause::Missing,
+    }
+}
+
+/// The fault of an envelope without record 2.
+#[tactic(auto, using(crate::proofs::Table::no_application_fault))]
+fn no_application() -> Option<FieldFault>
+    ensures { result ≡ no_application }
+{
+    Some(missing_on(APPLICATION, 0))
+}
+
+/// The first fault of a head by its row.
+fn row_fault(again: bool, row: &Row, head: Head) -> Option<FieldFault>
+    ensures { result ≡ row_fault again (Some row.now) head }
+{
+    if again && !row.repeats {
+        return Some(fault_on(head, FieldCause::Repeated));
+    }
+    if !(row.min..=row.max).contains(&head.count) {
+        return Some(fault_on(head, FieldCause::CountRange));
+    }
+    None
+}
+
+impl Order {
+    /// At the beginning of an envelope.
+    pub fn new() -> Order
+        ensures rec { result.rec ≡ 0 }
+        ensures seen { result.seen ≡ nothing }
+    {
+        Order {
+            rec: 0,
+            seen: [false; 256],
+        }
+    }
+
+    /// The lowest mandatory number of the record that has not occurred.
+    fn missing(&self, rec: u8) -> Option<u8>
+        ensures { result ≡ missing_of rec (has_seen self.now) }
+    {
+        mandatory(rec)
+            .iter()
+            .copied()
+            .find(|set| !self.seen[usize::from(*set)])
+    }
+
+    /// Whether the record follows the present one.
+    fn begins(&self, rec: u8) -> bool
+        ensures { result ≡ is_first rec (after self.now.rec) }
+    {
+        match next_record(self.rec) {
+            Some(next) => rec == next,
+            None => false,
+        }
+    }
+
+    /// Whether the record is the present one, or the next.
+    fn is_in_order(&self, rec: u8) -> bool
+        ensures { result ≡ is_in_order self.now.rec rec }
+    {
+        (rec == self.rec && rec != 0) || self.begins(rec)
+    }
+
+    /// The fault of a record that ends too early.
+    fn missing_fault(&self, rec: u8) -> Option<FieldFault>
+        ensures { result ≡ missing_fault rec (missing_of rec (has_seen self.now)) }
+    {
+        match self.missing(rec) {
+            Some(set) => Some(missing_on(rec, set)),
+            None => None,
+        }
+    }
+
+    /// What is missing where the envelope's records 1 and 2 end.
+    pub fn end_fault(&self) -> Option<FieldFault>
+        ensures { result ≡ end_fault self.now.rec (has_seen self.now) }
+    {
+        if self.rec == APPLICATION {
+            return self.missing_fault(APPLICATION);
+        }
+        match self.missing_fault(ENVELOPE) {
+            Some(fault) => Some(fault),
+            None => no_application(),
+        }
+    }
+
+    /// The row of a head that may stand next, or the head's first fault.
+    pub fn check(&self, head: Head) -> Result<Row, FieldFault>
+        ensures row { IfOk result (λ row. row_of head.rec head.set ≡ Some row) }
+        ensures ok { OnOk result (head_fault self.now.rec (has_seen self.now) head ≡ None) }
+        ensures fault { IfErr result (λ fault. head_fault self.now.rec (has_seen self.now) head ≡ Some fault) }
+    {
+        if !self.is_in_order(head.rec) {
+            return Err(fault_on(head, FieldCause::RecordOrder));
+        }
+        let Some(row) = row(head.rec, head.set) else {
+            return Err(fault_on(head, FieldCause::UnknownDataset));
+        };
+        let again = head.rec == self.rec && self.seen[usize::from(head.set)];
+        if let Some(fault) = row_fault(again, &row, head) {
+            return Err(fault);
+        }
+        if self.begins(head.rec) {
+            if let Some(fault) = self.missing_fault(self.rec) {
+                return Err(fault);
+            }
+        }
+        Ok(row)
+    }
+
+    /// Takes a head that may stand next.
+    pub fn take(&mut self, head: Head)
+        ensures { Takes self.old head self.new }
+    {
+        if head.rec == self.rec {
+            self.seen[usize::from(head.set)] = true;
+            return;
+        }
+        self.rec = head.rec;
+        self.seen = [false; 256];
+        self.seen[usize::from(head.set)] = true;
+    }
+}

@@ -1,0 +1,55 @@
+//! The records of an envelope, and the datasets that each must have.
+
+ghost use Rattle.std.specs.Prelude.{◌≡◌, ◌∷◌, [], MatchOption};
+ghost use Rattle.iim_fields.specs.Records.{mandatory, after};
+ghost use Rattle.iim_fields.specs.Faults.{is_kept};
+
+/// The Envelope Record, whose datasets are kept.
+pub(crate) const ENVELOPE: u8 = 1;
+
+/// The Application Record, whose datasets are kept.
+pub(crate) const APPLICATION: u8 = 2;
+
+/// The pre-ObjectData Descriptor Record.
+pub(crate) const PRE_OBJECT: u8 = 7;
+
+/// The ObjectData Record, whose data do not pass here.
+pub(crate) const OBJECT: u8 = 8;
+
+/// The post-ObjectData Descriptor Record.
+pub(crate) const POST_OBJECT: u8 = 9;
+
+/// The numbers of the datasets that a record must have, lowest first.
+#[tactic(auto, using(crate::proofs::Table::mandatory_is))]
+pub(crate) fn mandatory(rec: u8) -> &'static [u8]
+    ensures { result.now ≡ mandatory rec }
+{
+    match rec {
+        ENVELOPE => &[0, 20, 22, 30, 40, 70],
+        APPLICATION => &[0],
+        PRE_OBJECT => &[10, 20],
+        OBJECT | POST_OBJECT => &[10],
+        _ => &[],
+    }
+}
+
+/// The record that follows. An envelope begins with record 1, which follows 0.
+pub(crate) fn next_record(rec: u8) -> Option<u8>
+    ensures { MatchOption result (after rec ≡ []) (λ next. after rec ≡ next ∷ after next) }
+{
+    match rec {
+        0 => Some(ENVELOPE),
+        ENVELOPE => Some(APPLICATION),
+        APPLICATION => Some(PRE_OBJECT),
+        PRE_OBJECT => Some(OBJECT),
+        OBJECT => Some(POST_OBJECT),
+        _ => None,
+    }
+}
+
+/// Whether the record is kept.
+pub(crate) fn is_kept(rec: u8) -> bool
+    ensures { result ≡ is_kept rec }
+{
+    rec == ENVELOPE || rec == APPLICATION
+}

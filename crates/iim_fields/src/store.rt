@@ -1,0 +1,71 @@
+//! The kept datasets: their octets in one store, and an entry for each.
+
+ghost use Rattle.std.specs.Prelude.{◌≡◌, ◌+◌, ◌≤◌, ◌<◌, ◌++◌, ◌∷◌, [], IfOk, length, vec_len, vec_capacity, take};
+
+use std::alloc::{AllocError, Global};
+
+/// A kept dataset: the numbers of its record and of itself, and where its octets end in the store. They begin where
+/// those of the entry before end.
+#[derive(Clone, Copy, Debug, PartialEq, Eq)]
+pub(crate) struct Entry {
+    pub rec: u8,
+    pub set: u8,
+    pub end: usize,
+}
+
+/// The octets of the kept datasets, joined, and behind them those of a begun one; and the entries.
+#[derive(Drop)]
+pub(crate) struct Store {
+    pub octets: Vec<u8>,
+    pub entries: Vec<Entry>,
+}
+
+impl Store {
+    /// Nothing, with room for so many octets and entries.
+    pub fn new(alloc: Global, octets: usize, entries: usize) -> Result<Store, AllocError>
+        ensures octets { IfOk result (λ store. store.octets.items ≡ []) }
+        ensures entries { IfOk result (λ store. store.entries.items ≡ []) }
+        ensures octets_room { IfOk result (λ store. octets ≤ vec_capacity store.octets) }
+        ensures entries_room { IfOk result (λ store. entries ≤ vec_capacity store.entries) }
+    {
+        let store = Store {
+            octets: Vec::with_capacity(alloc, octets)?,
+            entries: Vec::with_capacity(alloc, entries)?,
+        };
+        Ok(store)
+    }
+
+    /// Takes octets of the begun dataset.
+    pub fn take(&mut self, octets: &[u8])
+        requires { vec_len self.old.octets + length octets.now ≤ vec_capacity self.old.octets }
+        ensures octets { self.new.octets.items ≡ self.old.octets.items ++ octets.now }
+        ensures entries { self.new.entries ≡ self.old.entries }
+        ensures len { vec_len self.new.octets ≡ vec_len self.old.octets + length octets.now }
+        ensures capacity { vec_capacity self.old.octets ≤ vec_capacity self.new.octets }
+    {
+        self.octets.extend_from_slice(octets).unwrap();
+    }
+
+    /// Keeps the begun dataset, whose octets are all there.
+    pub fn keep(&mut self, rec: u8, set: u8)
+        requires { vec_len self.old.entries < vec_capacity self.old.entries }
+        ensures octets { self.new.octets ≡ self.old.octets }
+        ensures entries { self.new.entries.items ≡ self.old.entries.items ++ record { rec = rec; set = set; end = vec_len self.old.octets } ∷ [] }
+        ensures len { vec_len self.new.entries ≡ vec_len self.old.entries + 1 }
+        ensures capacity { vec_capacity self.new.entries ≡ vec_capacity self.old.entries }
+    {
+        let end = self.octets.len();
+        self.entries.push_reserved(Entry { rec, set, end });
+    }
+
+    /// Passes over the begun dataset, whose octets begin there.
+    pub fn pass(&mut self, start: usize)
+        requires { start ≤ vec_len self.old.octets }
+        ensures octets { self.new.octets.items ≡ take start self.old.octets.items }
+        ensures entries { self.new.entries ≡ self.old.entries }
+        ensures len { vec_len self.new.octets ≡ start }
+        ensures capacity { vec_capacity self.new.octets ≡ vec_capacity self.old.octets }
+    {
+        self.octets.truncate(start);
+    }
+}

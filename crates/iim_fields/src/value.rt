@@ -1,0 +1,70 @@
+//! What a complete value has to be.
+
+ghost use Rattle.std.specs.Prelude.{◌≡◌, Some, None, length, IfOk, IfErr, OnOk};
+ghost use Rattle.iim_tables.specs.Rows.{row_of};
+ghost use Rattle.iim_fields.specs.Faults.{value_fault};
+ghost use Rattle.std.specs.Int.{IsInRange};
+ghost use Rattle.iim_tables.specs.Numbers.{size_octets};
+ghost use Rattle.iim_fields.specs.Records.{has_file_format};
+ghost use Rattle.iim_fields.specs.Values.{data_of, number_told, TellsNumber};
+
+use crate::fault::{FieldCause, FieldFault};
+use crate::order::fault_on;
+use crate::records::{ENVELOPE, POST_OBJECT, PRE_OBJECT};
+use iim_dataset::Head;
+use iim_tables::{Row, admits, number_of};
+
+/// The number of 1:20 File Format.
+const FILE_FORMAT: u8 = 20;
+
+/// The file format of a text for wire services, which the profile asks for.
+const WIRE_FORMAT: u64 = 2;
+
+/// Whether the octets may be those of the head, as far as the value of a file format goes.
+fn has_file_format(head: Head, octets: &[u8]) -> bool
+    requires { head.rec ≡ 1 → head.set ≡ 20 → length octets.now ≡ 2 }
+    ensures { result ≡ has_file_format (data_of head octets.now) }
+{
+    if head.rec != ENVELOPE || head.set != FILE_FORMAT {
+        return true;
+    }
+    number_of(octets).is_some_and(|number| number == WIRE_FORMAT)
+}
+
+/// The first fault of a value.
+fn value_fault(head: Head, row: &Row, octets: &[u8]) -> Option<FieldFault>
+    requires { row_of head.rec head.set ≡ Some row.now }
+    ensures { result ≡ value_fault (data_of head octets.now) }
+{
+    if !admits(row, octets) {
+        return Some(fault_on(head, FieldCause::BadValue));
+    }
+    if !has_file_format(head, octets) {
+        return Some(fault_on(head, FieldCause::FileFormat));
+    }
+    None
+}
+
+/// The number that a value of record 7 or 9 tells.
+fn number_told(head: Head, octets: &[u8]) -> Option<u64>
+    requires { TellsNumber head.rec → IsInRange 1 size_octets (length octets.now) }
+    ensures { result ≡ number_told (data_of head octets.now) }
+{
+    match head.rec {
+        PRE_OBJECT | POST_OBJECT => number_of(octets),
+        _ => None,
+    }
+}
+
+/// The number that a complete value tells, or the first fault of the value.
+pub(crate) fn check_value(head: Head, row: &Row, octets: &[u8]) -> Result<Option<u64>, FieldFault>
+    requires { row_of head.rec head.set ≡ Some row.now }
+    ensures number { IfOk result (λ number. number ≡ number_told (data_of head octets.now)) }
+    ensures ok { OnOk result (value_fault (data_of head octets.now) ≡ None) }
+    ensures fault { IfErr result (λ fault. value_fault (data_of head octets.now) ≡ Some fault) }
+{
+    if let Some(fault) = value_fault(head, row, octets) {
+        return Err(fault);
+    }
+    Ok(number_told(head, octets))
+}
