@@ -1,6 +1,6 @@
 //! What holds of all datasets.
 
-ghost use Rattle.iim_fields.specs.Laws.{HeadsDieWithTheirFault, ValuesDieWithTheirFault};
+ghost use Rattle.iim_fields.specs.Laws.{HeadsDieWithTheirFault, ValuesDieWithTheirFault, EnvelopesEndWithTheLastRecord, NoSectionsBeginOthers};
 
 use iim_tables::each_row_has_values;
 
@@ -17,3 +17,13 @@ pub fn values_die_with_their_fault()
 {
     each_row_has_values();
 }
+
+/// Datasets that can go on to those of an envelope are all of them exactly where the last is of record 9.
+pub fn envelopes_end_with_the_last_record()
+    ensures { EnvelopesEndWithTheLastRecord }
+{}
+
+/// The datasets of no envelope begin those of another.
+pub fn no_sections_begin_others()
+    ensures { NoSectionsBeginOthers }
+{}

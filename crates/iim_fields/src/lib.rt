@@ -21,6 +21,9 @@ pub use builder::EnvelopeBuilder;
 pub use envelope::Envelope;
 pub use fault::{FieldCause, FieldFault};
 pub use fields::Fields;
-pub use laws::{heads_die_with_their_fault, values_die_with_their_fault};
+pub use laws::{
+    envelopes_end_with_the_last_record, heads_die_with_their_fault, no_sections_begin_others,
+    values_die_with_their_fault,
+};
 pub use limits::Limits;
 pub use walk::{DataIter, FieldIter};
