@@ -1,72 +1,130 @@
--- Framed octets, from where the checker of heads stands.
-use Rattle.std.proofs.Common.{◌≡◌, ℕ, ◌≤◌, ◌⊎◌, true, List, [], ◌∷◌, ◌++◌, length, map, take, drop, refl, ap, sym, subst, ◌∙◌, inl, inr, arith, append_assoc, length-append, length-take}
-use Rattle.std.proofs.lemmas.List.{append-nil, take-append-drop, append_cancel_left, map-append}
-use Rattle.std.proofs.lemmas.Bool.Decides.{eqb_tells}
-use Rattle.iim_dataset.specs.Datasets.{Dataset, SpellsDataset, SpellsStream, head_of, count_octets}
+-- Framed octets, and the whole datasets that octets begin with.
+use Rattle.std.proofs.Common.{◌≡◌, ℕ, ◌≤◌, ◌<◌, ◌⊎◌, Bool, true, false, List, [], ◌∷◌, ◌++◌, length, take, drop, refl, ap, sym, subst, ◌∙◌, inl, inr, arith, append_assoc, length-append, length-take}
+use Rattle.std.proofs.lemmas.List.{append-nil, take-append-drop, take-take}
+use Rattle.std.proofs.lemmas.Bool.{cases_lt}
+use Rattle.iim_dataset.specs.Datasets.{Dataset, SpellsDataset, SpellsStream, count_octets}
 use Rattle.iim_dataset.specs.Laws.{NoDatasetBeginsAnother}
-use Rattle.iim_dataset.specs.declared.head.Head.{Head}
+use Rattle.iim_tables.specs.Rows.{table}
+use Rattle.iim_fields.specs.Records.{AreSections}
+use Rattle.iim_fields.specs.Alive.{IsAlive}
+use Rattle.iim_fields.specs.Laws.{NoSectionsBeginOthers}
+use Rattle.iim_fields.specs.declared.limits.Limits.{Limits}
 use Rattle.iim_unpack.specs.Framed.{Framed, Clashes, BeginsUnframed}
-use Rattle.iim_unpack.specs.Laws.{NoEnvelopeBeginsAnother}
-use Rattle.iim_unpack.specs.Orders.{nothing, Moves, Refuses, has_seen}
-use Rattle.iim_unpack.specs.Steps.{Takes}
-use Rattle.iim_unpack.specs.declared.order.Order.{Order}
-use Rattle.iim_unpack.proofs.Orders.{From, IsOpen, from_more, from_less, from_moves, from_none, from_last, from_refused, open_next, long_next, start_from, from_start}
-use Rattle.iim_unpack.proofs.Heads.{Reaches, Tells, reaches_start, reaches_next, tells_start, tells_next, done}
+use Rattle.iim_unpack.specs.Laws.{NoEnvelopeBeginsAnother, NoEnvelopeIsEmpty}
+use Rattle.iim_unpack.specs.Answers.{AreWithin}
 
--- octets that complete an envelope from here
-abbrev pub Completes : Order → List ℕ → Type 0
-Completes o x = (ds : List Dataset) × SpellsStream count_octets ds x × From o (map head_of ds)
+-- ---- two streams that agree
 
--- Where the scan stands after `front`, the whole datasets so far: what is framed and agrees with the octets has that
--- front and completes from here, and what completes from here is framed with that front.
-pub record Stands (octets front : List ℕ) (o : Order) : Type 0 where
-  pub whole : List Dataset
+-- The one stream is the other and further datasets.
+abbrev Longer : List Dataset → List Dataset → List ℕ → List ℕ → Type 0
+Longer whole ds z y = (more : List Dataset) × (r : List ℕ) × (ds ++ more ≡ whole) × SpellsStream count_octets more r × (r ++ z ≡ y)
+
+-- The other is the one, a next dataset, and further ones.
+pub record Next (whole ds : List Dataset) (z y : List ℕ) : Type 0 where
+  pub dataset : Dataset
+  pub more : List Dataset
+  pub p : List ℕ
+  pub q : List ℕ
+  pub parts : ds ≡ whole ++ dataset ∷ more
+  pub spelled : SpellsDataset count_octets dataset p
+  pub later : SpellsStream count_octets more q
+  pub agree : z ≡ p ++ (q ++ y)
+
+compare : NoDatasetBeginsAnother → (whole ds : List Dataset) (front f z y : List ℕ) → SpellsStream count_octets whole front → SpellsStream count_octets ds f → front ++ z ≡ f ++ y
+    → Longer whole ds z y ⊎ Next whole ds z y
+compare one [] [] front f z y sw sf e =
+    inl ([], [], refl, refl, ap (λ l. l ++ z) (sym sw) ∙ e ∙ ap (λ l. l ++ y) sf)
+compare one [] (d ∷ ds) front f z y sw (p, q, first, later, joined) e =
+    inr (record {
+      dataset = d;
+      more = ds;
+      p = p;
+      q = q;
+      parts = refl;
+      spelled = first;
+      later = later;
+      agree = ap (λ l. l ++ z) (sym sw) ∙ e ∙ ap (λ l. l ++ y) joined ∙ append_assoc p q y;
+    })
+compare one (c ∷ whole) [] front f z y sw sf e = inl (c ∷ whole, front, refl, sw, e ∙ ap (λ l. l ++ y) sf)
+compare one (c ∷ whole) (d ∷ ds) front f z y (p, q, first, later, joined) (v, w, other, others, parts) e =
+    let agree : p ++ (q ++ z) ≡ v ++ (w ++ y) = sym (append_assoc p q z) ∙ ap (λ l. l ++ z) (sym joined) ∙ e ∙ ap (λ l. l ++ y) parts ∙ append_assoc v w y in
+    let same = one count_octets c d p v (q ++ z) (w ++ y) first other agree in
+    elim (compare one whole ds q w z y later others same.2) [
+      | inl (more, r, is, stream, rest) ↦ inl (more, r, (λ i. sym same.0 i ∷ is i), stream, rest)
+      | inr next ↦ inr (record {
+        dataset = next.dataset;
+        more = next.more;
+        p = next.p;
+        q = next.q;
+        parts = λ i. sym same.0 i ∷ next.parts i;
+        spelled = next.spelled;
+        later = next.later;
+        agree = next.agree;
+      })
+    ]
+
+-- ---- no envelope is empty
+
+pub no_sections : AreSections [] → ⊥
+unfolding table
+no_sections ([], rest, parts, good, later) = let bad : false ≡ true = good.mandatory.0 in cc
+no_sections (d ∷ run, rest, parts, good, later) = absurd cc
+
+pub no_envelope_is_empty : NoEnvelopeIsEmpty
+no_envelope_is_empty limits framed = none framed.datasets framed.spelled framed.sections
+  where
+    none : (ds : List Dataset) → SpellsStream count_octets ds [] → AreSections ds → ⊥
+    none [] spelled sections = no_sections sections
+    none (d ∷ ds) (first, rest, spelled, later, parts) sections =
+        let tag : first ++ rest ≡ 28 ∷ d.rec ∷ d.set ∷ ((spelled.is_tag.count ++ d.octets) ++ rest) =
+        ap (λ l. l ++ rest) (spelled.parts ∙ ap (λ l. l ++ d.octets) spelled.is_tag.parts) in
+        let bad : [] ≡ 28 ∷ d.rec ∷ d.set ∷ ((spelled.is_tag.count ++ d.octets) ++ rest) = parts ∙ tag in cc
+
+-- ---- no envelope begins another
+
+no_tail : (x y : List Dataset) → x ++ y ≡ [] → x ≡ []
+no_tail [] y e = refl
+no_tail (a ∷ x) y e = cc
+
+no_stream : (ds : List Dataset) (x : List ℕ) → ds ≡ [] → SpellsStream count_octets ds x → x ≡ []
+no_stream [] x none s = s
+no_stream (d ∷ ds) x none s = cc
+
+pub no_envelope_begins_another : NoDatasetBeginsAnother → NoSectionsBeginOthers → NoEnvelopeBeginsAnother
+no_envelope_begins_another one ends limits others f z a b =
+    elim (compare one a.datasets b.datasets f (f ++ z) z [] a.spelled b.spelled (sym (append-nil (f ++ z)))) [
+      | inl (more, r, is, stream, rest) ↦
+          let none : more ≡ [] = ends b.datasets more b.sections (subst AreSections (sym is) a.sections) in
+          ap (λ l. l ++ z) (sym (no_stream more r none stream)) ∙ rest
+      | inr next ↦
+          let bad : next.dataset ∷ next.more ≡ [] = ends a.datasets (next.dataset ∷ next.more) a.sections (subst AreSections next.parts b.sections) in cc
+    ]
+
+-- ---- where the scan stands
+
+-- Behind the whole datasets, which may go on and are no envelope.
+pub record IsOpen (whole : List Dataset) (front : List ℕ) : Type 0 where
   pub is_whole : SpellsStream count_octets whole front
-  pub reaches : Reaches o (map head_of whole)
-  pub tells : Tells o (map head_of whole)
-  pub forward : (f x y : List ℕ) → Framed f → octets ++ x ≡ f ++ y → (g : List ℕ) × (f ≡ front ++ g) × Completes o g
-  pub backward : (g : List ℕ) → Completes o g → Framed (front ++ g)
-  pub long : length o.seen ≡ 256
+  pub alive : IsAlive whole
+  pub unfinished : AreSections whole → ⊥
 
-pub stands_start : (octets : List ℕ) (o : Order) → o.rec ≡ 0 → o.seen ≡ nothing → Stands octets [] o
-stands_start octets o first none = record {
-  whole = [];
-  is_whole = refl;
-  reaches = reaches_start o first;
-  tells = tells_start o first none;
-  forward = λ f x y framed e. (f, refl, (framed.datasets, framed.spelled, start_from o (map head_of framed.datasets) first framed.heads));
-  backward = λ g (ds, stream, goes). record { datasets = ds; spelled = stream; heads = from_start o (map head_of ds) first goes };
-  long = ap length none;
-}
+-- What is framed and agrees with the octets goes on behind the whole datasets.
+pub goes_on : NoDatasetBeginsAnother → NoSectionsBeginOthers → (limits : Limits) (octets front rest : List ℕ) (whole : List Dataset) → octets ≡ front ++ rest → IsOpen whole front
+    → (f x y : List ℕ) → (framed : Framed limits f) → octets ++ x ≡ f ++ y → Next whole framed.datasets (rest ++ x) y
+goes_on one ends limits octets front rest whole parts stands f x y framed e =
+    let agree : front ++ (rest ++ x) ≡ f ++ y = sym (append_assoc front rest x) ∙ ap (λ l. l ++ x) (sym parts) ∙ e in
+    elim (compare one whole framed.datasets front f (rest ++ x) y stands.is_whole framed.spelled agree) [
+      | inl (more, r, is, stream, tail) ↦
+          let longer : AreSections (framed.datasets ++ (more ++ stands.alive.0)) =
+          subst AreSections (ap (λ (ds : List Dataset). ds ++ stands.alive.0) (sym is) ∙ append_assoc framed.datasets more stands.alive.0) stands.alive.1 in
+          let none : more ≡ [] = no_tail more stands.alive.0 (ends framed.datasets (more ++ stands.alive.0) framed.sections longer) in
+          let same : framed.datasets ≡ whole = sym (append-nil framed.datasets) ∙ ap (λ (ds : List Dataset). framed.datasets ++ ds) (sym none) ∙ is in
+          absurd (stands.unfinished (subst AreSections same framed.sections))
+      | inr next ↦ next
+    ]
 
--- what is framed goes on with a dataset
-abbrev FirstOf : List ℕ → List ℕ → Order → List ℕ → List ℕ → List ℕ → Type 0
-FirstOf front rest o f x y =
-    (c : Dataset) × (cs : List Dataset) × (p : List ℕ) × (q : List ℕ) × (f ≡ front ++ (p ++ q)) × SpellsDataset count_octets c p × SpellsStream count_octets cs q
-    × From o (map head_of (c ∷ cs)) × (rest ++ x ≡ p ++ (q ++ y))
-
-first_ds : (octets front rest : List ℕ) (o : Order) (f x y : List ℕ) → IsOpen o → octets ≡ front ++ rest → octets ++ x ≡ f ++ y
-    → ((g : List ℕ) × (f ≡ front ++ g) × Completes o g)
-    → FirstOf front rest o f x y
-first_ds octets front rest o f x y going whole e (g, is, ([], stream, from)) = absurd (from_none o going from)
-first_ds octets front rest o f x y going whole e (g, is, (c ∷ cs, (p, q, one, others, joined), from)) =
-    let both : front ++ (rest ++ x) ≡ front ++ (g ++ y) =
-    sym (append_assoc front rest x) ∙ sym (ap (λ l. l ++ x) whole) ∙ e ∙ ap (λ l. l ++ y) is ∙ append_assoc front g y in (
-      c,
-      cs,
-      p,
-      q,
-      is ∙ ap (λ l. front ++ l) joined,
-      one,
-      others,
-      from,
-      append_cancel_left front (rest ++ x) (g ++ y) both ∙ ap (λ l. l ++ y) joined ∙ append_assoc p q y,
-    )
-
--- what is framed and agrees with the octets goes on, as the octets do
-first_of : (octets front rest : List ℕ) (o : Order) → octets ≡ front ++ rest → Stands octets front o → IsOpen o → (f x y : List ℕ) → Framed f → octets ++ x ≡ f ++ y
-    → FirstOf front rest o f x y
-first_of octets front rest o whole stands going f x y framed e = first_ds octets front rest o f x y going whole e (stands.forward f x y framed e)
+pub clashes_none : (limits : Limits) (octets : List ℕ) → Clashes limits octets → BeginsUnframed limits octets
+clashes_none limits octets clashes f rest framed e = clashes f [] rest framed (append-nil octets ∙ e)
 
 pub stream_more : (ds : List Dataset) (front : List ℕ) (d : Dataset) (x : List ℕ) → SpellsStream count_octets ds front → SpellsDataset count_octets d x
     → SpellsStream count_octets (ds ++ d ∷ []) (front ++ x)
@@ -74,116 +132,24 @@ stream_more [] front d x s one = (x, [], one, refl, ap (λ l. l ++ x) s ∙ sym 
 stream_more (c ∷ ds) front d x (p, q, first, more, joined) one =
     (p, q ++ x, first, stream_more ds q d x more one, ap (λ l. l ++ x) joined ∙ append_assoc p q x)
 
-pub stands_step : NoDatasetBeginsAnother → (octets front rest : List ℕ) (o new : Order) (n : ℕ) → octets ≡ front ++ rest → Stands octets front o → IsOpen o → Takes o rest n new
-    → Stands octets (front ++ take n rest) new
-stands_step one_dataset octets front rest o new n whole stands going takes =
-    let d = takes.dataset in
-    let h = head_of d in
-    let fits = takes.spelled.is_tag.set in
-    let heads : map head_of (stands.whole ++ d ∷ []) ≡ map head_of stands.whole ++ h ∷ [] = map-append head_of stands.whole (d ∷ []) in
-    record {
-      whole = stands.whole ++ d ∷ [];
-      is_whole = stream_more stands.whole front d (take n rest) stands.is_whole takes.spelled;
-      reaches = subst (Reaches new) (sym heads) (reaches_next o new (map head_of stands.whole) h going fits stands.long takes.moves stands.reaches);
-      tells = subst (Tells new) (sym heads) (tells_next o new (map head_of stands.whole) h fits stands.long takes.moves stands.tells);
-      forward = λ f x y framed e.
-          let (c, cs, p, q, is, one, others, from, agree) = first_of octets front rest o whole stands going f x y framed e in
-          let split : take n rest ++ (drop n rest ++ x) ≡ p ++ (q ++ y) =
-          sym (append_assoc (take n rest) (drop n rest) x) ∙ ap (λ l. l ++ x) (take-append-drop n rest) ∙ agree in
-          let same = one_dataset count_octets d c (take n rest) p (drop n rest ++ x) (q ++ y) takes.spelled one split in
-          let P : Dataset → Type 0 = λ b. From o (head_of b ∷ map head_of cs) in (
-            q,
-            is ∙ ap (λ l. front ++ (l ++ q)) (sym same.1) ∙ sym (append_assoc front (take n rest) q),
-            (cs, others, from_less o new h (map head_of cs) going fits stands.long takes.moves (subst P (sym same.0) from)),
-          );
-      backward = λ g (ds, stream, goes).
-          let P : List ℕ → Type 0 = Framed in
-          subst P (sym (append_assoc front (take n rest) g))
-          (stands.backward (take n rest ++ g) (d ∷ ds, (take n rest, g, takes.spelled, stream, refl), from_more o new h (map head_of ds) going fits stands.long takes.moves goes));
-      long = long_next o new h stands.long takes.moves;
-    }
+-- the longer front of two is the shorter, and more
+longer_front : (n m : ℕ) (xs : List ℕ) → n ≤ m → take m xs ≡ take n xs ++ drop n (take m xs)
+longer_front n m xs le = sym (take-append-drop n (take m xs)) ∙ ap (λ l. l ++ drop n (take m xs)) (take-take n m xs le)
 
--- No dataset is at the front of the octets.
-abbrev pub Lacks : List ℕ → Type 0
-Lacks rest = (d : Dataset) (x y : List ℕ) → SpellsDataset count_octets d x → rest ≡ x ++ y → ⊥
+same_lengths : (n m : ℕ) (xs : List ℕ) → n ≤ m → m ≤ length xs → drop n (take m xs) ≡ [] → n ≡ m
+same_lengths n m xs le within none =
+    let lengths : length (take m xs) ≡ length (take n xs ++ drop n (take m xs)) = ap length (longer_front n m xs le) in
+    let zero : length (drop n (take m xs)) ≡ 0 = ap length none in
+    omega (arith, length-take n xs, length-take m xs, length-append (take n xs) (drop n (take m xs)))
 
--- Whatever follows, a dataset that is at the front can't stand there.
-abbrev pub Sticks : Order → List ℕ → Type 0
-Sticks o rest = (d : Dataset) (x y z : List ℕ) → SpellsDataset count_octets d x → rest ++ y ≡ x ++ z → Refuses o (head_of d)
-
--- octets of which no dataset is at the front
-pub stands_lacks : (octets front rest : List ℕ) (o : Order) → octets ≡ front ++ rest → Stands octets front o → IsOpen o → Lacks rest → BeginsUnframed octets
-stands_lacks octets front rest o whole stands going lacks f tail framed e =
-    let (c, cs, p, q, is, one, others, from, agree) = first_of octets front rest o whole stands going f [] tail framed (append-nil octets ∙ e) in
-    lacks c p (q ++ tail) one (sym (append-nil rest) ∙ agree)
-
--- octets with which no dataset can go on
-pub stands_sticks : (octets front rest : List ℕ) (o : Order) → octets ≡ front ++ rest → Stands octets front o → IsOpen o → Sticks o rest → Clashes octets
-stands_sticks octets front rest o whole stands going sticks f x y framed e =
-    let (c, cs, p, q, is, one, others, from, agree) = first_of octets front rest o whole stands going f x y framed e in
-    from_refused o (head_of c) (map head_of cs) (sticks c p x (q ++ y) one agree) from
-
-pub clashes_none : (octets : List ℕ) → Clashes octets → BeginsUnframed octets
-clashes_none octets clashes f rest framed e = clashes f [] rest framed (append-nil octets ∙ e)
-
-no_heads : (ds : List Dataset) → map head_of ds ≡ [] → ds ≡ []
-no_heads [] e = refl
-no_heads (d ∷ ds) e = absurd cc
-
-ends_here : (o : Order) (ds : List Dataset) (g : List ℕ) → o.rec ≡ 9 → SpellsStream count_octets ds g → From o (map head_of ds) → g ≡ []
-ends_here o [] g last stream from = stream
-ends_here o (c ∷ cs) g last stream from = let bad : map head_of (c ∷ cs) ≡ [] = from_last o (map head_of (c ∷ cs)) last from in cc
-
--- the envelope ends here
-pub stands_done : (octets : List ℕ) (at : ℕ) (o : Order) → at ≤ length octets → Stands octets (take at octets) o → o.rec ≡ 9 → has_seen o 10 ≡ true
-    → Framed (take at octets) × ((n : ℕ) → n ≤ length octets → Framed (take n octets) → n ≡ at)
-stands_done octets at o within stands last ten = (
-  subst Framed (append-nil (take at octets)) (stands.backward [] ([], refl, done o last ten)),
-  (λ n short framed.
-      let (g, is, (ds, stream, from)) = stands.forward (take n octets) [] (drop n octets) framed (append-nil octets ∙ sym (take-append-drop n octets)) in
-      let none : g ≡ [] = ends_here o ds g last stream from in
-      let same : length (take n octets) ≡ length (take at octets ++ g) = ap length is in
-      let zero : length g ≡ 0 = ap length none in
-      omega (arith, length-take n octets, length-take at octets, length-append (take at octets) g)),
-)
-
--- ---- no envelope begins another
-
-no_tail : (x y : List ℕ) → x ++ y ≡ [] → y ≡ []
-no_tail [] y e = e
-no_tail (a ∷ x) y e = cc
-
--- the last record has begun, or another is to come
-abbrev Live : Order → Type 0
-Live o = (o.rec ≡ 9) ⊎ IsOpen o
-
-live_next : (o new : Order) (h : Head) → IsOpen o → Moves o h new → Live new
-live_next o new h going moves = elim (eqb_tells new.rec 9) [
-  | inl same ↦ inl same.1
-  | inr other ↦ inr (open_next o new h going moves other.1)
+-- one front at most is framed
+pub one_front : NoDatasetBeginsAnother → NoSectionsBeginOthers → (limits : Limits) (octets : List ℕ) (n m : ℕ) → n ≤ length octets → m ≤ length octets
+    → Framed limits (take n octets) → Framed limits (take m octets) → n ≡ m
+one_front one ends limits octets n m short long a b = elim (cases_lt n m) [
+  | inl lt ↦
+      let le : n ≤ m = omega arith in
+      same_lengths n m octets le long (no_envelope_begins_another one ends limits limits (take n octets) (drop n (take m octets)) a (subst (Framed limits) (longer_front n m octets le) b))
+  | inr ge ↦
+      let le : m ≤ n = omega arith in
+      sym (same_lengths m n octets le short (no_envelope_begins_another one ends limits limits (take m octets) (drop m (take n octets)) b (subst (Framed limits) (longer_front m n octets le) a)))
 ]
-
-ends : NoDatasetBeginsAnother → (ds es : List Dataset) (o : Order) (f g z : List ℕ) → Live o → length o.seen ≡ 256 → SpellsStream count_octets ds f → SpellsStream count_octets es g
-    → From o (map head_of ds) → From o (map head_of es) → f ++ z ≡ g → z ≡ []
-ends one_dataset [] [] o f g z live long sf sg ff fg e = no_tail f z (e ∙ sg)
-ends one_dataset [] (d ∷ es) o f g z (inl last) long sf sg ff fg e = let bad : map head_of (d ∷ es) ≡ [] = from_last o (map head_of (d ∷ es)) last fg in cc
-ends one_dataset [] (d ∷ es) o f g z (inr going) long sf sg ff fg e = absurd (from_none o going ff)
-ends one_dataset (d ∷ ds) es o f g z (inl last) long sf sg ff fg e = let bad : map head_of (d ∷ ds) ≡ [] = from_last o (map head_of (d ∷ ds)) last ff in cc
-ends one_dataset (d ∷ ds) [] o f g z (inr going) long sf sg ff fg e = absurd (from_none o going fg)
-ends one_dataset (d ∷ ds) (c ∷ es) o f g z (inr going) long (x, y, one, sy, jf) (v, w, other, sw, jg) ff fg e =
-    let whole : x ++ (y ++ z) ≡ v ++ w = sym (append_assoc x y z) ∙ ap (λ l. l ++ z) (sym jf) ∙ e ∙ jg in
-    let same = one_dataset count_octets d c x v (y ++ z) w one other whole in
-    let step = from_moves o (head_of d) (map head_of ds) ff in
-    let P : Dataset → Type 0 = λ b. From o (head_of b ∷ map head_of es) in
-    let fits = one.is_tag.set in
-    ends one_dataset ds es step.0 y w z (live_next o step.0 (head_of d) going step.1) (long_next o step.0 (head_of d) long step.1) sy sw
-    (from_less o step.0 (head_of d) (map head_of ds) going fits long step.1 ff) (from_less o step.0 (head_of d) (map head_of es) going fits long step.1 (subst P (sym same.0) fg)) same.2
-
-start : Order
-start = record { rec = 0; seen = nothing }
-
-pub no_envelope_begins_another : NoDatasetBeginsAnother → NoEnvelopeBeginsAnother
-unfolding start
-no_envelope_begins_another one_dataset f z a b =
-    ends one_dataset a.datasets b.datasets start f (f ++ z) z (inr (λ e. let bad : 1 ∷ 2 ∷ 7 ∷ 8 ∷ 9 ∷ [] ≡ [] = e in cc)) refl a.spelled b.spelled
-    (start_from start (map head_of a.datasets) refl a.heads) (start_from start (map head_of b.datasets) refl b.heads) refl

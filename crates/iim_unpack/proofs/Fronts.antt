@@ -8,9 +8,14 @@ use Rattle.iim_dataset.specs.Tags.{BeginsTag, HasTag, HasNoTag}
 use Rattle.iim_dataset.specs.Laws.{NoTagBeginsAnother}
 use Rattle.iim_dataset.specs.declared.head.Head.{Head}
 use Rattle.iim_dataset.specs.declared.head.HeadFault.{HeadFault}
-use Rattle.iim_unpack.specs.Orders.{Refuses}
-use Rattle.iim_unpack.specs.declared.order.Order.{Order}
-use Rattle.iim_unpack.proofs.Frames.{Lacks, Sticks}
+
+-- No dataset is at the front of the octets.
+abbrev pub Lacks : List ℕ → Type 0
+Lacks rest = (d : Dataset) (x y : List ℕ) → SpellsDataset count_octets d x → rest ≡ x ++ y → ⊥
+
+-- Whatever follows, no dataset is at the front of the octets.
+abbrev pub Sticks : List ℕ → Type 0
+Sticks rest = (d : Dataset) (x y z : List ℕ) → SpellsDataset count_octets d x → rest ++ y ≡ x ++ z → ⊥
 
 -- a tag is no longer tag
 no_longer : NoTagBeginsAnother → (h k : Head) (tag x more : List ℕ) → SpellsTag count_octets h tag → 0 < length more → SpellsTag count_octets k ((tag ++ x) ++ more) → ⊥
@@ -26,17 +31,13 @@ begun_lacks one_tag rest begun d x y s e =
     (subst (λ (t : List ℕ). SpellsTag count_octets begun.head (t ++ begun.more)) whole begun.whole)
 
 -- what the tag at the front says is what any dataset there says
-same_tag : NoTagBeginsAnother → (rest : List ℕ) (h : Head) (used : ℕ) → HasTag rest h used → (d : Dataset) (x y z : List ℕ) → SpellsDataset count_octets d x → rest ++ y ≡ x ++ z
+pub same_tag : NoTagBeginsAnother → (rest : List ℕ) (h : Head) (used : ℕ) → HasTag rest h used → (d : Dataset) (x y z : List ℕ) → SpellsDataset count_octets d x → rest ++ y ≡ x ++ z
     → (h ≡ head_of d) × (drop used rest ++ y ≡ d.octets ++ z)
 same_tag one_tag rest h used tag d x y z s e =
     let whole : take used rest ++ (drop used rest ++ y) ≡ s.tag ++ (d.octets ++ z) =
     sym (append_assoc (take used rest) (drop used rest) y) ∙ (ap (λ l. l ++ y) (take-append-drop used rest) ∙ (e ∙ (ap (λ l. l ++ z) s.parts ∙ append_assoc s.tag d.octets z))) in
     let same = one_tag count_octets h (head_of d) (take used rest) s.tag (drop used rest ++ y) (d.octets ++ z) tag.tag s.is_tag whole in
     (same.0, same.2)
-
-pub refused_sticks : NoTagBeginsAnother → (o : Order) (rest : List ℕ) (h : Head) (used : ℕ) → HasTag rest h used → Refuses o h → Sticks o rest
-refused_sticks one_tag o rest h used tag refuses d x y z s e =
-    subst (λ (k : Head). Refuses o k) (same_tag one_tag rest h used tag d x y z s e).0 refuses
 
 pub short_lacks : NoTagBeginsAnother → (rest : List ℕ) (h : Head) (used : ℕ) → HasTag rest h used → length rest < used + h.count → Lacks rest
 short_lacks one_tag rest h used tag short d x y s e =
@@ -46,8 +47,8 @@ short_lacks one_tag rest h used tag short d x y s e =
     omega (arith, tag.within, length-drop used rest, length-append (drop used rest) [], length-append d.octets y)
 
 -- where no tag goes on, no dataset does
-pub no_tag_sticks : NoTagBeginsAnother → (o : Order) (rest : List ℕ) (fault : HeadFault) → HasNoTag rest fault → Sticks o rest
-no_tag_sticks one_tag o rest fault none d x y z s e = absurd (elim (cases_lt fault.at (length s.tag)) [
+pub no_tag_sticks : NoTagBeginsAnother → (rest : List ℕ) (fault : HeadFault) → HasNoTag rest fault → Sticks rest
+no_tag_sticks one_tag rest fault none d x y z s e = elim (cases_lt fault.at (length s.tag)) [
   | inl lt ↦
       let left : fault.at + 1 ≤ length rest = omega (arith, none.within) in
       let right : fault.at + 1 ≤ length s.tag = omega arith in
@@ -63,7 +64,7 @@ no_tag_sticks one_tag o rest fault none d x y z s e = absurd (elim (cases_lt fau
       sym (take-append-le fault.at rest y left) ∙ (ap (take fault.at) whole ∙ (ap (λ n. take n (s.tag ++ (d.octets ++ z))) place ∙ take-append-add s.tag (d.octets ++ z) (fault.at - length s.tag))) in
       no_longer one_tag (head_of d) none.begun.head s.tag more none.begun.more s.is_tag none.begun.some_more
       (subst (λ (t : List ℕ). SpellsTag count_octets none.begun.head (t ++ none.begun.more)) fronts none.begun.whole)
-])
+]
   where
     whole : rest ++ y ≡ s.tag ++ (d.octets ++ z)
     whole = e ∙ (ap (λ l. l ++ z) s.parts ∙ append_assoc s.tag d.octets z)

@@ -1,6 +1,7 @@
-pub mod Orders
-pub mod Heads
+pub mod Octets
 pub mod Frames
-pub mod Steps
 pub mod Fronts
+pub mod Limits
+pub mod Steps
 pub mod Refused
+pub mod Stages

@@ -1,74 +1,124 @@
 -- What a dataset that is not taken says of all the octets.
-use Rattle.std.proofs.Common.{◌≡◌, ℕ, zero, suc, ◌+◌, ◌-◌, ◌<◌, ◌≤◌, List, [], ◌∷◌, ◌++◌, length, map, take, drop, get_or, refl, ap, sym, subst, ◌∙◌, inl, inr, arith, length-drop, get_or-drop}
+use Rattle.std.proofs.Common.{◌≡◌, ◌≢◌, ℕ, zero, suc, ◌+◌, ◌-◌, ◌<◌, ◌≤◌, List, [], ◌∷◌, ◌++◌, length, take, drop, get_or, refl, ap, sym, subst, ◌∙◌, inl, inr, arith, append_assoc, append-nil, length-drop, length-take, get_or-drop}
 use Rattle.std.proofs.lemmas.List.{take-append-drop, take_more, drop_all}
 use Rattle.std.proofs.Math.Seq.{take-add}
-use Rattle.std.proofs.lemmas.Bool.Decides.{eqb_tells}
-use Rattle.iim_dataset.specs.Datasets.{head_of, count_octets}
+use Rattle.iim_dataset.specs.Datasets.{Dataset, SpellsTag, SpellsDataset, head_of, count_octets}
 use Rattle.iim_dataset.specs.Splits.{InTag, InData, IsBegun}
-use Rattle.iim_dataset.specs.Tags.{BeginsTag, BeginsNoTag, Concerns}
-use Rattle.iim_dataset.specs.Laws.{NoTagBeginsAnother}
+use Rattle.iim_dataset.specs.Tags.{BeginsTag, BeginsNoTag, Concerns, HasTag}
+use Rattle.iim_dataset.specs.Laws.{NoTagBeginsAnother, NoDatasetBeginsAnother}
 use Rattle.iim_dataset.specs.declared.head.Head.{Head}
 use Rattle.iim_dataset.specs.declared.head.HeadCause.{HeadCause}
 use Rattle.iim_dataset.specs.declared.head.HeadCause.TheVariants.{Marker, CountForm}
-use Rattle.iim_unpack.specs.Framed.{AreAlive}
-use Rattle.iim_unpack.specs.Orders.{Moves}
-use Rattle.iim_unpack.specs.Answers.{GoesOn, IsTruncated, IsBadTag, IsBadHead, IsRefused, tag_cause}
-use Rattle.iim_unpack.specs.Steps.{EndsInTag, EndsInData, HasBadTag, HasBadHead, Fails, cause_of, truncated_at}
-use Rattle.iim_unpack.specs.declared.order.Order.{Order}
+use Rattle.iim_fields.specs.Records.{AreSections}
+use Rattle.iim_fields.specs.Alive.{IsAlive, IsAliveAt}
+use Rattle.iim_fields.specs.Laws.{NoSectionsBeginOthers, HeadsDieWithTheirFault}
+use Rattle.iim_fields.specs.Standing.{StandsBehind, limits_of}
+use Rattle.iim_fields.specs.declared.fields.Fields.{Fields}
+use Rattle.iim_fields.specs.declared.limits.Limits.{Limits}
+use Rattle.iim_unpack.specs.Framed.{Framed, Clashes, BeginsUnframed}
+use Rattle.iim_unpack.specs.Answers.{GoesOn, MayGoOn, AreWithin, HaveRoom, DiesAtHead, IsTruncated, IsBadTag, IsBadHead, IsBadValue, IsUnframed, tag_cause}
+use Rattle.iim_unpack.specs.Refusals.{refusal_at}
+use Rattle.iim_unpack.specs.Steps.{EndsInTag, EndsInData, HasBadTag, HasBadHead, HasBadValue, FailsBehind, cause_of_tag, truncated_at}
 use Rattle.iim_unpack.specs.declared.refusal.Refusal.{Refusal}
 use Rattle.iim_unpack.specs.declared.refusal.Cause.TheVariants as causes
 use Rattle.iim_unpack.specs.declared.refusal.Layer.TheVariants as layers
-use Rattle.iim_unpack.proofs.Orders.{IsOpen, last_seen, open_next}
-use Rattle.iim_unpack.proofs.Heads.{Reaches, reaches_next, alive_open, alive_done, dead_refused, fault_is}
-use Rattle.iim_unpack.proofs.Frames.{Stands, stands_lacks, stands_sticks, clashes_none}
-use Rattle.iim_unpack.proofs.Fronts.{begun_lacks, refused_sticks, short_lacks, no_tag_sticks}
-use Rattle.iim_unpack.proofs.Steps.{Fit, are_octets, drop_octets}
+use Rattle.iim_unpack.proofs.Octets.{Fit, are_octets, drop_octets}
+use Rattle.iim_unpack.proofs.Frames.{Next, IsOpen, goes_on, clashes_none}
+use Rattle.iim_unpack.proofs.Fronts.{Lacks, Sticks, begun_lacks, same_tag, short_lacks, no_tag_sticks}
+use Rattle.iim_unpack.proofs.Limits.{have_room, dies_at_head}
+
+-- The laws that the scan calls.
+pub record Laws : Type 0 where
+  pub one_tag : NoTagBeginsAnother
+  pub one_dataset : NoDatasetBeginsAnother
+  pub heads_die : HeadsDieWithTheirFault
+  pub ends : NoSectionsBeginOthers
+
+-- Where the scan stands at `at`: behind whole datasets that may go on, are no envelope, and are within the limits.
+pub record Stands (limits : Limits) (octets : List ℕ) (at : ℕ) (whole : List Dataset) : Type 0 where
+  pub within : at ≤ length octets
+  pub is_open : IsOpen whole (take at octets)
+  pub room : AreWithin limits whole
+
+next_of : Laws → (limits : Limits) (octets : List ℕ) (at : ℕ) (whole : List Dataset) → Stands limits octets at whole → (f x y : List ℕ) → (framed : Framed limits f) → octets ++ x ≡ f ++ y
+    → Next whole framed.datasets (drop at octets ++ x) y
+next_of laws limits octets at whole stands f x y framed e =
+    goes_on laws.one_dataset laws.ends limits octets (take at octets) (drop at octets) whole (sym (take-append-drop at octets)) stands.is_open f x y framed e
+
+-- octets of which no dataset is at the front
+lacks_none : Laws → (limits : Limits) (octets : List ℕ) (at : ℕ) (whole : List Dataset) → Stands limits octets at whole → Lacks (drop at octets) → BeginsUnframed limits octets
+lacks_none laws limits octets at whole stands lacks f tail framed e =
+    let next = next_of laws limits octets at whole stands f [] tail framed (append-nil octets ∙ e) in
+    lacks next.dataset next.p (next.q ++ tail) next.spelled (sym (append-nil (drop at octets)) ∙ next.agree)
+
+sticks_clash : Laws → (limits : Limits) (octets : List ℕ) (at : ℕ) (whole : List Dataset) → Stands limits octets at whole → Sticks (drop at octets) → Clashes limits octets
+sticks_clash laws limits octets at whole stands sticks f x y framed e =
+    let next = next_of laws limits octets at whole stands f x y framed e in
+    sticks next.dataset next.p x (next.q ++ y) next.spelled next.agree
+
+-- what follows whole datasets in framed octets may stand there
+next_alive : (limits : Limits) (whole ds : List Dataset) (z y : List ℕ) → (next : Next whole ds z y) → AreSections ds → IsAlive (whole ++ next.dataset ∷ [])
+next_alive limits whole ds z y next sections =
+    (next.more, subst AreSections (next.parts ∙ sym (append_assoc whole (next.dataset ∷ []) next.more)) sections)
+
+next_room : (limits : Limits) (whole ds : List Dataset) (z y : List ℕ) → (next : Next whole ds z y) → AreWithin limits ds → HaveRoom limits whole (head_of next.dataset)
+next_room limits whole ds z y next within = have_room limits whole next.dataset next.more (subst (AreWithin limits) next.parts within)
+
+head_clashes : Laws → (limits : Limits) (octets : List ℕ) (at : ℕ) (whole : List Dataset) (e : Refusal) → Stands limits octets at whole → HasBadHead limits whole (drop at octets) at e
+    → Clashes limits octets
+head_clashes laws limits octets at whole e stands bad f x y framed same =
+    let next = next_of laws limits octets at whole stands f x y framed same in
+    let is : bad.head ≡ head_of next.dataset = (same_tag laws.one_tag (drop at octets) bad.head bad.used bad.tag next.dataset next.p x (next.q ++ y) next.spelled next.agree).0 in
+    bad.is_fault.dead (next.dataset, sym is, next_alive limits whole framed.datasets (drop at octets ++ x) y next framed.sections)
+    (subst (HaveRoom limits whole) (sym is) (next_room limits whole framed.datasets (drop at octets ++ x) y next framed.within))
+
+value_clashes : Laws → (limits : Limits) (octets : List ℕ) (at : ℕ) (whole : List Dataset) (e : Refusal) → Stands limits octets at whole → HasBadValue limits whole (drop at octets) at e
+    → Clashes limits octets
+value_clashes laws limits octets at whole e stands bad f x y framed same =
+    let rest = drop at octets in
+    let next = next_of laws limits octets at whole stands f x y framed same in
+    let agree : take bad.used rest ++ (drop bad.used rest ++ x) ≡ next.p ++ (next.q ++ y) =
+    sym (append_assoc (take bad.used rest) (drop bad.used rest) x) ∙ ap (λ l. l ++ x) (take-append-drop bad.used rest) ∙ next.agree in
+    let one = laws.one_dataset count_octets bad.dataset next.dataset (take bad.used rest) next.p (drop bad.used rest ++ x) (next.q ++ y) bad.spelled next.spelled agree in
+    bad.is_fault.dead (subst (λ (d : Dataset). IsAlive (whole ++ d ∷ [])) (sym one.0) (next_alive limits whole framed.datasets (rest ++ x) y next framed.sections))
+
+-- ---- the places
 
 -- the octets of a begun tag
 in_tag : (held : List ℕ) → BeginsTag count_octets held → IsBegun count_octets (InTag held) held
 in_tag held begun = (refl, begun.head, held ++ begun.more, begun.whole, (begun.more, begun.some_more, refl))
 
--- whole datasets and a begun tag go on while the checker of heads is open
-goes_on_in_tag : (octets xs : List ℕ) (at : ℕ) (o : Order) (held : List ℕ) → (stands : Stands octets (take at octets) o) → IsOpen o → BeginsTag count_octets held
-    → xs ≡ take at octets ++ held → GoesOn xs stands.whole (InTag held)
-goes_on_in_tag octets xs at o held stands going begun e = record {
-  reads = record { front = take at octets; rest = held; is_front = stands.is_whole; is_rest = in_tag held begun; parts = e };
-  alive = alive_open o (map head_of stands.whole) going stands.reaches;
+goes_on_in_tag : (limits : Limits) (octets xs : List ℕ) (at : ℕ) (whole : List Dataset) (held : List ℕ) → Stands limits octets at whole → BeginsTag count_octets held
+    → xs ≡ take at octets ++ held → GoesOn limits xs whole (InTag held)
+goes_on_in_tag limits octets xs at whole held stands begun e = record {
+  reads = record { front = take at octets; rest = held; is_front = stands.is_open.is_whole; is_rest = in_tag held begun; parts = e };
+  alive = (stands.is_open.alive, stands.room);
 }
 
-truncated_in_tag : (octets : List ℕ) (at : ℕ) (o : Order) (e : Refusal) → at ≤ length octets → Stands octets (take at octets) o → IsOpen o → EndsInTag (drop at octets) at e
-    → IsTruncated octets e
-truncated_in_tag octets at o e within stands going ends =
-    let end : at + length (drop at octets) ≡ length octets = omega (arith, length-drop at octets) in
+truncated_in_tag : (limits : Limits) (octets : List ℕ) (at : ℕ) (whole : List Dataset) (e : Refusal) → Stands limits octets at whole → EndsInTag (drop at octets) at e
+    → IsTruncated limits octets e
+truncated_in_tag limits octets at whole e stands ends =
+    let end : at + length (drop at octets) ≡ length octets = omega (arith, stands.within, length-drop at octets) in
     record {
-      whole = stands.whole;
+      whole = whole;
       begun = InTag (drop at octets);
-      goes_on = goes_on_in_tag octets octets at o (drop at octets) stands going ends.begun (sym (take-append-drop at octets));
+      goes_on = goes_on_in_tag limits octets octets at whole (drop at octets) stands ends.begun (sym (take-append-drop at octets));
       refusal = ends.refusal ∙ ap (λ n. truncated_at n (get_or (drop at octets) 1 0) (get_or (drop at octets) 2 0)) end;
     }
 
--- behind a head that may stand there the heads go on
-alive_next : (o next : Order) (hs : List Head) (h : Head) → IsOpen o → h.set < 256 → length o.seen ≡ 256 → Moves o h next → Reaches o hs → AreAlive (hs ++ h ∷ [])
-alive_next o next hs h going fits long moves reaches =
-    let further = reaches_next o next hs h going fits long moves reaches in
-    elim (eqb_tells next.rec 9) [
-      | inl last ↦ alive_done next (hs ++ h ∷ []) last.1 (last_seen o next h going fits moves last.1) further
-      | inr other ↦ alive_open next (hs ++ h ∷ []) (open_next o next h going moves other.1) further
-    ]
-
-truncated_in_data : (octets : List ℕ) (at : ℕ) (o : Order) (e : Refusal) → Fit octets → at ≤ length octets → Stands octets (take at octets) o → IsOpen o
-    → EndsInData o (drop at octets) at e → IsTruncated octets e
-truncated_in_data octets at o e fits within stands going ends =
+truncated_in_data : (limits : Limits) (octets : List ℕ) (at : ℕ) (whole : List Dataset) (e : Refusal) → Fit octets → Stands limits octets at whole
+    → EndsInData limits whole (drop at octets) at e → IsTruncated limits octets e
+truncated_in_data limits octets at whole e fits stands ends =
     let rest = drop at octets in
-    let end : at + length rest ≡ length octets = omega (arith, length-drop at octets) in
+    let end : at + length rest ≡ length octets = omega (arith, stands.within, length-drop at octets) in
     record {
-      whole = stands.whole;
+      whole = whole;
       begun = InData ends.head (drop ends.used rest);
       goes_on = record {
         reads = record {
           front = take at octets;
           rest = rest;
-          is_front = stands.is_whole;
+          is_front = stands.is_open.is_whole;
           is_rest = (
             take ends.used rest,
             ends.tag.tag,
@@ -78,85 +128,112 @@ truncated_in_data octets at o e fits within stands going ends =
           );
           parts = sym (take-append-drop at octets);
         };
-        alive = alive_next o ends.next (map head_of stands.whole) ends.head going ends.tag.tag.set stands.long ends.moves stands.reaches;
+        alive = (ends.alive, stands.room, ends.room);
       };
       refusal = ends.refusal ∙ ap (λ n. truncated_at n ends.head.rec ends.head.set) end;
     }
 
 -- the first octet of a tag is its marker, and later ones concern the count
-cause_is : (cause : HeadCause) (at : ℕ) (rest : List ℕ) → at < length rest → Concerns cause at → cause_of cause ≡ tag_cause (take at rest)
+cause_is : (cause : HeadCause) (at : ℕ) (rest : List ℕ) → at < length rest → Concerns cause at → cause_of_tag cause ≡ tag_cause (take at rest)
 cause_is Marker at rest within concerns = ap (λ n. tag_cause (take n rest)) (sym concerns)
 cause_is CountForm at [] within concerns = absurd (omega arith)
 cause_is CountForm zero (x ∷ rest) within concerns = absurd (omega arith)
 cause_is CountForm (suc at) (x ∷ rest) within concerns = refl
 
-bad_tag : (octets : List ℕ) (at : ℕ) (o : Order) (e : Refusal) → at ≤ length octets → Stands octets (take at octets) o → IsOpen o
-    → HasBadTag (drop at octets) at e → IsBadTag octets e
-bad_tag octets at o e within stands going bad =
+bad_tag : (limits : Limits) (octets : List ℕ) (at : ℕ) (whole : List Dataset) (e : Refusal) → Stands limits octets at whole → HasBadTag (drop at octets) at e → IsBadTag limits octets e
+bad_tag limits octets at whole e stands bad =
     let rest = drop at octets in
     let dead = bad.fault.at in
     let held = take dead rest in
     let none = bad.no_tag in
     let next : take (dead + 1) rest ≡ held ++ get_or octets (at + dead) 0 ∷ [] =
     take_more rest dead 0 none.within ∙ ap (λ b. held ++ b ∷ []) (get_or-drop at octets dead 0) in
-    subst (IsBadTag octets) (sym bad.refusal) (record {
-      whole = stands.whole;
+    subst (IsBadTag limits octets) (sym bad.refusal) (record {
+      whole = whole;
       held = held;
       within = omega (arith, none.within, length-drop at octets);
-      goes_on = goes_on_in_tag octets (take (at + dead) octets) at o held stands going none.begun (take-add at dead octets);
+      goes_on = goes_on_in_tag limits octets (take (at + dead) octets) at whole held stands none.begun (take-add at dead octets);
       dead = subst (BeginsNoTag count_octets) next none.dead;
       refusal = ap (λ k. record { layer = layers.Dataset; rec = get_or held 1 0; set = get_or held 2 0; octet = at + dead; cause = k }) (cause_is bad.fault.cause dead rest none.within none.cause);
     })
 
-bad_head : (octets : List ℕ) (at : ℕ) (o : Order) (e : Refusal) → at ≤ length octets → Stands octets (take at octets) o → IsOpen o
-    → HasBadHead o (drop at octets) at e → IsBadHead octets e
-bad_head octets at o e within stands going bad =
-    let rest = drop at octets in
-    let last : at + bad.used - 1 + 1 ≡ at + bad.used = omega (arith, bad.tag.some) in
-    subst (IsBadHead octets) (sym bad.refusal) (record {
-      whole = stands.whole;
+-- so many octets behind a place end with the octet before the next
+last_octet : (octets : List ℕ) (at used : ℕ) → 0 < used → take (at + used - 1 + 1) octets ≡ take at octets ++ take used (drop at octets)
+last_octet octets at used some = ap (λ n. take n octets) (let last : at + used - 1 + 1 ≡ at + used = omega arith in last) ∙ take-add at used octets
+
+bad_head : Laws → (limits : Limits) (octets : List ℕ) (at : ℕ) (whole : List Dataset) (e : Refusal) → Stands limits octets at whole → HasBadHead limits whole (drop at octets) at e
+    → IsBadHead limits octets e
+bad_head laws limits octets at whole e stands bad =
+    subst (IsBadHead limits octets) (sym bad.refusal) (record {
+      whole = whole;
       head = bad.head;
       front = take at octets;
-      tag = take bad.used rest;
-      is_front = stands.is_whole;
+      tag = take bad.used (drop at octets);
+      is_front = stands.is_open.is_whole;
       is_tag = bad.tag.tag;
       within = omega (arith, bad.tag.some, bad.tag.within, length-drop at octets);
-      parts = ap (λ n. take n octets) last ∙ take-add at bad.used octets;
-      alive = alive_open o (map head_of stands.whole) going stands.reaches;
-      dead = dead_refused o (map head_of stands.whole) bad.head bad.refuses stands.reaches;
+      parts = last_octet octets at bad.used bad.tag.some;
+      alive = (stands.is_open.alive, stands.room);
+      dead = dies_at_head laws.heads_die limits whole bad.head bad.fault stands.is_open.alive bad.is_fault;
       fault = bad.fault;
-      is_first = sym (fault_is o (map head_of stands.whole) bad.head stands.tells) ∙ bad.first;
+      is_first = bad.is_fault.first;
+      refusal = refl;
+    })
+
+bad_value : (limits : Limits) (octets : List ℕ) (at : ℕ) (whole : List Dataset) (e : Refusal) → Stands limits octets at whole → HasBadValue limits whole (drop at octets) at e
+    → IsBadValue limits octets e
+bad_value limits octets at whole e stands bad =
+    subst (IsBadValue limits octets) (sym bad.refusal) (record {
+      whole = whole;
+      dataset = bad.dataset;
+      front = take at octets;
+      last = take bad.used (drop at octets);
+      is_front = stands.is_open.is_whole;
+      is_last = bad.spelled;
+      within = omega (arith, bad.some, bad.within, length-drop at octets);
+      parts = last_octet octets at bad.used bad.some;
+      alive = (bad.alive, stands.room, bad.room);
+      dead = bad.is_fault.dead;
+      fault = bad.fault;
+      is_first = bad.is_fault.first;
       refusal = refl;
     })
 
 truncated_cause : (e : Refusal) (end r s : ℕ) → e ≡ truncated_at end r s → e.cause ≡ causes.Truncated
 truncated_cause e end r s is = ap (λ (x : Refusal). x.cause) is
 
-pub refused : NoTagBeginsAnother → (octets : List ℕ) (at : ℕ) (o : Order) (e : Refusal) → Fit octets → at ≤ length octets → Stands octets (take at octets) o → IsOpen o
-    → Fails o (drop at octets) at e → IsRefused octets e
-refused one_tag octets at o e fits within stands going (inl ends) = record {
-  unframed = stands_lacks octets (take at octets) (drop at octets) o (sym (take-append-drop at octets)) stands going (begun_lacks one_tag (drop at octets) ends.begun);
+pub refused : Laws → (limits : Limits) (octets : List ℕ) (at : ℕ) (whole : List Dataset) (e : Refusal) → Fit octets → Stands limits octets at whole
+    → FailsBehind limits whole (drop at octets) at e → IsUnframed limits octets e
+refused laws limits octets at whole e fits stands (inl ends) = record {
+  unframed = lacks_none laws limits octets at whole stands (begun_lacks laws.one_tag (drop at octets) ends.begun);
   clashes = λ other. absurd (other (truncated_cause e _ _ _ ends.refusal));
-  place = inl (truncated_in_tag octets at o e within stands going ends);
+  place = inl (truncated_in_tag limits octets at whole e stands ends);
 }
-refused one_tag octets at o e fits within stands going (inr (inl ends)) = record {
-  unframed = stands_lacks octets (take at octets) (drop at octets) o (sym (take-append-drop at octets)) stands going (short_lacks one_tag (drop at octets) ends.head ends.used ends.tag ends.short);
+refused laws limits octets at whole e fits stands (inr (inl ends)) = record {
+  unframed = lacks_none laws limits octets at whole stands (short_lacks laws.one_tag (drop at octets) ends.head ends.used ends.tag ends.short);
   clashes = λ other. absurd (other (truncated_cause e _ _ _ ends.refusal));
-  place = inl (truncated_in_data octets at o e fits within stands going ends);
+  place = inl (truncated_in_data limits octets at whole e fits stands ends);
 }
-refused one_tag octets at o e fits within stands going (inr (inr (inl bad))) =
-    let clashes = stands_sticks octets (take at octets) (drop at octets) o (sym (take-append-drop at octets)) stands going (no_tag_sticks one_tag o (drop at octets) bad.fault bad.no_tag) in
+refused laws limits octets at whole e fits stands (inr (inr (inl bad))) =
+    let clashes = sticks_clash laws limits octets at whole stands (no_tag_sticks laws.one_tag (drop at octets) bad.fault bad.no_tag) in
     record {
-      unframed = clashes_none octets clashes;
+      unframed = clashes_none limits octets clashes;
       clashes = λ other. clashes;
-      place = inr (inl (bad_tag octets at o e within stands going bad));
+      place = inr (inl (bad_tag limits octets at whole e stands bad));
     }
-refused one_tag octets at o e fits within stands going (inr (inr (inr bad))) =
-    let clashes = stands_sticks octets (take at octets) (drop at octets) o (sym (take-append-drop at octets)) stands going (refused_sticks one_tag o (drop at octets) bad.head bad.used bad.tag bad.refuses) in
+refused laws limits octets at whole e fits stands (inr (inr (inr (inl bad)))) =
+    let clashes = head_clashes laws limits octets at whole e stands bad in
     record {
-      unframed = clashes_none octets clashes;
+      unframed = clashes_none limits octets clashes;
       clashes = λ other. clashes;
-      place = inr (inr (bad_head octets at o e within stands going bad));
+      place = inr (inr (inl (bad_head laws limits octets at whole e stands bad)));
+    }
+refused laws limits octets at whole e fits stands (inr (inr (inr (inr bad)))) =
+    let clashes = value_clashes laws limits octets at whole e stands bad in
+    record {
+      unframed = clashes_none limits octets clashes;
+      clashes = λ other. clashes;
+      place = inr (inr (inr (bad_value limits octets at whole e stands bad)));
     }
 
 -- no octet is left

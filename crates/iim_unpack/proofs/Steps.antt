@@ -1,54 +1,44 @@
 -- One dataset at the front of what is left.
-use Rattle.std.proofs.Common.{◌≡◌, ℕ, ◌+◌, ◌-◌, ◌<◌, ◌≤◌, List, [], ◌∷◌, zero, suc, length, take, drop, get_or, ap, sym, subst, ◌∙◌, arith, length-take, length-drop}
-use Rattle.std.proofs.Math.Seq.{take-add, take-length}
-use Rattle.iim_dataset.specs.Octets.{Octets}
-use Rattle.iim_dataset.specs.Datasets.{SpellsTag, count_octets}
+use Rattle.std.proofs.Common.{◌≡◌, ◌≢◌, ℕ, ◌+◌, ◌-◌, ◌≤◌, ◌∙◌, List, length, take, drop, ap, sym, subst, arith, length-take, length-drop}
+use Rattle.std.proofs.Math.Seq.{take-add}
+use Rattle.iim_dataset.specs.Datasets.{Dataset, SpellsTag, SpellsDataset, head_of, count_octets}
 use Rattle.iim_dataset.specs.Tags.{HasTag}
 use Rattle.iim_dataset.specs.declared.head.Head.{Head}
-use Rattle.iim_unpack.specs.Orders.{Moves}
-use Rattle.iim_unpack.specs.Steps.{Takes}
-use Rattle.iim_unpack.specs.declared.order.Order.{Order}
+use Rattle.iim_dataset.specs.Octets.{Octets}
+use Rattle.iim_fields.specs.Values.{data_of}
+use Rattle.iim_fields.specs.Standing.{IsOf}
+use Rattle.iim_fields.specs.declared.limits.Limits.{Limits}
+use Rattle.iim_unpack.specs.Answers.{HaveRoom}
+use Rattle.iim_unpack.proofs.Octets.{Fit, are_octets, take_octets, drop_octets, rest_whole}
 
--- each is an octet
-abbrev pub Fit : List ℕ → Type 0
-Fit xs = (i : ℕ) → get_or xs i 0 < 256
-
-pub are_octets : (xs : List ℕ) → Fit xs → Octets xs
-are_octets [] fits = tt
-are_octets (x ∷ xs) fits = (fits 0, are_octets xs (λ i. fits (suc i)))
-
-take_octets : (n : ℕ) (xs : List ℕ) → Octets xs → Octets (take n xs)
-take_octets zero xs h = tt
-take_octets (suc n) [] h = tt
-take_octets (suc n) (x ∷ xs) h = (h.0, take_octets n xs h.1)
-
-pub drop_octets : (n : ℕ) (xs : List ℕ) → Octets xs → Octets (drop n xs)
-drop_octets zero xs h = h
-drop_octets (suc n) [] h = tt
-drop_octets (suc n) (x ∷ xs) h = drop_octets n xs h.1
-
-pub front_octets : (n m : ℕ) (xs : List ℕ) → Fit xs → Octets (take n (drop m xs))
-front_octets n m xs fits = take_octets n (drop m xs) (drop_octets m xs (are_octets xs fits))
-
--- `&octets[at..]`
-pub rest_whole : (xs : List ℕ) (at : ℕ) → take (length xs - at) (drop at xs) ≡ drop at xs
-rest_whole xs at = ap (λ n. take n (drop at xs)) (sym (length-drop at xs)) ∙ take-length (drop at xs)
+-- the data of a head are as long as it counts
+pub head_is : (rest : List ℕ) (h : Head) (used : ℕ) → h.count ≤ length (drop used rest) → head_of (data_of h (take h.count (drop used rest))) ≡ h
+head_is rest h used long =
+    let count : length (take h.count (drop used rest)) ≡ h.count = omega (arith, length-take h.count (drop used rest)) in
+    λ i. record { rec = h.rec; set = h.set; count = count i }
 
 -- a tag, and as many octets behind it as it counts
-pub takes : (old new : Order) (rest : List ℕ) (h : Head) (used : ℕ) → Fit rest → HasTag rest h used → h.count ≤ length (drop used rest) → Moves old h new
-    → Takes old rest (used + h.count) new
-takes old new rest h used fits tag long moves =
+pub spells : (rest : List ℕ) (h : Head) (used : ℕ) → Fit rest → HasTag rest h used → h.count ≤ length (drop used rest)
+    → SpellsDataset count_octets (data_of h (take h.count (drop used rest))) (take (used + h.count) rest)
+spells rest h used fits tag long =
     let value : List ℕ = take h.count (drop used rest) in
-    let count : h.count ≡ length value = omega (arith, length-take h.count (drop used rest)) in
-    let same : h ≡ record { rec = h.rec; set = h.set; count = length value } = λ i. record { rec = h.rec; set = h.set; count = count i } in
     record {
-      dataset = record { rec = h.rec; set = h.set; octets = value };
-      within = omega (arith, tag.within, length-drop used rest);
-      spelled = record {
-        tag = take used rest;
-        is_tag = subst (λ (k : Head). SpellsTag count_octets k (take used rest)) same tag.tag;
-        data_octets = front_octets h.count used rest fits;
-        parts = take-add used h.count rest;
-      };
-      moves = subst (λ (k : Head). Moves old k new) same moves;
+      tag = take used rest;
+      is_tag = subst (λ (k : Head). SpellsTag count_octets k (take used rest)) (sym (head_is rest h used long)) tag.tag;
+      data_octets = take_octets h.count (drop used rest) (drop_octets used rest (are_octets rest fits));
+      parts = take-add used h.count rest;
     }
+
+-- octets as many as the head counts are its data
+pub is_of : (h : Head) (xs taken : List ℕ) → Octets xs → length xs ≡ h.count → (h.rec ≢ 8 → xs ≡ taken) → IsOf h taken (data_of h xs)
+is_of h xs taken fits long given = record { head = λ i. record { rec = h.rec; set = h.set; count = long i }; octets = fits; given = given }
+
+-- the slice of the value, and the value
+pub value_is : (octets : List ℕ) (at used count : ℕ) → take (used + count - used) (drop used (take (length octets - at) (drop at octets))) ≡ take count (drop used (drop at octets))
+value_is octets at used count =
+    let less : used + count - used ≡ count = omega arith in
+    ap (λ n. take n (drop used (take (length octets - at) (drop at octets)))) less ∙ ap (λ l. take count (drop used l)) (rest_whole octets at)
+
+-- room for a head is room for the same head
+pub room_is : (limits old : Limits) (ds : List Dataset) (h k : Head) → old ≡ limits → h ≡ k → HaveRoom old ds h → HaveRoom limits ds k
+room_is limits old ds h k same is room = subst (λ (l : Limits). HaveRoom l ds k) same (subst (HaveRoom old ds) is room)

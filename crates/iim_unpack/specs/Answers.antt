@@ -1,28 +1,47 @@
 -- What a scan answers.
-use Rattle.std.specs.Prelude.{◌≡◌, ◌≢◌, ℕ, ◌+◌, ◌≤◌, ◌<◌, ◌⊎◌, List, [], ◌∷◌, ◌++◌, length, map, take, get_or, Some}
-use Rattle.iim_dataset.specs.Datasets.{Dataset, SpellsTag, SpellsStream, head_of, count_octets}
-use Rattle.iim_dataset.specs.Splits.{Begun, InTag, InData, Reads, heads}
+use Rattle.std.specs.Prelude.{◌≡◌, ◌≢◌, ℕ, ◌+◌, ◌≤◌, ◌<◌, ◌⊎◌, List, [], ◌∷◌, ◌++◌, length, take, get_or, IsTrue, Some}
+use Rattle.iim_dataset.specs.Datasets.{Dataset, SpellsTag, SpellsDataset, SpellsStream, head_of, count_octets}
+use Rattle.iim_dataset.specs.Splits.{Begun, InTag, InData, Reads}
 use Rattle.iim_dataset.specs.Tags.{BeginsNoTag}
 use Rattle.iim_dataset.specs.declared.head.Head.{Head}
-use Rattle.iim_unpack.specs.Framed.{Framed, AreAlive, BeginsUnframed, Clashes}
-use Rattle.iim_unpack.specs.Orders.{fault_behind}
-use Rattle.iim_unpack.specs.declared.order.OrderFault.{OrderFault}
+use Rattle.iim_fields.specs.Alive.{IsAlive, IsAliveAt}
+use Rattle.iim_fields.specs.Faults.{kept, kept_octets, is_kept, first_fault, value_fault}
+use Rattle.iim_fields.specs.Standing.{IsWithin}
+use Rattle.iim_fields.specs.declared.limits.Limits.{Limits}
+use Rattle.iim_fields.specs.declared.fault.FieldFault.{FieldFault}
+use Rattle.iim_unpack.specs.Framed.{Framed, BeginsUnframed, Clashes}
+use Rattle.iim_unpack.specs.Refusals.{refusal_at, no_memory}
 use Rattle.iim_unpack.specs.declared.refusal.Refusal.{Refusal}
+use Rattle.iim_unpack.specs.declared.refusal.Layer.{Layer}
 use Rattle.iim_unpack.specs.declared.refusal.Layer.TheVariants as layers
 use Rattle.iim_unpack.specs.declared.refusal.Cause.{Cause}
 use Rattle.iim_unpack.specs.declared.refusal.Cause.TheVariants.{Marker, CountForm, Truncated}
 
 -- The first `used` octets are an envelope, and no other front of the octets is.
-pub record IsAccepted (octets : List ℕ) (used : ℕ) : Type 0 where
+pub record IsAccepted (limits : Limits) (octets : List ℕ) (used : ℕ) : Type 0 where
   pub some : 0 < used
   pub within : used ≤ length octets
-  pub framed : Framed (take used octets)
-  pub only : (n : ℕ) → n ≤ length octets → Framed (take n octets) → n ≡ used
+  pub framed : Framed limits (take used octets)
+  pub only : (n : ℕ) → n ≤ length octets → Framed limits (take n octets) → n ≡ used
 
--- The octets are these whole datasets and this begun one, and their heads may go on to those of an envelope.
-pub record GoesOn (octets : List ℕ) (whole : List Dataset) (begun : Begun) : Type 0 where
+-- what the records 1 and 2 have so far is within the limits
+abbrev pub AreWithin : Limits → List Dataset → Type 0
+AreWithin limits ds = IsWithin limits (kept_octets ds) (length (kept ds))
+
+-- and so it is with a head of theirs behind it
+abbrev pub HaveRoom : Limits → List Dataset → Head → Type 0
+HaveRoom limits ds h = IsTrue (is_kept h.rec) → IsWithin limits (kept_octets ds + h.count) (length (kept ds) + 1)
+
+-- The whole datasets and the begun one may go on to those of an envelope: the record layer is alive with their heads and
+-- complete values, and they are within the limits.
+abbrev pub MayGoOn : Limits → List Dataset → Begun → Type 0
+MayGoOn limits whole (InTag held) = IsAlive whole × AreWithin limits whole
+MayGoOn limits whole (InData h taken) = IsAliveAt whole h × AreWithin limits whole × HaveRoom limits whole h
+
+-- The octets are these whole datasets and this begun one, and may go on.
+pub record GoesOn (limits : Limits) (octets : List ℕ) (whole : List Dataset) (begun : Begun) : Type 0 where
   pub reads : Reads octets whole begun
-  pub alive : AreAlive (heads whole begun)
+  pub alive : MayGoOn limits whole begun
 
 -- the numbers of the begun dataset: of a begun tag its second and third octets, each 0 while it isn't read
 abbrev pub begun_record : Begun → ℕ
@@ -39,24 +58,31 @@ tag_cause [] = Marker
 tag_cause (x ∷ xs) = CountForm
 
 -- The octets end while they may go on.
-pub record IsTruncated (octets : List ℕ) (e : Refusal) : Type 0 where
+pub record IsTruncated (limits : Limits) (octets : List ℕ) (e : Refusal) : Type 0 where
   pub whole : List Dataset
   pub begun : Begun
-  pub goes_on : GoesOn octets whole begun
+  pub goes_on : GoesOn limits octets whole begun
   pub refusal : e ≡ record { layer = layers.Dataset; rec = begun_record begun; set = begun_number begun; octet = length octets; cause = Truncated }
 
 -- The octets before the refused one may go on, and with that one no tag does.
-pub record IsBadTag (octets : List ℕ) (e : Refusal) : Type 0 where
+pub record IsBadTag (limits : Limits) (octets : List ℕ) (e : Refusal) : Type 0 where
   pub whole : List Dataset
   pub held : List ℕ
   pub within : e.octet < length octets
-  pub goes_on : GoesOn (take e.octet octets) whole (InTag held)
+  pub goes_on : GoesOn limits (take e.octet octets) whole (InTag held)
   pub dead : BeginsNoTag count_octets (held ++ get_or octets e.octet 0 ∷ [])
   pub refusal : e ≡ record { layer = layers.Dataset; rec = begun_record (InTag held); set = begun_number (InTag held); octet = e.octet; cause = tag_cause held }
 
--- The refused octet is the last of a tag. The heads before it may go on to those of an envelope, with its head they
--- can't, and the refusal is the first fault of that head.
-pub record IsBadHead (octets : List ℕ) (e : Refusal) : Type 0 where
+-- Behind the datasets the layer is dead with the head: the record layer, or, where that is alive, the limits.
+abbrev pub DiesAtHead : Layer → Limits → List Dataset → Head → Type 0
+DiesAtHead layers.Dataset limits whole h = ⊥
+DiesAtHead layers.Record limits whole h = IsAliveAt whole h → ⊥
+DiesAtHead layers.Limits limits whole h = IsAliveAt whole h × (HaveRoom limits whole h → ⊥)
+DiesAtHead layers.Outside limits whole h = ⊥
+
+-- The refused octet is the last of a tag. The datasets before it may go on, with its head they can't, and the refusal is
+-- for the first fault of that head.
+pub record IsBadHead (limits : Limits) (octets : List ℕ) (e : Refusal) : Type 0 where
   pub whole : List Dataset
   pub head : Head
   pub front : List ℕ
@@ -65,15 +91,36 @@ pub record IsBadHead (octets : List ℕ) (e : Refusal) : Type 0 where
   pub is_tag : SpellsTag count_octets head tag
   pub within : e.octet < length octets
   pub parts : take (e.octet + 1) octets ≡ front ++ tag
-  pub alive : AreAlive (map head_of whole)
-  pub dead : AreAlive (map head_of whole ++ head ∷ []) → ⊥
-  pub fault : OrderFault
-  pub is_first : fault_behind (map head_of whole) head ≡ Some fault
-  pub refusal : e ≡ record { layer = layers.Record; rec = fault.rec; set = fault.set; octet = e.octet; cause = fault.cause }
+  pub alive : MayGoOn limits whole (InTag [])
+  pub dead : DiesAtHead e.layer limits whole head
+  pub fault : FieldFault
+  pub is_first : first_fault limits whole head ≡ Some fault
+  pub refusal : e ≡ refusal_at e.octet fault
+
+-- The refused octet is the last of a dataset. The datasets before it may go on with its head, but not with its value, and
+-- the refusal is for the first fault of that.
+pub record IsBadValue (limits : Limits) (octets : List ℕ) (e : Refusal) : Type 0 where
+  pub whole : List Dataset
+  pub dataset : Dataset
+  pub front : List ℕ
+  pub last : List ℕ
+  pub is_front : SpellsStream count_octets whole front
+  pub is_last : SpellsDataset count_octets dataset last
+  pub within : e.octet < length octets
+  pub parts : take (e.octet + 1) octets ≡ front ++ last
+  pub alive : MayGoOn limits whole (InData (head_of dataset) [])
+  pub dead : IsAlive (whole ++ dataset ∷ []) → ⊥
+  pub fault : FieldFault
+  pub is_first : value_fault dataset ≡ Some fault
+  pub refusal : e ≡ refusal_at e.octet fault
 
 -- No front of the octets is an envelope. They end too early, or whatever follows no envelope agrees with them; and the
--- refusal stands at the first dead token.
-pub record IsRefused (octets : List ℕ) (e : Refusal) : Type 0 where
-  pub unframed : BeginsUnframed octets
-  pub clashes : e.cause ≢ Truncated → Clashes octets
-  pub place : IsTruncated octets e ⊎ (IsBadTag octets e ⊎ IsBadHead octets e)
+-- refusal stands at the first token with which a layer is dead.
+pub record IsUnframed (limits : Limits) (octets : List ℕ) (e : Refusal) : Type 0 where
+  pub unframed : BeginsUnframed limits octets
+  pub clashes : e.cause ≢ Truncated → Clashes limits octets
+  pub place : IsTruncated limits octets e ⊎ (IsBadTag limits octets e ⊎ (IsBadHead limits octets e ⊎ IsBadValue limits octets e))
+
+-- The octets are refused, or memory was.
+abbrev pub IsRefused : Limits → List ℕ → Refusal → Type 0
+IsRefused limits octets e = (e ≡ no_memory) ⊎ IsUnframed limits octets e

@@ -1,7 +1,6 @@
 pub mod Names
-pub mod Records
 pub mod Framed
-pub mod Orders
+pub mod Refusals
 pub mod Answers
 pub mod Steps
 pub mod Laws

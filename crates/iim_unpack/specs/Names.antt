@@ -1,13 +1,15 @@
 -- The numbers and names of layers and causes.
 use Rattle.std.specs.Prelude.{ℕ, List, codes}
 use Rattle.iim_unpack.specs.declared.refusal.Layer.{Layer}
-use Rattle.iim_unpack.specs.declared.refusal.Layer.TheVariants.{Dataset, Record}
+use Rattle.iim_unpack.specs.declared.refusal.Layer.TheVariants.{Dataset, Record, Limits, Outside}
 use Rattle.iim_unpack.specs.declared.refusal.Cause.{Cause}
-use Rattle.iim_unpack.specs.declared.refusal.Cause.TheVariants.{Marker, CountForm, Truncated, RecordOrder, UnknownDataset, Missing}
+use Rattle.iim_unpack.specs.declared.refusal.Cause.TheVariants.{Marker, CountForm, Truncated, RecordOrder, UnknownDataset, Repeated, CountRange, Missing, BadValue, FileFormat, HeaderFull, TooManyFields, OutOfMemory}
 
 abbrev pub layer_name : Layer → List ℕ
 layer_name Dataset = codes "dataset"
 layer_name Record = codes "record"
+layer_name Limits = codes "limits"
+layer_name Outside = codes "outside"
 
 abbrev pub cause_number : Cause → ℕ
 cause_number Marker = 1
@@ -15,7 +17,14 @@ cause_number CountForm = 2
 cause_number Truncated = 3
 cause_number RecordOrder = 10
 cause_number UnknownDataset = 11
+cause_number Repeated = 12
+cause_number CountRange = 13
 cause_number Missing = 14
+cause_number BadValue = 15
+cause_number FileFormat = 16
+cause_number HeaderFull = 50
+cause_number TooManyFields = 51
+cause_number OutOfMemory = 70
 
 abbrev pub cause_name : Cause → List ℕ
 cause_name Marker = codes "Marker"
@@ -23,4 +32,11 @@ cause_name CountForm = codes "CountForm"
 cause_name Truncated = codes "Truncated"
 cause_name RecordOrder = codes "RecordOrder"
 cause_name UnknownDataset = codes "UnknownDataset"
+cause_name Repeated = codes "Repeated"
+cause_name CountRange = codes "CountRange"
 cause_name Missing = codes "Missing"
+cause_name BadValue = codes "BadValue"
+cause_name FileFormat = codes "FileFormat"
+cause_name HeaderFull = codes "HeaderFull"
+cause_name TooManyFields = codes "TooManyFields"
+cause_name OutOfMemory = codes "OutOfMemory"

@@ -1,22 +1,27 @@
 -- One dataset at the front of what is left, as the scan takes it.
-use Rattle.std.specs.Prelude.{◌≡◌, ℕ, ◌+◌, ◌-◌, ◌≤◌, ◌<◌, ◌⊎◌, List, length, take, slice_index, Some}
+use Rattle.std.specs.Prelude.{◌≡◌, ◌≢◌, ℕ, ◌+◌, ◌-◌, ◌≤◌, ◌<◌, ◌⊎◌, List, [], ◌∷◌, ◌++◌, length, take, slice_index}
 use Rattle.iim_dataset.specs.Datasets.{Dataset, SpellsDataset, head_of, count_octets}
 use Rattle.iim_dataset.specs.Tags.{BeginsTag, HasTag, HasNoTag}
 use Rattle.iim_dataset.specs.declared.head.Head.{Head}
 use Rattle.iim_dataset.specs.declared.head.HeadFault.{HeadFault}
 use Rattle.iim_dataset.specs.declared.head.HeadCause.{HeadCause}
 use Rattle.iim_dataset.specs.declared.head.HeadCause.TheVariants as heads
-use Rattle.iim_unpack.specs.Orders.{Moves, Refuses, head_fault, has_seen}
-use Rattle.iim_unpack.specs.declared.order.Order.{Order}
-use Rattle.iim_unpack.specs.declared.order.OrderFault.{OrderFault}
+use Rattle.iim_fields.specs.Alive.{IsAliveAt}
+use Rattle.iim_fields.specs.Standing.{StandsBehind, limits_of, IsHeadFault, IsValueFault}
+use Rattle.iim_fields.specs.declared.fields.Fields.{Fields}
+use Rattle.iim_fields.specs.declared.limits.Limits.{Limits}
+use Rattle.iim_fields.specs.declared.fault.FieldFault.{FieldFault}
+use Rattle.iim_unpack.specs.Answers.{HaveRoom}
+use Rattle.iim_unpack.specs.Refusals.{refusal_at}
+use Rattle.iim_unpack.specs.declared.envelope.Taken.{Taken}
 use Rattle.iim_unpack.specs.declared.refusal.Refusal.{Refusal}
 use Rattle.iim_unpack.specs.declared.refusal.Layer.TheVariants as layers
 use Rattle.iim_unpack.specs.declared.refusal.Cause.{Cause}
 use Rattle.iim_unpack.specs.declared.refusal.Cause.TheVariants as causes
 
-abbrev pub cause_of : HeadCause → Cause
-cause_of heads.Marker = causes.Marker
-cause_of heads.CountForm = causes.CountForm
+abbrev pub cause_of_tag : HeadCause → Cause
+cause_of_tag heads.Marker = causes.Marker
+cause_of_tag heads.CountForm = causes.CountForm
 
 -- the refusal of octets that end while dataset r:s is read
 abbrev pub truncated_at : ℕ → ℕ → ℕ → Refusal
@@ -24,18 +29,16 @@ truncated_at end r s = record { layer = layers.Dataset; rec = r; set = s; octet 
 
 -- the refusal of a begun tag
 abbrev pub bad_tag_at : ℕ → List ℕ → HeadCause → Refusal
-bad_tag_at at held cause = record { layer = layers.Dataset; rec = slice_index held 1; set = slice_index held 2; octet = at; cause = cause_of cause }
+bad_tag_at at held cause = record { layer = layers.Dataset; rec = slice_index held 1; set = slice_index held 2; octet = at; cause = cause_of_tag cause }
 
--- the refusal of a head
-abbrev pub bad_head_at : ℕ → OrderFault → Refusal
-bad_head_at at fault = record { layer = layers.Record; rec = fault.rec; set = fault.set; octet = at; cause = fault.cause }
-
--- The first n octets are a dataset whose head may stand there.
-pub record Takes (old : Order) (rest : List ℕ) (n : ℕ) (new : Order) : Type 0 where
+-- The octets at the front, up to `to` from `at` on, are a dataset, which the checker has taken.
+pub record Takes (old : Fields) (rest : List ℕ) (at : ℕ) (taken : Taken) (new : Fields) : Type 0 where
+  pub forward : at < taken.to
   pub dataset : Dataset
-  pub within : n ≤ length rest
-  pub spelled : SpellsDataset count_octets dataset (take n rest)
-  pub moves : Moves old (head_of dataset) new
+  pub within : taken.to - at ≤ length rest
+  pub spelled : SpellsDataset count_octets dataset (take (taken.to - at) rest)
+  pub rec : taken.rec ≡ dataset.rec
+  pub stands : (ds : List Dataset) → StandsBehind old ds → StandsBehind new (ds ++ dataset ∷ [])
 
 -- The octets end inside a tag.
 pub record EndsInTag (rest : List ℕ) (at : ℕ) (e : Refusal) : Type 0 where
@@ -43,12 +46,12 @@ pub record EndsInTag (rest : List ℕ) (at : ℕ) (e : Refusal) : Type 0 where
   pub refusal : e ≡ truncated_at (at + length rest) (slice_index rest 1) (slice_index rest 2)
 
 -- The octets end inside the data of a dataset whose head may stand there.
-pub record EndsInData (old : Order) (rest : List ℕ) (at : ℕ) (e : Refusal) : Type 0 where
+pub record EndsInData (limits : Limits) (ds : List Dataset) (rest : List ℕ) (at : ℕ) (e : Refusal) : Type 0 where
   pub head : Head
   pub used : ℕ
-  pub next : Order
   pub tag : HasTag rest head used
-  pub moves : Moves old head next
+  pub alive : IsAliveAt ds head
+  pub room : HaveRoom limits ds head
   pub short : length rest < used + head.count
   pub refusal : e ≡ truncated_at (at + length rest) head.rec head.set
 
@@ -59,15 +62,32 @@ pub record HasBadTag (rest : List ℕ) (at : ℕ) (e : Refusal) : Type 0 where
   pub refusal : e ≡ bad_tag_at (at + fault.at) (take fault.at rest) fault.cause
 
 -- The head can't stand there.
-pub record HasBadHead (old : Order) (rest : List ℕ) (at : ℕ) (e : Refusal) : Type 0 where
+pub record HasBadHead (limits : Limits) (ds : List Dataset) (rest : List ℕ) (at : ℕ) (e : Refusal) : Type 0 where
   pub head : Head
   pub used : ℕ
-  pub fault : OrderFault
+  pub fault : FieldFault
   pub tag : HasTag rest head used
-  pub refuses : Refuses old head
-  pub first : head_fault old.rec (has_seen old) head ≡ Some fault
-  pub refusal : e ≡ bad_head_at (at + used - 1) fault
+  pub is_fault : IsHeadFault limits ds head fault
+  pub refusal : e ≡ refusal_at (at + used - 1) fault
 
--- No dataset is taken from the octets that are left at `at`.
-abbrev pub Fails : Order → List ℕ → ℕ → Refusal → Type 0
-Fails old rest at e = EndsInTag rest at e ⊎ (EndsInData old rest at e ⊎ (HasBadTag rest at e ⊎ HasBadHead old rest at e))
+-- The value can't be that of the head.
+pub record HasBadValue (limits : Limits) (ds : List Dataset) (rest : List ℕ) (at : ℕ) (e : Refusal) : Type 0 where
+  pub dataset : Dataset
+  pub used : ℕ
+  pub fault : FieldFault
+  pub some : 0 < used
+  pub within : used ≤ length rest
+  pub spelled : SpellsDataset count_octets dataset (take used rest)
+  pub alive : IsAliveAt ds (head_of dataset)
+  pub room : HaveRoom limits ds (head_of dataset)
+  pub is_fault : IsValueFault ds dataset fault
+  pub refusal : e ≡ refusal_at (at + used - 1) fault
+
+-- No dataset is taken from the octets that are left at `at`, behind these.
+abbrev pub FailsBehind : Limits → List Dataset → List ℕ → ℕ → Refusal → Type 0
+FailsBehind limits ds rest at e =
+    EndsInTag rest at e ⊎ (EndsInData limits ds rest at e ⊎ (HasBadTag rest at e ⊎ (HasBadHead limits ds rest at e ⊎ HasBadValue limits ds rest at e)))
+
+-- Whatever datasets the checker stands behind, none is taken.
+abbrev pub Fails : Fields → List ℕ → ℕ → Refusal → Type 0
+Fails old rest at e = (ds : List Dataset) → StandsBehind old ds → FailsBehind (limits_of old) ds rest at e

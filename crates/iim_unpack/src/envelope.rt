@@ -1,15 +1,36 @@
 //! One envelope at the front of octets.
 
-ghost use Rattle.std.specs.Prelude.{◌≡◌, ◌+◌, ◌-◌, ◌^◌, ◌<◌, ◌≤◌, length, drop, take, slice_index, IfOk, IfErr};
-ghost use Rattle.iim_unpack.specs.Steps.{Takes, Fails, truncated_at, bad_tag_at, bad_head_at, cause_of};
+ghost use Rattle.std.specs.Prelude.{◌≡◌, ◌+◌, ◌-◌, ◌<◌, ◌≤◌, List, [], ◌∷◌, ◌++◌, length, drop, take, slice_index, IfOk, IfErr, OnOk};
+ghost use Rattle.iim_dataset.specs.Datasets.{Dataset};
+ghost use Rattle.iim_fields.specs.Standing.{StandsBehind, StandsIn, IsBetween, IsInside, IsValueFault, limits_of};
+ghost use Rattle.iim_fields.specs.Values.{data_of};
+ghost use Rattle.iim_unpack.specs.Steps.{Takes, Fails, truncated_at, bad_tag_at, cause_of_tag};
+ghost use Rattle.iim_unpack.specs.Refusals.{refusal_at, no_memory};
 ghost use Rattle.iim_unpack.specs.Answers.{IsAccepted, IsRefused};
 
 use crate::answer::Scan;
-use crate::order::{Order, OrderFault};
 use crate::refusal::{Cause, Layer, Refusal};
 use iim_dataset::{
-    HeadCause, HeadFault, no_dataset_begins_another, no_tag_begins_another, read_head,
+    Head, HeadCause, HeadFault, no_dataset_begins_another, no_tag_begins_another, read_head,
 };
+use iim_fields::{
+    FieldFault, Fields, Limits, envelopes_end_with_the_last_record, heads_die_with_their_fault,
+    no_sections_begin_others,
+};
+use std::alloc::Global;
+
+/// The record of subfiles, whose data are no matter of the records.
+const OBJECT: u8 = 8;
+
+/// The record whose one dataset ends an envelope.
+const LAST_RECORD: u8 = 9;
+
+/// A dataset that was taken: its record, and where it ends.
+#[derive(Clone, Copy)]
+pub(crate) struct Taken {
+    rec: u8,
+    to: usize,
+}
 
 /// The octets end at `end`, while dataset `rec`:`set` is read.
 fn truncated(end: usize, rec: u8, set: u8) -> Refusal
@@ -21,6 +42,19 @@ fn truncated(end: usize, rec: u8, set: u8) -> Refusal
         set,
         octet: end as u64,
         cause: Cause::Truncated,
+    }
+}
+
+/// Memory was refused.
+fn out_of_memory() -> Refusal
+    ensures { result ≡ no_memory }
+{
+    Refusal {
+        layer: Layer::Outside,
+        rec: 0,
+        set: 0,
+        octet: 0,
+        cause: Cause::OutOfMemory,
     }
 }
 
@@ -37,7 +71,7 @@ fn begun_numbers(held: &[u8]) -> (u8, u8)
 }
 
 fn tag_cause(cause: HeadCause) -> Cause
-    ensures { result ≡ cause_of cause }
+    ensures { result ≡ cause_of_tag cause }
 {
     match cause {
         HeadCause::Marker => Cause::Marker,
@@ -59,26 +93,44 @@ fn bad_tag(at: usize, held: &[u8], cause: HeadCause) -> Refusal
     }
 }
 
-/// The head whose tag ends with the octet at `at` can't stand there.
-fn bad_head(at: usize, fault: OrderFault) -> Refusal
-    ensures { result ≡ bad_head_at at fault }
+/// What ends with the octet at `at`, a head or a value, can't stand there.
+fn bad_dataset(at: usize, fault: FieldFault) -> Refusal
+    ensures { result ≡ refusal_at at fault }
 {
+    let (layer, cause) = Cause::of_fields(fault.cause);
     Refusal {
-        layer: Layer::Record,
+        layer,
         rec: fault.rec,
         set: fault.set,
         octet: at as u64,
-        cause: fault.cause,
+        cause,
     }
 }
 
-/// Takes the dataset at `at`, and answers where it ends.
-fn take_dataset(order: &mut Order, octets: &[u8], at: usize) -> Result<usize, Refusal>
-    requires { at ≤ length octets.now }
-    ensures forward { IfOk result (λ to. at < to) }
-    ensures within { IfOk result (λ to. to ≤ length octets.now) }
-    ensures taken { IfOk result (λ to. Takes order.old (drop at octets.now) (to - at) order.new) }
-    ensures fault { IfErr result (Fails order.old (drop at octets.now) at) }
+/// Takes the whole data of a begun dataset.
+fn take_value(fields: &mut Fields, head: Head, octets: &[u8]) -> Result<(), FieldFault>
+    requires inside { IsInside fields.old head head.count }
+    requires whole { length octets.now ≡ head.count }
+    ensures stands { OnOk result ((ds : List Dataset) → StandsIn fields.old ds head [] → StandsBehind fields.new (ds ++ data_of head octets.now ∷ [])) }
+    ensures fault { IfErr result (λ fault. (ds : List Dataset) → StandsIn fields.old ds head [] → IsValueFault ds (data_of head octets.now) fault) }
+    ensures limits { limits_of fields.new ≡ limits_of fields.old }
+{
+    if head.rec != OBJECT {
+        fields.bytes(octets);
+    }
+    match fields.close() {
+        Ok(_) => Ok(()),
+        Err(fault) => Err(fault),
+    }
+}
+
+/// Takes the dataset at `at`.
+fn take_dataset(fields: &mut Fields, octets: &[u8], at: usize) -> Result<Taken, Refusal>
+    requires between { IsBetween fields.old }
+    requires within { at ≤ length octets.now }
+    ensures taken { IfOk result (λ taken. Takes fields.old (drop at octets.now) at taken fields.new) }
+    ensures limits { OnOk result (limits_of fields.new ≡ limits_of fields.old) }
+    ensures fault { IfErr result (Fails fields.old (drop at octets.now) at) }
 {
     let rest = &octets[at..];
     let (head, used) = match read_head(rest) {
@@ -91,32 +143,47 @@ fn take_dataset(order: &mut Order, octets: &[u8], at: usize) -> Result<usize, Re
         }
         Ok(Some(found)) => found,
     };
-    if let Err(fault) = order.head(head) {
-        return Err(bad_head(at + used - 1, fault));
+    if let Err(fault) = fields.begin(head) {
+        return Err(bad_dataset(at + used - 1, fault));
     }
     let data = &rest[used..];
     if (data.len() as u64) < head.count {
         return Err(truncated(octets.len(), head.rec, head.set));
     }
-    Ok(at + used + head.count as usize)
+    let end = used + head.count as usize;
+    if let Err(fault) = take_value(fields, head, &rest[used..end]) {
+        return Err(bad_dataset(at + end - 1, fault));
+    }
+    Ok(Taken {
+        rec: head.rec,
+        to: at + end,
+    })
 }
 
-/// Finds the envelope that the octets begin with, as far as its frame goes: tags, the order of the records, and the
-/// datasets that each record must and may have. It takes no memory.
+/// Finds the envelope that the octets begin with, as far as its datasets go: tags, the order of the records, and what
+/// each dataset has to be; what records 1 and 2 have is within the limits. Memory for as much is all that it takes.
 ///
 /// A refusal stands at the first octet that completes a token with which a layer is dead: the dataset layer reads tags,
-/// the record layer heads. [`Cause::Truncated`] says that the octets end while every layer can go on.
-pub fn scan(octets: &[u8]) -> Result<Scan, Refusal>
-    ensures accepted { IfOk result (λ scan. IsAccepted octets.now scan.used) }
-    ensures refused { IfErr result (IsRefused octets.now) }
+/// the record layer heads and the values of records 1, 2, 7 and 9, and the limits are those of heads.
+/// [`Cause::Truncated`] says that the octets end while every layer can go on, and [`Cause::OutOfMemory`] that memory was
+/// refused before the first octet.
+pub fn scan(alloc: Global, limits: Limits, octets: &[u8]) -> Result<Scan, Refusal>
+    ensures accepted { IfOk result (λ scan. IsAccepted limits octets.now scan.used) }
+    ensures refused { IfErr result (IsRefused limits octets.now) }
 {
     no_tag_begins_another();
     no_dataset_begins_another();
-    let mut order = Order::new();
+    heads_die_with_their_fault();
+    envelopes_end_with_the_last_record();
+    no_sections_begin_others();
+    let Ok(mut fields) = Fields::new(alloc, limits) else {
+        return Err(out_of_memory());
+    };
     let mut at = 0;
     while at < octets.len() {
-        at = take_dataset(&mut order, octets, at)?;
-        if order.is_last() {
+        let taken = take_dataset(&mut fields, octets, at)?;
+        at = taken.to;
+        if taken.rec == LAST_RECORD {
             return Ok(Scan { used: at as u64 });
         }
     }

@@ -1,19 +1,17 @@
 //! Takes envelopes of the Information Interchange Model apart.
 //!
-//! Stands on `iim_dataset`. The crate above uses [`scan`], which finds the envelope that octets begin with or says at
-//! which octet, by which layer, on which dataset and why they are refused.
+//! Stands on `iim_dataset` and `iim_fields`. The crate above uses [`scan`], which finds the envelope that octets begin
+//! with or says at which octet, by which layer, on which dataset and why they are refused.
 #![tactic(auto)]
 
 mod answer;
 mod envelope;
 mod laws;
-mod order;
-mod records;
 mod refusal;
 #[cfg(test)]
 mod tests;
 
 pub use answer::Scan;
 pub use envelope::scan;
-pub use laws::no_envelope_begins_another;
+pub use laws::{no_envelope_begins_another, no_envelope_is_empty};
 pub use refusal::{Cause, Layer, Refusal};

@@ -2,14 +2,21 @@
 
 ghost use Rattle.std.specs.Prelude.{◌≡◌};
 ghost use Rattle.iim_unpack.specs.Names.{layer_name, cause_number, cause_name};
+ghost use Rattle.iim_unpack.specs.Refusals.{cause_of, layer_of};
+
+use iim_fields::FieldCause;
 
 /// The layer that refused, in the order in which the layers look at a token.
 #[derive(Clone, Copy, Debug, PartialEq, Eq)]
 pub enum Layer {
     /// Tags, octet by octet.
     Dataset,
-    /// Heads: which records and datasets come.
+    /// Heads, and the values of records 1, 2, 7 and 9: which datasets come, and what they have.
     Record,
+    /// Heads of records 1 and 2: how much they have together.
+    Limits,
+    /// Not the octets: what stands around them.
+    Outside,
 }
 
 impl Layer {
@@ -20,6 +27,8 @@ impl Layer {
         match self {
             Layer::Dataset => "dataset",
             Layer::Record => "record",
+            Layer::Limits => "limits",
+            Layer::Outside => "outside",
         }
     }
 }
@@ -37,8 +46,22 @@ pub enum Cause {
     RecordOrder = 10,
     /// Record 7, 8 or 9 has no dataset of this number.
     UnknownDataset = 11,
+    /// The dataset does not repeat, and has occurred.
+    Repeated = 12,
+    /// The number of octets is outside the bounds of the dataset's row.
+    CountRange = 13,
     /// The next record begins, and a mandatory dataset of the present one is absent.
     Missing = 14,
+    /// The octets are not of the dataset's kind.
+    BadValue = 15,
+    /// 1:20 File Format is not 2.
+    FileFormat = 16,
+    /// The data of records 1 and 2 pass the limit on octets.
+    HeaderFull = 50,
+    /// The datasets of records 1 and 2 pass the limit on their number.
+    TooManyFields = 51,
+    /// Memory was refused.
+    OutOfMemory = 70,
 }
 
 impl Cause {
@@ -59,7 +82,32 @@ impl Cause {
             Cause::Truncated => "Truncated",
             Cause::RecordOrder => "RecordOrder",
             Cause::UnknownDataset => "UnknownDataset",
+            Cause::Repeated => "Repeated",
+            Cause::CountRange => "CountRange",
             Cause::Missing => "Missing",
+            Cause::BadValue => "BadValue",
+            Cause::FileFormat => "FileFormat",
+            Cause::HeaderFull => "HeaderFull",
+            Cause::TooManyFields => "TooManyFields",
+            Cause::OutOfMemory => "OutOfMemory",
+        }
+    }
+
+    /// The layer that refuses a dataset for this, and the cause that is told.
+    pub(crate) fn of_fields(cause: FieldCause) -> (Layer, Cause)
+        ensures layer { result.0 ≡ layer_of cause }
+        ensures cause { result.1 ≡ cause_of cause }
+    {
+        match cause {
+            FieldCause::RecordOrder => (Layer::Record, Cause::RecordOrder),
+            FieldCause::UnknownDataset => (Layer::Record, Cause::UnknownDataset),
+            FieldCause::Repeated => (Layer::Record, Cause::Repeated),
+            FieldCause::CountRange => (Layer::Record, Cause::CountRange),
+            FieldCause::Missing => (Layer::Record, Cause::Missing),
+            FieldCause::BadValue => (Layer::Record, Cause::BadValue),
+            FieldCause::FileFormat => (Layer::Record, Cause::FileFormat),
+            FieldCause::HeaderFull => (Layer::Limits, Cause::HeaderFull),
+            FieldCause::TooManyFields => (Layer::Limits, Cause::TooManyFields),
         }
     }
 }
@@ -69,6 +117,7 @@ impl Cause {
 ///
 /// The dataset is the begun one (0 for what is not read of its tag, 0 and 0 between datasets), and for
 /// [`Cause::Missing`] the missing one of the lowest number. For [`Cause::Truncated`] the offset is the number of octets.
+/// [`Cause::OutOfMemory`] names octet 0 and 0:00.
 #[derive(Clone, Copy, Debug, PartialEq, Eq)]
 pub struct Refusal {
     pub layer: Layer,

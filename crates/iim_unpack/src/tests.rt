@@ -1,7 +1,11 @@
-//! The scan on the smallest envelope and what breaks it.
+//! The scan on worked envelopes, on what breaks them, and on every change of a tag.
+
+mod rule;
 
 use crate::{Cause, Layer, Refusal, Scan, scan};
 use iim_dataset::{Head, HeadCause, HeadFault, read_head};
+use iim_fields::Limits;
+use rule::{by_rule, refusal};
 use std::alloc::{AllocError, Global};
 use std::process::Abort;
 use std::test::Fail;
@@ -17,6 +21,19 @@ const SMALLEST: [u8; 114] = [
     0x20, 0x4e, 0x20, 0x30, 0x0d, 0x0a, 0x02, 0x03, 0x04, 0x1c, 0x09, 0x0a, 0x00, 0x04, 0x00, 0x00,
     0x00, 0x0e,
 ];
+
+/// What a longer envelope has from octet 62 on, behind what the smallest has but for the number at octet 41.
+const STORY: &[u8] = b"\x1c\x02\x69\x00\x0aRates held\x1c\x02\x50\x00\x07A. Moor\x1c\x02\x55\x00\x06Editor\
+\x1c\x02\x50\x00\x07B. Lund\x1c\x02\x55\x00\x06Writer\x1c\x02\x19\x00\x05rates\x1c\x02\x19\x00\x04bank\
+\x1c\x02\x19\x00\x04euro\x1c\x02\xfa\x00\x02\x00\xff\x1c\x07\x0a\x00\x01\x01\x1c\x07\x14\x00\x04\x00\x00\x04\x00\
+\x1c\x07\x5a\x00\x04\x00\x00\x00\x32\x1c\x08\x0a\x00\x32\x01TST0007 4 ECO 5 rates\r\n\x02Rates stay.\r\nNo change.\x03\x04\
+\x1c\x09\x0a\x00\x04\x00\x00\x00\x32";
+
+/// Those of the program.
+const LIMITS: Limits = Limits {
+    octets: 65_536,
+    fields: 512,
+};
 
 /// Where each tag of the smallest envelope begins, its record and number, and its count.
 const TAGS: [(usize, u8, u8, usize); 12] = [
@@ -51,34 +68,6 @@ const AS_EXTENDED: [(usize, u64); 12] = [
     (4, 14),
 ];
 
-/// The datasets that a record must have, lowest first.
-const MANDATORY: [(u8, u8); 11] = [
-    (1, 0),
-    (1, 20),
-    (1, 22),
-    (1, 30),
-    (1, 40),
-    (1, 70),
-    (2, 0),
-    (7, 10),
-    (7, 20),
-    (8, 10),
-    (9, 10),
-];
-
-/// The datasets that records 7, 8 and 9 may have.
-const KNOWN: [(u8, u8); 6] = [(7, 10), (7, 20), (7, 90), (7, 95), (8, 10), (9, 10)];
-
-fn refused(layer: Layer, rec: u8, set: u8, octet: usize, cause: Cause) -> Result<Scan, Refusal> {
-    Err(Refusal {
-        layer,
-        rec,
-        set,
-        octet: octet as u64,
-        cause,
-    })
-}
-
 fn joined(alloc: Global, pieces: &[&[u8]]) -> Result<Vec<u8>, AllocError> {
     let mut all = Vec::new(alloc);
     for piece in pieces {
@@ -87,99 +76,12 @@ fn joined(alloc: Global, pieces: &[&[u8]]) -> Result<Vec<u8>, AllocError> {
     Ok(all)
 }
 
-/// What the rule says of a head behind others: record order, then known datasets, then missing ones.
-fn fault_by_rule(behind: &[(u8, u8)], rec: u8, set: u8) -> Option<(u8, u8, Cause)> {
-    let present = behind.last().map_or(0, |head| head.0);
-    let next = match present {
-        0 => 1,
-        1 => 2,
-        2 => 7,
-        7 => 8,
-        8 => 9,
-        _ => 0,
-    };
-    if rec == 0 || (rec != present && rec != next) {
-        return Some((rec, set, Cause::RecordOrder));
-    }
-    if rec > 2 && !KNOWN.contains(&(rec, set)) {
-        return Some((rec, set, Cause::UnknownDataset));
-    }
-    if rec == present {
-        return None;
-    }
-    for (mandatory, number) in MANDATORY {
-        if mandatory == present && !behind.contains(&(mandatory, number)) {
-            return Some((mandatory, number, Cause::Missing));
-        }
-    }
-    None
+fn refused(layer: Layer, names: (u8, u8), octet: usize, cause: Cause) -> Result<Scan, Refusal> {
+    Err(refusal(layer, names, octet, cause))
 }
 
-/// What the rule says of these tags, each with the offset of its last octet, in octets that end where the datasets do.
-fn by_rule(
-    alloc: Global,
-    tags: &[(u8, u8, usize)],
-    end: usize,
-) -> Result<Result<Scan, Refusal>, AllocError> {
-    let mut behind = Vec::new(alloc);
-    for (rec, set, octet) in tags {
-        if let Some((rec, set, cause)) = fault_by_rule(behind.as_slice(), *rec, *set) {
-            return Ok(refused(Layer::Record, rec, set, *octet, cause));
-        }
-        behind.push((*rec, *set))?;
-    }
-    match behind.last() {
-        Some((9, 10)) => Ok(Ok(Scan { used: end as u64 })),
-        _ => Ok(refused(Layer::Dataset, 0, 0, end, Cause::Truncated)),
-    }
-}
-
-/// The tags of the smallest envelope, where the one at `place` tells `rec` and `set` instead.
-fn with_numbers(
-    alloc: Global,
-    place: usize,
-    rec: u8,
-    set: u8,
-) -> Result<Vec<(u8, u8, usize)>, AllocError> {
-    let mut tags = Vec::new(alloc);
-    for (index, (offset, old_rec, old_set, _)) in TAGS.iter().enumerate() {
-        let end = offset.saturating_add(4);
-        if index == place {
-            tags.push((rec, set, end))?;
-        } else {
-            tags.push((*old_rec, *old_set, end))?;
-        }
-    }
-    Ok(tags)
-}
-
-/// What the rule says where the tag at `place` counts so many octets. No octet of data is a tag marker.
-fn with_count(
-    alloc: Global,
-    place: usize,
-    count: usize,
-) -> Result<Result<Scan, Refusal>, AllocError> {
-    let mut tags = Vec::new(alloc);
-    let mut after = 0usize;
-    for (index, (offset, rec, set, _)) in TAGS.iter().enumerate() {
-        let end = offset.saturating_add(4);
-        if index <= place {
-            tags.push((*rec, *set, end))?;
-            after = offset.saturating_add(5).saturating_add(count);
-        } else if *offset >= after {
-            tags.push((*rec, *set, end))?;
-        }
-        if index == place && after > 114 {
-            return Ok(refused(Layer::Dataset, *rec, *set, 114, Cause::Truncated));
-        }
-    }
-    if place == 11 {
-        return Ok(Ok(Scan { used: after as u64 }));
-    }
-    if after != 114 && !TAGS.iter().any(|tag| tag.0 == after) {
-        return Ok(refused(Layer::Dataset, 0, 0, after, Cause::Marker));
-    }
-    by_rule(alloc, tags.as_slice(), 114)
+fn accepted(used: u64) -> Result<Scan, Refusal> {
+    Ok(Scan { used })
 }
 
 /// What the rule says of the tag at `place`, where octet 4 of it is 80.
@@ -220,39 +122,12 @@ fn expected_head(place: usize, part: usize, value: u8) -> Result<Option<(Head, u
     Ok(Some((Head { rec, set, count }, 5)))
 }
 
-/// What the rule says of the envelope, where octet `part` of the tag at `place` is `value`.
-fn expected_scan(
-    alloc: Global,
-    place: usize,
-    part: usize,
-    value: u8,
-) -> Result<Result<Scan, Refusal>, AllocError> {
-    let (offset, rec, set, _) = TAGS.get(place).copied().unwrap_or((0, 0, 0, 0));
-    match expected_head(place, part, value) {
-        Ok(Some((head, _))) if part < 3 => {
-            let tags = with_numbers(alloc, place, head.rec, head.set)?;
-            by_rule(alloc, tags.as_slice(), 114)
-        }
-        Ok(Some((head, 5))) => with_count(alloc, place, (head.count % 65536) as usize),
-        Ok(Some((head, used))) => {
-            let end = offset
-                .saturating_add(used)
-                .saturating_add((head.count % 0x100_0000) as usize);
-            if end > 114 {
-                return Ok(refused(Layer::Dataset, rec, set, 114, Cause::Truncated));
-            }
-            Ok(refused(Layer::Dataset, 0, 0, end, Cause::Marker))
-        }
-        Err(fault) if fault.cause == HeadCause::CountForm => {
-            let octet = offset.saturating_add(fault.at);
-            Ok(refused(Layer::Dataset, rec, set, octet, Cause::CountForm))
-        }
-        _ => Ok(refused(Layer::Dataset, 0, 0, offset, Cause::Marker)),
-    }
-}
-
 #[test]
 fn every_change_of_a_tag(rt: HostRuntime) -> Result<(), Fail> {
+    let limits = Limits {
+        octets: 200,
+        fields: 20,
+    };
     for (place, (offset, ..)) in TAGS.iter().enumerate() {
         assert!(rt; *offset + 5 <= 114);
         for part in 0..5 {
@@ -263,15 +138,33 @@ fn every_change_of_a_tag(rt: HostRuntime) -> Result<(), Fail> {
                 }
                 octets[*offset + part] = value;
                 let head = expected_head(place, part, value);
-                let answer = expected_scan(rt.alloc(), place, part, value)?;
                 assert_eq!(rt;
                     read_head(&octets[*offset..]),
                     head,
                     "{place} {part} {value}"
                 );
-                assert_eq!(rt; scan(&octets), answer, "{place} {part} {value}");
+                let answer = by_rule(rt.alloc(), &octets)?;
+                assert_eq!(rt;
+                    scan(rt.alloc(), limits, &octets),
+                    answer,
+                    "{place} {part} {value}"
+                );
             }
         }
+    }
+    Ok(())
+}
+
+/// Compares the answers to joined pieces, under the limits.
+fn compare_within(
+    rt: &impl Abort,
+    alloc: Global,
+    limits: Limits,
+    rows: &[(&[&[u8]], Result<Scan, Refusal>)],
+) -> Result<(), Fail> {
+    for (index, (pieces, answer)) in rows.iter().enumerate() {
+        let octets = joined(alloc, pieces)?;
+        assert_eq!(rt; scan(alloc, limits, octets.as_slice()), *answer, "at {index}");
     }
     Ok(())
 }
@@ -281,70 +174,209 @@ fn compare(
     alloc: Global,
     rows: &[(&[&[u8]], Result<Scan, Refusal>)],
 ) -> Result<(), Fail> {
-    for (pieces, answer) in rows {
-        let octets = joined(alloc, pieces)?;
-        assert_eq!(rt; scan(octets.as_slice()), *answer);
-    }
-    Ok(())
+    compare_within(rt, alloc, LIMITS, rows)
 }
 
 #[test]
 fn worked_tags(rt: HostRuntime) -> Result<(), Fail> {
-    let refused = |rec, set, octet, cause| refused(Layer::Dataset, rec, set, octet, cause);
+    let refused = |names, octet, cause| refused(Layer::Dataset, names, octet, cause);
     let extended: &[u8] = b"\x80\x04\x00\x00\x00\x03";
     let rows: [(&[&[u8]], Result<Scan, Refusal>); 8] = [
-        (&[&SMALLEST, b"\x1c\x01"], Ok(Scan { used: 114 })),
+        (&[&SMALLEST, b"\x1c\x01"], accepted(114)),
         (
             &[&SMALLEST[..24], extended, &SMALLEST[26..]],
-            Ok(Scan { used: 118 }),
+            accepted(118),
         ),
-        (&[b"\x1d", &SMALLEST[1..]], refused(0, 0, 0, Cause::Marker)),
+        (
+            &[b"\x1d", &SMALLEST[1..]],
+            refused((0, 0), 0, Cause::Marker),
+        ),
         (
             &[&SMALLEST[..3], b"\x81\x01", &SMALLEST[5..]],
-            refused(1, 0, 3, Cause::CountForm),
+            refused((1, 0), 3, Cause::CountForm),
         ),
         (
             &[&SMALLEST[..3], b"\x80\x00", &SMALLEST[5..]],
-            refused(1, 0, 4, Cause::CountForm),
+            refused((1, 0), 4, Cause::CountForm),
         ),
         (
             &[&SMALLEST[..3], b"\x80\x05", &SMALLEST[5..]],
-            refused(1, 0, 4, Cause::CountForm),
+            refused((1, 0), 4, Cause::CountForm),
         ),
-        (&[&SMALLEST[..100]], refused(8, 10, 100, Cause::Truncated)),
-        (&[], refused(0, 0, 0, Cause::Truncated)),
+        (&[&SMALLEST[..100]], refused((8, 10), 100, Cause::Truncated)),
+        (&[], refused((0, 0), 0, Cause::Truncated)),
     ];
     compare(&rt, rt.alloc(), &rows)
 }
 
 #[test]
 fn worked_heads(rt: HostRuntime) -> Result<(), Fail> {
-    let refused = |rec, set, octet, cause| refused(Layer::Record, rec, set, octet, cause);
-    let rows: [(&[&[u8]], Result<Scan, Refusal>); 4] = [
+    let refused = |names, octet, cause| refused(Layer::Record, names, octet, cause);
+    let number: &[u8] = b"2";
+    let front: [&[u8]; 3] = [&SMALLEST[..41], number, &SMALLEST[42..62]];
+    let headline: &[u8] = b"\x1c\x02\x69\x00\x0aRates held";
+    let rows: [(&[&[u8]], Result<Scan, Refusal>); 7] = [
+        (&[front[0], front[1], front[2], STORY], accepted(246)),
+        (
+            &[front[0], front[1], front[2], headline, STORY],
+            refused((2, 105), 81, Cause::Repeated),
+        ),
+        (
+            &[&SMALLEST[..25], b"\x0b", &SMALLEST[26..]],
+            refused((1, 30), 25, Cause::CountRange),
+        ),
         (
             &[&SMALLEST[..42], &SMALLEST[55..]],
-            refused(1, 70, 46, Cause::Missing),
+            refused((1, 70), 46, Cause::Missing),
         ),
         (
             &[&SMALLEST[..21], &SMALLEST[29..42], &SMALLEST[55..]],
-            refused(1, 30, 38, Cause::Missing),
+            refused((1, 30), 38, Cause::Missing),
         ),
         (
             &[&SMALLEST[..56], b"\x03", &SMALLEST[57..]],
-            refused(3, 0, 59, Cause::RecordOrder),
+            refused((3, 0), 59, Cause::RecordOrder),
         ),
         (
             &[&SMALLEST[..64], b"\x1e", &SMALLEST[65..]],
-            refused(7, 30, 66, Cause::UnknownDataset),
+            refused((7, 30), 66, Cause::UnknownDataset),
         ),
     ];
     compare(&rt, rt.alloc(), &rows)
 }
 
 #[test]
+fn worked_values(rt: HostRuntime) -> Result<(), Fail> {
+    let refused = |names, octet, cause| refused(Layer::Record, names, octet, cause);
+    let rows: [(&[&[u8]], Result<Scan, Refusal>); 4] = [
+        (
+            &[&SMALLEST[..13], b"\x01", &SMALLEST[14..]],
+            refused((1, 20), 13, Cause::FileFormat),
+        ),
+        (
+            &[&SMALLEST[..47], b"20240229", &SMALLEST[55..]],
+            accepted(114),
+        ),
+        (
+            &[&SMALLEST[..47], b"20230229", &SMALLEST[55..]],
+            refused((1, 70), 54, Cause::BadValue),
+        ),
+        (
+            &[&SMALLEST[..73], b"\x00\x00\x00\x00", &SMALLEST[77..]],
+            refused((7, 20), 76, Cause::BadValue),
+        ),
+    ];
+    compare(&rt, rt.alloc(), &rows)
+}
+
+#[test]
+fn worked_days_and_times(rt: HostRuntime) -> Result<(), Fail> {
+    let day: &[u8] = b"\x1c\x02\x37\x00\x08";
+    let time: &[u8] = b"\x1c\x02\x3c\x00\x0b";
+    let bad_day = refused(Layer::Record, (2, 55), 74, Cause::BadValue);
+    let bad_time = refused(Layer::Record, (2, 60), 77, Cause::BadValue);
+    let rows: [(&[u8], &[u8], Result<Scan, Refusal>); 8] = [
+        (day, b"20240000", accepted(127)),
+        (day, b"20240012", accepted(127)),
+        (day, b"20240300", accepted(127)),
+        (day, b"20241300", bad_day),
+        (time, b"235959+0000", accepted(130)),
+        (time, b"240000+0000", bad_time),
+        (time, b"000060+0000", bad_time),
+        (time, b"120000+0060", bad_time),
+    ];
+    for (tag, value, answer) in rows {
+        let pieces: [&[u8]; 4] = [&SMALLEST[..62], tag, value, &SMALLEST[62..]];
+        let octets = joined(rt.alloc(), &pieces)?;
+        assert_eq!(rt; scan(rt.alloc(), LIMITS, octets.as_slice()), answer);
+    }
+    Ok(())
+}
+
+#[test]
+fn worked_limits(rt: HostRuntime) -> Result<(), Fail> {
+    let octets = joined(
+        rt.alloc(),
+        &[&SMALLEST[..41], b"2", &SMALLEST[42..62], STORY],
+    )?;
+    let refused = |cause| refused(Layer::Limits, (2, 250), 155, cause);
+    let rows = [
+        (78, 16, accepted(246)),
+        (77, 16, refused(Cause::HeaderFull)),
+        (78, 15, refused(Cause::TooManyFields)),
+        (77, 15, refused(Cause::HeaderFull)),
+    ];
+    for (most, fields, answer) in rows {
+        let limits = Limits {
+            octets: most,
+            fields,
+        };
+        assert_eq!(rt;
+            scan(rt.alloc(), limits, octets.as_slice()),
+            answer,
+            "{most} {fields}"
+        );
+    }
+    Ok(())
+}
+
+/// The smallest envelope with one line of 32,754 octets, in a subfile of this tag, and one more of this tag.
+fn with_long_line(alloc: Global, tag: &[u8], second: &[u8]) -> Result<Vec<u8>, AllocError> {
+    let line = vec![in alloc; b'a'; 32_754]?;
+    let sizes: &[u8] =
+        b"\x1c\x07\x14\x00\x04\x00\x00\x80\x00\x1c\x07\x5a\x00\x04\x00\x00\x80\x00";
+    let mut octets = joined(alloc, &[&SMALLEST[..68], sizes, tag, &SMALLEST[91..103]])?;
+    octets.extend_from_slice(line.as_slice())?;
+    octets.extend_from_slice(b"\x03")?;
+    octets.extend_from_slice(second)?;
+    octets.extend_from_slice(b"\x04\x1c\x09\x0a\x00\x04\x00\x00\x80\x00")?;
+    Ok(octets)
+}
+
+#[test]
+fn long_subfiles(rt: HostRuntime) -> Result<(), Fail> {
+    let one = with_long_line(rt.alloc(), b"\x1c\x08\x0a\x80\x04\x00\x00\x80\x00", b"")?;
+    assert_eq!(rt; scan(rt.alloc(), LIMITS, one.as_slice()), accepted(32_872));
+    let two = with_long_line(rt.alloc(), b"\x1c\x08\x0a\x7f\xff", b"\x1c\x08\x0a\x00\x01")?;
+    assert_eq!(rt; scan(rt.alloc(), LIMITS, two.as_slice()), accepted(32_873));
+    Ok(())
+}
+
+/// The smallest envelope without the dataset at each place, where the refusal names it or the record behind it.
+#[test]
+fn each_mandatory_dataset_is_missed(rt: HostRuntime) -> Result<(), Fail> {
+    let missing = |names, octet| refused(Layer::Record, names, octet, Cause::Missing);
+    let order = |names, octet| refused(Layer::Record, names, octet, Cause::RecordOrder);
+    let rows = [
+        (0, 7, missing((1, 0), 52)),
+        (7, 14, missing((1, 20), 52)),
+        (14, 21, missing((1, 22), 52)),
+        (21, 29, missing((1, 30), 51)),
+        (29, 42, missing((1, 40), 46)),
+        (42, 55, missing((1, 70), 46)),
+        (55, 62, order((7, 10), 59)),
+        (62, 68, missing((7, 10), 84)),
+        (68, 77, missing((7, 20), 81)),
+        (86, 105, order((9, 10), 90)),
+        (
+            105,
+            114,
+            refused(Layer::Dataset, (0, 0), 105, Cause::Truncated),
+        ),
+    ];
+    for (from, to, answer) in rows {
+        let front = SMALLEST.get(..from).ok_or("a front")?;
+        let back = SMALLEST.get(to..).ok_or("a back")?;
+        let octets = joined(rt.alloc(), &[front, back])?;
+        assert_eq!(rt; scan(rt.alloc(), LIMITS, octets.as_slice()), answer, "at {from}");
+    }
+    Ok(())
+}
+
+#[test]
 fn every_front_is_truncated(rt: HostRuntime) {
     for end in 0..114usize {
-        match scan(&SMALLEST[..end]) {
+        match scan(rt.alloc(), LIMITS, &SMALLEST[..end]) {
             Err(refusal) => {
                 assert_eq!(rt; refusal.cause, Cause::Truncated, "at {end}");
                 assert_eq!(rt; refusal.octet, end as u64, "at {end}");
@@ -362,12 +394,26 @@ fn names_and_numbers(rt: HostRuntime) {
         (Cause::Truncated, 3, "Truncated"),
         (Cause::RecordOrder, 10, "RecordOrder"),
         (Cause::UnknownDataset, 11, "UnknownDataset"),
+        (Cause::Repeated, 12, "Repeated"),
+        (Cause::CountRange, 13, "CountRange"),
         (Cause::Missing, 14, "Missing"),
+        (Cause::BadValue, 15, "BadValue"),
+        (Cause::FileFormat, 16, "FileFormat"),
+        (Cause::HeaderFull, 50, "HeaderFull"),
+        (Cause::TooManyFields, 51, "TooManyFields"),
+        (Cause::OutOfMemory, 70, "OutOfMemory"),
     ];
     for (cause, number, name) in rows {
         assert_eq!(rt; cause.number(), number);
         assert_eq!(rt; cause.name(), name);
     }
-    assert_eq!(rt; Layer::Dataset.name(), "dataset");
-    assert_eq!(rt; Layer::Record.name(), "record");
+    let layers = [
+        (Layer::Dataset, "dataset"),
+        (Layer::Record, "record"),
+        (Layer::Limits, "limits"),
+        (Layer::Outside, "outside"),
+    ];
+    for (layer, name) in layers {
+        assert_eq!(rt; layer.name(), name);
+    }
 }

@@ -6,9 +6,9 @@ use Rattle.std.proofs.Math.Seq.{take-add, take-length}
 use Rattle.iim_dataset.specs.DeviceLaws.{TextsJoin}
 use Rattle.iim_dataset.specs.Devices.{Device, Wrote}
 use Rattle.iim_unpack.specs.Framed.{Framed, BeginsUnframed}
-use Rattle.iim_unpack.specs.Laws.{NoEnvelopeBeginsAnother}
+use Rattle.iim_unpack.specs.Laws.{NoEnvelopeBeginsAnother, NoEnvelopeIsEmpty}
 use Rattle.iimwire.specs.Lines.{accepted_line, ending_line, lines_from, status_of}
-use Rattle.iimwire.specs.Listings.{joined, max_envelopes, Divides, Ending, EndsBy, IsListing, IsLongest, Whole, RefusedBy, TooMany}
+use Rattle.iimwire.specs.Listings.{joined, limits, max_envelopes, Divides, Ending, EndsBy, IsListing, IsLongest, Whole, RefusedBy, TooMany}
 use Rattle.iimwire.specs.Outcomes.{IsBegunReport, IsLineAt, IsReport, IsUnreported, Reported, Told}
 use Rattle.iimwire.specs.declared.fault.Fault.{Fault}
 use Rattle.iimwire.specs.declared.fault.Fault.TheVariants.{CannotRead, CannotWrite, OutOfMemory}
@@ -19,7 +19,7 @@ joined_more : (es : List (List ℕ)) (f : List ℕ) → joined (es ++ f ∷ []) 
 joined_more [] f = append-nil f
 joined_more (e ∷ es) f = ap (λ l. e ++ l) (joined_more es f) ∙ sym (append_assoc e (joined es) f)
 
-framed_more : (es : List (List ℕ)) (f : List ℕ) → AllByRecursion Framed es → Framed f → AllByRecursion Framed (es ++ f ∷ [])
+framed_more : (es : List (List ℕ)) (f : List ℕ) → AllByRecursion (Framed limits) es → Framed limits f → AllByRecursion (Framed limits) (es ++ f ∷ [])
 framed_more [] f all one = (one, tt)
 framed_more (e ∷ es) f all one = (all.0, framed_more es f all.1 one)
 
@@ -50,21 +50,21 @@ cancel [] x y e = e
 cancel (a ∷ f) x y e = cancel f x y (let tail : f ++ x ≡ f ++ y = cc in tail)
 
 -- Envelopes that equal lists begin with are equal.
-same_front : NoEnvelopeBeginsAnother → (f g x y : List ℕ) → Framed f → Framed g → f ++ x ≡ g ++ y → (f ≡ g) × (x ≡ y)
+same_front : NoEnvelopeBeginsAnother → (f g x y : List ℕ) → Framed limits f → Framed limits g → f ++ x ≡ g ++ y → (f ≡ g) × (x ≡ y)
 same_front law f g x y is_f is_g e = elim (fronts f g x y e) [
   | inl h ↦
-      let none : h.0 ≡ [] = law f h.0 is_f (subst Framed h.1 is_g) in
+      let none : h.0 ≡ [] = law limits limits f h.0 is_f (subst (Framed limits) h.1 is_g) in
       let same : f ≡ g = sym (h.1 ∙ ap (λ r. f ++ r) none ∙ append-nil f) in
       (same, cancel f x y (e ∙ ap (λ l. l ++ y) (sym same)))
   | inr h ↦
-      let none : h.0 ≡ [] = law g h.0 is_g (subst Framed h.1 is_f) in
+      let none : h.0 ≡ [] = law limits limits g h.0 is_g (subst (Framed limits) h.1 is_f) in
       let same : f ≡ g = h.1 ∙ ap (λ r. g ++ r) none ∙ append-nil g in
       (same, cancel f x y (e ∙ ap (λ l. l ++ y) (sym same)))
 ]
 
 -- A second list of envelopes is no longer, or an envelope stands behind the first.
-no_more : NoEnvelopeBeginsAnother → (es fs : List (List ℕ)) (x y : List ℕ) → AllByRecursion Framed es → AllByRecursion Framed fs
-    → joined es ++ x ≡ joined fs ++ y → (length fs ≤ length es) ⊎ ((f rest : List ℕ) × Framed f × (x ≡ f ++ rest))
+no_more : NoEnvelopeBeginsAnother → (es fs : List (List ℕ)) (x y : List ℕ) → AllByRecursion (Framed limits) es → AllByRecursion (Framed limits) fs
+    → joined es ++ x ≡ joined fs ++ y → (length fs ≤ length es) ⊎ ((f rest : List ℕ) × Framed limits f × (x ≡ f ++ rest))
 no_more law es [] x y all_e all_f e = inl (omega arith)
 no_more law [] (f ∷ fs) x y all_e all_f e = inr (f, joined fs ++ y, all_f.0, e ∙ append_assoc f (joined fs) y)
 no_more law (g ∷ es) (f ∷ fs) x y all_e all_f e =
@@ -76,7 +76,7 @@ no_more law (g ∷ es) (f ∷ fs) x y all_e all_f e =
     ]
 
 -- Lists of as many envelopes are equal, and so is what follows them.
-same_lists : NoEnvelopeBeginsAnother → (es fs : List (List ℕ)) (x y : List ℕ) → AllByRecursion Framed es → AllByRecursion Framed fs
+same_lists : NoEnvelopeBeginsAnother → (es fs : List (List ℕ)) (x y : List ℕ) → AllByRecursion (Framed limits) es → AllByRecursion (Framed limits) fs
     → length es ≡ length fs → joined es ++ x ≡ joined fs ++ y → (es ≡ fs) × (x ≡ y)
 same_lists law [] [] x y all_e all_f n e = (refl, e)
 same_lists law [] (f ∷ fs) x y all_e all_f n e = absurd (omega arith)
@@ -91,7 +91,7 @@ same_lists law (g ∷ es) (f ∷ fs) x y all_e all_f n e =
 
 -- A list behind which no envelope stands is the longest.
 pub longest_unframed : NoEnvelopeBeginsAnother → (input : List ℕ) (es : List (List ℕ)) (rest : List ℕ) → Divides input es rest
-    → length es ≤ max_envelopes → BeginsUnframed rest → IsLongest input es
+    → length es ≤ max_envelopes → BeginsUnframed limits rest → IsLongest input es
 longest_unframed law input es rest d listed unframed = record {
   listed = listed;
   longest = λ fs left other few. elim (no_more law es fs rest left d.framed other.framed (sym d.parts ∙ other.parts)) [
@@ -108,8 +108,8 @@ longest_full input es full = record {
 }
 
 -- No envelope stands in no octets.
-pub empty_unframed : (Framed [] → ⊥) → (rest : List ℕ) → rest ≡ [] → BeginsUnframed rest
-empty_unframed law [] e = λ f more framed parts. law (subst Framed (nothing f more (sym parts)) framed)
+pub empty_unframed : NoEnvelopeIsEmpty → (rest : List ℕ) → rest ≡ [] → BeginsUnframed limits rest
+empty_unframed law [] e = λ f more framed parts. law limits (subst (Framed limits) (nothing f more (sym parts)) framed)
   where
     nothing : (f more : List ℕ) → f ++ more ≡ [] → f ≡ []
     nothing [] more e = refl
@@ -129,7 +129,7 @@ one_list law input es fs x y d e l m =
 -- The first `at` octets of the input are `count` envelopes, and their lines are out.
 pub record Listed (input : List ℕ) (at count : ℕ) (old new : Device) : Type 0 where
   pub envelopes : List (List ℕ)
-  pub framed : AllByRecursion Framed envelopes
+  pub framed : AllByRecursion (Framed limits) envelopes
   pub front : take at input ≡ joined envelopes
   pub counted : count ≡ length envelopes
   pub out : Wrote old new (lines_from 1 envelopes)
@@ -148,7 +148,7 @@ rest_whole input at = ap (λ n. take n (drop at input)) (sym (length-drop at inp
 length_of_front : (used : ℕ) (rest : List ℕ) → used ≤ length rest → length (take used rest) ≡ used
 length_of_front used rest within = omega (arith, length-take used rest)
 
-divides_more : (input : List ℕ) (es : List (List ℕ)) (rest : List ℕ) (used : ℕ) → Divides input es rest → Framed (take used rest)
+divides_more : (input : List ℕ) (es : List (List ℕ)) (rest : List ℕ) (used : ℕ) → Divides input es rest → Framed limits (take used rest)
     → Divides input (es ++ take used rest ∷ []) (drop used rest)
 divides_more input es rest used d framed = record {
   framed = framed_more es (take used rest) d.framed framed;
@@ -170,7 +170,7 @@ line_behind es count used rest line counted within is =
 pub record Laws : Type 0 where
   pub texts : TextsJoin
   pub begins : NoEnvelopeBeginsAnother
-  pub some : Framed [] → ⊥
+  pub some : NoEnvelopeIsEmpty
 
 -- with the envelope of `used` octets behind them
 pub listed_more : Laws → (input : List ℕ) (at count used : ℕ) (line : List ℕ) (old mid new : Device) → Listed input at count old mid

@@ -6,7 +6,7 @@ use Rattle.iimwire.specs.declared.request.Job.{Job}
 use Rattle.iimwire.specs.declared.request.Job.TheVariants.{Check}
 use Rattle.iimwire.specs.declared.fault.Fault.{Fault}
 use Rattle.iimwire.specs.declared.fault.Fault.TheVariants.{CannotRead, CannotWrite, OutOfMemory}
-use Rattle.iimwire.specs.Listings.{max_envelopes, Divides, Ending, EndsBy, IsListing}
+use Rattle.iimwire.specs.Listings.{limits, max_envelopes, Divides, Ending, EndsBy, IsListing}
 use Rattle.iimwire.specs.Lines.{accepted_line, ending_line, lines_from, report, status_of}
 use Rattle.iimwire.specs.Inputs.{GaveAll, IsUnread}
 
@@ -47,7 +47,7 @@ IsUnsaid old new text fault = (fault ≡ CannotWrite) × (n : ℕ) × Stopped ol
 
 -- The line of an envelope that stands behind `count` others, or the last line.
 abbrev pub IsLineAt : ℕ → List ℕ → Option ℕ → List ℕ → Type 0
-IsLineAt count rest (Some used) line = (count < max_envelopes) × IsAccepted rest used × (line ≡ accepted_line (count + 1) used)
+IsLineAt count rest (Some used) line = (count < max_envelopes) × IsAccepted limits rest used × (line ≡ accepted_line (count + 1) used)
 IsLineAt count rest None line = (ending : Ending) × EndsBy count rest ending × (status_of ending ≡ 1) × (line ≡ ending_line count ending)
 
 -- The line is out, or the output broke inside it, or there was no memory for it.

@@ -1,22 +1,31 @@
 //! Does what a request asks for.
 
-ghost use Rattle.std.specs.Prelude.{◌≡◌, ◌≤◌, ◌<◌, length, IfOk, IfErr, OnOk};
+ghost use Rattle.std.specs.Prelude.{◌≡◌, ◌≢◌, ◌≤◌, ◌<◌, length, string_bytes, IfOk, IfErr, OnOk};
 ghost use Rattle.iim_dataset.specs.Devices.{Wrote};
+ghost use Rattle.iim_unpack.specs.declared.refusal.Cause.TheVariants.{OutOfMemory};
+ghost use Rattle.iimwire.specs.declared.fault.Fault.TheVariants as faults;
+ghost use Rattle.iimwire.specs.Lines.{refused_line};
 ghost use Rattle.iimwire.specs.Listings.{max_envelopes};
 ghost use Rattle.iimwire.specs.Outcomes.{Complained, Ran, Reported, Told, IsUnreported, IsUnsaid, IsChecked, IsUnchecked, devices};
 
 use crate::fault::Fault;
 use crate::input::read_all;
-use crate::laws::no_envelope_is_empty;
 use crate::report::{accepted_line, refused_line};
 use crate::request::{Job, Request};
 use crate::status::{ACCEPTED, FAILED, REFUSED};
 use iim_dataset::{Source, Target, put, texts_join};
-use iim_unpack::{no_envelope_begins_another, scan};
+use iim_fields::Limits;
+use iim_unpack::{Cause, Refusal, no_envelope_begins_another, no_envelope_is_empty, scan};
 use std::alloc::Global;
 
 /// The most envelopes that one run lists.
 const MAX_ENVELOPES: u64 = 1_000_000;
+
+/// What the records 1 and 2 of an envelope may have.
+const LIMITS: Limits = Limits {
+    octets: 65_536,
+    fields: 512,
+};
 
 /// Writes a text.
 fn say<W: Target>(output: &mut W, text: &str) -> Result<(), Fault>
@@ -27,6 +36,19 @@ fn say<W: Target>(output: &mut W, text: &str) -> Result<(), Fault>
         Ok(()) => Ok(()),
         Err(_) => Err(Fault::CannotWrite),
     }
+}
+
+/// The line of a refusal, but for one that tells of memory alone.
+fn refusal_line(alloc: Global, number: u64, refusal: Refusal) -> Result<String, Fault>
+    ensures octets { OnOk result (refusal.cause ≢ OutOfMemory) }
+    ensures line { IfOk result (λ line. string_bytes line ≡ refused_line number refusal) }
+    ensures err { IfErr result (λ fault. fault ≡ faults.OutOfMemory) }
+{
+    if refusal.cause == Cause::OutOfMemory {
+        return Err(Fault::OutOfMemory);
+    }
+    let line = refused_line(alloc, number, refusal)?;
+    Ok(line)
 }
 
 /// Writes the line for the octets that stand behind so many envelopes: the length of the envelope that they begin with,
@@ -41,7 +63,7 @@ fn tell<W: Target>(
     requires listed { count ≤ max_envelopes }
     ensures { Told count rest.now (W.state output.old) (W.state output.new) result }
 {
-    match scan(rest) {
+    match scan(alloc, LIMITS, rest) {
         Ok(found) if count < MAX_ENVELOPES => {
             let line = accepted_line(alloc, count + 1, found.used)?;
             say(output, line.as_str())?;
@@ -52,7 +74,7 @@ fn tell<W: Target>(
             Ok(None)
         }
         Err(refusal) => {
-            let line = refused_line(alloc, count + 1, refusal)?;
+            let line = refusal_line(alloc, count + 1, refusal)?;
             say(output, line.as_str())?;
             Ok(None)
         }

@@ -49,15 +49,13 @@ static STORY: [&[u8]; 21] = [
     b"\x1c\x09\x0a\x00\x04\x00\x00\x00\x32",
 ];
 
-/// The heads that an envelope must have, each with a count of 0.
-const LEAST: [u8; 55] = [
-    0x1c, 1, 0, 0, 0, 0x1c, 1, 20, 0, 0, 0x1c, 1, 22, 0, 0, 0x1c, 1, 30, 0, 0, 0x1c, 1, 40, 0, 0,
-    0x1c, 1, 70, 0, 0, 0x1c, 2, 0, 0, 0, 0x1c, 7, 10, 0, 0, 0x1c, 7, 20, 0, 0, 0x1c, 8, 10, 0, 0,
-    0x1c, 9, 10, 0, 0,
-];
+/// The mandatory datasets, each with the least octets: no service, one subfile of nothing, and sizes of one octet.
+const LEAST: &[u8] = b"\x1c\x01\x00\x00\x02\x00\x04\x1c\x01\x14\x00\x02\x00\x02\x1c\x01\x16\x00\x02\x00\x01\
+\x1c\x01\x1e\x00\x00\x1c\x01\x28\x00\x0800000001\x1c\x01\x46\x00\x0820240301\x1c\x02\x00\x00\x02\x00\x04\
+\x1c\x07\x0a\x00\x01\x00\x1c\x07\x14\x00\x01\x01\x1c\x08\x0a\x00\x00\x1c\x09\x0a\x00\x01\x00";
 
 /// A dataset of the smallest envelope by its place, another in its place, and the line for that.
-static BROKEN: [(usize, &[u8], &str); 5] = [
+static BROKEN: [(usize, &[u8], &str); 8] = [
     (
         5,
         b"",
@@ -72,6 +70,21 @@ static BROKEN: [(usize, &[u8], &str); 5] = [
         7,
         b"\x1c\x07\x1e\x00\x01\x01",
         "1 refused at octet 66 by layer record on 7:30, cause 11 UnknownDataset\n",
+    ),
+    (
+        1,
+        b"\x1c\x01\x14\x00\x02\x00\x01",
+        "1 refused at octet 13 by layer record on 1:20, cause 16 FileFormat\n",
+    ),
+    (
+        3,
+        b"\x1c\x01\x1e\x00\x0bTST",
+        "1 refused at octet 25 by layer record on 1:30, cause 13 CountRange\n",
+    ),
+    (
+        5,
+        b"\x1c\x01\x46\x00\x0820230229",
+        "1 refused at octet 54 by layer record on 1:70, cause 15 BadValue\n",
     ),
     (
         0,
@@ -278,18 +291,66 @@ fn reads_sixteen_mebioctets_and_no_more(rt: HostRuntime) -> Result<(), Fail> {
     Ok(())
 }
 
+/// Behind the first seven datasets, so many of 2:200 with so many octets.
+fn with_fields(alloc: Global, fields: usize, tag: &[u8], octets: usize) -> Result<Vec<u8>, AllocError> {
+    let value = vec![in alloc; b'x'; octets]?;
+    let mut input = joined(alloc, &SMALLEST[..7])?;
+    for _ in 0..fields {
+        add(&mut input, &[tag, value.as_slice()])?;
+    }
+    add(&mut input, &SMALLEST[7..])?;
+    Ok(input)
+}
+
+#[test]
+fn keeps_so_much_of_records_one_and_two(rt: HostRuntime) -> Result<(), Fail> {
+    let long: &[u8] = b"\x1c\x02\xc8\x20\x00";
+    let empty: &[u8] = b"\x1c\x02\xc8\x00\x00";
+    let rows: [(usize, &[u8], usize, u8, &str); 4] = [
+        (7, long, 8192, ACCEPTED, "1 accepted 57493 octets\n"),
+        (
+            8,
+            long,
+            8192,
+            REFUSED,
+            "1 refused at octet 57445 by layer limits on 2:200, cause 50 HeaderFull\n",
+        ),
+        (505, empty, 0, ACCEPTED, "1 accepted 2639 octets\n"),
+        (
+            506,
+            empty,
+            0,
+            REFUSED,
+            "1 refused at octet 2591 by layer limits on 2:200, cause 51 TooManyFields\n",
+        ),
+    ];
+    for (fields, tag, octets, want, line) in rows {
+        let input = with_fields(rt.alloc(), fields, tag, octets)?;
+        let (status, output, _) = run(
+            rt.alloc(),
+            CHECK,
+            reader(input.as_slice()),
+            FromWrite::new(Vec::new(rt.alloc())),
+            writer(),
+        );
+        assert_eq!(rt; status, want, "at {fields}");
+        assert_eq!(rt; output.into_inner().as_slice(), line.as_bytes(), "at {fields}");
+    }
+    Ok(())
+}
+
 #[test]
 fn lists_a_million_envelopes_and_no_more(rt: HostRuntime) -> Result<(), Fail> {
     let alloc = rt.alloc();
-    let mut octets = Vec::with_capacity(alloc, 55_000_055)?;
+    let mut octets = Vec::with_capacity(alloc, 82_000_082)?;
     for _ in 0..1_000_001 {
-        octets.extend_from_slice(&LEAST)?;
+        octets.extend_from_slice(LEAST)?;
     }
-    let last = "\n1000000 accepted 55 octets\n";
-    let too_many = "\n1000000 accepted 55 octets\ntoo many envelopes\n";
+    let last = "\n1000000 accepted 82 octets\n";
+    let too_many = "\n1000000 accepted 82 octets\ntoo many envelopes\n";
     for (many, want, ending) in [
-        (55_000_000, ACCEPTED, last),
-        (55_000_055, REFUSED, too_many),
+        (82_000_000, ACCEPTED, last),
+        (82_000_082, REFUSED, too_many),
     ] {
         let front = octets.as_slice().get(..many).ok_or("so many octets")?;
         let mut output = FromWrite::new(Vec::new(alloc));
