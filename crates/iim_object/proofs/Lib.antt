@@ -1,3 +1,7 @@
 pub mod Numbers
 pub mod Subfiles
 pub mod Steps
+pub mod Members
+pub mod Cuts
+pub mod Behind
+pub mod Leads

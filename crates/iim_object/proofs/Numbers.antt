@@ -233,7 +233,7 @@ numbers_alive ps st c =
 stated_is : (p q : Stated) → p.set ≡ q.set → p.number ≡ q.number → p ≡ q
 stated_is p q a b = rw (a, b) refl
 
-read_front : (ps all : List Stated) (rest : List ObjectToken) (lengths : List ℕ) (n : ℕ) → number_tokens ps ++ rest ≡ number_tokens all ++ (map SubfileBegun lengths ++ (ObjectEnded ∷ Confirmed n ∷ [])) → (more : List Stated) × (all ≡ ps ++ more)
+pub read_front : (ps all : List Stated) (rest : List ObjectToken) (lengths : List ℕ) (n : ℕ) → number_tokens ps ++ rest ≡ number_tokens all ++ (map SubfileBegun lengths ++ (ObjectEnded ∷ Confirmed n ∷ [])) → (more : List Stated) × (all ≡ ps ++ more)
 read_front [] all rest lengths n e = (all, refl)
 read_front (p ∷ ps) [] rest [] n e = absurd cc
 read_front (p ∷ ps) [] rest (l ∷ lengths) n e = absurd cc

@@ -117,7 +117,7 @@ subfiles_alive known subfile ps lengths d some fit = by_announced (number_at 90 
 -- ---- and what completes has these parts
 
 -- behind the numbers come the subfiles
-numbers_end : (ps all : List Stated) (l n : ℕ) (rest : List ObjectToken) (lengths : List ℕ)
+pub numbers_end : (ps all : List Stated) (l n : ℕ) (rest : List ObjectToken) (lengths : List ℕ)
     → number_tokens ps ++ (SubfileBegun l ∷ rest) ≡ number_tokens all ++ (map SubfileBegun lengths ++ ending n)
     → (ps ≡ all) × (SubfileBegun l ∷ rest ≡ map SubfileBegun lengths ++ ending n)
 numbers_end [] [] l n rest lengths e = (refl, e)
@@ -131,7 +131,7 @@ numbers_end (p ∷ ps) (q ∷ all) l n rest lengths e =
     let more = numbers_end ps all l n rest lengths tails in
     ((λ i. record { set = sets i; number = numbers i } ∷ more.0 i), more.1)
 
-subfiles_front : (ls lengths : List ℕ) (n : ℕ) (rest : List ObjectToken) → map SubfileBegun ls ++ rest ≡ map SubfileBegun lengths ++ ending n → (more : List ℕ) × (lengths ≡ ls ++ more)
+pub subfiles_front : (ls lengths : List ℕ) (n : ℕ) (rest : List ObjectToken) → map SubfileBegun ls ++ rest ≡ map SubfileBegun lengths ++ ending n → (more : List ℕ) × (lengths ≡ ls ++ more)
 subfiles_front [] lengths n rest e = (lengths, refl)
 subfiles_front (l ∷ ls) [] n rest e = absurd cc
 subfiles_front (l ∷ ls) (k ∷ lengths) n rest e =
@@ -140,7 +140,7 @@ subfiles_front (l ∷ ls) (k ∷ lengths) n rest e =
     let more = subfiles_front ls lengths n rest tails in
     (more.0, (λ i. same i ∷ more.1 i))
 
-subfiles_end : (ls lengths : List ℕ) (n : ℕ) (rest : List ObjectToken) → map SubfileBegun ls ++ (ObjectEnded ∷ rest) ≡ map SubfileBegun lengths ++ ending n
+pub subfiles_end : (ls lengths : List ℕ) (n : ℕ) (rest : List ObjectToken) → map SubfileBegun ls ++ (ObjectEnded ∷ rest) ≡ map SubfileBegun lengths ++ ending n
     → (lengths ≡ ls) × (rest ≡ Confirmed n ∷ [])
 subfiles_end [] [] n rest e = (refl, cc)
 subfiles_end [] (k ∷ lengths) n rest e = absurd cc
