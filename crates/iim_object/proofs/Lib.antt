@@ -5,3 +5,4 @@ pub mod Members
 pub mod Cuts
 pub mod Behind
 pub mod Leads
+pub mod Stands

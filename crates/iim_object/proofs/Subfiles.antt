@@ -33,6 +33,26 @@ sum_append xs ys = sum_by-append (λ n. n) xs ys
 one_at_least : (known : Bool) (subfile : ℕ) (ps : List Stated) → HasDuties known subfile ps → 1 ≤ subfile
 one_at_least known subfile ps d = at_least_one subfile (in_row_at 20 subfile ps d.stated.each d.largest)
 
+-- the sizes agree where the subfiles fit and are whole
+pub agree_of : (known : Bool) (subfile : ℕ) (ps : List Stated) (lengths : List ℕ) → Fit known subfile ps lengths → IsWhole ps lengths → Agree (sizes_at known subfile ps lengths) lengths (sum lengths)
+agree_of known subfile ps lengths fit whole = record {
+  by_mode = fit.by_mode;
+  announced_fits = fits (number_at 90 ps) refl;
+  each_subfile = fit.each;
+  total_fits = fit.total;
+  within_maximum = fit.maximum;
+  as_announced = whole;
+  as_confirmed = refl;
+}
+  where
+    under : (a : ℕ) → number_at 90 ps ≡ Some a → (o : Option ℕ) → number_at 95 ps ≡ o → IfSome o (λ m. a ≤ m)
+    under a e None f = tt
+    under a e (Some m) f = fit.clash.sizes a m e f
+
+    fits : (o : Option ℕ) → number_at 90 ps ≡ o → IfSome o (λ a. IfSome (number_at 95 ps) (λ m. a ≤ m))
+    fits None e = tt
+    fits (Some a) e = under a e (number_at 95 ps) refl
+
 -- an object of these lengths and no others
 whole_object : (known : Bool) (subfile : ℕ) (ps : List Stated) (lengths : List ℕ) → HasDuties known subfile ps → 0 < length lengths → Fit known subfile ps lengths → IsWhole ps lengths
     → ObjectLanguage (number_tokens ps ++ (map SubfileBegun lengths ++ ending (sum lengths)))
@@ -46,25 +66,9 @@ whole_object known subfile ps lengths d some fit whole = record {
   mode = d.mode;
   largest = d.largest;
   some = some;
-  agree = record {
-    by_mode = fit.by_mode;
-    announced_fits = fits (number_at 90 ps) refl;
-    each_subfile = fit.each;
-    total_fits = fit.total;
-    within_maximum = fit.maximum;
-    as_announced = whole;
-    as_confirmed = refl;
-  };
+  agree = agree_of known subfile ps lengths fit whole;
   tokens_are = refl;
 }
-  where
-    under : (a : ℕ) → number_at 90 ps ≡ Some a → (o : Option ℕ) → number_at 95 ps ≡ o → IfSome o (λ m. a ≤ m)
-    under a e None f = tt
-    under a e (Some m) f = fit.clash.sizes a m e f
-
-    fits : (o : Option ℕ) → number_at 90 ps ≡ o → IfSome o (λ a. IfSome (number_at 95 ps) (λ m. a ≤ m))
-    fits None e = tt
-    fits (Some a) e = under a e (number_at 95 ps) refl
 
 -- with subfiles of one octet up to the announced size
 fill : (a : ℕ) (lengths : List ℕ) → List ℕ
