@@ -1,5 +1,5 @@
 -- The language over numbers and lengths is that of the datasets.
-use Rattle.std.proofs.Common.{◌≡◌, ◌↔◌, ℕ, ◌+◌, ◌<◌, ◌≤◌, ◌⊎◌, Bool, List, [], ◌∷◌, ◌++◌, length, map, sum, Option, Some, None, refl, sym, ap, subst, ◌∙◌, arith, inl, inr, append_assoc, append-nil}
+use Rattle.std.proofs.Common.{◌≡◌, ℕ, ◌<◌, ◌≤◌, List, [], ◌∷◌, ◌++◌, length, map, sum, Some, refl, sym, ap, subst, ◌∙◌, arith, inl, inr, append_assoc, append-nil}
 use Rattle.std.specs.List.{AllByRecursion}
 use Rattle.std.proofs.lemmas.List.{map-append, length-map}
 use Rattle.std.proofs.lemmas.Bool.{eq-eqb}
@@ -8,15 +8,15 @@ use Rattle.iim_dataset.specs.Datasets.{Dataset}
 use Rattle.iim_dataset.specs.Languages.{IsAlive}
 use Rattle.iim_tables.specs.Numbers.{greatest_size}
 use Rattle.iim_object.specs.declared.size.Sizes.{Sizes}
-use Rattle.iim_object.specs.Sizes.{Stated, InRow, AreOnce, AreStated, Agree, number_at, mode_number, sizes_at}
-use Rattle.iim_object.specs.Objects.{ObjectToken, NumberRead, SubfileBegun, ObjectEnded, Confirmed, ObjectLanguage, number_tokens}
-use Rattle.iim_object.specs.Places.{Place, Ending, NotEnded, Ended, ConfirmedAs, ending_tokens, tokens_of}
-use Rattle.iim_object.specs.Records.{AreRecords, AreSized, HaveSizes, MeetRows, numbers_of, lengths_of}
-use Rattle.iim_object.specs.Behind.{of_record, ending_of, place_behind, place_ended, object_tokens, TokensAreOfSizedDatasets, DatasetsLiveWithTheirTokens, DatasetsEndWithTheirTokens}
+use Rattle.iim_object.specs.Sizes.{Stated, InRow, AreOnce, Agree, number_at, mode_number, sizes_at}
+use Rattle.iim_object.specs.Objects.{ObjectToken, SubfileBegun, ObjectEnded, Confirmed, ObjectLanguage, number_tokens}
+use Rattle.iim_object.specs.Places.{Place, Ended, ending_tokens, tokens_of}
+use Rattle.iim_object.specs.Records.{AreRecords, AreSized, numbers_of, lengths_of}
+use Rattle.iim_object.specs.Behind.{ending_of, place_behind, place_ended, object_tokens, TokensAreOfSizedDatasets, DatasetsLiveWithTheirTokens, DatasetsEndWithTheirTokens}
 use Rattle.iim_object.proofs.Numbers.{read-append, read_front, in_row_at}
 use Rattle.iim_object.proofs.Subfiles.{numbers_end, subfiles_front, subfiles_end}
 use Rattle.iim_object.proofs.Members.{IsMember, all_append, all_front, all_back, all_map, are_stated, descriptor_of, object_of, confirmation_of, one_confirmation, some_subfile, ten_of, stating, subfiles, confirmation}
-use Rattle.iim_object.proofs.Cuts.{AreSorted, InNumbers, InSubfiles, AtEnd, NextEnd, cut, next_end, sorted, place_is, place_with}
+use Rattle.iim_object.proofs.Cuts.{AreSorted, cut, next_end, sorted, place_is, place_with}
 
 -- ---- the tokens of the parts
 

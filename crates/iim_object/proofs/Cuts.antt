@@ -1,9 +1,8 @@
 -- Where datasets end in records 7 to 9, and the places there.
-use Rattle.std.proofs.Common.{◌≡◌, ℕ, ◌+◌, ◌<◌, ◌≤◌, ◌⊎◌, Bool, true, false, ◌==◌, cond, eqb, List, [], ◌∷◌, ◌++◌, length, map, refl, sym, ap, subst, ◌∙◌, arith, inl, inr, append_assoc, append-nil}
-use Rattle.std.specs.List.{AllByRecursion, filter}
+use Rattle.std.proofs.Common.{◌≡◌, ℕ, ◌<◌, ◌≤◌, ◌⊎◌, Bool, ◌==◌, cond, List, [], ◌∷◌, ◌++◌, length, refl, sym, ap, subst, ◌∙◌, arith, inl, inr, append-nil}
+use Rattle.std.specs.List.{AllByRecursion}
 use Rattle.std.proofs.lemmas.Bool.{eq-eqb, ne_eqb}
 use Rattle.std.proofs.lemmas.List.Elements.{filter-append}
-use Rattle.iim_dataset.specs.Octets.{number}
 use Rattle.iim_dataset.specs.Datasets.{Dataset}
 use Rattle.iim_object.specs.Places.{Place}
 use Rattle.iim_object.specs.Records.{AreRecords, MeetRows, numbers_of, lengths_of}
@@ -183,7 +182,6 @@ of_rec rec ds h = all_map (IsMember rec) (λ (d : Dataset). d.rec ≡ rec) ds (�
 -- the records that come behind are sorted
 pub sorted : {ds : List Dataset} (r : AreRecords ds) → AreSorted r.before r.r7 r.r8 r.r9
 sorted r = record { others = r.others; sevens = of_rec 7 r.r7 r.descriptor.each; eights = of_rec 8 r.r8 r.object.each; nines = of_rec 9 r.r9 r.confirmation.each }
-
 
 pub record NextNumber (ds : List Dataset) (d : Dataset) (r7 : List Dataset) : Type 0 where
   pub before : List Dataset

@@ -1,14 +1,14 @@
 -- What datasets tell leads from place to place.
-use Rattle.std.proofs.Common.{◌≡◌, ℕ, ◌+◌, ◌<◌, ◌≤◌, List, [], ◌∷◌, ◌++◌, length, map, Option, Some, None, refl, sym, ap, subst, ◌∙◌, arith, append_assoc, append-nil}
+use Rattle.std.proofs.Common.{◌≡◌, ℕ, ◌<◌, List, [], ◌∷◌, ◌++◌, length, Option, Some, None, refl, sym, ap, subst, ◌∙◌, arith, append_assoc, append-nil}
 use Rattle.std.specs.List.{AllByRecursion}
 use Rattle.std.proofs.lemmas.List.{map-append, length-map}
 use Rattle.iim_dataset.specs.Octets.{number}
 use Rattle.iim_dataset.specs.Datasets.{Dataset}
 use Rattle.iim_object.specs.Sizes.{Stated, InRow, AreOnce, AreStated, number_at}
-use Rattle.iim_object.specs.Objects.{ObjectToken, NumberRead, SubfileBegun, ObjectEnded, Confirmed}
-use Rattle.iim_object.specs.Places.{Place, MayFollow, HasBoth, NotEnded, Ended, ConfirmedAs, place_after}
+use Rattle.iim_object.specs.Objects.{NumberRead, ObjectEnded}
+use Rattle.iim_object.specs.Places.{Place, MayFollow, HasBoth}
 use Rattle.iim_object.specs.Records.{AreRecords, numbers_of, lengths_of}
-use Rattle.iim_object.specs.Behind.{of_record, ending_of, place_behind, place_ended, OthersLeadNowhere, NumbersLead, SubfilesLead, EndsLead}
+use Rattle.iim_object.specs.Behind.{of_record, ending_of, place_behind, OthersLeadNowhere, NumbersLead, SubfilesLead, EndsLead}
 use Rattle.iim_object.proofs.Numbers.{at-append}
 use Rattle.iim_object.proofs.Members.{all_front, are_stated, have_both, some_subfile, stated_of}
 use Rattle.iim_object.proofs.Cuts.{AreSorted, more_of, same_of, place_is, place_with, nines_in, next_number, next_subfile, next_end, sorted}

@@ -1,13 +1,12 @@
 -- The object layer while subfiles come and at its end: it is alive exactly where they fit.
-use Rattle.std.proofs.Common.{◌≡◌, ◌↔◌, ℕ, zero, suc, ◌+◌, ◌-◌, ◌<◌, ◌≤◌, Bool, true, false, List, [], ◌∷◌, ◌++◌, length, replicate, map, sum, Option, Some, None, is_some, IfSome, refl, sym, ap, subst, ◌∙◌, arith, append_assoc, append-nil, length-append}
+use Rattle.std.proofs.Common.{◌≡◌, ℕ, ◌+◌, ◌-◌, ◌<◌, ◌≤◌, Bool, true, false, List, [], ◌∷◌, ◌++◌, length, replicate, map, sum, Option, Some, None, is_some, IfSome, refl, sym, ap, subst, ◌∙◌, arith, append_assoc, append-nil, length-append}
 use Rattle.std.specs.List.{AllByRecursion}
 use Rattle.std.proofs.lemmas.List.{map-append}
-use Rattle.std.proofs.lemmas.List.Sums.{sum_by-cons, sum_by-append}
+use Rattle.std.proofs.lemmas.List.Sums.{sum_by-append}
 use Rattle.iim_dataset.specs.Languages.{IsAlive}
-use Rattle.iim_tables.specs.Numbers.{greatest_size}
-use Rattle.iim_object.specs.Sizes.{Stated, AreStated, Agree, number_at, mode_number, sizes_at}
-use Rattle.iim_object.specs.Living.{NoClash, HasDuties, Fit, IsWhole, NumbersLiveWithoutClash, SubfilesLiveWhileTheyFit, ObjectsEndWhereTheyAreWhole, TotalsAreConfirmed}
-use Rattle.iim_object.specs.Objects.{ObjectToken, NumberRead, SubfileBegun, ObjectEnded, Confirmed, ObjectLanguage, number_tokens}
+use Rattle.iim_object.specs.Sizes.{Stated, Agree, number_at, mode_number, sizes_at}
+use Rattle.iim_object.specs.Living.{HasDuties, Fit, IsWhole, NumbersLiveWithoutClash, SubfilesLiveWhileTheyFit, ObjectsEndWhereTheyAreWhole, TotalsAreConfirmed}
+use Rattle.iim_object.specs.Objects.{ObjectToken, SubfileBegun, ObjectEnded, Confirmed, ObjectLanguage, number_tokens}
 use Rattle.iim_object.proofs.Numbers.{numbers_alive, numbers_live, in_row_at, at_least_one, at_most_size, short_ones, sum-ones}
 
 pub numbers_law : NumbersLiveWithoutClash

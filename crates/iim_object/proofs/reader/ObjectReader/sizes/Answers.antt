@@ -1,8 +1,6 @@
-use Rattle.std.proofs.Common.{◌≡◌, Bool, true, false, cond, Option, Some, None, IsSome, ap, subst, sym, ◌∙◌, unwrap_or}
+use Rattle.std.proofs.Common.{◌≡◌, Bool, true, false, cond, Option, Some, None, IsSome, subst, sym, unwrap_or}
 use Rattle.iim_object.specs.declared.state.State.{State}
-use Rattle.iim_object.specs.declared.size.Sizes.{Sizes}
 use Rattle.iim_object.specs.Causes.{is_given}
-use Rattle.iim_object.specs.Places.{Place}
 use Rattle.iim_object.specs.Reading.{StandsAt, IsSizes}
 use Rattle.iim_object.specs.Records.{HaveSizes}
 use Rattle.iim_object.specs.Behind.{place_behind}
