@@ -18,6 +18,14 @@ use Rattle.iim_object.proofs.Subfiles.{numbers_end, subfiles_front, subfiles_end
 use Rattle.iim_object.proofs.Members.{IsMember, all_append, all_front, all_back, all_map, are_stated, descriptor_of, object_of, confirmation_of, one_confirmation, some_subfile, ten_of, stating, subfiles, confirmation}
 use Rattle.iim_object.proofs.Cuts.{AreSorted, cut, next_end, sorted, place_is, place_with}
 
+-- ---- parts that are joined
+
+join2 : {X : Type 0} (x y z xs : List X) → xs ≡ x ++ y → x ++ (y ++ z) ≡ xs ++ z
+join2 {X = X} x y z xs e = sym (append_assoc x y z) ∙ ap (λ (t : List X). t ++ z) (sym e)
+
+join3 : {X : Type 0} (w x y z xs : List X) → xs ≡ w ++ (x ++ y) → w ++ (x ++ (y ++ z)) ≡ xs ++ z
+join3 {X = X} w x y z xs e = ap (λ (t : List X). w ++ t) (sym (append_assoc x y z)) ∙ join2 w (x ++ y) z xs e
+
 -- ---- the tokens of the parts
 
 -- of numbers, of subfiles, and of the end
@@ -178,7 +186,7 @@ live_datasets ds (more, sized) =
           alive_by (object_tokens ds) (heads c.m8 ++ last) (object_tokens (ds ++ more))
           (all ∙ (ap (λ (t : List Dataset). numbers r.r7 ++ (heads t ++ last)) c.whole ∙ (ap (λ (t : List ObjectToken). numbers r.r7 ++ (t ++ last)) (heads-append c.d8 c.m8)
           ∙ (ap (λ (t : List ObjectToken). numbers r.r7 ++ t) (append_assoc (heads c.d8) (heads c.m8) last)
-          ∙ (sym (append_assoc (numbers r.r7) (heads c.d8) (heads c.m8 ++ last)) ∙ ap (λ (t : List ObjectToken). t ++ (heads c.m8 ++ last)) (sym seen))))))
+          ∙ join2 (numbers r.r7) (heads c.d8) (heads c.m8 ++ last) (object_tokens ds) seen))))
           (member_of (ds ++ more) sized)
       | inr (inr c) ↦
           alive_by (object_tokens ds) [] (object_tokens (ds ++ more))
@@ -197,7 +205,7 @@ numbers_go_on ds b x rest others sevens seen o =
     let tail : List Dataset = eights.0 ++ nine.0 ∷ [] in (
       more.0 ++ tail,
       subst AreSized
-          (ap (λ (t : List Dataset). b ++ t) (append_assoc x more.0 tail) ∙ (sym (append_assoc b x (more.0 ++ tail)) ∙ ap (λ (t : List Dataset). t ++ (more.0 ++ tail)) (sym seen)))
+          (ap (λ (t : List Dataset). b ++ t) (append_assoc x more.0 tail) ∙ join2 b x (more.0 ++ tail) ds seen)
           (sized_of b (x ++ more.0) eights.0 nine.0 (numbers x ++ rest) o others (all_append (IsMember 7) x more.0 sevens more.1) eights.1 nine.1 stated eights.2 nine.2),
     )
 
@@ -216,9 +224,7 @@ subfiles_go_on ds b x (d ∷ y) rest others sevens eights seen o =
     let last : List Dataset = nine.0 ∷ [] in (
       more.0 ++ last,
       subst AreSized
-          (ap (λ (t : List Dataset). b ++ (x ++ t)) (append_assoc (d ∷ y) more.0 last)
-          ∙ (ap (λ (t : List Dataset). b ++ t) (sym (append_assoc x (d ∷ y) (more.0 ++ last)))
-          ∙ (sym (append_assoc b (x ++ d ∷ y) (more.0 ++ last)) ∙ ap (λ (t : List Dataset). t ++ (more.0 ++ last)) (sym seen))))
+          (ap (λ (t : List Dataset). b ++ (x ++ t)) (append_assoc (d ∷ y) more.0 last) ∙ join3 b x (d ∷ y) (more.0 ++ last) ds seen)
           (sized_of b x ((d ∷ y) ++ more.0) nine.0 (numbers x ++ (heads (d ∷ y) ++ rest)) o others sevens (all_append (IsMember 8) (d ∷ y) more.0 eights more.1) nine.1 ends.0 lengths nine.2),
     )
 
@@ -257,7 +263,7 @@ live_tokens ds (more, r) (rest, o) =
           let eights = all_front (IsMember 8) c.d8 c.m8 (subst (AllByRecursion (IsMember 8)) c.whole r.object.each) in
           let seen : object_tokens ds ≡ numbers r.r7 ++ heads c.d8 = tokens_in_subfiles ds c.before r.r7 c.d8 c.others s.sevens (all_map (IsMember 8) (λ (d : Dataset). d.rec ≡ 8) c.d8 (λ d m. m.0) eights) c.seen in
           subfiles_go_on ds c.before r.r7 c.d8 rest c.others r.descriptor.each eights c.seen
-          (subst ObjectLanguage (ap (λ (t : List ObjectToken). t ++ rest) seen ∙ append_assoc (numbers r.r7) (heads c.d8) rest) o)
+          (subst ObjectLanguage (sym (join2 (numbers r.r7) (heads c.d8) rest (object_tokens ds) seen)) o)
       | inr (inr c) ↦
           let one = one_confirmation r.r9 r.confirmation in
           let n : ℕ = number (one.0).octets in
@@ -265,8 +271,7 @@ live_tokens ds (more, r) (rest, o) =
           let seen : object_tokens ds ≡ numbers r.r7 ++ (heads r.r8 ++ end_with n) =
           ap object_tokens place ∙ tokens_sorted c.before r.r7 r.r8 ((one.0) ∷ []) (sized_sorted c.before r.r7 r.r8 one.0 c.others r.descriptor.each r.object.each one.1) in
           whole_go_on ds c.before r.r7 r.r8 one.0 rest c.others r.descriptor.each r.object.each one.1 (some_subfile r.r8 r.object) place
-          (subst ObjectLanguage (ap (λ (t : List ObjectToken). t ++ rest) seen
-          ∙ (append_assoc (numbers r.r7) (heads r.r8 ++ end_with n) rest ∙ ap (λ (t : List ObjectToken). numbers r.r7 ++ t) (append_assoc (heads r.r8) (end_with n) rest))) o)
+          (subst ObjectLanguage (sym (join3 (numbers r.r7) (heads r.r8) (end_with n) rest (object_tokens ds) seen)) o)
     ]
 
 pub datasets_law : DatasetsLiveWithTheirTokens
@@ -282,9 +287,8 @@ ended_tokens ds b x y others sevens eights seen =
     ap place_behind (seen ∙ ap (λ (t : List Dataset). b ++ (x ++ t)) (sym (append-nil y))) ∙ place_is b x y [] (record { others = others; sevens = sevens; eights = eights; nines = tt }) in
     ap (λ (p : Place). tokens_of (record p { ending = Ended })) behind
 
-ends_live : (ds : List Dataset) (d : Dataset) (more : List Dataset) (r : AreRecords ((ds ++ d ∷ []) ++ more)) → d.rec ≡ 9
-    → ((e : Dataset) × (e.rec ≡ 9) × IsAlive AreSized (ds ++ e ∷ [])) → IsAlive ObjectLanguage (tokens_of (place_ended ds))
-ends_live ds d more r is (e, nine, (after, sized)) =
+ends_live : (ds : List Dataset) → ((e : Dataset) × (e.rec ≡ 9) × IsAlive AreSized (ds ++ e ∷ [])) → IsAlive ObjectLanguage (tokens_of (place_ended ds))
+ends_live ds (e, nine, (after, sized)) =
     let whole : ((ds ++ e ∷ []) ++ after) ≡ ds ++ e ∷ after = append_assoc ds (e ∷ []) after in
     let sized_so : AreSized (ds ++ e ∷ after) = subst AreSized whole sized in
     let q = sized_so.records in
@@ -296,27 +300,26 @@ ends_live ds d more r is (e, nine, (after, sized)) =
     ap object_tokens q.parts ∙ (tokens_sorted q.before q.r7 q.r8 q.r9 s ∙ (λ i. numbers q.r7 ++ (heads q.r8 ++ ending_tokens (ending_of (one.2 i))))) in
     let ended = ended_tokens ds next.before q.r7 q.r8 next.others s.sevens s.eights next.seen in
     alive_by (tokens_of (place_ended ds)) last (object_tokens (ds ++ e ∷ after))
-    (all ∙ (ap (λ (t : List ObjectToken). numbers q.r7 ++ t) (sym (append_assoc (heads q.r8) (ObjectEnded ∷ []) last))
-    ∙ (sym (append_assoc (numbers q.r7) (heads q.r8 ++ ObjectEnded ∷ []) last) ∙ ap (λ (t : List ObjectToken). t ++ last) (sym ended))))
+    (all ∙ join3 (numbers q.r7) (heads q.r8) (ObjectEnded ∷ []) last (tokens_of (place_ended ds)) ended)
     (member_of (ds ++ e ∷ after) sized_so)
 
-live_ends : (ds : List Dataset) (d : Dataset) (more : List Dataset) (r : AreRecords ((ds ++ d ∷ []) ++ more)) → d.rec ≡ 9
+-- an object that has ended goes on with its confirmed size
+end_goes_on : (ds b x y : List Dataset) (rest : List ObjectToken) → AllByRecursion (λ d. d.rec < 7) b → AllByRecursion (IsMember 7) x → AllByRecursion (IsMember 8) y → 0 < length y → ds ≡ b ++ (x ++ y)
+    → ObjectLanguage (numbers x ++ (heads y ++ ObjectEnded ∷ rest)) → (e : Dataset) × (e.rec ≡ 9) × IsAlive AreSized (ds ++ e ∷ [])
+end_goes_on ds b x y rest others sevens eights some seen o =
+    let ends = ends_so x y rest some o in
+    let nine = confirmation o.confirmed (confirmed_fits (numbers x ++ (heads y ++ ObjectEnded ∷ rest)) o) in
+    let sized = sized_of b x y nine.0 (numbers x ++ (heads y ++ ObjectEnded ∷ rest)) o others sevens eights nine.1 ends.0 ends.1 nine.2 in
+    (nine.0, nine.1.0, ([], subst AreSized (join3 b x y (nine.0 ∷ []) ds seen ∙ sym (append-nil (ds ++ nine.0 ∷ []))) sized))
+
+live_ends : (ds : List Dataset) (d : Dataset) (more : List Dataset) → AreRecords (ds ++ d ∷ more) → d.rec ≡ 9
     → IsAlive ObjectLanguage (tokens_of (place_ended ds)) → (e : Dataset) × (e.rec ≡ 9) × IsAlive AreSized (ds ++ e ∷ [])
 live_ends ds d more r is (rest, o) =
-    let q : AreRecords (ds ++ d ∷ more) = subst AreRecords (append_assoc ds (d ∷ []) more) r in
-    let next = next_end ds d more q is in
-    let s = sorted q in
-    let ended = ended_tokens ds next.before q.r7 q.r8 next.others s.sevens s.eights next.seen in
-    let o_so : ObjectLanguage (numbers q.r7 ++ (heads q.r8 ++ ObjectEnded ∷ rest)) =
-    subst ObjectLanguage (ap (λ (t : List ObjectToken). t ++ rest) ended
-    ∙ (append_assoc (numbers q.r7) (heads q.r8 ++ ObjectEnded ∷ []) rest ∙ ap (λ (t : List ObjectToken). numbers q.r7 ++ t) (append_assoc (heads q.r8) (ObjectEnded ∷ []) rest))) o in
-    let parts = ends_so q.r7 q.r8 rest (some_subfile q.r8 q.object) o_so in
-    let nine = confirmation o_so.confirmed (confirmed_fits (numbers q.r7 ++ (heads q.r8 ++ ObjectEnded ∷ rest)) o_so) in
-    let sized = sized_of next.before q.r7 q.r8 nine.0 (numbers q.r7 ++ (heads q.r8 ++ ObjectEnded ∷ rest)) o_so next.others q.descriptor.each q.object.each nine.1 parts.0 parts.1 nine.2 in
-    let whole : next.before ++ (q.r7 ++ (q.r8 ++ (nine.0) ∷ [])) ≡ (ds ++ (nine.0) ∷ []) ++ [] =
-    ap (λ (t : List Dataset). next.before ++ t) (sym (append_assoc q.r7 q.r8 ((nine.0) ∷ [])))
-    ∙ (sym (append_assoc next.before (q.r7 ++ q.r8) ((nine.0) ∷ [])) ∙ (ap (λ (t : List Dataset). t ++ (nine.0) ∷ []) (sym next.seen) ∙ sym (append-nil (ds ++ (nine.0) ∷ [])))) in
-    (nine.0, nine.1.0, ([], subst AreSized whole sized))
+    let next = next_end ds d more r is in
+    let s = sorted r in
+    let ended = ended_tokens ds next.before r.r7 r.r8 next.others s.sevens s.eights next.seen in
+    end_goes_on ds next.before r.r7 r.r8 rest next.others r.descriptor.each r.object.each (some_subfile r.r8 r.object) next.seen
+    (subst ObjectLanguage (sym (join3 (numbers r.r7) (heads r.r8) (ObjectEnded ∷ []) rest (tokens_of (place_ended ds)) ended)) o)
 
 pub ends_law : DatasetsEndWithTheirTokens
-ends_law ds d (more, r) is = (ends_live ds d more r is, live_ends ds d more r is)
+ends_law ds d (more, r) is = (ends_live ds, live_ends ds d more (subst AreRecords (append_assoc ds (d ∷ []) more) r) is)

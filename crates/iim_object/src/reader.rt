@@ -27,8 +27,9 @@ const KNOWN: u64 = 1;
 /// record 9 confirms. It holds a few numbers, and no octet.
 ///
 /// What its contracts say holds of tokens that the record layer and the limits have admitted: wherever the reader stands,
-/// a token leads it on, or the object layer dies with it and the fault is the first cause. Contracts see the reader as
-/// the numbers that it keeps, and as None after a refusal.
+/// a token leads it on, or the object layer dies with it and the fault is the first cause. Behind datasets that is the
+/// place of `datasets_lead_from_place_to_place`. Contracts see the reader as the numbers that it keeps, and as None after
+/// a refusal.
 #[derive(Debug, Drop)]
 pub struct ObjectReader {
     state: State,
