@@ -12,6 +12,7 @@ use Rattle.iim_object.specs.Sizes.{Stated, AreOnce, AreStated, number_at, mode_n
 use Rattle.iim_object.specs.Objects.{ObjectToken, NumberRead, SubfileBegun, ObjectEnded, Confirmed, ObjectLanguage, number_tokens}
 use Rattle.iim_object.specs.Living.{NoClash, HasDuties, Fit}
 use Rattle.iim_object.specs.Places.{Place, Ending, NotEnded, Ended, ConfirmedAs, ending_tokens, tokens_of, place_after, place_start, HasBoth}
+use Rattle.iim_object.specs.Behind.{TokensFollow}
 use Rattle.iim_object.specs.Causes.{is_given, is_above, number_cause, bound, is_past, subfile_cause, end_cause, confirmed_cause, cause_at}
 use Rattle.iim_object.specs.Reading.{Tells, StandsAt, GoesOn, Refuses, IsSizes}
 use Rattle.iim_object.specs.States.{set_where, state_start, state_with}
@@ -515,6 +516,16 @@ confirmed_refused s n c e p st ended =
       ),
       cause,
     )
+
+-- ---- the tokens of the place behind a token
+
+pub tokens_follow : TokensFollow
+tokens_follow p (NumberRead set number) (not_ended, none, stated) =
+    number_after p set number none not_ended
+    ∙ (number_tokens_more p.stated (record { set = set; number = number }) ∙ ap (λ (t : List ObjectToken). t ++ NumberRead set number ∷ []) (sym (number_before p none not_ended)))
+tokens_follow p (SubfileBegun count) (not_ended, both, few) = not_ended_tokens (place_after p (SubfileBegun count)) not_ended ∙ sym (subfile_tokens p count not_ended)
+tokens_follow p ObjectEnded (not_ended, some) = sym (end_tokens p not_ended)
+tokens_follow p (Confirmed n) ended = sym (confirmed_tokens p n ended)
 
 -- ---- the beginning, and the sizes at the end
 

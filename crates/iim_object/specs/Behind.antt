@@ -45,6 +45,10 @@ abbrev pub DatasetsEndWithTheirTokens : Type 0
 DatasetsEndWithTheirTokens = (ds : List Dataset) (d : Dataset) → IsAlive AreRecords (ds ++ d ∷ []) → d.rec ≡ 9
     → ((e : Dataset) × (e.rec ≡ 9) × IsAlive AreSized (ds ++ e ∷ [])) ↔ IsAlive ObjectLanguage (tokens_of (place_ended ds))
 
+-- The tokens of the place that a token leads to are those before and the token.
+abbrev pub TokensFollow : Type 0
+TokensFollow = (p : Place) (token : ObjectToken) → MayFollow p token → tokens_of (place_after p token) ≡ tokens_of p ++ token ∷ []
+
 -- The token may follow at the place, and leads to the other.
 abbrev pub Leads : Place → ObjectToken → Place → Type 0
 Leads p token q = MayFollow p token × (place_after p token ≡ q)

@@ -2,7 +2,7 @@
 //! the laws.
 
 ghost use Rattle.iim_object.specs.Living.{NumbersLiveWithoutClash, SubfilesLiveWhileTheyFit, ObjectsEndWhereTheyAreWhole, TotalsAreConfirmed};
-ghost use Rattle.iim_object.specs.Behind.{TokensAreOfSizedDatasets, DatasetsLiveWithTheirTokens, DatasetsEndWithTheirTokens, OthersLeadNowhere, NumbersLead, SubfilesLead, EndsLead};
+ghost use Rattle.iim_object.specs.Behind.{TokensAreOfSizedDatasets, DatasetsLiveWithTheirTokens, DatasetsEndWithTheirTokens, TokensFollow, OthersLeadNowhere, NumbersLead, SubfilesLead, EndsLead};
 
 /// While record 7 is read, the object layer can go on exactly where its numbers don't clash.
 pub fn numbers_live_without_clash()
@@ -38,8 +38,9 @@ pub fn datasets_live_with_their_tokens()
 {}
 
 /// Where the rows admit a dataset, each token that it gives may follow at the place behind the datasets before, and leads
-/// to the place behind the dataset.
+/// to the place behind the dataset, whose tokens are those before and this one.
 pub fn datasets_lead_from_place_to_place()
+    ensures tokens { TokensFollow }
     ensures others { OthersLeadNowhere }
     ensures numbers { NumbersLead }
     ensures subfiles { SubfilesLead }
