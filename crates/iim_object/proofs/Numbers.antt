@@ -1,6 +1,6 @@
 -- The object layer while record 7 is read, by the numbers of its datasets alone: it is alive exactly where mode 0 has no announced size
 -- and the announced size is at most the maximum.
-use Rattle.std.proofs.Common.{◌≡◌, ℕ, zero, suc, ◌+◌, ◌<◌, ◌≤◌, Bool, true, false, ◌==◌, eqb, cond, List, [], ◌∷◌, ◌++◌, length, replicate, map, sum, Option, Some, None, is_some, IfSome, refl, sym, ap, subst, ◌∙◌, arith, inl, inr, ◌⊎◌, append_assoc, append-nil, unwrap_or}
+use Rattle.std.proofs.Common.{◌≡◌, ℕ, zero, suc, ◌+◌, ◌<◌, ◌≤◌, Bool, true, false, ◌==◌, eqb, cond, List, [], ◌∷◌, ◌++◌, length, replicate, map, sum, Option, Some, None, is_some, IfSome, refl, sym, ap, subst, ◌∙◌, arith, inl, inr, append_assoc, append-nil, unwrap_or}
 use Rattle.std.specs.List.{AllByRecursion}
 use Rattle.std.proofs.lemmas.Bool.{cases_Bool, eqb-true, eqb-false, eq-eqb, ne_eqb}
 use Rattle.std.proofs.lemmas.List.Sums.{sum_by-cons}
@@ -233,7 +233,7 @@ numbers_alive ps st c =
 stated_is : (p q : Stated) → p.set ≡ q.set → p.number ≡ q.number → p ≡ q
 stated_is p q a b = rw (a, b) refl
 
-read_front : (ps all : List Stated) (rest : List ObjectToken) (lengths : List ℕ) (n : ℕ) → number_tokens ps ++ rest ≡ number_tokens all ++ (map SubfileBegun lengths ++ (ObjectEnded ∷ Confirmed n ∷ [])) → (more : List Stated) × (all ≡ ps ++ more)
+pub read_front : (ps all : List Stated) (rest : List ObjectToken) (lengths : List ℕ) (n : ℕ) → number_tokens ps ++ rest ≡ number_tokens all ++ (map SubfileBegun lengths ++ (ObjectEnded ∷ Confirmed n ∷ [])) → (more : List Stated) × (all ≡ ps ++ more)
 read_front [] all rest lengths n e = (all, refl)
 read_front (p ∷ ps) [] rest [] n e = absurd cc
 read_front (p ∷ ps) [] rest (l ∷ lengths) n e = absurd cc

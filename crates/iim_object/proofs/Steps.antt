@@ -1,23 +1,23 @@
 -- How each token leads on, and where the object layer dies with it.
-use Rattle.std.proofs.Common.{◌≡◌, ◌≢◌, ℕ, zero, suc, ◌+◌, ◌-◌, ◌^◌, ◌<◌, ◌≤◌, ◌⊎◌, Bool, true, false, ◌&&◌, not, cond, nat_lt, min, eqb, List, [], ◌∷◌, ◌++◌, length, map, sum, Option, Some, None, is_some, IfSome, unwrap_or, refl, sym, ap, subst, ◌∙◌, arith, inl, inr, append_assoc, append-nil, length-append}
+use Rattle.std.proofs.Common.{◌≡◌, ℕ, zero, suc, ◌+◌, ◌-◌, ◌^◌, ◌<◌, ◌≤◌, Bool, true, false, ◌&&◌, not, nat_lt, min, eqb, List, [], ◌∷◌, ◌++◌, length, map, sum, Option, Some, None, is_some, IfSome, unwrap_or, refl, sym, ap, subst, ◌∙◌, arith, inl, inr, append_assoc, append-nil, length-append}
 use Rattle.std.specs.List.{AllByRecursion}
 use Rattle.std.proofs.lemmas.List.{map-append}
-use Rattle.std.proofs.lemmas.List.Sums.{sum_by-append}
-use Rattle.std.proofs.lemmas.Bool.{cases_Bool, cases_lt, eqb-true, eqb-false, eq-eqb, ne_eqb, lt-ltb, le-ltb}
-use Rattle.iim_dataset.specs.Languages.{IsAlive, DiesAt}
+use Rattle.std.proofs.lemmas.Bool.{cases_Bool, cases_lt, eqb-true, eq-eqb, lt-ltb, le-ltb}
+use Rattle.iim_dataset.specs.Languages.{IsAlive}
 use Rattle.iim_tables.specs.Numbers.{greatest_size}
 use Rattle.iim_object.specs.declared.state.State.{State}
 use Rattle.iim_object.specs.declared.fault.SizeCause.{SizeCause}
 use Rattle.iim_object.specs.declared.fault.SizeCause.TheVariants.{ModeClash, SizeClash, SubfileTooLong, PastSize, Short, ConfirmedWrong}
-use Rattle.iim_object.specs.Sizes.{Stated, InRow, AreOnce, AreStated, number_at, mode_number}
+use Rattle.iim_object.specs.Sizes.{Stated, AreOnce, AreStated, number_at, mode_number}
 use Rattle.iim_object.specs.Objects.{ObjectToken, NumberRead, SubfileBegun, ObjectEnded, Confirmed, ObjectLanguage, number_tokens}
-use Rattle.iim_object.specs.Living.{NoClash, HasDuties, Fit, IsWhole}
-use Rattle.iim_object.specs.Places.{Place, Ending, NotEnded, Ended, ConfirmedAs, ending_tokens, tokens_of, place_after, place_start, MayFollow, HasBoth}
+use Rattle.iim_object.specs.Living.{NoClash, HasDuties, Fit}
+use Rattle.iim_object.specs.Places.{Place, Ending, NotEnded, Ended, ConfirmedAs, ending_tokens, tokens_of, place_after, place_start, HasBoth}
+use Rattle.iim_object.specs.Behind.{TokensFollow}
 use Rattle.iim_object.specs.Causes.{is_given, is_above, number_cause, bound, is_past, subfile_cause, end_cause, confirmed_cause, cause_at}
 use Rattle.iim_object.specs.Reading.{Tells, StandsAt, GoesOn, Refuses, IsSizes}
 use Rattle.iim_object.specs.States.{set_where, state_start, state_with}
-use Rattle.iim_object.proofs.Numbers.{at-append, at_most_size, in_row_at, mode_at_most_one, none-append, none_parts, read-append}
-use Rattle.iim_object.proofs.Subfiles.{numbers_law, subfiles_law, ends_law, confirmed_law, each_append, sum_append, number_is}
+use Rattle.iim_object.proofs.Numbers.{at-append, at_most_size, in_row_at, mode_at_most_one, none-append, read-append}
+use Rattle.iim_object.proofs.Subfiles.{numbers_law, subfiles_law, ends_law, confirmed_law, each_append, sum_append}
 
 -- ---- tokens of a place
 
@@ -516,6 +516,16 @@ confirmed_refused s n c e p st ended =
       ),
       cause,
     )
+
+-- ---- the tokens of the place behind a token
+
+pub tokens_follow : TokensFollow
+tokens_follow p (NumberRead set number) (not_ended, none, stated) =
+    number_after p set number none not_ended
+    ∙ (number_tokens_more p.stated (record { set = set; number = number }) ∙ ap (λ (t : List ObjectToken). t ++ NumberRead set number ∷ []) (sym (number_before p none not_ended)))
+tokens_follow p (SubfileBegun count) (not_ended, both, few) = not_ended_tokens (place_after p (SubfileBegun count)) not_ended ∙ sym (subfile_tokens p count not_ended)
+tokens_follow p ObjectEnded (not_ended, some) = sym (end_tokens p not_ended)
+tokens_follow p (Confirmed n) ended = sym (confirmed_tokens p n ended)
 
 -- ---- the beginning, and the sizes at the end
 

@@ -1,13 +1,12 @@
 -- The object layer while subfiles come and at its end: it is alive exactly where they fit.
-use Rattle.std.proofs.Common.{◌≡◌, ◌↔◌, ℕ, zero, suc, ◌+◌, ◌-◌, ◌<◌, ◌≤◌, Bool, true, false, List, [], ◌∷◌, ◌++◌, length, replicate, map, sum, Option, Some, None, is_some, IfSome, refl, sym, ap, subst, ◌∙◌, arith, append_assoc, append-nil, length-append}
+use Rattle.std.proofs.Common.{◌≡◌, ℕ, ◌+◌, ◌-◌, ◌<◌, ◌≤◌, Bool, true, false, List, [], ◌∷◌, ◌++◌, length, replicate, map, sum, Option, Some, None, is_some, IfSome, refl, sym, ap, subst, ◌∙◌, arith, append_assoc, append-nil, length-append}
 use Rattle.std.specs.List.{AllByRecursion}
 use Rattle.std.proofs.lemmas.List.{map-append}
-use Rattle.std.proofs.lemmas.List.Sums.{sum_by-cons, sum_by-append}
+use Rattle.std.proofs.lemmas.List.Sums.{sum_by-append}
 use Rattle.iim_dataset.specs.Languages.{IsAlive}
-use Rattle.iim_tables.specs.Numbers.{greatest_size}
-use Rattle.iim_object.specs.Sizes.{Stated, AreStated, Agree, number_at, mode_number, sizes_at}
-use Rattle.iim_object.specs.Living.{NoClash, HasDuties, Fit, IsWhole, NumbersLiveWithoutClash, SubfilesLiveWhileTheyFit, ObjectsEndWhereTheyAreWhole, TotalsAreConfirmed}
-use Rattle.iim_object.specs.Objects.{ObjectToken, NumberRead, SubfileBegun, ObjectEnded, Confirmed, ObjectLanguage, number_tokens}
+use Rattle.iim_object.specs.Sizes.{Stated, Agree, number_at, mode_number, sizes_at}
+use Rattle.iim_object.specs.Living.{HasDuties, Fit, IsWhole, NumbersLiveWithoutClash, SubfilesLiveWhileTheyFit, ObjectsEndWhereTheyAreWhole, TotalsAreConfirmed}
+use Rattle.iim_object.specs.Objects.{ObjectToken, SubfileBegun, ObjectEnded, Confirmed, ObjectLanguage, number_tokens}
 use Rattle.iim_object.proofs.Numbers.{numbers_alive, numbers_live, in_row_at, at_least_one, at_most_size, short_ones, sum-ones}
 
 pub numbers_law : NumbersLiveWithoutClash
@@ -33,6 +32,26 @@ sum_append xs ys = sum_by-append (λ n. n) xs ys
 one_at_least : (known : Bool) (subfile : ℕ) (ps : List Stated) → HasDuties known subfile ps → 1 ≤ subfile
 one_at_least known subfile ps d = at_least_one subfile (in_row_at 20 subfile ps d.stated.each d.largest)
 
+-- the sizes agree where the subfiles fit and are whole
+pub agree_of : (known : Bool) (subfile : ℕ) (ps : List Stated) (lengths : List ℕ) → Fit known subfile ps lengths → IsWhole ps lengths → Agree (sizes_at known subfile ps lengths) lengths (sum lengths)
+agree_of known subfile ps lengths fit whole = record {
+  by_mode = fit.by_mode;
+  announced_fits = fits (number_at 90 ps) refl;
+  each_subfile = fit.each;
+  total_fits = fit.total;
+  within_maximum = fit.maximum;
+  as_announced = whole;
+  as_confirmed = refl;
+}
+  where
+    under : (a : ℕ) → number_at 90 ps ≡ Some a → (o : Option ℕ) → number_at 95 ps ≡ o → IfSome o (λ m. a ≤ m)
+    under a e None f = tt
+    under a e (Some m) f = fit.clash.sizes a m e f
+
+    fits : (o : Option ℕ) → number_at 90 ps ≡ o → IfSome o (λ a. IfSome (number_at 95 ps) (λ m. a ≤ m))
+    fits None e = tt
+    fits (Some a) e = under a e (number_at 95 ps) refl
+
 -- an object of these lengths and no others
 whole_object : (known : Bool) (subfile : ℕ) (ps : List Stated) (lengths : List ℕ) → HasDuties known subfile ps → 0 < length lengths → Fit known subfile ps lengths → IsWhole ps lengths
     → ObjectLanguage (number_tokens ps ++ (map SubfileBegun lengths ++ ending (sum lengths)))
@@ -46,25 +65,9 @@ whole_object known subfile ps lengths d some fit whole = record {
   mode = d.mode;
   largest = d.largest;
   some = some;
-  agree = record {
-    by_mode = fit.by_mode;
-    announced_fits = fits (number_at 90 ps) refl;
-    each_subfile = fit.each;
-    total_fits = fit.total;
-    within_maximum = fit.maximum;
-    as_announced = whole;
-    as_confirmed = refl;
-  };
+  agree = agree_of known subfile ps lengths fit whole;
   tokens_are = refl;
 }
-  where
-    under : (a : ℕ) → number_at 90 ps ≡ Some a → (o : Option ℕ) → number_at 95 ps ≡ o → IfSome o (λ m. a ≤ m)
-    under a e None f = tt
-    under a e (Some m) f = fit.clash.sizes a m e f
-
-    fits : (o : Option ℕ) → number_at 90 ps ≡ o → IfSome o (λ a. IfSome (number_at 95 ps) (λ m. a ≤ m))
-    fits None e = tt
-    fits (Some a) e = under a e (number_at 95 ps) refl
 
 -- with subfiles of one octet up to the announced size
 fill : (a : ℕ) (lengths : List ℕ) → List ℕ
@@ -117,7 +120,7 @@ subfiles_alive known subfile ps lengths d some fit = by_announced (number_at 90 
 -- ---- and what completes has these parts
 
 -- behind the numbers come the subfiles
-numbers_end : (ps all : List Stated) (l n : ℕ) (rest : List ObjectToken) (lengths : List ℕ)
+pub numbers_end : (ps all : List Stated) (l n : ℕ) (rest : List ObjectToken) (lengths : List ℕ)
     → number_tokens ps ++ (SubfileBegun l ∷ rest) ≡ number_tokens all ++ (map SubfileBegun lengths ++ ending n)
     → (ps ≡ all) × (SubfileBegun l ∷ rest ≡ map SubfileBegun lengths ++ ending n)
 numbers_end [] [] l n rest lengths e = (refl, e)
@@ -131,7 +134,7 @@ numbers_end (p ∷ ps) (q ∷ all) l n rest lengths e =
     let more = numbers_end ps all l n rest lengths tails in
     ((λ i. record { set = sets i; number = numbers i } ∷ more.0 i), more.1)
 
-subfiles_front : (ls lengths : List ℕ) (n : ℕ) (rest : List ObjectToken) → map SubfileBegun ls ++ rest ≡ map SubfileBegun lengths ++ ending n → (more : List ℕ) × (lengths ≡ ls ++ more)
+pub subfiles_front : (ls lengths : List ℕ) (n : ℕ) (rest : List ObjectToken) → map SubfileBegun ls ++ rest ≡ map SubfileBegun lengths ++ ending n → (more : List ℕ) × (lengths ≡ ls ++ more)
 subfiles_front [] lengths n rest e = (lengths, refl)
 subfiles_front (l ∷ ls) [] n rest e = absurd cc
 subfiles_front (l ∷ ls) (k ∷ lengths) n rest e =
@@ -140,7 +143,7 @@ subfiles_front (l ∷ ls) (k ∷ lengths) n rest e =
     let more = subfiles_front ls lengths n rest tails in
     (more.0, (λ i. same i ∷ more.1 i))
 
-subfiles_end : (ls lengths : List ℕ) (n : ℕ) (rest : List ObjectToken) → map SubfileBegun ls ++ (ObjectEnded ∷ rest) ≡ map SubfileBegun lengths ++ ending n
+pub subfiles_end : (ls lengths : List ℕ) (n : ℕ) (rest : List ObjectToken) → map SubfileBegun ls ++ (ObjectEnded ∷ rest) ≡ map SubfileBegun lengths ++ ending n
     → (lengths ≡ ls) × (rest ≡ Confirmed n ∷ [])
 subfiles_end [] [] n rest e = (refl, cc)
 subfiles_end [] (k ∷ lengths) n rest e = absurd cc

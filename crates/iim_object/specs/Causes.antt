@@ -1,7 +1,7 @@
 -- The first cause for which a token is refused, by the numbers so far.
-use Rattle.std.specs.Prelude.{ℕ, ◌+◌, ◌<◌, ◌==◌, Bool, true, false, ◌&&◌, not, nat_lt, min, if◌then◌else◌, List, ◌++◌, ◌∷◌, [], sum, is_some, Option, Some, None, unwrap_or}
+use Rattle.std.specs.Prelude.{ℕ, ◌+◌, ◌==◌, Bool, false, ◌&&◌, not, nat_lt, min, if◌then◌else◌, ◌++◌, ◌∷◌, [], sum, is_some, Option, Some, None, unwrap_or}
 use Rattle.iim_tables.specs.Numbers.{greatest_size}
-use Rattle.iim_object.specs.Sizes.{Stated, number_at}
+use Rattle.iim_object.specs.Sizes.{number_at}
 use Rattle.iim_object.specs.Objects.{ObjectToken, NumberRead, SubfileBegun, ObjectEnded, Confirmed}
 use Rattle.iim_object.specs.Places.{Place}
 use Rattle.iim_object.specs.declared.fault.SizeCause.{SizeCause}

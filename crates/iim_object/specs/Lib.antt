@@ -2,8 +2,10 @@ pub mod Plans
 pub mod Sizes
 pub mod Objects
 pub mod Living
+pub mod Records
 pub mod Events
 pub mod Places
+pub mod Behind
 pub mod Causes
 pub mod States
 pub mod Reading

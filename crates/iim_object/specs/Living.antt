@@ -4,7 +4,7 @@ use Rattle.std.specs.List.{AllByRecursion}
 use Rattle.iim_dataset.specs.Languages.{IsAlive}
 use Rattle.iim_tables.specs.Numbers.{greatest_size}
 use Rattle.iim_object.specs.Sizes.{Stated, AreStated, number_at, mode_number}
-use Rattle.iim_object.specs.Objects.{ObjectToken, SubfileBegun, ObjectEnded, Confirmed, ObjectLanguage, number_tokens}
+use Rattle.iim_object.specs.Objects.{SubfileBegun, ObjectEnded, Confirmed, ObjectLanguage, number_tokens}
 
 -- The numbers don't clash: a size that isn't known is not announced, and the announced size is at most the maximum.
 pub record NoClash (ps : List Stated) : Type 0 where

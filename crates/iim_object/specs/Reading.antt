@@ -1,9 +1,9 @@
 -- Where a reader of objects stands, and why it refuses a token.
-use Rattle.std.specs.Prelude.{◌≡◌, ℕ, ◌<◌, Bool, ◌==◌, if◌then◌else◌, List, [], ◌∷◌, ◌++◌, length, map, sum, take, slice_index, Option, Some, None}
+use Rattle.std.specs.Prelude.{◌≡◌, ℕ, ◌<◌, Bool, ◌==◌, if◌then◌else◌, List, [], ◌∷◌, ◌++◌, length, map, sum, take, slice_index, Option, Some}
 use Rattle.iim_dataset.specs.Languages.{IsAlive, DiesAt}
 use Rattle.iim_object.specs.Sizes.{AreStated, number_at, mode_number, sizes_at}
 use Rattle.iim_object.specs.Objects.{ObjectToken, ObjectEnded, ObjectLanguage}
-use Rattle.iim_object.specs.Places.{Place, Ending, NotEnded, Ended, ConfirmedAs, MayFollow, HasBoth, place_after, tokens_of}
+use Rattle.iim_object.specs.Places.{Place, NotEnded, MayFollow, HasBoth, place_after, tokens_of}
 use Rattle.iim_object.specs.Causes.{cause_at}
 use Rattle.iim_object.specs.declared.state.State.{State}
 use Rattle.iim_object.specs.declared.fault.SizeCause.{SizeCause}

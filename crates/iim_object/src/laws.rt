@@ -1,6 +1,8 @@
-//! When the object layer can go on. The functions do nothing: their contracts are the laws.
+//! When the object layer can go on, and how its tokens come from datasets. The functions do nothing: their contracts are
+//! the laws.
 
 ghost use Rattle.iim_object.specs.Living.{NumbersLiveWithoutClash, SubfilesLiveWhileTheyFit, ObjectsEndWhereTheyAreWhole, TotalsAreConfirmed};
+ghost use Rattle.iim_object.specs.Behind.{TokensAreOfSizedDatasets, DatasetsLiveWithTheirTokens, DatasetsEndWithTheirTokens, TokensFollow, OthersLeadNowhere, NumbersLead, SubfilesLead, EndsLead};
 
 /// While record 7 is read, the object layer can go on exactly where its numbers don't clash.
 pub fn numbers_live_without_clash()
@@ -20,4 +22,27 @@ pub fn objects_end_where_they_are_whole()
 /// With the confirmed size, the object layer can go on exactly where that is the total.
 pub fn totals_are_confirmed()
     ensures { TotalsAreConfirmed }
+{}
+
+/// The tokens of datasets that have sizes are in the language of the object layer, and each member of it is the tokens of
+/// some such datasets.
+pub fn tokens_are_of_sized_datasets()
+    ensures { TokensAreOfSizedDatasets }
+{}
+
+/// Datasets as their rows say go on to some that have sizes exactly where the object layer can go on from their tokens:
+/// behind whole datasets, and behind the head of 9:10.
+pub fn datasets_live_with_their_tokens()
+    ensures behind { DatasetsLiveWithTheirTokens }
+    ensures ended { DatasetsEndWithTheirTokens }
+{}
+
+/// Where the rows admit a dataset, each token that it gives may follow at the place behind the datasets before, and leads
+/// to the place behind the dataset, whose tokens are those before and this one.
+pub fn datasets_lead_from_place_to_place()
+    ensures tokens { TokensFollow }
+    ensures others { OthersLeadNowhere }
+    ensures numbers { NumbersLead }
+    ensures subfiles { SubfilesLead }
+    ensures ends { EndsLead }
 {}

@@ -1,10 +1,13 @@
 //! The reader of an object.
 
-ghost use Rattle.std.specs.Prelude.{◌≡◌, [], ◌∷◌, ℕ, Option, if◌then◌else◌, is_none, map, sum, Some, None, IsSome, IfErr, OnOk, OnErr};
+ghost use Rattle.std.specs.Prelude.{◌≡◌, [], ◌∷◌, ℕ, List, Option, if◌then◌else◌, is_none, map, sum, Some, None, IsSome, IfErr, OnOk, OnErr};
+ghost use Rattle.iim_dataset.specs.Datasets.{Dataset};
 ghost use Rattle.iim_object.specs.declared.state.State.{State};
 ghost use Rattle.iim_object.specs.Events.{ObjectOctet, ObjectEnd};
 ghost use Rattle.iim_object.specs.Objects.{ObjectEnded};
 ghost use Rattle.iim_object.specs.Places.{Place, ConfirmedAs, place_start, value_token, head_token};
+ghost use Rattle.iim_object.specs.Records.{AreRecords, HaveSizes};
+ghost use Rattle.iim_object.specs.Behind.{place_behind};
 ghost use Rattle.iim_object.specs.Reading.{StandsAt, GoesOn, RefusesValue, RefusesHead, RefusesRun, IsSizes, events_at};
 
 use crate::fault::{ObjectFault, SizeCause};
@@ -24,8 +27,9 @@ const KNOWN: u64 = 1;
 /// record 9 confirms. It holds a few numbers, and no octet.
 ///
 /// What its contracts say holds of tokens that the record layer and the limits have admitted: wherever the reader stands,
-/// a token leads it on, or the object layer dies with it and the fault is the first cause. Contracts see the reader as
-/// the numbers that it keeps, and as None after a refusal.
+/// a token leads it on, or the object layer dies with it and the fault is the first cause. Behind datasets that is the
+/// place of `datasets_lead_from_place_to_place`. Contracts see the reader as the numbers that it keeps, and as None after
+/// a refusal.
 #[derive(Debug, Drop)]
 pub struct ObjectReader {
     state: State,
@@ -158,7 +162,8 @@ impl ObjectReader {
     /// What records 7 to 9 have said of the object, once its size is confirmed.
     pub fn sizes(&self) -> Sizes
         requires { IsSome self.now }
-        ensures { (p : Place) (n : ℕ) → StandsAt self.now p → p.ending ≡ ConfirmedAs n → IsSizes p result }
+        ensures place { (p : Place) (n : ℕ) → StandsAt self.now p → p.ending ≡ ConfirmedAs n → IsSizes p result }
+        ensures records { (ds : List Dataset) (r : AreRecords ds) → StandsAt self.now (place_behind ds) → HaveSizes r.r7 r.r8 r.r9 result }
     {
         let State {
             mode,

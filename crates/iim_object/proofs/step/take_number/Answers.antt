@@ -1,4 +1,4 @@
-use Rattle.std.proofs.Common.{◌≡◌, Option, Some, None, sym, ◌∙◌, ap, subst, rules}
+use Rattle.std.proofs.Common.{Some, sym, ◌∙◌, ap, subst}
 use Rattle.iim_object.specs.declared.state.State.{State}
 use Rattle.iim_object.specs.Objects.{NumberRead}
 use Rattle.iim_object.specs.Reading.{GoesOn}

@@ -1,4 +1,4 @@
-use Rattle.std.proofs.Common.{◌≡◌, ◌<◌, ◌^◌, Some, sym, ◌∙◌, subst, rules, arith}
+use Rattle.std.proofs.Common.{Some, sym, ◌∙◌, subst, rules, arith}
 use Rattle.iim_object.specs.declared.state.State.{State}
 use Rattle.iim_object.specs.Objects.{SubfileBegun}
 use Rattle.iim_object.specs.Reading.{GoesOn}

@@ -1,10 +1,11 @@
-use Rattle.std.proofs.Common.{◌≡◌, Bool, true, false, cond, Option, Some, None, IsSome, ap, subst, sym, ◌∙◌}
+use Rattle.std.proofs.Common.{◌≡◌, Bool, true, false, cond, Option, Some, None, IsSome, subst, sym, unwrap_or}
 use Rattle.iim_object.specs.declared.state.State.{State}
-use Rattle.iim_object.specs.declared.size.Sizes.{Sizes}
 use Rattle.iim_object.specs.Causes.{is_given}
-use Rattle.iim_object.specs.Places.{Place}
 use Rattle.iim_object.specs.Reading.{StandsAt, IsSizes}
+use Rattle.iim_object.specs.Records.{HaveSizes}
+use Rattle.iim_object.specs.Behind.{place_behind}
 use Rattle.iim_object.proofs.Steps.{sizes_are}
+use Rattle.iim_object.proofs.Stands.{have_sizes}
 use Rattle.iim_object.proofs.reader.ObjectReader.sizes.Goals as goal
 
 -- a reader that takes calls shows its state
@@ -14,17 +15,20 @@ seen true s (Some x) e h = absurd cc
 seen false s shown e h = e
 
 pub returns : goal.returns
-returns c = λ p n st e.
+returns c =
     let s : State = c.self.inside.state in
     let same : Some s ≡ c.args.self.now = seen c.self.inside.failed s c.args.self.now c.self.view_is c.requires in
-    let sizes = sizes_are s p n (subst (λ (o : Option State). StandsAt o p) (sym same) st) e in
-    subst (λ (x : Sizes). IsSizes p x)
-    (λ i. record {
+    let made : record { known = is_given s.mode 1; subfile = unwrap_or s.subfile 0; announced = s.announced; maximum = s.maximum; subfiles = s.subfiles; total = s.total } ≡
+    record { known = c.is_given.result; subfile = c.unwrap_or.result; announced = s.announced; maximum = s.maximum; subfiles = s.subfiles; total = s.total } =
+    λ i. record {
       known = sym c.is_given.ensures i;
       subfile = sym c.unwrap_or.ensures i;
       announced = s.announced;
       maximum = s.maximum;
       subfiles = s.subfiles;
       total = s.total;
-    })
-    sizes
+    } in
+    record {
+      place = λ p n st e. subst (IsSizes p) made (sizes_are s p n (subst (λ (o : Option State). StandsAt o p) (sym same) st) e);
+      records = λ ds r st. subst (HaveSizes r.r7 r.r8 r.r9) made (have_sizes s ds r (subst (λ (o : Option State). StandsAt o (place_behind ds)) (sym same) st));
+    }

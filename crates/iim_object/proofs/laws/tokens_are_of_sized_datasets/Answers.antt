@@ -1,0 +1,5 @@
+use Rattle.iim_object.proofs.Behind.{tokens_law}
+use Rattle.iim_object.proofs.laws.tokens_are_of_sized_datasets.Goals as goal
+
+pub returns : goal.returns
+returns c = tokens_law
