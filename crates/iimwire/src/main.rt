@@ -1,7 +1,7 @@
 //! The command `iimwire`: checks files of envelopes.
 //!
-//! Stands on `iim_dataset`, `iim_unpack` and `clap`. [`run::run`] does the work, over any source and targets of octets;
-//! what is here joins it to the arguments, files and streams of a process.
+//! Stands on `iim_dataset`, `iim_fields`, `iim_unpack` and `clap`. [`run::run`] does the work, over any source and targets of
+//! octets; what is here joins it to the arguments, files and streams of a process.
 #![tactic(auto)]
 
 ghost use Rattle.std.specs.Prelude.{◌≡◌, ◌⊎◌};
@@ -36,12 +36,12 @@ fn main(rt: HostRuntime) -> ExitCode {
     };
     let words: Vec<String> = match arguments.collect(alloc) {
         Ok(words) => words,
-        Err(_) => return fail(&rt, Fault::OutOfMemory),
+        Err(_) => return out_of_memory(&rt),
     };
     match parse(alloc, words.as_slice()) {
         Ok(request) => serve(&rt, request),
         Err(UsageFault::Words(error)) => complain(&rt, &error, USAGE),
-        Err(UsageFault::OutOfMemory) => fail(&rt, Fault::OutOfMemory),
+        Err(UsageFault::OutOfMemory) => out_of_memory(&rt),
     }
 }
 
@@ -60,16 +60,16 @@ fn refuse(rt: &HostRuntime, error: &io::Error, text: impl Display + Drop, status
     ensures { (exit_status result ≡ status) ⊎ (exit_status result ≡ 3) }
 {
     match error.kind() {
-        ErrorKind::OutOfMemory => fail(rt, Fault::OutOfMemory),
+        ErrorKind::OutOfMemory => out_of_memory(rt),
         _ => complain(rt, text, status),
     }
 }
 
-/// Tells a fault, and ends.
-fn fail(rt: &HostRuntime, fault: Fault) -> ExitCode
+/// Tells that memory was refused, and ends.
+fn out_of_memory(rt: &HostRuntime) -> ExitCode
     ensures { exit_status result ≡ 3 }
 {
-    complain(rt, fault.line(), FAILED)
+    complain(rt, Fault::OutOfMemory.line(), FAILED)
 }
 
 /// Opens the file that the request names, or else takes standard input.
@@ -87,7 +87,7 @@ fn serve(rt: &HostRuntime, request: Request<'_>) -> ExitCode {
 fn perform<R: Read + Drop>(rt: &HostRuntime, request: Request<'_>, reader: R) -> ExitCode {
     match buffered(rt, request, reader) {
         Ok(status) => ExitCode::from(status),
-        Err(_) => fail(rt, Fault::OutOfMemory),
+        Err(_) => out_of_memory(rt),
     }
 }
 
