@@ -7,3 +7,4 @@ pub mod Build
 pub mod Finish
 pub mod Sound
 pub mod Mandatory
+pub mod RowsMet
