@@ -1,5 +1,5 @@
 -- The data of an envelope meet their rows.
-use Rattle.std.proofs.Common.{◌≡◌, ℕ, ◌≤◌, Bool, true, false, ◌&&◌, cond, nat_eq, nat_le, List, [], ◌∷◌, ◌++◌, length, refl, sym, arith, subst, Option, Some}
+use Rattle.std.proofs.Common.{◌≡◌, ℕ, ◌≤◌, Bool, true, false, ◌&&◌, cond, nat_eq, nat_le, List, [], ◌∷◌, ◌++◌, length, refl, ap, sym, ◌∙◌, arith, subst, Option, Some}
 use Rattle.std.specs.List.{AllByRecursion, list_all, slice_get}
 use Rattle.std.specs.Option.{option_map}
 use Rattle.std.proofs.lemmas.Bool.{and_parts, eqb-true, leb-true}
@@ -43,25 +43,33 @@ data_meet ds e r n xs h =
 pub stored_meet : (store : Store) (ds : List Dataset) → IsEnvelopeStore store → fields_of store ≡ ds → (r n : ℕ) (xs : List ℕ) → first_data r n ds ≡ Some xs → Meets r n xs
 stored_meet store ds good is r n xs h = data_meet ds (subst IsEnvelope is good.envelope) r n xs h
 
+-- so does what was viewed
+pub viewed_meet : {A : Type 0} (f : A → List ℕ) (store : Store) (ds : List Dataset) → IsEnvelopeStore store → fields_of store ≡ ds
+    → (r n : ℕ) (o : Option A) (x : A) → option_map f o ≡ first_data r n ds → o ≡ Some x → Meets r n (f x)
+viewed_meet f store ds good is r n o x first e = stored_meet store ds good is r n (f x) (sym first ∙ ap (option_map f) e)
+
 -- ---- the rows of the views that rest on them
 
 at_most : (low high n : ℕ) → within low high n ≡ true → n ≤ high
 at_most low high n h = leb-true n high (and_parts (nat_le low n) (nat_le n high) h).1
 
-at_least : (low high n : ℕ) → within low high n ≡ true → low ≤ n
-at_least low high n h = leb-true low n (and_parts (nat_le low n) (nat_le n high) h).0
+exactly : (only n : ℕ) → within only only n ≡ true → n ≡ only
+exactly only n h =
+    let parts = and_parts (nat_le only n) (nat_le n only) h in
+    let low = leb-true only n parts.0 in
+    let high = leb-true n only parts.1 in omega arith
 
 pub service_fits : (xs : List ℕ) → Meets 1 30 xs → length xs ≤ 10
 unfolding row_of table
 service_fits xs h = at_most 0 10 (length xs) (and_parts (within 0 10 (length xs)) (list_all is_graphic xs) h).0
 
-pub number_fits : (xs : List ℕ) → Meets 1 40 xs → length xs ≤ 8
+pub number_fits : (xs : List ℕ) → Meets 1 40 xs → length xs ≡ 8
 unfolding row_of table
-number_fits xs h = at_most 8 8 (length xs) (and_parts (within 8 8 (length xs)) (list_all is_digit xs) h).0
+number_fits xs h = exactly 8 (length xs) (and_parts (within 8 8 (length xs)) (list_all is_digit xs) h).0
 
-pub date_fits : (xs : List ℕ) → Meets 1 70 xs → length xs ≤ 8
+pub date_fits : (xs : List ℕ) → Meets 1 70 xs → length xs ≡ 8
 unfolding row_of table
-date_fits xs h = at_most 8 8 (length xs) (and_parts (within 8 8 (length xs)) (is_date xs) h).0
+date_fits xs h = exactly 8 (length xs) (and_parts (within 8 8 (length xs)) (is_date xs) h).0
 
 pub date_is : (xs : List ℕ) → Meets 1 70 xs → is_date xs ≡ true
 unfolding row_of table
@@ -69,10 +77,7 @@ date_is xs h = (and_parts (within 8 8 (length xs)) (is_date xs) h).1
 
 pub priority_is_one : (xs : List ℕ) → Meets 1 60 xs → length xs ≡ 1
 unfolding row_of table
-priority_is_one xs h =
-    let long = (and_parts (within 1 1 (length xs)) (list_all is_digit xs) h).0 in
-    let low = at_least 1 1 (length xs) long in
-    let high = at_most 1 1 (length xs) long in omega arith
+priority_is_one xs h = exactly 1 (length xs) (and_parts (within 1 1 (length xs)) (list_all is_digit xs) h).0
 
 -- the one octet of a list
 pub only_octet : (xs : List ℕ) → length xs ≡ 1 → option_map (λ b. b ∷ []) (slice_get xs 0) ≡ Some xs

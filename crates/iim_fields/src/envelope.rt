@@ -28,10 +28,10 @@ impl Model for Envelope {
 }
 
 impl Envelope {
-    ghost use Rattle.std.specs.Prelude.{◌≡◌, [], ◌∷◌, Some, ◌↔◌, IsTrue, IsSomeAnd, pos};
+    ghost use Rattle.std.specs.Prelude.{◌≡◌, ◌≤◌, [], ◌∷◌, length, Some, ◌↔◌, IsTrue, IsSomeAnd, pos};
     ghost use Rattle.std.specs.Option.{option_map};
     ghost use Rattle.jiff.specs.Words.{IsYmd};
-    ghost use Rattle.iim_tables.specs.Dates.{year_in, month_in, day_in};
+    ghost use Rattle.iim_tables.specs.Dates.{is_date, year_in, month_in, day_in};
     ghost use Rattle.iim_fields.specs.Walks.{rest_of, data_left};
     ghost use Rattle.iim_fields.specs.Views.{first_data, all_data, instant_sent};
 
@@ -72,15 +72,17 @@ impl Envelope {
 
     /// 1:30 Service Identifier, of the Envelope Record.
     pub fn service(&self) -> &[u8]
-        ensures { first_data 1 30 self.now ≡ Some result.now }
+        ensures data { first_data 1 30 self.now ≡ Some result.now }
+        ensures fits { length result.now ≤ 10 }
     {
         let _ = &self.store;
         self.first(ENVELOPE, 30).unwrap()
     }
 
-    /// 1:40 Envelope Number.
+    /// 1:40 Envelope Number: eight digits.
     pub fn number(&self) -> &[u8]
-        ensures { first_data 1 40 self.now ≡ Some result.now }
+        ensures data { first_data 1 40 self.now ≡ Some result.now }
+        ensures fits { length result.now ≡ 8 }
     {
         let _ = &self.store;
         self.first(ENVELOPE, 40).unwrap()
@@ -88,7 +90,9 @@ impl Envelope {
 
     /// 1:70 Date Sent, as eight digits, CCYYMMDD.
     pub fn date_sent_text(&self) -> &[u8]
-        ensures { first_data 1 70 self.now ≡ Some result.now }
+        ensures data { first_data 1 70 self.now ≡ Some result.now }
+        ensures fits { length result.now ≡ 8 }
+        ensures date { IsTrue (is_date result.now) }
     {
         let _ = &self.store;
         self.first(ENVELOPE, 70).unwrap()
@@ -98,7 +102,6 @@ impl Envelope {
     pub fn date_sent(&self) -> Date
         ensures { IsSomeAnd (first_data 1 70 self.now) (λ date. IsYmd (pos (year_in date)) (pos (month_in date)) (pos (day_in date)) result) }
     {
-        let _ = &self.store;
         date_of(self.date_sent_text()).unwrap()
     }
 
@@ -117,7 +120,6 @@ impl Envelope {
         ensures number { first_data 1 40 self.now ≡ Some result.number }
         ensures date_sent { first_data 1 70 self.now ≡ Some result.date_sent }
     {
-        let _ = &self.store;
         EnvelopeId::new(self.service(), self.number(), self.date_sent_text())
     }
 
