@@ -1,17 +1,14 @@
 -- What a builder has.
-use Rattle.std.proofs.Common.{◌≡◌, ℕ, ◌+◌, ◌-◌, ◌<◌, ◌≤◌, Bool, true, false, not, cond, List, [], ◌∷◌, ◌++◌, length, take, drop, refl, ap, sym, ◌∙◌, arith, subst, append_assoc, append-nil, Option, Some, None}
+use Rattle.std.proofs.Common.{◌≡◌, ℕ, ◌+◌, ◌-◌, Bool, true, false, not, cond, List, [], ◌∷◌, ◌++◌, length, take, drop, refl, ap, sym, ◌∙◌, arith, subst, append_assoc, Option, Some, None}
 use Rattle.std.specs.Prelude.{vec_len}
 use Rattle.std.specs.Option.{option_or}
 use Rattle.std.proofs.Math.Seq.{take-append_seam, drop-append_seam}
 use Rattle.iim_dataset.specs.Datasets.{Dataset, head_of}
-use Rattle.iim_dataset.specs.declared.head.Head.{Head}
 use Rattle.iim_fields.specs.Faults.{head_fault, room_fault, value_fault, first_fault, is_kept, kept, joined, fault_on}
 use Rattle.iim_fields.specs.Orders.{has_seen}
 use Rattle.iim_fields.specs.Stores.{Holds, entries_of}
 use Rattle.iim_fields.specs.Standing.{StandsBehind}
-use Rattle.iim_fields.specs.Builders.{fields_from, fields_of, Building, building_of, IsBuilding, add_fault}
-use Rattle.iim_fields.specs.declared.limits.Limits.{Limits}
-use Rattle.iim_fields.specs.declared.store.Entry.{Entry}
+use Rattle.iim_fields.specs.Builders.{fields_from, fields_of, IsBuilding, add_fault}
 use Rattle.iim_fields.specs.declared.store.Store.{Store}
 use Rattle.iim_fields.specs.declared.fault.FieldFault.{FieldFault}
 use Rattle.iim_fields.specs.declared.fault.FieldCause.TheVariants.{RecordOrder}

@@ -1,5 +1,5 @@
 -- The record layer dies exactly with a fault.
-use Rattle.std.proofs.Common.{◌≡◌, ◌≢◌, ℕ, ◌+◌, ◌<◌, ◌≤◌, ◌⊎◌, Bool, true, false, not, ◌&&◌, ◌||◌, cond, if◌then◌else◌, nat_eq, List, [], ◌∷◌, ◌++◌, length, refl, ap, sym, ◌∙◌, inl, inr, arith, subst, append_assoc, append-nil, Option, Some, None}
+use Rattle.std.proofs.Common.{◌≡◌, ℕ, ◌+◌, ◌⊎◌, Bool, true, false, not, ◌&&◌, ◌||◌, cond, if◌then◌else◌, nat_eq, List, [], ◌∷◌, ◌++◌, length, refl, ap, sym, ◌∙◌, inl, inr, arith, subst, append_assoc, Option, Some, None}
 use Rattle.std.specs.Prelude.{IsSomeAnd, IsTrue}
 use Rattle.std.specs.List.{AllByRecursion, find}
 use Rattle.std.specs.Option.{option_or}
@@ -10,9 +10,9 @@ use Rattle.iim_dataset.specs.Datasets.{Dataset, head_of}
 use Rattle.iim_dataset.specs.declared.head.Head.{Head}
 use Rattle.iim_tables.specs.Octets.{within}
 use Rattle.iim_tables.specs.Kinds.{has_kind}
-use Rattle.iim_tables.specs.Rows.{row_of, is_admitted, Meets}
+use Rattle.iim_tables.specs.Rows.{row_of, is_admitted}
 use Rattle.iim_tables.specs.declared.shape.Row.{Row}
-use Rattle.iim_fields.specs.Records.{mandatory, after, records, repeats, may_repeat, occurs, occurrences, has_file_format, IsGoodDataset, IsGoodRecord, AreRecords, AreSections}
+use Rattle.iim_fields.specs.Records.{mandatory, after, repeats, may_repeat, occurs, occurrences, has_file_format, IsGoodDataset, IsGoodRecord, AreSections}
 use Rattle.iim_fields.specs.Alive.{IsAlive, IsAliveAt}
 use Rattle.iim_fields.specs.Faults.{present_record, present_run, is_first, is_in_order, fault_on, row_fault, missing_fault, missing_of, head_fault, record_fault, fault_by_row, value_fault}
 use Rattle.iim_fields.specs.declared.fault.FieldFault.{FieldFault}

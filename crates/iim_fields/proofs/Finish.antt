@@ -1,12 +1,11 @@
 -- When a builder's datasets are whole records 1 and 2.
-use Rattle.std.proofs.Common.{◌≡◌, ◌≢◌, ℕ, ◌+◌, ◌<◌, ◌≤◌, ◌⊎◌, Bool, true, false, not, ◌||◌, cond, nat_eq, List, [], ◌∷◌, ◌++◌, length, refl, ap, sym, ◌∙◌, inl, inr, arith, subst, append_assoc, append-nil, Option, Some, None}
-use Rattle.std.specs.List.{AllByRecursion, list_any, filter, find}
+use Rattle.std.proofs.Common.{◌≡◌, ℕ, ◌⊎◌, Bool, true, false, cond, nat_eq, List, [], ◌∷◌, ◌++◌, refl, ap, sym, ◌∙◌, inl, inr, subst, append-nil, Option, Some, None}
+use Rattle.std.specs.List.{AllByRecursion, list_any, filter}
 use Rattle.std.specs.Option.{option_or}
 use Rattle.std.proofs.lemmas.List.Elements.{filter-append, filter_passes, recursion_from_All}
-use Rattle.std.proofs.lemmas.Bool.{or_parts, or_cases, eqb-true}
-use Rattle.std.proofs.lemmas.Bool.Decides.{eqb_tells}
+use Rattle.std.proofs.lemmas.Bool.{or_cases, eqb-true}
 use Rattle.iim_dataset.specs.Datasets.{Dataset}
-use Rattle.iim_fields.specs.Records.{mandatory, after, records, occurs, IsGoodDataset, IsGoodRecord, AreRecords, AreSections}
+use Rattle.iim_fields.specs.Records.{mandatory, after, occurs, IsGoodDataset, IsGoodRecord, AreRecords, AreSections}
 use Rattle.iim_fields.specs.Alive.{IsAlive}
 use Rattle.iim_fields.specs.Faults.{last_record, present_record, present_run, of_record, is_kept, kept, missing_fault, missing_of}
 use Rattle.iim_fields.specs.Orders.{has_seen, Tells, end_fault, no_application}
@@ -15,9 +14,8 @@ use Rattle.iim_fields.specs.Stores.{Holds}
 use Rattle.iim_fields.specs.declared.fields.Fields.{Fields}
 use Rattle.iim_fields.specs.declared.order.Order.{Order}
 use Rattle.iim_fields.specs.declared.fault.FieldFault.{FieldFault}
-use Rattle.iim_fields.specs.declared.fault.FieldCause.TheVariants as causes
 use Rattle.iim_fields.proofs.Table.{EachRowHasValues, no_application_fault}
-use Rattle.iim_fields.proofs.Runs.{IsPart, part_front, part_of, records_to_come, eq_itself}
+use Rattle.iim_fields.proofs.Runs.{IsPart, part_front, part_of, records_to_come}
 use Rattle.iim_fields.proofs.Follows.{From, Follows, alive_follows}
 use Rattle.iim_fields.proofs.Dies.{none_missing, all_there}
 

@@ -1,16 +1,16 @@
 -- What can follow datasets that are alive.
-use Rattle.std.proofs.Common.{◌≡◌, ◌≢◌, ℕ, ◌+◌, ◌<◌, ◌≤◌, ◌⊎◌, Bool, true, false, ◌||◌, cond, nat_eq, List, [], ◌∷◌, ◌++◌, length, refl, ap, sym, ◌∙◌, inl, inr, arith, subst, append_assoc, append-nil}
-use Rattle.std.specs.List.{AllByRecursion, list_any, filter}
+use Rattle.std.proofs.Common.{◌≡◌, ℕ, ◌⊎◌, Bool, true, false, ◌||◌, cond, nat_eq, List, [], ◌∷◌, ◌++◌, refl, ap, sym, ◌∙◌, inl, inr, arith, subst, append_assoc, append-nil}
+use Rattle.std.specs.List.{AllByRecursion, list_any}
 use Rattle.std.proofs.lemmas.List.Elements.{filter-append}
 use Rattle.std.proofs.lemmas.Bool.Decides.{eqb_tells}
 use Rattle.iim_dataset.specs.Datasets.{Dataset}
 use Rattle.std.specs.Prelude.{IsSomeAnd, IsTrue, Option, None}
 use Rattle.iim_tables.specs.Rows.{row_of, is_admitted, table}
 use Rattle.iim_tables.specs.declared.shape.Row.{Row}
-use Rattle.iim_fields.specs.Records.{mandatory, after, records, IsGoodDataset, IsGoodRecord, AreRecords, AreSections}
+use Rattle.iim_fields.specs.Records.{after, records, IsGoodDataset, IsGoodRecord, AreRecords, AreSections}
 use Rattle.iim_fields.specs.Alive.{IsAlive}
 use Rattle.iim_fields.specs.Faults.{last_record, present_record, of_record, present_run}
-use Rattle.iim_fields.proofs.Table.{EachRowHasValues, after_tail, not_after_itself, no_row}
+use Rattle.iim_fields.proofs.Table.{after_tail, no_row}
 use Rattle.iim_fields.proofs.Runs.{not_empty, eq_itself}
 
 -- the rest of the present record behind its run so far, and then the records after it

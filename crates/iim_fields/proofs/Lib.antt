@@ -8,3 +8,4 @@ pub mod Finish
 pub mod Sound
 pub mod Mandatory
 pub mod Endings
+pub mod RowsMet

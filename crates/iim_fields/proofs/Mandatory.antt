@@ -1,13 +1,13 @@
 -- What an envelope has for sure.
-use Rattle.std.proofs.Common.{◌≡◌, ℕ, Bool, true, false, ◌&&◌, ◌||◌, cond, nat_eq, List, [], ◌∷◌, ◌++◌, refl, ap, sym, ◌∙◌, subst, append-nil, rules, Option, Some, None}
+use Rattle.std.proofs.Common.{◌≡◌, ℕ, Bool, true, false, ◌&&◌, ◌||◌, cond, nat_eq, List, [], ◌∷◌, ◌++◌, refl, ap, ◌∙◌, subst, append-nil, rules, Option, Some, None}
 use Rattle.std.specs.Prelude.{is_some, IsSome}
 use Rattle.std.specs.Option.{option_map}
 use Rattle.std.specs.List.{AllByRecursion}
 use Rattle.iim_dataset.specs.Datasets.{Dataset}
-use Rattle.iim_fields.specs.Records.{mandatory, occurs, IsGoodDataset, IsGoodRecord}
+use Rattle.iim_fields.specs.Records.{occurs, IsGoodDataset}
 use Rattle.iim_fields.specs.Builders.{IsEnvelope}
 use Rattle.iim_fields.specs.Views.{is_of, first_data}
-use Rattle.iim_fields.proofs.Table.{mandatory_is, mandatory_numbers}
+use Rattle.iim_fields.proofs.Table.{mandatory_is}
 use Rattle.iim_fields.proofs.Runs.{eq_itself}
 
 some_by : (a b : Bool) (xs : List ℕ) (rest : Option (List ℕ)) (more : Bool) → a ≡ true → (b || more) ≡ true → (more ≡ true → is_some rest ≡ true)

@@ -1,9 +1,9 @@
 -- The entries of an envelope's store end in order.
-use Rattle.std.proofs.Common.{◌≡◌, ℕ, ◌+◌, ◌-◌, ◌<◌, ◌≤◌, Bool, true, false, nat_le, List, [], ◌∷◌, ◌++◌, length, refl, ap, sym, ◌∙◌, arith, subst, length-append, append-nil}
+use Rattle.std.proofs.Common.{◌≡◌, ℕ, ◌+◌, ◌-◌, ◌≤◌, true, nat_le, List, [], ◌∷◌, length, refl, ap, ◌∙◌, arith, length-append, append-nil}
 use Rattle.std.proofs.lemmas.Bool.{and_from, le-leb}
 use Rattle.iim_dataset.specs.Datasets.{Dataset}
 use Rattle.iim_fields.specs.Faults.{joined}
-use Rattle.iim_fields.specs.Stores.{Holds, entries_of}
+use Rattle.iim_fields.specs.Stores.{entries_of}
 use Rattle.iim_fields.specs.Builders.{fields_of, IsEnvelopeStore}
 use Rattle.iim_fields.specs.Views.{is_sound}
 use Rattle.iim_fields.specs.declared.store.Store.{Store}

@@ -1,13 +1,13 @@
 -- What the checker stands at, step by step.
 use Rattle.std.proofs.Common.{◌≡◌, ◌≢◌, ℕ, zero, suc, ◌+◌, ◌-◌, ◌<◌, ◌≤◌, ◌⊎◌, Bool, true, false, not, ◌&&◌, ◌||◌, cond, if◌then◌else◌, nat_eq, nat_le, ◌==◌, List, [], ◌∷◌, ◌++◌, length, take, drop, replicate, get_or, slice_set, refl, ap, sym, ◌∙◌, inl, inr, arith, subst, append_assoc, append-nil, length-append, length-set, get_or-set_other, Option, Some, None}
-use Rattle.std.specs.Prelude.{IsTrue, vec_len, vec_capacity, flat_map}
-use Rattle.std.specs.List.{list_any, filter}
+use Rattle.std.specs.Prelude.{vec_len, vec_capacity}
+use Rattle.std.specs.List.{list_any}
 use Rattle.std.specs.Option.{option_or}
 use Rattle.std.proofs.lemmas.Grind.{get_or-set_at}
 use Rattle.std.proofs.Math.Seq.{take-append_seam, drop-append_seam}
 use Rattle.std.proofs.lemmas.List.Elements.{filter-append}
 use Rattle.std.proofs.lemmas.List.Folds.{list_any-append}
-use Rattle.std.proofs.lemmas.Bool.{leb-true, le-leb, and_parts, and_from, or_cases, eqb-true}
+use Rattle.std.proofs.lemmas.Bool.{leb-true, le-leb, and_parts, and_from}
 use Rattle.std.proofs.lemmas.Bool.Decides.{eqb_tells}
 use Rattle.iim_dataset.specs.Octets.{Octets, number}
 use Rattle.iim_dataset.specs.Datasets.{Dataset, head_of}
@@ -16,17 +16,17 @@ use Rattle.iim_tables.specs.Octets.{within}
 use Rattle.iim_tables.specs.Numbers.{size_octets}
 use Rattle.iim_tables.specs.Rows.{row_of, is_admitted}
 use Rattle.iim_tables.specs.declared.shape.Row.{Row}
-use Rattle.iim_fields.specs.Records.{occurs, records, after, is_file_format, has_file_format}
+use Rattle.iim_fields.specs.Records.{occurs, records, after, is_file_format}
 use Rattle.iim_tables.specs.Kinds.{has_kind}
 use Rattle.iim_tables.specs.declared.shape.Kind.{Kind}
 use Rattle.iim_tables.specs.declared.shape.Kind.TheVariants as kinds
 use Rattle.std.proofs.lemmas.Grind.{flat_map-append}
 use Rattle.iim_fields.specs.Alive.{IsAlive, IsAliveAt}
-use Rattle.iim_fields.specs.Faults.{head_fault, record_fault, value_fault, fault_by_row, room_fault, limits_fault, first_fault, fault_on, is_kept, kept, kept_octets, joined, present_record, present_run, of_record, is_first}
+use Rattle.iim_fields.specs.Faults.{head_fault, record_fault, value_fault, fault_by_row, room_fault, limits_fault, first_fault, fault_on, is_kept, kept, kept_octets, joined, present_record, present_run, of_record}
 use Rattle.iim_fields.specs.Orders.{nothing, has_seen, Tells, Takes}
 use Rattle.iim_fields.specs.Values.{data_of, number_told, tells_number}
 use Rattle.iim_fields.specs.Stores.{Holds, entries_of}
-use Rattle.iim_fields.specs.Standing.{IsFailed, HasStore, IsBetween, IsInside, CanTake, CanClose, IsWithin, StandsBehind, StandsIn, IsHeadFault, IsValueFault, IsOf, Enters, Gives, Settles, begun_data}
+use Rattle.iim_fields.specs.Standing.{IsBetween, IsInside, CanTake, CanClose, IsWithin, StandsBehind, StandsIn, IsHeadFault, IsValueFault, IsOf, Enters, Gives, Settles, begun_data}
 use Rattle.iim_fields.specs.declared.limits.Limits.{Limits}
 use Rattle.iim_fields.specs.declared.order.Order.{Order}
 use Rattle.iim_fields.specs.declared.store.Store.{Store}

@@ -1,5 +1,5 @@
 -- The first fault of a head behind datasets, and of a value.
-use Rattle.std.specs.Prelude.{◌≡◌, ℕ, Bool, true, false, not, ◌&&◌, ◌||◌, ◌==◌, ◌+◌, nat_le, if◌then◌else◌, List, [], ◌∷◌, length, flat_map, Option, Some, None}
+use Rattle.std.specs.Prelude.{ℕ, Bool, false, not, ◌&&◌, ◌||◌, ◌==◌, ◌+◌, nat_le, if◌then◌else◌, List, [], ◌∷◌, length, flat_map, Option, Some, None}
 use Rattle.std.specs.List.{find, filter}
 use Rattle.std.specs.Option.{option_or}
 use Rattle.iim_dataset.specs.Datasets.{Dataset, head_of}

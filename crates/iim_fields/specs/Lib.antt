@@ -7,5 +7,6 @@ pub mod Stores
 pub mod Standing
 pub mod Builders
 pub mod Views
+pub mod Ids
 pub mod Walks
 pub mod Laws

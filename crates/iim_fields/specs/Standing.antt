@@ -1,5 +1,5 @@
 -- What the checker of records stands at.
-use Rattle.std.specs.Prelude.{◌≡◌, ◌≢◌, ℕ, ◌+◌, ◌-◌, ◌≤◌, ◌<◌, ◌⊎◌, List, [], ◌∷◌, ◌++◌, true, false, take, drop, length, Option, Some, IsTrue, vec_len, vec_capacity}
+use Rattle.std.specs.Prelude.{◌≡◌, ◌≢◌, ℕ, ◌+◌, ◌-◌, ◌≤◌, ◌<◌, ◌⊎◌, List, [], ◌∷◌, ◌++◌, true, false, take, drop, length, Some, IsTrue, vec_len, vec_capacity}
 use Rattle.iim_dataset.specs.Octets.{Octets}
 use Rattle.iim_dataset.specs.Datasets.{Dataset, head_of}
 use Rattle.iim_dataset.specs.declared.head.Head.{Head}
@@ -15,7 +15,6 @@ use Rattle.iim_fields.specs.declared.limits.Limits.{Limits}
 use Rattle.iim_fields.specs.declared.fault.FieldFault.{FieldFault}
 use Rattle.iim_fields.specs.declared.fields.Fields.{Fields}
 use Rattle.iim_fields.specs.declared.fields.Begun.{Begun}
-use Rattle.iim_fields.specs.declared.fields.Phase.{Phase}
 use Rattle.iim_fields.specs.declared.fields.Phase.TheVariants as phases
 
 abbrev pub limits_of : Fields → Limits

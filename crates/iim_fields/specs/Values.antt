@@ -1,5 +1,5 @@
 -- Datasets from a head and data, and the numbers that they tell.
-use Rattle.std.specs.Prelude.{◌≡◌, ℕ, Bool, ◌||◌, ◌==◌, if◌then◌else◌, List, Option, Some, None, IsTrue}
+use Rattle.std.specs.Prelude.{ℕ, Bool, ◌||◌, ◌==◌, if◌then◌else◌, List, Option, Some, None, IsTrue}
 use Rattle.iim_dataset.specs.Octets.{number}
 use Rattle.iim_dataset.specs.Datasets.{Dataset}
 use Rattle.iim_dataset.specs.declared.head.Head.{Head}

@@ -1,6 +1,8 @@
 -- Views of the datasets of an envelope.
-use Rattle.std.specs.Prelude.{◌≡◌, ℕ, ◌-◌, Bool, true, ◌&&◌, ◌==◌, nat_le, if◌then◌else◌, List, [], ◌∷◌, length, map, Option, Some, None}
+use Rattle.std.specs.Prelude.{ℕ, ◌-◌, Bool, true, ◌&&◌, ◌==◌, nat_le, if◌then◌else◌, List, [], ◌∷◌, map, Option, Some, None, ℤ}
 use Rattle.std.specs.List.{filter}
+use Rattle.std.specs.Option.{option_and_then}
+use Rattle.iim_tables.specs.Instants.{instant_in}
 use Rattle.iim_dataset.specs.Datasets.{Dataset}
 use Rattle.iim_fields.specs.declared.store.Entry.{Entry}
 
@@ -16,6 +18,10 @@ all_data rec set ds = map (λ d. d.octets) (filter (is_of rec set) ds)
 abbrev pub first_data : ℕ → ℕ → List Dataset → Option (List ℕ)
 first_data rec set [] = None
 first_data rec set (d ∷ ds) = if is_of rec set d then Some d.octets else first_data rec set ds
+
+-- the instant of 1:70 Date Sent and 1:80 Time Sent, in nanoseconds, where both were sent and name one
+abbrev pub instant_sent : List Dataset → Option ℤ
+instant_sent ds = option_and_then (λ date. option_and_then (λ time. instant_in date time) (first_data 1 80 ds)) (first_data 1 70 ds)
 
 -- the entries end in order, within so many octets
 abbrev pub is_sound : ℕ → List Entry → ℕ → Bool

@@ -1,8 +1,12 @@
 //! Envelopes: the datasets of records 1 and 2, and the views of them.
 
+use crate::id::EnvelopeId;
 use crate::records::{APPLICATION, ENVELOPE};
 use crate::store::Store;
 use crate::walk::{DataIter, FieldIter};
+use iim_tables::{date_of, instant_of};
+use jiff::Timestamp;
+use jiff::civil::Date;
 use std::marker::Model;
 
 /// The datasets of a whole record 1 and a whole record 2, each good. It is seen as the list of them, in order.
@@ -24,10 +28,12 @@ impl Model for Envelope {
 }
 
 impl Envelope {
-    ghost use Rattle.std.specs.Prelude.{◌≡◌, Some, ◌↔◌, IsTrue};
+    ghost use Rattle.std.specs.Prelude.{◌≡◌, ◌≤◌, [], ◌∷◌, length, Some, ◌↔◌, IsTrue, IsSomeAnd, pos};
     ghost use Rattle.std.specs.Option.{option_map};
+    ghost use Rattle.jiff.specs.Words.{IsYmd};
+    ghost use Rattle.iim_tables.specs.Dates.{is_date, year_in, month_in, day_in};
     ghost use Rattle.iim_fields.specs.Walks.{rest_of, data_left};
-    ghost use Rattle.iim_fields.specs.Views.{first_data, all_data};
+    ghost use Rattle.iim_fields.specs.Views.{first_data, all_data, instant_sent};
 
     /// All datasets, in order: record, number and data of each.
     pub fn fields(&self) -> FieldIter<'_>
@@ -66,15 +72,17 @@ impl Envelope {
 
     /// 1:30 Service Identifier, of the Envelope Record.
     pub fn service(&self) -> &[u8]
-        ensures { first_data 1 30 self.now ≡ Some result.now }
+        ensures data { first_data 1 30 self.now ≡ Some result.now }
+        ensures fits { length result.now ≤ 10 }
     {
         let _ = &self.store;
         self.first(ENVELOPE, 30).unwrap()
     }
 
-    /// 1:40 Envelope Number.
+    /// 1:40 Envelope Number: eight digits.
     pub fn number(&self) -> &[u8]
-        ensures { first_data 1 40 self.now ≡ Some result.now }
+        ensures data { first_data 1 40 self.now ≡ Some result.now }
+        ensures fits { length result.now ≡ 8 }
     {
         let _ = &self.store;
         self.first(ENVELOPE, 40).unwrap()
@@ -82,10 +90,37 @@ impl Envelope {
 
     /// 1:70 Date Sent, as eight digits, CCYYMMDD.
     pub fn date_sent_text(&self) -> &[u8]
-        ensures { first_data 1 70 self.now ≡ Some result.now }
+        ensures data { first_data 1 70 self.now ≡ Some result.now }
+        ensures fits { length result.now ≡ 8 }
+        ensures date { IsTrue (is_date result.now) }
     {
         let _ = &self.store;
         self.first(ENVELOPE, 70).unwrap()
+    }
+
+    /// The day of 1:70 Date Sent.
+    pub fn date_sent(&self) -> Date
+        ensures { IsSomeAnd (first_data 1 70 self.now) (λ date. IsYmd (pos (year_in date)) (pos (month_in date)) (pos (day_in date)) result) }
+    {
+        date_of(self.date_sent_text()).unwrap()
+    }
+
+    /// The instant of 1:70 Date Sent and 1:80 Time Sent: local time less its offset. None where no time was sent, or where
+    /// `jiff` has no such instant: its last is 9999-12-30T22:00:00.999999999Z.
+    pub fn sent(&self) -> Option<Timestamp>
+        ensures { option_map (λ t. t.nanosecond) result ≡ instant_sent self.now }
+    {
+        let time = self.time_sent()?;
+        instant_of(self.date_sent_text(), time)
+    }
+
+    /// What the envelope is known by: 1:30 Service Identifier, 1:40 Envelope Number and 1:70 Date Sent.
+    pub fn id(&self) -> EnvelopeId
+        ensures service { first_data 1 30 self.now ≡ Some result.service }
+        ensures number { first_data 1 40 self.now ≡ Some result.number }
+        ensures date_sent { first_data 1 70 self.now ≡ Some result.date_sent }
+    {
+        EnvelopeId::new(self.service(), self.number(), self.date_sent_text())
     }
 
     /// 1:00 Model Version.
@@ -110,6 +145,14 @@ impl Envelope {
     {
         let _ = &self.store;
         self.first(APPLICATION, 0).unwrap()
+    }
+
+    /// The digit of 1:60 Envelope Priority, where it was sent: `1` is most urgent, `5` normal, `8` least urgent.
+    pub fn priority(&self) -> Option<u8>
+        ensures { option_map (λ digit. digit ∷ []) result ≡ first_data 1 60 self.now }
+    {
+        let _ = &self.store;
+        self.first(ENVELOPE, 60)?.first().copied()
     }
 
     /// 1:80 Time Sent, where it was sent.

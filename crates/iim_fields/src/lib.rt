@@ -1,12 +1,13 @@
 //! The records of an envelope (IIM version 4): each dataset is checked against its row, records 1 and 2 are kept.
 //!
-//! Stands on `iim_tables` and `iim_dataset`.
+//! Stands on `iim_tables` and `iim_dataset`, and on `arrayvec` and `jiff` for what the views answer.
 #![tactic(auto)]
 
 mod builder;
 mod envelope;
 mod fault;
 mod fields;
+mod id;
 mod laws;
 mod limits;
 mod order;
@@ -21,6 +22,7 @@ pub use builder::EnvelopeBuilder;
 pub use envelope::Envelope;
 pub use fault::{FieldCause, FieldFault};
 pub use fields::Fields;
+pub use id::EnvelopeId;
 pub use laws::{
     envelopes_end_with_the_last_record, heads_die_with_their_fault, no_sections_begin_others,
     values_die_with_their_fault,

@@ -1,81 +1,438 @@
-use crate::{EnvelopeBuilder, FieldCause, FieldFault, Fields, Limits};
+//! Records checked, envelopes built and viewed. What is expected is worked out from the format.
+
+ghost use Rattle.std.specs.Prelude.{◌≢◌, length, OnOk};
+ghost use Rattle.iim_fields.specs.Standing.{IsBetween, IsInside};
+
+use crate::{
+    DataIter, Envelope, EnvelopeBuilder, EnvelopeId, FieldCause, FieldFault, Fields, Limits,
+    heads_die_with_their_fault, values_die_with_their_fault,
+};
+use iim_dataset::Head;
+use jiff::Timestamp;
+use jiff::civil::Date;
 use std::alloc::{AllocError, Global};
+use std::process::Abort;
 use std::rt::HostRuntime;
 use std::test::Fail;
 
-// What the command allows.
+/// What the command allows.
 const LIMITS: Limits = Limits {
     octets: 65536,
     fields: 512,
 };
 
-// The fields of the longer worked envelope but its last, 2:250 with the octets 00 FF, in the order sent.
-const FIELDS: [(u8, u8, &str); 15] = [
-    (1, 0, "\0\x04"),
-    (1, 20, "\0\x02"),
-    (1, 22, "\0\x01"),
-    (1, 30, "TST"),
-    (1, 40, "00000002"),
-    (1, 70, "20240301"),
-    (2, 0, "\0\x04"),
-    (2, 105, "Rates held"),
-    (2, 80, "A. Moor"),
-    (2, 85, "Editor"),
-    (2, 80, "B. Lund"),
-    (2, 85, "Writer"),
-    (2, 25, "rates"),
-    (2, 25, "bank"),
-    (2, 25, "euro"),
+/// The datasets of records 1 and 2 of the longer worked envelope, in the order sent.
+const FIELDS: [(u8, u8, &[u8]); 16] = [
+    (1, 0, b"\0\x04"),
+    (1, 20, b"\0\x02"),
+    (1, 22, b"\0\x01"),
+    (1, 30, b"TST"),
+    (1, 40, b"00000002"),
+    (1, 70, b"20240301"),
+    (2, 0, b"\0\x04"),
+    (2, 105, b"Rates held"),
+    (2, 80, b"A. Moor"),
+    (2, 85, b"Editor"),
+    (2, 80, b"B. Lund"),
+    (2, 85, b"Writer"),
+    (2, 25, b"rates"),
+    (2, 25, b"bank"),
+    (2, 25, b"euro"),
+    (2, 250, b"\0\xff"),
 ];
 
-// A builder with the fields but the one of this record and number.
-fn built_without(
-    alloc: Global,
+/// Those of records 7, 8 and 9, and the number that each tells.
+const SIZES: [(u8, u8, &[u8], Option<u64>); 5] = [
+    (7, 10, b"\x01", Some(1)),
+    (7, 20, b"\0\0\x04\0", Some(1024)),
+    (7, 90, b"\0\0\0\x32", Some(50)),
+    (8, 10, &[b'a'; 50], None),
+    (9, 10, b"\0\0\0\x32", Some(50)),
+];
+
+fn fault(rec: u8, set: u8, cause: FieldCause) -> FieldFault {
+    FieldFault { rec, set, cause }
+}
+
+/// Gives all octets of the begun dataset, in one piece or one by one.
+fn give(fields: &mut Fields, head: Head, octets: &[u8], one_by_one: bool)
+    requires inside { IsInside fields.old head (length octets.now) }
+    requires value { head.rec ≢ 8 }
+    ensures { IsInside fields.new head 0 }
+{
+    if !one_by_one {
+        fields.bytes(octets);
+        return;
+    }
+    for octet in octets {
+        fields.bytes(&[*octet]);
+    }
+}
+
+/// Passes a dataset, and answers the number that it tells.
+fn pass(
+    fields: &mut Fields,
     rec: u8,
     set: u8,
-) -> Result<(EnvelopeBuilder, Option<FieldFault>), AllocError> {
-    let mut builder = EnvelopeBuilder::new(alloc, LIMITS)?;
-    for (field_rec, field_set, text) in FIELDS {
+    octets: &[u8],
+    one_by_one: bool,
+) -> Result<Option<u64>, FieldFault>
+    requires { IsBetween fields.old }
+    ensures { OnOk result (IsBetween fields.new) }
+{
+    let head = Head {
+        rec,
+        set,
+        count: octets.len() as u64,
+    };
+    match fields.begin(head) {
+        Ok(()) => {
+            if rec != 8 {
+                give(fields, head, octets, one_by_one);
+            }
+            fields.close()
+        }
+        Err(fault) => Err(fault),
+    }
+}
+
+/// Passes the datasets of records 1 and 2, and answers the first fault.
+fn pass_fields(fields: &mut Fields, one_by_one: bool) -> Result<(), FieldFault>
+    requires { IsBetween fields.old }
+    ensures { OnOk result (IsBetween fields.new) }
+{
+    for (rec, set, octets) in FIELDS {
+        if let Err(fault) = pass(fields, rec, set, octets, one_by_one) {
+            return Err(fault);
+        }
+    }
+    Ok(())
+}
+
+/// Passes the datasets of records 7, 8 and 9, each of which tells its number.
+fn pass_sizes(rt: &impl Abort, fields: &mut Fields, one_by_one: bool)
+    requires { IsBetween fields.old }
+{
+    for (rec, set, octets, number) in SIZES {
+        match pass(fields, rec, set, octets, one_by_one) {
+            Ok(told) => assert_eq!(rt; told, number),
+            Err(fault) => {
+                assert!(rt; false, "{fault:?}");
+                return;
+            }
+        }
+    }
+}
+
+#[test]
+fn all_datasets_are_taken(rt: HostRuntime) -> Result<(), Fail> {
+    for one_by_one in [false, true] {
+        let mut fields = Fields::new(rt.alloc(), LIMITS)?;
+        match pass_fields(&mut fields, one_by_one) {
+            Ok(()) => pass_sizes(&rt, &mut fields, one_by_one),
+            Err(fault) => assert!(rt; false, "{fault:?}"),
+        }
+        assert!(rt; !fields.is_failed());
+    }
+    Ok(())
+}
+
+#[test]
+fn limits_are_exact(rt: HostRuntime) -> Result<(), Fail> {
+    let rows = [
+        (78, 16, Ok(())),
+        (77, 16, Err(fault(2, 250, FieldCause::HeaderFull))),
+        (78, 15, Err(fault(2, 250, FieldCause::TooManyFields))),
+        (77, 15, Err(fault(2, 250, FieldCause::HeaderFull))),
+    ];
+    for (octets, fields, want) in rows {
+        let limits = Limits { octets, fields };
+        for one_by_one in [false, true] {
+            let mut fields = Fields::new(rt.alloc(), limits)?;
+            assert_eq!(rt; pass_fields(&mut fields, one_by_one), want);
+            assert_eq!(rt; fields.is_failed(), want.is_err());
+        }
+        let mut builder = EnvelopeBuilder::new(rt.alloc(), limits)?;
+        assert_eq!(rt; add_fields(&mut builder, 0, 0), want);
+    }
+    Ok(())
+}
+
+/// Adds the fields but those of this record and number, and answers the first fault.
+fn add_fields(builder: &mut EnvelopeBuilder, rec: u8, set: u8) -> Result<(), FieldFault> {
+    for (field_rec, field_set, octets) in FIELDS {
         if field_rec == rec && field_set == set {
             continue;
         }
-        if let Err(fault) = builder.add(field_rec, field_set, text.as_bytes()) {
-            return Ok((builder, Some(fault)));
+        if let Err(fault) = builder.add(field_rec, field_set, octets) {
+            return Err(fault);
         }
     }
-    Ok((builder, None))
+    Ok(())
 }
 
 #[test]
-fn each_mandatory_field_is_missed(rt: HostRuntime) -> Result<(), Fail> {
+fn each_mandatory_dataset_is_missed(rt: HostRuntime) -> Result<(), Fail> {
     for set in [0, 20, 22, 30, 40, 70] {
-        let (_, fault) = built_without(rt.alloc(), 1, set)?;
-        let missing = FieldFault {
-            rec: 1,
-            set,
-            cause: FieldCause::Missing,
-        };
-        assert_eq!(rt; fault, Some(missing));
+        let mut builder = EnvelopeBuilder::new(rt.alloc(), LIMITS)?;
+        let missing = fault(1, set, FieldCause::Missing);
+        assert_eq!(rt; add_fields(&mut builder, 1, set), Err(missing));
+        match builder.finish() {
+            Ok(_) => assert!(rt; false),
+            Err((_, fault)) => assert_eq!(rt; fault, missing),
+        }
     }
-    let (builder, fault) = built_without(rt.alloc(), 2, 0)?;
-    assert_eq!(rt; fault, None);
+    Ok(())
+}
+
+/// The envelope of the builder's datasets.
+fn finished(rt: &impl Abort, builder: EnvelopeBuilder) -> Option<Envelope> {
     match builder.finish() {
-        Ok(_) => assert!(rt; false),
-        Err((_, fault)) => assert_eq!(rt;
-            fault,
-            FieldFault {
-                rec: 2,
-                set: 0,
-                cause: FieldCause::Missing
+        Ok(envelope) => Some(envelope),
+        Err((_, fault)) => {
+            assert!(rt; false, "{fault:?}");
+            None
+        }
+    }
+}
+
+#[test]
+fn a_builder_keeps_to_the_records(rt: HostRuntime) -> Result<(), Fail> {
+    let mut builder = EnvelopeBuilder::new(rt.alloc(), LIMITS)?;
+    for (rec, set, octets) in &FIELDS[..6] {
+        assert_eq!(rt; builder.add(*rec, *set, octets), Ok(()));
+    }
+    // After record 1 alone 2:00 is missing, and the builder is handed back.
+    let mut builder = match builder.finish() {
+        Ok(_) => return Ok(()),
+        Err((builder, missing)) => {
+            assert_eq!(rt; missing, fault(2, 0, FieldCause::Missing));
+            builder
+        }
+    };
+    for (rec, set, octets) in &FIELDS[6..] {
+        assert_eq!(rt; builder.add(*rec, *set, octets), Ok(()));
+    }
+    assert_eq!(rt;
+        builder.add(2, 105, b"Rates held"),
+        Err(fault(2, 105, FieldCause::Repeated))
+    );
+    assert_eq!(rt;
+        builder.add(7, 10, b"\x01"),
+        Err(fault(7, 10, FieldCause::RecordOrder))
+    );
+    if let Some(envelope) = finished(&rt, builder) {
+        expect_fields(&rt, &envelope);
+    }
+    Ok(())
+}
+
+/// The envelope has all fields of the longer worked one, in order.
+fn expect_fields(rt: &impl Abort, envelope: &Envelope) {
+    let mut fields = envelope.fields();
+    for (want_rec, want_set, want) in FIELDS {
+        match fields.next() {
+            Some((rec, set, octets)) => {
+                assert_eq!(rt; (rec, set), (want_rec, want_set));
+                assert_eq!(rt; octets, want);
             }
-        ),
+            None => assert!(rt; false),
+        }
+    }
+    assert!(rt; fields.next().is_none());
+}
+
+/// The octets are there, and these.
+fn expect_some(rt: &impl Abort, found: Option<&[u8]>, want: &[u8]) {
+    match found {
+        Some(octets) => assert_eq!(rt; octets, want),
+        None => assert!(rt; false),
+    }
+}
+
+/// The walk gives these in order, and no others.
+fn expect_all(rt: &impl Abort, mut found: DataIter<'_>, want: &[&[u8]]) {
+    for octets in want {
+        expect_some(rt, found.next(), octets);
+    }
+    assert!(rt; found.next().is_none());
+}
+
+fn expect_header_views(rt: &impl Abort, envelope: &Envelope) {
+    assert_eq!(rt; envelope.service(), b"TST".as_slice());
+    assert_eq!(rt; envelope.number(), b"00000002".as_slice());
+    assert_eq!(rt; envelope.date_sent_text(), b"20240301".as_slice());
+    assert_eq!(rt; Date::new(2024, 3, 1).ok(), Some(envelope.date_sent()));
+    assert_eq!(rt; envelope.model_version(), b"\0\x04".as_slice());
+    assert_eq!(rt; envelope.format_version(), b"\0\x01".as_slice());
+    assert_eq!(rt; envelope.record_version(), b"\0\x04".as_slice());
+    assert!(rt; envelope.time_sent().is_none());
+    assert!(rt; envelope.sent().is_none());
+    assert_eq!(rt; envelope.priority(), None);
+}
+
+fn expect_application_views(rt: &impl Abort, envelope: &Envelope) {
+    assert!(rt; envelope.object_name().is_none());
+    assert!(rt; envelope.urgency().is_none());
+    assert!(rt; envelope.category().is_none());
+    assert!(rt; envelope.first(2, 251).is_none());
+    expect_some(rt, envelope.headline(), b"Rates held");
+    expect_some(rt, envelope.first(2, 80), b"A. Moor");
+    expect_some(rt, envelope.first(2, 250), b"\0\xff");
+}
+
+fn expect_walks(rt: &impl Abort, envelope: &Envelope) {
+    expect_all(rt, envelope.destinations(), &[]);
+    expect_all(rt, envelope.products(), &[]);
+    expect_all(rt, envelope.supplementals(), &[]);
+    expect_all(rt, envelope.keywords(), &[b"rates", b"bank", b"euro"]);
+    expect_all(rt, envelope.bylines(), &[b"A. Moor", b"B. Lund"]);
+    expect_all(rt, envelope.byline_titles(), &[b"Editor", b"Writer"]);
+    expect_all(rt, envelope.writers(), &[]);
+    expect_all(rt, envelope.all(2, 250), &[b"\0\xff"]);
+}
+
+#[test]
+fn each_view_of_the_longer_envelope(rt: HostRuntime) -> Result<(), Fail> {
+    let mut builder = EnvelopeBuilder::new(rt.alloc(), LIMITS)?;
+    assert_eq!(rt; add_fields(&mut builder, 0, 0), Ok(()));
+    let Some(envelope) = finished(&rt, builder) else {
+        return Ok(());
+    };
+    expect_fields(&rt, &envelope);
+    expect_header_views(&rt, &envelope);
+    expect_application_views(&rt, &envelope);
+    expect_walks(&rt, &envelope);
+    Ok(())
+}
+
+/// Adds the mandatory datasets, with these octets of 1:30, 1:40 and 1:70, and in record 1 also these.
+fn add_header(
+    builder: &mut EnvelopeBuilder,
+    service: &'static [u8],
+    number: &'static [u8],
+    date: &'static [u8],
+    more: &[(u8, &'static [u8])],
+) -> Result<(), FieldFault> {
+    let record = [
+        (0, b"\0\x04".as_slice()),
+        (20, b"\0\x02"),
+        (22, b"\0\x01"),
+        (30, service),
+        (40, number),
+        (70, date),
+    ];
+    for (set, octets) in record.iter().chain(more) {
+        if let Err(fault) = builder.add(1, *set, octets) {
+            return Err(fault);
+        }
+    }
+    builder.add(2, 0, b"\0\x04")
+}
+
+/// An envelope of these.
+fn envelope_of(
+    rt: &impl Abort,
+    alloc: Global,
+    service: &'static [u8],
+    number: &'static [u8],
+    date: &'static [u8],
+    more: &[(u8, &'static [u8])],
+) -> Result<Option<Envelope>, AllocError> {
+    let mut builder = EnvelopeBuilder::new(alloc, LIMITS)?;
+    assert_eq!(rt;
+        add_header(&mut builder, service, number, date, more),
+        Ok(())
+    );
+    Ok(finished(rt, builder))
+}
+
+#[test]
+fn the_instant_sent(rt: HostRuntime) -> Result<(), Fail> {
+    let rows: [(&[u8], &[u8], Option<&str>); 4] = [
+        (b"20240301", b"120000+0100", Some("2024-03-01T11:00:00Z")),
+        (b"20240301", b"003000+0100", Some("2024-02-29T23:30:00Z")),
+        (b"20240301", b"233000-0100", Some("2024-03-02T00:30:00Z")),
+        (b"99991231", b"235959-2359", None),
+    ];
+    for (date, time, want) in rows {
+        let more = [(60, b"5".as_slice()), (80, time)];
+        let made = envelope_of(&rt, rt.alloc(), b"TST", b"00000001", date, &more)?;
+        let Some(envelope) = made else {
+            return Ok(());
+        };
+        expect_some(&rt, envelope.time_sent(), time);
+        assert_eq!(rt; envelope.priority(), Some(b'5'));
+        let want: Option<Timestamp> = want.and_then(|text| text.parse().ok());
+        assert_eq!(rt; envelope.sent(), want);
+    }
+    Ok(())
+}
+
+/// The id of an envelope with these.
+fn id_of(
+    rt: &impl Abort,
+    alloc: Global,
+    service: &'static [u8],
+    number: &'static [u8],
+    date: &'static [u8],
+) -> Result<Option<EnvelopeId>, AllocError> {
+    let made = envelope_of(rt, alloc, service, number, date, &[])?;
+    Ok(made.map(|envelope| envelope.id()))
+}
+
+#[test]
+fn ids_in_order(rt: HostRuntime) -> Result<(), Fail> {
+    // By service, then by number, then by date, and a shorter service before one that it begins.
+    let ordered: [(&[u8], &[u8], &[u8]); 6] = [
+        (b"", b"00000009", b"20240302"),
+        (b"TST", b"00000001", b"20240302"),
+        (b"TST", b"00000002", b"20240301"),
+        (b"TST", b"00000002", b"20240302"),
+        (b"TST0000000", b"00000001", b"20240301"),
+        (b"TSU", b"00000001", b"20240301"),
+    ];
+    for (i, (service, number, date)) in ordered.iter().enumerate() {
+        let Some(id) = id_of(&rt, rt.alloc(), service, number, date)? else {
+            return Ok(());
+        };
+        assert_eq!(rt; id.service(), *service);
+        assert_eq!(rt; id.number(), *number);
+        assert_eq!(rt; id.date_sent(), *date);
+        assert!(rt; id.clone()? == id);
+        for (k, (service, number, date)) in ordered.iter().enumerate() {
+            let Some(other) = id_of(&rt, rt.alloc(), service, number, date)? else {
+                return Ok(());
+            };
+            assert_eq!(rt; id.cmp(&other), i.cmp(&k));
+            assert_eq!(rt; id.partial_cmp(&other), Some(i.cmp(&k)));
+            assert_eq!(rt; id == other, i == k);
+        }
     }
     Ok(())
 }
 
 #[test]
-fn fields_begin(rt: HostRuntime) -> Result<(), Fail> {
-    let fields = Fields::new(rt.alloc(), LIMITS)?;
-    assert!(rt; !fields.is_failed());
+fn same_envelopes(rt: HostRuntime) -> Result<(), Fail> {
+    let one = envelope_of(&rt, rt.alloc(), b"TST", b"00000001", b"20240301", &[])?;
+    let again = envelope_of(&rt, rt.alloc(), b"TST", b"00000001", b"20240301", &[])?;
+    let other = envelope_of(
+        &rt,
+        rt.alloc(),
+        b"TST",
+        b"00000001",
+        b"20240301",
+        &[(50, b"")],
+    )?;
+    if let Some(one) = &one {
+        assert!(rt; again.is_some_and(|again| one.same(&again)));
+        assert!(rt; other.is_some_and(|other| !one.same(&other)));
+    }
     Ok(())
+}
+
+#[test]
+fn laws_are_called() {
+    heads_die_with_their_fault();
+    values_die_with_their_fault();
 }

@@ -1,8 +1,6 @@
-use Rattle.std.proofs.Common.{◌≡◌, ℕ, List, ◌∷◌, ◌++◌, [], length, sym, ap, ◌∙◌, subst, Option, Some, None}
-use Rattle.std.specs.Option.{option_or}
+use Rattle.std.proofs.Common.{◌≡◌, ◌∷◌, ◌++◌, [], sym, ap, ◌∙◌, subst, Some, None}
 use Rattle.iim_dataset.specs.Datasets.{Dataset}
 use Rattle.iim_fields.specs.Builders.{Building, add_fault, fields_of}
-use Rattle.iim_fields.specs.Standing.{limits_of}
 use Rattle.iim_fields.proofs.Build.{fields_more, building_more, add_fault_is, none_of_three}
 use Rattle.iim_fields.proofs.builder.EnvelopeBuilder.add.Goals as goal
 

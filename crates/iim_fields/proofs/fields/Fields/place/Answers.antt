@@ -1,7 +1,6 @@
-use Rattle.std.proofs.Common.{ℕ, [], refl, sym, ap, ◌∙◌, arith}
+use Rattle.std.proofs.Common.{[], refl, sym, ap, ◌∙◌, arith}
 use Rattle.iim_fields.specs.Orders.{has_seen}
 use Rattle.iim_fields.specs.declared.fields.Begun.{Begun}
-use Rattle.iim_fields.specs.declared.fields.Phase.{Phase}
 use Rattle.iim_fields.specs.declared.fields.Phase.TheVariants as phases
 use Rattle.iim_fields.proofs.Stand.{inside_of, stands_in, stands_bytes, count_fits, can_take, stands_placed}
 use Rattle.iim_fields.proofs.fields.Fields.place.Goals as goal

@@ -1,5 +1,4 @@
 use Rattle.std.proofs.Common.{◌≡◌, length}
-use Rattle.iim_fields.specs.Views.{all_data}
 use Rattle.iim_fields.specs.Walks.{rest_of, data_left}
 use Rattle.iim_fields.proofs.walk.DataIterIterator.next.Given as goal
 

@@ -1,0 +1,124 @@
+//! What envelopes are known by.
+
+ghost use Rattle.std.specs.Prelude.{◌≡◌, ◌≤◌, ◌↔◌, length, IsTrue, refl};
+ghost use Rattle.std.specs.Ordering.{as_partial_cmp};
+ghost use Rattle.iim_fields.specs.Ids.{id_eq, id_cmp, id_equivalence, id_partial_equivalence, id_total, id_ties, id_order};
+
+use arrayvec::ArrayVec;
+use std::cmp::Ordering;
+use std::marker::Model;
+
+/// What an envelope is known by: the service that sent it, its number, and the date on which it was sent. By the standard
+/// a number is unique for the other two. It takes no memory.
+///
+/// Ids are ordered by service, then by number, then by date, each by its octets: the first that differs decides, or else
+/// the shorter text is first.
+///
+/// Contracts see it as the three texts.
+#[derive(Clone, Debug, Drop)]
+pub struct EnvelopeId {
+    service: ArrayVec<u8, 10>,
+    number: ArrayVec<u8, 8>,
+    date_sent: ArrayVec<u8, 8>,
+}
+
+impl Model for EnvelopeId {
+    ghost use Rattle.iim_fields.specs.Ids.{Identity};
+
+    ghost Value = { Identity };
+
+    ghost view = { λ id. record { service = id.service.items; number = id.number.items; date_sent = id.date_sent.items } };
+}
+
+/// The octets in a fixed room.
+fn kept<const ROOM: usize>(octets: &[u8]) -> ArrayVec<u8, ROOM>
+    requires { length octets.now ≤ ROOM }
+    ensures { result.items ≡ octets.now }
+{
+    let mut kept = ArrayVec::new();
+    let _ = kept.try_extend_from_slice(octets);
+    kept
+}
+
+impl EnvelopeId {
+    /// The id of these data, which are as long at most as their rows allow.
+    pub(crate) fn new(service: &[u8], number: &[u8], date_sent: &[u8]) -> EnvelopeId
+        requires service { length service.now ≤ 10 }
+        requires number { length number.now ≤ 8 }
+        requires date_sent { length date_sent.now ≤ 8 }
+        ensures { result ≡ record { service = service.now; number = number.now; date_sent = date_sent.now } }
+    {
+        EnvelopeId {
+            service: kept(service),
+            number: kept(number),
+            date_sent: kept(date_sent),
+        }
+    }
+
+    /// 1:30 Service Identifier, of the Envelope Record.
+    pub fn service(&self) -> &[u8]
+        ensures { result.now ≡ self.now.service }
+    {
+        &self.service
+    }
+
+    /// 1:40 Envelope Number: eight digits.
+    pub fn number(&self) -> &[u8]
+        ensures { result.now ≡ self.now.number }
+    {
+        &self.number
+    }
+
+    /// 1:70 Date Sent, as eight digits, CCYYMMDD.
+    pub fn date_sent(&self) -> &[u8]
+        ensures { result.now ≡ self.now.date_sent }
+    {
+        &self.date_sent
+    }
+}
+
+impl PartialEq for EnvelopeId {
+    ghost eq = { id_eq };
+
+    ghost laws = { id_partial_equivalence };
+
+    fn eq(&self, other: &EnvelopeId) -> bool
+        ensures value { result ≡ id_eq self.now other.now }
+        ensures same { IsTrue result ↔ (self.now ≡ other.now) }
+    {
+        self.service() == other.service()
+            && self.number() == other.number()
+            && self.date_sent() == other.date_sent()
+    }
+}
+
+impl Eq for EnvelopeId {
+    ghost laws = { id_equivalence };
+}
+
+impl PartialOrd for EnvelopeId {
+    ghost partial_cmp = { as_partial_cmp id_cmp };
+
+    ghost laws = { id_order };
+
+    fn partial_cmp(&self, other: &EnvelopeId) -> Option<Ordering> {
+        Some(self.cmp(other))
+    }
+}
+
+impl Ord for EnvelopeId {
+    ghost cmp = { id_cmp };
+
+    ghost total = { id_total };
+
+    ghost matches_partial_cmp = { λ a b. refl };
+
+    ghost matches_eq = { id_ties };
+
+    fn cmp(&self, other: &EnvelopeId) -> Ordering {
+        self.service()
+            .cmp(&other.service())
+            .then(self.number().cmp(&other.number()))
+            .then(self.date_sent().cmp(&other.date_sent()))
+    }
+}
