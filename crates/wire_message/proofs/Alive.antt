@@ -2,7 +2,8 @@
 use Rattle.std.proofs.Common.{◌≡◌, ℕ, ◌+◌, ◌<◌, ◌≤◌, Bool, true, false, ◌||◌, ◌==◌, nat_lt, List, [], ◌∷◌, ◌++◌, length, Option, Some, None, refl, sym, ap, subst, ◌∙◌, arith, inl, inr, append_assoc, append-nil, length-append, map}
 use Rattle.std.proofs.lemmas.Bool.{or_cases, or_right, or_left, ltb-true}
 use Rattle.arrayvec.specs.ArrayVec.{ArrayVec}
-use Rattle.wire_story.specs.Tokens.{OctetOrEnd, Octet, End, with_end, IsAlive}
+use Rattle.iim_dataset.specs.Languages.{IsAlive}
+use Rattle.wire_story.specs.Tokens.{OctetOrEnd, Octet, End, with_end}
 use Rattle.wire_message.specs.Fields.{Are, IsField, is_digit, is_letter, is_alphanumeric, is_filler_octet, is_trailer_octet}
 use Rattle.wire_message.specs.Messages.{Header, IsHeader, IsMessage, IsFiller, IsTrailer, has_feed}
 use Rattle.wire_message.specs.Layers.{MessageLanguage, MessageLivesWith, MessageDiesAt}

@@ -3,9 +3,10 @@ use Rattle.std.proofs.Common.{◌≡◌, ℕ, zero, suc, ◌+◌, ◌<◌, ◌�
 use Rattle.std.specs.Prelude.{IsSome, ◌↔◌}
 use Rattle.std.proofs.lemmas.Bool.Decides.{nat_tests}
 use Rattle.std.proofs.lemmas.List.Concat.{flat_map-append}
+use Rattle.iim_dataset.specs.Languages.{IsAlive}
 use Rattle.wire_story.specs.Texts.{AreLines, Holds}
 use Rattle.wire_story.specs.Delivery.{Event, delivered, events_of}
-use Rattle.wire_story.specs.Tokens.{OctetOrEnd, Octet, End, IsAlive, StoryLanguage, LivesWith, StoryDiesAt}
+use Rattle.wire_story.specs.Tokens.{OctetOrEnd, Octet, End, StoryLanguage, LivesWith, StoryDiesAt}
 use Rattle.wire_story.specs.Laws.{StoriesLiveAsTextsSoFar, TextsHoldNoReturn, StoriesEndAsTexts}
 use Rattle.wire_story.specs.Reading as story
 use Rattle.wire_story.specs.declared.reader.TextReader.{TextReader}
