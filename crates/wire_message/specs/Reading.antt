@@ -36,6 +36,10 @@ Told goes before old piece new after = (more : List ℕ) × goes before (deliver
 abbrev pub ToldFront : {S : Type 0} → (S → List Event → S → Type 0) → S → Option Place → List ℕ → S → Type 0
 ToldFront goes before old piece after = (more : List ℕ) × goes before (delivered more) after × GoesSomewhere old piece more
 
+-- For all octets so far, a message can go on from these and a piece, and so can the story in it.
+abbrev pub LivesOn : Option Place → List ℕ → Type 0
+LivesOn old piece = (octets text : List ℕ) → StandsAt old octets text → MessageLivesWith (octets ++ piece) × StoryLivesIn (octets ++ piece)
+
 -- The story goes on with the octets, and not with one more.
 abbrev pub StoryDiesWith : List ℕ → ℕ → Type 0
 StoryDiesWith octets octet = StoryLivesIn octets × (StoryLivesIn (octets ++ octet ∷ []) → ⊥)
