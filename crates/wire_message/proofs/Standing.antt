@@ -1,18 +1,16 @@
 -- Octets that have led to a place can go on, as a message and as a story.
-use Rattle.std.proofs.Common.{◌≡◌, ℕ, ◌==◌, Bool, true, false, cond, Option, List, [], ◌∷◌, ◌++◌, map, refl, sym, ap, subst, ◌∙◌, arith, append-nil}
-use Rattle.std.specs.List.{list_any}
+use Rattle.std.proofs.Common.{◌≡◌, ℕ, Bool, false, cond, Option, List, [], ◌∷◌, ◌++◌, map, refl, sym, subst, arith, append-nil}
 use Rattle.iim_dataset.specs.Languages.{IsAlive}
 use Rattle.wire_story.specs.Texts.{Holds}
 use Rattle.wire_story.specs.Tokens.{OctetOrEnd, Octet, End, StoryLanguage}
 use Rattle.wire_story.specs.Laws.{StoriesLiveAsTextsSoFar, StoriesEndAsTexts}
-use Rattle.wire_message.specs.Layers.{after_stx, text_so_far, story_tokens_of, StoryLivesIn}
-use Rattle.wire_message.specs.SoFar.{StoryStands, LeadTo}
+use Rattle.wire_message.specs.SoFar.{StoryStands}
 use Rattle.wire_message.specs.Reading.{GoesOn, GoesSomewhere, LivesOn}
 use Rattle.wire_message.specs.Laws.{TextsStandBetweenStxAndEtx, ReadersStandAtLivingOctets}
 use Rattle.wire_message.specs.declared.place.Place.{Place}
 use Rattle.wire_message.specs.declared.place.Place.TheVariants.{Text, Trailer, AfterEnd}
 use Rattle.wire_message.proofs.Alive.{message_lives}
-use Rattle.wire_message.proofs.TextSoFar.{TextIs, text_ended, text_at}
+use Rattle.wire_message.proofs.TextSoFar.{text_ended, tokens_of, text_at}
 
 pub texts_between : TextsStandBetweenStxAndEtx
 texts_between octets text place led = sym (text_at octets text place led.is_place led.spelled).text_is
@@ -33,14 +31,10 @@ story_lives live ends text (Trailer h t) lines = (ends text).1 lines
 story_lives live ends text (AfterEnd h t k) lines = (ends text).1 lines
 story_lives live ends text place none = empty_lives live text none
 
-tokens_are : (octets text : List ℕ) (ended : Bool) → TextIs octets text ended → story_tokens_of octets ≡ tokens text ended
-tokens_are octets text ended is =
-    ap (λ (t : List ℕ). tokens t (list_any (λ b. b == 3) (after_stx octets))) is.text_is ∙ ap (tokens text) is.ended_is
-
 pub stand_alive : StoriesLiveAsTextsSoFar → StoriesEndAsTexts → ReadersStandAtLivingOctets
 stand_alive live ends octets text place led = (
   message_lives octets text place led.is_place led.spelled,
-  subst (IsAlive StoryLanguage) (sym (tokens_are octets text (text_ended place) (text_at octets text place led.is_place led.spelled))) (story_lives live ends text place led.story),
+  subst (IsAlive StoryLanguage) (sym (tokens_of octets text (text_ended place) (text_at octets text place led.is_place led.spelled))) (story_lives live ends text place led.story),
 )
 
 pub lives_on : ReadersStandAtLivingOctets → (old new : Option Place) (piece more : List ℕ) → GoesOn old piece more new → LivesOn old piece

@@ -1,13 +1,13 @@
 -- The text so far in octets that spell a place.
-use Rattle.std.proofs.Common.{◌≡◌, ℕ, ◌+◌, ◌<◌, ◌≤◌, Bool, true, false, not, ◌&&◌, ◌||◌, ◌==◌, cond, nat_lt, List, [], ◌∷◌, ◌++◌, length, take, drop, map, refl, sym, ap, subst, ◌∙◌, arith, inl, inr, append_assoc, append-nil, add-zero}
-use Rattle.std.specs.List.{list_all, list_any, position_or_len, before_first, after_first}
-use Rattle.std.proofs.lemmas.Bool.{and_parts, and_from}
+use Rattle.std.proofs.Common.{◌≡◌, ℕ, ◌+◌, Bool, true, false, not, ◌||◌, ◌==◌, cond, nat_lt, List, [], ◌∷◌, ◌++◌, length, take, drop, map, refl, sym, ap, subst, ◌∙◌, arith, inl, inr, append-nil}
+use Rattle.std.specs.List.{list_any, position_or_len, before_first, after_first}
+use Rattle.std.proofs.lemmas.Bool.{and_parts}
 use Rattle.std.proofs.lemmas.Bool.Decides.{nat_tests}
 use Rattle.std.proofs.Math.Seq.{drop-append-add, take-append_seam, take-length}
-use Rattle.wire_story.specs.Tokens.{OctetOrEnd, Octet, End}
+use Rattle.wire_story.specs.Tokens.{Octet, End}
 use Rattle.wire_story.specs.declared.reader.TextReader.{TextReader}
 use Rattle.wire_message.specs.Fields.{Are, IsField, is_digit, is_letter, is_alphanumeric, is_info_octet, is_filler_octet, is_text_octet}
-use Rattle.wire_message.specs.Messages.{Header, IsHeader, IsFiller, IsGap, SpellsInfo, fixed_header}
+use Rattle.wire_message.specs.Messages.{Header, IsHeader, IsFiller, SpellsInfo, fixed_header}
 use Rattle.wire_message.specs.Layers.{after_stx, text_so_far, story_tokens_of}
 use Rattle.wire_message.specs.SoFar.{IsPlace, Spells}
 use Rattle.wire_message.specs.declared.place.Place.{Place}
@@ -104,45 +104,50 @@ after_head octets before info gap rest h f i sp g parts =
     ap after_stx (parts ∙ sym (join2 before (fixed_header h) info gap (2 ∷ rest)))
     ∙ after_is 2 (before ++ (1 ∷ (fixed_header h ++ (info ++ gap)))) rest (before_text before info gap h f i sp g) refl
 
-pub after_stx_is : (octets text : List ℕ) (h : Header) (reader : TextReader) (more : List ℕ) → IsHeader h → Spells octets text (Text h reader) → after_stx (octets ++ more) ≡ text ++ more
+after_stx_is : (octets text : List ℕ) (h : Header) (reader : TextReader) (more : List ℕ) → IsHeader h → Spells octets text (Text h reader) → after_stx (octets ++ more) ≡ text ++ more
 after_stx_is octets text h reader more i l =
     after_head (octets ++ more) l.0 l.1 l.2 (text ++ more) h l.3 i l.4 l.5.0.0 (ap (λ (u : List ℕ). u ++ more) l.7 ∙ join3 l.0 (fixed_header h) l.1 l.2 text more)
 
 no_etx : (text : List ℕ) → Are is_text_octet text → Are (is_not 3) text
 no_etx text h = each is_text_octet (is_not 3) text text_not h
 
--- ---- what the layers of the story see
-
-pub after_stx_all : (octets text : List ℕ) (h : Header) (reader : TextReader) → IsHeader h → Spells octets text (Text h reader) → after_stx octets ≡ text
-after_stx_all octets text h reader i l = ap after_stx (sym (append-nil octets)) ∙ (after_stx_is octets text h reader [] i l ∙ append-nil text)
-
-pub text_is : (octets text : List ℕ) (h : Header) (reader : TextReader) → IsHeader h → Spells octets text (Text h reader) → text_so_far octets ≡ text
-text_is octets text h reader i l = ap (before_first (λ b. b == 3)) (after_stx_all octets text h reader i l) ∙ before_none 3 text (no_etx text l.6)
-
-tokens_open : (text : List ℕ) (t : List ℕ) (ended : Bool) → t ≡ text → ended ≡ false → map Octet t ++ cond ended (End ∷ []) [] ≡ map Octet text
-tokens_open text t ended e d = ap (λ (u : List ℕ). map Octet u ++ cond ended (End ∷ []) []) e ∙ (ap (λ (b : Bool). map Octet text ++ cond b (End ∷ []) []) d ∙ append-nil (map Octet text))
-
-tokens_ended : (text : List ℕ) (t : List ℕ) (ended : Bool) → t ≡ text → ended ≡ true → map Octet t ++ cond ended (End ∷ []) [] ≡ map Octet text ++ (End ∷ [])
-tokens_ended text t ended e d = ap (λ (u : List ℕ). map Octet u ++ cond ended (End ∷ []) []) e ∙ ap (λ (b : Bool). map Octet text ++ cond b (End ∷ []) []) d
-
-pub tokens_are : (octets text : List ℕ) (h : Header) (reader : TextReader) → IsHeader h → Spells octets text (Text h reader) → story_tokens_of octets ≡ map Octet text
-tokens_are octets text h reader i l =
-    tokens_open text (text_so_far octets) (list_any (λ b. b == 3) (after_stx octets)) (text_is octets text h reader i l)
-    (ap (list_any (λ b. b == 3)) (after_stx_all octets text h reader i l) ∙ any_none 3 text (no_etx text l.6))
-
-pub tokens_at_etx : (octets text : List ℕ) (h : Header) (reader : TextReader) → IsHeader h → Spells octets text (Text h reader) → story_tokens_of (octets ++ (3 ∷ [])) ≡ map Octet text ++ (End ∷ [])
-tokens_at_etx octets text h reader i l =
-    let after : after_stx (octets ++ (3 ∷ [])) ≡ text ++ (3 ∷ []) = after_stx_is octets text h reader (3 ∷ []) i l in
-    tokens_ended text (text_so_far (octets ++ (3 ∷ []))) (list_any (λ b. b == 3) (after_stx (octets ++ (3 ∷ []))))
-    (ap (before_first (λ b. b == 3)) after ∙ before_is 3 text [] (no_etx text l.6) refl)
-    (ap (list_any (λ b. b == 3)) after ∙ any_found 3 text [] refl)
-
--- ---- the text so far at each place
+-- ---- the text so far, and what the story sees of it
 
 -- the text so far of octets, and whether it has ended
 pub record TextIs (octets text : List ℕ) (ended : Bool) : Type 0 where
   pub text_is : text_so_far octets ≡ text
   pub ended_is : list_any (λ b. b == 3) (after_stx octets) ≡ ended
+
+goes_on : (octets text : List ℕ) → after_stx octets ≡ text → Are is_text_octet text → TextIs octets text false
+goes_on octets text e are = record {
+  text_is = ap (before_first (λ b. b == 3)) e ∙ before_none 3 text (no_etx text are);
+  ended_is = ap (list_any (λ b. b == 3)) e ∙ any_none 3 text (no_etx text are);
+}
+
+has_ended : (octets text rest : List ℕ) → after_stx octets ≡ text ++ (3 ∷ rest) → Are is_text_octet text → TextIs octets text true
+has_ended octets text rest e are = record {
+  text_is = ap (before_first (λ b. b == 3)) e ∙ before_is 3 text rest (no_etx text are) refl;
+  ended_is = ap (list_any (λ b. b == 3)) e ∙ any_found 3 text rest refl;
+}
+
+pub tokens_of : (octets text : List ℕ) (ended : Bool) → TextIs octets text ended → story_tokens_of octets ≡ map Octet text ++ cond ended (End ∷ []) []
+tokens_of octets text ended is =
+    ap (λ (t : List ℕ). map Octet t ++ cond (list_any (λ b. b == 3) (after_stx octets)) (End ∷ []) []) is.text_is
+    ∙ ap (λ (b : Bool). map Octet text ++ cond b (End ∷ []) []) is.ended_is
+
+in_text : (octets text : List ℕ) (h : Header) (reader : TextReader) → IsHeader h → Spells octets text (Text h reader) → TextIs octets text false
+in_text octets text h reader i l = goes_on octets text (ap after_stx (sym (append-nil octets)) ∙ (after_stx_is octets text h reader [] i l ∙ append-nil text)) l.6
+
+pub text_is : (octets text : List ℕ) (h : Header) (reader : TextReader) → IsHeader h → Spells octets text (Text h reader) → text_so_far octets ≡ text
+text_is octets text h reader i l = (in_text octets text h reader i l).text_is
+
+pub tokens_are : (octets text : List ℕ) (h : Header) (reader : TextReader) → IsHeader h → Spells octets text (Text h reader) → story_tokens_of octets ≡ map Octet text
+tokens_are octets text h reader i l = tokens_of octets text false (in_text octets text h reader i l) ∙ append-nil (map Octet text)
+
+pub tokens_at_etx : (octets text : List ℕ) (h : Header) (reader : TextReader) → IsHeader h → Spells octets text (Text h reader) → story_tokens_of (octets ++ (3 ∷ [])) ≡ map Octet text ++ (End ∷ [])
+tokens_at_etx octets text h reader i l = tokens_of (octets ++ (3 ∷ [])) text true (has_ended (octets ++ (3 ∷ [])) text [] (after_stx_is octets text h reader (3 ∷ []) i l) l.6)
+
+-- ---- the text so far at each place
 
 -- whether ETX has come
 abbrev pub text_ended : Place → Bool
@@ -160,18 +165,6 @@ not_begun : (octets text : List ℕ) → Are (is_not 2) octets → text ≡ [] �
 not_begun octets text h e = record {
   text_is = ap (before_first (λ b. b == 3)) (none_after octets h) ∙ sym e;
   ended_is = ap (list_any (λ b. b == 3)) (none_after octets h);
-}
-
-goes_on : (octets text : List ℕ) → after_stx octets ≡ text → Are is_text_octet text → TextIs octets text false
-goes_on octets text e are = record {
-  text_is = ap (before_first (λ b. b == 3)) e ∙ before_none 3 text (no_etx text are);
-  ended_is = ap (list_any (λ b. b == 3)) e ∙ any_none 3 text (no_etx text are);
-}
-
-has_ended : (octets text rest : List ℕ) → after_stx octets ≡ text ++ (3 ∷ rest) → Are is_text_octet text → TextIs octets text true
-has_ended octets text rest e are = record {
-  text_is = ap (before_first (λ b. b == 3)) e ∙ before_is 3 text rest (no_etx text are) refl;
-  ended_is = ap (list_any (λ b. b == 3)) e ∙ any_found 3 text rest refl;
 }
 
 -- SOH and what follows it, with no STX
@@ -210,7 +203,7 @@ text_at octets text (Info h) i l =
     behind_soh octets text l.0 (fixed_header h ++ (32 ∷ h.info)) l.1 l.2
     (Are-append (is_not 2) (fixed_header h) (32 ∷ h.info) (fixed_not h i) (each is_info_octet (is_not 2) h.info info_not i.info.0)) l.3
 text_at octets text (Gap h k feed) i l = not_begun octets text (subst (Are (is_not 2)) (sym l.8) (before_text l.0 l.1 l.2 h l.3 i.0 l.4 l.5)) l.9
-text_at octets text (Text h reader) i l = goes_on octets text (after_stx_all octets text h reader i.0 l) l.6
+text_at octets text (Text h reader) i l = in_text octets text h reader i.0 l
 text_at octets text (Trailer h t) i l =
     has_ended octets text t.items (after_head octets l.0 l.1 l.2 (text ++ (3 ∷ t.items)) h l.3 i.0 l.4 l.5.0.0 l.7) l.6
 text_at octets text (AfterEnd h t k) i l =

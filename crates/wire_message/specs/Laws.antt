@@ -1,7 +1,6 @@
 -- What holds of all messages, and where a reader of messages stands.
 use Rattle.std.specs.Prelude.{◌≡◌, ℕ, List}
 use Rattle.wire_story.specs.Texts.{packed_text, IsText}
-use Rattle.wire_message.specs.Fields.{Are, is_text_octet}
 use Rattle.wire_message.specs.Messages.{Header, IsHeader, IsTrailer, IsMessage}
 use Rattle.wire_message.specs.Canonical.{canonical}
 use Rattle.wire_message.specs.Layers.{MessageLivesWith, text_so_far, StoryLivesIn}

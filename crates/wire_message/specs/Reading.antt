@@ -1,5 +1,5 @@
 -- Where a reader of messages stands, and why it refuses an octet.
-use Rattle.std.specs.Prelude.{◌≡◌, ◌≢◌, ℕ, ◌<◌, ◌≤◌, List, [], ◌∷◌, ◌++◌, length, take, slice_index, Bool, true, false, Option, Some, None}
+use Rattle.std.specs.Prelude.{◌≡◌, ℕ, ◌<◌, ◌≤◌, List, [], ◌∷◌, ◌++◌, length, take, slice_index, Bool, true, false, Option, Some, None}
 use Rattle.iim_dataset.specs.Devices.{Rose}
 use Rattle.wire_story.specs.Texts.{AreLines, Holds}
 use Rattle.wire_story.specs.Delivery.{Event, delivered}
