@@ -1,10 +1,11 @@
 -- A message can go on from octets that spell a place, and not with an octet after which there is no place.
-use Rattle.std.proofs.Common.{◌≡◌, ℕ, ◌+◌, ◌<◌, ◌≤◌, Bool, true, false, ◌||◌, ◌==◌, nat_lt, List, [], ◌∷◌, ◌++◌, length, Option, Some, None, refl, sym, ap, subst, ◌∙◌, arith, inl, inr, append_assoc, append-nil, length-append, map}
-use Rattle.std.proofs.lemmas.Bool.{or_cases, or_right, or_left, ltb-true}
+use Rattle.std.proofs.Common.{◌≡◌, ℕ, ◌+◌, ◌<◌, ◌≤◌, Bool, true, false, ◌||◌, nat_lt, List, [], ◌∷◌, ◌++◌, length, Option, Some, None, refl, sym, ap, subst, ◌∙◌, arith, append_assoc, append-nil, map}
+use Rattle.std.proofs.lemmas.Bool.{ltb-true}
 use Rattle.arrayvec.specs.ArrayVec.{ArrayVec}
-use Rattle.wire_story.specs.Tokens.{OctetOrEnd, Octet, End, with_end, IsAlive}
-use Rattle.wire_message.specs.Fields.{Are, IsField, is_digit, is_letter, is_alphanumeric, is_filler_octet, is_trailer_octet}
-use Rattle.wire_message.specs.Messages.{Header, IsHeader, IsMessage, IsFiller, IsTrailer, has_feed}
+use Rattle.iim_dataset.specs.Languages.{IsAlive}
+use Rattle.wire_story.specs.Tokens.{OctetOrEnd, Octet, End, with_end}
+use Rattle.wire_message.specs.Fields.{IsField, is_digit, is_letter, is_alphanumeric, is_trailer_octet}
+use Rattle.wire_message.specs.Messages.{Header, IsHeader, IsMessage, IsTrailer}
 use Rattle.wire_message.specs.Layers.{MessageLanguage, MessageLivesWith, MessageDiesAt}
 use Rattle.wire_message.specs.SoFar.{IsPlace, Spells}
 use Rattle.wire_message.specs.declared.place.Place.{Place}

@@ -1,5 +1,5 @@
 -- What some of the octets that are left do at a place.
-use Rattle.std.proofs.Common.{◌≡◌, ℕ, ◌+◌, ◌<◌, ◌≤◌, Bool, true, false, ◌&&◌, ◌||◌, ◌==◌, nat_lt, length, slice_index, List, [], ◌∷◌, ◌++◌, Option, Some, None, refl, sym, ap, subst, ◌∙◌, arith, take, append-nil, length-append}
+use Rattle.std.proofs.Common.{◌≡◌, ℕ, ◌+◌, ◌<◌, ◌≤◌, Bool, true, ◌&&◌, ◌||◌, ◌==◌, nat_lt, length, slice_index, List, [], ◌∷◌, ◌++◌, refl, sym, ap, subst, ◌∙◌, arith, take, append-nil}
 use Rattle.std.proofs.lemmas.Bool.{and_parts, or_right, eqb-true, ltb-true}
 use Rattle.std.proofs.lemmas.List.{take_more, length-take-le}
 use Rattle.arrayvec.specs.ArrayVec.{ArrayVec}
@@ -10,10 +10,9 @@ use Rattle.wire_message.specs.Messages.{Header, IsHeader, IsTrailer}
 use Rattle.wire_message.specs.SoFar.{IsPlace, Spells, StoryStands}
 use Rattle.wire_message.specs.Reading.{Adds, Went}
 use Rattle.wire_message.specs.declared.place.Place.{Place}
-use Rattle.wire_message.specs.declared.place.Place.TheVariants.{Filler, Source, Number, Priority, PriorityRead, Category, Words, Info, Gap, Text, Trailer, AfterEnd}
+use Rattle.wire_message.specs.declared.place.Place.TheVariants.{Words, Info, Gap, Text, Trailer, AfterEnd}
 use Rattle.wire_message.proofs.Machine.{of, begun, gap_goes_on}
 use Rattle.wire_message.proofs.Transitions.{words_gap, info_gap, gap_more, gap_stx, trailer_more, trailer_eot, end_more, field_more, one_is}
-use Rattle.wire_message.proofs.Stops.{unrun}
 
 -- one octet leads from a place to another
 pub went_one : (p q : Place) (rest : List ℕ) → 0 < length rest → IsPlace q

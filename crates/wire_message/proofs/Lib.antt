@@ -11,3 +11,4 @@ pub mod Goings
 pub mod Rests
 pub mod TextSoFar
 pub mod Readings
+pub mod Standing

@@ -1,14 +1,13 @@
 -- Reading a message octet by octet: the place after each octet. A reader of the text is left out of it.
-use Rattle.std.proofs.Common.{◌≡◌, ℕ, ◌+◌, ◌<◌, ◌≤◌, Bool, true, false, ◌&&◌, ◌||◌, ◌==◌, nat_lt, cond, List, [], ◌∷◌, ◌++◌, length, Option, Some, None, refl, sym, ap, subst, ◌∙◌, arith, inl, inr, ◌⊎◌, append_assoc, append-nil, length-append, option_and_then}
-use Rattle.std.proofs.lemmas.Bool.{and_parts, and_from, or_cases, or_right, or_left, ltb-true, eqb-true, lt-ltb, and_left}
+use Rattle.std.proofs.Common.{◌≡◌, ℕ, ◌+◌, ◌<◌, ◌≤◌, Bool, true, false, ◌&&◌, ◌||◌, ◌==◌, nat_lt, cond, List, [], ◌∷◌, ◌++◌, length, Option, Some, None, refl, sym, ap, ◌∙◌, arith, append_assoc, append-nil, length-append, option_and_then}
+use Rattle.std.proofs.lemmas.Bool.{and_from, lt-ltb, and_left}
 use Rattle.arrayvec.specs.ArrayVec.{ArrayVec}
 use Rattle.wire_message.specs.Fields.{Are, IsField, is_digit, is_letter, is_alphanumeric, is_info_octet, is_trailer_octet, is_filler_octet, is_text_octet}
-use Rattle.wire_message.specs.Messages.{Header, header_of, IsHeader, IsMessage, IsFiller, IsGap, IsTrailer, SpellsInfo, fixed_header, has_feed}
-use Rattle.wire_message.specs.SoFar.{Spells}
+use Rattle.wire_message.specs.Messages.{Header, header_of, IsFiller}
 use Rattle.wire_message.specs.declared.place.Place.{Place}
 use Rattle.wire_message.specs.declared.place.Place.TheVariants.{Filler, Source, Number, Priority, PriorityRead, Category, Words, Info, Gap, Text, Trailer, AfterEnd}
 use Rattle.wire_message.proofs.Spans.{Are-head, Are-tail}
-use Rattle.wire_message.proofs.OneReading.{filler_cases, digit_no_letter, regroup}
+use Rattle.wire_message.proofs.OneReading.{digit_no_letter}
 
 abbrev pub of : List ℕ → ArrayVec ℕ
 of xs = record { items = xs }

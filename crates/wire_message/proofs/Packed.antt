@@ -1,12 +1,10 @@
 -- The canonical object is a message.
-use Rattle.std.proofs.Common.{◌≡◌, ℕ, zero, suc, ◌≤◌, Bool, true, List, [], ◌∷◌, ◌++◌, refl, sym, ap, subst, ◌∙◌, arith, inl, inr, append_assoc, replicate}
-use Rattle.std.proofs.lemmas.Bool.{and_parts, and_from}
+use Rattle.std.proofs.Common.{◌≡◌, ℕ, zero, suc, true, List, [], ◌∷◌, ◌++◌, refl, sym, subst, arith, inl, inr, append_assoc, replicate}
 use Rattle.wire_story.specs.Texts.{IsLine, IsText, is_line_octet, line_end, packed_text}
 use Rattle.wire_message.specs.Fields.{Are, is_text_octet}
 use Rattle.wire_message.specs.Messages.{Header, IsHeader, IsMessage, IsTrailer, SpellsInfo, fixed_header}
 use Rattle.wire_message.specs.Canonical.{canonical, packed_info}
 use Rattle.wire_message.proofs.Spans.{Are-append, Are-head, Are-tail, Are-cons}
-use Rattle.std.specs.Prelude.{nat_lt, ◌==◌, not, ◌&&◌, ◌||◌}
 use Rattle.std.proofs.lemmas.Bool.Decides.{nat_tests}
 
 line_octet_text : (b : ℕ) → is_line_octet b ≡ true → is_text_octet b ≡ true

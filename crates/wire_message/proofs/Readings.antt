@@ -1,11 +1,12 @@
 -- What a piece does to a reader that stands at a place, and to the story in it.
-use Rattle.std.proofs.Common.{◌≡◌, ℕ, zero, suc, ◌+◌, ◌<◌, ◌≤◌, true, false, not, ◌&&◌, ◌==◌, nat_lt, List, [], ◌∷◌, ◌++◌, length, take, slice_index, Option, Some, None, map, refl, sym, ap, subst, ◌∙◌, arith, append_assoc, append-nil}
-use Rattle.std.specs.Prelude.{IsSome, ◌↔◌}
+use Rattle.std.proofs.Common.{◌≡◌, ℕ, zero, suc, ◌+◌, ◌<◌, true, false, List, [], ◌∷◌, ◌++◌, take, slice_index, Option, Some, None, map, refl, sym, ap, subst, ◌∙◌, arith, append_assoc, append-nil}
+use Rattle.std.specs.Prelude.{IsSome}
 use Rattle.std.proofs.lemmas.Bool.Decides.{nat_tests}
 use Rattle.std.proofs.lemmas.List.Concat.{flat_map-append}
+use Rattle.iim_dataset.specs.Languages.{IsAlive}
 use Rattle.wire_story.specs.Texts.{AreLines, Holds}
-use Rattle.wire_story.specs.Delivery.{Event, delivered, events_of}
-use Rattle.wire_story.specs.Tokens.{OctetOrEnd, Octet, End, IsAlive, StoryLanguage, LivesWith, StoryDiesAt}
+use Rattle.wire_story.specs.Delivery.{delivered, events_of}
+use Rattle.wire_story.specs.Tokens.{OctetOrEnd, Octet, End, StoryLanguage, LivesWith, StoryDiesAt}
 use Rattle.wire_story.specs.Laws.{StoriesLiveAsTextsSoFar, TextsHoldNoReturn, StoriesEndAsTexts}
 use Rattle.wire_story.specs.Reading as story
 use Rattle.wire_story.specs.declared.reader.TextReader.{TextReader}
@@ -13,16 +14,15 @@ use Rattle.wire_story.specs.declared.fault.TextCause.{TextCause}
 use Rattle.wire_story.specs.declared.fault.TextCause.TheVariants as text_cause
 use Rattle.wire_message.specs.Fields.{Are, is_text_octet}
 use Rattle.wire_message.specs.Messages.{Header, IsHeader, IsMessage}
-use Rattle.wire_message.specs.Layers.{MessageLivesWith, MessageDiesAt}
-use Rattle.wire_message.specs.SoFar.{IsPlace, Spells, StoryStands, LeadTo}
+use Rattle.wire_message.specs.Layers.{MessageDiesAt}
+use Rattle.wire_message.specs.SoFar.{Spells, LeadTo}
 use Rattle.wire_message.specs.Reading.{StandsAt, GoesOn, GoesSomewhere, Refuses, HasCause, cause_of, StoryDiesWith, Went, DiesWith, IsWhole, is_ended, head_read, trailer_read}
 use Rattle.wire_message.specs.declared.fault.MessageCause.{MessageCause}
 use Rattle.wire_message.specs.declared.fault.MessageCause.TheVariants.{BadOctet, LoneReturn}
 use Rattle.wire_message.specs.declared.place.Place.{Place}
 use Rattle.wire_message.specs.declared.place.Place.TheVariants.{Filler, Source, Number, Priority, PriorityRead, Category, Words, Info, Gap, Text, Trailer, AfterEnd}
 use Rattle.wire_message.proofs.Machine.{of}
-use Rattle.wire_message.proofs.Spans.{Are-append}
-use Rattle.wire_message.proofs.Transitions.{text_more, text_etx, one_is, field_none}
+use Rattle.wire_message.proofs.Transitions.{text_more, text_etx, one_is}
 use Rattle.wire_message.proofs.Alive.{message_lives, map_snoc, message_unfinished, IsAfterEnd}
 use Rattle.wire_message.proofs.Runs.{unread}
 use Rattle.wire_message.proofs.TextSoFar.{text_is, tokens_are, tokens_at_etx}

@@ -1,7 +1,6 @@
 -- Octets that spell a place run to it, and a message runs to its end.
-use Rattle.std.proofs.Common.{◌≡◌, ℕ, ◌+◌, ◌<◌, ◌≤◌, Bool, true, false, ◌&&◌, ◌||◌, ◌==◌, nat_lt, List, [], ◌∷◌, ◌++◌, length, Option, Some, None, refl, sym, ap, subst, ◌∙◌, arith, inl, inr, append_assoc, append-nil, length-append}
+use Rattle.std.proofs.Common.{◌≡◌, ℕ, ◌+◌, ◌≤◌, Bool, true, false, ◌&&◌, ◌||◌, ◌==◌, nat_lt, List, [], ◌∷◌, ◌++◌, length, Some, None, refl, sym, ap, ◌∙◌, arith, inl, inr, append-nil}
 use Rattle.std.proofs.lemmas.Bool.{and_from, or_right, lt-ltb, and_left}
-use Rattle.arrayvec.specs.ArrayVec.{ArrayVec}
 use Rattle.wire_message.specs.Fields.{Are, IsField, is_digit, is_letter, is_alphanumeric, is_info_octet, is_trailer_octet, is_filler_octet, is_text_octet}
 use Rattle.wire_message.specs.Messages.{Header, header_of, IsHeader, IsMessage, IsFiller, IsGap, IsTrailer, SpellsInfo, fixed_header, has_feed}
 use Rattle.wire_message.specs.SoFar.{IsPlace, Spells}
@@ -9,7 +8,7 @@ use Rattle.wire_message.specs.declared.place.Place.{Place}
 use Rattle.wire_message.specs.declared.place.Place.TheVariants.{Filler, Source, Number, Priority, PriorityRead, Category, Words, Info, Gap, Text, Trailer, AfterEnd}
 use Rattle.wire_message.proofs.Spans.{Are-head, Are-tail}
 use Rattle.wire_message.proofs.OneReading.{filler_cases, regroup}
-use Rattle.wire_message.proofs.Machine.{of, gap_goes_on, next, run, guard_yes, guard_no, step_to, field_run, count_run, extends, fill, reads_filler, reads_soh, reads_number, reads_priority, reads_category, category_ends, reads_words}
+use Rattle.wire_message.proofs.Machine.{of, gap_goes_on, run, guard_yes, guard_no, step_to, field_run, count_run, extends, fill, reads_filler, reads_soh, reads_number, reads_priority, reads_category, category_ends, reads_words}
 
 -- ---- the header
 

@@ -1,15 +1,15 @@
 -- With which octet no place comes after a place.
-use Rattle.std.proofs.Common.{◌≡◌, ℕ, ◌<◌, ◌≤◌, Bool, true, false, ◌&&◌, ◌==◌, nat_lt, length, List, [], ◌∷◌, ◌++◌, Option, Some, None, refl, sym, ap, subst, ◌∙◌, arith, inl, inr, take, append-nil}
-use Rattle.std.proofs.lemmas.Bool.{and_left, and_right, cases_lt, both_ways, eqb-true}
+use Rattle.std.proofs.Common.{◌≡◌, ℕ, ◌<◌, ◌≤◌, Bool, false, ◌&&◌, ◌==◌, nat_lt, length, List, ◌++◌, None, ap, ◌∙◌, arith, inl, inr, take, append-nil}
+use Rattle.std.proofs.lemmas.Bool.{and_left, and_right, cases_lt}
 use Rattle.std.proofs.lemmas.Bool.Decides.{nat_tests}
 use Rattle.arrayvec.specs.ArrayVec.{ArrayVec}
-use Rattle.wire_message.specs.Fields.{is_digit, is_letter, is_alphanumeric, is_info_octet, is_trailer_octet, is_filler_octet, is_text_octet}
+use Rattle.wire_message.specs.Fields.{is_digit, is_letter, is_alphanumeric, is_info_octet, is_trailer_octet, is_filler_octet}
 use Rattle.wire_message.specs.Messages.{Header}
 use Rattle.wire_message.specs.SoFar.{IsPlace}
 use Rattle.wire_message.specs.Reading.{DiesWith}
 use Rattle.wire_message.specs.declared.place.Place.{Place}
-use Rattle.wire_message.specs.declared.place.Place.TheVariants.{Filler, Source, Number, Priority, PriorityRead, Category, Words, Info, Gap, Text, Trailer, AfterEnd}
-use Rattle.wire_message.proofs.Machine.{may, gap_goes_on, guarded, guard_no, next}
+use Rattle.wire_message.specs.declared.place.Place.TheVariants.{Filler, Source, Number, Priority, PriorityRead, Category, Words, Info, Gap, Trailer, AfterEnd}
+use Rattle.wire_message.proofs.Machine.{may, gap_goes_on, guard_no, next}
 use Rattle.wire_message.proofs.Runs.{unread}
 use Rattle.wire_message.proofs.Alive.{message_dies}
 

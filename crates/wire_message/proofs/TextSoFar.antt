@@ -1,17 +1,17 @@
 -- The text so far in octets that spell a place.
-use Rattle.std.proofs.Common.{◌≡◌, ℕ, ◌+◌, ◌<◌, ◌≤◌, Bool, true, false, not, ◌&&◌, ◌||◌, ◌==◌, cond, nat_lt, List, [], ◌∷◌, ◌++◌, length, take, drop, map, refl, sym, ap, subst, ◌∙◌, arith, inl, inr, append_assoc, append-nil, add-zero}
-use Rattle.std.specs.List.{list_all, list_any, position_or_len, before_first, after_first}
-use Rattle.std.proofs.lemmas.Bool.{and_parts, and_from}
+use Rattle.std.proofs.Common.{◌≡◌, ℕ, ◌+◌, Bool, true, false, not, ◌||◌, ◌==◌, cond, nat_lt, List, [], ◌∷◌, ◌++◌, length, take, drop, map, refl, sym, ap, subst, ◌∙◌, arith, inl, inr, append-nil}
+use Rattle.std.specs.List.{list_any, position_or_len, before_first, after_first}
+use Rattle.std.proofs.lemmas.Bool.{and_parts}
 use Rattle.std.proofs.lemmas.Bool.Decides.{nat_tests}
 use Rattle.std.proofs.Math.Seq.{drop-append-add, take-append_seam, take-length}
-use Rattle.wire_story.specs.Tokens.{OctetOrEnd, Octet, End}
+use Rattle.wire_story.specs.Tokens.{Octet, End}
 use Rattle.wire_story.specs.declared.reader.TextReader.{TextReader}
 use Rattle.wire_message.specs.Fields.{Are, IsField, is_digit, is_letter, is_alphanumeric, is_info_octet, is_filler_octet, is_text_octet}
-use Rattle.wire_message.specs.Messages.{Header, IsHeader, IsFiller, IsGap, SpellsInfo, fixed_header}
+use Rattle.wire_message.specs.Messages.{Header, IsHeader, IsFiller, SpellsInfo, fixed_header}
 use Rattle.wire_message.specs.Layers.{after_stx, text_so_far, story_tokens_of}
 use Rattle.wire_message.specs.SoFar.{IsPlace, Spells}
 use Rattle.wire_message.specs.declared.place.Place.{Place}
-use Rattle.wire_message.specs.declared.place.Place.TheVariants.{Text}
+use Rattle.wire_message.specs.declared.place.Place.TheVariants.{Filler, Source, Number, Priority, PriorityRead, Category, Words, Info, Gap, Text, Trailer, AfterEnd}
 use Rattle.wire_message.proofs.Spans.{Are-append, Are-head, Are-tail, Are-cons}
 use Rattle.wire_message.proofs.Transitions.{join2, join3}
 
@@ -92,43 +92,120 @@ info_spelled_not : (info spelled : List ℕ) → IsField is_info_octet 0 64 info
 info_spelled_not info spelled i (inl h) = subst (Are (is_not 2)) (sym h.1) refl
 info_spelled_not info spelled i (inr h) = subst (Are (is_not 2)) (sym h) (each is_info_octet (is_not 2) info info_not i.0)
 
-before_text : (before info gap : List ℕ) (h : Header) → IsFiller before → IsHeader h → SpellsInfo h.info info → IsGap gap → Are (is_not 2) (before ++ (1 ∷ (fixed_header h ++ (info ++ gap))))
+before_text : (before info gap : List ℕ) (h : Header) → IsFiller before → IsHeader h → SpellsInfo h.info info → Are is_filler_octet gap → Are (is_not 2) (before ++ (1 ∷ (fixed_header h ++ (info ++ gap))))
 before_text before info gap h f i sp g =
     Are-append (is_not 2) before (1 ∷ (fixed_header h ++ (info ++ gap))) (each is_filler_octet (is_not 2) before filler_not f.0)
     (Are-append (is_not 2) (fixed_header h) (info ++ gap) (fixed_not h i)
-    (Are-append (is_not 2) info gap (info_spelled_not h.info info i.info sp) (each is_filler_octet (is_not 2) gap filler_not g.0.0)))
+    (Are-append (is_not 2) info gap (info_spelled_not h.info info i.info sp) (each is_filler_octet (is_not 2) gap filler_not g)))
 
-pub after_stx_is : (octets text : List ℕ) (h : Header) (reader : TextReader) (more : List ℕ) → IsHeader h → Spells octets text (Text h reader) → after_stx (octets ++ more) ≡ text ++ more
+after_head : (octets before info gap rest : List ℕ) (h : Header) → IsFiller before → IsHeader h → SpellsInfo h.info info → Are is_filler_octet gap
+    → octets ≡ before ++ (1 ∷ (fixed_header h ++ (info ++ (gap ++ (2 ∷ rest))))) → after_stx octets ≡ rest
+after_head octets before info gap rest h f i sp g parts =
+    ap after_stx (parts ∙ sym (join2 before (fixed_header h) info gap (2 ∷ rest)))
+    ∙ after_is 2 (before ++ (1 ∷ (fixed_header h ++ (info ++ gap)))) rest (before_text before info gap h f i sp g) refl
+
+after_stx_is : (octets text : List ℕ) (h : Header) (reader : TextReader) (more : List ℕ) → IsHeader h → Spells octets text (Text h reader) → after_stx (octets ++ more) ≡ text ++ more
 after_stx_is octets text h reader more i l =
-    let front : List ℕ = l.0 ++ (1 ∷ (fixed_header h ++ (l.1 ++ l.2))) in
-    let parts : octets ++ more ≡ front ++ (2 ∷ (text ++ more)) = ap (λ (u : List ℕ). u ++ more) l.7 ∙ (join3 l.0 (fixed_header h) l.1 l.2 text more ∙ sym (join2 l.0 (fixed_header h) l.1 l.2 (2 ∷ (text ++ more)))) in
-    ap after_stx parts ∙ after_is 2 front (text ++ more) (before_text l.0 l.1 l.2 h l.3 i l.4 l.5) refl
+    after_head (octets ++ more) l.0 l.1 l.2 (text ++ more) h l.3 i l.4 l.5.0.0 (ap (λ (u : List ℕ). u ++ more) l.7 ∙ join3 l.0 (fixed_header h) l.1 l.2 text more)
 
 no_etx : (text : List ℕ) → Are is_text_octet text → Are (is_not 3) text
 no_etx text h = each is_text_octet (is_not 3) text text_not h
 
--- ---- what the layers of the story see
+-- ---- the text so far, and what the story sees of it
 
-pub after_stx_all : (octets text : List ℕ) (h : Header) (reader : TextReader) → IsHeader h → Spells octets text (Text h reader) → after_stx octets ≡ text
-after_stx_all octets text h reader i l = ap after_stx (sym (append-nil octets)) ∙ (after_stx_is octets text h reader [] i l ∙ append-nil text)
+-- the text so far of octets, and whether it has ended
+pub record TextIs (octets text : List ℕ) (ended : Bool) : Type 0 where
+  pub text_is : text_so_far octets ≡ text
+  pub ended_is : list_any (λ b. b == 3) (after_stx octets) ≡ ended
+
+goes_on : (octets text : List ℕ) → after_stx octets ≡ text → Are is_text_octet text → TextIs octets text false
+goes_on octets text e are = record {
+  text_is = ap (before_first (λ b. b == 3)) e ∙ before_none 3 text (no_etx text are);
+  ended_is = ap (list_any (λ b. b == 3)) e ∙ any_none 3 text (no_etx text are);
+}
+
+has_ended : (octets text rest : List ℕ) → after_stx octets ≡ text ++ (3 ∷ rest) → Are is_text_octet text → TextIs octets text true
+has_ended octets text rest e are = record {
+  text_is = ap (before_first (λ b. b == 3)) e ∙ before_is 3 text rest (no_etx text are) refl;
+  ended_is = ap (list_any (λ b. b == 3)) e ∙ any_found 3 text rest refl;
+}
+
+pub tokens_of : (octets text : List ℕ) (ended : Bool) → TextIs octets text ended → story_tokens_of octets ≡ map Octet text ++ cond ended (End ∷ []) []
+tokens_of octets text ended is =
+    ap (λ (t : List ℕ). map Octet t ++ cond (list_any (λ b. b == 3) (after_stx octets)) (End ∷ []) []) is.text_is
+    ∙ ap (λ (b : Bool). map Octet text ++ cond b (End ∷ []) []) is.ended_is
+
+in_text : (octets text : List ℕ) (h : Header) (reader : TextReader) → IsHeader h → Spells octets text (Text h reader) → TextIs octets text false
+in_text octets text h reader i l = goes_on octets text (ap after_stx (sym (append-nil octets)) ∙ (after_stx_is octets text h reader [] i l ∙ append-nil text)) l.6
 
 pub text_is : (octets text : List ℕ) (h : Header) (reader : TextReader) → IsHeader h → Spells octets text (Text h reader) → text_so_far octets ≡ text
-text_is octets text h reader i l = ap (before_first (λ b. b == 3)) (after_stx_all octets text h reader i l) ∙ before_none 3 text (no_etx text l.6)
-
-tokens_open : (text : List ℕ) (t : List ℕ) (ended : Bool) → t ≡ text → ended ≡ false → map Octet t ++ cond ended (End ∷ []) [] ≡ map Octet text
-tokens_open text t ended e d = ap (λ (u : List ℕ). map Octet u ++ cond ended (End ∷ []) []) e ∙ (ap (λ (b : Bool). map Octet text ++ cond b (End ∷ []) []) d ∙ append-nil (map Octet text))
-
-tokens_ended : (text : List ℕ) (t : List ℕ) (ended : Bool) → t ≡ text → ended ≡ true → map Octet t ++ cond ended (End ∷ []) [] ≡ map Octet text ++ (End ∷ [])
-tokens_ended text t ended e d = ap (λ (u : List ℕ). map Octet u ++ cond ended (End ∷ []) []) e ∙ ap (λ (b : Bool). map Octet text ++ cond b (End ∷ []) []) d
+text_is octets text h reader i l = (in_text octets text h reader i l).text_is
 
 pub tokens_are : (octets text : List ℕ) (h : Header) (reader : TextReader) → IsHeader h → Spells octets text (Text h reader) → story_tokens_of octets ≡ map Octet text
-tokens_are octets text h reader i l =
-    tokens_open text (text_so_far octets) (list_any (λ b. b == 3) (after_stx octets)) (text_is octets text h reader i l)
-    (ap (list_any (λ b. b == 3)) (after_stx_all octets text h reader i l) ∙ any_none 3 text (no_etx text l.6))
+tokens_are octets text h reader i l = tokens_of octets text false (in_text octets text h reader i l) ∙ append-nil (map Octet text)
 
 pub tokens_at_etx : (octets text : List ℕ) (h : Header) (reader : TextReader) → IsHeader h → Spells octets text (Text h reader) → story_tokens_of (octets ++ (3 ∷ [])) ≡ map Octet text ++ (End ∷ [])
-tokens_at_etx octets text h reader i l =
-    let after : after_stx (octets ++ (3 ∷ [])) ≡ text ++ (3 ∷ []) = after_stx_is octets text h reader (3 ∷ []) i l in
-    tokens_ended text (text_so_far (octets ++ (3 ∷ []))) (list_any (λ b. b == 3) (after_stx (octets ++ (3 ∷ []))))
-    (ap (before_first (λ b. b == 3)) after ∙ before_is 3 text [] (no_etx text l.6) refl)
-    (ap (list_any (λ b. b == 3)) after ∙ any_found 3 text [] refl)
+tokens_at_etx octets text h reader i l = tokens_of (octets ++ (3 ∷ [])) text true (has_ended (octets ++ (3 ∷ [])) text [] (after_stx_is octets text h reader (3 ∷ []) i l) l.6)
+
+-- ---- the text so far at each place
+
+-- whether ETX has come
+abbrev pub text_ended : Place → Bool
+text_ended (Trailer h t) = true
+text_ended (AfterEnd h t k) = true
+text_ended _ = false
+
+drop_past : (xs : List ℕ) → drop (length xs + 1) xs ≡ []
+drop_past xs = ap (drop (length xs + 1)) (sym (append-nil xs)) ∙ drop-append-add xs [] 1
+
+none_after : (octets : List ℕ) → Are (is_not 2) octets → after_stx octets ≡ []
+none_after octets h = ap (λ (n : ℕ). drop (n + 1) octets) (no_first 2 octets h) ∙ drop_past octets
+
+not_begun : (octets text : List ℕ) → Are (is_not 2) octets → text ≡ [] → TextIs octets text false
+not_begun octets text h e = record {
+  text_is = ap (before_first (λ b. b == 3)) (none_after octets h) ∙ sym e;
+  ended_is = ap (list_any (λ b. b == 3)) (none_after octets h);
+}
+
+-- SOH and what follows it, with no STX
+behind_soh : (octets text before rest : List ℕ) → IsFiller before → octets ≡ before ++ (1 ∷ rest) → Are (is_not 2) rest → text ≡ [] → TextIs octets text false
+behind_soh octets text before rest f parts are e =
+    not_begun octets text (subst (Are (is_not 2)) (sym parts) (Are-append (is_not 2) before (1 ∷ rest) (each is_filler_octet (is_not 2) before filler_not f.0) are)) e
+
+numbered : (s n rest : List ℕ) → Are is_letter s → Are is_digit n → Are (is_not 2) rest → Are (is_not 2) (s ++ (n ++ rest))
+numbered s n rest is' in' are =
+    Are-append (is_not 2) s (n ++ rest) (each is_letter (is_not 2) s letter_not is') (Are-append (is_not 2) n rest (each is_digit (is_not 2) n digit_not in') are)
+
+-- a digit's part, and SP and what follows it
+parted : (p rest : List ℕ) → Are is_digit p → Are (is_not 2) rest → Are (is_not 2) (32 ∷ (p ++ (32 ∷ rest)))
+parted p rest ip are = Are-append (is_not 2) p (32 ∷ rest) (each is_digit (is_not 2) p digit_not ip) are
+
+pub text_at : (octets text : List ℕ) (p : Place) → IsPlace p → Spells octets text p → TextIs octets text (text_ended p)
+text_at octets text (Filler k) i l = not_begun octets text (each is_filler_octet (is_not 2) octets filler_not l.0.0) l.2
+text_at octets text (Source s) i l = behind_soh octets text l.0 s.items l.1 l.2 (each is_letter (is_not 2) s.items letter_not i.0) l.3
+text_at octets text (Number s n) i l =
+    behind_soh octets text l.0 (s.items ++ n.items) l.1 l.2
+    (Are-append (is_not 2) s.items n.items (each is_letter (is_not 2) s.items letter_not i.0.0) (each is_digit (is_not 2) n.items digit_not i.1.0)) l.3
+text_at octets text (Priority s n) i l = behind_soh octets text l.0 (s.items ++ (n.items ++ (32 ∷ []))) l.1 l.2 (numbered s.items n.items (32 ∷ []) i.0.0 i.1.0 refl) l.3
+text_at octets text (PriorityRead s n p) i l =
+    behind_soh octets text l.0 (s.items ++ (n.items ++ (32 ∷ p.items))) l.1 l.2
+    (numbered s.items n.items (32 ∷ p.items) i.0.0 i.1.0 (each is_digit (is_not 2) p.items digit_not i.2.0)) l.3
+text_at octets text (Category s n p c) i l =
+    behind_soh octets text l.0 (s.items ++ (n.items ++ (32 ∷ (p.items ++ (32 ∷ c.items))))) l.1 l.2
+    (numbered s.items n.items (32 ∷ (p.items ++ (32 ∷ c.items))) i.0.0 i.1.0
+    (parted p.items c.items i.2.0 (each is_alphanumeric (is_not 2) c.items alphanumeric_not i.3.0))) l.3
+text_at octets text (Words s n p c w) i l =
+    behind_soh octets text l.0 (s.items ++ (n.items ++ (32 ∷ (p.items ++ (32 ∷ (c.items ++ (32 ∷ w.items))))))) l.1 l.2
+    (numbered s.items n.items (32 ∷ (p.items ++ (32 ∷ (c.items ++ (32 ∷ w.items))))) i.0.0 i.1.0
+    (parted p.items (c.items ++ (32 ∷ w.items)) i.2.0
+    (Are-append (is_not 2) c.items (32 ∷ w.items) (each is_alphanumeric (is_not 2) c.items alphanumeric_not i.3.0) (each is_digit (is_not 2) w.items digit_not i.4.0)))) l.3
+text_at octets text (Info h) i l =
+    behind_soh octets text l.0 (fixed_header h ++ (32 ∷ h.info)) l.1 l.2
+    (Are-append (is_not 2) (fixed_header h) (32 ∷ h.info) (fixed_not h i) (each is_info_octet (is_not 2) h.info info_not i.info.0)) l.3
+text_at octets text (Gap h k feed) i l = not_begun octets text (subst (Are (is_not 2)) (sym l.8) (before_text l.0 l.1 l.2 h l.3 i.0 l.4 l.5)) l.9
+text_at octets text (Text h reader) i l = in_text octets text h reader i.0 l
+text_at octets text (Trailer h t) i l =
+    has_ended octets text t.items (after_head octets l.0 l.1 l.2 (text ++ (3 ∷ t.items)) h l.3 i.0 l.4 l.5.0.0 l.7) l.6
+text_at octets text (AfterEnd h t k) i l =
+    let m = l.0 in
+    has_ended octets text (t.items ++ (4 ∷ m.after)) (after_head octets m.before m.info m.gap (text ++ (3 ∷ (t.items ++ (4 ∷ m.after)))) h m.is_before i.0 m.is_info m.is_gap.0.0 m.parts) m.is_text

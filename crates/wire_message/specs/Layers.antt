@@ -1,7 +1,8 @@
 -- The message layer and the story layer of an object: their languages, and with which octets they can go on.
 use Rattle.std.specs.Prelude.{◌≡◌, ℕ, ◌==◌, if◌then◌else◌, List, [], ◌∷◌, ◌++◌, map}
 use Rattle.std.specs.List.{before_first, after_first, list_any}
-use Rattle.wire_story.specs.Tokens.{OctetOrEnd, Octet, End, with_end, IsAlive, DiesAt, StoryLanguage}
+use Rattle.iim_dataset.specs.Languages.{IsAlive, DiesAt}
+use Rattle.wire_story.specs.Tokens.{OctetOrEnd, Octet, End, with_end, StoryLanguage}
 use Rattle.wire_message.specs.Messages.{Header, IsMessage}
 
 -- the language of the message: the octets of a message, and then the end

@@ -1,5 +1,5 @@
 -- Where a reader of messages stands, and why it refuses an octet.
-use Rattle.std.specs.Prelude.{◌≡◌, ◌≢◌, ℕ, ◌<◌, ◌≤◌, List, [], ◌∷◌, ◌++◌, length, take, slice_index, Bool, true, false, Option, Some, None}
+use Rattle.std.specs.Prelude.{◌≡◌, ℕ, ◌<◌, ◌≤◌, List, [], ◌∷◌, ◌++◌, length, take, slice_index, Bool, true, false, Option, Some, None}
 use Rattle.iim_dataset.specs.Devices.{Rose}
 use Rattle.wire_story.specs.Texts.{AreLines, Holds}
 use Rattle.wire_story.specs.Delivery.{Event, delivered}
@@ -35,6 +35,10 @@ Told goes before old piece new after = (more : List ℕ) × goes before (deliver
 -- The same of the octets before a refused one.
 abbrev pub ToldFront : {S : Type 0} → (S → List Event → S → Type 0) → S → Option Place → List ℕ → S → Type 0
 ToldFront goes before old piece after = (more : List ℕ) × goes before (delivered more) after × GoesSomewhere old piece more
+
+-- For all octets so far, a message can go on from these and a piece, and so can the story in it.
+abbrev pub LivesOn : Option Place → List ℕ → Type 0
+LivesOn old piece = (octets text : List ℕ) → StandsAt old octets text → MessageLivesWith (octets ++ piece) × StoryLivesIn (octets ++ piece)
 
 -- The story goes on with the octets, and not with one more.
 abbrev pub StoryDiesWith : List ℕ → ℕ → Type 0

@@ -1,8 +1,11 @@
-//! What holds of all messages. The functions do nothing: their contracts are the laws.
+//! What holds of all messages, and where a reader of messages stands. The functions do nothing: their contracts are the laws.
 
-ghost use Rattle.wire_message.specs.Laws.{MessagesHaveOneReading, CanonicalObjectsAreMessages};
+ghost use Rattle.wire_message.specs.Laws.{MessagesHaveOneReading, CanonicalObjectsAreMessages, TextsStandBetweenStxAndEtx, ReadersStandAtLivingOctets};
 
-use wire_story::{lines_of_a_text_make_one, packed_lines_are_a_text};
+use wire_story::{
+    lines_of_a_text_make_one, packed_lines_are_a_text, stories_end_as_texts,
+    stories_live_as_texts_so_far,
+};
 
 /// An object is a message in one way at most.
 pub fn messages_have_one_reading()
@@ -15,4 +18,17 @@ pub fn canonical_objects_are_messages()
 {
     packed_lines_are_a_text();
     lines_of_a_text_make_one();
+}
+
+/// The text at which a reader stands is that of the octets so far: what stands after STX and before ETX.
+pub fn texts_stand_between_stx_and_etx()
+    ensures { TextsStandBetweenStxAndEtx }
+{}
+
+/// A reader stands at octets from which a message can go on, and the story in it.
+pub fn readers_stand_at_living_octets()
+    ensures { ReadersStandAtLivingOctets }
+{
+    stories_live_as_texts_so_far();
+    stories_end_as_texts();
 }

@@ -23,6 +23,9 @@ mod writing;
 
 pub use fault::{MessageCause, MessageFault};
 pub use head::MessageHead;
-pub use laws::{canonical_objects_are_messages, messages_have_one_reading};
+pub use laws::{
+    canonical_objects_are_messages, messages_have_one_reading, readers_stand_at_living_octets,
+    texts_stand_between_stx_and_etx,
+};
 pub use reader::MessageReader;
 pub use writing::{head_text, is_trailer, tail_text};

@@ -6,6 +6,7 @@ ghost use Rattle.wire_message.specs.Layers.{MessageDiesAt};
 
 use crate::fault::{MessageCause, MessageFault};
 use crate::head::MessageHead;
+use crate::laws::readers_stand_at_living_octets;
 use crate::piece::take_piece;
 use crate::place::Place;
 use std::marker::Model;
@@ -34,7 +35,7 @@ impl Model for MessageReader {
     ghost invariant = { λ reader. ForSome reader.place IsPlace };
 }
 
-ghost use Rattle.wire_message.specs.Reading.{StandsAt, Told, ToldFront, Refuses, CountsCause, head_read, trailer_read, is_ended, IsWhole};
+ghost use Rattle.wire_message.specs.Reading.{StandsAt, LivesOn, Told, ToldFront, Refuses, CountsCause, head_read, trailer_read, is_ended, IsWhole};
 
 impl MessageReader {
     /// The reader of an object of which no octet has come.
@@ -59,20 +60,23 @@ impl MessageReader {
     pub fn feed<S: StorySink>(&mut self, piece: &[u8], sink: &mut S) -> Result<(), MessageFault>
         requires { IsSome self.old }
 
-        // The octets so far, with the piece, are a message so far, and its text is a text so far.
+        // The octets so far, with the piece, are a message so far, and its text is a text so far: both can go on.
         ensures takes_calls { OnOk result (IsSome self.new) }
+        ensures lives { OnOk result (LivesOn self.old piece.now) }
         ensures told { OnOk result (Told S.goes sink.old self.old piece.now self.new sink.new) }
         ensures calm { OnOk result (S.failures sink.new ≡ S.failures sink.old) }
 
-        // With the refused octet no message can go on from them, or no text, or the sink stopped.
+        // With the refused octet no message can go on from them, or no text, or the sink stopped; before it both could.
         ensures failed { OnErr result (self.new ≡ None) }
         ensures before { IfErr result (λ fault. fault.taken < length piece.now) }
+        ensures lives_front { IfErr result (λ fault. LivesOn self.old (take fault.taken piece.now)) }
         ensures refused { IfErr result (Refuses self.old piece.now) }
         ensures told_front { IfErr result (λ fault.
             ToldFront S.goes sink.old self.old (take fault.taken piece.now) sink.new) }
         ensures counted { IfErr result (λ fault.
             CountsCause (S.failures sink.old) (S.failures sink.new) fault.cause) }
     {
+        readers_stand_at_living_octets();
         let place = self.place.take().unwrap();
         match take_piece(place, piece, sink) {
             Ok(next) => {

@@ -1,7 +1,8 @@
 -- The story layer is alive exactly where the octets are a text so far.
 use Rattle.std.proofs.Common.{◌≡◌, ℕ, zero, suc, ◌<◌, ◌≤◌, List, [], ◌∷◌, ◌++◌, map, replicate, Some, None, refl, sym, ap, subst, ◌∙◌, arith, append-nil, append_assoc, option_and_then}
+use Rattle.iim_dataset.specs.Languages.{IsAlive}
 use Rattle.wire_story.specs.Texts.{IsLine, line_end, IsText, IsTextSoFar, Holds, AreLines}
-use Rattle.wire_story.specs.Tokens.{IsAlive, OctetOrEnd, Octet, End, with_end, StoryLanguage, LivesWith, StoryDiesAt}
+use Rattle.wire_story.specs.Tokens.{OctetOrEnd, Octet, End, with_end, StoryLanguage, LivesWith, StoryDiesAt}
 use Rattle.wire_story.proofs.HeldReturns.{held_after, after_octet, held_is, so_far, and_then_is, some_is}
 
 -- ---- octets and their end

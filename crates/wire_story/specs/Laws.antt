@@ -1,10 +1,11 @@
 -- What holds of all texts.
 use Rattle.std.specs.Prelude.{◌≡◌, ◌↔◌, ℕ, List, [], ◌∷◌, ◌++◌, map}
 use Rattle.std.specs.List.{join_with_byte}
+use Rattle.iim_dataset.specs.Languages.{IsAlive}
 use Rattle.wire_story.specs.Texts.{IsText, IsTextSoFar, Holds, AreLines, MakeText, packed_text}
 use Rattle.wire_story.specs.Delivery.{delivered, events_of_lines, octet_for}
 use Rattle.wire_story.specs.Collecting.{collect}
-use Rattle.wire_story.specs.Tokens.{IsAlive, StoryLanguage, Octet, End, LivesWith}
+use Rattle.wire_story.specs.Tokens.{StoryLanguage, Octet, End, LivesWith}
 
 -- Octets are the lines of a text in one way at most.
 abbrev pub TextsHaveOneReading : Type 0

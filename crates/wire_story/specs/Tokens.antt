@@ -1,14 +1,7 @@
--- The tokens of a story, its language, and which tokens can go on to a member of a language.
+-- The tokens of a story, and its language.
 use Rattle.std.specs.Prelude.{◌≡◌, ℕ, List, [], ◌∷◌, ◌++◌, map}
+use Rattle.iim_dataset.specs.Languages.{IsAlive, DiesAt}
 use Rattle.wire_story.specs.Texts.{IsText}
-
--- Alive: some continuation of the tokens is in the language.
-abbrev pub IsAlive : {T : Type 0} → (List T → Type 0) → List T → Type 0
-IsAlive {T} Language tokens = (rest : List T) × Language (tokens ++ rest)
-
--- Alive with the tokens, and dead with the next one.
-abbrev pub DiesAt : {T : Type 0} → (List T → Type 0) → List T → T → Type 0
-DiesAt {T} Language tokens token = IsAlive Language tokens × (IsAlive Language (tokens ++ token ∷ []) → ⊥)
 
 -- an octet, or the end of the octets
 pub data OctetOrEnd : Type 0 where

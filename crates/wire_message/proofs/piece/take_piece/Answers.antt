@@ -1,6 +1,6 @@
-use Rattle.std.proofs.Common.{◌≡◌, ℕ, ◌+◌, ◌<◌, ◌≤◌, List, ◌++◌, length, take, Some, subst, sym, ◌∙◌, arith}
+use Rattle.std.proofs.Common.{ℕ, List, ◌++◌, Some, subst, ◌∙◌, arith}
 use Rattle.std.proofs.lemmas.List.{take_all}
-use Rattle.wire_story.specs.Delivery.{Event, delivered}
+use Rattle.wire_story.specs.Delivery.{Event}
 use Rattle.wire_message.specs.Reading.{Told, CountsCause}
 use Rattle.wire_message.proofs.Rests.{length-rest}
 use Rattle.std.proofs.Common.{[], refl}

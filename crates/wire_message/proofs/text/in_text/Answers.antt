@@ -1,9 +1,7 @@
-use Rattle.std.proofs.Common.{◌≡◌, ℕ, ◌+◌, ◌<◌, ◌≤◌, true, List, [], ◌∷◌, ◌++◌, length, take, slice_index, Some, refl, sym, ap, subst, ◌∙◌, arith, append-nil}
+use Rattle.std.proofs.Common.{◌≡◌, ℕ, ◌<◌, ◌≤◌, List, [], ◌∷◌, ◌++◌, length, take, slice_index, Some, sym, ap, subst, ◌∙◌, arith, append-nil}
 use Rattle.std.proofs.lemmas.List.{length-take-le, take-take, get_or-take, take_more}
 use Rattle.arrayvec.specs.ArrayVec.{ArrayVec}
-use Rattle.wire_story.specs.declared.fault.TextCause.{TextCause}
-use Rattle.wire_story.specs.Reading as story
-use Rattle.wire_message.specs.Fields.{Are, is_text_octet}
+use Rattle.wire_message.specs.Fields.{is_text_octet}
 use Rattle.wire_message.specs.SoFar.{LeadTo}
 use Rattle.wire_message.specs.Reading.{HasCause, cause_of, Refuses, GoesOn}
 use Rattle.wire_message.specs.declared.fault.MessageCause.{MessageCause}

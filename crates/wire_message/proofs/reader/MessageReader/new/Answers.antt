@@ -1,4 +1,4 @@
-use Rattle.std.proofs.Common.{[], refl, arith}
+use Rattle.std.proofs.Common.{refl, arith}
 use Rattle.wire_message.specs.declared.place.Place.TheVariants.{Filler}
 use Rattle.wire_message.proofs.reader.MessageReader.new.Goals as goal
 
