@@ -94,6 +94,7 @@ const DAY: &[u8] = b"20240301";
 /// A tag that was read: record, number, count, and its own length.
 type Tag = (u8, u8, usize, usize);
 
+/// A refusal of the dataset with these numbers.
 pub fn refusal(layer: Layer, (rec, set): (u8, u8), octet: usize, cause: Cause) -> Refusal {
     Refusal {
         layer,
