@@ -1,14 +1,13 @@
 -- Where the datasets of an envelope end.
-use Rattle.std.proofs.Common.{◌≡◌, ℕ, ◌+◌, ◌<◌, ◌≤◌, ◌↔◌, false, cond, nat_eq, List, [], ◌∷◌, ◌++◌, length, refl, ap, sym, ◌∙◌, inl, inr, arith, subst, append-nil, length-append}
-use Rattle.std.specs.Prelude.{IsSomeAnd, IsTrue, Option, Some, None}
+use Rattle.std.proofs.Common.{◌≡◌, ℕ, ◌+◌, ◌<◌, ◌≤◌, false, cond, nat_eq, List, [], ◌∷◌, ◌++◌, length, refl, ap, sym, ◌∙◌, inl, inr, arith, subst, append-nil, length-append}
+use Rattle.std.specs.Prelude.{IsSomeAnd, IsTrue, Option, None}
 use Rattle.std.specs.List.{AllByRecursion}
 use Rattle.std.proofs.lemmas.Bool.Decides.{eqb_tells}
 use Rattle.iim_dataset.specs.Datasets.{Dataset}
 use Rattle.iim_tables.specs.Rows.{table, row_of, is_admitted}
 use Rattle.iim_tables.specs.declared.shape.Row.{Row}
-use Rattle.iim_fields.specs.Records.{mandatory, after, repeats, occurrences, IsGoodDataset, IsGoodRecord, AreRecords, AreSections}
-use Rattle.iim_fields.specs.Alive.{IsAlive}
-use Rattle.iim_fields.specs.Faults.{last_record, present_record, of_record, present_run}
+use Rattle.iim_fields.specs.Records.{after, repeats, occurrences, IsGoodDataset, IsGoodRecord, AreRecords, AreSections}
+use Rattle.iim_fields.specs.Faults.{last_record, present_record, of_record}
 use Rattle.iim_fields.specs.Laws.{EnvelopesEndWithTheLastRecord, NoSectionsBeginOthers}
 use Rattle.iim_fields.proofs.Table.{mandatory_is}
 use Rattle.iim_fields.proofs.Runs.{not_empty, occurrences_append}

@@ -1,5 +1,5 @@
 -- Framed octets, and the whole datasets that octets begin with.
-use Rattle.std.proofs.Common.{◌≡◌, ℕ, ◌≤◌, ◌<◌, ◌⊎◌, Bool, true, false, List, [], ◌∷◌, ◌++◌, length, take, drop, refl, ap, sym, subst, ◌∙◌, inl, inr, arith, append_assoc, length-append, length-take}
+use Rattle.std.proofs.Common.{◌≡◌, ℕ, ◌≤◌, ◌⊎◌, true, false, List, [], ◌∷◌, ◌++◌, length, take, drop, refl, ap, sym, subst, ◌∙◌, inl, inr, arith, append_assoc, length-append, length-take}
 use Rattle.std.proofs.lemmas.List.{append-nil, take-append-drop, take-take}
 use Rattle.std.proofs.lemmas.Bool.{cases_lt}
 use Rattle.iim_dataset.specs.Datasets.{Dataset, SpellsDataset, SpellsStream, count_octets}
@@ -11,7 +11,6 @@ use Rattle.iim_fields.specs.Laws.{NoSectionsBeginOthers}
 use Rattle.iim_fields.specs.declared.limits.Limits.{Limits}
 use Rattle.iim_unpack.specs.Framed.{Framed, Clashes, BeginsUnframed}
 use Rattle.iim_unpack.specs.Laws.{NoEnvelopeBeginsAnother, NoEnvelopeIsEmpty}
-use Rattle.iim_unpack.specs.Answers.{AreWithin}
 
 -- ---- two streams that agree
 

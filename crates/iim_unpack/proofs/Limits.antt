@@ -1,6 +1,5 @@
 -- What records 1 and 2 have together, and the layer that a head dies in.
 use Rattle.std.proofs.Common.{◌≡◌, ℕ, ◌+◌, ◌≤◌, Bool, true, false, not, ◌&&◌, cond, if◌then◌else◌, nat_eq, nat_le, List, [], ◌∷◌, ◌++◌, length, Option, Some, None, refl, ap, sym, subst, ◌∙◌, arith, length-append}
-use Rattle.std.specs.Prelude.{IsTrue}
 use Rattle.std.specs.Option.{option_or}
 use Rattle.std.proofs.lemmas.List.Elements.{filter-append}
 use Rattle.iim_dataset.specs.Datasets.{Dataset, head_of}
@@ -10,13 +9,12 @@ use Rattle.iim_tables.specs.declared.shape.Row.{Row}
 use Rattle.iim_tables.specs.Octets.{within}
 use Rattle.iim_fields.specs.Records.{after, occurs}
 use Rattle.iim_fields.specs.Alive.{IsAlive, IsAliveAt}
-use Rattle.iim_fields.specs.Faults.{kept, kept_octets, is_kept, is_first, is_in_order, fault_on, joined, row_fault, missing_fault, missing_of, head_fault, record_fault, room_fault, limits_fault, first_fault, present_record, present_run}
+use Rattle.iim_fields.specs.Faults.{kept, kept_octets, is_kept, is_first, is_in_order, fault_on, joined, row_fault, missing_fault, missing_of, head_fault, record_fault, room_fault, limits_fault, present_record, present_run}
 use Rattle.iim_fields.specs.Standing.{IsHeadFault}
 use Rattle.iim_fields.specs.Laws.{HeadsDieWithTheirFault}
 use Rattle.iim_fields.specs.declared.limits.Limits.{Limits}
 use Rattle.iim_fields.specs.declared.fault.FieldFault.{FieldFault}
-use Rattle.iim_fields.specs.declared.fault.FieldCause.{FieldCause}
-use Rattle.iim_fields.specs.declared.fault.FieldCause.TheVariants.{RecordOrder, UnknownDataset, Repeated, CountRange, Missing, HeaderFull, TooManyFields}
+use Rattle.iim_fields.specs.declared.fault.FieldCause.TheVariants.{RecordOrder, Repeated, CountRange, HeaderFull, TooManyFields}
 use Rattle.iim_unpack.specs.Refusals.{layer_of}
 use Rattle.iim_unpack.specs.Answers.{AreWithin, HaveRoom, DiesAtHead}
 use Rattle.iim_unpack.specs.declared.refusal.Layer.{Layer}

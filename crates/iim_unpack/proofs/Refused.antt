@@ -1,23 +1,19 @@
 -- What a dataset that is not taken says of all the octets.
-use Rattle.std.proofs.Common.{◌≡◌, ◌≢◌, ℕ, zero, suc, ◌+◌, ◌-◌, ◌<◌, ◌≤◌, List, [], ◌∷◌, ◌++◌, length, take, drop, get_or, refl, ap, sym, subst, ◌∙◌, inl, inr, arith, append_assoc, append-nil, length-drop, length-take, get_or-drop}
+use Rattle.std.proofs.Common.{◌≡◌, ℕ, zero, suc, ◌+◌, ◌-◌, ◌<◌, ◌≤◌, List, [], ◌∷◌, ◌++◌, length, take, drop, get_or, refl, ap, sym, subst, ◌∙◌, inl, inr, arith, append_assoc, append-nil, length-drop, get_or-drop}
 use Rattle.std.proofs.lemmas.List.{take-append-drop, take_more, drop_all}
 use Rattle.std.proofs.Math.Seq.{take-add}
-use Rattle.iim_dataset.specs.Datasets.{Dataset, SpellsTag, SpellsDataset, head_of, count_octets}
+use Rattle.iim_dataset.specs.Datasets.{Dataset, head_of, count_octets}
 use Rattle.iim_dataset.specs.Splits.{InTag, InData, IsBegun}
-use Rattle.iim_dataset.specs.Tags.{BeginsTag, BeginsNoTag, Concerns, HasTag}
+use Rattle.iim_dataset.specs.Tags.{BeginsTag, BeginsNoTag, Concerns}
 use Rattle.iim_dataset.specs.Laws.{NoTagBeginsAnother, NoDatasetBeginsAnother}
-use Rattle.iim_dataset.specs.declared.head.Head.{Head}
 use Rattle.iim_dataset.specs.declared.head.HeadCause.{HeadCause}
 use Rattle.iim_dataset.specs.declared.head.HeadCause.TheVariants.{Marker, CountForm}
 use Rattle.iim_fields.specs.Records.{AreSections}
-use Rattle.iim_fields.specs.Alive.{IsAlive, IsAliveAt}
+use Rattle.iim_fields.specs.Alive.{IsAlive}
 use Rattle.iim_fields.specs.Laws.{NoSectionsBeginOthers, HeadsDieWithTheirFault}
-use Rattle.iim_fields.specs.Standing.{StandsBehind, limits_of}
-use Rattle.iim_fields.specs.declared.fields.Fields.{Fields}
 use Rattle.iim_fields.specs.declared.limits.Limits.{Limits}
 use Rattle.iim_unpack.specs.Framed.{Framed, Clashes, BeginsUnframed}
-use Rattle.iim_unpack.specs.Answers.{GoesOn, MayGoOn, AreWithin, HaveRoom, DiesAtHead, IsTruncated, IsBadTag, IsBadHead, IsBadValue, IsUnframed, tag_cause}
-use Rattle.iim_unpack.specs.Refusals.{refusal_at}
+use Rattle.iim_unpack.specs.Answers.{GoesOn, AreWithin, HaveRoom, IsTruncated, IsBadTag, IsBadHead, IsBadValue, IsUnframed, tag_cause}
 use Rattle.iim_unpack.specs.Steps.{EndsInTag, EndsInData, HasBadTag, HasBadHead, HasBadValue, FailsBehind, cause_of_tag, truncated_at}
 use Rattle.iim_unpack.specs.declared.refusal.Refusal.{Refusal}
 use Rattle.iim_unpack.specs.declared.refusal.Cause.TheVariants as causes

@@ -1,5 +1,5 @@
 -- One dataset at the front of what is left.
-use Rattle.std.proofs.Common.{◌≡◌, ◌≢◌, ℕ, ◌+◌, ◌-◌, ◌≤◌, ◌∙◌, List, length, take, drop, ap, sym, subst, arith, length-take, length-drop}
+use Rattle.std.proofs.Common.{◌≡◌, ◌≢◌, ℕ, ◌+◌, ◌-◌, ◌≤◌, ◌∙◌, List, length, take, drop, ap, sym, subst, arith, length-take}
 use Rattle.std.proofs.Math.Seq.{take-add}
 use Rattle.iim_dataset.specs.Datasets.{Dataset, SpellsTag, SpellsDataset, head_of, count_octets}
 use Rattle.iim_dataset.specs.Tags.{HasTag}

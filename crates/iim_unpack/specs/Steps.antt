@@ -1,5 +1,5 @@
 -- One dataset at the front of what is left, as the scan takes it.
-use Rattle.std.specs.Prelude.{◌≡◌, ◌≢◌, ℕ, ◌+◌, ◌-◌, ◌≤◌, ◌<◌, ◌⊎◌, List, [], ◌∷◌, ◌++◌, length, take, slice_index}
+use Rattle.std.specs.Prelude.{◌≡◌, ℕ, ◌+◌, ◌-◌, ◌≤◌, ◌<◌, ◌⊎◌, List, [], ◌∷◌, ◌++◌, length, take, slice_index}
 use Rattle.iim_dataset.specs.Datasets.{Dataset, SpellsDataset, head_of, count_octets}
 use Rattle.iim_dataset.specs.Tags.{BeginsTag, HasTag, HasNoTag}
 use Rattle.iim_dataset.specs.declared.head.Head.{Head}

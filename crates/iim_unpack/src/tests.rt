@@ -23,7 +23,8 @@ const SMALLEST: [u8; 114] = [
 ];
 
 /// What a longer envelope has from octet 62 on, behind what the smallest has but for the number at octet 41.
-const STORY: &[u8] = b"\x1c\x02\x69\x00\x0aRates held\x1c\x02\x50\x00\x07A. Moor\x1c\x02\x55\x00\x06Editor\
+const STORY: &[u8] =
+    b"\x1c\x02\x69\x00\x0aRates held\x1c\x02\x50\x00\x07A. Moor\x1c\x02\x55\x00\x06Editor\
 \x1c\x02\x50\x00\x07B. Lund\x1c\x02\x55\x00\x06Writer\x1c\x02\x19\x00\x05rates\x1c\x02\x19\x00\x04bank\
 \x1c\x02\x19\x00\x04euro\x1c\x02\xfa\x00\x02\x00\xff\x1c\x07\x0a\x00\x01\x01\x1c\x07\x14\x00\x04\x00\x00\x04\x00\
 \x1c\x07\x5a\x00\x04\x00\x00\x00\x32\x1c\x08\x0a\x00\x32\x01TST0007 4 ECO 5 rates\r\n\x02Rates stay.\r\nNo change.\x03\x04\
@@ -164,7 +165,11 @@ fn compare_within(
 ) -> Result<(), Fail> {
     for (index, (pieces, answer)) in rows.iter().enumerate() {
         let octets = joined(alloc, pieces)?;
-        assert_eq!(rt; scan(alloc, limits, octets.as_slice()), *answer, "at {index}");
+        assert_eq!(rt;
+            scan(alloc, limits, octets.as_slice()),
+            *answer,
+            "at {index}"
+        );
     }
     Ok(())
 }
@@ -183,10 +188,7 @@ fn worked_tags(rt: HostRuntime) -> Result<(), Fail> {
     let extended: &[u8] = b"\x80\x04\x00\x00\x00\x03";
     let rows: [(&[&[u8]], Result<Scan, Refusal>); 8] = [
         (&[&SMALLEST, b"\x1c\x01"], accepted(114)),
-        (
-            &[&SMALLEST[..24], extended, &SMALLEST[26..]],
-            accepted(118),
-        ),
+        (&[&SMALLEST[..24], extended, &SMALLEST[26..]], accepted(118)),
         (
             &[b"\x1d", &SMALLEST[1..]],
             refused((0, 0), 0, Cause::Marker),
@@ -323,8 +325,7 @@ fn worked_limits(rt: HostRuntime) -> Result<(), Fail> {
 /// The smallest envelope with one line of 32,754 octets, in a subfile of this tag, and one more of this tag.
 fn with_long_line(alloc: Global, tag: &[u8], second: &[u8]) -> Result<Vec<u8>, AllocError> {
     let line = vec![in alloc; b'a'; 32_754]?;
-    let sizes: &[u8] =
-        b"\x1c\x07\x14\x00\x04\x00\x00\x80\x00\x1c\x07\x5a\x00\x04\x00\x00\x80\x00";
+    let sizes: &[u8] = b"\x1c\x07\x14\x00\x04\x00\x00\x80\x00\x1c\x07\x5a\x00\x04\x00\x00\x80\x00";
     let mut octets = joined(alloc, &[&SMALLEST[..68], sizes, tag, &SMALLEST[91..103]])?;
     octets.extend_from_slice(line.as_slice())?;
     octets.extend_from_slice(b"\x03")?;
@@ -368,7 +369,11 @@ fn each_mandatory_dataset_is_missed(rt: HostRuntime) -> Result<(), Fail> {
         let front = SMALLEST.get(..from).ok_or("a front")?;
         let back = SMALLEST.get(to..).ok_or("a back")?;
         let octets = joined(rt.alloc(), &[front, back])?;
-        assert_eq!(rt; scan(rt.alloc(), LIMITS, octets.as_slice()), answer, "at {from}");
+        assert_eq!(rt;
+            scan(rt.alloc(), LIMITS, octets.as_slice()),
+            answer,
+            "at {from}"
+        );
     }
     Ok(())
 }

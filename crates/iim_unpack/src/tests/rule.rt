@@ -123,9 +123,8 @@ fn is_of_kind(kind: Kind, value: &[u8]) -> bool {
         Any | Size => true,
         Graphic => value.iter().all(|octet| graphic(*octet)),
         Spaced => value.iter().all(|octet| graphic(*octet) || *octet == 0x20),
-        SpacedLines => value
-            .iter()
-            .all(|octet| graphic(*octet) || [0x20, 0x0a, 0x0d].contains(octet)),
+        SpacedLines => value.iter().all(|octet| graphic(*octet)
+            || [0x20, 0x0a, 0x0d].contains(octet)),
         Letters => value.iter().all(u8::is_ascii_alphabetic),
         Digits => value.iter().all(u8::is_ascii_digit),
         Day | PartDay => value == DAY,
@@ -148,9 +147,10 @@ fn tag(octets: &[u8]) -> Result<Option<Tag>, (usize, Cause)> {
         [_, rec, set, _, length, more @ ..] => {
             let length = usize::from(*length);
             let count = more.get(..length).map(|octets| {
-                octets
-                    .iter()
-                    .fold(0usize, |sum, octet| (sum % 0x100_0000) * 256 + usize::from(*octet))
+                octets.iter().fold(
+                    0usize,
+                    |sum, octet| (sum % 0x100_0000) * 256 + usize::from(*octet),
+                )
             });
             Ok(count.map(|count| (*rec, *set, count, length.saturating_add(5))))
         }
@@ -213,7 +213,12 @@ fn dataset(behind: &[(u8, u8)], octets: &[u8], at: usize) -> Result<((u8, u8), u
     let rest = octets.get(at..).unwrap_or(&[]);
     let (rec, set, count, used) = match tag(rest) {
         Ok(Some(tag)) => tag,
-        Ok(None) => return Err(refusal(Layer::Dataset, begun(rest), octets.len(), Cause::Truncated)),
+        Ok(None) => return Err(refusal(
+            Layer::Dataset,
+            begun(rest),
+            octets.len(),
+            Cause::Truncated,
+        )),
         Err((dead, cause)) => {
             let held = rest.get(..dead).unwrap_or(&[]);
             return Err(refusal(Layer::Dataset, begun(held), at.saturating_add(dead), cause));

@@ -50,7 +50,8 @@ static STORY: [&[u8]; 21] = [
 ];
 
 /// The mandatory datasets, each with the least octets: no service, one subfile of nothing, and sizes of one octet.
-const LEAST: &[u8] = b"\x1c\x01\x00\x00\x02\x00\x04\x1c\x01\x14\x00\x02\x00\x02\x1c\x01\x16\x00\x02\x00\x01\
+const LEAST: &[u8] =
+    b"\x1c\x01\x00\x00\x02\x00\x04\x1c\x01\x14\x00\x02\x00\x02\x1c\x01\x16\x00\x02\x00\x01\
 \x1c\x01\x1e\x00\x00\x1c\x01\x28\x00\x0800000001\x1c\x01\x46\x00\x0820240301\x1c\x02\x00\x00\x02\x00\x04\
 \x1c\x07\x0a\x00\x01\x00\x1c\x07\x14\x00\x01\x01\x1c\x08\x0a\x00\x00\x1c\x09\x0a\x00\x01\x00";
 
@@ -292,7 +293,12 @@ fn reads_sixteen_mebioctets_and_no_more(rt: HostRuntime) -> Result<(), Fail> {
 }
 
 /// Behind the first seven datasets, so many of 2:200 with so many octets.
-fn with_fields(alloc: Global, fields: usize, tag: &[u8], octets: usize) -> Result<Vec<u8>, AllocError> {
+fn with_fields(
+    alloc: Global,
+    fields: usize,
+    tag: &[u8],
+    octets: usize,
+) -> Result<Vec<u8>, AllocError> {
     let value = vec![in alloc; b'x'; octets]?;
     let mut input = joined(alloc, &SMALLEST[..7])?;
     for _ in 0..fields {
@@ -334,7 +340,11 @@ fn keeps_so_much_of_records_one_and_two(rt: HostRuntime) -> Result<(), Fail> {
             writer(),
         );
         assert_eq!(rt; status, want, "at {fields}");
-        assert_eq!(rt; output.into_inner().as_slice(), line.as_bytes(), "at {fields}");
+        assert_eq!(rt;
+            output.into_inner().as_slice(),
+            line.as_bytes(),
+            "at {fields}"
+        );
     }
     Ok(())
 }

@@ -1,4 +1,4 @@
-use Rattle.std.proofs.Common.{◌≡◌, ◌+◌, ◌-◌, ◌≤◌, ◌∙◌, ℕ, List, length, drop, arith, inl, inr, ap, sym, length-drop}
+use Rattle.std.proofs.Common.{◌≡◌, ◌∙◌, length, arith, inl, inr, length-drop}
 use Rattle.std.proofs.lemmas.Result.{err_from_is_err_and}
 use Rattle.iim_unpack.proofs.Refused.{Laws, nothing_begun, refused}
 use Rattle.iim_unpack.proofs.Stages.{start, goes_on, accepted, unframed}

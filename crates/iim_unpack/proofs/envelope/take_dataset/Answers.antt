@@ -1,4 +1,4 @@
-use Rattle.std.proofs.Common.{◌≡◌, ◌+◌, ◌-◌, ◌≤◌, ℕ, List, [], ◌∷◌, ◌++◌, length, drop, take, inr, arith, refl, sym, ap, subst, length-drop, length-take, get_or-drop}
+use Rattle.std.proofs.Common.{◌≡◌, ◌+◌, ◌-◌, ◌≤◌, ℕ, List, [], ◌∷◌, ◌++◌, length, drop, take, inr, arith, refl, sym, subst, length-drop, length-take, get_or-drop}
 use Rattle.iim_dataset.specs.Datasets.{SpellsDataset, count_octets}
 use Rattle.iim_fields.specs.Alive.{IsAliveAt}
 use Rattle.iim_fields.specs.Standing.{StandsBehind, IsValueFault, limits_of}
@@ -18,19 +18,19 @@ returns-in-Err-take_value-clause-fault c =
     let long : head.count ≤ length (drop used rest) = (simp (length-take, length-drop) (omega (arith, simp (length-take, length-drop) at c.if-data-head.false))) in
     let same = head_is rest head used long in
     λ ds behind.
-        let stands = c.in_default.ensures.stands ds behind in
-        inr (inr (inr (inr (record {
-          dataset = data_of head (take head.count (drop used rest));
-          used = used + head.count;
-          fault = c.in-Err-take_value.fault;
-          some = omega (arith, tag.some);
-          within = omega (arith, tag.within, long, length-drop used rest);
-          spelled = spells rest head used (λ i. rw get_or-drop (omega (arith, c.type_inv.octets (at + i)))) tag long;
-          alive = subst (IsAliveAt ds) (sym same) stands.alive;
-          room = room_is (limits_of c.args.fields.now) (limits_of c.begin.new.self) ds head _ c.in_default.ensures.limits (sym same) stands.within;
-          is_fault = subst (λ (xs : List ℕ). IsValueFault ds (data_of head xs) c.in-Err-take_value.fault) (value_is octets at used head.count) (c.in-Err-take_value.ensures.fault ds stands);
-          refusal = c.bad_dataset-in-Err-take_value.ensures;
-        }))))
+    let stands = c.in_default.ensures.stands ds behind in
+    inr (inr (inr (inr (record {
+      dataset = data_of head (take head.count (drop used rest));
+      used = used + head.count;
+      fault = c.in-Err-take_value.fault;
+      some = omega (arith, tag.some);
+      within = omega (arith, tag.within, long, length-drop used rest);
+      spelled = spells rest head used (λ i. rw get_or-drop (omega (arith, c.type_inv.octets (at + i)))) tag long;
+      alive = subst (IsAliveAt ds) (sym same) stands.alive;
+      room = room_is (limits_of c.args.fields.now) (limits_of c.begin.new.self) ds head _ c.in_default.ensures.limits (sym same) stands.within;
+      is_fault = subst (λ (xs : List ℕ). IsValueFault ds (data_of head xs) c.in-Err-take_value.fault) (value_is octets at used head.count) (c.in-Err-take_value.ensures.fault ds stands);
+      refusal = c.bad_dataset-in-Err-take_value.ensures;
+    }))))
 
 pub returns-clause-taken : goal.returns-clause-taken
 returns-clause-taken c =

@@ -1,4 +1,4 @@
-use Rattle.std.proofs.Common.{rules, ◌≡◌, ◌-◌, ℕ, List, [], length, refl, inl, inr, arith}
+use Rattle.std.proofs.Common.{◌-◌, [], length, refl, inl, inr, arith}
 use Rattle.iim_unpack.proofs.Octets.{are_octets}
 use Rattle.iim_unpack.proofs.Steps.{is_of}
 use Rattle.iim_unpack.proofs.envelope.take_value.Goals.{then-head-ne-OBJECT, else-head-ne-OBJECT}

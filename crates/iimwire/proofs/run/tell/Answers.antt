@@ -1,6 +1,5 @@
-use Rattle.std.proofs.Common.{rules, ◌≡◌, ◌≢◌, ℕ, List, ap, inl, inr, refl, Some, None, ◌+◌, ◌<◌, arith}
+use Rattle.std.proofs.Common.{rules, ◌≡◌, ◌≢◌, ℕ, List, ap, inl, inr, refl, Some, None, ◌+◌, arith}
 use Rattle.iimwire.specs.Lines.{accepted_line, refused_line}
-use Rattle.iim_unpack.specs.Refusals.{no_memory}
 use Rattle.iim_unpack.specs.Answers.{IsRefused, IsUnframed}
 use Rattle.iim_unpack.specs.declared.refusal.Refusal.{Refusal}
 use Rattle.iim_unpack.specs.declared.refusal.Cause.TheVariants.{OutOfMemory}
