@@ -1,5 +1,6 @@
 pub mod Octets
 pub mod Frames
+pub mod Objects
 pub mod Fronts
 pub mod Limits
 pub mod Steps
