@@ -1,8 +1,12 @@
 pub mod Octets
-pub mod Frames
-pub mod Objects
 pub mod Fronts
+pub mod Objects
+pub mod Places
+pub mod Faults
+pub mod Frames
 pub mod Limits
 pub mod Steps
 pub mod Refused
 pub mod Stages
+pub mod Results
+pub mod Taken

@@ -8,12 +8,17 @@ use Rattle.iim_dataset.specs.Tags.{BeginsTag, BeginsNoTag, Concerns}
 use Rattle.iim_dataset.specs.Laws.{NoTagBeginsAnother, NoDatasetBeginsAnother}
 use Rattle.iim_dataset.specs.declared.head.HeadCause.{HeadCause}
 use Rattle.iim_dataset.specs.declared.head.HeadCause.TheVariants.{Marker, CountForm}
+use Rattle.iim_dataset.specs.Languages as languages
+use Rattle.iim_dataset.specs.declared.head.Head.{Head}
 use Rattle.iim_fields.specs.Records.{AreSections}
 use Rattle.iim_fields.specs.Alive.{IsAlive}
-use Rattle.iim_fields.specs.Laws.{NoSectionsBeginOthers, HeadsDieWithTheirFault}
+use Rattle.iim_fields.specs.Laws.{NoSectionsBeginOthers}
 use Rattle.iim_fields.specs.declared.limits.Limits.{Limits}
-use Rattle.iim_unpack.specs.Framed.{Framed, Clashes, BeginsUnframed}
-use Rattle.iim_unpack.specs.Answers.{GoesOn, AreWithin, HaveRoom, IsTruncated, IsBadTag, IsBadHead, IsBadValue, IsUnframed, tag_cause}
+use Rattle.iim_object.specs.Records.{AreSized}
+use Rattle.iim_object.specs.Behind.{DatasetsLiveWithTheirTokens, DatasetsEndWithTheirTokens}
+use Rattle.iim_unpack.specs.Framed.{Framed, AreWithin, Clashes, BeginsUnframed}
+use Rattle.iim_unpack.specs.Tokens.{GoOn, GoOnAt, DiesAtHead, DiesAtValue}
+use Rattle.iim_unpack.specs.Answers.{GoesOn, IsTruncated, IsBadTag, IsBadHead, IsBadValue, IsUnframed, tag_cause}
 use Rattle.iim_unpack.specs.Steps.{EndsInTag, EndsInData, HasBadTag, HasBadHead, HasBadValue, FailsBehind, cause_of_tag, truncated_at}
 use Rattle.iim_unpack.specs.declared.refusal.Refusal.{Refusal}
 use Rattle.iim_unpack.specs.declared.refusal.Cause.TheVariants as causes
@@ -21,20 +26,24 @@ use Rattle.iim_unpack.specs.declared.refusal.Layer.TheVariants as layers
 use Rattle.iim_unpack.proofs.Octets.{Fit, are_octets, drop_octets}
 use Rattle.iim_unpack.proofs.Frames.{Next, IsOpen, goes_on, clashes_none}
 use Rattle.iim_unpack.proofs.Fronts.{Lacks, Sticks, begun_lacks, same_tag, short_lacks, no_tag_sticks}
-use Rattle.iim_unpack.proofs.Limits.{have_room, dies_at_head}
+use Rattle.iim_unpack.proofs.Limits.{leaves_room}
+use Rattle.iim_unpack.proofs.Places.{ObjectLaws, lives_at, lives_behind}
+use Rattle.iim_unpack.specs.declared.refusal.Layer.{Layer}
 
 -- The laws that the scan calls.
 pub record Laws : Type 0 where
   pub one_tag : NoTagBeginsAnother
   pub one_dataset : NoDatasetBeginsAnother
-  pub heads_die : HeadsDieWithTheirFault
   pub ends : NoSectionsBeginOthers
+  pub objects : ObjectLaws
+  pub live : DatasetsLiveWithTheirTokens
+  pub ended : DatasetsEndWithTheirTokens
 
 -- Where the scan stands at `at`: behind whole datasets that may go on, are no envelope, and are within the limits.
 pub record Stands (limits : Limits) (octets : List ℕ) (at : ℕ) (whole : List Dataset) : Type 0 where
   pub within : at ≤ length octets
   pub is_open : IsOpen whole (take at octets)
-  pub room : AreWithin limits whole
+  pub goes_on : GoOn limits whole
 
 next_of : Laws → (limits : Limits) (octets : List ℕ) (at : ℕ) (whole : List Dataset) → Stands limits octets at whole → (f x y : List ℕ) → (framed : Framed limits f) → octets ++ x ≡ f ++ y
     → Next whole framed.datasets (drop at octets ++ x) y
@@ -57,16 +66,44 @@ next_alive : (limits : Limits) (whole ds : List Dataset) (z y : List ℕ) → (n
 next_alive limits whole ds z y next sections =
     (next.more, subst AreSections (next.parts ∙ sym (append_assoc whole (next.dataset ∷ []) next.more)) sections)
 
-next_room : (limits : Limits) (whole ds : List Dataset) (z y : List ℕ) → (next : Next whole ds z y) → AreWithin limits ds → HaveRoom limits whole (head_of next.dataset)
-next_room limits whole ds z y next within = have_room limits whole next.dataset next.more (subst (AreWithin limits) next.parts within)
+next_sized : (whole ds : List Dataset) (z y : List ℕ) → (next : Next whole ds z y) → AreSized ds → languages.IsAlive AreSized (whole ++ next.dataset ∷ [])
+next_sized whole ds z y next sized = (next.more, subst AreSized (next.parts ∙ sym (append_assoc whole (next.dataset ∷ []) next.more)) sized)
+
+-- so every layer can go on with its head
+next_goes_on : Laws → (limits : Limits) (octets : List ℕ) (at : ℕ) (whole : List Dataset) (f z y : List ℕ) → Stands limits octets at whole → (framed : Framed limits f)
+    → (next : Next whole framed.datasets z y) → GoOnAt limits whole (head_of next.dataset)
+next_goes_on laws limits octets at whole f z y stands framed next =
+    let alive = next_alive limits whole framed.datasets z y next framed.sections in
+    let room = leaves_room limits whole next.dataset next.more (subst (AreWithin limits) next.parts framed.within) in
+    record {
+      records = (next.dataset, refl, alive);
+      within = stands.goes_on.within;
+      room = room;
+      object = lives_at laws.objects laws.live laws.ended whole next.dataset alive (next_sized whole framed.datasets z y next framed.sized) room.subfiles;
+    }
+
+-- no layer dies with a head that all can go on with
+no_dead_head : (layer : Layer) (limits : Limits) (ds : List Dataset) (h : Head) → GoOnAt limits ds h → DiesAtHead layer limits ds h → ⊥
+no_dead_head layers.Dataset limits ds h goes dead = dead
+no_dead_head layers.Record limits ds h goes dead = dead goes.records
+no_dead_head layers.Limits limits ds h goes dead = dead.1 goes.room
+no_dead_head layers.Object limits ds h goes dead = dead.2 goes.object
+no_dead_head layers.Outside limits ds h goes dead = dead
+
+no_dead_value : DatasetsLiveWithTheirTokens → (layer : Layer) (ds : List Dataset) (d : Dataset) → IsAlive (ds ++ d ∷ []) → languages.IsAlive AreSized (ds ++ d ∷ [])
+    → DiesAtValue layer ds d → ⊥
+no_dead_value live layers.Dataset ds d alive sized dead = dead
+no_dead_value live layers.Record ds d alive sized dead = dead alive
+no_dead_value live layers.Limits ds d alive sized dead = dead
+no_dead_value live layers.Object ds d alive sized dead = dead.1 (lives_behind live (ds ++ d ∷ []) alive sized)
+no_dead_value live layers.Outside ds d alive sized dead = dead
 
 head_clashes : Laws → (limits : Limits) (octets : List ℕ) (at : ℕ) (whole : List Dataset) (e : Refusal) → Stands limits octets at whole → HasBadHead limits whole (drop at octets) at e
     → Clashes limits octets
 head_clashes laws limits octets at whole e stands bad f x y framed same =
     let next = next_of laws limits octets at whole stands f x y framed same in
     let is : bad.head ≡ head_of next.dataset = (same_tag laws.one_tag (drop at octets) bad.head bad.used bad.tag next.dataset next.p x (next.q ++ y) next.spelled next.agree).0 in
-    bad.is_fault.dead (next.dataset, sym is, next_alive limits whole framed.datasets (drop at octets ++ x) y next framed.sections)
-    (subst (HaveRoom limits whole) (sym is) (next_room limits whole framed.datasets (drop at octets ++ x) y next framed.within))
+    no_dead_head bad.fault.layer limits whole bad.head (subst (GoOnAt limits whole) (sym is) (next_goes_on laws limits octets at whole f (drop at octets ++ x) y stands framed next)) bad.refused.dead
 
 value_clashes : Laws → (limits : Limits) (octets : List ℕ) (at : ℕ) (whole : List Dataset) (e : Refusal) → Stands limits octets at whole → HasBadValue limits whole (drop at octets) at e
     → Clashes limits octets
@@ -76,7 +113,8 @@ value_clashes laws limits octets at whole e stands bad f x y framed same =
     let agree : take bad.used rest ++ (drop bad.used rest ++ x) ≡ next.p ++ (next.q ++ y) =
     sym (append_assoc (take bad.used rest) (drop bad.used rest) x) ∙ ap (λ l. l ++ x) (take-append-drop bad.used rest) ∙ next.agree in
     let one = laws.one_dataset count_octets bad.dataset next.dataset (take bad.used rest) next.p (drop bad.used rest ++ x) (next.q ++ y) bad.spelled next.spelled agree in
-    bad.is_fault.dead (subst (λ (d : Dataset). IsAlive (whole ++ d ∷ [])) (sym one.0) (next_alive limits whole framed.datasets (rest ++ x) y next framed.sections))
+    no_dead_value laws.live bad.fault.layer whole bad.dataset (subst (λ (d : Dataset). IsAlive (whole ++ d ∷ [])) (sym one.0) (next_alive limits whole framed.datasets (rest ++ x) y next framed.sections))
+    (subst (λ (d : Dataset). languages.IsAlive AreSized (whole ++ d ∷ [])) (sym one.0) (next_sized whole framed.datasets (rest ++ x) y next framed.sized)) bad.refused.dead
 
 -- ---- the places
 
@@ -88,7 +126,7 @@ goes_on_in_tag : (limits : Limits) (octets xs : List ℕ) (at : ℕ) (whole : Li
     → xs ≡ take at octets ++ held → GoesOn limits xs whole (InTag held)
 goes_on_in_tag limits octets xs at whole held stands begun e = record {
   reads = record { front = take at octets; rest = held; is_front = stands.is_open.is_whole; is_rest = in_tag held begun; parts = e };
-  alive = (stands.is_open.alive, stands.room);
+  alive = stands.goes_on;
 }
 
 truncated_in_tag : (limits : Limits) (octets : List ℕ) (at : ℕ) (whole : List Dataset) (e : Refusal) → Stands limits octets at whole → EndsInTag (drop at octets) at e
@@ -124,7 +162,7 @@ truncated_in_data limits octets at whole e fits stands ends =
           );
           parts = sym (take-append-drop at octets);
         };
-        alive = (ends.alive, stands.room, ends.room);
+        alive = ends.alive;
       };
       refusal = ends.refusal ∙ ap (λ n. truncated_at n ends.head.rec ends.head.set) end;
     }
@@ -157,9 +195,9 @@ bad_tag limits octets at whole e stands bad =
 last_octet : (octets : List ℕ) (at used : ℕ) → 0 < used → take (at + used - 1 + 1) octets ≡ take at octets ++ take used (drop at octets)
 last_octet octets at used some = ap (λ n. take n octets) (let last : at + used - 1 + 1 ≡ at + used = omega arith in last) ∙ take-add at used octets
 
-bad_head : Laws → (limits : Limits) (octets : List ℕ) (at : ℕ) (whole : List Dataset) (e : Refusal) → Stands limits octets at whole → HasBadHead limits whole (drop at octets) at e
+bad_head : (limits : Limits) (octets : List ℕ) (at : ℕ) (whole : List Dataset) (e : Refusal) → Stands limits octets at whole → HasBadHead limits whole (drop at octets) at e
     → IsBadHead limits octets e
-bad_head laws limits octets at whole e stands bad =
+bad_head limits octets at whole e stands bad =
     subst (IsBadHead limits octets) (sym bad.refusal) (record {
       whole = whole;
       head = bad.head;
@@ -169,10 +207,9 @@ bad_head laws limits octets at whole e stands bad =
       is_tag = bad.tag.tag;
       within = omega (arith, bad.tag.some, bad.tag.within, length-drop at octets);
       parts = last_octet octets at bad.used bad.tag.some;
-      alive = (stands.is_open.alive, stands.room);
-      dead = dies_at_head laws.heads_die limits whole bad.head bad.fault stands.is_open.alive bad.is_fault;
+      alive = stands.goes_on;
       fault = bad.fault;
-      is_first = bad.is_fault.first;
+      refused = bad.refused;
       refusal = refl;
     })
 
@@ -188,10 +225,9 @@ bad_value limits octets at whole e stands bad =
       is_last = bad.spelled;
       within = omega (arith, bad.some, bad.within, length-drop at octets);
       parts = last_octet octets at bad.used bad.some;
-      alive = (bad.alive, stands.room, bad.room);
-      dead = bad.is_fault.dead;
+      alive = bad.alive;
       fault = bad.fault;
-      is_first = bad.is_fault.first;
+      refused = bad.refused;
       refusal = refl;
     })
 
@@ -222,7 +258,7 @@ refused laws limits octets at whole e fits stands (inr (inr (inr (inl bad)))) =
     record {
       unframed = clashes_none limits octets clashes;
       clashes = λ other. clashes;
-      place = inr (inr (inl (bad_head laws limits octets at whole e stands bad)));
+      place = inr (inr (inl (bad_head limits octets at whole e stands bad)));
     }
 refused laws limits octets at whole e fits stands (inr (inr (inr (inr bad)))) =
     let clashes = value_clashes laws limits octets at whole e stands bad in

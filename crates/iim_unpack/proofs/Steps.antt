@@ -7,8 +7,6 @@ use Rattle.iim_dataset.specs.declared.head.Head.{Head}
 use Rattle.iim_dataset.specs.Octets.{Octets}
 use Rattle.iim_fields.specs.Values.{data_of}
 use Rattle.iim_fields.specs.Standing.{IsOf}
-use Rattle.iim_fields.specs.declared.limits.Limits.{Limits}
-use Rattle.iim_unpack.specs.Answers.{HaveRoom}
 use Rattle.iim_unpack.proofs.Octets.{Fit, are_octets, take_octets, drop_octets, rest_whole}
 
 -- the data of a head are as long as it counts
@@ -38,7 +36,3 @@ pub value_is : (octets : List ℕ) (at used count : ℕ) → take (used + count 
 value_is octets at used count =
     let less : used + count - used ≡ count = omega arith in
     ap (λ n. take n (drop used (take (length octets - at) (drop at octets)))) less ∙ ap (λ l. take count (drop used l)) (rest_whole octets at)
-
--- room for a head is room for the same head
-pub room_is : (limits old : Limits) (ds : List Dataset) (h k : Head) → old ≡ limits → h ≡ k → HaveRoom old ds h → HaveRoom limits ds k
-room_is limits old ds h k same is room = subst (λ (l : Limits). HaveRoom l ds k) same (subst (HaveRoom old ds) is room)

@@ -4,13 +4,11 @@ use Rattle.iim_dataset.specs.Datasets.{Dataset, SpellsTag, SpellsDataset, Spells
 use Rattle.iim_dataset.specs.Splits.{Begun, InTag, InData, Reads}
 use Rattle.iim_dataset.specs.Tags.{BeginsNoTag}
 use Rattle.iim_dataset.specs.declared.head.Head.{Head}
-use Rattle.iim_fields.specs.Alive.{IsAlive, IsAliveAt}
-use Rattle.iim_fields.specs.Faults.{kept, kept_octets, is_kept, first_fault, value_fault}
-use Rattle.iim_fields.specs.Standing.{IsWithin}
 use Rattle.iim_fields.specs.declared.limits.Limits.{Limits}
-use Rattle.iim_fields.specs.declared.fault.FieldFault.{FieldFault}
 use Rattle.iim_unpack.specs.Framed.{Framed, BeginsUnframed, Clashes}
+use Rattle.iim_unpack.specs.Tokens.{GoOn, GoOnAt, IsRefusedHead, IsRefusedValue}
 use Rattle.iim_unpack.specs.Refusals.{refusal_at, no_memory}
+use Rattle.iim_unpack.specs.declared.fault.Fault.{Fault}
 use Rattle.iim_unpack.specs.declared.refusal.Refusal.{Refusal}
 use Rattle.iim_unpack.specs.declared.refusal.Layer.{Layer}
 use Rattle.iim_unpack.specs.declared.refusal.Layer.TheVariants as layers
@@ -24,19 +22,10 @@ pub record IsAccepted (limits : Limits) (octets : List ℕ) (used : ℕ) : Type 
   pub framed : Framed limits (take used octets)
   pub only : (n : ℕ) → n ≤ length octets → Framed limits (take n octets) → n ≡ used
 
--- what the records 1 and 2 have so far is within the limits
-abbrev pub AreWithin : Limits → List Dataset → Type 0
-AreWithin limits ds = IsWithin limits (kept_octets ds) (length (kept ds))
-
--- and so it is with a head of theirs behind it
-abbrev pub HaveRoom : Limits → List Dataset → Head → Type 0
-HaveRoom limits ds h = IsTrue (is_kept h.rec) → IsWithin limits (kept_octets ds + h.count) (length (kept ds) + 1)
-
--- The whole datasets and the begun one may go on to those of an envelope: the record layer is alive with their heads and
--- complete values, and they are within the limits.
+-- Every layer can go on behind the whole datasets and the begun one.
 abbrev pub MayGoOn : Limits → List Dataset → Begun → Type 0
-MayGoOn limits whole (InTag held) = IsAlive whole × AreWithin limits whole
-MayGoOn limits whole (InData h taken) = IsAliveAt whole h × AreWithin limits whole × HaveRoom limits whole h
+MayGoOn limits whole (InTag held) = GoOn limits whole
+MayGoOn limits whole (InData h taken) = GoOnAt limits whole h
 
 -- The octets are these whole datasets and this begun one, and may go on.
 pub record GoesOn (limits : Limits) (octets : List ℕ) (whole : List Dataset) (begun : Begun) : Type 0 where
@@ -73,15 +62,8 @@ pub record IsBadTag (limits : Limits) (octets : List ℕ) (e : Refusal) : Type 0
   pub dead : BeginsNoTag count_octets (held ++ get_or octets e.octet 0 ∷ [])
   pub refusal : e ≡ record { layer = layers.Dataset; rec = begun_record (InTag held); set = begun_number (InTag held); octet = e.octet; cause = tag_cause held }
 
--- Behind the datasets the layer is dead with the head: the record layer, or, where that is alive, the limits.
-abbrev pub DiesAtHead : Layer → Limits → List Dataset → Head → Type 0
-DiesAtHead layers.Dataset limits whole h = ⊥
-DiesAtHead layers.Record limits whole h = IsAliveAt whole h → ⊥
-DiesAtHead layers.Limits limits whole h = IsAliveAt whole h × (HaveRoom limits whole h → ⊥)
-DiesAtHead layers.Outside limits whole h = ⊥
-
--- The refused octet is the last of a tag. The datasets before it may go on, with its head they can't, and the refusal is
--- for the first fault of that head.
+-- The refused octet is the last of a tag. The layers can go on behind the datasets before it; with its head the named one
+-- can't, and the refusal is for the first fault of that head.
 pub record IsBadHead (limits : Limits) (octets : List ℕ) (e : Refusal) : Type 0 where
   pub whole : List Dataset
   pub head : Head
@@ -91,13 +73,12 @@ pub record IsBadHead (limits : Limits) (octets : List ℕ) (e : Refusal) : Type 
   pub is_tag : SpellsTag count_octets head tag
   pub within : e.octet < length octets
   pub parts : take (e.octet + 1) octets ≡ front ++ tag
-  pub alive : MayGoOn limits whole (InTag [])
-  pub dead : DiesAtHead e.layer limits whole head
-  pub fault : FieldFault
-  pub is_first : first_fault limits whole head ≡ Some fault
+  pub alive : GoOn limits whole
+  pub fault : Fault
+  pub refused : IsRefusedHead limits whole head fault
   pub refusal : e ≡ refusal_at e.octet fault
 
--- The refused octet is the last of a dataset. The datasets before it may go on with its head, but not with its value, and
+-- The refused octet is the last of a dataset. The layers can go on with its head; with its value the named one can't, and
 -- the refusal is for the first fault of that.
 pub record IsBadValue (limits : Limits) (octets : List ℕ) (e : Refusal) : Type 0 where
   pub whole : List Dataset
@@ -108,10 +89,9 @@ pub record IsBadValue (limits : Limits) (octets : List ℕ) (e : Refusal) : Type
   pub is_last : SpellsDataset count_octets dataset last
   pub within : e.octet < length octets
   pub parts : take (e.octet + 1) octets ≡ front ++ last
-  pub alive : MayGoOn limits whole (InData (head_of dataset) [])
-  pub dead : IsAlive (whole ++ dataset ∷ []) → ⊥
-  pub fault : FieldFault
-  pub is_first : value_fault dataset ≡ Some fault
+  pub alive : GoOnAt limits whole (head_of dataset)
+  pub fault : Fault
+  pub refused : IsRefusedValue whole dataset fault
   pub refusal : e ≡ refusal_at e.octet fault
 
 -- No front of the octets is an envelope. They end too early, or whatever follows no envelope agrees with them; and the

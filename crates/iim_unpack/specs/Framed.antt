@@ -1,18 +1,27 @@
--- Octets that are an envelope, as far as its datasets go.
-use Rattle.std.specs.Prelude.{◌≡◌, ℕ, List, ◌++◌, length}
+-- Octets that are an envelope, as far as its datasets and sizes go.
+use Rattle.std.specs.Prelude.{◌≡◌, ℕ, ◌≤◌, List, ◌++◌, length}
 use Rattle.iim_dataset.specs.Datasets.{Dataset, SpellsStream, count_octets}
 use Rattle.iim_fields.specs.Records.{AreSections}
 use Rattle.iim_fields.specs.Faults.{kept, kept_octets}
 use Rattle.iim_fields.specs.Standing.{IsWithin}
 use Rattle.iim_fields.specs.declared.limits.Limits.{Limits}
+use Rattle.iim_object.specs.Plans.{max_subfiles}
+use Rattle.iim_object.specs.Records.{AreSized}
+use Rattle.iim_object.specs.Behind.{of_record}
 
--- The octets spell the datasets of an envelope, the records 1, 2, 7, 8 and 9, each good; what the records 1 and 2 have is
--- within the limits.
+-- What the records 1 and 2 have is within the limits, and there are not too many subfiles.
+pub record AreWithin (limits : Limits) (ds : List Dataset) : Type 0 where
+  pub kept : IsWithin limits (kept_octets ds) (length (kept ds))
+  pub subfiles : length (of_record 8 ds) ≤ max_subfiles
+
+-- The octets spell the datasets of an envelope, the records 1, 2, 7, 8 and 9, each good; the sizes of its object agree; and
+-- it is within the limits.
 pub record Framed (limits : Limits) (octets : List ℕ) : Type 0 where
   pub datasets : List Dataset
   pub spelled : SpellsStream count_octets datasets octets
   pub sections : AreSections datasets
-  pub within : IsWithin limits (kept_octets datasets) (length (kept datasets))
+  pub sized : AreSized datasets
+  pub within : AreWithin limits datasets
 
 -- No front of the octets is framed.
 abbrev pub BeginsUnframed : Limits → List ℕ → Type 0

@@ -1,14 +1,15 @@
 -- The numbers and names of layers and causes.
 use Rattle.std.specs.Prelude.{ℕ, List, codes}
 use Rattle.iim_unpack.specs.declared.refusal.Layer.{Layer}
-use Rattle.iim_unpack.specs.declared.refusal.Layer.TheVariants.{Dataset, Record, Limits, Outside}
+use Rattle.iim_unpack.specs.declared.refusal.Layer.TheVariants.{Dataset, Record, Limits, Object, Outside}
 use Rattle.iim_unpack.specs.declared.refusal.Cause.{Cause}
-use Rattle.iim_unpack.specs.declared.refusal.Cause.TheVariants.{Marker, CountForm, Truncated, RecordOrder, UnknownDataset, Repeated, CountRange, Missing, BadValue, FileFormat, HeaderFull, TooManyFields, OutOfMemory}
+use Rattle.iim_unpack.specs.declared.refusal.Cause.TheVariants.{Marker, CountForm, Truncated, RecordOrder, UnknownDataset, Repeated, CountRange, Missing, BadValue, FileFormat, ModeClash, SizeClash, SubfileTooLong, PastSize, Short, ConfirmedWrong, HeaderFull, TooManyFields, TooManySubfiles, OutOfMemory}
 
 abbrev pub layer_name : Layer → List ℕ
 layer_name Dataset = codes "dataset"
 layer_name Record = codes "record"
 layer_name Limits = codes "limits"
+layer_name Object = codes "object"
 layer_name Outside = codes "outside"
 
 abbrev pub cause_number : Cause → ℕ
@@ -22,8 +23,15 @@ cause_number CountRange = 13
 cause_number Missing = 14
 cause_number BadValue = 15
 cause_number FileFormat = 16
+cause_number ModeClash = 20
+cause_number SizeClash = 21
+cause_number SubfileTooLong = 22
+cause_number PastSize = 23
+cause_number Short = 24
+cause_number ConfirmedWrong = 25
 cause_number HeaderFull = 50
 cause_number TooManyFields = 51
+cause_number TooManySubfiles = 52
 cause_number OutOfMemory = 70
 
 abbrev pub cause_name : Cause → List ℕ
@@ -37,6 +45,13 @@ cause_name CountRange = codes "CountRange"
 cause_name Missing = codes "Missing"
 cause_name BadValue = codes "BadValue"
 cause_name FileFormat = codes "FileFormat"
+cause_name ModeClash = codes "ModeClash"
+cause_name SizeClash = codes "SizeClash"
+cause_name SubfileTooLong = codes "SubfileTooLong"
+cause_name PastSize = codes "PastSize"
+cause_name Short = codes "Short"
+cause_name ConfirmedWrong = codes "ConfirmedWrong"
 cause_name HeaderFull = codes "HeaderFull"
 cause_name TooManyFields = codes "TooManyFields"
+cause_name TooManySubfiles = codes "TooManySubfiles"
 cause_name OutOfMemory = codes "OutOfMemory"

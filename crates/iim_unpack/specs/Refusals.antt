@@ -1,8 +1,12 @@
--- How faults of datasets are told.
+-- How the faults of the layers are told.
 use Rattle.std.specs.Prelude.{ℕ}
+use Rattle.iim_dataset.specs.declared.head.Head.{Head}
 use Rattle.iim_fields.specs.declared.fault.FieldFault.{FieldFault}
 use Rattle.iim_fields.specs.declared.fault.FieldCause.{FieldCause}
 use Rattle.iim_fields.specs.declared.fault.FieldCause.TheVariants as fields
+use Rattle.iim_object.specs.declared.fault.SizeCause.{SizeCause}
+use Rattle.iim_object.specs.declared.fault.SizeCause.TheVariants as sizes
+use Rattle.iim_unpack.specs.declared.fault.Fault.{Fault}
 use Rattle.iim_unpack.specs.declared.refusal.Refusal.{Refusal}
 use Rattle.iim_unpack.specs.declared.refusal.Layer.{Layer}
 use Rattle.iim_unpack.specs.declared.refusal.Layer.TheVariants as layers
@@ -32,9 +36,29 @@ layer_of fields.FileFormat = layers.Record
 layer_of fields.HeaderFull = layers.Limits
 layer_of fields.TooManyFields = layers.Limits
 
+abbrev pub cause_of_size : SizeCause → Cause
+cause_of_size sizes.ModeClash = causes.ModeClash
+cause_of_size sizes.SizeClash = causes.SizeClash
+cause_of_size sizes.SubfileTooLong = causes.SubfileTooLong
+cause_of_size sizes.PastSize = causes.PastSize
+cause_of_size sizes.Short = causes.Short
+cause_of_size sizes.ConfirmedWrong = causes.ConfirmedWrong
+
+-- a fault of the record layer or the limits
+abbrev pub of_field : FieldFault → Fault
+of_field f = record { layer = layer_of f.cause; rec = f.rec; set = f.set; cause = cause_of f.cause }
+
+-- a fault of the object layer, on the dataset of the head
+abbrev pub size_on : Head → SizeCause → Fault
+size_on h cause = record { layer = layers.Object; rec = h.rec; set = h.set; cause = cause_of_size cause }
+
+-- the head of a subfile too many
+abbrev pub too_many_on : Head → Fault
+too_many_on h = record { layer = layers.Limits; rec = h.rec; set = h.set; cause = causes.TooManySubfiles }
+
 -- the refusal for a fault, at this octet
-abbrev pub refusal_at : ℕ → FieldFault → Refusal
-refusal_at octet fault = record { layer = layer_of fault.cause; rec = fault.rec; set = fault.set; octet = octet; cause = cause_of fault.cause }
+abbrev pub refusal_at : ℕ → Fault → Refusal
+refusal_at octet fault = record { layer = fault.layer; rec = fault.rec; set = fault.set; octet = octet; cause = fault.cause }
 
 -- the refusal for want of memory
 abbrev pub no_memory : Refusal

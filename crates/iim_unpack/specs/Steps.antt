@@ -6,12 +6,12 @@ use Rattle.iim_dataset.specs.declared.head.Head.{Head}
 use Rattle.iim_dataset.specs.declared.head.HeadFault.{HeadFault}
 use Rattle.iim_dataset.specs.declared.head.HeadCause.{HeadCause}
 use Rattle.iim_dataset.specs.declared.head.HeadCause.TheVariants as heads
-use Rattle.iim_fields.specs.Alive.{IsAliveAt}
-use Rattle.iim_fields.specs.Standing.{StandsBehind, limits_of, IsHeadFault, IsValueFault}
-use Rattle.iim_fields.specs.declared.fields.Fields.{Fields}
+use Rattle.iim_fields.specs.Standing.{limits_of}
 use Rattle.iim_fields.specs.declared.limits.Limits.{Limits}
-use Rattle.iim_fields.specs.declared.fault.FieldFault.{FieldFault}
-use Rattle.iim_unpack.specs.Answers.{HaveRoom}
+use Rattle.iim_unpack.specs.Tokens.{GoOnAt, IsRefusedHead, IsRefusedValue}
+use Rattle.iim_unpack.specs.Layers.{StandsAfter}
+use Rattle.iim_unpack.specs.declared.fault.Fault.{Fault}
+use Rattle.iim_unpack.specs.declared.layers.Layers.{Layers}
 use Rattle.iim_unpack.specs.Refusals.{refusal_at}
 use Rattle.iim_unpack.specs.declared.envelope.Taken.{Taken}
 use Rattle.iim_unpack.specs.declared.refusal.Refusal.{Refusal}
@@ -31,14 +31,14 @@ truncated_at end r s = record { layer = layers.Dataset; rec = r; set = s; octet 
 abbrev pub bad_tag_at : ℕ → List ℕ → HeadCause → Refusal
 bad_tag_at at held cause = record { layer = layers.Dataset; rec = slice_index held 1; set = slice_index held 2; octet = at; cause = cause_of_tag cause }
 
--- The octets at the front, up to `to` from `at` on, are a dataset, which the checker has taken.
-pub record Takes (old : Fields) (rest : List ℕ) (at : ℕ) (taken : Taken) (new : Fields) : Type 0 where
+-- The octets at the front, up to `to` from `at` on, are a dataset, which the layers have taken.
+pub record Takes (old : Layers) (rest : List ℕ) (at : ℕ) (taken : Taken) (new : Layers) : Type 0 where
   pub forward : at < taken.to
   pub dataset : Dataset
   pub within : taken.to - at ≤ length rest
   pub spelled : SpellsDataset count_octets dataset (take (taken.to - at) rest)
   pub rec : taken.rec ≡ dataset.rec
-  pub stands : (ds : List Dataset) → StandsBehind old ds → StandsBehind new (ds ++ dataset ∷ [])
+  pub stands : (ds : List Dataset) → StandsAfter old ds → StandsAfter new (ds ++ dataset ∷ [])
 
 -- The octets end inside a tag.
 pub record EndsInTag (rest : List ℕ) (at : ℕ) (e : Refusal) : Type 0 where
@@ -50,8 +50,7 @@ pub record EndsInData (limits : Limits) (ds : List Dataset) (rest : List ℕ) (a
   pub head : Head
   pub used : ℕ
   pub tag : HasTag rest head used
-  pub alive : IsAliveAt ds head
-  pub room : HaveRoom limits ds head
+  pub alive : GoOnAt limits ds head
   pub short : length rest < used + head.count
   pub refusal : e ≡ truncated_at (at + length rest) head.rec head.set
 
@@ -65,22 +64,21 @@ pub record HasBadTag (rest : List ℕ) (at : ℕ) (e : Refusal) : Type 0 where
 pub record HasBadHead (limits : Limits) (ds : List Dataset) (rest : List ℕ) (at : ℕ) (e : Refusal) : Type 0 where
   pub head : Head
   pub used : ℕ
-  pub fault : FieldFault
+  pub fault : Fault
   pub tag : HasTag rest head used
-  pub is_fault : IsHeadFault limits ds head fault
+  pub refused : IsRefusedHead limits ds head fault
   pub refusal : e ≡ refusal_at (at + used - 1) fault
 
 -- The value can't be that of the head.
 pub record HasBadValue (limits : Limits) (ds : List Dataset) (rest : List ℕ) (at : ℕ) (e : Refusal) : Type 0 where
   pub dataset : Dataset
   pub used : ℕ
-  pub fault : FieldFault
+  pub fault : Fault
   pub some : 0 < used
   pub within : used ≤ length rest
   pub spelled : SpellsDataset count_octets dataset (take used rest)
-  pub alive : IsAliveAt ds (head_of dataset)
-  pub room : HaveRoom limits ds (head_of dataset)
-  pub is_fault : IsValueFault ds dataset fault
+  pub alive : GoOnAt limits ds (head_of dataset)
+  pub refused : IsRefusedValue ds dataset fault
   pub refusal : e ≡ refusal_at (at + used - 1) fault
 
 -- No dataset is taken from the octets that are left at `at`, behind these.
@@ -88,6 +86,6 @@ abbrev pub FailsBehind : Limits → List Dataset → List ℕ → ℕ → Refusa
 FailsBehind limits ds rest at e =
     EndsInTag rest at e ⊎ (EndsInData limits ds rest at e ⊎ (HasBadTag rest at e ⊎ (HasBadHead limits ds rest at e ⊎ HasBadValue limits ds rest at e)))
 
--- Whatever datasets the checker stands behind, none is taken.
-abbrev pub Fails : Fields → List ℕ → ℕ → Refusal → Type 0
-Fails old rest at e = (ds : List Dataset) → StandsBehind old ds → FailsBehind (limits_of old) ds rest at e
+-- Whatever datasets the layers have taken, no other is taken.
+abbrev pub Fails : Layers → List ℕ → ℕ → Refusal → Type 0
+Fails old rest at e = (ds : List Dataset) → StandsAfter old ds → FailsBehind (limits_of old.fields) ds rest at e

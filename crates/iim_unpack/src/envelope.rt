@@ -1,26 +1,21 @@
 //! One envelope at the front of octets.
 
-ghost use Rattle.std.specs.Prelude.{◌≡◌, ◌+◌, ◌-◌, ◌<◌, ◌≤◌, List, [], ◌∷◌, ◌++◌, length, drop, take, slice_index, IfOk, IfErr, OnOk};
-ghost use Rattle.iim_dataset.specs.Datasets.{Dataset};
-ghost use Rattle.iim_fields.specs.Standing.{StandsBehind, StandsIn, IsBetween, IsInside, IsValueFault, limits_of};
-ghost use Rattle.iim_fields.specs.Values.{data_of};
+ghost use Rattle.std.specs.Prelude.{◌≡◌, ◌≤◌, length, drop, slice_index, IfOk, IfErr, OnOk, IsSome};
+ghost use Rattle.iim_fields.specs.Standing.{IsBetween, limits_of};
 ghost use Rattle.iim_unpack.specs.Steps.{Takes, Fails, truncated_at, bad_tag_at, cause_of_tag};
 ghost use Rattle.iim_unpack.specs.Refusals.{refusal_at, no_memory};
 ghost use Rattle.iim_unpack.specs.Answers.{IsAccepted, IsRefused};
 
 use crate::answer::Scan;
+use crate::fault::Fault;
+use crate::layers::Layers;
 use crate::refusal::{Cause, Layer, Refusal};
 use iim_dataset::{
-    Head, HeadCause, HeadFault, no_dataset_begins_another, no_tag_begins_another, read_head,
+    HeadCause, HeadFault, no_dataset_begins_another, no_tag_begins_another, read_head,
 };
-use iim_fields::{
-    FieldFault, Fields, Limits, envelopes_end_with_the_last_record, heads_die_with_their_fault,
-    no_sections_begin_others,
-};
+use iim_fields::{Limits, envelopes_end_with_the_last_record, no_sections_begin_others};
+use iim_object::{datasets_lead_from_place_to_place, datasets_live_with_their_tokens};
 use std::alloc::Global;
-
-/// The record of subfiles, whose data are no matter of the records.
-const OBJECT: u8 = 8;
 
 /// The record whose one dataset ends an envelope.
 const LAST_RECORD: u8 = 9;
@@ -94,43 +89,27 @@ fn bad_tag(at: usize, held: &[u8], cause: HeadCause) -> Refusal
 }
 
 /// What ends with the octet at `at`, a head or a value, can't stand there.
-fn bad_dataset(at: usize, fault: FieldFault) -> Refusal
+fn bad_dataset(at: usize, fault: Fault) -> Refusal
     ensures { result ≡ refusal_at at fault }
 {
-    let (layer, cause) = Cause::of_fields(fault.cause);
     Refusal {
-        layer,
+        layer: fault.layer,
         rec: fault.rec,
         set: fault.set,
         octet: at as u64,
-        cause,
-    }
-}
-
-/// Takes the whole data of a begun dataset.
-fn take_value(fields: &mut Fields, head: Head, octets: &[u8]) -> Result<(), FieldFault>
-    requires inside { IsInside fields.old head head.count }
-    requires whole { length octets.now ≡ head.count }
-    ensures stands { OnOk result ((ds : List Dataset) → StandsIn fields.old ds head [] → StandsBehind fields.new (ds ++ data_of head octets.now ∷ [])) }
-    ensures fault { IfErr result (λ fault. (ds : List Dataset) → StandsIn fields.old ds head [] → IsValueFault ds (data_of head octets.now) fault) }
-    ensures limits { limits_of fields.new ≡ limits_of fields.old }
-{
-    if head.rec != OBJECT {
-        fields.bytes(octets);
-    }
-    match fields.close() {
-        Ok(_) => Ok(()),
-        Err(fault) => Err(fault),
+        cause: fault.cause,
     }
 }
 
 /// Takes the dataset at `at`.
-fn take_dataset(fields: &mut Fields, octets: &[u8], at: usize) -> Result<Taken, Refusal>
-    requires between { IsBetween fields.old }
+fn take_dataset(layers: &mut Layers, octets: &[u8], at: usize) -> Result<Taken, Refusal>
+    requires between { IsBetween layers.old.fields }
+    requires object { IsSome layers.old.object }
     requires within { at ≤ length octets.now }
-    ensures taken { IfOk result (λ taken. Takes fields.old (drop at octets.now) at taken fields.new) }
-    ensures limits { OnOk result (limits_of fields.new ≡ limits_of fields.old) }
-    ensures fault { IfErr result (Fails fields.old (drop at octets.now) at) }
+    ensures object { OnOk result (IsSome layers.new.object) }
+    ensures taken { IfOk result (λ taken. Takes layers.old (drop at octets.now) at taken layers.new) }
+    ensures limits { OnOk result (limits_of layers.new.fields ≡ limits_of layers.old.fields) }
+    ensures fault { IfErr result (Fails layers.old (drop at octets.now) at) }
 {
     let rest = &octets[at..];
     let (head, used) = match read_head(rest) {
@@ -143,7 +122,7 @@ fn take_dataset(fields: &mut Fields, octets: &[u8], at: usize) -> Result<Taken, 
         }
         Ok(Some(found)) => found,
     };
-    if let Err(fault) = fields.begin(head) {
+    if let Err(fault) = layers.head(head) {
         return Err(bad_dataset(at + used - 1, fault));
     }
     let data = &rest[used..];
@@ -151,7 +130,7 @@ fn take_dataset(fields: &mut Fields, octets: &[u8], at: usize) -> Result<Taken, 
         return Err(truncated(octets.len(), head.rec, head.set));
     }
     let end = used + head.count as usize;
-    if let Err(fault) = take_value(fields, head, &rest[used..end]) {
+    if let Err(fault) = layers.value(head, &rest[used..end]) {
         return Err(bad_dataset(at + end - 1, fault));
     }
     Ok(Taken {
@@ -160,11 +139,13 @@ fn take_dataset(fields: &mut Fields, octets: &[u8], at: usize) -> Result<Taken, 
     })
 }
 
-/// Finds the envelope that the octets begin with, as far as its datasets go: tags, the order of the records, and what
-/// each dataset has to be; what records 1 and 2 have is within the limits. Memory for as much is all that it takes.
+/// Finds the envelope that the octets begin with, as far as its datasets and sizes go: tags, the order of the records,
+/// what each dataset has to be, and that the sizes of records 7 to 9 agree; what records 1 and 2 have is within the limits.
+/// Memory for as much is all that it takes.
 ///
 /// A refusal stands at the first octet that completes a token with which a layer is dead: the dataset layer reads tags,
-/// the record layer heads and the values of records 1, 2, 7 and 9, and the limits are those of heads.
+/// the record layer heads and the values of records 1, 2, 7 and 9, the limits are those of heads, and the object layer
+/// reads the numbers of record 7, the heads of subfiles, and the head and number of 9:10.
 /// [`Cause::Truncated`] says that the octets end while every layer can go on, and [`Cause::OutOfMemory`] that memory was
 /// refused before the first octet.
 pub fn scan(alloc: Global, limits: Limits, octets: &[u8]) -> Result<Scan, Refusal>
@@ -173,17 +154,19 @@ pub fn scan(alloc: Global, limits: Limits, octets: &[u8]) -> Result<Scan, Refusa
 {
     no_tag_begins_another();
     no_dataset_begins_another();
-    heads_die_with_their_fault();
+    datasets_lead_from_place_to_place();
+    datasets_live_with_their_tokens();
     envelopes_end_with_the_last_record();
     no_sections_begin_others();
-    let Ok(mut fields) = Fields::new(alloc, limits) else {
+    let Ok(mut layers) = Layers::new(alloc, limits) else {
         return Err(out_of_memory());
     };
     let mut at = 0;
     while at < octets.len() {
-        let taken = take_dataset(&mut fields, octets, at)?;
+        let taken = take_dataset(&mut layers, octets, at)?;
         at = taken.to;
         if taken.rec == LAST_RECORD {
+            layers.finish();
             return Ok(Scan { used: at as u64 });
         }
     }

@@ -1,12 +1,15 @@
 //! Takes envelopes of the Information Interchange Model apart.
 //!
-//! Stands on `iim_dataset` and `iim_fields`. The crate above uses [`scan`], which finds the envelope that octets begin
+//! Stands on `iim_dataset`, `iim_fields` and `iim_object`. The crate above uses [`scan`], which finds the envelope that octets begin
 //! with or says at which octet, by which layer, on which dataset and why they are refused.
 #![tactic(auto)]
 
 mod answer;
 mod envelope;
+mod fault;
 mod laws;
+mod layers;
+mod nowhere;
 mod refusal;
 #[cfg(test)]
 mod tests;

@@ -2,9 +2,6 @@
 
 ghost use Rattle.std.specs.Prelude.{◌≡◌};
 ghost use Rattle.iim_unpack.specs.Names.{layer_name, cause_number, cause_name};
-ghost use Rattle.iim_unpack.specs.Refusals.{cause_of, layer_of};
-
-use iim_fields::FieldCause;
 
 /// The layer that refused, in the order in which the layers look at a token.
 #[derive(Clone, Copy, Debug, PartialEq, Eq)]
@@ -15,6 +12,8 @@ pub enum Layer {
     Record,
     /// Heads of records 1 and 2: how much they have together.
     Limits,
+    /// The numbers of record 7, the counts of subfiles and the number of 9:10: the sizes of the object.
+    Object,
     /// Not the octets: what stands around them.
     Outside,
 }
@@ -28,6 +27,7 @@ impl Layer {
             Layer::Dataset => "dataset",
             Layer::Record => "record",
             Layer::Limits => "limits",
+            Layer::Object => "object",
             Layer::Outside => "outside",
         }
     }
@@ -56,10 +56,24 @@ pub enum Cause {
     BadValue = 15,
     /// 1:20 File Format is not 2.
     FileFormat = 16,
+    /// The size is not known, and 7:90 announces one; or it is known, and at the first subfile none is announced.
+    ModeClash = 20,
+    /// The announced size, 7:90, is above the maximum, 7:95.
+    SizeClash = 21,
+    /// A subfile is longer than 7:20 allows.
+    SubfileTooLong = 22,
+    /// The total passes what is announced, the maximum or the greatest size of an object.
+    PastSize = 23,
+    /// The object ends with fewer octets than were announced.
+    Short = 24,
+    /// The confirmed size, 9:10, is not the total.
+    ConfirmedWrong = 25,
     /// The data of records 1 and 2 pass the limit on octets.
     HeaderFull = 50,
     /// The datasets of records 1 and 2 pass the limit on their number.
     TooManyFields = 51,
+    /// There are 4,294,967,295 subfiles, and another one begins.
+    TooManySubfiles = 52,
     /// Memory was refused.
     OutOfMemory = 70,
 }
@@ -87,27 +101,16 @@ impl Cause {
             Cause::Missing => "Missing",
             Cause::BadValue => "BadValue",
             Cause::FileFormat => "FileFormat",
+            Cause::ModeClash => "ModeClash",
+            Cause::SizeClash => "SizeClash",
+            Cause::SubfileTooLong => "SubfileTooLong",
+            Cause::PastSize => "PastSize",
+            Cause::Short => "Short",
+            Cause::ConfirmedWrong => "ConfirmedWrong",
             Cause::HeaderFull => "HeaderFull",
             Cause::TooManyFields => "TooManyFields",
+            Cause::TooManySubfiles => "TooManySubfiles",
             Cause::OutOfMemory => "OutOfMemory",
-        }
-    }
-
-    /// The layer that refuses a dataset for this, and the cause that is told.
-    pub(crate) fn of_fields(cause: FieldCause) -> (Layer, Cause)
-        ensures layer { result.0 ≡ layer_of cause }
-        ensures cause { result.1 ≡ cause_of cause }
-    {
-        match cause {
-            FieldCause::RecordOrder => (Layer::Record, Cause::RecordOrder),
-            FieldCause::UnknownDataset => (Layer::Record, Cause::UnknownDataset),
-            FieldCause::Repeated => (Layer::Record, Cause::Repeated),
-            FieldCause::CountRange => (Layer::Record, Cause::CountRange),
-            FieldCause::Missing => (Layer::Record, Cause::Missing),
-            FieldCause::BadValue => (Layer::Record, Cause::BadValue),
-            FieldCause::FileFormat => (Layer::Record, Cause::FileFormat),
-            FieldCause::HeaderFull => (Layer::Limits, Cause::HeaderFull),
-            FieldCause::TooManyFields => (Layer::Limits, Cause::TooManyFields),
         }
     }
 }

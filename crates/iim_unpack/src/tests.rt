@@ -322,6 +322,119 @@ fn worked_limits(rt: HostRuntime) -> Result<(), Fail> {
     Ok(())
 }
 
+#[test]
+fn worked_clashes(rt: HostRuntime) -> Result<(), Fail> {
+    let refused = |names, octet, cause| refused(Layer::Object, names, octet, cause);
+    let maximum: &[u8] = b"\x1c\x07\x5f\x00\x04\x00\x00\x00\x0d";
+    let (mode, largest, announced) = (&SMALLEST[62..67], &SMALLEST[68..77], &SMALLEST[77..86]);
+    let rows: [(&[&[u8]], Result<Scan, Refusal>); 7] = [
+        (
+            &[&SMALLEST[..67], b"\x00", &SMALLEST[68..]],
+            refused((7, 90), 85, Cause::ModeClash),
+        ),
+        (
+            &[
+                &SMALLEST[..62],
+                announced,
+                largest,
+                mode,
+                b"\x00",
+                &SMALLEST[86..],
+            ],
+            refused((7, 10), 85, Cause::ModeClash),
+        ),
+        (
+            &[&SMALLEST[..77], &SMALLEST[86..]],
+            refused((8, 10), 81, Cause::ModeClash),
+        ),
+        (
+            &[&SMALLEST[..86], maximum, &SMALLEST[86..]],
+            refused((7, 95), 94, Cause::SizeClash),
+        ),
+        (
+            &[&SMALLEST[..77], maximum, &SMALLEST[77..]],
+            refused((7, 90), 94, Cause::SizeClash),
+        ),
+        (
+            &[
+                &SMALLEST[..67],
+                b"\x00",
+                largest,
+                b"\x1c\x07\x5f",
+                &SMALLEST[80..],
+            ],
+            accepted(114),
+        ),
+        (
+            &[&SMALLEST[..67], b"\x00", largest, maximum, &SMALLEST[86..]],
+            refused((8, 10), 90, Cause::PastSize),
+        ),
+    ];
+    compare(&rt, rt.alloc(), &rows)
+}
+
+#[test]
+fn worked_sizes(rt: HostRuntime) -> Result<(), Fail> {
+    let refused = |names, octet, cause| refused(Layer::Object, names, octet, cause);
+    let number: &[u8] = b"2";
+    let confirmed: &[u8] = b"\x31";
+    let front: [&[u8]; 3] = [&SMALLEST[..41], number, &SMALLEST[42..62]];
+    let rows: [(&[&[u8]], Result<Scan, Refusal>); 6] = [
+        (
+            &[&SMALLEST[..73], b"\x00\x00\x00\x0d", &SMALLEST[77..]],
+            refused((8, 10), 90, Cause::SubfileTooLong),
+        ),
+        (
+            &[&SMALLEST[..73], b"\x00\x00\x00\x0e", &SMALLEST[77..]],
+            accepted(114),
+        ),
+        (
+            &[&SMALLEST[..86], b"\x1c\x08\x0a\x00\x00", &SMALLEST[86..]],
+            accepted(119),
+        ),
+        (
+            &[&SMALLEST[..105], b"\x1c\x09\x0a\x00\x01\x0e"],
+            accepted(111),
+        ),
+        (
+            &[&SMALLEST[..105], b"\x1c\x09\x0a\x00\x01\x0d"],
+            refused((9, 10), 110, Cause::ConfirmedWrong),
+        ),
+        (
+            &[front[0], front[1], front[2], &STORY[..183], confirmed],
+            refused((9, 10), 245, Cause::ConfirmedWrong),
+        ),
+    ];
+    compare(&rt, rt.alloc(), &rows)
+}
+
+/// The smallest envelope with 100 octets announced, a subfile of 60, and then one of this tag and so many octets.
+fn with_two_subfiles(alloc: Global, tag: &[u8], octets: usize) -> Result<Vec<u8>, AllocError> {
+    let line = vec![in alloc; b'a'; 48]?;
+    let second = vec![in alloc; b'a'; octets]?;
+    let size: &[u8] = b"\x00\x00\x00\x64\x1c\x08\x0a\x00\x3c";
+    let mut all = joined(alloc, &[&SMALLEST[..82], size, &SMALLEST[91..103]])?;
+    all.extend_from_slice(line.as_slice())?;
+    all.extend_from_slice(tag)?;
+    all.extend_from_slice(second.as_slice())?;
+    all.extend_from_slice(b"\x03\x04\x1c\x09\x0a\x00\x04\x00\x00\x00\x64")?;
+    Ok(all)
+}
+
+#[test]
+fn worked_totals(rt: HostRuntime) -> Result<(), Fail> {
+    let refused = |names, octet, cause| refused(Layer::Object, names, octet, cause);
+    let long = with_two_subfiles(rt.alloc(), b"\x1c\x08\x0a\x00\x29", 39)?;
+    let answer = refused((8, 10), 155, Cause::PastSize);
+    assert_eq!(rt; scan(rt.alloc(), LIMITS, long.as_slice()), answer);
+    let short = with_two_subfiles(rt.alloc(), b"\x1c\x08\x0a\x00\x27", 37)?;
+    let answer = refused((9, 10), 199, Cause::Short);
+    assert_eq!(rt; scan(rt.alloc(), LIMITS, short.as_slice()), answer);
+    let whole = with_two_subfiles(rt.alloc(), b"\x1c\x08\x0a\x00\x28", 38)?;
+    assert_eq!(rt; scan(rt.alloc(), LIMITS, whole.as_slice()), accepted(205));
+    Ok(())
+}
+
 /// The smallest envelope with one line of 32,754 octets, in a subfile of this tag, and one more of this tag.
 fn with_long_line(alloc: Global, tag: &[u8], second: &[u8]) -> Result<Vec<u8>, AllocError> {
     let line = vec![in alloc; b'a'; 32_754]?;
@@ -404,8 +517,15 @@ fn names_and_numbers(rt: HostRuntime) {
         (Cause::Missing, 14, "Missing"),
         (Cause::BadValue, 15, "BadValue"),
         (Cause::FileFormat, 16, "FileFormat"),
+        (Cause::ModeClash, 20, "ModeClash"),
+        (Cause::SizeClash, 21, "SizeClash"),
+        (Cause::SubfileTooLong, 22, "SubfileTooLong"),
+        (Cause::PastSize, 23, "PastSize"),
+        (Cause::Short, 24, "Short"),
+        (Cause::ConfirmedWrong, 25, "ConfirmedWrong"),
         (Cause::HeaderFull, 50, "HeaderFull"),
         (Cause::TooManyFields, 51, "TooManyFields"),
+        (Cause::TooManySubfiles, 52, "TooManySubfiles"),
         (Cause::OutOfMemory, 70, "OutOfMemory"),
     ];
     for (cause, number, name) in rows {
@@ -416,6 +536,7 @@ fn names_and_numbers(rt: HostRuntime) {
         (Layer::Dataset, "dataset"),
         (Layer::Record, "record"),
         (Layer::Limits, "limits"),
+        (Layer::Object, "object"),
         (Layer::Outside, "outside"),
     ];
     for (layer, name) in layers {

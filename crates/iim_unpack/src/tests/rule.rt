@@ -208,8 +208,74 @@ fn begun(octets: &[u8]) -> (u8, u8) {
     (octet(1), octet(2))
 }
 
+/// The sizes so far: the numbers of record 7, and the octets of the subfiles.
+#[derive(Clone, Copy)]
+struct Sizes {
+    mode: Option<u64>,
+    largest: Option<u64>,
+    announced: Option<u64>,
+    maximum: Option<u64>,
+    total: u64,
+}
+
+/// The unsigned number that few octets spell.
+fn number(octets: &[u8]) -> u64 {
+    octets.iter().fold(
+        0u64,
+        |sum, octet| sum % 0x100_0000 * 256 + u64::from(*octet),
+    )
+}
+
+impl Sizes {
+    /// The fault at the head of a subfile or of 9:10.
+    fn head_fault(&mut self, rec: u8, count: u64) -> Option<Cause> {
+        let announced = self.announced.unwrap_or(0);
+        if rec == 9 {
+            return (self.total < announced).then_some(Cause::Short);
+        }
+        if rec != 8 {
+            return None;
+        }
+        if self.mode == Some(1) && self.announced.is_none() {
+            return Some(Cause::ModeClash);
+        }
+        if count > self.largest.unwrap_or(0) {
+            return Some(Cause::SubfileTooLong);
+        }
+        self.total = self.total.saturating_add(count);
+        let most = [Some(4_294_967_295), self.announced, self.maximum];
+        most.iter()
+            .any(|bound| bound.is_some_and(|bound| self.total > bound))
+            .then_some(Cause::PastSize)
+    }
+
+    /// The fault at a number of record 7 or 9.
+    fn value_fault(&mut self, rec: u8, set: u8, number: u64) -> Option<Cause> {
+        match (rec, set) {
+            (7, 10) => self.mode = Some(number),
+            (7, 20) => self.largest = Some(number),
+            (7, 90) => self.announced = Some(number),
+            (7, 95) => self.maximum = Some(number),
+            (9, 10) => return (number != self.total).then_some(Cause::ConfirmedWrong),
+            _ => return None,
+        }
+        if self.mode == Some(0) && self.announced.is_some() {
+            return Some(Cause::ModeClash);
+        }
+        match (self.announced, self.maximum) {
+            (Some(announced), Some(maximum)) if announced > maximum => Some(Cause::SizeClash),
+            _ => None,
+        }
+    }
+}
+
 /// The one dataset at `at`, behind others: its head and where it ends, or what the octets are refused for.
-fn dataset(behind: &[(u8, u8)], octets: &[u8], at: usize) -> Result<((u8, u8), usize), Refusal> {
+fn dataset(
+    behind: &[(u8, u8)],
+    sizes: &mut Sizes,
+    octets: &[u8],
+    at: usize,
+) -> Result<((u8, u8), usize), Refusal> {
     let rest = octets.get(at..).unwrap_or(&[]);
     let (rec, set, count, used) = match tag(rest) {
         Ok(Some(tag)) => tag,
@@ -228,22 +294,36 @@ fn dataset(behind: &[(u8, u8)], octets: &[u8], at: usize) -> Result<((u8, u8), u
     if let Some((names, cause)) = head_fault(behind, (rec, set, count, used)) {
         return Err(refusal(Layer::Record, names, data.saturating_sub(1), cause));
     }
+    let names = (rec, set);
+    if let Some(cause) = sizes.head_fault(rec, count as u64) {
+        return Err(refusal(Layer::Object, names, data.saturating_sub(1), cause));
+    }
     let end = data.saturating_add(count);
     let Some(value) = octets.get(data..end) else {
         return Err(refusal(Layer::Dataset, (rec, set), octets.len(), Cause::Truncated));
     };
     if let Some(cause) = value_fault(rec, set, value) {
-        return Err(refusal(Layer::Record, (rec, set), end.saturating_sub(1), cause));
+        return Err(refusal(Layer::Record, names, end.saturating_sub(1), cause));
     }
-    Ok(((rec, set), end))
+    if let Some(cause) = sizes.value_fault(rec, set, number(value)) {
+        return Err(refusal(Layer::Object, names, end.saturating_sub(1), cause));
+    }
+    Ok((names, end))
 }
 
 /// What the rules say of octets that hold at most forty datasets, within the limits.
 pub fn by_rule(alloc: Global, octets: &[u8]) -> Result<Result<Scan, Refusal>, AllocError> {
     let mut behind = Vec::new(alloc);
+    let mut sizes = Sizes {
+        mode: None,
+        largest: None,
+        announced: None,
+        maximum: None,
+        total: 0,
+    };
     let mut at = 0;
     for _ in 0..40 {
-        match dataset(behind.as_slice(), octets, at) {
+        match dataset(behind.as_slice(), &mut sizes, octets, at) {
             Ok((head, end)) => {
                 at = end;
                 if head == (9, 10) {

@@ -1,0 +1,202 @@
+-- Which fault of a token is the first, and which layer dies with it.
+use Rattle.std.proofs.Common.{◌≡◌, ◌≢◌, ℕ, ◌+◌, ◌<◌, ◌≤◌, ◌⊎◌, Bool, true, false, not, ◌&&◌, ◌||◌, cond, if◌then◌else◌, nat_eq, nat_le, nat_lt, List, [], ◌∷◌, ◌++◌, length, Option, Some, None, refl, ap, sym, subst, ◌∙◌, inl, inr, arith}
+use Rattle.std.specs.Prelude.{IsTrue}
+use Rattle.std.specs.Option.{option_or, option_map}
+use Rattle.std.proofs.lemmas.Bool.{lt-ltb, le-ltb}
+use Rattle.iim_dataset.specs.Octets.{Octets, number}
+use Rattle.iim_dataset.specs.Datasets.{Dataset, head_of}
+use Rattle.iim_dataset.specs.Languages as languages
+use Rattle.iim_dataset.specs.declared.head.Head.{Head}
+use Rattle.iim_tables.specs.Rows.{row_of, is_admitted}
+use Rattle.iim_tables.specs.declared.shape.Row.{Row}
+use Rattle.iim_tables.specs.Octets.{within}
+use Rattle.iim_fields.specs.Records.{after, occurs, has_file_format}
+use Rattle.iim_fields.specs.Alive.{IsAlive, IsAliveAt}
+use Rattle.iim_fields.specs.Values.{tells_number}
+use Rattle.iim_fields.specs.Faults.{kept, kept_octets, is_kept, is_first, is_in_order, fault_on, row_fault, missing_fault, missing_of, head_fault, record_fault, room_fault, limits_fault, first_fault, value_fault, fault_by_row, present_record, present_run}
+use Rattle.iim_fields.specs.Standing.{IsHeadFault, IsValueFault}
+use Rattle.iim_fields.specs.Laws.{HeadsDieWithTheirFault, ValuesDieWithTheirFault}
+use Rattle.iim_fields.specs.declared.limits.Limits.{Limits}
+use Rattle.iim_fields.specs.declared.fault.FieldFault.{FieldFault}
+use Rattle.iim_fields.specs.declared.fault.FieldCause.TheVariants.{RecordOrder, UnknownDataset, Repeated, CountRange, BadValue, FileFormat, HeaderFull, TooManyFields}
+use Rattle.iim_object.specs.Plans.{max_subfiles}
+use Rattle.iim_object.specs.Objects.{ObjectToken, ObjectLanguage}
+use Rattle.iim_object.specs.Places.{Place, MayFollow, place_after, tokens_of, head_token, value_token}
+use Rattle.iim_object.specs.Causes.{cause_at}
+use Rattle.iim_object.specs.Reading.{StandsAt, Refuses}
+use Rattle.iim_object.specs.Behind.{of_record, place_behind, TokensFollow}
+use Rattle.iim_object.specs.declared.state.State.{State}
+use Rattle.iim_object.specs.declared.fault.SizeCause.{SizeCause}
+use Rattle.iim_unpack.specs.Refusals.{layer_of, of_field, size_on, too_many_on}
+use Rattle.iim_unpack.specs.Tokens.{HaveRoom, ObjectLives, place_at, DiesAtHead, DiesAtValue, fault_at_head, fault_at_value, subfile_fault, object_fault, number_fault, IsRefusedHead, IsRefusedValue}
+use Rattle.iim_unpack.specs.Layers.{IsObjectFault}
+use Rattle.iim_unpack.specs.declared.fault.Fault.{Fault}
+use Rattle.iim_unpack.specs.declared.refusal.Layer.{Layer}
+use Rattle.iim_unpack.specs.declared.refusal.Layer.TheVariants as layers
+use Rattle.iim_unpack.proofs.Places.{HeadLeads, ValueLeads}
+
+-- ---- the layer of a fault of the records and limits
+
+-- the fault is the record layer's
+abbrev IsRecords : Option FieldFault → Type 0
+IsRecords None = Unit {0}
+IsRecords (Some fault) = layer_of fault.cause ≡ layers.Record
+
+abbrev IsLimits : Option FieldFault → Type 0
+IsLimits None = Unit {0}
+IsLimits (Some fault) = layer_of fault.cause ≡ layers.Limits
+
+records_if : (b : Bool) (x y : Option FieldFault) → IsRecords x → IsRecords y → IsRecords (if b then x else y)
+records_if true x y h k = h
+records_if false x y h k = k
+
+limits_if : (b : Bool) (x y : Option FieldFault) → IsLimits x → IsLimits y → IsLimits (if b then x else y)
+limits_if true x y h k = h
+limits_if false x y h k = k
+
+records_or : (x y : Option FieldFault) → IsRecords x → IsRecords y → IsRecords (option_or x y)
+records_or None y h k = k
+records_or (Some fault) y h k = h
+
+row_records : (again : Bool) (row : Option Row) (h : Head) → IsRecords (row_fault again row h)
+row_records again None h = refl
+row_records again (Some r) h =
+    records_if (again && not r.repeats) (Some (fault_on h Repeated)) _ refl (records_if (not (within r.min r.max h.count)) (Some (fault_on h CountRange)) None refl tt)
+
+missing_records : (present : ℕ) (o : Option ℕ) → IsRecords (missing_fault present o)
+missing_records present None = tt
+missing_records present (Some n) = refl
+
+head_records : (present : ℕ) (has : ℕ → Bool) (h : Head) → IsRecords (head_fault present has h)
+head_records present has h =
+    records_if (not (is_in_order present h.rec)) (Some (fault_on h RecordOrder)) _ refl
+    (records_or (row_fault (nat_eq h.rec present && has h.set) (row_of h.rec h.set) h) _ (row_records (nat_eq h.rec present && has h.set) (row_of h.rec h.set) h)
+    (records_if (is_first h.rec (after present)) (missing_fault present (missing_of present has)) None (missing_records present (missing_of present has)) tt))
+
+room_limits : (limits : Limits) (octets fields : ℕ) (h : Head) → IsLimits (room_fault limits octets fields h)
+room_limits limits octets fields h =
+    limits_if (not (is_kept h.rec)) None _ tt
+    (limits_if (not (nat_le (octets + h.count) limits.octets)) (Some (fault_on h HeaderFull)) _ refl
+    (limits_if (not (nat_le (fields + 1) limits.fields)) (Some (fault_on h TooManyFields)) None refl tt))
+
+value_by : (row : Option Row) (d : Dataset) → IsRecords (fault_by_row row d)
+value_by None d = refl
+value_by (Some r) d =
+    records_if (not (is_admitted r d.octets)) (Some (fault_on (head_of d) BadValue)) _ refl (records_if (not (has_file_format d)) (Some (fault_on (head_of d) FileFormat)) None refl tt)
+
+dies_by : (limits : Limits) (ds : List Dataset) (h : Head) (fault : FieldFault) (o rest : Option FieldFault) → IsRecords o → IsLimits rest
+    → ((o ≡ None) → IsAliveAt ds h) → (IsAliveAt ds h → o ≡ None) → option_or o rest ≡ Some fault
+    → (IsAliveAt ds h → HaveRoom limits ds h → ⊥) → DiesAtHead (layer_of fault.cause) limits ds h
+dies_by limits ds h fault None None by more alive none is dead = absurd cc
+dies_by limits ds h fault None (Some other) by more alive none is dead =
+    let same : other ≡ fault = cc in
+    let layer : layer_of fault.cause ≡ layers.Limits = ap (λ (f : FieldFault). layer_of f.cause) (sym same) ∙ more in
+    subst (λ (l : Layer). DiesAtHead l limits ds h) (sym layer) (alive refl, dead (alive refl))
+dies_by limits ds h fault (Some other) rest by more alive none is dead =
+    let same : other ≡ fault = cc in
+    let layer : layer_of fault.cause ≡ layers.Record = ap (λ (f : FieldFault). layer_of f.cause) (sym same) ∙ by in
+    subst (λ (l : Layer). DiesAtHead l limits ds h) (sym layer) (λ goes. let bad : Some other ≡ None = none goes in cc)
+
+-- a head that the records or the limits refuse
+pub field_head : HeadsDieWithTheirFault → (limits : Limits) (ds : List Dataset) (h : Head) (f : FieldFault) → IsAlive ds → IsHeadFault limits ds h f
+    → IsRefusedHead limits ds h (of_field f)
+field_head dies limits ds h f alive is =
+    let both = dies ds h alive in
+    record {
+      first = ap (λ (o : Option FieldFault). option_or (option_map of_field o) (option_or (subfile_fault ds h) (object_fault ds h))) is.first;
+      dead = dies_by limits ds h f (record_fault ds h) (limits_fault limits ds h) (head_records (present_record ds) (λ n. occurs n (present_run ds)) h)
+          (room_limits limits (kept_octets ds) (length (kept ds)) h) both.0 both.1 is.first (λ at room. is.dead at room.kept);
+    }
+
+records_of : (o : Option FieldFault) (f : FieldFault) → IsRecords o → o ≡ Some f → layer_of f.cause ≡ layers.Record
+records_of None f h is = absurd cc
+records_of (Some g) f h is = let same : g ≡ f = cc in ap (λ (x : FieldFault). layer_of x.cause) (sym same) ∙ h
+
+-- a value that the records refuse
+pub field_value : (ds : List Dataset) (d : Dataset) (f : FieldFault) → IsValueFault ds d f → IsRefusedValue ds d (of_field f)
+field_value ds d f is = record {
+  first = ap (λ (o : Option FieldFault). option_or (option_map of_field o) (number_fault ds d)) is.first;
+  dead = subst (λ (l : Layer). DiesAtValue l ds d) (sym (records_of (value_fault d) f (value_by (row_of d.rec d.set) d) is.first)) is.dead;
+}
+
+-- ---- heads of subfiles and of the end
+
+-- the record is that of a subfile or of the end
+abbrev pub IsObjects : ℕ → Type 0
+IsObjects r = (r ≡ 8) ⊎ (r ≡ 9)
+
+not_kept : (r : ℕ) → IsObjects r → is_kept r ≡ false
+not_kept r (inl eight) = ap is_kept eight
+not_kept r (inr nine) = ap is_kept nine
+
+objects : (r : ℕ) → IsObjects r → (nat_eq r 8 || nat_eq r 9) ≡ true
+objects r (inl eight) = ap (λ n. nat_eq n 8 || nat_eq n 9) eight
+objects r (inr nine) = ap (λ n. nat_eq n 8 || nat_eq n 9) nine
+
+no_first : HeadsDieWithTheirFault → (limits : Limits) (ds : List Dataset) (h : Head) → IsAlive ds → IsAliveAt ds h → IsObjects h.rec → first_fault limits ds h ≡ None
+no_first dies limits ds h alive at is =
+    let none : record_fault ds h ≡ None = (dies ds h alive).1 at in
+    let room : limits_fault limits ds h ≡ None = rw (not_kept h.rec is) refl in
+    λ i. option_or (none i) (room i)
+
+pub have_room : (limits : Limits) (ds : List Dataset) (h : Head) → IsObjects h.rec → (h.rec ≡ 8 → length (of_record 8 ds) < max_subfiles) → HaveRoom limits ds h
+have_room limits ds h is few = record {
+  kept = λ kept. absurd (let bad : true ≡ false = sym kept ∙ not_kept h.rec is in cc);
+  subfiles = few;
+}
+
+-- so many subfiles are too many
+pub too_many_head : HeadsDieWithTheirFault → (limits : Limits) (ds : List Dataset) (h : Head) (fault : Fault) → IsAlive ds → IsAliveAt ds h → h.rec ≡ 8
+    → max_subfiles ≤ length (of_record 8 ds) → fault ≡ too_many_on h → IsRefusedHead limits ds h fault
+too_many_head dies limits ds h fault alive at eight many same =
+    let none = no_first dies limits ds h alive at (inl eight) in
+    let full : nat_lt (length (of_record 8 ds)) max_subfiles ≡ false = le-ltb (length (of_record 8 ds)) max_subfiles many in
+    let is : nat_eq h.rec 8 ≡ true = ap (λ n. nat_eq n 8) eight in
+    let second : subfile_fault ds h ≡ Some (too_many_on h) = rw (is, full) refl in
+    subst (IsRefusedHead limits ds h) (sym same) (record {
+      first = λ i. option_or (option_map of_field (none i)) (option_or (second i) (object_fault ds h));
+      dead = (at, λ room. let less = room.subfiles eight in omega (arith, less, many));
+    })
+
+-- the object layer dies with the token, behind the tokens of the place
+dead_behind : TokensFollow → (old : Option State) (p q : Place) (token : ObjectToken) (cause : SizeCause) → Refuses old token cause → StandsAt old p → MayFollow p token
+    → place_after p token ≡ q → (ObjectLives q → ⊥) × (cause_at p token ≡ Some cause)
+dead_behind follow old p q token cause refuses stands may leads =
+    let both = refuses p stands may in (
+      (λ lives. both.0.1 (subst (languages.IsAlive ObjectLanguage) (follow p token may) (subst ObjectLives (sym leads) lives))),
+      both.1,
+    )
+
+-- the object refuses a head
+pub object_head : HeadsDieWithTheirFault → TokensFollow → (limits : Limits) (ds : List Dataset) (h : Head) (fault : Fault) (old : Option State) → IsAlive ds → IsAliveAt ds h
+    → IsObjects h.rec → (h.rec ≡ 8 → length (of_record 8 ds) < max_subfiles) → HeadLeads ds h → StandsAt old (place_behind ds)
+    → IsObjectFault old (head_token h.rec h.count) h fault → IsRefusedHead limits ds h fault
+object_head dies follow limits ds h fault old alive at is few leads stands (cause, refuses, same) =
+    let none = no_first dies limits ds h alive at is in
+    let room : subfile_fault ds h ≡ None = no_subfile ds h is few in
+    let dead = dead_behind follow old (place_behind ds) (place_at ds h) (head_token h.rec h.count) cause refuses stands leads.0 leads.1 in
+    let third : object_fault ds h ≡ Some (size_on h cause) = rw (objects h.rec is, dead.1) refl in
+    subst (IsRefusedHead limits ds h) (sym same) (record {
+      first = λ i. option_or (option_map of_field (none i)) (option_or (room i) (third i));
+      dead = (at, have_room limits ds h is few, dead.0);
+    })
+  where
+    no_subfile : (ds : List Dataset) (h : Head) → IsObjects h.rec → (h.rec ≡ 8 → length (of_record 8 ds) < max_subfiles) → subfile_fault ds h ≡ None
+    no_subfile ds h (inl eight) few =
+        let is : nat_eq h.rec 8 ≡ true = ap (λ n. nat_eq n 8) eight in
+        let room : nat_lt (length (of_record 8 ds)) max_subfiles ≡ true = lt-ltb (length (of_record 8 ds)) max_subfiles (few eight) in
+        rw (is, room) refl
+    no_subfile ds h (inr nine) few = let is : nat_eq h.rec 8 ≡ false = ap (λ n. nat_eq n 8) nine in rw is refl
+
+-- the object refuses the number of a value
+pub object_value : ValuesDieWithTheirFault → TokensFollow → (ds : List Dataset) (d : Dataset) (fault : Fault) (old : Option State) → Octets d.octets → IsAliveAt ds (head_of d)
+    → IsAlive (ds ++ d ∷ []) → tells_number d.rec ≡ true → ValueLeads ds d → StandsAt old (place_at ds (head_of d))
+    → IsObjectFault old (value_token d.rec d.set (number d.octets)) (head_of d) fault → IsRefusedValue ds d fault
+object_value dies follow ds d fault old octets at alive tells leads stands (cause, refuses, same) =
+    let none : value_fault d ≡ None = (dies ds d at octets).1 alive in
+    let dead = dead_behind follow old (place_at ds (head_of d)) (place_behind (ds ++ d ∷ [])) (value_token d.rec d.set (number d.octets)) cause refuses stands leads.0 leads.1 in
+    let second : number_fault ds d ≡ Some (size_on (head_of d) cause) = rw (tells, dead.1) refl in
+    subst (IsRefusedValue ds d) (sym same) (record {
+      first = λ i. option_or (option_map of_field (none i)) (second i);
+      dead = (alive, dead.0);
+    })

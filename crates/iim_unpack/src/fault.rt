@@ -1,0 +1,92 @@
+//! Tokens that a layer refuses.
+
+ghost use Rattle.std.specs.Prelude.{◌≡◌};
+ghost use Rattle.iim_unpack.specs.Refusals.{of_field, size_on, too_many_on, cause_of, cause_of_size, layer_of};
+
+use crate::refusal::{Cause, Layer};
+use iim_dataset::Head;
+use iim_fields::{FieldCause, FieldFault};
+use iim_object::SizeCause;
+
+/// A token that is refused: the layer, the record and number of the dataset that is named, and the cause.
+#[derive(Clone, Copy, Debug, PartialEq, Eq)]
+pub(crate) struct Fault {
+    pub layer: Layer,
+    pub rec: u8,
+    pub set: u8,
+    pub cause: Cause,
+}
+
+fn field_layer(cause: FieldCause) -> Layer
+    ensures { result ≡ layer_of cause }
+{
+    match cause {
+        FieldCause::HeaderFull | FieldCause::TooManyFields => Layer::Limits,
+        _ => Layer::Record,
+    }
+}
+
+fn field_cause(cause: FieldCause) -> Cause
+    ensures { result ≡ cause_of cause }
+{
+    match cause {
+        FieldCause::RecordOrder => Cause::RecordOrder,
+        FieldCause::UnknownDataset => Cause::UnknownDataset,
+        FieldCause::Repeated => Cause::Repeated,
+        FieldCause::CountRange => Cause::CountRange,
+        FieldCause::Missing => Cause::Missing,
+        FieldCause::BadValue => Cause::BadValue,
+        FieldCause::FileFormat => Cause::FileFormat,
+        FieldCause::HeaderFull => Cause::HeaderFull,
+        FieldCause::TooManyFields => Cause::TooManyFields,
+    }
+}
+
+fn size_cause(cause: SizeCause) -> Cause
+    ensures { result ≡ cause_of_size cause }
+{
+    match cause {
+        SizeCause::ModeClash => Cause::ModeClash,
+        SizeCause::SizeClash => Cause::SizeClash,
+        SizeCause::SubfileTooLong => Cause::SubfileTooLong,
+        SizeCause::PastSize => Cause::PastSize,
+        SizeCause::Short => Cause::Short,
+        SizeCause::ConfirmedWrong => Cause::ConfirmedWrong,
+    }
+}
+
+/// A fault of the record layer or of the limits.
+pub(crate) fn of_field(fault: FieldFault) -> Fault
+    ensures { result ≡ of_field fault }
+{
+    Fault {
+        layer: field_layer(fault.cause),
+        rec: fault.rec,
+        set: fault.set,
+        cause: field_cause(fault.cause),
+    }
+}
+
+/// A fault of the object layer, on the dataset of the head.
+pub(crate) fn size_on(head: Head, cause: SizeCause) -> Fault
+    ensures { result ≡ size_on head cause }
+{
+    Fault {
+        layer: Layer::Object,
+        rec: head.rec,
+        set: head.set,
+        cause: size_cause(cause),
+    }
+}
+
+/// The head of a subfile too many.
+pub(crate) fn too_many_on(head: Head) -> Fault
+    ensures { result ≡ too_many_on head }
+{
+    Fault {
+        layer: Layer::Limits,
+        rec: head.rec,
+        set: head.set,
+        cause: Cause::TooManySubfiles,
+    }
+}
