@@ -1,6 +1,5 @@
 -- Which fault of a token is the first, and which layer dies with it.
-use Rattle.std.proofs.Common.{◌≡◌, ◌≢◌, ℕ, ◌+◌, ◌<◌, ◌≤◌, ◌⊎◌, Bool, true, false, not, ◌&&◌, ◌||◌, cond, if◌then◌else◌, nat_eq, nat_le, nat_lt, List, [], ◌∷◌, ◌++◌, length, Option, Some, None, refl, ap, sym, subst, ◌∙◌, inl, inr, arith}
-use Rattle.std.specs.Prelude.{IsTrue}
+use Rattle.std.proofs.Common.{◌≡◌, ℕ, ◌+◌, ◌<◌, ◌≤◌, ◌⊎◌, Bool, true, false, not, ◌&&◌, ◌||◌, if◌then◌else◌, nat_eq, nat_le, nat_lt, List, [], ◌∷◌, ◌++◌, length, Option, Some, None, refl, ap, sym, subst, ◌∙◌, inl, inr, arith}
 use Rattle.std.specs.Option.{option_or, option_map}
 use Rattle.std.proofs.lemmas.Bool.{lt-ltb, le-ltb}
 use Rattle.iim_dataset.specs.Octets.{Octets, number}
@@ -18,17 +17,17 @@ use Rattle.iim_fields.specs.Standing.{IsHeadFault, IsValueFault}
 use Rattle.iim_fields.specs.Laws.{HeadsDieWithTheirFault, ValuesDieWithTheirFault}
 use Rattle.iim_fields.specs.declared.limits.Limits.{Limits}
 use Rattle.iim_fields.specs.declared.fault.FieldFault.{FieldFault}
-use Rattle.iim_fields.specs.declared.fault.FieldCause.TheVariants.{RecordOrder, UnknownDataset, Repeated, CountRange, BadValue, FileFormat, HeaderFull, TooManyFields}
+use Rattle.iim_fields.specs.declared.fault.FieldCause.TheVariants.{RecordOrder, Repeated, CountRange, BadValue, FileFormat, HeaderFull, TooManyFields}
 use Rattle.iim_object.specs.Plans.{max_subfiles}
 use Rattle.iim_object.specs.Objects.{ObjectToken, ObjectLanguage}
-use Rattle.iim_object.specs.Places.{Place, MayFollow, place_after, tokens_of, head_token, value_token}
+use Rattle.iim_object.specs.Places.{Place, MayFollow, place_after, head_token, value_token}
 use Rattle.iim_object.specs.Causes.{cause_at}
 use Rattle.iim_object.specs.Reading.{StandsAt, Refuses}
 use Rattle.iim_object.specs.Behind.{of_record, place_behind, TokensFollow}
 use Rattle.iim_object.specs.declared.state.State.{State}
 use Rattle.iim_object.specs.declared.fault.SizeCause.{SizeCause}
 use Rattle.iim_unpack.specs.Refusals.{layer_of, of_field, size_on, too_many_on}
-use Rattle.iim_unpack.specs.Tokens.{HaveRoom, ObjectLives, place_at, DiesAtHead, DiesAtValue, fault_at_head, fault_at_value, subfile_fault, object_fault, number_fault, IsRefusedHead, IsRefusedValue}
+use Rattle.iim_unpack.specs.Tokens.{HaveRoom, ObjectLives, place_at, DiesAtHead, DiesAtValue, subfile_fault, object_fault, number_fault, IsRefusedHead, IsRefusedValue}
 use Rattle.iim_unpack.specs.Layers.{IsObjectFault}
 use Rattle.iim_unpack.specs.declared.fault.Fault.{Fault}
 use Rattle.iim_unpack.specs.declared.refusal.Layer.{Layer}

@@ -1,11 +1,9 @@
 -- What datasets behind others add to the limits.
-use Rattle.std.proofs.Common.{◌≡◌, ℕ, ◌+◌, ◌<◌, ◌≤◌, Bool, true, false, cond, nat_eq, List, [], ◌∷◌, ◌++◌, length, refl, ap, sym, subst, ◌∙◌, arith, length-append}
-use Rattle.std.specs.Prelude.{IsTrue}
+use Rattle.std.proofs.Common.{◌≡◌, ◌+◌, ◌≤◌, Bool, true, false, cond, nat_eq, List, [], ◌∷◌, ◌++◌, length, ap, ◌∙◌, arith, length-append}
 use Rattle.std.proofs.lemmas.List.Elements.{filter-append}
 use Rattle.iim_dataset.specs.Datasets.{Dataset, head_of}
 use Rattle.iim_fields.specs.Faults.{kept, kept_octets, is_kept, joined}
 use Rattle.iim_fields.specs.declared.limits.Limits.{Limits}
-use Rattle.iim_object.specs.Plans.{max_subfiles}
 use Rattle.iim_object.specs.Behind.{of_record}
 use Rattle.iim_unpack.specs.Framed.{AreWithin}
 use Rattle.iim_unpack.specs.Tokens.{HaveRoom}

@@ -1,5 +1,5 @@
 -- Where heads and values lead the object.
-use Rattle.std.proofs.Common.{◌≡◌, ◌≢◌, ℕ, ◌+◌, ◌<◌, ◌≤◌, ◌⊎◌, Bool, true, false, ◌||◌, cond, if◌then◌else◌, nat_eq, List, [], ◌∷◌, ◌++◌, length, refl, ap, sym, subst, ◌∙◌, inl, inr, arith, append_assoc, length-append}
+use Rattle.std.proofs.Common.{◌≡◌, ℕ, ◌+◌, ◌<◌, ◌⊎◌, Bool, true, false, cond, if◌then◌else◌, nat_eq, List, [], ◌∷◌, ◌++◌, length, refl, ap, sym, subst, ◌∙◌, inl, inr, arith, append_assoc, length-append}
 use Rattle.std.specs.List.{AllByRecursion}
 use Rattle.std.proofs.lemmas.List.Elements.{filter-append}
 use Rattle.std.proofs.lemmas.Bool.{or_cases, eqb-true}
@@ -11,9 +11,9 @@ use Rattle.iim_dataset.specs.declared.head.Head.{Head}
 use Rattle.iim_fields.specs.Alive.{IsAlive, IsAliveAt}
 use Rattle.iim_fields.specs.Values.{tells_number}
 use Rattle.iim_object.specs.Plans.{max_subfiles}
-use Rattle.iim_object.specs.Objects.{ObjectToken, NumberRead, SubfileBegun, ObjectEnded, Confirmed, ObjectLanguage}
-use Rattle.iim_object.specs.Places.{Place, MayFollow, place_after, tokens_of, head_token, value_token}
-use Rattle.iim_object.specs.Records.{AreRecords, AreSized, MeetRows}
+use Rattle.iim_object.specs.Objects.{ObjectToken, NumberRead, SubfileBegun, ObjectEnded, Confirmed}
+use Rattle.iim_object.specs.Places.{Place, MayFollow, place_after, head_token, value_token}
+use Rattle.iim_object.specs.Records.{AreRecords, AreSized}
 use Rattle.iim_object.specs.Behind.{of_record, place_behind, place_ended, TokensFollow, OthersLeadNowhere, NumbersLead, SubfilesLead, EndsLead, DatasetsLiveWithTheirTokens, DatasetsEndWithTheirTokens}
 use Rattle.iim_unpack.specs.Tokens.{place_at, ObjectLives}
 use Rattle.iim_unpack.proofs.Objects.{records_alive}

@@ -1,7 +1,7 @@
 -- One dataset at the front of what is left.
 use Rattle.std.proofs.Common.{◌≡◌, ◌≢◌, ℕ, ◌+◌, ◌-◌, ◌≤◌, ◌∙◌, List, length, take, drop, ap, sym, subst, arith, length-take}
 use Rattle.std.proofs.Math.Seq.{take-add}
-use Rattle.iim_dataset.specs.Datasets.{Dataset, SpellsTag, SpellsDataset, head_of, count_octets}
+use Rattle.iim_dataset.specs.Datasets.{SpellsTag, SpellsDataset, head_of, count_octets}
 use Rattle.iim_dataset.specs.Tags.{HasTag}
 use Rattle.iim_dataset.specs.declared.head.Head.{Head}
 use Rattle.iim_dataset.specs.Octets.{Octets}

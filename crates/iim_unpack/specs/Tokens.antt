@@ -1,5 +1,5 @@
 -- Which heads and values the layers can go on with, behind datasets, and the first fault of one.
-use Rattle.std.specs.Prelude.{◌≡◌, ℕ, ◌+◌, ◌<◌, Bool, ◌&&◌, ◌||◌, not, nat_lt, ◌==◌, if◌then◌else◌, List, [], ◌∷◌, ◌++◌, length, IsTrue, Option, None, Some}
+use Rattle.std.specs.Prelude.{◌≡◌, ◌+◌, ◌<◌, ◌&&◌, ◌||◌, not, nat_lt, ◌==◌, if◌then◌else◌, List, [], ◌∷◌, ◌++◌, length, IsTrue, Option, None, Some}
 use Rattle.std.specs.Option.{option_or, option_map}
 use Rattle.iim_dataset.specs.Octets.{number}
 use Rattle.iim_dataset.specs.Datasets.{Dataset, head_of}

@@ -146,6 +146,22 @@ impl Layers {
         }
     }
 
+    /// Hands the octets of a subfile on, to nobody; other data are no part of the object.
+    fn pass_on(&mut self, head: Head, octets: &[u8])
+        requires { IsSome self.old.object }
+        ensures object { self.new.object ≡ self.old.object }
+        ensures fields { self.new.fields ≡ self.old.fields }
+        ensures subfiles { self.new.subfiles ≡ self.old.subfiles }
+    {
+        if head.rec != OBJECT {
+            return;
+        }
+        match self.object.run(octets, &mut Nowhere) {
+            Ok(()) => {}
+            Err(_) => unreachable!(),
+        }
+    }
+
     /// Takes the whole data of the begun dataset, or tells the first fault of them: of the records, or of the object.
     pub fn value(&mut self, head: Head, octets: &[u8]) -> Result<(), Fault>
         requires inside { IsInside self.old.fields head head.count }
@@ -160,7 +176,10 @@ impl Layers {
         datasets_lead_from_place_to_place();
         match take_value(&mut self.fields, head, octets) {
             Ok(Some(number)) => self.number(head, number),
-            Ok(None) => Ok(()),
+            Ok(None) => {
+                self.pass_on(head, octets);
+                Ok(())
+            }
             Err(fault) => Err(of_field(fault)),
         }
     }

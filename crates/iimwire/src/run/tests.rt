@@ -56,7 +56,7 @@ const LEAST: &[u8] =
 \x1c\x07\x0a\x00\x01\x00\x1c\x07\x14\x00\x01\x01\x1c\x08\x0a\x00\x00\x1c\x09\x0a\x00\x01\x00";
 
 /// A dataset of the smallest envelope by its place, another in its place, and the line for that.
-static BROKEN: [(usize, &[u8], &str); 8] = [
+static BROKEN: [(usize, &[u8], &str); 10] = [
     (
         5,
         b"",
@@ -86,6 +86,16 @@ static BROKEN: [(usize, &[u8], &str); 8] = [
         5,
         b"\x1c\x01\x46\x00\x0820230229",
         "1 refused at octet 54 by layer record on 1:70, cause 15 BadValue\n",
+    ),
+    (
+        7,
+        b"\x1c\x07\x0a\x00\x01\x00",
+        "1 refused at octet 85 by layer object on 7:90, cause 20 ModeClash\n",
+    ),
+    (
+        11,
+        b"\x1c\x09\x0a\x00\x04\x00\x00\x00\x0d",
+        "1 refused at octet 113 by layer object on 9:10, cause 25 ConfirmedWrong\n",
     ),
     (
         0,

@@ -1,6 +1,5 @@
 use Rattle.std.proofs.Common.{◌≡◌, ◌+◌, ◌-◌, ◌≤◌, ℕ, List, [], ◌∷◌, ◌++◌, length, drop, take, inl, inr, arith, refl, sym, ap, subst, ◌∙◌, length-drop, length-take, get_or-drop}
 use Rattle.iim_dataset.specs.Datasets.{SpellsDataset, count_octets}
-use Rattle.iim_dataset.specs.declared.head.Head.{Head}
 use Rattle.iim_fields.specs.Standing.{limits_of}
 use Rattle.iim_fields.specs.Values.{data_of}
 use Rattle.iim_unpack.specs.Tokens.{GoOnAt, IsRefusedValue}

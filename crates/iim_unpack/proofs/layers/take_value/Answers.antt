@@ -1,4 +1,4 @@
-use Rattle.std.proofs.Common.{◌≡◌, ◌-◌, List, [], length, refl, inl, inr, arith}
+use Rattle.std.proofs.Common.{◌-◌, [], length, refl, inl, inr, arith}
 use Rattle.iim_unpack.proofs.Octets.{are_octets}
 use Rattle.iim_unpack.proofs.Results.{if_ok, if_err}
 use Rattle.iim_unpack.proofs.Steps.{is_of}

@@ -1,4 +1,4 @@
-use Rattle.std.proofs.Common.{◌≡◌, ◌<◌, ◌≤◌, List, [], length, inl, inr, arith}
+use Rattle.std.proofs.Common.{◌<◌, ◌≤◌, length, inl, inr, arith}
 use Rattle.iim_object.specs.Plans.{max_subfiles}
 use Rattle.iim_object.specs.Behind.{of_record}
 use Rattle.iim_unpack.proofs.Faults.{field_head, too_many_head, object_head}

@@ -1,8 +1,7 @@
-use Rattle.std.proofs.Common.{◌≡◌, ℕ, List, [], ◌∷◌, ◌++◌, length, refl, sym, subst, ◌∙◌, arith}
+use Rattle.std.proofs.Common.{◌≡◌, ℕ, sym, subst, ◌∙◌, arith}
 use Rattle.iim_dataset.specs.Datasets.{Dataset, head_of}
 use Rattle.iim_dataset.specs.declared.head.Head.{Head}
 use Rattle.iim_fields.specs.Alive.{IsAliveAt}
-use Rattle.iim_fields.specs.Standing.{StandsBehind}
 use Rattle.iim_fields.specs.Values.{data_of}
 use Rattle.iim_object.specs.Places.{value_token}
 use Rattle.iim_object.specs.Reading.{StandsAt}
@@ -57,7 +56,8 @@ returns-in-Ok-None-clause-stands c =
     let same : head_of d ≡ head = λ i. record { rec = head.rec; set = head.set; count = c.requires.whole i } in
     λ ds at.
     let taken = c.in-Ok-None.ensures.stands ds at.fields in
-    after_silence laws c.args.self.now _ ds head d (record { at = at; behind = taken.0; head = same; subfiles = refl }) (sym c.in-Ok-None.field-0-is ∙ taken.1) refl
+    after_silence laws c.args.self.now c.pass_on.new.self ds head d
+    (record { at = at; behind = rw c.pass_on.ensures.fields taken.0; head = same; subfiles = c.pass_on.ensures.subfiles }) (sym c.in-Ok-None.field-0-is ∙ taken.1) c.pass_on.ensures.object
 
 pub returns-in-Err-clause-fault : goal.returns-in-Err-clause-fault
 returns-in-Err-clause-fault c =
