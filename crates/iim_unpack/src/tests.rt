@@ -323,14 +323,13 @@ fn worked_limits(rt: HostRuntime) -> Result<(), Fail> {
 }
 
 #[test]
-fn worked_clashes(rt: HostRuntime) -> Result<(), Fail> {
-    let refused = |names, octet, cause| refused(Layer::Object, names, octet, cause);
-    let maximum: &[u8] = b"\x1c\x07\x5f\x00\x04\x00\x00\x00\x0d";
+fn worked_modes(rt: HostRuntime) -> Result<(), Fail> {
+    let clash = |names, octet| refused(Layer::Object, names, octet, Cause::ModeClash);
     let (mode, largest, announced) = (&SMALLEST[62..67], &SMALLEST[68..77], &SMALLEST[77..86]);
-    let rows: [(&[&[u8]], Result<Scan, Refusal>); 7] = [
+    let rows: [(&[&[u8]], Result<Scan, Refusal>); 4] = [
         (
             &[&SMALLEST[..67], b"\x00", &SMALLEST[68..]],
-            refused((7, 90), 85, Cause::ModeClash),
+            clash((7, 90), 85),
         ),
         (
             &[
@@ -341,20 +340,9 @@ fn worked_clashes(rt: HostRuntime) -> Result<(), Fail> {
                 b"\x00",
                 &SMALLEST[86..],
             ],
-            refused((7, 10), 85, Cause::ModeClash),
+            clash((7, 10), 85),
         ),
-        (
-            &[&SMALLEST[..77], &SMALLEST[86..]],
-            refused((8, 10), 81, Cause::ModeClash),
-        ),
-        (
-            &[&SMALLEST[..86], maximum, &SMALLEST[86..]],
-            refused((7, 95), 94, Cause::SizeClash),
-        ),
-        (
-            &[&SMALLEST[..77], maximum, &SMALLEST[77..]],
-            refused((7, 90), 94, Cause::SizeClash),
-        ),
+        (&[&SMALLEST[..77], &SMALLEST[86..]], clash((8, 10), 81)),
         (
             &[
                 &SMALLEST[..67],
@@ -364,6 +352,24 @@ fn worked_clashes(rt: HostRuntime) -> Result<(), Fail> {
                 &SMALLEST[80..],
             ],
             accepted(114),
+        ),
+    ];
+    compare(&rt, rt.alloc(), &rows)
+}
+
+#[test]
+fn worked_maxima(rt: HostRuntime) -> Result<(), Fail> {
+    let refused = |names, octet, cause| refused(Layer::Object, names, octet, cause);
+    let maximum: &[u8] = b"\x1c\x07\x5f\x00\x04\x00\x00\x00\x0d";
+    let largest = &SMALLEST[68..77];
+    let rows: [(&[&[u8]], Result<Scan, Refusal>); 3] = [
+        (
+            &[&SMALLEST[..86], maximum, &SMALLEST[86..]],
+            refused((7, 95), 94, Cause::SizeClash),
+        ),
+        (
+            &[&SMALLEST[..77], maximum, &SMALLEST[77..]],
+            refused((7, 90), 94, Cause::SizeClash),
         ),
         (
             &[&SMALLEST[..67], b"\x00", largest, maximum, &SMALLEST[86..]],
