@@ -28,6 +28,7 @@ pub record Building : Type 0 where
   pub limits : Limits
   pub fields : List Dataset
 
+-- what a builder has whose datasets so far this checker has kept
 abbrev pub building_of : Fields → Building
 building_of fields = record { limits = fields.limits; fields = fields_of fields.store }
 

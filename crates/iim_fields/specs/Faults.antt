@@ -41,6 +41,7 @@ is_first r (next ∷ more) = r == next
 abbrev pub is_in_order : ℕ → ℕ → Bool
 is_in_order present r = ((r == present) && not (r == 0)) || is_first r (after present)
 
+-- the fault on the dataset of a head
 abbrev pub fault_on : Head → FieldCause → FieldFault
 fault_on h cause = record { rec = h.rec; set = h.set; cause = cause }
 
@@ -112,6 +113,7 @@ room_fault limits octets fields h =
     else if not (nat_le (fields + 1) limits.fields) then Some (fault_on h TooManyFields)
     else None
 
+-- the first limit that a head passes behind datasets
 abbrev pub limits_fault : Limits → List Dataset → Head → Option FieldFault
 limits_fault limits ds h = room_fault limits (kept_octets ds) (length (kept ds)) h
 

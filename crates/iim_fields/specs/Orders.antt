@@ -8,9 +8,11 @@ use Rattle.iim_fields.specs.Faults.{present_record, present_run, missing_fault, 
 use Rattle.iim_fields.specs.declared.fault.FieldFault.{FieldFault}
 use Rattle.iim_fields.specs.declared.order.Order.{Order}
 
+-- none of the 256 numbers has occurred
 abbrev pub nothing : List Bool
 nothing = replicate 256 false
 
+-- the number has occurred in the present record
 abbrev pub has_seen : Order → ℕ → Bool
 has_seen o n = slice_index_or o.seen n false
 

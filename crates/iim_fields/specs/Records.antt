@@ -23,6 +23,7 @@ after r =
     else if r == 8 then 9 ∷ []
     else []
 
+-- 7:90 has to occur by the mode: that is a matter of sizes
 abbrev pub has_to_occur : Duty → Bool
 has_to_occur Mandatory = true
 has_to_occur Optional = false
@@ -32,6 +33,7 @@ has_to_occur ByMode = false
 abbrev pub mandatory : ℕ → List ℕ
 mandatory rec = map (λ e. e.set) (filter (λ e. e.rec == rec && has_to_occur e.row.duty) table)
 
+-- the row does not say that the dataset occurs once at most
 abbrev pub may_repeat : Option Row → Bool
 may_repeat None = true
 may_repeat (Some r) = r.repeats
@@ -48,6 +50,7 @@ occurrences n ds = count_by (λ d. d.set == n) ds
 abbrev pub occurs : ℕ → List Dataset → Bool
 occurs n ds = list_any (λ d. d.set == n) ds
 
+-- it is 1:20 File Format
 abbrev pub is_file_format : Dataset → Bool
 is_file_format d = d.rec == 1 && d.set == 20
 

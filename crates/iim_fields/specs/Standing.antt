@@ -17,9 +17,11 @@ use Rattle.iim_fields.specs.declared.fields.Fields.{Fields}
 use Rattle.iim_fields.specs.declared.fields.Begun.{Begun}
 use Rattle.iim_fields.specs.declared.fields.Phase.TheVariants as phases
 
+-- the limits under which it reads
 abbrev pub limits_of : Fields → Limits
 limits_of fields = fields.limits
 
+-- Something was refused.
 abbrev pub IsFailed : Fields → Type 0
 IsFailed fields = fields.phase ≡ phases.Failed
 

@@ -12,6 +12,7 @@ data_of h xs = record { rec = h.rec; set = h.set; octets = xs }
 abbrev pub tells_number : ℕ → Bool
 tells_number rec = rec == 7 || rec == 9
 
+-- The record's values tell numbers.
 abbrev pub TellsNumber : ℕ → Type 0
 TellsNumber rec = IsTrue (tells_number rec)
 

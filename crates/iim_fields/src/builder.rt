@@ -31,7 +31,7 @@ impl Model for EnvelopeBuilder {
 }
 
 impl EnvelopeBuilder {
-    /// No datasets, with memory for all that the limits allow: no later call takes any.
+    /// No datasets, with memory for all that the limits allow: no later call takes any. An error says that memory was refused.
     pub fn new(alloc: Global, limits: Limits) -> Result<EnvelopeBuilder, AllocError>
         ensures empty { IfOk result (λ builder. builder ≡ record { limits = limits; fields = [] }) }
     {

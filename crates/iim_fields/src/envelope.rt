@@ -75,6 +75,7 @@ impl Envelope {
         ensures data { first_data 1 30 self.now ≡ Some result.now }
         ensures fits { length result.now ≤ 10 }
     {
+        // Where a field is read, it is known that the type's invariant holds: here and below.
         let _ = &self.store;
         self.first(ENVELOPE, 30).unwrap()
     }

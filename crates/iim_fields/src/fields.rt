@@ -67,7 +67,8 @@ fn room_fault(limits: Limits, octets: usize, fields: usize, head: Head) -> Optio
 impl Fields {
     ghost use Rattle.iim_fields.specs.Standing.{limits_of, IsFailed, IsBetween, IsInside, CanTake, CanClose, StandsBehind, StandsIn, Enters, Gives, IsHeadFault, IsValueFault, IsOf, Settles, begun_data};
 
-    /// At the beginning of an envelope, with memory for all that the limits allow: no later call takes any.
+    /// At the beginning of an envelope, with memory for all that the limits allow: no later call takes any. An error says
+    /// that memory was refused.
     pub fn new(alloc: Global, limits: Limits) -> Result<Fields, AllocError>
         ensures stands { IfOk result (λ fields. StandsBehind fields []) }
         ensures limits { IfOk result (λ fields. limits_of fields ≡ limits) }
@@ -172,9 +173,10 @@ impl Fields {
         ensures stands { (ds : List Dataset) (h : HeadValue) (taken : List ℕ) → StandsIn self.old ds h taken → StandsIn self.new ds h (taken ++ octets.now) }
         ensures limits { limits_of self.new ≡ limits_of self.old }
     {
-        if let Phase::Inside(begun) = self.phase {
-            self.give(begun, octets);
-        }
+        let Phase::Inside(begun) = self.phase else {
+            unreachable!()
+        };
+        self.give(begun, octets);
     }
 
     /// The number that the begun dataset tells, or the first fault of its value. A subfile tells none and has no fault.
@@ -244,13 +246,9 @@ impl Fields {
         ensures fault { IfErr result (λ fault. option_or (option_or (head_fault self.now.order.rec (has_seen self.now.order) head)
             (room_fault self.now.limits (vec_len self.now.store.octets) (vec_len self.now.store.entries) head)) (value_fault (data_of head octets.now)) ≡ Some fault) }
     {
-        match self.check(head) {
-            Ok(row) => match check_value(head, &row, octets) {
-                Ok(_) => Ok(row),
-                Err(fault) => Err(fault),
-            },
-            Err(fault) => Err(fault),
-        }
+        let row = self.check(head)?;
+        check_value(head, &row, octets)?;
+        Ok(row)
     }
 
     /// Keeps a whole dataset that was admitted.

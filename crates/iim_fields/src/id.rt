@@ -36,7 +36,7 @@ fn kept<const ROOM: usize>(octets: &[u8]) -> ArrayVec<u8, ROOM>
     ensures { result.items ≡ octets.now }
 {
     let mut kept = ArrayVec::new();
-    let _ = kept.try_extend_from_slice(octets);
+    kept.try_extend_from_slice(octets).unwrap();
     kept
 }
 

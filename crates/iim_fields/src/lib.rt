@@ -1,6 +1,8 @@
 //! The records of an envelope (IIM version 4): each dataset is checked against its row, records 1 and 2 are kept.
 //!
-//! Stands on `iim_tables` and `iim_dataset`, and on `arrayvec` and `jiff` for what the views answer.
+//! Stands on `iim_tables` and `iim_dataset`, and on `arrayvec` and `jiff` for what the views answer. The crate above uses
+//! [`Fields`]: its `begin`, `bytes` and `close` lead from behind some datasets to behind one more, or tell the first fault of
+//! the head or value, with which the record layer is dead or a limit passed.
 #![tactic(auto)]
 
 mod builder;

@@ -5,7 +5,8 @@ ghost use Rattle.iim_fields.specs.Standing.{IsBetween, IsInside};
 
 use crate::{
     DataIter, Envelope, EnvelopeBuilder, EnvelopeId, FieldCause, FieldFault, Fields, Limits,
-    heads_die_with_their_fault, values_die_with_their_fault,
+    envelopes_end_with_the_last_record, heads_die_with_their_fault, no_sections_begin_others,
+    values_die_with_their_fault,
 };
 use iim_dataset::Head;
 use jiff::Timestamp;
@@ -158,6 +159,18 @@ fn limits_are_exact(rt: HostRuntime) -> Result<(), Fail> {
     Ok(())
 }
 
+/// Adds so many of these fields at most, and answers the first fault.
+fn add_some(
+    builder: &mut EnvelopeBuilder,
+    fields: &[(u8, u8, &'static [u8])],
+    count: usize,
+) -> Result<(), FieldFault> {
+    for (rec, set, octets) in fields.iter().take(count) {
+        builder.add(*rec, *set, octets)?;
+    }
+    Ok(())
+}
+
 /// Adds the fields but those of this record and number, and answers the first fault.
 fn add_fields(builder: &mut EnvelopeBuilder, rec: u8, set: u8) -> Result<(), FieldFault> {
     for (field_rec, field_set, octets) in FIELDS {
@@ -182,6 +195,52 @@ fn each_mandatory_dataset_is_missed(rt: HostRuntime) -> Result<(), Fail> {
             Err((_, fault)) => assert_eq!(rt; fault, missing),
         }
     }
+    // 2:00 is missed at the end, where record 2 has begun without it.
+    let mut builder = EnvelopeBuilder::new(rt.alloc(), LIMITS)?;
+    assert_eq!(rt; add_fields(&mut builder, 2, 0), Ok(()));
+    match builder.finish() {
+        Ok(_) => assert!(rt; false),
+        Err((_, missing)) => assert_eq!(rt; missing, fault(2, 0, FieldCause::Missing)),
+    }
+    Ok(())
+}
+
+/// Datasets added behind so many of the fields, and why each is refused, if it is.
+const ADDED: [(usize, u8, u8, &[u8], Option<FieldCause>); 17] = [
+    (0, 2, 0, b"\0\x04", Some(FieldCause::RecordOrder)),
+    (1, 1, 20, b"\0\x01", Some(FieldCause::FileFormat)),
+    (3, 1, 30, b"TSTTSTTSTTS", Some(FieldCause::CountRange)),
+    (3, 1, 30, b"TSTTSTTSTT", None),
+    (5, 1, 70, b"20240229", None),
+    (5, 1, 70, b"20230229", Some(FieldCause::BadValue)),
+    (6, 3, 0, b"\0\x04", Some(FieldCause::RecordOrder)),
+    (7, 1, 50, b"", Some(FieldCause::RecordOrder)),
+    (7, 2, 55, b"20240000", None),
+    (7, 2, 55, b"20240012", None),
+    (7, 2, 55, b"20240300", None),
+    (7, 2, 55, b"20241300", Some(FieldCause::BadValue)),
+    (7, 2, 60, b"235959+0000", None),
+    (7, 2, 60, b"240000+0000", Some(FieldCause::BadValue)),
+    (7, 2, 60, b"000060+0000", Some(FieldCause::BadValue)),
+    (7, 2, 60, b"120000+0060", Some(FieldCause::BadValue)),
+    (16, 2, 105, b"", Some(FieldCause::Repeated)),
+];
+
+#[test]
+fn datasets_are_added_or_refused(rt: HostRuntime) -> Result<(), Fail> {
+    for (before, rec, set, octets, cause) in ADDED {
+        let mut builder = EnvelopeBuilder::new(rt.alloc(), LIMITS)?;
+        assert_eq!(rt; add_some(&mut builder, &FIELDS, before), Ok(()));
+        let want = match cause {
+            Some(cause) => Err(fault(rec, set, cause)),
+            None => Ok(()),
+        };
+        assert_eq!(rt;
+            builder.add(rec, set, octets),
+            want,
+            "{rec}:{set} {octets:?}"
+        );
+    }
     Ok(())
 }
 
@@ -204,7 +263,10 @@ fn a_builder_keeps_to_the_records(rt: HostRuntime) -> Result<(), Fail> {
     }
     // After record 1 alone 2:00 is missing, and the builder is handed back.
     let mut builder = match builder.finish() {
-        Ok(_) => return Ok(()),
+        Ok(_) => {
+            assert!(rt; false);
+            return Ok(());
+        }
         Err((builder, missing)) => {
             assert_eq!(rt; missing, fault(2, 0, FieldCause::Missing));
             builder
@@ -416,7 +478,7 @@ fn ids_in_order(rt: HostRuntime) -> Result<(), Fail> {
 fn same_envelopes(rt: HostRuntime) -> Result<(), Fail> {
     let one = envelope_of(&rt, rt.alloc(), b"TST", b"00000001", b"20240301", &[])?;
     let again = envelope_of(&rt, rt.alloc(), b"TST", b"00000001", b"20240301", &[])?;
-    let other = envelope_of(
+    let longer = envelope_of(
         &rt,
         rt.alloc(),
         b"TST",
@@ -424,10 +486,49 @@ fn same_envelopes(rt: HostRuntime) -> Result<(), Fail> {
         b"20240301",
         &[(50, b"")],
     )?;
-    if let Some(one) = &one {
-        assert!(rt; again.is_some_and(|again| one.same(&again)));
-        assert!(rt; other.is_some_and(|other| !one.same(&other)));
+    let other = envelope_of(&rt, rt.alloc(), b"TST", b"00000002", b"20240301", &[])?;
+    match &one {
+        Some(one) => {
+            assert!(rt; again.is_some_and(|again| one.same(&again)));
+            assert!(rt; longer.is_some_and(|longer| !one.same(&longer)));
+            assert!(rt; other.is_some_and(|other| !one.same(&other)));
+        }
+        None => assert!(rt; false),
     }
+    Ok(())
+}
+
+/// Datasets of each view that the longer worked envelope has nothing for.
+const OTHERS: [(u8, u8, &[u8]); 10] = [
+    (1, 5, b"DESK"),
+    (1, 5, b"WIRE"),
+    (1, 50, b"ECO"),
+    (2, 0, b"\0\x04"),
+    (2, 5, b"rates"),
+    (2, 10, b"4"),
+    (2, 15, b"ECO"),
+    (2, 20, b"banks"),
+    (2, 20, b"loans"),
+    (2, 122, b"C. Hall"),
+];
+
+#[test]
+fn each_other_view(rt: HostRuntime) -> Result<(), Fail> {
+    let mut builder = EnvelopeBuilder::new(rt.alloc(), LIMITS)?;
+    assert_eq!(rt; add_some(&mut builder, &FIELDS, 6), Ok(()));
+    assert_eq!(rt; add_some(&mut builder, &OTHERS, 10), Ok(()));
+    let Some(envelope) = finished(&rt, builder) else {
+        return Ok(());
+    };
+    expect_all(&rt, envelope.destinations(), &[b"DESK", b"WIRE"]);
+    expect_all(&rt, envelope.products(), &[b"ECO"]);
+    expect_all(&rt, envelope.supplementals(), &[b"banks", b"loans"]);
+    expect_all(&rt, envelope.writers(), &[b"C. Hall"]);
+    expect_some(&rt, envelope.object_name(), b"rates");
+    expect_some(&rt, envelope.urgency(), b"4");
+    expect_some(&rt, envelope.category(), b"ECO");
+    expect_some(&rt, envelope.first(1, 5), b"DESK");
+    expect_all(&rt, envelope.all(1, 40), &[b"00000002"]);
     Ok(())
 }
 
@@ -435,4 +536,6 @@ fn same_envelopes(rt: HostRuntime) -> Result<(), Fail> {
 fn laws_are_called() {
     heads_die_with_their_fault();
     values_die_with_their_fault();
+    envelopes_end_with_the_last_record();
+    no_sections_begin_others();
 }

@@ -1,3 +1,5 @@
+//! Dates: full ones, and those whose month or day may be missing.
+
 ghost use Rattle.std.specs.Prelude.{◌≡◌, ◌↔◌, ◌+◌, ◌<◌, pos, length, IsTrue, IsSome, IfSome};
 ghost use Rattle.jiff.specs.Words.{IsYmd};
 ghost use Rattle.iim_tables.specs.Dates.{pair_at, year_in, month_in, day_in, is_year, is_month, is_day, lacks_part, is_part_day, are_eight_digits, is_date, is_part_date};
@@ -6,7 +8,7 @@ use crate::kinds::are_digits;
 use crate::octets::DIGIT_ZERO;
 use jiff::civil::Date;
 
-// The number that the two digits at a place write.
+/// The number that the two digits at a place write.
 pub(crate) fn pair_at(octets: &[u8], at: usize) -> u16
     requires { at + 1 < length octets.now }
     ensures { result ≡ pair_at octets.now at }
@@ -16,7 +18,7 @@ pub(crate) fn pair_at(octets: &[u8], at: usize) -> u16
     10 * u16::from(tens) + u16::from(ones)
 }
 
-// The year of a date, from century and year.
+/// The year of a date, from century and year.
 fn year_in(octets: &[u8]) -> u32
     requires { length octets.now ≡ 8 }
     ensures { result ≡ year_in octets.now }
@@ -36,7 +38,7 @@ fn is_month(month: u16) -> bool
     (1..=12).contains(&month)
 }
 
-// The day, where the calendar has it.
+/// The day, where the calendar has it.
 fn day_of(year: u32, month: u16, day: u16) -> Option<Date>
     ensures exactly { IsSome result ↔ IsTrue (is_day year month day) }
     ensures day { IfSome result (IsYmd (pos year) (pos month) (pos day)) }
@@ -47,7 +49,7 @@ fn day_of(year: u32, month: u16, day: u16) -> Option<Date>
     Date::new(year as i16, month as i8, day as i8).ok()
 }
 
-// Whether the month is missing, and the day is then 00 to 31, or the day is missing.
+/// Whether the month is missing, and the day is then 00 to 31, or the day is missing.
 fn lacks_part(month: u16, day: u16) -> bool
     ensures { result ≡ lacks_part month day }
 {
@@ -82,14 +84,14 @@ pub fn date_of(octets: &[u8]) -> Option<Date>
     day_of(year_in(octets), pair_at(octets, 4), pair_at(octets, 6))
 }
 
-// Whether the octets are a full date.
+/// Whether the octets are a full date.
 pub(crate) fn is_date(octets: &[u8]) -> bool
     ensures { result ≡ is_date octets.now }
 {
     date_of(octets).is_some()
 }
 
-// Whether the octets are a date whose month or day may be missing.
+/// Whether the octets are a date whose month or day may be missing.
 pub(crate) fn is_part_date(octets: &[u8]) -> bool
     ensures { result ≡ is_part_date octets.now }
 {

@@ -1,3 +1,5 @@
+//! Times of day with an offset, and the instants that dates and times name.
+
 ghost use Rattle.std.specs.Prelude.{◌≡◌, ◌↔◌, ◌*◌, ◌<◌, IsTrue, IsSome, IfSome};
 ghost use Rattle.std.specs.Option.{option_map};
 ghost use Rattle.jiff.specs.Words.{IsOffsetSeconds, time_nanos};
@@ -25,7 +27,7 @@ fn is_clock(hour: u16, minute: u16, second: u16) -> bool
     hour < 24 && minute < 60 && second < 60
 }
 
-// Whether the octets are a time of day with its offset.
+/// Whether the octets are a time of day with its offset.
 pub(crate) fn is_time(octets: &[u8]) -> bool
     ensures { result ≡ is_time octets.now }
 {
@@ -34,7 +36,7 @@ pub(crate) fn is_time(octets: &[u8]) -> bool
         && is_clock(pair_at(octets, 7), pair_at(octets, 9), 0)
 }
 
-// The time that the clock shows.
+/// The time that the clock shows.
 fn clock_of(hour: u16, minute: u16, second: u16) -> Time
     requires { IsTrue (is_clock hour minute second) }
     ensures { time_nanos result ≡ clock_seconds hour minute second * 1_000_000_000 }
@@ -42,7 +44,7 @@ fn clock_of(hour: u16, minute: u16, second: u16) -> Time
     time(hour as i8, minute as i8, second as i8, 0)
 }
 
-// How many seconds the clock is ahead of universal time.
+/// How many seconds the clock is ahead of universal time.
 fn offset_seconds(is_behind: bool, hour: u16, minute: u16) -> i32
     requires hour_in { hour < 24 }
     requires minute_in { minute < 60 }
@@ -56,7 +58,7 @@ fn offset_seconds(is_behind: bool, hour: u16, minute: u16) -> i32
     ahead
 }
 
-// How far the clock is ahead of universal time.
+/// How far the clock is ahead of universal time.
 fn offset_of(is_behind: bool, hour: u16, minute: u16) -> Offset
     requires hour_in { hour < 24 }
     requires minute_in { minute < 60 }
@@ -65,7 +67,7 @@ fn offset_of(is_behind: bool, hour: u16, minute: u16) -> Offset
     Offset::from_seconds(offset_seconds(is_behind, hour, minute)).unwrap()
 }
 
-// The instant, by the words of `jiff`.
+/// The instant, by the words of `jiff`.
 fn instant(date: &[u8], time: &[u8]) -> Option<Timestamp>
     ensures exactly { IsSome result ↔ HasInstant date.now time.now }
     ensures instant { IfSome result (λ t. t.nanosecond ≡ instant_nanos date.now time.now) }

@@ -1,3 +1,5 @@
+//! Which octets are of a kind.
+
 ghost use Rattle.std.specs.Prelude.{◌≡◌};
 ghost use Rattle.std.specs.List.{list_all};
 ghost use Rattle.iim_tables.specs.Octets.{is_digit, is_letter, is_graphic, is_spaced, is_spaced_or_line_end};
@@ -52,7 +54,7 @@ fn is_size_from(least: u64, octets: &[u8]) -> bool
     number_of(octets).is_some_and(|number| (least..=GREATEST_SIZE).contains(&number))
 }
 
-// Whether the octets are of the kind.
+/// Whether the octets are of the kind.
 fn has_kind(kind: Kind, octets: &[u8]) -> bool
     ensures { result ≡ has_kind kind octets.now }
 {
@@ -73,7 +75,7 @@ fn has_kind(kind: Kind, octets: &[u8]) -> bool
 }
 
 /// Whether octets are as the row says: as many as its bounds allow, and of its kind. That 1:20 File
-/// Format has the value 2, and how often a dataset occurs, are no matter of its octets alone.
+/// Format has the value 2, and how often a dataset occurs, are no matter of its row.
 pub fn admits(row: &Row, octets: &[u8]) -> bool
     ensures { result ≡ is_admitted row.now octets.now }
 {

@@ -1,3 +1,5 @@
+//! What holds of all dates, times and rows.
+
 ghost use Rattle.std.specs.Prelude.{◌≡◌, ◌==◌, ◌<◌, ℕ, Bool, List, slice_index, Option, Some, IsTrue};
 ghost use Rattle.iim_tables.specs.Octets.{minus, within};
 ghost use Rattle.iim_tables.specs.Dates.{pair_at, year_in, month_in, day_in, are_eight_digits, date_text, ReadsDate};

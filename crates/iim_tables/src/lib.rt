@@ -3,7 +3,8 @@
 //! spell, and the days and instants that dates and times name.
 //!
 //! The crates above ask two questions: `row`, what the table says of a dataset, and `admits`, whether
-//! octets are as a row says. Nothing here takes memory.
+//! octets are as a row says. Nothing here takes memory. It stands on `jiff` for days and instants, and
+//! on `byteorder` for numbers.
 #![tactic(auto)]
 
 mod dates;

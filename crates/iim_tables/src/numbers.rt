@@ -1,3 +1,5 @@
+//! The numbers that octets spell.
+
 ghost use Rattle.std.specs.Prelude.{◌≡◌, ◌↔◌, length, IsSome, IfSome};
 ghost use Rattle.std.specs.Int.{IsInRange};
 ghost use Rattle.iim_tables.specs.Numbers.{number, size_octets};

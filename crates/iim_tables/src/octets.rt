@@ -1,3 +1,5 @@
+//! Octets and the classes that they are of.
+
 ghost use Rattle.std.specs.Prelude.{◌≡◌};
 ghost use Rattle.iim_tables.specs.Octets.{is_graphic, is_spaced, is_spaced_or_line_end};
 
@@ -13,21 +15,21 @@ pub(crate) const MINUS: u8 = b'-';
 
 pub(crate) const DIGIT_ZERO: u8 = b'0';
 
-// Whether the octet is a graphic character: 21 to 7E, or 80 to FF.
+/// Whether the octet is a graphic character: 21 to 7E, or 80 to FF.
 pub(crate) fn is_graphic(octet: u8) -> bool
     ensures { result ≡ is_graphic octet }
 {
     matches!(octet, 0x21..=0x7e | 0x80..=0xff)
 }
 
-// Whether the octet is a graphic character or the space.
+/// Whether the octet is a graphic character or the space.
 pub(crate) fn is_spaced(octet: u8) -> bool
     ensures { result ≡ is_spaced octet }
 {
     is_graphic(octet) || octet == SPACE
 }
 
-// Whether the octet is a graphic character, the space, or one of a line end.
+/// Whether the octet is a graphic character, the space, or one of a line end.
 pub(crate) fn is_spaced_or_line_end(octet: u8) -> bool
     ensures { result ≡ is_spaced_or_line_end octet }
 {

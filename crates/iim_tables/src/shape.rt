@@ -1,4 +1,7 @@
-/// Which octets a dataset may have.
+//! What the table says of a dataset.
+
+/// Which octets a dataset may have (IIM version 4, the chapters on the records; the octets of a part
+/// date with parts missing, and the kinds by name, are the profile's).
 #[derive(Clone, Copy, Debug, PartialEq, Eq)]
 pub enum Kind {
     /// The octets 21 to 7E and 80 to FF: the standard's graphic characters.
@@ -30,7 +33,7 @@ pub enum Kind {
     SizeFromOne,
 }
 
-/// Whether a dataset has to occur in its record.
+/// Whether a dataset has to occur in its record (IIM version 4, the chapters on the records).
 #[derive(Clone, Copy, Debug, PartialEq, Eq)]
 pub enum Duty {
     /// It has to occur.

@@ -1,17 +1,19 @@
+//! The table.
+
 ghost use Rattle.std.specs.Prelude.{◌≡◌};
 ghost use Rattle.iim_tables.specs.Rows.{row_in, row_of, row_of_others};
 
 use crate::numbers::{GREATEST_SIZE, SIZE_OCTETS};
 use crate::shape::{Duty, Kind, Row};
 
-// A line of the table: a dataset and its row.
+/// A line of the table: a dataset and its row.
 struct Entry {
     rec: u8,
     set: u8,
     row: Row,
 }
 
-// Each line as an entry: dataset, octets, kind, duty, whether it repeats.
+/// Each line as an entry: dataset, octets, kind, duty, whether it repeats.
 macro_rules! entries {
     ($($rec:literal:$set:literal $min:literal..=$max:tt $kind:ident $duty:ident $repeats:literal)*) => {
         [$(Entry {
@@ -28,7 +30,7 @@ macro_rules! entries {
     };
 }
 
-// The datasets of the records 1, 2, 7, 8 and 9, in the order and by the names of the standard.
+/// The datasets of the records 1, 2, 7, 8 and 9, in the order and by the names of the standard.
 const TABLE: &[Entry] = &entries! {
     // dataset  octets           kind         duty       repeats
 
@@ -85,7 +87,7 @@ const TABLE: &[Entry] = &entries! {
     9:10    1 ..= SIZE_OCTETS    Size         Mandatory  false  // Confirmed ObjectData Size
 };
 
-// What stands for the other numbers of the records 1 and 2: they are kept unread.
+/// What stands for the other numbers of the records 1 and 2: they are kept unread.
 const KEPT: Row = Row {
     min: 0,
     max: 8192,
@@ -94,7 +96,7 @@ const KEPT: Row = Row {
     repeats: true,
 };
 
-// The row of the first entry for that record and number.
+/// The row of the first entry for that record and number.
 fn look_up(entries: &[Entry], rec: u8, set: u8) -> Option<Row>
     ensures { result ≡ row_in entries.now rec set }
 {
@@ -104,7 +106,7 @@ fn look_up(entries: &[Entry], rec: u8, set: u8) -> Option<Row>
         .map(|entry| entry.row)
 }
 
-// The row of a dataset that has no entry.
+/// The row of a dataset that has no entry.
 fn row_of_others(rec: u8) -> Option<Row>
     ensures { result ≡ row_of_others rec }
 {
