@@ -20,7 +20,7 @@ pub use laws::{
     objects_end_where_they_are_whole, subfiles_live_while_they_fit, tokens_are_of_sized_datasets,
     totals_are_confirmed,
 };
-pub use plan::Plan;
+pub use plan::{MAX_SUBFILES, Plan};
 pub use reader::ObjectReader;
 pub use sink::ObjectSink;
 pub use size::{Size, Sizes};
