@@ -13,15 +13,12 @@ ghost use Rattle.iim_object.specs.Reading.{StandsAt, GoesOn, RefusesValue, Refus
 use crate::fault::{ObjectFault, SizeCause};
 use crate::sink::ObjectSink;
 use crate::size::Sizes;
-use crate::state::{State, is_given};
+use crate::state::{KNOWN, State, is_given};
 use crate::step::{take_confirmed, take_end, take_number, take_subfile};
 use std::marker::Model;
 
 /// The post-ObjectData descriptor record, which ends an envelope.
 const POST_OBJECT: u8 = 9;
-
-/// The size mode of an object whose size is known at the start.
-const KNOWN: u64 = 1;
 
 /// A reader of an object: the numbers of record 7, the heads of its subfiles, its octets, its end, and the size that
 /// record 9 confirms. It holds a few numbers, and no octet.
