@@ -30,7 +30,7 @@ pub trait Source {
 }
 
 /// Reads once, past interruptions: the millionth in a row is answered. Answers how many octets stand at the front of
-/// the buffer.
+/// the buffer: none only at the end of the source, or where the buffer is empty. An error moved no octet.
 pub fn take<R: Source>(reader: &mut R, buffer: &mut [u8]) -> Result<usize, IoFault>
     ensures ok { IfOk result (Took (R.state reader.old) (R.state reader.new) buffer.new) }
     ensures err { IfErr result (Missed (R.state reader.old) (R.state reader.new)) }
