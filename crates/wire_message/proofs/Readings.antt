@@ -106,6 +106,8 @@ text_refuses text_cause.Sink octets text h reader b i t l c =
     let more : Spells (octets ++ (b ∷ [])) (text ++ (b ∷ [])) (Text h (Some 0)) = text_more octets text (b ∷ []) h reader (Some 0) (one_is is_text_octet b t) l in (
       message_lives (octets ++ (b ∷ [])) (text ++ (b ∷ [])) (Text h (Some 0)) (i, refl) more,
       subst (IsAlive StoryLanguage) (sym (tokens_are (octets ++ (b ∷ [])) (text ++ (b ∷ [])) h (Some 0) i more)) c.0,
+      text_is (octets ++ (b ∷ [])) (text ++ (b ∷ [])) h (Some 0) i more ∙ ap (λ (u : List ℕ). u ++ (b ∷ [])) (sym (text_is octets text h reader i l)),
+      c.1,
     )
 
 -- ---- ETX
