@@ -111,7 +111,7 @@ abbrev pub DiesWith : Place → ℕ → Type 0
 DiesWith place octet = (octets text : List ℕ) → Spells octets text place → MessageDiesAt octets (Octet octet)
 
 -- After some of the octets, one at least, there is this place.
-pub record Went (old : Place) (rest : List ℕ) (new : Place) (used : ℕ) : Type 0 where
+pub record TakesSome (old : Place) (rest : List ℕ) (new : Place) (used : ℕ) : Type 0 where
   pub some : 0 < used
   pub within : used ≤ length rest
   pub is_place : IsPlace new

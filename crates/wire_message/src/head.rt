@@ -7,7 +7,8 @@ use crate::field::{is_field, kept, take_run};
 use arrayvec::ArrayVec;
 use std::marker::Model;
 
-/// The header of a message: its parts have their lengths and octets. It holds 95 octets of them at most, and takes no memory.
+/// The header of a message: each part has a length and octets that the format allows. It holds 95 octets of them at most,
+/// and takes no memory.
 ///
 /// Contracts see it as the six parts.
 #[derive(Debug, Drop)]

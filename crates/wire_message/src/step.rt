@@ -3,10 +3,10 @@
 ghost use Rattle.std.specs.Prelude.{◌≡◌, ◌<◌, ◌&&◌, ◌==◌, nat_lt, IfSome, IfNone, length, slice_index};
 ghost use Rattle.wire_message.specs.Fields.{is_digit, is_filler_octet};
 ghost use Rattle.wire_message.specs.SoFar.{IsPlace};
-ghost use Rattle.wire_message.specs.Reading.{DiesWith, Went};
+ghost use Rattle.wire_message.specs.Reading.{DiesWith, TakesSome};
 
 use crate::class::{Class, is_in};
-use crate::field::{one, take_run};
+use crate::field::{part_of_one, take_run};
 use crate::head::MessageHead;
 use crate::octets::{LF, SOH, SP};
 use crate::place::Place;
@@ -27,7 +27,7 @@ pub(crate) fn fills(count: u8, octet: u8) -> bool
 pub(crate) fn in_filler(count: u8, rest: &[u8]) -> Option<(Place, usize)>
     requires place { IsPlace (Place.Filler count) }
     requires some { 0 < length rest.now }
-    ensures went { IfSome result (λ front. Went (Place.Filler count) rest.now front.0 front.1) }
+    ensures takes { IfSome result (λ front. TakesSome (Place.Filler count) rest.now front.0 front.1) }
     ensures dies { IfNone result (DiesWith (Place.Filler count) (slice_index rest.now 0)) }
 {
     let octet = rest[0];
@@ -52,7 +52,7 @@ fn begins_number<const ROOM: usize>(before: &ArrayVec<u8, ROOM>, octet: u8) -> b
 pub(crate) fn in_source(mut source: ArrayVec<u8, 8>, rest: &[u8]) -> Option<(Place, usize)>
     requires place { IsPlace (Place.Source source) }
     requires some { 0 < length rest.now }
-    ensures went { IfSome result (λ front. Went (Place.Source source) rest.now front.0 front.1) }
+    ensures takes { IfSome result (λ front. TakesSome (Place.Source source) rest.now front.0 front.1) }
     ensures dies { IfNone result (DiesWith (Place.Source source) (slice_index rest.now 0)) }
 {
     let run = take_run(&mut source, Class::Letter, rest);
@@ -61,7 +61,7 @@ pub(crate) fn in_source(mut source: ArrayVec<u8, 8>, rest: &[u8]) -> Option<(Pla
     }
     let octet = rest[0];
     if begins_number(&source, octet) {
-        return Some((Place::Number(source, one(octet)), 1));
+        return Some((Place::Number(source, part_of_one(octet)), 1));
     }
     None
 }
@@ -90,7 +90,7 @@ pub(crate) fn in_number(
 ) -> Option<(Place, usize)>
     requires place { IsPlace (Place.Number source number) }
     requires some { 0 < length rest.now }
-    ensures went { IfSome result (λ front. Went (Place.Number source number) rest.now front.0 front.1) }
+    ensures takes { IfSome result (λ front. TakesSome (Place.Number source number) rest.now front.0 front.1) }
     ensures dies { IfNone result (DiesWith (Place.Number source number) (slice_index rest.now 0)) }
 {
     let run = take_run(&mut number, Class::Digit, rest);
@@ -111,12 +111,12 @@ pub(crate) fn in_priority(
 ) -> Option<(Place, usize)>
     requires place { IsPlace (Place.Priority source number) }
     requires some { 0 < length rest.now }
-    ensures went { IfSome result (λ front. Went (Place.Priority source number) rest.now front.0 front.1) }
+    ensures takes { IfSome result (λ front. TakesSome (Place.Priority source number) rest.now front.0 front.1) }
     ensures dies { IfNone result (DiesWith (Place.Priority source number) (slice_index rest.now 0)) }
 {
     let octet = rest[0];
     if is_in(Class::Digit, octet) {
-        return Some((Place::PriorityRead(source, number, one(octet)), 1));
+        return Some((Place::PriorityRead(source, number, part_of_one(octet)), 1));
     }
     None
 }
@@ -130,8 +130,8 @@ pub(crate) fn after_priority(
 ) -> Option<(Place, usize)>
     requires place { IsPlace (Place.PriorityRead source number priority) }
     requires some { 0 < length rest.now }
-    ensures went { IfSome result (λ front.
-        Went (Place.PriorityRead source number priority) rest.now front.0 front.1) }
+    ensures takes { IfSome result (λ front.
+        TakesSome (Place.PriorityRead source number priority) rest.now front.0 front.1) }
     ensures dies { IfNone result (
         DiesWith (Place.PriorityRead source number priority) (slice_index rest.now 0)) }
 {
@@ -154,8 +154,8 @@ pub(crate) fn in_category(
 ) -> Option<(Place, usize)>
     requires place { IsPlace (Place.Category source number priority category) }
     requires some { 0 < length rest.now }
-    ensures went { IfSome result (λ front.
-        Went (Place.Category source number priority category) rest.now front.0 front.1) }
+    ensures takes { IfSome result (λ front.
+        TakesSome (Place.Category source number priority category) rest.now front.0 front.1) }
     ensures dies { IfNone result (
         DiesWith (Place.Category source number priority category) (slice_index rest.now 0)) }
 {
@@ -181,8 +181,8 @@ pub(crate) fn in_words(
 ) -> Option<(Place, usize)>
     requires place { IsPlace (Place.Words source number priority category words) }
     requires some { 0 < length rest.now }
-    ensures went { IfSome result (λ front.
-        Went (Place.Words source number priority category words) rest.now front.0 front.1) }
+    ensures takes { IfSome result (λ front.
+        TakesSome (Place.Words source number priority category words) rest.now front.0 front.1) }
     ensures dies { IfNone result (
         DiesWith (Place.Words source number priority category words) (slice_index rest.now 0)) }
 {

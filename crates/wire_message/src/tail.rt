@@ -3,7 +3,7 @@
 ghost use Rattle.std.specs.Prelude.{◌≡◌, ◌<◌, ◌+◌, ◌&&◌, ◌||◌, ◌==◌, nat_lt, IfSome, IfNone, length, slice_index};
 ghost use Rattle.wire_message.specs.Fields.{is_filler_octet};
 ghost use Rattle.wire_message.specs.SoFar.{IsPlace};
-ghost use Rattle.wire_message.specs.Reading.{DiesWith, Went};
+ghost use Rattle.wire_message.specs.Reading.{DiesWith, TakesSome};
 
 use crate::class::{Class, is_in};
 use crate::field::take_run;
@@ -18,7 +18,7 @@ use wire_story::TextReader;
 pub(crate) fn in_info(mut head: MessageHead, rest: &[u8]) -> Option<(Place, usize)>
     requires place { IsPlace (Place.Info head) }
     requires some { 0 < length rest.now }
-    ensures went { IfSome result (λ front. Went (Place.Info head) rest.now front.0 front.1) }
+    ensures takes { IfSome result (λ front. TakesSome (Place.Info head) rest.now front.0 front.1) }
     ensures dies { IfNone result (DiesWith (Place.Info head) (slice_index rest.now 0)) }
 {
     let run = head.take_info(rest);
@@ -42,7 +42,7 @@ fn gap_goes_on(count: u8, feed: bool, octet: u8) -> bool
 
 /// Whether an LF has come, with this octet.
 #[inline(always)]
-fn has_fed(feed: bool, octet: u8) -> bool
+fn has_line_feed(feed: bool, octet: u8) -> bool
     ensures { result ≡ (feed || octet == 10) }
 {
     feed || octet == LF
@@ -65,12 +65,12 @@ pub(crate) fn in_gap(
 ) -> Option<(Place, usize)>
     requires place { IsPlace (Place.Gap head count feed) }
     requires some { 0 < length rest.now }
-    ensures went { IfSome result (λ front. Went (Place.Gap head count feed) rest.now front.0 front.1) }
+    ensures takes { IfSome result (λ front. TakesSome (Place.Gap head count feed) rest.now front.0 front.1) }
     ensures dies { IfNone result (DiesWith (Place.Gap head count feed) (slice_index rest.now 0)) }
 {
     let octet = rest[0];
     if gap_goes_on(count, feed, octet) {
-        return Some((Place::Gap(head, count + 1, has_fed(feed, octet)), 1));
+        return Some((Place::Gap(head, count + 1, has_line_feed(feed, octet)), 1));
     }
     if ends_gap(feed, octet) {
         return Some((Place::Text(head, TextReader::new()), 1));
@@ -86,7 +86,7 @@ pub(crate) fn in_trailer(
 ) -> Option<(Place, usize)>
     requires place { IsPlace (Place.Trailer head trailer) }
     requires some { 0 < length rest.now }
-    ensures went { IfSome result (λ front. Went (Place.Trailer head trailer) rest.now front.0 front.1) }
+    ensures takes { IfSome result (λ front. TakesSome (Place.Trailer head trailer) rest.now front.0 front.1) }
     ensures dies { IfNone result (DiesWith (Place.Trailer head trailer) (slice_index rest.now 0)) }
 {
     let run = take_run(&mut trailer, Class::Trailer, rest);
@@ -108,7 +108,7 @@ pub(crate) fn after_end(
 ) -> Option<(Place, usize)>
     requires place { IsPlace (Place.AfterEnd head trailer count) }
     requires some { 0 < length rest.now }
-    ensures went { IfSome result (λ front. Went (Place.AfterEnd head trailer count) rest.now front.0 front.1) }
+    ensures takes { IfSome result (λ front. TakesSome (Place.AfterEnd head trailer count) rest.now front.0 front.1) }
     ensures dies { IfNone result (DiesWith (Place.AfterEnd head trailer count) (slice_index rest.now 0)) }
 {
     if fills(count, rest[0]) {
