@@ -11,6 +11,7 @@ mod fault;
 mod field;
 mod head;
 mod laws;
+mod lengths;
 mod octets;
 mod piece;
 mod place;

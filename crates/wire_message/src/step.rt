@@ -8,12 +8,10 @@ ghost use Rattle.wire_message.specs.Reading.{DiesWith, TakesSome};
 use crate::class::{Class, is_in};
 use crate::field::{part_of_one, take_run};
 use crate::head::MessageHead;
+use crate::lengths::{MAX_CATEGORY, MAX_FILLER, MAX_NUMBER, MAX_PRIORITY, MAX_SOURCE, MAX_WORDS};
 use crate::octets::{LF, SOH, SP};
 use crate::place::Place;
 use arrayvec::ArrayVec;
-
-/// So many octets of filler may stand before SOH, in the gap, and after EOT.
-pub(crate) const MAX_FILLER: u8 = 32;
 
 /// Whether an octet lengthens so much filler.
 #[inline(always)]
@@ -49,7 +47,7 @@ fn begins_number<const ROOM: usize>(before: &ArrayVec<u8, ROOM>, octet: u8) -> b
 }
 
 /// Takes letters of the source, or the first digit of the number.
-pub(crate) fn in_source(mut source: ArrayVec<u8, 8>, rest: &[u8]) -> Option<(Place, usize)>
+pub(crate) fn in_source(mut source: ArrayVec<u8, MAX_SOURCE>, rest: &[u8]) -> Option<(Place, usize)>
     requires place { IsPlace (Place.Source source) }
     requires some { 0 < length rest.now }
     ensures takes { IfSome result (λ front. TakesSome (Place.Source source) rest.now front.0 front.1) }
@@ -84,8 +82,8 @@ fn begins_gap<const ROOM: usize>(part: &ArrayVec<u8, ROOM>, octet: u8) -> bool
 
 /// Takes digits of the number, or the SP after it.
 pub(crate) fn in_number(
-    source: ArrayVec<u8, 8>,
-    mut number: ArrayVec<u8, 8>,
+    source: ArrayVec<u8, MAX_SOURCE>,
+    mut number: ArrayVec<u8, MAX_NUMBER>,
     rest: &[u8],
 ) -> Option<(Place, usize)>
     requires place { IsPlace (Place.Number source number) }
@@ -105,8 +103,8 @@ pub(crate) fn in_number(
 
 /// Takes the priority.
 pub(crate) fn in_priority(
-    source: ArrayVec<u8, 8>,
-    number: ArrayVec<u8, 8>,
+    source: ArrayVec<u8, MAX_SOURCE>,
+    number: ArrayVec<u8, MAX_NUMBER>,
     rest: &[u8],
 ) -> Option<(Place, usize)>
     requires place { IsPlace (Place.Priority source number) }
@@ -123,9 +121,9 @@ pub(crate) fn in_priority(
 
 /// Takes the SP after the priority.
 pub(crate) fn after_priority(
-    source: ArrayVec<u8, 8>,
-    number: ArrayVec<u8, 8>,
-    priority: ArrayVec<u8, 1>,
+    source: ArrayVec<u8, MAX_SOURCE>,
+    number: ArrayVec<u8, MAX_NUMBER>,
+    priority: ArrayVec<u8, MAX_PRIORITY>,
     rest: &[u8],
 ) -> Option<(Place, usize)>
     requires place { IsPlace (Place.PriorityRead source number priority) }
@@ -146,10 +144,10 @@ pub(crate) fn after_priority(
 
 /// Takes octets of the category, or the SP after it.
 pub(crate) fn in_category(
-    source: ArrayVec<u8, 8>,
-    number: ArrayVec<u8, 8>,
-    priority: ArrayVec<u8, 1>,
-    mut category: ArrayVec<u8, 8>,
+    source: ArrayVec<u8, MAX_SOURCE>,
+    number: ArrayVec<u8, MAX_NUMBER>,
+    priority: ArrayVec<u8, MAX_PRIORITY>,
+    mut category: ArrayVec<u8, MAX_CATEGORY>,
     rest: &[u8],
 ) -> Option<(Place, usize)>
     requires place { IsPlace (Place.Category source number priority category) }
@@ -172,11 +170,11 @@ pub(crate) fn in_category(
 
 /// Takes digits of the words, or the SP before an info, or the first octet of the gap.
 pub(crate) fn in_words(
-    source: ArrayVec<u8, 8>,
-    number: ArrayVec<u8, 8>,
-    priority: ArrayVec<u8, 1>,
-    category: ArrayVec<u8, 8>,
-    mut words: ArrayVec<u8, 6>,
+    source: ArrayVec<u8, MAX_SOURCE>,
+    number: ArrayVec<u8, MAX_NUMBER>,
+    priority: ArrayVec<u8, MAX_PRIORITY>,
+    category: ArrayVec<u8, MAX_CATEGORY>,
+    mut words: ArrayVec<u8, MAX_WORDS>,
     rest: &[u8],
 ) -> Option<(Place, usize)>
     requires place { IsPlace (Place.Words source number priority category words) }

@@ -8,9 +8,10 @@ ghost use Rattle.wire_message.specs.Reading.{DiesWith, TakesSome};
 use crate::class::{Class, is_in};
 use crate::field::take_run;
 use crate::head::MessageHead;
+use crate::lengths::{MAX_FILLER, MAX_TRAILER};
 use crate::octets::{EOT, LF, STX};
 use crate::place::Place;
-use crate::step::{MAX_FILLER, fills};
+use crate::step::fills;
 use arrayvec::ArrayVec;
 use wire_story::TextReader;
 
@@ -81,7 +82,7 @@ pub(crate) fn in_gap(
 /// Takes octets of the trailer, or EOT.
 pub(crate) fn in_trailer(
     head: MessageHead,
-    mut trailer: ArrayVec<u8, 64>,
+    mut trailer: ArrayVec<u8, MAX_TRAILER>,
     rest: &[u8],
 ) -> Option<(Place, usize)>
     requires place { IsPlace (Place.Trailer head trailer) }
@@ -102,7 +103,7 @@ pub(crate) fn in_trailer(
 /// Takes an octet of filler at the end.
 pub(crate) fn after_end(
     head: MessageHead,
-    trailer: ArrayVec<u8, 64>,
+    trailer: ArrayVec<u8, MAX_TRAILER>,
     count: u8,
     rest: &[u8],
 ) -> Option<(Place, usize)>

@@ -97,6 +97,7 @@ fn expect_bad(rt: &impl Abort, front: &[u8], octet: u8, times: usize, back: &[u8
 #[test]
 fn texts_and_their_faults(rt: HostRuntime) {
     expect(&rt, SMALL, 0, 0, EMPTY, None);
+    expect(&rt, RATES, 0, 0, EMPTY, None);
     expect_lines(&rt, RATES, 100, b"Rates stay.\nNo change.", None);
     expect_text(&rt, b"a\nb\r\nc\r\r\nd\x03\x04", b"a\nb\nc\nd", None);
     expect_text(&rt, b"a\r\r\r", b"a", Some((15, MessageCause::LoneReturn)));
