@@ -6,9 +6,8 @@ use Rattle.byteorder.specs.Endian.{big_number}
 use Rattle.byteorder.specs.Numbers.{big_from-take}
 use Rattle.std.proofs.lemmas.Bool.{cases_lt}
 use Rattle.iim_dataset.specs.Octets.{Octets, number}
-use Rattle.iim_dataset.specs.Datasets.{SpellsCount, SpellsTag, count_octets}
+use Rattle.iim_dataset.specs.Datasets.{SpellsCount, count_octets}
 use Rattle.iim_dataset.specs.Tags.{BeginsTag, BeginsNoTag, HasTag}
-use Rattle.iim_dataset.specs.declared.head.Head.{Head}
 
 -- each is an octet
 abbrev pub Fit : List ℕ → Type 0

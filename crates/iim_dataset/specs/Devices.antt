@@ -1,5 +1,5 @@
 -- Sources and targets of octets, as contracts see them.
-use Rattle.std.specs.Prelude.{◌≡◌, ℕ, ◌+◌, ◌^◌, ◌<◌, ◌≤◌, ◌⊎◌, List, length, take, Option}
+use Rattle.std.specs.Prelude.{◌≡◌, ℕ, ◌+◌, ◌*◌, ◌^◌, ◌<◌, ◌≤◌, ◌⊎◌, List, length, take, Option}
 use Rattle.std.specs.Io.KnownBytes.{Appends, Consumes, Keeps, IsAtEnd}
 use Rattle.iim_dataset.specs.declared.device.IoFault.{IoFault}
 use Rattle.iim_dataset.specs.declared.device.IoFault.TheVariants.{Interrupted, Failed}
@@ -80,6 +80,10 @@ Accepted old new piece n = (n ≤ length piece) × Appends old.octets new.octets
 -- k interruptions in a row, or more, and nothing else
 abbrev pub Interrupts : ℕ → Device → Device → Type 0
 Interrupts k old new = Keeps old.octets new.octets × Unfailed old new × RoseAtLeast k old.interruptions new.interruptions
+
+-- The limit on reads or writes answered "interrupted" in a row: each of so many calls met a million interruptions at most.
+abbrev pub WithinInterruptionLimit : ℕ → Device → Device → Type 0
+WithinInterruptionLimit calls old new = new.interruptions ≤ old.interruptions + calls * max_interruptions
 
 -- Past interruptions a read gave n octets, and none failed.
 abbrev pub Took : Device → Device → List ℕ → ℕ → Type 0

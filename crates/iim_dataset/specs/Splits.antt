@@ -1,7 +1,7 @@
 -- What the octets so far split into.
-use Rattle.std.specs.Prelude.{◌≡◌, ℕ, ◌<◌, List, [], ◌∷◌, ◌++◌, length, map}
+use Rattle.std.specs.Prelude.{◌≡◌, ℕ, ◌<◌, List, ◌++◌, length}
 use Rattle.iim_dataset.specs.Octets.{Octets, IsProperPrefix}
-use Rattle.iim_dataset.specs.Datasets.{Dataset, SpellsTag, SpellsDataset, SpellsStream, head_of, count_octets}
+use Rattle.iim_dataset.specs.Datasets.{Dataset, SpellsTag, SpellsDataset, SpellsStream, count_octets}
 use Rattle.iim_dataset.specs.declared.head.Head.{Head}
 
 -- less than the whole spelling of one dataset
@@ -35,8 +35,3 @@ pub record Reads (xs : List ℕ) (whole : List Dataset) (begun : Begun) : Type 0
   pub is_front : SpellsStream count_octets whole front
   pub is_rest : IsBegun count_octets begun rest
   pub parts : xs ≡ front ++ rest
-
--- the heads that are complete
-abbrev pub heads : List Dataset → Begun → List Head
-heads whole (InTag held) = map head_of whole
-heads whole (InData h taken) = map head_of whole ++ h ∷ []

@@ -1,10 +1,11 @@
 -- The laws of the test reader, handed in by its impl.
-use Rattle.std.proofs.Common.{ℕ, refl, ◌∙◌, arith}
+use Rattle.std.proofs.Common.{ℕ, None, refl, ◌<◌, ◌∙◌, arith}
 use Rattle.iim_dataset.specs.declared.trial.Plan.{Plan}
 use Rattle.iim_dataset.specs.declared.trial.Trouble.{Trouble}
 use Rattle.iim_dataset.specs.declared.trial.Trouble.TheVariants.{Failure, Interruptions}
 use Rattle.iim_dataset.specs.declared.trial.TrialReader.{TrialReader}
-use Rattle.iim_dataset.specs.Trials.{SameTrouble, KeepsFailures, GoesByPlan, ReadsOn, trial_device}
+use Rattle.iim_dataset.specs.Devices.{Calm}
+use Rattle.iim_dataset.specs.Trials.{planned, SameTrouble, KeepsFailures, GoesByPlan, ReadsOn, trial_device}
 use Rattle.iim_dataset.specs.Later.{later_stays, later_goes_on}
 
 same_stays : (t : Trouble) → SameTrouble t t
@@ -29,10 +30,24 @@ keeps_goes_on (Interruptions i) Failure a b c s h k = absurd s
 keeps_goes_on (Interruptions i) (Interruptions j) a b c s h k = k ∙ h
 
 pub plan_stays : (p : Plan) → GoesByPlan p p
-plan_stays p = record { trouble = same_stays p.trouble; failures = keeps_stays p.trouble p.failures; interruptions = omega arith; later = omega arith }
+plan_stays p = record {
+  good = omega arith;
+  calm = λ some. (refl, refl);
+  trouble = same_stays p.trouble;
+  failures = keeps_stays p.trouble p.failures;
+  interruptions = omega arith;
+  later = omega arith;
+}
+
+calm_goes_on : (p q r : Plan) → GoesByPlan p q → GoesByPlan q r → 0 < r.good → Calm (planned None p) (planned None r)
+calm_goes_on p q r h k some =
+    let first = h.calm (omega (arith, k.good, some)) in
+    let second = k.calm some in (second.0 ∙ first.0, second.1 ∙ first.1)
 
 pub plan_goes_on : (p q r : Plan) → GoesByPlan p q → GoesByPlan q r → GoesByPlan p r
 plan_goes_on p q r h k = record {
+  good = omega (arith, h.good, k.good);
+  calm = calm_goes_on p q r h k;
   trouble = same_goes_on p.trouble q.trouble r.trouble h.trouble k.trouble;
   failures = keeps_goes_on p.trouble q.trouble p.failures q.failures r.failures h.trouble h.failures k.failures;
   interruptions = omega (arith, h.interruptions, k.interruptions);

@@ -47,7 +47,8 @@ const TAG_LENGTH: usize = 5;
 /// The greatest count that has the standard form.
 const MAX_STANDARD: u64 = 32_767;
 
-/// Reads the tag at the front: its head and its length in octets. `None` where the octets end inside the tag.
+/// Reads the tag at the front: its head and its length in octets. `None` where the octets end inside the tag. An error
+/// tells the first octet with which no tag goes on.
 ///
 /// A count of two octets has its top bit clear. An extended count is 80 hex, how many octets follow (1 to 4), and the
 /// count in these, high octet first; leading zeros are accepted, and so is an extended count of few octets.
@@ -81,7 +82,8 @@ fn fault(cause: HeadCause, at: usize) -> HeadFault
     HeadFault { cause, at }
 }
 
-/// The canonical tag of a head: a standard count up to 32,767, above that an extended count of four octets.
+/// The canonical tag of a head: a standard count up to 32,767, above that an extended count of four octets. The count is
+/// at most 4,294,967,295 octets, the greatest size of an object.
 pub fn head_bytes(head: Head) -> ArrayVec<u8, 9>
     requires { head.count < 256 ^ count_octets }
     ensures canonical { result.items ≡ canonical_tag head }

@@ -1,7 +1,7 @@
 //! Where octets come from.
 
 ghost use Rattle.std.specs.Prelude.{◌≡◌, ◌<◌, ℕ, length, IfOk, IfErr, OnOk};
-ghost use Rattle.iim_dataset.specs.Devices.{Device, Gave, Calm, Faulted, Took, Missed, LaterThan, unbroken, reader_device};
+ghost use Rattle.iim_dataset.specs.Devices.{Device, Gave, Calm, Faulted, Took, Missed, WithinInterruptionLimit, LaterThan, unbroken, reader_device};
 
 use crate::device::{IoFault, MAX_INTERRUPTIONS};
 use std::io::{ErrorKind, Read};
@@ -30,10 +30,11 @@ pub trait Source {
 }
 
 /// Reads once, past interruptions: the millionth in a row is answered. Answers how many octets stand at the front of
-/// the buffer.
+/// the buffer: none only at the end of the source, or where the buffer is empty. An error moved no octet.
 pub fn take<R: Source>(reader: &mut R, buffer: &mut [u8]) -> Result<usize, IoFault>
     ensures ok { IfOk result (Took (R.state reader.old) (R.state reader.new) buffer.new) }
     ensures err { IfErr result (Missed (R.state reader.old) (R.state reader.new)) }
+    ensures patience { WithinInterruptionLimit 1 (R.state reader.old) (R.state reader.new) }
     ensures leads { R.leads reader.old reader.new }
 {
     for _ in 0..MAX_INTERRUPTIONS {

@@ -1,7 +1,7 @@
 //! Where octets go.
 
 ghost use Rattle.std.specs.Prelude.{◌≡◌, ◌<◌, ℕ, length, IfOk, IfErr, OnOk, OnErr};
-ghost use Rattle.iim_dataset.specs.Devices.{Device, Accepted, Faulted, Wrote, Stopped, Sent, unbroken, writer_device};
+ghost use Rattle.iim_dataset.specs.Devices.{Device, Accepted, Faulted, Wrote, Stopped, Sent, WithinInterruptionLimit, unbroken, writer_device};
 
 use crate::device::{IoFault, MAX_INTERRUPTIONS};
 use std::io::{ErrorKind, Write};
@@ -22,6 +22,7 @@ fn send<W: Target>(writer: &mut W, piece: &[u8]) -> Result<usize, IoFault>
     requires { 0 < length piece.now }
     ensures ok { IfOk result (Sent (W.state writer.old) (W.state writer.new) piece.now) }
     ensures err { OnErr result (Stopped (W.state writer.old) (W.state writer.new) piece.now 0) }
+    ensures patience { WithinInterruptionLimit 1 (W.state writer.old) (W.state writer.new) }
 {
     for _ in 0..MAX_INTERRUPTIONS {
         match writer.write(piece) {
@@ -37,6 +38,7 @@ fn send<W: Target>(writer: &mut W, piece: &[u8]) -> Result<usize, IoFault>
 pub fn put<W: Target>(writer: &mut W, piece: &[u8]) -> Result<(), usize>
     ensures ok { OnOk result (Wrote (W.state writer.old) (W.state writer.new) piece.now) }
     ensures err { IfErr result (Stopped (W.state writer.old) (W.state writer.new) piece.now) }
+    ensures patience { WithinInterruptionLimit (length piece.now) (W.state writer.old) (W.state writer.new) }
 {
     let mut at = 0;
     while at < piece.len() {

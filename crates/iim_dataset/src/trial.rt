@@ -1,8 +1,8 @@
 //! A reader and a writer that fail at a chosen call, for tests.
 
-ghost use Rattle.std.specs.Prelude.{◌≡◌, [], Some, None, drop, IfErr, OnOk};
-ghost use Rattle.iim_dataset.specs.Devices.{Calm, Faulted, CountedFailure, unbroken};
-ghost use Rattle.iim_dataset.specs.Trials.{planned, new_plan, trial_device, reader_plan, writer_plan, taken_octets, GoesByPlan, ReadsOn};
+ghost use Rattle.std.specs.Prelude.{◌≡◌, ◌≤◌, [], Some, None, drop, IfOk, IfErr, OnOk};
+ghost use Rattle.iim_dataset.specs.Devices.{Gave, Accepted, Calm, Faulted, CountedFailure, unbroken};
+ghost use Rattle.iim_dataset.specs.Trials.{planned, new_plan, trial_device, reader_plan, writer_plan, taken_octets, trial_target, TakesOne, WentWell, MetTrouble, GoesByPlan, ReadsOn};
 
 use crate::device::IoFault;
 use crate::source::Source;
@@ -43,6 +43,8 @@ impl Plan {
     fn call(&mut self) -> Result<(), IoFault>
         ensures ok { OnOk result (Calm (planned None self.old) (planned None self.new)) }
         ensures err { IfErr result (Faulted (planned None self.old) (planned None self.new)) }
+        ensures well { OnOk result (WentWell self.old self.new) }
+        ensures trouble { IfErr result (MetTrouble self.old self.new) }
         ensures plan { GoesByPlan self.old self.new }
     {
         if self.good > 0 {
@@ -65,6 +67,7 @@ impl Plan {
 
     fn fail(&mut self)
         ensures counted { CountedFailure (planned None self.old) (planned None self.new) }
+        ensures good { self.new.good ≡ self.old.good }
         ensures trouble { self.new.trouble ≡ self.old.trouble }
     {
         self.failures = self.failures.saturating_add(1);
@@ -104,7 +107,15 @@ impl Source for TrialReader<'_> {
 
     ghost goes_on = { reads_on_goes_on };
 
-    fn read(&mut self, buffer: &mut [u8]) -> Result<usize, IoFault> {
+    fn read(&mut self, buffer: &mut [u8]) -> Result<usize, IoFault>
+        ensures ok { IfOk result (Gave (trial_device self.old) (trial_device self.new) buffer.new) }
+        ensures calm { OnOk result (Calm (trial_device self.old) (trial_device self.new)) }
+        ensures err { IfErr result (Faulted (trial_device self.old) (trial_device self.new)) }
+        ensures leads { ReadsOn self.old self.new }
+        ensures one { IfOk result (λ n. n ≤ 1) }
+        ensures well { OnOk result (WentWell (reader_plan self.old) (reader_plan self.new)) }
+        ensures trouble { IfErr result (MetTrouble (reader_plan self.old) (reader_plan self.new)) }
+    {
         self.plan.call()?;
         if self.at >= self.octets.len() || buffer.is_empty() {
             return Ok(0);
@@ -115,7 +126,7 @@ impl Source for TrialReader<'_> {
     }
 }
 
-/// A target that takes one octet a call while it has room for it and then none, with trouble after so many good calls.
+/// A target that takes one octet a call while it has less than `N` and then none, with trouble after so many good calls.
 #[derive(Drop)]
 pub struct TrialWriter<const N: usize> {
     octets: ArrayVec<u8, N>,
@@ -143,9 +154,15 @@ impl<const N: usize> TrialWriter<N> {
 }
 
 impl<const N: usize> Target for TrialWriter<N> {
-    ghost state = { λ s. planned (Some (taken_octets s)) s.plan };
+    ghost state = { trial_target };
 
-    fn write(&mut self, piece: &[u8]) -> Result<usize, IoFault> {
+    fn write(&mut self, piece: &[u8]) -> Result<usize, IoFault>
+        ensures ok { IfOk result (Accepted (trial_target self.old) (trial_target self.new) piece.now) }
+        ensures err { IfErr result (Faulted (trial_target self.old) (trial_target self.new)) }
+        ensures one { IfOk result (TakesOne N (taken_octets self.old) piece.now) }
+        ensures well { OnOk result (WentWell (writer_plan self.old) (writer_plan self.new)) }
+        ensures trouble { IfErr result (MetTrouble (writer_plan self.old) (writer_plan self.new)) }
+    {
         self.plan.call()?;
         if piece.is_empty() {
             return Ok(0);

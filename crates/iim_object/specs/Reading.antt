@@ -54,10 +54,11 @@ RefusesValue old token (Stopped stop) = ⊥
 abbrev pub events_at : ℕ → List Event
 events_at rec = if rec == 9 then ObjectEnd ∷ [] else []
 
--- A head is refused for its cause, and the sink is told nothing; or the sink refused the end of the object.
+-- A head is refused for its cause, and the sink is told nothing; or the sink refused the end of the object, and its stop has
+-- taken nothing.
 abbrev pub RefusesHead : {S : Type 0} → (S → List Event → S → Type 0) → (S → List Event → Event → S → Type 0) → Option State → ObjectToken → S → S → ObjectFault → Type 0
 RefusesHead goes stops old token sink now (Size cause) = Refuses old token cause × goes sink [] now
-RefusesHead goes stops old token sink now (Stopped stop) = (token ≡ ObjectEnded) × LivesWith old token × stops sink [] ObjectEnd now
+RefusesHead goes stops old token sink now (Stopped stop) = (token ≡ ObjectEnded) × (stop.taken ≡ 0) × LivesWith old token × stops sink [] ObjectEnd now
 
 -- The sink refused an octet of the run.
 abbrev pub RefusesRun : {S : Type 0} → (S → List Event → Event → S → Type 0) → List ℕ → S → S → ObjectFault → Type 0

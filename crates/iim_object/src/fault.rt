@@ -24,6 +24,6 @@ pub enum SizeCause {
 pub enum ObjectFault {
     /// The sizes are wrong.
     Size { cause: SizeCause },
-    /// The sink stopped.
+    /// The sink stopped, behind so many octets of the run, or, with none taken, at the end of the object.
     Stopped(Stop),
 }

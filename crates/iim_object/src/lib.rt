@@ -1,6 +1,7 @@
 //! The sizes of an object and its subfiles (records 7 to 9 of the Information Interchange Model, version 4).
 //!
-//! Stands on `iim_tables` and `iim_dataset`.
+//! Stands on `iim_tables` and `iim_dataset`. The crate above uses [`ObjectReader`]: a token leads it on, or the object layer
+//! dies with it and the fault is the first cause.
 #![tactic(auto)]
 
 mod fault;
@@ -20,7 +21,7 @@ pub use laws::{
     objects_end_where_they_are_whole, subfiles_live_while_they_fit, tokens_are_of_sized_datasets,
     totals_are_confirmed,
 };
-pub use plan::Plan;
+pub use plan::{MAX_SUBFILES, Plan};
 pub use reader::ObjectReader;
 pub use sink::ObjectSink;
 pub use size::{Size, Sizes};

@@ -8,7 +8,7 @@ use crate::size::Size;
 use iim_tables::GREATEST_SIZE;
 
 /// The most subfiles of one envelope.
-const MAX_SUBFILES: u64 = 4_294_967_295;
+pub const MAX_SUBFILES: u64 = 4_294_967_295;
 
 /// How an object is cut: full subfiles of so many octets, and what is said of its size.
 #[derive(Clone, Copy, Debug, PartialEq, Eq)]

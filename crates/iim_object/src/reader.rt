@@ -13,15 +13,12 @@ ghost use Rattle.iim_object.specs.Reading.{StandsAt, GoesOn, RefusesValue, Refus
 use crate::fault::{ObjectFault, SizeCause};
 use crate::sink::ObjectSink;
 use crate::size::Sizes;
-use crate::state::{State, is_given};
+use crate::state::{KNOWN, State, is_given};
 use crate::step::{take_confirmed, take_end, take_number, take_subfile};
 use std::marker::Model;
 
 /// The post-ObjectData descriptor record, which ends an envelope.
 const POST_OBJECT: u8 = 9;
-
-/// The size mode of an object whose size is known at the start.
-const KNOWN: u64 = 1;
 
 /// A reader of an object: the numbers of record 7, the heads of its subfiles, its octets, its end, and the size that
 /// record 9 confirms. It holds a few numbers, and no octet.
@@ -61,7 +58,8 @@ impl ObjectReader {
         self.failed
     }
 
-    /// Takes the number of a complete value: of dataset 7:`set`, or of 9:10, the confirmed size.
+    /// Takes the number of a complete value: of dataset 7:`set`, or of 9:10, the confirmed size. The reader has not
+    /// failed; after a refusal it has.
     pub fn value(&mut self, rec: u8, set: u8, number: u64) -> Result<(), ObjectFault>
         requires { IsSome self.old }
         ensures takes_calls { OnOk result (IsSome self.new) }
@@ -85,7 +83,7 @@ impl ObjectReader {
     }
 
     /// Takes a complete head: of a subfile, 8:10, with so many octets; or of 9:10, where the object ends and the sink is
-    /// told so.
+    /// told so. The reader has not failed; after a refusal it has.
     pub fn head<S: ObjectSink>(
         &mut self,
         rec: u8,
@@ -135,6 +133,7 @@ impl ObjectReader {
     }
 
     /// Hands octets of the object on to the sink. They are those behind the heads of subfiles, in any cut.
+    /// The reader has not failed; after a refusal it has.
     pub fn run<S: ObjectSink>(&mut self, run: &[u8], sink: &mut S) -> Result<(), ObjectFault>
         requires { IsSome self.old }
         ensures same { OnOk result (self.new ≡ self.old) }
@@ -151,7 +150,7 @@ impl ObjectReader {
         }
     }
 
-    /// How many octets the subfiles so far count together.
+    /// How many octets the subfiles so far count together. The reader has not failed.
     pub fn total(&self) -> u64
         requires { IsSome self.now }
         ensures { (p : Place) → StandsAt self.now p → result ≡ sum p.lengths }
@@ -159,7 +158,7 @@ impl ObjectReader {
         self.state.total
     }
 
-    /// What records 7 to 9 have said of the object, once its size is confirmed.
+    /// What records 7 to 9 have said of the object, once its size is confirmed. The reader has not failed.
     pub fn sizes(&self) -> Sizes
         requires { IsSome self.now }
         ensures place { (p : Place) (n : ℕ) → StandsAt self.now p → p.ending ≡ ConfirmedAs n → IsSizes p result }

@@ -20,7 +20,7 @@ pub trait ObjectSink {
         ensures stopped { IfErr result (λ stop.
             stops self.old (map ObjectOctet (take stop.taken run.now)) (ObjectOctet (slice_index run.now stop.taken)) self.new) };
 
-    /// Takes the end of the object, or refuses it.
+    /// Takes the end of the object, or refuses it: its stop has taken nothing.
     fn close(&mut self) -> Result<(), Stop>
         ensures ok { OnOk result (goes self.old (ObjectEnd ∷ []) self.new) }
         ensures refused { IfErr result (λ stop. stop.taken ≡ 0) }

@@ -7,6 +7,24 @@ ghost use Rattle.iim_object.specs.Causes.{is_given, is_above, number_cause, boun
 use crate::fault::SizeCause;
 use iim_tables::GREATEST_SIZE;
 
+/// 7:10 Size Mode.
+const SIZE_MODE: u8 = 10;
+
+/// 7:20 Max Subfile Size.
+const MAX_SUBFILE_SIZE: u8 = 20;
+
+/// 7:90 ObjectData Size Announced.
+const ANNOUNCED_SIZE: u8 = 90;
+
+/// 7:95 Maximum ObjectData Size.
+const MAXIMUM_SIZE: u8 = 95;
+
+/// The size mode of an object whose size is not known at the start.
+const UNKNOWN: u64 = 0;
+
+/// The size mode of an object whose size is known at the start.
+pub(crate) const KNOWN: u64 = 1;
+
 /// The numbers of record 7, how many subfiles came, and how many octets they count together.
 #[derive(Clone, Copy, Debug, PartialEq, Eq)]
 pub(crate) struct State {
@@ -67,10 +85,10 @@ impl State {
     {
         let mut new = self;
         match set {
-            10 => new.mode = Some(number),
-            20 => new.subfile = Some(number),
-            90 => new.announced = Some(number),
-            95 => new.maximum = Some(number),
+            SIZE_MODE => new.mode = Some(number),
+            MAX_SUBFILE_SIZE => new.subfile = Some(number),
+            ANNOUNCED_SIZE => new.announced = Some(number),
+            MAXIMUM_SIZE => new.maximum = Some(number),
             _ => {}
         }
         new
@@ -91,7 +109,7 @@ impl State {
     pub fn number_cause(&self) -> Option<SizeCause>
         ensures { result ≡ number_cause self.now.mode self.now.announced self.now.maximum }
     {
-        if is_given(self.mode, 0) && self.announced.is_some() {
+        if is_given(self.mode, UNKNOWN) && self.announced.is_some() {
             return Some(SizeCause::ModeClash);
         }
         if is_above(self.announced, self.maximum) {
@@ -115,7 +133,7 @@ impl State {
     pub fn subfile_cause(&self, count: u64) -> Option<SizeCause>
         ensures { result ≡ subfile_cause self.now.mode self.now.subfile self.now.announced self.now.maximum self.now.total count }
     {
-        if is_given(self.mode, 1) && self.announced.is_none() {
+        if is_given(self.mode, KNOWN) && self.announced.is_none() {
             return Some(SizeCause::ModeClash);
         }
         if count > self.subfile.unwrap_or(0) {

@@ -19,7 +19,7 @@ use iim_dataset::Head;
 use iim_fields::{
     FieldFault, Fields, Limits, heads_die_with_their_fault, values_die_with_their_fault,
 };
-use iim_object::{ObjectFault, ObjectReader, datasets_lead_from_place_to_place};
+use iim_object::{MAX_SUBFILES, ObjectFault, ObjectReader, datasets_lead_from_place_to_place};
 use std::alloc::{AllocError, Global};
 
 /// The record of subfiles, whose data are no matter of the records.
@@ -27,9 +27,6 @@ const OBJECT: u8 = 8;
 
 /// The record whose head ends the object.
 const POST_OBJECT: u8 = 9;
-
-/// The most subfiles of one envelope.
-const MAX_SUBFILES: u64 = 4_294_967_295;
 
 /// What the layers have taken of an envelope: its records, its object, and how many subfiles it has.
 #[derive(Drop)]

@@ -10,9 +10,9 @@ pub enum Layer {
     Dataset,
     /// Heads, and the values of records 1, 2, 7 and 9: which datasets come, and what they have.
     Record,
-    /// Heads of records 1 and 2: how much they have together.
+    /// Heads: how much records 1 and 2 have together, and how many subfiles there are.
     Limits,
-    /// The numbers of record 7, the counts of subfiles and the number of 9:10: the sizes of the object.
+    /// The numbers of record 7, the counts of subfiles, the head of 9:10 and its number: the sizes of the object.
     Object,
     /// Not the octets: what stands around them.
     Outside,

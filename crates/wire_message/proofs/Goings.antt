@@ -8,17 +8,17 @@ use Rattle.wire_story.specs.Reading as story
 use Rattle.wire_message.specs.Fields.{Are, is_trailer_octet, is_filler_octet}
 use Rattle.wire_message.specs.Messages.{Header, IsHeader, IsTrailer}
 use Rattle.wire_message.specs.SoFar.{IsPlace, Spells, StoryStands}
-use Rattle.wire_message.specs.Reading.{Adds, Went}
+use Rattle.wire_message.specs.Reading.{Adds, TakesSome}
 use Rattle.wire_message.specs.declared.place.Place.{Place}
 use Rattle.wire_message.specs.declared.place.Place.TheVariants.{Words, Info, Gap, Text, Trailer, AfterEnd}
 use Rattle.wire_message.proofs.Machine.{of, begun, gap_goes_on}
 use Rattle.wire_message.proofs.Transitions.{words_gap, info_gap, gap_more, gap_stx, trailer_more, trailer_eot, end_more, field_more, one_is}
 
 -- one octet leads from a place to another
-pub went_one : (p q : Place) (rest : List ℕ) → 0 < length rest → IsPlace q
+pub takes_one : (p q : Place) (rest : List ℕ) → 0 < length rest → IsPlace q
     → ((before text : List ℕ) → Spells before text p → Spells (before ++ (slice_index rest 0 ∷ [])) text q)
-    → ((text : List ℕ) → StoryStands text p → StoryStands text q) → Went p rest q 1
-went_one p q rest some i adds tells = record {
+    → ((text : List ℕ) → StoryStands text p → StoryStands text q) → TakesSome p rest q 1
+takes_one p q rest some i adds tells = record {
   some = omega arith;
   within = omega (arith, some);
   is_place = i;
@@ -30,9 +30,9 @@ pub info_unrun : (h k : Header) (xs : List ℕ) (n : ℕ) → k ≡ record h { i
 info_unrun h k xs n e z = e ∙ ap (λ (u : List ℕ). let v : Header = record h { info = u } in v) (ap (λ (m : ℕ). h.info ++ take m xs) z ∙ append-nil h.info)
 
 pub words_to_gap : (s n p c w v : ArrayVec ℕ) (h : Header) (rest : List ℕ) (feed : Bool) → 0 < length rest → v ≡ w → h ≡ begun s n p c v → IsHeader h
-    → is_filler_octet (slice_index rest 0) ≡ true → feed ≡ (slice_index rest 0 == 10) → Went (Words s n p c w) rest (Gap h 1 feed) 1
+    → is_filler_octet (slice_index rest 0) ≡ true → feed ≡ (slice_index rest 0 == 10) → TakesSome (Words s n p c w) rest (Gap h 1 feed) 1
 words_to_gap s n p c w v h rest feed some same head i fills e =
-    went_one (Words s n p c w) (Gap h 1 feed) rest some (i, omega arith, omega arith, or_right feed true refl)
+    takes_one (Words s n p c w) (Gap h 1 feed) rest some (i, omega arith, omega arith, or_right feed true refl)
     (λ before text l.
     subst (λ (f : Bool). Spells (before ++ (slice_index rest 0 ∷ [])) text (Gap h 1 f)) (sym e)
     (subst (λ (k : Header). Spells (before ++ (slice_index rest 0 ∷ [])) text (Gap k 1 (slice_index rest 0 == 10))) (sym (head ∙ ap (begun s n p c) same))
@@ -40,9 +40,9 @@ words_to_gap s n p c w v h rest feed some same head i fills e =
     (λ text l. l)
 
 pub info_to_gap : (h k : Header) (rest : List ℕ) (feed : Bool) → 0 < length rest → k ≡ h → IsHeader h
-    → is_filler_octet (slice_index rest 0) ≡ true → feed ≡ (slice_index rest 0 == 10) → Went (Info h) rest (Gap k 1 feed) 1
+    → is_filler_octet (slice_index rest 0) ≡ true → feed ≡ (slice_index rest 0 == 10) → TakesSome (Info h) rest (Gap k 1 feed) 1
 info_to_gap h k rest feed some same i fills e =
-    went_one (Info h) (Gap k 1 feed) rest some (subst IsHeader (sym same) i, omega arith, omega arith, or_right feed true refl)
+    takes_one (Info h) (Gap k 1 feed) rest some (subst IsHeader (sym same) i, omega arith, omega arith, or_right feed true refl)
     (λ before text l.
     subst (λ (f : Bool). Spells (before ++ (slice_index rest 0 ∷ [])) text (Gap k 1 f)) (sym e)
     (subst (λ (g : Header). Spells (before ++ (slice_index rest 0 ∷ [])) text (Gap g 1 (slice_index rest 0 == 10))) (sym same)
@@ -50,29 +50,29 @@ info_to_gap h k rest feed some same i fills e =
     (λ text l. l)
 
 pub gap_on : (h : Header) (k : ℕ) (feed now : Bool) (rest : List ℕ) → 0 < length rest → IsPlace (Gap h k feed) → gap_goes_on k feed (slice_index rest 0) ≡ true
-    → now ≡ (feed || slice_index rest 0 == 10) → Went (Gap h k feed) rest (Gap h (k + 1) now) 1
+    → now ≡ (feed || slice_index rest 0 == 10) → TakesSome (Gap h k feed) rest (Gap h (k + 1) now) 1
 gap_on h k feed now rest some i on e =
     let b = slice_index rest 0 in
     let parts = and_parts (is_filler_octet b && nat_lt k 32) (feed || b == 10 || nat_lt (k + 1) 32) on in
     let fill = and_parts (is_filler_octet b) (nat_lt k 32) parts.0 in
     let lt : k < 32 = ltb-true k 32 fill.1 in
-    went_one (Gap h k feed) (Gap h (k + 1) now) rest some (i.0, omega arith, omega (arith, lt), subst (λ (f : Bool). (f || nat_lt (k + 1) 32) ≡ true) (sym e) parts.1)
+    takes_one (Gap h k feed) (Gap h (k + 1) now) rest some (i.0, omega arith, omega (arith, lt), subst (λ (f : Bool). (f || nat_lt (k + 1) 32) ≡ true) (sym e) parts.1)
     (λ before text l. subst (λ (f : Bool). Spells (before ++ (b ∷ [])) text (Gap h (k + 1) f)) (sym e) (gap_more before text h k feed b fill.0 l))
     (λ text l. l)
 
 pub gap_ends : (h : Header) (k : ℕ) (feed : Bool) (reader : TextReader) (rest : List ℕ) → 0 < length rest → IsPlace (Gap h k feed) → IsPlace (Text h reader)
-    → story.StandsAt reader [] → (slice_index rest 0 == 2 && feed) ≡ true → Went (Gap h k feed) rest (Text h reader) 1
+    → story.StandsAt reader [] → (slice_index rest 0 == 2 && feed) ≡ true → TakesSome (Gap h k feed) rest (Text h reader) 1
 gap_ends h k feed reader rest some i j stands on =
     let b = slice_index rest 0 in
     let parts = and_parts (b == 2) feed on in
-    went_one (Gap h k feed) (Text h reader) rest some j
+    takes_one (Gap h k feed) (Text h reader) rest some j
     (λ before text l.
     subst (λ (n : ℕ). Spells (before ++ (n ∷ [])) text (Text h reader)) (sym (eqb-true b 2 parts.0))
     (gap_stx before text h k reader i.1 i.2 (subst (λ (f : Bool). Spells before text (Gap h k f)) parts.1 l)))
     (λ text none. subst (story.StandsAt reader) (sym none) stands)
 
 pub trailer_on : (h : Header) (t v : ArrayVec ℕ) (rest : List ℕ) (n : ℕ) → 0 < n → n ≤ length rest → IsPlace (Trailer h t) → Are is_trailer_octet (take n rest)
-    → v.items ≡ t.items ++ take n rest → length t.items + n ≤ 64 → Went (Trailer h t) rest (Trailer h v) n
+    → v.items ≡ t.items ++ take n rest → length t.items + n ≤ 64 → TakesSome (Trailer h t) rest (Trailer h v) n
 trailer_on h t v rest n some within i are items fits =
     let same : v ≡ of (t.items ++ take n rest) = ap of items in
     record {
@@ -83,19 +83,19 @@ trailer_on h t v rest n some within i are items fits =
       story = λ text l. l;
     }
 
-pub trailer_ends : (h : Header) (t v : ArrayVec ℕ) (rest : List ℕ) → 0 < length rest → IsPlace (Trailer h t) → v ≡ t → slice_index rest 0 ≡ 4 → Went (Trailer h t) rest (AfterEnd h v 0) 1
+pub trailer_ends : (h : Header) (t v : ArrayVec ℕ) (rest : List ℕ) → 0 < length rest → IsPlace (Trailer h t) → v ≡ t → slice_index rest 0 ≡ 4 → TakesSome (Trailer h t) rest (AfterEnd h v 0) 1
 trailer_ends h t v rest some i same eot =
-    went_one (Trailer h t) (AfterEnd h v 0) rest some (i.0, subst (λ (u : ArrayVec ℕ). IsTrailer u.items) (sym same) i.1, omega arith)
+    takes_one (Trailer h t) (AfterEnd h v 0) rest some (i.0, subst (λ (u : ArrayVec ℕ). IsTrailer u.items) (sym same) i.1, omega arith)
     (λ before text l.
     subst (λ (n : ℕ). Spells (before ++ (n ∷ [])) text (AfterEnd h v 0)) (sym eot)
     (subst (λ (u : ArrayVec ℕ). Spells (before ++ (4 ∷ [])) text (AfterEnd h u 0)) (sym same) (trailer_eot before text h t i.0 i.1 l)))
     (λ text l. l)
 
-pub end_on : (h : Header) (t : ArrayVec ℕ) (k : ℕ) (rest : List ℕ) → 0 < length rest → IsPlace (AfterEnd h t k) → (is_filler_octet (slice_index rest 0) && nat_lt k 32) ≡ true → Went (AfterEnd h t k) rest (AfterEnd h t (k + 1)) 1
+pub end_on : (h : Header) (t : ArrayVec ℕ) (k : ℕ) (rest : List ℕ) → 0 < length rest → IsPlace (AfterEnd h t k) → (is_filler_octet (slice_index rest 0) && nat_lt k 32) ≡ true → TakesSome (AfterEnd h t k) rest (AfterEnd h t (k + 1)) 1
 end_on h t k rest some i on =
     let b = slice_index rest 0 in
     let fill = and_parts (is_filler_octet b) (nat_lt k 32) on in
     let lt : k < 32 = ltb-true k 32 fill.1 in
-    went_one (AfterEnd h t k) (AfterEnd h t (k + 1)) rest some (i.0, i.1, omega (arith, lt))
+    takes_one (AfterEnd h t k) (AfterEnd h t (k + 1)) rest some (i.0, i.1, omega (arith, lt))
     (λ before text l. end_more before text (b ∷ []) h t k (one_is is_filler_octet b fill.0) (omega (arith, lt)) l)
     (λ text l. l)

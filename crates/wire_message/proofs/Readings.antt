@@ -7,7 +7,7 @@ use Rattle.iim_dataset.specs.Languages.{IsAlive}
 use Rattle.wire_story.specs.Texts.{AreLines, Holds}
 use Rattle.wire_story.specs.Delivery.{delivered, events_of}
 use Rattle.wire_story.specs.Tokens.{OctetOrEnd, Octet, End, StoryLanguage, LivesWith, StoryDiesAt}
-use Rattle.wire_story.specs.Laws.{StoriesLiveAsTextsSoFar, TextsHoldNoReturn, StoriesEndAsTexts}
+use Rattle.wire_story.specs.Laws.{StoriesLiveAsTextsSoFar, TextsEndInNoReturn, StoriesEndAsTexts}
 use Rattle.wire_story.specs.Reading as story
 use Rattle.wire_story.specs.declared.reader.TextReader.{TextReader}
 use Rattle.wire_story.specs.declared.fault.TextCause.{TextCause}
@@ -16,7 +16,7 @@ use Rattle.wire_message.specs.Fields.{Are, is_text_octet}
 use Rattle.wire_message.specs.Messages.{Header, IsHeader, IsMessage}
 use Rattle.wire_message.specs.Layers.{MessageDiesAt}
 use Rattle.wire_message.specs.SoFar.{Spells, LeadTo}
-use Rattle.wire_message.specs.Reading.{StandsAt, GoesOn, GoesSomewhere, Refuses, HasCause, cause_of, StoryDiesWith, Went, DiesWith, IsWhole, is_ended, head_read, trailer_read}
+use Rattle.wire_message.specs.Reading.{StandsAt, GoesOn, GoesSomewhere, Refuses, HasCause, cause_of, StoryDiesWith, TakesSome, DiesWith, IsWhole, is_ended, head_read, trailer_read}
 use Rattle.wire_message.specs.declared.fault.MessageCause.{MessageCause}
 use Rattle.wire_message.specs.declared.fault.MessageCause.TheVariants.{BadOctet, LoneReturn}
 use Rattle.wire_message.specs.declared.place.Place.{Place}
@@ -46,7 +46,7 @@ refuses_of p rest taken cause f octets text s = f octets text (subst (LeadTo oct
 
 -- ---- where nothing is added to the text
 
-pub leads_by : (p q : Place) (rest : List ℕ) (n : ℕ) → Went p rest q n → (octets text : List ℕ) → LeadTo octets text p → LeadTo (octets ++ take n rest) (text ++ []) q
+pub leads_by : (p q : Place) (rest : List ℕ) (n : ℕ) → TakesSome p rest q n → (octets text : List ℕ) → LeadTo octets text p → LeadTo (octets ++ take n rest) (text ++ []) q
 leads_by p q rest n w octets text l =
     subst (λ (t : List ℕ). LeadTo (octets ++ take n rest) t q) (sym (append-nil text))
     (record { is_place = w.is_place; spelled = w.adds octets text l.spelled; story = w.story text l.story })
@@ -106,6 +106,8 @@ text_refuses text_cause.Sink octets text h reader b i t l c =
     let more : Spells (octets ++ (b ∷ [])) (text ++ (b ∷ [])) (Text h (Some 0)) = text_more octets text (b ∷ []) h reader (Some 0) (one_is is_text_octet b t) l in (
       message_lives (octets ++ (b ∷ [])) (text ++ (b ∷ [])) (Text h (Some 0)) (i, refl) more,
       subst (IsAlive StoryLanguage) (sym (tokens_are (octets ++ (b ∷ [])) (text ++ (b ∷ [])) h (Some 0) i more)) c.0,
+      text_is (octets ++ (b ∷ [])) (text ++ (b ∷ [])) h (Some 0) i more ∙ ap (λ (u : List ℕ). u ++ (b ∷ [])) (sym (text_is octets text h reader i l)),
+      c.1,
     )
 
 -- ---- ETX
@@ -119,11 +121,11 @@ etx_leads h old lines octets text l =
     subst (λ (t : List ℕ). LeadTo (octets ++ (3 ∷ [])) t (Trailer h (of []))) (sym (append-nil text))
     (record { is_place = (l.is_place.0, (refl, omega arith, omega arith)); spelled = text_etx octets text h old l.spelled; story = lines text l.story })
 
-held_some : TextsHoldNoReturn → StoriesEndAsTexts → (x : List ℕ) (held : ℕ) → Holds x held → StoryDiesAt x End → 0 < held
+held_some : TextsEndInNoReturn → StoriesEndAsTexts → (x : List ℕ) (held : ℕ) → Holds x held → StoryDiesAt x End → 0 < held
 held_some law ends x zero h d = absurd (d.1 ((ends x).1 ((law x).1 h)))
 held_some law ends x (suc held) h d = omega arith
 
-pub etx_refuses : TextsHoldNoReturn → StoriesEndAsTexts → (h : Header) (old : TextReader) → ((x : List ℕ) → story.StandsAt old x → StoryDiesAt x End)
+pub etx_refuses : TextsEndInNoReturn → StoriesEndAsTexts → (h : Header) (old : TextReader) → ((x : List ℕ) → story.StandsAt old x → StoryDiesAt x End)
     → (octets text : List ℕ) → LeadTo octets text (Text h old) → HasCause LoneReturn octets 3
 etx_refuses law ends h old dies octets text l =
     let i = l.is_place.0 in

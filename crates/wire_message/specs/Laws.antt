@@ -1,6 +1,6 @@
 -- What holds of all messages, and where a reader of messages stands.
 use Rattle.std.specs.Prelude.{◌≡◌, ℕ, List}
-use Rattle.wire_story.specs.Texts.{packed_text, IsText}
+use Rattle.wire_story.specs.Texts.{packed_text, IsText, MakeText}
 use Rattle.wire_message.specs.Messages.{Header, IsHeader, IsTrailer, IsMessage}
 use Rattle.wire_message.specs.Canonical.{canonical}
 use Rattle.wire_message.specs.Layers.{MessageLivesWith, text_so_far, StoryLivesIn}
@@ -15,8 +15,8 @@ MessagesHaveOneReading = (object : List ℕ) (head other : Header) (text other_t
 
 -- The canonical object of a header, lines that make a text, and a trailer is a message of them, and its text has these lines.
 abbrev pub CanonicalObjectsAreMessages : Type 0
-CanonicalObjectsAreMessages = (head : Header) (text : List ℕ) (lines : List (List ℕ)) (trailer : List ℕ)
-    → IsHeader head → IsText text lines → IsTrailer trailer
+CanonicalObjectsAreMessages = (head : Header) (lines : List (List ℕ)) (trailer : List ℕ)
+    → IsHeader head → MakeText lines → IsTrailer trailer
     → IsMessage (canonical head lines trailer) head (packed_text lines) trailer × IsText (packed_text lines) lines
 
 -- Where octets have led to a place, the text among them is what stands after STX and before ETX.

@@ -1,5 +1,5 @@
 -- Where a reader of messages stands, and why it refuses an octet.
-use Rattle.std.specs.Prelude.{◌≡◌, ℕ, ◌<◌, ◌≤◌, List, [], ◌∷◌, ◌++◌, length, take, slice_index, Bool, true, false, Option, Some, None}
+use Rattle.std.specs.Prelude.{◌≡◌, ◌≢◌, ℕ, ◌<◌, ◌≤◌, List, [], ◌∷◌, ◌++◌, length, take, slice_index, Bool, true, false, Option, Some, None}
 use Rattle.iim_dataset.specs.Devices.{Rose}
 use Rattle.wire_story.specs.Texts.{AreLines, Holds}
 use Rattle.wire_story.specs.Delivery.{Event, delivered}
@@ -50,7 +50,8 @@ cause_of text_cause.LoneReturn = LoneReturn
 cause_of text_cause.ControlOctet = ControlOctet
 cause_of text_cause.Sink = Sink
 
--- Why an octet is refused after others: the message dies with it, or else the story, or else the sink stopped.
+-- Why an octet is refused after others: the message dies with it, or else the story, or else the sink refused an octet of
+-- the text that it is told of.
 abbrev pub HasCause : MessageCause → List ℕ → ℕ → Type 0
 HasCause BadOctet octets octet = MessageDiesAt octets (Octet octet)
 HasCause Unfinished octets octet = ⊥
@@ -59,6 +60,7 @@ HasCause LoneReturn octets octet = MessageLivesWith (octets ++ octet ∷ []) × 
 HasCause ControlOctet octets octet = MessageLivesWith (octets ++ octet ∷ []) × StoryDiesWith octets octet
     × Holds (text_so_far octets) 0
 HasCause Sink octets octet = MessageLivesWith (octets ++ octet ∷ []) × StoryLivesIn (octets ++ octet ∷ [])
+    × (text_so_far (octets ++ octet ∷ []) ≡ text_so_far octets ++ octet ∷ []) × (octet ≢ 13)
 
 -- For all octets so far, the octet of the piece behind the first `taken` is refused for that cause.
 abbrev pub Refuses : Option Place → List ℕ → MessageFault → Type 0
@@ -109,7 +111,7 @@ abbrev pub DiesWith : Place → ℕ → Type 0
 DiesWith place octet = (octets text : List ℕ) → Spells octets text place → MessageDiesAt octets (Octet octet)
 
 -- After some of the octets, one at least, there is this place.
-pub record Went (old : Place) (rest : List ℕ) (new : Place) (used : ℕ) : Type 0 where
+pub record TakesSome (old : Place) (rest : List ℕ) (new : Place) (used : ℕ) : Type 0 where
   pub some : 0 < used
   pub within : used ≤ length rest
   pub is_place : IsPlace new

@@ -3,7 +3,7 @@
 ghost use Rattle.std.specs.Prelude.{◌≡◌};
 ghost use Rattle.wire_message.specs.Fields.{is_letter, is_digit, is_info_octet, is_filler_octet, is_of};
 
-use crate::octets::{CR, ETX, LF, SYN};
+use crate::octets::{CR, ETX, LF, NUL, SYN};
 
 /// A class of octets.
 #[derive(Clone, Copy, Debug, PartialEq, Eq)]
@@ -49,7 +49,7 @@ fn printable(octet: u8) -> bool
 fn filler(octet: u8) -> bool
     ensures { result ≡ is_filler_octet octet }
 {
-    octet == 0 || octet == LF || octet == CR || octet == SYN
+    octet == NUL || octet == LF || octet == CR || octet == SYN
 }
 
 /// Whether the octet is of the class.

@@ -13,7 +13,7 @@ fn are_in(class: Class, octets: &[u8]) -> bool
     octets.iter().all(|octet| is_in(class, *octet))
 }
 
-/// Whether the octets are of the class, and as many as a part has.
+/// Whether the octets are of the class, and least to most of them.
 pub(crate) fn is_field(class: Class, least: usize, most: usize, octets: &[u8]) -> bool
     ensures { IsTrue result ↔ IsField (is_of class) least most octets.now }
 {
@@ -70,7 +70,7 @@ pub(crate) fn take_run<const ROOM: usize>(
 }
 
 /// A part of one octet.
-pub(crate) fn one<const ROOM: usize>(octet: u8) -> ArrayVec<u8, ROOM>
+pub(crate) fn part_of_one<const ROOM: usize>(octet: u8) -> ArrayVec<u8, ROOM>
     requires { 0 < ROOM }
     ensures { result.items ≡ octet ∷ [] }
 {

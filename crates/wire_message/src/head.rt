@@ -4,20 +4,22 @@ ghost use Rattle.std.specs.Prelude.{◌≡◌, ◌↔◌, ◌≤◌, ◌<◌, �
 
 use crate::class::Class;
 use crate::field::{is_field, kept, take_run};
+use crate::lengths::{MAX_CATEGORY, MAX_INFO, MAX_NUMBER, MAX_PRIORITY, MAX_SOURCE, MAX_WORDS};
 use arrayvec::ArrayVec;
 use std::marker::Model;
 
-/// The header of a message: its parts have their lengths and octets. It holds 95 octets of them at most, and takes no memory.
+/// The header of a message: each part has a length and octets that the format allows. It holds 95 octets of them at most,
+/// and takes no memory.
 ///
 /// Contracts see it as the six parts.
 #[derive(Debug, Drop)]
 pub struct MessageHead {
-    source: ArrayVec<u8, 8>,
-    number: ArrayVec<u8, 8>,
-    priority: ArrayVec<u8, 1>,
-    category: ArrayVec<u8, 8>,
-    words: ArrayVec<u8, 6>,
-    info: ArrayVec<u8, 64>,
+    source: ArrayVec<u8, MAX_SOURCE>,
+    number: ArrayVec<u8, MAX_NUMBER>,
+    priority: ArrayVec<u8, MAX_PRIORITY>,
+    category: ArrayVec<u8, MAX_CATEGORY>,
+    words: ArrayVec<u8, MAX_WORDS>,
+    info: ArrayVec<u8, MAX_INFO>,
 }
 
 impl Model for MessageHead {
@@ -44,22 +46,22 @@ fn is_header(
 ) -> bool
     ensures { IsTrue result ↔ IsHeader (header_of source.now number.now priority.now category.now words.now info.now) }
 {
-    if !is_field(Class::Letter, 1, 8, source) {
+    if !is_field(Class::Letter, 1, MAX_SOURCE, source) {
         return false;
     }
-    if !is_field(Class::Digit, 1, 8, number) {
+    if !is_field(Class::Digit, 1, MAX_NUMBER, number) {
         return false;
     }
-    if !is_field(Class::Digit, 1, 1, priority) {
+    if !is_field(Class::Digit, 1, MAX_PRIORITY, priority) {
         return false;
     }
-    if !is_field(Class::Alphanumeric, 1, 8, category) {
+    if !is_field(Class::Alphanumeric, 1, MAX_CATEGORY, category) {
         return false;
     }
-    if !is_field(Class::Digit, 1, 6, words) {
+    if !is_field(Class::Digit, 1, MAX_WORDS, words) {
         return false;
     }
-    is_field(Class::Info, 0, 64, info)
+    is_field(Class::Info, 0, MAX_INFO, info)
 }
 
 impl MessageHead {
@@ -92,11 +94,11 @@ impl MessageHead {
 
     /// The header of these parts, its info empty so far.
     pub(crate) fn begun(
-        source: ArrayVec<u8, 8>,
-        number: ArrayVec<u8, 8>,
-        priority: ArrayVec<u8, 1>,
-        category: ArrayVec<u8, 8>,
-        words: ArrayVec<u8, 6>,
+        source: ArrayVec<u8, MAX_SOURCE>,
+        number: ArrayVec<u8, MAX_NUMBER>,
+        priority: ArrayVec<u8, MAX_PRIORITY>,
+        category: ArrayVec<u8, MAX_CATEGORY>,
+        words: ArrayVec<u8, MAX_WORDS>,
     ) -> MessageHead
         requires { IsHeader (header_of source.items number.items priority.items category.items words.items []) }
         ensures parts { result ≡ header_of source.items number.items priority.items category.items words.items [] }

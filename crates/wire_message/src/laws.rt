@@ -2,22 +2,18 @@
 
 ghost use Rattle.wire_message.specs.Laws.{MessagesHaveOneReading, CanonicalObjectsAreMessages, TextsStandBetweenStxAndEtx, ReadersStandAtLivingOctets};
 
-use wire_story::{
-    lines_of_a_text_make_one, packed_lines_are_a_text, stories_end_as_texts,
-    stories_live_as_texts_so_far,
-};
+use wire_story::{packed_lines_are_a_text, stories_end_as_texts, stories_live_as_texts_so_far};
 
 /// An object is a message in one way at most.
 pub fn messages_have_one_reading()
     ensures { MessagesHaveOneReading }
 {}
 
-/// What is packed of a header, lines and a trailer is a message of them.
+/// What is packed of a header, lines that make a text, and a trailer is a message of them, and its text has these lines.
 pub fn canonical_objects_are_messages()
     ensures { CanonicalObjectsAreMessages }
 {
     packed_lines_are_a_text();
-    lines_of_a_text_make_one();
 }
 
 /// The text at which a reader stands is that of the octets so far: what stands after STX and before ETX.

@@ -1,8 +1,9 @@
 //! The message of IPTC 7901, in our own profile: header, text and trailer, read and written.
 //!
-//! Stands on `wire_story` for the text, and on `arrayvec` for parts of a fixed room. The crates above read an object by
-//! [`MessageReader`], for any cut into pieces: what came is a message so far with this header and trailer, the sink is told
-//! exactly what is delivered of its text, and a fault stands exactly where no message, or no text, can go on.
+//! Stands on `wire_story` for the text, on `arrayvec` for parts of a fixed room, and on `iim_dataset`, of which its
+//! definitions and its tests use parts. The crates above read an object by [`MessageReader`], for any cut into pieces: what
+//! came is a message so far with this header and trailer, the sink is told exactly what is delivered of its text, and a fault
+//! stands exactly where no message, or no text, can go on, or the sink stopped.
 #![tactic(auto)]
 
 mod class;
@@ -10,6 +11,7 @@ mod fault;
 mod field;
 mod head;
 mod laws;
+mod lengths;
 mod octets;
 mod piece;
 mod place;

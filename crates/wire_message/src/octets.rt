@@ -1,5 +1,7 @@
 //! The octets that part a message, by their names in the standard.
 
+pub(crate) const NUL: u8 = 0x00;
+
 pub(crate) const SOH: u8 = 0x01;
 
 pub(crate) const STX: u8 = 0x02;

@@ -2,7 +2,7 @@
 
 ghost use Rattle.std.specs.Prelude.{◌≡◌, ◌<◌, ◌≤◌, length, slice_index, take, Some, IfOk, IfErr, IfSome, IfNone, OnOk};
 ghost use Rattle.wire_message.specs.SoFar.{IsPlace};
-ghost use Rattle.wire_message.specs.Reading.{DiesWith, Went, IsNoText, Told, ToldFront, Refuses, CountsCause};
+ghost use Rattle.wire_message.specs.Reading.{DiesWith, TakesSome, IsNoText, Told, ToldFront, Refuses, CountsCause};
 
 use crate::fault::{MessageCause, MessageFault};
 use crate::place::Place;
@@ -18,7 +18,7 @@ fn outside_text(place: Place, rest: &[u8]) -> Option<(Place, usize)>
     requires place { IsPlace place }
     requires outside { IsNoText place }
     requires some { 0 < length rest.now }
-    ensures went { IfSome result (λ front. Went place rest.now front.0 front.1) }
+    ensures takes { IfSome result (λ front. TakesSome place rest.now front.0 front.1) }
     ensures dies { IfNone result (DiesWith place (slice_index rest.now 0)) }
 {
     match place {
@@ -45,7 +45,7 @@ fn outside_text(place: Place, rest: &[u8]) -> Option<(Place, usize)>
 
 /// The same with a sink, which is told nothing.
 #[inline(always)]
-fn in_silence<S: StorySink>(
+fn take_outside_text<S: StorySink>(
     place: Place,
     rest: &[u8],
     sink: &mut S,
@@ -100,7 +100,7 @@ fn take_front<S: StorySink>(
 {
     match place {
         Place::Text(head, text) => in_text(head, text, rest, sink),
-        other => in_silence(other, rest, sink),
+        other => take_outside_text(other, rest, sink),
     }
 }
 

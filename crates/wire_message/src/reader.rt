@@ -56,7 +56,8 @@ impl MessageReader {
     }
 
     /// Takes the next octets of the object, and tells the sink what is delivered of its text among them, or among those
-    /// before the refused one.
+    /// before the refused one. After a refusal the reader has failed ([`MessageReader::is_failed`]), and takes no further
+    /// call.
     pub fn feed<S: StorySink>(&mut self, piece: &[u8], sink: &mut S) -> Result<(), MessageFault>
         requires { IsSome self.old }
 
@@ -87,7 +88,7 @@ impl MessageReader {
         }
     }
 
-    /// Takes the end of the object.
+    /// Takes the end of the object. Refused as Unfinished, with `taken` 0, before EOT. The reader has failed then.
     pub fn close(&mut self) -> Result<(), MessageFault>
         requires { IsSome self.old }
 

@@ -3,17 +3,15 @@
 ghost use Rattle.std.specs.Prelude.{◌≡◌, ◌<◌, ◌&&◌, ◌==◌, nat_lt, IfSome, IfNone, length, slice_index};
 ghost use Rattle.wire_message.specs.Fields.{is_digit, is_filler_octet};
 ghost use Rattle.wire_message.specs.SoFar.{IsPlace};
-ghost use Rattle.wire_message.specs.Reading.{DiesWith, Went};
+ghost use Rattle.wire_message.specs.Reading.{DiesWith, TakesSome};
 
 use crate::class::{Class, is_in};
-use crate::field::{one, take_run};
+use crate::field::{part_of_one, take_run};
 use crate::head::MessageHead;
+use crate::lengths::{MAX_CATEGORY, MAX_FILLER, MAX_NUMBER, MAX_PRIORITY, MAX_SOURCE, MAX_WORDS};
 use crate::octets::{LF, SOH, SP};
 use crate::place::Place;
 use arrayvec::ArrayVec;
-
-/// So many octets of filler may stand before SOH, in the gap, and after EOT.
-pub(crate) const MAX_FILLER: u8 = 32;
 
 /// Whether an octet lengthens so much filler.
 #[inline(always)]
@@ -27,7 +25,7 @@ pub(crate) fn fills(count: u8, octet: u8) -> bool
 pub(crate) fn in_filler(count: u8, rest: &[u8]) -> Option<(Place, usize)>
     requires place { IsPlace (Place.Filler count) }
     requires some { 0 < length rest.now }
-    ensures went { IfSome result (λ front. Went (Place.Filler count) rest.now front.0 front.1) }
+    ensures takes { IfSome result (λ front. TakesSome (Place.Filler count) rest.now front.0 front.1) }
     ensures dies { IfNone result (DiesWith (Place.Filler count) (slice_index rest.now 0)) }
 {
     let octet = rest[0];
@@ -49,10 +47,10 @@ fn begins_number<const ROOM: usize>(before: &ArrayVec<u8, ROOM>, octet: u8) -> b
 }
 
 /// Takes letters of the source, or the first digit of the number.
-pub(crate) fn in_source(mut source: ArrayVec<u8, 8>, rest: &[u8]) -> Option<(Place, usize)>
+pub(crate) fn in_source(mut source: ArrayVec<u8, MAX_SOURCE>, rest: &[u8]) -> Option<(Place, usize)>
     requires place { IsPlace (Place.Source source) }
     requires some { 0 < length rest.now }
-    ensures went { IfSome result (λ front. Went (Place.Source source) rest.now front.0 front.1) }
+    ensures takes { IfSome result (λ front. TakesSome (Place.Source source) rest.now front.0 front.1) }
     ensures dies { IfNone result (DiesWith (Place.Source source) (slice_index rest.now 0)) }
 {
     let run = take_run(&mut source, Class::Letter, rest);
@@ -61,7 +59,7 @@ pub(crate) fn in_source(mut source: ArrayVec<u8, 8>, rest: &[u8]) -> Option<(Pla
     }
     let octet = rest[0];
     if begins_number(&source, octet) {
-        return Some((Place::Number(source, one(octet)), 1));
+        return Some((Place::Number(source, part_of_one(octet)), 1));
     }
     None
 }
@@ -84,13 +82,13 @@ fn begins_gap<const ROOM: usize>(part: &ArrayVec<u8, ROOM>, octet: u8) -> bool
 
 /// Takes digits of the number, or the SP after it.
 pub(crate) fn in_number(
-    source: ArrayVec<u8, 8>,
-    mut number: ArrayVec<u8, 8>,
+    source: ArrayVec<u8, MAX_SOURCE>,
+    mut number: ArrayVec<u8, MAX_NUMBER>,
     rest: &[u8],
 ) -> Option<(Place, usize)>
     requires place { IsPlace (Place.Number source number) }
     requires some { 0 < length rest.now }
-    ensures went { IfSome result (λ front. Went (Place.Number source number) rest.now front.0 front.1) }
+    ensures takes { IfSome result (λ front. TakesSome (Place.Number source number) rest.now front.0 front.1) }
     ensures dies { IfNone result (DiesWith (Place.Number source number) (slice_index rest.now 0)) }
 {
     let run = take_run(&mut number, Class::Digit, rest);
@@ -105,33 +103,33 @@ pub(crate) fn in_number(
 
 /// Takes the priority.
 pub(crate) fn in_priority(
-    source: ArrayVec<u8, 8>,
-    number: ArrayVec<u8, 8>,
+    source: ArrayVec<u8, MAX_SOURCE>,
+    number: ArrayVec<u8, MAX_NUMBER>,
     rest: &[u8],
 ) -> Option<(Place, usize)>
     requires place { IsPlace (Place.Priority source number) }
     requires some { 0 < length rest.now }
-    ensures went { IfSome result (λ front. Went (Place.Priority source number) rest.now front.0 front.1) }
+    ensures takes { IfSome result (λ front. TakesSome (Place.Priority source number) rest.now front.0 front.1) }
     ensures dies { IfNone result (DiesWith (Place.Priority source number) (slice_index rest.now 0)) }
 {
     let octet = rest[0];
     if is_in(Class::Digit, octet) {
-        return Some((Place::PriorityRead(source, number, one(octet)), 1));
+        return Some((Place::PriorityRead(source, number, part_of_one(octet)), 1));
     }
     None
 }
 
 /// Takes the SP after the priority.
 pub(crate) fn after_priority(
-    source: ArrayVec<u8, 8>,
-    number: ArrayVec<u8, 8>,
-    priority: ArrayVec<u8, 1>,
+    source: ArrayVec<u8, MAX_SOURCE>,
+    number: ArrayVec<u8, MAX_NUMBER>,
+    priority: ArrayVec<u8, MAX_PRIORITY>,
     rest: &[u8],
 ) -> Option<(Place, usize)>
     requires place { IsPlace (Place.PriorityRead source number priority) }
     requires some { 0 < length rest.now }
-    ensures went { IfSome result (λ front.
-        Went (Place.PriorityRead source number priority) rest.now front.0 front.1) }
+    ensures takes { IfSome result (λ front.
+        TakesSome (Place.PriorityRead source number priority) rest.now front.0 front.1) }
     ensures dies { IfNone result (
         DiesWith (Place.PriorityRead source number priority) (slice_index rest.now 0)) }
 {
@@ -146,16 +144,16 @@ pub(crate) fn after_priority(
 
 /// Takes octets of the category, or the SP after it.
 pub(crate) fn in_category(
-    source: ArrayVec<u8, 8>,
-    number: ArrayVec<u8, 8>,
-    priority: ArrayVec<u8, 1>,
-    mut category: ArrayVec<u8, 8>,
+    source: ArrayVec<u8, MAX_SOURCE>,
+    number: ArrayVec<u8, MAX_NUMBER>,
+    priority: ArrayVec<u8, MAX_PRIORITY>,
+    mut category: ArrayVec<u8, MAX_CATEGORY>,
     rest: &[u8],
 ) -> Option<(Place, usize)>
     requires place { IsPlace (Place.Category source number priority category) }
     requires some { 0 < length rest.now }
-    ensures went { IfSome result (λ front.
-        Went (Place.Category source number priority category) rest.now front.0 front.1) }
+    ensures takes { IfSome result (λ front.
+        TakesSome (Place.Category source number priority category) rest.now front.0 front.1) }
     ensures dies { IfNone result (
         DiesWith (Place.Category source number priority category) (slice_index rest.now 0)) }
 {
@@ -172,17 +170,17 @@ pub(crate) fn in_category(
 
 /// Takes digits of the words, or the SP before an info, or the first octet of the gap.
 pub(crate) fn in_words(
-    source: ArrayVec<u8, 8>,
-    number: ArrayVec<u8, 8>,
-    priority: ArrayVec<u8, 1>,
-    category: ArrayVec<u8, 8>,
-    mut words: ArrayVec<u8, 6>,
+    source: ArrayVec<u8, MAX_SOURCE>,
+    number: ArrayVec<u8, MAX_NUMBER>,
+    priority: ArrayVec<u8, MAX_PRIORITY>,
+    category: ArrayVec<u8, MAX_CATEGORY>,
+    mut words: ArrayVec<u8, MAX_WORDS>,
     rest: &[u8],
 ) -> Option<(Place, usize)>
     requires place { IsPlace (Place.Words source number priority category words) }
     requires some { 0 < length rest.now }
-    ensures went { IfSome result (λ front.
-        Went (Place.Words source number priority category words) rest.now front.0 front.1) }
+    ensures takes { IfSome result (λ front.
+        TakesSome (Place.Words source number priority category words) rest.now front.0 front.1) }
     ensures dies { IfNone result (
         DiesWith (Place.Words source number priority category words) (slice_index rest.now 0)) }
 {

@@ -3,14 +3,15 @@
 ghost use Rattle.std.specs.Prelude.{◌≡◌, ◌<◌, ◌+◌, ◌&&◌, ◌||◌, ◌==◌, nat_lt, IfSome, IfNone, length, slice_index};
 ghost use Rattle.wire_message.specs.Fields.{is_filler_octet};
 ghost use Rattle.wire_message.specs.SoFar.{IsPlace};
-ghost use Rattle.wire_message.specs.Reading.{DiesWith, Went};
+ghost use Rattle.wire_message.specs.Reading.{DiesWith, TakesSome};
 
 use crate::class::{Class, is_in};
 use crate::field::take_run;
 use crate::head::MessageHead;
+use crate::lengths::{MAX_FILLER, MAX_TRAILER};
 use crate::octets::{EOT, LF, STX};
 use crate::place::Place;
-use crate::step::{MAX_FILLER, fills};
+use crate::step::fills;
 use arrayvec::ArrayVec;
 use wire_story::TextReader;
 
@@ -18,7 +19,7 @@ use wire_story::TextReader;
 pub(crate) fn in_info(mut head: MessageHead, rest: &[u8]) -> Option<(Place, usize)>
     requires place { IsPlace (Place.Info head) }
     requires some { 0 < length rest.now }
-    ensures went { IfSome result (λ front. Went (Place.Info head) rest.now front.0 front.1) }
+    ensures takes { IfSome result (λ front. TakesSome (Place.Info head) rest.now front.0 front.1) }
     ensures dies { IfNone result (DiesWith (Place.Info head) (slice_index rest.now 0)) }
 {
     let run = head.take_info(rest);
@@ -42,7 +43,7 @@ fn gap_goes_on(count: u8, feed: bool, octet: u8) -> bool
 
 /// Whether an LF has come, with this octet.
 #[inline(always)]
-fn has_fed(feed: bool, octet: u8) -> bool
+fn has_line_feed(feed: bool, octet: u8) -> bool
     ensures { result ≡ (feed || octet == 10) }
 {
     feed || octet == LF
@@ -65,12 +66,12 @@ pub(crate) fn in_gap(
 ) -> Option<(Place, usize)>
     requires place { IsPlace (Place.Gap head count feed) }
     requires some { 0 < length rest.now }
-    ensures went { IfSome result (λ front. Went (Place.Gap head count feed) rest.now front.0 front.1) }
+    ensures takes { IfSome result (λ front. TakesSome (Place.Gap head count feed) rest.now front.0 front.1) }
     ensures dies { IfNone result (DiesWith (Place.Gap head count feed) (slice_index rest.now 0)) }
 {
     let octet = rest[0];
     if gap_goes_on(count, feed, octet) {
-        return Some((Place::Gap(head, count + 1, has_fed(feed, octet)), 1));
+        return Some((Place::Gap(head, count + 1, has_line_feed(feed, octet)), 1));
     }
     if ends_gap(feed, octet) {
         return Some((Place::Text(head, TextReader::new()), 1));
@@ -81,12 +82,12 @@ pub(crate) fn in_gap(
 /// Takes octets of the trailer, or EOT.
 pub(crate) fn in_trailer(
     head: MessageHead,
-    mut trailer: ArrayVec<u8, 64>,
+    mut trailer: ArrayVec<u8, MAX_TRAILER>,
     rest: &[u8],
 ) -> Option<(Place, usize)>
     requires place { IsPlace (Place.Trailer head trailer) }
     requires some { 0 < length rest.now }
-    ensures went { IfSome result (λ front. Went (Place.Trailer head trailer) rest.now front.0 front.1) }
+    ensures takes { IfSome result (λ front. TakesSome (Place.Trailer head trailer) rest.now front.0 front.1) }
     ensures dies { IfNone result (DiesWith (Place.Trailer head trailer) (slice_index rest.now 0)) }
 {
     let run = take_run(&mut trailer, Class::Trailer, rest);
@@ -102,13 +103,13 @@ pub(crate) fn in_trailer(
 /// Takes an octet of filler at the end.
 pub(crate) fn after_end(
     head: MessageHead,
-    trailer: ArrayVec<u8, 64>,
+    trailer: ArrayVec<u8, MAX_TRAILER>,
     count: u8,
     rest: &[u8],
 ) -> Option<(Place, usize)>
     requires place { IsPlace (Place.AfterEnd head trailer count) }
     requires some { 0 < length rest.now }
-    ensures went { IfSome result (λ front. Went (Place.AfterEnd head trailer count) rest.now front.0 front.1) }
+    ensures takes { IfSome result (λ front. TakesSome (Place.AfterEnd head trailer count) rest.now front.0 front.1) }
     ensures dies { IfNone result (DiesWith (Place.AfterEnd head trailer count) (slice_index rest.now 0)) }
 {
     if fills(count, rest[0]) {

@@ -58,9 +58,28 @@ fn expect(
     assert_eq!(rt; read(&object, true, &mut Discard), want);
 }
 
-/// Reads the smallest header with this text and what follows it, each way.
-fn expect_text(rt: &impl Abort, back: &[u8], want: Option<(usize, MessageCause)>) {
-    expect(rt, b"\x01X1 4 N 0\r\n\x02", 0, 0, back, want);
+/// Reads an object each way into a writer that fails after so many octets, and compares what is written then.
+fn expect_lines(
+    rt: &impl Abort,
+    object: &[u8],
+    good: u64,
+    lines: &[u8],
+    want: Option<(usize, MessageCause)>,
+) {
+    for by_octets in [false, true] {
+        let target: TrialWriter<32> = TrialWriter::new(good, Trouble::Failure);
+        let mut sink = LineWriter::new(target);
+        assert_eq!(rt; read(object, by_octets, &mut sink), want);
+        assert_eq!(rt; sink.into_writer().octets(), lines);
+    }
+}
+
+/// Reads the smallest header with this text and what follows it, each way, and compares the lines, joined by LF.
+fn expect_text(rt: &impl Abort, back: &[u8], lines: &[u8], want: Option<(usize, MessageCause)>) {
+    let mut object: arrayvec::ArrayVec<u8, 32> = arrayvec::ArrayVec::new();
+    let _ = object.try_extend_from_slice(b"\x01X1 4 N 0\r\n\x02");
+    let _ = object.try_extend_from_slice(back);
+    expect_lines(rt, &object, 100, lines, want);
 }
 
 /// Reads front, so many of an octet, and back, where the octet at that place is wrong.
@@ -79,14 +98,30 @@ fn expect_bad(rt: &impl Abort, front: &[u8], octet: u8, times: usize, back: &[u8
 fn texts_and_their_faults(rt: HostRuntime) {
     expect(&rt, SMALL, 0, 0, EMPTY, None);
     expect(&rt, RATES, 0, 0, EMPTY, None);
-    expect_text(&rt, b"a\nb\r\nc\r\r\nd\x03\x04", None);
-    expect_text(&rt, b"a\r\r\r", Some((15, MessageCause::LoneReturn)));
-    expect_text(&rt, b"a\x02", Some((13, MessageCause::ControlOctet)));
-    expect_text(&rt, b"a\r\x03", Some((14, MessageCause::LoneReturn)));
-    expect_text(&rt, b"a\r\x01", Some((14, MessageCause::LoneReturn)));
-    expect_text(&rt, b"\x03", Some((13, MessageCause::Unfinished)));
-    expect_text(&rt, b"\x03\x03", Some((13, MessageCause::BadOctet)));
+    expect_lines(&rt, RATES, 100, b"Rates stay.\nNo change.", None);
+    expect_text(&rt, b"a\nb\r\nc\r\r\nd\x03\x04", b"a\nb\nc\nd", None);
+    expect_text(&rt, b"a\r\r\r", b"a", Some((15, MessageCause::LoneReturn)));
+    expect_text(&rt, b"a\x02", b"a", Some((13, MessageCause::ControlOctet)));
+    expect_text(&rt, b"a\r\x03", b"a", Some((14, MessageCause::LoneReturn)));
+    expect_text(&rt, b"a\r\x01", b"a", Some((14, MessageCause::LoneReturn)));
+    expect_text(&rt, b"\x03", b"", Some((13, MessageCause::Unfinished)));
+    expect_text(&rt, b"\x03\x03", b"", Some((13, MessageCause::BadOctet)));
     expect(&rt, EMPTY, 0, 0, EMPTY, Some((0, MessageCause::Unfinished)));
+}
+
+#[test]
+fn sinks_that_stop(rt: HostRuntime) {
+    // what is written before a write fails, and how many octets of the object stand before the refused one then
+    let written = [
+        (b"".as_slice(), 25),
+        (b"Rate".as_slice(), 29),
+        (b"Rates stay.".as_slice(), 37),
+        (b"Rates stay.\n".as_slice(), 38),
+    ];
+    for (lines, taken) in written {
+        let fault = Some((taken, MessageCause::Sink));
+        expect_lines(&rt, RATES, lines.len() as u64, lines, fault);
+    }
 }
 
 #[test]
@@ -118,6 +153,7 @@ fn parts_of_each_length(rt: HostRuntime) {
     expect_bad(&rt, b"\x01X", b'1', 9, b" 4 N 0\n\x02\x03\x04", 10);
     expect_bad(&rt, b"\x01X", b'1', 0, b" 4 N 0\n\x02\x03\x04", 2);
     expect_bad(&rt, b"\x01X1 ", b'4', 2, b" N 0\n\x02\x03\x04", 5);
+    expect_bad(&rt, b"\x01X1 ", b'4', 0, b" N 0\n\x02\x03\x04", 4);
     expect(&rt, b"\x01X1 4 ", b'N', 8, b" 0\n\x02\x03\x04", None);
     expect_bad(&rt, b"\x01X1 4 ", b'N', 9, b" 0\n\x02\x03\x04", 14);
     expect_bad(&rt, b"\x01X1 4 ", b'N', 0, b" 0\n\x02\x03\x04", 6);
@@ -224,18 +260,29 @@ fn parts_that_make_a_header(rt: HostRuntime) {
     }
     assert!(rt; MessageHead::new(b"X", b"1", b"44", b"N", b"0", EMPTY).is_none());
     assert!(rt; MessageHead::new(b"X", b"1", EMPTY, b"N", b"0", EMPTY).is_none());
-    if let Some(head) = MessageHead::new(b"X", b"1", b"4", b"N", b"0", EMPTY) {
-        assert_eq!(rt;
+    match MessageHead::new(b"X", b"1", b"4", b"N", b"0", EMPTY) {
+        Some(head) => assert_eq!(rt;
             head_text(&head).as_slice(),
             b"\x01X1 4 N 0\r\n\x02".as_slice()
-        );
+        ),
+        None => assert!(rt; false),
     }
+}
+
+/// The tail of the trailer is written so.
+fn expect_tail(rt: &impl Abort, trailer: &[u8], want: &[u8]) {
+    match tail_text(trailer) {
+        Some(tail) => assert_eq!(rt; tail.as_slice(), want),
+        None => assert!(rt; false),
+    }
+}
+
+#[test]
+fn tails_written(rt: HostRuntime) {
     assert!(rt; is_trailer(&ZEROS[..64]));
     assert!(rt; !is_trailer(&ZEROS[..65]));
     assert!(rt; !is_trailer(b"\x16"));
     assert!(rt; tail_text(&ZEROS[..65]).is_none());
-    match tail_text(b"a\r\n") {
-        Some(tail) => assert_eq!(rt; tail.as_slice(), b"\x03a\r\n\x04".as_slice()),
-        None => assert!(rt; false),
-    }
+    expect_tail(&rt, EMPTY, b"\x03\x04");
+    expect_tail(&rt, b"a\r\n", b"\x03a\r\n\x04");
 }

@@ -12,7 +12,7 @@ use crate::place::Place;
 use arrayvec::ArrayVec;
 use wire_story::{
     StorySink, TextCause, TextReader, stories_end_as_texts, stories_live_as_texts_so_far,
-    texts_hold_no_return,
+    texts_end_in_no_return,
 };
 
 /// The cause of a message for a cause of its text.
@@ -60,7 +60,7 @@ pub(crate) fn in_text<S: StorySink>(
             }),
         };
     }
-    texts_hold_no_return();
+    texts_end_in_no_return();
     stories_end_as_texts();
     match text.close() {
         Ok(()) => Ok((Place::Trailer(head, ArrayVec::new()), 1)),

@@ -8,6 +8,7 @@ ghost use Rattle.wire_message.specs.Canonical.{packed_head, packed_info, packed_
 use crate::class::Class;
 use crate::field::is_field;
 use crate::head::MessageHead;
+use crate::lengths::MAX_TRAILER;
 use crate::octets::{CR, EOT, ETX, LF, SOH, SP, STX};
 use arrayvec::ArrayVec;
 
@@ -61,7 +62,7 @@ pub fn head_text(head: &MessageHead) -> ArrayVec<u8, 128>
 pub fn is_trailer(octets: &[u8]) -> bool
     ensures { IsTrue result ↔ IsTrailer octets.now }
 {
-    is_field(Class::Trailer, 0, 64, octets)
+    is_field(Class::Trailer, 0, MAX_TRAILER, octets)
 }
 
 /// The octets of a message from ETX to EOT, or None where the octets may be no trailer.

@@ -37,9 +37,9 @@ StoriesLiveAsTextsSoFar = (x : List ℕ) → LivesWith x ↔ ((held : ℕ) × Ho
 abbrev pub StoriesEndAsTexts : Type 0
 StoriesEndAsTexts = (x : List ℕ) → IsAlive StoryLanguage (map Octet x ++ End ∷ []) ↔ AreLines x
 
--- A text so far is a text exactly where it holds no CR.
-abbrev pub TextsHoldNoReturn : Type 0
-TextsHoldNoReturn = (x : List ℕ) → AreLines x ↔ Holds x 0
+-- A text so far is a text exactly where it ends in no CR.
+abbrev pub TextsEndInNoReturn : Type 0
+TextsEndInNoReturn = (x : List ℕ) → AreLines x ↔ Holds x 0
 
 -- What is packed of lines that make a text is a text of these lines.
 abbrev pub PackedLinesAreAText : Type 0

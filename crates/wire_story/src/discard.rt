@@ -30,6 +30,6 @@ impl StorySink for Discard {
         ensures takes { IsOk result }
         ensures same { self.new ≡ self.old }
     {
-        Ok(())
+        self.text(&[])
     }
 }

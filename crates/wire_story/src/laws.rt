@@ -2,7 +2,7 @@
 
 ghost use Rattle.std.specs.Prelude.{◌≡◌};
 ghost use Rattle.wire_story.specs.Texts.{line_end};
-ghost use Rattle.wire_story.specs.Laws.{TextsHaveOneReading, TextsSoFarHaveOneReading, TextsAreDeliveredAsLines, TextsSoFarAreDeliveredAsLines, DeliveryMayBeCut, StoriesLiveAsTextsSoFar, StoriesEndAsTexts, TextsHoldNoReturn, PackedLinesAreAText, LinesOfATextMakeOne, LinesAreJoinedByLineFeeds, TextsAreCollectedAsLines};
+ghost use Rattle.wire_story.specs.Laws.{TextsHaveOneReading, TextsSoFarHaveOneReading, TextsAreDeliveredAsLines, TextsSoFarAreDeliveredAsLines, DeliveryMayBeCut, StoriesLiveAsTextsSoFar, StoriesEndAsTexts, TextsEndInNoReturn, PackedLinesAreAText, LinesOfATextMakeOne, LinesAreJoinedByLineFeeds, TextsAreCollectedAsLines};
 
 use crate::line::LINE_END;
 
@@ -41,9 +41,9 @@ pub fn stories_end_as_texts()
     ensures { StoriesEndAsTexts }
 {}
 
-/// A text so far is a text exactly where it holds no CR.
-pub fn texts_hold_no_return()
-    ensures { TextsHoldNoReturn }
+/// A text so far is a text exactly where it ends in no CR.
+pub fn texts_end_in_no_return()
+    ensures { TextsEndInNoReturn }
 {}
 
 /// A packer's line end is CR LF.

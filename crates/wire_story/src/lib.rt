@@ -1,7 +1,7 @@
-//! The text of a story: its lines, its line ends, and the sinks that they go to.
+//! The text of a story, by the rules of our own profile: its lines, its line ends, and the sinks that they go to.
 //!
 //! Stands on `iim_dataset`. The crates above read a text by [`TextReader`], for any cut into runs: the sink is told exactly
-//! what is delivered of the octets so far, and a fault stands exactly where no text can go on from them.
+//! what is delivered of the octets so far, and a fault stands exactly where no text can go on from them, or the sink stopped.
 #![tactic(auto)]
 
 mod discard;
@@ -24,7 +24,7 @@ pub use laws::{
     delivery_may_be_cut, line_ends_are_packed_as_return_and_feed, lines_are_joined_by_line_feeds,
     lines_of_a_text_make_one, packed_lines_are_a_text, stories_end_as_texts,
     stories_live_as_texts_so_far, texts_are_collected_as_lines, texts_are_delivered_as_lines,
-    texts_have_one_reading, texts_hold_no_return, texts_so_far_are_delivered_as_lines,
+    texts_end_in_no_return, texts_have_one_reading, texts_so_far_are_delivered_as_lines,
     texts_so_far_have_one_reading,
 };
 pub use line::{LINE_END, is_text};

@@ -26,7 +26,7 @@ pub(crate) fn may_stand(octet: u8) -> bool
     !(octet == SOH || octet == STX || octet == ETX || octet == EOT || octet == LF || octet == CR)
 }
 
-/// Whether each octet may stand in a line.
+/// Whether each octet may stand in a line: any but SOH, STX, ETX, EOT, LF and CR.
 pub fn is_text(octets: &[u8]) -> bool
     ensures { IsTrue result ↔ IsLine octets.now }
 {

@@ -45,25 +45,26 @@ impl TextReader {
     }
 
     /// Takes the next octets of the text, and tells the sink what is delivered of them, or of those before the refused one.
-    pub fn run<S: StorySink>(&mut self, piece: &[u8], sink: &mut S) -> Result<(), TextFault>
+    /// After a refusal the reader has failed ([`TextReader::is_failed`]), and takes no further call.
+    pub fn run<S: StorySink>(&mut self, run: &[u8], sink: &mut S) -> Result<(), TextFault>
         requires { IsSome self.old }
 
-        // The octets so far, with the piece, are a text so far.
+        // The octets so far, with the run, are a text so far.
         ensures takes_calls { OnOk result (IsSome self.new) }
-        ensures goes_on { OnOk result (GoesOn self.old piece.now self.new) }
-        ensures told { OnOk result (S.goes sink.old (delivered piece.now) sink.new) }
+        ensures goes_on { OnOk result (GoesOn self.old run.now self.new) }
+        ensures told { OnOk result (S.goes sink.old (delivered run.now) sink.new) }
         ensures calm { OnOk result (S.failures sink.new ≡ S.failures sink.old) }
 
         // With the refused octet no text can go on from them, or the sink stopped.
         ensures failed { OnErr result (self.new ≡ None) }
-        ensures before { IfErr result (λ fault. fault.taken < length piece.now) }
-        ensures refused { IfErr result (Refuses self.old piece.now) }
+        ensures before { IfErr result (λ fault. fault.taken < length run.now) }
+        ensures refused { IfErr result (Refuses self.old run.now) }
         ensures told_front { IfErr result (λ fault.
-            S.goes sink.old (delivered (take fault.taken piece.now)) sink.new) }
+            S.goes sink.old (delivered (take fault.taken run.now)) sink.new) }
         ensures counted { IfErr result (λ fault.
             CountsCause (S.failures sink.old) (S.failures sink.new) fault.cause) }
     {
-        match take_piece(self.held.unwrap(), piece, sink) {
+        match take_piece(self.held.unwrap(), run, sink) {
             Ok(held) => {
                 self.held = Some(held);
                 Ok(())
@@ -75,7 +76,7 @@ impl TextReader {
         }
     }
 
-    /// Takes the end of the text.
+    /// Takes the end of the text. Refused as LoneReturn, with `taken` 0, where CR are held. The reader has failed then.
     pub fn close(&mut self) -> Result<(), TextFault>
         requires { IsSome self.old }
 

@@ -194,7 +194,7 @@ fn runs_are_passed_on_whole(rt: HostRuntime) {
     } = calls;
 }
 
-/// Refuses nothing but want of memory: asks again, and says what the lines were meanwhile.
+/// Tells the lines a line and its end. A refused growth must leave them as they were, and is asked once more.
 fn insist(rt: &impl Abort, lines: &mut Lines, line: &[u8]) {
     let before = text_len(lines);
     if is_text(line) {
@@ -213,7 +213,7 @@ fn insist(rt: &impl Abort, lines: &mut Lines, line: &[u8]) {
 }
 
 #[test]
-fn growths_refused_in_turn(rt: HostRuntime) {
+fn lines_bear_refused_growths(rt: HostRuntime) {
     let mut lines = Lines::new(rt.alloc());
     for _ in 0..100 {
         insist(&rt, &mut lines, b"0123456789");
@@ -242,8 +242,16 @@ fn lines_written(rt: HostRuntime) {
 
 #[test]
 fn writes_that_fail(rt: HostRuntime) {
-    // how many octets are written before a write fails, and where the text is refused then
-    for (good, taken) in [(0, 0), (4, 4), (11, 12), (12, 13), (21, 22)] {
+    // what is written before a write fails, and where the text is refused then
+    let written = [
+        (b"".as_slice(), 0),
+        (b"Rate".as_slice(), 4),
+        (b"Rates stay.".as_slice(), 12),
+        (b"Rates stay.\n".as_slice(), 13),
+        (b"Rates stay.\nNo change".as_slice(), 22),
+    ];
+    for (octets, taken) in written {
+        let good = octets.len() as u64;
         let target: TrialWriter<32> = TrialWriter::new(good, Trouble::Failure);
         let mut sink = LineWriter::new(target);
         let fault = TextFault {
@@ -251,7 +259,7 @@ fn writes_that_fail(rt: HostRuntime) {
             cause: TextCause::Sink,
         };
         assert_eq!(rt; read_in_two(RATES, b"", &mut sink), Err(fault), "at {good}");
-        assert_eq!(rt; sink.into_writer().octets().len() as u64, good);
+        assert_eq!(rt; sink.into_writer().octets(), octets);
     }
     let full: TrialWriter<3> = TrialWriter::new(100, Trouble::Failure);
     let mut sink = LineWriter::new(full);

@@ -80,7 +80,7 @@ impl<W: Target> StorySink for LineWriter<W> {
             WritesLines W.state self.old (map LineOctet (take stop.taken run.now)) self.new) }
         ensures counted { OnErr result (Rose (stops_of self.old) (stops_of self.new)) }
 
-        // It stops only where the target failed in this call, or was interrupted a million times in a row.
+        // It stops only where the target failed in this call, or was interrupted at least a million times in it.
         ensures wrote { OnOk result (Wrote (device_of W.state self.old) (device_of W.state self.new) run.now) }
         ensures stopped { IfErr result (λ stop.
             Stopped (device_of W.state self.old) (device_of W.state self.new) run.now stop.taken) }

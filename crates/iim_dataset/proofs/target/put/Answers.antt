@@ -19,4 +19,5 @@ loop-at-preserved g c =
             (rw (rest_whole piece at) at sent.1)),
         (omega (arith, sent.3, out.1.0), omega (arith, sent.2, out.1.1)),
       );
+      patience = omega (arith, sent.3, c.in-Ok.ensures.patience, c.loop-at.invariant.patience);
     }

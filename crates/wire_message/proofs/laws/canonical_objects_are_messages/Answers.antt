@@ -2,6 +2,6 @@ use Rattle.wire_message.proofs.Packed.{canonical_message}
 use Rattle.wire_message.proofs.laws.canonical_objects_are_messages.Goals as goal
 
 pub returns : goal.returns
-returns c head text lines trailer is_head lined is_trailer =
-    let packed = c.packed_lines_are_a_text.ensures lines (c.lines_of_a_text_make_one.ensures text lines lined) in
+returns c head lines trailer is_head make is_trailer =
+    let packed = c.packed_lines_are_a_text.ensures lines make in
     (canonical_message head lines trailer is_head packed is_trailer, packed)

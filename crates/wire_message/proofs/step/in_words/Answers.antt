@@ -19,8 +19,8 @@ returns-clause-dies c =
     (subst (λ (v : ArrayVec ℕ). (octet == 32 && nat_lt 0 (length v.items)) ≡ false) same (sym c.ends_part.ensures ∙ c.if-ends_part.false))
     (subst (λ (v : ArrayVec ℕ). (is_filler_octet octet && nat_lt 0 (length v.items)) ≡ false) same (sym c.begins_gap.ensures ∙ c.if-begins_gap.false)))
 
-pub returns-then-begins_gap-clause-went : goal.returns-then-begins_gap-clause-went
-returns-then-begins_gap-clause-went c =
+pub returns-then-begins_gap-clause-takes : goal.returns-then-begins_gap-clause-takes
+returns-then-begins_gap-clause-takes c =
     let w = c.args.words in
     let rest = c.args.rest.now in
     let none : c.take_run-run.result ≡ 0 = omega arith in

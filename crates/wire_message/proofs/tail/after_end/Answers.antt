@@ -9,6 +9,6 @@ returns-clause-dies c =
     let octet = slice_index c.args.rest.now 0 in
     dies (AfterEnd c.args.head c.args.trailer c.args.count) octet c.requires.place (end_stops c.args.head c.args.trailer c.args.count octet (sym c.fills.ensures ∙ c.if-fills.false))
 
-pub returns-then-fills-clause-went : goal.returns-then-fills-clause-went
-returns-then-fills-clause-went c =
+pub returns-then-fills-clause-takes : goal.returns-then-fills-clause-takes
+returns-then-fills-clause-takes c =
     end_on c.args.head c.args.trailer c.args.count c.args.rest.now c.requires.some c.requires.place (sym c.fills.ensures ∙ c.if-fills.true)

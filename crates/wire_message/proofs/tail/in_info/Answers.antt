@@ -12,8 +12,8 @@ returns-clause-dies c =
     dies (Info c.args.head) octet c.requires.place
     (info_stops c.args.head octet (c.take_info-run.ensures.longest none c.requires.some) (sym c.is_in.ensures ∙ c.if-is_in.false))
 
-pub returns-then-is_in-clause-went : goal.returns-then-is_in-clause-went
-returns-then-is_in-clause-went c =
+pub returns-then-is_in-clause-takes : goal.returns-then-is_in-clause-takes
+returns-then-is_in-clause-takes c =
     let rest = c.args.rest.now in
     let none : c.take_info-run.result ≡ 0 = omega arith in
     let same = info_unrun c.args.head c.take_info-run.new.self rest c.take_info-run.result c.take_info-run.ensures.lengthened none in

@@ -94,7 +94,7 @@ returns-in-Err-close-clause-refused g c =
     (λ octets text l.
     subst (λ (u : List ℕ). HasCause LoneReturn u (slice_index rest 0)) (sym (append-nil octets))
     (subst (λ (b : ℕ). HasCause LoneReturn octets b) (sym octet)
-    (etx_refuses c.texts_hold_no_return.ensures c.stories_end_as_texts.ensures h c.args.text c.in-Err-close.ensures.refused octets text l)))
+    (etx_refuses c.texts_end_in_no_return.ensures c.stories_end_as_texts.ensures h c.args.text c.in-Err-close.ensures.refused octets text l)))
 
 pub returns-in-Err-close-clause-told_front : goal.returns-in-Err-close-clause-told_front
 returns-in-Err-close-clause-told_front g c = (

@@ -1,6 +1,6 @@
 use Rattle.std.proofs.Common.{[], take}
 use Rattle.wire_message.proofs.Readings.{goes_on_of, goes_somewhere_of, leads_by, dies_in, stays_at}
-use Rattle.wire_message.proofs.piece.in_silence.Goals as goal
+use Rattle.wire_message.proofs.piece.take_outside_text.Goals as goal
 
 pub returns-in-Some-clause-told : goal.returns-in-Some-clause-told
 returns-in-Some-clause-told g c =
@@ -8,7 +8,7 @@ returns-in-Some-clause-told g c =
     let q = c.in-Some.front.0 in
     let n = c.in-Some.front.1 in
     let rest = c.args.rest.now in
-    ([], g.met.S.StorySink.nothing c.args.sink.now, goes_on_of p q (take n rest) [] (leads_by p q rest n c.in-Some.ensures.went))
+    ([], g.met.S.StorySink.nothing c.args.sink.now, goes_on_of p q (take n rest) [] (leads_by p q rest n c.in-Some.ensures.takes))
 
 pub returns-in-None-clause-refused : goal.returns-in-None-clause-refused
 returns-in-None-clause-refused g c = dies_in c.args.place c.args.rest.now c.in-None.ensures.dies

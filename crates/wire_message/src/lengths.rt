@@ -1,0 +1,18 @@
+//! How many octets the parts of a message have at most.
+
+pub(crate) const MAX_SOURCE: usize = 8;
+
+pub(crate) const MAX_NUMBER: usize = 8;
+
+pub(crate) const MAX_PRIORITY: usize = 1;
+
+pub(crate) const MAX_CATEGORY: usize = 8;
+
+pub(crate) const MAX_WORDS: usize = 6;
+
+pub(crate) const MAX_INFO: usize = 64;
+
+pub(crate) const MAX_TRAILER: usize = 64;
+
+/// So many octets of filler may stand before SOH, in the gap, and after EOT.
+pub(crate) const MAX_FILLER: u8 = 32;
