@@ -13,7 +13,7 @@ use Rattle.iim_dataset.specs.Tags.{BeginsTag, BeginsNoTag, HasTag}
 abbrev pub Fit : List ℕ → Type 0
 Fit octets = (i : ℕ) → get_or octets i 0 < 256
 
-are_octets : (xs : List ℕ) → Fit xs → Octets xs
+pub are_octets : (xs : List ℕ) → Fit xs → Octets xs
 are_octets [] fits = tt
 are_octets (x ∷ xs) fits = (fits 0, are_octets xs (λ i. fits (suc i)))
 
@@ -25,7 +25,7 @@ both_are : (xs ys : List ℕ) → Octets xs → Octets ys → Octets (xs ++ ys)
 both_are [] ys h k = k
 both_are (x ∷ xs) ys h k = (h.0, both_are xs ys h.1 k)
 
-front_are : (n : ℕ) (xs : List ℕ) → Octets xs → Octets (take n xs)
+pub front_are : (n : ℕ) (xs : List ℕ) → Octets xs → Octets (take n xs)
 front_are zero xs h = tt
 front_are (suc n) [] h = tt
 front_are (suc n) (x ∷ xs) h = (h.0, front_are n xs h.1)

@@ -1,8 +1,11 @@
 pub mod Octets
+pub mod Slices
 pub mod Datasets
 pub mod Splits
+pub mod Events
 pub mod Languages
 pub mod Tags
+pub mod Reading
 pub mod Devices
 pub mod Later
 pub mod Trials

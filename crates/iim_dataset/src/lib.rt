@@ -6,8 +6,13 @@
 
 mod device;
 mod device_laws;
+mod fault;
+mod front;
 mod head;
 mod laws;
+mod place;
+mod reader;
+mod sink;
 mod source;
 mod stop;
 mod target;
@@ -17,11 +22,14 @@ mod trial;
 
 pub use device::IoFault;
 pub use device_laws::{gifts_join, texts_join};
+pub use fault::{Fault, FaultCause};
 pub use head::{Head, HeadCause, HeadFault, TAG_MARKER, head_bytes, read_head};
 pub use laws::{
     canonical_tags_read_back, no_dataset_begins_another, no_tag_begins_another,
     octets_split_one_way,
 };
+pub use reader::HeadReader;
+pub use sink::{DatasetSink, Step};
 pub use source::{FromRead, Source, take};
 pub use stop::Stop;
 pub use target::{FromWrite, Target, put};

@@ -1,0 +1,109 @@
+-- Held octets of a tag, and the octets behind them.
+use Rattle.std.proofs.Common.{◌≡◌, ℕ, suc, ◌+◌, ◌-◌, ◌<◌, ◌≤◌, List, [], ◌∷◌, ◌++◌, length, take, drop, slice_index, ap, sym, subst, ◌∙◌, arith, append_assoc, append-nil, length-append, inl, inr}
+use Rattle.std.proofs.lemmas.Bool.{cases_lt}
+use Rattle.std.proofs.lemmas.List.{take_all, take-take, take-append-drop, take-append-le, length-take, length-take-le}
+use Rattle.std.proofs.Math.Seq.{take-append-add, take-suc}
+use Rattle.iim_dataset.specs.Datasets.{SpellsCount, SpellsTag, count_octets}
+use Rattle.iim_dataset.specs.Tags.{BeginsTag, BeginsNoTag, HasTag, HasNoTag}
+use Rattle.iim_dataset.specs.declared.head.Head.{Head}
+use Rattle.iim_dataset.specs.declared.head.HeadFault.{HeadFault}
+use Rattle.iim_dataset.proofs.Spellings.{one_tag}
+
+-- ---- how long a tag is
+
+count_length : (count : ℕ) (xs : List ℕ) → SpellsCount count_octets count xs → length xs ≤ 6
+count_length count [] s = absurd s
+count_length count (high ∷ []) s = absurd s
+count_length count (high ∷ low ∷ more) (inl s) = omega (arith, ap length s.2)
+count_length count (high ∷ low ∷ more) (inr s) = omega (arith, s.1, s.3)
+
+tag_length : (h : Head) (tag : List ℕ) → SpellsTag count_octets h tag → length tag ≤ 9
+tag_length h tag s = omega (arith, ap length s.parts, count_length h.count s.count s.is_count)
+
+pub begun_length : (xs : List ℕ) → BeginsTag count_octets xs → length xs ≤ 8
+begun_length xs b = omega (arith, tag_length b.head (xs ++ b.more) b.whole, length-append xs b.more, b.some_more)
+
+-- ---- nine octets tell all that octets tell of a tag
+
+pub nine_have : (xs : List ℕ) (h : Head) (n : ℕ) → HasTag (take 9 xs) h n → HasTag xs h n
+nine_have xs h n t =
+    let nine : length (take 9 xs) ≤ 9 = omega (arith, length-take 9 xs) in
+    record {
+      some = t.some;
+      within = omega (arith, t.within, length-take 9 xs);
+      tag = subst (SpellsTag count_octets h) (take-take n 9 xs (omega (arith, t.within, nine))) t.tag;
+    }
+
+pub nine_begin : (xs : List ℕ) → BeginsTag count_octets (take 9 xs) → BeginsTag count_octets xs
+nine_begin xs b = subst (BeginsTag count_octets) (take_all 9 xs (omega (arith, begun_length (take 9 xs) b, length-take 9 xs))) b
+
+pub nine_refuse : (xs : List ℕ) (f : HeadFault) → HasNoTag (take 9 xs) f → HasNoTag xs f
+nine_refuse xs f t =
+    let nine : length (take 9 xs) ≤ 9 = omega (arith, length-take 9 xs) in
+    record {
+      within = omega (arith, t.within, length-take 9 xs);
+      begun = subst (BeginsTag count_octets) (take-take f.at 9 xs (omega (arith, t.within, nine))) t.begun;
+      dead = λ h more s. t.dead h more (subst (λ (u : List ℕ). SpellsTag count_octets h (u ++ more)) (sym (take-take (f.at + 1) 9 xs (omega (arith, t.within, nine)))) s);
+      cause = t.cause;
+    }
+
+-- ---- behind held octets
+
+-- a whole tag is longer than the held octets
+pub longer : (held rest : List ℕ) (h : Head) (n : ℕ) → BeginsTag count_octets held → HasTag (held ++ rest) h n → length held < n
+longer held rest h n b t = elim (cases_lt (length held) n) [
+  | inl lt ↦ lt
+  | inr ge ↦
+      let front : take n (held ++ rest) ≡ take n held = take-append-le n held rest ge in
+      let both : take n held ++ (drop n held ++ b.more) ≡ (held ++ b.more) ++ [] =
+      sym (append_assoc (take n held) (drop n held) b.more) ∙ (ap (λ u. u ++ b.more) (take-append-drop n held) ∙ sym (append-nil (held ++ b.more))) in
+      let one = one_tag count_octets h b.head (take n held) (held ++ b.more) (drop n held ++ b.more) [] (subst (SpellsTag count_octets h) front t.tag) b.whole both in
+      absurd (omega (arith, ap length one.2, length-append (drop n held) b.more, b.some_more))
+]
+
+-- no tag goes on with an octet behind the held ones
+pub behind_held : (held rest : List ℕ) (f : HeadFault) → BeginsTag count_octets held → HasNoTag (held ++ rest) f → length held ≤ f.at
+behind_held held rest f b t = elim (cases_lt f.at (length held)) [
+  | inl lt ↦
+      let n = f.at + 1 in
+      let front : take n (held ++ rest) ≡ take n held = take-append-le n held rest (omega (arith, lt)) in
+      let whole : take n (held ++ rest) ++ (drop n held ++ b.more) ≡ held ++ b.more =
+      ap (λ u. u ++ (drop n held ++ b.more)) front ∙ (sym (append_assoc (take n held) (drop n held) b.more) ∙ ap (λ u. u ++ b.more) (take-append-drop n held)) in
+      absurd (t.dead b.head (drop n held ++ b.more) (subst (SpellsTag count_octets b.head) (sym whole) b.whole))
+  | inr ge ↦ ge
+]
+
+-- a front is the held octets and a front of the rest
+pub front_is : (held rest : List ℕ) (n k : ℕ) → n ≡ length held + k → take n (held ++ rest) ≡ held ++ take k rest
+front_is held rest n k e = ap (λ m. take m (held ++ rest)) e ∙ take-append-add held rest k
+
+pub one_more : (held rest : List ℕ) (k : ℕ) → k < length rest → held ++ take (k + 1) rest ≡ (held ++ take k rest) ++ slice_index rest k ∷ []
+one_more held rest k lt =
+    let next : k + 1 ≡ suc k = omega arith in
+    ap (λ u. held ++ u) (ap (λ m. take m rest) next ∙ take-suc rest k 0 lt) ∙ sym (append_assoc held (take k rest) (slice_index rest k ∷ []))
+
+-- the tag is the held octets and the next ones
+pub tag_is : (held rest : List ℕ) (h : Head) (n k : ℕ) → n ≡ length held + k → HasTag (held ++ rest) h n → SpellsTag count_octets h (held ++ take k rest)
+tag_is held rest h n k e t = subst (SpellsTag count_octets h) (front_is held rest n k e) t.tag
+
+-- but for its last octet it is begun
+pub unfinished : (held rest : List ℕ) (h : Head) (k : ℕ) → k < length rest → SpellsTag count_octets h (held ++ take (k + 1) rest) → BeginsTag count_octets (held ++ take k rest)
+unfinished held rest h k lt s = record {
+  head = h;
+  more = slice_index rest k ∷ [];
+  some_more = omega arith;
+  whole = subst (SpellsTag count_octets h) (one_more held rest k lt) s;
+}
+
+-- where no tag goes on
+pub refused_at : (held rest : List ℕ) (f : HeadFault) (k : ℕ) → BeginsTag count_octets held → HasNoTag (held ++ rest) f → k ≡ f.at - length held
+    → (k < length rest) × BeginsTag count_octets (held ++ take k rest) × BeginsNoTag count_octets ((held ++ take k rest) ++ slice_index rest k ∷ []) × (f.at ≡ length (held ++ take k rest))
+refused_at held rest f k b t e =
+    let all : f.at ≡ length held + k = omega (arith, behind_held held rest f b t, e) in
+    let lt : k < length rest = omega (arith, t.within, length-append held rest, all) in
+    let more : f.at + 1 ≡ length held + (k + 1) = omega (arith, all) in (
+      lt,
+      subst (BeginsTag count_octets) (front_is held rest f.at k all) t.begun,
+      subst (BeginsNoTag count_octets) (front_is held rest (f.at + 1) (k + 1) more ∙ one_more held rest k lt) t.dead,
+      omega (arith, all, length-append held (take k rest), length-take-le k rest (omega (arith, lt))),
+    )

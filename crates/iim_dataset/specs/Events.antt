@@ -1,0 +1,24 @@
+-- What a reader of datasets hands on.
+use Rattle.std.specs.Prelude.{ℕ, List, [], ◌∷◌, ◌++◌, map, flat_map}
+use Rattle.iim_dataset.specs.Datasets.{Dataset, head_of}
+use Rattle.iim_dataset.specs.Splits.{Begun, InTag, InData}
+use Rattle.iim_dataset.specs.declared.head.Head.{Head}
+
+-- a complete head, an octet of data, or the end of a dataset
+pub data Event : Type 0 where
+  HeadRead : Head → Event
+  DataOctet : ℕ → Event
+  DatasetEnd : Event
+
+-- Of a whole dataset: its head, its data and its end.
+abbrev pub events_of : Dataset → List Event
+events_of d = HeadRead (head_of d) ∷ (map DataOctet d.octets ++ DatasetEnd ∷ [])
+
+-- Of a begun one: nothing while its tag is not whole, then its head and the data so far.
+abbrev pub begun_events : Begun → List Event
+begun_events (InTag held) = []
+begun_events (InData h taken) = HeadRead h ∷ map DataOctet taken
+
+-- Of whole datasets and a begun one.
+abbrev pub handed_on : List Dataset → Begun → List Event
+handed_on whole begun = flat_map events_of whole ++ begun_events begun

@@ -1,0 +1,34 @@
+//! Why octets are refused.
+
+ghost use Rattle.std.specs.Prelude.{◌≡◌, Some};
+ghost use Rattle.iim_dataset.specs.Reading.{is_of};
+
+use crate::head::HeadCause;
+
+/// Why an octet is refused.
+#[derive(Clone, Copy, Debug, PartialEq, Eq)]
+pub enum FaultCause {
+    /// The first octet of a tag is not the tag marker.
+    Marker,
+    /// The count of a tag has no form that a count may have.
+    CountForm,
+    /// The sink stopped.
+    Stopped,
+}
+
+/// An octet was refused: `used` octets of the piece stand before it.
+#[derive(Clone, Copy, Debug, PartialEq, Eq)]
+pub struct Fault {
+    pub cause: FaultCause,
+    pub used: usize,
+}
+
+/// Why no tag goes on, as the cause of a fault.
+pub(crate) fn tag_fault(cause: HeadCause) -> FaultCause
+    ensures { is_of result ≡ Some cause }
+{
+    match cause {
+        HeadCause::Marker => FaultCause::Marker,
+        HeadCause::CountForm => FaultCause::CountForm,
+    }
+}

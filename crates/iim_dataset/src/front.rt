@@ -1,0 +1,217 @@
+//! How octets are read from a place on: by whole tags, and by the longest runs that lie in one dataset.
+
+ghost use Rattle.std.specs.Prelude.{◌≡◌, ◌<◌, ◌≤◌, length, take, Some, None, IfOk, IfErr, OnOk, OnErr};
+ghost use Rattle.iim_dataset.specs.Datasets.{count_octets};
+ghost use Rattle.iim_dataset.specs.Tags.{BeginsTag};
+ghost use Rattle.iim_dataset.specs.Reading.{IsPlace, Tells, Refuses, GoesOn, TookAll, StopsAmong, head_events, behind_head, between, to_come};
+
+use crate::fault::{Fault, FaultCause, tag_fault};
+use crate::head::Head;
+use crate::place::{HELD_OCTETS, Place, lengthen, read_tag};
+use crate::sink::{DatasetSink, Step};
+use crate::stop::Stop;
+use arrayvec::ArrayVec;
+
+/// Where a front of some octets leads, and how many it has.
+#[derive(Drop)]
+pub(crate) struct Front {
+    pub(crate) place: Place,
+    pub(crate) step: Step,
+    pub(crate) used: usize,
+}
+
+/// An octet is refused. Where no tag goes on with it, the octets before it lead to the place.
+#[derive(Drop)]
+pub(crate) struct Refused {
+    pub(crate) place: Place,
+    pub(crate) fault: Fault,
+}
+
+/// Between datasets.
+#[tactic(auto, using(crate::proofs::Fronts::begun_none))]
+pub(crate) fn start() -> Place
+    ensures place { result ≡ between }
+    ensures is_place { IsPlace result }
+{
+    Place::Tag(ArrayVec::new())
+}
+
+/// The sink stopped behind so many octets.
+fn stopped(used: usize) -> Refused
+    ensures is_place { IsPlace result.place }
+    ensures fault { result.fault ≡ record { cause = FaultCause.Stopped; used = used } }
+{
+    let cause = FaultCause::Stopped;
+    Refused {
+        place: start(),
+        fault: Fault { cause, used },
+    }
+}
+
+/// Hands on what the last octet of a tag completes.
+fn begin<D: DatasetSink>(head: Head, sink: &mut D) -> Result<(Place, Step), Stop>
+    requires { D.stands sink.old None }
+    ensures place { IfOk result (λ next. next.0 ≡ behind_head head) }
+    ensures told { OnOk result (D.goes sink.old (head_events head) sink.new) }
+    ensures onward { IfOk result (λ next. GoesOn D.stands D.ends next.1 next.0 sink.new) }
+    ensures stopped { OnErr result (StopsAmong D.stops (head_events head) sink.old sink.new) }
+{
+    sink.head(head)?;
+    if head.count > 0 {
+        return Ok((Place::Inside(head, head.count), Step::More));
+    }
+    let step = sink.close()?;
+    Ok((start(), step))
+}
+
+/// Takes octets of a tag of which some are held: up to its end, or all of them.
+fn take_tag<D: DatasetSink>(
+    held: ArrayVec<u8, HELD_OCTETS>,
+    rest: &[u8],
+    sink: &mut D,
+) -> Result<Front, Refused>
+    requires held { BeginsTag count_octets held.items }
+    requires stands { D.stands sink.old None }
+    requires some { 0 < length rest.now }
+    ensures is_place { IfOk result (λ front. IsPlace front.place) }
+    ensures some { IfOk result (λ front. 0 < front.used) }
+    ensures within { IfOk result (λ front. front.used ≤ length rest.now) }
+    ensures told { IfOk result (λ front. Tells D.goes (Place.Tag held) (take front.used rest.now) front.place sink.old sink.new) }
+    ensures onward { IfOk result (λ front. GoesOn D.stands D.ends front.step front.place sink.new) }
+    ensures refused_place { IfErr result (λ refused. IsPlace refused.place) }
+    ensures before { IfErr result (λ refused. refused.fault.used < length rest.now) }
+    ensures refused { IfErr result (λ refused. Refuses D.goes D.stops (Place.Tag held) rest.now refused.fault refused.place sink.old sink.new) }
+{
+    let mut held = held;
+    match read_tag(held.as_slice(), rest) {
+        Ok(Some((head, length))) => {
+            let used = length - held.len();
+            match begin(head, sink) {
+                Ok((place, step)) => Ok(Front { place, step, used }),
+                Err(_) => Err(stopped(used - 1)),
+            }
+        }
+        Ok(None) => {
+            lengthen(&mut held, rest);
+            Ok(Front {
+                place: Place::Tag(held),
+                step: Step::More,
+                used: rest.len(),
+            })
+        }
+        Err(fault) => {
+            let used = fault.at - held.len();
+            let cause = tag_fault(fault.cause);
+            lengthen(&mut held, &rest[..used]);
+            Err(Refused {
+                place: Place::Tag(held),
+                fault: Fault { cause, used },
+            })
+        }
+    }
+}
+
+/// Takes octets of data of which so many are to come: up to their end, or all of them.
+fn take_data<D: DatasetSink>(
+    head: Head,
+    left: u64,
+    rest: &[u8],
+    sink: &mut D,
+) -> Result<Front, Refused>
+    requires place { IsPlace (Place.Inside head left) }
+    requires stands { D.stands sink.old (Some left) }
+    requires some { 0 < length rest.now }
+    ensures is_place { IfOk result (λ front. IsPlace front.place) }
+    ensures some { IfOk result (λ front. 0 < front.used) }
+    ensures within { IfOk result (λ front. front.used ≤ length rest.now) }
+    ensures told { IfOk result (λ front. Tells D.goes (Place.Inside head left) (take front.used rest.now) front.place sink.old sink.new) }
+    ensures onward { IfOk result (λ front. GoesOn D.stands D.ends front.step front.place sink.new) }
+    ensures refused_place { IfErr result (λ refused. IsPlace refused.place) }
+    ensures before { IfErr result (λ refused. refused.fault.used < length rest.now) }
+    ensures refused { IfErr result (λ refused. Refuses D.goes D.stops (Place.Inside head left) rest.now refused.fault refused.place sink.old sink.new) }
+{
+    if (rest.len() as u64) < left {
+        return match sink.run(rest) {
+            Ok(()) => Ok(Front {
+                place: Place::Inside(head, left - rest.len() as u64),
+                step: Step::More,
+                used: rest.len(),
+            }),
+            Err(stop) => Err(stopped(stop.taken)),
+        };
+    }
+    let used = left as usize;
+    match sink.run(&rest[..used]) {
+        Ok(()) => match sink.close() {
+            Ok(step) => Ok(Front {
+                place: start(),
+                step,
+                used,
+            }),
+            Err(_) => Err(stopped(used - 1)),
+        },
+        Err(stop) => Err(stopped(stop.taken)),
+    }
+}
+
+/// Takes a front of the octets that are left, the longest that lies in one tag, or in the data of one dataset.
+fn take_front<D: DatasetSink>(place: Place, rest: &[u8], sink: &mut D) -> Result<Front, Refused>
+    requires place { IsPlace place }
+    requires stands { D.stands sink.old (to_come place) }
+    requires some { 0 < length rest.now }
+    ensures is_place { IfOk result (λ front. IsPlace front.place) }
+    ensures some { IfOk result (λ front. 0 < front.used) }
+    ensures within { IfOk result (λ front. front.used ≤ length rest.now) }
+    ensures told { IfOk result (λ front. Tells D.goes place (take front.used rest.now) front.place sink.old sink.new) }
+    ensures onward { IfOk result (λ front. GoesOn D.stands D.ends front.step front.place sink.new) }
+    ensures refused_place { IfErr result (λ refused. IsPlace refused.place) }
+    ensures before { IfErr result (λ refused. refused.fault.used < length rest.now) }
+    ensures refused { IfErr result (λ refused. Refuses D.goes D.stops place rest.now refused.fault refused.place sink.old sink.new) }
+{
+    match place {
+        Place::Tag(held) => take_tag(held, rest, sink),
+        Place::Inside(head, left) => take_data(head, left, rest, sink),
+    }
+}
+
+/// Takes octets from a place on, all of them or up to the end of the dataset that the sink called the last, and answers the
+/// place behind them and how many they are.
+pub(crate) fn take_piece<D: DatasetSink>(
+    place: Place,
+    octets: &[u8],
+    sink: &mut D,
+) -> Result<(Place, usize), Refused>
+    requires place { IsPlace place }
+    requires stands { D.stands sink.old (to_come place) }
+    ensures is_place { IfOk result (λ front. IsPlace front.0) }
+    ensures within { IfOk result (λ front. front.1 ≤ length octets.now) }
+    ensures told { IfOk result (λ front. Tells D.goes place (take front.1 octets.now) front.0 sink.old sink.new) }
+    ensures onward { IfOk result (λ front. TookAll D.stands D.ends front.0 sink.new (length octets.now) front.1) }
+    ensures refused_place { IfErr result (λ refused. IsPlace refused.place) }
+    ensures before { IfErr result (λ refused. refused.fault.used < length octets.now) }
+    ensures refused { IfErr result (λ refused. Refuses D.goes D.stops place octets.now refused.fault refused.place sink.old sink.new) }
+{
+    let mut now = place;
+    let mut at = 0;
+    while at < octets.len() {
+        match take_front(now, &octets[at..], sink) {
+            Ok(front) => {
+                now = front.place;
+                at += front.used;
+                match front.step {
+                    Step::More => {}
+                    Step::Last => return Ok((now, at)),
+                }
+            }
+            Err(refused) => {
+                let used = at + refused.fault.used;
+                let cause = refused.fault.cause;
+                return Err(Refused {
+                    place: refused.place,
+                    fault: Fault { cause, used },
+                });
+            }
+        }
+    }
+    Ok((now, at))
+}

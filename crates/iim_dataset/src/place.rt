@@ -1,0 +1,56 @@
+//! Where the next octet stands, and the tag that it may complete.
+
+ghost use Rattle.std.specs.Prelude.{◌≡◌, ◌+◌, ◌≤◌, ◌++◌, length, take, IfOk, IfErr, MatchOption};
+ghost use Rattle.arrayvec.specs.ArrayVec.{array_vec_len};
+ghost use Rattle.iim_dataset.specs.Datasets.{count_octets};
+ghost use Rattle.iim_dataset.specs.Tags.{BeginsTag, HasTag, HasNoTag};
+
+use crate::head::{Head, HeadFault, read_head};
+use arrayvec::ArrayVec;
+
+/// The most octets of a tag.
+const TAG_OCTETS: usize = 9;
+
+/// The most octets of a tag that is not whole.
+pub(crate) const HELD_OCTETS: usize = 8;
+
+/// Where the next octet stands.
+#[derive(Debug, Drop)]
+pub(crate) enum Place {
+    /// In a tag, of which these octets have come; between datasets none.
+    Tag(ArrayVec<u8, HELD_OCTETS>),
+    /// In the data of this head, of which so many octets are to come.
+    Inside(Head, u64),
+}
+
+/// Adds octets, for which there is room.
+pub(crate) fn lengthen<const ROOM: usize>(held: &mut ArrayVec<u8, ROOM>, octets: &[u8])
+    requires { array_vec_len held.old + length octets.now ≤ ROOM }
+    ensures { held.new.items ≡ held.old.items ++ octets.now }
+{
+    let _ = held.try_extend_from_slice(octets);
+}
+
+/// The first octets of two slices, joined: as many as a tag may have.
+fn tag_room(held: &[u8], next: &[u8]) -> ArrayVec<u8, TAG_OCTETS>
+    requires { length held.now ≤ 8 }
+    ensures { result.items ≡ take 9 (held.now ++ next.now) }
+{
+    let mut tag = ArrayVec::new();
+    lengthen(&mut tag, held);
+    let room = TAG_OCTETS - held.len();
+    lengthen(&mut tag, &next[..room.min(next.len())]);
+    tag
+}
+
+/// Reads the tag that begins with the held octets and goes on with the next ones, as [`read_head`] does.
+pub(crate) fn read_tag(held: &[u8], next: &[u8]) -> Result<Option<(Head, usize)>, HeadFault>
+    requires { length held.now ≤ 8 }
+    ensures found { IfOk result (λ found. MatchOption found (BeginsTag count_octets (held.now ++ next.now)) (λ f. HasTag (held.now ++ next.now) f.0 f.1)) }
+    ensures fault { IfErr result (HasNoTag (held.now ++ next.now)) }
+{
+    if held.is_empty() {
+        return read_head(next);
+    }
+    read_head(tag_room(held, next).as_slice())
+}

@@ -1,0 +1,98 @@
+//! The reader of datasets, for any cut into pieces.
+
+ghost use Rattle.std.specs.Prelude.{◌≡◌, ◌<◌, ◌≤◌, [], length, take, IsTrue, ◌↔◌, IfOk, IfErr, OnOk, OnErr};
+
+use crate::fault::Fault;
+use crate::front::{start, take_piece};
+use crate::place::Place;
+use crate::sink::DatasetSink;
+use std::marker::Model;
+use std::mem;
+
+/// A reader of datasets. It holds the octets of a tag that is not whole, 8 at most, or a head and how many octets of its data
+/// are to come. No call takes memory.
+#[derive(Debug, Drop)]
+pub struct HeadReader {
+    place: Place,
+    failed: bool,
+}
+
+impl Model for HeadReader {
+    ghost use Rattle.iim_dataset.specs.Reading.{Reader, IsPlace};
+
+    ghost Value = { Reader };
+
+    ghost view = { λ reader. record { place = reader.place; failed = reader.failed } };
+
+    ghost invariant = { λ reader. IsPlace reader.place };
+}
+
+ghost use Rattle.iim_dataset.specs.Reading.{StandsAt, TakesCalls, IsFailed, Tells, Refuses, TookAll, named_by, to_come};
+
+impl HeadReader {
+    /// The reader of a stream of which no octet has come.
+    pub fn new() -> HeadReader
+        ensures takes_calls { TakesCalls result }
+        ensures stands { StandsAt result [] [] }
+    {
+        HeadReader {
+            place: start(),
+            failed: false,
+        }
+    }
+
+    /// Whether a call was refused.
+    pub fn is_failed(&self) -> bool
+        ensures { IsTrue result ↔ IsFailed self.now }
+    {
+        self.failed
+    }
+
+    /// The record and the number of the dataset that is begun, each 0 while it is unread; both 0 between datasets. Where no tag
+    /// went on with an octet they are those of the tag before it.
+    pub fn named(&self) -> (u8, u8)
+        ensures { result ≡ named_by self.now.place }
+    {
+        match &self.place {
+            Place::Tag(held) => (
+                held.get(1).copied().unwrap_or(0),
+                held.get(2).copied().unwrap_or(0),
+            ),
+            Place::Inside(head, _) => (head.rec, head.set),
+        }
+    }
+
+    /// Takes the next octets, and hands the sink what they complete: each head, the data in the longest runs that the octets
+    /// hold, and each end of a dataset. It answers how many it used: all of them, or those up to the end of the dataset that the
+    /// sink called the last one. After a refusal the reader has failed ([`HeadReader::is_failed`]), and takes no further call.
+    pub fn feed<D: DatasetSink>(&mut self, octets: &[u8], sink: &mut D) -> Result<usize, Fault>
+        requires takes_calls { TakesCalls self.old }
+        requires stands { D.stands sink.old (to_come self.old.place) }
+
+        // The used octets lead on, and the sink was told what they complete.
+        ensures takes_calls { OnOk result (TakesCalls self.new) }
+        ensures within { IfOk result (λ used. used ≤ length octets.now) }
+        ensures told { IfOk result (λ used.
+            Tells D.goes self.old.place (take used octets.now) self.new.place sink.old sink.new) }
+        ensures onward { IfOk result (TookAll D.stands D.ends self.new.place sink.new (length octets.now)) }
+
+        // With the refused octet no tag goes on, or the sink stopped at what it completes.
+        ensures failed { OnErr result (IsFailed self.new) }
+        ensures before { IfErr result (λ fault. fault.used < length octets.now) }
+        ensures refused { IfErr result (λ fault.
+            Refuses D.goes D.stops self.old.place octets.now fault self.new.place sink.old sink.new) }
+    {
+        let place = mem::replace(&mut self.place, start());
+        match take_piece(place, octets, sink) {
+            Ok((place, used)) => {
+                self.place = place;
+                Ok(used)
+            }
+            Err(refused) => {
+                self.place = refused.place;
+                self.failed = true;
+                Err(refused.fault)
+            }
+        }
+    }
+}

@@ -1,0 +1,66 @@
+//! Where datasets go.
+
+ghost use Rattle.std.specs.Prelude.{◌≡◌, ◌-◌, ◌<◌, ◌≤◌, ◌++◌, [], ◌∷◌, List, ℕ, length, map, take, slice_index, Option, Some, None, IfOk, IfErr, OnOk, OnErr};
+ghost use Rattle.iim_dataset.specs.Events.{Event, HeadRead, DataOctet, DatasetEnd};
+ghost use Rattle.iim_dataset.specs.Reading.{Answers};
+
+use crate::head::Head;
+use crate::stop::Stop;
+
+/// What a sink answers to the end of a dataset.
+#[derive(Clone, Copy, Debug, PartialEq, Eq)]
+pub enum Step {
+    /// It takes the next head.
+    More,
+    /// The dataset was the last one.
+    Last,
+}
+
+/// Where datasets go: of each its head, its data in any cut, and its end. A sink may refuse any of them.
+pub trait DatasetSink {
+    /// From one value to another by these events, told in this order.
+    ghost goes: { Self → List Event → Self → Type 0 };
+
+    /// From one value to another by these events, where the next one was refused.
+    ghost stops: { Self → List Event → Event → Self → Type 0 };
+
+    /// It takes calls, and so many octets of the begun dataset are to come; None between datasets.
+    ghost stands: { Self → Option ℕ → Type 0 };
+
+    /// It has called a dataset the last one.
+    ghost ends: { Self → Type 0 };
+
+    /// Takes the head of a dataset, or refuses it: its stop has taken nothing.
+    fn head(&mut self, head: Head) -> Result<(), Stop>
+        requires { stands self.old None }
+        ensures ok { OnOk result (goes self.old (HeadRead head ∷ []) self.new) }
+        ensures stands { OnOk result (stands self.new (Some head.count)) }
+        ensures refused { IfErr result (λ stop. stop.taken ≡ 0) }
+        ensures stopped { OnErr result (stops self.old [] (HeadRead head) self.new) };
+
+    /// Takes octets of the data, or only those before the one that it refuses.
+    fn run(&mut self, run: &[u8]) -> Result<(), Stop>
+        requires { (left : ℕ) × stands self.old (Some left) × (length run.now ≤ left) }
+        ensures ok { OnOk result (goes self.old (map DataOctet run.now) self.new) }
+        ensures stands { OnOk result ((left : ℕ) → stands self.old (Some left) → stands self.new (Some (left - length run.now))) }
+        ensures refused { IfErr result (λ stop. stop.taken < length run.now) }
+        ensures stopped { IfErr result (λ stop.
+            stops self.old (map DataOctet (take stop.taken run.now)) (DataOctet (slice_index run.now stop.taken)) self.new) };
+
+    /// Takes the end of a dataset, of which all octets have come, or refuses it: its stop has taken nothing.
+    fn close(&mut self) -> Result<Step, Stop>
+        requires { stands self.old (Some 0) }
+        ensures ok { OnOk result (goes self.old (DatasetEnd ∷ []) self.new) }
+        ensures stands { IfOk result (Answers stands ends self.new) }
+        ensures refused { IfErr result (λ stop. stop.taken ≡ 0) }
+        ensures stopped { OnErr result (stops self.old [] DatasetEnd self.new) };
+
+    /// An empty run changes nothing.
+    ghost nothing: { (sink : Self) → goes sink [] sink };
+
+    /// Events and then others lead where all of them joined lead.
+    ghost joined: { (a b c : Self) (xs ys : List Event) → goes a xs b → goes b ys c → goes a (xs ++ ys) c };
+
+    /// A refusal behind events is one behind all of them joined.
+    ghost joined_stop: { (a b c : Self) (xs ys : List Event) (refused : Event) → goes a xs b → stops b ys refused c → stops a (xs ++ ys) refused c };
+}
