@@ -17,11 +17,11 @@ pub are_octets : (xs : List ℕ) → Fit xs → Octets xs
 are_octets [] fits = tt
 are_octets (x ∷ xs) fits = (fits 0, are_octets xs (λ i. fits (suc i)))
 
-zeros_are : (n : ℕ) → Octets (replicate n 0)
+pub zeros_are : (n : ℕ) → Octets (replicate n 0)
 zeros_are zero = tt
 zeros_are (suc n) = (omega arith, zeros_are n)
 
-both_are : (xs ys : List ℕ) → Octets xs → Octets ys → Octets (xs ++ ys)
+pub both_are : (xs ys : List ℕ) → Octets xs → Octets ys → Octets (xs ++ ys)
 both_are [] ys h k = k
 both_are (x ∷ xs) ys h k = (h.0, both_are xs ys h.1 k)
 

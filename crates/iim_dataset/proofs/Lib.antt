@@ -6,3 +6,4 @@ pub mod Canonical
 pub mod Places
 pub mod HeldTags
 pub mod Stopping
+pub mod OneHanding

@@ -14,7 +14,7 @@ use Rattle.iim_dataset.specs.Reading.{LeadsTo, HandsOn, IsKeptAs, Brings, Stops,
 use Rattle.iim_dataset.specs.declared.head.Head.{Head}
 use Rattle.iim_dataset.specs.declared.place.Place.{Place}
 use Rattle.iim_dataset.specs.declared.place.Place.TheVariants.{Tag, Inside}
-use Rattle.iim_dataset.proofs.Fronts.{begun_none}
+use Rattle.iim_dataset.proofs.Fronts.{begun_none, both_are}
 
 -- ---- whole datasets and a begun one
 
@@ -65,10 +65,6 @@ empty_reads_on xs ys held whole h s none r =
     (stream_more whole r.front _ (held ++ ys) r.is_front (record { tag = held ++ ys; is_tag = subst (λ (k : Head). SpellsTag count_octets k (held ++ ys)) same s; data_octets = tt; parts = sym (append-nil (held ++ ys)) }))
     (ap (λ l. l ++ ys) r.parts ∙ (append_assoc r.front r.rest ys ∙ ap (λ l. r.front ++ (l ++ ys)) r.is_rest.0))
 
-octets_both : (xs ys : List ℕ) → Octets xs → Octets ys → Octets (xs ++ ys)
-octets_both [] ys h k = k
-octets_both (x ∷ xs) ys h k = (h.0, octets_both xs ys h.1 k)
-
 data_parts : (xs ys : List ℕ) (front rest tag taken : List ℕ) → xs ≡ front ++ rest → rest ≡ tag ++ taken → xs ++ ys ≡ front ++ (tag ++ (taken ++ ys))
 data_parts xs ys front rest tag taken e f =
     ap (λ l. l ++ ys) e ∙ (append_assoc front rest ys ∙ ap (λ l. front ++ l) (ap (λ l. l ++ ys) f ∙ append_assoc tag taken ys))
@@ -81,7 +77,7 @@ data_reads_on xs ys taken whole h o short r =
       front = r.front;
       rest = i.0 ++ (taken ++ ys);
       is_front = r.is_front;
-      is_rest = (i.0, i.1, omega (arith, short, length-append taken ys), octets_both taken ys i.3 o, refl);
+      is_rest = (i.0, i.1, omega (arith, short, length-append taken ys), both_are taken ys i.3 o, refl);
       parts = data_parts xs ys r.front r.rest i.0 taken r.parts i.4;
     }
 
@@ -94,7 +90,7 @@ data_reads_end xs ys taken whole h o all r =
     let same : h ≡ record { rec = h.rec; set = h.set; count = length (taken ++ ys) } = (λ j. record { rec = h.rec; set = h.set; count = count j }) in
     nothing_begun (r.front ++ (i.0 ++ (taken ++ ys))) (xs ++ ys) _
     (stream_more whole r.front _ (i.0 ++ (taken ++ ys)) r.is_front
-    (record { tag = i.0; is_tag = subst (λ (k : Head). SpellsTag count_octets k i.0) same i.1; data_octets = octets_both taken ys i.3 o; parts = refl }))
+    (record { tag = i.0; is_tag = subst (λ (k : Head). SpellsTag count_octets k i.0) same i.1; data_octets = both_are taken ys i.3 o; parts = refl }))
     (data_parts xs ys r.front r.rest i.0 taken r.parts i.4)
 
 -- ---- what is handed on of them

@@ -2,7 +2,9 @@
 use Rattle.std.specs.Prelude.{◌≡◌, ℕ, ◌^◌, ◌<◌, List, ◌++◌, length}
 use Rattle.iim_dataset.specs.Octets.{IsOctet}
 use Rattle.iim_dataset.specs.Datasets.{Dataset, SpellsTag, SpellsDataset, canonical_tag, count_octets}
-use Rattle.iim_dataset.specs.Splits.{SplitsInto}
+use Rattle.iim_dataset.specs.Splits.{Begun, SplitsInto}
+use Rattle.iim_dataset.specs.Events.{Event}
+use Rattle.iim_dataset.specs.Reading.{HandsOn}
 use Rattle.iim_dataset.specs.Tags.{BeginsTag, HasTag, HasNoTag}
 use Rattle.iim_dataset.specs.declared.head.Head.{Head}
 use Rattle.iim_dataset.specs.declared.head.HeadFault.{HeadFault}
@@ -21,6 +23,10 @@ NoDatasetBeginsAnother = (limit : ℕ) (d e : Dataset) (o p x y : List ℕ) → 
 abbrev pub OctetsSplitOneWay : Type 0
 OctetsSplitOneWay = (limit : ℕ) (xs : List ℕ) (ds es : List Dataset) (t u : List ℕ) → SplitsInto limit xs ds t → SplitsInto limit xs es u
     → (ds ≡ es) × (t ≡ u)
+
+-- What is handed on of octets is determined, and so is what they have begun: no cut changes it.
+abbrev pub OctetsAreHandedOnOneWay : Type 0
+OctetsAreHandedOnOneWay = (octets : List ℕ) (es fs : List Event) (b c : Begun) → HandsOn octets es b → HandsOn octets fs c → (es ≡ fs) × (b ≡ c)
 
 -- A tag of this head and length is all that a reader of tags can find at the front of the octets.
 pub record ReadsAs (octets : List ℕ) (head : Head) (used : ℕ) : Type 0 where

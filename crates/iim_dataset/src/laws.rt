@@ -1,6 +1,6 @@
 //! What holds of all spellings, whatever form the counts have.
 
-ghost use Rattle.iim_dataset.specs.Laws.{CanonicalTagsReadBack, NoDatasetBeginsAnother, NoTagBeginsAnother, OctetsSplitOneWay};
+ghost use Rattle.iim_dataset.specs.Laws.{CanonicalTagsReadBack, NoDatasetBeginsAnother, NoTagBeginsAnother, OctetsAreHandedOnOneWay, OctetsSplitOneWay};
 
 /// No tag begins another.
 pub fn no_tag_begins_another()
@@ -15,6 +15,11 @@ pub fn no_dataset_begins_another()
 /// Octets split in one way at most into whole datasets and a rest that is less than one.
 pub fn octets_split_one_way()
     ensures { OctetsSplitOneWay }
+{}
+
+/// Octets are handed on in one way, whatever the cut: their events are determined, and what they have begun.
+pub fn octets_are_handed_on_one_way()
+    ensures { OctetsAreHandedOnOneWay }
 {}
 
 /// What `head_bytes` writes, followed by anything, is read as that head and no longer tag.

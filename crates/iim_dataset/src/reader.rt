@@ -89,8 +89,10 @@ impl HeadReader {
                 Ok(used)
             }
             Err(refused) => {
-                self.place = refused.place;
-                self.failed = true;
+                *self = HeadReader {
+                    place: refused.place,
+                    failed: true,
+                };
                 Err(refused.fault)
             }
         }

@@ -1,4 +1,6 @@
-//! Tags and devices at worked values.
+//! Tags and devices at worked values, and datasets in pieces.
+
+mod reading;
 
 use crate::{
     FromRead, FromWrite, Head, HeadCause, HeadFault, IoFault, Source, Target, TrialReader,

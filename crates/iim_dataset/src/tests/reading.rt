@@ -1,0 +1,230 @@
+//! Datasets read in one piece, in two, and octet by octet.
+
+ghost use Rattle.std.specs.Prelude.{⊤, OnOk};
+ghost use Rattle.iim_dataset.specs.Reading.{TakesCalls};
+
+use crate::{DatasetSink, Fault, FaultCause, Head, HeadReader, Step, Stop};
+use arrayvec::ArrayVec;
+use std::process::Abort;
+
+/// Three datasets: a standard count, an extended one, and no data; and an octet behind them.
+const STREAM: &[u8] = b"\x1c\x01\x1e\x00\x03TST\x1c\x02\x05\x80\x01\x02ab\x1c\x07\x0a\x00\x00x";
+
+/// The octets of the three.
+const LENGTH: usize = 21;
+
+/// What a recorder writes of them: `<`, the two numbers and the count, the data, and `>`.
+const RECORD: &[u8] = b"<\x01\x1e\x03TST><\x02\x05\x02ab><\x07\x0a\x00>";
+
+/// The octet that completes each event: a head, octets of data, or an end.
+const COMPLETED_AT: [usize; 11] = [4, 5, 6, 7, 7, 13, 14, 15, 15, 20, 20];
+
+/// Writes down what it takes. The third dataset is the last one.
+#[derive(Drop)]
+struct Recorder {
+    record: ArrayVec<u8, 64>,
+    runs: usize,
+    ended: usize,
+    /// So many events are taken before one is refused.
+    patience: usize,
+}
+
+impl Recorder {
+    fn new(patience: usize) -> Recorder {
+        Recorder {
+            record: ArrayVec::new(),
+            runs: 0,
+            ended: 0,
+            patience,
+        }
+    }
+
+    /// Takes an event, or refuses it.
+    fn takes(&mut self, octets: &[u8]) -> bool {
+        if self.patience == 0 {
+            return false;
+        }
+        self.patience -= 1;
+        let _ = self.record.try_extend_from_slice(octets);
+        true
+    }
+}
+
+impl DatasetSink for Recorder {
+    ghost goes = { λ a events b. ⊤ };
+
+    ghost stops = { λ a events refused b. ⊤ };
+
+    ghost stands = { λ a left. ⊤ };
+
+    ghost ends = { λ a. ⊤ };
+
+    ghost nothing = { λ a. tt };
+
+    ghost joined = { λ a b c xs ys h k. tt };
+
+    ghost joined_stop = { λ a b c xs ys refused h k. tt };
+
+    fn head(&mut self, head: Head) -> Result<(), Stop> {
+        let count = head.count.min(255) as u8;
+        if self.takes(&[b'<', head.rec, head.set, count]) {
+            return Ok(());
+        }
+        Err(Stop { taken: 0 })
+    }
+
+    fn run(&mut self, run: &[u8]) -> Result<(), Stop> {
+        self.runs = self.runs.saturating_add(1);
+        for (taken, octet) in run.iter().enumerate() {
+            if !self.takes(&[*octet]) {
+                return Err(Stop { taken });
+            }
+        }
+        Ok(())
+    }
+
+    fn close(&mut self) -> Result<Step, Stop> {
+        if !self.takes(b">") {
+            return Err(Stop { taken: 0 });
+        }
+        self.ended = self.ended.saturating_add(1);
+        if self.ended == 3 {
+            return Ok(Step::Last);
+        }
+        Ok(Step::More)
+    }
+}
+
+/// Feeds octets one by one up to the end of the last dataset, and answers how many were used.
+fn feed_by_octets(
+    reader: &mut HeadReader,
+    octets: &[u8],
+    sink: &mut Recorder,
+) -> Result<usize, Fault>
+    requires { TakesCalls reader.old }
+{
+    for (at, octet) in octets.iter().enumerate() {
+        if sink.ended == 3 {
+            return Ok(at);
+        }
+        if let Err(fault) = reader.feed(&[*octet], sink) {
+            return Err(Fault {
+                cause: fault.cause,
+                used: at,
+            });
+        }
+    }
+    Ok(octets.len())
+}
+
+#[test]
+fn datasets_in_any_cut(rt: HostRuntime) {
+    for cut in 0..LENGTH {
+        let mut reader = HeadReader::new();
+        let mut sink = Recorder::new(11);
+        let (front, rest) = STREAM.split_at(cut);
+        assert_eq!(rt; reader.feed(front, &mut sink), Ok(cut));
+        assert_eq!(rt;
+            reader.feed(rest, &mut sink),
+            Ok(LENGTH - cut),
+            "cut at {cut}"
+        );
+        assert_eq!(rt; sink.record.as_slice(), RECORD, "cut at {cut}");
+        assert!(rt; !reader.is_failed());
+        assert_eq!(rt; reader.named(), (0, 0));
+    }
+    let mut reader = HeadReader::new();
+    let mut sink = Recorder::new(11);
+    assert_eq!(rt; feed_by_octets(&mut reader, STREAM, &mut sink), Ok(LENGTH));
+    assert_eq!(rt; sink.record.as_slice(), RECORD);
+}
+
+#[test]
+fn longest_runs(rt: HostRuntime) {
+    let mut reader = HeadReader::new();
+    let mut sink = Recorder::new(11);
+    assert_eq!(rt; reader.feed(STREAM, &mut sink), Ok(LENGTH));
+    assert_eq!(rt; sink.runs, 2);
+}
+
+/// Octets with which no tag goes on: the cause, the octet, and the numbers that were read.
+const NO_TAGS: [(&[u8], FaultCause, usize, (u8, u8)); 6] = [
+    (b"\x1d\x01", FaultCause::Marker, 0, (0, 0)),
+    (b"\x1c\x01\x00\x80\x00", FaultCause::CountForm, 4, (1, 0)),
+    (b"\x1c\x01\x00\x80\x05", FaultCause::CountForm, 4, (1, 0)),
+    (b"\x1c\x02\x69\x81\x01", FaultCause::CountForm, 3, (2, 0x69)),
+    (
+        b"\x1c\x01\x1e\x00\x01T\x1c\x02\x05\xff",
+        FaultCause::CountForm,
+        9,
+        (2, 5),
+    ),
+    (b"\x1c\x01\x1e\x00\x01Tx", FaultCause::Marker, 6, (0, 0)),
+];
+
+#[test]
+fn no_tag_goes_on(rt: HostRuntime) {
+    for (octets, cause, used, named) in NO_TAGS {
+        let mut reader = HeadReader::new();
+        let mut sink = Recorder::new(11);
+        let fault = Fault { cause, used };
+        assert_eq!(rt; reader.feed(octets, &mut sink), Err(fault), "{octets:?}");
+        assert!(rt; reader.is_failed());
+        assert_eq!(rt; reader.named(), named, "{octets:?}");
+        let mut reader = HeadReader::new();
+        let mut sink = Recorder::new(11);
+        assert_eq!(rt;
+            feed_by_octets(&mut reader, octets, &mut sink),
+            Err(fault),
+            "{octets:?}"
+        );
+        assert_eq!(rt; reader.named(), named, "{octets:?}");
+    }
+}
+
+/// The sink stops at this event.
+fn expect_stop(rt: &impl Abort, event: usize, used: usize) {
+    let stop = Err(Fault {
+        cause: FaultCause::Stopped,
+        used,
+    });
+    let mut reader = HeadReader::new();
+    let mut sink = Recorder::new(event);
+    assert_eq!(rt; reader.feed(STREAM, &mut sink), stop, "event {event}");
+    assert!(rt; reader.is_failed());
+    let mut reader = HeadReader::new();
+    let mut again = Recorder::new(event);
+    assert_eq!(rt;
+        feed_by_octets(&mut reader, STREAM, &mut again),
+        stop,
+        "event {event}"
+    );
+    assert_eq!(rt; sink.record.as_slice(), again.record.as_slice());
+}
+
+#[test]
+fn sinks_that_stop(rt: HostRuntime) {
+    for (event, used) in COMPLETED_AT.into_iter().enumerate() {
+        expect_stop(&rt, event, used);
+    }
+}
+
+#[test]
+fn numbers_of_the_begun_dataset(rt: HostRuntime) {
+    let rows = [
+        (0, (0, 0)),
+        (1, (0, 0)),
+        (2, (2, 0)),
+        (3, (2, 5)),
+        (6, (2, 5)),
+        (7, (2, 5)),
+        (8, (0, 0)),
+    ];
+    for (fed, named) in rows {
+        let mut reader = HeadReader::new();
+        let mut sink = Recorder::new(11);
+        let (octets, _) = STREAM[8..].split_at(fed);
+        assert_eq!(rt; reader.feed(octets, &mut sink), Ok(fed));
+        assert_eq!(rt; reader.named(), named, "behind {fed}");
+    }
+}
