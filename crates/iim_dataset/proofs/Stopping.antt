@@ -1,10 +1,11 @@
 -- Where a sink stops.
+use Rattle.std.proofs.lemmas.List.{take_rest}
 use Rattle.std.proofs.Common.{◌≡◌, ℕ, suc, ◌+◌, ◌-◌, ◌<◌, ◌≤◌, List, [], ◌∷◌, ◌++◌, length, take, slice_index, refl, ap, sym, subst, ◌∙◌, arith, append_assoc, append-nil, map, zero, Option, Some, None, get_or-drop}
 use Rattle.std.proofs.lemmas.List.{map-append, length-take-le}
 use Rattle.std.proofs.Math.Seq.{take-suc}
 use Rattle.arrayvec.specs.ArrayVec.{ArrayVec}
 use Rattle.iim_dataset.specs.Octets.{Octets}
-use Rattle.iim_dataset.specs.Slices.{rest_of, rest_is, take-front}
+use Rattle.iim_dataset.proofs.Rests.{rest_of, take-front}
 use Rattle.iim_dataset.specs.Datasets.{SpellsTag, count_octets}
 use Rattle.iim_dataset.specs.Events.{Event, DataOctet, DatasetEnd}
 use Rattle.iim_dataset.specs.Reading.{LeadsTo, Brings, Tells, TagDies, Completes, Stops, StopsAmong, RefusesFor, head_events, behind_head}
@@ -74,7 +75,7 @@ tells_front goes joined p q r piece i k a b c t u = record {
 }
 
 octet_is : (piece : List ℕ) (i k : ℕ) → slice_index (rest_of piece i) k ≡ slice_index piece (i + k)
-octet_is piece i k = ap (λ r. slice_index r k) (rest_is piece i) ∙ get_or-drop i piece k 0
+octet_is piece i k = ap (λ r. slice_index r k) (take_rest piece i) ∙ get_or-drop i piece k 0
 
 pub refuses_front : {D : Type 0} (goes : D → List Event → D → Type 0) (stops : D → List Event → Event → D → Type 0)
     → ((a b c : D) (xs ys : List Event) → goes a xs b → goes b ys c → goes a (xs ++ ys) c)

@@ -1,5 +1,4 @@
 pub mod Octets
-pub mod Slices
 pub mod Datasets
 pub mod Splits
 pub mod Events

@@ -1,7 +1,8 @@
-//! Datasets of the Information Interchange Model: their tags, and the devices that octets come from and go to.
+//! Datasets of the Information Interchange Model: their tags, datasets in pieces, and the devices that octets come from and
+//! go to.
 //!
-//! Stands on `byteorder` and `arrayvec`. The crates above read tags by [`read_head`], write them by [`head_bytes`], and
-//! reach readers and writers by [`take`] and [`put`] alone.
+//! Stands on `byteorder` and `arrayvec`. [`HeadReader`] reads datasets in any pieces for a [`DatasetSink`]. The crates above
+//! read tags by [`read_head`], write them by [`head_bytes`], and reach readers and writers by [`take`] and [`put`] alone.
 #![tactic(auto)]
 
 mod device;

@@ -1,6 +1,5 @@
 -- Parts of octets are octets.
-use Rattle.std.proofs.Common.{◌≡◌, ℕ, ◌-◌, ◌<◌, List, [], ◌∷◌, zero, suc, length, take, drop, get_or, ap, sym, ◌∙◌, length-drop}
-use Rattle.std.proofs.Math.Seq.{take-length}
+use Rattle.std.proofs.Common.{ℕ, ◌<◌, List, [], ◌∷◌, zero, suc, take, drop, get_or}
 use Rattle.iim_dataset.specs.Octets.{Octets}
 
 -- each is an octet
@@ -20,7 +19,3 @@ pub drop_octets : (n : ℕ) (xs : List ℕ) → Octets xs → Octets (drop n xs)
 drop_octets zero xs h = h
 drop_octets (suc n) [] h = tt
 drop_octets (suc n) (x ∷ xs) h = drop_octets n xs h.1
-
--- `&octets[at..]`
-pub rest_whole : (xs : List ℕ) (at : ℕ) → take (length xs - at) (drop at xs) ≡ drop at xs
-rest_whole xs at = ap (λ n. take n (drop at xs)) (sym (length-drop at xs)) ∙ take-length (drop at xs)

@@ -1,4 +1,5 @@
 -- One dataset at the front of what is left.
+use Rattle.std.proofs.lemmas.List.{take_rest}
 use Rattle.std.proofs.Common.{◌≡◌, ◌≢◌, ℕ, ◌+◌, ◌-◌, ◌≤◌, ◌∙◌, List, length, take, drop, ap, sym, subst, arith, length-take}
 use Rattle.std.proofs.Math.Seq.{take-add}
 use Rattle.iim_dataset.specs.Datasets.{SpellsTag, SpellsDataset, head_of, count_octets}
@@ -7,7 +8,7 @@ use Rattle.iim_dataset.specs.declared.head.Head.{Head}
 use Rattle.iim_dataset.specs.Octets.{Octets}
 use Rattle.iim_fields.specs.Values.{data_of}
 use Rattle.iim_fields.specs.Standing.{IsOf}
-use Rattle.iim_unpack.proofs.Octets.{Fit, are_octets, take_octets, drop_octets, rest_whole}
+use Rattle.iim_unpack.proofs.Octets.{Fit, are_octets, take_octets, drop_octets}
 
 -- the data of a head are as long as it counts
 pub head_is : (rest : List ℕ) (h : Head) (used : ℕ) → h.count ≤ length (drop used rest) → head_of (data_of h (take h.count (drop used rest))) ≡ h
@@ -35,4 +36,4 @@ is_of h xs taken fits long given = record { head = λ i. record { rec = h.rec; s
 pub value_is : (octets : List ℕ) (at used count : ℕ) → take (used + count - used) (drop used (take (length octets - at) (drop at octets))) ≡ take count (drop used (drop at octets))
 value_is octets at used count =
     let less : used + count - used ≡ count = omega arith in
-    ap (λ n. take n (drop used (take (length octets - at) (drop at octets)))) less ∙ ap (λ l. take count (drop used l)) (rest_whole octets at)
+    ap (λ n. take n (drop used (take (length octets - at) (drop at octets)))) less ∙ ap (λ l. take count (drop used l)) (take_rest octets at)

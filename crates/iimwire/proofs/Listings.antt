@@ -1,8 +1,8 @@
 -- Envelopes one after another.
-use Rattle.std.proofs.Common.{◌≡◌, ◌≤◌, ◌⊎◌, ℕ, ◌+◌, ◌-◌, List, [], ◌∷◌, ◌++◌, length, take, drop, refl, ap, sym, subst, ◌∙◌, inl, inr, arith, append_assoc, length-append, length-take, length-drop, Option, Some, None, Err}
+use Rattle.std.proofs.Common.{◌≡◌, ◌≤◌, ◌⊎◌, ℕ, ◌+◌, List, [], ◌∷◌, ◌++◌, length, take, drop, refl, ap, sym, subst, ◌∙◌, inl, inr, arith, append_assoc, length-append, Option, Some, None, Err}
 use Rattle.std.specs.List.{AllByRecursion}
-use Rattle.std.proofs.lemmas.List.{append-nil, take-append-drop}
-use Rattle.std.proofs.Math.Seq.{take-add, take-length}
+use Rattle.std.proofs.lemmas.List.{append-nil, take-append-drop, length-take-le}
+use Rattle.std.proofs.Math.Seq.{take-add}
 use Rattle.iim_dataset.specs.DeviceLaws.{TextsJoin}
 use Rattle.iim_dataset.specs.Devices.{Device, Wrote}
 use Rattle.iim_unpack.specs.Framed.{Framed, BeginsUnframed}
@@ -140,14 +140,7 @@ divided input at count old new l = record {
   parts = sym (take-append-drop at input) ∙ ap (λ x. x ++ drop at input) l.front;
 }
 
--- the slice from `at` to the end
-pub rest_whole : (input : List ℕ) (at : ℕ) → take (length input - at) (drop at input) ≡ drop at input
-rest_whole input at = ap (λ n. take n (drop at input)) (sym (length-drop at input)) ∙ take-length (drop at input)
-
--- an envelope more: its length, and the input that it divides
-length_of_front : (used : ℕ) (rest : List ℕ) → used ≤ length rest → length (take used rest) ≡ used
-length_of_front used rest within = omega (arith, length-take used rest)
-
+-- an envelope more
 divides_more : (input : List ℕ) (es : List (List ℕ)) (rest : List ℕ) (used : ℕ) → Divides input es rest → Framed limits (take used rest)
     → Divides input (es ++ take used rest ∷ []) (drop used rest)
 divides_more input es rest used d framed = record {
@@ -162,7 +155,7 @@ line_behind : (es : List (List ℕ)) (count used : ℕ) (rest line : List ℕ) �
     → lines_from 1 es ++ line ≡ lines_from 1 (es ++ take used rest ∷ [])
 line_behind es count used rest line counted within is =
     let number : count + 1 ≡ 1 + length es = omega (arith, counted) in
-    ap (λ l. lines_from 1 es ++ l) (is ∙ ap (λ k. accepted_line k used) number ∙ ap (λ n. accepted_line (1 + length es) n) (sym (length_of_front used rest within)))
+    ap (λ l. lines_from 1 es ++ l) (is ∙ ap (λ k. accepted_line k used) number ∙ ap (λ n. accepted_line (1 + length es) n) (sym (length-take-le used rest within)))
     ∙ sym (lines_more es (take used rest) 1)
 
 -- ---- the laws that the listing is made by

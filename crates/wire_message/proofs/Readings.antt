@@ -1,4 +1,5 @@
 -- What a piece does to a reader that stands at a place, and to the story in it.
+use Rattle.std.proofs.lemmas.List.{take_rest}
 use Rattle.std.proofs.Common.{◌≡◌, ℕ, zero, suc, ◌+◌, ◌<◌, true, false, List, [], ◌∷◌, ◌++◌, take, slice_index, Option, Some, None, map, refl, sym, ap, subst, ◌∙◌, arith, append_assoc, append-nil}
 use Rattle.std.specs.Prelude.{IsSome}
 use Rattle.std.proofs.lemmas.Bool.Decides.{nat_tests}
@@ -26,7 +27,7 @@ use Rattle.wire_message.proofs.Transitions.{text_more, text_etx, one_is}
 use Rattle.wire_message.proofs.Alive.{message_lives, map_snoc, message_unfinished, IsAfterEnd}
 use Rattle.wire_message.proofs.Runs.{unread}
 use Rattle.wire_message.proofs.TextSoFar.{text_is, tokens_are, tokens_at_etx}
-use Rattle.wire_message.proofs.Rests.{rest_of, rest_is, take-front}
+use Rattle.wire_message.proofs.Rests.{rest_of, take-front}
 use Rattle.std.proofs.lemmas.List.{get_or-drop}
 
 -- ---- histories of a place
@@ -160,7 +161,7 @@ pub refuses_front : (a b : Option Place) (piece : List ℕ) (at k : ℕ) (m : Li
 refuses_front a b piece at k m cause f g octets text s =
     let front : (octets ++ take at piece) ++ take k (rest_of piece at) ≡ octets ++ take (at + k) piece =
     append_assoc octets (take at piece) (take k (rest_of piece at)) ∙ ap (λ (u : List ℕ). octets ++ u) (sym (take-front piece at k)) in
-    let octet : slice_index (rest_of piece at) k ≡ slice_index piece (at + k) = ap (λ (r : List ℕ). slice_index r k) (rest_is piece at) ∙ get_or-drop at piece k 0 in
+    let octet : slice_index (rest_of piece at) k ≡ slice_index piece (at + k) = ap (λ (r : List ℕ). slice_index r k) (take_rest piece at) ∙ get_or-drop at piece k 0 in
     subst (λ (t : List ℕ). HasCause cause t (slice_index piece (at + k))) front
     (subst (λ (n : ℕ). HasCause cause ((octets ++ take at piece) ++ take k (rest_of piece at)) n) octet (g (octets ++ take at piece) (text ++ m) (f octets text s)))
 

@@ -1,4 +1,5 @@
 -- How a piece leads a reader on, and how it is refused.
+use Rattle.std.proofs.lemmas.List.{take_rest}
 use Rattle.std.proofs.Common.{◌≡◌, ◌≢◌, ℕ, ◌+◌, ◌<◌, ◌≤◌, Bool, true, false, ◌==◌, nat_lt, ◌&&◌, List, [], ◌∷◌, ◌++◌, take, slice_index, Option, Some, None, refl, sym, ap, subst, ◌∙◌, arith, append-nil, append_assoc, option_and_then, get_or-drop}
 use Rattle.std.proofs.lemmas.Bool.{true≢false}
 use Rattle.std.proofs.lemmas.Bool.Decides.{nat_tests}
@@ -7,7 +8,7 @@ use Rattle.wire_story.specs.Tokens.{LivesWith}
 use Rattle.wire_story.specs.Reading.{StandsAt, GoesOn, IsLoneReturn, IsControl, HasCause, Refuses}
 use Rattle.wire_story.specs.declared.fault.TextCause.{TextCause}
 use Rattle.wire_story.specs.declared.fault.TextCause.TheVariants.{LoneReturn, ControlOctet, Sink}
-use Rattle.wire_story.proofs.Rests.{rest_of, rest_is, take-front}
+use Rattle.wire_story.proofs.Rests.{rest_of, take-front}
 use Rattle.wire_story.proofs.HeldReturns.{held_after, after_octet, chosen, some_is, held_line, line_octet_step}
 use Rattle.wire_story.proofs.Lives.{held_joined, held_of, holds, live_of, dies}
 
@@ -32,7 +33,7 @@ pub refuses_front : (old mid : Option ℕ) (piece : List ℕ) (i k : ℕ) (cause
 refuses_front old mid piece i k cause f g octets w =
     let front : (octets ++ take i piece) ++ take k (rest_of piece i) ≡ octets ++ take (i + k) piece =
     append_assoc octets (take i piece) (take k (rest_of piece i)) ∙ ap (λ t. octets ++ t) (sym (take-front piece i k)) in
-    let octet : slice_index (rest_of piece i) k ≡ slice_index piece (i + k) = ap (λ r. slice_index r k) (rest_is piece i) ∙ get_or-drop i piece k 0 in
+    let octet : slice_index (rest_of piece i) k ≡ slice_index piece (i + k) = ap (λ r. slice_index r k) (take_rest piece i) ∙ get_or-drop i piece k 0 in
     subst (λ (t : List ℕ). HasCause cause t (slice_index piece (i + k))) front
     (subst (λ (b : ℕ). HasCause cause ((octets ++ take i piece) ++ take k (rest_of piece i)) b) octet (g (octets ++ take i piece) (f octets w)))
 

@@ -1,5 +1,5 @@
 use Rattle.std.proofs.Common.{[], arith}
-use Rattle.iim_dataset.specs.Slices.{length-rest}
+use Rattle.iim_dataset.proofs.Rests.{length-rest}
 use Rattle.iim_dataset.specs.Reading.{is_of}
 use Rattle.iim_dataset.proofs.Places.{stays}
 use Rattle.iim_dataset.proofs.Stopping.{tells_front, refuses_front}

@@ -1,3 +1,4 @@
+use Rattle.std.proofs.lemmas.List.{take_rest}
 use Rattle.std.proofs.Common.{◌≡◌, ◌+◌, ◌-◌, ◌≤◌, ℕ, List, [], ◌∷◌, ◌++◌, length, drop, take, inl, inr, arith, refl, sym, ap, subst, ◌∙◌, length-drop, length-take, get_or-drop}
 use Rattle.iim_dataset.specs.Datasets.{SpellsDataset, count_octets}
 use Rattle.iim_fields.specs.Standing.{limits_of}
@@ -5,7 +6,6 @@ use Rattle.iim_fields.specs.Values.{data_of}
 use Rattle.iim_unpack.specs.Tokens.{GoOnAt, IsRefusedValue}
 use Rattle.iim_unpack.specs.Layers.{StandsAfter}
 use Rattle.iim_unpack.specs.Steps.{truncated_at}
-use Rattle.iim_unpack.proofs.Octets.{rest_whole}
 use Rattle.iim_unpack.proofs.Steps.{spells, head_is, value_is}
 use Rattle.iim_unpack.proofs.Taken.{goes_at}
 use Rattle.iim_unpack.proofs.envelope.take_dataset.Goals as goal
@@ -17,7 +17,7 @@ returns-then-data-head-clause-fault c =
     let rest = drop at octets in
     let head = c.in-Ok-Some.found.0 in
     let used = c.in-Ok-Some.found.1 in
-    let tag = rw (c.in-Ok-Some.field-0-is, rest_whole octets at) at c.in-Ok-Some.ensures.found in
+    let tag = rw (c.in-Ok-Some.field-0-is, take_rest octets at) at c.in-Ok-Some.ensures.found in
     let end : length octets ≡ at + length rest = omega (arith, c.requires.within, length-drop at octets) in
     λ ds behind.
     inr (inl (record {
@@ -36,7 +36,7 @@ returns-in-Err-value-clause-fault c =
     let rest = drop at octets in
     let head = c.in-Ok-Some.found.0 in
     let used = c.in-Ok-Some.found.1 in
-    let tag = rw (c.in-Ok-Some.field-0-is, rest_whole octets at) at c.in-Ok-Some.ensures.found in
+    let tag = rw (c.in-Ok-Some.field-0-is, take_rest octets at) at c.in-Ok-Some.ensures.found in
     let long : head.count ≤ length (drop used rest) = simp length-drop (omega (arith, simp (length-take, length-drop) at c.if-data-head.false)) in
     let same = head_is rest head used long in
     λ ds behind.
@@ -60,7 +60,7 @@ returns-clause-taken c =
     let rest = drop at octets in
     let head = c.in-Ok-Some.found.0 in
     let used = c.in-Ok-Some.found.1 in
-    let tag = rw (c.in-Ok-Some.field-0-is, rest_whole octets at) at c.in-Ok-Some.ensures.found in
+    let tag = rw (c.in-Ok-Some.field-0-is, take_rest octets at) at c.in-Ok-Some.ensures.found in
     let long : head.count ≤ length (drop used rest) = simp length-drop (omega (arith, simp (length-take, length-drop) at c.if-data-head.false)) in
     let value : List ℕ = take head.count (drop used rest) in
     let length_is : used + head.count ≡ at + (used + head.count) - at = omega arith in

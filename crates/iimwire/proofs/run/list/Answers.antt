@@ -1,8 +1,9 @@
+use Rattle.std.proofs.lemmas.List.{take_rest}
 use Rattle.std.proofs.Common.{◌≡◌, ◌≤◌, ◌-◌, ℕ, List, [], Option, Some, None, Err, refl, sym, subst, arith, length, take, drop, length-drop}
 use Rattle.std.proofs.Math.ListN.{drop_of_length-le}
 use Rattle.iimwire.specs.Listings.{Whole}
 use Rattle.iimwire.specs.Outcomes.{IsLineAt, IsUnreported, Told}
-use Rattle.iimwire.proofs.Listings.{Laws, listed_more, reported, rest_whole, unreported}
+use Rattle.iimwire.proofs.Listings.{Laws, listed_more, reported, unreported}
 use Rattle.iimwire.proofs.Told.{handed_on}
 use Rattle.iimwire.proofs.run.list.Goals as goal
 
@@ -11,7 +12,7 @@ line_of_rest : (input : List ℕ) (at count : ℕ) (found same : Option ℕ) (li
     → IsLineAt count (take (length input - at) (drop at input)) found line → IsLineAt count (drop at input) same line
 line_of_rest input at count found same line is h =
     subst (λ (f : Option ℕ). IsLineAt count (drop at input) f line) is
-    (subst (λ (r : List ℕ). IsLineAt count r found line) (rest_whole input at) h)
+    (subst (λ (r : List ℕ). IsLineAt count r found line) (take_rest input at) h)
 
 pub returns-in_err-used-clause-err : goal.returns-in_err-used-clause-err
 returns-in_err-used-clause-err g c =
@@ -25,7 +26,7 @@ returns-in_err-used-clause-err g c =
     let told : Told c.loop-at.count (take (length input - at) (drop at input)) mid new (Err fault) = c.in_err-used.ensures in
     handed_on (IsUnreported input old new) c.from_residual.result fault c.from_residual.ensures.1
     (unreported laws input at c.loop-at.count old mid new fault c.loop-at.invariant.listed c.loop-at.invariant.few
-    (subst (λ (r : List ℕ). Told c.loop-at.count r mid new (Err fault)) (rest_whole input at) told))
+    (subst (λ (r : List ℕ). Told c.loop-at.count r mid new (Err fault)) (take_rest input at) told))
 
 pub returns-in_default-clause-ok : goal.returns-in_default-clause-ok
 returns-in_default-clause-ok g c =

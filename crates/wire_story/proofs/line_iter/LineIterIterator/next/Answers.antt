@@ -1,3 +1,4 @@
+use Rattle.std.proofs.lemmas.List.{take_rest}
 use Rattle.std.proofs.Common.{◌≡◌, ℕ, ◌+◌, ◌<◌, ◌≤◌, ◌==◌, false, List, [], ◌∷◌, length, take, drop, Option, Some, Bor, sym, ap, ◌∙◌, arith}
 use Rattle.std.specs.List.{position_or_len}
 use Rattle.std.specs.Option.{option_copied}
@@ -5,7 +6,7 @@ use Rattle.std.proofs.lemmas.List.Splits.{slice_split_first, slice_split_none}
 use Rattle.std.proofs.lemmas.List.Sums.{fails_before_first}
 use Rattle.std.proofs.lemmas.List.Elements.{All-from_get_or}
 use Rattle.wire_story.specs.Collecting.{lines_in, lines_left}
-use Rattle.wire_story.proofs.Rests.{rest_of, rest_is}
+use Rattle.wire_story.proofs.Rests.{rest_of}
 use Rattle.wire_story.proofs.line_iter.LineIterIterator.next.Goals as goal
 
 -- the first line, and those that are left behind its LF
@@ -14,7 +15,7 @@ first_line : (octets : List ℕ) (end : ℕ) → end ≡ position_or_len (λ b. 
 first_line octets end e l =
     slice_split_first (λ b. b == 10) octets 0 (omega (arith, e, l))
     ∙ ap (λ (n : ℕ). take n octets ∷ lines_in (drop (n + 1) octets)) (sym e)
-    ∙ ap (λ (rest : List ℕ). take end octets ∷ lines_in rest) (sym (rest_is octets (end + 1)))
+    ∙ ap (λ (rest : List ℕ). take end octets ∷ lines_in rest) (sym (take_rest octets (end + 1)))
 
 -- the last line
 last_line : (octets : List ℕ) (end : ℕ) → end ≡ position_or_len (λ b. b == 10) octets → length octets ≤ end → lines_in octets ≡ octets ∷ []
