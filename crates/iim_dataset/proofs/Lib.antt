@@ -8,3 +8,4 @@ pub mod Places
 pub mod HeldTags
 pub mod Stopping
 pub mod OneHanding
+pub mod Telling

@@ -1,5 +1,5 @@
 -- What a reader of datasets hands on.
-use Rattle.std.specs.Prelude.{ℕ, List, [], ◌∷◌, ◌++◌, map, flat_map}
+use Rattle.std.specs.Prelude.{ℕ, List, [], ◌∷◌, ◌++◌, map, flat_map, Option, Some, None}
 use Rattle.iim_dataset.specs.Datasets.{Dataset, head_of}
 use Rattle.iim_dataset.specs.Splits.{Begun, InTag, InData}
 use Rattle.iim_dataset.specs.declared.head.Head.{Head}
@@ -18,6 +18,11 @@ events_of d = HeadRead (head_of d) ∷ (map DataOctet d.octets ++ DatasetEnd ∷
 abbrev pub begun_events : Begun → List Event
 begun_events (InTag held) = []
 begun_events (InData h taken) = HeadRead h ∷ map DataOctet taken
+
+-- the head of what is begun, and the data so far, where its head has come
+abbrev pub begun_data : Begun → Option (Head × List ℕ)
+begun_data (InTag held) = None
+begun_data (InData h taken) = Some (h, taken)
 
 -- Of whole datasets and a begun one.
 abbrev pub handed_on : List Dataset → Begun → List Event

@@ -3,7 +3,7 @@ use Rattle.std.specs.Prelude.{◌≡◌, ℕ, ◌^◌, ◌<◌, List, ◌++◌, 
 use Rattle.iim_dataset.specs.Octets.{IsOctet}
 use Rattle.iim_dataset.specs.Datasets.{Dataset, SpellsTag, SpellsDataset, canonical_tag, count_octets}
 use Rattle.iim_dataset.specs.Splits.{Begun, SplitsInto}
-use Rattle.iim_dataset.specs.Events.{Event}
+use Rattle.iim_dataset.specs.Events.{Event, handed_on, begun_data}
 use Rattle.iim_dataset.specs.Reading.{HandsOn}
 use Rattle.iim_dataset.specs.Tags.{BeginsTag, HasTag, HasNoTag}
 use Rattle.iim_dataset.specs.declared.head.Head.{Head}
@@ -27,6 +27,10 @@ OctetsSplitOneWay = (limit : ℕ) (xs : List ℕ) (ds es : List Dataset) (t u : 
 -- What is handed on of octets is determined, and so is what they have begun: no cut changes it.
 abbrev pub OctetsAreHandedOnOneWay : Type 0
 OctetsAreHandedOnOneWay = (octets : List ℕ) (es fs : List Event) (b c : Begun) → HandsOn octets es b → HandsOn octets fs c → (es ≡ fs) × (b ≡ c)
+
+-- What was handed on tells the whole datasets, and the head and the data so far of the begun one.
+abbrev pub EventsTellTheDatasets : Type 0
+EventsTellTheDatasets = (ds es : List Dataset) (b c : Begun) → handed_on ds b ≡ handed_on es c → (ds ≡ es) × (begun_data b ≡ begun_data c)
 
 -- A tag of this head and length is all that a reader of tags can find at the front of the octets.
 pub record ReadsAs (octets : List ℕ) (head : Head) (used : ℕ) : Type 0 where

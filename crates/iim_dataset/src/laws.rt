@@ -1,6 +1,6 @@
 //! What holds of all spellings, whatever form the counts have.
 
-ghost use Rattle.iim_dataset.specs.Laws.{CanonicalTagsReadBack, NoDatasetBeginsAnother, NoTagBeginsAnother, OctetsAreHandedOnOneWay, OctetsSplitOneWay};
+ghost use Rattle.iim_dataset.specs.Laws.{CanonicalTagsReadBack, EventsTellTheDatasets, NoDatasetBeginsAnother, NoTagBeginsAnother, OctetsAreHandedOnOneWay, OctetsSplitOneWay};
 
 /// No tag begins another.
 pub fn no_tag_begins_another()
@@ -20,6 +20,11 @@ pub fn octets_split_one_way()
 /// Octets are handed on in one way, whatever the cut: their events are determined, and what they have begun.
 pub fn octets_are_handed_on_one_way()
     ensures { OctetsAreHandedOnOneWay }
+{}
+
+/// What a reader handed on tells the whole datasets, and what has come of the begun one.
+pub fn events_tell_the_datasets()
+    ensures { EventsTellTheDatasets }
 {}
 
 /// What `head_bytes` writes, followed by anything, is read as that head and no longer tag.
