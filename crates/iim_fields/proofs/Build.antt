@@ -12,7 +12,7 @@ use Rattle.iim_fields.specs.Builders.{fields_from, fields_of, IsBuilding, add_fa
 use Rattle.iim_fields.specs.declared.store.Store.{Store}
 use Rattle.iim_fields.specs.declared.fault.FieldFault.{FieldFault}
 use Rattle.iim_fields.specs.declared.fault.FieldCause.TheVariants.{RecordOrder}
-use Rattle.iim_fields.specs.declared.fields.Fields.{Fields}
+use Rattle.iim_fields.specs.declared.checker.Checker.{Checker}
 use Rattle.iim_fields.proofs.Stand.{kept_more, record_fault_is, room_fault_is}
 
 -- the entries of datasets and their data give the datasets back
@@ -31,17 +31,17 @@ pub fields_held : (store : Store) (ks : List Dataset) (more : List ℕ) → Hold
 fields_held store ks more holds = (λ i. fields_from 0 (holds.entries i) (holds.octets i)) ∙ fields_back 0 ks more
 
 -- one more dataset is kept
-kept_one_more : (old new : Fields) (d : Dataset) → IsBuilding old → is_kept d.rec ≡ true
+kept_one_more : (old new : Checker) (d : Dataset) → IsBuilding old → is_kept d.rec ≡ true
     → kept (fields_of old.store ++ d ∷ []) ≡ fields_of old.store ++ d ∷ []
 kept_one_more old new d building is = kept_more (fields_of old.store) d is ∙ ap (λ (ks : List Dataset). ks ++ d ∷ []) building.all_kept
 
-pub fields_more : (old new : Fields) (d : Dataset) → IsBuilding old → is_kept d.rec ≡ true → ((ds : List Dataset) → StandsBehind old ds → StandsBehind new (ds ++ d ∷ []))
+pub fields_more : (old new : Checker) (d : Dataset) → IsBuilding old → is_kept d.rec ≡ true → ((ds : List Dataset) → StandsBehind old ds → StandsBehind new (ds ++ d ∷ []))
     → fields_of new.store ≡ fields_of old.store ++ d ∷ []
 fields_more old new d building is stands =
     let s = stands (fields_of old.store) building.stands in
     fields_held new.store (kept (fields_of old.store ++ d ∷ [])) [] s.holds ∙ kept_one_more old new d building is
 
-pub building_more : (old new : Fields) (d : Dataset) → IsBuilding old → is_kept d.rec ≡ true → ((ds : List Dataset) → StandsBehind old ds → StandsBehind new (ds ++ d ∷ []))
+pub building_more : (old new : Checker) (d : Dataset) → IsBuilding old → is_kept d.rec ≡ true → ((ds : List Dataset) → StandsBehind old ds → StandsBehind new (ds ++ d ∷ []))
     → IsBuilding new
 building_more old new d building is stands =
     let more = fields_more old new d building is stands in
@@ -55,7 +55,7 @@ kept_fault : (b : Bool) (f : FieldFault) (rest : Option FieldFault) → b ≡ tr
 kept_fault true f rest h = refl
 kept_fault false f rest h = absurd cc
 
-pub add_fault_is : (f : Fields) (d : Dataset) → IsBuilding f → is_kept d.rec ≡ true → option_or (option_or (head_fault f.order.rec (has_seen f.order) (head_of d))
+pub add_fault_is : (f : Checker) (d : Dataset) → IsBuilding f → is_kept d.rec ≡ true → option_or (option_or (head_fault f.order.rec (has_seen f.order) (head_of d))
     (room_fault f.limits (vec_len f.store.octets) (vec_len f.store.entries) (head_of d))) (value_fault d) ≡ add_fault f.limits (fields_of f.store) d
 add_fault_is f d building is =
     let stands = building.stands in

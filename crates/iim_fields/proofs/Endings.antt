@@ -6,6 +6,7 @@ use Rattle.std.proofs.lemmas.Bool.Decides.{eqb_tells}
 use Rattle.iim_dataset.specs.Datasets.{Dataset}
 use Rattle.iim_tables.specs.Rows.{table, row_of, is_admitted}
 use Rattle.iim_tables.specs.declared.shape.Row.{Row}
+use Rattle.iim_fields.specs.Alive.{IsAlive}
 use Rattle.iim_fields.specs.Records.{after, repeats, occurrences, IsGoodDataset, IsGoodRecord, AreRecords, AreSections}
 use Rattle.iim_fields.specs.Faults.{last_record, present_record, of_record}
 use Rattle.iim_fields.specs.Laws.{EnvelopesEndWithTheLastRecord, NoSectionsBeginOthers}
@@ -67,7 +68,7 @@ ends_with_nine [] r ds (run, rest, parts, good, none) =
 ends_with_nine (s ∷ rs) r ds (run, rest, parts, good, later) =
     ap (last_record r) parts ∙ last_of_joined r run rest ∙ ends_with_nine rs (last_record r run) rest later
 
-sections_end : (ds : List Dataset) → AreSections ds → present_record ds ≡ 9
+pub sections_end : (ds : List Dataset) → AreSections ds → present_record ds ≡ 9
 sections_end ds sections = ends_with_nine (1 ∷ 2 ∷ 7 ∷ 8 ∷ []) 0 ds sections
 
 -- ---- nothing follows
@@ -110,3 +111,16 @@ envelopes_end ds d alive = (
       subst AreSections (append-nil xs) (subst (λ (more : List Dataset). AreSections (xs ++ more)) none alive.1)),
   (λ sections. sym (present_more ds d) ∙ sections_end (ds ++ d ∷ []) sections),
 )
+
+-- ---- behind the last record
+
+split_last : (d : Dataset) (ds : List Dataset) → (front : List Dataset) × (last : Dataset) × (d ∷ ds ≡ front ++ last ∷ [])
+split_last d [] = ([], d, refl)
+split_last d (e ∷ ds) = let (front, last, is) = split_last e ds in (d ∷ front, last, ap (λ (xs : List Dataset). d ∷ xs) is)
+
+-- datasets that are alive, and whose last is of record 9, are whole
+pub whole_behind_nine : (ds : List Dataset) → IsAlive ds → present_record ds ≡ 9 → AreSections ds
+whole_behind_nine [] alive nine = absurd cc
+whole_behind_nine (d ∷ ds) alive nine =
+    let (front, last, is) = split_last d ds in
+    subst AreSections (sym is) ((envelopes_end front last (subst IsAlive is alive)).0 (sym (present_more front last) ∙ (ap present_record (sym is) ∙ nine)))

@@ -11,7 +11,7 @@ use Rattle.iim_fields.specs.Faults.{last_record, present_record, present_run, of
 use Rattle.iim_fields.specs.Orders.{has_seen, Tells, end_fault, no_application}
 use Rattle.iim_fields.specs.Builders.{IsEnvelope, IsEnvelopeStore, absent, finish_fault, IsBuilding, fields_of}
 use Rattle.iim_fields.specs.Stores.{Holds}
-use Rattle.iim_fields.specs.declared.fields.Fields.{Fields}
+use Rattle.iim_fields.specs.declared.checker.Checker.{Checker}
 use Rattle.iim_fields.specs.declared.order.Order.{Order}
 use Rattle.iim_fields.specs.declared.fault.FieldFault.{FieldFault}
 use Rattle.iim_fields.proofs.Table.{EachRowHasValues, no_application_fault}
@@ -157,13 +157,17 @@ present_good ds o alive tells two none =
     record { each = part_two.each; mandatory = none_missing (λ n. occurs n (present_run ds)) (mandatory 2) here; once = part_two.once }
 
 -- good records 1 and 2 are what is kept of whole sections
-split_kept : (ds rest : List Dataset) → kept ds ≡ ds → AreRecords (7 ∷ 8 ∷ 9 ∷ []) rest → AreSections (ds ++ rest) → IsEnvelope ds
-split_kept ds rest same later (r1, rest1, parts1, good1, (r2, rest2, parts2, good2, later2)) =
-    let left : kept (ds ++ rest) ≡ ds = filter-append (λ (d : Dataset). is_kept d.rec) ds rest ∙ ((λ i. same i ++ records_lack is_kept (7 ∷ 8 ∷ 9 ∷ []) rest later (refl, (refl, (refl, tt))) i) ∙ append-nil ds) in
+pub kept_of_sections : (ds : List Dataset) → AreSections ds → IsEnvelope (kept ds)
+kept_of_sections ds (r1, rest1, parts1, good1, (r2, rest2, parts2, good2, later2)) =
     let tail : kept rest1 ≡ r2 = ap kept parts2 ∙ (filter-append (λ (d : Dataset). is_kept d.rec) r2 rest2
     ∙ ((λ i. run_has is_kept 2 r2 good2.each refl i ++ records_lack is_kept (7 ∷ 8 ∷ 9 ∷ []) rest2 later2 (refl, (refl, (refl, tt))) i) ∙ append-nil r2)) in
-    let right : kept (r1 ++ rest1) ≡ r1 ++ r2 = filter-append (λ (d : Dataset). is_kept d.rec) r1 rest1 ∙ (λ i. run_has is_kept 1 r1 good1.each refl i ++ tail i) in
-    record { r1 = r1; r2 = r2; parts = sym left ∙ (ap kept parts1 ∙ right); envelope = good1; application = good2 }
+    let both : kept (r1 ++ rest1) ≡ r1 ++ r2 = filter-append (λ (d : Dataset). is_kept d.rec) r1 rest1 ∙ (λ i. run_has is_kept 1 r1 good1.each refl i ++ tail i) in
+    record { r1 = r1; r2 = r2; parts = ap kept parts1 ∙ both; envelope = good1; application = good2 }
+
+split_kept : (ds rest : List Dataset) → kept ds ≡ ds → AreRecords (7 ∷ 8 ∷ 9 ∷ []) rest → AreSections (ds ++ rest) → IsEnvelope ds
+split_kept ds rest same later sections =
+    let left : kept (ds ++ rest) ≡ ds = filter-append (λ (d : Dataset). is_kept d.rec) ds rest ∙ ((λ i. same i ++ records_lack is_kept (7 ∷ 8 ∷ 9 ∷ []) rest later (refl, (refl, (refl, tt))) i) ∙ append-nil ds) in
+    subst IsEnvelope left (kept_of_sections (ds ++ rest) sections)
 
 pub finished : EachRowHasValues → (ds : List Dataset) (o : Order) → IsAlive ds → kept ds ≡ ds → Tells o ds → end_fault o.rec (has_seen o) ≡ None → IsEnvelope ds
 finished values ds o alive same tells none =
@@ -178,10 +182,10 @@ finished values ds o alive same tells none =
 
 -- ---- the builder
 
-pub finish_is : (f : Fields) → IsBuilding f → end_fault f.order.rec (has_seen f.order) ≡ finish_fault (fields_of f.store)
+pub finish_is : (f : Checker) → IsBuilding f → end_fault f.order.rec (has_seen f.order) ≡ finish_fault (fields_of f.store)
 finish_is f building = end_fault_is (fields_of f.store) f.order building.stands.alive building.all_kept building.stands.order
 
-pub envelope_store : EachRowHasValues → (f : Fields) → IsBuilding f → end_fault f.order.rec (has_seen f.order) ≡ None → IsEnvelopeStore f.store
+pub envelope_store : EachRowHasValues → (f : Checker) → IsBuilding f → end_fault f.order.rec (has_seen f.order) ≡ None → IsEnvelopeStore f.store
 envelope_store values f building none = record {
   holds = subst (λ (ks : List Dataset). Holds f.store ks []) building.all_kept building.stands.holds;
   envelope = finished values (fields_of f.store) f.order building.stands.alive building.all_kept building.stands.order none;

@@ -9,3 +9,4 @@ pub mod Sound
 pub mod Mandatory
 pub mod Endings
 pub mod RowsMet
+pub mod Keeping

@@ -32,9 +32,9 @@ use Rattle.iim_fields.specs.declared.order.Order.{Order}
 use Rattle.iim_fields.specs.declared.store.Store.{Store}
 use Rattle.iim_fields.specs.declared.fault.FieldFault.{FieldFault}
 use Rattle.iim_fields.specs.declared.fault.FieldCause.TheVariants.{HeaderFull, TooManyFields}
-use Rattle.iim_fields.specs.declared.fields.Fields.{Fields}
-use Rattle.iim_fields.specs.declared.fields.Begun.{Begun}
-use Rattle.iim_fields.specs.declared.fields.Phase.TheVariants as phases
+use Rattle.iim_fields.specs.declared.checker.Checker.{Checker}
+use Rattle.iim_fields.specs.declared.checker.Begun.{Begun}
+use Rattle.iim_fields.specs.declared.checker.Phase.TheVariants as phases
 use Rattle.iim_fields.proofs.Table.{EachRowHasValues, not_after_itself, size_row, kept_or_tells, object_kind}
 use Rattle.iim_fields.proofs.Runs.{records_to_come, eq_itself}
 use Rattle.iim_fields.proofs.Follows.{Follows, present_more, run_more, alive_follows}
@@ -114,7 +114,7 @@ length-entries_of from (d ∷ ds) = ap suc (length-entries_of (from + length d.o
 pub start_alive : EachRowHasValues → IsAlive []
 start_alive values = records_to_come values records
 
-pub stands_start : EachRowHasValues → (f : Fields) → f.phase ≡ phases.Between → f.order.rec ≡ 0 → f.order.seen ≡ nothing → f.store.octets.items ≡ [] → f.store.entries.items ≡ []
+pub stands_start : EachRowHasValues → (f : Checker) → f.phase ≡ phases.Between → f.order.rec ≡ 0 → f.order.seen ≡ nothing → f.store.octets.items ≡ [] → f.store.entries.items ≡ []
     → f.limits.octets + size_octets ≤ vec_capacity f.store.octets → f.limits.fields ≤ vec_capacity f.store.entries → StandsBehind f []
 stands_start values f phase rec seen octets entries octets_room entries_room = record {
   between = record {
@@ -131,14 +131,14 @@ stands_start values f phase rec seen octets entries octets_room entries_room = r
 -- ---- a head
 
 -- what the store has of datasets behind which the checker stands
-pub counts : (f : Fields) (ds : List Dataset) (more : List ℕ) → Holds f.store (kept ds) more
+pub counts : (f : Checker) (ds : List Dataset) (more : List ℕ) → Holds f.store (kept ds) more
     → (vec_len f.store.octets ≡ kept_octets ds + length more) × (vec_len f.store.entries ≡ length (kept ds))
 counts f ds more holds = (
   f.store.octets.ok.0 ∙ (ap (λ (xs : List ℕ). length xs) holds.octets ∙ length-append (joined (kept ds)) more),
   f.store.entries.ok.0 ∙ (ap (λ xs. length xs) holds.entries ∙ length-entries_of 0 (kept ds)),
 )
 
-pub room_fault_is : (f : Fields) (ds : List Dataset) (h : Head) → Holds f.store (kept ds) [] → room_fault f.limits (vec_len f.store.octets) (vec_len f.store.entries) h ≡ limits_fault f.limits ds h
+pub room_fault_is : (f : Checker) (ds : List Dataset) (h : Head) → Holds f.store (kept ds) [] → room_fault f.limits (vec_len f.store.octets) (vec_len f.store.entries) h ≡ limits_fault f.limits ds h
 room_fault_is f ds h holds =
     let c = counts f ds [] holds in
     let first : vec_len f.store.octets ≡ kept_octets ds = omega (arith, c.0) in
@@ -173,18 +173,18 @@ or_none None b h k = k
 or_none (Some x) b h k = absurd cc
 
 -- the kept octets and datasets with the head are within the limits
-kept_room : (old : Fields) (h : Head) → room_fault old.limits (vec_len old.store.octets) (vec_len old.store.entries) h ≡ None → is_kept h.rec ≡ true
+kept_room : (old : Checker) (h : Head) → room_fault old.limits (vec_len old.store.octets) (vec_len old.store.entries) h ≡ None → is_kept h.rec ≡ true
     → (vec_len old.store.octets + h.count ≤ old.limits.octets) × (vec_len old.store.entries < old.limits.fields)
 kept_room old h room is = let w = room_within old.limits (vec_len old.store.octets) (vec_len old.store.entries) h room is in (w.0, omega (arith, w.1))
 
 -- the data of the head have room
-all_room : (old : Fields) (h : Head) (row : Row) (b : Bool) → is_kept h.rec ≡ b → IsBetween old → row_of h.rec h.set ≡ Some row → h.count ≤ row.max
+all_room : (old : Checker) (h : Head) (row : Row) (b : Bool) → is_kept h.rec ≡ b → IsBetween old → row_of h.rec h.set ≡ Some row → h.count ≤ row.max
     → room_fault old.limits (vec_len old.store.octets) (vec_len old.store.entries) h ≡ None → h.rec ≢ 8 → vec_len old.store.octets + h.count ≤ old.limits.octets + size_octets
 all_room old h row true is between known fits room not8 = let w = kept_room old h room is in omega (arith, w.0)
 all_room old h row false is between known fits room not8 =
     let size = size_row h.rec h.set row (kept_or_tells h.rec h.set row known not8 is) known in omega (arith, between.within, size.1)
 
-pub inside_of : (old new : Fields) (h : Head) (row : Row) → IsBetween old → Enters old h row new → row_of h.rec h.set ≡ Some row → h.count ≤ row.max
+pub inside_of : (old new : Checker) (h : Head) (row : Row) → IsBetween old → Enters old h row new → row_of h.rec h.set ≡ Some row → h.count ≤ row.max
     → room_fault old.limits (vec_len old.store.octets) (vec_len old.store.entries) h ≡ None → IsInside new h h.count
 inside_of old new h row between enters known fits room =
     let limit : new.limits.octets ≡ old.limits.octets = ap (λ (l : Limits). l.octets) enters.limits in
@@ -209,7 +209,7 @@ inside_of old new h row between enters known fits room =
 begun_of : (a b : Begun) → phases.Inside a ≡ phases.Inside b → a ≡ b
 begun_of a b e = cc
 
-pub stands_in : EachRowHasValues → (old new : Fields) (h : Head) (row : Row) → h.set < 256 → IsBetween old → Enters old h row new → row_of h.rec h.set ≡ Some row → h.count ≤ row.max
+pub stands_in : EachRowHasValues → (old new : Checker) (h : Head) (row : Row) → h.set < 256 → IsBetween old → Enters old h row new → row_of h.rec h.set ≡ Some row → h.count ≤ row.max
     → head_fault old.order.rec (has_seen old.order) h ≡ None → room_fault old.limits (vec_len old.store.octets) (vec_len old.store.entries) h ≡ None
     → (ds : List Dataset) → StandsBehind old ds → StandsIn new ds h []
 stands_in values old new h row small between enters known fits none room ds stands =
@@ -236,7 +236,7 @@ first_or_other : (a b : Option FieldFault) (fault : FieldFault) → option_or a 
 first_or_other None b fault h is = h
 first_or_other (Some x) b fault h is = absurd cc
 
-pub head_fault_is : (old : Fields) (h : Head) (fault : FieldFault)
+pub head_fault_is : (old : Checker) (h : Head) (fault : FieldFault)
     → option_or (head_fault old.order.rec (has_seen old.order) h) (room_fault old.limits (vec_len old.store.octets) (vec_len old.store.entries) h) ≡ Some fault
     → (ds : List Dataset) → StandsBehind old ds → IsHeadFault old.limits ds h fault
 head_fault_is old h fault some ds stands =
@@ -259,10 +259,10 @@ count_fits present has h row none known =
 
 -- ---- data
 
-same_begun : (old : Fields) (begun : Begun) (h : Head) (n : ℕ) → old.phase ≡ phases.Inside begun → (inside : IsInside old h n) → inside.begun ≡ begun
+same_begun : (old : Checker) (begun : Begun) (h : Head) (n : ℕ) → old.phase ≡ phases.Inside begun → (inside : IsInside old h n) → inside.begun ≡ begun
 same_begun old begun h n before inside = begun_of inside.begun begun (sym inside.inside ∙ before)
 
-pub inside_bytes : (old new : Fields) (begun : Begun) (xs : List ℕ) (h : Head) (n : ℕ) → old.phase ≡ phases.Inside begun → Gives old begun xs new → length xs ≤ n → IsInside old h n → IsInside new h (n - length xs)
+pub inside_bytes : (old new : Checker) (begun : Begun) (xs : List ℕ) (h : Head) (n : ℕ) → old.phase ≡ phases.Inside begun → Gives old begun xs new → length xs ≤ n → IsInside old h n → IsInside new h (n - length xs)
 inside_bytes old new begun xs h n before gives fits inside =
     let same = same_begun old begun h n before inside in
     let limit : new.limits.octets ≡ old.limits.octets = ap (λ (l : Limits). l.octets) gives.limits in
@@ -291,7 +291,7 @@ octets_append : (xs ys : List ℕ) → Octets xs → Octets ys → Octets (xs ++
 octets_append [] ys h k = k
 octets_append (x ∷ xs) ys h k = (h.0, octets_append xs ys h.1 k)
 
-pub stands_bytes : (old new : Fields) (begun : Begun) (xs : List ℕ) → old.phase ≡ phases.Inside begun → Gives old begun xs new → CanTake old (length xs) → ((i : ℕ) → get_or xs i 0 < 256)
+pub stands_bytes : (old new : Checker) (begun : Begun) (xs : List ℕ) → old.phase ≡ phases.Inside begun → Gives old begun xs new → CanTake old (length xs) → ((i : ℕ) → get_or xs i 0 < 256)
     → (ds : List Dataset) (h : Head) (taken : List ℕ) → StandsIn old ds h taken → StandsIn new ds h (taken ++ xs)
 stands_bytes old new begun xs before gives (k, m, inside, not8, fits) small ds h taken stands =
     let n = stands.inside.0 in
@@ -314,7 +314,7 @@ stands_bytes old new begun xs before gives (k, m, inside, not8, fits) small ds h
 
 -- ---- the end of a dataset
 
-closed_store : (old new : Fields) (h : Head) (n : ℕ) (b : Bool) → is_kept h.rec ≡ b → (inside : IsInside old h n) → Settles old h inside.begun.start new → (h.rec ≡ 8) ⊎ (n ≡ 0)
+closed_store : (old new : Checker) (h : Head) (n : ℕ) (b : Bool) → is_kept h.rec ≡ b → (inside : IsInside old h n) → Settles old h inside.begun.start new → (h.rec ≡ 8) ⊎ (n ≡ 0)
     → (vec_len new.store.octets ≤ old.limits.octets) × (vec_capacity new.store.octets ≡ vec_capacity old.store.octets) × (vec_capacity new.store.entries ≡ vec_capacity old.store.entries)
 closed_store old new h n true is inside settles ends =
     let room = inside.kept_room is in
@@ -324,7 +324,7 @@ closed_store old new h n true is inside settles ends =
 closed_store old new h n false is inside settles ends =
     (omega (arith, settles.other_len is, inside.within), settles.other_room is, ap (λ v. vec_capacity v) (settles.other_entries is))
 
-pub between_closed : (old new : Fields) (h : Head) (n : ℕ) → (inside : IsInside old h n) → Settles old h inside.begun.start new → (h.rec ≡ 8) ⊎ (n ≡ 0) → IsBetween new
+pub between_closed : (old new : Checker) (h : Head) (n : ℕ) → (inside : IsInside old h n) → Settles old h inside.begun.start new → (h.rec ≡ 8) ⊎ (n ≡ 0) → IsBetween new
 between_closed old new h n inside settles ends =
     let s = closed_store old new h n (is_kept h.rec) refl inside settles ends in
     let limit : new.limits.octets ≡ old.limits.octets = ap (λ (l : Limits). l.octets) settles.limits in
@@ -356,7 +356,7 @@ kept_not_object : (n : ℕ) → is_kept n ≡ true → n ≢ 8
 kept_not_object n is same = let bad : is_kept 8 ≡ true = subst (λ (m : ℕ). is_kept m ≡ true) same is in cc
 
 -- what the store holds behind the dataset
-holds_closed : (old new : Fields) (ds : List Dataset) (h : Head) (taken : List ℕ) (d : Dataset) (b : Bool) → is_kept h.rec ≡ b → (stands : StandsIn old ds h taken)
+holds_closed : (old new : Checker) (ds : List Dataset) (h : Head) (taken : List ℕ) (d : Dataset) (b : Bool) → is_kept h.rec ≡ b → (stands : StandsIn old ds h taken)
     → Settles old h stands.inside.1.begun.start new → IsOf h taken d → Holds new.store (kept (ds ++ d ∷ [])) []
 holds_closed old new ds h taken d true is stands settles of =
     let d_kept : is_kept d.rec ≡ true = subst (λ (k : Head). is_kept k.rec ≡ true) (sym of.head) is in
@@ -418,7 +418,7 @@ subfile_value ds d at eight =
     ap (λ (o : Option Row). fault_by_row o d) f.known ∙ subfile_fine f.row d (object_kind d.set f.row known) f.fits other
 
 -- what the store has of the begun dataset
-pub begun_taken : (old : Fields) (ds : List Dataset) (h : Head) (taken : List ℕ) (begun : Begun) → old.phase ≡ phases.Inside begun → StandsIn old ds h taken
+pub begun_taken : (old : Checker) (ds : List Dataset) (h : Head) (taken : List ℕ) (begun : Begun) → old.phase ≡ phases.Inside begun → StandsIn old ds h taken
     → begun_data old begun ≡ data_of h taken
 begun_taken old ds h taken begun before stands =
     let same = same_begun old begun h stands.inside.0 before stands.inside.1 in
@@ -427,7 +427,7 @@ begun_taken old ds h taken begun before stands =
     let rest : drop begun.start old.store.octets.items ≡ taken = (λ i. drop (start i) (stands.holds.octets i)) ∙ drop-append_seam (joined (kept ds)) taken in
     λ i. data_of (head i) (rest i)
 
-pub stands_closed : EachRowHasValues → (old new : Fields) (begun : Begun) (number : Option ℕ) → old.phase ≡ phases.Inside begun → CanClose old → Settles old begun.head begun.start new
+pub stands_closed : EachRowHasValues → (old new : Checker) (begun : Begun) (number : Option ℕ) → old.phase ≡ phases.Inside begun → CanClose old → Settles old begun.head begun.start new
     → (begun.head.rec ≡ 8 → number ≡ None) → (begun.head.rec ≢ 8 → number ≡ number_told (begun_data old begun)) → (begun.head.rec ≢ 8 → value_fault (begun_data old begun) ≡ None)
     → (ds : List Dataset) (h : Head) (taken : List ℕ) → StandsIn old ds h taken → (d : Dataset) → IsOf h taken d → StandsBehind new (ds ++ d ∷ []) × (number ≡ number_told d)
 stands_closed values old new begun number before (k, m, inside, ends) settles none told fine ds h taken stands d of =
@@ -465,7 +465,7 @@ stands_closed values old new begun number before (k, m, inside, ends) settles no
       told_d,
     )
 
-pub value_fault_is : (old : Fields) (begun : Begun) (fault : FieldFault) → old.phase ≡ phases.Inside begun → begun.head.rec ≢ 8 → value_fault (begun_data old begun) ≡ Some fault
+pub value_fault_is : (old : Checker) (begun : Begun) (fault : FieldFault) → old.phase ≡ phases.Inside begun → begun.head.rec ≢ 8 → value_fault (begun_data old begun) ≡ Some fault
     → (ds : List Dataset) (h : Head) (taken : List ℕ) → StandsIn old ds h taken → IsValueFault ds (data_of h taken) fault
 value_fault_is old begun fault before not8 some ds h taken stands =
     let data_is = begun_taken old ds h taken begun before stands in
@@ -478,11 +478,11 @@ value_fault_is old begun fault before not8 some ds h taken stands =
 
 -- ---- a whole dataset
 
-pub can_take : (f : Fields) (h : Head) (k : ℕ) → IsInside f h h.count → is_kept h.rec ≡ true → h.count ≡ k → CanTake f k
+pub can_take : (f : Checker) (h : Head) (k : ℕ) → IsInside f h h.count → is_kept h.rec ≡ true → h.count ≡ k → CanTake f k
 can_take f h k inside is whole = (h, h.count, inside, kept_not_object h.rec is, omega arith)
 
 -- the dataset is kept, once its octets were given
-pub stands_placed : EachRowHasValues → (given new : Fields) (h : Head) (start : ℕ) (xs : List ℕ) → is_kept h.rec ≡ true → h.count ≡ length xs → value_fault (data_of h xs) ≡ None
+pub stands_placed : EachRowHasValues → (given new : Checker) (h : Head) (start : ℕ) (xs : List ℕ) → is_kept h.rec ≡ true → h.count ≡ length xs → value_fault (data_of h xs) ≡ None
     → Settles given h start new → (begun : Begun) → given.phase ≡ phases.Inside begun → begun.start ≡ start → (ds : List Dataset) → StandsIn given ds h xs → StandsBehind new (ds ++ data_of h xs ∷ [])
 stands_placed values given new h start xs is whole fine settles begun before from ds stands =
     let not8 = kept_not_object h.rec is in

@@ -9,7 +9,7 @@ use Rattle.iim_fields.specs.Standing.{StandsBehind}
 use Rattle.iim_fields.specs.declared.limits.Limits.{Limits}
 use Rattle.iim_fields.specs.declared.store.Entry.{Entry}
 use Rattle.iim_fields.specs.declared.store.Store.{Store}
-use Rattle.iim_fields.specs.declared.fields.Fields.{Fields}
+use Rattle.iim_fields.specs.declared.checker.Checker.{Checker}
 use Rattle.iim_fields.specs.declared.fault.FieldFault.{FieldFault}
 use Rattle.iim_fields.specs.declared.fault.FieldCause.TheVariants.{RecordOrder}
 
@@ -29,13 +29,13 @@ pub record Building : Type 0 where
   pub fields : List Dataset
 
 -- what a builder has whose datasets so far this checker has kept
-abbrev pub building_of : Fields → Building
-building_of fields = record { limits = fields.limits; fields = fields_of fields.store }
+abbrev pub building_of : Checker → Building
+building_of checker = record { limits = checker.limits; fields = fields_of checker.store }
 
 -- the builder's checker stands behind the datasets that are kept, and there are no others
-pub record IsBuilding (fields : Fields) : Type 0 where
-  pub stands : StandsBehind fields (fields_of fields.store)
-  pub all_kept : kept (fields_of fields.store) ≡ fields_of fields.store
+pub record IsBuilding (checker : Checker) : Type 0 where
+  pub stands : StandsBehind checker (fields_of checker.store)
+  pub all_kept : kept (fields_of checker.store) ≡ fields_of checker.store
 
 -- The first fault of a dataset that is added: its record is neither 1 nor 2, or else the fault of its head, or else of its value.
 abbrev pub add_fault : Limits → List Dataset → Dataset → Option FieldFault

@@ -13,49 +13,49 @@ use Rattle.iim_fields.specs.Orders.{Tells, Takes}
 use Rattle.iim_fields.specs.Stores.{Holds}
 use Rattle.iim_fields.specs.declared.limits.Limits.{Limits}
 use Rattle.iim_fields.specs.declared.fault.FieldFault.{FieldFault}
-use Rattle.iim_fields.specs.declared.fields.Fields.{Fields}
-use Rattle.iim_fields.specs.declared.fields.Begun.{Begun}
-use Rattle.iim_fields.specs.declared.fields.Phase.TheVariants as phases
+use Rattle.iim_fields.specs.declared.checker.Checker.{Checker}
+use Rattle.iim_fields.specs.declared.checker.Begun.{Begun}
+use Rattle.iim_fields.specs.declared.checker.Phase.TheVariants as phases
 
 -- the limits under which it reads
-abbrev pub limits_of : Fields → Limits
-limits_of fields = fields.limits
+abbrev pub limits_of : Checker → Limits
+limits_of checker = checker.limits
 
 -- Something was refused.
-abbrev pub IsFailed : Fields → Type 0
-IsFailed fields = fields.phase ≡ phases.Failed
+abbrev pub IsFailed : Checker → Type 0
+IsFailed checker = checker.phase ≡ phases.Failed
 
 -- the store has room for all that the limits allow, and for a size behind it
-pub record HasStore (fields : Fields) : Type 0 where
-  pub octets : fields.limits.octets + size_octets ≤ vec_capacity fields.store.octets
-  pub entries : fields.limits.fields ≤ vec_capacity fields.store.entries
+pub record HasStore (checker : Checker) : Type 0 where
+  pub octets : checker.limits.octets + size_octets ≤ vec_capacity checker.store.octets
+  pub entries : checker.limits.fields ≤ vec_capacity checker.store.entries
 
 -- It takes a head.
-pub record IsBetween (fields : Fields) : Type 0 where
-  pub between : fields.phase ≡ phases.Between
-  pub store : HasStore fields
-  pub within : vec_len fields.store.octets ≤ fields.limits.octets
+pub record IsBetween (checker : Checker) : Type 0 where
+  pub between : checker.phase ≡ phases.Between
+  pub store : HasStore checker
+  pub within : vec_len checker.store.octets ≤ checker.limits.octets
 
 -- It has taken this head, and so many octets of its data are still to come.
-pub record IsInside (fields : Fields) (h : Head) (n : ℕ) : Type 0 where
+pub record IsInside (checker : Checker) (h : Head) (n : ℕ) : Type 0 where
   pub begun : Begun
-  pub inside : fields.phase ≡ phases.Inside begun
+  pub inside : checker.phase ≡ phases.Inside begun
   pub head : begun.head ≡ h
   pub to_come : begun.to_come ≡ n
   pub known : row_of h.rec h.set ≡ Some begun.row
-  pub store : HasStore fields
-  pub start : begun.start ≤ vec_len fields.store.octets
-  pub within : begun.start ≤ fields.limits.octets
-  pub room : h.rec ≢ 8 → vec_len fields.store.octets + n ≤ fields.limits.octets + size_octets
-  pub kept_room : IsTrue (is_kept h.rec) → (vec_len fields.store.octets + n ≤ fields.limits.octets) × (vec_len fields.store.entries < fields.limits.fields)
+  pub store : HasStore checker
+  pub start : begun.start ≤ vec_len checker.store.octets
+  pub within : begun.start ≤ checker.limits.octets
+  pub room : h.rec ≢ 8 → vec_len checker.store.octets + n ≤ checker.limits.octets + size_octets
+  pub kept_room : IsTrue (is_kept h.rec) → (vec_len checker.store.octets + n ≤ checker.limits.octets) × (vec_len checker.store.entries < checker.limits.fields)
 
 -- It takes so many octets of data. What a subfile has does not pass here.
-abbrev pub CanTake : Fields → ℕ → Type 0
-CanTake fields k = (h : Head) × (n : ℕ) × IsInside fields h n × (h.rec ≢ 8) × (k ≤ n)
+abbrev pub CanTake : Checker → ℕ → Type 0
+CanTake checker k = (h : Head) × (n : ℕ) × IsInside checker h n × (h.rec ≢ 8) × (k ≤ n)
 
 -- It takes the end of a dataset: all of its octets were given, or it is a subfile.
-abbrev pub CanClose : Fields → Type 0
-CanClose fields = (h : Head) × (n : ℕ) × IsInside fields h n × ((h.rec ≡ 8) ⊎ (n ≡ 0))
+abbrev pub CanClose : Checker → Type 0
+CanClose checker = (h : Head) × (n : ℕ) × IsInside checker h n × ((h.rec ≡ 8) ⊎ (n ≡ 0))
 
 -- The kept data, and the number of the kept datasets, are within the limits.
 pub record IsWithin (limits : Limits) (octets fields : ℕ) : Type 0 where
@@ -63,23 +63,23 @@ pub record IsWithin (limits : Limits) (octets fields : ℕ) : Type 0 where
   pub fields_in : fields ≤ limits.fields
 
 -- It stands between datasets, behind these.
-pub record StandsBehind (fields : Fields) (ds : List Dataset) : Type 0 where
-  pub between : IsBetween fields
+pub record StandsBehind (checker : Checker) (ds : List Dataset) : Type 0 where
+  pub between : IsBetween checker
   pub alive : IsAlive ds
-  pub within : IsWithin fields.limits (kept_octets ds) (length (kept ds))
-  pub order : Tells fields.order ds
-  pub holds : Holds fields.store (kept ds) []
+  pub within : IsWithin checker.limits (kept_octets ds) (length (kept ds))
+  pub order : Tells checker.order ds
+  pub holds : Holds checker.store (kept ds) []
 
 -- It stands behind these datasets in one of this head, whose data so far are these.
-pub record StandsIn (fields : Fields) (ds : List Dataset) (h : Head) (taken : List ℕ) : Type 0 where
-  pub inside : (n : ℕ) × IsInside fields h n × (h.rec ≢ 8 → length taken + n ≡ h.count)
+pub record StandsIn (checker : Checker) (ds : List Dataset) (h : Head) (taken : List ℕ) : Type 0 where
+  pub inside : (n : ℕ) × IsInside checker h n × (h.rec ≢ 8 → length taken + n ≡ h.count)
   pub alive : IsAliveAt ds h
-  pub within : IsTrue (is_kept h.rec) → IsWithin fields.limits (kept_octets ds + h.count) (length (kept ds) + 1)
-  pub others : IsWithin fields.limits (kept_octets ds) (length (kept ds))
+  pub within : IsTrue (is_kept h.rec) → IsWithin checker.limits (kept_octets ds + h.count) (length (kept ds) + 1)
+  pub others : IsWithin checker.limits (kept_octets ds) (length (kept ds))
   pub octets : Octets taken
-  pub order : (d : Dataset) → head_of d ≡ h → Tells fields.order (ds ++ d ∷ [])
-  pub holds : Holds fields.store (kept ds) taken
-  pub start : (begun : Begun) → fields.phase ≡ phases.Inside begun → begun.start ≡ kept_octets ds
+  pub order : (d : Dataset) → head_of d ≡ h → Tells checker.order (ds ++ d ∷ [])
+  pub holds : Holds checker.store (kept ds) taken
+  pub start : (begun : Begun) → checker.phase ≡ phases.Inside begun → begun.start ≡ kept_octets ds
 
 -- The fault is the first of the head, and with it no datasets within the limits go on.
 pub record IsHeadFault (limits : Limits) (ds : List Dataset) (h : Head) (fault : FieldFault) : Type 0 where
@@ -99,18 +99,18 @@ pub record IsOf (h : Head) (taken : List ℕ) (d : Dataset) : Type 0 where
   pub given : h.rec ≢ 8 → d.octets ≡ taken
 
 -- It has begun a dataset of this head and row, in whose phase nothing of it was given.
-pub record Enters (old : Fields) (h : Head) (row : Row) (new : Fields) : Type 0 where
+pub record Enters (old : Checker) (h : Head) (row : Row) (new : Checker) : Type 0 where
   pub limits : new.limits ≡ old.limits
   pub store : new.store ≡ old.store
   pub order : Takes old.order h new.order
   pub phase : new.phase ≡ phases.Inside (record { head = h; row = row; start = vec_len old.store.octets; to_come = h.count })
 
 -- the dataset of the head that was begun, with the octets that the store has of it
-abbrev pub begun_data : Fields → Begun → Dataset
-begun_data fields begun = data_of begun.head (drop begun.start fields.store.octets.items)
+abbrev pub begun_data : Checker → Begun → Dataset
+begun_data checker begun = data_of begun.head (drop begun.start checker.store.octets.items)
 
 -- The dataset whose octets begin at `start` has ended: a kept one has an entry, of another nothing is kept.
-pub record Settles (old : Fields) (h : Head) (start : ℕ) (new : Fields) : Type 0 where
+pub record Settles (old : Checker) (h : Head) (start : ℕ) (new : Checker) : Type 0 where
   pub limits : new.limits ≡ old.limits
   pub order : new.order ≡ old.order
   pub phase : new.phase ≡ phases.Between
@@ -123,7 +123,7 @@ pub record Settles (old : Fields) (h : Head) (start : ℕ) (new : Fields) : Type
   pub other_room : is_kept h.rec ≡ false → vec_capacity new.store.octets ≡ vec_capacity old.store.octets
 
 -- Octets were given to the begun dataset.
-pub record Gives (old : Fields) (begun : Begun) (xs : List ℕ) (new : Fields) : Type 0 where
+pub record Gives (old : Checker) (begun : Begun) (xs : List ℕ) (new : Checker) : Type 0 where
   pub limits : new.limits ≡ old.limits
   pub order : new.order ≡ old.order
   pub phase : new.phase ≡ phases.Inside (record { head = begun.head; row = begun.row; start = begun.start; to_come = begun.to_come - length xs })
@@ -131,3 +131,12 @@ pub record Gives (old : Fields) (begun : Begun) (xs : List ℕ) (new : Fields) :
   pub entries : new.store.entries ≡ old.store.entries
   pub len : vec_len new.store.octets ≡ vec_len old.store.octets + length xs
   pub capacity : vec_capacity old.store.octets ≤ vec_capacity new.store.octets
+
+-- The last record has ended.
+abbrev pub IsEnded : Checker → Type 0
+IsEnded checker = (checker.phase ≡ phases.Between) × (checker.order.rec ≡ 9)
+
+-- It stands somewhere, or something was refused.
+abbrev pub Stood : Checker → Type 0
+Stood checker =
+    IsFailed checker ⊎ (((ds : List Dataset) × StandsBehind checker ds) ⊎ ((ds : List Dataset) × (h : Head) × (taken : List ℕ) × StandsIn checker ds h taken))

@@ -3,9 +3,9 @@
 ghost use Rattle.std.specs.Prelude.{◌≡◌, [], ◌∷◌, ◌++◌, Some, None, IfOk, IfErr, OnOk, OnErr};
 ghost use Rattle.iim_fields.specs.Builders.{add_fault, finish_fault};
 
+use crate::checker::Checker;
 use crate::envelope::Envelope;
 use crate::fault::{FieldCause, FieldFault};
-use crate::fields::Fields;
 use crate::limits::Limits;
 use crate::order::fault_on;
 use crate::records::is_kept;
@@ -17,7 +17,7 @@ use std::marker::Model;
 /// The datasets so far of an envelope that is built. It is seen as its limits and the list of them.
 #[derive(Drop)]
 pub struct EnvelopeBuilder {
-    fields: Fields,
+    checker: Checker,
 }
 
 impl Model for EnvelopeBuilder {
@@ -25,9 +25,9 @@ impl Model for EnvelopeBuilder {
 
     ghost Value = { Building };
 
-    ghost view = { λ b. building_of b.fields };
+    ghost view = { λ b. building_of b.checker };
 
-    ghost invariant = { λ b. IsBuilding b.fields };
+    ghost invariant = { λ b. IsBuilding b.checker };
 }
 
 impl EnvelopeBuilder {
@@ -35,8 +35,8 @@ impl EnvelopeBuilder {
     pub fn new(alloc: Global, limits: Limits) -> Result<EnvelopeBuilder, AllocError>
         ensures empty { IfOk result (λ builder. builder ≡ record { limits = limits; fields = [] }) }
     {
-        let fields = Fields::new(alloc, limits)?;
-        Ok(EnvelopeBuilder { fields })
+        let checker = Checker::new(alloc, limits)?;
+        Ok(EnvelopeBuilder { checker })
     }
 
     /// Adds a dataset, or answers its first fault and changes nothing: that of its head where [`crate::Fields`] stands
@@ -55,9 +55,9 @@ impl EnvelopeBuilder {
         if !is_kept(rec) {
             return Err(fault_on(head, FieldCause::RecordOrder));
         }
-        match self.fields.admit(head, octets) {
+        match self.checker.admit(head, octets) {
             Ok(row) => {
-                self.fields.place(head, row, octets);
+                self.checker.place(head, row, octets);
                 Ok(())
             }
             Err(fault) => Err(fault),
@@ -73,10 +73,10 @@ impl EnvelopeBuilder {
         ensures unchanged { IfErr result (λ refused. refused.0 ≡ self) }
     {
         each_row_has_values();
-        match self.fields.end_fault() {
+        match self.checker.end_fault() {
             Some(fault) => Err((self, fault)),
             None => {
-                let store = self.fields.into_store();
+                let store = self.checker.into_store();
                 Ok(Envelope { store })
             }
         }

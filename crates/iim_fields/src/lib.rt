@@ -6,6 +6,7 @@
 #![tactic(auto)]
 
 mod builder;
+mod checker;
 mod envelope;
 mod fault;
 mod fields;

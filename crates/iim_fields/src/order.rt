@@ -72,6 +72,13 @@ impl Order {
         }
     }
 
+    /// The present record, 0 before the first.
+    pub fn present(&self) -> u8
+        ensures { result ≡ self.now.rec }
+    {
+        self.rec
+    }
+
     /// The lowest mandatory number of the record that has not occurred.
     fn missing(&self, rec: u8) -> Option<u8>
         ensures { result ≡ missing_of rec (has_seen self.now) }

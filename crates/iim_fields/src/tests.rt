@@ -125,6 +125,17 @@ fn pass_sizes(rt: &impl Abort, fields: &mut Fields, one_by_one: bool)
     }
 }
 
+/// The envelope that was kept.
+fn handed_over(rt: &impl Abort, fields: Fields) -> Option<Envelope> {
+    match fields.into_envelope() {
+        Ok(envelope) => Some(envelope),
+        Err(_) => {
+            assert!(rt; false);
+            None
+        }
+    }
+}
+
 #[test]
 fn all_datasets_are_taken(rt: HostRuntime) -> Result<(), Fail> {
     for one_by_one in [false, true] {
@@ -134,6 +145,45 @@ fn all_datasets_are_taken(rt: HostRuntime) -> Result<(), Fail> {
             Err(fault) => assert!(rt; false, "{fault:?}"),
         }
         assert!(rt; !fields.is_failed());
+        if let Some(envelope) = handed_over(&rt, fields) {
+            expect_fields(&rt, &envelope);
+        }
+    }
+    Ok(())
+}
+
+#[test]
+fn an_envelope_is_handed_over_at_its_end(rt: HostRuntime) -> Result<(), Fail> {
+    let mut fields = Fields::new(rt.alloc(), LIMITS)?;
+    if let Err(fault) = pass_fields(&mut fields, false) {
+        assert!(rt; false, "{fault:?}");
+        return Ok(());
+    }
+    // Behind record 2 nothing is handed over yet, and the reader goes on.
+    let Err(mut fields) = fields.into_envelope() else {
+        assert!(rt; false);
+        return Ok(());
+    };
+    pass_sizes(&rt, &mut fields, false);
+    let Some(read) = handed_over(&rt, fields) else {
+        return Ok(());
+    };
+    let mut builder = EnvelopeBuilder::new(rt.alloc(), LIMITS)?;
+    assert_eq!(rt; add_fields(&mut builder, 0, 0), Ok(()));
+    if let Some(built) = finished(&rt, builder) {
+        assert!(rt; read.same(&built));
+    }
+    Ok(())
+}
+
+#[test]
+fn a_failed_reader_hands_nothing_over(rt: HostRuntime) -> Result<(), Fail> {
+    let mut fields = Fields::new(rt.alloc(), LIMITS)?;
+    let wrong = fault(2, 0, FieldCause::RecordOrder);
+    assert_eq!(rt; pass(&mut fields, 2, 0, b"\0\x04", false), Err(wrong));
+    match fields.into_envelope() {
+        Ok(_) => assert!(rt; false),
+        Err(fields) => assert!(rt; fields.is_failed()),
     }
     Ok(())
 }

@@ -1,10 +1,22 @@
-use Rattle.iim_fields.proofs.Stand.{stands_closed, value_fault_is}
+use Rattle.std.proofs.Common.{◌≡◌, List, [], ◌∷◌, ◌++◌, sym, subst}
+use Rattle.std.specs.Prelude.{IfOk, IfErr, ℕ}
+use Rattle.iim_dataset.specs.Datasets.{Dataset}
+use Rattle.iim_dataset.specs.declared.head.Head.{Head}
+use Rattle.iim_fields.specs.Values.{number_told, data_of}
+use Rattle.iim_fields.specs.Standing.{CanClose, StandsBehind, StandsIn, IsOf, IsValueFault}
+use Rattle.iim_fields.specs.declared.checker.Checker.{Checker}
+use Rattle.iim_fields.proofs.Keeping.{stood_closed}
 use Rattle.iim_fields.proofs.fields.Fields.close.Goals as goal
 
-pub returns-in-Ok-clause-stands : goal.returns-in-Ok-clause-stands
-returns-in-Ok-clause-stands c =
-    stands_closed c.each_row_has_values.ensures c.args.self.now c.settle.new.self c.in-Inside.begun c.in-Ok.number c.in-Inside.is c.requires c.settle.ensures
-    c.in-Ok.ensures.object c.in-Ok.ensures.number c.in-Ok.ensures.ok
+pub invariant_of-self : goal.invariant_of-self
+invariant_of-self c =
+    stood_closed c.self.inside.checker c.close.new.self c.close.result c.self.invariant (subst CanClose (sym c.self.view_is) c.requires) c.close.ensures.failed c.close.ensures.stands
 
-pub returns-in-Err-clause-fault : goal.returns-in-Err-clause-fault
-returns-in-Err-clause-fault c = value_fault_is c.args.self.now c.in-Inside.begun c.in-Err.fault c.in-Inside.is c.in-Err.ensures.value c.in-Err.ensures.fault
+pub returns-clause-stands : goal.returns-clause-stands
+returns-clause-stands c =
+    subst (λ (k : Checker). IfOk c.close.result (λ number. (ds : List Dataset) (h : Head) (taken : List ℕ) → StandsIn k ds h taken → (d : Dataset) → IsOf h taken d → StandsBehind c.close.new.self (ds ++ d ∷ []) × (number ≡ number_told d)))
+    c.self.view_is c.close.ensures.stands
+
+pub returns-clause-fault : goal.returns-clause-fault
+returns-clause-fault c =
+    subst (λ (k : Checker). IfErr c.close.result (λ fault. (ds : List Dataset) (h : Head) (taken : List ℕ) → StandsIn k ds h taken → IsValueFault ds (data_of h taken) fault)) c.self.view_is c.close.ensures.fault

@@ -1,9 +1,9 @@
 use Rattle.std.proofs.Common.{[], refl, sym, ap, ◌∙◌, arith}
 use Rattle.iim_fields.specs.Orders.{has_seen}
-use Rattle.iim_fields.specs.declared.fields.Begun.{Begun}
-use Rattle.iim_fields.specs.declared.fields.Phase.TheVariants as phases
+use Rattle.iim_fields.specs.declared.checker.Begun.{Begun}
+use Rattle.iim_fields.specs.declared.checker.Phase.TheVariants as phases
 use Rattle.iim_fields.proofs.Stand.{inside_of, stands_in, stands_bytes, count_fits, can_take, stands_placed}
-use Rattle.iim_fields.proofs.fields.Fields.place.Goals as goal
+use Rattle.iim_fields.proofs.checker.Checker.place.Goals as goal
 
 pub returns-clause-stands : goal.returns-clause-stands
 returns-clause-stands c = λ ds stands.

@@ -1,7 +1,7 @@
 use Rattle.std.proofs.Common.{arith}
 use Rattle.iim_fields.specs.Orders.{has_seen}
 use Rattle.iim_fields.proofs.Stand.{inside_of, stands_in, head_fault_is, count_fits}
-use Rattle.iim_fields.proofs.fields.Fields.begin.Goals as goal
+use Rattle.iim_fields.proofs.checker.Checker.begin.Goals as goal
 
 pub returns-in-Ok-clause-inside : goal.returns-in-Ok-clause-inside
 returns-in-Ok-clause-inside c =

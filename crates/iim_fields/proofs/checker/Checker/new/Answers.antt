@@ -1,6 +1,6 @@
 use Rattle.iim_fields.proofs.Stand.{stands_start}
 use Rattle.std.proofs.Common.{refl}
-use Rattle.iim_fields.proofs.fields.Fields.new.Goals as goal
+use Rattle.iim_fields.proofs.checker.Checker.new.Goals as goal
 
 pub returns-clause-stands : goal.returns-clause-stands
 returns-clause-stands c =
