@@ -2,7 +2,7 @@
 //!
 //! Stands on `iim_tables` and `iim_dataset`, and on `arrayvec` and `jiff` for what the views answer. The crate above uses
 //! [`Fields`]: its `begin`, `bytes` and `close` lead from behind some datasets to behind one more, or tell the first fault of
-//! the head or value, with which the record layer is dead or a limit passed.
+//! the head or value, with which the record layer is dead or a limit passed; and `into_envelope` hands over what was kept.
 #![tactic(auto)]
 
 mod builder;

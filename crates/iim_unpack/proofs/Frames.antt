@@ -89,15 +89,20 @@ no_stream : (ds : List Dataset) (x : List ℕ) → ds ≡ [] → SpellsStream co
 no_stream [] x none s = s
 no_stream (d ∷ ds) x none s = cc
 
-pub no_envelope_begins_another : NoDatasetBeginsAnother → NoSectionsBeginOthers → NoEnvelopeBeginsAnother
-no_envelope_begins_another one ends limits others f z a b =
-    elim (compare one a.datasets b.datasets f (f ++ z) z [] a.spelled b.spelled (sym (append-nil (f ++ z)))) [
+-- datasets of an envelope that begin those of another are all of it
+pub envelope_alone : NoDatasetBeginsAnother → NoSectionsBeginOthers → (ds es : List Dataset) (f z : List ℕ) → SpellsStream count_octets ds f → AreSections ds
+    → SpellsStream count_octets es (f ++ z) → AreSections es → (ds ≡ es) × (z ≡ [])
+envelope_alone one ends ds es f z s a t b =
+    elim (compare one ds es f (f ++ z) z [] s t (sym (append-nil (f ++ z)))) [
       | inl (more, r, is, stream, rest) ↦
-          let none : more ≡ [] = ends b.datasets more b.sections (subst AreSections (sym is) a.sections) in
-          ap (λ l. l ++ z) (sym (no_stream more r none stream)) ∙ rest
+          let none : more ≡ [] = ends es more b (subst AreSections (sym is) a) in
+          (sym is ∙ (ap (λ (xs : List Dataset). es ++ xs) none ∙ append-nil es), ap (λ l. l ++ z) (sym (no_stream more r none stream)) ∙ rest)
       | inr next ↦
-          let bad : next.dataset ∷ next.more ≡ [] = ends a.datasets (next.dataset ∷ next.more) a.sections (subst AreSections next.parts b.sections) in cc
+          let bad : next.dataset ∷ next.more ≡ [] = ends ds (next.dataset ∷ next.more) a (subst AreSections next.parts b) in absurd cc
     ]
+
+pub no_envelope_begins_another : NoDatasetBeginsAnother → NoSectionsBeginOthers → NoEnvelopeBeginsAnother
+no_envelope_begins_another one ends limits others f z a b = (envelope_alone one ends a.datasets b.datasets f z a.spelled a.sections b.spelled b.sections).1
 
 -- ---- where the scan stands
 

@@ -10,3 +10,4 @@ pub mod Refused
 pub mod Stages
 pub mod Results
 pub mod Taken
+pub mod Admitted

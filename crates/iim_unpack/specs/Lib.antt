@@ -1,5 +1,6 @@
 pub mod Names
 pub mod Framed
+pub mod Admitted
 pub mod Refusals
 pub mod Tokens
 pub mod Answers

@@ -16,5 +16,8 @@ mod tests;
 
 pub use answer::Scan;
 pub use envelope::scan;
-pub use laws::{no_envelope_begins_another, no_envelope_is_empty};
+pub use laws::{
+    admitted_octets_are_framed, admitted_octets_have_one_value, no_admitted_octets_begin_others,
+    no_envelope_begins_another, no_envelope_is_empty,
+};
 pub use refusal::{Cause, Layer, Refusal};

@@ -2,7 +2,10 @@
 
 mod rule;
 
-use crate::{Cause, Layer, Refusal, Scan, scan};
+use crate::{
+    Cause, Layer, Refusal, Scan, admitted_octets_are_framed, admitted_octets_have_one_value,
+    no_admitted_octets_begin_others, scan,
+};
 use iim_dataset::{Head, HeadCause, HeadFault, read_head};
 use iim_fields::Limits;
 use rule::{by_rule, refusal};
@@ -548,4 +551,11 @@ fn names_and_numbers(rt: HostRuntime) {
     for (layer, name) in layers {
         assert_eq!(rt; layer.name(), name);
     }
+}
+
+#[test]
+fn laws_are_called() {
+    admitted_octets_have_one_value();
+    no_admitted_octets_begin_others();
+    admitted_octets_are_framed();
 }
