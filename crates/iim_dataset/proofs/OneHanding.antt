@@ -5,7 +5,7 @@ use Rattle.iim_dataset.specs.Octets.{Octets}
 use Rattle.iim_dataset.specs.Datasets.{Dataset, SpellsTag, SpellsDataset, count_octets}
 use Rattle.iim_dataset.specs.Splits.{Begun, InTag, InData, IsBegun}
 use Rattle.iim_dataset.specs.Events.{Event, handed_on}
-use Rattle.iim_dataset.specs.Reading.{HandsOn}
+use Rattle.iim_dataset.specs.Places.{HandsOn}
 use Rattle.iim_dataset.specs.declared.head.Head.{Head}
 use Rattle.iim_dataset.proofs.Fronts.{zeros_are, both_are}
 use Rattle.iim_dataset.proofs.Spellings.{one_tag, one_splitting}

@@ -10,7 +10,9 @@ use Rattle.iim_dataset.specs.Datasets.{Dataset, SpellsTag, SpellsDataset, Spells
 use Rattle.iim_dataset.specs.Splits.{Begun, InTag, InData, Reads}
 use Rattle.iim_dataset.specs.Tags.{BeginsTag}
 use Rattle.iim_dataset.specs.Events.{Event, HeadRead, DataOctet, DatasetEnd, events_of, handed_on}
-use Rattle.iim_dataset.specs.Reading.{LeadsTo, HandsOn, IsKeptAs, Brings, Stops, between, head_events, behind_head}
+use Rattle.iim_dataset.specs.Places.{LeadsTo, HandsOn, IsKeptAs, Brings, between}
+use Rattle.iim_dataset.specs.Reading.{Stops}
+use Rattle.iim_dataset.specs.Completing.{head_events, behind_head}
 use Rattle.iim_dataset.specs.declared.head.Head.{Head}
 use Rattle.iim_dataset.specs.declared.place.Place.{Place}
 use Rattle.iim_dataset.specs.declared.place.Place.TheVariants.{Tag, Inside}

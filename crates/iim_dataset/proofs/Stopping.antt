@@ -8,7 +8,9 @@ use Rattle.iim_dataset.specs.Octets.{Octets}
 use Rattle.iim_dataset.proofs.Rests.{rest_of, take-front}
 use Rattle.iim_dataset.specs.Datasets.{SpellsTag, count_octets}
 use Rattle.iim_dataset.specs.Events.{Event, DataOctet, DatasetEnd}
-use Rattle.iim_dataset.specs.Reading.{LeadsTo, Brings, Tells, TagDies, Completes, Stops, StopsAmong, RefusesFor, head_events, behind_head}
+use Rattle.iim_dataset.specs.Places.{LeadsTo, Brings, Tells}
+use Rattle.iim_dataset.specs.Reading.{TagDies, Completes, Stops, RefusesFor}
+use Rattle.iim_dataset.specs.Completing.{StopsAmong, head_events, behind_head}
 use Rattle.iim_dataset.specs.declared.head.Head.{Head}
 use Rattle.iim_dataset.specs.declared.head.HeadCause.{HeadCause}
 use Rattle.iim_dataset.specs.declared.place.Place.{Place}

@@ -4,7 +4,7 @@ use Rattle.iim_dataset.specs.Octets.{IsOctet}
 use Rattle.iim_dataset.specs.Datasets.{Dataset, SpellsTag, SpellsDataset, canonical_tag, count_octets}
 use Rattle.iim_dataset.specs.Splits.{Begun, SplitsInto}
 use Rattle.iim_dataset.specs.Events.{Event, handed_on, begun_data}
-use Rattle.iim_dataset.specs.Reading.{HandsOn}
+use Rattle.iim_dataset.specs.Places.{HandsOn}
 use Rattle.iim_dataset.specs.Tags.{BeginsTag, HasTag, HasNoTag}
 use Rattle.iim_dataset.specs.declared.head.Head.{Head}
 use Rattle.iim_dataset.specs.declared.head.HeadFault.{HeadFault}

@@ -4,7 +4,9 @@ pub mod Splits
 pub mod Events
 pub mod Languages
 pub mod Tags
+pub mod Places
 pub mod Reading
+pub mod Completing
 pub mod Devices
 pub mod Later
 pub mod Trials

@@ -3,7 +3,9 @@
 ghost use Rattle.std.specs.Prelude.{◌≡◌, ◌<◌, ◌≤◌, length, take, Some, None, IfOk, IfErr, OnOk, OnErr};
 ghost use Rattle.iim_dataset.specs.Datasets.{count_octets};
 ghost use Rattle.iim_dataset.specs.Tags.{BeginsTag};
-ghost use Rattle.iim_dataset.specs.Reading.{IsPlace, Tells, Refuses, GoesOn, TookAll, StopsAmong, head_events, behind_head, between, to_come};
+ghost use Rattle.iim_dataset.specs.Places.{IsPlace, Tells, between, to_come};
+ghost use Rattle.iim_dataset.specs.Reading.{Refuses, GoesOn, TookAll};
+ghost use Rattle.iim_dataset.specs.Completing.{StopsAmong, head_events, behind_head};
 
 use crate::fault::{Fault, FaultCause, tag_fault};
 use crate::head::Head;

@@ -18,7 +18,8 @@ pub struct HeadReader {
 }
 
 impl Model for HeadReader {
-    ghost use Rattle.iim_dataset.specs.Reading.{Reader, IsPlace};
+    ghost use Rattle.iim_dataset.specs.Places.{IsPlace};
+    ghost use Rattle.iim_dataset.specs.Reading.{Reader};
 
     ghost Value = { Reader };
 
@@ -27,7 +28,8 @@ impl Model for HeadReader {
     ghost invariant = { λ reader. IsPlace reader.place };
 }
 
-ghost use Rattle.iim_dataset.specs.Reading.{StandsAt, TakesCalls, IsFailed, Tells, Refuses, TookAll, named_by, to_come};
+ghost use Rattle.iim_dataset.specs.Places.{Tells, named_by, to_come};
+ghost use Rattle.iim_dataset.specs.Reading.{StandsAt, TakesCalls, IsFailed, Refuses, TookAll};
 
 impl HeadReader {
     /// The reader of a stream of which no octet has come.

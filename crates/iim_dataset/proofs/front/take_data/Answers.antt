@@ -2,7 +2,8 @@ use Rattle.std.proofs.Common.{◌≡◌, ℕ, ◌-◌, ◌<◌, List, [], ◌∷
 use Rattle.std.proofs.lemmas.List.{take-take, length-take-le, get_or-take}
 use Rattle.std.proofs.Math.Seq.{take-length}
 use Rattle.iim_dataset.specs.Events.{DataOctet, DatasetEnd}
-use Rattle.iim_dataset.specs.Reading.{Brings, Refuses}
+use Rattle.iim_dataset.specs.Places.{Brings}
+use Rattle.iim_dataset.specs.Reading.{Refuses}
 use Rattle.iim_dataset.specs.declared.fault.Fault.{Fault}
 use Rattle.iim_dataset.specs.declared.place.Place.{Place}
 use Rattle.iim_dataset.specs.declared.place.Place.TheVariants.{Inside}

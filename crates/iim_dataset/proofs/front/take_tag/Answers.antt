@@ -3,7 +3,9 @@ use Rattle.std.specs.Prelude.{MatchOption}
 use Rattle.std.proofs.Math.Seq.{take-length}
 use Rattle.iim_dataset.specs.Datasets.{count_octets}
 use Rattle.iim_dataset.specs.Tags.{BeginsTag, Concerns, HasTag, HasNoTag}
-use Rattle.iim_dataset.specs.Reading.{Brings, Refuses, RefusesFor, head_events}
+use Rattle.iim_dataset.specs.Places.{Brings}
+use Rattle.iim_dataset.specs.Reading.{Refuses, RefusesFor}
+use Rattle.iim_dataset.specs.Completing.{head_events}
 use Rattle.iim_dataset.specs.declared.head.Head.{Head}
 use Rattle.iim_dataset.specs.declared.head.HeadCause.{HeadCause}
 use Rattle.iim_dataset.specs.declared.fault.Fault.{Fault}

@@ -1,5 +1,5 @@
 use Rattle.std.proofs.Common.{[], subst, sym}
-use Rattle.iim_dataset.specs.Reading.{LeadsTo}
+use Rattle.iim_dataset.specs.Places.{LeadsTo}
 use Rattle.iim_dataset.specs.declared.place.Place.{Place}
 use Rattle.iim_dataset.proofs.Places.{begins}
 use Rattle.iim_dataset.proofs.reader.HeadReader.new.Goals as goal
