@@ -84,17 +84,20 @@ pub refuses_front : {D : Type 0} (goes : D → List Event → D → Type 0) (sto
     → ((a b c : D) (xs ys : List Event) (event : Event) → goes a xs b → stops b ys event c → stops a (xs ++ ys) event c)
     → (why : Option HeadCause) (p q r : Place) (piece : List ℕ) (i k : ℕ) (a b c : D) → Tells goes p (take i piece) q a b → RefusesFor goes stops why q (rest_of piece i) k r b c
     → RefusesFor goes stops why p piece (i + k) r a c
-refuses_front goes stops joined joined_stop None p q r piece i k a b c t s = record {
-  more = t.more ++ s.more;
-  event = s.event;
-  stopped = joined_stop a b c t.more s.more s.event t.told s.stopped;
-  completes = λ octets events l.
-      subst (λ (es : List Event). Completes (octets ++ take (i + k) piece) (slice_index piece (i + k)) es s.event) (append_assoc events t.more s.more)
-      (subst (λ (x : ℕ). Completes (octets ++ take (i + k) piece) x ((events ++ t.more) ++ s.more) s.event) (octet_is piece i k)
-      (subst (λ (xs : List ℕ). Completes xs (slice_index (rest_of piece i) k) ((events ++ t.more) ++ s.more) s.event)
-      (append_assoc octets (take i piece) (take k (rest_of piece i)) ∙ ap (λ u. octets ++ u) (sym (take-front piece i k)))
-      (s.completes (octets ++ take i piece) (events ++ t.more) (t.brings octets events l))));
-}
+refuses_front goes stops joined joined_stop None p q r piece i k a b c t (s, place) = (
+  record {
+    more = t.more ++ s.more;
+    event = s.event;
+    stopped = joined_stop a b c t.more s.more s.event t.told s.stopped;
+    completes = λ octets events l.
+        subst (λ (es : List Event). Completes (octets ++ take (i + k) piece) (slice_index piece (i + k)) es s.event) (append_assoc events t.more s.more)
+        (subst (λ (x : ℕ). Completes (octets ++ take (i + k) piece) x ((events ++ t.more) ++ s.more) s.event) (octet_is piece i k)
+        (subst (λ (xs : List ℕ). Completes xs (slice_index (rest_of piece i) k) ((events ++ t.more) ++ s.more) s.event)
+        (append_assoc octets (take i piece) (take k (rest_of piece i)) ∙ ap (λ u. octets ++ u) (sym (take-front piece i k)))
+        (s.completes (octets ++ take i piece) (events ++ t.more) (t.brings octets events l))));
+  },
+  place,
+)
 refuses_front goes stops joined joined_stop (Some cause) p q r piece i k a b c t s = (
   tells_front goes joined p q r piece i k a b c t s.0,
   subst (λ (x : ℕ). TagDies r x cause) (octet_is piece i k) s.1,

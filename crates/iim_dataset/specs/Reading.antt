@@ -30,7 +30,8 @@ pub record TagDies (place : Place) (next : ℕ) (cause : HeadCause) : Type 0 whe
   pub dead : BeginsNoTag count_octets (held ++ next ∷ [])
   pub concerns : Concerns cause (length held)
 
--- The next octet completes this event, behind these.
+-- The next octet completes this event, behind these: those that the octets completed, and some that the next one completes
+-- before this one. It may complete others behind it.
 pub record Completes (octets : List ℕ) (next : ℕ) (events : List Event) (event : Event) : Type 0 where
   pub before : List Event
   pub begun : Begun
@@ -49,9 +50,10 @@ pub record Stops {D : Type 0} (stops : D → List Event → Event → D → Type
   pub completes : (octets : List ℕ) (events : List Event) → LeadsTo octets events place
       → Completes (octets ++ take k piece) (slice_index piece k) (events ++ more) event
 
--- Octet k of the piece is refused: the octets before it lead to a place where no tag goes on with it, or the sink stopped.
+-- Octet k of the piece is refused: the octets before it lead to a place where no tag goes on with it, or the sink stopped, and
+-- then the place tells nothing.
 abbrev pub RefusesFor : {D : Type 0} → (D → List Event → D → Type 0) → (D → List Event → Event → D → Type 0) → Option HeadCause → Place → List ℕ → ℕ → Place → D → D → Type 0
-RefusesFor goes stops None old piece k new a b = Stops stops old piece k a b
+RefusesFor goes stops None old piece k new a b = Stops stops old piece k a b × (new ≡ between)
 RefusesFor goes stops (Some cause) old piece k new a b = Tells goes old (take k piece) new a b × TagDies new (slice_index piece k) cause
 
 abbrev pub Refuses : {D : Type 0} → (D → List Event → D → Type 0) → (D → List Event → Event → D → Type 0) → Place → List ℕ → Fault → Place → D → D → Type 0
@@ -69,7 +71,7 @@ abbrev pub GoesOn : {D : Type 0} → (D → Option ℕ → Type 0) → (D → Ty
 GoesOn stands ends More place sink = stands sink (to_come place)
 GoesOn stands ends Last place sink = ends sink × (place ≡ between)
 
--- All octets were taken, or the sink has ended behind a whole dataset.
+-- All of so many octets were used, or the sink has ended behind a whole dataset.
 abbrev pub TookAll : {D : Type 0} → (D → Option ℕ → Type 0) → (D → Type 0) → Place → D → ℕ → ℕ → Type 0
 TookAll stands ends place sink all used = ((used ≡ all) × stands sink (to_come place)) ⊎ (ends sink × (place ≡ between))
 

@@ -22,7 +22,8 @@ pub(crate) struct Front {
     pub(crate) used: usize,
 }
 
-/// An octet is refused. Where no tag goes on with it, the octets before it lead to the place.
+/// An octet is refused. Where no tag goes on with it, the octets before it lead to the place; behind a stop of the sink it is
+/// the one between datasets.
 #[derive(Drop)]
 pub(crate) struct Refused {
     pub(crate) place: Place,
@@ -40,6 +41,7 @@ pub(crate) fn start() -> Place
 
 /// The sink stopped behind so many octets.
 fn stopped(used: usize) -> Refused
+    ensures place { result.place ≡ between }
     ensures is_place { IsPlace result.place }
     ensures fault { result.fault ≡ record { cause = FaultCause.Stopped; used = used } }
 {

@@ -22,7 +22,7 @@ pub fn octets_are_handed_on_one_way()
     ensures { OctetsAreHandedOnOneWay }
 {}
 
-/// What a reader handed on tells the whole datasets, and what has come of the begun one.
+/// What a reader handed on tells the whole datasets, and the head and the data so far of the begun one.
 pub fn events_tell_the_datasets()
     ensures { EventsTellTheDatasets }
 {}

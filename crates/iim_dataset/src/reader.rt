@@ -28,13 +28,14 @@ impl Model for HeadReader {
     ghost invariant = { λ reader. IsPlace reader.place };
 }
 
-ghost use Rattle.iim_dataset.specs.Places.{Tells, named_by, to_come};
+ghost use Rattle.iim_dataset.specs.Places.{Tells, between, named_by, to_come};
 ghost use Rattle.iim_dataset.specs.Reading.{StandsAt, TakesCalls, IsFailed, Refuses, TookAll};
 
 impl HeadReader {
     /// The reader of a stream of which no octet has come.
     pub fn new() -> HeadReader
         ensures takes_calls { TakesCalls result }
+        ensures between { result.place ≡ between }
         ensures stands { StandsAt result [] [] }
     {
         HeadReader {
@@ -51,7 +52,7 @@ impl HeadReader {
     }
 
     /// The record and the number of the dataset that is begun, each 0 while it is unread; both 0 between datasets. Where no tag
-    /// went on with an octet they are those of the tag before it.
+    /// went on with an octet they are those of the tag before it, and behind a stop of the sink both are 0.
     pub fn named(&self) -> (u8, u8)
         ensures { result ≡ named_by self.now.place }
     {

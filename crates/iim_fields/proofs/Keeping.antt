@@ -17,6 +17,7 @@ use Rattle.iim_fields.specs.declared.checker.Begun.{Begun}
 use Rattle.iim_fields.specs.declared.checker.Phase.TheVariants as phases
 use Rattle.iim_fields.specs.declared.fault.FieldFault.{FieldFault}
 use Rattle.iim_fields.proofs.Build.{fields_held}
+use Rattle.iim_fields.proofs.Stand.{begun_of}
 use Rattle.iim_fields.proofs.Endings.{sections_end, whole_behind_nine}
 use Rattle.iim_fields.proofs.Finish.{kept_of_sections}
 
@@ -26,13 +27,10 @@ stood_inside c h n (inl failed) i = let clash : phases.Failed ≡ phases.Inside 
 stood_inside c h n (inr (inl (ds, s))) i = let clash : phases.Between ≡ phases.Inside i.begun = sym s.between.between ∙ i.inside in absurd cc
 stood_inside c h n (inr (inr s)) i = s
 
--- the same dataset is begun
-begun_is : (a b : Begun) → phases.Inside a ≡ phases.Inside b → a ≡ b
-begun_is a b e = cc
-
+-- the same head and octets to come
 same_left : (c : Checker) (g h : Head) (m n : ℕ) → IsInside c g m → IsInside c h n → (g ≡ h) × (m ≡ n)
 same_left c g h m n i j =
-    let one : i.begun ≡ j.begun = begun_is i.begun j.begun (sym i.inside ∙ j.inside) in
+    let one : i.begun ≡ j.begun = begun_of i.begun j.begun (sym i.inside ∙ j.inside) in
     (sym i.head ∙ (ap (λ (b : Begun). b.head) one ∙ j.head), sym i.to_come ∙ (ap (λ (b : Begun). b.to_come) one ∙ j.to_come))
 
 zeros_are : (n : ℕ) → Octets (replicate n 0)

@@ -206,7 +206,7 @@ inside_of old new h row between enters known fits room =
       kept_room = λ is. let w = kept_room old h room is in (omega (arith, w.0), omega (arith, w.1));
     }
 
-begun_of : (a b : Begun) → phases.Inside a ≡ phases.Inside b → a ≡ b
+pub begun_of : (a b : Begun) → phases.Inside a ≡ phases.Inside b → a ≡ b
 begun_of a b e = cc
 
 pub stands_in : EachRowHasValues → (old new : Checker) (h : Head) (row : Row) → h.set < 256 → IsBetween old → Enters old h row new → row_of h.rec h.set ≡ Some row → h.count ≤ row.max

@@ -67,8 +67,7 @@ fn room_fault(limits: Limits, octets: usize, fields: usize, head: Head) -> Optio
 impl Checker {
     ghost use Rattle.iim_fields.specs.Standing.{limits_of, IsFailed, IsBetween, IsEnded, IsInside, CanTake, CanClose, StandsBehind, StandsIn, Enters, Gives, IsHeadFault, IsValueFault, IsOf, Settles, begun_data};
 
-    /// At the beginning of an envelope, with memory for all that the limits allow: no later call takes any. An error says
-    /// that memory was refused.
+    /// As [`crate::Fields::new`] says.
     pub(crate) fn new(alloc: Global, limits: Limits) -> Result<Checker, AllocError>
         ensures stands { IfOk result (λ checker. StandsBehind checker []) }
         ensures limits { IfOk result (λ checker. limits_of checker ≡ limits) }
@@ -87,7 +86,7 @@ impl Checker {
         })
     }
 
-    /// Whether something was refused.
+    /// As [`crate::Fields::is_failed`] says.
     pub(crate) fn is_failed(&self) -> bool
         ensures { IsTrue result ↔ IsFailed self.now }
     {
@@ -142,8 +141,7 @@ impl Checker {
         });
     }
 
-    /// Takes the next head, or answers its first fault and has failed: the record layer dies with the head, or a limit
-    /// is passed.
+    /// As [`crate::Fields::begin`] says.
     pub(crate) fn begin(&mut self, head: Head) -> Result<(), FieldFault>
         requires { IsBetween self.old }
         ensures inside { OnOk result (IsInside self.new head head.count) }
@@ -165,8 +163,7 @@ impl Checker {
         }
     }
 
-    /// Takes octets of the begun dataset: some that are still to come, in any pieces. The data of subfiles, 8:10, do not
-    /// pass here.
+    /// As [`crate::Fields::bytes`] says.
     pub(crate) fn bytes(&mut self, octets: &[u8])
         requires { CanTake self.old (length octets.now) }
         ensures inside { (h : HeadValue) (n : ℕ) → IsInside self.old h n → IsInside self.new h (n - length octets.now) }
@@ -209,8 +206,7 @@ impl Checker {
         self.store.pass(start);
     }
 
-    /// Ends the begun dataset: answers the number that it tells if its record is 7 or 9, or the first fault of its value,
-    /// and then has failed: the record layer dies with the value.
+    /// As [`crate::Fields::close`] says.
     pub(crate) fn close(&mut self) -> Result<Option<u64>, FieldFault>
         requires { CanClose self.old }
         ensures between { OnOk result (IsBetween self.new) }

@@ -15,7 +15,8 @@ use iim_dataset::Head;
 use std::alloc::{AllocError, Global};
 use std::marker::Model;
 
-/// Checks the datasets of an envelope one by one, and keeps those of records 1 and 2. Contracts see it as the checker in it.
+/// A reader of the datasets of an envelope: it checks them one by one, and keeps those of records 1 and 2. Contracts see it as
+/// the checker in it.
 #[derive(Drop)]
 pub struct Fields {
     checker: Checker,
@@ -91,11 +92,12 @@ impl Fields {
         self.checker.close()
     }
 
-    /// The envelope that was kept, behind the end of 9:10. Before it the checker is handed back.
+    /// The envelope that was kept, where 9:10 has ended and nothing was refused. Else the reader is handed back as it was.
     pub fn into_envelope(self) -> Result<Envelope, Fields>
         ensures ended { OnOk result (IsEnded self) }
         ensures whole { OnOk result ((ds : List Dataset) → StandsBehind self ds → AreSections ds) }
         ensures envelope { IfOk result (λ envelope. (ds : List Dataset) → StandsBehind self ds → envelope ≡ kept ds) }
+        ensures not_ended { OnErr result (IsEnded self → ⊥) }
         ensures refused { OnErr result ((ds : List Dataset) → StandsBehind self ds → AreSections ds → ⊥) }
         ensures handed_back { IfErr result (λ fields. fields ≡ self) }
     {

@@ -6,7 +6,7 @@ use Rattle.std.proofs.lemmas.List.Elements.{filter-append}
 use Rattle.iim_dataset.specs.Datasets.{Dataset}
 use Rattle.iim_object.specs.Places.{Place}
 use Rattle.iim_object.specs.Records.{AreRecords, MeetRows, numbers_of, lengths_of}
-use Rattle.iim_object.specs.Behind.{of_record, ending_of, place_behind}
+use Rattle.iim_object.specs.Behind.{of_record, ending_of, place_behind, RecordsAreByNumber}
 use Rattle.iim_object.proofs.Members.{IsMember, all_front, all_back, all_map, one_confirmation, some_subfile}
 
 -- ---- the datasets of a record
@@ -182,6 +182,14 @@ of_rec rec ds h = all_map (IsMember rec) (λ (d : Dataset). d.rec ≡ rec) ds (�
 -- the records that come behind are sorted
 pub sorted : {ds : List Dataset} (r : AreRecords ds) → AreSorted r.before r.r7 r.r8 r.r9
 sorted r = record { others = r.others; sevens = of_rec 7 r.r7 r.descriptor.each; eights = of_rec 8 r.r8 r.object.each; nines = of_rec 9 r.r9 r.confirmation.each }
+
+pub records_by_number : RecordsAreByNumber
+records_by_number ds r =
+    let s = sorted r in record {
+      sevens = ap (of_record 7) r.parts ∙ sevens_in r.before r.r7 r.r8 r.r9 s;
+      eights = ap (of_record 8) r.parts ∙ eights_in r.before r.r7 r.r8 r.r9 s;
+      nines = ap (of_record 9) r.parts ∙ nines_in r.before r.r7 r.r8 r.r9 s;
+    }
 
 pub record NextNumber (ds : List Dataset) (d : Dataset) (r7 : List Dataset) : Type 0 where
   pub before : List Dataset

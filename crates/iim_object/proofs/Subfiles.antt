@@ -4,6 +4,7 @@ use Rattle.std.specs.List.{AllByRecursion}
 use Rattle.std.proofs.lemmas.List.{map-append}
 use Rattle.std.proofs.lemmas.List.Sums.{sum_by-append}
 use Rattle.iim_dataset.specs.Languages.{IsAlive}
+use Rattle.iim_object.specs.Records.{SizesAreDetermined}
 use Rattle.iim_object.specs.Sizes.{Stated, Agree, number_at, mode_number, sizes_at}
 use Rattle.iim_object.specs.Living.{HasDuties, Fit, IsWhole, NumbersLiveWithoutClash, SubfilesLiveWhileTheyFit, ObjectsEndWhereTheyAreWhole, TotalsAreConfirmed}
 use Rattle.iim_object.specs.Objects.{ObjectToken, SubfileBegun, ObjectEnded, Confirmed, ObjectLanguage, number_tokens}
@@ -274,3 +275,18 @@ confirmed_law known subfile ps lengths n d some = (
         (subst (λ (k : ℕ). ObjectLanguage (number_tokens ps ++ (map SubfileBegun lengths ++ (ObjectEnded ∷ Confirmed k ∷ [])))) (sym h.2) (whole_object known subfile ps lengths d some h.0 h.1)),
   )),
 )
+
+-- ---- the sizes
+
+pub sizes_law : SizesAreDetermined
+sizes_law r7 r8 r9 s t a b =
+    let known : s.known ≡ t.known = mode_is s.known t.known (sym a.mode ∙ b.mode) in
+    let subfile : s.subfile ≡ t.subfile = number_is s.subfile t.subfile (sym a.largest ∙ b.largest) in
+    λ i. record {
+      known = known i;
+      subfile = subfile i;
+      announced = (sym a.announced ∙ b.announced) i;
+      maximum = (sym a.maximum ∙ b.maximum) i;
+      subfiles = (sym a.subfiles ∙ b.subfiles) i;
+      total = (sym a.total ∙ b.total) i;
+    }

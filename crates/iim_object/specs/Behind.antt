@@ -71,3 +71,12 @@ SubfilesLead = (ds : List Dataset) (d : Dataset) → IsAlive AreRecords (ds ++ d
 abbrev pub EndsLead : Type 0
 EndsLead = (ds : List Dataset) (d : Dataset) → IsAlive AreRecords (ds ++ d ∷ []) → d.rec ≡ 9
     → Leads (place_behind ds) ObjectEnded (place_ended ds) × Leads (place_ended ds) (Confirmed (number d.octets)) (place_behind (ds ++ d ∷ []))
+
+-- Where datasets have the records 7, 8 and 9 in their order, those are the datasets of each of these numbers.
+pub record AreByNumber (ds r7 r8 r9 : List Dataset) : Type 0 where
+  pub sevens : of_record 7 ds ≡ r7
+  pub eights : of_record 8 ds ≡ r8
+  pub nines : of_record 9 ds ≡ r9
+
+abbrev pub RecordsAreByNumber : Type 0
+RecordsAreByNumber = (ds : List Dataset) (r : AreRecords ds) → AreByNumber ds r.r7 r.r8 r.r9

@@ -53,3 +53,7 @@ pub record AreSized (ds : List Dataset) : Type 0 where
   pub records : AreRecords ds
   pub sizes : Sizes
   pub have : HaveSizes records.r7 records.r8 records.r9 sizes
+
+-- The sizes that records state are determined.
+abbrev pub SizesAreDetermined : Type 0
+SizesAreDetermined = (r7 r8 r9 : List Dataset) (s t : Sizes) → HaveSizes r7 r8 r9 s → HaveSizes r7 r8 r9 t → s ≡ t

@@ -2,7 +2,8 @@
 //! the laws.
 
 ghost use Rattle.iim_object.specs.Living.{NumbersLiveWithoutClash, SubfilesLiveWhileTheyFit, ObjectsEndWhereTheyAreWhole, TotalsAreConfirmed};
-ghost use Rattle.iim_object.specs.Behind.{TokensAreOfSizedDatasets, DatasetsLiveWithTheirTokens, DatasetsEndWithTheirTokens, TokensFollow, OthersLeadNowhere, NumbersLead, SubfilesLead, EndsLead};
+ghost use Rattle.iim_object.specs.Behind.{TokensAreOfSizedDatasets, DatasetsLiveWithTheirTokens, DatasetsEndWithTheirTokens, TokensFollow, OthersLeadNowhere, NumbersLead, SubfilesLead, EndsLead, RecordsAreByNumber};
+ghost use Rattle.iim_object.specs.Records.{SizesAreDetermined};
 
 /// While record 7 is read, the object layer can go on exactly where its numbers don't clash.
 pub fn numbers_live_without_clash()
@@ -45,4 +46,14 @@ pub fn datasets_lead_from_place_to_place()
     ensures numbers { NumbersLead }
     ensures subfiles { SubfilesLead }
     ensures ends { EndsLead }
+{}
+
+/// Where datasets have the records 7, 8 and 9 in their order, those are the datasets of each of these numbers.
+pub fn records_are_by_number()
+    ensures { RecordsAreByNumber }
+{}
+
+/// The sizes that records state are determined.
+pub fn sizes_are_determined()
+    ensures { SizesAreDetermined }
 {}

@@ -18,8 +18,8 @@ mod tests;
 pub use fault::{ObjectFault, SizeCause};
 pub use laws::{
     datasets_lead_from_place_to_place, datasets_live_with_their_tokens, numbers_live_without_clash,
-    objects_end_where_they_are_whole, subfiles_live_while_they_fit, tokens_are_of_sized_datasets,
-    totals_are_confirmed,
+    objects_end_where_they_are_whole, records_are_by_number, sizes_are_determined,
+    subfiles_live_while_they_fit, tokens_are_of_sized_datasets, totals_are_confirmed,
 };
 pub use plan::{MAX_SUBFILES, Plan};
 pub use reader::ObjectReader;

@@ -26,7 +26,7 @@ pub trait ObjectSink {
         ensures refused { IfErr result (λ stop. stop.taken ≡ 0) }
         ensures stopped { OnErr result (stops self.old [] ObjectEnd self.new) };
 
-    /// An empty run changes nothing.
+    /// No events lead from each value to itself: so an empty run may change nothing.
     ghost nothing: { (sink : Self) → goes sink [] sink };
 
     /// Events and then others lead where all of them joined lead.

@@ -1,9 +1,10 @@
 //! What holds of all envelopes.
 
-ghost use Rattle.iim_unpack.specs.Laws.{AdmittedOctetsAreFramed, AdmittedOctetsHaveOneValue, NoAdmittedOctetsBeginOthers, NoEnvelopeBeginsAnother, NoEnvelopeIsEmpty};
+ghost use Rattle.iim_unpack.specs.Laws.{AdmittedOctetsAreFramed, AdmittedOctetsHaveOneValue, FramedMessagesAreAdmitted, NoAdmittedOctetsBeginOthers, NoEnvelopeBeginsAnother, NoEnvelopeIsEmpty};
 
 use iim_dataset::no_dataset_begins_another;
 use iim_fields::no_sections_begin_others;
+use iim_object::{records_are_by_number, sizes_are_determined};
 use wire_message::messages_have_one_reading;
 use wire_story::texts_have_one_reading;
 
@@ -26,6 +27,7 @@ pub fn admitted_octets_have_one_value()
 {
     no_dataset_begins_another();
     no_sections_begin_others();
+    sizes_are_determined();
     messages_have_one_reading();
     texts_have_one_reading();
 }
@@ -38,7 +40,16 @@ pub fn no_admitted_octets_begin_others()
     no_sections_begin_others();
 }
 
-/// Admitted octets are framed under the limits that they are within: [`crate::scan`] accepts them.
+/// Admitted octets are framed under the limits that they are within, the greatest number of subfiles among them.
 pub fn admitted_octets_are_framed()
     ensures { AdmittedOctetsAreFramed }
-{}
+{
+    records_are_by_number();
+}
+
+/// Framed octets whose object is a message, and whose text has lines, are admitted.
+pub fn framed_messages_are_admitted()
+    ensures { FramedMessagesAreAdmitted }
+{
+    records_are_by_number();
+}

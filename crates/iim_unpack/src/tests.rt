@@ -4,7 +4,8 @@ mod rule;
 
 use crate::{
     Cause, Layer, Refusal, Scan, admitted_octets_are_framed, admitted_octets_have_one_value,
-    no_admitted_octets_begin_others, scan,
+    framed_messages_are_admitted, no_admitted_octets_begin_others, no_envelope_begins_another,
+    no_envelope_is_empty, scan,
 };
 use iim_dataset::{Head, HeadCause, HeadFault, read_head};
 use iim_fields::Limits;
@@ -555,7 +556,10 @@ fn names_and_numbers(rt: HostRuntime) {
 
 #[test]
 fn laws_are_called() {
+    no_envelope_begins_another();
+    no_envelope_is_empty();
     admitted_octets_have_one_value();
     no_admitted_octets_begin_others();
     admitted_octets_are_framed();
+    framed_messages_are_admitted();
 }

@@ -32,7 +32,7 @@ pub trait StorySink {
         ensures front { OnErr result (goes self.old [] self.new) }
         ensures counted { OnErr result (Rose (failures self.old) (failures self.new)) };
 
-    /// An empty run changes nothing.
+    /// No events lead from each value to itself: so an empty run may change nothing.
     ghost nothing: { (sink : Self) → goes sink [] sink };
 
     /// Events and then others lead where all of them joined lead.

@@ -19,6 +19,9 @@ const RECORD: &[u8] = b"<\x01\x1e\x03TST><\x02\x05\x02ab><\x07\x0a\x00>";
 /// The octet that completes each event: a head, octets of data, or an end.
 const COMPLETED_AT: [usize; 11] = [4, 5, 6, 7, 7, 13, 14, 15, 15, 20, 20];
 
+/// How much of the record stands before each event.
+const RECORDED: [usize; 11] = [0, 4, 5, 6, 7, 8, 12, 13, 14, 15, 19];
+
 /// Writes down what it takes. The third dataset is the last one.
 #[derive(Drop)]
 struct Recorder {
@@ -97,6 +100,7 @@ impl DatasetSink for Recorder {
 
 /// Feeds octets one by one up to the end of the last dataset, and answers how many were used.
 fn feed_by_octets(
+    rt: &impl Abort,
     reader: &mut HeadReader,
     octets: &[u8],
     sink: &mut Recorder,
@@ -107,11 +111,15 @@ fn feed_by_octets(
         if sink.ended == 3 {
             return Ok(at);
         }
-        if let Err(fault) = reader.feed(&[*octet], sink) {
-            return Err(Fault {
-                cause: fault.cause,
-                used: at,
-            });
+        match reader.feed(&[*octet], sink) {
+            Ok(used) => assert_eq!(rt; used, 1),
+            Err(fault) => {
+                assert_eq!(rt; fault.used, 0);
+                return Err(Fault {
+                    cause: fault.cause,
+                    used: at,
+                });
+            }
         }
     }
     Ok(octets.len())
@@ -135,7 +143,10 @@ fn datasets_in_any_cut(rt: HostRuntime) {
     }
     let mut reader = HeadReader::new();
     let mut sink = Recorder::new(11);
-    assert_eq!(rt; feed_by_octets(&mut reader, STREAM, &mut sink), Ok(LENGTH));
+    assert_eq!(rt;
+        feed_by_octets(&rt, &mut reader, STREAM, &mut sink),
+        Ok(LENGTH)
+    );
     assert_eq!(rt; sink.record.as_slice(), RECORD);
 }
 
@@ -174,7 +185,7 @@ fn no_tag_goes_on(rt: HostRuntime) {
         let mut reader = HeadReader::new();
         let mut sink = Recorder::new(11);
         assert_eq!(rt;
-            feed_by_octets(&mut reader, octets, &mut sink),
+            feed_by_octets(&rt, &mut reader, octets, &mut sink),
             Err(fault),
             "{octets:?}"
         );
@@ -182,30 +193,34 @@ fn no_tag_goes_on(rt: HostRuntime) {
     }
 }
 
-/// The sink stops at this event.
-fn expect_stop(rt: &impl Abort, event: usize, used: usize) {
+/// The sink stops at this event, which octet `used` completes, behind so much of the record.
+fn expect_stop(rt: &impl Abort, event: usize, used: usize, recorded: usize) {
     let stop = Err(Fault {
         cause: FaultCause::Stopped,
         used,
     });
+    let (front, _) = RECORD.split_at(recorded.min(RECORD.len()));
     let mut reader = HeadReader::new();
     let mut sink = Recorder::new(event);
     assert_eq!(rt; reader.feed(STREAM, &mut sink), stop, "event {event}");
+    assert_eq!(rt; sink.record.as_slice(), front, "event {event}");
     assert!(rt; reader.is_failed());
+    assert_eq!(rt; reader.named(), (0, 0));
     let mut reader = HeadReader::new();
-    let mut again = Recorder::new(event);
+    let mut sink = Recorder::new(event);
     assert_eq!(rt;
-        feed_by_octets(&mut reader, STREAM, &mut again),
+        feed_by_octets(rt, &mut reader, STREAM, &mut sink),
         stop,
         "event {event}"
     );
-    assert_eq!(rt; sink.record.as_slice(), again.record.as_slice());
+    assert_eq!(rt; sink.record.as_slice(), front, "event {event}");
+    assert!(rt; reader.is_failed());
 }
 
 #[test]
 fn sinks_that_stop(rt: HostRuntime) {
-    for (event, used) in COMPLETED_AT.into_iter().enumerate() {
-        expect_stop(&rt, event, used);
+    for (event, (used, recorded)) in COMPLETED_AT.into_iter().zip(RECORDED).enumerate() {
+        expect_stop(&rt, event, used, recorded);
     }
 }
 

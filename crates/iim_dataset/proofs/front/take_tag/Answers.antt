@@ -90,7 +90,7 @@ returns-in-Err-begin-clause-refused g c =
     let all : n ≡ length held + (k + 1) = omega (arith, longer held rest h n c.requires.held t, c.len.ensures.value) in
     let lt : k < length rest = omega (arith, t.within, length-append held rest, all) in
     subst (λ (f : Fault). Refuses g.D.DatasetSink.goes g.D.DatasetSink.stops (Tag c.args.held) rest f c.stopped.result.place c.args.sink.now c.begin.new.sink) (sym c.stopped.ensures.fault)
-    (tag_stops g.D.DatasetSink.stops c.args.held rest h k c.args.sink.now c.begin.new.sink lt (tag_is held rest h n (k + 1) all t) c.in-Err-begin.ensures.stopped)
+    (tag_stops g.D.DatasetSink.stops c.args.held rest h k c.args.sink.now c.begin.new.sink lt (tag_is held rest h n (k + 1) all t) c.in-Err-begin.ensures.stopped, c.stopped.ensures.place)
 
 pub returns-in-Ok-None-clause-told : goal.returns-in-Ok-None-clause-told
 returns-in-Ok-None-clause-told g c =

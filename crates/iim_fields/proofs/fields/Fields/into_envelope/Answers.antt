@@ -9,6 +9,10 @@ pub returns-then-not-is_ended-clause-refused : goal.returns-then-not-is_ended-cl
 returns-then-not-is_ended-clause-refused c ds s sections =
     let ended : false ≡ true = c.if-not-is_ended.ensures.1 (subst IsEnded (sym c.self.view_is) (ended_where_whole c.args.self ds s sections)) in absurd cc
 
+pub returns-then-not-is_ended-clause-not_ended : goal.returns-then-not-is_ended-clause-not_ended
+returns-then-not-is_ended-clause-not_ended c ended =
+    let bad : false ≡ true = c.if-not-is_ended.ensures.1 (subst IsEnded (sym c.self.view_is) ended) in absurd cc
+
 pub invariant_of-result : goal.invariant_of-result
 invariant_of-result c = subst IsEnvelopeStore (sym c.into_store-store.ensures) (ended_store c.self.inside.checker c.self.invariant (c.if-not-is_ended.ensures.0 refl))
 
