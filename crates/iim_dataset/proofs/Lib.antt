@@ -9,3 +9,4 @@ pub mod HeldTags
 pub mod Stopping
 pub mod OneHanding
 pub mod Telling
+pub mod Deaths

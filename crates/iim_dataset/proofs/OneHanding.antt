@@ -16,7 +16,7 @@ with_data h tag xs s o count =
     record { tag = tag; is_tag = subst (λ (k : Head). SpellsTag count_octets k tag) same s; data_octets = o; parts = refl }
 
 -- what is begun goes on to a dataset
-ends : (begun : Begun) (rest : List ℕ) → IsBegun count_octets begun rest → (d : Dataset) × (o more : List ℕ) × SpellsDataset count_octets d o × (0 < length more) × (rest ++ more ≡ o)
+pub ends : (begun : Begun) (rest : List ℕ) → IsBegun count_octets begun rest → (d : Dataset) × (o more : List ℕ) × SpellsDataset count_octets d o × (0 < length more) × (rest ++ more ≡ o)
 ends (InTag held) rest (e, h, tag, s, (more, some, whole)) =
     let zeros = replicate h.count 0 in (
       record { rec = h.rec; set = h.set; octets = zeros },

@@ -79,7 +79,7 @@ IsPart : ℕ → List ℕ → Type 0
 IsPart limit t = (d : Dataset) × (o : List ℕ) × SpellsDataset limit d o × IsProperPrefix t o
 
 -- no part of a dataset begins with a whole one
-no_whole : (limit : ℕ) (d f : Dataset) (o p x more : List ℕ) → SpellsDataset limit d o → SpellsDataset limit f p → 0 < length more → (o ++ x) ++ more ≡ p → ⊥
+pub no_whole : (limit : ℕ) (d f : Dataset) (o p x more : List ℕ) → SpellsDataset limit d o → SpellsDataset limit f p → 0 < length more → (o ++ x) ++ more ≡ p → ⊥
 no_whole limit d f o p x more s t lt e =
     let both : o ++ (x ++ more) ≡ p ++ [] = sym (append_assoc o x more) ∙ (e ∙ sym (append-nil p)) in
     let g = one_dataset limit d f o p (x ++ more) [] s t both in

@@ -1,11 +1,11 @@
 -- What holds of all spellings.
-use Rattle.std.specs.Prelude.{◌≡◌, ℕ, ◌^◌, ◌<◌, List, ◌++◌, length}
+use Rattle.std.specs.Prelude.{◌≡◌, ℕ, ◌^◌, ◌<◌, List, [], ◌∷◌, ◌++◌, length}
 use Rattle.iim_dataset.specs.Octets.{IsOctet}
 use Rattle.iim_dataset.specs.Datasets.{Dataset, SpellsTag, SpellsDataset, canonical_tag, count_octets}
-use Rattle.iim_dataset.specs.Splits.{Begun, SplitsInto}
+use Rattle.iim_dataset.specs.Splits.{Begun, InTag, SplitsInto, Reads}
 use Rattle.iim_dataset.specs.Events.{Event, handed_on, begun_data}
 use Rattle.iim_dataset.specs.Places.{HandsOn}
-use Rattle.iim_dataset.specs.Tags.{BeginsTag, HasTag, HasNoTag}
+use Rattle.iim_dataset.specs.Tags.{BeginsTag, BeginsNoTag, HasTag, HasNoTag}
 use Rattle.iim_dataset.specs.declared.head.Head.{Head}
 use Rattle.iim_dataset.specs.declared.head.HeadFault.{HeadFault}
 
@@ -27,6 +27,11 @@ OctetsSplitOneWay = (limit : ℕ) (xs : List ℕ) (ds es : List Dataset) (t u : 
 -- What is handed on of octets is determined, and so is what they have begun: no cut changes it.
 abbrev pub OctetsAreHandedOnOneWay : Type 0
 OctetsAreHandedOnOneWay = (octets : List ℕ) (es fs : List Event) (b c : Begun) → HandsOn octets es b → HandsOn octets fs c → (es ≡ fs) × (b ≡ c)
+
+-- Where no tag goes on with an octet, the octets so far with that one begin no datasets, whatever follows.
+abbrev pub NoOctetsGoOn : Type 0
+NoOctetsGoOn = (octets more : List ℕ) (next : ℕ) (whole : List Dataset) (held : List ℕ) (w : List Dataset) (b : Begun) → Reads octets whole (InTag held)
+    → BeginsNoTag count_octets (held ++ next ∷ []) → Reads (octets ++ next ∷ more) w b → ⊥
 
 -- What was handed on tells the whole datasets, and the head and the data so far of the begun one.
 abbrev pub EventsTellTheDatasets : Type 0

@@ -1,6 +1,6 @@
 //! What holds of all spellings, whatever form the counts have.
 
-ghost use Rattle.iim_dataset.specs.Laws.{CanonicalTagsReadBack, EventsTellTheDatasets, NoDatasetBeginsAnother, NoTagBeginsAnother, OctetsAreHandedOnOneWay, OctetsSplitOneWay};
+ghost use Rattle.iim_dataset.specs.Laws.{CanonicalTagsReadBack, EventsTellTheDatasets, NoDatasetBeginsAnother, NoOctetsGoOn, NoTagBeginsAnother, OctetsAreHandedOnOneWay, OctetsSplitOneWay};
 
 /// No tag begins another.
 pub fn no_tag_begins_another()
@@ -20,6 +20,11 @@ pub fn octets_split_one_way()
 /// Octets are handed on in one way, whatever the cut: their events are determined, and what they have begun.
 pub fn octets_are_handed_on_one_way()
     ensures { OctetsAreHandedOnOneWay }
+{}
+
+/// Where no tag goes on with an octet, the octets so far with that one begin no datasets, whatever follows.
+pub fn no_octets_go_on()
+    ensures { NoOctetsGoOn }
 {}
 
 /// What a reader handed on tells the whole datasets, and the head and the data so far of the begun one.
