@@ -1,13 +1,13 @@
 -- Canonical tags are spellings, and are read back.
-use Rattle.std.proofs.Common.{◌≡◌, ℕ, ◌+◌, ◌-◌, ◌^◌, ◌<◌, List, [], ◌++◌, length, take, drop, refl, sym, ap, subst, ◌∙◌, arith, inl, inr, append_assoc, append-nil, length-append, length-take}
+use Rattle.std.proofs.Common.{◌≡◌, ℕ, ◌+◌, ◌-◌, ◌^◌, ◌<◌, List, [], ◌∷◌, ◌++◌, length, take, drop, refl, sym, ap, subst, ◌∙◌, arith, inl, inr, append_assoc, append-nil, length-append, length-take}
 use Rattle.std.proofs.lemmas.List.{take-append-drop, take-append-le}
 use Rattle.std.proofs.Math.Seq.{take-append_seam, take-append-add}
 use Rattle.std.proofs.lemmas.Bool.{lt-ltb, le-ltb, cases_lt}
 use Rattle.byteorder.specs.Numbers.{big_number-reads_back}
 use Rattle.iim_dataset.specs.Octets.{IsOctet}
-use Rattle.iim_dataset.specs.Datasets.{SpellsCount, SpellsTag, canonical_count, canonical_tag, count_octets}
+use Rattle.iim_dataset.specs.Datasets.{Dataset, SpellsCount, SpellsTag, SpellsDataset, canonical_count, canonical_tag, canonical_dataset, canonical_stream, count_octets, head_of}
 use Rattle.iim_dataset.specs.Tags.{BeginsTag}
-use Rattle.iim_dataset.specs.Laws.{CanonicalTagsReadBack}
+use Rattle.iim_dataset.specs.Laws.{CanonicalTagsReadBack, CanonicalStreamsAreSpelled, HasSpellings}
 use Rattle.iim_dataset.specs.declared.head.Head.{Head}
 use Rattle.iim_dataset.proofs.Spellings.{one_tag}
 
@@ -59,3 +59,12 @@ canonical_reads head more r s c =
       is_whole = λ begun. no_longer count_octets head begun.head tag more begun.more spelled begun.some_more begun.whole;
       no_fault = λ fault found. no_fault count_octets fault.at head tag more spelled found.begun found.dead;
     }
+
+-- ---- streams
+
+dataset_spells : (d : Dataset) → HasSpellings d → SpellsDataset count_octets d (canonical_dataset d)
+dataset_spells d h = record { tag = canonical_tag (head_of d); is_tag = tag_spells (head_of d) h.rec h.set h.few; data_octets = h.octets; parts = refl }
+
+pub stream_spells : CanonicalStreamsAreSpelled
+stream_spells [] h = refl
+stream_spells (d ∷ ds) h = (canonical_dataset d, canonical_stream ds, dataset_spells d h.0, stream_spells ds h.1, refl)

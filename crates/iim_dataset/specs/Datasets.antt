@@ -1,5 +1,5 @@
 -- Datasets, and how octets spell them (IIM version 4, the chapter on DataSets).
-use Rattle.std.specs.Prelude.{◌≡◌, ℕ, ◌<◌, ◌≤◌, nat_lt, ◌⊎◌, if◌then◌else◌, List, [], ◌∷◌, ◌++◌, length}
+use Rattle.std.specs.Prelude.{◌≡◌, ℕ, ◌<◌, ◌≤◌, nat_lt, ◌⊎◌, if◌then◌else◌, List, [], ◌∷◌, ◌++◌, length, flat_map}
 use Rattle.byteorder.specs.Endian.{big_bytes}
 use Rattle.iim_dataset.specs.Octets.{IsOctet, Octets, number}
 use Rattle.iim_dataset.specs.declared.head.Head.{Head}
@@ -62,3 +62,11 @@ canonical_count n = if nat_lt n 32768 then big_bytes 2 n else 128 ∷ 4 ∷ big_
 
 abbrev pub canonical_tag : Head → List ℕ
 canonical_tag h = 28 ∷ h.rec ∷ h.set ∷ canonical_count h.count
+
+-- the canonical spelling of a dataset: its canonical tag, and its data
+abbrev pub canonical_dataset : Dataset → List ℕ
+canonical_dataset d = canonical_tag (head_of d) ++ d.octets
+
+-- the canonical spellings of datasets, joined in order
+abbrev pub canonical_stream : List Dataset → List ℕ
+canonical_stream ds = flat_map canonical_dataset ds

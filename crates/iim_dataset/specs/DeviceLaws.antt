@@ -1,8 +1,9 @@
 -- What several calls of one device come to.
-use Rattle.std.specs.Prelude.{ℕ, ◌+◌, List, [], ◌++◌, length}
+use Rattle.std.specs.Prelude.{◌≡◌, ℕ, ◌+◌, ◌≤◌, List, [], ◌++◌, length}
 use Rattle.std.specs.Io.KnownBytes.{Consumes}
-use Rattle.iim_dataset.specs.Devices.{Device, Unfailed, Broke, Missed, Wrote, Stopped}
+use Rattle.iim_dataset.specs.Devices.{Device, Unfailed, Broke, Missed, Wrote, Stopped, Rose, RoseAtLeast, max_interruptions}
 use Rattle.iim_dataset.specs.declared.device.IoFault.{IoFault}
+use Rattle.iim_dataset.specs.declared.device.IoFault.TheVariants.{Interrupted, Failed}
 
 -- Reads gave just these octets, and none failed.
 abbrev pub HasGiven : Device → Device → List ℕ → Type 0
@@ -12,11 +13,21 @@ HasGiven old new octets = Consumes old.octets new.octets octets × Unfailed old 
 abbrev pub BrokeBehind : Device → Device → List ℕ → Type 0
 BrokeBehind old new octets = Consumes old.octets new.octets octets × Broke old new
 
+-- A read failed, which was counted; or a million interruptions came in a row, were counted, and none failed.
+abbrev pub BrokeFor : Device → Device → IoFault → Type 0
+BrokeFor old new Failed = Rose old.failures new.failures × (old.interruptions ≤ new.interruptions)
+BrokeFor old new Interrupted = (new.failures ≡ old.failures) × (old.interruptions ≤ new.interruptions) × RoseAtLeast max_interruptions old.interruptions new.interruptions
+
+-- Reads gave just these octets, and then came this fault.
+abbrev pub MissedBehind : Device → Device → List ℕ → IoFault → Type 0
+MissedBehind old new octets fault = Consumes old.octets new.octets octets × BrokeFor old new fault
+
 -- Octets that were given one after another were given joined, and a fault comes behind all of them.
 pub record GiftsJoin : Type 0 where
   pub none : (a : Device) → HasGiven a a []
   pub more : (a b c : Device) (xs ys : List ℕ) → HasGiven a b xs → HasGiven b c ys → HasGiven a c (xs ++ ys)
   pub fault : (a b c : Device) (xs : List ℕ) (fault : IoFault) → HasGiven a b xs → Missed b c fault → BrokeBehind a c xs
+  pub missed : (a b c : Device) (xs : List ℕ) (fault : IoFault) → HasGiven a b xs → Missed b c fault → MissedBehind a c xs fault
 
 -- Texts that were written one after another were written joined, and where the second stopped, so did the joined one.
 pub record TextsJoin : Type 0 where

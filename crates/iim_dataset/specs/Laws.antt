@@ -1,7 +1,8 @@
 -- What holds of all spellings.
 use Rattle.std.specs.Prelude.{◌≡◌, ℕ, ◌^◌, ◌<◌, List, [], ◌∷◌, ◌++◌, length}
-use Rattle.iim_dataset.specs.Octets.{IsOctet}
-use Rattle.iim_dataset.specs.Datasets.{Dataset, SpellsTag, SpellsDataset, canonical_tag, count_octets}
+use Rattle.std.specs.List.{AllByRecursion}
+use Rattle.iim_dataset.specs.Octets.{IsOctet, Octets}
+use Rattle.iim_dataset.specs.Datasets.{Dataset, SpellsTag, SpellsDataset, SpellsStream, canonical_tag, canonical_stream, count_octets}
 use Rattle.iim_dataset.specs.Splits.{Begun, InTag, SplitsInto, Reads}
 use Rattle.iim_dataset.specs.Events.{Event, handed_on, begun_data}
 use Rattle.iim_dataset.specs.Places.{HandsOn}
@@ -48,3 +49,14 @@ pub record ReadsAs (octets : List ℕ) (head : Head) (used : ℕ) : Type 0 where
 abbrev pub CanonicalTagsReadBack : Type 0
 CanonicalTagsReadBack = (head : Head) (more : List ℕ) → IsOctet head.rec → IsOctet head.set → head.count < 256 ^ count_octets
     → ReadsAs (canonical_tag head ++ more) head (length (canonical_tag head))
+
+-- The dataset has spellings: its numbers and its data are octets, and the data are no more than a count tells.
+pub record HasSpellings (d : Dataset) : Type 0 where
+  pub rec : IsOctet d.rec
+  pub set : IsOctet d.set
+  pub octets : Octets d.octets
+  pub few : length d.octets < 256 ^ count_octets
+
+-- The canonical spellings of datasets, joined, are a spelling of the list.
+abbrev pub CanonicalStreamsAreSpelled : Type 0
+CanonicalStreamsAreSpelled = (ds : List Dataset) → AllByRecursion HasSpellings ds → SpellsStream count_octets ds (canonical_stream ds)

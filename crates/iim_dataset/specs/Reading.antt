@@ -59,6 +59,11 @@ RefusesFor goes stops (Some cause) old piece k new a b = Tells goes old (take k 
 abbrev pub Refuses : {D : Type 0} → (D → List Event → D → Type 0) → (D → List Event → Event → D → Type 0) → Place → List ℕ → Fault → Place → D → D → Type 0
 Refuses goes stops old piece fault new a b = RefusesFor goes stops (is_of fault.cause) old piece fault.used new a b
 
+-- Where no tag goes on with the refused octet, the sink takes what comes next: it has not ended.
+abbrev pub StillStands : {D : Type 0} → (D → Option ℕ → Type 0) → Option HeadCause → Place → D → Type 0
+StillStands stands None place sink = Unit {0}
+StillStands stands (Some cause) place sink = stands sink (to_come place)
+
 -- ---- sinks
 
 -- Behind this answer to the end of a dataset the sink takes a head, or it has ended.

@@ -4,7 +4,7 @@ ghost use Rattle.std.specs.Prelude.{◌≡◌, ◌<◌, ◌≤◌, length, take,
 ghost use Rattle.iim_dataset.specs.Datasets.{count_octets};
 ghost use Rattle.iim_dataset.specs.Tags.{BeginsTag};
 ghost use Rattle.iim_dataset.specs.Places.{IsPlace, Tells, between, to_come};
-ghost use Rattle.iim_dataset.specs.Reading.{Refuses, GoesOn, TookAll};
+ghost use Rattle.iim_dataset.specs.Reading.{Refuses, GoesOn, TookAll, StillStands, is_of};
 ghost use Rattle.iim_dataset.specs.Completing.{StopsAmong, head_events, behind_head};
 
 use crate::fault::{Fault, FaultCause, tag_fault};
@@ -85,6 +85,7 @@ fn take_tag<D: DatasetSink>(
     ensures refused_place { IfErr result (λ refused. IsPlace refused.place) }
     ensures before { IfErr result (λ refused. refused.fault.used < length rest.now) }
     ensures refused { IfErr result (λ refused. Refuses D.goes D.stops (Place.Tag held) rest.now refused.fault refused.place sink.old sink.new) }
+    ensures open { IfErr result (λ refused. StillStands D.stands (is_of refused.fault.cause) refused.place sink.new) }
 {
     let mut held = held;
     match read_tag(held.as_slice(), rest) {
@@ -133,6 +134,7 @@ fn take_data<D: DatasetSink>(
     ensures refused_place { IfErr result (λ refused. IsPlace refused.place) }
     ensures before { IfErr result (λ refused. refused.fault.used < length rest.now) }
     ensures refused { IfErr result (λ refused. Refuses D.goes D.stops (Place.Inside head left) rest.now refused.fault refused.place sink.old sink.new) }
+    ensures open { IfErr result (λ refused. StillStands D.stands (is_of refused.fault.cause) refused.place sink.new) }
 {
     if (rest.len() as u64) < left {
         return match sink.run(rest) {
@@ -171,6 +173,7 @@ fn take_front<D: DatasetSink>(place: Place, rest: &[u8], sink: &mut D) -> Result
     ensures refused_place { IfErr result (λ refused. IsPlace refused.place) }
     ensures before { IfErr result (λ refused. refused.fault.used < length rest.now) }
     ensures refused { IfErr result (λ refused. Refuses D.goes D.stops place rest.now refused.fault refused.place sink.old sink.new) }
+    ensures open { IfErr result (λ refused. StillStands D.stands (is_of refused.fault.cause) refused.place sink.new) }
 {
     match place {
         Place::Tag(held) => take_tag(held, rest, sink),
@@ -194,6 +197,7 @@ pub(crate) fn take_piece<D: DatasetSink>(
     ensures refused_place { IfErr result (λ refused. IsPlace refused.place) }
     ensures before { IfErr result (λ refused. refused.fault.used < length octets.now) }
     ensures refused { IfErr result (λ refused. Refuses D.goes D.stops place octets.now refused.fault refused.place sink.old sink.new) }
+    ensures open { IfErr result (λ refused. StillStands D.stands (is_of refused.fault.cause) refused.place sink.new) }
 {
     let mut now = place;
     let mut at = 0;

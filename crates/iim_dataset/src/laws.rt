@@ -1,6 +1,6 @@
 //! What holds of all spellings, whatever form the counts have.
 
-ghost use Rattle.iim_dataset.specs.Laws.{CanonicalTagsReadBack, EventsTellTheDatasets, NoDatasetBeginsAnother, NoOctetsGoOn, NoTagBeginsAnother, OctetsAreHandedOnOneWay, OctetsSplitOneWay};
+ghost use Rattle.iim_dataset.specs.Laws.{CanonicalStreamsAreSpelled, CanonicalTagsReadBack, EventsTellTheDatasets, NoDatasetBeginsAnother, NoOctetsGoOn, NoTagBeginsAnother, OctetsAreHandedOnOneWay, OctetsSplitOneWay};
 
 /// No tag begins another.
 pub fn no_tag_begins_another()
@@ -35,4 +35,9 @@ pub fn events_tell_the_datasets()
 /// What `head_bytes` writes, followed by anything, is read as that head and no longer tag.
 pub fn canonical_tags_read_back()
     ensures { CanonicalTagsReadBack }
+{}
+
+/// The canonical spellings of datasets, joined, are a spelling of the list.
+pub fn canonical_streams_are_spelled()
+    ensures { CanonicalStreamsAreSpelled }
 {}

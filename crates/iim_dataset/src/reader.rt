@@ -29,7 +29,7 @@ impl Model for HeadReader {
 }
 
 ghost use Rattle.iim_dataset.specs.Places.{Tells, between, named_by, to_come};
-ghost use Rattle.iim_dataset.specs.Reading.{StandsAt, TakesCalls, IsFailed, Refuses, TookAll};
+ghost use Rattle.iim_dataset.specs.Reading.{StandsAt, TakesCalls, IsFailed, Refuses, TookAll, StillStands, is_of};
 
 impl HeadReader {
     /// The reader of a stream of which no octet has come.
@@ -84,6 +84,7 @@ impl HeadReader {
         ensures before { IfErr result (λ fault. fault.used < length octets.now) }
         ensures refused { IfErr result (λ fault.
             Refuses D.goes D.stops self.old.place octets.now fault self.new.place sink.old sink.new) }
+        ensures open { IfErr result (λ fault. StillStands D.stands (is_of fault.cause) self.new.place sink.new) }
     {
         let place = mem::replace(&mut self.place, start());
         match take_piece(place, octets, sink) {

@@ -5,7 +5,7 @@ use Rattle.std.specs.List.{AllByRecursion, find}
 use Rattle.std.specs.Option.{option_or}
 use Rattle.std.proofs.lemmas.Bool.{and_parts, and_from, or_cases, eqb-true}
 use Rattle.std.proofs.lemmas.Bool.Decides.{eqb_tells}
-use Rattle.iim_dataset.specs.Octets.{Octets}
+use Rattle.iim_dataset.specs.Octets.{IsOctet, Octets}
 use Rattle.iim_dataset.specs.Datasets.{Dataset, head_of}
 use Rattle.iim_dataset.specs.declared.head.Head.{Head}
 use Rattle.iim_tables.specs.Octets.{within}
@@ -302,31 +302,36 @@ alive_before ds d alive = (d ∷ alive.0, subst AreSections (append_assoc ds (d 
 pub from_alive : (ds : List Dataset) (d : Dataset) → (alive : IsAlive (ds ++ d ∷ [])) → From ds (d ∷ alive.0)
 from_alive ds d alive = (alive_follows ds (alive_before ds d alive)).goes (d ∷ alive.0) (subst AreSections (append_assoc ds (d ∷ []) alive.0) alive.1)
 
-pub head_alive : EachRowHasValues → (ds : List Dataset) (h : Head) → IsAlive ds → record_fault ds h ≡ None → IsAliveAt ds h
-head_alive values ds h alive none =
+pub head_alive : EachRowHasValues → (ds : List Dataset) (h : Head) → IsAlive ds → IsOctet h.set → record_fault ds h ≡ None → IsAliveAt ds h
+head_alive values ds h alive small none =
     let f = no_fault_parts (present_record ds) (λ n. occurs n (present_run ds)) h none in
-    let d = value_for values h f.row f.known f.fits in
+    let d = value_for values h f.row small f.known f.fits in
     (d.0, d.1, alive_next values ds d.0 alive (subst (λ (k : Head). record_fault ds k ≡ None) (sym d.1) none) d.2)
 
 pub head_no_fault : (ds : List Dataset) (h : Head) → IsAliveAt ds h → record_fault ds h ≡ None
 head_no_fault ds h (d, is, alive) = subst (λ (k : Head). record_fault ds k ≡ None) is (from_no_fault ds d alive.0 (from_alive ds d alive))
 
-value_parts : (o : Option Row) (d : Dataset) → row_of d.rec d.set ≡ o → Octets d.octets → fault_by_row o d ≡ None → IsGoodDataset d
-value_parts None d known octets none = absurd cc
-value_parts (Some row) d known octets none = value_tests (is_admitted row d.octets) (has_file_format d) row d refl refl known octets none
+-- a head that goes on has an octet for its number
+pub head_octet : (ds : List Dataset) (h : Head) → IsAliveAt ds h → IsOctet h.set
+head_octet ds h (d, is, alive) = subst (λ (k : Head). IsOctet k.set) is (good_next ds d alive.0 (from_alive ds d alive)).numbered
+
+value_parts : (o : Option Row) (d : Dataset) → IsOctet d.set → row_of d.rec d.set ≡ o → Octets d.octets → fault_by_row o d ≡ None → IsGoodDataset d
+value_parts None d small known octets none = absurd cc
+value_parts (Some row) d small known octets none = value_tests (is_admitted row d.octets) (has_file_format d) row d small refl refl known octets none
   where
-    value_tests : (a b : Bool) (row : Row) (d : Dataset) → is_admitted row d.octets ≡ a → has_file_format d ≡ b → row_of d.rec d.set ≡ Some row → Octets d.octets
+    value_tests : (a b : Bool) (row : Row) (d : Dataset) → IsOctet d.set → is_admitted row d.octets ≡ a → has_file_format d ≡ b → row_of d.rec d.set ≡ Some row → Octets d.octets
         → (if not a then Some (fault_on (head_of d) BadValue) else if not b then Some (fault_on (head_of d) FileFormat) else None) ≡ None → IsGoodDataset d
-    value_tests true true row d admitted format known octets none = record {
+    value_tests true true row d small admitted format known octets none = record {
+      numbered = small;
       octets = octets;
       meets = subst (λ (o : Option Row). IsSomeAnd o (λ r. IsTrue (is_admitted r d.octets))) (sym known) admitted;
       file_format = format;
     }
-    value_tests true false row d admitted format known octets none = absurd cc
-    value_tests false b row d admitted format known octets none = absurd cc
+    value_tests true false row d small admitted format known octets none = absurd cc
+    value_tests false b row d small admitted format known octets none = absurd cc
 
-pub value_good : (d : Dataset) → Octets d.octets → value_fault d ≡ None → IsGoodDataset d
-value_good d octets none = value_parts (row_of d.rec d.set) d refl octets none
+pub value_good : (d : Dataset) → IsOctet d.set → Octets d.octets → value_fault d ≡ None → IsGoodDataset d
+value_good d small octets none = value_parts (row_of d.rec d.set) d small refl octets none
 
 value_built : (o : Option Row) (d : Dataset) (row : Row) → o ≡ Some row → is_admitted row d.octets ≡ true → has_file_format d ≡ true → fault_by_row o d ≡ None
 value_built None d row known admitted format = absurd cc
@@ -344,7 +349,7 @@ pub good_value : (d : Dataset) → IsGoodDataset d → value_fault d ≡ None
 good_value d good = let m = meets_row (row_of d.rec d.set) d.octets good.meets in value_built (row_of d.rec d.set) d m.0 m.1 m.3 good.file_format
 
 pub value_alive : EachRowHasValues → (ds : List Dataset) (d : Dataset) → IsAliveAt ds (head_of d) → Octets d.octets → value_fault d ≡ None → IsAlive (ds ++ d ∷ [])
-value_alive values ds d at octets none = alive_next values ds d (alive_before ds at.0 at.2) (head_no_fault ds (head_of d) at) (value_good d octets none)
+value_alive values ds d at octets none = alive_next values ds d (alive_before ds at.0 at.2) (head_no_fault ds (head_of d) at) (value_good d (head_octet ds (head_of d) at) octets none)
 
 pub value_no_fault : (ds : List Dataset) (d : Dataset) → IsAlive (ds ++ d ∷ []) → value_fault d ≡ None
 value_no_fault ds d alive = good_value d (good_next ds d alive.0 (from_alive ds d alive))

@@ -1,5 +1,5 @@
 -- When a builder's datasets are whole records 1 and 2.
-use Rattle.std.proofs.Common.{◌≡◌, ℕ, ◌⊎◌, Bool, true, false, cond, nat_eq, List, [], ◌∷◌, ◌++◌, refl, ap, sym, ◌∙◌, inl, inr, subst, append-nil, Option, Some, None}
+use Rattle.std.proofs.Common.{length, arith, ◌≡◌, ℕ, ◌⊎◌, Bool, true, false, cond, nat_eq, List, [], ◌∷◌, ◌++◌, refl, ap, sym, ◌∙◌, inl, inr, subst, append-nil, Option, Some, None}
 use Rattle.std.specs.List.{AllByRecursion, list_any, filter}
 use Rattle.std.specs.Option.{option_or}
 use Rattle.std.proofs.lemmas.List.Elements.{filter-append, filter_passes, recursion_from_All}
@@ -7,10 +7,11 @@ use Rattle.std.proofs.lemmas.Bool.{or_cases, eqb-true}
 use Rattle.iim_dataset.specs.Datasets.{Dataset}
 use Rattle.iim_fields.specs.Records.{mandatory, after, occurs, IsGoodDataset, IsGoodRecord, AreRecords, AreSections}
 use Rattle.iim_fields.specs.Alive.{IsAlive}
-use Rattle.iim_fields.specs.Faults.{last_record, present_record, present_run, of_record, is_kept, kept, missing_fault, missing_of}
+use Rattle.iim_fields.specs.Faults.{last_record, present_record, present_run, of_record, is_kept, kept, joined, missing_fault, missing_of}
 use Rattle.iim_fields.specs.Orders.{has_seen, Tells, end_fault, no_application}
-use Rattle.iim_fields.specs.Builders.{IsEnvelope, IsEnvelopeStore, absent, finish_fault, IsBuilding, fields_of}
+use Rattle.iim_fields.specs.Builders.{AreFew, IsEnvelope, IsEnvelopeStore, absent, finish_fault, IsBuilding, fields_of}
 use Rattle.iim_fields.specs.Stores.{Holds}
+use Rattle.iim_fields.specs.Standing.{StandsBehind}
 use Rattle.iim_fields.specs.declared.checker.Checker.{Checker}
 use Rattle.iim_fields.specs.declared.order.Order.{Order}
 use Rattle.iim_fields.specs.declared.fault.FieldFault.{FieldFault}
@@ -185,8 +186,16 @@ finished values ds o alive same tells none =
 pub finish_is : (f : Checker) → IsBuilding f → end_fault f.order.rec (has_seen f.order) ≡ finish_fault (fields_of f.store)
 finish_is f building = end_fault_is (fields_of f.store) f.order building.stands.alive building.all_kept building.stands.order
 
+-- kept datasets are within the limits
+pub few_behind : (c : Checker) (ds : List Dataset) → StandsBehind c ds → kept ds ≡ ds → AreFew ds
+few_behind c ds s all = record {
+  datasets = omega (arith, s.between.store.small.fields, s.within.fields_in, ap length all);
+  octets = omega (arith, s.between.store.small.octets, s.within.octets_in, ap (λ (ks : List Dataset). length (joined ks)) all);
+}
+
 pub envelope_store : EachRowHasValues → (f : Checker) → IsBuilding f → end_fault f.order.rec (has_seen f.order) ≡ None → IsEnvelopeStore f.store
 envelope_store values f building none = record {
+  few = few_behind f (fields_of f.store) building.stands building.all_kept;
   holds = subst (λ (ks : List Dataset). Holds f.store ks []) building.all_kept building.stands.holds;
   envelope = finished values (fields_of f.store) f.order building.stands.alive building.all_kept building.stands.order none;
 }

@@ -7,7 +7,7 @@ use Rattle.iim_dataset.specs.Octets.{Octets}
 use Rattle.iim_dataset.specs.Datasets.{Dataset}
 use Rattle.iim_dataset.specs.declared.head.Head.{Head}
 use Rattle.iim_fields.specs.Records.{AreSections}
-use Rattle.iim_fields.specs.Faults.{kept}
+use Rattle.iim_fields.specs.Faults.{kept, joined}
 use Rattle.iim_fields.specs.Values.{data_of, number_told}
 use Rattle.iim_fields.specs.Stores.{Holds}
 use Rattle.iim_fields.specs.Builders.{IsEnvelope, IsEnvelopeStore, fields_of}
@@ -91,6 +91,10 @@ kept_is c ds s = fields_held c.store (kept ds) [] s.holds
 pub ended_store : (c : Checker) → Stood c → IsEnded c → IsEnvelopeStore c.store
 ended_store c (inl failed) ended = let clash : phases.Failed ≡ phases.Between = sym failed ∙ ended.0 in absurd cc
 ended_store c (inr (inl (ds, s))) ended = record {
+  few = record {
+    datasets = omega (arith, s.between.store.small.fields, s.within.fields_in, ap (λ (ks : List Dataset). length ks) (kept_is c ds s));
+    octets = omega (arith, s.between.store.small.octets, s.within.octets_in, ap (λ (ks : List Dataset). length (joined ks)) (kept_is c ds s));
+  };
   holds = subst (λ (ks : List Dataset). Holds c.store ks []) (sym (kept_is c ds s)) s.holds;
   envelope = subst IsEnvelope (sym (kept_is c ds s)) (kept_of_sections ds (whole_where_ended c ds ended s));
 }

@@ -26,7 +26,7 @@ use Rattle.iim_fields.specs.Faults.{head_fault, record_fault, value_fault, fault
 use Rattle.iim_fields.specs.Orders.{nothing, has_seen, Tells, Takes}
 use Rattle.iim_fields.specs.Values.{data_of, number_told, tells_number}
 use Rattle.iim_fields.specs.Stores.{Holds, entries_of}
-use Rattle.iim_fields.specs.Standing.{IsBetween, IsInside, CanTake, CanClose, IsWithin, StandsBehind, StandsIn, IsHeadFault, IsValueFault, IsOf, Enters, Gives, Settles, begun_data}
+use Rattle.iim_fields.specs.Standing.{AreSmall, IsBetween, IsInside, CanTake, CanClose, IsWithin, StandsBehind, StandsIn, IsHeadFault, IsValueFault, IsOf, Enters, Gives, Settles, begun_data}
 use Rattle.iim_fields.specs.declared.limits.Limits.{Limits}
 use Rattle.iim_fields.specs.declared.order.Order.{Order}
 use Rattle.iim_fields.specs.declared.store.Store.{Store}
@@ -115,11 +115,11 @@ pub start_alive : EachRowHasValues → IsAlive []
 start_alive values = records_to_come values records
 
 pub stands_start : EachRowHasValues → (f : Checker) → f.phase ≡ phases.Between → f.order.rec ≡ 0 → f.order.seen ≡ nothing → f.store.octets.items ≡ [] → f.store.entries.items ≡ []
-    → f.limits.octets + size_octets ≤ vec_capacity f.store.octets → f.limits.fields ≤ vec_capacity f.store.entries → StandsBehind f []
-stands_start values f phase rec seen octets entries octets_room entries_room = record {
+    → f.limits.octets + size_octets ≤ vec_capacity f.store.octets → f.limits.fields ≤ vec_capacity f.store.entries → AreSmall f.limits → StandsBehind f []
+stands_start values f phase rec seen octets entries octets_room entries_room small = record {
   between = record {
     between = phase;
-    store = record { octets = octets_room; entries = entries_room };
+    store = record { octets = octets_room; entries = entries_room; small = small };
     within = omega (arith, f.store.octets.ok.0, ap (λ (xs : List ℕ). length xs) octets);
   };
   alive = start_alive values;
@@ -199,7 +199,7 @@ inside_of old new h row between enters known fits room =
       head = refl;
       to_come = refl;
       known = known;
-      store = record { octets = omega (arith, between.store.octets); entries = omega (arith, between.store.entries) };
+      store = record { octets = omega (arith, between.store.octets); entries = omega (arith, between.store.entries); small = subst AreSmall (sym enters.limits) between.store.small };
       start = omega arith;
       within = omega (arith, between.within);
       room = λ not8. let all = all_room old h row (is_kept h.rec) refl between known fits room not8 in omega arith;
@@ -220,7 +220,7 @@ stands_in values old new h row small between enters known fits none room ds stan
     let limits_ok : limits_fault old.limits ds h ≡ None = sym (room_fault_is old ds h stands.holds) ∙ room in
     record {
       inside = (h.count, inside_of old new h row between enters known fits room, (λ not8. omega arith));
-      alive = head_alive values ds h stands.alive ok;
+      alive = head_alive values ds h stands.alive small ok;
       within = λ is. subst (λ (l : Limits). IsWithin l (kept_octets ds + h.count) (length (kept ds) + 1)) (sym enters.limits)
           (let w = room_within old.limits (kept_octets ds) (length (kept ds)) h limits_ok is in record { octets_in = w.0; fields_in = w.1 });
       others = subst (λ (l : Limits). IsWithin l (kept_octets ds) (length (kept ds))) (sym enters.limits) stands.within;
@@ -276,7 +276,7 @@ inside_bytes old new begun xs h n before gives fits inside =
       head = ap (λ (b : Begun). b.head) (sym same) ∙ inside.head;
       to_come = ap (λ (b : Begun). b.to_come - length xs) (sym same) ∙ ap (λ (m : ℕ). m - length xs) inside.to_come;
       known = inside.known ∙ ap (λ (b : Begun). Some b.row) same;
-      store = record { octets = omega (arith, inside.store.octets, gives.capacity); entries = omega (arith, inside.store.entries) };
+      store = record { octets = omega (arith, inside.store.octets, gives.capacity); entries = omega (arith, inside.store.entries); small = subst AreSmall (sym gives.limits) inside.store.small };
       start = omega (arith, inside.start, gives.len);
       within = omega (arith, inside.within);
       room = λ not8. let all = inside.room not8 in omega (arith, gives.len);
@@ -331,7 +331,7 @@ between_closed old new h n inside settles ends =
     let most : new.limits.fields ≡ old.limits.fields = ap (λ (l : Limits). l.fields) settles.limits in
     record {
       between = settles.phase;
-      store = record { octets = omega (arith, s.1, inside.store.octets); entries = omega (arith, s.2, inside.store.entries) };
+      store = record { octets = omega (arith, s.1, inside.store.octets); entries = omega (arith, s.2, inside.store.entries); small = subst AreSmall (sym settles.limits) inside.store.small };
       within = omega (arith, s.0);
     }
 

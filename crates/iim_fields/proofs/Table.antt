@@ -9,6 +9,7 @@ use Rattle.iim_fields.specs.declared.fault.FieldFault.{FieldFault}
 use Rattle.iim_tables.specs.declared.shape.Kind.TheVariants as kinds
 use Rattle.std.proofs.lemmas.Bool.{and_parts, or_cases, or_parts, leb-true, eqb-true}
 use Rattle.std.proofs.lemmas.Bool.Decides.{eqb_tells}
+use Rattle.iim_dataset.specs.Octets.{IsOctet}
 use Rattle.iim_dataset.specs.Datasets.{Dataset, head_of}
 use Rattle.iim_dataset.specs.declared.head.Head.{Head}
 use Rattle.iim_tables.specs.Octets.{within}
@@ -27,6 +28,19 @@ mandatory_numbers r =
     (cond (nat_eq r 7) (10 ∷ 20 ∷ [])
     (cond (nat_eq r 8) (10 ∷ [])
     (cond (nat_eq r 9) (10 ∷ []) []))))
+
+either_octets : (b : Bool) (xs ys : List ℕ) → AllByRecursion IsOctet xs → AllByRecursion IsOctet ys → AllByRecursion IsOctet (cond b xs ys)
+either_octets true xs ys h k = h
+either_octets false xs ys h k = k
+
+-- they are octets
+numbers_octets : (r : ℕ) → AllByRecursion IsOctet (mandatory_numbers r)
+numbers_octets r =
+    either_octets (nat_eq r 1) (0 ∷ 20 ∷ 22 ∷ 30 ∷ 40 ∷ 70 ∷ []) _ (omega arith, (omega arith, (omega arith, (omega arith, (omega arith, (omega arith, tt))))))
+    (either_octets (nat_eq r 2) (0 ∷ []) _ (omega arith, tt)
+    (either_octets (nat_eq r 7) (10 ∷ 20 ∷ []) _ (omega arith, (omega arith, tt))
+    (either_octets (nat_eq r 8) (10 ∷ []) _ (omega arith, tt)
+    (either_octets (nat_eq r 9) (10 ∷ []) [] (omega arith, tt) tt))))
 
 in_five : ℕ → Bool
 in_five n = nat_eq n 1 || (nat_eq n 2 || (nat_eq n 7 || (nat_eq n 8 || nat_eq n 9)))
@@ -163,9 +177,9 @@ unfolding row_of table
 file_format_meets = refl
 
 -- good data for a head that its row allows
-pub value_for : EachRowHasValues → (h : Head) (row : Row) → row_of h.rec h.set ≡ Some row → within row.min row.max h.count ≡ true
+pub value_for : EachRowHasValues → (h : Head) (row : Row) → IsOctet h.set → row_of h.rec h.set ≡ Some row → within row.min row.max h.count ≡ true
     → (d : Dataset) × (head_of d ≡ h) × IsGoodDataset d
-value_for values h row e fits = elim (eqb_tells h.rec 1) [
+value_for values h row small e fits = elim (eqb_tells h.rec 1) [
   | inl first ↦ elim (eqb_tells h.set 20) [
     | inl format ↦
         let e2 : row_of 1 20 ≡ Some row = subst (λ (s : ℕ). row_of 1 s ≡ Some row) format.1 (subst (λ (r : ℕ). row_of r h.set ≡ Some row) first.1 e) in
@@ -176,18 +190,18 @@ value_for values h row e fits = elim (eqb_tells h.rec 1) [
         let count : 2 ≡ h.count = omega arith in (
           record { rec = 1; set = 20; octets = 0 ∷ 2 ∷ [] },
           (λ i. record { rec = sym first.1 i; set = sym format.1 i; count = count i }),
-          record { octets = (omega arith, (omega arith, tt)); meets = file_format_meets; file_format = refl },
+          record { numbered = omega arith; octets = (omega arith, (omega arith, tt)); meets = file_format_meets; file_format = refl },
         )
     | inr other ↦ let v = values h.rec h.set h.count row e fits in (
       record { rec = h.rec; set = h.set; octets = v.0 },
       (λ i. record { rec = h.rec; set = h.set; count = v.2 i }),
-      record { octets = v.1; meets = v.3; file_format = rw (first.0, other.0) refl },
+      record { numbered = small; octets = v.1; meets = v.3; file_format = rw (first.0, other.0) refl },
     )
   ]
   | inr other ↦ let v = values h.rec h.set h.count row e fits in (
     record { rec = h.rec; set = h.set; octets = v.0 },
     (λ i. record { rec = h.rec; set = h.set; count = v.2 i }),
-    record { octets = v.1; meets = v.3; file_format = rw other.0 refl },
+    record { numbered = small; octets = v.1; meets = v.3; file_format = rw other.0 refl },
   )
 ]
 
@@ -195,18 +209,18 @@ value_for values h row e fits = elim (eqb_tells h.rec 1) [
 abbrev pub HasSample : ℕ → ℕ → Type 0
 HasSample r n = (d : Dataset) × (d.rec ≡ r) × (d.set ≡ n) × IsGoodDataset d
 
-sample_by : EachRowHasValues → (r n : ℕ) (o : Option Row) → row_of r n ≡ o → fits_least o ≡ true → HasSample r n
-sample_by values r n None e fits = absurd cc
-sample_by values r n (Some row) e fits =
-    let v = value_for values (record { rec = r; set = n; count = row.min }) row e fits in
+sample_by : EachRowHasValues → (r n : ℕ) (o : Option Row) → IsOctet n → row_of r n ≡ o → fits_least o ≡ true → HasSample r n
+sample_by values r n None small e fits = absurd cc
+sample_by values r n (Some row) small e fits =
+    let v = value_for values (record { rec = r; set = n; count = row.min }) row small e fits in
     (v.0, ap (λ (h : Head). h.rec) v.1, ap (λ (h : Head). h.set) v.1, v.2)
 
-samples_by : EachRowHasValues → (r : ℕ) (ns : List ℕ) → AllByRecursion (λ n. fits_least (row_of r n) ≡ true) ns → AllByRecursion (HasSample r) ns
-samples_by values r [] h = tt
-samples_by values r (n ∷ ns) h = (sample_by values r n (row_of r n) refl h.0, samples_by values r ns h.1)
+samples_by : EachRowHasValues → (r : ℕ) (ns : List ℕ) → AllByRecursion IsOctet ns → AllByRecursion (λ n. fits_least (row_of r n) ≡ true) ns → AllByRecursion (HasSample r) ns
+samples_by values r [] small h = tt
+samples_by values r (n ∷ ns) small h = (sample_by values r n (row_of r n) small.0 refl h.0, samples_by values r ns small.1 h.1)
 
 pub samples : EachRowHasValues → (r : ℕ) → AllByRecursion (HasSample r) (mandatory r)
-samples values r = subst (AllByRecursion (HasSample r)) (sym (mandatory_is r)) (samples_by values r (mandatory_numbers r) (least_fit r))
+samples values r = subst (AllByRecursion (HasSample r)) (sym (mandatory_is r)) (samples_by values r (mandatory_numbers r) (numbers_octets r) (least_fit r))
 
 -- record 0 has no datasets
 pub no_row : (n : ℕ) → row_of 0 n ≡ None

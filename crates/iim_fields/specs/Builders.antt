@@ -1,9 +1,9 @@
 -- What a builder of envelopes has, and what an envelope is.
-use Rattle.std.specs.Prelude.{◌≡◌, ℕ, ◌-◌, not, if◌then◌else◌, List, [], ◌∷◌, ◌++◌, take, drop, Option, Some}
+use Rattle.std.specs.Prelude.{◌≡◌, ℕ, ◌-◌, ◌^◌, ◌<◌, length, not, if◌then◌else◌, List, [], ◌∷◌, ◌++◌, take, drop, Option, Some}
 use Rattle.std.specs.Option.{option_or}
 use Rattle.iim_dataset.specs.Datasets.{Dataset, head_of}
 use Rattle.iim_fields.specs.Records.{IsGoodRecord, occurs}
-use Rattle.iim_fields.specs.Faults.{first_fault, value_fault, missing_fault, missing_of, of_record, is_kept, kept, fault_on}
+use Rattle.iim_fields.specs.Faults.{joined, first_fault, value_fault, missing_fault, missing_of, of_record, is_kept, kept, fault_on}
 use Rattle.iim_fields.specs.Stores.{Holds}
 use Rattle.iim_fields.specs.Standing.{StandsBehind}
 use Rattle.iim_fields.specs.declared.limits.Limits.{Limits}
@@ -59,7 +59,13 @@ pub record IsEnvelope (ds : List Dataset) : Type 0 where
   pub envelope : IsGoodRecord 1 r1
   pub application : IsGoodRecord 2 r2
 
+-- They are no more than limits can allow, and have no more octets.
+pub record AreFew (ds : List Dataset) : Type 0 where
+  pub datasets : length ds < 2 ^ 32
+  pub octets : length (joined ds) < 2 ^ 32
+
 -- the store has exactly the datasets of an envelope
 pub record IsEnvelopeStore (store : Store) : Type 0 where
+  pub few : AreFew (fields_of store)
   pub holds : Holds store (fields_of store) []
   pub envelope : IsEnvelope (fields_of store)

@@ -2,7 +2,7 @@
 -- descriptor, ObjectData and post-ObjectData descriptor records; their order is the profile's).
 use Rattle.std.specs.Prelude.{◌≡◌, ℕ, Bool, true, false, not, ◌&&◌, ◌||◌, ◌==◌, ◌≤◌, if◌then◌else◌, List, [], ◌∷◌, ◌++◌, map, count_by, Option, Some, None}
 use Rattle.std.specs.List.{AllByRecursion, list_any, filter}
-use Rattle.iim_dataset.specs.Octets.{Octets, number}
+use Rattle.iim_dataset.specs.Octets.{IsOctet, Octets, number}
 use Rattle.iim_dataset.specs.Datasets.{Dataset}
 use Rattle.iim_tables.specs.Rows.{Meets, row_of, table}
 use Rattle.iim_tables.specs.declared.shape.Row.{Row}
@@ -58,8 +58,9 @@ is_file_format d = d.rec == 1 && d.set == 20
 abbrev pub has_file_format : Dataset → Bool
 has_file_format d = not (is_file_format d) || number d.octets == 2
 
--- The data are octets as the row of the dataset says, and a file format is 2.
+-- The number is an octet, the data are octets as the row of the dataset says, and a file format is 2.
 pub record IsGoodDataset (d : Dataset) : Type 0 where
+  pub numbered : IsOctet d.set
   pub octets : Octets d.octets
   pub meets : Meets d.rec d.set d.octets
   pub file_format : has_file_format d ≡ true

@@ -1,5 +1,5 @@
 -- What the checker of records stands at.
-use Rattle.std.specs.Prelude.{◌≡◌, ◌≢◌, ℕ, ◌+◌, ◌-◌, ◌≤◌, ◌<◌, ◌⊎◌, List, [], ◌∷◌, ◌++◌, true, false, take, drop, length, Some, IsTrue, vec_len, vec_capacity}
+use Rattle.std.specs.Prelude.{◌≡◌, ◌≢◌, ℕ, ◌+◌, ◌-◌, ◌≤◌, ◌<◌, ◌^◌, ◌⊎◌, List, [], ◌∷◌, ◌++◌, true, false, take, drop, length, Some, IsTrue, vec_len, vec_capacity}
 use Rattle.iim_dataset.specs.Octets.{Octets}
 use Rattle.iim_dataset.specs.Datasets.{Dataset, head_of}
 use Rattle.iim_dataset.specs.declared.head.Head.{Head}
@@ -25,10 +25,16 @@ limits_of checker = checker.limits
 abbrev pub IsFailed : Checker → Type 0
 IsFailed checker = checker.phase ≡ phases.Failed
 
+-- The limits are numbers of 32 bits.
+pub record AreSmall (limits : Limits) : Type 0 where
+  pub octets : limits.octets < 2 ^ 32
+  pub fields : limits.fields < 2 ^ 32
+
 -- the store has room for all that the limits allow, and for a size behind it
 pub record HasStore (checker : Checker) : Type 0 where
   pub octets : checker.limits.octets + size_octets ≤ vec_capacity checker.store.octets
   pub entries : checker.limits.fields ≤ vec_capacity checker.store.entries
+  pub small : AreSmall checker.limits
 
 -- It takes a head.
 pub record IsBetween (checker : Checker) : Type 0 where

@@ -42,7 +42,7 @@ pub(crate) enum Phase {
 /// Checks the datasets of an envelope one by one, and keeps those of records 1 and 2.
 #[derive(Drop)]
 pub(crate) struct Checker {
-    limits: Limits,
+    pub(crate) limits: Limits,
     order: Order,
     phase: Phase,
     store: Store,

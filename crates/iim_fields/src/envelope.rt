@@ -33,11 +33,14 @@ impl Envelope {
     ghost use Rattle.jiff.specs.Words.{IsYmd};
     ghost use Rattle.iim_tables.specs.Dates.{is_date, year_in, month_in, day_in};
     ghost use Rattle.iim_fields.specs.Walks.{rest_of, data_left};
+    ghost use Rattle.iim_fields.specs.Builders.{IsEnvelope, AreFew};
     ghost use Rattle.iim_fields.specs.Views.{first_data, all_data, instant_sent};
 
     /// All datasets, in order: record, number and data of each.
     pub fn fields(&self) -> FieldIter<'_>
-        ensures { rest_of result ≡ self.now }
+        ensures fields { rest_of result ≡ self.now }
+        ensures envelope { IsEnvelope self.now }
+        ensures few { AreFew self.now }
     {
         FieldIter {
             from: 0,

@@ -46,6 +46,13 @@ impl Fields {
         Ok(Fields { checker })
     }
 
+    /// The limits under which it reads.
+    pub fn limits(&self) -> Limits
+        ensures { result ≡ limits_of self.now }
+    {
+        self.checker.limits
+    }
+
     /// Whether something was refused.
     pub fn is_failed(&self) -> bool
         ensures { IsTrue result ↔ IsFailed self.now }

@@ -6,3 +6,7 @@ pub mod Cuts
 pub mod Behind
 pub mod Leads
 pub mod Stands
+pub mod Cutting
+pub mod PackedSizes
+pub mod Outputs
+pub mod Writing

@@ -9,3 +9,7 @@ pub mod Behind
 pub mod Causes
 pub mod States
 pub mod Reading
+pub mod Cuts
+pub mod Packing
+pub mod Outputs
+pub mod Writing

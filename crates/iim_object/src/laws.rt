@@ -4,6 +4,8 @@
 ghost use Rattle.iim_object.specs.Living.{NumbersLiveWithoutClash, SubfilesLiveWhileTheyFit, ObjectsEndWhereTheyAreWhole, TotalsAreConfirmed};
 ghost use Rattle.iim_object.specs.Behind.{TokensAreOfSizedDatasets, DatasetsLiveWithTheirTokens, DatasetsEndWithTheirTokens, TokensFollow, OthersLeadNowhere, NumbersLead, SubfilesLead, EndsLead, RecordsAreByNumber};
 ghost use Rattle.iim_object.specs.Records.{SizesAreDetermined};
+ghost use Rattle.iim_object.specs.Cuts.{ObjectsAreCutOneWay};
+ghost use Rattle.iim_object.specs.Packing.{PackedObjectsHaveSizes};
 
 /// While record 7 is read, the object layer can go on exactly where its numbers don't clash.
 pub fn numbers_live_without_clash()
@@ -56,4 +58,14 @@ pub fn records_are_by_number()
 /// The sizes that records state are determined.
 pub fn sizes_are_determined()
     ensures { SizesAreDetermined }
+{}
+
+/// An object is cut into subfiles of a plan in one way.
+pub fn objects_are_cut_one_way()
+    ensures { ObjectsAreCutOneWay }
+{}
+
+/// Records 7, 8 and 9 that are written of an object which suits a plan have the sizes of the plan.
+pub fn packed_objects_have_sizes()
+    ensures { PackedObjectsHaveSizes }
 {}

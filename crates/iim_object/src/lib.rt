@@ -4,8 +4,12 @@
 //! dies with it and the fault is the first cause.
 #![tactic(auto)]
 
+mod buffer;
+mod cause;
+mod cutter;
 mod fault;
 mod laws;
+mod output;
 mod plan;
 mod reader;
 mod sink;
@@ -14,14 +18,19 @@ mod state;
 mod step;
 #[cfg(test)]
 mod tests;
+mod writer;
 
+pub use buffer::SubfileBuffer;
+pub use cause::{PackCause, StartFault};
 pub use fault::{ObjectFault, SizeCause};
 pub use laws::{
     datasets_lead_from_place_to_place, datasets_live_with_their_tokens, numbers_live_without_clash,
-    objects_end_where_they_are_whole, records_are_by_number, sizes_are_determined,
-    subfiles_live_while_they_fit, tokens_are_of_sized_datasets, totals_are_confirmed,
+    objects_are_cut_one_way, objects_end_where_they_are_whole, packed_objects_have_sizes,
+    records_are_by_number, sizes_are_determined, subfiles_live_while_they_fit,
+    tokens_are_of_sized_datasets, totals_are_confirmed,
 };
 pub use plan::{MAX_SUBFILES, Plan};
 pub use reader::ObjectReader;
 pub use sink::ObjectSink;
 pub use size::{Size, Sizes};
+pub use writer::SubfileWriter;

@@ -2,7 +2,7 @@
 use Rattle.std.proofs.Common.{◌≡◌, ℕ, ◌+◌, ◌<◌, ◌≤◌, ◌⊎◌, Bool, true, false, not, ◌&&◌, ◌||◌, if◌then◌else◌, nat_eq, nat_le, nat_lt, List, [], ◌∷◌, ◌++◌, length, Option, Some, None, refl, ap, sym, subst, ◌∙◌, inl, inr, arith}
 use Rattle.std.specs.Option.{option_or, option_map}
 use Rattle.std.proofs.lemmas.Bool.{lt-ltb, le-ltb}
-use Rattle.iim_dataset.specs.Octets.{Octets, number}
+use Rattle.iim_dataset.specs.Octets.{IsOctet, Octets, number}
 use Rattle.iim_dataset.specs.Datasets.{Dataset, head_of}
 use Rattle.iim_dataset.specs.Languages as languages
 use Rattle.iim_dataset.specs.declared.head.Head.{Head}
@@ -97,14 +97,14 @@ dies_by limits ds h fault (Some other) rest by more alive none is dead =
     subst (λ (l : Layer). DiesAtHead l limits ds h) (sym layer) (λ goes. let bad : Some other ≡ None = none goes in cc)
 
 -- a head that the records or the limits refuse
-pub field_head : HeadsDieWithTheirFault → (limits : Limits) (ds : List Dataset) (h : Head) (f : FieldFault) → IsAlive ds → IsHeadFault limits ds h f
+pub field_head : HeadsDieWithTheirFault → (limits : Limits) (ds : List Dataset) (h : Head) (f : FieldFault) → IsOctet h.set → IsAlive ds → IsHeadFault limits ds h f
     → IsRefusedHead limits ds h (of_field f)
-field_head dies limits ds h f alive is =
+field_head dies limits ds h f small alive is =
     let both = dies ds h alive in
     record {
       first = ap (λ (o : Option FieldFault). option_or (option_map of_field o) (option_or (subfile_fault ds h) (object_fault ds h))) is.first;
       dead = dies_by limits ds h f (record_fault ds h) (limits_fault limits ds h) (head_records (present_record ds) (λ n. occurs n (present_run ds)) h)
-          (room_limits limits (kept_octets ds) (length (kept ds)) h) both.0 both.1 is.first (λ at room. is.dead at room.kept);
+          (room_limits limits (kept_octets ds) (length (kept ds)) h) (λ none. both.0 (none, small)) (λ at. (both.1 at).0) is.first (λ at room. is.dead at room.kept);
     }
 
 records_of : (o : Option FieldFault) (f : FieldFault) → IsRecords o → o ≡ Some f → layer_of f.cause ≡ layers.Record
@@ -134,7 +134,7 @@ objects r (inr nine) = ap (λ n. nat_eq n 8 || nat_eq n 9) nine
 
 no_first : HeadsDieWithTheirFault → (limits : Limits) (ds : List Dataset) (h : Head) → IsAlive ds → IsAliveAt ds h → IsObjects h.rec → first_fault limits ds h ≡ None
 no_first dies limits ds h alive at is =
-    let none : record_fault ds h ≡ None = (dies ds h alive).1 at in
+    let none : record_fault ds h ≡ None = ((dies ds h alive).1 at).0 in
     let room : limits_fault limits ds h ≡ None = rw (not_kept h.rec is) refl in
     λ i. option_or (none i) (room i)
 

@@ -15,7 +15,7 @@ use Rattle.iim_unpack.specs.Laws.{NoEnvelopeBeginsAnother, NoEnvelopeIsEmpty}
 -- ---- two streams that agree
 
 -- The one stream is the other and further datasets.
-abbrev Longer : List Dataset → List Dataset → List ℕ → List ℕ → Type 0
+abbrev pub Longer : List Dataset → List Dataset → List ℕ → List ℕ → Type 0
 Longer whole ds z y = (more : List Dataset) × (r : List ℕ) × (ds ++ more ≡ whole) × SpellsStream count_octets more r × (r ++ z ≡ y)
 
 -- The other is the one, a next dataset, and further ones.
@@ -29,7 +29,7 @@ pub record Next (whole ds : List Dataset) (z y : List ℕ) : Type 0 where
   pub later : SpellsStream count_octets more q
   pub agree : z ≡ p ++ (q ++ y)
 
-compare : NoDatasetBeginsAnother → (whole ds : List Dataset) (front f z y : List ℕ) → SpellsStream count_octets whole front → SpellsStream count_octets ds f → front ++ z ≡ f ++ y
+pub compare : NoDatasetBeginsAnother → (whole ds : List Dataset) (front f z y : List ℕ) → SpellsStream count_octets whole front → SpellsStream count_octets ds f → front ++ z ≡ f ++ y
     → Longer whole ds z y ⊎ Next whole ds z y
 compare one [] [] front f z y sw sf e =
     inl ([], [], refl, refl, ap (λ l. l ++ z) (sym sw) ∙ e ∙ ap (λ l. l ++ y) sf)

@@ -18,7 +18,7 @@ abbrev pub Sticks : List ℕ → Type 0
 Sticks rest = (d : Dataset) (x y z : List ℕ) → SpellsDataset count_octets d x → rest ++ y ≡ x ++ z → ⊥
 
 -- a tag is no longer tag
-no_longer : NoTagBeginsAnother → (h k : Head) (tag x more : List ℕ) → SpellsTag count_octets h tag → 0 < length more → SpellsTag count_octets k ((tag ++ x) ++ more) → ⊥
+pub no_longer : NoTagBeginsAnother → (h k : Head) (tag x more : List ℕ) → SpellsTag count_octets h tag → 0 < length more → SpellsTag count_octets k ((tag ++ x) ++ more) → ⊥
 no_longer one_tag h k tag x more s long t =
     let same = one_tag count_octets h k tag ((tag ++ x) ++ more) (x ++ more) [] s t (sym (append_assoc tag x more) ∙ sym (append-nil ((tag ++ x) ++ more))) in
     omega (arith, simp length-append at (ap length same.2))

@@ -1,4 +1,7 @@
 pub mod Octets
+pub mod Blocks
+pub mod Bounds
+pub mod Intakes
 pub mod Fronts
 pub mod Objects
 pub mod Places
@@ -9,5 +12,14 @@ pub mod Steps
 pub mod Refused
 pub mod Stages
 pub mod Results
+pub mod Ends
+pub mod Lasts
+pub mod Carrying
+pub mod Heading
+pub mod Closing
+pub mod Routed
+pub mod OneOctet
+pub mod Opens
+pub mod Feeding
 pub mod Taken
 pub mod Admitted

@@ -88,6 +88,8 @@ no_dead_head layers.Dataset limits ds h goes dead = dead
 no_dead_head layers.Record limits ds h goes dead = dead goes.records
 no_dead_head layers.Limits limits ds h goes dead = dead.1 goes.room
 no_dead_head layers.Object limits ds h goes dead = dead.2 goes.object
+no_dead_head layers.Message limits ds h goes dead = dead
+no_dead_head layers.Story limits ds h goes dead = dead
 no_dead_head layers.Outside limits ds h goes dead = dead
 
 no_dead_value : DatasetsLiveWithTheirTokens → (layer : Layer) (ds : List Dataset) (d : Dataset) → IsAlive (ds ++ d ∷ []) → languages.IsAlive AreSized (ds ++ d ∷ [])
@@ -96,6 +98,8 @@ no_dead_value live layers.Dataset ds d alive sized dead = dead
 no_dead_value live layers.Record ds d alive sized dead = dead alive
 no_dead_value live layers.Limits ds d alive sized dead = dead
 no_dead_value live layers.Object ds d alive sized dead = dead.1 (lives_behind live (ds ++ d ∷ []) alive sized)
+no_dead_value live layers.Message ds d alive sized dead = dead
+no_dead_value live layers.Story ds d alive sized dead = dead
 no_dead_value live layers.Outside ds d alive sized dead = dead
 
 head_clashes : Laws → (limits : Limits) (octets : List ℕ) (at : ℕ) (whole : List Dataset) (e : Refusal) → Stands limits octets at whole → HasBadHead limits whole (drop at octets) at e

@@ -4,6 +4,15 @@ pub mod Admitted
 pub mod Refusals
 pub mod Tokens
 pub mod Answers
+pub mod Blocks
 pub mod Layers
 pub mod Steps
+pub mod Intakes
 pub mod Laws
+pub mod Passed
+pub mod Passing
+pub mod Parts
+pub mod Going
+pub mod Routing
+pub mod Unpacking
+pub mod Value

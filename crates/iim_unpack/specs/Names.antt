@@ -1,15 +1,17 @@
 -- The numbers and names of layers and causes.
 use Rattle.std.specs.Prelude.{ℕ, List, codes}
 use Rattle.iim_unpack.specs.declared.refusal.Layer.{Layer}
-use Rattle.iim_unpack.specs.declared.refusal.Layer.TheVariants.{Dataset, Record, Limits, Object, Outside}
+use Rattle.iim_unpack.specs.declared.refusal.Layer.TheVariants.{Dataset, Record, Limits, Object, Message, Story, Outside}
 use Rattle.iim_unpack.specs.declared.refusal.Cause.{Cause}
-use Rattle.iim_unpack.specs.declared.refusal.Cause.TheVariants.{Marker, CountForm, Truncated, RecordOrder, UnknownDataset, Repeated, CountRange, Missing, BadValue, FileFormat, ModeClash, SizeClash, SubfileTooLong, PastSize, Short, ConfirmedWrong, HeaderFull, TooManyFields, TooManySubfiles, OutOfMemory}
+use Rattle.iim_unpack.specs.declared.refusal.Cause.TheVariants.{Marker, CountForm, Truncated, RecordOrder, UnknownDataset, Repeated, CountRange, Missing, BadValue, FileFormat, ModeClash, SizeClash, SubfileTooLong, PastSize, Short, ConfirmedWrong, BadOctet, Unfinished, LoneReturn, ControlOctet, HeaderFull, TooManyFields, TooManySubfiles, Sink, Failed, OutOfMemory}
 
 abbrev pub layer_name : Layer → List ℕ
 layer_name Dataset = codes "dataset"
 layer_name Record = codes "record"
 layer_name Limits = codes "limits"
 layer_name Object = codes "object"
+layer_name Message = codes "message"
+layer_name Story = codes "story"
 layer_name Outside = codes "outside"
 
 abbrev pub cause_number : Cause → ℕ
@@ -29,6 +31,12 @@ cause_number SubfileTooLong = 22
 cause_number PastSize = 23
 cause_number Short = 24
 cause_number ConfirmedWrong = 25
+cause_number BadOctet = 30
+cause_number Unfinished = 32
+cause_number LoneReturn = 40
+cause_number ControlOctet = 41
+cause_number Sink = 60
+cause_number Failed = 61
 cause_number HeaderFull = 50
 cause_number TooManyFields = 51
 cause_number TooManySubfiles = 52
@@ -51,6 +59,12 @@ cause_name SubfileTooLong = codes "SubfileTooLong"
 cause_name PastSize = codes "PastSize"
 cause_name Short = codes "Short"
 cause_name ConfirmedWrong = codes "ConfirmedWrong"
+cause_name BadOctet = codes "BadOctet"
+cause_name Unfinished = codes "Unfinished"
+cause_name LoneReturn = codes "LoneReturn"
+cause_name ControlOctet = codes "ControlOctet"
+cause_name Sink = codes "Sink"
+cause_name Failed = codes "Failed"
 cause_name HeaderFull = codes "HeaderFull"
 cause_name TooManyFields = codes "TooManyFields"
 cause_name TooManySubfiles = codes "TooManySubfiles"

@@ -6,6 +6,8 @@ use Rattle.iim_fields.specs.declared.fault.FieldCause.{FieldCause}
 use Rattle.iim_fields.specs.declared.fault.FieldCause.TheVariants as fields
 use Rattle.iim_object.specs.declared.fault.SizeCause.{SizeCause}
 use Rattle.iim_object.specs.declared.fault.SizeCause.TheVariants as sizes
+use Rattle.wire_message.specs.declared.fault.MessageCause.{MessageCause}
+use Rattle.wire_message.specs.declared.fault.MessageCause.TheVariants as messages
 use Rattle.iim_unpack.specs.declared.fault.Fault.{Fault}
 use Rattle.iim_unpack.specs.declared.refusal.Refusal.{Refusal}
 use Rattle.iim_unpack.specs.declared.refusal.Layer.{Layer}
@@ -63,3 +65,22 @@ refusal_at octet fault = record { layer = fault.layer; rec = fault.rec; set = fa
 -- the refusal for want of memory
 abbrev pub no_memory : Refusal
 no_memory = record { layer = layers.Outside; rec = 0; set = 0; octet = 0; cause = causes.OutOfMemory }
+
+-- the layer that refuses for a cause of the message
+abbrev pub layer_of_message : MessageCause → Layer
+layer_of_message messages.BadOctet = layers.Message
+layer_of_message messages.Unfinished = layers.Message
+layer_of_message messages.LoneReturn = layers.Story
+layer_of_message messages.ControlOctet = layers.Story
+layer_of_message messages.Sink = layers.Outside
+
+abbrev pub cause_of_message : MessageCause → Cause
+cause_of_message messages.BadOctet = causes.BadOctet
+cause_of_message messages.Unfinished = causes.Unfinished
+cause_of_message messages.LoneReturn = causes.LoneReturn
+cause_of_message messages.ControlOctet = causes.ControlOctet
+cause_of_message messages.Sink = causes.Sink
+
+-- a fault of the message, the story or the sink, on the dataset of the head
+abbrev pub message_on : Head → MessageCause → Fault
+message_on h cause = record { layer = layer_of_message cause; rec = h.rec; set = h.set; cause = cause_of_message cause }

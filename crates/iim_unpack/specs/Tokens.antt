@@ -57,6 +57,8 @@ DiesAtHead layers.Dataset limits ds h = ⊥
 DiesAtHead layers.Record limits ds h = IsAliveAt ds h → ⊥
 DiesAtHead layers.Limits limits ds h = IsAliveAt ds h × (HaveRoom limits ds h → ⊥)
 DiesAtHead layers.Object limits ds h = IsAliveAt ds h × HaveRoom limits ds h × (ObjectLives (place_at ds h) → ⊥)
+DiesAtHead layers.Message limits ds h = ⊥
+DiesAtHead layers.Story limits ds h = ⊥
 DiesAtHead layers.Outside limits ds h = ⊥
 
 -- With the value the layer is dead, and those that are asked before are alive.
@@ -65,6 +67,8 @@ DiesAtValue layers.Dataset ds d = ⊥
 DiesAtValue layers.Record ds d = IsAlive (ds ++ d ∷ []) → ⊥
 DiesAtValue layers.Limits ds d = ⊥
 DiesAtValue layers.Object ds d = IsAlive (ds ++ d ∷ []) × (ObjectLives (place_behind (ds ++ d ∷ [])) → ⊥)
+DiesAtValue layers.Message ds d = ⊥
+DiesAtValue layers.Story ds d = ⊥
 DiesAtValue layers.Outside ds d = ⊥
 
 -- ---- first faults

@@ -1,12 +1,13 @@
 //! Tokens that a layer refuses.
 
 ghost use Rattle.std.specs.Prelude.{◌≡◌};
-ghost use Rattle.iim_unpack.specs.Refusals.{of_field, size_on, too_many_on, cause_of, cause_of_size, layer_of};
+ghost use Rattle.iim_unpack.specs.Refusals.{of_field, size_on, too_many_on, message_on, cause_of, cause_of_size, cause_of_message, layer_of, layer_of_message};
 
 use crate::refusal::{Cause, Layer};
 use iim_dataset::Head;
 use iim_fields::{FieldCause, FieldFault};
 use iim_object::SizeCause;
+use wire_message::MessageCause;
 
 /// A token that is refused: the layer, the record and number of the dataset that is named, and the cause.
 #[derive(Clone, Copy, Debug, PartialEq, Eq)]
@@ -88,5 +89,39 @@ pub(crate) fn too_many_on(head: Head) -> Fault
         rec: head.rec,
         set: head.set,
         cause: Cause::TooManySubfiles,
+    }
+}
+
+fn message_layer(cause: MessageCause) -> Layer
+    ensures { result ≡ layer_of_message cause }
+{
+    match cause {
+        MessageCause::BadOctet | MessageCause::Unfinished => Layer::Message,
+        MessageCause::LoneReturn | MessageCause::ControlOctet => Layer::Story,
+        MessageCause::Sink => Layer::Outside,
+    }
+}
+
+fn message_cause(cause: MessageCause) -> Cause
+    ensures { result ≡ cause_of_message cause }
+{
+    match cause {
+        MessageCause::BadOctet => Cause::BadOctet,
+        MessageCause::Unfinished => Cause::Unfinished,
+        MessageCause::LoneReturn => Cause::LoneReturn,
+        MessageCause::ControlOctet => Cause::ControlOctet,
+        MessageCause::Sink => Cause::Sink,
+    }
+}
+
+/// A fault of the message, the story or the sink, on the dataset of the head.
+pub(crate) fn message_on(head: Head, cause: MessageCause) -> Fault
+    ensures { result ≡ message_on head cause }
+{
+    Fault {
+        layer: message_layer(cause),
+        rec: head.rec,
+        set: head.set,
+        cause: message_cause(cause),
     }
 }

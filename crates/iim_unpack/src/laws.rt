@@ -1,9 +1,11 @@
 //! What holds of all envelopes.
 
 ghost use Rattle.iim_unpack.specs.Laws.{AdmittedOctetsAreFramed, AdmittedOctetsHaveOneValue, FramedMessagesAreAdmitted, NoAdmittedOctetsBeginOthers, NoEnvelopeBeginsAnother, NoEnvelopeIsEmpty};
+ghost use Rattle.iim_unpack.specs.Intakes.{OpenOctetsAreBounded};
+ghost use Rattle.iim_unpack.specs.Unpacking.{OpenOctetsBeginWithNoEnvelope};
 
-use iim_dataset::no_dataset_begins_another;
-use iim_fields::no_sections_begin_others;
+use iim_dataset::{no_dataset_begins_another, no_tag_begins_another};
+use iim_fields::{envelopes_end_with_the_last_record, no_sections_begin_others};
 use iim_object::{records_are_by_number, sizes_are_determined};
 use wire_message::messages_have_one_reading;
 use wire_story::texts_have_one_reading;
@@ -52,4 +54,21 @@ pub fn framed_messages_are_admitted()
     ensures { FramedMessagesAreAdmitted }
 {
     records_are_by_number();
+}
+
+/// Open octets begin with no admitted ones.
+pub fn open_octets_begin_with_no_envelope()
+    ensures { OpenOctetsBeginWithNoEnvelope }
+{
+    no_tag_begins_another();
+    no_dataset_begins_another();
+    no_sections_begin_others();
+}
+
+/// Open octets are fewer than a count of 64 bits tells.
+pub fn open_octets_are_bounded()
+    ensures { OpenOctetsAreBounded }
+{
+    no_sections_begin_others();
+    envelopes_end_with_the_last_record();
 }

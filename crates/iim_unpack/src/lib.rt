@@ -6,19 +6,28 @@
 #![tactic(auto)]
 
 mod answer;
+mod block;
 mod envelope;
 mod fault;
+mod intake;
 mod laws;
 mod layers;
+mod message;
 mod nowhere;
+mod parts;
 mod refusal;
+mod router;
 #[cfg(test)]
 mod tests;
+mod unpacker;
 
 pub use answer::Scan;
 pub use envelope::scan;
+pub use intake::{Intake, IntakeFault};
 pub use laws::{
     admitted_octets_are_framed, admitted_octets_have_one_value, framed_messages_are_admitted,
     no_admitted_octets_begin_others, no_envelope_begins_another, no_envelope_is_empty,
+    open_octets_are_bounded, open_octets_begin_with_no_envelope,
 };
 pub use refusal::{Cause, Layer, Refusal};
+pub use unpacker::{Progress, Unpacked, Unpacker};

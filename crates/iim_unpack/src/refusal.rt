@@ -14,6 +14,10 @@ pub enum Layer {
     Limits,
     /// The numbers of record 7, the counts of subfiles, the head of 9:10 and its number: the sizes of the object.
     Object,
+    /// The octets of the object, and its end: header, text and trailer of the message.
+    Message,
+    /// The octets of the text, and its end: lines and their ends.
+    Story,
     /// Not the octets: what stands around them.
     Outside,
 }
@@ -28,6 +32,8 @@ impl Layer {
             Layer::Record => "record",
             Layer::Limits => "limits",
             Layer::Object => "object",
+            Layer::Message => "message",
+            Layer::Story => "story",
             Layer::Outside => "outside",
         }
     }
@@ -68,12 +74,24 @@ pub enum Cause {
     Short = 24,
     /// The confirmed size, 9:10, is not the total.
     ConfirmedWrong = 25,
+    /// No message can go on with the octet.
+    BadOctet = 30,
+    /// The object ends before the message does.
+    Unfinished = 32,
+    /// CR came before it in the text that no LF has followed.
+    LoneReturn = 40,
+    /// SOH, STX or EOT stands in the text.
+    ControlOctet = 41,
     /// The data of records 1 and 2 pass the limit on octets.
     HeaderFull = 50,
     /// The datasets of records 1 and 2 pass the limit on their number.
     TooManyFields = 51,
     /// There are 4,294,967,295 subfiles, and another one begins.
     TooManySubfiles = 52,
+    /// The caller's sink stopped.
+    Sink = 60,
+    /// Something was refused before.
+    Failed = 61,
     /// Memory was refused.
     OutOfMemory = 70,
 }
@@ -107,6 +125,12 @@ impl Cause {
             Cause::PastSize => "PastSize",
             Cause::Short => "Short",
             Cause::ConfirmedWrong => "ConfirmedWrong",
+            Cause::BadOctet => "BadOctet",
+            Cause::Unfinished => "Unfinished",
+            Cause::LoneReturn => "LoneReturn",
+            Cause::ControlOctet => "ControlOctet",
+            Cause::Sink => "Sink",
+            Cause::Failed => "Failed",
             Cause::HeaderFull => "HeaderFull",
             Cause::TooManyFields => "TooManyFields",
             Cause::TooManySubfiles => "TooManySubfiles",

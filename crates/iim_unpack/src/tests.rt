@@ -1,5 +1,6 @@
 //! The scan on worked envelopes, on what breaks them, and on every change of a tag.
 
+mod feeding;
 mod rule;
 
 use crate::{

@@ -1,3 +1,4 @@
 pub mod Listings
 pub mod Requests
 pub mod Told
+pub mod Packed

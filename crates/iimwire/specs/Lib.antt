@@ -4,3 +4,4 @@ pub mod Inputs
 pub mod Outcomes
 pub mod Faults
 pub mod Requests
+pub mod Laws

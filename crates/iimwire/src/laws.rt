@@ -1,8 +1,13 @@
-//! What holds of all inputs.
+//! What holds of all inputs, and of packing and unpacking together.
 
 ghost use Rattle.iimwire.specs.Listings.{InputsHaveOneListing};
+ghost use Rattle.iimwire.specs.Laws.{PackedOctetsAreAdmitted, PackedEnvelopesAreFound};
 
-use iim_unpack::{no_envelope_begins_another, no_envelope_is_empty};
+use iim_pack::packed_octets_carry_the_value;
+use iim_unpack::{
+    admitted_octets_have_one_value, no_admitted_octets_begin_others, no_envelope_begins_another,
+    no_envelope_is_empty,
+};
 
 /// An input has one list of envelopes, and one rest behind it.
 pub fn inputs_have_one_listing()
@@ -10,4 +15,20 @@ pub fn inputs_have_one_listing()
 {
     no_envelope_begins_another();
     no_envelope_is_empty();
+}
+
+/// What is packed is admitted, with the value that was packed and the sizes of the plan.
+pub fn packed_octets_are_admitted()
+    ensures { PackedOctetsAreAdmitted }
+{
+    packed_octets_carry_the_value();
+}
+
+/// Whatever follows packed octets, they are the only admitted ones at the front, and they have the value that was packed.
+pub fn packed_envelopes_are_found()
+    ensures { PackedEnvelopesAreFound }
+{
+    packed_octets_are_admitted();
+    admitted_octets_have_one_value();
+    no_admitted_octets_begin_others();
 }

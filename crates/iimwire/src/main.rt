@@ -1,7 +1,8 @@
 //! The command `iimwire`: checks files of envelopes.
 //!
-//! Stands on `iim_dataset`, `iim_fields`, `iim_unpack` and `clap`. [`run::run`] does the work, over any source and targets of
-//! octets; what is here joins it to the arguments, files and streams of a process.
+//! Stands on `iim_dataset`, `iim_fields`, `iim_unpack` and `clap`, and on the other crates for the laws of packing alone.
+//! [`run::run`] does the work, over any source and targets of octets; what is here joins it to the arguments, files and
+//! streams of a process.
 #![tactic(auto)]
 
 ghost use Rattle.std.specs.Prelude.{◌≡◌, ◌⊎◌};

@@ -12,3 +12,4 @@ pub mod Rests
 pub mod TextSoFar
 pub mod Readings
 pub mod Standing
+pub mod Ended

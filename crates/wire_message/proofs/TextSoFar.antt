@@ -59,7 +59,7 @@ any_found k (b ∷ front) x e = or_yes (b == k) (list_any (λ c. c == k) (front 
 
 -- ---- no STX stands before the text, and no ETX in it
 
-each : (p q : ℕ → Bool) (xs : List ℕ) → ((b : ℕ) → p b ≡ true → q b ≡ true) → Are p xs → Are q xs
+pub each : (p q : ℕ → Bool) (xs : List ℕ) → ((b : ℕ) → p b ≡ true → q b ≡ true) → Are p xs → Are q xs
 each p q [] f h = refl
 each p q (b ∷ xs) f h = Are-cons q b xs (f b (Are-head p b xs h)) (each p q xs f (Are-tail p b xs h))
 

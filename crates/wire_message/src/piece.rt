@@ -11,6 +11,8 @@ use crate::step::{
 };
 use crate::tail::{after_end, in_gap, in_info, in_trailer};
 use crate::text::in_text;
+use arrayvec::ArrayVec;
+use std::mem;
 use wire_story::StorySink;
 
 /// Takes octets outside the text, and answers the next place and how many, or None where the first dies.
@@ -43,32 +45,36 @@ fn outside_text(place: Place, rest: &[u8]) -> Option<(Place, usize)>
     }
 }
 
-/// The same with a sink, which is told nothing.
+/// The same where the place lies, with a sink, which is told nothing.
 #[inline(always)]
 fn take_outside_text<S: StorySink>(
-    place: Place,
+    place: &mut Place,
     rest: &[u8],
     sink: &mut S,
-) -> Result<(Place, usize), MessageFault>
-    requires place { IsPlace place }
-    requires outside { IsNoText place }
+) -> Result<usize, MessageFault>
+    requires place { IsPlace place.old }
+    requires outside { IsNoText place.old }
     requires some { 0 < length rest.now }
-    ensures is_place { IfOk result (λ front. IsPlace front.0) }
-    ensures some { IfOk result (λ front. 0 < front.1) }
-    ensures within { IfOk result (λ front. front.1 ≤ length rest.now) }
-    ensures told { IfOk result (λ front.
-        Told S.goes sink.old (Some place) (take front.1 rest.now) (Some front.0) sink.new) }
+    ensures is_place { OnOk result (IsPlace place.new) }
+    ensures some { IfOk result (λ used. 0 < used) }
+    ensures within { IfOk result (λ used. used ≤ length rest.now) }
+    ensures told { IfOk result (λ used.
+        Told S.goes sink.old (Some place.old) (take used rest.now) (Some place.new) sink.new) }
     ensures calm { OnOk result (S.failures sink.new ≡ S.failures sink.old) }
     ensures before { IfErr result (λ fault. fault.taken < length rest.now) }
-    ensures refused { IfErr result (Refuses (Some place) rest.now) }
+    ensures refused { IfErr result (Refuses (Some place.old) rest.now) }
     ensures told_front { IfErr result (λ fault.
-        ToldFront S.goes sink.old (Some place) (take fault.taken rest.now) sink.new) }
+        ToldFront S.goes sink.old (Some place.old) (take fault.taken rest.now) sink.new) }
     ensures counted { IfErr result (λ fault.
         CountsCause (S.failures sink.old) (S.failures sink.new) fault.cause) }
 {
     let _ = sink;
-    match outside_text(place, rest) {
-        Some(front) => Ok(front),
+    let old = mem::replace(place, Place::Filler(0));
+    match outside_text(old, rest) {
+        Some((next, used)) => {
+            *place = next;
+            Ok(used)
+        }
         None => Err(MessageFault {
             taken: 0,
             cause: MessageCause::BadOctet,
@@ -76,59 +82,66 @@ fn take_outside_text<S: StorySink>(
     }
 }
 
-/// Takes a front of the octets that are left, and answers the next place and how many it took.
+/// Takes a front of the octets that are left, and answers how many it took.
 #[inline(always)]
 fn take_front<S: StorySink>(
-    place: Place,
+    place: &mut Place,
     rest: &[u8],
     sink: &mut S,
-) -> Result<(Place, usize), MessageFault>
-    requires place { IsPlace place }
+) -> Result<usize, MessageFault>
+    requires place { IsPlace place.old }
     requires some { 0 < length rest.now }
-    ensures is_place { IfOk result (λ front. IsPlace front.0) }
-    ensures some { IfOk result (λ front. 0 < front.1) }
-    ensures within { IfOk result (λ front. front.1 ≤ length rest.now) }
-    ensures told { IfOk result (λ front.
-        Told S.goes sink.old (Some place) (take front.1 rest.now) (Some front.0) sink.new) }
+    ensures is_place { OnOk result (IsPlace place.new) }
+    ensures some { IfOk result (λ used. 0 < used) }
+    ensures within { IfOk result (λ used. used ≤ length rest.now) }
+    ensures told { IfOk result (λ used.
+        Told S.goes sink.old (Some place.old) (take used rest.now) (Some place.new) sink.new) }
     ensures calm { OnOk result (S.failures sink.new ≡ S.failures sink.old) }
     ensures before { IfErr result (λ fault. fault.taken < length rest.now) }
-    ensures refused { IfErr result (Refuses (Some place) rest.now) }
+    ensures refused { IfErr result (Refuses (Some place.old) rest.now) }
     ensures told_front { IfErr result (λ fault.
-        ToldFront S.goes sink.old (Some place) (take fault.taken rest.now) sink.new) }
+        ToldFront S.goes sink.old (Some place.old) (take fault.taken rest.now) sink.new) }
     ensures counted { IfErr result (λ fault.
         CountsCause (S.failures sink.old) (S.failures sink.new) fault.cause) }
 {
     match place {
-        Place::Text(head, text) => in_text(head, text, rest, sink),
-        other => take_outside_text(other, rest, sink),
+        Place::Text(head, text) => match in_text(head, text, rest, sink) {
+            Ok((used, ended)) => {
+                if ended {
+                    match mem::replace(place, Place::Filler(0)) {
+                        Place::Text(head, _) => *place = Place::Trailer(head, ArrayVec::new()),
+                        _ => unreachable!(),
+                    }
+                }
+                Ok(used)
+            }
+            Err(fault) => Err(fault),
+        },
+        _ => take_outside_text(place, rest, sink),
     }
 }
 
-/// Takes a piece from a place on, and answers the place after it.
+/// Takes a piece where the place lies.
 pub(crate) fn take_piece<S: StorySink>(
-    place: Place,
+    place: &mut Place,
     piece: &[u8],
     sink: &mut S,
-) -> Result<Place, MessageFault>
-    requires { IsPlace place }
-    ensures is_place { IfOk result (λ now. IsPlace now) }
-    ensures told { IfOk result (λ now. Told S.goes sink.old (Some place) piece.now (Some now) sink.new) }
+) -> Result<(), MessageFault>
+    requires { IsPlace place.old }
+    ensures is_place { OnOk result (IsPlace place.new) }
+    ensures told { OnOk result (Told S.goes sink.old (Some place.old) piece.now (Some place.new) sink.new) }
     ensures calm { OnOk result (S.failures sink.new ≡ S.failures sink.old) }
     ensures before { IfErr result (λ fault. fault.taken < length piece.now) }
-    ensures refused { IfErr result (Refuses (Some place) piece.now) }
+    ensures refused { IfErr result (Refuses (Some place.old) piece.now) }
     ensures told_front { IfErr result (λ fault.
-        ToldFront S.goes sink.old (Some place) (take fault.taken piece.now) sink.new) }
+        ToldFront S.goes sink.old (Some place.old) (take fault.taken piece.now) sink.new) }
     ensures counted { IfErr result (λ fault.
         CountsCause (S.failures sink.old) (S.failures sink.new) fault.cause) }
 {
-    let mut now = place;
     let mut at = 0;
     while at < piece.len() {
-        match take_front(now, &piece[at..], sink) {
-            Ok((next, used)) => {
-                now = next;
-                at += used;
-            }
+        match take_front(place, &piece[at..], sink) {
+            Ok(used) => at += used,
             Err(fault) => {
                 return Err(MessageFault {
                     taken: at + fault.taken,
@@ -137,5 +150,5 @@ pub(crate) fn take_piece<S: StorySink>(
             }
         }
     }
-    Ok(now)
+    Ok(())
 }

@@ -78,13 +78,15 @@ impl MessageReader {
             CountsCause (S.failures sink.old) (S.failures sink.new) fault.cause) }
     {
         readers_stand_at_living_octets();
-        let place = self.place.take().unwrap();
-        match take_piece(place, piece, sink) {
-            Ok(next) => {
-                self.place = Some(next);
-                Ok(())
-            }
-            Err(fault) => Err(fault),
+        match &mut self.place {
+            Some(place) => match take_piece(place, piece, sink) {
+                Ok(()) => Ok(()),
+                Err(fault) => {
+                    self.place = None;
+                    Err(fault)
+                }
+            },
+            None => unreachable!(),
         }
     }
 

@@ -1,21 +1,21 @@
-//! How the text is read: up to ETX it goes to the story, which ETX closes.
+//! How the text is read: the story takes it, and stops at ETX, which ends it.
 
-ghost use Rattle.std.specs.Prelude.{◌≡◌, ◌<◌, ◌≤◌, length, take, Some, IfOk, IfErr, OnOk};
+ghost use Rattle.std.specs.Prelude.{◌≡◌, ◌<◌, ◌≤◌, ℕ, false, true, [], length, take, Some, IfOk, IfErr, OnOk};
+ghost use Rattle.arrayvec.specs.ArrayVec.{ArrayVec};
+ghost use Rattle.wire_message.specs.declared.place.Place.{Place};
 ghost use Rattle.wire_message.specs.SoFar.{IsPlace};
 ghost use Rattle.wire_message.specs.Reading.{cause_of, Told, ToldFront, Refuses, CountsCause};
 
-use crate::class::Class;
 use crate::fault::{MessageCause, MessageFault};
-use crate::field::run_len;
 use crate::head::MessageHead;
-use crate::place::Place;
-use arrayvec::ArrayVec;
+use crate::octets::ETX;
 use wire_story::{
     StorySink, TextCause, TextReader, stories_end_as_texts, stories_live_as_texts_so_far,
-    texts_end_in_no_return,
+    texts_end_in_no_return, texts_so_far_have_one_reading,
 };
 
 /// The cause of a message for a cause of its text.
+#[inline(always)]
 fn cause_in_text(cause: TextCause) -> MessageCause
     ensures { result ≡ cause_of cause }
 {
@@ -26,47 +26,57 @@ fn cause_in_text(cause: TextCause) -> MessageCause
     }
 }
 
-/// Takes the octets of the text up to an ETX, or the ETX, and answers the next place and how many it took.
+/// Whether a story refused its text for a control octet.
+#[inline(always)]
+fn is_control(cause: TextCause) -> bool
+    ensures yes { result ≡ true → cause ≡ TextCause.ControlOctet }
+    ensures no { result ≡ false → cause ≡ TextCause.ControlOctet → ⊥ }
+{
+    matches!(cause, TextCause::ControlOctet)
+}
+
+/// Takes octets of the text, and the ETX that ends it, and answers how many, and whether ETX was the last of them.
 #[inline(always)]
 pub(crate) fn in_text<S: StorySink>(
-    head: MessageHead,
-    mut text: TextReader,
+    head: &MessageHead,
+    text: &mut TextReader,
     rest: &[u8],
     sink: &mut S,
-) -> Result<(Place, usize), MessageFault>
-    requires place { IsPlace (Place.Text head text) }
+) -> Result<(usize, bool), MessageFault>
+    requires place { IsPlace (Place.Text head.now text.old) }
     requires some { 0 < length rest.now }
-    ensures is_place { IfOk result (λ front. IsPlace front.0) }
-    ensures some { IfOk result (λ front. 0 < front.1) }
-    ensures within { IfOk result (λ front. front.1 ≤ length rest.now) }
-    ensures told { IfOk result (λ front.
-        Told S.goes sink.old (Some (Place.Text head text)) (take front.1 rest.now) (Some front.0) sink.new) }
+    ensures some { IfOk result (λ front. 0 < front.0) }
+    ensures within { IfOk result (λ front. front.0 ≤ length rest.now) }
+    ensures is_place { IfOk result (λ front. front.1 ≡ false → IsPlace (Place.Text head.now text.new)) }
+    ensures told { IfOk result (λ front. front.1 ≡ false →
+        Told S.goes sink.old (Some (Place.Text head.now text.old)) (take front.0 rest.now)
+        (Some (Place.Text head.now text.new)) sink.new) }
+    ensures ended { IfOk result (λ front. front.1 ≡ true → (trailer : ArrayVec ℕ) → trailer.items ≡ [] →
+        Told S.goes sink.old (Some (Place.Text head.now text.old)) (take front.0 rest.now)
+        (Some (Place.Trailer head.now trailer)) sink.new) }
     ensures calm { OnOk result (S.failures sink.new ≡ S.failures sink.old) }
     ensures before { IfErr result (λ fault. fault.taken < length rest.now) }
-    ensures refused { IfErr result (Refuses (Some (Place.Text head text)) rest.now) }
+    ensures refused { IfErr result (Refuses (Some (Place.Text head.now text.old)) rest.now) }
     ensures told_front { IfErr result (λ fault.
-        ToldFront S.goes sink.old (Some (Place.Text head text)) (take fault.taken rest.now) sink.new) }
+        ToldFront S.goes sink.old (Some (Place.Text head.now text.old)) (take fault.taken rest.now) sink.new) }
     ensures counted { IfErr result (λ fault.
         CountsCause (S.failures sink.old) (S.failures sink.new) fault.cause) }
 {
+    let _ = head;
     stories_live_as_texts_so_far();
-    let run = run_len(Class::Text, rest);
-    if run > 0 {
-        return match text.run(&rest[..run], sink) {
-            Ok(()) => Ok((Place::Text(head, text), run)),
-            Err(fault) => Err(MessageFault {
+    stories_end_as_texts();
+    texts_end_in_no_return();
+    texts_so_far_have_one_reading();
+    match text.run(rest, sink) {
+        Ok(()) => Ok((rest.len(), false)),
+        Err(fault) => {
+            if is_control(fault.cause) && rest[fault.taken] == ETX {
+                return Ok((fault.taken + 1, true));
+            }
+            Err(MessageFault {
                 taken: fault.taken,
                 cause: cause_in_text(fault.cause),
-            }),
-        };
-    }
-    texts_end_in_no_return();
-    stories_end_as_texts();
-    match text.close() {
-        Ok(()) => Ok((Place::Trailer(head, ArrayVec::new()), 1)),
-        Err(_) => Err(MessageFault {
-            taken: 0,
-            cause: MessageCause::LoneReturn,
-        }),
+            })
+        }
     }
 }

@@ -2,7 +2,7 @@
 
 ghost use Rattle.std.specs.Prelude.{◌≡◌, ◌↔◌, ◌+◌, ◌≤◌, ◌∷◌, ◌++◌, length, IsTrue, IsSome, IfSome};
 ghost use Rattle.arrayvec.specs.ArrayVec.{array_vec_len};
-ghost use Rattle.wire_message.specs.Messages.{IsTrailer};
+ghost use Rattle.wire_message.specs.Messages.{IsHeader, IsTrailer};
 ghost use Rattle.wire_message.specs.Canonical.{packed_head, packed_info, packed_tail};
 
 use crate::class::Class;
@@ -44,7 +44,8 @@ fn append_info(out: &mut ArrayVec<u8, 128>, info: &[u8])
 
 /// The octets of a message from SOH to STX, with the gap CR LF and no filler.
 pub fn head_text(head: &MessageHead) -> ArrayVec<u8, 128>
-    ensures { result.items ≡ packed_head head.now }
+    ensures octets { result.items ≡ packed_head head.now }
+    ensures header { IsHeader head.now }
 {
     let mut out = ArrayVec::new();
     append(&mut out, &[SOH]);

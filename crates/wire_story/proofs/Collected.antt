@@ -68,10 +68,10 @@ push_run octets (b ∷ bs) l =
 
 -- ---- that they make a text
 
-abbrev EachLine : List (List ℕ) → Type 0
+abbrev pub EachLine : List (List ℕ) → Type 0
 EachLine lines = IsTrue (list_all (list_all is_line_octet) lines)
 
-octet_made : (lines : List (List ℕ)) (b : ℕ) → is_line_octet b ≡ true → EachLine lines → EachLine (add_octet lines b)
+pub octet_made : (lines : List (List ℕ)) (b : ℕ) → is_line_octet b ≡ true → EachLine lines → EachLine (add_octet lines b)
 octet_made [] b t h = and_from (list_all is_line_octet (b ∷ [])) true (and_from (is_line_octet b) true t refl) refl
 octet_made (line ∷ []) b t h =
     let parts = and_parts (list_all is_line_octet line) true h in

@@ -7,3 +7,5 @@ pub mod Readings
 pub mod Pieces
 pub mod MadeTexts
 pub mod Collected
+pub mod PackedEvents
+pub mod Marked

@@ -22,6 +22,9 @@ goes_on h piece k e octets w =
 pub goes_on_in_line : (run : List ℕ) → IsLine run → GoesOn (Some 0) run (Some 0)
 goes_on_in_line run l = goes_on 0 run 0 (ap (held_after 0) (sym (append-nil run)) ∙ held_line run [] l)
 
+pub goes_on_none : (reader : Option ℕ) → GoesOn reader [] reader
+goes_on_none reader octets w = subst (StandsAt reader) (sym (append-nil octets)) w
+
 pub goes_on_front : (old mid new : Option ℕ) (piece : List ℕ) (i k : ℕ) → GoesOn old (take i piece) mid → GoesOn mid (take k (rest_of piece i)) new → GoesOn old (take (i + k) piece) new
 goes_on_front old mid new piece i k f g octets w =
     subst (StandsAt new) (append_assoc octets (take i piece) (take k (rest_of piece i)) ∙ ap (λ t. octets ++ t) (sym (take-front piece i k)))

@@ -4,6 +4,8 @@ pub mod Tokens
 pub mod Reading
 pub mod Writing
 pub mod Collecting
+pub mod Packing
 pub mod Laws
 pub mod CollectingLaws
 pub mod WritingLaws
+pub mod Marking

@@ -2,6 +2,7 @@
 
 ghost use Rattle.std.specs.Prelude.{◌≡◌};
 ghost use Rattle.wire_story.specs.Texts.{line_end};
+ghost use Rattle.wire_story.specs.Packing.{LinesArePackedAsTheirEvents, EventsArePackedAsLines};
 ghost use Rattle.wire_story.specs.Laws.{TextsHaveOneReading, TextsSoFarHaveOneReading, TextsAreDeliveredAsLines, TextsSoFarAreDeliveredAsLines, DeliveryMayBeCut, StoriesLiveAsTextsSoFar, StoriesEndAsTexts, TextsEndInNoReturn, PackedLinesAreAText, LinesOfATextMakeOne, LinesAreJoinedByLineFeeds, TextsAreCollectedAsLines};
 
 use crate::line::LINE_END;
@@ -69,4 +70,14 @@ pub fn lines_are_joined_by_line_feeds()
 /// Collected from one empty line on, what is delivered of a text are its lines.
 pub fn texts_are_collected_as_lines()
     ensures { TextsAreCollectedAsLines }
+{}
+
+/// Lines are packed as their events are.
+pub fn lines_are_packed_as_their_events()
+    ensures { LinesArePackedAsTheirEvents }
+{}
+
+/// Events are packed as the lines that they are.
+pub fn events_are_packed_as_lines()
+    ensures { EventsArePackedAsLines }
 {}

@@ -1,35 +1,34 @@
 //! How a piece of a text is read after so many held CR: by the longest runs that lie in one line, and else octet by octet.
 
-ghost use Rattle.std.specs.Prelude.{◌≡◌, ◌<◌, ◌≤◌, false, [], ◌∷◌, length, slice_index, take, Some, IfErr, IfOk, OnOk, OnErr};
+ghost use Rattle.std.specs.Prelude.{◌≡◌, ◌<◌, ◌≤◌, false, [], ◌∷◌, length, drop, slice_index, take, Some, IfErr, IfOk, OnOk, OnErr};
 ghost use Rattle.wire_story.specs.Texts.{is_line_octet, IsLine};
 ghost use Rattle.wire_story.specs.Delivery.{delivered};
+ghost use Rattle.wire_story.specs.Marking.{AreMarks};
 ghost use Rattle.wire_story.specs.Reading.{GoesOn, Refuses, CountsCause};
 
 use crate::fault::{TextCause, TextFault};
-use crate::line::{CR, LF, may_stand};
+use crate::line::{CR, LF};
+use crate::marks::Marks;
 use crate::sink::StorySink;
 
 /// So many CR may stand before an LF.
 const MAX_RETURNS: u8 = 2;
 
-/// The length of the longest front that lies in one line, after so many held CR.
+/// The length of the longest front that lies in one line, after so many held CR, and the marks behind it.
 #[inline(always)]
-fn run_len(held: u8, octets: &[u8]) -> usize
-    ensures within { result ≤ length octets.now }
-    ensures line { IsLine (take result octets.now) }
-    ensures held { 0 < result → held ≡ 0 }
-    ensures longest { held ≡ 0 → result < length octets.now →
-        is_line_octet (slice_index octets.now result) ≡ false }
+fn run_len(held: u8, marks: Marks, octets: &[u8]) -> (usize, Marks)
+    requires { AreMarks octets.now marks }
+    ensures within { result.0 ≤ length octets.now }
+    ensures line { IsLine (take result.0 octets.now) }
+    ensures held { 0 < result.0 → held ≡ 0 }
+    ensures longest { held ≡ 0 → result.0 < length octets.now →
+        is_line_octet (slice_index octets.now result.0) ≡ false }
+    ensures marks { AreMarks (drop result.0 octets.now) result.1 }
 {
     if held > 0 {
-        return 0;
+        return (0, marks);
     }
-    for (at, octet) in octets.iter().enumerate() {
-        if !may_stand(*octet) {
-            return at;
-        }
-    }
-    octets.len()
+    marks.run_len(octets)
 }
 
 /// Takes an octet that is none of a line, or stands after held CR, and answers how many are held then.
@@ -64,15 +63,50 @@ fn take_mark<S: StorySink>(held: u8, octet: u8, sink: &mut S) -> Result<u8, Text
     Err(TextCause::ControlOctet)
 }
 
+/// Tells a run of a line at the front of the octets that are left, where there is one.
+#[inline(always)]
+fn take_run<S: StorySink>(held: u8, run: usize, rest: &[u8], sink: &mut S) -> Result<(), TextFault>
+    requires within { run ≤ length rest.now }
+    requires line { IsLine (take run rest.now) }
+    requires held { 0 < run → held ≡ 0 }
+    ensures goes_on { OnOk result (GoesOn (Some held) (take run rest.now) (Some held)) }
+    ensures told { OnOk result (S.goes sink.old (delivered (take run rest.now)) sink.new) }
+    ensures calm { OnOk result (S.failures sink.new ≡ S.failures sink.old) }
+    ensures before { IfErr result (λ fault. fault.taken < length rest.now) }
+    ensures refused { IfErr result (Refuses (Some held) rest.now) }
+    ensures told_front { IfErr result (λ fault.
+        S.goes sink.old (delivered (take fault.taken rest.now)) sink.new) }
+    ensures counted { IfErr result (λ fault.
+        CountsCause (S.failures sink.old) (S.failures sink.new) fault.cause) }
+{
+    if run == 0 {
+        return Ok(());
+    }
+    match sink.text(&rest[..run]) {
+        Ok(()) => Ok(()),
+        Err(stop) => Err(TextFault {
+            taken: stop.taken,
+            cause: TextCause::Sink,
+        }),
+    }
+}
+
 /// Takes a front of the octets that are left, the longest that lies in one line, and answers how many CR are held then
 /// and how many octets it took.
 #[inline(always)]
-fn take_front<S: StorySink>(held: u8, rest: &[u8], sink: &mut S) -> Result<(u8, usize), TextFault>
+fn take_front<S: StorySink>(
+    held: u8,
+    rest: &[u8],
+    marks: Marks,
+    sink: &mut S,
+) -> Result<(u8, usize, Marks), TextFault>
     requires few { held ≤ 2 }
     requires some { 0 < length rest.now }
+    requires marks { AreMarks rest.now marks }
     ensures few { IfOk result (λ front. front.0 ≤ 2) }
     ensures some { IfOk result (λ front. 0 < front.1) }
     ensures within { IfOk result (λ front. front.1 ≤ length rest.now) }
+    ensures marks { IfOk result (λ front. AreMarks (drop front.1 rest.now) front.2) }
     ensures goes_on { IfOk result (λ front.
         GoesOn (Some held) (take front.1 rest.now) (Some front.0)) }
     ensures told { IfOk result (λ front.
@@ -85,19 +119,18 @@ fn take_front<S: StorySink>(held: u8, rest: &[u8], sink: &mut S) -> Result<(u8, 
     ensures counted { IfErr result (λ fault.
         CountsCause (S.failures sink.old) (S.failures sink.new) fault.cause) }
 {
-    let run = run_len(held, rest);
-    if run > 0 {
-        return match sink.text(&rest[..run]) {
-            Ok(()) => Ok((0, run)),
-            Err(stop) => Err(TextFault {
-                taken: stop.taken,
-                cause: TextCause::Sink,
-            }),
-        };
-    }
-    match take_mark(held, rest[0], sink) {
-        Ok(now) => Ok((now, 1)),
-        Err(cause) => Err(TextFault { taken: 0, cause }),
+    let (run, here) = run_len(held, marks, rest);
+    match take_run(held, run, rest, sink) {
+        Ok(()) => {
+            if run == rest.len() {
+                return Ok((held, run, here));
+            }
+            match take_mark(held, rest[run], sink) {
+                Ok(now) => Ok((now, run + 1, here.behind(&rest[run..]))),
+                Err(cause) => Err(TextFault { taken: run, cause }),
+            }
+        }
+        Err(fault) => Err(fault),
     }
 }
 
@@ -121,10 +154,12 @@ pub(crate) fn take_piece<S: StorySink>(
 {
     let mut now = held;
     let mut at = 0;
+    let mut marks = Marks::new();
     while at < piece.len() {
-        match take_front(now, &piece[at..], sink) {
-            Ok((next, used)) => {
+        match take_front(now, &piece[at..], marks, sink) {
+            Ok((next, used, behind)) => {
                 now = next;
+                marks = behind;
                 at += used;
             }
             Err(fault) => {

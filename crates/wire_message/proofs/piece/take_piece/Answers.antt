@@ -23,7 +23,7 @@ loop-at-preserved g c =
         m ++ n,
         subst (λ (es : List Event). g.S.StorySink.goes c.args.sink.now es c.take_front.new.sink) (delivered_both m n)
             (g.met.S.StorySink.joined c.args.sink.now c.loop-at.sink c.take_front.new.sink _ _ i.told.1 h.told.1),
-        goes_on_front (Some c.args.place) (Some c.loop-at.now) (Some c.in-Ok.next) piece at k m n i.told.2 h.told.2,
+        goes_on_front (Some c.args.place.now) (Some c.loop-at.place) (Some c.take_front.new.place) piece at k m n i.told.2 h.told.2,
       );
       calm = h.calm ∙ i.calm;
     }
@@ -33,7 +33,7 @@ returns-in-Err-clause-before g c = omega (arith, c.in-Err.ensures.before, length
 
 pub returns-in-Err-clause-refused : goal.returns-in-Err-clause-refused
 returns-in-Err-clause-refused g c =
-    refuses_front (Some c.args.place) (Some c.loop-at.now) c.args.piece.now c.loop-at.at c.in-Err.fault.taken c.loop-at.invariant.told.0 c.in-Err.fault.cause c.loop-at.invariant.told.2 c.in-Err.ensures.refused
+    refuses_front (Some c.args.place.now) (Some c.loop-at.place) c.args.piece.now c.loop-at.at c.in-Err.fault.taken c.loop-at.invariant.told.0 c.in-Err.fault.cause c.loop-at.invariant.told.2 c.in-Err.ensures.refused
 
 pub returns-in-Err-clause-told_front : goal.returns-in-Err-clause-told_front
 returns-in-Err-clause-told_front g c =
@@ -42,7 +42,7 @@ returns-in-Err-clause-told_front g c =
       i.0 ++ h.0,
       subst (λ (es : List Event). g.S.StorySink.goes c.args.sink.now es c.take_front.new.sink) (delivered_both i.0 h.0)
           (g.met.S.StorySink.joined c.args.sink.now c.loop-at.sink c.take_front.new.sink _ _ i.1 h.1),
-      somewhere_front (Some c.args.place) (Some c.loop-at.now) c.args.piece.now c.loop-at.at c.in-Err.fault.taken i.0 h.0 i.2 h.2,
+      somewhere_front (Some c.args.place.now) (Some c.loop-at.place) c.args.piece.now c.loop-at.at c.in-Err.fault.taken i.0 h.0 i.2 h.2,
     )
 
 pub returns-in-Err-clause-counted : goal.returns-in-Err-clause-counted
@@ -51,12 +51,12 @@ returns-in-Err-clause-counted g c =
 
 pub returns-clause-told : goal.returns-clause-told
 returns-clause-told g c =
-    subst (λ (xs : List ℕ). Told g.S.StorySink.goes c.args.sink.now (Some c.args.place) xs (Some c.loop-at.now) c.loop-at.sink) (take_all c.loop-at.at c.args.piece.now (omega arith)) c.loop-at.invariant.told
+    subst (λ (xs : List ℕ). Told g.S.StorySink.goes c.args.sink.now (Some c.args.place.now) xs (Some c.loop-at.place) c.loop-at.sink) (take_all c.loop-at.at c.args.piece.now (omega arith)) c.loop-at.invariant.told
 
 pub loop-at-init : goal.loop-at-init
 loop-at-init g c = record {
   is_place = c.requires;
   within = omega arith;
-  told = ([], g.met.S.StorySink.nothing c.args.sink.now, stays_standing (Some c.args.place) c.args.piece.now);
+  told = ([], g.met.S.StorySink.nothing c.args.sink.now, stays_standing (Some c.args.place.now) c.args.piece.now);
   calm = refl;
 }

@@ -6,9 +6,9 @@ use Rattle.wire_message.proofs.piece.take_piece.Given as goal
 -- the octets so far have led here, and the sink was told what they deliver
 abbrev pub invariant-loop-at : goal.invariant-loop-at
 invariant-loop-at g l = record {
-  is_place : IsPlace l.now;
+  is_place : IsPlace l.place;
   within : l.at ≤ length l.piece;
-  told : Told g.S.StorySink.goes l.initial.sink (Some l.fn.place) (take l.at l.piece) (Some l.now) l.sink;
+  told : Told g.S.StorySink.goes l.initial.sink (Some l.initial.place) (take l.at l.piece) (Some l.place) l.sink;
   calm : g.S.StorySink.failures l.sink ≡ g.S.StorySink.failures l.initial.sink;
 }
 

@@ -3,8 +3,8 @@ use Rattle.wire_message.specs.Canonical.{packed_info}
 use Rattle.wire_message.proofs.Written.{head_joined}
 use Rattle.wire_message.proofs.writing.head_text.Goals as goal
 
-pub returns : goal.returns
-returns c =
+pub returns-clause-octets : goal.returns-clause-octets
+returns-clause-octets c =
     let h = c.args.head.now in
     head_joined h.source h.number h.priority h.category h.words (packed_info h.info) _ _ _ _ _ _ _ _ _ c.new-out.ensures c.append.ensures.items
     (c.append-2.ensures.items ∙ ap (λ (x : List ℕ). c.append.new.out.items ++ x) c.source.ensures.part)

@@ -1,66 +1,60 @@
-use Rattle.std.proofs.Common.{◌≡◌, ℕ, ◌<◌, ◌≤◌, true, false, List, [], ◌∷◌, length, take, Some, slice_index, subst, sym, ap, ◌∙◌, arith, map}
-use Rattle.std.proofs.lemmas.List.{length-take-le, take-take, get_or-take, take_more}
-use Rattle.wire_story.specs.Texts.{IsLine, is_line_octet}
-use Rattle.wire_story.specs.Delivery.{Event, LineOctet}
-use Rattle.wire_story.specs.Reading.{GoesOn, Refuses}
-use Rattle.wire_story.specs.declared.fault.TextCause.TheVariants.{Sink}
-use Rattle.wire_story.proofs.Spans.{Are-take, Are-at}
-use Rattle.wire_story.proofs.Pieces.{goes_on_in_line, refuses_in_line}
-use Rattle.wire_story.proofs.Told.{delivered_line}
+use Rattle.std.proofs.Common.{◌≡◌, ℕ, ◌+◌, ◌<◌, List, [], ◌∷◌, ◌++◌, length, take, drop, Some, slice_index, get_or-drop, append-nil, subst, sym, ap, ◌∙◌, arith}
+use Rattle.std.proofs.lemmas.List.{take_more, take_rest, drop-drop}
+use Rattle.wire_story.specs.Delivery.{Event, delivered}
+use Rattle.wire_story.specs.Marking.{AreMarks}
+use Rattle.wire_story.specs.Reading.{GoesOn, Refuses, HasCause}
+use Rattle.wire_story.proofs.Pieces.{goes_on_front, refuses_front}
+use Rattle.wire_story.proofs.Rests.{rest_of, length-rest}
+use Rattle.wire_story.proofs.Told.{delivered_front}
 use Rattle.wire_story.proofs.step.take_front.Goals as goal
 
-pub returns-in-Ok-clause-goes_on : goal.returns-in-Ok-clause-goes_on
-returns-in-Ok-clause-goes_on g c =
-    let run = take c.run_len-run.result c.args.rest.now in
-    subst (λ (held : ℕ). GoesOn (Some held) run (Some 0)) (sym (c.run_len-run.ensures.held c.if-run-gt0.true)) (goes_on_in_line run c.run_len-run.ensures.line)
+-- the octet behind the run
+first_is : (rest : List ℕ) (run : ℕ) → slice_index (rest_of rest run) 0 ≡ slice_index rest run
+first_is rest run =
+    let none : run + 0 ≡ run = omega arith in
+    ap (λ (r : List ℕ). slice_index r 0) (take_rest rest run) ∙ get_or-drop run rest 0 0 ∙ ap (slice_index rest) none
 
-pub returns-in-Ok-clause-told : goal.returns-in-Ok-clause-told
-returns-in-Ok-clause-told g c =
-    subst (λ (es : List Event). g.S.StorySink.goes c.args.sink.now es c.text.new.self) (sym (delivered_line (take c.run_len-run.result c.args.rest.now) c.run_len-run.ensures.line)) c.in-Ok.ensures.ok
-
--- the front that the sink took of the run, as a front of all
-front_is : (rest : List ℕ) (run taken : ℕ) → run ≤ length rest → taken < length (take run rest) → take taken (take run rest) ≡ take taken rest
-front_is rest run taken within before = take-take taken run rest (omega (arith, before, length-take-le run rest within))
-
-front_line : (rest : List ℕ) (run taken : ℕ) → run ≤ length rest → taken < length (take run rest) → IsLine (take run rest) → IsLine (take taken rest)
-front_line rest run taken within before line = subst IsLine (front_is rest run taken within before) (Are-take is_line_octet taken (take run rest) line)
-
-octet_line : (rest : List ℕ) (run taken : ℕ) → run ≤ length rest → taken < length (take run rest) → IsLine (take run rest) → is_line_octet (slice_index rest taken) ≡ true
-octet_line rest run taken within before line =
-    ap is_line_octet (sym (get_or-take run rest taken 0 (omega (arith, before, length-take-le run rest within)))) ∙ Are-at is_line_octet (take run rest) taken line before
-
-pub returns-in-Err-clause-before : goal.returns-in-Err-clause-before
-returns-in-Err-clause-before g c =
-    omega (arith, c.in-Err.ensures.refused, length-take-le c.run_len-run.result c.args.rest.now c.run_len-run.ensures.within, c.run_len-run.ensures.within)
-
-pub returns-in-Err-clause-refused : goal.returns-in-Err-clause-refused
-returns-in-Err-clause-refused g c =
-    let rest = c.args.rest.now in
-    let run = c.run_len-run.result in
-    let taken = c.in-Err.stop.taken in
-    let l = c.run_len-run.ensures in
-    let before = c.in-Err.ensures.refused in
-    subst (λ (held : ℕ). Refuses (Some held) rest (record { taken = taken; cause = Sink })) (sym (l.held c.if-run-gt0.true))
-    (refuses_in_line rest taken (front_line rest run taken l.within before l.line) (octet_line rest run taken l.within before l.line))
-
-pub returns-in-Err-clause-told_front : goal.returns-in-Err-clause-told_front
-returns-in-Err-clause-told_front g c =
-    let rest = c.args.rest.now in
-    let run = c.run_len-run.result in
-    let taken = c.in-Err.stop.taken in
-    let l = c.run_len-run.ensures in
-    let before = c.in-Err.ensures.refused in
-    subst (λ (es : List Event). g.S.StorySink.goes c.args.sink.now es c.text.new.self)
-    (ap (map LineOctet) (front_is rest run taken l.within before) ∙ sym (delivered_line (take taken rest) (front_line rest run taken l.within before l.line)))
-    c.in-Err.ensures.front
+one_is : (rest : List ℕ) (run : ℕ) → run < length rest → slice_index rest run ∷ [] ≡ take 1 (rest_of rest run)
+one_is rest run within = sym (take_more (rest_of rest run) 0 0 (omega (arith, within, length-rest rest run)) ∙ ap (λ (b : ℕ). b ∷ []) (first_is rest run))
 
 pub take_mark-requires-clause-mark : goal.take_mark-requires-clause-mark
-take_mark-requires-clause-mark g c none =
-    let run : c.run_len-run.result ≡ 0 = omega arith in
-    subst (λ (at : ℕ). is_line_octet (slice_index c.args.rest.now at) ≡ false) run (c.run_len-run.ensures.longest none (omega arith))
+take_mark-requires-clause-mark g c none = c.run_len-run.ensures.longest none (omega arith)
+
+pub returns-in-Ok-take_mark-clause-marks : goal.returns-in-Ok-take_mark-clause-marks
+returns-in-Ok-take_mark-clause-marks g c =
+    let rest = c.args.rest.now in
+    let run = c.run_len-run.result.0 in
+    subst (λ (xs : List ℕ). AreMarks xs c.behind.result) (ap (drop 1) (take_rest rest run) ∙ drop-drop 1 run rest) c.behind.ensures
 
 pub returns-in-Ok-take_mark-clause-goes_on : goal.returns-in-Ok-take_mark-clause-goes_on
 returns-in-Ok-take_mark-clause-goes_on g c =
     let rest = c.args.rest.now in
-    let one : slice_index rest 0 ∷ [] ≡ take 1 rest = sym (take_more rest 0 0 c.requires.some) in
-    subst (λ (xs : List ℕ). GoesOn (Some c.args.held) xs (Some c.in-Ok-take_mark.now)) one c.in-Ok-take_mark.ensures.goes_on
+    let run = c.run_len-run.result.0 in
+    let h = c.args.held in
+    goes_on_front (Some h) (Some h) (Some c.in-Ok-take_mark.now) rest run 1 c.in-Ok.ensures.goes_on
+    (subst (λ (xs : List ℕ). GoesOn (Some h) xs (Some c.in-Ok-take_mark.now)) (one_is rest run (omega arith)) c.in-Ok-take_mark.ensures.goes_on)
+
+pub returns-in-Ok-take_mark-clause-told : goal.returns-in-Ok-take_mark-clause-told
+returns-in-Ok-take_mark-clause-told g c =
+    let rest = c.args.rest.now in
+    let run = c.run_len-run.result.0 in
+    subst (λ (es : List Event). g.S.StorySink.goes c.args.sink.now es c.take_mark.new.sink) (delivered_front rest run 1)
+    (g.met.S.StorySink.joined c.args.sink.now c.take_run.new.sink c.take_mark.new.sink _ _ c.in-Ok.ensures.told
+    (subst (λ (xs : List ℕ). g.S.StorySink.goes c.take_run.new.sink (delivered xs) c.take_mark.new.sink) (one_is rest run (omega arith)) c.in-Ok-take_mark.ensures.told))
+
+pub returns-in-Err-take_mark-clause-refused : goal.returns-in-Err-take_mark-clause-refused
+returns-in-Err-take_mark-clause-refused g c =
+    let rest = c.args.rest.now in
+    let run = c.run_len-run.result.0 in
+    let h = c.args.held in
+    let cause = c.in-Err-take_mark.cause in
+    let none : run + 0 ≡ run = omega arith in
+    subst (λ (n : ℕ). Refuses (Some h) rest (record { taken = n; cause = cause })) none
+    (refuses_front (Some h) (Some h) rest run 0 cause c.in-Ok.ensures.goes_on
+    (λ octets w. subst (HasCause cause (octets ++ [])) (sym (first_is rest run)) (c.in-Err-take_mark.ensures.refused octets w)))
+
+pub returns-in-Err-take_mark-clause-told_front : goal.returns-in-Err-take_mark-clause-told_front
+returns-in-Err-take_mark-clause-told_front g c =
+    let front = delivered (take c.run_len-run.result.0 c.args.rest.now) in
+    subst (λ (es : List Event). g.S.StorySink.goes c.args.sink.now es c.take_mark.new.sink) (append-nil front)
+    (g.met.S.StorySink.joined c.args.sink.now c.take_run.new.sink c.take_mark.new.sink _ _ c.in-Ok.ensures.told c.in-Err-take_mark.ensures.silent)

@@ -1,5 +1,6 @@
-use Rattle.std.proofs.Common.{ℕ, List, Some, subst, ◌∙◌, arith}
-use Rattle.std.proofs.lemmas.List.{take_all}
+use Rattle.std.proofs.Common.{ℕ, List, Some, subst, ◌∙◌, arith, drop, ap}
+use Rattle.wire_story.specs.Marking.{AreMarks}
+use Rattle.std.proofs.lemmas.List.{take_all, take_rest, drop-drop}
 use Rattle.wire_story.specs.Delivery.{Event}
 use Rattle.wire_story.specs.Reading.{GoesOn, CountsCause}
 use Rattle.wire_story.proofs.Rests.{length-rest}
@@ -17,6 +18,7 @@ loop-at-preserved g c =
     record {
       few = h.few;
       within = omega (arith, h.within, length-rest piece at);
+      marks = subst (λ (xs : List ℕ). AreMarks xs c.in-Ok.behind) (ap (drop k) (take_rest piece at) ∙ drop-drop k at piece) h.marks;
       goes_on = goes_on_front (Some c.args.held) (Some c.loop-at.now) (Some c.in-Ok.next) piece at k i.goes_on h.goes_on;
       told =
           subst (λ (es : List Event). g.S.StorySink.goes c.args.sink.now es c.take_front.new.sink) (delivered_front piece at k)

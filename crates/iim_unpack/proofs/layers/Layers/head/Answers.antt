@@ -9,7 +9,7 @@ use Rattle.iim_unpack.proofs.layers.Layers.head.Goals as goal
 
 pub returns-in-Err-clause-fault : goal.returns-in-Err-clause-fault
 returns-in-Err-clause-fault c =
-    λ ds after. rw c.of_field.ensures (field_head c.heads_die_with_their_fault.ensures _ ds c.args.head c.in-Err.fault after.fields.alive (c.in-Err.ensures.fault ds after.fields))
+    λ ds after. rw c.of_field.ensures (field_head c.heads_die_with_their_fault.ensures _ ds c.args.head c.in-Err.fault (omega (arith, c.well_formed)) after.fields.alive (c.in-Err.ensures.fault ds after.fields))
 
 pub returns-in-8-clause-stands : goal.returns-in-8-clause-stands
 returns-in-8-clause-stands c =

@@ -1,0 +1,55 @@
+-- How an object is cut, and in how many ways.
+use Rattle.std.proofs.Common.{◌≡◌, ℕ, ◌≤◌, List, [], ◌∷◌, ◌++◌, length, refl, sym, ap, ◌∙◌, arith, append_assoc, length-append}
+use Rattle.iim_object.specs.Cuts.{joined_parts, AreFull, ObjectsAreCutOneWay}
+
+-- lists of one length that lists begin with are equal, and so is what follows
+pub same_front : (xs ys us vs : List ℕ) → length xs ≡ length ys → xs ++ us ≡ ys ++ vs → (xs ≡ ys) × (us ≡ vs)
+same_front [] [] us vs n e = (refl, e)
+same_front [] (y ∷ ys) us vs n e = absurd (omega (arith, n))
+same_front (x ∷ xs) [] us vs n e = absurd (omega (arith, n))
+same_front (x ∷ xs) (y ∷ ys) us vs n e =
+    let first : x ≡ y = cc in
+    let rest : xs ++ us ≡ ys ++ vs = cc in
+    let more = same_front xs ys us vs (omega (arith, n)) rest in
+    ((λ i. first i ∷ more.0 i), more.1)
+
+no_octet : (xs : List ℕ) → length xs ≡ 0 → xs ≡ []
+no_octet [] e = refl
+no_octet (x ∷ xs) e = absurd (omega (arith, e))
+
+-- a last part after a full one has an octet
+pub some_octet : (size : ℕ) (first last : List ℕ) (full : List (List ℕ)) → 1 ≤ size → length first ≡ size → (last ≡ [] → first ++ (joined_parts full ++ last) ≡ []) → 1 ≤ length last
+some_octet size [] last full one e some = absurd (omega (arith, e, one))
+some_octet size (b ∷ first) [] full one e some = absurd (let bad = some refl in cc)
+some_octet size (b ∷ first) (x ∷ last) full one e some = omega arith
+
+-- What is last cannot be cut where more than one part is.
+pub too_short : (size : ℕ) (last first rest : List ℕ) → length last ≤ size → length first ≡ size → 1 ≤ length rest → last ≡ first ++ rest → ⊥
+too_short size last first rest fits full some e = omega (arith, fits, full, some, length-append first rest, ap length e)
+
+pub at_least : (xs ys : List ℕ) → 1 ≤ length ys → 1 ≤ length (xs ++ ys)
+at_least xs ys h = omega (arith, h, length-append xs ys)
+
+one_way : (size : ℕ) (full others : List (List ℕ)) (last other : List ℕ) → 1 ≤ size → AreFull size full → AreFull size others → length last ≤ size → length other ≤ size
+    → (last ≡ [] → joined_parts full ++ last ≡ []) → (other ≡ [] → joined_parts others ++ other ≡ []) → joined_parts full ++ last ≡ joined_parts others ++ other
+    → full ++ last ∷ [] ≡ others ++ other ∷ []
+one_way size [] [] last other one f g short brief some any e = λ i. e i ∷ []
+one_way size [] (g ∷ gs) last other one full fulls short brief some any e =
+    let whole : last ≡ g ++ (joined_parts gs ++ other) = e ∙ append_assoc g (joined_parts gs) other in
+    let least : 1 ≤ length other = some_octet size g other gs one fulls.0 (λ empty. sym (append_assoc g (joined_parts gs) other) ∙ any empty) in
+    absurd (too_short size last g (joined_parts gs ++ other) short fulls.0 (at_least (joined_parts gs) other least) whole)
+one_way size (f ∷ fs) [] last other one full fulls short brief some any e =
+    let whole : other ≡ f ++ (joined_parts fs ++ last) = sym e ∙ append_assoc f (joined_parts fs) last in
+    let least : 1 ≤ length last = some_octet size f last fs one full.0 (λ empty. sym (append_assoc f (joined_parts fs) last) ∙ some empty) in
+    absurd (too_short size other f (joined_parts fs ++ last) brief full.0 (at_least (joined_parts fs) last least) whole)
+one_way size (f ∷ fs) (g ∷ gs) last other one full fulls short brief some any e =
+    let whole : f ++ (joined_parts fs ++ last) ≡ g ++ (joined_parts gs ++ other) = sym (append_assoc f (joined_parts fs) last) ∙ (e ∙ append_assoc g (joined_parts gs) other) in
+    let parts = same_front f g (joined_parts fs ++ last) (joined_parts gs ++ other) (full.0 ∙ sym fulls.0) whole in
+    let least : 1 ≤ length last = some_octet size f last fs one full.0 (λ empty. sym (append_assoc f (joined_parts fs) last) ∙ some empty) in
+    let most : 1 ≤ length other = some_octet size g other gs one fulls.0 (λ empty. sym (append_assoc g (joined_parts gs) other) ∙ any empty) in
+    let more = one_way size fs gs last other one full.1 fulls.1 short brief (λ empty. absurd (omega (arith, least, ap length empty))) (λ empty. absurd (omega (arith, most, ap length empty))) parts.1 in
+    λ i. parts.0 i ∷ more i
+
+pub cut_one_way : ObjectsAreCutOneWay
+cut_one_way size object parts others one c d =
+    c.parts_are ∙ (one_way size c.full d.full c.last d.last one c.are_full d.are_full c.fits d.fits (λ e. sym c.joined ∙ c.some e) (λ e. sym d.joined ∙ d.some e) (sym c.joined ∙ d.joined) ∙ sym d.parts_are)

@@ -1,0 +1,13 @@
+use Rattle.std.proofs.Common.{◌≤◌, ◌-◌, length, take}
+use Rattle.iim_object.specs.Writing.{Lengthens, HasRoom, writing_of}
+use Rattle.iim_object.proofs.cutter.Cutter.write.Given as goal
+
+abbrev pub invariant-loop-at : goal.invariant-loop-at
+invariant-loop-at g l = record {
+  within : l.at ≤ length l.octets;
+  room : HasRoom l.self;
+  lengthened : Lengthens (g.W.Target.state) (writing_of l.fn.self) (writing_of l.self) (take l.at l.octets);
+}
+
+abbrev pub decreases-loop-at : goal.decreases-loop-at
+decreases-loop-at g l = length l.octets - l.at

@@ -1,0 +1,26 @@
+-- An object cut into subfiles (IIM version 4, the chapter on the ObjectData record).
+use Rattle.std.specs.Prelude.{◌≡◌, ℕ, ◌≤◌, List, [], ◌∷◌, ◌++◌, length, flat_map}
+use Rattle.std.specs.List.{AllByRecursion}
+
+-- parts joined in order
+abbrev pub joined_parts : List (List ℕ) → List ℕ
+joined_parts parts = flat_map (λ part. part) parts
+
+-- Each part has just so many octets.
+abbrev pub AreFull : ℕ → List (List ℕ) → Type 0
+AreFull size parts = AllByRecursion (λ part. length part ≡ size) parts
+
+-- The object is cut into full parts of so many octets, and a last one of 1 up to so many. An empty object is one empty part.
+pub record IsCut (size : ℕ) (object : List ℕ) (parts : List (List ℕ)) : Type 0 where
+  pub full : List (List ℕ)
+  pub last : List ℕ
+  pub are_full : AreFull size full
+  pub fits : length last ≤ size
+  pub some : last ≡ [] → object ≡ []
+  pub joined : object ≡ joined_parts full ++ last
+  pub parts_are : parts ≡ full ++ last ∷ []
+
+-- An object is cut in one way.
+abbrev pub ObjectsAreCutOneWay : Type 0
+ObjectsAreCutOneWay = (size : ℕ) (object : List ℕ) (parts others : List (List ℕ)) → 1 ≤ size → IsCut size object parts → IsCut size object others
+    → parts ≡ others

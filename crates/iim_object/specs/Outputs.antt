@@ -1,0 +1,15 @@
+-- What is written to a target whose octets are counted.
+use Rattle.std.specs.Prelude.{◌≡◌, ℕ, ◌+◌, List, length}
+use Rattle.iim_dataset.specs.Devices.{Device, Wrote, Stopped}
+use Rattle.iim_object.specs.declared.output.Output.{Output}
+
+-- The text is out, and was counted.
+pub record Puts {W : Type 0} (state : W → Device) (old new : Output W) (text : List ℕ) : Type 0 where
+  pub wrote : Wrote (state old.writer) (state new.writer) text
+  pub counted : new.written ≡ old.written + length text
+
+-- A write failed. The octets of the text that are out were counted.
+pub record Cuts {W : Type 0} (state : W → Device) (old new : Output W) (text : List ℕ) : Type 0 where
+  pub out : ℕ
+  pub stopped : Stopped (state old.writer) (state new.writer) text out
+  pub counted : new.written ≡ old.written + out

@@ -1,0 +1,134 @@
+//! A writer of an object in subfiles.
+
+ghost use Rattle.std.specs.Prelude.{◌≡◌, ◌<◌, ◌≤◌, ◌^◌, [], length, IfOk, IfErr, OnOk, OnErr, IfSome, IfNone, Err};
+ghost use Rattle.iim_dataset.specs.Devices.{Wrote, Stopped};
+ghost use Rattle.iim_object.specs.Writing.{StandsAt, Lengthens, BreaksOff, GoesOnWith, IsTheWhole, Finishes, write_cause, finish_cause, plan_octets, total_of, most_of};
+ghost use Rattle.iim_object.specs.declared.cause.PackCause.TheVariants as causes;
+
+use crate::buffer::SubfileBuffer;
+use crate::cause::{PackCause, StartFault};
+use crate::cutter::Cutter;
+use crate::output::Output;
+use crate::plan::Plan;
+use iim_dataset::{Target, texts_join};
+use std::marker::Model;
+
+/// Writes an object by a plan: record 7, subfiles and record 9. It holds the octets of one subfile at most.
+///
+/// What its contracts say holds of every object so far. Contracts see it as its plan, the octets that it holds, how many octets
+/// of the object are out, how many octets are out in all, whether a write failed, and what it writes to.
+#[derive(Drop)]
+pub struct SubfileWriter<W> {
+    cutter: Cutter<W>,
+}
+
+impl<W> Model for SubfileWriter<W> {
+    ghost use Rattle.iim_object.specs.Writing.{Writing, writing_of, HasRoom};
+
+    ghost Value = { Writing W };
+
+    ghost view = { λ w. writing_of w.cutter };
+
+    ghost invariant = { λ w. HasRoom w.cutter };
+}
+
+impl<W: Target> SubfileWriter<W> {
+    /// Writes record 7 of the buffer's plan. The object is empty so far. Where the writer fails it is handed back, with as many
+    /// octets of record 7 out as the fault says.
+    pub fn start(buffer: SubfileBuffer, writer: W) -> Result<SubfileWriter<W>, StartFault<W>>
+        ensures plan { IfOk result (λ w. w.plan ≡ buffer) }
+        ensures stands { IfOk result (λ w. StandsAt w [] (plan_octets buffer)) }
+        ensures wrote { IfOk result (λ w. Wrote (W.state writer) (W.state w.writer) (plan_octets buffer)) }
+        ensures cause { IfErr result (λ fault. fault.cause ≡ causes.Write) }
+        ensures stopped { IfErr result (λ fault. Stopped (W.state writer) (W.state fault.writer) (plan_octets buffer) fault.written) }
+    {
+        let SubfileBuffer { plan, octets } = buffer;
+        let mut output = Output { writer, written: 0 };
+        match output.put_plan(plan) {
+            Ok(()) => {
+                let cutter = Cutter {
+                    plan,
+                    held: octets,
+                    sent: 0,
+                    output,
+                    failed: false,
+                };
+                Ok(SubfileWriter { cutter })
+            }
+            Err(cause) => {
+                let Output { writer, written } = output;
+                Err(StartFault {
+                    cause,
+                    writer,
+                    written,
+                })
+            }
+        }
+    }
+
+    /// Takes octets of the object. A cause is answered where it stands, and then nothing changes: after a failed write, or where
+    /// the object would pass the plan's bound. Else the octets are taken, or a write failed: what is out then begins all that
+    /// the plan's form may be of an object that begins so.
+    pub fn write(&mut self, octets: &[u8]) -> Result<(), PackCause>
+        ensures refused { IfSome (write_cause self.old (length octets.now)) (λ cause. (result ≡ Err cause) × (self.new ≡ self.old)) }
+        ensures ok { OnOk result (Lengthens W.state self.old self.new octets.now) }
+        ensures cause { IfNone (write_cause self.old (length octets.now)) (IfErr result (λ cause. cause ≡ causes.Write)) }
+        ensures broke { IfNone (write_cause self.old (length octets.now))
+            (OnErr result (BreaksOff W.state (GoesOnWith self.old.plan octets.now) self.old self.new)) }
+    {
+        self.cutter.write(octets)
+    }
+
+    /// Writes the last subfile and record 9, and hands back what was written to. A cause is answered where it stands, and then
+    /// the writer is handed back unchanged: after a failed write, or where the object is below a known size. Where a write
+    /// fails, what is out begins the plan's form of the object.
+    pub fn finish(self) -> Result<W, (SubfileWriter<W>, PackCause)>
+        ensures refused { IfSome (finish_cause self) (λ cause. result ≡ Err (self, cause)) }
+        ensures ok { IfOk result (λ writer. Finishes W.state self writer) }
+        ensures cause { IfNone (finish_cause self) (IfErr result (λ refused. refused.1 ≡ causes.Write)) }
+        ensures broke { IfNone (finish_cause self) (IfErr result (λ refused. BreaksOff W.state (IsTheWhole self.plan) self refused.0)) }
+    {
+        let mut cutter = self.cutter;
+        match cutter.finish() {
+            Ok(()) => Ok(cutter.output.writer),
+            Err(cause) => Err((SubfileWriter { cutter }, cause)),
+        }
+    }
+
+    /// How many octets of the object have come.
+    pub fn total(&self) -> u64
+        ensures total { result ≡ total_of self.now }
+        ensures fits { result ≤ most_of self.now.plan }
+    {
+        self.cutter.total()
+    }
+
+    /// Whether a write failed.
+    pub fn is_failed(&self) -> bool
+        ensures { result ≡ self.now.failed }
+    {
+        self.cutter.failed
+    }
+
+    /// The plan.
+    pub fn plan(&self) -> Plan
+        ensures { result ≡ self.now.plan }
+    {
+        self.cutter.plan
+    }
+
+    /// How many octets are out.
+    pub fn written(&self) -> u64
+        ensures count { result ≡ self.now.written }
+        ensures small { result < 2 ^ 40 }
+    {
+        self.cutter.output.written
+    }
+
+    /// What was written to, as it is.
+    pub fn into_writer(self) -> W
+        ensures { result ≡ self.writer }
+    {
+        self.cutter.output.writer
+    }
+}

@@ -1,0 +1,141 @@
+-- What is packed carries the fields, the object and the sizes of the plan.
+use Rattle.std.proofs.Common.{◌≡◌, ℕ, ◌≤◌, ◌&&◌, true, nat_le, IsTrue, List, [], ◌∷◌, ◌++◌, length, Some, None, refl, sym, ap, subst, ◌∙◌, arith, append_assoc, append-nil}
+use Rattle.std.specs.List.{AllByRecursion}
+use Rattle.std.proofs.lemmas.Bool.{and_parts, leb-true}
+use Rattle.iim_dataset.specs.Octets.{IsOctet, Octets}
+use Rattle.iim_dataset.specs.Datasets.{Dataset, SpellsStream, canonical_dataset, canonical_stream, count_octets}
+use Rattle.iim_dataset.specs.Laws.{HasSpellings, CanonicalStreamsAreSpelled}
+use Rattle.iim_tables.specs.Numbers.{greatest_size}
+use Rattle.iim_fields.specs.Records.{IsGoodDataset, IsGoodRecord, AreSections}
+use Rattle.iim_fields.specs.Faults.{kept, joined}
+use Rattle.iim_object.specs.Behind.{of_record}
+use Rattle.iim_object.specs.Records.{HaveSizes}
+use Rattle.iim_object.specs.Plans.{is_plan, fits, limit_of, bound_of}
+use Rattle.iim_object.specs.Cuts.{AreFull, joined_parts}
+use Rattle.iim_object.specs.Packing.{plan_datasets, subfile_datasets, confirmed_datasets, packed_sizes, PackedObjectsHaveSizes}
+use Rattle.iim_object.specs.declared.size.Size.{Size}
+use Rattle.iim_object.specs.declared.size.Size.TheVariants.{Known, Unknown}
+use Rattle.wire_message.specs.Canonical.{canonical}
+use Rattle.iim_pack.specs.Laws.{PackedOctetsCarryTheValue}
+use Rattle.iim_pack.proofs.Octets.{all_append, message_octets}
+use Rattle.iim_pack.proofs.GoodRecords.{good_seven, good_eight, good_nine}
+use Rattle.iim_pack.proofs.Spelling.{record_spelled}
+use Rattle.iim_pack.proofs.Sorting.{AreInOrder, AreOf, all_map, kept_are, sevens_are, eights_are, nines_are, object_joined}
+
+-- ---- plans
+
+record IsPlan (subfile : ℕ) (size : Size) : Type 0 where
+  pub least : 1 ≤ subfile
+  pub most : subfile ≤ greatest_size
+  pub limit : limit_of size ≤ greatest_size
+
+limit_fits : (subfile : ℕ) (size : Size) → fits subfile size ≡ true → limit_of size ≤ greatest_size
+limit_fits subfile (Known n) h = leb-true n greatest_size (and_parts (nat_le n greatest_size) _ h).0
+limit_fits subfile (Unknown (Some m)) h = leb-true m greatest_size h
+limit_fits subfile (Unknown None) h = omega arith
+
+plan_parts : (subfile : ℕ) (size : Size) → IsTrue (is_plan subfile size) → IsPlan subfile size
+plan_parts subfile size h =
+    let outer = and_parts (nat_le 1 subfile && nat_le subfile greatest_size) (fits subfile size) h in
+    let inner = and_parts (nat_le 1 subfile) (nat_le subfile greatest_size) outer.0 in
+    record { least = leb-true 1 subfile inner.0; most = leb-true subfile greatest_size inner.1; limit = limit_fits subfile size outer.1 }
+
+-- ---- parts
+
+all_front : {X : Type 0} (P : X → Type 0) (xs ys : List X) → AllByRecursion P (xs ++ ys) → AllByRecursion P xs
+all_front P [] ys h = tt
+all_front P (x ∷ xs) ys h = (h.0, all_front P xs ys h.1)
+
+all_back : {X : Type 0} (P : X → Type 0) (xs ys : List X) → AllByRecursion P (xs ++ ys) → AllByRecursion P ys
+all_back P [] ys h = h
+all_back P (x ∷ xs) ys h = all_back P xs ys h.1
+
+parts_are : (size : ℕ) (full : List (List ℕ)) (last : List ℕ) → size ≤ greatest_size → AreFull size full → length last ≤ size → Octets (joined_parts full ++ last)
+    → AllByRecursion (λ p. (length p ≤ greatest_size) × Octets p) (full ++ last ∷ [])
+parts_are size [] last most fulls short o = ((omega (arith, most, short), o), tt)
+parts_are size (f ∷ fs) last most fulls short o =
+    let whole : Octets (f ++ (joined_parts fs ++ last)) = subst Octets (append_assoc f (joined_parts fs) last) o in
+    ((omega (arith, fulls.0, most), all_front IsOctet f (joined_parts fs ++ last) whole), parts_are size fs last most fulls.1 short (all_back IsOctet f (joined_parts fs ++ last) whole))
+
+of_good : (rec : ℕ) (ds : List Dataset) → IsGoodRecord rec ds → AreOf rec ds
+of_good rec ds good = all_map (λ (d : Dataset). (d.rec ≡ rec) × IsGoodDataset d) (λ (d : Dataset). d.rec ≡ rec) ds (λ d h. h.0) good.each
+
+stream_append : (xs ys : List Dataset) → canonical_stream (xs ++ ys) ≡ canonical_stream xs ++ canonical_stream ys
+stream_append [] ys = refl
+stream_append (x ∷ xs) ys = ap (λ (t : List ℕ). canonical_dataset x ++ t) (stream_append xs ys) ∙ sym (append_assoc (canonical_dataset x) (canonical_stream xs) (canonical_stream ys))
+
+-- ---- five good records
+
+record AreGood (r1 r2 r7 r8 r9 : List Dataset) : Type 0 where
+  pub one : IsGoodRecord 1 r1
+  pub two : IsGoodRecord 2 r2
+  pub seven : IsGoodRecord 7 r7
+  pub eight : IsGoodRecord 8 r8
+  pub nine : IsGoodRecord 9 r9
+
+in_order : (r1 r2 r7 r8 r9 : List Dataset) → AreGood r1 r2 r7 r8 r9 → AreInOrder r1 r2 r7 r8 r9
+in_order r1 r2 r7 r8 r9 g = record { ones = of_good 1 r1 g.one; twos = of_good 2 r2 g.two; sevens = of_good 7 r7 g.seven; eights = of_good 8 r8 g.eight; nines = of_good 9 r9 g.nine }
+
+sections : (r1 r2 r7 r8 r9 : List Dataset) → AreGood r1 r2 r7 r8 r9 → AreSections ((r1 ++ r2) ++ (r7 ++ (r8 ++ r9)))
+sections r1 r2 r7 r8 r9 g = (
+  r1,
+  r2 ++ (r7 ++ (r8 ++ r9)),
+  append_assoc r1 r2 (r7 ++ (r8 ++ r9)),
+  g.one,
+  (r2, r7 ++ (r8 ++ r9), refl, g.two, (r7, r8 ++ r9, refl, g.seven, (r8, r9, refl, g.eight, (r9, [], sym (append-nil r9), g.nine, refl)))),
+)
+
+pub carried : CanonicalStreamsAreSpelled → PackedObjectsHaveSizes → PackedOctetsCarryTheValue
+carried spell have fields head lines trailer plan octets p =
+    let object = canonical head lines trailer in
+    let is_plan = plan_parts plan.subfile plan.size plan.valid in
+    let fits : length object ≤ bound_of plan.subfile plan.size = p.may.suits.fits in
+    let size : length object ≤ greatest_size = omega (arith, fits, is_plan.limit) in
+    let o : Octets object = message_octets object head p.may.text trailer p.may.message in
+    let cut = p.written.cut in
+    let r1 = p.may.envelope.r1 in
+    let r2 = p.may.envelope.r2 in
+    let r7 = plan_datasets plan.subfile plan.size in
+    let r8 = subfile_datasets p.written.parts in
+    let r9 = confirmed_datasets object in
+    let eight : IsGoodRecord 8 r8 = subst (λ (ps : List (List ℕ)). IsGoodRecord 8 (subfile_datasets ps)) (sym cut.parts_are)
+    (good_eight cut.full cut.last (parts_are plan.subfile cut.full cut.last is_plan.most cut.are_full cut.fits (subst Octets cut.joined o))) in
+    let g : AreGood r1 r2 r7 r8 r9 = record {
+      one = p.may.envelope.envelope;
+      two = p.may.envelope.application;
+      seven = good_seven plan.subfile plan.size is_plan.least is_plan.most is_plan.limit;
+      eight = eight;
+      nine = good_nine object size;
+    } in
+    let order = in_order r1 r2 r7 r8 r9 g in
+    let all : (r1 ++ r2) ++ (r7 ++ (r8 ++ r9)) ≡ fields ++ (r7 ++ (r8 ++ r9)) = ap (λ (t : List Dataset). t ++ (r7 ++ (r8 ++ r9))) (sym p.may.envelope.parts) in
+    let spelled : AllByRecursion HasSpellings ((r1 ++ r2) ++ (r7 ++ (r8 ++ r9))) =
+    all_append HasSpellings (r1 ++ r2) (r7 ++ (r8 ++ r9))
+    (all_append HasSpellings r1 r2 (record_spelled 1 r1 (omega arith) g.one.each) (record_spelled 2 r2 (omega arith) g.two.each))
+    (all_append HasSpellings r7 (r8 ++ r9) (record_spelled 7 r7 (omega arith) g.seven.each)
+    (all_append HasSpellings r8 r9 (record_spelled 8 r8 (omega arith) g.eight.each) (record_spelled 9 r9 (omega arith) g.nine.each))) in
+    let joined_is : joined r8 ≡ object = ap (λ (ps : List (List ℕ)). joined (subfile_datasets ps)) cut.parts_are ∙ (object_joined cut.full cut.last ∙ sym cut.joined) in
+    let whole : octets ≡ canonical_stream (fields ++ (r7 ++ (r8 ++ r9))) = p.octets_are ∙ (ap (λ (t : List ℕ). canonical_stream fields ++ t) p.written.octets_are ∙ sym (stream_append fields (r7 ++ (r8 ++ r9)))) in
+    let Is : List Dataset → Type 0 = λ ds. (SpellsStream count_octets ds (canonical_stream ds)) × AreSections ds × (kept ds ≡ r1 ++ r2) × (joined (of_record 8 ds) ≡ object)
+    × HaveSizes (of_record 7 ds) (of_record 8 ds) (of_record 9 ds) (packed_sizes plan.subfile plan.size object p.written.parts) in
+    let sizes = have plan.subfile plan.size object p.written.parts plan.valid o cut p.may.suits in
+    let s7 = sevens_are r1 r2 r7 r8 r9 order in
+    let s8 = eights_are r1 r2 r7 r8 r9 order in
+    let s9 = nines_are r1 r2 r7 r8 r9 order in
+    let here : Is ((r1 ++ r2) ++ (r7 ++ (r8 ++ r9))) = (
+      spell ((r1 ++ r2) ++ (r7 ++ (r8 ++ r9))) spelled,
+      sections r1 r2 r7 r8 r9 g,
+      kept_are r1 r2 r7 r8 r9 order,
+      ap joined s8 ∙ joined_is,
+      subst (λ (xs : List Dataset). HaveSizes xs (of_record 8 ((r1 ++ r2) ++ (r7 ++ (r8 ++ r9)))) (of_record 9 ((r1 ++ r2) ++ (r7 ++ (r8 ++ r9)))) (packed_sizes plan.subfile plan.size object p.written.parts)) (sym s7)
+          (subst (λ (xs : List Dataset). HaveSizes r7 xs (of_record 9 ((r1 ++ r2) ++ (r7 ++ (r8 ++ r9)))) (packed_sizes plan.subfile plan.size object p.written.parts)) (sym s8)
+          (subst (λ (xs : List Dataset). HaveSizes r7 r8 xs (packed_sizes plan.subfile plan.size object p.written.parts)) (sym s9) sizes)),
+    ) in
+    let there = subst Is all here in
+    record {
+      spelled = subst (SpellsStream count_octets (fields ++ (r7 ++ (r8 ++ r9)))) (sym whole) there.0;
+      sections = there.1;
+      fields_are = there.2 ∙ sym p.may.envelope.parts;
+      object_is = there.3;
+      sizes_are = there.4;
+    }

@@ -1,0 +1,65 @@
+-- How the end of an object is written.
+use Rattle.std.proofs.Common.{◌≡◌, ℕ, ◌+◌, ◌≤◌, false, None, List, [], ◌++◌, length, refl, sym, subst, ◌∙◌, arith, append_assoc, append-nil, length-append}
+use Rattle.std.specs.Prelude.{Result, Ok, Err, IfOk, IfErr}
+use Rattle.std.proofs.lemmas.Bool.{le-leb}
+use Rattle.iim_dataset.specs.Devices.{Device}
+use Rattle.iim_dataset.specs.DeviceLaws.{TextsJoin}
+use Rattle.iim_dataset.proofs.Devices.{appends_appends}
+use Rattle.iim_dataset.proofs.DeviceLaws.{broke_later}
+use Rattle.iim_object.specs.Packing.{IsWritten}
+use Rattle.iim_object.specs.Writing.{Writing, Lengthens, BreaksOff, GoesOnWith, IsTheWhole, Finishes, Begins, most_of, total_of, write_cause, finish_cause, is_short}
+use Rattle.iim_object.specs.declared.plan.Plan.{Plan}
+use Rattle.iim_pack.specs.Ending.{Ends, EndsWithTail}
+
+pub ends : {W : Type 0} (state : W → Device) (old mid : Writing W) (tail : List ℕ) (writer : W) → TextsJoin → Lengthens state old mid tail → Finishes state mid writer → Ends state old tail writer
+ends state old mid tail writer join l f = record {
+  more = l.more ++ f.more;
+  wrote = join.more (state old.writer) (state mid.writer) (state writer) l.more f.more l.wrote f.wrote;
+  whole = λ object out s.
+      subst (λ (p : Plan). IsWritten p.subfile p.size (object ++ tail) (out ++ (l.more ++ f.more))) l.plan
+      (subst (λ (t : List ℕ). IsWritten mid.plan.subfile mid.plan.size (object ++ tail) t) (append_assoc out l.more f.more) (f.whole (object ++ tail) (out ++ l.more) (l.stands object out s)));
+}
+
+-- the tail could not be written
+pub tail_broke : {W : Type 0} (state : W → Device) (old new : Writing W) (tail : List ℕ) → BreaksOff state (GoesOnWith old.plan tail) old new → BreaksOff state (EndsWithTail old.plan tail) old new
+tail_broke state old new tail k = record {
+  more = k.more;
+  appends = k.appends;
+  broke = k.broke;
+  plan = k.plan;
+  failed = k.failed;
+  counted = k.counted;
+  begins = λ object out whole s w. k.begins object out whole s ([], subst (λ (t : List ℕ). IsWritten old.plan.subfile old.plan.size t whole) (sym (append-nil (object ++ tail))) w);
+}
+
+-- what follows could not be written
+pub end_broke : {W : Type 0} (state : W → Device) (old mid new : Writing W) (tail : List ℕ) → Lengthens state old mid tail → BreaksOff state (IsTheWhole mid.plan) mid new → BreaksOff state (EndsWithTail old.plan tail) old new
+end_broke state old mid new tail l k = record {
+  more = l.more ++ k.more;
+  appends = appends_appends (state old.writer).octets (state mid.writer).octets (state new.writer).octets l.more k.more l.wrote.0 k.appends;
+  broke = broke_later (state old.writer) (state mid.writer) (state new.writer) l.wrote.1 k.broke;
+  plan = k.plan ∙ l.plan;
+  failed = k.failed;
+  counted = omega (arith, k.counted, l.counted, length-append l.more k.more);
+  begins = λ object out whole s w.
+      subst (λ (t : List ℕ). Begins t whole) (append_assoc out l.more k.more)
+      (k.begins (object ++ tail) (out ++ l.more) whole (l.stands object out s) (subst (λ (p : Plan). IsWritten p.subfile p.size (object ++ tail) whole) (sym l.plan) w));
+}
+
+pub may_write : {W : Type 0} (w : Writing W) (n : ℕ) → w.failed ≡ false → total_of w + n ≤ most_of w.plan → write_cause w n ≡ None
+may_write w n unfailed fits = rw (unfailed, le-leb (total_of w + n) (most_of w.plan) fits) refl
+
+pub may_finish : {W : Type 0} (state : W → Device) (old mid : Writing W) (tail : List ℕ) → Lengthens state old mid tail → is_short old.plan.size (total_of old + length tail) ≡ false → finish_cause mid ≡ None
+may_finish state old mid tail l whole =
+    let now : is_short mid.plan.size (total_of mid) ≡ false = rw (l.plan, l.total) whole in
+    rw (l.unfailed, now) refl
+
+-- ---- results
+
+pub if_ok : {A E : Type 0} (r : Result A E) (P Q : A → Type 0) → ((a : A) → P a → Q a) → IfOk r P → IfOk r Q
+if_ok (Ok a) P Q f h = f a h
+if_ok (Err e) P Q f h = tt
+
+pub if_err : {A E : Type 0} (r : Result A E) (P Q : E → Type 0) → ((e : E) → P e → Q e) → IfErr r P → IfErr r Q
+if_err (Ok a) P Q f h = tt
+if_err (Err e) P Q f h = f e h

@@ -1,0 +1,86 @@
+-- Records 1 and 2 written one dataset after another.
+use Rattle.std.proofs.Common.{◌≡◌, ℕ, ◌+◌, ◌*◌, ◌^◌, ◌<◌, ◌≤◌, List, [], ◌∷◌, ◌++◌, length, take, refl, sym, ap, subst, ◌∙◌, arith, inl, inr, append_assoc, append-nil, length-append}
+use Rattle.std.specs.List.{AllByRecursion}
+use Rattle.std.proofs.lemmas.List.{take-append-le}
+use Rattle.std.proofs.lemmas.Bool.{lt-ltb, le-ltb, cases_lt}
+use Rattle.std.specs.Io.KnownBytes.{Appends}
+use Rattle.iim_dataset.specs.Devices.{Device, Wrote, Stopped}
+use Rattle.iim_dataset.specs.DeviceLaws.{TextsJoin}
+use Rattle.iim_dataset.specs.Datasets.{Dataset, canonical_count, canonical_dataset, canonical_stream, count_octets}
+use Rattle.iim_fields.specs.Faults.{joined}
+use Rattle.iim_fields.specs.Records.{IsGoodDataset}
+use Rattle.iim_fields.specs.Builders.{IsEnvelope, AreFew}
+use Rattle.iim_pack.proofs.Octets.{all_append}
+use Rattle.iim_pack.proofs.Spelling.{few}
+
+-- a front of a text stopped within it
+pub stopped_more : (a b : Device) (xs ys : List ℕ) (n : ℕ) → Stopped a b xs n → Stopped a b (xs ++ ys) n
+stopped_more a b xs ys n s =
+    let front : take n (xs ++ ys) ≡ take n xs = take-append-le n xs ys (omega (arith, s.0)) in
+    (omega (arith, s.0, length-append xs ys), subst (Appends a.octets b.octets) (sym front) s.1, s.2)
+
+-- ---- how long datasets are
+
+count_length : (n : ℕ) → length (canonical_count n) ≤ 6
+count_length n = elim (cases_lt n 32768) [
+  | inl lt ↦ rw (lt-ltb n 32768 lt) (omega arith)
+  | inr ge ↦ rw (le-ltb n 32768 ge) (omega arith)
+]
+
+dataset_length : (d : Dataset) → length (canonical_dataset d) ≤ 9 + length d.octets
+dataset_length d =
+    let c = count_length (length d.octets) in
+    omega (arith, c, length-append (canonical_count (length d.octets)) d.octets)
+
+pub stream_length : (ds : List Dataset) → length (canonical_stream ds) ≤ 9 * length ds + length (joined ds)
+stream_length [] = omega arith
+stream_length (d ∷ ds) =
+    let more = stream_length ds in
+    let first = dataset_length d in
+    omega (arith, more, first, length-append (canonical_dataset d) (canonical_stream ds), length-append d.octets (joined ds))
+
+pub stream_small : (ds : List Dataset) → AreFew ds → length (canonical_stream ds) < 2 ^ 40
+stream_small ds f = let long = stream_length ds in omega (arith, long, f.datasets, f.octets)
+
+pub stream_append : (xs ys : List Dataset) → canonical_stream (xs ++ ys) ≡ canonical_stream xs ++ canonical_stream ys
+stream_append [] ys = refl
+stream_append (x ∷ xs) ys = ap (λ (t : List ℕ). canonical_dataset x ++ t) (stream_append xs ys) ∙ sym (append_assoc (canonical_dataset x) (canonical_stream xs) (canonical_stream ys))
+
+pub stream_one : (xs : List Dataset) (d : Dataset) → canonical_stream (xs ++ d ∷ []) ≡ canonical_stream xs ++ canonical_dataset d
+stream_one xs d = stream_append xs (d ∷ []) ∙ ap (λ (t : List ℕ). canonical_stream xs ++ t) (append-nil (canonical_dataset d))
+
+-- ---- the datasets of an envelope
+
+all_back : {X : Type 0} (P : X → Type 0) (xs ys : List X) → AllByRecursion P (xs ++ ys) → AllByRecursion P ys
+all_back P [] ys h = h
+all_back P (x ∷ xs) ys h = all_back P xs ys h.1
+
+good_each : (rec : ℕ) (ds : List Dataset) → AllByRecursion (λ d. (d.rec ≡ rec) × IsGoodDataset d) ds → AllByRecursion (λ d. length d.octets < 256 ^ count_octets) ds
+good_each rec [] h = tt
+good_each rec (d ∷ ds) h = (few d h.0.1, good_each rec ds h.1)
+
+pub envelope_few : (ds : List Dataset) → IsEnvelope ds → AllByRecursion (λ d. length d.octets < 256 ^ count_octets) ds
+envelope_few ds e = subst (AllByRecursion (λ d. length d.octets < 256 ^ count_octets)) (sym e.parts) (all_append (λ d. length d.octets < 256 ^ count_octets) e.r1 e.r2 (good_each 1 e.r1 e.envelope.each) (good_each 2 e.r2 e.application.each))
+
+pub next_few : (ds front rest : List Dataset) (d : Dataset) → IsEnvelope ds → ds ≡ front ++ d ∷ rest → length d.octets < 256 ^ count_octets
+next_few ds front rest d e is = (all_back (λ d. length d.octets < 256 ^ count_octets) front (d ∷ rest) (subst (AllByRecursion (λ d. length d.octets < 256 ^ count_octets)) is (envelope_few ds e))).0
+
+parted : (ds front rest : List Dataset) (d : Dataset) → ds ≡ front ++ d ∷ rest → canonical_stream ds ≡ (canonical_stream front ++ canonical_dataset d) ++ canonical_stream rest
+parted ds front rest d e = ap canonical_stream e ∙ (stream_append front (d ∷ rest) ∙ sym (append_assoc (canonical_stream front) (canonical_dataset d) (canonical_stream rest)))
+
+pub front_small : (ds front rest : List Dataset) → AreFew ds → ds ≡ front ++ rest → length (canonical_stream front) < 2 ^ 40
+front_small ds front rest f e =
+    let small = stream_small ds f in
+    omega (arith, small, ap length (ap canonical_stream e ∙ stream_append front rest), length-append (canonical_stream front) (canonical_stream rest))
+
+pub part_small : (ds front rest : List Dataset) (d : Dataset) → AreFew ds → ds ≡ front ++ d ∷ rest → length (canonical_stream front) + length (canonical_dataset d) < 2 ^ 40
+part_small ds front rest d f e =
+    let small = stream_small ds f in
+    omega (arith, small, ap length (parted ds front rest d e), length-append (canonical_stream front ++ canonical_dataset d) (canonical_stream rest), length-append (canonical_stream front) (canonical_dataset d))
+
+pub part_stopped : (a b c : Device) (ds front rest : List Dataset) (d : Dataset) (n : ℕ) → TextsJoin → ds ≡ front ++ d ∷ rest → Wrote a b (canonical_stream front) → Stopped b c (canonical_dataset d) n
+    → Stopped a c (canonical_stream ds) (length (canonical_stream front) + n)
+part_stopped a b c ds front rest d n join e w s =
+    subst (λ (t : List ℕ). Stopped a c t (length (canonical_stream front) + n)) (sym (parted ds front rest d e))
+    (stopped_more a c (canonical_stream front ++ canonical_dataset d) (canonical_stream rest) (length (canonical_stream front) + n)
+    (join.stopped a b c (canonical_stream front) (canonical_dataset d) n w s))

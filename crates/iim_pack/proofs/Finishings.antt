@@ -1,0 +1,115 @@
+-- How a packer finishes, by the writer of its object.
+use Rattle.std.proofs.Common.{◌≡◌, ℕ, ◌+◌, ◌≤◌, Bool, true, false, not, nat_le, cond, Option, Some, None, List, ◌++◌, length, refl, sym, ap, subst, ◌∙◌, arith, append_assoc, length-append}
+use Rattle.std.specs.List.{list_all}
+use Rattle.std.proofs.lemmas.Bool.{and_parts, leb-true, ltb-false}
+use Rattle.iim_dataset.specs.Devices.{Device}
+use Rattle.iim_dataset.specs.Datasets.{canonical_stream}
+use Rattle.iim_object.specs.Plans.{bound_of}
+use Rattle.iim_object.specs.Packing.{IsWritten, IsAsKnown}
+use Rattle.iim_object.specs.Cuts.{joined_parts}
+use Rattle.iim_object.specs.Writing as object
+use Rattle.iim_object.specs.Writing.{Writing, most_of, total_of, is_short, Begins}
+use Rattle.iim_object.specs.declared.plan.Plan.{Plan}
+use Rattle.iim_object.specs.declared.size.Size.{Size}
+use Rattle.iim_object.specs.declared.size.Size.TheVariants.{Known, Unknown}
+use Rattle.wire_story.specs.Texts.{packed_text}
+use Rattle.wire_story.specs.Delivery.{Event}
+use Rattle.wire_story.specs.Packing.{packed_events, lines_of, EventsArePackedAsLines}
+use Rattle.wire_message.specs.Fields.{is_trailer_octet}
+use Rattle.wire_message.specs.Messages.{Header, IsTrailer}
+use Rattle.wire_message.specs.Canonical.{packed_head, packed_tail, canonical}
+use Rattle.wire_message.specs.Laws.{CanonicalObjectsAreMessages}
+use Rattle.iim_pack.specs.Packing.{BreaksOff, EndsIn, Finishes, is_trailer, is_past, ending_cause}
+use Rattle.iim_pack.specs.Ending.{Ends, EndsWithTail}
+use Rattle.iim_pack.proofs.Goings.{begins_behind}
+
+-- ---- causes
+
+pub first_none : {A : Type 0} (b : Bool) (a : A) (o : Option A) → cond b (Some a) o ≡ None → (b ≡ false) × (o ≡ None)
+first_none true a o e = absurd cc
+first_none false a o e = (refl, e)
+
+pub not_false : (b : Bool) → not b ≡ false → b ≡ true
+not_false true e = refl
+not_false false e = absurd cc
+
+pub record MayEnd (plan : Plan) (total : ℕ) (trailer : List ℕ) : Type 0 where
+  pub trailer_is : IsTrailer trailer
+  pub fits : total + length (packed_tail trailer) ≤ most_of plan
+  pub whole : is_short plan.size (total + length (packed_tail trailer)) ≡ false
+
+pub may_end : (plan : Plan) (total : ℕ) (trailer : List ℕ) → ending_cause plan total trailer ≡ None → MayEnd plan total trailer
+may_end plan total trailer e =
+    let a = first_none (not (is_trailer trailer)) _ _ e in
+    let b = first_none (is_past plan total (length (packed_tail trailer))) _ _ a.1 in
+    let d = first_none (is_short plan.size (total + length (packed_tail trailer))) _ _ b.1 in
+    let t = and_parts (list_all is_trailer_octet trailer) (nat_le (length trailer) 64) (not_false (is_trailer trailer) a.0) in
+    record {
+      trailer_is = (t.0, omega arith, leb-true (length trailer) 64 t.1);
+      fits = leb-true (total + length (packed_tail trailer)) (most_of plan) (not_false (nat_le (total + length (packed_tail trailer)) (most_of plan)) b.0);
+      whole = d.0;
+    }
+
+-- ---- objects
+
+as_known : (subfile : ℕ) (size : Size) (object : List ℕ) → length object ≤ bound_of subfile size → is_short size (length object) ≡ false → IsAsKnown size object
+as_known subfile (Known n) object fits whole = let least : n ≤ length object = ltb-false (length object) n whole in omega (arith, fits, least)
+as_known subfile (Unknown m) object fits whole = tt
+
+pub total_is : {W : Type 0} (w : Writing W) (xs out : List ℕ) → object.StandsAt w xs out → length xs ≡ total_of w
+total_is w xs out s = omega (arith, ap length s.object_is, s.sent, length-append (joined_parts s.parts) w.held)
+
+-- the canonical object of the lines of a text is what has come of it, and its end
+pub canonical_is : (head : Header) (events : List Event) (trailer : List ℕ) → packed_text (lines_of events) ≡ packed_events events
+    → canonical head (lines_of events) trailer ≡ (packed_head head ++ packed_events events) ++ packed_tail trailer
+canonical_is head events trailer e =
+    ap (λ (t : List ℕ). packed_head head ++ (t ++ packed_tail trailer)) e ∙ sym (append_assoc (packed_head head) (packed_events events) (packed_tail trailer))
+
+pub finished : {W : Type 0} (state : W → Device) (before : ℕ) (old : Writing W) (trailer : List ℕ) (writer : W) → EventsArePackedAsLines → CanonicalObjectsAreMessages → MayEnd old.plan (total_of old) trailer
+    → Ends state old (packed_tail trailer) writer → Finishes state (record { before = before; object = old }) trailer writer
+finished state before old trailer writer lines messages may ends = record {
+  more = ends.more;
+  wrote = ends.wrote;
+  whole = λ fields head events plan out s.
+      let lined = lines events s.events_are in
+      let message = messages head (lines_of events) trailer s.header lined.make may.trailer_is in
+      let is = canonical_is head events trailer lined.text in
+      let total : length (canonical head (lines_of events) trailer) ≡ total_of old + length (packed_tail trailer) =
+      ap length is ∙ omega (arith, length-append (packed_head head ++ packed_events events) (packed_tail trailer), total_is old (packed_head head ++ packed_events events) s.object_out s.stands) in
+      let fits : length (canonical head (lines_of events) trailer) ≤ most_of plan =
+      subst (λ (p : Plan). length (canonical head (lines_of events) trailer) ≤ most_of p) s.is_plan (subst (λ (n : ℕ). n ≤ most_of old.plan) (sym total) may.fits) in
+      let whole : is_short plan.size (length (canonical head (lines_of events) trailer)) ≡ false =
+      subst (λ (p : Plan). is_short p.size (length (canonical head (lines_of events) trailer)) ≡ false) s.is_plan (subst (λ (n : ℕ). is_short old.plan.size n ≡ false) (sym total) may.whole) in
+      record {
+        may = record {
+          envelope = s.envelope;
+          text = packed_text (lines_of events);
+          message = message.0;
+          lined = message.1;
+          suits = record { fits = fits; exact = as_known plan.subfile plan.size (canonical head (lines_of events) trailer) fits whole };
+        };
+        object = s.object_out ++ ends.more;
+        written = subst (λ (p : Plan). IsWritten p.subfile p.size (canonical head (lines_of events) trailer) (s.object_out ++ ends.more)) s.is_plan
+            (subst (λ (o : List ℕ). IsWritten old.plan.subfile old.plan.size o (s.object_out ++ ends.more)) (sym is) (ends.whole (packed_head head ++ packed_events events) s.object_out s.stands));
+        octets_are = ap (λ (t : List ℕ). t ++ ends.more) s.out_is ∙ append_assoc (canonical_stream fields) s.object_out ends.more;
+      };
+}
+
+pub unfinished : {W : Type 0} (state : W → Device) (before : ℕ) (old new : Writing W) (trailer : List ℕ) → EventsArePackedAsLines → object.BreaksOff state (EndsWithTail old.plan (packed_tail trailer)) old new
+    → BreaksOff state (EndsIn trailer) (record { before = before; object = old }) (record { before = before; object = new })
+unfinished state before old new trailer lines k = record {
+  more = k.more;
+  appends = k.appends;
+  broke = k.broke;
+  failed = k.failed;
+  counted = omega (arith, k.counted);
+  begins = λ fields head events plan out whole s p.
+      let is = canonical_is head events trailer (lines events s.events_are).text in
+      let written : IsWritten old.plan.subfile old.plan.size ((packed_head head ++ packed_events events) ++ packed_tail trailer) p.object =
+      subst (λ (q : Plan). IsWritten q.subfile q.size ((packed_head head ++ packed_events events) ++ packed_tail trailer) p.object) (sym s.is_plan)
+      (subst (λ (o : List ℕ). IsWritten plan.subfile plan.size o p.object) is p.written) in
+      let here = k.begins (packed_head head ++ packed_events events) s.object_out p.object s.stands written in
+      let there : Begins (canonical_stream fields ++ (s.object_out ++ k.more)) (canonical_stream fields ++ p.object) = begins_behind (canonical_stream fields) (s.object_out ++ k.more) p.object here in
+      subst (λ (w : List ℕ). Begins (out ++ k.more) w) (sym p.octets_are)
+      (subst (λ (x : List ℕ). Begins x (canonical_stream fields ++ p.object)) (sym (ap (λ (t : List ℕ). t ++ k.more) s.out_is ∙ append_assoc (canonical_stream fields) s.object_out k.more)) there);
+}

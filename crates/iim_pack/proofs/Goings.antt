@@ -1,0 +1,125 @@
+-- How a packer goes on, breaks off and finishes, by the writer of its object.
+use Rattle.std.proofs.Common.{◌≡◌, ℕ, ◌+◌, ◌≤◌, Bool, true, false, not, nat_le, Option, Some, None, List, [], ◌∷◌, ◌++◌, map, refl, sym, ap, subst, ◌∙◌, arith, append_assoc}
+use Rattle.std.specs.Prelude.{Result, Ok, Err, OnOk, OnErr, IfNone}
+use Rattle.std.proofs.lemmas.Bool.{and_parts, le-leb, leb-true}
+use Rattle.std.specs.List.{list_all}
+use Rattle.iim_dataset.specs.Devices.{Device}
+use Rattle.iim_dataset.specs.Datasets.{canonical_stream}
+use Rattle.iim_object.specs.Packing.{IsWritten}
+use Rattle.iim_object.specs.Writing as object
+use Rattle.iim_object.specs.Writing.{Writing, most_of, total_of, write_cause, Begins}
+use Rattle.iim_object.specs.declared.plan.Plan.{Plan}
+use Rattle.wire_story.specs.Texts.{is_line_octet, IsLine, packed_text}
+use Rattle.wire_story.specs.Delivery.{Event, LineOctet, events_of_lines}
+use Rattle.wire_story.specs.Packing.{packed_event, packed_events, AreEvents, LinesArePackedAsTheirEvents}
+use Rattle.wire_message.specs.Messages.{Header}
+use Rattle.wire_message.specs.Canonical.{packed_head, packed_tail, canonical}
+use Rattle.iim_pack.specs.Packing.{Lengthens, BreaksOff, GoesOnWith}
+use Rattle.iim_pack.proofs.Octets.{all_append}
+
+-- ---- results
+
+pub on_err : {A E : Type 0} (r : Result A E) (P Q : Type 0) → (P → Q) → OnErr r P → OnErr r Q
+on_err (Ok a) P Q f h = tt
+on_err (Err e) P Q f h = f h
+
+pub on_ok : {A E : Type 0} (r : Result A E) (P Q : Type 0) → (P → Q) → OnOk r P → OnOk r Q
+on_ok (Ok a) P Q f h = f h
+on_ok (Err e) P Q f h = tt
+
+pub if_none : {A : Type 0} (o : Option A) (P : Type 0) → P → IfNone o P
+if_none None P p = p
+if_none (Some a) P p = tt
+
+pub of_none : {A : Type 0} (o : Option A) (P : Type 0) → o ≡ None → IfNone o P → P
+of_none None P e h = h
+of_none (Some a) P e h = absurd cc
+
+-- ---- events
+
+pub events_append : (xs ys : List Event) → packed_events (xs ++ ys) ≡ packed_events xs ++ packed_events ys
+events_append [] ys = refl
+events_append (x ∷ xs) ys = ap (λ (t : List ℕ). packed_event x ++ t) (events_append xs ys) ∙ sym (append_assoc (packed_event x) (packed_events xs) (packed_events ys))
+
+pub line_packed : (line : List ℕ) → packed_events (map LineOctet line) ≡ line
+line_packed [] = refl
+line_packed (b ∷ bs) = ap (λ (t : List ℕ). b ∷ t) (line_packed bs)
+
+pub line_events : (line : List ℕ) → IsLine line → AreEvents (map LineOctet line)
+line_events [] h = tt
+line_events (b ∷ bs) h = let parts = and_parts (is_line_octet b) (list_all is_line_octet bs) h in (parts.0, line_events bs parts.1)
+
+-- ---- going on
+
+pub begins_behind : (zs xs ys : List ℕ) → Begins xs ys → Begins (zs ++ xs) (zs ++ ys)
+begins_behind zs xs ys b = (b.0, append_assoc zs xs b.0 ∙ ap (λ (t : List ℕ). zs ++ t) b.1)
+
+pub lengthened : {W : Type 0} (state : W → Device) (before : ℕ) (old new : Writing W) (events : List Event) → AreEvents events → object.Lengthens state old new (packed_events events)
+    → Lengthens state (record { before = before; object = old }) (record { before = before; object = new }) events
+lengthened state before old new events are l = record {
+  more = l.more;
+  wrote = l.wrote;
+  counted = omega (arith, l.counted);
+  total = l.total;
+  unfailed = l.unfailed;
+  plan = l.plan;
+  stands = λ fields head evs plan out s. record {
+    envelope = s.envelope;
+    header = s.header;
+    events_are = all_append _ evs events s.events_are are;
+    is_plan = l.plan ∙ s.is_plan;
+    before = s.before;
+    object_out = s.object_out ++ l.more;
+    stands =
+        let joined : (packed_head head ++ packed_events evs) ++ packed_events events ≡ packed_head head ++ packed_events (evs ++ events) =
+        append_assoc (packed_head head) (packed_events evs) (packed_events events) ∙ ap (λ (t : List ℕ). packed_head head ++ t) (sym (events_append evs events)) in
+        subst (λ (t : List ℕ). object.StandsAt new t (s.object_out ++ l.more)) joined (l.stands (packed_head head ++ packed_events evs) s.object_out s.stands);
+    out_is = ap (λ (t : List ℕ). t ++ l.more) s.out_is ∙ append_assoc (canonical_stream fields) s.object_out l.more;
+  };
+}
+
+-- the canonical object of lines that begin with events
+form_object : (head : Header) (evs events rest : List Event) (lines : List (List ℕ)) (trailer : List ℕ) → LinesArePackedAsTheirEvents → events_of_lines lines ≡ (evs ++ events) ++ rest
+    → canonical head lines trailer ≡ ((packed_head head ++ packed_events evs) ++ packed_events events) ++ (packed_events rest ++ packed_tail trailer)
+form_object head evs events rest lines trailer law e =
+    let h : List ℕ = packed_head head in
+    let a : List ℕ = packed_events evs in
+    let b : List ℕ = packed_events events in
+    let r : List ℕ = packed_events rest in
+    let t : List ℕ = packed_tail trailer in
+    let text : packed_text lines ≡ (a ++ b) ++ r = law lines ∙ (ap packed_events e ∙ (events_append (evs ++ events) rest ∙ ap (λ (x : List ℕ). x ++ r) (events_append evs events))) in
+    ap (λ (x : List ℕ). h ++ (x ++ t)) text
+    ∙ (ap (λ (x : List ℕ). h ++ x) (append_assoc (a ++ b) r t ∙ append_assoc a b (r ++ t))
+    ∙ (sym (append_assoc h a (b ++ (r ++ t))) ∙ sym (append_assoc (h ++ a) b (r ++ t))))
+
+pub broken : {W : Type 0} (state : W → Device) (before : ℕ) (old new : Writing W) (events : List Event) → LinesArePackedAsTheirEvents → object.BreaksOff state (object.GoesOnWith old.plan (packed_events events)) old new
+    → BreaksOff state (GoesOnWith events) (record { before = before; object = old }) (record { before = before; object = new })
+broken state before old new events law k = record {
+  more = k.more;
+  appends = k.appends;
+  broke = k.broke;
+  failed = k.failed;
+  counted = omega (arith, k.counted);
+  begins = λ fields head evs plan out whole s form.
+      let p = form.packed in
+      let is : canonical head form.lines form.trailer ≡ ((packed_head head ++ packed_events evs) ++ packed_events events) ++ (packed_events form.rest ++ packed_tail form.trailer) =
+      form_object head evs events form.rest form.lines form.trailer law form.begins in
+      let written : IsWritten old.plan.subfile old.plan.size (((packed_head head ++ packed_events evs) ++ packed_events events) ++ (packed_events form.rest ++ packed_tail form.trailer)) p.object =
+      subst (λ (q : Plan). IsWritten q.subfile q.size (((packed_head head ++ packed_events evs) ++ packed_events events) ++ (packed_events form.rest ++ packed_tail form.trailer)) p.object) (sym s.is_plan)
+      (subst (λ (o : List ℕ). IsWritten plan.subfile plan.size o p.object) is p.written) in
+      let here = k.begins (packed_head head ++ packed_events evs) s.object_out p.object s.stands (packed_events form.rest ++ packed_tail form.trailer, written) in
+      let there : Begins (canonical_stream fields ++ (s.object_out ++ k.more)) (canonical_stream fields ++ p.object) = begins_behind (canonical_stream fields) (s.object_out ++ k.more) p.object here in
+      subst (λ (w : List ℕ). Begins (out ++ k.more) w) (sym p.octets_are)
+      (subst (λ (x : List ℕ). Begins x (canonical_stream fields ++ p.object)) (sym (ap (λ (t : List ℕ). t ++ k.more) s.out_is ∙ append_assoc (canonical_stream fields) s.object_out k.more)) there);
+}
+
+-- ---- causes
+
+not_false : (b : Bool) → not b ≡ false → b ≡ true
+not_false true e = refl
+not_false false e = absurd cc
+
+pub may_write : {W : Type 0} (w : Writing W) (n ending : ℕ) → w.failed ≡ false → not (nat_le (total_of w + (n + ending)) (most_of w.plan)) ≡ false → write_cause w n ≡ None
+may_write w n ending unfailed fits =
+    let le : total_of w + (n + ending) ≤ most_of w.plan = leb-true (total_of w + (n + ending)) (most_of w.plan) (not_false (nat_le (total_of w + (n + ending)) (most_of w.plan)) fits) in
+    rw (unfailed, le-leb (total_of w + n) (most_of w.plan) (omega (arith, le))) refl

@@ -1,0 +1,13 @@
+pub mod Octets
+pub mod GoodRecords
+pub mod Spelling
+pub mod Sorting
+pub mod Carrying
+pub mod FieldsOut
+pub mod Goings
+pub mod Endings
+pub mod Finishings
+pub mod Openings
+pub mod Startings
+pub mod LinesOut
+pub mod Wholes

@@ -1,0 +1,82 @@
+-- Lines packed one after another.
+use Rattle.std.proofs.Common.{◌≡◌, ℕ, ◌+◌, ◌≤◌, true, false, None, List, [], ◌∷◌, ◌++◌, length, map, refl, sym, ap, subst, ◌∙◌, arith, append_assoc, append-nil, length-append}
+use Rattle.std.proofs.lemmas.Bool.{le-leb}
+use Rattle.iim_dataset.specs.Devices.{Device}
+use Rattle.iim_dataset.specs.DeviceLaws.{TextsJoin}
+use Rattle.iim_dataset.proofs.Devices.{appends_appends}
+use Rattle.iim_dataset.proofs.DeviceLaws.{broke_later}
+use Rattle.iim_object.specs.Writing.{most_of, total_of, Begins}
+use Rattle.wire_story.specs.Texts.{IsLine}
+use Rattle.wire_story.specs.Delivery.{Event, LineOctet, LineEnd, events_of_lines}
+use Rattle.wire_story.specs.Packing.{packed_events}
+use Rattle.iim_pack.specs.Packing.{Packing, StandsAt, Lengthens, BreaksOff, GoesOnWith, FormWith, text_cause, line_end_cause}
+use Rattle.iim_pack.specs.Whole.{events_left}
+use Rattle.iim_pack.proofs.Goings.{events_append}
+
+pub goes_nowhere : {W : Type 0} (state : W → Device) (k : Packing W) → TextsJoin → k.object.failed ≡ false → Lengthens state k k []
+goes_nowhere state k join unfailed = record {
+  more = [];
+  wrote = join.none (state k.object.writer);
+  counted = omega arith;
+  total = omega arith;
+  unfailed = unfailed;
+  plan = refl;
+  stands = λ fields head evs plan out s. subst (λ (e : List Event). StandsAt k fields head e plan (out ++ [])) (sym (append-nil evs)) (subst (StandsAt k fields head evs plan) (sym (append-nil out)) s);
+}
+
+pub goes_on : {W : Type 0} (state : W → Device) (a b c : Packing W) (xs ys : List Event) → TextsJoin → Lengthens state a b xs → Lengthens state b c ys → Lengthens state a c (xs ++ ys)
+goes_on state a b c xs ys join l m = record {
+  more = l.more ++ m.more;
+  wrote = join.more (state a.object.writer) (state b.object.writer) (state c.object.writer) l.more m.more l.wrote m.wrote;
+  counted = omega (arith, l.counted, m.counted, length-append l.more m.more);
+  total = omega (arith, l.total, m.total, ap length (events_append xs ys), length-append (packed_events xs) (packed_events ys));
+  unfailed = m.unfailed;
+  plan = m.plan ∙ l.plan;
+  stands = λ fields head evs plan out s.
+      subst (λ (e : List Event). StandsAt c fields head e plan (out ++ (l.more ++ m.more))) (append_assoc evs xs ys)
+      (subst (StandsAt c fields head ((evs ++ xs) ++ ys) plan) (append_assoc out l.more m.more) (m.stands fields head (evs ++ xs) plan (out ++ l.more) (l.stands fields head evs plan out s)));
+}
+
+pub breaks_later : {W : Type 0} (state : W → Device) (a b c : Packing W) (xs ys : List Event) → Lengthens state a b xs → BreaksOff state (GoesOnWith ys) b c → BreaksOff state (GoesOnWith (xs ++ ys)) a c
+breaks_later state a b c xs ys l k = record {
+  more = l.more ++ k.more;
+  appends = appends_appends (state a.object.writer).octets (state b.object.writer).octets (state c.object.writer).octets l.more k.more l.wrote.0 k.appends;
+  broke = broke_later (state a.object.writer) (state b.object.writer) (state c.object.writer) l.wrote.1 k.broke;
+  failed = k.failed;
+  counted = omega (arith, k.counted, l.counted, length-append l.more k.more);
+  begins = λ fields head evs plan out whole s form.
+      subst (λ (t : List ℕ). Begins t whole) (append_assoc out l.more k.more)
+      (k.begins fields head (evs ++ xs) plan (out ++ l.more) whole (l.stands fields head evs plan out s) (subst (λ (e : List Event). FormWith fields head plan e whole) (sym (append_assoc evs xs ys)) form));
+}
+
+-- what goes on with more events than these goes on with these
+pub breaks_before : {W : Type 0} (state : W → Device) (a c : Packing W) (xs ys : List Event) → BreaksOff state (GoesOnWith xs) a c → BreaksOff state (GoesOnWith (xs ++ ys)) a c
+breaks_before state a c xs ys k = record {
+  more = k.more;
+  appends = k.appends;
+  broke = k.broke;
+  failed = k.failed;
+  counted = k.counted;
+  begins = λ fields head evs plan out whole s form.
+      k.begins fields head evs plan out whole s (record {
+        lines = form.lines;
+        trailer = form.trailer;
+        packed = form.packed;
+        rest = ys ++ form.rest;
+        begins = form.begins ∙ (ap (λ (e : List Event). e ++ form.rest) (sym (append_assoc evs xs ys)) ∙ append_assoc (evs ++ xs) ys form.rest);
+      });
+}
+
+pub may_text : {W : Type 0} (k : Packing W) (line : List ℕ) → IsLine line → k.object.failed ≡ false → total_of k.object + (length line + 2) ≤ most_of k.object.plan → text_cause k line ≡ None
+may_text k line is unfailed fits = rw (unfailed, is, le-leb (total_of k.object + (length line + 2)) (most_of k.object.plan) fits) refl
+
+pub may_end_line : {W : Type 0} (k : Packing W) → k.object.failed ≡ false → total_of k.object + 4 ≤ most_of k.object.plan → line_end_cause k ≡ None
+may_end_line k unfailed fits = rw (unfailed, le-leb (total_of k.object + 4) (most_of k.object.plan) fits) refl
+
+first_left : (line : List ℕ) (lines : List (List ℕ)) → events_of_lines (line ∷ lines) ≡ map LineOctet line ++ events_left false lines
+first_left line [] = sym (append-nil (map LineOctet line))
+first_left line (next ∷ lines) = ap (λ (t : List Event). map LineOctet line ++ (LineEnd ∷ t)) (first_left next lines)
+
+pub all_left : (lines : List (List ℕ)) → events_of_lines lines ≡ events_left true lines
+all_left [] = refl
+all_left (line ∷ lines) = first_left line lines

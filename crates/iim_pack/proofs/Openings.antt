@@ -1,0 +1,83 @@
+-- How an object begins.
+use Rattle.std.proofs.Common.{◌≡◌, ℕ, ◌+◌, ◌<◌, ◌≤◌, Some, None, List, [], ◌++◌, length, take, drop, refl, sym, ap, subst, ◌∙◌, arith, append_assoc, length-append, length-take}
+use Rattle.std.proofs.lemmas.List.{take-append-drop}
+use Rattle.std.proofs.lemmas.Bool.{le-leb}
+use Rattle.std.specs.Io.KnownBytes.{Appends}
+use Rattle.iim_dataset.specs.Devices.{Device, Wrote, Stopped, Broke}
+use Rattle.iim_dataset.specs.DeviceLaws.{TextsJoin}
+use Rattle.iim_dataset.proofs.Devices.{appends_appends}
+use Rattle.iim_dataset.proofs.DeviceLaws.{broke_later}
+use Rattle.iim_dataset.specs.Datasets.{canonical_stream}
+use Rattle.iim_object.specs.Packing.{IsWritten, plan_datasets, subfile_datasets, confirmed_datasets}
+use Rattle.iim_object.specs.Cuts.{joined_parts}
+use Rattle.iim_object.specs.Writing.{Writing, StandsAt, Lengthens, BreaksOff, GoesOnWith, Begins, most_of, total_of, plan_octets, write_cause}
+use Rattle.iim_object.specs.declared.plan.Plan.{Plan}
+use Rattle.iim_object.specs.declared.size.Size.{Size}
+use Rattle.iim_object.specs.declared.size.Size.TheVariants.{Known, Unknown}
+use Rattle.iim_object.specs.declared.cause.StartFault.{StartFault}
+use Rattle.iim_object.specs.declared.cause.PackCause.TheVariants as causes
+use Rattle.iim_pack.specs.Starting.{Opens, Halts, BeginsWith}
+use Rattle.iim_pack.proofs.FieldsOut.{stream_append}
+
+front_length : (n : ℕ) (text : List ℕ) → n < length text → length (take n text) ≡ n
+front_length n text lt = omega (arith, lt, length-take n text)
+
+pub begins_by : (text rest whole : List ℕ) (n : ℕ) → whole ≡ text ++ rest → Begins (take n text) whole
+begins_by text rest whole n e =
+    (drop n text ++ rest, sym (append_assoc (take n text) (drop n text) rest) ∙ (ap (λ (t : List ℕ). t ++ rest) (take-append-drop n text) ∙ sym e))
+
+plan_small_of : (subfile : ℕ) (size : Size) → length (canonical_stream (plan_datasets subfile size)) ≤ 24
+plan_small_of subfile (Known n) = omega arith
+plan_small_of subfile (Unknown (Some m)) = omega arith
+plan_small_of subfile (Unknown None) = omega arith
+
+pub plan_small : (plan : Plan) → length (plan_octets plan) ≤ 24
+plan_small plan = plan_small_of plan.subfile plan.size
+
+-- what is written begins with record 7
+whole_begins : (plan : Plan) (xs whole : List ℕ) → (w : IsWritten plan.subfile plan.size xs whole)
+    → whole ≡ plan_octets plan ++ canonical_stream (subfile_datasets w.parts ++ confirmed_datasets xs)
+whole_begins plan xs whole w = w.octets_are ∙ stream_append (plan_datasets plan.subfile plan.size) (subfile_datasets w.parts ++ confirmed_datasets xs)
+
+-- record 7 could not be written
+pub not_begun : {W : Type 0} (state : W → Device) (writer : W) (plan : Plan) (front : List ℕ) (fault : StartFault W) → fault.cause ≡ causes.Write → Stopped (state writer) (state fault.writer) (plan_octets plan) fault.written
+    → Halts state (BeginsWith plan front) writer fault
+not_begun state writer plan front fault cause s = record {
+  cause_is = cause;
+  out = take fault.written (plan_octets plan);
+  appends = s.1;
+  broke = s.2;
+  counted = sym (front_length fault.written (plan_octets plan) s.0);
+  begins = λ whole w. begins_by (plan_octets plan) (canonical_stream (subfile_datasets w.1.parts ++ confirmed_datasets (front ++ w.0))) whole fault.written (whole_begins plan (front ++ w.0) whole w.1);
+}
+
+pub opened : {W : Type 0} (state : W → Device) (writer : W) (plan : Plan) (front : List ℕ) (first new : Writing W) → TextsJoin → first.plan ≡ plan → StandsAt first [] (plan_octets plan) → Wrote (state writer) (state first.writer) (plan_octets plan)
+    → Lengthens state first new front → Opens state writer plan front new
+opened state writer plan front first new join is_plan s wrote l = record {
+  out = plan_octets plan ++ l.more;
+  wrote = join.more (state writer) (state first.writer) (state new.writer) (plan_octets plan) l.more wrote l.wrote;
+  is_plan = l.plan ∙ is_plan;
+  stands = l.stands [] (plan_octets plan) s;
+  counted = omega (arith, l.counted, s.written, length-append (plan_octets plan) l.more);
+  total = omega (arith, l.total, s.sent, ap length s.object_is, length-append (joined_parts s.parts) first.held);
+}
+
+-- the octets of the beginning could not be written
+pub opening_broke : {W : Type 0} (state : W → Device) (writer : W) (plan : Plan) (front : List ℕ) (first new : Writing W) (fault : StartFault W) → first.plan ≡ plan → StandsAt first [] (plan_octets plan)
+    → Wrote (state writer) (state first.writer) (plan_octets plan) → BreaksOff state (GoesOnWith first.plan front) first new → fault.cause ≡ causes.Write → fault.writer ≡ new.writer → fault.written ≡ new.written
+    → Halts state (BeginsWith plan front) writer fault
+opening_broke state writer plan front first new fault is_plan s wrote k cause handed written = record {
+  cause_is = cause;
+  out = plan_octets plan ++ k.more;
+  appends = subst (λ w. Appends (state writer).octets (state w).octets (plan_octets plan ++ k.more)) (sym handed)
+      (appends_appends (state writer).octets (state first.writer).octets (state new.writer).octets (plan_octets plan) k.more wrote.0 k.appends);
+  broke = subst (λ w. Broke (state writer) (state w)) (sym handed) (broke_later (state writer) (state first.writer) (state new.writer) wrote.1 k.broke);
+  counted = omega (arith, written, k.counted, s.written, length-append (plan_octets plan) k.more);
+  begins = λ whole w. k.begins [] (plan_octets plan) whole s (w.0, subst (λ (p : Plan). IsWritten p.subfile p.size (front ++ w.0) whole) (sym is_plan) w.1);
+}
+
+pub may_open : {W : Type 0} (w : Writing W) (plan : Plan) (front : List ℕ) → w.plan ≡ plan → StandsAt w [] (plan_octets plan) → length front ≤ most_of plan → write_cause w (length front) ≡ None
+may_open w plan front is_plan s fits =
+    let nothing : total_of w ≡ 0 = omega (arith, s.sent, ap length s.object_is, length-append (joined_parts s.parts) w.held) in
+    let le : total_of w + length front ≤ most_of w.plan = subst (λ (p : Plan). total_of w + length front ≤ most_of p) (sym is_plan) (omega (arith, nothing, fits)) in
+    rw (s.unfailed, le-leb (total_of w + length front) (most_of w.plan) le) refl

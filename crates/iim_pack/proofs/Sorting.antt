@@ -1,0 +1,84 @@
+-- Which datasets of a packed form are of which record.
+use Rattle.std.proofs.Common.{◌≡◌, ℕ, Bool, true, false, nat_eq, List, [], ◌∷◌, ◌++◌, refl, sym, ap, ◌∙◌, append_assoc, append-nil}
+use Rattle.std.specs.List.{AllByRecursion, filter}
+use Rattle.std.proofs.lemmas.List.Elements.{filter-append}
+use Rattle.iim_dataset.specs.Datasets.{Dataset}
+use Rattle.iim_fields.specs.Faults.{kept, is_kept, joined}
+use Rattle.iim_object.specs.Behind.{of_record}
+use Rattle.iim_object.specs.Cuts.{joined_parts}
+use Rattle.iim_object.specs.Packing.{subfile_datasets}
+
+-- ---- what passes a test
+
+all_pass : (p : Dataset → Bool) (ds : List Dataset) → AllByRecursion (λ d. p d ≡ true) ds → filter p ds ≡ ds
+all_pass p [] h = refl
+all_pass p (d ∷ ds) h = rw h.0 (ap (λ (xs : List Dataset). d ∷ xs) (all_pass p ds h.1))
+
+none_pass : (p : Dataset → Bool) (ds : List Dataset) → AllByRecursion (λ d. p d ≡ false) ds → filter p ds ≡ []
+none_pass p [] h = refl
+none_pass p (d ∷ ds) h = rw h.0 (none_pass p ds h.1)
+
+pub all_map : {A : Type 0} (P Q : A → Type 0) (xs : List A) → ((x : A) → P x → Q x) → AllByRecursion P xs → AllByRecursion Q xs
+all_map P Q [] f h = tt
+all_map P Q (x ∷ xs) f h = (f x h.0, all_map P Q xs f h.1)
+
+-- each is of the record
+abbrev pub AreOf : ℕ → List Dataset → Type 0
+AreOf rec ds = AllByRecursion (λ d. d.rec ≡ rec) ds
+
+by_record : (p : ℕ → Bool) (rec : ℕ) (b : Bool) (ds : List Dataset) → p rec ≡ b → AreOf rec ds → AllByRecursion (λ d. p d.rec ≡ b) ds
+by_record p rec b ds test h = all_map (λ (d : Dataset). d.rec ≡ rec) (λ (d : Dataset). p d.rec ≡ b) ds (λ d is. ap p is ∙ test) h
+
+-- five records behind one another
+five : (p : ℕ → Bool) (a b x y z : List Dataset)
+    → filter (λ d. p d.rec) ((a ++ b) ++ (x ++ (y ++ z))) ≡ (filter (λ d. p d.rec) a ++ filter (λ d. p d.rec) b) ++ (filter (λ d. p d.rec) x ++ (filter (λ d. p d.rec) y ++ filter (λ d. p d.rec) z))
+five p a b x y z =
+    let q : Dataset → Bool = λ d. p d.rec in
+    filter-append q (a ++ b) (x ++ (y ++ z))
+    ∙ (λ i. filter-append q a b i ++ (filter-append q x (y ++ z) ∙ ap (λ (t : List Dataset). filter q x ++ t) (filter-append q y z)) i)
+
+-- datasets of the records 1, 2, 7, 8 and 9
+pub record AreInOrder (a b x y z : List Dataset) : Type 0 where
+  pub ones : AreOf 1 a
+  pub twos : AreOf 2 b
+  pub sevens : AreOf 7 x
+  pub eights : AreOf 8 y
+  pub nines : AreOf 9 z
+
+none : (p : ℕ → Bool) (rec : ℕ) (ds : List Dataset) → p rec ≡ false → AreOf rec ds → filter (λ d. p d.rec) ds ≡ []
+none p rec ds test h = none_pass (λ d. p d.rec) ds (by_record p rec false ds test h)
+
+all : (p : ℕ → Bool) (rec : ℕ) (ds : List Dataset) → p rec ≡ true → AreOf rec ds → filter (λ d. p d.rec) ds ≡ ds
+all p rec ds test h = all_pass (λ d. p d.rec) ds (by_record p rec true ds test h)
+
+pub kept_are : (a b x y z : List Dataset) → AreInOrder a b x y z → kept ((a ++ b) ++ (x ++ (y ++ z))) ≡ a ++ b
+kept_are a b x y z o =
+    five is_kept a b x y z
+    ∙ ((λ i. (all is_kept 1 a refl o.ones i ++ all is_kept 2 b refl o.twos i) ++ (none is_kept 7 x refl o.sevens i ++ (none is_kept 8 y refl o.eights i ++ none is_kept 9 z refl o.nines i)))
+    ∙ append-nil (a ++ b))
+
+pub sevens_are : (a b x y z : List Dataset) → AreInOrder a b x y z → of_record 7 ((a ++ b) ++ (x ++ (y ++ z))) ≡ x
+sevens_are a b x y z o =
+    let p : ℕ → Bool = λ r. nat_eq r 7 in
+    five p a b x y z
+    ∙ ((λ i. (none p 1 a refl o.ones i ++ none p 2 b refl o.twos i) ++ (all p 7 x refl o.sevens i ++ (none p 8 y refl o.eights i ++ none p 9 z refl o.nines i)))
+    ∙ append-nil x)
+
+pub eights_are : (a b x y z : List Dataset) → AreInOrder a b x y z → of_record 8 ((a ++ b) ++ (x ++ (y ++ z))) ≡ y
+eights_are a b x y z o =
+    let p : ℕ → Bool = λ r. nat_eq r 8 in
+    five p a b x y z
+    ∙ ((λ i. (none p 1 a refl o.ones i ++ none p 2 b refl o.twos i) ++ (none p 7 x refl o.sevens i ++ (all p 8 y refl o.eights i ++ none p 9 z refl o.nines i)))
+    ∙ append-nil y)
+
+pub nines_are : (a b x y z : List Dataset) → AreInOrder a b x y z → of_record 9 ((a ++ b) ++ (x ++ (y ++ z))) ≡ z
+nines_are a b x y z o =
+    let p : ℕ → Bool = λ r. nat_eq r 9 in
+    five p a b x y z
+    ∙ (λ i. (none p 1 a refl o.ones i ++ none p 2 b refl o.twos i) ++ (none p 7 x refl o.sevens i ++ (none p 8 y refl o.eights i ++ all p 9 z refl o.nines i)))
+
+-- ---- the data of the subfiles
+
+pub object_joined : (full : List (List ℕ)) (last : List ℕ) → joined (subfile_datasets (full ++ last ∷ [])) ≡ joined_parts full ++ last
+object_joined [] last = append-nil last
+object_joined (f ∷ fs) last = ap (λ (t : List ℕ). f ++ t) (object_joined fs last) ∙ sym (append_assoc f (joined_parts fs) last)

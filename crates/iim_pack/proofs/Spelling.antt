@@ -1,0 +1,57 @@
+-- Good datasets have spellings: no row allows more octets than a count can tell.
+use Rattle.std.proofs.Common.{◌≡◌, ℕ, ◌<◌, ◌≤◌, ◌^◌, true, ◌&&◌, ◌||◌, nat_eq, nat_le, List, [], ◌∷◌, length, Option, Some, None, IfSome, IsSomeAnd, refl, arith}
+use Rattle.std.specs.List.{AllByRecursion, list_all, find}
+use Rattle.std.specs.Option.{option_map, option_or}
+use Rattle.std.proofs.lemmas.Bool.{and_parts, leb-true, cond_both}
+use Rattle.iim_dataset.specs.Octets.{IsOctet}
+use Rattle.iim_dataset.specs.Datasets.{Dataset, count_octets}
+use Rattle.iim_dataset.specs.Laws.{HasSpellings}
+use Rattle.iim_tables.specs.Octets.{within}
+use Rattle.iim_tables.specs.Numbers.{greatest_size}
+use Rattle.iim_tables.specs.Rows.{table, row_of, row_in, row_of_others, is_admitted}
+use Rattle.iim_tables.specs.declared.shape.Row.{Row}
+use Rattle.iim_fields.specs.Records.{IsGoodDataset}
+
+abbrev IsBounded : Option Row → Type 0
+IsBounded o = IfSome o (λ r. r.max ≤ greatest_size)
+
+-- by lines, whatever a line is
+in_lines : {E : Type 0} (rec_of set_of : E → ℕ) (row_at : E → Row) (es : List E) (rec set : ℕ) → list_all (λ e. nat_le (row_at e).max greatest_size) es ≡ true
+    → IsBounded (option_map row_at (find (λ e. nat_eq (rec_of e) rec && nat_eq (set_of e) set) es))
+in_lines rec_of set_of row_at [] rec set h = tt
+in_lines rec_of set_of row_at (e ∷ es) rec set h =
+    let p = and_parts (nat_le (row_at e).max greatest_size) (list_all (λ x. nat_le (row_at x).max greatest_size) es) h in
+    cond_both (nat_eq (rec_of e) rec && nat_eq (set_of e) set) (Some e) (find (λ x. nat_eq (rec_of x) rec && nat_eq (set_of x) set) es) (λ o. IsBounded (option_map row_at o))
+    (λ t. leb-true (row_at e).max greatest_size p.0) (λ f. in_lines rec_of set_of row_at es rec set p.1)
+
+lines_bounded : list_all (λ e. nat_le e.row.max greatest_size) table ≡ true
+unfolding table
+lines_bounded = refl
+
+others_bounded : (rec : ℕ) → IsBounded (row_of_others rec)
+others_bounded rec = cond_both (nat_eq rec 1 || nat_eq rec 2) (Some _) None IsBounded (λ t. omega arith) (λ f. tt)
+
+either : (a b : Option Row) → IsBounded a → IsBounded b → IsBounded (option_or a b)
+either None b h k = k
+either (Some r) b h k = h
+
+row_bounded : (rec set : ℕ) → IsBounded (row_of rec set)
+unfolding row_of
+row_bounded rec set = either (row_in table rec set) (row_of_others rec) (in_lines (λ e. e.rec) (λ e. e.set) (λ e. e.row) table rec set lines_bounded) (others_bounded rec)
+
+within_row : (o : Option Row) (xs : List ℕ) → IsBounded o → IsSomeAnd o (λ r. is_admitted r xs ≡ true) → length xs ≤ greatest_size
+within_row None xs h m = absurd m
+within_row (Some r) xs h m =
+    let bounds = (and_parts (within r.min r.max (length xs)) _ m).0 in
+    let le : length xs ≤ r.max = leb-true (length xs) r.max (and_parts (nat_le r.min (length xs)) (nat_le (length xs) r.max) bounds).1 in
+    omega (arith, h, le)
+
+pub few : (d : Dataset) → IsGoodDataset d → length d.octets < 256 ^ count_octets
+few d good = let le = within_row (row_of d.rec d.set) d.octets (row_bounded d.rec d.set) good.meets in omega (arith, le)
+
+pub has_spellings : (d : Dataset) → IsOctet d.rec → IsGoodDataset d → HasSpellings d
+has_spellings d r good = record { rec = r; set = good.numbered; octets = good.octets; few = few d good }
+
+pub record_spelled : (rec : ℕ) (ds : List Dataset) → rec < 256 → AllByRecursion (λ d. (d.rec ≡ rec) × IsGoodDataset d) ds → AllByRecursion HasSpellings ds
+record_spelled rec [] r h = tt
+record_spelled rec (d ∷ ds) r h = (has_spellings d (omega (arith, h.0.0, r)) h.0.1, record_spelled rec ds r h.1)

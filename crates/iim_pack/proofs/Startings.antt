@@ -1,0 +1,69 @@
+-- How a packer begins.
+use Rattle.std.proofs.Common.{◌≡◌, ℕ, ◌+◌, List, [], ◌++◌, length, take, refl, sym, subst, ◌∙◌, arith, append-nil, length-append, length-take}
+use Rattle.iim_dataset.specs.Devices.{Device, Wrote, Stopped, Broke}
+use Rattle.std.specs.Io.KnownBytes.{Appends}
+use Rattle.iim_dataset.specs.DeviceLaws.{TextsJoin}
+use Rattle.iim_dataset.proofs.Devices.{appends_appends}
+use Rattle.iim_dataset.proofs.DeviceLaws.{broke_later}
+use Rattle.iim_dataset.specs.Datasets.{Dataset, canonical_stream}
+use Rattle.iim_fields.specs.Builders.{IsEnvelope}
+use Rattle.iim_object.specs.Writing as object
+use Rattle.iim_object.specs.Writing.{Writing, Begins}
+use Rattle.iim_object.specs.declared.plan.Plan.{Plan}
+use Rattle.iim_object.specs.declared.cause.StartFault.{StartFault}
+use Rattle.iim_object.specs.declared.cause.PackCause.TheVariants as causes
+use Rattle.wire_story.specs.Texts.{packed_text}
+use Rattle.wire_message.specs.Messages.{Header, IsHeader}
+use Rattle.wire_message.specs.Canonical.{packed_head, packed_tail}
+use Rattle.iim_pack.specs.Packing.{FormWith}
+use Rattle.iim_pack.specs.Starting.{Opens, Halts, BeginsWith, Starts}
+use Rattle.iim_pack.proofs.Goings.{begins_behind}
+use Rattle.iim_pack.proofs.Openings.{begins_by}
+
+-- records 1 and 2 could not be written
+pub fields_broke : {W : Type 0} (state : W → Device) (writer : W) (fields : List Dataset) (head : Header) (plan : Plan) (fault : StartFault W) → fault.cause ≡ causes.Write
+    → Stopped (state writer) (state fault.writer) (canonical_stream fields) fault.written → Halts state (FormWith fields head plan []) writer fault
+fields_broke state writer fields head plan fault cause s = record {
+  cause_is = cause;
+  out = take fault.written (canonical_stream fields);
+  appends = s.1;
+  broke = s.2;
+  counted = omega (arith, s.0, length-take fault.written (canonical_stream fields));
+  begins = λ whole form. begins_by (canonical_stream fields) form.packed.object whole fault.written form.packed.octets_are;
+}
+
+-- the object could not be begun behind them
+pub object_broke : {W : Type 0} (state : W → Device) (writer first : W) (fields : List Dataset) (head : Header) (plan : Plan) (before : ℕ) (fault new : StartFault W) → Wrote (state writer) (state first) (canonical_stream fields)
+    → before ≡ length (canonical_stream fields) → Halts state (BeginsWith plan (packed_head head)) first fault → new.cause ≡ fault.cause → new.writer ≡ fault.writer → new.written ≡ before + fault.written
+    → Halts state (FormWith fields head plan []) writer new
+object_broke state writer first fields head plan before fault new wrote counted h cause handed written = record {
+  cause_is = cause ∙ h.cause_is;
+  out = canonical_stream fields ++ h.out;
+  appends = subst (λ w. Appends (state writer).octets (state w).octets (canonical_stream fields ++ h.out)) (sym handed)
+      (appends_appends (state writer).octets (state first).octets (state fault.writer).octets (canonical_stream fields) h.out wrote.0 h.appends);
+  broke = subst (λ w. Broke (state writer) (state w)) (sym handed) (broke_later (state writer) (state first) (state fault.writer) wrote.1 h.broke);
+  counted = omega (arith, written, counted, h.counted, length-append (canonical_stream fields) h.out);
+  begins = λ whole form.
+      subst (λ (w : List ℕ). Begins (canonical_stream fields ++ h.out) w) (sym form.packed.octets_are)
+      (begins_behind (canonical_stream fields) h.out form.packed.object (h.begins form.packed.object (packed_text form.lines ++ packed_tail form.trailer, form.packed.written)));
+}
+
+pub started : {W : Type 0} (state : W → Device) (writer first : W) (fields : List Dataset) (head : Header) (plan : Plan) (before : ℕ) (new : Writing W) → TextsJoin → IsEnvelope fields → IsHeader head
+    → Wrote (state writer) (state first) (canonical_stream fields) → before ≡ length (canonical_stream fields) → Opens state first plan (packed_head head) new
+    → Starts state writer fields head plan (record { before = before; object = new })
+started state writer first fields head plan before new join envelope header wrote counted o = record {
+  out = canonical_stream fields ++ o.out;
+  wrote = join.more (state writer) (state first) (state new.writer) (canonical_stream fields) o.out wrote o.wrote;
+  counted = omega (arith, counted, o.counted, length-append (canonical_stream fields) o.out);
+  total = o.total;
+  stands = record {
+    envelope = envelope;
+    header = header;
+    events_are = tt;
+    is_plan = o.is_plan;
+    before = counted;
+    object_out = o.out;
+    stands = subst (λ (t : List ℕ). object.StandsAt new t o.out) (sym (append-nil (packed_head head))) o.stands;
+    out_is = refl;
+  };
+}

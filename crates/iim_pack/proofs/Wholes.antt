@@ -1,0 +1,132 @@
+-- A whole envelope packed in one call.
+use Rattle.std.proofs.Common.{◌≡◌, ℕ, ◌+◌, ◌≤◌, true, false, not, nat_le, None, inl, inr, List, [], ◌∷◌, ◌++◌, length, refl, sym, ap, subst, ◌∙◌, arith, append-nil, length-append}
+use Rattle.std.proofs.lemmas.Bool.{leb-true, le-leb}
+use Rattle.std.specs.Io.KnownBytes.{Appends}
+use Rattle.iim_dataset.specs.Devices.{Device, Broke}
+use Rattle.iim_dataset.specs.DeviceLaws.{TextsJoin}
+use Rattle.iim_dataset.proofs.Devices.{appends_appends}
+use Rattle.iim_dataset.proofs.DeviceLaws.{broke_later}
+use Rattle.iim_dataset.specs.Datasets.{Dataset}
+use Rattle.iim_object.specs.Writing.{Begins, most_of, total_of, is_short}
+use Rattle.iim_object.specs.declared.plan.Plan.{Plan}
+use Rattle.iim_object.specs.declared.cause.StartFault.{StartFault}
+use Rattle.iim_object.specs.declared.cause.PackCause.TheVariants as causes
+use Rattle.wire_story.specs.Texts.{packed_text, MakeText}
+use Rattle.wire_story.specs.Delivery.{Event, events_of_lines}
+use Rattle.wire_story.specs.Collecting.{collect}
+use Rattle.wire_story.specs.Laws.{PackedLinesAreAText, TextsAreDeliveredAsLines, TextsAreCollectedAsLines}
+use Rattle.wire_story.specs.Packing.{packed_events, lines_of, LinesArePackedAsTheirEvents}
+use Rattle.wire_message.specs.Messages.{Header}
+use Rattle.wire_message.specs.Canonical.{packed_head, packed_tail, canonical}
+use Rattle.iim_pack.specs.Packed.{Packed}
+use Rattle.iim_pack.specs.Packing.{Packing, Lengthens, BreaksOff, GoesOnWith, EndsIn, Finishes, is_trailer, is_past, pack_cause, start_cause, finish_cause, least_ending, written_of}
+use Rattle.iim_pack.specs.Starting.{Starts, Halts, IsStartFault}
+use Rattle.iim_pack.specs.Whole.{Packs, IsPackFault}
+use Rattle.iim_pack.proofs.Finishings.{first_none, not_false}
+
+-- the lines of the events of lines are these
+pub lines_again : PackedLinesAreAText → TextsAreDeliveredAsLines → TextsAreCollectedAsLines → (lines : List (List ℕ)) → MakeText lines → lines_of (events_of_lines lines) ≡ lines
+lines_again packs delivers collects lines made =
+    let t = packs lines made in
+    ap (λ (e : List Event). collect ([] ∷ []) e) (sym (delivers (packed_text lines) lines t)) ∙ collects (packed_text lines) lines t
+
+pub packs : {W : Type 0} (state : W → Device) (writer last : W) (fields : List Dataset) (head : Header) (lines : List (List ℕ)) (trailer : List ℕ) (plan : Plan) (a b : Packing W) → TextsJoin → lines_of (events_of_lines lines) ≡ lines
+    → Starts state writer fields head plan a → Lengthens state a b (events_of_lines lines) → Finishes state b trailer last → Packs state writer fields head lines trailer plan last
+packs state writer last fields head lines trailer plan a b join again s l f = record {
+  out = (s.out ++ l.more) ++ f.more;
+  wrote = join.more (state writer) (state b.object.writer) (state last) (s.out ++ l.more) f.more (join.more (state writer) (state a.object.writer) (state b.object.writer) s.out l.more s.wrote l.wrote) f.wrote;
+  packed = subst (λ (ls : List (List ℕ)). Packed fields head ls trailer plan ((s.out ++ l.more) ++ f.more)) again
+      (f.whole fields head (events_of_lines lines) plan (s.out ++ l.more) (l.stands fields head [] plan s.out s.stands));
+}
+
+-- a write failed behind a beginning
+pub halts_behind : {W : Type 0} (state : W → Device) (Form : List ℕ → Type 0) (writer middle : W) (fault : StartFault W) (out more : List ℕ) (before : ℕ) → Appends (state writer).octets (state middle).octets out
+    → Broke (state writer) (state fault.writer) → Appends (state middle).octets (state fault.writer).octets more → fault.cause ≡ causes.Write → fault.written ≡ before + length more → before ≡ length out
+    → ((whole : List ℕ) → Form whole → Begins (out ++ more) whole) → Halts state Form writer fault
+halts_behind state Form writer middle fault out more before wrote broke appends cause written counted begins = record {
+  cause_is = cause;
+  out = out ++ more;
+  appends = appends_appends (state writer).octets (state middle).octets (state fault.writer).octets out more wrote appends;
+  broke = broke;
+  counted = omega (arith, written, counted, length-append out more);
+  begins = begins;
+}
+
+pub lines_broke : {W : Type 0} (state : W → Device) (writer : W) (fields : List Dataset) (head : Header) (lines : List (List ℕ)) (trailer : List ℕ) (plan : Plan) (a b : Packing W) (fault : StartFault W)
+    → Starts state writer fields head plan a → BreaksOff state (GoesOnWith (events_of_lines lines)) a b → fault.cause ≡ causes.Write → fault.writer ≡ b.object.writer → fault.written ≡ written_of b
+    → Halts state (Packed fields head lines trailer plan) writer fault
+lines_broke state writer fields head lines trailer plan a b fault s k cause handed written =
+    halts_behind state (Packed fields head lines trailer plan) writer a.object.writer fault s.out k.more (written_of a) s.wrote.0
+    (subst (λ w. Broke (state writer) (state w)) (sym handed) (broke_later (state writer) (state a.object.writer) (state b.object.writer) s.wrote.1 k.broke))
+    (subst (λ w. Appends (state a.object.writer).octets (state w).octets k.more) (sym handed) k.appends) cause (written ∙ k.counted) s.counted
+    (λ whole p. k.begins fields head [] plan s.out whole s.stands (record { lines = lines; trailer = trailer; packed = p; rest = []; begins = sym (append-nil (events_of_lines lines)) }))
+
+pub finish_broke : {W : Type 0} (state : W → Device) (writer : W) (fields : List Dataset) (head : Header) (lines : List (List ℕ)) (trailer : List ℕ) (plan : Plan) (a b d : Packing W) (fault : StartFault W) → TextsJoin → lines_of (events_of_lines lines) ≡ lines
+    → Starts state writer fields head plan a → Lengthens state a b (events_of_lines lines) → BreaksOff state (EndsIn trailer) b d → fault.cause ≡ causes.Write → fault.writer ≡ d.object.writer → fault.written ≡ written_of d
+    → Halts state (Packed fields head lines trailer plan) writer fault
+finish_broke state writer fields head lines trailer plan a b d fault join again s l k cause handed written =
+    let wrote = join.more (state writer) (state a.object.writer) (state b.object.writer) s.out l.more s.wrote l.wrote in
+    halts_behind state (Packed fields head lines trailer plan) writer b.object.writer fault (s.out ++ l.more) k.more (written_of b) wrote.0
+    (subst (λ w. Broke (state writer) (state w)) (sym handed) (broke_later (state writer) (state b.object.writer) (state d.object.writer) wrote.1 k.broke))
+    (subst (λ w. Appends (state b.object.writer).octets (state w).octets k.more) (sym handed) k.appends) cause (written ∙ k.counted) (omega (arith, l.counted, s.counted, length-append s.out l.more))
+    (λ whole p. k.begins fields head (events_of_lines lines) plan (s.out ++ l.more) whole (l.stands fields head [] plan s.out s.stands)
+    (subst (λ (ls : List (List ℕ)). Packed fields head ls trailer plan whole) (sym again) p))
+
+-- where the packer did not begin
+pub not_started : {W : Type 0} (state : W → Device) (writer : W) (fields : List Dataset) (head : Header) (lines : List (List ℕ)) (trailer : List ℕ) (plan : Plan) (fault : StartFault W) → IsStartFault state fields head plan writer fault
+    → IsPackFault state fields head lines trailer plan writer fault
+not_started state writer fields head lines trailer plan fault (inl m) = inl m
+not_started state writer fields head lines trailer plan fault (inr h) = inr (record {
+  cause_is = h.cause_is;
+  out = h.out;
+  appends = h.appends;
+  broke = h.broke;
+  counted = h.counted;
+  begins = λ whole p. h.begins whole (record { lines = lines; trailer = trailer; packed = p; rest = events_of_lines lines; begins = refl });
+})
+
+-- ---- causes
+
+pub record MayPack (head : Header) (lines : List (List ℕ)) (trailer : List ℕ) (plan : Plan) : Type 0 where
+  pub trailer_is : is_trailer trailer ≡ true
+  pub fits : length (canonical head lines trailer) ≤ most_of plan
+  pub whole : is_short plan.size (length (canonical head lines trailer)) ≡ false
+  pub parts : length (canonical head lines trailer) ≡ length (packed_head head) + (length (packed_events (events_of_lines lines)) + length (packed_tail trailer))
+
+pub may_pack : LinesArePackedAsTheirEvents → (head : Header) (lines : List (List ℕ)) (trailer : List ℕ) (plan : Plan) → pack_cause head lines trailer plan ≡ None → MayPack head lines trailer plan
+may_pack law head lines trailer plan e =
+    let size : ℕ = length (canonical head lines trailer) in
+    let a = first_none (not (is_trailer trailer)) _ _ e in
+    let b = first_none (is_past plan 0 size) _ _ a.1 in
+    let d = first_none (is_short plan.size size) _ _ b.1 in
+    let le : 0 + size ≤ most_of plan = leb-true (0 + size) (most_of plan) (not_false (nat_le (0 + size) (most_of plan)) b.0) in
+    record {
+      trailer_is = not_false (is_trailer trailer) a.0;
+      fits = omega (arith, le);
+      whole = d.0;
+      parts = omega (arith, length-append (packed_head head) (packed_text lines ++ packed_tail trailer), length-append (packed_text lines) (packed_tail trailer), ap length (law lines));
+    }
+
+tail_some : (trailer : List ℕ) → 2 ≤ length (packed_tail trailer)
+tail_some trailer = omega (arith, length-append trailer (4 ∷ []))
+
+pub may_start : (head : Header) (lines : List (List ℕ)) (trailer : List ℕ) (plan : Plan) → MayPack head lines trailer plan → start_cause head plan ≡ None
+may_start head lines trailer plan m =
+    let some = tail_some trailer in
+    rw (le-leb (length (packed_head head) + least_ending) (most_of plan) (omega (arith, some, m.fits, m.parts))) refl
+
+pub lines_fit : {W : Type 0} (state : W → Device) (writer : W) (fields : List Dataset) (head : Header) (lines : List (List ℕ)) (trailer : List ℕ) (plan : Plan) (a : Packing W) → MayPack head lines trailer plan → Starts state writer fields head plan a
+    → total_of a.object + (length (packed_events (events_of_lines lines)) + 2) ≤ most_of a.object.plan
+lines_fit state writer fields head lines trailer plan a m s =
+    let some = tail_some trailer in
+    subst (λ (p : Plan). total_of a.object + (length (packed_events (events_of_lines lines)) + 2) ≤ most_of p) (sym s.stands.is_plan) (omega (arith, some, s.total, m.fits, m.parts))
+
+pub may_finish : {W : Type 0} (state : W → Device) (writer : W) (fields : List Dataset) (head : Header) (lines : List (List ℕ)) (trailer : List ℕ) (plan : Plan) (a b : Packing W) → MayPack head lines trailer plan → Starts state writer fields head plan a
+    → Lengthens state a b (events_of_lines lines) → finish_cause b trailer ≡ None
+may_finish state writer fields head lines trailer plan a b m s l =
+    let total : total_of b.object + length (packed_tail trailer) ≡ length (canonical head lines trailer) = omega (arith, s.total, l.total, m.parts) in
+    let is_plan : b.object.plan ≡ plan = l.plan ∙ s.stands.is_plan in
+    let le : total_of b.object + length (packed_tail trailer) ≤ most_of b.object.plan = subst (λ (p : Plan). total_of b.object + length (packed_tail trailer) ≤ most_of p) (sym is_plan) (omega (arith, total, m.fits)) in
+    let whole : is_short b.object.plan.size (total_of b.object + length (packed_tail trailer)) ≡ false =
+    subst (λ (p : Plan). is_short p.size (total_of b.object + length (packed_tail trailer)) ≡ false) (sym is_plan) (subst (λ (n : ℕ). is_short plan.size n ≡ false) (sym total) m.whole) in
+    rw (l.unfailed, m.trailer_is, le-leb (total_of b.object + length (packed_tail trailer)) (most_of b.object.plan) le, whole) refl

@@ -1,0 +1,17 @@
+use Rattle.std.proofs.Common.{◌≡◌, List, ◌++◌, length}
+use Rattle.iim_dataset.specs.Datasets.{Dataset, canonical_stream}
+use Rattle.iim_dataset.specs.Devices.{Wrote}
+use Rattle.iim_fields.specs.Walks.{rest_of}
+use Rattle.iim_pack.proofs.fields.put_fields.Given as goal
+
+-- some datasets are out
+abbrev pub invariant-loop-rec : goal.invariant-loop-rec
+invariant-loop-rec g l = record {
+  done : List Dataset;
+  parts : l.fn.envelope ≡ done ++ rest_of l.fields;
+  wrote : Wrote (g.W.Target.state l.fn.writer) (g.W.Target.state l.writer) (canonical_stream done);
+  counted : l.written ≡ length (canonical_stream done);
+}
+
+abbrev pub decreases-loop-rec : goal.decreases-loop-rec
+decreases-loop-rec g l = length (rest_of l.fields)

@@ -1,0 +1,44 @@
+use Rattle.std.proofs.Common.{ℕ, Bool, true, false, List, [], ◌++◌, sym, ap, subst, ◌∙◌, append_assoc}
+use Rattle.std.specs.Prelude.{IsTrue}
+use Rattle.std.specs.List.{list_all}
+use Rattle.std.proofs.lemmas.Bool.{and_parts}
+use Rattle.wire_story.specs.Texts.{is_line_octet}
+use Rattle.wire_story.specs.Delivery.{Event}
+use Rattle.iim_pack.specs.Packing.{BreaksOff, GoesOnWith}
+use Rattle.iim_pack.specs.Whole.{line_events, events_left}
+use Rattle.iim_pack.proofs.LinesOut.{goes_nowhere, goes_on, breaks_later, breaks_before, all_left}
+use Rattle.iim_pack.proofs.lines.put_lines.Goals as goal
+
+pub loop-line-init : goal.loop-line-init
+loop-line-init g c = record {
+  done = [];
+  parts = all_left c.args.lines.now.lines ∙ ap (λ (ls : List (List ℕ)). events_left true ls) (sym c.iter-left.ensures.lines);
+  lines = subst (λ (ls : List (List ℕ)). IsTrue (list_all (list_all is_line_octet) ls)) (sym c.iter-left.ensures.lines) c.iter-left.ensures.text.1;
+  lengthened = goes_nowhere g.W.Target.state c.args.packer.now c.texts_join.ensures c.requires.unfailed;
+}
+
+pub loop-line-preserved : goal.loop-line-preserved
+loop-line-preserved g c =
+    let inv = c.loop-line.invariant in
+    let first : Bool = c.loop-line.is_first in
+    let line : List ℕ = c.in-Some.line.now in
+    let rest : List (List ℕ) = c.next.new.self in
+    let each = subst (λ (ls : List (List ℕ)). IsTrue (list_all (list_all is_line_octet) ls)) c.in-Some.ensures.steps inv.lines in
+    record {
+      done = inv.done ++ line_events first line;
+      parts = inv.parts ∙ (ap (λ (ls : List (List ℕ)). inv.done ++ events_left first ls) c.in-Some.ensures.steps ∙ sym (append_assoc inv.done (line_events first line) (events_left false rest)));
+      lines = (and_parts (list_all is_line_octet line) (list_all (list_all is_line_octet) rest) each).1;
+      lengthened = goes_on g.W.Target.state c.args.packer.now c.loop-line.packer c.put_line.new.packer inv.done (line_events first line) c.texts_join.ensures inv.lengthened c.in-Ok.ensures.ok;
+    }
+
+pub returns-in-Err-clause-broke : goal.returns-in-Err-clause-broke
+returns-in-Err-clause-broke g c =
+    let state = g.W.Target.state in
+    let inv = c.loop-line.invariant in
+    let first : Bool = c.loop-line.is_first in
+    let line : List ℕ = c.in-Some.line.now in
+    let rest : List (List ℕ) = c.next.new.self in
+    let now = breaks_later state c.args.packer.now c.loop-line.packer c.put_line.new.packer inv.done (line_events first line) inv.lengthened c.in-Err.ensures.broke in
+    let all = breaks_before state c.args.packer.now c.put_line.new.packer (inv.done ++ line_events first line) (events_left false rest) now in
+    let parts = inv.parts ∙ (ap (λ (ls : List (List ℕ)). inv.done ++ events_left first ls) c.in-Some.ensures.steps ∙ sym (append_assoc inv.done (line_events first line) (events_left false rest))) in
+    subst (λ (events : List Event). BreaksOff state (GoesOnWith events) c.args.packer.now c.put_line.new.packer) (sym parts) all

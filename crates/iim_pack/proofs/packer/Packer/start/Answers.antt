@@ -1,0 +1,32 @@
+use Rattle.std.proofs.Common.{List, ℕ, ◌+◌, inr, refl, subst, ◌∙◌}
+use Rattle.iim_object.specs.declared.plan.Plan.{Plan}
+use Rattle.iim_pack.specs.Starting.{Opens, Halts, BeginsWith}
+use Rattle.iim_pack.specs.Packing.{start_cause}
+use Rattle.iim_pack.proofs.Goings.{if_none}
+use Rattle.iim_pack.proofs.Startings.{fields_broke, object_broke, started}
+use Rattle.iim_pack.proofs.packer.Packer.start.Goals as goal
+
+pub returns-in-Err-put_fields-clause-fault : goal.returns-in-Err-put_fields-clause-fault
+returns-in-Err-put_fields-clause-fault g c =
+    if_none (start_cause c.args.head.now c.args.plan) _
+    (inr (fields_broke g.W.Target.state c.args.writer c.args.envelope.now c.args.head.now c.args.plan (record { cause = _; writer = c.put_fields.new.writer; written = c.in-Err-put_fields.written }) refl c.in-Err-put_fields.ensures.err))
+
+pub returns-in-Ok-open_object-clause-ok : goal.returns-in-Ok-open_object-clause-ok
+returns-in-Ok-open_object-clause-ok g c =
+    let state = g.W.Target.state in
+    let front = c.as_slice-front.ensures.value ∙ c.head_text-text.ensures.octets in
+    let planned = subst (λ (p : Plan). Opens state c.put_fields.new.writer p c.as_slice-front.result.now c.in-Ok-open_object.object) c.in-Ok.ensures c.in-Ok-open_object.ensures.ok in
+    let opens = subst (λ (t : List ℕ). Opens state c.put_fields.new.writer c.args.plan t c.in-Ok-open_object.object) front planned in
+    started state c.args.writer c.put_fields.new.writer c.args.envelope.now c.args.head.now c.args.plan c.in-Ok-put_fields.before c.in-Ok-open_object.object c.texts_join.ensures
+    c.put_fields.ensures.envelope c.head_text-text.ensures.header c.in-Ok-put_fields.ensures.ok c.in-Ok-put_fields.ensures.all opens
+
+pub returns-in-Err-open_object-clause-fault : goal.returns-in-Err-open_object-clause-fault
+returns-in-Err-open_object-clause-fault g c =
+    let state = g.W.Target.state in
+    let fault = c.in-Err-open_object.fault in
+    let front = c.as_slice-front.ensures.value ∙ c.head_text-text.ensures.octets in
+    let planned = subst (λ (p : Plan). Halts state (BeginsWith p c.as_slice-front.result.now) c.put_fields.new.writer fault) c.in-Ok.ensures c.in-Err-open_object.ensures.err in
+    let halts = subst (λ (t : List ℕ). Halts state (BeginsWith c.args.plan t) c.put_fields.new.writer fault) front planned in
+    if_none (start_cause c.args.head.now c.args.plan) _
+    (inr (object_broke state c.args.writer c.put_fields.new.writer c.args.envelope.now c.args.head.now c.args.plan c.in-Ok-put_fields.before fault
+    (record { cause = fault.cause; writer = fault.writer; written = c.in-Ok-put_fields.before + fault.written }) c.in-Ok-put_fields.ensures.ok c.in-Ok-put_fields.ensures.all halts refl refl refl))

@@ -1,0 +1,6 @@
+pub mod Packed
+pub mod Laws
+pub mod Packing
+pub mod Ending
+pub mod Starting
+pub mod Whole

@@ -1,0 +1,49 @@
+//! Why a packer refuses a call, by numbers alone.
+
+ghost use Rattle.std.specs.Prelude.{◌≡◌, ◌+◌, ◌<◌, ◌^◌};
+ghost use Rattle.iim_object.specs.Writing.{is_short, most_of};
+ghost use Rattle.iim_pack.specs.Packing.{is_past, ending_cause};
+ghost use Rattle.iim_pack.specs.Packing as words;
+
+use iim_object::{PackCause, Plan, Size};
+use wire_message::is_trailer;
+
+/// ETX and EOT.
+pub(crate) const LEAST_ENDING: u64 = 2;
+
+/// Whether so many octets more pass the plan's bound.
+pub(crate) fn is_past(plan: Plan, total: u64, octets: u64) -> bool
+    requires total { total < 2 ^ 62 }
+    requires octets { octets < 2 ^ 63 + 4 }
+    ensures { result ≡ words.is_past plan total octets }
+{
+    total + octets > plan.bound()
+}
+
+/// Whether an object of so many octets is below a known size.
+pub(crate) fn is_short(size: Size, total: u64) -> bool
+    ensures { result ≡ is_short size total }
+{
+    match size {
+        Size::Known(octets) => total < octets,
+        Size::Unknown(_) => false,
+    }
+}
+
+/// Why an object may not end with the trailer behind so many octets.
+pub(crate) fn ending_cause(plan: Plan, total: u64, trailer: &[u8]) -> Option<PackCause>
+    requires total { total < 2 ^ 62 }
+    ensures { result ≡ words.ending_cause plan total trailer.now }
+{
+    if !is_trailer(trailer) {
+        return Some(PackCause::BadTrailer);
+    }
+    let tail = trailer.len() as u64 + LEAST_ENDING;
+    if is_past(plan, total, tail) {
+        return Some(PackCause::PastAnnounced);
+    }
+    if is_short(plan.size, total + tail) {
+        return Some(PackCause::ShortOfAnnounced);
+    }
+    None
+}

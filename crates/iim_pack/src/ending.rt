@@ -1,0 +1,28 @@
+//! The end of an object.
+
+ghost use Rattle.std.specs.Prelude.{◌≡◌, ◌+◌, ◌≤◌, false, length, IfOk, IfErr};
+ghost use Rattle.iim_object.specs.Writing.{BreaksOff, most_of, total_of, is_short};
+ghost use Rattle.iim_object.specs.declared.cause.PackCause.TheVariants as causes;
+ghost use Rattle.iim_pack.specs.Ending.{Ends, EndsWithTail};
+
+use iim_dataset::{Target, texts_join};
+use iim_object::{PackCause, SubfileWriter};
+
+/// Writes the last octets of an object, and what follows them.
+pub(crate) fn end_object<W: Target>(
+    mut object: SubfileWriter<W>,
+    tail: &[u8],
+) -> Result<W, (SubfileWriter<W>, PackCause)>
+    requires unfailed { object.failed ≡ false }
+    requires fits { total_of object + length tail.now ≤ most_of object.plan }
+    requires whole { is_short object.plan.size (total_of object + length tail.now) ≡ false }
+    ensures ok { IfOk result (λ writer. Ends W.state object tail.now writer) }
+    ensures cause { IfErr result (λ refused. refused.1 ≡ causes.Write) }
+    ensures broke { IfErr result (λ refused. BreaksOff W.state (EndsWithTail object.plan tail.now) object refused.0) }
+{
+    texts_join();
+    match object.write(tail) {
+        Ok(()) => object.finish(),
+        Err(cause) => Err((object, cause)),
+    }
+}

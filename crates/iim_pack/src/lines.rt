@@ -1,0 +1,55 @@
+//! Lines, packed one after another.
+
+ghost use Rattle.std.specs.Prelude.{◌≡◌, ◌+◌, ◌≤◌, false, length, OnOk, OnErr, IfErr};
+ghost use Rattle.iim_object.specs.Writing.{most_of, total_of};
+ghost use Rattle.iim_object.specs.declared.cause.PackCause.TheVariants as causes;
+ghost use Rattle.wire_story.specs.Texts.{IsLine, MakeText};
+ghost use Rattle.wire_story.specs.Packing.{packed_events};
+ghost use Rattle.wire_story.specs.Delivery.{events_of_lines};
+ghost use Rattle.iim_pack.specs.Packing.{Lengthens, BreaksOff, GoesOnWith};
+ghost use Rattle.iim_pack.specs.Whole.{line_events};
+
+use crate::packer::Packer;
+use iim_dataset::{Target, texts_join};
+use iim_object::PackCause;
+use wire_story::Lines;
+
+/// Packs the end of a line, unless the line is the first, and then a line.
+fn put_line<W: Target>(packer: &mut Packer<W>, line: &[u8], is_first: bool) -> Result<(), PackCause>
+    requires line { IsLine line.now }
+    requires unfailed { packer.old.object.failed ≡ false }
+    requires fits { total_of packer.old.object + (length (packed_events (line_events is_first line.now)) + 2) ≤ most_of packer.old.object.plan }
+    ensures ok { OnOk result (Lengthens W.state packer.old packer.new (line_events is_first line.now)) }
+    ensures cause { IfErr result (λ cause. cause ≡ causes.Write) }
+    ensures broke { OnErr result (BreaksOff W.state (GoesOnWith (line_events is_first line.now)) packer.old packer.new) }
+{
+    texts_join();
+    if is_first {
+        return packer.text(line);
+    }
+    match packer.line_end() {
+        Ok(()) => packer.text(line),
+        Err(cause) => Err(cause),
+    }
+}
+
+/// Packs all lines.
+pub(crate) fn put_lines<W: Target>(packer: &mut Packer<W>, lines: &Lines) -> Result<(), PackCause>
+    requires unfailed { packer.old.object.failed ≡ false }
+    requires fits { total_of packer.old.object + (length (packed_events (events_of_lines lines.now.lines)) + 2) ≤ most_of packer.old.object.plan }
+    ensures ok { OnOk result (Lengthens W.state packer.old packer.new (events_of_lines lines.now.lines)) }
+    ensures cause { IfErr result (λ cause. cause ≡ causes.Write) }
+    ensures broke { OnErr result (BreaksOff W.state (GoesOnWith (events_of_lines lines.now.lines)) packer.old packer.new) }
+    ensures made { MakeText lines.now.lines }
+{
+    texts_join();
+    let mut left = lines.iter();
+    let mut is_first = true;
+    while let Some(line) = left.next() {
+        match put_line(packer, line, is_first) {
+            Ok(()) => is_first = false,
+            Err(cause) => return Err(cause),
+        }
+    }
+    Ok(())
+}

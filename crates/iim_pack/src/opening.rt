@@ -1,0 +1,37 @@
+//! The beginning of an object.
+
+ghost use Rattle.std.specs.Prelude.{◌≡◌, ◌<◌, ◌≤◌, ◌^◌, length, IfOk, IfErr};
+ghost use Rattle.iim_object.specs.Writing.{most_of};
+ghost use Rattle.iim_pack.specs.Starting.{Opens, Halts, BeginsWith};
+
+use iim_dataset::{Target, texts_join};
+use iim_object::{StartFault, SubfileBuffer, SubfileWriter};
+
+/// Writes record 7, and begins the object with these octets.
+pub(crate) fn open_object<W: Target>(
+    buffer: SubfileBuffer,
+    front: &[u8],
+    writer: W,
+) -> Result<SubfileWriter<W>, StartFault<W>>
+    requires { length front.now ≤ most_of buffer }
+    ensures ok { IfOk result (Opens W.state writer buffer front.now) }
+    ensures err { IfErr result (Halts W.state (BeginsWith buffer front.now) writer) }
+    ensures small { IfErr result (λ fault. fault.written < 2 ^ 40) }
+{
+    texts_join();
+    match SubfileWriter::start(buffer, writer) {
+        Ok(mut object) => match object.write(front) {
+            Ok(()) => Ok(object),
+            Err(cause) => {
+                let written = object.written();
+                let writer = object.into_writer();
+                Err(StartFault {
+                    cause,
+                    writer,
+                    written,
+                })
+            }
+        },
+        Err(fault) => Err(fault),
+    }
+}

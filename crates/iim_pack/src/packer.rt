@@ -1,0 +1,177 @@
+//! The packer.
+
+ghost use Rattle.std.specs.Prelude.{◌≡◌, ◌<◌, ◌^◌, [], ◌∷◌, map, length, IfOk, IfErr, OnOk, OnErr, IfSome, IfNone, MatchResult, Err};
+ghost use Rattle.wire_story.specs.Delivery.{LineOctet, LineEnd};
+ghost use Rattle.iim_pack.specs.Packing.{Lengthens, BreaksOff, GoesOnWith, EndsIn, Finishes, start_cause, text_cause, line_end_cause, finish_cause, written_of};
+ghost use Rattle.iim_pack.specs.Starting.{Starts, IsRefused, IsStartFault};
+ghost use Rattle.iim_object.specs.declared.cause.PackCause.TheVariants as causes;
+
+use crate::cause::{LEAST_ENDING, ending_cause, is_past};
+use crate::ending::end_object;
+use crate::fields::put_fields;
+use crate::opening::open_object;
+use iim_dataset::{Target, texts_join};
+use iim_fields::Envelope;
+use iim_object::{PackCause, Plan, StartFault, SubfileBuffer, SubfileWriter};
+use std::alloc::Global;
+use std::marker::Model;
+use wire_message::{MessageHead, canonical_objects_are_messages, head_text, tail_text};
+use wire_story::{
+    LINE_END, events_are_packed_as_lines, is_text, line_ends_are_packed_as_return_and_feed,
+    lines_are_packed_as_their_events,
+};
+
+/// Packs an envelope, a header and a text that comes in pieces. It holds the octets of one subfile at most.
+#[derive(Drop)]
+pub struct Packer<W> {
+    before: u64,
+    object: SubfileWriter<W>,
+}
+
+impl<W> Model for Packer<W> {
+    ghost use Rattle.std.specs.Prelude.{◌<◌, ◌^◌};
+    ghost use Rattle.iim_pack.specs.Packing.{Packing};
+
+    ghost Value = { Packing W };
+
+    ghost view = { λ k. record { before = k.before; object = k.object } };
+
+    ghost invariant = { λ k. k.before < 2 ^ 40 };
+}
+
+impl<W: Target> Packer<W> {
+    /// Writes records 1, 2 and 7, and begins the object with the header. Nothing is written where the header and the least
+    /// ending pass the plan's bound, or where memory is refused. Where a write fails, what is out begins each form of the
+    /// envelope, header and plan.
+    pub fn start(
+        alloc: Global,
+        envelope: &Envelope,
+        head: &MessageHead,
+        plan: Plan,
+        mut writer: W,
+    ) -> Result<Packer<W>, StartFault<W>>
+        ensures refused { IfSome (start_cause head.now plan) (λ cause. MatchResult result (λ _. ⊥) (IsRefused cause writer)) }
+        ensures ok { IfOk result (Starts W.state writer envelope.now head.now plan) }
+        ensures fault { IfNone (start_cause head.now plan) (IfErr result (IsStartFault W.state envelope.now head.now plan writer)) }
+    {
+        lines_are_packed_as_their_events();
+        texts_join();
+        let text = head_text(head);
+        let front = text.as_slice();
+        if is_past(plan, front.len() as u64, LEAST_ENDING) {
+            return Err(StartFault {
+                cause: PackCause::PastAnnounced,
+                writer,
+                written: 0,
+            });
+        }
+        let buffer = match SubfileBuffer::reserve(alloc, plan) {
+            Ok(buffer) => buffer,
+            Err(_) => {
+                return Err(StartFault {
+                    cause: PackCause::OutOfMemory,
+                    writer,
+                    written: 0,
+                });
+            }
+        };
+        let before = match put_fields(&mut writer, envelope) {
+            Ok(before) => before,
+            Err(written) => {
+                return Err(StartFault {
+                    cause: PackCause::Write,
+                    writer,
+                    written,
+                });
+            }
+        };
+        match open_object(buffer, front, writer) {
+            Ok(object) => Ok(Packer { before, object }),
+            Err(fault) => Err(StartFault {
+                cause: fault.cause,
+                writer: fault.writer,
+                written: before + fault.written,
+            }),
+        }
+    }
+
+    /// Takes octets of a line.
+    pub fn text(&mut self, octets: &[u8]) -> Result<(), PackCause>
+        ensures refused { IfSome (text_cause self.old octets.now) (λ cause. (result ≡ Err cause) × (self.new ≡ self.old)) }
+        ensures ok { OnOk result (Lengthens W.state self.old self.new (map LineOctet octets.now)) }
+        ensures cause { IfNone (text_cause self.old octets.now) (IfErr result (λ cause. cause ≡ causes.Write)) }
+        ensures broke { IfNone (text_cause self.old octets.now)
+            (OnErr result (BreaksOff W.state (GoesOnWith (map LineOctet octets.now)) self.old self.new)) }
+    {
+        lines_are_packed_as_their_events();
+        if self.object.is_failed() {
+            return Err(PackCause::Failed);
+        }
+        if !is_text(octets) {
+            return Err(PackCause::BadTextOctet);
+        }
+        if is_past(
+            self.object.plan(),
+            self.object.total(),
+            octets.len() as u64 + LEAST_ENDING,
+        ) {
+            return Err(PackCause::PastAnnounced);
+        }
+        self.object.write(octets)
+    }
+
+    /// Ends a line.
+    pub fn line_end(&mut self) -> Result<(), PackCause>
+        ensures refused { IfSome (line_end_cause self.old) (λ cause. (result ≡ Err cause) × (self.new ≡ self.old)) }
+        ensures ok { OnOk result (Lengthens W.state self.old self.new (LineEnd ∷ [])) }
+        ensures cause { IfNone (line_end_cause self.old) (IfErr result (λ cause. cause ≡ causes.Write)) }
+        ensures broke { IfNone (line_end_cause self.old) (OnErr result (BreaksOff W.state (GoesOnWith (LineEnd ∷ [])) self.old self.new)) }
+    {
+        lines_are_packed_as_their_events();
+        line_ends_are_packed_as_return_and_feed();
+        if self.object.is_failed() {
+            return Err(PackCause::Failed);
+        }
+        if is_past(self.object.plan(), self.object.total(), 2 + LEAST_ENDING) {
+            return Err(PackCause::PastAnnounced);
+        }
+        self.object.write(&LINE_END)
+    }
+
+    /// Ends the message with the trailer, and hands back what was written to: the packed form is out.
+    pub fn finish(self, trailer: &[u8]) -> Result<W, (Packer<W>, PackCause)>
+        ensures refused { IfSome (finish_cause self trailer.now) (λ cause. result ≡ Err (self, cause)) }
+        ensures ok { IfOk result (λ writer. Finishes W.state self trailer.now writer) }
+        ensures cause { IfNone (finish_cause self trailer.now) (IfErr result (λ refused. refused.1 ≡ causes.Write)) }
+        ensures broke { IfNone (finish_cause self trailer.now) (IfErr result (λ refused. BreaksOff W.state (EndsIn trailer.now) self refused.0)) }
+    {
+        events_are_packed_as_lines();
+        canonical_objects_are_messages();
+        if self.object.is_failed() {
+            return Err((self, PackCause::Failed));
+        }
+        if let Some(cause) = ending_cause(self.object.plan(), self.object.total(), trailer) {
+            return Err((self, cause));
+        }
+        let tail = tail_text(trailer).unwrap();
+        let Packer { before, object } = self;
+        match end_object(object, tail.as_slice()) {
+            Ok(writer) => Ok(writer),
+            Err((object, cause)) => Err((Packer { before, object }, cause)),
+        }
+    }
+
+    /// How many octets are out.
+    pub fn written(&self) -> u64
+        ensures { result ≡ written_of self.now }
+    {
+        self.before + self.object.written()
+    }
+
+    /// What was written to, as it is.
+    pub fn into_writer(self) -> W
+        ensures { result ≡ self.object.writer }
+    {
+        self.object.into_writer()
+    }
+}

@@ -1,0 +1,30 @@
+//! How long a packed object is.
+
+ghost use Rattle.std.specs.Prelude.{◌≡◌, ◌≤◌, ◌↔◌, length, IsSome, IfSome};
+ghost use Rattle.iim_tables.specs.Numbers.{greatest_size};
+ghost use Rattle.wire_message.specs.Messages.{IsTrailer};
+ghost use Rattle.wire_message.specs.Canonical.{canonical};
+
+use crate::cause::LEAST_ENDING;
+use iim_tables::GREATEST_SIZE;
+use wire_message::{MessageHead, head_text, is_trailer};
+use wire_story::{Lines, text_len};
+
+/// How many octets the object has that is packed of a header, lines and a trailer: None where they may be no trailer, or where
+/// it would be above the greatest size of an object.
+pub fn packed_size(head: &MessageHead, lines: &Lines, trailer: &[u8]) -> Option<u64>
+    ensures size { IfSome result (λ size. size ≡ length (canonical head.now lines.now.lines trailer.now)) }
+    ensures exactly { IsSome result ↔ (IsTrailer trailer.now × (length (canonical head.now lines.now.lines trailer.now) ≤ greatest_size)) }
+{
+    if !is_trailer(trailer) {
+        return None;
+    }
+    let text = text_len(lines)?;
+    let front = head_text(head);
+    let size = front.len() as u64 + text + trailer.len() as u64 + LEAST_ENDING;
+    if size <= GREATEST_SIZE {
+        Some(size)
+    } else {
+        None
+    }
+}

@@ -1,0 +1,312 @@
+-- How many octets are open at most.
+use Rattle.std.proofs.Common.{◌≡◌, ℕ, ◌+◌, ◌*◌, ◌<◌, ◌≤◌, ◌⊎◌, ◌||◌, nat_eq, cond, if◌then◌else◌, Bool, true, false, List, [], ◌∷◌, ◌++◌, length, map, sum, Option, Some, None, refl, ap, sym, subst, ◌∙◌, inl, inr, arith, append-nil, append_assoc, length-append}
+use Rattle.std.specs.List.{AllByRecursion}
+use Rattle.std.proofs.lemmas.Bool.{eqb-true}
+use Rattle.std.proofs.lemmas.List.Sums.{sum_by-cons, sum_by-append}
+use Rattle.iim_dataset.specs.Octets.{Octets, number}
+use Rattle.iim_dataset.specs.Datasets.{Dataset, SpellsCount, SpellsTag, SpellsStream, count_octets}
+use Rattle.iim_dataset.specs.Splits.{Begun, InTag, InData, IsBegun}
+use Rattle.iim_dataset.specs.declared.head.Head.{Head}
+use Rattle.iim_fields.specs.Records.{IsGoodDataset, AreSections}
+use Rattle.iim_fields.specs.Alive.{IsAlive}
+use Rattle.iim_fields.specs.Faults.{kept, joined}
+use Rattle.iim_fields.specs.Laws.{NoSectionsBeginOthers, EnvelopesEndWithTheLastRecord}
+use Rattle.iim_fields.specs.declared.limits.Limits.{Limits}
+use Rattle.iim_object.specs.Objects.{ObjectToken, NumberRead, SubfileBegun, ObjectEnded, Confirmed, number_tokens}
+use Rattle.iim_object.specs.Places.{Place, ending_tokens, tokens_of, place_after}
+use Rattle.iim_object.specs.Behind.{of_record, place_behind, place_ended}
+use Rattle.iim_object.specs.Records.{lengths_of, numbers_of}
+use Rattle.iim_object.specs.Sizes.{Stated, AreStated, AreOnce, InRow, number_at}
+use Rattle.iim_unpack.specs.Answers.{MayGoOn}
+use Rattle.iim_unpack.specs.Intakes.{OpenOctetsAreBounded}
+use Rattle.iim_unpack.specs.Framed.{AreWithin}
+use Rattle.iim_unpack.specs.Tokens.{ObjectLives}
+
+-- how many octets datasets take at most: nine for each tag, and the data
+abbrev pub weight : List Dataset → ℕ
+weight [] = 0
+weight (d ∷ ds) = (9 + length d.octets) + weight ds
+
+-- ---- tags
+
+count_fits : (n : ℕ) (xs : List ℕ) → SpellsCount count_octets n xs → length xs ≤ 6
+count_fits n [] is = absurd is
+count_fits n (high ∷ []) is = absurd is
+count_fits n (high ∷ low ∷ more) (inl (a, b, none, c)) = omega (arith, ap length none)
+count_fits n (high ∷ low ∷ more) (inr (a, len, b, most, fits, c)) = omega (arith, len, most)
+
+pub tag_fits : (h : Head) (tag : List ℕ) → SpellsTag count_octets h tag → length tag ≤ 9
+tag_fits h tag is = omega (arith, ap length is.parts, count_fits h.count is.count is.is_count)
+
+pub stream_fits : (ds : List Dataset) (xs : List ℕ) → SpellsStream count_octets ds xs → length xs ≤ weight ds
+stream_fits [] xs none = omega (arith, ap length none)
+stream_fits (d ∷ ds) xs (first, rest, one, more, parts) =
+    omega (arith, ap length parts, length-append first rest, ap length one.parts, length-append one.tag d.octets, tag_fits _ one.tag one.is_tag, stream_fits ds rest more)
+
+-- ---- the records apart
+
+abbrev IsFive : ℕ → Type 0
+IsFive r = (r ≡ 1) ⊎ ((r ≡ 2) ⊎ ((r ≡ 7) ⊎ ((r ≡ 8) ⊎ (r ≡ 9))))
+
+abbrev Apart : Dataset → List Dataset → List Dataset → List Dataset → List Dataset → ℕ → ℕ → Type 0
+Apart d k s e n all r = (9 + length d.octets) + all
+    ≤ weight (cond (nat_eq r 1 || nat_eq r 2) (d ∷ k) k) + weight (cond (nat_eq r 7) (d ∷ s) s) + weight (cond (nat_eq r 8) (d ∷ e) e) + weight (cond (nat_eq r 9) (d ∷ n) n)
+
+step : (d : Dataset) (k s e n : List Dataset) (all r : ℕ) → all ≤ weight k + weight s + weight e + weight n → IsFive r → Apart d k s e n all r
+step d k s e n all r le (inl is) = subst (Apart d k s e n all) (sym is) (omega (arith, le))
+step d k s e n all r le (inr (inl is)) = subst (Apart d k s e n all) (sym is) (omega (arith, le))
+step d k s e n all r le (inr (inr (inl is))) = subst (Apart d k s e n all) (sym is) (omega (arith, le))
+step d k s e n all r le (inr (inr (inr (inl is)))) = subst (Apart d k s e n all) (sym is) (omega (arith, le))
+step d k s e n all r le (inr (inr (inr (inr is)))) = subst (Apart d k s e n all) (sym is) (omega (arith, le))
+
+pub apart : (ds : List Dataset) → AllByRecursion (λ d. IsFive d.rec) ds → weight ds ≤ weight (kept ds) + weight (of_record 7 ds) + weight (of_record 8 ds) + weight (of_record 9 ds)
+apart [] all = omega arith
+apart (d ∷ ds) all = step d (kept ds) (of_record 7 ds) (of_record 8 ds) (of_record 9 ds) (weight ds) d.rec (apart ds all.1) all.0
+
+one_of : (r : ℕ) (ds : List Dataset) → IsFive r → AllByRecursion (λ d. (d.rec ≡ r) × IsGoodDataset d) ds → AllByRecursion (λ d. IsFive d.rec) ds
+one_of r [] five all = tt
+one_of r (d ∷ ds) five all = (subst IsFive (sym all.0.0) five, one_of r ds five all.1)
+
+both : (xs ys : List Dataset) → AllByRecursion (λ d. IsFive d.rec) xs → AllByRecursion (λ d. IsFive d.rec) ys → AllByRecursion (λ d. IsFive d.rec) (xs ++ ys)
+both [] ys first last = last
+both (x ∷ xs) ys first last = (first.0, both xs ys first.1 last)
+
+front : (xs ys : List Dataset) → AllByRecursion (λ d. IsFive d.rec) (xs ++ ys) → AllByRecursion (λ d. IsFive d.rec) xs
+front [] ys all = tt
+front (x ∷ xs) ys all = (all.0, front xs ys all.1)
+
+joined_five : (r : ℕ) (ds run rest : List Dataset) → IsFive r → ds ≡ run ++ rest → AllByRecursion (λ d. (d.rec ≡ r) × IsGoodDataset d) run → AllByRecursion (λ d. IsFive d.rec) rest → AllByRecursion (λ d. IsFive d.rec) ds
+joined_five r ds run rest five is good more = subst (λ (xs : List Dataset). AllByRecursion (λ d. IsFive d.rec) xs) (sym is) (both run rest (one_of r run five good) more)
+
+none_five : (ds : List Dataset) → ds ≡ [] → AllByRecursion (λ d. IsFive d.rec) ds
+none_five ds is = subst (λ (xs : List Dataset). AllByRecursion (λ d. IsFive d.rec) xs) (sym is) tt
+
+sections_five : (ds : List Dataset) → AreSections ds → AllByRecursion (λ d. IsFive d.rec) ds
+sections_five ds (r1, from2, one, good1, (r2, from7, two, good2, (r7, from8, seven, good7, (r8, from9, eight, good8, (r9, none, nine, good9, end))))) =
+    joined_five 1 ds r1 from2 (inl refl) one good1.each (joined_five 2 from2 r2 from7 (inr (inl refl)) two good2.each (joined_five 7 from7 r7 from8 (inr (inr (inl refl))) seven good7.each
+    (joined_five 8 from8 r8 from9 (inr (inr (inr (inl refl)))) eight good8.each (joined_five 9 from9 r9 none (inr (inr (inr (inr refl)))) nine good9.each (none_five none end)))))
+
+pub alive_five : (ds : List Dataset) → IsAlive ds → AllByRecursion (λ d. IsFive d.rec) ds
+alive_five ds alive = front ds alive.0 (sections_five (ds ++ alive.0) alive.1)
+
+-- ---- the kept ones, and the subfiles
+
+pub weight_joined : (ds : List Dataset) → weight ds ≡ 9 * length ds + length (joined ds)
+weight_joined [] = refl
+weight_joined (d ∷ ds) = omega (arith, weight_joined ds, length-append d.octets (joined ds))
+
+sum_more : (n : ℕ) (ls : List ℕ) → sum (n ∷ ls) ≡ n + sum ls
+sum_more n ls = sum_by-cons (λ n. n) n ls
+
+pub weight_lengths : (ds : List Dataset) → weight ds ≡ 9 * length ds + sum (lengths_of ds)
+weight_lengths [] = refl
+weight_lengths (d ∷ ds) = omega (arith, weight_lengths ds, sum_more (length d.octets) (lengths_of ds))
+
+abbrev total : List ObjectToken → ℕ
+total [] = 0
+total (NumberRead set n ∷ ts) = total ts
+total (SubfileBegun n ∷ ts) = n + total ts
+total (ObjectEnded ∷ ts) = total ts
+total (Confirmed n ∷ ts) = total ts
+
+total_append : (xs ys : List ObjectToken) → total (xs ++ ys) ≡ total xs + total ys
+total_append [] ys = omega arith
+total_append (NumberRead set n ∷ xs) ys = total_append xs ys
+total_append (SubfileBegun n ∷ xs) ys = omega (arith, total_append xs ys)
+total_append (ObjectEnded ∷ xs) ys = total_append xs ys
+total_append (Confirmed n ∷ xs) ys = total_append xs ys
+
+total_numbers : (ps : List Stated) → total (number_tokens ps) ≡ 0
+total_numbers [] = refl
+total_numbers (p ∷ ps) = total_numbers ps
+
+total_begun : (ls : List ℕ) → total (map SubfileBegun ls) ≡ sum ls
+total_begun [] = refl
+total_begun (n ∷ ls) = omega (arith, total_begun ls, sum_more n ls)
+
+-- The subfiles have at most the greatest size together.
+pub object_fits : (p : Place) → ObjectLives p → sum p.lengths ≤ 4294967295
+object_fits p (rest, is) =
+    omega (
+      arith,
+      ap total is.tokens_are,
+      total_append (tokens_of p) rest,
+      total_append (number_tokens p.stated) (map SubfileBegun p.lengths ++ ending_tokens p.ending),
+      total_append (map SubfileBegun p.lengths) (ending_tokens p.ending),
+      total_begun p.lengths,
+      total_append (number_tokens is.stated) (map SubfileBegun is.lengths ++ (ObjectEnded ∷ Confirmed is.confirmed ∷ [])),
+      total_numbers is.stated,
+      total_append (map SubfileBegun is.lengths) (ObjectEnded ∷ Confirmed is.confirmed ∷ []),
+      total_begun is.lengths,
+      is.agree.total_fits,
+    )
+
+-- ---- no dataset of record 9
+
+pub no_nine : NoSectionsBeginOthers → EnvelopesEndWithTheLastRecord → (whole xs ys : List Dataset) → IsAlive whole → (AreSections whole → ⊥) → whole ≡ xs ++ ys → weight (of_record 9 ys) ≡ 0
+no_nine law ends whole xs [] alive unfinished is = refl
+no_nine law ends whole xs (d ∷ ys) alive unfinished is = by (no_nine law ends whole (xs ++ d ∷ []) ys alive unfinished whole_is) (nat_eq d.rec 9) refl
+  where
+    whole_is : whole ≡ (xs ++ d ∷ []) ++ ys
+    whole_is = is ∙ sym (append_assoc xs (d ∷ []) ys)
+
+    there : IsAlive (xs ++ d ∷ [])
+    there = (ys ++ alive.0, subst AreSections (ap (λ (t : List Dataset). t ++ alive.0) whole_is ∙ append_assoc (xs ++ d ∷ []) ys alive.0) alive.1)
+
+    no_front : (us bs : List Dataset) → us ++ bs ≡ [] → us ≡ []
+    no_front [] bs e = refl
+    no_front (a ∷ us) bs e = absurd cc
+
+    bad : d.rec ≡ 9 → ⊥
+    bad nine =
+        let sections : AreSections (xs ++ d ∷ []) = (ends xs d there).0 nine in
+        let none : ys ≡ [] = no_front ys alive.0 (law (xs ++ d ∷ []) (ys ++ alive.0) sections there.1) in
+        unfinished (subst AreSections (sym (whole_is ∙ ap (λ (t : List Dataset). (xs ++ d ∷ []) ++ t) none ∙ append-nil (xs ++ d ∷ []))) sections)
+
+    by : weight (of_record 9 ys) ≡ 0 → (b : Bool) → nat_eq d.rec 9 ≡ b → weight (cond b (d ∷ of_record 9 ys) (of_record 9 ys)) ≡ 0
+    by more true same = absurd (bad (eqb-true d.rec 9 same))
+    by more false same = more
+
+-- ---- record 7
+
+abbrev numbers : List ObjectToken → ℕ
+numbers [] = 0
+numbers (NumberRead set n ∷ ts) = 1 + numbers ts
+numbers (SubfileBegun n ∷ ts) = numbers ts
+numbers (ObjectEnded ∷ ts) = numbers ts
+numbers (Confirmed n ∷ ts) = numbers ts
+
+numbers_append : (xs ys : List ObjectToken) → numbers (xs ++ ys) ≡ numbers xs + numbers ys
+numbers_append [] ys = omega arith
+numbers_append (NumberRead set n ∷ xs) ys = omega (arith, numbers_append xs ys)
+numbers_append (SubfileBegun n ∷ xs) ys = numbers_append xs ys
+numbers_append (ObjectEnded ∷ xs) ys = numbers_append xs ys
+numbers_append (Confirmed n ∷ xs) ys = numbers_append xs ys
+
+numbers_stated : (ps : List Stated) → numbers (number_tokens ps) ≡ length ps
+numbers_stated [] = refl
+numbers_stated (p ∷ ps) = omega (arith, numbers_stated ps)
+
+numbers_begun : (ls : List ℕ) → numbers (map SubfileBegun ls) ≡ 0
+numbers_begun [] = refl
+numbers_begun (n ∷ ls) = numbers_begun ls
+
+abbrev slot : Option ℕ → ℕ
+slot None = 0
+slot (Some n) = 1
+
+slot_most : (o : Option ℕ) → slot o ≤ 1
+slot_most None = omega arith
+slot_most (Some n) = omega arith
+
+abbrev Slots : ℕ → List Stated → ℕ → Type 0
+Slots n ps r = number_at r ps ≡ None → 1 + length ps ≤ slot (cond (nat_eq r 10) (Some n) (number_at 10 ps)) + slot (cond (nat_eq r 20) (Some n) (number_at 20 ps)) + slot (cond (nat_eq r 90) (Some n) (number_at 90 ps)) + slot (cond (nat_eq r 95) (Some n) (number_at 95 ps))
+
+one_slot : (p : Stated) (ps : List Stated) → InRow p → length ps ≤ slot (number_at 10 ps) + slot (number_at 20 ps) + slot (number_at 90 ps) + slot (number_at 95 ps) → Slots p.number ps p.set
+one_slot p ps (inl row) le = subst (Slots p.number ps) (sym row.0) (λ none. omega (arith, le, ap slot none))
+one_slot p ps (inr (inl row)) le = subst (Slots p.number ps) (sym row.0) (λ none. omega (arith, le, ap slot none))
+one_slot p ps (inr (inr (inl is, low))) le = subst (Slots p.number ps) (sym is) (λ none. omega (arith, le, ap slot none))
+one_slot p ps (inr (inr (inr is, low))) le = subst (Slots p.number ps) (sym is) (λ none. omega (arith, le, ap slot none))
+
+slots : (ps : List Stated) → AllByRecursion InRow ps → AreOnce ps → length ps ≤ slot (number_at 10 ps) + slot (number_at 20 ps) + slot (number_at 90 ps) + slot (number_at 95 ps)
+slots [] each once = omega arith
+slots (p ∷ ps) each once = omega (arith, one_slot p ps each.0 (slots ps each.1 once.1) once.0)
+
+few_stated : (ps : List Stated) → AreStated ps → length ps ≤ 4
+few_stated ps are = omega (arith, slots ps are.each are.once, slot_most (number_at 10 ps), slot_most (number_at 20 ps), slot_most (number_at 90 ps), slot_most (number_at 95 ps))
+
+-- Record 7 has four datasets at most.
+pub few_numbers : (p : Place) → ObjectLives p → length p.stated ≤ 4
+few_numbers p (rest, is) =
+    omega (
+      arith,
+      ap numbers is.tokens_are,
+      numbers_append (tokens_of p) rest,
+      numbers_append (number_tokens p.stated) (map SubfileBegun p.lengths ++ ending_tokens p.ending),
+      numbers_stated p.stated,
+      numbers_append (number_tokens is.stated) (map SubfileBegun is.lengths ++ (ObjectEnded ∷ Confirmed is.confirmed ∷ [])),
+      numbers_stated is.stated,
+      numbers_append (map SubfileBegun is.lengths) (ObjectEnded ∷ Confirmed is.confirmed ∷ []),
+      numbers_begun is.lengths,
+      few_stated is.stated is.are_stated,
+    )
+
+-- ---- counts
+
+low : (xs : List ℕ) → Octets xs → length xs ≤ 4 → number xs < 4294967296
+low [] all fits = omega arith
+low (a ∷ []) all fits = omega (arith, all.0)
+low (a ∷ b ∷ []) all fits = omega (arith, all.0, all.1.0)
+low (a ∷ b ∷ c ∷ []) all fits = omega (arith, all.0, all.1.0, all.1.1.0)
+low (a ∷ b ∷ c ∷ d ∷ []) all fits = omega (arith, all.0, all.1.0, all.1.1.0, all.1.1.1.0)
+low (a ∷ b ∷ c ∷ d ∷ e ∷ xs) all fits = absurd (omega (arith, fits))
+
+count_low : (n : ℕ) (xs : List ℕ) → SpellsCount count_octets n xs → n < 4294967296
+count_low n [] is = absurd is
+count_low n (high ∷ []) is = absurd is
+count_low n (high ∷ next ∷ more) (inl (a, b, none, c)) = omega (arith, c, low (high ∷ next ∷ []) (omega (arith, a), (b, tt)) (omega arith))
+count_low n (high ∷ next ∷ more) (inr (a, len, b, most, octets, c)) = omega (arith, c, low more octets (omega (arith, len, most)))
+
+pub tag_low : (h : Head) (tag : List ℕ) → SpellsTag count_octets h tag → h.count < 4294967296
+tag_low h tag is = count_low h.count is.count is.is_count
+
+low_seven : (b : Bool) (d : Dataset) (ds : List Dataset) → length d.octets < 4294967296 → weight ds ≤ 4294967305 * length ds → weight (cond b (d ∷ ds) ds) ≤ 4294967305 * length (cond b (d ∷ ds) ds)
+low_seven true d ds small le = omega (arith, small, le)
+low_seven false d ds small le = le
+
+pub seven_fits : (ds : List Dataset) (xs : List ℕ) → SpellsStream count_octets ds xs → weight (of_record 7 ds) ≤ 4294967305 * length (of_record 7 ds)
+seven_fits [] xs none = omega arith
+seven_fits (d ∷ ds) xs (first, rest, one, more, parts) = low_seven (nat_eq d.rec 7) d (of_record 7 ds) (tag_low _ one.tag one.is_tag) (seven_fits ds rest more)
+
+-- ---- all of it
+
+map_length : (ds : List Dataset) → length (numbers_of ds) ≡ length ds
+map_length [] = refl
+map_length (d ∷ ds) = omega (arith, map_length ds)
+
+-- the whole datasets
+pub whole_fits : NoSectionsBeginOthers → EnvelopesEndWithTheLastRecord → (limits : Limits) → limits.octets < 4294967296 → limits.fields < 4294967296 → (ds : List Dataset) (xs : List ℕ) → SpellsStream count_octets ds xs
+    → IsAlive ds → AreWithin limits ds → length (numbers_of (of_record 7 ds)) ≤ 4 → sum (lengths_of (of_record 8 ds)) ≤ 4294967295 → (AreSections ds → ⊥) → length xs < 1000000000000
+whole_fits law ends limits octets fields ds xs spelled alive within few size unfinished =
+    omega (
+      arith,
+      octets,
+      fields,
+      stream_fits ds xs spelled,
+      apart ds (alive_five ds alive),
+      weight_joined (kept ds),
+      within.kept.octets_in,
+      within.kept.fields_in,
+      seven_fits ds xs spelled,
+      map_length (of_record 7 ds),
+      few,
+      weight_lengths (of_record 8 ds),
+      within.subfiles,
+      size,
+      no_nine law ends ds [] ds alive unfinished refl,
+    )
+
+begun_fits : (begun : Begun) (xs : List ℕ) → IsBegun count_octets begun xs → length xs < 10000000000
+begun_fits (InTag held) xs (is, h, tag, spelled, (rest, some, parts)) = omega (arith, ap length is, ap length parts, length-append held rest, tag_fits h tag spelled)
+begun_fits (InData h taken) xs (tag, spelled, fits, octets, is) = omega (arith, ap length is, length-append tag taken, tag_fits h tag spelled, fits, tag_low h tag spelled)
+
+-- what the place at a head says of the datasets before it
+sizes_at : (ds : List Dataset) (n : ℕ) (b c : Bool) → ObjectLives (if b then place_after (place_behind ds) (SubfileBegun n) else if c then place_ended ds else place_behind ds)
+    → (length (numbers_of (of_record 7 ds)) ≤ 4) × (sum (lengths_of (of_record 8 ds)) ≤ 4294967295)
+sizes_at ds n true c is = (few_numbers (place_after (place_behind ds) (SubfileBegun n)) is, omega (arith, object_fits (place_after (place_behind ds) (SubfileBegun n)) is, sum_by-append (λ k. k) (lengths_of (of_record 8 ds)) (n ∷ [])))
+sizes_at ds n false true is = (few_numbers (place_ended ds) is, object_fits (place_ended ds) is)
+sizes_at ds n false false is = (few_numbers (place_behind ds) is, object_fits (place_behind ds) is)
+
+front_fits : NoSectionsBeginOthers → EnvelopesEndWithTheLastRecord → (limits : Limits) → limits.octets < 4294967296 → limits.fields < 4294967296 → (ds : List Dataset) (begun : Begun) (xs : List ℕ) → SpellsStream count_octets ds xs
+    → MayGoOn limits ds begun → (AreSections ds → ⊥) → length xs < 1000000000000
+front_fits law ends limits octets fields ds (InTag held) xs spelled goes unfinished =
+    whole_fits law ends limits octets fields ds xs spelled goes.records goes.within (few_numbers (place_behind ds) goes.object) (object_fits (place_behind ds) goes.object) unfinished
+front_fits law ends limits octets fields ds (InData h taken) xs spelled goes unfinished =
+    let (d, head, (later, are)) = goes.records in
+    let sizes = sizes_at ds h.count (nat_eq h.rec 8) (nat_eq h.rec 9) goes.object in
+    whole_fits law ends limits octets fields ds xs spelled ((d ∷ []) ++ later, subst AreSections (append_assoc ds (d ∷ []) later) are) goes.within sizes.0 sizes.1 unfinished
+
+pub bounded_octets : NoSectionsBeginOthers → EnvelopesEndWithTheLastRecord → OpenOctetsAreBounded
+bounded_octets law ends limits octets low_octets few_fields is =
+    let r = is.reads in
+    omega (arith, ap length r.parts, length-append r.front r.rest, begun_fits is.begun r.rest r.is_rest, front_fits law ends limits low_octets few_fields is.whole is.begun r.front r.is_front is.goes_on.sizes is.unfinished)

@@ -1,0 +1,301 @@
+-- Where heads, data and ends of datasets lead the parts of an unpacker.
+use Rattle.std.proofs.Common.{◌≡◌, ℕ, ◌-◌, ◌≤◌, Bool, true, false, cond, if◌then◌else◌, nat_eq, List, [], ◌∷◌, ◌++◌, length, map, flat_map, Option, Some, refl, ap, sym, subst, ◌∙◌, inl, inr, arith, append_assoc, append-nil, length-append}
+use Rattle.std.proofs.lemmas.Bool.{eqb-true}
+use Rattle.std.proofs.lemmas.Bool.Decides.{eqb_tells}
+use Rattle.iim_dataset.specs.Octets.{Octets}
+use Rattle.iim_dataset.specs.Datasets.{Dataset}
+use Rattle.iim_dataset.specs.Splits.{Begun, InTag, InData}
+use Rattle.iim_dataset.specs.Events.{Event, HeadRead, DataOctet, events_of, handed_on}
+use Rattle.iim_dataset.specs.Languages as languages
+use Rattle.iim_dataset.specs.declared.head.Head.{Head}
+use Rattle.iim_fields.specs.Standing as records
+use Rattle.iim_fields.specs.Standing.{IsBetween, IsInside, IsWithin, limits_of}
+use Rattle.iim_fields.specs.declared.limits.Limits.{Limits}
+use Rattle.iim_fields.specs.declared.checker.Checker.{Checker}
+use Rattle.iim_object.specs.Events as object_events
+use Rattle.wire_story.specs.Delivery as story
+use Rattle.wire_story.specs.Tokens.{End, Octet, with_end}
+use Rattle.wire_message.specs.Layers.{MessageLanguage, MessageLivesWith, StoryLivesIn, text_so_far}
+use Rattle.wire_message.specs.Laws.{TextsStandBetweenStxAndEtx, ReadersStandAtLivingOctets}
+use Rattle.wire_message.specs.Reading as wire
+use Rattle.wire_message.specs.SoFar.{LeadTo}
+use Rattle.wire_message.specs.declared.place.Place.{Place}
+use Rattle.wire_message.specs.declared.fault.MessageCause.{MessageCause}
+use Rattle.wire_message.specs.declared.fault.MessageCause.TheVariants as messages
+use Rattle.iim_unpack.specs.Admitted.{object_of}
+use Rattle.iim_unpack.specs.Answers.{MayGoOn}
+use Rattle.iim_unpack.specs.Tokens.{GoOn, GoOnAt}
+use Rattle.iim_unpack.specs.Passed.{Passed, Halted}
+use Rattle.iim_unpack.specs.Passing.{octets_in-octets}
+use Rattle.iim_unpack.specs.Refusals.{message_on, cause_of_message}
+use Rattle.iim_unpack.specs.Parts.{object_so_far, section, AllGoOn, Behind, Within, StandsFor, Led, TakesData, Went, CountsFor, Stopped}
+use Rattle.iim_unpack.specs.declared.parts.Parts.{Parts}
+use Rattle.iim_unpack.proofs.Lasts.{not_all}
+use Rattle.iim_fields.specs.Laws.{NoSectionsBeginOthers}
+
+-- The laws that the parts call.
+pub record MessageLaws : Type 0 where
+  pub texts : TextsStandBetweenStxAndEtx
+  pub living : ReadersStandAtLivingOctets
+  pub sections : NoSectionsBeginOthers
+
+-- ---- lists
+
+octets_join : (xs ys : List ℕ) → Octets xs → Octets ys → Octets (xs ++ ys)
+octets_join [] ys h k = k
+octets_join (x ∷ xs) ys h k = (h.0, octets_join xs ys h.1 k)
+
+map-octets : (xs ys : List ℕ) → map DataOctet (xs ++ ys) ≡ map DataOctet xs ++ map DataOctet ys
+map-octets [] ys = refl
+map-octets (x ∷ xs) ys = ap (λ es. DataOctet x ∷ es) (map-octets xs ys)
+
+-- the events of a begun dataset, and some octets more
+pub data_more : (ds : List Dataset) (h : Head) (taken run : List ℕ) → handed_on ds (InData h taken) ++ map DataOctet run ≡ handed_on ds (InData h (taken ++ run))
+data_more ds h taken run =
+    append_assoc (flat_map events_of ds) (HeadRead h ∷ map DataOctet taken) (map DataOctet run)
+    ∙ ap (λ (es : List Event). flat_map events_of ds ++ (HeadRead h ∷ es)) (sym (map-octets taken run))
+
+-- ---- the reader of the message
+
+pub passes_on : TextsStandBetweenStxAndEtx → (old new : Option Place) (o piece more : List ℕ) → wire.GoesOn old piece more new → wire.StandsAt old o (text_so_far o)
+    → wire.StandsAt new (o ++ piece) (text_so_far (o ++ piece)) × (text_so_far o ++ more ≡ text_so_far (o ++ piece))
+passes_on texts old new o piece more goes at =
+    let next = goes o (text_so_far o) at in
+    let same = texts (o ++ piece) (text_so_far o ++ more) next.0 next.2 in
+    (subst (wire.StandsAt new (o ++ piece)) same next, same)
+
+-- ---- where the parts stand
+
+pub record InOne (p : Parts) (events : List Event) (text : List ℕ) : Type 0 where
+  pub ds : List Dataset
+  pub h : Head
+  pub taken : List ℕ
+  pub within : Within p ds h taken
+  pub told : events ≡ handed_on ds (InData h taken)
+  pub is_text : text ≡ text_so_far (object_so_far ds (InData h taken))
+
+pub record BehindAll (p : Parts) (events : List Event) (text : List ℕ) : Type 0 where
+  pub ds : List Dataset
+  pub held : List ℕ
+  pub behind : Behind p ds
+  pub told : events ≡ handed_on ds (InTag held)
+  pub is_text : text ≡ text_so_far (object_of ds)
+
+not_both : (c : Checker) (h : Head) (n : ℕ) → IsBetween c → IsInside c h n → ⊥
+not_both c h n between inside = let bad = sym between.between ∙ inside.inside in cc
+
+pub in_one : (p : Parts) (n : ℕ) (events : List Event) (text : List ℕ) → TakesData p n → Led p events text → InOne p events text
+in_one p n events text takes led = by_begun led.begun led.stands led.told led.is_text
+  where
+    by_begun : (b : Begun) → StandsFor p led.whole b → events ≡ handed_on led.whole b → text ≡ text_so_far (object_so_far led.whole b) → InOne p events text
+    by_begun (InTag held) stands told is = absurd (not_both p.fields p.head takes.fields.0 stands.fields.between takes.fields.1)
+    by_begun (InData h taken) stands told is = record { ds = led.whole; h = h; taken = taken; within = stands; told = told; is_text = is }
+
+pub behind_all : (p : Parts) (events : List Event) (text : List ℕ) → IsBetween p.fields → Led p events text → BehindAll p events text
+behind_all p events text between led = by_begun led.begun led.stands led.told led.is_text
+  where
+    by_begun : (b : Begun) → StandsFor p led.whole b → events ≡ handed_on led.whole b → text ≡ text_so_far (object_so_far led.whole b) → BehindAll p events text
+    by_begun (InTag held) stands told is = record { ds = led.whole; held = held; behind = stands; told = told; is_text = is }
+    by_begun (InData h taken) stands told is = absurd (not_both p.fields h stands.fields.inside.0 between stands.fields.inside.1)
+
+-- ---- every layer can go on
+
+not_eight : (r : ℕ) → (r ≡ 8 → ⊥) → nat_eq r 8 ≡ false
+not_eight r other = elim (eqb_tells r 8) [ inl same ↦ absurd (other same.1) | inr apart ↦ apart.0 ]
+
+pub goes_behind : (p : Parts) (ds : List Dataset) → Behind p ds → GoOn (limits_of p.fields) ds
+goes_behind p ds at = record { records = at.fields.alive; within = record { kept = at.fields.within; subfiles = at.few }; object = at.object.alive }
+
+pub goes_within : (p : Parts) (ds : List Dataset) (h : Head) (taken : List ℕ) → Within p ds h taken → GoOnAt (limits_of p.fields) ds h
+goes_within p ds h taken at = record {
+  records = at.fields.alive;
+  within = record { kept = at.fields.others; subfiles = at.few };
+  room = record { kept = at.fields.within; subfiles = at.room };
+  object = at.object.alive;
+}
+
+-- octets from which a message can go on, before its end
+lives_on : (o : List ℕ) (b : Bool) → b ≡ false → MessageLivesWith o → languages.IsAlive MessageLanguage (map Octet o ++ (if b then End ∷ [] else []))
+lives_on o true is lives = absurd (let bad : true ≡ false = is in cc)
+lives_on o false is lives = subst (languages.IsAlive MessageLanguage) (sym (append-nil (map Octet o))) lives
+
+-- a whole message, with or without its end
+lives_whole : (o : List ℕ) (b : Bool) → MessageLivesWith o → (b ≡ true → MessageLanguage (with_end o)) → languages.IsAlive MessageLanguage (map Octet o ++ (if b then End ∷ [] else []))
+lives_whole o true lives whole = ([], subst MessageLanguage (sym (append-nil (map Octet o ++ End ∷ []))) (whole refl))
+lives_whole o false lives whole = subst (languages.IsAlive MessageLanguage) (sym (append-nil (map Octet o))) lives
+
+is_language : (reader : Option Place) (o text : List ℕ) → wire.IsWhole reader → wire.StandsAt reader o text → MessageLanguage (with_end o)
+is_language reader o text whole at =
+    let (head, is, message, lines) = whole o text at in
+    record { object = o; head = head; text = text; trailer = wire.trailer_read reader; message = message; tokens_are = refl }
+
+all_by : ReadersStandAtLivingOctets → (limits : Limits) (ds : List Dataset) (begun : Begun) (reader : Option Place) (text : List ℕ)
+    → wire.StandsAt reader (object_so_far ds begun) text → (section ds begun ≡ 9 → wire.IsWhole reader) → MayGoOn limits ds begun → AllGoOn limits ds begun
+all_by living limits ds begun reader text at whole sizes =
+    let both = living (object_so_far ds begun) text at.0 at.2 in
+    record {
+      sizes = sizes;
+      message = lives_whole (object_so_far ds begun) (nat_eq (section ds begun) 9) both.0 (λ is. is_language reader (object_so_far ds begun) text (whole (eqb-true (section ds begun) 9 is)) at);
+      story = both.1;
+    }
+
+pub all_behind : ReadersStandAtLivingOctets → (p : Parts) (ds : List Dataset) (held : List ℕ) → Behind p ds → AllGoOn (limits_of p.fields) ds (InTag held)
+all_behind living p ds held at = all_by living (limits_of p.fields) ds (InTag held) p.message (text_so_far (object_of ds)) at.message at.ended (goes_behind p ds at)
+
+pub all_within : ReadersStandAtLivingOctets → (p : Parts) (ds : List Dataset) (h : Head) (taken : List ℕ) → Within p ds h taken → AllGoOn (limits_of p.fields) ds (InData h taken)
+all_within living p ds h taken at =
+    all_by living (limits_of p.fields) ds (InData h taken) p.message (text_so_far (object_so_far ds (InData h taken))) at.message at.ended (goes_within p ds h taken at)
+
+-- ---- data that is no subfile's
+
+pub within_other : (p : Parts) (ds : List Dataset) (h : Head) (taken run : List ℕ) (checker : Checker) → Within p ds h taken → (h.rec ≡ 8 → ⊥) → Octets run → length run ≤ p.left
+    → ((ds : List Dataset) (h : Head) (taken : List ℕ) → records.StandsIn p.fields ds h taken → records.StandsIn checker ds h (taken ++ run))
+    → Within (record p { fields = checker; left = p.left - length run }) ds h (taken ++ run)
+within_other p ds h taken run checker at other octets fits stands =
+    let no : nat_eq h.rec 8 ≡ false = not_eight h.rec other in
+    let same : (xs : List ℕ) → object_so_far ds (InData h xs) ≡ object_of ds ++ [] = λ xs. ap (λ (b : Bool). object_of ds ++ cond b xs []) no in
+    let is = same taken ∙ sym (same (taken ++ run)) in
+    record {
+      head = at.head;
+      left = omega (arith, at.left, fits, length-append taken run);
+      octets = octets_join taken run at.octets octets;
+      fields = subst (records.StandsIn checker ds h) (sym (ap (λ (b : Bool). cond b [] (taken ++ run)) no))
+          (stands ds h taken (subst (records.StandsIn p.fields ds h) (ap (λ (b : Bool). cond b [] taken) no) at.fields));
+      object = at.object;
+      subfiles = at.subfiles;
+      few = at.few;
+      room = at.room;
+      message = subst (λ (o : List ℕ). wire.StandsAt p.message o (text_so_far o)) is at.message;
+      ended = at.ended;
+      last = at.last;
+    }
+
+pub went_other : {S : Type 0} (goes : S → List story.Event → S → Type 0) (failures : S → ℕ) (p : Parts) (a : S) (run : List ℕ) (checker : Checker) → TakesData p p.left → (p.head.rec ≡ 8 → ⊥)
+    → Octets run → length run ≤ p.left → goes a [] a → limits_of checker ≡ limits_of p.fields
+    → ((ds : List Dataset) (h : Head) (taken : List ℕ) → records.StandsIn p.fields ds h taken → records.StandsIn checker ds h (taken ++ run))
+    → Went goes failures p a (map DataOctet run) (record p { fields = checker; left = p.left - length run }) a
+went_other goes failures p a run checker takes other octets fits g same stands = record {
+  limits = same;
+  more = [];
+  told = g;
+  calm = refl;
+  leads = λ before text led.
+      let one = in_one p p.left before text takes led in
+      let apart : one.h.rec ≡ 8 → ⊥ = λ eight. other (ap (λ (k : Head). k.rec) one.within.head ∙ eight) in
+      let no : nat_eq one.h.rec 8 ≡ false = not_eight one.h.rec apart in
+      let same_object : object_so_far one.ds (InData one.h one.taken) ≡ object_so_far one.ds (InData one.h (one.taken ++ run)) =
+      ap (λ (b : Bool). object_of one.ds ++ cond b one.taken []) no ∙ sym (ap (λ (b : Bool). object_of one.ds ++ cond b (one.taken ++ run) []) no) in
+      record {
+        whole = one.ds;
+        begun = InData one.h (one.taken ++ run);
+        told = ap (λ (es : List Event). es ++ map DataOctet run) one.told ∙ data_more one.ds one.h one.taken run;
+        stands = within_other p one.ds one.h one.taken run checker one.within apart octets fits stands;
+        is_text = append-nil text ∙ one.is_text ∙ ap text_so_far same_object;
+      };
+}
+
+-- ---- data of subfiles
+
+is_eight : (r : ℕ) → r ≡ 8 → nat_eq r 8 ≡ true
+is_eight r eight = ap (λ n. nat_eq n 8) eight
+
+-- the object, with octets more of a subfile
+object_more : (ds : List Dataset) (h : Head) (taken run : List ℕ) → h.rec ≡ 8 → object_so_far ds (InData h taken) ++ run ≡ object_so_far ds (InData h (taken ++ run))
+object_more ds h taken run eight =
+    let yes : nat_eq h.rec 8 ≡ true = is_eight h.rec eight in
+    ap (λ (b : Bool). (object_of ds ++ cond b taken []) ++ run) yes ∙ append_assoc (object_of ds) taken run ∙ sym (ap (λ (b : Bool). object_of ds ++ cond b (taken ++ run) []) yes)
+
+pub went_object : {S : Type 0} (goes : S → List story.Event → S → Type 0) (failures : S → ℕ) (p : Parts) (a b : S) (run : List ℕ) (message : Option Place) → MessageLaws → TakesData p p.left → p.head.rec ≡ 8
+    → Octets run → length run ≤ p.left → Passed goes failures p.message a (map object_events.ObjectOctet run) message b
+    → Went goes failures p a (map DataOctet run) (record p { message = message; left = p.left - length run }) b
+went_object goes failures p a b run message laws takes eight octets fits passed = record {
+  limits = refl;
+  more = passed.more;
+  told = passed.told;
+  calm = passed.calm;
+  leads = λ before text led.
+      let one = in_one p p.left before text takes led in
+      let at = one.within in
+      let is : one.h.rec ≡ 8 = sym (ap (λ (k : Head). k.rec) at.head) ∙ eight in
+      let yes : nat_eq one.h.rec 8 ≡ true = is_eight one.h.rec is in
+      let o : List ℕ = object_so_far one.ds (InData one.h one.taken) in
+      let goes_on : wire.GoesOn p.message run passed.more message = subst (λ (xs : List ℕ). wire.GoesOn p.message xs passed.more message) (octets_in-octets run) passed.stands in
+      let next = passes_on laws.texts p.message message o run passed.more goes_on at.message in
+      let longer = object_more one.ds one.h one.taken run is in
+      record {
+        whole = one.ds;
+        begun = InData one.h (one.taken ++ run);
+        told = ap (λ (es : List Event). es ++ map DataOctet run) one.told ∙ data_more one.ds one.h one.taken run;
+        stands = record {
+          head = at.head;
+          left = omega (arith, at.left, fits, length-append one.taken run);
+          octets = octets_join one.taken run at.octets octets;
+          fields = subst (records.StandsIn p.fields one.ds one.h) (ap (λ (b : Bool). cond b [] one.taken) yes ∙ sym (ap (λ (b : Bool). cond b [] (one.taken ++ run)) yes)) at.fields;
+          object = at.object;
+          subfiles = at.subfiles;
+          few = at.few;
+          room = at.room;
+          message = subst (λ (x : List ℕ). wire.StandsAt message x (text_so_far x)) longer next.0;
+          ended = λ nine. absurd (let bad : 8 ≡ 9 = sym is ∙ nine in omega (arith, bad));
+          last = at.last;
+        };
+        is_text = ap (λ (t : List ℕ). t ++ passed.more) one.is_text ∙ next.1 ∙ ap text_so_far longer;
+      };
+}
+
+pub counts_for : (cause : MessageCause) (m n : ℕ) → wire.CountsCause m n cause → CountsFor (cause_of_message cause) m n
+counts_for messages.BadOctet m n h = h
+counts_for messages.Unfinished m n h = h
+counts_for messages.LoneReturn m n h = h
+counts_for messages.ControlOctet m n h = h
+counts_for messages.Sink m n h = h
+
+pub stopped_object : {S : Type 0} (goes : S → List story.Event → S → Type 0) (failures : S → ℕ) (p : Parts) (a b : S) (front : List ℕ) (octet : ℕ) (cause : MessageCause) → MessageLaws → TakesData p p.left → p.head.rec ≡ 8
+    → Halted goes failures p.message a (map object_events.ObjectOctet front) (object_events.ObjectOctet octet) (Some cause) b
+    → Stopped goes failures p a (map DataOctet front) (DataOctet octet) (Some (message_on p.head cause)) b
+stopped_object goes failures p a b front octet cause laws takes eight halted =
+    let same : halted.why ≡ cause = sym (some-same halted.is_cause) in
+    record {
+      fault = message_on p.head cause;
+      is_fault = refl;
+      more = halted.more;
+      told = halted.told;
+      counts = counts_for cause (failures a) (failures b) (subst (wire.CountsCause (failures a) (failures b)) same halted.counts);
+      why = λ before text led.
+          let one = in_one p p.left before text takes led in
+          let at = one.within in
+          let is : one.h.rec ≡ 8 = sym (ap (λ (k : Head). k.rec) at.head) ∙ eight in
+          let o : List ℕ = object_so_far one.ds (InData one.h one.taken) in
+          let longer = object_more one.ds one.h one.taken front is in
+          let t : List ℕ = text_so_far o in
+          let next = halted.leads o t at.message in
+          let led_to : LeadTo (o ++ front) (t ++ halted.more) next.0 = subst (λ (xs : List ℕ). LeadTo (o ++ xs) (t ++ halted.more) next.0) (octets_in-octets front) next.1 in
+          let both = laws.living (o ++ front) (t ++ halted.more) next.0 led_to in
+          let has : wire.HasCause halted.why (o ++ front) octet = subst (λ (xs : List ℕ). wire.HasCause halted.why (o ++ xs) octet) (octets_in-octets front) (halted.has_cause o t at.message) in
+          let yes : nat_eq one.h.rec 8 ≡ true = is_eight one.h.rec is in
+          let in_full : object_so_far one.ds (InData one.h (one.taken ++ front)) ≡ object_of one.ds ++ (one.taken ++ front) = ap (λ (b : Bool). object_of one.ds ++ cond b (one.taken ++ front) []) yes in
+          let not_nine : nat_eq one.h.rec 9 ≡ false = ap (λ n. nat_eq n 9) is in
+          record {
+            whole = one.ds;
+            begun = InData one.h (one.taken ++ front);
+            told = ap (λ (es : List Event). es ++ map DataOctet front) one.told ∙ data_more one.ds one.h one.taken front;
+            is_text = ap (λ (x : List ℕ). x ++ halted.more) one.is_text ∙ laws.texts (o ++ front) (t ++ halted.more) next.0 led_to ∙ ap text_so_far longer;
+            goes_on = record {
+              sizes = goes_within p one.ds one.h one.taken at;
+              message = lives_on (object_so_far one.ds (InData one.h (one.taken ++ front))) (nat_eq one.h.rec 9) not_nine (subst MessageLivesWith longer both.0);
+              story = subst StoryLivesIn longer both.1;
+            };
+            unfinished = not_all laws.sections one.ds one.h at.fields.alive;
+            refuses = (
+              is,
+              (
+                cause,
+                subst (λ (c : MessageCause). wire.HasCause c (object_of one.ds ++ (one.taken ++ front)) octet) same (subst (λ (x : List ℕ). wire.HasCause halted.why x octet) (longer ∙ in_full) has),
+                ap (λ (k : Head). message_on k cause) at.head,
+              ),
+            );
+          };
+    }
+  where
+    some-same : {x y : MessageCause} → Some x ≡ Some y → x ≡ y
+    some-same e = cc

@@ -1,0 +1,587 @@
+-- Where an unpacker stands behind a piece.
+use Rattle.std.proofs.Common.{◌≡◌, ℕ, ◌<◌, ◌≤◌, ◌⊎◌, Bool, true, false, nat_eq, if◌then◌else◌, get_or, List, [], ◌∷◌, ◌++◌, length, take, slice_index, Option, Some, None, refl, ap, sym, subst, ◌∙◌, inl, inr, arith, append-nil}
+use Rattle.std.proofs.lemmas.List.{take_all}
+use Rattle.std.proofs.lemmas.Bool.{eqb-true, true≢false}
+use Rattle.std.proofs.lemmas.Bool.Decides.{eqb_tells}
+use Rattle.iim_dataset.specs.Datasets.{Dataset, SpellsStream, count_octets}
+use Rattle.iim_dataset.specs.Splits.{Begun, InTag, InData, Reads}
+use Rattle.iim_dataset.specs.Tags.{Concerns}
+use Rattle.iim_dataset.specs.Events.{Event, HeadRead, DataOctet, DatasetEnd, handed_on, begun_data}
+use Rattle.iim_dataset.specs.Places.{LeadsTo, HandsOn, IsKeptAs, between, named_by, to_come}
+use Rattle.iim_dataset.specs.Reading.{TagDies, TakesCalls}
+use Rattle.iim_dataset.specs.Laws.{NoTagBeginsAnother, NoDatasetBeginsAnother, OctetsAreHandedOnOneWay, EventsTellTheDatasets}
+use Rattle.iim_dataset.specs.declared.head.Head.{Head}
+use Rattle.iim_dataset.specs.declared.head.HeadCause.{HeadCause}
+use Rattle.iim_dataset.specs.declared.head.HeadCause.TheVariants.{Marker, CountForm}
+use Rattle.iim_dataset.specs.declared.place.Place.{Place}
+use Rattle.iim_dataset.specs.declared.place.Place.TheVariants.{Tag, Inside}
+use Rattle.iim_fields.specs.Records.{AreSections}
+use Rattle.iim_fields.specs.Faults.{present_record, kept as kept_of}
+use Rattle.iim_fields.specs.Faults.{kept as kept_of}
+use Rattle.iim_fields.specs.Laws.{EnvelopesEndWithTheLastRecord, NoSectionsBeginOthers}
+use Rattle.iim_fields.specs.Standing.{limits_of, StandsBehind}
+use Rattle.iim_fields.specs.declared.limits.Limits.{Limits}
+use Rattle.iim_object.specs.Reading as objects
+use Rattle.iim_object.specs.Behind.{of_record, place_behind, RecordsAreByNumber}
+use Rattle.iim_object.specs.Records.{AreRecords, HaveSizes}
+use Rattle.iim_object.specs.declared.size.Sizes.{Sizes}
+use Rattle.wire_story.specs.Delivery as story
+use Rattle.wire_message.specs.Layers.{text_so_far}
+use Rattle.wire_message.specs.Laws.{ReadersStandAtLivingOctets}
+use Rattle.wire_message.specs.Reading as wire
+use Rattle.wire_story.specs.Texts.{IsText}
+use Rattle.wire_message.specs.Messages.{Header, IsMessage}
+use Rattle.iim_fields.specs.Standing.{StandsBehind}
+use Rattle.iim_unpack.specs.Laws.{AdmittedOctetsHaveOneValue}
+use Rattle.iim_unpack.specs.Value.{HasParts}
+use Rattle.iim_unpack.specs.declared.unpacker.Unpacked.{Unpacked}
+use Rattle.iim_unpack.specs.Admitted.{Value, Admits, object_of}
+use Rattle.iim_unpack.specs.Answers.{begun_record, begun_number, tag_cause}
+use Rattle.iim_unpack.specs.Refusals.{refusal_at, message_on}
+use Rattle.iim_unpack.specs.Tokens.{IsRefusedHead, IsRefusedValue}
+use Rattle.iim_fields.specs.Values.{data_of}
+use Rattle.iim_unpack.specs.Steps.{cause_of_tag}
+use Rattle.iim_unpack.specs.Parts.{object_so_far, AllGoOn, Behind, StandsFor, Led, Refused, RefusesAt, IsUnfinished}
+use Rattle.iim_unpack.specs.Routing.{Takes, HasEnded}
+use Rattle.iim_unpack.specs.Unpacking.{Unpacking, Advanced, FailsAs, IsOnward, tag_fault, raised, are_some, begins, limits_in, IsTextOf, Adds, IsOpen, IsBadTagAt, RefusesNext, CompletesData, CompletesHead, CompletesOctet, CompletesEnd, CompletesNow, IsLed, Stands, IsDoneWith, IsRefusedIn, IsTruncatedAt, truncated_in, Stood, IsUnpacking}
+use Rattle.iim_unpack.specs.declared.parts.Parts.{Parts}
+use Rattle.iim_unpack.specs.declared.fault.Fault.{Fault}
+use Rattle.iim_unpack.specs.declared.refusal.Refusal.{Refusal}
+use Rattle.iim_unpack.specs.declared.refusal.Cause.{Cause}
+use Rattle.iim_unpack.specs.declared.refusal.Layer.TheVariants as layers
+use Rattle.iim_unpack.proofs.OneOctet.{one_octet}
+use Rattle.iim_unpack.proofs.Objects.{are_records}
+use Rattle.iim_unpack.proofs.Carrying.{all_behind, all_within}
+use Rattle.iim_unpack.proofs.Lasts.{sections_last, last_sections, not_all}
+
+pub record FeedLaws : Type 0 where
+  pub one_tag : NoTagBeginsAnother
+  pub one_dataset : NoDatasetBeginsAnother
+  pub way : OctetsAreHandedOnOneWay
+  pub tell : EventsTellTheDatasets
+  pub ends : EnvelopesEndWithTheLastRecord
+  pub sections : NoSectionsBeginOthers
+  pub living : ReadersStandAtLivingOctets
+  pub numbers : RecordsAreByNumber
+
+-- ---- begun datasets that are told alike
+
+all_as : (limits : Limits) (ds : List Dataset) (b c : Begun) → begun_data b ≡ begun_data c → AllGoOn limits ds c → AllGoOn limits ds b
+all_as limits ds (InTag held) (InTag other) same h = record { sizes = h.sizes; message = h.message; story = h.story }
+all_as limits ds (InTag held) (InData h taken) same k = absurd (let bad : None ≡ Some (h, taken) = same in cc)
+all_as limits ds (InData h taken) (InTag held) same k = absurd (let bad : Some (h, taken) ≡ None = same in cc)
+all_as limits ds (InData h taken) (InData k other) same g =
+    let pair : (h, taken) ≡ (k, other) = some-same same in
+    subst (λ (x : Head × List ℕ). AllGoOn limits ds (InData x.0 x.1)) (sym pair) g
+  where
+    some-same : {x y : Head × List ℕ} → Some x ≡ Some y → x ≡ y
+    some-same e = cc
+
+object_as : (ds : List Dataset) (b c : Begun) → begun_data b ≡ begun_data c → object_so_far ds b ≡ object_so_far ds c
+object_as ds (InTag held) (InTag other) same = refl
+object_as ds (InTag held) (InData h taken) same = absurd (let bad : None ≡ Some (h, taken) = same in cc)
+object_as ds (InData h taken) (InTag held) same = absurd (let bad : Some (h, taken) ≡ None = same in cc)
+object_as ds (InData h taken) (InData k other) same =
+    let pair : (h, taken) ≡ (k, other) = some-same same in ap (λ (x : Head × List ℕ). object_so_far ds (InData x.0 x.1)) pair
+  where
+    some-same : {x y : Head × List ℕ} → Some x ≡ Some y → x ≡ y
+    some-same e = cc
+
+-- ---- the last record
+
+-- ---- the octets and the parts
+
+-- what the reader of tags and the parts say of the octets
+pub record Both (limits : Limits) (p : List ℕ) (begun : Begun) (text : List ℕ) (parts : Parts) : Type 0 where
+  pub whole : List Dataset
+  pub reads : Reads p whole begun
+  pub goes_on : AllGoOn limits whole begun
+  pub text_is : text ≡ text_so_far (object_so_far whole begun)
+  pub led_whole : List Dataset
+  pub led_begun : Begun
+  pub stands : StandsFor parts led_whole led_begun
+  pub same : whole ≡ led_whole
+
+all_for : ReadersStandAtLivingOctets → (parts : Parts) (ds : List Dataset) (b : Begun) → StandsFor parts ds b → AllGoOn (limits_of parts.fields) ds b
+all_for living parts ds (InTag held) at = all_behind living parts ds held at
+all_for living parts ds (InData h taken) at = all_within living parts ds h taken at
+
+pub both : FeedLaws → (parts : Parts) (p : List ℕ) (events : List Event) (text : List ℕ) (place : Place) → (leads : LeadsTo p events place) → Led parts events text
+    → Both (limits_of parts.fields) p leads.begun text parts
+both laws parts p events text place leads led =
+    let told = laws.tell leads.hands.whole led.whole leads.begun led.begun (sym leads.hands.handed ∙ led.told) in
+    let all : AllGoOn (limits_of parts.fields) leads.hands.whole led.begun =
+    subst (λ (ds : List Dataset). AllGoOn (limits_of parts.fields) ds led.begun) (sym told.0) (all_for laws.living parts led.whole led.begun led.stands) in
+    record {
+      whole = leads.hands.whole;
+      reads = leads.hands.reads;
+      goes_on = all_as (limits_of parts.fields) leads.hands.whole leads.begun led.begun told.1 all;
+      text_is = led.is_text ∙ ap text_so_far (ap (λ (ds : List Dataset). object_so_far ds led.begun) (sym told.0) ∙ sym (object_as leads.hands.whole leads.begun led.begun told.1));
+      led_whole = led.whole;
+      led_begun = led.begun;
+      stands = led.stands;
+      same = told.0;
+    }
+
+pub text_of : FeedLaws → (parts : Parts) (p : List ℕ) (events : List Event) (text : List ℕ) (place : Place) → LeadsTo p events place → Led parts events text → IsTextOf p text
+text_of laws parts p events text place leads led = let b = both laws parts p events text place leads led in (b.whole, leads.begun, b.reads, b.text_is)
+
+-- octets have one text
+pub one_text : FeedLaws → (p x y : List ℕ) → IsTextOf p x → IsTextOf p y → x ≡ y
+one_text laws p x y (ds, b, reads, is) (es, c, other, that) =
+    let hands : HandsOn p (handed_on ds b) b = record { whole = ds; reads = reads; handed = refl } in
+    let gives : HandsOn p (handed_on es c) c = record { whole = es; reads = other; handed = refl } in
+    let way = laws.way p (handed_on ds b) (handed_on es c) b c hands gives in
+    let told = laws.tell ds es b c way.0 in
+    is ∙ ap text_so_far (ap (λ (xs : List Dataset). object_so_far xs b) told.0 ∙ ap (object_so_far es) way.1) ∙ sym that
+
+-- not yet an envelope
+unfinished : FeedLaws → (parts : Parts) (ds : List Dataset) (b : Begun) → StandsFor parts ds b → parts.last ≡ false → AreSections ds → ⊥
+unfinished laws parts ds (InTag held) at more sections =
+    let nine = sections_last laws.ends ds at.fields.alive sections in
+    true≢false (sym (ap (λ n. nat_eq n 9) nine) ∙ sym at.last ∙ more)
+unfinished laws parts ds (InData h taken) at more sections = not_all laws.sections ds h at.fields.alive sections
+
+pub open_by : FeedLaws → (parts : Parts) (p : List ℕ) (events : List Event) (text : List ℕ) (place : Place) → LeadsTo p events place → Led parts events text → parts.last ≡ false → IsOpen (limits_of parts.fields) p
+open_by laws parts p events text place leads led more =
+    let b = both laws parts p events text place leads led in
+    record {
+      whole = b.whole;
+      begun = leads.begun;
+      reads = b.reads;
+      goes_on = b.goes_on;
+      unfinished = λ sections. unfinished laws parts b.led_whole b.led_begun b.stands more (subst AreSections b.same sections);
+    }
+
+-- ---- a piece
+
+raised_on : (m n a k : ℕ) → m ≡ a → n ≡ raised m k → n ≡ raised a k
+raised_on m n a k same is = is ∙ ap (λ x. raised x k) same
+
+pub adds_by : {S : Type 0} (goes : S → List story.Event → S → Type 0) (failures : S → ℕ) → FeedLaws → (u v : Unpacking) (p octets : List ℕ) (place : Place) (q : Parts) (a b : S)
+    → (advanced : Advanced goes failures u.reader.place octets place u.parts a q b) → IsLed u p → Adds p octets (story.delivered advanced.went.more)
+adds_by goes failures laws u v p octets place q a b advanced led text is =
+    let same = one_text laws p text led.text is (text_of laws u.parts p led.events led.text u.reader.place led.leads led.led) in (
+      advanced.went.more,
+      subst (λ (t : List ℕ). IsTextOf (p ++ octets) (t ++ advanced.went.more)) (sym same)
+          (text_of laws q (p ++ octets) (led.events ++ advanced.more) (led.text ++ advanced.went.more) place (advanced.brings p led.events led.leads) (advanced.went.leads led.events led.text led.led)),
+      refl,
+    )
+
+led_by : {S : Type 0} (goes : S → List story.Event → S → Type 0) (failures : S → ℕ) (u v : Unpacking) (p octets : List ℕ) (a b : S)
+    → Advanced goes failures u.reader.place octets v.reader.place u.parts a v.parts b → IsLed u p → IsLed v (p ++ octets)
+led_by goes failures u v p octets a b advanced led = record {
+  events = led.events ++ advanced.more;
+  text = led.text ++ advanced.went.more;
+  leads = advanced.brings p led.events led.leads;
+  led = advanced.went.leads led.events led.text led.led;
+}
+
+begun_on : (u v : Bool) (p piece : List ℕ) → u ≡ are_some p → v ≡ begins u piece → v ≡ are_some (p ++ piece)
+begun_on u v [] piece was is = rw was at is
+begun_on u v (x ∷ p) piece was is = rw was at is
+
+pub goes_more : {S : Type 0} (goes : S → List story.Event → S → Type 0) (failures : S → ℕ) → FeedLaws → (u v : Unpacking) (piece : List ℕ) (used : ℕ) (a b : S)
+    → (advanced : Advanced goes failures u.reader.place (take used piece) v.reader.place u.parts a v.parts b) → IsOnward v.reader.place v.parts (length piece) used
+    → v.refused ≡ u.refused → v.parts.last ≡ false → v.octets ≡ raised u.octets used → v.begun ≡ begins u.begun piece
+    → (p : List ℕ) (n : ℕ) → Stands u p n → Stands v (p ++ piece) (raised n (length piece)) × Adds p piece (story.delivered advanced.went.more)
+goes_more goes failures laws u v piece used a b advanced onward same more counts some p n at =
+    let all : used ≡ length piece = elim onward [ inl h ↦ h.0 | inr h ↦ absurd (true≢false (sym h.0.last ∙ more)) ] in
+    let whole : take used piece ≡ piece = take_all used piece (omega (arith, all)) in
+    let led = led_by goes failures u v p (take used piece) a b advanced at.is_led in
+    let there : Stands v (p ++ take used piece) (raised n used) = record {
+      taking = same ∙ at.taking;
+      unended = more;
+      counts = raised_on u.octets v.octets n used at.counts counts;
+      begun = rw (sym whole) at (begun_on u.begun v.begun p piece at.begun some);
+      is_led = led;
+      is_open = open_by laws v.parts (p ++ take used piece) led.events led.text v.reader.place led.leads led.led more;
+    } in (
+      subst (λ (xs : List ℕ). Stands v (p ++ xs) (raised n (length piece))) whole (subst (λ (k : ℕ). Stands v (p ++ take used piece) (raised n k)) all there),
+      subst (λ (xs : List ℕ). Adds p xs (story.delivered advanced.went.more)) whole (adds_by goes failures laws u v p (take used piece) v.reader.place v.parts a b advanced at.is_led),
+    )
+
+-- ---- the end
+
+-- between datasets, the octets are whole datasets
+stream_of : (p : List ℕ) (whole : List Dataset) (begun : Begun) → Reads p whole begun → IsKeptAs between begun → SpellsStream count_octets whole p
+stream_of p whole (InTag held) reads keeps =
+    let none : reads.rest ≡ [] = reads.is_rest.0 ∙ sym keeps in
+    let is : reads.front ≡ p = sym (append-nil reads.front) ∙ ap (λ (xs : List ℕ). reads.front ++ xs) (sym none) ∙ sym reads.parts in
+    subst (SpellsStream count_octets whole) is reads.is_front
+stream_of p whole (InData h taken) reads keeps = absurd keeps
+
+-- What stands behind whole octets.
+pub record WholeParts (v : Unpacking) (p : List ℕ) : Type 0 where
+  pub ds : List Dataset
+  pub behind : Behind v.parts ds
+  pub stream : SpellsStream count_octets ds p
+  pub sections : AreSections ds
+  pub head : Header
+  pub head_is : wire.head_read v.parts.message ≡ Some head
+  pub message : IsMessage (object_of ds) head (text_so_far (object_of ds)) (wire.trailer_read v.parts.message)
+  pub lines : List (List ℕ)
+  pub lined : IsText (text_so_far (object_of ds)) lines
+
+record AtEnd (v : Unpacking) (events : List Event) : Type 0 where
+  pub ds : List Dataset
+  pub held : List ℕ
+  pub behind : Behind v.parts ds
+  pub told : events ≡ handed_on ds (InTag held)
+
+at_end : (v : Unpacking) (events : List Event) (text : List ℕ) → v.parts.last ≡ true → Led v.parts events text → AtEnd v events
+at_end v events text last led = by led.begun led.stands led.told
+  where
+    by : (b : Begun) → StandsFor v.parts led.whole b → events ≡ handed_on led.whole b → AtEnd v events
+    by (InTag held) behind told = record { ds = led.whole; held = held; behind = behind; told = told }
+    by (InData h taken) at told = absurd (true≢false (sym last ∙ at.last))
+
+pub whole_parts : FeedLaws → (v : Unpacking) (p : List ℕ) → v.parts.last ≡ true → v.reader.place ≡ between → IsLed v p → WholeParts v p
+whole_parts laws v p last place led =
+    let at = at_end v led.events led.text last led.led in
+    let same = (laws.tell at.ds led.leads.hands.whole (InTag at.held) led.leads.begun (sym at.told ∙ led.leads.hands.handed)).0 in
+    let behind = at.behind in
+    let nine : present_record at.ds ≡ 9 = eqb-true (present_record at.ds) 9 (sym behind.last ∙ last) in
+    let (head, is, message, (lines, lined)) = behind.ended nine (object_of at.ds) (text_so_far (object_of at.ds)) behind.message in
+    record {
+      ds = at.ds;
+      behind = behind;
+      stream = subst (λ (ds : List Dataset). SpellsStream count_octets ds p) (sym same)
+          (stream_of p led.leads.hands.whole led.leads.begun led.leads.hands.reads (subst (λ (x : Place). IsKeptAs x led.leads.begun) place led.leads.keeps));
+      sections = last_sections laws.ends at.ds behind.fields.alive nine;
+      head = head;
+      head_is = is;
+      message = message;
+      lines = lines;
+      lined = lined;
+    }
+
+-- what the sizes of the object are
+abbrev pub TellsSizes : Unpacking → Sizes → Type 0
+TellsSizes v s = (ds : List Dataset) (r : AreRecords ds) → objects.StandsAt v.parts.object (place_behind ds) → HaveSizes r.r7 r.r8 r.r9 s
+
+admits_by : FeedLaws → (v : Unpacking) (p : List ℕ) (s : Sizes) → (w : WholeParts v p) → TellsSizes v s
+    → Admits p (record { fields = kept_of w.ds; head = w.head; lines = w.lines; trailer = wire.trailer_read v.parts.message; sizes = s })
+admits_by laws v p s w sizes =
+    let r = are_records w.ds w.sections in
+    let by = laws.numbers w.ds r in
+    let have = sizes w.ds r w.behind.object in
+    let have' : HaveSizes (of_record 7 w.ds) (of_record 8 w.ds) (of_record 9 w.ds) s = rw (by.sevens, by.eights, by.nines) have in
+    record { datasets = w.ds; spelled = w.stream; sections = w.sections; fields = refl; text = text_so_far (object_of w.ds); message = w.message; lines = w.lined; sizes = have' }
+
+pub done_by : FeedLaws → (v : Unpacking) (p : List ℕ) (n : ℕ) (s : Sizes) → v.refused ≡ None → HasEnded v.parts → v.reader.place ≡ between → v.octets ≡ n → IsLed v p → TellsSizes v s → IsDoneWith v p n
+done_by laws v p n s taking ended place counts led sizes =
+    let w = whole_parts laws v p ended.last place led in
+    let r = are_records w.ds w.sections in
+    let by = laws.numbers w.ds r in
+    let have = sizes w.ds r w.behind.object in
+    let have' : HaveSizes (of_record 7 w.ds) (of_record 8 w.ds) (of_record 9 w.ds) s = rw (by.sevens, by.eights, by.nines) have in
+    record {
+      taking = taking;
+      ended = ended.last;
+      place = place;
+      counts = counts;
+      is_led = led;
+      value = record { fields = kept_of w.ds; head = w.head; lines = w.lines; trailer = wire.trailer_read v.parts.message; sizes = s };
+      admits = record { datasets = w.ds; spelled = w.stream; sections = w.sections; fields = refl; text = text_so_far (object_of w.ds); message = w.message; lines = w.lined; sizes = have' };
+      within = record { kept = w.behind.fields.within; subfiles = w.behind.few };
+    }
+
+-- the value is handed over
+pub hands_over : FeedLaws → AdmittedOctetsHaveOneValue → (u : Unpacking) (p : List ℕ) (n : ℕ) (got : Unpacked) → IsDoneWith u p n → wire.head_read u.parts.message ≡ Some got.head
+    → got.trailer.items ≡ wire.trailer_read u.parts.message → TellsSizes u got.sizes → ((ds : List Dataset) → StandsBehind u.parts.fields ds → got.envelope ≡ kept_of ds)
+    → (v : Value) → Admits p v → HasParts got v
+hands_over laws one u p n got at head trailer sizes envelope v admits =
+    let w = whole_parts laws u p at.ended at.place at.is_led in
+    let mine : Value = record { fields = kept_of w.ds; head = w.head; lines = w.lines; trailer = wire.trailer_read u.parts.message; sizes = got.sizes } in
+    let same : mine ≡ v = one p mine v (admits_by laws u p got.sizes w sizes) admits in
+    record {
+      fields = envelope w.ds w.behind.fields ∙ ap (λ (x : Value). x.fields) same;
+      head = some-same (sym head ∙ w.head_is) ∙ ap (λ (x : Value). x.head) same;
+      trailer = trailer ∙ ap (λ (x : Value). x.trailer) same;
+      sizes = ap (λ (x : Value). x.sizes) same;
+    }
+  where
+    some-same : {x y : Header} → Some x ≡ Some y → x ≡ y
+    some-same h = cc
+
+-- there is a header
+pub has_head : FeedLaws → (u : Unpacking) (p : List ℕ) (n : ℕ) → IsDoneWith u p n → wire.head_read u.parts.message ≡ None → ⊥
+has_head laws u p n at none = let w = whole_parts laws u p at.ended at.place at.is_led in let bad : None ≡ Some w.head = sym none ∙ w.head_is in cc
+
+pub goes_done : {S : Type 0} (goes : S → List story.Event → S → Type 0) (failures : S → ℕ) → FeedLaws → (u v : Unpacking) (piece : List ℕ) (used : ℕ) (a b : S) (s : Sizes)
+    → (advanced : Advanced goes failures u.reader.place (take used piece) v.reader.place u.parts a v.parts b) → IsOnward v.reader.place v.parts (length piece) used
+    → v.refused ≡ u.refused → v.parts.last ≡ true → v.octets ≡ raised u.octets used → used ≤ length piece
+    → ((ds : List Dataset) (r : AreRecords ds) → objects.StandsAt v.parts.object (place_behind ds) → HaveSizes r.r7 r.r8 r.r9 s)
+    → (p : List ℕ) (n : ℕ) → Stands u p n
+    → (used ≤ length piece) × IsDoneWith v (p ++ take used piece) (raised n used) × Adds p (take used piece) (story.delivered advanced.went.more)
+goes_done goes failures laws u v piece used a b s advanced onward same last counts fits sizes p n at =
+    let ended : HasEnded v.parts × (v.reader.place ≡ between) = elim onward [ inl h ↦ absurd (not_taken (to_come' v) h.1) | inr h ↦ h ] in
+    let led = led_by goes failures u v p (take used piece) a b advanced at.is_led in (
+      fits,
+      done_by laws v (p ++ take used piece) (raised n used) s (same ∙ at.taking) ended.0 ended.1 (raised_on u.octets v.octets n used at.counts counts) led sizes,
+      adds_by goes failures laws u v p (take used piece) v.reader.place v.parts a b advanced at.is_led,
+    )
+  where
+    to_come' : Unpacking → Option ℕ
+    to_come' w = to_come w.reader.place
+
+    not_taken : (left : Option ℕ) → Takes v.parts left → ⊥
+    not_taken None takes = true≢false (sym last ∙ takes.last)
+    not_taken (Some left) takes = true≢false (sym last ∙ takes.last)
+
+-- ---- refusals
+
+tag_causes : (held : List ℕ) (cause : HeadCause) → Concerns cause (length held) → cause_of_tag cause ≡ tag_cause held
+tag_causes [] Marker is = refl
+tag_causes (x ∷ xs) Marker is = absurd (omega (arith, is))
+tag_causes [] CountForm is = absurd (omega (arith, is))
+tag_causes (x ∷ xs) CountForm is = refl
+
+kept_tag : (held : List ℕ) (begun : Begun) → IsKeptAs (Tag (record { items = held })) begun → begun ≡ InTag held
+kept_tag held (InTag octets) keeps = ap InTag (sym keeps)
+kept_tag held (InData h taken) keeps = absurd keeps
+
+bad_tag : FeedLaws → (limits : Limits) (parts : Parts) (p : List ℕ) (events : List Event) (text : List ℕ) (place : Place) (next : ℕ) (cause : HeadCause) (fault : Fault) → limits_of parts.fields ≡ limits
+    → LeadsTo p events place → Led parts events text → parts.last ≡ false → TagDies place next cause → fault ≡ tag_fault (named_by place) cause → IsBadTagAt limits p next fault
+bad_tag laws limits parts p events text place next cause fault same leads led more dies is =
+    let b = both laws parts p events text place leads led in
+    let begun : leads.begun ≡ InTag dies.held = kept_tag dies.held leads.begun (subst (λ (x : Place). IsKeptAs x leads.begun) dies.tag leads.keeps) in
+    record {
+      whole = b.whole;
+      held = dies.held;
+      reads = subst (Reads p b.whole) begun b.reads;
+      goes_on = subst (AllGoOn limits b.whole) begun (subst (λ (l : Limits). AllGoOn l b.whole leads.begun) same b.goes_on);
+      unfinished = λ sections. unfinished laws parts b.led_whole b.led_begun b.stands more (subst AreSections b.same sections);
+      dead = dies.dead;
+      is_fault = is ∙ ap (λ (x : Place). tag_fault (named_by x) cause) dies.tag
+          ∙ ap (λ (c : Cause). record { layer = layers.Dataset; rec = get_or dies.held 1 0; set = get_or dies.held 2 0; cause = c }) (tag_causes dies.held cause dies.concerns);
+    }
+
+-- What the octets are and what the parts say of them.
+record Told (limits : Limits) (octets text : List ℕ) (next : ℕ) (fault : Fault) : Type 0 where
+  pub text_is : IsTextOf octets text
+  pub refuses : RefusesNext limits octets next fault
+
+head_refused : FeedLaws → (limits : Limits) (octets : List ℕ) (next : ℕ) (events : List Event) (text : List ℕ) (h : Head) (fault : Fault) → CompletesHead octets next events h
+    → Refused limits events text (HeadRead h) fault → Told limits octets text next fault
+head_refused laws limits octets next events text h fault c r = by r.begun r.refuses (laws.tell r.whole c.whole r.begun (InTag c.held) (sym r.told ∙ c.told))
+  where
+    by : (b : Begun) → RefusesAt limits r.whole b (HeadRead h) fault → (r.whole ≡ c.whole) × (begun_data r.begun ≡ None) → Told limits octets text next fault
+    by (InTag held) refuses told = record {
+      text_is = (c.whole, InTag c.held, c.reads, r.is_text ∙ ap text_so_far (object_as r.whole r.begun (InTag c.held) told.1 ∙ ap object_of told.0));
+      refuses = inr (inl (record {
+        whole = c.whole;
+        held = c.held;
+        head = h;
+        reads = c.reads;
+        goes_on = all_as limits c.whole (InTag c.held) r.begun (sym told.1) (subst (λ (ds : List Dataset). AllGoOn limits ds r.begun) told.0 r.goes_on);
+        unfinished = subst (λ (ds : List Dataset). AreSections ds → ⊥) told.0 r.unfinished;
+        tag = c.tag;
+        refuses = subst (λ (ds : List Dataset). IsRefusedHead limits ds h fault ⊎ IsUnfinished limits ds h fault) told.0 refuses;
+      }));
+    }
+    by (InData k taken) refuses told = absurd refuses
+
+octet_refused : FeedLaws → (limits : Limits) (octets : List ℕ) (next : ℕ) (events : List Event) (text : List ℕ) (fault : Fault) → CompletesOctet octets next events
+    → Refused limits events text (DataOctet next) fault → Told limits octets text next fault
+octet_refused laws limits octets next events text fault c r = by r.begun r.refuses (laws.tell r.whole c.whole r.begun (InData c.head c.taken) (sym r.told ∙ c.told)) refl
+  where
+    some-same : {x y : Head × List ℕ} → Some x ≡ Some y → x ≡ y
+    some-same e = cc
+
+    by : (b : Begun) → RefusesAt limits r.whole b (DataOctet next) fault → (r.whole ≡ c.whole) × (begun_data r.begun ≡ Some (c.head, c.taken)) → r.begun ≡ b → Told limits octets text next fault
+    by (InTag held) refuses told is = absurd refuses
+    by (InData k taken) (eight, (cause, has, is_fault)) told is =
+        let pair : (k, taken) ≡ (c.head, c.taken) = some-same (sym (ap begun_data is) ∙ told.1) in
+        let head : k ≡ c.head = ap (λ (x : Head × List ℕ). x.0) pair in
+        let given : taken ≡ c.taken = ap (λ (x : Head × List ℕ). x.1) pair in
+        record {
+          text_is = (
+            c.whole,
+            InData c.head c.taken,
+            c.reads,
+            r.is_text ∙ ap text_so_far (object_as r.whole r.begun (InData c.head c.taken) told.1 ∙ ap (λ (ds : List Dataset). object_so_far ds (InData c.head c.taken)) told.0),
+          );
+          refuses = inr (inr (inl (record {
+            whole = c.whole;
+            head = c.head;
+            taken = c.taken;
+            reads = c.reads;
+            goes_on = all_as limits c.whole (InData c.head c.taken) r.begun (sym told.1) (subst (λ (ds : List Dataset). AllGoOn limits ds r.begun) told.0 r.goes_on);
+            unfinished = subst (λ (ds : List Dataset). AreSections ds → ⊥) told.0 r.unfinished;
+            subfile = sym (ap (λ (x : Head). x.rec) head) ∙ eight;
+            cause = cause;
+            has_cause = subst (λ (ds : List Dataset). wire.HasCause cause (object_of ds ++ c.taken) next) told.0 (subst (λ (xs : List ℕ). wire.HasCause cause (object_of r.whole ++ xs) next) given has);
+            is_fault = is_fault ∙ ap (λ (x : Head). message_on x cause) head;
+          })));
+        }
+
+-- data of another record than 8 are no part of the object
+no_object : (ds : List Dataset) (h : Head) (taken : List ℕ) → (h.rec ≡ 8 → ⊥) → object_so_far ds (InData h taken) ≡ object_of ds
+no_object ds h taken other = ap (λ (b : Bool). object_of ds ++ (if b then taken else [])) (apart (eqb_tells h.rec 8)) ∙ append-nil (object_of ds)
+  where
+    apart : ((nat_eq h.rec 8 ≡ true) × (h.rec ≡ 8)) ⊎ ((nat_eq h.rec 8 ≡ false) × (h.rec ≡ 8 → ⊥)) → nat_eq h.rec 8 ≡ false
+    apart (inl same) = absurd (other same.1)
+    apart (inr is) = is.0
+
+end_text : (octets : List ℕ) (next : ℕ) (ds : List Dataset) (h : Head) (given text : List ℕ) → (h.rec ≡ 8 → ⊥) → text ≡ text_so_far (object_of ds) → CompletesData octets next ds h given → IsTextOf octets text
+end_text octets next ds h given text other is (inl (taken, reads, parts, count)) = (ds, InData h taken, reads, is ∙ ap text_so_far (sym (no_object ds h taken other)))
+end_text octets next ds h given text other is (inr (held, reads, tag, count, none)) = (ds, InTag held, reads, is)
+
+end_refused : FeedLaws → (limits : Limits) (octets : List ℕ) (next : ℕ) (events : List Event) (text : List ℕ) (fault : Fault) → CompletesEnd octets next events
+    → Refused limits events text DatasetEnd fault → Told limits octets text next fault
+end_refused laws limits octets next events text fault c r = by r.begun r.refuses (laws.tell r.whole c.whole r.begun (InData c.head c.given) (sym r.told ∙ c.told)) refl
+  where
+    some-same : {x y : Head × List ℕ} → Some x ≡ Some y → x ≡ y
+    some-same e = cc
+
+    by : (b : Begun) → RefusesAt limits r.whole b DatasetEnd fault → (r.whole ≡ c.whole) × (begun_data r.begun ≡ Some (c.head, c.given)) → r.begun ≡ b → Told limits octets text next fault
+    by (InTag held) refuses told is = absurd refuses
+    by (InData k taken) (other, refuses) told is =
+        let pair : (k, taken) ≡ (c.head, c.given) = some-same (sym (ap begun_data is) ∙ told.1) in
+        let head : k ≡ c.head = ap (λ (x : Head × List ℕ). x.0) pair in
+        let apart : c.head.rec ≡ 8 → ⊥ = λ eight. other (ap (λ (x : Head). x.rec) head ∙ eight) in
+        let is_text : text ≡ text_so_far (object_of c.whole) =
+        r.is_text ∙ ap text_so_far (object_as r.whole r.begun (InData c.head c.given) told.1 ∙ ap (λ (ds : List Dataset). object_so_far ds (InData c.head c.given)) told.0 ∙ no_object c.whole c.head c.given apart) in
+        record {
+          text_is = end_text octets next c.whole c.head c.given text apart is_text c.completes;
+          refuses = inr (inr (inr (record {
+            whole = c.whole;
+            head = c.head;
+            given = c.given;
+            completes = c.completes;
+            goes_on = all_as limits c.whole (InData c.head c.given) r.begun (sym told.1) (subst (λ (ds : List Dataset). AllGoOn limits ds r.begun) told.0 r.goes_on);
+            unfinished = subst (λ (ds : List Dataset). AreSections ds → ⊥) told.0 r.unfinished;
+            refuses = subst (λ (ds : List Dataset). IsRefusedValue ds (data_of c.head c.given) fault) told.0 (subst (λ (x : Head × List ℕ). IsRefusedValue r.whole (data_of x.0 x.1) fault) pair refuses);
+          })));
+        }
+
+token_refused : FeedLaws → (limits : Limits) (octets : List ℕ) (next : ℕ) (events : List Event) (text : List ℕ) (event : Event) (fault : Fault) → CompletesNow octets next events event
+    → Refused limits events text event fault → Told limits octets text next fault
+token_refused laws limits octets next events text (HeadRead h) fault c r = head_refused laws limits octets next events text h fault c r
+token_refused laws limits octets next events text (DataOctet b) fault c r =
+    octet_refused laws limits octets next events text fault c.1 (subst (λ (x : ℕ). Refused limits events text (DataOctet x) fault) c.0 r)
+token_refused laws limits octets next events text DatasetEnd fault c r = end_refused laws limits octets next events text fault c r
+
+open_parts : (parts : Parts) (left : Option ℕ) → Takes parts left → parts.last ≡ false
+open_parts parts None takes = takes.last
+open_parts parts (Some left) takes = takes.last
+
+-- the sink's answer at a refusal
+pub refused_in : {S : Type 0} (goes : S → List story.Event → S → Type 0) (failures : S → ℕ) → FeedLaws → (u : Unpacking) (piece : List ℕ) (k : ℕ) (fault : Fault) (a b : S) (e : Refusal)
+    → k < length piece → e ≡ refusal_at (raised u.octets k) fault → FailsAs goes failures u.reader.place piece k fault u.parts a b
+    → (more : List story.Event) × goes a more b × ((p : List ℕ) (n : ℕ) → Stands u p n → IsRefusedIn (limits_in u) p n piece more e)
+refused_in goes failures laws u piece k fault a b e within is (inl (cause, new, stuck, is_fault)) =
+    let w = stuck.advanced.went in (
+      story.delivered w.more,
+      w.told,
+      λ p n at.
+          let led = at.is_led in
+          let leads = stuck.advanced.brings p led.events led.leads in
+          let then_led = w.leads led.events led.text led.led in
+          record {
+            k = k;
+            within = within;
+            fault = fault;
+            refusal = is ∙ ap (λ (m : ℕ). refusal_at (raised m k) fault) at.counts;
+            added = w.more;
+            delivers = refl;
+            adds = λ text is_text.
+                let same = one_text laws p text led.text is_text (text_of laws u.parts p led.events led.text u.reader.place led.leads led.led) in
+                subst (λ (t : List ℕ). IsTextOf (p ++ take k piece) (t ++ w.more)) (sym same)
+                (text_of laws stuck.parts (p ++ take k piece) (led.events ++ stuck.advanced.more) (led.text ++ w.more) new leads then_led);
+            refuses = inl (bad_tag laws (limits_in u) stuck.parts (p ++ take k piece) (led.events ++ stuck.advanced.more) (led.text ++ w.more) new (slice_index piece k) cause fault w.limits leads then_led (open_parts stuck.parts (to_come new) stuck.takes) stuck.dies is_fault);
+          },
+    )
+refused_in goes failures laws u piece k fault a b e within is (inr stop) =
+    let s = stop.stopped in
+    let same_fault : s.fault ≡ fault = sym (some-same s.is_fault) in (
+      story.delivered s.more,
+      s.told,
+      λ p n at.
+          let led = at.is_led in
+          let now = one_octet laws.one_tag laws.one_dataset (p ++ take k piece) (slice_index piece k) (led.events ++ stop.more) stop.event (stop.completes p led.events led.leads) in
+          let told = token_refused laws (limits_in u) (p ++ take k piece) (slice_index piece k) (led.events ++ stop.more) (led.text ++ s.more) stop.event fault now
+          (subst (λ (f : Fault). Refused (limits_in u) (led.events ++ stop.more) (led.text ++ s.more) stop.event f) same_fault (s.why led.events led.text led.led)) in
+          record {
+            k = k;
+            within = within;
+            fault = fault;
+            refusal = is ∙ ap (λ (m : ℕ). refusal_at (raised m k) fault) at.counts;
+            added = s.more;
+            delivers = refl;
+            adds = λ text is_text.
+                let same = one_text laws p text led.text is_text (text_of laws u.parts p led.events led.text u.reader.place led.leads led.led) in
+                subst (λ (t : List ℕ). IsTextOf (p ++ take k piece) (t ++ s.more)) (sym same) told.text_is;
+            refuses = told.refuses;
+          },
+    )
+  where
+    some-same : {x y : Fault} → Some x ≡ Some y → x ≡ y
+    some-same h = cc
+
+-- ---- the beginning and the end
+
+pub named_as : (place : Place) (begun : Begun) → IsKeptAs place begun → named_by place ≡ (begun_record begun, begun_number begun)
+named_as (Tag held) (InTag octets) keeps = ap (λ (xs : List ℕ). (get_or xs 1 0, get_or xs 2 0)) keeps
+named_as (Tag held) (InData h taken) keeps = absurd keeps
+named_as (Inside h left) (InTag octets) keeps = absurd keeps
+named_as (Inside h left) (InData k taken) keeps = ap (λ (x : Head). (x.rec, x.set)) keeps.0
+
+pub truncated_by : (u : Unpacking) (p : List ℕ) (a : ℕ) → Stands u p a → IsTruncatedAt p a (truncated_in u.octets (named_by u.reader.place))
+truncated_by u p a at =
+    let led = at.is_led in
+    record {
+      whole = led.leads.hands.whole;
+      begun = led.leads.begun;
+      reads = led.leads.hands.reads;
+      refusal = ap (λ (n : ℕ). truncated_in n (named_by u.reader.place)) at.counts ∙ ap (truncated_in a) (named_as u.reader.place led.leads.begun led.leads.keeps);
+    }
+
+-- an unpacker of which no octet has come
+pub stands_new : FeedLaws → (u : Unpacking) → u.refused ≡ None → u.parts.last ≡ false → u.octets ≡ 0 → u.begun ≡ false → LeadsTo [] [] u.reader.place → Behind u.parts [] → Stands u [] 0
+stands_new laws u taking more counts none leads behind =
+    let led : Led u.parts [] [] = record { whole = []; begun = InTag []; told = refl; stands = behind; is_text = refl } in
+    record {
+      taking = taking;
+      unended = more;
+      counts = counts;
+      begun = none;
+      is_led = record { events = []; text = []; leads = leads; led = led };
+      is_open = open_by laws u.parts [] [] [] u.reader.place leads led more;
+    }
+
+-- ---- an unpacker stands somewhere
+
+pub stood_stands : (u : Unpacking) → u.parts.last ≡ false → Stood u → (p : List ℕ) × (a : ℕ) × Stands u p a
+stood_stands u more (p, a, inl at) = (p, a, at)
+stood_stands u more (p, a, inr at) = absurd (true≢false (sym at.ended ∙ more))
+
+pub sound_more : {S : Type 0} (goes : S → List story.Event → S → Type 0) (failures : S → ℕ) → FeedLaws → (u v : Unpacking) (piece : List ℕ) (used : ℕ) (a b : S)
+    → (advanced : Advanced goes failures u.reader.place (take used piece) v.reader.place u.parts a v.parts b) → IsOnward v.reader.place v.parts (length piece) used → TakesCalls v.reader
+    → v.refused ≡ u.refused → v.parts.last ≡ false → v.octets ≡ raised u.octets used → v.begun ≡ begins u.begun piece → IsUnpacking u → u.parts.last ≡ false → IsUnpacking v
+sound_more goes failures laws u v piece used a b advanced onward calls same more counts some sound unended =
+    let (p, n, at) = stood_stands u unended sound.stood in
+    let both = goes_more goes failures laws u v piece used a b advanced onward same more counts some p n at in
+    record {
+      calls = calls;
+      takes = elim onward [ inl h ↦ inl (more, h.1) | inr h ↦ inr h.0 ];
+      stood = (p ++ piece, raised n (length piece), inl both.0);
+    }
+
+pub sound_done : {S : Type 0} (goes : S → List story.Event → S → Type 0) (failures : S → ℕ) → FeedLaws → (u v : Unpacking) (piece : List ℕ) (used : ℕ) (a b : S) (s : Sizes)
+    → (advanced : Advanced goes failures u.reader.place (take used piece) v.reader.place u.parts a v.parts b) → IsOnward v.reader.place v.parts (length piece) used → TakesCalls v.reader
+    → v.refused ≡ u.refused → v.parts.last ≡ true → v.octets ≡ raised u.octets used → used ≤ length piece → TellsSizes v s → IsUnpacking u → u.parts.last ≡ false → IsUnpacking v
+sound_done goes failures laws u v piece used a b s advanced onward calls same last counts fits sizes sound unended =
+    let (p, n, at) = stood_stands u unended sound.stood in
+    let all = goes_done goes failures laws u v piece used a b s advanced onward same last counts fits sizes p n at in
+    record {
+      calls = calls;
+      takes = elim onward [ inl h ↦ absurd (taken_not v last (to_come v.reader.place) h.1) | inr h ↦ inr h.0 ];
+      stood = (p ++ take used piece, raised n used, inr all.1);
+    }
+  where
+    taken_not : (w : Unpacking) → w.parts.last ≡ true → (left : Option ℕ) → Takes w.parts left → ⊥
+    taken_not w ended None takes = true≢false (sym ended ∙ takes.last)
+    taken_not w ended (Some left) takes = true≢false (sym ended ∙ takes.last)

@@ -1,0 +1,15 @@
+-- What a refusal of the reader of tags says of the parts.
+use Rattle.std.proofs.Common.{ℕ, List, Option, Some, None}
+use Rattle.iim_dataset.specs.Reading.{RefusesFor, StillStands}
+use Rattle.iim_dataset.specs.declared.head.HeadCause.{HeadCause}
+use Rattle.iim_dataset.specs.declared.place.Place.{Place}
+use Rattle.wire_story.specs.Delivery as story
+use Rattle.iim_unpack.specs.Routing.{Routes, RefusesRoute, TakesNext}
+use Rattle.iim_unpack.specs.Unpacking.{FailsFor}
+use Rattle.iim_unpack.specs.declared.router.Router.{Router}
+
+pub fails_for : {S : Type 0} (goes : S → List story.Event → S → Type 0) (failures : S → ℕ) (cause : Option HeadCause) (old : Place) (octets : List ℕ) (k : ℕ) (new : Place) (a b : Router S)
+    → RefusesFor (Routes goes failures) (RefusesRoute goes failures) cause old octets k new a b → StillStands TakesNext cause new b → FailsFor goes failures cause old octets k new a.parts.now a.sink.now b.refused b.sink.now
+fails_for goes failures None old octets k new a b h open' = record { more = h.0.more; event = h.0.event; stopped = h.0.stopped.2; completes = h.0.completes }
+fails_for goes failures (Some cause) old octets k new a b h open' =
+    record { parts = b.parts.now; takes = open'; advanced = record { more = h.0.more; went = h.0.told.2; brings = h.0.brings }; dies = h.1 }

@@ -1,0 +1,205 @@
+use Rattle.std.proofs.Common.{◌≡◌, ◌<◌, ◌≤◌, ℕ, List, length, refl, ap, sym, subst, ◌∙◌, inl, inr}
+use Rattle.iim_dataset.specs.Devices.{Device}
+use Rattle.iim_dataset.specs.DeviceLaws.{GiftsJoin}
+use Rattle.iim_unpack.specs.Blocks.{behind}
+use Rattle.iim_unpack.specs.Unpacking.{raised}
+use Rattle.iim_fields.specs.declared.limits.Limits.{Limits}
+use Rattle.iim_unpack.proofs.Blocks.{line_used, line_front}
+use Rattle.iim_unpack.proofs.Intakes.{begin_on, went_more, went_done, went_refused, went_ended, went_truncated, went_missed, bounded, smaller, somewhere, faulted, told_truncated, not_told, was_fresh, not_fresh, used_within}
+use Rattle.iim_unpack.proofs.intake.feed_line.Goals as goal
+
+pub feeding-init : goal.feeding-init
+feeding-init g c =
+    let st = g.R.Source.state in
+    let joins : GiftsJoin = record { none = c.gifts_join.ensures.none; more = c.gifts_join.ensures.more; fault = c.gifts_join.ensures.fault; missed = c.gifts_join.ensures.missed } in
+    let old : Device = behind c.args.block.now (st c.args.reader.now) in
+    record {
+      went = begin_on g.S.StorySink.goes joins old c.args.unpacker.now c.args.sink.now c.stands_somewhere.ensures.counts (g.met.S.StorySink.nothing c.args.sink.now);
+      ready = c.requires.ready;
+      calm = refl;
+      leads = g.met.R.Source.stays c.args.reader.now;
+    }
+
+pub returns-then-is_fresh-clause-fed : goal.returns-then-is_fresh-clause-fed
+returns-then-is_fresh-clause-fed g c =
+    let st = g.R.Source.state in
+    let joins : GiftsJoin = record { none = c.gifts_join.ensures.none; more = c.gifts_join.ensures.more; fault = c.gifts_join.ensures.fault; missed = c.gifts_join.ensures.missed } in
+    let old : Device = behind c.args.block.now (st c.args.reader.now) in
+    let mid : Device = behind c.feeding.block (st c.feeding.reader) in
+    let nxt : Device = behind c.next_piece.new.block (st c.next_piece.new.reader) in
+    let goes = g.S.StorySink.goes in
+    let failures = g.S.StorySink.failures in
+    let u = c.args.unpacker.now in
+    let v = c.feeding.unpacker in
+    let on = c.feeding.invariant.went in
+    let here = somewhere u c.requires.ready c.stands_somewhere.ensures.stood in
+    let there = on.stands here.0 here.1 here.2 in
+    went_ended goes joins old mid nxt u v c.args.sink.now c.feeding.sink c.feeding.used on c.in-Ok-false.ensures.given (c.in-Ok-false.ensures.end c.in-Ok-false.field-0-test)
+    here.0 here.1 here.2 (λ q k is. was_fresh c.is_fresh.result q c.if-is_fresh.true (c.is_fresh.ensures q k is))
+
+pub returns-in-Some-clause-faults : goal.returns-in-Some-clause-faults
+returns-in-Some-clause-faults g c =
+    let st = g.R.Source.state in
+    let joins : GiftsJoin = record { none = c.gifts_join.ensures.none; more = c.gifts_join.ensures.more; fault = c.gifts_join.ensures.fault; missed = c.gifts_join.ensures.missed } in
+    let old : Device = behind c.args.block.now (st c.args.reader.now) in
+    let mid : Device = behind c.feeding.block (st c.feeding.reader) in
+    let nxt : Device = behind c.next_piece.new.block (st c.next_piece.new.reader) in
+    let goes = g.S.StorySink.goes in
+    let failures = g.S.StorySink.failures in
+    let u = c.args.unpacker.now in
+    let v = c.feeding.unpacker in
+    let on = c.feeding.invariant.went in
+    let here = somewhere u c.requires.ready c.stands_somewhere.ensures.stood in
+    let there = on.stands here.0 here.1 here.2 in (
+      refl,
+      inr (went_truncated goes failures joins old mid nxt u v c.args.sink.now c.feeding.sink c.feeding.used c.in-Some.refusal on c.feeding.invariant.calm c.in-Ok-false.ensures.given
+          (c.in-Ok-false.ensures.end c.in-Ok-false.field-0-test) (λ q k is. not_fresh c.is_fresh.result q c.if-is_fresh.false (c.is_fresh.ensures q k is))
+          (λ q k is. told_truncated q k c.end_of_input.result c.in-Some.refusal c.in-Some.is (c.end_of_input.ensures.truncated q k is))),
+    )
+
+pub unreachable-requires : goal.unreachable-requires
+unreachable-requires g c =
+    let st = g.R.Source.state in
+    let joins : GiftsJoin = record { none = c.gifts_join.ensures.none; more = c.gifts_join.ensures.more; fault = c.gifts_join.ensures.fault; missed = c.gifts_join.ensures.missed } in
+    let old : Device = behind c.args.block.now (st c.args.reader.now) in
+    let mid : Device = behind c.feeding.block (st c.feeding.reader) in
+    let nxt : Device = behind c.next_piece.new.block (st c.next_piece.new.reader) in
+    let goes = g.S.StorySink.goes in
+    let failures = g.S.StorySink.failures in
+    let u = c.args.unpacker.now in
+    let v = c.feeding.unpacker in
+    let on = c.feeding.invariant.went in
+    let here = somewhere u c.requires.ready c.stands_somewhere.ensures.stood in
+    let there = on.stands here.0 here.1 here.2 in
+    not_told c.end_of_input.result _ _ c.in-None.is (c.end_of_input.ensures.truncated _ _ there.0)
+
+pub returns-in-Err-clause-faults : goal.returns-in-Err-clause-faults
+returns-in-Err-clause-faults g c =
+    let st = g.R.Source.state in
+    let joins : GiftsJoin = record { none = c.gifts_join.ensures.none; more = c.gifts_join.ensures.more; fault = c.gifts_join.ensures.fault; missed = c.gifts_join.ensures.missed } in
+    let old : Device = behind c.args.block.now (st c.args.reader.now) in
+    let mid : Device = behind c.feeding.block (st c.feeding.reader) in
+    let nxt : Device = behind c.next_piece.new.block (st c.next_piece.new.reader) in
+    let goes = g.S.StorySink.goes in
+    let failures = g.S.StorySink.failures in
+    let u = c.args.unpacker.now in
+    let v = c.feeding.unpacker in
+    let on = c.feeding.invariant.went in
+    let here = somewhere u c.requires.ready c.stands_somewhere.ensures.stood in
+    let there = on.stands here.0 here.1 here.2 in
+    faulted goes failures old nxt u c.args.sink.now c.feeding.sink c.octets.result c.in-Err.fault c.read_fault.result c.read_fault.ensures
+    (went_missed goes failures joins old mid nxt u v c.args.sink.now c.feeding.sink c.feeding.used c.octets.result c.in-Err.fault on c.feeding.invariant.calm c.in-Err.ensures.missed c.octets.ensures)
+
+pub feeding-smaller : goal.feeding-smaller
+feeding-smaller g c =
+    let st = g.R.Source.state in
+    let joins : GiftsJoin = record { none = c.gifts_join.ensures.none; more = c.gifts_join.ensures.more; fault = c.gifts_join.ensures.fault; missed = c.gifts_join.ensures.missed } in
+    let old : Device = behind c.args.block.now (st c.args.reader.now) in
+    let mid : Device = behind c.feeding.block (st c.feeding.reader) in
+    let nxt : Device = behind c.next_piece.new.block (st c.next_piece.new.reader) in
+    let goes = g.S.StorySink.goes in
+    let failures = g.S.StorySink.failures in
+    let u = c.args.unpacker.now in
+    let v = c.feeding.unpacker in
+    let on = c.feeding.invariant.went in
+    let here = somewhere u c.requires.ready c.stands_somewhere.ensures.stood in
+    let there = on.stands here.0 here.1 here.2 in
+    let piece = c.held.result.now in
+    let count = length c.held-count.result.now in
+    let new : Device = behind c.pass.new.self (st c.next_piece.new.reader) in
+    let all : count ≡ length piece = ap length (c.held-count.ensures ∙ sym c.held.ensures) in
+    let some : 0 < length piece = subst (λ (xs : List ℕ). 0 < length xs) (sym c.held.ensures) (c.in-Ok-true.ensures.some c.in-Ok-true.field-0-test) in
+    smaller c.feeding.used c.raised-used.result count c.raised-used.ensures (subst (λ n. 0 < n) (sym all) some)
+    (bounded goes c.open_octets_are_bounded.ensures old mid u v c.args.sink.now c.feeding.sink c.feeding.used on
+    (subst (λ (l : Limits). l.octets < 4294967296) (sym on.limits) c.stands_somewhere.ensures.octets) (subst (λ (l : Limits). l.fields < 4294967296) (sym on.limits) c.stands_somewhere.ensures.fields) here.0 here.1 here.2)
+
+pub feeding-preserved : goal.feeding-preserved
+feeding-preserved g c =
+    let st = g.R.Source.state in
+    let joins : GiftsJoin = record { none = c.gifts_join.ensures.none; more = c.gifts_join.ensures.more; fault = c.gifts_join.ensures.fault; missed = c.gifts_join.ensures.missed } in
+    let old : Device = behind c.args.block.now (st c.args.reader.now) in
+    let mid : Device = behind c.feeding.block (st c.feeding.reader) in
+    let nxt : Device = behind c.next_piece.new.block (st c.next_piece.new.reader) in
+    let goes = g.S.StorySink.goes in
+    let failures = g.S.StorySink.failures in
+    let u = c.args.unpacker.now in
+    let v = c.feeding.unpacker in
+    let on = c.feeding.invariant.went in
+    let here = somewhere u c.requires.ready c.stands_somewhere.ensures.stood in
+    let there = on.stands here.0 here.1 here.2 in
+    let piece = c.held.result.now in
+    let count = length c.held-count.result.now in
+    let new : Device = behind c.pass.new.self (st c.next_piece.new.reader) in
+    let all : count ≡ length piece = ap length (c.held-count.ensures ∙ sym c.held.ensures) in
+    let some : 0 < length piece = subst (λ (xs : List ℕ). 0 < length xs) (sym c.held.ensures) (c.in-Ok-true.ensures.some c.in-Ok-true.field-0-test) in
+    let went = went_more goes g.met.S.StorySink.joined joins c.delivery_may_be_cut.ensures old mid nxt new u v c.feed.new.self c.args.sink.now c.feeding.sink c.feed.new.sink c.feeding.used c.raised-used.result piece
+    on c.in-Ok-true.ensures.given (line_used count c.next_piece.new.block c.pass.new.self piece (st c.next_piece.new.reader) (ap length c.held-count.ensures) c.held.ensures c.pass.ensures) some
+    (c.raised-used.ensures ∙ ap (raised c.feeding.used) all) (c.in-Ok-More.ensures.limits c.feeding.invariant.ready.0) c.in-Ok-More.field-0 c.in-Ok-More.field-0-is c.in-Ok-More.ensures.goes in
+    let then_ = went.stands here.0 here.1 here.2 in
+    record {
+      went = went;
+      ready = (then_.0.taking, then_.0.unended);
+      calm = c.in-Ok-More.ensures.calm ∙ c.feeding.invariant.calm;
+      leads = g.met.R.Source.goes_on c.args.reader.now c.feeding.reader c.next_piece.new.reader c.feeding.invariant.leads c.next_piece.ensures.leads;
+    }
+
+pub returns-in-Ok-Done-clause-fed : goal.returns-in-Ok-Done-clause-fed
+returns-in-Ok-Done-clause-fed g c =
+    let st = g.R.Source.state in
+    let joins : GiftsJoin = record { none = c.gifts_join.ensures.none; more = c.gifts_join.ensures.more; fault = c.gifts_join.ensures.fault; missed = c.gifts_join.ensures.missed } in
+    let old : Device = behind c.args.block.now (st c.args.reader.now) in
+    let mid : Device = behind c.feeding.block (st c.feeding.reader) in
+    let nxt : Device = behind c.next_piece.new.block (st c.next_piece.new.reader) in
+    let goes = g.S.StorySink.goes in
+    let failures = g.S.StorySink.failures in
+    let u = c.args.unpacker.now in
+    let v = c.feeding.unpacker in
+    let on = c.feeding.invariant.went in
+    let here = somewhere u c.requires.ready c.stands_somewhere.ensures.stood in
+    let there = on.stands here.0 here.1 here.2 in
+    let piece = c.held.result.now in
+    let new : Device = behind c.pass-in-Ok-Done.new.self (st c.next_piece.new.reader) in
+    went_done goes g.met.S.StorySink.joined joins c.delivery_may_be_cut.ensures old mid nxt new u v c.feed.new.self c.args.sink.now c.feeding.sink c.feed.new.sink c.feeding.used c.raised.result c.in-Ok-Done.last piece
+    on c.in-Ok-true.ensures.given (line_front c.in-Ok-Done.last c.next_piece.new.block c.pass-in-Ok-Done.new.self piece (st c.next_piece.new.reader) c.held.ensures c.pass-in-Ok-Done.ensures)
+    (used_within c.feed.new.self piece c.in-Ok-Done.ensures.goes.0 c.in-Ok-Done.last c.in-Ok-Done.field-0 _ _ c.in-Ok-Done.field-0-is (c.in-Ok-Done.ensures.goes.2 _ _ there.0))
+    c.raised.ensures (c.in-Ok-Done.ensures.limits c.feeding.invariant.ready.0) c.in-Ok-Done.field-0 c.in-Ok-Done.field-0-is c.in-Ok-Done.ensures.goes
+
+pub pass-requires-in-Ok-Done : goal.pass-requires-in-Ok-Done
+pass-requires-in-Ok-Done g c =
+    let st = g.R.Source.state in
+    let joins : GiftsJoin = record { none = c.gifts_join.ensures.none; more = c.gifts_join.ensures.more; fault = c.gifts_join.ensures.fault; missed = c.gifts_join.ensures.missed } in
+    let old : Device = behind c.args.block.now (st c.args.reader.now) in
+    let mid : Device = behind c.feeding.block (st c.feeding.reader) in
+    let nxt : Device = behind c.next_piece.new.block (st c.next_piece.new.reader) in
+    let goes = g.S.StorySink.goes in
+    let failures = g.S.StorySink.failures in
+    let u = c.args.unpacker.now in
+    let v = c.feeding.unpacker in
+    let on = c.feeding.invariant.went in
+    let here = somewhere u c.requires.ready c.stands_somewhere.ensures.stood in
+    let there = on.stands here.0 here.1 here.2 in
+    let piece = c.held.result.now in
+    subst (λ (xs : List ℕ). c.in-Ok-Done.last ≤ length xs) c.held.ensures
+    (used_within c.feed.new.self piece c.in-Ok-Done.ensures.goes.0 c.in-Ok-Done.last c.in-Ok-Done.field-0 _ _ c.in-Ok-Done.field-0-is (c.in-Ok-Done.ensures.goes.2 _ _ there.0))
+
+pub returns-in-Err-feed-clause-faults : goal.returns-in-Err-feed-clause-faults
+returns-in-Err-feed-clause-faults g c =
+    let st = g.R.Source.state in
+    let joins : GiftsJoin = record { none = c.gifts_join.ensures.none; more = c.gifts_join.ensures.more; fault = c.gifts_join.ensures.fault; missed = c.gifts_join.ensures.missed } in
+    let old : Device = behind c.args.block.now (st c.args.reader.now) in
+    let mid : Device = behind c.feeding.block (st c.feeding.reader) in
+    let nxt : Device = behind c.next_piece.new.block (st c.next_piece.new.reader) in
+    let goes = g.S.StorySink.goes in
+    let failures = g.S.StorySink.failures in
+    let u = c.args.unpacker.now in
+    let v = c.feeding.unpacker in
+    let on = c.feeding.invariant.went in
+    let here = somewhere u c.requires.ready c.stands_somewhere.ensures.stood in
+    let there = on.stands here.0 here.1 here.2 in
+    let piece = c.held.result.now in
+    let new : Device = behind c.pass-in-Err-feed.new.self (st c.next_piece.new.reader) in (
+      refl,
+      inl (went_refused goes failures g.met.S.StorySink.joined joins c.delivery_may_be_cut.ensures old mid nxt new u v c.args.sink.now c.feeding.sink c.feed.new.sink c.feeding.used piece c.in-Err-feed.refusal
+          on c.feeding.invariant.calm c.in-Ok-true.ensures.given (line_used (length c.held-count.result.now) c.next_piece.new.block c.pass-in-Err-feed.new.self piece (st c.next_piece.new.reader) (ap length c.held-count.ensures) c.held.ensures c.pass-in-Err-feed.ensures)
+          c.in-Err-feed.ensures.counted c.in-Err-feed.ensures.refused),
+    )

@@ -1,0 +1,15 @@
+use Rattle.std.proofs.Common.{◌≡◌, ◌-◌, ◌^◌}
+use Rattle.iim_unpack.specs.Blocks.{behind}
+use Rattle.iim_unpack.specs.Intakes.{IsReady, WentOn}
+use Rattle.iim_unpack.proofs.intake.feed_line.Given as goal
+
+abbrev pub invariant-feeding : goal.invariant-feeding
+invariant-feeding g l = record {
+  went : WentOn g.S.StorySink.goes (behind l.fn.block (g.R.Source.state l.fn.reader)) (behind l.block (g.R.Source.state l.reader)) l.fn.unpacker l.unpacker l.fn.sink l.sink l.used;
+  ready : IsReady l.unpacker;
+  calm : g.S.StorySink.failures l.sink ≡ g.S.StorySink.failures l.fn.sink;
+  leads : g.R.Source.leads l.fn.reader l.reader;
+}
+
+abbrev pub decreases-feeding : goal.decreases-feeding
+decreases-feeding g l = 2 ^ 64 - 1 - l.used

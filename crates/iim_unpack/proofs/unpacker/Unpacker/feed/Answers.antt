@@ -1,0 +1,122 @@
+use Rattle.std.proofs.Common.{◌≡◌, ℕ, [], true, false, refl, ap, sym, subst, ◌∙◌}
+use Rattle.iim_unpack.specs.Refusals.{refusal_at}
+use Rattle.iim_unpack.specs.Unpacking.{Unpacking, Stands, IsRefusedIn, limits_in}
+use Rattle.wire_story.specs.Delivery as story
+use Rattle.iim_unpack.proofs.Feeding.{FeedLaws, goes_more, goes_done, refused_in, sound_more, sound_done}
+use Rattle.iim_unpack.proofs.unpacker.Unpacker.feed.Goals as goal
+
+pub returns-then-self-clause-goes : goal.returns-then-self-clause-goes
+returns-then-self-clause-goes g c = (
+  [],
+  g.met.S.StorySink.nothing c.args.sink.now,
+  λ p a at.
+      let bad : false ≡ true = sym at.unended ∙ sym (ap (λ (u : Unpacking). u.parts.last) c.self.view_is) ∙ c.if-self.true in absurd cc,
+)
+
+pub returns-then-self-2-clause-goes : goal.returns-then-self-2-clause-goes
+returns-then-self-2-clause-goes g c =
+    let laws : FeedLaws = record {
+      one_tag = c.no_tag_begins_another.ensures;
+      one_dataset = c.no_dataset_begins_another.ensures;
+      way = c.octets_are_handed_on_one_way.ensures;
+      tell = c.events_tell_the_datasets.ensures;
+      ends = c.envelopes_end_with_the_last_record.ensures;
+      sections = c.no_sections_begin_others.ensures;
+      living = c.readers_stand_at_living_octets.ensures;
+      numbers = c.records_are_by_number.ensures;
+    } in
+    let i = c.self.inside in
+    let n = c.advance.new in
+    let u : Unpacking = record { reader = i.reader; parts = i.parts; octets = i.octets; begun = i.begun; refused = i.refused } in
+    let v : Unpacking = record { reader = n.reader; parts = n.parts; octets = c.raised-self-inside.result; begun = c.begins-self-inside.result; refused = i.refused } in
+    let h = c.in-Ok.ensures in (
+      story.delivered h.advanced.went.more,
+      h.advanced.went.told,
+      λ p a at.
+          goes_done g.S.StorySink.goes g.S.StorySink.failures laws u v c.args.piece.now c.in-Ok.used c.args.sink.now n.sink c.sizes.result h.advanced h.onward refl c.if-self-2.true c.raised-self-inside.ensures h.within c.sizes.ensures.records p a
+          (subst (λ (w : Unpacking). Stands w p a) (sym c.self.view_is) at),
+    )
+
+pub returns-else-self-2-clause-goes : goal.returns-else-self-2-clause-goes
+returns-else-self-2-clause-goes g c =
+    let laws : FeedLaws = record {
+      one_tag = c.no_tag_begins_another.ensures;
+      one_dataset = c.no_dataset_begins_another.ensures;
+      way = c.octets_are_handed_on_one_way.ensures;
+      tell = c.events_tell_the_datasets.ensures;
+      ends = c.envelopes_end_with_the_last_record.ensures;
+      sections = c.no_sections_begin_others.ensures;
+      living = c.readers_stand_at_living_octets.ensures;
+      numbers = c.records_are_by_number.ensures;
+    } in
+    let i = c.self.inside in
+    let n = c.advance.new in
+    let u : Unpacking = record { reader = i.reader; parts = i.parts; octets = i.octets; begun = i.begun; refused = i.refused } in
+    let v : Unpacking = record { reader = n.reader; parts = n.parts; octets = c.raised-self-inside.result; begun = c.begins-self-inside.result; refused = i.refused } in
+    let h = c.in-Ok.ensures in (
+      story.delivered h.advanced.went.more,
+      h.advanced.went.told,
+      λ p a at.
+          goes_more g.S.StorySink.goes g.S.StorySink.failures laws u v c.args.piece.now c.in-Ok.used c.args.sink.now n.sink h.advanced h.onward refl c.if-self-2.false c.raised-self-inside.ensures c.begins-self-inside.ensures p a
+          (subst (λ (w : Unpacking). Stands w p a) (sym c.self.view_is) at),
+    )
+
+pub returns-in-Err-clause-refused : goal.returns-in-Err-clause-refused
+returns-in-Err-clause-refused g c =
+    let laws : FeedLaws = record {
+      one_tag = c.no_tag_begins_another.ensures;
+      one_dataset = c.no_dataset_begins_another.ensures;
+      way = c.octets_are_handed_on_one_way.ensures;
+      tell = c.events_tell_the_datasets.ensures;
+      ends = c.envelopes_end_with_the_last_record.ensures;
+      sections = c.no_sections_begin_others.ensures;
+      living = c.readers_stand_at_living_octets.ensures;
+      numbers = c.records_are_by_number.ensures;
+    } in
+    let i = c.self.inside in
+    let u : Unpacking = record { reader = i.reader; parts = i.parts; octets = i.octets; begun = i.begun; refused = i.refused } in
+    let h = c.in-Err.ensures in
+    let halt = c.in-Err.halt in
+    let r = refused_in g.S.StorySink.goes g.S.StorySink.failures laws u c.args.piece.now halt.taken halt.fault c.args.sink.now c.advance.new.sink c.refusal_at.result h.before
+    (c.refusal_at.ensures ∙ ap (λ (n : ℕ). refusal_at n halt.fault) c.raised-octet.ensures) h.fails in
+    (r.0, r.1, λ p a at. subst (λ (w : Unpacking). IsRefusedIn (limits_in w) p a c.args.piece.now r.0 c.refusal_at.result) c.self.view_is (r.2 p a (subst (λ (w : Unpacking). Stands w p a) (sym c.self.view_is) at)))
+
+pub invariant_of-self : goal.invariant_of-self
+invariant_of-self g c =
+    let laws : FeedLaws = record {
+      one_tag = c.no_tag_begins_another.ensures;
+      one_dataset = c.no_dataset_begins_another.ensures;
+      way = c.octets_are_handed_on_one_way.ensures;
+      tell = c.events_tell_the_datasets.ensures;
+      ends = c.envelopes_end_with_the_last_record.ensures;
+      sections = c.no_sections_begin_others.ensures;
+      living = c.readers_stand_at_living_octets.ensures;
+      numbers = c.records_are_by_number.ensures;
+    } in
+    let i = c.self.inside in
+    let n = c.advance.new in
+    let u : Unpacking = record { reader = i.reader; parts = i.parts; octets = i.octets; begun = i.begun; refused = i.refused } in
+    let v : Unpacking = record { reader = n.reader; parts = n.parts; octets = c.raised-self-inside.result; begun = c.begins-self-inside.result; refused = i.refused } in
+    let h = c.in-Ok.ensures in
+    λ none. sound_done g.S.StorySink.goes g.S.StorySink.failures laws u v c.args.piece.now c.in-Ok.used c.args.sink.now n.sink c.sizes.result h.advanced h.onward h.takes_calls refl c.if-self-2.true c.raised-self-inside.ensures h.within c.sizes.ensures.records
+    (c.self.invariant none) c.if-self.false
+
+pub invariant_of-self-in-Ok : goal.invariant_of-self-in-Ok
+invariant_of-self-in-Ok g c =
+    let laws : FeedLaws = record {
+      one_tag = c.no_tag_begins_another.ensures;
+      one_dataset = c.no_dataset_begins_another.ensures;
+      way = c.octets_are_handed_on_one_way.ensures;
+      tell = c.events_tell_the_datasets.ensures;
+      ends = c.envelopes_end_with_the_last_record.ensures;
+      sections = c.no_sections_begin_others.ensures;
+      living = c.readers_stand_at_living_octets.ensures;
+      numbers = c.records_are_by_number.ensures;
+    } in
+    let i = c.self.inside in
+    let n = c.advance.new in
+    let u : Unpacking = record { reader = i.reader; parts = i.parts; octets = i.octets; begun = i.begun; refused = i.refused } in
+    let v : Unpacking = record { reader = n.reader; parts = n.parts; octets = c.raised-self-inside.result; begun = c.begins-self-inside.result; refused = i.refused } in
+    let h = c.in-Ok.ensures in
+    λ none. sound_more g.S.StorySink.goes g.S.StorySink.failures laws u v c.args.piece.now c.in-Ok.used c.args.sink.now n.sink h.advanced h.onward h.takes_calls refl c.if-self-2.false c.raised-self-inside.ensures c.begins-self-inside.ensures
+    (c.self.invariant none) c.if-self.false

@@ -1,0 +1,75 @@
+-- What is told one after another is told joined: the laws of the router.
+use Rattle.std.proofs.Common.{◌≡◌, ℕ, List, [], ◌∷◌, ◌++◌, Option, Some, refl, sym, subst, ◌∙◌, append_assoc, append-nil}
+use Rattle.std.proofs.lemmas.List.Concat.{flat_map-append}
+use Rattle.iim_dataset.specs.Events.{Event, DatasetEnd}
+use Rattle.iim_fields.specs.Standing.{limits_of}
+use Rattle.iim_fields.specs.declared.limits.Limits.{Limits}
+use Rattle.wire_story.specs.Delivery as story
+use Rattle.iim_unpack.specs.Parts.{Led, Went, Stopped, Refused, CountsFor, Closed, NotClosed}
+use Rattle.iim_unpack.specs.declared.parts.Parts.{Parts}
+use Rattle.iim_unpack.specs.declared.fault.Fault.{Fault}
+
+delivered-append : (x y : List ℕ) → story.delivered (x ++ y) ≡ story.delivered x ++ story.delivered y
+delivered-append x y = flat_map-append story.events_of x y
+
+pub went_nothing : {S : Type 0} (goes : S → List story.Event → S → Type 0) (failures : S → ℕ) (old : Parts) (a : S) → goes a [] a → Went goes failures old a [] old a
+went_nothing goes failures old a g = record {
+  limits = refl;
+  more = [];
+  told = g;
+  calm = refl;
+  leads = λ before text led.
+      subst (λ (t : List ℕ). Led old (before ++ []) t) (sym (append-nil text)) (subst (λ (es : List Event). Led old es text) (sym (append-nil before)) led);
+}
+
+pub went_joined : {S : Type 0} (goes : S → List story.Event → S → Type 0) (failures : S → ℕ)
+    → ((a b c : S) (xs ys : List story.Event) → goes a xs b → goes b ys c → goes a (xs ++ ys) c)
+    → (p q r : Parts) (a b c : S) (xs ys : List Event) → Went goes failures p a xs q b → Went goes failures q b ys r c → Went goes failures p a (xs ++ ys) r c
+went_joined goes failures joined p q r a b c xs ys h k = record {
+  limits = k.limits ∙ h.limits;
+  more = h.more ++ k.more;
+  told = subst (λ (es : List story.Event). goes a es c) (sym (delivered-append h.more k.more)) (joined a b c (story.delivered h.more) (story.delivered k.more) h.told k.told);
+  calm = k.calm ∙ h.calm;
+  leads = λ before text led.
+      subst (λ (t : List ℕ). Led r (before ++ (xs ++ ys)) t) (append_assoc text h.more k.more)
+      (subst (λ (es : List Event). Led r es ((text ++ h.more) ++ k.more)) (append_assoc before xs ys) (k.leads (before ++ xs) (text ++ h.more) (h.leads before text led)));
+}
+
+pub stopped_joined : {S : Type 0} (goes : S → List story.Event → S → Type 0) (failures : S → ℕ)
+    → ((a b c : S) (xs ys : List story.Event) → goes a xs b → goes b ys c → goes a (xs ++ ys) c)
+    → (p q : Parts) (a b c : S) (xs ys : List Event) (event : Event) (refused : Option Fault) → Went goes failures p a xs q b → Stopped goes failures q b ys event refused c
+    → Stopped goes failures p a (xs ++ ys) event refused c
+stopped_joined goes failures joined p q a b c xs ys event refused h k = record {
+  fault = k.fault;
+  is_fault = k.is_fault;
+  more = h.more ++ k.more;
+  told = subst (λ (es : List story.Event). goes a es c) (sym (delivered-append h.more k.more)) (joined a b c (story.delivered h.more) (story.delivered k.more) h.told k.told);
+  counts = subst (λ (n : ℕ). CountsFor k.fault.cause n (failures c)) h.calm k.counts;
+  why = λ before text led.
+      subst (λ (t : List ℕ). Refused (limits_of p.fields) (before ++ (xs ++ ys)) t event k.fault) (append_assoc text h.more k.more)
+      (subst (λ (es : List Event). Refused (limits_of p.fields) es ((text ++ h.more) ++ k.more) event k.fault) (append_assoc before xs ys)
+      (subst (λ (l : Limits). Refused l ((before ++ xs) ++ ys) ((text ++ h.more) ++ k.more) event k.fault) h.limits (k.why (before ++ xs) (text ++ h.more) (h.leads before text led))));
+}
+
+-- the end of a dataset, of which no sink is told
+pub went_closed : {S : Type 0} (goes : S → List story.Event → S → Type 0) (failures : S → ℕ) (p q : Parts) (a : S) → goes a [] a → Closed p q → Went goes failures p a (DatasetEnd ∷ []) q a
+went_closed goes failures p q a g closed = record {
+  limits = closed.limits;
+  more = [];
+  told = g;
+  calm = refl;
+  leads = λ before text led. subst (Led q (before ++ DatasetEnd ∷ [])) (sym (append-nil text)) (closed.leads before text led);
+}
+
+pub stopped_closed : {S : Type 0} (goes : S → List story.Event → S → Type 0) (failures : S → ℕ) (p : Parts) (a : S) (fault : Fault) → goes a [] a → NotClosed p fault
+    → Stopped goes failures p a [] DatasetEnd (Some fault) a
+stopped_closed goes failures p a fault g bad = record {
+  fault = fault;
+  is_fault = refl;
+  more = [];
+  told = g;
+  counts = bad.quiet (failures a);
+  why = λ before text led.
+      subst (λ (t : List ℕ). Refused (limits_of p.fields) (before ++ []) t DatasetEnd fault) (sym (append-nil text))
+      (subst (λ (es : List Event). Refused (limits_of p.fields) es text DatasetEnd fault) (sym (append-nil before)) (bad.why before text led));
+}

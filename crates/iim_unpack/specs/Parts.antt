@@ -1,0 +1,167 @@
+-- Where the parts of an unpacker stand, and what heads, data and ends of datasets lead them to.
+use Rattle.std.specs.Prelude.{◌≡◌, ℕ, ◌+◌, ◌<◌, ◌≤◌, ◌==◌, ◌⊎◌, if◌then◌else◌, false, List, [], ◌∷◌, ◌++◌, length, map, Option, Some, IsSome}
+use Rattle.iim_dataset.specs.Octets.{Octets}
+use Rattle.iim_dataset.specs.Datasets.{Dataset}
+use Rattle.iim_dataset.specs.Devices.{Rose}
+use Rattle.iim_dataset.specs.Splits.{Begun, InTag, InData}
+use Rattle.iim_dataset.specs.Events.{Event, HeadRead, DataOctet, DatasetEnd, handed_on}
+use Rattle.iim_dataset.specs.Languages as languages
+use Rattle.iim_dataset.specs.declared.head.Head.{Head}
+use Rattle.iim_fields.specs.Records.{AreSections}
+use Rattle.iim_fields.specs.Faults.{present_record}
+use Rattle.iim_fields.specs.Standing as records
+use Rattle.iim_fields.specs.Values.{data_of}
+use Rattle.iim_fields.specs.declared.limits.Limits.{Limits}
+use Rattle.iim_object.specs.Plans.{max_subfiles}
+use Rattle.iim_object.specs.Reading as objects
+use Rattle.iim_object.specs.Behind.{of_record, place_behind}
+use Rattle.wire_story.specs.Delivery as story
+use Rattle.wire_story.specs.Tokens.{OctetOrEnd, End, Octet}
+use Rattle.wire_message.specs.Layers.{MessageLanguage, MessageDiesAt, text_so_far, StoryLivesIn}
+use Rattle.wire_message.specs.Reading as wire
+use Rattle.wire_message.specs.declared.fault.MessageCause.{MessageCause}
+use Rattle.wire_message.specs.declared.fault.MessageCause.TheVariants.{Unfinished}
+use Rattle.iim_unpack.specs.Admitted.{object_of}
+use Rattle.iim_unpack.specs.Tokens.{place_at, GoOnAt, IsRefusedHead, IsRefusedValue}
+use Rattle.iim_unpack.specs.Answers.{MayGoOn}
+use Rattle.iim_unpack.specs.Refusals.{message_on}
+use Rattle.iim_unpack.specs.declared.fault.Fault.{Fault}
+use Rattle.iim_unpack.specs.declared.parts.Parts.{Parts}
+use Rattle.iim_unpack.specs.declared.refusal.Cause.{Cause}
+use Rattle.iim_unpack.specs.declared.refusal.Cause.TheVariants.{Sink}
+
+-- ---- what octets so far say
+
+-- the octets of the object so far: the data of the whole subfiles, and of a begun one
+abbrev pub object_so_far : List Dataset → Begun → List ℕ
+object_so_far ds (InTag held) = object_of ds
+object_so_far ds (InData h taken) = object_of ds ++ (if h.rec == 8 then taken else [])
+
+-- the record of the last head
+abbrev pub section : List Dataset → Begun → ℕ
+section ds (InTag held) = present_record ds
+section ds (InData h taken) = h.rec
+
+-- the tokens of the message: the octets of the object, and its end with the head of 9:10
+abbrev pub message_tokens : List Dataset → Begun → List OctetOrEnd
+message_tokens ds begun = map Octet (object_so_far ds begun) ++ (if section ds begun == 9 then End ∷ [] else [])
+
+-- Every layer can go on with its tokens, within the limits.
+pub record AllGoOn (limits : Limits) (ds : List Dataset) (begun : Begun) : Type 0 where
+  pub sizes : MayGoOn limits ds begun
+  pub message : languages.IsAlive MessageLanguage (message_tokens ds begun)
+  pub story : StoryLivesIn (object_so_far ds begun)
+
+-- ---- where the parts stand
+
+-- behind these datasets
+pub record Behind (parts : Parts) (ds : List Dataset) : Type 0 where
+  pub fields : records.StandsBehind parts.fields ds
+  pub object : objects.StandsAt parts.object (place_behind ds)
+  pub subfiles : parts.subfiles ≡ length (of_record 8 ds)
+  pub few : length (of_record 8 ds) ≤ max_subfiles
+  pub message : wire.StandsAt parts.message (object_of ds) (text_so_far (object_of ds))
+  pub ended : present_record ds ≡ 9 → wire.IsWhole parts.message
+  pub last : parts.last ≡ (present_record ds == 9)
+
+-- in one of this head, with these data so far
+pub record Within (parts : Parts) (ds : List Dataset) (h : Head) (taken : List ℕ) : Type 0 where
+  pub head : parts.head ≡ h
+  pub left : length taken + parts.left ≡ h.count
+  pub octets : Octets taken
+  pub fields : records.StandsIn parts.fields ds h (if h.rec == 8 then [] else taken)
+  pub object : objects.StandsAt parts.object (place_at ds h)
+  pub subfiles : parts.subfiles ≡ length (of_record 8 ds) + (if h.rec == 8 then 1 else 0)
+  pub few : length (of_record 8 ds) ≤ max_subfiles
+  pub room : h.rec ≡ 8 → length (of_record 8 ds) < max_subfiles
+  pub message : wire.StandsAt parts.message (object_so_far ds (InData h taken)) (text_so_far (object_so_far ds (InData h taken)))
+  pub ended : h.rec ≡ 9 → wire.IsWhole parts.message
+  pub last : parts.last ≡ false
+
+abbrev pub StandsFor : Parts → List Dataset → Begun → Type 0
+StandsFor parts ds (InTag held) = Behind parts ds
+StandsFor parts ds (InData h taken) = Within parts ds h taken
+
+-- The events have led the parts here, with this text among them.
+pub record Led (parts : Parts) (events : List Event) (text : List ℕ) : Type 0 where
+  pub whole : List Dataset
+  pub begun : Begun
+  pub told : events ≡ handed_on whole begun
+  pub stands : StandsFor parts whole begun
+  pub is_text : text ≡ text_so_far (object_so_far whole begun)
+
+-- They take a head.
+pub record TakesHead (parts : Parts) : Type 0 where
+  pub fields : records.IsBetween parts.fields
+  pub object : IsSome parts.object
+  pub message : IsSome parts.message
+  pub last : parts.last ≡ false
+
+-- So many octets of the begun dataset are to come.
+pub record TakesData (parts : Parts) (left : ℕ) : Type 0 where
+  pub fields : (n : ℕ) × records.IsInside parts.fields parts.head n × ((parts.head.rec ≡ 8 → ⊥) → n ≡ parts.left)
+  pub left_is : parts.left ≡ left
+  pub object : IsSome parts.object
+  pub message : IsSome parts.message
+  pub last : parts.last ≡ false
+
+-- ---- what events do
+
+-- the sink's count of failures rose where the sink refused, and nowhere else
+abbrev pub CountsFor : Cause → ℕ → ℕ → Type 0
+CountsFor Sink old new = Rose old new
+CountsFor _ old new = new ≡ old
+
+-- From parts to parts by these events, and the sink was told what is delivered of the text that they add.
+pub record Went {S : Type 0} (goes : S → List story.Event → S → Type 0) (failures : S → ℕ) (old : Parts) (a : S) (events : List Event) (new : Parts) (b : S) : Type 0 where
+  pub limits : records.limits_of new.fields ≡ records.limits_of old.fields
+  pub more : List ℕ
+  pub told : goes a (story.delivered more) b
+  pub calm : failures b ≡ failures a
+  pub leads : (before : List Event) (text : List ℕ) → Led old before text → Led new (before ++ events) (text ++ more)
+
+-- With the head of 9:10 no message ends, though all layers that are asked before can go on.
+pub record IsUnfinished (limits : Limits) (ds : List Dataset) (h : Head) (fault : Fault) : Type 0 where
+  pub last : h.rec ≡ 9
+  pub goes_on : GoOnAt limits ds h
+  pub dies : MessageDiesAt (object_of ds) End
+  pub is_fault : fault ≡ message_on h Unfinished
+
+-- why an event is refused behind whole datasets and a begun one
+abbrev pub RefusesAt : Limits → List Dataset → Begun → Event → Fault → Type 0
+RefusesAt limits ds (InTag held) (HeadRead h) fault = IsRefusedHead limits ds h fault ⊎ IsUnfinished limits ds h fault
+RefusesAt limits ds (InTag held) (DataOctet b) fault = ⊥
+RefusesAt limits ds (InTag held) DatasetEnd fault = ⊥
+RefusesAt limits ds (InData h taken) (HeadRead k) fault = ⊥
+RefusesAt limits ds (InData h taken) (DataOctet b) fault =
+    (h.rec ≡ 8) × ((cause : MessageCause) × wire.HasCause cause (object_of ds ++ taken) b × (fault ≡ message_on h cause))
+RefusesAt limits ds (InData h taken) DatasetEnd fault = (h.rec ≡ 8 → ⊥) × IsRefusedValue ds (data_of h taken) fault
+
+-- The event is refused behind those, of which this is the text.
+pub record Refused (limits : Limits) (events : List Event) (text : List ℕ) (event : Event) (fault : Fault) : Type 0 where
+  pub whole : List Dataset
+  pub begun : Begun
+  pub told : events ≡ handed_on whole begun
+  pub is_text : text ≡ text_so_far (object_so_far whole begun)
+  pub goes_on : AllGoOn limits whole begun
+  pub unfinished : AreSections whole → ⊥
+  pub refuses : RefusesAt limits whole begun event fault
+
+-- They ended the dataset, and no sink was told.
+pub record Closed (old new : Parts) : Type 0 where
+  pub limits : records.limits_of new.fields ≡ records.limits_of old.fields
+  pub leads : (before : List Event) (text : List ℕ) → Led old before text → Led new (before ++ DatasetEnd ∷ []) text
+
+-- The end of the dataset is refused.
+pub record NotClosed (old : Parts) (fault : Fault) : Type 0 where
+  pub quiet : (n : ℕ) → CountsFor fault.cause n n
+  pub why : (before : List Event) (text : List ℕ) → Led old before text → Refused (records.limits_of old.fields) before text DatasetEnd fault
+
+-- The parts took the events and refused the next one.
+pub record Stopped {S : Type 0} (goes : S → List story.Event → S → Type 0) (failures : S → ℕ) (old : Parts) (a : S) (events : List Event) (event : Event) (refused : Option Fault) (b : S) : Type 0 where
+  pub fault : Fault
+  pub is_fault : refused ≡ Some fault
+  pub more : List ℕ
+  pub told : goes a (story.delivered more) b
+  pub counts : CountsFor fault.cause (failures a) (failures b)
+  pub why : (before : List Event) (text : List ℕ) → Led old before text → Refused (records.limits_of old.fields) (before ++ events) (text ++ more) event fault

@@ -1,0 +1,34 @@
+-- What a router of datasets does: its parts go by the events, and its references stay what they are.
+use Rattle.std.specs.Prelude.{◌≡◌, ℕ, List, Option, Some, None, IsSome, true}
+use Rattle.iim_dataset.specs.Events.{Event}
+use Rattle.iim_fields.specs.Standing.{IsBetween}
+use Rattle.wire_story.specs.Delivery as story
+use Rattle.iim_unpack.specs.Parts.{TakesHead, TakesData, Went, Stopped}
+use Rattle.iim_unpack.specs.declared.parts.Parts.{Parts}
+use Rattle.iim_unpack.specs.declared.router.Router.{Router}
+
+abbrev pub Routes : {S : Type 0} → (S → List story.Event → S → Type 0) → (S → ℕ) → Router S → List Event → Router S → Type 0
+Routes goes failures a events b = (a.parts.ghost_name ≡ b.parts.ghost_name) × (a.sink.ghost_name ≡ b.sink.ghost_name)
+    × Went goes failures a.parts.now a.sink.now events b.parts.now b.sink.now
+
+abbrev pub RefusesRoute : {S : Type 0} → (S → List story.Event → S → Type 0) → (S → ℕ) → Router S → List Event → Event → Router S → Type 0
+RefusesRoute goes failures a events event b = (a.parts.ghost_name ≡ b.parts.ghost_name) × (a.sink.ghost_name ≡ b.sink.ghost_name)
+    × Stopped goes failures a.parts.now a.sink.now events event b.refused b.sink.now
+
+-- The parts take a head, or so many octets.
+abbrev pub Takes : Parts → Option ℕ → Type 0
+Takes parts None = TakesHead parts
+Takes parts (Some left) = TakesData parts left
+
+-- The last dataset has ended.
+pub record HasEnded (parts : Parts) : Type 0 where
+  pub last : parts.last ≡ true
+  pub between : IsBetween parts.fields
+  pub object : IsSome parts.object
+  pub message : IsSome parts.message
+
+abbrev pub TakesNext : {S : Type 0} → Router S → Option ℕ → Type 0
+TakesNext router left = Takes router.parts.now left
+
+abbrev pub IsOver : {S : Type 0} → Router S → Type 0
+IsOver router = HasEnded router.parts.now

@@ -1,0 +1,285 @@
+-- Where an unpacker stands, and what it answers.
+use Rattle.std.specs.Prelude.{◌≡◌, ℕ, ◌+◌, ◌^◌, ◌-◌, ◌<◌, ◌≤◌, ◌⊎◌, min, true, false, List, [], ◌∷◌, ◌++◌, length, take, slice_index, Option, Some, None, Bool}
+use Rattle.iim_dataset.specs.Datasets.{Dataset, SpellsTag, count_octets}
+use Rattle.iim_dataset.specs.Splits.{Begun, InTag, InData, Reads}
+use Rattle.iim_dataset.specs.Tags.{BeginsNoTag}
+use Rattle.iim_dataset.specs.Events.{Event, HeadRead, DataOctet, DatasetEnd, handed_on}
+use Rattle.iim_dataset.specs.Places.{LeadsTo, Brings, between, to_come, named_by}
+use Rattle.iim_dataset.specs.Reading.{Reader, Completes, TagDies, TakesCalls}
+use Rattle.iim_dataset.specs.declared.place.Place.{Place}
+use Rattle.iim_dataset.specs.declared.head.HeadCause.{HeadCause}
+use Rattle.iim_fields.specs.Records.{AreSections}
+use Rattle.iim_fields.specs.Standing.{limits_of}
+use Rattle.iim_fields.specs.declared.limits.Limits.{Limits}
+use Rattle.wire_story.specs.Delivery as story
+use Rattle.wire_message.specs.Layers.{text_so_far}
+use Rattle.iim_unpack.specs.Answers.{begun_record, begun_number, tag_cause}
+use Rattle.iim_unpack.specs.Parts.{object_so_far, AllGoOn, IsUnfinished, Led, Went, Stopped}
+use Rattle.iim_unpack.specs.Tokens.{IsRefusedHead, IsRefusedValue}
+use Rattle.iim_fields.specs.Values.{data_of}
+use Rattle.wire_message.specs.Reading as wire
+use Rattle.wire_message.specs.declared.fault.MessageCause.{MessageCause}
+use Rattle.iim_dataset.specs.declared.head.Head.{Head}
+use Rattle.iim_unpack.specs.Admitted.{object_of, Value, Admits}
+use Rattle.iim_unpack.specs.Refusals.{refusal_at, message_on}
+use Rattle.iim_unpack.specs.Steps.{cause_of_tag}
+use Rattle.iim_unpack.specs.Routing.{Takes, HasEnded}
+use Rattle.iim_unpack.specs.Admitted.{Value, Admits}
+use Rattle.iim_unpack.specs.Framed.{AreWithin}
+use Rattle.iim_unpack.specs.declared.unpacker.Progress.{Progress}
+use Rattle.iim_unpack.specs.declared.unpacker.Progress.TheVariants.{More, Done}
+use Rattle.iim_unpack.specs.declared.refusal.Cause.TheVariants.{Failed, Truncated}
+use Rattle.iim_unpack.specs.declared.parts.Parts.{Parts}
+use Rattle.iim_unpack.specs.declared.fault.Fault.{Fault}
+use Rattle.iim_unpack.specs.declared.refusal.Refusal.{Refusal}
+use Rattle.iim_unpack.specs.declared.refusal.Layer.TheVariants as layers
+
+-- ---- how a router leaves what it holds
+
+-- The parts and the sink went by what the octets complete.
+pub record Advanced {S : Type 0} (goes : S → List story.Event → S → Type 0) (failures : S → ℕ) (old : Place) (octets : List ℕ) (new : Place) (p : Parts) (a : S) (q : Parts) (b : S) : Type 0 where
+  pub more : List Event
+  pub went : Went goes failures p a more q b
+  pub brings : Brings old octets more new
+
+-- They went by what the octets before the refused one complete, and no tag goes on with it.
+pub record StuckInTag {S : Type 0} (goes : S → List story.Event → S → Type 0) (failures : S → ℕ) (old : Place) (octets : List ℕ) (k : ℕ) (cause : HeadCause) (new : Place) (p : Parts) (a b : S) : Type 0 where
+  pub parts : Parts
+  pub advanced : Advanced goes failures old (take k octets) new p a parts b
+  pub takes : Takes parts (to_come new)
+  pub dies : TagDies new (slice_index octets k) cause
+
+-- They refused what the octet completes.
+pub record StoppedAt {S : Type 0} (goes : S → List story.Event → S → Type 0) (failures : S → ℕ) (old : Place) (octets : List ℕ) (k : ℕ) (p : Parts) (a : S) (refused : Option Fault) (b : S) : Type 0 where
+  pub more : List Event
+  pub event : Event
+  pub stopped : Stopped goes failures p a more event refused b
+  pub completes : (before : List ℕ) (events : List Event) → LeadsTo before events old → Completes (before ++ take k octets) (slice_index octets k) (events ++ more) event
+
+abbrev pub FailsFor : {S : Type 0} → (S → List story.Event → S → Type 0) → (S → ℕ) → Option HeadCause → Place → List ℕ → ℕ → Place → Parts → S → Option Fault → S → Type 0
+FailsFor goes failures None old octets k new p a refused b = StoppedAt goes failures old octets k p a refused b
+FailsFor goes failures (Some cause) old octets k new p a refused b = StuckInTag goes failures old octets k cause new p a b
+
+-- the fault of a begun tag, of which these numbers are named
+abbrev pub tag_fault : ℕ × ℕ → HeadCause → Fault
+tag_fault names cause = record { layer = layers.Dataset; rec = names.0; set = names.1; cause = cause_of_tag cause }
+
+-- why octet `taken` of a piece is refused
+abbrev pub FailsAs : {S : Type 0} → (S → List story.Event → S → Type 0) → (S → ℕ) → Place → List ℕ → ℕ → Fault → Parts → S → S → Type 0
+FailsAs goes failures old octets k fault p a b =
+    ((cause : HeadCause) × (new : Place) × StuckInTag goes failures old octets k cause new p a b × (fault ≡ tag_fault (named_by new) cause))
+    ⊎ StoppedAt goes failures old octets k p a (Some fault) b
+
+-- All octets were taken, and the parts take what comes next; or the last dataset has ended.
+abbrev pub IsOnward : Place → Parts → ℕ → ℕ → Type 0
+IsOnward place parts all used = ((used ≡ all) × Takes parts (to_come place)) ⊎ (HasEnded parts × (place ≡ between))
+
+-- ---- what octets say
+
+-- the text in the octets: what stands after STX and before ETX in the data of the subfiles so far
+abbrev pub IsTextOf : List ℕ → List ℕ → Type 0
+IsTextOf octets text = (whole : List Dataset) × (begun : Begun) × Reads octets whole begun × (text ≡ text_so_far (object_so_far whole begun))
+
+-- Of the octets behind those, exactly this is delivered.
+abbrev pub Adds : List ℕ → List ℕ → List story.Event → Type 0
+Adds p octets more = (text : List ℕ) → IsTextOf p text → (added : List ℕ) × IsTextOf (p ++ octets) (text ++ added) × (more ≡ story.delivered added)
+
+-- Every layer can go on from the octets, within the limits, and they are no envelope.
+pub record IsOpen (limits : Limits) (octets : List ℕ) : Type 0 where
+  pub whole : List Dataset
+  pub begun : Begun
+  pub reads : Reads octets whole begun
+  pub goes_on : AllGoOn limits whole begun
+  pub unfinished : AreSections whole → ⊥
+
+-- With the next octet no tag goes on.
+pub record IsBadTagAt (limits : Limits) (octets : List ℕ) (next : ℕ) (fault : Fault) : Type 0 where
+  pub whole : List Dataset
+  pub held : List ℕ
+  pub reads : Reads octets whole (InTag held)
+  pub goes_on : AllGoOn limits whole (InTag held)
+  pub unfinished : AreSections whole → ⊥
+  pub dead : BeginsNoTag count_octets (held ++ next ∷ [])
+  pub is_fault : fault ≡ record { layer = layers.Dataset; rec = begun_record (InTag held); set = begun_number (InTag held); cause = tag_cause held }
+
+-- The next octet completes the data of the head: it is the last of them, or the head has none and its tag ends there.
+abbrev pub CompletesData : List ℕ → ℕ → List Dataset → Head → List ℕ → Type 0
+CompletesData octets next whole head given =
+    ((taken : List ℕ) × Reads octets whole (InData head taken) × (given ≡ taken ++ next ∷ []) × (length given ≡ head.count))
+    ⊎ ((held : List ℕ) × Reads octets whole (InTag held) × SpellsTag count_octets head (held ++ next ∷ []) × (head.count ≡ 0) × (given ≡ []))
+
+-- The next octet completes a head, and that is refused.
+pub record IsBadHeadAt (limits : Limits) (octets : List ℕ) (next : ℕ) (fault : Fault) : Type 0 where
+  pub whole : List Dataset
+  pub held : List ℕ
+  pub head : Head
+  pub reads : Reads octets whole (InTag held)
+  pub goes_on : AllGoOn limits whole (InTag held)
+  pub unfinished : AreSections whole → ⊥
+  pub tag : SpellsTag count_octets head (held ++ next ∷ [])
+  pub refuses : IsRefusedHead limits whole head fault ⊎ IsUnfinished limits whole head fault
+
+-- The next octet is one of the object, and message, story or sink refuse it.
+pub record IsBadOctetAt (limits : Limits) (octets : List ℕ) (next : ℕ) (fault : Fault) : Type 0 where
+  pub whole : List Dataset
+  pub head : Head
+  pub taken : List ℕ
+  pub reads : Reads octets whole (InData head taken)
+  pub goes_on : AllGoOn limits whole (InData head taken)
+  pub unfinished : AreSections whole → ⊥
+  pub subfile : head.rec ≡ 8
+  pub cause : MessageCause
+  pub has_cause : wire.HasCause cause (object_of whole ++ taken) next
+  pub is_fault : fault ≡ message_on head cause
+
+-- The next octet completes a value, and that is refused.
+pub record IsBadValueAt (limits : Limits) (octets : List ℕ) (next : ℕ) (fault : Fault) : Type 0 where
+  pub whole : List Dataset
+  pub head : Head
+  pub given : List ℕ
+  pub completes : CompletesData octets next whole head given
+  pub goes_on : AllGoOn limits whole (InData head given)
+  pub unfinished : AreSections whole → ⊥
+  pub refuses : IsRefusedValue whole (data_of head given) fault
+
+-- Every layer can go on from the octets, within the limits. With the first token that the next octet completes and that is
+-- refused the layer of the fault is dead, and the layers that are asked before are not.
+abbrev pub RefusesNext : Limits → List ℕ → ℕ → Fault → Type 0
+RefusesNext limits octets next fault =
+    IsBadTagAt limits octets next fault ⊎ (IsBadHeadAt limits octets next fault ⊎ (IsBadOctetAt limits octets next fault ⊎ IsBadValueAt limits octets next fault))
+
+-- ---- what one octet completes (TO BE ASKED OF iim_dataset)
+
+pub record CompletesHead (octets : List ℕ) (next : ℕ) (events : List Event) (head : Head) : Type 0 where
+  pub whole : List Dataset
+  pub held : List ℕ
+  pub reads : Reads octets whole (InTag held)
+  pub tag : SpellsTag count_octets head (held ++ next ∷ [])
+  pub told : events ≡ handed_on whole (InTag held)
+
+pub record CompletesOctet (octets : List ℕ) (next : ℕ) (events : List Event) : Type 0 where
+  pub whole : List Dataset
+  pub head : Head
+  pub taken : List ℕ
+  pub reads : Reads octets whole (InData head taken)
+  pub told : events ≡ handed_on whole (InData head taken)
+
+pub record CompletesEnd (octets : List ℕ) (next : ℕ) (events : List Event) : Type 0 where
+  pub whole : List Dataset
+  pub head : Head
+  pub given : List ℕ
+  pub completes : CompletesData octets next whole head given
+  pub told : events ≡ handed_on whole (InData head given)
+
+abbrev pub CompletesNow : List ℕ → ℕ → List Event → Event → Type 0
+CompletesNow octets next events (HeadRead h) = CompletesHead octets next events h
+CompletesNow octets next events (DataOctet b) = (b ≡ next) × CompletesOctet octets next events
+CompletesNow octets next events DatasetEnd = CompletesEnd octets next events
+
+-- ---- the unpacker
+
+pub record Unpacking : Type 0 where
+  pub reader : Reader
+  pub parts : Parts
+  pub octets : ℕ
+  pub begun : Bool
+  pub refused : Option ℕ
+
+-- a count, raised by n; it stays at the greatest number of 64 bits
+abbrev pub raised : ℕ → ℕ → ℕ
+raised a n = min (a + n) (2 ^ 64 - 1)
+
+-- there is an octet
+abbrev pub are_some : List ℕ → Bool
+are_some [] = false
+are_some (x ∷ xs) = true
+
+-- an octet had come, or comes with these
+abbrev pub begins : Bool → List ℕ → Bool
+begins true xs = true
+begins false xs = are_some xs
+
+abbrev pub limits_in : Unpacking → Limits
+limits_in u = limits_of u.parts.fields
+
+-- The octets led the reader of tags and the parts here.
+pub record IsLed (u : Unpacking) (p : List ℕ) : Type 0 where
+  pub events : List Event
+  pub text : List ℕ
+  pub leads : LeadsTo p events u.reader.place
+  pub led : Led u.parts events text
+
+-- It stands on these octets, and counts so many.
+pub record Stands (u : Unpacking) (p : List ℕ) (a : ℕ) : Type 0 where
+  pub taking : u.refused ≡ None
+  pub unended : u.parts.last ≡ false
+  pub counts : u.octets ≡ a
+  pub begun : u.begun ≡ are_some p
+  pub is_led : IsLed u p
+  pub is_open : IsOpen (limits_in u) p
+
+-- It is done with these octets.
+pub record IsDoneWith (u : Unpacking) (p : List ℕ) (a : ℕ) : Type 0 where
+  pub taking : u.refused ≡ None
+  pub ended : u.parts.last ≡ true
+  pub place : u.reader.place ≡ between
+  pub counts : u.octets ≡ a
+  pub is_led : IsLed u p
+  pub value : Value
+  pub admits : Admits p value
+  pub within : AreWithin (limits_in u) admits.datasets
+
+abbrev pub IsDone : Unpacking → Type 0
+IsDone u = (u.refused ≡ None) × (u.parts.last ≡ true)
+
+-- What is answered, of octets on which it stood.
+abbrev pub Goes : Unpacking → List ℕ → ℕ → List ℕ → List story.Event → Progress → Type 0
+Goes v p a piece more More = Stands v (p ++ piece) (raised a (length piece)) × Adds p piece more
+Goes v p a piece more (Done used) = (used ≤ length piece) × IsDoneWith v (p ++ take used piece) (raised a used) × Adds p (take used piece) more
+
+-- Octet k of the piece is refused, and of the octets before it this is delivered.
+pub record IsRefusedIn (limits : Limits) (p : List ℕ) (a : ℕ) (piece : List ℕ) (more : List story.Event) (e : Refusal) : Type 0 where
+  pub k : ℕ
+  pub within : k < length piece
+  pub fault : Fault
+  pub refusal : e ≡ refusal_at (raised a k) fault
+  pub added : List ℕ
+  pub delivers : more ≡ story.delivered added
+  pub adds : (text : List ℕ) → IsTextOf p text → IsTextOf (p ++ take k piece) (text ++ added)
+  pub refuses : RefusesNext limits (p ++ take k piece) (slice_index piece k) fault
+
+-- the answer after a refusal
+abbrev pub failed_at : ℕ → Refusal
+failed_at octet = record { layer = layers.Outside; rec = 0; set = 0; octet = octet; cause = Failed }
+
+-- It stands on some octets, or is done with some.
+abbrev pub Stood : Unpacking → Type 0
+Stood u = (p : List ℕ) × (a : ℕ) × (Stands u p a ⊎ IsDoneWith u p a)
+
+-- what holds of an unpacker between calls
+pub record IsUnpacking (u : Unpacking) : Type 0 where
+  pub calls : TakesCalls u.reader
+  pub takes : ((u.parts.last ≡ false) × Takes u.parts (to_come u.reader.place)) ⊎ HasEnded u.parts
+  pub stood : Stood u
+
+abbrev pub IsSound : Unpacking → Type 0
+IsSound u = u.refused ≡ None → IsUnpacking u
+
+-- Unpacker and sink are left as they were.
+abbrev pub LeftAs : {S : Type 0} → Unpacking → S → Unpacking → S → Type 0
+LeftAs old a new b = (new ≡ old) × (b ≡ a)
+
+-- the refusal of octets that end here, of which this dataset is begun
+abbrev pub truncated_in : ℕ → ℕ × ℕ → Refusal
+truncated_in octet names = record { layer = layers.Dataset; rec = names.0; set = names.1; octet = octet; cause = Truncated }
+
+-- The octets are truncated: behind so many, in this begun dataset.
+pub record IsTruncatedAt (p : List ℕ) (a : ℕ) (e : Refusal) : Type 0 where
+  pub whole : List Dataset
+  pub begun : Begun
+  pub reads : Reads p whole begun
+  pub refusal : e ≡ truncated_in a (begun_record begun, begun_number begun)
+
+-- Open octets begin with no admitted ones (the third condition of open octets).
+abbrev pub OpenOctetsBeginWithNoEnvelope : Type 0
+OpenOctetsBeginWithNoEnvelope = (limits : Limits) (octets front rest : List ℕ) (v : Value) → IsOpen limits octets → octets ≡ front ++ rest → Admits front v → ⊥

@@ -1,0 +1,177 @@
+//! Envelopes, one after another, from a source.
+
+ghost use Rattle.std.specs.Prelude.{◌≡◌, ◌≢◌, ◌<◌, ◌≤◌, [], ℕ, List, Option, Some, None, Ok, Err, true, false, length, IfOk, IfErr, OnOk, OnErr};
+ghost use Rattle.std.specs.Io.KnownBytes.{IsAtEnd};
+ghost use Rattle.iim_dataset.specs.DeviceLaws.{HasGiven, MissedBehind};
+ghost use Rattle.iim_unpack.specs.Blocks.{behind};
+ghost use Rattle.iim_unpack.specs.Intakes.{line, IsReady, Faults, FedAs, Gives, read_fault};
+ghost use Rattle.iim_unpack.specs.Unpacking.{failed_at};
+ghost use Rattle.iim_unpack.specs.declared.intake.IntakeFault.TheVariants.{Refused as RefusedFault};
+
+use crate::block::Block;
+use crate::laws::open_octets_are_bounded;
+use crate::refusal::Refusal;
+use crate::unpacker::{Progress, Unpacked, Unpacker, failed_at, raised};
+use iim_dataset::{IoFault, Source, gifts_join};
+use wire_story::{StorySink, delivery_may_be_cut};
+
+/// Why an intake gave no envelope.
+#[derive(Clone, Copy, Debug, PartialEq, Eq)]
+pub enum IntakeFault {
+    /// The octets were refused, or they end inside an envelope; or the intake had answered a fault before.
+    Refused(Refusal),
+    /// The reader failed.
+    Read,
+    /// A million interruptions came in a row.
+    Interrupted,
+}
+
+/// Sees to it that a block has octets: reads once where it has none. Answers false at the end of the source.
+fn next_piece<R: Source>(block: &mut Block, reader: &mut R) -> Result<bool, IoFault>
+    ensures given { OnOk result (HasGiven (behind block.old (R.state reader.old)) (behind block.new (R.state reader.new)) []) }
+    ensures some { IfOk result (λ more. more ≡ true → 0 < length block.new) }
+    ensures end { IfOk result (λ more. more ≡ false → IsAtEnd (behind block.new (R.state reader.new)).octets) }
+    ensures missed { IfErr result (MissedBehind (behind block.old (R.state reader.old)) (behind block.new (R.state reader.new)) []) }
+    ensures leads { R.leads reader.old reader.new }
+{
+    gifts_join();
+    if !block.held().is_empty() {
+        return Ok(true);
+    }
+    match block.fill(reader) {
+        Ok(count) => Ok(count > 0),
+        Err(fault) => Err(fault),
+    }
+}
+
+fn read_fault(fault: IoFault) -> IntakeFault
+    ensures { result ≡ read_fault fault }
+{
+    match fault {
+        IoFault::Failed => IntakeFault::Read,
+        IoFault::Interrupted => IntakeFault::Interrupted,
+    }
+}
+
+/// Feeds an unpacker from a block, and then from the reader behind it, up to the end of an envelope: answers how many octets
+/// it used, or None where nothing is next in line and the unpacker stands on no octets. With a fault comes the octet that is
+/// to be told from then on.
+fn feed_line<R: Source, S: StorySink>(
+    block: &mut Block,
+    reader: &mut R,
+    unpacker: &mut Unpacker,
+    sink: &mut S,
+) -> Result<Option<u64>, (IntakeFault, u64)>
+    requires ready { IsReady unpacker.old }
+    ensures fed { IfOk result (FedAs S.goes (behind block.old (R.state reader.old)) (behind block.new (R.state reader.new)) unpacker.old unpacker.new sink.old sink.new) }
+    ensures calm { OnOk result (S.failures sink.new ≡ S.failures sink.old) }
+    ensures faults { IfErr result (λ halt. Faults S.goes S.failures (behind block.old (R.state reader.old)) (behind block.new (R.state reader.new)) unpacker.old sink.old sink.new halt.1 halt.0) }
+    ensures leads { R.leads reader.old reader.new }
+{
+    gifts_join();
+    delivery_may_be_cut();
+    open_octets_are_bounded();
+    unpacker.stands_somewhere();
+    let mut used: u64 = 0;
+    'feeding: loop {
+        match next_piece(block, reader) {
+            Ok(true) => {}
+            Ok(false) => {
+                if unpacker.is_fresh() {
+                    return Ok(None);
+                }
+                match unpacker.end_of_input() {
+                    Some(refusal) => return Err((IntakeFault::Refused(refusal), refusal.octet)),
+                    None => unreachable!(),
+                }
+            }
+            Err(fault) => return Err((read_fault(fault), unpacker.octets())),
+        }
+        let count = block.held().len();
+        match unpacker.feed(block.held(), sink) {
+            Ok(Progress::More) => {
+                block.pass(count);
+                used = raised(used, count);
+            }
+            Ok(Progress::Done { used: last }) => {
+                block.pass(last);
+                return Ok(Some(raised(used, last)));
+            }
+            Err(refusal) => {
+                block.pass(count);
+                return Err((IntakeFault::Refused(refusal), refusal.octet));
+            }
+        }
+    }
+}
+
+/// The octets of a source, from which envelopes are taken one after another.
+#[derive(Drop)]
+pub struct Intake<R> {
+    reader: R,
+    block: Block,
+    octets: u64,
+    failed: Option<u64>,
+}
+
+impl<R: Source> Intake<R> {
+    /// An intake that has given no envelope.
+    pub fn new(reader: R) -> Intake<R>
+        ensures reader { result.reader ≡ reader }
+        ensures block { result.block ≡ [] }
+        ensures octets { result.octets ≡ 0 }
+        ensures failed { result.failed ≡ None }
+    {
+        Intake {
+            reader,
+            block: Block::new(),
+            octets: 0,
+            failed: None,
+        }
+    }
+
+    /// How many octets were used for the envelope that was given last; 0 where the last call gave none.
+    pub fn octets(&self) -> u64
+        ensures { result ≡ self.now.octets }
+    {
+        self.octets
+    }
+
+    /// The next envelope, whose first octets the unpacker may have been fed; None where the input ends and the unpacker
+    /// stands on no octets. The octets behind the envelope stay next in line.
+    pub fn next_envelope<S: StorySink>(
+        &mut self,
+        unpacker: Unpacker,
+        sink: &mut S,
+    ) -> Result<Option<Unpacked>, IntakeFault>
+        requires ready { IsReady unpacker }
+        ensures gives { self.old.failed ≡ None → IfOk result (Gives S.goes (line R.state self.old) (line R.state self.new) unpacker sink.old sink.new self.new.octets) }
+        ensures calm { OnOk result (S.failures sink.new ≡ S.failures sink.old) }
+        ensures faults { self.old.failed ≡ None → IfErr result (λ fault. (kept : ℕ) × (self.new.failed ≡ Some kept) × Faults S.goes S.failures (line R.state self.old) (line R.state self.new) unpacker sink.old sink.new kept fault) }
+        ensures none { OnErr result (self.new.octets ≡ 0) }
+        ensures lives { OnOk result (self.new.failed ≡ None) }
+        ensures again { (octet : ℕ) → self.old.failed ≡ Some octet → (result ≡ Err (RefusedFault (failed_at octet))) × (sink.new ≡ sink.old) × (self.new ≡ record (self.old) { octets = 0 }) }
+        ensures leads { R.leads self.old.reader self.new.reader }
+    {
+        self.octets = 0;
+        if let Some(octet) = self.failed {
+            return Err(IntakeFault::Refused(failed_at(octet)));
+        }
+        let mut unpacker = unpacker;
+        unpacker.stands_somewhere();
+        match feed_line(&mut self.block, &mut self.reader, &mut unpacker, sink) {
+            Ok(Some(used)) => match unpacker.into_unpacked() {
+                Ok(got) => {
+                    self.octets = used;
+                    Ok(Some(got))
+                }
+                Err(_) => unreachable!(),
+            },
+            Ok(None) => Ok(None),
+            Err((fault, octet)) => {
+                self.failed = Some(octet);
+                Err(fault)
+            }
+        }
+    }
+}

@@ -1,0 +1,70 @@
+//! The way of datasets to the parts of an unpacker.
+
+ghost use Rattle.std.specs.Prelude.{◌≡◌, refl};
+ghost use Rattle.std.proofs.Common.{◌∙◌};
+ghost use Rattle.iim_unpack.specs.Going.{went_nothing, went_joined, stopped_joined};
+ghost use Rattle.iim_unpack.specs.Routing.{Routes, RefusesRoute, TakesNext, IsOver};
+
+use crate::fault::Fault;
+use crate::parts::Parts;
+use iim_dataset::{DatasetSink, Head, Step, Stop};
+use wire_story::StorySink;
+
+/// A sink of datasets: they go to the parts of an unpacker, and what is delivered of the text to a sink of stories. A refusal
+/// is kept.
+pub(crate) struct Router<'p, 's, S> {
+    pub parts: &'p mut Parts,
+    pub sink: &'s mut S,
+    pub refused: Option<Fault>,
+}
+
+impl<'p, 's, S: StorySink> DatasetSink for Router<'p, 's, S> {
+    ghost goes = { Routes S.goes S.failures };
+
+    ghost stops = { RefusesRoute S.goes S.failures };
+
+    ghost stands = { TakesNext };
+
+    ghost ends = { IsOver };
+
+    ghost nothing = { λ a. (refl, refl, went_nothing S.goes S.failures a.parts.now a.sink.now (S.nothing a.sink.now)) };
+
+    ghost joined = { λ a b c xs ys h k. (h.0 ∙ k.0, h.1 ∙ k.1, went_joined S.goes S.failures S.joined a.parts.now b.parts.now c.parts.now a.sink.now b.sink.now c.sink.now xs ys h.2 k.2) };
+
+    ghost joined_stop = { λ a b c xs ys event h k. (h.0 ∙ k.0, h.1 ∙ k.1, stopped_joined S.goes S.failures S.joined a.parts.now b.parts.now a.sink.now b.sink.now c.sink.now xs ys event c.refused h.2 k.2) };
+
+    fn head(&mut self, head: Head) -> Result<(), Stop> {
+        match self.parts.head(head, &mut *self.sink) {
+            Ok(()) => Ok(()),
+            Err(fault) => {
+                self.refused = Some(fault);
+                Err(Stop { taken: 0 })
+            }
+        }
+    }
+
+    fn run(&mut self, run: &[u8]) -> Result<(), Stop> {
+        match self.parts.run(run, &mut *self.sink) {
+            Ok(()) => Ok(()),
+            Err(halt) => {
+                self.refused = Some(halt.fault);
+                Err(Stop { taken: halt.taken })
+            }
+        }
+    }
+
+    fn close(&mut self) -> Result<Step, Stop> {
+        match self.parts.close() {
+            Ok(last) => {
+                if last {
+                    return Ok(Step::Last);
+                }
+                Ok(Step::More)
+            }
+            Err(fault) => {
+                self.refused = Some(fault);
+                Err(Stop { taken: 0 })
+            }
+        }
+    }
+}

@@ -1,0 +1,410 @@
+//! The streaming unpacker.
+
+ghost use Rattle.std.specs.Prelude.{◌≡◌, ◌^◌, [], is_some, ◌<◌, ◌≤◌, ◌⊎◌, ℕ, List, Option, Some, None, Ok, Err, true, false, length, take, IsTrue, ◌↔◌, IfOk, IfErr, OnOk, OnErr};
+ghost use Rattle.iim_dataset.specs.Places.{to_come, named_by};
+ghost use Rattle.iim_dataset.specs.Reading.{TakesCalls};
+ghost use Rattle.iim_dataset.specs.declared.head.HeadCause.{HeadCause as HeadCauseValue};
+ghost use Rattle.iim_dataset.specs.declared.place.Place.{Place};
+ghost use Rattle.iim_fields.specs.Standing.{limits_of};
+ghost use Rattle.wire_story.specs.Delivery as story;
+ghost use Rattle.iim_unpack.specs.Parts.{CountsFor};
+ghost use Rattle.iim_unpack.specs.Refusals.{refusal_at};
+ghost use Rattle.iim_unpack.specs.Routing.{Takes};
+ghost use Rattle.iim_unpack.specs.Unpacking.{Advanced, FailsFor, FailsAs, IsOnward, tag_fault, raised, begins, failed_at};
+ghost use Rattle.iim_dataset.specs.Reading.{is_of};
+ghost use Rattle.iim_unpack.specs.Unpacking.{Stood, Stands, IsDoneWith, IsDone, IsRefusedIn, IsTruncatedAt, Goes, limits_in, LeftAs};
+ghost use Rattle.iim_unpack.specs.Admitted.{Value, Admits};
+ghost use Rattle.iim_unpack.specs.Value.{HasParts};
+ghost use Rattle.iim_unpack.specs.declared.refusal.Refusal.{Refusal as RefusalValue};
+
+use crate::fault::Fault;
+use crate::laws::admitted_octets_have_one_value;
+use crate::message::give_back;
+use crate::parts::{Halt, Parts};
+use crate::refusal::{Cause, Layer, Refusal};
+use crate::router::Router;
+use arrayvec::ArrayVec;
+use iim_dataset::{
+    Fault as TagFault, FaultCause, Head, HeadReader, events_tell_the_datasets,
+    no_dataset_begins_another, no_tag_begins_another, octets_are_handed_on_one_way,
+};
+use iim_fields::{
+    Envelope, Fields, Limits, envelopes_end_with_the_last_record, no_sections_begin_others,
+};
+use iim_object::{ObjectReader, Sizes, records_are_by_number};
+use std::alloc::{AllocError, Global};
+use std::marker::Model;
+use wire_message::{MessageHead, MessageReader, readers_stand_at_living_octets};
+use wire_story::StorySink;
+
+/// How far an unpacker came with a piece.
+#[derive(Clone, Copy, Debug, PartialEq, Eq)]
+pub enum Progress {
+    /// All of it was used, and the envelope goes on.
+    More,
+    /// The envelope ends behind so many octets of it.
+    Done { used: usize },
+}
+
+/// `feed` of the tags at a router, whose references stay what they are.
+fn feed_router<'p, 's, S: StorySink>(
+    reader: &mut HeadReader,
+    piece: &[u8],
+    router: &mut Router<'p, 's, S>,
+) -> Result<usize, TagFault>
+    requires takes_calls { TakesCalls reader.old }
+    requires stands { Takes router.old.parts.now (to_come reader.old.place) }
+    ensures parts { router.new.parts.ghost_name ≡ router.old.parts.ghost_name }
+    ensures sink { router.new.sink.ghost_name ≡ router.old.sink.ghost_name }
+    ensures takes_calls { OnOk result (TakesCalls reader.new) }
+    ensures within { IfOk result (λ used. used ≤ length piece.now) }
+    ensures advanced { IfOk result (λ used. Advanced S.goes S.failures reader.old.place (take used piece.now) reader.new.place router.old.parts.now router.old.sink.now router.new.parts.now router.new.sink.now) }
+    ensures onward { IfOk result (IsOnward reader.new.place router.new.parts.now (length piece.now)) }
+    ensures before { IfErr result (λ fault. fault.used < length piece.now) }
+    ensures fails { IfErr result (λ fault. FailsFor S.goes S.failures (is_of fault.cause) reader.old.place piece.now fault.used reader.new.place router.old.parts.now router.old.sink.now router.new.refused router.new.sink.now) }
+{
+    reader.feed(piece, router)
+}
+
+fn tag_fault(names: (u8, u8), cause: Cause) -> Fault
+    ensures { result ≡ record { layer = Layer.Dataset; rec = names.0; set = names.1; cause = cause } }
+{
+    Fault {
+        layer: Layer::Dataset,
+        rec: names.0,
+        set: names.1,
+        cause,
+    }
+}
+
+/// Takes a piece, all of it or up to the end of the last dataset, and answers how much.
+fn advance<S: StorySink>(
+    reader: &mut HeadReader,
+    parts: &mut Parts,
+    piece: &[u8],
+    sink: &mut S,
+) -> Result<usize, Halt>
+    requires takes_calls { TakesCalls reader.old }
+    requires stands { Takes parts.old (to_come reader.old.place) }
+    ensures takes_calls { OnOk result (TakesCalls reader.new) }
+    ensures within { IfOk result (λ used. used ≤ length piece.now) }
+    ensures advanced { IfOk result (λ used. Advanced S.goes S.failures reader.old.place (take used piece.now) reader.new.place parts.old sink.old parts.new sink.new) }
+    ensures onward { IfOk result (IsOnward reader.new.place parts.new (length piece.now)) }
+    ensures before { IfErr result (λ halt. halt.taken < length piece.now) }
+    ensures fails { IfErr result (λ halt. FailsAs S.goes S.failures reader.old.place piece.now halt.taken halt.fault parts.old sink.old sink.new) }
+{
+    let mut router = Router {
+        parts,
+        sink,
+        refused: None,
+    };
+    let answer = feed_router(reader, piece, &mut router);
+    let Router {
+        parts: _parts,
+        sink: same,
+        refused,
+    } = router;
+    give_back(same);
+    match answer {
+        Ok(used) => Ok(used),
+        Err(fault) => {
+            let why = match fault.cause {
+                FaultCause::Marker => tag_fault(reader.named(), Cause::Marker),
+                FaultCause::CountForm => tag_fault(reader.named(), Cause::CountForm),
+                FaultCause::Stopped => match refused {
+                    Some(fault) => fault,
+                    None => unreachable!(),
+                },
+            };
+            Err(Halt {
+                taken: fault.used,
+                fault: why,
+            })
+        }
+    }
+}
+
+/// What an envelope has, but for its lines, which went to the sink.
+#[derive(Drop)]
+pub struct Unpacked {
+    pub envelope: Envelope,
+    pub head: MessageHead,
+    pub trailer: ArrayVec<u8, 64>,
+    pub sizes: Sizes,
+}
+
+/// An unpacker of one envelope.
+#[derive(Drop)]
+pub struct Unpacker {
+    reader: HeadReader,
+    parts: Parts,
+    octets: u64,
+    begun: bool,
+    refused: Option<u64>,
+}
+
+impl Model for Unpacker {
+    ghost use Rattle.iim_unpack.specs.Unpacking.{Unpacking, IsSound};
+
+    ghost Value = { Unpacking };
+
+    ghost view = { λ u. record { reader = u.reader; parts = u.parts; octets = u.octets; begun = u.begun; refused = u.refused } };
+
+    ghost invariant = { λ u. IsSound (record { reader = u.reader; parts = u.parts; octets = u.octets; begun = u.begun; refused = u.refused }) };
+}
+
+/// The refusal for a fault, at this octet.
+fn refusal_at(octet: u64, fault: Fault) -> Refusal
+    ensures { result ≡ refusal_at octet fault }
+{
+    Refusal {
+        layer: fault.layer,
+        rec: fault.rec,
+        set: fault.set,
+        octet,
+        cause: fault.cause,
+    }
+}
+
+/// The answer after a refusal at this octet.
+pub(crate) fn failed_at(octet: u64) -> Refusal
+    ensures { result ≡ failed_at octet }
+{
+    Refusal {
+        layer: Layer::Outside,
+        rec: 0,
+        set: 0,
+        octet,
+        cause: Cause::Failed,
+    }
+}
+
+/// A count, raised; it stays at the greatest number of 64 bits.
+pub(crate) fn raised(octets: u64, more: usize) -> u64
+    ensures { result ≡ raised octets more }
+{
+    octets.saturating_add(more as u64)
+}
+
+/// Whether an octet has come, behind a piece.
+fn begins(begun: bool, piece: &[u8]) -> bool
+    ensures { result ≡ begins begun piece.now }
+{
+    begun || !piece.is_empty()
+}
+
+impl Unpacker {
+    /// An unpacker that stands on no octets, with memory for all that the limits allow: no later call takes any.
+    pub fn new(alloc: Global, limits: Limits) -> Result<Unpacker, AllocError>
+        ensures stands { IfOk result (λ u. Stands u [] 0) }
+        ensures limits { IfOk result (λ u. limits_in u ≡ limits) }
+    {
+        no_tag_begins_another();
+        no_dataset_begins_another();
+        octets_are_handed_on_one_way();
+        events_tell_the_datasets();
+        envelopes_end_with_the_last_record();
+        no_sections_begin_others();
+        readers_stand_at_living_octets();
+        records_are_by_number();
+        let fields = Fields::new(alloc, limits)?;
+        Ok(Unpacker {
+            reader: HeadReader::new(),
+            parts: Parts {
+                fields,
+                object: ObjectReader::new(),
+                message: MessageReader::new(),
+                subfiles: 0,
+                head: Head {
+                    rec: 0,
+                    set: 0,
+                    count: 0,
+                },
+                left: 0,
+                last: false,
+            },
+            octets: 0,
+            begun: false,
+            refused: None,
+        })
+    }
+
+    /// Whether an envelope has ended.
+    pub fn is_done(&self) -> bool
+        ensures { IsTrue result ↔ IsDone self.now }
+    {
+        self.parts.last && self.refused.is_none()
+    }
+
+    /// Whether something was refused.
+    pub fn is_failed(&self) -> bool
+        ensures { result ≡ is_some self.now.refused }
+    {
+        self.refused.is_some()
+    }
+
+    /// It stands on some octets, or is done with some, unless something was refused.
+    pub(crate) fn stands_somewhere(&self)
+        ensures stood { self.now.refused ≡ None → Stood self.now }
+        ensures counts { self.now.octets < 2 ^ 64 }
+        ensures octets { (limits_in self.now).octets < 2 ^ 32 }
+        ensures fields { (limits_in self.now).fields < 2 ^ 32 }
+    {
+        let _ = self.octets();
+        let _ = self.parts.fields.limits();
+    }
+
+    /// Whether it stands on no octets.
+    pub(crate) fn is_fresh(&self) -> bool
+        ensures { (p : List ℕ) (a : ℕ) → Stands self.now p a → IsTrue result ↔ (p ≡ []) }
+    {
+        !self.begun
+    }
+
+    /// How many octets were taken.
+    pub fn octets(&self) -> u64
+        ensures { result ≡ self.now.octets }
+    {
+        self.octets
+    }
+
+    /// Takes the next octets of the stream, and tells the sink what is delivered of the text among them.
+    pub fn feed<S: StorySink>(&mut self, piece: &[u8], sink: &mut S) -> Result<Progress, Refusal>
+        // It stands on the octets so far, or an envelope ends with them; and the sink was told what they add.
+        ensures goes { IfOk result (λ progress. (more : List story.Event) × S.goes sink.old more sink.new
+            × ((p : List ℕ) (a : ℕ) → Stands self.old p a → Goes self.new p a piece.now more progress)) }
+        ensures calm { OnOk result (S.failures sink.new ≡ S.failures sink.old) }
+
+        // The first dead token is one that octet k completes; the sink was told what the octets before it add.
+        ensures refused { IfErr result (λ e. (more : List story.Event) × S.goes sink.old more sink.new
+            × ((p : List ℕ) (a : ℕ) → Stands self.old p a → IsRefusedIn (limits_in self.old) p a piece.now more e)) }
+        ensures counted { IfErr result (λ e. CountsFor e.cause (S.failures sink.old) (S.failures sink.new)) }
+        ensures failed { IfErr result (λ e. self.new.refused ≡ Some e.octet) }
+
+        // Behind an envelope, and after a refusal, nothing changes any more.
+        ensures done { IsDone self.old → (result ≡ Ok (Progress.Done 0)) × LeftAs self.old sink.old self.new sink.new }
+        ensures again { (octet : ℕ) → self.old.refused ≡ Some octet → (result ≡ Err (failed_at octet)) × LeftAs self.old sink.old self.new sink.new }
+        ensures limits { self.old.refused ≡ None → OnOk result (limits_in self.new ≡ limits_in self.old) }
+    {
+        if let Some(octet) = self.refused {
+            return Err(failed_at(octet));
+        }
+        if self.parts.last {
+            return Ok(Progress::Done { used: 0 });
+        }
+        no_tag_begins_another();
+        no_dataset_begins_another();
+        octets_are_handed_on_one_way();
+        events_tell_the_datasets();
+        envelopes_end_with_the_last_record();
+        no_sections_begin_others();
+        readers_stand_at_living_octets();
+        records_are_by_number();
+        match advance(&mut self.reader, &mut self.parts, piece, sink) {
+            Ok(used) => {
+                self.octets = raised(self.octets, used);
+                self.begun = begins(self.begun, piece);
+                if self.parts.last {
+                    let _ = self.parts.object.sizes();
+                    return Ok(Progress::Done { used });
+                }
+                Ok(Progress::More)
+            }
+            Err(halt) => {
+                let octet = raised(self.octets, halt.taken);
+                self.refused = Some(octet);
+                Err(refusal_at(octet, halt.fault))
+            }
+        }
+    }
+
+    /// What is missing where the input ends here: None behind an envelope; else its octets are truncated.
+    pub fn end_of_input(&self) -> Option<Refusal>
+        ensures done { IsDone self.now → result ≡ None }
+        ensures failed { (octet : ℕ) → self.now.refused ≡ Some octet → result ≡ Some (failed_at octet) }
+        ensures truncated { (p : List ℕ) (a : ℕ) → Stands self.now p a → (e : RefusalValue) × (result ≡ Some e) × IsTruncatedAt p a e }
+    {
+        if let Some(octet) = self.refused {
+            return Some(failed_at(octet));
+        }
+        if self.parts.last {
+            return None;
+        }
+        let (rec, set) = self.reader.named();
+        Some(Refusal {
+            layer: Layer::Dataset,
+            rec,
+            set,
+            octet: self.octets,
+            cause: Cause::Truncated,
+        })
+    }
+
+    /// The value of the envelope, where one has ended. Else the unpacker is handed back.
+    pub fn into_unpacked(self) -> Result<Unpacked, Unpacker>
+        ensures done { OnOk result (IsDone self) }
+        ensures value { IfOk result (λ got. (p : List ℕ) (a : ℕ) → IsDoneWith self p a → (v : Value) → Admits p v → HasParts got v) }
+        ensures not_done { OnErr result ((p : List ℕ) (a : ℕ) → IsDoneWith self p a → ⊥) }
+    {
+        no_tag_begins_another();
+        no_dataset_begins_another();
+        octets_are_handed_on_one_way();
+        events_tell_the_datasets();
+        envelopes_end_with_the_last_record();
+        no_sections_begin_others();
+        readers_stand_at_living_octets();
+        records_are_by_number();
+        admitted_octets_have_one_value();
+        if !self.is_done() {
+            return Err(self);
+        }
+        let Some(head) = self.parts.message.head() else {
+            return Err(self);
+        };
+        let mut trailer = ArrayVec::new();
+        match trailer.try_extend_from_slice(self.parts.message.trailer()) {
+            Ok(()) => {}
+            Err(_) => return Err(self),
+        }
+        let sizes = self.parts.object.sizes();
+        let Unpacker {
+            reader,
+            parts,
+            octets,
+            begun: some,
+            refused,
+        } = self;
+        let Parts {
+            fields,
+            object,
+            message,
+            subfiles,
+            head: begun,
+            left,
+            last,
+        } = parts;
+        match fields.into_envelope() {
+            Ok(envelope) => Ok(Unpacked {
+                envelope,
+                head,
+                trailer,
+                sizes,
+            }),
+            Err(fields) => Err(Unpacker {
+                reader,
+                parts: Parts {
+                    fields,
+                    object,
+                    message,
+                    subfiles,
+                    head: begun,
+                    left,
+                    last,
+                },
+                octets,
+                begun: some,
+                refused,
+            }),
+        }
+    }
+}
