@@ -11,3 +11,4 @@ pub mod Openings
 pub mod Startings
 pub mod LinesOut
 pub mod Wholes
+pub mod Ones
