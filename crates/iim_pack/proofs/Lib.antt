@@ -12,3 +12,5 @@ pub mod Startings
 pub mod LinesOut
 pub mod Wholes
 pub mod Ones
+pub mod Orders
+pub mod Beginnings
