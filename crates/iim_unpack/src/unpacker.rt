@@ -26,7 +26,7 @@ use crate::router::Router;
 use arrayvec::ArrayVec;
 use iim_dataset::{
     Fault as TagFault, FaultCause, Head, HeadReader, events_tell_the_datasets,
-    no_dataset_begins_another, no_tag_begins_another, octets_are_handed_on_one_way,
+    octets_are_handed_on_one_way, what_an_octet_completes,
 };
 use iim_fields::{
     Envelope, Fields, Limits, envelopes_end_with_the_last_record, no_sections_begin_others,
@@ -199,8 +199,7 @@ impl Unpacker {
         ensures stands { IfOk result (λ u. Stands u [] 0) }
         ensures limits { IfOk result (λ u. limits_in u ≡ limits) }
     {
-        no_tag_begins_another();
-        no_dataset_begins_another();
+        what_an_octet_completes();
         octets_are_handed_on_one_way();
         events_tell_the_datasets();
         envelopes_end_with_the_last_record();
@@ -292,8 +291,7 @@ impl Unpacker {
         if self.parts.last {
             return Ok(Progress::Done { used: 0 });
         }
-        no_tag_begins_another();
-        no_dataset_begins_another();
+        what_an_octet_completes();
         octets_are_handed_on_one_way();
         events_tell_the_datasets();
         envelopes_end_with_the_last_record();
@@ -346,8 +344,7 @@ impl Unpacker {
         ensures value { IfOk result (λ got. (p : List ℕ) (a : ℕ) → IsDoneWith self p a → (v : Value) → Admits p v → HasParts got v) }
         ensures not_done { OnErr result ((p : List ℕ) (a : ℕ) → IsDoneWith self p a → ⊥) }
     {
-        no_tag_begins_another();
-        no_dataset_begins_another();
+        what_an_octet_completes();
         octets_are_handed_on_one_way();
         events_tell_the_datasets();
         envelopes_end_with_the_last_record();

@@ -16,8 +16,7 @@ returns-then-self-clause-goes g c = (
 pub returns-then-self-2-clause-goes : goal.returns-then-self-2-clause-goes
 returns-then-self-2-clause-goes g c =
     let laws : FeedLaws = record {
-      one_tag = c.no_tag_begins_another.ensures;
-      one_dataset = c.no_dataset_begins_another.ensures;
+      octet = c.what_an_octet_completes.ensures;
       way = c.octets_are_handed_on_one_way.ensures;
       tell = c.events_tell_the_datasets.ensures;
       ends = c.envelopes_end_with_the_last_record.ensures;
@@ -40,8 +39,7 @@ returns-then-self-2-clause-goes g c =
 pub returns-else-self-2-clause-goes : goal.returns-else-self-2-clause-goes
 returns-else-self-2-clause-goes g c =
     let laws : FeedLaws = record {
-      one_tag = c.no_tag_begins_another.ensures;
-      one_dataset = c.no_dataset_begins_another.ensures;
+      octet = c.what_an_octet_completes.ensures;
       way = c.octets_are_handed_on_one_way.ensures;
       tell = c.events_tell_the_datasets.ensures;
       ends = c.envelopes_end_with_the_last_record.ensures;
@@ -64,8 +62,7 @@ returns-else-self-2-clause-goes g c =
 pub returns-in-Err-clause-refused : goal.returns-in-Err-clause-refused
 returns-in-Err-clause-refused g c =
     let laws : FeedLaws = record {
-      one_tag = c.no_tag_begins_another.ensures;
-      one_dataset = c.no_dataset_begins_another.ensures;
+      octet = c.what_an_octet_completes.ensures;
       way = c.octets_are_handed_on_one_way.ensures;
       tell = c.events_tell_the_datasets.ensures;
       ends = c.envelopes_end_with_the_last_record.ensures;
@@ -84,8 +81,7 @@ returns-in-Err-clause-refused g c =
 pub invariant_of-self : goal.invariant_of-self
 invariant_of-self g c =
     let laws : FeedLaws = record {
-      one_tag = c.no_tag_begins_another.ensures;
-      one_dataset = c.no_dataset_begins_another.ensures;
+      octet = c.what_an_octet_completes.ensures;
       way = c.octets_are_handed_on_one_way.ensures;
       tell = c.events_tell_the_datasets.ensures;
       ends = c.envelopes_end_with_the_last_record.ensures;
@@ -104,8 +100,7 @@ invariant_of-self g c =
 pub invariant_of-self-in-Ok : goal.invariant_of-self-in-Ok
 invariant_of-self-in-Ok g c =
     let laws : FeedLaws = record {
-      one_tag = c.no_tag_begins_another.ensures;
-      one_dataset = c.no_dataset_begins_another.ensures;
+      octet = c.what_an_octet_completes.ensures;
       way = c.octets_are_handed_on_one_way.ensures;
       tell = c.events_tell_the_datasets.ensures;
       ends = c.envelopes_end_with_the_last_record.ensures;

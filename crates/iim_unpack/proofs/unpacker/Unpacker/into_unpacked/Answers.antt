@@ -6,8 +6,7 @@ use Rattle.iim_unpack.proofs.unpacker.Unpacker.into_unpacked.Goals as goal
 pub returns-in_default-clause-not_done : goal.returns-in_default-clause-not_done
 returns-in_default-clause-not_done c =
     let laws : FeedLaws = record {
-      one_tag = c.no_tag_begins_another.ensures;
-      one_dataset = c.no_dataset_begins_another.ensures;
+      octet = c.what_an_octet_completes.ensures;
       way = c.octets_are_handed_on_one_way.ensures;
       tell = c.events_tell_the_datasets.ensures;
       ends = c.envelopes_end_with_the_last_record.ensures;
@@ -22,8 +21,7 @@ returns-in_default-clause-not_done c =
 pub returns-in-Ok-into_envelope-clause-value : goal.returns-in-Ok-into_envelope-clause-value
 returns-in-Ok-into_envelope-clause-value c =
     let laws : FeedLaws = record {
-      one_tag = c.no_tag_begins_another.ensures;
-      one_dataset = c.no_dataset_begins_another.ensures;
+      octet = c.what_an_octet_completes.ensures;
       way = c.octets_are_handed_on_one_way.ensures;
       tell = c.events_tell_the_datasets.ensures;
       ends = c.envelopes_end_with_the_last_record.ensures;

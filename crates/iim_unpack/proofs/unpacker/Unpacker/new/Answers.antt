@@ -5,8 +5,7 @@ use Rattle.iim_unpack.proofs.unpacker.Unpacker.new.Goals as goal
 pub returns-clause-stands : goal.returns-clause-stands
 returns-clause-stands c =
     let laws : FeedLaws = record {
-      one_tag = c.no_tag_begins_another.ensures;
-      one_dataset = c.no_dataset_begins_another.ensures;
+      octet = c.what_an_octet_completes.ensures;
       way = c.octets_are_handed_on_one_way.ensures;
       tell = c.events_tell_the_datasets.ensures;
       ends = c.envelopes_end_with_the_last_record.ensures;
@@ -27,8 +26,7 @@ returns-clause-stands c =
 pub invariant_of-result : goal.invariant_of-result
 invariant_of-result c =
     let laws : FeedLaws = record {
-      one_tag = c.no_tag_begins_another.ensures;
-      one_dataset = c.no_dataset_begins_another.ensures;
+      octet = c.what_an_octet_completes.ensures;
       way = c.octets_are_handed_on_one_way.ensures;
       tell = c.events_tell_the_datasets.ensures;
       ends = c.envelopes_end_with_the_last_record.ensures;
