@@ -1,10 +1,10 @@
 //! Datasets of the Information Interchange Model: their tags, datasets in pieces, and the devices that octets come from and
 //! go to.
 //!
-//! Stands on `byteorder` and `arrayvec`. Whatever reads or writes octets stands on it: the crates of records, objects and
-//! stories speak in its definitions; the unpacker feeds [`HeadReader`], whose sink it is, and the scan of whole inputs reads tags
-//! by [`read_head`]; writers of objects and envelopes spell tags by [`head_bytes`]. All reach sources and targets by [`take`] and
-//! [`put`] alone. The contract that the unpacker uses is that of [`HeadReader::feed`], with [`readers_die_exactly`].
+//! Stands on `byteorder` and `arrayvec`. Every crate but `iim_tables` stands on it, at least for its definitions. The unpacker
+//! feeds [`HeadReader`] with a sink of its own, and relies on the contract of [`HeadReader::feed`] and on
+//! [`what_an_octet_completes`]; the scan of whole inputs reads tags by [`read_head`]. Writers of objects and envelopes spell tags
+//! by [`head_bytes`]. Sources and targets are reached by [`take`] and [`put`] alone.
 #![tactic(auto)]
 
 mod device;
