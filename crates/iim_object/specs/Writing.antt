@@ -160,8 +160,8 @@ pub record Halts {W : Type 0} (state : W → Device) (old new : Cutter W) (text 
 
 -- ---- buffers
 
--- nothing is in it, and it has the room that a plan asks
+-- nothing is in it, and it has just the room that a plan asks
 pub record IsReserved {A : Type 0} (plan : Plan) (v : Vec ℕ A) : Type 0 where
   pub empty : v.items ≡ []
   pub len : vec_len v ≡ 0
-  pub capacity : room_of plan ≤ vec_capacity v
+  pub capacity : vec_capacity v ≡ room_of plan

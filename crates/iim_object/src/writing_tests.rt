@@ -81,6 +81,7 @@ fn written(
     cut: usize,
 ) -> TrialWriter<600> {
     let mut writer = started(rt, alloc, subfile, size);
+    assert!(rt; cut > 0);
     for piece in object.chunks(cut) {
         assert!(rt; writer.write(&[]).is_ok());
         assert!(rt; writer.write(piece).is_ok());
