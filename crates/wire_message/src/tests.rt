@@ -25,6 +25,12 @@ enum Call {
     LineEnd,
 }
 
+impl Default for Call {
+    fn default() -> Call {
+        Call::LineEnd
+    }
+}
+
 /// A sink that keeps what it was told first.
 #[derive(Drop)]
 struct Calls {
