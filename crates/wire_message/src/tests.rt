@@ -25,6 +25,12 @@ enum Call {
     LineEnd,
 }
 
+impl Default for Call {
+    fn default() -> Call {
+        Call::LineEnd
+    }
+}
+
 /// A sink that keeps what it was told first.
 #[derive(Drop)]
 struct Calls {
@@ -52,11 +58,13 @@ impl StorySink for Calls {
 }
 
 /// The smallest header, a text of one line of 32,754 octets, and no trailer.
-fn long_object() -> [u8; 32_768] {
-    let mut object = [b'a'; 32_768];
-    object[..12].copy_from_slice(b"\x01X1 4 N 0\r\n\x02");
-    object[32_766] = 0x03;
-    object[32_767] = 0x04;
+fn long_object() -> arrayvec::ArrayVec<u8, 32_768> {
+    let mut object = arrayvec::ArrayVec::new();
+    let _ = object.try_extend_from_slice(b"\x01X1 4 N 0\r\n\x02");
+    for _ in 0..32_754 {
+        let _ = object.try_push(b'a');
+    }
+    let _ = object.try_extend_from_slice(b"\x03\x04");
     object
 }
 
@@ -183,6 +191,7 @@ fn read_lines(alloc: Global, object: &[u8]) -> (Lines, Option<(usize, MessageCau
 #[test]
 fn a_long_line_is_kept(rt: HostRuntime) {
     let object = long_object();
+    assert_eq!(rt; object.len(), 32_768);
     let (lines, answer) = read_lines(rt.alloc(), &object);
     assert_eq!(rt; answer, None);
     let mut left = lines.iter();
