@@ -11,3 +11,6 @@ pub mod Openings
 pub mod Startings
 pub mod LinesOut
 pub mod Wholes
+pub mod Ones
+pub mod Orders
+pub mod Beginnings

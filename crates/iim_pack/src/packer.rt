@@ -4,6 +4,8 @@ ghost use Rattle.std.specs.Prelude.{◌≡◌, ◌<◌, ◌^◌, [], ◌∷◌, 
 ghost use Rattle.wire_story.specs.Delivery.{LineOctet, LineEnd};
 ghost use Rattle.iim_pack.specs.Packing.{Lengthens, BreaksOff, GoesOnWith, EndsIn, Finishes, start_cause, text_cause, line_end_cause, finish_cause, written_of};
 ghost use Rattle.iim_pack.specs.Starting.{Starts, IsRefused, IsStartFault};
+ghost use Rattle.iim_pack.specs.Begun.{Begun, GoesOnBegun, EndsBegun};
+ghost use Rattle.iim_pack.specs.Orders.{IsFirstOf, AgainstStart, AgainstText, AgainstLineEnd, AgainstFinish};
 ghost use Rattle.iim_object.specs.declared.cause.PackCause.TheVariants as causes;
 
 use crate::cause::{LEAST_ENDING, ending_cause, is_past};
@@ -51,7 +53,9 @@ impl<W: Target> Packer<W> {
         mut writer: W,
     ) -> Result<Packer<W>, StartFault<W>>
         ensures refused { IfSome (start_cause head.now plan) (λ cause. MatchResult result (λ _. ⊥) (IsRefused cause writer)) }
+        ensures order { IsFirstOf (AgainstStart head.now plan) (causes.PastAnnounced ∷ []) (start_cause head.now plan) }
         ensures ok { IfOk result (Starts W.state writer envelope.now head.now plan) }
+        ensures begun { IfOk result (λ k. Begun W.state (W.state writer) k envelope.now head.now [] plan) }
         ensures fault { IfNone (start_cause head.now plan) (IfErr result (IsStartFault W.state envelope.now head.now plan writer)) }
     {
         lines_are_packed_as_their_events();
@@ -98,11 +102,14 @@ impl<W: Target> Packer<W> {
     /// Takes octets of a line.
     pub fn text(&mut self, octets: &[u8]) -> Result<(), PackCause>
         ensures refused { IfSome (text_cause self.old octets.now) (λ cause. (result ≡ Err cause) × (self.new ≡ self.old)) }
+        ensures order { IsFirstOf (AgainstText self.old octets.now) (causes.Failed ∷ causes.BadTextOctet ∷ causes.PastAnnounced ∷ []) (text_cause self.old octets.now) }
         ensures ok { OnOk result (Lengthens W.state self.old self.new (map LineOctet octets.now)) }
+        ensures begun { OnOk result (GoesOnBegun W.state self.old self.new (map LineOctet octets.now)) }
         ensures cause { IfNone (text_cause self.old octets.now) (IfErr result (λ cause. cause ≡ causes.Write)) }
         ensures broke { IfNone (text_cause self.old octets.now)
             (OnErr result (BreaksOff W.state (GoesOnWith (map LineOctet octets.now)) self.old self.new)) }
     {
+        texts_join();
         lines_are_packed_as_their_events();
         if self.object.is_failed() {
             return Err(PackCause::Failed);
@@ -123,10 +130,13 @@ impl<W: Target> Packer<W> {
     /// Ends a line.
     pub fn line_end(&mut self) -> Result<(), PackCause>
         ensures refused { IfSome (line_end_cause self.old) (λ cause. (result ≡ Err cause) × (self.new ≡ self.old)) }
+        ensures order { IsFirstOf (AgainstLineEnd self.old) (causes.Failed ∷ causes.PastAnnounced ∷ []) (line_end_cause self.old) }
         ensures ok { OnOk result (Lengthens W.state self.old self.new (LineEnd ∷ [])) }
+        ensures begun { OnOk result (GoesOnBegun W.state self.old self.new (LineEnd ∷ [])) }
         ensures cause { IfNone (line_end_cause self.old) (IfErr result (λ cause. cause ≡ causes.Write)) }
         ensures broke { IfNone (line_end_cause self.old) (OnErr result (BreaksOff W.state (GoesOnWith (LineEnd ∷ [])) self.old self.new)) }
     {
+        texts_join();
         lines_are_packed_as_their_events();
         line_ends_are_packed_as_return_and_feed();
         if self.object.is_failed() {
@@ -141,10 +151,13 @@ impl<W: Target> Packer<W> {
     /// Ends the message with the trailer, and hands back what was written to: the packed form is out.
     pub fn finish(self, trailer: &[u8]) -> Result<W, (Packer<W>, PackCause)>
         ensures refused { IfSome (finish_cause self trailer.now) (λ cause. result ≡ Err (self, cause)) }
+        ensures order { IsFirstOf (AgainstFinish self trailer.now) (causes.Failed ∷ causes.BadTrailer ∷ causes.PastAnnounced ∷ causes.ShortOfAnnounced ∷ []) (finish_cause self trailer.now) }
         ensures ok { IfOk result (λ writer. Finishes W.state self trailer.now writer) }
+        ensures begun { IfOk result (EndsBegun W.state self trailer.now) }
         ensures cause { IfNone (finish_cause self trailer.now) (IfErr result (λ refused. refused.1 ≡ causes.Write)) }
         ensures broke { IfNone (finish_cause self trailer.now) (IfErr result (λ refused. BreaksOff W.state (EndsIn trailer.now) self refused.0)) }
     {
+        texts_join();
         events_are_packed_as_lines();
         canonical_objects_are_messages();
         if self.object.is_failed() {

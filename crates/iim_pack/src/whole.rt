@@ -1,9 +1,11 @@
 //! A whole envelope, packed in one call.
 
-ghost use Rattle.std.specs.Prelude.{◌≡◌, length, IfOk, IfErr, IfSome, IfNone, MatchResult};
+ghost use Rattle.std.specs.Prelude.{◌≡◌, [], ◌∷◌, length, IfOk, IfErr, IfSome, IfNone, MatchResult};
 ghost use Rattle.wire_message.specs.Canonical.{canonical};
 ghost use Rattle.iim_pack.specs.Packing.{written_of};
 ghost use Rattle.iim_pack.specs.Packing as words;
+ghost use Rattle.iim_object.specs.declared.cause.PackCause.TheVariants as causes;
+ghost use Rattle.iim_pack.specs.Orders.{IsFirstOf, AgainstPack};
 ghost use Rattle.iim_pack.specs.Starting.{IsRefused};
 ghost use Rattle.iim_pack.specs.Whole.{Packs, IsPackFault};
 
@@ -67,6 +69,8 @@ pub fn pack<W: Target>(
     writer: W,
 ) -> Result<W, StartFault<W>>
     ensures refused { IfSome (words.pack_cause head.now lines.now.lines trailer.now plan) (λ cause. MatchResult result (λ _. ⊥) (IsRefused cause writer)) }
+    ensures order { IsFirstOf (AgainstPack head.now lines.now.lines trailer.now plan) (causes.BadTrailer ∷ causes.PastAnnounced ∷ causes.ShortOfAnnounced ∷ [])
+        (words.pack_cause head.now lines.now.lines trailer.now plan) }
     ensures ok { IfOk result (Packs W.state writer envelope.now head.now lines.now.lines trailer.now plan) }
     ensures fault { IfNone (words.pack_cause head.now lines.now.lines trailer.now plan)
         (IfErr result (IsPackFault W.state envelope.now head.now lines.now.lines trailer.now plan writer)) }

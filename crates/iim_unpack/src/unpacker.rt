@@ -26,7 +26,7 @@ use crate::router::Router;
 use arrayvec::ArrayVec;
 use iim_dataset::{Fault as TagFault, FaultCause, Head, HeadReader};
 use iim_fields::{Envelope, Fields, Limits};
-use iim_object::{ObjectReader, Sizes};
+use iim_object::{ObjectReader, Sizes, readers_tell_sizes};
 use std::alloc::{AllocError, Global};
 use std::marker::Model;
 use wire_message::{MessageHead, MessageReader};
@@ -281,12 +281,12 @@ impl Unpacker {
             return Ok(Progress::Done { used: 0 });
         }
         feed_laws();
+        readers_tell_sizes();
         match advance(&mut self.reader, &mut self.parts, piece, sink) {
             Ok(used) => {
                 self.octets = raised(self.octets, used);
                 self.begun = begins(self.begun, piece);
                 if self.parts.last {
-                    let _ = self.parts.object.sizes();
                     return Ok(Progress::Done { used });
                 }
                 Ok(Progress::More)
