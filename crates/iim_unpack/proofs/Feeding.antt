@@ -577,3 +577,22 @@ sound_done goes failures laws u v piece used a b s advanced onward calls same la
     taken_not : (w : Unpacking) → w.parts.last ≡ true → (left : Option ℕ) → Takes w.parts left → ⊥
     taken_not w ended None takes = true≢false (sym ended ∙ takes.last)
     taken_not w ended (Some left) takes = true≢false (sym ended ∙ takes.last)
+
+-- an unpacker of which the last dataset has ended is done with some octets
+pub stood_done : (u : Unpacking) → u.parts.last ≡ true → Stood u → (p : List ℕ) × (a : ℕ) × IsDoneWith u p a
+stood_done u last (p, a, inl at) = absurd (true≢false (sym last ∙ at.unended))
+stood_done u last (p, a, inr at) = (p, a, at)
+
+-- its trailer is short
+pub short_trailer : FeedLaws → (u : Unpacking) → u.parts.last ≡ true → Stood u → length (wire.trailer_read u.parts.message) ≤ 64
+short_trailer laws u last stood =
+    let (p, a, at) = stood_done u last stood in
+    (whole_parts laws u p at.ended at.place at.is_led).message.is_trailer.2
+
+pub some_head : FeedLaws → (u : Unpacking) → u.parts.last ≡ true → Stood u → wire.head_read u.parts.message ≡ None → ⊥
+some_head laws u last stood = let (p, a, at) = stood_done u last stood in has_head laws u p a at
+
+pub all_sections : FeedLaws → (u : Unpacking) → u.parts.last ≡ true → Stood u → (((ds : List Dataset) → StandsBehind u.parts.fields ds → AreSections ds → ⊥) → ⊥)
+all_sections laws u last stood none =
+    let (p, a, at) = stood_done u last stood in
+    let w = whole_parts laws u p at.ended at.place at.is_led in none w.ds w.behind.fields w.sections
