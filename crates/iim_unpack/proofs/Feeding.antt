@@ -9,8 +9,7 @@ use Rattle.iim_dataset.specs.Tags.{Concerns}
 use Rattle.iim_dataset.specs.Events.{Event, HeadRead, DataOctet, DatasetEnd, handed_on, begun_data}
 use Rattle.iim_dataset.specs.Places.{LeadsTo, HandsOn, IsKeptAs, between, named_by, to_come}
 use Rattle.iim_dataset.specs.Reading.{TagDies, TakesCalls}
-use Rattle.iim_dataset.specs.Completing.{CompletesData, CompletesHead, CompletesOctet, CompletesEnd, CompletesNow}
-use Rattle.iim_dataset.specs.Laws.{OctetsAreHandedOnOneWay, EventsTellTheDatasets, WhatAnOctetCompletes}
+use Rattle.iim_dataset.specs.Laws.{NoTagBeginsAnother, NoDatasetBeginsAnother, OctetsAreHandedOnOneWay, EventsTellTheDatasets}
 use Rattle.iim_dataset.specs.declared.head.Head.{Head}
 use Rattle.iim_dataset.specs.declared.head.HeadCause.{HeadCause}
 use Rattle.iim_dataset.specs.declared.head.HeadCause.TheVariants.{Marker, CountForm}
@@ -44,6 +43,7 @@ use Rattle.iim_fields.specs.Values.{data_of}
 use Rattle.iim_unpack.specs.Steps.{cause_of_tag}
 use Rattle.iim_unpack.specs.Parts.{object_so_far, AllGoOn, Behind, StandsFor, Led, Refused, RefusesAt, IsUnfinished}
 use Rattle.iim_unpack.specs.Routing.{Takes, HasEnded}
+use Rattle.iim_dataset.specs.Completing.{CompletesData, CompletesHead, CompletesOctet, CompletesEnd, CompletesNow}
 use Rattle.iim_unpack.specs.Unpacking.{Unpacking, Advanced, FailsAs, IsOnward, tag_fault, raised, are_some, begins, limits_in, IsTextOf, Adds, IsOpen, IsBadTagAt, RefusesNext, IsLed, Stands, IsDoneWith, IsRefusedIn, IsTruncatedAt, truncated_in, Stood, IsUnpacking}
 use Rattle.iim_unpack.specs.declared.parts.Parts.{Parts}
 use Rattle.iim_unpack.specs.declared.fault.Fault.{Fault}
@@ -53,15 +53,7 @@ use Rattle.iim_unpack.specs.declared.refusal.Layer.TheVariants as layers
 use Rattle.iim_unpack.proofs.Objects.{are_records}
 use Rattle.iim_unpack.proofs.Carrying.{all_behind, all_within}
 use Rattle.iim_unpack.proofs.Lasts.{sections_last, last_sections, not_all}
-
-pub record FeedLaws : Type 0 where
-  pub octet : WhatAnOctetCompletes
-  pub way : OctetsAreHandedOnOneWay
-  pub tell : EventsTellTheDatasets
-  pub ends : EnvelopesEndWithTheLastRecord
-  pub sections : NoSectionsBeginOthers
-  pub living : ReadersStandAtLivingOctets
-  pub numbers : RecordsAreByNumber
+use Rattle.iim_unpack.specs.LowerLaws.{FeedLaws}
 
 -- ---- begun datasets that are told alike
 
@@ -449,6 +441,7 @@ end_refused laws limits octets next events text fault c r = by r.begun r.refuses
             whole = c.whole;
             head = c.head;
             given = c.given;
+            is_value = apart;
             completes = c.completes;
             goes_on = all_as limits c.whole (InData c.head c.given) r.begun (sym told.1) (subst (λ (ds : List Dataset). AllGoOn limits ds r.begun) told.0 r.goes_on);
             unfinished = subst (λ (ds : List Dataset). AreSections ds → ⊥) told.0 r.unfinished;
@@ -584,3 +577,22 @@ sound_done goes failures laws u v piece used a b s advanced onward calls same la
     taken_not : (w : Unpacking) → w.parts.last ≡ true → (left : Option ℕ) → Takes w.parts left → ⊥
     taken_not w ended None takes = true≢false (sym ended ∙ takes.last)
     taken_not w ended (Some left) takes = true≢false (sym ended ∙ takes.last)
+
+-- an unpacker of which the last dataset has ended is done with some octets
+pub stood_done : (u : Unpacking) → u.parts.last ≡ true → Stood u → (p : List ℕ) × (a : ℕ) × IsDoneWith u p a
+stood_done u last (p, a, inl at) = absurd (true≢false (sym last ∙ at.unended))
+stood_done u last (p, a, inr at) = (p, a, at)
+
+-- its trailer is short
+pub short_trailer : FeedLaws → (u : Unpacking) → u.parts.last ≡ true → Stood u → length (wire.trailer_read u.parts.message) ≤ 64
+short_trailer laws u last stood =
+    let (p, a, at) = stood_done u last stood in
+    (whole_parts laws u p at.ended at.place at.is_led).message.is_trailer.2
+
+pub some_head : FeedLaws → (u : Unpacking) → u.parts.last ≡ true → Stood u → wire.head_read u.parts.message ≡ None → ⊥
+some_head laws u last stood = let (p, a, at) = stood_done u last stood in has_head laws u p a at
+
+pub all_sections : FeedLaws → (u : Unpacking) → u.parts.last ≡ true → Stood u → (((ds : List Dataset) → StandsBehind u.parts.fields ds → AreSections ds → ⊥) → ⊥)
+all_sections laws u last stood none =
+    let (p, a, at) = stood_done u last stood in
+    let w = whole_parts laws u p at.ended at.place at.is_led in none w.ds w.behind.fields w.sections

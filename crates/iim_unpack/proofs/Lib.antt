@@ -1,4 +1,5 @@
 pub mod Octets
+pub mod Living
 pub mod Blocks
 pub mod Bounds
 pub mod Intakes
@@ -21,4 +22,7 @@ pub mod Routed
 pub mod Opens
 pub mod Feeding
 pub mod Taken
+pub mod Following
+pub mod Answering
+pub mod PieceLemmas
 pub mod Admitted
