@@ -4,6 +4,8 @@
 ghost use Rattle.iim_object.specs.Living.{NumbersLiveWithoutClash, SubfilesLiveWhileTheyFit, ObjectsEndWhereTheyAreWhole, TotalsAreConfirmed};
 ghost use Rattle.iim_object.specs.Behind.{TokensAreOfSizedDatasets, DatasetsLiveWithTheirTokens, DatasetsEndWithTheirTokens, TokensFollow, OthersLeadNowhere, NumbersLead, SubfilesLead, EndsLead, RecordsAreByNumber};
 ghost use Rattle.iim_object.specs.Records.{SizesAreDetermined};
+ghost use Rattle.iim_object.specs.Conditions.{CausesAreTheFirst, ObjectsDieForCauses};
+ghost use Rattle.iim_object.specs.Told.{ReadersTellSizes};
 ghost use Rattle.iim_object.specs.Cuts.{ObjectsAreCutOneWay};
 ghost use Rattle.iim_object.specs.Packing.{PackedObjectsHaveSizes};
 
@@ -48,6 +50,21 @@ pub fn datasets_lead_from_place_to_place()
     ensures numbers { NumbersLead }
     ensures subfiles { SubfilesLead }
     ensures ends { EndsLead }
+{}
+
+/// The cause for which a token is refused is the one of the lowest number whose condition holds.
+pub fn causes_are_the_first()
+    ensures { CausesAreTheFirst }
+{}
+
+/// The object layer dies with a token exactly where the condition of a cause holds.
+pub fn objects_die_for_causes()
+    ensures { ObjectsDieForCauses }
+{}
+
+/// Wherever a reader stands after whole records, it has their sizes.
+pub fn readers_tell_sizes()
+    ensures { ReadersTellSizes }
 {}
 
 /// Where datasets have the records 7, 8 and 9 in their order, those are the datasets of each of these numbers.

@@ -28,6 +28,8 @@ impl ObjectSink for Counter {
 
     ghost stops = { λ old events refused new. ⊤ };
 
+    ghost stands = { λ sink. ⊤ };
+
     ghost nothing = { λ sink. tt };
 
     ghost joined = { λ a b c xs ys first then. tt };

@@ -31,7 +31,7 @@ use iim_dataset::{
 use iim_fields::{
     Envelope, Fields, Limits, envelopes_end_with_the_last_record, no_sections_begin_others,
 };
-use iim_object::{ObjectReader, Sizes, records_are_by_number};
+use iim_object::{ObjectReader, Sizes, readers_tell_sizes, records_are_by_number};
 use std::alloc::{AllocError, Global};
 use std::marker::Model;
 use wire_message::{MessageHead, MessageReader, readers_stand_at_living_octets};
@@ -300,12 +300,12 @@ impl Unpacker {
         no_sections_begin_others();
         readers_stand_at_living_octets();
         records_are_by_number();
+        readers_tell_sizes();
         match advance(&mut self.reader, &mut self.parts, piece, sink) {
             Ok(used) => {
                 self.octets = raised(self.octets, used);
                 self.begun = begins(self.begun, piece);
                 if self.parts.last {
-                    let _ = self.parts.object.sizes();
                     return Ok(Progress::Done { used });
                 }
                 Ok(Progress::More)

@@ -33,7 +33,7 @@ returns-then-self-2-clause-goes g c =
       story.delivered h.advanced.went.more,
       h.advanced.went.told,
       λ p a at.
-          goes_done g.S.StorySink.goes g.S.StorySink.failures laws u v c.args.piece.now c.in-Ok.used c.args.sink.now n.sink c.sizes.result h.advanced h.onward refl c.if-self-2.true c.raised-self-inside.ensures h.within c.sizes.ensures.records p a
+          goes_done g.S.StorySink.goes g.S.StorySink.failures laws u v c.args.piece.now c.in-Ok.used c.args.sink.now n.sink (c.readers_tell_sizes.ensures n.parts.object).0 h.advanced h.onward refl c.if-self-2.true c.raised-self-inside.ensures h.within (c.readers_tell_sizes.ensures n.parts.object).1 p a
           (subst (λ (w : Unpacking). Stands w p a) (sym c.self.view_is) at),
     )
 
@@ -98,7 +98,7 @@ invariant_of-self g c =
     let u : Unpacking = record { reader = i.reader; parts = i.parts; octets = i.octets; begun = i.begun; refused = i.refused } in
     let v : Unpacking = record { reader = n.reader; parts = n.parts; octets = c.raised-self-inside.result; begun = c.begins-self-inside.result; refused = i.refused } in
     let h = c.in-Ok.ensures in
-    λ none. sound_done g.S.StorySink.goes g.S.StorySink.failures laws u v c.args.piece.now c.in-Ok.used c.args.sink.now n.sink c.sizes.result h.advanced h.onward h.takes_calls refl c.if-self-2.true c.raised-self-inside.ensures h.within c.sizes.ensures.records
+    λ none. sound_done g.S.StorySink.goes g.S.StorySink.failures laws u v c.args.piece.now c.in-Ok.used c.args.sink.now n.sink (c.readers_tell_sizes.ensures n.parts.object).0 h.advanced h.onward h.takes_calls refl c.if-self-2.true c.raised-self-inside.ensures h.within (c.readers_tell_sizes.ensures n.parts.object).1
     (c.self.invariant none) c.if-self.false
 
 pub invariant_of-self-in-Ok : goal.invariant_of-self-in-Ok
