@@ -16,7 +16,10 @@ mod size;
 mod tests;
 mod whole;
 
-pub use laws::{packed_octets_are_one, packed_octets_carry_the_value, packed_subfiles_are_few};
+pub use laws::{
+    packed_octets_are_few, packed_octets_are_one, packed_octets_carry_the_value,
+    packed_subfiles_are_few,
+};
 pub use packer::Packer;
 pub use size::packed_size;
 pub use whole::pack;
