@@ -27,8 +27,8 @@ pub use fault::{Fault, FaultCause};
 pub use head::{Head, HeadCause, HeadFault, TAG_MARKER, head_bytes, read_head};
 pub use laws::{
     canonical_streams_are_spelled, canonical_tags_read_back, events_tell_the_datasets,
-    no_dataset_begins_another, no_tag_begins_another, octets_are_handed_on_one_way,
-    octets_split_one_way,
+    no_dataset_begins_another, no_octets_go_on, no_tag_begins_another,
+    octets_are_handed_on_one_way, octets_split_one_way,
 };
 pub use reader::HeadReader;
 pub use sink::{DatasetSink, Step};

@@ -53,16 +53,7 @@ use Rattle.iim_unpack.proofs.OneOctet.{one_octet}
 use Rattle.iim_unpack.proofs.Objects.{are_records}
 use Rattle.iim_unpack.proofs.Carrying.{all_behind, all_within}
 use Rattle.iim_unpack.proofs.Lasts.{sections_last, last_sections, not_all}
-
-pub record FeedLaws : Type 0 where
-  pub one_tag : NoTagBeginsAnother
-  pub one_dataset : NoDatasetBeginsAnother
-  pub way : OctetsAreHandedOnOneWay
-  pub tell : EventsTellTheDatasets
-  pub ends : EnvelopesEndWithTheLastRecord
-  pub sections : NoSectionsBeginOthers
-  pub living : ReadersStandAtLivingOctets
-  pub numbers : RecordsAreByNumber
+use Rattle.iim_unpack.specs.LowerLaws.{FeedLaws}
 
 -- ---- begun datasets that are told alike
 
@@ -450,6 +441,7 @@ end_refused laws limits octets next events text fault c r = by r.begun r.refuses
             whole = c.whole;
             head = c.head;
             given = c.given;
+            is_value = apart;
             completes = c.completes;
             goes_on = all_as limits c.whole (InData c.head c.given) r.begun (sym told.1) (subst (λ (ds : List Dataset). AllGoOn limits ds r.begun) told.0 r.goes_on);
             unfinished = subst (λ (ds : List Dataset). AreSections ds → ⊥) told.0 r.unfinished;

@@ -1,4 +1,5 @@
 pub mod Octets
+pub mod Living
 pub mod Blocks
 pub mod Bounds
 pub mod Intakes
@@ -22,4 +23,6 @@ pub mod OneOctet
 pub mod Opens
 pub mod Feeding
 pub mod Taken
+pub mod Following
+pub mod Answering
 pub mod Admitted

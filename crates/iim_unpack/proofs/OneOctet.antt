@@ -241,7 +241,7 @@ more_whole one octets next events since later event whole W (InTag held) c rest 
 more_whole one octets next events since later event whole W (InData h taken) c rest y reads b bc n parts grows =
     more_in_data one octets next events since later event whole W h taken c rest y reads b bc n parts grows
 
-no_longer_stream : NoTagBeginsAnother → (c : Begun) (y z r : List ℕ) (more : List Dataset) → IsBegun count_octets c y → SpellsStream count_octets more r → r ++ z ≡ y → more ≡ []
+pub no_longer_stream : NoTagBeginsAnother → (c : Begun) (y z r : List ℕ) (more : List Dataset) → IsBegun count_octets c y → SpellsStream count_octets more r → r ++ z ≡ y → more ≡ []
 no_longer_stream one c y z r [] bc stream e = refl
 no_longer_stream one c y z r (m ∷ more) bc (first, rest, s, later, parts) e =
     absurd (begun_none one c y bc m first (rest ++ z) s (sym e ∙ ap (λ l. l ++ z) parts ∙ append_assoc first rest z))

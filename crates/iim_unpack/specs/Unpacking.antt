@@ -132,11 +132,12 @@ pub record IsBadOctetAt (limits : Limits) (octets : List ℕ) (next : ℕ) (faul
   pub has_cause : wire.HasCause cause (object_of whole ++ taken) next
   pub is_fault : fault ≡ message_on head cause
 
--- The next octet completes a value, and that is refused.
+-- The next octet completes a value, which is no subfile's, and that is refused.
 pub record IsBadValueAt (limits : Limits) (octets : List ℕ) (next : ℕ) (fault : Fault) : Type 0 where
   pub whole : List Dataset
   pub head : Head
   pub given : List ℕ
+  pub is_value : head.rec ≡ 8 → ⊥
   pub completes : CompletesData octets next whole head given
   pub goes_on : AllGoOn limits whole (InData head given)
   pub unfinished : AreSections whole → ⊥

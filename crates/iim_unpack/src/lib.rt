@@ -27,7 +27,9 @@ pub use intake::{Intake, IntakeFault};
 pub use laws::{
     admitted_octets_are_framed, admitted_octets_have_one_value, framed_messages_are_admitted,
     no_admitted_octets_begin_others, no_envelope_begins_another, no_envelope_is_empty,
-    open_octets_are_bounded, open_octets_begin_with_no_envelope,
+    nothing_goes_on_from_refused_octets, open_octets_are_bounded,
+    open_octets_begin_with_no_envelope, refusals_are_determined, refused_octets_were_open,
+    streams_have_one_answer,
 };
 pub use refusal::{Cause, Layer, Refusal};
 pub use unpacker::{Progress, Unpacked, Unpacker};

@@ -18,23 +18,18 @@ ghost use Rattle.iim_unpack.specs.Value.{HasParts};
 ghost use Rattle.iim_unpack.specs.declared.refusal.Refusal.{Refusal as RefusalValue};
 
 use crate::fault::Fault;
-use crate::laws::admitted_octets_have_one_value;
+use crate::laws::{admitted_octets_have_one_value, feed_laws};
 use crate::message::give_back;
 use crate::parts::{Halt, Parts};
 use crate::refusal::{Cause, Layer, Refusal};
 use crate::router::Router;
 use arrayvec::ArrayVec;
-use iim_dataset::{
-    Fault as TagFault, FaultCause, Head, HeadReader, events_tell_the_datasets,
-    no_dataset_begins_another, no_tag_begins_another, octets_are_handed_on_one_way,
-};
-use iim_fields::{
-    Envelope, Fields, Limits, envelopes_end_with_the_last_record, no_sections_begin_others,
-};
-use iim_object::{ObjectReader, Sizes, readers_tell_sizes, records_are_by_number};
+use iim_dataset::{Fault as TagFault, FaultCause, Head, HeadReader};
+use iim_fields::{Envelope, Fields, Limits};
+use iim_object::{ObjectReader, Sizes, readers_tell_sizes};
 use std::alloc::{AllocError, Global};
 use std::marker::Model;
-use wire_message::{MessageHead, MessageReader, readers_stand_at_living_octets};
+use wire_message::{MessageHead, MessageReader};
 use wire_story::StorySink;
 
 /// How far an unpacker came with a piece.
@@ -199,14 +194,7 @@ impl Unpacker {
         ensures stands { IfOk result (λ u. Stands u [] 0) }
         ensures limits { IfOk result (λ u. limits_in u ≡ limits) }
     {
-        no_tag_begins_another();
-        no_dataset_begins_another();
-        octets_are_handed_on_one_way();
-        events_tell_the_datasets();
-        envelopes_end_with_the_last_record();
-        no_sections_begin_others();
-        readers_stand_at_living_octets();
-        records_are_by_number();
+        feed_laws();
         let fields = Fields::new(alloc, limits)?;
         Ok(Unpacker {
             reader: HeadReader::new(),
@@ -292,14 +280,7 @@ impl Unpacker {
         if self.parts.last {
             return Ok(Progress::Done { used: 0 });
         }
-        no_tag_begins_another();
-        no_dataset_begins_another();
-        octets_are_handed_on_one_way();
-        events_tell_the_datasets();
-        envelopes_end_with_the_last_record();
-        no_sections_begin_others();
-        readers_stand_at_living_octets();
-        records_are_by_number();
+        feed_laws();
         readers_tell_sizes();
         match advance(&mut self.reader, &mut self.parts, piece, sink) {
             Ok(used) => {
@@ -346,14 +327,7 @@ impl Unpacker {
         ensures value { IfOk result (λ got. (p : List ℕ) (a : ℕ) → IsDoneWith self p a → (v : Value) → Admits p v → HasParts got v) }
         ensures not_done { OnErr result ((p : List ℕ) (a : ℕ) → IsDoneWith self p a → ⊥) }
     {
-        no_tag_begins_another();
-        no_dataset_begins_another();
-        octets_are_handed_on_one_way();
-        events_tell_the_datasets();
-        envelopes_end_with_the_last_record();
-        no_sections_begin_others();
-        readers_stand_at_living_octets();
-        records_are_by_number();
+        feed_laws();
         admitted_octets_have_one_value();
         if !self.is_done() {
             return Err(self);
