@@ -2,3 +2,4 @@ pub mod Listings
 pub mod Requests
 pub mod Told
 pub mod Packed
+pub mod RoundTrip

@@ -5,3 +5,4 @@ pub mod Outcomes
 pub mod Faults
 pub mod Requests
 pub mod Laws
+pub mod RoundTrip
