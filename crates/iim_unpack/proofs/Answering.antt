@@ -1,14 +1,12 @@
 -- A stream has one answer: what is refused, what is open and what is an envelope exclude one another.
-use Rattle.std.proofs.Common.{◌≡◌, ◌≢◌, ℕ, zero, suc, ◌+◌, ◌<◌, ◌≤◌, ◌⊎◌, Bool, true, false, cond, nat_eq, if◌then◌else◌, get_or, List, [], ◌∷◌, ◌++◌, length, take, drop, slice_index, map, Option, Some, None, refl, ap, sym, subst, ◌∙◌, inl, inr, arith, append-nil, append_assoc, length-append, length-take}
-use Rattle.std.proofs.lemmas.Bool.{cases_lt, eqb-true}
+use Rattle.std.proofs.Common.{◌≡◌, ◌≢◌, ℕ, zero, suc, ◌-◌, ◌^◌, ◌<◌, ◌≤◌, ◌⊎◌, Bool, false, nat_eq, if◌then◌else◌, List, [], ◌∷◌, ◌++◌, length, take, drop, slice_index, map, Some, refl, ap, sym, subst, ◌∙◌, inl, inr, arith, append-nil, append_assoc, length-append}
+use Rattle.std.proofs.lemmas.Bool.{cases_lt}
 use Rattle.std.proofs.lemmas.Bool.Decides.{eqb_tells}
-use Rattle.std.proofs.lemmas.List.{map-append, take-append-drop, take-take, take_all}
-use Rattle.iim_dataset.specs.Datasets.{Dataset, SpellsTag, SpellsStream, count_octets}
+use Rattle.std.proofs.lemmas.List.{map-append, take-append-drop, take-take}
+use Rattle.iim_dataset.specs.Datasets.{Dataset, SpellsTag, SpellsDataset, SpellsStream, head_of, count_octets}
 use Rattle.iim_dataset.specs.Splits.{Begun, InTag, InData, IsBegun, Reads}
 use Rattle.iim_dataset.specs.Tags.{BeginsNoTag}
-use Rattle.iim_dataset.specs.Events.{begun_data, handed_on}
-use Rattle.iim_dataset.specs.Places.{HandsOn}
-use Rattle.iim_dataset.specs.Laws.{NoOctetsGoOn, OctetsAreHandedOnOneWay, EventsTellTheDatasets}
+use Rattle.iim_dataset.specs.Events.{handed_on}
 use Rattle.iim_dataset.specs.Languages as languages
 use Rattle.iim_dataset.specs.declared.head.Head.{Head}
 use Rattle.iim_fields.specs.Records.{AreSections}
@@ -17,35 +15,31 @@ use Rattle.iim_fields.specs.Faults.{present_record}
 use Rattle.iim_fields.specs.Values.{data_of}
 use Rattle.iim_fields.specs.declared.limits.Limits.{Limits}
 use Rattle.iim_object.specs.Records.{AreSized}
-use Rattle.iim_object.specs.Behind.{RecordsAreByNumber}
-use Rattle.wire_story.specs.Texts.{AreLines, Holds}
-use Rattle.wire_story.specs.Tokens.{OctetOrEnd, Octet, End, with_end}
-use Rattle.wire_story.specs.Laws.{TextsSoFarHaveOneReading}
-use Rattle.wire_message.specs.Messages.{IsMessage}
+use Rattle.wire_story.specs.Texts.{Holds}
+use Rattle.wire_story.specs.Tokens.{Octet, End}
 use Rattle.wire_message.specs.Layers.{MessageLanguage, MessageLivesWith, MessageDiesAt, StoryLivesIn, text_so_far}
-use Rattle.wire_message.specs.Laws.{ReadersStandAtLivingOctets}
-use Rattle.wire_message.specs.Reading.{HasCause, StoryDiesWith}
+use Rattle.wire_message.specs.Reading.{HasCause}
 use Rattle.wire_message.specs.SoFar.{LeadTo}
 use Rattle.wire_message.specs.declared.place.Place.TheVariants.{AfterEnd}
 use Rattle.wire_message.specs.declared.fault.MessageCause.{MessageCause}
 use Rattle.wire_message.specs.declared.fault.MessageCause.TheVariants as messages
 use Rattle.iim_unpack.specs.Admitted.{Value, Admits, object_of}
 use Rattle.iim_unpack.specs.Answers.{begun_record, begun_number, tag_cause}
-use Rattle.iim_unpack.specs.Framed.{AreWithin}
-use Rattle.iim_unpack.specs.Laws.{AdmittedOctetsHaveOneValue, NoAdmittedOctetsBeginOthers, AdmittedOctetsAreFramed}
-use Rattle.iim_unpack.specs.Parts.{object_so_far, section, message_tokens, AllGoOn, IsUnfinished}
+use Rattle.iim_unpack.specs.Laws.{AdmittedOctetsHaveOneValue, NoAdmittedOctetsBeginOthers}
+use Rattle.iim_unpack.specs.Parts.{object_so_far, AllGoOn, IsUnfinished}
 use Rattle.iim_unpack.specs.Refusals.{refusal_at, message_on}
-use Rattle.iim_unpack.specs.Tokens.{GoOnAt, IsRefusedHead, IsRefusedValue}
-use Rattle.iim_unpack.specs.Unpacking.{IsOpen, IsBadTagAt, IsBadHeadAt, IsBadOctetAt, IsBadValueAt, CompletesData, RefusesNext, IsTruncatedAt, truncated_in, OpenOctetsBeginWithNoEnvelope}
-use Rattle.iim_unpack.specs.Streams.{IsEnvelopeWithin, Kills, Answer, Answers, Finished, Refused, Truncated, IsFinished, IsRefused, IsTruncated, RefusedOctetsWereOpen, NothingGoesOnFromRefusedOctets, RefusalsAreDetermined, StreamsHaveOneAnswer}
+use Rattle.iim_unpack.specs.Tokens.{IsRefusedHead, IsRefusedValue}
+use Rattle.iim_unpack.specs.Unpacking.{IsOpen, IsBadTagAt, IsBadHeadAt, IsBadOctetAt, IsBadValueAt, CompletesData, RefusesNext, truncated_in, OpenOctetsBeginWithNoEnvelope}
+use Rattle.iim_unpack.specs.Streams.{IsEnvelopeWithin, Finished, Refused, Truncated, IsFinished, IsRefused, IsTruncated, EnvelopesAreBounded, RefusedOctetsWereOpen, NothingGoesOnFromRefusedOctets, RefusalsAreDetermined, StreamsHaveOneAnswer}
 use Rattle.iim_unpack.specs.declared.fault.Fault.{Fault}
 use Rattle.iim_unpack.specs.declared.refusal.Refusal.{Refusal}
 use Rattle.iim_unpack.specs.declared.refusal.Layer.TheVariants as layers
 use Rattle.iim_unpack.specs.declared.refusal.Cause.TheVariants as causes
 use Rattle.iim_unpack.proofs.Carrying.{lives_whole}
-use Rattle.iim_unpack.proofs.Following.{Follows, follows, alive_of, within_of, head_lives, value_lives, object_behind, object_on, message_of, story_of, message_ends, ends_tokens}
-use Rattle.iim_unpack.proofs.Lasts.{last_sections}
-use Rattle.iim_unpack.proofs.Living.{alive_front}
+use Rattle.iim_unpack.proofs.Following.{Follows, in_front, follows, alive_of, within_of, head_lives, value_lives, object_behind, object_on, message_of, story_of, message_ends, ends_tokens}
+use Rattle.iim_unpack.proofs.Bounds.{front_fits, tag_fits, tag_low}
+use Rattle.iim_unpack.proofs.Frames.{no_sections}
+use Rattle.iim_unpack.proofs.Lasts.{SplitLast, split_last, last_sections}
 use Rattle.iim_unpack.proofs.Places.{lives_behind}
 use Rattle.iim_unpack.proofs.Refused.{no_dead_head, no_dead_value}
 use Rattle.iim_unpack.proofs.Admitted.{sized_by}
@@ -63,7 +57,11 @@ pub record Lives (limits : Limits) (octets : List ℕ) : Type 0 where
 lives_open : (limits : Limits) (octets : List ℕ) → IsOpen limits octets → Lives limits octets
 lives_open limits octets is = record { whole = is.whole; begun = is.begun; reads = is.reads; goes_on = is.goes_on }
 
-nothing_held : IsBegun count_octets (InTag []) []
+-- an envelope's object leads to the end of its message
+pub leads_to : (octets : List ℕ) (v : Value) → (a : Admits octets v) → LeadTo (object_of a.datasets) a.text (AfterEnd v.head (record { items = v.trailer }) (length a.message.after))
+leads_to octets v a = record { is_place = (a.message.is_header, a.message.is_trailer, a.message.is_after.2); spelled = (a.message, refl); story = (v.lines, a.lines) }
+
+pub nothing_held : IsBegun count_octets (InTag []) []
 nothing_held = (
   refl,
   record { rec = 0; set = 0; count = 0 },
@@ -72,30 +70,29 @@ nothing_held = (
   (28 ∷ 0 ∷ 0 ∷ 0 ∷ 0 ∷ [], omega arith, refl),
 )
 
-lives_envelope : AnswerLaws → (limits : Limits) (octets : List ℕ) (v : Value) → IsEnvelopeWithin limits octets v → Lives limits octets
-lives_envelope laws limits octets v is =
+-- every layer can go on from whole datasets of an envelope
+pub goes_envelope : AnswerLaws → (limits : Limits) (octets : List ℕ) (v : Value) → (is : IsEnvelopeWithin limits octets v) → AllGoOn limits is.admits.datasets (InTag [])
+goes_envelope laws limits octets v is =
     let a = is.admits in
     let ds = a.datasets in
     let o : List ℕ = object_of ds in
     let m = a.message in
     let alive : IsAlive ds = ([], subst AreSections (sym (append-nil ds)) a.sections) in
     let sized : languages.IsAlive AreSized ds = ([], subst AreSized (sym (append-nil ds)) (sized_by laws.numbers octets v a)) in
-    let lead : LeadTo o a.text (AfterEnd v.head (record { items = v.trailer }) (length m.after)) = record {
-      is_place = (m.is_header, m.is_trailer, m.is_after.2);
-      spelled = (m, refl);
-      story = (v.lines, a.lines);
-    } in
-    let both = laws.living o a.text (AfterEnd v.head (record { items = v.trailer }) (length m.after)) lead in
+    let both = laws.living o a.text (AfterEnd v.head (record { items = v.trailer }) (length m.after)) (leads_to octets v a) in
     record {
-      whole = ds;
-      begun = InTag [];
-      reads = record { front = octets; rest = []; is_front = a.spelled; is_rest = nothing_held; parts = sym (append-nil octets) };
-      goes_on = record {
-        sizes = record { records = alive; within = is.within; object = lives_behind laws.follow.live ds alive sized };
-        message = lives_whole o (nat_eq (present_record ds) 9) both.0 (λ is'. record { object = o; head = v.head; text = a.text; trailer = v.trailer; message = m; tokens_are = refl });
-        story = both.1;
-      };
+      sizes = record { records = alive; within = is.within; object = lives_behind laws.follow.live ds alive sized };
+      message = lives_whole o (nat_eq (present_record ds) 9) both.0 (λ is'. record { object = o; head = v.head; text = a.text; trailer = v.trailer; message = m; tokens_are = refl });
+      story = both.1;
     }
+
+-- what an envelope's octets read
+pub reads_envelope : (octets : List ℕ) (v : Value) → (a : Admits octets v) → Reads octets a.datasets (InTag [])
+reads_envelope octets v a = record { front = octets; rest = []; is_front = a.spelled; is_rest = nothing_held; parts = sym (append-nil octets) }
+
+lives_envelope : AnswerLaws → (limits : Limits) (octets : List ℕ) (v : Value) → IsEnvelopeWithin limits octets v → Lives limits octets
+lives_envelope laws limits octets v is =
+    record { whole = is.admits.datasets; begun = InTag []; reads = reads_envelope octets v is.admits; goes_on = goes_envelope laws limits octets v is }
 
 -- ---- with a refused octet nothing lives
 
@@ -167,6 +164,43 @@ nothing_goes_on laws limits octets more next fault kills = (
   λ is. none_lives laws limits octets more next fault kills.refuses kills.by_octets (lives_open limits (octets ++ next ∷ more) is),
   λ v is. none_lives laws limits octets more next fault kills.refuses kills.by_octets (lives_envelope laws limits (octets ++ next ∷ more) v is),
 )
+
+-- ---- an envelope is bounded
+
+-- the last of some datasets, and what it is spelled by
+record LastOne (ds : List Dataset) (d : Dataset) (octets : List ℕ) : Type 0 where
+  pub front : List ℕ
+  pub last : List ℕ
+  pub is_front : SpellsStream count_octets ds front
+  pub is_last : SpellsDataset count_octets d last
+  pub parts : octets ≡ front ++ last
+
+last_one : (ds : List Dataset) (d : Dataset) (octets : List ℕ) → SpellsStream count_octets (ds ++ d ∷ []) octets → LastOne ds d octets
+last_one [] d octets (first, rest, one, more, parts) =
+    record { front = []; last = first; is_front = refl; is_last = one; parts = parts ∙ ap (λ (l : List ℕ). first ++ l) more ∙ append-nil first }
+last_one (c ∷ ds) d octets (first, rest, one, more, parts) =
+    let later = last_one ds d rest more in
+    record {
+      front = first ++ later.front;
+      last = later.last;
+      is_front = (first, later.front, one, later.is_front, refl);
+      is_last = later.is_last;
+      parts = parts ∙ ap (λ (l : List ℕ). first ++ l) later.parts ∙ sym (append_assoc first later.front later.last);
+    }
+
+pub envelope_bounded : AnswerLaws → EnvelopesAreBounded
+envelope_bounded laws limits octets v low few is = by (split_last is.admits.datasets)
+  where
+    by : SplitLast is.admits.datasets → length octets < 2 ^ 64 - 1
+    by (inl none) = absurd (no_sections (subst AreSections none is.admits.sections))
+    by (inr (ds, d, parts)) =
+        let one = last_one ds d octets (subst (λ (xs : List Dataset). SpellsStream count_octets xs octets) parts is.admits.spelled) in
+        let goes = (in_front laws.follow limits is.admits.datasets (InTag []) (goes_envelope laws limits octets v is).sizes ds [] d parts).goes_at in
+        let unfinished : AreSections ds → ⊥ = λ sections.
+        let bad : d ∷ [] ≡ [] = laws.follow.sections ds (d ∷ []) sections (subst AreSections parts is.admits.sections) in absurd cc in
+        let front = front_fits laws.follow.sections laws.follow.ends limits low few ds (InData (head_of d) []) one.front one.is_front goes unfinished in
+        let s = one.is_last in
+        omega (arith, front, ap length one.parts, length-append one.front one.last, ap length s.parts, length-append s.tag d.octets, tag_fits (head_of d) s.tag s.is_tag, tag_low (head_of d) s.tag s.is_tag)
 
 -- ---- refused octets were open
 

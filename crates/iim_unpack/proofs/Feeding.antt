@@ -9,7 +9,6 @@ use Rattle.iim_dataset.specs.Tags.{Concerns}
 use Rattle.iim_dataset.specs.Events.{Event, HeadRead, DataOctet, DatasetEnd, handed_on, begun_data}
 use Rattle.iim_dataset.specs.Places.{LeadsTo, HandsOn, IsKeptAs, between, named_by, to_come}
 use Rattle.iim_dataset.specs.Reading.{TagDies, TakesCalls}
-use Rattle.iim_dataset.specs.Laws.{NoTagBeginsAnother, NoDatasetBeginsAnother, OctetsAreHandedOnOneWay, EventsTellTheDatasets}
 use Rattle.iim_dataset.specs.declared.head.Head.{Head}
 use Rattle.iim_dataset.specs.declared.head.HeadCause.{HeadCause}
 use Rattle.iim_dataset.specs.declared.head.HeadCause.TheVariants.{Marker, CountForm}
@@ -18,11 +17,10 @@ use Rattle.iim_dataset.specs.declared.place.Place.TheVariants.{Tag, Inside}
 use Rattle.iim_fields.specs.Records.{AreSections}
 use Rattle.iim_fields.specs.Faults.{present_record, kept as kept_of}
 use Rattle.iim_fields.specs.Faults.{kept as kept_of}
-use Rattle.iim_fields.specs.Laws.{EnvelopesEndWithTheLastRecord, NoSectionsBeginOthers}
 use Rattle.iim_fields.specs.Standing.{limits_of, StandsBehind}
 use Rattle.iim_fields.specs.declared.limits.Limits.{Limits}
 use Rattle.iim_object.specs.Reading as objects
-use Rattle.iim_object.specs.Behind.{of_record, place_behind, RecordsAreByNumber}
+use Rattle.iim_object.specs.Behind.{of_record, place_behind}
 use Rattle.iim_object.specs.Records.{AreRecords, HaveSizes}
 use Rattle.iim_object.specs.declared.size.Sizes.{Sizes}
 use Rattle.wire_story.specs.Delivery as story
@@ -577,3 +575,22 @@ sound_done goes failures laws u v piece used a b s advanced onward calls same la
     taken_not : (w : Unpacking) → w.parts.last ≡ true → (left : Option ℕ) → Takes w.parts left → ⊥
     taken_not w ended None takes = true≢false (sym ended ∙ takes.last)
     taken_not w ended (Some left) takes = true≢false (sym ended ∙ takes.last)
+
+-- an unpacker of which the last dataset has ended is done with some octets
+pub stood_done : (u : Unpacking) → u.parts.last ≡ true → Stood u → (p : List ℕ) × (a : ℕ) × IsDoneWith u p a
+stood_done u last (p, a, inl at) = absurd (true≢false (sym last ∙ at.unended))
+stood_done u last (p, a, inr at) = (p, a, at)
+
+-- its trailer is short
+pub short_trailer : FeedLaws → (u : Unpacking) → u.parts.last ≡ true → Stood u → length (wire.trailer_read u.parts.message) ≤ 64
+short_trailer laws u last stood =
+    let (p, a, at) = stood_done u last stood in
+    (whole_parts laws u p at.ended at.place at.is_led).message.is_trailer.2
+
+pub some_head : FeedLaws → (u : Unpacking) → u.parts.last ≡ true → Stood u → wire.head_read u.parts.message ≡ None → ⊥
+some_head laws u last stood = let (p, a, at) = stood_done u last stood in has_head laws u p a at
+
+pub all_sections : FeedLaws → (u : Unpacking) → u.parts.last ≡ true → Stood u → (((ds : List Dataset) → StandsBehind u.parts.fields ds → AreSections ds → ⊥) → ⊥)
+all_sections laws u last stood none =
+    let (p, a, at) = stood_done u last stood in
+    let w = whole_parts laws u p at.ended at.place at.is_led in none w.ds w.behind.fields w.sections

@@ -25,4 +25,5 @@ pub mod Feeding
 pub mod Taken
 pub mod Following
 pub mod Answering
+pub mod PieceLemmas
 pub mod Admitted

@@ -18,3 +18,4 @@ pub mod Unpacking
 pub mod LowerLaws
 pub mod Streams
 pub mod Value
+pub mod Pieces

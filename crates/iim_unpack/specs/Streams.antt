@@ -1,5 +1,5 @@
 -- What a whole stream is answered: one answer, whatever the cut.
-use Rattle.std.specs.Prelude.{◌≡◌, ◌≢◌, ℕ, ◌<◌, ◌≤◌, List, [], ◌∷◌, ◌++◌, length, take, slice_index}
+use Rattle.std.specs.Prelude.{◌≡◌, ◌≢◌, ℕ, ◌-◌, ◌^◌, ◌<◌, ◌≤◌, List, ◌∷◌, ◌++◌, length, take, slice_index}
 use Rattle.iim_fields.specs.declared.limits.Limits.{Limits}
 use Rattle.iim_unpack.specs.Admitted.{Value, Admits}
 use Rattle.iim_unpack.specs.Framed.{AreWithin}
@@ -66,3 +66,7 @@ RefusalsAreDetermined = (limits : Limits) (octets : List ℕ) (next : ℕ) (faul
 -- A stream has one answer at most.
 abbrev pub StreamsHaveOneAnswer : Type 0
 StreamsHaveOneAnswer = (limits : Limits) (stream : List ℕ) (answer other : Answer) → Answers limits stream answer → Answers limits stream other → answer ≡ other
+
+-- Envelopes within limits of 32 bits are shorter than a count of 64 bits tells.
+abbrev pub EnvelopesAreBounded : Type 0
+EnvelopesAreBounded = (limits : Limits) (octets : List ℕ) (value : Value) → limits.octets < 2 ^ 32 → limits.fields < 2 ^ 32 → IsEnvelopeWithin limits octets value → length octets < 2 ^ 64 - 1

@@ -3,7 +3,7 @@
 ghost use Rattle.iim_unpack.specs.Laws.{AdmittedOctetsAreFramed, AdmittedOctetsHaveOneValue, FramedMessagesAreAdmitted, NoAdmittedOctetsBeginOthers, NoEnvelopeBeginsAnother, NoEnvelopeIsEmpty};
 ghost use Rattle.iim_unpack.specs.Intakes.{OpenOctetsAreBounded};
 ghost use Rattle.iim_unpack.specs.LowerLaws.{AnswerLaws, FeedLaws};
-ghost use Rattle.iim_unpack.specs.Streams.{NothingGoesOnFromRefusedOctets, RefusalsAreDetermined, RefusedOctetsWereOpen, StreamsHaveOneAnswer};
+ghost use Rattle.iim_unpack.specs.Streams.{EnvelopesAreBounded, NothingGoesOnFromRefusedOctets, RefusalsAreDetermined, RefusedOctetsWereOpen, StreamsHaveOneAnswer};
 ghost use Rattle.iim_unpack.specs.Unpacking.{OpenOctetsBeginWithNoEnvelope};
 
 use iim_dataset::{
@@ -104,6 +104,13 @@ pub fn open_octets_are_bounded()
 {
     no_sections_begin_others();
     envelopes_end_with_the_last_record();
+}
+
+/// Envelopes within their limits are shorter than a count of 64 bits tells.
+pub fn envelopes_are_bounded()
+    ensures { EnvelopesAreBounded }
+{
+    answer_laws();
 }
 
 /// Octets of which the next one is refused are open.

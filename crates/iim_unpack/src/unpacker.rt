@@ -321,11 +321,12 @@ impl Unpacker {
         })
     }
 
-    /// The value of the envelope, where one has ended. Else the unpacker is handed back.
+    /// The value of the envelope, where one has ended. Else the unpacker is handed back as it was.
     pub fn into_unpacked(self) -> Result<Unpacked, Unpacker>
         ensures done { OnOk result (IsDone self) }
         ensures value { IfOk result (λ got. (p : List ℕ) (a : ℕ) → IsDoneWith self p a → (v : Value) → Admits p v → HasParts got v) }
-        ensures not_done { OnErr result ((p : List ℕ) (a : ℕ) → IsDoneWith self p a → ⊥) }
+        ensures not_done { OnErr result (IsDone self → ⊥) }
+        ensures handed_back { IfErr result (λ u. u ≡ self) }
     {
         feed_laws();
         admitted_octets_have_one_value();
@@ -333,52 +334,23 @@ impl Unpacker {
             return Err(self);
         }
         let Some(head) = self.parts.message.head() else {
-            return Err(self);
+            unreachable!()
         };
         let mut trailer = ArrayVec::new();
-        match trailer.try_extend_from_slice(self.parts.message.trailer()) {
-            Ok(()) => {}
-            Err(_) => return Err(self),
-        }
+        let Ok(()) = trailer.try_extend_from_slice(self.parts.message.trailer()) else {
+            unreachable!()
+        };
         let sizes = self.parts.object.sizes();
-        let Unpacker {
-            reader,
-            parts,
-            octets,
-            begun: some,
-            refused,
-        } = self;
-        let Parts {
-            fields,
-            object,
-            message,
-            subfiles,
-            head: begun,
-            left,
-            last,
-        } = parts;
-        match fields.into_envelope() {
-            Ok(envelope) => Ok(Unpacked {
-                envelope,
-                head,
-                trailer,
-                sizes,
-            }),
-            Err(fields) => Err(Unpacker {
-                reader,
-                parts: Parts {
-                    fields,
-                    object,
-                    message,
-                    subfiles,
-                    head: begun,
-                    left,
-                    last,
-                },
-                octets,
-                begun: some,
-                refused,
-            }),
-        }
+        let Unpacker { parts, .. } = self;
+        let Parts { fields, .. } = parts;
+        let Ok(envelope) = fields.into_envelope() else {
+            unreachable!()
+        };
+        Ok(Unpacked {
+            envelope,
+            head,
+            trailer,
+            sizes,
+        })
     }
 }
