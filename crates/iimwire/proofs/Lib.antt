@@ -3,3 +3,4 @@ pub mod Requests
 pub mod Told
 pub mod Packed
 pub mod RoundTrip
+pub mod Given

@@ -14,6 +14,7 @@ mod input;
 mod laws;
 mod report;
 mod request;
+mod round_trip;
 mod run;
 mod status;
 
