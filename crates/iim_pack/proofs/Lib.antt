@@ -12,5 +12,6 @@ pub mod Startings
 pub mod LinesOut
 pub mod Wholes
 pub mod Ones
+pub mod Lengths
 pub mod Orders
 pub mod Beginnings

@@ -1,7 +1,8 @@
 -- What holds of all packed octets.
-use Rattle.std.specs.Prelude.{◌≡◌, ℕ, ◌≤◌, List, ◌++◌, length}
+use Rattle.std.specs.Prelude.{◌≡◌, ℕ, ◌^◌, ◌<◌, ◌≤◌, List, ◌++◌, length}
 use Rattle.iim_dataset.specs.Datasets.{Dataset, SpellsStream, count_octets}
 use Rattle.iim_fields.specs.Records.{AreSections}
+use Rattle.iim_fields.specs.Builders.{AreFew}
 use Rattle.iim_fields.specs.Faults.{kept, joined}
 use Rattle.iim_object.specs.Behind.{of_record}
 use Rattle.iim_object.specs.Plans.{max_subfiles}
@@ -41,3 +42,8 @@ PackedOctetsAreOne = (fields : List Dataset) (head : Header) (lines : List (List
 abbrev pub PackedSubfilesAreFew : Type 0
 PackedSubfilesAreFew = (fields : List Dataset) (head : Header) (lines : List (List ℕ)) (trailer : List ℕ) (plan : Plan) (octets : List ℕ)
     → (p : Packed fields head lines trailer plan octets) → length p.written.parts ≤ max_subfiles
+
+-- A packed form of no more fields than limits can allow has fewer than 2 ^ 40 octets.
+abbrev pub PackedOctetsAreFew : Type 0
+PackedOctetsAreFew = (fields : List Dataset) (head : Header) (lines : List (List ℕ)) (trailer : List ℕ) (plan : Plan) (octets : List ℕ)
+    → Packed fields head lines trailer plan octets → AreFew fields → length octets < 2 ^ 40

@@ -23,7 +23,14 @@ use wire_story::{
     lines_are_packed_as_their_events,
 };
 
-/// Packs an envelope, a header and a text that comes in pieces. It holds the octets of one subfile at most.
+/// Packs an envelope, a header and a text that comes in pieces.
+///
+/// It holds at most the lesser of the plan's subfile size and the plan's bound in octets of the object. [`Packer::start`] asks for
+/// memory for just those, in one request, and no later call asks for any. All else that it has is of a fixed size, below 256
+/// octets: the plan, four counts, whether a write failed, and what it writes to.
+///
+/// Contracts see it as how many octets records 1 and 2 have, and the writer of its object. `Begun` (`specs/Begun.antt`) says what
+/// it has taken and what is out.
 #[derive(Drop)]
 pub struct Packer<W> {
     before: u64,
@@ -42,9 +49,11 @@ impl<W> Model for Packer<W> {
 }
 
 impl<W: Target> Packer<W> {
-    /// Writes records 1, 2 and 7, and begins the object with the header. Nothing is written where the header and the least
-    /// ending pass the plan's bound, or where memory is refused. Where a write fails, what is out begins each form of the
-    /// envelope, header and plan.
+    /// Writes records 1, 2 and 7, and begins the object with the header.
+    ///
+    /// Refuses, in this order: `PastAnnounced` where the header and the least ending (ETX and EOT) pass the plan's bound;
+    /// `OutOfMemory` where memory was refused; `Write` where a write failed. Nothing is written for the first two. At `Write` what is
+    /// out, `written` octets, begins each packed form of the envelope, header and plan. The writer is handed back each time.
     pub fn start(
         alloc: Global,
         envelope: &Envelope,
@@ -99,7 +108,11 @@ impl<W: Target> Packer<W> {
         }
     }
 
-    /// Takes octets of a line.
+    /// Takes octets of a line. How a text is cut into calls changes nothing of what is written in the end.
+    ///
+    /// Refuses, in this order: `Failed` after a failed write; `BadTextOctet` where an octet may not stand in a line (CR and LF may
+    /// not: `line_end` writes them); `PastAnnounced` where the object so far, these octets and the least ending pass the plan's
+    /// bound; `Write` where a write failed. But for the last, nothing is written and nothing changes.
     pub fn text(&mut self, octets: &[u8]) -> Result<(), PackCause>
         ensures refused { IfSome (text_cause self.old octets.now) (λ cause. (result ≡ Err cause) × (self.new ≡ self.old)) }
         ensures order { IsFirstOf (AgainstText self.old octets.now) (causes.Failed ∷ causes.BadTextOctet ∷ causes.PastAnnounced ∷ []) (text_cause self.old octets.now) }
@@ -127,7 +140,10 @@ impl<W: Target> Packer<W> {
         self.object.write(octets)
     }
 
-    /// Ends a line.
+    /// Ends a line, with CR and LF.
+    ///
+    /// Refuses, in this order: `Failed` after a failed write; `PastAnnounced` where the object so far, the line end and the least
+    /// ending pass the plan's bound; `Write` where a write failed. But for the last, nothing is written and nothing changes.
     pub fn line_end(&mut self) -> Result<(), PackCause>
         ensures refused { IfSome (line_end_cause self.old) (λ cause. (result ≡ Err cause) × (self.new ≡ self.old)) }
         ensures order { IsFirstOf (AgainstLineEnd self.old) (causes.Failed ∷ causes.PastAnnounced ∷ []) (line_end_cause self.old) }
@@ -149,6 +165,10 @@ impl<W: Target> Packer<W> {
     }
 
     /// Ends the message with the trailer, and hands back what was written to: the packed form is out.
+    ///
+    /// Refuses, in this order: `Failed` after a failed write; `BadTrailer` where the octets may be no trailer; `PastAnnounced` where the
+    /// object with its ending (ETX, the trailer and EOT) passes the plan's bound; `ShortOfAnnounced` where it is below a known
+    /// size; `Write` where a write failed. The packer is handed back, and but for the last nothing is written and nothing changes.
     pub fn finish(self, trailer: &[u8]) -> Result<W, (Packer<W>, PackCause)>
         ensures refused { IfSome (finish_cause self trailer.now) (λ cause. result ≡ Err (self, cause)) }
         ensures order { IsFirstOf (AgainstFinish self trailer.now) (causes.Failed ∷ causes.BadTrailer ∷ causes.PastAnnounced ∷ causes.ShortOfAnnounced ∷ []) (finish_cause self trailer.now) }
@@ -174,7 +194,7 @@ impl<W: Target> Packer<W> {
         }
     }
 
-    /// How many octets are out.
+    /// How many octets are out, those of a failed write among them.
     pub fn written(&self) -> u64
         ensures { result ≡ written_of self.now }
     {

@@ -58,7 +58,10 @@ fn given_back<W: Target>(packer: Packer<W>, cause: PackCause) -> StartFault<W>
 }
 
 /// Packs an envelope, a header, lines and a trailer by a plan, and hands back what was written to: the packed form is out.
-/// Nothing is written where a cause stands, or where memory is refused. Where a write fails, what is out begins the form.
+///
+/// Refuses, in this order: `BadTrailer` where the octets may be no trailer; `PastAnnounced` where the object passes the plan's bound;
+/// `ShortOfAnnounced` where it is below a known size; `OutOfMemory` where memory was refused; `Write` where a write failed. Nothing is
+/// written but for the last: then what is out, `written` octets, begins the packed form. The writer is handed back each time.
 pub fn pack<W: Target>(
     alloc: Global,
     envelope: &Envelope,

@@ -1,14 +1,12 @@
 -- A stream has one answer: what is refused, what is open and what is an envelope exclude one another.
-use Rattle.std.proofs.Common.{◌≡◌, ◌≢◌, ℕ, zero, suc, ◌+◌, ◌-◌, ◌^◌, ◌<◌, ◌≤◌, ◌⊎◌, Bool, true, false, cond, nat_eq, if◌then◌else◌, get_or, List, [], ◌∷◌, ◌++◌, length, take, drop, slice_index, map, Option, Some, None, refl, ap, sym, subst, ◌∙◌, inl, inr, arith, append-nil, append_assoc, length-append, length-take}
-use Rattle.std.proofs.lemmas.Bool.{cases_lt, eqb-true}
+use Rattle.std.proofs.Common.{◌≡◌, ◌≢◌, ℕ, zero, suc, ◌-◌, ◌^◌, ◌<◌, ◌≤◌, ◌⊎◌, Bool, false, nat_eq, if◌then◌else◌, List, [], ◌∷◌, ◌++◌, length, take, drop, slice_index, map, Some, refl, ap, sym, subst, ◌∙◌, inl, inr, arith, append-nil, append_assoc, length-append}
+use Rattle.std.proofs.lemmas.Bool.{cases_lt}
 use Rattle.std.proofs.lemmas.Bool.Decides.{eqb_tells}
-use Rattle.std.proofs.lemmas.List.{map-append, take-append-drop, take-take, take_all}
+use Rattle.std.proofs.lemmas.List.{map-append, take-append-drop, take-take}
 use Rattle.iim_dataset.specs.Datasets.{Dataset, SpellsTag, SpellsDataset, SpellsStream, head_of, count_octets}
 use Rattle.iim_dataset.specs.Splits.{Begun, InTag, InData, IsBegun, Reads}
 use Rattle.iim_dataset.specs.Tags.{BeginsNoTag}
-use Rattle.iim_dataset.specs.Events.{begun_data, handed_on}
-use Rattle.iim_dataset.specs.Places.{HandsOn}
-use Rattle.iim_dataset.specs.Laws.{NoOctetsGoOn, OctetsAreHandedOnOneWay, EventsTellTheDatasets}
+use Rattle.iim_dataset.specs.Events.{handed_on}
 use Rattle.iim_dataset.specs.Languages as languages
 use Rattle.iim_dataset.specs.declared.head.Head.{Head}
 use Rattle.iim_fields.specs.Records.{AreSections}
@@ -17,28 +15,23 @@ use Rattle.iim_fields.specs.Faults.{present_record}
 use Rattle.iim_fields.specs.Values.{data_of}
 use Rattle.iim_fields.specs.declared.limits.Limits.{Limits}
 use Rattle.iim_object.specs.Records.{AreSized}
-use Rattle.iim_object.specs.Behind.{RecordsAreByNumber}
-use Rattle.wire_story.specs.Texts.{AreLines, Holds}
-use Rattle.wire_story.specs.Tokens.{OctetOrEnd, Octet, End, with_end}
-use Rattle.wire_story.specs.Laws.{TextsSoFarHaveOneReading}
-use Rattle.wire_message.specs.Messages.{IsMessage}
+use Rattle.wire_story.specs.Texts.{Holds}
+use Rattle.wire_story.specs.Tokens.{Octet, End}
 use Rattle.wire_message.specs.Layers.{MessageLanguage, MessageLivesWith, MessageDiesAt, StoryLivesIn, text_so_far}
-use Rattle.wire_message.specs.Laws.{ReadersStandAtLivingOctets}
-use Rattle.wire_message.specs.Reading.{HasCause, StoryDiesWith}
+use Rattle.wire_message.specs.Reading.{HasCause}
 use Rattle.wire_message.specs.SoFar.{LeadTo}
 use Rattle.wire_message.specs.declared.place.Place.TheVariants.{AfterEnd}
 use Rattle.wire_message.specs.declared.fault.MessageCause.{MessageCause}
 use Rattle.wire_message.specs.declared.fault.MessageCause.TheVariants as messages
 use Rattle.iim_unpack.specs.Admitted.{Value, Admits, object_of}
 use Rattle.iim_unpack.specs.Answers.{begun_record, begun_number, tag_cause}
-use Rattle.iim_unpack.specs.Framed.{AreWithin}
-use Rattle.iim_unpack.specs.Laws.{AdmittedOctetsHaveOneValue, NoAdmittedOctetsBeginOthers, AdmittedOctetsAreFramed}
-use Rattle.iim_unpack.specs.Parts.{object_so_far, section, message_tokens, AllGoOn, IsUnfinished}
+use Rattle.iim_unpack.specs.Laws.{AdmittedOctetsHaveOneValue, NoAdmittedOctetsBeginOthers}
+use Rattle.iim_unpack.specs.Parts.{object_so_far, AllGoOn, IsUnfinished}
 use Rattle.iim_unpack.specs.Refusals.{refusal_at, message_on}
-use Rattle.iim_unpack.specs.Tokens.{GoOnAt, IsRefusedHead, IsRefusedValue}
+use Rattle.iim_unpack.specs.Tokens.{IsRefusedHead, IsRefusedValue}
 use Rattle.iim_dataset.specs.Completing.{CompletesData}
-use Rattle.iim_unpack.specs.Unpacking.{IsOpen, IsBadTagAt, IsBadHeadAt, IsBadOctetAt, IsBadValueAt, RefusesNext, IsTruncatedAt, truncated_in, OpenOctetsBeginWithNoEnvelope}
-use Rattle.iim_unpack.specs.Streams.{IsEnvelopeWithin, Kills, Answer, Answers, Finished, Refused, Truncated, IsFinished, IsRefused, IsTruncated, EnvelopesAreBounded, RefusedOctetsWereOpen, NothingGoesOnFromRefusedOctets, RefusalsAreDetermined, StreamsHaveOneAnswer}
+use Rattle.iim_unpack.specs.Unpacking.{IsOpen, IsBadTagAt, IsBadHeadAt, IsBadOctetAt, IsBadValueAt, RefusesNext, truncated_in, OpenOctetsBeginWithNoEnvelope}
+use Rattle.iim_unpack.specs.Streams.{IsEnvelopeWithin, Finished, Refused, Truncated, IsFinished, IsRefused, IsTruncated, EnvelopesAreBounded, RefusedOctetsWereOpen, NothingGoesOnFromRefusedOctets, RefusalsAreDetermined, StreamsHaveOneAnswer}
 use Rattle.iim_unpack.specs.declared.fault.Fault.{Fault}
 use Rattle.iim_unpack.specs.declared.refusal.Refusal.{Refusal}
 use Rattle.iim_unpack.specs.declared.refusal.Layer.TheVariants as layers
@@ -48,7 +41,6 @@ use Rattle.iim_unpack.proofs.Following.{Follows, in_front, follows, alive_of, wi
 use Rattle.iim_unpack.proofs.Bounds.{front_fits, tag_fits, tag_low}
 use Rattle.iim_unpack.proofs.Frames.{no_sections}
 use Rattle.iim_unpack.proofs.Lasts.{SplitLast, split_last, last_sections}
-use Rattle.iim_unpack.proofs.Living.{alive_front}
 use Rattle.iim_unpack.proofs.Places.{lives_behind}
 use Rattle.iim_unpack.proofs.Refused.{no_dead_head, no_dead_value}
 use Rattle.iim_unpack.proofs.Admitted.{sized_by}

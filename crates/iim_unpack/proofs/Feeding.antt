@@ -9,7 +9,6 @@ use Rattle.iim_dataset.specs.Tags.{Concerns}
 use Rattle.iim_dataset.specs.Events.{Event, HeadRead, DataOctet, DatasetEnd, handed_on, begun_data}
 use Rattle.iim_dataset.specs.Places.{LeadsTo, HandsOn, IsKeptAs, between, named_by, to_come}
 use Rattle.iim_dataset.specs.Reading.{TagDies, TakesCalls}
-use Rattle.iim_dataset.specs.Laws.{NoTagBeginsAnother, NoDatasetBeginsAnother, OctetsAreHandedOnOneWay, EventsTellTheDatasets}
 use Rattle.iim_dataset.specs.declared.head.Head.{Head}
 use Rattle.iim_dataset.specs.declared.head.HeadCause.{HeadCause}
 use Rattle.iim_dataset.specs.declared.head.HeadCause.TheVariants.{Marker, CountForm}
@@ -18,11 +17,10 @@ use Rattle.iim_dataset.specs.declared.place.Place.TheVariants.{Tag, Inside}
 use Rattle.iim_fields.specs.Records.{AreSections}
 use Rattle.iim_fields.specs.Faults.{present_record, kept as kept_of}
 use Rattle.iim_fields.specs.Faults.{kept as kept_of}
-use Rattle.iim_fields.specs.Laws.{EnvelopesEndWithTheLastRecord, NoSectionsBeginOthers}
 use Rattle.iim_fields.specs.Standing.{limits_of, StandsBehind}
 use Rattle.iim_fields.specs.declared.limits.Limits.{Limits}
 use Rattle.iim_object.specs.Reading as objects
-use Rattle.iim_object.specs.Behind.{of_record, place_behind, RecordsAreByNumber}
+use Rattle.iim_object.specs.Behind.{of_record, place_behind}
 use Rattle.iim_object.specs.Records.{AreRecords, HaveSizes}
 use Rattle.iim_object.specs.declared.size.Sizes.{Sizes}
 use Rattle.wire_story.specs.Delivery as story

@@ -1,29 +1,27 @@
 -- What octets that every layer can go on from say of each token among them.
-use Rattle.std.proofs.Common.{◌≡◌, ℕ, ◌+◌, ◌<◌, ◌≤◌, ◌⊎◌, Bool, true, false, cond, nat_eq, if◌then◌else◌, List, [], ◌∷◌, ◌++◌, length, map, flat_map, refl, ap, sym, subst, ◌∙◌, inl, inr, arith, append-nil, append_assoc, length-append}
+use Rattle.std.proofs.Common.{◌≡◌, ℕ, ◌<◌, ◌≤◌, ◌⊎◌, cond, nat_eq, if◌then◌else◌, List, [], ◌∷◌, ◌++◌, length, map, refl, ap, sym, subst, ◌∙◌, inl, inr, arith, append-nil, append_assoc, length-append}
 use Rattle.std.proofs.lemmas.List.Concat.{flat_map-append}
 use Rattle.std.proofs.lemmas.List.Elements.{filter-append}
-use Rattle.iim_dataset.specs.Datasets.{Dataset, SpellsTag, SpellsDataset, SpellsStream, head_of, count_octets}
+use Rattle.iim_dataset.specs.Datasets.{Dataset, SpellsTag, SpellsStream, head_of, count_octets}
 use Rattle.iim_dataset.specs.Splits.{Begun, InTag, InData, IsBegun, Reads}
-use Rattle.iim_dataset.specs.Laws.{NoTagBeginsAnother, NoDatasetBeginsAnother}
 use Rattle.iim_dataset.specs.Languages as languages
 use Rattle.iim_dataset.specs.declared.head.Head.{Head}
 use Rattle.iim_fields.specs.Records.{AreSections}
-use Rattle.iim_fields.specs.Alive.{IsAlive, IsAliveAt}
+use Rattle.iim_fields.specs.Alive.{IsAlive}
 use Rattle.iim_fields.specs.Faults.{present_record, joined}
 use Rattle.iim_fields.specs.Values.{data_of}
-use Rattle.iim_fields.specs.Laws.{EnvelopesEndWithTheLastRecord, NoSectionsBeginOthers}
 use Rattle.iim_fields.specs.declared.limits.Limits.{Limits}
-use Rattle.iim_object.specs.Objects.{ObjectToken, ObjectLanguage}
+use Rattle.iim_object.specs.Objects.{ObjectLanguage}
 use Rattle.iim_object.specs.Places.{place_after, head_token, tokens_of}
 use Rattle.iim_object.specs.Records.{AreSized}
-use Rattle.iim_object.specs.Behind.{of_record, place_behind, DatasetsLiveWithTheirTokens, DatasetsEndWithTheirTokens}
-use Rattle.wire_story.specs.Tokens.{OctetOrEnd, Octet, End}
+use Rattle.iim_object.specs.Behind.{of_record, place_behind}
+use Rattle.wire_story.specs.Tokens.{Octet, End}
 use Rattle.wire_message.specs.Layers.{MessageLanguage, MessageLivesWith, StoryLivesIn}
 use Rattle.iim_unpack.specs.Admitted.{object_of}
 use Rattle.iim_unpack.specs.Answers.{MayGoOn}
 use Rattle.iim_unpack.specs.Framed.{AreWithin}
 use Rattle.iim_unpack.specs.Parts.{object_so_far, section, message_tokens, AllGoOn}
-use Rattle.iim_unpack.specs.Tokens.{GoOn, GoOnAt, HaveRoom, ObjectLives, place_at}
+use Rattle.iim_unpack.specs.Tokens.{GoOnAt, ObjectLives, place_at}
 use Rattle.iim_unpack.proofs.Frames.{compare}
 use Rattle.iim_unpack.proofs.Fronts.{no_longer}
 use Rattle.iim_unpack.proofs.Lasts.{present_last, not_all}

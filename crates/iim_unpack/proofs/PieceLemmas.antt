@@ -4,7 +4,6 @@ use Rattle.std.proofs.lemmas.List.{get_or-append-add, get_or_append_left, length
 use Rattle.std.proofs.lemmas.List.Concat.{flat_map-append}
 use Rattle.std.proofs.Math.Seq.{take-append-add}
 use Rattle.std.specs.Result.{IsErrAnd}
-use Rattle.iim_dataset.specs.Datasets.{Dataset}
 use Rattle.iim_dataset.specs.Splits.{InTag}
 use Rattle.iim_fields.specs.declared.limits.Limits.{Limits}
 use Rattle.wire_story.specs.Delivery as story
@@ -15,9 +14,9 @@ use Rattle.wire_message.specs.declared.place.Place.TheVariants.{AfterEnd}
 use Rattle.iim_unpack.specs.Admitted.{Value, Admits, object_of}
 use Rattle.iim_unpack.specs.Intakes.{OpenOctetsAreBounded}
 use Rattle.iim_unpack.specs.LowerLaws.{FeedLaws}
-use Rattle.iim_unpack.specs.Pieces.{stream_of, IsToldOf, IsUnpacked, IsStopped, IsCutShort, IsTurnedDown, DoneIn, HasFed, IsAnswer}
+use Rattle.iim_unpack.specs.Pieces.{stream_of, IsUnpacked, IsTurnedDown, DoneIn, HasFed, IsAnswer}
 use Rattle.iim_unpack.specs.Refusals.{refusal_at}
-use Rattle.iim_unpack.specs.Streams.{Answer, Answers, Finished, Refused, Truncated, IsEnvelopeWithin, IsFinished, IsRefused, IsTruncated, EnvelopesAreBounded, RefusedOctetsWereOpen, StreamsHaveOneAnswer}
+use Rattle.iim_unpack.specs.Streams.{Answer, Answers, Finished, Refused, Truncated, IsEnvelopeWithin, IsFinished, IsRefused, EnvelopesAreBounded, RefusedOctetsWereOpen, StreamsHaveOneAnswer}
 use Rattle.iim_unpack.specs.Unpacking.{Unpacking, Stands, IsDone, IsDoneWith, IsOpen, IsTextOf, Adds, Goes, IsRefusedIn, IsTruncatedAt, RefusesNext, limits_in, raised}
 use Rattle.iim_unpack.specs.Value.{HasParts}
 use Rattle.iim_unpack.specs.declared.refusal.Refusal.{Refusal}

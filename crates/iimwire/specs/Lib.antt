@@ -8,3 +8,4 @@ pub mod Requests
 pub mod Starts
 pub mod Served
 pub mod Laws
+pub mod RoundTrip

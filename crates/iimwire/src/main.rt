@@ -10,6 +10,7 @@ mod input;
 mod laws;
 mod report;
 mod request;
+mod round_trip;
 mod run;
 mod serve;
 mod shown;

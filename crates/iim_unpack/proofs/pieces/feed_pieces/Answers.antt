@@ -1,4 +1,4 @@
-use Rattle.std.proofs.Common.{◌≡◌, ◌+◌, ℕ, [], List, Bor, get_or, take, drop, refl, ap, sym, subst, ◌∙◌}
+use Rattle.std.proofs.Common.{◌+◌, ℕ, [], List, Bor, get_or, take, drop, refl, sym, subst, ◌∙◌}
 use Rattle.iim_unpack.specs.Pieces.{HasFed, IsTurnedDown, stream_of}
 use Rattle.iim_unpack.specs.Unpacking.{limits_in}
 use Rattle.iim_unpack.proofs.PieceLemmas.{CountLaws, AreLow, begin_fed, went_on, turned_down, still_taking, stream_step, stream_rest}

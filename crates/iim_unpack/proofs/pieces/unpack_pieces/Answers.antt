@@ -1,4 +1,3 @@
-use Rattle.std.proofs.Common.{◌≡◌, ℕ, [], List, Option, None, Some, refl, ap, sym, subst, ◌∙◌}
 use Rattle.iim_unpack.specs.Pieces.{IsTurnedDown, stream_of}
 use Rattle.iim_unpack.specs.Unpacking.{limits_in}
 use Rattle.iim_unpack.proofs.PieceLemmas.{is_unpacked, only_down, only_up, only_on, ends_short, ends_done, short_counts}
