@@ -1,5 +1,5 @@
 -- What one envelope of an intake's line comes to.
-use Rattle.std.specs.Prelude.{◌≡◌, ℕ, ◌⊎◌, List, [], Option, Some, None, IsSome, ⊤}
+use Rattle.std.specs.Prelude.{◌≡◌, ℕ, ◌⊎◌, List, [], Option, Some, None, IsSome}
 use Rattle.std.specs.Io.KnownBytes.{IsAtEnd}
 use Rattle.iim_dataset.specs.Devices.{Device}
 use Rattle.iim_dataset.specs.DeviceLaws.{HasGiven, MissedBehind}
@@ -35,7 +35,7 @@ TookNone limits old new (causes.Refused e) = (rest : List ℕ) × HasGiven old n
 TookNone limits old new causes.Read = (rest : List ℕ) × MissedBehind old new rest io.Failed × IsOpen limits rest
 TookNone limits old new causes.Interrupted = (rest : List ℕ) × MissedBehind old new rest io.Interrupted × IsOpen limits rest
 TookNone limits old new causes.OutOfMemory = HasGiven old new []
-TookNone limits old new causes.TooManyEnvelopes = HasGiven old new []
+TookNone limits old new causes.TooManyEnvelopes = ⊥
 
 -- What of an intake is left: after a fault it keeps the octet that is told from then on.
 abbrev pub Leaves : AuditCause → Option ℕ → Type 0

@@ -80,11 +80,11 @@ pub fn audit<R: Source>(
                 cause: AuditCause::TooManyEnvelopes,
             });
         }
-        if ledger.enter(&got, now).is_err() {
+        let Ok(()) = ledger.enter(&got, now) else {
             return Err(AuditFault {
                 envelope: number,
                 cause: AuditCause::OutOfMemory,
             });
-        }
+        };
     }
 }

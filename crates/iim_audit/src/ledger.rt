@@ -1,6 +1,8 @@
 //! What an audit keeps while it reads.
 
-ghost use Rattle.std.specs.Prelude.{◌≡◌, ◌+◌, ◌<◌, ◌++◌, ◌∷◌, [], ℤ, List, OnOk, vec_len};
+ghost use Rattle.std.specs.Prelude.{◌≡◌, ◌+◌, ◌++◌, ◌∷◌, [], ℤ, List, length, cond, None, Some, IsSome, OnOk, IfOk};
+ghost use Rattle.std.specs.BTreeMap.{get, is_at};
+ghost use Rattle.iim_fields.specs.Ids.{Identity, id_cmp};
 ghost use Rattle.iim_unpack.specs.Admitted.{Value};
 ghost use Rattle.iim_unpack.specs.Value.{HasParts};
 
@@ -20,12 +22,30 @@ pub(crate) struct Ledger {
     firsts: BTreeMap<EnvelopeId, u64>,
 }
 
+/// The number of the first envelope that has the id. Where none has, this number is kept for it.
+fn first_with(
+    firsts: &mut BTreeMap<EnvelopeId, u64>,
+    id: EnvelopeId,
+    number: u64,
+) -> Result<Option<u64>, AllocError>
+    ensures first { IfOk result (λ first. first ≡ get id_cmp firsts.old id) }
+    ensures there { IfOk result (λ first. IsSome first → (q : Identity) → get id_cmp firsts.new q ≡ get id_cmp firsts.old q) }
+    ensures new { IfOk result (λ first. first ≡ None → (q : Identity) → get id_cmp firsts.new q ≡ cond (is_at (id_cmp id) q) (Some number) (get id_cmp firsts.old q)) }
+{
+    if let Some(first) = firsts.get(&id) {
+        return Ok(Some(*first));
+    }
+    firsts.insert(id, number)?;
+    Ok(None)
+}
+
 impl Ledger {
     ghost use Rattle.iim_audit.specs.Ledgers.{Keeps};
 
     /// A ledger of no envelopes.
     pub(crate) fn new(alloc: Global) -> Ledger
-        ensures { (now : ℤ) → Keeps now result [] }
+        ensures keeps { (now : ℤ) → Keeps now result [] }
+        ensures empty { result.rows.items ≡ [] }
     {
         Ledger {
             rows: Vec::new(alloc),
@@ -35,7 +55,7 @@ impl Ledger {
 
     /// The number of the next envelope, from 1.
     pub(crate) fn next_number(&self) -> u64
-        ensures { result ≡ vec_len self.now.rows + 1 }
+        ensures { result ≡ length self.now.rows.items + 1 }
     {
         self.rows.len() as u64 + 1
     }
@@ -43,13 +63,10 @@ impl Ledger {
     /// Adds the row of the next envelope.
     pub(crate) fn enter(&mut self, got: &Unpacked, now: Timestamp) -> Result<(), AllocError>
         ensures keeps { OnOk result ((values : List Value) (v : Value) → Keeps now.nanosecond self.old values → HasParts got.now v → Keeps now.nanosecond self.new (values ++ v ∷ [])) }
-        ensures one { OnOk result (vec_len self.new.rows ≡ vec_len self.old.rows + 1) }
+        ensures one { OnOk result (length self.new.rows.items ≡ length self.old.rows.items + 1) }
     {
         let number = self.next_number();
-        let first = self.firsts.get(&got.envelope.id()).copied();
-        if first.is_none() {
-            self.firsts.insert(got.envelope.id(), number)?;
-        }
+        let first = first_with(&mut self.firsts, got.envelope.id(), number)?;
         self.rows.push(row_of(got, now, first))?;
         Ok(())
     }
