@@ -9,3 +9,5 @@ pub mod Laws
 pub mod CollectingLaws
 pub mod WritingLaws
 pub mod Marking
+pub mod Words
+pub mod WordLaws
