@@ -2,3 +2,4 @@ pub mod Digits
 pub mod Reading
 pub mod Rows
 pub mod Taking
+pub mod Texts

@@ -11,15 +11,14 @@ use Rattle.iim_fields.specs.declared.limits.Limits.{Limits}
 use Rattle.iim_unpack.specs.Admitted.{Value}
 use Rattle.iim_unpack.specs.Listing.{Listed, IsListed, Divides, values_of, max_envelopes}
 use Rattle.iim_unpack.specs.Unpacking.{IsOpen}
-use Rattle.iim_unpack.specs.Value.{HasParts}
-use Rattle.iim_unpack.specs.declared.unpacker.Unpacked.{Unpacked}
 use Rattle.iim_audit.specs.Auditing.{HasCome, IsAudited, FailsAt}
 use Rattle.iim_audit.specs.Ledgers.{Keeps}
 use Rattle.iim_audit.specs.Rows.{report_of}
-use Rattle.iim_audit.specs.Taking.{Took, TookOne, TookNone}
+use Rattle.iim_audit.specs.Taking.{IsTaken, Took, TookOne, TookNone}
 use Rattle.iim_audit.specs.declared.fault.AuditCause.{AuditCause}
 use Rattle.iim_audit.specs.declared.fault.AuditCause.TheVariants as causes
 use Rattle.iim_audit.specs.declared.ledger.Ledger.{Ledger}
+use Rattle.iim_audit.specs.declared.row.Taken.{Taken}
 use Rattle.iim_audit.proofs.Rows.{length_report}
 
 divides-more : (limits : Limits) (input more : List ℕ) (es : List Listed) → Divides limits input es [] → Divides limits (input ++ more) es more
@@ -152,7 +151,7 @@ fails limits now old mid new ledger failed number causes.OutOfMemory joins few i
 fails limits now old mid new ledger failed number causes.TooManyEnvelopes joins few in_hand read took = absurd took
 
 -- with one envelope more than are listed
-pub one_too_many : (limits : Limits) (now : ℤ) (old mid new : Device) (ledger : Ledger) (failed : Option ℕ) (number : ℕ) (got : Unpacked) → GiftsJoin
+pub one_too_many : (limits : Limits) (now : ℤ) (old mid new : Device) (ledger : Ledger) (failed : Option ℕ) (number : ℕ) (got : Taken) → GiftsJoin
     → length ledger.rows.items ≤ max_envelopes → number ≡ length ledger.rows.items + 1 → max_envelopes < number
     → HasRead limits now old mid ledger failed → TookOne limits mid new got → FailsAt limits old new number causes.TooManyEnvelopes
 one_too_many limits now old mid new ledger failed number got joins few in_hand many read one =
@@ -166,7 +165,7 @@ one_too_many limits now old mid new ledger failed number got joins few in_hand m
     }
 
 -- without memory for the row of an envelope
-pub short_after : (limits : Limits) (now : ℤ) (old mid new : Device) (ledger : Ledger) (failed : Option ℕ) (number : ℕ) (got : Unpacked) → GiftsJoin
+pub short_after : (limits : Limits) (now : ℤ) (old mid new : Device) (ledger : Ledger) (failed : Option ℕ) (number : ℕ) (got : Taken) → GiftsJoin
     → number ≤ max_envelopes → number ≡ length ledger.rows.items + 1
     → HasRead limits now old mid ledger failed → TookOne limits mid new got → FailsAt limits old new number causes.OutOfMemory
 short_after limits now old mid new ledger failed number got joins few in_hand read one =
@@ -180,8 +179,8 @@ short_after limits now old mid new ledger failed number got joins few in_hand re
     }
 
 -- an envelope more
-pub read_one : (limits : Limits) (now : ℤ) (old mid new : Device) (ledger later : Ledger) (failed left : Option ℕ) (got : Unpacked) → GiftsJoin
-    → left ≡ None → ((values : List Value) (v : Value) → Keeps now ledger values → HasParts got v → Keeps now later (values ++ v ∷ []))
+pub read_one : (limits : Limits) (now : ℤ) (old mid new : Device) (ledger later : Ledger) (failed left : Option ℕ) (got : Taken) → GiftsJoin
+    → left ≡ None → ((values : List Value) (v : Value) → Keeps now ledger values → IsTaken got v → Keeps now later (values ++ v ∷ []))
     → HasRead limits now old mid ledger failed → TookOne limits mid new got → HasRead limits now old new later left
 read_one limits now old mid new ledger later failed left got joins lives enters read one =
     let P : List Value → Type 0 = λ values. Keeps now later values in
@@ -189,6 +188,6 @@ read_one limits now old mid new ledger later failed left got joins lives enters 
     record {
       envelopes = read.envelopes ++ one.envelope ∷ [];
       come = come_one limits old mid new read.envelopes one.envelope joins read.come one.is_listed one.given;
-      keeps = subst P (sym (map-append f read.envelopes (one.envelope ∷ []))) (enters (values_of read.envelopes) one.envelope.value read.keeps one.parts);
+      keeps = subst P (sym (map-append f read.envelopes (one.envelope ∷ []))) (enters (values_of read.envelopes) one.envelope.value read.keeps one.taken);
       lives = lives;
     }

@@ -1,8 +1,10 @@
 -- From what an intake answers to what an audit takes of it.
-use Rattle.std.proofs.Common.{◌≡◌, ◌≢◌, ℕ, ◌⊎◌, List, [], Option, Some, None, subst, inl, inr, ⊎_elim, arith, refl}
+use Rattle.std.proofs.Common.{◌≡◌, ◌≢◌, ℕ, ◌⊎◌, List, [], Some, None, subst, false, ◌∙◌, inl, inr, ⊎_elim, arith, refl}
 use Rattle.iim_dataset.specs.Devices.{Device}
 use Rattle.iim_fields.specs.declared.limits.Limits.{Limits}
 use Rattle.wire_story.specs.Delivery.{Event}
+use Rattle.wire_story.specs.Words.{WordsSoFar, CountsWords}
+use Rattle.iim_unpack.specs.Framed.{AreWithin}
 use Rattle.iim_unpack.specs.Intakes.{Gives, Faults, WasRefused, WasTruncated}
 use Rattle.iim_unpack.specs.Parts.{CountsFor}
 use Rattle.iim_unpack.specs.Unpacking.{Unpacking, Stands, limits_in}
@@ -13,26 +15,28 @@ use Rattle.iim_unpack.specs.declared.refusal.Cause.TheVariants.{Sink}
 use Rattle.iim_unpack.specs.declared.refusal.Refusal.{Refusal}
 use Rattle.iim_unpack.specs.declared.unpacker.Unpacked.{Unpacked}
 use Rattle.iim_audit.specs.Faults.{cause_of}
-use Rattle.iim_audit.specs.Taking.{Took, TookNone}
+use Rattle.iim_audit.specs.Taking.{Took, TookOne, TookNone}
+use Rattle.iim_audit.proofs.Texts.{TextLaws, words_of_value}
 
-took_fresh : {S : Type 0} (goes : S → List Event → S → Type 0) (old new : Device) (u : Unpacking) (a b : S) (used : ℕ) (found : Option Unpacked)
-    → Stands u [] 0 → Gives goes old new u a b used found → Took (limits_in u) old new found
-took_fresh goes old new u a b used None stands gives = (gives.1.given, gives.1.at_end)
-took_fresh goes old new u a b used (Some got) stands gives =
+-- what an intake gives to an unpacker that stands on no octets, and to a count of no words
+pub took_one : TextLaws → (limits : Limits) (old new : Device) (u : Unpacking) (a b : WordsSoFar) (used : ℕ) (got : Unpacked) (n : ℕ)
+    → limits_in u ≡ limits → Stands u [] 0 → a.words ≡ 0 → a.inside ≡ false → n ≡ b.words → Gives CountsWords old new u a b used (Some got)
+    → TookOne limits old new (record { unpacked = got; words = n })
+took_one laws limits old new u a b used got n same stands none outside is gives =
     let here = gives.envelope [] 0 stands in
     record {
       envelope = record { octets = gives.octets; value = here.value };
-      is_listed = record { admits = here.admits; within = here.within };
+      is_listed = record { admits = here.admits; within = subst (λ (l : Limits). AreWithin l here.admits.datasets) same here.within };
       given = gives.came.given;
-      parts = here.parts;
+      taken = record {
+        parts = here.parts;
+        words = is ∙ words_of_value laws gives.octets gives.more here.value a b here.admits here.adds none outside gives.came.told;
+      };
     }
 
--- what an intake gives to an unpacker that stands on no octets
-pub took : {S : Type 0} (goes : S → List Event → S → Type 0) (limits : Limits) (old new : Device) (u : Unpacking) (a b : S) (used : ℕ) (found : Option Unpacked)
-    → limits_in u ≡ limits → Stands u [] 0 → Gives goes old new u a b used found → Took limits old new found
-took goes limits old new u a b used found same stands gives =
-    let P : Limits → Type 0 = λ l. Took l old new found in
-    subst P same (took_fresh goes old new u a b used found stands gives)
+-- what it gives at the end of its input
+pub took_end : (limits : Limits) (old new : Device) (u : Unpacking) (a b : WordsSoFar) (used : ℕ) → Gives CountsWords old new u a b used None → Took limits old new None
+took_end limits old new u a b used gives = (gives.1.given, gives.1.at_end)
 
 -- A sink that counts no failure refused nothing.
 unsunk : (cause : Cause) (n : ℕ) → n ≡ 0 → CountsFor cause n n → cause ≢ Sink

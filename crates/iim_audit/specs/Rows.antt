@@ -5,6 +5,7 @@ use Rattle.std.specs.Str.Parse.{digits_value}
 use Rattle.iim_dataset.specs.Datasets.{Dataset}
 use Rattle.iim_fields.specs.Ids.{Identity, id_eq}
 use Rattle.iim_fields.specs.Views.{first_data}
+use Rattle.wire_story.specs.Words.{words, capped}
 use Rattle.iim_unpack.specs.Admitted.{Value}
 use Rattle.iim_audit.specs.Ages.{age_at}
 use Rattle.iim_audit.specs.declared.row.AuditRow.{AuditRow}
@@ -26,6 +27,10 @@ first_octet (b ∷ bs) = Some b
 abbrev pub priority_of : Value → Option ℕ
 priority_of v = option_and_then first_octet (first_data 1 60 v.fields)
 
+-- the words of the lines, counted up to the greatest number of 64 bits
+abbrev pub counted_words : Value → ℕ
+counted_words v = capped (words v.lines)
+
 -- the number of the first of these ids that is the same; they are numbered from n
 abbrev pub first_same : ℕ → Identity → List Identity → Option ℕ
 first_same n id [] = None
@@ -39,6 +44,7 @@ row_with now v first = record {
   size = v.sizes.total;
   subfiles = v.sizes.subfiles;
   announced = digits_value 10 v.head.words;
+  counted = counted_words v;
   age = age_at now v.fields;
   first = first;
 }

@@ -5,23 +5,30 @@ use Rattle.iim_dataset.specs.Devices.{Device}
 use Rattle.iim_dataset.specs.DeviceLaws.{HasGiven, MissedBehind}
 use Rattle.iim_dataset.specs.declared.device.IoFault.TheVariants as io
 use Rattle.iim_fields.specs.declared.limits.Limits.{Limits}
+use Rattle.iim_unpack.specs.Admitted.{Value}
 use Rattle.iim_unpack.specs.Listing.{Listed, IsListed, IsRefusedRest, IsTruncatedRest}
 use Rattle.iim_unpack.specs.Unpacking.{IsOpen}
 use Rattle.iim_unpack.specs.Value.{HasParts}
 use Rattle.iim_unpack.specs.declared.refusal.Refusal.{Refusal}
-use Rattle.iim_unpack.specs.declared.unpacker.Unpacked.{Unpacked}
+use Rattle.iim_audit.specs.Rows.{counted_words}
+use Rattle.iim_audit.specs.declared.row.Taken.{Taken}
 use Rattle.iim_audit.specs.declared.fault.AuditCause.{AuditCause}
 use Rattle.iim_audit.specs.declared.fault.AuditCause.TheVariants as causes
 
--- Just the octets of one envelope came, and these are its parts.
-pub record TookOne (limits : Limits) (old new : Device) (got : Unpacked) : Type 0 where
+-- The parts of the value, and the words of its lines.
+pub record IsTaken (got : Taken) (v : Value) : Type 0 where
+  pub parts : HasParts got.unpacked v
+  pub words : got.words ≡ counted_words v
+
+-- Just the octets of one envelope came, and this was taken of it.
+pub record TookOne (limits : Limits) (old new : Device) (got : Taken) : Type 0 where
   pub envelope : Listed
   pub is_listed : IsListed limits envelope
   pub given : HasGiven old new envelope.octets
-  pub parts : HasParts got envelope.value
+  pub taken : IsTaken got envelope.value
 
 -- One envelope came, or nothing, since the input ends.
-abbrev pub Took : Limits → Device → Device → Option Unpacked → Type 0
+abbrev pub Took : Limits → Device → Device → Option Taken → Type 0
 Took limits old new (Some got) = TookOne limits old new got
 Took limits old new None = HasGiven old new [] × IsAtEnd new.octets
 

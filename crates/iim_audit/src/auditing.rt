@@ -8,12 +8,14 @@ ghost use Rattle.iim_audit.specs.Taking.{Took, TookNone, Leaves};
 use crate::fault::{AuditCause, AuditFault, cause_of};
 use crate::ledger::Ledger;
 use crate::report::Report;
-use iim_dataset::{Source, gifts_join};
+use crate::row::Taken;
+use iim_dataset::{Source, events_tell_the_datasets, gifts_join, octets_are_handed_on_one_way};
 use iim_fields::Limits;
-use iim_unpack::{Intake, Unpacked, Unpacker};
+use iim_unpack::{Intake, Unpacker};
 use jiff::Timestamp;
 use std::alloc::Global;
-use wire_story::Discard;
+use wire_message::texts_stand_between_stx_and_etx;
+use wire_story::{WordCount, texts_are_counted_as_lines};
 
 /// The most envelopes that one audit lists.
 pub const MAX_ENVELOPES: u64 = 1_000_000;
@@ -23,7 +25,7 @@ fn take_envelope<R: Source>(
     alloc: Global,
     intake: &mut Intake<R>,
     limits: Limits,
-) -> Result<Option<Unpacked>, AuditCause>
+) -> Result<Option<Taken>, AuditCause>
     ensures took { intake.old.failed ≡ None → IfOk result (Took limits (line R.state intake.old) (line R.state intake.new)) }
     ensures none { intake.old.failed ≡ None → IfErr result (TookNone limits (line R.state intake.old) (line R.state intake.new)) }
     ensures lives { OnOk result (intake.new.failed ≡ None) }
@@ -32,11 +34,20 @@ fn take_envelope<R: Source>(
     ensures leads { R.leads intake.old.reader intake.new.reader }
 {
     gifts_join();
+    octets_are_handed_on_one_way();
+    events_tell_the_datasets();
+    texts_stand_between_stx_and_etx();
+    texts_are_counted_as_lines();
     let Ok(unpacker) = Unpacker::new(alloc, limits) else {
         return Err(AuditCause::OutOfMemory);
     };
-    match intake.next_envelope(unpacker, &mut Discard) {
-        Ok(found) => Ok(found),
+    let mut count = WordCount::new();
+    match intake.next_envelope(unpacker, &mut count) {
+        Ok(Some(unpacked)) => Ok(Some(Taken {
+            unpacked,
+            words: count.words(),
+        })),
+        Ok(None) => Ok(None),
         Err(fault) => Err(cause_of(fault)),
     }
 }

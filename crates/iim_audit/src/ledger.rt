@@ -4,12 +4,11 @@ ghost use Rattle.std.specs.Prelude.{◌≡◌, ◌+◌, ◌++◌, ◌∷◌, [],
 ghost use Rattle.std.specs.BTreeMap.{get, is_at};
 ghost use Rattle.iim_fields.specs.Ids.{Identity, id_cmp};
 ghost use Rattle.iim_unpack.specs.Admitted.{Value};
-ghost use Rattle.iim_unpack.specs.Value.{HasParts};
+ghost use Rattle.iim_audit.specs.Taking.{IsTaken};
 
 use crate::report::Report;
-use crate::row::{AuditRow, row_of};
+use crate::row::{AuditRow, Taken, row_of};
 use iim_fields::EnvelopeId;
-use iim_unpack::Unpacked;
 use jiff::Timestamp;
 use std::alloc::{AllocError, Global};
 use std::collections::BTreeMap;
@@ -61,12 +60,12 @@ impl Ledger {
     }
 
     /// Adds the row of the next envelope.
-    pub(crate) fn enter(&mut self, got: &Unpacked, now: Timestamp) -> Result<(), AllocError>
-        ensures keeps { OnOk result ((values : List Value) (v : Value) → Keeps now.nanosecond self.old values → HasParts got.now v → Keeps now.nanosecond self.new (values ++ v ∷ [])) }
+    pub(crate) fn enter(&mut self, got: &Taken, now: Timestamp) -> Result<(), AllocError>
+        ensures keeps { OnOk result ((values : List Value) (v : Value) → Keeps now.nanosecond self.old values → IsTaken got.now v → Keeps now.nanosecond self.new (values ++ v ∷ [])) }
         ensures one { OnOk result (length self.new.rows.items ≡ length self.old.rows.items + 1) }
     {
         let number = self.next_number();
-        let first = first_with(&mut self.firsts, got.envelope.id(), number)?;
+        let first = first_with(&mut self.firsts, got.unpacked.envelope.id(), number)?;
         self.rows.push(row_of(got, now, first))?;
         Ok(())
     }

@@ -4,7 +4,7 @@ ghost use Rattle.std.specs.Prelude.{◌≡◌, ◌<◌};
 ghost use Rattle.std.specs.Str.Parse.{digits_value};
 ghost use Rattle.wire_message.specs.Fields.{is_digit, IsField};
 ghost use Rattle.iim_unpack.specs.Admitted.{Value};
-ghost use Rattle.iim_unpack.specs.Value.{HasParts};
+ghost use Rattle.iim_audit.specs.Taking.{IsTaken};
 ghost use Rattle.iim_audit.specs.Rows.{row_with};
 
 use crate::age::seconds_between;
@@ -25,10 +25,19 @@ pub struct AuditRow {
     pub subfiles: u64,
     /// The words that its message announces.
     pub announced: u64,
+    /// The words of its story: the longest runs, inside one line, of octets other than SP and TAB.
+    pub counted: u64,
     /// How many whole seconds ago it was sent, below zero for the future; None where it names no instant.
     pub age: Option<i64>,
     /// The number of the first envelope with the same id, where that came before.
     pub first: Option<u64>,
+}
+
+/// What was taken of one envelope: its parts, and the words of its lines.
+#[derive(Drop)]
+pub(crate) struct Taken {
+    pub(crate) unpacked: Unpacked,
+    pub(crate) words: u64,
 }
 
 /// The number that up to six digits write.
@@ -45,16 +54,21 @@ fn number_of(digits: &[u8]) -> u64
 }
 
 /// The row of an envelope, with the number of the first one with its id, where that came before.
-pub(crate) fn row_of(got: &Unpacked, now: Timestamp, first: Option<u64>) -> AuditRow
-    ensures { (v : Value) → HasParts got.now v → result ≡ row_with now.nanosecond v first }
+pub(crate) fn row_of(got: &Taken, now: Timestamp, first: Option<u64>) -> AuditRow
+    ensures { (v : Value) → IsTaken got.now v → result ≡ row_with now.nanosecond v first }
 {
+    let unpacked = &got.unpacked;
     AuditRow {
-        id: got.envelope.id(),
-        priority: got.envelope.priority(),
-        size: got.sizes.total,
-        subfiles: got.sizes.subfiles,
-        announced: number_of(got.head.words()),
-        age: got.envelope.sent().map(|sent| seconds_between(sent, now)),
+        id: unpacked.envelope.id(),
+        priority: unpacked.envelope.priority(),
+        size: unpacked.sizes.total,
+        subfiles: unpacked.sizes.subfiles,
+        announced: number_of(unpacked.head.words()),
+        counted: got.words,
+        age: unpacked
+            .envelope
+            .sent()
+            .map(|sent| seconds_between(sent, now)),
         first,
     }
 }
