@@ -1,4 +1,5 @@
 pub mod Digits
+pub mod Lines
 pub mod Reading
 pub mod Rows
 pub mod Taking

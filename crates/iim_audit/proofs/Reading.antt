@@ -1,7 +1,6 @@
 -- Envelopes that come one after another.
-use Rattle.std.proofs.Common.{◌≡◌, ℕ, ◌+◌, ◌≤◌, ◌⊎◌, ℤ, List, [], ◌∷◌, ◌++◌, length, map, append_assoc, append-nil, ◌<◌, Option, None, Some, ap, sym, ◌∙◌, refl, subst, arith, inl, inr, ⊎_elim, length-append}
+use Rattle.std.proofs.Common.{◌≡◌, ℕ, ◌+◌, ◌≤◌, ℤ, List, [], ◌∷◌, ◌++◌, length, append_assoc, append-nil, ◌<◌, Option, None, Some, ap, sym, ◌∙◌, refl, subst, arith, inl, inr, ⊎_elim, length-append}
 use Rattle.std.proofs.lemmas.List.{length-map, map-append}
-use Rattle.std.specs.Io.KnownBytes.{IsAtEnd}
 use Rattle.std.proofs.KnownBytes.{Consumes-trans}
 use Rattle.iim_dataset.specs.Devices.{Device, Rose}
 use Rattle.iim_dataset.specs.DeviceLaws.{HasGiven, MissedBehind, BrokeFor, GiftsJoin}
@@ -10,10 +9,8 @@ use Rattle.iim_dataset.specs.declared.device.IoFault.TheVariants as io
 use Rattle.iim_fields.specs.declared.limits.Limits.{Limits}
 use Rattle.iim_unpack.specs.Admitted.{Value}
 use Rattle.iim_unpack.specs.Listing.{Listed, IsListed, Divides, values_of, max_envelopes}
-use Rattle.iim_unpack.specs.Unpacking.{IsOpen}
 use Rattle.iim_audit.specs.Auditing.{HasCome, IsAudited, FailsAt}
 use Rattle.iim_audit.specs.Ledgers.{Keeps}
-use Rattle.iim_audit.specs.Rows.{report_of}
 use Rattle.iim_audit.specs.Taking.{IsTaken, Took, TookOne, TookNone}
 use Rattle.iim_audit.specs.declared.fault.AuditCause.{AuditCause}
 use Rattle.iim_audit.specs.declared.fault.AuditCause.TheVariants as causes

@@ -1,8 +1,8 @@
 -- The text of an envelope, and the words of its lines.
-use Rattle.std.proofs.Common.{◌≡◌, ℕ, List, [], ◌∷◌, ◌++◌, length, refl, sym, ap, subst, ◌∙◌, inl, lit<, append-nil, false}
+use Rattle.std.proofs.Common.{◌≡◌, ℕ, List, [], ◌∷◌, length, refl, sym, ap, subst, ◌∙◌, inl, lit<, append-nil, false}
 use Rattle.iim_dataset.specs.Octets.{number}
 use Rattle.iim_dataset.specs.Datasets.{Dataset, SpellsTag, SpellsStream, count_octets}
-use Rattle.iim_dataset.specs.Splits.{Begun, InTag, IsBegun, Reads}
+use Rattle.iim_dataset.specs.Splits.{InTag, IsBegun, Reads}
 use Rattle.iim_dataset.specs.Events.{handed_on}
 use Rattle.iim_dataset.specs.Places.{HandsOn}
 use Rattle.iim_dataset.specs.Laws.{OctetsAreHandedOnOneWay, EventsTellTheDatasets}

@@ -1,5 +1,5 @@
 -- What an audit answers, by the octets that its intake has next in line.
-use Rattle.std.specs.Prelude.{◌≡◌, ◌≢◌, ℕ, ◌+◌, ◌<◌, ◌≤◌, ◌⊎◌, ℤ, List, [], length}
+use Rattle.std.specs.Prelude.{◌≡◌, ℕ, ◌+◌, ◌<◌, ◌≤◌, ◌⊎◌, ℤ, List, [], length}
 use Rattle.std.specs.Io.KnownBytes.{IsAtEnd}
 use Rattle.iim_dataset.specs.Devices.{Device}
 use Rattle.iim_dataset.specs.DeviceLaws.{HasGiven, MissedBehind}

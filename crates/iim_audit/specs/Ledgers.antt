@@ -1,7 +1,6 @@
 -- What an audit keeps while it reads.
 use Rattle.std.specs.Prelude.{◌≡◌, ℤ, List, map}
-use Rattle.std.specs.BTreeMap.{BTreeMap, get}
-use Rattle.std.specs.Prelude.{ℕ}
+use Rattle.std.specs.BTreeMap.{get}
 use Rattle.iim_fields.specs.Ids.{Identity, id_cmp}
 use Rattle.iim_unpack.specs.Admitted.{Value}
 use Rattle.iim_audit.specs.Rows.{id_of, first_same, report_of}

@@ -4,3 +4,4 @@ pub mod Faults
 pub mod Ledgers
 pub mod Rows
 pub mod Taking
+pub mod Texts

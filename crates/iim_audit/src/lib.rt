@@ -10,9 +10,14 @@ mod fault;
 mod ledger;
 mod report;
 mod row;
+mod shown;
+#[cfg(test)]
+mod tests;
+mod text;
 
 pub use age::whole_seconds_are_floors;
 pub use auditing::audit;
 pub use fault::{AuditCause, AuditFault};
 pub use report::Report;
 pub use row::AuditRow;
+pub use text::report_text;

@@ -1,7 +1,6 @@
-use Rattle.std.proofs.Common.{◌≡◌, ◌≤◌, ◌<◌, ℕ, None, Some, Option, [], length, ap, ◌∙◌, sym, refl, subst, arith, List, Result, Ok, ◌+◌, IsErrAnd}
+use Rattle.std.proofs.Common.{◌≡◌, None, Option, [], length, ap, sym, subst, arith, List, Result, Ok, ◌+◌, IsErrAnd}
 use Rattle.iim_dataset.specs.Devices.{Device}
 use Rattle.iim_unpack.specs.Intakes.{line}
-use Rattle.iim_unpack.specs.Listing.{max_envelopes}
 use Rattle.iim_audit.specs.Auditing.{IsAudited}
 use Rattle.iim_audit.specs.Taking.{Took}
 use Rattle.iim_audit.specs.declared.row.AuditRow.{AuditRow}

@@ -1,4 +1,4 @@
-use Rattle.std.proofs.Common.{◌≡◌, Option, Some, sym, subst, refl}
+use Rattle.std.proofs.Common.{Option, sym, subst, refl}
 use Rattle.wire_story.specs.Words.{WordsSoFar, CountsWords}
 use Rattle.iim_unpack.specs.Intakes.{line, Gives}
 use Rattle.iim_unpack.specs.declared.unpacker.Unpacked.{Unpacked}

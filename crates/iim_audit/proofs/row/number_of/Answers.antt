@@ -1,4 +1,4 @@
-use Rattle.std.proofs.Common.{◌≡◌, ◌<◌, ◌+◌, ◌-◌, ◌*◌, ◌^◌, ◌≤◌, length, get_or, arith, subst, sym, ℕ, take, lit<}
+use Rattle.std.proofs.Common.{◌≡◌, ◌<◌, ◌+◌, ◌-◌, ◌*◌, ◌^◌, ◌≤◌, get_or, arith, subst, sym, ℕ, take}
 use Rattle.std.specs.Str.Parse.{digits_value}
 use Rattle.iim_audit.proofs.Digits.{value_more, small_more, small_six}
 use Rattle.iim_audit.proofs.row.number_of.Goals as goal
