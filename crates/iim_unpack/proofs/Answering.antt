@@ -6,6 +6,7 @@ use Rattle.std.proofs.lemmas.List.{map-append, take-append-drop, take-take}
 use Rattle.iim_dataset.specs.Datasets.{Dataset, SpellsTag, SpellsDataset, SpellsStream, head_of, count_octets}
 use Rattle.iim_dataset.specs.Splits.{Begun, InTag, InData, IsBegun, Reads}
 use Rattle.iim_dataset.specs.Tags.{BeginsNoTag}
+use Rattle.iim_dataset.specs.Completing.{CompletesData}
 use Rattle.iim_dataset.specs.Events.{handed_on}
 use Rattle.iim_dataset.specs.Languages as languages
 use Rattle.iim_dataset.specs.declared.head.Head.{Head}
@@ -29,7 +30,6 @@ use Rattle.iim_unpack.specs.Laws.{AdmittedOctetsHaveOneValue, NoAdmittedOctetsBe
 use Rattle.iim_unpack.specs.Parts.{object_so_far, AllGoOn, IsUnfinished}
 use Rattle.iim_unpack.specs.Refusals.{refusal_at, message_on}
 use Rattle.iim_unpack.specs.Tokens.{IsRefusedHead, IsRefusedValue}
-use Rattle.iim_dataset.specs.Completing.{CompletesData}
 use Rattle.iim_unpack.specs.Unpacking.{IsOpen, IsBadTagAt, IsBadHeadAt, IsBadOctetAt, IsBadValueAt, RefusesNext, truncated_in, OpenOctetsBeginWithNoEnvelope}
 use Rattle.iim_unpack.specs.Streams.{IsEnvelopeWithin, Finished, Refused, Truncated, IsFinished, IsRefused, IsTruncated, EnvelopesAreBounded, RefusedOctetsWereOpen, NothingGoesOnFromRefusedOctets, RefusalsAreDetermined, StreamsHaveOneAnswer}
 use Rattle.iim_unpack.specs.declared.fault.Fault.{Fault}

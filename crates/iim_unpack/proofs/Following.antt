@@ -4,6 +4,7 @@ use Rattle.std.proofs.lemmas.List.Concat.{flat_map-append}
 use Rattle.std.proofs.lemmas.List.Elements.{filter-append}
 use Rattle.iim_dataset.specs.Datasets.{Dataset, SpellsTag, SpellsStream, head_of, count_octets}
 use Rattle.iim_dataset.specs.Splits.{Begun, InTag, InData, IsBegun, Reads}
+use Rattle.iim_dataset.specs.Laws.{NoTagBeginsAnother}
 use Rattle.iim_dataset.specs.Languages as languages
 use Rattle.iim_dataset.specs.declared.head.Head.{Head}
 use Rattle.iim_fields.specs.Records.{AreSections}
@@ -23,12 +24,11 @@ use Rattle.iim_unpack.specs.Framed.{AreWithin}
 use Rattle.iim_unpack.specs.Parts.{object_so_far, section, message_tokens, AllGoOn}
 use Rattle.iim_unpack.specs.Tokens.{GoOnAt, ObjectLives, place_at}
 use Rattle.iim_unpack.proofs.Frames.{compare}
-use Rattle.iim_unpack.proofs.Fronts.{no_longer}
+use Rattle.iim_unpack.proofs.Fronts.{no_longer, begun_none}
 use Rattle.iim_unpack.proofs.Lasts.{present_last, not_all}
 use Rattle.iim_unpack.proofs.Limits.{leaves_room, within_front}
 use Rattle.iim_unpack.proofs.Living.{alive_front, message_front, story_front}
 use Rattle.iim_unpack.proofs.Objects.{records_alive}
-use Rattle.iim_unpack.proofs.Fronts.{no_longer_stream}
 use Rattle.iim_unpack.proofs.Places.{HeadLeads, subfile_leads, end_leads, lives_at, is_one, at_number, at_other}
 use Rattle.iim_unpack.specs.LowerLaws.{FollowLaws, ObjectLaws}
 
@@ -55,6 +55,12 @@ same_front x y u v e same =
 none_of : (xs ys : List Dataset) → xs ++ ys ≡ [] → xs ≡ []
 none_of [] ys e = refl
 none_of (x ∷ xs) ys e = absurd cc
+
+-- no stream begins what is less than a dataset
+no_longer_stream : NoTagBeginsAnother → (c : Begun) (y z r : List ℕ) (more : List Dataset) → IsBegun count_octets c y → SpellsStream count_octets more r → r ++ z ≡ y → more ≡ []
+no_longer_stream one c y z r [] bc stream e = refl
+no_longer_stream one c y z r (m ∷ more) bc (first, rest, s, later, parts) e =
+    absurd (begun_none one c y bc m first (rest ++ z) s (sym e ∙ ap (λ l. l ++ z) parts ∙ append_assoc first rest z))
 
 -- ---- which token follows
 

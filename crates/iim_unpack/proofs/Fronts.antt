@@ -1,9 +1,9 @@
 -- What the tag at the front says of the datasets there.
-use Rattle.std.proofs.Common.{◌≡◌, ℕ, ◌+◌, ◌-◌, ◌<◌, ◌≤◌, List, [], ◌∷◌, ◌++◌, length, take, drop, ap, sym, subst, ◌∙◌, inl, inr, arith, append_assoc, length-append, length-drop, refl}
+use Rattle.std.proofs.Common.{◌≡◌, ℕ, ◌+◌, ◌-◌, ◌<◌, ◌≤◌, List, [], ◌++◌, length, take, drop, ap, sym, subst, ◌∙◌, inl, inr, arith, append_assoc, length-append, length-drop}
 use Rattle.std.proofs.lemmas.List.{append-nil, take-append-drop, take-append-le}
 use Rattle.std.proofs.Math.Seq.{take-append-add}
 use Rattle.std.proofs.lemmas.Bool.{cases_lt}
-use Rattle.iim_dataset.specs.Datasets.{Dataset, SpellsTag, SpellsDataset, SpellsStream, head_of, count_octets}
+use Rattle.iim_dataset.specs.Datasets.{Dataset, SpellsTag, SpellsDataset, head_of, count_octets}
 use Rattle.iim_dataset.specs.Splits.{Begun, InTag, InData, IsBegun}
 use Rattle.iim_dataset.specs.Tags.{BeginsTag, HasTag, HasNoTag}
 use Rattle.iim_dataset.specs.Laws.{NoTagBeginsAnother}
@@ -35,12 +35,6 @@ begun_none one (InData h taken) y b d x w s e =
     let count : h.count ≡ length d.octets = ap (λ (k : Head). k.count) same.0 in
     let lengths : length taken ≡ length (d.octets ++ w) = ap length same.2 in
     omega (arith, b.2, count, lengths, length-append d.octets w)
-
--- no whole datasets begin a begun one
-pub no_longer_stream : NoTagBeginsAnother → (c : Begun) (y z r : List ℕ) (more : List Dataset) → IsBegun count_octets c y → SpellsStream count_octets more r → r ++ z ≡ y → more ≡ []
-no_longer_stream one c y z r [] bc stream e = refl
-no_longer_stream one c y z r (m ∷ more) bc (first, rest, s, later, parts) e =
-    absurd (begun_none one c y bc m first (rest ++ z) s (sym e ∙ ap (λ l. l ++ z) parts ∙ append_assoc first rest z))
 
 -- less than a tag is less than a dataset
 pub begun_lacks : NoTagBeginsAnother → (rest : List ℕ) → BeginsTag count_octets rest → Lacks rest

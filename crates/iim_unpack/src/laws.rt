@@ -23,8 +23,6 @@ pub(crate) fn feed_laws()
     ensures { FeedLaws }
 {
     what_an_octet_completes();
-    no_tag_begins_another();
-    no_dataset_begins_another();
     octets_are_handed_on_one_way();
     events_tell_the_datasets();
     envelopes_end_with_the_last_record();
@@ -38,6 +36,8 @@ fn answer_laws()
     ensures { AnswerLaws }
 {
     feed_laws();
+    no_tag_begins_another();
+    no_dataset_begins_another();
     datasets_lead_from_place_to_place();
     datasets_live_with_their_tokens();
     no_octets_go_on();

@@ -1,8 +1,10 @@
 //! Takes envelopes of the Information Interchange Model apart.
 //!
-//! Stands on `iim_dataset`, `iim_fields` and `iim_object`, and for definitions and laws on `wire_message` and `wire_story`. The
-//! crate above uses [`scan`], which finds the envelope that octets begin with or says at which octet, by which layer, on which
-//! dataset and why they are refused.
+//! Stands on the readers of the layers: `iim_dataset`, `iim_fields`, `iim_object`, `wire_message` and `wire_story`. The crates
+//! above use [`Unpacker::feed`], which takes a stream in any pieces and finishes exactly at the end of the envelope that it
+//! begins with, or says at which octet, by which layer, on which dataset and why it is refused; [`Intake`], which takes one
+//! envelope after another from a source; and the law that a stream has one answer ([`streams_have_one_answer`]). [`scan`] does
+//! without the message.
 #![tactic(auto)]
 
 mod answer;

@@ -35,9 +35,9 @@ use wire_story::StorySink;
 /// How far an unpacker came with a piece.
 #[derive(Clone, Copy, Debug, PartialEq, Eq)]
 pub enum Progress {
-    /// All of it was used, and the envelope goes on.
+    /// All of it was used, and the envelope can continue.
     More,
-    /// The envelope ends behind so many octets of it.
+    /// The envelope ends after so many octets of it.
     Done { used: usize },
 }
 
@@ -128,7 +128,11 @@ pub struct Unpacked {
     pub sizes: Sizes,
 }
 
-/// An unpacker of one envelope.
+/// An unpacker of one envelope, which is fed its octets in any pieces.
+///
+/// It holds the data of records 1 and 2, at most `Limits.octets` octets in at most `Limits.fields` entries, and less than 256
+/// octets more: those of a begun tag (8 at most), a begun number of record 7 or 9 (4), and the header and the trailer of the
+/// message (159). [`Unpacker::new`] makes room for all of them; no other call takes memory.
 #[derive(Drop)]
 pub struct Unpacker {
     reader: HeadReader,
@@ -256,7 +260,11 @@ impl Unpacker {
         self.octets
     }
 
-    /// Takes the next octets of the stream, and tells the sink what is delivered of the text among them.
+    /// Takes the next octets of the stream, which may be none, and tells the sink what is delivered of the text among them:
+    /// slices of the piece. After the end of the envelope no octet is used.
+    ///
+    /// An error is the refusal of the first octet with which a layer is dead, or of one at which the sink stopped
+    /// ([`Cause::Sink`]); later calls answer [`Cause::Failed`]. No call takes memory.
     pub fn feed<S: StorySink>(&mut self, piece: &[u8], sink: &mut S) -> Result<Progress, Refusal>
         // It stands on the octets so far, or an envelope ends with them; and the sink was told what they add.
         ensures goes { IfOk result (λ progress. (more : List story.Event) × S.goes sink.old more sink.new

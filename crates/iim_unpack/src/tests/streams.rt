@@ -330,8 +330,9 @@ fn sizes(rt: HostRuntime) -> Result<(), Fail> {
 fn subfiles(rt: HostRuntime) -> Result<(), Fail> {
     let alloc = rt.alloc();
     let begun: &[u8] = b"\x64\x1c\x08\x0a\x00\x3c\x01X1 4 N 0\r\n\x02";
-    let first = vec![in alloc; b'a'; 48]?;
-    let rest = vec![in alloc; b'a'; 37]?;
+    let first: &[u8] = b"aaaaaaaaaaaaaaaaaaaaaaaaaaaaaaaaaaaaaaaaaaaaaaaa";
+    let rest: &[u8] = b"aaaaaaaaaaaaaaaaaaaaaaaaaaaaaaaaaaaaa";
+    let front = joined(alloc, &[&SMALLEST[..85], begun, first])?;
     let past = refused(
         Layer::Object,
         (8, 10),
@@ -340,12 +341,7 @@ fn subfiles(rt: HostRuntime) -> Result<(), Fail> {
         b"aaaaaaaaaaaaaaaaaaaaaaaaaaaaaaaaaaaaaaaaaaaaaaaa\n",
     );
     let head: &[u8] = b"\x1c\x08\x0a\x00\x29";
-    expect(
-        &rt,
-        alloc,
-        &[&SMALLEST[..85], begun, first.as_slice(), head],
-        past,
-    )?;
+    expect(&rt, alloc, &[front.as_slice(), head], past)?;
     let short = refused(
         Layer::Object,
         (9, 10),
@@ -355,15 +351,8 @@ fn subfiles(rt: HostRuntime) -> Result<(), Fail> {
     );
     let second: &[u8] = b"\x1c\x08\x0a\x00\x27";
     let end: &[u8] = b"\x03\x04\x1c\x09\x0a\x00\x04\x00\x00\x00\x63";
-    let pieces: [&[u8]; 6] = [
-        &SMALLEST[..85],
-        begun,
-        first.as_slice(),
-        second,
-        rest.as_slice(),
-        end,
-    ];
-    expect(&rt, alloc, &pieces, short)
+    expect(&rt, alloc, &[front.as_slice(), second, rest, end], short)?;
+    Ok(())
 }
 
 #[test]

@@ -7,8 +7,8 @@ returns c =
     let live = c.datasets_live_with_their_tokens.ensures in
     record {
       follow = record {
-        one_tag = feed.one_tag;
-        one_dataset = feed.one_dataset;
+        one_tag = c.no_tag_begins_another.ensures;
+        one_dataset = c.no_dataset_begins_another.ensures;
         sections = feed.sections;
         ends = feed.ends;
         objects = record { tokens = leads.tokens; others = leads.others; numbers = leads.numbers; subfiles = leads.subfiles; ends = leads.ends };
