@@ -6,3 +6,4 @@ pub mod Faults
 pub mod Requests
 pub mod Laws
 pub mod RoundTrip
+pub mod Stories
