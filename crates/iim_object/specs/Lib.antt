@@ -14,4 +14,5 @@ pub mod Told
 pub mod Cuts
 pub mod Packing
 pub mod Outputs
+pub mod PackCauses
 pub mod Writing

@@ -7,7 +7,7 @@ ghost use Rattle.iim_object.specs.Records.{SizesAreDetermined};
 ghost use Rattle.iim_object.specs.Conditions.{CausesAreTheFirst, ObjectsDieForCauses};
 ghost use Rattle.iim_object.specs.Told.{ReadersTellSizes};
 ghost use Rattle.iim_object.specs.Cuts.{ObjectsAreCutOneWay};
-ghost use Rattle.iim_object.specs.Packing.{PackedObjectsHaveSizes};
+ghost use Rattle.iim_object.specs.Packing.{PackedObjectsHaveSizes, SubfilesAreFew};
 
 /// While record 7 is read, the object layer can go on exactly where its numbers don't clash.
 pub fn numbers_live_without_clash()
@@ -85,4 +85,9 @@ pub fn objects_are_cut_one_way()
 /// Records 7, 8 and 9 that are written of an object which suits a plan have the sizes of the plan.
 pub fn packed_objects_have_sizes()
     ensures { PackedObjectsHaveSizes }
+{}
+
+/// An object that a plan has room for has at most 4,294,967,295 subfiles.
+pub fn subfiles_are_few()
+    ensures { SubfilesAreFew }
 {}

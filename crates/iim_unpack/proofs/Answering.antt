@@ -29,7 +29,8 @@ use Rattle.iim_unpack.specs.Laws.{AdmittedOctetsHaveOneValue, NoAdmittedOctetsBe
 use Rattle.iim_unpack.specs.Parts.{object_so_far, AllGoOn, IsUnfinished}
 use Rattle.iim_unpack.specs.Refusals.{refusal_at, message_on}
 use Rattle.iim_unpack.specs.Tokens.{IsRefusedHead, IsRefusedValue}
-use Rattle.iim_unpack.specs.Unpacking.{IsOpen, IsBadTagAt, IsBadHeadAt, IsBadOctetAt, IsBadValueAt, CompletesData, RefusesNext, truncated_in, OpenOctetsBeginWithNoEnvelope}
+use Rattle.iim_dataset.specs.Completing.{CompletesData}
+use Rattle.iim_unpack.specs.Unpacking.{IsOpen, IsBadTagAt, IsBadHeadAt, IsBadOctetAt, IsBadValueAt, RefusesNext, truncated_in, OpenOctetsBeginWithNoEnvelope}
 use Rattle.iim_unpack.specs.Streams.{IsEnvelopeWithin, Finished, Refused, Truncated, IsFinished, IsRefused, IsTruncated, EnvelopesAreBounded, RefusedOctetsWereOpen, NothingGoesOnFromRefusedOctets, RefusalsAreDetermined, StreamsHaveOneAnswer}
 use Rattle.iim_unpack.specs.declared.fault.Fault.{Fault}
 use Rattle.iim_unpack.specs.declared.refusal.Refusal.{Refusal}

@@ -41,13 +41,13 @@ use Rattle.iim_fields.specs.Values.{data_of}
 use Rattle.iim_unpack.specs.Steps.{cause_of_tag}
 use Rattle.iim_unpack.specs.Parts.{object_so_far, AllGoOn, Behind, StandsFor, Led, Refused, RefusesAt, IsUnfinished}
 use Rattle.iim_unpack.specs.Routing.{Takes, HasEnded}
-use Rattle.iim_unpack.specs.Unpacking.{Unpacking, Advanced, FailsAs, IsOnward, tag_fault, raised, are_some, begins, limits_in, IsTextOf, Adds, IsOpen, IsBadTagAt, RefusesNext, CompletesData, CompletesHead, CompletesOctet, CompletesEnd, CompletesNow, IsLed, Stands, IsDoneWith, IsRefusedIn, IsTruncatedAt, truncated_in, Stood, IsUnpacking}
+use Rattle.iim_dataset.specs.Completing.{CompletesData, CompletesHead, CompletesOctet, CompletesEnd, CompletesNow}
+use Rattle.iim_unpack.specs.Unpacking.{Unpacking, Advanced, FailsAs, IsOnward, tag_fault, raised, are_some, begins, limits_in, IsTextOf, Adds, IsOpen, IsBadTagAt, RefusesNext, IsLed, Stands, IsDoneWith, IsRefusedIn, IsTruncatedAt, truncated_in, Stood, IsUnpacking}
 use Rattle.iim_unpack.specs.declared.parts.Parts.{Parts}
 use Rattle.iim_unpack.specs.declared.fault.Fault.{Fault}
 use Rattle.iim_unpack.specs.declared.refusal.Refusal.{Refusal}
 use Rattle.iim_unpack.specs.declared.refusal.Cause.{Cause}
 use Rattle.iim_unpack.specs.declared.refusal.Layer.TheVariants as layers
-use Rattle.iim_unpack.proofs.OneOctet.{one_octet}
 use Rattle.iim_unpack.proofs.Objects.{are_records}
 use Rattle.iim_unpack.proofs.Carrying.{all_behind, all_within}
 use Rattle.iim_unpack.proofs.Lasts.{sections_last, last_sections, not_all}
@@ -491,7 +491,7 @@ refused_in goes failures laws u piece k fault a b e within is (inr stop) =
       s.told,
       λ p n at.
           let led = at.is_led in
-          let now = one_octet laws.one_tag laws.one_dataset (p ++ take k piece) (slice_index piece k) (led.events ++ stop.more) stop.event (stop.completes p led.events led.leads) in
+          let now = laws.octet (p ++ take k piece) (slice_index piece k) (led.events ++ stop.more) stop.event (stop.completes p led.events led.leads) in
           let told = token_refused laws (limits_in u) (p ++ take k piece) (slice_index piece k) (led.events ++ stop.more) (led.text ++ s.more) stop.event fault now
           (subst (λ (f : Fault). Refused (limits_in u) (led.events ++ stop.more) (led.text ++ s.more) stop.event f) same_fault (s.why led.events led.text led.led)) in
           record {

@@ -28,7 +28,7 @@ use Rattle.iim_unpack.proofs.Lasts.{present_last, not_all}
 use Rattle.iim_unpack.proofs.Limits.{leaves_room, within_front}
 use Rattle.iim_unpack.proofs.Living.{alive_front, message_front, story_front}
 use Rattle.iim_unpack.proofs.Objects.{records_alive}
-use Rattle.iim_unpack.proofs.OneOctet.{no_longer_stream}
+use Rattle.iim_unpack.proofs.Fronts.{no_longer_stream}
 use Rattle.iim_unpack.proofs.Places.{HeadLeads, subfile_leads, end_leads, lives_at, is_one, at_number, at_other}
 use Rattle.iim_unpack.specs.LowerLaws.{FollowLaws, ObjectLaws}
 

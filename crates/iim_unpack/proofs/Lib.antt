@@ -19,7 +19,6 @@ pub mod Carrying
 pub mod Heading
 pub mod Closing
 pub mod Routed
-pub mod OneOctet
 pub mod Opens
 pub mod Feeding
 pub mod Taken

@@ -6,6 +6,7 @@ pub mod Tokens
 pub mod Answers
 pub mod Blocks
 pub mod Layers
+pub mod Listing
 pub mod Steps
 pub mod Intakes
 pub mod Laws

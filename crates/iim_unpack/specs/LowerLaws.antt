@@ -1,5 +1,5 @@
 -- The laws of the lower crates, bundled by what rests on them.
-use Rattle.iim_dataset.specs.Laws.{NoTagBeginsAnother, NoDatasetBeginsAnother, NoOctetsGoOn, OctetsAreHandedOnOneWay, EventsTellTheDatasets}
+use Rattle.iim_dataset.specs.Laws.{NoTagBeginsAnother, NoDatasetBeginsAnother, WhatAnOctetCompletes, NoOctetsGoOn, OctetsAreHandedOnOneWay, EventsTellTheDatasets}
 use Rattle.iim_fields.specs.Laws.{EnvelopesEndWithTheLastRecord, NoSectionsBeginOthers}
 use Rattle.iim_object.specs.Behind.{TokensFollow, OthersLeadNowhere, NumbersLead, SubfilesLead, EndsLead, DatasetsLiveWithTheirTokens, DatasetsEndWithTheirTokens, RecordsAreByNumber}
 use Rattle.wire_story.specs.Laws.{TextsSoFarHaveOneReading}
@@ -15,6 +15,7 @@ pub record ObjectLaws : Type 0 where
 
 -- by which an unpacker goes on
 pub record FeedLaws : Type 0 where
+  pub octet : WhatAnOctetCompletes
   pub one_tag : NoTagBeginsAnother
   pub one_dataset : NoDatasetBeginsAnother
   pub way : OctetsAreHandedOnOneWay

@@ -8,7 +8,7 @@ ghost use Rattle.iim_unpack.specs.Unpacking.{OpenOctetsBeginWithNoEnvelope};
 
 use iim_dataset::{
     events_tell_the_datasets, no_dataset_begins_another, no_octets_go_on, no_tag_begins_another,
-    octets_are_handed_on_one_way,
+    octets_are_handed_on_one_way, what_an_octet_completes,
 };
 use iim_fields::{envelopes_end_with_the_last_record, no_sections_begin_others};
 use iim_object::{
@@ -22,6 +22,7 @@ use wire_story::{texts_have_one_reading, texts_so_far_have_one_reading};
 pub(crate) fn feed_laws()
     ensures { FeedLaws }
 {
+    what_an_octet_completes();
     no_tag_begins_another();
     no_dataset_begins_another();
     octets_are_handed_on_one_way();

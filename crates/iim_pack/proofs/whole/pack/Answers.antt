@@ -20,7 +20,7 @@ put_lines-requires-clause-fits g c =
 pub returns-in-Err-put_lines-clause-fault : goal.returns-in-Err-put_lines-clause-fault
 returns-in-Err-put_lines-clause-fault g c =
     if_none (pack_cause c.args.head.now c.args.lines.now.lines c.args.trailer.now c.args.plan) _
-    (inr (lines_broke g.W.Target.state c.args.writer c.args.envelope.now c.args.head.now c.args.lines.now.lines c.args.trailer.now c.args.plan c.in-Ok.packer c.put_lines.new.packer c.given_back.result
+    (inr (lines_broke g.W.Target.state c.args.writer c.args.envelope.now c.args.head.now c.args.lines.now.lines c.args.trailer.now c.args.plan c.in-Ok.packer c.put_lines.new.packer c.given_back.result c.texts_join.ensures
     c.in-Ok.ensures.ok c.in-Err-put_lines.ensures.broke (c.given_back.ensures.cause ∙ c.in-Err-put_lines.ensures.cause) c.given_back.ensures.writer c.given_back.ensures.written))
 
 pub returns-in-Ok-finish-clause-ok : goal.returns-in-Ok-finish-clause-ok

@@ -2,6 +2,7 @@ use Rattle.iim_unpack.proofs.laws.feed_laws.Goals as goal
 
 pub returns : goal.returns
 returns c = record {
+  octet = c.what_an_octet_completes.ensures;
   one_tag = c.no_tag_begins_another.ensures;
   one_dataset = c.no_dataset_begins_another.ensures;
   way = c.octets_are_handed_on_one_way.ensures;

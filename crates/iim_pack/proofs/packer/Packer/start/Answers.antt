@@ -31,7 +31,7 @@ returns-in-Err-open_object-clause-fault g c =
     let halts = subst (λ (t : List ℕ). Halts state (BeginsWith c.args.plan t) c.put_fields.new.writer fault) front planned in
     if_none (start_cause c.args.head.now c.args.plan) _
     (inr (object_broke state c.args.writer c.put_fields.new.writer c.args.envelope.now c.args.head.now c.args.plan c.in-Ok-put_fields.before fault
-    (record { cause = fault.cause; writer = fault.writer; written = c.in-Ok-put_fields.before + fault.written }) c.in-Ok-put_fields.ensures.ok c.in-Ok-put_fields.ensures.all halts refl refl refl))
+    (record { cause = fault.cause; writer = fault.writer; written = c.in-Ok-put_fields.before + fault.written }) c.texts_join.ensures c.in-Ok-put_fields.ensures.ok c.in-Ok-put_fields.ensures.all halts refl refl refl))
 
 pub returns-in-Ok-open_object-clause-begun : goal.returns-in-Ok-open_object-clause-begun
 returns-in-Ok-open_object-clause-begun g c =
