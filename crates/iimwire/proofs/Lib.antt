@@ -4,3 +4,4 @@ pub mod Told
 pub mod Packed
 pub mod RoundTrip
 pub mod Given
+pub mod Stories

@@ -9,3 +9,4 @@ pub mod Starts
 pub mod Served
 pub mod Laws
 pub mod RoundTrip
+pub mod Stories

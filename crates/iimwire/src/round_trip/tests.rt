@@ -1,6 +1,6 @@
 //! Envelopes packed, cut anywhere, and unpacked again. What is expected is worked out from the format.
 
-use super::unpack_packed;
+use super::{unpack_packed, unpack_story};
 use iim_dataset::FromWrite;
 use iim_fields::Limits;
 use iim_object::{Plan, Size};
@@ -10,7 +10,7 @@ use std::alloc::Global;
 use std::process::Abort;
 use std::test::Fail;
 use wire_message::MessageHead;
-use wire_story::Lines;
+use wire_story::{Lines, StorySink};
 
 /// Those of the program.
 const LIMITS: Limits = Limits {
@@ -180,4 +180,20 @@ fn a_packed_front_alone_is_truncated(rt: HostRuntime) {
             }
         }
     }
+}
+
+#[test]
+fn a_story_comes_back_before_others(rt: HostRuntime) {
+    let alloc = rt.alloc();
+    let (front, back) = STORY.split_at(200);
+    let Ok(story) = unpack_story(alloc, LIMITS, &[front, b"", back, SMALLEST]) else {
+        panic!(rt; "no story");
+    };
+    assert_eq!(rt; story.used, 246);
+    assert_eq!(rt; story.unpacked.envelope.service(), b"TST".as_slice());
+    let mut lines = Lines::new(alloc);
+    assert!(rt; lines.text(b"Rates stay.").is_ok());
+    assert!(rt; lines.line_end().is_ok());
+    assert!(rt; lines.text(b"No change.").is_ok());
+    assert!(rt; story.lines.iter().eq(lines.iter()));
 }
