@@ -326,13 +326,14 @@ fn sizes(rt: HostRuntime) -> Result<(), Fail> {
     expect(&rt, alloc, &[&octets[..245], b"\x31"], want)
 }
 
+/// The line of a first subfile, and that of a second one.
+const FIRST: [u8; 48] = [b'a'; 48];
+
+const SECOND: [u8; 37] = [b'a'; 37];
+
 #[test]
 fn subfiles(rt: HostRuntime) -> Result<(), Fail> {
     let alloc = rt.alloc();
-    let begun: &[u8] = b"\x64\x1c\x08\x0a\x00\x3c\x01X1 4 N 0\r\n\x02";
-    let first: &[u8] = b"aaaaaaaaaaaaaaaaaaaaaaaaaaaaaaaaaaaaaaaaaaaaaaaa";
-    let rest: &[u8] = b"aaaaaaaaaaaaaaaaaaaaaaaaaaaaaaaaaaaaa";
-    let front = joined(alloc, &[&SMALLEST[..85], begun, first])?;
     let past = refused(
         Layer::Object,
         (8, 10),
@@ -340,8 +341,6 @@ fn subfiles(rt: HostRuntime) -> Result<(), Fail> {
         Cause::PastSize,
         b"aaaaaaaaaaaaaaaaaaaaaaaaaaaaaaaaaaaaaaaaaaaaaaaa\n",
     );
-    let head: &[u8] = b"\x1c\x08\x0a\x00\x29";
-    expect(&rt, alloc, &[front.as_slice(), head], past)?;
     let short = refused(
         Layer::Object,
         (9, 10),
@@ -349,9 +348,33 @@ fn subfiles(rt: HostRuntime) -> Result<(), Fail> {
         Cause::Short,
         b"aaaaaaaaaaaaaaaaaaaaaaaaaaaaaaaaaaaaaaaaaaaaaaaaaaaaaaaaaaaaaaaaaaaaaaaaaaaaaaaaaaaaa\n",
     );
-    let second: &[u8] = b"\x1c\x08\x0a\x00\x27";
-    let end: &[u8] = b"\x03\x04\x1c\x09\x0a\x00\x04\x00\x00\x00\x63";
-    expect(&rt, alloc, &[front.as_slice(), second, rest, end], short)?;
+    let rows: [([&[u8]; 6], Answer); 2] = [
+        (
+            [
+                &SMALLEST[..85],
+                b"\x64\x1c\x08\x0a\x00\x3c\x01X1 4 N 0\r\n\x02",
+                &FIRST,
+                b"\x1c\x08\x0a\x00\x29",
+                b"",
+                b"",
+            ],
+            past,
+        ),
+        (
+            [
+                &SMALLEST[..85],
+                b"\x64\x1c\x08\x0a\x00\x3c\x01X1 4 N 0\r\n\x02",
+                &FIRST,
+                b"\x1c\x08\x0a\x00\x27",
+                &SECOND,
+                b"\x03\x04\x1c\x09\x0a\x00\x04\x00\x00\x00\x63",
+            ],
+            short,
+        ),
+    ];
+    for (pieces, want) in rows {
+        expect(&rt, alloc, &pieces, want)?;
+    }
     Ok(())
 }
 
@@ -375,40 +398,49 @@ fn texts(rt: HostRuntime) -> Result<(), Fail> {
     Ok(())
 }
 
+/// As many CR as a gap may have besides one LF.
+const RETURNS: [u8; 31] = [b'\r'; 31];
+
+/// One octet of filler more than may stand there.
+const FILLER: [u8; 33] = [b'\n'; 33];
+
 #[test]
 fn messages(rt: HostRuntime) -> Result<(), Fail> {
     let alloc = rt.alloc();
     let bad = |names, octet, cause| refused(Layer::Message, names, octet, cause, b"\n");
     let head: &[u8] = b"\x01X1 4 N 0";
-    let end: &[u8] = b"\x02\x03\x04";
-    let returns = vec![in alloc; b'\r'; 31]?;
-    let gap = sized(alloc, 44, &[head, returns.as_slice(), b"\n", end])?;
-    expect(&rt, alloc, &[gap.as_slice()], (Ok(144), b"\n"))?;
-    let gap = sized(alloc, 44, &[head, returns.as_slice(), b"\r", end])?;
-    expect(
-        &rt,
-        alloc,
-        &[gap.as_slice()],
-        bad((8, 10), 131, Cause::BadOctet),
-    )?;
-    let open = sized(alloc, 13, &[head, b"\r\n\x02\x03"])?;
-    expect(
-        &rt,
-        alloc,
-        &[open.as_slice()],
-        bad((9, 10), 108, Cause::Unfinished),
-    )?;
-    let filler = vec![in alloc; b'\n'; 33]?;
-    assert_eq!(rt; filler.len(), 33);
-    let full = sized(alloc, 46, &[head, b"\r\n", end, &filler[..32]])?;
-    expect(&rt, alloc, &[full.as_slice()], (Ok(146), b"\n"))?;
-    let past = sized(alloc, 47, &[head, b"\r\n", end, &filler[..33]])?;
-    expect(
-        &rt,
-        alloc,
-        &[past.as_slice()],
-        bad((8, 10), 137, Cause::BadOctet),
-    )
+    let rows: [(u8, [&[u8]; 4], Answer); 5] = [
+        (
+            44,
+            [head, &RETURNS, b"\n", b"\x02\x03\x04"],
+            (Ok(144), b"\n"),
+        ),
+        (
+            44,
+            [head, &RETURNS, b"\r", b"\x02\x03\x04"],
+            bad((8, 10), 131, Cause::BadOctet),
+        ),
+        (
+            13,
+            [head, b"\r\n", b"\x02\x03", b""],
+            bad((9, 10), 108, Cause::Unfinished),
+        ),
+        (
+            46,
+            [head, b"\r\n", b"\x02\x03\x04", &FILLER[..32]],
+            (Ok(146), b"\n"),
+        ),
+        (
+            47,
+            [head, b"\r\n", b"\x02\x03\x04", &FILLER],
+            bad((8, 10), 137, Cause::BadOctet),
+        ),
+    ];
+    for (size, object, want) in rows {
+        let octets = sized(alloc, size, &object)?;
+        expect(&rt, alloc, &[octets.as_slice()], want)?;
+    }
+    Ok(())
 }
 
 #[test]
