@@ -1,4 +1,6 @@
-pub mod Listings
+pub mod Runs
+pub mod Taken
+pub mod Reports
 pub mod Requests
 pub mod Told
 pub mod Packed

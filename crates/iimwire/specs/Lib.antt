@@ -1,7 +1,9 @@
 pub mod Listings
 pub mod Lines
 pub mod Shown
-pub mod Inputs
+pub mod Coming
+pub mod Devices
+pub mod Reports
 pub mod Outcomes
 pub mod Faults
 pub mod Requests

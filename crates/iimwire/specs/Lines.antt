@@ -3,7 +3,7 @@ use Rattle.std.specs.Prelude.{ℕ, ◌+◌, length, if◌then◌else◌, nat_lt,
 use Rattle.iim_unpack.specs.Names.{layer_name, cause_number, cause_name}
 use Rattle.iim_unpack.specs.declared.refusal.Cause.{Cause}
 use Rattle.iim_unpack.specs.declared.refusal.Refusal.{Refusal}
-use Rattle.iimwire.specs.Listings.{Ending, Whole, RefusedBy, TooMany}
+use Rattle.iimwire.specs.Listings.{Ending, Envelope, Whole, RefusedBy, TooMany, told}
 
 -- a 0 before a number of one digit
 abbrev pub padding : ℕ → List ℕ
@@ -16,6 +16,10 @@ dataset_name rec set = decimal rec ++ (codes ":" ++ (padding set ++ decimal set)
 -- the line of an accepted envelope: its number, and how many octets it has
 abbrev pub accepted_line : ℕ → ℕ → List ℕ
 accepted_line number used = decimal number ++ (codes " accepted " ++ (decimal used ++ codes " octets\n"))
+
+-- the line of an envelope with this number
+abbrev pub line_of : ℕ → Envelope → List ℕ
+line_of number e = accepted_line number (told (length e.octets))
 
 -- a cause's number and name
 abbrev pub cause_text : Cause → List ℕ
@@ -31,20 +35,20 @@ refused_line number e =
 abbrev pub too_many_line : List ℕ
 too_many_line = codes "too many envelopes\n"
 
--- a line for each envelope, in their order, numbered from n
-abbrev pub lines_from : ℕ → List (List ℕ) → List ℕ
-lines_from n [] = []
-lines_from n (f ∷ fs) = accepted_line n (length f) ++ lines_from (n + 1) fs
+-- what is written of each envelope, in their order, numbered from n
+abbrev pub texts_from : (ℕ → Envelope → List ℕ) → ℕ → List Envelope → List ℕ
+texts_from text n [] = []
+texts_from text n (e ∷ es) = text n e ++ texts_from text (n + 1) es
 
--- the last line, behind so many envelopes
+-- the last line, after so many envelopes
 abbrev pub ending_line : ℕ → Ending → List ℕ
 ending_line count Whole = []
 ending_line count (RefusedBy refusal) = refused_line (count + 1) refusal
 ending_line count TooMany = too_many_line
 
--- what is printed of a listing
-abbrev pub report : List (List ℕ) → Ending → List ℕ
-report envelopes ending = lines_from 1 envelopes ++ ending_line (length envelopes) ending
+-- what is written of a listing
+abbrev pub report : (ℕ → Envelope → List ℕ) → List Envelope → Ending → List ℕ
+report text envelopes ending = texts_from text 1 envelopes ++ ending_line (length envelopes) ending
 
 -- the status of a listing: 0 where the whole input is accepted, else 1
 abbrev pub status_of : Ending → ℕ

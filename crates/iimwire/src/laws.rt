@@ -1,22 +1,12 @@
 //! What holds of all inputs, and of packing and unpacking together.
 
-ghost use Rattle.iimwire.specs.Listings.{InputsHaveOneListing};
 ghost use Rattle.iimwire.specs.Laws.{PackedOctetsAreAdmitted, PackedEnvelopesAreFound};
 ghost use Rattle.iimwire.specs.RoundTrip.{PackedOctetsAreWithin, PackedStreamsHaveTheirAnswer};
 
 use iim_pack::{packed_octets_carry_the_value, packed_subfiles_are_few};
 use iim_unpack::{
-    admitted_octets_have_one_value, no_admitted_octets_begin_others, no_envelope_begins_another,
-    no_envelope_is_empty, streams_have_one_answer,
+    admitted_octets_have_one_value, no_admitted_octets_begin_others, streams_have_one_answer,
 };
-
-/// An input has one list of envelopes, and one rest behind it.
-pub fn inputs_have_one_listing()
-    ensures { InputsHaveOneListing }
-{
-    no_envelope_begins_another();
-    no_envelope_is_empty();
-}
 
 /// What is packed is admitted, with the value that was packed and the sizes of the plan.
 pub fn packed_octets_are_admitted()

@@ -1,13 +1,15 @@
 //! The command `iimwire`: checks files of envelopes.
 //!
-//! Stands on `iim_dataset`, `iim_fields`, `iim_unpack` and `clap`, and on the other crates for the laws of packing alone.
+//! Stands on `iim_dataset`, `iim_fields`, `iim_unpack`, `wire_story` and `clap`, and on the other crates for laws alone.
 //! [`serve::serve`] does the work, over any source and targets of octets; what is here gives it the words, files and streams
 //! of a process.
 #![tactic(auto)]
 
+mod check;
+mod coming;
 mod fault;
-mod input;
 mod laws;
+mod list;
 mod report;
 mod request;
 mod round_trip;

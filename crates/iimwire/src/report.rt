@@ -1,13 +1,31 @@
 //! The lines of `check`.
 
-ghost use Rattle.std.specs.Prelude.{◌≡◌, IfOk, Some, string_bytes};
+ghost use Rattle.std.specs.Prelude.{◌≡◌, IfOk, IfErr, OnOk, Some, string_bytes};
+ghost use Rattle.iim_dataset.specs.Devices.{Wrote};
 ghost use Rattle.iim_unpack.specs.Names.{layer_name};
+ghost use Rattle.iimwire.specs.Reports.{IsUnsaid};
 ghost use Rattle.iimwire.specs.Lines.{accepted_line, refused_line, cause_text, dataset_name, padding};
 
+use crate::fault::Fault;
+use iim_dataset::{Target, put};
 use iim_unpack::{Cause, Layer, Refusal};
 use std::alloc::{AllocError, Global};
 use std::fmt;
 use std::fmt::{Display, Formatter};
+
+/// The line in place of that of one envelope too many.
+pub const TOO_MANY: &str = "too many envelopes\n";
+
+/// Writes a text.
+pub fn say<W: Target>(output: &mut W, text: &[u8]) -> Result<(), Fault>
+    ensures ok { OnOk result (Wrote (W.state output.old) (W.state output.new) text.now) }
+    ensures err { IfErr result (IsUnsaid (W.state output.old) (W.state output.new) text.now) }
+{
+    match put(output, text) {
+        Ok(()) => Ok(()),
+        Err(_) => Err(Fault::CannotWrite),
+    }
+}
 
 /// What stands before a number of one digit.
 fn padding(number: u8) -> &'static str
@@ -18,9 +36,9 @@ fn padding(number: u8) -> &'static str
 
 /// A dataset's name, as `1:00` or `2:105`.
 #[derive(Clone, Copy)]
-struct DatasetName {
-    rec: u8,
-    set: u8,
+pub struct DatasetName {
+    pub rec: u8,
+    pub set: u8,
 }
 
 impl Display for DatasetName {

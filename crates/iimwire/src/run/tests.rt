@@ -1,10 +1,12 @@
 //! `check` on envelopes, on what breaks them, and on devices that break.
 
-use super::{list, run};
+use super::run;
 use crate::request::{Job, Request};
 use crate::status::{ACCEPTED, FAILED, REFUSED};
 use iim_dataset::{FromRead, FromWrite, TrialReader, TrialWriter, Trouble};
 use std::alloc::{AllocError, Global};
+use std::io;
+use std::io::Read;
 use std::process::Abort;
 use std::test::Fail;
 
@@ -48,12 +50,6 @@ static STORY: [&[u8]; 21] = [
     b"\x1c\x08\x0a\x00\x32\x01TST0007 4 ECO 5 rates\r\n\x02Rates stay.\r\nNo change.\x03\x04",
     b"\x1c\x09\x0a\x00\x04\x00\x00\x00\x32",
 ];
-
-/// The mandatory datasets, each with the least octets: no service, one subfile of nothing, and sizes of one octet.
-const LEAST: &[u8] =
-    b"\x1c\x01\x00\x00\x02\x00\x04\x1c\x01\x14\x00\x02\x00\x02\x1c\x01\x16\x00\x02\x00\x01\
-\x1c\x01\x1e\x00\x00\x1c\x01\x28\x00\x0800000001\x1c\x01\x46\x00\x0820240301\x1c\x02\x00\x00\x02\x00\x04\
-\x1c\x07\x0a\x00\x01\x00\x1c\x07\x14\x00\x01\x01\x1c\x08\x0a\x00\x00\x1c\x09\x0a\x00\x01\x00";
 
 /// A dataset of the smallest envelope by its place, another in its place, and the line for that.
 static BROKEN: [(usize, &[u8], &str); 10] = [
@@ -195,17 +191,25 @@ fn tells_the_first_refusal(rt: HostRuntime) -> Result<(), Fail> {
 
 #[test]
 fn tells_a_reader_that_fails(rt: HostRuntime) -> Result<(), Fail> {
-    let octets = joined(rt.alloc(), SMALLEST.as_slice())?;
-    for good in 0..116 {
+    let mut octets = joined(rt.alloc(), SMALLEST.as_slice())?;
+    add(&mut octets, SMALLEST.as_slice())?;
+    for good in 0..230 {
         let source = TrialReader::new(octets.as_slice(), good, Trouble::Failure);
         let (status, output, errors) = run(rt.alloc(), CHECK, source, writer(), writer());
-        if good < 115 {
+        let lines = if good < 114 {
+            ""
+        } else if good < 228 {
+            FIRST_LINE
+        } else {
+            "1 accepted 114 octets\n2 accepted 114 octets\n"
+        };
+        assert_eq!(rt; output.octets(), lines.as_bytes(), "at {good}");
+        if good < 229 {
             assert_eq!(rt; status, FAILED, "at {good}");
-            assert!(rt; output.octets().is_empty(), "at {good}");
             assert_eq!(rt; errors.octets(), b"cannot read\n".as_slice(), "at {good}");
         } else {
             assert_eq!(rt; status, ACCEPTED, "at {good}");
-            assert_eq!(rt; output.octets(), FIRST_LINE.as_bytes(), "at {good}");
+            assert!(rt; errors.octets().is_empty(), "at {good}");
         }
     }
     Ok(())
@@ -279,29 +283,6 @@ fn keeps_the_status_where_it_can_t_complain(rt: HostRuntime) {
     assert_eq!(rt; errors.octets(), b"canno".as_slice());
 }
 
-#[test]
-fn reads_sixteen_mebioctets_and_no_more(rt: HostRuntime) -> Result<(), Fail> {
-    let octets = vec![in rt.alloc(); 0u8; 16_777_217]?;
-    let marker = "1 refused at octet 0 by layer dataset on 0:00, cause 1 Marker\n";
-    for (many, want, line, told) in [
-        (16_777_216, REFUSED, marker, ""),
-        (16_777_217, FAILED, "", "cannot read\n"),
-    ] {
-        let front = octets.as_slice().get(..many).ok_or("so many octets")?;
-        let (status, output, errors) = run(
-            rt.alloc(),
-            CHECK,
-            FromRead::new(front),
-            writer(),
-            writer(),
-        );
-        assert_eq!(rt; status, want, "at {many}");
-        assert_eq!(rt; output.octets(), line.as_bytes(), "at {many}");
-        assert_eq!(rt; errors.octets(), told.as_bytes(), "at {many}");
-    }
-    Ok(())
-}
-
 /// Behind the first seven datasets, so many of 2:200 with so many octets.
 fn with_fields(
     alloc: Global,
@@ -359,26 +340,51 @@ fn keeps_so_much_of_records_one_and_two(rt: HostRuntime) -> Result<(), Fail> {
     Ok(())
 }
 
+/// The smallest envelope, so many times.
+#[derive(Drop)]
+struct Repeated<'a> {
+    octets: &'a [u8],
+    at: usize,
+    left: u32,
+}
+
+impl Read for Repeated<'_> {
+    fn read(&mut self, buffer: &mut [u8]) -> io::Result<usize> {
+        if self.left == 0 || self.at >= self.octets.len() {
+            return Ok(0);
+        }
+        let rest = &self.octets[self.at..];
+        let count = rest.len().min(buffer.len());
+        buffer[..count].copy_from_slice(&rest[..count]);
+        self.at += count;
+        if self.at == self.octets.len() {
+            self.at = 0;
+            self.left -= 1;
+        }
+        Ok(count)
+    }
+}
+
 #[test]
 fn lists_a_million_envelopes_and_no_more(rt: HostRuntime) -> Result<(), Fail> {
     let alloc = rt.alloc();
-    let mut octets = Vec::with_capacity(alloc, 82_000_082)?;
-    for _ in 0..1_000_001 {
-        octets.extend_from_slice(LEAST)?;
-    }
-    let last = "\n1000000 accepted 82 octets\n";
-    let too_many = "\n1000000 accepted 82 octets\ntoo many envelopes\n";
-    for (many, want, ending) in [
-        (82_000_000, ACCEPTED, last),
-        (82_000_082, REFUSED, too_many),
-    ] {
-        let front = octets.as_slice().get(..many).ok_or("so many octets")?;
-        let mut output = FromWrite::new(Vec::new(alloc));
-        assert_eq!(rt; list(alloc, front, &mut output), Ok(want), "at {many}");
+    let octets = joined(alloc, SMALLEST.as_slice())?;
+    let last = "\n1000000 accepted 114 octets\n";
+    let too_many = "\n1000000 accepted 114 octets\ntoo many envelopes\n";
+    for (left, want, ending) in [(1_000_000, ACCEPTED, last), (1_000_001, REFUSED, too_many)] {
+        let source = FromRead::new(Repeated {
+            octets: octets.as_slice(),
+            at: 0,
+            left,
+        });
+        let output = FromWrite::new(Vec::new(alloc));
+        let (status, output, errors) = run(alloc, CHECK, source, output, writer());
+        assert_eq!(rt; status, want, "at {left}");
         assert!(rt;
             output.into_inner().as_slice().ends_with(ending.as_bytes()),
-            "at {many}"
+            "at {left}"
         );
+        assert!(rt; errors.octets().is_empty(), "at {left}");
     }
     Ok(())
 }

@@ -1,0 +1,59 @@
+//! What comes next of an input.
+
+ghost use Rattle.std.specs.Prelude.{◌≡◌, None};
+ghost use Rattle.iim_unpack.specs.Intakes.{line};
+ghost use Rattle.iimwire.specs.Coming.{IsNext, IsCalm, CanGoOn};
+
+use crate::fault::Fault;
+use iim_dataset::Source;
+use iim_fields::Limits;
+use iim_unpack::{Cause, Intake, IntakeFault, Refusal, Unpacked, Unpacker};
+use std::alloc::Global;
+use wire_story::StorySink;
+
+/// The most envelopes that one run lists.
+pub const MAX_ENVELOPES: u64 = 1_000_000;
+
+/// What the records 1 and 2 of an envelope may have.
+const LIMITS: Limits = Limits {
+    octets: 65_536,
+    fields: 512,
+};
+
+/// What an input has next.
+#[derive(Drop)]
+pub enum Next {
+    /// An envelope, and how many octets it has.
+    Envelope(Unpacked, u64),
+    /// Nothing.
+    End,
+    /// Octets that are refused.
+    Refused(Refusal),
+}
+
+/// Takes what comes next, and tells the sink the text of it.
+pub fn take_next<R: Source, S: StorySink>(
+    alloc: Global,
+    intake: &mut Intake<R>,
+    sink: &mut S,
+) -> Result<Next, Fault>
+    requires { intake.old.failed ≡ None }
+    ensures next { IsNext S.goes S.failures (line R.state intake.old) (line R.state intake.new) sink.old sink.new result }
+    ensures calm { IsCalm (S.failures sink.old) (S.failures sink.new) result }
+    ensures lives { CanGoOn intake.new.failed result }
+    ensures leads { R.leads intake.old.reader intake.new.reader }
+{
+    let unpacker = Unpacker::new(alloc, LIMITS)?;
+    match intake.next_envelope(unpacker, sink) {
+        Ok(Some(got)) => Ok(Next::Envelope(got, intake.octets())),
+        Ok(None) => Ok(Next::End),
+        Err(IntakeFault::Refused(refusal)) => {
+            if refusal.cause == Cause::Sink {
+                return Err(Fault::CannotWrite);
+            }
+            Ok(Next::Refused(refusal))
+        }
+        Err(IntakeFault::Read) => Err(Fault::CannotRead),
+        Err(IntakeFault::Interrupted) => Err(Fault::CannotRead),
+    }
+}
