@@ -3,10 +3,8 @@
 use super::run;
 use crate::request::{Job, Request};
 use crate::status::{ACCEPTED, FAILED, REFUSED};
-use iim_dataset::{FromRead, FromWrite, TrialReader, TrialWriter, Trouble};
+use iim_dataset::{FromWrite, TrialReader, TrialWriter, Trouble};
 use std::alloc::{AllocError, Global};
-use std::io;
-use std::io::Read;
 use std::process::Abort;
 use std::test::Fail;
 
@@ -336,55 +334,6 @@ fn keeps_so_much_of_records_one_and_two(rt: HostRuntime) -> Result<(), Fail> {
             line.as_bytes(),
             "at {fields}"
         );
-    }
-    Ok(())
-}
-
-/// The smallest envelope, so many times.
-#[derive(Drop)]
-struct Repeated<'a> {
-    octets: &'a [u8],
-    at: usize,
-    left: u32,
-}
-
-impl Read for Repeated<'_> {
-    fn read(&mut self, buffer: &mut [u8]) -> io::Result<usize> {
-        if self.left == 0 || self.at >= self.octets.len() {
-            return Ok(0);
-        }
-        let rest = &self.octets[self.at..];
-        let count = rest.len().min(buffer.len());
-        buffer[..count].copy_from_slice(&rest[..count]);
-        self.at += count;
-        if self.at == self.octets.len() {
-            self.at = 0;
-            self.left -= 1;
-        }
-        Ok(count)
-    }
-}
-
-#[test]
-fn lists_a_million_envelopes_and_no_more(rt: HostRuntime) -> Result<(), Fail> {
-    let alloc = rt.alloc();
-    let octets = joined(alloc, SMALLEST.as_slice())?;
-    let last = "\n1000000 accepted 114 octets\n";
-    let too_many = "\n1000000 accepted 114 octets\ntoo many envelopes\n";
-    for (left, want, ending) in [(1_000_000, ACCEPTED, last), (1_000_001, REFUSED, too_many)] {
-        let source = FromRead::new(Repeated {
-            octets: octets.as_slice(),
-            at: 0,
-            left,
-        });
-        let output = FromWrite::new(Vec::new(alloc));
-        let (status, output, errors) = run(alloc, CHECK, source, output, writer());
-        assert_eq!(rt; status, want, "at {left}");
-        assert!(rt;
-            output.into_inner().as_slice().ends_with(ending.as_bytes()),
-            "at {left}"
-        );
-        assert!(rt; errors.octets().is_empty(), "at {left}");
     }
     Ok(())
 }
