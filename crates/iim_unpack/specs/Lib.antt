@@ -16,4 +16,7 @@ pub mod Parts
 pub mod Going
 pub mod Routing
 pub mod Unpacking
+pub mod LowerLaws
+pub mod Streams
 pub mod Value
+pub mod Pieces

@@ -1,11 +1,11 @@
 -- The words of lines.
 use Rattle.std.proofs.Common.{◌≡◌, ℕ, ◌+◌, ◌<◌, ◌&&◌, cond, Bool, true, false, not, List, [], ◌∷◌, ◌++◌, length, map, inl, inr, refl, sym, ap, subst, ◌∙◌, arith, append-nil}
-use Rattle.std.proofs.lemmas.Bool.{cases_Bool}
+use Rattle.std.proofs.lemmas.Bool.{cases_Bool, both_ways}
 use Rattle.std.proofs.lemmas.List.Sums.{sum_by-cons}
 use Rattle.wire_story.specs.Delivery.{Event, LineOctet, LineEnd, delivered, events_of_lines}
 use Rattle.wire_story.specs.Words.{is_word_octet, words_begun, words_of, words, EndsWord, HasWords, capped, words_told}
 use Rattle.wire_story.specs.WordLaws.{WordsAreCounted, WordsAreLongestRuns, TextsAreCountedAsLines}
-use Rattle.wire_story.proofs.Spans.{Are, Are-head, Are-tail, Are-cons}
+use Rattle.wire_story.proofs.Spans.{Are, Are-head, Are-tail, Are-cons, span, no_stop}
 use Rattle.wire_story.proofs.Told.{delivered_lines}
 
 abbrev is_blank : ℕ → Bool
@@ -111,9 +111,48 @@ some_words line =
     let all = with_word [] s.word s.rest s.found refl s.is_word s.ends s.has s.has in
     (all.0, subst (λ (u : List ℕ). HasWords u all.0) (sym s.parts) all.1)
 
+-- ---- in one way
+
+-- a word is determined, and what follows it
+same_word : (v w x y : List ℕ) → Are is_word_octet v → Are is_word_octet w → EndsWord x → EndsWord y → v ++ x ≡ w ++ y → (v ≡ w) × (x ≡ y)
+same_word [] [] x y iv iw ex ey e = (refl, e)
+same_word [] (b ∷ w) [] y iv iw ex ey e = absurd cc
+same_word [] (b ∷ w) (c ∷ x) y iv iw ex ey e =
+    let same : c ≡ b = cc in
+    absurd (both_ways (is_word_octet c) ex (ap is_word_octet same ∙ Are-head is_word_octet b w iw))
+same_word (b ∷ v) [] x [] iv iw ex ey e = absurd cc
+same_word (b ∷ v) [] x (c ∷ y) iv iw ex ey e =
+    let same : c ≡ b = cc in
+    absurd (both_ways (is_word_octet c) ey (ap is_word_octet same ∙ Are-head is_word_octet b v iv))
+same_word (b ∷ v) (c ∷ w) x y iv iw ex ey e =
+    let first : b ≡ c = cc in
+    let rest : v ++ x ≡ w ++ y = cc in
+    let more = same_word v w x y (Are-tail is_word_octet b v iv) (Are-tail is_word_octet c w iw) ex ey rest in
+    let others : v ≡ w = more.0 in
+    (cc, more.1)
+
+-- a word's first octet is no blank
+word_is : (b : ℕ) (ws : List ℕ) → Are is_word_octet (b ∷ ws) → is_blank b ≡ false
+word_is b ws h = ap not (Are-head is_word_octet b ws h)
+
+one_way : (line : List ℕ) (found others : List (List ℕ)) → HasWords line found → HasWords line others → found ≡ others
+one_way line [] [] h k = refl
+one_way line [] ([] ∷ others) h k = absurd (omega (arith, k.2.0))
+one_way line [] ((b ∷ ws) ∷ others) h k = absurd (no_stop is_blank k.0 b (ws ++ k.3) (subst (Are is_blank) k.4 h) (word_is b ws k.2.1))
+one_way line ([] ∷ found) others h k = absurd (omega (arith, h.2.0))
+one_way line ((b ∷ ws) ∷ found) [] h k = absurd (no_stop is_blank h.0 b (ws ++ h.3) (subst (Are is_blank) h.4 k) (word_is b ws h.2.1))
+one_way line ((b ∷ ws) ∷ found) ([] ∷ others) h k = absurd (omega (arith, k.2.0))
+one_way line ((b ∷ ws) ∷ found) ((c ∷ vs) ∷ others) h k =
+    let s = span is_blank h.0 k.0 b c (ws ++ h.3) (vs ++ k.3) h.1 k.1 (word_is b ws h.2.1) (word_is c vs k.2.1) (sym h.4 ∙ k.4) in
+    let w = same_word (b ∷ ws) (c ∷ vs) h.3 k.3 h.2.1 k.2.1 h.5 k.5 s.1 in
+    let first : ◌≡◌ {A = List ℕ} (b ∷ ws) (c ∷ vs) = w.0 in
+    let more : found ≡ others = one_way h.3 found others h.6 (subst (λ (u : List ℕ). HasWords u others) (sym w.1) k.6) in
+    cc
+
 pub longest_runs : WordsAreLongestRuns
 longest_runs line = record {
   some = some_words line;
+  one = λ found others has have. one_way line found others has have;
   count = λ found has. count_is line found has;
 }
 

@@ -11,3 +11,4 @@ pub mod WritingLaws
 pub mod Marking
 pub mod Words
 pub mod WordLaws
+pub mod Trials

@@ -7,6 +7,7 @@ use Rattle.wire_story.specs.Words.{words_of, words, is_word_octet, begun_with, H
 -- A line has words in one way: there are such words, and no others, and the count is theirs.
 pub record WordsAreCounted (line : List ℕ) : Type 0 where
   pub some : (found : List (List ℕ)) × HasWords line found
+  pub one : (found others : List (List ℕ)) → HasWords line found → HasWords line others → found ≡ others
   pub count : (found : List (List ℕ)) → HasWords line found → words_of line ≡ length found
 
 abbrev pub WordsAreLongestRuns : Type 0

@@ -17,6 +17,7 @@ mod size;
 mod step;
 #[cfg(test)]
 mod tests;
+mod trial;
 mod word_count;
 mod writer;
 
@@ -36,5 +37,6 @@ pub use lines::Lines;
 pub use reader::TextReader;
 pub use sink::StorySink;
 pub use size::text_len;
+pub use trial::TrialSink;
 pub use word_count::WordCount;
 pub use writer::LineWriter;
