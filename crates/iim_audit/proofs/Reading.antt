@@ -8,7 +8,8 @@ use Rattle.iim_dataset.specs.declared.device.IoFault.{IoFault}
 use Rattle.iim_dataset.specs.declared.device.IoFault.TheVariants as io
 use Rattle.iim_fields.specs.declared.limits.Limits.{Limits}
 use Rattle.iim_unpack.specs.Admitted.{Value}
-use Rattle.iim_unpack.specs.Listing.{Listed, IsListed, Divides, values_of, max_envelopes}
+use Rattle.iim_unpack.specs.Listing.{Listed, Divides, values_of, max_envelopes}
+use Rattle.iim_unpack.specs.Streams.{IsEnvelopeWithin}
 use Rattle.iim_audit.specs.Auditing.{HasCome, IsAudited, FailsAt}
 use Rattle.iim_audit.specs.Ledgers.{Keeps}
 use Rattle.iim_audit.specs.Taking.{IsTaken, Took, TookOne, TookNone}
@@ -23,7 +24,7 @@ divides-more limits input more [] e = ap (λ (i : List ℕ). i ++ more) e
 divides-more limits input more (x ∷ es) d =
     (d.0, d.1 ++ more, ap (λ (i : List ℕ). i ++ more) d.2 ∙ append_assoc x.octets d.1 more, divides-more limits d.1 more es d.3)
 
-divides-push : (limits : Limits) (input rest more : List ℕ) (es : List Listed) (e : Listed) → IsListed limits e → rest ≡ e.octets ++ more
+divides-push : (limits : Limits) (input rest more : List ℕ) (es : List Listed) (e : Listed) → IsEnvelopeWithin limits e.octets e.value → rest ≡ e.octets ++ more
     → Divides limits input es rest → Divides limits input (es ++ e ∷ []) more
 divides-push limits input rest more [] e listed is d = (listed, more, d ∙ is, refl)
 divides-push limits input rest more (x ∷ es) e listed is d = (d.0, d.1, d.2, divides-push limits d.1 rest more es e listed is d.3)
@@ -41,7 +42,7 @@ come_rest limits a b c es rest joins come given = record {
 }
 
 -- after envelopes, one more
-come_one : (limits : Limits) (a b c : Device) (es : List Listed) (e : Listed) → GiftsJoin → HasCome limits a b es [] → IsListed limits e → HasGiven b c e.octets
+come_one : (limits : Limits) (a b c : Device) (es : List Listed) (e : Listed) → GiftsJoin → HasCome limits a b es [] → IsEnvelopeWithin limits e.octets e.value → HasGiven b c e.octets
     → HasCome limits a c (es ++ e ∷ []) []
 come_one limits a b c es e joins come listed given =
     let more = come_rest limits a b c es e.octets joins come given in
@@ -156,7 +157,7 @@ one_too_many limits now old mid new ledger failed number got joins few in_hand m
     let longer : length (read.envelopes ++ one.envelope ∷ []) ≡ length read.envelopes + 1 = length-append read.envelopes (one.envelope ∷ []) in
     record {
       envelopes = read.envelopes ++ one.envelope ∷ [];
-      come = come_one limits old mid new read.envelopes one.envelope joins read.come one.is_listed one.given;
+      come = come_one limits old mid new read.envelopes one.envelope joins read.come one.listed one.given;
       many = omega arith;
       in_hand = omega arith;
     }
@@ -170,7 +171,7 @@ short_after limits now old mid new ledger failed number got joins few in_hand re
     let longer : length (read.envelopes ++ one.envelope ∷ []) ≡ length read.envelopes + 1 = length-append read.envelopes (one.envelope ∷ []) in
     record {
       envelopes = read.envelopes ++ one.envelope ∷ [];
-      come = come_one limits old mid new read.envelopes one.envelope joins read.come one.is_listed one.given;
+      come = come_one limits old mid new read.envelopes one.envelope joins read.come one.listed one.given;
       listed = omega arith;
       in_hand = inr (omega arith, omega arith);
     }
@@ -184,7 +185,7 @@ read_one limits now old mid new ledger later failed left got joins lives enters 
     let f : Listed → Value = λ e. e.value in
     record {
       envelopes = read.envelopes ++ one.envelope ∷ [];
-      come = come_one limits old mid new read.envelopes one.envelope joins read.come one.is_listed one.given;
+      come = come_one limits old mid new read.envelopes one.envelope joins read.come one.listed one.given;
       keeps = subst P (sym (map-append f read.envelopes (one.envelope ∷ []))) (enters (values_of read.envelopes) one.envelope.value read.keeps one.taken);
       lives = lives;
     }

@@ -1,5 +1,5 @@
 -- From what an intake answers to what an audit takes of it.
-use Rattle.std.proofs.Common.{◌≡◌, ◌≢◌, ℕ, ◌⊎◌, List, [], Some, None, subst, false, ◌∙◌, inl, inr, ⊎_elim, arith, refl}
+use Rattle.std.proofs.Common.{◌≡◌, ◌≢◌, ℕ, ◌⊎◌, List, [], Some, None, subst, false, ◌∙◌, inl, inr, ⊎_elim, arith, refl, ap}
 use Rattle.iim_dataset.specs.Devices.{Device}
 use Rattle.iim_fields.specs.declared.limits.Limits.{Limits}
 use Rattle.wire_story.specs.Delivery.{Event}
@@ -26,7 +26,7 @@ took_one laws limits old new u a b used got n same stands none outside is gives 
     let here = gives.envelope [] 0 stands in
     record {
       envelope = record { octets = gives.octets; value = here.value };
-      is_listed = record { admits = here.admits; within = subst (λ (l : Limits). AreWithin l here.admits.datasets) same here.within };
+      listed = record { admits = here.admits; within = subst (λ (l : Limits). AreWithin l here.admits.datasets) same here.within };
       given = gives.came.given;
       taken = record {
         parts = here.parts;
@@ -53,8 +53,10 @@ refused_fresh goes failures old new u a b e before after stands why =
     let of = was.refuses [] 0 stands in
     let P : ℕ → Type 0 = λ n. CountsFor e.cause n (failures b) in
     let Q : ℕ → Type 0 = λ n. CountsFor e.cause 0 n in
-    let counts : CountsFor e.cause 0 0 = subst Q after (subst P before was.counts) in
-    (was.octets, was.came.given, inl (record { k = of.k; within = of.within; fault = of.fault; refusal = of.refusal; refuses = of.refuses; unsunk = unsunk e.cause 0 refl counts })))
+    let R : Cause → Type 0 = λ cause. CountsFor cause 0 0 in
+    let same : e.cause ≡ of.fault.cause = ap (λ (r : Refusal). r.cause) of.refusal in
+    let counts : CountsFor of.fault.cause 0 0 = subst R same (subst Q after (subst P before was.counts)) in
+    (was.octets, was.came.given, inl (record { k = of.k; within = of.within; fault = of.fault; refusal = of.refusal; kills = record { refuses = of.refuses; by_octets = unsunk of.fault.cause 0 refl counts } })))
     (λ (was : WasTruncated goes failures old new u a b e).
     let in_it = was.truncated [] 0 stands in
     (was.octets, was.came.given, inr (record { some = in_it.some; is_open = in_it.is_open; truncated = in_it.truncated }, was.at_end)))

@@ -6,7 +6,8 @@ use Rattle.iim_dataset.specs.DeviceLaws.{HasGiven, MissedBehind}
 use Rattle.iim_dataset.specs.declared.device.IoFault.TheVariants as io
 use Rattle.iim_fields.specs.declared.limits.Limits.{Limits}
 use Rattle.iim_unpack.specs.Admitted.{Value}
-use Rattle.iim_unpack.specs.Listing.{Listed, IsListed, IsRefusedRest, IsTruncatedRest}
+use Rattle.iim_unpack.specs.Listing.{Listed, IsRefusedRest, IsTruncatedRest}
+use Rattle.iim_unpack.specs.Streams.{IsEnvelopeWithin}
 use Rattle.iim_unpack.specs.Unpacking.{IsOpen}
 use Rattle.iim_unpack.specs.Value.{HasParts}
 use Rattle.iim_unpack.specs.declared.refusal.Refusal.{Refusal}
@@ -23,7 +24,7 @@ pub record IsTaken (got : Taken) (v : Value) : Type 0 where
 -- Just the octets of one envelope came, and this was taken of it.
 pub record TookOne (limits : Limits) (old new : Device) (got : Taken) : Type 0 where
   pub envelope : Listed
-  pub is_listed : IsListed limits envelope
+  pub listed : IsEnvelopeWithin limits envelope.octets envelope.value
   pub given : HasGiven old new envelope.octets
   pub taken : IsTaken got envelope.value
 

@@ -1,5 +1,7 @@
 //! Audits of worked envelopes, of what breaks them, and of devices that break. What is expected is worked out from the format.
 
+ghost use Rattle.std.specs.Prelude.{◌<◌};
+
 use crate::{AuditCause, AuditFault, Report, audit, report_text, whole_seconds_are_floors};
 use iim_dataset::{FromRead, TrialReader, Trouble};
 use iim_fields::Limits;
@@ -409,37 +411,63 @@ fn failing_readers(rt: HostRuntime) -> Result<(), Fail> {
 /// Gives the smallest envelope again and again, each with a number of its own.
 #[derive(Drop)]
 struct Again {
+    before: Vec<u8>,
+    after: Vec<u8>,
     left: u32,
+}
+
+impl Again {
+    /// So many of them.
+    fn new(alloc: Global, left: u32) -> Result<Again, AllocError> {
+        Ok(Again {
+            before: joined(alloc, &[BEGIN, b"\x1c\x01\x28\x00\x08"])?,
+            after: joined(alloc, &[DATE, REST])?,
+            left,
+        })
+    }
+}
+
+/// The digit of a number at a place.
+fn digit(number: u32, place: u32) -> u8
+    requires { 0 < place }
+{
+    b'0' + (number / place % 10) as u8
 }
 
 impl Read for Again {
     fn read(&mut self, buffer: &mut [u8]) -> io::Result<usize> {
-        if self.left == 0 || buffer.len() < 114 {
+        let from = self.before.len();
+        if self.left == 0 || buffer.len() < from || buffer.len() - from < 8 {
             return Ok(0);
         }
-        let mut used = 0;
-        for part in SMALLEST {
-            for octet in part {
-                if used < buffer.len() {
-                    buffer[used] = *octet;
-                    used += 1;
-                }
-            }
+        let to = from + 8;
+        let after = self.after.len();
+        if buffer.len() - to < after {
+            return Ok(0);
         }
-        let mut number = self.left;
-        for digit in buffer[34..42].iter_mut().rev() {
-            *digit = b'0' + (number % 10) as u8;
-            number /= 10;
-        }
+        buffer[..from].copy_from_slice(self.before.as_slice());
+        let n = self.left;
+        let digits = [
+            digit(n, 10_000_000),
+            digit(n, 1_000_000),
+            digit(n, 100_000),
+            digit(n, 10_000),
+            digit(n, 1_000),
+            digit(n, 100),
+            digit(n, 10),
+            digit(n, 1),
+        ];
+        buffer[from..to].copy_from_slice(&digits);
+        buffer[to..to + after].copy_from_slice(self.after.as_slice());
         self.left -= 1;
-        Ok(used)
+        Ok(to + after)
     }
 }
 
 #[test]
 fn a_million_envelopes(rt: HostRuntime) -> Result<(), Fail> {
     let now = instant(&rt, "2024-03-01T12:00:00Z");
-    let mut intake = Intake::new(FromRead::new(Again { left: 1_000_000 }));
+    let mut intake = Intake::new(FromRead::new(Again::new(rt.alloc(), 1_000_000)?));
     match audit(rt.alloc(), &mut intake, LIMITS, now) {
         Ok(report) => {
             assert_eq!(rt; report.rows().len(), 1_000_000);
@@ -453,7 +481,7 @@ fn a_million_envelopes(rt: HostRuntime) -> Result<(), Fail> {
 #[test]
 fn one_envelope_too_many(rt: HostRuntime) -> Result<(), Fail> {
     let now = instant(&rt, "2024-03-01T12:00:00Z");
-    let mut intake = Intake::new(FromRead::new(Again { left: 1_000_001 }));
+    let mut intake = Intake::new(FromRead::new(Again::new(rt.alloc(), 1_000_001)?));
     let fault = fault_of(&rt, audit(rt.alloc(), &mut intake, LIMITS, now));
     assert!(rt;
         fault
