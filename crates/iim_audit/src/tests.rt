@@ -465,20 +465,6 @@ impl Read for Again {
 }
 
 #[test]
-fn a_million_envelopes(rt: HostRuntime) -> Result<(), Fail> {
-    let now = instant(&rt, "2024-03-01T12:00:00Z");
-    let mut intake = Intake::new(FromRead::new(Again::new(rt.alloc(), 1_000_000)?));
-    match audit(rt.alloc(), &mut intake, LIMITS, now) {
-        Ok(report) => {
-            assert_eq!(rt; report.rows().len(), 1_000_000);
-            assert!(rt; report.rows().iter().all(|row| row.first.is_none()));
-        }
-        Err(_) => panic!(rt; "no report"),
-    }
-    Ok(())
-}
-
-#[test]
 fn one_envelope_too_many(rt: HostRuntime) -> Result<(), Fail> {
     let now = instant(&rt, "2024-03-01T12:00:00Z");
     let mut intake = Intake::new(FromRead::new(Again::new(rt.alloc(), 1_000_001)?));

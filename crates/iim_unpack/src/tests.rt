@@ -5,13 +5,7 @@ mod intakes;
 mod rule;
 mod streams;
 
-use crate::{
-    Cause, Layer, Refusal, Scan, admitted_octets_are_framed, admitted_octets_have_one_value,
-    envelopes_are_bounded, framed_messages_are_admitted, no_admitted_octets_begin_others,
-    no_envelope_begins_another, no_envelope_is_empty, nothing_goes_on_from_refused_octets,
-    open_octets_are_bounded, open_octets_begin_with_no_envelope, refusals_are_determined,
-    refused_octets_were_open, scan, streams_have_one_answer,
-};
+use crate::{Cause, Layer, Refusal, Scan, scan};
 use iim_dataset::{Head, HeadCause, HeadFault, read_head};
 use iim_fields::Limits;
 use rule::{by_rule, refusal};
@@ -557,21 +551,4 @@ fn names_and_numbers(rt: HostRuntime) {
     for (layer, name) in layers {
         assert_eq!(rt; layer.name(), name);
     }
-}
-
-#[test]
-fn laws_are_called() {
-    no_envelope_begins_another();
-    no_envelope_is_empty();
-    admitted_octets_have_one_value();
-    no_admitted_octets_begin_others();
-    admitted_octets_are_framed();
-    framed_messages_are_admitted();
-    open_octets_begin_with_no_envelope();
-    open_octets_are_bounded();
-    envelopes_are_bounded();
-    refused_octets_were_open();
-    nothing_goes_on_from_refused_octets();
-    refusals_are_determined();
-    streams_have_one_answer();
 }
