@@ -7,3 +7,4 @@ pub mod Packed
 pub mod RoundTrip
 pub mod Given
 pub mod Stories
+pub mod Listings

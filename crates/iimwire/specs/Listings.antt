@@ -81,3 +81,13 @@ pub record IsListing (input : List ℕ) (envelopes : List Envelope) (ending : En
   pub rest : List ℕ
   pub divides : Divides input envelopes rest
   pub ends : EndsBy (length envelopes) rest ending
+
+-- ---- laws
+
+-- An input has one listing: its envelopes, and what stands after them.
+abbrev pub InputsHaveOneListing : Type 0
+InputsHaveOneListing = (input : List ℕ) (es fs : List Envelope) (x y : Ending) → IsListing input es x → IsListing input fs y → (es ≡ fs) × (x ≡ y)
+
+-- No longer list of envelopes that is listed at all begins the input.
+abbrev pub ListingsAreLongest : Type 0
+ListingsAreLongest = (input : List ℕ) (es others : List Envelope) (x : Ending) (rest : List ℕ) → IsListing input es x → Divides input others rest → length others ≤ length es

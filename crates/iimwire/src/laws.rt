@@ -1,12 +1,29 @@
 //! What holds of all inputs, and of packing and unpacking together.
 
+ghost use Rattle.iimwire.specs.Listings.{InputsHaveOneListing, ListingsAreLongest};
 ghost use Rattle.iimwire.specs.Laws.{PackedOctetsAreAdmitted, PackedEnvelopesAreFound};
 ghost use Rattle.iimwire.specs.RoundTrip.{PackedOctetsAreWithin, PackedStreamsHaveTheirAnswer};
 
 use iim_pack::{packed_octets_carry_the_value, packed_subfiles_are_few};
 use iim_unpack::{
-    admitted_octets_have_one_value, no_admitted_octets_begin_others, streams_have_one_answer,
+    admitted_octets_are_framed, admitted_octets_have_one_value, no_admitted_octets_begin_others,
+    no_envelope_is_empty, open_octets_are_bounded, refused_octets_were_open,
+    streams_have_one_answer,
 };
+
+/// An input has one listing, its envelopes and what stands after them; and no longer list of envelopes begins the input.
+pub fn inputs_have_one_listing()
+    ensures one { InputsHaveOneListing }
+    ensures longest { ListingsAreLongest }
+{
+    admitted_octets_have_one_value();
+    no_admitted_octets_begin_others();
+    admitted_octets_are_framed();
+    no_envelope_is_empty();
+    streams_have_one_answer();
+    refused_octets_were_open();
+    open_octets_are_bounded();
+}
 
 /// What is packed is admitted, with the value that was packed and the sizes of the plan.
 pub fn packed_octets_are_admitted()
