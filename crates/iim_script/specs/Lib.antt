@@ -1,0 +1,6 @@
+pub mod Lines
+pub mod Shown
+pub mod Forms
+pub mod Adding
+pub mod Scripts
+pub mod Faults

@@ -1,0 +1,38 @@
+//! Why a script tells no envelope.
+
+use iim_fields::FieldCause;
+use std::alloc::AllocError;
+use thiserror::Error;
+
+/// What is wrong with a line of a script.
+#[derive(Clone, Copy, Debug, PartialEq, Eq)]
+pub enum ScriptCause {
+    /// The line has no form of a script's, or stands in the wrong place, or the line that is wanted is missing.
+    ScriptLine,
+    /// The script has more than 16,777,216 octets. It is told of line 0.
+    ScriptTooLong,
+    /// The dataset that the line tells is refused, or one is missing.
+    Field(FieldCause),
+    /// The octets may be no trailer.
+    BadTrailer,
+    /// The line of the story has an octet that may not stand in a line.
+    BadTextOctet,
+    /// Memory was refused. It is told of line 0.
+    OutOfMemory,
+}
+
+/// A line of a script, counted from 1, and what is wrong with it.
+#[derive(Clone, Copy, Debug, PartialEq, Eq, Error, Drop)]
+#[error("script line {line}: {cause:?}")]
+pub struct ScriptFault {
+    /// The line's number; 0 where no line is at fault.
+    pub line: u64,
+    /// What is wrong.
+    pub cause: ScriptCause,
+}
+
+impl From<AllocError> for ScriptCause {
+    fn from(_error: AllocError) -> ScriptCause {
+        ScriptCause::OutOfMemory
+    }
+}

@@ -1,0 +1,22 @@
+//! The script that an envelope is packed from: lines of text, which tell the datasets, the header of the message, its trailer
+//! and the story.
+//!
+//! Stands on `iim_fields`, `wire_message` and `wire_story`, which check what the lines tell. The crate above uses
+//! [`read_script`]: it answers what a script tells, or the first fault by line.
+#![tactic(auto)]
+
+mod fault;
+mod field;
+mod line;
+mod message;
+mod number;
+mod reading;
+mod script;
+mod shown;
+mod story;
+#[cfg(test)]
+mod tests;
+
+pub use fault::{ScriptCause, ScriptFault};
+pub use reading::read_script;
+pub use script::Script;
