@@ -3,6 +3,7 @@ use Rattle.std.specs.Prelude.{◌≡◌, ℕ, ◌+◌, ◌*◌, ◌-◌, ◌≤�
 use Rattle.std.specs.List.{list_all}
 use Rattle.iim_dataset.specs.Datasets.{Dataset}
 use Rattle.wire_message.specs.Messages.{Header, IsHeader}
+use Rattle.iim_script.specs.Lines.{HasNo}
 use Rattle.iim_script.specs.Shown.{TellsLast}
 
 abbrev pub is_digit : ℕ → Bool
@@ -44,9 +45,9 @@ pub record TellsField (line : List ℕ) (d : Dataset) : Type 0 where
   pub names : TellsNames line d.rec d.set end
   pub is_end : TellsLast end d.octets
 
--- `message`
+-- `message` and SP
 abbrev pub message_word : List ℕ
-message_word = 109 ∷ 101 ∷ 115 ∷ 115 ∷ 97 ∷ 103 ∷ 101 ∷ []
+message_word = 109 ∷ 101 ∷ 115 ∷ 115 ∷ 97 ∷ 103 ∷ 101 ∷ 32 ∷ []
 
 -- `trailer`
 abbrev pub trailer_word : List ℕ
@@ -56,12 +57,47 @@ trailer_word = 116 ∷ 114 ∷ 97 ∷ 105 ∷ 108 ∷ 101 ∷ 114 ∷ []
 abbrev pub text_word : List ℕ
 text_word = 116 ∷ 101 ∷ 120 ∷ 116 ∷ []
 
+-- the words of a header's line after `message`
+pub record HeadWords : Type 0 where
+  pub source : List ℕ
+  pub number : List ℕ
+  pub priority : List ℕ
+  pub category : List ℕ
+  pub words : List ℕ
+
+-- what follows the source, the number, the priority and the category
+abbrev pub after_category : HeadWords → List ℕ → List ℕ
+after_category w end = w.words ++ end
+
+abbrev pub after_priority : HeadWords → List ℕ → List ℕ
+after_priority w end = w.category ++ (32 ∷ after_category w end)
+
+abbrev pub after_number : HeadWords → List ℕ → List ℕ
+after_number w end = w.priority ++ (32 ∷ after_priority w end)
+
+abbrev pub after_source : HeadWords → List ℕ → List ℕ
+after_source w end = w.number ++ (32 ∷ after_number w end)
+
+-- The octets are these words, with one SP between each two, and what ends the line: nothing, or SP and more.
+pub record AreWords (octets : List ℕ) (w : HeadWords) (end : List ℕ) : Type 0 where
+  pub source : HasNo 32 w.source
+  pub number : HasNo 32 w.number
+  pub priority : HasNo 32 w.priority
+  pub category : HasNo 32 w.category
+  pub words : HasNo 32 w.words
+  pub ends : get_or end 0 32 ≡ 32
+  pub octets_are : octets ≡ w.source ++ (32 ∷ after_source w end)
+
+-- the words of a header
+abbrev pub words_of : Header → HeadWords
+words_of head = record { source = head.source; number = head.number; priority = head.priority; category = head.category; words = head.words }
+
 -- A line `message SOURCE NUMBER PRIORITY CATEGORY WORDS`, and SP and the info as text where there is one.
 pub record TellsHead (line : List ℕ) (head : Header) : Type 0 where
   pub end : List ℕ
   pub is_header : IsHeader head
   pub is_end : TellsLast end head.info
-  pub line_is : line ≡ message_word ++ (32 ∷ head.source ++ (32 ∷ head.number ++ (32 ∷ head.priority ++ (32 ∷ head.category ++ (32 ∷ head.words ++ end)))))
+  pub line_is : line ≡ message_word ++ (head.source ++ (32 ∷ after_source (words_of head) end))
 
 -- A line `trailer`, and SP and the octets as text where there are some.
 pub record TellsTrailer (line octets : List ℕ) : Type 0 where

@@ -47,3 +47,11 @@ pub(crate) fn next_line(octets: &[u8]) -> Option<(&[u8], &[u8])>
     }
     Some((ended, after))
 }
+
+/// What follows this front. None where the octets do not begin with it.
+pub(crate) fn after<'a>(octets: &'a [u8], front: &[u8]) -> Option<&'a [u8]>
+    ensures found { IfSome result (λ rest. octets.now ≡ front.now ++ rest.now) }
+    ensures none { IfNone result ((rest : List ℕ) → octets.now ≡ front.now ++ rest → ⊥) }
+{
+    octets.strip_prefix(front)
+}

@@ -3,7 +3,7 @@
 use crate::fault::{ScriptCause, ScriptFault};
 use crate::field::add_line;
 use crate::line::next_line;
-use crate::message::{message, trailer};
+use crate::message::{read_head_line, read_trailer_line};
 use crate::script::Script;
 use crate::story::read_story;
 use iim_fields::{Envelope, EnvelopeBuilder, Limits};
@@ -74,7 +74,7 @@ fn read_message<'a>(
     let Some((line, after)) = next_line(rest.octets) else {
         return Err(fault_after(rest.lines, ScriptCause::ScriptLine));
     };
-    match message(alloc, line) {
+    match read_head_line(alloc, line) {
         Ok(Some(head)) => Ok((
             head,
             Rest {
@@ -100,7 +100,7 @@ fn read_trailer<'a>(alloc: Global, rest: Rest<'a>) -> Result<(Vec<u8>, Rest<'a>)
     let Some((line, after)) = next_line(rest.octets) else {
         return Ok((Vec::new(alloc), rest));
     };
-    match trailer(alloc, line) {
+    match read_trailer_line(alloc, line) {
         Ok(Some(octets)) => {
             if !is_trailer(octets.as_slice()) {
                 return Err(fault_after(rest.lines, ScriptCause::BadTrailer));
