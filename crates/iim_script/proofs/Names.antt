@@ -15,7 +15,7 @@ no_digit b = not (is_digit b)
 one_more : (n : ℕ) → suc n ≡ 1 + n
 one_more n = omega arith
 
-and_both : (a b : Bool) → (a && b) ≡ true → (a ≡ true) × (b ≡ true)
+pub and_both : (a b : Bool) → (a && b) ≡ true → (a ≡ true) × (b ≡ true)
 and_both true b e = (refl, e)
 and_both false b e = absurd (false≢true e)
 

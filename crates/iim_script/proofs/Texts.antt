@@ -138,3 +138,19 @@ space_alone end text e none (octet ∷ octets) (other, is, (more, begins, told))
 pub no_space : (end : List ℕ) → (get_or end 0 0 ≡ 32 → ⊥) → (0 < length end) → (octets : List ℕ) → TellsLast end octets → ⊥
 no_space end n some [] told = absurd (omega (arith, some, ap length told))
 no_space end n some (octet ∷ octets) (text, is, told) = n (ap (λ (l : List ℕ). get_or l 0 0) is)
+
+-- a text tells one thing
+pub tells_once : (text xs ys : List ℕ) → Tells text xs → Tells text ys → xs ≡ ys
+tells_once text [] [] h k = refl
+tells_once text [] (y ∷ ys) h (rest, begins, told) = absurd (none_left text y rest begins h)
+tells_once text (x ∷ xs) [] (rest, begins, told) k = absurd (none_left text x rest begins k)
+tells_once text (x ∷ xs) (y ∷ ys) (rest, begins, told) (more, at, tells) =
+    let same = begins_once text rest more x y begins at in
+    ap (λ (n : ℕ). n ∷ xs) same.0 ∙ ap (λ (l : List ℕ). y ∷ l) (tells_once rest xs ys told (subst (λ (l : List ℕ). Tells l ys) (sym same.1) tells))
+
+pub last_once : (end xs ys : List ℕ) → TellsLast end xs → TellsLast end ys → xs ≡ ys
+last_once end [] [] h k = refl
+last_once end [] (y ∷ ys) h (text, is, told) = absurd (omega (arith, ap length (sym is ∙ h)))
+last_once end (x ∷ xs) [] (text, is, told) k = absurd (omega (arith, ap length (sym is ∙ k)))
+last_once end (x ∷ xs) (y ∷ ys) (text, is, told) (more, at, tells) =
+    tells_once text (x ∷ xs) (y ∷ ys) told (subst (λ (l : List ℕ). Tells l (y ∷ ys)) (ap (λ (l : List ℕ). drop 1 l) (sym at ∙ is)) tells)

@@ -12,7 +12,8 @@ const CR: u8 = b'\r';
 
 /// How many octets stand before the first of this one.
 pub(crate) fn before_first(octets: &[u8], octet: u8) -> usize
-    ensures { result ≡ position_or_len (λ b. b == octet) octets.now }
+    ensures place { result ≡ position_or_len (λ b. b == octet) octets.now }
+    ensures within { result ≤ length octets.now }
 {
     for (at, other) in octets.iter().enumerate() {
         if *other == octet {
