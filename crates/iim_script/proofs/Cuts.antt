@@ -1,11 +1,11 @@
 -- What stands before the first of an octet, and after it.
-use Rattle.std.proofs.Common.{◌≡◌, ◌⊎◌, inl, inr, ℕ, zero, suc, ◌+◌, ◌-◌, ◌<◌, ◌≤◌, ◌==◌, Bool, true, false, not, cond, List, [], ◌∷◌, ◌++◌, append_assoc, length, take, drop, get_or, refl, ap, sym, ◌∙◌, subst, arith}
-use Rattle.std.specs.List.{position_or_len, prefix_len}
+use Rattle.std.proofs.Common.{◌≡◌, inl, inr, ℕ, zero, suc, ◌+◌, ◌-◌, ◌<◌, ◌≤◌, ◌==◌, Bool, true, false, not, cond, List, [], ◌∷◌, ◌++◌, append_assoc, length, take, drop, get_or, refl, ap, sym, ◌∙◌, subst, arith}
+use Rattle.std.specs.List.{position_or_len}
 use Rattle.std.proofs.lemmas.Bool.{eq-eqb, eqb-true, cases_Bool, false≢true}
 use Rattle.std.proofs.lemmas.List.Sums.{split_at_first, passes_at_first, prefix_len-le-length}
-use Rattle.std.proofs.lemmas.List.{take_rest, take-append-drop, append_cancel_left, length-take-le}
+use Rattle.std.proofs.lemmas.List.{take_rest}
 use Rattle.std.proofs.Math.Seq.{take-length}
-use Rattle.iim_script.specs.Lines.{HasNo, EndsLine, EndsInReturn}
+use Rattle.iim_script.specs.Lines.{HasNo, EndsLine}
 
 -- a list's head and tail
 cons_head : (x y : ℕ) (xs ys : List ℕ) → x ∷ xs ≡ y ∷ ys → x ≡ y
@@ -39,12 +39,13 @@ pub cut_parts : (b : ℕ) (xs : List ℕ) (end : ℕ) → end ≡ position_or_le
     → HasNo b (take end xs) × (xs ≡ take end xs ++ (b ∷ take (length xs - (end + 1)) (drop (end + 1) xs)))
 cut_parts b xs end is within =
     let at : position_or_len (λ x. x == b) xs < length xs = subst (λ (n : ℕ). n < length xs) is within in
-    let found : get_or xs (position_or_len (λ x. x == b) xs) 0 ≡ b = eqb-true _ _ (passes_at_first (λ x. x == b) xs 0 at) in
-    (subst (λ (n : ℕ). HasNo b (take n xs)) (sym is) (has_no_before b xs)
-    , split_at_first (λ x. x == b) xs 0 at
-      ∙ ap (λ (x : ℕ). take (position_or_len (λ x. x == b) xs) xs ++ (x ∷ drop (position_or_len (λ x. x == b) xs + 1) xs)) found
-      ∙ ap (λ (n : ℕ). take n xs ++ (b ∷ drop (n + 1) xs)) (sym is)
-      ∙ ap (λ (rest : List ℕ). take end xs ++ (b ∷ rest)) (sym (take_rest xs (end + 1))))
+    let found : get_or xs (position_or_len (λ x. x == b) xs) 0 ≡ b = eqb-true _ _ (passes_at_first (λ x. x == b) xs 0 at) in (
+      subst (λ (n : ℕ). HasNo b (take n xs)) (sym is) (has_no_before b xs),
+      split_at_first (λ x. x == b) xs 0 at
+          ∙ ap (λ (x : ℕ). take (position_or_len (λ x. x == b) xs) xs ++ (x ∷ drop (position_or_len (λ x. x == b) xs + 1) xs)) found
+          ∙ ap (λ (n : ℕ). take n xs ++ (b ∷ drop (n + 1) xs)) (sym is)
+          ∙ ap (λ (rest : List ℕ). take end xs ++ (b ∷ rest)) (sym (take_rest xs (end + 1))),
+    )
 
 not_self : (b : ℕ) → (b == b) ≡ false → ⊥
 not_self b e = elim (cases_Bool (b == b)) [ inl same ↦ absurd (false≢true (sym e ∙ same)) | inr other ↦ absurd (false≢true (sym other ∙ eq-eqb b b refl)) ]
@@ -92,9 +93,10 @@ at_last (x ∷ xs) b = at_last xs b
 -- the line that a CR and the LF end
 pub ends_in_return : (ended : List ℕ) (n : ℕ) → HasNo 10 ended → length ended ≡ suc n → get_or ended n 0 ≡ 13 → EndsLine (take n ended) (ended ++ 10 ∷ [])
 ends_in_return ended n h len e =
-    let parts = last_one ended 13 n len e in
-    (has_no_front 10 (take n ended) (13 ∷ []) (subst (λ (l : List ℕ). HasNo 10 l) parts h)
-    , inl (ap (λ (l : List ℕ). l ++ 10 ∷ []) parts ∙ append_assoc (take n ended) (13 ∷ []) (10 ∷ [])))
+    let parts = last_one ended 13 n len e in (
+      has_no_front 10 (take n ended) (13 ∷ []) (subst (λ (l : List ℕ). HasNo 10 l) parts h),
+      inl (ap (λ (l : List ℕ). l ++ 10 ∷ []) parts ∙ append_assoc (take n ended) (13 ∷ []) (10 ∷ [])),
+    )
 
 length-snoc : (xs : List ℕ) (b : ℕ) → length (xs ++ b ∷ []) ≡ suc (length xs)
 length-snoc [] b = refl
@@ -102,9 +104,14 @@ length-snoc (x ∷ xs) b = ap suc (length-snoc xs b)
 
 -- the line that the LF alone ends
 pub ends_alone : (line : List ℕ) → HasNo 10 line → ((n : ℕ) → length line ≡ suc n → get_or line n 0 ≡ 13 → ⊥) → EndsLine line (line ++ 10 ∷ [])
-ends_alone line h n =
-    (h, inr (refl, λ returned. n (length returned.0) (ap length returned.1 ∙ length-snoc returned.0 13)
-        (ap (λ (l : List ℕ). get_or l (length returned.0) 0) returned.1 ∙ at_last returned.0 13)))
+ends_alone line h n = (
+  h,
+  inr (
+    refl,
+    λ returned. n (length returned.0) (ap length returned.1 ∙ length-snoc returned.0 13)
+        (ap (λ (l : List ℕ). get_or l (length returned.0) 0) returned.1 ∙ at_last returned.0 13),
+  ),
+)
 
 -- a place that is not before the end is the end
 pub end_is_all : (b : ℕ) (xs : List ℕ) (end : ℕ) → end ≡ position_or_len (λ x. x == b) xs → length xs ≤ end → end ≡ length xs

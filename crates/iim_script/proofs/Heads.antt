@@ -1,10 +1,9 @@
 -- The words of a header's line.
-use Rattle.std.proofs.Common.{◌≡◌, ℕ, zero, suc, ◌+◌, ◌-◌, ◌<◌, ◌≤◌, ◌==◌, ◌&&◌, Bool, true, false, not, cond, List, [], ◌∷◌, ◌++◌, append_assoc, append-nil, length, take, drop, get_or, refl, ap, sym, ◌∙◌, subst, arith, Option, Some, None, IsSome, IfSome, IfNone}
+use Rattle.std.proofs.Common.{◌≡◌, ℕ, suc, ◌+◌, ◌-◌, ◌==◌, Bool, true, false, not, cond, List, [], ◌∷◌, ◌++◌, append-nil, length, take, drop, get_or, refl, ap, sym, ◌∙◌, subst, arith, Option, Some, None, IsSome, IfSome, IfNone}
 use Rattle.std.specs.List.{position_or_len, list_all}
 use Rattle.std.proofs.lemmas.Bool.{eqb-true, false≢true}
-use Rattle.std.proofs.lemmas.Bool.Decides.{nat_tests}
 use Rattle.std.proofs.lemmas.List.{take_rest, take-append-drop}
-use Rattle.wire_message.specs.Fields.{Are, is_letter, is_digit, is_alphanumeric}
+use Rattle.wire_message.specs.Fields.{is_letter, is_digit, is_alphanumeric}
 use Rattle.wire_message.specs.Messages.{Header, header_of, IsHeader}
 use Rattle.iim_script.specs.Lines.{HasNo}
 use Rattle.iim_script.specs.Shown.{TellsLast}

@@ -1,8 +1,7 @@
 -- The numbers at the front of a line.
-use Rattle.std.proofs.Common.{◌≡◌, ℕ, zero, suc, ◌+◌, ◌-◌, ◌<◌, ◌≤◌, ◌==◌, ◌&&◌, Bool, true, false, not, cond, nat_le, List, [], ◌∷◌, ◌++◌, append_assoc, length, take, drop, get_or, refl, ap, sym, ◌∙◌, subst, arith, inl, inr}
-use Rattle.std.specs.Prelude.{IsTrue}
+use Rattle.std.proofs.Common.{◌≡◌, ℕ, suc, ◌+◌, ◌-◌, ◌==◌, ◌&&◌, Bool, true, false, not, cond, List, [], ◌∷◌, ◌++◌, length, take, drop, get_or, refl, ap, sym, ◌∙◌, subst, arith}
 use Rattle.std.specs.List.{position_or_len, list_all}
-use Rattle.std.proofs.lemmas.Bool.{eqb-true, cases_Bool, false≢true, and_from}
+use Rattle.std.proofs.lemmas.Bool.{false≢true, and_from}
 use Rattle.std.proofs.lemmas.Bool.Decides.{nat_tests}
 use Rattle.std.proofs.lemmas.List.{take_rest, take-append-drop}
 use Rattle.iim_script.specs.Lines.{HasNo}
@@ -100,7 +99,7 @@ has_names line before after n rec set e at is_rec is_set =
 pub names_once : (line : List ℕ) (rec set r s : ℕ) (end other : List ℕ) → TellsNames line rec set end → TellsNames line r s other → end ≡ other
 names_once line rec set r s end other t u =
     let whole = cut_once 58 t.rec_digits (t.set_digits ++ end) u.rec_digits (u.set_digits ++ other)
-      (no_colon t.rec_digits (digits_of t.rec_digits rec t.is_rec)) (no_colon u.rec_digits (digits_of u.rec_digits r u.is_rec)) (sym t.line_is ∙ u.line_is) in
+    (no_colon t.rec_digits (digits_of t.rec_digits rec t.is_rec)) (no_colon u.rec_digits (digits_of u.rec_digits r u.is_rec)) (sym t.line_is ∙ u.line_is) in
     (digits_once t.set_digits end u.set_digits other (digits_of t.set_digits set t.is_set) (digits_of u.set_digits s u.is_set) t.undigited u.undigited whole.1).1
 
 -- a line with no colon

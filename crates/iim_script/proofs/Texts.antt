@@ -1,7 +1,7 @@
 -- Octets as text.
-use Rattle.std.proofs.Common.{◌≡◌, ◌≢◌, ◌⊎◌, inl, inr, ℕ, zero, suc, ◌+◌, ◌-◌, ◌*◌, ◌<◌, ◌≤◌, List, [], ◌∷◌, ◌++◌, append_assoc, length, take, drop, get_or, refl, ap, sym, ◌∙◌, subst, arith}
+use Rattle.std.proofs.Common.{◌≡◌, inl, inr, ℕ, ◌+◌, ◌-◌, ◌<◌, ◌≤◌, List, [], ◌∷◌, ◌++◌, append_assoc, length, take, drop, get_or, refl, ap, sym, ◌∙◌, subst, arith}
 use Rattle.std.proofs.lemmas.List.{take_rest, append-nil}
-use Rattle.iim_script.specs.Shown.{IsHexDigit, IsOfDigits, IsEscape, TellsOctet, BeginsWith, Tells, TellsLast}
+use Rattle.iim_script.specs.Shown.{IsHexDigit, IsOfDigits, BeginsWith, Tells, TellsLast}
 
 -- the first octet, and the others
 pub first_and_rest : (xs : List ℕ) → 0 < length xs → xs ≡ get_or xs 0 0 ∷ take (length xs - 1) (drop 1 xs)
@@ -21,9 +21,11 @@ pub escape_begins : (after : List ℕ) (octet : ℕ) → 3 ≤ length after → 
 escape_begins after octet some x digits =
     let high = get_or after 1 0 in
     let low = get_or after 2 0 in
-    let rest = take (length after - 3) (drop 3 after) in
-    (92 ∷ 120 ∷ high ∷ low ∷ [], inr (high, low, refl, digits),
-     ap (λ (l : List ℕ). 92 ∷ l) (three_and_rest after some ∙ ap (λ (n : ℕ). n ∷ high ∷ low ∷ rest) x))
+    let rest = take (length after - 3) (drop 3 after) in (
+      92 ∷ 120 ∷ high ∷ low ∷ [],
+      inr (high, low, refl, digits),
+      ap (λ (l : List ℕ). 92 ∷ l) (three_and_rest after some ∙ ap (λ (n : ℕ). n ∷ high ∷ low ∷ rest) x),
+    )
 
 -- what begins with a backslash and an octet begins with an escape
 pub escape_at : (after rest : List ℕ) (octet : ℕ) → BeginsWith (92 ∷ after) octet rest
@@ -31,10 +33,12 @@ pub escape_at : (after rest : List ℕ) (octet : ℕ) → BeginsWith (92 ∷ aft
 escape_at after rest octet (piece, inl (other, is), e) = absurd (other (sym (ap (λ (l : List ℕ). get_or l 0 0) (e ∙ ap (λ (l : List ℕ). l ++ rest) is))))
 escape_at after rest octet (piece, inr (high, low, is, digits), e) =
     let whole : after ≡ 120 ∷ high ∷ low ∷ rest = ap (λ (l : List ℕ). drop 1 l) (e ∙ ap (λ (l : List ℕ). l ++ rest) is) in
-    let len : length after ≡ 3 + length rest = ap length whole ∙ omega arith in
-    (omega (arith, len), ap (λ (l : List ℕ). get_or l 0 0) whole,
-     subst (λ (n : ℕ). IsOfDigits n (get_or after 2 0) octet) (sym (ap (λ (l : List ℕ). get_or l 1 0) whole))
-     (subst (λ (n : ℕ). IsOfDigits high n octet) (sym (ap (λ (l : List ℕ). get_or l 2 0) whole)) digits))
+    let len : length after ≡ 3 + length rest = ap length whole ∙ omega arith in (
+      omega (arith, len),
+      ap (λ (l : List ℕ). get_or l 0 0) whole,
+      subst (λ (n : ℕ). IsOfDigits n (get_or after 2 0) octet) (sym (ap (λ (l : List ℕ). get_or l 1 0) whole))
+          (subst (λ (n : ℕ). IsOfDigits high n octet) (sym (ap (λ (l : List ℕ). get_or l 2 0) whole)) digits),
+    )
 
 pub empty_begins : (rest : List ℕ) (octet : ℕ) → BeginsWith [] octet rest → ⊥
 empty_begins rest octet (piece, inl (other, is), e) = absurd (omega (arith, ap length (e ∙ ap (λ (l : List ℕ). l ++ rest) is)))
@@ -68,11 +72,12 @@ begins_once text rest more a b (p, inl (n, is), e) (q, inr (high, low, js, digit
 begins_once text rest more a b (p, inr (high, low, is, digits), e) (q, inl (m, js), f) =
     absurd (m (ap (λ (l : List ℕ). get_or l 0 0) (sym (f ∙ ap (λ (l : List ℕ). l ++ more) js) ∙ (e ∙ ap (λ (l : List ℕ). l ++ rest) is))))
 begins_once text rest more a b (p, inr (high, low, is, digits), e) (q, inr (h, l, js, others), f) =
-    let same : 92 ∷ 120 ∷ high ∷ low ∷ rest ≡ 92 ∷ 120 ∷ h ∷ l ∷ more = sym (e ∙ ap (λ (xs : List ℕ). xs ++ rest) is) ∙ (f ∙ ap (λ (xs : List ℕ). xs ++ more) js) in
-    (octet_once high low a b digits
-        (subst (λ (n : ℕ). IsOfDigits n low b) (sym (ap (λ (xs : List ℕ). get_or xs 2 0) same))
-        (subst (λ (n : ℕ). IsOfDigits h n b) (sym (ap (λ (xs : List ℕ). get_or xs 3 0) same)) others))
-    , ap (λ (xs : List ℕ). drop 4 xs) same)
+    let same : 92 ∷ 120 ∷ high ∷ low ∷ rest ≡ 92 ∷ 120 ∷ h ∷ l ∷ more = sym (e ∙ ap (λ (xs : List ℕ). xs ++ rest) is) ∙ (f ∙ ap (λ (xs : List ℕ). xs ++ more) js) in (
+      octet_once high low a b digits
+          (subst (λ (n : ℕ). IsOfDigits n low b) (sym (ap (λ (xs : List ℕ). get_or xs 2 0) same))
+          (subst (λ (n : ℕ). IsOfDigits h n b) (sym (ap (λ (xs : List ℕ). get_or xs 3 0) same)) others)),
+      ap (λ (xs : List ℕ). drop 4 xs) same,
+    )
 
 -- What is told of a text so far, with what is left of it: it leads to what the whole text tells, and to nothing else.
 pub record Onto (text octets rest : List ℕ) : Type 0 where

@@ -5,7 +5,7 @@ use Rattle.iim_fields.specs.Builders.{Building, add_fault}
 use Rattle.iim_fields.specs.declared.fault.FieldFault.{FieldFault}
 use Rattle.iim_script.specs.Forms.{TellsField}
 use Rattle.iim_script.specs.declared.fault.ScriptCause.{ScriptCause}
-use Rattle.iim_script.specs.declared.fault.ScriptCause.TheVariants.{ScriptLine, ScriptTooLong, Field, BadTrailer, BadTextOctet, OutOfMemory}
+use Rattle.iim_script.specs.declared.fault.ScriptCause.TheVariants.{ScriptLine, Field, OutOfMemory}
 
 -- The line tells a dataset, which the builder takes.
 pub record Adds (line : List ℕ) (old new : Building) : Type 0 where

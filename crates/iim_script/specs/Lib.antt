@@ -4,3 +4,4 @@ pub mod Forms
 pub mod Adding
 pub mod Scripts
 pub mod Faults
+pub mod Steps

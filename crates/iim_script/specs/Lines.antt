@@ -14,6 +14,12 @@ EndsInReturn line = (front : List ℕ) × (line ≡ front ++ 13 ∷ [])
 abbrev pub EndsLine : List ℕ → List ℕ → Type 0
 EndsLine line octets = HasNo 10 line × ((octets ≡ line ++ 13 ∷ 10 ∷ []) ⊎ ((octets ≡ line ++ 10 ∷ []) × (EndsInReturn line → ⊥)))
 
+-- The octets begin with the line and its end, and this follows.
+pub record NextLine (octets line after : List ℕ) : Type 0 where
+  pub ended : List ℕ
+  pub ends : EndsLine line ended
+  pub parts : octets ≡ ended ++ after
+
 -- The octets are the lines, each with its end.
 abbrev pub EndLines : List (List ℕ) → List ℕ → Type 0
 EndLines [] octets = octets ≡ []

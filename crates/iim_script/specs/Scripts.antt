@@ -1,5 +1,5 @@
 -- What a script is, and what it tells.
-use Rattle.std.specs.Prelude.{◌≡◌, ℕ, ◌+◌, ◌≤◌, ◌⊎◌, List, [], ◌∷◌, ◌++◌, length, None}
+use Rattle.std.specs.Prelude.{◌≡◌, ℕ, ◌+◌, ◌<◌, ◌≤◌, ◌⊎◌, List, [], ◌∷◌, ◌++◌, length, None}
 use Rattle.std.specs.List.{AllByRecursion}
 use Rattle.iim_dataset.specs.Datasets.{Dataset}
 use Rattle.iim_fields.specs.Builders.{add_fault, finish_fault}
@@ -52,11 +52,9 @@ pub record IsFront (limits : Limits) (octets : List ℕ) (fields : List Dataset)
 -- The lines of a story, one at least: each but the last with its end; the last with its end, or without one, and then it is not
 -- empty where others stand before it.
 abbrev pub IsStory : List ℕ → List (List ℕ) → Type 0
-IsStory octets [] = ⊥
-IsStory octets (line ∷ lines) =
-    EndLines (line ∷ lines) octets
-    ⊎ ((before : List (List ℕ)) × (last : List ℕ) × (ended : List ℕ) × (line ∷ lines ≡ before ++ last ∷ []) × EndLines before ended
-        × (octets ≡ ended ++ last) × HasNo 10 last × ((last ≡ []) → before ≡ []))
+IsStory octets lines = (0 < length lines) × (EndLines lines octets
+    ⊎ ((before : List (List ℕ)) × (last : List ℕ) × (ended : List ℕ) × (lines ≡ before ++ last ∷ []) × EndLines before ended
+    × (octets ≡ ended ++ last) × HasNo 10 last × (last ≡ [] → before ≡ [])))
 
 -- A script tells datasets of records 1 and 2, a header, a trailer, and the lines of a story; the line `text` has this number.
 pub record IsScript (limits : Limits) (octets : List ℕ) (fields : List Dataset) (head : Header) (trailer : List ℕ) (lines : List (List ℕ)) (text_line : ℕ) : Type 0 where

@@ -1,5 +1,5 @@
 -- Octets as text: printable ones as they are, and the others by escapes.
-use Rattle.std.specs.Prelude.{◌≡◌, ◌≢◌, ℕ, ◌+◌, ◌*◌, ◌-◌, ◌≤◌, ◌<◌, ◌⊎◌, List, [], ◌∷◌, ◌++◌}
+use Rattle.std.specs.Prelude.{◌≡◌, ◌≢◌, ℕ, ◌+◌, ◌*◌, ◌≤◌, ◌⊎◌, List, [], ◌∷◌, ◌++◌}
 
 -- The digit has this value in hexadecimal, in either case.
 abbrev pub IsHexDigit : ℕ → ℕ → Type 0

@@ -1,5 +1,8 @@
 //! Why a script tells no envelope.
 
+ghost use Rattle.std.specs.Prelude.{◌≡◌, ◌≤◌};
+ghost use Rattle.iim_script.specs.Steps.{number_after};
+
 use iim_fields::FieldCause;
 use std::alloc::AllocError;
 use thiserror::Error;
@@ -29,6 +32,19 @@ pub struct ScriptFault {
     pub line: u64,
     /// What is wrong.
     pub cause: ScriptCause,
+}
+
+/// A fault of the line after so many. That memory was refused is told of line 0.
+pub(crate) fn fault_after(lines: u64, cause: ScriptCause) -> ScriptFault
+    requires { lines ≤ 16777216 }
+    ensures line { result.line ≡ number_after lines cause }
+    ensures cause { result.cause ≡ cause }
+{
+    let line = match cause {
+        ScriptCause::OutOfMemory => 0,
+        _ => lines + 1,
+    };
+    ScriptFault { line, cause }
 }
 
 impl From<AllocError> for ScriptCause {

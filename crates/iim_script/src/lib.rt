@@ -11,6 +11,7 @@ mod line;
 mod message;
 mod number;
 mod reading;
+mod rest;
 mod script;
 mod shown;
 mod story;

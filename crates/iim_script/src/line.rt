@@ -1,8 +1,8 @@
 //! The lines of a script.
 
-ghost use Rattle.std.specs.Prelude.{◌≡◌, ◌==◌, ◌≤◌, ◌++◌, ◌∷◌, ℕ, List, length, IfSome, IfNone};
+ghost use Rattle.std.specs.Prelude.{◌≡◌, ◌==◌, ◌≤◌, ◌<◌, ◌++◌, ◌∷◌, ℕ, List, length, IfSome, IfNone};
 ghost use Rattle.std.specs.List.{position_or_len};
-ghost use Rattle.iim_script.specs.Lines.{HasNo, EndsLine};
+ghost use Rattle.iim_script.specs.Lines.{HasNo, NextLine};
 
 /// Ends a line.
 const LF: u8 = b'\n';
@@ -38,7 +38,8 @@ pub(crate) fn cut_at(octets: &[u8], octet: u8) -> Option<(&[u8], &[u8])>
 
 /// The first line, without its end, and the octets after it. None where no LF ends it.
 pub(crate) fn next_line(octets: &[u8]) -> Option<(&[u8], &[u8])>
-    ensures found { IfSome result (λ parts. (ended : List ℕ) × EndsLine parts.0.now ended × (octets.now ≡ ended ++ parts.1.now)) }
+    ensures found { IfSome result (λ parts. NextLine octets.now parts.0.now parts.1.now) }
+    ensures shorter { IfSome result (λ parts. length parts.1.now < length octets.now) }
     ensures none { IfNone result (HasNo 10 octets.now) }
 {
     let (ended, after) = cut_at(octets, LF)?;

@@ -1,17 +1,47 @@
 //! The story of a script: all that follows the line `text`.
 
-use crate::fault::{ScriptCause, ScriptFault};
+ghost use Rattle.std.specs.Prelude.{◌≡◌, ◌<◌, length, map, IfOk, IfErr, IfSome, IfNone, OnOk};
+ghost use Rattle.std.specs.List.{AllByRecursion};
+ghost use Rattle.wire_story.specs.Texts.{IsLine};
+ghost use Rattle.wire_story.specs.Delivery.{LineOctet};
+ghost use Rattle.wire_story.specs.Collecting.{collect};
+ghost use Rattle.iim_script.specs.Lines.{NextLine};
+ghost use Rattle.iim_script.specs.Scripts.{IsStory};
+ghost use Rattle.iim_script.specs.Steps.{IsLastLine, RefusesStory, RefusesStoryLine};
+
+use crate::fault::{ScriptCause, ScriptFault, fault_after};
 use crate::line::next_line;
+use crate::rest::Rest;
 use std::alloc::Global;
 use wire_story::{Lines, StorySink, is_text};
 
-/// Adds a line of the story. The first goes into the one empty line that stands already.
-fn add_story_line(lines: &mut Lines, line: &[u8], is_first: bool) -> Result<(), ScriptCause> {
+/// The first line of a story, and what follows it; None where it is the last.
+fn first_line(story: &[u8]) -> (&[u8], Option<&[u8]>)
+    ensures more { IfSome result.1 (λ rest. NextLine story.now result.0.now rest.now) }
+    ensures shorter { IfSome result.1 (λ rest. length rest.now < length story.now) }
+    ensures nonempty { IfSome result.1 (λ rest. 0 < length rest.now) }
+    ensures last { IfNone result.1 (IsLastLine story.now result.0.now) }
+{
+    match next_line(story) {
+        Some((line, after)) => {
+            if after.is_empty() {
+                (line, None)
+            } else {
+                (line, Some(after))
+            }
+        }
+        None => (story, None),
+    }
+}
+
+/// Adds the octets of a line at the end of the lines.
+fn add_text(lines: &mut Lines, line: &[u8]) -> Result<(), ScriptCause>
+    ensures text { OnOk result (IsLine line.now) }
+    ensures added { OnOk result (lines.new.lines ≡ collect lines.old.lines (map LineOctet line.now)) }
+    ensures refused { IfErr result (RefusesStoryLine line.now) }
+{
     if !is_text(line) {
         return Err(ScriptCause::BadTextOctet);
-    }
-    if !is_first && lines.line_end().is_err() {
-        return Err(ScriptCause::OutOfMemory);
     }
     match lines.text(line) {
         Ok(()) => Ok(()),
@@ -19,27 +49,30 @@ fn add_story_line(lines: &mut Lines, line: &[u8], is_first: bool) -> Result<(), 
     }
 }
 
-/// The lines of a story, which follows so many lines of the script.
-pub(crate) fn read_story(alloc: Global, story: &[u8], before: u64) -> Result<Lines, ScriptFault> {
+/// The lines of a story; or its first fault by line, the lines before the story counted too.
+pub(crate) fn read_story(alloc: Global, story: Rest<'_>) -> Result<Lines, ScriptFault>
+    ensures story { IfOk result (λ lines. IsStory story.entry.octets.now lines.lines) }
+    ensures texts { IfOk result (λ lines. AllByRecursion IsLine lines.lines) }
+    ensures fault { IfErr result (λ fault. RefusesStory story.entry.octets.now story.entry.lines fault.line fault.cause) }
+{
     let mut lines = Lines::new(alloc);
     let mut rest = story;
-    let mut number = before;
-    while let Some((line, after)) = next_line(rest) {
-        let is_first = number == before;
-        number += 1;
-        match add_story_line(&mut lines, line, is_first) {
-            Ok(()) => rest = after,
-            Err(cause) => return Err(ScriptFault { line: number, cause }),
+    loop {
+        let (line, after) = first_line(rest.octets);
+        if let Err(cause) = add_text(&mut lines, line) {
+            return Err(fault_after(rest.lines, cause));
         }
-    }
-    if rest.is_empty() {
-        return Ok(lines);
-    }
-    match add_story_line(&mut lines, rest, number == before) {
-        Ok(()) => Ok(lines),
-        Err(cause) => Err(ScriptFault {
-            line: number + 1,
-            cause,
-        }),
+        let Some(octets) = after else {
+            return Ok(lines);
+        };
+        match lines.line_end() {
+            Ok(()) => {
+                rest = Rest {
+                    octets,
+                    lines: rest.lines + 1,
+                }
+            }
+            Err(_) => return Err(fault_after(rest.lines, ScriptCause::OutOfMemory)),
+        }
     }
 }

@@ -9,7 +9,8 @@ const LIMITS: Limits = Limits {
 };
 
 /// The smallest envelope, up to its story.
-const SMALLEST: &[u8] = b"1:00 \\x00\\x04\n1:20 \\x00\\x02\n1:22 \\x00\\x01\n1:30 TST\n1:40 00000001\n1:70 20240301\n2:00 \\x00\\x04\nmessage X 1 4 N 0\ntext\n";
+const SMALLEST: &[u8] =
+    b"1:00 \\x00\\x04\n1:20 \\x00\\x02\n1:22 \\x00\\x01\n1:30 TST\n1:40 00000001\n1:70 20240301\n2:00 \\x00\\x04\nmessage X 1 4 N 0\ntext\n";
 
 #[test]
 fn the_smallest_script(rt: HostRuntime) {

@@ -1,5 +1,3 @@
-use Rattle.std.proofs.Common.{List, ℕ}
-use Rattle.iim_script.proofs.Cuts.{has_no_octet}
 use Rattle.iim_script.proofs.Names.{names_at, has_names, no_names, no_record}
 use Rattle.iim_script.proofs.field.names.Goals as goal
 

@@ -1,4 +1,3 @@
-use Rattle.std.proofs.Common.{length, arith}
 use Rattle.iim_script.proofs.Cuts.{has_none, cut_parts, end_is_all}
 use Rattle.iim_script.proofs.line.cut_at.Goals as goal
 

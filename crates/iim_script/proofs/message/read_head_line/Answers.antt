@@ -1,4 +1,4 @@
-use Rattle.std.proofs.Common.{◌≡◌, ℕ, List, ◌∷◌, ◌++◌, sym, ◌∙◌, subst, IfSome, IfNone}
+use Rattle.std.proofs.Common.{ℕ, List, sym, subst}
 use Rattle.iim_script.specs.Shown.{TellsLast}
 use Rattle.iim_script.specs.Forms.{words_of}
 use Rattle.iim_script.proofs.Heads.{words_told, head_told, is_told, is_not_told}

@@ -1,4 +1,4 @@
-use Rattle.std.proofs.Common.{◌≡◌, ◌≤◌, ℕ, List, ◌∷◌, length, get_or, arith}
+use Rattle.std.proofs.Common.{arith}
 use Rattle.iim_script.proofs.Texts.{escape_begins, escape_at}
 use Rattle.iim_script.proofs.shown.escape.Goals as goal
 

@@ -1,4 +1,3 @@
-use Rattle.std.proofs.Common.{ℕ}
 use Rattle.iim_script.proofs.shown.escaped.Goals as goal
 
 pub returns-in_default-clause-none : goal.returns-in_default-clause-none

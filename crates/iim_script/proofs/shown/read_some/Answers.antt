@@ -1,5 +1,4 @@
-use Rattle.std.proofs.Common.{◌∷◌, refl, ℕ, List}
-use Rattle.iim_script.specs.Shown.{Tells}
+use Rattle.std.proofs.Common.{◌∷◌, refl}
 use Rattle.iim_script.proofs.Texts.{no_last}
 use Rattle.iim_script.proofs.shown.read_some.Goals as goal
 

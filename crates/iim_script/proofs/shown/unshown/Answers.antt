@@ -1,4 +1,4 @@
-use Rattle.std.proofs.Common.{◌≡◌, ◌<◌, ℕ, List, [], ◌∷◌, ◌++◌, length, sym, subst, rules, arith}
+use Rattle.std.proofs.Common.{ℕ, List, sym, subst, rules}
 use Rattle.std.proofs.lemmas.Bool.{eqb-true}
 use Rattle.iim_script.proofs.Texts.{Onto, onto_step, onto_end, onto_none, some_there}
 use Rattle.iim_script.proofs.shown.unshown.Goals as goal
