@@ -10,3 +10,5 @@ pub mod Stopping
 pub mod OneHanding
 pub mod Telling
 pub mod Deaths
+pub mod Lives
+pub mod OneOctet

@@ -10,7 +10,7 @@ use Rattle.iim_dataset.specs.declared.head.Head.{Head}
 use Rattle.iim_dataset.proofs.Fronts.{zeros_are, both_are}
 use Rattle.iim_dataset.proofs.Spellings.{one_tag, one_splitting}
 
-with_data : (h : Head) (tag xs : List ℕ) → SpellsTag count_octets h tag → Octets xs → length xs ≡ h.count → SpellsDataset count_octets (record { rec = h.rec; set = h.set; octets = xs }) (tag ++ xs)
+pub with_data : (h : Head) (tag xs : List ℕ) → SpellsTag count_octets h tag → Octets xs → length xs ≡ h.count → SpellsDataset count_octets (record { rec = h.rec; set = h.set; octets = xs }) (tag ++ xs)
 with_data h tag xs s o count =
     let same : h ≡ record { rec = h.rec; set = h.set; count = length xs } = (λ i. record { rec = h.rec; set = h.set; count = sym count i }) in
     record { tag = tag; is_tag = subst (λ (k : Head). SpellsTag count_octets k tag) same s; data_octets = o; parts = refl }

@@ -21,7 +21,7 @@ use Rattle.iim_dataset.proofs.Fronts.{begun_none, both_are}
 -- ---- whole datasets and a begun one
 
 -- whole datasets and one more
-stream_more : (ds : List Dataset) (front : List ℕ) (d : Dataset) (x : List ℕ) → SpellsStream count_octets ds front → SpellsDataset count_octets d x
+pub stream_more : (ds : List Dataset) (front : List ℕ) (d : Dataset) (x : List ℕ) → SpellsStream count_octets ds front → SpellsDataset count_octets d x
     → SpellsStream count_octets (ds ++ d ∷ []) (front ++ x)
 stream_more [] front d x s one = (x, [], one, refl, ap (λ l. l ++ x) s ∙ sym (append-nil x))
 stream_more (c ∷ ds) front d x (p, q, first, more, joined) one =

@@ -1,6 +1,6 @@
 -- What several calls of one device come to.
 use Rattle.std.specs.Prelude.{◌≡◌, ℕ, ◌+◌, ◌≤◌, List, [], ◌++◌, length}
-use Rattle.std.specs.Io.KnownBytes.{Consumes}
+use Rattle.std.specs.Io.KnownBytes.{Appends, Consumes}
 use Rattle.iim_dataset.specs.Devices.{Device, Unfailed, Broke, Missed, Wrote, Stopped, Rose, RoseAtLeast, max_interruptions}
 use Rattle.iim_dataset.specs.declared.device.IoFault.{IoFault}
 use Rattle.iim_dataset.specs.declared.device.IoFault.TheVariants.{Interrupted, Failed}
@@ -22,6 +22,10 @@ BrokeFor old new Interrupted = (new.failures ≡ old.failures) × (old.interrupt
 abbrev pub MissedBehind : Device → Device → List ℕ → IoFault → Type 0
 MissedBehind old new octets fault = Consumes old.octets new.octets octets × BrokeFor old new fault
 
+-- Just this text is out, and then a write failed or was interrupted a million times in a row.
+abbrev pub BrokeAfter : Device → Device → List ℕ → Type 0
+BrokeAfter old new text = Appends old.octets new.octets text × Broke old new
+
 -- Octets that were given one after another were given joined, and a fault comes behind all of them.
 pub record GiftsJoin : Type 0 where
   pub none : (a : Device) → HasGiven a a []
@@ -29,8 +33,10 @@ pub record GiftsJoin : Type 0 where
   pub fault : (a b c : Device) (xs : List ℕ) (fault : IoFault) → HasGiven a b xs → Missed b c fault → BrokeBehind a c xs
   pub missed : (a b c : Device) (xs : List ℕ) (fault : IoFault) → HasGiven a b xs → Missed b c fault → MissedBehind a c xs fault
 
--- Texts that were written one after another were written joined, and where the second stopped, so did the joined one.
+-- Texts that were written one after another were written joined; where the second stopped, so did the joined one; and where
+-- the device broke after the second, it broke after both.
 pub record TextsJoin : Type 0 where
   pub none : (a : Device) → Wrote a a []
   pub more : (a b c : Device) (xs ys : List ℕ) → Wrote a b xs → Wrote b c ys → Wrote a c (xs ++ ys)
   pub stopped : (a b c : Device) (xs ys : List ℕ) (n : ℕ) → Wrote a b xs → Stopped b c ys n → Stopped a c (xs ++ ys) (length xs + n)
+  pub broke : (a b c : Device) (xs ys : List ℕ) → Wrote a b xs → BrokeAfter b c ys → BrokeAfter a c (xs ++ ys)

@@ -1,8 +1,9 @@
 -- Sources and targets of octets, as contracts see them.
-use Rattle.std.specs.Prelude.{◌≡◌, ℕ, ◌+◌, ◌*◌, ◌^◌, ◌<◌, ◌≤◌, ◌⊎◌, List, length, take, Option}
+use Rattle.std.specs.Prelude.{◌≡◌, ℕ, ◌+◌, ◌*◌, ◌^◌, ◌<◌, ◌≤◌, ◌⊎◌, List, length, take, Option, None}
 use Rattle.std.specs.Io.KnownBytes.{Appends, Consumes, Keeps, IsAtEnd}
 use Rattle.iim_dataset.specs.declared.device.IoFault.{IoFault}
 use Rattle.iim_dataset.specs.declared.device.IoFault.TheVariants.{Interrupted, Failed}
+use Rattle.iim_dataset.specs.declared.device.Faults.{Faults}
 use Rattle.iim_dataset.specs.declared.source.FromRead.{FromRead}
 use Rattle.iim_dataset.specs.declared.target.FromWrite.{FromWrite}
 
@@ -20,13 +21,24 @@ max_interruptions = 1000000
 abbrev pub unbroken : Option (List ℕ) → Device
 unbroken octets = record { octets = octets; failures = 0; interruptions = 0 }
 
+abbrev pub no_faults : Faults
+no_faults = record { failures = 0; interruptions = 0 }
+
+-- a device with these faults so far
+abbrev pub faulty : Option (List ℕ) → Faults → Device
+faulty octets faults = record { octets = octets; failures = faults.failures; interruptions = faults.interruptions }
+
+-- the counts alone
+abbrev pub counted : Faults → Device
+counted faults = faulty None faults
+
 -- a reader of std's as a device, where `remaining` tells the octets that it will give
 abbrev pub reader_device : {R : Type 0} → (R → Option (List ℕ)) → FromRead R → Device
-reader_device remaining s = record { octets = remaining s.reader; failures = s.failures; interruptions = s.interruptions }
+reader_device remaining s = faulty (remaining s.reader) s.faults
 
 -- a writer of std's as a device, where `contents` tells the octets that it took
 abbrev pub writer_device : {W : Type 0} → (W → Option (List ℕ)) → FromWrite W → Device
-writer_device contents s = record { octets = contents s.writer; failures = s.failures; interruptions = s.interruptions }
+writer_device contents s = faulty (contents s.writer) s.faults
 
 -- ---- counts of faults
 

@@ -1,14 +1,19 @@
 -- What holds of all spellings.
-use Rattle.std.specs.Prelude.{◌≡◌, ℕ, ◌^◌, ◌<◌, List, [], ◌∷◌, ◌++◌, length}
+use Rattle.std.specs.Prelude.{◌≡◌, ℕ, ◌^◌, ◌<◌, ◌↔◌, List, [], ◌∷◌, ◌++◌, length}
 use Rattle.std.specs.List.{AllByRecursion}
 use Rattle.iim_dataset.specs.Octets.{IsOctet, Octets}
 use Rattle.iim_dataset.specs.Datasets.{Dataset, SpellsTag, SpellsDataset, SpellsStream, canonical_tag, canonical_stream, count_octets}
-use Rattle.iim_dataset.specs.Splits.{Begun, InTag, SplitsInto, Reads}
+use Rattle.iim_dataset.specs.Splits.{Begun, InTag, SplitsInto, IsBegun, Reads}
 use Rattle.iim_dataset.specs.Events.{Event, handed_on, begun_data}
-use Rattle.iim_dataset.specs.Places.{HandsOn}
+use Rattle.iim_dataset.specs.Places.{HandsOn, LeadsTo}
+use Rattle.iim_dataset.specs.Reading.{Completes, TagDies}
+use Rattle.iim_dataset.specs.Completing.{CompletesNow}
+use Rattle.iim_dataset.specs.Languages.{IsAlive, DiesAt}
 use Rattle.iim_dataset.specs.Tags.{BeginsTag, BeginsNoTag, HasTag, HasNoTag}
 use Rattle.iim_dataset.specs.declared.head.Head.{Head}
 use Rattle.iim_dataset.specs.declared.head.HeadFault.{HeadFault}
+use Rattle.iim_dataset.specs.declared.head.HeadCause.{HeadCause}
+use Rattle.iim_dataset.specs.declared.place.Place.{Place}
 
 -- Tags that equal lists begin with are equal, and so are their heads and what follows.
 abbrev pub NoTagBeginsAnother : Type 0
@@ -34,9 +39,41 @@ abbrev pub NoOctetsGoOn : Type 0
 NoOctetsGoOn = (octets more : List ℕ) (next : ℕ) (whole : List Dataset) (held : List ℕ) (w : List Dataset) (b : Begun) → Reads octets whole (InTag held)
     → BeginsNoTag count_octets (held ++ next ∷ []) → Reads (octets ++ next ∷ more) w b → ⊥
 
+-- Octets that spell some datasets.
+abbrev pub AreDatasets : List ℕ → Type 0
+AreDatasets octets = (ds : List Dataset) × SpellsStream count_octets ds octets
+
+-- Octets that were read can continue to whole datasets: to these and one more, of which at least one octet is to come.
+abbrev pub ReadOctetsGoOn : Type 0
+ReadOctetsGoOn = (octets : List ℕ) (whole : List Dataset) (begun : Begun) → Reads octets whole begun
+    → (d : Dataset) × (more : List ℕ) × (0 < length more) × SpellsStream count_octets (whole ++ d ∷ []) (octets ++ more)
+
+-- Octets that were read split into these datasets and a rest, which is what is begun.
+abbrev pub ReadOctetsSplit : Type 0
+ReadOctetsSplit = (octets : List ℕ) (whole : List Dataset) (begun : Begun) → Reads octets whole begun
+    → (rest : List ℕ) × IsBegun count_octets begun rest × SplitsInto count_octets octets whole rest
+
+-- Where octets of a tag are held, the next octet is the first that no datasets can have exactly where no tag begins with the
+-- held ones and that one.
+abbrev pub OctetsDieInTheirTag : Type 0
+OctetsDieInTheirTag = (octets : List ℕ) (next : ℕ) (whole : List Dataset) (held : List ℕ) → Reads octets whole (InTag held)
+    → (BeginsNoTag count_octets (held ++ next ∷ []) ↔ DiesAt AreDatasets octets next)
+
 -- What was handed on tells the whole datasets, and the head and the data so far of the begun one.
 abbrev pub EventsTellTheDatasets : Type 0
 EventsTellTheDatasets = (ds es : List Dataset) (b c : Begun) → handed_on ds b ≡ handed_on es c → (ds ≡ es) × (begun_data b ≡ begun_data c)
+
+-- A reader of datasets refuses exactly where octets die: those that led to a place can continue to whole datasets; at a tag that
+-- dies they can't with the next octet; and what a sink is told that an octet completes, it completes alive.
+pub record ReadersDieExactly : Type 0 where
+  pub alive : (octets : List ℕ) (events : List Event) (place : Place) → LeadsTo octets events place → IsAlive AreDatasets octets
+  pub dies : (octets : List ℕ) (events : List Event) (place : Place) (next : ℕ) (cause : HeadCause) → LeadsTo octets events place → TagDies place next cause
+      → DiesAt AreDatasets octets next
+  pub stops : (octets : List ℕ) (next : ℕ) (events : List Event) (event : Event) → Completes octets next events event → IsAlive AreDatasets (octets ++ next ∷ [])
+
+-- What an octet completes, told by what a reader hands on, is what the octets themselves say that it completes.
+abbrev pub WhatAnOctetCompletes : Type 0
+WhatAnOctetCompletes = (octets : List ℕ) (next : ℕ) (events : List Event) (event : Event) → Completes octets next events event → CompletesNow octets next events event
 
 -- A tag of this head and length is all that a reader of tags can find at the front of the octets.
 pub record ReadsAs (octets : List ℕ) (head : Head) (used : ℕ) : Type 0 where

@@ -7,7 +7,8 @@ pub fn gifts_join()
     ensures { GiftsJoin }
 {}
 
-/// Texts that a target took one after another were taken joined, and where the second stopped, so did the joined one.
+/// Texts that a target took one after another were taken joined; where the second stopped, so did the joined one; and where the
+/// target broke after the second, it broke after both.
 pub fn texts_join()
     ensures { TextsJoin }
 {}

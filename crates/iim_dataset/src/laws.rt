@@ -1,6 +1,6 @@
 //! What holds of all spellings, whatever form the counts have.
 
-ghost use Rattle.iim_dataset.specs.Laws.{CanonicalStreamsAreSpelled, CanonicalTagsReadBack, EventsTellTheDatasets, NoDatasetBeginsAnother, NoOctetsGoOn, NoTagBeginsAnother, OctetsAreHandedOnOneWay, OctetsSplitOneWay};
+ghost use Rattle.iim_dataset.specs.Laws.{CanonicalStreamsAreSpelled, CanonicalTagsReadBack, EventsTellTheDatasets, NoDatasetBeginsAnother, NoOctetsGoOn, NoTagBeginsAnother, OctetsAreHandedOnOneWay, OctetsDieInTheirTag, OctetsSplitOneWay, ReadOctetsGoOn, ReadOctetsSplit, ReadersDieExactly, WhatAnOctetCompletes};
 
 /// No tag begins another.
 pub fn no_tag_begins_another()
@@ -40,4 +40,31 @@ pub fn canonical_tags_read_back()
 /// The canonical spellings of datasets, joined, are a spelling of the list.
 pub fn canonical_streams_are_spelled()
     ensures { CanonicalStreamsAreSpelled }
+{}
+
+/// Octets that were read can continue to whole datasets, and some octets are still to come: the layer is alive.
+pub fn read_octets_go_on()
+    ensures { ReadOctetsGoOn }
+{}
+
+/// Octets that were read split into the whole datasets and what is begun, in the one way in which octets split.
+pub fn read_octets_split()
+    ensures { ReadOctetsSplit }
+{}
+
+/// Where octets of a tag are held, the next octet is the first that no datasets can have exactly where no tag begins with the
+/// held ones and that one.
+pub fn octets_die_in_their_tag()
+    ensures { OctetsDieInTheirTag }
+{}
+
+/// What an octet completes: the head whose tag it ends, itself as one of the data, or the end of the dataset whose last octet it is.
+pub fn what_an_octet_completes()
+    ensures { WhatAnOctetCompletes }
+{}
+
+/// [`crate::HeadReader`] refuses exactly where octets die: those that it took can continue to whole datasets, at a Marker or a
+/// CountForm they can't with the refused octet, and at a stop of the sink they can.
+pub fn readers_die_exactly()
+    ensures { ReadersDieExactly }
 {}

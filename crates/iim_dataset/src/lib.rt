@@ -1,8 +1,10 @@
 //! Datasets of the Information Interchange Model: their tags, datasets in pieces, and the devices that octets come from and
 //! go to.
 //!
-//! Stands on `byteorder` and `arrayvec`. [`HeadReader`] reads datasets in any pieces for a [`DatasetSink`]. The crates above
-//! read tags by [`read_head`], write them by [`head_bytes`], and reach readers and writers by [`take`] and [`put`] alone.
+//! Stands on `byteorder` and `arrayvec`. Every crate but `iim_tables` stands on it, at least for its definitions. The unpacker
+//! feeds [`HeadReader`] with a sink of its own, and relies on the contract of [`HeadReader::feed`] and on
+//! [`what_an_octet_completes`]; the scan of whole inputs reads tags by [`read_head`]. Writers of objects and envelopes spell tags
+//! by [`head_bytes`]. Sources and targets are reached by [`take`] and [`put`] alone.
 #![tactic(auto)]
 
 mod device;
@@ -27,8 +29,9 @@ pub use fault::{Fault, FaultCause};
 pub use head::{Head, HeadCause, HeadFault, TAG_MARKER, head_bytes, read_head};
 pub use laws::{
     canonical_streams_are_spelled, canonical_tags_read_back, events_tell_the_datasets,
-    no_dataset_begins_another, no_tag_begins_another, octets_are_handed_on_one_way,
-    octets_split_one_way,
+    no_dataset_begins_another, no_octets_go_on, no_tag_begins_another,
+    octets_are_handed_on_one_way, octets_die_in_their_tag, octets_split_one_way, read_octets_go_on,
+    read_octets_split, readers_die_exactly, what_an_octet_completes,
 };
 pub use reader::HeadReader;
 pub use sink::{DatasetSink, Step};

@@ -3,8 +3,8 @@
 ghost use Rattle.std.specs.Prelude.{◌≡◌, ◌<◌, ℕ, length, IfOk, IfErr, OnOk};
 ghost use Rattle.iim_dataset.specs.Devices.{Device, Gave, Calm, Faulted, Took, Missed, WithinInterruptionLimit, LaterThan, unbroken, reader_device};
 
-use crate::device::{IoFault, MAX_INTERRUPTIONS};
-use std::io::{ErrorKind, Read};
+use crate::device::{Faults, IoFault, MAX_INTERRUPTIONS};
+use std::io::Read;
 
 /// Where octets come from. Contracts see it as a device: the octets that reads will give, where they are known, and
 /// its faults so far.
@@ -50,8 +50,7 @@ pub fn take<R: Source>(reader: &mut R, buffer: &mut [u8]) -> Result<usize, IoFau
 #[derive(Drop)]
 pub struct FromRead<R> {
     reader: R,
-    failures: u64,
-    interruptions: u64,
+    faults: Faults,
 }
 
 impl<R: Read> FromRead<R> {
@@ -61,8 +60,7 @@ impl<R: Read> FromRead<R> {
     {
         FromRead {
             reader,
-            failures: 0,
-            interruptions: 0,
+            faults: Faults::new(),
         }
     }
 }
@@ -81,16 +79,7 @@ impl<R: Read> Source for FromRead<R> {
     fn read(&mut self, buffer: &mut [u8]) -> Result<usize, IoFault> {
         match self.reader.read(buffer) {
             Ok(count) => Ok(count),
-            Err(error) => match error.kind() {
-                ErrorKind::Interrupted => {
-                    self.interruptions = self.interruptions.saturating_add(1);
-                    Err(IoFault::Interrupted)
-                }
-                _ => {
-                    self.failures = self.failures.saturating_add(1);
-                    Err(IoFault::Failed)
-                }
-            },
+            Err(error) => Err(self.faults.count(error)),
         }
     }
 }

@@ -3,8 +3,8 @@
 ghost use Rattle.std.specs.Prelude.{◌≡◌, ◌<◌, ℕ, length, IfOk, IfErr, OnOk, OnErr};
 ghost use Rattle.iim_dataset.specs.Devices.{Device, Accepted, Faulted, Wrote, Stopped, Sent, WithinInterruptionLimit, unbroken, writer_device};
 
-use crate::device::{IoFault, MAX_INTERRUPTIONS};
-use std::io::{ErrorKind, Write};
+use crate::device::{Faults, IoFault, MAX_INTERRUPTIONS};
+use std::io::Write;
 
 /// Where octets go. Contracts see it as a device: the octets that it took, where they are known, and its faults so far.
 pub trait Target {
@@ -54,8 +54,7 @@ pub fn put<W: Target>(writer: &mut W, piece: &[u8]) -> Result<(), usize>
 #[derive(Drop)]
 pub struct FromWrite<W> {
     writer: W,
-    failures: u64,
-    interruptions: u64,
+    faults: Faults,
 }
 
 impl<W: Write> FromWrite<W> {
@@ -65,8 +64,7 @@ impl<W: Write> FromWrite<W> {
     {
         FromWrite {
             writer,
-            failures: 0,
-            interruptions: 0,
+            faults: Faults::new(),
         }
     }
 
@@ -85,20 +83,11 @@ impl<W: Write> Target for FromWrite<W> {
         match self.writer.write(piece) {
             Ok(count) => {
                 if count == 0 && !piece.is_empty() {
-                    self.failures = self.failures.saturating_add(1);
+                    self.faults.fail();
                 }
                 Ok(count)
             }
-            Err(error) => match error.kind() {
-                ErrorKind::Interrupted => {
-                    self.interruptions = self.interruptions.saturating_add(1);
-                    Err(IoFault::Interrupted)
-                }
-                _ => {
-                    self.failures = self.failures.saturating_add(1);
-                    Err(IoFault::Failed)
-                }
-            },
+            Err(error) => Err(self.faults.count(error)),
         }
     }
 }

@@ -1,5 +1,6 @@
 //! Tags and devices at worked values, and datasets in pieces.
 
+mod halting;
 mod reading;
 
 use crate::{

@@ -10,3 +10,4 @@ pub mod Mandatory
 pub mod Endings
 pub mod RowsMet
 pub mod Keeping
+pub mod Telling

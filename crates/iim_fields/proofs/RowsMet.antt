@@ -34,19 +34,11 @@ all_meet : (r : ℕ) (run : List Dataset) → AllByRecursion (λ d. (d.rec ≡ r
 all_meet r [] h = tt
 all_meet r (d ∷ run) h = (h.0.1.meets, all_meet r run h.1)
 
-data_meet : (ds : List Dataset) → IsEnvelope ds → (r n : ℕ) (xs : List ℕ) → first_data r n ds ≡ Some xs → Meets r n xs
+-- what is viewed of an envelope meets its row
+pub data_meet : (ds : List Dataset) → IsEnvelope ds → (r n : ℕ) (xs : List ℕ) → first_data r n ds ≡ Some xs → Meets r n xs
 data_meet ds e r n xs h =
     let all = all_append MeetsItsRow e.r1 e.r2 (all_meet 1 e.r1 e.envelope.each) (all_meet 2 e.r2 e.application.each) in
     first_meets r n ds xs (subst (AllByRecursion MeetsItsRow) (sym e.parts) all) h
-
--- so do those that an envelope's store has
-pub stored_meet : (store : Store) (ds : List Dataset) → IsEnvelopeStore store → fields_of store ≡ ds → (r n : ℕ) (xs : List ℕ) → first_data r n ds ≡ Some xs → Meets r n xs
-stored_meet store ds good is r n xs h = data_meet ds (subst IsEnvelope is good.envelope) r n xs h
-
--- so does what was viewed
-pub viewed_meet : {A : Type 0} (f : A → List ℕ) (store : Store) (ds : List Dataset) → IsEnvelopeStore store → fields_of store ≡ ds
-    → (r n : ℕ) (o : Option A) (x : A) → option_map f o ≡ first_data r n ds → o ≡ Some x → Meets r n (f x)
-viewed_meet f store ds good is r n o x first e = stored_meet store ds good is r n (f x) (sym first ∙ ap (option_map f) e)
 
 -- ---- the rows of the views that rest on them
 

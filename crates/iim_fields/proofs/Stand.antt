@@ -38,6 +38,7 @@ use Rattle.iim_fields.specs.declared.checker.Phase.TheVariants as phases
 use Rattle.iim_fields.proofs.Table.{EachRowHasValues, not_after_itself, size_row, kept_or_tells, object_kind}
 use Rattle.iim_fields.proofs.Runs.{records_to_come, eq_itself}
 use Rattle.iim_fields.proofs.Follows.{Follows, present_more, run_more, alive_follows}
+use Rattle.iim_fields.proofs.Telling.{head_fault_told, value_fault_told}
 use Rattle.iim_fields.proofs.Dies.{HasNoFault, no_fault_parts, in_order_cases, head_alive, head_no_fault, value_alive, value_no_fault}
 
 -- ---- which numbers have occurred
@@ -244,6 +245,7 @@ head_fault_is old h fault some ds stands =
     sym (λ i. option_or (record_fault_is old.order ds h stands.order i) (room_fault_is old ds h stands.holds i)) ∙ some in
     record {
       first = first;
+      lowest = head_fault_told old.limits ds h fault first;
       dead = λ alive in_limits. no_room old.limits (kept_octets ds) (length (kept ds)) h fault
           (first_or_other (record_fault ds h) (limits_fault old.limits ds h) fault first (head_no_fault ds h alive)) in_limits;
     }
@@ -473,6 +475,7 @@ value_fault_is old begun fault before not8 some ds h taken stands =
     record {
       value = λ e. not8 (ap (λ (x : Dataset). x.rec) data_is ∙ e);
       first = here;
+      lowest = λ limits. value_fault_told limits ds (data_of h taken) fault here;
       dead = λ alive. let none = value_no_fault ds (data_of h taken) alive in cc;
     }
 

@@ -1,11 +1,15 @@
--- Faults stand exactly where the record layer dies.
-use Rattle.std.specs.Prelude.{◌≡◌, ◌↔◌, List, [], ◌∷◌, ◌++◌, None}
+-- Faults stand exactly where the record layer dies, and are those of the lowest number.
+use Rattle.std.specs.Prelude.{◌≡◌, ◌↔◌, List, [], ◌∷◌, ◌++◌, Option, Some, None}
 use Rattle.iim_dataset.specs.Octets.{IsOctet, Octets}
 use Rattle.iim_dataset.specs.Datasets.{Dataset, head_of}
 use Rattle.iim_dataset.specs.declared.head.Head.{Head}
 use Rattle.iim_fields.specs.Records.{AreSections}
 use Rattle.iim_fields.specs.Alive.{IsAlive, IsAliveAt}
-use Rattle.iim_fields.specs.Faults.{record_fault, value_fault}
+use Rattle.iim_fields.specs.Faults.{record_fault, value_fault, first_fault}
+use Rattle.iim_fields.specs.Causes.{Token, IsFault, HasNoFault}
+use Rattle.iim_fields.specs.Causes.Token.{AtHead, AtValue}
+use Rattle.iim_fields.specs.declared.limits.Limits.{Limits}
+use Rattle.iim_fields.specs.declared.fault.FieldFault.{FieldFault}
 
 -- Behind datasets that are alive, a head has no fault and its number is an octet exactly where the record layer is alive with it.
 abbrev pub HeadsDieWithTheirFault : Type 0
@@ -22,3 +26,15 @@ EnvelopesEndWithTheLastRecord = (ds : List Dataset) (d : Dataset) → IsAlive (d
 -- The datasets of no envelope begin those of another.
 abbrev pub NoSectionsBeginOthers : Type 0
 NoSectionsBeginOthers = (ds more : List Dataset) → AreSections ds → AreSections (ds ++ more) → more ≡ []
+
+-- What stands there is the fault of the token, or nothing where the condition of no cause holds.
+abbrev pub Tells : Option FieldFault → Limits → List Dataset → Token → Type 0
+Tells o limits ds t = ((fault : FieldFault) → (o ≡ Some fault) ↔ IsFault limits ds t fault) × ((o ≡ None) ↔ HasNoFault limits ds t)
+
+-- The first fault of a head is that of the cause of the lowest number whose condition holds, and there is one exactly where the condition of some cause holds.
+abbrev pub HeadsTellTheLowestCause : Type 0
+HeadsTellTheLowestCause = (limits : Limits) (ds : List Dataset) (h : Head) → Tells (first_fault limits ds h) limits ds (AtHead h)
+
+-- So is the first fault of a value.
+abbrev pub ValuesTellTheLowestCause : Type 0
+ValuesTellTheLowestCause = (limits : Limits) (ds : List Dataset) (d : Dataset) → Tells (value_fault d) limits ds (AtValue d)

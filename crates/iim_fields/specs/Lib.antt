@@ -1,6 +1,7 @@
 pub mod Records
 pub mod Alive
 pub mod Faults
+pub mod Causes
 pub mod Orders
 pub mod Values
 pub mod Stores

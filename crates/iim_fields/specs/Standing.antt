@@ -8,6 +8,8 @@ use Rattle.iim_tables.specs.Rows.{row_of}
 use Rattle.iim_tables.specs.declared.shape.Row.{Row}
 use Rattle.iim_fields.specs.Alive.{IsAlive, IsAliveAt}
 use Rattle.iim_fields.specs.Faults.{first_fault, value_fault, kept, kept_octets, is_kept}
+use Rattle.iim_fields.specs.Causes.{IsFault}
+use Rattle.iim_fields.specs.Causes.Token.{AtHead, AtValue}
 use Rattle.iim_fields.specs.Values.{data_of}
 use Rattle.iim_fields.specs.Orders.{Tells, Takes}
 use Rattle.iim_fields.specs.Stores.{Holds}
@@ -87,15 +89,18 @@ pub record StandsIn (checker : Checker) (ds : List Dataset) (h : Head) (taken : 
   pub holds : Holds checker.store (kept ds) taken
   pub start : (begun : Begun) → checker.phase ≡ phases.Inside begun → begun.start ≡ kept_octets ds
 
--- The fault is the first of the head, and with it no datasets within the limits go on.
+-- The fault is that of the head: the first, and of the lowest number. With it no datasets within the limits go on.
 pub record IsHeadFault (limits : Limits) (ds : List Dataset) (h : Head) (fault : FieldFault) : Type 0 where
   pub first : first_fault limits ds h ≡ Some fault
+  pub lowest : IsFault limits ds (AtHead h) fault
   pub dead : IsAliveAt ds h → (IsTrue (is_kept h.rec) → IsWithin limits (kept_octets ds + h.count) (length (kept ds) + 1)) → ⊥
 
--- The fault is that of the value, which is no subfile's, and with it no datasets go on.
+-- The fault is that of the value, which is no subfile's: the first, and of the lowest number, under any limits. With it no datasets
+-- go on.
 pub record IsValueFault (ds : List Dataset) (d : Dataset) (fault : FieldFault) : Type 0 where
   pub value : d.rec ≢ 8
   pub first : value_fault d ≡ Some fault
+  pub lowest : (limits : Limits) → IsFault limits ds (AtValue d) fault
   pub dead : IsAlive (ds ++ d ∷ []) → ⊥
 
 -- The dataset has this head, and these data if its record is not 8.

@@ -1,9 +1,10 @@
 -- Views of the datasets of an envelope.
-use Rattle.std.specs.Prelude.{ℕ, ◌-◌, Bool, true, ◌&&◌, ◌==◌, nat_le, if◌then◌else◌, List, [], ◌∷◌, map, Option, Some, None, ℤ}
+use Rattle.std.specs.Prelude.{ℕ, ◌-◌, Bool, true, ◌≡◌, ◌&&◌, ◌==◌, nat_le, if◌then◌else◌, List, [], ◌∷◌, map, Option, Some, None, is_some, ℤ}
 use Rattle.std.specs.List.{filter}
 use Rattle.std.specs.Option.{option_and_then}
 use Rattle.iim_tables.specs.Instants.{instant_in}
 use Rattle.iim_dataset.specs.Datasets.{Dataset}
+use Rattle.iim_fields.specs.Builders.{IsEnvelope}
 use Rattle.iim_fields.specs.declared.store.Entry.{Entry}
 
 -- the dataset has the numbers
@@ -27,3 +28,7 @@ instant_sent ds = option_and_then (λ date. option_and_then (λ time. instant_in
 abbrev pub is_sound : ℕ → List Entry → ℕ → Bool
 is_sound from [] n = true
 is_sound from (e ∷ es) n = nat_le from e.end && (nat_le (e.end - from) n && is_sound e.end es (n - (e.end - from)))
+
+-- Each envelope has a dataset with the numbers.
+abbrev pub IsInEach : ℕ → ℕ → Type 0
+IsInEach rec set = (ds : List Dataset) → IsEnvelope ds → is_some (first_data rec set ds) ≡ true

@@ -28,13 +28,14 @@ impl Model for Envelope {
 }
 
 impl Envelope {
-    ghost use Rattle.std.specs.Prelude.{◌≡◌, ◌≤◌, [], ◌∷◌, length, Some, ◌↔◌, IsTrue, IsSomeAnd, pos};
+    ghost use Rattle.std.specs.Prelude.{◌≡◌, ◌≤◌, [], ◌∷◌, length, Some, ◌↔◌, IsTrue, IsSomeAnd, IfSome, pos};
     ghost use Rattle.std.specs.Option.{option_map};
     ghost use Rattle.jiff.specs.Words.{IsYmd};
     ghost use Rattle.iim_tables.specs.Dates.{is_date, year_in, month_in, day_in};
     ghost use Rattle.iim_fields.specs.Walks.{rest_of, data_left};
     ghost use Rattle.iim_fields.specs.Builders.{IsEnvelope, AreFew};
-    ghost use Rattle.iim_fields.specs.Views.{first_data, all_data, instant_sent};
+    ghost use Rattle.iim_fields.specs.Views.{first_data, all_data, instant_sent, IsInEach};
+    ghost use Rattle.iim_tables.specs.Rows.{Meets};
 
     /// All datasets, in order: record, number and data of each.
     pub fn fields(&self) -> FieldIter<'_>
@@ -49,9 +50,10 @@ impl Envelope {
         }
     }
 
-    /// The data of the first dataset with these numbers, of any record and number.
+    /// The data of the first dataset with these numbers, of any record and number. They are as its row says.
     pub fn first(&self, rec: u8, set: u8) -> Option<&[u8]>
-        ensures { option_map (λ x. x.now) result ≡ first_data rec set self.now }
+        ensures data { option_map (λ x. x.now) result ≡ first_data rec set self.now }
+        ensures meets { IfSome result (λ x. Meets rec set x.now) }
     {
         let mut fields = self.fields();
         while let Some((field_rec, field_set, octets)) = fields.next() {
@@ -73,14 +75,23 @@ impl Envelope {
         }
     }
 
+    /// The data of the first dataset with these numbers, one that each envelope has.
+    fn mandatory(&self, rec: u8, set: u8) -> &[u8]
+        requires { IsInEach rec set }
+        ensures data { first_data rec set self.now ≡ Some result.now }
+        ensures meets { Meets rec set result.now }
+    {
+        // Where a field is read, it is known that the type's invariant holds.
+        let _ = &self.store;
+        self.first(rec, set).unwrap()
+    }
+
     /// 1:30 Service Identifier, of the Envelope Record.
     pub fn service(&self) -> &[u8]
         ensures data { first_data 1 30 self.now ≡ Some result.now }
         ensures fits { length result.now ≤ 10 }
     {
-        // Where a field is read, it is known that the type's invariant holds: here and below.
-        let _ = &self.store;
-        self.first(ENVELOPE, 30).unwrap()
+        self.mandatory(ENVELOPE, 30)
     }
 
     /// 1:40 Envelope Number: eight digits.
@@ -88,8 +99,7 @@ impl Envelope {
         ensures data { first_data 1 40 self.now ≡ Some result.now }
         ensures fits { length result.now ≡ 8 }
     {
-        let _ = &self.store;
-        self.first(ENVELOPE, 40).unwrap()
+        self.mandatory(ENVELOPE, 40)
     }
 
     /// 1:70 Date Sent, as eight digits, CCYYMMDD.
@@ -98,8 +108,7 @@ impl Envelope {
         ensures fits { length result.now ≡ 8 }
         ensures date { IsTrue (is_date result.now) }
     {
-        let _ = &self.store;
-        self.first(ENVELOPE, 70).unwrap()
+        self.mandatory(ENVELOPE, 70)
     }
 
     /// The day of 1:70 Date Sent.
@@ -131,31 +140,27 @@ impl Envelope {
     pub fn model_version(&self) -> &[u8]
         ensures { first_data 1 0 self.now ≡ Some result.now }
     {
-        let _ = &self.store;
-        self.first(ENVELOPE, 0).unwrap()
+        self.mandatory(ENVELOPE, 0)
     }
 
     /// 1:22 File Format Version.
     pub fn format_version(&self) -> &[u8]
         ensures { first_data 1 22 self.now ≡ Some result.now }
     {
-        let _ = &self.store;
-        self.first(ENVELOPE, 22).unwrap()
+        self.mandatory(ENVELOPE, 22)
     }
 
     /// 2:00 Record Version, of the Application Record.
     pub fn record_version(&self) -> &[u8]
         ensures { first_data 2 0 self.now ≡ Some result.now }
     {
-        let _ = &self.store;
-        self.first(APPLICATION, 0).unwrap()
+        self.mandatory(APPLICATION, 0)
     }
 
     /// The digit of 1:60 Envelope Priority, where it was sent: `1` is most urgent, `5` normal, `8` least urgent.
     pub fn priority(&self) -> Option<u8>
         ensures { option_map (λ digit. digit ∷ []) result ≡ first_data 1 60 self.now }
     {
-        let _ = &self.store;
         self.first(ENVELOPE, 60)?.first().copied()
     }
 

@@ -1,6 +1,6 @@
 //! What holds of all datasets.
 
-ghost use Rattle.iim_fields.specs.Laws.{HeadsDieWithTheirFault, ValuesDieWithTheirFault, EnvelopesEndWithTheLastRecord, NoSectionsBeginOthers};
+ghost use Rattle.iim_fields.specs.Laws.{HeadsDieWithTheirFault, ValuesDieWithTheirFault, EnvelopesEndWithTheLastRecord, NoSectionsBeginOthers, HeadsTellTheLowestCause, ValuesTellTheLowestCause};
 
 use iim_tables::each_row_has_values;
 
@@ -26,4 +26,16 @@ pub fn envelopes_end_with_the_last_record()
 /// The datasets of no envelope begin those of another.
 pub fn no_sections_begin_others()
     ensures { NoSectionsBeginOthers }
+{}
+
+/// The fault of a head is that of the cause of the lowest number whose condition holds, of the record layer and of the limits;
+/// and there is a fault exactly where some condition holds.
+pub fn heads_tell_the_lowest_cause()
+    ensures { HeadsTellTheLowestCause }
+{}
+
+/// The fault of a value is that of the cause of the lowest number whose condition holds; and there is a fault exactly where
+/// some condition holds.
+pub fn values_tell_the_lowest_cause()
+    ensures { ValuesTellTheLowestCause }
 {}

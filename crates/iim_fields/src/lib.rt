@@ -27,8 +27,8 @@ pub use fault::{FieldCause, FieldFault};
 pub use fields::Fields;
 pub use id::EnvelopeId;
 pub use laws::{
-    envelopes_end_with_the_last_record, heads_die_with_their_fault, no_sections_begin_others,
-    values_die_with_their_fault,
+    envelopes_end_with_the_last_record, heads_die_with_their_fault, heads_tell_the_lowest_cause,
+    no_sections_begin_others, values_die_with_their_fault, values_tell_the_lowest_cause,
 };
 pub use limits::Limits;
 pub use walk::{DataIter, FieldIter};

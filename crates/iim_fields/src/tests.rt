@@ -5,8 +5,6 @@ ghost use Rattle.iim_fields.specs.Standing.{IsBetween, IsInside};
 
 use crate::{
     DataIter, Envelope, EnvelopeBuilder, EnvelopeId, FieldCause, FieldFault, Fields, Limits,
-    envelopes_end_with_the_last_record, heads_die_with_their_fault, no_sections_begin_others,
-    values_die_with_their_fault,
 };
 use iim_dataset::Head;
 use jiff::Timestamp;
@@ -246,6 +244,186 @@ fn limits_are_exact(rt: HostRuntime) -> Result<(), Fail> {
         }
         let mut builder = EnvelopeBuilder::new(rt.alloc(), limits)?;
         assert_eq!(rt; add_fields(&mut builder, 0, 0), want);
+    }
+    Ok(())
+}
+
+/// A whole record 1, and a record 2 without 2:00.
+const WITHOUT_VERSION: [(u8, u8, &[u8]); 7] = [
+    (1, 0, b"\0\x04"),
+    (1, 20, b"\0\x02"),
+    (1, 22, b"\0\x01"),
+    (1, 30, b"TST"),
+    (1, 40, b"00000002"),
+    (1, 70, b"20240301"),
+    (2, 105, b"Rates held"),
+];
+
+/// A record 1 without 1:20 and 1:40: four datasets of 15 octets.
+const WITHOUT_NUMBER: [(u8, u8, &[u8]); 4] = [
+    (1, 0, b"\0\x04"),
+    (1, 22, b"\0\x01"),
+    (1, 30, b"TST"),
+    (1, 70, b"20240301"),
+];
+
+/// Whole records 1 and 2, and a record 7 without 7:20.
+const WITHOUT_SUBFILE_SIZE: [(u8, u8, &[u8]); 8] = [
+    (1, 0, b"\0\x04"),
+    (1, 20, b"\0\x02"),
+    (1, 22, b"\0\x01"),
+    (1, 30, b"TST"),
+    (1, 40, b"00000002"),
+    (1, 70, b"20240301"),
+    (2, 0, b"\0\x04"),
+    (7, 10, b"\x01"),
+];
+
+/// Passes these datasets, and answers the first fault.
+fn pass_these(fields: &mut Fields, datasets: &[(u8, u8, &'static [u8])]) -> Result<(), FieldFault>
+    requires { IsBetween fields.old }
+    ensures { OnOk result (IsBetween fields.new) }
+{
+    for (rec, set, octets) in datasets {
+        if let Err(fault) = pass(fields, *rec, *set, octets, false) {
+            return Err(fault);
+        }
+    }
+    Ok(())
+}
+
+/// The fault of a head behind these datasets, under limits of so many octets and datasets.
+fn fault_behind(
+    rt: &impl Abort,
+    alloc: Global,
+    limits: (u32, u32),
+    datasets: &[(u8, u8, &'static [u8])],
+    head: (u8, u8, u64),
+) -> Result<Option<FieldFault>, AllocError> {
+    let (octets, fields) = limits;
+    let mut fields = Fields::new(alloc, Limits { octets, fields })?;
+    if let Err(fault) = pass_these(&mut fields, datasets) {
+        assert!(rt; false, "{fault:?}");
+        return Ok(None);
+    }
+    let (rec, set, count) = head;
+    Ok(fields.begin(Head { rec, set, count }).err())
+}
+
+#[test]
+fn the_lowest_cause_of_the_record_layer_is_told(rt: HostRuntime) -> Result<(), Fail> {
+    let rows: [(&[(u8, u8, &'static [u8])], (u8, u8, u64), FieldFault); 9] = [
+        // No row, or a count outside its bounds, and out of order.
+        (&FIELDS, (3, 0, 2), fault(3, 0, FieldCause::RecordOrder)),
+        (&FIELDS, (8, 11, 0), fault(8, 11, FieldCause::RecordOrder)),
+        (&[], (9, 10, 5), fault(9, 10, FieldCause::RecordOrder)),
+        // Without 7:20 and 8:10: the head begins no next record.
+        (
+            &WITHOUT_SUBFILE_SIZE,
+            (9, 10, 4),
+            fault(9, 10, FieldCause::RecordOrder),
+        ),
+        // No row, and 2:00 or 7:20 is missing.
+        (
+            &WITHOUT_VERSION,
+            (7, 11, 1),
+            fault(7, 11, FieldCause::UnknownDataset),
+        ),
+        (
+            &WITHOUT_SUBFILE_SIZE,
+            (8, 11, 1),
+            fault(8, 11, FieldCause::UnknownDataset),
+        ),
+        // A second one, too long.
+        (&FIELDS, (2, 105, 257), fault(2, 105, FieldCause::Repeated)),
+        // Too long, and 2:00 or 1:20 is missing.
+        (
+            &WITHOUT_VERSION,
+            (7, 10, 2),
+            fault(7, 10, FieldCause::CountRange),
+        ),
+        (
+            &WITHOUT_NUMBER,
+            (2, 0, 3),
+            fault(2, 0, FieldCause::CountRange),
+        ),
+    ];
+    for (datasets, head, want) in rows {
+        let told = fault_behind(&rt, rt.alloc(), (65536, 512), datasets, head)?;
+        assert_eq!(rt; told, Some(want));
+    }
+    Ok(())
+}
+
+#[test]
+fn the_lowest_missing_dataset_is_named(rt: HostRuntime) -> Result<(), Fail> {
+    let rows: [(&[(u8, u8, &'static [u8])], (u8, u8, u64), FieldFault); 3] = [
+        (
+            &WITHOUT_NUMBER,
+            (2, 0, 2),
+            fault(1, 20, FieldCause::Missing),
+        ),
+        (
+            &WITHOUT_VERSION,
+            (7, 10, 1),
+            fault(2, 0, FieldCause::Missing),
+        ),
+        (
+            &WITHOUT_SUBFILE_SIZE,
+            (8, 10, 1),
+            fault(7, 20, FieldCause::Missing),
+        ),
+    ];
+    for (datasets, head, want) in rows {
+        let told = fault_behind(&rt, rt.alloc(), (65536, 512), datasets, head)?;
+        assert_eq!(rt; told, Some(want));
+    }
+    Ok(())
+}
+
+#[test]
+fn the_record_layer_is_told_before_the_limits(rt: HostRuntime) -> Result<(), Fail> {
+    // Each head passes both limits.
+    let rows: [(
+        (u32, u32),
+        &[(u8, u8, &'static [u8])],
+        (u8, u8, u64),
+        FieldFault,
+    ); 5] = [
+        (
+            (78, 16),
+            &FIELDS,
+            (1, 5, 1),
+            fault(1, 5, FieldCause::RecordOrder),
+        ),
+        (
+            (78, 16),
+            &FIELDS,
+            (2, 105, 1),
+            fault(2, 105, FieldCause::Repeated),
+        ),
+        (
+            (78, 16),
+            &FIELDS,
+            (2, 120, 2001),
+            fault(2, 120, FieldCause::CountRange),
+        ),
+        (
+            (15, 4),
+            &WITHOUT_NUMBER,
+            (2, 0, 2),
+            fault(1, 20, FieldCause::Missing),
+        ),
+        (
+            (78, 16),
+            &FIELDS,
+            (2, 250, 1),
+            fault(2, 250, FieldCause::HeaderFull),
+        ),
+    ];
+    for (limits, datasets, head, want) in rows {
+        let told = fault_behind(&rt, rt.alloc(), limits, datasets, head)?;
+        assert_eq!(rt; told, Some(want));
     }
     Ok(())
 }
@@ -621,12 +799,4 @@ fn each_other_view(rt: HostRuntime) -> Result<(), Fail> {
     expect_some(&rt, envelope.first(1, 5), b"DESK");
     expect_all(&rt, envelope.all(1, 40), &[b"00000002"]);
     Ok(())
-}
-
-#[test]
-fn laws_are_called() {
-    heads_die_with_their_fault();
-    values_die_with_their_fault();
-    envelopes_end_with_the_last_record();
-    no_sections_begin_others();
 }

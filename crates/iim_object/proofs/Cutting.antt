@@ -1,6 +1,12 @@
 -- How an object is cut, and in how many ways.
-use Rattle.std.proofs.Common.{◌≡◌, ℕ, ◌≤◌, List, [], ◌∷◌, ◌++◌, length, refl, sym, ap, ◌∙◌, arith, append_assoc, length-append}
+use Rattle.std.proofs.Common.{◌≡◌, ℕ, ◌+◌, ◌*◌, ◌≤◌, ◌&&◌, nat_le, inl, inr, subst, IsTrue, List, [], ◌∷◌, ◌++◌, length, refl, sym, ap, ◌∙◌, arith, append_assoc, length-append}
+use Rattle.std.proofs.Math.Nat.{mul-le-mul_left}
+use Rattle.std.proofs.lemmas.Bool.{and_parts, leb-true, cases_lt}
 use Rattle.iim_object.specs.Cuts.{joined_parts, AreFull, ObjectsAreCutOneWay}
+use Rattle.iim_object.specs.Plans.{is_plan, fits, max_subfiles}
+use Rattle.iim_tables.specs.Numbers.{greatest_size}
+use Rattle.iim_object.specs.Packing.{SubfilesAreFew}
+use Rattle.iim_object.specs.declared.size.Size.{Size}
 
 -- lists of one length that lists begin with are equal, and so is what follows
 pub same_front : (xs ys us vs : List ℕ) → length xs ≡ length ys → xs ++ us ≡ ys ++ vs → (xs ≡ ys) × (us ≡ vs)
@@ -53,3 +59,46 @@ one_way size (f ∷ fs) (g ∷ gs) last other one full fulls short brief some an
 pub cut_one_way : ObjectsAreCutOneWay
 cut_one_way size object parts others one c d =
     c.parts_are ∙ (one_way size c.full d.full c.last d.last one c.are_full d.are_full c.fits d.fits (λ e. sym c.joined ∙ c.some e) (λ e. sym d.joined ∙ d.some e) (sym c.joined ∙ d.joined) ∙ sym d.parts_are)
+
+-- ---- how many parts
+
+-- full parts joined
+full_length : (size : ℕ) (full : List (List ℕ)) → AreFull size full → length (joined_parts full) ≡ size * length full
+full_length size [] h = omega arith
+full_length size (f ∷ fs) h =
+    let more = full_length size fs h.1 in omega (arith, more, h.0, length-append f (joined_parts fs))
+
+-- one full part more than there may be is too much
+few_full : (size count last most : ℕ) → 1 ≤ size → 1 ≤ last → size * count + last ≤ size * most → count + 1 ≤ most
+few_full size count last most one some h = elim (cases_lt count most) [
+  | inl lt ↦ omega (arith, lt)
+  | inr ge ↦ let much = mul-le-mul_left size ge in absurd (omega (arith, h, some, much))
+]
+
+least_size : (subfile : ℕ) (size : Size) → IsTrue (is_plan subfile size) → 1 ≤ subfile
+least_size subfile size h =
+    let outer = and_parts (nat_le 1 subfile && nat_le subfile greatest_size) (fits subfile size) h in
+    leb-true 1 subfile (and_parts (nat_le 1 subfile) (nat_le subfile greatest_size) outer.0).0
+
+pub few_parts : SubfilesAreFew
+few_parts subfile size object parts plan c within = by_last c.last refl c.full refl
+  where
+    one : 1 ≤ subfile
+    one = least_size subfile size plan
+
+    many : (full : List (List ℕ)) → c.full ≡ full → length parts ≡ length full + 1
+    many full f = ap length (c.parts_are ∙ ap (λ (fs : List (List ℕ)). fs ++ c.last ∷ []) f) ∙ length-append full (c.last ∷ [])
+
+    by_last : (last : List ℕ) → c.last ≡ last → (full : List (List ℕ)) → c.full ≡ full → length parts ≤ max_subfiles
+    by_last [] e [] f = omega (arith, many [] f)
+    by_last [] e (g ∷ gs) f =
+        let none = c.some e in
+        let whole : joined_parts (g ∷ gs) ++ c.last ≡ [] = ap (λ (fs : List (List ℕ)). joined_parts fs ++ c.last) (sym f) ∙ (sym c.joined ∙ none) in
+        let first = (subst (AreFull subfile) f c.are_full).0 in
+        absurd (omega (arith, one, first, ap length whole, length-append g (joined_parts gs), length-append (joined_parts (g ∷ gs)) c.last))
+    by_last (x ∷ last) e full f =
+        let length_is : length object ≡ length (joined_parts full) + length c.last = ap length (c.joined ∙ ap (λ (fs : List (List ℕ)). joined_parts fs ++ c.last) f) ∙ length-append (joined_parts full) c.last in
+        let fulls = full_length subfile full (subst (AreFull subfile) f c.are_full) in
+        let some : 1 ≤ length c.last = omega (arith, ap length e) in
+        let room : subfile * length full + length c.last ≤ subfile * max_subfiles = omega (arith, length_is, fulls, within) in
+        omega (arith, many full f, few_full subfile (length full) (length c.last) max_subfiles one some room)

@@ -1,6 +1,7 @@
 pub mod Numbers
 pub mod Subfiles
 pub mod Steps
+pub mod Conditions
 pub mod Members
 pub mod Cuts
 pub mod Behind

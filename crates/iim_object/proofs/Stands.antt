@@ -1,5 +1,5 @@
 -- What a reader that stands behind whole records says of their sizes.
-use Rattle.std.proofs.Common.{◌≡◌, ◌<◌, List, [], ◌∷◌, length, Some, refl, sym, ap, subst, ◌∙◌, arith, unwrap_or}
+use Rattle.std.proofs.Common.{◌≡◌, ◌<◌, List, [], ◌∷◌, length, true, Option, Some, None, refl, sym, ap, subst, ◌∙◌, arith, unwrap_or}
 use Rattle.std.proofs.lemmas.List.{length-map}
 use Rattle.std.proofs.lemmas.Bool.{eq-eqb}
 use Rattle.iim_dataset.specs.Octets.{number}
@@ -11,6 +11,7 @@ use Rattle.iim_object.specs.Causes.{is_given}
 use Rattle.iim_object.specs.Records.{AreRecords, HaveSizes, numbers_of, lengths_of}
 use Rattle.iim_object.specs.Behind.{place_behind}
 use Rattle.iim_object.specs.Reading.{StandsAt}
+use Rattle.iim_object.specs.Told.{ReadersTellSizes}
 use Rattle.iim_object.proofs.Subfiles.{agree_of, confirmed_law}
 use Rattle.iim_object.proofs.Steps.{sizes_are}
 use Rattle.iim_object.proofs.Members.{one_confirmation, some_subfile, ten_of}
@@ -39,3 +40,13 @@ have_sizes s ds r st =
       is_confirmed = subst (λ (ds : List Dataset). number_at 10 (numbers_of ds) ≡ Some (number e.octets)) (sym one.2) (rw (eq-eqb e.set 10 (ten_of e one.1)) refl);
       agree = subst (Agree (sizes_at sizes.0 sizes.1 (numbers_of r.r7) (lengths_of r.r8)) (lengths_of r.r8)) (sym whole.2) (agree_of sizes.0 sizes.1 (numbers_of r.r7) (lengths_of r.r8) whole.0 whole.1);
     })
+
+pub tell_sizes : ReadersTellSizes
+tell_sizes None = (record { known = true; subfile = 0; announced = None; maximum = None; subfiles = 0; total = 0 }, λ ds r st. absurd (none_stands ds st))
+  where
+    none_stands : (ds : List Dataset) → StandsAt None (place_behind ds) → ⊥
+    none_stands ds st = let clash : ◌≡◌ {A = Option State} None (Some st.state) = st.is_state in cc
+tell_sizes (Some s) = (
+  record { known = is_given s.mode 1; subfile = unwrap_or s.subfile 0; announced = s.announced; maximum = s.maximum; subfiles = s.subfiles; total = s.total },
+  have_sizes s,
+)

@@ -58,18 +58,18 @@ once_last (p ∷ ps) q o =
 
 -- ---- numbers
 
-given_is : (o : Option ℕ) (n : ℕ) → is_given o n ≡ true → o ≡ Some n
+pub given_is : (o : Option ℕ) (n : ℕ) → is_given o n ≡ true → o ≡ Some n
 given_is None n e = absurd cc
 given_is (Some m) n e = ap (λ (k : ℕ). Some k) (eqb-true m n e)
 
-is_given_by : (o : Option ℕ) (n : ℕ) → o ≡ Some n → is_given o n ≡ true
+pub is_given_by : (o : Option ℕ) (n : ℕ) → o ≡ Some n → is_given o n ≡ true
 is_given_by o n e = ap (λ (x : Option ℕ). is_given x n) e ∙ eq-eqb n n refl
 
-none_of : (o : Option ℕ) → is_some o ≡ false → o ≡ None
+pub none_of : (o : Option ℕ) → is_some o ≡ false → o ≡ None
 none_of None e = refl
 none_of (Some n) e = absurd cc
 
-both_true : (a b : Bool) → (a && b) ≡ true → (a ≡ true) × (b ≡ true)
+pub both_true : (a b : Bool) → (a && b) ≡ true → (a ≡ true) × (b ≡ true)
 both_true true true e = (refl, refl)
 both_true true false e = absurd cc
 both_true false b e = absurd cc
@@ -126,14 +126,14 @@ number_before p none not_ended =
     ap (λ (e : Ending). number_tokens p.stated ++ (map SubfileBegun p.lengths ++ ending_tokens e)) not_ended
     ∙ (ap (λ (ls : List ℕ). number_tokens p.stated ++ (map SubfileBegun ls ++ [])) none ∙ append-nil (number_tokens p.stated))
 
-some_is : (a b : State) → Some a ≡ Some b → a ≡ b
+pub some_is : (a b : State) → Some a ≡ Some b → a ≡ b
 some_is a b e = cc
 
 -- the state that the reader has tells of the place
-tells_of : (s : State) (p : Place) → StandsAt (Some s) p → Tells s p
+pub tells_of : (s : State) (p : Place) → StandsAt (Some s) p → Tells s p
 tells_of s p st = subst (λ (x : State). Tells x p) (sym (some_is s st.state st.is_state)) st.tells
 
-number_tells : (s : State) (p : Place) (set number : ℕ) → Tells s p → AreStated (p.stated ++ record { set = set; number = number } ∷ [])
+pub number_tells : (s : State) (p : Place) (set number : ℕ) → Tells s p → AreStated (p.stated ++ record { set = set; number = number } ∷ [])
     → Tells (state_with s set number) (place_after p (NumberRead set number))
 number_tells s p set number t stated =
     let none : number_at set p.stated ≡ None = once_last p.stated (record { set = set; number = number }) stated.once in
@@ -147,7 +147,7 @@ number_tells s p set number t stated =
     }
 
 -- the state's cause is the place's
-number_cause_is : (s : State) (p : Place) (set number : ℕ) → Tells (state_with s set number) (place_after p (NumberRead set number))
+pub number_cause_is : (s : State) (p : Place) (set number : ℕ) → Tells (state_with s set number) (place_after p (NumberRead set number))
     → number_cause (state_with s set number).mode (state_with s set number).announced (state_with s set number).maximum ≡ cause_at p (NumberRead set number)
 number_cause_is s p set number t = λ i. number_cause (t.mode i) (t.announced i) (t.maximum i)
 
@@ -183,7 +183,7 @@ mode_known zero h = (false, refl)
 mode_known (suc zero) h = (true, refl)
 mode_known (suc (suc n)) h = absurd (omega arith)
 
-given : (o : Option ℕ) → is_some o ≡ true → (n : ℕ) × (o ≡ Some n)
+pub given : (o : Option ℕ) → is_some o ≡ true → (n : ℕ) × (o ≡ Some n)
 given None e = absurd cc
 given (Some n) e = (n, refl)
 
@@ -211,10 +211,10 @@ sum_more lengths count = sum_append lengths (count ∷ []) ∙ (let one : sum (c
     one_sum : (n : ℕ) → sum (n ∷ []) ≡ n
     one_sum n = omega arith
 
-not_below : (a b : ℕ) → nat_lt a b ≡ false → b ≤ a
+pub not_below : (a b : ℕ) → nat_lt a b ≡ false → b ≤ a
 not_below a b f = elim (cases_lt a b) [ inl lt ↦ let bad : true ≡ false = sym (lt-ltb a b lt) ∙ f in absurd cc | inr ge ↦ ge ]
 
-is_below : (a b : ℕ) → nat_lt a b ≡ true → a < b
+pub is_below : (a b : ℕ) → nat_lt a b ≡ true → a < b
 is_below a b t = elim (cases_lt a b) [ inl lt ↦ lt | inr ge ↦ let bad : false ≡ true = sym (le-ltb a b ge) ∙ t in absurd cc ]
 
 or_less : (o : Option ℕ) (n most other : ℕ) → n ≤ min (unwrap_or o most) other → IfSome o (λ m. n ≤ m)
@@ -232,7 +232,7 @@ under_both (Some k) None n most h a b = omega arith
 under_both (Some k) (Some m) n most h a b = omega arith
 
 -- the announced size is at most the greatest
-announced_small : (ps : List Stated) → AreStated ps → (o : Option ℕ) → number_at 90 ps ≡ o → unwrap_or o greatest_size ≤ greatest_size
+pub announced_small : (ps : List Stated) → AreStated ps → (o : Option ℕ) → number_at 90 ps ≡ o → unwrap_or o greatest_size ≤ greatest_size
 announced_small ps stated None e = omega arith
 announced_small ps stated (Some a) e = at_most_size a (in_row_at 90 a ps stated.each e)
 
@@ -240,11 +240,11 @@ both_false : (a b : Bool) → (a && b) ≡ false → a ≡ true → b ≡ false
 both_false true b e t = e
 both_false false b e t = absurd cc
 
-not_false : (b : Bool) → not b ≡ false → b ≡ true
+pub not_false : (b : Bool) → not b ≡ false → b ≡ true
 not_false true e = refl
 not_false false e = absurd cc
 
-not_true : (b : Bool) → not b ≡ true → b ≡ false
+pub not_true : (b : Bool) → not b ≡ true → b ≡ false
 not_true true e = absurd cc
 not_true false e = refl
 
@@ -257,7 +257,7 @@ pub record Clear (ps : List Stated) (total count : ℕ) : Type 0 where
 abbrev cause_of_subfile : List Stated → ℕ → ℕ → Option SizeCause
 cause_of_subfile ps total count = subfile_cause (number_at 10 ps) (number_at 20 ps) (number_at 90 ps) (number_at 95 ps) total count
 
-clear_of : (ps : List Stated) (total count : ℕ) → cause_of_subfile ps total count ≡ None → Clear ps total count
+pub clear_of : (ps : List Stated) (total count : ℕ) → cause_of_subfile ps total count ≡ None → Clear ps total count
 clear_of ps total count e = elim (cases_Bool (is_given (number_at 10 ps) 1 && not (is_some (number_at 90 ps)))) [
   | inl t ↦ let clash : ◌≡◌ {A = Option SizeCause} (Some ModeClash) None = (rw t at e) in absurd cc
   | inr f ↦ elim (cases_Bool (nat_lt (unwrap_or (number_at 20 ps) 0) count)) [
@@ -331,7 +331,7 @@ subfile_tells s p count subfiles total t more octets = record {
   total = omega (arith, octets, t.total, sum_more p.lengths count);
 }
 
-subfile_cause_is : (s : State) (p : Place) (count : ℕ) → Tells s p → subfile_cause s.mode s.subfile s.announced s.maximum s.total count ≡ cause_at p (SubfileBegun count)
+pub subfile_cause_is : (s : State) (p : Place) (count : ℕ) → Tells s p → subfile_cause s.mode s.subfile s.announced s.maximum s.total count ≡ cause_at p (SubfileBegun count)
 subfile_cause_is s p count t = λ i. subfile_cause (t.mode i) (t.largest i) (t.announced i) (t.maximum i) (t.total i) count
 
 not_ended_tokens : (p : Place) → p.ending ≡ NotEnded → tokens_of p ≡ number_tokens p.stated ++ map SubfileBegun p.lengths
@@ -409,7 +409,7 @@ end_tokens : (p : Place) → p.ending ≡ NotEnded → tokens_of p ++ ObjectEnde
 end_tokens p e =
     ap (λ (t : List ObjectToken). t ++ ObjectEnded ∷ []) (not_ended_tokens p e) ∙ append_assoc (number_tokens p.stated) (map SubfileBegun p.lengths) (ObjectEnded ∷ [])
 
-end_cause_is : (s : State) (p : Place) → Tells s p → end_cause s.announced s.total ≡ cause_at p ObjectEnded
+pub end_cause_is : (s : State) (p : Place) → Tells s p → end_cause s.announced s.total ≡ cause_at p ObjectEnded
 end_cause_is s p t = λ i. end_cause (t.announced i) (t.total i)
 
 no_length : (xs : List ℕ) → xs ≡ [] → length xs ≡ 0
@@ -478,7 +478,7 @@ some_subfile s p st e = by_lengths p.lengths refl
     by_lengths [] f = let clash : ◌≡◌ {A = Ending} NotEnded Ended = sym (st.subfiles f) ∙ e in absurd cc
     by_lengths (l ∷ ls) f = omega (arith, ap length f)
 
-confirmed_cause_is : (s : State) (p : Place) (n : ℕ) → Tells s p → confirmed_cause s.total n ≡ cause_at p (Confirmed n)
+pub confirmed_cause_is : (s : State) (p : Place) (n : ℕ) → Tells s p → confirmed_cause s.total n ≡ cause_at p (Confirmed n)
 confirmed_cause_is s p n t = λ i. confirmed_cause (t.total i) n
 
 pub confirmed_goes_on : (s : State) (n : ℕ) → confirmed_cause s.total n ≡ None → GoesOn (Some s) (Confirmed n) (Some s)

@@ -4,8 +4,6 @@ use Rattle.std.specs.Prelude.{vec_len, IfNone}
 use Rattle.std.proofs.lemmas.List.{take-append-drop}
 use Rattle.iim_dataset.specs.Devices.{Device, Wrote}
 use Rattle.iim_dataset.specs.DeviceLaws.{TextsJoin}
-use Rattle.iim_dataset.proofs.Devices.{appends_appends}
-use Rattle.iim_dataset.proofs.DeviceLaws.{broke_later}
 use Rattle.iim_dataset.specs.Datasets.{Dataset, canonical_dataset, canonical_stream}
 use Rattle.iim_object.specs.Cuts.{joined_parts, AreFull, IsCut, ObjectsAreCutOneWay}
 use Rattle.iim_object.specs.Packing.{plan_datasets, subfile_dataset, subfile_datasets, confirmed_datasets, number_dataset, object_datasets, IsWritten}
@@ -220,8 +218,8 @@ pub breaks_later : {W : Type 0} (state : W → Device) (plan : Plan) (a b c : Wr
     → BreaksOff state (GoesOnWith plan (xs ++ ys)) a c
 breaks_later state plan a b c xs ys join l k = record {
   more = l.more ++ k.more;
-  appends = appends_appends (state a.writer).octets (state b.writer).octets (state c.writer).octets l.more k.more l.wrote.0 k.appends;
-  broke = broke_later (state a.writer) (state b.writer) (state c.writer) l.wrote.1 k.broke;
+  appends = (join.broke (state a.writer) (state b.writer) (state c.writer) l.more k.more l.wrote (k.appends, k.broke)).0;
+  broke = (join.broke (state a.writer) (state b.writer) (state c.writer) l.more k.more l.wrote (k.appends, k.broke)).1;
   plan = k.plan ∙ l.plan;
   failed = k.failed;
   counted = omega (arith, k.counted, l.counted, length-append l.more k.more);

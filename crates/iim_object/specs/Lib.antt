@@ -9,7 +9,10 @@ pub mod Behind
 pub mod Causes
 pub mod States
 pub mod Reading
+pub mod Conditions
+pub mod Told
 pub mod Cuts
 pub mod Packing
 pub mod Outputs
+pub mod PackCauses
 pub mod Writing

@@ -5,7 +5,7 @@ use Rattle.iim_dataset.specs.Octets.{Octets}
 use Rattle.iim_dataset.specs.Datasets.{Dataset, canonical_stream}
 use Rattle.iim_tables.specs.Numbers.{size_octets}
 use Rattle.iim_object.specs.Sizes.{mode_number}
-use Rattle.iim_object.specs.Plans.{is_plan, bound_of}
+use Rattle.iim_object.specs.Plans.{is_plan, bound_of, max_subfiles}
 use Rattle.iim_object.specs.Records.{HaveSizes}
 use Rattle.iim_object.specs.Cuts.{IsCut}
 use Rattle.iim_object.specs.declared.size.Size.{Size}
@@ -86,3 +86,8 @@ abbrev pub PackedObjectsHaveSizes : Type 0
 PackedObjectsHaveSizes = (subfile : ℕ) (size : Size) (object : List ℕ) (parts : List (List ℕ)) → IsTrue (is_plan subfile size) → Octets object
     → IsCut subfile object parts → Suits subfile size object
     → HaveSizes (plan_datasets subfile size) (subfile_datasets parts) (confirmed_datasets object) (packed_sizes subfile size object parts)
+
+-- An object that a plan has room for is cut into as many subfiles as one envelope may have, or fewer.
+abbrev pub SubfilesAreFew : Type 0
+SubfilesAreFew = (subfile : ℕ) (size : Size) (object : List ℕ) (parts : List (List ℕ)) → IsTrue (is_plan subfile size) → IsCut subfile object parts
+    → length object ≤ bound_of subfile size → length parts ≤ max_subfiles

@@ -1,5 +1,5 @@
 -- A writer of subfiles: what it has taken, what is out, and how a call ends.
-use Rattle.std.specs.Prelude.{◌≡◌, ℕ, ◌+◌, ◌*◌, ◌^◌, ◌<◌, ◌≤◌, min, nat_le, nat_lt, not, Bool, true, false, if◌then◌else◌, List, [], ◌++◌, length, Option, Some, None, Vec, vec_len, vec_capacity}
+use Rattle.std.specs.Prelude.{◌≡◌, ℕ, ◌+◌, ◌*◌, ◌^◌, ◌<◌, ◌≤◌, ◌⊎◌, min, nat_le, nat_lt, not, Bool, true, false, if◌then◌else◌, List, [], ◌++◌, length, Option, Some, None, Vec, vec_len, vec_capacity}
 use Rattle.iim_dataset.specs.Devices.{Device, Wrote, Broke}
 use Rattle.std.specs.Io.KnownBytes.{Appends}
 use Rattle.iim_dataset.specs.Datasets.{canonical_dataset, canonical_stream}
@@ -117,6 +117,17 @@ finish_cause w =
     else if is_short w.plan.size (total_of w) then Some causes.ShortOfAnnounced
     else None
 
+-- Why so many octets more are refused, in this order: a write failed before; the object would pass the plan's bound, of which the
+-- end takes nothing.
+abbrev pub RefusesOctets : {W : Type 0} → Writing W → ℕ → PackCause → Type 0
+RefusesOctets w n cause = ((w.failed ≡ true) × (cause ≡ causes.Failed))
+    ⊎ ((w.failed ≡ false) × (most_of w.plan < total_of w + n) × (cause ≡ causes.PastAnnounced))
+
+-- Why the end is refused, in this order: a write failed before; the object is below the known size.
+abbrev pub RefusesEnd : {W : Type 0} → Writing W → PackCause → Type 0
+RefusesEnd w cause = ((w.failed ≡ true) × (cause ≡ causes.Failed))
+    ⊎ ((w.failed ≡ false) × ((known : ℕ) × (w.plan.size ≡ Known known) × (total_of w < known)) × (cause ≡ causes.ShortOfAnnounced))
+
 -- ---- the cutter
 
 -- the cutter as a writer of subfiles
@@ -149,8 +160,8 @@ pub record Halts {W : Type 0} (state : W → Device) (old new : Cutter W) (text 
 
 -- ---- buffers
 
--- nothing is in it, and it has the room that a plan asks
+-- nothing is in it, and it has just the room that a plan asks
 pub record IsReserved {A : Type 0} (plan : Plan) (v : Vec ℕ A) : Type 0 where
   pub empty : v.items ≡ []
   pub len : vec_len v ≡ 0
-  pub capacity : room_of plan ≤ vec_capacity v
+  pub capacity : vec_capacity v ≡ room_of plan

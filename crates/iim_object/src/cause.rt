@@ -1,22 +1,34 @@
 //! Why a packer refuses a call.
 
-/// Why a packer refuses a call, in the order of the causes' numbers.
+ghost use Rattle.std.specs.Prelude.{◌≡◌};
+ghost use Rattle.iim_object.specs.PackCauses.{pack_number};
+
+/// Why a packer refuses a call, each with its number.
 #[derive(Clone, Copy, Debug, PartialEq, Eq)]
 pub enum PackCause {
     /// Memory was refused.
-    OutOfMemory,
+    OutOfMemory = 70,
     /// The object so far, these octets and the least ending pass the plan's bound.
-    PastAnnounced,
+    PastAnnounced = 80,
     /// The object would be below the known size.
-    ShortOfAnnounced,
+    ShortOfAnnounced = 81,
     /// An octet that may not stand in a line.
-    BadTextOctet,
+    BadTextOctet = 82,
     /// Octets that may be no trailer.
-    BadTrailer,
+    BadTrailer = 83,
     /// The writer failed, took nothing, or was interrupted a million times in a row.
-    Write,
+    Write = 84,
     /// A call before was answered with `Write`.
-    Failed,
+    Failed = 85,
+}
+
+impl PackCause {
+    /// The number, as it is printed.
+    pub fn number(self) -> u8
+        ensures { result ≡ pack_number self }
+    {
+        self as u8
+    }
 }
 
 /// Nothing was begun: the writer is handed back, with as many octets out as `written` says.

@@ -1,22 +1,34 @@
 //! Why an object is refused.
 
+ghost use Rattle.std.specs.Prelude.{◌≡◌};
+ghost use Rattle.iim_object.specs.Conditions.{number_of};
+
 use iim_dataset::Stop;
 
-/// What is wrong with the sizes of an object, in the order in which causes are told.
+/// What is wrong with the sizes of an object, each with its number. Of several the one of the lowest number is told.
 #[derive(Clone, Copy, Debug, PartialEq, Eq)]
 pub enum SizeCause {
     /// The size is not known, and 7:90 announces one; or it is known, and at the first subfile none is announced.
-    ModeClash,
+    ModeClash = 20,
     /// The announced size, 7:90, is above the maximum, 7:95.
-    SizeClash,
+    SizeClash = 21,
     /// A subfile is longer than 7:20 allows.
-    SubfileTooLong,
+    SubfileTooLong = 22,
     /// The total passes what is announced, the maximum or the greatest size of an object.
-    PastSize,
+    PastSize = 23,
     /// The object ends with fewer octets than were announced.
-    Short,
+    Short = 24,
     /// The confirmed size, 9:10, is not the total.
-    ConfirmedWrong,
+    ConfirmedWrong = 25,
+}
+
+impl SizeCause {
+    /// The number.
+    pub fn number(self) -> u8
+        ensures { result ≡ number_of self }
+    {
+        self as u8
+    }
 }
 
 /// A reader of objects refused a token.
@@ -24,6 +36,6 @@ pub enum SizeCause {
 pub enum ObjectFault {
     /// The sizes are wrong.
     Size { cause: SizeCause },
-    /// The sink stopped, behind so many octets of the run, or, with none taken, at the end of the object.
+    /// The sink stopped, after so many octets of the run, or, with none taken, at the end of the object.
     Stopped(Stop),
 }

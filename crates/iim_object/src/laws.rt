@@ -4,8 +4,10 @@
 ghost use Rattle.iim_object.specs.Living.{NumbersLiveWithoutClash, SubfilesLiveWhileTheyFit, ObjectsEndWhereTheyAreWhole, TotalsAreConfirmed};
 ghost use Rattle.iim_object.specs.Behind.{TokensAreOfSizedDatasets, DatasetsLiveWithTheirTokens, DatasetsEndWithTheirTokens, TokensFollow, OthersLeadNowhere, NumbersLead, SubfilesLead, EndsLead, RecordsAreByNumber};
 ghost use Rattle.iim_object.specs.Records.{SizesAreDetermined};
+ghost use Rattle.iim_object.specs.Conditions.{CausesAreTheFirst, ObjectsDieForCauses};
+ghost use Rattle.iim_object.specs.Told.{ReadersTellSizes};
 ghost use Rattle.iim_object.specs.Cuts.{ObjectsAreCutOneWay};
-ghost use Rattle.iim_object.specs.Packing.{PackedObjectsHaveSizes};
+ghost use Rattle.iim_object.specs.Packing.{PackedObjectsHaveSizes, SubfilesAreFew};
 
 /// While record 7 is read, the object layer can go on exactly where its numbers don't clash.
 pub fn numbers_live_without_clash()
@@ -50,6 +52,21 @@ pub fn datasets_lead_from_place_to_place()
     ensures ends { EndsLead }
 {}
 
+/// The cause for which a token is refused is the one of the lowest number whose condition holds.
+pub fn causes_are_the_first()
+    ensures { CausesAreTheFirst }
+{}
+
+/// The object layer dies with a token exactly where the condition of a cause holds.
+pub fn objects_die_for_causes()
+    ensures { ObjectsDieForCauses }
+{}
+
+/// Wherever a reader stands after whole records, it has their sizes.
+pub fn readers_tell_sizes()
+    ensures { ReadersTellSizes }
+{}
+
 /// Where datasets have the records 7, 8 and 9 in their order, those are the datasets of each of these numbers.
 pub fn records_are_by_number()
     ensures { RecordsAreByNumber }
@@ -68,4 +85,9 @@ pub fn objects_are_cut_one_way()
 /// Records 7, 8 and 9 that are written of an object which suits a plan have the sizes of the plan.
 pub fn packed_objects_have_sizes()
     ensures { PackedObjectsHaveSizes }
+{}
+
+/// An object that a plan has room for has at most 4,294,967,295 subfiles.
+pub fn subfiles_are_few()
+    ensures { SubfilesAreFew }
 {}

@@ -83,7 +83,7 @@ impl ObjectReader {
     }
 
     /// Takes a complete head: of a subfile, 8:10, with so many octets; or of 9:10, where the object ends and the sink is
-    /// told so. The reader has not failed; after a refusal it has.
+    /// told so. The reader has not failed, and the sink takes calls; after a refusal the reader has failed.
     pub fn head<S: ObjectSink>(
         &mut self,
         rec: u8,
@@ -91,10 +91,12 @@ impl ObjectReader {
         count: u64,
         sink: &mut S,
     ) -> Result<(), ObjectFault>
-        requires { IsSome self.old }
+        requires takes_calls { IsSome self.old }
+        requires stands { S.stands sink.old }
         ensures takes_calls { OnOk result (IsSome self.new) }
         ensures goes_on { OnOk result (GoesOn self.old (head_token rec count) self.new) }
         ensures told { OnOk result (S.goes sink.old (events_at rec) sink.new) }
+        ensures untold { (rec ≡ 9 → ⊥) → sink.new ≡ sink.old }
         ensures failed { OnErr result (self.new ≡ None) }
         ensures refused { IfErr result (RefusesHead S.goes S.stops self.old (head_token rec count) sink.old sink.new) }
     {
@@ -112,7 +114,8 @@ impl ObjectReader {
 
     /// Takes the end of the object.
     fn end<S: ObjectSink>(&mut self, sink: &mut S) -> Result<(), ObjectFault>
-        requires { IsSome self.old }
+        requires takes_calls { IsSome self.old }
+        requires stands { S.stands sink.old }
         ensures takes_calls { OnOk result (IsSome self.new) }
         ensures goes_on { OnOk result (GoesOn self.old ObjectEnded self.new) }
         ensures told { OnOk result (S.goes sink.old (ObjectEnd ∷ []) sink.new) }
@@ -133,11 +136,13 @@ impl ObjectReader {
     }
 
     /// Hands octets of the object on to the sink. They are those behind the heads of subfiles, in any cut.
-    /// The reader has not failed; after a refusal it has.
+    /// The reader has not failed, and the sink takes calls, afterwards too; after a refusal the reader has failed.
     pub fn run<S: ObjectSink>(&mut self, run: &[u8], sink: &mut S) -> Result<(), ObjectFault>
-        requires { IsSome self.old }
+        requires takes_calls { IsSome self.old }
+        requires stands { S.stands sink.old }
         ensures same { OnOk result (self.new ≡ self.old) }
         ensures told { OnOk result (S.goes sink.old (map ObjectOctet run.now) sink.new) }
+        ensures stands { OnOk result (S.stands sink.new) }
         ensures failed { OnErr result (self.new ≡ None) }
         ensures refused { IfErr result (RefusesRun S.stops run.now sink.old sink.new) }
     {

@@ -13,15 +13,21 @@ pub trait ObjectSink {
     /// From one value to another by these events, where the next one was refused.
     ghost stops: { Self → List Event → Event → Self → Type 0 };
 
+    /// It takes octets and the end. After the end, and after a refusal, it need not.
+    ghost stands: { Self → Type 0 };
+
     /// Takes the next octets of the object, or only those before the one that it refuses.
     fn run(&mut self, run: &[u8]) -> Result<(), Stop>
+        requires { stands self.old }
         ensures ok { OnOk result (goes self.old (map ObjectOctet run.now) self.new) }
+        ensures stands { OnOk result (stands self.new) }
         ensures refused { IfErr result (λ stop. stop.taken < length run.now) }
         ensures stopped { IfErr result (λ stop.
             stops self.old (map ObjectOctet (take stop.taken run.now)) (ObjectOctet (slice_index run.now stop.taken)) self.new) };
 
     /// Takes the end of the object, or refuses it: its stop has taken nothing.
     fn close(&mut self) -> Result<(), Stop>
+        requires { stands self.old }
         ensures ok { OnOk result (goes self.old (ObjectEnd ∷ []) self.new) }
         ensures refused { IfErr result (λ stop. stop.taken ≡ 0) }
         ensures stopped { OnErr result (stops self.old [] ObjectEnd self.new) };

@@ -28,6 +28,8 @@ impl ObjectSink for Counter {
 
     ghost stops = { λ old events refused new. ⊤ };
 
+    ghost stands = { λ sink. ⊤ };
+
     ghost nothing = { λ sink. tt };
 
     ghost joined = { λ a b c xs ys first then. tt };
@@ -95,7 +97,7 @@ fn read(tokens: &[Token]) -> (usize, Option<SizeCause>) {
 const GREATEST: u64 = 4_294_967_295;
 
 /// Tokens, how many of them are taken, and the cause for which the next one is refused.
-const OBJECTS: [(&[Token], usize, Option<SizeCause>); 16] = [
+const OBJECTS: [(&[Token], usize, Option<SizeCause>); 21] = [
     (
         &[
             Number(10, 1),
@@ -240,12 +242,58 @@ const OBJECTS: [(&[Token], usize, Option<SizeCause>); 16] = [
         3,
         Some(SizeCause::PastSize),
     ),
+    // Two causes at one token, or three: the one of the lowest number.
+    (
+        &[
+            Number(10, 0),
+            Number(20, 50),
+            Number(95, 13),
+            Number(90, 14),
+        ],
+        3,
+        Some(SizeCause::ModeClash),
+    ),
+    (
+        &[Number(10, 1), Number(20, 13), Subfile(14)],
+        2,
+        Some(SizeCause::ModeClash),
+    ),
+    (
+        &[Number(10, 1), Number(20, 50), Number(95, 13), Subfile(14)],
+        3,
+        Some(SizeCause::ModeClash),
+    ),
+    (
+        &[Number(10, 1), Number(20, 13), Number(95, 13), Subfile(14)],
+        3,
+        Some(SizeCause::ModeClash),
+    ),
+    (
+        &[Number(10, 1), Number(20, 13), Number(90, 13), Subfile(14)],
+        3,
+        Some(SizeCause::SubfileTooLong),
+    ),
 ];
 
 #[test]
 fn worked_objects(rt: HostRuntime) {
     for (tokens, taken, cause) in OBJECTS {
         assert_eq!(rt; read(tokens), (taken, cause), "{tokens:?}");
+    }
+}
+
+#[test]
+fn numbers_of_causes(rt: HostRuntime) {
+    let causes = [
+        (SizeCause::ModeClash, 20),
+        (SizeCause::SizeClash, 21),
+        (SizeCause::SubfileTooLong, 22),
+        (SizeCause::PastSize, 23),
+        (SizeCause::Short, 24),
+        (SizeCause::ConfirmedWrong, 25),
+    ];
+    for (cause, number) in causes {
+        assert_eq!(rt; cause.number(), number);
     }
 }
 

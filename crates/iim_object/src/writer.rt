@@ -2,7 +2,8 @@
 
 ghost use Rattle.std.specs.Prelude.{◌≡◌, ◌<◌, ◌≤◌, ◌^◌, [], length, IfOk, IfErr, OnOk, OnErr, IfSome, IfNone, Err};
 ghost use Rattle.iim_dataset.specs.Devices.{Wrote, Stopped};
-ghost use Rattle.iim_object.specs.Writing.{StandsAt, Lengthens, BreaksOff, GoesOnWith, IsTheWhole, Finishes, write_cause, finish_cause, plan_octets, total_of, most_of};
+ghost use Rattle.iim_object.specs.Writing.{StandsAt, Lengthens, BreaksOff, GoesOnWith, IsTheWhole, Finishes, write_cause, finish_cause, RefusesOctets, RefusesEnd, plan_octets, total_of, most_of, room_of};
+ghost use Rattle.iim_object.specs.declared.cause.PackCause.{PackCause as PackCauseValue};
 ghost use Rattle.iim_object.specs.declared.cause.PackCause.TheVariants as causes;
 
 use crate::buffer::SubfileBuffer;
@@ -13,7 +14,8 @@ use crate::plan::Plan;
 use iim_dataset::{Target, texts_join};
 use std::marker::Model;
 
-/// Writes an object by a plan: record 7, subfiles and record 9. It holds the octets of one subfile at most.
+/// Writes an object by a plan: record 7, subfiles and record 9. It has no store beside its buffer, and holds at most the
+/// lesser of a subfile and the plan's bound, in octets. No call takes memory: the room was made by [`SubfileBuffer::reserve`].
 ///
 /// What its contracts say holds of every object so far. Contracts see it as its plan, the octets that it holds, how many octets
 /// of the object are out, how many octets are out in all, whether a write failed, and what it writes to.
@@ -70,7 +72,11 @@ impl<W: Target> SubfileWriter<W> {
     /// the object would pass the plan's bound. Else the octets are taken, or a write failed: what is out then begins all that
     /// the plan's form may be of an object that begins so.
     pub fn write(&mut self, octets: &[u8]) -> Result<(), PackCause>
+        // A cause is answered exactly where it stands, and then nothing changes.
+        ensures causes { (cause : PackCauseValue) → RefusesOctets self.old (length octets.now) cause → (result ≡ Err cause) × (self.new ≡ self.old) }
         ensures refused { IfSome (write_cause self.old (length octets.now)) (λ cause. (result ≡ Err cause) × (self.new ≡ self.old)) }
+
+        // Else the octets are taken, or a write failed.
         ensures ok { OnOk result (Lengthens W.state self.old self.new octets.now) }
         ensures cause { IfNone (write_cause self.old (length octets.now)) (IfErr result (λ cause. cause ≡ causes.Write)) }
         ensures broke { IfNone (write_cause self.old (length octets.now))
@@ -83,7 +89,11 @@ impl<W: Target> SubfileWriter<W> {
     /// the writer is handed back unchanged: after a failed write, or where the object is below a known size. Where a write
     /// fails, what is out begins the plan's form of the object.
     pub fn finish(self) -> Result<W, (SubfileWriter<W>, PackCause)>
+        // A cause is answered exactly where it stands, and then nothing changes.
+        ensures causes { (cause : PackCauseValue) → RefusesEnd self cause → result ≡ Err (self, cause) }
         ensures refused { IfSome (finish_cause self) (λ cause. result ≡ Err (self, cause)) }
+
+        // Else the object is out, or a write failed.
         ensures ok { IfOk result (λ writer. Finishes W.state self writer) }
         ensures cause { IfNone (finish_cause self) (IfErr result (λ refused. refused.1 ≡ causes.Write)) }
         ensures broke { IfNone (finish_cause self) (IfErr result (λ refused. BreaksOff W.state (IsTheWhole self.plan) self refused.0)) }
@@ -95,10 +105,12 @@ impl<W: Target> SubfileWriter<W> {
         }
     }
 
-    /// How many octets of the object have come.
+    /// How many octets of the object have come: never more than the plan's bound. Those that are held are at most the lesser of a
+    /// subfile and the bound.
     pub fn total(&self) -> u64
         ensures total { result ≡ total_of self.now }
         ensures fits { result ≤ most_of self.now.plan }
+        ensures holds { length self.now.held ≤ room_of self.now.plan }
     {
         self.cutter.total()
     }

@@ -24,7 +24,7 @@ use Rattle.iim_pack.proofs.Sorting.{AreInOrder, AreOf, all_map, kept_are, sevens
 
 -- ---- plans
 
-record IsPlan (subfile : ℕ) (size : Size) : Type 0 where
+pub record IsPlan (subfile : ℕ) (size : Size) : Type 0 where
   pub least : 1 ≤ subfile
   pub most : subfile ≤ greatest_size
   pub limit : limit_of size ≤ greatest_size
@@ -34,7 +34,7 @@ limit_fits subfile (Known n) h = leb-true n greatest_size (and_parts (nat_le n g
 limit_fits subfile (Unknown (Some m)) h = leb-true m greatest_size h
 limit_fits subfile (Unknown None) h = omega arith
 
-plan_parts : (subfile : ℕ) (size : Size) → IsTrue (is_plan subfile size) → IsPlan subfile size
+pub plan_parts : (subfile : ℕ) (size : Size) → IsTrue (is_plan subfile size) → IsPlan subfile size
 plan_parts subfile size h =
     let outer = and_parts (nat_le 1 subfile && nat_le subfile greatest_size) (fits subfile size) h in
     let inner = and_parts (nat_le 1 subfile) (nat_le subfile greatest_size) outer.0 in

@@ -4,8 +4,6 @@ use Rattle.std.specs.Prelude.{Result, Ok, Err, IfOk, IfErr}
 use Rattle.std.proofs.lemmas.Bool.{le-leb}
 use Rattle.iim_dataset.specs.Devices.{Device}
 use Rattle.iim_dataset.specs.DeviceLaws.{TextsJoin}
-use Rattle.iim_dataset.proofs.Devices.{appends_appends}
-use Rattle.iim_dataset.proofs.DeviceLaws.{broke_later}
 use Rattle.iim_object.specs.Packing.{IsWritten}
 use Rattle.iim_object.specs.Writing.{Writing, Lengthens, BreaksOff, GoesOnWith, IsTheWhole, Finishes, Begins, most_of, total_of, write_cause, finish_cause, is_short}
 use Rattle.iim_object.specs.declared.plan.Plan.{Plan}
@@ -33,11 +31,11 @@ tail_broke state old new tail k = record {
 }
 
 -- what follows could not be written
-pub end_broke : {W : Type 0} (state : W → Device) (old mid new : Writing W) (tail : List ℕ) → Lengthens state old mid tail → BreaksOff state (IsTheWhole mid.plan) mid new → BreaksOff state (EndsWithTail old.plan tail) old new
-end_broke state old mid new tail l k = record {
+pub end_broke : {W : Type 0} (state : W → Device) (old mid new : Writing W) (tail : List ℕ) → TextsJoin → Lengthens state old mid tail → BreaksOff state (IsTheWhole mid.plan) mid new → BreaksOff state (EndsWithTail old.plan tail) old new
+end_broke state old mid new tail join l k = record {
   more = l.more ++ k.more;
-  appends = appends_appends (state old.writer).octets (state mid.writer).octets (state new.writer).octets l.more k.more l.wrote.0 k.appends;
-  broke = broke_later (state old.writer) (state mid.writer) (state new.writer) l.wrote.1 k.broke;
+  appends = (join.broke (state old.writer) (state mid.writer) (state new.writer) l.more k.more l.wrote (k.appends, k.broke)).0;
+  broke = (join.broke (state old.writer) (state mid.writer) (state new.writer) l.more k.more l.wrote (k.appends, k.broke)).1;
   plan = k.plan ∙ l.plan;
   failed = k.failed;
   counted = omega (arith, k.counted, l.counted, length-append l.more k.more);

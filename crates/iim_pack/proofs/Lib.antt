@@ -11,3 +11,7 @@ pub mod Openings
 pub mod Startings
 pub mod LinesOut
 pub mod Wholes
+pub mod Ones
+pub mod Lengths
+pub mod Orders
+pub mod Beginnings

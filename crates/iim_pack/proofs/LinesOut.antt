@@ -3,8 +3,6 @@ use Rattle.std.proofs.Common.{◌≡◌, ℕ, ◌+◌, ◌≤◌, true, false, N
 use Rattle.std.proofs.lemmas.Bool.{le-leb}
 use Rattle.iim_dataset.specs.Devices.{Device}
 use Rattle.iim_dataset.specs.DeviceLaws.{TextsJoin}
-use Rattle.iim_dataset.proofs.Devices.{appends_appends}
-use Rattle.iim_dataset.proofs.DeviceLaws.{broke_later}
 use Rattle.iim_object.specs.Writing.{most_of, total_of, Begins}
 use Rattle.wire_story.specs.Texts.{IsLine}
 use Rattle.wire_story.specs.Delivery.{Event, LineOctet, LineEnd, events_of_lines}
@@ -37,11 +35,11 @@ goes_on state a b c xs ys join l m = record {
       (subst (StandsAt c fields head ((evs ++ xs) ++ ys) plan) (append_assoc out l.more m.more) (m.stands fields head (evs ++ xs) plan (out ++ l.more) (l.stands fields head evs plan out s)));
 }
 
-pub breaks_later : {W : Type 0} (state : W → Device) (a b c : Packing W) (xs ys : List Event) → Lengthens state a b xs → BreaksOff state (GoesOnWith ys) b c → BreaksOff state (GoesOnWith (xs ++ ys)) a c
-breaks_later state a b c xs ys l k = record {
+pub breaks_later : {W : Type 0} (state : W → Device) (a b c : Packing W) (xs ys : List Event) → TextsJoin → Lengthens state a b xs → BreaksOff state (GoesOnWith ys) b c → BreaksOff state (GoesOnWith (xs ++ ys)) a c
+breaks_later state a b c xs ys join l k = record {
   more = l.more ++ k.more;
-  appends = appends_appends (state a.object.writer).octets (state b.object.writer).octets (state c.object.writer).octets l.more k.more l.wrote.0 k.appends;
-  broke = broke_later (state a.object.writer) (state b.object.writer) (state c.object.writer) l.wrote.1 k.broke;
+  appends = (join.broke (state a.object.writer) (state b.object.writer) (state c.object.writer) l.more k.more l.wrote (k.appends, k.broke)).0;
+  broke = (join.broke (state a.object.writer) (state b.object.writer) (state c.object.writer) l.more k.more l.wrote (k.appends, k.broke)).1;
   failed = k.failed;
   counted = omega (arith, k.counted, l.counted, length-append l.more k.more);
   begins = λ fields head evs plan out whole s form.

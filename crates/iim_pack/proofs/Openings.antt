@@ -5,8 +5,6 @@ use Rattle.std.proofs.lemmas.Bool.{le-leb}
 use Rattle.std.specs.Io.KnownBytes.{Appends}
 use Rattle.iim_dataset.specs.Devices.{Device, Wrote, Stopped, Broke}
 use Rattle.iim_dataset.specs.DeviceLaws.{TextsJoin}
-use Rattle.iim_dataset.proofs.Devices.{appends_appends}
-use Rattle.iim_dataset.proofs.DeviceLaws.{broke_later}
 use Rattle.iim_dataset.specs.Datasets.{canonical_stream}
 use Rattle.iim_object.specs.Packing.{IsWritten, plan_datasets, subfile_datasets, confirmed_datasets}
 use Rattle.iim_object.specs.Cuts.{joined_parts}
@@ -63,15 +61,15 @@ opened state writer plan front first new join is_plan s wrote l = record {
 }
 
 -- the octets of the beginning could not be written
-pub opening_broke : {W : Type 0} (state : W → Device) (writer : W) (plan : Plan) (front : List ℕ) (first new : Writing W) (fault : StartFault W) → first.plan ≡ plan → StandsAt first [] (plan_octets plan)
+pub opening_broke : {W : Type 0} (state : W → Device) (writer : W) (plan : Plan) (front : List ℕ) (first new : Writing W) (fault : StartFault W) → TextsJoin → first.plan ≡ plan → StandsAt first [] (plan_octets plan)
     → Wrote (state writer) (state first.writer) (plan_octets plan) → BreaksOff state (GoesOnWith first.plan front) first new → fault.cause ≡ causes.Write → fault.writer ≡ new.writer → fault.written ≡ new.written
     → Halts state (BeginsWith plan front) writer fault
-opening_broke state writer plan front first new fault is_plan s wrote k cause handed written = record {
+opening_broke state writer plan front first new fault join is_plan s wrote k cause handed written = record {
   cause_is = cause;
   out = plan_octets plan ++ k.more;
   appends = subst (λ w. Appends (state writer).octets (state w).octets (plan_octets plan ++ k.more)) (sym handed)
-      (appends_appends (state writer).octets (state first.writer).octets (state new.writer).octets (plan_octets plan) k.more wrote.0 k.appends);
-  broke = subst (λ w. Broke (state writer) (state w)) (sym handed) (broke_later (state writer) (state first.writer) (state new.writer) wrote.1 k.broke);
+      (join.broke (state writer) (state first.writer) (state new.writer) (plan_octets plan) k.more wrote (k.appends, k.broke)).0;
+  broke = subst (λ w. Broke (state writer) (state w)) (sym handed) (join.broke (state writer) (state first.writer) (state new.writer) (plan_octets plan) k.more wrote (k.appends, k.broke)).1;
   counted = omega (arith, written, k.counted, s.written, length-append (plan_octets plan) k.more);
   begins = λ whole w. k.begins [] (plan_octets plan) whole s (w.0, subst (λ (p : Plan). IsWritten p.subfile p.size (front ++ w.0) whole) (sym is_plan) w.1);
 }

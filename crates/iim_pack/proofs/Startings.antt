@@ -3,8 +3,6 @@ use Rattle.std.proofs.Common.{◌≡◌, ℕ, ◌+◌, List, [], ◌++◌, lengt
 use Rattle.iim_dataset.specs.Devices.{Device, Wrote, Stopped, Broke}
 use Rattle.std.specs.Io.KnownBytes.{Appends}
 use Rattle.iim_dataset.specs.DeviceLaws.{TextsJoin}
-use Rattle.iim_dataset.proofs.Devices.{appends_appends}
-use Rattle.iim_dataset.proofs.DeviceLaws.{broke_later}
 use Rattle.iim_dataset.specs.Datasets.{Dataset, canonical_stream}
 use Rattle.iim_fields.specs.Builders.{IsEnvelope}
 use Rattle.iim_object.specs.Writing as object
@@ -33,15 +31,15 @@ fields_broke state writer fields head plan fault cause s = record {
 }
 
 -- the object could not be begun behind them
-pub object_broke : {W : Type 0} (state : W → Device) (writer first : W) (fields : List Dataset) (head : Header) (plan : Plan) (before : ℕ) (fault new : StartFault W) → Wrote (state writer) (state first) (canonical_stream fields)
+pub object_broke : {W : Type 0} (state : W → Device) (writer first : W) (fields : List Dataset) (head : Header) (plan : Plan) (before : ℕ) (fault new : StartFault W) → TextsJoin → Wrote (state writer) (state first) (canonical_stream fields)
     → before ≡ length (canonical_stream fields) → Halts state (BeginsWith plan (packed_head head)) first fault → new.cause ≡ fault.cause → new.writer ≡ fault.writer → new.written ≡ before + fault.written
     → Halts state (FormWith fields head plan []) writer new
-object_broke state writer first fields head plan before fault new wrote counted h cause handed written = record {
+object_broke state writer first fields head plan before fault new join wrote counted h cause handed written = record {
   cause_is = cause ∙ h.cause_is;
   out = canonical_stream fields ++ h.out;
   appends = subst (λ w. Appends (state writer).octets (state w).octets (canonical_stream fields ++ h.out)) (sym handed)
-      (appends_appends (state writer).octets (state first).octets (state fault.writer).octets (canonical_stream fields) h.out wrote.0 h.appends);
-  broke = subst (λ w. Broke (state writer) (state w)) (sym handed) (broke_later (state writer) (state first) (state fault.writer) wrote.1 h.broke);
+      (join.broke (state writer) (state first) (state fault.writer) (canonical_stream fields) h.out wrote (h.appends, h.broke)).0;
+  broke = subst (λ w. Broke (state writer) (state w)) (sym handed) (join.broke (state writer) (state first) (state fault.writer) (canonical_stream fields) h.out wrote (h.appends, h.broke)).1;
   counted = omega (arith, written, counted, h.counted, length-append (canonical_stream fields) h.out);
   begins = λ whole form.
       subst (λ (w : List ℕ). Begins (canonical_stream fields ++ h.out) w) (sym form.packed.octets_are)

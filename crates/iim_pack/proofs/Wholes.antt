@@ -1,11 +1,8 @@
 -- A whole envelope packed in one call.
 use Rattle.std.proofs.Common.{◌≡◌, ℕ, ◌+◌, ◌≤◌, true, false, not, nat_le, None, inl, inr, List, [], ◌∷◌, ◌++◌, length, refl, sym, ap, subst, ◌∙◌, arith, append-nil, length-append}
 use Rattle.std.proofs.lemmas.Bool.{leb-true, le-leb}
-use Rattle.std.specs.Io.KnownBytes.{Appends}
-use Rattle.iim_dataset.specs.Devices.{Device, Broke}
-use Rattle.iim_dataset.specs.DeviceLaws.{TextsJoin}
-use Rattle.iim_dataset.proofs.Devices.{appends_appends}
-use Rattle.iim_dataset.proofs.DeviceLaws.{broke_later}
+use Rattle.iim_dataset.specs.Devices.{Device, Wrote}
+use Rattle.iim_dataset.specs.DeviceLaws.{TextsJoin, BrokeAfter}
 use Rattle.iim_dataset.specs.Datasets.{Dataset}
 use Rattle.iim_object.specs.Writing.{Begins, most_of, total_of, is_short}
 use Rattle.iim_object.specs.declared.plan.Plan.{Plan}
@@ -39,26 +36,25 @@ packs state writer last fields head lines trailer plan a b join again s l f = re
       (f.whole fields head (events_of_lines lines) plan (s.out ++ l.more) (l.stands fields head [] plan s.out s.stands));
 }
 
--- a write failed behind a beginning
-pub halts_behind : {W : Type 0} (state : W → Device) (Form : List ℕ → Type 0) (writer middle : W) (fault : StartFault W) (out more : List ℕ) (before : ℕ) → Appends (state writer).octets (state middle).octets out
-    → Broke (state writer) (state fault.writer) → Appends (state middle).octets (state fault.writer).octets more → fault.cause ≡ causes.Write → fault.written ≡ before + length more → before ≡ length out
+-- a write failed after a beginning
+pub halts_behind : {W : Type 0} (state : W → Device) (Form : List ℕ → Type 0) (writer middle : W) (fault : StartFault W) (out more : List ℕ) (before : ℕ) → TextsJoin → Wrote (state writer) (state middle) out
+    → BrokeAfter (state middle) (state fault.writer) more → fault.cause ≡ causes.Write → fault.written ≡ before + length more → before ≡ length out
     → ((whole : List ℕ) → Form whole → Begins (out ++ more) whole) → Halts state Form writer fault
-halts_behind state Form writer middle fault out more before wrote broke appends cause written counted begins = record {
+halts_behind state Form writer middle fault out more before join wrote broke cause written counted begins = record {
   cause_is = cause;
   out = out ++ more;
-  appends = appends_appends (state writer).octets (state middle).octets (state fault.writer).octets out more wrote appends;
-  broke = broke;
+  appends = (join.broke (state writer) (state middle) (state fault.writer) out more wrote broke).0;
+  broke = (join.broke (state writer) (state middle) (state fault.writer) out more wrote broke).1;
   counted = omega (arith, written, counted, length-append out more);
   begins = begins;
 }
 
-pub lines_broke : {W : Type 0} (state : W → Device) (writer : W) (fields : List Dataset) (head : Header) (lines : List (List ℕ)) (trailer : List ℕ) (plan : Plan) (a b : Packing W) (fault : StartFault W)
+pub lines_broke : {W : Type 0} (state : W → Device) (writer : W) (fields : List Dataset) (head : Header) (lines : List (List ℕ)) (trailer : List ℕ) (plan : Plan) (a b : Packing W) (fault : StartFault W) → TextsJoin
     → Starts state writer fields head plan a → BreaksOff state (GoesOnWith (events_of_lines lines)) a b → fault.cause ≡ causes.Write → fault.writer ≡ b.object.writer → fault.written ≡ written_of b
     → Halts state (Packed fields head lines trailer plan) writer fault
-lines_broke state writer fields head lines trailer plan a b fault s k cause handed written =
-    halts_behind state (Packed fields head lines trailer plan) writer a.object.writer fault s.out k.more (written_of a) s.wrote.0
-    (subst (λ w. Broke (state writer) (state w)) (sym handed) (broke_later (state writer) (state a.object.writer) (state b.object.writer) s.wrote.1 k.broke))
-    (subst (λ w. Appends (state a.object.writer).octets (state w).octets k.more) (sym handed) k.appends) cause (written ∙ k.counted) s.counted
+lines_broke state writer fields head lines trailer plan a b fault join s k cause handed written =
+    halts_behind state (Packed fields head lines trailer plan) writer a.object.writer fault s.out k.more (written_of a) join s.wrote
+    (subst (λ w. BrokeAfter (state a.object.writer) (state w) k.more) (sym handed) (k.appends, k.broke)) cause (written ∙ k.counted) s.counted
     (λ whole p. k.begins fields head [] plan s.out whole s.stands (record { lines = lines; trailer = trailer; packed = p; rest = []; begins = sym (append-nil (events_of_lines lines)) }))
 
 pub finish_broke : {W : Type 0} (state : W → Device) (writer : W) (fields : List Dataset) (head : Header) (lines : List (List ℕ)) (trailer : List ℕ) (plan : Plan) (a b d : Packing W) (fault : StartFault W) → TextsJoin → lines_of (events_of_lines lines) ≡ lines
@@ -66,9 +62,8 @@ pub finish_broke : {W : Type 0} (state : W → Device) (writer : W) (fields : Li
     → Halts state (Packed fields head lines trailer plan) writer fault
 finish_broke state writer fields head lines trailer plan a b d fault join again s l k cause handed written =
     let wrote = join.more (state writer) (state a.object.writer) (state b.object.writer) s.out l.more s.wrote l.wrote in
-    halts_behind state (Packed fields head lines trailer plan) writer b.object.writer fault (s.out ++ l.more) k.more (written_of b) wrote.0
-    (subst (λ w. Broke (state writer) (state w)) (sym handed) (broke_later (state writer) (state b.object.writer) (state d.object.writer) wrote.1 k.broke))
-    (subst (λ w. Appends (state b.object.writer).octets (state w).octets k.more) (sym handed) k.appends) cause (written ∙ k.counted) (omega (arith, l.counted, s.counted, length-append s.out l.more))
+    halts_behind state (Packed fields head lines trailer plan) writer b.object.writer fault (s.out ++ l.more) k.more (written_of b) join wrote
+    (subst (λ w. BrokeAfter (state b.object.writer) (state w) k.more) (sym handed) (k.appends, k.broke)) cause (written ∙ k.counted) (omega (arith, l.counted, s.counted, length-append s.out l.more))
     (λ whole p. k.begins fields head (events_of_lines lines) plan (s.out ++ l.more) whole (l.stands fields head [] plan s.out s.stands)
     (subst (λ (ls : List (List ℕ)). Packed fields head ls trailer plan whole) (sym again) p))
 

@@ -1,9 +1,11 @@
 -- What holds of all packed octets.
-use Rattle.std.specs.Prelude.{◌≡◌, ℕ, List, ◌++◌}
+use Rattle.std.specs.Prelude.{◌≡◌, ℕ, ◌^◌, ◌<◌, ◌≤◌, List, ◌++◌, length}
 use Rattle.iim_dataset.specs.Datasets.{Dataset, SpellsStream, count_octets}
 use Rattle.iim_fields.specs.Records.{AreSections}
+use Rattle.iim_fields.specs.Builders.{AreFew}
 use Rattle.iim_fields.specs.Faults.{kept, joined}
 use Rattle.iim_object.specs.Behind.{of_record}
+use Rattle.iim_object.specs.Plans.{max_subfiles}
 use Rattle.iim_object.specs.Records.{HaveSizes}
 use Rattle.iim_object.specs.Packing.{object_datasets, packed_sizes}
 use Rattle.iim_object.specs.declared.plan.Plan.{Plan}
@@ -31,7 +33,17 @@ PackedOctetsCarryTheValue = (fields : List Dataset) (head : Header) (lines : Lis
     → (p : Packed fields head lines trailer plan octets)
     → Carries octets (datasets_of p) fields (canonical head lines trailer) (packed_sizes plan.subfile plan.size (canonical head lines trailer) p.written.parts)
 
--- There is one packed form.
+-- There is one packed form: it is a function of what is packed, and of the plan.
 abbrev pub PackedOctetsAreOne : Type 0
 PackedOctetsAreOne = (fields : List Dataset) (head : Header) (lines : List (List ℕ)) (trailer : List ℕ) (plan : Plan) (octets others : List ℕ)
     → Packed fields head lines trailer plan octets → Packed fields head lines trailer plan others → octets ≡ others
+
+-- A packed form has no more subfiles than one envelope may have.
+abbrev pub PackedSubfilesAreFew : Type 0
+PackedSubfilesAreFew = (fields : List Dataset) (head : Header) (lines : List (List ℕ)) (trailer : List ℕ) (plan : Plan) (octets : List ℕ)
+    → (p : Packed fields head lines trailer plan octets) → length p.written.parts ≤ max_subfiles
+
+-- A packed form of no more fields than limits can allow has fewer than 2 ^ 40 octets.
+abbrev pub PackedOctetsAreFew : Type 0
+PackedOctetsAreFew = (fields : List Dataset) (head : Header) (lines : List (List ℕ)) (trailer : List ℕ) (plan : Plan) (octets : List ℕ)
+    → Packed fields head lines trailer plan octets → AreFew fields → length octets < 2 ^ 40

@@ -4,3 +4,5 @@ pub mod Packing
 pub mod Ending
 pub mod Starting
 pub mod Whole
+pub mod Orders
+pub mod Begun

@@ -43,18 +43,6 @@ pub record StandsAt {W : Type 0} (k : Packing W) (fields : List Dataset) (head :
   pub stands : object.StandsAt k.object (packed_head head ++ packed_events events) object_out
   pub out_is : out ≡ canonical_stream fields ++ object_out
 
--- the last octets of a device, where they are known
-abbrev pub EndsWith : Option (List ℕ) → List ℕ → Type 0
-EndsWith None out = Unit {0}
-EndsWith (Some octets) out = (before : List ℕ) × (octets ≡ before ++ out)
-
--- The packer has not failed, and the last octets of its writer, `written` many, are what is out.
-pub record Begun {W : Type 0} (state : W → Device) (k : Packing W) (fields : List Dataset) (head : Header) (events : List Event) (plan : Plan) : Type 0 where
-  pub out : List ℕ
-  pub stands : StandsAt k fields head events plan out
-  pub counted : written_of k ≡ length out
-  pub ends : EndsWith (state k.object.writer).octets out
-
 -- A text in these events led from one packer to the other, wherever it stood: some more octets are out.
 pub record Lengthens {W : Type 0} (state : W → Device) (old new : Packing W) (events : List Event) : Type 0 where
   pub more : List ℕ

@@ -1,6 +1,6 @@
 //! What holds of all packed octets. The functions do nothing: their contracts are the laws.
 
-ghost use Rattle.iim_pack.specs.Laws.{PackedOctetsCarryTheValue, PackedOctetsAreOne};
+ghost use Rattle.iim_pack.specs.Laws.{PackedOctetsAreFew, PackedOctetsAreOne, PackedOctetsCarryTheValue, PackedSubfilesAreFew};
 
 use iim_dataset::canonical_streams_are_spelled;
 use iim_object::{objects_are_cut_one_way, packed_objects_have_sizes};
@@ -12,3 +12,20 @@ pub fn packed_octets_carry_the_value()
     canonical_streams_are_spelled();
     packed_objects_have_sizes();
 }
+
+/// There is one packed form: no other octets are what is packed of the same envelope, header, lines and trailer by the same plan.
+pub fn packed_octets_are_one()
+    ensures { PackedOctetsAreOne }
+{
+    objects_are_cut_one_way();
+}
+
+/// A packed form has at most 4,294,967,295 subfiles, as one envelope may have.
+pub fn packed_subfiles_are_few()
+    ensures { PackedSubfilesAreFew }
+{}
+
+/// A packed form of no more fields than limits can allow has fewer than 2 to the power of 40 octets.
+pub fn packed_octets_are_few()
+    ensures { PackedOctetsAreFew }
+{}

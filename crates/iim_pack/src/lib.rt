@@ -1,7 +1,11 @@
 //! Packs envelopes of the Information Interchange Model.
 //!
-//! Stands on the crates of the layers, and writes by their calls alone. The crates above use [`pack`] and [`packed_size`]:
-//! what is written is the packed form.
+//! Stands on the crates of the layers, and writes by their calls alone: fields and tags by `iim_dataset`, header and trailer by
+//! `wire_message`, line ends by `wire_story`, subfiles by `iim_object`. The crates above use [`packed_size`], [`pack`] and
+//! [`Packer`]: what is written is the packed form (`specs/Packed.antt`).
+//!
+//! A call that is refused changes nothing and writes nothing, but for [`PackCause::Write`](iim_object::PackCause::Write): then a
+//! front of the packed form is out, as long as `written` tells, and each later call is refused.
 #![tactic(auto)]
 
 mod cause;
@@ -16,7 +20,10 @@ mod size;
 mod tests;
 mod whole;
 
-pub use laws::packed_octets_carry_the_value;
+pub use laws::{
+    packed_octets_are_few, packed_octets_are_one, packed_octets_carry_the_value,
+    packed_subfiles_are_few,
+};
 pub use packer::Packer;
 pub use size::packed_size;
 pub use whole::pack;

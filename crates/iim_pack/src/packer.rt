@@ -4,6 +4,8 @@ ghost use Rattle.std.specs.Prelude.{◌≡◌, ◌<◌, ◌^◌, [], ◌∷◌, 
 ghost use Rattle.wire_story.specs.Delivery.{LineOctet, LineEnd};
 ghost use Rattle.iim_pack.specs.Packing.{Lengthens, BreaksOff, GoesOnWith, EndsIn, Finishes, start_cause, text_cause, line_end_cause, finish_cause, written_of};
 ghost use Rattle.iim_pack.specs.Starting.{Starts, IsRefused, IsStartFault};
+ghost use Rattle.iim_pack.specs.Begun.{Begun, GoesOnBegun, EndsBegun};
+ghost use Rattle.iim_pack.specs.Orders.{IsFirstOf, AgainstStart, AgainstText, AgainstLineEnd, AgainstFinish};
 ghost use Rattle.iim_object.specs.declared.cause.PackCause.TheVariants as causes;
 
 use crate::cause::{LEAST_ENDING, ending_cause, is_past};
@@ -21,7 +23,14 @@ use wire_story::{
     lines_are_packed_as_their_events,
 };
 
-/// Packs an envelope, a header and a text that comes in pieces. It holds the octets of one subfile at most.
+/// Packs an envelope, a header and a text that comes in pieces.
+///
+/// It holds at most the lesser of the plan's subfile size and the plan's bound in octets of the object. [`Packer::start`] asks for
+/// memory for just those, in one request, and no later call asks for any. All else that it has is of a fixed size, below 256
+/// octets: the plan, four counts, whether a write failed, and what it writes to.
+///
+/// Contracts see it as how many octets records 1 and 2 have, and the writer of its object. `Begun` (`specs/Begun.antt`) says what
+/// it has taken and what is out.
 #[derive(Drop)]
 pub struct Packer<W> {
     before: u64,
@@ -40,9 +49,11 @@ impl<W> Model for Packer<W> {
 }
 
 impl<W: Target> Packer<W> {
-    /// Writes records 1, 2 and 7, and begins the object with the header. Nothing is written where the header and the least
-    /// ending pass the plan's bound, or where memory is refused. Where a write fails, what is out begins each form of the
-    /// envelope, header and plan.
+    /// Writes records 1, 2 and 7, and begins the object with the header.
+    ///
+    /// Refuses, in this order: `PastAnnounced` where the header and the least ending (ETX and EOT) pass the plan's bound;
+    /// `OutOfMemory` where memory was refused; `Write` where a write failed. Nothing is written for the first two. At `Write` what is
+    /// out, `written` octets, begins each packed form of the envelope, header and plan. The writer is handed back each time.
     pub fn start(
         alloc: Global,
         envelope: &Envelope,
@@ -51,7 +62,9 @@ impl<W: Target> Packer<W> {
         mut writer: W,
     ) -> Result<Packer<W>, StartFault<W>>
         ensures refused { IfSome (start_cause head.now plan) (λ cause. MatchResult result (λ _. ⊥) (IsRefused cause writer)) }
+        ensures order { IsFirstOf (AgainstStart head.now plan) (causes.PastAnnounced ∷ []) (start_cause head.now plan) }
         ensures ok { IfOk result (Starts W.state writer envelope.now head.now plan) }
+        ensures begun { IfOk result (λ k. Begun W.state (W.state writer) k envelope.now head.now [] plan) }
         ensures fault { IfNone (start_cause head.now plan) (IfErr result (IsStartFault W.state envelope.now head.now plan writer)) }
     {
         lines_are_packed_as_their_events();
@@ -95,14 +108,21 @@ impl<W: Target> Packer<W> {
         }
     }
 
-    /// Takes octets of a line.
+    /// Takes octets of a line. How a text is cut into calls changes nothing of what is written in the end.
+    ///
+    /// Refuses, in this order: `Failed` after a failed write; `BadTextOctet` where an octet may not stand in a line (CR and LF may
+    /// not: `line_end` writes them); `PastAnnounced` where the object so far, these octets and the least ending pass the plan's
+    /// bound; `Write` where a write failed. But for the last, nothing is written and nothing changes.
     pub fn text(&mut self, octets: &[u8]) -> Result<(), PackCause>
         ensures refused { IfSome (text_cause self.old octets.now) (λ cause. (result ≡ Err cause) × (self.new ≡ self.old)) }
+        ensures order { IsFirstOf (AgainstText self.old octets.now) (causes.Failed ∷ causes.BadTextOctet ∷ causes.PastAnnounced ∷ []) (text_cause self.old octets.now) }
         ensures ok { OnOk result (Lengthens W.state self.old self.new (map LineOctet octets.now)) }
+        ensures begun { OnOk result (GoesOnBegun W.state self.old self.new (map LineOctet octets.now)) }
         ensures cause { IfNone (text_cause self.old octets.now) (IfErr result (λ cause. cause ≡ causes.Write)) }
         ensures broke { IfNone (text_cause self.old octets.now)
             (OnErr result (BreaksOff W.state (GoesOnWith (map LineOctet octets.now)) self.old self.new)) }
     {
+        texts_join();
         lines_are_packed_as_their_events();
         if self.object.is_failed() {
             return Err(PackCause::Failed);
@@ -120,13 +140,19 @@ impl<W: Target> Packer<W> {
         self.object.write(octets)
     }
 
-    /// Ends a line.
+    /// Ends a line, with CR and LF.
+    ///
+    /// Refuses, in this order: `Failed` after a failed write; `PastAnnounced` where the object so far, the line end and the least
+    /// ending pass the plan's bound; `Write` where a write failed. But for the last, nothing is written and nothing changes.
     pub fn line_end(&mut self) -> Result<(), PackCause>
         ensures refused { IfSome (line_end_cause self.old) (λ cause. (result ≡ Err cause) × (self.new ≡ self.old)) }
+        ensures order { IsFirstOf (AgainstLineEnd self.old) (causes.Failed ∷ causes.PastAnnounced ∷ []) (line_end_cause self.old) }
         ensures ok { OnOk result (Lengthens W.state self.old self.new (LineEnd ∷ [])) }
+        ensures begun { OnOk result (GoesOnBegun W.state self.old self.new (LineEnd ∷ [])) }
         ensures cause { IfNone (line_end_cause self.old) (IfErr result (λ cause. cause ≡ causes.Write)) }
         ensures broke { IfNone (line_end_cause self.old) (OnErr result (BreaksOff W.state (GoesOnWith (LineEnd ∷ [])) self.old self.new)) }
     {
+        texts_join();
         lines_are_packed_as_their_events();
         line_ends_are_packed_as_return_and_feed();
         if self.object.is_failed() {
@@ -139,12 +165,19 @@ impl<W: Target> Packer<W> {
     }
 
     /// Ends the message with the trailer, and hands back what was written to: the packed form is out.
+    ///
+    /// Refuses, in this order: `Failed` after a failed write; `BadTrailer` where the octets may be no trailer; `PastAnnounced` where the
+    /// object with its ending (ETX, the trailer and EOT) passes the plan's bound; `ShortOfAnnounced` where it is below a known
+    /// size; `Write` where a write failed. The packer is handed back, and but for the last nothing is written and nothing changes.
     pub fn finish(self, trailer: &[u8]) -> Result<W, (Packer<W>, PackCause)>
         ensures refused { IfSome (finish_cause self trailer.now) (λ cause. result ≡ Err (self, cause)) }
+        ensures order { IsFirstOf (AgainstFinish self trailer.now) (causes.Failed ∷ causes.BadTrailer ∷ causes.PastAnnounced ∷ causes.ShortOfAnnounced ∷ []) (finish_cause self trailer.now) }
         ensures ok { IfOk result (λ writer. Finishes W.state self trailer.now writer) }
+        ensures begun { IfOk result (EndsBegun W.state self trailer.now) }
         ensures cause { IfNone (finish_cause self trailer.now) (IfErr result (λ refused. refused.1 ≡ causes.Write)) }
         ensures broke { IfNone (finish_cause self trailer.now) (IfErr result (λ refused. BreaksOff W.state (EndsIn trailer.now) self refused.0)) }
     {
+        texts_join();
         events_are_packed_as_lines();
         canonical_objects_are_messages();
         if self.object.is_failed() {
@@ -161,7 +194,7 @@ impl<W: Target> Packer<W> {
         }
     }
 
-    /// How many octets are out.
+    /// How many octets are out, those of a failed write among them.
     pub fn written(&self) -> u64
         ensures { result ≡ written_of self.now }
     {

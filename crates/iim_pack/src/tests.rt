@@ -1,20 +1,45 @@
 //! Envelopes packed. What is expected is worked out from the format.
 
-use crate::{Packer, packed_size};
-use iim_dataset::{TrialWriter, Trouble};
+mod calls;
+mod failing;
+mod plans;
+
+use crate::pack;
+use iim_dataset::FromWrite;
 use iim_fields::{Envelope, EnvelopeBuilder, Limits};
 use iim_object::{PackCause, Plan, Size};
-use std::alloc::Global;
+use std::alloc::{AllocError, Global};
 use std::process::Abort;
-use std::rt::HostRuntime;
 use wire_message::MessageHead;
+use wire_story::{Lines, StorySink};
 
+/// Those of the program.
 const LIMITS: Limits = Limits {
-    octets: 65536,
+    octets: 65_536,
     fields: 512,
 };
 
-const FIELDS: [(u8, u8, &[u8]); 16] = [
+/// The fields of the smallest envelope.
+static SMALLEST: [(u8, u8, &[u8]); 7] = [
+    (1, 0, b"\0\x04"),
+    (1, 20, b"\0\x02"),
+    (1, 22, b"\0\x01"),
+    (1, 30, b"TST"),
+    (1, 40, b"00000001"),
+    (1, 70, b"20240301"),
+    (2, 0, b"\0\x04"),
+];
+
+/// The smallest envelope up to its fields' end.
+const SMALLEST_FRONT: &[u8] =
+    b"\x1c\x01\x00\x00\x02\x00\x04\x1c\x01\x14\x00\x02\x00\x02\x1c\x01\x16\x00\x02\x00\x01\
+\x1c\x01\x1e\x00\x03TST\x1c\x01\x28\x00\x0800000001\x1c\x01\x46\x00\x0820240301\x1c\x02\x00\x00\x02\x00\x04";
+
+/// Its object: a story of one empty line.
+const SMALLEST_OBJECT: &[u8] = b"\x01X1 4 N 0\r\n\x02\x03\x04";
+
+/// The fields of an envelope with by-lines and keywords.
+static STORY: [(u8, u8, &[u8]); 16] = [
     (1, 0, b"\0\x04"),
     (1, 20, b"\0\x02"),
     (1, 22, b"\0\x01"),
@@ -33,29 +58,62 @@ const FIELDS: [(u8, u8, &[u8]); 16] = [
     (2, 250, b"\0\xff"),
 ];
 
-/// The second worked envelope behind its fields.
-const REST: &[u8] =
-    b"\x1c\x07\x0a\0\x01\x01\x1c\x07\x14\0\x04\0\0\x04\0\x1c\x07\x5a\0\x04\0\0\0\x32\x1c\x08\x0a\0\x32\x01TST0007 4 ECO 5 rates\r\n\x02Rates stay.\r\nNo change.\x03\x04\x1c\x09\x0a\0\x04\0\0\0\x32";
+/// That envelope, up to the end of its fields.
+const STORY_FRONT: &[u8] =
+    b"\x1c\x01\x00\x00\x02\x00\x04\x1c\x01\x14\x00\x02\x00\x02\x1c\x01\x16\x00\x02\x00\x01\
+\x1c\x01\x1e\x00\x03TST\x1c\x01\x28\x00\x0800000002\x1c\x01\x46\x00\x0820240301\x1c\x02\x00\x00\x02\x00\x04\
+\x1c\x02\x69\x00\x0aRates held\x1c\x02\x50\x00\x07A. Moor\x1c\x02\x55\x00\x06Editor\
+\x1c\x02\x50\x00\x07B. Lund\x1c\x02\x55\x00\x06Writer\x1c\x02\x19\x00\x05rates\x1c\x02\x19\x00\x04bank\
+\x1c\x02\x19\x00\x04euro\x1c\x02\xfa\x00\x02\x00\xff";
 
-fn envelope(rt: &impl Abort, alloc: Global) -> Envelope {
-    let mut builder = match EnvelopeBuilder::new(alloc, LIMITS) {
-        Ok(builder) => builder,
-        Err(_) => panic!(rt; "memory"),
+/// Its object: a story of two lines.
+const STORY_OBJECT: &[u8] = b"\x01TST0007 4 ECO 5 rates\r\n\x02Rates stay.\r\nNo change.\x03\x04";
+
+/// All of it, with a known size and one subfile of at most 1024 octets.
+const STORY_REST: &[u8] =
+    b"\x1c\x07\x0a\0\x01\x01\x1c\x07\x14\0\x04\0\0\x04\0\x1c\x07\x5a\0\x04\0\0\0\x32\
+\x1c\x08\x0a\0\x32\x01TST0007 4 ECO 5 rates\r\n\x02Rates stay.\r\nNo change.\x03\x04\x1c\x09\x0a\0\x04\0\0\0\x32";
+
+fn envelope(rt: &impl Abort, alloc: Global, fields: &[(u8, u8, &[u8])]) -> Envelope {
+    let Ok(mut builder) = EnvelopeBuilder::new(alloc, LIMITS) else {
+        panic!(rt; "memory");
     };
-    for (rec, set, octets) in FIELDS {
-        assert!(rt; builder.add(rec, set, octets).is_ok());
+    for (rec, set, octets) in fields {
+        assert!(rt; builder.add(*rec, *set, octets).is_ok());
     }
     match builder.finish() {
         Ok(envelope) => envelope,
-        Err(_) => panic!(rt; "missing"),
+        Err(_) => panic!(rt; "a dataset is missing"),
     }
 }
 
-fn head(rt: &impl Abort) -> MessageHead {
+fn smallest_head(rt: &impl Abort) -> MessageHead {
+    match MessageHead::new(b"X", b"1", b"4", b"N", b"0", b"") {
+        Some(head) => head,
+        None => panic!(rt; "head"),
+    }
+}
+
+fn story_head(rt: &impl Abort) -> MessageHead {
     match MessageHead::new(b"TST", b"0007", b"4", b"ECO", b"5", b"rates") {
         Some(head) => head,
         None => panic!(rt; "head"),
     }
+}
+
+/// These lines, of which there is one at least.
+fn lines(rt: &impl Abort, alloc: Global, texts: &[&[u8]]) -> Lines {
+    let mut lines = Lines::new(alloc);
+    let mut is_first = true;
+    for text in texts {
+        if !is_first {
+            assert!(rt; lines.line_end().is_ok());
+        }
+        assert!(rt; wire_story::is_text(text));
+        assert!(rt; lines.text(text).is_ok());
+        is_first = false;
+    }
+    lines
 }
 
 fn plan(rt: &impl Abort, subfile: u64, size: Size) -> Plan {
@@ -65,102 +123,56 @@ fn plan(rt: &impl Abort, subfile: u64, size: Size) -> Plan {
     }
 }
 
-/// Packs by a writer that fails after so many good calls: how many octets are out, whether `start` failed, and whether these
-/// begin the worked envelope.
-fn fails_at(rt: &impl Abort, alloc: Global, good: u64) -> (u64, bool) {
-    let envelope = envelope(rt, alloc);
-    let writer: TrialWriter<512> = TrialWriter::new(good, Trouble::Failure);
-    let mut packer = match Packer::start(
-        alloc,
-        &envelope,
-        &head(rt),
-        plan(rt, 1024, Size::Known(50)),
-        writer,
-    ) {
-        Ok(packer) => packer,
+/// What `pack` writes, or why it doesn't; and then nothing is out.
+fn packed(
+    rt: &impl Abort,
+    alloc: Global,
+    value: (&Envelope, &MessageHead, &Lines),
+    trailer: &[u8],
+    plan: Plan,
+) -> Result<Vec<u8>, PackCause> {
+    let (envelope, head, lines) = value;
+    let writer = FromWrite::new(Vec::new(alloc));
+    match pack(alloc, envelope, head, lines, trailer, plan, writer) {
+        Ok(writer) => Ok(writer.into_inner()),
         Err(fault) => {
-            assert!(rt; fault.cause == PackCause::Write);
-            assert!(rt; fault.writer.octets().len() as u64 == fault.written);
-            return (fault.written, true);
-        }
-    };
-    assert!(rt; packer.text(b"Rates stay.").is_ok());
-    assert!(rt; packer.line_end().is_ok());
-    assert!(rt; packer.text(b"No change.").is_ok());
-    assert!(rt; packer.text(b"!") == Err(PackCause::PastAnnounced));
-    assert!(rt; packer.text(b"\n") == Err(PackCause::BadTextOctet));
-    match packer.finish(b"") {
-        Ok(writer) => {
-            let octets = writer.octets();
-            assert!(rt; octets.len() == 246);
-            assert!(rt; &octets[158..] == REST);
-            (246, false)
-        }
-        Err((mut packer, cause)) => {
-            assert!(rt; cause == PackCause::Write);
-            assert!(rt; packer.text(b"") == Err(PackCause::Failed));
-            let written = packer.written();
-            let writer = packer.into_writer();
-            assert!(rt; writer.octets().len() as u64 == written);
-            assert!(rt; written >= 158);
-            assert!(rt; writer.octets()[158..] == REST[..written as usize - 158]);
-            (written, false)
+            assert_eq!(rt; fault.written, 0);
+            assert!(rt; fault.writer.into_inner().is_empty());
+            Err(fault.cause)
         }
     }
 }
 
-#[test]
-fn writes_fail_call_by_call(rt: HostRuntime) {
-    for good in 0..247 {
-        let (written, in_start) = fails_at(&rt, rt.alloc(), good);
-        assert!(&rt; written == good);
-        assert!(&rt; in_start == (good < 182));
+/// A dataset of fewer than 256 octets, as it is written.
+fn put_dataset(all: &mut Vec<u8>, rec: u8, set: u8, data: &[u8]) -> Result<(), AllocError> {
+    let count = u8::try_from(data.len()).unwrap_or(0);
+    all.extend_from_slice(&[0x1c, rec, set, 0, count])?;
+    all.extend_from_slice(data)
+}
+
+fn four_octets(number: u64) -> [u8; 4] {
+    u32::try_from(number).unwrap_or(0).to_be_bytes()
+}
+
+/// What is written of the fields and the object by a plan.
+fn expected(alloc: Global, front: &[u8], object: &[u8], plan: Plan) -> Result<Vec<u8>, AllocError> {
+    let mut all = Vec::new(alloc);
+    all.extend_from_slice(front)?;
+    let is_known = match plan.size {
+        Size::Known(_) => 1,
+        Size::Unknown(_) => 0,
+    };
+    put_dataset(&mut all, 7, 10, &[is_known])?;
+    put_dataset(&mut all, 7, 20, &four_octets(plan.subfile))?;
+    match plan.size {
+        Size::Known(octets) => put_dataset(&mut all, 7, 90, &four_octets(octets))?,
+        Size::Unknown(Some(most)) => put_dataset(&mut all, 7, 95, &four_octets(most))?,
+        Size::Unknown(None) => {}
     }
-}
-
-/// How many octets the envelope has in subfiles of this size.
-fn packed_in(rt: &impl Abort, alloc: Global, subfile: u64) -> u64 {
-    let envelope = envelope(rt, alloc);
-    let writer: TrialWriter<512> = TrialWriter::new(1000, Trouble::Failure);
-    let Ok(mut packer) = Packer::start(
-        alloc,
-        &envelope,
-        &head(rt),
-        plan(rt, subfile, Size::Known(50)),
-        writer,
-    ) else {
-        panic!(rt; "start");
-    };
-    assert!(rt; packer.text(b"Rates").is_ok());
-    assert!(rt; packer.text(b" stay.").is_ok());
-    assert!(rt; packer.line_end().is_ok());
-    assert!(rt; packer.text(b"No change.").is_ok());
-    let Ok(writer) = packer.finish(b"") else {
-        panic!(rt; "finish");
-    };
-    writer.octets().len() as u64
-}
-
-#[test]
-fn subfiles_of_every_size(rt: HostRuntime) {
-    assert!(&rt; packed_in(&rt, rt.alloc(), 1) == 491);
-    assert!(&rt; packed_in(&rt, rt.alloc(), 7) == 281);
-    assert!(&rt; packed_in(&rt, rt.alloc(), 1024) == 246);
-}
-
-#[test]
-fn starts_within_the_bound_alone(rt: HostRuntime) {
-    let envelope = envelope(&rt, rt.alloc());
-    let writer: TrialWriter<512> = TrialWriter::new(1000, Trouble::Failure);
-    let Err(fault) = Packer::start(
-        rt.alloc(),
-        &envelope,
-        &head(&rt),
-        plan(&rt, 1024, Size::Known(26)),
-        writer,
-    ) else {
-        panic!(&rt; "started");
-    };
-    assert!(&rt; fault.cause == PackCause::PastAnnounced);
-    assert!(&rt; fault.written == 0);
+    let most = (plan.subfile as usize).max(1);
+    for part in object.chunks(most) {
+        put_dataset(&mut all, 8, 10, part)?;
+    }
+    put_dataset(&mut all, 9, 10, &four_octets(object.len() as u64))?;
+    Ok(all)
 }

@@ -1,9 +1,11 @@
 //! A whole envelope, packed in one call.
 
-ghost use Rattle.std.specs.Prelude.{◌≡◌, length, IfOk, IfErr, IfSome, IfNone, MatchResult};
+ghost use Rattle.std.specs.Prelude.{◌≡◌, [], ◌∷◌, length, IfOk, IfErr, IfSome, IfNone, MatchResult};
 ghost use Rattle.wire_message.specs.Canonical.{canonical};
 ghost use Rattle.iim_pack.specs.Packing.{written_of};
 ghost use Rattle.iim_pack.specs.Packing as words;
+ghost use Rattle.iim_object.specs.declared.cause.PackCause.TheVariants as causes;
+ghost use Rattle.iim_pack.specs.Orders.{IsFirstOf, AgainstPack};
 ghost use Rattle.iim_pack.specs.Starting.{IsRefused};
 ghost use Rattle.iim_pack.specs.Whole.{Packs, IsPackFault};
 
@@ -56,7 +58,10 @@ fn given_back<W: Target>(packer: Packer<W>, cause: PackCause) -> StartFault<W>
 }
 
 /// Packs an envelope, a header, lines and a trailer by a plan, and hands back what was written to: the packed form is out.
-/// Nothing is written where a cause stands, or where memory is refused. Where a write fails, what is out begins the form.
+///
+/// Refuses, in this order: `BadTrailer` where the octets may be no trailer; `PastAnnounced` where the object passes the plan's bound;
+/// `ShortOfAnnounced` where it is below a known size; `OutOfMemory` where memory was refused; `Write` where a write failed. Nothing is
+/// written but for the last: then what is out, `written` octets, begins the packed form. The writer is handed back each time.
 pub fn pack<W: Target>(
     alloc: Global,
     envelope: &Envelope,
@@ -67,6 +72,8 @@ pub fn pack<W: Target>(
     writer: W,
 ) -> Result<W, StartFault<W>>
     ensures refused { IfSome (words.pack_cause head.now lines.now.lines trailer.now plan) (λ cause. MatchResult result (λ _. ⊥) (IsRefused cause writer)) }
+    ensures order { IsFirstOf (AgainstPack head.now lines.now.lines trailer.now plan) (causes.BadTrailer ∷ causes.PastAnnounced ∷ causes.ShortOfAnnounced ∷ [])
+        (words.pack_cause head.now lines.now.lines trailer.now plan) }
     ensures ok { IfOk result (Packs W.state writer envelope.now head.now lines.now.lines trailer.now plan) }
     ensures fault { IfNone (words.pack_cause head.now lines.now.lines trailer.now plan)
         (IfErr result (IsPackFault W.state envelope.now head.now lines.now.lines trailer.now plan writer)) }

@@ -2,7 +2,7 @@
 use Rattle.std.proofs.Common.{◌⊎◌, inl, inr, if◌then◌else◌, Option, Some, None, ap, ◌∙◌, ◌≡◌, ℕ, zero, suc, ◌^◌, ◌<◌, ◌≤◌, Bool, true, false, ◌&&◌, ◌||◌, ◌==◌, nat_le, List, [], ◌∷◌, ◌++◌, length, replicate, codes, refl, sym, arith, length-append, zero-mul}
 use Rattle.std.specs.List.{list_all}
 use Rattle.std.proofs.lemmas.List.{length-replicate}
-use Rattle.std.proofs.lemmas.Bool.{and_from, and_parts, eqb-true, le-leb}
+use Rattle.std.proofs.lemmas.Bool.{and_from, and_parts, eqb-true, le-leb, leb-true}
 use Rattle.iim_tables.proofs.NumberLemmas.{number-cons}
 use Rattle.iim_tables.specs.Octets.{AreOctets, within, is_digit, is_letter, is_graphic, is_spaced, is_spaced_or_line_end}
 use Rattle.iim_tables.specs.Numbers.{number, size_octets, greatest_size}
@@ -148,3 +148,19 @@ row_values rec set n r found t =
     let in_bounds : within r.min r.max (length value.0) ≡ true = rw value.1 t in
     let admitted : is_admitted r value.0 ≡ true = and_from (within r.min r.max (length value.0)) (has_kind r.kind value.0) in_bounds value.2 in
     (value.0, value.3, value.1, rw found admitted)
+
+-- ---- no row allows more octets than the greatest size
+
+table_bounded : list_all (λ e. nat_le e.row.max greatest_size) table ≡ true
+unfolding table
+table_bounded = refl
+
+pub row_bounded : (rec set : ℕ) (r : Row) → row_of rec set ≡ Some r → r.max ≤ greatest_size
+unfolding row_of
+row_bounded rec set r found =
+    elim (first_or_other (row_in table rec set) (row_of_others rec) r found) [
+      | inl first ↦
+          let entry = found_passes (is_for rec set) (λ e. nat_le e.row.max greatest_size) table r table_bounded first in
+          leb-true r.max greatest_size (sym (ap (λ (x : Row). nat_le x.max greatest_size) entry.1) ∙ entry.2)
+      | inr other ↦ leb-true r.max greatest_size (sym (ap (λ (x : Row). nat_le x.max greatest_size) (only_kept (rec == 1 || rec == 2) r other)))
+    ]

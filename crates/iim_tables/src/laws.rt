@@ -1,7 +1,8 @@
 //! What holds of all dates, times and rows.
 
-ghost use Rattle.std.specs.Prelude.{◌≡◌, ◌==◌, ◌<◌, ℕ, Bool, List, slice_index, Option, Some, IsTrue};
+ghost use Rattle.std.specs.Prelude.{◌≡◌, ◌==◌, ◌<◌, ℕ, Bool, List, slice_index, ◌≤◌, Option, Some, IsTrue};
 ghost use Rattle.iim_tables.specs.Octets.{minus, within};
+ghost use Rattle.iim_tables.specs.Numbers.{greatest_size};
 ghost use Rattle.iim_tables.specs.Dates.{pair_at, year_in, month_in, day_in, are_eight_digits, date_text, ReadsDate};
 ghost use Rattle.iim_tables.specs.Instants.{has_time_form, time_text, ReadsTime};
 ghost use Rattle.iim_tables.specs.Rows.{row_of, HasValue};
@@ -31,4 +32,9 @@ pub fn times_are_written_in_one_way()
 pub fn each_row_has_values()
     ensures { (rec set n : ℕ) (r : Row) → row_of rec set ≡ Some r → IsTrue (within r.min r.max n)
         → HasValue rec set n }
+{}
+
+/// No row allows more octets than the greatest size: a count can tell them all.
+pub fn rows_allow_no_more_than_the_greatest_size()
+    ensures { (rec set : ℕ) (r : Row) → row_of rec set ≡ Some r → r.max ≤ greatest_size }
 {}

@@ -22,7 +22,8 @@ pub use crate::dates::date_of;
 pub use crate::instants::instant_of;
 pub use crate::kinds::admits;
 pub use crate::laws::{
-    dates_are_written_in_one_way, each_row_has_values, times_are_written_in_one_way,
+    dates_are_written_in_one_way, each_row_has_values, rows_allow_no_more_than_the_greatest_size,
+    times_are_written_in_one_way,
 };
 pub use crate::numbers::{GREATEST_SIZE, SIZE_OCTETS, number_of};
 pub use crate::shape::{Duty, Kind, Row};

@@ -5,12 +5,12 @@ use Rattle.iim_dataset.specs.Laws.{NoDatasetBeginsAnother}
 use Rattle.iim_fields.specs.Faults.{kept}
 use Rattle.iim_fields.specs.Laws.{NoSectionsBeginOthers}
 use Rattle.iim_object.specs.Behind.{of_record, RecordsAreByNumber}
-use Rattle.iim_object.specs.Records.{HaveSizes, SizesAreDetermined}
+use Rattle.iim_object.specs.Records.{AreSized, HaveSizes, SizesAreDetermined}
 use Rattle.wire_message.specs.Messages.{IsMessage}
 use Rattle.wire_message.specs.Laws.{MessagesHaveOneReading}
 use Rattle.wire_story.specs.Texts.{IsText}
 use Rattle.wire_story.specs.Laws.{TextsHaveOneReading}
-use Rattle.iim_unpack.specs.Admitted.{object_of}
+use Rattle.iim_unpack.specs.Admitted.{Value, Admits, object_of}
 use Rattle.iim_unpack.specs.Laws.{AdmittedOctetsHaveOneValue, NoAdmittedOctetsBeginOthers, AdmittedOctetsAreFramed, FramedMessagesAreAdmitted}
 use Rattle.iim_unpack.proofs.Frames.{envelope_alone}
 use Rattle.iim_unpack.proofs.Objects.{are_records}
@@ -33,15 +33,20 @@ no_others one ends octets rest v w a b = (envelope_alone one ends a.datasets b.d
 
 -- ---- framed octets
 
-pub framed_of : RecordsAreByNumber → AdmittedOctetsAreFramed
-framed_of by_number limits octets v a within =
+-- the sizes of an envelope's object agree
+pub sized_by : RecordsAreByNumber → (octets : List ℕ) (v : Value) → (a : Admits octets v) → AreSized a.datasets
+sized_by by_number octets v a =
     let records = are_records a.datasets a.sections in
     let is = by_number a.datasets records in
     let have : HaveSizes records.r7 records.r8 records.r9 v.sizes =
     subst (λ (xs : List Dataset). HaveSizes xs records.r8 records.r9 v.sizes) is.sevens
     (subst (λ (xs : List Dataset). HaveSizes (of_record 7 a.datasets) xs records.r9 v.sizes) is.eights
     (subst (λ (xs : List Dataset). HaveSizes (of_record 7 a.datasets) (of_record 8 a.datasets) xs v.sizes) is.nines a.sizes)) in
-    record { datasets = a.datasets; spelled = a.spelled; sections = a.sections; sized = record { records = records; sizes = v.sizes; have = have }; within = within }
+    record { records = records; sizes = v.sizes; have = have }
+
+pub framed_of : RecordsAreByNumber → AdmittedOctetsAreFramed
+framed_of by_number limits octets v a within =
+    record { datasets = a.datasets; spelled = a.spelled; sections = a.sections; sized = sized_by by_number octets v a; within = within }
 
 pub admitted_of : RecordsAreByNumber → FramedMessagesAreAdmitted
 admitted_of by_number limits octets f head text trailer lines message is_text =

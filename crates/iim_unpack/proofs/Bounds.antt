@@ -297,7 +297,7 @@ sizes_at ds n true c is = (few_numbers (place_after (place_behind ds) (SubfileBe
 sizes_at ds n false true is = (few_numbers (place_ended ds) is, object_fits (place_ended ds) is)
 sizes_at ds n false false is = (few_numbers (place_behind ds) is, object_fits (place_behind ds) is)
 
-front_fits : NoSectionsBeginOthers → EnvelopesEndWithTheLastRecord → (limits : Limits) → limits.octets < 4294967296 → limits.fields < 4294967296 → (ds : List Dataset) (begun : Begun) (xs : List ℕ) → SpellsStream count_octets ds xs
+pub front_fits : NoSectionsBeginOthers → EnvelopesEndWithTheLastRecord → (limits : Limits) → limits.octets < 4294967296 → limits.fields < 4294967296 → (ds : List Dataset) (begun : Begun) (xs : List ℕ) → SpellsStream count_octets ds xs
     → MayGoOn limits ds begun → (AreSections ds → ⊥) → length xs < 1000000000000
 front_fits law ends limits octets fields ds (InTag held) xs spelled goes unfinished =
     whole_fits law ends limits octets fields ds xs spelled goes.records goes.within (few_numbers (place_behind ds) goes.object) (object_fits (place_behind ds) goes.object) unfinished

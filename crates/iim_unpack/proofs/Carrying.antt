@@ -120,7 +120,7 @@ lives_on o true is lives = absurd (let bad : true ≡ false = is in cc)
 lives_on o false is lives = subst (languages.IsAlive MessageLanguage) (sym (append-nil (map Octet o))) lives
 
 -- a whole message, with or without its end
-lives_whole : (o : List ℕ) (b : Bool) → MessageLivesWith o → (b ≡ true → MessageLanguage (with_end o)) → languages.IsAlive MessageLanguage (map Octet o ++ (if b then End ∷ [] else []))
+pub lives_whole : (o : List ℕ) (b : Bool) → MessageLivesWith o → (b ≡ true → MessageLanguage (with_end o)) → languages.IsAlive MessageLanguage (map Octet o ++ (if b then End ∷ [] else []))
 lives_whole o true lives whole = ([], subst MessageLanguage (sym (append-nil (map Octet o ++ End ∷ []))) (whole refl))
 lives_whole o false lives whole = subst (languages.IsAlive MessageLanguage) (sym (append-nil (map Octet o))) lives
 

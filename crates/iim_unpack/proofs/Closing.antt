@@ -31,12 +31,13 @@ use Rattle.iim_unpack.specs.Parts.{object_so_far, Behind, Within, TakesData, Cou
 use Rattle.iim_unpack.specs.declared.parts.Parts.{Parts}
 use Rattle.iim_unpack.specs.declared.fault.Fault.{Fault}
 use Rattle.iim_unpack.proofs.Faults.{field_value, object_value}
-use Rattle.iim_unpack.proofs.Places.{ObjectLaws, number_leads, silent_leads, one_more}
+use Rattle.iim_unpack.proofs.Places.{number_leads, silent_leads, one_more}
 use Rattle.iim_unpack.proofs.Carrying.{in_one, all_within}
 use Rattle.iim_unpack.proofs.Heading.{quiet_field, counts_size}
 use Rattle.iim_unpack.proofs.Taken.{number_tells}
 use Rattle.iim_unpack.proofs.Lasts.{present_last, not_all}
 use Rattle.iim_fields.specs.Laws.{NoSectionsBeginOthers}
+use Rattle.iim_unpack.specs.LowerLaws.{ObjectLaws}
 
 pub record CloseLaws : Type 0 where
   pub objects : ObjectLaws

@@ -9,7 +9,6 @@ use Rattle.iim_dataset.specs.Tags.{Concerns}
 use Rattle.iim_dataset.specs.Events.{Event, HeadRead, DataOctet, DatasetEnd, handed_on, begun_data}
 use Rattle.iim_dataset.specs.Places.{LeadsTo, HandsOn, IsKeptAs, between, named_by, to_come}
 use Rattle.iim_dataset.specs.Reading.{TagDies, TakesCalls}
-use Rattle.iim_dataset.specs.Laws.{NoTagBeginsAnother, NoDatasetBeginsAnother, OctetsAreHandedOnOneWay, EventsTellTheDatasets}
 use Rattle.iim_dataset.specs.declared.head.Head.{Head}
 use Rattle.iim_dataset.specs.declared.head.HeadCause.{HeadCause}
 use Rattle.iim_dataset.specs.declared.head.HeadCause.TheVariants.{Marker, CountForm}
@@ -18,11 +17,10 @@ use Rattle.iim_dataset.specs.declared.place.Place.TheVariants.{Tag, Inside}
 use Rattle.iim_fields.specs.Records.{AreSections}
 use Rattle.iim_fields.specs.Faults.{present_record, kept as kept_of}
 use Rattle.iim_fields.specs.Faults.{kept as kept_of}
-use Rattle.iim_fields.specs.Laws.{EnvelopesEndWithTheLastRecord, NoSectionsBeginOthers}
 use Rattle.iim_fields.specs.Standing.{limits_of, StandsBehind}
 use Rattle.iim_fields.specs.declared.limits.Limits.{Limits}
 use Rattle.iim_object.specs.Reading as objects
-use Rattle.iim_object.specs.Behind.{of_record, place_behind, RecordsAreByNumber}
+use Rattle.iim_object.specs.Behind.{of_record, place_behind}
 use Rattle.iim_object.specs.Records.{AreRecords, HaveSizes}
 use Rattle.iim_object.specs.declared.size.Sizes.{Sizes}
 use Rattle.wire_story.specs.Delivery as story
@@ -43,26 +41,17 @@ use Rattle.iim_fields.specs.Values.{data_of}
 use Rattle.iim_unpack.specs.Steps.{cause_of_tag}
 use Rattle.iim_unpack.specs.Parts.{object_so_far, AllGoOn, Behind, StandsFor, Led, Refused, RefusesAt, IsUnfinished}
 use Rattle.iim_unpack.specs.Routing.{Takes, HasEnded}
-use Rattle.iim_unpack.specs.Unpacking.{Unpacking, Advanced, FailsAs, IsOnward, tag_fault, raised, are_some, begins, limits_in, IsTextOf, Adds, IsOpen, IsBadTagAt, RefusesNext, CompletesData, CompletesHead, CompletesOctet, CompletesEnd, CompletesNow, IsLed, Stands, IsDoneWith, IsRefusedIn, IsTruncatedAt, truncated_in, Stood, IsUnpacking}
+use Rattle.iim_dataset.specs.Completing.{CompletesData, CompletesHead, CompletesOctet, CompletesEnd, CompletesNow}
+use Rattle.iim_unpack.specs.Unpacking.{Unpacking, Advanced, FailsAs, IsOnward, tag_fault, raised, are_some, begins, limits_in, IsTextOf, Adds, IsOpen, IsBadTagAt, RefusesNext, IsLed, Stands, IsDoneWith, IsRefusedIn, IsTruncatedAt, truncated_in, Stood, IsUnpacking}
 use Rattle.iim_unpack.specs.declared.parts.Parts.{Parts}
 use Rattle.iim_unpack.specs.declared.fault.Fault.{Fault}
 use Rattle.iim_unpack.specs.declared.refusal.Refusal.{Refusal}
 use Rattle.iim_unpack.specs.declared.refusal.Cause.{Cause}
 use Rattle.iim_unpack.specs.declared.refusal.Layer.TheVariants as layers
-use Rattle.iim_unpack.proofs.OneOctet.{one_octet}
 use Rattle.iim_unpack.proofs.Objects.{are_records}
 use Rattle.iim_unpack.proofs.Carrying.{all_behind, all_within}
 use Rattle.iim_unpack.proofs.Lasts.{sections_last, last_sections, not_all}
-
-pub record FeedLaws : Type 0 where
-  pub one_tag : NoTagBeginsAnother
-  pub one_dataset : NoDatasetBeginsAnother
-  pub way : OctetsAreHandedOnOneWay
-  pub tell : EventsTellTheDatasets
-  pub ends : EnvelopesEndWithTheLastRecord
-  pub sections : NoSectionsBeginOthers
-  pub living : ReadersStandAtLivingOctets
-  pub numbers : RecordsAreByNumber
+use Rattle.iim_unpack.specs.LowerLaws.{FeedLaws}
 
 -- ---- begun datasets that are told alike
 
@@ -450,6 +439,7 @@ end_refused laws limits octets next events text fault c r = by r.begun r.refuses
             whole = c.whole;
             head = c.head;
             given = c.given;
+            is_value = apart;
             completes = c.completes;
             goes_on = all_as limits c.whole (InData c.head c.given) r.begun (sym told.1) (subst (λ (ds : List Dataset). AllGoOn limits ds r.begun) told.0 r.goes_on);
             unfinished = subst (λ (ds : List Dataset). AreSections ds → ⊥) told.0 r.unfinished;
@@ -501,7 +491,7 @@ refused_in goes failures laws u piece k fault a b e within is (inr stop) =
       s.told,
       λ p n at.
           let led = at.is_led in
-          let now = one_octet laws.one_tag laws.one_dataset (p ++ take k piece) (slice_index piece k) (led.events ++ stop.more) stop.event (stop.completes p led.events led.leads) in
+          let now = laws.octet (p ++ take k piece) (slice_index piece k) (led.events ++ stop.more) stop.event (stop.completes p led.events led.leads) in
           let told = token_refused laws (limits_in u) (p ++ take k piece) (slice_index piece k) (led.events ++ stop.more) (led.text ++ s.more) stop.event fault now
           (subst (λ (f : Fault). Refused (limits_in u) (led.events ++ stop.more) (led.text ++ s.more) stop.event f) same_fault (s.why led.events led.text led.led)) in
           record {
@@ -585,3 +575,22 @@ sound_done goes failures laws u v piece used a b s advanced onward calls same la
     taken_not : (w : Unpacking) → w.parts.last ≡ true → (left : Option ℕ) → Takes w.parts left → ⊥
     taken_not w ended None takes = true≢false (sym ended ∙ takes.last)
     taken_not w ended (Some left) takes = true≢false (sym ended ∙ takes.last)
+
+-- an unpacker of which the last dataset has ended is done with some octets
+pub stood_done : (u : Unpacking) → u.parts.last ≡ true → Stood u → (p : List ℕ) × (a : ℕ) × IsDoneWith u p a
+stood_done u last (p, a, inl at) = absurd (true≢false (sym last ∙ at.unended))
+stood_done u last (p, a, inr at) = (p, a, at)
+
+-- its trailer is short
+pub short_trailer : FeedLaws → (u : Unpacking) → u.parts.last ≡ true → Stood u → length (wire.trailer_read u.parts.message) ≤ 64
+short_trailer laws u last stood =
+    let (p, a, at) = stood_done u last stood in
+    (whole_parts laws u p at.ended at.place at.is_led).message.is_trailer.2
+
+pub some_head : FeedLaws → (u : Unpacking) → u.parts.last ≡ true → Stood u → wire.head_read u.parts.message ≡ None → ⊥
+some_head laws u last stood = let (p, a, at) = stood_done u last stood in has_head laws u p a at
+
+pub all_sections : FeedLaws → (u : Unpacking) → u.parts.last ≡ true → Stood u → (((ds : List Dataset) → StandsBehind u.parts.fields ds → AreSections ds → ⊥) → ⊥)
+all_sections laws u last stood none =
+    let (p, a, at) = stood_done u last stood in
+    let w = whole_parts laws u p at.ended at.place at.is_led in none w.ds w.behind.fields w.sections

@@ -1,9 +1,10 @@
 -- What the tag at the front says of the datasets there.
-use Rattle.std.proofs.Common.{◌≡◌, ℕ, ◌+◌, ◌-◌, ◌<◌, ◌≤◌, List, [], ◌++◌, length, take, drop, ap, sym, subst, ◌∙◌, inl, inr, arith, append_assoc, length-append, length-drop}
+use Rattle.std.proofs.Common.{◌≡◌, ℕ, ◌+◌, ◌-◌, ◌<◌, ◌≤◌, List, [], ◌∷◌, ◌++◌, length, take, drop, ap, sym, subst, ◌∙◌, inl, inr, arith, append_assoc, length-append, length-drop, refl}
 use Rattle.std.proofs.lemmas.List.{append-nil, take-append-drop, take-append-le}
 use Rattle.std.proofs.Math.Seq.{take-append-add}
 use Rattle.std.proofs.lemmas.Bool.{cases_lt}
-use Rattle.iim_dataset.specs.Datasets.{Dataset, SpellsTag, SpellsDataset, head_of, count_octets}
+use Rattle.iim_dataset.specs.Datasets.{Dataset, SpellsTag, SpellsDataset, SpellsStream, head_of, count_octets}
+use Rattle.iim_dataset.specs.Splits.{Begun, InTag, InData, IsBegun}
 use Rattle.iim_dataset.specs.Tags.{BeginsTag, HasTag, HasNoTag}
 use Rattle.iim_dataset.specs.Laws.{NoTagBeginsAnother}
 use Rattle.iim_dataset.specs.declared.head.Head.{Head}
@@ -22,6 +23,24 @@ pub no_longer : NoTagBeginsAnother → (h k : Head) (tag x more : List ℕ) → 
 no_longer one_tag h k tag x more s long t =
     let same = one_tag count_octets h k tag ((tag ++ x) ++ more) (x ++ more) [] s t (sym (append_assoc tag x more) ∙ sym (append-nil ((tag ++ x) ++ more))) in
     omega (arith, simp length-append at (ap length same.2))
+
+-- no whole dataset begins a begun one
+pub begun_none : NoTagBeginsAnother → (c : Begun) (y : List ℕ) → IsBegun count_octets c y → (d : Dataset) (x w : List ℕ) → SpellsDataset count_octets d x → y ≡ x ++ w → ⊥
+begun_none one (InTag held) y b d x w s e =
+    let held_is : held ≡ s.tag ++ (d.octets ++ w) = sym b.0 ∙ e ∙ ap (λ l. l ++ w) s.parts ∙ append_assoc s.tag d.octets w in
+    no_longer one (head_of d) b.1 s.tag (d.octets ++ w) b.4.0 s.is_tag b.4.1 (subst (SpellsTag count_octets b.1) (sym b.4.2 ∙ ap (λ l. l ++ b.4.0) held_is) b.3)
+begun_none one (InData h taken) y b d x w s e =
+    let agree : b.0 ++ taken ≡ s.tag ++ (d.octets ++ w) = sym b.4 ∙ e ∙ ap (λ l. l ++ w) s.parts ∙ append_assoc s.tag d.octets w in
+    let same = one count_octets h (head_of d) b.0 s.tag taken (d.octets ++ w) b.1 s.is_tag agree in
+    let count : h.count ≡ length d.octets = ap (λ (k : Head). k.count) same.0 in
+    let lengths : length taken ≡ length (d.octets ++ w) = ap length same.2 in
+    omega (arith, b.2, count, lengths, length-append d.octets w)
+
+-- no whole datasets begin a begun one
+pub no_longer_stream : NoTagBeginsAnother → (c : Begun) (y z r : List ℕ) (more : List Dataset) → IsBegun count_octets c y → SpellsStream count_octets more r → r ++ z ≡ y → more ≡ []
+no_longer_stream one c y z r [] bc stream e = refl
+no_longer_stream one c y z r (m ∷ more) bc (first, rest, s, later, parts) e =
+    absurd (begun_none one c y bc m first (rest ++ z) s (sym e ∙ ap (λ l. l ++ z) parts ∙ append_assoc first rest z))
 
 -- less than a tag is less than a dataset
 pub begun_lacks : NoTagBeginsAnother → (rest : List ℕ) → BeginsTag count_octets rest → Lacks rest

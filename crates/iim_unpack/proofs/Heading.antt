@@ -38,11 +38,12 @@ use Rattle.iim_unpack.specs.Parts.{object_so_far, Behind, Within, Went, CountsFo
 use Rattle.iim_unpack.specs.declared.parts.Parts.{Parts}
 use Rattle.iim_unpack.specs.declared.fault.Fault.{Fault}
 use Rattle.wire_message.specs.declared.fault.MessageCause.{MessageCause}
-use Rattle.iim_unpack.proofs.Places.{ObjectLaws, HeadLeads, subfile_leads, end_leads}
+use Rattle.iim_unpack.proofs.Places.{HeadLeads, subfile_leads, end_leads}
 use Rattle.iim_unpack.proofs.Faults.{field_head, too_many_head, object_head, have_room}
 use Rattle.std.proofs.lemmas.Bool.{true≢false}
 use Rattle.iim_unpack.proofs.Lasts.{sections_last}
 use Rattle.iim_unpack.proofs.Carrying.{MessageLaws, counts_for, passes_on, behind_all, all_behind}
+use Rattle.iim_unpack.specs.LowerLaws.{ObjectLaws}
 
 pub record HeadLaws : Type 0 where
   pub objects : ObjectLaws

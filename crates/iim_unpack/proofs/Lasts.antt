@@ -12,10 +12,10 @@ pub present_last : (r : ℕ) (ds : List Dataset) (d : Dataset) → last_record r
 present_last r [] d = refl
 present_last r (x ∷ ds) d = present_last x.rec ds d
 
-abbrev SplitLast : List Dataset → Type 0
+abbrev pub SplitLast : List Dataset → Type 0
 SplitLast ds = (ds ≡ []) ⊎ ((front : List Dataset) × (d : Dataset) × (ds ≡ front ++ d ∷ []))
 
-split_last : (ds : List Dataset) → SplitLast ds
+pub split_last : (ds : List Dataset) → SplitLast ds
 split_last [] = inl refl
 split_last (d ∷ ds) = by (split_last ds)
   where

@@ -1,4 +1,5 @@
 pub mod Octets
+pub mod Living
 pub mod Blocks
 pub mod Bounds
 pub mod Intakes
@@ -18,8 +19,10 @@ pub mod Carrying
 pub mod Heading
 pub mod Closing
 pub mod Routed
-pub mod OneOctet
 pub mod Opens
 pub mod Feeding
 pub mod Taken
+pub mod Following
+pub mod Answering
+pub mod PieceLemmas
 pub mod Admitted

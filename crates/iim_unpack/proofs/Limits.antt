@@ -38,6 +38,17 @@ first_subfile d es eight =
     let is : nat_eq d.rec 8 ≡ true = ap (λ n. nat_eq n 8) eight in
     rw is (omega arith)
 
+-- what datasets have together the first of them have
+pub within_front : (limits : Limits) (ds es : List Dataset) → AreWithin limits (ds ++ es) → AreWithin limits ds
+within_front limits ds es within =
+    let octets = kept_octets_append ds es in
+    let fields = kept_length_append ds es in
+    let subfiles = subfiles_append ds es in
+    record {
+      kept = record { octets_in = omega (arith, within.kept.octets_in); fields_in = omega (arith, within.kept.fields_in) };
+      subfiles = omega (arith, within.subfiles);
+    }
+
 -- what all datasets have leaves room for each
 pub leaves_room : (limits : Limits) (ds : List Dataset) (d : Dataset) (more : List Dataset) → AreWithin limits (ds ++ d ∷ more) → HaveRoom limits ds (head_of d)
 leaves_room limits ds d more within =

@@ -9,7 +9,7 @@ use Rattle.iim_fields.specs.declared.limits.Limits.{Limits}
 use Rattle.iim_unpack.specs.Answers.{MayGoOn}
 use Rattle.iim_unpack.specs.Unpacking.{OpenOctetsBeginWithNoEnvelope}
 use Rattle.iim_unpack.proofs.Frames.{compare}
-use Rattle.iim_unpack.proofs.OneOctet.{begun_none}
+use Rattle.iim_unpack.proofs.Fronts.{begun_none}
 
 no_more : (xs ys : List Dataset) → xs ++ ys ≡ [] → xs ≡ []
 no_more [] ys e = refl

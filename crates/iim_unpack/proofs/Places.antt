@@ -14,17 +14,10 @@ use Rattle.iim_object.specs.Plans.{max_subfiles}
 use Rattle.iim_object.specs.Objects.{ObjectToken, NumberRead, SubfileBegun, ObjectEnded, Confirmed}
 use Rattle.iim_object.specs.Places.{Place, MayFollow, place_after, head_token, value_token}
 use Rattle.iim_object.specs.Records.{AreRecords, AreSized}
-use Rattle.iim_object.specs.Behind.{of_record, place_behind, place_ended, TokensFollow, OthersLeadNowhere, NumbersLead, SubfilesLead, EndsLead, DatasetsLiveWithTheirTokens, DatasetsEndWithTheirTokens}
+use Rattle.iim_object.specs.Behind.{of_record, place_behind, place_ended, DatasetsLiveWithTheirTokens, DatasetsEndWithTheirTokens}
 use Rattle.iim_unpack.specs.Tokens.{place_at, ObjectLives}
 use Rattle.iim_unpack.proofs.Objects.{records_alive}
-
--- The laws of the object that the layers call.
-pub record ObjectLaws : Type 0 where
-  pub tokens : TokensFollow
-  pub others : OthersLeadNowhere
-  pub numbers : NumbersLead
-  pub subfiles : SubfilesLead
-  pub ends : EndsLead
+use Rattle.iim_unpack.specs.LowerLaws.{ObjectLaws}
 
 -- ---- the records of datasets that are alive
 
@@ -51,24 +44,24 @@ all_ones ds r =
     (all_join _ r.r7 (r.r8 ++ r.r9) (all_weaker _ _ (λ x h. inr (inl h.0)) r.r7 r.descriptor.each)
     (all_join _ r.r8 r.r9 (all_weaker _ _ (λ x h. inr (inr (inl h.0))) r.r8 r.object.each) (all_weaker _ _ (λ x h. inr (inr (inr h.0))) r.r9 r.confirmation.each))))
 
-is_one : (ds : List Dataset) (d : Dataset) → IsAlive (ds ++ d ∷ []) → IsOne d.rec
+pub is_one : (ds : List Dataset) (d : Dataset) → IsAlive (ds ++ d ∷ []) → IsOne d.rec
 is_one ds d alive = let r = records_alive (ds ++ d ∷ []) alive in all_at ds d r.0 (all_ones ((ds ++ d ∷ []) ++ r.0) r.1)
 
 -- ---- the place at a head
 
-at_subfile : (ds : List Dataset) (h : Head) → h.rec ≡ 8 → place_at ds h ≡ place_after (place_behind ds) (SubfileBegun h.count)
+pub at_subfile : (ds : List Dataset) (h : Head) → h.rec ≡ 8 → place_at ds h ≡ place_after (place_behind ds) (SubfileBegun h.count)
 at_subfile ds h is = ap (λ (r : ℕ). if nat_eq r 8 then place_after (place_behind ds) (SubfileBegun h.count) else if nat_eq r 9 then place_ended ds else place_behind ds) is
 
-at_end : (ds : List Dataset) (h : Head) → h.rec ≡ 9 → place_at ds h ≡ place_ended ds
+pub at_end : (ds : List Dataset) (h : Head) → h.rec ≡ 9 → place_at ds h ≡ place_ended ds
 at_end ds h is = ap (λ (r : ℕ). if nat_eq r 8 then place_after (place_behind ds) (SubfileBegun h.count) else if nat_eq r 9 then place_ended ds else place_behind ds) is
 
-at_number : (ds : List Dataset) (h : Head) → h.rec ≡ 7 → place_at ds h ≡ place_behind ds
+pub at_number : (ds : List Dataset) (h : Head) → h.rec ≡ 7 → place_at ds h ≡ place_behind ds
 at_number ds h is = ap (λ (r : ℕ). if nat_eq r 8 then place_after (place_behind ds) (SubfileBegun h.count) else if nat_eq r 9 then place_ended ds else place_behind ds) is
 
 not_equal : (r s : ℕ) → (r ≡ s → ⊥) → nat_eq r s ≡ false
 not_equal r s other = elim (eqb_tells r s) [ inl same ↦ absurd (other same.1) | inr apart ↦ apart.0 ]
 
-at_other : (ds : List Dataset) (h : Head) → h.rec < 7 → place_at ds h ≡ place_behind ds
+pub at_other : (ds : List Dataset) (h : Head) → h.rec < 7 → place_at ds h ≡ place_behind ds
 at_other ds h less =
     let not8 : nat_eq h.rec 8 ≡ false = not_equal h.rec 8 (λ e. omega (arith, e, less)) in
     let not9 : nat_eq h.rec 9 ≡ false = not_equal h.rec 9 (λ e. omega (arith, e, less)) in

@@ -27,8 +27,9 @@ use Rattle.iim_unpack.proofs.Octets.{Fit, are_octets, drop_octets}
 use Rattle.iim_unpack.proofs.Frames.{Next, IsOpen, goes_on, clashes_none}
 use Rattle.iim_unpack.proofs.Fronts.{Lacks, Sticks, begun_lacks, same_tag, short_lacks, no_tag_sticks}
 use Rattle.iim_unpack.proofs.Limits.{leaves_room}
-use Rattle.iim_unpack.proofs.Places.{ObjectLaws, lives_at, lives_behind}
+use Rattle.iim_unpack.proofs.Places.{lives_at, lives_behind}
 use Rattle.iim_unpack.specs.declared.refusal.Layer.{Layer}
+use Rattle.iim_unpack.specs.LowerLaws.{ObjectLaws}
 
 -- The laws that the scan calls.
 pub record Laws : Type 0 where
@@ -83,7 +84,7 @@ next_goes_on laws limits octets at whole f z y stands framed next =
     }
 
 -- no layer dies with a head that all can go on with
-no_dead_head : (layer : Layer) (limits : Limits) (ds : List Dataset) (h : Head) → GoOnAt limits ds h → DiesAtHead layer limits ds h → ⊥
+pub no_dead_head : (layer : Layer) (limits : Limits) (ds : List Dataset) (h : Head) → GoOnAt limits ds h → DiesAtHead layer limits ds h → ⊥
 no_dead_head layers.Dataset limits ds h goes dead = dead
 no_dead_head layers.Record limits ds h goes dead = dead goes.records
 no_dead_head layers.Limits limits ds h goes dead = dead.1 goes.room
@@ -92,7 +93,7 @@ no_dead_head layers.Message limits ds h goes dead = dead
 no_dead_head layers.Story limits ds h goes dead = dead
 no_dead_head layers.Outside limits ds h goes dead = dead
 
-no_dead_value : DatasetsLiveWithTheirTokens → (layer : Layer) (ds : List Dataset) (d : Dataset) → IsAlive (ds ++ d ∷ []) → languages.IsAlive AreSized (ds ++ d ∷ [])
+pub no_dead_value : DatasetsLiveWithTheirTokens → (layer : Layer) (ds : List Dataset) (d : Dataset) → IsAlive (ds ++ d ∷ []) → languages.IsAlive AreSized (ds ++ d ∷ [])
     → DiesAtValue layer ds d → ⊥
 no_dead_value live layers.Dataset ds d alive sized dead = dead
 no_dead_value live layers.Record ds d alive sized dead = dead alive

@@ -1,5 +1,6 @@
 -- Clauses of results that are handed on.
-use Rattle.std.proofs.Common.{Result, Ok, Err, IfOk, IfErr, OnOk}
+use Rattle.std.proofs.Common.{◌≡◌, Result, Ok, Err, IfOk, IfErr, OnOk}
+use Rattle.std.specs.Result.{IsErrAnd}
 
 pub if_ok : {T E : Type 0} (P Q : T → Type 0) (r : Result T E) → ((x : T) → P x → Q x) → IfOk r P → IfOk r Q
 if_ok P Q (Ok x) f h = f x h
@@ -27,3 +28,8 @@ ok_then P Q r h f = if_ok P Q r f h
 pub err_both : {T E : Type 0} (P Q : E → Type 0) (r : Result T E) → IfErr r P → IfErr r Q → IfErr r (λ e. P e × Q e)
 err_both P Q (Ok x) h k = tt
 err_both P Q (Err e) h k = (h, k)
+
+-- what the exit of a `?` returns
+pub handed_on : {T E : Type 0} → (P : E → Type 0) (r : Result T E) (fault : E) → IsErrAnd r (λ e. e ≡ fault) → P fault → IfErr r P
+handed_on P (Ok x) fault is h = tt
+handed_on P (Err e) fault is h = rw is h

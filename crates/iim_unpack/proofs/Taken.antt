@@ -16,7 +16,8 @@ use Rattle.iim_object.specs.Behind.{of_record, place_behind}
 use Rattle.iim_unpack.specs.Tokens.{place_at, GoOnAt}
 use Rattle.iim_unpack.specs.Layers.{StandsAfter, StandsAtHead}
 use Rattle.iim_unpack.specs.declared.layers.Layers.{Layers}
-use Rattle.iim_unpack.proofs.Places.{ObjectLaws, subfile_leads, end_leads, number_leads, silent_leads, one_more}
+use Rattle.iim_unpack.proofs.Places.{subfile_leads, end_leads, number_leads, silent_leads, one_more}
+use Rattle.iim_unpack.specs.LowerLaws.{ObjectLaws}
 
 abbrev pick : Bool → ℕ
 pick b = if b then 1 else 0

@@ -6,6 +6,7 @@ pub mod Tokens
 pub mod Answers
 pub mod Blocks
 pub mod Layers
+pub mod Listing
 pub mod Steps
 pub mod Intakes
 pub mod Laws
@@ -15,4 +16,7 @@ pub mod Parts
 pub mod Going
 pub mod Routing
 pub mod Unpacking
+pub mod LowerLaws
+pub mod Streams
 pub mod Value
+pub mod Pieces

@@ -3,7 +3,8 @@ use Rattle.std.specs.Prelude.{◌≡◌, ℕ, ◌+◌, ◌^◌, ◌-◌, ◌<◌
 use Rattle.iim_dataset.specs.Datasets.{Dataset, SpellsTag, count_octets}
 use Rattle.iim_dataset.specs.Splits.{Begun, InTag, InData, Reads}
 use Rattle.iim_dataset.specs.Tags.{BeginsNoTag}
-use Rattle.iim_dataset.specs.Events.{Event, HeadRead, DataOctet, DatasetEnd, handed_on}
+use Rattle.iim_dataset.specs.Events.{Event}
+use Rattle.iim_dataset.specs.Completing.{CompletesData}
 use Rattle.iim_dataset.specs.Places.{LeadsTo, Brings, between, to_come, named_by}
 use Rattle.iim_dataset.specs.Reading.{Reader, Completes, TagDies, TakesCalls}
 use Rattle.iim_dataset.specs.declared.place.Place.{Place}
@@ -102,12 +103,6 @@ pub record IsBadTagAt (limits : Limits) (octets : List ℕ) (next : ℕ) (fault 
   pub dead : BeginsNoTag count_octets (held ++ next ∷ [])
   pub is_fault : fault ≡ record { layer = layers.Dataset; rec = begun_record (InTag held); set = begun_number (InTag held); cause = tag_cause held }
 
--- The next octet completes the data of the head: it is the last of them, or the head has none and its tag ends there.
-abbrev pub CompletesData : List ℕ → ℕ → List Dataset → Head → List ℕ → Type 0
-CompletesData octets next whole head given =
-    ((taken : List ℕ) × Reads octets whole (InData head taken) × (given ≡ taken ++ next ∷ []) × (length given ≡ head.count))
-    ⊎ ((held : List ℕ) × Reads octets whole (InTag held) × SpellsTag count_octets head (held ++ next ∷ []) × (head.count ≡ 0) × (given ≡ []))
-
 -- The next octet completes a head, and that is refused.
 pub record IsBadHeadAt (limits : Limits) (octets : List ℕ) (next : ℕ) (fault : Fault) : Type 0 where
   pub whole : List Dataset
@@ -132,11 +127,12 @@ pub record IsBadOctetAt (limits : Limits) (octets : List ℕ) (next : ℕ) (faul
   pub has_cause : wire.HasCause cause (object_of whole ++ taken) next
   pub is_fault : fault ≡ message_on head cause
 
--- The next octet completes a value, and that is refused.
+-- The next octet completes a value, which is no subfile's, and that is refused.
 pub record IsBadValueAt (limits : Limits) (octets : List ℕ) (next : ℕ) (fault : Fault) : Type 0 where
   pub whole : List Dataset
   pub head : Head
   pub given : List ℕ
+  pub is_value : head.rec ≡ 8 → ⊥
   pub completes : CompletesData octets next whole head given
   pub goes_on : AllGoOn limits whole (InData head given)
   pub unfinished : AreSections whole → ⊥
@@ -147,34 +143,6 @@ pub record IsBadValueAt (limits : Limits) (octets : List ℕ) (next : ℕ) (faul
 abbrev pub RefusesNext : Limits → List ℕ → ℕ → Fault → Type 0
 RefusesNext limits octets next fault =
     IsBadTagAt limits octets next fault ⊎ (IsBadHeadAt limits octets next fault ⊎ (IsBadOctetAt limits octets next fault ⊎ IsBadValueAt limits octets next fault))
-
--- ---- what one octet completes (TO BE ASKED OF iim_dataset)
-
-pub record CompletesHead (octets : List ℕ) (next : ℕ) (events : List Event) (head : Head) : Type 0 where
-  pub whole : List Dataset
-  pub held : List ℕ
-  pub reads : Reads octets whole (InTag held)
-  pub tag : SpellsTag count_octets head (held ++ next ∷ [])
-  pub told : events ≡ handed_on whole (InTag held)
-
-pub record CompletesOctet (octets : List ℕ) (next : ℕ) (events : List Event) : Type 0 where
-  pub whole : List Dataset
-  pub head : Head
-  pub taken : List ℕ
-  pub reads : Reads octets whole (InData head taken)
-  pub told : events ≡ handed_on whole (InData head taken)
-
-pub record CompletesEnd (octets : List ℕ) (next : ℕ) (events : List Event) : Type 0 where
-  pub whole : List Dataset
-  pub head : Head
-  pub given : List ℕ
-  pub completes : CompletesData octets next whole head given
-  pub told : events ≡ handed_on whole (InData head given)
-
-abbrev pub CompletesNow : List ℕ → ℕ → List Event → Event → Type 0
-CompletesNow octets next events (HeadRead h) = CompletesHead octets next events h
-CompletesNow octets next events (DataOctet b) = (b ≡ next) × CompletesOctet octets next events
-CompletesNow octets next events DatasetEnd = CompletesEnd octets next events
 
 -- ---- the unpacker
 

@@ -1,6 +1,8 @@
 //! Tokens that a layer refuses.
 
 ghost use Rattle.std.specs.Prelude.{◌≡◌};
+ghost use Rattle.iim_fields.specs.Causes.{number_of_cause};
+ghost use Rattle.iim_unpack.specs.Names.{cause_number};
 ghost use Rattle.iim_unpack.specs.Refusals.{of_field, size_on, too_many_on, message_on, cause_of, cause_of_size, cause_of_message, layer_of, layer_of_message};
 
 use crate::refusal::{Cause, Layer};
@@ -28,7 +30,8 @@ fn field_layer(cause: FieldCause) -> Layer
 }
 
 fn field_cause(cause: FieldCause) -> Cause
-    ensures { result ≡ cause_of cause }
+    ensures named { result ≡ cause_of cause }
+    ensures numbered { cause_number result ≡ number_of_cause cause }
 {
     match cause {
         FieldCause::RecordOrder => Cause::RecordOrder,

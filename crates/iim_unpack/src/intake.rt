@@ -13,16 +13,20 @@ use crate::laws::open_octets_are_bounded;
 use crate::refusal::Refusal;
 use crate::unpacker::{Progress, Unpacked, Unpacker, failed_at, raised};
 use iim_dataset::{IoFault, Source, gifts_join};
+use thiserror::Error;
 use wire_story::{StorySink, delivery_may_be_cut};
 
 /// Why an intake gave no envelope.
-#[derive(Clone, Copy, Debug, PartialEq, Eq)]
+#[derive(Clone, Copy, Debug, PartialEq, Eq, Error)]
 pub enum IntakeFault {
     /// The octets were refused, or they end inside an envelope; or the intake had answered a fault before.
+    #[error("{0}")]
     Refused(Refusal),
-    /// The reader failed.
+    /// The reader failed (71).
+    #[error("the reader failed")]
     Read,
-    /// A million interruptions came in a row.
+    /// A million interruptions came in a row (72).
+    #[error("a million interruptions came in a row")]
     Interrupted,
 }
 

@@ -19,7 +19,9 @@ use iim_dataset::Head;
 use iim_fields::{
     FieldFault, Fields, Limits, heads_die_with_their_fault, values_die_with_their_fault,
 };
-use iim_object::{MAX_SUBFILES, ObjectFault, ObjectReader, datasets_lead_from_place_to_place};
+use iim_object::{
+    MAX_SUBFILES, ObjectFault, ObjectReader, datasets_lead_from_place_to_place, readers_tell_sizes,
+};
 use std::alloc::{AllocError, Global};
 
 /// The record of subfiles, whose data are no matter of the records.
@@ -181,11 +183,11 @@ impl Layers {
         }
     }
 
-    /// Reads the sizes of a whole object, of which nothing is kept: they agree, since the reader stands where it does.
+    /// The datasets have sizes, since the reader of their object stands after whole records.
     pub fn finish(&self)
         requires { IsSome self.now.object }
         ensures { (ds : List Dataset) → StandsAfter self.now ds → AreSections ds → AreSized ds }
     {
-        let _ = self.object.sizes();
+        readers_tell_sizes();
     }
 }

@@ -15,6 +15,7 @@ mod layers;
 mod message;
 mod nowhere;
 mod parts;
+mod pieces;
 mod refusal;
 mod router;
 #[cfg(test)]
@@ -25,9 +26,12 @@ pub use answer::Scan;
 pub use envelope::scan;
 pub use intake::{Intake, IntakeFault};
 pub use laws::{
-    admitted_octets_are_framed, admitted_octets_have_one_value, framed_messages_are_admitted,
-    no_admitted_octets_begin_others, no_envelope_begins_another, no_envelope_is_empty,
-    open_octets_are_bounded, open_octets_begin_with_no_envelope,
+    admitted_octets_are_framed, admitted_octets_have_one_value, envelopes_are_bounded,
+    framed_messages_are_admitted, no_admitted_octets_begin_others, no_envelope_begins_another,
+    no_envelope_is_empty, nothing_goes_on_from_refused_octets, open_octets_are_bounded,
+    open_octets_begin_with_no_envelope, refusals_are_determined, refused_octets_were_open,
+    streams_have_one_answer,
 };
+pub use pieces::unpack_pieces;
 pub use refusal::{Cause, Layer, Refusal};
 pub use unpacker::{Progress, Unpacked, Unpacker};

@@ -26,6 +26,8 @@ impl<'m, 's, S: StorySink> ObjectSink for ToMessage<'m, 's, S> {
 
     ghost stops = { HaltsAt S.goes S.failures };
 
+    ghost stands = { λ a. IsSome a.message.now };
+
     ghost nothing = { λ a. (refl, refl, λ some. passed_nothing S.goes S.failures a.message.now a.sink.now some (S.nothing a.sink.now)) };
 
     ghost joined = { λ a b c xs ys h k. (
@@ -46,9 +48,6 @@ impl<'m, 's, S: StorySink> ObjectSink for ToMessage<'m, 's, S> {
         if run.is_empty() {
             return Ok(());
         }
-        if self.message.is_failed() {
-            return Err(Stop { taken: 0 });
-        }
         match self.message.feed(run, &mut *self.sink) {
             Ok(()) => Ok(()),
             Err(fault) => {
@@ -59,9 +58,6 @@ impl<'m, 's, S: StorySink> ObjectSink for ToMessage<'m, 's, S> {
     }
 
     fn close(&mut self) -> Result<(), Stop> {
-        if self.message.is_failed() {
-            return Err(Stop { taken: 0 });
-        }
         match self.message.close() {
             Ok(()) => Ok(()),
             Err(fault) => {

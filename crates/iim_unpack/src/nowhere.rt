@@ -15,6 +15,8 @@ impl ObjectSink for Nowhere {
 
     ghost stops = { λ a events refused b. ⊥ };
 
+    ghost stands = { λ a. Unit {0} };
+
     fn run(&mut self, _run: &[u8]) -> Result<(), Stop> {
         Ok(())
     }

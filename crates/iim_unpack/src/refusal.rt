@@ -1,7 +1,10 @@
 //! Why octets are refused.
 
-ghost use Rattle.std.specs.Prelude.{◌≡◌};
-ghost use Rattle.iim_unpack.specs.Names.{layer_name, cause_number, cause_name};
+ghost use Rattle.std.specs.Prelude.{◌≡◌, Some};
+ghost use Rattle.iim_unpack.specs.Names.{layer_name, cause_number, cause_name, cause_text, padding, dataset_name, refusal_text};
+
+use std::fmt;
+use std::fmt::{Display, Formatter};
 
 /// The layer that refused, in the order in which the layers look at a token.
 #[derive(Clone, Copy, Debug, PartialEq, Eq)]
@@ -152,4 +155,67 @@ pub struct Refusal {
     pub set: u8,
     pub octet: u64,
     pub cause: Cause,
+}
+
+impl Display for Layer {
+    ghost output = { λ layer. Some (layer_name layer) };
+
+    fn fmt<W: fmt::Write>(&self, f: &mut Formatter<W>) -> fmt::Result {
+        f.write_str(self.name())
+    }
+}
+
+/// The number and the name.
+impl Display for Cause {
+    ghost output = { λ cause. Some (cause_text cause) };
+
+    fn fmt<W: fmt::Write>(&self, f: &mut Formatter<W>) -> fmt::Result {
+        let number = self.number();
+        let name = self.name();
+        write!(f, "{number} {name}")
+    }
+}
+
+/// What stands before a number of one digit.
+fn padding(number: u8) -> &'static str
+    ensures { result.now ≡ padding number }
+{
+    if number < 10 { "0" } else { "" }
+}
+
+/// A dataset's name, as `1:00` or `2:105`.
+#[derive(Clone, Copy)]
+struct DatasetName {
+    rec: u8,
+    set: u8,
+}
+
+impl Display for DatasetName {
+    ghost output = { λ n. Some (dataset_name n.rec n.set) };
+
+    fn fmt<W: fmt::Write>(&self, f: &mut Formatter<W>) -> fmt::Result {
+        let rec = self.rec;
+        let zero = padding(self.set);
+        let set = self.set;
+        write!(f, "{rec}:{zero}{set}")
+    }
+}
+
+/// As `refused at octet 46 by layer record on 1:70, cause 14 Missing`.
+impl Display for Refusal {
+    ghost output = { λ refusal. Some (refusal_text refusal) };
+
+    fn fmt<W: fmt::Write>(&self, f: &mut Formatter<W>) -> fmt::Result {
+        let octet = self.octet;
+        let layer = self.layer;
+        let dataset = DatasetName {
+            rec: self.rec,
+            set: self.set,
+        };
+        let cause = self.cause;
+        write!(
+            f,
+            "refused at octet {octet} by layer {layer} on {dataset}, cause {cause}"
+        )
+    }
 }

@@ -1,12 +1,16 @@
 //! The scan on worked envelopes, on what breaks them, and on every change of a tag.
 
-mod feeding;
+mod calls;
+mod intakes;
 mod rule;
+mod streams;
 
 use crate::{
     Cause, Layer, Refusal, Scan, admitted_octets_are_framed, admitted_octets_have_one_value,
-    framed_messages_are_admitted, no_admitted_octets_begin_others, no_envelope_begins_another,
-    no_envelope_is_empty, scan,
+    envelopes_are_bounded, framed_messages_are_admitted, no_admitted_octets_begin_others,
+    no_envelope_begins_another, no_envelope_is_empty, nothing_goes_on_from_refused_octets,
+    open_octets_are_bounded, open_octets_begin_with_no_envelope, refusals_are_determined,
+    refused_octets_were_open, scan, streams_have_one_answer,
 };
 use iim_dataset::{Head, HeadCause, HeadFault, read_head};
 use iim_fields::Limits;
@@ -563,4 +567,11 @@ fn laws_are_called() {
     no_admitted_octets_begin_others();
     admitted_octets_are_framed();
     framed_messages_are_admitted();
+    open_octets_begin_with_no_envelope();
+    open_octets_are_bounded();
+    envelopes_are_bounded();
+    refused_octets_were_open();
+    nothing_goes_on_from_refused_octets();
+    refusals_are_determined();
+    streams_have_one_answer();
 }

@@ -18,23 +18,18 @@ ghost use Rattle.iim_unpack.specs.Value.{HasParts};
 ghost use Rattle.iim_unpack.specs.declared.refusal.Refusal.{Refusal as RefusalValue};
 
 use crate::fault::Fault;
-use crate::laws::admitted_octets_have_one_value;
+use crate::laws::{admitted_octets_have_one_value, feed_laws};
 use crate::message::give_back;
 use crate::parts::{Halt, Parts};
 use crate::refusal::{Cause, Layer, Refusal};
 use crate::router::Router;
 use arrayvec::ArrayVec;
-use iim_dataset::{
-    Fault as TagFault, FaultCause, Head, HeadReader, events_tell_the_datasets,
-    no_dataset_begins_another, no_tag_begins_another, octets_are_handed_on_one_way,
-};
-use iim_fields::{
-    Envelope, Fields, Limits, envelopes_end_with_the_last_record, no_sections_begin_others,
-};
-use iim_object::{ObjectReader, Sizes, records_are_by_number};
+use iim_dataset::{Fault as TagFault, FaultCause, Head, HeadReader};
+use iim_fields::{Envelope, Fields, Limits};
+use iim_object::{ObjectReader, Sizes, readers_tell_sizes};
 use std::alloc::{AllocError, Global};
 use std::marker::Model;
-use wire_message::{MessageHead, MessageReader, readers_stand_at_living_octets};
+use wire_message::{MessageHead, MessageReader};
 use wire_story::StorySink;
 
 /// How far an unpacker came with a piece.
@@ -199,14 +194,7 @@ impl Unpacker {
         ensures stands { IfOk result (λ u. Stands u [] 0) }
         ensures limits { IfOk result (λ u. limits_in u ≡ limits) }
     {
-        no_tag_begins_another();
-        no_dataset_begins_another();
-        octets_are_handed_on_one_way();
-        events_tell_the_datasets();
-        envelopes_end_with_the_last_record();
-        no_sections_begin_others();
-        readers_stand_at_living_octets();
-        records_are_by_number();
+        feed_laws();
         let fields = Fields::new(alloc, limits)?;
         Ok(Unpacker {
             reader: HeadReader::new(),
@@ -292,20 +280,13 @@ impl Unpacker {
         if self.parts.last {
             return Ok(Progress::Done { used: 0 });
         }
-        no_tag_begins_another();
-        no_dataset_begins_another();
-        octets_are_handed_on_one_way();
-        events_tell_the_datasets();
-        envelopes_end_with_the_last_record();
-        no_sections_begin_others();
-        readers_stand_at_living_octets();
-        records_are_by_number();
+        feed_laws();
+        readers_tell_sizes();
         match advance(&mut self.reader, &mut self.parts, piece, sink) {
             Ok(used) => {
                 self.octets = raised(self.octets, used);
                 self.begun = begins(self.begun, piece);
                 if self.parts.last {
-                    let _ = self.parts.object.sizes();
                     return Ok(Progress::Done { used });
                 }
                 Ok(Progress::More)
@@ -340,71 +321,36 @@ impl Unpacker {
         })
     }
 
-    /// The value of the envelope, where one has ended. Else the unpacker is handed back.
+    /// The value of the envelope, where one has ended. Else the unpacker is handed back as it was.
     pub fn into_unpacked(self) -> Result<Unpacked, Unpacker>
         ensures done { OnOk result (IsDone self) }
         ensures value { IfOk result (λ got. (p : List ℕ) (a : ℕ) → IsDoneWith self p a → (v : Value) → Admits p v → HasParts got v) }
-        ensures not_done { OnErr result ((p : List ℕ) (a : ℕ) → IsDoneWith self p a → ⊥) }
+        ensures not_done { OnErr result (IsDone self → ⊥) }
+        ensures handed_back { IfErr result (λ u. u ≡ self) }
     {
-        no_tag_begins_another();
-        no_dataset_begins_another();
-        octets_are_handed_on_one_way();
-        events_tell_the_datasets();
-        envelopes_end_with_the_last_record();
-        no_sections_begin_others();
-        readers_stand_at_living_octets();
-        records_are_by_number();
+        feed_laws();
         admitted_octets_have_one_value();
         if !self.is_done() {
             return Err(self);
         }
         let Some(head) = self.parts.message.head() else {
-            return Err(self);
+            unreachable!()
         };
         let mut trailer = ArrayVec::new();
-        match trailer.try_extend_from_slice(self.parts.message.trailer()) {
-            Ok(()) => {}
-            Err(_) => return Err(self),
-        }
+        let Ok(()) = trailer.try_extend_from_slice(self.parts.message.trailer()) else {
+            unreachable!()
+        };
         let sizes = self.parts.object.sizes();
-        let Unpacker {
-            reader,
-            parts,
-            octets,
-            begun: some,
-            refused,
-        } = self;
-        let Parts {
-            fields,
-            object,
-            message,
-            subfiles,
-            head: begun,
-            left,
-            last,
-        } = parts;
-        match fields.into_envelope() {
-            Ok(envelope) => Ok(Unpacked {
-                envelope,
-                head,
-                trailer,
-                sizes,
-            }),
-            Err(fields) => Err(Unpacker {
-                reader,
-                parts: Parts {
-                    fields,
-                    object,
-                    message,
-                    subfiles,
-                    head: begun,
-                    left,
-                    last,
-                },
-                octets,
-                begun: some,
-                refused,
-            }),
-        }
+        let Unpacker { parts, .. } = self;
+        let Parts { fields, .. } = parts;
+        let Ok(envelope) = fields.into_envelope() else {
+            unreachable!()
+        };
+        Ok(Unpacked {
+            envelope,
+            head,
+            trailer,
+            sizes,
+        })
     }
 }

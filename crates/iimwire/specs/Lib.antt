@@ -1,7 +1,11 @@
 pub mod Listings
 pub mod Lines
+pub mod Shown
 pub mod Inputs
 pub mod Outcomes
 pub mod Faults
 pub mod Requests
+pub mod Starts
+pub mod Served
 pub mod Laws
+pub mod RoundTrip

@@ -2,11 +2,12 @@
 
 ghost use Rattle.iimwire.specs.Listings.{InputsHaveOneListing};
 ghost use Rattle.iimwire.specs.Laws.{PackedOctetsAreAdmitted, PackedEnvelopesAreFound};
+ghost use Rattle.iimwire.specs.RoundTrip.{PackedOctetsAreWithin, PackedStreamsHaveTheirAnswer};
 
-use iim_pack::packed_octets_carry_the_value;
+use iim_pack::{packed_octets_carry_the_value, packed_subfiles_are_few};
 use iim_unpack::{
     admitted_octets_have_one_value, no_admitted_octets_begin_others, no_envelope_begins_another,
-    no_envelope_is_empty,
+    no_envelope_is_empty, streams_have_one_answer,
 };
 
 /// An input has one list of envelopes, and one rest behind it.
@@ -31,4 +32,20 @@ pub fn packed_envelopes_are_found()
     packed_octets_are_admitted();
     admitted_octets_have_one_value();
     no_admitted_octets_begin_others();
+}
+
+/// What is packed is within each limits that its fields are within.
+pub fn packed_octets_are_within()
+    ensures { PackedOctetsAreWithin }
+{
+    packed_octets_are_admitted();
+    packed_subfiles_are_few();
+}
+
+/// A stream that begins with what was packed has one answer, whatever follows: the packed octets, and the value that was packed.
+pub fn packed_streams_have_their_answer()
+    ensures { PackedStreamsHaveTheirAnswer }
+{
+    packed_octets_are_within();
+    streams_have_one_answer();
 }

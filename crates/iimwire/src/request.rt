@@ -61,7 +61,7 @@ fn command<'a>(alloc: Global) -> Result<Command<'a>, AllocError>
 {
     let check = Command::new(alloc, "check")
         .about("Lists the envelopes of FILE, or else of standard input, up to the first refusal")
-        .arg(Arg::new(alloc, "FILE"))?;
+        .arg(Arg::new(alloc, "FILE").help("The file to read, or else standard input"))?;
     Command::new(alloc, "iimwire")
         .about("Reads envelopes of the IPTC-NAA Information Interchange Model")
         .subcommand_required(true)

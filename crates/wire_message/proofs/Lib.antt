@@ -13,3 +13,4 @@ pub mod TextSoFar
 pub mod Readings
 pub mod Standing
 pub mod Ended
+pub mod Headers

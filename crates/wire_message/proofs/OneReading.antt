@@ -2,7 +2,7 @@
 use Rattle.std.proofs.Common.{◌≡◌, ℕ, ◌≤◌, Bool, true, false, ◌||◌, ◌==◌, List, [], ◌∷◌, ◌++◌, refl, sym, ap, subst, ◌∙◌, arith, inl, inr, append_assoc, nat_le}
 use Rattle.std.proofs.lemmas.Bool.{and_parts, or_cases, both_ways, eqb-true, leb-true, lt-leb}
 use Rattle.wire_message.specs.Fields.{Are, IsField, is_digit, is_letter, is_alphanumeric, is_info_octet, is_trailer_octet, is_filler_octet, is_text_octet}
-use Rattle.wire_message.specs.Messages.{Header, IsHeader, IsMessage, IsGap, SpellsInfo, fixed_header}
+use Rattle.wire_message.specs.Messages.{Header, IsHeader, IsMessage, BeginsWithHeader, IsGap, SpellsInfo, fixed_header}
 use Rattle.wire_message.proofs.Spans.{span_by, Are-head}
 
 -- the four filler octets
@@ -110,16 +110,37 @@ one_fixed_header h k x y p q c tail xc nc d tail' yd nd e =
 header_is : (h k : Header) → h.source ≡ k.source → h.number ≡ k.number → h.priority ≡ k.priority → h.category ≡ k.category → h.words ≡ k.words → h.info ≡ k.info → h ≡ k
 header_is h k a b c d e f = rw (a, b, c, d, e, f) refl
 
+-- octets begin with one header at most, and have one rest after STX
+pub one_head : (octets : List ℕ) (h k : Header) (m : BeginsWithHeader octets h) (n : BeginsWithHeader octets k) → (h ≡ k) × (m.rest ≡ n.rest)
+one_head octets h k m n =
+    let s1 = span_by is_filler_octet m.before n.before 1 1 (fixed_header h ++ (m.info ++ (m.gap ++ (2 ∷ m.rest)))) (fixed_header k ++ (n.info ++ (n.gap ++ (2 ∷ n.rest)))) m.is_before.0 n.is_before.0 refl refl (sym m.parts ∙ n.parts) in
+    let a = after_words h.info m.info m.gap (2 ∷ m.rest) m.is_info m.is_gap in
+    let b = after_words k.info n.info n.gap (2 ∷ n.rest) n.is_info n.is_gap in
+    let f = one_fixed_header h k (m.info ++ (m.gap ++ (2 ∷ m.rest))) (n.info ++ (n.gap ++ (2 ∷ n.rest))) m.is_header n.is_header a.0 a.1 a.2 a.3 b.0 b.1 b.2 b.3 s1.2 in
+    let i = one_info h.info k.info m.info n.info m.gap n.gap m.rest n.rest m.is_info n.is_info m.is_header.info.0 n.is_header.info.0 m.is_gap n.is_gap f.5 in
+    let s2 = span_by is_filler_octet m.gap n.gap 2 2 m.rest n.rest m.is_gap.0.0 n.is_gap.0.0 refl refl i.1 in
+    (header_is h k f.0 f.1 f.2 f.3 f.4 i.0, s2.2)
+
+-- what stands after STX in a message
+abbrev pub rest_in : (object : List ℕ) (h : Header) (x t : List ℕ) → IsMessage object h x t → List ℕ
+rest_in object h x t m = x ++ (3 ∷ t ++ (4 ∷ m.after))
+
+abbrev pub message_begins : (object : List ℕ) (h : Header) (x t : List ℕ) → IsMessage object h x t → BeginsWithHeader object h
+message_begins object h x t m = record {
+  before = m.before;
+  info = m.info;
+  gap = m.gap;
+  rest = rest_in object h x t m;
+  is_before = m.is_before;
+  is_header = m.is_header;
+  is_info = m.is_info;
+  is_gap = m.is_gap;
+  parts = m.parts;
+}
+
 pub one_message : (object : List ℕ) (h k : Header) (x y t u : List ℕ) → IsMessage object h x t → IsMessage object k y u → (h ≡ k) × (x ≡ y) × (t ≡ u)
 one_message object h k x y t u m n =
-    let X : List ℕ = x ++ (3 ∷ t ++ (4 ∷ m.after)) in
-    let Y : List ℕ = y ++ (3 ∷ u ++ (4 ∷ n.after)) in
-    let s1 = span_by is_filler_octet m.before n.before 1 1 (fixed_header h ++ (m.info ++ (m.gap ++ (2 ∷ X)))) (fixed_header k ++ (n.info ++ (n.gap ++ (2 ∷ Y)))) m.is_before.0 n.is_before.0 refl refl (sym m.parts ∙ n.parts) in
-    let a = after_words h.info m.info m.gap (2 ∷ X) m.is_info m.is_gap in
-    let b = after_words k.info n.info n.gap (2 ∷ Y) n.is_info n.is_gap in
-    let f = one_fixed_header h k (m.info ++ (m.gap ++ (2 ∷ X))) (n.info ++ (n.gap ++ (2 ∷ Y))) m.is_header n.is_header a.0 a.1 a.2 a.3 b.0 b.1 b.2 b.3 s1.2 in
-    let i = one_info h.info k.info m.info n.info m.gap n.gap X Y m.is_info n.is_info m.is_header.info.0 n.is_header.info.0 m.is_gap n.is_gap f.5 in
-    let s2 = span_by is_filler_octet m.gap n.gap 2 2 X Y m.is_gap.0.0 n.is_gap.0.0 refl refl i.1 in
-    let s3 = span_by is_text_octet x y 3 3 (t ++ (4 ∷ m.after)) (u ++ (4 ∷ n.after)) m.is_text n.is_text refl refl s2.2 in
+    let s2 = one_head object h k (message_begins object h x t m) (message_begins object k y u n) in
+    let s3 = span_by is_text_octet x y 3 3 (t ++ (4 ∷ m.after)) (u ++ (4 ∷ n.after)) m.is_text n.is_text refl refl s2.1 in
     let s4 = span_by is_trailer_octet t u 4 4 m.after n.after m.is_trailer.0 n.is_trailer.0 refl refl s3.2 in
-    (header_is h k f.0 f.1 f.2 f.3 f.4 i.0, s3.0, s4.0)
+    (s2.0, s3.0, s4.0)

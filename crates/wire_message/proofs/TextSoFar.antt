@@ -1,5 +1,5 @@
 -- The text so far in octets that spell a place.
-use Rattle.std.proofs.Common.{◌≡◌, ℕ, ◌+◌, Bool, true, false, not, ◌||◌, ◌==◌, cond, nat_lt, List, [], ◌∷◌, ◌++◌, length, take, drop, map, refl, sym, ap, subst, ◌∙◌, arith, inl, inr, append-nil}
+use Rattle.std.proofs.Common.{◌≡◌, ℕ, ◌+◌, Bool, true, false, not, ◌||◌, ◌==◌, cond, nat_lt, List, [], ◌∷◌, ◌++◌, length, take, drop, map, Some, None, refl, sym, ap, subst, ◌∙◌, arith, inl, inr, append-nil}
 use Rattle.std.specs.List.{list_any, position_or_len, before_first, after_first}
 use Rattle.std.proofs.lemmas.Bool.{and_parts}
 use Rattle.std.proofs.lemmas.Bool.Decides.{nat_tests}
@@ -10,6 +10,7 @@ use Rattle.wire_message.specs.Fields.{Are, IsField, is_digit, is_letter, is_alph
 use Rattle.wire_message.specs.Messages.{Header, IsHeader, IsFiller, SpellsInfo, fixed_header}
 use Rattle.wire_message.specs.Layers.{after_stx, text_so_far, story_tokens_of}
 use Rattle.wire_message.specs.SoFar.{IsPlace, Spells}
+use Rattle.wire_message.specs.Reading.{head_read}
 use Rattle.wire_message.specs.declared.place.Place.{Place}
 use Rattle.wire_message.specs.declared.place.Place.TheVariants.{Filler, Source, Number, Priority, PriorityRead, Category, Words, Info, Gap, Text, Trailer, AfterEnd}
 use Rattle.wire_message.proofs.Spans.{Are-append, Are-head, Are-tail, Are-cons}
@@ -17,7 +18,7 @@ use Rattle.wire_message.proofs.Transitions.{join2, join3}
 
 -- ---- what stands before and after the first octet of a kind
 
-abbrev is_not : ℕ → ℕ → Bool
+abbrev pub is_not : ℕ → ℕ → Bool
 is_not k b = not (b == k)
 
 place_of_first : (k : ℕ) (front x : List ℕ) → Are (is_not k) front → (k == k) ≡ true → position_or_len (λ b. b == k) (front ++ (k ∷ x)) ≡ length front
@@ -32,16 +33,16 @@ no_first k (b ∷ xs) h =
     ap (λ (t : Bool). cond t (1 + position_or_len (λ c. c == k) xs) 0) (Are-head (is_not k) b xs h)
     ∙ (let more : position_or_len (λ c. c == k) xs ≡ length xs = no_first k xs (Are-tail (is_not k) b xs h) in omega (arith, more))
 
-after_is : (k : ℕ) (front x : List ℕ) → Are (is_not k) front → (k == k) ≡ true → after_first (λ b. b == k) (front ++ (k ∷ x)) ≡ x
+pub after_is : (k : ℕ) (front x : List ℕ) → Are (is_not k) front → (k == k) ≡ true → after_first (λ b. b == k) (front ++ (k ∷ x)) ≡ x
 after_is k front x h e = ap (λ (n : ℕ). drop (n + 1) (front ++ (k ∷ x))) (place_of_first k front x h e) ∙ drop-append-add front (k ∷ x) 1
 
-before_is : (k : ℕ) (front x : List ℕ) → Are (is_not k) front → (k == k) ≡ true → before_first (λ b. b == k) (front ++ (k ∷ x)) ≡ front
+pub before_is : (k : ℕ) (front x : List ℕ) → Are (is_not k) front → (k == k) ≡ true → before_first (λ b. b == k) (front ++ (k ∷ x)) ≡ front
 before_is k front x h e = ap (λ (n : ℕ). take n (front ++ (k ∷ x))) (place_of_first k front x h e) ∙ take-append_seam front (k ∷ x)
 
-before_none : (k : ℕ) (xs : List ℕ) → Are (is_not k) xs → before_first (λ b. b == k) xs ≡ xs
+pub before_none : (k : ℕ) (xs : List ℕ) → Are (is_not k) xs → before_first (λ b. b == k) xs ≡ xs
 before_none k xs h = ap (λ (n : ℕ). take n xs) (no_first k xs h) ∙ take-length xs
 
-any_none : (k : ℕ) (xs : List ℕ) → Are (is_not k) xs → list_any (λ b. b == k) xs ≡ false
+pub any_none : (k : ℕ) (xs : List ℕ) → Are (is_not k) xs → list_any (λ b. b == k) xs ≡ false
 any_none k [] h = refl
 any_none k (b ∷ xs) h = any_cons (b == k) (list_any (λ c. c == k) xs) (Are-head (is_not k) b xs h) (any_none k xs (Are-tail (is_not k) b xs h))
   where
@@ -49,7 +50,7 @@ any_none k (b ∷ xs) h = any_cons (b == k) (list_any (λ c. c == k) xs) (Are-he
     any_cons true y p q = absurd cc
     any_cons false y p q = q
 
-any_found : (k : ℕ) (front x : List ℕ) → (k == k) ≡ true → list_any (λ b. b == k) (front ++ (k ∷ x)) ≡ true
+pub any_found : (k : ℕ) (front x : List ℕ) → (k == k) ≡ true → list_any (λ b. b == k) (front ++ (k ∷ x)) ≡ true
 any_found k [] x e = ap (λ (t : Bool). t || list_any (λ c. c == k) x) e
 any_found k (b ∷ front) x e = or_yes (b == k) (list_any (λ c. c == k) (front ++ (k ∷ x))) (any_found k front x e)
   where
@@ -98,7 +99,7 @@ before_text before info gap h f i sp g =
     (Are-append (is_not 2) (fixed_header h) (info ++ gap) (fixed_not h i)
     (Are-append (is_not 2) info gap (info_spelled_not h.info info i.info sp) (each is_filler_octet (is_not 2) gap filler_not g)))
 
-after_head : (octets before info gap rest : List ℕ) (h : Header) → IsFiller before → IsHeader h → SpellsInfo h.info info → Are is_filler_octet gap
+pub after_head : (octets before info gap rest : List ℕ) (h : Header) → IsFiller before → IsHeader h → SpellsInfo h.info info → Are is_filler_octet gap
     → octets ≡ before ++ (1 ∷ (fixed_header h ++ (info ++ (gap ++ (2 ∷ rest))))) → after_stx octets ≡ rest
 after_head octets before info gap rest h f i sp g parts =
     ap after_stx (parts ∙ sym (join2 before (fixed_header h) info gap (2 ∷ rest)))
@@ -108,7 +109,7 @@ after_stx_is : (octets text : List ℕ) (h : Header) (reader : TextReader) (more
 after_stx_is octets text h reader more i l =
     after_head (octets ++ more) l.0 l.1 l.2 (text ++ more) h l.3 i l.4 l.5.0.0 (ap (λ (u : List ℕ). u ++ more) l.7 ∙ join3 l.0 (fixed_header h) l.1 l.2 text more)
 
-no_etx : (text : List ℕ) → Are is_text_octet text → Are (is_not 3) text
+pub no_etx : (text : List ℕ) → Are is_text_octet text → Are (is_not 3) text
 no_etx text h = each is_text_octet (is_not 3) text text_not h
 
 -- ---- the text so far, and what the story sees of it
@@ -158,19 +159,19 @@ text_ended _ = false
 drop_past : (xs : List ℕ) → drop (length xs + 1) xs ≡ []
 drop_past xs = ap (drop (length xs + 1)) (sym (append-nil xs)) ∙ drop-append-add xs [] 1
 
-none_after : (octets : List ℕ) → Are (is_not 2) octets → after_stx octets ≡ []
-none_after octets h = ap (λ (n : ℕ). drop (n + 1) octets) (no_first 2 octets h) ∙ drop_past octets
+pub none_after : (k : ℕ) (octets : List ℕ) → Are (is_not k) octets → after_first (λ b. b == k) octets ≡ []
+none_after k octets h = ap (λ (n : ℕ). drop (n + 1) octets) (no_first k octets h) ∙ drop_past octets
 
 not_begun : (octets text : List ℕ) → Are (is_not 2) octets → text ≡ [] → TextIs octets text false
 not_begun octets text h e = record {
-  text_is = ap (before_first (λ b. b == 3)) (none_after octets h) ∙ sym e;
-  ended_is = ap (list_any (λ b. b == 3)) (none_after octets h);
+  text_is = ap (before_first (λ b. b == 3)) (none_after 2 octets h) ∙ sym e;
+  ended_is = ap (list_any (λ b. b == 3)) (none_after 2 octets h);
 }
 
 -- SOH and what follows it, with no STX
-behind_soh : (octets text before rest : List ℕ) → IsFiller before → octets ≡ before ++ (1 ∷ rest) → Are (is_not 2) rest → text ≡ [] → TextIs octets text false
-behind_soh octets text before rest f parts are e =
-    not_begun octets text (subst (Are (is_not 2)) (sym parts) (Are-append (is_not 2) before (1 ∷ rest) (each is_filler_octet (is_not 2) before filler_not f.0) are)) e
+behind_soh : (octets before rest : List ℕ) → IsFiller before → octets ≡ before ++ (1 ∷ rest) → Are (is_not 2) rest → Are (is_not 2) octets
+behind_soh octets before rest f parts are =
+    subst (Are (is_not 2)) (sym parts) (Are-append (is_not 2) before (1 ∷ rest) (each is_filler_octet (is_not 2) before filler_not f.0) are)
 
 numbered : (s n rest : List ℕ) → Are is_letter s → Are is_digit n → Are (is_not 2) rest → Are (is_not 2) (s ++ (n ++ rest))
 numbered s n rest is' in' are =
@@ -180,29 +181,48 @@ numbered s n rest is' in' are =
 parted : (p rest : List ℕ) → Are is_digit p → Are (is_not 2) rest → Are (is_not 2) (32 ∷ (p ++ (32 ∷ rest)))
 parted p rest ip are = Are-append (is_not 2) p (32 ∷ rest) (each is_digit (is_not 2) p digit_not ip) are
 
-pub text_at : (octets text : List ℕ) (p : Place) → IsPlace p → Spells octets text p → TextIs octets text (text_ended p)
-text_at octets text (Filler k) i l = not_begun octets text (each is_filler_octet (is_not 2) octets filler_not l.0.0) l.2
-text_at octets text (Source s) i l = behind_soh octets text l.0 s.items l.1 l.2 (each is_letter (is_not 2) s.items letter_not i.0) l.3
-text_at octets text (Number s n) i l =
-    behind_soh octets text l.0 (s.items ++ n.items) l.1 l.2
-    (Are-append (is_not 2) s.items n.items (each is_letter (is_not 2) s.items letter_not i.0.0) (each is_digit (is_not 2) n.items digit_not i.1.0)) l.3
-text_at octets text (Priority s n) i l = behind_soh octets text l.0 (s.items ++ (n.items ++ (32 ∷ []))) l.1 l.2 (numbered s.items n.items (32 ∷ []) i.0.0 i.1.0 refl) l.3
-text_at octets text (PriorityRead s n p) i l =
-    behind_soh octets text l.0 (s.items ++ (n.items ++ (32 ∷ p.items))) l.1 l.2
-    (numbered s.items n.items (32 ∷ p.items) i.0.0 i.1.0 (each is_digit (is_not 2) p.items digit_not i.2.0)) l.3
-text_at octets text (Category s n p c) i l =
-    behind_soh octets text l.0 (s.items ++ (n.items ++ (32 ∷ (p.items ++ (32 ∷ c.items))))) l.1 l.2
+-- Before STX no octet is one.
+pub no_stx : (octets text : List ℕ) (p : Place) → IsPlace p → Spells octets text p → head_read (Some p) ≡ None → Are (is_not 2) octets
+no_stx octets text (Filler k) i l e = each is_filler_octet (is_not 2) octets filler_not l.0.0
+no_stx octets text (Source s) i l e = behind_soh octets l.0 s.items l.1 l.2 (each is_letter (is_not 2) s.items letter_not i.0)
+no_stx octets text (Number s n) i l e =
+    behind_soh octets l.0 (s.items ++ n.items) l.1 l.2
+    (Are-append (is_not 2) s.items n.items (each is_letter (is_not 2) s.items letter_not i.0.0) (each is_digit (is_not 2) n.items digit_not i.1.0))
+no_stx octets text (Priority s n) i l e = behind_soh octets l.0 (s.items ++ (n.items ++ (32 ∷ []))) l.1 l.2 (numbered s.items n.items (32 ∷ []) i.0.0 i.1.0 refl)
+no_stx octets text (PriorityRead s n p) i l e =
+    behind_soh octets l.0 (s.items ++ (n.items ++ (32 ∷ p.items))) l.1 l.2
+    (numbered s.items n.items (32 ∷ p.items) i.0.0 i.1.0 (each is_digit (is_not 2) p.items digit_not i.2.0))
+no_stx octets text (Category s n p c) i l e =
+    behind_soh octets l.0 (s.items ++ (n.items ++ (32 ∷ (p.items ++ (32 ∷ c.items))))) l.1 l.2
     (numbered s.items n.items (32 ∷ (p.items ++ (32 ∷ c.items))) i.0.0 i.1.0
-    (parted p.items c.items i.2.0 (each is_alphanumeric (is_not 2) c.items alphanumeric_not i.3.0))) l.3
-text_at octets text (Words s n p c w) i l =
-    behind_soh octets text l.0 (s.items ++ (n.items ++ (32 ∷ (p.items ++ (32 ∷ (c.items ++ (32 ∷ w.items))))))) l.1 l.2
+    (parted p.items c.items i.2.0 (each is_alphanumeric (is_not 2) c.items alphanumeric_not i.3.0)))
+no_stx octets text (Words s n p c w) i l e =
+    behind_soh octets l.0 (s.items ++ (n.items ++ (32 ∷ (p.items ++ (32 ∷ (c.items ++ (32 ∷ w.items))))))) l.1 l.2
     (numbered s.items n.items (32 ∷ (p.items ++ (32 ∷ (c.items ++ (32 ∷ w.items))))) i.0.0 i.1.0
     (parted p.items (c.items ++ (32 ∷ w.items)) i.2.0
-    (Are-append (is_not 2) c.items (32 ∷ w.items) (each is_alphanumeric (is_not 2) c.items alphanumeric_not i.3.0) (each is_digit (is_not 2) w.items digit_not i.4.0)))) l.3
-text_at octets text (Info h) i l =
-    behind_soh octets text l.0 (fixed_header h ++ (32 ∷ h.info)) l.1 l.2
-    (Are-append (is_not 2) (fixed_header h) (32 ∷ h.info) (fixed_not h i) (each is_info_octet (is_not 2) h.info info_not i.info.0)) l.3
-text_at octets text (Gap h k feed) i l = not_begun octets text (subst (Are (is_not 2)) (sym l.8) (before_text l.0 l.1 l.2 h l.3 i.0 l.4 l.5)) l.9
+    (Are-append (is_not 2) c.items (32 ∷ w.items) (each is_alphanumeric (is_not 2) c.items alphanumeric_not i.3.0) (each is_digit (is_not 2) w.items digit_not i.4.0))))
+no_stx octets text (Info h) i l e =
+    behind_soh octets l.0 (fixed_header h ++ (32 ∷ h.info)) l.1 l.2
+    (Are-append (is_not 2) (fixed_header h) (32 ∷ h.info) (fixed_not h i) (each is_info_octet (is_not 2) h.info info_not i.info.0))
+no_stx octets text (Gap h k feed) i l e = subst (Are (is_not 2)) (sym l.8) (before_text l.0 l.1 l.2 h l.3 i.0 l.4 l.5)
+no_stx octets text (Text h reader) i l e = absurd cc
+no_stx octets text (Trailer h t) i l e = absurd cc
+no_stx octets text (AfterEnd h t k) i l e = absurd cc
+
+-- Before STX there is no text.
+no_text : (octets text : List ℕ) (p : Place) → IsPlace p → Spells octets text p → head_read (Some p) ≡ None → text ≡ [] → TextIs octets text false
+no_text octets text p i l e none = not_begun octets text (no_stx octets text p i l e) none
+
+pub text_at : (octets text : List ℕ) (p : Place) → IsPlace p → Spells octets text p → TextIs octets text (text_ended p)
+text_at octets text (Filler k) i l = no_text octets text (Filler k) i l refl l.2
+text_at octets text (Source s) i l = no_text octets text (Source s) i l refl l.3
+text_at octets text (Number s n) i l = no_text octets text (Number s n) i l refl l.3
+text_at octets text (Priority s n) i l = no_text octets text (Priority s n) i l refl l.3
+text_at octets text (PriorityRead s n p) i l = no_text octets text (PriorityRead s n p) i l refl l.3
+text_at octets text (Category s n p c) i l = no_text octets text (Category s n p c) i l refl l.3
+text_at octets text (Words s n p c w) i l = no_text octets text (Words s n p c w) i l refl l.3
+text_at octets text (Info h) i l = no_text octets text (Info h) i l refl l.3
+text_at octets text (Gap h k feed) i l = no_text octets text (Gap h k feed) i l refl l.9
 text_at octets text (Text h reader) i l = in_text octets text h reader i.0 l
 text_at octets text (Trailer h t) i l =
     has_ended octets text t.items (after_head octets l.0 l.1 l.2 (text ++ (3 ∷ t.items)) h l.3 i.0 l.4 l.5.0.0 l.7) l.6

@@ -1,10 +1,12 @@
 -- What holds of all messages, and where a reader of messages stands.
-use Rattle.std.specs.Prelude.{◌≡◌, ℕ, List}
+use Rattle.std.specs.Prelude.{◌≡◌, ◌↔◌, ℕ, ◌==◌, IsTrue, List, ◌++◌, Option, Some, IsSome}
+use Rattle.std.specs.List.{list_any}
 use Rattle.wire_story.specs.Texts.{packed_text, IsText, MakeText}
-use Rattle.wire_message.specs.Messages.{Header, IsHeader, IsTrailer, IsMessage}
+use Rattle.wire_message.specs.Messages.{Header, IsHeader, IsTrailer, IsMessage, BeginsWithHeader}
 use Rattle.wire_message.specs.Canonical.{canonical}
-use Rattle.wire_message.specs.Layers.{MessageLivesWith, text_so_far, StoryLivesIn}
+use Rattle.wire_message.specs.Layers.{MessageLivesWith, text_so_far, trailer_so_far, StoryLivesIn}
 use Rattle.wire_message.specs.SoFar.{LeadTo}
+use Rattle.wire_message.specs.Reading.{StandsAt, head_read, trailer_read}
 use Rattle.wire_message.specs.declared.place.Place.{Place}
 
 -- An object is a message in one way at most.
@@ -26,3 +28,26 @@ TextsStandBetweenStxAndEtx = (octets text : List ℕ) (place : Place) → LeadTo
 -- Where octets have led to a place, a message can go on from them, and so can the story in it.
 abbrev pub ReadersStandAtLivingOctets : Type 0
 ReadersStandAtLivingOctets = (octets text : List ℕ) (place : Place) → LeadTo octets text place → MessageLivesWith octets × StoryLivesIn octets
+
+-- A header is told where STX has come, and nowhere else; and it is the one with which the octets begin.
+pub record TellsHeaderOf (reader : Option Place) (octets : List ℕ) : Type 0 where
+  pub told : IsSome (head_read reader) ↔ IsTrue (list_any (λ b. b == 2) octets)
+  pub parts : (head : Header) → (head_read reader ≡ Some head) ↔ BeginsWithHeader octets head
+
+-- A reader that stands at octets tells their header.
+abbrev pub HeadersAreToldFromStx : Type 0
+HeadersAreToldFromStx = (reader : Option Place) (octets text : List ℕ) → StandsAt reader octets text → TellsHeaderOf reader octets
+
+-- A reader that stands at octets tells what stands after ETX and before EOT.
+abbrev pub TrailersAreToldFromEtx : Type 0
+TrailersAreToldFromEtx = (reader : Option Place) (octets text : List ℕ) → StandsAt reader octets text → trailer_read reader ≡ trailer_so_far octets
+
+-- Where octets begin with a header, so does each message that they go on to.
+abbrev pub MessagesKeepTheirHeader : Type 0
+MessagesKeepTheirHeader = (octets more text trailer : List ℕ) (head other : Header)
+    → BeginsWithHeader octets head → IsMessage (octets ++ more) other text trailer → other ≡ head
+
+-- The trailer of a message is what stands after ETX and before EOT.
+abbrev pub TrailersStandBetweenEtxAndEot : Type 0
+TrailersStandBetweenEtxAndEot = (object text trailer : List ℕ) (head : Header)
+    → IsMessage object head text trailer → trailer_so_far object ≡ trailer

@@ -30,6 +30,10 @@ after_stx octets = after_first (λ b. b == 2) octets
 abbrev pub text_so_far : List ℕ → List ℕ
 text_so_far octets = before_first (λ b. b == 3) (after_stx octets)
 
+-- the trailer so far: what stands after ETX, which ends the text, and before EOT
+abbrev pub trailer_so_far : List ℕ → List ℕ
+trailer_so_far octets = before_first (λ b. b == 4) (after_first (λ b. b == 3) (after_stx octets))
+
 -- the story's tokens of the octets so far: the text has ended where an ETX stands after STX
 abbrev pub story_tokens_of : List ℕ → List OctetOrEnd
 story_tokens_of octets = map Octet (text_so_far octets)

@@ -64,3 +64,15 @@ pub record IsMessage (object : List ℕ) (head : Header) (text trailer : List �
   pub is_trailer : IsTrailer trailer
   pub is_after : IsFiller after
   pub parts : object ≡ before ++ (1 ∷ fixed_header head ++ (info ++ (gap ++ (2 ∷ text ++ (3 ∷ trailer ++ (4 ∷ after))))))
+
+-- The octets are a message with this header up to STX, and then any octets.
+pub record BeginsWithHeader (octets : List ℕ) (head : Header) : Type 0 where
+  pub before : List ℕ
+  pub info : List ℕ
+  pub gap : List ℕ
+  pub rest : List ℕ
+  pub is_before : IsFiller before
+  pub is_header : IsHeader head
+  pub is_info : SpellsInfo head.info info
+  pub is_gap : IsGap gap
+  pub parts : octets ≡ before ++ (1 ∷ fixed_header head ++ (info ++ (gap ++ (2 ∷ rest))))

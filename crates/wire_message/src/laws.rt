@@ -1,6 +1,6 @@
 //! What holds of all messages, and where a reader of messages stands. The functions do nothing: their contracts are the laws.
 
-ghost use Rattle.wire_message.specs.Laws.{MessagesHaveOneReading, CanonicalObjectsAreMessages, TextsStandBetweenStxAndEtx, ReadersStandAtLivingOctets};
+ghost use Rattle.wire_message.specs.Laws.{MessagesHaveOneReading, CanonicalObjectsAreMessages, TextsStandBetweenStxAndEtx, ReadersStandAtLivingOctets, HeadersAreToldFromStx, TrailersAreToldFromEtx, MessagesKeepTheirHeader, TrailersStandBetweenEtxAndEot};
 
 use wire_story::{packed_lines_are_a_text, stories_end_as_texts, stories_live_as_texts_so_far};
 
@@ -28,3 +28,23 @@ pub fn readers_stand_at_living_octets()
     stories_live_as_texts_so_far();
     stories_end_as_texts();
 }
+
+/// A header is told exactly where the octets so far have reached STX, and its parts are those of the octets.
+pub fn headers_are_told_from_stx()
+    ensures { HeadersAreToldFromStx }
+{}
+
+/// The trailer that is told is that of the octets so far: what stands after ETX and before EOT.
+pub fn trailers_are_told_from_etx()
+    ensures { TrailersAreToldFromEtx }
+{}
+
+/// Octets that have reached STX go on to messages of one header only.
+pub fn messages_keep_their_header()
+    ensures { MessagesKeepTheirHeader }
+{}
+
+/// The trailer of a message is what stands after ETX and before EOT.
+pub fn trailers_stand_between_etx_and_eot()
+    ensures { TrailersStandBetweenEtxAndEot }
+{}

@@ -26,8 +26,9 @@ mod writing;
 pub use fault::{MessageCause, MessageFault};
 pub use head::MessageHead;
 pub use laws::{
-    canonical_objects_are_messages, messages_have_one_reading, readers_stand_at_living_octets,
-    texts_stand_between_stx_and_etx,
+    canonical_objects_are_messages, headers_are_told_from_stx, messages_have_one_reading,
+    messages_keep_their_header, readers_stand_at_living_octets, texts_stand_between_stx_and_etx,
+    trailers_are_told_from_etx, trailers_stand_between_etx_and_eot,
 };
 pub use reader::MessageReader;
 pub use writing::{head_text, is_trailer, tail_text};

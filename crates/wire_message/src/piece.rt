@@ -131,6 +131,7 @@ pub(crate) fn take_piece<S: StorySink>(
     ensures is_place { OnOk result (IsPlace place.new) }
     ensures told { OnOk result (Told S.goes sink.old (Some place.old) piece.now (Some place.new) sink.new) }
     ensures calm { OnOk result (S.failures sink.new ≡ S.failures sink.old) }
+    ensures nothing { length piece.now ≡ 0 → (place.new ≡ place.old) × (sink.new ≡ sink.old) }
     ensures before { IfErr result (λ fault. fault.taken < length piece.now) }
     ensures refused { IfErr result (Refuses (Some place.old) piece.now) }
     ensures told_front { IfErr result (λ fault.

@@ -1,6 +1,6 @@
 //! The reader of a message, for any cut into pieces.
 
-ghost use Rattle.std.specs.Prelude.{◌≡◌, ◌<◌, [], List, ℕ, Option, is_none, length, take, Some, None, IsSome, IfOk, IfErr, OnOk, OnErr};
+ghost use Rattle.std.specs.Prelude.{◌≡◌, ◌<◌, [], List, ℕ, Option, is_none, length, take, Some, None, IsSome, IsOk, IfOk, IfErr, OnOk, OnErr};
 ghost use Rattle.wire_story.specs.Tokens.{End};
 ghost use Rattle.wire_message.specs.Layers.{MessageDiesAt};
 
@@ -66,6 +66,10 @@ impl MessageReader {
         ensures lives { OnOk result (LivesOn self.old piece.now) }
         ensures told { OnOk result (Told S.goes sink.old self.old piece.now self.new sink.new) }
         ensures calm { OnOk result (S.failures sink.new ≡ S.failures sink.old) }
+
+        // An empty piece is taken, and changes nothing.
+        ensures takes_nothing { length piece.now ≡ 0 → IsOk result }
+        ensures nothing { length piece.now ≡ 0 → (self.new ≡ self.old) × (sink.new ≡ sink.old) }
 
         // With the refused octet no message can go on from them, or no text, or the sink stopped; before it both could.
         ensures failed { OnErr result (self.new ≡ None) }

@@ -3,9 +3,10 @@
 use crate::{
     MessageCause, MessageFault, MessageHead, MessageReader, head_text, is_trailer, tail_text,
 };
-use iim_dataset::{TrialWriter, Trouble};
+use iim_dataset::{Stop, TrialWriter, Trouble};
+use std::alloc::Global;
 use std::process::Abort;
-use wire_story::{Discard, LineWriter, StorySink};
+use wire_story::{Discard, LineWriter, Lines, StorySink};
 
 /// The smallest message: a story of one empty line.
 const SMALL: &[u8] = b"\x01X1 4 N 0\r\n\x02\x03\x04";
@@ -16,6 +17,56 @@ const RATES: &[u8] = b"\x01TST0007 4 ECO 5 rates\r\n\x02Rates stay.\r\nNo change
 const EMPTY: &[u8] = b"";
 
 const ZEROS: &[u8] = &[b'0'; 66];
+
+/// What a sink was told: so many octets of a line, or the end of a line.
+#[derive(Clone, Copy, Debug, PartialEq, Eq)]
+enum Call {
+    Text(usize),
+    LineEnd,
+}
+
+impl Default for Call {
+    fn default() -> Call {
+        Call::LineEnd
+    }
+}
+
+/// A sink that keeps what it was told first.
+#[derive(Drop)]
+struct Calls {
+    first: arrayvec::ArrayVec<Call, 8>,
+}
+
+impl StorySink for Calls {
+    ghost goes = { λ old events new. Unit {0} };
+
+    ghost failures = { λ sink. 0 };
+
+    ghost nothing = { λ sink. tt };
+
+    ghost joined = { λ a b c xs ys first then. tt };
+
+    fn text(&mut self, run: &[u8]) -> Result<(), Stop> {
+        let _ = self.first.try_push(Call::Text(run.len()));
+        Ok(())
+    }
+
+    fn line_end(&mut self) -> Result<(), Stop> {
+        let _ = self.first.try_push(Call::LineEnd);
+        Ok(())
+    }
+}
+
+/// The smallest header, a text of one line of 32,754 octets, and no trailer.
+fn long_object() -> arrayvec::ArrayVec<u8, 32_768> {
+    let mut object = arrayvec::ArrayVec::new();
+    let _ = object.try_extend_from_slice(b"\x01X1 4 N 0\r\n\x02");
+    for _ in 0..32_754 {
+        let _ = object.try_push(b'a');
+    }
+    let _ = object.try_extend_from_slice(b"\x03\x04");
+    object
+}
 
 /// Reads an object in one piece, or octet by octet, and answers where and why it is refused.
 fn read<S: StorySink>(
@@ -107,6 +158,45 @@ fn texts_and_their_faults(rt: HostRuntime) {
     expect_text(&rt, b"\x03", b"", Some((13, MessageCause::Unfinished)));
     expect_text(&rt, b"\x03\x03", b"", Some((13, MessageCause::BadOctet)));
     expect(&rt, EMPTY, 0, 0, EMPTY, Some((0, MessageCause::Unfinished)));
+}
+
+#[test]
+fn runs_are_passed_on_whole(rt: HostRuntime) {
+    let mut calls = Calls {
+        first: arrayvec::ArrayVec::new(),
+    };
+    assert_eq!(rt; read(RATES, false, &mut calls), None);
+    assert_eq!(rt;
+        calls.first.as_slice(),
+        [Call::Text(11), Call::LineEnd, Call::Text(10)].as_slice()
+    );
+    let mut calls = Calls {
+        first: arrayvec::ArrayVec::new(),
+    };
+    assert_eq!(rt; read(&long_object(), false, &mut calls), None);
+    assert_eq!(rt; calls.first.as_slice(), [Call::Text(32_754)].as_slice());
+}
+
+/// Reads an object in one piece into lines, and once more where memory was refused.
+fn read_lines(alloc: Global, object: &[u8]) -> (Lines, Option<(usize, MessageCause)>) {
+    let mut lines = Lines::new(alloc);
+    let mut answer = read(object, false, &mut lines);
+    if let Some((_, MessageCause::Sink)) = answer {
+        lines = Lines::new(alloc);
+        answer = read(object, false, &mut lines);
+    }
+    (lines, answer)
+}
+
+#[test]
+fn a_long_line_is_kept(rt: HostRuntime) {
+    let object = long_object();
+    assert_eq!(rt; object.len(), 32_768);
+    let (lines, answer) = read_lines(rt.alloc(), &object);
+    assert_eq!(rt; answer, None);
+    let mut left = lines.iter();
+    assert!(rt; left.next() == Some(&object[12..32_766]));
+    assert!(rt; left.next().is_none());
 }
 
 #[test]

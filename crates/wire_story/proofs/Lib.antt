@@ -9,3 +9,4 @@ pub mod MadeTexts
 pub mod Collected
 pub mod PackedEvents
 pub mod Marked
+pub mod Words

@@ -9,3 +9,6 @@ pub mod Laws
 pub mod CollectingLaws
 pub mod WritingLaws
 pub mod Marking
+pub mod Words
+pub mod WordLaws
+pub mod Trials

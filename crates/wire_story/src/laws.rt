@@ -4,6 +4,7 @@ ghost use Rattle.std.specs.Prelude.{◌≡◌};
 ghost use Rattle.wire_story.specs.Texts.{line_end};
 ghost use Rattle.wire_story.specs.Packing.{LinesArePackedAsTheirEvents, EventsArePackedAsLines};
 ghost use Rattle.wire_story.specs.Laws.{TextsHaveOneReading, TextsSoFarHaveOneReading, TextsAreDeliveredAsLines, TextsSoFarAreDeliveredAsLines, DeliveryMayBeCut, StoriesLiveAsTextsSoFar, StoriesEndAsTexts, TextsEndInNoReturn, PackedLinesAreAText, LinesOfATextMakeOne, LinesAreJoinedByLineFeeds, TextsAreCollectedAsLines};
+ghost use Rattle.wire_story.specs.WordLaws.{WordsAreLongestRuns, TextsAreCountedAsLines};
 
 use crate::line::LINE_END;
 
@@ -80,4 +81,14 @@ pub fn lines_are_packed_as_their_events()
 /// Events are packed as the lines that they are.
 pub fn events_are_packed_as_lines()
     ensures { EventsArePackedAsLines }
+{}
+
+/// The words of a line are the longest runs in it of octets other than SP and TAB.
+pub fn words_are_longest_runs()
+    ensures { WordsAreLongestRuns }
+{}
+
+/// Counted from nothing on, the words of what is delivered of a text are those of its lines.
+pub fn texts_are_counted_as_lines()
+    ensures { TextsAreCountedAsLines }
 {}

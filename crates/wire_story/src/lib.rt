@@ -17,6 +17,8 @@ mod size;
 mod step;
 #[cfg(test)]
 mod tests;
+mod trial;
+mod word_count;
 mod writer;
 
 pub use discard::Discard;
@@ -25,8 +27,9 @@ pub use laws::{
     delivery_may_be_cut, events_are_packed_as_lines, line_ends_are_packed_as_return_and_feed,
     lines_are_joined_by_line_feeds, lines_are_packed_as_their_events, lines_of_a_text_make_one,
     packed_lines_are_a_text, stories_end_as_texts, stories_live_as_texts_so_far,
-    texts_are_collected_as_lines, texts_are_delivered_as_lines, texts_end_in_no_return,
-    texts_have_one_reading, texts_so_far_are_delivered_as_lines, texts_so_far_have_one_reading,
+    texts_are_collected_as_lines, texts_are_counted_as_lines, texts_are_delivered_as_lines,
+    texts_end_in_no_return, texts_have_one_reading, texts_so_far_are_delivered_as_lines,
+    texts_so_far_have_one_reading, words_are_longest_runs,
 };
 pub use line::{LINE_END, is_text};
 pub use line_iter::LineIter;
@@ -34,4 +37,6 @@ pub use lines::Lines;
 pub use reader::TextReader;
 pub use sink::StorySink;
 pub use size::text_len;
+pub use trial::TrialSink;
+pub use word_count::WordCount;
 pub use writer::LineWriter;

@@ -5,8 +5,8 @@ ghost use Rattle.wire_story.specs.Texts.{AreLines};
 ghost use Rattle.wire_story.specs.Delivery.{delivered};
 
 use crate::{
-    Discard, LINE_END, LineWriter, Lines, StorySink, TextCause, TextFault, TextReader, is_text,
-    text_len,
+    Discard, LINE_END, LineWriter, Lines, StorySink, TextCause, TextFault, TextReader, TrialSink,
+    WordCount, is_text, text_len,
 };
 use iim_dataset::{Stop, TrialWriter, Trouble};
 use std::alloc::Global;
@@ -18,6 +18,11 @@ const FOUR: &[u8] = b"a\nb\r\nc\r\r\nd";
 
 /// A story of two lines.
 const RATES: &[u8] = b"Rates stay.\r\nNo change.";
+
+/// A line of as many octets as stand in the text of a message of 32,768 octets.
+fn long_line() -> [u8; 32_754] {
+    [b'a'; 32_754]
+}
 
 /// Counts the calls of a sink, and the octets that came.
 struct Calls {
@@ -194,6 +199,24 @@ fn runs_are_passed_on_whole(rt: HostRuntime) {
     } = calls;
 }
 
+#[test]
+fn a_long_run_is_passed_on_whole(rt: HostRuntime) {
+    let mut calls = Calls {
+        calls: 0,
+        octets: 0,
+    };
+    let line = long_line();
+    assert_eq!(rt; read_in_two(&line, b"", &mut calls), Ok(()));
+    assert_eq!(rt; (calls.calls, calls.octets), (1, 32_754));
+    let Calls {
+        calls: _,
+        octets: _,
+    } = calls;
+    let (lines, answer) = read_lines(rt.alloc(), &line, Cut::At(0));
+    assert_eq!(rt; answer, Ok(()));
+    assert!(rt; has_lines(&lines, &[line.as_slice()]));
+}
+
 /// Tells the lines a line and its end. A refused growth must leave them as they were, and is asked once more.
 fn insist(rt: &impl Abort, lines: &mut Lines, line: &[u8]) {
     let before = text_len(lines);
@@ -280,4 +303,81 @@ fn octets_that_may_stand(rt: HostRuntime) -> Result<(), Fail> {
     assert!(rt; !is_text(b"two\nlines"));
     assert_eq!(rt; LINE_END, [13, 10]);
     Ok(())
+}
+
+/// How many words are counted in a text, or None where it is refused.
+fn words_in(text: &[u8], cut: Cut) -> Option<u64> {
+    let mut count = WordCount::new();
+    match read_cut(text, cut, &mut count) {
+        Ok(()) => Some(count.words()),
+        Err(_) => None,
+    }
+}
+
+#[test]
+fn words_counted(rt: HostRuntime) {
+    let texts = [
+        (b"".as_slice(), 0),
+        (b"word".as_slice(), 1),
+        (RATES, 4),
+        (FOUR, 4),
+        (b"\n\n".as_slice(), 0),
+        (b"a\n\nb".as_slice(), 2),
+        (b" \t two  words\t".as_slice(), 2),
+        (b"tab\tis\tno word".as_slice(), 4),
+        (b"na\xefve\x00\x7f,\x0b-".as_slice(), 1),
+        (b"ends \r\n begins".as_slice(), 2),
+        (b"cut\r\nhere".as_slice(), 2),
+    ];
+    for (text, want) in texts {
+        for at in 0..=text.len() {
+            assert_eq!(rt; words_in(text, Cut::At(at)), Some(want), "at {at}");
+        }
+        assert_eq!(rt; words_in(text, Cut::EachOctet), Some(want));
+    }
+    assert_eq!(rt; words_in(&long_line(), Cut::At(20_000)), Some(1));
+}
+
+#[test]
+fn sinks_that_stop_at_a_call(rt: HostRuntime) {
+    // good calls, octets of a later one that are passed on, what is written then, and where the text is refused
+    let stops = [
+        (0, 4, b"Rate".as_slice(), 4),
+        (1, 4, b"Rates stay.".as_slice(), 12),
+        (2, 0, b"Rates stay.\n".as_slice(), 13),
+        (2, 99, b"Rates stay.\nNo change".as_slice(), 22),
+    ];
+    for (good, front, octets, taken) in stops {
+        let target: TrialWriter<32> = TrialWriter::new(100, Trouble::Failure);
+        let mut sink = TrialSink::new(LineWriter::new(target), good, front);
+        let fault = TextFault {
+            taken,
+            cause: TextCause::Sink,
+        };
+        assert_eq!(rt; read_in_two(RATES, b"", &mut sink), Err(fault), "at {good}");
+        assert_eq!(rt; sink.failures(), 1);
+        assert_eq!(rt; sink.into_sink().into_writer().octets(), octets);
+    }
+    let target: TrialWriter<32> = TrialWriter::new(100, Trouble::Failure);
+    let mut sink = TrialSink::new(LineWriter::new(target), 3, 0);
+    assert_eq!(rt; read_in_two(RATES, b"", &mut sink), Ok(()));
+    assert_eq!(rt; sink.failures(), 0);
+    assert_eq!(rt; sink.text(b"ab"), Err(Stop { taken: 0 }));
+    assert_eq!(rt; sink.line_end(), Err(Stop { taken: 0 }));
+    assert_eq!(rt; sink.text(b""), Ok(()));
+    assert_eq!(rt; sink.failures(), 2);
+    assert_eq!(rt;
+        sink.into_sink().into_writer().octets(),
+        b"Rates stay.\nNo change.".as_slice()
+    );
+}
+
+#[test]
+fn stops_of_the_other_sink_are_counted(rt: HostRuntime) {
+    let target: TrialWriter<32> = TrialWriter::new(2, Trouble::Failure);
+    let mut sink = TrialSink::new(LineWriter::new(target), 9, 9);
+    assert_eq!(rt; sink.text(b"abc"), Err(Stop { taken: 2 }));
+    assert_eq!(rt; sink.line_end(), Err(Stop { taken: 0 }));
+    assert_eq!(rt; sink.failures(), 2);
+    assert_eq!(rt; sink.into_sink().into_writer().octets(), b"ab".as_slice());
 }

@@ -150,6 +150,34 @@ fn datasets_in_any_cut(rt: HostRuntime) {
     assert_eq!(rt; sink.record.as_slice(), RECORD);
 }
 
+/// After the last dataset a reader goes on where its sink does: what comes then is the next tag, or refused as one.
+#[test]
+fn octets_after_the_last_dataset(rt: HostRuntime) {
+    let marker = |used| {
+        Err(Fault {
+            cause: FaultCause::Marker,
+            used,
+        })
+    };
+    let mut reader = HeadReader::new();
+    let mut sink = Recorder::new(16);
+    assert_eq!(rt; reader.feed(STREAM, &mut sink), Ok(LENGTH));
+    assert_eq!(rt; reader.feed(b"", &mut sink), Ok(0));
+    assert_eq!(rt; reader.feed(b"\x1c\x01\x1e\x00\x03TS", &mut sink), Ok(7));
+    assert_eq!(rt; reader.named(), (1, 30));
+    assert_eq!(rt; reader.feed(b"Tx", &mut sink), marker(1));
+    assert_eq!(rt;
+        sink.record.as_slice(),
+        b"<\x01\x1e\x03TST><\x02\x05\x02ab><\x07\x0a\x00><\x01\x1e\x03TST>".as_slice()
+    );
+    let mut reader = HeadReader::new();
+    let mut sink = Recorder::new(11);
+    assert_eq!(rt; reader.feed(STREAM, &mut sink), Ok(LENGTH));
+    assert_eq!(rt; reader.feed(&STREAM[LENGTH..], &mut sink), marker(0));
+    assert_eq!(rt; sink.record.as_slice(), RECORD);
+    assert!(rt; reader.is_failed());
+}
+
 #[test]
 fn longest_runs(rt: HostRuntime) {
     let mut reader = HeadReader::new();

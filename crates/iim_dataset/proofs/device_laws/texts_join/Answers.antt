@@ -21,4 +21,5 @@ returns c = record {
   none = λ a. (appends_none a.octets, (omega arith, omega arith));
   more = wrote_more;
   stopped = stopped_later;
+  broke = λ a b c xs ys h k. (appends_appends a.octets b.octets c.octets xs ys h.0 k.0, broke_later a b c h.1 k.1);
 }

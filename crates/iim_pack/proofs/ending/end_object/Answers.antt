@@ -18,7 +18,7 @@ returns-in-Ok-clause-broke g c =
     let old = c.args.object in
     let mid = c.write.new.self in
     if_err c.finish.result (λ refused. BreaksOff state (IsTheWhole mid.plan) mid refused.0) (λ refused. BreaksOff state (EndsWithTail old.plan c.args.tail.now) old refused.0)
-    (λ refused k. end_broke state old mid refused.0 c.args.tail.now c.in-Ok.ensures.ok k)
+    (λ refused k. end_broke state old mid refused.0 c.args.tail.now c.texts_join.ensures c.in-Ok.ensures.ok k)
     (of_none (finish_cause mid) _ (may_finish state old mid c.args.tail.now c.in-Ok.ensures.ok c.requires.whole) c.finish.ensures.broke)
 
 pub returns-in-Err-clause-broke : goal.returns-in-Err-clause-broke

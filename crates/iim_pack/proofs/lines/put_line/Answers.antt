@@ -66,7 +66,7 @@ returns-in-Ok-clause-broke g c =
     let room : total_of m.object + (length line + 2) ≤ most_of m.object.plan = subst (λ (p : Plan). total_of m.object + (length line + 2) ≤ most_of p) (sym l.plan) (omega (arith, fits, l.total)) in
     on_err c.text-in-Ok.result _ _ (λ (b : BreaksOff state (GoesOnWith (map LineOctet line)) m c.text-in-Ok.new.self).
     subst (λ (first : Bool). BreaksOff state (GoesOnWith (line_events first line)) k c.text-in-Ok.new.self) (sym c.if-is_first.false)
-    (breaks_later state k m c.text-in-Ok.new.self (LineEnd ∷ []) (map LineOctet line) l b))
+    (breaks_later state k m c.text-in-Ok.new.self (LineEnd ∷ []) (map LineOctet line) c.texts_join.ensures l b))
     (of_none (text_cause m line) _ (may_text m line c.requires.line l.unfailed room) c.text-in-Ok.ensures.broke)
 
 pub returns-in-Err-clause-broke : goal.returns-in-Err-clause-broke

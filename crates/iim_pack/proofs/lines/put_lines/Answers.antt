@@ -38,7 +38,7 @@ returns-in-Err-clause-broke g c =
     let first : Bool = c.loop-line.is_first in
     let line : List ℕ = c.in-Some.line.now in
     let rest : List (List ℕ) = c.next.new.self in
-    let now = breaks_later state c.args.packer.now c.loop-line.packer c.put_line.new.packer inv.done (line_events first line) inv.lengthened c.in-Err.ensures.broke in
+    let now = breaks_later state c.args.packer.now c.loop-line.packer c.put_line.new.packer inv.done (line_events first line) c.texts_join.ensures inv.lengthened c.in-Err.ensures.broke in
     let all = breaks_before state c.args.packer.now c.put_line.new.packer (inv.done ++ line_events first line) (events_left false rest) now in
     let parts = inv.parts ∙ (ap (λ (ls : List (List ℕ)). inv.done ++ events_left first ls) c.in-Some.ensures.steps ∙ sym (append_assoc inv.done (line_events first line) (events_left false rest))) in
     subst (λ (events : List Event). BreaksOff state (GoesOnWith events) c.args.packer.now c.put_line.new.packer) (sym parts) all

@@ -13,7 +13,7 @@ returns-in-Err-write-clause-err g c =
     let none = may_open c.in-Ok.object c.args.buffer c.args.front.now c.in-Ok.ensures.plan c.in-Ok.ensures.stands c.requires in
     opening_broke g.W.Target.state c.args.writer c.args.buffer c.args.front.now c.in-Ok.object c.write.new.self
     (record { cause = c.in-Err-write.cause; writer = c.into_writer-writer.result; written = c.written-written.result })
-    c.in-Ok.ensures.plan c.in-Ok.ensures.stands c.in-Ok.ensures.wrote
+    c.texts_join.ensures c.in-Ok.ensures.plan c.in-Ok.ensures.stands c.in-Ok.ensures.wrote
     (of_none (write_cause c.in-Ok.object (length c.args.front.now)) _ none c.in-Err-write.ensures.broke)
     (of_none (write_cause c.in-Ok.object (length c.args.front.now)) _ none c.in-Err-write.ensures.cause) c.into_writer-writer.ensures c.written-written.ensures.count
 

@@ -2,6 +2,7 @@ use Rattle.std.proofs.Common.{List, ℕ, inr, sym, ◌∙◌}
 use Rattle.iim_pack.specs.Packing.{pack_cause, start_cause, finish_cause}
 use Rattle.iim_pack.proofs.Goings.{if_none, of_none}
 use Rattle.iim_pack.proofs.Wholes.{lines_again, packs, lines_broke, finish_broke, not_started, may_pack, may_start, lines_fit, may_finish}
+use Rattle.iim_pack.proofs.Orders.{pack_order}
 use Rattle.iim_pack.proofs.whole.pack.Goals as goal
 
 pub returns-in-Err-clause-fault : goal.returns-in-Err-clause-fault
@@ -19,7 +20,7 @@ put_lines-requires-clause-fits g c =
 pub returns-in-Err-put_lines-clause-fault : goal.returns-in-Err-put_lines-clause-fault
 returns-in-Err-put_lines-clause-fault g c =
     if_none (pack_cause c.args.head.now c.args.lines.now.lines c.args.trailer.now c.args.plan) _
-    (inr (lines_broke g.W.Target.state c.args.writer c.args.envelope.now c.args.head.now c.args.lines.now.lines c.args.trailer.now c.args.plan c.in-Ok.packer c.put_lines.new.packer c.given_back.result
+    (inr (lines_broke g.W.Target.state c.args.writer c.args.envelope.now c.args.head.now c.args.lines.now.lines c.args.trailer.now c.args.plan c.in-Ok.packer c.put_lines.new.packer c.given_back.result c.texts_join.ensures
     c.in-Ok.ensures.ok c.in-Err-put_lines.ensures.broke (c.given_back.ensures.cause ∙ c.in-Err-put_lines.ensures.cause) c.given_back.ensures.writer c.given_back.ensures.written))
 
 pub returns-in-Ok-finish-clause-ok : goal.returns-in-Ok-finish-clause-ok
@@ -39,3 +40,12 @@ returns-in-Err-finish-clause-fault g c =
     if_none (pack_cause c.args.head.now lines c.args.trailer.now c.args.plan) _
     (inr (finish_broke g.W.Target.state c.args.writer c.args.envelope.now c.args.head.now lines c.args.trailer.now c.args.plan c.in-Ok.packer c.put_lines.new.packer c.in-Err-finish.packer c.given_back-in-Err-finish.result c.texts_join.ensures again
     c.in-Ok.ensures.ok c.in-Ok-put_lines.ensures.ok broke (c.given_back-in-Err-finish.ensures.cause ∙ cause) c.given_back-in-Err-finish.ensures.writer c.given_back-in-Err-finish.ensures.written))
+
+pub returns-in-Some-clause-order : goal.returns-in-Some-clause-order
+returns-in-Some-clause-order g c = pack_order c.args.head.now c.args.lines.now.lines c.args.trailer.now c.args.plan
+
+pub returns-in-Err-put_lines-clause-order : goal.returns-in-Err-put_lines-clause-order
+returns-in-Err-put_lines-clause-order g c = pack_order c.args.head.now c.args.lines.now.lines c.args.trailer.now c.args.plan
+
+pub returns-in-Err-finish-clause-order : goal.returns-in-Err-finish-clause-order
+returns-in-Err-finish-clause-order g c = pack_order c.args.head.now c.args.lines.now.lines c.args.trailer.now c.args.plan

@@ -7,7 +7,7 @@ use Rattle.iimwire.proofs.request.command.Goals as goal
 pub returns : goal.returns
 returns c =
     let about_is : app_of c.about.result ≡ new_app (codes "check") = search rules in
-    let file_is : rule_of c.new-2.result ≡ new_rule (codes "FILE") = search rules in
+    let file_is : rule_of c.help.result ≡ new_rule (codes "FILE") = search rules in
     let check_is : app_of c.in_ok-check.check ≡ file_command (codes "check") =
     c.in_ok-check.ensures.shape (search rules) ∙ ap₂ with_rule about_is file_is in
     let about_top : app_of c.about-2.result ≡ new_app (codes "iimwire") = search rules in

@@ -25,6 +25,7 @@ loop-at-preserved g c =
             (g.met.S.StorySink.joined c.args.sink.now c.loop-at.sink c.take_front.new.sink _ _ i.told.1 h.told.1),
         goes_on_front (Some c.args.place.now) (Some c.loop-at.place) (Some c.take_front.new.place) piece at k m n i.told.2 h.told.2,
       );
+      nothing = λ none. absurd (omega arith);
       calm = h.calm ∙ i.calm;
     }
 
@@ -58,5 +59,6 @@ loop-at-init g c = record {
   is_place = c.requires;
   within = omega arith;
   told = ([], g.met.S.StorySink.nothing c.args.sink.now, stays_standing (Some c.args.place.now) c.args.piece.now);
+  nothing = λ none. (refl, refl);
   calm = refl;
 }

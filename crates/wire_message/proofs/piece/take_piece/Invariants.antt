@@ -9,6 +9,7 @@ invariant-loop-at g l = record {
   is_place : IsPlace l.place;
   within : l.at ≤ length l.piece;
   told : Told g.S.StorySink.goes l.initial.sink (Some l.initial.place) (take l.at l.piece) (Some l.place) l.sink;
+  nothing : length l.piece ≡ 0 → (l.place ≡ l.initial.place) × (l.sink ≡ l.initial.sink);
   calm : g.S.StorySink.failures l.sink ≡ g.S.StorySink.failures l.initial.sink;
 }
 

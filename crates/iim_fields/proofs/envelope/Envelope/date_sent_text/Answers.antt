@@ -1,19 +1,12 @@
-use Rattle.std.proofs.Common.{◌≡◌, true, subst, List}
-use Rattle.std.specs.Prelude.{is_some}
-use Rattle.iim_dataset.specs.Datasets.{Dataset}
-use Rattle.iim_fields.specs.Views.{first_data}
-use Rattle.iim_fields.specs.Builders.{fields_of}
-use Rattle.iim_fields.proofs.Mandatory.{first_of_one, found}
-use Rattle.iim_fields.proofs.RowsMet.{viewed_meet, date_fits, date_is}
+use Rattle.iim_fields.proofs.Mandatory.{first_of_one}
+use Rattle.iim_fields.proofs.RowsMet.{date_fits, date_is}
 use Rattle.iim_fields.proofs.envelope.Envelope.date_sent_text.Goals as goal
 
-pub unwrap-requires : goal.unwrap-requires
-unwrap-requires c =
-    let has = (first_of_one (fields_of c.self.inside.store) c.self.invariant.envelope).1.1.1.1.1.0 in
-    found (λ x. x.now) c.first.result _ c.first.ensures (subst (λ (ds : List Dataset). is_some (first_data 1 70 ds) ≡ true) c.self.view_is has)
+pub mandatory-requires : goal.mandatory-requires
+mandatory-requires c = λ ds e. (first_of_one ds e).1.1.1.1.1.0
 
 pub returns-clause-fits : goal.returns-clause-fits
-returns-clause-fits c = date_fits _ (viewed_meet (λ x. x.now) c.self.inside.store _ c.self.invariant c.self.view_is 1 70 c.first.result c.unwrap.result c.first.ensures c.unwrap.ensures)
+returns-clause-fits c = date_fits _ c.mandatory.ensures.meets
 
 pub returns-clause-date : goal.returns-clause-date
-returns-clause-date c = date_is _ (viewed_meet (λ x. x.now) c.self.inside.store _ c.self.invariant c.self.view_is 1 70 c.first.result c.unwrap.result c.first.ensures c.unwrap.ensures)
+returns-clause-date c = date_is _ c.mandatory.ensures.meets

@@ -1,12 +1,5 @@
-use Rattle.std.proofs.Common.{◌≡◌, true, subst, List}
-use Rattle.std.specs.Prelude.{is_some}
-use Rattle.iim_dataset.specs.Datasets.{Dataset}
-use Rattle.iim_fields.specs.Views.{first_data}
-use Rattle.iim_fields.specs.Builders.{fields_of}
-use Rattle.iim_fields.proofs.Mandatory.{first_of_two, found}
+use Rattle.iim_fields.proofs.Mandatory.{first_of_two}
 use Rattle.iim_fields.proofs.envelope.Envelope.record_version.Goals as goal
 
-pub unwrap-requires : goal.unwrap-requires
-unwrap-requires c =
-    let has = (first_of_two (fields_of c.self.inside.store) c.self.invariant.envelope) in
-    found (λ x. x.now) c.first.result _ c.first.ensures (subst (λ (ds : List Dataset). is_some (first_data 2 0 ds) ≡ true) c.self.view_is has)
+pub mandatory-requires : goal.mandatory-requires
+mandatory-requires c = λ ds e. first_of_two ds e

@@ -7,6 +7,8 @@ use Rattle.iim_pack.specs.Packing.{Finishes, BreaksOff, EndsIn, finish_cause}
 use Rattle.iim_pack.specs.Ending.{Ends, EndsWithTail}
 use Rattle.iim_pack.proofs.Goings.{if_none}
 use Rattle.iim_pack.proofs.Finishings.{may_end, finished, unfinished}
+use Rattle.iim_pack.proofs.Beginnings.{begun_ends}
+use Rattle.iim_pack.proofs.Orders.{finish_order}
 use Rattle.iim_pack.proofs.packer.Packer.finish.Goals as goal
 
 pub returns-in-Ok-clause-ok : goal.returns-in-Ok-clause-ok
@@ -30,3 +32,18 @@ returns-in-Err-clause-broke g c =
     if_none (finish_cause c.args.self trailer) _
     (subst (λ k. BreaksOff state (EndsIn trailer) k (record { before = c.self.inside.before; object = c.in-Err.object })) c.self.view_is
     (unfinished state c.self.inside.before old c.in-Err.object trailer c.events_are_packed_as_lines.ensures broke))
+
+pub returns-in-Ok-clause-begun : goal.returns-in-Ok-clause-begun
+returns-in-Ok-clause-begun g c = begun_ends g.W.Target.state c.args.self c.args.trailer.now c.in-Ok.writer c.texts_join.ensures (returns-in-Ok-clause-ok g c)
+
+pub returns-then-is_failed-clause-order : goal.returns-then-is_failed-clause-order
+returns-then-is_failed-clause-order g c = finish_order c.args.self c.args.trailer.now
+
+pub returns-in-Some-clause-order : goal.returns-in-Some-clause-order
+returns-in-Some-clause-order g c = finish_order c.args.self c.args.trailer.now
+
+pub returns-in-Ok-clause-order : goal.returns-in-Ok-clause-order
+returns-in-Ok-clause-order g c = finish_order c.args.self c.args.trailer.now
+
+pub returns-in-Err-clause-order : goal.returns-in-Err-clause-order
+returns-in-Err-clause-order g c = finish_order c.args.self c.args.trailer.now

@@ -6,6 +6,8 @@ use Rattle.wire_story.specs.Delivery.{Event, LineEnd}
 use Rattle.wire_story.specs.Packing.{packed_events}
 use Rattle.iim_pack.specs.Packing.{Lengthens, BreaksOff, GoesOnWith, line_end_cause}
 use Rattle.iim_pack.proofs.Goings.{on_ok, on_err, if_none, of_none, lengthened, broken, may_write}
+use Rattle.iim_pack.proofs.Beginnings.{begun_on}
+use Rattle.iim_pack.proofs.Orders.{line_end_order}
 use Rattle.iim_pack.proofs.packer.Packer.line_end.Goals as goal
 
 pub returns-clause-ok : goal.returns-clause-ok
@@ -29,3 +31,16 @@ returns-clause-broke g c =
     broken state c.self.inside.before old new events c.lines_are_packed_as_their_events.ensures k)
     (of_none (write_cause old 2) _ (may_write old 2 2 (sym c.is_failed.ensures ∙ c.if-is_failed.false) (rw (c.plan.ensures, c.total.ensures.total) at (sym c.is_past.ensures ∙ c.if-is_past.false)))
     c.write.ensures.broke)))
+
+pub returns-clause-begun : goal.returns-clause-begun
+returns-clause-begun g c =
+    on_ok c.write.result _ _ (begun_on g.W.Target.state c.args.self.now _ (LineEnd ∷ []) c.texts_join.ensures) (returns-clause-ok g c)
+
+pub returns-then-is_failed-clause-order : goal.returns-then-is_failed-clause-order
+returns-then-is_failed-clause-order g c = line_end_order c.args.self.now
+
+pub returns-then-is_past-clause-order : goal.returns-then-is_past-clause-order
+returns-then-is_past-clause-order g c = line_end_order c.args.self.now
+
+pub returns-clause-order : goal.returns-clause-order
+returns-clause-order g c = line_end_order c.args.self.now

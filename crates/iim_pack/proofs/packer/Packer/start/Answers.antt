@@ -4,6 +4,8 @@ use Rattle.iim_pack.specs.Starting.{Opens, Halts, BeginsWith}
 use Rattle.iim_pack.specs.Packing.{start_cause}
 use Rattle.iim_pack.proofs.Goings.{if_none}
 use Rattle.iim_pack.proofs.Startings.{fields_broke, object_broke, started}
+use Rattle.iim_pack.proofs.Beginnings.{begun_at_start}
+use Rattle.iim_pack.proofs.Orders.{start_order}
 use Rattle.iim_pack.proofs.packer.Packer.start.Goals as goal
 
 pub returns-in-Err-put_fields-clause-fault : goal.returns-in-Err-put_fields-clause-fault
@@ -29,4 +31,11 @@ returns-in-Err-open_object-clause-fault g c =
     let halts = subst (λ (t : List ℕ). Halts state (BeginsWith c.args.plan t) c.put_fields.new.writer fault) front planned in
     if_none (start_cause c.args.head.now c.args.plan) _
     (inr (object_broke state c.args.writer c.put_fields.new.writer c.args.envelope.now c.args.head.now c.args.plan c.in-Ok-put_fields.before fault
-    (record { cause = fault.cause; writer = fault.writer; written = c.in-Ok-put_fields.before + fault.written }) c.in-Ok-put_fields.ensures.ok c.in-Ok-put_fields.ensures.all halts refl refl refl))
+    (record { cause = fault.cause; writer = fault.writer; written = c.in-Ok-put_fields.before + fault.written }) c.texts_join.ensures c.in-Ok-put_fields.ensures.ok c.in-Ok-put_fields.ensures.all halts refl refl refl))
+
+pub returns-in-Ok-open_object-clause-begun : goal.returns-in-Ok-open_object-clause-begun
+returns-in-Ok-open_object-clause-begun g c =
+    begun_at_start g.W.Target.state c.args.writer c.args.envelope.now c.args.head.now c.args.plan _ (returns-in-Ok-open_object-clause-ok g c)
+
+pub returns-then-is_past-clause-order : goal.returns-then-is_past-clause-order
+returns-then-is_past-clause-order g c = start_order c.args.head.now c.args.plan

@@ -10,7 +10,8 @@ unreachable-requires g c =
     let new : Device = behind c.feed_line.new.block (st c.feed_line.new.reader) in
     let here = somewhere c.args.unpacker c.requires.ready c.stands_somewhere.ensures.stood in
     let was = fed_done g.S.StorySink.goes old new c.args.unpacker c.feed_line.new.unpacker c.args.sink.now c.feed_line.new.sink c.in-Ok-Some.used c.in-Ok-Some.field-0 c.in-Ok-Some.field-0-is c.in-Ok-Some.ensures.fed in
-    c.in-Err-into_unpacked.ensures.not_done _ _ (was.done here.0 here.1 here.2).0
+    let done = (was.done here.0 here.1 here.2).0 in
+    c.in-Err-into_unpacked.ensures.not_done (done.taking, done.ended)
 
 pub returns-in-Ok-clause-gives : goal.returns-in-Ok-clause-gives
 returns-in-Ok-clause-gives g c =

@@ -2,10 +2,11 @@ use Rattle.std.proofs.Common.{◌<◌, ◌≤◌, length, inl, inr, arith}
 use Rattle.iim_object.specs.Plans.{max_subfiles}
 use Rattle.iim_object.specs.Behind.{of_record}
 use Rattle.iim_unpack.proofs.Faults.{field_head, too_many_head, object_head}
-use Rattle.iim_unpack.proofs.Places.{ObjectLaws, subfile_leads, end_leads}
+use Rattle.iim_unpack.proofs.Places.{subfile_leads, end_leads}
 use Rattle.iim_unpack.proofs.Results.{on_ok, on_both, if_err}
 use Rattle.iim_unpack.proofs.Taken.{at_subfile, at_end}
 use Rattle.iim_unpack.proofs.layers.Layers.head.Goals as goal
+use Rattle.iim_unpack.specs.LowerLaws.{ObjectLaws}
 
 pub returns-in-Err-clause-fault : goal.returns-in-Err-clause-fault
 returns-in-Err-clause-fault c =

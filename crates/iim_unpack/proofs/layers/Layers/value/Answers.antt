@@ -9,10 +9,11 @@ use Rattle.iim_unpack.specs.Tokens.{place_at}
 use Rattle.iim_unpack.specs.Layers.{IsObjectFault}
 use Rattle.iim_unpack.proofs.Faults.{field_value, object_value}
 use Rattle.iim_unpack.proofs.Octets.{are_octets}
-use Rattle.iim_unpack.proofs.Places.{ObjectLaws, number_leads}
+use Rattle.iim_unpack.proofs.Places.{number_leads}
 use Rattle.iim_unpack.proofs.Results.{on_ok, if_err}
 use Rattle.iim_unpack.proofs.Taken.{after_number, after_silence, number_tells}
 use Rattle.iim_unpack.proofs.layers.Layers.value.Goals as goal
+use Rattle.iim_unpack.specs.LowerLaws.{ObjectLaws}
 
 pub returns-in-Ok-Some-clause-stands : goal.returns-in-Ok-Some-clause-stands
 returns-in-Ok-Some-clause-stands c =

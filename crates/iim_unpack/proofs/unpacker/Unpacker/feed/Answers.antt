@@ -2,7 +2,7 @@ use Rattle.std.proofs.Common.{◌≡◌, ℕ, [], true, false, refl, ap, sym, su
 use Rattle.iim_unpack.specs.Refusals.{refusal_at}
 use Rattle.iim_unpack.specs.Unpacking.{Unpacking, Stands, IsRefusedIn, limits_in}
 use Rattle.wire_story.specs.Delivery as story
-use Rattle.iim_unpack.proofs.Feeding.{FeedLaws, goes_more, goes_done, refused_in, sound_more, sound_done}
+use Rattle.iim_unpack.proofs.Feeding.{goes_more, goes_done, refused_in, sound_more, sound_done}
 use Rattle.iim_unpack.proofs.unpacker.Unpacker.feed.Goals as goal
 
 pub returns-then-self-clause-goes : goal.returns-then-self-clause-goes
@@ -15,16 +15,7 @@ returns-then-self-clause-goes g c = (
 
 pub returns-then-self-2-clause-goes : goal.returns-then-self-2-clause-goes
 returns-then-self-2-clause-goes g c =
-    let laws : FeedLaws = record {
-      one_tag = c.no_tag_begins_another.ensures;
-      one_dataset = c.no_dataset_begins_another.ensures;
-      way = c.octets_are_handed_on_one_way.ensures;
-      tell = c.events_tell_the_datasets.ensures;
-      ends = c.envelopes_end_with_the_last_record.ensures;
-      sections = c.no_sections_begin_others.ensures;
-      living = c.readers_stand_at_living_octets.ensures;
-      numbers = c.records_are_by_number.ensures;
-    } in
+    let laws = c.feed_laws.ensures in
     let i = c.self.inside in
     let n = c.advance.new in
     let u : Unpacking = record { reader = i.reader; parts = i.parts; octets = i.octets; begun = i.begun; refused = i.refused } in
@@ -33,22 +24,13 @@ returns-then-self-2-clause-goes g c =
       story.delivered h.advanced.went.more,
       h.advanced.went.told,
       λ p a at.
-          goes_done g.S.StorySink.goes g.S.StorySink.failures laws u v c.args.piece.now c.in-Ok.used c.args.sink.now n.sink c.sizes.result h.advanced h.onward refl c.if-self-2.true c.raised-self-inside.ensures h.within c.sizes.ensures.records p a
+          goes_done g.S.StorySink.goes g.S.StorySink.failures laws u v c.args.piece.now c.in-Ok.used c.args.sink.now n.sink (c.readers_tell_sizes.ensures n.parts.object).0 h.advanced h.onward refl c.if-self-2.true c.raised-self-inside.ensures h.within (c.readers_tell_sizes.ensures n.parts.object).1 p a
           (subst (λ (w : Unpacking). Stands w p a) (sym c.self.view_is) at),
     )
 
 pub returns-else-self-2-clause-goes : goal.returns-else-self-2-clause-goes
 returns-else-self-2-clause-goes g c =
-    let laws : FeedLaws = record {
-      one_tag = c.no_tag_begins_another.ensures;
-      one_dataset = c.no_dataset_begins_another.ensures;
-      way = c.octets_are_handed_on_one_way.ensures;
-      tell = c.events_tell_the_datasets.ensures;
-      ends = c.envelopes_end_with_the_last_record.ensures;
-      sections = c.no_sections_begin_others.ensures;
-      living = c.readers_stand_at_living_octets.ensures;
-      numbers = c.records_are_by_number.ensures;
-    } in
+    let laws = c.feed_laws.ensures in
     let i = c.self.inside in
     let n = c.advance.new in
     let u : Unpacking = record { reader = i.reader; parts = i.parts; octets = i.octets; begun = i.begun; refused = i.refused } in
@@ -63,16 +45,7 @@ returns-else-self-2-clause-goes g c =
 
 pub returns-in-Err-clause-refused : goal.returns-in-Err-clause-refused
 returns-in-Err-clause-refused g c =
-    let laws : FeedLaws = record {
-      one_tag = c.no_tag_begins_another.ensures;
-      one_dataset = c.no_dataset_begins_another.ensures;
-      way = c.octets_are_handed_on_one_way.ensures;
-      tell = c.events_tell_the_datasets.ensures;
-      ends = c.envelopes_end_with_the_last_record.ensures;
-      sections = c.no_sections_begin_others.ensures;
-      living = c.readers_stand_at_living_octets.ensures;
-      numbers = c.records_are_by_number.ensures;
-    } in
+    let laws = c.feed_laws.ensures in
     let i = c.self.inside in
     let u : Unpacking = record { reader = i.reader; parts = i.parts; octets = i.octets; begun = i.begun; refused = i.refused } in
     let h = c.in-Err.ensures in
@@ -83,36 +56,18 @@ returns-in-Err-clause-refused g c =
 
 pub invariant_of-self : goal.invariant_of-self
 invariant_of-self g c =
-    let laws : FeedLaws = record {
-      one_tag = c.no_tag_begins_another.ensures;
-      one_dataset = c.no_dataset_begins_another.ensures;
-      way = c.octets_are_handed_on_one_way.ensures;
-      tell = c.events_tell_the_datasets.ensures;
-      ends = c.envelopes_end_with_the_last_record.ensures;
-      sections = c.no_sections_begin_others.ensures;
-      living = c.readers_stand_at_living_octets.ensures;
-      numbers = c.records_are_by_number.ensures;
-    } in
+    let laws = c.feed_laws.ensures in
     let i = c.self.inside in
     let n = c.advance.new in
     let u : Unpacking = record { reader = i.reader; parts = i.parts; octets = i.octets; begun = i.begun; refused = i.refused } in
     let v : Unpacking = record { reader = n.reader; parts = n.parts; octets = c.raised-self-inside.result; begun = c.begins-self-inside.result; refused = i.refused } in
     let h = c.in-Ok.ensures in
-    λ none. sound_done g.S.StorySink.goes g.S.StorySink.failures laws u v c.args.piece.now c.in-Ok.used c.args.sink.now n.sink c.sizes.result h.advanced h.onward h.takes_calls refl c.if-self-2.true c.raised-self-inside.ensures h.within c.sizes.ensures.records
+    λ none. sound_done g.S.StorySink.goes g.S.StorySink.failures laws u v c.args.piece.now c.in-Ok.used c.args.sink.now n.sink (c.readers_tell_sizes.ensures n.parts.object).0 h.advanced h.onward h.takes_calls refl c.if-self-2.true c.raised-self-inside.ensures h.within (c.readers_tell_sizes.ensures n.parts.object).1
     (c.self.invariant none) c.if-self.false
 
 pub invariant_of-self-in-Ok : goal.invariant_of-self-in-Ok
 invariant_of-self-in-Ok g c =
-    let laws : FeedLaws = record {
-      one_tag = c.no_tag_begins_another.ensures;
-      one_dataset = c.no_dataset_begins_another.ensures;
-      way = c.octets_are_handed_on_one_way.ensures;
-      tell = c.events_tell_the_datasets.ensures;
-      ends = c.envelopes_end_with_the_last_record.ensures;
-      sections = c.no_sections_begin_others.ensures;
-      living = c.readers_stand_at_living_octets.ensures;
-      numbers = c.records_are_by_number.ensures;
-    } in
+    let laws = c.feed_laws.ensures in
     let i = c.self.inside in
     let n = c.advance.new in
     let u : Unpacking = record { reader = i.reader; parts = i.parts; octets = i.octets; begun = i.begun; refused = i.refused } in

@@ -1,36 +1,32 @@
-use Rattle.std.proofs.Common.{ℕ, List, ◌++◌, ap, sym, subst, ◌∙◌}
-use Rattle.iim_unpack.specs.Unpacking.{Unpacking, IsDoneWith}
-use Rattle.iim_unpack.proofs.Feeding.{FeedLaws, hands_over, has_head}
+use Rattle.std.proofs.Common.{◌≡◌, ℕ, true, false, List, ◌++◌, length, ap, sym, subst, ◌∙◌, arith}
+use Rattle.iim_unpack.specs.Unpacking.{Unpacking, IsDone, IsDoneWith}
+use Rattle.iim_unpack.proofs.Feeding.{hands_over, some_head, short_trailer, all_sections}
 use Rattle.iim_unpack.proofs.unpacker.Unpacker.into_unpacked.Goals as goal
 
-pub returns-in_default-clause-not_done : goal.returns-in_default-clause-not_done
-returns-in_default-clause-not_done c =
-    let laws : FeedLaws = record {
-      one_tag = c.no_tag_begins_another.ensures;
-      one_dataset = c.no_dataset_begins_another.ensures;
-      way = c.octets_are_handed_on_one_way.ensures;
-      tell = c.events_tell_the_datasets.ensures;
-      ends = c.envelopes_end_with_the_last_record.ensures;
-      sections = c.no_sections_begin_others.ensures;
-      living = c.readers_stand_at_living_octets.ensures;
-      numbers = c.records_are_by_number.ensures;
-    } in
+pub unreachable-requires : goal.unreachable-requires
+unreachable-requires c =
     let i = c.self.inside in
     let u : Unpacking = record { reader = i.reader; parts = i.parts; octets = i.octets; begun = i.begun; refused = i.refused } in
-    λ p a at. has_head laws u p a (subst (λ (w : Unpacking). IsDoneWith w p a) (sym c.self.view_is) at) (sym c.head.ensures ∙ c.in_default.is)
+    let done : IsDone u = subst IsDone (sym c.self.view_is) (c.is_done.ensures.0 c.if-not-is_done.false) in
+    some_head c.feed_laws.ensures u done.1 (c.self.invariant done.0).stood (sym c.head.ensures ∙ c.in_default.is)
 
-pub returns-in-Ok-into_envelope-clause-value : goal.returns-in-Ok-into_envelope-clause-value
-returns-in-Ok-into_envelope-clause-value c =
-    let laws : FeedLaws = record {
-      one_tag = c.no_tag_begins_another.ensures;
-      one_dataset = c.no_dataset_begins_another.ensures;
-      way = c.octets_are_handed_on_one_way.ensures;
-      tell = c.events_tell_the_datasets.ensures;
-      ends = c.envelopes_end_with_the_last_record.ensures;
-      sections = c.no_sections_begin_others.ensures;
-      living = c.readers_stand_at_living_octets.ensures;
-      numbers = c.records_are_by_number.ensures;
-    } in
+pub unreachable-requires-in_default-into_envelope : goal.unreachable-requires-in_default-into_envelope
+unreachable-requires-in_default-into_envelope c =
     let i = c.self.inside in
     let u : Unpacking = record { reader = i.reader; parts = i.parts; octets = i.octets; begun = i.begun; refused = i.refused } in
-    λ p a at. hands_over laws c.admitted_octets_have_one_value.ensures u p a _ (subst (λ (w : Unpacking). IsDoneWith w p a) (sym c.self.view_is) at) (sym c.head.ensures ∙ c.in-Some.is) (c.in-Ok.ensures.ok ∙ ap (λ (xs : List ℕ). xs ++ c.trailer.result.now) c.new-trailer.ensures ∙ c.trailer.ensures) c.sizes-sizes.ensures.records c.in-Ok-into_envelope.ensures.envelope
+    let done : IsDone u = subst IsDone (sym c.self.view_is) (c.is_done.ensures.0 c.if-not-is_done.false) in
+    all_sections c.feed_laws.ensures u done.1 (c.self.invariant done.0).stood c.in_default-into_envelope.ensures.refused
+
+pub unreachable-requires-in_default-try_extend_from_slice : goal.unreachable-requires-in_default-try_extend_from_slice
+unreachable-requires-in_default-try_extend_from_slice c =
+    let i = c.self.inside in
+    let u : Unpacking = record { reader = i.reader; parts = i.parts; octets = i.octets; begun = i.begun; refused = i.refused } in
+    let done : IsDone u = subst IsDone (sym c.self.view_is) (c.is_done.ensures.0 c.if-not-is_done.false) in
+    let short = short_trailer c.feed_laws.ensures u done.1 (c.self.invariant done.0).stood in
+    let bad : false ≡ true = c.in_default-try_extend_from_slice.ensures.variant.1 (omega (arith, short, ap length c.trailer.ensures, ap length c.new-trailer.ensures)) in cc
+
+pub returns-clause-value : goal.returns-clause-value
+returns-clause-value c =
+    let i = c.self.inside in
+    let u : Unpacking = record { reader = i.reader; parts = i.parts; octets = i.octets; begun = i.begun; refused = i.refused } in
+    λ p a at. hands_over c.feed_laws.ensures c.admitted_octets_have_one_value.ensures u p a _ (subst (λ (w : Unpacking). IsDoneWith w p a) (sym c.self.view_is) at) (sym c.head.ensures ∙ c.in-Some.is) (c.in-Ok.ensures.ok ∙ ap (λ (xs : List ℕ). xs ++ c.trailer.result.now) c.new-trailer.ensures ∙ c.trailer.ensures) c.sizes-sizes.ensures.records c.in-Ok-into_envelope.ensures.envelope

@@ -1,19 +1,10 @@
 use Rattle.std.proofs.Common.{[], refl, arith, inl}
-use Rattle.iim_unpack.proofs.Feeding.{FeedLaws, stands_new}
+use Rattle.iim_unpack.proofs.Feeding.{stands_new}
 use Rattle.iim_unpack.proofs.unpacker.Unpacker.new.Goals as goal
 
 pub returns-clause-stands : goal.returns-clause-stands
 returns-clause-stands c =
-    let laws : FeedLaws = record {
-      one_tag = c.no_tag_begins_another.ensures;
-      one_dataset = c.no_dataset_begins_another.ensures;
-      way = c.octets_are_handed_on_one_way.ensures;
-      tell = c.events_tell_the_datasets.ensures;
-      ends = c.envelopes_end_with_the_last_record.ensures;
-      sections = c.no_sections_begin_others.ensures;
-      living = c.readers_stand_at_living_octets.ensures;
-      numbers = c.records_are_by_number.ensures;
-    } in
+    let laws = c.feed_laws.ensures in
     stands_new laws _ refl refl refl refl c.new-2.ensures.stands (record {
       fields = c.in_ok-fields.ensures.stands;
       object = c.new-3.ensures.stands;
@@ -26,16 +17,7 @@ returns-clause-stands c =
 
 pub invariant_of-result : goal.invariant_of-result
 invariant_of-result c =
-    let laws : FeedLaws = record {
-      one_tag = c.no_tag_begins_another.ensures;
-      one_dataset = c.no_dataset_begins_another.ensures;
-      way = c.octets_are_handed_on_one_way.ensures;
-      tell = c.events_tell_the_datasets.ensures;
-      ends = c.envelopes_end_with_the_last_record.ensures;
-      sections = c.no_sections_begin_others.ensures;
-      living = c.readers_stand_at_living_octets.ensures;
-      numbers = c.records_are_by_number.ensures;
-    } in
+    let laws = c.feed_laws.ensures in
     λ none. record {
       calls = c.new-2.ensures.takes_calls;
       takes = inl (refl, rw c.new-2.ensures.between (record { fields = c.in_ok-fields.ensures.stands.between; object = c.new-3.ensures.takes_calls; message = c.new-4.ensures.takes_calls; last = refl }));

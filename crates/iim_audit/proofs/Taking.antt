@@ -1,0 +1,77 @@
+-- From what an intake answers to what an audit takes of it.
+use Rattle.std.proofs.Common.{◌≡◌, ◌≢◌, ℕ, ◌⊎◌, List, [], Some, None, subst, false, ◌∙◌, inl, inr, ⊎_elim, arith, refl}
+use Rattle.iim_dataset.specs.Devices.{Device}
+use Rattle.iim_fields.specs.declared.limits.Limits.{Limits}
+use Rattle.wire_story.specs.Delivery.{Event}
+use Rattle.wire_story.specs.Words.{WordsSoFar, CountsWords}
+use Rattle.iim_unpack.specs.Framed.{AreWithin}
+use Rattle.iim_unpack.specs.Intakes.{Gives, Faults, WasRefused, WasTruncated}
+use Rattle.iim_unpack.specs.Parts.{CountsFor}
+use Rattle.iim_unpack.specs.Unpacking.{Unpacking, Stands, limits_in}
+use Rattle.iim_unpack.specs.declared.intake.IntakeFault.{IntakeFault}
+use Rattle.iim_unpack.specs.declared.intake.IntakeFault.TheVariants as intakes
+use Rattle.iim_unpack.specs.declared.refusal.Cause.{Cause}
+use Rattle.iim_unpack.specs.declared.refusal.Cause.TheVariants.{Sink}
+use Rattle.iim_unpack.specs.declared.refusal.Refusal.{Refusal}
+use Rattle.iim_unpack.specs.declared.unpacker.Unpacked.{Unpacked}
+use Rattle.iim_audit.specs.Faults.{cause_of}
+use Rattle.iim_audit.specs.Taking.{Took, TookOne, TookNone}
+use Rattle.iim_audit.proofs.Texts.{TextLaws, words_of_value}
+
+-- what an intake gives to an unpacker that stands on no octets, and to a count of no words
+pub took_one : TextLaws → (limits : Limits) (old new : Device) (u : Unpacking) (a b : WordsSoFar) (used : ℕ) (got : Unpacked) (n : ℕ)
+    → limits_in u ≡ limits → Stands u [] 0 → a.words ≡ 0 → a.inside ≡ false → n ≡ b.words → Gives CountsWords old new u a b used (Some got)
+    → TookOne limits old new (record { unpacked = got; words = n })
+took_one laws limits old new u a b used got n same stands none outside is gives =
+    let here = gives.envelope [] 0 stands in
+    record {
+      envelope = record { octets = gives.octets; value = here.value };
+      is_listed = record { admits = here.admits; within = subst (λ (l : Limits). AreWithin l here.admits.datasets) same here.within };
+      given = gives.came.given;
+      taken = record {
+        parts = here.parts;
+        words = is ∙ words_of_value laws gives.octets gives.more here.value a b here.admits here.adds none outside gives.came.told;
+      };
+    }
+
+-- what it gives at the end of its input
+pub took_end : (limits : Limits) (old new : Device) (u : Unpacking) (a b : WordsSoFar) (used : ℕ) → Gives CountsWords old new u a b used None → Took limits old new None
+took_end limits old new u a b used gives = (gives.1.given, gives.1.at_end)
+
+-- A sink that counts no failure refused nothing.
+unsunk : (cause : Cause) (n : ℕ) → n ≡ 0 → CountsFor cause n n → cause ≢ Sink
+unsunk cause n zero counts same =
+    let P : Cause → Type 0 = λ c. CountsFor c n n in
+    ⊎_elim (λ rose. omega arith) (λ full. omega arith) (subst P same counts)
+
+refused_fresh : {S : Type 0} (goes : S → List Event → S → Type 0) (failures : S → ℕ) (old new : Device) (u : Unpacking) (a b : S) (e : Refusal)
+    → failures a ≡ 0 → failures b ≡ 0 → Stands u [] 0 → WasRefused goes failures old new u a b e ⊎ WasTruncated goes failures old new u a b e
+    → TookNone (limits_in u) old new (cause_of (intakes.Refused e))
+refused_fresh goes failures old new u a b e before after stands why =
+    ⊎_elim
+    (λ (was : WasRefused goes failures old new u a b e).
+    let of = was.refuses [] 0 stands in
+    let P : ℕ → Type 0 = λ n. CountsFor e.cause n (failures b) in
+    let Q : ℕ → Type 0 = λ n. CountsFor e.cause 0 n in
+    let counts : CountsFor e.cause 0 0 = subst Q after (subst P before was.counts) in
+    (was.octets, was.came.given, inl (record { k = of.k; within = of.within; fault = of.fault; refusal = of.refusal; refuses = of.refuses; unsunk = unsunk e.cause 0 refl counts })))
+    (λ (was : WasTruncated goes failures old new u a b e).
+    let in_it = was.truncated [] 0 stands in
+    (was.octets, was.came.given, inr (record { some = in_it.some; is_open = in_it.is_open; truncated = in_it.truncated }, was.at_end)))
+    why
+
+none_fresh : {S : Type 0} (goes : S → List Event → S → Type 0) (failures : S → ℕ) (old new : Device) (u : Unpacking) (a b : S) (kept : ℕ) (fault : IntakeFault)
+    → failures a ≡ 0 → failures b ≡ 0 → Stands u [] 0 → Faults goes failures old new u a b kept fault → TookNone (limits_in u) old new (cause_of fault)
+none_fresh goes failures old new u a b kept (intakes.Refused e) before after stands faults =
+    refused_fresh goes failures old new u a b e before after stands faults.1
+none_fresh goes failures old new u a b kept intakes.Read before after stands faults =
+    (faults.octets, faults.missed, (faults.is_open [] 0 stands).0)
+none_fresh goes failures old new u a b kept intakes.Interrupted before after stands faults =
+    (faults.octets, faults.missed, (faults.is_open [] 0 stands).0)
+
+-- why an intake gives nothing to an unpacker that stands on no octets
+pub none : {S : Type 0} (goes : S → List Event → S → Type 0) (failures : S → ℕ) (limits : Limits) (old new : Device) (u : Unpacking) (a b : S) (kept : ℕ) (fault : IntakeFault)
+    → failures a ≡ 0 → failures b ≡ 0 → limits_in u ≡ limits → Stands u [] 0 → Faults goes failures old new u a b kept fault → TookNone limits old new (cause_of fault)
+none goes failures limits old new u a b kept fault before after same stands faults =
+    let P : Limits → Type 0 = λ l. TookNone l old new (cause_of fault) in
+    subst P same (none_fresh goes failures old new u a b kept fault before after stands faults)

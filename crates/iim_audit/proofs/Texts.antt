@@ -1,0 +1,77 @@
+-- The text of an envelope, and the words of its lines.
+use Rattle.std.proofs.Common.{◌≡◌, ℕ, List, [], ◌∷◌, length, refl, sym, ap, subst, ◌∙◌, inl, lit<, append-nil, false}
+use Rattle.iim_dataset.specs.Octets.{number}
+use Rattle.iim_dataset.specs.Datasets.{Dataset, SpellsTag, SpellsStream, count_octets}
+use Rattle.iim_dataset.specs.Splits.{InTag, IsBegun, Reads}
+use Rattle.iim_dataset.specs.Events.{handed_on}
+use Rattle.iim_dataset.specs.Places.{HandsOn}
+use Rattle.iim_dataset.specs.Laws.{OctetsAreHandedOnOneWay, EventsTellTheDatasets}
+use Rattle.iim_dataset.specs.declared.head.Head.{Head}
+use Rattle.wire_story.specs.Delivery.{Event}
+use Rattle.wire_story.specs.Texts.{IsText}
+use Rattle.wire_story.specs.WordLaws.{TextsAreCountedAsLines}
+use Rattle.wire_story.specs.Words.{WordsSoFar, CountsWords, capped, words}
+use Rattle.wire_message.specs.Laws.{TextsStandBetweenStxAndEtx}
+use Rattle.wire_message.specs.Layers.{text_so_far}
+use Rattle.wire_message.specs.Messages.{Header, IsMessage}
+use Rattle.wire_message.specs.declared.place.Place.TheVariants.{AfterEnd}
+use Rattle.iim_unpack.specs.Admitted.{Value, Admits, object_of}
+use Rattle.iim_unpack.specs.Parts.{object_so_far}
+use Rattle.iim_unpack.specs.Unpacking.{IsTextOf, Adds}
+
+pub record TextLaws : Type 0 where
+  pub way : OctetsAreHandedOnOneWay
+  pub tell : EventsTellTheDatasets
+  pub texts : TextsStandBetweenStxAndEtx
+  pub counts : TextsAreCountedAsLines
+
+nothing_begun : IsBegun count_octets (InTag []) []
+nothing_begun =
+    let head : Head = record { rec = 0; set = 0; count = number (0 ∷ 0 ∷ []) } in
+    let tag : List ℕ = 28 ∷ 0 ∷ 0 ∷ 0 ∷ 0 ∷ [] in
+    let spells : SpellsTag count_octets head tag = record {
+      rec = lit< tt;
+      set = lit< tt;
+      count = 0 ∷ 0 ∷ [];
+      is_count = inl (lit< tt, lit< tt, refl, refl);
+      parts = refl;
+    } in
+    (refl, head, tag, spells, (tag, lit< tt, refl))
+
+reads_whole : (octets : List ℕ) (ds : List Dataset) → SpellsStream count_octets ds octets → Reads octets ds (InTag [])
+reads_whole octets ds spelled = record { front = octets; rest = []; is_front = spelled; is_rest = nothing_begun; parts = sym (append-nil octets) }
+
+no_text : IsTextOf [] []
+no_text = ([], InTag [], reads_whole [] [] refl, refl)
+
+text_of_message : TextsStandBetweenStxAndEtx → (object text trailer : List ℕ) (head : Header) (lines : List (List ℕ)) → IsMessage object head text trailer → IsText text lines
+    → text ≡ text_so_far object
+text_of_message law object text trailer head lines m are =
+    law object text (AfterEnd head (record { items = trailer }) (length m.after)) (record {
+      is_place = (m.is_header, m.is_trailer, m.is_after.2);
+      spelled = (m, refl);
+      story = (lines, are);
+    })
+
+-- The text in an envelope has the lines of its value.
+text_of_value : TextLaws → (octets text : List ℕ) (v : Value) → Admits octets v → IsTextOf octets text → IsText text v.lines
+text_of_value laws octets text v admits (whole, begun, reads, is) =
+    let hands : HandsOn octets (handed_on whole begun) begun = record { whole = whole; reads = reads; handed = refl } in
+    let gives : HandsOn octets (handed_on admits.datasets (InTag [])) (InTag []) =
+    record { whole = admits.datasets; reads = reads_whole octets admits.datasets admits.spelled; handed = refl } in
+    let way = laws.way octets (handed_on whole begun) (handed_on admits.datasets (InTag [])) begun (InTag []) hands gives in
+    let told = laws.tell whole admits.datasets begun (InTag []) way.0 in
+    let object : object_so_far whole begun ≡ object_of admits.datasets =
+    ap (λ (ds : List Dataset). object_so_far ds begun) told.0 ∙ ap (object_so_far admits.datasets) way.1 in
+    let same : admits.text ≡ text =
+    text_of_message laws.texts (object_of admits.datasets) admits.text v.trailer v.head v.lines admits.message admits.lines
+    ∙ sym (is ∙ ap text_so_far object) in
+    subst (λ (t : List ℕ). IsText t v.lines) same admits.lines
+
+-- The words of an envelope are counted, from a count of none on.
+pub words_of_value : TextLaws → (octets : List ℕ) (more : List Event) (v : Value) (old new : WordsSoFar) → Admits octets v → Adds [] octets more
+    → old.words ≡ 0 → old.inside ≡ false → CountsWords old more new → new.words ≡ capped (words v.lines)
+words_of_value laws octets more v old new admits adds none outside counts =
+    let (added, is, delivers) = adds [] no_text in
+    laws.counts added v.lines old new (text_of_value laws octets added v admits is) none outside
+    (subst (λ (events : List Event). CountsWords old events new) delivers counts)

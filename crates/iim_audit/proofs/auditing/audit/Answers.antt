@@ -1,0 +1,101 @@
+use Rattle.std.proofs.Common.{◌≡◌, None, Option, [], length, ap, sym, subst, arith, List, Result, Ok, ◌+◌, IsErrAnd}
+use Rattle.iim_dataset.specs.Devices.{Device}
+use Rattle.iim_unpack.specs.Intakes.{line}
+use Rattle.iim_audit.specs.Auditing.{IsAudited}
+use Rattle.iim_audit.specs.Taking.{Took}
+use Rattle.iim_audit.specs.declared.row.AuditRow.{AuditRow}
+use Rattle.iim_audit.specs.declared.row.Taken.{Taken}
+use Rattle.iim_audit.proofs.Reading.{come_none, audited, fails, one_too_many, short_after, read_one}
+use Rattle.iim_audit.proofs.auditing.audit.Goals as goal
+
+never : {T E : Type 0} (r : Result T E) (x : T) (P : E → Type 0) → r ≡ Ok x → IsErrAnd r P → ⊥
+never {T} {E} r x P is err =
+    let Q : Result T E → Type 0 = λ s. IsErrAnd s P in
+    subst Q is err
+
+pub envelopes-init : goal.envelopes-init
+envelopes-init g c =
+    let here : Device = line g.R.Source.state c.args.intake.now in
+    let none : length c.new-ledger.result.rows.items ≡ 0 = ap length c.new-ledger.ensures.empty in
+    record {
+      auditing = record {
+        few = omega arith;
+        reads = λ alive. record {
+          envelopes = [];
+          come = come_none c.args.limits here c.gifts_join.ensures;
+          keeps = c.new-ledger.ensures.keeps c.args.now.nanosecond;
+          lives = alive;
+        };
+        again = λ octet e. (e, none);
+      };
+      leads = g.met.R.Source.stays c.args.intake.now.reader;
+    }
+
+pub returns-in-Ok-None-clause-audited : goal.returns-in-Ok-None-clause-audited
+returns-in-Ok-None-clause-audited g c = λ alive.
+    let st = g.R.Source.state in
+    let read = c.envelopes.invariant.auditing.reads alive in
+    let now = c.args.now.nanosecond in
+    let old : Device = line st c.args.intake.now in
+    let mid : Device = line st c.envelopes.intake in
+    let new : Device = line st c.take_envelope.new.intake in
+    let P : Option Taken → Type 0 = λ found. Took c.args.limits mid new found in
+    let took : Took c.args.limits mid new None = subst P c.in-Ok-None.field-0-is (c.in-Ok-None.ensures.took read.lives) in
+    let Q = λ (rows : List AuditRow). IsAudited c.args.limits now old new rows in
+    subst Q (sym c.into_report.ensures)
+    (audited c.args.limits now old mid new c.envelopes.ledger c.envelopes.intake.failed c.gifts_join.ensures c.envelopes.invariant.auditing.few read took)
+
+pub returns-in-Err-clause-fails : goal.returns-in-Err-clause-fails
+returns-in-Err-clause-fails g c = λ alive.
+    let st = g.R.Source.state in
+    let read = c.envelopes.invariant.auditing.reads alive in
+    fails c.args.limits c.args.now.nanosecond (line st c.args.intake.now) (line st c.envelopes.intake) (line st c.take_envelope.new.intake)
+    c.envelopes.ledger c.envelopes.intake.failed c.next_number-number.result c.in-Err.cause c.gifts_join.ensures
+    c.envelopes.invariant.auditing.few c.next_number-number.ensures read (c.in-Err.ensures.none read.lives)
+
+pub returns-then-number-gt-MAX_ENVELOPES-clause-fails :
+    goal.returns-then-number-gt-MAX_ENVELOPES-clause-fails
+returns-then-number-gt-MAX_ENVELOPES-clause-fails g c = λ alive.
+    let st = g.R.Source.state in
+    let read = c.envelopes.invariant.auditing.reads alive in
+    let mid : Device = line st c.envelopes.intake in
+    let new : Device = line st c.take_envelope.new.intake in
+    let P : Option Taken → Type 0 = λ found. Took c.args.limits mid new found in
+    one_too_many c.args.limits c.args.now.nanosecond (line st c.args.intake.now) mid new
+    c.envelopes.ledger c.envelopes.intake.failed c.next_number-number.result c.in-Ok-Some.got c.gifts_join.ensures
+    c.envelopes.invariant.auditing.few c.next_number-number.ensures (omega arith) read
+    (subst P c.in-Ok-Some.field-0-is (c.in-Ok-Some.ensures.took read.lives))
+
+pub returns-in_default-clause-fails : goal.returns-in_default-clause-fails
+returns-in_default-clause-fails g c = λ alive.
+    let st = g.R.Source.state in
+    let read = c.envelopes.invariant.auditing.reads alive in
+    let mid : Device = line st c.envelopes.intake in
+    let new : Device = line st c.take_envelope.new.intake in
+    let P : Option Taken → Type 0 = λ found. Took c.args.limits mid new found in
+    short_after c.args.limits c.args.now.nanosecond (line st c.args.intake.now) mid new
+    c.envelopes.ledger c.envelopes.intake.failed c.next_number-number.result c.in-Ok-Some.got c.gifts_join.ensures
+    (omega arith) c.next_number-number.ensures read
+    (subst P c.in-Ok-Some.field-0-is (c.in-Ok-Some.ensures.took read.lives))
+
+pub envelopes-preserved : goal.envelopes-preserved
+envelopes-preserved g c =
+    let st = g.R.Source.state in
+    let before = c.envelopes.invariant.auditing in
+    let mid : Device = line st c.envelopes.intake in
+    let new : Device = line st c.take_envelope.new.intake in
+    let P : Option Taken → Type 0 = λ found. Took c.args.limits mid new found in
+    let one : length c.enter.new.self.rows.items ≡ length c.envelopes.ledger.rows.items + 1 = c.in-Ok.ensures.one in
+    record {
+      auditing = record {
+        few = omega arith;
+        reads = λ alive.
+            let read = before.reads alive in
+            read_one c.args.limits c.args.now.nanosecond (line st c.args.intake.now) mid new c.envelopes.ledger c.enter.new.self
+            c.envelopes.intake.failed c.take_envelope.new.intake.failed c.in-Ok-Some.got c.gifts_join.ensures
+            c.in-Ok-Some.ensures.lives c.in-Ok.ensures.keeps read (subst P c.in-Ok-Some.field-0-is (c.in-Ok-Some.ensures.took read.lives));
+        again = λ octet e. absurd (never c.take_envelope.result _ _ c.in-Ok-Some.is (c.take_envelope.ensures.again octet (before.again octet e).0));
+      };
+      leads = g.met.R.Source.goes_on c.args.intake.now.reader c.envelopes.intake.reader c.take_envelope.new.intake.reader
+          c.envelopes.invariant.leads c.take_envelope.ensures.leads;
+    }

@@ -1,0 +1,14 @@
+use Rattle.std.proofs.Common.{◌+◌, ◌-◌, length}
+use Rattle.iim_unpack.specs.Intakes.{line}
+use Rattle.iim_unpack.specs.Listing.{max_envelopes}
+use Rattle.iim_audit.proofs.Reading.{IsAuditing}
+use Rattle.iim_audit.proofs.auditing.audit.Given as goal
+
+abbrev pub invariant-envelopes : goal.invariant-envelopes
+invariant-envelopes g l = record {
+  auditing : IsAuditing l.limits l.now.nanosecond l.fn.intake.failed (line g.R.Source.state l.fn.intake) (line g.R.Source.state l.intake) l.ledger l.intake.failed;
+  leads : g.R.Source.leads l.fn.intake.reader l.intake.reader;
+}
+
+abbrev pub decreases-envelopes : goal.decreases-envelopes
+decreases-envelopes g l = max_envelopes + 1 - length l.ledger.rows.items

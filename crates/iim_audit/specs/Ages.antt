@@ -1,0 +1,23 @@
+-- How old an envelope is.
+use Rattle.std.specs.Prelude.{ℤ, pos, ◌-ℤ◌, ◌*ℤ◌, ◌≤ℤ◌, Option, List}
+use Rattle.std.specs.Int.{int_div_euclid}
+use Rattle.std.specs.Option.{option_map}
+use Rattle.iim_dataset.specs.Datasets.{Dataset}
+use Rattle.iim_fields.specs.Views.{instant_sent}
+
+-- the whole seconds in so many nanoseconds, rounded down
+abbrev pub whole_seconds : ℤ → ℤ
+whole_seconds nanoseconds = int_div_euclid nanoseconds (pos 1000000000)
+
+-- the whole seconds from the instant sent to now, where these data name one
+abbrev pub age_at : ℤ → List Dataset → Option ℤ
+age_at now fields = option_map (λ sent. whole_seconds (now -ℤ sent)) (instant_sent fields)
+
+-- The seconds are the greatest whole number of them that is not above the nanoseconds.
+pub record IsFloor (nanoseconds seconds : ℤ) : Type 0 where
+  pub below : (seconds *ℤ pos 1000000000) ≤ℤ nanoseconds
+  pub greatest : (others : ℤ) → (others *ℤ pos 1000000000) ≤ℤ nanoseconds → others ≤ℤ seconds
+
+-- Whole seconds are rounded down, below zero too.
+abbrev pub WholeSecondsAreFloors : Type 0
+WholeSecondsAreFloors = (nanoseconds : ℤ) → IsFloor nanoseconds (whole_seconds nanoseconds)

@@ -1,0 +1,72 @@
+-- The text of a report.
+use Rattle.std.specs.Prelude.{ℕ, ◌+◌, ◌/◌, ◌%◌, ◌==◌, ◌&&◌, not, ℤ, Bool, if◌then◌else◌, nat_le, nat_lt, List, [], ◌∷◌, ◌++◌, length, count_by, codes, decimal, Option, Some, None, is_some}
+use Rattle.std.specs.Fmt.{signed_decimal}
+use Rattle.std.specs.List.{flat_map}
+use Rattle.std.specs.Option.{unwrap_or}
+use Rattle.iim_audit.specs.declared.row.AuditRow.{AuditRow}
+
+-- the digit of a number below 16: 0 to 9, A to F
+abbrev pub hex_digit : ℕ → ℕ
+hex_digit n = if nat_lt n 10 then 48 + n else 55 + n
+
+-- \x and the two digits of an octet
+abbrev pub escape : ℕ → List ℕ
+escape octet = 92 ∷ 120 ∷ hex_digit (octet / 16) ∷ hex_digit (octet % 16) ∷ []
+
+-- Octets from 20 to 7E stand for themselves, but for the backslash.
+abbrev pub is_plain : ℕ → Bool
+is_plain octet = nat_le 32 octet && nat_le octet 126 && not (octet == 92)
+
+-- an octet as itself, or as \x and two digits
+abbrev pub shown_octet : ℕ → List ℕ
+shown_octet octet = if is_plain octet then octet ∷ [] else escape octet
+
+abbrev pub shown : List ℕ → List ℕ
+shown octets = flat_map shown_octet octets
+
+-- a digit, or `-` where there is none
+abbrev pub digit_or_dash : Option ℕ → ℕ
+digit_or_dash digit = unwrap_or digit 45
+
+-- a number, or `-` where there is none
+abbrev pub number_or_dash : Option ℕ → List ℕ
+number_or_dash None = codes "-"
+number_or_dash (Some n) = decimal n
+
+-- a number of seconds, with `-` before one below zero, or `-` alone where there is none
+abbrev pub seconds_or_dash : Option ℤ → List ℕ
+seconds_or_dash None = codes "-"
+seconds_or_dash (Some n) = signed_decimal n
+
+-- service, number and date sent, after the row's number
+abbrev pub known_by : ℕ → AuditRow → List ℕ
+known_by number row = decimal number ++ (codes " " ++ (shown row.id.service ++ (codes " " ++ (row.id.number ++ (codes " " ++ row.id.date_sent)))))
+
+-- the sizes, and the words announced and counted
+abbrev pub sizes_of : AuditRow → List ℕ
+sizes_of row = codes " size " ++ (decimal row.size ++ (codes " subfiles " ++ (decimal row.subfiles ++ (codes " words " ++ (decimal row.announced ++ (codes "/" ++ decimal row.counted))))))
+
+-- the age, and the first envelope with the same id
+abbrev pub ages_of : AuditRow → List ℕ
+ages_of row = codes " age " ++ (seconds_or_dash row.age ++ (codes " repeats " ++ (number_or_dash row.first ++ codes "\n")))
+
+-- the line of a row
+abbrev pub row_line : ℕ → AuditRow → List ℕ
+row_line number row = known_by number row ++ (codes " priority " ++ (digit_or_dash row.priority ∷ (sizes_of row ++ ages_of row)))
+
+-- a line for each row, in their order, numbered from n
+abbrev pub lines_from : ℕ → List AuditRow → List ℕ
+lines_from n [] = []
+lines_from n (row ∷ rows) = row_line n row ++ lines_from (n + 1) rows
+
+-- how many rows repeat an earlier one
+abbrev pub repeated : List AuditRow → ℕ
+repeated rows = count_by (λ row. is_some row.first) rows
+
+-- the last line
+abbrev pub sums_line : List AuditRow → List ℕ
+sums_line rows = decimal (length rows) ++ (codes " envelopes, " ++ (decimal (repeated rows) ++ codes " repeated\n"))
+
+-- what is printed of a report
+abbrev pub text_of : List AuditRow → List ℕ
+text_of rows = lines_from 1 rows ++ sums_line rows

@@ -1,0 +1,48 @@
+//! Why there is no report.
+
+use iim_unpack::{IntakeFault, Refusal};
+use thiserror::Error;
+
+/// What stopped an audit.
+#[derive(Clone, Copy, Debug, PartialEq, Eq, Error)]
+pub enum AuditCause {
+    /// The envelope was refused, or the input ends in it; or the intake had answered a fault before.
+    #[error("cause {}", .0.cause.name())]
+    Refused(Refusal),
+    /// The reader failed: cause 71.
+    #[error("the input cannot be read")]
+    Read,
+    /// A million interruptions of the reader came in a row: cause 72.
+    #[error("the input is interrupted again and again")]
+    Interrupted,
+    /// Memory was refused: cause 70.
+    #[error("out of memory")]
+    OutOfMemory,
+    /// There are 1,000,000 envelopes, and it is one more: cause 90.
+    #[error("too many envelopes")]
+    TooManyEnvelopes,
+}
+
+/// What stopped an audit, and at which envelope.
+#[derive(Clone, Copy, Debug, PartialEq, Eq, Error)]
+#[error("envelope {envelope}: {cause}")]
+pub struct AuditFault {
+    /// The number of the envelope in hand, from 1.
+    pub envelope: u64,
+    /// What stopped the audit at it.
+    pub cause: AuditCause,
+}
+
+ghost use Rattle.std.specs.Prelude.{◌≡◌};
+ghost use Rattle.iim_audit.specs.Faults.{cause_of};
+
+/// The cause for a fault of an intake.
+pub(crate) fn cause_of(fault: IntakeFault) -> AuditCause
+    ensures { result ≡ cause_of fault }
+{
+    match fault {
+        IntakeFault::Refused(refusal) => AuditCause::Refused(refusal),
+        IntakeFault::Read => AuditCause::Read,
+        IntakeFault::Interrupted => AuditCause::Interrupted,
+    }
+}

@@ -1,0 +1,23 @@
+//! Audits a stream of envelopes: a row for each, with its id, its sizes, its words, its age, and which of them repeats which.
+//!
+//! Stands on `iim_unpack`, and on the crates below it for what an envelope's views tell. The crate above uses [`audit`],
+//! whose report is a function of the list of envelopes and of the present instant.
+#![tactic(auto)]
+
+mod age;
+mod auditing;
+mod fault;
+mod ledger;
+mod report;
+mod row;
+mod shown;
+#[cfg(test)]
+mod tests;
+mod text;
+
+pub use age::whole_seconds_are_floors;
+pub use auditing::audit;
+pub use fault::{AuditCause, AuditFault};
+pub use report::Report;
+pub use row::AuditRow;
+pub use text::report_text;

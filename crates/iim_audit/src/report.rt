@@ -1,0 +1,30 @@
+//! The report of an audit.
+
+ghost use Rattle.std.specs.Prelude.{◌≡◌};
+
+use crate::row::AuditRow;
+use std::marker::Model;
+
+/// A row for each envelope, in their order. Contracts see it as the list of its rows.
+#[derive(Debug, Drop)]
+pub struct Report {
+    pub(crate) rows: Vec<AuditRow>,
+}
+
+impl Model for Report {
+    ghost use Rattle.std.specs.Prelude.{List};
+    ghost use Rattle.iim_audit.specs.declared.row.AuditRow.{AuditRow as Row};
+
+    ghost Value = { List Row };
+
+    ghost view = { λ report. report.rows.items };
+}
+
+impl Report {
+    /// The rows, in the order of the envelopes.
+    pub fn rows(&self) -> &[AuditRow]
+        ensures { result.now ≡ self.now }
+    {
+        &self.rows
+    }
+}

@@ -1,0 +1,435 @@
+-- The first fault is that of the cause of the lowest number whose condition holds.
+use Rattle.std.proofs.Common.{◌≡◌, ◌≢◌, ℕ, ◌+◌, ◌<◌, ◌≤◌, ◌⊎◌, Bool, true, false, not, ◌&&◌, ◌||◌, cond, nat_eq, nat_le, List, [], ◌∷◌, length, refl, ap, sym, ◌∙◌, inl, inr, arith, subst, Option, Some, None}
+use Rattle.std.specs.Prelude.{IsSomeAnd, IsTrue}
+use Rattle.std.specs.List.{find, list_any}
+use Rattle.std.specs.Option.{option_or}
+use Rattle.std.proofs.lemmas.Bool.{and_parts, and_from, or_cases, or_parts, eqb-true, leb-true, leb-false}
+use Rattle.std.proofs.lemmas.Bool.Decides.{eqb_tells}
+use Rattle.iim_dataset.specs.Octets.{number}
+use Rattle.iim_dataset.specs.Datasets.{Dataset, head_of}
+use Rattle.iim_dataset.specs.declared.head.Head.{Head}
+use Rattle.iim_tables.specs.Octets.{within}
+use Rattle.iim_tables.specs.Rows.{row_of, is_admitted}
+use Rattle.iim_tables.specs.declared.shape.Row.{Row}
+use Rattle.iim_fields.specs.Records.{after, mandatory, may_repeat, occurs, is_file_format, has_file_format}
+use Rattle.iim_fields.specs.Faults.{present_record, present_run, is_first, is_in_order, fault_on, row_fault, missing_fault, missing_of, is_kept, kept, kept_octets, limits_fault, first_fault, value_fault, fault_by_row}
+use Rattle.iim_fields.specs.Causes.{Token, IsInPresent, BeginsNext, IsOutOfOrder, HasNoRow, IsRepeated, IsOutOfRange, IsAbsent, EndsTooEarly, IsBad, IsOtherFormat, PassesOctets, PassesFields, number_of_cause, Holds, Names, IsFault, HasNoFault}
+use Rattle.iim_fields.specs.Causes.Token.{AtHead, AtValue}
+use Rattle.iim_fields.specs.Laws.{Tells, HeadsTellTheLowestCause, ValuesTellTheLowestCause}
+use Rattle.iim_fields.specs.declared.limits.Limits.{Limits}
+use Rattle.iim_fields.specs.declared.fault.FieldFault.{FieldFault}
+use Rattle.iim_fields.specs.declared.fault.FieldCause.{FieldCause}
+use Rattle.iim_fields.specs.declared.fault.FieldCause.TheVariants.{RecordOrder, UnknownDataset, Repeated, CountRange, Missing, BadValue, FileFormat, HeaderFull, TooManyFields}
+use Rattle.iim_fields.proofs.Table.{mandatory_is}
+use Rattle.iim_fields.proofs.Runs.{eq_itself}
+use Rattle.iim_fields.proofs.Dies.{next_is}
+
+-- ---- one fault at most
+
+-- the cause of a number
+cause_numbered : ℕ → FieldCause
+cause_numbered n =
+    cond (nat_eq n 10) RecordOrder
+    (cond (nat_eq n 11) UnknownDataset
+    (cond (nat_eq n 12) Repeated
+    (cond (nat_eq n 13) CountRange
+    (cond (nat_eq n 14) Missing
+    (cond (nat_eq n 15) BadValue
+    (cond (nat_eq n 16) FileFormat
+    (cond (nat_eq n 50) HeaderFull TooManyFields)))))))
+
+numbered_is : (c : FieldCause) → cause_numbered (number_of_cause c) ≡ c
+unfolding cause_numbered
+numbered_is RecordOrder = refl
+numbered_is UnknownDataset = refl
+numbered_is Repeated = refl
+numbered_is CountRange = refl
+numbered_is Missing = refl
+numbered_is BadValue = refl
+numbered_is FileFormat = refl
+numbered_is HeaderFull = refl
+numbered_is TooManyFields = refl
+
+-- causes of one number are one
+same_cause : (c e : FieldCause) → number_of_cause c ≡ number_of_cause e → c ≡ e
+same_cause c e same = sym (numbered_is c) ∙ (ap cause_numbered same ∙ numbered_is e)
+
+one_name : (c : FieldCause) (ds : List Dataset) (t : Token) (r s q n : ℕ) → Names c ds t r s → Names c ds t q n → (r ≡ q) × (s ≡ n)
+one_name Missing ds t r s q n f g =
+    let low : s ≤ n = f.2 n g.1 in
+    let high : n ≤ s = g.2 s f.1 in (f.0 ∙ sym g.0, omega arith)
+one_name RecordOrder ds t r s q n f g = (f.0 ∙ sym g.0, f.1 ∙ sym g.1)
+one_name UnknownDataset ds t r s q n f g = (f.0 ∙ sym g.0, f.1 ∙ sym g.1)
+one_name Repeated ds t r s q n f g = (f.0 ∙ sym g.0, f.1 ∙ sym g.1)
+one_name CountRange ds t r s q n f g = (f.0 ∙ sym g.0, f.1 ∙ sym g.1)
+one_name BadValue ds t r s q n f g = (f.0 ∙ sym g.0, f.1 ∙ sym g.1)
+one_name FileFormat ds t r s q n f g = (f.0 ∙ sym g.0, f.1 ∙ sym g.1)
+one_name HeaderFull ds t r s q n f g = (f.0 ∙ sym g.0, f.1 ∙ sym g.1)
+one_name TooManyFields ds t r s q n f g = (f.0 ∙ sym g.0, f.1 ∙ sym g.1)
+
+-- a number that neither is below the other of
+neither_below : (m n : ℕ) → (m < n → ⊥) → (n < m → ⊥) → m ≡ n
+neither_below m n low high = omega (arith, low, high)
+
+one_fault : (limits : Limits) (ds : List Dataset) (t : Token) (f g : FieldFault) → IsFault limits ds t f → IsFault limits ds t g → f ≡ g
+one_fault limits ds t f g is also =
+    let same : f.cause ≡ g.cause = same_cause f.cause g.cause
+    (neither_below (number_of_cause f.cause) (number_of_cause g.cause) (λ below. also.lowest f.cause below is.holds) (λ below. is.lowest g.cause below also.holds)) in
+    let both = one_name f.cause ds t f.rec f.set g.rec g.set is.names (subst (λ (c : FieldCause). Names c ds t g.rec g.set) (sym same) also.names) in
+    λ i. record { rec = both.0 i; set = both.1 i; cause = same i }
+
+-- ---- what the tests of the order say
+
+not_zero : (r : ℕ) → not (nat_eq r 0) ≡ true → r ≢ 0
+not_zero r h e = let bad : not (nat_eq r 0) ≡ false = ap (λ (n : ℕ). not (nat_eq n 0)) e in cc
+
+is_not_zero : (r : ℕ) → r ≢ 0 → not (nat_eq r 0) ≡ true
+is_not_zero r h = elim (eqb_tells r 0) [ inl zero_is ↦ absurd (h zero_is.1) | inr other ↦ ap not other.0 ]
+
+in_order : (ds : List Dataset) (h : Head) → is_in_order (present_record ds) h.rec ≡ true → IsInPresent ds h ⊎ BeginsNext ds h
+in_order ds h is = elim (or_cases (nat_eq h.rec (present_record ds) && not (nat_eq h.rec 0)) (is_first h.rec (after (present_record ds))) is) [
+  | inl same ↦
+      let parts = and_parts (nat_eq h.rec (present_record ds)) (not (nat_eq h.rec 0)) same in
+      inl (not_zero h.rec parts.1, eqb-true h.rec (present_record ds) parts.0)
+  | inr first ↦ inr (after h.rec, next_is (present_record ds) h.rec first)
+]
+
+begins : (ds : List Dataset) (h : Head) → BeginsNext ds h → is_first h.rec (after (present_record ds)) ≡ true
+begins ds h (later, is) = ap (is_first h.rec) is ∙ eq_itself h.rec
+
+out_of_order : (ds : List Dataset) (h : Head) → is_in_order (present_record ds) h.rec ≡ false → IsOutOfOrder ds h
+out_of_order ds h is =
+    let parts = or_parts (nat_eq h.rec (present_record ds) && not (nat_eq h.rec 0)) (is_first h.rec (after (present_record ds))) is in
+    λ may. elim may [
+      | inl present ↦
+          let same : nat_eq h.rec (present_record ds) ≡ true = ap (nat_eq h.rec) (sym present.1) ∙ eq_itself h.rec in
+          let bad = and_from (nat_eq h.rec (present_record ds)) (not (nat_eq h.rec 0)) same (is_not_zero h.rec present.0) in
+          let no = parts.0 in cc (bad, no)
+      | inr next ↦ let bad = begins ds h next in let no = parts.1 in cc (bad, no)
+    ]
+
+-- ---- what is missing
+
+-- the numbers rise, and none is below `low`
+abbrev Rise : ℕ → List ℕ → Type 0
+Rise low [] = Unit {0}
+Rise low (n ∷ ns) = (low ≤ n) × Rise n ns
+
+either_rise : (b : Bool) (xs ys : List ℕ) → Rise 0 xs → Rise 0 ys → Rise 0 (cond b xs ys)
+either_rise true xs ys h k = h
+either_rise false xs ys h k = k
+
+mandatory_rise : (r : ℕ) → Rise 0 (mandatory r)
+mandatory_rise r = subst (Rise 0) (sym (mandatory_is r))
+    (either_rise (nat_eq r 1) (0 ∷ 20 ∷ 22 ∷ 30 ∷ 40 ∷ 70 ∷ []) _ (omega arith, (omega arith, (omega arith, (omega arith, (omega arith, (omega arith, tt))))))
+    (either_rise (nat_eq r 2) (0 ∷ []) _ (omega arith, tt)
+    (either_rise (nat_eq r 7) (10 ∷ 20 ∷ []) _ (omega arith, (omega arith, tt))
+    (either_rise (nat_eq r 8) (10 ∷ []) _ (omega arith, tt)
+    (either_rise (nat_eq r 9) (10 ∷ []) [] (omega arith, tt) tt)))))
+
+not_below : (low m : ℕ) (ns : List ℕ) → Rise low ns → list_any (λ k. nat_eq k m) ns ≡ true → low ≤ m
+not_below low m [] rise h = absurd cc
+not_below low m (n ∷ ns) rise h = elim (or_cases (nat_eq n m) (list_any (λ k. nat_eq k m) ns) h) [
+  | inl same ↦ let is = eqb-true n m same in let low_n = rise.0 in omega arith
+  | inr later ↦ let above = not_below n m ns rise.1 later in let low_n = rise.0 in omega arith
+]
+
+or_left : (a b : Bool) → a ≡ true → (a || b) ≡ true
+or_left true b h = refl
+or_left false b h = absurd cc
+
+or_right : (a b : Bool) → b ≡ true → (a || b) ≡ true
+or_right true b h = refl
+or_right false b h = h
+
+-- what is found is one of them that did not occur, and none below it is one
+record IsLeast (has : ℕ → Bool) (ns : List ℕ) (n : ℕ) : Type 0 where
+  one : list_any (λ m. nat_eq m n) ns ≡ true
+  absent : has n ≡ false
+  least : (m : ℕ) → list_any (λ k. nat_eq k m) ns ≡ true → has m ≡ false → n ≤ m
+
+least_by : (has : ℕ → Bool) (low x : ℕ) (ns : List ℕ) (n : ℕ) (b : Bool) → has x ≡ b → Rise low (x ∷ ns) → (find (λ m. not (has m)) ns ≡ Some n → IsLeast has ns n)
+    → (cond (not b) (Some x) (find (λ m. not (has m)) ns)) ≡ Some n → IsLeast has (x ∷ ns) n
+least_by has low x ns n false is rise later h =
+    let same : x ≡ n = cc in record {
+      one = or_left (nat_eq x n) (list_any (λ m. nat_eq m n) ns) (ap (nat_eq x) (sym same) ∙ eq_itself x);
+      absent = ap has (sym same) ∙ is;
+      least = λ m some lacks. elim (or_cases (nat_eq x m) (list_any (λ k. nat_eq k m) ns) some) [
+        | inl here ↦ let at = eqb-true x m here in omega arith
+        | inr behind ↦ let above = not_below x m ns rise.1 behind in omega arith
+      ];
+    }
+least_by has low x ns n true is rise later h =
+    let l = later h in record {
+      one = or_right (nat_eq x n) (list_any (λ m. nat_eq m n) ns) l.one;
+      absent = l.absent;
+      least = λ m some lacks. elim (or_cases (nat_eq x m) (list_any (λ k. nat_eq k m) ns) some) [
+        | inl here ↦ let at : x ≡ m = eqb-true x m here in let bad : has m ≡ true = ap has (sym at) ∙ is in absurd (cc (bad, lacks))
+        | inr behind ↦ l.least m behind lacks
+      ];
+    }
+
+least_found : (has : ℕ → Bool) (low : ℕ) (ns : List ℕ) (n : ℕ) → Rise low ns → find (λ m. not (has m)) ns ≡ Some n → IsLeast has ns n
+least_found has low [] n rise h = absurd cc
+least_found has low (x ∷ ns) n rise h = least_by has low x ns n (has x) refl rise (λ later. least_found has x ns n rise.1 later) h
+
+none_by : (b : Bool) (x : ℕ) (rest : Option ℕ) → (cond (not b) (Some x) rest) ≡ None → (b ≡ true) × (rest ≡ None)
+none_by true x rest h = (refl, h)
+none_by false x rest h = absurd cc
+
+none_absent : (has : ℕ → Bool) (ns : List ℕ) (m : ℕ) → find (λ n. not (has n)) ns ≡ None → list_any (λ k. nat_eq k m) ns ≡ true → has m ≡ true
+none_absent has [] m none some = absurd cc
+none_absent has (x ∷ ns) m none some =
+    let parts = none_by (has x) x (find (λ n. not (has n)) ns) none in
+    elim (or_cases (nat_eq x m) (list_any (λ k. nat_eq k m) ns) some) [
+      | inl here ↦ ap has (sym (eqb-true x m here)) ∙ parts.0
+      | inr behind ↦ none_absent has ns m parts.1 behind
+    ]
+
+-- ---- heads
+
+-- what is told, is so
+abbrev Told : Limits → List Dataset → Token → Option FieldFault → Type 0
+Told limits ds t None = HasNoFault limits ds t
+Told limits ds t (Some f) = IsFault limits ds t f
+
+-- no condition of a cause below k holds
+lower : (limits : Limits) (ds : List Dataset) (h : Head) (k : ℕ) → (10 < k → IsOutOfOrder ds h → ⊥) → (11 < k → HasNoRow h → ⊥) → (12 < k → IsRepeated ds h → ⊥)
+    → (13 < k → IsOutOfRange h → ⊥) → (14 < k → EndsTooEarly ds h → ⊥) → (50 < k → PassesOctets limits ds h → ⊥) → (51 < k → PassesFields limits ds h → ⊥)
+    → (c : FieldCause) → number_of_cause c < k → Holds c limits ds (AtHead h) → ⊥
+lower limits ds h k order row again range missing octets fields RecordOrder below holds = order below holds
+lower limits ds h k order row again range missing octets fields UnknownDataset below holds = row below holds
+lower limits ds h k order row again range missing octets fields Repeated below holds = again below holds
+lower limits ds h k order row again range missing octets fields CountRange below holds = range below holds
+lower limits ds h k order row again range missing octets fields Missing below holds = missing below holds
+lower limits ds h k order row again range missing octets fields BadValue below holds = holds
+lower limits ds h k order row again range missing octets fields FileFormat below holds = holds
+lower limits ds h k order row again range missing octets fields HeaderFull below holds = octets below holds
+lower limits ds h k order row again range missing octets fields TooManyFields below holds = fields below holds
+
+-- nothing of the record layer is wrong with the head
+record IsClear (ds : List Dataset) (h : Head) : Type 0 where
+  order : IsOutOfOrder ds h → ⊥
+  row : HasNoRow h → ⊥
+  again : IsRepeated ds h → ⊥
+  range : IsOutOfRange h → ⊥
+  missing : EndsTooEarly ds h → ⊥
+
+no_more : (m n : ℕ) → nat_le m n ≡ true → n < m → ⊥
+no_more m n h below = let le = leb-true m n h in absurd (omega arith)
+
+room_by : (limits : Limits) (ds : List Dataset) (h : Head) (k a b : Bool) → IsClear ds h → is_kept h.rec ≡ k → nat_le (kept_octets ds + h.count) limits.octets ≡ a → nat_le (length (kept ds) + 1) limits.fields ≡ b
+    → Told limits ds (AtHead h) (cond (not k) None (cond (not a) (Some (fault_on h HeaderFull)) (cond (not b) (Some (fault_on h TooManyFields)) None)))
+room_by limits ds h false a b clear is octets fields = λ c holds. lower limits ds h (number_of_cause c + 1) (λ _. clear.order) (λ _. clear.row) (λ _. clear.again) (λ _. clear.range) (λ _. clear.missing)
+    (λ _ passes. let yes = passes.0 in cc (yes, is)) (λ _ passes. let yes = passes.0 in cc (yes, is)) c (omega arith) holds
+room_by limits ds h true false b clear is octets fields = record {
+  holds = (is, leb-false (kept_octets ds + h.count) limits.octets octets);
+  lowest = lower limits ds h 50 (λ _. clear.order) (λ _. clear.row) (λ _. clear.again) (λ _. clear.range) (λ _. clear.missing) (λ below. absurd (omega arith)) (λ below. absurd (omega arith));
+  names = (refl, refl);
+}
+room_by limits ds h true true false clear is octets fields = record {
+  holds = (is, leb-false (length (kept ds) + 1) limits.fields fields);
+  lowest = lower limits ds h 51 (λ _. clear.order) (λ _. clear.row) (λ _. clear.again) (λ _. clear.range) (λ _. clear.missing)
+      (λ _ passes. no_more (kept_octets ds + h.count) limits.octets octets passes.1) (λ below. absurd (omega arith));
+  names = (refl, refl);
+}
+room_by limits ds h true true true clear is octets fields = λ c holds. lower limits ds h (number_of_cause c + 1) (λ _. clear.order) (λ _. clear.row) (λ _. clear.again) (λ _. clear.range) (λ _. clear.missing)
+    (λ _ passes. no_more (kept_octets ds + h.count) limits.octets octets passes.1) (λ _ passes. no_more (length (kept ds) + 1) limits.fields fields passes.1) c (omega arith) holds
+
+room_told : (limits : Limits) (ds : List Dataset) (h : Head) → IsClear ds h → Told limits ds (AtHead h) (limits_fault limits ds h)
+room_told limits ds h clear = room_by limits ds h (is_kept h.rec) (nat_le (kept_octets ds + h.count) limits.octets) (nat_le (length (kept ds) + 1) limits.fields) clear refl refl refl
+
+-- the present record has no dataset of the number
+abbrev has_come : List Dataset → ℕ → Bool
+has_come ds n = occurs n (present_run ds)
+
+missing_by : (limits : Limits) (ds : List Dataset) (h : Head) (c : Bool) (m : Option ℕ) → (IsOutOfOrder ds h → ⊥) → (HasNoRow h → ⊥) → (IsRepeated ds h → ⊥) → (IsOutOfRange h → ⊥)
+    → is_first h.rec (after (present_record ds)) ≡ c → missing_of (present_record ds) (has_come ds) ≡ m
+    → Told limits ds (AtHead h) (option_or (cond c (missing_fault (present_record ds) m) None) (limits_fault limits ds h))
+missing_by limits ds h false m order row again range first found = room_told limits ds h record {
+  order = order;
+  row = row;
+  again = again;
+  range = range;
+  missing = λ ends. let yes = begins ds h ends.0 in cc (yes, first);
+}
+missing_by limits ds h true None order row again range first found = room_told limits ds h record {
+  order = order;
+  row = row;
+  again = again;
+  range = range;
+  missing = λ ends. let yes = none_absent (has_come ds) (mandatory (present_record ds)) ends.1.0 found ends.1.1.mandatory in let no = ends.1.1.absent in cc (yes, no);
+}
+missing_by limits ds h true (Some n) order row again range first found =
+    let least = least_found (has_come ds) 0 (mandatory (present_record ds)) n (mandatory_rise (present_record ds)) found in
+    let absent : IsAbsent ds n = record { mandatory = least.one; absent = least.absent } in
+    record {
+      holds = ((after h.rec, next_is (present_record ds) h.rec first), (n, absent));
+      lowest = lower limits ds h 14 (λ _. order) (λ _. row) (λ _. again) (λ _. range) (λ below. absurd (omega arith)) (λ below. absurd (omega arith)) (λ below. absurd (omega arith));
+      names = (refl, absent, λ m is. least.least m is.mandatory is.absent);
+    }
+
+is_repeated : (ds : List Dataset) (h : Head) (row : Row) → row_of h.rec h.set ≡ Some row → ((nat_eq h.rec (present_record ds) && has_come ds h.set) && not row.repeats) ≡ true → IsRepeated ds h
+is_repeated ds h row known t =
+    let parts = and_parts (nat_eq h.rec (present_record ds) && has_come ds h.set) (not row.repeats) t in
+    let came = and_parts (nat_eq h.rec (present_record ds)) (has_come ds h.set) parts.0 in
+    (ap may_repeat known ∙ not_true row.repeats parts.1, eqb-true h.rec (present_record ds) came.0, came.1)
+  where
+    not_true : (b : Bool) → not b ≡ true → b ≡ false
+    not_true true h = absurd cc
+    not_true false h = refl
+
+not_repeated : (ds : List Dataset) (h : Head) (row : Row) → row_of h.rec h.set ≡ Some row → ((nat_eq h.rec (present_record ds) && has_come ds h.set) && not row.repeats) ≡ false → IsRepeated ds h → ⊥
+not_repeated ds h row known t is =
+    let same : nat_eq h.rec (present_record ds) ≡ true = ap (nat_eq h.rec) (sym is.1) ∙ eq_itself h.rec in
+    let once : not row.repeats ≡ true = ap not (sym (ap may_repeat known) ∙ is.0) in
+    let bad = and_from (nat_eq h.rec (present_record ds) && has_come ds h.set) (not row.repeats) (and_from (nat_eq h.rec (present_record ds)) (has_come ds h.set) same is.2) once in
+    cc (bad, t)
+
+either_false : (a b : Bool) → (a && b) ≡ false → (a ≡ false) ⊎ (b ≡ false)
+either_false true b h = inr h
+either_false false b h = inl refl
+
+out_of_range : (h : Head) (row : Row) → row_of h.rec h.set ≡ Some row → within row.min row.max h.count ≡ false → IsOutOfRange h
+out_of_range h row known s =
+    let ends : (h.count < row.min) ⊎ (row.max < h.count) = elim (either_false (nat_le row.min h.count) (nat_le h.count row.max) s) [
+      | inl low ↦ inl (leb-false row.min h.count low)
+      | inr high ↦ inr (leb-false h.count row.max high)
+    ] in
+    subst (λ (o : Option Row). IsSomeAnd o (λ r. (h.count < r.min) ⊎ (r.max < h.count))) (sym known) ends
+
+in_range : (h : Head) (row : Row) → row_of h.rec h.set ≡ Some row → within row.min row.max h.count ≡ true → IsOutOfRange h → ⊥
+in_range h row known s is =
+    let parts = and_parts (nat_le row.min h.count) (nat_le h.count row.max) s in
+    let low = leb-true row.min h.count parts.0 in
+    let high = leb-true h.count row.max parts.1 in
+    elim (subst (λ (o : Option Row). IsSomeAnd o (λ r. (h.count < r.min) ⊎ (r.max < h.count))) known is) [
+      | inl below ↦ absurd (omega arith)
+      | inr above ↦ absurd (omega arith)
+    ]
+
+row_by : (limits : Limits) (ds : List Dataset) (h : Head) (row : Row) (t s : Bool) → (IsOutOfOrder ds h → ⊥) → row_of h.rec h.set ≡ Some row
+    → ((nat_eq h.rec (present_record ds) && has_come ds h.set) && not row.repeats) ≡ t → within row.min row.max h.count ≡ s
+    → Told limits ds (AtHead h) (option_or (option_or (cond t (Some (fault_on h Repeated)) (cond (not s) (Some (fault_on h CountRange)) None))
+    (cond (is_first h.rec (after (present_record ds))) (missing_fault (present_record ds) (missing_of (present_record ds) (has_come ds))) None)) (limits_fault limits ds h))
+row_by limits ds h row true s order known again range = record {
+  holds = is_repeated ds h row known again;
+  lowest = lower limits ds h 12 (λ _. order) (λ _ none. cc (known, none)) (λ below. absurd (omega arith)) (λ below. absurd (omega arith)) (λ below. absurd (omega arith)) (λ below. absurd (omega arith)) (λ below. absurd (omega arith));
+  names = (refl, refl);
+}
+row_by limits ds h row false false order known again range = record {
+  holds = out_of_range h row known range;
+  lowest = lower limits ds h 13 (λ _. order) (λ _ none. cc (known, none)) (λ _. not_repeated ds h row known again) (λ below. absurd (omega arith)) (λ below. absurd (omega arith)) (λ below. absurd (omega arith)) (λ below. absurd (omega arith));
+  names = (refl, refl);
+}
+row_by limits ds h row false true order known again range =
+    missing_by limits ds h (is_first h.rec (after (present_record ds))) (missing_of (present_record ds) (has_come ds)) order (λ none. cc (known, none)) (not_repeated ds h row known again) (in_range h row known range) refl refl
+
+head_by : (limits : Limits) (ds : List Dataset) (h : Head) (a : Bool) (o : Option Row) → is_in_order (present_record ds) h.rec ≡ a → row_of h.rec h.set ≡ o
+    → Told limits ds (AtHead h) (option_or (cond (not a) (Some (fault_on h RecordOrder)) (option_or (row_fault (nat_eq h.rec (present_record ds) && has_come ds h.set) o h)
+    (cond (is_first h.rec (after (present_record ds))) (missing_fault (present_record ds) (missing_of (present_record ds) (has_come ds))) None))) (limits_fault limits ds h))
+head_by limits ds h false o order known = record {
+  holds = out_of_order ds h order;
+  lowest = lower limits ds h 10 (λ below. absurd (omega arith)) (λ below. absurd (omega arith)) (λ below. absurd (omega arith)) (λ below. absurd (omega arith)) (λ below. absurd (omega arith)) (λ below. absurd (omega arith)) (λ below. absurd (omega arith));
+  names = (refl, refl);
+}
+head_by limits ds h true None order known = record {
+  holds = known;
+  lowest = lower limits ds h 11 (λ _ out. out (in_order ds h order)) (λ below. absurd (omega arith)) (λ below. absurd (omega arith)) (λ below. absurd (omega arith)) (λ below. absurd (omega arith)) (λ below. absurd (omega arith)) (λ below. absurd (omega arith));
+  names = (refl, refl);
+}
+head_by limits ds h true (Some row) order known =
+    row_by limits ds h row ((nat_eq h.rec (present_record ds) && has_come ds h.set) && not row.repeats) (within row.min row.max h.count) (λ out. out (in_order ds h order)) known refl refl
+
+head_told : (limits : Limits) (ds : List Dataset) (h : Head) → Told limits ds (AtHead h) (first_fault limits ds h)
+head_told limits ds h = head_by limits ds h (is_in_order (present_record ds) h.rec) (row_of h.rec h.set) refl refl
+
+-- ---- values
+
+lower_value : (limits : Limits) (ds : List Dataset) (d : Dataset) (k : ℕ) → (15 < k → IsBad d → ⊥) → (16 < k → IsOtherFormat d → ⊥)
+    → (c : FieldCause) → number_of_cause c < k → Holds c limits ds (AtValue d) → ⊥
+lower_value limits ds d k bad format RecordOrder below holds = holds
+lower_value limits ds d k bad format UnknownDataset below holds = holds
+lower_value limits ds d k bad format Repeated below holds = holds
+lower_value limits ds d k bad format CountRange below holds = holds
+lower_value limits ds d k bad format Missing below holds = holds
+lower_value limits ds d k bad format BadValue below holds = bad below holds
+lower_value limits ds d k bad format FileFormat below holds = format below holds
+lower_value limits ds d k bad format HeaderFull below holds = holds
+lower_value limits ds d k bad format TooManyFields below holds = holds
+
+other_format : (d : Dataset) → has_file_format d ≡ false → IsOtherFormat d
+other_format d is =
+    let parts = or_parts (not (is_file_format d)) (nat_eq (number d.octets) 2) is in
+    let format = and_parts (nat_eq d.rec 1) (nat_eq d.set 20) (not_false (is_file_format d) parts.0) in
+    (eqb-true d.rec 1 format.0, eqb-true d.set 20 format.1, λ two. let yes : nat_eq (number d.octets) 2 ≡ true = ap (λ (n : ℕ). nat_eq n 2) two in let no = parts.1 in cc (yes, no))
+  where
+    not_false : (b : Bool) → not b ≡ false → b ≡ true
+    not_false true h = refl
+    not_false false h = absurd cc
+
+right_format : (d : Dataset) → has_file_format d ≡ true → IsOtherFormat d → ⊥
+right_format d is other =
+    let one : nat_eq d.rec 1 ≡ true = ap (λ (n : ℕ). nat_eq n 1) other.0 in
+    let twenty : nat_eq d.set 20 ≡ true = ap (λ (n : ℕ). nat_eq n 20) other.1 in
+    elim (or_cases (not (is_file_format d)) (nat_eq (number d.octets) 2) is) [
+      | inl another ↦ let yes : not (is_file_format d) ≡ false = ap not (and_from (nat_eq d.rec 1) (nat_eq d.set 20) one twenty) in cc (yes, another)
+      | inr two ↦ other.2 (eqb-true (number d.octets) 2 two)
+    ]
+
+value_by : (limits : Limits) (ds : List Dataset) (d : Dataset) (row : Row) (a b : Bool) → row_of d.rec d.set ≡ Some row → is_admitted row d.octets ≡ a → has_file_format d ≡ b
+    → Told limits ds (AtValue d) (cond (not a) (Some (fault_on (head_of d) BadValue)) (cond (not b) (Some (fault_on (head_of d) FileFormat)) None))
+value_by limits ds d row false b known admitted format = record {
+  holds = λ meets. let yes : is_admitted row d.octets ≡ true = subst (λ (o : Option Row). IsSomeAnd o (λ r. IsTrue (is_admitted r d.octets))) known meets in cc (yes, admitted);
+  lowest = lower_value limits ds d 15 (λ below. absurd (omega arith)) (λ below. absurd (omega arith));
+  names = (refl, refl);
+}
+value_by limits ds d row true false known admitted format = record {
+  holds = other_format d format;
+  lowest = lower_value limits ds d 16 (λ _ bad. bad (subst (λ (o : Option Row). IsSomeAnd o (λ r. IsTrue (is_admitted r d.octets))) (sym known) admitted)) (λ below. absurd (omega arith));
+  names = (refl, refl);
+}
+value_by limits ds d row true true known admitted format = λ c holds. lower_value limits ds d (number_of_cause c + 1)
+    (λ _ bad. bad (subst (λ (o : Option Row). IsSomeAnd o (λ r. IsTrue (is_admitted r d.octets))) (sym known) admitted)) (λ _. right_format d format) c (omega arith) holds
+
+value_row : (limits : Limits) (ds : List Dataset) (d : Dataset) (o : Option Row) → row_of d.rec d.set ≡ o → Told limits ds (AtValue d) (fault_by_row o d)
+value_row limits ds d None known = record {
+  holds = λ meets. subst (λ (o : Option Row). IsSomeAnd o (λ r. IsTrue (is_admitted r d.octets))) known meets;
+  lowest = lower_value limits ds d 15 (λ below. absurd (omega arith)) (λ below. absurd (omega arith));
+  names = (refl, refl);
+}
+value_row limits ds d (Some row) known = value_by limits ds d row (is_admitted row d.octets) (has_file_format d) known refl refl
+
+value_told : (limits : Limits) (ds : List Dataset) (d : Dataset) → Told limits ds (AtValue d) (value_fault d)
+value_told limits ds d = value_row limits ds d (row_of d.rec d.set) refl
+
+-- ---- both ways
+
+told_some : (limits : Limits) (ds : List Dataset) (t : Token) (o : Option FieldFault) (f : FieldFault) → Told limits ds t o → o ≡ Some f → IsFault limits ds t f
+told_some limits ds t o f told is = subst (Told limits ds t) is told
+
+told_none : (limits : Limits) (ds : List Dataset) (t : Token) (o : Option FieldFault) → Told limits ds t o → o ≡ None → HasNoFault limits ds t
+told_none limits ds t o told is = subst (Told limits ds t) is told
+
+some_told : (limits : Limits) (ds : List Dataset) (t : Token) (o : Option FieldFault) (f : FieldFault) → Told limits ds t o → IsFault limits ds t f → o ≡ Some f
+some_told limits ds t None f told is = absurd (told f.cause is.holds)
+some_told limits ds t (Some g) f told is = ap (λ (x : FieldFault). Some x) (one_fault limits ds t g f told is)
+
+none_told : (limits : Limits) (ds : List Dataset) (t : Token) (o : Option FieldFault) → Told limits ds t o → HasNoFault limits ds t → o ≡ None
+none_told limits ds t None told none = refl
+none_told limits ds t (Some g) told none = absurd (none g.cause told.holds)
+
+pub head_fault_told : (limits : Limits) (ds : List Dataset) (h : Head) (f : FieldFault) → first_fault limits ds h ≡ Some f → IsFault limits ds (AtHead h) f
+head_fault_told limits ds h f is = told_some limits ds (AtHead h) (first_fault limits ds h) f (head_told limits ds h) is
+
+pub value_fault_told : (limits : Limits) (ds : List Dataset) (d : Dataset) (f : FieldFault) → value_fault d ≡ Some f → IsFault limits ds (AtValue d) f
+value_fault_told limits ds d f is = told_some limits ds (AtValue d) (value_fault d) f (value_told limits ds d) is
+
+tells : (limits : Limits) (ds : List Dataset) (t : Token) (o : Option FieldFault) → Told limits ds t o → Tells o limits ds t
+tells limits ds t o told = ((λ f. (told_some limits ds t o f told, some_told limits ds t o f told)), (told_none limits ds t o told, none_told limits ds t o told))
+
+pub heads_tell : HeadsTellTheLowestCause
+heads_tell limits ds h = tells limits ds (AtHead h) (first_fault limits ds h) (head_told limits ds h)
+
+pub values_tell : ValuesTellTheLowestCause
+values_tell limits ds d = tells limits ds (AtValue d) (value_fault d) (value_told limits ds d)

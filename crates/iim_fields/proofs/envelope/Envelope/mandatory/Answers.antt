@@ -1,0 +1,12 @@
+use Rattle.std.proofs.Common.{◌≡◌, true, subst, List}
+use Rattle.std.specs.Prelude.{is_some}
+use Rattle.iim_dataset.specs.Datasets.{Dataset}
+use Rattle.iim_fields.specs.Views.{first_data}
+use Rattle.iim_fields.specs.Builders.{fields_of}
+use Rattle.iim_fields.proofs.Mandatory.{found}
+use Rattle.iim_fields.proofs.envelope.Envelope.mandatory.Goals as goal
+
+pub unwrap-requires : goal.unwrap-requires
+unwrap-requires c =
+    let has = c.requires (fields_of c.self.inside.store) c.self.invariant.envelope in
+    found (λ x. x.now) c.first.result _ c.first.ensures.data (subst (λ (ds : List Dataset). is_some (first_data c.args.rec c.args.set ds) ≡ true) c.self.view_is has)

@@ -1,0 +1,249 @@
+//! Objects written at worked sizes, and to a target that fails at each call.
+
+use crate::{PackCause, Plan, Size, SubfileBuffer, SubfileWriter};
+use iim_dataset::{Target, TrialWriter, Trouble};
+use std::alloc::Global;
+use std::process::Abort;
+
+/// The object of the worked envelope without a text, 14 octets.
+const SHORT: &[u8] = b"\x01X1 4 N 0\r\n\x02\x03\x04";
+
+/// Records 7, 8 and 9 of it, in subfiles of 1,024 octets at most.
+const SHORT_OUT: &[u8] = b"\x1C\x07\x0A\x00\x01\x01\
+\x1C\x07\x14\x00\x04\x00\x00\x04\x00\
+\x1C\x07\x5A\x00\x04\x00\x00\x00\x0E\
+\x1C\x08\x0A\x00\x0E\x01X1 4 N 0\r\n\x02\x03\x04\
+\x1C\x09\x0A\x00\x04\x00\x00\x00\x0E";
+
+/// The object of the worked envelope with two lines, 50 octets.
+const LONG: &[u8] = b"\x01TST0007 4 ECO 5 rates\r\n\x02Rates stay.\r\nNo change.\x03\x04";
+
+/// Records 7, 8 and 9 of it, in subfiles of 1,024 octets at most.
+const LONG_OUT: &[u8] = b"\x1C\x07\x0A\x00\x01\x01\
+\x1C\x07\x14\x00\x04\x00\x00\x04\x00\
+\x1C\x07\x5A\x00\x04\x00\x00\x00\x32\
+\x1C\x08\x0A\x00\x32\x01TST0007 4 ECO 5 rates\r\n\x02Rates stay.\r\nNo change.\x03\x04\
+\x1C\x09\x0A\x00\x04\x00\x00\x00\x32";
+
+/// Three octets in subfiles of two, where no size is known but a maximum.
+const SMALL_OUT: &[u8] = b"\x1C\x07\x0A\x00\x01\x00\
+\x1C\x07\x14\x00\x04\x00\x00\x00\x02\
+\x1C\x07\x5F\x00\x04\x00\x00\x00\x05\
+\x1C\x08\x0A\x00\x02ab\
+\x1C\x08\x0A\x00\x01c\
+\x1C\x09\x0A\x00\x04\x00\x00\x00\x03";
+
+/// No octets, of which no size is known: one empty subfile.
+const EMPTY_OUT: &[u8] = b"\x1C\x07\x0A\x00\x01\x00\
+\x1C\x07\x14\x00\x04\x00\x00\x00\x02\
+\x1C\x08\x0A\x00\x00\
+\x1C\x09\x0A\x00\x04\x00\x00\x00\x00";
+
+fn plan(rt: &impl Abort, subfile: u64, size: Size) -> Plan {
+    match Plan::new(subfile, size) {
+        Some(plan) => plan,
+        None => panic!(rt; "plan"),
+    }
+}
+
+fn buffer(rt: &impl Abort, alloc: Global, subfile: u64, size: Size) -> SubfileBuffer {
+    match SubfileBuffer::reserve(alloc, plan(rt, subfile, size)) {
+        Ok(buffer) => buffer,
+        Err(_) => panic!(rt; "memory"),
+    }
+}
+
+/// A target that takes so many octets, one a call, and then fails.
+fn target(good: u64) -> TrialWriter<600> {
+    TrialWriter::new(good, Trouble::Failure)
+}
+
+/// The writer of a plan to a target that doesn't fail.
+fn started(
+    rt: &impl Abort,
+    alloc: Global,
+    subfile: u64,
+    size: Size,
+) -> SubfileWriter<TrialWriter<600>> {
+    match SubfileWriter::start(buffer(rt, alloc, subfile, size), target(1000)) {
+        Ok(writer) => writer,
+        Err(_) => panic!(rt; "start"),
+    }
+}
+
+/// What is written of an object by a plan, where `cut` octets are handed over at a time.
+fn written(
+    rt: &impl Abort,
+    alloc: Global,
+    subfile: u64,
+    size: Size,
+    object: &[u8],
+    cut: usize,
+) -> TrialWriter<600> {
+    let mut writer = started(rt, alloc, subfile, size);
+    assert!(rt; cut > 0);
+    for piece in object.chunks(cut) {
+        assert!(rt; writer.write(&[]).is_ok());
+        assert!(rt; writer.write(piece).is_ok());
+    }
+    assert_eq!(rt; writer.total(), object.len() as u64);
+    match writer.finish() {
+        Ok(target) => target,
+        Err(_) => panic!(rt; "finish"),
+    }
+}
+
+#[test]
+fn buffers_have_room_for_the_lesser_of_subfile_and_bound(rt: HostRuntime) {
+    let rows = [
+        (1, Size::Known(50), 1),
+        (7, Size::Known(50), 7),
+        (1024, Size::Known(50), 50),
+        (1024, Size::Known(0), 0),
+        (1024, Size::Unknown(Some(20)), 20),
+        (16, Size::Unknown(Some(20)), 16),
+        (1024, Size::Unknown(None), 1024),
+    ];
+    for (subfile, size, room) in rows {
+        let buffer = buffer(&rt, rt.alloc(), subfile, size);
+        assert_eq!(&rt; buffer.octets.capacity(), room, "{subfile}, {size:?}");
+        assert_eq!(&rt; buffer.octets.len(), 0);
+    }
+}
+
+#[test]
+fn worked_objects_are_written(rt: HostRuntime) {
+    let rows = [
+        (1024, Size::Known(14), SHORT, SHORT_OUT),
+        (1024, Size::Known(50), LONG, LONG_OUT),
+        (2, Size::Unknown(Some(5)), b"abc", SMALL_OUT),
+        (2, Size::Unknown(None), b"", EMPTY_OUT),
+    ];
+    for (subfile, size, object, octets) in rows {
+        for cut in 1..52 {
+            let target = written(&rt, rt.alloc(), subfile, size, object, cut);
+            assert!(&rt; target.octets() == octets, "{octets:?} in pieces of {cut}");
+        }
+    }
+}
+
+#[test]
+fn worked_subfiles(rt: HostRuntime) {
+    // Records 1 and 2 of the worked envelope have 158 octets.
+    for (subfile, octets) in [(1, 491), (7, 281), (1024, 246)] {
+        let target = written(&rt, rt.alloc(), subfile, Size::Known(50), LONG, 50);
+        assert_eq!(&rt; target.octets().len() + 158, octets);
+    }
+}
+
+#[test]
+fn causes_and_their_order(rt: HostRuntime) {
+    let mut known = started(&rt, rt.alloc(), 2, Size::Known(3));
+    let before = known.written();
+    assert_eq!(&rt; known.write(b"abcd"), Err(PackCause::PastAnnounced));
+    assert_eq!(&rt; (known.written(), known.total()), (before, 0));
+    assert_eq!(&rt; known.write(b"ab"), Ok(()));
+    let mut known = match known.finish() {
+        Ok(_) => panic!(&rt; "too short"),
+        Err((writer, cause)) => {
+            assert_eq!(&rt; cause, PackCause::ShortOfAnnounced);
+            writer
+        }
+    };
+    assert_eq!(&rt;
+        (known.written(), known.total(), known.is_failed()),
+        (before, 2, false)
+    );
+    assert_eq!(&rt; known.write(b"cd"), Err(PackCause::PastAnnounced));
+    assert_eq!(&rt; known.write(b"c"), Ok(()));
+    assert_eq!(&rt; known.write(b"d"), Err(PackCause::PastAnnounced));
+    assert_eq!(&rt; known.written(), before + 7);
+    assert!(&rt; known.finish().is_ok());
+}
+
+/// Writes three octets in subfiles of two to a target that takes so many octets and then fails: what is out, and how many the
+/// writer or the fault counts.
+fn broken(rt: &impl Abort, alloc: Global, good: u64) -> (TrialWriter<600>, u64) {
+    let buffer = buffer(rt, alloc, 2, Size::Unknown(Some(5)));
+    let mut writer = match SubfileWriter::start(buffer, target(good)) {
+        Ok(writer) => writer,
+        Err(fault) => {
+            assert!(rt; good < 24);
+            assert_eq!(rt; fault.cause, PackCause::Write);
+            return (fault.writer, fault.written);
+        }
+    };
+    match writer.write(b"abc") {
+        Ok(()) => assert!(rt; good >= 31),
+        Err(cause) => {
+            assert!(rt; good >= 24 && good < 31);
+            assert_eq!(rt; cause, PackCause::Write);
+        }
+    }
+    if !writer.is_failed() {
+        writer = match writer.finish() {
+            Ok(target) => {
+                assert!(rt; good >= 46);
+                return (target, 46);
+            }
+            Err((writer, cause)) => {
+                assert_eq!(rt; cause, PackCause::Write);
+                writer
+            }
+        };
+    }
+    assert!(rt; writer.is_failed());
+    let written = writer.written();
+    assert_eq!(rt; writer.write(b"abcdef"), Err(PackCause::Failed));
+    assert_eq!(rt; writer.write(b""), Err(PackCause::Failed));
+    let writer = match writer.finish() {
+        Ok(_) => panic!(rt; "finished after a failure"),
+        Err((writer, cause)) => {
+            assert_eq!(rt; cause, PackCause::Failed);
+            writer
+        }
+    };
+    assert_eq!(rt; writer.written(), written);
+    (writer.into_writer(), written)
+}
+
+#[test]
+fn writes_that_fail_at_each_call(rt: HostRuntime) {
+    assert_eq!(&rt; SMALL_OUT.len(), 46);
+    for good in 0..48 {
+        let (target, written) = broken(&rt, rt.alloc(), good);
+        let out = good.min(46) as usize;
+        assert!(&rt; target.octets() == &SMALL_OUT[..out], "{good}");
+        assert_eq!(&rt; written, out as u64);
+    }
+}
+
+#[test]
+fn a_million_interruptions_are_a_failure(rt: HostRuntime) {
+    for (interruptions, goes_on) in [(999_999, true), (1_000_000, false)] {
+        let target: TrialWriter<600> = TrialWriter::new(30, Trouble::Interruptions(interruptions));
+        let buffer = buffer(&rt, rt.alloc(), 2, Size::Unknown(Some(5)));
+        let Ok(mut writer) = SubfileWriter::start(buffer, target) else {
+            panic!(&rt; "start");
+        };
+        let answer = writer.write(b"abc");
+        assert_eq!(&rt; answer.is_ok(), goes_on);
+        assert_eq!(&rt; writer.written(), if goes_on { 31 } else { 30 });
+    }
+}
+
+#[test]
+fn numbers_of_pack_causes(rt: HostRuntime) {
+    let causes = [
+        (PackCause::OutOfMemory, 70),
+        (PackCause::PastAnnounced, 80),
+        (PackCause::ShortOfAnnounced, 81),
+        (PackCause::BadTextOctet, 82),
+        (PackCause::BadTrailer, 83),
+        (PackCause::Write, 84),
+        (PackCause::Failed, 85),
+    ];
+    for (cause, number) in causes {
+        assert_eq!(&rt; cause.number(), number);
+    }
+}

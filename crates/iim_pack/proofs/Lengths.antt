@@ -1,0 +1,66 @@
+-- How long a packed form is.
+use Rattle.std.proofs.Common.{◌≡◌, ℕ, ◌+◌, ◌*◌, ◌≤◌, List, ◌++◌, length, refl, sym, ap, ◌∙◌, arith, length-append}
+use Rattle.std.proofs.lemmas.List.{length-map}
+use Rattle.iim_dataset.specs.Datasets.{canonical_stream}
+use Rattle.iim_tables.specs.Numbers.{greatest_size}
+use Rattle.iim_fields.specs.Faults.{joined}
+use Rattle.iim_object.specs.Cuts.{IsCut}
+use Rattle.iim_object.specs.Packing.{plan_datasets, subfile_dataset, subfile_datasets, confirmed_datasets, object_datasets}
+use Rattle.iim_object.specs.Writing.{plan_octets}
+use Rattle.iim_object.specs.declared.plan.Plan.{Plan}
+use Rattle.wire_message.specs.Canonical.{canonical}
+use Rattle.iim_pack.specs.Laws.{PackedOctetsAreFew}
+use Rattle.iim_pack.proofs.Carrying.{plan_parts}
+use Rattle.iim_pack.proofs.FieldsOut.{stream_append, stream_length}
+use Rattle.iim_pack.proofs.Ones.{few_subfiles}
+use Rattle.iim_pack.proofs.Openings.{plan_small}
+use Rattle.iim_pack.proofs.Sorting.{object_joined}
+
+subfiles_length : (size : ℕ) (object : List ℕ) (parts : List (List ℕ)) → (cut : IsCut size object parts) → length (canonical_stream (subfile_datasets parts)) ≤ 9 * length parts + length object
+subfiles_length size object parts cut =
+    let is : joined (subfile_datasets parts) ≡ object = ap (λ (ps : List (List ℕ)). joined (subfile_datasets ps)) cut.parts_are ∙ (object_joined cut.full cut.last ∙ sym cut.joined) in
+    let long = stream_length (subfile_datasets parts) in
+    let many : length (subfile_datasets parts) ≡ length parts = length-map parts subfile_dataset in
+    omega (arith, long, many, ap length is)
+
+confirmed_length : (object : List ℕ) → length (canonical_stream (confirmed_datasets object)) ≡ 9
+confirmed_length object = refl
+
+object_length : (plan : Plan) (object : List ℕ) (parts : List (List ℕ)) → IsCut plan.subfile object parts → length (canonical_stream (object_datasets plan.subfile plan.size object parts)) ≤ 33 + (9 * length parts + length object)
+object_length plan object parts cut =
+    let subfiles = subfiles_length plan.subfile object parts cut in
+    let begun = plan_small plan in
+    let first = ap length (stream_append (plan_datasets plan.subfile plan.size) (subfile_datasets parts ++ confirmed_datasets object)) in
+    let second = ap length (stream_append (subfile_datasets parts) (confirmed_datasets object)) in
+    omega (
+      arith,
+      subfiles,
+      begun,
+      first,
+      second,
+      confirmed_length object,
+      length-append (plan_octets plan) (canonical_stream (subfile_datasets parts ++ confirmed_datasets object)),
+      length-append (canonical_stream (subfile_datasets parts)) (canonical_stream (confirmed_datasets object)),
+    )
+
+pub few_octets : PackedOctetsAreFew
+few_octets fields head lines trailer plan octets p few =
+    let object : List ℕ = canonical head lines trailer in
+    let of_fields = stream_length fields in
+    let of_object = object_length plan object p.written.parts p.written.cut in
+    let subfiles = few_subfiles fields head lines trailer plan octets p in
+    let limit = (plan_parts plan.subfile plan.size plan.valid).limit in
+    let fits = p.may.suits.fits in
+    let size : length object ≤ greatest_size = omega (arith, fits, limit) in
+    omega (
+      arith,
+      of_fields,
+      of_object,
+      subfiles,
+      size,
+      few.datasets,
+      few.octets,
+      ap length p.octets_are,
+      ap length p.written.octets_are,
+      length-append (canonical_stream fields) p.object,
+    )

@@ -1,0 +1,113 @@
+//! A packer whose writer fails.
+
+use super::{STORY, STORY_FRONT, STORY_REST, envelope, plan, story_head};
+use crate::Packer;
+use iim_dataset::{TrialWriter, Trouble};
+use iim_object::{PackCause, Size};
+use std::alloc::Global;
+use std::process::Abort;
+
+/// Whether these octets begin the worked envelope.
+fn begins_the_story(octets: &[u8]) -> bool {
+    if octets.len() <= STORY_FRONT.len() {
+        STORY_FRONT.starts_with(octets)
+    } else {
+        octets.starts_with(STORY_FRONT) && STORY_REST.starts_with(&octets[STORY_FRONT.len()..])
+    }
+}
+
+/// How packing the worked envelope ended, and how many octets are out.
+#[derive(Clone, Copy, PartialEq, Eq)]
+enum End {
+    Whole,
+    InStart(u64),
+    InFinish(u64),
+}
+
+/// Packs the worked envelope. After a failed write, later calls are asked too.
+fn pack_story<const N: usize>(rt: &impl Abort, alloc: Global, writer: TrialWriter<N>) -> End {
+    let envelope = envelope(rt, alloc, &STORY);
+    let plan = plan(rt, 1024, Size::Known(50));
+    let mut packer = match Packer::start(alloc, &envelope, &story_head(rt), plan, writer) {
+        Ok(packer) => packer,
+        Err(fault) => {
+            assert!(rt; fault.cause == PackCause::Write);
+            assert_eq!(rt; fault.writer.octets().len() as u64, fault.written);
+            assert!(rt; begins_the_story(fault.writer.octets()));
+            return End::InStart(fault.written);
+        }
+    };
+    assert!(rt; packer.text(b"Rates stay.").is_ok());
+    assert!(rt; packer.line_end().is_ok());
+    assert!(rt; packer.text(b"No change.").is_ok());
+    let mut packer = match packer.finish(b"") {
+        Ok(writer) => {
+            assert_eq!(rt; writer.octets().len(), 246);
+            assert!(rt; begins_the_story(writer.octets()));
+            return End::Whole;
+        }
+        Err((packer, cause)) => {
+            assert!(rt; cause == PackCause::Write);
+            packer
+        }
+    };
+    let written = packer.written();
+    assert!(rt; packer.text(b"") == Err(PackCause::Failed));
+    assert!(rt; packer.text(b"\n") == Err(PackCause::Failed));
+    assert!(rt; packer.line_end() == Err(PackCause::Failed));
+    let packer = match packer.finish(&[b'x'; 65]) {
+        Err((packer, PackCause::Failed)) => packer,
+        _ => panic!(rt; "finished after a failed write"),
+    };
+    assert_eq!(rt; packer.written(), written);
+    let writer = packer.into_writer();
+    assert_eq!(rt; writer.octets().len() as u64, written);
+    assert!(rt; begins_the_story(writer.octets()));
+    End::InFinish(written)
+}
+
+#[test]
+fn writes_fail_call_by_call(rt: HostRuntime) {
+    for good in 0..247 {
+        let writer: TrialWriter<512> = TrialWriter::new(good, Trouble::Failure);
+        let end = pack_story(&rt, rt.alloc(), writer);
+        let right = if good < 182 {
+            End::InStart(good)
+        } else if good < 246 {
+            End::InFinish(good)
+        } else {
+            End::Whole
+        };
+        assert!(rt; end == right, "after {good} good calls");
+    }
+}
+
+#[test]
+fn interruptions_are_borne_to_a_million(rt: HostRuntime) {
+    for (good, times, right) in [
+        (0, 999_999, End::Whole),
+        (245, 999_999, End::Whole),
+        (0, 1_000_000, End::InStart(0)),
+        (181, 1_000_000, End::InStart(181)),
+        (182, 1_000_000, End::InFinish(182)),
+        (245, 1_000_000, End::InFinish(245)),
+    ] {
+        let writer: TrialWriter<512> = TrialWriter::new(good, Trouble::Interruptions(times));
+        assert!(rt;
+            pack_story(&rt, rt.alloc(), writer) == right,
+            "{times} after {good}"
+        );
+    }
+}
+
+#[test]
+fn a_full_writer_takes_nothing(rt: HostRuntime) {
+    let none: TrialWriter<0> = TrialWriter::new(1000, Trouble::Failure);
+    assert!(rt; pack_story(&rt, rt.alloc(), none) == End::InStart(0));
+    let some: TrialWriter<100> = TrialWriter::new(1000, Trouble::Failure);
+    assert!(rt; pack_story(&rt, rt.alloc(), some) == End::InStart(100));
+    let most: TrialWriter<200> = TrialWriter::new(1000, Trouble::Failure);
+    assert!(rt; pack_story(&rt, rt.alloc(), most) == End::InFinish(200));
+    let all: TrialWriter<246> = TrialWriter::new(1000, Trouble::Failure);
+    assert!(rt; pack_story(&rt, rt.alloc(), all) == End::Whole);
+}

@@ -1,0 +1,257 @@
+-- What an unpacker says of a stream that comes in pieces.
+use Rattle.std.proofs.Common.{◌≡◌, ℕ, ◌+◌, ◌-◌, ◌^◌, ◌<◌, ◌≤◌, ◌⊎◌, List, [], ◌∷◌, ◌++◌, length, take, drop, get_or, slice_index, Option, Some, None, Result, Ok, Err, IfErr, Bor, refl, ap, sym, subst, ◌∙◌, inl, inr, arith, append-nil, append_assoc, length-append}
+use Rattle.std.proofs.lemmas.List.{get_or-append-add, get_or_append_left, length-take-le, take-append-le, take-append-drop, take_more}
+use Rattle.std.proofs.lemmas.List.Concat.{flat_map-append}
+use Rattle.std.proofs.Math.Seq.{take-append-add}
+use Rattle.std.specs.Result.{IsErrAnd}
+use Rattle.iim_dataset.specs.Splits.{InTag}
+use Rattle.iim_fields.specs.declared.limits.Limits.{Limits}
+use Rattle.wire_story.specs.Delivery as story
+use Rattle.wire_story.specs.Laws.{DeliveryMayBeCut, TextsAreDeliveredAsLines}
+use Rattle.wire_message.specs.Layers.{text_so_far}
+use Rattle.wire_message.specs.Laws.{TextsStandBetweenStxAndEtx}
+use Rattle.wire_message.specs.declared.place.Place.TheVariants.{AfterEnd}
+use Rattle.iim_unpack.specs.Admitted.{Value, Admits, object_of}
+use Rattle.iim_unpack.specs.Intakes.{OpenOctetsAreBounded}
+use Rattle.iim_unpack.specs.LowerLaws.{FeedLaws}
+use Rattle.iim_unpack.specs.Pieces.{stream_of, IsUnpacked, IsTurnedDown, DoneIn, HasFed, IsAnswer}
+use Rattle.iim_unpack.specs.Refusals.{refusal_at}
+use Rattle.iim_unpack.specs.Streams.{Answer, Answers, Finished, Refused, Truncated, IsEnvelopeWithin, IsFinished, IsRefused, EnvelopesAreBounded, RefusedOctetsWereOpen, StreamsHaveOneAnswer}
+use Rattle.iim_unpack.specs.Unpacking.{Unpacking, Stands, IsDone, IsDoneWith, IsOpen, IsTextOf, Adds, Goes, IsRefusedIn, IsTruncatedAt, RefusesNext, limits_in, raised}
+use Rattle.iim_unpack.specs.Value.{HasParts}
+use Rattle.iim_unpack.specs.declared.refusal.Refusal.{Refusal}
+use Rattle.iim_unpack.specs.Parts.{CountsFor}
+use Rattle.iim_unpack.specs.declared.refusal.Cause.{Cause}
+use Rattle.iim_unpack.specs.declared.refusal.Cause.TheVariants.{Sink}
+use Rattle.iim_unpack.specs.declared.unpacker.Progress.{Progress}
+use Rattle.iim_unpack.specs.declared.unpacker.Progress.TheVariants.{More, Done}
+use Rattle.iim_unpack.specs.declared.unpacker.Unpacked.{Unpacked}
+use Rattle.iim_unpack.proofs.Answering.{reads_envelope, leads_to, nothing_held}
+use Rattle.iim_unpack.proofs.Feeding.{one_text}
+use Rattle.iim_unpack.proofs.Intakes.{Joined, adds_none, adds_more, told_truncated, not_told}
+
+-- What counts octets exactly.
+pub record CountLaws : Type 0 where
+  pub cut : DeliveryMayBeCut
+  pub open_bounded : OpenOctetsAreBounded
+  pub envelope_bounded : EnvelopesAreBounded
+  pub were_open : RefusedOctetsWereOpen
+
+-- The limits are numbers of 32 bits.
+pub record AreLow (limits : Limits) : Type 0 where
+  pub octets : limits.octets < 4294967296
+  pub fields : limits.fields < 4294967296
+
+exact : (n k : ℕ) → n + k < 2 ^ 64 - 1 → raised n k ≡ n + k
+exact n k less = omega (arith, less)
+
+pub begin_fed : {S : Type 0} (goes : S → List story.Event → S → Type 0) → (u : Unpacking) (a : S) → Stands u [] 0 → goes a [] a → HasFed goes (limits_in u) u a a []
+begin_fed goes u a at nothing = record { limits_are = refl; more = []; told = nothing; stood = inl (at, adds_none []) }
+
+-- ---- a piece that was taken
+
+-- the unpacker stood, and stands on the piece too
+on_more : (laws : CountLaws) (limits : Limits) → AreLow limits → (v : Unpacking) (o piece : List ℕ) → limits_in v ≡ limits → Stands v (o ++ piece) (raised (length o) (length piece)) → Stands v (o ++ piece) (length (o ++ piece))
+on_more laws limits low v o piece same at =
+    let is_open : IsOpen limits (o ++ piece) = subst (λ (l : Limits). IsOpen l (o ++ piece)) same at.is_open in
+    let less = laws.open_bounded limits (o ++ piece) low.octets low.fields is_open in
+    let sum = length-append o piece in
+    subst (Stands v (o ++ piece)) (exact (length o) (length piece) (omega (arith, less, sum)) ∙ sym sum) at
+
+-- or it is done with a front of it
+on_done : (laws : CountLaws) (limits : Limits) → AreLow limits → (v : Unpacking) (o piece : List ℕ) (more next : List story.Event) (used : ℕ) → limits_in v ≡ limits → used ≤ length piece
+    → IsDoneWith v (o ++ take used piece) (raised (length o) used) → Adds [] o more → Adds o (take used piece) next → DoneIn v (o ++ piece) (more ++ next)
+on_done laws limits low v o piece more next used same fits done before adds =
+    let within : IsEnvelopeWithin limits (o ++ take used piece) done.value =
+    subst (λ (l : Limits). IsEnvelopeWithin l (o ++ take used piece) done.value) same (record { admits = done.admits; within = done.within }) in
+    let less = laws.envelope_bounded limits (o ++ take used piece) done.value low.octets low.fields within in
+    let front : take (length o + used) (o ++ piece) ≡ o ++ take used piece = take-append-add o piece used in
+    let sum : length (o ++ take used piece) ≡ length o + used = length-append o (take used piece) ∙ ap (λ (n : ℕ). length o + n) (length-take-le used piece fits) in
+    record {
+      used = length o + used;
+      fits = omega (arith, fits, length-append o piece);
+      done = subst (λ (x : List ℕ). IsDoneWith v x (length o + used)) (sym front) (subst (IsDoneWith v (o ++ take used piece)) (exact (length o) used (omega (arith, less, sum))) done);
+      adds = subst (λ (x : List ℕ). Adds [] x (more ++ next)) (sym front) (adds_more laws.cut [] o (take used piece) more next before adds);
+    }
+
+pub went_on : {S : Type 0} (goes : S → List story.Event → S → Type 0) → Joined goes → CountLaws → (limits : Limits) → AreLow limits → (u v : Unpacking) (a b c : S) (o piece : List ℕ) (progress : Progress) → HasFed goes limits u a b o
+    → limits_in v ≡ limits → ((more : List story.Event) × goes b more c × ((p : List ℕ) (n : ℕ) → Stands u p n → Goes v p n piece more progress))
+    → (DoneIn' : (used : ℕ) → used ≤ length o → IsDoneWith u (take used o) used → (v ≡ u) × (c ≡ b)) → HasFed goes limits v a c (o ++ piece)
+went_on {S = S} goes joined laws limits low u v a b c o piece progress fed same step done' = by fed.stood
+  where
+    by_progress : (q : Progress) → Stands u o (length o) → Adds [] o fed.more → Goes v o (length o) piece step.0 q → HasFed goes limits v a c (o ++ piece)
+    by_progress More at adds there = record {
+      limits_are = same;
+      more = fed.more ++ step.0;
+      told = joined a b c fed.more step.0 fed.told step.1;
+      stood = inl (on_more laws limits low v o piece same there.0, adds_more laws.cut [] o piece fed.more step.0 adds there.1);
+    }
+    by_progress (Done used) at adds there = record {
+      limits_are = same;
+      more = fed.more ++ step.0;
+      told = joined a b c fed.more step.0 fed.told step.1;
+      stood = inr (on_done laws limits low v o piece fed.more step.0 used same there.0 there.1 adds there.2);
+    }
+
+    by : (Stands u o (length o) × Adds [] o fed.more) ⊎ DoneIn u o fed.more → HasFed goes limits v a c (o ++ piece)
+    by (inl (at, adds)) = by_progress progress at adds (step.2 o (length o) at)
+    by (inr d) =
+        let still = done' d.used d.fits d.done in
+        let front : take d.used (o ++ piece) ≡ take d.used o = take-append-le d.used o piece d.fits in
+        record {
+          limits_are = same;
+          more = fed.more;
+          told = subst (λ (s : S). goes a fed.more s) (sym still.1) fed.told;
+          stood = inr (record {
+            used = d.used;
+            fits = let fits = d.fits in omega (arith, fits, length-append o piece);
+            done = subst (λ (w : Unpacking). IsDoneWith w (take d.used (o ++ piece)) d.used) (sym still.0) (subst (λ (x : List ℕ). IsDoneWith u x d.used) (sym front) d.done);
+            adds = subst (λ (x : List ℕ). Adds [] x fed.more) (sym front) d.adds;
+          });
+        }
+
+-- ---- a piece of which an octet is refused
+
+refused_there : (laws : CountLaws) (limits : Limits) → AreLow limits → (o piece rest : List ℕ) (next : List story.Event) (e : Refusal) → (r : IsRefusedIn limits o (length o) piece next e)
+    → e.octet ≡ length o + r.k
+refused_there laws limits low o piece rest next e r =
+    let within = r.within in
+    let is_open = laws.were_open limits (o ++ take r.k piece) (slice_index piece r.k) r.fault r.refuses in
+    let less = laws.open_bounded limits (o ++ take r.k piece) low.octets low.fields is_open in
+    let sum : length (o ++ take r.k piece) ≡ length o + r.k = length-append o (take r.k piece) ∙ ap (λ (n : ℕ). length o + n) (length-take-le r.k piece (omega (arith, within))) in
+    ap (λ (x : Refusal). x.octet) r.refusal ∙ exact (length o) r.k (omega (arith, less, sum))
+
+pub was_refused : {S : Type 0} (goes : S → List story.Event → S → Type 0) → Joined goes → CountLaws → (limits : Limits) → AreLow limits → (a b c : S) (o piece rest : List ℕ) (more next : List story.Event) (e : Refusal)
+    → goes a more b → goes b next c → Adds [] o more → IsRefusedIn limits o (length o) piece next e → IsTurnedDown goes limits (o ++ (piece ++ rest)) a c e
+was_refused goes joined laws limits low a b c o piece rest more next e told then' adds r =
+    let within = r.within in
+    let stream : List ℕ = o ++ (piece ++ rest) in
+    let at = refused_there laws limits low o piece rest next e r in
+    let front : take e.octet stream ≡ o ++ take r.k piece =
+    ap (λ (n : ℕ). take n stream) at ∙ take-append-add o (piece ++ rest) r.k ∙ ap (λ (x : List ℕ). o ++ x) (take-append-le r.k piece rest (omega (arith, within))) in
+    let octet : slice_index stream e.octet ≡ slice_index piece r.k =
+    ap (slice_index stream) at ∙ get_or-append-add o (piece ++ rest) r.k 0 ∙ get_or_append_left piece rest 0 r.k within in
+    let delivered : Adds o (take r.k piece) next = λ text is. (r.added, r.adds text is, r.delivers) in
+    inl (record {
+      fits = omega (arith, within, at, length-append o (piece ++ rest), length-append piece rest);
+      fault = r.fault;
+      refusal = r.refusal ∙ ap (λ (n : ℕ). refusal_at n r.fault) (sym (ap (λ (x : Refusal). x.octet) r.refusal));
+      refuses = subst (λ (x : List ℕ). RefusesNext limits x (slice_index stream e.octet) r.fault) (sym front) (subst (λ (n : ℕ). RefusesNext limits (o ++ take r.k piece) n r.fault) (sym octet) r.refuses);
+      told = (
+        more ++ next,
+        joined a b c more next told then',
+        subst (λ (x : List ℕ). Adds [] x (more ++ next)) (sym front) (adds_more laws.cut [] o (take r.k piece) more next adds delivered),
+      );
+    })
+
+-- ---- the end
+
+no_text : IsTextOf [] []
+no_text = ([], InTag [], record { front = []; rest = []; is_front = refl; is_rest = nothing_held; parts = refl }, refl)
+
+-- what is delivered of an envelope is its lines
+lines_of : FeedLaws → TextsStandBetweenStxAndEtx → TextsAreDeliveredAsLines → (octets : List ℕ) (v : Value) (more : List story.Event) → Admits octets v → Adds [] octets more → more ≡ story.events_of_lines v.lines
+lines_of laws between delivered octets v more a adds =
+    let (added, is, told) = adds [] no_text in
+    let text : a.text ≡ text_so_far (object_of a.datasets) = between (object_of a.datasets) a.text (AfterEnd v.head (record { items = v.trailer }) (length a.message.after)) (leads_to octets v a) in
+    let same : added ≡ text_so_far (object_of a.datasets) = one_text laws octets added (text_so_far (object_of a.datasets)) is (a.datasets, InTag [], reads_envelope octets v a, refl) in
+    told ∙ ap story.delivered (same ∙ sym text) ∙ delivered a.text v.lines a.lines
+
+-- an unpacker that is done with a front of the stream
+pub is_unpacked : {S : Type 0} (goes : S → List story.Event → S → Type 0) → FeedLaws → TextsStandBetweenStxAndEtx → TextsAreDeliveredAsLines → (limits : Limits) (v : Unpacking) (a b : S) (stream : List ℕ) (more : List story.Event) (got : Unpacked) (used : ℕ)
+    → limits_in v ≡ limits → goes a more b → (d : DoneIn v stream more) → ((p : List ℕ) (n : ℕ) → IsDoneWith v p n → (w : Value) → Admits p w → HasParts got w) → used ≡ v.octets → IsUnpacked goes limits stream a b got used
+is_unpacked goes laws between delivered limits v a b stream more got used same told d value counts =
+    let is : used ≡ d.used = counts ∙ d.done.counts in
+    let within : IsEnvelopeWithin limits (take d.used stream) d.done.value =
+    subst (λ (l : Limits). IsEnvelopeWithin l (take d.used stream) d.done.value) same (record { admits = d.done.admits; within = d.done.within }) in
+    record {
+      value = d.done.value;
+      finished = subst (λ (n : ℕ). IsFinished limits stream n d.done.value) (sym is) (record { fits = d.fits; envelope = within });
+      parts = value (take d.used stream) d.used d.done d.done.value d.done.admits;
+      told = subst (λ (es : List story.Event). goes a es b) (lines_of laws between delivered (take d.used stream) d.done.value more d.done.admits d.adds) told;
+    }
+
+pub cut_short : {S : Type 0} (goes : S → List story.Event → S → Type 0) → (limits : Limits) (v : Unpacking) (a b : S) (stream : List ℕ) (more : List story.Event) (e : Refusal) → limits_in v ≡ limits → goes a more b
+    → Stands v stream (length stream) → Adds [] stream more → IsTruncatedAt stream (length stream) e → IsTurnedDown goes limits stream a b e
+cut_short goes limits v a b stream more e same told at adds truncated =
+    inr (record { truncated = record { is_open = subst (λ (l : Limits). IsOpen l stream) same at.is_open; refusal = truncated }; told = (more, told, adds) })
+
+-- ---- pieces, one after another
+
+pub stream_step : (ps : List (Bor (List ℕ))) (k : ℕ) (d : Bor (List ℕ)) → k < length ps → stream_of (take (k + 1) ps) ≡ stream_of (take k ps) ++ (get_or ps k d).now
+stream_step ps k d less =
+    ap stream_of (take_more ps k d less) ∙ flat_map-append (λ (p : Bor (List ℕ)). p.now) (take k ps) (get_or ps k d ∷ []) ∙ ap (λ (x : List ℕ). stream_of (take k ps) ++ x) (append-nil (get_or ps k d).now)
+
+pub stream_rest : (ps : List (Bor (List ℕ))) (k : ℕ) (d : Bor (List ℕ)) → k < length ps → stream_of ps ≡ stream_of (take k ps) ++ ((get_or ps k d).now ++ stream_of (drop (k + 1) ps))
+stream_rest ps k d less =
+    ap stream_of (sym (take-append-drop (k + 1) ps)) ∙ flat_map-append (λ (p : Bor (List ℕ)). p.now) (take (k + 1) ps) (drop (k + 1) ps)
+    ∙ ap (λ (x : List ℕ). x ++ stream_of (drop (k + 1) ps)) (stream_step ps k d less) ∙ append_assoc (stream_of (take k ps)) (get_or ps k d).now (stream_of (drop (k + 1) ps))
+
+pub still_taking : {S : Type 0} (goes : S → List story.Event → S → Type 0) (limits : Limits) (u : Unpacking) (a b : S) (o : List ℕ) → HasFed goes limits u a b o → u.refused ≡ None
+still_taking goes limits u a b o fed = elim fed.stood [ inl at ↦ at.0.taking | inr d ↦ d.done.taking ]
+
+-- the answer of feeding a piece of which an octet is refused
+pub turned_down : {S : Type 0} (goes : S → List story.Event → S → Type 0) → Joined goes → CountLaws → (limits : Limits) → AreLow limits → (u : Unpacking) (a b c : S) (o piece rest : List ℕ) (answer : Result Progress Refusal) (e : Refusal)
+    → HasFed goes limits u a b o → answer ≡ Err e → ((more : List story.Event) × goes b more c × ((p : List ℕ) (n : ℕ) → Stands u p n → IsRefusedIn (limits_in u) p n piece more e))
+    → (IsDone u → answer ≡ Ok (Done 0)) → IsTurnedDown goes limits (o ++ (piece ++ rest)) a c e
+turned_down goes joined laws limits low u a b c o piece rest answer e fed is step done' =
+    elim fed.stood [
+      | inl (at, adds) ↦
+          was_refused goes joined laws limits low a b c o piece rest fed.more step.0 e fed.told step.1 adds
+          (subst (λ (l : Limits). IsRefusedIn l o (length o) piece step.0 e) fed.limits_are (step.2 o (length o) at))
+      | inr d ↦ absurd (let bad : Err e ≡ Ok (Done 0) = sym is ∙ done' (d.done.taking, d.done.ended) in cc)
+    ]
+
+-- ---- the answer of a stream
+
+pub only_down : {S : Type 0} (goes : S → List story.Event → S → Type 0) → StreamsHaveOneAnswer → (limits : Limits) (stream : List ℕ) (a b : S) (e : Refusal) → IsTurnedDown goes limits stream a b e → (answer : Answer) → Answers limits stream answer
+    → (e.cause ≡ Sink → ⊥) → IsAnswer (Err e) answer
+only_down goes one limits stream a b e (inl stopped) answer is other =
+    let mine : IsRefused limits stream e = record {
+      fits = stopped.fits;
+      fault = stopped.fault;
+      refusal = stopped.refusal;
+      kills = record { refuses = stopped.refuses; by_octets = λ sink. other (ap (λ (x : Refusal). x.cause) stopped.refusal ∙ sink) };
+    } in
+    subst (λ (x : Answer). IsAnswer (Err e) x) (one limits stream (Refused e) answer mine is) refl
+only_down goes one limits stream a b e (inr short) answer is other = subst (λ (x : Answer). IsAnswer (Err e) x) (one limits stream (Truncated e) answer short.truncated is) refl
+
+pub only_up : {S : Type 0} (goes : S → List story.Event → S → Type 0) → StreamsHaveOneAnswer → (limits : Limits) (stream : List ℕ) (a b : S) (got : Unpacked) (used : ℕ) → IsUnpacked goes limits stream a b got used → (answer : Answer) → Answers limits stream answer
+    → IsAnswer (Ok (got, used)) answer
+only_up goes one limits stream a b got used up answer is = subst (λ (x : Answer). IsAnswer (Ok (got, used)) x) (one limits stream (Finished used up.value) answer up.finished is) (up.parts, refl)
+
+pub only_on : (limits : Limits) (stream : List ℕ) (r : Result (Unpacked × ℕ) Refusal) (e : Refusal) → IsErrAnd r (λ x. x ≡ e) → ((answer : Answer) → Answers limits stream answer → (e.cause ≡ Sink → ⊥) → IsAnswer (Err e) answer)
+    → (answer : Answer) → Answers limits stream answer → IfErr r (λ x. x.cause ≡ Sink → ⊥) → IsAnswer r answer
+only_on limits stream (Ok got) e is only answer answers other = absurd is
+only_on limits stream (Err f) e is only answer answers other =
+    subst (λ (x : Refusal). IsAnswer (Err x) answer) (sym is) (only answer answers (subst (λ (x : Refusal). x.cause ≡ Sink → ⊥) is other))
+
+pub ends_short : {S : Type 0} (goes : S → List story.Event → S → Type 0) → (limits : Limits) (v : Unpacking) (a b : S) (stream : List ℕ) (answer : Option Refusal) (e : Refusal) → HasFed goes limits v a b stream → answer ≡ Some e
+    → ((p : List ℕ) (n : ℕ) → Stands v p n → (f : Refusal) × (answer ≡ Some f) × IsTruncatedAt p n f) → (IsDone v → answer ≡ None) → IsTurnedDown goes limits stream a b e
+ends_short goes limits v a b stream answer e fed is truncated done' = elim fed.stood [
+  | inl (at, adds) ↦
+      cut_short goes limits v a b stream fed.more e fed.limits_are fed.told at adds (told_truncated stream (length stream) answer e is (truncated stream (length stream) at))
+  | inr d ↦ absurd (let bad : Some e ≡ None = sym is ∙ done' (d.done.taking, d.done.ended) in cc)
+]
+
+-- what is known of an unpacker that is done with a front of the stream
+pub record Finishes {S : Type 0} (goes : S → List story.Event → S → Type 0) (v : Unpacking) (a b : S) (stream : List ℕ) : Type 0 where
+  pub more : List story.Event
+  pub told : goes a more b
+  pub done : DoneIn v stream more
+
+pub ends_done : {S : Type 0} (goes : S → List story.Event → S → Type 0) → (limits : Limits) (v : Unpacking) (a b : S) (stream : List ℕ) (answer : Option Refusal) → HasFed goes limits v a b stream → answer ≡ None
+    → ((p : List ℕ) (n : ℕ) → Stands v p n → (f : Refusal) × (answer ≡ Some f) × IsTruncatedAt p n f) → Finishes goes v a b stream
+ends_done goes limits v a b stream answer fed is truncated = elim fed.stood [
+  | inl (at, adds) ↦ absurd (not_told answer stream (length stream) is (truncated stream (length stream) at))
+  | inr d ↦ record { more = fed.more; told = fed.told; done = d }
+]
+
+pub short_counts : {S : Type 0} (goes : S → List story.Event → S → Type 0) → (limits : Limits) (v : Unpacking) (a b : S) (stream : List ℕ) (answer : Option Refusal) (e : Refusal) (old new : ℕ) → HasFed goes limits v a b stream → answer ≡ Some e
+    → ((p : List ℕ) (n : ℕ) → Stands v p n → (f : Refusal) × (answer ≡ Some f) × IsTruncatedAt p n f) → (IsDone v → answer ≡ None) → new ≡ old → CountsFor e.cause old new
+short_counts goes limits v a b stream answer e old new fed is truncated done' calm = elim fed.stood [
+  | inl (at, adds) ↦
+      let t = told_truncated stream (length stream) answer e is (truncated stream (length stream) at) in
+      subst (λ (x : Cause). CountsFor x old new) (sym (ap (λ (x : Refusal). x.cause) t.refusal)) calm
+  | inr d ↦ absurd (let bad : Some e ≡ None = sym is ∙ done' (d.done.taking, d.done.ended) in cc)
+]

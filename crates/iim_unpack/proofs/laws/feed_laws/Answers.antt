@@ -1,0 +1,14 @@
+use Rattle.iim_unpack.proofs.laws.feed_laws.Goals as goal
+
+pub returns : goal.returns
+returns c = record {
+  octet = c.what_an_octet_completes.ensures;
+  one_tag = c.no_tag_begins_another.ensures;
+  one_dataset = c.no_dataset_begins_another.ensures;
+  way = c.octets_are_handed_on_one_way.ensures;
+  tell = c.events_tell_the_datasets.ensures;
+  ends = c.envelopes_end_with_the_last_record.ensures;
+  sections = c.no_sections_begin_others.ensures;
+  living = c.readers_stand_at_living_octets.ensures;
+  numbers = c.records_are_by_number.ensures;
+}

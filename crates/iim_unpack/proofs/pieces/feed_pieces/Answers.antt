@@ -1,0 +1,44 @@
+use Rattle.std.proofs.Common.{◌+◌, ℕ, [], List, Bor, get_or, take, drop, refl, sym, subst, ◌∙◌}
+use Rattle.iim_unpack.specs.Pieces.{HasFed, IsTurnedDown, stream_of}
+use Rattle.iim_unpack.specs.Unpacking.{limits_in}
+use Rattle.iim_unpack.proofs.PieceLemmas.{CountLaws, AreLow, begin_fed, went_on, turned_down, still_taking, stream_step, stream_rest}
+use Rattle.iim_unpack.proofs.Results.{handed_on}
+use Rattle.iim_unpack.proofs.pieces.feed_pieces.Goals as goal
+
+pub loop-piece-init : goal.loop-piece-init
+loop-piece-init g c = record { fed = begin_fed g.S.StorySink.goes c.args.unpacker.now c.args.sink.now c.requires.fresh (g.met.S.StorySink.nothing c.args.sink.now); calm = refl }
+
+pub returns-in_err-feed-clause-refused : goal.returns-in_err-feed-clause-refused
+returns-in_err-feed-clause-refused g c =
+    let goes = g.S.StorySink.goes in
+    let limits = limits_in c.args.unpacker.now in
+    let laws : CountLaws = record { cut = c.delivery_may_be_cut.ensures; open_bounded = c.open_octets_are_bounded.ensures; envelope_bounded = c.envelopes_are_bounded.ensures; were_open = c.refused_octets_were_open.ensures } in
+    let low : AreLow limits = record { octets = c.stands_somewhere.ensures.octets; fields = c.stands_somewhere.ensures.fields } in
+    let none : Bor (List ℕ) = record { ref_ptr = (0, 0); now = [] } in
+    let ps = c.args.pieces.now in
+    let k = c.loop-piece.piece-index in
+    let u = c.loop-piece.unpacker in
+    let fed = c.loop-piece.invariant.fed in
+    let down = turned_down goes g.met.S.StorySink.joined laws limits low u c.args.sink.now c.loop-piece.sink c.feed.new.sink (stream_of (take k ps)) (get_or ps k none).now (stream_of (drop (k + 1) ps)) c.feed.result c.in_err-feed.field-0.0 fed c.in_err-feed.was
+    c.in_err-feed.ensures.refused (λ done. (c.feed.ensures.done done).0) in
+    let down' = subst (λ (stream : List ℕ). IsTurnedDown goes limits stream c.args.sink.now c.feed.new.sink c.in_err-feed.field-0.0) (sym (stream_rest ps k none c.loop-piece-test.true)) down in
+    handed_on (IsTurnedDown goes limits (stream_of ps) c.args.sink.now c.feed.new.sink) c.from_residual.result c.in_err-feed.field-0.0 c.from_residual.ensures.1 down'
+
+pub loop-piece-preserved : goal.loop-piece-preserved
+loop-piece-preserved g c =
+    let goes = g.S.StorySink.goes in
+    let limits = limits_in c.args.unpacker.now in
+    let laws : CountLaws = record { cut = c.delivery_may_be_cut.ensures; open_bounded = c.open_octets_are_bounded.ensures; envelope_bounded = c.envelopes_are_bounded.ensures; were_open = c.refused_octets_were_open.ensures } in
+    let low : AreLow limits = record { octets = c.stands_somewhere.ensures.octets; fields = c.stands_somewhere.ensures.fields } in
+    let none : Bor (List ℕ) = record { ref_ptr = (0, 0); now = [] } in
+    let ps = c.args.pieces.now in
+    let k = c.loop-piece.piece-index in
+    let u = c.loop-piece.unpacker in
+    let fed = c.loop-piece.invariant.fed in
+    let same = c.in_ok-feed.ensures.limits (still_taking goes limits u c.args.sink.now c.loop-piece.sink (stream_of (take k ps)) fed) in
+    let on = went_on goes g.met.S.StorySink.joined laws limits low u c.feed.new.self c.args.sink.now c.loop-piece.sink c.feed.new.sink (stream_of (take k ps)) (get_or ps k none).now c.in_ok-feed.field-0 fed (same ∙ fed.limits_are)
+    c.in_ok-feed.ensures.goes (λ used fits at. (c.feed.ensures.done (at.taking, at.ended)).1) in
+    record {
+      fed = subst (λ (o : List ℕ). HasFed goes limits c.feed.new.self c.args.sink.now c.feed.new.sink o) (sym (stream_step ps k none c.loop-piece-test.true)) on;
+      calm = c.in_ok-feed.ensures.calm ∙ c.loop-piece.invariant.calm;
+    }

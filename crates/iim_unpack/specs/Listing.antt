@@ -1,0 +1,48 @@
+-- The envelopes that an input begins with, and what stands after them.
+use Rattle.std.specs.Prelude.{◌≡◌, ◌≢◌, ℕ, ◌<◌, List, [], ◌∷◌, ◌++◌, length, map, take, slice_index}
+use Rattle.iim_fields.specs.declared.limits.Limits.{Limits}
+use Rattle.iim_unpack.specs.Admitted.{Value, Admits}
+use Rattle.iim_unpack.specs.Framed.{AreWithin}
+use Rattle.iim_unpack.specs.Refusals.{refusal_at}
+use Rattle.iim_unpack.specs.Unpacking.{IsOpen, IsTruncatedAt, RefusesNext, raised}
+use Rattle.iim_unpack.specs.declared.fault.Fault.{Fault}
+use Rattle.iim_unpack.specs.declared.refusal.Cause.TheVariants.{Sink}
+use Rattle.iim_unpack.specs.declared.refusal.Refusal.{Refusal}
+
+-- so many envelopes are listed at most
+abbrev pub max_envelopes : ℕ
+max_envelopes = 1000000
+
+-- octets, and their value
+pub record Listed : Type 0 where
+  pub octets : List ℕ
+  pub value : Value
+
+-- The octets are an envelope with this value, within the limits.
+pub record IsListed (limits : Limits) (e : Listed) : Type 0 where
+  pub admits : Admits e.octets e.value
+  pub within : AreWithin limits admits.datasets
+
+-- The input is these envelopes, one after another, and a rest.
+abbrev pub Divides : Limits → List ℕ → List Listed → List ℕ → Type 0
+Divides limits input [] rest = input ≡ rest
+Divides limits input (e ∷ es) rest = IsListed limits e × (others : List ℕ) × (input ≡ e.octets ++ others) × Divides limits others es rest
+
+-- the values of envelopes, in their order
+abbrev pub values_of : List Listed → List Value
+values_of es = map (λ e. e.value) es
+
+-- Octet k of the rest is refused, and not by a sink. (Octets are counted up to the greatest number of 64 bits.)
+pub record IsRefusedRest (limits : Limits) (rest : List ℕ) (e : Refusal) : Type 0 where
+  pub k : ℕ
+  pub within : k < length rest
+  pub fault : Fault
+  pub refusal : e ≡ refusal_at (raised 0 k) fault
+  pub refuses : RefusesNext limits (take k rest) (slice_index rest k) fault
+  pub unsunk : e.cause ≢ Sink
+
+-- The rest is some octets on which an envelope can go on, and it is told to be truncated.
+pub record IsTruncatedRest (limits : Limits) (rest : List ℕ) (e : Refusal) : Type 0 where
+  pub some : rest ≢ []
+  pub is_open : IsOpen limits rest
+  pub truncated : IsTruncatedAt rest (raised 0 (length rest)) e

@@ -1,0 +1,46 @@
+-- The laws of the lower crates, bundled by what rests on them.
+use Rattle.iim_dataset.specs.Laws.{NoTagBeginsAnother, NoDatasetBeginsAnother, WhatAnOctetCompletes, NoOctetsGoOn, OctetsAreHandedOnOneWay, EventsTellTheDatasets}
+use Rattle.iim_fields.specs.Laws.{EnvelopesEndWithTheLastRecord, NoSectionsBeginOthers}
+use Rattle.iim_object.specs.Behind.{TokensFollow, OthersLeadNowhere, NumbersLead, SubfilesLead, EndsLead, DatasetsLiveWithTheirTokens, DatasetsEndWithTheirTokens, RecordsAreByNumber}
+use Rattle.wire_story.specs.Laws.{TextsSoFarHaveOneReading}
+use Rattle.wire_message.specs.Laws.{ReadersStandAtLivingOctets}
+
+-- how datasets lead the object from place to place
+pub record ObjectLaws : Type 0 where
+  pub tokens : TokensFollow
+  pub others : OthersLeadNowhere
+  pub numbers : NumbersLead
+  pub subfiles : SubfilesLead
+  pub ends : EndsLead
+
+-- by which an unpacker goes on
+pub record FeedLaws : Type 0 where
+  pub octet : WhatAnOctetCompletes
+  pub one_tag : NoTagBeginsAnother
+  pub one_dataset : NoDatasetBeginsAnother
+  pub way : OctetsAreHandedOnOneWay
+  pub tell : EventsTellTheDatasets
+  pub ends : EnvelopesEndWithTheLastRecord
+  pub sections : NoSectionsBeginOthers
+  pub living : ReadersStandAtLivingOctets
+  pub numbers : RecordsAreByNumber
+
+-- by which tokens follow one another
+pub record FollowLaws : Type 0 where
+  pub one_tag : NoTagBeginsAnother
+  pub one_dataset : NoDatasetBeginsAnother
+  pub sections : NoSectionsBeginOthers
+  pub ends : EnvelopesEndWithTheLastRecord
+  pub objects : ObjectLaws
+  pub live : DatasetsLiveWithTheirTokens
+  pub ended : DatasetsEndWithTheirTokens
+
+-- by which a stream has one answer
+pub record AnswerLaws : Type 0 where
+  pub follow : FollowLaws
+  pub way : OctetsAreHandedOnOneWay
+  pub tell : EventsTellTheDatasets
+  pub stuck : NoOctetsGoOn
+  pub living : ReadersStandAtLivingOctets
+  pub numbers : RecordsAreByNumber
+  pub texts : TextsSoFarHaveOneReading

@@ -1,0 +1,76 @@
+//! A stream in pieces.
+
+ghost use Rattle.std.specs.Prelude.{◌≡◌, ◌≢◌, ℕ, [], IfOk, IfErr, OnOk};
+ghost use Rattle.iim_unpack.specs.Parts.{CountsFor};
+ghost use Rattle.iim_unpack.specs.Pieces.{HasFed, IsAnswer, IsTurnedDown, IsUnpacked, stream_of};
+ghost use Rattle.iim_unpack.specs.Streams.{Answer, Answers};
+ghost use Rattle.iim_unpack.specs.Unpacking.{Stands, limits_in};
+ghost use Rattle.iim_unpack.specs.declared.refusal.Cause.TheVariants.{Sink};
+
+use crate::laws::{
+    envelopes_are_bounded, feed_laws, open_octets_are_bounded, refused_octets_were_open,
+    streams_have_one_answer,
+};
+use crate::refusal::Refusal;
+use crate::unpacker::{Unpacked, Unpacker};
+use wire_message::texts_stand_between_stx_and_etx;
+use wire_story::{StorySink, delivery_may_be_cut, texts_are_delivered_as_lines};
+
+/// Feeds pieces, one after another.
+fn feed_pieces<S: StorySink>(
+    unpacker: &mut Unpacker,
+    pieces: &[&[u8]],
+    sink: &mut S,
+) -> Result<(), Refusal>
+    requires fresh { Stands unpacker.old [] 0 }
+    ensures fed { OnOk result (HasFed S.goes (limits_in unpacker.old) unpacker.new sink.old sink.new (stream_of pieces.now)) }
+    ensures calm { OnOk result (S.failures sink.new ≡ S.failures sink.old) }
+    ensures refused { IfErr result (IsTurnedDown S.goes (limits_in unpacker.old) (stream_of pieces.now) sink.old sink.new) }
+    ensures counted { IfErr result (λ e. CountsFor e.cause (S.failures sink.old) (S.failures sink.new)) }
+{
+    feed_laws();
+    delivery_may_be_cut();
+    open_octets_are_bounded();
+    envelopes_are_bounded();
+    refused_octets_were_open();
+    unpacker.stands_somewhere();
+    for piece in pieces {
+        unpacker.feed(piece, sink)?;
+    }
+    Ok(())
+}
+
+/// Unpacks the envelope that a stream begins with, whatever pieces it comes in: answers the envelope and how many octets it
+/// has. The unpacker has been fed nothing before.
+///
+/// Any other stream is refused at the first octet with which a layer is dead, or at its end, where it is truncated; or the
+/// sink stopped ([`crate::Cause::Sink`]). A stream has one of these answers, and no other.
+pub fn unpack_pieces<S: StorySink>(
+    unpacker: Unpacker,
+    pieces: &[&[u8]],
+    sink: &mut S,
+) -> Result<(Unpacked, u64), Refusal>
+    requires fresh { Stands unpacker [] 0 }
+    ensures finished { IfOk result (λ got. IsUnpacked S.goes (limits_in unpacker) (stream_of pieces.now) sink.old sink.new got.0 got.1) }
+    ensures refused { IfErr result (IsTurnedDown S.goes (limits_in unpacker) (stream_of pieces.now) sink.old sink.new) }
+
+    // What the stream is answered is the result, unless the sink stopped.
+    ensures only { (answer : Answer) → Answers (limits_in unpacker) (stream_of pieces.now) answer → IfErr result (λ e. e.cause ≢ Sink) → IsAnswer result answer }
+    ensures calm { OnOk result (S.failures sink.new ≡ S.failures sink.old) }
+    ensures counted { IfErr result (λ e. CountsFor e.cause (S.failures sink.old) (S.failures sink.new)) }
+{
+    feed_laws();
+    texts_stand_between_stx_and_etx();
+    texts_are_delivered_as_lines();
+    streams_have_one_answer();
+    let mut unpacker = unpacker;
+    feed_pieces(&mut unpacker, pieces, sink)?;
+    if let Some(refusal) = unpacker.end_of_input() {
+        return Err(refusal);
+    }
+    let used = unpacker.octets();
+    match unpacker.into_unpacked() {
+        Ok(got) => Ok((got, used)),
+        Err(_) => unreachable!(),
+    }
+}

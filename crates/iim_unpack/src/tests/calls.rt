@@ -1,0 +1,87 @@
+//! The calls that a sink gets.
+
+ghost use Rattle.std.specs.Prelude.{ℕ, List};
+ghost use Rattle.wire_story.specs.Delivery.{Event};
+
+use super::{LIMITS, SMALLEST, STORY, joined};
+use crate::{Progress, Unpacker};
+use iim_dataset::Stop;
+use std::test::Fail;
+use wire_story::StorySink;
+
+/// How many calls came, and what the first four of them were: so many octets of text, or the end of a line (0).
+#[derive(Clone, Copy, Debug, PartialEq, Eq)]
+struct Calls {
+    count: u64,
+    first: [usize; 4],
+}
+
+impl Calls {
+    fn note(&mut self, octets: usize) {
+        if let Some(place) = self.first.get_mut(self.count as usize) {
+            *place = octets;
+        }
+        self.count = self.count.saturating_add(1);
+    }
+}
+
+impl StorySink for Calls {
+    ghost goes = { λ old events new. Unit {0} };
+
+    ghost failures = { λ sink. 0 };
+
+    ghost nothing = { λ sink. tt };
+
+    ghost joined = { λ a b c xs ys first then. tt };
+
+    fn text(&mut self, run: &[u8]) -> Result<(), Stop> {
+        self.note(run.len());
+        Ok(())
+    }
+
+    fn line_end(&mut self) -> Result<(), Stop> {
+        self.note(0);
+        Ok(())
+    }
+}
+
+const NONE: Calls = Calls {
+    count: 0,
+    first: [0; 4],
+};
+
+#[test]
+fn two_lines(rt: HostRuntime) -> Result<(), Fail> {
+    let octets = joined(
+        rt.alloc(),
+        &[&SMALLEST[..41], b"2", &SMALLEST[42..62], STORY],
+    )?;
+    let mut calls = NONE;
+    let mut unpacker = Unpacker::new(rt.alloc(), LIMITS)?;
+    let answer = unpacker.feed(octets.as_slice(), &mut calls);
+    assert_eq!(rt; answer, Ok(Progress::Done { used: 246 }));
+    assert_eq!(rt; calls.count, 3);
+    assert_eq!(rt; calls.first, [11, 0, 10, 0]);
+    Ok(())
+}
+
+#[test]
+fn one_long_line(rt: HostRuntime) -> Result<(), Fail> {
+    let line = vec![in rt.alloc(); b'a'; 32_754]?;
+    let pieces: [&[u8]; 6] = [
+        &SMALLEST[..73],
+        b"\x00\x00\x80\x00\x1c\x07\x5a\x00\x04\x00\x00\x80\x00",
+        b"\x1c\x08\x0a\x80\x04\x00\x00\x80\x00\x01X1 4 N 0\r\n\x02",
+        line.as_slice(),
+        b"\x03\x04",
+        b"\x1c\x09\x0a\x00\x04\x00\x00\x80\x00",
+    ];
+    let octets = joined(rt.alloc(), &pieces)?;
+    let mut calls = NONE;
+    let mut unpacker = Unpacker::new(rt.alloc(), LIMITS)?;
+    let answer = unpacker.feed(octets.as_slice(), &mut calls);
+    assert_eq!(rt; answer, Ok(Progress::Done { used: 32_872 }));
+    assert_eq!(rt; calls.count, 1);
+    assert_eq!(rt; calls.first, [32_754, 0, 0, 0]);
+    Ok(())
+}

@@ -1,0 +1,620 @@
+//! The unpacker on worked streams, in one piece and octet by octet.
+
+use super::rule::refusal;
+use super::{LIMITS, SMALLEST, STORY, TAGS, joined};
+use crate::{Cause, Layer, Progress, Refusal, Unpacker, unpack_pieces};
+use iim_fields::Limits;
+use std::alloc::{AllocError, Global};
+use std::process::Abort;
+use std::test::Fail;
+use wire_story::Lines;
+
+/// Where each tag of the longer envelope begins from octet 62 on, its record and number, and its count.
+const MORE_TAGS: [(usize, u8, u8, usize); 14] = [
+    (62, 2, 105, 10),
+    (77, 2, 80, 7),
+    (89, 2, 85, 6),
+    (100, 2, 80, 7),
+    (112, 2, 85, 6),
+    (123, 2, 25, 5),
+    (133, 2, 25, 4),
+    (142, 2, 25, 4),
+    (151, 2, 250, 2),
+    (158, 7, 10, 1),
+    (164, 7, 20, 4),
+    (173, 7, 90, 4),
+    (182, 8, 10, 50),
+    (237, 9, 10, 4),
+];
+
+/// What an envelope's octets are used for, or why they are refused; and the lines that came, an LF after each.
+type Answer = (Result<u64, Refusal>, &'static [u8]);
+
+fn story(alloc: Global) -> Result<Vec<u8>, AllocError> {
+    joined(alloc, &[&SMALLEST[..41], b"2", &SMALLEST[42..62], STORY])
+}
+
+/// The smallest envelope with this object, of so many octets.
+fn sized(alloc: Global, size: u8, object: &[&[u8]]) -> Result<Vec<u8>, AllocError> {
+    let object = joined(alloc, object)?;
+    joined(
+        alloc,
+        &[
+            &SMALLEST[..85],
+            &[size, 0x1c, 8, 0x0a, 0, size],
+            object.as_slice(),
+            &[0x1c, 9, 0x0a, 0, 4, 0, 0, 0, size],
+        ],
+    )
+}
+
+/// The lines, with an LF after each.
+fn text_of(alloc: Global, lines: &Lines) -> Result<Vec<u8>, AllocError> {
+    let mut text = Vec::new(alloc);
+    for line in lines.iter() {
+        text.extend_from_slice(line)?;
+        text.push(b'\n')?;
+    }
+    Ok(text)
+}
+
+/// What is answered where no more octets come.
+fn settled(unpacker: &Unpacker, used: u64) -> Result<u64, Refusal> {
+    match unpacker.end_of_input() {
+        Some(refusal) => Err(refusal),
+        None => Ok(used),
+    }
+}
+
+fn in_one_piece(
+    alloc: Global,
+    limits: Limits,
+    octets: &[u8],
+    lines: &mut Lines,
+) -> Result<Result<u64, Refusal>, AllocError> {
+    let mut unpacker = Unpacker::new(alloc, limits)?;
+    let answer = match unpacker.feed(octets, lines) {
+        Ok(Progress::Done { used }) => settled(&unpacker, used as u64),
+        Ok(Progress::More) => settled(&unpacker, 0),
+        Err(refusal) => Err(refusal),
+    };
+    Ok(answer)
+}
+
+/// Feeds octet by octet, with an empty piece before each.
+fn by_octets(
+    alloc: Global,
+    limits: Limits,
+    octets: &[u8],
+    lines: &mut Lines,
+) -> Result<Result<u64, Refusal>, AllocError> {
+    let mut unpacker = Unpacker::new(alloc, limits)?;
+    let mut sum = 0u64;
+    for octet in octets {
+        if let Err(refusal) = unpacker.feed(&[], lines) {
+            return Ok(Err(refusal));
+        }
+        match unpacker.feed(&[*octet], lines) {
+            Ok(Progress::More) => sum = sum.saturating_add(1),
+            Ok(Progress::Done { used }) => sum = sum.saturating_add(used as u64),
+            Err(refusal) => return Ok(Err(refusal)),
+        }
+    }
+    Ok(settled(&unpacker, sum))
+}
+
+fn expect_within(
+    rt: &impl Abort,
+    alloc: Global,
+    limits: Limits,
+    octets: &[u8],
+    (want, lines): Answer,
+) -> Result<(), Fail> {
+    let mut whole = Lines::new(alloc);
+    let answer = in_one_piece(alloc, limits, octets, &mut whole)?;
+    assert_eq!(rt; answer, want, "in one piece");
+    let text = text_of(alloc, &whole)?;
+    assert_eq!(rt; text.as_slice(), lines, "in one piece");
+    let mut cut = Lines::new(alloc);
+    let answer = by_octets(alloc, limits, octets, &mut cut)?;
+    assert_eq!(rt; answer, want, "by octets");
+    let text = text_of(alloc, &cut)?;
+    assert_eq!(rt; text.as_slice(), lines, "by octets");
+    Ok(())
+}
+
+fn expect(rt: &impl Abort, alloc: Global, pieces: &[&[u8]], want: Answer) -> Result<(), Fail> {
+    let octets = joined(alloc, pieces)?;
+    expect_within(rt, alloc, LIMITS, octets.as_slice(), want)
+}
+
+fn refused(
+    layer: Layer,
+    names: (u8, u8),
+    octet: usize,
+    cause: Cause,
+    lines: &'static [u8],
+) -> Answer {
+    (Err(refusal(layer, names, octet, cause)), lines)
+}
+
+#[test]
+fn envelopes(rt: HostRuntime) -> Result<(), Fail> {
+    let alloc = rt.alloc();
+    expect(&rt, alloc, &[&SMALLEST], (Ok(114), b"\n"))?;
+    let octets = story(alloc)?;
+    let lines = b"Rates stay.\nNo change.\n";
+    expect(&rt, alloc, &[octets.as_slice()], (Ok(246), lines))?;
+    expect(
+        &rt,
+        alloc,
+        &[&SMALLEST, octets.as_slice()],
+        (Ok(114), b"\n"),
+    )?;
+    let long: &[u8] = b"\x80\x04\x00\x00\x00\x03";
+    expect(
+        &rt,
+        alloc,
+        &[&SMALLEST[..24], long, &SMALLEST[26..]],
+        (Ok(118), b"\n"),
+    )
+}
+
+#[test]
+fn parts_of_the_story(rt: HostRuntime) -> Result<(), Fail> {
+    let octets = story(rt.alloc())?;
+    let mut lines = Lines::new(rt.alloc());
+    let mut unpacker = Unpacker::new(rt.alloc(), LIMITS)?;
+    assert!(rt; unpacker.feed(octets.as_slice(), &mut lines).is_ok());
+    assert!(rt; unpacker.is_done());
+    assert!(rt; !unpacker.is_failed());
+    assert_eq!(rt; unpacker.octets(), 246);
+    let Ok(got) = unpacker.into_unpacked() else {
+        return Err(Fail::from("not done"));
+    };
+    assert_eq!(rt; got.envelope.fields().count(), 16);
+    let names: [(u8, u8); 9] = [
+        (2, 105),
+        (2, 80),
+        (2, 85),
+        (2, 80),
+        (2, 85),
+        (2, 25),
+        (2, 25),
+        (2, 25),
+        (2, 250),
+    ];
+    for ((rec, set, _), name) in got.envelope.fields().skip(7).zip(names) {
+        assert_eq!(rt; (rec, set), name);
+    }
+    let kept: &[u8] = b"\x00\xff";
+    assert_eq!(rt; got.envelope.first(2, 250), Some(kept));
+    assert_eq!(rt; got.head.source(), b"TST".as_slice());
+    assert_eq!(rt; got.head.number(), b"0007".as_slice());
+    assert_eq!(rt; got.head.category(), b"ECO".as_slice());
+    assert_eq!(rt; got.head.info(), b"rates".as_slice());
+    assert_eq!(rt; got.sizes.announced, Some(50));
+    assert_eq!(rt; got.sizes.total, 50);
+    assert_eq!(rt; got.sizes.subfiles, 1);
+    Ok(())
+}
+
+#[test]
+fn tags(rt: HostRuntime) -> Result<(), Fail> {
+    let alloc = rt.alloc();
+    let bad = |names, octet, cause| refused(Layer::Dataset, names, octet, cause, b"\n");
+    let forms: [(&[u8], usize); 3] = [(b"\x80\x00", 4), (b"\x80\x05", 4), (b"\x81\x01", 3)];
+    for (form, octet) in forms {
+        let want = bad((1, 0), octet, Cause::CountForm);
+        expect(&rt, alloc, &[&SMALLEST[..3], form, &SMALLEST[5..]], want)?;
+    }
+    expect(
+        &rt,
+        alloc,
+        &[b"\x1d", &SMALLEST[1..]],
+        bad((0, 0), 0, Cause::Marker),
+    )
+}
+
+#[test]
+fn records(rt: HostRuntime) -> Result<(), Fail> {
+    let alloc = rt.alloc();
+    let bad = |names, octet, cause| refused(Layer::Record, names, octet, cause, b"\n");
+    let octets = story(alloc)?;
+    let octets = octets.as_slice();
+    assert_eq!(rt; octets.len(), 246);
+    let rows: [(&[&[u8]], Answer); 10] = [
+        (
+            &[&octets[..77], &octets[62..]],
+            bad((2, 105), 81, Cause::Repeated),
+        ),
+        (
+            &[&SMALLEST[..25], b"\x0b", &SMALLEST[26..]],
+            bad((1, 30), 25, Cause::CountRange),
+        ),
+        (
+            &[&SMALLEST[..42], &SMALLEST[55..]],
+            bad((1, 70), 46, Cause::Missing),
+        ),
+        (
+            &[&SMALLEST[..21], &SMALLEST[29..42], &SMALLEST[55..]],
+            bad((1, 30), 38, Cause::Missing),
+        ),
+        (
+            &[&SMALLEST[..13], b"\x01", &SMALLEST[14..]],
+            bad((1, 20), 13, Cause::FileFormat),
+        ),
+        (
+            &[&SMALLEST[..56], b"\x03", &SMALLEST[57..]],
+            bad((3, 0), 59, Cause::RecordOrder),
+        ),
+        (
+            &[&SMALLEST[..64], b"\x1e", &SMALLEST[65..]],
+            bad((7, 30), 66, Cause::UnknownDataset),
+        ),
+        (
+            &[&SMALLEST[..73], b"\x00\x00\x00\x00", &SMALLEST[77..]],
+            bad((7, 20), 76, Cause::BadValue),
+        ),
+        // Behind octets that no envelope can have, the record layer is asked before the object's.
+        (
+            &[&SMALLEST[..85], b"\x0f", &SMALLEST[86..108], b"\x00\x00"],
+            bad((9, 10), 109, Cause::CountRange),
+        ),
+        (
+            &[&SMALLEST[..47], b"20230229", &SMALLEST[55..]],
+            bad((1, 70), 54, Cause::BadValue),
+        ),
+    ];
+    for (pieces, want) in rows {
+        expect(&rt, alloc, pieces, want)?;
+    }
+    Ok(())
+}
+
+#[test]
+fn sizes(rt: HostRuntime) -> Result<(), Fail> {
+    let alloc = rt.alloc();
+    let bad = |names, octet, cause| refused(Layer::Object, names, octet, cause, b"\n");
+    let maximum: &[u8] = b"\x1c\x07\x5f\x00\x04\x00\x00\x00\x0d";
+    let unknown: &[u8] = b"\x1c\x07\x0a\x00\x01\x00";
+    let rows: [(&[&[u8]], Answer); 6] = [
+        (
+            &[&SMALLEST[..67], b"\x00", &SMALLEST[68..]],
+            bad((7, 90), 85, Cause::ModeClash),
+        ),
+        (
+            &[
+                &SMALLEST[..62],
+                &SMALLEST[77..86],
+                &SMALLEST[68..77],
+                unknown,
+                &SMALLEST[86..],
+            ],
+            bad((7, 10), 85, Cause::ModeClash),
+        ),
+        (
+            &[&SMALLEST[..77], &SMALLEST[86..]],
+            bad((8, 10), 81, Cause::ModeClash),
+        ),
+        (
+            &[&SMALLEST[..86], maximum, &SMALLEST[86..]],
+            bad((7, 95), 94, Cause::SizeClash),
+        ),
+        (
+            &[&SMALLEST[..75], b"\x00\x0d", &SMALLEST[77..]],
+            bad((8, 10), 90, Cause::SubfileTooLong),
+        ),
+        // The object ends too early, and so does the message: the object's layer is asked first.
+        (
+            &[
+                &SMALLEST[..90],
+                b"\x0d",
+                &SMALLEST[91..104],
+                &SMALLEST[105..],
+            ],
+            bad((9, 10), 108, Cause::Short),
+        ),
+    ];
+    for (pieces, want) in rows {
+        expect(&rt, alloc, pieces, want)?;
+    }
+    let octets = story(alloc)?;
+    assert_eq!(rt; octets.len(), 246);
+    let lines = b"Rates stay.\nNo change.\n";
+    let want = refused(Layer::Object, (9, 10), 245, Cause::ConfirmedWrong, lines);
+    expect(&rt, alloc, &[&octets[..245], b"\x31"], want)
+}
+
+#[test]
+fn subfiles(rt: HostRuntime) -> Result<(), Fail> {
+    let alloc = rt.alloc();
+    let begun: &[u8] = b"\x64\x1c\x08\x0a\x00\x3c\x01X1 4 N 0\r\n\x02";
+    let first = vec![in alloc; b'a'; 48]?;
+    let rest = vec![in alloc; b'a'; 37]?;
+    let past = refused(
+        Layer::Object,
+        (8, 10),
+        155,
+        Cause::PastSize,
+        b"aaaaaaaaaaaaaaaaaaaaaaaaaaaaaaaaaaaaaaaaaaaaaaaa\n",
+    );
+    let head: &[u8] = b"\x1c\x08\x0a\x00\x29";
+    expect(
+        &rt,
+        alloc,
+        &[&SMALLEST[..85], begun, first.as_slice(), head],
+        past,
+    )?;
+    let short = refused(
+        Layer::Object,
+        (9, 10),
+        199,
+        Cause::Short,
+        b"aaaaaaaaaaaaaaaaaaaaaaaaaaaaaaaaaaaaaaaaaaaaaaaaaaaaaaaaaaaaaaaaaaaaaaaaaaaaaaaaaaaaa\n",
+    );
+    let second: &[u8] = b"\x1c\x08\x0a\x00\x27";
+    let end: &[u8] = b"\x03\x04\x1c\x09\x0a\x00\x04\x00\x00\x00\x63";
+    let pieces: [&[u8]; 6] = [
+        &SMALLEST[..85],
+        begun,
+        first.as_slice(),
+        second,
+        rest.as_slice(),
+        end,
+    ];
+    expect(&rt, alloc, &pieces, short)
+}
+
+#[test]
+fn texts(rt: HostRuntime) -> Result<(), Fail> {
+    let alloc = rt.alloc();
+    let head: &[u8] = b"\x01X1 4 N 0\r\n\x02";
+    let whole = sized(alloc, 24, &[head, b"a\nb\r\nc\r\r\nd", b"\x03\x04"])?;
+    expect(&rt, alloc, &[whole.as_slice()], (Ok(124), b"a\nb\nc\nd\n"))?;
+    let rows: [(&[u8], usize, Cause); 4] = [
+        (b"a\r\r\rbcdefg", 106, Cause::LoneReturn),
+        (b"a\x02bcdefghi", 104, Cause::ControlOctet),
+        (b"a\r\x03bcdefgh", 105, Cause::LoneReturn),
+        (b"a\r\x01bcdefgh", 105, Cause::LoneReturn),
+    ];
+    for (text, octet, cause) in rows {
+        let octets = sized(alloc, 24, &[head, text, b"\x03\x04"])?;
+        let want = refused(Layer::Story, (8, 10), octet, cause, b"a\n");
+        expect(&rt, alloc, &[octets.as_slice()], want)?;
+    }
+    Ok(())
+}
+
+#[test]
+fn messages(rt: HostRuntime) -> Result<(), Fail> {
+    let alloc = rt.alloc();
+    let bad = |names, octet, cause| refused(Layer::Message, names, octet, cause, b"\n");
+    let head: &[u8] = b"\x01X1 4 N 0";
+    let end: &[u8] = b"\x02\x03\x04";
+    let returns = vec![in alloc; b'\r'; 31]?;
+    let gap = sized(alloc, 44, &[head, returns.as_slice(), b"\n", end])?;
+    expect(&rt, alloc, &[gap.as_slice()], (Ok(144), b"\n"))?;
+    let gap = sized(alloc, 44, &[head, returns.as_slice(), b"\r", end])?;
+    expect(
+        &rt,
+        alloc,
+        &[gap.as_slice()],
+        bad((8, 10), 131, Cause::BadOctet),
+    )?;
+    let open = sized(alloc, 13, &[head, b"\r\n\x02\x03"])?;
+    expect(
+        &rt,
+        alloc,
+        &[open.as_slice()],
+        bad((9, 10), 108, Cause::Unfinished),
+    )?;
+    let filler = vec![in alloc; b'\n'; 33]?;
+    assert_eq!(rt; filler.len(), 33);
+    let full = sized(alloc, 46, &[head, b"\r\n", end, &filler[..32]])?;
+    expect(&rt, alloc, &[full.as_slice()], (Ok(146), b"\n"))?;
+    let past = sized(alloc, 47, &[head, b"\r\n", end, &filler[..33]])?;
+    expect(
+        &rt,
+        alloc,
+        &[past.as_slice()],
+        bad((8, 10), 137, Cause::BadOctet),
+    )
+}
+
+#[test]
+fn limits(rt: HostRuntime) -> Result<(), Fail> {
+    let alloc = rt.alloc();
+    let octets = story(alloc)?;
+    let lines = b"Rates stay.\nNo change.\n";
+    let full = |cause| refused(Layer::Limits, (2, 250), 155, cause, b"\n");
+    let rows: [(u32, u32, Answer); 4] = [
+        (78, 16, (Ok(246), lines)),
+        (77, 16, full(Cause::HeaderFull)),
+        (78, 15, full(Cause::TooManyFields)),
+        (77, 15, full(Cause::HeaderFull)),
+    ];
+    for (octets_most, fields, want) in rows {
+        let limits = Limits {
+            octets: octets_most,
+            fields,
+        };
+        expect_within(&rt, alloc, limits, octets.as_slice(), want)?;
+    }
+    Ok(())
+}
+
+#[test]
+fn nothing_changes_any_more(rt: HostRuntime) -> Result<(), Fail> {
+    let octets = story(rt.alloc())?;
+    let limits = Limits {
+        octets: 77,
+        fields: 16,
+    };
+    let mut lines = Lines::new(rt.alloc());
+    let mut unpacker = Unpacker::new(rt.alloc(), limits)?;
+    assert!(rt; unpacker.feed(octets.as_slice(), &mut lines).is_err());
+    let failed = refusal(Layer::Outside, (0, 0), 155, Cause::Failed);
+    for _ in 0..2 {
+        assert!(rt; unpacker.is_failed());
+        assert!(rt; !unpacker.is_done());
+        assert_eq!(rt; unpacker.feed(octets.as_slice(), &mut lines), Err(failed));
+        assert_eq!(rt; unpacker.end_of_input(), Some(failed));
+    }
+    let Err(unpacker) = unpacker.into_unpacked() else {
+        return Err(Fail::from("done"));
+    };
+    assert_eq!(rt; unpacker.end_of_input(), Some(failed));
+    let mut unpacker = Unpacker::new(rt.alloc(), LIMITS)?;
+    assert_eq!(rt;
+        unpacker.feed(&SMALLEST, &mut lines),
+        Ok(Progress::Done { used: 114 })
+    );
+    assert_eq!(rt;
+        unpacker.feed(octets.as_slice(), &mut lines),
+        Ok(Progress::Done { used: 0 })
+    );
+    assert_eq!(rt; unpacker.octets(), 114);
+    assert_eq!(rt; unpacker.end_of_input(), None);
+    let text = text_of(rt.alloc(), &lines)?;
+    assert_eq!(rt; text.as_slice(), b"\n".as_slice());
+    Ok(())
+}
+
+/// The numbers of the dataset that so many octets have begun, each 0 while it is not read.
+fn begun_at(tags: &[(usize, u8, u8, usize)], octets: usize) -> (u8, u8) {
+    let last = tags.iter().rev().find(|tag| tag.0 < octets);
+    let Some((offset, rec, set, count)) = last.copied() else {
+        return (0, 0);
+    };
+    match octets.saturating_sub(offset) {
+        1 => (0, 0),
+        2 => (rec, 0),
+        past if past < count.saturating_add(5) => (rec, set),
+        _ => (0, 0),
+    }
+}
+
+#[test]
+fn every_front_is_truncated(rt: HostRuntime) -> Result<(), Fail> {
+    let octets = story(rt.alloc())?;
+    let mut tags = Vec::new(rt.alloc());
+    for tag in TAGS {
+        if tag.0 < 62 {
+            tags.push(tag)?;
+        }
+    }
+    for tag in MORE_TAGS {
+        tags.push(tag)?;
+    }
+    let streams: [(&[u8], &[(usize, u8, u8, usize)]); 2] = [
+        (&SMALLEST, &TAGS),
+        (octets.as_slice(), tags.as_slice()),
+    ];
+    for (stream, tags) in streams {
+        let mut lines = Lines::new(rt.alloc());
+        let mut unpacker = Unpacker::new(rt.alloc(), LIMITS)?;
+        for (count, octet) in stream.iter().enumerate() {
+            let names = begun_at(tags, count);
+            let want = refusal(Layer::Dataset, names, count, Cause::Truncated);
+            assert_eq!(rt; unpacker.end_of_input(), Some(want));
+            assert_eq!(rt; unpacker.octets(), count as u64);
+            assert!(rt; unpacker.feed(&[*octet], &mut lines).is_ok());
+        }
+        assert_eq!(rt; unpacker.end_of_input(), None);
+    }
+    assert_eq!(rt; begun_at(tags.as_slice(), 64), (2, 0));
+    assert_eq!(rt; begun_at(tags.as_slice(), 200), (8, 10));
+    Ok(())
+}
+
+#[test]
+fn parts_of_the_smallest(rt: HostRuntime) -> Result<(), Fail> {
+    let mut unpacker = Unpacker::new(rt.alloc(), LIMITS)?;
+    let none = refusal(Layer::Dataset, (0, 0), 0, Cause::Truncated);
+    assert_eq!(rt; unpacker.end_of_input(), Some(none));
+    let mut lines = Lines::new(rt.alloc());
+    assert!(rt; unpacker.feed(&SMALLEST, &mut lines).is_ok());
+    let Ok(got) = unpacker.into_unpacked() else {
+        return Err(Fail::from("not done"));
+    };
+    assert_eq!(rt; got.envelope.fields().count(), 7);
+    assert_eq!(rt; got.head.source(), b"X".as_slice());
+    assert_eq!(rt; got.head.number(), b"1".as_slice());
+    assert_eq!(rt; got.head.category(), b"N".as_slice());
+    assert_eq!(rt; got.head.words(), b"0".as_slice());
+    assert!(rt; got.head.info().is_empty());
+    assert!(rt; got.trailer.is_empty());
+    assert!(rt; got.sizes.known);
+    assert_eq!(rt; got.sizes.subfile, 1024);
+    assert_eq!(rt; got.sizes.announced, Some(14));
+    assert_eq!(rt; got.sizes.maximum, None);
+    assert_eq!(rt; got.sizes.subfiles, 1);
+    assert_eq!(rt; got.sizes.total, 14);
+    Ok(())
+}
+
+#[test]
+fn pieces(rt: HostRuntime) -> Result<(), Fail> {
+    let octets = story(rt.alloc())?;
+    assert_eq!(rt; octets.len(), 246);
+    let cuts: [&[u8]; 6] = [
+        &octets[..1],
+        &[],
+        &octets[1..217],
+        &octets[217..],
+        &[],
+        &SMALLEST,
+    ];
+    let mut lines = Lines::new(rt.alloc());
+    let unpacker = Unpacker::new(rt.alloc(), LIMITS)?;
+    let Ok((got, used)) = unpack_pieces(unpacker, &cuts, &mut lines) else {
+        return Err(Fail::from("not an envelope"));
+    };
+    assert_eq!(rt; used, 246);
+    assert_eq!(rt; got.sizes.total, 50);
+    let text = text_of(rt.alloc(), &lines)?;
+    assert_eq!(rt; text.as_slice(), b"Rates stay.\nNo change.\n".as_slice());
+    let unpacker = Unpacker::new(rt.alloc(), LIMITS)?;
+    let short = refusal(Layer::Dataset, (8, 10), 217, Cause::Truncated);
+    let answer = unpack_pieces(unpacker, &cuts[..3], &mut lines);
+    assert_eq!(rt; answer.err(), Some(short));
+    let unpacker = Unpacker::new(rt.alloc(), LIMITS)?;
+    let again: [&[u8]; 2] = [&octets[..62], &octets[..1]];
+    let bad: [&[u8]; 3] = [&octets[..77], &octets[62..77], &[]];
+    let short = refusal(Layer::Dataset, (0, 0), 63, Cause::Truncated);
+    assert_eq!(rt;
+        unpack_pieces(unpacker, &again, &mut lines).err(),
+        Some(short)
+    );
+    let unpacker = Unpacker::new(rt.alloc(), LIMITS)?;
+    let twice = refusal(Layer::Record, (2, 105), 81, Cause::Repeated);
+    assert_eq!(rt;
+        unpack_pieces(unpacker, &bad, &mut lines).err(),
+        Some(twice)
+    );
+    Ok(())
+}
+
+#[test]
+fn a_refusal_is_printed(rt: HostRuntime) -> Result<(), Fail> {
+    let rows = [
+        (
+            refusal(Layer::Record, (1, 70), 46, Cause::Missing),
+            "refused at octet 46 by layer record on 1:70, cause 14 Missing",
+        ),
+        (
+            refusal(Layer::Dataset, (8, 10), 100, Cause::Truncated),
+            "refused at octet 100 by layer dataset on 8:10, cause 3 Truncated",
+        ),
+        (
+            refusal(Layer::Dataset, (1, 0), 4, Cause::CountForm),
+            "refused at octet 4 by layer dataset on 1:00, cause 2 CountForm",
+        ),
+    ];
+    for (refusal, text) in rows {
+        let line = format!(in rt.alloc(); "{refusal}")?;
+        assert_eq!(rt; line.as_str(), text);
+    }
+    Ok(())
+}

@@ -1,0 +1,20 @@
+-- Octets as text that can be printed.
+use Rattle.std.specs.Prelude.{ℕ, ◌+◌, ◌/◌, ◌%◌, if◌then◌else◌, nat_lt, List, [], ◌∷◌}
+use Rattle.std.specs.List.{flat_map}
+use Rattle.std.specs.Char.{is_ascii_control}
+
+-- the digit of a number below 16: 0 to 9, A to F
+abbrev pub hex_digit : ℕ → ℕ
+hex_digit n = if nat_lt n 10 then 48 + n else 55 + n
+
+-- \x and the two digits of an octet
+abbrev pub escape : ℕ → List ℕ
+escape octet = 92 ∷ 120 ∷ hex_digit (octet / 16) ∷ hex_digit (octet % 16) ∷ []
+
+-- a control character as \x and two digits, any other octet as it is
+abbrev pub uncontrolled : ℕ → List ℕ
+uncontrolled octet = if is_ascii_control octet then escape octet else octet ∷ []
+
+-- a name without its control characters
+abbrev pub shown_name : List ℕ → List ℕ
+shown_name name = flat_map uncontrolled name

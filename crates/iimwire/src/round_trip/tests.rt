@@ -1,0 +1,183 @@
+//! Envelopes packed, cut anywhere, and unpacked again. What is expected is worked out from the format.
+
+use super::unpack_packed;
+use iim_dataset::FromWrite;
+use iim_fields::Limits;
+use iim_object::{Plan, Size};
+use iim_pack::{pack, packed_size};
+use iim_unpack::{Cause, Progress, Unpacked, Unpacker};
+use std::alloc::Global;
+use std::process::Abort;
+use std::test::Fail;
+use wire_message::MessageHead;
+use wire_story::Lines;
+
+/// Those of the program.
+const LIMITS: Limits = Limits {
+    octets: 65_536,
+    fields: 512,
+};
+
+/// The mandatory datasets alone, and a story of one empty line.
+const SMALLEST: &[u8] =
+    b"\x1c\x01\x00\x00\x02\x00\x04\x1c\x01\x14\x00\x02\x00\x02\x1c\x01\x16\x00\x02\x00\x01\
+\x1c\x01\x1e\x00\x03TST\x1c\x01\x28\x00\x0800000001\x1c\x01\x46\x00\x0820240301\x1c\x02\x00\x00\x02\x00\x04\
+\x1c\x07\x0a\x00\x01\x01\x1c\x07\x14\x00\x04\x00\x00\x04\x00\x1c\x07\x5a\x00\x04\x00\x00\x00\x0e\
+\x1c\x08\x0a\x00\x0e\x01X1 4 N 0\r\n\x02\x03\x04\x1c\x09\x0a\x00\x04\x00\x00\x00\x0e";
+
+/// The same, with an extended count at 1:30.
+const EXTENDED: &[u8] =
+    b"\x1c\x01\x00\x00\x02\x00\x04\x1c\x01\x14\x00\x02\x00\x02\x1c\x01\x16\x00\x02\x00\x01\
+\x1c\x01\x1e\x80\x04\x00\x00\x00\x03TST\x1c\x01\x28\x00\x0800000001\x1c\x01\x46\x00\x0820240301\x1c\x02\x00\x00\x02\x00\x04\
+\x1c\x07\x0a\x00\x01\x01\x1c\x07\x14\x00\x04\x00\x00\x04\x00\x1c\x07\x5a\x00\x04\x00\x00\x00\x0e\
+\x1c\x08\x0a\x00\x0e\x01X1 4 N 0\r\n\x02\x03\x04\x1c\x09\x0a\x00\x04\x00\x00\x00\x0e";
+
+/// An envelope with by-lines, keywords and a story of two lines.
+const STORY: &[u8] =
+    b"\x1c\x01\x00\x00\x02\x00\x04\x1c\x01\x14\x00\x02\x00\x02\x1c\x01\x16\x00\x02\x00\x01\
+\x1c\x01\x1e\x00\x03TST\x1c\x01\x28\x00\x0800000002\x1c\x01\x46\x00\x0820240301\x1c\x02\x00\x00\x02\x00\x04\
+\x1c\x02\x69\x00\x0aRates held\x1c\x02\x50\x00\x07A. Moor\x1c\x02\x55\x00\x06Editor\
+\x1c\x02\x50\x00\x07B. Lund\x1c\x02\x55\x00\x06Writer\x1c\x02\x19\x00\x05rates\x1c\x02\x19\x00\x04bank\
+\x1c\x02\x19\x00\x04euro\x1c\x02\xfa\x00\x02\x00\xff\x1c\x07\x0a\x00\x01\x01\x1c\x07\x14\x00\x04\x00\x00\x04\x00\
+\x1c\x07\x5a\x00\x04\x00\x00\x00\x32\x1c\x08\x0a\x00\x32\x01TST0007 4 ECO 5 rates\r\n\x02Rates stay.\r\nNo change.\x03\x04\
+\x1c\x09\x0a\x00\x04\x00\x00\x00\x32";
+
+/// What the stream of these pieces unpacks to, its lines, and how many octets of it were used.
+fn unpacked(rt: &impl Abort, alloc: Global, pieces: &[&[u8]]) -> (Unpacked, Lines, u64) {
+    let mut lines = Lines::new(alloc);
+    let Ok(unpacker) = Unpacker::new(alloc, LIMITS) else {
+        panic!(rt; "memory");
+    };
+    match unpack_packed(unpacker, pieces, &mut lines) {
+        Ok((got, used)) => (got, lines, used),
+        Err(refusal) => panic!(rt; "refused at octet {}", refusal.octet),
+    }
+}
+
+/// The same, fed octet by octet with an empty piece before each.
+fn octet_by_octet(rt: &impl Abort, alloc: Global, octets: &[u8]) -> (Unpacked, Lines, u64) {
+    let mut lines = Lines::new(alloc);
+    let Ok(mut unpacker) = Unpacker::new(alloc, LIMITS) else {
+        panic!(rt; "memory");
+    };
+    let mut used = 0u64;
+    for octet in octets {
+        assert!(rt; matches!(unpacker.feed(&[], &mut lines), Ok(Progress::More)));
+        match unpacker.feed(&[*octet], &mut lines) {
+            Ok(Progress::More) => used = used.saturating_add(1),
+            Ok(Progress::Done { used: last }) => used = used.saturating_add(last as u64),
+            Err(_) => panic!(rt; "refused"),
+        }
+    }
+    match unpacker.into_unpacked() {
+        Ok(got) => (got, lines, used),
+        Err(_) => panic!(rt; "not done"),
+    }
+}
+
+fn packed(
+    rt: &impl Abort,
+    alloc: Global,
+    got: &Unpacked,
+    lines: &Lines,
+    subfile: u64,
+    size: Size,
+) -> Vec<u8> {
+    let Some(plan) = Plan::new(subfile, size) else {
+        panic!(rt; "plan");
+    };
+    let writer = FromWrite::new(Vec::new(alloc));
+    match pack(
+        alloc,
+        &got.envelope,
+        &got.head,
+        lines,
+        &got.trailer,
+        plan,
+        writer,
+    ) {
+        Ok(writer) => writer.into_inner(),
+        Err(_) => panic!(rt; "not packed"),
+    }
+}
+
+fn are_same(got: &Unpacked, lines: &Lines, other: &Unpacked, others: &Lines) -> bool {
+    got.envelope.same(&other.envelope)
+        && got.head.source() == other.head.source()
+        && got.head.number() == other.head.number()
+        && got.head.priority() == other.head.priority()
+        && got.head.category() == other.head.category()
+        && got.head.words() == other.head.words()
+        && got.head.info() == other.head.info()
+        && got.trailer.as_slice() == other.trailer.as_slice()
+        && lines.iter().eq(others.iter())
+}
+
+#[test]
+fn every_small_plan_comes_back(rt: HostRuntime) {
+    let alloc = rt.alloc();
+    for (octets, object) in [(SMALLEST, 14), (STORY, 50)] {
+        let (first, lines, _) = unpacked(&rt, alloc, &[octets]);
+        assert_eq!(rt;
+            packed_size(&first.head, &lines, &first.trailer),
+            Some(object)
+        );
+        for subfile in 1..61 {
+            for size in [
+                Size::Known(object),
+                Size::Unknown(None),
+                Size::Unknown(Some(1000)),
+            ] {
+                let again = packed(&rt, alloc, &first, &lines, subfile, size);
+                let cut = (subfile as usize * 5).min(again.len());
+                let pieces = [&again[..cut], b"", &again[cut..], b"\x1d and more"];
+                let (got, others, used) = unpacked(&rt, alloc, &pieces);
+                assert_eq!(rt; used, again.len() as u64);
+                assert!(rt; are_same(&got, &others, &first, &lines));
+                assert_eq!(rt; got.sizes.total, object);
+                assert_eq!(rt; got.sizes.subfiles, object.div_ceil(subfile));
+            }
+        }
+    }
+}
+
+#[test]
+fn subfiles_of_one_and_of_seven_octet_by_octet(rt: HostRuntime) {
+    let alloc = rt.alloc();
+    let (first, lines, _) = unpacked(&rt, alloc, &[STORY]);
+    for (subfile, length, subfiles) in [(1, 491, 50), (7, 281, 8)] {
+        let octets = packed(&rt, alloc, &first, &lines, subfile, Size::Known(50));
+        assert_eq!(rt; octets.len(), length);
+        let (got, others, used) = octet_by_octet(&rt, alloc, &octets);
+        assert_eq!(rt; used, length as u64);
+        assert_eq!(rt; got.sizes.subfiles, subfiles);
+        assert!(rt; are_same(&got, &others, &first, &lines));
+    }
+}
+
+#[test]
+fn an_extended_count_is_packed_as_a_standard_one(rt: HostRuntime) {
+    let alloc = rt.alloc();
+    let (got, lines, used) = unpacked(&rt, alloc, &[EXTENDED]);
+    assert_eq!(rt; used, 118);
+    let octets = packed(&rt, alloc, &got, &lines, 1024, Size::Known(14));
+    assert_eq!(rt; octets.as_slice(), SMALLEST);
+}
+
+#[test]
+fn a_packed_front_alone_is_truncated(rt: HostRuntime) {
+    let alloc = rt.alloc();
+    for length in 0..STORY.len() {
+        let mut lines = Lines::new(alloc);
+        let Ok(unpacker) = Unpacker::new(alloc, LIMITS) else {
+            panic!(rt; "memory");
+        };
+        match unpack_packed(unpacker, &[&STORY[..length]], &mut lines) {
+            Ok(_) => panic!(rt; "nothing ends there"),
+            Err(refusal) => {
+                assert!(rt; refusal.cause == Cause::Truncated);
+                assert_eq!(rt; refusal.octet, length as u64);
+            }
+        }
+    }
+}

@@ -1,0 +1,31 @@
+//! All that the program does once it has its words and its input.
+
+ghost use Rattle.iimwire.specs.Served.{Served};
+
+use crate::request::Request;
+use crate::run::run;
+use crate::start::{StartFault, hinder};
+use iim_dataset::{Source, Target};
+use std::alloc::Global;
+
+/// Carries out a request over its reader, or tells why there is none: the status, and both writers.
+pub fn serve<R: Source + Drop, W: Target, E: Target>(
+    alloc: Global,
+    begun: Result<(Request<'_>, R), StartFault<'_>>,
+    output: W,
+    errors: E,
+) -> (u8, W, E)
+    ensures { Served R.state R.leads begun.entry (W.state output) (W.state result.1) (E.state errors) (E.state result.2) result.0 }
+{
+    match begun {
+        Ok((request, reader)) => run(alloc, request, reader, output, errors),
+        Err(fault) => {
+            let mut errors = errors;
+            let status = hinder(alloc, fault, &mut errors);
+            (status, output, errors)
+        }
+    }
+}
+
+#[cfg(test)]
+mod tests;

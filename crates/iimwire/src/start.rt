@@ -1,0 +1,89 @@
+//! Why a run can't begin.
+
+ghost use Rattle.std.specs.Prelude.{◌≡◌, IfOk};
+
+use crate::fault::Fault;
+use crate::request::UsageFault;
+use crate::shown::push_name;
+use crate::status::{FAILED, USAGE};
+use iim_dataset::{Target, put};
+use std::alloc::{AllocError, Global};
+
+/// Why there is nothing to run.
+#[derive(Drop)]
+pub enum StartFault<'a> {
+    /// The words ask for nothing.
+    Usage(UsageFault),
+    /// The arguments are no text.
+    NoText,
+    /// The file of this name can't be opened.
+    CannotOpen(&'a str),
+    /// Memory was refused.
+    OutOfMemory,
+}
+
+ghost use Rattle.iimwire.specs.Starts.{status_of_usage, status_of_start, IsHindered, IsTextOf, IsTold};
+
+/// The status for a fault of the words.
+fn usage_status(fault: &UsageFault) -> u8
+    ensures { result ≡ status_of_usage fault.now }
+{
+    match fault {
+        UsageFault::Words(_) => USAGE,
+        UsageFault::OutOfMemory => FAILED,
+    }
+}
+
+/// The status for it.
+fn status(fault: &StartFault<'_>) -> u8
+    ensures { result ≡ status_of_start fault.now }
+{
+    match fault {
+        StartFault::Usage(fault) => usage_status(fault),
+        StartFault::NoText => USAGE,
+        StartFault::CannotOpen(_) | StartFault::OutOfMemory => FAILED,
+    }
+}
+
+/// The text that tells it.
+fn text(alloc: Global, fault: &StartFault<'_>) -> Result<Vec<u8>, AllocError>
+    ensures { IfOk result (λ text. IsTextOf fault.now text.items) }
+{
+    let mut text = Vec::new(alloc);
+    match fault {
+        StartFault::Usage(UsageFault::Words(error)) => {
+            let words = format!(in alloc; "{error}")?;
+            text.extend_from_slice(words.as_bytes())?;
+        }
+        StartFault::NoText => text.extend_from_slice(b"arguments are no text\n")?,
+        StartFault::CannotOpen(name) => {
+            text.extend_from_slice(b"cannot open ")?;
+            push_name(&mut text, name)?;
+            text.push(b'\n')?;
+        }
+        StartFault::Usage(UsageFault::OutOfMemory) | StartFault::OutOfMemory => {
+            text.extend_from_slice(Fault::OutOfMemory.line().as_bytes())?;
+        }
+    }
+    Ok(text)
+}
+
+/// Writes a text, and answers the status, or that of a fault where it can't be written.
+fn tell<E: Target>(errors: &mut E, text: &[u8], status: u8) -> u8
+    ensures { IsTold (E.state errors.old) (E.state errors.new) text.now status result }
+{
+    match put(errors, text) {
+        Ok(()) => status,
+        Err(_) => FAILED,
+    }
+}
+
+/// Tells why a run can't begin, and answers the status.
+pub fn hinder<E: Target>(alloc: Global, fault: StartFault<'_>, errors: &mut E) -> u8
+    ensures { IsHindered fault.entry (E.state errors.old) (E.state errors.new) result }
+{
+    match text(alloc, &fault) {
+        Ok(text) => tell(errors, text.as_slice(), status(&fault)),
+        Err(_) => tell(errors, Fault::OutOfMemory.line().as_bytes(), FAILED),
+    }
+}

@@ -1,0 +1,59 @@
+-- What holds of the words of lines, and the laws of a count of them, handed in by its impl.
+use Rattle.std.proofs.Common.{◌≡◌, ℕ, ◌+◌, ◌<◌, ◌^◌, Bool, false, true, min, List, [], ◌∷◌, ◌++◌, length, refl, sym, ap, ◌∙◌, arith}
+use Rattle.wire_story.specs.Texts.{IsText}
+use Rattle.wire_story.specs.Delivery.{Event, LineOctet, LineEnd, delivered}
+use Rattle.wire_story.specs.Words.{words_of, words, is_word_octet, begun_with, HasWords, WordsSoFar, capped, words_told, inside_after, CountsWords}
+
+-- A line has words in one way: there are such words, and no others, and the count is theirs.
+pub record WordsAreCounted (line : List ℕ) : Type 0 where
+  pub some : (found : List (List ℕ)) × HasWords line found
+  pub one : (found others : List (List ℕ)) → HasWords line found → HasWords line others → found ≡ others
+  pub count : (found : List (List ℕ)) → HasWords line found → words_of line ≡ length found
+
+abbrev pub WordsAreLongestRuns : Type 0
+WordsAreLongestRuns = (line : List ℕ) → WordsAreCounted line
+
+-- A count that began at nothing, and was told what is delivered of a text, is that of the words of its lines.
+abbrev pub TextsAreCountedAsLines : Type 0
+TextsAreCountedAsLines = (x : List ℕ) (lines : List (List ℕ)) (old new : WordsSoFar) → IsText x lines
+    → old.words ≡ 0 → old.inside ≡ false → CountsWords old (delivered x) new → new.words ≡ capped (words lines)
+
+-- ---- the laws of a sink
+
+pub told-append : (inside : Bool) (xs ys : List Event) → words_told inside (xs ++ ys) ≡ words_told inside xs + words_told (inside_after inside xs) ys
+told-append inside [] ys = omega arith
+told-append inside (LineOctet b ∷ xs) ys =
+    let more : words_told (is_word_octet b) (xs ++ ys) ≡ words_told (is_word_octet b) xs + words_told (inside_after (is_word_octet b) xs) ys = told-append (is_word_octet b) xs ys in
+    omega (arith, more)
+told-append inside (LineEnd ∷ xs) ys = told-append false xs ys
+
+pub inside-append : (inside : Bool) (xs ys : List Event) → inside_after inside (xs ++ ys) ≡ inside_after (inside_after inside xs) ys
+inside-append inside [] ys = refl
+inside-append inside (LineOctet b ∷ xs) ys = inside-append (is_word_octet b) xs ys
+inside-append inside (LineEnd ∷ xs) ys = inside-append false xs ys
+
+capped_below : (n : ℕ) → n < 2 ^ 64 → n ≡ capped (n + 0)
+capped_below n h = omega (arith, h)
+
+capped_less : (m n : ℕ) → m ≡ capped n → m < 2 ^ 64
+capped_less m n h = omega (arith, h)
+
+capped_both : (m a x y : ℕ) → m ≡ capped (a + x) → capped (m + y) ≡ capped (a + (x + y))
+capped_both m a x y h = omega (arith, h)
+
+pub counts_nothing : (sink : WordsSoFar) → CountsWords sink [] sink
+counts_nothing sink = record {
+  words = λ few. capped_below sink.words few;
+  inside = refl;
+}
+
+pub counts_joined : (a b c : WordsSoFar) (xs ys : List Event) → CountsWords a xs b → CountsWords b ys c → CountsWords a (xs ++ ys) c
+counts_joined a b c xs ys first then = record {
+  words = λ few.
+      let m : b.words ≡ capped (a.words + words_told a.inside xs) = first.words few in
+      then.words (capped_less b.words (a.words + words_told a.inside xs) m)
+      ∙ (ap (λ (inside : Bool). capped (b.words + words_told inside ys)) first.inside
+      ∙ (capped_both b.words a.words (words_told a.inside xs) (words_told (inside_after a.inside xs) ys) m
+      ∙ ap (λ (n : ℕ). capped (a.words + n)) (sym (told-append a.inside xs ys))));
+  inside = then.inside ∙ (ap (λ (inside : Bool). inside_after inside ys) first.inside ∙ sym (inside-append a.inside xs ys));
+}

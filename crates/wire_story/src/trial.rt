@@ -1,0 +1,146 @@
+//! A sink that stops at a chosen call, for tests.
+
+ghost use Rattle.std.specs.Prelude.{◌≡◌, ◌<◌, [], ◌∷◌, length, map, take, IsErr, IfErr, OnOk, OnErr};
+ghost use Rattle.iim_dataset.specs.Devices.{Rose};
+ghost use Rattle.wire_story.specs.Texts.{IsLine};
+ghost use Rattle.wire_story.specs.Delivery.{LineOctet, LineEnd};
+
+use crate::sink::StorySink;
+use iim_dataset::Stop;
+
+/// A sink that passes so many calls on to another sink, and stops at each later one: at a run after some of its octets,
+/// which it passes on, and at a line end at once. A run of no octets is never refused. It counts its stops, and those of the
+/// other sink, up to the greatest number of 64 bits.
+#[derive(Drop)]
+pub struct TrialSink<S> {
+    sink: S,
+    good: u64,
+    front: usize,
+    failures: u64,
+}
+
+impl<S: StorySink> TrialSink<S> {
+    ghost use Rattle.wire_story.specs.Trials.{sink_of, good_of, front_of, failures_of, PassesOn, UsesCall, StopsByPlan};
+
+    /// A sink with `good` good calls, which stops then after `front` octets of a run, or after all but its last.
+    pub fn new(sink: S, good: u64, front: usize) -> TrialSink<S>
+        ensures sink { sink_of result ≡ sink }
+        ensures good { good_of result ≡ good }
+        ensures front { front_of result ≡ front }
+        ensures failures { failures_of result ≡ 0 }
+    {
+        TrialSink {
+            sink,
+            good,
+            front,
+            failures: 0,
+        }
+    }
+
+    /// How often it stopped.
+    pub fn failures(&self) -> u64
+        ensures { result ≡ failures_of self.now }
+    {
+        self.failures
+    }
+
+    /// The sink that it stands before.
+    pub fn into_sink(self) -> S
+        ensures { result ≡ sink_of self }
+    {
+        let TrialSink {
+            sink,
+            good: _,
+            front: _,
+            failures: _,
+        } = self;
+        sink
+    }
+
+    /// Counts a stop.
+    fn stop(&mut self, taken: usize) -> Stop
+        ensures taken { result.taken ≡ taken }
+        ensures sink { sink_of self.new ≡ sink_of self.old }
+        ensures good { good_of self.new ≡ good_of self.old }
+        ensures front { front_of self.new ≡ front_of self.old }
+        ensures counted { Rose (failures_of self.old) (failures_of self.new) }
+    {
+        self.failures = self.failures.saturating_add(1);
+        Stop { taken }
+    }
+
+    /// Passes octets on, and counts a stop.
+    fn pass(&mut self, run: &[u8]) -> Result<(), Stop>
+        requires { IsLine run.now }
+        ensures ok { OnOk result (PassesOn S.goes self.old (map LineOctet run.now) self.new) }
+        ensures calm { OnOk result (failures_of self.new ≡ failures_of self.old) }
+        ensures refused { IfErr result (λ stop. stop.taken < length run.now) }
+        ensures passed { IfErr result (λ stop.
+            PassesOn S.goes self.old (map LineOctet (take stop.taken run.now)) self.new) }
+        ensures counted { OnErr result (Rose (failures_of self.old) (failures_of self.new)) }
+        ensures good { good_of self.new ≡ good_of self.old }
+        ensures front { front_of self.new ≡ front_of self.old }
+        ensures stopped { OnErr result (Rose (S.failures (sink_of self.old)) (S.failures (sink_of self.new))) }
+    {
+        match self.sink.text(run) {
+            Ok(()) => Ok(()),
+            Err(stop) => Err(self.stop(stop.taken)),
+        }
+    }
+}
+
+impl<S: StorySink> StorySink for TrialSink<S> {
+    ghost use Rattle.wire_story.specs.Trials.{sink_of, good_of, failures_of, PassesOn, UsesCall, StopsByPlan};
+
+    ghost goes = { PassesOn S.goes };
+
+    ghost failures = { failures_of };
+
+    ghost nothing = { λ trial. S.nothing (sink_of trial) };
+
+    ghost joined = { λ a b c xs ys first then. S.joined (sink_of a) (sink_of b) (sink_of c) xs ys first then };
+
+    fn text(&mut self, run: &[u8]) -> Result<(), Stop>
+        requires { IsLine run.now }
+        ensures ok { OnOk result (PassesOn S.goes self.old (map LineOctet run.now) self.new) }
+        ensures calm { OnOk result (failures_of self.new ≡ failures_of self.old) }
+        ensures refused { IfErr result (λ stop. stop.taken < length run.now) }
+        ensures front { IfErr result (λ stop.
+            PassesOn S.goes self.old (map LineOctet (take stop.taken run.now)) self.new) }
+        ensures counted { OnErr result (Rose (failures_of self.old) (failures_of self.new)) }
+        ensures call { UsesCall self.old self.new }
+        ensures stops { good_of self.old ≡ 0 → 0 < length run.now → IsErr result }
+        ensures plan { IfErr result (λ stop. StopsByPlan S.failures self.old (length run.now) stop.taken self.new) }
+    {
+        if self.good > 0 {
+            self.good -= 1;
+            return self.pass(run);
+        }
+        if run.is_empty() {
+            return Ok(());
+        }
+        let front = self.front.min(run.len() - 1);
+        self.pass(&run[..front])?;
+        Err(self.stop(front))
+    }
+
+    fn line_end(&mut self) -> Result<(), Stop>
+        ensures ok { OnOk result (PassesOn S.goes self.old (LineEnd ∷ []) self.new) }
+        ensures calm { OnOk result (failures_of self.new ≡ failures_of self.old) }
+        ensures refused { IfErr result (λ stop. stop.taken ≡ 0) }
+        ensures front { OnErr result (PassesOn S.goes self.old [] self.new) }
+        ensures counted { OnErr result (Rose (failures_of self.old) (failures_of self.new)) }
+        ensures call { UsesCall self.old self.new }
+        ensures stops { good_of self.old ≡ 0 → IsErr result }
+        ensures plan { IfErr result (λ stop. StopsByPlan S.failures self.old 1 stop.taken self.new) }
+    {
+        if self.good == 0 {
+            return Err(self.stop(0));
+        }
+        self.good -= 1;
+        match self.sink.line_end() {
+            Ok(()) => Ok(()),
+            Err(stop) => Err(self.stop(stop.taken)),
+        }
+    }
+}
