@@ -5,3 +5,4 @@ pub mod Adding
 pub mod Scripts
 pub mod Faults
 pub mod Steps
+pub mod Causes
