@@ -132,7 +132,7 @@ begins_with_digit : (digits rest : List ℕ) → 1 ≤ length digits → list_al
 begins_with_digit [] rest some h = absurd (omega (arith, some))
 begins_with_digit (x ∷ digits) rest some h = (and_both (is_digit x) (list_all is_digit digits) h).0
 
-field_digit : (line : List ℕ) (d : Dataset) → TellsField line d → is_digit (get_or line 0 0) ≡ true
+pub field_digit : (line : List ℕ) (d : Dataset) → TellsField line d → is_digit (get_or line 0 0) ≡ true
 field_digit line d t =
     let names = t.names in
     let rest = 58 ∷ names.set_digits ++ t.end in

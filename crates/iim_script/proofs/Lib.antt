@@ -5,3 +5,4 @@ pub mod Heads
 pub mod Next
 pub mod Fronts
 pub mod Stories
+pub mod Once

@@ -6,3 +6,4 @@ pub mod Scripts
 pub mod Faults
 pub mod Steps
 pub mod Causes
+pub mod Laws

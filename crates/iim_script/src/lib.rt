@@ -7,6 +7,7 @@
 
 mod fault;
 mod field;
+mod laws;
 mod line;
 mod message;
 mod number;
@@ -19,5 +20,6 @@ mod story;
 mod tests;
 
 pub use fault::{ScriptCause, ScriptFault};
+pub use laws::{forms_exclude_one_another, lines_tell_one_thing, octets_have_one_next_line};
 pub use reading::read_script;
 pub use script::Script;
