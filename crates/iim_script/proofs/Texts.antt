@@ -1,0 +1,161 @@
+-- Octets as text.
+use Rattle.std.proofs.Common.{◌≡◌, inl, inr, ℕ, ◌+◌, ◌-◌, ◌<◌, ◌≤◌, List, [], ◌∷◌, ◌++◌, append_assoc, length, take, drop, get_or, refl, ap, sym, ◌∙◌, subst, arith}
+use Rattle.std.proofs.lemmas.List.{take_rest, append-nil}
+use Rattle.iim_script.specs.Shown.{IsHexDigit, IsOfDigits, BeginsWith, Tells, TellsLast}
+
+-- the first octet, and the others
+pub first_and_rest : (xs : List ℕ) → 0 < length xs → xs ≡ get_or xs 0 0 ∷ take (length xs - 1) (drop 1 xs)
+first_and_rest [] some = absurd (omega (arith, some))
+first_and_rest (x ∷ xs) some = ap (λ (l : List ℕ). x ∷ l) (sym (take_rest (x ∷ xs) 1))
+
+-- the first three, and the others
+pub three_and_rest : (xs : List ℕ) → 3 ≤ length xs → xs ≡ get_or xs 0 0 ∷ get_or xs 1 0 ∷ get_or xs 2 0 ∷ take (length xs - 3) (drop 3 xs)
+three_and_rest [] some = absurd (omega (arith, some))
+three_and_rest (x ∷ []) some = absurd (omega (arith, some))
+three_and_rest (x ∷ y ∷ []) some = absurd (omega (arith, some))
+three_and_rest (x ∷ y ∷ z ∷ xs) some = ap (λ (l : List ℕ). x ∷ y ∷ z ∷ l) (sym (take_rest (x ∷ y ∷ z ∷ xs) 3))
+
+-- an escape at the front
+pub escape_begins : (after : List ℕ) (octet : ℕ) → 3 ≤ length after → get_or after 0 0 ≡ 120 → IsOfDigits (get_or after 1 0) (get_or after 2 0) octet
+    → BeginsWith (92 ∷ after) octet (take (length after - 3) (drop 3 after))
+escape_begins after octet some x digits =
+    let high = get_or after 1 0 in
+    let low = get_or after 2 0 in
+    let rest = take (length after - 3) (drop 3 after) in (
+      92 ∷ 120 ∷ high ∷ low ∷ [],
+      inr (high, low, refl, digits),
+      ap (λ (l : List ℕ). 92 ∷ l) (three_and_rest after some ∙ ap (λ (n : ℕ). n ∷ high ∷ low ∷ rest) x),
+    )
+
+-- what begins with a backslash and an octet begins with an escape
+pub escape_at : (after rest : List ℕ) (octet : ℕ) → BeginsWith (92 ∷ after) octet rest
+    → (3 ≤ length after) × (get_or after 0 0 ≡ 120) × IsOfDigits (get_or after 1 0) (get_or after 2 0) octet
+escape_at after rest octet (piece, inl (other, is), e) = absurd (other (sym (ap (λ (l : List ℕ). get_or l 0 0) (e ∙ ap (λ (l : List ℕ). l ++ rest) is))))
+escape_at after rest octet (piece, inr (high, low, is, digits), e) =
+    let whole : after ≡ 120 ∷ high ∷ low ∷ rest = ap (λ (l : List ℕ). drop 1 l) (e ∙ ap (λ (l : List ℕ). l ++ rest) is) in
+    let len : length after ≡ 3 + length rest = ap length whole ∙ omega arith in (
+      omega (arith, len),
+      ap (λ (l : List ℕ). get_or l 0 0) whole,
+      subst (λ (n : ℕ). IsOfDigits n (get_or after 2 0) octet) (sym (ap (λ (l : List ℕ). get_or l 1 0) whole))
+          (subst (λ (n : ℕ). IsOfDigits high n octet) (sym (ap (λ (l : List ℕ). get_or l 2 0) whole)) digits),
+    )
+
+pub empty_begins : (rest : List ℕ) (octet : ℕ) → BeginsWith [] octet rest → ⊥
+empty_begins rest octet (piece, inl (other, is), e) = absurd (omega (arith, ap length (e ∙ ap (λ (l : List ℕ). l ++ rest) is)))
+empty_begins rest octet (piece, inr (high, low, is, digits), e) = absurd (omega (arith, ap length (e ∙ ap (λ (l : List ℕ). l ++ rest) is)))
+
+-- a digit has one value
+pub digit_once : (d v w : ℕ) → IsHexDigit d v → IsHexDigit d w → v ≡ w
+digit_once d v w (inl a) (inl b) = omega (arith, a.2, b.2)
+digit_once d v w (inl a) (inr (inl b)) = absurd (omega (arith, a.1, b.0))
+digit_once d v w (inl a) (inr (inr b)) = absurd (omega (arith, a.1, b.0))
+digit_once d v w (inr (inl a)) (inl b) = absurd (omega (arith, a.0, b.1))
+digit_once d v w (inr (inl a)) (inr (inl b)) = omega (arith, a.2, b.2)
+digit_once d v w (inr (inl a)) (inr (inr b)) = absurd (omega (arith, a.1, b.0))
+digit_once d v w (inr (inr a)) (inl b) = absurd (omega (arith, a.0, b.1))
+digit_once d v w (inr (inr a)) (inr (inl b)) = absurd (omega (arith, a.0, b.1))
+digit_once d v w (inr (inr a)) (inr (inr b)) = omega (arith, a.2, b.2)
+
+pub octet_once : (high low a b : ℕ) → IsOfDigits high low a → IsOfDigits high low b → a ≡ b
+octet_once high low a b (h, l, is_h, is_l, e) (k, m, is_k, is_m, f) =
+    let same_high = digit_once high h k is_h is_k in
+    let same_low = digit_once low l m is_l is_m in
+    omega (arith, same_high, same_low, e, f)
+
+-- a text begins in one way
+pub begins_once : (text rest more : List ℕ) (a b : ℕ) → BeginsWith text a rest → BeginsWith text b more → (a ≡ b) × (rest ≡ more)
+begins_once text rest more a b (p, inl (n, is), e) (q, inl (m, js), f) =
+    let same : a ∷ rest ≡ b ∷ more = sym (e ∙ ap (λ (l : List ℕ). l ++ rest) is) ∙ (f ∙ ap (λ (l : List ℕ). l ++ more) js) in
+    (ap (λ (l : List ℕ). get_or l 0 0) same, ap (λ (l : List ℕ). drop 1 l) same)
+begins_once text rest more a b (p, inl (n, is), e) (q, inr (high, low, js, digits), f) =
+    absurd (n (ap (λ (l : List ℕ). get_or l 0 0) (sym (e ∙ ap (λ (l : List ℕ). l ++ rest) is) ∙ (f ∙ ap (λ (l : List ℕ). l ++ more) js))))
+begins_once text rest more a b (p, inr (high, low, is, digits), e) (q, inl (m, js), f) =
+    absurd (m (ap (λ (l : List ℕ). get_or l 0 0) (sym (f ∙ ap (λ (l : List ℕ). l ++ more) js) ∙ (e ∙ ap (λ (l : List ℕ). l ++ rest) is))))
+begins_once text rest more a b (p, inr (high, low, is, digits), e) (q, inr (h, l, js, others), f) =
+    let same : 92 ∷ 120 ∷ high ∷ low ∷ rest ≡ 92 ∷ 120 ∷ h ∷ l ∷ more = sym (e ∙ ap (λ (xs : List ℕ). xs ++ rest) is) ∙ (f ∙ ap (λ (xs : List ℕ). xs ++ more) js) in (
+      octet_once high low a b digits
+          (subst (λ (n : ℕ). IsOfDigits n low b) (sym (ap (λ (xs : List ℕ). get_or xs 2 0) same))
+          (subst (λ (n : ℕ). IsOfDigits h n b) (sym (ap (λ (xs : List ℕ). get_or xs 3 0) same)) others)),
+      ap (λ (xs : List ℕ). drop 4 xs) same,
+    )
+
+-- What is told of a text so far, with what is left of it: it leads to what the whole text tells, and to nothing else.
+pub record Onto (text octets rest : List ℕ) : Type 0 where
+  pub leads : (ys : List ℕ) → Tells rest ys → Tells text (octets ++ ys)
+  pub only : (all : List ℕ) → Tells text all → (ys : List ℕ) × (all ≡ octets ++ ys) × Tells rest ys
+
+pub onto_start : (text : List ℕ) → Onto text [] text
+onto_start text = record { leads = λ ys h. h; only = λ all h. (all, refl, h) }
+
+none_left : (rest : List ℕ) (octet : ℕ) (more : List ℕ) → BeginsWith rest octet more → rest ≡ [] → ⊥
+none_left rest octet more h e = empty_begins more octet (subst (λ (l : List ℕ). BeginsWith l octet more) e h)
+
+only_step : (octets rest more ys all : List ℕ) (octet : ℕ) → BeginsWith rest octet more → all ≡ octets ++ ys → Tells rest ys
+    → (zs : List ℕ) × (all ≡ (octets ++ octet ∷ []) ++ zs) × Tells more zs
+only_step octets rest more [] all octet begins e told = absurd (none_left rest octet more begins told)
+only_step octets rest more (y ∷ ys) all octet begins e (after, at, told) =
+    let same = begins_once rest more after octet y begins at in
+    (ys, e ∙ (ap (λ (n : ℕ). octets ++ n ∷ ys) (sym same.0) ∙ sym (append_assoc octets (octet ∷ []) ys)), subst (λ (l : List ℕ). Tells l ys) (sym same.1) told)
+
+pub onto_step : (text octets rest more : List ℕ) (octet : ℕ) → Onto text octets rest → BeginsWith rest octet more → Onto text (octets ++ octet ∷ []) more
+onto_step text octets rest more octet onto begins = record {
+  leads = λ ys told. subst (λ (l : List ℕ). Tells text l) (sym (append_assoc octets (octet ∷ []) ys)) (onto.leads (octet ∷ ys) (more, begins, told));
+  only = λ all told. let h = onto.only all told in only_step octets rest more h.0 all octet begins h.1 h.2;
+}
+
+-- nothing is left
+pub onto_end : (text octets rest : List ℕ) → Onto text octets rest → length rest ≡ 0 → Tells text octets
+onto_end text octets [] onto none = subst (λ (l : List ℕ). Tells text l) (append-nil octets) (onto.leads [] refl)
+onto_end text octets (x ∷ rest) onto none = absurd (omega (arith, none))
+
+no_start : (rest ys : List ℕ) → (0 < length rest) → ((octet : ℕ) (more : List ℕ) → BeginsWith rest octet more → ⊥) → Tells rest ys → ⊥
+no_start rest [] some none told = absurd (omega (arith, some, ap length told))
+no_start rest (y ∷ ys) some none (more, begins, told) = none y more begins
+
+-- what is left begins with no octet
+pub onto_none : (text octets rest : List ℕ) → Onto text octets rest → (0 < length rest) → ((octet : ℕ) (more : List ℕ) → BeginsWith rest octet more → ⊥)
+    → (all : List ℕ) → Tells text all → ⊥
+onto_none text octets rest onto some none all told = let h = onto.only all told in no_start rest h.0 some none h.2
+
+pub some_there : (xs : List ℕ) → (length xs ≡ 0 → ⊥) → 0 < length xs
+some_there xs n = omega (arith, n)
+
+nil_of : (xs : List ℕ) → length xs ≡ 0 → xs ≡ []
+nil_of [] e = refl
+nil_of (x ∷ xs) e = absurd (omega (arith, e))
+
+-- what ends a line, where SP begins it
+pub no_last : (end text : List ℕ) → end ≡ 32 ∷ text → ((octets : List ℕ) → Tells text octets → ⊥) → (octets : List ℕ) → TellsLast end octets → ⊥
+no_last end text e none [] told = absurd (omega (arith, ap length (sym e ∙ told)))
+no_last end text e none (octet ∷ octets) (other, is, told) =
+    none (octet ∷ octets) (subst (λ (l : List ℕ). Tells l (octet ∷ octets)) (ap (λ (l : List ℕ). drop 1 l) (sym is ∙ e)) told)
+
+pub some_last : (end text octets : List ℕ) → end ≡ 32 ∷ text → 0 < length text → Tells text octets → TellsLast end octets
+some_last end text [] e some told = absurd (omega (arith, some, ap length told))
+some_last end text (octet ∷ octets) e some told = (text, e, told)
+
+-- SP alone, or what SP does not begin
+pub space_alone : (end text : List ℕ) → end ≡ 32 ∷ text → length text ≡ 0 → (octets : List ℕ) → TellsLast end octets → ⊥
+space_alone end text e none [] told = absurd (omega (arith, ap length (sym e ∙ told)))
+space_alone end text e none (octet ∷ octets) (other, is, (more, begins, told)) =
+    none_left text octet more (subst (λ (l : List ℕ). BeginsWith l octet more) (ap (λ (l : List ℕ). drop 1 l) (sym is ∙ e)) begins) (nil_of text none)
+
+pub no_space : (end : List ℕ) → (get_or end 0 0 ≡ 32 → ⊥) → (0 < length end) → (octets : List ℕ) → TellsLast end octets → ⊥
+no_space end n some [] told = absurd (omega (arith, some, ap length told))
+no_space end n some (octet ∷ octets) (text, is, told) = n (ap (λ (l : List ℕ). get_or l 0 0) is)
+
+-- a text tells one thing
+pub tells_once : (text xs ys : List ℕ) → Tells text xs → Tells text ys → xs ≡ ys
+tells_once text [] [] h k = refl
+tells_once text [] (y ∷ ys) h (rest, begins, told) = absurd (none_left text y rest begins h)
+tells_once text (x ∷ xs) [] (rest, begins, told) k = absurd (none_left text x rest begins k)
+tells_once text (x ∷ xs) (y ∷ ys) (rest, begins, told) (more, at, tells) =
+    let same = begins_once text rest more x y begins at in
+    ap (λ (n : ℕ). n ∷ xs) same.0 ∙ ap (λ (l : List ℕ). y ∷ l) (tells_once rest xs ys told (subst (λ (l : List ℕ). Tells l ys) (sym same.1) tells))
+
+pub last_once : (end xs ys : List ℕ) → TellsLast end xs → TellsLast end ys → xs ≡ ys
+last_once end [] [] h k = refl
+last_once end [] (y ∷ ys) h (text, is, told) = absurd (omega (arith, ap length (sym is ∙ h)))
+last_once end (x ∷ xs) [] (text, is, told) k = absurd (omega (arith, ap length (sym is ∙ k)))
+last_once end (x ∷ xs) (y ∷ ys) (text, is, told) (more, at, tells) =
+    tells_once text (x ∷ xs) (y ∷ ys) told (subst (λ (l : List ℕ). Tells l (y ∷ ys)) (ap (λ (l : List ℕ). drop 1 l) (sym at ∙ is)) tells)

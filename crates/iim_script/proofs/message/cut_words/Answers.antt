@@ -1,0 +1,39 @@
+use Rattle.iim_script.specs.Forms.{after_source, after_number, after_priority, after_category}
+use Rattle.iim_script.proofs.Heads.{words_found, no_more, after_first, after_second, after_third}
+use Rattle.iim_script.proofs.message.cut_words.Goals as goal
+
+pub returns-in_default-clause-none : goal.returns-in_default-clause-none
+returns-in_default-clause-none c = λ w end t. no_more w.source (after_source w end) c.args.octets.now c.in_default.ensures.none t.octets_are
+
+pub returns-in_default-cut_at-clause-none : goal.returns-in_default-cut_at-clause-none
+returns-in_default-cut_at-clause-none c = λ w end t.
+    let one = c.in-Some.ensures.found in
+    no_more w.number (after_number w end) c.in-Some.after_source.now c.in_default-cut_at.ensures.none
+    (after_first c.args.octets.now c.in-Some.source.now c.in-Some.after_source.now w end one.0 one.1 t)
+
+pub returns-in_default-cut_at-2-clause-none : goal.returns-in_default-cut_at-2-clause-none
+returns-in_default-cut_at-2-clause-none c = λ w end t.
+    let one = c.in-Some.ensures.found in
+    let two = c.in-Some-cut_at.ensures.found in
+    no_more w.priority (after_priority w end) c.in-Some-cut_at.after_number.now c.in_default-cut_at-2.ensures.none
+    (after_second c.args.octets.now c.in-Some.source.now c.in-Some.after_source.now c.in-Some-cut_at.number.now c.in-Some-cut_at.after_number.now w end
+    one.0 one.1 two.0 two.1 t)
+
+pub returns-in_default-cut_at-3-clause-none : goal.returns-in_default-cut_at-3-clause-none
+returns-in_default-cut_at-3-clause-none c = λ w end t.
+    let one = c.in-Some.ensures.found in
+    let two = c.in-Some-cut_at.ensures.found in
+    let three = c.in-Some-cut_at-2.ensures.found in
+    no_more w.category (after_category w end) c.in-Some-cut_at-2.after_priority.now c.in_default-cut_at-3.ensures.none
+    (after_third c.args.octets.now c.in-Some.source.now c.in-Some.after_source.now c.in-Some-cut_at.number.now c.in-Some-cut_at.after_number.now
+    c.in-Some-cut_at-2.priority.now c.in-Some-cut_at-2.after_priority.now w end one.0 one.1 two.0 two.1 three.0 three.1 t)
+
+pub returns-clause-some : goal.returns-clause-some
+returns-clause-some c =
+    let one = c.in-Some.ensures.found in
+    let two = c.in-Some-cut_at.ensures.found in
+    let three = c.in-Some-cut_at-2.ensures.found in
+    let four = c.in-Some-cut_at-3.ensures.found in
+    words_found c.args.octets.now c.in-Some.source.now c.in-Some.after_source.now c.in-Some-cut_at.number.now c.in-Some-cut_at.after_number.now
+    c.in-Some-cut_at-2.priority.now c.in-Some-cut_at-2.after_priority.now c.in-Some-cut_at-3.category.now c.in-Some-cut_at-3.rest.now c.before_first-end.result
+    one.0 one.1 two.0 two.1 three.0 three.1 four.0 four.1 c.before_first-end.ensures.place

@@ -1,0 +1,26 @@
+-- The lines of a script.
+use Rattle.std.specs.Prelude.{◌≡◌, ℕ, ◌==◌, false, ◌⊎◌, List, [], ◌∷◌, ◌++◌}
+
+-- None of the octets is this one.
+abbrev pub HasNo : ℕ → List ℕ → Type 0
+HasNo b [] = Unit {0}
+HasNo b (x ∷ xs) = ((x == b) ≡ false) × HasNo b xs
+
+-- The last octet is CR.
+abbrev pub EndsInReturn : List ℕ → Type 0
+EndsInReturn line = (front : List ℕ) × (line ≡ front ++ 13 ∷ [])
+
+-- The octets are the line with its end: LF, and the one CR right before it that there may be.
+abbrev pub EndsLine : List ℕ → List ℕ → Type 0
+EndsLine line octets = HasNo 10 line × ((octets ≡ line ++ 13 ∷ 10 ∷ []) ⊎ ((octets ≡ line ++ 10 ∷ []) × (EndsInReturn line → ⊥)))
+
+-- The octets begin with the line and its end, and this follows.
+pub record NextLine (octets line after : List ℕ) : Type 0 where
+  pub ended : List ℕ
+  pub ends : EndsLine line ended
+  pub parts : octets ≡ ended ++ after
+
+-- The octets are the lines, each with its end.
+abbrev pub EndLines : List (List ℕ) → List ℕ → Type 0
+EndLines [] octets = octets ≡ []
+EndLines (line ∷ lines) octets = (ended : List ℕ) × (rest : List ℕ) × EndsLine line ended × EndLines lines rest × (octets ≡ ended ++ rest)

@@ -1,0 +1,34 @@
+-- Octets as text: printable ones as they are, and the others by escapes.
+use Rattle.std.specs.Prelude.{◌≡◌, ◌≢◌, ℕ, ◌+◌, ◌*◌, ◌≤◌, ◌⊎◌, List, [], ◌∷◌, ◌++◌}
+
+-- The digit has this value in hexadecimal, in either case.
+abbrev pub IsHexDigit : ℕ → ℕ → Type 0
+IsHexDigit digit value =
+    ((48 ≤ digit) × (digit ≤ 57) × (digit ≡ value + 48))
+    ⊎ (((65 ≤ digit) × (digit ≤ 70) × (digit ≡ value + 55)) ⊎ ((97 ≤ digit) × (digit ≤ 102) × (digit ≡ value + 87)))
+
+-- The octet has these two hexadecimal digits.
+abbrev pub IsOfDigits : ℕ → ℕ → ℕ → Type 0
+IsOfDigits high low octet = (h : ℕ) × (l : ℕ) × IsHexDigit high h × IsHexDigit low l × (octet ≡ h * 16 + l)
+
+-- `\x` and two hexadecimal digits
+abbrev pub IsEscape : List ℕ → ℕ → Type 0
+IsEscape piece octet = (high : ℕ) × (low : ℕ) × (piece ≡ 92 ∷ 120 ∷ high ∷ low ∷ []) × IsOfDigits high low octet
+
+-- The piece tells the octet: it is an escape, or the octet itself, which is no backslash.
+abbrev pub TellsOctet : List ℕ → ℕ → Type 0
+TellsOctet piece octet = ((octet ≢ 92) × (piece ≡ octet ∷ [])) ⊎ IsEscape piece octet
+
+-- The text begins with a piece that tells the octet, and goes on with the rest.
+abbrev pub BeginsWith : List ℕ → ℕ → List ℕ → Type 0
+BeginsWith text octet rest = (piece : List ℕ) × TellsOctet piece octet × (text ≡ piece ++ rest)
+
+-- The text tells the octets, one after another.
+abbrev pub Tells : List ℕ → List ℕ → Type 0
+Tells text [] = text ≡ []
+Tells text (octet ∷ octets) = (rest : List ℕ) × BeginsWith text octet rest × Tells rest octets
+
+-- What ends a line: nothing, for no octets; else SP, and a text of at least one octet.
+abbrev pub TellsLast : List ℕ → List ℕ → Type 0
+TellsLast end [] = end ≡ []
+TellsLast end (octet ∷ octets) = (text : List ℕ) × (end ≡ 32 ∷ text) × Tells text (octet ∷ octets)

@@ -1,0 +1,80 @@
+-- What the parts of the reader answer, each of what is left after so many lines.
+use Rattle.std.specs.Prelude.{◌≡◌, ℕ, ◌+◌, ◌⊎◌, List, [], Some}
+use Rattle.iim_dataset.specs.Datasets.{Dataset}
+use Rattle.iim_fields.specs.Builders.{finish_fault}
+use Rattle.iim_fields.specs.declared.limits.Limits.{Limits}
+use Rattle.iim_fields.specs.declared.fault.FieldFault.{FieldFault}
+use Rattle.wire_message.specs.Messages.{IsTrailer}
+use Rattle.wire_story.specs.Texts.{IsLine}
+use Rattle.iim_script.specs.Lines.{HasNo, NextLine}
+use Rattle.iim_script.specs.Forms.{TellsTrailer, text_word}
+use Rattle.iim_script.specs.Faults.{IsFrontFault, IsBadStory, TellsNoHead, TellsNoTrailer, TellsBadTrailer}
+use Rattle.iim_script.specs.declared.fault.ScriptCause.{ScriptCause}
+use Rattle.iim_script.specs.declared.fault.ScriptCause.TheVariants.{ScriptLine, Field, BadTrailer, BadTextOctet, OutOfMemory}
+
+-- the number of the line after so many, or 0 where memory is refused
+abbrev pub number_after : ℕ → ScriptCause → ℕ
+number_after count OutOfMemory = 0
+number_after count cause = count + 1
+
+-- The next line is as said, and this follows it.
+abbrev pub NextIs : (List ℕ → Type 0) → List ℕ → List ℕ → Type 0
+NextIs said rest after = (line : List ℕ) × NextLine rest line after × said line
+
+-- No LF ends the next line, or it is as said.
+abbrev pub LacksNext : (List ℕ → Type 0) → List ℕ → Type 0
+LacksNext said rest = HasNo 10 rest ⊎ ((after : List ℕ) × NextIs said rest after)
+
+-- The next line, where an LF ends it, is as said.
+abbrev pub NextMustBe : (List ℕ → Type 0) → List ℕ → Type 0
+NextMustBe said rest = (line after : List ℕ) → NextLine rest line after → said line
+
+-- A line of the fields is the first that is wrong.
+abbrev pub RefusesFields : Limits → List ℕ → ℕ → ScriptCause → Type 0
+RefusesFields limits script number ScriptLine = IsFrontFault limits script number ScriptLine
+RefusesFields limits script number (Field cause) = IsFrontFault limits script number (Field cause)
+RefusesFields limits script number OutOfMemory = number ≡ 0
+RefusesFields limits script number _ = ⊥
+
+-- The header's line is missing, or tells none.
+abbrev pub RefusesHead : List ℕ → ℕ → ℕ → ScriptCause → Type 0
+RefusesHead rest count number ScriptLine = (number ≡ count + 1) × LacksNext TellsNoHead rest
+RefusesHead rest count number OutOfMemory = number ≡ 0
+RefusesHead rest count number _ = ⊥
+
+-- A trailer of the next line; or none, where that line tells none.
+abbrev pub TakesTrailer : List ℕ → ℕ → List ℕ → List ℕ → ℕ → Type 0
+TakesTrailer rest count octets after next =
+    (NextIs (λ line. TellsTrailer line octets × IsTrailer octets) rest after × (next ≡ count + 1))
+    ⊎ (NextMustBe TellsNoTrailer rest × (octets ≡ []) × (after ≡ rest) × (next ≡ count))
+
+abbrev pub RefusesTrailer : List ℕ → ℕ → ℕ → ScriptCause → Type 0
+RefusesTrailer rest count number BadTrailer = (number ≡ count + 1) × (after : List ℕ) × NextIs TellsBadTrailer rest after
+RefusesTrailer rest count number OutOfMemory = number ≡ 0
+RefusesTrailer rest count number _ = ⊥
+
+-- The line `text` is missing.
+abbrev pub RefusesText : List ℕ → ℕ → ℕ → ScriptCause → Type 0
+RefusesText rest count number ScriptLine = (number ≡ count + 1) × LacksNext (λ line. line ≡ text_word → ⊥) rest
+RefusesText rest count number _ = ⊥
+
+-- The datasets make no envelope.
+abbrev pub RefusesEnd : List Dataset → ℕ → ℕ → ScriptCause → Type 0
+RefusesEnd ds count number (Field cause) = (number ≡ count + 1) × (fault : FieldFault) × (finish_fault ds ≡ Some fault) × (cause ≡ fault.cause)
+RefusesEnd ds count number _ = ⊥
+
+-- A line of the story is wrong.
+abbrev pub RefusesStory : List ℕ → ℕ → ℕ → ScriptCause → Type 0
+RefusesStory story text_line number BadTextOctet = IsBadStory story text_line number
+RefusesStory story text_line number OutOfMemory = number ≡ 0
+RefusesStory story text_line number _ = ⊥
+
+-- The line cannot be added to a story: it may not stand in one, or memory is refused.
+abbrev pub RefusesStoryLine : List ℕ → ScriptCause → Type 0
+RefusesStoryLine line BadTextOctet = IsLine line → ⊥
+RefusesStoryLine line OutOfMemory = Unit {0}
+RefusesStoryLine line _ = ⊥
+
+-- The line is the last of a story: with its end, or without one.
+abbrev pub IsLastLine : List ℕ → List ℕ → Type 0
+IsLastLine story line = NextLine story line [] ⊎ (HasNo 10 story × (line ≡ story))

@@ -1,0 +1,120 @@
+//! Why a script tells no envelope.
+
+ghost use Rattle.std.specs.Prelude.{◌≡◌, ◌≤◌};
+ghost use Rattle.iim_fields.specs.Causes.{number_of_cause};
+ghost use Rattle.iim_script.specs.Causes.{cause_number, cause_name, field_cause_name};
+ghost use Rattle.iim_script.specs.Steps.{number_after};
+
+use iim_fields::FieldCause;
+use std::alloc::AllocError;
+use thiserror::Error;
+
+/// What is wrong with a line of a script.
+#[derive(Clone, Copy, Debug, PartialEq, Eq)]
+pub enum ScriptCause {
+    /// The line has no form of a script's, or stands in the wrong place, or the line that is wanted is missing.
+    ScriptLine,
+    /// The script has more than 16,777,216 octets. It is told of line 0.
+    ScriptTooLong,
+    /// The dataset that the line tells is refused, or one is missing.
+    Field(FieldCause),
+    /// The octets may be no trailer.
+    BadTrailer,
+    /// The line of the story has an octet that may not stand in a line.
+    BadTextOctet,
+    /// Memory was refused. It is told of line 0.
+    OutOfMemory,
+}
+
+/// The number of a dataset's cause.
+fn field_number(cause: FieldCause) -> u8
+    ensures { result ≡ number_of_cause cause }
+{
+    match cause {
+        FieldCause::RecordOrder => 10,
+        FieldCause::UnknownDataset => 11,
+        FieldCause::Repeated => 12,
+        FieldCause::CountRange => 13,
+        FieldCause::Missing => 14,
+        FieldCause::BadValue => 15,
+        FieldCause::FileFormat => 16,
+        FieldCause::HeaderFull => 50,
+        FieldCause::TooManyFields => 51,
+    }
+}
+
+/// The name of a dataset's cause.
+fn field_name(cause: FieldCause) -> &'static str
+    ensures { result.now ≡ field_cause_name cause }
+{
+    match cause {
+        FieldCause::RecordOrder => "RecordOrder",
+        FieldCause::UnknownDataset => "UnknownDataset",
+        FieldCause::Repeated => "Repeated",
+        FieldCause::CountRange => "CountRange",
+        FieldCause::Missing => "Missing",
+        FieldCause::BadValue => "BadValue",
+        FieldCause::FileFormat => "FileFormat",
+        FieldCause::HeaderFull => "HeaderFull",
+        FieldCause::TooManyFields => "TooManyFields",
+    }
+}
+
+impl ScriptCause {
+    /// The number, as it is printed.
+    pub fn number(self) -> u8
+        ensures { result ≡ cause_number self }
+    {
+        match self {
+            ScriptCause::ScriptLine => 91,
+            ScriptCause::ScriptTooLong => 92,
+            ScriptCause::Field(cause) => field_number(cause),
+            ScriptCause::BadTrailer => 83,
+            ScriptCause::BadTextOctet => 82,
+            ScriptCause::OutOfMemory => 70,
+        }
+    }
+
+    /// The name, as it is printed.
+    pub fn name(self) -> &'static str
+        ensures { result.now ≡ cause_name self }
+    {
+        match self {
+            ScriptCause::ScriptLine => "ScriptLine",
+            ScriptCause::ScriptTooLong => "ScriptTooLong",
+            ScriptCause::Field(cause) => field_name(cause),
+            ScriptCause::BadTrailer => "BadTrailer",
+            ScriptCause::BadTextOctet => "BadTextOctet",
+            ScriptCause::OutOfMemory => "OutOfMemory",
+        }
+    }
+}
+
+/// A line of a script, counted from 1, and what is wrong with it.
+#[derive(Clone, Copy, Debug, PartialEq, Eq, Error, Drop)]
+#[error("script line {line}: {cause:?}")]
+pub struct ScriptFault {
+    /// The line's number; 0 where no line is at fault.
+    pub line: u64,
+    /// What is wrong.
+    pub cause: ScriptCause,
+}
+
+/// A fault of the line after so many. That memory was refused is told of line 0.
+pub(crate) fn fault_after(lines: u64, cause: ScriptCause) -> ScriptFault
+    requires { lines ≤ 16777216 }
+    ensures line { result.line ≡ number_after lines cause }
+    ensures cause { result.cause ≡ cause }
+{
+    let line = match cause {
+        ScriptCause::OutOfMemory => 0,
+        _ => lines + 1,
+    };
+    ScriptFault { line, cause }
+}
+
+impl From<AllocError> for ScriptCause {
+    fn from(_error: AllocError) -> ScriptCause {
+        ScriptCause::OutOfMemory
+    }
+}

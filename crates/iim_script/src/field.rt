@@ -1,0 +1,68 @@
+//! Lines that tell a dataset.
+
+ghost use Rattle.std.specs.Prelude.{◌≡◌, ◌≢◌, ◌++◌, ◌∷◌, [], not, ℕ, List, IfOk, IfErr, OnOk, OnErr, IfSome, IfNone};
+ghost use Rattle.std.specs.List.{position_or_len};
+ghost use Rattle.iim_dataset.specs.Datasets.{Dataset};
+ghost use Rattle.iim_script.specs.Forms.{TellsField, TellsNames, is_digit};
+ghost use Rattle.iim_script.specs.Adding.{Adds, RefusesLine};
+
+use crate::fault::ScriptCause;
+use crate::line::cut_at;
+use crate::number::{is_decimal, number};
+use crate::shown::read_last;
+use iim_fields::EnvelopeBuilder;
+use std::alloc::Global;
+
+/// How many digits stand at the front.
+fn digits(octets: &[u8]) -> usize
+    ensures { result ≡ position_or_len (λ b. not (is_digit b)) octets.now }
+{
+    for (at, octet) in octets.iter().enumerate() {
+        if !is_decimal(*octet) {
+            return at;
+        }
+    }
+    octets.len()
+}
+
+/// The numbers at the front of a line `R:D`, and what ends the line.
+fn names(line: &[u8]) -> Option<(u8, u8, &[u8])>
+    ensures some { IfSome result (λ names. TellsNames line.now names.0 names.1 names.2.now) }
+    ensures none { IfNone result ((rec set : ℕ) (end : List ℕ) → TellsNames line.now rec set end → ⊥) }
+{
+    let Some((before, after)) = cut_at(line, b':') else {
+        return None;
+    };
+    let Some(rec) = number(before) else {
+        return None;
+    };
+    let end = digits(after);
+    let Some(set) = number(&after[..end]) else {
+        return None;
+    };
+    Some((rec, set, &after[end..]))
+}
+
+/// Adds the dataset that a line tells; or answers why not, and changes nothing.
+pub(crate) fn add_line(
+    alloc: Global,
+    line: &[u8],
+    builder: &mut EnvelopeBuilder,
+) -> Result<(), ScriptCause>
+    ensures added { OnOk result (Adds line.now builder.old builder.new) }
+    ensures refused { IfErr result (RefusesLine line.now builder.old) }
+    ensures unchanged { OnErr result (builder.new ≡ builder.old) }
+{
+    let Some((rec, set, end)) = names(line) else {
+        return Err(ScriptCause::ScriptLine);
+    };
+    let octets = match read_last(alloc, end) {
+        Ok(Some(octets)) => octets,
+        Ok(None) => return Err(ScriptCause::ScriptLine),
+        Err(_) => return Err(ScriptCause::OutOfMemory),
+    };
+    match builder.add(rec, set, octets.as_slice()) {
+        Ok(()) => Ok(()),
+        Err(fault) => Err(ScriptCause::Field(fault.cause)),
+    }
+}

@@ -1,0 +1,59 @@
+//! The lines of a script.
+
+ghost use Rattle.std.specs.Prelude.{◌≡◌, ◌==◌, ◌≤◌, ◌<◌, ◌++◌, ◌∷◌, ℕ, List, length, IfSome, IfNone};
+ghost use Rattle.std.specs.List.{position_or_len};
+ghost use Rattle.iim_script.specs.Lines.{HasNo, NextLine};
+
+/// Ends a line.
+const LF: u8 = b'\n';
+
+/// Dropped where it stands right before the LF.
+const CR: u8 = b'\r';
+
+/// How many octets stand before the first of this one.
+pub(crate) fn before_first(octets: &[u8], octet: u8) -> usize
+    ensures place { result ≡ position_or_len (λ b. b == octet) octets.now }
+    ensures within { result ≤ length octets.now }
+{
+    for (at, other) in octets.iter().enumerate() {
+        if *other == octet {
+            return at;
+        }
+    }
+    octets.len()
+}
+
+/// What stands before the first of this octet, and what after it. None where there is none.
+pub(crate) fn cut_at(octets: &[u8], octet: u8) -> Option<(&[u8], &[u8])>
+    ensures found { IfSome result (λ parts. HasNo octet parts.0.now × (octets.now ≡ parts.0.now ++ octet ∷ parts.1.now)) }
+    ensures none { IfNone result (HasNo octet octets.now) }
+{
+    let end = before_first(octets, octet);
+    if end < octets.len() {
+        Some((&octets[..end], &octets[end + 1..]))
+    } else {
+        None
+    }
+}
+
+/// The first line, without its end, and the octets after it. None where no LF ends it.
+pub(crate) fn next_line(octets: &[u8]) -> Option<(&[u8], &[u8])>
+    ensures found { IfSome result (λ parts. NextLine octets.now parts.0.now parts.1.now) }
+    ensures shorter { IfSome result (λ parts. length parts.1.now < length octets.now) }
+    ensures none { IfNone result (HasNo 10 octets.now) }
+{
+    let (ended, after) = cut_at(octets, LF)?;
+    let len = ended.len();
+    if len > 0 && ended[len - 1] == CR {
+        return Some((&ended[..len - 1], after));
+    }
+    Some((ended, after))
+}
+
+/// What follows this front. None where the octets do not begin with it.
+pub(crate) fn after<'a>(octets: &'a [u8], front: &[u8]) -> Option<&'a [u8]>
+    ensures found { IfSome result (λ rest. octets.now ≡ front.now ++ rest.now) }
+    ensures none { IfNone result ((rest : List ℕ) → octets.now ≡ front.now ++ rest → ⊥) }
+{
+    octets.strip_prefix(front)
+}

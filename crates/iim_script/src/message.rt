@@ -1,0 +1,91 @@
+//! The lines that tell the message's header and its trailer.
+
+ghost use Rattle.std.specs.Prelude.{◌≡◌, ◌++◌, ◌∷◌, ℕ, List, IfOk, IfSome, IfNone};
+ghost use Rattle.wire_message.specs.Messages.{Header};
+ghost use Rattle.iim_script.specs.Forms.{HeadWords, AreWords, TellsHead, TellsTrailer};
+
+use crate::line::{after, before_first, cut_at};
+use crate::shown::read_last;
+use std::alloc::{AllocError, Global};
+use wire_message::MessageHead;
+
+/// Begins the line of the header.
+const MESSAGE: &[u8] = b"message ";
+
+/// Begins the line of the trailer.
+const TRAILER: &[u8] = b"trailer";
+
+/// The words of a header's line after `message`, and what ends the line.
+#[derive(Clone, Copy)]
+struct Words<'a> {
+    source: &'a [u8],
+    number: &'a [u8],
+    priority: &'a [u8],
+    category: &'a [u8],
+    words: &'a [u8],
+    end: &'a [u8],
+}
+
+/// The words, with one SP between each two. None where there are fewer than five.
+fn cut_words(octets: &[u8]) -> Option<Words<'_>>
+    ensures some { IfSome result (λ w. AreWords octets.now record { source = w.source.now; number = w.number.now; priority = w.priority.now; category = w.category.now; words = w.words.now } w.end.now) }
+    ensures none { IfNone result ((w : HeadWords) (end : List ℕ) → AreWords octets.now w end → ⊥) }
+{
+    let Some((source, after_source)) = cut_at(octets, b' ') else {
+        return None;
+    };
+    let Some((number, after_number)) = cut_at(after_source, b' ') else {
+        return None;
+    };
+    let Some((priority, after_priority)) = cut_at(after_number, b' ') else {
+        return None;
+    };
+    let Some((category, rest)) = cut_at(after_priority, b' ') else {
+        return None;
+    };
+    let end = before_first(rest, b' ');
+    Some(Words {
+        source,
+        number,
+        priority,
+        category,
+        words: &rest[..end],
+        end: &rest[end..],
+    })
+}
+
+/// The header that a line tells.
+pub(crate) fn read_head_line(alloc: Global, line: &[u8]) -> Result<Option<MessageHead>, AllocError>
+    ensures some { IfOk result (λ told. IfSome told (λ head. TellsHead line.now head)) }
+    ensures none { IfOk result (λ told. IfNone told ((head : Header) → TellsHead line.now head → ⊥)) }
+{
+    let Some(rest) = after(line, MESSAGE) else {
+        return Ok(None);
+    };
+    let Some(words) = cut_words(rest) else {
+        return Ok(None);
+    };
+    match read_last(alloc, words.end) {
+        Ok(Some(info)) => Ok(MessageHead::new(
+            words.source,
+            words.number,
+            words.priority,
+            words.category,
+            words.words,
+            info.as_slice(),
+        )),
+        Ok(None) => Ok(None),
+        Err(error) => Err(error),
+    }
+}
+
+/// The octets that a line tells for a trailer.
+pub(crate) fn read_trailer_line(alloc: Global, line: &[u8]) -> Result<Option<Vec<u8>>, AllocError>
+    ensures some { IfOk result (λ told. IfSome told (λ octets. TellsTrailer line.now octets.items)) }
+    ensures none { IfOk result (λ told. IfNone told ((octets : List ℕ) → TellsTrailer line.now octets → ⊥)) }
+{
+    match after(line, TRAILER) {
+        Some(end) => read_last(alloc, end),
+        None => Ok(None),
+    }
+}

@@ -1,0 +1,47 @@
+//! Numbers of records and datasets.
+
+ghost use Rattle.std.specs.Prelude.{◌≡◌, ◌+◌, ◌≤◌, ◌<◌, ◌-◌, ◌*◌, ℕ, false, IsTrue, IfSome, IfNone};
+ghost use Rattle.iim_script.specs.Forms.{TellsNumber, is_digit, AreDigits, value_of};
+
+/// Whether the octet is a decimal digit.
+pub(crate) fn is_decimal(octet: u8) -> bool
+    ensures { result ≡ is_digit octet }
+{
+    b'0' <= octet && octet <= b'9'
+}
+
+/// The value of a decimal digit.
+fn digit_value(octet: u8) -> Option<u16>
+    ensures some { IfSome result (λ value. IsTrue (is_digit octet) × (octet ≡ value + 48) × (value ≤ 9)) }
+    ensures none { IfNone result (is_digit octet ≡ false) }
+{
+    if octet < b'0' || octet > b'9' {
+        return None;
+    }
+    Some((octet - b'0') as u16)
+}
+
+/// The number that three decimal digits spell, at most 255.
+fn of_digits(hundreds: u8, tens: u8, ones: u8) -> Option<u8>
+    ensures some { IfSome result (λ n. AreDigits hundreds tens ones × (n ≡ value_of hundreds tens ones)) }
+    ensures none { IfNone result (AreDigits hundreds tens ones → 255 < value_of hundreds tens ones) }
+{
+    let value = digit_value(hundreds)? * 100 + digit_value(tens)? * 10 + digit_value(ones)?;
+    if value > 255 {
+        return None;
+    }
+    Some(value as u8)
+}
+
+/// The number that 1 to 3 decimal digits spell, at most 255.
+pub(crate) fn number(digits: &[u8]) -> Option<u8>
+    ensures some { IfSome result (λ n. TellsNumber digits.now n) }
+    ensures none { IfNone result ((n : ℕ) → TellsNumber digits.now n → ⊥) }
+{
+    match digits {
+        [ones] => of_digits(b'0', b'0', *ones),
+        [tens, ones] => of_digits(b'0', *tens, *ones),
+        [hundreds, tens, ones] => of_digits(*hundreds, *tens, *ones),
+        _ => None,
+    }
+}

@@ -1,0 +1,202 @@
+//! Reads a script.
+
+ghost use Rattle.std.specs.Prelude.{◌≡◌, ◌≤◌, ◌+◌, ◌++◌, [], ℕ, List, length, slice_index, IfOk, IfErr, OnOk, None};
+ghost use Rattle.iim_fields.specs.Builders.{finish_fault};
+ghost use Rattle.iim_script.specs.Forms.{TellsHead, is_digit, text_word};
+ghost use Rattle.iim_script.specs.Lines.{NextLine};
+ghost use Rattle.iim_script.specs.Scripts.{IsFront, IsScript};
+ghost use Rattle.iim_script.specs.Faults.{Stands, InFields, TellsNoField, IsScriptFault};
+ghost use Rattle.iim_script.specs.Steps.{NextIs, NextMustBe, RefusesFields, RefusesHead, TakesTrailer, RefusesTrailer, RefusesText, RefusesEnd};
+
+use crate::fault::{ScriptCause, ScriptFault, fault_after};
+use crate::field::add_line;
+use crate::line::next_line;
+use crate::message::{read_head_line, read_trailer_line};
+use crate::number::is_decimal;
+use crate::rest::Rest;
+use crate::script::Script;
+use crate::story::read_story;
+use iim_fields::{Envelope, EnvelopeBuilder, Limits};
+use std::alloc::Global;
+use wire_message::{MessageHead, is_trailer};
+
+/// The most octets of a script.
+const MAX_SCRIPT: usize = 16_777_216;
+
+/// The line that stands before the story.
+const TEXT: &[u8] = b"text";
+
+/// What stands before the story, and the story.
+#[derive(Drop)]
+struct Front<'a> {
+    envelope: Envelope,
+    head: MessageHead,
+    trailer: Vec<u8>,
+    story: Rest<'a>,
+}
+
+/// Whether a line begins with a digit, as one that tells a dataset.
+fn begins_field(line: &[u8]) -> bool
+    ensures { result ≡ is_digit (slice_index line.now 0) }
+{
+    if line.is_empty() {
+        return false;
+    }
+    is_decimal(line[0])
+}
+
+/// Adds the datasets that the lines at the front tell, and answers what follows them.
+fn read_fields<'a>(
+    alloc: Global,
+    script: &'a [u8],
+    builder: &mut EnvelopeBuilder,
+) -> Result<Rest<'a>, ScriptFault>
+    requires none { builder.old.fields ≡ [] }
+    requires short { length script.now ≤ 16777216 }
+    ensures stands { IfOk result (λ rest. Stands builder.old.limits script.now (InFields builder.new.fields) rest.octets.now rest.lines) }
+    ensures all { IfOk result (λ rest. NextMustBe TellsNoField rest.octets.now) }
+    ensures fault { IfErr result (λ fault. RefusesFields builder.old.limits script.now fault.line fault.cause) }
+{
+    let mut rest = Rest {
+        octets: script,
+        lines: 0,
+    };
+    while let Some((line, after)) = next_line(rest.octets) {
+        if !begins_field(line) {
+            return Ok(rest);
+        }
+        match add_line(alloc, line, builder) {
+            Ok(()) => {
+                rest = Rest {
+                    octets: after,
+                    lines: rest.lines + 1,
+                }
+            }
+            Err(cause) => return Err(fault_after(rest.lines, cause)),
+        }
+    }
+    Ok(rest)
+}
+
+/// The header that the next line tells, and what follows it.
+fn read_head<'a>(alloc: Global, rest: Rest<'a>) -> Result<(MessageHead, Rest<'a>), ScriptFault>
+    ensures told { IfOk result (λ read. NextIs (λ line. TellsHead line read.0) rest.entry.octets.now read.1.octets.now) }
+    ensures counted { IfOk result (λ read. read.1.lines ≡ rest.entry.lines + 1) }
+    ensures fault { IfErr result (λ fault. RefusesHead rest.entry.octets.now rest.entry.lines fault.line fault.cause) }
+{
+    let Some((line, after)) = next_line(rest.octets) else {
+        return Err(fault_after(rest.lines, ScriptCause::ScriptLine));
+    };
+    match read_head_line(alloc, line) {
+        Ok(Some(head)) => Ok((
+            head,
+            Rest {
+                octets: after,
+                lines: rest.lines + 1,
+            },
+        )),
+        Ok(None) => Err(fault_after(rest.lines, ScriptCause::ScriptLine)),
+        Err(_) => Err(fault_after(rest.lines, ScriptCause::OutOfMemory)),
+    }
+}
+
+/// The trailer that the next line tells, and what follows it; or no octets, where that line tells none.
+fn read_trailer<'a>(alloc: Global, rest: Rest<'a>) -> Result<(Vec<u8>, Rest<'a>), ScriptFault>
+    ensures taken { IfOk result (λ read. TakesTrailer rest.entry.octets.now rest.entry.lines read.0.items read.1.octets.now read.1.lines) }
+    ensures fault { IfErr result (λ fault. RefusesTrailer rest.entry.octets.now rest.entry.lines fault.line fault.cause) }
+{
+    let Some((line, after)) = next_line(rest.octets) else {
+        return Ok((Vec::new(alloc), rest));
+    };
+    let octets = match read_trailer_line(alloc, line) {
+        Ok(Some(octets)) => octets,
+        Ok(None) => return Ok((Vec::new(alloc), rest)),
+        Err(_) => return Err(fault_after(rest.lines, ScriptCause::OutOfMemory)),
+    };
+    if !is_trailer(octets.as_slice()) {
+        return Err(fault_after(rest.lines, ScriptCause::BadTrailer));
+    }
+    Ok((
+        octets,
+        Rest {
+            octets: after,
+            lines: rest.lines + 1,
+        },
+    ))
+}
+
+/// The story, where the next line is `text`.
+fn read_text<'a>(rest: Rest<'a>) -> Result<Rest<'a>, ScriptFault>
+    ensures text { IfOk result (λ story. NextLine rest.entry.octets.now text_word story.octets.now) }
+    ensures counted { IfOk result (λ story. story.lines ≡ rest.entry.lines + 1) }
+    ensures fault { IfErr result (λ fault. RefusesText rest.entry.octets.now rest.entry.lines fault.line fault.cause) }
+{
+    let Some((line, after)) = next_line(rest.octets) else {
+        return Err(fault_after(rest.lines, ScriptCause::ScriptLine));
+    };
+    if line != TEXT {
+        return Err(fault_after(rest.lines, ScriptCause::ScriptLine));
+    }
+    Ok(Rest {
+        octets: after,
+        lines: rest.lines + 1,
+    })
+}
+
+/// The envelope that a builder has, at the line `text`, before which so many lines stand.
+fn finish(builder: EnvelopeBuilder, lines: u64) -> Result<Envelope, ScriptFault>
+    requires { lines ≤ 16777216 }
+    ensures whole { OnOk result (finish_fault builder.fields ≡ None) }
+    ensures envelope { IfOk result (λ envelope. envelope ≡ builder.fields) }
+    ensures fault { IfErr result (λ fault. RefusesEnd builder.fields lines fault.line fault.cause) }
+{
+    match builder.finish() {
+        Ok(envelope) => Ok(envelope),
+        Err((_, fault)) => Err(fault_after(lines, ScriptCause::Field(fault.cause))),
+    }
+}
+
+/// What stands before the story, and what is left for it.
+fn read_front<'a>(alloc: Global, limits: Limits, script: &'a [u8]) -> Result<Front<'a>, ScriptFault>
+    requires { length script.now ≤ 16777216 }
+    ensures front { IfOk result (λ front. (octets : List ℕ) × (script.now ≡ octets ++ front.story.octets.now)
+        × IsFront limits octets front.envelope front.head front.trailer.items front.story.lines) }
+    ensures fault { IfErr result (λ fault. IsScriptFault limits script.now fault.line fault.cause) }
+{
+    let Ok(mut builder) = EnvelopeBuilder::new(alloc, limits) else {
+        return Err(fault_after(0, ScriptCause::OutOfMemory));
+    };
+    let after_fields = read_fields(alloc, script, &mut builder)?;
+    let (head, after_head) = read_head(alloc, after_fields)?;
+    let (trailer, after_trailer) = read_trailer(alloc, after_head)?;
+    let story = read_text(after_trailer)?;
+    let envelope = finish(builder, after_trailer.lines)?;
+    Ok(Front {
+        envelope,
+        head,
+        trailer,
+        story,
+    })
+}
+
+/// What a script tells, its datasets within the limits; or its first fault by line.
+pub fn read_script(alloc: Global, limits: Limits, script: &[u8]) -> Result<Script, ScriptFault>
+    ensures script { IfOk result (λ told. IsScript limits script.now told.envelope told.head told.trailer.items told.lines.lines told.text_line) }
+    ensures fault { IfErr result (λ fault. IsScriptFault limits script.now fault.line fault.cause) }
+{
+    if script.len() > MAX_SCRIPT {
+        return Err(ScriptFault {
+            line: 0,
+            cause: ScriptCause::ScriptTooLong,
+        });
+    }
+    let front = read_front(alloc, limits, script)?;
+    let lines = read_story(alloc, front.story)?;
+    Ok(Script {
+        envelope: front.envelope,
+        head: front.head,
+        lines,
+        trailer: front.trailer,
+        text_line: front.story.lines,
+    })
+}

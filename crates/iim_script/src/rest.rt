@@ -1,0 +1,13 @@
+//! What is left of a script.
+
+ghost use Rattle.std.specs.Prelude.{◌+◌, ◌≤◌, length};
+
+/// What is left of a script, after so many lines.
+#[derive(Clone, Copy)]
+pub(crate) struct Rest<'a> {
+    pub(crate) octets: &'a [u8],
+    pub(crate) lines: u64,
+
+    // Each line has an octet at least.
+    ghost short: { lines + length octets.now ≤ 16777216 },
+}

@@ -1,0 +1,113 @@
+//! Octets that are shown as text, read back.
+
+ghost use Rattle.std.specs.Prelude.{◌≡◌, ◌+◌, ◌≤◌, ◌++◌, ◌∷◌, ℕ, List, IfOk, IfSome, IfNone};
+ghost use Rattle.iim_script.specs.Shown.{IsHexDigit, IsOfDigits, BeginsWith, Tells, TellsLast};
+
+use std::alloc::{AllocError, Global};
+
+/// Begins an escape.
+const BACKSLASH: u8 = b'\\';
+
+/// The value of a hexadecimal digit, in either case.
+fn hex_value(digit: u8) -> Option<u8>
+    ensures some { IfSome result (λ value. IsHexDigit digit value × (value ≤ 15)) }
+    ensures none { IfNone result ((value : ℕ) → IsHexDigit digit value → ⊥) }
+{
+    match digit {
+        b'0'..=b'9' => Some(digit - b'0'),
+        b'A'..=b'F' => Some(digit - b'A' + 10),
+        b'a'..=b'f' => Some(digit - b'a' + 10),
+        _ => None,
+    }
+}
+
+/// The octet of an escape with these digits.
+fn escaped(high: u8, low: u8) -> Option<u8>
+    ensures some { IfSome result (IsOfDigits high low) }
+    ensures none { IfNone result ((octet : ℕ) → IsOfDigits high low octet → ⊥) }
+{
+    let Some(high) = hex_value(high) else {
+        return None;
+    };
+    let Some(low) = hex_value(low) else {
+        return None;
+    };
+    Some(high * 16 + low)
+}
+
+/// The octet of the escape whose backslash stands before these octets, and what follows. None where it begins no escape.
+fn escape(after: &[u8]) -> Option<(u8, &[u8])>
+    ensures some { IfSome result (λ first. BeginsWith (92 ∷ after.now) first.0 first.1.now) }
+    ensures none { IfNone result ((octet : ℕ) (rest : List ℕ) → BeginsWith (92 ∷ after.now) octet rest → ⊥) }
+{
+    if after.len() < 3 {
+        return None;
+    }
+    if after[0] != b'x' {
+        return None;
+    }
+    match escaped(after[1], after[2]) {
+        Some(octet) => Some((octet, &after[3..])),
+        None => None,
+    }
+}
+
+/// The octet that is shown first, and what follows. None where a backslash begins no escape, or nothing is shown.
+fn first_octet(shown: &[u8]) -> Option<(u8, &[u8])>
+    ensures some { IfSome result (λ first. BeginsWith shown.now first.0 first.1.now) }
+    ensures none { IfNone result ((octet : ℕ) (rest : List ℕ) → BeginsWith shown.now octet rest → ⊥) }
+{
+    if shown.is_empty() {
+        return None;
+    }
+    if shown[0] == BACKSLASH {
+        return escape(&shown[1..]);
+    }
+    Some((shown[0], &shown[1..]))
+}
+
+/// The octets that are shown. None where a backslash begins no escape.
+pub(crate) fn unshown(alloc: Global, shown: &[u8]) -> Result<Option<Vec<u8>>, AllocError>
+    ensures some { IfOk result (λ told. IfSome told (λ octets. Tells shown.now octets.items)) }
+    ensures none { IfOk result (λ told. IfNone told ((octets : List ℕ) → Tells shown.now octets → ⊥)) }
+{
+    let mut octets = Vec::new(alloc);
+    let mut rest = shown;
+    while !rest.is_empty() {
+        let Some((octet, after)) = first_octet(rest) else {
+            return Ok(None);
+        };
+        octets.push(octet)?;
+        rest = after;
+    }
+    Ok(Some(octets))
+}
+
+/// The octets that are shown, one at least. None where a backslash begins no escape, and where nothing is shown.
+fn read_some(alloc: Global, shown: &[u8]) -> Result<Option<Vec<u8>>, AllocError>
+    ensures some { IfOk result (λ told. IfSome told (λ octets. TellsLast (32 ∷ shown.now) octets.items)) }
+    ensures none { IfOk result (λ told. IfNone told ((octets : List ℕ) → TellsLast (32 ∷ shown.now) octets → ⊥)) }
+{
+    if shown.is_empty() {
+        return Ok(None);
+    }
+    match unshown(alloc, shown) {
+        Ok(Some(octets)) => Ok(Some(octets)),
+        Ok(None) => Ok(None),
+        Err(error) => Err(error),
+    }
+}
+
+/// What stands at the end of a line: nothing, for no octets, or SP and at least one octet shown.
+pub(crate) fn read_last(alloc: Global, end: &[u8]) -> Result<Option<Vec<u8>>, AllocError>
+    ensures some { IfOk result (λ told. IfSome told (λ octets. TellsLast end.now octets.items)) }
+    ensures none { IfOk result (λ told. IfNone told ((octets : List ℕ) → TellsLast end.now octets → ⊥)) }
+{
+    if end.is_empty() {
+        return Ok(Some(Vec::new(alloc)));
+    }
+    if end[0] != b' ' {
+        return Ok(None);
+    }
+    read_some(alloc, &end[1..])
+}
