@@ -92,17 +92,3 @@ fn a_failing_reader(rt: HostRuntime) -> Result<(), Fail> {
     }
     Ok(())
 }
-
-#[test]
-fn an_unpacker_that_was_fed(rt: HostRuntime) -> Result<(), Fail> {
-    let mut unpacker = Unpacker::new(rt.alloc(), LIMITS)?;
-    assert!(rt; unpacker.feed(&SMALLEST[..100], &mut Discard).is_ok());
-    let reader = TrialReader::new(&SMALLEST[100..], GOOD, Trouble::Failure);
-    let mut intake = Intake::new(reader);
-    let Ok(Some(got)) = intake.next_envelope(unpacker, &mut Discard) else {
-        return Err(Fail::from("no envelope"));
-    };
-    assert_eq!(rt; got.sizes.total, 14);
-    assert_eq!(rt; intake.octets(), 14);
-    Ok(())
-}
