@@ -199,6 +199,17 @@ fn ages_below_zero_are_printed(rt: HostRuntime) -> Result<(), Fail> {
     Ok(())
 }
 
+/// The report of envelopes of which three repeat earlier ones.
+const REPEATS: &[u8] =
+    b"1 TST 00000001 20240301 priority - size 14 subfiles 1 words 0/0 age - repeats -\n\
+2  00000001 20240301 priority - size 14 subfiles 1 words 0/0 age - repeats -\n\
+3 TST 00000001 20240301 priority - size 14 subfiles 1 words 0/0 age - repeats 1\n\
+4 TST 00000001 20240302 priority - size 14 subfiles 1 words 0/0 age - repeats -\n\
+5 TST 00000002 20240301 priority - size 50 subfiles 1 words 5/4 age - repeats -\n\
+6 TST 00000001 20240301 priority - size 14 subfiles 1 words 0/0 age - repeats 1\n\
+7 TST 00000001 20240302 priority - size 14 subfiles 1 words 0/0 age - repeats 4\n\
+7 envelopes, 3 repeated\n";
+
 #[test]
 fn repeats_name_the_first(rt: HostRuntime) -> Result<(), Fail> {
     let one = joined(rt.alloc(), &SMALLEST)?;
@@ -232,14 +243,7 @@ fn repeats_name_the_first(rt: HostRuntime) -> Result<(), Fail> {
                 other_day.as_slice()
             ],
             "2024-03-01T12:00:00Z",
-            b"1 TST 00000001 20240301 priority - size 14 subfiles 1 words 0/0 age - repeats -\n\
-2  00000001 20240301 priority - size 14 subfiles 1 words 0/0 age - repeats -\n\
-3 TST 00000001 20240301 priority - size 14 subfiles 1 words 0/0 age - repeats 1\n\
-4 TST 00000001 20240302 priority - size 14 subfiles 1 words 0/0 age - repeats -\n\
-5 TST 00000002 20240301 priority - size 50 subfiles 1 words 5/4 age - repeats -\n\
-6 TST 00000001 20240301 priority - size 14 subfiles 1 words 0/0 age - repeats 1\n\
-7 TST 00000001 20240302 priority - size 14 subfiles 1 words 0/0 age - repeats 4\n\
-7 envelopes, 3 repeated\n"
+            REPEATS
         )?
     );
     Ok(())

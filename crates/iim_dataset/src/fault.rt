@@ -16,10 +16,12 @@ pub enum FaultCause {
     Stopped,
 }
 
-/// An octet was refused: `used` octets of the piece stand before it.
+/// An octet of a piece was refused.
 #[derive(Clone, Copy, Debug, PartialEq, Eq)]
 pub struct Fault {
+    /// Why the octet was refused.
     pub cause: FaultCause,
+    /// How many octets of the piece stand before it.
     pub used: usize,
 }
 

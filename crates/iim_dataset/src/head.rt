@@ -11,8 +11,11 @@ use byteorder::{BigEndian, ByteOrder};
 /// it, and how many octets of data follow.
 #[derive(Clone, Copy, Debug, PartialEq, Eq)]
 pub struct Head {
+    /// The number of the record.
     pub rec: u8,
+    /// The number of the dataset in its record.
     pub set: u8,
+    /// How many octets of data the dataset has.
     pub count: u64,
 }
 
@@ -25,10 +28,12 @@ pub enum HeadCause {
     CountForm,
 }
 
-/// Octets that begin no tag: `at` is the offset of the first octet with which no tag goes on.
+/// Octets that begin no tag.
 #[derive(Clone, Copy, Debug, PartialEq, Eq)]
 pub struct HeadFault {
+    /// What was wrong with the octet there.
     pub cause: HeadCause,
+    /// The offset, in octets, of the first octet with which no tag can continue.
     pub at: usize,
 }
 
@@ -52,7 +57,7 @@ const MAX_STANDARD: u64 = 32_767;
 ///
 /// A count of two octets has its top bit clear. An extended count is 80 hex, how many octets follow (1 to 4), and the
 /// count in these, high octet first; leading zeros are accepted, and so is an extended count of few octets.
-pub fn read_head(octets: &[u8]) -> Result<Option<(Head, usize)>, HeadFault>
+pub(crate) fn read_head(octets: &[u8]) -> Result<Option<(Head, usize)>, HeadFault>
     ensures found { IfOk result (λ found. MatchOption found (BeginsTag count_octets octets.now) (λ f. HasTag octets.now f.0 f.1)) }
     ensures fault { IfErr result (HasNoTag octets.now) }
 {

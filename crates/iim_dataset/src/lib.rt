@@ -3,8 +3,8 @@
 //!
 //! Stands on `byteorder` and `arrayvec`. Every crate but `iim_tables` stands on it, at least for its definitions. The unpacker
 //! feeds [`HeadReader`] with a sink of its own, and relies on the contract of [`HeadReader::feed`] and on
-//! [`what_an_octet_completes`]; the scan of whole inputs reads tags by [`read_head`]. Writers of objects and envelopes spell tags
-//! by [`head_bytes`]. Sources and targets are reached by [`take`] and [`put`] alone.
+//! [`what_an_octet_completes`]. Writers of objects and envelopes spell tags by [`head_bytes`]. Sources and targets are reached by
+//! [`take`] and [`put`] alone.
 #![tactic(auto)]
 
 mod device;
@@ -26,7 +26,7 @@ mod trial;
 pub use device::IoFault;
 pub use device_laws::{gifts_join, texts_join};
 pub use fault::{Fault, FaultCause};
-pub use head::{Head, HeadCause, HeadFault, TAG_MARKER, head_bytes, read_head};
+pub use head::{Head, HeadCause, HeadFault, TAG_MARKER, head_bytes};
 pub use laws::{
     canonical_streams_are_spelled, canonical_tags_read_back, events_tell_the_datasets,
     no_dataset_begins_another, no_octets_go_on, no_tag_begins_another,

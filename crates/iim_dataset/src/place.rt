@@ -28,7 +28,7 @@ pub(crate) fn lengthen<const ROOM: usize>(held: &mut ArrayVec<u8, ROOM>, octets:
     requires { array_vec_len held.old + length octets.now ≤ ROOM }
     ensures { held.new.items ≡ held.old.items ++ octets.now }
 {
-    let _ = held.try_extend_from_slice(octets);
+    held.try_extend_from_slice(octets).unwrap();
 }
 
 /// The first octets of two slices, joined: as many as a tag may have.

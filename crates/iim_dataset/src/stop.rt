@@ -1,7 +1,8 @@
 //! The stop of a sink.
 
-/// A sink refused an octet: how many octets of the call's run it took before.
+/// A sink refused an octet of a call's run.
 #[derive(Clone, Copy, Debug, PartialEq, Eq)]
 pub struct Stop {
+    /// How many octets of the run it took before that one.
     pub taken: usize,
 }

@@ -3,9 +3,10 @@
 mod halting;
 mod reading;
 
+use crate::head::read_head;
 use crate::{
     FromRead, FromWrite, Head, HeadCause, HeadFault, IoFault, Source, Target, TrialReader,
-    TrialWriter, Trouble, head_bytes, put, read_head, take,
+    TrialWriter, Trouble, head_bytes, put, take,
 };
 use std::test::Fail;
 

@@ -3,6 +3,7 @@
 ghost use Rattle.std.specs.Prelude.{◌≡◌, ◌≢◌, ◌+◌, ◌-◌, ◌≤◌, ◌<◌, ℕ, List, [], ◌∷◌, ◌++◌, length, Some, None, IfOk, IfErr, OnOk, OnErr, vec_len, vec_capacity, ◌↔◌, IsTrue};
 ghost use Rattle.iim_dataset.specs.Datasets.{Dataset};
 ghost use Rattle.iim_dataset.specs.declared.head.Head.{Head as HeadValue};
+ghost use Rattle.iim_tables.specs.Numbers.{size_octets};
 ghost use Rattle.iim_tables.specs.Rows.{row_of};
 ghost use Rattle.iim_fields.specs.Faults.{head_fault, room_fault, value_fault, is_kept};
 ghost use Rattle.iim_fields.specs.Orders.{has_seen, end_fault};
@@ -64,26 +65,54 @@ fn room_fault(limits: Limits, octets: usize, fields: usize, head: Head) -> Optio
     None
 }
 
+/// How many octets and entries a store has room for: those that the limits allow, and a size after them.
+fn room(limits: Limits) -> (usize, usize)
+    ensures octets { result.0 ≡ limits.octets + size_octets }
+    ensures entries { result.1 ≡ limits.fields }
+{
+    (limits.octets as usize + SIZE_OCTETS, limits.fields as usize)
+}
+
 impl Checker {
     ghost use Rattle.iim_fields.specs.Standing.{limits_of, IsFailed, IsBetween, IsEnded, IsInside, CanTake, CanClose, StandsBehind, StandsIn, Enters, Gives, IsHeadFault, IsValueFault, IsOf, Settles, begun_data};
+
+    /// At the beginning of an envelope, with a store that has nothing in it, and room for all that the limits allow.
+    fn starting(store: Store, limits: Limits) -> Checker
+        requires octets { store.octets.items ≡ [] }
+        requires entries { store.entries.items ≡ [] }
+        requires octets_room { limits.octets + size_octets ≤ vec_capacity store.octets }
+        requires entries_room { limits.fields ≤ vec_capacity store.entries }
+        ensures stands { StandsBehind result [] }
+        ensures limits { limits_of result ≡ limits }
+    {
+        each_row_has_values();
+        Checker {
+            limits,
+            order: Order::new(),
+            phase: Phase::Between,
+            store,
+        }
+    }
 
     /// As [`crate::Fields::new`] says.
     pub(crate) fn new(alloc: Global, limits: Limits) -> Result<Checker, AllocError>
         ensures stands { IfOk result (λ checker. StandsBehind checker []) }
         ensures limits { IfOk result (λ checker. limits_of checker ≡ limits) }
     {
-        each_row_has_values();
-        let store = Store::new(
-            alloc,
-            limits.octets as usize + SIZE_OCTETS,
-            limits.fields as usize,
-        )?;
-        Ok(Checker {
-            limits,
-            order: Order::new(),
-            phase: Phase::Between,
-            store,
-        })
+        let (octets, entries) = room(limits);
+        let store = Store::new(alloc, octets, entries)?;
+        Ok(Checker::starting(store, limits))
+    }
+
+    /// As [`crate::Fields::over`] says.
+    pub(crate) fn over(store: Store, limits: Limits) -> Result<Checker, Store>
+        ensures stands { IfOk result (λ checker. StandsBehind checker []) }
+        ensures limits { IfOk result (λ checker. limits_of checker ≡ limits) }
+        ensures handed_back { IfErr result (λ same. same ≡ store) }
+    {
+        let (octets, entries) = room(limits);
+        let store = store.emptied(octets, entries)?;
+        Ok(Checker::starting(store, limits))
     }
 
     /// As [`crate::Fields::is_failed`] says.

@@ -46,6 +46,19 @@ impl Fields {
         Ok(Fields { checker })
     }
 
+    /// At the beginning of an envelope, with the memory of one that is no longer wanted, where that is enough for the limits: it
+    /// takes none. Else that envelope is handed back.
+    pub fn over(envelope: Envelope, limits: Limits) -> Result<Fields, Envelope>
+        ensures stands { IfOk result (λ fields. StandsBehind fields []) }
+        ensures limits { IfOk result (λ fields. limits_of fields ≡ limits) }
+        ensures handed_back { IfErr result (λ same. same ≡ envelope) }
+    {
+        match Checker::over(envelope.store, limits) {
+            Ok(checker) => Ok(Fields { checker }),
+            Err(store) => Err(Envelope { store }),
+        }
+    }
+
     /// The limits under which it reads.
     pub fn limits(&self) -> Limits
         ensures { result ≡ limits_of self.now }

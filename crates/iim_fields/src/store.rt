@@ -1,6 +1,6 @@
 //! The kept datasets: their octets in one store, and an entry for each.
 
-ghost use Rattle.std.specs.Prelude.{◌≡◌, ◌+◌, ◌≤◌, ◌<◌, ◌++◌, ◌∷◌, [], IfOk, length, vec_len, vec_capacity, take};
+ghost use Rattle.std.specs.Prelude.{◌≡◌, ◌+◌, ◌≤◌, ◌<◌, ◌++◌, ◌∷◌, [], IfOk, IfErr, length, vec_len, vec_capacity, take};
 
 use std::alloc::{AllocError, Global};
 
@@ -32,6 +32,23 @@ impl Store {
             octets: Vec::with_capacity(alloc, octets)?,
             entries: Vec::with_capacity(alloc, entries)?,
         };
+        Ok(store)
+    }
+
+    /// The same room with nothing in it, where it is enough for so many octets and entries. Else the store as it was.
+    pub fn emptied(self, octets: usize, entries: usize) -> Result<Store, Store>
+        ensures octets { IfOk result (λ store. store.octets.items ≡ []) }
+        ensures entries { IfOk result (λ store. store.entries.items ≡ []) }
+        ensures octets_room { IfOk result (λ store. octets ≤ vec_capacity store.octets) }
+        ensures entries_room { IfOk result (λ store. entries ≤ vec_capacity store.entries) }
+        ensures handed_back { IfErr result (λ store. store ≡ self) }
+    {
+        if self.octets.capacity() < octets || self.entries.capacity() < entries {
+            return Err(self);
+        }
+        let mut store = self;
+        store.octets.clear();
+        store.entries.clear();
         Ok(store)
     }
 

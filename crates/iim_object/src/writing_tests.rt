@@ -161,37 +161,11 @@ fn causes_and_their_order(rt: HostRuntime) {
     assert!(&rt; known.finish().is_ok());
 }
 
-/// Writes three octets in subfiles of two to a target that takes so many octets and then fails: what is out, and how many the
-/// writer or the fault counts.
-fn broken(rt: &impl Abort, alloc: Global, good: u64) -> (TrialWriter<600>, u64) {
-    let buffer = buffer(rt, alloc, 2, Size::Unknown(Some(5)));
-    let mut writer = match SubfileWriter::start(buffer, target(good)) {
-        Ok(writer) => writer,
-        Err(fault) => {
-            assert!(rt; good < 24);
-            assert_eq!(rt; fault.cause, PackCause::Write);
-            return (fault.writer, fault.written);
-        }
-    };
-    match writer.write(b"abc") {
-        Ok(()) => assert!(rt; good >= 31),
-        Err(cause) => {
-            assert!(rt; good >= 24 && good < 31);
-            assert_eq!(rt; cause, PackCause::Write);
-        }
-    }
-    if !writer.is_failed() {
-        writer = match writer.finish() {
-            Ok(target) => {
-                assert!(rt; good >= 46);
-                return (target, 46);
-            }
-            Err((writer, cause)) => {
-                assert_eq!(rt; cause, PackCause::Write);
-                writer
-            }
-        };
-    }
+/// A writer after a failure takes nothing more: what is out stays, and so does its count.
+fn expect_failed(
+    rt: &impl Abort,
+    mut writer: SubfileWriter<TrialWriter<600>>,
+) -> (TrialWriter<600>, u64) {
     assert!(rt; writer.is_failed());
     let written = writer.written();
     assert_eq!(rt; writer.write(b"abcdef"), Err(PackCause::Failed));
@@ -205,6 +179,37 @@ fn broken(rt: &impl Abort, alloc: Global, good: u64) -> (TrialWriter<600>, u64) 
     };
     assert_eq!(rt; writer.written(), written);
     (writer.into_writer(), written)
+}
+
+/// Writes three octets in subfiles of two to a target that takes so many octets and then fails: what is out, and how many the
+/// writer or the fault counts.
+fn broken(rt: &impl Abort, alloc: Global, good: u64) -> (TrialWriter<600>, u64) {
+    let buffer = buffer(rt, alloc, 2, Size::Unknown(Some(5)));
+    let mut writer = match SubfileWriter::start(buffer, target(good)) {
+        Ok(writer) => writer,
+        Err(fault) => {
+            assert!(rt; good < 24);
+            assert_eq!(rt; fault.cause, PackCause::Write);
+            return (fault.writer, fault.written);
+        }
+    };
+    if let Err(cause) = writer.write(b"abc") {
+        assert!(rt; good >= 24 && good < 31);
+        assert_eq!(rt; cause, PackCause::Write);
+        return expect_failed(rt, writer);
+    }
+    assert!(rt; good >= 31);
+    match writer.finish() {
+        Ok(target) => {
+            assert!(rt; good >= 46);
+            (target, 46)
+        }
+        Err((writer, cause)) => {
+            assert!(rt; good < 46);
+            assert_eq!(rt; cause, PackCause::Write);
+            expect_failed(rt, writer)
+        }
+    }
 }
 
 #[test]

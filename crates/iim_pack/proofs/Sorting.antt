@@ -45,37 +45,34 @@ pub record AreInOrder (a b x y z : List Dataset) : Type 0 where
   pub eights : AreOf 8 y
   pub nines : AreOf 9 z
 
-none : (p : ℕ → Bool) (rec : ℕ) (ds : List Dataset) → p rec ≡ false → AreOf rec ds → filter (λ d. p d.rec) ds ≡ []
-none p rec ds test h = none_pass (λ d. p d.rec) ds (by_record p rec false ds test h)
+-- the datasets of a record that passes, and none of one that doesn't
+abbrev pick : Bool → List Dataset → List Dataset
+pick true ds = ds
+pick false ds = []
 
-all : (p : ℕ → Bool) (rec : ℕ) (ds : List Dataset) → p rec ≡ true → AreOf rec ds → filter (λ d. p d.rec) ds ≡ ds
-all p rec ds test h = all_pass (λ d. p d.rec) ds (by_record p rec true ds test h)
+picked_record : (p : ℕ → Bool) (rec : ℕ) (b : Bool) (ds : List Dataset) → p rec ≡ b → AreOf rec ds → filter (λ d. p d.rec) ds ≡ pick b ds
+picked_record p rec true ds test h = all_pass (λ d. p d.rec) ds (by_record p rec true ds test h)
+picked_record p rec false ds test h = none_pass (λ d. p d.rec) ds (by_record p rec false ds test h)
+
+-- the records that pass, of five behind one another
+picked : (p : ℕ → Bool) (a b x y z : List Dataset) → AreInOrder a b x y z
+    → filter (λ d. p d.rec) ((a ++ b) ++ (x ++ (y ++ z))) ≡ (pick (p 1) a ++ pick (p 2) b) ++ (pick (p 7) x ++ (pick (p 8) y ++ pick (p 9) z))
+picked p a b x y z o =
+    five p a b x y z
+    ∙ (λ i. (picked_record p 1 (p 1) a refl o.ones i ++ picked_record p 2 (p 2) b refl o.twos i)
+    ++ (picked_record p 7 (p 7) x refl o.sevens i ++ (picked_record p 8 (p 8) y refl o.eights i ++ picked_record p 9 (p 9) z refl o.nines i)))
 
 pub kept_are : (a b x y z : List Dataset) → AreInOrder a b x y z → kept ((a ++ b) ++ (x ++ (y ++ z))) ≡ a ++ b
-kept_are a b x y z o =
-    five is_kept a b x y z
-    ∙ ((λ i. (all is_kept 1 a refl o.ones i ++ all is_kept 2 b refl o.twos i) ++ (none is_kept 7 x refl o.sevens i ++ (none is_kept 8 y refl o.eights i ++ none is_kept 9 z refl o.nines i)))
-    ∙ append-nil (a ++ b))
+kept_are a b x y z o = picked is_kept a b x y z o ∙ append-nil (a ++ b)
 
 pub sevens_are : (a b x y z : List Dataset) → AreInOrder a b x y z → of_record 7 ((a ++ b) ++ (x ++ (y ++ z))) ≡ x
-sevens_are a b x y z o =
-    let p : ℕ → Bool = λ r. nat_eq r 7 in
-    five p a b x y z
-    ∙ ((λ i. (none p 1 a refl o.ones i ++ none p 2 b refl o.twos i) ++ (all p 7 x refl o.sevens i ++ (none p 8 y refl o.eights i ++ none p 9 z refl o.nines i)))
-    ∙ append-nil x)
+sevens_are a b x y z o = picked (λ r. nat_eq r 7) a b x y z o ∙ append-nil x
 
 pub eights_are : (a b x y z : List Dataset) → AreInOrder a b x y z → of_record 8 ((a ++ b) ++ (x ++ (y ++ z))) ≡ y
-eights_are a b x y z o =
-    let p : ℕ → Bool = λ r. nat_eq r 8 in
-    five p a b x y z
-    ∙ ((λ i. (none p 1 a refl o.ones i ++ none p 2 b refl o.twos i) ++ (none p 7 x refl o.sevens i ++ (all p 8 y refl o.eights i ++ none p 9 z refl o.nines i)))
-    ∙ append-nil y)
+eights_are a b x y z o = picked (λ r. nat_eq r 8) a b x y z o ∙ append-nil y
 
 pub nines_are : (a b x y z : List Dataset) → AreInOrder a b x y z → of_record 9 ((a ++ b) ++ (x ++ (y ++ z))) ≡ z
-nines_are a b x y z o =
-    let p : ℕ → Bool = λ r. nat_eq r 9 in
-    five p a b x y z
-    ∙ (λ i. (none p 1 a refl o.ones i ++ none p 2 b refl o.twos i) ++ (none p 7 x refl o.sevens i ++ (none p 8 y refl o.eights i ++ all p 9 z refl o.nines i)))
+nines_are a b x y z o = picked (λ r. nat_eq r 9) a b x y z o
 
 -- ---- the data of the subfiles
 

@@ -1,5 +1,6 @@
 //! Envelopes packed. What is expected is worked out from the format.
 
+mod broken;
 mod calls;
 mod failing;
 mod plans;

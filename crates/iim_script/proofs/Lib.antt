@@ -6,3 +6,5 @@ pub mod Next
 pub mod Fronts
 pub mod Stories
 pub mod Once
+pub mod Runs
+pub mod Single

@@ -1,9 +1,14 @@
--- What holds of all lines of scripts.
-use Rattle.std.specs.Prelude.{◌≡◌, ℕ, List}
+-- What holds of all lines of scripts, and of all scripts.
+use Rattle.std.specs.Prelude.{◌≡◌, ◌⊎◌, ℕ, List}
 use Rattle.iim_dataset.specs.Datasets.{Dataset}
+use Rattle.iim_fields.specs.declared.limits.Limits.{Limits}
 use Rattle.wire_message.specs.Messages.{Header}
 use Rattle.iim_script.specs.Lines.{NextLine}
 use Rattle.iim_script.specs.Forms.{TellsField, TellsHead, TellsTrailer, text_word}
+use Rattle.iim_script.specs.Scripts.{IsScript}
+use Rattle.iim_script.specs.Faults.{IsScriptFault}
+use Rattle.iim_script.specs.declared.fault.ScriptCause.{ScriptCause}
+use Rattle.iim_script.specs.declared.fault.ScriptCause.TheVariants.{OutOfMemory}
 
 -- Octets have one next line, and one thing follows it.
 abbrev pub OctetsHaveOneNextLine : Type 0
@@ -21,3 +26,26 @@ abbrev pub FormsExcludeOneAnother : Type 0
 FormsExcludeOneAnother =
     ((line : List ℕ) (d : Dataset) (head : Header) → TellsField line d → TellsHead line head → ⊥)
     × ((octets : List ℕ) → TellsTrailer text_word octets → ⊥)
+
+-- Two things that a script tells are one.
+pub record IsOneScript (fields others : List Dataset) (head other : Header) (trailer end : List ℕ) (lines more : List (List ℕ)) (n m : ℕ) : Type 0 where
+  pub same_fields : fields ≡ others
+  pub same_head : head ≡ other
+  pub same_trailer : trailer ≡ end
+  pub same_lines : lines ≡ more
+  pub same_text_line : n ≡ m
+
+-- A script tells one thing.
+abbrev pub ScriptsTellOneThing : Type 0
+ScriptsTellOneThing = (limits : Limits) (octets : List ℕ) (fields others : List Dataset) (head other : Header) (trailer end : List ℕ) (lines more : List (List ℕ)) (n m : ℕ)
+    → IsScript limits octets fields head trailer lines n → IsScript limits octets others other end more m → IsOneScript fields others head other trailer end lines more n m
+
+-- A script has no fault, but that memory may be refused.
+abbrev pub ScriptsHaveNoFault : Type 0
+ScriptsHaveNoFault = (limits : Limits) (octets : List ℕ) (fields : List Dataset) (head : Header) (trailer : List ℕ) (lines : List (List ℕ)) (text_line number : ℕ) (cause : ScriptCause)
+    → IsScript limits octets fields head trailer lines text_line → IsScriptFault limits octets number cause → cause ≡ OutOfMemory
+
+-- Octets have at most one fault, but that memory may be refused.
+abbrev pub OctetsHaveOneFault : Type 0
+OctetsHaveOneFault = (limits : Limits) (octets : List ℕ) (n m : ℕ) (a b : ScriptCause) → IsScriptFault limits octets n a → IsScriptFault limits octets m b
+    → (a ≡ OutOfMemory) ⊎ ((b ≡ OutOfMemory) ⊎ ((n ≡ m) × (a ≡ b)))

@@ -114,6 +114,10 @@ pub(crate) fn fault_after(lines: u64, cause: ScriptCause) -> ScriptFault
 }
 
 impl From<AllocError> for ScriptCause {
+    ghost use Rattle.iim_script.specs.declared.fault.ScriptCause.TheVariants.{OutOfMemory};
+
+    ghost from_gives = { λ _ cause. cause ≡ OutOfMemory };
+
     fn from(_error: AllocError) -> ScriptCause {
         ScriptCause::OutOfMemory
     }

@@ -1,6 +1,6 @@
-//! What holds of all lines of scripts.
+//! What holds of all lines of scripts, and of all scripts. The functions do nothing: their contracts are the laws.
 
-ghost use Rattle.iim_script.specs.Laws.{OctetsHaveOneNextLine, LinesTellOneThing, FormsExcludeOneAnother};
+ghost use Rattle.iim_script.specs.Laws.{OctetsHaveOneNextLine, LinesTellOneThing, FormsExcludeOneAnother, ScriptsTellOneThing, ScriptsHaveNoFault, OctetsHaveOneFault};
 
 /// Octets have one next line, and one thing follows it.
 pub fn octets_have_one_next_line()
@@ -15,4 +15,19 @@ pub fn lines_tell_one_thing()
 /// No line has two of the forms that may follow one another.
 pub fn forms_exclude_one_another()
     ensures { FormsExcludeOneAnother }
+{}
+
+/// A script tells one thing: one list of datasets, one header, one trailer, one list of lines, and one number of the line `text`.
+pub fn scripts_tell_one_thing()
+    ensures { ScriptsTellOneThing }
+{}
+
+/// A script has no fault: no line of it is wrong, and it isn't too long. That memory was refused may be told of any octets.
+pub fn scripts_have_no_fault()
+    ensures { ScriptsHaveNoFault }
+{}
+
+/// Octets have at most one fault, one line and one cause of it. That memory was refused may be told of any octets.
+pub fn octets_have_one_fault()
+    ensures { OctetsHaveOneFault }
 {}

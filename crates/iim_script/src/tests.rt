@@ -1,6 +1,9 @@
 //! Scripts, whole and with one fault each. What is expected is worked out from the format.
 
-use crate::{Script, read_script};
+use crate::{
+    Script, forms_exclude_one_another, lines_tell_one_thing, octets_have_one_fault,
+    octets_have_one_next_line, read_script, scripts_have_no_fault, scripts_tell_one_thing,
+};
 use iim_fields::Limits;
 use std::alloc::{AllocError, Global};
 use std::test::Fail;
@@ -150,42 +153,44 @@ fn escapes(rt: HostRuntime) -> Result<(), Fail> {
     Ok(())
 }
 
+/// A line in the place of one of the smallest script: which one, the line, and the number and the cause of the fault, or zeros.
+const PUT_LINES: [(usize, &[u8], u64, u8); 31] = [
+    (4, b"1:30", 0, 0),
+    (4, b"1:30 ", 4, 91),
+    (4, b"1:30TST", 4, 91),
+    (4, b"1: 30 TST", 4, 91),
+    (4, b":30 TST", 4, 91),
+    (4, b"1:30 TSTTSTTSTTS", 4, 13),
+    (4, b"0001:30 TST", 4, 91),
+    (4, b"1:0030 TST", 4, 91),
+    (4, b"256:30 TST", 4, 91),
+    (4, b"1:256 TST", 4, 91),
+    (4, b"1:30 T\\ST", 4, 91),
+    (4, b"1:30 T\\x4", 4, 91),
+    (4, b"1:30 T\\xG1", 4, 91),
+    (4, b"1:30 T\\X54", 4, 91),
+    (4, b"1:20 \\x00\\x02", 4, 12),
+    (4, b"7:30 TST", 4, 10),
+    (4, b"", 4, 91),
+    (4, b"text", 4, 91),
+    (4, b"message X 1 4 N 0", 5, 91),
+    (7, b"2:00 \\x00\\x04\n2:05 a\x01b", 8, 15),
+    (8, b"message \\x58 1 4 N 0", 8, 91),
+    (8, b"message X 1 4 N 0 ", 8, 91),
+    (8, b"message X 1 4 N", 8, 91),
+    (8, b"message X  1 4 N 0", 8, 91),
+    (8, b"message X1 1 4 N 0", 8, 91),
+    (8, b"message X 1 4 N 0\n1:30 TST", 9, 91),
+    (8, b"message X 1 4 N 0\ntrailer a\ntrailer b", 10, 91),
+    (8, b"message X 1 4 N 0\ntrailer ", 9, 91),
+    (8, b"message X 1 4 N 0\ntrailer \\x01", 9, 83),
+    (9, b"text ", 9, 91),
+    (9, b"text\r\r", 9, 91),
+];
+
 #[test]
 fn lines_that_are_wrong(rt: HostRuntime) -> Result<(), Fail> {
-    let cases: [(usize, &[u8], u64, u8); 31] = [
-        (4, b"1:30", 0, 0),
-        (4, b"1:30 ", 4, 91),
-        (4, b"1:30TST", 4, 91),
-        (4, b"1: 30 TST", 4, 91),
-        (4, b":30 TST", 4, 91),
-        (4, b"1:30 TSTTSTTSTTS", 4, 13),
-        (4, b"0001:30 TST", 4, 91),
-        (4, b"1:0030 TST", 4, 91),
-        (4, b"256:30 TST", 4, 91),
-        (4, b"1:256 TST", 4, 91),
-        (4, b"1:30 T\\ST", 4, 91),
-        (4, b"1:30 T\\x4", 4, 91),
-        (4, b"1:30 T\\xG1", 4, 91),
-        (4, b"1:30 T\\X54", 4, 91),
-        (4, b"1:20 \\x00\\x02", 4, 12),
-        (4, b"7:30 TST", 4, 10),
-        (4, b"", 4, 91),
-        (4, b"text", 4, 91),
-        (4, b"message X 1 4 N 0", 5, 91),
-        (7, b"2:00 \\x00\\x04\n2:05 a\x01b", 8, 15),
-        (8, b"message \\x58 1 4 N 0", 8, 91),
-        (8, b"message X 1 4 N 0 ", 8, 91),
-        (8, b"message X 1 4 N", 8, 91),
-        (8, b"message X  1 4 N 0", 8, 91),
-        (8, b"message X1 1 4 N 0", 8, 91),
-        (8, b"message X 1 4 N 0\n1:30 TST", 9, 91),
-        (8, b"message X 1 4 N 0\ntrailer a\ntrailer b", 10, 91),
-        (8, b"message X 1 4 N 0\ntrailer ", 9, 91),
-        (8, b"message X 1 4 N 0\ntrailer \\x01", 9, 83),
-        (9, b"text ", 9, 91),
-        (9, b"text\r\r", 9, 91),
-    ];
-    for (at, line, number, cause) in cases {
+    for (at, line, number, cause) in PUT_LINES {
         let octets = script_of(rt.alloc(), &[(at, line)], b"\n", b"")?;
         assert_eq!(rt;
             fault_of(rt.alloc(), octets.as_slice()),
@@ -285,4 +290,14 @@ fn the_longest_script(rt: HostRuntime) -> Result<(), Fail> {
     octets.push(b'\n')?;
     assert_eq!(rt; fault_of(rt.alloc(), octets.as_slice()), (0u64, 92u8));
     Ok(())
+}
+
+#[test]
+fn laws_can_be_called() {
+    forms_exclude_one_another();
+    lines_tell_one_thing();
+    octets_have_one_fault();
+    octets_have_one_next_line();
+    scripts_have_no_fault();
+    scripts_tell_one_thing();
 }

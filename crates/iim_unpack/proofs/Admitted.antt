@@ -1,5 +1,5 @@
 -- Admitted octets have one value, and end where they end.
-use Rattle.std.proofs.Common.{◌≡◌, ℕ, List, [], refl, ap, sym, ◌∙◌, subst, append-nil}
+use Rattle.std.proofs.Common.{◌≡◌, ℕ, List, [], ap, sym, ◌∙◌, subst, append-nil}
 use Rattle.iim_dataset.specs.Datasets.{Dataset, SpellsStream, count_octets}
 use Rattle.iim_dataset.specs.Laws.{NoDatasetBeginsAnother}
 use Rattle.iim_fields.specs.Faults.{kept}
@@ -11,7 +11,7 @@ use Rattle.wire_message.specs.Laws.{MessagesHaveOneReading}
 use Rattle.wire_story.specs.Texts.{IsText}
 use Rattle.wire_story.specs.Laws.{TextsHaveOneReading}
 use Rattle.iim_unpack.specs.Admitted.{Value, Admits, object_of}
-use Rattle.iim_unpack.specs.Laws.{AdmittedOctetsHaveOneValue, NoAdmittedOctetsBeginOthers, AdmittedOctetsAreFramed, FramedMessagesAreAdmitted}
+use Rattle.iim_unpack.specs.Laws.{AdmittedOctetsHaveOneValue, NoAdmittedOctetsBeginOthers, AdmittedOctetsAreFramed}
 use Rattle.iim_unpack.proofs.Frames.{envelope_alone}
 use Rattle.iim_unpack.proofs.Objects.{are_records}
 
@@ -47,13 +47,3 @@ sized_by by_number octets v a =
 pub framed_of : RecordsAreByNumber → AdmittedOctetsAreFramed
 framed_of by_number limits octets v a within =
     record { datasets = a.datasets; spelled = a.spelled; sections = a.sections; sized = sized_by by_number octets v a; within = within }
-
-pub admitted_of : RecordsAreByNumber → FramedMessagesAreAdmitted
-admitted_of by_number limits octets f head text trailer lines message is_text =
-    let records = f.sized.records in
-    let is = by_number f.datasets records in
-    let have : HaveSizes (of_record 7 f.datasets) (of_record 8 f.datasets) (of_record 9 f.datasets) f.sized.sizes =
-    subst (λ (xs : List Dataset). HaveSizes xs (of_record 8 f.datasets) (of_record 9 f.datasets) f.sized.sizes) (sym is.sevens)
-    (subst (λ (xs : List Dataset). HaveSizes records.r7 xs (of_record 9 f.datasets) f.sized.sizes) (sym is.eights)
-    (subst (λ (xs : List Dataset). HaveSizes records.r7 records.r8 xs f.sized.sizes) (sym is.nines) f.sized.have)) in
-    record { datasets = f.datasets; spelled = f.spelled; sections = f.sections; fields = refl; text = text; message = message; lines = is_text; sizes = have }

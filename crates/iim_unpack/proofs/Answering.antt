@@ -25,7 +25,7 @@ use Rattle.wire_message.specs.declared.place.Place.TheVariants.{AfterEnd}
 use Rattle.wire_message.specs.declared.fault.MessageCause.{MessageCause}
 use Rattle.wire_message.specs.declared.fault.MessageCause.TheVariants as messages
 use Rattle.iim_unpack.specs.Admitted.{Value, Admits, object_of}
-use Rattle.iim_unpack.specs.Answers.{begun_record, begun_number, tag_cause}
+use Rattle.iim_unpack.specs.Refusals.{begun_record, begun_number, tag_cause}
 use Rattle.iim_unpack.specs.Laws.{AdmittedOctetsHaveOneValue, NoAdmittedOctetsBeginOthers}
 use Rattle.iim_unpack.specs.Parts.{object_so_far, AllGoOn, IsUnfinished}
 use Rattle.iim_unpack.specs.Refusals.{refusal_at, message_on}

@@ -17,7 +17,7 @@ use Rattle.iim_object.specs.Places.{Place, ending_tokens, tokens_of, place_after
 use Rattle.iim_object.specs.Behind.{of_record, place_behind, place_ended}
 use Rattle.iim_object.specs.Records.{lengths_of, numbers_of}
 use Rattle.iim_object.specs.Sizes.{Stated, AreStated, AreOnce, InRow, number_at}
-use Rattle.iim_unpack.specs.Answers.{MayGoOn}
+use Rattle.iim_unpack.specs.Tokens.{MayGoOn}
 use Rattle.iim_unpack.specs.Intakes.{OpenOctetsAreBounded}
 use Rattle.iim_unpack.specs.Framed.{AreWithin}
 use Rattle.iim_unpack.specs.Tokens.{ObjectLives}

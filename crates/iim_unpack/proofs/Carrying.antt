@@ -23,21 +23,15 @@ use Rattle.wire_message.specs.declared.place.Place.{Place}
 use Rattle.wire_message.specs.declared.fault.MessageCause.{MessageCause}
 use Rattle.wire_message.specs.declared.fault.MessageCause.TheVariants as messages
 use Rattle.iim_unpack.specs.Admitted.{object_of}
-use Rattle.iim_unpack.specs.Answers.{MayGoOn}
+use Rattle.iim_unpack.specs.Tokens.{MayGoOn}
 use Rattle.iim_unpack.specs.Tokens.{GoOn, GoOnAt}
 use Rattle.iim_unpack.specs.Passed.{Passed, Halted}
 use Rattle.iim_unpack.specs.Passing.{octets_in-octets}
 use Rattle.iim_unpack.specs.Refusals.{message_on, cause_of_message}
 use Rattle.iim_unpack.specs.Parts.{object_so_far, section, AllGoOn, Behind, Within, StandsFor, Led, TakesData, Went, CountsFor, Stopped}
 use Rattle.iim_unpack.specs.declared.parts.Parts.{Parts}
+use Rattle.iim_unpack.specs.LowerLaws.{MessageLaws}
 use Rattle.iim_unpack.proofs.Lasts.{not_all}
-use Rattle.iim_fields.specs.Laws.{NoSectionsBeginOthers}
-
--- The laws that the parts call.
-pub record MessageLaws : Type 0 where
-  pub texts : TextsStandBetweenStxAndEtx
-  pub living : ReadersStandAtLivingOctets
-  pub sections : NoSectionsBeginOthers
 
 -- ---- lists
 

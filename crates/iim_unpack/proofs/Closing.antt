@@ -13,7 +13,7 @@ use Rattle.iim_fields.specs.Faults.{present_record, joined}
 use Rattle.iim_fields.specs.Standing as records
 use Rattle.iim_fields.specs.Standing.{IsOf, IsValueFault, limits_of}
 use Rattle.iim_fields.specs.Values.{data_of, tells_number, number_told}
-use Rattle.iim_fields.specs.Laws.{ValuesDieWithTheirFault, NoSectionsBeginOthers}
+use Rattle.iim_fields.specs.Laws.{NoSectionsBeginOthers}
 use Rattle.iim_fields.specs.declared.checker.Checker.{Checker}
 use Rattle.iim_fields.specs.declared.fault.FieldFault.{FieldFault}
 use Rattle.iim_object.specs.Plans.{max_subfiles}
@@ -24,9 +24,8 @@ use Rattle.wire_message.specs.Layers.{text_so_far}
 use Rattle.wire_message.specs.Laws.{ReadersStandAtLivingOctets}
 use Rattle.wire_message.specs.Reading as wire
 use Rattle.iim_unpack.specs.Admitted.{object_of}
-use Rattle.iim_unpack.specs.Layers.{IsObjectFault}
 use Rattle.iim_unpack.specs.Tokens.{place_at, IsRefusedValue}
-use Rattle.iim_unpack.specs.Refusals.{of_field}
+use Rattle.iim_unpack.specs.Refusals.{of_field, IsObjectFault}
 use Rattle.iim_unpack.specs.Parts.{object_so_far, Behind, Within, TakesData, CountsFor, Closed, NotClosed}
 use Rattle.iim_unpack.specs.declared.parts.Parts.{Parts}
 use Rattle.iim_unpack.specs.declared.fault.Fault.{Fault}
@@ -34,16 +33,9 @@ use Rattle.iim_unpack.proofs.Faults.{field_value, object_value}
 use Rattle.iim_unpack.proofs.Places.{number_leads, silent_leads, one_more}
 use Rattle.iim_unpack.proofs.Carrying.{in_one, all_within}
 use Rattle.iim_unpack.proofs.Heading.{quiet_field, counts_size}
-use Rattle.iim_unpack.proofs.Taken.{number_tells}
 use Rattle.iim_unpack.proofs.Lasts.{present_last, not_all}
 use Rattle.iim_fields.specs.Laws.{NoSectionsBeginOthers}
-use Rattle.iim_unpack.specs.LowerLaws.{ObjectLaws}
-
-pub record CloseLaws : Type 0 where
-  pub objects : ObjectLaws
-  pub values : ValuesDieWithTheirFault
-  pub living : ReadersStandAtLivingOctets
-  pub sections : NoSectionsBeginOthers
+use Rattle.iim_unpack.specs.LowerLaws.{CloseLaws}
 
 -- ---- lists
 
@@ -69,6 +61,16 @@ end_told ds h taken whole =
 
     same : h ≡ head_of (data_of h taken)
     same = λ i. record { rec = h.rec; set = h.set; count = sym whole i }
+
+-- ---- numbers
+
+-- a value that tells a number
+number_tells : (d : Dataset) (n : ℕ) → Some n ≡ number_told d → (tells_number d.rec ≡ true) × (n ≡ number d.octets)
+number_tells d n told = tells_by (tells_number d.rec) refl told
+  where
+    tells_by : (b : Bool) → tells_number d.rec ≡ b → Some n ≡ (if b then Some (number d.octets) else None) → (tells_number d.rec ≡ true) × (n ≡ number d.octets)
+    tells_by true is e = (is, cc)
+    tells_by false is e = absurd cc
 
 -- ---- where the end leads
 

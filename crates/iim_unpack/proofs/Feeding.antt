@@ -10,7 +10,6 @@ use Rattle.iim_dataset.specs.Events.{Event, HeadRead, DataOctet, DatasetEnd, han
 use Rattle.iim_dataset.specs.Places.{LeadsTo, HandsOn, IsKeptAs, between, named_by, to_come}
 use Rattle.iim_dataset.specs.Reading.{TagDies, TakesCalls}
 use Rattle.iim_dataset.specs.Completing.{CompletesData, CompletesHead, CompletesOctet, CompletesEnd, CompletesNow}
-use Rattle.iim_dataset.specs.Laws.{OctetsAreHandedOnOneWay, EventsTellTheDatasets, WhatAnOctetCompletes}
 use Rattle.iim_dataset.specs.declared.head.Head.{Head}
 use Rattle.iim_dataset.specs.declared.head.HeadCause.{HeadCause}
 use Rattle.iim_dataset.specs.declared.head.HeadCause.TheVariants.{Marker, CountForm}
@@ -36,11 +35,11 @@ use Rattle.iim_unpack.specs.Laws.{AdmittedOctetsHaveOneValue}
 use Rattle.iim_unpack.specs.Value.{HasParts}
 use Rattle.iim_unpack.specs.declared.unpacker.Unpacked.{Unpacked}
 use Rattle.iim_unpack.specs.Admitted.{Value, Admits, object_of}
-use Rattle.iim_unpack.specs.Answers.{begun_record, begun_number, tag_cause}
+use Rattle.iim_unpack.specs.Refusals.{begun_record, begun_number, tag_cause}
 use Rattle.iim_unpack.specs.Refusals.{refusal_at, message_on}
 use Rattle.iim_unpack.specs.Tokens.{IsRefusedHead, IsRefusedValue}
 use Rattle.iim_fields.specs.Values.{data_of}
-use Rattle.iim_unpack.specs.Steps.{cause_of_tag}
+use Rattle.iim_unpack.specs.Refusals.{cause_of_tag}
 use Rattle.iim_unpack.specs.Parts.{object_so_far, AllGoOn, Behind, StandsFor, Led, Refused, RefusesAt, IsUnfinished}
 use Rattle.iim_unpack.specs.Routing.{Takes, HasEnded}
 use Rattle.iim_unpack.specs.Unpacking.{Unpacking, Advanced, FailsAs, IsOnward, tag_fault, raised, are_some, begins, limits_in, IsTextOf, Adds, IsOpen, IsBadTagAt, RefusesNext, IsLed, Stands, IsDoneWith, IsRefusedIn, IsTruncatedAt, truncated_in, Stood, IsUnpacking}

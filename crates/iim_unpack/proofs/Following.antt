@@ -19,7 +19,7 @@ use Rattle.iim_object.specs.Behind.{of_record, place_behind}
 use Rattle.wire_story.specs.Tokens.{Octet, End}
 use Rattle.wire_message.specs.Layers.{MessageLanguage, MessageLivesWith, StoryLivesIn}
 use Rattle.iim_unpack.specs.Admitted.{object_of}
-use Rattle.iim_unpack.specs.Answers.{MayGoOn}
+use Rattle.iim_unpack.specs.Tokens.{MayGoOn}
 use Rattle.iim_unpack.specs.Framed.{AreWithin}
 use Rattle.iim_unpack.specs.Parts.{object_so_far, section, message_tokens, AllGoOn}
 use Rattle.iim_unpack.specs.Tokens.{GoOnAt, ObjectLives, place_at}

@@ -9,7 +9,6 @@ use Rattle.iim_dataset.specs.declared.head.Head.{Head}
 use Rattle.iim_fields.specs.Alive.{IsAliveAt}
 use Rattle.iim_fields.specs.Standing as records
 use Rattle.iim_fields.specs.Standing.{IsBetween, IsHeadFault, limits_of}
-use Rattle.iim_fields.specs.Laws.{HeadsDieWithTheirFault, EnvelopesEndWithTheLastRecord}
 use Rattle.iim_fields.specs.declared.checker.Checker.{Checker}
 use Rattle.iim_fields.specs.declared.fault.FieldFault.{FieldFault}
 use Rattle.iim_fields.specs.declared.fault.FieldCause.{FieldCause}
@@ -42,14 +41,8 @@ use Rattle.iim_unpack.proofs.Places.{HeadLeads, subfile_leads, end_leads}
 use Rattle.iim_unpack.proofs.Faults.{field_head, too_many_head, object_head, have_room}
 use Rattle.std.proofs.lemmas.Bool.{true≢false}
 use Rattle.iim_unpack.proofs.Lasts.{sections_last}
-use Rattle.iim_unpack.proofs.Carrying.{MessageLaws, counts_for, passes_on, behind_all, all_behind}
-use Rattle.iim_unpack.specs.LowerLaws.{ObjectLaws}
-
-pub record HeadLaws : Type 0 where
-  pub objects : ObjectLaws
-  pub heads : HeadsDieWithTheirFault
-  pub message : MessageLaws
-  pub ends : EnvelopesEndWithTheLastRecord
+use Rattle.iim_unpack.proofs.Carrying.{counts_for, passes_on, behind_all, all_behind}
+use Rattle.iim_unpack.specs.LowerLaws.{HeadLaws}
 
 -- What stands behind a head.
 pub record Begins (new : Parts) (ds : List Dataset) (h : Head) : Type 0 where

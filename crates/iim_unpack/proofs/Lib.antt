@@ -9,9 +9,7 @@ pub mod Places
 pub mod Faults
 pub mod Frames
 pub mod Limits
-pub mod Steps
 pub mod Refused
-pub mod Stages
 pub mod Results
 pub mod Ends
 pub mod Lasts
@@ -21,7 +19,6 @@ pub mod Closing
 pub mod Routed
 pub mod Opens
 pub mod Feeding
-pub mod Taken
 pub mod Following
 pub mod Answering
 pub mod PieceLemmas

@@ -106,17 +106,6 @@ are_records ds (r1, from2, one, good1, (r2, from7, two, good2, (r7, from8, seven
   parts = joined ds r1 r2 r7 r8 r9 from2 from7 from8 from9 none one two seven eight nine end;
 }
 
--- The records are those of the sections: records 1 and 2 joined, and each of the others.
-pub record AreThose (ds : List Dataset) (s : AreSections ds) (r : AreRecords ds) : Type 0 where
-  pub before : r.before ≡ s.0 ++ s.4.0
-  pub r7 : r.r7 ≡ s.4.4.0
-  pub r8 : r.r8 ≡ s.4.4.4.0
-  pub r9 : r.r9 ≡ s.4.4.4.4.0
-
-pub are_those : (ds : List Dataset) (s : AreSections ds) → AreThose ds s (are_records ds s)
-unfolding are_records
-are_those ds s = record { before = refl; r7 = refl; r8 = refl; r9 = refl }
-
 -- What goes on to an envelope goes on to such records.
 pub records_alive : (ds : List Dataset) → sections.IsAlive ds → IsAlive AreRecords ds
 records_alive ds alive = (alive.0, are_records (ds ++ alive.0) alive.1)

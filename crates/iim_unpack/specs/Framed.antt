@@ -1,5 +1,5 @@
 -- Octets that are an envelope, as far as its datasets and sizes go.
-use Rattle.std.specs.Prelude.{◌≡◌, ℕ, ◌≤◌, List, ◌++◌, length}
+use Rattle.std.specs.Prelude.{ℕ, ◌≤◌, List, length}
 use Rattle.iim_dataset.specs.Datasets.{Dataset, SpellsStream, count_octets}
 use Rattle.iim_fields.specs.Records.{AreSections}
 use Rattle.iim_fields.specs.Faults.{kept, kept_octets}
@@ -22,11 +22,3 @@ pub record Framed (limits : Limits) (octets : List ℕ) : Type 0 where
   pub sections : AreSections datasets
   pub sized : AreSized datasets
   pub within : AreWithin limits datasets
-
--- No front of the octets is framed.
-abbrev pub BeginsUnframed : Limits → List ℕ → Type 0
-BeginsUnframed limits octets = (f rest : List ℕ) → Framed limits f → octets ≡ f ++ rest → ⊥
-
--- Whatever follows, the octets neither begin with framed octets nor are they the beginning of some.
-abbrev pub Clashes : Limits → List ℕ → Type 0
-Clashes limits octets = (f x y : List ℕ) → Framed limits f → octets ++ x ≡ f ++ y → ⊥

@@ -1,11 +1,11 @@
 -- What is told one after another is told joined: the laws of the router.
-use Rattle.std.proofs.Common.{◌≡◌, ℕ, List, [], ◌∷◌, ◌++◌, Option, Some, refl, sym, subst, ◌∙◌, append_assoc, append-nil}
+use Rattle.std.proofs.Common.{◌≡◌, ℕ, List, [], ◌++◌, Option, Some, refl, sym, subst, ◌∙◌, append_assoc, append-nil}
 use Rattle.std.proofs.lemmas.List.Concat.{flat_map-append}
 use Rattle.iim_dataset.specs.Events.{Event, DatasetEnd}
 use Rattle.iim_fields.specs.Standing.{limits_of}
 use Rattle.iim_fields.specs.declared.limits.Limits.{Limits}
 use Rattle.wire_story.specs.Delivery as story
-use Rattle.iim_unpack.specs.Parts.{Led, Went, Stopped, Refused, CountsFor, Closed, NotClosed}
+use Rattle.iim_unpack.specs.Parts.{Led, Went, Stopped, Refused, CountsFor, NotClosed}
 use Rattle.iim_unpack.specs.declared.parts.Parts.{Parts}
 use Rattle.iim_unpack.specs.declared.fault.Fault.{Fault}
 
@@ -52,15 +52,6 @@ stopped_joined goes failures joined p q a b c xs ys event refused h k = record {
 }
 
 -- the end of a dataset, of which no sink is told
-pub went_closed : {S : Type 0} (goes : S → List story.Event → S → Type 0) (failures : S → ℕ) (p q : Parts) (a : S) → goes a [] a → Closed p q → Went goes failures p a (DatasetEnd ∷ []) q a
-went_closed goes failures p q a g closed = record {
-  limits = closed.limits;
-  more = [];
-  told = g;
-  calm = refl;
-  leads = λ before text led. subst (Led q (before ++ DatasetEnd ∷ [])) (sym (append-nil text)) (closed.leads before text led);
-}
-
 pub stopped_closed : {S : Type 0} (goes : S → List story.Event → S → Type 0) (failures : S → ℕ) (p : Parts) (a : S) (fault : Fault) → goes a [] a → NotClosed p fault
     → Stopped goes failures p a [] DatasetEnd (Some fault) a
 stopped_closed goes failures p a fault g bad = record {

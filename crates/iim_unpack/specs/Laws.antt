@@ -2,14 +2,7 @@
 use Rattle.std.specs.Prelude.{◌≡◌, List, [], ◌++◌, ℕ}
 use Rattle.iim_fields.specs.declared.limits.Limits.{Limits}
 use Rattle.iim_unpack.specs.Framed.{AreWithin, Framed}
-use Rattle.iim_fields.specs.Faults.{kept}
-use Rattle.wire_message.specs.Messages.{Header, IsMessage}
-use Rattle.wire_story.specs.Texts.{IsText}
-use Rattle.iim_unpack.specs.Admitted.{Value, Admits, object_of}
-
--- No framed octets are a proper prefix of framed octets, under whatever limits.
-abbrev pub NoEnvelopeBeginsAnother : Type 0
-NoEnvelopeBeginsAnother = (limits others : Limits) (f rest : List ℕ) → Framed limits f → Framed others (f ++ rest) → rest ≡ []
+use Rattle.iim_unpack.specs.Admitted.{Value, Admits}
 
 -- No octets are not framed.
 abbrev pub NoEnvelopeIsEmpty : Type 0
@@ -26,9 +19,3 @@ NoAdmittedOctetsBeginOthers = (octets rest : List ℕ) (v w : Value) → Admits 
 -- Admitted octets are framed under the limits that they are within.
 abbrev pub AdmittedOctetsAreFramed : Type 0
 AdmittedOctetsAreFramed = (limits : Limits) (octets : List ℕ) (v : Value) → (admits : Admits octets v) → AreWithin limits admits.datasets → Framed limits octets
-
--- Framed octets whose object is a message, and whose text has lines, are admitted, with this value.
-abbrev pub FramedMessagesAreAdmitted : Type 0
-FramedMessagesAreAdmitted = (limits : Limits) (octets : List ℕ) (framed : Framed limits octets) (head : Header) (text trailer : List ℕ) (lines : List (List ℕ))
-    → IsMessage (object_of framed.datasets) head text trailer → IsText text lines
-    → Admits octets (record { fields = kept framed.datasets; head = head; lines = lines; trailer = trailer; sizes = framed.sized.sizes })

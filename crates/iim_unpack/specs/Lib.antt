@@ -3,11 +3,8 @@ pub mod Framed
 pub mod Admitted
 pub mod Refusals
 pub mod Tokens
-pub mod Answers
 pub mod Blocks
-pub mod Layers
 pub mod Listing
-pub mod Steps
 pub mod Intakes
 pub mod Laws
 pub mod Passed

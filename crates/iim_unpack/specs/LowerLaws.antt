@@ -1,9 +1,9 @@
 -- The laws of the lower crates, bundled by what rests on them.
 use Rattle.iim_dataset.specs.Laws.{NoTagBeginsAnother, NoDatasetBeginsAnother, NoOctetsGoOn, OctetsAreHandedOnOneWay, EventsTellTheDatasets, WhatAnOctetCompletes}
-use Rattle.iim_fields.specs.Laws.{EnvelopesEndWithTheLastRecord, NoSectionsBeginOthers}
+use Rattle.iim_fields.specs.Laws.{EnvelopesEndWithTheLastRecord, HeadsDieWithTheirFault, NoSectionsBeginOthers, ValuesDieWithTheirFault}
 use Rattle.iim_object.specs.Behind.{TokensFollow, OthersLeadNowhere, NumbersLead, SubfilesLead, EndsLead, DatasetsLiveWithTheirTokens, DatasetsEndWithTheirTokens, RecordsAreByNumber}
 use Rattle.wire_story.specs.Laws.{TextsSoFarHaveOneReading}
-use Rattle.wire_message.specs.Laws.{ReadersStandAtLivingOctets}
+use Rattle.wire_message.specs.Laws.{ReadersStandAtLivingOctets, TextsStandBetweenStxAndEtx}
 
 -- how datasets lead the object from place to place
 pub record ObjectLaws : Type 0 where
@@ -12,6 +12,26 @@ pub record ObjectLaws : Type 0 where
   pub numbers : NumbersLead
   pub subfiles : SubfilesLead
   pub ends : EndsLead
+
+-- by which octets go to the message
+pub record MessageLaws : Type 0 where
+  pub texts : TextsStandBetweenStxAndEtx
+  pub living : ReadersStandAtLivingOctets
+  pub sections : NoSectionsBeginOthers
+
+-- by which heads go to the parts of an unpacker
+pub record HeadLaws : Type 0 where
+  pub objects : ObjectLaws
+  pub heads : HeadsDieWithTheirFault
+  pub message : MessageLaws
+  pub ends : EnvelopesEndWithTheLastRecord
+
+-- by which datasets end
+pub record CloseLaws : Type 0 where
+  pub objects : ObjectLaws
+  pub values : ValuesDieWithTheirFault
+  pub living : ReadersStandAtLivingOctets
+  pub sections : NoSectionsBeginOthers
 
 -- by which an unpacker goes on
 pub record FeedLaws : Type 0 where

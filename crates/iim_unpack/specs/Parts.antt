@@ -23,7 +23,7 @@ use Rattle.wire_message.specs.declared.fault.MessageCause.{MessageCause}
 use Rattle.wire_message.specs.declared.fault.MessageCause.TheVariants.{Unfinished}
 use Rattle.iim_unpack.specs.Admitted.{object_of}
 use Rattle.iim_unpack.specs.Tokens.{place_at, GoOnAt, IsRefusedHead, IsRefusedValue}
-use Rattle.iim_unpack.specs.Answers.{MayGoOn}
+use Rattle.iim_unpack.specs.Tokens.{MayGoOn}
 use Rattle.iim_unpack.specs.Refusals.{message_on}
 use Rattle.iim_unpack.specs.declared.fault.Fault.{Fault}
 use Rattle.iim_unpack.specs.declared.parts.Parts.{Parts}

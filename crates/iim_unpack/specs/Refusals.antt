@@ -1,9 +1,15 @@
 -- How the faults of the layers are told.
-use Rattle.std.specs.Prelude.{ℕ}
+use Rattle.std.specs.Prelude.{◌≡◌, ℕ, List, [], ◌∷◌, get_or, Option}
+use Rattle.iim_dataset.specs.Splits.{Begun, InTag, InData}
+use Rattle.iim_dataset.specs.declared.head.HeadCause.{HeadCause}
+use Rattle.iim_dataset.specs.declared.head.HeadCause.TheVariants as heads
 use Rattle.iim_dataset.specs.declared.head.Head.{Head}
 use Rattle.iim_fields.specs.declared.fault.FieldFault.{FieldFault}
 use Rattle.iim_fields.specs.declared.fault.FieldCause.{FieldCause}
 use Rattle.iim_fields.specs.declared.fault.FieldCause.TheVariants as fields
+use Rattle.iim_object.specs.Objects.{ObjectToken}
+use Rattle.iim_object.specs.Reading.{Refuses}
+use Rattle.iim_object.specs.declared.state.State.{State}
 use Rattle.iim_object.specs.declared.fault.SizeCause.{SizeCause}
 use Rattle.iim_object.specs.declared.fault.SizeCause.TheVariants as sizes
 use Rattle.wire_message.specs.declared.fault.MessageCause.{MessageCause}
@@ -62,10 +68,6 @@ too_many_on h = record { layer = layers.Limits; rec = h.rec; set = h.set; cause 
 abbrev pub refusal_at : ℕ → Fault → Refusal
 refusal_at octet fault = record { layer = fault.layer; rec = fault.rec; set = fault.set; octet = octet; cause = fault.cause }
 
--- the refusal for want of memory
-abbrev pub no_memory : Refusal
-no_memory = record { layer = layers.Outside; rec = 0; set = 0; octet = 0; cause = causes.OutOfMemory }
-
 -- the layer that refuses for a cause of the message
 abbrev pub layer_of_message : MessageCause → Layer
 layer_of_message messages.BadOctet = layers.Message
@@ -84,3 +86,30 @@ cause_of_message messages.Sink = causes.Sink
 -- a fault of the message, the story or the sink, on the dataset of the head
 abbrev pub message_on : Head → MessageCause → Fault
 message_on h cause = record { layer = layer_of_message cause; rec = h.rec; set = h.set; cause = cause_of_message cause }
+
+-- ---- begun datasets
+
+-- the numbers of the begun dataset: of a begun tag its second and third octets, each 0 while it isn't read
+abbrev pub begun_record : Begun → ℕ
+begun_record (InTag held) = get_or held 1 0
+begun_record (InData h taken) = h.rec
+
+abbrev pub begun_number : Begun → ℕ
+begun_number (InTag held) = get_or held 2 0
+begun_number (InData h taken) = h.set
+
+-- A tag's first octet has to be the marker; what can be wrong behind it is the count.
+abbrev pub tag_cause : List ℕ → Cause
+tag_cause [] = causes.Marker
+tag_cause (x ∷ xs) = causes.CountForm
+
+-- a fault of a tag
+abbrev pub cause_of_tag : HeadCause → Cause
+cause_of_tag heads.Marker = causes.Marker
+cause_of_tag heads.CountForm = causes.CountForm
+
+-- ---- the object
+
+-- The object refused the token: the layer dies with it wherever the reader stands, and the fault tells the first cause.
+abbrev pub IsObjectFault : Option State → ObjectToken → Head → Fault → Type 0
+IsObjectFault old token h fault = (cause : SizeCause) × Refuses old token cause × (fault ≡ size_on h cause)

@@ -3,6 +3,7 @@ use Rattle.std.specs.Prelude.{◌≡◌, ◌+◌, ◌<◌, ◌&&◌, ◌||◌, n
 use Rattle.std.specs.Option.{option_or, option_map}
 use Rattle.iim_dataset.specs.Octets.{number}
 use Rattle.iim_dataset.specs.Datasets.{Dataset, head_of}
+use Rattle.iim_dataset.specs.Splits.{Begun, InTag, InData}
 use Rattle.iim_dataset.specs.Languages as languages
 use Rattle.iim_dataset.specs.declared.head.Head.{Head}
 use Rattle.iim_fields.specs.Alive.{IsAlive, IsAliveAt}
@@ -49,6 +50,11 @@ pub record GoOnAt (limits : Limits) (ds : List Dataset) (h : Head) : Type 0 wher
   pub within : AreWithin limits ds
   pub room : HaveRoom limits ds h
   pub object : ObjectLives (place_at ds h)
+
+-- Every layer can go on behind the whole datasets and the begun one.
+abbrev pub MayGoOn : Limits → List Dataset → Begun → Type 0
+MayGoOn limits whole (InTag held) = GoOn limits whole
+MayGoOn limits whole (InData h taken) = GoOnAt limits whole h
 
 -- With the head the layer is dead, and those that are asked before are alive: first the record layer, then the limits, then
 -- the object layer.

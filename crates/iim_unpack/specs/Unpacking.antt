@@ -14,7 +14,7 @@ use Rattle.iim_fields.specs.Standing.{limits_of}
 use Rattle.iim_fields.specs.declared.limits.Limits.{Limits}
 use Rattle.wire_story.specs.Delivery as story
 use Rattle.wire_message.specs.Layers.{text_so_far}
-use Rattle.iim_unpack.specs.Answers.{begun_record, begun_number, tag_cause}
+use Rattle.iim_unpack.specs.Refusals.{begun_record, begun_number, tag_cause}
 use Rattle.iim_unpack.specs.Parts.{object_so_far, AllGoOn, IsUnfinished, Led, Went, Stopped}
 use Rattle.iim_unpack.specs.Tokens.{IsRefusedHead, IsRefusedValue}
 use Rattle.iim_fields.specs.Values.{data_of}
@@ -23,7 +23,7 @@ use Rattle.wire_message.specs.declared.fault.MessageCause.{MessageCause}
 use Rattle.iim_dataset.specs.declared.head.Head.{Head}
 use Rattle.iim_unpack.specs.Admitted.{object_of, Value, Admits}
 use Rattle.iim_unpack.specs.Refusals.{refusal_at, message_on}
-use Rattle.iim_unpack.specs.Steps.{cause_of_tag}
+use Rattle.iim_unpack.specs.Refusals.{cause_of_tag}
 use Rattle.iim_unpack.specs.Routing.{Takes, HasEnded}
 use Rattle.iim_unpack.specs.Admitted.{Value, Admits}
 use Rattle.iim_unpack.specs.Framed.{AreWithin}

@@ -1,8 +1,8 @@
 //! What holds of all envelopes.
 
-ghost use Rattle.iim_unpack.specs.Laws.{AdmittedOctetsAreFramed, AdmittedOctetsHaveOneValue, FramedMessagesAreAdmitted, NoAdmittedOctetsBeginOthers, NoEnvelopeBeginsAnother, NoEnvelopeIsEmpty};
+ghost use Rattle.iim_unpack.specs.Laws.{AdmittedOctetsAreFramed, AdmittedOctetsHaveOneValue, NoAdmittedOctetsBeginOthers, NoEnvelopeIsEmpty};
 ghost use Rattle.iim_unpack.specs.Intakes.{OpenOctetsAreBounded};
-ghost use Rattle.iim_unpack.specs.LowerLaws.{AnswerLaws, FeedLaws};
+ghost use Rattle.iim_unpack.specs.LowerLaws.{AnswerLaws, CloseLaws, FeedLaws, HeadLaws, MessageLaws, ObjectLaws};
 ghost use Rattle.iim_unpack.specs.Streams.{EnvelopesAreBounded, NothingGoesOnFromRefusedOctets, RefusalsAreDetermined, RefusedOctetsWereOpen, StreamsHaveOneAnswer};
 ghost use Rattle.iim_unpack.specs.Unpacking.{OpenOctetsBeginWithNoEnvelope};
 
@@ -10,15 +10,56 @@ use iim_dataset::{
     events_tell_the_datasets, no_dataset_begins_another, no_octets_go_on, no_tag_begins_another,
     octets_are_handed_on_one_way, what_an_octet_completes,
 };
-use iim_fields::{envelopes_end_with_the_last_record, no_sections_begin_others};
+use iim_fields::{
+    envelopes_end_with_the_last_record, heads_die_with_their_fault, no_sections_begin_others,
+    values_die_with_their_fault,
+};
 use iim_object::{
     datasets_lead_from_place_to_place, datasets_live_with_their_tokens, records_are_by_number,
     sizes_are_determined,
 };
-use wire_message::{messages_have_one_reading, readers_stand_at_living_octets};
+use wire_message::{
+    messages_have_one_reading, readers_stand_at_living_octets, texts_stand_between_stx_and_etx,
+};
 use wire_story::{texts_have_one_reading, texts_so_far_have_one_reading};
 
-/// The laws by which an unpacker goes on.
+/// The laws by which datasets lead the object from place to place.
+fn object_laws()
+    ensures { ObjectLaws }
+{
+    datasets_lead_from_place_to_place();
+}
+
+/// The laws by which octets go to the message.
+pub(crate) fn message_laws()
+    ensures { MessageLaws }
+{
+    texts_stand_between_stx_and_etx();
+    readers_stand_at_living_octets();
+    no_sections_begin_others();
+}
+
+/// The laws by which heads go to the parts of an unpacker.
+pub(crate) fn head_laws()
+    ensures { HeadLaws }
+{
+    object_laws();
+    message_laws();
+    heads_die_with_their_fault();
+    envelopes_end_with_the_last_record();
+}
+
+/// The laws by which datasets end.
+pub(crate) fn close_laws()
+    ensures { CloseLaws }
+{
+    object_laws();
+    values_die_with_their_fault();
+    readers_stand_at_living_octets();
+    no_sections_begin_others();
+}
+
+/// The laws by which an unpacker can continue.
 pub(crate) fn feed_laws()
     ensures { FeedLaws }
 {
@@ -38,18 +79,10 @@ fn answer_laws()
     feed_laws();
     no_tag_begins_another();
     no_dataset_begins_another();
-    datasets_lead_from_place_to_place();
+    object_laws();
     datasets_live_with_their_tokens();
     no_octets_go_on();
     texts_so_far_have_one_reading();
-}
-
-/// No envelope begins another: framed octets end where they end.
-pub fn no_envelope_begins_another()
-    ensures { NoEnvelopeBeginsAnother }
-{
-    no_dataset_begins_another();
-    no_sections_begin_others();
 }
 
 /// No envelope is empty.
@@ -79,13 +112,6 @@ pub fn no_admitted_octets_begin_others()
 /// Admitted octets are framed under the limits that they are within, the greatest number of subfiles among them.
 pub fn admitted_octets_are_framed()
     ensures { AdmittedOctetsAreFramed }
-{
-    records_are_by_number();
-}
-
-/// Framed octets whose object is a message, and whose text has lines, are admitted.
-pub fn framed_messages_are_admitted()
-    ensures { FramedMessagesAreAdmitted }
 {
     records_are_by_number();
 }

@@ -7,22 +7,18 @@ ghost use Rattle.iim_fields.specs.Standing.{limits_of, IsBetween};
 ghost use Rattle.iim_object.specs.Places.{head_token, value_token};
 ghost use Rattle.iim_object.specs.Plans.{max_subfiles};
 ghost use Rattle.iim_object.specs.Reading.{GoesOn, events_at};
-ghost use Rattle.iim_unpack.specs.Layers.{IsObjectFault};
+ghost use Rattle.iim_unpack.specs.Refusals.{IsObjectFault};
 ghost use Rattle.iim_unpack.specs.Passed.{Passed, RefusesObject};
 ghost use Rattle.iim_unpack.specs.Parts.{TakesHead, TakesData, Went, Stopped, Closed, NotClosed};
 ghost use Rattle.iim_unpack.specs.Refusals.{too_many_on};
 
 use crate::fault::{Fault, message_on, of_field, size_on, too_many_on};
+use crate::laws::{close_laws, head_laws, message_laws};
 use crate::message::{pass_head, pass_octets};
 use iim_dataset::Head;
-use iim_fields::{
-    Fields, envelopes_end_with_the_last_record, heads_die_with_their_fault,
-    no_sections_begin_others, values_die_with_their_fault,
-};
-use iim_object::{MAX_SUBFILES, ObjectFault, ObjectReader, datasets_lead_from_place_to_place};
-use wire_message::{
-    MessageReader, readers_stand_at_living_octets, texts_stand_between_stx_and_etx,
-};
+use iim_fields::Fields;
+use iim_object::{MAX_SUBFILES, ObjectFault, ObjectReader};
+use wire_message::MessageReader;
 use wire_story::StorySink;
 
 /// The record of subfiles, whose data are no matter of the records.
@@ -85,12 +81,7 @@ impl Parts {
         ensures went { OnOk result (Went S.goes S.failures self.old sink.old (HeadRead head ∷ []) self.new sink.new) }
         ensures stopped { IfErr result (λ fault. Stopped S.goes S.failures self.old sink.old [] (HeadRead head) (Some fault) sink.new) }
     {
-        heads_die_with_their_fault();
-        datasets_lead_from_place_to_place();
-        texts_stand_between_stx_and_etx();
-        readers_stand_at_living_octets();
-        no_sections_begin_others();
-        envelopes_end_with_the_last_record();
+        head_laws();
         if let Err(fault) = self.fields.begin(head) {
             return Err(of_field(fault));
         }
@@ -120,9 +111,7 @@ impl Parts {
         ensures before { IfErr result (λ halt. halt.taken < length run.now) }
         ensures stopped { IfErr result (λ halt. Stopped S.goes S.failures self.old sink.old (map DataOctet (take halt.taken run.now)) (DataOctet (slice_index run.now halt.taken)) (Some halt.fault) sink.new) }
     {
-        texts_stand_between_stx_and_etx();
-        readers_stand_at_living_octets();
-        no_sections_begin_others();
+        message_laws();
         if self.head.rec != OBJECT {
             self.fields.bytes(run);
             self.left -= run.len() as u64;
@@ -168,10 +157,7 @@ impl Parts {
         ensures closed { OnOk result (Closed self.old self.new) }
         ensures refused { IfErr result (NotClosed self.old) }
     {
-        values_die_with_their_fault();
-        datasets_lead_from_place_to_place();
-        readers_stand_at_living_octets();
-        no_sections_begin_others();
+        close_laws();
         let last = self.head.rec == POST_OBJECT;
         match self.fields.close() {
             Ok(Some(number)) => match self.number(number) {

@@ -5,7 +5,7 @@ ghost use Rattle.iim_dataset.specs.Places.{to_come, named_by};
 ghost use Rattle.iim_dataset.specs.Reading.{TakesCalls};
 ghost use Rattle.iim_dataset.specs.declared.head.HeadCause.{HeadCause as HeadCauseValue};
 ghost use Rattle.iim_dataset.specs.declared.place.Place.{Place};
-ghost use Rattle.iim_fields.specs.Standing.{limits_of};
+ghost use Rattle.iim_fields.specs.Standing.{StandsBehind, limits_of};
 ghost use Rattle.wire_story.specs.Delivery as story;
 ghost use Rattle.iim_unpack.specs.Parts.{CountsFor};
 ghost use Rattle.iim_unpack.specs.Refusals.{refusal_at};
@@ -198,9 +198,41 @@ impl Unpacker {
         ensures stands { IfOk result (λ u. Stands u [] 0) }
         ensures limits { IfOk result (λ u. limits_in u ≡ limits) }
     {
+        Ok(Unpacker::begin(Fields::new(alloc, limits)?))
+    }
+
+    /// An unpacker that stands on no octets, with the memory of an envelope that is no longer wanted, where that is enough for the
+    /// limits: it takes none, as no later call does. Else what was handed in is handed back.
+    pub fn over(unpacked: Unpacked, limits: Limits) -> Result<Unpacker, Unpacked>
+        ensures stands { IfOk result (λ u. Stands u [] 0) }
+        ensures limits { IfOk result (λ u. limits_in u ≡ limits) }
+        ensures handed_back { IfErr result (λ same. same ≡ unpacked) }
+    {
+        let Unpacked {
+            envelope,
+            head,
+            trailer,
+            sizes,
+        } = unpacked;
+        match Fields::over(envelope, limits) {
+            Ok(fields) => Ok(Unpacker::begin(fields)),
+            Err(envelope) => Err(Unpacked {
+                envelope,
+                head,
+                trailer,
+                sizes,
+            }),
+        }
+    }
+
+    /// An unpacker that stands on no octets.
+    fn begin(fields: Fields) -> Unpacker
+        requires { StandsBehind fields [] }
+        ensures stands { Stands result [] 0 }
+        ensures limits { limits_in result ≡ limits_of fields }
+    {
         feed_laws();
-        let fields = Fields::new(alloc, limits)?;
-        Ok(Unpacker {
+        Unpacker {
             reader: HeadReader::new(),
             parts: Parts {
                 fields,
@@ -218,7 +250,7 @@ impl Unpacker {
             octets: 0,
             begun: false,
             refused: None,
-        })
+        }
     }
 
     /// Whether an envelope has ended.

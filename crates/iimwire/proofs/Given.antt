@@ -1,5 +1,5 @@
 -- What a stream that begins with packed octets gives back.
-use Rattle.std.proofs.Common.{◌≡◌, ◌≢◌, ℕ, ◌⊎◌, inl, inr, List, length, refl, sym, ap, subst, ◌∙◌}
+use Rattle.std.proofs.Common.{◌≡◌, ◌≢◌, ℕ, ◌⊎◌, inl, inr, List, length, refl, subst}
 use Rattle.std.specs.Prelude.{Result, Ok, Err, IfOk, IfErr}
 use Rattle.iim_fields.specs.declared.limits.Limits.{Limits}
 use Rattle.wire_story.specs.Delivery as story
@@ -11,7 +11,7 @@ use Rattle.iim_unpack.specs.declared.refusal.Cause.TheVariants as causes
 use Rattle.iim_unpack.specs.declared.refusal.Refusal.{Refusal}
 use Rattle.iim_unpack.specs.declared.unpacker.Unpacked.{Unpacked}
 use Rattle.iimwire.specs.Laws.{packed_value}
-use Rattle.iimwire.specs.RoundTrip.{BeginsPacked, packed_answer, IsGivenBack, GivesBack, RefusesBySink, PackedStreamsHaveTheirAnswer}
+use Rattle.iimwire.specs.RoundTrip.{packed_answer, GivesBack, RefusesBySink, PackedStreamsHaveTheirAnswer}
 
 pub given : {S : Type 0} (goes : S → List story.Event → S → Type 0) (limits : Limits) (stream : List ℕ) (a b : S) (got : Unpacked) (used : ℕ) → PackedStreamsHaveTheirAnswer
     → ((answer : Answer) → Answers limits stream answer → IsAnswer (Ok (got, used)) answer)

@@ -1,6 +1,7 @@
 pub mod Runs
 pub mod Taken
 pub mod Reports
+pub mod Audits
 pub mod Requests
 pub mod Told
 pub mod Packed
@@ -8,3 +9,5 @@ pub mod RoundTrip
 pub mod Given
 pub mod Stories
 pub mod Listings
+pub mod Narration
+pub mod Packings

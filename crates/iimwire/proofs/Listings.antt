@@ -1,7 +1,7 @@
 -- Envelopes one after another.
-use Rattle.std.proofs.Common.{◌≡◌, ◌≢◌, ◌≤◌, ◌<◌, ◌⊎◌, ◌^◌, ◌-◌, ℕ, ◌+◌, List, [], ◌∷◌, ◌++◌, length, take, drop, slice_index, Bool, true, false, refl, ap, sym, subst, ◌∙◌, inl, inr, arith, append_assoc, length-append, min}
+use Rattle.std.proofs.Common.{◌≡◌, ◌≤◌, ◌<◌, ◌⊎◌, ◌^◌, ◌-◌, ℕ, List, [], ◌∷◌, ◌++◌, length, take, slice_index, Bool, true, false, refl, ap, sym, subst, ◌∙◌, inl, inr, arith, append_assoc, length-append}
 use Rattle.std.specs.List.{AllByRecursion}
-use Rattle.std.proofs.lemmas.List.{append-nil, take-append-drop, length-take-le}
+use Rattle.std.proofs.lemmas.List.{append-nil, length-take-le}
 use Rattle.std.proofs.lemmas.Bool.{false≢true}
 use Rattle.std.proofs.Math.Seq.{take-append_seam}
 use Rattle.iim_unpack.specs.Admitted.{Value, Admits}
@@ -12,7 +12,7 @@ use Rattle.iim_unpack.specs.Refusals.{refusal_at}
 use Rattle.iim_unpack.specs.Streams.{Answer, Answers, IsEnvelopeWithin, Finished, Refused, Truncated, StreamsHaveOneAnswer, RefusedOctetsWereOpen}
 use Rattle.iim_unpack.specs.Unpacking.{IsTruncatedAt, RefusesNext, raised}
 use Rattle.iim_unpack.specs.declared.refusal.Refusal.{Refusal}
-use Rattle.iimwire.specs.Listings.{limits, max_envelopes, joined, told, Envelope, IsEnvelope, Divides, Ending, Whole, RefusedBy, TooMany, EndsBy, IsDead, IsTruncated, IsRefusedAfter, IsListing, InputsHaveOneListing, ListingsAreLongest}
+use Rattle.iimwire.specs.Listings.{limits, max_envelopes, joined, Envelope, IsEnvelope, Ending, Whole, RefusedBy, TooMany, EndsBy, IsDead, IsTruncated, IsRefusedAfter, InputsHaveOneListing, ListingsAreLongest}
 
 -- the laws that one listing rests on
 pub record ListingLaws : Type 0 where

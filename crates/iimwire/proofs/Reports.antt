@@ -15,7 +15,7 @@ use Rattle.iim_unpack.specs.declared.refusal.Refusal.{Refusal}
 use Rattle.iimwire.specs.Coming.{IsNext, IsRefusal, IsUnheard}
 use Rattle.iimwire.specs.Devices.{Holds}
 use Rattle.iimwire.specs.Lines.{ending_line, status_of, texts_from}
-use Rattle.iimwire.specs.Listings.{joined, limits, max_envelopes, Divides, Ending, EndsBy, Envelope, IsDead, IsEnvelope, IsRefusedAfter, RefusedBy}
+use Rattle.iimwire.specs.Listings.{joined, limits, max_envelopes, Divides, Ending, EndsBy, Envelope, IsDead, IsEnvelope, IsRefusedAfter}
 use Rattle.iimwire.specs.Reports.{IsUnreported, IsUnsaid, Reported}
 use Rattle.iimwire.specs.declared.fault.Fault.{Fault}
 use Rattle.iimwire.specs.declared.fault.Fault.TheVariants.{CannotRead, CannotWrite, OutOfMemory}
@@ -81,7 +81,7 @@ given_then joins source mid rest count es begun t given = joins.more source mid 
 
 -- ---- the whole input, where some of it is left
 
-consumes_holds : (old new : Option (List ℕ)) (xs more : List ℕ) → Consumes old new xs → Holds new more → Holds old (xs ++ more)
+pub consumes_holds : (old new : Option (List ℕ)) (xs more : List ℕ) → Consumes old new xs → Holds new more → Holds old (xs ++ more)
 consumes_holds None new xs more c h = tt
 consumes_holds (Some o) None xs more c h = absurd c
 consumes_holds (Some o) (Some n) xs more c h = c ∙ ap (λ (l : List ℕ). xs ++ l) h
@@ -116,20 +116,20 @@ refused_later begun more k e d =
     }
 
 -- a refusal of octets that came is one of all that stands after the envelopes
-pub ends_refused : {S : Type 0} (goes : S → List Event → S → Type 0) (mid rest : Device) (a b : S) (e : Refusal) (r : IsRefusal goes mid rest a b e) (count : ℕ)
-    → (more : List ℕ) × Holds rest.octets more × EndsBy count (r.octets ++ more) (RefusedBy e)
-ends_refused goes mid rest a b e r count = by_kind r.refused
+pub ends_refused : {S : Type 0} (goes : S → List Event → S → Type 0) (mid rest : Device) (a b : S) (e : Refusal) (r : IsRefusal goes mid rest a b e)
+    → (more : List ℕ) × Holds rest.octets more × IsRefusedAfter (r.octets ++ more) r.k e
+ends_refused goes mid rest a b e r = by_kind r.refused
   where
-    by_kind : IsRefusedAfter r.octets r.k e → (more : List ℕ) × Holds rest.octets more × EndsBy count (r.octets ++ more) (RefusedBy e)
+    by_kind : IsRefusedAfter r.octets r.k e → (more : List ℕ) × Holds rest.octets more × IsRefusedAfter (r.octets ++ more) r.k e
     by_kind (inl (t, all)) = (
       [],
       none_left rest.octets (r.at_end all),
-      subst (λ (xs : List ℕ). EndsBy count xs (RefusedBy e)) (sym (append-nil r.octets)) (r.k, inl (t, all)),
+      subst (λ (xs : List ℕ). IsRefusedAfter xs r.k e) (sym (append-nil r.octets)) (inl (t, all)),
     )
     by_kind (inr d) = (
       (left_of rest.octets).0,
       (left_of rest.octets).1,
-      (r.k, inr (refused_later r.octets (left_of rest.octets).0 r.k e d)),
+      inr (refused_later r.octets (left_of rest.octets).0 r.k e d),
     )
 
 -- ---- the report is out

@@ -1,14 +1,9 @@
 -- What was packed, unpacked.
-use Rattle.std.proofs.Common.{◌≡◌, ℕ, ◌+◌, ◌≤◌, List, ◌++◌, length, take, sym, subst, ◌∙◌, arith, ap, length-append}
+use Rattle.std.proofs.Common.{◌≡◌, ℕ, ◌≤◌, List, length, take, sym, subst, ◌∙◌, arith, ap, length-append}
 use Rattle.std.proofs.Math.Seq.{take-append_seam}
-use Rattle.iim_dataset.specs.Datasets.{Dataset}
-use Rattle.iim_fields.specs.Faults.{joined}
-use Rattle.iim_fields.specs.Standing.{IsWithin}
-use Rattle.iim_fields.specs.declared.limits.Limits.{Limits}
 use Rattle.iim_object.specs.Plans.{max_subfiles}
 use Rattle.iim_pack.specs.Laws.{PackedSubfilesAreFew}
-use Rattle.iim_unpack.specs.Admitted.{Value}
-use Rattle.iim_unpack.specs.Streams.{IsEnvelopeWithin, Answer, Answers, Finished, StreamsHaveOneAnswer}
+use Rattle.iim_unpack.specs.Streams.{IsEnvelopeWithin, Answers, StreamsHaveOneAnswer}
 use Rattle.iimwire.specs.Laws.{packed_value, PackedOctetsAreAdmitted}
 use Rattle.iimwire.specs.RoundTrip.{FieldsAreWithin, PackedOctetsAreWithin, PackedStreamsHaveTheirAnswer, packed_answer}
 

@@ -3,7 +3,7 @@ use Rattle.std.proofs.Common.{◌≡◌, ℕ, List, [], Option, None, Some, refl
 use Rattle.iim_dataset.specs.Devices.{Device}
 use Rattle.iim_unpack.specs.Blocks.{behind, put_before}
 
-none_before : (known : Option (List ℕ)) → put_before [] known ≡ known
+pub none_before : (known : Option (List ℕ)) → put_before [] known ≡ known
 none_before None = refl
 none_before (Some xs) = refl
 

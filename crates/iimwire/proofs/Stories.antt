@@ -1,15 +1,11 @@
 -- An envelope that comes back with its lines.
 use Rattle.std.proofs.Common.{◌≡◌, ℕ, List, [], ◌∷◌, sym, ap, subst, ◌∙◌}
-use Rattle.iim_dataset.specs.Datasets.{Dataset}
 use Rattle.iim_fields.specs.declared.limits.Limits.{Limits}
-use Rattle.iim_object.specs.declared.plan.Plan.{Plan}
 use Rattle.wire_story.specs.Collecting.{Collected, collect}
 use Rattle.wire_story.specs.Delivery.{Event, events_of_lines}
 use Rattle.wire_story.specs.Texts.{IsText}
 use Rattle.wire_story.specs.Laws.{TextsAreDeliveredAsLines, TextsAreCollectedAsLines}
-use Rattle.wire_message.specs.Messages.{Header}
-use Rattle.iimwire.specs.Laws.{packed_value}
-use Rattle.iimwire.specs.RoundTrip.{BeginsPacked, GivesBack, RefusesBySink}
+use Rattle.iimwire.specs.RoundTrip.{GivesBack, RefusesBySink}
 use Rattle.iimwire.specs.Stories.{ComesBack, FailsForMemory}
 use Rattle.iimwire.specs.declared.round_trip.Story.{Story}
 use Rattle.iimwire.specs.declared.round_trip.StoryFault.TheVariants.{Refused}

@@ -17,7 +17,7 @@ use Rattle.iim_unpack.specs.declared.intake.IntakeFault.{IntakeFault}
 use Rattle.iim_unpack.specs.declared.intake.IntakeFault.TheVariants.{Refused, Read, Interrupted}
 use Rattle.iim_unpack.specs.Intakes.{Faults, Gives, IsRefusedOf, IsTruncatedIn, WasGiven, WasMissed, WasRefused, WasTruncated}
 use Rattle.iim_unpack.specs.Parts.{CountsFor}
-use Rattle.iim_unpack.specs.Unpacking.{Adds, IsOpen, Stands, Unpacking, limits_in}
+use Rattle.iim_unpack.specs.Unpacking.{Adds, IsOpen, IsTextOf, Stands, Unpacking, limits_in}
 use Rattle.iim_unpack.specs.declared.refusal.Refusal.{Refusal}
 use Rattle.iim_unpack.specs.declared.refusal.Cause.{Cause}
 use Rattle.iim_unpack.specs.declared.refusal.Cause.TheVariants.{Sink, Truncated}
@@ -47,9 +47,12 @@ reads_none = record {
   parts = refl;
 }
 
+pub no_text : IsTextOf [] []
+no_text = ([], InTag [], reads_none, refl)
+
 pub delivered_of : (octets : List ℕ) (more : List Event) → Adds [] octets more → IsDelivered octets more
 delivered_of octets more adds =
-    let added = adds [] ([], InTag [], reads_none, refl) in
+    let added = adds [] no_text in
     (added.0, added.1, added.2)
 
 pub has_come : {S : Type 0} (goes : S → List Event → S → Type 0) (old new : Device) (u : Unpacking) (a b : S) (used : ℕ) (got : Unpacked)

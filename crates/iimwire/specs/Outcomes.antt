@@ -1,14 +1,18 @@
 -- What a run leaves.
-use Rattle.std.specs.Prelude.{◌≡◌, ℕ, ◌⊎◌, List, codes}
+use Rattle.std.specs.Prelude.{◌≡◌, ℕ, ℤ, ◌⊎◌, List, codes, Result, Ok, Err}
 use Rattle.iim_dataset.specs.Devices.{Device, Wrote, Stopped}
 use Rattle.iimwire.specs.declared.request.Job.{Job}
-use Rattle.iimwire.specs.declared.request.Job.TheVariants.{Check}
+use Rattle.iimwire.specs.declared.request.Job.TheVariants.{Check, Show, Story, Pack, Audit}
 use Rattle.iimwire.specs.declared.fault.Fault.{Fault}
 use Rattle.iimwire.specs.declared.fault.Fault.TheVariants.{CannotRead, CannotWrite, OutOfMemory}
+use Rattle.iimwire.specs.Audits.{Audited, IsUnaudited}
 use Rattle.iimwire.specs.Devices.{Devices}
 use Rattle.iimwire.specs.Listings.{Envelope}
 use Rattle.iimwire.specs.Lines.{line_of}
+use Rattle.iimwire.specs.Narration.{IsUnnarrated, Narrated}
+use Rattle.iimwire.specs.Packing.{Answered, Asked, IsUnanswered, asked}
 use Rattle.iimwire.specs.Reports.{Reported, IsUnreported}
+use Rattle.iimwire.specs.Texts.{shown_of}
 
 -- the line that tells a fault
 abbrev pub fault_line : Fault → List ℕ
@@ -20,11 +24,37 @@ fault_line OutOfMemory = codes "out of memory\n"
 abbrev pub Complained : Device → Device → Fault → Type 0
 Complained old new fault = Wrote old new (fault_line fault) ⊎ ((n : ℕ) × Stopped old new (fault_line fault) n)
 
+-- A run ends with its answer: with the status, or with the fault, which is told, and status 3. (The errors before and after.)
+abbrev pub Finishes : Device → Device → Result ℕ Fault → ℕ → Type 0
+Finishes old new (Ok want) status = (status ≡ want) × (new ≡ old)
+Finishes old new (Err fault) status = (status ≡ 3) × Complained old new fault
+
 -- The input was reported, without a word on the errors; or a fault came and was told there, and the status is 3.
 abbrev pub Listed : (ℕ → Envelope → List ℕ) → Devices → Devices → ℕ → Type 0
 Listed text old new status = (Reported text old.input new.input old.output new.output status × (new.errors ≡ old.errors))
     ⊎ ((fault : Fault) × IsUnreported text old.input new.input old.output new.output fault × Complained old.errors new.errors fault × (status ≡ 3))
 
+-- The stories of the input were told, with the lines of `check` on the errors; or a fault came and was told there after them, and the
+-- status is 3.
+abbrev pub Told : Devices → Devices → ℕ → Type 0
+Told old new status = Narrated old.input new.input old.output new.output old.errors new.errors status
+    ⊎ ((fault : Fault) × (errors : Device) × IsUnnarrated old.input new.input old.output new.output old.errors errors fault
+    × Complained errors new.errors fault × (status ≡ 3))
+
+-- The audit of the input was reported, without a word on the errors; or a fault came and was told there, and the status is 3.
+abbrev pub Reviewed : ℤ → Devices → Devices → ℕ → Type 0
+Reviewed now old new status = (Audited now old.input new.input old.output new.output status × (new.errors ≡ old.errors))
+    ⊎ ((fault : Fault) × IsUnaudited now old.input new.input old.output new.output fault × Complained old.errors new.errors fault × (status ≡ 3))
+
+-- The script was answered; or a fault came and was told on the errors, and the status is 3.
+abbrev pub Packs : Asked → Devices → Devices → ℕ → Type 0
+Packs asked old new status = Answered asked old new status
+    ⊎ ((fault : Fault) × IsUnanswered asked old new fault × Complained old.errors new.errors fault × (status ≡ 3))
+
 -- What each job leaves.
 abbrev pub Ran : Job → Devices → Devices → ℕ → Type 0
 Ran Check old new status = Listed line_of old new status
+Ran Show old new status = Listed shown_of old new status
+Ran Story old new status = Told old new status
+Ran (Pack request) old new status = Packs (asked request.subfile request.unknown request.max) old new status
+Ran (Audit now) old new status = Reviewed now.nanosecond old new status

@@ -7,13 +7,15 @@ use Rattle.iimwire.specs.declared.start.StartFault.{StartFault}
 use Rattle.iimwire.specs.declared.start.StartFault.TheVariants.{Usage, NoText, CannotOpen, OutOfMemory}
 use Rattle.iimwire.specs.Shown.{shown_name}
 
--- the line that tells want of memory
+-- the line that tells that memory was refused
 abbrev pub no_memory_line : List ℕ
 no_memory_line = codes "out of memory\n"
 
 -- The text tells the fault of the words. What clap says of words is its own.
 abbrev pub IsUsageText : UsageFault → List ℕ → Type 0
 IsUsageText (usage.Words error) text = ⊤
+IsUsageText usage.MaxNeedsUnknown text = text ≡ codes "--max needs --unknown\n"
+IsUsageText usage.BadNow text = text ≡ codes "bad --now\n"
 IsUsageText usage.OutOfMemory text = text ≡ no_memory_line
 
 -- The text tells why the run can't begin.
@@ -26,6 +28,8 @@ IsTextOf OutOfMemory text = text ≡ no_memory_line
 -- the status for it: 2 where the words ask for nothing, else 3
 abbrev pub status_of_usage : UsageFault → ℕ
 status_of_usage (usage.Words error) = 2
+status_of_usage usage.MaxNeedsUnknown = 2
+status_of_usage usage.BadNow = 2
 status_of_usage usage.OutOfMemory = 3
 
 abbrev pub status_of_start : StartFault → ℕ

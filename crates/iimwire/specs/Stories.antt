@@ -4,9 +4,7 @@ use Rattle.iim_dataset.specs.Datasets.{Dataset}
 use Rattle.iim_fields.specs.declared.limits.Limits.{Limits}
 use Rattle.iim_object.specs.declared.plan.Plan.{Plan}
 use Rattle.wire_message.specs.Messages.{Header}
-use Rattle.iim_unpack.specs.Value.{HasParts}
 use Rattle.iim_unpack.specs.declared.refusal.Cause.TheVariants.{Sink}
-use Rattle.iimwire.specs.Laws.{packed_value}
 use Rattle.iimwire.specs.RoundTrip.{BeginsPacked}
 use Rattle.iimwire.specs.declared.round_trip.Story.{Story}
 use Rattle.iimwire.specs.declared.round_trip.StoryFault.{StoryFault}

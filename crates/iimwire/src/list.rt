@@ -46,8 +46,9 @@ pub fn list<P: Report, R: Source, W: Target>(
     gifts_join();
     texts_join();
     let mut count = 0;
+    let mut spare = None;
     'listing: loop {
-        match take_next(alloc, intake, &mut Discard)? {
+        match take_next(alloc, spare.take(), intake, &mut Discard)? {
             Next::Envelope(got, octets) => {
                 if count == MAX_ENVELOPES {
                     say(output, TOO_MANY.as_bytes())?;
@@ -56,6 +57,7 @@ pub fn list<P: Report, R: Source, W: Target>(
                 let text = texts.text(alloc, count + 1, octets, &got)?;
                 say(output, text.as_slice())?;
                 count += 1;
+                spare = Some(got);
             }
             Next::End => return Ok(ACCEPTED),
             Next::Refused(refusal) => {

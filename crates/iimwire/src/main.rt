@@ -1,23 +1,29 @@
-//! The command `iimwire`: checks files of envelopes.
+//! The command `iimwire`: checks files of envelopes, shows their parts, writes their stories, audits them, and packs scripts.
 //!
-//! Stands on `iim_dataset`, `iim_fields`, `iim_unpack`, `wire_story` and `clap`, and on the other crates for laws alone.
+//! Stands on all crates of the repository (on `iim_tables` for definitions alone), `clap` and `jiff`.
 //! [`serve::serve`] does the work, over any source and targets of octets; what is here gives it the words, files and streams
 //! of a process.
 #![tactic(auto)]
 
+mod audit;
 mod check;
 mod coming;
+mod commands;
 mod fault;
+mod instant;
 mod laws;
 mod list;
+mod packing;
 mod report;
 mod request;
 mod round_trip;
 mod run;
 mod serve;
+mod show;
 mod shown;
 mod start;
 mod status;
+mod story;
 
 use iim_dataset::{FromRead, FromWrite};
 use request::{Request, UsageFault, parse};
@@ -55,7 +61,7 @@ fn begin(rt: &HostRuntime, request: Request<'_>) -> ExitCode {
     }
 }
 
-/// Want of memory is told as that, and any other error as the given fault.
+/// Refused memory is told as that, and any other error as the given fault.
 fn fault_of<'a>(error: &io::Error, other: StartFault<'a>) -> StartFault<'a> {
     match error.kind() {
         ErrorKind::OutOfMemory => StartFault::OutOfMemory,

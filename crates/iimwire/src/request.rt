@@ -1,17 +1,32 @@
 //! What the arguments ask for.
 
-ghost use Rattle.std.specs.Prelude.{◌≡◌, IfOk, IfErr, map, string_bytes};
-ghost use Rattle.clap.specs.Words.{app_of, kind_of};
+ghost use Rattle.std.specs.Prelude.{◌≡◌, ◌≤◌, IfOk, IfErr, IfSome, IsNone, IsSome, true, false, map, string_bytes};
+ghost use Rattle.clap.specs.Words.{kind_of, first_of, found_of, one_of, rows_of};
 
+use crate::commands::{GREATEST_SIZE, command};
+use crate::instant::Instant;
+use crate::packing::PackRequest;
 use clap::error::ErrorKind;
-use clap::{Arg, Command, Error};
+use clap::{ArgMatches, Error};
+use jiff::Timestamp;
 use std::alloc::{AllocError, Global};
 
 /// What is to be done.
 #[derive(Clone, Copy, Debug, PartialEq, Eq)]
 pub enum Job {
-    /// Check the envelopes of the input.
+    /// List the envelopes of the input.
     Check,
+    /// Show the parts of each envelope but its story.
+    Show,
+    /// Write the story of each envelope.
+    Story,
+    /// Pack the envelope that a script tells.
+    Pack(PackRequest),
+    /// Tell id, sizes, words and age of each envelope, and which of them repeat others.
+    Audit {
+        /// The present instant.
+        now: Instant,
+    },
 }
 
 /// A file, or else standard input, and what is to be done with it.
@@ -26,6 +41,10 @@ pub struct Request<'a> {
 pub enum UsageFault {
     /// The words are none that the program takes. The error tells it.
     Words(Error),
+    /// `--max` is given without `--unknown`.
+    MaxNeedsUnknown,
+    /// What `--now` gives is no instant.
+    BadNow,
     /// Memory was refused.
     OutOfMemory,
 }
@@ -53,20 +72,112 @@ impl From<Error> for UsageFault {
     }
 }
 
-ghost use Rattle.iimwire.specs.Requests.{AsksFor, IsFaultOf, program};
+ghost use Rattle.iimwire.specs.declared.request.Verb.{Verb as VerbValue};
+ghost use Rattle.iimwire.specs.Requests.{AsksFor, AsksJob, GivesNumber, IsFaultOf, IsInstant, IsMaxAlone, IsNoInstant, IsSubfile, TellsPacking, text_given};
+ghost use Rattle.iimwire.specs.Verbs.{verb_name, IsJobFault};
 
-/// The program's commands.
-fn command<'a>(alloc: Global) -> Result<Command<'a>, AllocError>
-    ensures { IfOk result (λ command. app_of command ≡ program) }
+/// A command's name.
+#[derive(Clone, Copy)]
+enum Verb {
+    Check,
+    Show,
+    Story,
+    Pack,
+    Audit,
+}
+
+/// The command of a name.
+fn verb_named(name: &str) -> Option<Verb>
+    ensures named { IfSome result (λ verb. name.now ≡ verb_name verb) }
+    ensures other { IsNone result → (verb : VerbValue) → name.now ≡ verb_name verb → ⊥ }
 {
-    let check = Command::new(alloc, "check")
-        .about("Lists the envelopes of FILE, or else of standard input, up to the first refusal")
-        .arg(Arg::new(alloc, "FILE").help("The file to read, or else standard input"))?;
-    Command::new(alloc, "iimwire")
-        .about("Reads envelopes of the IPTC-NAA Information Interchange Model")
-        .subcommand_required(true)
-        .disable_help_subcommand(true)
-        .subcommand(check)
+    match name {
+        "check" => Some(Verb::Check),
+        "show" => Some(Verb::Show),
+        "story" => Some(Verb::Story),
+        "pack" => Some(Verb::Pack),
+        "audit" => Some(Verb::Audit),
+        _ => None,
+    }
+}
+
+/// The number that an option was given, from the least one to the greatest size.
+fn number_given(text: Option<&str>, least: u64) -> Option<u64>
+    ensures given { GivesNumber least (text_given text.entry) result }
+    ensures within { IfSome result (λ number. (least ≤ number) × (number ≤ 4294967295)) }
+{
+    let number = text?.parse::<u64>().ok()?;
+    if number < least || number > GREATEST_SIZE {
+        return None;
+    }
+    Some(number)
+}
+
+/// The octets of a full subfile: the number that was given, or 1,024.
+fn subfile_given(text: Option<&str>) -> u64
+    ensures given { IsSubfile (text_given text.entry) result }
+    ensures within { (1 ≤ result) × (result ≤ 4294967295) }
+{
+    match number_given(text, 1) {
+        Some(number) => number,
+        None => 1024,
+    }
+}
+
+/// Whether a maximum is given of a known size.
+fn is_max_alone(unknown: bool, max: Option<u64>) -> bool
+    ensures yes { result ≡ true → IsSome max × (unknown ≡ false) }
+    ensures no { result ≡ false → IsSome max → unknown ≡ true }
+{
+    max.is_some() && !unknown
+}
+
+/// What `pack` is asked for.
+fn pack_job(found: &ArgMatches<'_>) -> Result<Job, UsageFault>
+    ensures ok { IfOk result (AsksJob (verb_name VerbValue.Pack) (rows_of (found_of found.now))) }
+    ensures err { IfErr result (IsJobFault (verb_name VerbValue.Pack) (rows_of (found_of found.now))) }
+{
+    let subfile = subfile_given(found.get_str("subfile"));
+    let unknown = found.get_flag("unknown");
+    let max = number_given(found.get_str("max"), 0);
+    if is_max_alone(unknown, max) {
+        return Err(UsageFault::MaxNeedsUnknown);
+    }
+    Ok(Job::Pack(PackRequest {
+        subfile,
+        unknown,
+        max,
+    }))
+}
+
+/// What `audit` is asked for.
+fn audit_job(found: &ArgMatches<'_>) -> Result<Job, UsageFault>
+    ensures ok { IfOk result (AsksJob (verb_name VerbValue.Audit) (rows_of (found_of found.now))) }
+    ensures err { IfErr result (IsJobFault (verb_name VerbValue.Audit) (rows_of (found_of found.now))) }
+{
+    let Some(text) = found.get_str("now") else {
+        return Err(UsageFault::BadNow);
+    };
+    match text.parse::<Timestamp>() {
+        Ok(now) => Ok(Job::Audit {
+            now: Instant::new(now),
+        }),
+        Err(_) => Err(UsageFault::BadNow),
+    }
+}
+
+/// What a command is asked for.
+fn job_of(verb: Verb, found: &ArgMatches<'_>) -> Result<Job, UsageFault>
+    ensures ok { IfOk result (AsksJob (verb_name verb) (rows_of (found_of found.now))) }
+    ensures err { IfErr result (IsJobFault (verb_name verb) (rows_of (found_of found.now))) }
+{
+    match verb {
+        Verb::Check => Ok(Job::Check),
+        Verb::Show => Ok(Job::Show),
+        Verb::Story => Ok(Job::Story),
+        Verb::Pack => pack_job(found),
+        Verb::Audit => audit_job(found),
+    }
 }
 
 /// Reads the words, of which the first is the program's name.
@@ -75,12 +186,15 @@ pub fn parse<'a>(alloc: Global, words: &'a [String]) -> Result<Request<'a>, Usag
     ensures err { IfErr result (IsFaultOf (map string_bytes words.entry.now)) }
 {
     let matches = command(alloc)?.try_get_matches_from(words)?;
-    let Some(check) = matches.subcommand_matches("check") else {
+    let Some((name, found)) = matches.subcommand() else {
+        unreachable!()
+    };
+    let Some(verb) = verb_named(name) else {
         unreachable!()
     };
     Ok(Request {
-        file: check.get_str("FILE"),
-        job: Job::Check,
+        file: found.get_str("FILE"),
+        job: job_of(verb, found)?,
     })
 }
 

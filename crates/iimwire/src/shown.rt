@@ -1,7 +1,7 @@
 //! Octets as text that can be printed.
 
 ghost use Rattle.std.specs.Prelude.{◌≡◌, ◌++◌, ◌<◌, OnOk};
-ghost use Rattle.iimwire.specs.Shown.{escape, hex_digit, shown_name};
+ghost use Rattle.iimwire.specs.Shown.{after_space, escape, hex_digit, is_plain, shown, shown_name};
 
 use std::alloc::AllocError;
 
@@ -37,4 +37,36 @@ pub fn push_name(text: &mut Vec<u8>, name: &str) -> Result<(), AllocError>
         }
     }
     Ok(())
+}
+
+/// Whether an octet stands for itself where octets are shown.
+fn is_plain(octet: u8) -> bool
+    ensures { result ≡ is_plain octet }
+{
+    octet >= b' ' && octet <= b'~' && octet != b'\\'
+}
+
+/// Adds octets as they are shown: those from 20 to 7E but the backslash as they are, all others as `\x` and two digits.
+fn push_shown(text: &mut Vec<u8>, octets: &[u8]) -> Result<(), AllocError>
+    ensures { OnOk result (text.new.items ≡ text.old.items ++ shown octets.now) }
+{
+    for octet in octets {
+        if is_plain(*octet) {
+            text.push(*octet)?;
+        } else {
+            push_escape(text, *octet)?;
+        }
+    }
+    Ok(())
+}
+
+/// Adds a space and the octets as they are shown, or nothing where there are none.
+pub fn push_after_space(text: &mut Vec<u8>, octets: &[u8]) -> Result<(), AllocError>
+    ensures { OnOk result (text.new.items ≡ text.old.items ++ after_space octets.now) }
+{
+    if octets.is_empty() {
+        return Ok(());
+    }
+    text.push(b' ')?;
+    push_shown(text, octets)
 }

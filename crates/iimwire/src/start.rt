@@ -29,7 +29,7 @@ fn usage_status(fault: &UsageFault) -> u8
     ensures { result ≡ status_of_usage fault.now }
 {
     match fault {
-        UsageFault::Words(_) => USAGE,
+        UsageFault::Words(_) | UsageFault::MaxNeedsUnknown | UsageFault::BadNow => USAGE,
         UsageFault::OutOfMemory => FAILED,
     }
 }
@@ -55,6 +55,10 @@ fn text(alloc: Global, fault: &StartFault<'_>) -> Result<Vec<u8>, AllocError>
             let words = format!(in alloc; "{error}")?;
             text.extend_from_slice(words.as_bytes())?;
         }
+        StartFault::Usage(UsageFault::MaxNeedsUnknown) => {
+            text.extend_from_slice(b"--max needs --unknown\n")?;
+        }
+        StartFault::Usage(UsageFault::BadNow) => text.extend_from_slice(b"bad --now\n")?,
         StartFault::NoText => text.extend_from_slice(b"arguments are no text\n")?,
         StartFault::CannotOpen(name) => {
             text.extend_from_slice(b"cannot open ")?;
@@ -69,7 +73,7 @@ fn text(alloc: Global, fault: &StartFault<'_>) -> Result<Vec<u8>, AllocError>
 }
 
 /// Writes a text, and answers the status, or that of a fault where it can't be written.
-fn tell<E: Target>(errors: &mut E, text: &[u8], status: u8) -> u8
+pub fn tell<E: Target>(errors: &mut E, text: &[u8], status: u8) -> u8
     ensures { IsTold (E.state errors.old) (E.state errors.new) text.now status result }
 {
     match put(errors, text) {

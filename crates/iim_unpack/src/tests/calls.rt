@@ -3,11 +3,13 @@
 ghost use Rattle.std.specs.Prelude.{ℕ, List};
 ghost use Rattle.wire_story.specs.Delivery.{Event};
 
-use super::{LIMITS, SMALLEST, STORY, joined};
-use crate::{Progress, Unpacker};
+use super::feeding::text_of;
+use super::rule::refusal;
+use super::{LIMITS, SMALLEST, joined, story};
+use crate::{Cause, Layer, Progress, Unpacker};
 use iim_dataset::Stop;
 use std::test::Fail;
-use wire_story::StorySink;
+use wire_story::{Lines, StorySink, TrialSink};
 
 /// How many calls came, and what the first four of them were: so many octets of text, or the end of a line (0).
 #[derive(Clone, Copy, Debug, PartialEq, Eq)]
@@ -52,10 +54,7 @@ const NONE: Calls = Calls {
 
 #[test]
 fn two_lines(rt: HostRuntime) -> Result<(), Fail> {
-    let octets = joined(
-        rt.alloc(),
-        &[&SMALLEST[..41], b"2", &SMALLEST[42..62], STORY],
-    )?;
+    let octets = story(rt.alloc())?;
     let mut calls = NONE;
     let mut unpacker = Unpacker::new(rt.alloc(), LIMITS)?;
     let answer = unpacker.feed(octets.as_slice(), &mut calls);
@@ -83,5 +82,31 @@ fn one_long_line(rt: HostRuntime) -> Result<(), Fail> {
     assert_eq!(rt; answer, Ok(Progress::Done { used: 32_872 }));
     assert_eq!(rt; calls.count, 1);
     assert_eq!(rt; calls.first, [32_754, 0, 0, 0]);
+    Ok(())
+}
+
+/// At the first octet of the text, within a line, at the end of one, and within the next.
+#[test]
+fn sinks_that_stop(rt: HostRuntime) -> Result<(), Fail> {
+    let octets = story(rt.alloc())?;
+    let rows: [(u64, usize, usize, &[u8]); 4] = [
+        (0, 0, 212, b"\n"),
+        (0, 3, 215, b"Rat\n"),
+        (1, 0, 224, b"Rates stay.\n"),
+        (2, 4, 229, b"Rates stay.\nNo c\n"),
+    ];
+    for (good, front, octet, lines) in rows {
+        let mut sink = TrialSink::new(Lines::new(rt.alloc()), good, front);
+        let mut unpacker = Unpacker::new(rt.alloc(), LIMITS)?;
+        let stopped = refusal(Layer::Outside, (8, 10), octet, Cause::Sink);
+        let answer = unpacker.feed(octets.as_slice(), &mut sink);
+        assert_eq!(rt; answer, Err(stopped));
+        let failed = refusal(Layer::Outside, (0, 0), octet, Cause::Failed);
+        let answer = unpacker.feed(octets.as_slice(), &mut sink);
+        assert_eq!(rt; answer, Err(failed));
+        assert_eq!(rt; sink.failures(), 1);
+        let text = text_of(rt.alloc(), &sink.into_sink())?;
+        assert_eq!(rt; text.as_slice(), lines);
+    }
     Ok(())
 }

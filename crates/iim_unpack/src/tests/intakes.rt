@@ -1,7 +1,7 @@
 //! Envelopes from a source of one octet a call.
 
 use super::rule::refusal;
-use super::{LIMITS, SMALLEST, STORY, joined};
+use super::{LIMITS, SMALLEST, STORY, joined, story};
 use crate::{Cause, Intake, IntakeFault, Layer, Unpacker};
 use iim_dataset::{TrialReader, Trouble};
 use std::alloc::{AllocError, Global};
@@ -80,6 +80,16 @@ fn refused_and_truncated(rt: HostRuntime) -> Result<(), Fail> {
 }
 
 #[test]
+fn a_reader_that_fails_at_each_call(rt: HostRuntime) -> Result<(), Fail> {
+    let octets = story(rt.alloc())?;
+    for good in 0..246usize {
+        let reader = TrialReader::new(octets.as_slice(), good as u64, Trouble::Failure);
+        expect_fault(&rt, rt.alloc(), reader, IntakeFault::Read, good)?;
+    }
+    Ok(())
+}
+
+#[test]
 fn a_failing_reader(rt: HostRuntime) -> Result<(), Fail> {
     for good in [0usize, 1, 60, 113] {
         let reader = TrialReader::new(&SMALLEST, good as u64, Trouble::Failure);
@@ -90,5 +100,22 @@ fn a_failing_reader(rt: HostRuntime) -> Result<(), Fail> {
         let mut intake = Intake::new(reader);
         assert_eq!(rt; next(rt.alloc(), &mut intake)?, Ok(Some((14, 114))));
     }
+    Ok(())
+}
+
+#[test]
+fn an_unpacker_that_was_fed(rt: HostRuntime) -> Result<(), Fail> {
+    let mut unpacker = Unpacker::new(rt.alloc(), LIMITS)?;
+    assert!(rt; unpacker.feed(&SMALLEST[..100], &mut Discard).is_ok());
+    if unpacker.is_done() || unpacker.is_failed() {
+        return Err(Fail::from("an envelope of 100 octets"));
+    }
+    let reader = TrialReader::new(&SMALLEST[100..], GOOD, Trouble::Failure);
+    let mut intake = Intake::new(reader);
+    let Ok(Some(got)) = intake.next_envelope(unpacker, &mut Discard) else {
+        return Err(Fail::from("no envelope"));
+    };
+    assert_eq!(rt; got.sizes.total, 14);
+    assert_eq!(rt; intake.octets(), 14);
     Ok(())
 }

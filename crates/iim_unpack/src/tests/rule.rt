@@ -1,6 +1,6 @@
 //! What the rules say of short envelopes, in plain words: a second reading, dataset by dataset.
 
-use crate::{Cause, Layer, Refusal, Scan};
+use crate::{Cause, Layer, Refusal};
 use std::alloc::{AllocError, Global};
 
 /// What the octets of a value have to be.
@@ -312,7 +312,7 @@ fn dataset(
 }
 
 /// What the rules say of octets that hold at most forty datasets, within the limits.
-pub fn by_rule(alloc: Global, octets: &[u8]) -> Result<Result<Scan, Refusal>, AllocError> {
+pub fn by_rule(alloc: Global, octets: &[u8]) -> Result<Result<u64, Refusal>, AllocError> {
     let mut behind = Vec::new(alloc);
     let mut sizes = Sizes {
         mode: None,
@@ -327,7 +327,7 @@ pub fn by_rule(alloc: Global, octets: &[u8]) -> Result<Result<Scan, Refusal>, Al
             Ok((head, end)) => {
                 at = end;
                 if head == (9, 10) {
-                    return Ok(Ok(Scan { used: end as u64 }));
+                    return Ok(Ok(end as u64));
                 }
                 behind.push(head)?;
             }

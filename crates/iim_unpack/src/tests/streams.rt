@@ -1,13 +1,13 @@
 //! The unpacker on worked streams, in one piece and octet by octet.
 
+use super::feeding::{Answer, expect, expect_within, refused, text_of};
 use super::rule::refusal;
-use super::{LIMITS, SMALLEST, STORY, TAGS, joined};
-use crate::{Cause, Layer, Progress, Refusal, Unpacker, unpack_pieces};
+use super::{LIMITS, SMALLEST, TAGS, joined, story};
+use crate::{Cause, Layer, Progress, Unpacker};
 use iim_fields::Limits;
 use std::alloc::{AllocError, Global};
-use std::process::Abort;
 use std::test::Fail;
-use wire_story::Lines;
+use wire_story::{Discard, Lines};
 
 /// Where each tag of the longer envelope begins from octet 62 on, its record and number, and its count.
 const MORE_TAGS: [(usize, u8, u8, usize); 14] = [
@@ -27,13 +27,6 @@ const MORE_TAGS: [(usize, u8, u8, usize); 14] = [
     (237, 9, 10, 4),
 ];
 
-/// What an envelope's octets are used for, or why they are refused; and the lines that came, an LF after each.
-type Answer = (Result<u64, Refusal>, &'static [u8]);
-
-fn story(alloc: Global) -> Result<Vec<u8>, AllocError> {
-    joined(alloc, &[&SMALLEST[..41], b"2", &SMALLEST[42..62], STORY])
-}
-
 /// The smallest envelope with this object, of so many octets.
 fn sized(alloc: Global, size: u8, object: &[&[u8]]) -> Result<Vec<u8>, AllocError> {
     let object = joined(alloc, object)?;
@@ -46,96 +39,6 @@ fn sized(alloc: Global, size: u8, object: &[&[u8]]) -> Result<Vec<u8>, AllocErro
             &[0x1c, 9, 0x0a, 0, 4, 0, 0, 0, size],
         ],
     )
-}
-
-/// The lines, with an LF after each.
-fn text_of(alloc: Global, lines: &Lines) -> Result<Vec<u8>, AllocError> {
-    let mut text = Vec::new(alloc);
-    for line in lines.iter() {
-        text.extend_from_slice(line)?;
-        text.push(b'\n')?;
-    }
-    Ok(text)
-}
-
-/// What is answered where no more octets come.
-fn settled(unpacker: &Unpacker, used: u64) -> Result<u64, Refusal> {
-    match unpacker.end_of_input() {
-        Some(refusal) => Err(refusal),
-        None => Ok(used),
-    }
-}
-
-fn in_one_piece(
-    alloc: Global,
-    limits: Limits,
-    octets: &[u8],
-    lines: &mut Lines,
-) -> Result<Result<u64, Refusal>, AllocError> {
-    let mut unpacker = Unpacker::new(alloc, limits)?;
-    let answer = match unpacker.feed(octets, lines) {
-        Ok(Progress::Done { used }) => settled(&unpacker, used as u64),
-        Ok(Progress::More) => settled(&unpacker, 0),
-        Err(refusal) => Err(refusal),
-    };
-    Ok(answer)
-}
-
-/// Feeds octet by octet, with an empty piece before each.
-fn by_octets(
-    alloc: Global,
-    limits: Limits,
-    octets: &[u8],
-    lines: &mut Lines,
-) -> Result<Result<u64, Refusal>, AllocError> {
-    let mut unpacker = Unpacker::new(alloc, limits)?;
-    let mut sum = 0u64;
-    for octet in octets {
-        if let Err(refusal) = unpacker.feed(&[], lines) {
-            return Ok(Err(refusal));
-        }
-        match unpacker.feed(&[*octet], lines) {
-            Ok(Progress::More) => sum = sum.saturating_add(1),
-            Ok(Progress::Done { used }) => sum = sum.saturating_add(used as u64),
-            Err(refusal) => return Ok(Err(refusal)),
-        }
-    }
-    Ok(settled(&unpacker, sum))
-}
-
-fn expect_within(
-    rt: &impl Abort,
-    alloc: Global,
-    limits: Limits,
-    octets: &[u8],
-    (want, lines): Answer,
-) -> Result<(), Fail> {
-    let mut whole = Lines::new(alloc);
-    let answer = in_one_piece(alloc, limits, octets, &mut whole)?;
-    assert_eq!(rt; answer, want, "in one piece");
-    let text = text_of(alloc, &whole)?;
-    assert_eq!(rt; text.as_slice(), lines, "in one piece");
-    let mut cut = Lines::new(alloc);
-    let answer = by_octets(alloc, limits, octets, &mut cut)?;
-    assert_eq!(rt; answer, want, "by octets");
-    let text = text_of(alloc, &cut)?;
-    assert_eq!(rt; text.as_slice(), lines, "by octets");
-    Ok(())
-}
-
-fn expect(rt: &impl Abort, alloc: Global, pieces: &[&[u8]], want: Answer) -> Result<(), Fail> {
-    let octets = joined(alloc, pieces)?;
-    expect_within(rt, alloc, LIMITS, octets.as_slice(), want)
-}
-
-fn refused(
-    layer: Layer,
-    names: (u8, u8),
-    octet: usize,
-    cause: Cause,
-    lines: &'static [u8],
-) -> Answer {
-    (Err(refusal(layer, names, octet, cause)), lines)
 }
 
 #[test]
@@ -151,6 +54,7 @@ fn envelopes(rt: HostRuntime) -> Result<(), Fail> {
         &[&SMALLEST, octets.as_slice()],
         (Ok(114), b"\n"),
     )?;
+    expect(&rt, alloc, &[&SMALLEST, b"\x1c\x01"], (Ok(114), b"\n"))?;
     let long: &[u8] = b"\x80\x04\x00\x00\x00\x03";
     expect(
         &rt,
@@ -158,6 +62,37 @@ fn envelopes(rt: HostRuntime) -> Result<(), Fail> {
         &[&SMALLEST[..24], long, &SMALLEST[26..]],
         (Ok(118), b"\n"),
     )
+}
+
+#[test]
+fn the_memory_of_an_envelope_serves_the_next(rt: HostRuntime) -> Result<(), Fail> {
+    let octets = story(rt.alloc())?;
+    let mut unpacker = Unpacker::new(rt.alloc(), LIMITS)?;
+    assert!(rt; unpacker.feed(SMALLEST.as_slice(), &mut Discard).is_ok());
+    let Ok(got) = unpacker.into_unpacked() else {
+        return Err(Fail::from("not done"));
+    };
+    // More than there is room for is not taken, and nothing is lost.
+    let more = Limits {
+        octets: 4_000_000_000,
+        fields: LIMITS.fields,
+    };
+    let Err(got) = Unpacker::over(got, more) else {
+        return Err(Fail::from("there is no such room"));
+    };
+    assert_eq!(rt; got.envelope.fields().count(), 7);
+    let Ok(mut unpacker) = Unpacker::over(got, LIMITS) else {
+        return Err(Fail::from("there is room"));
+    };
+    assert_eq!(rt; unpacker.octets(), 0);
+    assert!(rt; !unpacker.is_done());
+    assert!(rt; unpacker.feed(octets.as_slice(), &mut Discard).is_ok());
+    let Ok(got) = unpacker.into_unpacked() else {
+        return Err(Fail::from("not done"));
+    };
+    assert_eq!(rt; got.envelope.fields().count(), 16);
+    assert_eq!(rt; got.head.source(), b"TST".as_slice());
+    Ok(())
 }
 
 #[test]
@@ -213,59 +148,10 @@ fn tags(rt: HostRuntime) -> Result<(), Fail> {
         alloc,
         &[b"\x1d", &SMALLEST[1..]],
         bad((0, 0), 0, Cause::Marker),
-    )
-}
-
-/// The line of a first subfile, and that of a second one.
-const FIRST: [u8; 48] = [b'a'; 48];
-
-const SECOND: [u8; 37] = [b'a'; 37];
-
-#[test]
-fn subfiles(rt: HostRuntime) -> Result<(), Fail> {
-    let alloc = rt.alloc();
-    let past = refused(
-        Layer::Object,
-        (8, 10),
-        155,
-        Cause::PastSize,
-        b"aaaaaaaaaaaaaaaaaaaaaaaaaaaaaaaaaaaaaaaaaaaaaaaa\n",
-    );
-    let short = refused(
-        Layer::Object,
-        (9, 10),
-        199,
-        Cause::Short,
-        b"aaaaaaaaaaaaaaaaaaaaaaaaaaaaaaaaaaaaaaaaaaaaaaaaaaaaaaaaaaaaaaaaaaaaaaaaaaaaaaaaaaaaa\n",
-    );
-    let rows: [([&[u8]; 6], Answer); 2] = [
-        (
-            [
-                &SMALLEST[..85],
-                b"\x64\x1c\x08\x0a\x00\x3c\x01X1 4 N 0\r\n\x02",
-                &FIRST,
-                b"\x1c\x08\x0a\x00\x29",
-                b"",
-                b"",
-            ],
-            past,
-        ),
-        (
-            [
-                &SMALLEST[..85],
-                b"\x64\x1c\x08\x0a\x00\x3c\x01X1 4 N 0\r\n\x02",
-                &FIRST,
-                b"\x1c\x08\x0a\x00\x27",
-                &SECOND,
-                b"\x03\x04\x1c\x09\x0a\x00\x04\x00\x00\x00\x63",
-            ],
-            short,
-        ),
-    ];
-    for (pieces, want) in rows {
-        expect(&rt, alloc, &pieces, want)?;
-    }
-    Ok(())
+    )?;
+    let want = bad((8, 10), 100, Cause::Truncated);
+    expect(&rt, alloc, &[&SMALLEST[..100]], want)?;
+    expect(&rt, alloc, &[], bad((0, 0), 0, Cause::Truncated))
 }
 
 #[test]
@@ -299,7 +185,7 @@ fn messages(rt: HostRuntime) -> Result<(), Fail> {
     let alloc = rt.alloc();
     let bad = |names, octet, cause| refused(Layer::Message, names, octet, cause, b"\n");
     let head: &[u8] = b"\x01X1 4 N 0";
-    let rows: [(u8, [&[u8]; 4], Answer); 5] = [
+    let rows: [(u8, [&[u8]; 4], Answer<'_>); 5] = [
         (
             44,
             [head, &RETURNS, b"\n", b"\x02\x03\x04"],
@@ -339,7 +225,7 @@ fn limits(rt: HostRuntime) -> Result<(), Fail> {
     let octets = story(alloc)?;
     let lines = b"Rates stay.\nNo change.\n";
     let full = |cause| refused(Layer::Limits, (2, 250), 155, cause, b"\n");
-    let rows: [(u32, u32, Answer); 4] = [
+    let rows: [(u32, u32, Answer<'_>); 4] = [
         (78, 16, (Ok(246), lines)),
         (77, 16, full(Cause::HeaderFull)),
         (78, 15, full(Cause::TooManyFields)),

@@ -1,5 +1,10 @@
 //! `check` on envelopes, on what breaks them, and on devices that break.
 
+mod audit;
+mod pack;
+mod show;
+mod story;
+
 use super::run;
 use crate::request::{Job, Request};
 use crate::status::{ACCEPTED, FAILED, REFUSED};

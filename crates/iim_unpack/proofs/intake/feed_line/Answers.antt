@@ -1,6 +1,5 @@
 use Rattle.std.proofs.Common.{◌≡◌, ◌<◌, ◌≤◌, ℕ, List, length, refl, ap, sym, subst, ◌∙◌, inl, inr}
 use Rattle.iim_dataset.specs.Devices.{Device}
-use Rattle.iim_dataset.specs.DeviceLaws.{GiftsJoin}
 use Rattle.iim_unpack.specs.Blocks.{behind}
 use Rattle.iim_unpack.specs.Unpacking.{raised}
 use Rattle.iim_fields.specs.declared.limits.Limits.{Limits}
@@ -11,7 +10,7 @@ use Rattle.iim_unpack.proofs.intake.feed_line.Goals as goal
 pub feeding-init : goal.feeding-init
 feeding-init g c =
     let st = g.R.Source.state in
-    let joins : GiftsJoin = record { none = c.gifts_join.ensures.none; more = c.gifts_join.ensures.more; fault = c.gifts_join.ensures.fault; missed = c.gifts_join.ensures.missed } in
+    let joins = c.gifts_join.ensures in
     let old : Device = behind c.args.block.now (st c.args.reader.now) in
     record {
       went = begin_on g.S.StorySink.goes joins old c.args.unpacker.now c.args.sink.now c.stands_somewhere.ensures.counts (g.met.S.StorySink.nothing c.args.sink.now);
@@ -23,24 +22,22 @@ feeding-init g c =
 pub returns-then-is_fresh-clause-fed : goal.returns-then-is_fresh-clause-fed
 returns-then-is_fresh-clause-fed g c =
     let st = g.R.Source.state in
-    let joins : GiftsJoin = record { none = c.gifts_join.ensures.none; more = c.gifts_join.ensures.more; fault = c.gifts_join.ensures.fault; missed = c.gifts_join.ensures.missed } in
+    let joins = c.gifts_join.ensures in
     let old : Device = behind c.args.block.now (st c.args.reader.now) in
     let mid : Device = behind c.feeding.block (st c.feeding.reader) in
     let nxt : Device = behind c.next_piece.new.block (st c.next_piece.new.reader) in
     let goes = g.S.StorySink.goes in
-    let failures = g.S.StorySink.failures in
     let u = c.args.unpacker.now in
     let v = c.feeding.unpacker in
     let on = c.feeding.invariant.went in
     let here = somewhere u c.requires.ready c.stands_somewhere.ensures.stood in
-    let there = on.stands here.0 here.1 here.2 in
     went_ended goes joins old mid nxt u v c.args.sink.now c.feeding.sink c.feeding.used on c.in-Ok-false.ensures.given (c.in-Ok-false.ensures.end c.in-Ok-false.field-0-test)
     here.0 here.1 here.2 (λ q k is. was_fresh c.is_fresh.result q c.if-is_fresh.true (c.is_fresh.ensures q k is))
 
 pub returns-in-Some-clause-faults : goal.returns-in-Some-clause-faults
 returns-in-Some-clause-faults g c =
     let st = g.R.Source.state in
-    let joins : GiftsJoin = record { none = c.gifts_join.ensures.none; more = c.gifts_join.ensures.more; fault = c.gifts_join.ensures.fault; missed = c.gifts_join.ensures.missed } in
+    let joins = c.gifts_join.ensures in
     let old : Device = behind c.args.block.now (st c.args.reader.now) in
     let mid : Device = behind c.feeding.block (st c.feeding.reader) in
     let nxt : Device = behind c.next_piece.new.block (st c.next_piece.new.reader) in
@@ -48,9 +45,7 @@ returns-in-Some-clause-faults g c =
     let failures = g.S.StorySink.failures in
     let u = c.args.unpacker.now in
     let v = c.feeding.unpacker in
-    let on = c.feeding.invariant.went in
-    let here = somewhere u c.requires.ready c.stands_somewhere.ensures.stood in
-    let there = on.stands here.0 here.1 here.2 in (
+    let on = c.feeding.invariant.went in (
       refl,
       inr (went_truncated goes failures joins old mid nxt u v c.args.sink.now c.feeding.sink c.feeding.used c.in-Some.refusal on c.feeding.invariant.calm c.in-Ok-false.ensures.given
           (c.in-Ok-false.ensures.end c.in-Ok-false.field-0-test) (λ q k is. not_fresh c.is_fresh.result q c.if-is_fresh.false (c.is_fresh.ensures q k is))
@@ -59,15 +54,7 @@ returns-in-Some-clause-faults g c =
 
 pub unreachable-requires : goal.unreachable-requires
 unreachable-requires g c =
-    let st = g.R.Source.state in
-    let joins : GiftsJoin = record { none = c.gifts_join.ensures.none; more = c.gifts_join.ensures.more; fault = c.gifts_join.ensures.fault; missed = c.gifts_join.ensures.missed } in
-    let old : Device = behind c.args.block.now (st c.args.reader.now) in
-    let mid : Device = behind c.feeding.block (st c.feeding.reader) in
-    let nxt : Device = behind c.next_piece.new.block (st c.next_piece.new.reader) in
-    let goes = g.S.StorySink.goes in
-    let failures = g.S.StorySink.failures in
     let u = c.args.unpacker.now in
-    let v = c.feeding.unpacker in
     let on = c.feeding.invariant.went in
     let here = somewhere u c.requires.ready c.stands_somewhere.ensures.stood in
     let there = on.stands here.0 here.1 here.2 in
@@ -76,7 +63,7 @@ unreachable-requires g c =
 pub returns-in-Err-clause-faults : goal.returns-in-Err-clause-faults
 returns-in-Err-clause-faults g c =
     let st = g.R.Source.state in
-    let joins : GiftsJoin = record { none = c.gifts_join.ensures.none; more = c.gifts_join.ensures.more; fault = c.gifts_join.ensures.fault; missed = c.gifts_join.ensures.missed } in
+    let joins = c.gifts_join.ensures in
     let old : Device = behind c.args.block.now (st c.args.reader.now) in
     let mid : Device = behind c.feeding.block (st c.feeding.reader) in
     let nxt : Device = behind c.next_piece.new.block (st c.next_piece.new.reader) in
@@ -85,28 +72,21 @@ returns-in-Err-clause-faults g c =
     let u = c.args.unpacker.now in
     let v = c.feeding.unpacker in
     let on = c.feeding.invariant.went in
-    let here = somewhere u c.requires.ready c.stands_somewhere.ensures.stood in
-    let there = on.stands here.0 here.1 here.2 in
     faulted goes failures old nxt u c.args.sink.now c.feeding.sink c.octets.result c.in-Err.fault c.read_fault.result c.read_fault.ensures
     (went_missed goes failures joins old mid nxt u v c.args.sink.now c.feeding.sink c.feeding.used c.octets.result c.in-Err.fault on c.feeding.invariant.calm c.in-Err.ensures.missed c.octets.ensures)
 
 pub feeding-smaller : goal.feeding-smaller
 feeding-smaller g c =
     let st = g.R.Source.state in
-    let joins : GiftsJoin = record { none = c.gifts_join.ensures.none; more = c.gifts_join.ensures.more; fault = c.gifts_join.ensures.fault; missed = c.gifts_join.ensures.missed } in
     let old : Device = behind c.args.block.now (st c.args.reader.now) in
     let mid : Device = behind c.feeding.block (st c.feeding.reader) in
-    let nxt : Device = behind c.next_piece.new.block (st c.next_piece.new.reader) in
     let goes = g.S.StorySink.goes in
-    let failures = g.S.StorySink.failures in
     let u = c.args.unpacker.now in
     let v = c.feeding.unpacker in
     let on = c.feeding.invariant.went in
     let here = somewhere u c.requires.ready c.stands_somewhere.ensures.stood in
-    let there = on.stands here.0 here.1 here.2 in
     let piece = c.held.result.now in
     let count = length c.held-count.result.now in
-    let new : Device = behind c.pass.new.self (st c.next_piece.new.reader) in
     let all : count ≡ length piece = ap length (c.held-count.ensures ∙ sym c.held.ensures) in
     let some : 0 < length piece = subst (λ (xs : List ℕ). 0 < length xs) (sym c.held.ensures) (c.in-Ok-true.ensures.some c.in-Ok-true.field-0-test) in
     smaller c.feeding.used c.raised-used.result count c.raised-used.ensures (subst (λ n. 0 < n) (sym all) some)
@@ -116,17 +96,15 @@ feeding-smaller g c =
 pub feeding-preserved : goal.feeding-preserved
 feeding-preserved g c =
     let st = g.R.Source.state in
-    let joins : GiftsJoin = record { none = c.gifts_join.ensures.none; more = c.gifts_join.ensures.more; fault = c.gifts_join.ensures.fault; missed = c.gifts_join.ensures.missed } in
+    let joins = c.gifts_join.ensures in
     let old : Device = behind c.args.block.now (st c.args.reader.now) in
     let mid : Device = behind c.feeding.block (st c.feeding.reader) in
     let nxt : Device = behind c.next_piece.new.block (st c.next_piece.new.reader) in
     let goes = g.S.StorySink.goes in
-    let failures = g.S.StorySink.failures in
     let u = c.args.unpacker.now in
     let v = c.feeding.unpacker in
     let on = c.feeding.invariant.went in
     let here = somewhere u c.requires.ready c.stands_somewhere.ensures.stood in
-    let there = on.stands here.0 here.1 here.2 in
     let piece = c.held.result.now in
     let count = length c.held-count.result.now in
     let new : Device = behind c.pass.new.self (st c.next_piece.new.reader) in
@@ -146,12 +124,11 @@ feeding-preserved g c =
 pub returns-in-Ok-Done-clause-fed : goal.returns-in-Ok-Done-clause-fed
 returns-in-Ok-Done-clause-fed g c =
     let st = g.R.Source.state in
-    let joins : GiftsJoin = record { none = c.gifts_join.ensures.none; more = c.gifts_join.ensures.more; fault = c.gifts_join.ensures.fault; missed = c.gifts_join.ensures.missed } in
+    let joins = c.gifts_join.ensures in
     let old : Device = behind c.args.block.now (st c.args.reader.now) in
     let mid : Device = behind c.feeding.block (st c.feeding.reader) in
     let nxt : Device = behind c.next_piece.new.block (st c.next_piece.new.reader) in
     let goes = g.S.StorySink.goes in
-    let failures = g.S.StorySink.failures in
     let u = c.args.unpacker.now in
     let v = c.feeding.unpacker in
     let on = c.feeding.invariant.went in
@@ -166,15 +143,7 @@ returns-in-Ok-Done-clause-fed g c =
 
 pub pass-requires-in-Ok-Done : goal.pass-requires-in-Ok-Done
 pass-requires-in-Ok-Done g c =
-    let st = g.R.Source.state in
-    let joins : GiftsJoin = record { none = c.gifts_join.ensures.none; more = c.gifts_join.ensures.more; fault = c.gifts_join.ensures.fault; missed = c.gifts_join.ensures.missed } in
-    let old : Device = behind c.args.block.now (st c.args.reader.now) in
-    let mid : Device = behind c.feeding.block (st c.feeding.reader) in
-    let nxt : Device = behind c.next_piece.new.block (st c.next_piece.new.reader) in
-    let goes = g.S.StorySink.goes in
-    let failures = g.S.StorySink.failures in
     let u = c.args.unpacker.now in
-    let v = c.feeding.unpacker in
     let on = c.feeding.invariant.went in
     let here = somewhere u c.requires.ready c.stands_somewhere.ensures.stood in
     let there = on.stands here.0 here.1 here.2 in
@@ -185,7 +154,7 @@ pass-requires-in-Ok-Done g c =
 pub returns-in-Err-feed-clause-faults : goal.returns-in-Err-feed-clause-faults
 returns-in-Err-feed-clause-faults g c =
     let st = g.R.Source.state in
-    let joins : GiftsJoin = record { none = c.gifts_join.ensures.none; more = c.gifts_join.ensures.more; fault = c.gifts_join.ensures.fault; missed = c.gifts_join.ensures.missed } in
+    let joins = c.gifts_join.ensures in
     let old : Device = behind c.args.block.now (st c.args.reader.now) in
     let mid : Device = behind c.feeding.block (st c.feeding.reader) in
     let nxt : Device = behind c.next_piece.new.block (st c.next_piece.new.reader) in
@@ -194,8 +163,6 @@ returns-in-Err-feed-clause-faults g c =
     let u = c.args.unpacker.now in
     let v = c.feeding.unpacker in
     let on = c.feeding.invariant.went in
-    let here = somewhere u c.requires.ready c.stands_somewhere.ensures.stood in
-    let there = on.stands here.0 here.1 here.2 in
     let piece = c.held.result.now in
     let new : Device = behind c.pass-in-Err-feed.new.self (st c.next_piece.new.reader) in (
       refl,

@@ -3,7 +3,6 @@ use Rattle.iim_unpack.proofs.laws.answer_laws.Goals as goal
 pub returns : goal.returns
 returns c =
     let feed = c.feed_laws.ensures in
-    let leads = c.datasets_lead_from_place_to_place.ensures in
     let live = c.datasets_live_with_their_tokens.ensures in
     record {
       follow = record {
@@ -11,7 +10,7 @@ returns c =
         one_dataset = c.no_dataset_begins_another.ensures;
         sections = feed.sections;
         ends = feed.ends;
-        objects = record { tokens = leads.tokens; others = leads.others; numbers = leads.numbers; subfiles = leads.subfiles; ends = leads.ends };
+        objects = c.object_laws.ensures;
         live = live.behind;
         ended = live.ended;
       };

@@ -174,6 +174,6 @@ returns-in-Refused-clause-ok g c =
     let h = refusal_as discards never_fails mid rest sink sink c.in_ok-got.field-0 c.in-Refused.refusal c.in-Refused.is c.in_ok-got.ensures.next in
     let new = g.W.Target.state c.say-in-Refused.new.output in
     let words : c.as_bytes-in-Refused.result.now ≡ refused_line (c.listing.count + 1) c.in-Refused.refusal = search rules in
-    let more = ends_refused discards mid rest sink sink c.in-Refused.refusal h c.listing.count in
+    let more = ends_refused discards mid rest sink sink c.in-Refused.refusal h in
     reported c.gifts_join.ensures c.texts_join.ensures text source mid rest old now new c.listing.count 1 h.octets more.0 c.as_bytes-in-Refused.result.now (RefusedBy c.in-Refused.refusal) r
-    h.came.given more.1 more.2 refl words c.in_ok-say-in-Refused.ensures.ok
+    h.came.given more.1 (h.k, more.2) refl words c.in_ok-say-in-Refused.ensures.ok

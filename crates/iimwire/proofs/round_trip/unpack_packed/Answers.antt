@@ -1,8 +1,4 @@
 use Rattle.iimwire.proofs.round_trip.unpack_packed.Goals as goal
-use Rattle.std.proofs.Common.{◌≡◌}
-use Rattle.std.specs.Prelude.{Result, Ok, Err, IfOk, IfErr}
-use Rattle.iim_fields.specs.declared.limits.Limits.{Limits}
-use Rattle.wire_story.specs.Delivery as story
 use Rattle.iim_unpack.specs.Unpacking.{limits_in}
 use Rattle.iim_unpack.specs.Pieces.{stream_of}
 use Rattle.iimwire.proofs.Given.{given_all, by_sink_all}

@@ -1,4 +1,3 @@
-use Rattle.std.proofs.Common.{◌≡◌, ℕ, List, sym, subst, ◌∙◌}
 use Rattle.iim_unpack.specs.Pieces.{stream_of}
 use Rattle.iim_unpack.specs.Unpacking.{limits_in}
 use Rattle.iimwire.proofs.Stories.{comes, fails}

@@ -1,37 +1,34 @@
-use Rattle.std.proofs.Common.{◌≡◌, ℕ, ap, ◌∙◌, inl, inr, subst}
+use Rattle.std.proofs.Common.{[], refl, sym, subst}
 use Rattle.iim_dataset.specs.Devices.{Device}
-use Rattle.iim_unpack.specs.Intakes.{line}
-use Rattle.iimwire.specs.Devices.{Devices}
-use Rattle.iimwire.specs.Lines.{line_of}
-use Rattle.iimwire.specs.Outcomes.{Listed, Ran}
-use Rattle.iimwire.specs.Reports.{Reported, IsUnreported}
+use Rattle.iim_unpack.specs.Blocks.{behind}
+use Rattle.iimwire.specs.Devices.{Devices, devices}
+use Rattle.iimwire.specs.Outcomes.{Ran}
 use Rattle.iimwire.specs.declared.request.Job.{Job}
-use Rattle.iimwire.specs.declared.request.Job.TheVariants.{Check}
 use Rattle.iimwire.proofs.Runs.{behind_none}
-use Rattle.iimwire.proofs.run.run.Goals.{in-Ok, in-Err}
 use Rattle.iimwire.proofs.run.run.Goals as goal
 
-ran : (job : Job) (old new : Devices) (status : ℕ) → Listed line_of old new status → Ran job old new status
-ran Check old new status h = h
+pub returns-in-Story : goal.returns-in-Story
+returns-in-Story g c =
+    let t = c.tell.ensures in
+    let old : Devices = devices (g.R.Source.state c.args.reader) (g.W.Target.state c.args.output) (g.E.Target.state c.args.errors) in
+    let new : Devices = devices (behind t.1 (g.R.Source.state t.0)) (g.W.Target.state c.tell.result.1) (g.E.Target.state c.tell.result.2) in
+    (t.0, t.1, t.2, subst (λ (job : Job). Ran job old new c.tell.result.0) (sym c.in-Story.is) t.3)
 
-pub returns : goal.returns
-returns g c =
-    let intake = c.list-answer.new.intake in
-    let rest = line g.R.Source.state intake in
-    let old = g.W.Target.state c.args.output in
-    let new = g.W.Target.state c.list-answer.new.output in
-    let start : line g.R.Source.state c.new-intake.result ≡ g.R.Source.state c.args.reader =
-    behind_none c.new-intake.result.block (g.R.Source.state c.new-intake.result.reader) c.new-intake.ensures.block ∙ ap g.R.Source.state c.new-intake.ensures.reader in (
-      intake.reader,
-      intake.block,
-      subst (λ (r : g.row.R.Denot). g.R.Source.leads r intake.reader) c.new-intake.ensures.reader c.list-answer.ensures.leads,
-      elim c.match-answer.branch [
-        | in-Ok w ↦
-            ran c.args.request.job _ _ _
-            (inl (rw w.status-is (subst (λ (d : Device). Reported line_of d rest old new w.in-Ok.status) start w.in-Ok.ensures.ok), ap g.E.Target.state w.errors-is))
-        | in-Err w ↦
-            let h = subst (λ (d : Device). IsUnreported line_of d rest old new w.in-Err.fault) start w.in-Err.ensures.err in
-            let told = w.complain-status.ensures.told in
-            ran c.args.request.job _ _ _ (inr (w.in-Err.fault, h, rw w.errors-is told, w.status-is ∙ w.complain-status.ensures.status))
-      ],
+pub returns-in-Pack : goal.returns-in-Pack
+returns-in-Pack g c =
+    let t = c.pack.ensures in
+    let old : Devices = devices (g.R.Source.state c.args.reader) (g.W.Target.state c.args.output) (g.E.Target.state c.args.errors) in
+    let new : Devices = devices (g.R.Source.state t.0) (g.W.Target.state c.pack.result.1) (g.E.Target.state c.pack.result.2) in (
+      t.0,
+      [],
+      t.1,
+      subst (λ (d : Device). Ran c.args.request.job old (devices d (g.W.Target.state c.pack.result.1) (g.E.Target.state c.pack.result.2)) c.pack.result.0)
+          (sym (behind_none [] (g.R.Source.state t.0) refl)) (subst (λ (job : Job). Ran job old new c.pack.result.0) (sym c.in-Pack.is) t.2),
     )
+
+pub returns-in-Audit : goal.returns-in-Audit
+returns-in-Audit g c =
+    let t = c.review.ensures in
+    let old : Devices = devices (g.R.Source.state c.args.reader) (g.W.Target.state c.args.output) (g.E.Target.state c.args.errors) in
+    let new : Devices = devices (behind t.1 (g.R.Source.state t.0)) (g.W.Target.state c.review.result.1) (g.E.Target.state c.review.result.2) in
+    (t.0, t.1, t.2, subst (λ (job : Job). Ran job old new c.review.result.0) (sym c.in-Audit.is) t.3)

@@ -1,30 +1,18 @@
 use Rattle.std.proofs.Common.{[], refl, arith, append-nil}
 use Rattle.iim_unpack.specs.Admitted.{object_of}
 use Rattle.wire_message.specs.Layers.{text_so_far}
-use Rattle.iim_unpack.proofs.Heading.{HeadLaws, went_head, begins_subfile, begins_end, begins_other, stopped_field, stopped_subfile, stopped_last}
+use Rattle.iim_unpack.proofs.Heading.{went_head, begins_subfile, begins_end, begins_other, stopped_field, stopped_subfile, stopped_last}
 use Rattle.iim_unpack.proofs.Results.{on_ok, on_both, err_then}
 use Rattle.iim_unpack.proofs.parts.Parts.head.Goals as goal
 
 pub returns-in-Err-clause-stopped : goal.returns-in-Err-clause-stopped
 returns-in-Err-clause-stopped g c =
-    let all = c.datasets_lead_from_place_to_place.ensures in
-    let laws : HeadLaws = record {
-      objects = record { tokens = all.tokens; others = all.others; numbers = all.numbers; subfiles = all.subfiles; ends = all.ends };
-      heads = c.heads_die_with_their_fault.ensures;
-      message = record { texts = c.texts_stand_between_stx_and_etx.ensures; living = c.readers_stand_at_living_octets.ensures; sections = c.no_sections_begin_others.ensures };
-      ends = c.envelopes_end_with_the_last_record.ensures;
-    } in
+    let laws = c.head_laws.ensures in
     rw c.of_field.ensures (stopped_field g.S.StorySink.goes g.S.StorySink.failures c.args.self.now c.args.sink.now c.args.head c.in-Err.fault (omega (arith, c.well_formed)) laws c.requires.last c.requires.fields (g.met.S.StorySink.nothing c.args.sink.now) c.in-Err.ensures.fault)
 
 pub returns-then-head-eq-OBJECT-clause-went : goal.returns-then-head-eq-OBJECT-clause-went
 returns-then-head-eq-OBJECT-clause-went g c =
-    let all = c.datasets_lead_from_place_to_place.ensures in
-    let laws : HeadLaws = record {
-      objects = record { tokens = all.tokens; others = all.others; numbers = all.numbers; subfiles = all.subfiles; ends = all.ends };
-      heads = c.heads_die_with_their_fault.ensures;
-      message = record { texts = c.texts_stand_between_stx_and_etx.ensures; living = c.readers_stand_at_living_octets.ensures; sections = c.no_sections_begin_others.ensures };
-      ends = c.envelopes_end_with_the_last_record.ensures;
-    } in
+    let laws = c.head_laws.ensures in
     let p = c.args.self.now in
     on_ok _ _ c.subfile.result
     (λ h. went_head g.S.StorySink.goes g.S.StorySink.failures p _ c.args.sink.now c.subfile.new.sink c.args.head h.1.0.more c.requires.fields c.in_default.ensures.limits h.1.0.told h.1.0.calm
@@ -34,25 +22,13 @@ returns-then-head-eq-OBJECT-clause-went g c =
 
 pub returns-then-head-eq-OBJECT-clause-stopped : goal.returns-then-head-eq-OBJECT-clause-stopped
 returns-then-head-eq-OBJECT-clause-stopped g c =
-    let all = c.datasets_lead_from_place_to_place.ensures in
-    let laws : HeadLaws = record {
-      objects = record { tokens = all.tokens; others = all.others; numbers = all.numbers; subfiles = all.subfiles; ends = all.ends };
-      heads = c.heads_die_with_their_fault.ensures;
-      message = record { texts = c.texts_stand_between_stx_and_etx.ensures; living = c.readers_stand_at_living_octets.ensures; sections = c.no_sections_begin_others.ensures };
-      ends = c.envelopes_end_with_the_last_record.ensures;
-    } in
+    let laws = c.head_laws.ensures in
     err_then _ _ c.subfile.result c.subfile.ensures.refused
     (stopped_subfile g.S.StorySink.goes g.S.StorySink.failures c.args.self.now c.args.sink.now c.subfile.new.sink c.args.head c.begin.new.self laws c.requires.last c.requires.fields (g.met.S.StorySink.nothing c.args.sink.now) c.in_default.ensures.stands (omega (arith, c.if-head-eq-OBJECT.true)))
 
 pub returns-then-head-eq-POST_OBJECT-clause-went : goal.returns-then-head-eq-POST_OBJECT-clause-went
 returns-then-head-eq-POST_OBJECT-clause-went g c =
-    let all = c.datasets_lead_from_place_to_place.ensures in
-    let laws : HeadLaws = record {
-      objects = record { tokens = all.tokens; others = all.others; numbers = all.numbers; subfiles = all.subfiles; ends = all.ends };
-      heads = c.heads_die_with_their_fault.ensures;
-      message = record { texts = c.texts_stand_between_stx_and_etx.ensures; living = c.readers_stand_at_living_octets.ensures; sections = c.no_sections_begin_others.ensures };
-      ends = c.envelopes_end_with_the_last_record.ensures;
-    } in
+    let laws = c.head_laws.ensures in
     let p = c.args.self.now in
     on_ok _ _ c.pass_head.result
     (λ h. went_head g.S.StorySink.goes g.S.StorySink.failures p _ c.args.sink.now c.pass_head.new.sink c.args.head h.1.more c.requires.fields c.in_default.ensures.limits h.1.told h.1.calm
@@ -62,13 +38,7 @@ returns-then-head-eq-POST_OBJECT-clause-went g c =
 
 pub returns-then-head-eq-POST_OBJECT-clause-stopped : goal.returns-then-head-eq-POST_OBJECT-clause-stopped
 returns-then-head-eq-POST_OBJECT-clause-stopped g c =
-    let all = c.datasets_lead_from_place_to_place.ensures in
-    let laws : HeadLaws = record {
-      objects = record { tokens = all.tokens; others = all.others; numbers = all.numbers; subfiles = all.subfiles; ends = all.ends };
-      heads = c.heads_die_with_their_fault.ensures;
-      message = record { texts = c.texts_stand_between_stx_and_etx.ensures; living = c.readers_stand_at_living_octets.ensures; sections = c.no_sections_begin_others.ensures };
-      ends = c.envelopes_end_with_the_last_record.ensures;
-    } in
+    let laws = c.head_laws.ensures in
     err_then _ _ c.pass_head.result c.pass_head.ensures.refused
     (stopped_last g.S.StorySink.goes g.S.StorySink.failures c.args.self.now c.args.sink.now c.pass_head.new.sink c.args.head c.begin.new.self laws c.requires.last c.requires.fields c.in_default.ensures.stands (omega (arith, c.if-head-eq-POST_OBJECT.true)))
 

@@ -1,6 +1,6 @@
 use Rattle.std.proofs.Common.{◌≡◌, ◌-◌, length, take, slice_index, refl, ap, arith}
 use Rattle.iim_unpack.proofs.Octets.{are_octets}
-use Rattle.iim_unpack.proofs.Carrying.{MessageLaws, went_other, went_object, stopped_object}
+use Rattle.iim_unpack.proofs.Carrying.{went_other, went_object, stopped_object}
 use Rattle.iim_unpack.proofs.parts.Parts.run.Goals as goal
 
 pub returns-then-self-ne-OBJECT-clause-takes : goal.returns-then-self-ne-OBJECT-clause-takes
@@ -29,7 +29,7 @@ returns-in-Ok-clause-went g c =
     let p = c.args.self.now in
     let run = c.args.run.now in
     let eight : p.head.rec ≡ 8 = omega (arith, c.if-self-ne-OBJECT.false) in
-    let laws : MessageLaws = record { texts = c.texts_stand_between_stx_and_etx.ensures; living = c.readers_stand_at_living_octets.ensures; sections = c.no_sections_begin_others.ensures } in
+    let laws = c.message_laws.ensures in
     rw c.in-Ok.ensures.same (went_object g.S.StorySink.goes g.S.StorySink.failures p c.args.sink.now c.pass_octets.new.sink run c.pass_octets.new.message laws c.requires.takes eight
     (are_octets run (λ i. omega (arith, c.type_inv.run i))) c.requires.within c.in-Ok.ensures.told)
 
@@ -39,5 +39,5 @@ returns-in-Err-clause-stopped g c =
     let run = c.args.run.now in
     let f = c.in-Err.fault in
     let eight : p.head.rec ≡ 8 = omega (arith, c.if-self-ne-OBJECT.false) in
-    let laws : MessageLaws = record { texts = c.texts_stand_between_stx_and_etx.ensures; living = c.readers_stand_at_living_octets.ensures; sections = c.no_sections_begin_others.ensures } in
+    let laws = c.message_laws.ensures in
     rw c.message_on.ensures (stopped_object g.S.StorySink.goes g.S.StorySink.failures p c.args.sink.now c.pass_octets.new.sink (take f.taken run) (slice_index run f.taken) f.cause laws c.requires.takes eight c.in-Err.ensures.refused)

@@ -1,0 +1,383 @@
+-- Scripts line by line: what each line leads to, and that lines lead to one thing.
+use Rattle.std.proofs.Common.{◌≡◌, ◌⊎◌, inl, inr, ℕ, ◌+◌, true, List, [], ◌∷◌, ◌++◌, append_assoc, append-nil, length, length-append, get_or, refl, ap, sym, ◌∙◌, subst, arith, Option, Some, None}
+use Rattle.iim_dataset.specs.Datasets.{Dataset}
+use Rattle.iim_fields.specs.Builders.{add_fault, finish_fault}
+use Rattle.iim_fields.specs.declared.limits.Limits.{Limits}
+use Rattle.iim_fields.specs.declared.fault.FieldFault.{FieldFault}
+use Rattle.iim_fields.specs.declared.fault.FieldCause.{FieldCause}
+use Rattle.wire_message.specs.Messages.{Header, IsTrailer}
+use Rattle.iim_script.specs.Lines.{NextLine, EndLines}
+use Rattle.iim_script.specs.Forms.{TellsField, TellsHead, TellsTrailer, is_digit, text_word}
+use Rattle.iim_script.specs.Scripts.{TellFields, AreTaken, AreTrailer, IsFront}
+use Rattle.iim_script.specs.Faults.{Stage, InFields, AfterMessage, AfterTrailer, HaveCome, Stands, HasNoForm, TellsBadField, EndsTooSoon, TellsBadTrailer, IsWrong, IsNextWrong}
+use Rattle.iim_script.specs.declared.fault.ScriptCause.{ScriptCause}
+use Rattle.iim_script.specs.declared.fault.ScriptCause.TheVariants.{ScriptLine, ScriptTooLong, Field, BadTrailer, BadTextOctet, OutOfMemory}
+use Rattle.std.proofs.lemmas.Bool.{false≢true}
+use Rattle.iim_script.proofs.Fronts.{field_digit}
+use Rattle.iim_script.proofs.Next.{next_once, no_next}
+use Rattle.iim_script.proofs.Once.{field_once, one_head, trailer_once, field_no_head, text_no_trailer}
+
+-- ---- lines at the front of octets
+
+-- The octets are these lines, each with its end, and what is left.
+pub record Lined (lines : List (List ℕ)) (octets rest : List ℕ) : Type 0 where
+  pub front : List ℕ
+  pub lined : EndLines lines front
+  pub parts : octets ≡ front ++ rest
+
+-- Other lines go on after these, and this one is the next.
+pub record Beyond (lines others : List (List ℕ)) (rest : List ℕ) : Type 0 where
+  pub next : List ℕ
+  pub more : List (List ℕ)
+  pub others_are : others ≡ lines ++ next ∷ more
+  pub after : List ℕ
+  pub is_next : NextLine rest next after
+
+-- Of two lists of lines at the front of the same octets they are one, or one goes on after the other.
+abbrev pub Compared : List (List ℕ) → List (List ℕ) → List ℕ → List ℕ → Type 0
+Compared lines others rest left = ((lines ≡ others) × (rest ≡ left)) ⊎ (Beyond lines others rest ⊎ Beyond others lines left)
+
+-- the line that lined octets begin with, and what follows it
+record First (line : List ℕ) (lines : List (List ℕ)) (octets rest : List ℕ) : Type 0 where
+  after : List ℕ
+  is_next : NextLine octets line after
+  others : Lined lines after rest
+
+first_of_lined : (line : List ℕ) (lines : List (List ℕ)) (octets rest : List ℕ) → Lined (line ∷ lines) octets rest → First line lines octets rest
+first_of_lined line lines octets rest l =
+    let h = l.lined in record {
+      after = h.1 ++ rest;
+      is_next = record { ended = h.0; ends = h.2; parts = l.parts ∙ (ap (λ (x : List ℕ). x ++ rest) h.4 ∙ append_assoc h.0 h.1 rest) };
+      others = record { front = h.1; lined = h.3; parts = refl };
+    }
+
+none_lined : (octets rest : List ℕ) → Lined [] octets rest → octets ≡ rest
+none_lined octets rest l = l.parts ∙ ap (λ (x : List ℕ). x ++ rest) l.lined
+
+beyond_none : (line : List ℕ) (lines : List (List ℕ)) (octets rest left : List ℕ) → octets ≡ rest → Lined (line ∷ lines) octets left → Beyond [] (line ∷ lines) rest
+beyond_none line lines octets rest left e l =
+    let f = first_of_lined line lines octets left l in
+    record { next = line; more = lines; others_are = refl; after = f.after; is_next = subst (λ (x : List ℕ). NextLine x line f.after) e f.is_next }
+
+beyond_more : (line other : List ℕ) (lines others : List (List ℕ)) (rest : List ℕ) → line ≡ other → Beyond lines others rest → Beyond (line ∷ lines) (other ∷ others) rest
+beyond_more line other lines others rest e b = record {
+  next = b.next;
+  more = b.more;
+  others_are = ap (λ (x : List ℕ). x ∷ others) (sym e) ∙ ap (λ (xs : List (List ℕ)). line ∷ xs) b.others_are;
+  after = b.after;
+  is_next = b.is_next;
+}
+
+compared_more : (line other : List ℕ) (lines others : List (List ℕ)) (rest left : List ℕ) → line ≡ other → Compared lines others rest left
+    → Compared (line ∷ lines) (other ∷ others) rest left
+compared_more line other lines others rest left e (inl h) =
+    inl (ap (λ (x : List ℕ). x ∷ lines) e ∙ ap (λ (xs : List (List ℕ)). other ∷ xs) h.0, h.1)
+compared_more line other lines others rest left e (inr (inl b)) = inr (inl (beyond_more line other lines others rest e b))
+compared_more line other lines others rest left e (inr (inr b)) = inr (inr (beyond_more other line others lines left (sym e) b))
+
+pub compared : (lines others : List (List ℕ)) (octets rest left : List ℕ) → Lined lines octets rest → Lined others octets left → Compared lines others rest left
+compared [] [] octets rest left l k = inl (refl, sym (none_lined octets rest l) ∙ none_lined octets left k)
+compared [] (other ∷ others) octets rest left l k = inr (inl (beyond_none other others octets rest left (none_lined octets rest l) k))
+compared (line ∷ lines) [] octets rest left l k = inr (inr (beyond_none line lines octets left rest (none_lined octets left k) l))
+compared (line ∷ lines) (other ∷ others) octets rest left l k =
+    let f = first_of_lined line lines octets rest l in
+    let g = first_of_lined other others octets left k in
+    let same = next_once octets line f.after other g.after f.is_next g.is_next in
+    compared_more line other lines others rest left same.0
+    (compared lines others g.after rest left (subst (λ (x : List ℕ). Lined lines x rest) same.1 f.others) g.others)
+
+-- ---- places
+
+-- where a script is: before its line `text`, or after it, with what the lines tell
+pub data Place : Type 0 where
+  At : Stage → Place
+  InStory : List Dataset → Header → List ℕ → Place
+
+-- What a line leads to.
+abbrev pub Leads : Limits → Place → List ℕ → Place → Type 0
+Leads limits (At (InFields ds)) line next =
+    ((d : Dataset) × TellsField line d × (add_fault limits ds d ≡ None) × (next ≡ At (InFields (ds ++ d ∷ []))))
+    ⊎ ((head : Header) × TellsHead line head × (next ≡ At (AfterMessage ds head)))
+Leads limits (At (AfterMessage ds head)) line next =
+    ((trailer : List ℕ) × TellsTrailer line trailer × IsTrailer trailer × (next ≡ At (AfterTrailer ds head trailer)))
+    ⊎ ((line ≡ text_word) × (finish_fault ds ≡ None) × (next ≡ InStory ds head []))
+Leads limits (At (AfterTrailer ds head trailer)) line next = (line ≡ text_word) × (finish_fault ds ≡ None) × (next ≡ InStory ds head trailer)
+Leads limits (InStory ds head trailer) line next = ⊥
+
+no_text_trailer : (line trailer : List ℕ) → line ≡ text_word → TellsTrailer line trailer → ⊥
+no_text_trailer line trailer e t = text_no_trailer trailer (subst (λ (l : List ℕ). TellsTrailer l trailer) e t)
+
+leads_once : (limits : Limits) (place : Place) (line : List ℕ) (next other : Place) → Leads limits place line next → Leads limits place line other → next ≡ other
+leads_once limits (At (InFields ds)) line next other (inl (d, t, a, e)) (inl (c, u, b, f)) =
+    e ∙ (ap (λ (x : Dataset). At (InFields (ds ++ x ∷ []))) (field_once line d c t u) ∙ sym f)
+leads_once limits (At (InFields ds)) line next other (inl (d, t, a, e)) (inr (head, u, f)) = absurd (field_no_head line d head t u)
+leads_once limits (At (InFields ds)) line next other (inr (head, t, e)) (inl (d, u, a, f)) = absurd (field_no_head line d head u t)
+leads_once limits (At (InFields ds)) line next other (inr (head, t, e)) (inr (h, u, f)) =
+    e ∙ (ap (λ (x : Header). At (AfterMessage ds x)) (one_head line head h t u) ∙ sym f)
+leads_once limits (At (AfterMessage ds head)) line next other (inl (x, t, a, e)) (inl (y, u, b, f)) =
+    e ∙ (ap (λ (l : List ℕ). At (AfterTrailer ds head l)) (trailer_once line x y t u) ∙ sym f)
+leads_once limits (At (AfterMessage ds head)) line next other (inl (x, t, a, e)) (inr (is, b, f)) = absurd (no_text_trailer line x is t)
+leads_once limits (At (AfterMessage ds head)) line next other (inr (is, a, e)) (inl (y, u, b, f)) = absurd (no_text_trailer line y is u)
+leads_once limits (At (AfterMessage ds head)) line next other (inr (is, a, e)) (inr (js, b, f)) = e ∙ sym f
+leads_once limits (At (AfterTrailer ds head trailer)) line next other (is, a, e) (js, b, f) = e ∙ sym f
+leads_once limits (InStory ds head trailer) line next other h k = absurd h
+
+-- What lines lead to, one after another.
+abbrev pub Path : Limits → Place → List (List ℕ) → Place → Type 0
+Path limits place [] end = place ≡ end
+Path limits place (line ∷ lines) end = (next : Place) × Leads limits place line next × Path limits next lines end
+
+path_on : (limits : Limits) (place : Place) (lines others : List (List ℕ)) (next end : Place) → Path limits place lines next → Path limits next others end
+    → Path limits place (lines ++ others) end
+path_on limits place [] others next end p q = subst (λ (x : Place). Path limits x others end) (sym p) q
+path_on limits place (line ∷ lines) others next end (there, leads, p) q = (there, leads, path_on limits there lines others next end p q)
+
+path_once : (limits : Limits) (place : Place) (lines : List (List ℕ)) (end other : Place) → Path limits place lines end → Path limits place lines other → end ≡ other
+path_once limits place [] end other p q = sym p ∙ q
+path_once limits place (line ∷ lines) end other (there, leads, p) (here, so, q) =
+    path_once limits there lines end other p (subst (λ (x : Place). Path limits x lines other) (leads_once limits place line here there so leads) q)
+
+-- where a path is left, the next line leads on
+path_leads : (limits : Limits) (place : Place) (lines : List (List ℕ)) (line : List ℕ) (more : List (List ℕ)) (end other : Place)
+    → Path limits place lines end → Path limits place (lines ++ line ∷ more) other → (next : Place) × Leads limits end line next
+path_leads limits place [] line more end other p (there, leads, q) = (there, subst (λ (x : Place). Leads limits x line there) p leads)
+path_leads limits place (l ∷ lines) line more end other (there, leads, p) (here, so, q) =
+    path_leads limits there lines line more end other p (subst (λ (x : Place). Path limits x (lines ++ line ∷ more) other) (leads_once limits place l here there so leads) q)
+
+-- ---- runs
+
+abbrev pub start : Place
+start = At (InFields [])
+
+-- The octets begin with so many lines, which lead to this place, and this is left.
+pub record Run (limits : Limits) (octets : List ℕ) (place : Place) (rest : List ℕ) (count : ℕ) : Type 0 where
+  pub lines : List (List ℕ)
+  pub lined : Lined lines octets rest
+  pub path : Path limits start lines place
+  pub count_is : count ≡ length lines
+
+-- The next line leads on.
+abbrev pub Onward : Limits → Place → List ℕ → Type 0
+Onward limits place rest = (line : List ℕ) × (after : List ℕ) × (next : Place) × NextLine rest line after × Leads limits place line next
+
+onward : (limits : Limits) (octets : List ℕ) (place other : Place) (rest left : List ℕ) (n m : ℕ) (r : Run limits octets place rest n) (k : Run limits octets other left m)
+    → Beyond r.lines k.lines rest → Onward limits place rest
+onward limits octets place other rest left n m r k b =
+    let path : Path limits start (r.lines ++ b.next ∷ b.more) other = subst (λ (ls : List (List ℕ)). Path limits start ls other) b.others_are k.path in
+    let on = path_leads limits start r.lines b.next b.more place other r.path path in
+    (b.next, b.after, on.0, b.is_next, on.1)
+
+-- They are one run.
+pub record AreOne (place other : Place) (rest left : List ℕ) (n m : ℕ) : Type 0 where
+  pub place_is : place ≡ other
+  pub rest_is : rest ≡ left
+  pub count_is : n ≡ m
+
+settled : (limits : Limits) (octets : List ℕ) (place other : Place) (rest left : List ℕ) (n m : ℕ) (r : Run limits octets place rest n) (k : Run limits octets other left m)
+    → (Onward limits place rest → ⊥) → (Onward limits other left → ⊥) → Compared r.lines k.lines rest left → AreOne place other rest left n m
+settled limits octets place other rest left n m r k f g (inl h) = record {
+  place_is = path_once limits start r.lines place other r.path (subst (λ (ls : List (List ℕ)). Path limits start ls other) (sym h.0) k.path);
+  rest_is = h.1;
+  count_is = r.count_is ∙ (ap length h.0 ∙ sym k.count_is);
+}
+settled limits octets place other rest left n m r k f g (inr (inl b)) = absurd (f (onward limits octets place other rest left n m r k b))
+settled limits octets place other rest left n m r k f g (inr (inr b)) = absurd (g (onward limits octets other place left rest m n k r b))
+
+-- Two runs that no line leads on from are one.
+pub runs_once : (limits : Limits) (octets : List ℕ) (place other : Place) (rest left : List ℕ) (n m : ℕ) → Run limits octets place rest n → Run limits octets other left m
+    → (Onward limits place rest → ⊥) → (Onward limits other left → ⊥) → AreOne place other rest left n m
+runs_once limits octets place other rest left n m r k f g =
+    settled limits octets place other rest left n m r k f g (compared r.lines k.lines octets rest left r.lined k.lined)
+
+-- ---- what has come is a run
+
+fields_path : (limits : Limits) (before : List Dataset) (lines : List (List ℕ)) (ds : List Dataset) → TellFields lines ds → AreTaken limits before ds
+    → Path limits (At (InFields before)) lines (At (InFields (before ++ ds)))
+fields_path limits before [] [] told taken = ap (λ (l : List Dataset). At (InFields l)) (sym (append-nil before))
+fields_path limits before [] (d ∷ ds) told taken = absurd told
+fields_path limits before (line ∷ lines) [] told taken = absurd told
+fields_path limits before (line ∷ lines) (d ∷ ds) told taken = (
+  At (InFields (before ++ d ∷ [])),
+  inl (d, told.0, taken.0, refl),
+  subst (λ (l : List Dataset). Path limits (At (InFields (before ++ d ∷ []))) lines (At (InFields l))) (append_assoc before (d ∷ []) ds)
+      (fields_path limits (before ++ d ∷ []) lines ds told.1 taken.1),
+)
+
+head_path : (limits : Limits) (fields : List (List ℕ)) (message : List ℕ) (ds : List Dataset) (head : Header) → TellFields fields ds → AreTaken limits [] ds → TellsHead message head
+    → Path limits start (fields ++ message ∷ []) (At (AfterMessage ds head))
+head_path limits fields message ds head told taken t =
+    path_on limits start fields (message ∷ []) (At (InFields ds)) (At (AfterMessage ds head)) (fields_path limits [] fields ds told taken)
+    (At (AfterMessage ds head), inr (head, t, refl), refl)
+
+come_path : (limits : Limits) (lines : List (List ℕ)) (stage : Stage) → HaveCome limits lines stage → Path limits start lines (At stage)
+come_path limits lines (InFields ds) come = fields_path limits [] lines ds come.told come.taken
+come_path limits lines (AfterMessage ds head) (fields, message, are, t, e) =
+    subst (λ (ls : List (List ℕ)). Path limits start ls (At (AfterMessage ds head))) (sym e) (head_path limits fields message ds head are.told are.taken t)
+come_path limits lines (AfterTrailer ds head trailer) (fields, message, line, are, t, u, is, e) =
+    subst (λ (ls : List (List ℕ)). Path limits start ls (At (AfterTrailer ds head trailer))) (append_assoc fields (message ∷ []) (line ∷ []) ∙ sym e)
+    (path_on limits start (fields ++ message ∷ []) (line ∷ []) (At (AfterMessage ds head)) (At (AfterTrailer ds head trailer))
+    (head_path limits fields message ds head are.told are.taken t) (At (AfterTrailer ds head trailer), inl (trailer, u, is, refl), refl))
+
+pub stands_run : (limits : Limits) (octets : List ℕ) (stage : Stage) (rest : List ℕ) (count : ℕ) → Stands limits octets stage rest count → Run limits octets (At stage) rest count
+stands_run limits octets stage rest count s = record {
+  lines = s.lines;
+  lined = record { front = s.front; lined = s.lined; parts = s.parts };
+  path = come_path limits s.lines stage s.come;
+  count_is = s.count_is;
+}
+
+text_path : (limits : Limits) (trailers : List (List ℕ)) (ds : List Dataset) (head : Header) (trailer : List ℕ) → AreTrailer trailers trailer → finish_fault ds ≡ None
+    → Path limits (At (AfterMessage ds head)) (trailers ++ text_word ∷ []) (InStory ds head trailer)
+text_path limits [] ds head trailer is whole = (InStory ds head [], inr (refl, whole, refl), ap (λ (l : List ℕ). InStory ds head l) (sym is))
+text_path limits (line ∷ []) ds head trailer is whole =
+    (At (AfterTrailer ds head trailer), inl (trailer, is.0, is.1, refl), (InStory ds head trailer, (refl, whole, refl), refl))
+text_path limits (line ∷ other ∷ lines) ds head trailer is whole = absurd is
+
+-- what stands before the story is a run
+pub front_run : (limits : Limits) (octets front story : List ℕ) (ds : List Dataset) (head : Header) (trailer : List ℕ) (text_line : ℕ) → octets ≡ front ++ story
+    → IsFront limits front ds head trailer text_line → Run limits octets (InStory ds head trailer) story text_line
+front_run limits octets front story ds head trailer text_line e f =
+    let body : List (List ℕ) = f.message ∷ f.trailers ++ text_word ∷ [] in
+    let count : length (f.field_lines ++ body) ≡ length f.field_lines + length body = length-append f.field_lines body in
+    let rest : length (f.trailers ++ text_word ∷ []) ≡ length f.trailers + 1 = length-append f.trailers (text_word ∷ []) in
+    record {
+      lines = f.field_lines ++ body;
+      lined = record { front = front; lined = f.lined; parts = e };
+      path = path_on limits start f.field_lines body (At (InFields ds)) (InStory ds head trailer) (fields_path limits [] f.field_lines ds f.are_fields.told f.are_fields.taken)
+          (At (AfterMessage ds head), inr (head, f.is_head, refl), text_path limits f.trailers ds head trailer f.is_trailer f.whole);
+      count_is = omega (arith, f.text_line_is, count, rest);
+    }
+
+-- ---- what is wrong leads nowhere, and is wrong for one cause
+
+wrong_in_fields : (limits : Limits) (ds : List Dataset) (line : List ℕ) (cause : ScriptCause) → IsWrong limits (InFields ds) line cause
+    → ((cause ≡ ScriptLine) × HasNoForm (InFields ds) line) ⊎ ((why : FieldCause) × (cause ≡ Field why) × TellsBadField limits ds line why)
+wrong_in_fields limits ds line ScriptLine w = inl (refl, w)
+wrong_in_fields limits ds line ScriptTooLong w = absurd w
+wrong_in_fields limits ds line (Field why) w = inr (why, refl, w)
+wrong_in_fields limits ds line BadTrailer w = absurd w
+wrong_in_fields limits ds line BadTextOctet w = absurd w
+wrong_in_fields limits ds line OutOfMemory w = absurd w
+
+wrong_after_message : (limits : Limits) (ds : List Dataset) (head : Header) (line : List ℕ) (cause : ScriptCause) → IsWrong limits (AfterMessage ds head) line cause
+    → ((cause ≡ ScriptLine) × HasNoForm (AfterMessage ds head) line)
+    ⊎ (((why : FieldCause) × (cause ≡ Field why) × EndsTooSoon ds line why) ⊎ ((cause ≡ BadTrailer) × TellsBadTrailer line))
+wrong_after_message limits ds head line ScriptLine w = inl (refl, w)
+wrong_after_message limits ds head line ScriptTooLong w = absurd w
+wrong_after_message limits ds head line (Field why) w = inr (inl (why, refl, w))
+wrong_after_message limits ds head line BadTrailer w = inr (inr (refl, w))
+wrong_after_message limits ds head line BadTextOctet w = absurd w
+wrong_after_message limits ds head line OutOfMemory w = absurd w
+
+wrong_after_trailer : (limits : Limits) (ds : List Dataset) (head : Header) (trailer line : List ℕ) (cause : ScriptCause) → IsWrong limits (AfterTrailer ds head trailer) line cause
+    → ((cause ≡ ScriptLine) × (line ≡ text_word → ⊥)) ⊎ ((why : FieldCause) × (cause ≡ Field why) × EndsTooSoon ds line why)
+wrong_after_trailer limits ds head trailer line ScriptLine w = inl (refl, w)
+wrong_after_trailer limits ds head trailer line ScriptTooLong w = absurd w
+wrong_after_trailer limits ds head trailer line (Field why) w = inr (why, refl, w)
+wrong_after_trailer limits ds head trailer line BadTrailer w = absurd w
+wrong_after_trailer limits ds head trailer line BadTextOctet w = absurd w
+wrong_after_trailer limits ds head trailer line OutOfMemory w = absurd w
+
+some_is_none : {A : Type 0} (x : A) (r : Option A) → r ≡ Some x → r ≡ None → ⊥
+some_is_none x r e f = let clash : Some x ≡ None = sym e ∙ f in cc
+
+some_once : {A : Type 0} (x y : A) (r : Option A) → r ≡ Some x → r ≡ Some y → x ≡ y
+some_once x y r e f = let same : Some x ≡ Some y = sym e ∙ f in cc
+
+no_text_field : (line : List ℕ) (d : Dataset) → line ≡ text_word → TellsField line d → ⊥
+no_text_field line d e t =
+    let digit : is_digit (get_or line 0 0) ≡ true = field_digit line d t in
+    false≢true (ap (λ (l : List ℕ). is_digit (get_or l 0 0)) (sym e) ∙ digit)
+
+bad_field_once : (limits : Limits) (ds : List Dataset) (line : List ℕ) (a b : FieldCause) → TellsBadField limits ds line a → TellsBadField limits ds line b → a ≡ b
+bad_field_once limits ds line a b (d, f, t, e, p) (c, g, u, h, q) =
+    let same : d ≡ c = field_once line d c t u in
+    let one : f ≡ g = some_once f g (add_fault limits ds c) (subst (λ (x : Dataset). add_fault limits ds x ≡ Some f) same e) h in
+    p ∙ (ap (λ (x : FieldFault). x.cause) one ∙ sym q)
+
+too_soon_once : (ds : List Dataset) (line : List ℕ) (a b : FieldCause) → EndsTooSoon ds line a → EndsTooSoon ds line b → a ≡ b
+too_soon_once ds line a b (f, is, e, p) (g, js, h, q) = p ∙ (ap (λ (x : FieldFault). x.cause) (some_once f g (finish_fault ds) e h) ∙ sym q)
+
+wrong_once : (limits : Limits) (stage : Stage) (line : List ℕ) (a b : ScriptCause) → IsWrong limits stage line a → IsWrong limits stage line b → a ≡ b
+wrong_once limits (InFields ds) line a b w v =
+    elim (wrong_in_fields limits ds line a w) [
+      | inl x ↦ elim (wrong_in_fields limits ds line b v) [
+        | inl y ↦ x.0 ∙ sym y.0
+        | inr y ↦ absurd (x.1.0 y.2.0 y.2.2)
+      ]
+      | inr x ↦ elim (wrong_in_fields limits ds line b v) [
+        | inl y ↦ absurd (y.1.0 x.2.0 x.2.2)
+        | inr y ↦ x.1 ∙ (ap (λ (c : FieldCause). Field c) (bad_field_once limits ds line x.0 y.0 x.2 y.2) ∙ sym y.1)
+      ]
+    ]
+wrong_once limits (AfterMessage ds head) line a b w v =
+    elim (wrong_after_message limits ds head line a w) [
+      | inl x ↦ elim (wrong_after_message limits ds head line b v) [
+        | inl y ↦ x.0 ∙ sym y.0
+        | inr y ↦ elim y [ inl z ↦ absurd (x.1.1 z.2.1) | inr z ↦ absurd (x.1.0 z.1.0 z.1.1) ]
+      ]
+      | inr x ↦ elim x [
+        | inl u ↦ elim (wrong_after_message limits ds head line b v) [
+          | inl y ↦ absurd (y.1.1 u.2.1)
+          | inr y ↦ elim y [
+            | inl z ↦ u.1 ∙ (ap (λ (c : FieldCause). Field c) (too_soon_once ds line u.0 z.0 u.2 z.2) ∙ sym z.1)
+            | inr z ↦ absurd (no_text_trailer line z.1.0 u.2.1 z.1.1)
+          ]
+        ]
+        | inr u ↦ elim (wrong_after_message limits ds head line b v) [
+          | inl y ↦ absurd (y.1.0 u.1.0 u.1.1)
+          | inr y ↦ elim y [ inl z ↦ absurd (no_text_trailer line u.1.0 z.2.1 u.1.1) | inr z ↦ u.0 ∙ sym z.0 ]
+        ]
+      ]
+    ]
+wrong_once limits (AfterTrailer ds head trailer) line a b w v =
+    elim (wrong_after_trailer limits ds head trailer line a w) [
+      | inl x ↦ elim (wrong_after_trailer limits ds head trailer line b v) [
+        | inl y ↦ x.0 ∙ sym y.0
+        | inr y ↦ absurd (x.1 y.2.1)
+      ]
+      | inr x ↦ elim (wrong_after_trailer limits ds head trailer line b v) [
+        | inl y ↦ absurd (y.1 x.2.1)
+        | inr y ↦ x.1 ∙ (ap (λ (c : FieldCause). Field c) (too_soon_once ds line x.0 y.0 x.2 y.2) ∙ sym y.1)
+      ]
+    ]
+
+wrong_field_stuck : (limits : Limits) (ds : List Dataset) (line : List ℕ) (why : FieldCause) (next : Place) → TellsBadField limits ds line why → Leads limits (At (InFields ds)) line next → ⊥
+wrong_field_stuck limits ds line why next (d, f, t, e, p) (inl (c, u, h, is)) =
+    some_is_none f (add_fault limits ds c) (subst (λ (x : Dataset). add_fault limits ds x ≡ Some f) (field_once line d c t u) e) h
+wrong_field_stuck limits ds line why next (d, f, t, e, p) (inr (head, u, is)) = field_no_head line d head t u
+
+wrong_stuck : (limits : Limits) (stage : Stage) (line : List ℕ) (cause : ScriptCause) (next : Place) → IsWrong limits stage line cause → Leads limits (At stage) line next → ⊥
+wrong_stuck limits (InFields ds) line cause next w leads =
+    elim (wrong_in_fields limits ds line cause w) [
+      | inl x ↦ elim leads [ inl y ↦ x.1.0 y.0 y.1 | inr y ↦ x.1.1 y.0 y.1 ]
+      | inr x ↦ wrong_field_stuck limits ds line x.0 next x.2 leads
+    ]
+wrong_stuck limits (AfterMessage ds head) line cause next w leads =
+    elim (wrong_after_message limits ds head line cause w) [
+      | inl x ↦ elim leads [ inl y ↦ x.1.0 y.0 y.1 | inr y ↦ x.1.1 y.0 ]
+      | inr x ↦ elim x [
+        | inl u ↦ elim leads [ inl y ↦ no_text_trailer line y.0 u.2.1 y.1 | inr y ↦ some_is_none u.2.0 (finish_fault ds) u.2.2 y.1 ]
+        | inr u ↦ elim leads [
+          | inl y ↦ u.1.2 (subst (λ (l : List ℕ). IsTrailer l) (trailer_once line y.0 u.1.0 y.1 u.1.1) y.2)
+          | inr y ↦ no_text_trailer line u.1.0 y.0 u.1.1
+        ]
+      ]
+    ]
+wrong_stuck limits (AfterTrailer ds head trailer) line cause next w leads =
+    elim (wrong_after_trailer limits ds head trailer line cause w) [
+      | inl x ↦ x.1 leads.0
+      | inr x ↦ some_is_none x.2.0 (finish_fault ds) x.2.2 leads.1
+    ]
+
+pub next_wrong_stuck : (limits : Limits) (stage : Stage) (rest : List ℕ) (cause : ScriptCause) → IsNextWrong limits stage rest cause → Onward limits (At stage) rest → ⊥
+next_wrong_stuck limits stage rest cause (inl (none, is)) (line, after, next, n, leads) = no_next rest line after none n
+next_wrong_stuck limits stage rest cause (inr (l, a, m, w)) (line, after, next, n, leads) =
+    wrong_stuck limits stage line cause next (subst (λ (x : List ℕ). IsWrong limits stage x cause) (next_once rest l a line after m n).0 w) leads
+
+pub next_wrong_once : (limits : Limits) (stage : Stage) (rest : List ℕ) (a b : ScriptCause) → IsNextWrong limits stage rest a → IsNextWrong limits stage rest b → a ≡ b
+next_wrong_once limits stage rest a b (inl (none, is)) (inl (nothing, js)) = is ∙ sym js
+next_wrong_once limits stage rest a b (inl (none, is)) (inr (l, after, n, w)) = absurd (no_next rest l after none n)
+next_wrong_once limits stage rest a b (inr (l, after, n, w)) (inl (none, is)) = absurd (no_next rest l after none n)
+next_wrong_once limits stage rest a b (inr (l, after, n, w)) (inr (m, more, k, v)) =
+    wrong_once limits stage m a b (subst (λ (x : List ℕ). IsWrong limits stage x a) (next_once rest l after m more n k).0 w) v

@@ -1,0 +1,35 @@
+use Rattle.std.proofs.Common.{◌≡◌, ℕ, List, Result, Ok, Err, IfOk, IfErr, ap, sym, ◌∙◌, inl, inr, subst}
+use Rattle.iim_dataset.specs.Devices.{Device}
+use Rattle.iim_unpack.specs.Intakes.{line}
+use Rattle.iimwire.specs.Devices.{devices}
+use Rattle.iimwire.specs.Listings.{Envelope}
+use Rattle.iimwire.specs.Outcomes.{Finishes, Listed}
+use Rattle.iimwire.specs.Reports.{Reported, IsUnreported}
+use Rattle.iimwire.specs.declared.fault.Fault.{Fault}
+use Rattle.iimwire.proofs.Runs.{behind_none}
+use Rattle.iimwire.proofs.run.report.Goals as goal
+
+listed : (text : ℕ → Envelope → List ℕ) (source rest old new errors_old errors_new : Device) (answer : Result ℕ Fault) (status : ℕ)
+    → IfOk answer (Reported text source rest old new) → IfErr answer (IsUnreported text source rest old new) → Finishes errors_old errors_new answer status
+    → Listed text (devices source old errors_old) (devices rest new errors_new) status
+listed text source rest old new errors_old errors_new (Ok want) status ok err f =
+    inl (subst (λ (n : ℕ). Reported text source rest old new n) (sym f.0) ok, f.1)
+listed text source rest old new errors_old errors_new (Err fault) status ok err f = inr (fault, err, f.1, f.0)
+
+pub returns : goal.returns
+returns g c =
+    let text = g.P.Report.written in
+    let intake = c.list-answer.new.intake in
+    let rest = line g.R.Source.state intake in
+    let old = g.W.Target.state c.args.output in
+    let new = g.W.Target.state c.list-answer.new.output in
+    let start : line g.R.Source.state c.new-intake.result ≡ g.R.Source.state c.args.reader =
+    behind_none c.new-intake.result.block (g.R.Source.state c.new-intake.result.reader) c.new-intake.ensures.block ∙ ap g.R.Source.state c.new-intake.ensures.reader in (
+      intake.reader,
+      intake.block,
+      subst (λ (r : g.row.R.Denot). g.R.Source.leads r intake.reader) c.new-intake.ensures.reader c.list-answer.ensures.leads,
+      listed text (g.R.Source.state c.args.reader) rest old new (g.E.Target.state c.args.errors) (g.E.Target.state c.finish-status.new.errors) c.list-answer.result c.finish-status.result
+          (subst (λ (d : Device). IfOk c.list-answer.result (Reported text d rest old new)) start c.list-answer.ensures.ok)
+          (subst (λ (d : Device). IfErr c.list-answer.result (IsUnreported text d rest old new)) start c.list-answer.ensures.err)
+          c.finish-status.ensures,
+    )

@@ -1,0 +1,36 @@
+use Rattle.std.proofs.Common.{◌≡◌, ℕ, ℤ, Result, Ok, Err, IfOk, IfErr, ap, sym, ◌∙◌, inl, inr, subst}
+use Rattle.iim_dataset.specs.Devices.{Device}
+use Rattle.iim_unpack.specs.Intakes.{line}
+use Rattle.iimwire.specs.Audits.{Audited, IsUnaudited}
+use Rattle.iimwire.specs.Devices.{devices}
+use Rattle.iimwire.specs.Outcomes.{Finishes, Reviewed}
+use Rattle.iimwire.specs.declared.fault.Fault.{Fault}
+use Rattle.iimwire.proofs.Runs.{behind_none}
+use Rattle.iimwire.proofs.run.review.Goals as goal
+
+reviewed : (now same : ℤ) (source rest old new errors_old errors_new : Device) (answer : Result ℕ Fault) (status : ℕ) → same ≡ now
+    → IfOk answer (Audited same source rest old new) → IfErr answer (IsUnaudited same source rest old new) → Finishes errors_old errors_new answer status
+    → Reviewed now (devices source old errors_old) (devices rest new errors_new) status
+reviewed now same source rest old new errors_old errors_new (Ok want) status e ok err f =
+    inl (subst (λ (n : ℕ). Audited now source rest old new n) (sym f.0) (subst (λ (z : ℤ). Audited z source rest old new want) e ok), f.1)
+reviewed now same source rest old new errors_old errors_new (Err fault) status e ok err f =
+    inr (fault, subst (λ (z : ℤ). IsUnaudited z source rest old new fault) e err, f.1, f.0)
+
+pub returns : goal.returns
+returns g c =
+    let intake = c.write_audit-answer.new.intake in
+    let rest = line g.R.Source.state intake in
+    let old = g.W.Target.state c.args.output in
+    let new = g.W.Target.state c.write_audit-answer.new.output in
+    let now = c.timestamp.result.nanosecond in
+    let start : line g.R.Source.state c.new-intake.result ≡ g.R.Source.state c.args.reader =
+    behind_none c.new-intake.result.block (g.R.Source.state c.new-intake.result.reader) c.new-intake.ensures.block ∙ ap g.R.Source.state c.new-intake.ensures.reader in (
+      intake.reader,
+      intake.block,
+      subst (λ (r : g.row.R.Denot). g.R.Source.leads r intake.reader) c.new-intake.ensures.reader c.write_audit-answer.ensures.leads,
+      reviewed c.args.now.nanosecond now (g.R.Source.state c.args.reader) rest old new (g.E.Target.state c.args.errors) (g.E.Target.state c.finish-status.new.errors) c.write_audit-answer.result c.finish-status.result
+          c.timestamp.ensures
+          (subst (λ (d : Device). IfOk c.write_audit-answer.result (Audited now d rest old new)) start c.write_audit-answer.ensures.ok)
+          (subst (λ (d : Device). IfErr c.write_audit-answer.result (IsUnaudited now d rest old new)) start c.write_audit-answer.ensures.err)
+          c.finish-status.ensures,
+    )
