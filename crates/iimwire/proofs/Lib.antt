@@ -1,13 +1,2 @@
 pub mod Runs
-pub mod Taken
-pub mod Reports
-pub mod Audits
 pub mod Requests
-pub mod Told
-pub mod Packed
-pub mod RoundTrip
-pub mod Given
-pub mod Stories
-pub mod Listings
-pub mod Narration
-pub mod Packings

@@ -1,8 +1,8 @@
 -- What the program's command line comes to, by the rules of clap.
-use Rattle.std.proofs.Common.{◌≡◌, ◌⊎◌, inl, inr, Bool, true, false, not, ◌&&◌, List, [], ◌∷◌, Option, Some, None, refl, ap, sym, ◌∙◌, codes, option_map, is_some, subst, ℕ, ℤ, Ok, Err}
+use Rattle.std.proofs.Common.{◌≡◌, ◌⊎◌, inl, inr, Bool, true, false, not, ◌&&◌, List, [], ◌∷◌, Option, Some, None, refl, ap, sym, ◌∙◌, codes, option_map, is_some, subst, ℕ, ℤ, Result, Ok, Err, IsErrAnd, IfErr}
 use Rattle.std.specs.Prelude.{find, option_and_then, cond}
 use Rattle.std.specs.Box.{box_value}
-use Rattle.std.specs.List.{list_any, slice_index_or}
+use Rattle.std.specs.List.{list_any}
 use Rattle.clap.specs.Facts.{explicit_source}
 use Rattle.clap.specs.Faults.{check_fault, defaults_fault, entered_fault, settle_fault, walk_fault}
 use Rattle.clap.specs.Kinds.{Kinds, or_else, check_kinds}
@@ -194,3 +194,8 @@ fault_of_job words verb name rows (usage.Words error) names is h = absurd h
 fault_of_job words verb name rows usage.MaxNeedsUnknown names is h = (name, rows, names, (is ∙ h.0, h.1))
 fault_of_job words verb name rows usage.BadNow names is h = (name, rows, names, is ∙ h.0, h.1)
 fault_of_job words verb name rows usage.OutOfMemory names is h = absurd h
+
+-- a fact of the fault that `?` hands on
+pub handed_on : {T E : Type 0} → (P : E → Type 0) (r : Result T E) (fault : E) → IsErrAnd r (λ e. e ≡ fault) → P fault → IfErr r P
+handed_on P (Ok x) fault is h = tt
+handed_on P (Err e) fault is h = rw is h

@@ -1,24 +1,17 @@
 -- What a run leaves.
-use Rattle.std.specs.Prelude.{◌≡◌, ℕ, ℤ, ◌⊎◌, List, codes, Result, Ok, Err}
+use Rattle.std.specs.Prelude.{◌≡◌, ℕ, ℤ, ◌⊎◌, List, Result, Ok, Err}
 use Rattle.iim_dataset.specs.Devices.{Device, Wrote, Stopped}
 use Rattle.iimwire.specs.declared.request.Job.{Job}
 use Rattle.iimwire.specs.declared.request.Job.TheVariants.{Check, Show, Story, Pack, Audit}
-use Rattle.iimwire.specs.declared.fault.Fault.{Fault}
-use Rattle.iimwire.specs.declared.fault.Fault.TheVariants.{CannotRead, CannotWrite, OutOfMemory}
-use Rattle.iimwire.specs.Audits.{Audited, IsUnaudited}
-use Rattle.iimwire.specs.Devices.{Devices}
-use Rattle.iimwire.specs.Listings.{Envelope}
-use Rattle.iimwire.specs.Lines.{line_of}
-use Rattle.iimwire.specs.Narration.{IsUnnarrated, Narrated}
-use Rattle.iimwire.specs.Packing.{Answered, Asked, IsUnanswered, asked}
-use Rattle.iimwire.specs.Reports.{Reported, IsUnreported}
-use Rattle.iimwire.specs.Texts.{shown_of}
-
--- the line that tells a fault
-abbrev pub fault_line : Fault → List ℕ
-fault_line CannotRead = codes "cannot read\n"
-fault_line CannotWrite = codes "cannot write\n"
-fault_line OutOfMemory = codes "out of memory\n"
+use Rattle.iim_commands.specs.declared.fault.Fault.{Fault}
+use Rattle.iim_commands.specs.Audits.{Audited, IsUnaudited}
+use Rattle.iim_commands.specs.Devices.{Devices}
+use Rattle.iim_commands.specs.Listings.{Envelope}
+use Rattle.iim_commands.specs.Lines.{fault_line, line_of}
+use Rattle.iim_commands.specs.Narration.{IsUnnarrated, Narrated}
+use Rattle.iim_commands.specs.Packing.{Answered, Asked, IsUnanswered, asked}
+use Rattle.iim_commands.specs.Reports.{Reported, IsUnreported}
+use Rattle.iim_commands.specs.Texts.{shown_of}
 
 -- The line of the fault is out, or the device broke inside it.
 abbrev pub Complained : Device → Device → Fault → Type 0

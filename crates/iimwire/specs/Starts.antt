@@ -1,11 +1,12 @@
 -- Why a run can't begin, and what is left of it then.
 use Rattle.std.specs.Prelude.{◌≡◌, ℕ, ◌⊎◌, ⊤, List, ◌++◌, codes}
-use Rattle.iim_dataset.specs.Devices.{Device, Wrote, Stopped}
+use Rattle.iim_dataset.specs.Devices.{Device}
 use Rattle.iimwire.specs.declared.request.UsageFault.{UsageFault}
 use Rattle.iimwire.specs.declared.request.UsageFault.TheVariants as usage
 use Rattle.iimwire.specs.declared.start.StartFault.{StartFault}
 use Rattle.iimwire.specs.declared.start.StartFault.TheVariants.{Usage, NoText, CannotOpen, OutOfMemory}
-use Rattle.iimwire.specs.Shown.{shown_name}
+use Rattle.iim_commands.specs.Reports.{IsTold}
+use Rattle.iim_commands.specs.Shown.{shown_name}
 
 -- the line that tells that memory was refused
 abbrev pub no_memory_line : List ℕ
@@ -37,10 +38,6 @@ status_of_start (Usage fault) = status_of_usage fault
 status_of_start NoText = 2
 status_of_start (CannotOpen name) = 3
 status_of_start OutOfMemory = 3
-
--- The text is out, and the status is the wanted one; or the device broke inside it, and the status is 3.
-abbrev pub IsTold : Device → Device → List ℕ → ℕ → ℕ → Type 0
-IsTold old new text want status = (Wrote old new text × (status ≡ want)) ⊎ ((n : ℕ) × Stopped old new text n × (status ≡ 3))
 
 -- It was told why the run can't begin, or that there is no memory for that.
 abbrev pub IsHindered : StartFault → Device → Device → ℕ → Type 0

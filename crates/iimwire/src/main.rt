@@ -1,29 +1,16 @@
 //! The command `iimwire`: checks files of envelopes, shows their parts, writes their stories, audits them, and packs scripts.
 //!
-//! Stands on all crates of the repository (on `iim_tables` for definitions alone), `clap` and `jiff`.
+//! Stands on `iim_commands`, which reads and writes, on the crates below it for their types and definitions, on `clap` and `jiff`.
 //! [`serve::serve`] does the work, over any source and targets of octets; what is here gives it the words, files and streams
 //! of a process.
 #![tactic(auto)]
 
-mod audit;
-mod check;
-mod coming;
 mod commands;
-mod fault;
 mod instant;
-mod laws;
-mod list;
-mod packing;
-mod report;
 mod request;
-mod round_trip;
 mod run;
 mod serve;
-mod show;
-mod shown;
 mod start;
-mod status;
-mod story;
 
 use iim_dataset::{FromRead, FromWrite};
 use request::{Request, UsageFault, parse};

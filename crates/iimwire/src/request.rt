@@ -5,9 +5,9 @@ ghost use Rattle.clap.specs.Words.{kind_of, first_of, found_of, one_of, rows_of}
 
 use crate::commands::{GREATEST_SIZE, command};
 use crate::instant::Instant;
-use crate::packing::PackRequest;
 use clap::error::ErrorKind;
 use clap::{ArgMatches, Error};
+use iim_commands::packing::PackRequest;
 use jiff::Timestamp;
 use std::alloc::{AllocError, Global};
 

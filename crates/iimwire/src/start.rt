@@ -2,11 +2,12 @@
 
 ghost use Rattle.std.specs.Prelude.{◌≡◌, IfOk};
 
-use crate::fault::Fault;
 use crate::request::UsageFault;
-use crate::shown::push_name;
-use crate::status::{FAILED, USAGE};
-use iim_dataset::{Target, put};
+use iim_commands::fault::Fault;
+use iim_commands::report::tell;
+use iim_commands::shown::push_name;
+use iim_commands::status::{FAILED, USAGE};
+use iim_dataset::Target;
 use std::alloc::{AllocError, Global};
 
 /// Why there is nothing to run.
@@ -22,7 +23,7 @@ pub enum StartFault<'a> {
     OutOfMemory,
 }
 
-ghost use Rattle.iimwire.specs.Starts.{status_of_usage, status_of_start, IsHindered, IsTextOf, IsTold};
+ghost use Rattle.iimwire.specs.Starts.{status_of_usage, status_of_start, IsHindered, IsTextOf};
 
 /// The status for a fault of the words.
 fn usage_status(fault: &UsageFault) -> u8
@@ -70,16 +71,6 @@ fn text(alloc: Global, fault: &StartFault<'_>) -> Result<Vec<u8>, AllocError>
         }
     }
     Ok(text)
-}
-
-/// Writes a text, and answers the status, or that of a fault where it can't be written.
-pub fn tell<E: Target>(errors: &mut E, text: &[u8], status: u8) -> u8
-    ensures { IsTold (E.state errors.old) (E.state errors.new) text.now status result }
-{
-    match put(errors, text) {
-        Ok(()) => status,
-        Err(_) => FAILED,
-    }
 }
 
 /// Tells why a run can't begin, and answers the status.

@@ -7,7 +7,7 @@ mod story;
 
 use super::run;
 use crate::request::{Job, Request};
-use crate::status::{ACCEPTED, FAILED, REFUSED};
+use iim_commands::status::{ACCEPTED, FAILED, REFUSED};
 use iim_dataset::{FromWrite, TrialReader, TrialWriter, Trouble};
 use std::alloc::{AllocError, Global};
 use std::process::Abort;

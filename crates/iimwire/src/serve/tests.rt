@@ -3,7 +3,7 @@
 use super::serve;
 use crate::request::{Job, Request, UsageFault, parse};
 use crate::start::StartFault;
-use crate::status::{FAILED, REFUSED, USAGE};
+use iim_commands::status::{FAILED, REFUSED, USAGE};
 use iim_dataset::{FromWrite, TrialReader, TrialWriter, Trouble};
 use std::alloc::Global;
 use std::test::Fail;

@@ -1,4 +1,4 @@
-use Rattle.std.proofs.Common.{rules, refl, sym, ap, ◌∙◌, option_map}
+use Rattle.std.proofs.Common.{refl}
 use Rattle.clap.specs.Words.{found_of}
 use Rattle.iimwire.proofs.Requests.{instant_of, no_instant_of, none_of}
 use Rattle.iimwire.proofs.request.audit_job.Goals as goal

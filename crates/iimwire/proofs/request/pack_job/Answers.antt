@@ -1,4 +1,4 @@
-use Rattle.std.proofs.Common.{◌≡◌, ℕ, Bool, refl, subst}
+use Rattle.std.proofs.Common.{Bool, refl, subst}
 use Rattle.clap.specs.Matches.{found_of}
 use Rattle.clap.specs.Walk.{rows_of}
 use Rattle.iimwire.specs.Requests.{TellsPacking}

@@ -1,13 +1,12 @@
-use Rattle.std.proofs.Common.{◌≡◌, ℕ, List, [], Option, Some, refl, ap, sym, ◌∙◌, map, subst, string_bytes, codes, option_map}
-use Rattle.clap.specs.Matches.{found_of, subcommand_name_of}
+use Rattle.std.proofs.Common.{◌≡◌, [], Some, refl, ap, sym, ◌∙◌, map, subst, string_bytes, codes}
+use Rattle.clap.specs.Matches.{found_of}
 use Rattle.clap.specs.Simple.{App, subcommand_rows_of}
 use Rattle.clap.specs.Walk.{Text, rows_of}
 use Rattle.clap.specs.Words.{is_simple, is_simple_and_free, fault_of, subcommand_of}
 use Rattle.clap.proofs.WalkLemmas.{first_value-rows}
 use Rattle.iimwire.specs.Requests.{AsksJob, IsFaultOf, program}
 use Rattle.iimwire.specs.Verbs.{verb_name}
-use Rattle.iimwire.proofs.Requests.{fault_of_job, names, names_verb, program_simple, program_free}
-use Rattle.iimwire.proofs.Told.{handed_on}
+use Rattle.iimwire.proofs.Requests.{fault_of_job, handed_on, names, names_verb, program_simple, program_free}
 use Rattle.iimwire.proofs.request.parse.Goals as goal
 
 pub unreachable-requires-in_default-verb_named : goal.unreachable-requires-in_default-verb_named

@@ -4,7 +4,7 @@ use super::{SMALLEST, STORY, add, joined, reader, writer};
 use crate::instant::Instant;
 use crate::request::{Job, Request};
 use crate::run::run;
-use crate::status::{ACCEPTED, FAILED, REFUSED};
+use iim_commands::status::{ACCEPTED, FAILED, REFUSED};
 use iim_dataset::{FromWrite, TrialReader, TrialWriter, Trouble};
 use jiff::Timestamp;
 use std::alloc::{AllocError, Global};

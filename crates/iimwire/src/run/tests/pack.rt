@@ -1,10 +1,10 @@
 //! `pack` as it is run: the script of an envelope, one that is refused, and a device that breaks.
 
 use super::{SMALLEST, joined, reader, writer};
-use crate::packing::PackRequest;
 use crate::request::{Job, Request};
 use crate::run::run;
-use crate::status::{ACCEPTED, FAILED, REFUSED};
+use iim_commands::packing::PackRequest;
+use iim_commands::status::{ACCEPTED, FAILED, REFUSED};
 use iim_dataset::{TrialReader, Trouble};
 use std::test::Fail;
 

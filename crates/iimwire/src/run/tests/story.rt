@@ -3,7 +3,7 @@
 use super::{SMALLEST, STORY, add, joined, reader, writer};
 use crate::request::{Job, Request};
 use crate::run::run;
-use crate::status::{ACCEPTED, FAILED, REFUSED};
+use iim_commands::status::{ACCEPTED, FAILED, REFUSED};
 use iim_dataset::{TrialReader, TrialWriter, Trouble};
 use std::alloc::Global;
 use std::process::Abort;

@@ -1,0 +1,178 @@
+-- What an intake gives, of an unpacker that stands on no octets.
+use Rattle.std.proofs.Common.{◌≡◌, ◌≢◌, ◌⊎◌, ℕ, inl, inr, refl, sym, ap, subst, arith, List, [], ◌∷◌, length, take, Option, None, Some, Ok}
+use Rattle.std.proofs.Math.Seq.{take-length}
+use Rattle.iim_dataset.specs.Devices.{Device}
+use Rattle.iim_dataset.specs.Splits.{InTag, Reads}
+use Rattle.iim_dataset.specs.declared.device.IoFault.{IoFault}
+use Rattle.iim_dataset.specs.declared.device.IoFault.TheVariants as io
+use Rattle.iim_dataset.specs.DeviceLaws.{HasGiven}
+use Rattle.std.specs.Io.KnownBytes.{IsAtEnd}
+use Rattle.iim_commands.specs.declared.coming.Next.{Next}
+use Rattle.iim_commands.specs.declared.coming.Next.TheVariants as next
+use Rattle.iim_commands.specs.declared.coming.Next.TheVariants.{Envelope}
+use Rattle.iim_fields.specs.declared.limits.Limits.{Limits}
+use Rattle.wire_story.specs.Delivery.{Event}
+use Rattle.iim_unpack.specs.Framed.{AreWithin}
+use Rattle.iim_unpack.specs.declared.intake.IntakeFault.{IntakeFault}
+use Rattle.iim_unpack.specs.declared.intake.IntakeFault.TheVariants.{Refused, Read, Interrupted}
+use Rattle.iim_unpack.specs.Intakes.{Faults, Gives, IsRefusedOf, IsTruncatedIn, WasGiven, WasMissed, WasRefused, WasTruncated}
+use Rattle.iim_unpack.specs.Parts.{CountsFor}
+use Rattle.iim_unpack.specs.Unpacking.{Adds, IsOpen, IsTextOf, Stands, Unpacking, limits_in}
+use Rattle.iim_unpack.specs.declared.refusal.Refusal.{Refusal}
+use Rattle.iim_unpack.specs.declared.refusal.Cause.{Cause}
+use Rattle.iim_unpack.specs.declared.refusal.Cause.TheVariants.{Sink, Truncated}
+use Rattle.iim_unpack.specs.declared.unpacker.Unpacked.{Unpacked}
+use Rattle.iim_commands.specs.Coming.{CanGoOn, HasCome, IsCutOff, IsNext, IsRefusal, IsUnheard}
+use Rattle.iim_commands.specs.Listings.{limits, IsDelivered}
+
+-- no octets are no datasets, and the beginning of a tag
+reads_none : Reads [] [] (InTag [])
+reads_none = record {
+  front = [];
+  rest = [];
+  is_front = refl;
+  is_rest = (
+    refl,
+    record { rec = 0; set = 0; count = 0 },
+    28 ∷ 0 ∷ 0 ∷ 0 ∷ 0 ∷ [],
+    record {
+      rec = omega arith;
+      set = omega arith;
+      count = 0 ∷ 0 ∷ [];
+      is_count = inl (omega arith, omega arith, refl, refl);
+      parts = refl;
+    },
+    (28 ∷ 0 ∷ 0 ∷ 0 ∷ 0 ∷ [], omega arith, refl),
+  );
+  parts = refl;
+}
+
+pub no_text : IsTextOf [] []
+no_text = ([], InTag [], reads_none, refl)
+
+pub delivered_of : (octets : List ℕ) (more : List Event) → Adds [] octets more → IsDelivered octets more
+delivered_of octets more adds =
+    let added = adds [] no_text in
+    (added.0, added.1, added.2)
+
+pub has_come : {S : Type 0} (goes : S → List Event → S → Type 0) (old new : Device) (u : Unpacking) (a b : S) (used : ℕ) (got : Unpacked)
+    → limits_in u ≡ limits → Stands u [] 0 → WasGiven goes old new u a b used got → HasCome goes old new a b got used
+has_come goes old new u a b used got same at w =
+    let e = w.envelope [] 0 at in
+    record {
+      envelope = record { octets = w.octets; value = e.value };
+      is = record { admits = e.admits; within = subst (λ (l : Limits). AreWithin l e.admits.datasets) same e.within };
+      parts = e.parts;
+      counts = w.counts;
+      more = w.more;
+      came = w.came;
+      delivered = delivered_of w.octets w.more e.adds;
+    }
+
+refused_here : (u : Unpacking) (octets : List ℕ) (more : List Event) (e : Refusal) → limits_in u ≡ limits → IsRefusedOf (limits_in u) [] 0 octets more e
+    → IsRefusedOf limits [] 0 octets more e
+refused_here u octets more e same is = subst (λ (l : Limits). IsRefusedOf l [] 0 octets more e) same is
+
+pub is_refusal : {S : Type 0} (goes : S → List Event → S → Type 0) (failures : S → ℕ) (old new : Device) (u : Unpacking) (a b : S) (e : Refusal)
+    → limits_in u ≡ limits → Stands u [] 0 → e.cause ≢ Sink → WasRefused goes failures old new u a b e ⊎ WasTruncated goes failures old new u a b e
+    → IsRefusal goes old new a b e
+is_refusal goes failures old new u a b e same at other (inl w) =
+    let is = refused_here u w.octets w.more e same (w.refuses [] 0 at) in
+    record {
+      octets = w.octets;
+      more = w.more;
+      came = w.came;
+      k = is.k;
+      refused = inr (record { text = w.more; refused = is; before = refl; by_octets = other });
+      at_end = λ all. absurd (omega (arith, all, is.within));
+      delivered = delivered_of (take is.k w.octets) w.more is.adds;
+    }
+is_refusal goes failures old new u a b e same at other (inr w) =
+    let is = subst (λ (l : Limits). IsTruncatedIn l [] 0 w.octets w.more e) same (w.truncated [] 0 at) in
+    record {
+      octets = w.octets;
+      more = w.more;
+      came = w.came;
+      k = length w.octets;
+      refused = inl (record { text = w.more; refused = is }, refl);
+      at_end = λ all. w.at_end;
+      delivered = subst (λ (xs : List ℕ). IsDelivered xs w.more) (sym (take-length w.octets)) (delivered_of w.octets w.more is.adds);
+    }
+
+pub is_unheard : {S : Type 0} (goes : S → List Event → S → Type 0) (failures : S → ℕ) (old new : Device) (u : Unpacking) (a b : S) (e : Refusal)
+    → Stands u [] 0 → e.cause ≡ Sink → WasRefused goes failures old new u a b e ⊎ WasTruncated goes failures old new u a b e
+    → IsUnheard goes failures old new a b
+is_unheard goes failures old new u a b e at sink (inl w) =
+    let is = w.refuses [] 0 at in
+    record {
+      octets = w.octets;
+      more = w.more;
+      came = w.came;
+      k = is.k;
+      within = is.within;
+      delivered = delivered_of (take is.k w.octets) w.more is.adds;
+      rose = subst (λ (c : Cause). CountsFor c (failures a) (failures b)) sink w.counts;
+    }
+is_unheard goes failures old new u a b e at sink (inr w) =
+    let is = w.truncated [] 0 at in
+    let cause : e.cause ≡ Truncated = ap (λ (x : Refusal). x.cause) is.truncated.refusal in
+    cc
+
+-- the count of the sink where it did not refuse
+pub calm_counts : (cause : Cause) (before now : ℕ) → cause ≢ Sink → CountsFor cause before now → now ≡ before
+calm_counts Sink before now other counts = absurd (other refl)
+calm_counts _ before now other counts = counts
+
+pub is_cut_off : {S : Type 0} (goes : S → List Event → S → Type 0) (failures : S → ℕ) (old new : Device) (u : Unpacking) (a b : S) (kept : ℕ) (fault : IoFault)
+    → limits_in u ≡ limits → Stands u [] 0 → WasMissed goes failures old new u a b kept fault → IsCutOff goes old new a b
+is_cut_off goes failures old new u a b kept fault same at w =
+    let is = w.is_open [] 0 at in
+    record {
+      octets = w.octets;
+      more = w.more;
+      fault = fault;
+      missed = w.missed;
+      told = w.told;
+      is_open = subst (λ (l : Limits). IsOpen l w.octets) same is.0;
+      delivered = delivered_of w.octets w.more is.1;
+    }
+
+-- ---- of answers
+
+pub refused_by : {S : Type 0} (goes : S → List Event → S → Type 0) (failures : S → ℕ) (old new : Device) (u : Unpacking) (a b : S) (kept : ℕ) (fault : IntakeFault) (e : Refusal)
+    → fault ≡ Refused e → Faults goes failures old new u a b kept fault → WasRefused goes failures old new u a b e ⊎ WasTruncated goes failures old new u a b e
+refused_by goes failures old new u a b kept fault e is f = (subst (λ (x : IntakeFault). Faults goes failures old new u a b kept x) is f).1
+
+pub given_as : {S : Type 0} (goes : S → List Event → S → Type 0) (old new : Device) (u : Unpacking) (a b : S) (used told : ℕ) (answer : Option Unpacked) (got : Unpacked)
+    → answer ≡ Some got → told ≡ used → Gives goes old new u a b used answer → WasGiven goes old new u a b told got
+given_as goes old new u a b used told answer got is same g =
+    subst (λ (n : ℕ). WasGiven goes old new u a b n got) (sym same) (subst (λ (x : Option Unpacked). Gives goes old new u a b used x) is g)
+
+-- the count of a sink that refused nothing
+pub calm_of : {S : Type 0} (goes : S → List Event → S → Type 0) (failures : S → ℕ) (old new : Device) (u : Unpacking) (a b : S) (e : Refusal)
+    → e.cause ≢ Sink → WasRefused goes failures old new u a b e ⊎ WasTruncated goes failures old new u a b e → failures b ≡ failures a
+calm_of goes failures old new u a b e other (inl w) = calm_counts e.cause (failures a) (failures b) other w.counts
+calm_of goes failures old new u a b e other (inr w) = w.calm
+
+pub cut_off_by : {S : Type 0} (goes : S → List Event → S → Type 0) (failures : S → ℕ) (old new : Device) (u : Unpacking) (a b : S) (kept : ℕ) (fault : IntakeFault)
+    → (fault ≡ Read) ⊎ (fault ≡ Interrupted) → limits_in u ≡ limits → Stands u [] 0 → Faults goes failures old new u a b kept fault → IsCutOff goes old new a b
+cut_off_by goes failures old new u a b kept fault (inl is) same at f =
+    is_cut_off goes failures old new u a b kept io.Failed same at (subst (λ (x : IntakeFault). Faults goes failures old new u a b kept x) is f)
+cut_off_by goes failures old new u a b kept fault (inr is) same at f =
+    is_cut_off goes failures old new u a b kept io.Interrupted same at (subst (λ (x : IntakeFault). Faults goes failures old new u a b kept x) is f)
+
+-- an envelope came
+pub come_as : {S : Type 0} (goes : S → List Event → S → Type 0) (failures : S → ℕ) (old new : Device) (a b : S) (x : Next) (got : Unpacked) (octets : ℕ)
+    → x ≡ Envelope got octets → IsNext goes failures old new a b (Ok x) → HasCome goes old new a b got octets
+come_as goes failures old new a b x got octets is n = subst (λ (y : Next). IsNext goes failures old new a b (Ok y)) is n
+
+pub lives_as : (failed : Option ℕ) (x : Next) (got : Unpacked) (octets : ℕ) → x ≡ Envelope got octets → CanGoOn failed (Ok x) → failed ≡ None
+lives_as failed x got octets is n = subst (λ (y : Next). CanGoOn failed (Ok y)) is n
+
+pub refusal_as : {S : Type 0} (goes : S → List Event → S → Type 0) (failures : S → ℕ) (old new : Device) (a b : S) (x : Next) (e : Refusal)
+    → x ≡ next.Refused e → IsNext goes failures old new a b (Ok x) → IsRefusal goes old new a b e
+refusal_as goes failures old new a b x e is n = subst (λ (y : Next). IsNext goes failures old new a b (Ok y)) is n
+
+pub end_as : {S : Type 0} (goes : S → List Event → S → Type 0) (failures : S → ℕ) (old new : Device) (a b : S) (x : Next)
+    → x ≡ next.End → IsNext goes failures old new a b (Ok x) → HasGiven old new [] × IsAtEnd new.octets × (b ≡ a)
+end_as goes failures old new a b x is n = subst (λ (y : Next). IsNext goes failures old new a b (Ok y)) is n

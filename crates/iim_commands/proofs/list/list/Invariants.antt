@@ -1,0 +1,14 @@
+use Rattle.std.proofs.Common.{◌≡◌, ◌-◌, None}
+use Rattle.iim_unpack.specs.Intakes.{line}
+use Rattle.iim_commands.proofs.Reports.{AreReported}
+use Rattle.iim_commands.proofs.list.list.Given as goal
+
+abbrev pub invariant-listing : goal.invariant-listing
+invariant-listing g l = record {
+  alive : l.intake.failed ≡ None;
+  reported : AreReported g.P.Report.written (line g.R.Source.state l.fn.intake) (line g.R.Source.state l.intake) (g.W.Target.state l.fn.output) (g.W.Target.state l.output) l.count;
+  leads : g.R.Source.leads l.fn.intake.reader l.intake.reader;
+}
+
+abbrev pub decreases-listing : goal.decreases-listing
+decreases-listing g l = 1000000 - l.count

@@ -1,0 +1,17 @@
+use Rattle.std.proofs.Common.{◌≡◌, List, ◌++◌, length}
+use Rattle.std.specs.List.{flat_map}
+use Rattle.iim_dataset.specs.Datasets.{Dataset}
+use Rattle.iim_fields.specs.Walks.{rest_of}
+use Rattle.iim_commands.specs.Texts.{field_line}
+use Rattle.iim_commands.proofs.show.push_fields.Given as goal
+
+-- some datasets are shown
+abbrev pub invariant-loop-rec : goal.invariant-loop-rec
+invariant-loop-rec l = record {
+  done : List Dataset;
+  parts : l.fn.envelope ≡ done ++ rest_of l.fields;
+  shown : l.text.items ≡ l.fn.text.items ++ flat_map field_line done;
+}
+
+abbrev pub decreases-loop-rec : goal.decreases-loop-rec
+decreases-loop-rec l = length (rest_of l.fields)

@@ -1,0 +1,16 @@
+use Rattle.std.proofs.Common.{◌≡◌, ◌-◌, None}
+use Rattle.iim_unpack.specs.Intakes.{line}
+use Rattle.wire_story.specs.Writing.{device_of, stops_of}
+use Rattle.iim_commands.proofs.Narration.{AreNarrated}
+use Rattle.iim_commands.proofs.story.narrate.Given as goal
+
+abbrev pub invariant-telling : goal.invariant-telling
+invariant-telling g l = record {
+  alive : l.intake.failed ≡ None;
+  unbroken : stops_of l.output ≡ 0;
+  narrated : AreNarrated (line g.R.Source.state l.fn.intake) (line g.R.Source.state l.intake) (device_of g.W.Target.state l.fn.output) (device_of g.W.Target.state l.output) (g.E.Target.state l.fn.errors) (g.E.Target.state l.errors) l.count;
+  leads : g.R.Source.leads l.fn.intake.reader l.intake.reader;
+}
+
+abbrev pub decreases-telling : goal.decreases-telling
+decreases-telling g l = 1000000 - l.count

@@ -1,0 +1,51 @@
+-- What `show` writes of an envelope.
+use Rattle.std.specs.Prelude.{ℕ, List, ◌++◌, codes, decimal, Bool, true, false, Option, None, Some}
+use Rattle.std.specs.List.{flat_map}
+use Rattle.iim_dataset.specs.Datasets.{Dataset}
+use Rattle.iim_object.specs.declared.size.Sizes.{Sizes}
+use Rattle.wire_message.specs.Messages.{Header}
+use Rattle.iim_unpack.specs.Admitted.{Value}
+use Rattle.iim_commands.specs.Lines.{dataset_name}
+use Rattle.iim_commands.specs.Listings.{Envelope}
+use Rattle.iim_commands.specs.Shown.{after_space}
+
+-- the first line
+abbrev pub number_line : ℕ → List ℕ
+number_line number = codes "envelope " ++ (decimal number ++ codes "\n")
+
+-- a dataset: its name and its octets
+abbrev pub field_line : Dataset → List ℕ
+field_line d = dataset_name d.rec d.set ++ (after_space d.octets ++ codes "\n")
+
+-- the header of the message
+abbrev pub message_line : Header → List ℕ
+message_line head =
+    codes "message " ++ (head.source ++ (codes " " ++ (head.number ++ (codes " " ++ (head.priority ++ (codes " " ++ (head.category
+    ++ (codes " " ++ (head.words ++ (after_space head.info ++ codes "\n"))))))))))
+
+abbrev pub trailer_line : List ℕ → List ℕ
+trailer_line trailer = codes "trailer" ++ (after_space trailer ++ codes "\n")
+
+-- a number, or - where there is none
+abbrev pub number_or_dash : Option ℕ → List ℕ
+number_or_dash None = codes "-"
+number_or_dash (Some n) = decimal n
+
+-- the size mode: 1 where the size is known at the start
+abbrev pub mode_of : Bool → ℕ
+mode_of true = 1
+mode_of false = 0
+
+abbrev pub sizes_line : Sizes → List ℕ
+sizes_line s =
+    codes "object " ++ (decimal s.total ++ (codes " octets, " ++ (decimal s.subfiles ++ (codes " subfiles, mode " ++ (decimal (mode_of s.known)
+    ++ (codes ", limit " ++ (decimal s.subfile ++ (codes ", announced " ++ (number_or_dash s.announced ++ (codes ", maximum "
+    ++ (number_or_dash s.maximum ++ codes "\n")))))))))))
+
+-- all that is shown of an envelope with this number
+abbrev pub shown_text : ℕ → Value → List ℕ
+shown_text number v =
+    number_line number ++ (flat_map field_line v.fields ++ (message_line v.head ++ (trailer_line v.trailer ++ sizes_line v.sizes)))
+
+abbrev pub shown_of : ℕ → Envelope → List ℕ
+shown_of number e = shown_text number e.value

@@ -1,0 +1,77 @@
+//! What comes next of an input.
+
+ghost use Rattle.std.specs.Prelude.{◌≡◌, [], None, IfOk};
+ghost use Rattle.iim_unpack.specs.Unpacking.{Stands, limits_in};
+ghost use Rattle.iim_commands.specs.Listings.{limits};
+ghost use Rattle.iim_unpack.specs.Intakes.{line};
+ghost use Rattle.iim_commands.specs.Coming.{IsNext, IsCalm, CanGoOn};
+
+use crate::fault::Fault;
+use iim_dataset::Source;
+use iim_fields::Limits;
+use iim_unpack::{Cause, Intake, IntakeFault, Refusal, Unpacked, Unpacker};
+use std::alloc::{AllocError, Global};
+use wire_story::StorySink;
+
+/// The most envelopes that one run lists.
+pub const MAX_ENVELOPES: u64 = 1_000_000;
+
+/// What the records 1 and 2 of an envelope may have.
+pub const LIMITS: Limits = Limits {
+    octets: 65_536,
+    fields: 512,
+};
+
+/// What an input has next.
+#[derive(Drop)]
+pub enum Next {
+    /// An envelope, and how many octets it has.
+    Envelope(Unpacked, u64),
+    /// Nothing.
+    End,
+    /// Octets that are refused.
+    Refused(Refusal),
+}
+
+/// An unpacker of the next envelope, with the memory of one that is no longer wanted, if there is one.
+fn next_unpacker(alloc: Global, spare: Option<Unpacked>) -> Result<Unpacker, AllocError>
+    ensures stands { IfOk result (λ u. Stands u [] 0) }
+    ensures limits { IfOk result (λ u. limits_in u ≡ limits) }
+{
+    let Some(unpacked) = spare else {
+        return Unpacker::new(alloc, LIMITS);
+    };
+    match Unpacker::over(unpacked, LIMITS) {
+        Ok(unpacker) => Ok(unpacker),
+        Err(_) => Unpacker::new(alloc, LIMITS),
+    }
+}
+
+/// Takes what comes next, and tells the sink the text of it. The memory of an envelope that is no longer wanted, if there is one,
+/// serves the next.
+pub fn take_next<R: Source, S: StorySink>(
+    alloc: Global,
+    spare: Option<Unpacked>,
+    intake: &mut Intake<R>,
+    sink: &mut S,
+) -> Result<Next, Fault>
+    requires { intake.old.failed ≡ None }
+    ensures next { IsNext S.goes S.failures (line R.state intake.old) (line R.state intake.new) sink.old sink.new result }
+    ensures calm { IsCalm (S.failures sink.old) (S.failures sink.new) result }
+    ensures lives { CanGoOn intake.new.failed result }
+    ensures leads { R.leads intake.old.reader intake.new.reader }
+{
+    let unpacker = next_unpacker(alloc, spare)?;
+    match intake.next_envelope(unpacker, sink) {
+        Ok(Some(got)) => Ok(Next::Envelope(got, intake.octets())),
+        Ok(None) => Ok(Next::End),
+        Err(IntakeFault::Refused(refusal)) => {
+            if refusal.cause == Cause::Sink {
+                return Err(Fault::CannotWrite);
+            }
+            Ok(Next::Refused(refusal))
+        }
+        Err(IntakeFault::Read) => Err(Fault::CannotRead),
+        Err(IntakeFault::Interrupted) => Err(Fault::CannotRead),
+    }
+}

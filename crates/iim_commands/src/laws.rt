@@ -1,0 +1,37 @@
+//! What holds of all inputs.
+
+ghost use Rattle.iim_commands.specs.Listings.{InputsHaveOneListing, ListingsAreLongest};
+ghost use Rattle.iim_commands.specs.Narration.{EnvelopesAreDeliveredAsLines};
+
+use iim_dataset::{events_tell_the_datasets, octets_are_handed_on_one_way};
+use iim_unpack::{
+    admitted_octets_are_framed, admitted_octets_have_one_value, no_admitted_octets_begin_others,
+    no_envelope_is_empty, open_octets_are_bounded, refused_octets_were_open,
+    streams_have_one_answer,
+};
+use wire_message::texts_stand_between_stx_and_etx;
+use wire_story::texts_are_delivered_as_lines;
+
+/// An input has one listing, its envelopes and what stands after them; and no longer list of envelopes begins the input.
+pub fn inputs_have_one_listing()
+    ensures one { InputsHaveOneListing }
+    ensures longest { ListingsAreLongest }
+{
+    admitted_octets_have_one_value();
+    no_admitted_octets_begin_others();
+    admitted_octets_are_framed();
+    no_envelope_is_empty();
+    streams_have_one_answer();
+    refused_octets_were_open();
+    open_octets_are_bounded();
+}
+
+/// What is delivered of the text in an envelope is its lines.
+pub fn envelopes_are_delivered_as_lines()
+    ensures { EnvelopesAreDeliveredAsLines }
+{
+    octets_are_handed_on_one_way();
+    events_tell_the_datasets();
+    texts_stand_between_stx_and_etx();
+    texts_are_delivered_as_lines();
+}

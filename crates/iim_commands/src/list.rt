@@ -1,0 +1,70 @@
+//! Reports of inputs: a text for each envelope, and a last line.
+
+ghost use Rattle.std.specs.Prelude.{◌≡◌, ℕ, List, length, None, IfOk, IfErr};
+ghost use Rattle.iim_unpack.specs.Intakes.{line};
+ghost use Rattle.iim_unpack.specs.Value.{HasParts};
+ghost use Rattle.iim_commands.specs.Listings.{Envelope, told};
+ghost use Rattle.iim_commands.specs.Reports.{Reported, IsUnreported};
+
+use crate::coming::{MAX_ENVELOPES, Next, take_next};
+use crate::fault::Fault;
+use crate::report::{TOO_MANY, refused_line, say};
+use crate::status::{ACCEPTED, REFUSED};
+use iim_dataset::{Source, Target, gifts_join, texts_join};
+use iim_unpack::{Intake, Unpacked};
+use std::alloc::{AllocError, Global};
+use wire_story::Discard;
+
+/// What a command writes of each envelope.
+pub trait Report {
+    /// The text of the envelope with this number.
+    ghost written: { ℕ → Envelope → List ℕ };
+
+    /// The text of an envelope with this number, which has so many octets.
+    fn text(
+        &self,
+        alloc: Global,
+        number: u64,
+        octets: u64,
+        got: &Unpacked,
+    ) -> Result<Vec<u8>, AllocError>
+        ensures { (e : Envelope) → octets ≡ told (length e.octets) → HasParts got.now e.value → IfOk result (λ text. text.items ≡ written number e) };
+}
+
+/// Reports an input: each envelope, up to the end, to octets that are refused or to one envelope too many.
+pub fn list<P: Report, R: Source, W: Target>(
+    alloc: Global,
+    texts: &P,
+    intake: &mut Intake<R>,
+    output: &mut W,
+) -> Result<u8, Fault>
+    requires { intake.old.failed ≡ None }
+    ensures ok { IfOk result (Reported P.written (line R.state intake.old) (line R.state intake.new) (W.state output.old) (W.state output.new)) }
+    ensures err { IfErr result (IsUnreported P.written (line R.state intake.old) (line R.state intake.new) (W.state output.old) (W.state output.new)) }
+    ensures leads { R.leads intake.old.reader intake.new.reader }
+{
+    gifts_join();
+    texts_join();
+    let mut count = 0;
+    let mut spare = None;
+    'listing: loop {
+        match take_next(alloc, spare.take(), intake, &mut Discard)? {
+            Next::Envelope(got, octets) => {
+                if count == MAX_ENVELOPES {
+                    say(output, TOO_MANY.as_bytes())?;
+                    return Ok(REFUSED);
+                }
+                let text = texts.text(alloc, count + 1, octets, &got)?;
+                say(output, text.as_slice())?;
+                count += 1;
+                spare = Some(got);
+            }
+            Next::End => return Ok(ACCEPTED),
+            Next::Refused(refusal) => {
+                let line = refused_line(alloc, count + 1, refusal)?;
+                say(output, line.as_bytes())?;
+                return Ok(REFUSED);
+            }
+        }
+    }
+}

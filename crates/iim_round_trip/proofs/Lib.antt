@@ -1,0 +1,4 @@
+pub mod Packed
+pub mod RoundTrip
+pub mod Given
+pub mod Stories

@@ -1,0 +1,10 @@
+//! What is packed, unpacked again: it comes back.
+//!
+//! Stands on `iim_pack` and `iim_unpack`, and on `iim_tables`, `iim_dataset`, `iim_fields`, `iim_object`, `wire_story` and
+//! `wire_message` for their types, sinks and definitions. Nothing stands on it.
+#![tactic(auto)]
+
+pub mod laws;
+mod unpacking;
+
+pub use unpacking::{Story, StoryFault, unpack_packed, unpack_story};

@@ -1,5 +1,0 @@
-use Rattle.iimwire.proofs.Packed.{found}
-use Rattle.iimwire.proofs.laws.packed_envelopes_are_found.Goals as goal
-
-pub returns : goal.returns
-returns c = found c.packed_octets_are_admitted.ensures c.admitted_octets_have_one_value.ensures c.no_admitted_octets_begin_others.ensures

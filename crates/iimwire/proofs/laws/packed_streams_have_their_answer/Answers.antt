@@ -1,5 +1,0 @@
-use Rattle.iimwire.proofs.RoundTrip.{answered}
-use Rattle.iimwire.proofs.laws.packed_streams_have_their_answer.Goals as goal
-
-pub returns : goal.returns
-returns c = answered c.packed_octets_are_within.ensures c.streams_have_one_answer.ensures
