@@ -4,8 +4,8 @@ use Rattle.std.specs.Option.{option_or}
 use Rattle.iim_dataset.specs.Datasets.{Dataset, head_of}
 use Rattle.iim_fields.specs.Records.{IsGoodRecord, occurs}
 use Rattle.iim_fields.specs.Faults.{joined, first_fault, value_fault, missing_fault, missing_of, of_record, is_kept, kept, fault_on}
-use Rattle.iim_fields.specs.Stores.{Holds}
-use Rattle.iim_fields.specs.Standing.{StandsBehind}
+use Rattle.iim_fields.specs.Stores.{Holds, Room}
+use Rattle.iim_fields.specs.Standing.{StandsBehind, room_of}
 use Rattle.iim_fields.specs.declared.limits.Limits.{Limits}
 use Rattle.iim_fields.specs.declared.store.Entry.{Entry}
 use Rattle.iim_fields.specs.declared.store.Store.{Store}
@@ -23,14 +23,15 @@ fields_from from (e ∷ es) xs =
 abbrev pub fields_of : Store → List Dataset
 fields_of store = fields_from 0 store.entries.items store.octets.items
 
--- A builder is seen as its limits and the datasets so far.
+-- A builder is seen as its limits, the datasets so far, and what it has room for.
 pub record Building : Type 0 where
   pub limits : Limits
   pub fields : List Dataset
+  pub room : Room
 
 -- what a builder has whose datasets so far this checker has kept
 abbrev pub building_of : Checker → Building
-building_of checker = record { limits = checker.limits; fields = fields_of checker.store }
+building_of checker = record { limits = checker.limits; fields = fields_of checker.store; room = room_of checker }
 
 -- the builder's checker stands behind the datasets that are kept, and there are no others
 pub record IsBuilding (checker : Checker) : Type 0 where

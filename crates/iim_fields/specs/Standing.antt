@@ -12,7 +12,7 @@ use Rattle.iim_fields.specs.Causes.{IsFault}
 use Rattle.iim_fields.specs.Causes.Token.{AtHead, AtValue}
 use Rattle.iim_fields.specs.Values.{data_of}
 use Rattle.iim_fields.specs.Orders.{Tells, Takes}
-use Rattle.iim_fields.specs.Stores.{Holds}
+use Rattle.iim_fields.specs.Stores.{Holds, Room, store_room}
 use Rattle.iim_fields.specs.declared.limits.Limits.{Limits}
 use Rattle.iim_fields.specs.declared.fault.FieldFault.{FieldFault}
 use Rattle.iim_fields.specs.declared.checker.Checker.{Checker}
@@ -22,6 +22,14 @@ use Rattle.iim_fields.specs.declared.checker.Phase.TheVariants as phases
 -- the limits under which it reads
 abbrev pub limits_of : Checker → Limits
 limits_of checker = checker.limits
+
+-- what its store has room for
+abbrev pub room_of : Checker → Room
+room_of checker = store_room checker.store
+
+-- The room that limits ask for: for their octets and a size behind them, and for their fields.
+abbrev pub room_for : Limits → Room
+room_for limits = record { octets = limits.octets + size_octets; entries = limits.fields }
 
 -- Something was refused.
 abbrev pub IsFailed : Checker → Type 0
@@ -141,7 +149,7 @@ pub record Gives (old : Checker) (begun : Begun) (xs : List ℕ) (new : Checker)
   pub octets : new.store.octets.items ≡ old.store.octets.items ++ xs
   pub entries : new.store.entries ≡ old.store.entries
   pub len : vec_len new.store.octets ≡ vec_len old.store.octets + length xs
-  pub capacity : vec_capacity old.store.octets ≤ vec_capacity new.store.octets
+  pub capacity : vec_capacity new.store.octets ≡ vec_capacity old.store.octets
 
 -- The last record has ended.
 abbrev pub IsEnded : Checker → Type 0

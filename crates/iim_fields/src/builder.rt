@@ -2,6 +2,7 @@
 
 ghost use Rattle.std.specs.Prelude.{◌≡◌, [], ◌∷◌, ◌++◌, Some, None, IfOk, IfErr, OnOk, OnErr};
 ghost use Rattle.iim_fields.specs.Builders.{add_fault, finish_fault};
+ghost use Rattle.iim_fields.specs.Standing.{room_for};
 
 use crate::checker::Checker;
 use crate::envelope::Envelope;
@@ -14,7 +15,8 @@ use iim_tables::each_row_has_values;
 use std::alloc::{AllocError, Global};
 use std::marker::Model;
 
-/// The datasets so far of an envelope that is built. It is seen as its limits and the list of them.
+/// The datasets so far of an envelope that is built. It is seen as its limits, the list of them, and what it has room for,
+/// which stays as it was made.
 #[derive(Drop)]
 pub struct EnvelopeBuilder {
     checker: Checker,
@@ -31,9 +33,10 @@ impl Model for EnvelopeBuilder {
 }
 
 impl EnvelopeBuilder {
-    /// No datasets, with memory for all that the limits allow: no later call takes any. An error says that memory was refused.
+    /// No datasets, with memory for just what the limits allow, and a size: no later call takes any. An error says that memory
+    /// was refused.
     pub fn new(alloc: Global, limits: Limits) -> Result<EnvelopeBuilder, AllocError>
-        ensures empty { IfOk result (λ builder. builder ≡ record { limits = limits; fields = [] }) }
+        ensures empty { IfOk result (λ builder. builder ≡ record { limits = limits; fields = []; room = room_for limits }) }
     {
         let checker = Checker::new(alloc, limits)?;
         Ok(EnvelopeBuilder { checker })

@@ -7,6 +7,7 @@ ghost use Rattle.iim_tables.specs.Numbers.{size_octets};
 ghost use Rattle.iim_tables.specs.Rows.{row_of};
 ghost use Rattle.iim_fields.specs.Faults.{head_fault, room_fault, value_fault, is_kept};
 ghost use Rattle.iim_fields.specs.Orders.{has_seen, end_fault};
+ghost use Rattle.iim_fields.specs.Stores.{store_room};
 ghost use Rattle.iim_fields.specs.Values.{number_told, data_of};
 ghost use Rattle.std.specs.Option.{option_or};
 
@@ -74,7 +75,7 @@ fn room(limits: Limits) -> (usize, usize)
 }
 
 impl Checker {
-    ghost use Rattle.iim_fields.specs.Standing.{limits_of, IsFailed, IsBetween, IsEnded, IsInside, CanTake, CanClose, StandsBehind, StandsIn, Enters, Gives, IsHeadFault, IsValueFault, IsOf, Settles, begun_data};
+    ghost use Rattle.iim_fields.specs.Standing.{limits_of, room_of, room_for, IsFailed, IsBetween, IsEnded, IsInside, CanTake, CanClose, StandsBehind, StandsIn, Enters, Gives, IsHeadFault, IsValueFault, IsOf, Settles, begun_data};
 
     /// At the beginning of an envelope, with a store that has nothing in it, and room for all that the limits allow.
     fn starting(store: Store, limits: Limits) -> Checker
@@ -84,6 +85,7 @@ impl Checker {
         requires entries_room { limits.fields ≤ vec_capacity store.entries }
         ensures stands { StandsBehind result [] }
         ensures limits { limits_of result ≡ limits }
+        ensures room { room_of result ≡ store_room store }
     {
         each_row_has_values();
         Checker {
@@ -98,6 +100,7 @@ impl Checker {
     pub(crate) fn new(alloc: Global, limits: Limits) -> Result<Checker, AllocError>
         ensures stands { IfOk result (λ checker. StandsBehind checker []) }
         ensures limits { IfOk result (λ checker. limits_of checker ≡ limits) }
+        ensures room { IfOk result (λ checker. room_of checker ≡ room_for limits) }
     {
         let (octets, entries) = room(limits);
         let store = Store::new(alloc, octets, entries)?;
@@ -108,6 +111,7 @@ impl Checker {
     pub(crate) fn over(store: Store, limits: Limits) -> Result<Checker, Store>
         ensures stands { IfOk result (λ checker. StandsBehind checker []) }
         ensures limits { IfOk result (λ checker. limits_of checker ≡ limits) }
+        ensures room { IfOk result (λ checker. room_of checker ≡ store_room store) }
         ensures handed_back { IfErr result (λ same. same ≡ store) }
     {
         let (octets, entries) = room(limits);
@@ -178,6 +182,7 @@ impl Checker {
         ensures failed { OnErr result (IsFailed self.new) }
         ensures fault { IfErr result (λ fault. (ds : List Dataset) → StandsBehind self.old ds → IsHeadFault (limits_of self.old) ds head fault) }
         ensures limits { limits_of self.new ≡ limits_of self.old }
+        ensures room { room_of self.new ≡ room_of self.old }
     {
         each_row_has_values();
         match self.check(head) {
@@ -198,6 +203,7 @@ impl Checker {
         ensures inside { (h : HeadValue) (n : ℕ) → IsInside self.old h n → IsInside self.new h (n - length octets.now) }
         ensures stands { (ds : List Dataset) (h : HeadValue) (taken : List ℕ) → StandsIn self.old ds h taken → StandsIn self.new ds h (taken ++ octets.now) }
         ensures limits { limits_of self.new ≡ limits_of self.old }
+        ensures room { room_of self.new ≡ room_of self.old }
     {
         let Phase::Inside(begun) = self.phase else {
             unreachable!()
@@ -245,6 +251,7 @@ impl Checker {
         ensures fault { IfErr result (λ fault. (ds : List Dataset) (h : HeadValue) (taken : List ℕ) → StandsIn self.old ds h taken
             → IsValueFault ds (data_of h taken) fault) }
         ensures limits { limits_of self.new ≡ limits_of self.old }
+        ensures room { room_of self.new ≡ room_of self.old }
     {
         each_row_has_values();
         let Phase::Inside(begun) = self.phase else {
@@ -286,6 +293,7 @@ impl Checker {
         requires room { room_fault self.old.limits (vec_len self.old.store.octets) (vec_len self.old.store.entries) head ≡ None }
         requires value { value_fault (data_of head octets.now) ≡ None }
         ensures limits { limits_of self.new ≡ limits_of self.old }
+        ensures room { room_of self.new ≡ room_of self.old }
         ensures stands { (ds : List Dataset) → StandsBehind self.old ds → StandsBehind self.new (ds ++ data_of head octets.now ∷ []) }
     {
         each_row_has_values();

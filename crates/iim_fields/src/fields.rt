@@ -15,8 +15,8 @@ use iim_dataset::Head;
 use std::alloc::{AllocError, Global};
 use std::marker::Model;
 
-/// A reader of the datasets of an envelope: it checks them one by one, and keeps those of records 1 and 2. Contracts see it as
-/// the checker in it.
+/// A reader of the datasets of an envelope: it checks them one by one, and keeps those of records 1 and 2. What it has room for
+/// stays as it was made (`room`). Contracts see it as the checker in it.
 #[derive(Drop)]
 pub struct Fields {
     checker: Checker,
@@ -34,13 +34,14 @@ impl Model for Fields {
 }
 
 impl Fields {
-    ghost use Rattle.iim_fields.specs.Standing.{limits_of, IsFailed, IsBetween, IsInside, CanTake, CanClose, StandsBehind, StandsIn, IsHeadFault, IsValueFault, IsOf, IsEnded};
+    ghost use Rattle.iim_fields.specs.Standing.{limits_of, room_of, room_for, IsFailed, IsBetween, IsInside, CanTake, CanClose, StandsBehind, StandsIn, IsHeadFault, IsValueFault, IsOf, IsEnded};
 
-    /// At the beginning of an envelope, with memory for all that the limits allow: no later call takes any. An error says
-    /// that memory was refused.
+    /// At the beginning of an envelope, with memory for just what the limits allow, and a size: no later call takes any. An
+    /// error says that memory was refused.
     pub fn new(alloc: Global, limits: Limits) -> Result<Fields, AllocError>
         ensures stands { IfOk result (λ fields. StandsBehind fields []) }
         ensures limits { IfOk result (λ fields. limits_of fields ≡ limits) }
+        ensures room { IfOk result (λ fields. room_of fields ≡ room_for limits) }
     {
         let checker = Checker::new(alloc, limits)?;
         Ok(Fields { checker })
@@ -82,6 +83,7 @@ impl Fields {
         ensures failed { OnErr result (IsFailed self.new) }
         ensures fault { IfErr result (λ fault. (ds : List Dataset) → StandsBehind self.old ds → IsHeadFault (limits_of self.old) ds head fault) }
         ensures limits { limits_of self.new ≡ limits_of self.old }
+        ensures room { room_of self.new ≡ room_of self.old }
     {
         self.checker.begin(head)
     }
@@ -93,6 +95,7 @@ impl Fields {
         ensures inside { (h : HeadValue) (n : ℕ) → IsInside self.old h n → IsInside self.new h (n - length octets.now) }
         ensures stands { (ds : List Dataset) (h : HeadValue) (taken : List ℕ) → StandsIn self.old ds h taken → StandsIn self.new ds h (taken ++ octets.now) }
         ensures limits { limits_of self.new ≡ limits_of self.old }
+        ensures room { room_of self.new ≡ room_of self.old }
     {
         self.checker.bytes(octets);
     }
@@ -108,6 +111,7 @@ impl Fields {
         ensures fault { IfErr result (λ fault. (ds : List Dataset) (h : HeadValue) (taken : List ℕ) → StandsIn self.old ds h taken
             → IsValueFault ds (data_of h taken) fault) }
         ensures limits { limits_of self.new ≡ limits_of self.old }
+        ensures room { room_of self.new ≡ room_of self.old }
     {
         self.checker.close()
     }

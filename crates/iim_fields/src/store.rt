@@ -1,6 +1,7 @@
 //! The kept datasets: their octets in one store, and an entry for each.
 
 ghost use Rattle.std.specs.Prelude.{◌≡◌, ◌+◌, ◌≤◌, ◌<◌, ◌++◌, ◌∷◌, [], IfOk, IfErr, length, vec_len, vec_capacity, take};
+ghost use Rattle.iim_fields.specs.Stores.{store_room};
 
 use std::alloc::{AllocError, Global};
 
@@ -21,12 +22,12 @@ pub(crate) struct Store {
 }
 
 impl Store {
-    /// Nothing, with room for so many octets and entries.
+    /// Nothing, with room for just so many octets and entries.
     pub fn new(alloc: Global, octets: usize, entries: usize) -> Result<Store, AllocError>
         ensures octets { IfOk result (λ store. store.octets.items ≡ []) }
         ensures entries { IfOk result (λ store. store.entries.items ≡ []) }
-        ensures octets_room { IfOk result (λ store. octets ≤ vec_capacity store.octets) }
-        ensures entries_room { IfOk result (λ store. entries ≤ vec_capacity store.entries) }
+        ensures octets_room { IfOk result (λ store. vec_capacity store.octets ≡ octets) }
+        ensures entries_room { IfOk result (λ store. vec_capacity store.entries ≡ entries) }
     {
         let store = Store {
             octets: Vec::with_capacity(alloc, octets)?,
@@ -41,6 +42,7 @@ impl Store {
         ensures entries { IfOk result (λ store. store.entries.items ≡ []) }
         ensures octets_room { IfOk result (λ store. octets ≤ vec_capacity store.octets) }
         ensures entries_room { IfOk result (λ store. entries ≤ vec_capacity store.entries) }
+        ensures room { IfOk result (λ store. store_room store ≡ store_room self) }
         ensures handed_back { IfErr result (λ store. store ≡ self) }
     {
         if self.octets.capacity() < octets || self.entries.capacity() < entries {
@@ -52,15 +54,17 @@ impl Store {
         Ok(store)
     }
 
-    /// Takes octets of the begun dataset.
+    /// Takes octets of the begun dataset, one by one into the room that there is.
     pub fn take(&mut self, octets: &[u8])
         requires { vec_len self.old.octets + length octets.now ≤ vec_capacity self.old.octets }
         ensures octets { self.new.octets.items ≡ self.old.octets.items ++ octets.now }
         ensures entries { self.new.entries ≡ self.old.entries }
         ensures len { vec_len self.new.octets ≡ vec_len self.old.octets + length octets.now }
-        ensures capacity { vec_capacity self.old.octets ≤ vec_capacity self.new.octets }
+        ensures capacity { vec_capacity self.new.octets ≡ vec_capacity self.old.octets }
     {
-        self.octets.extend_from_slice(octets).unwrap();
+        for &octet in octets {
+            self.octets.push_reserved(octet);
+        }
     }
 
     /// Keeps the begun dataset, whose octets are all there.

@@ -10,7 +10,8 @@ use Rattle.iim_dataset.specs.Reading.{Reader, Completes, TagDies, TakesCalls}
 use Rattle.iim_dataset.specs.declared.place.Place.{Place}
 use Rattle.iim_dataset.specs.declared.head.HeadCause.{HeadCause}
 use Rattle.iim_fields.specs.Records.{AreSections}
-use Rattle.iim_fields.specs.Standing.{limits_of}
+use Rattle.iim_fields.specs.Standing.{limits_of, room_of}
+use Rattle.iim_fields.specs.Stores.{Room}
 use Rattle.iim_fields.specs.declared.limits.Limits.{Limits}
 use Rattle.wire_story.specs.Delivery as story
 use Rattle.wire_message.specs.Layers.{text_so_far}
@@ -169,6 +170,10 @@ begins false xs = are_some xs
 
 abbrev pub limits_in : Unpacking → Limits
 limits_in u = limits_of u.parts.fields
+
+-- what its header has room for
+abbrev pub room_in : Unpacking → Room
+room_in u = room_of u.parts.fields
 
 -- The octets led the reader of tags and the parts here.
 pub record IsLed (u : Unpacking) (p : List ℕ) : Type 0 where

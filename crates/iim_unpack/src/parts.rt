@@ -3,7 +3,7 @@
 ghost use Rattle.std.specs.Prelude.{◌≡◌, ◌==◌, ◌<◌, ◌≤◌, ◌+◌, ◌-◌, ◌⊎◌, ℕ, List, [], ◌∷◌, ◌++◌, true, length, map, take, slice_index, Some, IsSome, IfOk, IfErr, OnOk};
 ghost use Rattle.iim_dataset.specs.Datasets.{Dataset};
 ghost use Rattle.iim_dataset.specs.Events.{HeadRead, DataOctet};
-ghost use Rattle.iim_fields.specs.Standing.{limits_of, IsBetween};
+ghost use Rattle.iim_fields.specs.Standing.{limits_of, room_of, IsBetween};
 ghost use Rattle.iim_object.specs.Places.{head_token, value_token};
 ghost use Rattle.iim_object.specs.Plans.{max_subfiles};
 ghost use Rattle.iim_object.specs.Reading.{GoesOn, events_at};
@@ -80,6 +80,7 @@ impl Parts {
         ensures takes { OnOk result (TakesData self.new head.count) }
         ensures went { OnOk result (Went S.goes S.failures self.old sink.old (HeadRead head ∷ []) self.new sink.new) }
         ensures stopped { IfErr result (λ fault. Stopped S.goes S.failures self.old sink.old [] (HeadRead head) (Some fault) sink.new) }
+        ensures room { room_of self.new.fields ≡ room_of self.old.fields }
     {
         head_laws();
         if let Err(fault) = self.fields.begin(head) {
@@ -110,6 +111,7 @@ impl Parts {
         ensures went { OnOk result (Went S.goes S.failures self.old sink.old (map DataOctet run.now) self.new sink.new) }
         ensures before { IfErr result (λ halt. halt.taken < length run.now) }
         ensures stopped { IfErr result (λ halt. Stopped S.goes S.failures self.old sink.old (map DataOctet (take halt.taken run.now)) (DataOctet (slice_index run.now halt.taken)) (Some halt.fault) sink.new) }
+        ensures room { room_of self.new.fields ≡ room_of self.old.fields }
     {
         message_laws();
         if self.head.rec != OBJECT {
@@ -156,6 +158,7 @@ impl Parts {
         ensures between { OnOk result (IsBetween self.new.fields) }
         ensures closed { OnOk result (Closed self.old self.new) }
         ensures refused { IfErr result (NotClosed self.old) }
+        ensures room { room_of self.new.fields ≡ room_of self.old.fields }
     {
         close_laws();
         let last = self.head.rec == POST_OBJECT;

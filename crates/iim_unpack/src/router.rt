@@ -27,11 +27,11 @@ impl<'p, 's, S: StorySink> DatasetSink for Router<'p, 's, S> {
 
     ghost ends = { IsOver };
 
-    ghost nothing = { λ a. (refl, refl, went_nothing S.goes S.failures a.parts.now a.sink.now (S.nothing a.sink.now)) };
+    ghost nothing = { λ a. (refl, refl, went_nothing S.goes S.failures a.parts.now a.sink.now (S.nothing a.sink.now), refl) };
 
-    ghost joined = { λ a b c xs ys h k. (h.0 ∙ k.0, h.1 ∙ k.1, went_joined S.goes S.failures S.joined a.parts.now b.parts.now c.parts.now a.sink.now b.sink.now c.sink.now xs ys h.2 k.2) };
+    ghost joined = { λ a b c xs ys h k. (h.0 ∙ k.0, h.1 ∙ k.1, went_joined S.goes S.failures S.joined a.parts.now b.parts.now c.parts.now a.sink.now b.sink.now c.sink.now xs ys h.2 k.2, k.3 ∙ h.3) };
 
-    ghost joined_stop = { λ a b c xs ys event h k. (h.0 ∙ k.0, h.1 ∙ k.1, stopped_joined S.goes S.failures S.joined a.parts.now b.parts.now a.sink.now b.sink.now c.sink.now xs ys event c.refused h.2 k.2) };
+    ghost joined_stop = { λ a b c xs ys event h k. (h.0 ∙ k.0, h.1 ∙ k.1, stopped_joined S.goes S.failures S.joined a.parts.now b.parts.now a.sink.now b.sink.now c.sink.now xs ys event c.refused h.2 k.2, k.3 ∙ h.3) };
 
     fn head(&mut self, head: Head) -> Result<(), Stop> {
         match self.parts.head(head, &mut *self.sink) {

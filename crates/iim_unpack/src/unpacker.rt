@@ -5,14 +5,14 @@ ghost use Rattle.iim_dataset.specs.Places.{to_come, named_by};
 ghost use Rattle.iim_dataset.specs.Reading.{TakesCalls};
 ghost use Rattle.iim_dataset.specs.declared.head.HeadCause.{HeadCause as HeadCauseValue};
 ghost use Rattle.iim_dataset.specs.declared.place.Place.{Place};
-ghost use Rattle.iim_fields.specs.Standing.{StandsBehind, limits_of};
+ghost use Rattle.iim_fields.specs.Standing.{StandsBehind, limits_of, room_of, room_for};
 ghost use Rattle.wire_story.specs.Delivery as story;
 ghost use Rattle.iim_unpack.specs.Parts.{CountsFor};
 ghost use Rattle.iim_unpack.specs.Refusals.{refusal_at};
 ghost use Rattle.iim_unpack.specs.Routing.{Takes};
 ghost use Rattle.iim_unpack.specs.Unpacking.{Advanced, FailsFor, FailsAs, IsOnward, tag_fault, raised, begins, failed_at};
 ghost use Rattle.iim_dataset.specs.Reading.{is_of};
-ghost use Rattle.iim_unpack.specs.Unpacking.{Stood, Stands, IsDoneWith, IsDone, IsRefusedIn, IsTruncatedAt, Goes, limits_in, LeftAs};
+ghost use Rattle.iim_unpack.specs.Unpacking.{Stood, Stands, IsDoneWith, IsDone, IsRefusedIn, IsTruncatedAt, Goes, limits_in, room_in, LeftAs};
 ghost use Rattle.iim_unpack.specs.Admitted.{Value, Admits};
 ghost use Rattle.iim_unpack.specs.Value.{HasParts};
 ghost use Rattle.iim_unpack.specs.declared.refusal.Refusal.{Refusal as RefusalValue};
@@ -57,6 +57,7 @@ fn feed_router<'p, 's, S: StorySink>(
     ensures onward { IfOk result (IsOnward reader.new.place router.new.parts.now (length piece.now)) }
     ensures before { IfErr result (λ fault. fault.used < length piece.now) }
     ensures fails { IfErr result (λ fault. FailsFor S.goes S.failures (is_of fault.cause) reader.old.place piece.now fault.used reader.new.place router.old.parts.now router.old.sink.now router.new.refused router.new.sink.now) }
+    ensures room { room_of router.new.parts.now.fields ≡ room_of router.old.parts.now.fields }
 {
     reader.feed(piece, router)
 }
@@ -87,6 +88,7 @@ fn advance<S: StorySink>(
     ensures onward { IfOk result (IsOnward reader.new.place parts.new (length piece.now)) }
     ensures before { IfErr result (λ halt. halt.taken < length piece.now) }
     ensures fails { IfErr result (λ halt. FailsAs S.goes S.failures reader.old.place piece.now halt.taken halt.fault parts.old sink.old sink.new) }
+    ensures room { room_of parts.new.fields ≡ room_of parts.old.fields }
 {
     let mut router = Router {
         parts,
@@ -132,7 +134,7 @@ pub struct Unpacked {
 ///
 /// It holds the data of records 1 and 2, at most `Limits.octets` octets in at most `Limits.fields` entries, and less than 256
 /// octets more: those of a begun tag (8 at most), a begun number of record 7 or 9 (4), and the header and the trailer of the
-/// message (159). [`Unpacker::new`] makes room for all of them; no other call takes memory.
+/// message (159). [`Unpacker::new`] makes room for all of them; no other call takes memory, and the room stays as it was made.
 #[derive(Drop)]
 pub struct Unpacker {
     reader: HeadReader,
@@ -193,10 +195,11 @@ fn begins(begun: bool, piece: &[u8]) -> bool
 }
 
 impl Unpacker {
-    /// An unpacker that stands on no octets, with memory for all that the limits allow: no later call takes any.
+    /// An unpacker that stands on no octets, with memory for just what the limits allow, and a size: no later call takes any.
     pub fn new(alloc: Global, limits: Limits) -> Result<Unpacker, AllocError>
         ensures stands { IfOk result (λ u. Stands u [] 0) }
         ensures limits { IfOk result (λ u. limits_in u ≡ limits) }
+        ensures room { IfOk result (λ u. room_in u ≡ room_for limits) }
     {
         Ok(Unpacker::begin(Fields::new(alloc, limits)?))
     }
@@ -230,6 +233,7 @@ impl Unpacker {
         requires { StandsBehind fields [] }
         ensures stands { Stands result [] 0 }
         ensures limits { limits_in result ≡ limits_of fields }
+        ensures room { room_in result ≡ room_of fields }
     {
         feed_laws();
         Unpacker {
@@ -313,6 +317,9 @@ impl Unpacker {
         ensures done { IsDone self.old → (result ≡ Ok (Progress.Done 0)) × LeftAs self.old sink.old self.new sink.new }
         ensures again { (octet : ℕ) → self.old.refused ≡ Some octet → (result ≡ Err (failed_at octet)) × LeftAs self.old sink.old self.new sink.new }
         ensures limits { self.old.refused ≡ None → OnOk result (limits_in self.new ≡ limits_in self.old) }
+
+        // Whatever it answers, the header has the room that it had: no memory is taken.
+        ensures room { room_in self.new ≡ room_in self.old }
     {
         if let Some(octet) = self.refused {
             return Err(failed_at(octet));

@@ -1,6 +1,6 @@
 use Rattle.std.proofs.Common.{◌≡◌, ◌∷◌, ◌++◌, [], sym, ap, ◌∙◌, subst, Some, None}
 use Rattle.iim_dataset.specs.Datasets.{Dataset}
-use Rattle.iim_fields.specs.Builders.{Building, add_fault, fields_of}
+use Rattle.iim_fields.specs.Builders.{Building, add_fault}
 use Rattle.iim_fields.proofs.Build.{fields_more, building_more, add_fault_is, none_of_three}
 use Rattle.iim_fields.proofs.builder.EnvelopeBuilder.add.Goals as goal
 
@@ -20,8 +20,7 @@ pub returns-in-Ok-clause-added : goal.returns-in-Ok-clause-added
 returns-in-Ok-clause-added c =
     let d : Dataset = record { rec = c.args.rec; set = c.args.set; octets = c.args.octets.now } in
     let more = fields_more c.self.inside.checker c.place.new.self d c.self.invariant (sym c.is_kept.ensures ∙ c.if-not-is_kept.false) c.place.ensures.stands in
-    let here : Building = record { limits = c.self.inside.checker.limits; fields = fields_of c.self.inside.checker.store } in
-    (λ i. record { limits = c.place.ensures.limits i; fields = more i }) ∙ ap (λ (b : Building). record b { fields = b.fields ++ d ∷ [] }) c.self.view_is
+    (λ i. record { limits = c.place.ensures.limits i; fields = more i; room = c.place.ensures.room i }) ∙ ap (λ (b : Building). record b { fields = b.fields ++ d ∷ [] }) c.self.view_is
 
 pub returns-in-Err-clause-fault : goal.returns-in-Err-clause-fault
 returns-in-Err-clause-fault c =
