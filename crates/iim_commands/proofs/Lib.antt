@@ -5,3 +5,4 @@ pub mod Told
 pub mod Listings
 pub mod Narration
 pub mod Packings
+pub mod Scripts

@@ -9,3 +9,4 @@ pub mod Narration
 pub mod Audits
 pub mod Packing
 pub mod PackSteps
+pub mod Scripts

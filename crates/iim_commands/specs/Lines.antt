@@ -1,19 +1,10 @@
 -- The lines of the commands.
-use Rattle.std.specs.Prelude.{ℕ, ◌+◌, length, if◌then◌else◌, nat_lt, List, [], ◌∷◌, ◌++◌, codes, decimal}
-use Rattle.iim_unpack.specs.Names.{layer_name, cause_number, cause_name}
-use Rattle.iim_unpack.specs.declared.refusal.Cause.{Cause}
+use Rattle.std.specs.Prelude.{ℕ, ◌+◌, length, List, [], ◌∷◌, ◌++◌, codes, decimal}
+use Rattle.iim_unpack.specs.Names.{refusal_text}
 use Rattle.iim_unpack.specs.declared.refusal.Refusal.{Refusal}
 use Rattle.iim_commands.specs.declared.fault.Fault.{Fault}
 use Rattle.iim_commands.specs.declared.fault.Fault.TheVariants.{CannotRead, CannotWrite, OutOfMemory}
 use Rattle.iim_commands.specs.Listings.{Ending, Envelope, Whole, RefusedBy, TooMany, told}
-
--- a 0 before a number of one digit
-abbrev pub padding : ℕ → List ℕ
-padding n = if nat_lt n 10 then codes "0" else []
-
--- a dataset's name: its record, and its number with two digits at least, as 1:00 or 2:105
-abbrev pub dataset_name : ℕ → ℕ → List ℕ
-dataset_name rec set = decimal rec ++ (codes ":" ++ (padding set ++ decimal set))
 
 -- the line of an accepted envelope: its number, and how many octets it has
 abbrev pub accepted_line : ℕ → ℕ → List ℕ
@@ -23,15 +14,9 @@ accepted_line number used = decimal number ++ (codes " accepted " ++ (decimal us
 abbrev pub line_of : ℕ → Envelope → List ℕ
 line_of number e = accepted_line number (told (length e.octets))
 
--- a cause's number and name
-abbrev pub cause_text : Cause → List ℕ
-cause_text cause = decimal (cause_number cause) ++ (codes " " ++ cause_name cause)
-
--- the line of octets that are refused: its number, the octet, the layer, the dataset, and the cause
+-- the line of octets that are refused: its number, and the octet, the layer, the dataset and the cause
 abbrev pub refused_line : ℕ → Refusal → List ℕ
-refused_line number e =
-    decimal number ++ (codes " refused at octet " ++ (decimal e.octet ++ (codes " by layer " ++ (layer_name e.layer ++ (codes " on "
-    ++ (dataset_name e.rec e.set ++ (codes ", cause " ++ (cause_text e.cause ++ codes "\n"))))))))
+refused_line number e = decimal number ++ (codes " " ++ (refusal_text e ++ codes "\n"))
 
 -- the line in place of that of one envelope too many
 abbrev pub too_many_line : List ℕ

@@ -1,30 +1,14 @@
 -- What `show` writes of an envelope.
 use Rattle.std.specs.Prelude.{ℕ, List, ◌++◌, codes, decimal, Bool, true, false, Option, None, Some}
 use Rattle.std.specs.List.{flat_map}
-use Rattle.iim_dataset.specs.Datasets.{Dataset}
 use Rattle.iim_object.specs.declared.size.Sizes.{Sizes}
-use Rattle.wire_message.specs.Messages.{Header}
 use Rattle.iim_unpack.specs.Admitted.{Value}
-use Rattle.iim_commands.specs.Lines.{dataset_name}
+use Rattle.iim_script.specs.Printed.{field_line, message_line, trailer_line}
 use Rattle.iim_commands.specs.Listings.{Envelope}
-use Rattle.iim_commands.specs.Shown.{after_space}
 
 -- the first line
 abbrev pub number_line : ℕ → List ℕ
 number_line number = codes "envelope " ++ (decimal number ++ codes "\n")
-
--- a dataset: its name and its octets
-abbrev pub field_line : Dataset → List ℕ
-field_line d = dataset_name d.rec d.set ++ (after_space d.octets ++ codes "\n")
-
--- the header of the message
-abbrev pub message_line : Header → List ℕ
-message_line head =
-    codes "message " ++ (head.source ++ (codes " " ++ (head.number ++ (codes " " ++ (head.priority ++ (codes " " ++ (head.category
-    ++ (codes " " ++ (head.words ++ (after_space head.info ++ codes "\n"))))))))))
-
-abbrev pub trailer_line : List ℕ → List ℕ
-trailer_line trailer = codes "trailer" ++ (after_space trailer ++ codes "\n")
 
 -- a number, or - where there is none
 abbrev pub number_or_dash : Option ℕ → List ℕ

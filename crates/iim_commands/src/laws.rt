@@ -2,8 +2,10 @@
 
 ghost use Rattle.iim_commands.specs.Listings.{InputsHaveOneListing, ListingsAreLongest};
 ghost use Rattle.iim_commands.specs.Narration.{EnvelopesAreDeliveredAsLines};
+ghost use Rattle.iim_commands.specs.Scripts.{ShownEnvelopesAreScripts};
 
 use iim_dataset::{events_tell_the_datasets, octets_are_handed_on_one_way};
+use iim_script::{printed_values_are_scripts, scripts_have_no_fault, scripts_tell_one_thing};
 use iim_unpack::{
     admitted_octets_are_framed, admitted_octets_have_one_value, no_admitted_octets_begin_others,
     no_envelope_is_empty, open_octets_are_bounded, refused_octets_were_open,
@@ -34,4 +36,14 @@ pub fn envelopes_are_delivered_as_lines()
     events_tell_the_datasets();
     texts_stand_between_stx_and_etx();
     texts_are_delivered_as_lines();
+}
+
+/// What `show` prints of an envelope between its first line and its last, the line `text`, and what `story` prints of it are a
+/// script that tells just the values of the envelope, where they aren't too long for one.
+pub fn shown_envelopes_are_scripts()
+    ensures { ShownEnvelopesAreScripts }
+{
+    printed_values_are_scripts();
+    scripts_tell_one_thing();
+    scripts_have_no_fault();
 }

@@ -2,12 +2,11 @@
 
 ghost use Rattle.std.specs.Prelude.{◌≡◌, ◌++◌, ◌∷◌, OnOk, Some, string_bytes, IfOk, codes, decimal};
 ghost use Rattle.iim_dataset.specs.Datasets.{Dataset};
-ghost use Rattle.iim_commands.specs.Shown.{after_space};
-ghost use Rattle.iim_commands.specs.Texts.{field_line, message_line, mode_of, number_line, number_or_dash, shown_of, sizes_line, trailer_line};
+ghost use Rattle.iim_script.specs.Printed.{after_space, dataset_name, field_line, message_line, padding, trailer_line};
+ghost use Rattle.iim_commands.specs.Texts.{mode_of, number_line, number_or_dash, shown_of, sizes_line};
 ghost use Rattle.std.specs.List.{flat_map};
 
 use crate::list::Report;
-use crate::report::DatasetName;
 use crate::shown::push_after_space;
 use iim_fields::Envelope;
 use iim_object::Sizes;
@@ -37,6 +36,31 @@ impl Report for Show {
         push_trailer(&mut text, got.trailer.as_slice())?;
         push_sizes(alloc, &mut text, got.sizes)?;
         Ok(text)
+    }
+}
+
+/// What stands before a number of one digit.
+fn padding(number: u8) -> &'static str
+    ensures { result.now ≡ padding number }
+{
+    if number < 10 { "0" } else { "" }
+}
+
+/// A dataset's name, as `1:00` or `2:105`.
+#[derive(Clone, Copy)]
+struct DatasetName {
+    rec: u8,
+    set: u8,
+}
+
+impl Display for DatasetName {
+    ghost output = { λ n. Some (dataset_name n.rec n.set) };
+
+    fn fmt<W: fmt::Write>(&self, f: &mut Formatter<W>) -> fmt::Result {
+        let rec = self.rec;
+        let zero = padding(self.set);
+        let set = self.set;
+        write!(f, "{rec}:{zero}{set}")
     }
 }
 

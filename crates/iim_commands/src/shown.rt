@@ -1,7 +1,8 @@
 //! Octets as text that can be printed.
 
 ghost use Rattle.std.specs.Prelude.{◌≡◌, ◌++◌, ◌<◌, OnOk};
-ghost use Rattle.iim_commands.specs.Shown.{after_space, escape, hex_digit, is_plain, shown, shown_name};
+ghost use Rattle.iim_script.specs.Printed.{after_space, escape, hex_digit, is_plain, shown};
+ghost use Rattle.iim_commands.specs.Shown.{shown_name};
 
 use std::alloc::AllocError;
 

@@ -6,5 +6,8 @@ pub mod Next
 pub mod Fronts
 pub mod Stories
 pub mod Once
+pub mod Printing
+pub mod Taking
+pub mod Whole
 pub mod Runs
 pub mod Single

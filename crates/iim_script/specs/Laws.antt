@@ -1,11 +1,17 @@
 -- What holds of all lines of scripts, and of all scripts.
-use Rattle.std.specs.Prelude.{◌≡◌, ◌⊎◌, ℕ, List}
+use Rattle.std.specs.Prelude.{◌≡◌, ◌⊎◌, ℕ, ◌+◌, ◌<◌, ◌≤◌, List, length}
+use Rattle.std.specs.List.{AllByRecursion}
 use Rattle.iim_dataset.specs.Datasets.{Dataset}
+use Rattle.iim_fields.specs.Builders.{IsEnvelope}
+use Rattle.iim_fields.specs.Faults.{joined}
+use Rattle.iim_fields.specs.Standing.{IsWithin}
 use Rattle.iim_fields.specs.declared.limits.Limits.{Limits}
-use Rattle.wire_message.specs.Messages.{Header}
+use Rattle.wire_message.specs.Messages.{Header, IsHeader, IsTrailer}
+use Rattle.wire_story.specs.Texts.{IsLine}
 use Rattle.iim_script.specs.Lines.{NextLine}
 use Rattle.iim_script.specs.Forms.{TellsField, TellsHead, TellsTrailer, text_word}
-use Rattle.iim_script.specs.Scripts.{IsScript}
+use Rattle.iim_script.specs.Printed.{PrintsStory, script_of}
+use Rattle.iim_script.specs.Scripts.{IsScript, max_script}
 use Rattle.iim_script.specs.Faults.{IsScriptFault}
 use Rattle.iim_script.specs.declared.fault.ScriptCause.{ScriptCause}
 use Rattle.iim_script.specs.declared.fault.ScriptCause.TheVariants.{OutOfMemory}
@@ -49,3 +55,11 @@ ScriptsHaveNoFault = (limits : Limits) (octets : List ℕ) (fields : List Datase
 abbrev pub OctetsHaveOneFault : Type 0
 OctetsHaveOneFault = (limits : Limits) (octets : List ℕ) (n m : ℕ) (a b : ScriptCause) → IsScriptFault limits octets n a → IsScriptFault limits octets m b
     → (a ≡ OutOfMemory) ⊎ ((b ≡ OutOfMemory) ⊎ ((n ≡ m) × (a ≡ b)))
+
+-- What is printed of the datasets of an envelope, within the limits, of a header, a trailer and the lines of a story, is a script that
+-- tells them, where it is not too long.
+abbrev pub PrintedValuesAreScripts : Type 0
+PrintedValuesAreScripts = (limits : Limits) (fields : List Dataset) (head : Header) (trailer : List ℕ) (lines : List (List ℕ)) (story : List ℕ)
+    → IsEnvelope fields → IsWithin limits (length (joined fields)) (length fields) → IsHeader head → IsTrailer trailer
+    → 0 < length lines → AllByRecursion IsLine lines → PrintsStory story lines → length (script_of fields head trailer story) ≤ max_script
+    → IsScript limits (script_of fields head trailer story) fields head trailer lines (length fields + 3)

@@ -2,6 +2,7 @@ pub mod Lines
 pub mod Shown
 pub mod Forms
 pub mod Adding
+pub mod Printed
 pub mod Scripts
 pub mod Faults
 pub mod Steps

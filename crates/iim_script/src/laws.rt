@@ -1,6 +1,8 @@
 //! What holds of all lines of scripts, and of all scripts. The functions do nothing: their contracts are the laws.
 
-ghost use Rattle.iim_script.specs.Laws.{OctetsHaveOneNextLine, LinesTellOneThing, FormsExcludeOneAnother, ScriptsTellOneThing, ScriptsHaveNoFault, OctetsHaveOneFault};
+ghost use Rattle.iim_script.specs.Laws.{OctetsHaveOneNextLine, LinesTellOneThing, FormsExcludeOneAnother, ScriptsTellOneThing, ScriptsHaveNoFault, OctetsHaveOneFault, PrintedValuesAreScripts};
+
+use iim_fields::{heads_die_with_their_fault, values_die_with_their_fault};
 
 /// Octets have one next line, and one thing follows it.
 pub fn octets_have_one_next_line()
@@ -31,3 +33,12 @@ pub fn scripts_have_no_fault()
 pub fn octets_have_one_fault()
     ensures { OctetsHaveOneFault }
 {}
+
+/// What is printed of the datasets of an envelope within the limits, of a header and a trailer, and after that the line `text` and
+/// the lines of a story, is a script that tells just them, where it isn't too long.
+pub fn printed_values_are_scripts()
+    ensures { PrintedValuesAreScripts }
+{
+    heads_die_with_their_fault();
+    values_die_with_their_fault();
+}

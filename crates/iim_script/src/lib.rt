@@ -22,7 +22,8 @@ mod tests;
 pub use fault::{ScriptCause, ScriptFault};
 pub use laws::{
     forms_exclude_one_another, lines_tell_one_thing, octets_have_one_fault,
-    octets_have_one_next_line, scripts_have_no_fault, scripts_tell_one_thing,
+    octets_have_one_next_line, printed_values_are_scripts, scripts_have_no_fault,
+    scripts_tell_one_thing,
 };
 pub use reading::read_script;
 pub use script::Script;

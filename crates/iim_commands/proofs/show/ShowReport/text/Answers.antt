@@ -6,7 +6,8 @@ use Rattle.wire_message.specs.Messages.{Header}
 use Rattle.iim_unpack.specs.Admitted.{Value}
 use Rattle.iim_unpack.specs.Value.{HasParts}
 use Rattle.iim_unpack.specs.declared.unpacker.Unpacked.{Unpacked}
-use Rattle.iim_commands.specs.Texts.{number_line, field_line, message_line, trailer_line, sizes_line, shown_text}
+use Rattle.iim_script.specs.Printed.{field_line, message_line, trailer_line}
+use Rattle.iim_commands.specs.Texts.{number_line, sizes_line, shown_text}
 use Rattle.iim_commands.proofs.show.ShowReport.text.Goals as goal
 
 -- four parts, one after another

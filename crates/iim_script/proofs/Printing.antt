@@ -1,0 +1,320 @@
+-- What is printed tells what it is printed of, and ends in lines.
+use Rattle.std.proofs.Common.{◌≡◌, inl, inr, ℕ, ◌+◌, ◌/◌, ◌%◌, ◌<◌, ◌≤◌, ◌==◌, ◌&&◌, nat_le, nat_lt, Bool, true, false, cond, List, [], ◌∷◌, ◌++◌, append_assoc, append-nil, length, map, get_or, refl, ap, sym, ◌∙◌, subst, arith}
+use Rattle.std.specs.Prelude.{decimal}
+use Rattle.std.specs.List.{AllByRecursion, list_all, flat_map, join_with_byte}
+use Rattle.std.proofs.lemmas.Bool.{false≢true, and_from, leb-true, le-leb}
+use Rattle.std.proofs.lemmas.Bool.Decides.{nat_tests, eqb_tells}
+use Rattle.std.proofs.lemmas.Fmt.{decimal_nonempty, digits_decimal, digits_value-decimal, length-decimal-le}
+use Rattle.std.proofs.lemmas.Str.Parse.{IsDigitsTest, IsNumeralModel, numerals_by_fold}
+use Rattle.iim_dataset.specs.Octets.{Octets}
+use Rattle.iim_dataset.specs.Datasets.{Dataset}
+use Rattle.wire_message.specs.Fields.{Are, is_letter, is_alphanumeric}
+use Rattle.wire_message.specs.Fields as message
+use Rattle.wire_message.specs.Messages.{Header, IsHeader}
+use Rattle.wire_story.specs.Texts.{IsLine, is_line_octet}
+use Rattle.iim_script.specs.Lines.{HasNo, EndsLine, EndLines}
+use Rattle.iim_script.specs.Shown.{IsHexDigit, TellsOctet, Tells, TellsLast}
+use Rattle.iim_script.specs.Forms.{TellsNumber, TellsField, TellsHead, TellsTrailer, is_digit, decimal_from, message_word, trailer_word, words_of, after_source, after_number, after_priority, after_category}
+use Rattle.iim_script.specs.Printed.{hex_digit, escape, is_plain, shown_octet, shown, after_space, padding, dataset_name, field_line, message_line, trailer_line, PrintsStory}
+use Rattle.iim_script.specs.Scripts.{TellFields, IsStory}
+use Rattle.iim_script.proofs.Cuts.{has_no_octet, has_no_append}
+use Rattle.iim_script.proofs.Names.{and_both}
+
+-- ---- octets
+
+hex_by : (n : ℕ) (b : Bool) → nat_lt n 10 ≡ b → n < 16 → IsHexDigit (cond b (48 + n) (55 + n)) n
+hex_by n true e h = inl (omega arith, grind (arith, nat_tests), omega arith)
+hex_by n false e h = inr (inl (grind (arith, nat_tests), omega (arith, h), omega arith))
+
+hex : (n : ℕ) → n < 16 → IsHexDigit (hex_digit n) n
+hex n h = hex_by n (nat_lt n 10) refl h
+
+octet_by : (octet : ℕ) (b : Bool) → is_plain octet ≡ b → octet < 256 → TellsOctet (cond b (octet ∷ []) (escape octet)) octet
+octet_by octet true e h = inl (λ is. false≢true (subst (λ (n : ℕ). is_plain n ≡ true) is e), refl)
+octet_by octet false e h = inr (
+  hex_digit (octet / 16),
+  hex_digit (octet % 16),
+  refl,
+  (octet / 16, octet % 16, hex (octet / 16) (omega (arith, h)), hex (octet % 16) (omega arith), omega arith),
+)
+
+-- shown octets tell the octets
+pub shown_tells : (xs : List ℕ) → Octets xs → Tells (shown xs) xs
+shown_tells [] h = refl
+shown_tells (x ∷ xs) h = (shown xs, (shown_octet x, octet_by x (is_plain x) refl h.0, refl), shown_tells xs h.1)
+
+pub after_tells : (xs : List ℕ) → Octets xs → TellsLast (after_space xs) xs
+after_tells [] h = refl
+after_tells (x ∷ xs) h = (shown (x ∷ xs), refl, shown_tells (x ∷ xs) h)
+
+-- ---- octets below 20 are none of what is shown
+
+other : (x b : ℕ) → b < x → (x == b) ≡ false
+other x b h = grind (arith, nat_tests)
+
+hex_least : (n : ℕ) (b : Bool) → 48 ≤ cond b (48 + n) (55 + n)
+hex_least n true = omega arith
+hex_least n false = omega arith
+
+octet_lacks : (b x : ℕ) (plain : Bool) → is_plain x ≡ plain → b < 32 → HasNo b (cond plain (x ∷ []) (escape x))
+octet_lacks b x true e h = (other x b (let low = leb-true 32 x (and_both (nat_le 32 x) _ (and_both (nat_le 32 x && nat_le x 126) _ e).0).0 in omega (arith, low, h)), tt)
+octet_lacks b x false e h =
+    let high = hex_least (x / 16) (nat_lt (x / 16) 10) in
+    let low = hex_least (x % 16) (nat_lt (x % 16) 10) in
+    (other 92 b (omega (arith, h)), (other 120 b (omega (arith, h)), (other _ b (omega (arith, h, high)), (other _ b (omega (arith, h, low)), tt))))
+
+pub shown_lacks : (b : ℕ) (xs : List ℕ) → b < 32 → HasNo b (shown xs)
+shown_lacks b [] h = tt
+shown_lacks b (x ∷ xs) h = has_no_append b (shown_octet x) (shown xs) (octet_lacks b x (is_plain x) refl h) (shown_lacks b xs h)
+
+pub after_lacks : (b : ℕ) (xs : List ℕ) → b < 32 → HasNo b (after_space xs)
+after_lacks b [] h = tt
+after_lacks b (x ∷ xs) h = (other 32 b h, shown_lacks b (x ∷ xs) h)
+
+-- the octets pass a test that one octet fails
+lacks_by : (test : ℕ → Bool) (b x : ℕ) → test b ≡ false → test x ≡ true → (x == b) ≡ false
+lacks_by test b x fails passes = elim (eqb_tells x b) [
+  | inl same ↦ absurd (false≢true (sym fails ∙ subst (λ (n : ℕ). test n ≡ true) same.1 passes))
+  | inr different ↦ different.0
+]
+
+pub lacks : (test : ℕ → Bool) (b : ℕ) (xs : List ℕ) → test b ≡ false → list_all test xs ≡ true → HasNo b xs
+lacks test b [] fails h = tt
+lacks test b (x ∷ xs) fails h = let both = and_both (test x) (list_all test xs) h in (lacks_by test b x fails both.0, lacks test b xs fails both.1)
+
+-- ---- lines
+
+-- an LF ends a line that has none, and no CR
+pub ended : (line : List ℕ) → HasNo 10 line → HasNo 13 line → EndsLine line (line ++ 10 ∷ [])
+ended line h k = (h, inr (refl, λ returned. has_no_octet 13 returned.0 [] (subst (λ (l : List ℕ). HasNo 13 l) returned.1 k)))
+
+-- ---- numbers
+
+digit_bounds : (c : ℕ) → is_digit c ≡ true → (48 ≤ c) × (c ≤ 57)
+digit_bounds c h = let both = and_both (nat_le 48 c) (nat_le c 57) h in (leb-true 48 c both.0, leb-true c 57 both.1)
+
+digits_test : IsDigitsTest (λ ds. list_all is_digit ds ≡ true)
+digits_test = record {
+  empty = refl;
+  parts = λ c cs h. let both = and_both (is_digit c) (list_all is_digit cs) h in (digit_bounds c both.0, both.1);
+  more = λ c cs is h. and_from (is_digit c) (list_all is_digit cs) (and_from (nat_le 48 c) (nat_le c 57) (le-leb 48 c is.0) (le-leb c 57 is.1)) h;
+}
+
+-- the digits of a script are those of Rust
+numerals : IsNumeralModel (λ ds. list_all is_digit ds ≡ true) (decimal_from 0)
+numerals = numerals_by_fold (λ ds. list_all is_digit ds ≡ true) digits_test decimal_from (record { empty = λ n. refl; more = λ n c cs is. refl })
+
+plain_digits : (n : ℕ) → n < 256 → TellsNumber (decimal n) n
+plain_digits n small = record {
+  some = decimal_nonempty n (omega (arith, small));
+  few = length-decimal-le 3 n (omega arith) (omega (arith, small)) (omega (arith, small));
+  are_digits = digits_decimal numerals n (omega (arith, small));
+  value = sym (digits_value-decimal numerals n (omega (arith, small)));
+  fits = omega (arith, small);
+}
+
+padded_by : (n : ℕ) (b : Bool) → nat_lt n 10 ≡ b → n < 256 → TellsNumber (cond b (48 ∷ []) [] ++ decimal n) n
+padded_by n true e small =
+    let one_digit : n < 10 = grind (arith, nat_tests) in
+    let few : length (decimal n) ≤ 1 = length-decimal-le 1 n (omega arith) (omega (arith, one_digit)) (omega (arith, small)) in
+    let plain = plain_digits n small in
+    record { some = omega arith; few = omega (arith, few); are_digits = plain.are_digits; value = plain.value; fits = plain.fits }
+padded_by n false e small = plain_digits n small
+
+padded_digits : (n : ℕ) → n < 256 → TellsNumber (padding n ++ decimal n) n
+padded_digits n small = padded_by n (nat_lt n 10) refl small
+
+-- ---- datasets
+
+-- the line of a dataset, without its end
+abbrev pub field_words : Dataset → List ℕ
+field_words d = dataset_name d.rec d.set ++ after_space d.octets
+
+-- the numbers and the data of a dataset are octets
+pub record IsPrintable (d : Dataset) : Type 0 where
+  pub rec : d.rec < 256
+  pub set : d.set < 256
+  pub octets : Octets d.octets
+
+undigited : (xs : List ℕ) → is_digit (get_or (after_space xs) 0 0) ≡ false
+undigited [] = refl
+undigited (x ∷ xs) = refl
+
+pub field_told : (d : Dataset) → IsPrintable d → TellsField (field_words d) d
+field_told d h = record {
+  end = after_space d.octets;
+  names = record {
+    rec_digits = decimal d.rec;
+    set_digits = padding d.set ++ decimal d.set;
+    is_rec = plain_digits d.rec h.rec;
+    is_set = padded_digits d.set h.set;
+    undigited = undigited d.octets;
+    line_is = append_assoc (decimal d.rec) (58 ∷ padding d.set ++ decimal d.set) (after_space d.octets);
+  };
+  is_end = after_tells d.octets h.octets;
+}
+
+field_lacks : (b : ℕ) (d : Dataset) → b < 32 → is_digit b ≡ false → IsPrintable d → HasNo b (field_words d)
+field_lacks b d small fails h =
+    has_no_append b (dataset_name d.rec d.set) (after_space d.octets)
+    (has_no_append b (decimal d.rec) (58 ∷ padding d.set ++ decimal d.set) (lacks is_digit b (decimal d.rec) fails (plain_digits d.rec h.rec).are_digits)
+    (other 58 b (omega (arith, small)), lacks is_digit b (padding d.set ++ decimal d.set) fails (padded_digits d.set h.set).are_digits))
+    (after_lacks b d.octets small)
+
+field_ends : (d : Dataset) → IsPrintable d → EndsLine (field_words d) (field_line d)
+field_ends d h =
+    subst (λ (l : List ℕ). EndsLine (field_words d) l) (append_assoc (dataset_name d.rec d.set) (after_space d.octets) (10 ∷ []))
+    (ended (field_words d) (field_lacks 10 d (omega arith) refl h) (field_lacks 13 d (omega arith) refl h))
+
+-- the lines of datasets, before others
+pub fields_end : (ds : List Dataset) (lines : List (List ℕ)) (octets : List ℕ) → AllByRecursion IsPrintable ds → EndLines lines octets
+    → EndLines (map field_words ds ++ lines) (flat_map field_line ds ++ octets)
+fields_end [] lines octets h ends = ends
+fields_end (d ∷ ds) lines octets h ends = (
+  field_line d,
+  flat_map field_line ds ++ octets,
+  field_ends d h.0,
+  fields_end ds lines octets h.1 ends,
+  append_assoc (field_line d) (flat_map field_line ds) octets,
+)
+
+pub fields_told : (ds : List Dataset) → AllByRecursion IsPrintable ds → TellFields (map field_words ds) ds
+fields_told [] h = tt
+fields_told (d ∷ ds) h = (field_told d h.0, fields_told ds h.1)
+
+-- ---- the header and the trailer
+
+octets_by : (test : ℕ → Bool) (xs : List ℕ) → ((x : ℕ) → test x ≡ true → x < 256) → list_all test xs ≡ true → Octets xs
+octets_by test [] small h = tt
+octets_by test (x ∷ xs) small h = let both = and_both (test x) (list_all test xs) h in (small x both.0, octets_by test xs small both.1)
+
+info_small : (x : ℕ) → message.is_info_octet x ≡ true → x < 256
+info_small x h = grind (arith, nat_tests)
+
+trailer_small : (x : ℕ) → message.is_trailer_octet x ≡ true → x < 256
+trailer_small x h = grind (arith, nat_tests)
+
+-- the header's line, without its end
+abbrev pub message_words : Header → List ℕ
+message_words head = message_word ++ (head.source ++ (32 ∷ after_source (words_of head) (after_space head.info)))
+
+pub head_told : (head : Header) → IsHeader head → TellsHead (message_words head) head
+head_told head h = record {
+  end = after_space head.info;
+  is_header = h;
+  is_end = after_tells head.info (octets_by message.is_info_octet head.info info_small h.info.0);
+  line_is = refl;
+}
+
+-- a word of the header, SP, and what follows
+word_lacks : (test : ℕ → Bool) (b : ℕ) (word rest : List ℕ) → b < 32 → test b ≡ false → Are test word → HasNo b rest → HasNo b (word ++ (32 ∷ rest))
+word_lacks test b word rest small fails h k = has_no_append b word (32 ∷ rest) (lacks test b word fails h) (other 32 b small, k)
+
+message_lacks : (b : ℕ) (head : Header) → b < 32 → is_letter b ≡ false → message.is_digit b ≡ false → is_alphanumeric b ≡ false → HasNo b message_word → IsHeader head
+    → HasNo b (message_words head)
+message_lacks b head small letter digit alphanumeric word h =
+    let end = after_space head.info in
+    let w = words_of head in
+    has_no_append b message_word (head.source ++ (32 ∷ after_source w end)) word
+    (word_lacks is_letter b head.source (after_source w end) small letter h.source.0
+    (word_lacks message.is_digit b head.number (after_number w end) small digit h.number.0
+    (word_lacks message.is_digit b head.priority (after_priority w end) small digit h.priority.0
+    (word_lacks is_alphanumeric b head.category (after_category w end) small alphanumeric h.category.0
+    (has_no_append b head.words end (lacks message.is_digit b head.words digit h.words.0) (after_lacks b head.info small))))))
+
+-- a word, SP and what follows, and an end
+pushed : (word rest more after : List ℕ) → rest ++ more ≡ after → (word ++ (32 ∷ rest)) ++ more ≡ word ++ (32 ∷ after)
+pushed word rest more after e = append_assoc word (32 ∷ rest) more ∙ ap (λ (l : List ℕ). word ++ (32 ∷ l)) e
+
+message_ended : (head : Header) → message_words head ++ 10 ∷ [] ≡ message_line head
+message_ended head =
+    let end = after_space head.info in
+    let w = words_of head in
+    let last : after_category w end ++ 10 ∷ [] ≡ head.words ++ (end ++ 10 ∷ []) = append_assoc head.words end (10 ∷ []) in
+    ap (λ (l : List ℕ). message_word ++ l)
+    (pushed head.source (after_source w end) (10 ∷ []) _ (pushed head.number (after_number w end) (10 ∷ []) _ (pushed head.priority (after_priority w end) (10 ∷ []) _
+    (pushed head.category (after_category w end) (10 ∷ []) _ last))))
+
+pub message_ends : (head : Header) → IsHeader head → EndsLine (message_words head) (message_line head)
+message_ends head h =
+    subst (λ (l : List ℕ). EndsLine (message_words head) l) (message_ended head)
+    (ended (message_words head) (message_lacks 10 head (omega arith) refl refl refl (refl, (refl, (refl, (refl, (refl, (refl, (refl, (refl, tt)))))))) h)
+    (message_lacks 13 head (omega arith) refl refl refl (refl, (refl, (refl, (refl, (refl, (refl, (refl, (refl, tt)))))))) h))
+
+-- the trailer's line, without its end
+abbrev pub trailer_words : List ℕ → List ℕ
+trailer_words trailer = trailer_word ++ after_space trailer
+
+pub trailer_told : (trailer : List ℕ) → Are message.is_trailer_octet trailer → TellsTrailer (trailer_words trailer) trailer
+trailer_told trailer h = record {
+  end = after_space trailer;
+  is_end = after_tells trailer (octets_by message.is_trailer_octet trailer trailer_small h);
+  line_is = refl;
+}
+
+pub trailer_ends : (trailer : List ℕ) → EndsLine (trailer_words trailer) (trailer_line trailer)
+trailer_ends trailer =
+    ended (trailer_words trailer)
+    (has_no_append 10 trailer_word (after_space trailer) (refl, (refl, (refl, (refl, (refl, (refl, (refl, tt))))))) (after_lacks 10 trailer (omega arith)))
+    (has_no_append 13 trailer_word (after_space trailer) (refl, (refl, (refl, (refl, (refl, (refl, (refl, tt))))))) (after_lacks 13 trailer (omega arith)))
+
+-- ---- the story
+
+line_ends : (line : List ℕ) → IsLine line → EndsLine line (line ++ 10 ∷ [])
+line_ends line h = ended line (lacks is_line_octet 10 line refl h) (lacks is_line_octet 13 line refl h)
+
+-- the lines with an LF after each
+with_feeds : List (List ℕ) → List ℕ
+with_feeds [] = []
+with_feeds (line ∷ lines) = (line ++ 10 ∷ []) ++ with_feeds lines
+
+lines_end : (lines : List (List ℕ)) → AllByRecursion IsLine lines → EndLines lines (with_feeds lines)
+unfolding with_feeds
+lines_end [] h = refl
+lines_end (line ∷ lines) h = (line ++ 10 ∷ [], with_feeds lines, line_ends line h.0, lines_end lines h.1, refl)
+
+joined_before : (before : List (List ℕ)) (last : List ℕ) → join_with_byte 10 (before ++ last ∷ []) ≡ with_feeds before ++ last
+unfolding with_feeds
+joined_before [] last = refl
+joined_before (line ∷ []) last = sym (append_assoc (line ++ 10 ∷ []) [] last ∙ append_assoc line (10 ∷ []) last)
+joined_before (line ∷ next ∷ lines) last =
+    let later = joined_before (next ∷ lines) last in
+    ap (λ (l : List ℕ). line ++ (10 ∷ l)) later
+    ∙ sym (append_assoc (line ++ 10 ∷ []) (with_feeds (next ∷ lines)) last ∙ append_assoc line (10 ∷ []) (with_feeds (next ∷ lines) ++ last))
+
+joined_all : (lines : List (List ℕ)) → 0 < length lines → join_with_byte 10 lines ++ 10 ∷ [] ≡ with_feeds lines
+unfolding with_feeds
+joined_all [] some = absurd (omega (arith, some))
+joined_all (line ∷ []) some = sym (append-nil (line ++ 10 ∷ []))
+joined_all (line ∷ next ∷ lines) some =
+    append_assoc line (10 ∷ join_with_byte 10 (next ∷ lines)) (10 ∷ [])
+    ∙ (ap (λ (l : List ℕ). line ++ (10 ∷ l)) (joined_all (next ∷ lines) (omega arith)) ∙ sym (append_assoc line (10 ∷ []) (with_feeds (next ∷ lines))))
+
+split_last : (lines : List (List ℕ)) → 0 < length lines → (before : List (List ℕ)) × (last : List ℕ) × (lines ≡ before ++ last ∷ [])
+split_last [] some = absurd (omega (arith, some))
+split_last (line ∷ []) some = ([], line, refl)
+split_last (line ∷ next ∷ lines) some =
+    let (before, last, is) = split_last (next ∷ lines) (omega arith) in (line ∷ before, last, ap (λ (l : List (List ℕ)). line ∷ l) is)
+
+all_parts : (xs : List (List ℕ)) (last : List ℕ) → AllByRecursion IsLine (xs ++ last ∷ []) → AllByRecursion IsLine xs × IsLine last
+all_parts [] last h = (tt, h.0)
+all_parts (x ∷ xs) last h = let parts = all_parts xs last h.1 in ((h.0, parts.0), parts.1)
+
+-- what is printed of a story is one
+pub story_printed : (octets : List ℕ) (lines : List (List ℕ)) → 0 < length lines → AllByRecursion IsLine lines → PrintsStory octets lines → IsStory octets lines
+story_printed octets lines some h (inl is) = (some, inl (subst (λ (l : List ℕ). EndLines lines l) (sym (is ∙ joined_all lines some)) (lines_end lines h)))
+story_printed octets lines some h (inr (is, alone)) =
+    let (before, last, parts) = split_last lines some in
+    let each = all_parts before last (subst (λ (l : List (List ℕ)). AllByRecursion IsLine l) parts h) in (
+      some,
+      inr (
+        before,
+        last,
+        with_feeds before,
+        parts,
+        lines_end before each.0,
+        is ∙ (ap (λ (l : List (List ℕ)). join_with_byte 10 l) parts ∙ joined_before before last),
+        lacks is_line_octet 10 last refl each.1,
+        λ empty. alone before (parts ∙ ap (λ (l : List ℕ). before ++ l ∷ []) empty),
+      ),
+    )
