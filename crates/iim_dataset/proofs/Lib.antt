@@ -12,3 +12,4 @@ pub mod Telling
 pub mod Deaths
 pub mod Lives
 pub mod OneOctet
+pub mod Reached

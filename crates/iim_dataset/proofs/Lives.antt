@@ -11,7 +11,7 @@ use Rattle.iim_dataset.specs.Languages.{IsAlive, DiesAt}
 use Rattle.iim_dataset.specs.Laws.{AreDatasets, ReadOctetsGoOn, ReadOctetsSplit, OctetsDieInTheirTag, ReadersDieExactly}
 use Rattle.iim_dataset.specs.declared.head.Head.{Head}
 use Rattle.iim_dataset.specs.declared.head.HeadCause.{HeadCause}
-use Rattle.iim_dataset.specs.declared.place.Place.{Place}
+use Rattle.iim_dataset.specs.declared.place.DatasetPlace.{DatasetPlace}
 use Rattle.iim_dataset.proofs.Deaths.{no_octets_go_on}
 use Rattle.iim_dataset.proofs.Fronts.{begun_none, zeros_are}
 use Rattle.iim_dataset.proofs.OneHanding.{ends, with_data}
@@ -80,9 +80,9 @@ octets_die_in_their_tag octets next whole held r =
 alive : (octets : List ℕ) (events : List Event) (begun : Begun) → HandsOn octets events begun → IsAlive AreDatasets octets
 alive octets events begun h = let on = read_octets_go_on octets h.whole begun h.reads in (on.1, (h.whole ++ on.0 ∷ [], on.3))
 
-tag_dies : (octets : List ℕ) (events : List Event) (place : Place) (next : ℕ) (cause : HeadCause) → LeadsTo octets events place → TagDies place next cause → DiesAt AreDatasets octets next
+tag_dies : (octets : List ℕ) (events : List Event) (place : DatasetPlace) (next : ℕ) (cause : HeadCause) → LeadsTo octets events place → TagDies place next cause → DiesAt AreDatasets octets next
 tag_dies octets events place next cause l d =
-    let h = tag_held (record { items = d.held }) octets events l.begun l.hands (subst (λ (p : Place). IsKeptAs p l.begun) d.tag l.keeps) in
+    let h = tag_held (record { items = d.held }) octets events l.begun l.hands (subst (λ (p : DatasetPlace). IsKeptAs p l.begun) d.tag l.keeps) in
     dies octets next h.whole d.held h.reads d.dead
 
 pub readers_die_exactly : ReadersDieExactly

@@ -14,8 +14,8 @@ use Rattle.iim_dataset.specs.Places.{LeadsTo, HandsOn, IsKeptAs, Brings, between
 use Rattle.iim_dataset.specs.Reading.{Stops}
 use Rattle.iim_dataset.specs.Completing.{head_events, behind_head}
 use Rattle.iim_dataset.specs.declared.head.Head.{Head}
-use Rattle.iim_dataset.specs.declared.place.Place.{Place}
-use Rattle.iim_dataset.specs.declared.place.Place.TheVariants.{Tag, Inside}
+use Rattle.iim_dataset.specs.declared.place.DatasetPlace.{DatasetPlace}
+use Rattle.iim_dataset.specs.declared.place.DatasetPlace.TheVariants.{Tag, Inside}
 use Rattle.iim_dataset.proofs.Fronts.{begun_none, both_are}
 
 -- ---- whole datasets and a begun one
@@ -114,7 +114,7 @@ pub tag_held : (held : ArrayVec ℕ) (octets : List ℕ) (events : List Event) (
 tag_held held octets events (InTag xs) h k = subst (λ (zs : List ℕ). HandsOn octets events (InTag zs)) (sym k) h
 tag_held held octets events (InData h taken) hands k = absurd k
 
-data_kept : (h : Head) (left : ℕ) (octets : List ℕ) (events : List Event) (begun : Begun) → HandsOn octets events begun → IsKeptAs (Inside h left) begun
+pub data_kept : (h : Head) (left : ℕ) (octets : List ℕ) (events : List Event) (begun : Begun) → HandsOn octets events begun → IsKeptAs (Inside h left) begun
     → (taken : List ℕ) × HandsOn octets events (InData h taken) × (length taken + left ≡ h.count)
 data_kept h left octets events (InTag xs) hands k = absurd k
 data_kept h left octets events (InData g taken) hands k =
@@ -131,7 +131,7 @@ begins = record {
 }
 
 -- nothing
-pub stays : (p : Place) → Brings p [] [] p
+pub stays : (p : DatasetPlace) → Brings p [] [] p
 stays p octets events l = subst (λ (xs : List ℕ). LeadsTo xs (events ++ []) p) (sym (append-nil octets)) (subst (λ (es : List Event). LeadsTo octets es p) (sym (append-nil events)) l)
 
 -- octets of a tag
@@ -210,7 +210,7 @@ data_end h left ys o all octets events l =
     }
 
 -- one octet of data, and what it completes
-pub octet_on : (h : Head) (left b : ℕ) → b < 256 → 0 < left → (later : List Event) × (next : Place) × Brings (Inside h left) (b ∷ []) (DataOctet b ∷ later) next
+pub octet_on : (h : Head) (left b : ℕ) → b < 256 → 0 < left → (later : List Event) × (next : DatasetPlace) × Brings (Inside h left) (b ∷ []) (DataOctet b ∷ later) next
 octet_on h left b o some = elim (cases_lt 1 left) [
   | inl more ↦ ([], Inside h (left - 1), data_on h left (left - 1) (b ∷ []) (o, tt) (omega (arith, more)) (omega (arith, more)))
   | inr last ↦ (DatasetEnd ∷ [], between, data_end h left (b ∷ []) (o, tt) (omega (arith, last, some)))
@@ -219,7 +219,7 @@ octet_on h left b o some = elim (cases_lt 1 left) [
 -- ---- stops
 
 -- The octets before octet k lead to a place, and from there it completes events, of which the sink refused one.
-pub stops_at : {D : Type 0} (stops : D → List Event → Event → D → Type 0) (p q r : Place) (piece : List ℕ) (k : ℕ) (es fs mine later : List Event) (event : Event) (a b : D)
+pub stops_at : {D : Type 0} (stops : D → List Event → Event → D → Type 0) (p q r : DatasetPlace) (piece : List ℕ) (k : ℕ) (es fs mine later : List Event) (event : Event) (a b : D)
     → Brings p (take k piece) es q → Brings q (slice_index piece k ∷ []) fs r → fs ≡ mine ++ event ∷ later → stops a (es ++ mine) event b → Stops stops p piece k a b
 stops_at stops p q r piece k es fs mine later event a b f g parts s = record {
   more = es ++ mine;

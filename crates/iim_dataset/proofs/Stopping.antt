@@ -13,8 +13,8 @@ use Rattle.iim_dataset.specs.Reading.{TagDies, Completes, Stops, RefusesFor}
 use Rattle.iim_dataset.specs.Completing.{StopsAmong, head_events, behind_head}
 use Rattle.iim_dataset.specs.declared.head.Head.{Head}
 use Rattle.iim_dataset.specs.declared.head.HeadCause.{HeadCause}
-use Rattle.iim_dataset.specs.declared.place.Place.{Place}
-use Rattle.iim_dataset.specs.declared.place.Place.TheVariants.{Tag, Inside}
+use Rattle.iim_dataset.specs.declared.place.DatasetPlace.{DatasetPlace}
+use Rattle.iim_dataset.specs.declared.place.DatasetPlace.TheVariants.{Tag, Inside}
 use Rattle.iim_dataset.proofs.Fronts.{front_are}
 use Rattle.iim_dataset.proofs.Places.{tag_on, head_leads, data_on, data_end, octet_on, stops_at}
 use Rattle.iim_dataset.proofs.HeldTags.{one_more, unfinished}
@@ -62,14 +62,14 @@ tag_stops stops held rest h k a b lt s among =
 
 -- ---- behind a front
 
-pub brings_front : (p q r : Place) (piece : List ℕ) (i k : ℕ) (m n : List Event) → Brings p (take i piece) m q → Brings q (take k (rest_of piece i)) n r
+pub brings_front : (p q r : DatasetPlace) (piece : List ℕ) (i k : ℕ) (m n : List Event) → Brings p (take i piece) m q → Brings q (take k (rest_of piece i)) n r
     → Brings p (take (i + k) piece) (m ++ n) r
 brings_front p q r piece i k m n f g octets events l =
     subst (λ (xs : List ℕ). LeadsTo xs (events ++ (m ++ n)) r) (append_assoc octets (take i piece) (take k (rest_of piece i)) ∙ ap (λ u. octets ++ u) (sym (take-front piece i k)))
     (subst (λ (es : List Event). LeadsTo ((octets ++ take i piece) ++ take k (rest_of piece i)) es r) (append_assoc events m n) (g (octets ++ take i piece) (events ++ m) (f octets events l)))
 
 pub tells_front : {D : Type 0} (goes : D → List Event → D → Type 0) → ((a b c : D) (xs ys : List Event) → goes a xs b → goes b ys c → goes a (xs ++ ys) c)
-    → (p q r : Place) (piece : List ℕ) (i k : ℕ) (a b c : D) → Tells goes p (take i piece) q a b → Tells goes q (take k (rest_of piece i)) r b c → Tells goes p (take (i + k) piece) r a c
+    → (p q r : DatasetPlace) (piece : List ℕ) (i k : ℕ) (a b c : D) → Tells goes p (take i piece) q a b → Tells goes q (take k (rest_of piece i)) r b c → Tells goes p (take (i + k) piece) r a c
 tells_front goes joined p q r piece i k a b c t u = record {
   more = t.more ++ u.more;
   told = joined a b c t.more u.more t.told u.told;
@@ -82,7 +82,7 @@ octet_is piece i k = ap (λ r. slice_index r k) (take_rest piece i) ∙ get_or-d
 pub refuses_front : {D : Type 0} (goes : D → List Event → D → Type 0) (stops : D → List Event → Event → D → Type 0)
     → ((a b c : D) (xs ys : List Event) → goes a xs b → goes b ys c → goes a (xs ++ ys) c)
     → ((a b c : D) (xs ys : List Event) (event : Event) → goes a xs b → stops b ys event c → stops a (xs ++ ys) event c)
-    → (why : Option HeadCause) (p q r : Place) (piece : List ℕ) (i k : ℕ) (a b c : D) → Tells goes p (take i piece) q a b → RefusesFor goes stops why q (rest_of piece i) k r b c
+    → (why : Option HeadCause) (p q r : DatasetPlace) (piece : List ℕ) (i k : ℕ) (a b c : D) → Tells goes p (take i piece) q a b → RefusesFor goes stops why q (rest_of piece i) k r b c
     → RefusesFor goes stops why p piece (i + k) r a c
 refuses_front goes stops joined joined_stop None p q r piece i k a b c t (s, place) = (
   record {

@@ -5,14 +5,14 @@ use Rattle.iim_dataset.specs.Splits.{InTag, InData, Reads}
 use Rattle.iim_dataset.specs.Events.{Event, HeadRead, DataOctet, DatasetEnd, handed_on}
 use Rattle.iim_dataset.specs.Places.{between}
 use Rattle.iim_dataset.specs.declared.head.Head.{Head}
-use Rattle.iim_dataset.specs.declared.place.Place.{Place}
-use Rattle.iim_dataset.specs.declared.place.Place.TheVariants.{Inside}
+use Rattle.iim_dataset.specs.declared.place.DatasetPlace.{DatasetPlace}
+use Rattle.iim_dataset.specs.declared.place.DatasetPlace.TheVariants.{Inside}
 
 -- The last octet of a tag completes its head, and the dataset where it has no data.
 abbrev pub head_events : Head → List Event
 head_events h = if h.count == 0 then HeadRead h ∷ DatasetEnd ∷ [] else HeadRead h ∷ []
 
-abbrev pub behind_head : Head → Place
+abbrev pub behind_head : Head → DatasetPlace
 behind_head h = if h.count == 0 then between else Inside h h.count
 
 -- The sink took some of the events, and refused the next.

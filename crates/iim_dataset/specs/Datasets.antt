@@ -14,7 +14,7 @@ pub record Dataset : Type 0 where
 abbrev pub head_of : Dataset → Head
 head_of d = record { rec = d.rec; set = d.set; count = length d.octets }
 
--- the most octets of an extended count behind its first two (the profile's)
+-- the most octets of an extended count after its first two (the profile's)
 abbrev pub count_octets : ℕ
 count_octets = 4
 

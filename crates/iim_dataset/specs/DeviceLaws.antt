@@ -26,7 +26,7 @@ MissedBehind old new octets fault = Consumes old.octets new.octets octets × Bro
 abbrev pub BrokeAfter : Device → Device → List ℕ → Type 0
 BrokeAfter old new text = Appends old.octets new.octets text × Broke old new
 
--- Octets that were given one after another were given joined, and a fault comes behind all of them.
+-- Octets that were given one after another were given joined, and a fault comes after all of them.
 pub record GiftsJoin : Type 0 where
   pub none : (a : Device) → HasGiven a a []
   pub more : (a b c : Device) (xs ys : List ℕ) → HasGiven a b xs → HasGiven b c ys → HasGiven a c (xs ++ ys)

@@ -13,7 +13,7 @@ pub record Device : Type 0 where
   pub failures : ℕ
   pub interruptions : ℕ
 
--- so many interruptions in a row are answered
+-- the number of interruptions in a row that make a fault
 abbrev pub max_interruptions : ℕ
 max_interruptions = 1000000
 
@@ -93,7 +93,7 @@ Accepted old new piece n = (n ≤ length piece) × Appends old.octets new.octets
 abbrev pub Interrupts : ℕ → Device → Device → Type 0
 Interrupts k old new = Keeps old.octets new.octets × Unfailed old new × RoseAtLeast k old.interruptions new.interruptions
 
--- The limit on reads or writes answered "interrupted" in a row: each of so many calls met a million interruptions at most.
+-- The limit on reads or writes answered "interrupted" in a row: each of these calls met a million interruptions at most.
 abbrev pub WithinInterruptionLimit : ℕ → Device → Device → Type 0
 WithinInterruptionLimit calls old new = new.interruptions ≤ old.interruptions + calls * max_interruptions
 

@@ -1,4 +1,4 @@
--- Languages of tokens, and what can go on to a member of one.
+-- Languages of tokens, and what can continue to a member of one.
 use Rattle.std.specs.Prelude.{List, [], ◌∷◌, ◌++◌}
 
 -- Alive: some continuation of the tokens is in the language.

@@ -1,4 +1,4 @@
--- Later devices go on: the laws of the sources, handed in by their impls.
+-- Later devices continue: the laws of the sources, handed in by their impls.
 use Rattle.std.proofs.Common.{[], ℕ, List, ◌++◌, None, Some, Option, refl, ap, sym, ◌∙◌, arith, append_assoc}
 use Rattle.std.specs.Io.KnownBytes.{Consumes}
 use Rattle.iim_dataset.specs.Devices.{Device, LaterThan}

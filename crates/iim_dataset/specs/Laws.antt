@@ -5,7 +5,7 @@ use Rattle.iim_dataset.specs.Octets.{IsOctet, Octets}
 use Rattle.iim_dataset.specs.Datasets.{Dataset, SpellsTag, SpellsDataset, SpellsStream, canonical_tag, canonical_stream, count_octets}
 use Rattle.iim_dataset.specs.Splits.{Begun, InTag, SplitsInto, IsBegun, Reads}
 use Rattle.iim_dataset.specs.Events.{Event, handed_on, begun_data}
-use Rattle.iim_dataset.specs.Places.{HandsOn, LeadsTo}
+use Rattle.iim_dataset.specs.Places.{HandsOn, IsPlace, LeadsTo}
 use Rattle.iim_dataset.specs.Reading.{Completes, TagDies}
 use Rattle.iim_dataset.specs.Completing.{CompletesNow}
 use Rattle.iim_dataset.specs.Languages.{IsAlive, DiesAt}
@@ -13,7 +13,7 @@ use Rattle.iim_dataset.specs.Tags.{BeginsTag, BeginsNoTag, HasTag, HasNoTag}
 use Rattle.iim_dataset.specs.declared.head.Head.{Head}
 use Rattle.iim_dataset.specs.declared.head.HeadFault.{HeadFault}
 use Rattle.iim_dataset.specs.declared.head.HeadCause.{HeadCause}
-use Rattle.iim_dataset.specs.declared.place.Place.{Place}
+use Rattle.iim_dataset.specs.declared.place.DatasetPlace.{DatasetPlace}
 
 -- Tags that equal lists begin with are equal, and so are their heads and what follows.
 abbrev pub NoTagBeginsAnother : Type 0
@@ -34,7 +34,15 @@ OctetsSplitOneWay = (limit : ℕ) (xs : List ℕ) (ds es : List Dataset) (t u : 
 abbrev pub OctetsAreHandedOnOneWay : Type 0
 OctetsAreHandedOnOneWay = (octets : List ℕ) (es fs : List Event) (b c : Begun) → HandsOn octets es b → HandsOn octets fs c → (es ≡ fs) × (b ≡ c)
 
--- Where no tag goes on with an octet, the octets so far with that one begin no datasets, whatever follows.
+-- A reader's invariant holds exactly of the places to which some octets lead.
+abbrev pub PlacesAreReached : Type 0
+PlacesAreReached = (place : DatasetPlace) → IsPlace place ↔ ((octets : List ℕ) × (events : List Event) × LeadsTo octets events place)
+
+-- Octets lead to one place at most, and one list of events is handed on of them.
+abbrev pub OctetsLeadToOnePlace : Type 0
+OctetsLeadToOnePlace = (octets : List ℕ) (es fs : List Event) (p q : DatasetPlace) → LeadsTo octets es p → LeadsTo octets fs q → (es ≡ fs) × (p ≡ q)
+
+-- Where no tag can continue with an octet, the octets so far with that one begin no datasets, whatever follows.
 abbrev pub NoOctetsGoOn : Type 0
 NoOctetsGoOn = (octets more : List ℕ) (next : ℕ) (whole : List Dataset) (held : List ℕ) (w : List Dataset) (b : Begun) → Reads octets whole (InTag held)
     → BeginsNoTag count_octets (held ++ next ∷ []) → Reads (octets ++ next ∷ more) w b → ⊥
@@ -66,8 +74,8 @@ EventsTellTheDatasets = (ds es : List Dataset) (b c : Begun) → handed_on ds b 
 -- A reader of datasets refuses exactly where octets die: those that led to a place can continue to whole datasets; at a tag that
 -- dies they can't with the next octet; and what a sink is told that an octet completes, it completes alive.
 pub record ReadersDieExactly : Type 0 where
-  pub alive : (octets : List ℕ) (events : List Event) (place : Place) → LeadsTo octets events place → IsAlive AreDatasets octets
-  pub dies : (octets : List ℕ) (events : List Event) (place : Place) (next : ℕ) (cause : HeadCause) → LeadsTo octets events place → TagDies place next cause
+  pub alive : (octets : List ℕ) (events : List Event) (place : DatasetPlace) → LeadsTo octets events place → IsAlive AreDatasets octets
+  pub dies : (octets : List ℕ) (events : List Event) (place : DatasetPlace) (next : ℕ) (cause : HeadCause) → LeadsTo octets events place → TagDies place next cause
       → DiesAt AreDatasets octets next
   pub stops : (octets : List ℕ) (next : ℕ) (events : List Event) (event : Event) → Completes octets next events event → IsAlive AreDatasets (octets ++ next ∷ [])
 

@@ -9,7 +9,7 @@ use Rattle.iim_dataset.specs.declared.trial.Trouble.TheVariants.{Failure, Interr
 use Rattle.iim_dataset.specs.declared.trial.TrialReader.{TrialReader}
 use Rattle.iim_dataset.specs.declared.trial.TrialWriter.{TrialWriter}
 
--- so many good calls and then the trouble, and no fault so far
+-- this number of good calls and then the trouble, and no fault so far
 abbrev pub new_plan : ℕ → Trouble → Plan
 new_plan good trouble = record { good = good; trouble = trouble; failures = 0; interruptions = 0 }
 

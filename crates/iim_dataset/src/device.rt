@@ -15,7 +15,7 @@ pub enum IoFault {
     Failed,
 }
 
-/// So many interruptions in a row are answered as a fault.
+/// The interruptions in a row that are answered as a fault.
 pub(crate) const MAX_INTERRUPTIONS: u32 = 1_000_000;
 
 /// What an error of std's is: an interruption exactly where its kind is "interrupted", and else a failure.

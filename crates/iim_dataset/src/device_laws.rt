@@ -2,7 +2,7 @@
 
 ghost use Rattle.iim_dataset.specs.DeviceLaws.{GiftsJoin, TextsJoin};
 
-/// Octets that a source gave one after another were given joined, and a fault comes behind all of them.
+/// Octets that a source gave one after another were given joined, and a fault comes after all of them.
 pub fn gifts_join()
     ensures { GiftsJoin }
 {}

@@ -25,7 +25,7 @@ pub struct Fault {
     pub used: usize,
 }
 
-/// Why no tag goes on, as the cause of a fault.
+/// Why no tag can continue, as the cause of a fault.
 pub(crate) fn tag_fault(cause: HeadCause) -> FaultCause
     ensures { is_of result ≡ Some cause }
 {

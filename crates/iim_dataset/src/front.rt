@@ -9,7 +9,7 @@ ghost use Rattle.iim_dataset.specs.Completing.{StopsAmong, head_events, behind_h
 
 use crate::fault::{Fault, FaultCause, tag_fault};
 use crate::head::Head;
-use crate::place::{HELD_OCTETS, Place, lengthen, read_tag};
+use crate::place::{DatasetPlace, HELD_OCTETS, lengthen, read_tag};
 use crate::sink::{DatasetSink, Step};
 use crate::stop::Stop;
 use arrayvec::ArrayVec;
@@ -17,29 +17,29 @@ use arrayvec::ArrayVec;
 /// Where a front of some octets leads, and how many it has.
 #[derive(Drop)]
 pub(crate) struct Front {
-    pub(crate) place: Place,
+    pub(crate) place: DatasetPlace,
     pub(crate) step: Step,
     pub(crate) used: usize,
 }
 
-/// An octet is refused. Where no tag goes on with it, the octets before it lead to the place; behind a stop of the sink it is
+/// An octet is refused. Where no tag can continue with it, the octets before it lead to the place; after a stop of the sink it is
 /// the one between datasets.
 #[derive(Drop)]
 pub(crate) struct Refused {
-    pub(crate) place: Place,
+    pub(crate) place: DatasetPlace,
     pub(crate) fault: Fault,
 }
 
 /// Between datasets.
 #[tactic(auto, using(crate::proofs::Fronts::begun_none))]
-pub(crate) fn start() -> Place
+pub(crate) fn start() -> DatasetPlace
     ensures place { result ≡ between }
     ensures is_place { IsPlace result }
 {
-    Place::Tag(ArrayVec::new())
+    DatasetPlace::Tag(ArrayVec::new())
 }
 
-/// The sink stopped behind so many octets.
+/// The sink stopped after `used` octets.
 fn stopped(used: usize) -> Refused
     ensures place { result.place ≡ between }
     ensures is_place { IsPlace result.place }
@@ -53,7 +53,7 @@ fn stopped(used: usize) -> Refused
 }
 
 /// Hands on what the last octet of a tag completes.
-fn begin<D: DatasetSink>(head: Head, sink: &mut D) -> Result<(Place, Step), Stop>
+fn begin<D: DatasetSink>(head: Head, sink: &mut D) -> Result<(DatasetPlace, Step), Stop>
     requires { D.stands sink.old None }
     ensures place { IfOk result (λ next. next.0 ≡ behind_head head) }
     ensures told { OnOk result (D.goes sink.old (head_events head) sink.new) }
@@ -62,7 +62,8 @@ fn begin<D: DatasetSink>(head: Head, sink: &mut D) -> Result<(Place, Step), Stop
 {
     sink.head(head)?;
     if head.count > 0 {
-        return Ok((Place::Inside(head, head.count), Step::More));
+        let left = head.count;
+        return Ok((DatasetPlace::Inside { head, left }, Step::More));
     }
     let step = sink.close()?;
     Ok((start(), step))
@@ -80,11 +81,11 @@ fn take_tag<D: DatasetSink>(
     ensures is_place { IfOk result (λ front. IsPlace front.place) }
     ensures some { IfOk result (λ front. 0 < front.used) }
     ensures within { IfOk result (λ front. front.used ≤ length rest.now) }
-    ensures told { IfOk result (λ front. Tells D.goes (Place.Tag held) (take front.used rest.now) front.place sink.old sink.new) }
+    ensures told { IfOk result (λ front. Tells D.goes (DatasetPlace.Tag held) (take front.used rest.now) front.place sink.old sink.new) }
     ensures onward { IfOk result (λ front. GoesOn D.stands D.ends front.step front.place sink.new) }
     ensures refused_place { IfErr result (λ refused. IsPlace refused.place) }
     ensures before { IfErr result (λ refused. refused.fault.used < length rest.now) }
-    ensures refused { IfErr result (λ refused. Refuses D.goes D.stops (Place.Tag held) rest.now refused.fault refused.place sink.old sink.new) }
+    ensures refused { IfErr result (λ refused. Refuses D.goes D.stops (DatasetPlace.Tag held) rest.now refused.fault refused.place sink.old sink.new) }
     ensures open { IfErr result (λ refused. StillStands D.stands (is_of refused.fault.cause) refused.place sink.new) }
 {
     let mut held = held;
@@ -99,7 +100,7 @@ fn take_tag<D: DatasetSink>(
         Ok(None) => {
             lengthen(&mut held, rest);
             Ok(Front {
-                place: Place::Tag(held),
+                place: DatasetPlace::Tag(held),
                 step: Step::More,
                 used: rest.len(),
             })
@@ -109,37 +110,38 @@ fn take_tag<D: DatasetSink>(
             let cause = tag_fault(fault.cause);
             lengthen(&mut held, &rest[..used]);
             Err(Refused {
-                place: Place::Tag(held),
+                place: DatasetPlace::Tag(held),
                 fault: Fault { cause, used },
             })
         }
     }
 }
 
-/// Takes octets of data of which so many are to come: up to their end, or all of them.
+/// Takes octets of data of which `left` are to come: up to their end, or all of them.
 fn take_data<D: DatasetSink>(
     head: Head,
     left: u64,
     rest: &[u8],
     sink: &mut D,
 ) -> Result<Front, Refused>
-    requires place { IsPlace (Place.Inside head left) }
+    requires place { IsPlace (DatasetPlace.Inside head left) }
     requires stands { D.stands sink.old (Some left) }
     requires some { 0 < length rest.now }
     ensures is_place { IfOk result (λ front. IsPlace front.place) }
     ensures some { IfOk result (λ front. 0 < front.used) }
     ensures within { IfOk result (λ front. front.used ≤ length rest.now) }
-    ensures told { IfOk result (λ front. Tells D.goes (Place.Inside head left) (take front.used rest.now) front.place sink.old sink.new) }
+    ensures told { IfOk result (λ front. Tells D.goes (DatasetPlace.Inside head left) (take front.used rest.now) front.place sink.old sink.new) }
     ensures onward { IfOk result (λ front. GoesOn D.stands D.ends front.step front.place sink.new) }
     ensures refused_place { IfErr result (λ refused. IsPlace refused.place) }
     ensures before { IfErr result (λ refused. refused.fault.used < length rest.now) }
-    ensures refused { IfErr result (λ refused. Refuses D.goes D.stops (Place.Inside head left) rest.now refused.fault refused.place sink.old sink.new) }
+    ensures refused { IfErr result (λ refused. Refuses D.goes D.stops (DatasetPlace.Inside head left) rest.now refused.fault refused.place sink.old sink.new) }
     ensures open { IfErr result (λ refused. StillStands D.stands (is_of refused.fault.cause) refused.place sink.new) }
 {
     if (rest.len() as u64) < left {
+        let left = left - rest.len() as u64;
         return match sink.run(rest) {
             Ok(()) => Ok(Front {
-                place: Place::Inside(head, left - rest.len() as u64),
+                place: DatasetPlace::Inside { head, left },
                 step: Step::More,
                 used: rest.len(),
             }),
@@ -161,7 +163,11 @@ fn take_data<D: DatasetSink>(
 }
 
 /// Takes a front of the octets that are left, the longest that lies in one tag, or in the data of one dataset.
-fn take_front<D: DatasetSink>(place: Place, rest: &[u8], sink: &mut D) -> Result<Front, Refused>
+fn take_front<D: DatasetSink>(
+    place: DatasetPlace,
+    rest: &[u8],
+    sink: &mut D,
+) -> Result<Front, Refused>
     requires place { IsPlace place }
     requires stands { D.stands sink.old (to_come place) }
     requires some { 0 < length rest.now }
@@ -176,18 +182,18 @@ fn take_front<D: DatasetSink>(place: Place, rest: &[u8], sink: &mut D) -> Result
     ensures open { IfErr result (λ refused. StillStands D.stands (is_of refused.fault.cause) refused.place sink.new) }
 {
     match place {
-        Place::Tag(held) => take_tag(held, rest, sink),
-        Place::Inside(head, left) => take_data(head, left, rest, sink),
+        DatasetPlace::Tag(held) => take_tag(held, rest, sink),
+        DatasetPlace::Inside { head, left } => take_data(head, left, rest, sink),
     }
 }
 
 /// Takes octets from a place on, all of them or up to the end of the dataset that the sink called the last, and answers the
-/// place behind them and how many they are.
+/// place after them and how many they are.
 pub(crate) fn take_piece<D: DatasetSink>(
-    place: Place,
+    place: DatasetPlace,
     octets: &[u8],
     sink: &mut D,
-) -> Result<(Place, usize), Refused>
+) -> Result<(DatasetPlace, usize), Refused>
     requires place { IsPlace place }
     requires stands { D.stands sink.old (to_come place) }
     ensures is_place { IfOk result (λ front. IsPlace front.0) }

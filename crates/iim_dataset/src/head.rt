@@ -43,7 +43,7 @@ pub const TAG_MARKER: u8 = 0x1c;
 /// The first octet of an extended count: its top bit is set, and no count has more than 255 octets.
 const EXTENDED: u8 = 0x80;
 
-/// The most octets of an extended count behind its first two (profile).
+/// The most octets of an extended count after its first two (profile).
 const COUNT_OCTETS: u8 = 4;
 
 /// The octets of a tag up to the end of a standard count.
@@ -53,7 +53,7 @@ const TAG_LENGTH: usize = 5;
 const MAX_STANDARD: u64 = 32_767;
 
 /// Reads the tag at the front: its head and its length in octets. `None` where the octets end inside the tag. An error
-/// tells the first octet with which no tag goes on.
+/// tells the first octet with which no tag can continue.
 ///
 /// A count of two octets has its top bit clear. An extended count is 80 hex, how many octets follow (1 to 4), and the
 /// count in these, high octet first; leading zeros are accepted, and so is an extended count of few octets.

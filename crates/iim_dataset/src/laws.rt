@@ -1,6 +1,6 @@
 //! What holds of all spellings, whatever form the counts have.
 
-ghost use Rattle.iim_dataset.specs.Laws.{CanonicalStreamsAreSpelled, CanonicalTagsReadBack, EventsTellTheDatasets, NoDatasetBeginsAnother, NoOctetsGoOn, NoTagBeginsAnother, OctetsAreHandedOnOneWay, OctetsDieInTheirTag, OctetsSplitOneWay, ReadOctetsGoOn, ReadOctetsSplit, ReadersDieExactly, WhatAnOctetCompletes};
+ghost use Rattle.iim_dataset.specs.Laws.{CanonicalStreamsAreSpelled, CanonicalTagsReadBack, EventsTellTheDatasets, NoDatasetBeginsAnother, NoOctetsGoOn, NoTagBeginsAnother, OctetsAreHandedOnOneWay, OctetsDieInTheirTag, OctetsLeadToOnePlace, OctetsSplitOneWay, PlacesAreReached, ReadOctetsGoOn, ReadOctetsSplit, ReadersDieExactly, WhatAnOctetCompletes};
 
 /// No tag begins another.
 pub fn no_tag_begins_another()
@@ -22,7 +22,17 @@ pub fn octets_are_handed_on_one_way()
     ensures { OctetsAreHandedOnOneWay }
 {}
 
-/// Where no tag goes on with an octet, the octets so far with that one begin no datasets, whatever follows.
+/// A [`crate::HeadReader`] stands at a place to which some octets lead, and each of those places is one at which it may stand.
+pub fn places_are_reached()
+    ensures { PlacesAreReached }
+{}
+
+/// The same octets lead to one place, whatever the cut.
+pub fn octets_lead_to_one_place()
+    ensures { OctetsLeadToOnePlace }
+{}
+
+/// Where no tag can continue with an octet, the octets so far with that one begin no datasets, whatever follows.
 pub fn no_octets_go_on()
     ensures { NoOctetsGoOn }
 {}

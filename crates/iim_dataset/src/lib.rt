@@ -30,9 +30,11 @@ pub use head::{Head, HeadCause, HeadFault, TAG_MARKER, head_bytes};
 pub use laws::{
     canonical_streams_are_spelled, canonical_tags_read_back, events_tell_the_datasets,
     no_dataset_begins_another, no_octets_go_on, no_tag_begins_another,
-    octets_are_handed_on_one_way, octets_die_in_their_tag, octets_split_one_way, read_octets_go_on,
-    read_octets_split, readers_die_exactly, what_an_octet_completes,
+    octets_are_handed_on_one_way, octets_die_in_their_tag, octets_lead_to_one_place,
+    octets_split_one_way, places_are_reached, read_octets_go_on, read_octets_split,
+    readers_die_exactly, what_an_octet_completes,
 };
+pub use place::DatasetPlace;
 pub use reader::HeadReader;
 pub use sink::{DatasetSink, Step};
 pub use source::{FromRead, Source, take};

@@ -14,13 +14,18 @@ const TAG_OCTETS: usize = 9;
 /// The most octets of a tag that is not whole.
 pub(crate) const HELD_OCTETS: usize = 8;
 
-/// Where the next octet stands.
+/// Where the next octet of a stream of datasets stands.
 #[derive(Debug, Drop)]
-pub(crate) enum Place {
+pub enum DatasetPlace {
     /// In a tag, of which these octets have come; between datasets none.
     Tag(ArrayVec<u8, HELD_OCTETS>),
-    /// In the data of this head, of which so many octets are to come.
-    Inside(Head, u64),
+    /// In the data of a dataset.
+    Inside {
+        /// What the dataset's tag told.
+        head: Head,
+        /// How many octets of the data are to come.
+        left: u64,
+    },
 }
 
 /// Adds octets, for which there is room.
@@ -43,7 +48,7 @@ fn tag_room(held: &[u8], next: &[u8]) -> ArrayVec<u8, TAG_OCTETS>
     tag
 }
 
-/// Reads the tag that begins with the held octets and goes on with the next ones, as [`read_head`] does.
+/// Reads the tag that begins with the held octets and continues with the next ones, as [`read_head`] does.
 pub(crate) fn read_tag(held: &[u8], next: &[u8]) -> Result<Option<(Head, usize)>, HeadFault>
     requires { length held.now ≤ 8 }
     ensures found { IfOk result (λ found. MatchOption found (BeginsTag count_octets (held.now ++ next.now)) (λ f. HasTag (held.now ++ next.now) f.0 f.1)) }

@@ -4,7 +4,7 @@ ghost use Rattle.std.specs.Prelude.{◌≡◌, ◌<◌, ◌≤◌, [], length, t
 
 use crate::fault::Fault;
 use crate::front::{start, take_piece};
-use crate::place::Place;
+use crate::place::DatasetPlace;
 use crate::sink::DatasetSink;
 use std::marker::Model;
 use std::mem;
@@ -13,7 +13,7 @@ use std::mem;
 /// are to come. No call takes memory.
 #[derive(Debug, Drop)]
 pub struct HeadReader {
-    place: Place,
+    place: DatasetPlace,
     failed: bool,
 }
 
@@ -52,16 +52,16 @@ impl HeadReader {
     }
 
     /// The record and the number of the dataset that is begun, each 0 while it is unread; both 0 between datasets. Where no tag
-    /// went on with an octet they are those of the tag before it, and behind a stop of the sink both are 0.
+    /// can continue with an octet they are those of the tag before it, and after a stop of the sink both are 0.
     pub fn named(&self) -> (u8, u8)
         ensures { result ≡ named_by self.now.place }
     {
         match &self.place {
-            Place::Tag(held) => (
+            DatasetPlace::Tag(held) => (
                 held.get(1).copied().unwrap_or(0),
                 held.get(2).copied().unwrap_or(0),
             ),
-            Place::Inside(head, _) => (head.rec, head.set),
+            DatasetPlace::Inside { head, .. } => (head.rec, head.set),
         }
     }
 
@@ -80,7 +80,7 @@ impl HeadReader {
             Tells D.goes self.old.place (take used octets.now) self.new.place sink.old sink.new) }
         ensures onward { IfOk result (TookAll D.stands D.ends self.new.place sink.new (length octets.now)) }
 
-        // With the refused octet no tag goes on, or the sink stopped at what it completes.
+        // With the refused octet no tag can continue, or the sink stopped at what it completes.
         ensures failed { OnErr result (IsFailed self.new) }
         ensures before { IfErr result (λ fault. fault.used < length octets.now) }
         ensures refused { IfErr result (λ fault.

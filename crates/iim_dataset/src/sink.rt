@@ -24,7 +24,7 @@ pub trait DatasetSink {
     /// From one value to another by these events, where the next one was refused.
     ghost stops: { Self → List Event → Event → Self → Type 0 };
 
-    /// It takes calls, and so many octets of the begun dataset are to come; None between datasets.
+    /// It takes calls, and this number of octets of the begun dataset is to come; None between datasets.
     ghost stands: { Self → Option ℕ → Type 0 };
 
     /// It has called a dataset the last one.
@@ -61,6 +61,6 @@ pub trait DatasetSink {
     /// Events and then others lead where all of them joined lead.
     ghost joined: { (a b c : Self) (xs ys : List Event) → goes a xs b → goes b ys c → goes a (xs ++ ys) c };
 
-    /// A refusal behind events is one behind all of them joined.
+    /// A refusal after events is one after all of them joined.
     ghost joined_stop: { (a b c : Self) (xs ys : List Event) (refused : Event) → goes a xs b → stops b ys refused c → stops a (xs ++ ys) refused c };
 }

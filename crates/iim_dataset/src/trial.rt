@@ -14,7 +14,7 @@ use arrayvec::ArrayVec;
 pub enum Trouble {
     /// This call and all later ones fail.
     Failure,
-    /// So many interruptions come, and then nothing goes wrong any more.
+    /// This number of interruptions comes, and then nothing goes wrong any more.
     Interruptions(u32),
 }
 
@@ -74,7 +74,7 @@ impl Plan {
     }
 }
 
-/// A source of known octets that gives one a call, with trouble after so many good calls.
+/// A source of known octets that gives one a call, with trouble after `good` good calls.
 #[derive(Drop)]
 pub struct TrialReader<'a> {
     octets: &'a [u8],
@@ -126,7 +126,7 @@ impl Source for TrialReader<'_> {
     }
 }
 
-/// A target that takes one octet a call while it has less than `N` and then none, with trouble after so many good calls.
+/// A target that takes one octet a call while it has less than `N` and then none, with trouble after `good` good calls.
 #[derive(Drop)]
 pub struct TrialWriter<const N: usize> {
     octets: ArrayVec<u8, N>,

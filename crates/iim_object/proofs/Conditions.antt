@@ -1,5 +1,5 @@
 -- The first cause by tests is the cause of the lowest number whose condition holds.
-use Rattle.std.proofs.Common.{◌≡◌, ℕ, ◌+◌, ◌<◌, ◌≤◌, ◌==◌, if◌then◌else◌, Bool, true, false, ◌&&◌, not, nat_lt, eqb, List, sum, Option, Some, None, is_some, unwrap_or, ◌^◌, refl, sym, ap, subst, ◌∙◌, arith, inl, inr}
+use Rattle.std.proofs.Common.{◌≡◌, ℕ, ◌+◌, ◌<◌, ◌≤◌, ◌==◌, if◌then◌else◌, Bool, true, false, ◌&&◌, not, nat_lt, eqb, List, sum, Option, Some, None, is_some, unwrap_or, refl, sym, ap, subst, ◌∙◌, arith, inl, inr}
 use Rattle.std.proofs.lemmas.Bool.{cases_Bool, cases_lt, eqb-true, eq-eqb, lt-ltb}
 use Rattle.iim_dataset.specs.Languages.{IsAlive, DiesAt}
 use Rattle.iim_tables.specs.Numbers.{greatest_size}
@@ -12,7 +12,7 @@ use Rattle.iim_object.specs.Places.{Place, MayFollow, HasBoth, tokens_of, place_
 use Rattle.iim_object.specs.Causes.{is_given, is_above, bound, is_past, cause_at}
 use Rattle.iim_object.specs.Conditions.{number_of, stated_with, PassesBound, HasCause, IsFirstCause, CausesAreTheFirst, ObjectsDieForCauses}
 use Rattle.iim_object.specs.Reading.{StandsAt}
-use Rattle.iim_object.proofs.Steps.{tells_of, number_tells, number_cause_is, number_goes_on, number_refused, subfile_cause_is, clear_of, subfile_goes_on, subfile_refused, end_cause_is, end_goes_on, end_refused, confirmed_cause_is, confirmed_goes_on, confirmed_refused, tokens_follow, given_is, is_given_by, none_of, both_true, given, not_below, is_below, announced_small, not_true}
+use Rattle.iim_object.proofs.Steps.{tells_of, number_tells, number_cause_is, number_goes_on, number_refused, subfile_cause_is, subfile_goes_on, subfile_refused, end_cause_is, end_goes_on, end_refused, confirmed_cause_is, confirmed_goes_on, confirmed_refused, tokens_follow, given_is, is_given_by, none_of, both_true, given, not_below, is_below, announced_small, not_true}
 
 -- ---- numbers of causes
 
@@ -367,14 +367,7 @@ leads s p (SubfileBegun count) st (not_ended, both, few) =
     let t = tells_of s p st in
     let is = subfile_cause_is s p count t in
     record {
-      on = λ e.
-          let clear = clear_of p.stated (sum p.lengths) count e in
-          let within = not_below (bound (number_at 90 p.stated) (number_at 95 p.stated)) (sum p.lengths + count) clear.within in
-          let small = announced_small p.stated st.stated (number_at 90 p.stated) refl in
-          let subfiles : s.subfiles < 2 ^ 64 = omega (arith, t.subfiles, few) in
-          let total : s.total < 2 ^ 64 = omega (arith, t.total, within, small) in
-          let count_small : count < 2 ^ 64 = omega (arith, within, small) in
-          (subfile_goes_on s count subfiles total count_small (is ∙ e) p st (not_ended, both, few)).alive;
+      on = λ e. (subfile_goes_on s count (is ∙ e) p st (not_ended, both, few)).alive;
       dead = λ c e. (subfile_refused s count c (is ∙ e) p st (not_ended, both, few)).0;
     }
 leads s p ObjectEnded st may =

@@ -11,3 +11,5 @@ pub mod Cutting
 pub mod PackedSizes
 pub mod Outputs
 pub mod Writing
+pub mod Reached
+pub mod Staying

@@ -1,5 +1,5 @@
 -- How each token leads on, and where the object layer dies with it.
-use Rattle.std.proofs.Common.{◌≡◌, ℕ, zero, suc, ◌+◌, ◌-◌, ◌^◌, ◌<◌, ◌≤◌, Bool, true, false, ◌&&◌, not, nat_lt, min, eqb, List, [], ◌∷◌, ◌++◌, length, map, sum, Option, Some, None, is_some, IfSome, unwrap_or, refl, sym, ap, subst, ◌∙◌, arith, inl, inr, append_assoc, append-nil, length-append}
+use Rattle.std.proofs.Common.{◌≡◌, ℕ, zero, suc, ◌+◌, ◌<◌, ◌≤◌, Bool, true, false, ◌&&◌, not, nat_lt, min, eqb, List, [], ◌∷◌, ◌++◌, length, map, sum, Option, Some, None, is_some, IfSome, unwrap_or, refl, sym, ap, subst, ◌∙◌, arith, inl, inr, append_assoc, append-nil, length-append}
 use Rattle.std.specs.List.{AllByRecursion}
 use Rattle.std.proofs.lemmas.List.{map-append}
 use Rattle.std.proofs.lemmas.Bool.{cases_Bool, cases_lt, eqb-true, eq-eqb, lt-ltb, le-ltb}
@@ -14,7 +14,7 @@ use Rattle.iim_object.specs.Living.{NoClash, HasDuties, Fit}
 use Rattle.iim_object.specs.Places.{Place, Ending, NotEnded, Ended, ConfirmedAs, ending_tokens, tokens_of, place_after, place_start, HasBoth}
 use Rattle.iim_object.specs.Behind.{TokensFollow}
 use Rattle.iim_object.specs.Causes.{is_given, is_above, number_cause, bound, is_past, subfile_cause, end_cause, confirmed_cause, cause_at}
-use Rattle.iim_object.specs.Reading.{Tells, StandsAt, GoesOn, Refuses, IsSizes}
+use Rattle.iim_object.specs.Reading.{Tells, StandsAt, GoesOn, LivesWith, Refuses, IsSizes}
 use Rattle.iim_object.specs.States.{set_where, state_start, state_with}
 use Rattle.iim_object.proofs.Numbers.{at-append, at_most_size, in_row_at, mode_at_most_one, none-append, read-append}
 use Rattle.iim_object.proofs.Subfiles.{numbers_law, subfiles_law, ends_law, confirmed_law, each_append, sum_append}
@@ -75,7 +75,7 @@ both_true true false e = absurd cc
 both_true false b e = absurd cc
 
 -- no cause, no clash
-clear_numbers : (ps : List Stated) → number_cause (number_at 10 ps) (number_at 90 ps) (number_at 95 ps) ≡ None → NoClash ps
+pub clear_numbers : (ps : List Stated) → number_cause (number_at 10 ps) (number_at 90 ps) (number_at 95 ps) ≡ None → NoClash ps
 clear_numbers ps e = elim (cases_Bool (is_given (number_at 10 ps) 0 && is_some (number_at 90 ps))) [
   | inl t ↦ let clash : ◌≡◌ {A = Option SizeCause} (Some ModeClash) None = (rw t at e) in absurd cc
   | inr f ↦ elim (cases_Bool (is_above (number_at 90 ps) (number_at 95 ps))) [
@@ -121,7 +121,7 @@ number_after p set number none not_ended =
     ∙ (ap (λ (ls : List ℕ). number_tokens (p.stated ++ record { set = set; number = number } ∷ []) ++ (map SubfileBegun ls ++ [])) none
     ∙ append-nil (number_tokens (p.stated ++ record { set = set; number = number } ∷ [])))
 
-number_before : (p : Place) → p.lengths ≡ [] → p.ending ≡ NotEnded → tokens_of p ≡ number_tokens p.stated
+pub number_before : (p : Place) → p.lengths ≡ [] → p.ending ≡ NotEnded → tokens_of p ≡ number_tokens p.stated
 number_before p none not_ended =
     ap (λ (e : Ending). number_tokens p.stated ++ (map SubfileBegun p.lengths ++ ending_tokens e)) not_ended
     ∙ (ap (λ (ls : List ℕ). number_tokens p.stated ++ (map SubfileBegun ls ++ [])) none ∙ append-nil (number_tokens p.stated))
@@ -188,7 +188,7 @@ given None e = absurd cc
 given (Some n) e = (n, refl)
 
 -- mode and largest subfile
-both_of : (ps : List Stated) → AreStated ps → HasBoth ps → (known : Bool) × (subfile : ℕ) × HasDuties known subfile ps
+pub both_of : (ps : List Stated) → AreStated ps → HasBoth ps → (known : Bool) × (subfile : ℕ) × HasDuties known subfile ps
 both_of ps stated both =
     let mode = given (number_at 10 ps) both.0 in
     let largest = given (number_at 20 ps) both.1 in
@@ -334,7 +334,7 @@ subfile_tells s p count subfiles total t more octets = record {
 pub subfile_cause_is : (s : State) (p : Place) (count : ℕ) → Tells s p → subfile_cause s.mode s.subfile s.announced s.maximum s.total count ≡ cause_at p (SubfileBegun count)
 subfile_cause_is s p count t = λ i. subfile_cause (t.mode i) (t.largest i) (t.announced i) (t.maximum i) (t.total i) count
 
-not_ended_tokens : (p : Place) → p.ending ≡ NotEnded → tokens_of p ≡ number_tokens p.stated ++ map SubfileBegun p.lengths
+pub not_ended_tokens : (p : Place) → p.ending ≡ NotEnded → tokens_of p ≡ number_tokens p.stated ++ map SubfileBegun p.lengths
 not_ended_tokens p e =
     ap (λ (x : Ending). number_tokens p.stated ++ (map SubfileBegun p.lengths ++ ending_tokens x)) e ∙ open_tokens p.stated p.lengths
 
@@ -347,9 +347,9 @@ subfile_tokens p count e =
 some_longer : (lengths : List ℕ) (count : ℕ) → 0 < length (lengths ++ count ∷ [])
 some_longer lengths count = omega (arith, length-append lengths (count ∷ []))
 
-pub subfile_goes_on : (s : State) (count : ℕ) → s.subfiles < 2 ^ 64 → s.total < 2 ^ 64 → count < 2 ^ 64 → subfile_cause s.mode s.subfile s.announced s.maximum s.total count ≡ None
-    → GoesOn (Some s) (SubfileBegun count) (Some (record s { subfiles = min (s.subfiles + 1) (2 ^ 64 - 1); total = min (s.total + count) (2 ^ 64 - 1) }))
-subfile_goes_on s count a b c no_cause p st (not_ended, both, few) =
+pub subfile_goes_on : (s : State) (count : ℕ) → subfile_cause s.mode s.subfile s.announced s.maximum s.total count ≡ None
+    → GoesOn (Some s) (SubfileBegun count) (Some (record s { subfiles = s.subfiles + 1; total = s.total + count }))
+subfile_goes_on s count no_cause p st (not_ended, both, few) =
     let t = tells_of s p st in
     let duties = both_of p.stated st.stated both in
     let d = duties.2 in
@@ -357,13 +357,10 @@ subfile_goes_on s count a b c no_cause p st (not_ended, both, few) =
     let so = so_far duties.0 duties.1 p.stated p.lengths d open_now in
     let clear = clear_of p.stated (sum p.lengths) count (sym (subfile_cause_is s p count t) ∙ no_cause) in
     let fit = subfile_fits duties.0 duties.1 p.stated p.lengths count d so clear in
-    let sums = sum_more p.lengths count in
-    let total : min (s.total + count) (2 ^ 64 - 1) ≡ s.total + count = omega (arith, t.total, fit.total, sums) in
-    let subfiles : min (s.subfiles + 1) (2 ^ 64 - 1) ≡ s.subfiles + 1 = omega (arith, t.subfiles, few) in
     record {
-      state = record s { subfiles = min (s.subfiles + 1) (2 ^ 64 - 1); total = min (s.total + count) (2 ^ 64 - 1) };
+      state = record s { subfiles = s.subfiles + 1; total = s.total + count };
       is_state = refl;
-      tells = subfile_tells s p count (min (s.subfiles + 1) (2 ^ 64 - 1)) (min (s.total + count) (2 ^ 64 - 1)) t subfiles total;
+      tells = subfile_tells s p count (s.subfiles + 1) (s.total + count) t refl refl;
       stated = st.stated;
       subfiles = λ e. not_ended;
       duties = λ some. both;
@@ -526,6 +523,10 @@ tokens_follow p (NumberRead set number) (not_ended, none, stated) =
 tokens_follow p (SubfileBegun count) (not_ended, both, few) = not_ended_tokens (place_after p (SubfileBegun count)) not_ended ∙ sym (subfile_tokens p count not_ended)
 tokens_follow p ObjectEnded (not_ended, some) = sym (end_tokens p not_ended)
 tokens_follow p (Confirmed n) ended = sym (confirmed_tokens p n ended)
+
+-- a token that leads on leaves the object layer alive
+pub lives_with : (old new : Option State) (token : ObjectToken) → GoesOn old token new → LivesWith old token
+lives_with old new token goes p st may = subst (IsAlive ObjectLanguage) (tokens_follow p token may) (goes p st may).alive
 
 -- ---- the beginning, and the sizes at the end
 

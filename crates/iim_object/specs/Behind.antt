@@ -18,11 +18,11 @@ abbrev pub ending_of : List Dataset → Ending
 ending_of [] = NotEnded
 ending_of (d ∷ ds) = ConfirmedAs (number d.octets)
 
--- the place behind datasets: the numbers of record 7, the lengths of record 8, and the number of record 9
+-- the place after datasets: the numbers of record 7, the lengths of record 8, and the number of record 9
 abbrev pub place_behind : List Dataset → Place
 place_behind ds = record { stated = numbers_of (of_record 7 ds); lengths = lengths_of (of_record 8 ds); ending = ending_of (of_record 9 ds) }
 
--- the place behind datasets and the head of 9:10
+-- the place after datasets and the head of 9:10
 abbrev pub place_ended : List Dataset → Place
 place_ended ds = record (place_behind ds) { ending = Ended }
 
@@ -36,11 +36,11 @@ object_tokens ds = tokens_of (place_behind ds)
 abbrev pub TokensAreOfSizedDatasets : Type 0
 TokensAreOfSizedDatasets = (tokens : List ObjectToken) → ObjectLanguage tokens ↔ ((ds : List Dataset) × AreSized ds × (object_tokens ds ≡ tokens))
 
--- Datasets as their rows say go on to some that have sizes exactly where the object layer can go on from their tokens.
+-- Datasets as their rows say can continue to some that have sizes exactly where the object layer can continue from their tokens.
 abbrev pub DatasetsLiveWithTheirTokens : Type 0
 DatasetsLiveWithTheirTokens = (ds : List Dataset) → IsAlive AreRecords ds → IsAlive AreSized ds ↔ IsAlive ObjectLanguage (object_tokens ds)
 
--- So they do with a dataset of record 9 exactly where the object layer can go on from the end of the object.
+-- So they do with a dataset of record 9 exactly where the object layer can continue from the end of the object.
 abbrev pub DatasetsEndWithTheirTokens : Type 0
 DatasetsEndWithTheirTokens = (ds : List Dataset) (d : Dataset) → IsAlive AreRecords (ds ++ d ∷ []) → d.rec ≡ 9
     → ((e : Dataset) × (e.rec ≡ 9) × IsAlive AreSized (ds ++ e ∷ [])) ↔ IsAlive ObjectLanguage (tokens_of (place_ended ds))
@@ -57,17 +57,17 @@ Leads p token q = MayFollow p token × (place_after p token ≡ q)
 abbrev pub OthersLeadNowhere : Type 0
 OthersLeadNowhere = (ds : List Dataset) (d : Dataset) → d.rec < 7 → place_behind (ds ++ d ∷ []) ≡ place_behind ds
 
--- A number of record 7 that the rows admit leads behind its dataset.
+-- A number of record 7 that the rows admit leads to the place after its dataset.
 abbrev pub NumbersLead : Type 0
 NumbersLead = (ds : List Dataset) (d : Dataset) → IsAlive AreRecords (ds ++ d ∷ []) → d.rec ≡ 7
     → Leads (place_behind ds) (NumberRead d.set (number d.octets)) (place_behind (ds ++ d ∷ []))
 
--- The head of a subfile that the rows admit leads behind it, if there are not too many.
+-- The head of a subfile that the rows admit leads to the place after it, if there are not too many.
 abbrev pub SubfilesLead : Type 0
 SubfilesLead = (ds : List Dataset) (d : Dataset) → IsAlive AreRecords (ds ++ d ∷ []) → d.rec ≡ 8 → length (of_record 8 ds) < max_subfiles
     → Leads (place_behind ds) (SubfileBegun (length d.octets)) (place_behind (ds ++ d ∷ []))
 
--- The head of 9:10 leads to the end of the object, and its number behind the dataset.
+-- The head of 9:10 leads to the end of the object, and its number to the place after the dataset.
 abbrev pub EndsLead : Type 0
 EndsLead = (ds : List Dataset) (d : Dataset) → IsAlive AreRecords (ds ++ d ∷ []) → d.rec ≡ 9
     → Leads (place_behind ds) ObjectEnded (place_ended ds) × Leads (place_ended ds) (Confirmed (number d.octets)) (place_behind (ds ++ d ∷ []))

@@ -29,7 +29,7 @@ number_cause mode announced maximum =
 abbrev pub bound : Option ℕ → Option ℕ → ℕ
 bound announced maximum = min (unwrap_or announced greatest_size) (unwrap_or maximum greatest_size)
 
--- so many octets more are too many
+-- with `count` octets more the total is above the most
 abbrev pub is_past : ℕ → ℕ → ℕ → Bool
 is_past most total count = nat_lt most (total + count)
 
@@ -49,7 +49,7 @@ end_cause announced total = if nat_lt total (unwrap_or announced 0) then Some Sh
 abbrev pub confirmed_cause : ℕ → ℕ → Option SizeCause
 confirmed_cause total n = if n == total then None else Some ConfirmedWrong
 
--- the first cause for which a token is refused behind a place
+-- the first cause for which a token is refused after a place
 abbrev pub cause_at : Place → ObjectToken → Option SizeCause
 cause_at p (NumberRead set n) =
     let ps = p.stated ++ record { set = set; number = n } ∷ [] in number_cause (number_at 10 ps) (number_at 90 ps) (number_at 95 ps)

@@ -29,7 +29,7 @@ PassesBound ps total = (greatest_size < total)
     ⊎ (((announced : ℕ) × (number_at 90 ps ≡ Some announced) × (announced < total))
     ⊎ ((most : ℕ) × (number_at 95 ps ≡ Some most) × (most < total)))
 
--- The condition of a cause, at a token behind a place.
+-- The condition of a cause, at a token after a place.
 -- 20: mode 0 with an announced size, at the later of the two; or mode 1 without one, at a subfile.
 -- 21: the announced size is above the maximum, at the later of the two.
 -- 22: the subfile is longer than the largest may be.

@@ -6,11 +6,11 @@ use Rattle.std.specs.List.{AllByRecursion}
 abbrev pub joined_parts : List (List ℕ) → List ℕ
 joined_parts parts = flat_map (λ part. part) parts
 
--- Each part has just so many octets.
+-- Each part has `size` octets.
 abbrev pub AreFull : ℕ → List (List ℕ) → Type 0
 AreFull size parts = AllByRecursion (λ part. length part ≡ size) parts
 
--- The object is cut into full parts of so many octets, and a last one of 1 up to so many. An empty object is one empty part.
+-- The object is cut into full parts of `size` octets, and a last one of 1 up to as many. An empty object is one empty part.
 pub record IsCut (size : ℕ) (object : List ℕ) (parts : List (List ℕ)) : Type 0 where
   pub full : List (List ℕ)
   pub last : List ℕ

@@ -9,6 +9,7 @@ pub mod Behind
 pub mod Causes
 pub mod States
 pub mod Reading
+pub mod Reached
 pub mod Conditions
 pub mod Told
 pub mod Cuts

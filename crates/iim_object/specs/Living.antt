@@ -1,4 +1,4 @@
--- When the object layer can go on, by the numbers and lengths so far.
+-- When the object layer can continue, by the numbers and lengths so far.
 use Rattle.std.specs.Prelude.{◌≡◌, ◌↔◌, ℕ, ◌<◌, ◌≤◌, Bool, List, [], ◌∷◌, ◌++◌, length, map, sum, is_some, Some, None, IfSome}
 use Rattle.std.specs.List.{AllByRecursion}
 use Rattle.iim_dataset.specs.Languages.{IsAlive}
@@ -31,21 +31,21 @@ pub record Fit (known : Bool) (subfile : ℕ) (ps : List Stated) (lengths : List
 abbrev pub IsWhole : List Stated → List ℕ → Type 0
 IsWhole ps lengths = IfSome (number_at 90 ps) (λ a. sum lengths ≡ a)
 
--- While record 7 is read the object layer can go on exactly where its numbers don't clash.
+-- While record 7 is read the object layer can continue exactly where its numbers don't clash.
 abbrev pub NumbersLiveWithoutClash : Type 0
 NumbersLiveWithoutClash = (ps : List Stated) → AreStated ps → IsAlive ObjectLanguage (number_tokens ps) ↔ NoClash ps
 
--- While subfiles come it can go on exactly where they fit.
+-- While subfiles come it can continue exactly where they fit.
 abbrev pub SubfilesLiveWhileTheyFit : Type 0
 SubfilesLiveWhileTheyFit = (known : Bool) (subfile : ℕ) (ps : List Stated) (lengths : List ℕ) → HasDuties known subfile ps → 0 < length lengths
     → IsAlive ObjectLanguage (number_tokens ps ++ map SubfileBegun lengths) ↔ Fit known subfile ps lengths
 
--- At the end of the object it can go on exactly where the subfiles fit and are whole.
+-- At the end of the object it can continue exactly where the subfiles fit and are whole.
 abbrev pub ObjectsEndWhereTheyAreWhole : Type 0
 ObjectsEndWhereTheyAreWhole = (known : Bool) (subfile : ℕ) (ps : List Stated) (lengths : List ℕ) → HasDuties known subfile ps → 0 < length lengths
     → IsAlive ObjectLanguage (number_tokens ps ++ (map SubfileBegun lengths ++ ObjectEnded ∷ [])) ↔ (Fit known subfile ps lengths × IsWhole ps lengths)
 
--- With the confirmed size it can go on exactly where that is the total, too.
+-- With the confirmed size it can continue exactly where that is the total, too.
 abbrev pub TotalsAreConfirmed : Type 0
 TotalsAreConfirmed = (known : Bool) (subfile : ℕ) (ps : List Stated) (lengths : List ℕ) (n : ℕ) → HasDuties known subfile ps → 0 < length lengths
     → IsAlive ObjectLanguage (number_tokens ps ++ (map SubfileBegun lengths ++ (ObjectEnded ∷ Confirmed n ∷ [])))

@@ -4,7 +4,7 @@ use Rattle.iim_object.specs.Plans.{max_subfiles}
 use Rattle.iim_object.specs.Sizes.{Stated, AreStated, number_at}
 use Rattle.iim_object.specs.Objects.{ObjectToken, NumberRead, SubfileBegun, ObjectEnded, Confirmed, number_tokens}
 
--- before the end, behind the head of 9:10, behind its value
+-- before the end, after the head of 9:10, after its value
 pub data Ending : Type 0 where
   NotEnded : Ending
   Ended : Ending
@@ -24,7 +24,7 @@ ending_tokens (ConfirmedAs n) = ObjectEnded ∷ Confirmed n ∷ []
 abbrev pub tokens_of : Place → List ObjectToken
 tokens_of p = number_tokens p.stated ++ (map SubfileBegun p.lengths ++ ending_tokens p.ending)
 
--- the place behind one token more
+-- the place after one token more
 abbrev pub place_after : Place → ObjectToken → Place
 place_after p (NumberRead set n) = record p { stated = p.stated ++ record { set = set; number = n } ∷ [] }
 place_after p (SubfileBegun count) = record p { lengths = p.lengths ++ count ∷ [] }
@@ -36,8 +36,8 @@ abbrev pub HasBoth : List Stated → Type 0
 HasBoth ps = (is_some (number_at 10 ps) ≡ true) × (is_some (number_at 20 ps) ≡ true)
 
 -- The record layer has admitted the token, and the limits too: numbers of record 7 that meet their rows, none twice, come
--- before the subfiles; these come behind mode and largest subfile, and not too many; the end behind one subfile at least; and
--- the confirmed size behind the end.
+-- before the subfiles; these come after mode and largest subfile, and not too many; the end after one subfile at least; and
+-- the confirmed size after the end.
 abbrev pub MayFollow : Place → ObjectToken → Type 0
 MayFollow p (NumberRead set n) = (p.ending ≡ NotEnded) × (p.lengths ≡ []) × AreStated (p.stated ++ record { set = set; number = n } ∷ [])
 MayFollow p (SubfileBegun count) = (p.ending ≡ NotEnded) × HasBoth p.stated × (length p.lengths < max_subfiles)

@@ -8,7 +8,7 @@ use Rattle.iim_object.specs.declared.size.Size.TheVariants.{Known, Unknown}
 abbrev pub max_subfiles : ℕ
 max_subfiles = 4294967295
 
--- the most octets that subfiles of so many hold
+-- the most octets that subfiles of `subfile` octets hold
 abbrev pub most_in : ℕ → ℕ
 most_in subfile = subfile * max_subfiles
 

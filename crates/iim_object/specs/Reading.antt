@@ -21,8 +21,8 @@ pub record Tells (s : State) (p : Place) : Type 0 where
   pub subfiles : s.subfiles ≡ length p.lengths
   pub total : s.total ≡ sum p.lengths
 
--- The reader, seen as its state, stands where these tokens, which the record layer admits, have led: the object layer can go
--- on from them.
+-- The reader, seen as its state, stands where these tokens, which the record layer admits, have led: the object layer can
+-- continue from them.
 pub record StandsAt (reader : Option State) (p : Place) : Type 0 where
   pub state : State
   pub is_state : reader ≡ Some state
@@ -41,7 +41,7 @@ abbrev pub Refuses : Option State → ObjectToken → SizeCause → Type 0
 Refuses old token cause = (p : Place) → StandsAt old p → MayFollow p token
     → DiesAt ObjectLanguage (tokens_of p) token × (cause_at p token ≡ Some cause)
 
--- Wherever the reader stands, the object layer can go on with the token.
+-- Wherever the reader stands, the object layer can continue with the token.
 abbrev pub LivesWith : Option State → ObjectToken → Type 0
 LivesWith old token = (p : Place) → StandsAt old p → MayFollow p token → IsAlive ObjectLanguage (tokens_of p ++ token ∷ [])
 

@@ -16,7 +16,7 @@ pub record MeetRows (rec : ℕ) (ds : List Dataset) : Type 0 where
   pub mandatory : (set : ℕ) → IfSome (row_of rec set) (λ r. r.duty ≡ Mandatory → list_any (λ d. d.set == set) ds ≡ true)
   pub once : (set : ℕ) → IfSome (row_of rec set) (λ r. r.repeats ≡ false → count_by (λ d. d.set == set) ds ≤ 1)
 
--- Records 7, 8 and 9 in this order, behind datasets of the records before them.
+-- Records 7, 8 and 9 in this order, after datasets of the records before them.
 pub record AreRecords (ds : List Dataset) : Type 0 where
   pub before : List Dataset
   pub r7 : List Dataset

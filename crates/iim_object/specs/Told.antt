@@ -1,4 +1,4 @@
--- What a reader has to tell behind whole records.
+-- What a reader has to tell after whole records.
 use Rattle.std.specs.Prelude.{List, Option}
 use Rattle.iim_dataset.specs.Datasets.{Dataset}
 use Rattle.iim_object.specs.Records.{AreRecords, HaveSizes}
@@ -7,7 +7,7 @@ use Rattle.iim_object.specs.Reading.{StandsAt}
 use Rattle.iim_object.specs.declared.state.State.{State}
 use Rattle.iim_object.specs.declared.size.Sizes.{Sizes}
 
--- A reader has sizes that are those of the records, wherever it stands behind whole ones.
+-- A reader has sizes that are those of the records, wherever it stands after whole ones.
 abbrev pub ReadersTellSizes : Type 0
 ReadersTellSizes = (reader : Option State) → (sizes : Sizes)
     × ((ds : List Dataset) (r : AreRecords ds) → StandsAt reader (place_behind ds) → HaveSizes r.r7 r.r8 r.r9 sizes)

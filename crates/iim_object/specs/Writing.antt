@@ -40,7 +40,7 @@ total_of w = w.sent + length w.held
 abbrev pub plan_octets : Plan → List ℕ
 plan_octets plan = canonical_stream (plan_datasets plan.subfile plan.size)
 
--- what is out behind record 7 and these subfiles
+-- what is out after record 7 and these subfiles
 abbrev pub begun_octets : Plan → List (List ℕ) → List ℕ
 begun_octets plan parts = canonical_stream (plan_datasets plan.subfile plan.size ++ subfile_datasets parts)
 
@@ -98,7 +98,7 @@ pub record Finishes {W : Type 0} (state : W → Device) (old : Writing W) (write
 
 -- ---- causes
 
--- The first cause against so many octets more: a write failed before, or the object would pass the bound.
+-- The first cause against n octets more: a write failed before, or the object would pass the bound.
 abbrev pub write_cause : {W : Type 0} → Writing W → ℕ → Option PackCause
 write_cause w n =
     if w.failed then Some causes.Failed
@@ -117,7 +117,7 @@ finish_cause w =
     else if is_short w.plan.size (total_of w) then Some causes.ShortOfAnnounced
     else None
 
--- Why so many octets more are refused, in this order: a write failed before; the object would pass the plan's bound, of which the
+-- Why n octets more are refused, in this order: a write failed before; the object would pass the plan's bound, of which the
 -- end takes nothing.
 abbrev pub RefusesOctets : {W : Type 0} → Writing W → ℕ → PackCause → Type 0
 RefusesOctets w n cause = ((w.failed ≡ true) × (cause ≡ causes.Failed))

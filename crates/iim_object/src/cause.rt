@@ -31,10 +31,13 @@ impl PackCause {
     }
 }
 
-/// Nothing was begun: the writer is handed back, with as many octets out as `written` says.
+/// Nothing was begun, and the writer is handed back.
 #[derive(Debug, Drop)]
 pub struct StartFault<W> {
+    /// Why nothing was begun.
     pub cause: PackCause,
+    /// The writer, as it is now.
     pub writer: W,
+    /// How many octets are out.
     pub written: u64,
 }

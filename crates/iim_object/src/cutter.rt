@@ -28,14 +28,19 @@ const CONFIRMED: u8 = 10;
 /// The octets of an object that are not out, and how many are.
 #[derive(Drop)]
 pub(crate) struct Cutter<W> {
+    /// How the object is cut.
     pub plan: Plan,
+    /// The octets that are not out.
     pub held: Vec<u8>,
+    /// How many octets of the object are out.
     pub sent: u64,
+    /// Where the object goes.
     pub output: Output<W>,
+    /// Whether a write failed.
     pub failed: bool,
 }
 
-/// Whether an object of so many octets is below a known size.
+/// Whether an object of `total` octets is below a known size.
 fn is_short(size: Size, total: u64) -> bool
     ensures { result ≡ is_short size total }
 {
@@ -121,7 +126,7 @@ impl<W: Target> Cutter<W> {
         Ok(self.fill(rest))
     }
 
-    /// Why so many octets more are refused.
+    /// Why `octets` more octets are refused.
     pub(crate) fn write_cause(&self, octets: usize) -> Option<PackCause>
         requires room { HasRoom self.now }
         requires small { octets < 2 ^ 63 }

@@ -2,6 +2,7 @@
 
 ghost use Rattle.std.specs.Prelude.{◌≡◌};
 ghost use Rattle.iim_object.specs.Conditions.{number_of};
+ghost use Rattle.iim_object.specs.declared.fault.ObjectFault.TheVariants.{Size, Stopped};
 
 use iim_dataset::Stop;
 
@@ -35,7 +36,30 @@ impl SizeCause {
 #[derive(Clone, Copy, Debug, PartialEq, Eq)]
 pub enum ObjectFault {
     /// The sizes are wrong.
-    Size { cause: SizeCause },
-    /// The sink stopped, after so many octets of the run, or, with none taken, at the end of the object.
+    Size {
+        /// What is wrong with them.
+        cause: SizeCause,
+    },
+    /// The sink stopped, after the octets of the run that it took, or, with none taken, at the end of the object.
     Stopped(Stop),
+}
+
+impl From<SizeCause> for ObjectFault {
+    ghost from_gives = { λ cause fault. fault ≡ Size cause };
+
+    fn from(cause: SizeCause) -> ObjectFault
+        ensures { result ≡ Size cause }
+    {
+        ObjectFault::Size { cause }
+    }
+}
+
+impl From<Stop> for ObjectFault {
+    ghost from_gives = { λ stop fault. fault ≡ Stopped stop };
+
+    fn from(stop: Stop) -> ObjectFault
+        ensures { result ≡ Stopped stop }
+    {
+        ObjectFault::Stopped(stop)
+    }
 }

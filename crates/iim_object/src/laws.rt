@@ -1,30 +1,31 @@
-//! When the object layer can go on, and how its tokens come from datasets. The functions do nothing: their contracts are
+//! When the object layer can continue, and how its tokens come from datasets. The functions do nothing: their contracts are
 //! the laws.
 
 ghost use Rattle.iim_object.specs.Living.{NumbersLiveWithoutClash, SubfilesLiveWhileTheyFit, ObjectsEndWhereTheyAreWhole, TotalsAreConfirmed};
 ghost use Rattle.iim_object.specs.Behind.{TokensAreOfSizedDatasets, DatasetsLiveWithTheirTokens, DatasetsEndWithTheirTokens, TokensFollow, OthersLeadNowhere, NumbersLead, SubfilesLead, EndsLead, RecordsAreByNumber};
 ghost use Rattle.iim_object.specs.Records.{SizesAreDetermined};
 ghost use Rattle.iim_object.specs.Conditions.{CausesAreTheFirst, ObjectsDieForCauses};
+ghost use Rattle.iim_object.specs.Reached.{PlacesAreReached};
 ghost use Rattle.iim_object.specs.Told.{ReadersTellSizes};
 ghost use Rattle.iim_object.specs.Cuts.{ObjectsAreCutOneWay};
 ghost use Rattle.iim_object.specs.Packing.{PackedObjectsHaveSizes, SubfilesAreFew};
 
-/// While record 7 is read, the object layer can go on exactly where its numbers don't clash.
+/// While record 7 is read, the object layer can continue exactly where its numbers don't clash.
 pub fn numbers_live_without_clash()
     ensures { NumbersLiveWithoutClash }
 {}
 
-/// While subfiles come, the object layer can go on exactly where they fit.
+/// While subfiles come, the object layer can continue exactly where they fit.
 pub fn subfiles_live_while_they_fit()
     ensures { SubfilesLiveWhileTheyFit }
 {}
 
-/// At the end of the object, its layer can go on exactly where the subfiles fit and are whole.
+/// At the end of the object, its layer can continue exactly where the subfiles fit and are whole.
 pub fn objects_end_where_they_are_whole()
     ensures { ObjectsEndWhereTheyAreWhole }
 {}
 
-/// With the confirmed size, the object layer can go on exactly where that is the total.
+/// With the confirmed size, the object layer can continue exactly where that is the total.
 pub fn totals_are_confirmed()
     ensures { TotalsAreConfirmed }
 {}
@@ -35,15 +36,15 @@ pub fn tokens_are_of_sized_datasets()
     ensures { TokensAreOfSizedDatasets }
 {}
 
-/// Datasets as their rows say go on to some that have sizes exactly where the object layer can go on from their tokens:
-/// behind whole datasets, and behind the head of 9:10.
+/// Datasets as their rows say can continue to some that have sizes exactly where the object layer can continue from their
+/// tokens: after whole datasets, and after the head of 9:10.
 pub fn datasets_live_with_their_tokens()
     ensures behind { DatasetsLiveWithTheirTokens }
     ensures ended { DatasetsEndWithTheirTokens }
 {}
 
-/// Where the rows admit a dataset, each token that it gives may follow at the place behind the datasets before, and leads
-/// to the place behind the dataset, whose tokens are those before and this one.
+/// Where the rows admit a dataset, each token that it gives may follow at the place after the datasets before, and leads
+/// to the place after the dataset, whose tokens are those before and this one.
 pub fn datasets_lead_from_place_to_place()
     ensures tokens { TokensFollow }
     ensures others { OthersLeadNowhere }
@@ -60,6 +61,11 @@ pub fn causes_are_the_first()
 /// The object layer dies with a token exactly where the condition of a cause holds.
 pub fn objects_die_for_causes()
     ensures { ObjectsDieForCauses }
+{}
+
+/// An [`crate::ObjectReader`] holds numbers to which some tokens lead, and all such numbers are ones that it may hold.
+pub fn places_are_reached()
+    ensures { PlacesAreReached }
 {}
 
 /// Wherever a reader stands after whole records, it has their sizes.

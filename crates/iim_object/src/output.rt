@@ -32,7 +32,9 @@ const MAXIMUM: u8 = 95;
 /// A target, and how many octets are out.
 #[derive(Drop)]
 pub(crate) struct Output<W> {
+    /// The target.
     pub writer: W,
+    /// How many octets are out.
     pub written: u64,
 }
 

@@ -10,15 +10,17 @@ use iim_tables::GREATEST_SIZE;
 /// The most subfiles of one envelope.
 pub const MAX_SUBFILES: u64 = 4_294_967_295;
 
-/// How an object is cut: full subfiles of so many octets, and what is said of its size.
+/// How an object is cut: full subfiles of one length, and what is said of its size.
 #[derive(Clone, Copy, Debug, PartialEq, Eq)]
 pub struct Plan {
+    /// How many octets a full subfile has.
     pub subfile: u64,
+    /// What is said of the object's size.
     pub size: Size,
     ghost valid: { IsTrue (is_plan subfile size) },
 }
 
-/// Whether a size may be planned with subfiles of so many octets.
+/// Whether a size may be planned with subfiles of `subfile` octets.
 fn fits(subfile: u64, size: Size) -> bool
     requires { subfile ≤ greatest_size }
     ensures { result ≡ fits subfile size }

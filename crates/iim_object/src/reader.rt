@@ -1,8 +1,10 @@
 //! The reader of an object.
 
-ghost use Rattle.std.specs.Prelude.{◌≡◌, [], ◌∷◌, ℕ, List, Option, if◌then◌else◌, is_none, map, sum, Some, None, IsSome, IfErr, OnOk, OnErr};
+ghost use Rattle.std.specs.Prelude.{◌≡◌, [], ◌∷◌, ℕ, List, Option, is_none, map, sum, Some, None, IsSome, IfErr, OnOk, OnErr};
+ghost use Rattle.std.specs.Option.{ForSome};
 ghost use Rattle.iim_dataset.specs.Datasets.{Dataset};
 ghost use Rattle.iim_object.specs.declared.state.State.{State};
+ghost use Rattle.iim_object.specs.States.{IsState};
 ghost use Rattle.iim_object.specs.Events.{ObjectOctet, ObjectEnd};
 ghost use Rattle.iim_object.specs.Objects.{ObjectEnded};
 ghost use Rattle.iim_object.specs.Places.{Place, ConfirmedAs, place_start, value_token, head_token};
@@ -10,7 +12,7 @@ ghost use Rattle.iim_object.specs.Records.{AreRecords, HaveSizes};
 ghost use Rattle.iim_object.specs.Behind.{place_behind};
 ghost use Rattle.iim_object.specs.Reading.{StandsAt, GoesOn, RefusesValue, RefusesHead, RefusesRun, IsSizes, events_at};
 
-use crate::fault::{ObjectFault, SizeCause};
+use crate::fault::ObjectFault;
 use crate::sink::ObjectSink;
 use crate::size::Sizes;
 use crate::state::{KNOWN, State, is_given};
@@ -24,19 +26,21 @@ const POST_OBJECT: u8 = 9;
 /// record 9 confirms. It holds a few numbers, and no octet.
 ///
 /// What its contracts say holds of tokens that the record layer and the limits have admitted: wherever the reader stands,
-/// a token leads it on, or the object layer dies with it and the fault is the first cause. Behind datasets that is the
+/// a token leads it on, or the object layer dies with it and the fault is the first cause. After datasets that is the
 /// place of `datasets_lead_from_place_to_place`. Contracts see the reader as the numbers that it keeps, and as None after
-/// a refusal.
+/// a refusal. Whatever a caller hands in, they are numbers to which some tokens lead (`places_are_reached`).
 #[derive(Debug, Drop)]
 pub struct ObjectReader {
-    state: State,
-    failed: bool,
+    /// None after a refusal.
+    state: Option<State>,
 }
 
 impl Model for ObjectReader {
     ghost Value = { Option State };
 
-    ghost view = { λ reader. if reader.failed then None else Some reader.state };
+    ghost view = { λ reader. reader.state };
+
+    ghost invariant = { λ reader. ForSome reader.state IsState };
 }
 
 impl ObjectReader {
@@ -45,17 +49,25 @@ impl ObjectReader {
         ensures takes_calls { IsSome result }
         ensures stands { StandsAt result place_start }
     {
-        ObjectReader {
-            state: State::new(),
-            failed: false,
-        }
+        let state = Some(State::new());
+        ObjectReader { state }
     }
 
     /// Whether a call was refused.
     pub fn is_failed(&self) -> bool
         ensures { result ≡ is_none self.now }
     {
-        self.failed
+        self.state.is_none()
+    }
+
+    /// Takes the state out: until one is put in again, the reader has failed.
+    fn take_state(&mut self) -> State
+        requires { IsSome self.old }
+        ensures seen { self.old ≡ Some result }
+        ensures is_state { IsState result }
+        ensures failed { self.new ≡ None }
+    {
+        self.state.take().unwrap()
     }
 
     /// Takes the number of a complete value: of dataset 7:`set`, or of 9:10, the confirmed size. The reader has not
@@ -67,22 +79,17 @@ impl ObjectReader {
         ensures failed { OnErr result (self.new ≡ None) }
         ensures refused { IfErr result (RefusesValue self.old (value_token rec set number)) }
     {
-        if rec == POST_OBJECT {
-            return match take_confirmed(self.state, number) {
-                Ok(()) => Ok(()),
-                Err(cause) => Err(self.fail(cause)),
-            };
-        }
-        match take_number(self.state, set, number) {
-            Ok(state) => {
-                self.state = state;
-                Ok(())
-            }
-            Err(cause) => Err(self.fail(cause)),
-        }
+        let state = self.take_state();
+        let next = if rec == POST_OBJECT {
+            take_confirmed(state, number)?
+        } else {
+            take_number(state, set, number)?
+        };
+        self.state = Some(next);
+        Ok(())
     }
 
-    /// Takes a complete head: of a subfile, 8:10, with so many octets; or of 9:10, where the object ends and the sink is
+    /// Takes a complete head: of a subfile, 8:10, with `count` octets; or of 9:10, where the object ends and the sink is
     /// told so. The reader has not failed, and the sink takes calls; after a refusal the reader has failed.
     pub fn head<S: ObjectSink>(
         &mut self,
@@ -103,13 +110,9 @@ impl ObjectReader {
         if rec == POST_OBJECT {
             return self.end(sink);
         }
-        match take_subfile(self.state, count) {
-            Ok(state) => {
-                self.state = state;
-                Ok(())
-            }
-            Err(cause) => Err(self.fail(cause)),
-        }
+        let state = self.take_state();
+        self.state = Some(take_subfile(state, count)?);
+        Ok(())
     }
 
     /// Takes the end of the object.
@@ -122,20 +125,14 @@ impl ObjectReader {
         ensures failed { OnErr result (self.new ≡ None) }
         ensures refused { IfErr result (RefusesHead S.goes S.stops self.old ObjectEnded sink.old sink.new) }
     {
-        match take_end(self.state) {
-            Ok(()) => {}
-            Err(cause) => return Err(self.fail(cause)),
-        }
-        match sink.close() {
-            Ok(()) => Ok(()),
-            Err(stop) => {
-                self.failed = true;
-                Err(ObjectFault::Stopped(stop))
-            }
-        }
+        let state = self.take_state();
+        let ended = take_end(state)?;
+        sink.close()?;
+        self.state = Some(ended);
+        Ok(())
     }
 
-    /// Hands octets of the object on to the sink. They are those behind the heads of subfiles, in any cut.
+    /// Hands octets of the object on to the sink. They are those after the heads of subfiles, in any cut.
     /// The reader has not failed, and the sink takes calls, afterwards too; after a refusal the reader has failed.
     pub fn run<S: ObjectSink>(&mut self, run: &[u8], sink: &mut S) -> Result<(), ObjectFault>
         requires takes_calls { IsSome self.old }
@@ -146,13 +143,10 @@ impl ObjectReader {
         ensures failed { OnErr result (self.new ≡ None) }
         ensures refused { IfErr result (RefusesRun S.stops run.now sink.old sink.new) }
     {
-        match sink.run(run) {
-            Ok(()) => Ok(()),
-            Err(stop) => {
-                self.failed = true;
-                Err(ObjectFault::Stopped(stop))
-            }
-        }
+        let state = self.take_state();
+        sink.run(run)?;
+        self.state = Some(state);
+        Ok(())
     }
 
     /// How many octets the subfiles so far count together. The reader has not failed.
@@ -160,7 +154,7 @@ impl ObjectReader {
         requires { IsSome self.now }
         ensures { (p : Place) → StandsAt self.now p → result ≡ sum p.lengths }
     {
-        self.state.total
+        self.state.unwrap().total
     }
 
     /// What records 7 to 9 have said of the object, once its size is confirmed. The reader has not failed.
@@ -169,30 +163,14 @@ impl ObjectReader {
         ensures place { (p : Place) (n : ℕ) → StandsAt self.now p → p.ending ≡ ConfirmedAs n → IsSizes p result }
         ensures records { (ds : List Dataset) (r : AreRecords ds) → StandsAt self.now (place_behind ds) → HaveSizes r.r7 r.r8 r.r9 result }
     {
-        let State {
-            mode,
-            subfile,
-            announced,
-            maximum,
-            subfiles,
-            total,
-        } = self.state;
+        let state = self.state.unwrap();
         Sizes {
-            known: is_given(mode, KNOWN),
-            subfile: subfile.unwrap_or(0),
-            announced,
-            maximum,
-            subfiles,
-            total,
+            known: is_given(state.mode, KNOWN),
+            subfile: state.subfile.unwrap_or(0),
+            announced: state.announced,
+            maximum: state.maximum,
+            subfiles: state.subfiles,
+            total: state.total,
         }
-    }
-
-    /// Fails for a cause.
-    fn fail(&mut self, cause: SizeCause) -> ObjectFault
-        ensures failed { self.new ≡ None }
-        ensures fault { result ≡ ObjectFault.Size cause }
-    {
-        self.failed = true;
-        ObjectFault::Size { cause }
     }
 }

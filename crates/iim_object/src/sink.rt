@@ -38,6 +38,6 @@ pub trait ObjectSink {
     /// Events and then others lead where all of them joined lead.
     ghost joined: { (a b c : Self) (xs ys : List Event) → goes a xs b → goes b ys c → goes a (xs ++ ys) c };
 
-    /// A refusal behind events is one behind all of them joined.
+    /// A refusal after events is one after all of them joined.
     ghost joined_stop: { (a b c : Self) (xs ys : List Event) (refused : Event) → goes a xs b → stops b ys refused c → stops a (xs ++ ys) refused c };
 }

@@ -3,7 +3,7 @@
 /// What a packer is told of the size of an object before it begins.
 #[derive(Clone, Copy, Debug, PartialEq, Eq)]
 pub enum Size {
-    /// It has just so many octets: size mode 1, and 7:90 ObjectData Size Announced.
+    /// It has just this number of octets: size mode 1, and 7:90 ObjectData Size Announced.
     Known(u64),
     /// How many octets it has isn't known: size mode 0, and 7:95 Maximum ObjectData Size where one is given.
     Unknown(Option<u64>),

@@ -1,10 +1,11 @@
 //! What records 7 to 9 have told of an object so far.
 
-ghost use Rattle.std.specs.Prelude.{◌≡◌, ◌+◌, ◌-◌, ◌^◌, min};
-ghost use Rattle.iim_object.specs.States.{state_start, state_with};
+ghost use Rattle.std.specs.Prelude.{◌≡◌, ◌↔◌, ◌+◌, ◌-◌, ◌^◌, ◌<◌, IsTrue};
+ghost use Rattle.iim_object.specs.States.{TakesNumber, TakesSubfile, state_start, state_with};
 ghost use Rattle.iim_object.specs.Causes.{is_given, is_above, number_cause, bound, is_past, subfile_cause, end_cause, confirmed_cause};
 
 use crate::fault::SizeCause;
+use crate::plan::MAX_SUBFILES;
 use iim_tables::GREATEST_SIZE;
 
 /// 7:10 Size Mode.
@@ -28,11 +29,17 @@ pub(crate) const KNOWN: u64 = 1;
 /// The numbers of record 7, how many subfiles came, and how many octets they count together.
 #[derive(Clone, Copy, Debug, PartialEq, Eq)]
 pub(crate) struct State {
+    /// 7:10 Size Mode.
     pub mode: Option<u64>,
+    /// 7:20 Max Subfile Size.
     pub subfile: Option<u64>,
+    /// 7:90 ObjectData Size Announced.
     pub announced: Option<u64>,
+    /// 7:95 Maximum ObjectData Size.
     pub maximum: Option<u64>,
+    /// How many subfiles came.
     pub subfiles: u64,
+    /// How many octets they count together.
     pub total: u64,
 }
 
@@ -94,15 +101,37 @@ impl State {
         new
     }
 
-    /// With a subfile of so many octets.
+    /// With a subfile of `count` octets.
     pub fn with_subfile(self, count: u64) -> State
-        ensures { result ≡ record self { subfiles = min (self.subfiles + 1) (2 ^ 64 - 1); total = min (self.total + count) (2 ^ 64 - 1) } }
+        requires subfiles { self.subfiles < 2 ^ 64 - 1 }
+        requires total { self.total + count < 2 ^ 64 }
+        ensures { result ≡ record self { subfiles = self.subfiles + 1; total = self.total + count } }
     {
         State {
-            subfiles: self.subfiles.saturating_add(1),
-            total: self.total.saturating_add(count),
+            subfiles: self.subfiles + 1,
+            total: self.total + count,
             ..self
         }
+    }
+
+    /// Whether a number of record 7 may come: no subfile has come, and its row allows the number.
+    pub fn takes_number(&self, set: u8, number: u64) -> bool
+        ensures { IsTrue result ↔ TakesNumber self.now set number }
+    {
+        let in_row = match set {
+            SIZE_MODE => number <= KNOWN,
+            MAX_SUBFILE_SIZE => (1..=GREATEST_SIZE).contains(&number),
+            ANNOUNCED_SIZE | MAXIMUM_SIZE => number <= GREATEST_SIZE,
+            _ => false,
+        };
+        self.subfiles == 0 && in_row
+    }
+
+    /// Whether a subfile may come: mode and largest subfile are given, and one more is not too many.
+    pub fn takes_subfile(&self) -> bool
+        ensures { IsTrue result ↔ TakesSubfile self.now }
+    {
+        self.mode.is_some() && self.subfile.is_some() && self.subfiles < MAX_SUBFILES
     }
 
     /// What is wrong with the numbers of record 7.
@@ -118,7 +147,7 @@ impl State {
         None
     }
 
-    /// Whether the object has more octets than it may, with so many more.
+    /// Whether the object has more octets than it may, with `count` more.
     fn is_past(&self, count: u64) -> bool
         ensures { result ≡ is_past (bound self.now.announced self.now.maximum) self.now.total count }
     {
@@ -129,7 +158,7 @@ impl State {
         }
     }
 
-    /// What is wrong with a subfile of so many octets.
+    /// What is wrong with a subfile of `count` octets.
     pub fn subfile_cause(&self, count: u64) -> Option<SizeCause>
         ensures { result ≡ subfile_cause self.now.mode self.now.subfile self.now.announced self.now.maximum self.now.total count }
     {

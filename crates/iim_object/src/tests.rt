@@ -6,7 +6,7 @@ use crate::{ObjectFault, ObjectReader, ObjectSink, Plan, Size, SizeCause, Sizes}
 use Token::{Confirmed, End, Number, Subfile};
 use iim_dataset::Stop;
 
-/// A sink that counts the octets, and refuses the octet after so many and perhaps the end.
+/// A sink that counts the octets, and refuses the octet after `room` of them and perhaps the end.
 struct Counter {
     octets: usize,
     room: usize,

@@ -53,7 +53,7 @@ fn buffer(rt: &impl Abort, alloc: Global, subfile: u64, size: Size) -> SubfileBu
     }
 }
 
-/// A target that takes so many octets, one a call, and then fails.
+/// A target that takes `good` octets, one a call, and then fails.
 fn target(good: u64) -> TrialWriter<600> {
     TrialWriter::new(good, Trouble::Failure)
 }
@@ -181,7 +181,7 @@ fn expect_failed(
     (writer.into_writer(), written)
 }
 
-/// Writes three octets in subfiles of two to a target that takes so many octets and then fails: what is out, and how many the
+/// Writes three octets in subfiles of two to a target that takes `good` octets and then fails: what is out, and how many the
 /// writer or the fault counts.
 fn broken(rt: &impl Abort, alloc: Global, good: u64) -> (TrialWriter<600>, u64) {
     let buffer = buffer(rt, alloc, 2, Size::Unknown(Some(5)));

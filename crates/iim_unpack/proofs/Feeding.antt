@@ -13,8 +13,8 @@ use Rattle.iim_dataset.specs.Completing.{CompletesData, CompletesHead, Completes
 use Rattle.iim_dataset.specs.declared.head.Head.{Head}
 use Rattle.iim_dataset.specs.declared.head.HeadCause.{HeadCause}
 use Rattle.iim_dataset.specs.declared.head.HeadCause.TheVariants.{Marker, CountForm}
-use Rattle.iim_dataset.specs.declared.place.Place.{Place}
-use Rattle.iim_dataset.specs.declared.place.Place.TheVariants.{Tag, Inside}
+use Rattle.iim_dataset.specs.declared.place.DatasetPlace.{DatasetPlace as Place}
+use Rattle.iim_dataset.specs.declared.place.DatasetPlace.TheVariants.{Tag, Inside}
 use Rattle.iim_fields.specs.Records.{AreSections}
 use Rattle.iim_fields.specs.Faults.{present_record, kept as kept_of}
 use Rattle.iim_fields.specs.Faults.{kept as kept_of}

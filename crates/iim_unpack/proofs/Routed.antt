@@ -5,7 +5,7 @@ use Rattle.iim_dataset.specs.Reading.{RefusesFor, Refuses, StillStands, is_of}
 use Rattle.iim_dataset.specs.Places.{Tells}
 use Rattle.iim_dataset.specs.declared.fault.Fault.{Fault}
 use Rattle.iim_dataset.specs.declared.head.HeadCause.{HeadCause}
-use Rattle.iim_dataset.specs.declared.place.Place.{Place}
+use Rattle.iim_dataset.specs.declared.place.DatasetPlace.{DatasetPlace as Place}
 use Rattle.iim_fields.specs.Standing.{room_of}
 use Rattle.wire_story.specs.Delivery as story
 use Rattle.iim_unpack.specs.Routing.{Routes, RefusesRoute, TakesNext}

@@ -7,7 +7,7 @@ use Rattle.iim_dataset.specs.Events.{Event}
 use Rattle.iim_dataset.specs.Completing.{CompletesData}
 use Rattle.iim_dataset.specs.Places.{LeadsTo, Brings, between, to_come, named_by}
 use Rattle.iim_dataset.specs.Reading.{Reader, Completes, TagDies, TakesCalls}
-use Rattle.iim_dataset.specs.declared.place.Place.{Place}
+use Rattle.iim_dataset.specs.declared.place.DatasetPlace.{DatasetPlace as Place}
 use Rattle.iim_dataset.specs.declared.head.HeadCause.{HeadCause}
 use Rattle.iim_fields.specs.Records.{AreSections}
 use Rattle.iim_fields.specs.Standing.{limits_of, room_of}

@@ -5,6 +5,7 @@ mod changes;
 mod feeding;
 mod intakes;
 mod pieces;
+mod random;
 mod records;
 mod rule;
 mod sizes;

@@ -4,7 +4,7 @@ ghost use Rattle.std.specs.Prelude.{◌≡◌, ◌^◌, [], is_some, ◌<◌, �
 ghost use Rattle.iim_dataset.specs.Places.{to_come, named_by};
 ghost use Rattle.iim_dataset.specs.Reading.{TakesCalls};
 ghost use Rattle.iim_dataset.specs.declared.head.HeadCause.{HeadCause as HeadCauseValue};
-ghost use Rattle.iim_dataset.specs.declared.place.Place.{Place};
+ghost use Rattle.iim_dataset.specs.declared.place.DatasetPlace.{DatasetPlace as Place};
 ghost use Rattle.iim_fields.specs.Standing.{StandsBehind, limits_of, room_of, room_for};
 ghost use Rattle.wire_story.specs.Delivery as story;
 ghost use Rattle.iim_unpack.specs.Parts.{CountsFor};

@@ -1,4 +1,4 @@
--- A message can go on from octets that spell a place, and not with an octet after which there is no place.
+-- A message can continue from octets that spell a place, and not with an octet after which there is no place.
 use Rattle.std.proofs.Common.{◌≡◌, ℕ, ◌+◌, ◌<◌, ◌≤◌, Bool, true, false, ◌||◌, nat_lt, List, [], ◌∷◌, ◌++◌, length, Option, Some, None, refl, sym, ap, subst, ◌∙◌, arith, append_assoc, append-nil, map}
 use Rattle.std.proofs.lemmas.Bool.{ltb-true}
 use Rattle.arrayvec.specs.ArrayVec.{ArrayVec}
@@ -33,7 +33,7 @@ pub map_snoc : (xs : List ℕ) (b : ℕ) → map Octet xs ++ (Octet b ∷ []) �
 map_snoc [] b = refl
 map_snoc (c ∷ xs) b = ap (λ (u : List OctetOrEnd). Octet c ∷ u) (map_snoc xs b)
 
--- ---- each place can go on to a message
+-- ---- each place can continue to a message
 
 abbrev pub Completes : List ℕ → Type 0
 Completes xs = (rest : List ℕ) × (h : Header) × (x : List ℕ) × (t : List ℕ) × IsMessage (xs ++ rest) h x t
@@ -69,7 +69,7 @@ completes_gap xs text h k false i low high on l =
 completes_info : (xs text : List ℕ) (h : Header) → IsHeader h → Spells xs text (Info h) → Completes xs
 completes_info xs text h i l = then xs 10 (fed (xs ++ (10 ∷ [])) text h 1 i (omega arith) (omega arith) (info_gap xs text h 10 refl l))
 
-begun_header : (s n p c w : ArrayVec ℕ) → IsPlace (Words s n p c w) → IsField is_digit 1 6 w.items → IsHeader (begun s n p c w)
+pub begun_header : (s n p c w : ArrayVec ℕ) → IsPlace (Words s n p c w) → IsField is_digit 1 6 w.items → IsHeader (begun s n p c w)
 begun_header s n p c w i k = record { source = i.0; number = i.1; priority = i.2; category = i.3; words = k; info = (refl, omega arith, omega arith) }
 
 -- the words have an octet

@@ -1,6 +1,5 @@
 -- What a story takes of a text, and the octet at which it stops, as octets of a message.
 use Rattle.std.proofs.Common.{◌≡◌, ℕ, zero, suc, Bool, ◌==◌, ◌+◌, ◌<◌, true, false, List, [], ◌∷◌, ◌++◌, length, take, slice_index, replicate, Option, Some, refl, sym, ap, subst, ◌∙◌, arith, append_assoc, append-nil}
-use Rattle.std.specs.Prelude.{IsSome}
 use Rattle.std.proofs.lemmas.List.{take_more}
 use Rattle.std.proofs.lemmas.Bool.{eqb-true}
 use Rattle.std.proofs.lemmas.Bool.Decides.{nat_tests}
@@ -22,6 +21,7 @@ use Rattle.wire_message.proofs.Machine.{of}
 use Rattle.wire_message.proofs.Spans.{Are-tail, Are-head, Are-cons, Are-append}
 use Rattle.wire_message.proofs.TextSoFar.{each}
 use Rattle.wire_message.proofs.Transitions.{text_more}
+use Rattle.wire_message.proofs.Held.{holds_two, holds_none}
 use Rattle.wire_message.proofs.Readings.{goes_on_of, goes_somewhere_of, refuses_of, stood_before, text_leads, text_stops, text_refuses, etx_leads, etx_refuses}
 
 -- ---- octets of a story are octets of a text
@@ -29,7 +29,7 @@ use Rattle.wire_message.proofs.Readings.{goes_on_of, goes_somewhere_of, refuses_
 line_text : (b : ℕ) → is_line_octet b ≡ true → is_text_octet b ≡ true
 line_text b h = grind (arith, nat_tests)
 
-returns_text : (n : ℕ) → Are is_text_octet (replicate n 13)
+pub returns_text : (n : ℕ) → Are is_text_octet (replicate n 13)
 returns_text zero = refl
 returns_text (suc n) = Are-cons is_text_octet 13 (replicate n 13) refl (returns_text n)
 
@@ -50,12 +50,12 @@ back_text (x ∷ xs) ys h = back_text xs ys (Are-tail is_text_octet x (xs ++ ys)
 
 -- ---- a story takes all
 
-pub all_taken : (h : Header) (old new : TextReader) (ys : List ℕ) → story.GoesOn old ys new → IsSome new → GoesOn (Some (Text h old)) ys ys (Some (Text h new))
-all_taken h old new ys goes some =
+pub all_taken : (h : Header) (old new : TextReader) (ys : List ℕ) → story.GoesOn old ys new → GoesOn (Some (Text h old)) ys ys (Some (Text h new))
+all_taken h old new ys goes =
     goes_on_of (Text h old) (Text h new) ys ys
     (λ octets text l.
     let after = goes text l.story in
-    text_leads h old new ys goes some (back_text text ys (holds_text (text ++ ys) after.0 after.2)) octets text l)
+    text_leads h old new ys goes (back_text text ys (holds_text (text ++ ys) after.0 after.2)) octets text l)
 
 -- ---- a story stops
 
@@ -81,7 +81,7 @@ ends_at ends law h old t rest taken cause none before control etx refuses =
     let has : story.HasCause text_cause.ControlOctet (text ++ ys) (slice_index rest taken) = subst (λ (c : TextCause). story.HasCause c (text ++ ys) (slice_index rest taken)) control (refuses text l.story) in
     let reader : TextReader = Some 0 in
     let lead : LeadTo (octets ++ ys) (text ++ ys) (Text h reader) = record {
-      is_place = (l.is_place.0, refl);
+      is_place = (l.is_place.0, holds_none);
       spelled = text_more octets text ys h old reader (front_text law text_cause.ControlOctet text ys (slice_index rest taken) has) l.spelled;
       story = (0, refl, has.1);
     } in
@@ -139,7 +139,7 @@ dies_at live ends bare one text_cause.LoneReturn octets text ys b h old fits oth
     lone true e =
         subst (HasCause LoneReturn (octets ++ ys)) (sym (eqb-true b 3 e))
         (etx_refuses bare ends h reader (λ x s. unended live ends bare one x s.0 (some_held has.1.0 s.0 has.1.2.0 s.1) s.2) (octets ++ ys) (text ++ ys)
-        (record { is_place = (l.is_place.0, refl); spelled = text_more octets text ys h old reader are l.spelled; story = (has.1.0, refl, has.1.1) }))
+        (record { is_place = (l.is_place.0, (has.1.0, refl, holds_two (text ++ ys) has.1.0 has.1.1)); spelled = text_more octets text ys h old reader are l.spelled; story = (has.1.0, refl, has.1.1) }))
 
 pub refuses_at : StoriesLiveAsTextsSoFar → StoriesEndAsTexts → TextsEndInNoReturn → TextsSoFarHaveOneReading → (h : Header) (old : TextReader) (rest : List ℕ) (taken : ℕ) (cause : TextCause)
     → slice_index rest taken < 256 → (cause ≡ text_cause.ControlOctet → slice_index rest taken ≡ 3 → ⊥)

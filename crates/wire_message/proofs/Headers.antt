@@ -1,13 +1,13 @@
 -- The header and the trailer that a reader tells are those of the octets so far.
-use Rattle.std.proofs.Common.{◌≡◌, ◌↔◌, ℕ, ◌==◌, Bool, true, false, IsTrue, IsSome, Option, Some, None, List, [], ◌∷◌, ◌++◌, refl, sym, ap, subst, ◌∙◌, arith, is_some}
+use Rattle.std.proofs.Common.{◌≡◌, ℕ, ◌==◌, true, false, IsSome, Option, Some, None, List, [], ◌∷◌, ◌++◌, refl, sym, ap, subst, ◌∙◌, arith, is_some}
 use Rattle.std.specs.List.{list_any, before_first, after_first}
 use Rattle.std.proofs.lemmas.Bool.{both_ways}
 use Rattle.std.proofs.lemmas.Bool.Decides.{nat_tests}
 use Rattle.wire_message.specs.Fields.{Are, is_trailer_octet}
-use Rattle.wire_message.specs.Messages.{Header, IsMessage, IsTrailer, BeginsWithHeader, fixed_header}
+use Rattle.wire_message.specs.Messages.{Header, IsTrailer, BeginsWithHeader, fixed_header}
 use Rattle.wire_message.specs.Layers.{after_stx, trailer_so_far}
 use Rattle.wire_message.specs.SoFar.{LeadTo}
-use Rattle.wire_message.specs.Reading.{StandsAt, head_read, trailer_read}
+use Rattle.wire_message.specs.Reading.{head_read, trailer_read}
 use Rattle.wire_message.specs.Laws.{TellsHeaderOf, HeadersAreToldFromStx, TrailersAreToldFromEtx, MessagesKeepTheirHeader, TrailersStandBetweenEtxAndEot}
 use Rattle.wire_message.specs.declared.place.Place.{Place}
 use Rattle.wire_message.specs.declared.place.Place.TheVariants.{Filler, Source, Number, Priority, PriorityRead, Category, Words, Info, Gap, Text, Trailer, AfterEnd}

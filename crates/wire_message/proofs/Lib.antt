@@ -10,7 +10,11 @@ pub mod Stops
 pub mod Goings
 pub mod Rests
 pub mod TextSoFar
+pub mod Held
 pub mod Readings
 pub mod Standing
+pub mod OnePlace
+pub mod Alike
+pub mod Reached
 pub mod Ended
 pub mod Headers

@@ -63,7 +63,7 @@ guard_no false s o e = refl
 pub step_to : (s q : Place) (b : ℕ) (rest : List ℕ) → next s b ≡ Some q → run s (b ∷ rest) ≡ run q rest
 step_to s q b rest e = ap (option_and_then (λ t. run t rest)) e
 
-and_then_place : (o : Option Place) (f : Place → Option Place) (q : Place) → option_and_then f o ≡ Some q → (s : Place) × (o ≡ Some s) × (f s ≡ Some q)
+pub and_then_place : (o : Option Place) (f : Place → Option Place) (q : Place) → option_and_then f o ≡ Some q → (s : Place) × (o ≡ Some s) × (f s ≡ Some q)
 and_then_place None f q e = absurd cc
 and_then_place (Some s) f q e = (s, refl, e)
 

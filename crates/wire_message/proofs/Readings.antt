@@ -1,7 +1,6 @@
 -- What a piece does to a reader that stands at a place, and to the story in it.
 use Rattle.std.proofs.lemmas.List.{take_rest}
 use Rattle.std.proofs.Common.{◌≡◌, ℕ, zero, suc, ◌+◌, ◌<◌, true, false, List, [], ◌∷◌, ◌++◌, take, slice_index, Option, Some, None, map, refl, sym, ap, subst, ◌∙◌, arith, append_assoc, append-nil}
-use Rattle.std.specs.Prelude.{IsSome}
 use Rattle.std.proofs.lemmas.Bool.Decides.{nat_tests}
 use Rattle.std.proofs.lemmas.List.Concat.{flat_map-append}
 use Rattle.iim_dataset.specs.Languages.{IsAlive}
@@ -28,6 +27,7 @@ use Rattle.wire_message.proofs.Alive.{message_lives, map_snoc, message_unfinishe
 use Rattle.wire_message.proofs.Runs.{unread}
 use Rattle.wire_message.proofs.TextSoFar.{text_is, tokens_are, tokens_at_etx}
 use Rattle.wire_message.proofs.Rests.{rest_of, take-front}
+use Rattle.wire_message.proofs.Held.{holds_two, stands_two, holds_none}
 use Rattle.std.proofs.lemmas.List.{get_or-drop}
 
 -- ---- histories of a place
@@ -60,15 +60,16 @@ stays_at p octets text l = subst (λ (u : List ℕ). LeadTo u (text ++ []) p) (s
 
 -- ---- the text
 
-pub text_leads : (h : Header) (old new : TextReader) (ys : List ℕ) → story.GoesOn old ys new → IsSome new → Are is_text_octet ys
+pub text_leads : (h : Header) (old new : TextReader) (ys : List ℕ) → story.GoesOn old ys new → Are is_text_octet ys
     → (octets text : List ℕ) → LeadTo octets text (Text h old) → LeadTo (octets ++ ys) (text ++ ys) (Text h new)
-text_leads h old new ys goes some are octets text l =
-    record { is_place = (l.is_place.0, some); spelled = text_more octets text ys h old new are l.spelled; story = goes text l.story }
+text_leads h old new ys goes are octets text l =
+    let after = goes text l.story in
+    record { is_place = (l.is_place.0, stands_two new (text ++ ys) after); spelled = text_more octets text ys h old new are l.spelled; story = after }
 
 alive_before : (x : List ℕ) (b : ℕ) → LivesWith (x ++ (b ∷ [])) → LivesWith x
 alive_before x b a = (Octet b ∷ a.0, subst StoryLanguage (ap (λ (u : List OctetOrEnd). u ++ a.0) (sym (map_snoc x b)) ∙ append_assoc (map Octet x) (Octet b ∷ []) a.0) a.1)
 
--- before an octet that a story refused its text could go on
+-- before an octet that a story refused its text could continue
 pub stood_before : StoriesLiveAsTextsSoFar → (cause : TextCause) (x : List ℕ) (b : ℕ) → story.HasCause cause x b → (held : ℕ) × Holds x held
 stood_before law text_cause.LoneReturn x b h = (h.1.0, h.1.1)
 stood_before law text_cause.ControlOctet x b h = (0, h.1)
@@ -80,7 +81,7 @@ pub text_stops : StoriesLiveAsTextsSoFar → (h : Header) (old : TextReader) (ys
 text_stops law h old ys b cause are refuses octets text l =
     let stood = stood_before law cause (text ++ ys) b (refuses text l.story) in
     let reader : TextReader = Some stood.0 in
-    (Text h reader, record { is_place = (l.is_place.0, refl); spelled = text_more octets text ys h old reader are l.spelled; story = (stood.0, refl, stood.1) })
+    (Text h reader, record { is_place = (l.is_place.0, (stood.0, refl, holds_two (text ++ ys) stood.0 stood.1)); spelled = text_more octets text ys h old reader are l.spelled; story = (stood.0, refl, stood.1) })
 
 story_dies : (octets text : List ℕ) (h : Header) (reader : TextReader) (b : ℕ) → IsHeader h → is_text_octet b ≡ true → Spells octets text (Text h reader) → StoryDiesAt text (Octet b) → StoryDiesWith octets b
 story_dies octets text h reader b i t l d =
@@ -93,19 +94,19 @@ pub text_refuses : (cause : TextCause) (octets text : List ℕ) (h : Header) (re
     → story.HasCause cause text b → HasCause (cause_of cause) octets b
 text_refuses text_cause.LoneReturn octets text h reader b i t l c =
     let more : Spells (octets ++ (b ∷ [])) (text ++ (b ∷ [])) (Text h (Some 0)) = text_more octets text (b ∷ []) h reader (Some 0) (one_is is_text_octet b t) l in (
-      message_lives (octets ++ (b ∷ [])) (text ++ (b ∷ [])) (Text h (Some 0)) (i, refl) more,
+      message_lives (octets ++ (b ∷ [])) (text ++ (b ∷ [])) (Text h (Some 0)) (i, holds_none) more,
       story_dies octets text h reader b i t l c.0,
       (c.1.0, c.1.2.0, subst (λ (u : List ℕ). Holds u c.1.0) (sym (text_is octets text h reader i l)) c.1.1),
     )
 text_refuses text_cause.ControlOctet octets text h reader b i t l c =
     let more : Spells (octets ++ (b ∷ [])) (text ++ (b ∷ [])) (Text h (Some 0)) = text_more octets text (b ∷ []) h reader (Some 0) (one_is is_text_octet b t) l in (
-      message_lives (octets ++ (b ∷ [])) (text ++ (b ∷ [])) (Text h (Some 0)) (i, refl) more,
+      message_lives (octets ++ (b ∷ [])) (text ++ (b ∷ [])) (Text h (Some 0)) (i, holds_none) more,
       story_dies octets text h reader b i t l c.0,
       subst (λ (u : List ℕ). Holds u 0) (sym (text_is octets text h reader i l)) c.1,
     )
 text_refuses text_cause.Sink octets text h reader b i t l c =
     let more : Spells (octets ++ (b ∷ [])) (text ++ (b ∷ [])) (Text h (Some 0)) = text_more octets text (b ∷ []) h reader (Some 0) (one_is is_text_octet b t) l in (
-      message_lives (octets ++ (b ∷ [])) (text ++ (b ∷ [])) (Text h (Some 0)) (i, refl) more,
+      message_lives (octets ++ (b ∷ [])) (text ++ (b ∷ [])) (Text h (Some 0)) (i, holds_none) more,
       subst (IsAlive StoryLanguage) (sym (tokens_are (octets ++ (b ∷ [])) (text ++ (b ∷ [])) h (Some 0) i more)) c.0,
       text_is (octets ++ (b ∷ [])) (text ++ (b ∷ [])) h (Some 0) i more ∙ ap (λ (u : List ℕ). u ++ (b ∷ [])) (sym (text_is octets text h reader i l)),
       c.1,

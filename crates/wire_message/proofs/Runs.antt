@@ -65,7 +65,7 @@ last_feed true y z h = refl
 last_feed false true z h = refl
 last_feed false false z h = h
 
--- a gap octet may come where the gap goes on after the last one
+-- a gap octet may come where the gap can continue after the last one
 gap_octet : (b : ℕ) (xs : List ℕ) (k : ℕ) (feed : Bool) → is_filler_octet b ≡ true → k + length (b ∷ xs) ≤ 32
     → ((feed || has_feed (b ∷ xs)) || nat_lt (k + length (b ∷ xs)) 32) ≡ true → gap_goes_on k feed b ≡ true
 gap_octet b [] k feed t le on = and_from (is_filler_octet b && nat_lt k 32) (feed || b == 10 || nat_lt (k + 1) 32) (fill k b t (omega arith)) (last_feed feed (b == 10) (nat_lt (k + 1) 32) on)

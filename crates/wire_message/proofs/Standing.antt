@@ -1,4 +1,4 @@
--- Octets that have led to a place can go on, as a message and as a story.
+-- Octets that have led to a place can continue, as a message and as a story.
 use Rattle.std.proofs.Common.{◌≡◌, ℕ, Bool, false, cond, Option, List, [], ◌∷◌, ◌++◌, map, refl, sym, subst, arith, append-nil}
 use Rattle.iim_dataset.specs.Languages.{IsAlive}
 use Rattle.wire_story.specs.Texts.{Holds}

@@ -26,7 +26,7 @@ stays test room xs b h = elim (cases_lt (length xs.items) room) [
     no_room : (n m : ℕ) → m ≤ n → nat_lt n m ≡ false
     no_room n m le = grind (arith, nat_tests)
 
--- without a next place no message can go on
+-- without a next place no message can continue
 pub dies : (p : Place) (b : ℕ) → IsPlace p → next (unread p) b ≡ None → DiesWith p b
 dies p b i none octets text spelled = message_dies octets text p b i spelled none
 

@@ -5,7 +5,7 @@ use Rattle.wire_story.specs.Texts.{packed_text, IsText, MakeText}
 use Rattle.wire_message.specs.Messages.{Header, IsHeader, IsTrailer, IsMessage, BeginsWithHeader}
 use Rattle.wire_message.specs.Canonical.{canonical}
 use Rattle.wire_message.specs.Layers.{MessageLivesWith, text_so_far, trailer_so_far, StoryLivesIn}
-use Rattle.wire_message.specs.SoFar.{LeadTo}
+use Rattle.wire_message.specs.SoFar.{IsPlace, LeadTo}
 use Rattle.wire_message.specs.Reading.{StandsAt, head_read, trailer_read}
 use Rattle.wire_message.specs.declared.place.Place.{Place}
 
@@ -25,9 +25,21 @@ CanonicalObjectsAreMessages = (head : Header) (lines : List (List ℕ)) (trailer
 abbrev pub TextsStandBetweenStxAndEtx : Type 0
 TextsStandBetweenStxAndEtx = (octets text : List ℕ) (place : Place) → LeadTo octets text place → text ≡ text_so_far octets
 
--- Where octets have led to a place, a message can go on from them, and so can the story in it.
+-- Where octets have led to a place, a message can continue from them, and so can the story in it.
 abbrev pub ReadersStandAtLivingOctets : Type 0
 ReadersStandAtLivingOctets = (octets text : List ℕ) (place : Place) → LeadTo octets text place → MessageLivesWith octets × StoryLivesIn octets
+
+-- A reader's invariant holds exactly of the places to which some octets lead.
+abbrev pub PlacesAreReached : Type 0
+PlacesAreReached = (place : Place) → IsPlace place ↔ ((octets : List ℕ) × (text : List ℕ) × LeadTo octets text place)
+
+-- Octets lead to one place at most, with one text.
+abbrev pub OctetsLeadToOnePlace : Type 0
+OctetsLeadToOnePlace = (octets text other : List ℕ) (p q : Place) → LeadTo octets text p → LeadTo octets other q → (text ≡ other) × (p ≡ q)
+
+-- From the same place the same octets lead on alike.
+abbrev pub OctetsLeadOnAlike : Type 0
+OctetsLeadOnAlike = (a b x t u y : List ℕ) (p q : Place) → LeadTo a t p → LeadTo b u p → LeadTo (a ++ x) (t ++ y) q → LeadTo (b ++ x) (u ++ y) q
 
 -- A header is told where STX has come, and nowhere else; and it is the one with which the octets begin.
 pub record TellsHeaderOf (reader : Option Place) (octets : List ℕ) : Type 0 where
@@ -42,7 +54,7 @@ HeadersAreToldFromStx = (reader : Option Place) (octets text : List ℕ) → Sta
 abbrev pub TrailersAreToldFromEtx : Type 0
 TrailersAreToldFromEtx = (reader : Option Place) (octets text : List ℕ) → StandsAt reader octets text → trailer_read reader ≡ trailer_so_far octets
 
--- Where octets begin with a header, so does each message that they go on to.
+-- Where octets begin with a header, so does each message that they are the beginning of.
 abbrev pub MessagesKeepTheirHeader : Type 0
 MessagesKeepTheirHeader = (octets more text trailer : List ℕ) (head other : Header)
     → BeginsWithHeader octets head → IsMessage (octets ++ more) other text trailer → other ≡ head

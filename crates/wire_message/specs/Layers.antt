@@ -1,4 +1,4 @@
--- The message layer and the story layer of an object: their languages, and with which octets they can go on.
+-- The message layer and the story layer of an object: their languages, and with which octets they can continue.
 use Rattle.std.specs.Prelude.{◌≡◌, ℕ, ◌==◌, if◌then◌else◌, List, [], ◌∷◌, ◌++◌, map}
 use Rattle.std.specs.List.{before_first, after_first, list_any}
 use Rattle.iim_dataset.specs.Languages.{IsAlive, DiesAt}
@@ -14,11 +14,11 @@ pub record MessageLanguage (tokens : List OctetOrEnd) : Type 0 where
   pub message : IsMessage object head text trailer
   pub tokens_are : tokens ≡ with_end object
 
--- A message can go on from the octets.
+-- A message can continue from the octets.
 abbrev pub MessageLivesWith : List ℕ → Type 0
 MessageLivesWith octets = IsAlive MessageLanguage (map Octet octets)
 
--- A message can go on from the octets, and not from them with the next token.
+-- A message can continue from the octets, and not from them with the next token.
 abbrev pub MessageDiesAt : List ℕ → OctetOrEnd → Type 0
 MessageDiesAt octets token = DiesAt MessageLanguage (map Octet octets) token
 
@@ -39,6 +39,6 @@ abbrev pub story_tokens_of : List ℕ → List OctetOrEnd
 story_tokens_of octets = map Octet (text_so_far octets)
     ++ (if list_any (λ b. b == 3) (after_stx octets) then End ∷ [] else [])
 
--- The story of the object can go on from the octets.
+-- The story of the object can continue from the octets.
 abbrev pub StoryLivesIn : List ℕ → Type 0
 StoryLivesIn octets = IsAlive StoryLanguage (story_tokens_of octets)

@@ -36,11 +36,11 @@ Told goes before old piece new after = (more : List ℕ) × goes before (deliver
 abbrev pub ToldFront : {S : Type 0} → (S → List Event → S → Type 0) → S → Option Place → List ℕ → S → Type 0
 ToldFront goes before old piece after = (more : List ℕ) × goes before (delivered more) after × GoesSomewhere old piece more
 
--- For all octets so far, a message can go on from these and a piece, and so can the story in it.
+-- For all octets so far, a message can continue from these and a piece, and so can the story in it.
 abbrev pub LivesOn : Option Place → List ℕ → Type 0
 LivesOn old piece = (octets text : List ℕ) → StandsAt old octets text → MessageLivesWith (octets ++ piece) × StoryLivesIn (octets ++ piece)
 
--- The story goes on with the octets, and not with one more.
+-- The story can continue from the octets, and not from them with one more.
 abbrev pub StoryDiesWith : List ℕ → ℕ → Type 0
 StoryDiesWith octets octet = StoryLivesIn octets × (StoryLivesIn (octets ++ octet ∷ []) → ⊥)
 
@@ -62,7 +62,7 @@ HasCause ControlOctet octets octet = MessageLivesWith (octets ++ octet ∷ []) �
 HasCause Sink octets octet = MessageLivesWith (octets ++ octet ∷ []) × StoryLivesIn (octets ++ octet ∷ [])
     × (text_so_far (octets ++ octet ∷ []) ≡ text_so_far octets ++ octet ∷ []) × (octet ≢ 13)
 
--- For all octets so far, the octet of the piece behind the first `taken` is refused for that cause.
+-- For all octets so far, the octet of the piece after the first `taken` is refused for that cause.
 abbrev pub Refuses : Option Place → List ℕ → MessageFault → Type 0
 Refuses old piece fault = (octets text : List ℕ) → StandsAt old octets text →
     HasCause fault.cause (octets ++ take fault.taken piece) (slice_index piece fault.taken)
@@ -106,7 +106,7 @@ IsNoText _ = Unit {0}
 abbrev pub Adds : Place → List ℕ → Place → Type 0
 Adds old octets new = (before text : List ℕ) → Spells before text old → Spells (before ++ octets) text new
 
--- With the octet no message can go on.
+-- With the octet no message can continue.
 abbrev pub DiesWith : Place → ℕ → Type 0
 DiesWith place octet = (octets text : List ℕ) → Spells octets text place → MessageDiesAt octets (Octet octet)
 

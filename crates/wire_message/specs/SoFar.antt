@@ -1,5 +1,5 @@
--- What octets so far are, where a message can go on from them.
-use Rattle.std.specs.Prelude.{◌≡◌, ℕ, ◌≤◌, ◌||◌, nat_lt, IsTrue, IsSome, List, [], ◌∷◌, ◌++◌, length}
+-- What octets so far are, where a message can continue from them.
+use Rattle.std.specs.Prelude.{◌≡◌, ℕ, ◌≤◌, ◌||◌, nat_lt, IsTrue, List, [], ◌∷◌, ◌++◌, length}
 use Rattle.wire_story.specs.Texts.{AreLines}
 use Rattle.wire_story.specs.Reading as story
 use Rattle.wire_message.specs.Fields.{Are, IsField, is_digit, is_letter, is_alphanumeric, is_filler_octet, is_text_octet}
@@ -7,7 +7,7 @@ use Rattle.wire_message.specs.Messages.{IsHeader, IsTrailer, IsFiller, IsGap, Is
 use Rattle.wire_message.specs.declared.place.Place.{Place}
 use Rattle.wire_message.specs.declared.place.Place.TheVariants.{Filler, Source, Number, Priority, PriorityRead, Category, Words, Info, Gap, Text, Trailer, AfterEnd}
 
--- What was read has lengths and octets with which a message can go on.
+-- What was read has lengths and octets with which a message can continue.
 abbrev pub IsPlace : Place → Type 0
 IsPlace (Filler count) = count ≤ 32
 IsPlace (Source s) = IsField is_letter 0 8 s.items
@@ -20,7 +20,7 @@ IsPlace (Words s n p c w) = IsField is_letter 1 8 s.items × IsField is_digit 1 
     × IsField is_alphanumeric 1 8 c.items × IsField is_digit 0 6 w.items
 IsPlace (Info h) = IsHeader h
 IsPlace (Gap h count feed) = IsHeader h × (1 ≤ count) × (count ≤ 32) × IsTrue (feed || nat_lt count 32)
-IsPlace (Text h reader) = IsHeader h × IsSome reader
+IsPlace (Text h reader) = IsHeader h × story.IsPlace reader
 IsPlace (Trailer h t) = IsHeader h × IsTrailer t.items
 IsPlace (AfterEnd h t count) = IsHeader h × IsTrailer t.items × (count ≤ 32)
 

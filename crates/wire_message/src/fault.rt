@@ -3,7 +3,7 @@
 /// Why a reader of messages refused an octet, or the end.
 #[derive(Clone, Copy, Debug, PartialEq, Eq)]
 pub enum MessageCause {
-    /// No message can go on with the octet.
+    /// No message can continue with the octet.
     BadOctet,
     /// No message ends here.
     Unfinished,

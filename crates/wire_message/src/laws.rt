@@ -1,8 +1,11 @@
 //! What holds of all messages, and where a reader of messages stands. The functions do nothing: their contracts are the laws.
 
-ghost use Rattle.wire_message.specs.Laws.{MessagesHaveOneReading, CanonicalObjectsAreMessages, TextsStandBetweenStxAndEtx, ReadersStandAtLivingOctets, HeadersAreToldFromStx, TrailersAreToldFromEtx, MessagesKeepTheirHeader, TrailersStandBetweenEtxAndEot};
+ghost use Rattle.wire_message.specs.Laws.{MessagesHaveOneReading, CanonicalObjectsAreMessages, TextsStandBetweenStxAndEtx, ReadersStandAtLivingOctets, HeadersAreToldFromStx, TrailersAreToldFromEtx, MessagesKeepTheirHeader, TrailersStandBetweenEtxAndEot, PlacesAreReached, OctetsLeadToOnePlace, OctetsLeadOnAlike};
 
-use wire_story::{packed_lines_are_a_text, stories_end_as_texts, stories_live_as_texts_so_far};
+use wire_story::{
+    packed_lines_are_a_text, stories_end_as_texts, stories_live_as_texts_so_far,
+    texts_end_in_no_return, texts_so_far_have_one_reading,
+};
 
 /// An object is a message in one way at most.
 pub fn messages_have_one_reading()
@@ -21,7 +24,7 @@ pub fn texts_stand_between_stx_and_etx()
     ensures { TextsStandBetweenStxAndEtx }
 {}
 
-/// A reader stands at octets from which a message can go on, and the story in it.
+/// A reader stands at octets from which a message can continue, and the story in it.
 pub fn readers_stand_at_living_octets()
     ensures { ReadersStandAtLivingOctets }
 {
@@ -39,7 +42,7 @@ pub fn trailers_are_told_from_etx()
     ensures { TrailersAreToldFromEtx }
 {}
 
-/// Octets that have reached STX go on to messages of one header only.
+/// Octets that have reached STX are the beginning of messages of one header only.
 pub fn messages_keep_their_header()
     ensures { MessagesKeepTheirHeader }
 {}
@@ -48,3 +51,23 @@ pub fn messages_keep_their_header()
 pub fn trailers_stand_between_etx_and_eot()
     ensures { TrailersStandBetweenEtxAndEot }
 {}
+
+/// A reader's invariant holds exactly of the places to which some octets lead.
+pub fn places_are_reached()
+    ensures { PlacesAreReached }
+{}
+
+/// The same octets lead to one place, with one text, whatever the cut.
+pub fn octets_lead_to_one_place()
+    ensures { OctetsLeadToOnePlace }
+{
+    texts_so_far_have_one_reading();
+}
+
+/// From the same place the same octets lead on alike: to the same place, and they add the same to the text.
+pub fn octets_lead_on_alike()
+    ensures { OctetsLeadOnAlike }
+{
+    texts_end_in_no_return();
+    wire_story::octets_lead_on_alike();
+}

@@ -24,24 +24,41 @@ fn outside_text(place: Place, rest: &[u8]) -> Option<(Place, usize)>
     ensures dies { IfNone result (DiesWith place (slice_index rest.now 0)) }
 {
     match place {
-        Place::Filler(count) => in_filler(count, rest),
-        Place::Source(source) => in_source(source, rest),
-        Place::Number(source, number) => in_number(source, number, rest),
-        Place::Priority(source, number) => in_priority(source, number, rest),
-        Place::PriorityRead(source, number, priority) => {
-            after_priority(source, number, priority, rest)
-        }
-        Place::Category(source, number, priority, category) => {
-            in_category(source, number, priority, category, rest)
-        }
-        Place::Words(source, number, priority, category, words) => {
-            in_words(source, number, priority, category, words, rest)
-        }
-        Place::Info(head) => in_info(head, rest),
-        Place::Gap(head, count, feed) => in_gap(head, count, feed, rest),
-        Place::Text(_, _) => unreachable!(),
-        Place::Trailer(head, trailer) => in_trailer(head, trailer, rest),
-        Place::AfterEnd(head, trailer, count) => after_end(head, trailer, count, rest),
+        Place::Filler { count } => in_filler(count, rest),
+        Place::Source { source } => in_source(source, rest),
+        Place::Number { source, number } => in_number(source, number, rest),
+        Place::Priority { source, number } => in_priority(source, number, rest),
+        Place::PriorityRead {
+            source,
+            number,
+            priority,
+        } => after_priority(source, number, priority, rest),
+        Place::Category {
+            source,
+            number,
+            priority,
+            category,
+        } => in_category(source, number, priority, category, rest),
+        Place::Words {
+            source,
+            number,
+            priority,
+            category,
+            words,
+        } => in_words(source, number, priority, category, words, rest),
+        Place::Info { head } => in_info(head, rest),
+        Place::Gap {
+            head,
+            count,
+            has_feed,
+        } => in_gap(head, count, has_feed, rest),
+        Place::Text { .. } => unreachable!(),
+        Place::Trailer { head, trailer } => in_trailer(head, trailer, rest),
+        Place::AfterEnd {
+            head,
+            trailer,
+            count,
+        } => after_end(head, trailer, count, rest),
     }
 }
 
@@ -69,7 +86,7 @@ fn take_outside_text<S: StorySink>(
         CountsCause (S.failures sink.old) (S.failures sink.new) fault.cause) }
 {
     let _ = sink;
-    let old = mem::replace(place, Place::Filler(0));
+    let old = mem::replace(place, Place::Filler { count: 0 });
     match outside_text(old, rest) {
         Some((next, used)) => {
             *place = next;
@@ -105,11 +122,14 @@ fn take_front<S: StorySink>(
         CountsCause (S.failures sink.old) (S.failures sink.new) fault.cause) }
 {
     match place {
-        Place::Text(head, text) => match in_text(head, text, rest, sink) {
+        Place::Text { head, text } => match in_text(head, text, rest, sink) {
             Ok((used, ended)) => {
                 if ended {
-                    match mem::replace(place, Place::Filler(0)) {
-                        Place::Text(head, _) => *place = Place::Trailer(head, ArrayVec::new()),
+                    match mem::replace(place, Place::Filler { count: 0 }) {
+                        Place::Text { head, .. } => *place = Place::Trailer {
+                            head,
+                            trailer: ArrayVec::new(),
+                        },
                         _ => unreachable!(),
                     }
                 }

@@ -9,38 +9,68 @@ use wire_story::TextReader;
 #[derive(Debug, Drop)]
 pub(crate) enum Place {
     /// So many octets of filler, and no SOH.
-    Filler(u8),
-    /// The source.
-    Source(ArrayVec<u8, MAX_SOURCE>),
-    /// Source and number.
-    Number(ArrayVec<u8, MAX_SOURCE>, ArrayVec<u8, MAX_NUMBER>),
+    Filler {
+        count: u8,
+    },
+    /// SOH, and the source so far.
+    Source {
+        source: ArrayVec<u8, MAX_SOURCE>,
+    },
+    /// The source, and the number so far.
+    Number {
+        source: ArrayVec<u8, MAX_SOURCE>,
+        number: ArrayVec<u8, MAX_NUMBER>,
+    },
     /// Source, number and SP.
-    Priority(ArrayVec<u8, MAX_SOURCE>, ArrayVec<u8, MAX_NUMBER>),
+    Priority {
+        source: ArrayVec<u8, MAX_SOURCE>,
+        number: ArrayVec<u8, MAX_NUMBER>,
+    },
     /// Source, number, SP and priority.
-    PriorityRead(ArrayVec<u8, MAX_SOURCE>, ArrayVec<u8, MAX_NUMBER>, ArrayVec<u8, MAX_PRIORITY>),
-    /// All up to the second SP, and the category.
-    Category(
-        ArrayVec<u8, MAX_SOURCE>,
-        ArrayVec<u8, MAX_NUMBER>,
-        ArrayVec<u8, MAX_PRIORITY>,
-        ArrayVec<u8, MAX_CATEGORY>,
-    ),
-    /// All up to the third SP, and the words.
-    Words(
-        ArrayVec<u8, MAX_SOURCE>,
-        ArrayVec<u8, MAX_NUMBER>,
-        ArrayVec<u8, MAX_PRIORITY>,
-        ArrayVec<u8, MAX_CATEGORY>,
-        ArrayVec<u8, MAX_WORDS>,
-    ),
+    PriorityRead {
+        source: ArrayVec<u8, MAX_SOURCE>,
+        number: ArrayVec<u8, MAX_NUMBER>,
+        priority: ArrayVec<u8, MAX_PRIORITY>,
+    },
+    /// All up to the second SP, and the category so far.
+    Category {
+        source: ArrayVec<u8, MAX_SOURCE>,
+        number: ArrayVec<u8, MAX_NUMBER>,
+        priority: ArrayVec<u8, MAX_PRIORITY>,
+        category: ArrayVec<u8, MAX_CATEGORY>,
+    },
+    /// All up to the third SP, and the words so far.
+    Words {
+        source: ArrayVec<u8, MAX_SOURCE>,
+        number: ArrayVec<u8, MAX_NUMBER>,
+        priority: ArrayVec<u8, MAX_PRIORITY>,
+        category: ArrayVec<u8, MAX_CATEGORY>,
+        words: ArrayVec<u8, MAX_WORDS>,
+    },
     /// The header, its info begun by SP.
-    Info(MessageHead),
+    Info {
+        head: MessageHead,
+    },
     /// The header, and so many octets of the gap, with an LF among them or not yet.
-    Gap(MessageHead, u8, bool),
+    Gap {
+        head: MessageHead,
+        count: u8,
+        has_feed: bool,
+    },
     /// The header, the gap, STX, and the text so far.
-    Text(MessageHead, TextReader),
-    /// The header, the text, ETX, and the trailer.
-    Trailer(MessageHead, ArrayVec<u8, MAX_TRAILER>),
+    Text {
+        head: MessageHead,
+        text: TextReader,
+    },
+    /// The header, the text, ETX, and the trailer so far.
+    Trailer {
+        head: MessageHead,
+        trailer: ArrayVec<u8, MAX_TRAILER>,
+    },
     /// The header, the text, the trailer, EOT, and so many octets of filler.
-    AfterEnd(MessageHead, ArrayVec<u8, MAX_TRAILER>, u8),
+    AfterEnd {
+        head: MessageHead,
+        trailer: ArrayVec<u8, MAX_TRAILER>,
+        count: u8,
+    },
 }

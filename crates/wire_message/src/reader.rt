@@ -44,7 +44,7 @@ impl MessageReader {
         ensures stands { StandsAt result [] [] }
     {
         MessageReader {
-            place: Some(Place::Filler(0)),
+            place: Some(Place::Filler { count: 0 }),
         }
     }
 
@@ -61,7 +61,7 @@ impl MessageReader {
     pub fn feed<S: StorySink>(&mut self, piece: &[u8], sink: &mut S) -> Result<(), MessageFault>
         requires { IsSome self.old }
 
-        // The octets so far, with the piece, are a message so far, and its text is a text so far: both can go on.
+        // The octets so far, with the piece, are a message so far, and its text is a text so far: both can continue.
         ensures takes_calls { OnOk result (IsSome self.new) }
         ensures lives { OnOk result (LivesOn self.old piece.now) }
         ensures told { OnOk result (Told S.goes sink.old self.old piece.now self.new sink.new) }
@@ -71,7 +71,7 @@ impl MessageReader {
         ensures takes_nothing { length piece.now ≡ 0 → IsOk result }
         ensures nothing { length piece.now ≡ 0 → (self.new ≡ self.old) × (sink.new ≡ sink.old) }
 
-        // With the refused octet no message can go on from them, or no text, or the sink stopped; before it both could.
+        // With the refused octet no message can continue from them, or no text, or the sink stopped; before it both could.
         ensures failed { OnErr result (self.new ≡ None) }
         ensures before { IfErr result (λ fault. fault.taken < length piece.now) }
         ensures lives_front { IfErr result (λ fault. LivesOn self.old (take fault.taken piece.now)) }
@@ -122,9 +122,9 @@ impl MessageReader {
         ensures { result ≡ head_read self.now }
     {
         match &self.place {
-            Some(Place::Text(head, _)) => Some(head.copied()),
-            Some(Place::Trailer(head, _)) => Some(head.copied()),
-            Some(Place::AfterEnd(head, _, _)) => Some(head.copied()),
+            Some(Place::Text { head, .. }) => Some(head.copied()),
+            Some(Place::Trailer { head, .. }) => Some(head.copied()),
+            Some(Place::AfterEnd { head, .. }) => Some(head.copied()),
             _ => None,
         }
     }
@@ -134,8 +134,8 @@ impl MessageReader {
         ensures { result.now ≡ trailer_read self.now }
     {
         match &self.place {
-            Some(Place::Trailer(_, trailer)) => trailer.as_slice(),
-            Some(Place::AfterEnd(_, trailer, _)) => trailer.as_slice(),
+            Some(Place::Trailer { trailer, .. }) => trailer.as_slice(),
+            Some(Place::AfterEnd { trailer, .. }) => trailer.as_slice(),
             _ => &[],
         }
     }
@@ -145,5 +145,5 @@ impl MessageReader {
 fn has_ended(place: &Option<Place>) -> bool
     ensures { result ≡ is_ended place.now }
 {
-    matches!(place, Some(Place::AfterEnd(_, _, _)))
+    matches!(place, Some(Place::AfterEnd { .. }))
 }

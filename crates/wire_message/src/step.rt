@@ -30,10 +30,15 @@ pub(crate) fn in_filler(count: u8, rest: &[u8]) -> Option<(Place, usize)>
 {
     let octet = rest[0];
     if fills(count, octet) {
-        return Some((Place::Filler(count + 1), 1));
+        return Some((Place::Filler { count: count + 1 }, 1));
     }
     if octet == SOH {
-        return Some((Place::Source(ArrayVec::new()), 1));
+        return Some((
+            Place::Source {
+                source: ArrayVec::new(),
+            },
+            1,
+        ));
     }
     None
 }
@@ -55,11 +60,17 @@ pub(crate) fn in_source(mut source: ArrayVec<u8, MAX_SOURCE>, rest: &[u8]) -> Op
 {
     let run = take_run(&mut source, Class::Letter, rest);
     if run > 0 {
-        return Some((Place::Source(source), run));
+        return Some((Place::Source { source }, run));
     }
     let octet = rest[0];
     if begins_number(&source, octet) {
-        return Some((Place::Number(source, part_of_one(octet)), 1));
+        return Some((
+            Place::Number {
+                source,
+                number: part_of_one(octet),
+            },
+            1,
+        ));
     }
     None
 }
@@ -93,10 +104,10 @@ pub(crate) fn in_number(
 {
     let run = take_run(&mut number, Class::Digit, rest);
     if run > 0 {
-        return Some((Place::Number(source, number), run));
+        return Some((Place::Number { source, number }, run));
     }
     if rest[0] == SP {
-        return Some((Place::Priority(source, number), 1));
+        return Some((Place::Priority { source, number }, 1));
     }
     None
 }
@@ -114,7 +125,14 @@ pub(crate) fn in_priority(
 {
     let octet = rest[0];
     if is_in(Class::Digit, octet) {
-        return Some((Place::PriorityRead(source, number, part_of_one(octet)), 1));
+        return Some((
+            Place::PriorityRead {
+                source,
+                number,
+                priority: part_of_one(octet),
+            },
+            1,
+        ));
     }
     None
 }
@@ -135,7 +153,12 @@ pub(crate) fn after_priority(
 {
     if rest[0] == SP {
         return Some((
-            Place::Category(source, number, priority, ArrayVec::new()),
+            Place::Category {
+                source,
+                number,
+                priority,
+                category: ArrayVec::new(),
+            },
             1,
         ));
     }
@@ -159,11 +182,28 @@ pub(crate) fn in_category(
 {
     let run = take_run(&mut category, Class::Alphanumeric, rest);
     if run > 0 {
-        return Some((Place::Category(source, number, priority, category), run));
+        return Some((
+            Place::Category {
+                source,
+                number,
+                priority,
+                category,
+            },
+            run,
+        ));
     }
     if ends_part(&category, rest[0]) {
         let words = ArrayVec::new();
-        return Some((Place::Words(source, number, priority, category, words), 1));
+        return Some((
+            Place::Words {
+                source,
+                number,
+                priority,
+                category,
+                words,
+            },
+            1,
+        ));
     }
     None
 }
@@ -186,16 +226,32 @@ pub(crate) fn in_words(
 {
     let run = take_run(&mut words, Class::Digit, rest);
     if run > 0 {
-        return Some((Place::Words(source, number, priority, category, words), run));
+        return Some((
+            Place::Words {
+                source,
+                number,
+                priority,
+                category,
+                words,
+            },
+            run,
+        ));
     }
     let octet = rest[0];
     if ends_part(&words, octet) {
         let head = MessageHead::begun(source, number, priority, category, words);
-        return Some((Place::Info(head), 1));
+        return Some((Place::Info { head }, 1));
     }
     if begins_gap(&words, octet) {
         let head = MessageHead::begun(source, number, priority, category, words);
-        return Some((Place::Gap(head, 1, octet == LF), 1));
+        return Some((
+            Place::Gap {
+                head,
+                count: 1,
+                has_feed: octet == LF,
+            },
+            1,
+        ));
     }
     None
 }

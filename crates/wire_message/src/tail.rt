@@ -24,11 +24,18 @@ pub(crate) fn in_info(mut head: MessageHead, rest: &[u8]) -> Option<(Place, usiz
 {
     let run = head.take_info(rest);
     if run > 0 {
-        return Some((Place::Info(head), run));
+        return Some((Place::Info { head }, run));
     }
     let octet = rest[0];
     if is_in(Class::Filler, octet) {
-        return Some((Place::Gap(head, 1, octet == LF), 1));
+        return Some((
+            Place::Gap {
+                head,
+                count: 1,
+                has_feed: octet == LF,
+            },
+            1,
+        ));
     }
     None
 }
@@ -71,10 +78,23 @@ pub(crate) fn in_gap(
 {
     let octet = rest[0];
     if gap_goes_on(count, feed, octet) {
-        return Some((Place::Gap(head, count + 1, has_line_feed(feed, octet)), 1));
+        return Some((
+            Place::Gap {
+                head,
+                count: count + 1,
+                has_feed: has_line_feed(feed, octet),
+            },
+            1,
+        ));
     }
     if ends_gap(feed, octet) {
-        return Some((Place::Text(head, TextReader::new()), 1));
+        return Some((
+            Place::Text {
+                head,
+                text: TextReader::new(),
+            },
+            1,
+        ));
     }
     None
 }
@@ -92,10 +112,17 @@ pub(crate) fn in_trailer(
 {
     let run = take_run(&mut trailer, Class::Trailer, rest);
     if run > 0 {
-        return Some((Place::Trailer(head, trailer), run));
+        return Some((Place::Trailer { head, trailer }, run));
     }
     if rest[0] == EOT {
-        return Some((Place::AfterEnd(head, trailer, 0), 1));
+        return Some((
+            Place::AfterEnd {
+                head,
+                trailer,
+                count: 0,
+            },
+            1,
+        ));
     }
     None
 }
@@ -113,7 +140,14 @@ pub(crate) fn after_end(
     ensures dies { IfNone result (DiesWith (Place.AfterEnd head trailer count) (slice_index rest.now 0)) }
 {
     if fills(count, rest[0]) {
-        return Some((Place::AfterEnd(head, trailer, count + 1), 1));
+        return Some((
+            Place::AfterEnd {
+                head,
+                trailer,
+                count: count + 1,
+            },
+            1,
+        ));
     }
     None
 }

@@ -10,8 +10,8 @@ use crate::fault::{MessageCause, MessageFault};
 use crate::head::MessageHead;
 use crate::octets::ETX;
 use wire_story::{
-    StorySink, TextCause, TextReader, stories_end_as_texts, stories_live_as_texts_so_far,
-    texts_end_in_no_return, texts_so_far_have_one_reading,
+    StorySink, TextCause, TextReader, places_are_reached, stories_end_as_texts,
+    stories_live_as_texts_so_far, texts_end_in_no_return, texts_so_far_have_one_reading,
 };
 
 /// The cause of a message for a cause of its text.
@@ -67,6 +67,7 @@ pub(crate) fn in_text<S: StorySink>(
     stories_end_as_texts();
     texts_end_in_no_return();
     texts_so_far_have_one_reading();
+    places_are_reached();
     match text.run(rest, sink) {
         Ok(()) => Ok((rest.len(), false)),
         Err(fault) => {

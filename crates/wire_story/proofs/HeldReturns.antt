@@ -92,7 +92,7 @@ so_far-cons b bs [] line k t h = ([], b ∷ line, (Are-cons is_line_octet b line
 so_far-cons b bs (first ∷ lines) line k t h =
     ((b ∷ first) ∷ lines, line, (Are-cons is_line_octet b first t h.0, h.1, h.2, h.3, ap (λ (x : List ℕ). b ∷ x) h.4, h.5))
 
--- the next octet goes on from what is held
+-- the next octet is read after what is held
 pub and_then_is : (o : Option ℕ) (f : ℕ → Option ℕ) (k : ℕ) → option_and_then f o ≡ Some k → (j : ℕ) × (o ≡ Some j) × (f j ≡ Some k)
 and_then_is None f k e = absurd cc
 and_then_is (Some j) f k e = (j, refl, e)

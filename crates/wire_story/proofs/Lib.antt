@@ -4,6 +4,7 @@ pub mod HeldReturns
 pub mod Lives
 pub mod Told
 pub mod Readings
+pub mod Reached
 pub mod Pieces
 pub mod MadeTexts
 pub mod Collected

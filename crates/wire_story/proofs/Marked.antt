@@ -17,7 +17,7 @@ lowest_half : (b : Bool) (n : ℕ) → (cond b 1 0 + 2 * n) / 2 ≡ n
 lowest_half true n = omega arith
 lowest_half false n = omega arith
 
--- a mask without its lowest digits is that of the octets behind them
+-- a mask without its lowest digits is that of the octets after them
 pub shifted : (p : ℕ → Bool) (s more : ℕ) (xs : List ℕ) → s ≤ length xs → mask_l (map p (take (s + more) xs)) / 2 ^ s ≡ mask_l (map p (take more (drop s xs)))
 shifted p zero more xs le =
     let e : more ≡ zero + more = omega arith in
@@ -48,7 +48,7 @@ not_low b h = grind (arith, nat_tests)
 calm_octet : (b : ℕ) → b < 256 → 14 ≤ b → is_line_octet b ≡ true
 calm_octet b fits above = grind (arith, nat_tests)
 
--- octets that are all above the marks go on in the line
+-- octets that are all above the marks continue the line
 pub calm_more : (xs : List ℕ) → ((k : ℕ) → get_or xs k 0 < 256) → (at n : ℕ) → at + n ≤ length xs → list_all is_line_octet (take at xs) ≡ true
     → ((k : ℕ) → k < n → 14 ≤ get_or xs (at + k) 0) → list_all is_line_octet (take (at + n) xs) ≡ true
 calm_more xs fits at zero le front above = subst (λ (m : ℕ). list_all is_line_octet (take m xs) ≡ true) (omega arith) front
@@ -91,7 +91,7 @@ front_calm xs fits at many left within few is some front =
     let low = lowest_low xs at many left within few is some in
     calm_front xs fits at many (count_trailing_zeros 64 left) (omega (arith, within, low.1)) (omega (arith, low.1)) front (omega (arith, low.0))
 
--- the mask behind some of its octets
+-- the mask after some of its octets
 pub marks_behind : (xs : List ℕ) (at many left s : ℕ) → at + many ≤ length xs → left ≡ mask_l (map is_low (take many (drop at xs))) → s ≤ many
     → left / 2 ^ s ≡ mask_l (map is_low (take (many - s) (drop (at + s) xs)))
 marks_behind xs at many left s within is le =

@@ -1,10 +1,10 @@
 -- The words of lines.
-use Rattle.std.proofs.Common.{◌≡◌, ℕ, ◌+◌, ◌<◌, ◌&&◌, cond, Bool, true, false, not, List, [], ◌∷◌, ◌++◌, length, map, inl, inr, refl, sym, ap, subst, ◌∙◌, arith, append-nil}
+use Rattle.std.proofs.Common.{◌≡◌, ℕ, ◌+◌, ◌&&◌, cond, Bool, true, false, not, List, [], ◌∷◌, ◌++◌, length, map, inl, inr, refl, sym, ap, subst, ◌∙◌, arith, append-nil}
 use Rattle.std.proofs.lemmas.Bool.{cases_Bool, both_ways}
 use Rattle.std.proofs.lemmas.List.Sums.{sum_by-cons}
 use Rattle.wire_story.specs.Delivery.{Event, LineOctet, LineEnd, delivered, events_of_lines}
 use Rattle.wire_story.specs.Words.{is_word_octet, words_begun, words_of, words, EndsWord, HasWords, capped, words_told}
-use Rattle.wire_story.specs.WordLaws.{WordsAreCounted, WordsAreLongestRuns, TextsAreCountedAsLines}
+use Rattle.wire_story.specs.WordLaws.{WordsAreLongestRuns, TextsAreCountedAsLines}
 use Rattle.wire_story.proofs.Spans.{Are, Are-head, Are-tail, Are-cons, span, no_stop}
 use Rattle.wire_story.proofs.Told.{delivered_lines}
 

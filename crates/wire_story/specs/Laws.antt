@@ -1,11 +1,12 @@
 -- What holds of all texts.
-use Rattle.std.specs.Prelude.{◌≡◌, ◌↔◌, ℕ, List, [], ◌∷◌, ◌++◌, map}
+use Rattle.std.specs.Prelude.{◌≡◌, ◌↔◌, ℕ, List, [], ◌∷◌, ◌++◌, map, Option}
 use Rattle.std.specs.List.{join_with_byte}
 use Rattle.iim_dataset.specs.Languages.{IsAlive}
 use Rattle.wire_story.specs.Texts.{IsText, IsTextSoFar, Holds, AreLines, MakeText, packed_text}
 use Rattle.wire_story.specs.Delivery.{delivered, events_of_lines, octet_for}
 use Rattle.wire_story.specs.Collecting.{collect}
 use Rattle.wire_story.specs.Tokens.{StoryLanguage, Octet, End, LivesWith}
+use Rattle.wire_story.specs.Reading.{StandsAt, IsPlace}
 
 -- Octets are the lines of a text in one way at most.
 abbrev pub TextsHaveOneReading : Type 0
@@ -29,7 +30,7 @@ TextsSoFarAreDeliveredAsLines = (x : List ℕ) (lines : List (List ℕ)) (line :
 abbrev pub DeliveryMayBeCut : Type 0
 DeliveryMayBeCut = (x y : List ℕ) → delivered (x ++ y) ≡ delivered x ++ delivered y
 
--- A story can go on from octets exactly where they are a text so far.
+-- A story can continue from octets exactly where they are a text so far.
 abbrev pub StoriesLiveAsTextsSoFar : Type 0
 StoriesLiveAsTextsSoFar = (x : List ℕ) → LivesWith x ↔ ((held : ℕ) × Holds x held)
 
@@ -56,3 +57,15 @@ LinesAreJoinedByLineFeeds = (lines : List (List ℕ)) → map octet_for (events_
 -- Collected from one empty line on, what is delivered of a text are its lines.
 abbrev pub TextsAreCollectedAsLines : Type 0
 TextsAreCollectedAsLines = (x : List ℕ) (lines : List (List ℕ)) → IsText x lines → collect ([] ∷ []) (delivered x) ≡ lines
+
+-- A reader's invariant holds exactly of the places at which a reader stands after some octets.
+abbrev pub PlacesAreReached : Type 0
+PlacesAreReached = (reader : Option ℕ) → IsPlace reader ↔ ((octets : List ℕ) × StandsAt reader octets)
+
+-- After the same octets a reader stands at one place.
+abbrev pub OctetsLeadToOnePlace : Type 0
+OctetsLeadToOnePlace = (octets : List ℕ) (a b : Option ℕ) → StandsAt a octets → StandsAt b octets → a ≡ b
+
+-- From the same place the same octets lead on alike.
+abbrev pub OctetsLeadOnAlike : Type 0
+OctetsLeadOnAlike = (old new : Option ℕ) (a b x : List ℕ) → StandsAt old a → StandsAt old b → StandsAt new (a ++ x) → StandsAt new (b ++ x)

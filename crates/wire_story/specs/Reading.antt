@@ -11,7 +11,11 @@ use Rattle.wire_story.specs.declared.fault.TextFault.{TextFault}
 abbrev pub StandsAt : Option ℕ → List ℕ → Type 0
 StandsAt reader octets = (held : ℕ) × (reader ≡ Some held) × Holds octets held
 
--- A piece leads a reader on: whichever octets so far it stood at, it then stands at these and the piece.
+-- The reader takes calls, and holds two CR at most.
+abbrev pub IsPlace : Option ℕ → Type 0
+IsPlace reader = (held : ℕ) × (reader ≡ Some held) × (held ≤ 2)
+
+-- A piece leads a reader on: for all octets so far at which it stood, it then stands at these and the piece.
 abbrev pub GoesOn : Option ℕ → List ℕ → Option ℕ → Type 0
 GoesOn old piece new = (octets : List ℕ) → StandsAt old octets → StandsAt new (octets ++ piece)
 
@@ -29,7 +33,7 @@ HasCause LoneReturn octets octet = StoryDiesAt octets (Octet octet) × ((held : 
 HasCause ControlOctet octets octet = StoryDiesAt octets (Octet octet) × Holds octets 0 × IsControl octet
 HasCause Sink octets octet = LivesWith (octets ++ octet ∷ []) × (octet ≢ 13)
 
--- Whichever octets so far the reader stood at, the octet behind the first `taken` of the piece is refused for that cause.
+-- For all octets so far at which the reader stood, the octet after the first `taken` of the piece is refused for that cause.
 abbrev pub Refuses : Option ℕ → List ℕ → TextFault → Type 0
 Refuses old piece fault = (octets : List ℕ) → StandsAt old octets →
     HasCause fault.cause (octets ++ take fault.taken piece) (slice_index piece fault.taken)

@@ -19,10 +19,10 @@ pub record StoryLanguage (tokens : List OctetOrEnd) : Type 0 where
   pub lined : IsText text lines
   pub tokens_are : tokens ≡ with_end text
 
--- A story can go on from the octets.
+-- A story can continue from the octets.
 abbrev pub LivesWith : List ℕ → Type 0
 LivesWith octets = IsAlive StoryLanguage (map Octet octets)
 
--- A story can go on from the octets, and not from them with the next token.
+-- A story can continue from the octets, and not from them with the next token.
 abbrev pub StoryDiesAt : List ℕ → OctetOrEnd → Type 0
 StoryDiesAt octets token = DiesAt StoryLanguage (map Octet octets) token

@@ -1,8 +1,8 @@
 -- What holds of the words of lines, and the laws of a count of them, handed in by its impl.
-use Rattle.std.proofs.Common.{◌≡◌, ℕ, ◌+◌, ◌<◌, ◌^◌, Bool, false, true, min, List, [], ◌∷◌, ◌++◌, length, refl, sym, ap, ◌∙◌, arith}
+use Rattle.std.proofs.Common.{◌≡◌, ℕ, ◌+◌, ◌<◌, ◌^◌, Bool, false, List, [], ◌∷◌, ◌++◌, length, refl, sym, ap, ◌∙◌, arith}
 use Rattle.wire_story.specs.Texts.{IsText}
 use Rattle.wire_story.specs.Delivery.{Event, LineOctet, LineEnd, delivered}
-use Rattle.wire_story.specs.Words.{words_of, words, is_word_octet, begun_with, HasWords, WordsSoFar, capped, words_told, inside_after, CountsWords}
+use Rattle.wire_story.specs.Words.{words_of, words, is_word_octet, HasWords, WordsSoFar, capped, words_told, inside_after, CountsWords}
 
 -- A line has words in one way: there are such words, and no others, and the count is theirs.
 pub record WordsAreCounted (line : List ℕ) : Type 0 where

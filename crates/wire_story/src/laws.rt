@@ -3,7 +3,7 @@
 ghost use Rattle.std.specs.Prelude.{◌≡◌};
 ghost use Rattle.wire_story.specs.Texts.{line_end};
 ghost use Rattle.wire_story.specs.Packing.{LinesArePackedAsTheirEvents, EventsArePackedAsLines};
-ghost use Rattle.wire_story.specs.Laws.{TextsHaveOneReading, TextsSoFarHaveOneReading, TextsAreDeliveredAsLines, TextsSoFarAreDeliveredAsLines, DeliveryMayBeCut, StoriesLiveAsTextsSoFar, StoriesEndAsTexts, TextsEndInNoReturn, PackedLinesAreAText, LinesOfATextMakeOne, LinesAreJoinedByLineFeeds, TextsAreCollectedAsLines};
+ghost use Rattle.wire_story.specs.Laws.{TextsHaveOneReading, TextsSoFarHaveOneReading, TextsAreDeliveredAsLines, TextsSoFarAreDeliveredAsLines, DeliveryMayBeCut, StoriesLiveAsTextsSoFar, StoriesEndAsTexts, TextsEndInNoReturn, PackedLinesAreAText, LinesOfATextMakeOne, LinesAreJoinedByLineFeeds, TextsAreCollectedAsLines, PlacesAreReached, OctetsLeadToOnePlace, OctetsLeadOnAlike};
 ghost use Rattle.wire_story.specs.WordLaws.{WordsAreLongestRuns, TextsAreCountedAsLines};
 
 use crate::line::LINE_END;
@@ -33,7 +33,7 @@ pub fn delivery_may_be_cut()
     ensures { DeliveryMayBeCut }
 {}
 
-/// A story can go on from octets exactly where they are a text so far.
+/// A story can continue from octets exactly where they are a text so far.
 pub fn stories_live_as_texts_so_far()
     ensures { StoriesLiveAsTextsSoFar }
 {}
@@ -91,4 +91,19 @@ pub fn words_are_longest_runs()
 /// Counted from nothing on, the words of what is delivered of a text are those of its lines.
 pub fn texts_are_counted_as_lines()
     ensures { TextsAreCountedAsLines }
+{}
+
+/// A reader's invariant holds exactly of the places at which a reader stands after some octets.
+pub fn places_are_reached()
+    ensures { PlacesAreReached }
+{}
+
+/// After the same octets a reader stands at one place, whatever the cut.
+pub fn octets_lead_to_one_place()
+    ensures { OctetsLeadToOnePlace }
+{}
+
+/// From the same place the same octets lead on alike.
+pub fn octets_lead_on_alike()
+    ensures { OctetsLeadOnAlike }
 {}

@@ -61,7 +61,7 @@ impl Marks {
         Marks { left: 0, many: 0 }
     }
 
-    /// The marks behind the next octet.
+    /// The marks after the next octet.
     #[inline(always)]
     pub(crate) fn behind(self, octets: &[u8]) -> Marks
         requires marks { AreMarks octets.now self }
@@ -78,7 +78,7 @@ impl Marks {
         }
     }
 
-    /// The length of the longest front that lies in one line, and the marks behind it.
+    /// The length of the longest front that lies in one line, and the marks after it.
     #[inline(always)]
     pub(crate) fn run_len(self, octets: &[u8]) -> (usize, Marks)
         requires { AreMarks octets.now self }

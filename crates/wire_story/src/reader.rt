@@ -55,7 +55,7 @@ impl TextReader {
         ensures told { OnOk result (S.goes sink.old (delivered run.now) sink.new) }
         ensures calm { OnOk result (S.failures sink.new ≡ S.failures sink.old) }
 
-        // With the refused octet no text can go on from them, or the sink stopped.
+        // With the refused octet no text can continue from them, or the sink stopped.
         ensures failed { OnErr result (self.new ≡ None) }
         ensures before { IfErr result (λ fault. fault.taken < length run.now) }
         ensures refused { IfErr result (Refuses self.old run.now) }

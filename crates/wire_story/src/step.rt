@@ -14,7 +14,7 @@ use crate::sink::StorySink;
 /// So many CR may stand before an LF.
 const MAX_RETURNS: u8 = 2;
 
-/// The length of the longest front that lies in one line, after so many held CR, and the marks behind it.
+/// The length of the longest front that lies in one line, after so many held CR, and the marks after it.
 #[inline(always)]
 fn run_len(held: u8, marks: Marks, octets: &[u8]) -> (usize, Marks)
     requires { AreMarks octets.now marks }

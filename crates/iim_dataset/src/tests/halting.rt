@@ -3,7 +3,7 @@
 use crate::{FromRead, FromWrite, IoFault, Source, Target, put, take};
 use std::io::{Error, ErrorKind, Read, Result, Write};
 
-/// It is interrupted so often before each octet, and breaks after so many.
+/// It is interrupted `waits` times before each octet, and breaks after `good` of them.
 #[derive(Drop)]
 struct Halting {
     waits: u32,

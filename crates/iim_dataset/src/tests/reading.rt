@@ -7,7 +7,7 @@ use crate::{DatasetSink, Fault, FaultCause, Head, HeadReader, Step, Stop};
 use arrayvec::ArrayVec;
 use std::process::Abort;
 
-/// Three datasets: a standard count, an extended one, and no data; and an octet behind them.
+/// Three datasets: a standard count, an extended one, and no data; and an octet after them.
 const STREAM: &[u8] = b"\x1c\x01\x1e\x00\x03TST\x1c\x02\x05\x80\x01\x02ab\x1c\x07\x0a\x00\x00x";
 
 /// The octets of the three.
@@ -150,7 +150,7 @@ fn datasets_in_any_cut(rt: HostRuntime) {
     assert_eq!(rt; sink.record.as_slice(), RECORD);
 }
 
-/// After the last dataset a reader goes on where its sink does: what comes then is the next tag, or refused as one.
+/// After the last dataset a reader continues where its sink does: what comes then is the next tag, or refused as one.
 #[test]
 fn octets_after_the_last_dataset(rt: HostRuntime) {
     let marker = |used| {
@@ -186,7 +186,7 @@ fn longest_runs(rt: HostRuntime) {
     assert_eq!(rt; sink.runs, 2);
 }
 
-/// Octets with which no tag goes on: the cause, the octet, and the numbers that were read.
+/// Octets with which no tag can continue: the cause, the octet, and the numbers that were read.
 const NO_TAGS: [(&[u8], FaultCause, usize, (u8, u8)); 6] = [
     (b"\x1d\x01", FaultCause::Marker, 0, (0, 0)),
     (b"\x1c\x01\x00\x80\x00", FaultCause::CountForm, 4, (1, 0)),
@@ -221,7 +221,7 @@ fn no_tag_goes_on(rt: HostRuntime) {
     }
 }
 
-/// The sink stops at this event, which octet `used` completes, behind so much of the record.
+/// The sink stops at this event, which octet `used` completes, after this much of the record.
 fn expect_stop(rt: &impl Abort, event: usize, used: usize, recorded: usize) {
     let stop = Err(Fault {
         cause: FaultCause::Stopped,
@@ -268,6 +268,6 @@ fn numbers_of_the_begun_dataset(rt: HostRuntime) {
         let mut sink = Recorder::new(11);
         let (octets, _) = STREAM[8..].split_at(fed);
         assert_eq!(rt; reader.feed(octets, &mut sink), Ok(fed));
-        assert_eq!(rt; reader.named(), named, "behind {fed}");
+        assert_eq!(rt; reader.named(), named, "after {fed}");
     }
 }

@@ -23,7 +23,7 @@ pub fn text_of(alloc: Global, lines: &Lines) -> Result<Vec<u8>, AllocError> {
 }
 
 /// What is answered where no more octets come.
-fn settled(unpacker: &Unpacker, used: u64) -> Result<u64, Refusal> {
+pub fn settled(unpacker: &Unpacker, used: u64) -> Result<u64, Refusal> {
     match unpacker.end_of_input() {
         Some(refusal) => Err(refusal),
         None => Ok(used),

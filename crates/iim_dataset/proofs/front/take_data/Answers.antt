@@ -5,8 +5,8 @@ use Rattle.iim_dataset.specs.Events.{DataOctet, DatasetEnd}
 use Rattle.iim_dataset.specs.Places.{Brings}
 use Rattle.iim_dataset.specs.Reading.{Refuses}
 use Rattle.iim_dataset.specs.declared.fault.Fault.{Fault}
-use Rattle.iim_dataset.specs.declared.place.Place.{Place}
-use Rattle.iim_dataset.specs.declared.place.Place.TheVariants.{Inside}
+use Rattle.iim_dataset.specs.declared.place.DatasetPlace.{DatasetPlace}
+use Rattle.iim_dataset.specs.declared.place.DatasetPlace.TheVariants.{Inside}
 use Rattle.iim_dataset.proofs.Fronts.{are_octets, front_are}
 use Rattle.iim_dataset.proofs.Places.{data_on, data_end}
 use Rattle.iim_dataset.proofs.Stopping.{data_stops, end_stops}
@@ -42,7 +42,7 @@ returns-in-Ok-close-clause-told g c =
       more = map DataOctet (take left rest) ++ DatasetEnd ∷ [];
       told = g.met.D.DatasetSink.joined c.args.sink.now c.run-2.new.self c.close.new.self _ _ c.in-Ok-run.ensures.ok c.in-Ok-close.ensures.ok;
       brings =
-          subst (λ (p : Place). Brings (Inside c.args.head left) (take left rest) (map DataOctet (take left rest) ++ DatasetEnd ∷ []) p) (sym c.start.ensures.place)
+          subst (λ (p : DatasetPlace). Brings (Inside c.args.head left) (take left rest) (map DataOctet (take left rest) ++ DatasetEnd ∷ []) p) (sym c.start.ensures.place)
           (data_end c.args.head left (take left rest) (front_are left rest octets) (length-take-le left rest (omega (arith, c.if-rest-left.false))));
     }
 

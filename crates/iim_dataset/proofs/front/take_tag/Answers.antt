@@ -9,8 +9,8 @@ use Rattle.iim_dataset.specs.Completing.{head_events}
 use Rattle.iim_dataset.specs.declared.head.Head.{Head}
 use Rattle.iim_dataset.specs.declared.head.HeadCause.{HeadCause}
 use Rattle.iim_dataset.specs.declared.fault.Fault.{Fault}
-use Rattle.iim_dataset.specs.declared.place.Place.{Place}
-use Rattle.iim_dataset.specs.declared.place.Place.TheVariants.{Tag}
+use Rattle.iim_dataset.specs.declared.place.DatasetPlace.{DatasetPlace}
+use Rattle.iim_dataset.specs.declared.place.DatasetPlace.TheVariants.{Tag}
 use Rattle.iim_dataset.proofs.Places.{tag_on, head_leads}
 use Rattle.iim_dataset.proofs.HeldTags.{begun_length, longer, behind_held, refused_at, tag_is}
 use Rattle.iim_dataset.proofs.Stopping.{tag_stops}
@@ -76,7 +76,7 @@ returns-in-Ok-clause-told g c =
     let all : n ≡ length held + used = omega (arith, longer held rest h n c.requires.held t, c.len.ensures.value) in record {
       more = head_events h;
       told = c.in-Ok.ensures.told;
-      brings = subst (λ (p : Place). Brings (Tag c.args.held) (take used rest) (head_events h) p) (sym c.in-Ok.ensures.place) (head_leads c.args.held (take used rest) h (tag_is held rest h n used all t));
+      brings = subst (λ (p : DatasetPlace). Brings (Tag c.args.held) (take used rest) (head_events h) p) (sym c.in-Ok.ensures.place) (head_leads c.args.held (take used rest) h (tag_is held rest h n used all t));
     }
 
 pub returns-in-Err-begin-clause-refused : goal.returns-in-Err-begin-clause-refused

@@ -1,5 +1,6 @@
-use Rattle.std.proofs.Common.{sym, ◌∙◌}
-use Rattle.iim_object.proofs.Steps.{end_goes_on, end_refused}
+use Rattle.std.proofs.Common.{Some, sym, ◌∙◌}
+use Rattle.iim_object.specs.Objects.{ObjectEnded}
+use Rattle.iim_object.proofs.Steps.{end_goes_on, end_refused, lives_with}
 use Rattle.iim_object.proofs.step.take_end.Goals as goal
 
 pub returns-in-Some-clause-refused : goal.returns-in-Some-clause-refused
@@ -7,3 +8,6 @@ returns-in-Some-clause-refused c = end_refused c.args.state c.in-Some.cause (sym
 
 pub returns-in-None-clause-goes_on : goal.returns-in-None-clause-goes_on
 returns-in-None-clause-goes_on c = end_goes_on c.args.state (sym c.end_cause.ensures ∙ c.in-None.is)
+
+pub returns-in-None-clause-lives : goal.returns-in-None-clause-lives
+returns-in-None-clause-lives c = lives_with (Some c.args.state) (Some c.args.state) ObjectEnded (end_goes_on c.args.state (sym c.end_cause.ensures ∙ c.in-None.is))

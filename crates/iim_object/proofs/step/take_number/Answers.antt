@@ -1,17 +1,27 @@
-use Rattle.std.proofs.Common.{Some, sym, ◌∙◌, ap, subst}
+use Rattle.std.proofs.Common.{Some, sym, ◌∙◌, ap, subst, rules}
 use Rattle.iim_object.specs.declared.state.State.{State}
 use Rattle.iim_object.specs.Objects.{NumberRead}
 use Rattle.iim_object.specs.Reading.{GoesOn}
-use Rattle.iim_object.specs.States.{state_with}
+use Rattle.iim_object.specs.States.{IsState, state_with}
 use Rattle.iim_object.specs.Causes.{number_cause}
 use Rattle.iim_object.proofs.Steps.{number_goes_on, number_refused}
+use Rattle.iim_object.proofs.Staying.{number_not_taken, number_state}
 use Rattle.iim_object.proofs.step.take_number.Goals as goal
+
+pub returns-then-not-takes_number-clause-goes_on : goal.returns-then-not-takes_number-clause-goes_on
+returns-then-not-takes_number-clause-goes_on c = number_not_taken c.args.state c.args.set c.args.number (λ takes. search rules)
 
 pub returns-in-Some-clause-refused : goal.returns-in-Some-clause-refused
 returns-in-Some-clause-refused c =
     let new : State = state_with c.args.state c.args.set c.args.number in
     number_refused c.args.state c.args.set c.args.number c.in-Some.cause
     (sym (ap (λ (s : State). number_cause s.mode s.announced s.maximum) c.with_number-new.ensures) ∙ (sym c.number_cause.ensures ∙ c.in-Some.is))
+
+pub returns-in-None-clause-is_state : goal.returns-in-None-clause-is_state
+returns-in-None-clause-is_state c =
+    subst IsState (sym c.with_number-new.ensures)
+    (number_state c.args.state c.args.set c.args.number c.requires (search rules)
+    (sym (ap (λ (s : State). number_cause s.mode s.announced s.maximum) c.with_number-new.ensures) ∙ (sym c.number_cause.ensures ∙ c.in-None.is)))
 
 pub returns-in-None-clause-goes_on : goal.returns-in-None-clause-goes_on
 returns-in-None-clause-goes_on c =

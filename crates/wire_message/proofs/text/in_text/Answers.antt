@@ -1,4 +1,4 @@
-use Rattle.std.proofs.Common.{◌≡◌, List, ℕ, take, slice_index, Some, sym, subst}
+use Rattle.std.proofs.Common.{◌≡◌, List, ◌++◌, ℕ, take, slice_index, Some, sym, subst}
 use Rattle.std.proofs.Math.Seq.{take-length}
 use Rattle.wire_story.specs.declared.fault.TextCause.TheVariants as text_cause
 use Rattle.wire_message.specs.Reading.{Refuses, GoesOn}
@@ -15,8 +15,15 @@ returns-in-Ok-clause-told g c = λ on.
       rest,
       c.in-Ok.ensures.told,
       subst (λ (u : List ℕ). GoesOn (Some (Text h c.args.text.now)) u rest (Some (Text h c.run.new.self))) (sym (take-length rest))
-          (all_taken h c.args.text.now c.run.new.self rest c.in-Ok.ensures.goes_on c.in-Ok.ensures.takes_calls),
+          (all_taken h c.args.text.now c.run.new.self rest c.in-Ok.ensures.goes_on),
     )
+
+-- the place is reached by some octets, and so is the next one
+pub returns-in-Ok-clause-is_place : goal.returns-in-Ok-clause-is_place
+returns-in-Ok-clause-is_place g c = λ on.
+    let place = c.requires.place in
+    let old = (c.places_are_reached.ensures c.args.text.now).0 place.1 in
+    (place.0, (c.places_are_reached.ensures c.run.new.self).1 (old.0 ++ c.args.rest.now, c.in-Ok.ensures.goes_on old.0 old.1))
 
 pub returns-then-rest-fault-eq-ETX-clause-ended : goal.returns-then-rest-fault-eq-ETX-clause-ended
 returns-then-rest-fault-eq-ETX-clause-ended g c = λ ended trailer none.

@@ -8,7 +8,7 @@ use Rattle.wire_story.proofs.Rests.{rest_of, length-rest}
 use Rattle.wire_story.proofs.Told.{delivered_front}
 use Rattle.wire_story.proofs.step.take_front.Goals as goal
 
--- the octet behind the run
+-- the octet after the run
 first_is : (rest : List ℕ) (run : ℕ) → slice_index (rest_of rest run) 0 ≡ slice_index rest run
 first_is rest run =
     let none : run + 0 ≡ run = omega arith in

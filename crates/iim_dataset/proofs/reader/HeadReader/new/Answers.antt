@@ -1,8 +1,8 @@
 use Rattle.std.proofs.Common.{[], subst, sym}
 use Rattle.iim_dataset.specs.Places.{LeadsTo}
-use Rattle.iim_dataset.specs.declared.place.Place.{Place}
+use Rattle.iim_dataset.specs.declared.place.DatasetPlace.{DatasetPlace}
 use Rattle.iim_dataset.proofs.Places.{begins}
 use Rattle.iim_dataset.proofs.reader.HeadReader.new.Goals as goal
 
 pub returns-clause-stands : goal.returns-clause-stands
-returns-clause-stands c = subst (λ (p : Place). LeadsTo [] [] p) (sym c.start.ensures.place) begins
+returns-clause-stands c = subst (λ (p : DatasetPlace). LeadsTo [] [] p) (sym c.start.ensures.place) begins

@@ -1,4 +1,4 @@
-use Rattle.std.proofs.Common.{◌≡◌, Bool, true, false, cond, Option, Some, None, IsSome, subst, sym, unwrap_or}
+use Rattle.std.proofs.Common.{◌≡◌, rules, Option, Some, subst, sym, unwrap_or}
 use Rattle.iim_object.specs.declared.state.State.{State}
 use Rattle.iim_object.specs.Causes.{is_given}
 use Rattle.iim_object.specs.Reading.{StandsAt, IsSizes}
@@ -8,16 +8,10 @@ use Rattle.iim_object.proofs.Steps.{sizes_are}
 use Rattle.iim_object.proofs.Stands.{have_sizes}
 use Rattle.iim_object.proofs.reader.ObjectReader.sizes.Goals as goal
 
--- a reader that takes calls shows its state
-seen : (failed : Bool) (s : State) (shown : Option State) → cond failed None (Some s) ≡ shown → IsSome shown → Some s ≡ shown
-seen true s None e h = let bad : false ≡ true = h in absurd cc
-seen true s (Some x) e h = absurd cc
-seen false s shown e h = e
-
 pub returns : goal.returns
 returns c =
-    let s : State = c.self.inside.state in
-    let same : Some s ≡ c.args.self.now = seen c.self.inside.failed s c.args.self.now c.self.view_is c.requires in
+    let s : State = c.unwrap-state.result in
+    let same : Some s ≡ c.args.self.now = search rules in
     let made : record { known = is_given s.mode 1; subfile = unwrap_or s.subfile 0; announced = s.announced; maximum = s.maximum; subfiles = s.subfiles; total = s.total } ≡
     record { known = c.is_given.result; subfile = c.unwrap_or.result; announced = s.announced; maximum = s.maximum; subfiles = s.subfiles; total = s.total } =
     λ i. record {

@@ -9,7 +9,7 @@ use Rattle.wire_story.specs.Collecting.{lines_in, lines_left}
 use Rattle.wire_story.proofs.Rests.{rest_of}
 use Rattle.wire_story.proofs.line_iter.LineIterIterator.next.Goals as goal
 
--- the first line, and those that are left behind its LF
+-- the first line, and those that are left after its LF
 first_line : (octets : List ℕ) (end : ℕ) → end ≡ position_or_len (λ b. b == 10) octets → end < length octets
     → lines_in octets ≡ take end octets ∷ lines_in (rest_of octets (end + 1))
 first_line octets end e l =

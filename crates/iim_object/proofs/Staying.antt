@@ -1,0 +1,83 @@
+-- From state to state: each token leads from a state to which tokens lead to another.
+use Rattle.std.proofs.Common.{◌≡◌, ℕ, ◌+◌, ◌≤◌, ◌==◌, List, [], ◌∷◌, ◌++◌, length, Option, Some, None, is_some, IfSome, refl, sym, ap, subst, ◌∙◌, arith, inl, inr, length-append}
+use Rattle.std.specs.List.{AllByRecursion}
+use Rattle.std.proofs.lemmas.Bool.{cases_Bool, eqb-true}
+use Rattle.iim_tables.specs.Numbers.{greatest_size}
+use Rattle.iim_object.specs.declared.state.State.{State}
+use Rattle.iim_object.specs.Sizes.{Stated, InRow, number_at}
+use Rattle.iim_object.specs.Objects.{NumberRead, SubfileBegun}
+use Rattle.iim_object.specs.Places.{Place, HasBoth, place_after}
+use Rattle.iim_object.specs.Living.{NoClash}
+use Rattle.iim_object.specs.Causes.{number_cause, subfile_cause, bound}
+use Rattle.iim_object.specs.States.{IsState, TakesNumber, TakesSubfile, set_where, state_with}
+use Rattle.iim_object.specs.Reading.{GoesOn}
+use Rattle.iim_object.proofs.Numbers.{mode_at_most_one, at_least_one, at_most_size}
+use Rattle.iim_object.proofs.Steps.{tells_of, clear_numbers, clear_of, announced_small, not_below, subfile_goes_on}
+use Rattle.iim_object.proofs.Reached.{numbers_in, mode_in, largest_in, announced_in, maximum_in, are_stated, largest_at_most, maximum_at_most, place_in, tells_in, stands_in, state_of}
+
+-- ---- tokens that may not come
+
+last_row : (ps : List Stated) (q : Stated) → AllByRecursion InRow (ps ++ q ∷ []) → InRow q
+last_row [] q each = each.0
+last_row (p ∷ ps) q each = last_row ps q each.1
+
+pub number_not_taken : (s : State) (set number : ℕ) → (TakesNumber s set number → ⊥) → GoesOn (Some s) (NumberRead set number) (Some s)
+number_not_taken s set number out p st (not_ended, none, stated) =
+    absurd (out ((tells_of s p st).subfiles ∙ ap length none, last_row p.stated (record { set = set; number = number }) stated.each))
+
+pub subfile_not_taken : (s : State) (count : ℕ) → (TakesSubfile s → ⊥) → GoesOn (Some s) (SubfileBegun count) (Some s)
+subfile_not_taken s count out p st (not_ended, both, few) =
+    let t = tells_of s p st in
+    absurd (out (ap (λ (o : Option ℕ). is_some o) t.mode ∙ both.0, ap (λ (o : Option ℕ). is_some o) t.largest ∙ both.1, omega (arith, t.subfiles, few)))
+
+-- ---- a number
+
+set_to : (P : ℕ → Type 0) (wanted set number : ℕ) (old : Option ℕ) → IfSome old P → (set ≡ wanted → P number) → IfSome (set_where wanted set number old) P
+set_to P wanted set number old h f = elim (cases_Bool (set == wanted)) [
+  | inl t ↦ rw t (f (eqb-true set wanted t))
+  | inr t ↦ rw t h
+]
+
+row_at : (wanted set number : ℕ) → InRow (record { set = set; number = number }) → set ≡ wanted → InRow (record { set = wanted; number = number })
+row_at wanted set number row e = subst (λ (k : ℕ). InRow (record { set = k; number = number })) e row
+
+pub number_state : (s : State) (set number : ℕ) → IsState s → TakesNumber s set number
+    → number_cause (state_with s set number).mode (state_with s set number).announced (state_with s set number).maximum ≡ None → IsState (state_with s set number)
+number_state s set number is (none, row) no_cause =
+    let h = is.numbers in
+    let new : State = state_with s set number in
+    let clash : NoClash (numbers_in new) =
+    clear_numbers (numbers_in new) ((λ i. number_cause (mode_in new i) (announced_in new i) (maximum_in new i)) ∙ no_cause) in
+    record {
+      numbers = record {
+        mode = set_to (λ n. n ≤ 1) 10 set number s.mode h.mode (λ e. mode_at_most_one number (row_at 10 set number row e));
+        largest =
+            set_to (λ n. (1 ≤ n) × (n ≤ greatest_size)) 20 set number s.subfile h.largest
+            (λ e. (at_least_one number (row_at 20 set number row e), largest_at_most number (row_at 20 set number row e)));
+        announced = set_to (λ n. n ≤ greatest_size) 90 set number s.announced h.announced (λ e. at_most_size number (row_at 90 set number row e));
+        maximum = set_to (λ n. n ≤ greatest_size) 95 set number s.maximum h.maximum (λ e. maximum_at_most number (row_at 95 set number row e));
+        not_known = λ e. sym (announced_in new) ∙ clash.mode (mode_in new ∙ e);
+        sizes = λ a m e f. clash.sizes a m (announced_in new ∙ e) (maximum_in new ∙ f);
+      };
+      no_subfile = is.no_subfile;
+      some_subfiles = λ some. absurd (omega (arith, none, some));
+    }
+
+-- ---- a subfile
+
+pub room_for : (s : State) (count : ℕ) → IsState s → subfile_cause s.mode s.subfile s.announced s.maximum s.total count ≡ None → s.total + count ≤ greatest_size
+room_for s count is no_cause =
+    let ps : List Stated = numbers_in s in
+    let clear = clear_of ps s.total count ((λ i. subfile_cause (mode_in s i) (largest_in s i) (announced_in s i) (maximum_in s i) s.total count) ∙ no_cause) in
+    let within : s.total + count ≤ bound (number_at 90 ps) (number_at 95 ps) = not_below (bound (number_at 90 ps) (number_at 95 ps)) (s.total + count) clear.within in
+    omega (arith, within, announced_small ps (are_stated s is.numbers) (number_at 90 ps) refl)
+
+pub subfile_state : (s : State) (count : ℕ) → IsState s → TakesSubfile s → subfile_cause s.mode s.subfile s.announced s.maximum s.total count ≡ None
+    → IsState (record s { subfiles = s.subfiles + 1; total = s.total + count })
+subfile_state s count is (mode, largest, few) no_cause =
+    let p : Place = place_in s in
+    let t = tells_in s is in
+    let both : HasBoth p.stated = (ap (λ (o : Option ℕ). is_some o) (mode_in s) ∙ mode, ap (λ (o : Option ℕ). is_some o) (largest_in s) ∙ largest) in
+    let next = subfile_goes_on s count no_cause p (stands_in s is) (refl, both, omega (arith, t.subfiles, few)) in
+    state_of (record s { subfiles = s.subfiles + 1; total = s.total + count }) (place_after p (SubfileBegun count)) next
+    (omega (arith, t.subfiles, few, length-append p.lengths (count ∷ [])))

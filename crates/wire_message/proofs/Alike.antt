@@ -1,0 +1,310 @@
+-- From the same place the same octets lead on alike.
+use Rattle.std.proofs.Common.{◌≡◌, ℕ, ◌+◌, ◌<◌, ◌≤◌, Bool, true, false, ◌&&◌, ◌||◌, ◌==◌, nat_lt, List, [], ◌∷◌, ◌++◌, length, Option, Some, None, refl, sym, subst, ◌∙◌, arith, append_assoc, append-nil}
+use Rattle.std.proofs.lemmas.Bool.{and_parts, or_right, eqb-true, ltb-true}
+use Rattle.std.proofs.lemmas.List.{append_cancel_left}
+use Rattle.arrayvec.specs.ArrayVec.{ArrayVec}
+use Rattle.wire_story.specs.Texts.{AreLines, Holds}
+use Rattle.wire_story.specs.Reading as story
+use Rattle.wire_story.specs.Laws as stories
+use Rattle.wire_story.specs.declared.reader.TextReader.{TextReader}
+use Rattle.wire_message.specs.Fields.{IsField, is_digit, is_letter, is_alphanumeric, is_info_octet, is_trailer_octet, is_filler_octet, is_text_octet}
+use Rattle.wire_message.specs.Messages.{Header, IsHeader}
+use Rattle.wire_message.specs.SoFar.{IsPlace, Spells, StoryStands, LeadTo}
+use Rattle.wire_message.specs.Laws.{OctetsLeadOnAlike}
+use Rattle.wire_message.specs.declared.place.Place.{Place}
+use Rattle.wire_message.specs.declared.place.Place.TheVariants.{Filler, Source, Number, Priority, PriorityRead, Category, Words, Info, Gap, Text, Trailer, AfterEnd}
+use Rattle.wire_message.proofs.Machine.{of, begun, more_info, guarded, next, run, run_parts, and_then_place}
+use Rattle.wire_message.proofs.Runs.{unread, spelled_runs}
+use Rattle.wire_message.proofs.Alive.{begun_header}
+use Rattle.wire_message.proofs.TextSoFar.{text_at}
+use Rattle.wire_message.proofs.OnePlace.{some_same}
+use Rattle.wire_message.proofs.Transitions.{field_more, field_one, field_none, field_from, one_is, filler_more, filler_soh, source_more, source_number, number_more, number_space, space_priority, priority_space, category_more, category_space, words_more, words_space, words_gap, info_more, info_gap, gap_more, gap_stx, text_more, text_etx, trailer_more, trailer_eot, end_more}
+
+-- ---- octets that stand at a place, whatever its reader of the text
+
+abbrev IsBare : Place → Type 0
+IsBare (Text h reader) = IsHeader h
+IsBare p = IsPlace p
+
+record Stands (xs text : List ℕ) (p : Place) : Type 0 where
+  bare : IsBare p
+  spelled : Spells xs text p
+
+stands_bare : (xs text : List ℕ) (p : Place) → LeadTo xs text p → Stands xs text (unread p)
+stands_bare xs text (Text h reader) l = record { bare = l.is_place.0; spelled = l.spelled }
+stands_bare xs text p l = record { bare = l.is_place; spelled = l.spelled }
+
+spells_read : (xs text : List ℕ) (p : Place) → Spells xs text (unread p) → Spells xs text p
+spells_read xs text (Text h reader) s = s
+spells_read xs text p s = s
+
+-- From all octets that stand at p these lead to q, and add the same to the text.
+abbrev Continues : Place → List ℕ → Place → Type 0
+Continues p ys q = (more : List ℕ) × ((xs text : List ℕ) → Stands xs text p → Stands (xs ++ ys) (text ++ more) q)
+
+-- they add nothing to the text
+quiet : (p q : Place) (ys : List ℕ) → ((xs text : List ℕ) → Stands xs text p → Stands (xs ++ ys) text q) → Continues p ys q
+quiet p q ys f = ([], λ xs text s. subst (λ (t : List ℕ). Stands (xs ++ ys) t q) (sym (append-nil text)) (f xs text s))
+
+quiet_at : (p q : Place) (b k : ℕ) → (b == k) ≡ true → ((xs text : List ℕ) → Stands xs text p → Stands (xs ++ (k ∷ [])) text q) → Continues p (b ∷ []) q
+quiet_at p q b k t f = subst (λ (n : ℕ). Continues p (n ∷ []) q) (sym (eqb-true b k t)) (quiet p q (k ∷ []) f)
+
+-- ---- one octet
+
+chosen : (C : Place → Type 0) (t : Bool) (s : Place) (o : Option Place) (q : Place) → guarded t s o ≡ Some q → (t ≡ true → C s) → (o ≡ Some q → C q) → C q
+chosen C true s o q e f g = let same : s ≡ q = cc in subst C same (f refl)
+chosen C false s o q e f g = g e
+
+no_place : (C : Place → Type 0) (q : Place) → None ≡ Some q → C q
+no_place C q e = absurd cc
+
+one_more : (test : ℕ → Bool) (low least most : ℕ) (xs : List ℕ) (b : ℕ) → IsField test low most xs → (test b && nat_lt (length xs) most) ≡ true → least ≤ length xs + 1 → IsField test least most (xs ++ (b ∷ []))
+one_more test low least most xs b h t le =
+    let parts = and_parts (test b) (nat_lt (length xs) most) t in
+    let lt : length xs < most = ltb-true (length xs) most parts.1 in
+    field_more test low least most xs (b ∷ []) h (one_is test b parts.0) (omega (arith, lt)) (omega (arith, le))
+
+-- a part has an octet
+some_of : (x : Bool) (test : ℕ → Bool) (most : ℕ) (xs : List ℕ) → (x && nat_lt 0 (length xs)) ≡ true → IsField test 0 most xs → IsField test 1 most xs
+some_of x test most xs t h =
+    let lt : 0 < length xs = ltb-true 0 (length xs) (and_parts x (nat_lt 0 (length xs)) t).1 in
+    field_from test 1 most xs h (omega (arith, lt))
+
+from_filler : (k b : ℕ) (q : Place) → next (Filler k) b ≡ Some q → Continues (Filler k) (b ∷ []) q
+from_filler k b q e = chosen (Continues (Filler k) (b ∷ [])) _ _ _ q e
+    (λ t.
+    let fill = and_parts (is_filler_octet b) (nat_lt k 32) t in
+    let lt : k < 32 = ltb-true k 32 fill.1 in
+    quiet (Filler k) (Filler (k + 1)) (b ∷ []) (λ xs text s. record {
+      bare = omega (arith, lt);
+      spelled = filler_more xs text (b ∷ []) k (one_is is_filler_octet b fill.0) (omega (arith, lt)) s.spelled;
+    }))
+    (λ e. chosen (Continues (Filler k) (b ∷ [])) _ _ _ q e
+    (λ t. quiet_at (Filler k) (Source (of [])) b 1 t (λ xs text s. record { bare = field_none is_letter 8; spelled = filler_soh xs text k s.spelled }))
+    (no_place (Continues (Filler k) (b ∷ [])) q))
+
+from_source : (s : ArrayVec ℕ) (b : ℕ) (q : Place) → next (Source s) b ≡ Some q → Continues (Source s) (b ∷ []) q
+from_source s b q e = chosen (Continues (Source s) (b ∷ [])) _ _ _ q e
+    (λ t. quiet (Source s) (Source (of (s.items ++ (b ∷ [])))) (b ∷ []) (λ xs text at. record {
+      bare = one_more is_letter 0 0 8 s.items b at.bare t (omega arith);
+      spelled = source_more xs text (b ∷ []) s at.spelled;
+    }))
+    (λ e. chosen (Continues (Source s) (b ∷ [])) _ _ _ q e
+    (λ t. quiet (Source s) (Number s (of (b ∷ []))) (b ∷ []) (λ xs text at. record {
+      bare = (some_of (is_digit b) is_letter 8 s.items t at.bare, field_one is_digit 8 b (and_parts (is_digit b) (nat_lt 0 (length s.items)) t).0 (omega arith));
+      spelled = source_number xs text s b at.spelled;
+    }))
+    (no_place (Continues (Source s) (b ∷ [])) q))
+
+from_number : (s n : ArrayVec ℕ) (b : ℕ) (q : Place) → next (Number s n) b ≡ Some q → Continues (Number s n) (b ∷ []) q
+from_number s n b q e = chosen (Continues (Number s n) (b ∷ [])) _ _ _ q e
+    (λ t. quiet (Number s n) (Number s (of (n.items ++ (b ∷ [])))) (b ∷ []) (λ xs text at. record {
+      bare = (at.bare.0, one_more is_digit 1 1 8 n.items b at.bare.1 t (omega arith));
+      spelled = number_more xs text (b ∷ []) s n at.spelled;
+    }))
+    (λ e. chosen (Continues (Number s n) (b ∷ [])) _ _ _ q e
+    (λ t. quiet_at (Number s n) (Priority s n) b 32 t (λ xs text at. record { bare = at.bare; spelled = number_space xs text s n at.spelled }))
+    (no_place (Continues (Number s n) (b ∷ [])) q))
+
+from_priority : (s n : ArrayVec ℕ) (b : ℕ) (q : Place) → next (Priority s n) b ≡ Some q → Continues (Priority s n) (b ∷ []) q
+from_priority s n b q e = chosen (Continues (Priority s n) (b ∷ [])) _ _ _ q e
+    (λ t. quiet (Priority s n) (PriorityRead s n (of (b ∷ []))) (b ∷ []) (λ xs text at. record {
+      bare = (at.bare.0, at.bare.1, field_one is_digit 1 b t (omega arith));
+      spelled = space_priority xs text s n b at.spelled;
+    }))
+    (no_place (Continues (Priority s n) (b ∷ [])) q)
+
+from_read : (s n p : ArrayVec ℕ) (b : ℕ) (q : Place) → next (PriorityRead s n p) b ≡ Some q → Continues (PriorityRead s n p) (b ∷ []) q
+from_read s n p b q e = chosen (Continues (PriorityRead s n p) (b ∷ [])) _ _ _ q e
+    (λ t. quiet_at (PriorityRead s n p) (Category s n p (of [])) b 32 t (λ xs text at. record {
+      bare = (at.bare.0, at.bare.1, at.bare.2, field_none is_alphanumeric 8);
+      spelled = priority_space xs text s n p at.spelled;
+    }))
+    (no_place (Continues (PriorityRead s n p) (b ∷ [])) q)
+
+from_category : (s n p c : ArrayVec ℕ) (b : ℕ) (q : Place) → next (Category s n p c) b ≡ Some q → Continues (Category s n p c) (b ∷ []) q
+from_category s n p c b q e = chosen (Continues (Category s n p c) (b ∷ [])) _ _ _ q e
+    (λ t. quiet (Category s n p c) (Category s n p (of (c.items ++ (b ∷ [])))) (b ∷ []) (λ xs text at. record {
+      bare = (at.bare.0, at.bare.1, at.bare.2, one_more is_alphanumeric 0 0 8 c.items b at.bare.3 t (omega arith));
+      spelled = category_more xs text (b ∷ []) s n p c at.spelled;
+    }))
+    (λ e. chosen (Continues (Category s n p c) (b ∷ [])) _ _ _ q e
+    (λ t. quiet_at (Category s n p c) (Words s n p c (of [])) b 32 (and_parts (b == 32) (nat_lt 0 (length c.items)) t).0 (λ xs text at. record {
+      bare = (at.bare.0, at.bare.1, at.bare.2, some_of (b == 32) is_alphanumeric 8 c.items t at.bare.3, field_none is_digit 6);
+      spelled = category_space xs text s n p c at.spelled;
+    }))
+    (no_place (Continues (Category s n p c) (b ∷ [])) q))
+
+-- words and then the header that they end
+with_words : (x : Bool) (s n p c w : ArrayVec ℕ) → (x && nat_lt 0 (length w.items)) ≡ true → IsPlace (Words s n p c w) → IsHeader (begun s n p c w)
+with_words x s n p c w t i = begun_header s n p c w i (some_of x is_digit 6 w.items t i.4)
+
+from_words : (s n p c w : ArrayVec ℕ) (b : ℕ) (q : Place) → next (Words s n p c w) b ≡ Some q → Continues (Words s n p c w) (b ∷ []) q
+from_words s n p c w b q e = chosen (Continues (Words s n p c w) (b ∷ [])) _ _ _ q e
+    (λ t. quiet (Words s n p c w) (Words s n p c (of (w.items ++ (b ∷ [])))) (b ∷ []) (λ xs text at. record {
+      bare = (at.bare.0, at.bare.1, at.bare.2, at.bare.3, one_more is_digit 0 0 6 w.items b at.bare.4 t (omega arith));
+      spelled = words_more xs text (b ∷ []) s n p c w at.spelled;
+    }))
+    (λ e. chosen (Continues (Words s n p c w) (b ∷ [])) _ _ _ q e
+    (λ t. quiet_at (Words s n p c w) (Info (begun s n p c w)) b 32 (and_parts (b == 32) (nat_lt 0 (length w.items)) t).0 (λ xs text at. record {
+      bare = with_words (b == 32) s n p c w t at.bare;
+      spelled = words_space xs text s n p c w at.spelled;
+    }))
+    (λ e. chosen (Continues (Words s n p c w) (b ∷ [])) _ _ _ q e
+    (λ t. quiet (Words s n p c w) (Gap (begun s n p c w) 1 (b == 10)) (b ∷ []) (λ xs text at. record {
+      bare = (with_words (is_filler_octet b) s n p c w t at.bare, omega arith, omega arith, or_right (b == 10) true refl);
+      spelled = words_gap xs text s n p c w b (and_parts (is_filler_octet b) (nat_lt 0 (length w.items)) t).0 at.spelled;
+    }))
+    (no_place (Continues (Words s n p c w) (b ∷ [])) q)))
+
+longer_info : (h : Header) (b : ℕ) → IsHeader h → (is_info_octet b && nat_lt (length h.info) 64) ≡ true → IsHeader (more_info h b)
+longer_info h b i t = record {
+  source = i.source;
+  number = i.number;
+  priority = i.priority;
+  category = i.category;
+  words = i.words;
+  info = one_more is_info_octet 0 0 64 h.info b i.info t (omega arith);
+}
+
+from_info : (h : Header) (b : ℕ) (q : Place) → next (Info h) b ≡ Some q → Continues (Info h) (b ∷ []) q
+from_info h b q e = chosen (Continues (Info h) (b ∷ [])) _ _ _ q e
+    (λ t. quiet (Info h) (Info (more_info h b)) (b ∷ []) (λ xs text at. record {
+      bare = longer_info h b at.bare t;
+      spelled = info_more xs text (b ∷ []) h (more_info h b) refl at.spelled;
+    }))
+    (λ e. chosen (Continues (Info h) (b ∷ [])) _ _ _ q e
+    (λ t. quiet (Info h) (Gap h 1 (b == 10)) (b ∷ []) (λ xs text at. record {
+      bare = (at.bare, omega arith, omega arith, or_right (b == 10) true refl);
+      spelled = info_gap xs text h b t at.spelled;
+    }))
+    (no_place (Continues (Info h) (b ∷ [])) q))
+
+from_gap : (h : Header) (k : ℕ) (feed : Bool) (b : ℕ) (q : Place) → next (Gap h k feed) b ≡ Some q → Continues (Gap h k feed) (b ∷ []) q
+from_gap h k feed b q e = chosen (Continues (Gap h k feed) (b ∷ [])) _ _ _ q e
+    (λ t.
+    let parts = and_parts (is_filler_octet b && nat_lt k 32) (feed || b == 10 || nat_lt (k + 1) 32) t in
+    let fill = and_parts (is_filler_octet b) (nat_lt k 32) parts.0 in
+    let lt : k < 32 = ltb-true k 32 fill.1 in
+    quiet (Gap h k feed) (Gap h (k + 1) (feed || b == 10)) (b ∷ []) (λ xs text at. record {
+      bare = (at.bare.0, omega arith, omega (arith, lt), parts.1);
+      spelled = gap_more xs text h k feed b fill.0 at.spelled;
+    }))
+    (λ e. chosen (Continues (Gap h k feed) (b ∷ [])) _ _ _ q e
+    (λ t.
+    let parts = and_parts (b == 2) feed t in
+    quiet_at (Gap h k feed) (Text h None) b 2 parts.0 (λ xs text at. record {
+      bare = at.bare.0;
+      spelled = gap_stx xs text h k None at.bare.1 at.bare.2 (subst (λ (f : Bool). Spells xs text (Gap h k f)) parts.1 at.spelled);
+    }))
+    (no_place (Continues (Gap h k feed) (b ∷ [])) q))
+
+from_text : (h : Header) (reader : TextReader) (b : ℕ) (q : Place) → next (Text h reader) b ≡ Some q → Continues (Text h reader) (b ∷ []) q
+from_text h reader b q e = chosen (Continues (Text h reader) (b ∷ [])) _ _ _ q e
+    (λ t. (b ∷ [], λ xs text at. record { bare = at.bare; spelled = text_more xs text (b ∷ []) h reader None (one_is is_text_octet b t) at.spelled }))
+    (λ e. chosen (Continues (Text h reader) (b ∷ [])) _ _ _ q e
+    (λ t. quiet_at (Text h reader) (Trailer h (of [])) b 3 t (λ xs text at. record {
+      bare = (at.bare, field_none is_trailer_octet 64);
+      spelled = text_etx xs text h reader at.spelled;
+    }))
+    (no_place (Continues (Text h reader) (b ∷ [])) q))
+
+from_trailer : (h : Header) (v : ArrayVec ℕ) (b : ℕ) (q : Place) → next (Trailer h v) b ≡ Some q → Continues (Trailer h v) (b ∷ []) q
+from_trailer h v b q e = chosen (Continues (Trailer h v) (b ∷ [])) _ _ _ q e
+    (λ t. quiet (Trailer h v) (Trailer h (of (v.items ++ (b ∷ [])))) (b ∷ []) (λ xs text at. record {
+      bare = (at.bare.0, one_more is_trailer_octet 0 0 64 v.items b at.bare.1 t (omega arith));
+      spelled = trailer_more xs text (b ∷ []) h v at.spelled;
+    }))
+    (λ e. chosen (Continues (Trailer h v) (b ∷ [])) _ _ _ q e
+    (λ t. quiet_at (Trailer h v) (AfterEnd h v 0) b 4 t (λ xs text at. record {
+      bare = (at.bare.0, at.bare.1, omega arith);
+      spelled = trailer_eot xs text h v at.bare.0 at.bare.1 at.spelled;
+    }))
+    (no_place (Continues (Trailer h v) (b ∷ [])) q))
+
+from_end : (h : Header) (v : ArrayVec ℕ) (k b : ℕ) (q : Place) → next (AfterEnd h v k) b ≡ Some q → Continues (AfterEnd h v k) (b ∷ []) q
+from_end h v k b q e = chosen (Continues (AfterEnd h v k) (b ∷ [])) _ _ _ q e
+    (λ t.
+    let fill = and_parts (is_filler_octet b) (nat_lt k 32) t in
+    let lt : k < 32 = ltb-true k 32 fill.1 in
+    quiet (AfterEnd h v k) (AfterEnd h v (k + 1)) (b ∷ []) (λ xs text at. record {
+      bare = (at.bare.0, at.bare.1, omega (arith, lt));
+      spelled = end_more xs text (b ∷ []) h v k (one_is is_filler_octet b fill.0) (omega (arith, lt)) at.spelled;
+    }))
+    (no_place (Continues (AfterEnd h v k) (b ∷ [])) q)
+
+octet_on : (p q : Place) (b : ℕ) → next p b ≡ Some q → Continues p (b ∷ []) q
+octet_on (Filler k) q b e = from_filler k b q e
+octet_on (Source s) q b e = from_source s b q e
+octet_on (Number s n) q b e = from_number s n b q e
+octet_on (Priority s n) q b e = from_priority s n b q e
+octet_on (PriorityRead s n p) q b e = from_read s n p b q e
+octet_on (Category s n p c) q b e = from_category s n p c b q e
+octet_on (Words s n p c w) q b e = from_words s n p c w b q e
+octet_on (Info h) q b e = from_info h b q e
+octet_on (Gap h k feed) q b e = from_gap h k feed b q e
+octet_on (Text h reader) q b e = from_text h reader b q e
+octet_on (Trailer h v) q b e = from_trailer h v b q e
+octet_on (AfterEnd h v k) q b e = from_end h v k b q e
+
+-- ---- more octets
+
+octets_on : (p q : Place) (ys : List ℕ) → run p ys ≡ Some q → Continues p ys q
+octets_on p q [] e =
+    let same : p ≡ q = cc in
+    subst (Continues p []) same (quiet p p [] (λ xs text s. subst (λ (u : List ℕ). Stands u text p) (sym (append-nil xs)) s))
+octets_on p q (b ∷ ys) e =
+    let s = and_then_place (next p b) (λ t. run t ys) q e in
+    let first = octet_on p s.0 b s.1 in
+    let rest = octets_on s.0 q ys s.2 in (
+      first.0 ++ rest.0,
+      λ xs text at.
+          subst (λ (u : List ℕ). Stands u (text ++ (first.0 ++ rest.0)) q) (append_assoc xs (b ∷ []) ys)
+          (subst (λ (t : List ℕ). Stands ((xs ++ (b ∷ [])) ++ ys) t q) (append_assoc text first.0 rest.0) (rest.1 (xs ++ (b ∷ [])) (text ++ first.0) (first.1 xs text at))),
+    )
+
+-- ---- the story
+
+-- the reader of the text, and one that holds no CR where no text is being read
+abbrev reader_at : Place → Option ℕ
+reader_at (Text h reader) = reader
+reader_at p = Some 0
+
+reader_stands : stories.TextsEndInNoReturn → (text : List ℕ) (p : Place) → StoryStands text p → story.StandsAt (reader_at p) text
+reader_stands ends text (Text h reader) at = at
+reader_stands ends text (Trailer h v) at = (0, refl, (ends text).0 at)
+reader_stands ends text (AfterEnd h v k) at = (0, refl, (ends text).0 at)
+reader_stands ends text p at = subst (story.StandsAt (Some 0)) (sym at) (0, refl, ([], [], (refl, omega arith, refl)))
+
+whole_text : stories.TextsEndInNoReturn → (text : List ℕ) → story.StandsAt (Some 0) text → AreLines text
+whole_text ends text at = (ends text).1 (subst (Holds text) (sym (same 0 at.0 at.1)) at.2)
+  where
+    same : (a b : ℕ) → ◌≡◌ {A = Option ℕ} (Some a) (Some b) → a ≡ b
+    same a b e = cc
+
+story_stands : stories.TextsEndInNoReturn → (xs text : List ℕ) (p : Place) → Spells xs text p → story.StandsAt (reader_at p) text → StoryStands text p
+story_stands ends xs text (Filler k) l at = l.2
+story_stands ends xs text (Source s) l at = l.3
+story_stands ends xs text (Number s n) l at = l.3
+story_stands ends xs text (Priority s n) l at = l.3
+story_stands ends xs text (PriorityRead s n p) l at = l.3
+story_stands ends xs text (Category s n p c) l at = l.3
+story_stands ends xs text (Words s n p c w) l at = l.3
+story_stands ends xs text (Info h) l at = l.3
+story_stands ends xs text (Gap h k feed) l at = l.9
+story_stands ends xs text (Text h reader) l at = at
+story_stands ends xs text (Trailer h v) l at = whole_text ends text at
+story_stands ends xs text (AfterEnd h v k) l at = whole_text ends text at
+
+-- ---- alike
+
+pub alike : stories.TextsEndInNoReturn → stories.OctetsLeadOnAlike → OctetsLeadOnAlike
+alike ends law a b x t u y p q here there on =
+    let parts = run_parts (Filler 0) a x (unread q) (spelled_runs (a ++ x) (t ++ y) q on.is_place on.spelled) in
+    let place : parts.0 ≡ unread p = some_same (sym parts.1 ∙ spelled_runs a t p here.is_place here.spelled) in
+    let steps = octets_on (unread p) (unread q) x (subst (λ (s : Place). run s x ≡ Some (unread q)) place parts.2) in
+    let mine : Spells (a ++ x) (t ++ steps.0) q = spells_read (a ++ x) (t ++ steps.0) q (steps.1 a t (stands_bare a t p here)).spelled in
+    let same : steps.0 ≡ y = append_cancel_left t steps.0 y (sym (text_at (a ++ x) (t ++ steps.0) q on.is_place mine).text_is ∙ (text_at (a ++ x) (t ++ y) q on.is_place on.spelled).text_is) in
+    let spelled : Spells (b ++ x) (u ++ y) q = subst (λ (z : List ℕ). Spells (b ++ x) (u ++ z) q) same (spells_read (b ++ x) (u ++ steps.0) q (steps.1 b u (stands_bare b u p there)).spelled) in
+    let stands = law (reader_at p) (reader_at q) t u y (reader_stands ends t p here.story) (reader_stands ends u p there.story) (reader_stands ends (t ++ y) q on.story) in
+    record { is_place = on.is_place; spelled = spelled; story = story_stands ends (b ++ x) (u ++ y) q spelled stands }

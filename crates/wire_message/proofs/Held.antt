@@ -1,0 +1,19 @@
+-- How many CR a reader of the text holds.
+use Rattle.std.proofs.Common.{ℕ, ◌≤◌, List, [], ◌∷◌, Some, refl, arith}
+use Rattle.wire_story.specs.Texts.{IsTextSoFar, Holds}
+use Rattle.wire_story.specs.Reading as story
+use Rattle.wire_story.specs.declared.reader.TextReader.{TextReader}
+
+so_far_two : (x : List ℕ) (lines : List (List ℕ)) (line : List ℕ) (held : ℕ) → IsTextSoFar x lines line held → held ≤ 2
+so_far_two x [] line held h = h.1
+so_far_two x (first ∷ lines) line held h = so_far_two h.3 lines line held h.5
+
+pub holds_two : (x : List ℕ) (held : ℕ) → Holds x held → held ≤ 2
+holds_two x held h = so_far_two x h.0 h.1 held h.2
+
+-- what stands at a text is a place
+pub stands_two : (reader : TextReader) (x : List ℕ) → story.StandsAt reader x → story.IsPlace reader
+stands_two reader x at = (at.0, at.1, holds_two x at.0 at.2)
+
+pub holds_none : story.IsPlace (Some 0)
+holds_none = (0, refl, omega arith)

@@ -1,0 +1,5 @@
+use Rattle.wire_message.proofs.Alike.{alike}
+use Rattle.wire_message.proofs.laws.octets_lead_on_alike.Goals as goal
+
+pub returns : goal.returns
+returns c = alike c.texts_end_in_no_return.ensures c.octets_lead_on_alike.ensures
