@@ -1,69 +1,115 @@
 -- What a builder has.
-use Rattle.std.proofs.Common.{◌≡◌, ℕ, ◌+◌, ◌-◌, Bool, true, false, not, cond, List, [], ◌∷◌, ◌++◌, length, take, drop, refl, ap, sym, ◌∙◌, arith, subst, append_assoc, Option, Some, None}
-use Rattle.std.specs.Prelude.{vec_len}
+use Rattle.std.proofs.Common.{◌≡◌, ℕ, ◌+◌, ◌≤◌, ◌<◌, Bool, true, false, not, cond, List, [], ◌∷◌, ◌++◌, length, refl, ap, sym, ◌∙◌, arith, subst, append-nil, length-append, Option, Some, None}
+use Rattle.std.specs.Prelude.{vec_len, vec_capacity}
 use Rattle.std.specs.Option.{option_or}
-use Rattle.std.proofs.Math.Seq.{take-append_seam, drop-append_seam}
 use Rattle.iim_dataset.specs.Datasets.{Dataset, head_of}
-use Rattle.iim_fields.specs.Faults.{head_fault, room_fault, value_fault, first_fault, is_kept, kept, joined, fault_on}
-use Rattle.iim_fields.specs.Orders.{has_seen}
-use Rattle.iim_fields.specs.Stores.{Holds, entries_of}
-use Rattle.iim_fields.specs.Standing.{StandsBehind}
-use Rattle.iim_fields.specs.Builders.{fields_from, fields_of, IsBuilding, add_fault}
+use Rattle.iim_dataset.specs.declared.head.Head.{Head}
+use Rattle.iim_fields.specs.Faults.{record_fault, limits_fault, room_fault, value_fault, first_fault, is_kept, kept, joined, fault_on}
+use Rattle.iim_fields.specs.Values.{data_of, number_told}
+use Rattle.iim_fields.specs.Checks.{HasChecked, IsChecking, HasTaken, IsRecordFault, IsValueFault}
+use Rattle.iim_fields.specs.Stores.{Holds, entries_of, fields_of, store_room}
+use Rattle.iim_fields.specs.Standing.{IsWithin, HasRoom}
+use Rattle.iim_fields.specs.Builders.{IsBuilding, add_fault}
+use Rattle.iim_fields.specs.declared.limits.Limits.{Limits}
 use Rattle.iim_fields.specs.declared.store.Store.{Store}
 use Rattle.iim_fields.specs.declared.fault.FieldFault.{FieldFault}
 use Rattle.iim_fields.specs.declared.fault.FieldCause.TheVariants.{RecordOrder}
-use Rattle.iim_fields.specs.declared.checker.Checker.{Checker}
-use Rattle.iim_fields.proofs.Stand.{kept_more, record_fault_is, room_fault_is}
+use Rattle.iim_fields.specs.declared.check.RecordPlace.{RecordPlace}
+use Rattle.iim_fields.proofs.Stand.{fields_held, entries_append, joined_more, kept_more, kept_not_object, counts, room_fault_is, room_within, taken_alive}
+use Rattle.iim_fields.proofs.Dies.{head_no_fault, value_no_fault}
 
--- the entries of datasets and their data give the datasets back
-pub fields_back : (from : ℕ) (ks : List Dataset) (more : List ℕ) → fields_from from (entries_of from ks) (joined ks ++ more) ≡ ks
-fields_back from [] more = refl
-fields_back from (k ∷ ks) more =
-    let long : from + length k.octets - from ≡ length k.octets = omega arith in
-    let parts : joined (k ∷ ks) ++ more ≡ k.octets ++ (joined ks ++ more) = append_assoc k.octets (joined ks) more in
-    let front : take (from + length k.octets - from) (joined (k ∷ ks) ++ more) ≡ k.octets = (λ i. take (long i) (parts i)) ∙ take-append_seam k.octets (joined ks ++ more) in
-    let rest : drop (from + length k.octets - from) (joined (k ∷ ks) ++ more) ≡ joined ks ++ more = (λ i. drop (long i) (parts i)) ∙ drop-append_seam k.octets (joined ks ++ more) in
-    let later : fields_from (from + length k.octets) (entries_of (from + length k.octets) ks) (drop (from + length k.octets - from) (joined (k ∷ ks) ++ more)) ≡ ks =
-    ap (fields_from (from + length k.octets) (entries_of (from + length k.octets) ks)) rest ∙ fields_back (from + length k.octets) ks more in
-    λ i. record { rec = k.rec; set = k.set; octets = front i } ∷ later i
+-- the fault of a dataset whose record is kept
+add_fault_of : (limits : Limits) (ds : List Dataset) (d : Dataset) → is_kept d.rec ≡ true → add_fault limits ds d ≡ option_or (option_or (record_fault ds (head_of d)) (limits_fault limits ds (head_of d))) (value_fault d)
+add_fault_of limits ds d is = ap (λ (b : Bool). cond (not b) (Some (fault_on (head_of d) RecordOrder)) (option_or (first_fault limits ds (head_of d)) (value_fault d))) is
 
-pub fields_held : (store : Store) (ks : List Dataset) (more : List ℕ) → Holds store ks more → fields_of store ≡ ks
-fields_held store ks more holds = (λ i. fields_from 0 (holds.entries i) (holds.octets i)) ∙ fields_back 0 ks more
+-- a fault of the head in the record layer
+pub added_record_fault : (limits : Limits) (ds : List Dataset) (d : Dataset) (fault : FieldFault) → is_kept d.rec ≡ true → IsRecordFault ds (head_of d) fault → add_fault limits ds d ≡ Some fault
+added_record_fault limits ds d fault is f =
+    add_fault_of limits ds d is ∙ ap (λ (o : Option FieldFault). option_or (option_or o (limits_fault limits ds (head_of d))) (value_fault d)) f.first
 
--- one more dataset is kept
-kept_one_more : (old new : Checker) (d : Dataset) → IsBuilding old → is_kept d.rec ≡ true
-    → kept (fields_of old.store ++ d ∷ []) ≡ fields_of old.store ++ d ∷ []
-kept_one_more old new d building is = kept_more (fields_of old.store) d is ∙ ap (λ (ks : List Dataset). ks ++ d ∷ []) building.all_kept
+-- the head was taken
+head_fine : (check : Option RecordPlace) (ds : List Dataset) (d : Dataset) → HasTaken check ds (head_of d) → record_fault ds (head_of d) ≡ None
+head_fine check ds d taken = head_no_fault ds (head_of d) (taken_alive check ds (head_of d) taken)
 
-pub fields_more : (old new : Checker) (d : Dataset) → IsBuilding old → is_kept d.rec ≡ true → ((ds : List Dataset) → StandsBehind old ds → StandsBehind new (ds ++ d ∷ []))
-    → fields_of new.store ≡ fields_of old.store ++ d ∷ []
-fields_more old new d building is stands =
-    let s = stands (fields_of old.store) building.stands in
-    fields_held new.store (kept (fields_of old.store ++ d ∷ [])) [] s.holds ∙ kept_one_more old new d building is
+limits_are : (check : Option RecordPlace) (limits : Limits) (store : Store) (h : Head) → IsBuilding check limits store → room_fault limits (vec_len store.octets) (vec_len store.entries) h ≡ limits_fault limits (fields_of store) h
+limits_are check limits store h b = room_fault_is limits store (fields_of store) h (subst (λ (ks : List Dataset). Holds store ks []) (sym b.all_kept) b.holds)
 
-pub building_more : (old new : Checker) (d : Dataset) → IsBuilding old → is_kept d.rec ≡ true → ((ds : List Dataset) → StandsBehind old ds → StandsBehind new (ds ++ d ∷ []))
-    → IsBuilding new
-building_more old new d building is stands =
-    let more = fields_more old new d building is stands in
+-- a limit is passed
+pub added_room_fault : (check after : Option RecordPlace) (limits : Limits) (store : Store) (d : Dataset) (fault : FieldFault) → IsBuilding check limits store → is_kept d.rec ≡ true → HasTaken after (fields_of store) (head_of d)
+    → room_fault limits (vec_len store.octets) (vec_len store.entries) (head_of d) ≡ Some fault → add_fault limits (fields_of store) d ≡ Some fault
+added_room_fault check after limits store d fault b is taken some =
+    let ds = fields_of store in
+    add_fault_of limits ds d is ∙ ((λ i. option_or (option_or (head_fine after ds d taken i) (limits_fault limits ds (head_of d))) (value_fault d))
+    ∙ ap (λ (o : Option FieldFault). option_or o (value_fault d)) (sym (limits_are check limits store (head_of d) b) ∙ some))
+
+-- what is left is the fault of the value
+added_value : (check after : Option RecordPlace) (limits : Limits) (store : Store) (d : Dataset) → IsBuilding check limits store → is_kept d.rec ≡ true → HasTaken after (fields_of store) (head_of d)
+    → room_fault limits (vec_len store.octets) (vec_len store.entries) (head_of d) ≡ None → add_fault limits (fields_of store) d ≡ value_fault d
+added_value check after limits store d b is taken none =
+    let ds = fields_of store in
+    add_fault_of limits ds d is ∙ ((λ i. option_or (option_or (head_fine after ds d taken i) (limits_fault limits ds (head_of d))) (value_fault d))
+    ∙ ap (λ (o : Option FieldFault). option_or o (value_fault d)) (sym (limits_are check limits store (head_of d) b) ∙ none))
+
+checking_of : (after : Option RecordPlace) (ds : List Dataset) (d : Dataset) → is_kept d.rec ≡ true → HasTaken after ds (head_of d) → IsChecking after ds (head_of d)
+checking_of after ds d is taken = taken.checking (kept_not_object d.rec is)
+
+pub added_value_fault : (check after : Option RecordPlace) (limits : Limits) (store : Store) (d : Dataset) (fault : FieldFault) → IsBuilding check limits store → is_kept d.rec ≡ true → HasTaken after (fields_of store) (head_of d)
+    → room_fault limits (vec_len store.octets) (vec_len store.entries) (head_of d) ≡ None
+    → ((ds : List Dataset) (h : Head) → IsChecking after ds h → IsValueFault ds (data_of h d.octets) fault) → add_fault limits (fields_of store) d ≡ Some fault
+added_value_fault check after limits store d fault b is taken none on =
+    added_value check after limits store d b is taken none ∙ (on (fields_of store) (head_of d) (checking_of after (fields_of store) d is taken)).first
+
+-- the dataset was taken
+now_checked : (after last : Option RecordPlace) (store : Store) (d : Dataset) (number : Option ℕ) → is_kept d.rec ≡ true → HasTaken after (fields_of store) (head_of d)
+    → ((ds : List Dataset) (h : Head) → IsChecking after ds h → HasChecked last (ds ++ data_of h d.octets ∷ []) × (number ≡ number_told (data_of h d.octets))) → HasChecked last (fields_of store ++ d ∷ [])
+now_checked after last store d number is taken on = (on (fields_of store) (head_of d) (checking_of after (fields_of store) d is taken)).0
+
+pub added_fine : (check after last : Option RecordPlace) (limits : Limits) (store : Store) (d : Dataset) (number : Option ℕ) → IsBuilding check limits store → is_kept d.rec ≡ true → HasTaken after (fields_of store) (head_of d)
+    → room_fault limits (vec_len store.octets) (vec_len store.entries) (head_of d) ≡ None
+    → ((ds : List Dataset) (h : Head) → IsChecking after ds h → HasChecked last (ds ++ data_of h d.octets ∷ []) × (number ≡ number_told (data_of h d.octets))) → add_fault limits (fields_of store) d ≡ None
+added_fine check after last limits store d number b is taken none on =
+    added_value check after limits store d b is taken none ∙ value_no_fault (fields_of store) d (now_checked after last store d number is taken on).alive
+
+-- ---- the store
+
+pub record Stored (old new : Store) (d : Dataset) : Type 0 where
+  pub octets : new.octets.items ≡ old.octets.items ++ d.octets
+  pub entries : new.entries.items ≡ old.entries.items ++ record { rec = d.rec; set = d.set; end = vec_len old.octets + length d.octets } ∷ []
+  pub octets_room : vec_capacity new.octets ≡ vec_capacity old.octets
+  pub entries_room : vec_capacity new.entries ≡ vec_capacity old.entries
+
+stored_holds : (old new : Store) (ds : List Dataset) (d : Dataset) → Stored old new d → Holds old ds [] → Holds new (ds ++ d ∷ []) []
+stored_holds old new ds d s holds =
+    let c = counts old ds [] holds in
+    let end : vec_len old.octets + length d.octets ≡ 0 + length (joined ds) + length d.octets = omega (arith, c.0) in
     record {
-      stands = subst (StandsBehind new) (sym more) (stands (fields_of old.store) building.stands);
-      all_kept = ap kept more ∙ (kept_one_more old new d building is ∙ sym more);
+      entries = s.entries ∙ ((λ i. holds.entries i ++ record { rec = d.rec; set = d.set; end = end i } ∷ []) ∙ sym (entries_append 0 ds d));
+      octets = s.octets ∙ (ap (λ (xs : List ℕ). xs ++ d.octets) (holds.octets ∙ append-nil (joined ds)) ∙ (sym (joined_more ds d) ∙ sym (append-nil (joined (ds ++ d ∷ [])))));
     }
 
--- the fault by what the checker keeps is the fault by the datasets
-kept_fault : (b : Bool) (f : FieldFault) (rest : Option FieldFault) → b ≡ true → (cond (not b) (Some f) rest) ≡ rest
-kept_fault true f rest h = refl
-kept_fault false f rest h = absurd cc
+pub fields_more : (old new : Store) (d : Dataset) → Stored old new d → Holds old (fields_of old) [] → fields_of new ≡ fields_of old ++ d ∷ []
+fields_more old new d s holds = fields_held new (fields_of old ++ d ∷ []) [] (stored_holds old new (fields_of old) d s holds)
 
-pub add_fault_is : (f : Checker) (d : Dataset) → IsBuilding f → is_kept d.rec ≡ true → option_or (option_or (head_fault f.order.rec (has_seen f.order) (head_of d))
-    (room_fault f.limits (vec_len f.store.octets) (vec_len f.store.entries) (head_of d))) (value_fault d) ≡ add_fault f.limits (fields_of f.store) d
-add_fault_is f d building is =
-    let stands = building.stands in
-    (λ i. option_or (option_or (record_fault_is f.order (fields_of f.store) (head_of d) stands.order i) (room_fault_is f (fields_of f.store) (head_of d) stands.holds i)) (value_fault d))
-    ∙ sym (kept_fault (is_kept d.rec) (fault_on (head_of d) RecordOrder) (option_or (first_fault f.limits (fields_of f.store) (head_of d)) (value_fault d)) is)
-
--- no fault of any kind
-pub none_of_three : (a b c : Option FieldFault) → a ≡ None → b ≡ None → c ≡ None → option_or (option_or a b) c ≡ None
-none_of_three None None c h k l = l
-none_of_three None (Some x) c h k l = absurd cc
-none_of_three (Some x) b c h k l = absurd cc
+pub building_more : (check after last : Option RecordPlace) (limits : Limits) (old new : Store) (d : Dataset) (number : Option ℕ) → IsBuilding check limits old → is_kept d.rec ≡ true
+    → HasTaken after (fields_of old) (head_of d) → room_fault limits (vec_len old.octets) (vec_len old.entries) (head_of d) ≡ None
+    → ((ds : List Dataset) (h : Head) → IsChecking after ds h → HasChecked last (ds ++ data_of h d.octets ∷ []) × (number ≡ number_told (data_of h d.octets))) → Stored old new d → IsBuilding last limits new
+building_more check after last limits old new d number b is taken none on s =
+    let ds = fields_of old in
+    let more = fields_more old new d s b.holds in
+    let c = counts old ds [] b.holds in
+    let w = room_within limits (vec_len old.octets) (vec_len old.entries) (head_of d) none is in
+    record {
+      room = record {
+        small_octets = b.room.small_octets;
+        small_fields = b.room.small_fields;
+        octets = omega (arith, b.room.octets, s.octets_room);
+        entries = omega (arith, b.room.entries, s.entries_room);
+      };
+      checked = subst (HasChecked last) (sym more) (now_checked after last old d number is taken on);
+      within = record {
+        octets_in = omega (arith, w.0, c.0, ap (λ (ks : List Dataset). length (joined ks)) more, ap (λ (xs : List ℕ). length xs) (joined_more ds d), length-append (joined ds) d.octets);
+        fields_in = omega (arith, w.1, c.1, ap (λ (ks : List Dataset). length ks) more, length-append ds (d ∷ []));
+      };
+      holds = subst (λ (ks : List Dataset). Holds new ks []) (sym more) (stored_holds old new ds d s b.holds);
+      all_kept = ap kept more ∙ (kept_more ds d is ∙ (ap (λ (ks : List Dataset). ks ++ d ∷ []) b.all_kept ∙ sym more));
+    }

@@ -9,10 +9,12 @@ use Rattle.iim_fields.specs.Records.{mandatory, after, occurs, IsGoodDataset, Is
 use Rattle.iim_fields.specs.Alive.{IsAlive}
 use Rattle.iim_fields.specs.Faults.{last_record, present_record, present_run, of_record, is_kept, kept, joined, missing_fault, missing_of}
 use Rattle.iim_fields.specs.Orders.{has_seen, Tells, end_fault, no_application}
-use Rattle.iim_fields.specs.Builders.{AreFew, IsEnvelope, IsEnvelopeStore, absent, finish_fault, IsBuilding, fields_of}
-use Rattle.iim_fields.specs.Stores.{Holds}
-use Rattle.iim_fields.specs.Standing.{StandsBehind}
-use Rattle.iim_fields.specs.declared.checker.Checker.{Checker}
+use Rattle.iim_fields.specs.Builders.{AreFew, IsEnvelope, IsEnvelopeStore, absent, finish_fault, IsBuilding}
+use Rattle.iim_fields.specs.Checks.{missing_at}
+use Rattle.iim_fields.specs.Stores.{fields_of}
+use Rattle.iim_fields.specs.declared.limits.Limits.{Limits}
+use Rattle.iim_fields.specs.declared.store.Store.{Store}
+use Rattle.iim_fields.specs.declared.check.RecordPlace.{RecordPlace}
 use Rattle.iim_fields.specs.declared.order.Order.{Order}
 use Rattle.iim_fields.specs.declared.fault.FieldFault.{FieldFault}
 use Rattle.iim_fields.proofs.Table.{EachRowHasValues, no_application_fault}
@@ -183,19 +185,19 @@ finished values ds o alive same tells none =
 
 -- ---- the builder
 
-pub finish_is : (f : Checker) → IsBuilding f → end_fault f.order.rec (has_seen f.order) ≡ finish_fault (fields_of f.store)
-finish_is f building = end_fault_is (fields_of f.store) f.order building.stands.alive building.all_kept building.stands.order
+pub finish_is : (check : Option RecordPlace) (limits : Limits) (store : Store) → IsBuilding check limits store → missing_at check ≡ finish_fault (fields_of store)
+finish_is check limits store b =
+    let s = b.checked in ap missing_at s.at ∙ end_fault_is (fields_of store) s.order s.alive b.all_kept s.tells
 
--- kept datasets are within the limits
-pub few_behind : (c : Checker) (ds : List Dataset) → StandsBehind c ds → kept ds ≡ ds → AreFew ds
-few_behind c ds s all = record {
-  datasets = omega (arith, s.between.store.small.fields, s.within.fields_in, ap length all);
-  octets = omega (arith, s.between.store.small.octets, s.within.octets_in, ap (λ (ks : List Dataset). length (joined ks)) all);
-}
-
-pub envelope_store : EachRowHasValues → (f : Checker) → IsBuilding f → end_fault f.order.rec (has_seen f.order) ≡ None → IsEnvelopeStore f.store
-envelope_store values f building none = record {
-  few = few_behind f (fields_of f.store) building.stands building.all_kept;
-  holds = subst (λ (ks : List Dataset). Holds f.store ks []) building.all_kept building.stands.holds;
-  envelope = finished values (fields_of f.store) f.order building.stands.alive building.all_kept building.stands.order none;
-}
+pub envelope_store : EachRowHasValues → (check : Option RecordPlace) (limits : Limits) (store : Store) → IsBuilding check limits store → missing_at check ≡ None → IsEnvelopeStore store
+envelope_store values check limits store b none =
+    let s = b.checked in
+    let here : end_fault s.order.rec (has_seen s.order) ≡ None = sym (ap missing_at s.at) ∙ none in
+    record {
+      few = record {
+        datasets = omega (arith, b.room.small_fields, b.within.fields_in);
+        octets = omega (arith, b.room.small_octets, b.within.octets_in);
+      };
+      holds = b.holds;
+      envelope = finished values (fields_of store) s.order s.alive b.all_kept s.tells here;
+    }

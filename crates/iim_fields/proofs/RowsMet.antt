@@ -8,7 +8,8 @@ use Rattle.iim_tables.specs.Octets.{within, is_digit, is_graphic}
 use Rattle.iim_tables.specs.Dates.{is_date}
 use Rattle.iim_tables.specs.Rows.{table, row_of, Meets}
 use Rattle.iim_fields.specs.Records.{IsGoodDataset}
-use Rattle.iim_fields.specs.Builders.{IsEnvelope, IsEnvelopeStore, fields_of}
+use Rattle.iim_fields.specs.Builders.{IsEnvelope, IsEnvelopeStore}
+use Rattle.iim_fields.specs.Stores.{fields_of}
 use Rattle.iim_fields.specs.Views.{is_of, first_data}
 use Rattle.iim_fields.specs.declared.store.Store.{Store}
 use Rattle.iim_fields.proofs.Runs.{all_append}

@@ -4,7 +4,8 @@ use Rattle.std.proofs.lemmas.Bool.{and_from, le-leb}
 use Rattle.iim_dataset.specs.Datasets.{Dataset}
 use Rattle.iim_fields.specs.Faults.{joined}
 use Rattle.iim_fields.specs.Stores.{entries_of}
-use Rattle.iim_fields.specs.Builders.{fields_of, IsEnvelopeStore}
+use Rattle.iim_fields.specs.Builders.{IsEnvelopeStore}
+use Rattle.iim_fields.specs.Stores.{fields_of}
 use Rattle.iim_fields.specs.Views.{is_sound}
 use Rattle.iim_fields.specs.declared.store.Store.{Store}
 

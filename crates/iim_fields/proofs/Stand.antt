@@ -1,149 +1,39 @@
--- What the checker stands at, step by step.
-use Rattle.std.proofs.Common.{◌≡◌, ◌≢◌, ℕ, zero, suc, ◌+◌, ◌-◌, ◌<◌, ◌≤◌, ◌⊎◌, Bool, true, false, not, ◌&&◌, ◌||◌, cond, if◌then◌else◌, nat_eq, nat_le, ◌==◌, List, [], ◌∷◌, ◌++◌, length, take, drop, replicate, get_or, slice_set, refl, ap, sym, ◌∙◌, inl, inr, arith, subst, append_assoc, append-nil, length-append, length-set, get_or-set_other, Option, Some, None}
-use Rattle.std.specs.Prelude.{vec_len, vec_capacity}
-use Rattle.std.specs.List.{list_any}
+-- What a reader of records keeps, step by step.
+use Rattle.std.proofs.Common.{◌≡◌, ◌≢◌, ℕ, zero, suc, ◌+◌, ◌-◌, ◌<◌, ◌≤◌, ◌⊎◌, Bool, true, false, not, cond, if◌then◌else◌, nat_eq, nat_le, List, [], ◌∷◌, ◌++◌, length, take, drop, get_or, refl, ap, sym, ◌∙◌, inl, inr, arith, subst, append_assoc, append-nil, length-append, Option, Some, None}
+use Rattle.std.specs.Prelude.{vec_len, vec_capacity, IsTrue}
 use Rattle.std.specs.Option.{option_or}
-use Rattle.std.proofs.lemmas.Grind.{get_or-set_at}
 use Rattle.std.proofs.Math.Seq.{take-append_seam, drop-append_seam}
 use Rattle.std.proofs.lemmas.List.Elements.{filter-append}
-use Rattle.std.proofs.lemmas.List.Folds.{list_any-append}
-use Rattle.std.proofs.lemmas.Bool.{leb-true, le-leb, and_parts, and_from}
+use Rattle.std.proofs.lemmas.Grind.{flat_map-append}
+use Rattle.std.proofs.lemmas.Bool.{leb-true, le-leb}
 use Rattle.std.proofs.lemmas.Bool.Decides.{eqb_tells}
-use Rattle.iim_dataset.specs.Octets.{Octets, number}
+use Rattle.iim_dataset.specs.Octets.{Octets}
 use Rattle.iim_dataset.specs.Datasets.{Dataset, head_of}
 use Rattle.iim_dataset.specs.declared.head.Head.{Head}
-use Rattle.iim_tables.specs.Octets.{within}
 use Rattle.iim_tables.specs.Numbers.{size_octets}
-use Rattle.iim_tables.specs.Rows.{row_of, is_admitted}
+use Rattle.iim_tables.specs.Rows.{row_of}
 use Rattle.iim_tables.specs.declared.shape.Row.{Row}
-use Rattle.iim_fields.specs.Records.{occurs, records, after, is_file_format}
-use Rattle.iim_tables.specs.Kinds.{has_kind}
-use Rattle.iim_tables.specs.declared.shape.Kind.{Kind}
-use Rattle.iim_tables.specs.declared.shape.Kind.TheVariants as kinds
-use Rattle.std.proofs.lemmas.Grind.{flat_map-append}
+use Rattle.iim_fields.specs.Records.{occurs}
 use Rattle.iim_fields.specs.Alive.{IsAlive, IsAliveAt}
-use Rattle.iim_fields.specs.Faults.{head_fault, record_fault, value_fault, fault_by_row, room_fault, limits_fault, first_fault, fault_on, is_kept, kept, kept_octets, joined, present_record, present_run, of_record}
-use Rattle.iim_fields.specs.Orders.{nothing, has_seen, Tells, Takes}
+use Rattle.iim_fields.specs.Faults.{record_fault, room_fault, limits_fault, first_fault, fault_on, is_kept, kept, kept_octets, joined, present_record, present_run}
 use Rattle.iim_fields.specs.Values.{data_of, number_told, tells_number}
-use Rattle.iim_fields.specs.Stores.{Holds, entries_of}
-use Rattle.iim_fields.specs.Standing.{AreSmall, IsBetween, IsInside, CanTake, CanClose, IsWithin, StandsBehind, StandsIn, IsHeadFault, IsValueFault, IsOf, Enters, Gives, Settles, begun_data}
+use Rattle.iim_fields.specs.Checks.{TakesHead, TakesValue, IsIn, HasChecked, IsChecking, HasTaken, IsRecordFault, IsValueFault, begun_head}
+use Rattle.iim_fields.specs.Checks as checks
+use Rattle.iim_fields.specs.Stores.{Holds, IsStore, entries_of, fields_from, fields_of, ends_at, begun_octets}
+use Rattle.iim_fields.specs.Standing.{FieldsPlace, IsBetween, IsInside, CanTake, CanClose, IsWithin, StandsBehind, StandsIn, IsHeadFault, IsOf, place_of, StandsSomewhere, HasRoom, IsReading}
 use Rattle.iim_fields.specs.declared.limits.Limits.{Limits}
-use Rattle.iim_fields.specs.declared.order.Order.{Order}
+use Rattle.iim_fields.specs.declared.store.Entry.{Entry}
 use Rattle.iim_fields.specs.declared.store.Store.{Store}
 use Rattle.iim_fields.specs.declared.fault.FieldFault.{FieldFault}
 use Rattle.iim_fields.specs.declared.fault.FieldCause.TheVariants.{HeaderFull, TooManyFields}
-use Rattle.iim_fields.specs.declared.checker.Checker.{Checker}
-use Rattle.iim_fields.specs.declared.checker.Begun.{Begun}
-use Rattle.iim_fields.specs.declared.checker.Phase.TheVariants as phases
-use Rattle.iim_fields.proofs.Table.{EachRowHasValues, not_after_itself, size_row, kept_or_tells, object_kind}
-use Rattle.iim_fields.proofs.Runs.{records_to_come, eq_itself}
-use Rattle.iim_fields.proofs.Follows.{Follows, present_more, run_more, alive_follows}
-use Rattle.iim_fields.proofs.Telling.{head_fault_told, value_fault_told}
-use Rattle.iim_fields.proofs.Dies.{HasNoFault, no_fault_parts, in_order_cases, head_alive, head_no_fault, value_alive, value_no_fault}
+use Rattle.iim_fields.specs.declared.check.Begun.{Begun}
+use Rattle.iim_fields.specs.declared.check.RecordPlace.{RecordPlace}
+use Rattle.iim_fields.proofs.Table.{EachRowHasValues, size_row, kept_or_tells}
+use Rattle.iim_fields.proofs.Telling.{head_fault_told}
+use Rattle.iim_fields.proofs.Dies.{no_fault_parts, head_no_fault}
+use Rattle.iim_fields.proofs.Checking.{same_place, same_begun, one_begun, not_both, some_data, octets_of, octets_append, count_fits}
 
--- ---- which numbers have occurred
-
-seen_more : (xs : List Bool) (s n : ℕ) → s < length xs → get_or (slice_set xs s true) n false ≡ (nat_eq s n || get_or xs n false)
-seen_more xs s n fits = elim (eqb_tells s n) [
-  | inl same ↦ get_or-set_at xs s n true false (sym same.1) fits ∙ sym (ap (λ b. b || get_or xs n false) same.0)
-  | inr other ↦ get_or-set_other xs s n true false (λ e. other.1 (sym e)) ∙ sym (ap (λ b. b || get_or xs n false) other.0)
-]
-
-nothing_seen : (k n : ℕ) → get_or (replicate k false) n false ≡ false
-nothing_seen zero n = refl
-nothing_seen (suc k) zero = refl
-nothing_seen (suc k) (suc n) = nothing_seen k n
-
-or_swap : (a b : Bool) → (a || b) ≡ (b || (a || false))
-or_swap true true = refl
-or_swap true false = refl
-or_swap false true = refl
-or_swap false false = refl
-
-pub tells_start : (o : Order) → o.rec ≡ 0 → o.seen ≡ nothing → Tells o []
-tells_start o first none = record {
-  places = ap (λ (xs : List Bool). length xs) none;
-  present = first;
-  seen = λ n. ap (λ (xs : List Bool). get_or xs n false) none ∙ nothing_seen 256 n;
-}
-
-occurs_more : (n : ℕ) (ds : List Dataset) (d : Dataset) → occurs n (present_run (ds ++ d ∷ [])) ≡ (occurs n (of_record d.rec ds) || (nat_eq d.set n || false))
-occurs_more n ds d = ap (occurs n) (run_more ds d) ∙ list_any-append (λ (x : Dataset). nat_eq x.set n) (of_record d.rec ds) (d ∷ [])
-
-tells_same : (o new : Order) (ds : List Dataset) (d : Dataset) → d.set < 256 → d.rec ≡ present_record ds → Takes o (head_of d) new → Tells o ds → Tells new (ds ++ d ∷ [])
-tells_same o new ds d fits same takes tells =
-    let seen = takes.same (same ∙ sym tells.present) in
-    let room : d.set < length o.seen = omega (arith, tells.places) in
-    record {
-      places = ap (λ (xs : List Bool). length xs) seen ∙ (length-set o.seen d.set true ∙ tells.places);
-      present = takes.rec ∙ sym (present_more ds d);
-      seen = λ n. ap (λ (xs : List Bool). get_or xs n false) seen ∙ (seen_more o.seen d.set n room ∙ (ap (λ b. nat_eq d.set n || b) (tells.seen n)
-          ∙ (or_swap (nat_eq d.set n) (occurs n (present_run ds)) ∙ (ap (λ (r : ℕ). occurs n (of_record r ds) || (nat_eq d.set n || false)) (sym same) ∙ sym (occurs_more n ds d)))));
-    }
-
-tells_next : (o new : Order) (ds : List Dataset) (d : Dataset) → d.set < 256 → (d.rec ≡ present_record ds → ⊥) → of_record d.rec ds ≡ [] → Takes o (head_of d) new → Tells o ds → Tells new (ds ++ d ∷ [])
-tells_next o new ds d fits differ fresh takes tells =
-    let seen = takes.next (λ e. differ (e ∙ tells.present)) in
-    let room : d.set < length nothing = omega arith in
-    record {
-      places = ap (λ (xs : List Bool). length xs) seen ∙ length-set nothing d.set true;
-      present = takes.rec ∙ sym (present_more ds d);
-      seen = λ n. ap (λ (xs : List Bool). get_or xs n false) seen ∙ (seen_more nothing d.set n room ∙ (ap (λ b. nat_eq d.set n || b) (nothing_seen 256 n)
-          ∙ (ap (λ (xs : List Dataset). occurs n xs || (nat_eq d.set n || false)) (sym fresh) ∙ sym (occurs_more n ds d))));
-    }
-
-pub tells_more : (o new : Order) (ds : List Dataset) (d : Dataset) → Follows ds → d.set < 256 → HasNoFault (present_record ds) (λ n. occurs n (present_run ds)) (head_of d)
-    → Takes o (head_of d) new → Tells o ds → Tells new (ds ++ d ∷ [])
-tells_more o new ds d follows fits f takes tells = elim (in_order_cases (present_record ds) d.rec f.order) [
-  | inl same ↦ tells_same o new ds d fits same takes tells
-  | inr next ↦ tells_next o new ds d fits (λ same. not_after_itself (present_record ds) d.rec (after d.rec) next (sym same))
-      (follows.fresh d.rec (ap (list_any (λ x. nat_eq x d.rec)) next ∙ ap (λ b. b || list_any (λ x. nat_eq x d.rec) (after d.rec)) (eq_itself d.rec))) takes tells
-]
-
--- the fault by what is kept is the fault by the datasets
-pub record_fault_is : (o : Order) (ds : List Dataset) (h : Head) → Tells o ds → head_fault o.rec (has_seen o) h ≡ record_fault ds h
-record_fault_is o ds h tells = λ i. head_fault (tells.present i) (λ n. tells.seen n i) h
-
--- ---- the store
-
-length-entries_of : (from : ℕ) (ds : List Dataset) → length (entries_of from ds) ≡ length ds
-length-entries_of from [] = refl
-length-entries_of from (d ∷ ds) = ap suc (length-entries_of (from + length d.octets) ds)
-
--- ---- the start
-
-pub start_alive : EachRowHasValues → IsAlive []
-start_alive values = records_to_come values records
-
-pub stands_start : EachRowHasValues → (f : Checker) → f.phase ≡ phases.Between → f.order.rec ≡ 0 → f.order.seen ≡ nothing → f.store.octets.items ≡ [] → f.store.entries.items ≡ []
-    → f.limits.octets + size_octets ≤ vec_capacity f.store.octets → f.limits.fields ≤ vec_capacity f.store.entries → AreSmall f.limits → StandsBehind f []
-stands_start values f phase rec seen octets entries octets_room entries_room small = record {
-  between = record {
-    between = phase;
-    store = record { octets = octets_room; entries = entries_room; small = small };
-    within = omega (arith, f.store.octets.ok.0, ap (λ (xs : List ℕ). length xs) octets);
-  };
-  alive = start_alive values;
-  within = record { octets_in = omega arith; fields_in = omega arith };
-  order = tells_start f.order rec seen;
-  holds = record { entries = entries; octets = octets };
-}
-
--- ---- a head
-
--- what the store has of datasets behind which the checker stands
-pub counts : (f : Checker) (ds : List Dataset) (more : List ℕ) → Holds f.store (kept ds) more
-    → (vec_len f.store.octets ≡ kept_octets ds + length more) × (vec_len f.store.entries ≡ length (kept ds))
-counts f ds more holds = (
-  f.store.octets.ok.0 ∙ (ap (λ (xs : List ℕ). length xs) holds.octets ∙ length-append (joined (kept ds)) more),
-  f.store.entries.ok.0 ∙ (ap (λ xs. length xs) holds.entries ∙ length-entries_of 0 (kept ds)),
-)
-
-pub room_fault_is : (f : Checker) (ds : List Dataset) (h : Head) → Holds f.store (kept ds) [] → room_fault f.limits (vec_len f.store.octets) (vec_len f.store.entries) h ≡ limits_fault f.limits ds h
-room_fault_is f ds h holds =
-    let c = counts f ds [] holds in
-    let first : vec_len f.store.octets ≡ kept_octets ds = omega (arith, c.0) in
-    ap (λ (n : ℕ). room_fault f.limits n (vec_len f.store.entries) h) first ∙ ap (λ (n : ℕ). room_fault f.limits (kept_octets ds) n h) c.1
+-- ---- the limits
 
 -- a head without a fault passes no limit
 room_by : (k a b : Bool) (f g : FieldFault) → (if not k then None else if not a then Some f else if not b then Some g else None) ≡ None → k ≡ true → (a ≡ true) × (b ≡ true)
@@ -173,171 +63,28 @@ or_none : {X : Type 0} (a b : Option X) → a ≡ None → b ≡ None → option
 or_none None b h k = k
 or_none (Some x) b h k = absurd cc
 
--- the kept octets and datasets with the head are within the limits
-kept_room : (old : Checker) (h : Head) → room_fault old.limits (vec_len old.store.octets) (vec_len old.store.entries) h ≡ None → is_kept h.rec ≡ true
-    → (vec_len old.store.octets + h.count ≤ old.limits.octets) × (vec_len old.store.entries < old.limits.fields)
-kept_room old h room is = let w = room_within old.limits (vec_len old.store.octets) (vec_len old.store.entries) h room is in (w.0, omega (arith, w.1))
+-- ---- the store
 
--- the data of the head have room
-all_room : (old : Checker) (h : Head) (row : Row) (b : Bool) → is_kept h.rec ≡ b → IsBetween old → row_of h.rec h.set ≡ Some row → h.count ≤ row.max
-    → room_fault old.limits (vec_len old.store.octets) (vec_len old.store.entries) h ≡ None → h.rec ≢ 8 → vec_len old.store.octets + h.count ≤ old.limits.octets + size_octets
-all_room old h row true is between known fits room not8 = let w = kept_room old h room is in omega (arith, w.0)
-all_room old h row false is between known fits room not8 =
-    let size = size_row h.rec h.set row (kept_or_tells h.rec h.set row known not8 is) known in omega (arith, between.within, size.1)
+length-entries_of : (from : ℕ) (ds : List Dataset) → length (entries_of from ds) ≡ length ds
+length-entries_of from [] = refl
+length-entries_of from (d ∷ ds) = ap suc (length-entries_of (from + length d.octets) ds)
 
-pub inside_of : (old new : Checker) (h : Head) (row : Row) → IsBetween old → Enters old h row new → row_of h.rec h.set ≡ Some row → h.count ≤ row.max
-    → room_fault old.limits (vec_len old.store.octets) (vec_len old.store.entries) h ≡ None → IsInside new h h.count
-inside_of old new h row between enters known fits room =
-    let limit : new.limits.octets ≡ old.limits.octets = ap (λ (l : Limits). l.octets) enters.limits in
-    let most : new.limits.fields ≡ old.limits.fields = ap (λ (l : Limits). l.fields) enters.limits in
-    let octets_capacity : vec_capacity new.store.octets ≡ vec_capacity old.store.octets = ap (λ (s : Store). vec_capacity s.octets) enters.store in
-    let entries_capacity : vec_capacity new.store.entries ≡ vec_capacity old.store.entries = ap (λ (s : Store). vec_capacity s.entries) enters.store in
-    let octets_long : vec_len new.store.octets ≡ vec_len old.store.octets = ap (λ (s : Store). vec_len s.octets) enters.store in
-    let entries_long : vec_len new.store.entries ≡ vec_len old.store.entries = ap (λ (s : Store). vec_len s.entries) enters.store in
-    record {
-      begun = record { head = h; row = row; start = vec_len old.store.octets; to_come = h.count };
-      inside = enters.phase;
-      head = refl;
-      to_come = refl;
-      known = known;
-      store = record { octets = omega (arith, between.store.octets); entries = omega (arith, between.store.entries); small = subst AreSmall (sym enters.limits) between.store.small };
-      start = omega arith;
-      within = omega (arith, between.within);
-      room = λ not8. let all = all_room old h row (is_kept h.rec) refl between known fits room not8 in omega arith;
-      kept_room = λ is. let w = kept_room old h room is in (omega (arith, w.0), omega (arith, w.1));
-    }
+-- the entries of datasets and their data give the datasets back
+pub fields_back : (from : ℕ) (ks : List Dataset) (more : List ℕ) → fields_from from (entries_of from ks) (joined ks ++ more) ≡ ks
+fields_back from [] more = refl
+fields_back from (k ∷ ks) more =
+    let long : from + length k.octets - from ≡ length k.octets = omega arith in
+    let parts : joined (k ∷ ks) ++ more ≡ k.octets ++ (joined ks ++ more) = append_assoc k.octets (joined ks) more in
+    let front : take (from + length k.octets - from) (joined (k ∷ ks) ++ more) ≡ k.octets = (λ i. take (long i) (parts i)) ∙ take-append_seam k.octets (joined ks ++ more) in
+    let rest : drop (from + length k.octets - from) (joined (k ∷ ks) ++ more) ≡ joined ks ++ more = (λ i. drop (long i) (parts i)) ∙ drop-append_seam k.octets (joined ks ++ more) in
+    let later : fields_from (from + length k.octets) (entries_of (from + length k.octets) ks) (drop (from + length k.octets - from) (joined (k ∷ ks) ++ more)) ≡ ks =
+    ap (fields_from (from + length k.octets) (entries_of (from + length k.octets) ks)) rest ∙ fields_back (from + length k.octets) ks more in
+    λ i. record { rec = k.rec; set = k.set; octets = front i } ∷ later i
 
-pub begun_of : (a b : Begun) → phases.Inside a ≡ phases.Inside b → a ≡ b
-begun_of a b e = cc
+pub fields_held : (store : Store) (ks : List Dataset) (more : List ℕ) → Holds store ks more → fields_of store ≡ ks
+fields_held store ks more holds = (λ i. fields_from 0 (holds.entries i) (holds.octets i)) ∙ fields_back 0 ks more
 
-pub stands_in : EachRowHasValues → (old new : Checker) (h : Head) (row : Row) → h.set < 256 → IsBetween old → Enters old h row new → row_of h.rec h.set ≡ Some row → h.count ≤ row.max
-    → head_fault old.order.rec (has_seen old.order) h ≡ None → room_fault old.limits (vec_len old.store.octets) (vec_len old.store.entries) h ≡ None
-    → (ds : List Dataset) → StandsBehind old ds → StandsIn new ds h []
-stands_in values old new h row small between enters known fits none room ds stands =
-    let follows = alive_follows ds stands.alive in
-    let ok : record_fault ds h ≡ None = sym (record_fault_is old.order ds h stands.order) ∙ none in
-    let f = no_fault_parts (present_record ds) (λ n. occurs n (present_run ds)) h ok in
-    let c = counts old ds [] stands.holds in
-    let limits_ok : limits_fault old.limits ds h ≡ None = sym (room_fault_is old ds h stands.holds) ∙ room in
-    record {
-      inside = (h.count, inside_of old new h row between enters known fits room, (λ not8. omega arith));
-      alive = head_alive values ds h stands.alive small ok;
-      within = λ is. subst (λ (l : Limits). IsWithin l (kept_octets ds + h.count) (length (kept ds) + 1)) (sym enters.limits)
-          (let w = room_within old.limits (kept_octets ds) (length (kept ds)) h limits_ok is in record { octets_in = w.0; fields_in = w.1 });
-      others = subst (λ (l : Limits). IsWithin l (kept_octets ds) (length (kept ds))) (sym enters.limits) stands.within;
-      octets = tt;
-      order = λ d is. tells_more old.order new.order ds d follows (omega (arith, ap (λ (k : Head). k.set) is))
-          (subst (λ (k : Head). HasNoFault (present_record ds) (λ n. occurs n (present_run ds)) k) (sym is) f)
-          (subst (λ (k : Head). Takes old.order k new.order) (sym is) enters.order) stands.order;
-      holds = subst (λ (s : Store). Holds s (kept ds) []) (sym enters.store) stands.holds;
-      start = λ begun e. ap (λ (b : Begun). b.start) (begun_of _ _ (sym e ∙ enters.phase)) ∙ omega (arith, c.0);
-    }
-
-first_or_other : (a b : Option FieldFault) (fault : FieldFault) → option_or a b ≡ Some fault → a ≡ None → b ≡ Some fault
-first_or_other None b fault h is = h
-first_or_other (Some x) b fault h is = absurd cc
-
-pub head_fault_is : (old : Checker) (h : Head) (fault : FieldFault)
-    → option_or (head_fault old.order.rec (has_seen old.order) h) (room_fault old.limits (vec_len old.store.octets) (vec_len old.store.entries) h) ≡ Some fault
-    → (ds : List Dataset) → StandsBehind old ds → IsHeadFault old.limits ds h fault
-head_fault_is old h fault some ds stands =
-    let first : first_fault old.limits ds h ≡ Some fault =
-    sym (λ i. option_or (record_fault_is old.order ds h stands.order i) (room_fault_is old ds h stands.holds i)) ∙ some in
-    record {
-      first = first;
-      lowest = head_fault_told old.limits ds h fault first;
-      dead = λ alive in_limits. no_room old.limits (kept_octets ds) (length (kept ds)) h fault
-          (first_or_other (record_fault ds h) (limits_fault old.limits ds h) fault first (head_no_fault ds h alive)) in_limits;
-    }
-
--- the count of a head without a fault is within its row
-pub count_fits : (present : ℕ) (has : ℕ → Bool) (h : Head) (row : Row) → head_fault present has h ≡ None → row_of h.rec h.set ≡ Some row → h.count ≤ row.max
-count_fits present has h row none known =
-    let f = no_fault_parts present has h none in
-    let same : f.row ≡ row = cc (sym f.known ∙ known) in
-    let ends = and_parts (nat_le f.row.min h.count) (nat_le h.count f.row.max) f.fits in
-    let high : h.count ≤ f.row.max = leb-true h.count f.row.max ends.1 in
-    subst (λ (r : Row). h.count ≤ r.max) same high
-
--- ---- data
-
-same_begun : (old : Checker) (begun : Begun) (h : Head) (n : ℕ) → old.phase ≡ phases.Inside begun → (inside : IsInside old h n) → inside.begun ≡ begun
-same_begun old begun h n before inside = begun_of inside.begun begun (sym inside.inside ∙ before)
-
-pub inside_bytes : (old new : Checker) (begun : Begun) (xs : List ℕ) (h : Head) (n : ℕ) → old.phase ≡ phases.Inside begun → Gives old begun xs new → length xs ≤ n → IsInside old h n → IsInside new h (n - length xs)
-inside_bytes old new begun xs h n before gives fits inside =
-    let same = same_begun old begun h n before inside in
-    let limit : new.limits.octets ≡ old.limits.octets = ap (λ (l : Limits). l.octets) gives.limits in
-    let most : new.limits.fields ≡ old.limits.fields = ap (λ (l : Limits). l.fields) gives.limits in
-    let entries_capacity : vec_capacity new.store.entries ≡ vec_capacity old.store.entries = ap (λ v. vec_capacity v) gives.entries in
-    let entries_long : vec_len new.store.entries ≡ vec_len old.store.entries = ap (λ v. vec_len v) gives.entries in
-    let start : begun.start ≡ inside.begun.start = ap (λ (b : Begun). b.start) (sym same) in
-    record {
-      begun = record { head = begun.head; row = begun.row; start = begun.start; to_come = begun.to_come - length xs };
-      inside = gives.phase;
-      head = ap (λ (b : Begun). b.head) (sym same) ∙ inside.head;
-      to_come = ap (λ (b : Begun). b.to_come - length xs) (sym same) ∙ ap (λ (m : ℕ). m - length xs) inside.to_come;
-      known = inside.known ∙ ap (λ (b : Begun). Some b.row) same;
-      store = record { octets = omega (arith, inside.store.octets, gives.capacity); entries = omega (arith, inside.store.entries); small = subst AreSmall (sym gives.limits) inside.store.small };
-      start = omega (arith, inside.start, gives.len);
-      within = omega (arith, inside.within);
-      room = λ not8. let all = inside.room not8 in omega (arith, gives.len);
-      kept_room = λ is. let all = inside.kept_room is in (omega (arith, all.0, gives.len), omega (arith, all.1));
-    }
-
-pub octets_of : (xs : List ℕ) → ((i : ℕ) → get_or xs i 0 < 256) → Octets xs
-octets_of [] h = tt
-octets_of (x ∷ xs) h = (h 0, octets_of xs (λ i. h (suc i)))
-
-octets_append : (xs ys : List ℕ) → Octets xs → Octets ys → Octets (xs ++ ys)
-octets_append [] ys h k = k
-octets_append (x ∷ xs) ys h k = (h.0, octets_append xs ys h.1 k)
-
-pub stands_bytes : (old new : Checker) (begun : Begun) (xs : List ℕ) → old.phase ≡ phases.Inside begun → Gives old begun xs new → CanTake old (length xs) → ((i : ℕ) → get_or xs i 0 < 256)
-    → (ds : List Dataset) (h : Head) (taken : List ℕ) → StandsIn old ds h taken → StandsIn new ds h (taken ++ xs)
-stands_bytes old new begun xs before gives (k, m, inside, not8, fits) small ds h taken stands =
-    let n = stands.inside.0 in
-    let one : inside.begun ≡ stands.inside.1.begun = same_begun old stands.inside.1.begun k m stands.inside.1.inside inside in
-    let same : m ≡ n = sym inside.to_come ∙ (ap (λ (b : Begun). b.to_come) one ∙ stands.inside.1.to_come) in
-    let fits_n : length xs ≤ n = omega arith in
-    record {
-      inside = (n - length xs, inside_bytes old new begun xs h n before gives fits_n stands.inside.1, (λ no. omega (arith, stands.inside.2 no, length-append taken xs)));
-      alive = stands.alive;
-      within = λ is. subst (λ (l : Limits). IsWithin l (kept_octets ds + h.count) (length (kept ds) + 1)) (sym gives.limits) (stands.within is);
-      others = subst (λ (l : Limits). IsWithin l (kept_octets ds) (length (kept ds))) (sym gives.limits) stands.others;
-      octets = octets_append taken xs stands.octets (octets_of xs small);
-      order = λ d is. subst (λ (o : Order). Tells o (ds ++ d ∷ [])) (sym gives.order) (stands.order d is);
-      holds = record {
-        entries = ap (λ v. v.items) gives.entries ∙ stands.holds.entries;
-        octets = gives.octets ∙ (ap (λ (ys : List ℕ). ys ++ xs) stands.holds.octets ∙ append_assoc (joined (kept ds)) taken xs);
-      };
-      start = λ b e. ap (λ (x : Begun). x.start) (begun_of b _ (sym e ∙ gives.phase)) ∙ stands.start begun before;
-    }
-
--- ---- the end of a dataset
-
-closed_store : (old new : Checker) (h : Head) (n : ℕ) (b : Bool) → is_kept h.rec ≡ b → (inside : IsInside old h n) → Settles old h inside.begun.start new → (h.rec ≡ 8) ⊎ (n ≡ 0)
-    → (vec_len new.store.octets ≤ old.limits.octets) × (vec_capacity new.store.octets ≡ vec_capacity old.store.octets) × (vec_capacity new.store.entries ≡ vec_capacity old.store.entries)
-closed_store old new h n true is inside settles ends =
-    let room = inside.kept_room is in
-    let octets_same = settles.kept_octets is in
-    let long : vec_len new.store.octets ≡ vec_len old.store.octets = ap (λ v. vec_len v) octets_same in
-    (omega (arith, room.0), ap (λ v. vec_capacity v) octets_same, settles.kept_room is)
-closed_store old new h n false is inside settles ends =
-    (omega (arith, settles.other_len is, inside.within), settles.other_room is, ap (λ v. vec_capacity v) (settles.other_entries is))
-
-pub between_closed : (old new : Checker) (h : Head) (n : ℕ) → (inside : IsInside old h n) → Settles old h inside.begun.start new → (h.rec ≡ 8) ⊎ (n ≡ 0) → IsBetween new
-between_closed old new h n inside settles ends =
-    let s = closed_store old new h n (is_kept h.rec) refl inside settles ends in
-    let limit : new.limits.octets ≡ old.limits.octets = ap (λ (l : Limits). l.octets) settles.limits in
-    let most : new.limits.fields ≡ old.limits.fields = ap (λ (l : Limits). l.fields) settles.limits in
-    record {
-      between = settles.phase;
-      store = record { octets = omega (arith, s.1, inside.store.octets); entries = omega (arith, s.2, inside.store.entries); small = subst AreSmall (sym settles.limits) inside.store.small };
-      within = omega (arith, s.0);
-    }
-
-entries_append : (from : ℕ) (ks : List Dataset) (d : Dataset)
+pub entries_append : (from : ℕ) (ks : List Dataset) (d : Dataset)
     → entries_of from (ks ++ d ∷ []) ≡ entries_of from ks ++ record { rec = d.rec; set = d.set; end = from + length (joined ks) + length d.octets } ∷ []
 entries_append from [] d = ap (λ (n : ℕ). record { rec = d.rec; set = d.set; end = n } ∷ []) (omega arith)
 entries_append from (k ∷ ks) d =
@@ -345,7 +92,7 @@ entries_append from (k ∷ ks) d =
     ap (λ es. record { rec = k.rec; set = k.set; end = from + length k.octets } ∷ es)
     (entries_append (from + length k.octets) ks d ∙ ap (λ (n : ℕ). entries_of (from + length k.octets) ks ++ record { rec = d.rec; set = d.set; end = n } ∷ []) sum)
 
-joined_more : (ks : List Dataset) (d : Dataset) → joined (ks ++ d ∷ []) ≡ joined ks ++ d.octets
+pub joined_more : (ks : List Dataset) (d : Dataset) → joined (ks ++ d ∷ []) ≡ joined ks ++ d.octets
 joined_more ks d = flat_map-append (λ (x : Dataset). x.octets) ks (d ∷ []) ∙ ap (λ (xs : List ℕ). joined ks ++ xs) (append-nil d.octets)
 
 pub kept_more : (ds : List Dataset) (d : Dataset) → is_kept d.rec ≡ true → kept (ds ++ d ∷ []) ≡ kept ds ++ d ∷ []
@@ -354,36 +101,322 @@ kept_more ds d is = filter-append (λ (x : Dataset). is_kept x.rec) ds (d ∷ []
 pub kept_other : (ds : List Dataset) (d : Dataset) → is_kept d.rec ≡ false → kept (ds ++ d ∷ []) ≡ kept ds
 kept_other ds d is = filter-append (λ (x : Dataset). is_kept x.rec) ds (d ∷ []) ∙ (ap (λ (b : Bool). kept ds ++ cond b (d ∷ []) []) is ∙ append-nil (kept ds))
 
-kept_not_object : (n : ℕ) → is_kept n ≡ true → n ≢ 8
+pub kept_not_object : (n : ℕ) → is_kept n ≡ true → n ≢ 8
 kept_not_object n is same = let bad : is_kept 8 ≡ true = subst (λ (m : ℕ). is_kept m ≡ true) same is in cc
 
--- what the store holds behind the dataset
-holds_closed : (old new : Checker) (ds : List Dataset) (h : Head) (taken : List ℕ) (d : Dataset) (b : Bool) → is_kept h.rec ≡ b → (stands : StandsIn old ds h taken)
-    → Settles old h stands.inside.1.begun.start new → IsOf h taken d → Holds new.store (kept (ds ++ d ∷ [])) []
-holds_closed old new ds h taken d true is stands settles of =
-    let d_kept : is_kept d.rec ≡ true = subst (λ (k : Head). is_kept k.rec ≡ true) (sym of.head) is in
-    let same : d.octets ≡ taken = of.given (kept_not_object h.rec is) in
-    let more = kept_more ds d d_kept in
-    let c = counts old ds taken stands.holds in
-    let end : vec_len old.store.octets ≡ 0 + length (joined (kept ds)) + length d.octets = omega (arith, c.0, ap (λ (xs : List ℕ). length xs) same) in
-    let rec_is : h.rec ≡ d.rec = ap (λ (k : Head). k.rec) (sym of.head) in
-    let set_is : h.set ≡ d.set = ap (λ (k : Head). k.set) (sym of.head) in
-    let entries_now : new.store.entries.items ≡ entries_of 0 (kept ds) ++ record { rec = d.rec; set = d.set; end = 0 + length (joined (kept ds)) + length d.octets } ∷ [] =
-    settles.kept_entries is ∙ (λ i. stands.holds.entries i ++ record { rec = rec_is i; set = set_is i; end = end i } ∷ []) in
+ends_of : (from : ℕ) (ks : List Dataset) → ends_at from (entries_of from ks) ≡ from + length (joined ks)
+ends_of from [] = omega arith
+ends_of from (k ∷ ks) = ends_of (from + length k.octets) ks ∙ omega (arith, length-append k.octets (joined ks))
+
+ends_at_length : (ks : List Dataset) → ends_at 0 (entries_of 0 ks) ≡ length (joined ks)
+ends_at_length ks = ends_of 0 ks ∙ omega arith
+
+pub begun_held : (store : Store) (ks : List Dataset) (more : List ℕ) → Holds store ks more → begun_octets store ≡ more
+begun_held store ks more holds =
+    (λ i. drop (ends_at 0 (holds.entries i)) (holds.octets i)) ∙ (ap (λ (n : ℕ). drop n (joined ks ++ more)) (ends_at_length ks) ∙ drop-append_seam (joined ks) more)
+
+-- what a store with these datasets has
+pub store_is : (store : Store) (ks : List Dataset) (more : List ℕ) → Holds store ks more → IsStore store
+store_is store ks more holds = record {
+  entries = holds.entries ∙ ap (entries_of 0) (sym (fields_held store ks more holds));
+  octets = holds.octets ∙ sym (λ i. joined (fields_held store ks more holds i) ++ begun_held store ks more holds i);
+}
+
+pub counts : (store : Store) (ks : List Dataset) (more : List ℕ) → Holds store ks more → (vec_len store.octets ≡ length (joined ks) + length more) × (vec_len store.entries ≡ length ks)
+counts store ks more holds = (
+  store.octets.ok.0 ∙ (ap (λ (xs : List ℕ). length xs) holds.octets ∙ length-append (joined ks) more),
+  store.entries.ok.0 ∙ (ap (λ xs. length xs) holds.entries ∙ length-entries_of 0 ks),
+)
+
+-- the octets of a begun dataset are in the store
+pub ends_within : (store : Store) → IsStore store → ends_at 0 store.entries.items ≤ vec_len store.octets
+ends_within store is =
+    let c = counts store (fields_of store) (begun_octets store) is in
+    let e : ends_at 0 store.entries.items ≡ length (joined (fields_of store)) = ap (ends_at 0) is.entries ∙ ends_at_length (fields_of store) in omega (arith, c.0, e)
+
+-- the store of a reader that has kept those
+holds_kept : (store : Store) (ds : List Dataset) → IsStore store → fields_of store ≡ kept ds → Holds store (kept ds) (begun_octets store)
+holds_kept store ds is same = subst (λ (ks : List Dataset). Holds store ks (begun_octets store)) same is
+
+nothing_of_two : (xs ys : List ℕ) → xs ++ ys ≡ [] → (xs ≡ []) × (ys ≡ [])
+nothing_of_two [] ys h = (refl, h)
+nothing_of_two (x ∷ xs) ys h = absurd cc
+
+-- ---- the start
+
+pub reading_start : (check : Option RecordPlace) (limits : Limits) (store : Store) → checks.IsBetween check → HasChecked check [] → store.octets.items ≡ [] → store.entries.items ≡ [] → HasRoom limits store
+    → StandsBehind (place_of check limits store []) [] × IsReading check limits store []
+reading_start check limits store between checked octets entries room =
+    let holds : Holds store [] [] = record { entries = entries; octets = octets } in
+    let none : begun_octets store ≡ [] = begun_held store [] [] holds in
+    let stands : StandsBehind (place_of check limits store []) [] = record {
+      between = between;
+      checked = checked;
+      alive = checked.alive;
+      within = record { octets_in = omega arith; fields_in = omega arith };
+      kept_are = fields_held store [] [] holds;
+      taken_are = append-nil (begun_octets store) ∙ none;
+    } in (
+      stands,
+      record {
+        room = room;
+        store_is = store_is store [] [] holds;
+        stands = inr (inl ([], stands));
+        in_store = λ _ _ _. refl;
+        in_size = λ _ _ _. none;
+      },
+    )
+
+-- ---- where it stands
+
+-- nothing is begun
+pub none_begun : (check : Option RecordPlace) (o : _) (h : Head) → check ≡ Some (record { order = o; begun = None }) → IsIn check h → ⊥
+none_begun check o h e a = let clash = one_begun check o a.order None (Some (record { head = h; row = a.row })) e a.inside in cc
+
+-- between datasets it stands after some
+pub between_behind : (f : FieldsPlace) → (f.check ≡ None) ⊎ StandsSomewhere f → IsBetween f → (ds : List Dataset) × StandsBehind f ds
+between_behind f (inl none) t = let clash = sym t.between ∙ none in cc
+between_behind f (inr (inl (ds, s))) t = (ds, s)
+between_behind f (inr (inr (ds, h, taken, s))) t = absurd (none_begun f.check t.order h t.between s.inside.1.head)
+
+-- in a dataset it stands in one
+failed_in : (check : Option RecordPlace) (h : Head) → check ≡ None → IsIn check h → ⊥
+failed_in check h none a = let clash = sym a.inside ∙ none in cc
+
+pub inside_in : (f : FieldsPlace) (h : Head) → (f.check ≡ None) ⊎ StandsSomewhere f → IsIn f.check h → (ds : List Dataset) × (g : Head) × (taken : List ℕ) × StandsIn f ds g taken
+inside_in f h (inl none) a = absurd (failed_in f.check h none a)
+inside_in f h (inr (inl (ds, s))) a = absurd (none_begun f.check s.between.order h s.between.between a)
+inside_in f h (inr (inr (ds, g, taken, s))) a = (ds, g, taken, s)
+
+pub head_in : (check : Option RecordPlace) (h : Head) → IsIn check h → begun_head check ≡ Some h
+head_in check h a = ap begun_head a.inside
+
+pub head_checking : (check : Option RecordPlace) (ds : List Dataset) (h : Head) → IsChecking check ds h → begun_head check ≡ Some h
+head_checking check ds h a = ap begun_head a.inside
+
+same_head : (g h : Head) (o : Option Head) → o ≡ Some g → o ≡ Some h → g ≡ h
+same_head g h o e f = let both = sym e ∙ f in cc
+
+pub none_between : (check : Option RecordPlace) → checks.IsBetween check → begun_head check ≡ None
+none_between check t = ap begun_head t.between
+
+-- ---- a head
+
+pub taken_alive : (check : Option RecordPlace) (ds : List Dataset) (h : Head) → HasTaken check ds h → IsAliveAt ds h
+taken_alive check ds h t = elim (eqb_tells h.rec 8) [
+  | inl eight ↦ let (d, is, octets) = some_data h in (d, is, (t.subfile eight.1 d is octets).alive)
+  | inr other ↦ (t.checking other.1).alive
+]
+
+pub fault_of_record : (limits : Limits) (ds : List Dataset) (h : Head) (fault : FieldFault) → IsRecordFault ds h fault → IsHeadFault limits ds h fault
+fault_of_record limits ds h fault f = record {
+  first = ap (λ (o : Option FieldFault). option_or o (limits_fault limits ds h)) f.first;
+  lowest = f.lowest limits;
+  dead = λ alive _. f.dead alive;
+}
+
+-- the fault by what is kept is the fault by the datasets
+pub room_fault_is : (limits : Limits) (store : Store) (ds : List Dataset) (h : Head) → Holds store (kept ds) [] → room_fault limits (vec_len store.octets) (vec_len store.entries) h ≡ limits_fault limits ds h
+room_fault_is limits store ds h holds =
+    let c = counts store (kept ds) [] holds in
+    let first : vec_len store.octets ≡ kept_octets ds = omega (arith, c.0) in
+    ap (λ (n : ℕ). room_fault limits n (vec_len store.entries) h) first ∙ ap (λ (n : ℕ). room_fault limits (kept_octets ds) n h) c.1
+
+-- the store behind datasets
+pub holds_behind : (check : Option RecordPlace) (limits : Limits) (store : Store) (size : List ℕ) (ds : List Dataset) → IsStore store → StandsBehind (place_of check limits store size) ds → Holds store (kept ds) []
+holds_behind check limits store size ds is s =
+    subst (Holds store (kept ds)) (nothing_of_two (begun_octets store) size s.taken_are).0 (holds_kept store ds is s.kept_are)
+
+pub fault_of_room : (check new : Option RecordPlace) (limits : Limits) (store : Store) (size : List ℕ) (h : Head) (fault : FieldFault) → IsStore store
+    → ((ds : List Dataset) → HasChecked check ds → HasTaken new ds h) → room_fault limits (vec_len store.octets) (vec_len store.entries) h ≡ Some fault
+    → (ds : List Dataset) → StandsBehind (place_of check limits store size) ds → IsHeadFault limits ds h fault
+fault_of_room check new limits store size h fault is on some ds s =
+    let room : limits_fault limits ds h ≡ Some fault = sym (room_fault_is limits store ds h (holds_behind check limits store size ds is s)) ∙ some in
+    let none = head_no_fault ds h (taken_alive new ds h (on ds s.checked)) in
+    let first : first_fault limits ds h ≡ Some fault = ap (λ (o : Option FieldFault). option_or o (limits_fault limits ds h)) none ∙ room in
     record {
-      entries = entries_now ∙ (sym (entries_append 0 (kept ds) d) ∙ ap (entries_of 0) (sym more));
-      octets = ap (λ v. v.items) (settles.kept_octets is) ∙ (stands.holds.octets ∙ (ap (λ (xs : List ℕ). joined (kept ds) ++ xs) (sym same)
-          ∙ (sym (joined_more (kept ds) d) ∙ (ap joined (sym more) ∙ sym (append-nil (joined (kept (ds ++ d ∷ []))))))));
+      first = first;
+      lowest = head_fault_told limits ds h fault first;
+      dead = λ alive in_limits. no_room limits (kept_octets ds) (length (kept ds)) h fault room in_limits;
     }
-holds_closed old new ds h taken d false is stands settles of =
-    let d_other : is_kept d.rec ≡ false = subst (λ (k : Head). is_kept k.rec ≡ false) (sym of.head) is in
-    let same = kept_other ds d d_other in
-    let start : stands.inside.1.begun.start ≡ length (joined (kept ds)) = stands.start stands.inside.1.begun stands.inside.1.inside in
+
+pub stands_in : (check new : Option RecordPlace) (limits : Limits) (store : Store) (size : List ℕ) (h : Head) → IsStore store → IsIn new h
+    → ((ds : List Dataset) → HasChecked check ds → HasTaken new ds h) → room_fault limits (vec_len store.octets) (vec_len store.entries) h ≡ None
+    → (ds : List Dataset) → StandsBehind (place_of check limits store size) ds → StandsIn (place_of new limits store size) ds h []
+stands_in check new limits store size h is at on none ds s =
+    let room : limits_fault limits ds h ≡ None = sym (room_fault_is limits store ds h (holds_behind check limits store size ds is s)) ∙ none in
+    let taken = on ds s.checked in
     record {
-      entries = ap (λ v. v.items) (settles.other_entries is) ∙ (stands.holds.entries ∙ ap (entries_of 0) (sym same));
-      octets = settles.other_octets is ∙ ((λ i. take (start i) (stands.holds.octets i)) ∙ (take-append_seam (joined (kept ds)) taken
-          ∙ (ap joined (sym same) ∙ sym (append-nil (joined (kept (ds ++ d ∷ [])))))));
+      inside = (h.count, record { head = at; to_come = λ _. omega (arith, ap (λ (ys : List ℕ). length ys) s.taken_are) });
+      checked = taken;
+      alive = taken_alive new ds h taken;
+      within = λ keeps. let w = room_within limits (kept_octets ds) (length (kept ds)) h room keeps in record { octets_in = w.0; fields_in = w.1 };
+      others = s.within;
+      kept_are = s.kept_are;
+      taken_are = s.taken_are;
+      octets = tt;
+      nothing = λ _. refl;
     }
+
+-- a subfile adds nothing to what is kept
+pub stands_subfile : (f new : FieldsPlace) (ds : List Dataset) (h : Head) (taken : List ℕ) (d : Dataset) → h.rec ≡ 8 → IsBetween new → ((ds : List Dataset) → HasChecked f.check ds → HasChecked new.check ds) → new.limits ≡ f.limits
+    → new.kept ≡ f.kept → new.taken ≡ f.taken → StandsIn f ds h taken → head_of d ≡ h → Octets d.octets → StandsBehind new (ds ++ d ∷ [])
+stands_subfile f new ds h taken d eight between on limits_are kept_same taken_same s is octets =
+    let checked = on (ds ++ d ∷ []) (s.checked.subfile eight d is octets) in
+    let same = kept_other ds d (ap is_kept (ap (λ (k : Head). k.rec) is ∙ eight)) in
+    record {
+      between = between;
+      checked = checked;
+      alive = checked.alive;
+      within = subst (λ (l : Limits). IsWithin l (kept_octets (ds ++ d ∷ [])) (length (kept (ds ++ d ∷ [])))) (sym limits_are)
+          (subst (λ (ks : List Dataset). IsWithin f.limits (length (joined ks)) (length ks)) (sym same) s.others);
+      kept_are = kept_same ∙ (s.kept_are ∙ sym same);
+      taken_are = taken_same ∙ (s.taken_are ∙ s.nothing eight);
+    }
+
+pub reading_begun : (check new : Option RecordPlace) (limits : Limits) (store : Store) (size : List ℕ) (h : Head) → IsReading check limits store size → checks.IsBetween check
+    → ((ds : List Dataset) → StandsBehind (place_of check limits store size) ds → StandsIn (place_of new limits store size) ds h []) → IsReading new limits store size
+reading_begun check new limits store size h r t on =
+    let (ds, s) = between_behind (place_of check limits store size) r.stands t in
+    let none = nothing_of_two (begun_octets store) size s.taken_are in
+    record {
+      room = r.room;
+      store_is = r.store_is;
+      stands = inr (inr (ds, h, [], on ds s));
+      in_store = λ _ _ _. none.1;
+      in_size = λ _ _ _. none.0;
+    }
+
+-- ---- data
+
+-- it stands in the begun dataset, and in no other
+pub in_begun : (f : FieldsPlace) (g : Head) → IsIn f.check g → (ds : List Dataset) (h : Head) (taken : List ℕ) → StandsIn f ds h taken → h ≡ g
+in_begun f g a ds h taken s = same_head h g (begun_head f.check) (head_in f.check h s.inside.1.head) (head_in f.check g a)
+
+-- data were added
+pub stands_more : (f new : FieldsPlace) (xs : List ℕ) → new.check ≡ f.check → new.limits ≡ f.limits → new.kept ≡ f.kept → new.taken ≡ f.taken ++ xs → CanTake f (length xs)
+    → ((i : ℕ) → get_or xs i 0 < 256) → (ds : List Dataset) (h : Head) (taken : List ℕ) → StandsIn f ds h taken → StandsIn new ds h (taken ++ xs)
+stands_more f new xs check_is limits_are kept_is taken_is t small ds h taken s =
+    let (g, n, inside, other, fits) = t in
+    let same = in_begun f g inside.head ds h taken s in
+    let h_other : h.rec ≢ 8 = λ eight. other (ap (λ (k : Head). k.rec) (sym same) ∙ eight) in
+    let long : length taken + n ≡ h.count = ap (λ (ys : List ℕ). length ys + n) (sym s.taken_are) ∙ (inside.to_come other ∙ ap (λ (k : Head). k.count) (sym same)) in
+    record {
+      inside = (n - length xs, record { head = subst (λ (check : Option RecordPlace). IsIn check h) (sym check_is) s.inside.1.head; to_come = λ _. omega (arith, long, fits, length-append taken xs, ap (λ (ys : List ℕ). length ys) s.taken_are, ap (λ (ys : List ℕ). length ys) taken_is, length-append f.taken xs) });
+      checked = subst (λ (check : Option RecordPlace). HasTaken check ds h) (sym check_is) s.checked;
+      alive = s.alive;
+      within = λ keeps. subst (λ (l : Limits). IsWithin l (kept_octets ds + h.count) (length (kept ds) + 1)) (sym limits_are) (s.within keeps);
+      others = subst (λ (l : Limits). IsWithin l (kept_octets ds) (length (kept ds))) (sym limits_are) s.others;
+      kept_are = kept_is ∙ s.kept_are;
+      taken_are = taken_is ∙ ap (λ (ys : List ℕ). ys ++ xs) s.taken_are;
+      octets = octets_append taken xs s.octets (octets_of xs small);
+      nothing = λ eight. absurd (h_other eight);
+    }
+
+pub inside_more : (f new : FieldsPlace) (xs : List ℕ) → new.check ≡ f.check → new.taken ≡ f.taken ++ xs → CanTake f (length xs) → (h : Head) (n : ℕ) → IsInside f h n → IsInside new h (n - length xs)
+inside_more f new xs check_is taken_is t h n i = record {
+  head = subst (λ (check : Option RecordPlace). IsIn check h) (sym check_is) i.head;
+  to_come = λ other.
+      let (g, m, inside, g_other, fits) = t in
+      let same : h ≡ g = same_head h g (begun_head f.check) (head_in f.check h i.head) (head_in f.check g inside.head) in
+      let one = i.to_come other in
+      let two : length f.taken + m ≡ h.count = inside.to_come g_other ∙ ap (λ (k : Head). k.count) (sym same) in
+      omega (arith, one, two, fits, ap (λ (ys : List ℕ). length ys) taken_is, length-append f.taken xs);
+}
+
+-- the store has taken octets
+pub holds_more : (old new : Store) (xs : List ℕ) → new.octets.items ≡ old.octets.items ++ xs → new.entries ≡ old.entries → IsStore old → Holds new (fields_of old) (begun_octets old ++ xs)
+holds_more old new xs octets entries is = record {
+  entries = ap (λ v. v.items) entries ∙ is.entries;
+  octets = octets ∙ (ap (λ (ys : List ℕ). ys ++ xs) is.octets ∙ append_assoc (joined (fields_of old)) (begun_octets old) xs);
+}
+
+-- a dataset that will be kept has its octets in the store
+pub in_store_alone : (store : Store) (size : List ℕ) → size ≡ [] → begun_octets store ++ size ≡ begun_octets store
+in_store_alone store size none = ap (λ (ys : List ℕ). begun_octets store ++ ys) none ∙ append-nil (begun_octets store)
+
+-- the begun dataset is that of the head
+head_is : (f : FieldsPlace) (k : ℕ) (head : Head) → (t : CanTake f k) → begun_head f.check ≡ Some head → t.0 ≡ head
+head_is f k head t is = same_head t.0 head (begun_head f.check) (head_in f.check t.0 t.2.head) is
+
+pub taken_in_store : (old new : Store) (size xs : List ℕ) → size ≡ [] → new.octets.items ≡ old.octets.items ++ xs → new.entries ≡ old.entries → IsStore old
+    → (fields_of new ≡ fields_of old) × (begun_octets new ++ size ≡ (begun_octets old ++ size) ++ xs)
+taken_in_store old new size xs none octets entries is =
+    let holds = holds_more old new xs octets entries is in (
+      fields_held new (fields_of old) (begun_octets old ++ xs) holds,
+      in_store_alone new size none ∙ (begun_held new (fields_of old) (begun_octets old ++ xs) holds ∙ ap (λ (ys : List ℕ). ys ++ xs) (sym (in_store_alone old size none))),
+    )
+
+-- the octets were taken into the store
+pub reading_stored : (check : Option RecordPlace) (limits : Limits) (old new : Store) (size xs : List ℕ) (head : Head) → IsReading check limits old size → CanTake (place_of check limits old size) (length xs)
+    → begun_head check ≡ Some head → is_kept head.rec ≡ true → new.octets.items ≡ old.octets.items ++ xs → new.entries ≡ old.entries → vec_capacity new.octets ≡ vec_capacity old.octets
+    → ((i : ℕ) → get_or xs i 0 < 256) → IsReading check limits new size
+reading_stored check limits old new size xs head r t is keeps octets entries capacity small =
+    let none = r.in_store head is keeps in
+    let both = taken_in_store old new size xs none octets entries r.store_is in
+    let (ds, g, taken, s) = inside_in (place_of check limits old size) t.0 r.stands t.2.head in
+    record {
+      room = record {
+        small_octets = r.room.small_octets;
+        small_fields = r.room.small_fields;
+        octets = omega (arith, r.room.octets, capacity);
+        entries = omega (arith, r.room.entries, ap (λ v. vec_capacity v) entries);
+      };
+      store_is = store_is new (fields_of old) (begun_octets old ++ xs) (holds_more old new xs octets entries r.store_is);
+      stands = inr (inr (ds, g, taken ++ xs, stands_more (place_of check limits old size) (place_of check limits new size) xs refl refl both.0 both.1 t small ds g taken s));
+      in_store = λ _ _ _. none;
+      in_size = λ h e not_kept. let same : h ≡ head = same_head h head (begun_head check) e is in let clash = sym keeps ∙ (ap (λ (k : Head). is_kept k.rec) (sym same) ∙ not_kept) in cc;
+    }
+
+-- the octets were taken into the size
+pub taken_in_size : (store : Store) (old new xs : List ℕ) → new ≡ old ++ xs → begun_octets store ++ new ≡ (begun_octets store ++ old) ++ xs
+taken_in_size store old new xs is = ap (λ (ys : List ℕ). begun_octets store ++ ys) is ∙ sym (append_assoc (begun_octets store) old xs)
+
+pub reading_sized : (check : Option RecordPlace) (limits : Limits) (store : Store) (old new xs : List ℕ) (head : Head) → IsReading check limits store old → CanTake (place_of check limits store old) (length xs)
+    → begun_head check ≡ Some head → is_kept head.rec ≡ false → new ≡ old ++ xs → ((i : ℕ) → get_or xs i 0 < 256) → IsReading check limits store new
+reading_sized check limits store old new xs head r t is not_kept more small =
+    let (ds, g, taken, s) = inside_in (place_of check limits store old) t.0 r.stands t.2.head in
+    record {
+      room = r.room;
+      store_is = r.store_is;
+      stands = inr (inr (ds, g, taken ++ xs, stands_more (place_of check limits store old) (place_of check limits store new) xs refl refl refl (taken_in_size store old new xs more) t small ds g taken s));
+      in_store = λ h e keeps. let same : h ≡ head = same_head h head (begun_head check) e is in let clash = sym not_kept ∙ (ap (λ (k : Head). is_kept k.rec) (sym same) ∙ keeps) in cc;
+      in_size = λ h e none. r.in_size head is not_kept;
+    }
+
+-- a size has room for the octets
+pub size_room : EachRowHasValues → (check : Option RecordPlace) (limits : Limits) (store : Store) (size : List ℕ) (k : ℕ) (head : Head) → IsReading check limits store size → CanTake (place_of check limits store size) k
+    → begun_head check ≡ Some head → is_kept head.rec ≡ false → length size + k ≤ size_octets
+size_room values check limits store size k head r t is not_kept =
+    let (h, n, inside, other, fits) = t in
+    let same : h ≡ head = head_is (place_of check limits store size) k head t is in
+    let a = inside.head in
+    let (ds, g, taken, s) = inside_in (place_of check limits store size) h r.stands a in
+    let g_is = in_begun (place_of check limits store size) h a ds g taken s in
+    let h_not_kept : is_kept h.rec ≡ false = ap (λ (k : Head). is_kept k.rec) same ∙ not_kept in
+    let none = head_no_fault ds h (subst (IsAliveAt ds) g_is s.alive) in
+    let high = count_fits (present_record ds) (λ n. occurs n (present_run ds)) h a.row none a.known in
+    let bound = size_row h.rec h.set a.row (kept_or_tells h.rec h.set a.row a.known other h_not_kept) a.known in
+    let all = inside.to_come other in
+    let size_is : begun_octets store ++ size ≡ size = ap (λ (ys : List ℕ). ys ++ size) (r.in_size head is not_kept) in
+    omega (arith, all, fits, high, bound.1, ap (λ (ys : List ℕ). length ys) size_is)
+
+-- the store has room for the octets
+pub store_room_for : (check : Option RecordPlace) (limits : Limits) (store : Store) (size : List ℕ) (k : ℕ) (head : Head) → IsReading check limits store size → CanTake (place_of check limits store size) k
+    → begun_head check ≡ Some head → is_kept head.rec ≡ true → vec_len store.octets + k ≤ vec_capacity store.octets
+store_room_for check limits store size k head r t is keeps =
+    let (h, n, inside, other, fits) = t in
+    let a = inside.head in
+    let same : h ≡ head = head_is (place_of check limits store size) k head t is in
+    let (ds, g, taken, s) = inside_in (place_of check limits store size) h r.stands a in
+    let g_is = in_begun (place_of check limits store size) h a ds g taken s in
+    let w = s.within (ap (λ (k : Head). is_kept k.rec) (g_is ∙ same) ∙ keeps) in
+    let all : length (begun_octets store ++ size) + n ≡ g.count = inside.to_come other ∙ ap (λ (k : Head). k.count) (sym g_is) in
+    let alone = ap (λ (ys : List ℕ). length ys) (in_store_alone store size (r.in_store head is keeps)) in
+    let c = counts store (kept ds) (begun_octets store) (holds_kept store ds r.store_is s.kept_are) in
+    omega (arith, c.0, all, alone, w.octets_in, fits, r.room.octets)
+
+-- ---- the end of a dataset
 
 -- the limits behind the dataset
 within_closed : (limits : Limits) (ds : List Dataset) (h : Head) (d : Dataset) (b : Bool) → is_kept h.rec ≡ b → head_of d ≡ h
@@ -401,102 +434,147 @@ within_closed limits ds h d true is head in_limits others =
 within_closed limits ds h d false is head in_limits others =
     subst (λ (ks : List Dataset). IsWithin limits (length (joined ks)) (length ks)) (sym (kept_other ds d (subst (λ (k : Head). is_kept k.rec ≡ false) (sym head) is))) others
 
--- subfiles have no fault
-subfile_fine : (row : Row) (d : Dataset) → row.kind ≡ kinds.Octets → within row.min row.max (length d.octets) ≡ true → is_file_format d ≡ false → fault_by_row (Some row) d ≡ None
-subfile_fine row d kind fits other =
-    let any : is_admitted row d.octets ≡ true = and_from (within row.min row.max (length d.octets)) (has_kind row.kind d.octets) fits (ap (λ (k : Kind). has_kind k d.octets) kind) in
-    fine (is_admitted row d.octets) (is_file_format d) (number d.octets == 2) _ _ any other
-  where
-    fine : (a b e : Bool) (f g : FieldFault) → a ≡ true → b ≡ false → (if not a then Some f else if not (not b || e) then Some g else None) ≡ None
-    fine true false e f g h k = refl
-    fine true true e f g h k = absurd cc
-    fine false b e f g h k = absurd cc
-
-subfile_value : (ds : List Dataset) (d : Dataset) → IsAliveAt ds (head_of d) → d.rec ≡ 8 → value_fault d ≡ None
-subfile_value ds d at eight =
-    let f = no_fault_parts (present_record ds) (λ n. occurs n (present_run ds)) (head_of d) (head_no_fault ds (head_of d) at) in
-    let known : row_of 8 d.set ≡ Some f.row = subst (λ (r : ℕ). row_of r d.set ≡ Some f.row) eight f.known in
-    let other : is_file_format d ≡ false = ap (λ (r : ℕ). nat_eq r 1 && nat_eq d.set 20) eight in
-    ap (λ (o : Option Row). fault_by_row o d) f.known ∙ subfile_fine f.row d (object_kind d.set f.row known) f.fits other
-
--- what the store has of the begun dataset
-pub begun_taken : (old : Checker) (ds : List Dataset) (h : Head) (taken : List ℕ) (begun : Begun) → old.phase ≡ phases.Inside begun → StandsIn old ds h taken
-    → begun_data old begun ≡ data_of h taken
-begun_taken old ds h taken begun before stands =
-    let same = same_begun old begun h stands.inside.0 before stands.inside.1 in
-    let head : begun.head ≡ h = ap (λ (b : Begun). b.head) (sym same) ∙ stands.inside.1.head in
-    let start : begun.start ≡ length (joined (kept ds)) = stands.start begun before in
-    let rest : drop begun.start old.store.octets.items ≡ taken = (λ i. drop (start i) (stands.holds.octets i)) ∙ drop-append_seam (joined (kept ds)) taken in
-    λ i. data_of (head i) (rest i)
-
-pub stands_closed : EachRowHasValues → (old new : Checker) (begun : Begun) (number : Option ℕ) → old.phase ≡ phases.Inside begun → CanClose old → Settles old begun.head begun.start new
-    → (begun.head.rec ≡ 8 → number ≡ None) → (begun.head.rec ≢ 8 → number ≡ number_told (begun_data old begun)) → (begun.head.rec ≢ 8 → value_fault (begun_data old begun) ≡ None)
-    → (ds : List Dataset) (h : Head) (taken : List ℕ) → StandsIn old ds h taken → (d : Dataset) → IsOf h taken d → StandsBehind new (ds ++ d ∷ []) × (number ≡ number_told d)
-stands_closed values old new begun number before (k, m, inside, ends) settles none told fine ds h taken stands d of =
-    let begun_same = same_begun old begun h stands.inside.0 before stands.inside.1 in
-    let head : begun.head ≡ h = ap (λ (b : Begun). b.head) (sym begun_same) ∙ stands.inside.1.head in
-    let other_same = same_begun old begun k m before inside in
-    let k_head : k ≡ begun.head = sym inside.head ∙ ap (λ (b : Begun). b.head) other_same in
-    let settles_k : Settles old k inside.begun.start new = subst (λ (x : Head). Settles old x inside.begun.start new) (sym k_head) (subst (λ (b : Begun). Settles old begun.head b.start new) (sym other_same) settles) in
-    let settles_h : Settles old h stands.inside.1.begun.start new = subst (λ (x : Head). Settles old x stands.inside.1.begun.start new) head (subst (λ (b : Begun). Settles old begun.head b.start new) (sym begun_same) settles) in
-    let at : IsAliveAt ds (head_of d) = subst (IsAliveAt ds) (sym of.head) stands.alive in
-    let rec_is : d.rec ≡ h.rec = ap (λ (x : Head). x.rec) of.head in
-    let begun_rec : begun.head.rec ≡ d.rec = ap (λ (x : Head). x.rec) head ∙ sym rec_is in
-    let data_is = begun_taken old ds h taken begun before stands in
-    let d_is : (d.rec ≢ 8) → data_of h taken ≡ d = λ not8. λ i. record {
-      rec = sym rec_is i;
-      set = sym (ap (λ (x : Head). x.set) of.head) i;
-      octets = sym (of.given (λ e. not8 (rec_is ∙ e))) i;
-    } in
-    let value : value_fault d ≡ None = elim (eqb_tells d.rec 8) [
-      | inl eight ↦ subfile_value ds d at eight.1
-      | inr other ↦ subst (λ (x : Dataset). value_fault x ≡ None) (data_is ∙ d_is other.1) (fine (λ e. other.1 (sym begun_rec ∙ e)))
-    ] in
-    let told_d : number ≡ number_told d = elim (eqb_tells d.rec 8) [
-      | inl eight ↦ none (begun_rec ∙ eight.1) ∙ sym (ap (λ (r : ℕ). cond (tells_number r) (Some (Rattle.iim_dataset.specs.Octets.number d.octets)) None) eight.1)
-      | inr other ↦ told (λ e. other.1 (sym begun_rec ∙ e)) ∙ ap number_told (data_is ∙ d_is other.1)
-    ] in (
-      record {
-        between = between_closed old new k m inside settles_k ends;
-        alive = value_alive values ds d at of.octets value;
-        within = subst (λ (l : Limits). IsWithin l (kept_octets (ds ++ d ∷ [])) (length (kept (ds ++ d ∷ [])))) (sym settles.limits)
-            (within_closed old.limits ds h d (is_kept h.rec) refl of.head stands.within stands.others);
-        order = subst (λ (o : Order). Tells o (ds ++ d ∷ [])) (sym settles.order) (stands.order d of.head);
-        holds = holds_closed old new ds h taken d (is_kept h.rec) refl stands settles_h of;
-      },
-      told_d,
+-- what closes has taken all data of its dataset, unless that is a subfile
+pub closes_in : (f : FieldsPlace) (g : Head) → CanClose f → begun_head f.check ≡ Some g → IsIn f.check g × (g.rec ≢ 8 → length f.taken ≡ g.count)
+closes_in f g (h, n, inside, ended) is =
+    let same : h ≡ g = same_head h g (begun_head f.check) (head_in f.check h inside.head) is in (
+      subst (IsIn f.check) same inside.head,
+      (λ other.
+          let h_other : h.rec ≢ 8 = λ eight. other (ap (λ (k : Head). k.rec) (sym same) ∙ eight) in
+          let rest : n ≡ 0 = elim ended [
+            | inl eight ↦ absurd (h_other eight)
+            | inr done ↦ done
+          ] in
+          let long : length f.taken ≡ h.count = omega (arith, inside.to_come h_other, rest) in
+          long ∙ ap (λ (k : Head). k.count) same),
     )
 
-pub value_fault_is : (old : Checker) (begun : Begun) (fault : FieldFault) → old.phase ≡ phases.Inside begun → begun.head.rec ≢ 8 → value_fault (begun_data old begun) ≡ Some fault
-    → (ds : List Dataset) (h : Head) (taken : List ℕ) → StandsIn old ds h taken → IsValueFault ds (data_of h taken) fault
-value_fault_is old begun fault before not8 some ds h taken stands =
-    let data_is = begun_taken old ds h taken begun before stands in
-    let here : value_fault (data_of h taken) ≡ Some fault = subst (λ (x : Dataset). value_fault x ≡ Some fault) data_is some in
+-- a subfile ends
+pub closed_subfile : (f new : FieldsPlace) (g : Head) → IsIn f.check g → g.rec ≡ 8 → IsBetween new → ((ds : List Dataset) → HasChecked f.check ds → HasChecked new.check ds) → new.limits ≡ f.limits → new.kept ≡ f.kept → new.taken ≡ f.taken
+    → (ds : List Dataset) (h : Head) (taken : List ℕ) → StandsIn f ds h taken → (d : Dataset) → IsOf h taken d → StandsBehind new (ds ++ d ∷ []) × (None ≡ number_told d)
+closed_subfile f new g a eight between on limits_are kept_same taken_same ds h taken s d of =
+    let h_eight : h.rec ≡ 8 = ap (λ (k : Head). k.rec) (in_begun f g a ds h taken s) ∙ eight in (
+      stands_subfile f new ds h taken d h_eight between on limits_are kept_same taken_same s of.head of.octets,
+      ap (λ (r : ℕ). cond (tells_number r) (Some (Rattle.iim_dataset.specs.Octets.number d.octets)) None) (sym (ap (λ (k : Head). k.rec) of.head ∙ h_eight)),
+    )
+
+pub somewhere_subfile : (f new : FieldsPlace) (g : Head) → (f.check ≡ None) ⊎ StandsSomewhere f → IsIn f.check g → g.rec ≡ 8 → IsBetween new → ((ds : List Dataset) → HasChecked f.check ds → HasChecked new.check ds) → new.limits ≡ f.limits
+    → new.kept ≡ f.kept → new.taken ≡ f.taken → StandsSomewhere new
+somewhere_subfile f new g stands a eight between on limits_are kept_same taken_same =
+    let (ds, h, taken, s) = inside_in f g stands a in
+    let h_eight : h.rec ≡ 8 = ap (λ (k : Head). k.rec) (in_begun f g a ds h taken s) ∙ eight in
+    let (d, is, octets) = some_data h in
+    inl (ds ++ d ∷ [], stands_subfile f new ds h taken d h_eight between on limits_are kept_same taken_same s is octets)
+
+-- what was kept of a dataset that ended
+pub data Kept (old : List Dataset) (d : Dataset) (new : List Dataset) : Type 0 where
+  Added : is_kept d.rec ≡ true → new ≡ old ++ d ∷ [] → Kept old d new
+  Passed : is_kept d.rec ≡ false → new ≡ old → Kept old d new
+
+kept_now : (ds : List Dataset) (d : Dataset) (old new : List Dataset) → old ≡ kept ds → Kept old d new → new ≡ kept (ds ++ d ∷ [])
+kept_now ds d old new is (Added keeps more) = more ∙ (ap (λ (ks : List Dataset). ks ++ d ∷ []) is ∙ sym (kept_more ds d keeps))
+kept_now ds d old new is (Passed passes same) = same ∙ (is ∙ sym (kept_other ds d passes))
+
+-- the value was taken
+pub stands_closed : (f new : FieldsPlace) (g : Head) (number : Option ℕ) → IsIn f.check g → g.rec ≢ 8 → IsBetween new → length f.taken ≡ g.count → new.limits ≡ f.limits → new.taken ≡ [] → Kept f.kept (data_of g f.taken) new.kept
+    → ((ds : List Dataset) (h : Head) → IsChecking f.check ds h → HasChecked new.check (ds ++ data_of h f.taken ∷ []) × (number ≡ number_told (data_of h f.taken)))
+    → (ds : List Dataset) (h : Head) (taken : List ℕ) → StandsIn f ds h taken → (d : Dataset) → IsOf h taken d → StandsBehind new (ds ++ d ∷ []) × (number ≡ number_told d)
+stands_closed f new g number a g_other between all limits_are none keeps on ds h taken s d of =
+    let same = in_begun f g a ds h taken s in
+    let other : h.rec ≢ 8 = λ eight. g_other (ap (λ (k : Head). k.rec) (sym same) ∙ eight) in
+    let one = on ds h (s.checked.checking other) in
+    let head = of.head in
+    let d_is : data_of h f.taken ≡ d = λ i. record {
+      rec = sym (ap (λ (k : Head). k.rec) head) i;
+      set = sym (ap (λ (k : Head). k.set) head) i;
+      octets = (s.taken_are ∙ sym (of.given other)) i;
+    } in
+    let g_is : data_of g f.taken ≡ d = ap (λ (k : Head). data_of k f.taken) (sym same) ∙ d_is in
+    let checked : HasChecked new.check (ds ++ d ∷ []) = subst (λ (x : Dataset). HasChecked new.check (ds ++ x ∷ [])) d_is one.0 in (
+      record {
+        between = between;
+        checked = checked;
+        alive = checked.alive;
+        within = subst (λ (l : Limits). IsWithin l (kept_octets (ds ++ d ∷ [])) (length (kept (ds ++ d ∷ [])))) (sym limits_are)
+            (within_closed f.limits ds h d (is_kept h.rec) refl head s.within s.others);
+        kept_are = kept_now ds d f.kept new.kept s.kept_are (subst (λ (x : Dataset). Kept f.kept x new.kept) g_is keeps);
+        taken_are = none;
+      },
+      one.1 ∙ ap number_told d_is,
+    )
+
+-- the value was refused
+pub refused_value : (f : FieldsPlace) (g : Head) (xs : List ℕ) (fault : FieldFault) → IsIn f.check g → g.rec ≢ 8 → xs ≡ f.taken → ((ds : List Dataset) (h : Head) → IsChecking f.check ds h → IsValueFault ds (data_of h xs) fault)
+    → (ds : List Dataset) (h : Head) (taken : List ℕ) → StandsIn f ds h taken → IsValueFault ds (data_of h taken) fault
+refused_value f g xs fault a g_other same on ds h taken s =
+    let other : h.rec ≢ 8 = λ eight. g_other (ap (λ (k : Head). k.rec) (sym (in_begun f g a ds h taken s)) ∙ eight) in
+    subst (λ (ys : List ℕ). IsValueFault ds (data_of h ys) fault) (same ∙ s.taken_are) (on ds h (s.checked.checking other))
+
+-- it stands somewhere after the value
+pub somewhere_closed : (f new : FieldsPlace) (g : Head) (number : Option ℕ) → (f.check ≡ None) ⊎ StandsSomewhere f → IsIn f.check g → length f.taken ≡ g.count
+    → ((ds : List Dataset) (h : Head) (taken : List ℕ) → StandsIn f ds h taken → (d : Dataset) → IsOf h taken d → StandsBehind new (ds ++ d ∷ []) × (number ≡ number_told d)) → StandsSomewhere new
+somewhere_closed f new g number stands a all on =
+    let (ds, h, taken, s) = inside_in f g stands a in
+    let same = in_begun f g a ds h taken s in
+    let long : length taken ≡ h.count = ap (λ (ys : List ℕ). length ys) (sym s.taken_are) ∙ (all ∙ ap (λ (k : Head). k.count) (sym same)) in
+    inl (ds ++ data_of h taken ∷ [], (on ds h taken s (data_of h taken) (record { head = (λ i. record { rec = h.rec; set = h.set; count = long i }); octets = s.octets; given = λ _. refl })).0)
+
+-- nothing is begun
+no_head : (check : Option RecordPlace) → checks.IsBetween check → (h : Head) → begun_head check ≡ Some h → ⊥
+no_head check t h e = let clash = sym e ∙ none_between check t in cc
+
+-- the dataset is kept in the store
+pub holds_kept_more : (old new : Store) (h : Head) → IsStore old → new.octets ≡ old.octets → new.entries.items ≡ old.entries.items ++ record { rec = h.rec; set = h.set; end = vec_len old.octets } ∷ []
+    → Holds new (fields_of old ++ data_of h (begun_octets old) ∷ []) []
+holds_kept_more old new h is octets entries =
+    let ks = fields_of old in
+    let d = data_of h (begun_octets old) in
+    let c = counts old ks (begun_octets old) is in
+    let end : vec_len old.octets ≡ 0 + length (joined ks) + length (begun_octets old) = omega (arith, c.0) in
     record {
-      value = λ e. not8 (ap (λ (x : Dataset). x.rec) data_is ∙ e);
-      first = here;
-      lowest = λ limits. value_fault_told limits ds (data_of h taken) fault here;
-      dead = λ alive. let none = value_no_fault ds (data_of h taken) alive in cc;
+      entries = entries ∙ ((λ i. is.entries i ++ record { rec = h.rec; set = h.set; end = end i } ∷ []) ∙ sym (entries_append 0 ks d));
+      octets = ap (λ v. v.items) octets ∙ (is.octets ∙ (sym (joined_more ks d) ∙ sym (append-nil (joined (ks ++ d ∷ [])))));
     }
 
--- ---- a whole dataset
+pub kept_in_store : (old new : Store) (size : List ℕ) (h : Head) → size ≡ [] → IsStore old → is_kept h.rec ≡ true → new.octets ≡ old.octets
+    → new.entries.items ≡ old.entries.items ++ record { rec = h.rec; set = h.set; end = vec_len old.octets } ∷ []
+    → Kept (fields_of old) (data_of h (begun_octets old ++ size)) (fields_of new) × (begun_octets new ++ size ≡ [])
+kept_in_store old new size h none is keeps octets entries =
+    let holds = holds_kept_more old new h is octets entries in (
+      Added keeps (fields_held new _ [] holds ∙ ap (λ (ys : List ℕ). fields_of old ++ data_of h ys ∷ []) (sym (in_store_alone old size none))),
+      in_store_alone new size none ∙ begun_held new _ [] holds,
+    )
 
-pub can_take : (f : Checker) (h : Head) (k : ℕ) → IsInside f h h.count → is_kept h.rec ≡ true → h.count ≡ k → CanTake f k
-can_take f h k inside is whole = (h, h.count, inside, kept_not_object h.rec is, omega arith)
+pub reading_kept : (check after : Option RecordPlace) (limits : Limits) (old new : Store) (size : List ℕ) (h : Head) → IsReading check limits old size → checks.IsBetween after → begun_head check ≡ Some h → is_kept h.rec ≡ true
+    → new.octets ≡ old.octets → new.entries.items ≡ old.entries.items ++ record { rec = h.rec; set = h.set; end = vec_len old.octets } ∷ [] → vec_capacity new.entries ≡ vec_capacity old.entries
+    → StandsSomewhere (place_of after limits new size) → IsReading after limits new size
+reading_kept check after limits old new size h r t is keeps octets entries capacity somewhere = record {
+  room = record {
+    small_octets = r.room.small_octets;
+    small_fields = r.room.small_fields;
+    octets = omega (arith, r.room.octets, ap (λ v. vec_capacity v) octets);
+    entries = omega (arith, r.room.entries, capacity);
+  };
+  store_is = store_is new _ [] (holds_kept_more old new h r.store_is octets entries);
+  stands = inr somewhere;
+  in_store = λ g e _. absurd (no_head after t g e);
+  in_size = λ g e _. absurd (no_head after t g e);
+}
 
--- the dataset is kept, once its octets were given
-pub stands_placed : EachRowHasValues → (given new : Checker) (h : Head) (start : ℕ) (xs : List ℕ) → is_kept h.rec ≡ true → h.count ≡ length xs → value_fault (data_of h xs) ≡ None
-    → Settles given h start new → (begun : Begun) → given.phase ≡ phases.Inside begun → begun.start ≡ start → (ds : List Dataset) → StandsIn given ds h xs → StandsBehind new (ds ++ data_of h xs ∷ [])
-stands_placed values given new h start xs is whole fine settles begun before from ds stands =
-    let not8 = kept_not_object h.rec is in
-    let inside = stands.inside.1 in
-    let at : inside.begun.start ≡ start = ap (λ (b : Begun). b.start) (same_begun given begun h stands.inside.0 before inside) ∙ from in
-    let rest : stands.inside.0 ≡ 0 = omega (arith, stands.inside.2 not8) in
-    let data_is = begun_taken given ds h xs inside.begun inside.inside stands in
-    let closes : CanClose given = (h, stands.inside.0, inside, inr rest) in
-    let settles_begun : Settles given inside.begun.head inside.begun.start new = subst (λ (x : Head). Settles given x inside.begun.start new) (sym inside.head) (subst (λ (s : ℕ). Settles given h s new) (sym at) settles) in
-    let counted : length xs ≡ h.count = sym whole in
-    let not8_begun : inside.begun.head.rec ≢ 8 = λ e. not8 (ap (λ (x : Head). x.rec) (sym inside.head) ∙ e) in
-    (stands_closed values given new inside.begun (number_told (begun_data given inside.begun)) inside.inside closes settles_begun (λ e. absurd (not8_begun e)) (λ _. refl)
-    (λ _. subst (λ (d : Dataset). value_fault d ≡ None) (sym data_is) fine) ds h xs stands (data_of h xs)
-    (record { head = (λ i. record { rec = h.rec; set = h.set; count = counted i }); octets = stands.octets; given = λ _. refl })).0
+pub reading_passed : (check after : Option RecordPlace) (limits : Limits) (store : Store) (old new : List ℕ) → IsReading check limits store old → checks.IsBetween after → StandsSomewhere (place_of after limits store new) → IsReading after limits store new
+reading_passed check after limits store old new r t somewhere = record {
+  room = r.room;
+  store_is = r.store_is;
+  stands = inr somewhere;
+  in_store = λ g e _. absurd (no_head after t g e);
+  in_size = λ g e _. absurd (no_head after t g e);
+}
+
+-- there is room for one entry more
+pub entry_room : (check : Option RecordPlace) (limits : Limits) (store : Store) (size : List ℕ) (h : Head) → IsReading check limits store size → IsIn check h → is_kept h.rec ≡ true → vec_len store.entries < vec_capacity store.entries
+entry_room check limits store size h r a keeps =
+    let (ds, g, taken, s) = inside_in (place_of check limits store size) h r.stands a in
+    let same = in_begun (place_of check limits store size) h a ds g taken s in
+    let w = s.within (ap (λ (k : Head). is_kept k.rec) same ∙ keeps) in
+    let c = counts store (kept ds) (begun_octets store) (holds_kept store ds r.store_is s.kept_are) in
+    omega (arith, c.1, w.fields_in, r.room.entries)

@@ -4,24 +4,14 @@ use Rattle.std.specs.Option.{option_or}
 use Rattle.iim_dataset.specs.Datasets.{Dataset, head_of}
 use Rattle.iim_fields.specs.Records.{IsGoodRecord, occurs}
 use Rattle.iim_fields.specs.Faults.{joined, first_fault, value_fault, missing_fault, missing_of, of_record, is_kept, kept, fault_on}
-use Rattle.iim_fields.specs.Stores.{Holds, Room}
-use Rattle.iim_fields.specs.Standing.{StandsBehind, room_of}
+use Rattle.iim_fields.specs.Stores.{Holds, Room, store_room, fields_of}
+use Rattle.iim_fields.specs.Checks.{HasChecked}
+use Rattle.iim_fields.specs.Standing.{IsWithin, HasRoom}
 use Rattle.iim_fields.specs.declared.limits.Limits.{Limits}
-use Rattle.iim_fields.specs.declared.store.Entry.{Entry}
 use Rattle.iim_fields.specs.declared.store.Store.{Store}
-use Rattle.iim_fields.specs.declared.checker.Checker.{Checker}
+use Rattle.iim_fields.specs.declared.check.RecordPlace.{RecordPlace}
 use Rattle.iim_fields.specs.declared.fault.FieldFault.{FieldFault}
 use Rattle.iim_fields.specs.declared.fault.FieldCause.TheVariants.{RecordOrder}
-
--- the datasets of entries, the first of which begins there, with these octets
-abbrev pub fields_from : ℕ → List Entry → List ℕ → List Dataset
-fields_from from [] xs = []
-fields_from from (e ∷ es) xs =
-    record { rec = e.rec; set = e.set; octets = take (e.end - from) xs } ∷ fields_from e.end es (drop (e.end - from) xs)
-
--- the datasets in a store
-abbrev pub fields_of : Store → List Dataset
-fields_of store = fields_from 0 store.entries.items store.octets.items
 
 -- A builder is seen as its limits, the datasets so far, and what it has room for.
 pub record Building : Type 0 where
@@ -29,14 +19,17 @@ pub record Building : Type 0 where
   pub fields : List Dataset
   pub room : Room
 
--- what a builder has whose datasets so far this checker has kept
-abbrev pub building_of : Checker → Building
-building_of checker = record { limits = checker.limits; fields = fields_of checker.store; room = room_of checker }
+-- what a builder has with these limits and this store
+abbrev pub building_of : Limits → Store → Building
+building_of limits store = record { limits = limits; fields = fields_of store; room = store_room store }
 
--- the builder's checker stands behind the datasets that are kept, and there are no others
-pub record IsBuilding (checker : Checker) : Type 0 where
-  pub stands : StandsBehind checker (fields_of checker.store)
-  pub all_kept : kept (fields_of checker.store) ≡ fields_of checker.store
+-- the builder's check stands after the datasets that are kept, and there are no others
+pub record IsBuilding (check : Option RecordPlace) (limits : Limits) (store : Store) : Type 0 where
+  pub room : HasRoom limits store
+  pub checked : HasChecked check (fields_of store)
+  pub within : IsWithin limits (length (joined (fields_of store))) (length (fields_of store))
+  pub holds : Holds store (fields_of store) []
+  pub all_kept : kept (fields_of store) ≡ fields_of store
 
 -- The first fault of a dataset that is added: its record is neither 1 nor 2, or else the fault of its head, or else of its value.
 abbrev pub add_fault : Limits → List Dataset → Dataset → Option FieldFault

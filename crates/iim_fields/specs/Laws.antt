@@ -6,10 +6,12 @@ use Rattle.iim_dataset.specs.declared.head.Head.{Head}
 use Rattle.iim_fields.specs.Records.{AreSections}
 use Rattle.iim_fields.specs.Alive.{IsAlive, IsAliveAt}
 use Rattle.iim_fields.specs.Faults.{record_fault, value_fault, first_fault}
+use Rattle.iim_fields.specs.Checks.{IsBetween, HasChecked, IsChecking}
 use Rattle.iim_fields.specs.Causes.{Token, IsFault, HasNoFault}
 use Rattle.iim_fields.specs.Causes.Token.{AtHead, AtValue}
 use Rattle.iim_fields.specs.declared.limits.Limits.{Limits}
 use Rattle.iim_fields.specs.declared.fault.FieldFault.{FieldFault}
+use Rattle.iim_fields.specs.declared.check.RecordPlace.{RecordPlace}
 
 -- Behind datasets that are alive, a head has no fault and its number is an octet exactly where the record layer is alive with it.
 abbrev pub HeadsDieWithTheirFault : Type 0
@@ -38,3 +40,9 @@ HeadsTellTheLowestCause = (limits : Limits) (ds : List Dataset) (h : Head) → T
 -- So is the first fault of a value.
 abbrev pub ValuesTellTheLowestCause : Type 0
 ValuesTellTheLowestCause = (limits : Limits) (ds : List Dataset) (d : Dataset) → Tells (value_fault d) limits ds (AtValue d)
+
+-- After the same datasets a check stands at one place, and after the same datasets and head too.
+abbrev pub DatasetsLeadToOnePlace : Type 0
+DatasetsLeadToOnePlace =
+    ((a b : Option RecordPlace) (ds : List Dataset) → IsBetween a → IsBetween b → HasChecked a ds → HasChecked b ds → a ≡ b)
+    × ((a b : Option RecordPlace) (ds : List Dataset) (h : Head) → IsChecking a ds h → IsChecking b ds h → a ≡ b)

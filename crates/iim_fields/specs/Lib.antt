@@ -4,6 +4,7 @@ pub mod Faults
 pub mod Causes
 pub mod Orders
 pub mod Values
+pub mod Checks
 pub mod Stores
 pub mod Standing
 pub mod Builders

@@ -1,115 +1,101 @@
--- What the checker of records stands at.
-use Rattle.std.specs.Prelude.{◌≡◌, ◌≢◌, ℕ, ◌+◌, ◌-◌, ◌≤◌, ◌<◌, ◌^◌, ◌⊎◌, List, [], ◌∷◌, ◌++◌, true, false, take, drop, length, Some, IsTrue, vec_len, vec_capacity}
+-- What a reader of records stands at.
+use Rattle.std.specs.Prelude.{◌≡◌, ◌≢◌, ℕ, ◌+◌, ◌≤◌, ◌<◌, ◌^◌, ◌⊎◌, List, [], ◌∷◌, ◌++◌, false, length, Option, Some, None, IsTrue, vec_capacity}
 use Rattle.iim_dataset.specs.Octets.{Octets}
 use Rattle.iim_dataset.specs.Datasets.{Dataset, head_of}
 use Rattle.iim_dataset.specs.declared.head.Head.{Head}
-use Rattle.iim_tables.specs.Numbers.{size_octets}
-use Rattle.iim_tables.specs.Rows.{row_of}
-use Rattle.iim_tables.specs.declared.shape.Row.{Row}
 use Rattle.iim_fields.specs.Alive.{IsAlive, IsAliveAt}
-use Rattle.iim_fields.specs.Faults.{first_fault, value_fault, kept, kept_octets, is_kept}
+use Rattle.iim_fields.specs.Faults.{first_fault, kept, kept_octets, is_kept}
 use Rattle.iim_fields.specs.Causes.{IsFault}
-use Rattle.iim_fields.specs.Causes.Token.{AtHead, AtValue}
-use Rattle.iim_fields.specs.Values.{data_of}
-use Rattle.iim_fields.specs.Orders.{Tells, Takes}
-use Rattle.iim_fields.specs.Stores.{Holds, Room, store_room}
+use Rattle.iim_fields.specs.Causes.Token.{AtHead}
+use Rattle.iim_fields.specs.Checks.{IsIn, HasChecked, HasTaken, HasEnded, begun_head}
+use Rattle.iim_fields.specs.Checks as checks
+use Rattle.iim_fields.specs.Stores.{Room, store_room, fields_of, begun_octets, IsStore}
 use Rattle.iim_fields.specs.declared.limits.Limits.{Limits}
+use Rattle.iim_fields.specs.declared.store.Store.{Store}
 use Rattle.iim_fields.specs.declared.fault.FieldFault.{FieldFault}
-use Rattle.iim_fields.specs.declared.checker.Checker.{Checker}
-use Rattle.iim_fields.specs.declared.checker.Begun.{Begun}
-use Rattle.iim_fields.specs.declared.checker.Phase.TheVariants as phases
+use Rattle.iim_fields.specs.declared.check.RecordPlace.{RecordPlace}
+
+-- A reader of records is seen as where its check stands, its limits, the datasets that it has kept, the octets that it has
+-- taken of a begun one, and what it has room for.
+pub record FieldsPlace : Type 0 where
+  pub check : Option RecordPlace
+  pub limits : Limits
+  pub kept : List Dataset
+  pub taken : List ℕ
+  pub room : Room
 
 -- the limits under which it reads
-abbrev pub limits_of : Checker → Limits
-limits_of checker = checker.limits
+abbrev pub limits_of : FieldsPlace → Limits
+limits_of fields = fields.limits
 
--- what its store has room for
-abbrev pub room_of : Checker → Room
-room_of checker = store_room checker.store
+-- what it has room for
+abbrev pub room_of : FieldsPlace → Room
+room_of fields = fields.room
 
--- The room that limits ask for: for their octets and a size behind them, and for their fields.
+-- The room that limits ask for: for their octets, and for their fields.
 abbrev pub room_for : Limits → Room
-room_for limits = record { octets = limits.octets + size_octets; entries = limits.fields }
+room_for limits = record { octets = limits.octets; entries = limits.fields }
+
+-- The room is enough for the limits.
+abbrev pub IsEnough : Room → Limits → Type 0
+IsEnough room limits = (limits.octets ≤ room.octets) × (limits.fields ≤ room.entries)
 
 -- Something was refused.
-abbrev pub IsFailed : Checker → Type 0
-IsFailed checker = checker.phase ≡ phases.Failed
-
--- The limits are numbers of 32 bits.
-pub record AreSmall (limits : Limits) : Type 0 where
-  pub octets : limits.octets < 2 ^ 32
-  pub fields : limits.fields < 2 ^ 32
-
--- the store has room for all that the limits allow, and for a size behind it
-pub record HasStore (checker : Checker) : Type 0 where
-  pub octets : checker.limits.octets + size_octets ≤ vec_capacity checker.store.octets
-  pub entries : checker.limits.fields ≤ vec_capacity checker.store.entries
-  pub small : AreSmall checker.limits
+abbrev pub IsFailed : FieldsPlace → Type 0
+IsFailed fields = fields.check ≡ None
 
 -- It takes a head.
-pub record IsBetween (checker : Checker) : Type 0 where
-  pub between : checker.phase ≡ phases.Between
-  pub store : HasStore checker
-  pub within : vec_len checker.store.octets ≤ checker.limits.octets
+abbrev pub IsBetween : FieldsPlace → Type 0
+IsBetween fields = checks.IsBetween fields.check
 
--- It has taken this head, and so many octets of its data are still to come.
-pub record IsInside (checker : Checker) (h : Head) (n : ℕ) : Type 0 where
-  pub begun : Begun
-  pub inside : checker.phase ≡ phases.Inside begun
-  pub head : begun.head ≡ h
-  pub to_come : begun.to_come ≡ n
-  pub known : row_of h.rec h.set ≡ Some begun.row
-  pub store : HasStore checker
-  pub start : begun.start ≤ vec_len checker.store.octets
-  pub within : begun.start ≤ checker.limits.octets
-  pub room : h.rec ≢ 8 → vec_len checker.store.octets + n ≤ checker.limits.octets + size_octets
-  pub kept_room : IsTrue (is_kept h.rec) → (vec_len checker.store.octets + n ≤ checker.limits.octets) × (vec_len checker.store.entries < checker.limits.fields)
+-- It has taken this head, and so many octets of its data are still to come. Those of a subfile do not pass here.
+pub record IsInside (fields : FieldsPlace) (h : Head) (n : ℕ) : Type 0 where
+  pub head : IsIn fields.check h
+  pub to_come : h.rec ≢ 8 → length fields.taken + n ≡ h.count
 
 -- It takes so many octets of data. What a subfile has does not pass here.
-abbrev pub CanTake : Checker → ℕ → Type 0
-CanTake checker k = (h : Head) × (n : ℕ) × IsInside checker h n × (h.rec ≢ 8) × (k ≤ n)
+abbrev pub CanTake : FieldsPlace → ℕ → Type 0
+CanTake fields k = (h : Head) × (n : ℕ) × IsInside fields h n × (h.rec ≢ 8) × (k ≤ n)
 
 -- It takes the end of a dataset: all of its octets were given, or it is a subfile.
-abbrev pub CanClose : Checker → Type 0
-CanClose checker = (h : Head) × (n : ℕ) × IsInside checker h n × ((h.rec ≡ 8) ⊎ (n ≡ 0))
+abbrev pub CanClose : FieldsPlace → Type 0
+CanClose fields = (h : Head) × (n : ℕ) × IsInside fields h n × ((h.rec ≡ 8) ⊎ (n ≡ 0))
+
+-- The last record has ended.
+abbrev pub IsEnded : FieldsPlace → Type 0
+IsEnded fields = HasEnded fields.check
 
 -- The kept data, and the number of the kept datasets, are within the limits.
 pub record IsWithin (limits : Limits) (octets fields : ℕ) : Type 0 where
   pub octets_in : octets ≤ limits.octets
   pub fields_in : fields ≤ limits.fields
 
--- It stands between datasets, behind these.
-pub record StandsBehind (checker : Checker) (ds : List Dataset) : Type 0 where
-  pub between : IsBetween checker
+-- It stands after these datasets, and has kept those of records 1 and 2.
+pub record StandsBehind (fields : FieldsPlace) (ds : List Dataset) : Type 0 where
+  pub between : IsBetween fields
+  pub checked : HasChecked fields.check ds
   pub alive : IsAlive ds
-  pub within : IsWithin checker.limits (kept_octets ds) (length (kept ds))
-  pub order : Tells checker.order ds
-  pub holds : Holds checker.store (kept ds) []
+  pub within : IsWithin fields.limits (kept_octets ds) (length (kept ds))
+  pub kept_are : fields.kept ≡ kept ds
+  pub taken_are : fields.taken ≡ []
 
--- It stands behind these datasets in one of this head, whose data so far are these.
-pub record StandsIn (checker : Checker) (ds : List Dataset) (h : Head) (taken : List ℕ) : Type 0 where
-  pub inside : (n : ℕ) × IsInside checker h n × (h.rec ≢ 8 → length taken + n ≡ h.count)
+-- It stands after these datasets in one of this head, whose data so far are these.
+pub record StandsIn (fields : FieldsPlace) (ds : List Dataset) (h : Head) (taken : List ℕ) : Type 0 where
+  pub inside : (n : ℕ) × IsInside fields h n
+  pub checked : HasTaken fields.check ds h
   pub alive : IsAliveAt ds h
-  pub within : IsTrue (is_kept h.rec) → IsWithin checker.limits (kept_octets ds + h.count) (length (kept ds) + 1)
-  pub others : IsWithin checker.limits (kept_octets ds) (length (kept ds))
+  pub within : IsTrue (is_kept h.rec) → IsWithin fields.limits (kept_octets ds + h.count) (length (kept ds) + 1)
+  pub others : IsWithin fields.limits (kept_octets ds) (length (kept ds))
+  pub kept_are : fields.kept ≡ kept ds
+  pub taken_are : fields.taken ≡ taken
   pub octets : Octets taken
-  pub order : (d : Dataset) → head_of d ≡ h → Tells checker.order (ds ++ d ∷ [])
-  pub holds : Holds checker.store (kept ds) taken
-  pub start : (begun : Begun) → checker.phase ≡ phases.Inside begun → begun.start ≡ kept_octets ds
+  pub nothing : h.rec ≡ 8 → taken ≡ []
 
--- The fault is that of the head: the first, and of the lowest number. With it no datasets within the limits go on.
+-- The fault is that of the head: the first, and of the lowest number. With it no datasets within the limits can continue.
 pub record IsHeadFault (limits : Limits) (ds : List Dataset) (h : Head) (fault : FieldFault) : Type 0 where
   pub first : first_fault limits ds h ≡ Some fault
   pub lowest : IsFault limits ds (AtHead h) fault
   pub dead : IsAliveAt ds h → (IsTrue (is_kept h.rec) → IsWithin limits (kept_octets ds + h.count) (length (kept ds) + 1)) → ⊥
-
--- The fault is that of the value, which is no subfile's: the first, and of the lowest number, under any limits. With it no datasets
--- go on.
-pub record IsValueFault (ds : List Dataset) (d : Dataset) (fault : FieldFault) : Type 0 where
-  pub value : d.rec ≢ 8
-  pub first : value_fault d ≡ Some fault
-  pub lowest : (limits : Limits) → IsFault limits ds (AtValue d) fault
-  pub dead : IsAlive (ds ++ d ∷ []) → ⊥
 
 -- The dataset has this head, and these data if its record is not 8.
 pub record IsOf (h : Head) (taken : List ℕ) (d : Dataset) : Type 0 where
@@ -117,45 +103,29 @@ pub record IsOf (h : Head) (taken : List ℕ) (d : Dataset) : Type 0 where
   pub octets : Octets d.octets
   pub given : h.rec ≢ 8 → d.octets ≡ taken
 
--- It has begun a dataset of this head and row, in whose phase nothing of it was given.
-pub record Enters (old : Checker) (h : Head) (row : Row) (new : Checker) : Type 0 where
-  pub limits : new.limits ≡ old.limits
-  pub store : new.store ≡ old.store
-  pub order : Takes old.order h new.order
-  pub phase : new.phase ≡ phases.Inside (record { head = h; row = row; start = vec_len old.store.octets; to_come = h.count })
+-- ---- from inside
 
--- the dataset of the head that was begun, with the octets that the store has of it
-abbrev pub begun_data : Checker → Begun → Dataset
-begun_data checker begun = data_of begun.head (drop begun.start checker.store.octets.items)
+-- what it is seen as whose size is these octets
+abbrev pub place_of : Option RecordPlace → Limits → Store → List ℕ → FieldsPlace
+place_of check limits store size =
+    record { check = check; limits = limits; kept = fields_of store; taken = begun_octets store ++ size; room = store_room store }
 
--- The dataset whose octets begin at `start` has ended: a kept one has an entry, of another nothing is kept.
-pub record Settles (old : Checker) (h : Head) (start : ℕ) (new : Checker) : Type 0 where
-  pub limits : new.limits ≡ old.limits
-  pub order : new.order ≡ old.order
-  pub phase : new.phase ≡ phases.Between
-  pub kept_octets : is_kept h.rec ≡ true → new.store.octets ≡ old.store.octets
-  pub kept_entries : is_kept h.rec ≡ true → new.store.entries.items ≡ old.store.entries.items ++ record { rec = h.rec; set = h.set; end = vec_len old.store.octets } ∷ []
-  pub kept_room : is_kept h.rec ≡ true → vec_capacity new.store.entries ≡ vec_capacity old.store.entries
-  pub other_entries : is_kept h.rec ≡ false → new.store.entries ≡ old.store.entries
-  pub other_octets : is_kept h.rec ≡ false → new.store.octets.items ≡ take start old.store.octets.items
-  pub other_len : is_kept h.rec ≡ false → vec_len new.store.octets ≡ start
-  pub other_room : is_kept h.rec ≡ false → vec_capacity new.store.octets ≡ vec_capacity old.store.octets
+-- It stands somewhere.
+abbrev pub StandsSomewhere : FieldsPlace → Type 0
+StandsSomewhere fields = ((ds : List Dataset) × StandsBehind fields ds) ⊎ ((ds : List Dataset) × (h : Head) × (taken : List ℕ) × StandsIn fields ds h taken)
 
--- Octets were given to the begun dataset.
-pub record Gives (old : Checker) (begun : Begun) (xs : List ℕ) (new : Checker) : Type 0 where
-  pub limits : new.limits ≡ old.limits
-  pub order : new.order ≡ old.order
-  pub phase : new.phase ≡ phases.Inside (record { head = begun.head; row = begun.row; start = begun.start; to_come = begun.to_come - length xs })
-  pub octets : new.store.octets.items ≡ old.store.octets.items ++ xs
-  pub entries : new.store.entries ≡ old.store.entries
-  pub len : vec_len new.store.octets ≡ vec_len old.store.octets + length xs
-  pub capacity : vec_capacity new.store.octets ≡ vec_capacity old.store.octets
+-- The store has room for all that the limits, numbers of 32 bits, allow.
+pub record HasRoom (limits : Limits) (store : Store) : Type 0 where
+  pub small_octets : limits.octets < 2 ^ 32
+  pub small_fields : limits.fields < 2 ^ 32
+  pub octets : limits.octets ≤ vec_capacity store.octets
+  pub entries : limits.fields ≤ vec_capacity store.entries
 
--- The last record has ended.
-abbrev pub IsEnded : Checker → Type 0
-IsEnded checker = (checker.phase ≡ phases.Between) × (checker.order.rec ≡ 9)
-
--- It stands somewhere, or something was refused.
-abbrev pub Stood : Checker → Type 0
-Stood checker =
-    IsFailed checker ⊎ (((ds : List Dataset) × StandsBehind checker ds) ⊎ ((ds : List Dataset) × (h : Head) × (taken : List ℕ) × StandsIn checker ds h taken))
+-- It stands somewhere, or something was refused; and the octets of a begun dataset are in the store if it will be kept, and else
+-- in the size.
+pub record IsReading (check : Option RecordPlace) (limits : Limits) (store : Store) (size : List ℕ) : Type 0 where
+  pub room : HasRoom limits store
+  pub store_is : IsStore store
+  pub stands : (check ≡ None) ⊎ StandsSomewhere (place_of check limits store size)
+  pub in_store : (h : Head) → begun_head check ≡ Some h → IsTrue (is_kept h.rec) → size ≡ []
+  pub in_size : (h : Head) → begun_head check ≡ Some h → is_kept h.rec ≡ false → begun_octets store ≡ []

@@ -3,7 +3,7 @@ use Rattle.std.specs.Prelude.{ℕ, List}
 use Rattle.iim_fields.specs.Views.{all_data}
 use Rattle.iim_fields.specs.declared.walk.DataIter.{DataIter}
 use Rattle.iim_dataset.specs.Datasets.{Dataset}
-use Rattle.iim_fields.specs.Builders.{fields_from}
+use Rattle.iim_fields.specs.Stores.{fields_from}
 use Rattle.iim_fields.specs.declared.walk.FieldIter.{FieldIter}
 
 -- the datasets that are left

@@ -4,12 +4,14 @@ ghost use Rattle.std.specs.Prelude.{◌≡◌, [], ◌∷◌, ◌++◌, Some, No
 ghost use Rattle.iim_fields.specs.Builders.{add_fault, finish_fault};
 ghost use Rattle.iim_fields.specs.Standing.{room_for};
 
-use crate::checker::Checker;
+use crate::check::RecordCheck;
 use crate::envelope::Envelope;
 use crate::fault::{FieldCause, FieldFault};
+use crate::fields::room_fault;
 use crate::limits::Limits;
 use crate::order::fault_on;
 use crate::records::is_kept;
+use crate::store::Store;
 use iim_dataset::Head;
 use iim_tables::each_row_has_values;
 use std::alloc::{AllocError, Global};
@@ -19,7 +21,9 @@ use std::marker::Model;
 /// which stays as it was made.
 #[derive(Drop)]
 pub struct EnvelopeBuilder {
-    checker: Checker,
+    check: RecordCheck,
+    limits: Limits,
+    store: Store,
 }
 
 impl Model for EnvelopeBuilder {
@@ -27,23 +31,26 @@ impl Model for EnvelopeBuilder {
 
     ghost Value = { Building };
 
-    ghost view = { λ b. building_of b.checker };
+    ghost view = { λ b. building_of b.limits b.store };
 
-    ghost invariant = { λ b. IsBuilding b.checker };
+    ghost invariant = { λ b. IsBuilding b.check b.limits b.store };
 }
 
 impl EnvelopeBuilder {
-    /// No datasets, with memory for just what the limits allow, and a size: no later call takes any. An error says that memory
-    /// was refused.
+    /// No datasets, with memory for just what the limits allow: no later call takes any. An error says that memory was refused.
     pub fn new(alloc: Global, limits: Limits) -> Result<EnvelopeBuilder, AllocError>
         ensures empty { IfOk result (λ builder. builder ≡ record { limits = limits; fields = []; room = room_for limits }) }
     {
-        let checker = Checker::new(alloc, limits)?;
-        Ok(EnvelopeBuilder { checker })
+        let store = Store::new(alloc, limits.octets as usize, limits.fields as usize)?;
+        Ok(EnvelopeBuilder {
+            check: RecordCheck::new(),
+            limits,
+            store,
+        })
     }
 
-    /// Adds a dataset, or answers its first fault and changes nothing: that of its head where [`crate::Fields`] stands
-    /// behind the datasets so far, or else that of its value. Records other than 1 and 2 are out of order here.
+    /// Adds a dataset, or answers its first fault and changes nothing: that of its head after the datasets so far, or
+    /// else that of its value. Records other than 1 and 2 are out of order here.
     pub fn add(&mut self, rec: u8, set: u8, octets: &[u8]) -> Result<(), FieldFault>
         ensures admitted { OnOk result (add_fault self.old.limits self.old.fields record { rec = rec; set = set; octets = octets.now } ≡ None) }
         ensures added { OnOk result (self.new ≡ record self.old { fields = self.old.fields ++ record { rec = rec; set = set; octets = octets.now } ∷ [] }) }
@@ -58,13 +65,17 @@ impl EnvelopeBuilder {
         if !is_kept(rec) {
             return Err(fault_on(head, FieldCause::RecordOrder));
         }
-        match self.checker.admit(head, octets) {
-            Ok(row) => {
-                self.checker.place(head, row, octets);
-                Ok(())
-            }
-            Err(fault) => Err(fault),
+        let mut check = self.check.copied();
+        check.head(head)?;
+        let kept = self.store.octets.len();
+        if let Some(fault) = room_fault(self.limits, kept, self.store.entries.len(), head) {
+            return Err(fault);
         }
+        check.value(octets)?;
+        self.check = check;
+        self.store.take(octets);
+        self.store.keep(rec, set);
+        Ok(())
     }
 
     /// The envelope, where nothing mandatory is absent. Else the builder is handed back as it was, with what is missing:
@@ -76,10 +87,10 @@ impl EnvelopeBuilder {
         ensures unchanged { IfErr result (λ refused. refused.0 ≡ self) }
     {
         each_row_has_values();
-        match self.checker.end_fault() {
+        match self.check.end_fault() {
             Some(fault) => Err((self, fault)),
             None => {
-                let store = self.checker.into_store();
+                let store = self.store;
                 Ok(Envelope { store })
             }
         }

@@ -18,7 +18,8 @@ pub struct Envelope {
 impl Model for Envelope {
     ghost use Rattle.std.specs.Prelude.{List};
     ghost use Rattle.iim_dataset.specs.Datasets.{Dataset};
-    ghost use Rattle.iim_fields.specs.Builders.{fields_of, IsEnvelopeStore};
+    ghost use Rattle.iim_fields.specs.Builders.{IsEnvelopeStore};
+    ghost use Rattle.iim_fields.specs.Stores.{fields_of};
 
     ghost Value = { List Dataset };
 

@@ -1,50 +1,84 @@
 //! The records of an envelope, dataset by dataset.
 
-ghost use Rattle.std.specs.Prelude.{◌≡◌, ◌≢◌, ◌-◌, ℕ, List, [], ◌∷◌, ◌++◌, length, IfOk, IfErr, OnOk, OnErr, ◌↔◌, IsTrue};
+ghost use Rattle.std.specs.Prelude.{◌≡◌, ◌≢◌, ◌+◌, ◌-◌, ◌≤◌, ◌<◌, ℕ, List, [], ◌∷◌, ◌++◌, length, vec_len, IfOk, IfErr, OnOk, OnErr, ◌↔◌, IsTrue};
 ghost use Rattle.iim_dataset.specs.Datasets.{Dataset};
 ghost use Rattle.iim_dataset.specs.declared.head.Head.{Head as HeadValue};
 ghost use Rattle.iim_fields.specs.Records.{AreSections};
-ghost use Rattle.iim_fields.specs.Faults.{kept};
+ghost use Rattle.iim_fields.specs.Faults.{kept, room_fault};
+ghost use Rattle.iim_fields.specs.Checks.{IsValueFault};
 ghost use Rattle.iim_fields.specs.Values.{number_told, data_of};
 
-use crate::checker::Checker;
+use crate::check::RecordCheck;
 use crate::envelope::Envelope;
-use crate::fault::FieldFault;
+use crate::fault::{FieldCause, FieldFault};
 use crate::limits::Limits;
+use crate::order::fault_on;
+use crate::records::{OBJECT, is_kept};
+use crate::store::Store;
+use arrayvec::ArrayVec;
 use iim_dataset::Head;
+use iim_tables::{SIZE_OCTETS, each_row_has_values};
 use std::alloc::{AllocError, Global};
 use std::marker::Model;
 
-/// A reader of the datasets of an envelope: it checks them one by one, and keeps those of records 1 and 2. What it has room for
-/// stays as it was made (`room`). Contracts see it as the checker in it.
+/// The first limit that a head passes, after so many kept octets and datasets.
+pub(crate) fn room_fault(
+    limits: Limits,
+    octets: usize,
+    fields: usize,
+    head: Head,
+) -> Option<FieldFault>
+    ensures { result ≡ room_fault limits octets fields head }
+{
+    if !is_kept(head.rec) {
+        return None;
+    }
+    if (octets as u64).saturating_add(head.count) > u64::from(limits.octets) {
+        return Some(fault_on(head, FieldCause::HeaderFull));
+    }
+    if fields as u64 >= u64::from(limits.fields) {
+        return Some(fault_on(head, FieldCause::TooManyFields));
+    }
+    None
+}
+
+/// A reader of the datasets of an envelope: it checks them one by one, and keeps those of records 1 and 2. Contracts see it as
+/// where its check stands, its limits, the datasets that it has kept, the octets that it has taken of a begun one, and what it has
+/// room for, which stays as it was made.
 #[derive(Drop)]
 pub struct Fields {
-    checker: Checker,
+    check: RecordCheck,
+    limits: Limits,
+    /// The kept datasets, and the octets of a begun one that will be kept.
+    store: Store,
+    /// The octets of a begun size, of record 7 or 9.
+    size: ArrayVec<u8, SIZE_OCTETS>,
 }
 
 impl Model for Fields {
-    ghost use Rattle.iim_fields.specs.declared.checker.Checker.{Checker};
-    ghost use Rattle.iim_fields.specs.Standing.{Stood};
+    ghost use Rattle.iim_fields.specs.Standing.{FieldsPlace, place_of, IsReading};
 
-    ghost Value = { Checker };
+    ghost Value = { FieldsPlace };
 
-    ghost view = { λ fields. fields.checker };
+    ghost view = { λ f. place_of f.check f.limits f.store f.size.items };
 
-    ghost invariant = { λ fields. Stood fields.checker };
+    ghost invariant = { λ f. IsReading f.check f.limits f.store f.size.items };
 }
 
 impl Fields {
-    ghost use Rattle.iim_fields.specs.Standing.{limits_of, room_of, room_for, IsFailed, IsBetween, IsInside, CanTake, CanClose, StandsBehind, StandsIn, IsHeadFault, IsValueFault, IsOf, IsEnded};
+    ghost use Rattle.iim_fields.specs.Standing.{limits_of, room_of, room_for, IsEnough, IsFailed, IsBetween, IsInside, CanTake, CanClose, StandsBehind, StandsIn, IsHeadFault, IsOf, IsEnded};
+    ghost use Rattle.iim_fields.specs.Stores.{store_room};
+    ghost use Rattle.std.specs.Prelude.{vec_capacity};
 
-    /// At the beginning of an envelope, with memory for just what the limits allow, and a size: no later call takes any. An
-    /// error says that memory was refused.
+    /// At the beginning of an envelope, with memory for just what the limits allow: no later call takes any. An error says that
+    /// memory was refused.
     pub fn new(alloc: Global, limits: Limits) -> Result<Fields, AllocError>
         ensures stands { IfOk result (λ fields. StandsBehind fields []) }
         ensures limits { IfOk result (λ fields. limits_of fields ≡ limits) }
         ensures room { IfOk result (λ fields. room_of fields ≡ room_for limits) }
     {
-        let checker = Checker::new(alloc, limits)?;
-        Ok(Fields { checker })
+        let store = Store::new(alloc, limits.octets as usize, limits.fields as usize)?;
+        Ok(Fields::starting(store, limits))
     }
 
     /// At the beginning of an envelope, with the memory of one that is no longer wanted, where that is enough for the limits: it
@@ -52,11 +86,33 @@ impl Fields {
     pub fn over(envelope: Envelope, limits: Limits) -> Result<Fields, Envelope>
         ensures stands { IfOk result (λ fields. StandsBehind fields []) }
         ensures limits { IfOk result (λ fields. limits_of fields ≡ limits) }
+        ensures room { IfOk result (λ fields. IsEnough (room_of fields) limits) }
         ensures handed_back { IfErr result (λ same. same ≡ envelope) }
     {
-        match Checker::over(envelope.store, limits) {
-            Ok(checker) => Ok(Fields { checker }),
+        match envelope
+            .store
+            .emptied(limits.octets as usize, limits.fields as usize)
+        {
+            Ok(store) => Ok(Fields::starting(store, limits)),
             Err(store) => Err(Envelope { store }),
+        }
+    }
+
+    /// At the beginning of an envelope, over a store that has nothing in it, and room for all that the limits allow.
+    fn starting(store: Store, limits: Limits) -> Fields
+        requires octets { store.octets.items ≡ [] }
+        requires entries { store.entries.items ≡ [] }
+        requires octets_room { limits.octets ≤ vec_capacity store.octets }
+        requires entries_room { limits.fields ≤ vec_capacity store.entries }
+        ensures stands { StandsBehind result [] }
+        ensures limits { limits_of result ≡ limits }
+        ensures room { room_of result ≡ store_room store }
+    {
+        Fields {
+            check: RecordCheck::new(),
+            limits,
+            store,
+            size: ArrayVec::new(),
         }
     }
 
@@ -64,14 +120,14 @@ impl Fields {
     pub fn limits(&self) -> Limits
         ensures { result ≡ limits_of self.now }
     {
-        self.checker.limits
+        self.limits
     }
 
     /// Whether something was refused.
     pub fn is_failed(&self) -> bool
         ensures { IsTrue result ↔ IsFailed self.now }
     {
-        self.checker.is_failed()
+        self.check.is_failed()
     }
 
     /// Takes the next head, or answers its first fault and has failed: the record layer dies with the head, or a limit
@@ -85,11 +141,17 @@ impl Fields {
         ensures limits { limits_of self.new ≡ limits_of self.old }
         ensures room { room_of self.new ≡ room_of self.old }
     {
-        self.checker.begin(head)
+        self.check.head(head)?;
+        let octets = self.store.octets.len();
+        if let Some(fault) = room_fault(self.limits, octets, self.store.entries.len(), head) {
+            self.check = RecordCheck::refused();
+            return Err(fault);
+        }
+        Ok(())
     }
 
-    /// Takes octets of the begun dataset: some that are still to come, in any pieces. The data of subfiles, 8:10, do not
-    /// pass here.
+    /// Adds the next octets of the begun dataset. Call it as often as you like, up to the count of the head. Never for a
+    /// subfile, 8:10, whose data belong to the object.
     pub fn bytes(&mut self, octets: &[u8])
         requires { CanTake self.old (length octets.now) }
         ensures inside { (h : HeadValue) (n : ℕ) → IsInside self.old h n → IsInside self.new h (n - length octets.now) }
@@ -97,7 +159,15 @@ impl Fields {
         ensures limits { limits_of self.new ≡ limits_of self.old }
         ensures room { room_of self.new ≡ room_of self.old }
     {
-        self.checker.bytes(octets);
+        each_row_has_values();
+        let Some(head) = self.check.begun() else {
+            unreachable!()
+        };
+        if is_kept(head.rec) {
+            self.store.take(octets);
+            return;
+        }
+        self.size.try_extend_from_slice(octets).unwrap();
     }
 
     /// Ends the begun dataset: answers the number that it tells if its record is 7 or 9, or the first fault of its value,
@@ -113,7 +183,21 @@ impl Fields {
         ensures limits { limits_of self.new ≡ limits_of self.old }
         ensures room { room_of self.new ≡ room_of self.old }
     {
-        self.checker.close()
+        let Some(head) = self.check.begun() else {
+            unreachable!()
+        };
+        if head.rec == OBJECT {
+            self.check.end_subfile();
+            return Ok(None);
+        }
+        if !is_kept(head.rec) {
+            let number = self.check.value(self.size.as_slice())?;
+            self.size.clear();
+            return Ok(number);
+        }
+        let number = self.check.value(self.store.begun())?;
+        self.store.keep(head.rec, head.set);
+        Ok(number)
     }
 
     /// The envelope that was kept, where 9:10 has ended and nothing was refused. Else the reader is handed back as it was.
@@ -125,10 +209,10 @@ impl Fields {
         ensures refused { OnErr result ((ds : List Dataset) → StandsBehind self ds → AreSections ds → ⊥) }
         ensures handed_back { IfErr result (λ fields. fields ≡ self) }
     {
-        if !self.checker.is_ended() {
+        if !self.check.is_ended() {
             return Err(self);
         }
-        let store = self.checker.into_store();
+        let store = self.store;
         Ok(Envelope { store })
     }
 }

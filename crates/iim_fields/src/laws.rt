@@ -1,6 +1,6 @@
 //! What holds of all datasets.
 
-ghost use Rattle.iim_fields.specs.Laws.{HeadsDieWithTheirFault, ValuesDieWithTheirFault, EnvelopesEndWithTheLastRecord, NoSectionsBeginOthers, HeadsTellTheLowestCause, ValuesTellTheLowestCause};
+ghost use Rattle.iim_fields.specs.Laws.{HeadsDieWithTheirFault, ValuesDieWithTheirFault, EnvelopesEndWithTheLastRecord, NoSectionsBeginOthers, HeadsTellTheLowestCause, ValuesTellTheLowestCause, DatasetsLeadToOnePlace};
 
 use iim_tables::each_row_has_values;
 
@@ -38,4 +38,9 @@ pub fn heads_tell_the_lowest_cause()
 /// some condition holds.
 pub fn values_tell_the_lowest_cause()
     ensures { ValuesTellTheLowestCause }
+{}
+
+/// After the same datasets a [`crate::RecordCheck`] stands at one place, and after the same datasets and head too.
+pub fn datasets_lead_to_one_place()
+    ensures { DatasetsLeadToOnePlace }
 {}

@@ -1,12 +1,13 @@
 //! The records of an envelope (IIM version 4): each dataset is checked against its row, records 1 and 2 are kept.
 //!
 //! Stands on `iim_tables` and `iim_dataset`, and on `arrayvec` and `jiff` for what the views answer. The crate above uses
-//! [`Fields`]: its `begin`, `bytes` and `close` lead from behind some datasets to behind one more, or tell the first fault of
+//! [`Fields`]: its `begin`, `bytes` and `close` lead from after some datasets to after one more, or tell the first fault of
 //! the head or value, with which the record layer is dead or a limit passed; and `into_envelope` hands over what was kept.
+//! [`RecordCheck`] is the record layer alone.
 #![tactic(auto)]
 
 mod builder;
-mod checker;
+mod check;
 mod envelope;
 mod fault;
 mod fields;
@@ -22,13 +23,15 @@ mod value;
 mod walk;
 
 pub use builder::EnvelopeBuilder;
+pub use check::RecordCheck;
 pub use envelope::Envelope;
 pub use fault::{FieldCause, FieldFault};
 pub use fields::Fields;
 pub use id::EnvelopeId;
 pub use laws::{
-    envelopes_end_with_the_last_record, heads_die_with_their_fault, heads_tell_the_lowest_cause,
-    no_sections_begin_others, values_die_with_their_fault, values_tell_the_lowest_cause,
+    datasets_lead_to_one_place, envelopes_end_with_the_last_record, heads_die_with_their_fault,
+    heads_tell_the_lowest_cause, no_sections_begin_others, values_die_with_their_fault,
+    values_tell_the_lowest_cause,
 };
 pub use limits::Limits;
 pub use walk::{DataIter, FieldIter};

@@ -12,7 +12,7 @@ use iim_dataset::Head;
 use iim_tables::{Row, row};
 
 /// What the heads so far leave open: the present record, 0 before the first, and the numbers that occurred in it.
-#[derive(Drop)]
+#[derive(Clone, Copy)]
 pub(crate) struct Order {
     rec: u8,
     seen: [bool; 256],

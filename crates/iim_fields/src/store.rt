@@ -1,7 +1,7 @@
 //! The kept datasets: their octets in one store, and an entry for each.
 
-ghost use Rattle.std.specs.Prelude.{◌≡◌, ◌+◌, ◌≤◌, ◌<◌, ◌++◌, ◌∷◌, [], IfOk, IfErr, length, vec_len, vec_capacity, take};
-ghost use Rattle.iim_fields.specs.Stores.{store_room};
+ghost use Rattle.std.specs.Prelude.{◌≡◌, ◌+◌, ◌≤◌, ◌<◌, ◌++◌, ◌∷◌, [], IfOk, IfErr, length, vec_len, vec_capacity};
+ghost use Rattle.iim_fields.specs.Stores.{store_room, ends_at, begun_octets};
 
 use std::alloc::{AllocError, Global};
 
@@ -14,7 +14,7 @@ pub(crate) struct Entry {
     pub end: usize,
 }
 
-/// The octets of the kept datasets, joined, and behind them those of a begun one; and the entries.
+/// The octets of the kept datasets, joined, and after them those of a begun one; and the entries.
 #[derive(Drop)]
 pub(crate) struct Store {
     pub octets: Vec<u8>,
@@ -67,6 +67,24 @@ impl Store {
         }
     }
 
+    /// Where the octets of the kept datasets end, and those of the begun one begin.
+    fn end(&self) -> usize
+        ensures { result ≡ ends_at 0 self.now.entries.items }
+    {
+        match self.entries.last() {
+            Some(entry) => entry.end,
+            None => 0,
+        }
+    }
+
+    /// The octets of the begun dataset.
+    pub fn begun(&self) -> &[u8]
+        requires { ends_at 0 self.now.entries.items ≤ vec_len self.now.octets }
+        ensures { result.now ≡ begun_octets self.now }
+    {
+        &self.octets[self.end()..]
+    }
+
     /// Keeps the begun dataset, whose octets are all there.
     pub fn keep(&mut self, rec: u8, set: u8)
         requires { vec_len self.old.entries < vec_capacity self.old.entries }
@@ -77,16 +95,5 @@ impl Store {
     {
         let end = self.octets.len();
         self.entries.push_reserved(Entry { rec, set, end });
-    }
-
-    /// Passes over the begun dataset, whose octets begin there.
-    pub fn pass(&mut self, start: usize)
-        requires { start ≤ vec_len self.old.octets }
-        ensures octets { self.new.octets.items ≡ take start self.old.octets.items }
-        ensures entries { self.new.entries ≡ self.old.entries }
-        ensures len { vec_len self.new.octets ≡ start }
-        ensures capacity { vec_capacity self.new.octets ≡ vec_capacity self.old.octets }
-    {
-        self.octets.truncate(start);
     }
 }

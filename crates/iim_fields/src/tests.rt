@@ -2,6 +2,7 @@
 
 mod building;
 mod causes;
+mod checks;
 mod views;
 
 ghost use Rattle.std.specs.Prelude.{◌≢◌, length, OnOk};

@@ -1,5 +1,5 @@
 -- Where heads, data and ends of datasets lead the parts of an unpacker.
-use Rattle.std.proofs.Common.{◌≡◌, ℕ, ◌-◌, ◌≤◌, Bool, true, false, cond, if◌then◌else◌, nat_eq, List, [], ◌∷◌, ◌++◌, length, map, flat_map, Option, Some, refl, ap, sym, subst, ◌∙◌, inl, inr, arith, append_assoc, append-nil, length-append}
+use Rattle.std.proofs.Common.{◌≡◌, ℕ, ◌-◌, ◌≤◌, Bool, true, false, cond, if◌then◌else◌, nat_eq, List, [], ◌∷◌, ◌++◌, length, map, flat_map, Option, Some, None, refl, ap, sym, subst, ◌∙◌, inl, inr, arith, append_assoc, append-nil, length-append}
 use Rattle.std.proofs.lemmas.Bool.{eqb-true}
 use Rattle.std.proofs.lemmas.Bool.Decides.{eqb_tells}
 use Rattle.iim_dataset.specs.Octets.{Octets}
@@ -8,10 +8,11 @@ use Rattle.iim_dataset.specs.Splits.{Begun, InTag, InData}
 use Rattle.iim_dataset.specs.Events.{Event, HeadRead, DataOctet, events_of, handed_on}
 use Rattle.iim_dataset.specs.Languages as languages
 use Rattle.iim_dataset.specs.declared.head.Head.{Head}
+use Rattle.iim_fields.specs.Checks.{begun_head}
 use Rattle.iim_fields.specs.Standing as records
 use Rattle.iim_fields.specs.Standing.{IsBetween, IsInside, IsWithin, limits_of}
 use Rattle.iim_fields.specs.declared.limits.Limits.{Limits}
-use Rattle.iim_fields.specs.declared.checker.Checker.{Checker}
+use Rattle.iim_fields.specs.Standing.{FieldsPlace}
 use Rattle.iim_object.specs.Events as object_events
 use Rattle.wire_story.specs.Delivery as story
 use Rattle.wire_story.specs.Tokens.{End, Octet, with_end}
@@ -75,8 +76,8 @@ pub record BehindAll (p : Parts) (events : List Event) (text : List ℕ) : Type 
   pub told : events ≡ handed_on ds (InTag held)
   pub is_text : text ≡ text_so_far (object_of ds)
 
-not_both : (c : Checker) (h : Head) (n : ℕ) → IsBetween c → IsInside c h n → ⊥
-not_both c h n between inside = let bad = sym between.between ∙ inside.inside in cc
+not_both : (c : FieldsPlace) (h : Head) (n : ℕ) → IsBetween c → IsInside c h n → ⊥
+not_both c h n between inside = let bad : None ≡ Some h = sym (ap begun_head between.between) ∙ ap begun_head inside.head.inside in cc
 
 pub in_one : (p : Parts) (n : ℕ) (events : List Event) (text : List ℕ) → TakesData p n → Led p events text → InOne p events text
 in_one p n events text takes led = by_begun led.begun led.stands led.told led.is_text
@@ -142,7 +143,7 @@ all_within living p ds h taken at =
 
 -- ---- data that is no subfile's
 
-pub within_other : (p : Parts) (ds : List Dataset) (h : Head) (taken run : List ℕ) (checker : Checker) → Within p ds h taken → (h.rec ≡ 8 → ⊥) → Octets run → length run ≤ p.left
+pub within_other : (p : Parts) (ds : List Dataset) (h : Head) (taken run : List ℕ) (checker : FieldsPlace) → Within p ds h taken → (h.rec ≡ 8 → ⊥) → Octets run → length run ≤ p.left
     → ((ds : List Dataset) (h : Head) (taken : List ℕ) → records.StandsIn p.fields ds h taken → records.StandsIn checker ds h (taken ++ run))
     → Within (record p { fields = checker; left = p.left - length run }) ds h (taken ++ run)
 within_other p ds h taken run checker at other octets fits stands =
@@ -164,7 +165,7 @@ within_other p ds h taken run checker at other octets fits stands =
       last = at.last;
     }
 
-pub went_other : {S : Type 0} (goes : S → List story.Event → S → Type 0) (failures : S → ℕ) (p : Parts) (a : S) (run : List ℕ) (checker : Checker) → TakesData p p.left → (p.head.rec ≡ 8 → ⊥)
+pub went_other : {S : Type 0} (goes : S → List story.Event → S → Type 0) (failures : S → ℕ) (p : Parts) (a : S) (run : List ℕ) (checker : FieldsPlace) → TakesData p p.left → (p.head.rec ≡ 8 → ⊥)
     → Octets run → length run ≤ p.left → goes a [] a → limits_of checker ≡ limits_of p.fields
     → ((ds : List Dataset) (h : Head) (taken : List ℕ) → records.StandsIn p.fields ds h taken → records.StandsIn checker ds h (taken ++ run))
     → Went goes failures p a (map DataOctet run) (record p { fields = checker; left = p.left - length run }) a

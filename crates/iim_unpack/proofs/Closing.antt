@@ -11,10 +11,11 @@ use Rattle.iim_dataset.specs.declared.head.Head.{Head}
 use Rattle.iim_fields.specs.Alive.{IsAliveAt}
 use Rattle.iim_fields.specs.Faults.{present_record, joined}
 use Rattle.iim_fields.specs.Standing as records
-use Rattle.iim_fields.specs.Standing.{IsOf, IsValueFault, limits_of}
+use Rattle.iim_fields.specs.Checks.{IsValueFault}
+use Rattle.iim_fields.specs.Standing.{IsOf, limits_of}
 use Rattle.iim_fields.specs.Values.{data_of, tells_number, number_told}
 use Rattle.iim_fields.specs.Laws.{NoSectionsBeginOthers}
-use Rattle.iim_fields.specs.declared.checker.Checker.{Checker}
+use Rattle.iim_fields.specs.Standing.{FieldsPlace}
 use Rattle.iim_fields.specs.declared.fault.FieldFault.{FieldFault}
 use Rattle.iim_object.specs.Plans.{max_subfiles}
 use Rattle.iim_object.specs.Places.{value_token}
@@ -134,7 +135,7 @@ is_of ds p h taken at whole = record {
     by_eight (inl same) other = absurd (other same.1)
     by_eight (inr apart) other = sym (ap (λ (b : Bool). cond b [] taken) apart.0)
 
-abbrev pub ClosesFields : Checker → Checker → Option ℕ → Type 0
+abbrev pub ClosesFields : FieldsPlace → FieldsPlace → Option ℕ → Type 0
 ClosesFields old new told = (ds : List Dataset) (h : Head) (taken : List ℕ) → records.StandsIn old ds h taken → (d : Dataset) → IsOf h taken d
     → records.StandsBehind new (ds ++ d ∷ []) × (told ≡ number_told d)
 
@@ -155,7 +156,7 @@ closed_number laws p new n takes same closes goes message subfiles is_last =
       object = subst (objects.StandsAt new.object) leads.1 (goes_d (place_at ds (head_of d)) (subst (λ (k : Head). objects.StandsAt p.object (place_at ds k)) (sym head) at.object) leads.0);
     })
 
-pub closed_silent : CloseLaws → (p : Parts) (checker : Checker) → TakesData p 0 → limits_of checker ≡ limits_of p.fields → ClosesFields p.fields checker None → (left : ℕ) → (last : Bool) → last ≡ nat_eq p.head.rec 9
+pub closed_silent : CloseLaws → (p : Parts) (checker : FieldsPlace) → TakesData p 0 → limits_of checker ≡ limits_of p.fields → ClosesFields p.fields checker None → (left : ℕ) → (last : Bool) → last ≡ nat_eq p.head.rec 9
     → Closed p (record { fields = checker; object = p.object; message = p.message; subfiles = p.subfiles; head = p.head; left = left; last = last })
 closed_silent laws p checker takes same closes left last is_last =
     closed_by p (record { fields = checker; object = p.object; message = p.message; subfiles = p.subfiles; head = p.head; left = left; last = last }) takes same refl refl is_last
@@ -206,7 +207,7 @@ not_closed_field living sections p f takes is =
     let apart : nat_eq h.rec 8 ≡ false = elim (eqb_tells h.rec 8) [ inl same ↦ absurd (given.value same.1) | inr other ↦ other.0 ] in
     (given.value, field_value ds (data_of h taken) f (subst (λ (xs : List ℕ). IsValueFault ds (data_of h xs) f) (ap (λ (b : Bool). cond b [] taken) apart) given)))
 
-pub not_closed_number : CloseLaws → (p : Parts) (checker : Checker) (n : ℕ) (fault : Fault) → TakesData p 0 → ClosesFields p.fields checker (Some n)
+pub not_closed_number : CloseLaws → (p : Parts) (checker : FieldsPlace) (n : ℕ) (fault : Fault) → TakesData p 0 → ClosesFields p.fields checker (Some n)
     → IsObjectFault p.object (value_token p.head.rec p.head.set n) p.head fault → NotClosed p fault
 not_closed_number laws p checker n fault takes closes bad =
     not_closed_by p fault laws.living laws.sections takes

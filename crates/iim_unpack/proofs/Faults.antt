@@ -13,7 +13,8 @@ use Rattle.iim_fields.specs.Records.{after, occurs, has_file_format}
 use Rattle.iim_fields.specs.Alive.{IsAlive, IsAliveAt}
 use Rattle.iim_fields.specs.Values.{tells_number}
 use Rattle.iim_fields.specs.Faults.{kept, kept_octets, is_kept, is_first, is_in_order, fault_on, row_fault, missing_fault, missing_of, head_fault, record_fault, room_fault, limits_fault, first_fault, value_fault, fault_by_row, present_record, present_run}
-use Rattle.iim_fields.specs.Standing.{IsHeadFault, IsValueFault}
+use Rattle.iim_fields.specs.Checks.{IsValueFault}
+use Rattle.iim_fields.specs.Standing.{IsHeadFault}
 use Rattle.iim_fields.specs.Laws.{HeadsDieWithTheirFault, ValuesDieWithTheirFault}
 use Rattle.iim_fields.specs.declared.limits.Limits.{Limits}
 use Rattle.iim_fields.specs.declared.fault.FieldFault.{FieldFault}

@@ -9,7 +9,7 @@ use Rattle.iim_dataset.specs.declared.head.Head.{Head}
 use Rattle.iim_fields.specs.Alive.{IsAliveAt}
 use Rattle.iim_fields.specs.Standing as records
 use Rattle.iim_fields.specs.Standing.{IsBetween, IsHeadFault, limits_of}
-use Rattle.iim_fields.specs.declared.checker.Checker.{Checker}
+use Rattle.iim_fields.specs.Standing.{FieldsPlace}
 use Rattle.iim_fields.specs.declared.fault.FieldFault.{FieldFault}
 use Rattle.iim_fields.specs.declared.fault.FieldCause.{FieldCause}
 use Rattle.iim_fields.specs.declared.fault.FieldCause.TheVariants as fields
@@ -130,7 +130,7 @@ pick b = if b then 1 else 0
 one_if : (r : ℕ) → r ≡ 8 → pick (nat_eq r 8) ≡ 1
 one_if r eight = ap (λ n. pick (nat_eq n 8)) eight
 
-pub begins_subfile : {S : Type 0} (goes : S → List story.Event → S → Type 0) (failures : S → ℕ) → HeadLaws → (p : Parts) (a b : S) (ds : List Dataset) (h : Head) (checker : Checker) (object : Option State) (message : Option Place) (subfiles : ℕ)
+pub begins_subfile : {S : Type 0} (goes : S → List story.Event → S → Type 0) (failures : S → ℕ) → HeadLaws → (p : Parts) (a b : S) (ds : List Dataset) (h : Head) (checker : FieldsPlace) (object : Option State) (message : Option Place) (subfiles : ℕ)
     → h.rec ≡ 8 → p.last ≡ false → Behind p ds → records.StandsIn checker ds h [] → objects.GoesOn p.object (head_token h.rec h.count) object
     → (passed : Passed goes failures p.message a (events_at h.rec) message b) → subfiles ≡ p.subfiles + 1 → p.subfiles < max_subfiles
     → Begins (record { fields = checker; object = object; message = message; subfiles = subfiles; head = h; left = h.count; last = p.last }) ds h
@@ -155,7 +155,7 @@ begins_subfile goes failures laws p a b ds h checker object message subfiles eig
       text.1,
     )
 
-pub begins_end : {S : Type 0} (goes : S → List story.Event → S → Type 0) (failures : S → ℕ) → HeadLaws → (p : Parts) (a b : S) (ds : List Dataset) (h : Head) (checker : Checker) (object : Option State) (message : Option Place)
+pub begins_end : {S : Type 0} (goes : S → List story.Event → S → Type 0) (failures : S → ℕ) → HeadLaws → (p : Parts) (a b : S) (ds : List Dataset) (h : Head) (checker : FieldsPlace) (object : Option State) (message : Option Place)
     → h.rec ≡ 9 → p.last ≡ false → Behind p ds → records.StandsIn checker ds h [] → objects.GoesOn p.object (head_token h.rec h.count) object
     → (passed : Passed goes failures p.message a (events_at h.rec) message b)
     → Begins (record { fields = checker; object = object; message = message; subfiles = p.subfiles; head = h; left = h.count; last = p.last }) ds h
@@ -183,7 +183,7 @@ begins_end goes failures laws p a b ds h checker object message nine last at ins
 not_equal : (r s : ℕ) → (r ≡ s → ⊥) → nat_eq r s ≡ false
 not_equal r s other = elim (eqb_tells r s) [ inl same ↦ absurd (other same.1) | inr apart ↦ apart.0 ]
 
-pub begins_other : (p : Parts) (ds : List Dataset) (h : Head) (checker : Checker) → (h.rec ≡ 8 → ⊥) → (h.rec ≡ 9 → ⊥) → p.last ≡ false → Behind p ds → records.StandsIn checker ds h []
+pub begins_other : (p : Parts) (ds : List Dataset) (h : Head) (checker : FieldsPlace) → (h.rec ≡ 8 → ⊥) → (h.rec ≡ 9 → ⊥) → p.last ≡ false → Behind p ds → records.StandsIn checker ds h []
     → Begins (record { fields = checker; object = p.object; message = p.message; subfiles = p.subfiles; head = h; left = h.count; last = p.last }) ds h
 begins_other p ds h checker other8 other9 last at inside =
     let no8 = not_equal h.rec 8 other8 in
@@ -255,7 +255,7 @@ stopped_field goes failures p a h f small laws last between g is =
     stopped_head goes failures p a a h (of_field f) [] laws last between g (quiet_field f.cause (failures a))
     (λ ds at. (inl (field_head laws.heads (limits_of p.fields) ds h f small at.fields.alive (is ds at.fields)), append-nil (text_so_far (object_of ds))))
 
-pub stopped_many : {S : Type 0} (goes : S → List story.Event → S → Type 0) (failures : S → ℕ) (p : Parts) (a : S) (h : Head) (checker : Checker) → HeadLaws → p.last ≡ false → IsBetween p.fields → goes a [] a
+pub stopped_many : {S : Type 0} (goes : S → List story.Event → S → Type 0) (failures : S → ℕ) (p : Parts) (a : S) (h : Head) (checker : FieldsPlace) → HeadLaws → p.last ≡ false → IsBetween p.fields → goes a [] a
     → ((ds : List Dataset) → records.StandsBehind p.fields ds → records.StandsIn checker ds h []) → h.rec ≡ 8 → max_subfiles ≤ p.subfiles
     → Stopped goes failures p a [] (HeadRead h) (Some (too_many_on h)) a
 stopped_many goes failures p a h checker laws last between g inside eight many =
@@ -264,7 +264,7 @@ stopped_many goes failures p a h checker laws last between g inside eight many =
     let full : max_subfiles ≤ length (of_record 8 ds) = omega (arith, many, at.subfiles) in
     (inl (too_many_head laws.heads (limits_of p.fields) ds h (too_many_on h) at.fields.alive (inside ds at.fields).alive eight full refl), append-nil (text_so_far (object_of ds))))
 
-pub stopped_size : {S : Type 0} (goes : S → List story.Event → S → Type 0) (failures : S → ℕ) (p : Parts) (a b : S) (h : Head) (checker : Checker) (fault : Fault) → HeadLaws → p.last ≡ false → IsBetween p.fields
+pub stopped_size : {S : Type 0} (goes : S → List story.Event → S → Type 0) (failures : S → ℕ) (p : Parts) (a b : S) (h : Head) (checker : FieldsPlace) (fault : Fault) → HeadLaws → p.last ≡ false → IsBetween p.fields
     → ((ds : List Dataset) → records.StandsBehind p.fields ds → records.StandsIn checker ds h []) → (h.rec ≡ 8) ⊎ (h.rec ≡ 9) → (h.rec ≡ 8 → p.subfiles < max_subfiles)
     → RefusesBySize goes failures p.object p.message h a b fault → Stopped goes failures p a [] (HeadRead h) (Some fault) b
 stopped_size goes failures p a b h checker fault laws last between inside is few r =
@@ -281,7 +281,7 @@ stopped_size goes failures p a b h checker fault laws last between inside is few
     leads_by (inl eight) ds alive room = subfile_leads laws.objects ds h alive eight (room eight)
     leads_by (inr nine) ds alive room = end_leads laws.objects ds h alive nine
 
-pub stopped_end : {S : Type 0} (goes : S → List story.Event → S → Type 0) (failures : S → ℕ) (p : Parts) (a b : S) (h : Head) (checker : Checker) (fault : Fault) → HeadLaws → p.last ≡ false → IsBetween p.fields
+pub stopped_end : {S : Type 0} (goes : S → List story.Event → S → Type 0) (failures : S → ℕ) (p : Parts) (a b : S) (h : Head) (checker : FieldsPlace) (fault : Fault) → HeadLaws → p.last ≡ false → IsBetween p.fields
     → ((ds : List Dataset) → records.StandsBehind p.fields ds → records.StandsIn checker ds h []) → h.rec ≡ 9
     → RefusesAtEnd goes failures p.object p.message h a b fault → Stopped goes failures p a [] (HeadRead h) (Some fault) b
 stopped_end goes failures p a b h checker fault laws last between inside nine r =
@@ -312,7 +312,7 @@ stopped_end goes failures p a b h checker fault laws last between inside nine r 
     some-same : {x y : MessageCause} → Some x ≡ Some y → x ≡ y
     some-same e = cc
 
-pub stopped_subfile : {S : Type 0} (goes : S → List story.Event → S → Type 0) (failures : S → ℕ) (p : Parts) (a b : S) (h : Head) (checker : Checker) → HeadLaws → p.last ≡ false → IsBetween p.fields → goes a [] a
+pub stopped_subfile : {S : Type 0} (goes : S → List story.Event → S → Type 0) (failures : S → ℕ) (p : Parts) (a b : S) (h : Head) (checker : FieldsPlace) → HeadLaws → p.last ≡ false → IsBetween p.fields → goes a [] a
     → ((ds : List Dataset) → records.StandsBehind p.fields ds → records.StandsIn checker ds h []) → h.rec ≡ 8 → (fault : Fault)
     → ((max_subfiles ≤ p.subfiles) × (fault ≡ too_many_on h) × (b ≡ a)) ⊎ ((p.subfiles < max_subfiles) × RefusesObject goes failures p.object p.message h a b fault)
     → Stopped goes failures p a [] (HeadRead h) (Some fault) b
@@ -324,7 +324,7 @@ stopped_subfile goes failures p a b h checker laws last between g inside eight f
 stopped_subfile goes failures p a b h checker laws last between g inside eight fault (inr (few, inr r)) =
     absurd (let bad : SubfileBegun h.count ≡ ObjectEnded = sym (ap (λ n. head_token n h.count) eight) ∙ r.token in cc)
 
-pub stopped_last : {S : Type 0} (goes : S → List story.Event → S → Type 0) (failures : S → ℕ) (p : Parts) (a b : S) (h : Head) (checker : Checker) → HeadLaws → p.last ≡ false → IsBetween p.fields
+pub stopped_last : {S : Type 0} (goes : S → List story.Event → S → Type 0) (failures : S → ℕ) (p : Parts) (a b : S) (h : Head) (checker : FieldsPlace) → HeadLaws → p.last ≡ false → IsBetween p.fields
     → ((ds : List Dataset) → records.StandsBehind p.fields ds → records.StandsIn checker ds h []) → h.rec ≡ 9 → (fault : Fault)
     → RefusesObject goes failures p.object p.message h a b fault → Stopped goes failures p a [] (HeadRead h) (Some fault) b
 stopped_last goes failures p a b h checker laws last between inside nine fault (inl r) =

@@ -1,11 +1,11 @@
 -- What is told one after another is told joined: the laws of the router.
-use Rattle.std.proofs.Common.{◌≡◌, ℕ, List, [], ◌++◌, Option, Some, refl, sym, subst, ◌∙◌, append_assoc, append-nil}
+use Rattle.std.proofs.Common.{◌≡◌, ℕ, List, [], ◌∷◌, ◌++◌, Option, Some, refl, sym, subst, ◌∙◌, append_assoc, append-nil}
 use Rattle.std.proofs.lemmas.List.Concat.{flat_map-append}
 use Rattle.iim_dataset.specs.Events.{Event, DatasetEnd}
 use Rattle.iim_fields.specs.Standing.{limits_of}
 use Rattle.iim_fields.specs.declared.limits.Limits.{Limits}
 use Rattle.wire_story.specs.Delivery as story
-use Rattle.iim_unpack.specs.Parts.{Led, Went, Stopped, Refused, CountsFor, NotClosed}
+use Rattle.iim_unpack.specs.Parts.{Led, Went, Stopped, Refused, CountsFor, Closed, NotClosed}
 use Rattle.iim_unpack.specs.declared.parts.Parts.{Parts}
 use Rattle.iim_unpack.specs.declared.fault.Fault.{Fault}
 
@@ -49,6 +49,16 @@ stopped_joined goes failures joined p q a b c xs ys event refused h k = record {
       subst (λ (t : List ℕ). Refused (limits_of p.fields) (before ++ (xs ++ ys)) t event k.fault) (append_assoc text h.more k.more)
       (subst (λ (es : List Event). Refused (limits_of p.fields) es ((text ++ h.more) ++ k.more) event k.fault) (append_assoc before xs ys)
       (subst (λ (l : Limits). Refused l ((before ++ xs) ++ ys) ((text ++ h.more) ++ k.more) event k.fault) h.limits (k.why (before ++ xs) (text ++ h.more) (h.leads before text led))));
+}
+
+-- the end of a dataset, with which nothing is delivered
+pub went_closed : {S : Type 0} (goes : S → List story.Event → S → Type 0) (failures : S → ℕ) (old new : Parts) (a : S) → goes a [] a → Closed old new → Went goes failures old a (DatasetEnd ∷ []) new a
+went_closed goes failures old new a nothing closed = record {
+  limits = closed.limits;
+  more = [];
+  told = nothing;
+  calm = refl;
+  leads = λ before text led. subst (Led new (before ++ DatasetEnd ∷ [])) (sym (append-nil text)) (closed.leads before text led);
 }
 
 -- the end of a dataset, of which no sink is told

@@ -1,29 +1,68 @@
-use Rattle.std.proofs.Common.{◌≡◌, ◌∷◌, ◌++◌, [], sym, ap, ◌∙◌, subst, Some, None}
+use Rattle.std.proofs.Common.{◌≡◌, List, ℕ, ◌∷◌, ◌++◌, [], length, sym, ap, ◌∙◌, subst, arith, Option, Some, None}
+use Rattle.std.specs.Prelude.{vec_len, vec_capacity}
 use Rattle.iim_dataset.specs.Datasets.{Dataset}
+use Rattle.iim_fields.specs.Faults.{room_fault}
+use Rattle.iim_fields.specs.Checks.{HasChecked, HasTaken}
+use Rattle.iim_fields.specs.Stores.{fields_of}
 use Rattle.iim_fields.specs.Builders.{Building, add_fault}
-use Rattle.iim_fields.proofs.Build.{fields_more, building_more, add_fault_is, none_of_three}
+use Rattle.iim_fields.specs.declared.check.RecordPlace.{RecordPlace}
+use Rattle.iim_fields.proofs.Handed.{handed_on}
+use Rattle.iim_fields.proofs.Build.{Stored, added_record_fault, added_room_fault, added_value_fault, added_fine, fields_more, building_more}
 use Rattle.iim_fields.proofs.builder.EnvelopeBuilder.add.Goals as goal
+
+pub returns-in-Some-clause-fault : goal.returns-in-Some-clause-fault
+returns-in-Some-clause-fault c =
+    let d : Dataset = record { rec = c.args.rec; set = c.args.set; octets = c.args.octets.now } in
+    let store = c.self.inside.store in
+    let b = c.self.invariant in
+    let taken = c.in_ok-head.ensures.stands (fields_of store) (subst (λ (k : Option RecordPlace). HasChecked k (fields_of store)) (sym c.copied-check.ensures) b.checked) in
+    let some = sym (λ i. room_fault c.self.inside.limits (c.len-kept.ensures i) (c.len.ensures i) (record { rec = d.rec; set = d.set; count = length d.octets })) ∙ (sym c.room_fault.ensures ∙ c.in-Some.is) in
+    subst (λ (b : Building). add_fault b.limits b.fields d ≡ Some c.in-Some.fault) c.self.view_is
+    (added_room_fault c.self.inside.check c.head.new.self c.self.inside.limits store d c.in-Some.fault b (sym c.is_kept.ensures ∙ c.if-not-is_kept.false) taken some)
+
+pub returns-in_err-value-clause-fault : goal.returns-in_err-value-clause-fault
+returns-in_err-value-clause-fault c =
+    let d : Dataset = record { rec = c.args.rec; set = c.args.set; octets = c.args.octets.now } in
+    let store = c.self.inside.store in
+    let b = c.self.invariant in
+    let taken = c.in_ok-head.ensures.stands (fields_of store) (subst (λ (k : Option RecordPlace). HasChecked k (fields_of store)) (sym c.copied-check.ensures) b.checked) in
+    let none = sym (λ i. room_fault c.self.inside.limits (c.len-kept.ensures i) (c.len.ensures i) (record { rec = d.rec; set = d.set; count = length d.octets })) ∙ (sym c.room_fault.ensures ∙ c.in_default.is) in
+    handed_on (λ fault. add_fault c.args.self.now.limits c.args.self.now.fields d ≡ Some fault) c.from_residual-in_err-value.result c.in_err-value.field-0.0 c.from_residual-in_err-value.ensures.1
+    (subst (λ (b : Building). add_fault b.limits b.fields d ≡ Some c.in_err-value.field-0.0) c.self.view_is
+    (added_value_fault c.self.inside.check c.head.new.self c.self.inside.limits store d c.in_err-value.field-0.0 b (sym c.is_kept.ensures ∙ c.if-not-is_kept.false) taken none c.in_err-value.ensures.fault))
+
+pub returns-clause-admitted : goal.returns-clause-admitted
+returns-clause-admitted c =
+    let d : Dataset = record { rec = c.args.rec; set = c.args.set; octets = c.args.octets.now } in
+    let store = c.self.inside.store in
+    let b = c.self.invariant in
+    let taken = c.in_ok-head.ensures.stands (fields_of store) (subst (λ (k : Option RecordPlace). HasChecked k (fields_of store)) (sym c.copied-check.ensures) b.checked) in
+    let none = sym (λ i. room_fault c.self.inside.limits (c.len-kept.ensures i) (c.len.ensures i) (record { rec = d.rec; set = d.set; count = length d.octets })) ∙ (sym c.room_fault.ensures ∙ c.in_default.is) in
+    subst (λ (b : Building). add_fault b.limits b.fields d ≡ None) c.self.view_is
+    (added_fine c.self.inside.check c.head.new.self c.value.new.self c.self.inside.limits store d c.in_ok-value.field-0 b (sym c.is_kept.ensures ∙ c.if-not-is_kept.false) taken none c.in_ok-value.ensures.stands)
+
+-- the store has the dataset
+stored : (c : goal.After-keep) → Stored c.self.inside.store c.keep.new.self (record { rec = c.args.rec; set = c.args.set; octets = c.args.octets.now })
+stored c = record {
+  octets = ap (λ v. v.items) c.keep.ensures.octets ∙ c.take.ensures.octets;
+  entries = c.keep.ensures.entries ∙ (λ i. (c.take.ensures.entries i).items ++ record { rec = c.args.rec; set = c.args.set; end = c.take.ensures.len i } ∷ []);
+  octets_room = ap (λ v. vec_capacity v) c.keep.ensures.octets ∙ c.take.ensures.capacity;
+  entries_room = c.keep.ensures.capacity ∙ ap (λ v. vec_capacity v) c.take.ensures.entries;
+}
+
+pub returns-clause-added : goal.returns-clause-added
+returns-clause-added c =
+    let d : Dataset = record { rec = c.args.rec; set = c.args.set; octets = c.args.octets.now } in
+    let more = fields_more c.self.inside.store c.keep.new.self d (stored c) c.self.invariant.holds in
+    (λ i. record { limits = c.self.inside.limits; fields = more i; room = record { octets = (stored c).octets_room i; entries = (stored c).entries_room i } })
+    ∙ ap (λ (b : Building). record b { fields = b.fields ++ d ∷ [] }) c.self.view_is
 
 pub invariant_of-self : goal.invariant_of-self
 invariant_of-self c =
-    building_more c.self.inside.checker c.place.new.self (record { rec = c.args.rec; set = c.args.set; octets = c.args.octets.now }) c.self.invariant
-    (sym c.is_kept.ensures ∙ c.if-not-is_kept.false) c.place.ensures.stands
-
-pub returns-in-Ok-clause-admitted : goal.returns-in-Ok-clause-admitted
-returns-in-Ok-clause-admitted c =
     let d : Dataset = record { rec = c.args.rec; set = c.args.set; octets = c.args.octets.now } in
-    let e = c.in-Ok.ensures in
-    subst (λ (b : Building). add_fault b.limits b.fields d ≡ None) c.self.view_is
-    (sym (add_fault_is c.self.inside.checker d c.self.invariant (sym c.is_kept.ensures ∙ c.if-not-is_kept.false)) ∙ none_of_three _ _ _ e.order e.room e.value)
-
-pub returns-in-Ok-clause-added : goal.returns-in-Ok-clause-added
-returns-in-Ok-clause-added c =
-    let d : Dataset = record { rec = c.args.rec; set = c.args.set; octets = c.args.octets.now } in
-    let more = fields_more c.self.inside.checker c.place.new.self d c.self.invariant (sym c.is_kept.ensures ∙ c.if-not-is_kept.false) c.place.ensures.stands in
-    (λ i. record { limits = c.place.ensures.limits i; fields = more i; room = c.place.ensures.room i }) ∙ ap (λ (b : Building). record b { fields = b.fields ++ d ∷ [] }) c.self.view_is
-
-pub returns-in-Err-clause-fault : goal.returns-in-Err-clause-fault
-returns-in-Err-clause-fault c =
-    let d : Dataset = record { rec = c.args.rec; set = c.args.set; octets = c.args.octets.now } in
-    subst (λ (b : Building). add_fault b.limits b.fields d ≡ Some c.in-Err.fault) c.self.view_is
-    (sym (add_fault_is c.self.inside.checker d c.self.invariant (sym c.is_kept.ensures ∙ c.if-not-is_kept.false)) ∙ c.in-Err.ensures.fault)
+    let store = c.self.inside.store in
+    let b = c.self.invariant in
+    let taken = c.in_ok-head.ensures.stands (fields_of store) (subst (λ (k : Option RecordPlace). HasChecked k (fields_of store)) (sym c.copied-check.ensures) b.checked) in
+    let none = sym (λ i. room_fault c.self.inside.limits (c.len-kept.ensures i) (c.len.ensures i) (record { rec = d.rec; set = d.set; count = length d.octets })) ∙ (sym c.room_fault.ensures ∙ c.in_default.is) in
+    building_more c.self.inside.check c.head.new.self c.value.new.self c.self.inside.limits store c.keep.new.self d c.in_ok-value.field-0 b (sym c.is_kept.ensures ∙ c.if-not-is_kept.false) taken none
+    c.in_ok-value.ensures.stands (stored c)

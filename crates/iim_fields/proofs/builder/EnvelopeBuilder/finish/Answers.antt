@@ -1,20 +1,18 @@
 use Rattle.std.proofs.Common.{◌≡◌, sym, ◌∙◌, subst, Some, None}
-use Rattle.iim_fields.specs.Builders.{Building, finish_fault, IsEnvelopeStore}
-use Rattle.iim_fields.specs.declared.store.Store.{Store}
+use Rattle.iim_fields.specs.Builders.{Building, finish_fault}
 use Rattle.iim_fields.proofs.Finish.{finish_is, envelope_store}
 use Rattle.iim_fields.proofs.builder.EnvelopeBuilder.finish.Goals as goal
 
 pub invariant_of-result : goal.invariant_of-result
 invariant_of-result c =
-    subst (λ (s : Store). IsEnvelopeStore s) (sym c.into_store-store.ensures)
-    (envelope_store c.each_row_has_values.ensures c.self.inside.checker c.self.invariant (sym c.end_fault.ensures ∙ c.in-None.is))
+    envelope_store c.each_row_has_values.ensures c.self.inside.check c.self.inside.limits c.self.inside.store c.self.invariant (sym c.end_fault.ensures ∙ c.in-None.is)
 
 pub returns-in-Some-clause-fault : goal.returns-in-Some-clause-fault
 returns-in-Some-clause-fault c =
     subst (λ (b : Building). finish_fault b.fields ≡ Some c.in-Some.fault) c.self.view_is
-    (sym (finish_is c.self.inside.checker c.self.invariant) ∙ (sym c.end_fault.ensures ∙ c.in-Some.is))
+    (sym (finish_is c.self.inside.check c.self.inside.limits c.self.inside.store c.self.invariant) ∙ (sym c.end_fault.ensures ∙ c.in-Some.is))
 
 pub returns-in-None-clause-whole : goal.returns-in-None-clause-whole
 returns-in-None-clause-whole c =
     subst (λ (b : Building). finish_fault b.fields ≡ None) c.self.view_is
-    (sym (finish_is c.self.inside.checker c.self.invariant) ∙ (sym c.end_fault.ensures ∙ c.in-None.is))
+    (sym (finish_is c.self.inside.check c.self.inside.limits c.self.inside.store c.self.invariant) ∙ (sym c.end_fault.ensures ∙ c.in-None.is))

@@ -1,0 +1,47 @@
+-- Datasets lead a check to one place.
+use Rattle.std.proofs.Common.{◌≡◌, ℕ, zero, suc, Bool, false, List, [], ◌∷◌, ◌++◌, length, get_or, refl, ap, sym, ◌∙◌, arith, Option, Some, None}
+use Rattle.iim_dataset.specs.Datasets.{Dataset, head_of}
+use Rattle.iim_dataset.specs.declared.head.Head.{Head}
+use Rattle.iim_tables.specs.declared.shape.Row.{Row}
+use Rattle.iim_fields.specs.Orders.{Tells}
+use Rattle.iim_fields.specs.Checks.{IsBetween, HasChecked, IsChecking}
+use Rattle.iim_fields.specs.Laws.{DatasetsLeadToOnePlace}
+use Rattle.iim_fields.specs.declared.order.Order.{Order}
+use Rattle.iim_fields.specs.declared.check.Begun.{Begun}
+use Rattle.iim_fields.specs.declared.check.RecordPlace.{RecordPlace}
+use Rattle.iim_fields.proofs.Checking.{same_place}
+
+-- lists of one length with the same members
+same_members : (xs ys : List Bool) → length xs ≡ length ys → ((n : ℕ) → get_or xs n false ≡ get_or ys n false) → xs ≡ ys
+same_members [] [] e h = refl
+same_members [] (y ∷ ys) e h = absurd cc
+same_members (x ∷ xs) [] e h = absurd cc
+same_members (x ∷ xs) (y ∷ ys) e h =
+    let long : length xs ≡ length ys = omega (arith, e) in λ i. h 0 i ∷ same_members xs ys long (λ n. h (suc n)) i
+
+-- one order tells of datasets
+one_order : (o p : Order) (ds : List Dataset) → Tells o ds → Tells p ds → o ≡ p
+one_order o p ds s t =
+    let seen : o.seen ≡ p.seen = same_members o.seen p.seen (s.places ∙ sym t.places) (λ n. s.seen n ∙ sym (t.seen n)) in
+    let rec_is : o.rec ≡ p.rec = s.present ∙ sym t.present in
+    λ i. record { rec = rec_is i; seen = seen i }
+
+order_of : (check : Option RecordPlace) (o p : Order) (a b : Option Begun) → check ≡ Some (record { order = o; begun = a }) → check ≡ Some (record { order = p; begun = b }) → o ≡ p
+order_of check o p a b e f = ap (λ (p : RecordPlace). p.order) (same_place (record { order = o; begun = a }) (record { order = p; begun = b }) (sym e ∙ f))
+
+between_one : (a b : Option RecordPlace) (ds : List Dataset) → IsBetween a → IsBetween b → HasChecked a ds → HasChecked b ds → a ≡ b
+between_one a b ds i j s t =
+    let same : i.order ≡ j.order = order_of a i.order s.order None s.begun i.between s.at ∙ (one_order s.order t.order ds s.tells t.tells ∙ sym (order_of b j.order t.order None t.begun j.between t.at)) in
+    i.between ∙ ((λ k. Some (record { order = same k; begun = None })) ∙ sym j.between)
+
+checking_one : (a b : Option RecordPlace) (ds : List Dataset) (h : Head) → IsChecking a ds h → IsChecking b ds h → a ≡ b
+checking_one a b ds h s t =
+    let d : Dataset = record { rec = h.rec; set = h.set; octets = s.alive.0.octets } in
+    let is : head_of s.alive.0 ≡ h = s.alive.1 in
+    let same : s.order ≡ t.order = one_order s.order t.order (ds ++ s.alive.0 ∷ []) (s.tells s.alive.0 is) (t.tells s.alive.0 is) in
+    let both : Some s.row ≡ Some t.row = sym s.known ∙ t.known in
+    let row : s.row ≡ t.row = cc both in
+    s.inside ∙ ((λ k. Some (record { order = same k; begun = Some (record { head = h; row = row k }) })) ∙ sym t.inside)
+
+pub one_place : DatasetsLeadToOnePlace
+one_place = (between_one, checking_one)

@@ -1,0 +1,202 @@
+//! The record layer alone: the heads and values of an envelope's datasets, one by one.
+
+ghost use Rattle.std.specs.Prelude.{◌≡◌, ◌≢◌, ℕ, List, [], ◌∷◌, ◌++◌, length, Option, is_none, Some, None, IsSome, IfOk, IfErr, OnOk, OnErr, ◌↔◌, IsTrue};
+ghost use Rattle.std.specs.Option.{ForSome};
+ghost use Rattle.iim_dataset.specs.Datasets.{Dataset};
+ghost use Rattle.iim_dataset.specs.declared.head.Head.{Head as HeadValue};
+ghost use Rattle.iim_fields.specs.Orders.{Takes};
+ghost use Rattle.iim_fields.specs.Values.{number_told, data_of};
+ghost use Rattle.iim_fields.specs.Checks.{begun_head, missing_at, TakesHead, TakesValue, IsBetween, IsIn, IsRecordPlace, HasChecked, IsChecking, HasTaken, IsRecordFault, IsValueFault, HasEnded};
+ghost use Rattle.iim_fields.specs.declared.check.RecordPlace.{RecordPlace as PlaceValue};
+
+use crate::fault::FieldFault;
+use crate::order::Order;
+use crate::records::POST_OBJECT;
+use crate::value::check_value;
+use iim_dataset::Head;
+use iim_tables::{Row, each_row_has_values};
+use std::marker::Model;
+
+/// A begun dataset.
+#[derive(Clone, Copy)]
+pub(crate) struct Begun {
+    pub head: Head,
+    pub row: Row,
+}
+
+/// What heads and values have led to: the present record with the numbers that occurred in it, and the begun dataset.
+#[derive(Clone, Copy)]
+pub(crate) struct RecordPlace {
+    pub order: Order,
+    pub begun: Option<Begun>,
+}
+
+impl RecordPlace {
+    /// Takes a head that may stand next, which has this row.
+    fn enter(&mut self, head: Head, row: Row)
+        ensures order { Takes self.old.order head self.new.order }
+        ensures begun { self.new.begun ≡ Some (record { head = head; row = row }) }
+    {
+        self.order.take(head);
+        self.begun = Some(Begun { head, row });
+    }
+}
+
+/// A check of an envelope's datasets: of each head, and of each complete value but those of subfiles. It has no limits and
+/// keeps no data. Contracts see it as its place, and as None after a refusal. Whatever a caller hands in, it is a place to
+/// which some heads and values lead.
+#[derive(Drop)]
+pub struct RecordCheck {
+    /// None after a refusal.
+    place: Option<RecordPlace>,
+}
+
+impl Model for RecordCheck {
+    ghost Value = { Option PlaceValue };
+
+    ghost view = { λ check. check.place };
+
+    ghost invariant = { λ check. ForSome check.place IsRecordPlace };
+}
+
+impl RecordCheck {
+    /// At the beginning of an envelope.
+    pub fn new() -> RecordCheck
+        ensures takes_head { TakesHead result }
+        ensures between { IsBetween result }
+        ensures stands { HasChecked result [] }
+    {
+        each_row_has_values();
+        let place = RecordPlace {
+            order: Order::new(),
+            begun: None,
+        };
+        RecordCheck { place: Some(place) }
+    }
+
+    /// One that has refused.
+    pub(crate) fn refused() -> RecordCheck
+        ensures { result ≡ None }
+    {
+        RecordCheck { place: None }
+    }
+
+    /// Another one at the same place.
+    pub(crate) fn copied(&self) -> RecordCheck
+        ensures { result ≡ self.now }
+    {
+        RecordCheck { place: self.place }
+    }
+
+    /// Whether something was refused.
+    pub fn is_failed(&self) -> bool
+        ensures { result ≡ is_none self.now }
+    {
+        self.place.is_none()
+    }
+
+    /// The head of the begun dataset.
+    pub(crate) fn begun(&self) -> Option<Head>
+        ensures { result ≡ begun_head self.now }
+    {
+        match &self.place {
+            Some(
+                RecordPlace {
+                    begun: Some(begun),
+                    ..
+                },
+            ) => Some(begun.head),
+            _ => None,
+        }
+    }
+
+    /// Takes the next head, or answers its first fault and has failed: the record layer dies with the head. That of a subfile
+    /// is followed by no value, since what a subfile has is no matter of records.
+    pub fn head(&mut self, head: Head) -> Result<(), FieldFault>
+        requires { TakesHead self.old }
+        ensures takes_value { OnOk result (head.rec ≢ 8 → TakesValue self.new head.count) }
+        ensures takes_head { OnOk result (head.rec ≡ 8 → TakesHead self.new) }
+        ensures inside { OnOk result (IsIn self.new head) }
+        ensures stands { OnOk result ((ds : List Dataset) → HasChecked self.old ds → HasTaken self.new ds head) }
+        ensures failed { OnErr result (self.new ≡ None) }
+        ensures fault { IfErr result (λ fault. (ds : List Dataset) → HasChecked self.old ds → IsRecordFault ds head fault) }
+    {
+        each_row_has_values();
+        match &mut self.place {
+            Some(place) => match place.order.check(head) {
+                Ok(row) => {
+                    place.enter(head, row);
+                    Ok(())
+                }
+                Err(fault) => {
+                    self.place = None;
+                    Err(fault)
+                }
+            },
+            None => unreachable!(),
+        }
+    }
+
+    /// Takes the complete value of the begun dataset: answers the number that it tells if its record is 7 or 9, or the first
+    /// fault of the value, and then has failed: the record layer dies with the value.
+    pub fn value(&mut self, octets: &[u8]) -> Result<Option<u64>, FieldFault>
+        requires { TakesValue self.old (length octets.now) }
+        ensures takes_head { OnOk result (TakesHead self.new) }
+        ensures between { OnOk result (IsBetween self.new) }
+        ensures stands { IfOk result (λ number. (ds : List Dataset) (h : HeadValue) → IsChecking self.old ds h
+            → HasChecked self.new (ds ++ data_of h octets.now ∷ []) × (number ≡ number_told (data_of h octets.now))) }
+        ensures failed { OnErr result (self.new ≡ None) }
+        ensures fault { IfErr result (λ fault. (ds : List Dataset) (h : HeadValue) → IsChecking self.old ds h
+            → IsValueFault ds (data_of h octets.now) fault) }
+    {
+        each_row_has_values();
+        match &mut self.place {
+            Some(place) => {
+                let begun = place.begun.unwrap();
+                match check_value(begun.head, &begun.row, octets) {
+                    Ok(number) => {
+                        place.begun = None;
+                        Ok(number)
+                    }
+                    Err(fault) => {
+                        self.place = None;
+                        Err(fault)
+                    }
+                }
+            }
+            None => unreachable!(),
+        }
+    }
+
+    /// Ends a subfile.
+    pub(crate) fn end_subfile(&mut self)
+        requires { TakesHead self.old }
+        ensures between { IsBetween self.new }
+        ensures stands { (ds : List Dataset) → HasChecked self.old ds → HasChecked self.new ds }
+    {
+        if let Some(place) = &mut self.place {
+            place.begun = None;
+        }
+    }
+
+    /// Whether the last dataset of an envelope, that of record 9, has ended.
+    pub(crate) fn is_ended(&self) -> bool
+        ensures { IsTrue result ↔ HasEnded self.now }
+    {
+        match &self.place {
+            Some(RecordPlace { order, begun: None }) => order.present() == POST_OBJECT,
+            _ => false,
+        }
+    }
+
+    /// What is missing where records 1 and 2 end here.
+    pub(crate) fn end_fault(&self) -> Option<FieldFault>
+        requires { IsSome self.now }
+        ensures { result ≡ missing_at self.now }
+    {
+        match &self.place {
+            Some(place) => place.order.end_fault(),
+            None => unreachable!(),
+        }
+    }
+}
