@@ -1,0 +1,150 @@
+//! The shapes: octets that the readers and writers are measured on.
+
+ghost use Rattle.std.specs.Prelude.{◌≡◌, ◌+◌, ◌<◌, ◌^◌, length, vec_len, IfOk};
+ghost use Rattle.speed.specs.Shapes.{message_of};
+
+use crate::datasets::{push_dataset, push_subfiles, repeated};
+use std::alloc::{AllocError, Global};
+
+/// Records 1 and 2 of the smallest envelope: 7 datasets in 62 octets.
+const SMALLEST: &[u8; 62] =
+    b"\x1c\x01\x00\x00\x02\x00\x04\x1c\x01\x14\x00\x02\x00\x02\x1c\x01\x16\x00\x02\x00\x01\x1c\x01\x1e\x00\x03TST\
+\x1c\x01\x28\x00\x0800000001\x1c\x01\x46\x00\x0820240301\x1c\x02\x00\x00\x02\x00\x04";
+
+/// A headline, two by-lines with their titles, three keywords and a dataset without a row: 9 datasets in 96 octets.
+const NAMES: &[u8; 96] =
+    b"\x1c\x02\x69\x00\x0aRates held\x1c\x02\x50\x00\x07A. Moor\x1c\x02\x55\x00\x06Editor\
+\x1c\x02\x50\x00\x07B. Lund\x1c\x02\x55\x00\x06Writer\x1c\x02\x19\x00\x05rates\x1c\x02\x19\x00\x04bank\
+\x1c\x02\x19\x00\x04euro\x1c\x02\xfa\x00\x02\x00\xff";
+
+/// Object name, category, city, country, credit and caption: 6 datasets in 68 octets.
+const PLACES: &[u8; 68] =
+    b"\x1c\x02\x05\x00\x05Rates\x1c\x02\x0f\x00\x03ECO\x1c\x02\x5a\x00\x09Frankfurt\x1c\x02\x65\x00\x07Germany\
+\x1c\x02\x6e\x00\x03TST\x1c\x02\x78\x00\x0bRates stay.";
+
+/// A keyword: a dataset of 13 octets.
+const KEYWORD: &[u8; 13] = b"\x1c\x02\x19\x00\x08interest";
+
+/// A message of 14 octets, whose text is one empty line.
+const LEAST_MESSAGE: &[u8; 14] = b"\x01X1 4 N 0\r\n\x02\x03\x04";
+
+/// The octets of a message before its text: 25.
+const OPENING: &[u8; 25] = b"\x01TST0007 4 ECO 5 rates\r\n\x02";
+
+/// The octets of a message after its text.
+const ENDING: &[u8; 2] = b"\x03\x04";
+
+/// A line of prose with its line end: 64 octets.
+const LINE: &[u8; 64] = b"The bank kept its rates where they were, as it had said it may\r\n";
+
+/// A line of one octet with its line end.
+const SHORT_LINE: &[u8; 3] = b"x\r\n";
+
+/// The octets of a subfile where an object is cut into long ones.
+const SUBFILE: u32 = 32_768;
+
+/// Prose: 16,384 lines of 62 octets, and an empty last one.
+pub fn prose(alloc: Global) -> Result<Vec<u8>, AllocError>
+    ensures { IfOk result (λ text. vec_len text ≡ 1048576) }
+{
+    repeated(alloc, LINE, 16_384)
+}
+
+/// 340,000 lines of one octet, and an empty last one.
+pub fn short_lines(alloc: Global) -> Result<Vec<u8>, AllocError>
+    ensures { IfOk result (λ text. vec_len text ≡ 1020000) }
+{
+    repeated(alloc, SHORT_LINE, 340_000)
+}
+
+/// A message with this text.
+pub fn message_of(alloc: Global, text: &[u8]) -> Result<Vec<u8>, AllocError>
+    ensures octets { IfOk result (λ message. message.items ≡ message_of text.now) }
+    ensures len { IfOk result (λ message. vec_len message ≡ length text.now + 27) }
+{
+    let mut message = Vec::new(alloc);
+    message.extend_from_slice(OPENING)?;
+    message.extend_from_slice(text)?;
+    message.extend_from_slice(ENDING)?;
+    Ok(message)
+}
+
+/// An envelope: records 1 and 2, an object of known size in subfiles, and its sizes.
+fn envelope(
+    alloc: Global,
+    records: &[u8],
+    object: &[u8],
+    subfile: u32,
+) -> Result<Vec<u8>, AllocError>
+    requires some { 0 < subfile }
+    requires few { length object.now < 2 ^ 32 }
+{
+    let size = (object.len() as u32).to_be_bytes();
+    let mut all = Vec::new(alloc);
+    all.extend_from_slice(records)?;
+    push_dataset(&mut all, 7, 10, &[1])?;
+    push_dataset(&mut all, 7, 20, &subfile.to_be_bytes())?;
+    push_dataset(&mut all, 7, 90, &size)?;
+    push_subfiles(&mut all, object, subfile as usize)?;
+    push_dataset(&mut all, 9, 10, &size)?;
+    Ok(all)
+}
+
+/// 9,000 times the smallest envelope, of 114 octets.
+pub fn small_envelopes(alloc: Global) -> Result<Vec<u8>, AllocError> {
+    let one = envelope(alloc, SMALLEST, LEAST_MESSAGE, 1024)?;
+    repeated(alloc, &one, 9000)
+}
+
+/// 4,000 envelopes of 246 octets: a header of 16 datasets, and a story of two lines.
+pub fn story_envelopes(alloc: Global) -> Result<Vec<u8>, AllocError> {
+    let mut records = Vec::from_slice(alloc, SMALLEST)?;
+    records.extend_from_slice(NAMES)?;
+    let object = message_of(alloc, b"Rates stay.\r\nNo change.")?;
+    let one = envelope(alloc, &records, &object, 1024)?;
+    repeated(alloc, &one, 4000)
+}
+
+/// 240 envelopes of 4,387 octets: a header of 22 datasets, and a story of 64 lines of prose in one subfile.
+pub fn stories(alloc: Global) -> Result<Vec<u8>, AllocError> {
+    let mut records = Vec::from_slice(alloc, SMALLEST)?;
+    records.extend_from_slice(NAMES)?;
+    records.extend_from_slice(PLACES)?;
+    let object = message_of(alloc, &repeated(alloc, LINE, 64)?)?;
+    let one = envelope(alloc, &records, &object, SUBFILE)?;
+    repeated(alloc, &one, 240)
+}
+
+/// 190 envelopes of 5,314 octets: a header of 407 datasets, 400 of them keywords, and a story of one empty line.
+pub fn keywords(alloc: Global) -> Result<Vec<u8>, AllocError> {
+    let mut records = Vec::from_slice(alloc, SMALLEST)?;
+    records.extend_from_slice(&repeated(alloc, KEYWORD, 400)?)?;
+    let one = envelope(alloc, &records, LEAST_MESSAGE, 1024)?;
+    repeated(alloc, &one, 190)
+}
+
+/// One envelope with this text, in subfiles of 32,768 octets.
+pub fn long_text(alloc: Global, text: &[u8]) -> Result<Vec<u8>, AllocError>
+    requires { length text.now < 2 ^ 31 }
+{
+    envelope(alloc, SMALLEST, &message_of(alloc, text)?, SUBFILE)
+}
+
+/// One envelope with 2,560 lines of prose, in 163,867 subfiles of one octet.
+pub fn single_subfiles(alloc: Global) -> Result<Vec<u8>, AllocError> {
+    let object = message_of(alloc, &repeated(alloc, LINE, 2560)?)?;
+    envelope(alloc, SMALLEST, &object, 1)
+}
+
+/// 9,000 envelopes of 114 octets, each with a number of its own, from 0 on.
+pub fn numbered_envelopes(alloc: Global) -> Result<Vec<u8>, AllocError> {
+    let one = envelope(alloc, SMALLEST, LEAST_MESSAGE, 1024)?;
+    let mut all = Vec::new(alloc);
+    for number in 0..9000u32 {
+        let digits = format!(in alloc; "{number:08}")?;
+        all.extend_from_slice(one.get(..34).unwrap_or(&[]))?;
+        all.extend_from_slice(digits.as_bytes())?;
+        all.extend_from_slice(one.get(42..).unwrap_or(&[]))?;
+    }
+    Ok(all)
+}

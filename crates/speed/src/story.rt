@@ -1,0 +1,54 @@
+//! A story that is packed.
+
+use iim_commands::coming::LIMITS;
+use iim_fields::{Envelope, EnvelopeBuilder};
+use std::alloc::Global;
+use wire_message::MessageHead;
+use wire_story::{Lines, TextReader};
+
+/// What a packer is given: an envelope, a header and lines.
+#[derive(Drop)]
+pub struct Story {
+    pub envelope: Envelope,
+    pub head: MessageHead,
+    pub lines: Lines,
+}
+
+/// The datasets that each envelope has.
+const FIELDS: [(u8, u8, &[u8]); 7] = [
+    (1, 0, &[0, 4]),
+    (1, 20, &[0, 2]),
+    (1, 22, &[0, 1]),
+    (1, 30, b"TST"),
+    (1, 40, b"00000001"),
+    (1, 70, b"20240301"),
+    (2, 0, &[0, 4]),
+];
+
+/// An envelope of the mandatory datasets.
+fn envelope(alloc: Global) -> Option<Envelope> {
+    let mut builder = EnvelopeBuilder::new(alloc, LIMITS).ok()?;
+    for (rec, set, data) in FIELDS {
+        builder.add(rec, set, data).ok()?;
+    }
+    match builder.finish() {
+        Ok(envelope) => Some(envelope),
+        Err(_) => None,
+    }
+}
+
+impl Story {
+    /// A story of this text. None where the text is none, or memory was refused.
+    pub fn new(alloc: Global, text: &[u8]) -> Option<Story> {
+        let envelope = envelope(alloc)?;
+        let head = MessageHead::new(b"TST", b"0007", b"4", b"ECO", b"5", b"rates")?;
+        let mut lines = Lines::new(alloc);
+        let mut reader = TextReader::new();
+        reader.run(text, &mut lines).ok()?;
+        Some(Story {
+            envelope,
+            head,
+            lines,
+        })
+    }
+}

@@ -1,0 +1,196 @@
+//! What is run over a shape.
+
+ghost use Rattle.std.specs.Prelude.{◌≡◌, IfSome};
+ghost use Rattle.wire_story.specs.Delivery.{delivered};
+ghost use Rattle.speed.specs.Counts.{CountsText};
+
+use crate::story::Story;
+use crate::tally::Tally;
+use iim_audit::audit;
+use iim_commands::check::Check;
+use iim_commands::coming::{LIMITS, Next, take_next};
+use iim_commands::list::list;
+use iim_dataset::{FromRead, HeadReader};
+use iim_object::{Plan, Size};
+use iim_pack::pack;
+use iim_unpack::{Intake, Progress, Unpacked, Unpacker};
+use jiff::Timestamp;
+use std::alloc::Global;
+use wire_message::MessageReader;
+use wire_story::TextReader;
+
+/// A reader of octets.
+#[derive(Clone, Copy, Debug, PartialEq, Eq)]
+pub enum Reading {
+    /// Datasets, by `HeadReader`.
+    Heads,
+    /// Envelopes, by `Intake`.
+    Unpack,
+    /// Envelopes, by `Unpacker`, one octet a call.
+    UnpackOctets,
+    /// The lines of `check`.
+    Check,
+    /// The rows of `audit`.
+    Audit,
+    /// A text, by `TextReader`.
+    Text,
+    /// A message, by `MessageReader`.
+    Message,
+    /// A message, by `MessageReader`, one octet a call.
+    MessageOctets,
+}
+
+/// What is measured.
+#[derive(Clone, Copy)]
+pub enum Work<'a> {
+    /// A reader, over the shape.
+    Read(Reading),
+    /// `pack`, with so many octets in a full subfile, of the story whose text is the shape.
+    Pack { story: &'a Story, subfile: u64 },
+}
+
+impl Work<'_> {
+    /// What it is called in the table.
+    pub fn name(self) -> &'static str {
+        match self {
+            Work::Read(Reading::Heads) => "heads",
+            Work::Read(Reading::Unpack) => "unpack",
+            Work::Read(Reading::UnpackOctets) => "unpack, octet by octet",
+            Work::Read(Reading::Check) => "check",
+            Work::Read(Reading::Audit) => "audit",
+            Work::Read(Reading::Text) => "text",
+            Work::Read(Reading::Message) => "message",
+            Work::Read(Reading::MessageOctets) => "message, octet by octet",
+            Work::Pack { subfile: 1024, .. } => "pack by 1,024",
+            Work::Pack { .. } => "pack by 32,768",
+        }
+    }
+
+    /// Runs once over the octets of a shape: what it counted, or None where something was refused.
+    pub fn run(self, alloc: Global, octets: &[u8]) -> Option<Tally> {
+        match self {
+            Work::Read(Reading::Heads) => heads(octets),
+            Work::Read(Reading::Unpack) => unpack(alloc, octets),
+            Work::Read(Reading::UnpackOctets) => unpack_octets(alloc, octets),
+            Work::Read(Reading::Check) => check(alloc, octets),
+            Work::Read(Reading::Audit) => audited(alloc, octets),
+            Work::Read(Reading::Text) => text(octets),
+            Work::Read(Reading::Message) => message(octets),
+            Work::Read(Reading::MessageOctets) => message_octets(octets),
+            Work::Pack { story, subfile } => packed(alloc, story, subfile),
+        }
+    }
+}
+
+/// Reads datasets: counts them and the octets of their data.
+fn heads(octets: &[u8]) -> Option<Tally> {
+    let mut tally = Tally::new();
+    HeadReader::new().feed(octets, &mut tally).ok()?;
+    Some(tally)
+}
+
+/// Reads envelopes: counts them, the octets of their lines and the ends of these.
+fn unpack(alloc: Global, octets: &[u8]) -> Option<Tally> {
+    let mut intake = Intake::new(FromRead::new(octets));
+    let mut tally = Tally::new();
+    let mut spare = None;
+    'envelopes: for _ in 0..=octets.len() {
+        match take_next(alloc, spare.take(), &mut intake, &mut tally) {
+            Ok(Next::Envelope(got, _)) => {
+                tally.count_whole();
+                spare = Some(got);
+            }
+            Ok(Next::End) => return Some(tally),
+            _ => return None,
+        }
+    }
+    None
+}
+
+/// An unpacker of the next envelope, with the memory of the last one.
+fn next_unpacker(alloc: Global, last: Unpacker) -> Option<Unpacker> {
+    let unpacked = last.into_unpacked().ok()?;
+    match Unpacker::over(unpacked, LIMITS) {
+        Ok(unpacker) => Some(unpacker),
+        Err(_) => Unpacker::new(alloc, LIMITS).ok(),
+    }
+}
+
+/// Reads envelopes, one octet a call: counts as `unpack` does.
+fn unpack_octets(alloc: Global, octets: &[u8]) -> Option<Tally> {
+    let mut unpacker = Unpacker::new(alloc, LIMITS).ok()?;
+    let mut tally = Tally::new();
+    for octet in octets.chunks(1) {
+        if let Progress::Done { .. } = unpacker.feed(octet, &mut tally).ok()? {
+            tally.count_whole();
+            unpacker = next_unpacker(alloc, unpacker)?;
+        }
+    }
+    Some(tally)
+}
+
+/// Lists envelopes as the command does: counts the octets of the list.
+fn check(alloc: Global, octets: &[u8]) -> Option<Tally> {
+    let mut intake = Intake::new(FromRead::new(octets));
+    let mut tally = Tally::new();
+    let status = list(alloc, &Check, &mut intake, &mut tally).ok()?;
+    (status == 0).then_some(tally)
+}
+
+/// Audits envelopes: counts them and the octets of their objects.
+fn audited(alloc: Global, octets: &[u8]) -> Option<Tally> {
+    let mut intake = Intake::new(FromRead::new(octets));
+    let report = audit(alloc, &mut intake, LIMITS, Timestamp::UNIX_EPOCH).ok()?;
+    let mut tally = Tally::new();
+    for row in report.rows() {
+        tally.count_whole();
+        tally.octets = tally.octets.saturating_add(row.size);
+    }
+    Some(tally)
+}
+
+/// Reads a text: counts the octets of its lines and the ends of these.
+fn text(octets: &[u8]) -> Option<Tally>
+    ensures { IfSome result (λ tally. CountsText (record { whole = 0; line_ends = 0; octets = 0 }) (delivered octets.now) tally) }
+{
+    let mut tally = Tally::new();
+    TextReader::new().run(octets, &mut tally).ok()?;
+    Some(tally)
+}
+
+/// Reads a message: counts it, the octets of its lines and the ends of these.
+fn message(octets: &[u8]) -> Option<Tally> {
+    let mut tally = Tally::new();
+    let mut reader = MessageReader::new();
+    reader.feed(octets, &mut tally).ok()?;
+    reader.close().ok()?;
+    tally.count_whole();
+    Some(tally)
+}
+
+/// Reads a message, one octet a call: counts as `message` does.
+fn message_octets(octets: &[u8]) -> Option<Tally> {
+    let mut tally = Tally::new();
+    let mut reader = MessageReader::new();
+    'octets: for octet in octets.chunks(1) {
+        reader.feed(octet, &mut tally).ok()?;
+    }
+    reader.close().ok()?;
+    tally.count_whole();
+    Some(tally)
+}
+
+/// Packs a story: counts the octets that are written.
+fn packed(alloc: Global, story: &Story, subfile: u64) -> Option<Tally> {
+    let plan = Plan::new(subfile, Size::Unknown(None))?;
+    pack(
+        alloc,
+        &story.envelope,
+        &story.head,
+        &story.lines,
+        b"",
+        plan,
+        Tally::new(),
+    )
+    .ok()
+}
