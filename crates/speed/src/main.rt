@@ -63,7 +63,11 @@ fn print_streams<R: Print + CpuClock>(table: &Table<'_, R>) -> io::Result<()> {
     let alloc = table.alloc();
     let octets = small_envelopes(alloc)?;
     table.print("envelopes of 114 octets", &octets, &STREAM)?;
-    table.print("the same", &octets, &[Work::Read(Reading::UnpackOctets)])?;
+    table.print(
+        "envelopes of 114 octets",
+        &octets,
+        &[Work::Read(Reading::UnpackOctets)],
+    )?;
     let octets = story_envelopes(alloc)?;
     table.print("envelopes of 246 octets", &octets, &STREAM)?;
     let octets = stories(alloc)?;

@@ -45,11 +45,10 @@ impl<'a, R: Print + CpuClock> Table<'a, R> {
 
     /// The first line.
     pub fn print_heading(&self) -> io::Result<()> {
-        let (first, second, third) = match self.turns {
-            0 => ("whole", "line ends", "told"),
-            _ => ("ns an octet", "to a copy", ""),
-        };
-        println!(self.rt; "shape | run | octets | {first} | {second} | {third}")
+        if self.turns == 0 {
+            return println!(self.rt; "shape | run | octets | whole | line ends | told");
+        }
+        println!(self.rt; "shape | run | octets | ns an octet | to a copy")
     }
 
     /// That a shape is refused.
