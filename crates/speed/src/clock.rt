@@ -39,7 +39,7 @@ impl Times {
 }
 
 /// A quotient in thousandths, rounded down. None of nothing.
-pub fn thousandths(part: u64, whole: u64) -> Option<u128>
+pub(crate) fn thousandths(part: u64, whole: u64) -> Option<u128>
     ensures none { IsNone result ↔ (whole ≡ 0) }
     ensures value { IfSome result (λ quotient. quotient ≡ part * 1000 / whole) }
 {
@@ -65,7 +65,7 @@ fn copy(octets: &[u8], room: &mut [u8])
 
 /// The least times of so many turns, each a plain copy and then the work. None where the work was refused, or counted otherwise
 /// than it should.
-pub fn measure<R: CpuClock>(
+pub(crate) fn measure<R: CpuClock>(
     rt: &R,
     alloc: Global,
     turns: u32,

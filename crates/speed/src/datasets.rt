@@ -7,7 +7,7 @@ use iim_dataset::{Head, head_bytes};
 use std::alloc::{AllocError, Global};
 
 /// A piece, so many times.
-pub fn repeated(alloc: Global, piece: &[u8], times: usize) -> Result<Vec<u8>, AllocError>
+pub(crate) fn repeated(alloc: Global, piece: &[u8], times: usize) -> Result<Vec<u8>, AllocError>
     ensures octets { IfOk result (λ all. all.items ≡ repeated piece.now times) }
     ensures len { IfOk result (λ all. vec_len all ≡ times * length piece.now) }
 {
@@ -19,7 +19,12 @@ pub fn repeated(alloc: Global, piece: &[u8], times: usize) -> Result<Vec<u8>, Al
 }
 
 /// Adds a dataset with its canonical tag.
-pub fn push_dataset(all: &mut Vec<u8>, rec: u8, set: u8, octets: &[u8]) -> Result<(), AllocError>
+pub(crate) fn push_dataset(
+    all: &mut Vec<u8>,
+    rec: u8,
+    set: u8,
+    octets: &[u8],
+) -> Result<(), AllocError>
     requires { length octets.now < 2 ^ 32 }
     ensures { OnOk result (all.new.items ≡ all.old.items ++ written rec set octets.now) }
 {
@@ -30,7 +35,11 @@ pub fn push_dataset(all: &mut Vec<u8>, rec: u8, set: u8, octets: &[u8]) -> Resul
 }
 
 /// Adds an object in full subfiles of so many octets, and one of the octets that are left.
-pub fn push_subfiles(all: &mut Vec<u8>, object: &[u8], subfile: usize) -> Result<(), AllocError>
+pub(crate) fn push_subfiles(
+    all: &mut Vec<u8>,
+    object: &[u8],
+    subfile: usize,
+) -> Result<(), AllocError>
     requires some { 0 < subfile }
     requires few { length object.now < 2 ^ 32 }
 {

@@ -34,17 +34,17 @@ pub struct Table<'a, R> {
 
 impl<'a, R: Print + CpuClock> Table<'a, R> {
     /// A table of the least times of so many turns, or of counts where they are none.
-    pub fn new(rt: &'a R, alloc: Global, turns: u32) -> Table<'a, R> {
+    pub(crate) fn new(rt: &'a R, alloc: Global, turns: u32) -> Table<'a, R> {
         Table { rt, alloc, turns }
     }
 
     /// Where memory comes from.
-    pub fn alloc(&self) -> Global {
+    pub(crate) fn alloc(&self) -> Global {
         self.alloc
     }
 
     /// The first line.
-    pub fn print_heading(&self) -> io::Result<()> {
+    pub(crate) fn print_heading(&self) -> io::Result<()> {
         if self.turns == 0 {
             return println!(self.rt; "shape | run | octets | whole | line ends | told");
         }
@@ -52,12 +52,12 @@ impl<'a, R: Print + CpuClock> Table<'a, R> {
     }
 
     /// That a shape is refused.
-    pub fn print_refused(&self, shape: &str) -> io::Result<()> {
+    pub(crate) fn print_refused(&self, shape: &str) -> io::Result<()> {
         println!(self.rt; "{shape} | refused")
     }
 
     /// A line for each work over the octets of a shape.
-    pub fn print(&self, shape: &str, octets: &[u8], works: &[Work<'_>]) -> io::Result<()> {
+    pub(crate) fn print(&self, shape: &str, octets: &[u8], works: &[Work<'_>]) -> io::Result<()> {
         for work in works {
             match work.run(self.alloc, octets) {
                 Some(tally) => self.print_work(shape, octets, *work, tally)?,

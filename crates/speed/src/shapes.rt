@@ -44,21 +44,21 @@ const SHORT_LINE: &[u8; 3] = b"x\r\n";
 const SUBFILE: u32 = 32_768;
 
 /// Prose: 16,384 lines of 62 octets, and an empty last one.
-pub fn prose(alloc: Global) -> Result<Vec<u8>, AllocError>
+pub(crate) fn prose(alloc: Global) -> Result<Vec<u8>, AllocError>
     ensures { IfOk result (λ text. vec_len text ≡ 1048576) }
 {
     repeated(alloc, LINE, 16_384)
 }
 
 /// 340,000 lines of one octet, and an empty last one.
-pub fn short_lines(alloc: Global) -> Result<Vec<u8>, AllocError>
+pub(crate) fn short_lines(alloc: Global) -> Result<Vec<u8>, AllocError>
     ensures { IfOk result (λ text. vec_len text ≡ 1020000) }
 {
     repeated(alloc, SHORT_LINE, 340_000)
 }
 
 /// A message with this text.
-pub fn message_of(alloc: Global, text: &[u8]) -> Result<Vec<u8>, AllocError>
+pub(crate) fn message_of(alloc: Global, text: &[u8]) -> Result<Vec<u8>, AllocError>
     ensures octets { IfOk result (λ message. message.items ≡ message_of text.now) }
     ensures len { IfOk result (λ message. vec_len message ≡ length text.now + 27) }
 {
@@ -91,13 +91,13 @@ fn envelope(
 }
 
 /// 9,000 times the smallest envelope, of 114 octets.
-pub fn small_envelopes(alloc: Global) -> Result<Vec<u8>, AllocError> {
+pub(crate) fn small_envelopes(alloc: Global) -> Result<Vec<u8>, AllocError> {
     let one = envelope(alloc, SMALLEST, LEAST_MESSAGE, 1024)?;
     repeated(alloc, &one, 9000)
 }
 
 /// 4,000 envelopes of 246 octets: a header of 16 datasets, and a story of two lines.
-pub fn story_envelopes(alloc: Global) -> Result<Vec<u8>, AllocError> {
+pub(crate) fn story_envelopes(alloc: Global) -> Result<Vec<u8>, AllocError> {
     let mut records = Vec::from_slice(alloc, SMALLEST)?;
     records.extend_from_slice(NAMES)?;
     let object = message_of(alloc, b"Rates stay.\r\nNo change.")?;
@@ -106,7 +106,7 @@ pub fn story_envelopes(alloc: Global) -> Result<Vec<u8>, AllocError> {
 }
 
 /// 240 envelopes of 4,387 octets: a header of 22 datasets, and a story of 64 lines of prose in one subfile.
-pub fn stories(alloc: Global) -> Result<Vec<u8>, AllocError> {
+pub(crate) fn stories(alloc: Global) -> Result<Vec<u8>, AllocError> {
     let mut records = Vec::from_slice(alloc, SMALLEST)?;
     records.extend_from_slice(NAMES)?;
     records.extend_from_slice(PLACES)?;
@@ -116,7 +116,7 @@ pub fn stories(alloc: Global) -> Result<Vec<u8>, AllocError> {
 }
 
 /// 190 envelopes of 5,314 octets: a header of 407 datasets, 400 of them keywords, and a story of one empty line.
-pub fn keywords(alloc: Global) -> Result<Vec<u8>, AllocError> {
+pub(crate) fn keywords(alloc: Global) -> Result<Vec<u8>, AllocError> {
     let mut records = Vec::from_slice(alloc, SMALLEST)?;
     records.extend_from_slice(&repeated(alloc, KEYWORD, 400)?)?;
     let one = envelope(alloc, &records, LEAST_MESSAGE, 1024)?;
@@ -124,20 +124,20 @@ pub fn keywords(alloc: Global) -> Result<Vec<u8>, AllocError> {
 }
 
 /// One envelope with this text, in subfiles of 32,768 octets.
-pub fn long_text(alloc: Global, text: &[u8]) -> Result<Vec<u8>, AllocError>
+pub(crate) fn long_text(alloc: Global, text: &[u8]) -> Result<Vec<u8>, AllocError>
     requires { length text.now < 2 ^ 31 }
 {
     envelope(alloc, SMALLEST, &message_of(alloc, text)?, SUBFILE)
 }
 
 /// One envelope with 2,560 lines of prose, in 163,867 subfiles of one octet.
-pub fn single_subfiles(alloc: Global) -> Result<Vec<u8>, AllocError> {
+pub(crate) fn single_subfiles(alloc: Global) -> Result<Vec<u8>, AllocError> {
     let object = message_of(alloc, &repeated(alloc, LINE, 2560)?)?;
     envelope(alloc, SMALLEST, &object, 1)
 }
 
 /// 9,000 envelopes of 114 octets, each with a number of its own, from 0 on.
-pub fn numbered_envelopes(alloc: Global) -> Result<Vec<u8>, AllocError> {
+pub(crate) fn numbered_envelopes(alloc: Global) -> Result<Vec<u8>, AllocError> {
     let one = envelope(alloc, SMALLEST, LEAST_MESSAGE, 1024)?;
     let mut all = Vec::new(alloc);
     for number in 0..9000u32 {

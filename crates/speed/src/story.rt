@@ -39,7 +39,7 @@ fn envelope(alloc: Global) -> Option<Envelope> {
 
 impl Story {
     /// A story of this text. None where the text is none, or memory was refused.
-    pub fn new(alloc: Global, text: &[u8]) -> Option<Story> {
+    pub(crate) fn new(alloc: Global, text: &[u8]) -> Option<Story> {
         let envelope = envelope(alloc)?;
         let head = MessageHead::new(b"TST", b"0007", b"4", b"ECO", b"5", b"rates")?;
         let mut lines = Lines::new(alloc);

@@ -27,7 +27,7 @@ fn raised(count: u64, by: usize) -> u64
 
 impl Tally {
     /// Nothing counted.
-    pub fn new() -> Tally
+    pub(crate) fn new() -> Tally
         ensures whole { result.whole ≡ 0 }
         ensures line_ends { result.line_ends ≡ 0 }
         ensures octets { result.octets ≡ 0 }
@@ -40,7 +40,7 @@ impl Tally {
     }
 
     /// Counts one thing more.
-    pub fn count_whole(&mut self)
+    pub(crate) fn count_whole(&mut self)
         ensures { self.new ≡ record self.old { whole = capped (self.old.whole + 1) } }
     {
         self.whole = raised(self.whole, 1);

@@ -51,7 +51,7 @@ pub enum Work<'a> {
 
 impl Work<'_> {
     /// What it is called in the table.
-    pub fn name(self) -> &'static str {
+    pub(crate) fn name(self) -> &'static str {
         match self {
             Work::Read(Reading::Heads) => "heads",
             Work::Read(Reading::Unpack) => "unpack",
@@ -67,7 +67,7 @@ impl Work<'_> {
     }
 
     /// Runs once over the octets of a shape: what it counted, or None where something was refused.
-    pub fn run(self, alloc: Global, octets: &[u8]) -> Option<Tally> {
+    pub(crate) fn run(self, alloc: Global, octets: &[u8]) -> Option<Tally> {
         match self {
             Work::Read(Reading::Heads) => heads(octets),
             Work::Read(Reading::Unpack) => unpack(alloc, octets),
