@@ -15,19 +15,31 @@ use crate::shape::{Kind, Row};
 fn are_graphic(octets: &[u8]) -> bool
     ensures { result ≡ list_all is_graphic octets.now }
 {
-    octets.iter().all(|octet| is_graphic(*octet))
+    let mut graphic = true;
+    for octet in octets {
+        graphic &= is_graphic(*octet);
+    }
+    graphic
 }
 
 fn are_spaced(octets: &[u8]) -> bool
     ensures { result ≡ list_all is_spaced octets.now }
 {
-    octets.iter().all(|octet| is_spaced(*octet))
+    let mut spaced = true;
+    for octet in octets {
+        spaced &= is_spaced(*octet);
+    }
+    spaced
 }
 
 fn are_spaced_or_line_ends(octets: &[u8]) -> bool
     ensures { result ≡ list_all is_spaced_or_line_end octets.now }
 {
-    octets.iter().all(|octet| is_spaced_or_line_end(*octet))
+    let mut spaced = true;
+    for octet in octets {
+        spaced &= is_spaced_or_line_end(*octet);
+    }
+    spaced
 }
 
 fn are_letters(octets: &[u8]) -> bool
