@@ -1,0 +1,49 @@
+//! Calls of the audit.
+
+use crate::outcome::{Trouble, right};
+use crate::worked::{LIMITS, STREAM};
+use iim_audit::{AuditCause, AuditFault, Report, audit, report_text};
+use iim_dataset::FromRead;
+use iim_unpack::{Intake, Unpacker};
+use jiff::Timestamp;
+use std::alloc::Global;
+use wire_story::Discard;
+
+/// The report of the stream.
+const REPORT: &[u8] =
+    b"1 TST 00000002 20240301 priority - size 50 subfiles 1 words 5/4 age - repeats -\n\
+2 TST 00000001 20240301 priority - size 14 subfiles 1 words 0/0 age - repeats -\n\
+3 TST 00000002 20240301 priority - size 14 subfiles 1 words 0/0 age - repeats 1\n\
+3 envelopes, 1 repeated\n";
+
+/// What a fault of an audit comes to: where memory was refused, the reader can still be read from.
+fn trouble_of(alloc: Global, fault: AuditFault, intake: &mut Intake<FromRead<&[u8]>>) -> Trouble {
+    if fault.cause != AuditCause::OutOfMemory {
+        return Trouble::Wrong;
+    }
+    let Ok(unpacker) = Unpacker::new(alloc, LIMITS) else {
+        return Trouble::OutOfMemory;
+    };
+    match intake.next_envelope(unpacker, &mut Discard) {
+        Ok(_) => Trouble::OutOfMemoryAt(fault.envelope),
+        Err(_) => Trouble::Wrong,
+    }
+}
+
+/// Audits the stream.
+pub(crate) fn audited(alloc: Global) -> Result<Report, Trouble> {
+    let mut intake = Intake::new(FromRead::new(STREAM));
+    match audit(alloc, &mut intake, LIMITS, Timestamp::UNIX_EPOCH) {
+        Ok(report) => {
+            right(report.rows().len() == 3)?;
+            Ok(report)
+        }
+        Err(fault) => Err(trouble_of(alloc, fault, &mut intake)),
+    }
+}
+
+/// Writes the report of the stream.
+pub(crate) fn written(alloc: Global, report: &Report) -> Result<(), Trouble> {
+    let text = report_text(alloc, report)?;
+    right(text.as_slice() == REPORT)
+}

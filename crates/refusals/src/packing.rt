@@ -1,0 +1,44 @@
+//! Calls that pack envelopes.
+
+use crate::objects::{plan, writer};
+use crate::outcome::{Trouble, right};
+use crate::worked::{FIRST_LINE, LAST_LINE, STORY, head};
+use iim_dataset::TrialWriter;
+use iim_fields::Envelope;
+use iim_object::{PackCause, StartFault};
+use iim_pack::{Packer, pack};
+use std::alloc::Global;
+use wire_story::Lines;
+
+/// What a fault comes to: where memory was refused, nothing is written.
+fn trouble_of(fault: &StartFault<TrialWriter<512>>) -> Trouble {
+    let is_empty = fault.written == 0 && fault.writer.octets().is_empty();
+    if fault.cause == PackCause::OutOfMemory && is_empty {
+        Trouble::OutOfMemory
+    } else {
+        Trouble::Wrong
+    }
+}
+
+/// Packs the worked envelope call by call: after `start` nothing takes memory.
+pub(crate) fn call_by_call(alloc: Global, envelope: &Envelope) -> Result<(), Trouble> {
+    let mut packer = match Packer::start(alloc, envelope, &head()?, plan()?, writer()) {
+        Ok(packer) => packer,
+        Err(fault) => return Err(trouble_of(&fault)),
+    };
+    right(packer.text(FIRST_LINE).is_ok())?;
+    right(packer.line_end().is_ok())?;
+    right(packer.text(LAST_LINE).is_ok())?;
+    let Ok(writer) = packer.finish(b"") else {
+        return Err(Trouble::Wrong);
+    };
+    right(writer.octets() == STORY)
+}
+
+/// Packs the worked envelope in one call.
+pub(crate) fn at_once(alloc: Global, envelope: &Envelope, lines: &Lines) -> Result<(), Trouble> {
+    match pack(alloc, envelope, &head()?, lines, b"", plan()?, writer()) {
+        Ok(writer) => right(writer.octets() == STORY),
+        Err(fault) => Err(trouble_of(&fault)),
+    }
+}

@@ -1,0 +1,84 @@
+//! Calls of the records: checked, and built.
+
+ghost use Rattle.std.specs.Prelude.{◌≢◌, length, OnOk};
+ghost use Rattle.iim_fields.specs.Standing.{IsBetween, IsInside};
+
+use crate::outcome::{Trouble, right};
+use crate::worked::{FIELDS, LIMITS};
+use iim_dataset::Head;
+use iim_fields::{Envelope, EnvelopeBuilder, FieldFault, Fields};
+use std::alloc::Global;
+
+/// Gives all octets of the begun dataset.
+fn give(fields: &mut Fields, head: Head, octets: &[u8])
+    requires inside { IsInside fields.old head (length octets.now) }
+    requires value { head.rec ≢ 8 }
+    ensures { IsInside fields.new head 0 }
+{
+    fields.bytes(octets);
+}
+
+/// Passes a dataset that is not of record 8.
+fn pass(fields: &mut Fields, rec: u8, set: u8, octets: &[u8]) -> Result<(), FieldFault>
+    requires between { IsBetween fields.old }
+    requires value { rec ≢ 8 }
+    ensures { OnOk result (IsBetween fields.new) }
+{
+    let head = Head {
+        rec,
+        set,
+        count: octets.len() as u64,
+    };
+    match fields.begin(head) {
+        Ok(()) => {
+            give(fields, head, octets);
+            match fields.close() {
+                Ok(_) => Ok(()),
+                Err(fault) => Err(fault),
+            }
+        }
+        Err(fault) => Err(fault),
+    }
+}
+
+/// Checks the worked fields: after `new` nothing takes memory.
+pub(crate) fn fields(alloc: Global) -> Result<(), Trouble> {
+    let mut fields = Fields::new(alloc, LIMITS)?;
+    for (rec, set, octets) in FIELDS {
+        if rec == 8 || pass(&mut fields, rec, set, octets).is_err() {
+            return Err(Trouble::Wrong);
+        }
+    }
+    Ok(())
+}
+
+/// Adds the worked fields, and whether each was taken.
+fn add_all(builder: &mut EnvelopeBuilder) -> bool {
+    for (rec, set, octets) in FIELDS {
+        if builder.add(rec, set, octets).is_err() {
+            return false;
+        }
+    }
+    true
+}
+
+/// Whether an envelope has the worked fields.
+pub(crate) fn is_worked(envelope: &Envelope) -> bool {
+    for ((rec, set, octets), want) in envelope.fields().zip(FIELDS) {
+        if (rec, set) != (want.0, want.1) || octets != want.2 {
+            return false;
+        }
+    }
+    envelope.fields().count() == FIELDS.len()
+}
+
+/// Builds the worked envelope: after `new` nothing takes memory.
+pub(crate) fn built(alloc: Global) -> Result<Envelope, Trouble> {
+    let mut builder = EnvelopeBuilder::new(alloc, LIMITS)?;
+    right(add_all(&mut builder))?;
+    let Ok(envelope) = builder.finish() else {
+        return Err(Trouble::Wrong);
+    };
+    right(is_worked(&envelope))?;
+    Ok(envelope)
+}
