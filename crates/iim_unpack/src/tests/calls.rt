@@ -85,14 +85,15 @@ fn one_long_line(rt: HostRuntime) -> Result<(), Fail> {
     Ok(())
 }
 
-/// At the first octet of the text, within a line, at the end of one, and within the next.
+/// At the first octet of the text, within a line, at the end of one, and before and within the next.
 #[test]
 fn sinks_that_stop(rt: HostRuntime) -> Result<(), Fail> {
     let octets = story(rt.alloc())?;
-    let rows: [(u64, usize, usize, &[u8]); 4] = [
+    let rows: [(u64, usize, usize, &[u8]); 5] = [
         (0, 0, 212, b"\n"),
-        (0, 3, 215, b"Rat\n"),
+        (0, 4, 216, b"Rate\n"),
         (1, 0, 224, b"Rates stay.\n"),
+        (2, 0, 225, b"Rates stay.\n\n"),
         (2, 4, 229, b"Rates stay.\nNo c\n"),
     ];
     for (good, front, octet, lines) in rows {

@@ -1,4 +1,4 @@
-//! What an unpacker answers to octets, in one piece and octet by octet.
+//! What an unpacker answers to octets, in one piece and in pieces of each size.
 
 use super::rule::refusal;
 use super::{LIMITS, joined};
@@ -46,21 +46,22 @@ pub fn in_one_piece<S: StorySink>(
     Ok(answer)
 }
 
-/// Feeds octet by octet, with an empty piece before each.
-pub fn by_octets<S: StorySink>(
+/// Feeds pieces of so many octets, with an empty piece before each.
+fn in_pieces<S: StorySink>(
     alloc: Global,
     limits: Limits,
     octets: &[u8],
+    size: usize,
     sink: &mut S,
 ) -> Result<Result<u64, Refusal>, AllocError> {
     let mut unpacker = Unpacker::new(alloc, limits)?;
     let mut sum = 0u64;
-    for octet in octets {
+    for piece in octets.chunks(size.max(1)) {
         if let Err(refusal) = unpacker.feed(&[], sink) {
             return Ok(Err(refusal));
         }
-        match unpacker.feed(&[*octet], sink) {
-            Ok(Progress::More) => sum = sum.saturating_add(1),
+        match unpacker.feed(piece, sink) {
+            Ok(Progress::More) => sum = sum.saturating_add(piece.len() as u64),
             Ok(Progress::Done { used }) => sum = sum.saturating_add(used as u64),
             Err(refusal) => return Ok(Err(refusal)),
         }
@@ -68,24 +69,53 @@ pub fn by_octets<S: StorySink>(
     Ok(settled(&unpacker, sum))
 }
 
-/// Expects an answer under the limits, in one piece and octet by octet.
+/// Feeds octet by octet, with an empty piece before each.
+pub fn by_octets<S: StorySink>(
+    alloc: Global,
+    limits: Limits,
+    octets: &[u8],
+    sink: &mut S,
+) -> Result<Result<u64, Refusal>, AllocError> {
+    in_pieces(alloc, limits, octets, 1, sink)
+}
+
+/// The most octets of the pieces that streams are fed in.
+const LONGEST_PIECE: usize = 64;
+
+/// Expects an answer in pieces of so many octets.
+fn expect_in_pieces(
+    rt: &impl Abort,
+    alloc: Global,
+    limits: Limits,
+    octets: &[u8],
+    size: usize,
+    (want, lines): Answer<'_>,
+) -> Result<(), Fail> {
+    let mut cut = Lines::new(alloc);
+    let answer = in_pieces(alloc, limits, octets, size, &mut cut)?;
+    assert_eq!(rt; answer, want, "in pieces of {size}");
+    let text = text_of(alloc, &cut)?;
+    assert_eq!(rt; text.as_slice(), lines, "in pieces of {size}");
+    Ok(())
+}
+
+/// Expects an answer under the limits, in one piece and in pieces of each size.
 pub fn expect_within(
     rt: &impl Abort,
     alloc: Global,
     limits: Limits,
     octets: &[u8],
-    (want, lines): Answer<'_>,
+    answer: Answer<'_>,
 ) -> Result<(), Fail> {
+    let (want, lines) = answer;
     let mut whole = Lines::new(alloc);
-    let answer = in_one_piece(alloc, limits, octets, &mut whole)?;
-    assert_eq!(rt; answer, want, "in one piece");
+    let whole_answer = in_one_piece(alloc, limits, octets, &mut whole)?;
+    assert_eq!(rt; whole_answer, want, "in one piece");
     let text = text_of(alloc, &whole)?;
     assert_eq!(rt; text.as_slice(), lines, "in one piece");
-    let mut cut = Lines::new(alloc);
-    let answer = by_octets(alloc, limits, octets, &mut cut)?;
-    assert_eq!(rt; answer, want, "by octets");
-    let text = text_of(alloc, &cut)?;
-    assert_eq!(rt; text.as_slice(), lines, "by octets");
+    for size in 1..=LONGEST_PIECE {
+        expect_in_pieces(rt, alloc, limits, octets, size, answer)?;
+    }
     Ok(())
 }
 

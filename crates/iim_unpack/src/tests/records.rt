@@ -1,4 +1,4 @@
-//! Heads and values of the records, in one piece and octet by octet.
+//! Heads and values of the records, in one piece and in pieces of each size.
 
 use super::feeding::{Answer, expect, refused};
 use super::{SMALLEST, part, story};

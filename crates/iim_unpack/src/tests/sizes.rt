@@ -1,4 +1,4 @@
-//! The sizes of objects, in one piece and octet by octet.
+//! The sizes of objects, in one piece and in pieces of each size.
 
 use super::feeding::{Answer, expect, refused};
 use super::{SMALLEST, part, story};

@@ -1,4 +1,4 @@
-//! The unpacker on worked streams, in one piece and octet by octet.
+//! The unpacker on worked streams, in one piece and in pieces of each size.
 
 use super::feeding::{Answer, expect, expect_within, refused, text_of};
 use super::rule::refusal;
