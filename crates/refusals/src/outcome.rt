@@ -10,8 +10,8 @@ pub enum Trouble {
     OutOfMemory,
     /// Memory was refused, at the envelope of this number, and nothing else changed.
     OutOfMemoryAt(u64),
-    /// The sink was refused memory, and the refusal names this octet and the lines have so many octets.
-    StoppedAt(u64, usize),
+    /// The lines were refused memory for this octet of an envelope, and there are so many, with so many octets.
+    StoppedAt(u64, usize, usize),
     /// Anything else.
     Wrong,
 }
@@ -21,8 +21,11 @@ impl fmt::Display for Trouble {
         match self {
             Trouble::OutOfMemory => write!(f, "out of memory"),
             Trouble::OutOfMemoryAt(envelope) => write!(f, "out of memory at envelope {envelope}"),
-            Trouble::StoppedAt(octet, kept) => {
-                write!(f, "stopped at octet {octet} with {kept} octets of lines")
+            Trouble::StoppedAt(octet, lines, octets) => {
+                write!(
+                    f,
+                    "stopped at octet {octet}, lines {lines}, octets {octets}"
+                )
             }
             Trouble::Wrong => write!(f, "wrong"),
         }

@@ -40,7 +40,8 @@ pub(crate) fn fed_into_lines(alloc: Global) -> Result<(), Trouble> {
         }
         Err(refusal) => {
             right(refusal.cause == Cause::Sink && (refusal.rec, refusal.set) == (8, 10))?;
-            Err(Trouble::StoppedAt(refusal.octet, size_of(&lines).1))
+            let (count, octets) = size_of(&lines);
+            Err(Trouble::StoppedAt(refusal.octet, count, octets))
         }
     }
 }
