@@ -195,7 +195,7 @@ fn begins(begun: bool, piece: &[u8]) -> bool
 }
 
 impl Unpacker {
-    /// An unpacker that stands on no octets, with memory for just what the limits allow, and a size: no later call takes any.
+    /// An unpacker that stands on no octets, with memory for just what the limits allow: no later call takes any.
     pub fn new(alloc: Global, limits: Limits) -> Result<Unpacker, AllocError>
         ensures stands { IfOk result (λ u. Stands u [] 0) }
         ensures limits { IfOk result (λ u. limits_in u ≡ limits) }
