@@ -1,0 +1,76 @@
+//! Receives copy: files each envelope of standard input on standard output, and names the octets that it refuses.
+//!
+//! The status is 0 where the whole input was envelopes, 1 where octets were refused, and 3 where the input, the output or
+//! memory failed.
+#![tactic(auto)]
+
+use anyhow::Result;
+use iim_dataset::{FromRead, Source};
+use iim_fields::{Envelope, Limits};
+use iim_unpack::{Cause, Intake, IntakeFault, Unpacker};
+use std::alloc::Global;
+use std::io::{self, Write};
+use std::process::ExitCode;
+use wire_story::Lines;
+
+/// The most that records 1 and 2 of an envelope may have. Memory for just this is taken before the envelope comes.
+const LIMITS: Limits = Limits {
+    octets: 65_536,
+    fields: 512,
+};
+
+/// The status where all of the input was filed.
+const ACCEPTED: u8 = 0;
+/// The status where octets were refused.
+const REFUSED: u8 = 1;
+/// The status where the input, the output or memory failed.
+const FAILED: u8 = 3;
+
+fn main(rt: HostRuntime) -> ExitCode {
+    let source = FromRead::new(rt.stdin());
+    let status = match receive(rt.alloc(), source, &mut rt.stdout()) {
+        Ok(status) => status,
+        Err(error) => {
+            // Where this can't be told either, the status still says it.
+            let _ = eprintln!(rt; "{error}");
+            FAILED
+        }
+    };
+    ExitCode::from(status)
+}
+
+/// Files each envelope, up to the end of the input or to octets that are refused, and answers the status.
+fn receive<R: Source + Drop, W: Write>(alloc: Global, source: R, output: &mut W) -> Result<u8> {
+    // An intake reads a block at a time. What comes after an envelope stays next in line.
+    let mut intake = Intake::new(source);
+    for number in 1..u64::MAX {
+        // One unpacker for each envelope; its lines go to the sink as they come.
+        let unpacker = Unpacker::new(alloc, LIMITS)?;
+        let mut lines = Lines::new(alloc);
+        match intake.next_envelope(unpacker, &mut lines) {
+            Ok(Some(unpacked)) => file(output, &unpacked.envelope, &lines)?,
+            Ok(None) => break,
+            // The octets are at fault: nothing of this envelope is filed. A refusal names the place and the cause.
+            Err(IntakeFault::Refused(refusal)) if refusal.cause != Cause::Sink => {
+                writeln!(output, "envelope {number} {refusal}")?;
+                return Ok(REFUSED);
+            }
+            // The sink had no memory for a line, or the reader failed: the octets are not at fault.
+            Err(fault) => return Err(fault.into()),
+        }
+    }
+    Ok(ACCEPTED)
+}
+
+/// Files an envelope: its id, its headline where it has one, and its lines, octet for octet.
+fn file<W: Write>(output: &mut W, envelope: &Envelope, lines: &Lines) -> io::Result<()> {
+    let id = envelope.id();
+    for part in [id.service(), b" ", id.number(), b" ", id.date_sent(), b"\n"] {
+        output.write_all(part)?;
+    }
+    for line in envelope.headline().into_iter().chain(lines.iter()) {
+        output.write_all(line)?;
+        output.write_all(b"\n")?;
+    }
+    Ok(())
+}

@@ -1,0 +1,78 @@
+//! Sends copy: builds an envelope from a few values, and packs it to standard output with the lines of standard input.
+#![tactic(auto)]
+
+use anyhow::{Context, Error, Result, anyhow};
+use iim_dataset::{FromWrite, Target};
+use iim_fields::{Envelope, EnvelopeBuilder, FieldFault, Limits};
+use iim_object::{PackCause, Plan, Size};
+use iim_pack::Packer;
+use std::alloc::Global;
+use wire_message::MessageHead;
+
+/// The most that the envelope's datasets may have together. Memory for just this is taken before the first is added.
+const LIMITS: Limits = Limits {
+    octets: 1_024,
+    fields: 16,
+};
+
+/// The datasets of records 1 and 2: record, number and data of each.
+const FIELDS: [(u8, u8, &[u8]); 9] = [
+    // Model Version, File Format (2: a message) and its version.
+    (1, 0, b"\0\x04"),
+    (1, 20, b"\0\x02"),
+    (1, 22, b"\0\x01"),
+    // Service Identifier, Envelope Number and Date Sent, by which the envelope is known.
+    (1, 30, b"TST"),
+    (1, 40, b"00000002"),
+    (1, 70, b"20240301"),
+    // Record Version, Headline and By-line.
+    (2, 0, b"\0\x04"),
+    (2, 105, b"Rates held"),
+    (2, 80, b"A. Moor"),
+];
+
+fn main(rt: HostRuntime) -> Result<()> {
+    let envelope = build(rt.alloc())?;
+    // Source, number, priority, category, announced words and info of the message.
+    let head = MessageHead::new(b"TST", b"0007", b"4", b"ECO", b"4", b"rates");
+    let head = head.context("bad header")?;
+    // Subfiles of 1,024 octets. How long the story will be isn't known yet.
+    let plan = Plan::new(1_024, Size::Unknown(None)).context("bad plan")?;
+    let output = FromWrite::new(rt.stdout());
+    let started = Packer::start(rt.alloc(), &envelope, &head, plan, output);
+    let mut packer = started.map_err(|fault| refused(fault.cause))?;
+    pack_lines(&rt, &mut packer)?;
+    // Only with its end, here without a trailer, is it an envelope: what is out after an error is none.
+    packer.finish(b"").map_err(|(_, cause)| refused(cause))?;
+    Ok(())
+}
+
+/// Builds the envelope. Each dataset is checked as it is added, and at the end that none is missing.
+fn build(alloc: Global) -> Result<Envelope> {
+    let mut builder = EnvelopeBuilder::new(alloc, LIMITS)?;
+    for (rec, set, octets) in FIELDS {
+        builder.add(rec, set, octets).map_err(bad_field)?;
+    }
+    builder.finish().map_err(|(_, fault)| bad_field(fault))
+}
+
+/// Packs the lines of the input as they come, with a line end between each two. A packer holds one subfile at most.
+fn pack_lines<R: Input + Alloc, W: Target>(rt: &R, packer: &mut Packer<W>) -> Result<()> {
+    for (at, line) in rt.lines(rt.alloc()).enumerate() {
+        if at > 0 {
+            packer.line_end().map_err(refused)?;
+        }
+        packer.text(line?.as_bytes()).map_err(refused)?;
+    }
+    Ok(())
+}
+
+/// A dataset that may not stand there, or has other data than it may, as an error.
+fn bad_field(fault: FieldFault) -> Error {
+    anyhow!("dataset {}:{:02}: {:?}", fault.rec, fault.set, fault.cause)
+}
+
+/// A call that the packer refused, as an error.
+fn refused(cause: PackCause) -> Error {
+    anyhow!("cause {}: {cause:?}", cause.number())
+}
