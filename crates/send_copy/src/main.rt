@@ -1,12 +1,15 @@
 //! Sends copy: builds an envelope from a few values, and packs it to standard output with the lines of standard input.
 #![tactic(auto)]
 
+ghost use Rattle.std.specs.Prelude.{◌≡◌, map, IfOk};
+
 use anyhow::{Context, Error, Result, anyhow};
 use iim_dataset::{FromWrite, Target};
-use iim_fields::{Envelope, EnvelopeBuilder, FieldFault, Limits};
-use iim_object::{PackCause, Plan, Size};
+use iim_fields::{Envelope, EnvelopeBuilder, Limits};
+use iim_object::{Plan, Size};
 use iim_pack::Packer;
 use std::alloc::Global;
+use std::fmt::Debug;
 use wire_message::MessageHead;
 
 /// The most that the envelope's datasets may have together. Memory for just this is taken before the first is added.
@@ -48,12 +51,14 @@ fn main(rt: HostRuntime) -> Result<()> {
 }
 
 /// Builds the envelope. Each dataset is checked as it is added, and at the end that none is missing.
-fn build(alloc: Global) -> Result<Envelope> {
+fn build(alloc: Global) -> Result<Envelope>
+    ensures { IfOk result (λ envelope. envelope ≡ map (λ f. record { rec = f.0; set = f.1; octets = f.2.now }) FIELDS) }
+{
     let mut builder = EnvelopeBuilder::new(alloc, LIMITS)?;
     for (rec, set, octets) in FIELDS {
-        builder.add(rec, set, octets).map_err(bad_field)?;
+        builder.add(rec, set, octets).map_err(refused)?;
     }
-    builder.finish().map_err(|(_, fault)| bad_field(fault))
+    builder.finish().map_err(|(_, fault)| refused(fault))
 }
 
 /// Packs the lines of the input as they come, with a line end between each two. A packer holds one subfile at most.
@@ -67,12 +72,7 @@ fn pack_lines<R: Input + Alloc, W: Target>(rt: &R, packer: &mut Packer<W>) -> Re
     Ok(())
 }
 
-/// A dataset that may not stand there, or has other data than it may, as an error.
-fn bad_field(fault: FieldFault) -> Error {
-    anyhow!("dataset {}:{:02}: {:?}", fault.rec, fault.set, fault.cause)
-}
-
-/// A call that the packer refused, as an error.
-fn refused(cause: PackCause) -> Error {
-    anyhow!("cause {}: {cause:?}", cause.number())
+/// What the library refused, as an error.
+fn refused<C: Debug + Drop>(cause: C) -> Error {
+    anyhow!("refused: {cause:?}")
 }
