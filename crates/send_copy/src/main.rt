@@ -45,7 +45,7 @@ fn main(rt: HostRuntime) -> Result<()> {
     let started = Packer::start(rt.alloc(), &envelope, &head, plan, output);
     let mut packer = started.map_err(|fault| refused(fault.cause))?;
     pack_lines(&rt, &mut packer)?;
-    // Only with its end, here without a trailer, is it an envelope: what is out after an error is none.
+    // The message ends without a trailer. After an error, what is out is no envelope.
     packer.finish(b"").map_err(|(_, cause)| refused(cause))?;
     Ok(())
 }
