@@ -13,3 +13,4 @@ pub mod Deaths
 pub mod Lives
 pub mod OneOctet
 pub mod Reached
+pub mod Counts

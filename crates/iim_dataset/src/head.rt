@@ -49,6 +49,9 @@ const COUNT_OCTETS: u8 = 4;
 /// The octets of a tag up to the end of a standard count.
 const TAG_LENGTH: usize = 5;
 
+/// The most octets of data that a tag counts: as many as `COUNT_OCTETS` octets can say.
+pub(crate) const MAX_COUNT: u64 = 4_294_967_295;
+
 /// The greatest count that has the standard form.
 const MAX_STANDARD: u64 = 32_767;
 

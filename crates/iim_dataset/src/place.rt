@@ -1,11 +1,13 @@
 //! Where the next octet stands, and the tag that it may complete.
 
-ghost use Rattle.std.specs.Prelude.{◌≡◌, ◌+◌, ◌≤◌, ◌++◌, length, take, IfOk, IfErr, MatchOption};
+ghost use Rattle.std.specs.Prelude.{◌≡◌, ◌↔◌, ◌+◌, ◌≤◌, ◌++◌, ℕ, List, length, take, IsTrue, IfOk, IfErr, MatchOption};
 ghost use Rattle.arrayvec.specs.ArrayVec.{array_vec_len};
-ghost use Rattle.iim_dataset.specs.Datasets.{count_octets};
+ghost use Rattle.iim_dataset.specs.Datasets.{SpellsTag, count_octets};
+ghost use Rattle.iim_dataset.specs.Places.{IsPlace};
 ghost use Rattle.iim_dataset.specs.Tags.{BeginsTag, HasTag, HasNoTag};
 
-use crate::head::{Head, HeadFault, read_head};
+use crate::head::{Head, HeadFault, MAX_COUNT, read_head};
+use crate::laws::no_tag_begins_another;
 use arrayvec::ArrayVec;
 
 /// The most octets of a tag.
@@ -58,4 +60,29 @@ pub(crate) fn read_tag(held: &[u8], next: &[u8]) -> Result<Option<(Head, usize)>
         return read_head(next);
     }
     read_head(tag_room(held, next).as_slice())
+}
+
+/// Whether the octets begin a tag, and are not all of it.
+fn begins_tag(octets: &[u8]) -> bool
+    ensures { IsTrue result ↔ BeginsTag count_octets octets.now }
+{
+    no_tag_begins_another();
+    matches!(read_head(octets), Ok(None))
+}
+
+/// Whether a tag can tell so many octets of data.
+fn is_told(head: Head) -> bool
+    ensures { IsTrue result ↔ ((tag : List ℕ) × SpellsTag count_octets head tag) }
+{
+    head.count <= MAX_COUNT
+}
+
+/// Whether some octets lead to the place.
+pub(crate) fn is_place(place: &DatasetPlace) -> bool
+    ensures { IsTrue result ↔ IsPlace place.now }
+{
+    match place {
+        DatasetPlace::Tag(held) => begins_tag(held.as_slice()),
+        DatasetPlace::Inside { head, left } => (1..=head.count).contains(left) && is_told(*head),
+    }
 }

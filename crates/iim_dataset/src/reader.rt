@@ -1,10 +1,12 @@
 //! The reader of datasets, for any cut into pieces.
 
-ghost use Rattle.std.specs.Prelude.{◌≡◌, ◌<◌, ◌≤◌, [], length, take, IsTrue, ◌↔◌, IfOk, IfErr, OnOk, OnErr};
+ghost use Rattle.std.specs.Prelude.{◌≡◌, ◌<◌, ◌≤◌, ℕ, List, [], length, take, IsTrue, IsSome, IfSome, MatchOption, ◌↔◌, IfOk, IfErr, OnOk, OnErr};
+ghost use Rattle.iim_dataset.specs.Events.{Event};
 
 use crate::fault::Fault;
 use crate::front::{start, take_piece};
-use crate::place::DatasetPlace;
+use crate::laws::places_are_reached;
+use crate::place::{DatasetPlace, is_place};
 use crate::sink::DatasetSink;
 use std::marker::Model;
 use std::mem;
@@ -28,7 +30,7 @@ impl Model for HeadReader {
     ghost invariant = { λ reader. IsPlace reader.place };
 }
 
-ghost use Rattle.iim_dataset.specs.Places.{Tells, between, named_by, to_come};
+ghost use Rattle.iim_dataset.specs.Places.{LeadsTo, Tells, between, named_by, to_come};
 ghost use Rattle.iim_dataset.specs.Reading.{StandsAt, TakesCalls, IsFailed, Refuses, TookAll, StillStands, is_of};
 
 impl HeadReader {
@@ -49,6 +51,30 @@ impl HeadReader {
         ensures { IsTrue result ↔ IsFailed self.now }
     {
         self.failed
+    }
+
+    /// Where the next octet stands, or None after a refusal.
+    pub fn place(&self) -> Option<&DatasetPlace>
+        ensures { MatchOption result (IsFailed self.now) (λ place. TakesCalls self.now × (place.now ≡ self.now.place)) }
+    {
+        if self.failed {
+            return None;
+        }
+        Some(&self.place)
+    }
+
+    /// The reader at this place, where some octets lead there: where less than a tag is held, or some octets are to come of the
+    /// data that a tag can count.
+    pub fn at(place: DatasetPlace) -> Option<HeadReader>
+        ensures place { IfSome result (λ reader. (reader.place ≡ place) × TakesCalls reader) }
+        ensures exactly { IsSome result ↔ ((octets : List ℕ) × (events : List Event) × LeadsTo octets events place) }
+    {
+        places_are_reached();
+        if !is_place(&place) {
+            return None;
+        }
+        let failed = false;
+        Some(HeadReader { place, failed })
     }
 
     /// The record and the number of the dataset that is begun, each 0 while it is unread; both 0 between datasets. Where no tag

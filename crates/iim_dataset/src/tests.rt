@@ -1,6 +1,7 @@
 //! Tags and devices at worked values, and datasets in pieces.
 
 mod halting;
+mod places;
 mod reading;
 
 use crate::head::read_head;

@@ -17,10 +17,10 @@ use Rattle.iim_fields.specs.Records.{occurs}
 use Rattle.iim_fields.specs.Alive.{IsAlive, IsAliveAt}
 use Rattle.iim_fields.specs.Faults.{record_fault, room_fault, limits_fault, first_fault, fault_on, is_kept, kept, kept_octets, joined, present_record, present_run}
 use Rattle.iim_fields.specs.Values.{data_of, number_told, tells_number}
-use Rattle.iim_fields.specs.Checks.{TakesHead, TakesValue, IsIn, HasChecked, IsChecking, HasTaken, IsRecordFault, IsValueFault, begun_head}
+use Rattle.iim_fields.specs.Checks.{present_at, TakesHead, TakesValue, IsIn, HasChecked, IsChecking, HasTaken, IsRecordFault, IsValueFault, begun_head}
 use Rattle.iim_fields.specs.Checks as checks
 use Rattle.iim_fields.specs.Stores.{Holds, IsStore, entries_of, fields_from, fields_of, ends_at, begun_octets}
-use Rattle.iim_fields.specs.Standing.{FieldsPlace, IsBetween, IsInside, CanTake, CanClose, IsWithin, StandsBehind, StandsIn, IsHeadFault, IsOf, place_of, StandsSomewhere, HasRoom, IsReading}
+use Rattle.iim_fields.specs.Standing.{FieldsPlace, IsBetween, IsInside, CanTake, CanClose, IsWithin, StandsBehind, StandsIn, IsHeadFault, IsOf, place_of, StandsSomewhere, HasRoom, IsReading, section_of}
 use Rattle.iim_fields.specs.declared.limits.Limits.{Limits}
 use Rattle.iim_fields.specs.declared.store.Entry.{Entry}
 use Rattle.iim_fields.specs.declared.store.Store.{Store}
@@ -29,6 +29,7 @@ use Rattle.iim_fields.specs.declared.fault.FieldCause.TheVariants.{HeaderFull, T
 use Rattle.iim_fields.specs.declared.check.Begun.{Begun}
 use Rattle.iim_fields.specs.declared.check.RecordPlace.{RecordPlace}
 use Rattle.iim_fields.proofs.Table.{EachRowHasValues, size_row, kept_or_tells}
+use Rattle.iim_fields.proofs.Follows.{present_more}
 use Rattle.iim_fields.proofs.Telling.{head_fault_told}
 use Rattle.iim_fields.proofs.Dies.{no_fault_parts, head_no_fault}
 use Rattle.iim_fields.proofs.Checking.{same_place, same_begun, one_begun, not_both, some_data, octets_of, octets_append, count_fits}
@@ -578,3 +579,20 @@ entry_room check limits store size h r a keeps =
     let w = s.within (ap (λ (k : Head). is_kept k.rec) same ∙ keeps) in
     let c = counts store (kept ds) (begun_octets store) (holds_kept store ds r.store_is s.kept_are) in
     omega (arith, c.1, w.fields_in, r.room.entries)
+
+-- ---- the section
+
+pub section_in : (f : FieldsPlace) (ds : List Dataset) (h : Head) (taken : List ℕ) → StandsIn f ds h taken → section_of f ≡ h.rec
+section_in f ds h taken s =
+    let i = s.inside.1.head in
+    let d = s.alive.0 in
+    let is : head_of d ≡ h = s.alive.1 in
+    elim (eqb_tells h.rec 8) [
+      | inl eight ↦
+          let (e, e_is, octets) = some_data h in
+          let c = s.checked.subfile eight.1 e e_is octets in
+          ap present_at c.at ∙ (c.tells.present ∙ (present_more ds e ∙ ap (λ (k : Head). k.rec) e_is))
+      | inr other ↦
+          let c = s.checked.checking other.1 in
+          ap present_at c.inside ∙ ((c.tells d is).present ∙ (present_more ds d ∙ ap (λ (k : Head). k.rec) is))
+    ]

@@ -98,6 +98,11 @@ pub record IsValueFault (ds : List Dataset) (d : Dataset) (fault : FieldFault) :
 abbrev pub begun_head : Option RecordPlace → Option Head
 begun_head check = option_and_then (λ place. option_and_then (λ begun. Some begun.head) place.begun) check
 
+-- the record of the last head, 0 at the beginning
+abbrev pub present_at : Option RecordPlace → ℕ
+present_at None = 0
+present_at (Some place) = place.order.rec
+
 -- The last record has ended.
 pub record HasEnded (check : Option RecordPlace) : Type 0 where
   pub order : Order

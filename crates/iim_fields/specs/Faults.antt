@@ -105,6 +105,13 @@ joined ds = flat_map (λ d. d.octets) ds
 abbrev pub kept_octets : List Dataset → ℕ
 kept_octets ds = length (joined (kept ds))
 
+-- The first limit that so many kept octets and datasets pass.
+abbrev pub limit_passed : Limits → ℕ → ℕ → Option FieldCause
+limit_passed limits octets fields =
+    if not (nat_le octets limits.octets) then Some HeaderFull
+    else if not (nat_le fields limits.fields) then Some TooManyFields
+    else None
+
 -- So many kept octets and datasets: with those of the head, the octets pass the limit, or the datasets.
 abbrev pub room_fault : Limits → ℕ → ℕ → Head → Option FieldFault
 room_fault limits octets fields h =

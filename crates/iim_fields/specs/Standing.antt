@@ -7,7 +7,7 @@ use Rattle.iim_fields.specs.Alive.{IsAlive, IsAliveAt}
 use Rattle.iim_fields.specs.Faults.{first_fault, kept, kept_octets, is_kept}
 use Rattle.iim_fields.specs.Causes.{IsFault}
 use Rattle.iim_fields.specs.Causes.Token.{AtHead}
-use Rattle.iim_fields.specs.Checks.{IsIn, HasChecked, HasTaken, HasEnded, begun_head}
+use Rattle.iim_fields.specs.Checks.{IsIn, HasChecked, HasTaken, HasEnded, begun_head, present_at}
 use Rattle.iim_fields.specs.Checks as checks
 use Rattle.iim_fields.specs.Stores.{Room, store_room, fields_of, begun_octets, IsStore}
 use Rattle.iim_fields.specs.declared.limits.Limits.{Limits}
@@ -39,6 +39,10 @@ room_for limits = record { octets = limits.octets; entries = limits.fields }
 -- The room is enough for the limits.
 abbrev pub IsEnough : Room → Limits → Type 0
 IsEnough room limits = (limits.octets ≤ room.octets) × (limits.fields ≤ room.entries)
+
+-- the record of the last head, 0 at the beginning
+abbrev pub section_of : FieldsPlace → ℕ
+section_of fields = present_at fields.check
 
 -- Something was refused.
 abbrev pub IsFailed : FieldsPlace → Type 0

@@ -6,7 +6,7 @@ ghost use Rattle.iim_dataset.specs.Datasets.{Dataset};
 ghost use Rattle.iim_dataset.specs.declared.head.Head.{Head as HeadValue};
 ghost use Rattle.iim_fields.specs.Orders.{Takes};
 ghost use Rattle.iim_fields.specs.Values.{number_told, data_of};
-ghost use Rattle.iim_fields.specs.Checks.{begun_head, missing_at, TakesHead, TakesValue, IsBetween, IsIn, IsRecordPlace, HasChecked, IsChecking, HasTaken, IsRecordFault, IsValueFault, HasEnded};
+ghost use Rattle.iim_fields.specs.Checks.{begun_head, present_at, missing_at, TakesHead, TakesValue, IsBetween, IsIn, IsRecordPlace, HasChecked, IsChecking, HasTaken, IsRecordFault, IsValueFault, HasEnded};
 ghost use Rattle.iim_fields.specs.declared.check.RecordPlace.{RecordPlace as PlaceValue};
 
 use crate::fault::FieldFault;
@@ -93,6 +93,16 @@ impl RecordCheck {
         ensures { result ≡ is_none self.now }
     {
         self.place.is_none()
+    }
+
+    /// The record of the last head, 0 at the beginning and after a refusal.
+    pub(crate) fn section(&self) -> u8
+        ensures { result ≡ present_at self.now }
+    {
+        match &self.place {
+            Some(place) => place.order.present(),
+            None => 0,
+        }
     }
 
     /// The head of the begun dataset.

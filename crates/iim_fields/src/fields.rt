@@ -15,6 +15,7 @@ use crate::limits::Limits;
 use crate::order::fault_on;
 use crate::records::{OBJECT, is_kept};
 use crate::store::Store;
+use crate::walk::FieldIter;
 use arrayvec::ArrayVec;
 use iim_dataset::Head;
 use iim_tables::{SIZE_OCTETS, each_row_has_values};
@@ -66,7 +67,9 @@ impl Model for Fields {
 }
 
 impl Fields {
-    ghost use Rattle.iim_fields.specs.Standing.{limits_of, room_of, room_for, IsEnough, IsFailed, IsBetween, IsInside, CanTake, CanClose, StandsBehind, StandsIn, IsHeadFault, IsOf, IsEnded};
+    ghost use Rattle.iim_fields.specs.Faults.{present_record};
+    ghost use Rattle.iim_fields.specs.Walks.{rest_of};
+    ghost use Rattle.iim_fields.specs.Standing.{limits_of, room_of, section_of, room_for, IsEnough, IsFailed, IsBetween, IsInside, CanTake, CanClose, StandsBehind, StandsIn, IsHeadFault, IsOf, IsEnded};
     ghost use Rattle.iim_fields.specs.Stores.{store_room};
     ghost use Rattle.std.specs.Prelude.{vec_capacity};
 
@@ -128,6 +131,37 @@ impl Fields {
         ensures { IsTrue result ↔ IsFailed self.now }
     {
         self.check.is_failed()
+    }
+
+    /// The record of the last head, which is the present one; 0 at the beginning of an envelope, and after a refusal.
+    pub fn section(&self) -> u8
+        ensures section { result ≡ section_of self.now }
+        ensures behind { (ds : List Dataset) → StandsBehind self.now ds → result ≡ present_record ds }
+        ensures inside { (ds : List Dataset) (h : HeadValue) (taken : List ℕ) → StandsIn self.now ds h taken → result ≡ h.rec }
+    {
+        self.check.section()
+    }
+
+    /// The octets that have come of the begun dataset. Those of a subfile do not pass here. The reader has not failed.
+    pub fn begun(&self) -> &[u8]
+        requires { IsFailed self.now → ⊥ }
+        ensures { result.now ≡ self.now.taken }
+    {
+        match self.check.begun() {
+            Some(head) if is_kept(head.rec) => self.store.begun(),
+            _ => self.size.as_slice(),
+        }
+    }
+
+    /// The datasets that were kept, in order: record, number and data of each.
+    pub fn kept(&self) -> FieldIter<'_>
+        ensures { rest_of result ≡ self.now.kept }
+    {
+        FieldIter {
+            from: 0,
+            entries: &self.store.entries,
+            octets: &self.store.octets,
+        }
     }
 
     /// Takes the next head, or answers its first fault and has failed: the record layer dies with the head, or a limit

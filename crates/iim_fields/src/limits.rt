@@ -1,5 +1,10 @@
 //! How much of the records 1 and 2 may be kept.
 
+ghost use Rattle.std.specs.Prelude.{◌≡◌};
+ghost use Rattle.iim_fields.specs.Faults.{limit_passed};
+
+use crate::fault::FieldCause;
+
 /// The most that an envelope's records 1 and 2 may have together.
 #[derive(Clone, Copy, Debug, PartialEq, Eq)]
 pub struct Limits {
@@ -7,4 +12,19 @@ pub struct Limits {
     pub octets: u32,
     /// Datasets.
     pub fields: u32,
+}
+
+impl Limits {
+    /// The first limit that so many octets and datasets pass, of all that is kept: `HeaderFull`, or else `TooManyFields`.
+    pub fn passed(self, octets: u64, fields: u64) -> Option<FieldCause>
+        ensures { result ≡ limit_passed self octets fields }
+    {
+        if octets > u64::from(self.octets) {
+            return Some(FieldCause::HeaderFull);
+        }
+        if fields > u64::from(self.fields) {
+            return Some(FieldCause::TooManyFields);
+        }
+        None
+    }
 }

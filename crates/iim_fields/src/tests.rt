@@ -168,6 +168,46 @@ fn all_datasets_are_taken(rt: HostRuntime) -> Result<(), Fail> {
 }
 
 #[test]
+fn what_has_come_is_told(rt: HostRuntime) -> Result<(), Fail> {
+    let mut fields = Fields::new(rt.alloc(), LIMITS)?;
+    assert_eq!(rt; fields.section(), 0);
+    if let Err(fault) = pass_fields(&mut fields, false) {
+        assert!(rt; false, "{fault:?}");
+        return Ok(());
+    }
+    assert_eq!(rt; fields.section(), 2);
+    let mut kept = fields.kept();
+    for (rec, set, octets) in FIELDS {
+        assert!(rt; kept.next() == Some((rec, set, octets)));
+    }
+    assert!(rt; kept.next().is_none());
+    let head = Head {
+        rec: 7,
+        set: 20,
+        count: 4,
+    };
+    if let Ok(()) = fields.begin(head) {
+        fields.bytes(b"\x01\x02");
+        assert_eq!(rt; fields.begun(), b"\x01\x02".as_slice());
+        assert_eq!(rt; fields.section(), 7);
+    }
+    Ok(())
+}
+
+#[test]
+fn limits_are_passed_by_one_more(rt: HostRuntime) -> Result<(), Fail> {
+    let rows = [
+        (65_536, 512, None),
+        (65_537, 513, Some(FieldCause::HeaderFull)),
+        (65_536, 513, Some(FieldCause::TooManyFields)),
+    ];
+    for (octets, fields, passed) in rows {
+        assert_eq!(rt; LIMITS.passed(octets, fields), passed);
+    }
+    Ok(())
+}
+
+#[test]
 fn the_memory_of_an_envelope_serves_the_next(rt: HostRuntime) -> Result<(), Fail> {
     let mut fields = Fields::new(rt.alloc(), LIMITS)?;
     assert_eq!(rt; pass_all_but(&rt, &mut fields, 0, false), Ok(()));

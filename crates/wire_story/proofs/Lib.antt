@@ -11,3 +11,4 @@ pub mod Collected
 pub mod PackedEvents
 pub mod Marked
 pub mod Words
+pub mod Calm

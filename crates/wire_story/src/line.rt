@@ -3,6 +3,8 @@
 ghost use Rattle.std.specs.Prelude.{◌≡◌, ◌↔◌, IsTrue};
 ghost use Rattle.wire_story.specs.Texts.{is_line_octet, IsLine};
 
+use crate::marks::Marks;
+
 pub(crate) const SOH: u8 = 0x01;
 
 pub(crate) const STX: u8 = 0x02;
@@ -30,5 +32,5 @@ pub(crate) fn may_stand(octet: u8) -> bool
 pub fn is_text(octets: &[u8]) -> bool
     ensures { IsTrue result ↔ IsLine octets.now }
 {
-    octets.iter().all(|octet| may_stand(*octet))
+    Marks::new().run_len(octets).0 == octets.len()
 }

@@ -7,6 +7,7 @@ ghost use Rattle.std.specs.Option.{option_copied};
 ghost use Rattle.wire_story.specs.Collecting.{lines_in, lines_left};
 
 use crate::line::LF;
+use crate::marks::Marks;
 use std::marker::Model;
 
 /// The lines of a text, in order. Contracts see it as the list of those that are left.
@@ -35,12 +36,14 @@ impl<'a> LineIter<'a> {
 fn first_len(octets: &[u8]) -> usize
     ensures { result ≡ position_or_len (λ b. b == 10) octets.now }
 {
-    for (at, octet) in octets.iter().enumerate() {
-        if *octet == LF {
+    let mut at = Marks::new().run_len(octets).0;
+    while at < octets.len() {
+        if octets[at] == LF {
             return at;
         }
+        at += 1;
     }
-    octets.len()
+    at
 }
 
 impl<'a> Iterator for LineIter<'a> {

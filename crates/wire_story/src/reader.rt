@@ -1,6 +1,6 @@
 //! The reader of a text, for any cut into runs.
 
-ghost use Rattle.std.specs.Prelude.{◌≡◌, ◌<◌, ◌≤◌, [], List, ℕ, Option, is_none, length, take, None, IsSome, IfErr, OnOk, OnErr};
+ghost use Rattle.std.specs.Prelude.{◌≡◌, ◌<◌, ◌≤◌, [], List, ℕ, Option, is_none, length, take, Some, None, ◌↔◌, IsSome, IfSome, IfErr, OnOk, OnErr};
 ghost use Rattle.std.specs.Option.{ForSome};
 ghost use Rattle.wire_story.specs.Texts.{AreLines};
 ghost use Rattle.wire_story.specs.Delivery.{delivered};
@@ -8,9 +8,13 @@ ghost use Rattle.wire_story.specs.Tokens.{End, StoryDiesAt};
 ghost use Rattle.wire_story.specs.Reading.{StandsAt, GoesOn, Refuses, CountsCause};
 
 use crate::fault::{TextCause, TextFault};
+use crate::laws::places_are_reached;
 use crate::sink::StorySink;
 use crate::step::take_piece;
 use std::marker::Model;
+
+/// The most CR that a reader holds: a third one is refused.
+const MOST_HELD: u8 = 2;
 
 /// A reader of a text. It holds nothing of the text but how many CR stand at its end.
 ///
@@ -42,6 +46,26 @@ impl TextReader {
         ensures { result ≡ is_none self.now }
     {
         self.held.is_none()
+    }
+
+    /// How many CR stand at the end of the octets so far, of which nothing is delivered yet: 2 at most. The reader has not failed.
+    pub fn held(&self) -> u8
+        requires { IsSome self.now }
+        ensures { self.now ≡ Some result }
+    {
+        self.held.unwrap()
+    }
+
+    /// The reader that holds so many CR, where some octets lead there: where they are 2 at most.
+    pub fn at(held: u8) -> Option<TextReader>
+        ensures place { IfSome result (λ reader. reader ≡ Some held) }
+        ensures exactly { IsSome result ↔ ((octets : List ℕ) × StandsAt (Some held) octets) }
+    {
+        places_are_reached();
+        if held > MOST_HELD {
+            return None;
+        }
+        Some(TextReader { held: Some(held) })
     }
 
     /// Takes the next octets of the text, and tells the sink what is delivered of them, or of those before the refused one.

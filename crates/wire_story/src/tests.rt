@@ -381,3 +381,14 @@ fn stops_of_the_other_sink_are_counted(rt: HostRuntime) {
     assert_eq!(rt; sink.failures(), 2);
     assert_eq!(rt; sink.into_sink().into_writer().octets(), b"ab".as_slice());
 }
+
+#[test]
+fn a_reader_holds_two_returns_at_most(rt: HostRuntime) -> Result<(), Fail> {
+    for held in [0, 1, 2, 3, 255] {
+        match TextReader::at(held) {
+            Some(reader) => assert_eq!(rt; (reader.held(), held <= 2), (held, true)),
+            None => assert!(rt; held > 2),
+        }
+    }
+    Ok(())
+}

@@ -1,13 +1,19 @@
-use Rattle.std.proofs.Common.{rules, tests, ◌≡◌, sym, ◌∙◌}
-use Rattle.std.specs.List.{list_all}
-use Rattle.std.proofs.lemmas.Iterator.{YieldsList-from_slice}
-use Rattle.std.proofs.lemmas.Iterator.Search.{all_from_yields_List}
-use Rattle.wire_story.specs.Texts.{is_line_octet}
+use Rattle.std.proofs.Common.{◌≡◌, ◌==◌, true, false, length, take, get_or, sym, ap, ◌∙◌, subst, arith, inl, inr}
+use Rattle.std.proofs.lemmas.Bool.{eqb-true, eq-eqb, cases_lt}
+use Rattle.std.proofs.lemmas.List.{take_all}
+use Rattle.wire_story.specs.Texts.{IsLine}
+use Rattle.wire_story.proofs.Calm.{line_at}
 use Rattle.wire_story.proofs.line.is_text.Goals as goal
 
 pub returns : goal.returns
 returns c =
     let octets = c.args.octets.now in
-    let answer : c.all.result ≡ list_all is_line_octet octets =
-    all_from_yields_List is_line_octet _ _ c.all.result c.all.ensures.ran (YieldsList-from_slice octets cc) (λ x b q k. search (rules, tests)) in
-    (λ yes. sym answer ∙ yes, λ line. answer ∙ line)
+    let calm = c.run_len.result.0 in (
+      (λ is.
+          let all : calm ≡ length octets = eqb-true calm (length octets) is in
+          subst IsLine (ap (λ n. take n octets) all ∙ take_all (length octets) octets (omega arith)) c.run_len.ensures.line),
+      (λ line. elim (cases_lt calm (length octets)) [
+        | inl less ↦ let bad : false ≡ true = sym (c.run_len.ensures.longest less) ∙ line_at octets calm line less in absurd cc
+        | inr all ↦ eq-eqb calm (length octets) (omega (arith, all, c.run_len.ensures.within))
+      ]),
+    )

@@ -1,0 +1,37 @@
+-- Which counts a tag tells.
+use Rattle.std.proofs.Common.{◌≡◌, ℕ, ◌+◌, ◌*◌, ◌^◌, ◌<◌, ◌≤◌, [], ◌∷◌, List, length, ap, sym, ◌∙◌, arith, inl, inr}
+use Rattle.std.proofs.Math.Nat.{mul-le-mul_right, pow-succ', pow-le-pow_right}
+use Rattle.byteorder.specs.Numbers.{big_from-cons}
+use Rattle.iim_dataset.specs.Octets.{Octets, number}
+use Rattle.iim_dataset.specs.Datasets.{SpellsCount, SpellsTag, count_octets}
+use Rattle.iim_dataset.specs.declared.head.Head.{Head}
+
+-- the first octet counts by its place
+number-cons : (b : ℕ) (bs : List ℕ) → number (b ∷ bs) ≡ b * 256 ^ length bs + number bs
+number-cons b bs = ap (λ (r : ℕ). b * 256 ^ length bs + r) (big_from-cons 0 (length bs) b bs)
+
+-- n octets spell less than 256 ^ n
+number-lt : (xs : List ℕ) → Octets xs → number xs < 256 ^ length xs
+number-lt [] h = omega arith
+number-lt (b ∷ bs) h =
+    let rest = number-lt bs h.1 in
+    let high : b * 256 ^ length bs ≤ 255 * 256 ^ length bs = mul-le-mul_right (256 ^ length bs) (omega (arith, h.0)) in
+    rw (number-cons b bs, pow-succ' 256 (length bs)) (omega arith)
+
+-- so many octets or fewer
+few-lt : (xs : List ℕ) (n : ℕ) → Octets xs → length xs ≤ n → number xs < 256 ^ n
+few-lt xs n h fits =
+    let less = number-lt xs h in
+    let most : 256 ^ length xs ≤ 256 ^ n = pow-le-pow_right (omega arith) fits in
+    omega arith
+
+count-lt : (n : ℕ) (xs : List ℕ) → SpellsCount count_octets n xs → n < 256 ^ count_octets
+count-lt n [] is = absurd is
+count-lt n (high ∷ []) is = absurd is
+count-lt n (high ∷ low ∷ more) (inl (small, octet, none, tells)) =
+    let less = few-lt (high ∷ low ∷ []) count_octets (omega (arith, small), (octet, tt)) (omega arith) in omega (arith, less, tells)
+count-lt n (high ∷ low ∷ more) (inr (first, long, some, fits, octets, tells)) =
+    let less = few-lt more count_octets octets (omega (arith, long, fits)) in omega (arith, less, tells)
+
+pub tag-lt : (h : Head) (tag : List ℕ) → SpellsTag count_octets h tag → h.count < 256 ^ count_octets
+tag-lt h tag t = count-lt h.count t.count t.is_count
