@@ -38,7 +38,7 @@ pub record IsRefusedAt (limits : Limits) (old new : Device) (number : ℕ) (e : 
   pub in_hand : number ≡ length envelopes + 1
   pub stopped : IsStopped limits new rest e
 
--- After the envelopes before that of this number come octets on which it can go on, and then this fault of the reader.
+-- After the envelopes before that of this number come octets on which it can continue, and then this fault of the reader.
 pub record IsMissedAt (limits : Limits) (old new : Device) (number : ℕ) (fault : IoFault) : Type 0 where
   pub envelopes : List Listed
   pub rest : List ℕ

@@ -46,7 +46,7 @@ pub record IsUnheard {S : Type 0} (goes : S → List Event → S → Type 0) (fa
   pub delivered : IsDelivered (take k octets) more
   pub rose : Rose (failures a) (failures b)
 
--- Octets came that every layer can go on from, and then a read failed.
+-- Octets came that every layer can continue from, and then a read failed.
 pub record IsCutOff {S : Type 0} (goes : S → List Event → S → Type 0) (old new : Device) (a b : S) : Type 0 where
   pub octets : List ℕ
   pub more : List Event

@@ -43,7 +43,7 @@ pub record Divides (input : List ℕ) (envelopes : List Envelope) (rest : List �
 abbrev pub told : ℕ → ℕ
 told n = raised 0 n
 
--- Every layer can go on from the first k octets, and no envelope ends with them. The next octet completes the first token with
+-- Every layer can continue from the first k octets, and no envelope ends with them. The next octet completes the first token with
 -- which a layer can't.
 pub record IsDead (rest : List ℕ) (k : ℕ) (e : Refusal) : Type 0 where
   pub text : List Event
@@ -51,7 +51,7 @@ pub record IsDead (rest : List ℕ) (k : ℕ) (e : Refusal) : Type 0 where
   pub before : k ≡ refused.k
   pub by_octets : e.cause ≢ Sink
 
--- Every layer can go on from the octets, which are some, and which end there.
+-- Every layer can continue from the octets, which are some, and which end there.
 pub record IsTruncated (rest : List ℕ) (e : Refusal) : Type 0 where
   pub text : List Event
   pub refused : IsTruncatedIn limits [] 0 rest text e

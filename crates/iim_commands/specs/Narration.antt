@@ -73,7 +73,7 @@ abbrev pub BreaksInLines : Device → Device → Device → Device → List Enve
 BreaksInLines old new errors_old errors_new envelopes rest = (told : List ℕ) × (words : List ℕ) × (n : ℕ) × AreToldWith envelopes rest told words
     × Wrote old new (stories envelopes ++ words) × Stopped errors_old errors_new told n
 
--- Why not all is told. A read failed after envelopes and octets that every layer can go on from. Or the output broke inside a story,
+-- Why not all is told. A read failed after envelopes and octets that every layer can continue from. Or the output broke inside a story,
 -- or the errors inside their lines. Or memory was short: the stories of some of the envelopes that came are out, and of octets
 -- after them the text in the first k.
 abbrev pub IsUnnarrated : Device → Device → Device → Device → Device → Device → Fault → Type 0

@@ -20,7 +20,7 @@ abbrev pub IsReport : (ℕ → Envelope → List ℕ) → List Envelope → List
 IsReport text envelopes rest words = (words ≡ texts_from text 1 envelopes)
     ⊎ ((ending : Ending) × EndsBy (length envelopes) rest ending × (words ≡ report text envelopes ending))
 
--- Why the report isn't out. A read failed after envelopes and octets that every layer can go on from: all these envelopes are
+-- Why the report isn't out. A read failed after envelopes and octets that every layer can continue from: all these envelopes are
 -- reported. Or the output broke inside the report. Or memory was short: some of the envelopes that came are reported.
 abbrev pub IsUnreported : (ℕ → Envelope → List ℕ) → Device → Device → Device → Device → Fault → Type 0
 IsUnreported text source rest old new CannotRead = (input : List ℕ) × (envelopes : List Envelope) × (begun : List ℕ) × (fault : IoFault)

@@ -11,10 +11,12 @@ use crate::fault::Fault;
 use crate::laws::envelopes_are_delivered_as_lines;
 use crate::report::{TOO_MANY, accepted_line, refused_line, say};
 use crate::status::{ACCEPTED, REFUSED};
-use iim_dataset::{Source, Target, gifts_join, texts_join};
+use iim_dataset::device_laws::{gifts_join, texts_join};
+use iim_dataset::{Source, Target};
 use iim_unpack::Intake;
 use std::alloc::Global;
-use wire_story::{LineWriter, StorySink, lines_are_joined_by_line_feeds};
+use wire_story::laws::lines_are_joined_by_line_feeds;
+use wire_story::{LineWriter, StorySink};
 
 /// Writes an LF after the text of an envelope.
 fn end_text<W: Target>(output: &mut LineWriter<W>) -> Result<(), Fault>

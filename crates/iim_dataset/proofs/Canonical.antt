@@ -20,7 +20,7 @@ count_spells n h = elim (cases_lt n 32768) [
 pub tag_spells : (h : Head) → IsOctet h.rec → IsOctet h.set → h.count < 256 ^ count_octets → SpellsTag count_octets h (canonical_tag h)
 tag_spells h r s c = record { rec = r; set = s; count = canonical_count h.count; is_count = count_spells h.count c; parts = refl }
 
--- a tag that begins with a whole tag and goes on is none
+-- a tag that begins with a whole tag and continues is none
 no_longer : (limit : ℕ) (h k : Head) (tag x more : List ℕ) → SpellsTag limit h tag → 0 < length more → SpellsTag limit k ((tag ++ x) ++ more) → ⊥
 no_longer limit h k tag x more s long t =
     let same = one_tag limit h k tag ((tag ++ x) ++ more) (x ++ more) [] s t (sym (append_assoc tag x more) ∙ sym (append-nil ((tag ++ x) ++ more))) in

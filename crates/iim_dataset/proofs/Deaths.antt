@@ -1,4 +1,4 @@
--- Where no tag goes on, no octets do.
+-- Where no tag continues, no octets do.
 use Rattle.std.proofs.Common.{◌≡◌, ℕ, ◌⊎◌, List, [], ◌∷◌, ◌++◌, length, refl, ap, sym, subst, ◌∙◌, arith, inl, inr, append_assoc, append-nil, length-append}
 use Rattle.iim_dataset.specs.Datasets.{Dataset, SpellsTag, SpellsStream, count_octets}
 use Rattle.iim_dataset.specs.Splits.{Begun, InTag, InData, IsBegun}

@@ -1,4 +1,4 @@
--- Faults behind calls that went well.
+-- Faults after calls that went well.
 use Rattle.std.proofs.Common.{ℕ, ◌≤◌, inl, inr, arith, ◌∙◌}
 use Rattle.iim_dataset.specs.DeviceLaws.{BrokeFor}
 use Rattle.iim_dataset.specs.declared.device.IoFault.{IoFault}

@@ -30,7 +30,7 @@ front_are zero xs h = tt
 front_are (suc n) [] h = tt
 front_are (suc n) (x ∷ xs) h = (h.0, front_are n xs h.1)
 
--- octets that a tag goes on from
+-- octets that a tag continues from
 goes_on : (octets more count : List ℕ) (rec set n : ℕ) → 0 < length more → rec < 256 → set < 256 → SpellsCount count_octets n count
     → octets ++ more ≡ 28 ∷ rec ∷ set ∷ count → BeginsTag count_octets octets
 goes_on octets more count rec set n long r s is e = record {
@@ -55,7 +55,7 @@ begun_four b c d r s form = elim (cases_lt d 128) [
       goes_on (28 ∷ b ∷ c ∷ d ∷ []) (1 ∷ 0 ∷ []) (d ∷ 1 ∷ 0 ∷ []) b c 0 (omega arith) r s (inr (is, refl, omega arith, omega arith, (omega arith, tt), refl)) refl
 ]
 
--- fewer than five octets that may go on
+-- fewer than five octets that may continue
 pub begun : (o : List ℕ) → Fit o → length o < 5 → (0 < length o → get_or o 0 0 ≡ 28) → (3 < length o → get_or o 3 0 ≤ 128) → BeginsTag count_octets o
 begun [] fits short marker form = begun_none
 begun (a ∷ []) fits short marker form =
@@ -90,7 +90,7 @@ begun_front (a ∷ b ∷ c ∷ d ∷ o) fits long marker form =
     let is : 28 ≡ a = sym marker in
     subst (λ (x : ℕ). BeginsTag count_octets (x ∷ b ∷ c ∷ d ∷ [])) is (begun_four b c d (fits 1) (fits 2) form)
 
--- a begun extended count goes on with zeros
+-- a begun extended count continues with zeros
 pub begun_extended : (o : List ℕ) (n : ℕ) → Fit o → 4 < length o → get_or o 0 0 ≡ 28 → get_or o 3 0 ≡ 128 → get_or o 4 0 ≡ n → 1 ≤ n → n ≤ count_octets → length o < 5 + n
     → BeginsTag count_octets o
 begun_extended [] n fits long marker form is some few short = absurd (omega arith)
@@ -160,7 +160,7 @@ no_length (a ∷ b ∷ c ∷ d ∷ e ∷ o) n long form is none h more tag = bad
 number_front : (n : ℕ) (xs : List ℕ) → n ≤ length xs → number (take n xs) ≡ big_number n xs
 number_front n xs h = ap (λ (m : ℕ). big_number m (take n xs)) (length-take-le n xs h) ∙ big_from-take 0 n n xs (omega arith)
 
--- five octets and the extended count behind them are a tag
+-- five octets and the extended count after them are a tag
 pub whole_extended : (o : List ℕ) (n : ℕ) → Fit o → 5 + n ≤ length o → get_or o 0 0 ≡ 28 → get_or o 3 0 ≡ 128 → n ≡ get_or o 4 0 → 1 ≤ n → n ≤ count_octets
     → (count : ℕ) → count ≡ big_number n (drop 5 o) → HasTag o (record { rec = get_or o 1 0; set = get_or o 2 0; count = count }) (5 + n)
 whole_extended [] n fits long marker form is_n some few count is = absurd (omega arith)

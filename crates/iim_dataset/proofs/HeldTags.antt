@@ -1,4 +1,4 @@
--- Held octets of a tag, and the octets behind them.
+-- Held octets of a tag, and the octets after them.
 use Rattle.std.proofs.Common.{◌≡◌, ℕ, suc, ◌+◌, ◌-◌, ◌<◌, ◌≤◌, List, [], ◌∷◌, ◌++◌, length, take, drop, slice_index, ap, sym, subst, ◌∙◌, arith, append_assoc, append-nil, length-append, inl, inr}
 use Rattle.std.proofs.lemmas.Bool.{cases_lt}
 use Rattle.std.proofs.lemmas.List.{take_all, take-take, take-append-drop, take-append-le, length-take, length-take-le}
@@ -47,7 +47,7 @@ nine_refuse xs f t =
       cause = t.cause;
     }
 
--- ---- behind held octets
+-- ---- after held octets
 
 -- a whole tag is longer than the held octets
 pub longer : (held rest : List ℕ) (h : Head) (n : ℕ) → BeginsTag count_octets held → HasTag (held ++ rest) h n → length held < n
@@ -61,7 +61,7 @@ longer held rest h n b t = elim (cases_lt (length held) n) [
       absurd (omega (arith, ap length one.2, length-append (drop n held) b.more, b.some_more))
 ]
 
--- no tag goes on with an octet behind the held ones
+-- no tag continues with an octet after the held ones
 pub behind_held : (held rest : List ℕ) (f : HeadFault) → BeginsTag count_octets held → HasNoTag (held ++ rest) f → length held ≤ f.at
 behind_held held rest f b t = elim (cases_lt f.at (length held)) [
   | inl lt ↦
@@ -95,7 +95,7 @@ unfinished held rest h k lt s = record {
   whole = subst (SpellsTag count_octets h) (one_more held rest k lt) s;
 }
 
--- where no tag goes on
+-- where no tag continues
 pub refused_at : (held rest : List ℕ) (f : HeadFault) (k : ℕ) → BeginsTag count_octets held → HasNoTag (held ++ rest) f → k ≡ f.at - length held
     → (k < length rest) × BeginsTag count_octets (held ++ take k rest) × BeginsNoTag count_octets ((held ++ take k rest) ++ slice_index rest k ∷ []) × (f.at ≡ length (held ++ take k rest))
 refused_at held rest f k b t e =

@@ -15,7 +15,7 @@ with_data h tag xs s o count =
     let same : h ≡ record { rec = h.rec; set = h.set; count = length xs } = (λ i. record { rec = h.rec; set = h.set; count = sym count i }) in
     record { tag = tag; is_tag = subst (λ (k : Head). SpellsTag count_octets k tag) same s; data_octets = o; parts = refl }
 
--- what is begun goes on to a dataset
+-- what is begun continues to a dataset
 pub ends : (begun : Begun) (rest : List ℕ) → IsBegun count_octets begun rest → (d : Dataset) × (o more : List ℕ) × SpellsDataset count_octets d o × (0 < length more) × (rest ++ more ≡ o)
 ends (InTag held) rest (e, h, tag, s, (more, some, whole)) =
     let zeros = replicate h.count 0 in (

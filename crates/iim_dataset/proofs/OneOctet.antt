@@ -125,7 +125,7 @@ front_none (x ∷ xs) ys e = absurd cc
 
 -- ---- one octet
 
--- The events that an octet completes, behind those that were handed on.
+-- The events that an octet completes, after those that were handed on.
 since_is : (whole W : List Dataset) (begun c : Begun) (before since later events X : List Event) (event : Event) → before ≡ handed_on whole begun → events ≡ before ++ since
     → events ++ (event ∷ later) ≡ handed_on W c → handed_on W c ≡ handed_on whole begun ++ X → since ++ (event ∷ later) ≡ X
 since_is whole W begun c before since later events X event is parts told grows =
@@ -188,7 +188,7 @@ back_none : (xs ys : List ℕ) → xs ++ ys ≡ [] → ys ≡ []
 back_none [] ys e = e
 back_none (x ∷ xs) ys e = absurd cc
 
--- behind nothing more there are no datasets more, and nothing is begun
+-- after nothing more there are no datasets more, and nothing is begun
 nothing_begun : (W whole more : List Dataset) (d : Dataset) (c : Begun) (q y : List ℕ) → W ≡ whole ++ d ∷ more → SpellsStream count_octets more q → IsBegun count_octets c y → q ++ y ≡ []
     → handed_on W c ≡ flat_map events_of whole ++ (HeadRead (head_of d) ∷ (map DataOctet d.octets ++ DatasetEnd ∷ []))
 nothing_begun W whole more d (InTag held) q y is later b none =

@@ -27,7 +27,7 @@ stream_more [] front d x s one = (x, [], one, refl, ap (λ l. l ++ x) s ∙ sym 
 stream_more (c ∷ ds) front d x (p, q, first, more, joined) one =
     (p, q ++ x, first, stream_more ds q d x more one, ap (λ l. l ++ x) joined ∙ append_assoc p q x)
 
--- a tag goes on
+-- a tag continues
 pub tag_reads_on : (xs ys held : List ℕ) (whole : List Dataset) → BeginsTag count_octets (held ++ ys) → Reads xs whole (InTag held) → Reads (xs ++ ys) whole (InTag (held ++ ys))
 tag_reads_on xs ys held whole b r = record {
   front = r.front;
@@ -71,7 +71,7 @@ data_parts : (xs ys : List ℕ) (front rest tag taken : List ℕ) → xs ≡ fro
 data_parts xs ys front rest tag taken e f =
     ap (λ l. l ++ ys) e ∙ (append_assoc front rest ys ∙ ap (λ l. front ++ l) (ap (λ l. l ++ ys) f ∙ append_assoc tag taken ys))
 
--- data go on
+-- data continue
 pub data_reads_on : (xs ys taken : List ℕ) (whole : List Dataset) (h : Head) → Octets ys → length taken + length ys < h.count → Reads xs whole (InData h taken)
     → Reads (xs ++ ys) whole (InData h (taken ++ ys))
 data_reads_on xs ys taken whole h o short r =

@@ -60,7 +60,7 @@ tag_stops stops held rest h k a b lt s among =
     (tag_on held before (take k rest) (unfinished held.items rest h k lt s) refl)
     (head_leads before (slice_index rest k ∷ []) h (subst (SpellsTag count_octets h) (one_more held.items rest k lt) s)) among.parts among.stopped
 
--- ---- behind a front
+-- ---- after a front
 
 pub brings_front : (p q r : DatasetPlace) (piece : List ℕ) (i k : ℕ) (m n : List Event) → Brings p (take i piece) m q → Brings q (take k (rest_of piece i)) n r
     → Brings p (take (i + k) piece) (m ++ n) r

@@ -3,16 +3,16 @@
 //!
 //! Stands on `byteorder` and `arrayvec`. Every crate but `iim_tables` stands on it, at least for its definitions. The unpacker
 //! feeds [`HeadReader`] with a sink of its own, and relies on the contract of [`HeadReader::feed`] and on
-//! [`what_an_octet_completes`]. Writers of objects and envelopes spell tags by [`head_bytes`]. Sources and targets are reached by
+//! [`laws::what_an_octet_completes`]. Writers of objects and envelopes spell tags by [`head_bytes`]. Sources and targets are reached by
 //! [`take`] and [`put`] alone.
 #![tactic(auto)]
 
 mod device;
-mod device_laws;
+pub mod device_laws;
 mod fault;
 mod front;
 mod head;
-mod laws;
+pub mod laws;
 mod place;
 mod reader;
 mod sink;
@@ -24,16 +24,8 @@ mod tests;
 mod trial;
 
 pub use device::IoFault;
-pub use device_laws::{gifts_join, texts_join};
 pub use fault::{Fault, FaultCause};
 pub use head::{Head, HeadCause, HeadFault, TAG_MARKER, head_bytes};
-pub use laws::{
-    canonical_streams_are_spelled, canonical_tags_read_back, events_tell_the_datasets,
-    no_dataset_begins_another, no_octets_go_on, no_tag_begins_another,
-    octets_are_handed_on_one_way, octets_die_in_their_tag, octets_lead_to_one_place,
-    octets_split_one_way, places_are_reached, read_octets_go_on, read_octets_split,
-    readers_die_exactly, what_an_octet_completes,
-};
 pub use place::DatasetPlace;
 pub use reader::HeadReader;
 pub use sink::{DatasetSink, Step};

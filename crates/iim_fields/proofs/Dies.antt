@@ -311,7 +311,7 @@ head_alive values ds h alive small none =
 pub head_no_fault : (ds : List Dataset) (h : Head) → IsAliveAt ds h → record_fault ds h ≡ None
 head_no_fault ds h (d, is, alive) = subst (λ (k : Head). record_fault ds k ≡ None) is (from_no_fault ds d alive.0 (from_alive ds d alive))
 
--- a head that goes on has an octet for its number
+-- a head that continues has an octet for its number
 pub head_octet : (ds : List Dataset) (h : Head) → IsAliveAt ds h → IsOctet h.set
 head_octet ds h (d, is, alive) = subst (λ (k : Head). IsOctet k.set) is (good_next ds d alive.0 (from_alive ds d alive)).numbered
 

@@ -112,7 +112,7 @@ envelopes_end ds d alive = (
   (λ sections. sym (present_more ds d) ∙ sections_end (ds ++ d ∷ []) sections),
 )
 
--- ---- behind the last record
+-- ---- after the last record
 
 split_last : (d : Dataset) (ds : List Dataset) → (front : List Dataset) × (last : Dataset) × (d ∷ ds ≡ front ++ last ∷ [])
 split_last d [] = ([], d, refl)

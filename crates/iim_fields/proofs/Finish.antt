@@ -40,7 +40,7 @@ records_lack p [] ds none h = ap (those p) none
 records_lack p (r ∷ rs) ds (run, rest, parts, good, later) h =
     ap (those p) parts ∙ (filter-append (λ (d : Dataset). p d.rec) run rest ∙ (λ i. run_lacks p r run good.each h.0 i ++ records_lack p rs rest later h.1 i))
 
--- ---- behind record 2
+-- ---- after record 2
 
 after_two : (ds : List Dataset) (rest : List Dataset) → present_record ds ≡ 2 → AreRecords (after (present_record ds)) rest → AreRecords (7 ∷ 8 ∷ 9 ∷ []) rest
 after_two ds rest two recs = subst (λ (r : ℕ). AreRecords (after r) rest) two recs

@@ -13,7 +13,7 @@ use Rattle.iim_fields.specs.Faults.{last_record, present_record, of_record, pres
 use Rattle.iim_fields.proofs.Table.{after_tail, no_row}
 use Rattle.iim_fields.proofs.Runs.{not_empty, eq_itself}
 
--- the rest of the present record behind its run so far, and then the records after it
+-- the rest of the present record after its run so far, and then the records after it
 abbrev pub FromRun : ℕ → List Dataset → List Dataset → Type 0
 FromRun r own more = (run rest : List Dataset) × (more ≡ run ++ rest) × IsGoodRecord r (own ++ run) × AreRecords (after r) rest
 
@@ -192,7 +192,7 @@ or_true : (b : Bool) → (b || true) ≡ true
 or_true true = refl
 or_true false = refl
 
--- a record that comes behind the dataset came before it
+-- a record that comes after the dataset came before it
 still_coming : (ds : List Dataset) (d : Dataset) (more : List Dataset) (r : ℕ) → IsSame ds d more ⊎ IsNext ds d more → is_coming d.rec r ≡ true → is_coming (present_record ds) r ≡ true
 still_coming ds d more r (inl s) coming = ap (λ (m : ℕ). is_coming m r) (sym s.same) ∙ coming
 still_coming ds d more r (inr n) coming = ap (list_any (λ x. nat_eq x r)) n.next ∙ (ap (λ b. nat_eq d.rec r || b) coming ∙ or_true (nat_eq d.rec r))

@@ -124,7 +124,7 @@ complete : (r : ℕ) (ns : List ℕ) → AllByRecursion (HasSample r) ns → (xs
 complete r [] have xs p = ([], subst (IsPart r) (sym (append-nil xs)) p, tt)
 complete r (n ∷ ns) have xs p = complete_by (occurs n xs) r xs n ns refl p have.0 (complete r ns have.1)
 
--- a part of a record goes on to a good one
+-- a part of a record continues to a good one
 pub part_completes : EachRowHasValues → (r : ℕ) (xs : List Dataset) → IsPart r xs → (run : List Dataset) × IsGoodRecord r (xs ++ run)
 part_completes values r xs p =
     let c = complete r (mandatory r) (samples values r) xs p in

@@ -223,7 +223,7 @@ room_fault_is limits store ds h holds =
     let first : vec_len store.octets ≡ kept_octets ds = omega (arith, c.0) in
     ap (λ (n : ℕ). room_fault limits n (vec_len store.entries) h) first ∙ ap (λ (n : ℕ). room_fault limits (kept_octets ds) n h) c.1
 
--- the store behind datasets
+-- the store after datasets
 pub holds_behind : (check : Option RecordPlace) (limits : Limits) (store : Store) (size : List ℕ) (ds : List Dataset) → IsStore store → StandsBehind (place_of check limits store size) ds → Holds store (kept ds) []
 holds_behind check limits store size ds is s =
     subst (Holds store (kept ds)) (nothing_of_two (begun_octets store) size s.taken_are).0 (holds_kept store ds is s.kept_are)
@@ -419,7 +419,7 @@ store_room_for check limits store size k head r t is keeps =
 
 -- ---- the end of a dataset
 
--- the limits behind the dataset
+-- the limits after the dataset
 within_closed : (limits : Limits) (ds : List Dataset) (h : Head) (d : Dataset) (b : Bool) → is_kept h.rec ≡ b → head_of d ≡ h
     → (is_kept h.rec ≡ true → IsWithin limits (kept_octets ds + h.count) (length (kept ds) + 1)) → IsWithin limits (kept_octets ds) (length (kept ds))
     → IsWithin limits (kept_octets (ds ++ d ∷ [])) (length (kept (ds ++ d ∷ [])))

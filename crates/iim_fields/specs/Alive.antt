@@ -1,4 +1,4 @@
--- Which heads and values can go on to those of an envelope. The tokens of the record layer are complete heads, and the
+-- Which heads and values can continue to those of an envelope. The tokens of the record layer are complete heads, and the
 -- complete values of the records 1, 2, 7 and 9: what a subfile has is no matter of this layer.
 use Rattle.std.specs.Prelude.{◌≡◌, List, [], ◌∷◌, ◌++◌}
 use Rattle.iim_dataset.specs.Datasets.{Dataset, head_of}
@@ -9,6 +9,6 @@ use Rattle.iim_fields.specs.Records.{AreSections}
 abbrev pub IsAlive : List Dataset → Type 0
 IsAlive ds = (more : List Dataset) × AreSections (ds ++ more)
 
--- Some data of the head, and datasets behind it, do so.
+-- Some data of the head, and datasets after it, do so.
 abbrev pub IsAliveAt : List Dataset → Head → Type 0
 IsAliveAt ds h = (d : Dataset) × (head_of d ≡ h) × IsAlive (ds ++ d ∷ [])

@@ -81,7 +81,7 @@ OfValue P (AtValue d) = P d
 
 -- ---- the causes
 
--- The number of a cause, and its condition at a token behind datasets, under limits.
+-- The number of a cause, and its condition at a token after datasets, under limits.
 pub record Rule : Type 1 where
   pub number : ℕ
   pub holds : Limits → List Dataset → Token → Type 0

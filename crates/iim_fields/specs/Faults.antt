@@ -1,4 +1,4 @@
--- The first fault of a head behind datasets, and of a value.
+-- The first fault of a head after datasets, and of a value.
 use Rattle.std.specs.Prelude.{ℕ, Bool, false, not, ◌&&◌, ◌||◌, ◌==◌, ◌+◌, nat_le, if◌then◌else◌, List, [], ◌∷◌, length, flat_map, Option, Some, None}
 use Rattle.std.specs.List.{find, filter}
 use Rattle.std.specs.Option.{option_or}
@@ -71,7 +71,7 @@ head_fault present has h =
     else option_or (row_fault (h.rec == present && has h.set) (row_of h.rec h.set) h)
     (if is_first h.rec (after present) then missing_fault present (missing_of present has) else None)
 
--- the first fault of a head behind datasets
+-- the first fault of a head after datasets
 abbrev pub record_fault : List Dataset → Head → Option FieldFault
 record_fault ds h = head_fault (present_record ds) (λ n. occurs n (present_run ds)) h
 
@@ -120,10 +120,10 @@ room_fault limits octets fields h =
     else if not (nat_le (fields + 1) limits.fields) then Some (fault_on h TooManyFields)
     else None
 
--- the first limit that a head passes behind datasets
+-- the first limit that a head passes after datasets
 abbrev pub limits_fault : Limits → List Dataset → Head → Option FieldFault
 limits_fault limits ds h = room_fault limits (kept_octets ds) (length (kept ds)) h
 
--- The first fault of a head behind datasets: of the record layer, or else of the limits.
+-- The first fault of a head after datasets: of the record layer, or else of the limits.
 abbrev pub first_fault : Limits → List Dataset → Head → Option FieldFault
 first_fault limits ds h = option_or (record_fault ds h) (limits_fault limits ds h)

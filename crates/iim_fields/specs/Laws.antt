@@ -13,11 +13,11 @@ use Rattle.iim_fields.specs.declared.limits.Limits.{Limits}
 use Rattle.iim_fields.specs.declared.fault.FieldFault.{FieldFault}
 use Rattle.iim_fields.specs.declared.check.RecordPlace.{RecordPlace}
 
--- Behind datasets that are alive, a head has no fault and its number is an octet exactly where the record layer is alive with it.
+-- After datasets that are alive, a head has no fault and its number is an octet exactly where the record layer is alive with it.
 abbrev pub HeadsDieWithTheirFault : Type 0
 HeadsDieWithTheirFault = (ds : List Dataset) (h : Head) → IsAlive ds → ((record_fault ds h ≡ None) × IsOctet h.set) ↔ IsAliveAt ds h
 
--- Behind a head that is alive, a value has no fault exactly where the record layer is alive with it.
+-- After a head that is alive, a value has no fault exactly where the record layer is alive with it.
 abbrev pub ValuesDieWithTheirFault : Type 0
 ValuesDieWithTheirFault = (ds : List Dataset) (d : Dataset) → IsAliveAt ds (head_of d) → Octets d.octets → (value_fault d ≡ None) ↔ IsAlive (ds ++ d ∷ [])
 

@@ -13,7 +13,7 @@ use crate::order::fault_on;
 use crate::records::is_kept;
 use crate::store::Store;
 use iim_dataset::Head;
-use iim_tables::each_row_has_values;
+use iim_tables::laws::each_row_has_values;
 use std::alloc::{AllocError, Global};
 use std::marker::Model;
 

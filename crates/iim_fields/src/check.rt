@@ -14,7 +14,8 @@ use crate::order::Order;
 use crate::records::POST_OBJECT;
 use crate::value::check_value;
 use iim_dataset::Head;
-use iim_tables::{Row, each_row_has_values};
+use iim_tables::Row;
+use iim_tables::laws::each_row_has_values;
 use std::marker::Model;
 
 /// A begun dataset.

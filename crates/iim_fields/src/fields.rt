@@ -18,7 +18,8 @@ use crate::store::Store;
 use crate::walk::FieldIter;
 use arrayvec::ArrayVec;
 use iim_dataset::Head;
-use iim_tables::{SIZE_OCTETS, each_row_has_values};
+use iim_tables::SIZE_OCTETS;
+use iim_tables::laws::each_row_has_values;
 use std::alloc::{AllocError, Global};
 use std::marker::Model;
 

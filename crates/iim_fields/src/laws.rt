@@ -2,7 +2,7 @@
 
 ghost use Rattle.iim_fields.specs.Laws.{HeadsDieWithTheirFault, ValuesDieWithTheirFault, EnvelopesEndWithTheLastRecord, NoSectionsBeginOthers, HeadsTellTheLowestCause, ValuesTellTheLowestCause, DatasetsLeadToOnePlace};
 
-use iim_tables::each_row_has_values;
+use iim_tables::laws::each_row_has_values;
 
 /// The record layer dies at a head exactly where the head has a fault: every head without one can be completed.
 pub fn heads_die_with_their_fault()
@@ -18,7 +18,7 @@ pub fn values_die_with_their_fault()
     each_row_has_values();
 }
 
-/// Datasets that can go on to those of an envelope are all of them exactly where the last is of record 9.
+/// Datasets that can continue to those of an envelope are all of them exactly where the last is of record 9.
 pub fn envelopes_end_with_the_last_record()
     ensures { EnvelopesEndWithTheLastRecord }
 {}

@@ -12,7 +12,7 @@ mod envelope;
 mod fault;
 mod fields;
 mod id;
-mod laws;
+pub mod laws;
 mod limits;
 mod order;
 mod records;
@@ -28,10 +28,5 @@ pub use envelope::Envelope;
 pub use fault::{FieldCause, FieldFault};
 pub use fields::Fields;
 pub use id::EnvelopeId;
-pub use laws::{
-    datasets_lead_to_one_place, envelopes_end_with_the_last_record, heads_die_with_their_fault,
-    heads_tell_the_lowest_cause, no_sections_begin_others, values_die_with_their_fault,
-    values_tell_the_lowest_cause,
-};
 pub use limits::Limits;
 pub use walk::{DataIter, FieldIter};

@@ -242,7 +242,7 @@ fn the_reader_goes_on_where_nothing_is_handed_over(rt: HostRuntime) -> Result<()
         assert!(rt; false, "{fault:?}");
         return Ok(());
     }
-    // Behind record 2 there is no envelope yet.
+    // After record 2 there is no envelope yet.
     let Err(mut fields) = fields.into_envelope() else {
         assert!(rt; false);
         return Ok(());

@@ -160,7 +160,7 @@ datasets_of tokens o =
 pub tokens_law : TokensAreOfSizedDatasets
 tokens_law tokens = (datasets_of tokens, λ h. subst ObjectLanguage h.2 (member_of h.0 h.1))
 
--- ---- datasets that go on
+-- ---- datasets that continue
 
 -- what begins a member is alive
 alive_by : (xs rest all : List ObjectToken) → all ≡ xs ++ rest → ObjectLanguage all → IsAlive ObjectLanguage xs
@@ -194,7 +194,7 @@ live_datasets ds (more, sized) =
           (member_of (ds ++ more) sized)
     ]
 
--- numbers go on to an object
+-- numbers continue to an object
 numbers_go_on : (ds b x : List Dataset) (rest : List ObjectToken) → AllByRecursion (λ d. d.rec < 7) b → AllByRecursion (IsMember 7) x → ds ≡ b ++ x → ObjectLanguage (numbers x ++ rest) → IsAlive AreSized ds
 numbers_go_on ds b x rest others sevens seen o =
     let front = read_front (numbers_of x) o.stated rest o.lengths o.confirmed o.tokens_are in
@@ -279,7 +279,7 @@ datasets_law ds good = (live_datasets ds, live_tokens ds good)
 
 -- ---- the end of the object
 
--- the tokens behind the head of 9:10
+-- the tokens after the head of 9:10
 ended_tokens : (ds b x y : List Dataset) → AllByRecursion (λ d. d.rec < 7) b → AllByRecursion (λ d. d.rec ≡ 7) x → AllByRecursion (λ d. d.rec ≡ 8) y → ds ≡ b ++ (x ++ y)
     → tokens_of (place_ended ds) ≡ numbers x ++ (heads y ++ ObjectEnded ∷ [])
 ended_tokens ds b x y others sevens eights seen =
@@ -303,7 +303,7 @@ ends_live ds (e, nine, (after, sized)) =
     (all ∙ join3 (numbers q.r7) (heads q.r8) (ObjectEnded ∷ []) last (tokens_of (place_ended ds)) ended)
     (member_of (ds ++ e ∷ after) sized_so)
 
--- an object that has ended goes on with its confirmed size
+-- an object that has ended continues with its confirmed size
 end_goes_on : (ds b x y : List Dataset) (rest : List ObjectToken) → AllByRecursion (λ d. d.rec < 7) b → AllByRecursion (IsMember 7) x → AllByRecursion (IsMember 8) y → 0 < length y → ds ≡ b ++ (x ++ y)
     → ObjectLanguage (numbers x ++ (heads y ++ ObjectEnded ∷ rest)) → (e : Dataset) × (e.rec ≡ 9) × IsAlive AreSized (ds ++ e ∷ [])
 end_goes_on ds b x y rest others sevens eights some seen o =

@@ -114,7 +114,7 @@ split (x ∷ xs) ys (u ∷ us) vs e =
       | inr p ↦ inr (p.0, (λ i. first i ∷ p.1 i), p.2)
     ]
 
--- in or behind record 9, which is one dataset
+-- in or after record 9, which is one dataset
 at_nine : (ds more before r7 r8 r9 m t : List Dataset) (e : Dataset) → AllByRecursion (λ d. d.rec < 7) before → r9 ≡ e ∷ [] → ds ≡ before ++ (r7 ++ m) → m ≡ r8 ++ t → r9 ≡ t ++ more
     → InSubfiles ds more r7 r8 r9 ⊎ AtEnd ds more r7 r8 r9
 at_nine ds more before r7 r8 r9 m [] e others one seen parts rest = inl (record {
@@ -179,7 +179,7 @@ first_is P d more (x ∷ xs) ys e h =
 of_rec : (rec : ℕ) (ds : List Dataset) → AllByRecursion (IsMember rec) ds → AllByRecursion (λ d. d.rec ≡ rec) ds
 of_rec rec ds h = all_map (IsMember rec) (λ (d : Dataset). d.rec ≡ rec) ds (λ d m. m.0) h
 
--- the records that come behind are sorted
+-- the records that come after are sorted
 pub sorted : {ds : List Dataset} (r : AreRecords ds) → AreSorted r.before r.r7 r.r8 r.r9
 sorted r = record { others = r.others; sevens = of_rec 7 r.r7 r.descriptor.each; eights = of_rec 8 r.r8 r.object.each; nines = of_rec 9 r.r9 r.confirmation.each }
 
@@ -212,7 +212,7 @@ pub record NextEnd (ds r7 r8 : List Dataset) : Type 0 where
   pub others : AllByRecursion (λ d. d.rec < 7) before
   pub seen : ds ≡ before ++ (r7 ++ r8)
 
--- behind numbers: another one, or the first subfile
+-- after numbers: another one, or the first subfile
 next_in_numbers : (ds : List Dataset) (d : Dataset) (more r7 r8 r9 : List Dataset) → MeetRows 7 r7 → MeetRows 8 r8 → 7 ≤ d.rec → InNumbers ds (d ∷ more) r7 r8 r9
     → (NextNumber ds d r7 × (d.rec ≡ 7)) ⊎ (NextSubfile ds d r7 r8 × (d.rec ≡ 8))
 next_in_numbers ds d more r7 r8 r9 good7 good8 high c = elim (first_is (λ (x : Dataset). x.rec < 7) d more c.between (c.m7 ++ (r8 ++ r9)) c.left c.others_left) [
@@ -233,7 +233,7 @@ next_in_numbers ds d more r7 r8 r9 good7 good8 high c = elim (first_is (λ (x : 
       ]
 ]
 
--- behind subfiles: another one, or the end
+-- after subfiles: another one, or the end
 next_in_subfiles : (ds : List Dataset) (d : Dataset) (more r7 r8 r9 : List Dataset) → MeetRows 8 r8 → MeetRows 9 r9 → InSubfiles ds (d ∷ more) r7 r8 r9
     → (NextSubfile ds d r7 r8 × (d.rec ≡ 8)) ⊎ (NextEnd ds r7 r8 × IsMember 9 d)
 next_in_subfiles ds d more r7 r8 r9 good8 good9 c =

@@ -28,7 +28,7 @@ number_tokens_more ps q = read-append ps (q ∷ [])
 open_tokens : (ps : List Stated) (lengths : List ℕ) → number_tokens ps ++ (map SubfileBegun lengths ++ []) ≡ number_tokens ps ++ map SubfileBegun lengths
 open_tokens ps lengths = ap (λ (t : List ObjectToken). number_tokens ps ++ t) (append-nil (map SubfileBegun lengths))
 
--- the state behind a number
+-- the state after a number
 at_set : (wanted set number : ℕ) (ps : List Stated) → number_at set ps ≡ None → set_where wanted set number (number_at wanted ps) ≡ number_at wanted (ps ++ record { set = set; number = number } ∷ [])
 at_set wanted set number ps none = elim (cases_Bool (eqb set wanted)) [
   | inl t ↦
@@ -467,7 +467,7 @@ confirmed_wrong : (total n : ℕ) (c : SizeCause) → confirmed_cause total n �
 confirmed_wrong total n c e same =
     let bad : ◌≡◌ {A = Option SizeCause} None (Some c) = (rw (eq-eqb n total same) at e) in cc
 
--- behind the end a subfile has come
+-- after the end a subfile has come
 some_subfile : (s : State) (p : Place) → StandsAt (Some s) p → p.ending ≡ Ended → 0 < length p.lengths
 some_subfile s p st e = by_lengths p.lengths refl
   where
@@ -514,7 +514,7 @@ confirmed_refused s n c e p st ended =
       cause,
     )
 
--- ---- the tokens of the place behind a token
+-- ---- the tokens of the place after a token
 
 pub tokens_follow : TokensFollow
 tokens_follow p (NumberRead set number) (not_ended, none, stated) =
@@ -545,7 +545,7 @@ known_is : (o : Option ℕ) (k : Bool) → o ≡ Some (mode_number k) → is_giv
 known_is o true e = is_given_by o 1 e
 known_is o false e = ap (λ (x : Option ℕ). is_given x 1) e
 
--- behind the confirmed size a subfile has come
+-- after the confirmed size a subfile has come
 some_confirmed : (s : State) (p : Place) (n : ℕ) → StandsAt (Some s) p → p.ending ≡ ConfirmedAs n → 0 < length p.lengths
 some_confirmed s p n st e = by_lengths p.lengths refl
   where

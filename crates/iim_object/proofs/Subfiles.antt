@@ -120,7 +120,7 @@ subfiles_alive known subfile ps lengths d some fit = by_announced (number_at 90 
 
 -- ---- and what completes has these parts
 
--- behind the numbers come the subfiles
+-- after the numbers come the subfiles
 pub numbers_end : (ps all : List Stated) (l n : ℕ) (rest : List ObjectToken) (lengths : List ℕ)
     → number_tokens ps ++ (SubfileBegun l ∷ rest) ≡ number_tokens all ++ (map SubfileBegun lengths ++ ending n)
     → (ps ≡ all) × (SubfileBegun l ∷ rest ≡ map SubfileBegun lengths ++ ending n)
@@ -235,7 +235,7 @@ subfiles_law known subfile ps lengths d some = (subfiles_live known subfile ps l
 
 -- ---- the end
 
--- what an object that ends here, with these tokens behind it, has
+-- what an object that ends here, with these tokens after it, has
 ended : (known : Bool) (subfile : ℕ) (ps : List Stated) (lengths : List ℕ) (rest : List ObjectToken) → HasDuties known subfile ps → 0 < length lengths
     → ObjectLanguage (number_tokens ps ++ (map SubfileBegun lengths ++ (ObjectEnded ∷ rest)))
     → Fit known subfile ps lengths × (IsWhole ps lengths × (rest ≡ Confirmed (sum lengths) ∷ []))

@@ -1,4 +1,4 @@
--- How a writer of subfiles goes on, breaks off and finishes.
+-- How a writer of subfiles continues, breaks off and finishes.
 use Rattle.std.proofs.Common.{◌≡◌, ℕ, ◌<◌, ◌≤◌, Bool, true, false, cond, Option, Some, None, List, [], ◌∷◌, ◌++◌, length, take, drop, refl, sym, ap, subst, ◌∙◌, arith, append_assoc, append-nil, length-append, length-take}
 use Rattle.std.specs.Prelude.{vec_len, IfNone}
 use Rattle.std.proofs.lemmas.List.{take-append-drop}
@@ -48,7 +48,7 @@ pub full_append : (size : ℕ) (ps : List (List ℕ)) (p : List ℕ) → AreFull
 full_append size [] p h e = (e, tt)
 full_append size (q ∷ ps) p h e = (h.0, full_append size ps p h.1 e)
 
--- The full parts that an object begins with are the first of its cut, where it goes on behind them.
+-- The full parts that an object begins with are the first of its cut, where it continues after them.
 pub first_parts : (size : ℕ) (ps full : List (List ℕ)) (last more : List ℕ) → 1 ≤ size → AreFull size ps → AreFull size full → length last ≤ size
     → (last ≡ [] → joined_parts full ++ last ≡ []) → 1 ≤ length more → joined_parts ps ++ more ≡ joined_parts full ++ last
     → (others : List (List ℕ)) × (full ++ last ∷ [] ≡ ps ++ others)
@@ -72,7 +72,7 @@ begins_by out text rest whole n e = (
       ∙ (ap (λ (t : List ℕ). out ++ t) (sym (append_assoc (take n text) (drop n text) rest) ∙ ap (λ (t : List ℕ). t ++ rest) (take-append-drop n text)) ∙ sym e),
 )
 
--- ---- a writer goes on
+-- ---- a writer continues
 
 pub goes_nowhere : {W : Type 0} (state : W → Device) (w : Writing W) → TextsJoin → w.failed ≡ false → Lengthens state w w []
 goes_nowhere state w join unfailed = record {
@@ -130,7 +130,7 @@ filled state old new xs join unfailed some held plan sent output failed room =
       };
     }
 
--- A full subfile is written, and octets are held behind it.
+-- A full subfile is written, and octets are held after it.
 pub flushed : {W : Type 0} (state : W → Device) (old mid new : Cutter W) (xs : List ℕ) → TextsJoin → old.failed ≡ false → vec_len old.held ≡ old.plan.subfile → 1 ≤ length xs → Flushes state old mid
     → new.held.items ≡ mid.held.items ++ xs → new.plan ≡ mid.plan → new.sent ≡ mid.sent → new.output ≡ mid.output → new.failed ≡ mid.failed → HasRoom new
     → Lengthens state (writing_of old) (writing_of new) xs
@@ -168,7 +168,7 @@ flushed state old mid new xs join unfailed full some f held plan sent output fai
 front_length : (n : ℕ) (text : List ℕ) → n < length text → length (take n text) ≡ n
 front_length n text lt = omega (arith, lt, length-take n text)
 
--- the whole behind full parts that are out, and one more
+-- the whole after full parts that are out, and one more
 parted : (plan : Plan) (object : List ℕ) (ps others : List (List ℕ)) (p : List ℕ)
     → canonical_stream (object_datasets plan.subfile plan.size object ((ps ++ p ∷ []) ++ others))
     ≡ begun_octets plan ps ++ (canonical_dataset (subfile_dataset p) ++ (canonical_stream (subfile_datasets others) ++ canonical_stream (confirmed_datasets object)))
@@ -183,7 +183,7 @@ parted plan object ps others p =
 regroup : (object joined held octets rest : List ℕ) → object ≡ joined ++ held → (object ++ octets) ++ rest ≡ (joined ++ held) ++ (octets ++ rest)
 regroup object joined held octets rest e = append_assoc object octets rest ∙ ap (λ (t : List ℕ). t ++ (octets ++ rest)) e
 
--- A full subfile could not be written, and octets were to come behind it.
+-- A full subfile could not be written, and octets were to come after it.
 pub halted : {W : Type 0} (state : W → Device) (old new : Cutter W) (octets : List ℕ) → vec_len old.held ≡ old.plan.subfile → 1 ≤ length octets → Halts state old new (canonical_dataset (subfile_dataset old.held.items))
     → BreaksOff state (GoesOnWith old.plan octets) (writing_of old) (writing_of new)
 halted state old new octets full some h =

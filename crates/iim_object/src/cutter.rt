@@ -11,7 +11,8 @@ use crate::laws::objects_are_cut_one_way;
 use crate::output::Output;
 use crate::plan::Plan;
 use crate::size::Size;
-use iim_dataset::{Target, texts_join};
+use iim_dataset::Target;
+use iim_dataset::device_laws::texts_join;
 
 /// The ObjectData record.
 const OBJECT: u8 = 8;

@@ -8,7 +8,7 @@ mod buffer;
 mod cause;
 mod cutter;
 mod fault;
-mod laws;
+pub mod laws;
 mod output;
 mod plan;
 mod reader;
@@ -25,13 +25,6 @@ mod writing_tests;
 pub use buffer::SubfileBuffer;
 pub use cause::{PackCause, StartFault};
 pub use fault::{ObjectFault, SizeCause};
-pub use laws::{
-    causes_are_the_first, datasets_lead_from_place_to_place, datasets_live_with_their_tokens,
-    numbers_live_without_clash, objects_are_cut_one_way, objects_die_for_causes,
-    objects_end_where_they_are_whole, packed_objects_have_sizes, places_are_reached,
-    readers_tell_sizes, records_are_by_number, sizes_are_determined, subfiles_are_few,
-    subfiles_live_while_they_fit, tokens_are_of_sized_datasets, totals_are_confirmed,
-};
 pub use plan::{MAX_SUBFILES, Plan};
 pub use reader::ObjectReader;
 pub use sink::ObjectSink;

@@ -12,7 +12,8 @@ ghost use Rattle.iim_object.specs.declared.cause.PackCause.TheVariants as causes
 use crate::cause::PackCause;
 use crate::plan::Plan;
 use crate::size::Size;
-use iim_dataset::{Head, Target, head_bytes, put, texts_join};
+use iim_dataset::device_laws::texts_join;
+use iim_dataset::{Head, Target, head_bytes, put};
 
 /// The pre-ObjectData descriptor record.
 const DESCRIPTOR: u8 = 7;

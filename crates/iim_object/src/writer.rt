@@ -11,7 +11,8 @@ use crate::cause::{PackCause, StartFault};
 use crate::cutter::Cutter;
 use crate::output::Output;
 use crate::plan::Plan;
-use iim_dataset::{Target, texts_join};
+use iim_dataset::Target;
+use iim_dataset::device_laws::texts_join;
 use std::marker::Model;
 
 /// Writes an object by a plan: record 7, subfiles and record 9. It has no store beside its buffer, and holds at most the

@@ -1,4 +1,4 @@
--- How a packer goes on, breaks off and finishes, by the writer of its object.
+-- How a packer continues, breaks off and finishes, by the writer of its object.
 use Rattle.std.proofs.Common.{◌≡◌, ℕ, ◌+◌, ◌≤◌, Bool, true, false, not, nat_le, Option, Some, None, List, [], ◌∷◌, ◌++◌, map, refl, sym, ap, subst, ◌∙◌, arith, append_assoc}
 use Rattle.std.specs.Prelude.{Result, Ok, Err, OnOk, OnErr, IfNone}
 use Rattle.std.proofs.lemmas.Bool.{and_parts, le-leb, leb-true}
@@ -49,7 +49,7 @@ pub line_events : (line : List ℕ) → IsLine line → AreEvents (map LineOctet
 line_events [] h = tt
 line_events (b ∷ bs) h = let parts = and_parts (is_line_octet b) (list_all is_line_octet bs) h in (parts.0, line_events bs parts.1)
 
--- ---- going on
+-- ---- continuing
 
 pub begins_behind : (zs xs ys : List ℕ) → Begins xs ys → Begins (zs ++ xs) (zs ++ ys)
 begins_behind zs xs ys b = (b.0, append_assoc zs xs b.0 ∙ ap (λ (t : List ℕ). zs ++ t) b.1)

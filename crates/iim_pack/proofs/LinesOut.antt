@@ -47,7 +47,7 @@ breaks_later state a b c xs ys join l k = record {
       (k.begins fields head (evs ++ xs) plan (out ++ l.more) whole (l.stands fields head evs plan out s) (subst (λ (e : List Event). FormWith fields head plan e whole) (sym (append_assoc evs xs ys)) form));
 }
 
--- what goes on with more events than these goes on with these
+-- what continues with more events than these continues with these
 pub breaks_before : {W : Type 0} (state : W → Device) (a c : Packing W) (xs ys : List Event) → BreaksOff state (GoesOnWith xs) a c → BreaksOff state (GoesOnWith (xs ++ ys)) a c
 breaks_before state a c xs ys k = record {
   more = k.more;

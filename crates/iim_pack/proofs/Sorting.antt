@@ -29,7 +29,7 @@ AreOf rec ds = AllByRecursion (λ d. d.rec ≡ rec) ds
 by_record : (p : ℕ → Bool) (rec : ℕ) (b : Bool) (ds : List Dataset) → p rec ≡ b → AreOf rec ds → AllByRecursion (λ d. p d.rec ≡ b) ds
 by_record p rec b ds test h = all_map (λ (d : Dataset). d.rec ≡ rec) (λ (d : Dataset). p d.rec ≡ b) ds (λ d is. ap p is ∙ test) h
 
--- five records behind one another
+-- five records after one another
 five : (p : ℕ → Bool) (a b x y z : List Dataset)
     → filter (λ d. p d.rec) ((a ++ b) ++ (x ++ (y ++ z))) ≡ (filter (λ d. p d.rec) a ++ filter (λ d. p d.rec) b) ++ (filter (λ d. p d.rec) x ++ (filter (λ d. p d.rec) y ++ filter (λ d. p d.rec) z))
 five p a b x y z =
@@ -54,7 +54,7 @@ picked_record : (p : ℕ → Bool) (rec : ℕ) (b : Bool) (ds : List Dataset) �
 picked_record p rec true ds test h = all_pass (λ d. p d.rec) ds (by_record p rec true ds test h)
 picked_record p rec false ds test h = none_pass (λ d. p d.rec) ds (by_record p rec false ds test h)
 
--- the records that pass, of five behind one another
+-- the records that pass, of five after one another
 picked : (p : ℕ → Bool) (a b x y z : List Dataset) → AreInOrder a b x y z
     → filter (λ d. p d.rec) ((a ++ b) ++ (x ++ (y ++ z))) ≡ (pick (p 1) a ++ pick (p 2) b) ++ (pick (p 7) x ++ (pick (p 8) y ++ pick (p 9) z))
 picked p a b x y z o =

@@ -30,7 +30,7 @@ fields_broke state writer fields head plan fault cause s = record {
   begins = λ whole form. begins_by (canonical_stream fields) form.packed.object whole fault.written form.packed.octets_are;
 }
 
--- the object could not be begun behind them
+-- the object could not be begun after them
 pub object_broke : {W : Type 0} (state : W → Device) (writer first : W) (fields : List Dataset) (head : Header) (plan : Plan) (before : ℕ) (fault new : StartFault W) → TextsJoin → Wrote (state writer) (state first) (canonical_stream fields)
     → before ≡ length (canonical_stream fields) → Halts state (BeginsWith plan (packed_head head)) first fault → new.cause ≡ fault.cause → new.writer ≡ fault.writer → new.written ≡ before + fault.written
     → Halts state (FormWith fields head plan []) writer new

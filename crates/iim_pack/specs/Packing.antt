@@ -73,7 +73,7 @@ pub record BreaksOff {W : Type 0} (state : W → Device) (Form : List Dataset �
   pub begins : (fields : List Dataset) (head : Header) (before : List Event) (plan : Plan) (out whole : List ℕ)
       → StandsAt old fields head before plan out → Form fields head before plan whole → object.Begins (out ++ more) whole
 
--- the forms whose text goes on with these events
+-- the forms whose text continues with these events
 abbrev pub GoesOnWith : List Event → List Dataset → Header → List Event → Plan → List ℕ → Type 0
 GoesOnWith events fields head before plan whole = FormWith fields head plan (before ++ events) whole
 
@@ -90,7 +90,7 @@ pub record Finishes {W : Type 0} (state : W → Device) (old : Packing W) (trail
 
 -- ---- causes
 
--- so many octets and the least ending do not fit behind so many
+-- so many octets and the least ending do not fit after so many
 abbrev pub is_past : Plan → ℕ → ℕ → Bool
 is_past plan total n = not (nat_le (total + n) (most_of plan))
 
@@ -113,7 +113,7 @@ line_end_cause k =
 abbrev pub is_trailer : List ℕ → Bool
 is_trailer trailer = list_all is_trailer_octet trailer && nat_le (length trailer) 64
 
--- the first cause against an ending with the trailer, behind so many octets of the object
+-- the first cause against an ending with the trailer, after so many octets of the object
 abbrev pub ending_cause : Plan → ℕ → List ℕ → Option PackCause
 ending_cause plan total trailer =
     if not (is_trailer trailer) then Some causes.BadTrailer

@@ -30,7 +30,7 @@ pub(crate) fn is_short(size: Size, total: u64) -> bool
     }
 }
 
-/// Why an object may not end with the trailer behind so many octets.
+/// Why an object may not end with the trailer after so many octets.
 pub(crate) fn ending_cause(plan: Plan, total: u64, trailer: &[u8]) -> Option<PackCause>
     requires total { total < 2 ^ 62 }
     ensures { result ≡ words.ending_cause plan total trailer.now }

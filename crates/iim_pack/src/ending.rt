@@ -5,7 +5,8 @@ ghost use Rattle.iim_object.specs.Writing.{BreaksOff, most_of, total_of, is_shor
 ghost use Rattle.iim_object.specs.declared.cause.PackCause.TheVariants as causes;
 ghost use Rattle.iim_pack.specs.Ending.{Ends, EndsWithTail};
 
-use iim_dataset::{Target, texts_join};
+use iim_dataset::Target;
+use iim_dataset::device_laws::texts_join;
 use iim_object::{PackCause, SubfileWriter};
 
 /// Writes the last octets of an object, and what follows them.

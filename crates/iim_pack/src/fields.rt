@@ -6,7 +6,8 @@ ghost use Rattle.iim_dataset.specs.Datasets.{canonical_dataset, canonical_stream
 ghost use Rattle.iim_dataset.specs.Devices.{Wrote, Stopped};
 ghost use Rattle.iim_fields.specs.Builders.{IsEnvelope};
 
-use iim_dataset::{Head, Target, head_bytes, put, texts_join};
+use iim_dataset::device_laws::texts_join;
+use iim_dataset::{Head, Target, head_bytes, put};
 use iim_fields::Envelope;
 
 /// Writes a dataset in its canonical spelling. Both answers tell how many octets are out.

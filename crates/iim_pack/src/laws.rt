@@ -2,8 +2,8 @@
 
 ghost use Rattle.iim_pack.specs.Laws.{PackedOctetsAreFew, PackedOctetsAreOne, PackedOctetsCarryTheValue, PackedSubfilesAreFew};
 
-use iim_dataset::canonical_streams_are_spelled;
-use iim_object::{objects_are_cut_one_way, packed_objects_have_sizes};
+use iim_dataset::laws::canonical_streams_are_spelled;
+use iim_object::laws::{objects_are_cut_one_way, packed_objects_have_sizes};
 
 /// What is packed carries the fields, the object and the sizes of the plan.
 pub fn packed_octets_carry_the_value()

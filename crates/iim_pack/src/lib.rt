@@ -11,7 +11,7 @@
 mod cause;
 mod ending;
 mod fields;
-mod laws;
+pub mod laws;
 mod lines;
 mod opening;
 mod packer;
@@ -20,10 +20,6 @@ mod size;
 mod tests;
 mod whole;
 
-pub use laws::{
-    packed_octets_are_few, packed_octets_are_one, packed_octets_carry_the_value,
-    packed_subfiles_are_few,
-};
 pub use packer::Packer;
 pub use size::packed_size;
 pub use whole::pack;

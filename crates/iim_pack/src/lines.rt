@@ -10,7 +10,8 @@ ghost use Rattle.iim_pack.specs.Packing.{Lengthens, BreaksOff, GoesOnWith};
 ghost use Rattle.iim_pack.specs.Whole.{line_events};
 
 use crate::packer::Packer;
-use iim_dataset::{Target, texts_join};
+use iim_dataset::Target;
+use iim_dataset::device_laws::texts_join;
 use iim_object::PackCause;
 use wire_story::Lines;
 

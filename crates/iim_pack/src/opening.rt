@@ -4,7 +4,8 @@ ghost use Rattle.std.specs.Prelude.{◌≡◌, ◌<◌, ◌≤◌, ◌^◌, leng
 ghost use Rattle.iim_object.specs.Writing.{most_of};
 ghost use Rattle.iim_pack.specs.Starting.{Opens, Halts, BeginsWith};
 
-use iim_dataset::{Target, texts_join};
+use iim_dataset::Target;
+use iim_dataset::device_laws::texts_join;
 use iim_object::{StartFault, SubfileBuffer, SubfileWriter};
 
 /// Writes record 7, and begins the object with these octets.

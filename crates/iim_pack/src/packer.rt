@@ -12,16 +12,19 @@ use crate::cause::{LEAST_ENDING, ending_cause, is_past};
 use crate::ending::end_object;
 use crate::fields::put_fields;
 use crate::opening::open_object;
-use iim_dataset::{Target, texts_join};
+use iim_dataset::Target;
+use iim_dataset::device_laws::texts_join;
 use iim_fields::Envelope;
 use iim_object::{PackCause, Plan, StartFault, SubfileBuffer, SubfileWriter};
 use std::alloc::Global;
 use std::marker::Model;
-use wire_message::{MessageHead, canonical_objects_are_messages, head_text, tail_text};
-use wire_story::{
-    LINE_END, events_are_packed_as_lines, is_text, line_ends_are_packed_as_return_and_feed,
+use wire_message::laws::canonical_objects_are_messages;
+use wire_message::{MessageHead, head_text, tail_text};
+use wire_story::laws::{
+    events_are_packed_as_lines, line_ends_are_packed_as_return_and_feed,
     lines_are_packed_as_their_events,
 };
+use wire_story::{LINE_END, is_text};
 
 /// Packs an envelope, a header and a text that comes in pieces.
 ///

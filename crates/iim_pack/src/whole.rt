@@ -13,13 +13,15 @@ use crate::cause::is_short;
 use crate::lines::put_lines;
 use crate::packer::Packer;
 use crate::size::packed_size;
-use iim_dataset::{Target, texts_join};
+use iim_dataset::Target;
+use iim_dataset::device_laws::texts_join;
 use iim_fields::Envelope;
 use iim_object::{PackCause, Plan, StartFault};
 use std::alloc::Global;
 use wire_message::{MessageHead, is_trailer};
-use wire_story::{
-    Lines, lines_are_packed_as_their_events, packed_lines_are_a_text, texts_are_collected_as_lines,
+use wire_story::Lines;
+use wire_story::laws::{
+    lines_are_packed_as_their_events, packed_lines_are_a_text, texts_are_collected_as_lines,
     texts_are_delivered_as_lines,
 };
 

@@ -3,8 +3,8 @@
 ghost use Rattle.iim_round_trip.specs.Laws.{PackedOctetsAreAdmitted, PackedEnvelopesAreFound};
 ghost use Rattle.iim_round_trip.specs.RoundTrip.{PackedOctetsAreWithin, PackedStreamsHaveTheirAnswer};
 
-use iim_pack::{packed_octets_carry_the_value, packed_subfiles_are_few};
-use iim_unpack::{
+use iim_pack::laws::{packed_octets_carry_the_value, packed_subfiles_are_few};
+use iim_unpack::laws::{
     admitted_octets_have_one_value, no_admitted_octets_begin_others, streams_have_one_answer,
 };
 

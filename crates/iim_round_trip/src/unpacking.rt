@@ -11,7 +11,8 @@ use crate::laws::packed_streams_have_their_answer;
 use iim_fields::Limits;
 use iim_unpack::{Refusal, Unpacked, Unpacker, unpack_pieces};
 use std::alloc::Global;
-use wire_story::{Lines, StorySink, texts_are_collected_as_lines, texts_are_delivered_as_lines};
+use wire_story::laws::{texts_are_collected_as_lines, texts_are_delivered_as_lines};
+use wire_story::{Lines, StorySink};
 
 /// Unpacks the envelope that a stream begins with, whatever pieces it comes in, and answers how many octets it has.
 ///

@@ -25,7 +25,7 @@ pub record Lined (lines : List (List ℕ)) (octets rest : List ℕ) : Type 0 whe
   pub lined : EndLines lines front
   pub parts : octets ≡ front ++ rest
 
--- Other lines go on after these, and this one is the next.
+-- Other lines continue after these, and this one is the next.
 pub record Beyond (lines others : List (List ℕ)) (rest : List ℕ) : Type 0 where
   pub next : List ℕ
   pub more : List (List ℕ)
@@ -33,7 +33,7 @@ pub record Beyond (lines others : List (List ℕ)) (rest : List ℕ) : Type 0 wh
   pub after : List ℕ
   pub is_next : NextLine rest next after
 
--- Of two lists of lines at the front of the same octets they are one, or one goes on after the other.
+-- Of two lists of lines at the front of the same octets they are one, or one continues after the other.
 abbrev pub Compared : List (List ℕ) → List (List ℕ) → List ℕ → List ℕ → Type 0
 Compared lines others rest left = ((lines ≡ others) × (rest ≡ left)) ⊎ (Beyond lines others rest ⊎ Beyond others lines left)
 

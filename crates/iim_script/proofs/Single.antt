@@ -44,7 +44,7 @@ story_lined story lines (some, inr (before, last, ended, is, lined, parts, none,
   lines_are = inr (is, alone);
 }
 
--- no line goes on where no LF is left
+-- no line continues where no LF is left
 not_beyond : (lines others : List (List ℕ)) (rest : List ℕ) → HasNo 10 rest → Beyond lines others rest → ⊥
 not_beyond lines others rest none b = no_next rest b.next b.after none b.is_next
 
@@ -84,7 +84,7 @@ line_there : (rest line next after : List ℕ) → NextLine rest next after → 
 line_there rest line next after n (inl (more, k)) = (next_once rest next after line more n k).0
 line_there rest line next after n (inr last) = absurd (no_next rest next after last.0 n)
 
--- the line after these, where others go on, is one of the others
+-- the line after these, where others continue, is one of the others
 good_beyond : (before others : List (List ℕ)) (rest line : List ℕ) → Beyond before others rest → IsThere rest line
     → AllByRecursion IsLine others → IsLine line
 good_beyond before others rest line b is texts =

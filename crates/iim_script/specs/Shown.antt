@@ -19,7 +19,7 @@ IsEscape piece octet = (high : ℕ) × (low : ℕ) × (piece ≡ 92 ∷ 120 ∷ 
 abbrev pub TellsOctet : List ℕ → ℕ → Type 0
 TellsOctet piece octet = ((octet ≢ 92) × (piece ≡ octet ∷ [])) ⊎ IsEscape piece octet
 
--- The text begins with a piece that tells the octet, and goes on with the rest.
+-- The text begins with a piece that tells the octet, and continues with the rest.
 abbrev pub BeginsWith : List ℕ → ℕ → List ℕ → Type 0
 BeginsWith text octet rest = (piece : List ℕ) × TellsOctet piece octet × (text ≡ piece ++ rest)
 

@@ -2,7 +2,7 @@
 
 ghost use Rattle.iim_script.specs.Laws.{OctetsHaveOneNextLine, LinesTellOneThing, FormsExcludeOneAnother, ScriptsTellOneThing, ScriptsHaveNoFault, OctetsHaveOneFault, PrintedValuesAreScripts};
 
-use iim_fields::{heads_die_with_their_fault, values_die_with_their_fault};
+use iim_fields::laws::{heads_die_with_their_fault, values_die_with_their_fault};
 
 /// Octets have one next line, and one thing follows it.
 pub fn octets_have_one_next_line()

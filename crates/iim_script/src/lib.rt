@@ -7,7 +7,7 @@
 
 mod fault;
 mod field;
-mod laws;
+pub mod laws;
 mod line;
 mod message;
 mod number;
@@ -20,10 +20,5 @@ mod story;
 mod tests;
 
 pub use fault::{ScriptCause, ScriptFault};
-pub use laws::{
-    forms_exclude_one_another, lines_tell_one_thing, octets_have_one_fault,
-    octets_have_one_next_line, printed_values_are_scripts, scripts_have_no_fault,
-    scripts_tell_one_thing,
-};
 pub use reading::read_script;
 pub use script::Script;

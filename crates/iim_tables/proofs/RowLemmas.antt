@@ -1,4 +1,4 @@
--- For each row and each length in its bounds there is data that the row admits: a head with such a count can always go on.
+-- For each row and each length in its bounds there is data that the row admits: a head with such a count can always continue.
 use Rattle.std.proofs.Common.{◌⊎◌, inl, inr, if◌then◌else◌, Option, Some, None, ap, ◌∙◌, ◌≡◌, ℕ, zero, suc, ◌^◌, ◌<◌, ◌≤◌, Bool, true, false, ◌&&◌, ◌||◌, ◌==◌, nat_le, List, [], ◌∷◌, ◌++◌, length, replicate, codes, refl, sym, arith, length-append, zero-mul}
 use Rattle.std.specs.List.{list_all}
 use Rattle.std.proofs.lemmas.List.{length-replicate}

@@ -6,7 +6,7 @@ use Rattle.jiff_core.specs.Calendar.{days_from_civil}
 use Rattle.iim_tables.specs.Octets.{plus, minus, is_digit}
 use Rattle.iim_tables.specs.Dates.{pair_at, year_in, month_in, day_in, is_date, two_digits}
 
--- + where the clock is ahead of universal time, - where it is behind
+-- + where the clock is ahead of universal time, - where it is after
 abbrev pub is_sign : ℕ → Bool
 is_sign b = b == plus || b == minus
 

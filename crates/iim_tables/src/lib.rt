@@ -10,7 +10,7 @@
 mod dates;
 mod instants;
 mod kinds;
-mod laws;
+pub mod laws;
 mod numbers;
 mod octets;
 mod shape;
@@ -21,10 +21,6 @@ mod tests;
 pub use crate::dates::date_of;
 pub use crate::instants::instant_of;
 pub use crate::kinds::admits;
-pub use crate::laws::{
-    dates_are_written_in_one_way, each_row_has_values, rows_allow_no_more_than_the_greatest_size,
-    times_are_written_in_one_way,
-};
 pub use crate::numbers::{GREATEST_SIZE, SIZE_OCTETS, number_of};
 pub use crate::shape::{Duty, Kind, Row};
 pub use crate::table::row;

@@ -46,7 +46,7 @@ use Rattle.iim_unpack.proofs.Refused.{no_dead_head, no_dead_value}
 use Rattle.iim_unpack.proofs.Admitted.{sized_by}
 use Rattle.iim_unpack.specs.LowerLaws.{AnswerLaws}
 
--- Every layer can go on from the octets, within the limits.
+-- Every layer can continue from the octets, within the limits.
 pub record Lives (limits : Limits) (octets : List ℕ) : Type 0 where
   pub whole : List Dataset
   pub begun : Begun
@@ -71,7 +71,7 @@ nothing_held = (
   (28 ∷ 0 ∷ 0 ∷ 0 ∷ 0 ∷ [], omega arith, refl),
 )
 
--- every layer can go on from whole datasets of an envelope
+-- every layer can continue from whole datasets of an envelope
 pub goes_envelope : AnswerLaws → (limits : Limits) (octets : List ℕ) (v : Value) → (is : IsEnvelopeWithin limits octets v) → AllGoOn limits is.admits.datasets (InTag [])
 goes_envelope laws limits octets v is =
     let a = is.admits in
@@ -303,7 +303,7 @@ not_tag : {A : Type 0} → (held tag : List ℕ) (next : ℕ) (h : Head) → hel
 not_tag held tag next h same dead spelled =
     absurd (dead h [] (subst (SpellsTag count_octets h) (sym (append-nil (held ++ next ∷ []) ∙ ap (λ (l : List ℕ). l ++ next ∷ []) same)) spelled))
 
--- a head that is refused, and one with which all goes on
+-- a head that is refused, and one with which all continues
 not_both : AnswerLaws → {A : Type 0} → (limits : Limits) (whole : List Dataset) (h : Head) (given : List ℕ) (fault : Fault) → AllGoOn limits whole (InData h given) → IsRefusedHead limits whole h fault ⊎ IsUnfinished limits whole h fault → A
 not_both laws limits whole h given fault all (inl refused) = absurd (no_dead_head fault.layer limits whole h all.sizes refused.dead)
 not_both laws limits whole h given fault all (inr unfinished) =

@@ -6,7 +6,7 @@ use Rattle.iim_dataset.specs.Devices.{Device}
 use Rattle.iim_dataset.specs.DeviceLaws.{HasGiven}
 use Rattle.iim_unpack.specs.Blocks.{held_in, put_before, behind}
 
--- behind some of the octets of a block
+-- after some of the octets of a block
 pub passes : (octets : List ℕ) (from to used : ℕ) (held : List ℕ) → held_in octets from to ≡ held → from + used ≤ to → held_in octets (from + used) to ≡ drop used held
 passes octets from to used held is fits =
     ap (take (to - (from + used))) (sym (drop-drop used from octets)) ∙ sym (drop-take used (to - (from + used)) (drop from octets))

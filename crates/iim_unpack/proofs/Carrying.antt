@@ -93,7 +93,7 @@ behind_all p events text between led = by_begun led.begun led.stands led.told le
     by_begun (InTag held) stands told is = record { ds = led.whole; held = held; behind = stands; told = told; is_text = is }
     by_begun (InData h taken) stands told is = absurd (not_both p.fields h stands.fields.inside.0 between stands.fields.inside.1)
 
--- ---- every layer can go on
+-- ---- every layer can continue
 
 not_eight : (r : ℕ) → (r ≡ 8 → ⊥) → nat_eq r 8 ≡ false
 not_eight r other = elim (eqb_tells r 8) [ inl same ↦ absurd (other same.1) | inr apart ↦ apart.0 ]
@@ -109,7 +109,7 @@ goes_within p ds h taken at = record {
   object = at.object.alive;
 }
 
--- octets from which a message can go on, before its end
+-- octets from which a message can continue, before its end
 lives_on : (o : List ℕ) (b : Bool) → b ≡ false → MessageLivesWith o → languages.IsAlive MessageLanguage (map Octet o ++ (if b then End ∷ [] else []))
 lives_on o true is lives = absurd (let bad : true ≡ false = is in cc)
 lives_on o false is lives = subst (languages.IsAlive MessageLanguage) (sym (append-nil (map Octet o))) lives

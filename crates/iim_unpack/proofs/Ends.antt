@@ -1,4 +1,4 @@
--- What the object's refusal of a head says of the message behind it.
+-- What the object's refusal of a head says of the message after it.
 use Rattle.std.proofs.Common.{ℕ, List, Option, IsSome}
 use Rattle.iim_object.specs.Objects.{ObjectToken}
 use Rattle.iim_object.specs.Reading.{RefusesHead}

@@ -158,7 +158,7 @@ too_many_head dies limits ds h fault alive at eight many same =
       dead = (at, λ room. let less = room.subfiles eight in omega (arith, less, many));
     })
 
--- the object layer dies with the token, behind the tokens of the place
+-- the object layer dies with the token, after the tokens of the place
 dead_behind : TokensFollow → (old : Option State) (p q : Place) (token : ObjectToken) (cause : SizeCause) → Refuses old token cause → StandsAt old p → MayFollow p token
     → place_after p token ≡ q → (ObjectLives q → ⊥) × (cause_at p token ≡ Some cause)
 dead_behind follow old p q token cause refuses stands may leads =

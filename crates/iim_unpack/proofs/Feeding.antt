@@ -1,4 +1,4 @@
--- Where an unpacker stands behind a piece.
+-- Where an unpacker stands after a piece.
 use Rattle.std.proofs.Common.{◌≡◌, ℕ, ◌<◌, ◌≤◌, ◌⊎◌, Bool, true, false, nat_eq, if◌then◌else◌, get_or, List, [], ◌∷◌, ◌++◌, length, take, slice_index, Option, Some, None, refl, ap, sym, subst, ◌∙◌, inl, inr, arith, append-nil}
 use Rattle.std.proofs.lemmas.List.{take_all}
 use Rattle.std.proofs.lemmas.Bool.{eqb-true, true≢false}
@@ -200,7 +200,7 @@ stream_of p whole (InTag held) reads keeps =
     subst (SpellsStream count_octets whole) is reads.is_front
 stream_of p whole (InData h taken) reads keeps = absurd keeps
 
--- What stands behind whole octets.
+-- What stands after whole octets.
 pub record WholeParts (v : Unpacking) (p : List ℕ) : Type 0 where
   pub ds : List Dataset
   pub behind : Behind v.parts ds

@@ -1,4 +1,4 @@
--- What octets that every layer can go on from say of each token among them.
+-- What octets that every layer can continue from say of each token among them.
 use Rattle.std.proofs.Common.{◌≡◌, ℕ, ◌<◌, ◌≤◌, ◌⊎◌, cond, nat_eq, if◌then◌else◌, List, [], ◌∷◌, ◌++◌, length, map, refl, ap, sym, subst, ◌∙◌, inl, inr, arith, append-nil, append_assoc, length-append}
 use Rattle.std.proofs.lemmas.List.Concat.{flat_map-append}
 use Rattle.std.proofs.lemmas.List.Elements.{filter-append}
@@ -108,7 +108,7 @@ pub within_of : (limits : Limits) (W : List Dataset) (c : Begun) → MayGoOn lim
 within_of limits W (InTag held) goes = goes.within
 within_of limits W (InData h taken) goes = goes.within
 
--- where a token of a head has led, the layer can go on from before it
+-- where a token of a head has led, the layer can continue from before it
 before_head : ObjectLaws → (W : List Dataset) (h : Head) → HeadLeads W h → ObjectLives (place_at W h) → ObjectLives (place_behind W)
 before_head laws W h leads lives =
     let token = head_token h.rec h.count in
@@ -127,7 +127,7 @@ object_behind laws limits W (InData h taken) goes =
       | inr (inr (inr nine)) ↦ before_head laws W h (end_leads laws W h goes.records (sym rec ∙ nine)) goes.object
     ]
 
--- whole datasets that are followed go on to some that have sizes
+-- whole datasets that are followed continue to some that have sizes
 pub sized_of : FollowLaws → (limits : Limits) (W : List Dataset) (c : Begun) → MayGoOn limits W c → languages.IsAlive AreSized W
 sized_of laws limits W c goes = (laws.live W (records_alive W (alive_of limits W c goes))).1 (object_behind laws.objects limits W c goes)
 
@@ -157,7 +157,7 @@ in_front laws limits W c goes whole ws d is =
       };
     }
 
--- Every layer that is asked before the message can go on with a head that has come.
+-- Every layer that is asked before the message can continue with a head that has come.
 pub head_lives : FollowLaws → (limits : Limits) (W : List Dataset) (c : Begun) → AllGoOn limits W c → (whole : List Dataset) (head : Head) (z : List ℕ) → Follows whole head z W c → GoOnAt limits whole head
 head_lives laws limits W c all whole head z (inl (d, ws, tail, is, h, rest)) = subst (GoOnAt limits whole) h (in_front laws limits W c all.sizes whole ws d is).goes_at
 head_lives laws limits W c all whole head z (inr (same, begun, less)) = (subst (AllGoOn limits whole) begun (subst (λ (ds : List Dataset). AllGoOn limits ds c) same all)).sizes
@@ -167,7 +167,7 @@ head_lives laws limits W c all whole head z (inr (same, begun, less)) = (subst (
 same_data : (d : Dataset) (head : Head) (given : List ℕ) → head_of d ≡ head → d.octets ≡ given → d ≡ data_of head given
 same_data d head given h o = λ i. record { rec = (h i).rec; set = (h i).set; octets = o i }
 
--- The records and the sizes can go on with a value that has come.
+-- The records and the sizes can continue with a value that has come.
 pub value_lives : FollowLaws → (limits : Limits) (W : List Dataset) (c : Begun) → AllGoOn limits W c → (whole : List Dataset) (head : Head) (z given y : List ℕ) → Follows whole head z W c → z ≡ given ++ y
     → length given ≡ head.count → IsAlive (whole ++ data_of head given ∷ []) × languages.IsAlive AreSized (whole ++ data_of head given ∷ [])
 value_lives laws limits W c all whole head z given y (inl (d, ws, tail, is, h, rest)) parts many =
@@ -215,7 +215,7 @@ object_on W c whole head taken more next eight less (inl (d, ws, tail, is, h, re
     regroup : (o t n k s e : List ℕ) → (o ++ (((t ++ n) ++ k) ++ s)) ++ e ≡ ((o ++ t) ++ n) ++ (k ++ (s ++ e))
     regroup o t n k s e = simp append_assoc
 
--- A message can go on from the octets of the object so far.
+-- A message can continue from the octets of the object so far.
 pub message_of : (limits : Limits) (W : List Dataset) (c : Begun) → AllGoOn limits W c → (x tail : List ℕ) → object_so_far W c ≡ x ++ tail → MessageLivesWith x
 message_of limits W c all x tail is =
     message_front x tail (if nat_eq (section W c) 9 then End ∷ [] else [])
@@ -226,7 +226,7 @@ story_of limits W c all x tail is = story_front x tail (subst StoryLivesIn is al
 
 -- ---- the end of the message
 
--- behind the head of 9:10 the message has ended
+-- after the head of 9:10 the message has ended
 pub ends_tokens : (ds : List Dataset) (h : Head) (taken : List ℕ) → h.rec ≡ 9 → message_tokens ds (InData h taken) ≡ map Octet (object_of ds) ++ End ∷ []
 ends_tokens ds h taken nine =
     ap (λ (r : ℕ). map Octet (object_of ds ++ (if nat_eq r 8 then taken else [])) ++ (if nat_eq r 9 then End ∷ [] else [])) nine

@@ -44,7 +44,7 @@ use Rattle.iim_unpack.proofs.Lasts.{sections_last}
 use Rattle.iim_unpack.proofs.Carrying.{counts_for, passes_on, behind_all, all_behind}
 use Rattle.iim_unpack.specs.LowerLaws.{HeadLaws}
 
--- What stands behind a head.
+-- What stands after a head.
 pub record Begins (new : Parts) (ds : List Dataset) (h : Head) : Type 0 where
   pub fields : records.StandsIn new.fields ds h []
   pub head : new.head ≡ h
@@ -79,7 +79,7 @@ within_begun new ds h b = record {
   last = b.last;
 }
 
--- a head, from behind whole datasets
+-- a head, from after whole datasets
 pub went_head : {S : Type 0} (goes : S → List story.Event → S → Type 0) (failures : S → ℕ) (p new : Parts) (a b : S) (h : Head) (more : List ℕ) → IsBetween p.fields
     → limits_of new.fields ≡ limits_of p.fields → goes a (story.delivered more) b → failures b ≡ failures a
     → ((ds : List Dataset) → Behind p ds → Begins new ds h × (text_so_far (object_of ds) ++ more ≡ text_so_far (object_of ds)))

@@ -39,7 +39,7 @@ last_sections ends ds alive nine = by (split_last ds)
     by (inr (front, d, is)) =
         subst AreSections (sym is) ((ends front d (subst IsAlive is alive)).0 (sym (present_last 0 front d) ∙ sym (ap present_record is) ∙ nine))
 
--- datasets behind which a head may stand are no envelope
+-- datasets after which a head may stand are no envelope
 pub not_all : NoSectionsBeginOthers → (ds : List Dataset) (h : Head) → IsAliveAt ds h → AreSections ds → ⊥
 not_all law ds h (d, head, (later, are)) sections =
     let bad : d ∷ later ≡ [] = law ds (d ∷ later) sections (subst AreSections (append_assoc ds (d ∷ []) later) are) in absurd cc

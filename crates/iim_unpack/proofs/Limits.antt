@@ -1,4 +1,4 @@
--- What datasets behind others add to the limits.
+-- What datasets after others add to the limits.
 use Rattle.std.proofs.Common.{◌≡◌, ◌+◌, ◌≤◌, Bool, true, false, cond, nat_eq, List, [], ◌∷◌, ◌++◌, length, ap, ◌∙◌, arith, length-append}
 use Rattle.std.proofs.lemmas.List.Elements.{filter-append}
 use Rattle.iim_dataset.specs.Datasets.{Dataset, head_of}
@@ -8,7 +8,7 @@ use Rattle.iim_object.specs.Behind.{of_record}
 use Rattle.iim_unpack.specs.Framed.{AreWithin}
 use Rattle.iim_unpack.specs.Tokens.{HaveRoom}
 
--- ---- datasets behind others
+-- ---- datasets after others
 
 joined_append : (ds es : List Dataset) → length (joined (ds ++ es)) ≡ length (joined ds) + length (joined es)
 joined_append [] es = omega arith

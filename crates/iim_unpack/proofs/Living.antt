@@ -98,11 +98,11 @@ story_by x y true found alive =
 story_by x y false none alive =
     subst (λ (t : List ℕ). languages.IsAlive StoryLanguage (tokens_behind t)) (sym (after_none is_stx x none)) (alive_front StoryLanguage [] (tokens_behind (after_stx (x ++ y))) alive)
 
--- The story of fewer octets can go on.
+-- The story of fewer octets can continue.
 pub story_front : (x y : List ℕ) → StoryLivesIn (x ++ y) → StoryLivesIn x
 story_front x y alive = story_by x y (list_any is_stx x) refl alive
 
--- A message can go on from fewer octets.
+-- A message can continue from fewer octets.
 pub message_front : (x y : List ℕ) (ts : List OctetOrEnd) → languages.IsAlive MessageLanguage (map Octet (x ++ y) ++ ts) → MessageLivesWith x
 message_front x y ts alive =
     alive_front MessageLanguage (map Octet x) (map Octet y ++ ts)

@@ -92,7 +92,7 @@ joined ds r1 r2 r7 r8 r9 from2 from7 from8 from9 none one two seven eight nine e
     let object : from7 ≡ r7 ++ (r8 ++ r9) = seven ∙ ap (λ (t : List Dataset). r7 ++ t) (eight ∙ ap (λ (t : List Dataset). r8 ++ t) last) in
     one ∙ ap (λ (t : List Dataset). r1 ++ t) (two ∙ ap (λ (t : List Dataset). r2 ++ t) object) ∙ sym (append_assoc r1 r2 (r7 ++ (r8 ++ r9)))
 
--- The sections of an envelope are records 7, 8 and 9 behind records 1 and 2.
+-- The sections of an envelope are records 7, 8 and 9 after records 1 and 2.
 pub are_records : (ds : List Dataset) → AreSections ds → AreRecords ds
 are_records ds (r1, from2, one, good1, (r2, from7, two, good2, (r7, from8, seven, good7, (r8, from9, eight, good8, (r9, none, nine, good9, end))))) = record {
   before = r1 ++ r2;
@@ -106,6 +106,6 @@ are_records ds (r1, from2, one, good1, (r2, from7, two, good2, (r7, from8, seven
   parts = joined ds r1 r2 r7 r8 r9 from2 from7 from8 from9 none one two seven eight nine end;
 }
 
--- What goes on to an envelope goes on to such records.
+-- What continues to an envelope continues to such records.
 pub records_alive : (ds : List Dataset) → sections.IsAlive ds → IsAlive AreRecords ds
 records_alive ds alive = (alive.0, are_records (ds ++ alive.0) alive.1)

@@ -139,7 +139,7 @@ one_more ds d =
     one_by true = refl
     one_by false = refl
 
--- ---- what goes on to sized datasets
+-- ---- what continues to sized datasets
 
 pub lives_behind : DatasetsLiveWithTheirTokens → (ds : List Dataset) → IsAlive ds → languages.IsAlive AreSized ds → ObjectLives (place_behind ds)
 lives_behind live ds alive sized = (live ds (records_alive ds alive)).0 sized
@@ -150,7 +150,7 @@ less_alive ds d sized = (d ∷ sized.0, subst AreSized (append_assoc ds (d ∷ [
 less_records : (ds : List Dataset) (d : Dataset) → IsAlive (ds ++ d ∷ []) → languages.IsAlive AreRecords ds
 less_records ds d alive = let r = records_alive (ds ++ d ∷ []) alive in (d ∷ r.0, subst AreRecords (append_assoc ds (d ∷ []) r.0) r.1)
 
--- the object layer can go on with the head of a dataset that goes on to sized ones
+-- the object layer can continue with the head of a dataset that continues to sized ones
 pub lives_at : ObjectLaws → DatasetsLiveWithTheirTokens → DatasetsEndWithTheirTokens → (ds : List Dataset) (d : Dataset) → IsAlive (ds ++ d ∷ [])
     → languages.IsAlive AreSized (ds ++ d ∷ []) → (d.rec ≡ 8 → length (of_record 8 ds) < max_subfiles) → ObjectLives (place_at ds (head_of d))
 lives_at laws live ended ds d alive sized few =

@@ -12,7 +12,7 @@ use Rattle.iim_unpack.specs.declared.refusal.Layer.{Layer}
 use Rattle.iim_unpack.specs.declared.refusal.Layer.TheVariants as layers
 use Rattle.iim_unpack.proofs.Places.{lives_behind}
 
--- no layer dies with a head that all can go on with
+-- no layer dies with a head that all can continue with
 pub no_dead_head : (layer : Layer) (limits : Limits) (ds : List Dataset) (h : Head) → GoOnAt limits ds h → DiesAtHead layer limits ds h → ⊥
 no_dead_head layers.Dataset limits ds h goes dead = dead
 no_dead_head layers.Record limits ds h goes dead = dead goes.records

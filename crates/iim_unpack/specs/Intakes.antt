@@ -122,7 +122,7 @@ abbrev pub FedAs : {S : Type 0} → (S → List story.Event → S → Type 0) �
 FedAs goes old new u v a b (Some used) = WasDone goes old new u v a b used
 FedAs goes old new u v a b None = WasEnded old new u a b
 
--- The octets, behind those on which an unpacker stood, are an envelope with this value.
+-- The octets, after those on which an unpacker stood, are an envelope with this value.
 pub record IsEnvelope (limits : Limits) (p octets : List ℕ) (more : List story.Event) (got : Unpacked) : Type 0 where
   pub value : Value
   pub admits : Admits (p ++ octets) value

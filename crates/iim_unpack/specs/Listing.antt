@@ -34,7 +34,7 @@ pub record IsRefusedRest (limits : Limits) (rest : List ℕ) (e : Refusal) : Typ
   pub refusal : e ≡ refusal_at (raised 0 k) fault
   pub kills : Kills limits (take k rest) (slice_index rest k) fault
 
--- The rest is some octets on which an envelope can go on, and it is told to be truncated.
+-- The rest is some octets on which an envelope can continue, and it is told to be truncated.
 pub record IsTruncatedRest (limits : Limits) (rest : List ℕ) (e : Refusal) : Type 0 where
   pub some : rest ≢ []
   pub is_open : IsOpen limits rest

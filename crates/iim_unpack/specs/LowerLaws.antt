@@ -33,7 +33,7 @@ pub record CloseLaws : Type 0 where
   pub living : ReadersStandAtLivingOctets
   pub sections : NoSectionsBeginOthers
 
--- by which an unpacker goes on
+-- by which an unpacker continues
 pub record FeedLaws : Type 0 where
   pub octet : WhatAnOctetCompletes
   pub way : OctetsAreHandedOnOneWay

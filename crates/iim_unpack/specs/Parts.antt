@@ -46,7 +46,7 @@ section ds (InData h taken) = h.rec
 abbrev pub message_tokens : List Dataset → Begun → List OctetOrEnd
 message_tokens ds begun = map Octet (object_so_far ds begun) ++ (if section ds begun == 9 then End ∷ [] else [])
 
--- Every layer can go on with its tokens, within the limits.
+-- Every layer can continue with its tokens, within the limits.
 pub record AllGoOn (limits : Limits) (ds : List Dataset) (begun : Begun) : Type 0 where
   pub sizes : MayGoOn limits ds begun
   pub message : languages.IsAlive MessageLanguage (message_tokens ds begun)
@@ -54,7 +54,7 @@ pub record AllGoOn (limits : Limits) (ds : List Dataset) (begun : Begun) : Type 
 
 -- ---- where the parts stand
 
--- behind these datasets
+-- after these datasets
 pub record Behind (parts : Parts) (ds : List Dataset) : Type 0 where
   pub fields : records.StandsBehind parts.fields ds
   pub object : objects.StandsAt parts.object (place_behind ds)
@@ -120,14 +120,14 @@ pub record Went {S : Type 0} (goes : S → List story.Event → S → Type 0) (f
   pub calm : failures b ≡ failures a
   pub leads : (before : List Event) (text : List ℕ) → Led old before text → Led new (before ++ events) (text ++ more)
 
--- With the head of 9:10 no message ends, though all layers that are asked before can go on.
+-- With the head of 9:10 no message ends, though all layers that are asked before can continue.
 pub record IsUnfinished (limits : Limits) (ds : List Dataset) (h : Head) (fault : Fault) : Type 0 where
   pub last : h.rec ≡ 9
   pub goes_on : GoOnAt limits ds h
   pub dies : MessageDiesAt (object_of ds) End
   pub is_fault : fault ≡ message_on h Unfinished
 
--- why an event is refused behind whole datasets and a begun one
+-- why an event is refused after whole datasets and a begun one
 abbrev pub RefusesAt : Limits → List Dataset → Begun → Event → Fault → Type 0
 RefusesAt limits ds (InTag held) (HeadRead h) fault = IsRefusedHead limits ds h fault ⊎ IsUnfinished limits ds h fault
 RefusesAt limits ds (InTag held) (DataOctet b) fault = ⊥
@@ -137,7 +137,7 @@ RefusesAt limits ds (InData h taken) (DataOctet b) fault =
     (h.rec ≡ 8) × ((cause : MessageCause) × wire.HasCause cause (object_of ds ++ taken) b × (fault ≡ message_on h cause))
 RefusesAt limits ds (InData h taken) DatasetEnd fault = (h.rec ≡ 8 → ⊥) × IsRefusedValue ds (data_of h taken) fault
 
--- The event is refused behind those, of which this is the text.
+-- The event is refused after those, of which this is the text.
 pub record Refused (limits : Limits) (events : List Event) (text : List ℕ) (event : Event) (fault : Fault) : Type 0 where
   pub whole : List Dataset
   pub begun : Begun

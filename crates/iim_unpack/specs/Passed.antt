@@ -26,7 +26,7 @@ octets_in [] = []
 octets_in (ObjectOctet b ∷ es) = b ∷ octets_in es
 octets_in (ObjectEnd ∷ es) = octets_in es
 
--- whether the end has come and no octet behind it, where it had or had not before the events
+-- whether the end has come and no octet after it, where it had or had not before the events
 abbrev pub is_ended : Bool → List Event → Bool
 is_ended b [] = b
 is_ended b (ObjectOctet x ∷ es) = is_ended false es
@@ -41,7 +41,7 @@ pub record Passed {S : Type 0} (goes : S → List story.Event → S → Type 0) 
   pub stands : GoesOn old (octets_in events) more new
   pub whole : (before : Bool) → (before ≡ true → IsWhole old) → is_ended before events ≡ true → IsWhole new
 
--- why the event is refused behind these octets
+-- why the event is refused after these octets
 abbrev pub HasCauseAt : MessageCause → List ℕ → Event → Type 0
 HasCauseAt cause octets (ObjectOctet b) = HasCause cause octets b
 HasCauseAt cause octets ObjectEnd = (cause ≡ Unfinished) × MessageDiesAt octets End

@@ -98,7 +98,7 @@ abbrev pub begun_number : Begun → ℕ
 begun_number (InTag held) = get_or held 2 0
 begun_number (InData h taken) = h.set
 
--- A tag's first octet has to be the marker; what can be wrong behind it is the count.
+-- A tag's first octet has to be the marker; what can be wrong after it is the count.
 abbrev pub tag_cause : List ℕ → Cause
 tag_cause [] = causes.Marker
 tag_cause (x ∷ xs) = causes.CountForm

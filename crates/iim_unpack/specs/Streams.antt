@@ -30,14 +30,14 @@ pub record IsFinished (limits : Limits) (stream : List ℕ) (used : ℕ) (value 
   pub fits : used ≤ length stream
   pub envelope : IsEnvelopeWithin limits (take used stream) value
 
--- Every layer can go on from the octets before the named one, and with that one the named layer is dead.
+-- Every layer can continue from the octets before the named one, and with that one the named layer is dead.
 pub record IsRefused (limits : Limits) (stream : List ℕ) (e : Refusal) : Type 0 where
   pub fits : e.octet < length stream
   pub fault : Fault
   pub refusal : e ≡ refusal_at e.octet fault
   pub kills : Kills limits (take e.octet stream) (slice_index stream e.octet) fault
 
--- Every layer can go on from all octets of the stream, and they begin with no envelope.
+-- Every layer can continue from all octets of the stream, and they begin with no envelope.
 pub record IsTruncated (limits : Limits) (stream : List ℕ) (e : Refusal) : Type 0 where
   pub is_open : IsOpen limits stream
   pub refusal : IsTruncatedAt stream (length stream) e
@@ -50,7 +50,7 @@ Answers limits stream (Truncated e) = IsTruncated limits stream e
 
 -- ---- laws
 
--- Octets of which the next one is refused are open: every layer can go on from them, and they are no envelope.
+-- Octets of which the next one is refused are open: every layer can continue from them, and they are no envelope.
 abbrev pub RefusedOctetsWereOpen : Type 0
 RefusedOctetsWereOpen = (limits : Limits) (octets : List ℕ) (next : ℕ) (fault : Fault) → RefusesNext limits octets next fault → IsOpen limits octets
 

@@ -1,4 +1,4 @@
--- Which heads and values the layers can go on with, behind datasets, and the first fault of one.
+-- Which heads and values the layers can continue with, after datasets, and the first fault of one.
 use Rattle.std.specs.Prelude.{◌≡◌, ◌+◌, ◌<◌, ◌&&◌, ◌||◌, not, nat_lt, ◌==◌, if◌then◌else◌, List, [], ◌∷◌, ◌++◌, length, IsTrue, Option, None, Some}
 use Rattle.std.specs.Option.{option_or, option_map}
 use Rattle.iim_dataset.specs.Octets.{number}
@@ -22,36 +22,36 @@ use Rattle.iim_unpack.specs.declared.fault.Fault.{Fault}
 use Rattle.iim_unpack.specs.declared.refusal.Layer.{Layer}
 use Rattle.iim_unpack.specs.declared.refusal.Layer.TheVariants as layers
 
--- the place of the object behind datasets and a head: a subfile more, or the end
+-- the place of the object after datasets and a head: a subfile more, or the end
 abbrev pub place_at : List Dataset → Head → Place
 place_at ds h =
     if h.rec == 8 then place_after (place_behind ds) (SubfileBegun h.count)
     else if h.rec == 9 then place_ended ds
     else place_behind ds
 
--- the object layer can go on from the place
+-- the object layer can continue from the place
 abbrev pub ObjectLives : Place → Type 0
 ObjectLives p = languages.IsAlive ObjectLanguage (tokens_of p)
 
--- With the head behind the datasets, the limits are kept.
+-- With the head after the datasets, the limits are kept.
 pub record HaveRoom (limits : Limits) (ds : List Dataset) (h : Head) : Type 0 where
   pub kept : IsTrue (is_kept h.rec) → IsWithin limits (kept_octets ds + h.count) (length (kept ds) + 1)
   pub subfiles : h.rec ≡ 8 → length (of_record 8 ds) < max_subfiles
 
--- Every layer can go on behind the datasets, within the limits.
+-- Every layer can continue after the datasets, within the limits.
 pub record GoOn (limits : Limits) (ds : List Dataset) : Type 0 where
   pub records : IsAlive ds
   pub within : AreWithin limits ds
   pub object : ObjectLives (place_behind ds)
 
--- Every layer can go on with the head behind them.
+-- Every layer can continue with the head after them.
 pub record GoOnAt (limits : Limits) (ds : List Dataset) (h : Head) : Type 0 where
   pub records : IsAliveAt ds h
   pub within : AreWithin limits ds
   pub room : HaveRoom limits ds h
   pub object : ObjectLives (place_at ds h)
 
--- Every layer can go on behind the whole datasets and the begun one.
+-- Every layer can continue after the whole datasets and the begun one.
 abbrev pub MayGoOn : Limits → List Dataset → Begun → Type 0
 MayGoOn limits whole (InTag held) = GoOn limits whole
 MayGoOn limits whole (InData h taken) = GoOnAt limits whole h

@@ -44,7 +44,7 @@ pub record Advanced {S : Type 0} (goes : S → List story.Event → S → Type 0
   pub went : Went goes failures p a more q b
   pub brings : Brings old octets more new
 
--- They went by what the octets before the refused one complete, and no tag goes on with it.
+-- They went by what the octets before the refused one complete, and no tag continues with it.
 pub record StuckInTag {S : Type 0} (goes : S → List story.Event → S → Type 0) (failures : S → ℕ) (old : Place) (octets : List ℕ) (k : ℕ) (cause : HeadCause) (new : Place) (p : Parts) (a b : S) : Type 0 where
   pub parts : Parts
   pub advanced : Advanced goes failures old (take k octets) new p a parts b
@@ -82,11 +82,11 @@ IsOnward place parts all used = ((used ≡ all) × Takes parts (to_come place)) 
 abbrev pub IsTextOf : List ℕ → List ℕ → Type 0
 IsTextOf octets text = (whole : List Dataset) × (begun : Begun) × Reads octets whole begun × (text ≡ text_so_far (object_so_far whole begun))
 
--- Of the octets behind those, exactly this is delivered.
+-- Of the octets after those, exactly this is delivered.
 abbrev pub Adds : List ℕ → List ℕ → List story.Event → Type 0
 Adds p octets more = (text : List ℕ) → IsTextOf p text → (added : List ℕ) × IsTextOf (p ++ octets) (text ++ added) × (more ≡ story.delivered added)
 
--- Every layer can go on from the octets, within the limits, and they are no envelope.
+-- Every layer can continue from the octets, within the limits, and they are no envelope.
 pub record IsOpen (limits : Limits) (octets : List ℕ) : Type 0 where
   pub whole : List Dataset
   pub begun : Begun
@@ -94,7 +94,7 @@ pub record IsOpen (limits : Limits) (octets : List ℕ) : Type 0 where
   pub goes_on : AllGoOn limits whole begun
   pub unfinished : AreSections whole → ⊥
 
--- With the next octet no tag goes on.
+-- With the next octet no tag continues.
 pub record IsBadTagAt (limits : Limits) (octets : List ℕ) (next : ℕ) (fault : Fault) : Type 0 where
   pub whole : List Dataset
   pub held : List ℕ
@@ -139,7 +139,7 @@ pub record IsBadValueAt (limits : Limits) (octets : List ℕ) (next : ℕ) (faul
   pub unfinished : AreSections whole → ⊥
   pub refuses : IsRefusedValue whole (data_of head given) fault
 
--- Every layer can go on from the octets, within the limits. With the first token that the next octet completes and that is
+-- Every layer can continue from the octets, within the limits. With the first token that the next octet completes and that is
 -- refused the layer of the fault is dead, and the layers that are asked before are not.
 abbrev pub RefusesNext : Limits → List ℕ → ℕ → Fault → Type 0
 RefusesNext limits octets next fault =
@@ -246,7 +246,7 @@ LeftAs old a new b = (new ≡ old) × (b ≡ a)
 abbrev pub truncated_in : ℕ → ℕ × ℕ → Refusal
 truncated_in octet names = record { layer = layers.Dataset; rec = names.0; set = names.1; octet = octet; cause = Truncated }
 
--- The octets are truncated: behind so many, in this begun dataset.
+-- The octets are truncated: after so many, in this begun dataset.
 pub record IsTruncatedAt (p : List ℕ) (a : ℕ) (e : Refusal) : Type 0 where
   pub whole : List Dataset
   pub begun : Begun

@@ -49,7 +49,7 @@ impl Block {
         &self.octets[self.from..self.to]
     }
 
-    /// Goes on behind so many of the octets.
+    /// Continues after so many of the octets.
     pub fn pass(&mut self, used: usize)
         requires { used ≤ length self.old }
         ensures { self.new ≡ drop used self.old }

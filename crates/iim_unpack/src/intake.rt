@@ -12,9 +12,11 @@ use crate::block::Block;
 use crate::laws::open_octets_are_bounded;
 use crate::refusal::Refusal;
 use crate::unpacker::{Progress, Unpacked, Unpacker, failed_at, raised};
-use iim_dataset::{IoFault, Source, gifts_join};
+use iim_dataset::device_laws::gifts_join;
+use iim_dataset::{IoFault, Source};
 use thiserror::Error;
-use wire_story::{StorySink, delivery_may_be_cut};
+use wire_story::StorySink;
+use wire_story::laws::delivery_may_be_cut;
 
 /// Why an intake gave no envelope.
 #[derive(Clone, Copy, Debug, PartialEq, Eq, Error)]
@@ -57,7 +59,7 @@ fn read_fault(fault: IoFault) -> IntakeFault
     }
 }
 
-/// Feeds an unpacker from a block, and then from the reader behind it, up to the end of an envelope: answers how many octets
+/// Feeds an unpacker from a block, and then from the reader after it, up to the end of an envelope: answers how many octets
 /// it used, or None where nothing is next in line and the unpacker stands on no octets. With a fault comes the octet that is
 /// to be told from then on.
 fn feed_line<R: Source, S: StorySink>(
@@ -142,7 +144,7 @@ impl<R: Source> Intake<R> {
     }
 
     /// The next envelope, whose first octets the unpacker may have been fed; None where the input ends and the unpacker
-    /// stands on no octets. The octets behind the envelope stay next in line.
+    /// stands on no octets. The octets after the envelope stay next in line.
     pub fn next_envelope<S: StorySink>(
         &mut self,
         unpacker: Unpacker,

@@ -6,22 +6,22 @@ ghost use Rattle.iim_unpack.specs.LowerLaws.{AnswerLaws, CloseLaws, FeedLaws, He
 ghost use Rattle.iim_unpack.specs.Streams.{EnvelopesAreBounded, NothingGoesOnFromRefusedOctets, RefusalsAreDetermined, RefusedOctetsWereOpen, StreamsHaveOneAnswer};
 ghost use Rattle.iim_unpack.specs.Unpacking.{OpenOctetsBeginWithNoEnvelope};
 
-use iim_dataset::{
+use iim_dataset::laws::{
     events_tell_the_datasets, no_dataset_begins_another, no_octets_go_on, no_tag_begins_another,
     octets_are_handed_on_one_way, what_an_octet_completes,
 };
-use iim_fields::{
+use iim_fields::laws::{
     envelopes_end_with_the_last_record, heads_die_with_their_fault, no_sections_begin_others,
     values_die_with_their_fault,
 };
-use iim_object::{
+use iim_object::laws::{
     datasets_lead_from_place_to_place, datasets_live_with_their_tokens, records_are_by_number,
     sizes_are_determined,
 };
-use wire_message::{
+use wire_message::laws::{
     messages_have_one_reading, readers_stand_at_living_octets, texts_stand_between_stx_and_etx,
 };
-use wire_story::{texts_have_one_reading, texts_so_far_have_one_reading};
+use wire_story::laws::{texts_have_one_reading, texts_so_far_have_one_reading};
 
 /// The laws by which datasets lead the object from place to place.
 fn object_laws()

@@ -3,13 +3,13 @@
 //! Stands on the readers of the layers: `iim_dataset`, `iim_fields`, `iim_object`, `wire_message` and `wire_story`. The crates
 //! above use [`Unpacker::feed`], which takes a stream in any pieces and finishes exactly at the end of the envelope that it
 //! begins with, or says at which octet, by which layer, on which dataset and why it is refused; [`Intake`], which takes one
-//! envelope after another from a source; and the law that a stream has one answer ([`streams_have_one_answer`]).
+//! envelope after another from a source; and the law that a stream has one answer ([`laws::streams_have_one_answer`]).
 #![tactic(auto)]
 
 mod block;
 mod fault;
 mod intake;
-mod laws;
+pub mod laws;
 mod message;
 mod parts;
 mod pieces;
@@ -20,12 +20,6 @@ mod tests;
 mod unpacker;
 
 pub use intake::{Intake, IntakeFault};
-pub use laws::{
-    admitted_octets_are_framed, admitted_octets_have_one_value, envelopes_are_bounded,
-    no_admitted_octets_begin_others, no_envelope_is_empty, nothing_goes_on_from_refused_octets,
-    open_octets_are_bounded, open_octets_begin_with_no_envelope, refusals_are_determined,
-    refused_octets_were_open, streams_have_one_answer,
-};
 pub use pieces::unpack_pieces;
 pub use refusal::{Cause, Layer, Refusal};
 pub use unpacker::{Progress, Unpacked, Unpacker};

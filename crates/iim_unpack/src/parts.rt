@@ -1,4 +1,4 @@
-//! The readers of an unpacker behind that of the tags, as one.
+//! The readers of an unpacker after that of the tags, as one.
 
 ghost use Rattle.std.specs.Prelude.{◌≡◌, ◌==◌, ◌<◌, ◌≤◌, ◌+◌, ◌-◌, ◌⊎◌, ℕ, List, [], ◌∷◌, ◌++◌, true, length, map, take, slice_index, Some, IsSome, IfOk, IfErr, OnOk};
 ghost use Rattle.iim_dataset.specs.Datasets.{Dataset};

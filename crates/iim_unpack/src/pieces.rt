@@ -13,8 +13,9 @@ use crate::laws::{
 };
 use crate::refusal::Refusal;
 use crate::unpacker::{Unpacked, Unpacker};
-use wire_message::texts_stand_between_stx_and_etx;
-use wire_story::{StorySink, delivery_may_be_cut, texts_are_delivered_as_lines};
+use wire_message::laws::texts_stand_between_stx_and_etx;
+use wire_story::StorySink;
+use wire_story::laws::{delivery_may_be_cut, texts_are_delivered_as_lines};
 
 /// Feeds pieces, one after another.
 fn feed_pieces<S: StorySink>(

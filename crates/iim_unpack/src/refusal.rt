@@ -77,7 +77,7 @@ pub enum Cause {
     Short = 24,
     /// The confirmed size, 9:10, is not the total.
     ConfirmedWrong = 25,
-    /// No message can go on with the octet.
+    /// No message can continue with the octet.
     BadOctet = 30,
     /// The object ends before the message does.
     Unfinished = 32,

@@ -27,7 +27,7 @@ const SMALLEST: [u8; 114] = [
     0x00, 0x0e,
 ];
 
-/// What a longer envelope has from octet 62 on, behind what the smallest has but for the number at octet 41.
+/// What a longer envelope has from octet 62 on, after what the smallest has but for the number at octet 41.
 const STORY: &[u8] =
     b"\x1c\x02\x69\x00\x0aRates held\x1c\x02\x50\x00\x07A. Moor\x1c\x02\x55\x00\x06Editor\
 \x1c\x02\x50\x00\x07B. Lund\x1c\x02\x55\x00\x06Writer\x1c\x02\x19\x00\x05rates\x1c\x02\x19\x00\x04bank\

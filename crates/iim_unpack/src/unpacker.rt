@@ -26,7 +26,8 @@ use crate::router::Router;
 use arrayvec::ArrayVec;
 use iim_dataset::{Fault as TagFault, FaultCause, Head, HeadReader};
 use iim_fields::{Envelope, Fields, Limits};
-use iim_object::{ObjectReader, Sizes, readers_tell_sizes};
+use iim_object::laws::readers_tell_sizes;
+use iim_object::{ObjectReader, Sizes};
 use std::alloc::{AllocError, Global};
 use std::marker::Model;
 use wire_message::{MessageHead, MessageReader};
@@ -187,7 +188,7 @@ pub(crate) fn raised(octets: u64, more: usize) -> u64
     octets.saturating_add(more as u64)
 }
 
-/// Whether an octet has come, behind a piece.
+/// Whether an octet has come, after a piece.
 fn begins(begun: bool, piece: &[u8]) -> bool
     ensures { result ≡ begins begun piece.now }
 {
@@ -313,7 +314,7 @@ impl Unpacker {
         ensures counted { IfErr result (λ e. CountsFor e.cause (S.failures sink.old) (S.failures sink.new)) }
         ensures failed { IfErr result (λ e. self.new.refused ≡ Some e.octet) }
 
-        // Behind an envelope, and after a refusal, nothing changes any more.
+        // After an envelope, and after a refusal, nothing changes any more.
         ensures done { IsDone self.old → (result ≡ Ok (Progress.Done 0)) × LeftAs self.old sink.old self.new sink.new }
         ensures again { (octet : ℕ) → self.old.refused ≡ Some octet → (result ≡ Err (failed_at octet)) × LeftAs self.old sink.old self.new sink.new }
         ensures limits { self.old.refused ≡ None → OnOk result (limits_in self.new ≡ limits_in self.old) }
@@ -346,7 +347,7 @@ impl Unpacker {
         }
     }
 
-    /// What is missing where the input ends here: None behind an envelope; else its octets are truncated.
+    /// What is missing where the input ends here: None after an envelope; else its octets are truncated.
     pub fn end_of_input(&self) -> Option<Refusal>
         ensures done { IsDone self.now → result ≡ None }
         ensures failed { (octet : ℕ) → self.now.refused ≡ Some octet → result ≡ Some (failed_at octet) }

@@ -2,7 +2,7 @@
 
 ghost use Rattle.wire_message.specs.Laws.{MessagesHaveOneReading, CanonicalObjectsAreMessages, TextsStandBetweenStxAndEtx, ReadersStandAtLivingOctets, HeadersAreToldFromStx, TrailersAreToldFromEtx, MessagesKeepTheirHeader, TrailersStandBetweenEtxAndEot, PlacesAreReached, OctetsLeadToOnePlace, OctetsLeadOnAlike};
 
-use wire_story::{
+use wire_story::laws::{
     packed_lines_are_a_text, stories_end_as_texts, stories_live_as_texts_so_far,
     texts_end_in_no_return, texts_so_far_have_one_reading,
 };
@@ -69,5 +69,5 @@ pub fn octets_lead_on_alike()
     ensures { OctetsLeadOnAlike }
 {
     texts_end_in_no_return();
-    wire_story::octets_lead_on_alike();
+    wire_story::laws::octets_lead_on_alike();
 }

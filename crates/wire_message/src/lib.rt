@@ -10,7 +10,7 @@ mod class;
 mod fault;
 mod field;
 mod head;
-mod laws;
+pub mod laws;
 mod lengths;
 mod octets;
 mod piece;
@@ -25,11 +25,5 @@ mod writing;
 
 pub use fault::{MessageCause, MessageFault};
 pub use head::MessageHead;
-pub use laws::{
-    canonical_objects_are_messages, headers_are_told_from_stx, messages_have_one_reading,
-    messages_keep_their_header, octets_lead_on_alike, octets_lead_to_one_place, places_are_reached,
-    readers_stand_at_living_octets, texts_stand_between_stx_and_etx, trailers_are_told_from_etx,
-    trailers_stand_between_etx_and_eot,
-};
 pub use reader::MessageReader;
 pub use writing::{head_text, is_trailer, tail_text};

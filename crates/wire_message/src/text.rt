@@ -9,10 +9,11 @@ ghost use Rattle.wire_message.specs.Reading.{cause_of, Told, ToldFront, Refuses,
 use crate::fault::{MessageCause, MessageFault};
 use crate::head::MessageHead;
 use crate::octets::ETX;
-use wire_story::{
-    StorySink, TextCause, TextReader, places_are_reached, stories_end_as_texts,
-    stories_live_as_texts_so_far, texts_end_in_no_return, texts_so_far_have_one_reading,
+use wire_story::laws::{
+    places_are_reached, stories_end_as_texts, stories_live_as_texts_so_far, texts_end_in_no_return,
+    texts_so_far_have_one_reading,
 };
+use wire_story::{StorySink, TextCause, TextReader};
 
 /// The cause of a message for a cause of its text.
 #[inline(always)]

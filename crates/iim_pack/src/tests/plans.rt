@@ -4,10 +4,11 @@ use super::{
     SMALLEST, SMALLEST_FRONT, SMALLEST_OBJECT, STORY, STORY_FRONT, STORY_OBJECT, STORY_REST,
     envelope, expected, lines, packed, plan, smallest_head, story_head,
 };
-use crate::{
-    packed_octets_are_few, packed_octets_are_one, packed_octets_carry_the_value, packed_size,
+use crate::laws::{
+    packed_octets_are_few, packed_octets_are_one, packed_octets_carry_the_value,
     packed_subfiles_are_few,
 };
+use crate::packed_size;
 use iim_object::{PackCause, Size};
 use std::test::Fail;
 

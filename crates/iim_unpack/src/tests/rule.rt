@@ -158,7 +158,7 @@ fn tag(octets: &[u8]) -> Result<Option<Tag>, (usize, Cause)> {
     }
 }
 
-/// The first fault of a head behind others: the dataset that it names, and the cause.
+/// The first fault of a head after others: the dataset that it names, and the cause.
 fn head_fault(behind: &[(u8, u8)], (rec, set, count, _): Tag) -> Option<((u8, u8), Cause)> {
     let present = behind.last().map_or(0, |head| head.0);
     let next = match present {
@@ -269,7 +269,7 @@ impl Sizes {
     }
 }
 
-/// The one dataset at `at`, behind others: its head and where it ends, or what the octets are refused for.
+/// The one dataset at `at`, after others: its head and where it ends, or what the octets are refused for.
 fn dataset(
     behind: &[(u8, u8)],
     sizes: &mut Sizes,

@@ -286,7 +286,7 @@ fn keeps_the_status_where_it_can_t_complain(rt: HostRuntime) {
     assert_eq!(rt; errors.octets(), b"canno".as_slice());
 }
 
-/// Behind the first seven datasets, so many of 2:200 with so many octets.
+/// After the first seven datasets, so many of 2:200 with so many octets.
 fn with_fields(
     alloc: Global,
     fields: usize,

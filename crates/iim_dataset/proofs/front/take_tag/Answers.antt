@@ -16,7 +16,7 @@ use Rattle.iim_dataset.proofs.HeldTags.{begun_length, longer, behind_held, refus
 use Rattle.iim_dataset.proofs.Stopping.{tag_stops}
 use Rattle.iim_dataset.proofs.front.take_tag.Goals as goal
 
--- what was found behind the held octets
+-- what was found after the held octets
 abbrev Found : List ℕ → Option (Head × ℕ) → Type 0
 Found xs found = MatchOption found (BeginsTag count_octets xs) (λ f. HasTag xs f.0 f.1)
 
