@@ -1,0 +1,7 @@
+use Rattle.std.proofs.Common.{◌≡◌, sym, ◌∙◌, None}
+use Rattle.iim_fields.proofs.tests.what_has_come_is_told.Goals as goal
+
+pub begun-requires : goal.begun-requires
+begun-requires g c failed =
+    let inside = c.bytes.ensures.inside _ _ c.in-Ok.ensures.inside in
+    let clash = sym failed ∙ inside.head.inside in cc
