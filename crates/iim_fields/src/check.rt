@@ -21,14 +21,18 @@ use std::marker::Model;
 /// A begun dataset.
 #[derive(Clone, Copy)]
 pub(crate) struct Begun {
+    /// Its head.
     pub head: Head,
+    /// The row of its record and number.
     pub row: Row,
 }
 
 /// What heads and values have led to: the present record with the numbers that occurred in it, and the begun dataset.
 #[derive(Clone, Copy)]
 pub(crate) struct RecordPlace {
+    /// The present record, and the numbers that occurred in it.
     pub order: Order,
+    /// The begun dataset, where one is.
     pub begun: Option<Begun>,
 }
 

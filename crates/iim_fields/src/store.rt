@@ -9,15 +9,20 @@ use std::alloc::{AllocError, Global};
 /// those of the entry before end.
 #[derive(Clone, Copy, Debug, PartialEq, Eq)]
 pub(crate) struct Entry {
+    /// The number of its record.
     pub rec: u8,
+    /// Its own number.
     pub set: u8,
+    /// Where its octets end in the store.
     pub end: usize,
 }
 
 /// The octets of the kept datasets, joined, and after them those of a begun one; and the entries.
 #[derive(Drop)]
 pub(crate) struct Store {
+    /// The octets of the kept datasets, joined, and then those of a begun one.
     pub octets: Vec<u8>,
+    /// An entry for each kept dataset.
     pub entries: Vec<Entry>,
 }
 
