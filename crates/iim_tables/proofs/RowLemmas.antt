@@ -7,8 +7,7 @@ use Rattle.iim_tables.proofs.NumberLemmas.{number-cons}
 use Rattle.iim_tables.specs.Octets.{AreOctets, within, is_digit, is_letter, is_graphic, is_spaced, is_spaced_or_line_end}
 use Rattle.iim_tables.specs.Numbers.{number, size_octets, greatest_size}
 use Rattle.iim_tables.specs.Kinds.{has_kind, is_size_from}
-use Rattle.iim_tables.specs.Rows.{table, row_of, row_in, row_of_others, is_for, kept, is_admitted, HasValue}
-use Rattle.iim_tables.specs.declared.table.Entry.{Entry}
+use Rattle.iim_tables.specs.Rows.{Entry, table, row_of, row_in, row_of_others, is_for, kept, is_admitted, HasValue}
 use Rattle.iim_tables.specs.declared.shape.Row.{Row}
 use Rattle.std.specs.List.{find}
 use Rattle.std.specs.Option.{option_map, option_or}

@@ -10,7 +10,12 @@ use Rattle.iim_tables.specs.declared.shape.Kind.TheVariants.{Graphic, Spaced, Sp
 use Rattle.iim_tables.specs.declared.shape.Duty.{Duty}
 use Rattle.iim_tables.specs.declared.shape.Duty.TheVariants.{Mandatory, Optional, ByMode}
 use Rattle.iim_tables.specs.declared.shape.Row.{Row}
-use Rattle.iim_tables.specs.declared.table.Entry.{Entry}
+
+-- A line of the table: a dataset and its row.
+pub record Entry : Type 0 where
+  pub rec : ℕ
+  pub set : ℕ
+  pub row : Row
 
 -- a line of the table: record and number, least and greatest number of octets, kind, duty, whether it repeats
 abbrev pub entry : ℕ → ℕ → ℕ → ℕ → Kind → Duty → Bool → Entry

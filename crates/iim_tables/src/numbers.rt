@@ -4,8 +4,6 @@ ghost use Rattle.std.specs.Prelude.{◌≡◌, ◌↔◌, length, IsSome, IfSome
 ghost use Rattle.std.specs.Int.{IsInRange};
 ghost use Rattle.iim_tables.specs.Numbers.{number, size_octets};
 
-use byteorder::{BigEndian, ByteOrder};
-
 /// The most octets of a size.
 pub const SIZE_OCTETS: usize = 4;
 
@@ -24,5 +22,9 @@ pub fn number_of(octets: &[u8]) -> Option<u64>
     if octets.is_empty() || octets.len() > SIZE_OCTETS {
         return None;
     }
-    Some(BigEndian::read_uint(octets, octets.len()))
+    let mut number = 0;
+    for octet in octets {
+        number = 256 * number + u64::from(*octet);
+    }
+    Some(number)
 }

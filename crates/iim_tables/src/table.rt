@@ -1,91 +1,10 @@
 //! The table.
 
-ghost use Rattle.std.specs.Prelude.{◌≡◌};
-ghost use Rattle.iim_tables.specs.Rows.{row_in, row_of, row_of_others};
+ghost use Rattle.std.specs.Prelude.{◌≡◌, Some, None, MatchOption};
+ghost use Rattle.iim_tables.specs.Rows.{row_of};
 
 use crate::numbers::{GREATEST_SIZE, SIZE_OCTETS};
 use crate::shape::{Duty, Kind, Row};
-
-/// A line of the table: a dataset and its row.
-struct Entry {
-    rec: u8,
-    set: u8,
-    row: Row,
-}
-
-/// Each line as an entry: dataset, octets, kind, duty, whether it repeats.
-macro_rules! entries {
-    ($($rec:literal:$set:literal $min:literal..=$max:tt $kind:ident $duty:ident $repeats:literal)*) => {
-        [$(Entry {
-            rec: $rec,
-            set: $set,
-            row: Row {
-                min: $min,
-                max: $max as u64,
-                kind: Kind::$kind,
-                duty: Duty::$duty,
-                repeats: $repeats,
-            },
-        }),*]
-    };
-}
-
-/// The datasets of the records 1, 2, 7, 8 and 9, in the order and by the names of the standard.
-const TABLE: &[Entry] = &entries! {
-    // dataset  octets           kind         duty       repeats
-
-    // Envelope Record
-    1:00    2 ..= 2              Binary       Mandatory  false  // Model Version
-    1:05    0 ..= 1024           Graphic      Optional   true   // Destination
-    1:20    2 ..= 2              Binary       Mandatory  false  // File Format
-    1:22    2 ..= 2              Binary       Mandatory  false  // File Format Version
-    1:30    0 ..= 10             Graphic      Mandatory  false  // Service Identifier
-    1:40    8 ..= 8              Digits       Mandatory  false  // Envelope Number
-    1:50    0 ..= 32             Graphic      Optional   true   // Product I.D.
-    1:60    1 ..= 1              Digits       Optional   false  // Envelope Priority
-    1:70    8 ..= 8              Date         Mandatory  false  // Date Sent
-    1:80   11 ..= 11             Time         Optional   false  // Time Sent
-    1:90    0 ..= 32             Octets       Optional   false  // Coded Character Set
-    1:100  14 ..= 80             Octets       Optional   false  // Unique Name of Object
-
-    // Application Record
-    2:00    2 ..= 2              Binary       Mandatory  false  // Record Version
-    2:05    0 ..= 64             Spaced       Optional   false  // Object Name
-    2:07    0 ..= 64             Spaced       Optional   false  // Edit Status
-    2:10    1 ..= 1              Digits       Optional   false  // Urgency
-    2:15    0 ..= 3              Letters      Optional   false  // Category
-    2:20    0 ..= 32             Spaced       Optional   true   // Supplemental Category
-    2:22    0 ..= 32             Graphic      Optional   false  // Fixture Identifier
-    2:25    0 ..= 64             Spaced       Optional   true   // Keywords
-    2:40    0 ..= 256            SpacedLines  Optional   false  // Special Instructions
-    2:55    8 ..= 8              PartDate     Optional   false  // Date Created
-    2:60   11 ..= 11             Time         Optional   false  // Time Created
-    2:80    0 ..= 32             Spaced       Optional   true   // By-line
-    2:85    0 ..= 32             Spaced       Optional   true   // By-line Title
-    2:90    0 ..= 32             Spaced       Optional   false  // City
-    2:95    0 ..= 32             Spaced       Optional   false  // Province/State
-    2:100   0 ..= 3              Letters      Optional   false  // Country Code
-    2:101   0 ..= 64             Spaced       Optional   false  // Country Name
-    2:103   0 ..= 32             Spaced       Optional   false  // Original Transmission Reference
-    2:105   0 ..= 256            Spaced       Optional   false  // Headline
-    2:110   0 ..= 32             Spaced       Optional   false  // Credit
-    2:115   0 ..= 32             Spaced       Optional   false  // Source
-    2:116   0 ..= 128            Spaced       Optional   false  // Copyright Notice
-    2:120   0 ..= 2000           SpacedLines  Optional   false  // Caption/Abstract
-    2:122   0 ..= 32             Spaced       Optional   true   // Writer/Editor
-
-    // pre-ObjectData Descriptor Record
-    7:10    1 ..= 1              Mode         Mandatory  false  // Size Mode
-    7:20    1 ..= SIZE_OCTETS    SizeFromOne  Mandatory  false  // Max Subfile Size
-    7:90    1 ..= SIZE_OCTETS    Size         ByMode     false  // ObjectData Size Announced
-    7:95    1 ..= SIZE_OCTETS    Size         Optional   false  // Maximum ObjectData Size
-
-    // ObjectData Record
-    8:10    0 ..= GREATEST_SIZE  Octets       Mandatory  true   // Subfile
-
-    // post-ObjectData Descriptor Record
-    9:10    1 ..= SIZE_OCTETS    Size         Mandatory  false  // Confirmed ObjectData Size
-};
 
 /// What stands for the other numbers of the records 1 and 2: they are kept unread.
 const KEPT: Row = Row {
@@ -96,24 +15,90 @@ const KEPT: Row = Row {
     repeats: true,
 };
 
-/// The row of the first entry for that record and number.
-fn look_up(entries: &[Entry], rec: u8, set: u8) -> Option<Row>
-    ensures { result ≡ row_in entries.now rec set }
-{
-    entries
-        .iter()
-        .find(|entry| entry.rec == rec && entry.set == set)
-        .map(|entry| entry.row)
+/// A match on a dataset's record and number, with each line as an arm: dataset, octets, kind, duty, whether it repeats.
+macro_rules! row_by {
+    ($dataset:expr; $($rec:literal:$set:literal $min:literal..=$max:tt $kind:ident $duty:ident $repeats:literal)*) => {
+        match $dataset {
+            $(($rec, $set) => Some(&Row {
+                min: $min,
+                max: $max as u64,
+                kind: Kind::$kind,
+                duty: Duty::$duty,
+                repeats: $repeats,
+            }),)*
+            (1 | 2, _) => Some(&KEPT),
+            _ => None,
+        }
+    };
 }
 
-/// The row of a dataset that has no entry.
-fn row_of_others(rec: u8) -> Option<Row>
-    ensures { result ≡ row_of_others rec }
+/// The datasets of the records 1, 2, 7, 8 and 9, in the order and by the names of the standard.
+macro_rules! row_in_table {
+    ($dataset:expr) => {
+        row_by! { $dataset;
+            // dataset  octets           kind         duty       repeats
+
+            // Envelope Record
+            1:00    2 ..= 2              Binary       Mandatory  false  // Model Version
+            1:05    0 ..= 1024           Graphic      Optional   true   // Destination
+            1:20    2 ..= 2              Binary       Mandatory  false  // File Format
+            1:22    2 ..= 2              Binary       Mandatory  false  // File Format Version
+            1:30    0 ..= 10             Graphic      Mandatory  false  // Service Identifier
+            1:40    8 ..= 8              Digits       Mandatory  false  // Envelope Number
+            1:50    0 ..= 32             Graphic      Optional   true   // Product I.D.
+            1:60    1 ..= 1              Digits       Optional   false  // Envelope Priority
+            1:70    8 ..= 8              Date         Mandatory  false  // Date Sent
+            1:80   11 ..= 11             Time         Optional   false  // Time Sent
+            1:90    0 ..= 32             Octets       Optional   false  // Coded Character Set
+            1:100  14 ..= 80             Octets       Optional   false  // Unique Name of Object
+
+            // Application Record
+            2:00    2 ..= 2              Binary       Mandatory  false  // Record Version
+            2:05    0 ..= 64             Spaced       Optional   false  // Object Name
+            2:07    0 ..= 64             Spaced       Optional   false  // Edit Status
+            2:10    1 ..= 1              Digits       Optional   false  // Urgency
+            2:15    0 ..= 3              Letters      Optional   false  // Category
+            2:20    0 ..= 32             Spaced       Optional   true   // Supplemental Category
+            2:22    0 ..= 32             Graphic      Optional   false  // Fixture Identifier
+            2:25    0 ..= 64             Spaced       Optional   true   // Keywords
+            2:40    0 ..= 256            SpacedLines  Optional   false  // Special Instructions
+            2:55    8 ..= 8              PartDate     Optional   false  // Date Created
+            2:60   11 ..= 11             Time         Optional   false  // Time Created
+            2:80    0 ..= 32             Spaced       Optional   true   // By-line
+            2:85    0 ..= 32             Spaced       Optional   true   // By-line Title
+            2:90    0 ..= 32             Spaced       Optional   false  // City
+            2:95    0 ..= 32             Spaced       Optional   false  // Province/State
+            2:100   0 ..= 3              Letters      Optional   false  // Country Code
+            2:101   0 ..= 64             Spaced       Optional   false  // Country Name
+            2:103   0 ..= 32             Spaced       Optional   false  // Original Transmission Reference
+            2:105   0 ..= 256            Spaced       Optional   false  // Headline
+            2:110   0 ..= 32             Spaced       Optional   false  // Credit
+            2:115   0 ..= 32             Spaced       Optional   false  // Source
+            2:116   0 ..= 128            Spaced       Optional   false  // Copyright Notice
+            2:120   0 ..= 2000           SpacedLines  Optional   false  // Caption/Abstract
+            2:122   0 ..= 32             Spaced       Optional   true   // Writer/Editor
+
+            // pre-ObjectData Descriptor Record
+            7:10    1 ..= 1              Mode         Mandatory  false  // Size Mode
+            7:20    1 ..= SIZE_OCTETS    SizeFromOne  Mandatory  false  // Max Subfile Size
+            7:90    1 ..= SIZE_OCTETS    Size         ByMode     false  // ObjectData Size Announced
+            7:95    1 ..= SIZE_OCTETS    Size         Optional   false  // Maximum ObjectData Size
+
+            // ObjectData Record
+            8:10    0 ..= GREATEST_SIZE  Octets       Mandatory  true   // Subfile
+
+            // post-ObjectData Descriptor Record
+            9:10    1 ..= SIZE_OCTETS    Size         Mandatory  false  // Confirmed ObjectData Size
+        }
+    };
+}
+
+/// The row of a dataset, where it lies.
+#[tactic(auto, unfolding(crate::specs::Rows::row_of, crate::specs::Rows::table))]
+fn line(rec: u8, set: u8) -> Option<&'static Row>
+    ensures { MatchOption result (row_of rec set ≡ None) (λ row. row_of rec set ≡ Some row.now) }
 {
-    if rec == 1 || rec == 2 {
-        return Some(KEPT);
-    }
-    None
+    row_in_table!((rec, set))
 }
 
 /// The row of the dataset with that record and number. `None` where it has none: in the records 7, 8
@@ -123,8 +108,12 @@ fn row_of_others(rec: u8) -> Option<Row>
 /// Descriptor Record (7), the ObjectData Record (8) and the post-ObjectData Descriptor Record (9) of IIM
 /// version 4. Every other number of the records 1 and 2 is kept unread: up to 8,192 octets, as often as
 /// it comes.
+#[inline(always)]
 pub fn row(rec: u8, set: u8) -> Option<Row>
     ensures { result ≡ row_of rec set }
 {
-    look_up(TABLE, rec, set).or(row_of_others(rec))
+    match line(rec, set) {
+        Some(row) => Some(*row),
+        None => None,
+    }
 }
