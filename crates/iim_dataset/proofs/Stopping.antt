@@ -1,6 +1,7 @@
--- Where a sink stops.
+-- Where a sink stops, and where it can continue.
 use Rattle.std.proofs.lemmas.List.{take_rest}
-use Rattle.std.proofs.Common.{◌≡◌, ℕ, suc, ◌+◌, ◌-◌, ◌<◌, ◌≤◌, List, [], ◌∷◌, ◌++◌, length, take, slice_index, refl, ap, sym, subst, ◌∙◌, arith, append_assoc, append-nil, map, zero, Option, Some, None, get_or-drop}
+use Rattle.std.proofs.lemmas.Bool.Decides.{nat_tests}
+use Rattle.std.proofs.Common.{◌≡◌, ℕ, ◌==◌, Bool, true, false, if◌then◌else◌, suc, ◌+◌, ◌-◌, ◌<◌, ◌≤◌, List, [], ◌∷◌, ◌++◌, length, take, slice_index, refl, ap, sym, subst, ◌∙◌, arith, append_assoc, append-nil, map, zero, Option, Some, None, get_or-drop}
 use Rattle.std.proofs.lemmas.List.{map-append, length-take-le}
 use Rattle.std.proofs.Math.Seq.{take-suc}
 use Rattle.arrayvec.specs.ArrayVec.{ArrayVec}
@@ -8,14 +9,20 @@ use Rattle.iim_dataset.specs.Octets.{Octets}
 use Rattle.iim_dataset.proofs.Rests.{rest_of, take-front}
 use Rattle.iim_dataset.specs.Datasets.{SpellsTag, count_octets}
 use Rattle.iim_dataset.specs.Events.{Event, DataOctet, DatasetEnd}
-use Rattle.iim_dataset.specs.Places.{LeadsTo, Brings, Tells}
-use Rattle.iim_dataset.specs.Reading.{TagDies, Completes, Stops, RefusesFor}
+use Rattle.iim_dataset.specs.Places.{between, to_come, IsPlace, LeadsTo, Brings, Tells}
+use Rattle.iim_dataset.specs.Reading.{is_of, Answers, GoesOn, TagDies, Completes, Stops, Refuses, RefusesFor, StillStands}
+use Rattle.iim_dataset.specs.Fronts.{RefusesOne}
 use Rattle.iim_dataset.specs.Completing.{StopsAmong, head_events, behind_head}
 use Rattle.iim_dataset.specs.declared.head.Head.{Head}
 use Rattle.iim_dataset.specs.declared.head.HeadCause.{HeadCause}
+use Rattle.iim_dataset.specs.declared.fault.Fault.{Fault}
+use Rattle.iim_dataset.specs.declared.fault.FaultCause.TheVariants.{Stopped}
+use Rattle.iim_dataset.specs.declared.front.Refused.{Refused}
+use Rattle.iim_dataset.specs.declared.sink.Step.{Step}
+use Rattle.iim_dataset.specs.declared.sink.Step.TheVariants.{More, Last}
 use Rattle.iim_dataset.specs.declared.place.DatasetPlace.{DatasetPlace}
 use Rattle.iim_dataset.specs.declared.place.DatasetPlace.TheVariants.{Tag, Inside}
-use Rattle.iim_dataset.proofs.Fronts.{front_are}
+use Rattle.iim_dataset.proofs.Fronts.{begun_none, front_are}
 use Rattle.iim_dataset.proofs.Places.{tag_on, head_leads, data_on, data_end, octet_on, stops_at}
 use Rattle.iim_dataset.proofs.HeldTags.{one_more, unfinished}
 
@@ -102,3 +109,26 @@ refuses_front goes stops joined joined_stop (Some cause) p q r piece i k a b c t
   tells_front goes joined p q r piece i k a b c t s.0,
   subst (λ (x : ℕ). TagDies r x cause) (octet_is piece i k) s.1,
 )
+
+-- The sink stopped: nothing is begun then, and the fault says so.
+pub stopped_at : {D : Type 0} (goes : D → List Event → D → Type 0) (stops : D → List Event → Event → D → Type 0) (stands : D → Option ℕ → Type 0) (old : DatasetPlace) (octets : List ℕ) (k : ℕ) (given : Refused) (a b : D)
+    → IsPlace given.place → given.place ≡ between → given.fault ≡ record { cause = Stopped; used = k } → k < length octets → Stops stops old octets k a b → RefusesOne goes stops stands old octets given a b
+stopped_at goes stops stands old octets k given a b is_place none is lt s = record {
+  is_place = is_place;
+  before = subst (λ (f : Fault). f.used < length octets) (sym is) lt;
+  refused = subst (λ (f : Fault). Refuses goes stops old octets f given.place a b) (sym is) (s, none);
+  onward = subst (λ (f : Fault). StillStands stands (is_of f.cause) given.place b) (sym is) tt;
+}
+
+-- After a tag the reader is between datasets or inside one.
+pub after_tag : (h : Head) (tag : List ℕ) → SpellsTag count_octets h tag → IsPlace (behind_head h)
+after_tag h tag s = by_count (h.count == 0) refl
+  where
+    by_count : (b : Bool) → (h.count == 0) ≡ b → IsPlace (if b then between else Inside h h.count)
+    by_count true e = begun_none
+    by_count false e = (grind (arith, nat_tests, e), omega arith, tag, s)
+
+-- What a sink answers to the end of a dataset says whether it can continue.
+pub after_end : {D : Type 0} (stands : D → Option ℕ → Type 0) (ends : D → Type 0) (step : Step) (place : DatasetPlace) (a : D) → place ≡ between → Answers stands ends a step → GoesOn stands ends step place a
+after_end stands ends More place a none s = subst (λ (p : DatasetPlace). stands a (to_come p)) (sym none) s
+after_end stands ends Last place a none s = (s, none)

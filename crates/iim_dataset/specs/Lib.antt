@@ -6,10 +6,12 @@ pub mod Languages
 pub mod Tags
 pub mod Places
 pub mod Reading
+pub mod Fronts
 pub mod Completing
 pub mod Devices
 pub mod Later
 pub mod Trials
 pub mod TrialLaws
+pub mod Shown
 pub mod Laws
 pub mod DeviceLaws

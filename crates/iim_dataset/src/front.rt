@@ -1,10 +1,11 @@
 //! How octets are read from a place on: by whole tags, and by the longest runs that lie in one dataset.
 
-ghost use Rattle.std.specs.Prelude.{◌≡◌, ◌<◌, ◌≤◌, length, take, Some, None, IfOk, IfErr, OnOk, OnErr};
+ghost use Rattle.std.specs.Prelude.{◌≡◌, ◌<◌, length, Some, None, IfOk, IfErr, OnOk, OnErr};
 ghost use Rattle.iim_dataset.specs.Datasets.{count_octets};
 ghost use Rattle.iim_dataset.specs.Tags.{BeginsTag};
-ghost use Rattle.iim_dataset.specs.Places.{IsPlace, Tells, between, to_come};
-ghost use Rattle.iim_dataset.specs.Reading.{Refuses, GoesOn, TookAll, StillStands, is_of};
+ghost use Rattle.iim_dataset.specs.Places.{IsPlace, between, to_come};
+ghost use Rattle.iim_dataset.specs.Reading.{GoesOn};
+ghost use Rattle.iim_dataset.specs.Fronts.{TakesFront, TakesPiece, RefusesOne};
 ghost use Rattle.iim_dataset.specs.Completing.{StopsAmong, head_events, behind_head};
 
 use crate::fault::{Fault, FaultCause, tag_fault};
@@ -78,15 +79,8 @@ fn take_tag<D: DatasetSink>(
     requires held { BeginsTag count_octets held.items }
     requires stands { D.stands sink.old None }
     requires some { 0 < length rest.now }
-    ensures is_place { IfOk result (λ front. IsPlace front.place) }
-    ensures some { IfOk result (λ front. 0 < front.used) }
-    ensures within { IfOk result (λ front. front.used ≤ length rest.now) }
-    ensures told { IfOk result (λ front. Tells D.goes (DatasetPlace.Tag held) (take front.used rest.now) front.place sink.old sink.new) }
-    ensures onward { IfOk result (λ front. GoesOn D.stands D.ends front.step front.place sink.new) }
-    ensures refused_place { IfErr result (λ refused. IsPlace refused.place) }
-    ensures before { IfErr result (λ refused. refused.fault.used < length rest.now) }
-    ensures refused { IfErr result (λ refused. Refuses D.goes D.stops (DatasetPlace.Tag held) rest.now refused.fault refused.place sink.old sink.new) }
-    ensures open { IfErr result (λ refused. StillStands D.stands (is_of refused.fault.cause) refused.place sink.new) }
+    ensures front { IfOk result (λ front. TakesFront D.goes D.stands D.ends (DatasetPlace.Tag held) rest.now front sink.old sink.new) }
+    ensures refused { IfErr result (λ given. RefusesOne D.goes D.stops D.stands (DatasetPlace.Tag held) rest.now given sink.old sink.new) }
 {
     let mut held = held;
     match read_tag(held.as_slice(), rest) {
@@ -127,15 +121,8 @@ fn take_data<D: DatasetSink>(
     requires place { IsPlace (DatasetPlace.Inside head left) }
     requires stands { D.stands sink.old (Some left) }
     requires some { 0 < length rest.now }
-    ensures is_place { IfOk result (λ front. IsPlace front.place) }
-    ensures some { IfOk result (λ front. 0 < front.used) }
-    ensures within { IfOk result (λ front. front.used ≤ length rest.now) }
-    ensures told { IfOk result (λ front. Tells D.goes (DatasetPlace.Inside head left) (take front.used rest.now) front.place sink.old sink.new) }
-    ensures onward { IfOk result (λ front. GoesOn D.stands D.ends front.step front.place sink.new) }
-    ensures refused_place { IfErr result (λ refused. IsPlace refused.place) }
-    ensures before { IfErr result (λ refused. refused.fault.used < length rest.now) }
-    ensures refused { IfErr result (λ refused. Refuses D.goes D.stops (DatasetPlace.Inside head left) rest.now refused.fault refused.place sink.old sink.new) }
-    ensures open { IfErr result (λ refused. StillStands D.stands (is_of refused.fault.cause) refused.place sink.new) }
+    ensures front { IfOk result (λ front. TakesFront D.goes D.stands D.ends (DatasetPlace.Inside head left) rest.now front sink.old sink.new) }
+    ensures refused { IfErr result (λ given. RefusesOne D.goes D.stops D.stands (DatasetPlace.Inside head left) rest.now given sink.old sink.new) }
 {
     if (rest.len() as u64) < left {
         let left = left - rest.len() as u64;
@@ -171,15 +158,8 @@ fn take_front<D: DatasetSink>(
     requires place { IsPlace place }
     requires stands { D.stands sink.old (to_come place) }
     requires some { 0 < length rest.now }
-    ensures is_place { IfOk result (λ front. IsPlace front.place) }
-    ensures some { IfOk result (λ front. 0 < front.used) }
-    ensures within { IfOk result (λ front. front.used ≤ length rest.now) }
-    ensures told { IfOk result (λ front. Tells D.goes place (take front.used rest.now) front.place sink.old sink.new) }
-    ensures onward { IfOk result (λ front. GoesOn D.stands D.ends front.step front.place sink.new) }
-    ensures refused_place { IfErr result (λ refused. IsPlace refused.place) }
-    ensures before { IfErr result (λ refused. refused.fault.used < length rest.now) }
-    ensures refused { IfErr result (λ refused. Refuses D.goes D.stops place rest.now refused.fault refused.place sink.old sink.new) }
-    ensures open { IfErr result (λ refused. StillStands D.stands (is_of refused.fault.cause) refused.place sink.new) }
+    ensures front { IfOk result (λ front. TakesFront D.goes D.stands D.ends place rest.now front sink.old sink.new) }
+    ensures refused { IfErr result (λ given. RefusesOne D.goes D.stops D.stands place rest.now given sink.old sink.new) }
 {
     match place {
         DatasetPlace::Tag(held) => take_tag(held, rest, sink),
@@ -196,14 +176,8 @@ pub(crate) fn take_piece<D: DatasetSink>(
 ) -> Result<(DatasetPlace, usize), Refused>
     requires place { IsPlace place }
     requires stands { D.stands sink.old (to_come place) }
-    ensures is_place { IfOk result (λ front. IsPlace front.0) }
-    ensures within { IfOk result (λ front. front.1 ≤ length octets.now) }
-    ensures told { IfOk result (λ front. Tells D.goes place (take front.1 octets.now) front.0 sink.old sink.new) }
-    ensures onward { IfOk result (λ front. TookAll D.stands D.ends front.0 sink.new (length octets.now) front.1) }
-    ensures refused_place { IfErr result (λ refused. IsPlace refused.place) }
-    ensures before { IfErr result (λ refused. refused.fault.used < length octets.now) }
-    ensures refused { IfErr result (λ refused. Refuses D.goes D.stops place octets.now refused.fault refused.place sink.old sink.new) }
-    ensures open { IfErr result (λ refused. StillStands D.stands (is_of refused.fault.cause) refused.place sink.new) }
+    ensures piece { IfOk result (λ front. TakesPiece D.goes D.stands D.ends place octets.now front.0 front.1 sink.old sink.new) }
+    ensures refused { IfErr result (λ given. RefusesOne D.goes D.stops D.stands place octets.now given sink.old sink.new) }
 {
     let mut now = place;
     let mut at = 0;

@@ -1,4 +1,4 @@
-use Rattle.std.proofs.Common.{[], arith}
+use Rattle.std.proofs.Common.{[], inl, inr, arith}
 use Rattle.iim_dataset.proofs.Rests.{length-rest}
 use Rattle.iim_dataset.specs.Reading.{is_of}
 use Rattle.iim_dataset.proofs.Places.{stays}
@@ -13,22 +13,42 @@ loop-at-init g c = record {
   stands = c.requires.stands;
 }
 
-pub returns-in-Last-clause-told : goal.returns-in-Last-clause-told
-returns-in-Last-clause-told g c =
-    tells_front g.D.DatasetSink.goes g.met.D.DatasetSink.joined c.args.place c.loop-at.now c.in-Ok.front.place c.args.octets.now c.loop-at.at c.in-Ok.front.used
-    c.args.sink.now c.loop-at.sink c.take_front.new.sink c.loop-at.invariant.told c.in-Ok.ensures.told
+pub returns-in-Last-clause-piece : goal.returns-in-Last-clause-piece
+returns-in-Last-clause-piece g c = record {
+  is_place = c.in-Ok.ensures.front.is_place;
+  within = omega (arith, c.in-Ok.ensures.front.within, length-rest c.args.octets.now c.loop-at.at);
+  told =
+      tells_front g.D.DatasetSink.goes g.met.D.DatasetSink.joined c.args.place c.loop-at.now c.in-Ok.front.place c.args.octets.now c.loop-at.at c.in-Ok.front.used
+      c.args.sink.now c.loop-at.sink c.take_front.new.sink c.loop-at.invariant.told c.in-Ok.ensures.front.told;
+  onward = inr (rw c.in-Last.is at c.in-Ok.ensures.front.onward);
+}
+
+pub returns-clause-piece : goal.returns-clause-piece
+returns-clause-piece g c = record {
+  is_place = c.loop-at.invariant.is_place;
+  within = c.loop-at.invariant.within;
+  told = c.loop-at.invariant.told;
+  onward = inl (omega (arith, c.loop-at.invariant.within), c.loop-at.invariant.stands);
+}
 
 pub loop-at-preserved : goal.loop-at-preserved
 loop-at-preserved g c = record {
-  is_place = c.in-Ok.ensures.is_place;
-  within = omega (arith, c.in-Ok.ensures.within, length-rest c.args.octets.now c.loop-at.at);
+  is_place = c.in-Ok.ensures.front.is_place;
+  within = omega (arith, c.in-Ok.ensures.front.within, length-rest c.args.octets.now c.loop-at.at);
   told =
       tells_front g.D.DatasetSink.goes g.met.D.DatasetSink.joined c.args.place c.loop-at.now c.in-Ok.front.place c.args.octets.now c.loop-at.at c.in-Ok.front.used
-      c.args.sink.now c.loop-at.sink c.take_front.new.sink c.loop-at.invariant.told c.in-Ok.ensures.told;
-  stands = rw c.in-More.is at c.in-Ok.ensures.onward;
+      c.args.sink.now c.loop-at.sink c.take_front.new.sink c.loop-at.invariant.told c.in-Ok.ensures.front.told;
+  stands = rw c.in-More.is at c.in-Ok.ensures.front.onward;
 }
 
 pub returns-in-Err-clause-refused : goal.returns-in-Err-clause-refused
 returns-in-Err-clause-refused g c =
-    refuses_front g.D.DatasetSink.goes g.D.DatasetSink.stops g.met.D.DatasetSink.joined g.met.D.DatasetSink.joined_stop (is_of c.in-Err.refused.fault.cause) c.args.place c.loop-at.now c.in-Err.refused.place
-    c.args.octets.now c.loop-at.at c.in-Err.refused.fault.used c.args.sink.now c.loop-at.sink c.take_front.new.sink c.loop-at.invariant.told c.in-Err.ensures.refused
+    let given = c.in-Err.refused in
+    let front = c.in-Err.ensures.refused in record {
+      is_place = front.is_place;
+      before = omega (arith, front.before, length-rest c.args.octets.now c.loop-at.at);
+      refused =
+          refuses_front g.D.DatasetSink.goes g.D.DatasetSink.stops g.met.D.DatasetSink.joined g.met.D.DatasetSink.joined_stop (is_of given.fault.cause) c.args.place c.loop-at.now given.place
+          c.args.octets.now c.loop-at.at given.fault.used c.args.sink.now c.loop-at.sink c.take_front.new.sink c.loop-at.invariant.told front.refused;
+      onward = front.onward;
+    }

@@ -1,5 +1,4 @@
-use Rattle.std.proofs.Common.{◌≡◌, [], length, sym, subst, arith, append-nil, IfErr}
-use Rattle.std.specs.Prelude.{IsTrue}
+use Rattle.std.proofs.Common.{[], sym, subst, arith, append-nil, IfErr}
 use Rattle.iim_dataset.specs.Tags.{HasNoTag}
 use Rattle.iim_dataset.proofs.HeldTags.{behind_held}
 use Rattle.iim_dataset.proofs.place.begins_tag.Goals as goal

@@ -1,4 +1,4 @@
-use Rattle.std.proofs.Common.{◌≡◌, arith}
+use Rattle.std.proofs.Common.{arith}
 use Rattle.std.proofs.lemmas.Bool.{leb-true, le-leb}
 use Rattle.iim_dataset.specs.Datasets.{canonical_tag}
 use Rattle.iim_dataset.proofs.Canonical.{tag_spells}

@@ -1,0 +1,35 @@
+//! Names of datasets.
+
+ghost use Rattle.std.specs.Prelude.{◌≡◌, Some};
+ghost use Rattle.iim_dataset.specs.Shown.{dataset_name, padding};
+
+use std::fmt;
+use std::fmt::{Display, Formatter};
+
+/// The name of a dataset by its record and number, shown as `1:00` or `2:105`.
+#[derive(Clone, Copy, Debug, PartialEq, Eq)]
+pub struct DatasetName {
+    /// The record.
+    pub rec: u8,
+    /// The number in its record.
+    pub set: u8,
+}
+
+/// What stands before a number of one digit.
+fn padding(number: u8) -> &'static str
+    ensures { result.now ≡ padding number }
+{
+    if number < 10 { "0" } else { "" }
+}
+
+/// Record and number, the number with two digits at least.
+impl Display for DatasetName {
+    ghost output = { λ n. Some (dataset_name n.rec n.set) };
+
+    fn fmt<W: fmt::Write>(&self, f: &mut Formatter<W>) -> fmt::Result {
+        let rec = self.rec;
+        let zero = padding(self.set);
+        let set = self.set;
+        write!(f, "{rec}:{zero}{set}")
+    }
+}
