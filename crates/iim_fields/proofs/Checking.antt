@@ -1,9 +1,8 @@
 -- Where a check of records stands, token by token.
-use Rattle.std.proofs.Common.{◌≡◌, ◌≢◌, ℕ, zero, suc, ◌+◌, ◌<◌, ◌≤◌, ◌⊎◌, Bool, true, false, not, ◌&&◌, ◌||◌, cond, if◌then◌else◌, nat_eq, nat_le, ◌==◌, List, [], ◌∷◌, ◌++◌, length, replicate, get_or, slice_set, refl, ap, sym, ◌∙◌, inl, inr, arith, subst, length-set, get_or-set_other, Option, Some, None}
+use Rattle.std.proofs.Common.{◌≡◌, ◌≢◌, ℕ, zero, suc, ◌<◌, ◌≤◌, Bool, true, false, not, ◌&&◌, ◌||◌, if◌then◌else◌, nat_eq, nat_le, ◌==◌, List, [], ◌∷◌, ◌++◌, length, replicate, get_or, refl, ap, sym, ◌∙◌, inl, inr, arith, subst, length-set, Option, Some, None}
 use Rattle.std.specs.List.{list_any}
 use Rattle.std.proofs.lemmas.List.{length-replicate}
 use Rattle.std.specs.Option.{option_or}
-use Rattle.std.proofs.lemmas.Grind.{get_or-set_at}
 use Rattle.std.proofs.lemmas.List.Folds.{list_any-append}
 use Rattle.std.proofs.lemmas.Bool.{leb-true, and_parts, and_from}
 use Rattle.std.proofs.lemmas.Bool.Decides.{eqb_tells}
@@ -18,7 +17,7 @@ use Rattle.iim_tables.specs.declared.shape.Kind.{Kind}
 use Rattle.iim_tables.specs.declared.shape.Kind.TheVariants as kinds
 use Rattle.iim_fields.specs.Records.{occurs, records, after, is_file_format}
 use Rattle.iim_fields.specs.Alive.{IsAlive, IsAliveAt}
-use Rattle.iim_fields.specs.Faults.{head_fault, record_fault, value_fault, fault_by_row, first_fault, limits_fault, present_record, present_run, of_record}
+use Rattle.iim_fields.specs.Faults.{head_fault, record_fault, value_fault, fault_by_row, limits_fault, present_record, present_run, of_record}
 use Rattle.iim_fields.specs.Orders.{nothing, has_seen, Tells, Takes}
 use Rattle.iim_fields.specs.Values.{data_of, number_told}
 use Rattle.iim_fields.specs.Checks.{TakesHead, AwaitsNone, IsIn, HasChecked, IsChecking, HasTaken, IsRecordPlace, IsRecordFault, IsValueFault}
@@ -26,6 +25,7 @@ use Rattle.iim_fields.specs.declared.order.Order.{Order}
 use Rattle.iim_fields.specs.declared.check.Begun.{Begun}
 use Rattle.iim_fields.specs.declared.check.RecordPlace.{RecordPlace}
 use Rattle.iim_fields.specs.declared.fault.FieldFault.{FieldFault}
+use Rattle.iim_fields.proofs.NumberSets.{seen_more}
 use Rattle.iim_fields.proofs.Table.{EachRowHasValues, not_after_itself, object_kind}
 use Rattle.iim_fields.proofs.Runs.{records_to_come, eq_itself}
 use Rattle.iim_fields.proofs.Follows.{Follows, present_more, run_more, alive_follows}
@@ -33,12 +33,6 @@ use Rattle.iim_fields.proofs.Telling.{head_fault_told, value_fault_told}
 use Rattle.iim_fields.proofs.Dies.{HasNoFault, no_fault_parts, in_order_cases, head_alive, head_no_fault, value_alive, value_no_fault}
 
 -- ---- which numbers have occurred
-
-seen_more : (xs : List Bool) (s n : ℕ) → s < length xs → get_or (slice_set xs s true) n false ≡ (nat_eq s n || get_or xs n false)
-seen_more xs s n fits = elim (eqb_tells s n) [
-  | inl same ↦ get_or-set_at xs s n true false (sym same.1) fits ∙ sym (ap (λ b. b || get_or xs n false) same.0)
-  | inr other ↦ get_or-set_other xs s n true false (λ e. other.1 (sym e)) ∙ sym (ap (λ b. b || get_or xs n false) other.0)
-]
 
 nothing_seen : (k n : ℕ) → get_or (replicate k false) n false ≡ false
 nothing_seen zero n = refl

@@ -1,5 +1,5 @@
 -- Where the octets of kept datasets end.
-use Rattle.std.proofs.Common.{◌≡◌, ℕ, suc, ◌-◌, List, [], ◌∷◌, length, ap, sym, ◌∙◌, arith, Option, Some}
+use Rattle.std.proofs.Common.{◌≡◌, ℕ, ◌-◌, List, [], ◌∷◌, length, ap, sym, ◌∙◌, arith, Some}
 use Rattle.std.specs.Prelude.{slice_get}
 use Rattle.iim_fields.specs.Stores.{ends_at}
 use Rattle.iim_fields.specs.declared.store.Entry.{Entry}

@@ -1,5 +1,5 @@
 -- When a builder's datasets are whole records 1 and 2.
-use Rattle.std.proofs.Common.{length, arith, ◌≡◌, ℕ, ◌⊎◌, Bool, true, false, cond, nat_eq, List, [], ◌∷◌, ◌++◌, refl, ap, sym, ◌∙◌, inl, inr, subst, append-nil, Option, Some, None}
+use Rattle.std.proofs.Common.{arith, ◌≡◌, ℕ, ◌⊎◌, Bool, true, false, cond, nat_eq, List, [], ◌∷◌, ◌++◌, refl, ap, sym, ◌∙◌, inl, inr, subst, append-nil, Option, Some, None}
 use Rattle.std.specs.List.{AllByRecursion, list_any, filter}
 use Rattle.std.specs.Option.{option_or}
 use Rattle.std.proofs.lemmas.List.Elements.{filter-append, filter_passes, recursion_from_All}
@@ -7,9 +7,9 @@ use Rattle.std.proofs.lemmas.Bool.{or_cases, eqb-true}
 use Rattle.iim_dataset.specs.Datasets.{Dataset}
 use Rattle.iim_fields.specs.Records.{mandatory, after, occurs, IsGoodDataset, IsGoodRecord, AreRecords, AreSections}
 use Rattle.iim_fields.specs.Alive.{IsAlive}
-use Rattle.iim_fields.specs.Faults.{last_record, present_record, present_run, of_record, is_kept, kept, joined, missing_fault, missing_of}
+use Rattle.iim_fields.specs.Faults.{last_record, present_record, present_run, of_record, is_kept, kept, missing_fault, missing_of}
 use Rattle.iim_fields.specs.Orders.{has_seen, Tells, end_fault, no_application}
-use Rattle.iim_fields.specs.Builders.{AreFew, IsEnvelope, IsEnvelopeStore, absent, finish_fault, IsBuilding}
+use Rattle.iim_fields.specs.Builders.{IsEnvelope, IsEnvelopeStore, absent, finish_fault, IsBuilding}
 use Rattle.iim_fields.specs.Checks.{missing_at}
 use Rattle.iim_fields.specs.Stores.{fields_of}
 use Rattle.iim_fields.specs.declared.limits.Limits.{Limits}

@@ -1,12 +1,12 @@
 -- When a reader of records hands over an envelope.
-use Rattle.std.proofs.Common.{◌≡◌, ℕ, List, [], length, refl, ap, sym, ◌∙◌, arith, inl, inr, subst, Option, Some, None}
+use Rattle.std.proofs.Common.{◌≡◌, ℕ, List, [], length, ap, sym, ◌∙◌, arith, subst, Option, Some, None}
 use Rattle.iim_dataset.specs.Datasets.{Dataset}
 use Rattle.iim_fields.specs.Records.{AreSections}
 use Rattle.iim_fields.specs.Faults.{kept, joined, present_record}
 use Rattle.iim_fields.specs.Builders.{IsEnvelope, IsEnvelopeStore}
 use Rattle.iim_fields.specs.Checks.{HasChecked, HasEnded, IsBetween}
-use Rattle.iim_fields.specs.Stores.{Holds, fields_of, begun_octets}
-use Rattle.iim_fields.specs.Standing.{FieldsPlace, StandsBehind, IsReading, place_of}
+use Rattle.iim_fields.specs.Stores.{Holds, fields_of}
+use Rattle.iim_fields.specs.Standing.{IsReading, place_of}
 use Rattle.iim_fields.specs.declared.limits.Limits.{Limits}
 use Rattle.iim_fields.specs.declared.order.Order.{Order}
 use Rattle.iim_fields.specs.declared.store.Store.{Store}

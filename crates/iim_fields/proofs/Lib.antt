@@ -1,3 +1,4 @@
+pub mod NumberSets
 pub mod Handed
 pub mod Entries
 pub mod Table

@@ -1,23 +1,15 @@
 -- Datasets lead a check to one place.
-use Rattle.std.proofs.Common.{◌≡◌, ℕ, zero, suc, Bool, false, List, [], ◌∷◌, ◌++◌, length, get_or, refl, ap, sym, ◌∙◌, arith, Option, Some, None}
+use Rattle.std.proofs.Common.{◌≡◌, List, [], ◌∷◌, ◌++◌, ap, sym, ◌∙◌, Option, Some, None}
 use Rattle.iim_dataset.specs.Datasets.{Dataset, head_of}
 use Rattle.iim_dataset.specs.declared.head.Head.{Head}
-use Rattle.iim_tables.specs.declared.shape.Row.{Row}
 use Rattle.iim_fields.specs.Orders.{Tells}
 use Rattle.iim_fields.specs.Checks.{IsBetween, HasChecked, IsChecking}
 use Rattle.iim_fields.specs.Laws.{DatasetsLeadToOnePlace}
 use Rattle.iim_fields.specs.declared.order.Order.{Order}
 use Rattle.iim_fields.specs.declared.check.Begun.{Begun}
 use Rattle.iim_fields.specs.declared.check.RecordPlace.{RecordPlace}
+use Rattle.iim_fields.proofs.NumberSets.{same_members}
 use Rattle.iim_fields.proofs.Checking.{same_place}
-
--- lists of one length with the same members
-same_members : (xs ys : List Bool) → length xs ≡ length ys → ((n : ℕ) → get_or xs n false ≡ get_or ys n false) → xs ≡ ys
-same_members [] [] e h = refl
-same_members [] (y ∷ ys) e h = absurd cc
-same_members (x ∷ xs) [] e h = absurd cc
-same_members (x ∷ xs) (y ∷ ys) e h =
-    let long : length xs ≡ length ys = omega (arith, e) in λ i. h 0 i ∷ same_members xs ys long (λ n. h (suc n)) i
 
 -- one order tells of datasets
 one_order : (o p : Order) (ds : List Dataset) → Tells o ds → Tells p ds → o ≡ p

@@ -1,5 +1,5 @@
 -- The data of an envelope meet their rows.
-use Rattle.std.proofs.Common.{◌≡◌, ℕ, ◌≤◌, Bool, true, false, cond, nat_eq, nat_le, List, [], ◌∷◌, length, refl, ap, sym, ◌∙◌, arith, subst, Option, Some}
+use Rattle.std.proofs.Common.{◌≡◌, ℕ, ◌≤◌, Bool, true, false, cond, nat_eq, nat_le, List, [], ◌∷◌, length, refl, sym, arith, subst, Option, Some}
 use Rattle.std.specs.List.{AllByRecursion, list_all, slice_get}
 use Rattle.std.specs.Option.{option_map}
 use Rattle.std.proofs.lemmas.Bool.{and_parts, eqb-true, leb-true}
@@ -8,10 +8,8 @@ use Rattle.iim_tables.specs.Octets.{within, is_digit, is_graphic}
 use Rattle.iim_tables.specs.Dates.{is_date}
 use Rattle.iim_tables.specs.Rows.{table, row_of, Meets}
 use Rattle.iim_fields.specs.Records.{IsGoodDataset}
-use Rattle.iim_fields.specs.Builders.{IsEnvelope, IsEnvelopeStore}
-use Rattle.iim_fields.specs.Stores.{fields_of}
+use Rattle.iim_fields.specs.Builders.{IsEnvelope}
 use Rattle.iim_fields.specs.Views.{is_of, first_data}
-use Rattle.iim_fields.specs.declared.store.Store.{Store}
 use Rattle.iim_fields.proofs.Runs.{all_append}
 
 abbrev MeetsItsRow : Dataset → Type 0

@@ -1,6 +1,6 @@
 -- What a reader of records keeps, step by step.
-use Rattle.std.proofs.Common.{◌≡◌, ◌≢◌, ℕ, zero, suc, ◌+◌, ◌-◌, ◌<◌, ◌≤◌, ◌⊎◌, Bool, true, false, not, cond, if◌then◌else◌, nat_eq, nat_le, List, [], ◌∷◌, ◌++◌, length, take, drop, get_or, refl, ap, sym, ◌∙◌, inl, inr, arith, subst, append_assoc, append-nil, length-append, Option, Some, None}
-use Rattle.std.specs.Prelude.{vec_len, vec_capacity, IsTrue}
+use Rattle.std.proofs.Common.{◌≡◌, ◌≢◌, ℕ, suc, ◌+◌, ◌-◌, ◌<◌, ◌≤◌, ◌⊎◌, Bool, true, false, not, cond, if◌then◌else◌, nat_le, List, [], ◌∷◌, ◌++◌, length, take, drop, get_or, refl, ap, sym, ◌∙◌, inl, inr, arith, subst, append_assoc, append-nil, length-append, Option, Some, None}
+use Rattle.std.specs.Prelude.{vec_len, vec_capacity}
 use Rattle.std.specs.Option.{option_or}
 use Rattle.std.proofs.Math.Seq.{take-append_seam, drop-append_seam}
 use Rattle.std.proofs.lemmas.List.Elements.{filter-append}
@@ -11,28 +11,24 @@ use Rattle.iim_dataset.specs.Octets.{Octets}
 use Rattle.iim_dataset.specs.Datasets.{Dataset, head_of}
 use Rattle.iim_dataset.specs.declared.head.Head.{Head}
 use Rattle.iim_tables.specs.Numbers.{size_octets}
-use Rattle.iim_tables.specs.Rows.{row_of}
-use Rattle.iim_tables.specs.declared.shape.Row.{Row}
 use Rattle.iim_fields.specs.Records.{occurs}
-use Rattle.iim_fields.specs.Alive.{IsAlive, IsAliveAt}
-use Rattle.iim_fields.specs.Faults.{record_fault, room_fault, limits_fault, first_fault, fault_on, is_kept, kept, kept_octets, joined, present_record, present_run}
+use Rattle.iim_fields.specs.Alive.{IsAliveAt}
+use Rattle.iim_fields.specs.Faults.{room_fault, limits_fault, first_fault, fault_on, is_kept, kept, kept_octets, joined, present_record, present_run}
 use Rattle.iim_fields.specs.Values.{data_of, number_told, tells_number}
 use Rattle.iim_fields.specs.Checks.{present_at, TakesHead, TakesValue, IsIn, HasChecked, IsChecking, HasTaken, IsRecordFault, IsValueFault, begun_head}
 use Rattle.iim_fields.specs.Checks as checks
 use Rattle.iim_fields.specs.Stores.{Holds, IsStore, entries_of, fields_from, fields_of, ends_at, begun_octets}
-use Rattle.iim_fields.specs.Standing.{FieldsPlace, IsBetween, IsInside, CanTake, CanClose, IsWithin, StandsBehind, StandsIn, IsHeadFault, IsOf, place_of, StandsSomewhere, HasRoom, IsReading, section_of}
+use Rattle.iim_fields.specs.Standing.{FieldsPlace, IsBetween, IsInside, CanTake, CanClose, IsWithin, StandsBehind, StandsIn, IsHeadFault, IsOf, place_of, StandsSomewhere, HasRoom, IsReading, section_of, begun_head_of}
 use Rattle.iim_fields.specs.declared.limits.Limits.{Limits}
-use Rattle.iim_fields.specs.declared.store.Entry.{Entry}
 use Rattle.iim_fields.specs.declared.store.Store.{Store}
 use Rattle.iim_fields.specs.declared.fault.FieldFault.{FieldFault}
 use Rattle.iim_fields.specs.declared.fault.FieldCause.TheVariants.{HeaderFull, TooManyFields}
-use Rattle.iim_fields.specs.declared.check.Begun.{Begun}
 use Rattle.iim_fields.specs.declared.check.RecordPlace.{RecordPlace}
 use Rattle.iim_fields.proofs.Table.{EachRowHasValues, size_row, kept_or_tells}
 use Rattle.iim_fields.proofs.Follows.{present_more}
 use Rattle.iim_fields.proofs.Telling.{head_fault_told}
-use Rattle.iim_fields.proofs.Dies.{no_fault_parts, head_no_fault}
-use Rattle.iim_fields.proofs.Checking.{same_place, same_begun, one_begun, not_both, some_data, octets_of, octets_append, count_fits}
+use Rattle.iim_fields.proofs.Dies.{head_no_fault}
+use Rattle.iim_fields.proofs.Checking.{one_begun, some_data, octets_of, octets_append, count_fits}
 
 -- ---- the limits
 
@@ -123,14 +119,14 @@ store_is store ks more holds = record {
   octets = holds.octets ∙ sym (λ i. joined (fields_held store ks more holds i) ++ begun_held store ks more holds i);
 }
 
-pub counts : (store : Store) (ks : List Dataset) (more : List ℕ) → Holds store ks more → (vec_len store.octets ≡ length (joined ks) + length more) × (vec_len store.entries ≡ length ks)
+pub counts : (store : Store) (ks : List Dataset) (more : List ℕ) → Holds store ks more → (length store.octets.items ≡ length (joined ks) + length more) × (vec_len store.entries ≡ length ks)
 counts store ks more holds = (
-  store.octets.ok.0 ∙ (ap (λ (xs : List ℕ). length xs) holds.octets ∙ length-append (joined ks) more),
+  ap (λ (xs : List ℕ). length xs) holds.octets ∙ length-append (joined ks) more,
   store.entries.ok.0 ∙ (ap (λ xs. length xs) holds.entries ∙ length-entries_of 0 ks),
 )
 
 -- the octets of a begun dataset are in the store
-pub ends_within : (store : Store) → IsStore store → ends_at 0 store.entries.items ≤ vec_len store.octets
+pub ends_within : (store : Store) → IsStore store → ends_at 0 store.entries.items ≤ length store.octets.items
 ends_within store is =
     let c = counts store (fields_of store) (begun_octets store) is in
     let e : ends_at 0 store.entries.items ≡ length (joined (fields_of store)) = ap (ends_at 0) is.entries ∙ ends_at_length (fields_of store) in omega (arith, c.0, e)
@@ -217,10 +213,10 @@ fault_of_record limits ds h fault f = record {
 }
 
 -- the fault by what is kept is the fault by the datasets
-pub room_fault_is : (limits : Limits) (store : Store) (ds : List Dataset) (h : Head) → Holds store (kept ds) [] → room_fault limits (vec_len store.octets) (vec_len store.entries) h ≡ limits_fault limits ds h
+pub room_fault_is : (limits : Limits) (store : Store) (ds : List Dataset) (h : Head) → Holds store (kept ds) [] → room_fault limits (length store.octets.items) (vec_len store.entries) h ≡ limits_fault limits ds h
 room_fault_is limits store ds h holds =
     let c = counts store (kept ds) [] holds in
-    let first : vec_len store.octets ≡ kept_octets ds = omega (arith, c.0) in
+    let first : length store.octets.items ≡ kept_octets ds = omega (arith, c.0) in
     ap (λ (n : ℕ). room_fault limits n (vec_len store.entries) h) first ∙ ap (λ (n : ℕ). room_fault limits (kept_octets ds) n h) c.1
 
 -- the store after datasets
@@ -229,7 +225,7 @@ holds_behind check limits store size ds is s =
     subst (Holds store (kept ds)) (nothing_of_two (begun_octets store) size s.taken_are).0 (holds_kept store ds is s.kept_are)
 
 pub fault_of_room : (check new : Option RecordPlace) (limits : Limits) (store : Store) (size : List ℕ) (h : Head) (fault : FieldFault) → IsStore store
-    → ((ds : List Dataset) → HasChecked check ds → HasTaken new ds h) → room_fault limits (vec_len store.octets) (vec_len store.entries) h ≡ Some fault
+    → ((ds : List Dataset) → HasChecked check ds → HasTaken new ds h) → room_fault limits (length store.octets.items) (vec_len store.entries) h ≡ Some fault
     → (ds : List Dataset) → StandsBehind (place_of check limits store size) ds → IsHeadFault limits ds h fault
 fault_of_room check new limits store size h fault is on some ds s =
     let room : limits_fault limits ds h ≡ Some fault = sym (room_fault_is limits store ds h (holds_behind check limits store size ds is s)) ∙ some in
@@ -242,7 +238,7 @@ fault_of_room check new limits store size h fault is on some ds s =
     }
 
 pub stands_in : (check new : Option RecordPlace) (limits : Limits) (store : Store) (size : List ℕ) (h : Head) → IsStore store → IsIn new h
-    → ((ds : List Dataset) → HasChecked check ds → HasTaken new ds h) → room_fault limits (vec_len store.octets) (vec_len store.entries) h ≡ None
+    → ((ds : List Dataset) → HasChecked check ds → HasTaken new ds h) → room_fault limits (length store.octets.items) (vec_len store.entries) h ≡ None
     → (ds : List Dataset) → StandsBehind (place_of check limits store size) ds → StandsIn (place_of new limits store size) ds h []
 stands_in check new limits store size h is at on none ds s =
     let room : limits_fault limits ds h ≡ None = sym (room_fault_is limits store ds h (holds_behind check limits store size ds is s)) ∙ none in
@@ -350,7 +346,7 @@ taken_in_store old new size xs none octets entries is =
 
 -- the octets were taken into the store
 pub reading_stored : (check : Option RecordPlace) (limits : Limits) (old new : Store) (size xs : List ℕ) (head : Head) → IsReading check limits old size → CanTake (place_of check limits old size) (length xs)
-    → begun_head check ≡ Some head → is_kept head.rec ≡ true → new.octets.items ≡ old.octets.items ++ xs → new.entries ≡ old.entries → vec_capacity new.octets ≡ vec_capacity old.octets
+    → begun_head check ≡ Some head → is_kept head.rec ≡ true → new.octets.items ≡ old.octets.items ++ xs → new.entries ≡ old.entries → new.octets.room ≡ old.octets.room
     → ((i : ℕ) → get_or xs i 0 < 256) → IsReading check limits new size
 reading_stored check limits old new size xs head r t is keeps octets entries capacity small =
     let none = r.in_store head is keeps in
@@ -404,7 +400,7 @@ size_room values check limits store size k head r t is not_kept =
 
 -- the store has room for the octets
 pub store_room_for : (check : Option RecordPlace) (limits : Limits) (store : Store) (size : List ℕ) (k : ℕ) (head : Head) → IsReading check limits store size → CanTake (place_of check limits store size) k
-    → begun_head check ≡ Some head → is_kept head.rec ≡ true → vec_len store.octets + k ≤ vec_capacity store.octets
+    → begun_head check ≡ Some head → is_kept head.rec ≡ true → length store.octets.items + k ≤ store.octets.room
 store_room_for check limits store size k head r t is keeps =
     let (h, n, inside, other, fits) = t in
     let a = inside.head in
@@ -525,20 +521,20 @@ no_head : (check : Option RecordPlace) → checks.IsBetween check → (h : Head)
 no_head check t h e = let clash = sym e ∙ none_between check t in cc
 
 -- the dataset is kept in the store
-pub holds_kept_more : (old new : Store) (h : Head) → IsStore old → new.octets ≡ old.octets → new.entries.items ≡ old.entries.items ++ record { rec = h.rec; set = h.set; end = vec_len old.octets } ∷ []
+pub holds_kept_more : (old new : Store) (h : Head) → IsStore old → new.octets ≡ old.octets → new.entries.items ≡ old.entries.items ++ record { rec = h.rec; set = h.set; end = length old.octets.items } ∷ []
     → Holds new (fields_of old ++ data_of h (begun_octets old) ∷ []) []
 holds_kept_more old new h is octets entries =
     let ks = fields_of old in
     let d = data_of h (begun_octets old) in
     let c = counts old ks (begun_octets old) is in
-    let end : vec_len old.octets ≡ 0 + length (joined ks) + length (begun_octets old) = omega (arith, c.0) in
+    let end : length old.octets.items ≡ 0 + length (joined ks) + length (begun_octets old) = omega (arith, c.0) in
     record {
       entries = entries ∙ ((λ i. is.entries i ++ record { rec = h.rec; set = h.set; end = end i } ∷ []) ∙ sym (entries_append 0 ks d));
       octets = ap (λ v. v.items) octets ∙ (is.octets ∙ (sym (joined_more ks d) ∙ sym (append-nil (joined (ks ++ d ∷ [])))));
     }
 
 pub kept_in_store : (old new : Store) (size : List ℕ) (h : Head) → size ≡ [] → IsStore old → is_kept h.rec ≡ true → new.octets ≡ old.octets
-    → new.entries.items ≡ old.entries.items ++ record { rec = h.rec; set = h.set; end = vec_len old.octets } ∷ []
+    → new.entries.items ≡ old.entries.items ++ record { rec = h.rec; set = h.set; end = length old.octets.items } ∷ []
     → Kept (fields_of old) (data_of h (begun_octets old ++ size)) (fields_of new) × (begun_octets new ++ size ≡ [])
 kept_in_store old new size h none is keeps octets entries =
     let holds = holds_kept_more old new h is octets entries in (
@@ -547,13 +543,13 @@ kept_in_store old new size h none is keeps octets entries =
     )
 
 pub reading_kept : (check after : Option RecordPlace) (limits : Limits) (old new : Store) (size : List ℕ) (h : Head) → IsReading check limits old size → checks.IsBetween after → begun_head check ≡ Some h → is_kept h.rec ≡ true
-    → new.octets ≡ old.octets → new.entries.items ≡ old.entries.items ++ record { rec = h.rec; set = h.set; end = vec_len old.octets } ∷ [] → vec_capacity new.entries ≡ vec_capacity old.entries
+    → new.octets ≡ old.octets → new.entries.items ≡ old.entries.items ++ record { rec = h.rec; set = h.set; end = length old.octets.items } ∷ [] → vec_capacity new.entries ≡ vec_capacity old.entries
     → StandsSomewhere (place_of after limits new size) → IsReading after limits new size
 reading_kept check after limits old new size h r t is keeps octets entries capacity somewhere = record {
   room = record {
     small_octets = r.room.small_octets;
     small_fields = r.room.small_fields;
-    octets = omega (arith, r.room.octets, ap (λ v. vec_capacity v) octets);
+    octets = omega (arith, r.room.octets, ap (λ v. v.room) octets);
     entries = omega (arith, r.room.entries, capacity);
   };
   store_is = store_is new _ [] (holds_kept_more old new h r.store_is octets entries);
@@ -596,3 +592,11 @@ section_in f ds h taken s =
           let c = s.checked.checking other.1 in
           ap present_at c.inside ∙ ((c.tells d is).present ∙ (present_more ds d ∙ ap (λ (k : Head). k.rec) is))
     ]
+
+-- ---- the begun head
+
+pub begun_behind : (f : FieldsPlace) (ds : List Dataset) → StandsBehind f ds → begun_head_of f ≡ None
+begun_behind f ds s = ap begun_head s.between.between
+
+pub begun_in : (f : FieldsPlace) (ds : List Dataset) (h : Head) (taken : List ℕ) → StandsIn f ds h taken → begun_head_of f ≡ Some h
+begun_in f ds h taken s = ap begun_head s.inside.1.head.inside

@@ -1,5 +1,5 @@
 -- What a builder of envelopes has, and what an envelope is.
-use Rattle.std.specs.Prelude.{◌≡◌, ℕ, ◌-◌, ◌^◌, ◌<◌, length, not, if◌then◌else◌, List, [], ◌∷◌, ◌++◌, take, drop, Option, Some}
+use Rattle.std.specs.Prelude.{◌≡◌, ℕ, ◌^◌, ◌<◌, length, not, if◌then◌else◌, List, [], ◌++◌, Option, Some}
 use Rattle.std.specs.Option.{option_or}
 use Rattle.iim_dataset.specs.Datasets.{Dataset, head_of}
 use Rattle.iim_fields.specs.Records.{IsGoodRecord, occurs}

@@ -2,9 +2,11 @@ pub mod Records
 pub mod Alive
 pub mod Faults
 pub mod Causes
+pub mod NumberSets
 pub mod Orders
 pub mod Values
 pub mod Checks
+pub mod Blocks
 pub mod Stores
 pub mod Standing
 pub mod Builders

@@ -1,5 +1,5 @@
 -- What a reader of records stands at.
-use Rattle.std.specs.Prelude.{◌≡◌, ◌≢◌, ℕ, ◌+◌, ◌≤◌, ◌<◌, ◌^◌, ◌⊎◌, List, [], ◌∷◌, ◌++◌, false, length, Option, Some, None, IsTrue, vec_capacity}
+use Rattle.std.specs.Prelude.{◌≡◌, ◌≢◌, ℕ, ◌+◌, ◌≤◌, ◌<◌, ◌^◌, ◌⊎◌, List, [], ◌++◌, false, length, Option, Some, None, IsTrue, vec_capacity}
 use Rattle.iim_dataset.specs.Octets.{Octets}
 use Rattle.iim_dataset.specs.Datasets.{Dataset, head_of}
 use Rattle.iim_dataset.specs.declared.head.Head.{Head}
@@ -43,6 +43,10 @@ IsEnough room limits = (limits.octets ≤ room.octets) × (limits.fields ≤ roo
 -- the record of the last head, 0 at the beginning
 abbrev pub section_of : FieldsPlace → ℕ
 section_of fields = present_at fields.check
+
+-- the head of the begun dataset
+abbrev pub begun_head_of : FieldsPlace → Option Head
+begun_head_of fields = begun_head fields.check
 
 -- Something was refused.
 abbrev pub IsFailed : FieldsPlace → Type 0
@@ -122,7 +126,7 @@ StandsSomewhere fields = ((ds : List Dataset) × StandsBehind fields ds) ⊎ ((d
 pub record HasRoom (limits : Limits) (store : Store) : Type 0 where
   pub small_octets : limits.octets < 2 ^ 32
   pub small_fields : limits.fields < 2 ^ 32
-  pub octets : limits.octets ≤ vec_capacity store.octets
+  pub octets : limits.octets ≤ store.octets.room
   pub entries : limits.fields ≤ vec_capacity store.entries
 
 -- It stands somewhere, or something was refused; and the octets of a begun dataset are in the store if it will be kept, and else

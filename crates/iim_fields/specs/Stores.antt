@@ -18,7 +18,7 @@ pub record Room : Type 0 where
 
 -- what a store has room for: as much as its vectors were made for
 abbrev pub store_room : Store → Room
-store_room store = record { octets = vec_capacity store.octets; entries = vec_capacity store.entries }
+store_room store = record { octets = store.octets.room; entries = vec_capacity store.entries }
 
 -- The store has the data of these datasets, joined, and then these octets; and an entry for each dataset.
 pub record Holds (store : Store) (ds : List Dataset) (more : List ℕ) : Type 0 where

@@ -28,7 +28,7 @@ pub(crate) struct Begun {
 }
 
 /// What heads and values have led to: the present record with the numbers that occurred in it, and the begun dataset.
-#[derive(Clone, Copy)]
+#[derive(Drop)]
 pub(crate) struct RecordPlace {
     /// The present record, and the numbers that occurred in it.
     pub order: Order,
@@ -37,6 +37,16 @@ pub(crate) struct RecordPlace {
 }
 
 impl RecordPlace {
+    /// Another one to which the same heads and values lead.
+    fn copied(&self) -> RecordPlace
+        ensures { result ≡ self.now }
+    {
+        RecordPlace {
+            order: self.order.copied(),
+            begun: self.begun,
+        }
+    }
+
     /// Takes a head that may stand next, which has this row.
     fn enter(&mut self, head: Head, row: Row)
         ensures order { Takes self.old.order head self.new.order }
@@ -90,7 +100,11 @@ impl RecordCheck {
     pub(crate) fn copied(&self) -> RecordCheck
         ensures { result ≡ self.now }
     {
-        RecordCheck { place: self.place }
+        let place = match &self.place {
+            Some(place) => Some(place.copied()),
+            None => None,
+        };
+        RecordCheck { place }
     }
 
     /// Whether something was refused.
@@ -127,6 +141,7 @@ impl RecordCheck {
 
     /// Takes the next head, or answers its first fault and has failed: the record layer dies with the head. That of a subfile
     /// is followed by no value, since what a subfile has is no matter of records.
+    #[inline(always)]
     pub fn head(&mut self, head: Head) -> Result<(), FieldFault>
         requires { TakesHead self.old }
         ensures takes_value { OnOk result (head.rec ≢ 8 → TakesValue self.new head.count) }

@@ -47,7 +47,7 @@ impl Envelope {
         FieldIter {
             from: 0,
             entries: &self.store.entries,
-            octets: &self.store.octets,
+            octets: self.store.octets.as_slice(),
         }
     }
 
@@ -253,6 +253,7 @@ impl Envelope {
     pub fn same(&self, other: &Envelope) -> bool
         ensures { IsTrue result ↔ (self.now ≡ other.now) }
     {
-        self.store.octets == other.store.octets && self.store.entries == other.store.entries
+        self.store.octets.as_slice() == other.store.octets.as_slice()
+            && self.store.entries == other.store.entries
     }
 }

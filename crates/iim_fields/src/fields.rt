@@ -1,6 +1,6 @@
 //! The records of an envelope, dataset by dataset.
 
-ghost use Rattle.std.specs.Prelude.{◌≡◌, ◌≢◌, ◌+◌, ◌-◌, ◌≤◌, ◌<◌, ℕ, List, [], ◌∷◌, ◌++◌, length, vec_len, IfOk, IfErr, OnOk, OnErr, ◌↔◌, IsTrue};
+ghost use Rattle.std.specs.Prelude.{◌≡◌, ◌≢◌, ◌+◌, ◌-◌, ◌≤◌, ◌<◌, ℕ, List, [], ◌∷◌, ◌++◌, length, vec_len, Some, None, IfOk, IfErr, OnOk, OnErr, ◌↔◌, IsTrue};
 ghost use Rattle.iim_dataset.specs.Datasets.{Dataset};
 ghost use Rattle.iim_dataset.specs.declared.head.Head.{Head as HeadValue};
 ghost use Rattle.iim_fields.specs.Records.{AreSections};
@@ -70,7 +70,7 @@ impl Model for Fields {
 impl Fields {
     ghost use Rattle.iim_fields.specs.Faults.{present_record};
     ghost use Rattle.iim_fields.specs.Walks.{rest_of};
-    ghost use Rattle.iim_fields.specs.Standing.{limits_of, room_of, section_of, room_for, IsEnough, IsFailed, IsBetween, IsInside, CanTake, CanClose, StandsBehind, StandsIn, IsHeadFault, IsOf, IsEnded};
+    ghost use Rattle.iim_fields.specs.Standing.{limits_of, room_of, section_of, begun_head_of, room_for, IsEnough, IsFailed, IsBetween, IsInside, CanTake, CanClose, StandsBehind, StandsIn, IsHeadFault, IsOf, IsEnded};
     ghost use Rattle.iim_fields.specs.Stores.{store_room};
     ghost use Rattle.std.specs.Prelude.{vec_capacity};
 
@@ -106,7 +106,7 @@ impl Fields {
     fn starting(store: Store, limits: Limits) -> Fields
         requires octets { store.octets.items ≡ [] }
         requires entries { store.entries.items ≡ [] }
-        requires octets_room { limits.octets ≤ vec_capacity store.octets }
+        requires octets_room { limits.octets ≤ store.octets.room }
         requires entries_room { limits.fields ≤ vec_capacity store.entries }
         ensures stands { StandsBehind result [] }
         ensures limits { limits_of result ≡ limits }
@@ -143,6 +143,15 @@ impl Fields {
         self.check.section()
     }
 
+    /// The head of the begun dataset; `None` between datasets, at the beginning of an envelope, and after a refusal.
+    pub fn begun_head(&self) -> Option<Head>
+        ensures head { result ≡ begun_head_of self.now }
+        ensures behind { (ds : List Dataset) → StandsBehind self.now ds → result ≡ None }
+        ensures inside { (ds : List Dataset) (h : HeadValue) (taken : List ℕ) → StandsIn self.now ds h taken → result ≡ Some h }
+    {
+        self.check.begun()
+    }
+
     /// The octets that have come of the begun dataset. Those of a subfile do not pass here. The reader has not failed.
     pub fn begun(&self) -> &[u8]
         requires { IsFailed self.now → ⊥ }
@@ -161,7 +170,7 @@ impl Fields {
         FieldIter {
             from: 0,
             entries: &self.store.entries,
-            octets: &self.store.octets,
+            octets: self.store.octets.as_slice(),
         }
     }
 

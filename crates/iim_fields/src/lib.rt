@@ -6,6 +6,7 @@
 //! [`RecordCheck`] is the record layer alone.
 #![tactic(auto)]
 
+mod block;
 mod builder;
 mod check;
 mod envelope;
@@ -14,6 +15,7 @@ mod fields;
 mod id;
 pub mod laws;
 mod limits;
+mod number_set;
 mod order;
 mod records;
 mod store;

@@ -7,15 +7,16 @@ ghost use Rattle.iim_fields.specs.Records.{after};
 ghost use Rattle.iim_fields.specs.Orders.{has_seen, nothing, Takes, end_fault, no_application};
 
 use crate::fault::{FieldCause, FieldFault};
+use crate::number_set::NumberSet;
 use crate::records::{APPLICATION, ENVELOPE, mandatory, next_record};
 use iim_dataset::Head;
 use iim_tables::{Row, row};
 
 /// What the heads so far leave open: the present record, 0 before the first, and the numbers that occurred in it.
-#[derive(Clone, Copy)]
+#[derive(Drop)]
 pub(crate) struct Order {
     rec: u8,
-    seen: [bool; 256],
+    seen: NumberSet,
 }
 
 /// A fault on the dataset of a head.
@@ -68,7 +69,17 @@ impl Order {
     {
         Order {
             rec: 0,
-            seen: [false; 256],
+            seen: NumberSet::new(),
+        }
+    }
+
+    /// Another one after the same heads.
+    pub fn copied(&self) -> Order
+        ensures { result ≡ self.now }
+    {
+        Order {
+            rec: self.rec,
+            seen: self.seen.copied(),
         }
     }
 
@@ -86,7 +97,7 @@ impl Order {
         mandatory(rec)
             .iter()
             .copied()
-            .find(|set| !self.seen[usize::from(*set)])
+            .find(|set| !self.seen.contains(*set))
     }
 
     /// Whether the record follows the present one.
@@ -141,7 +152,7 @@ impl Order {
         let Some(row) = row(head.rec, head.set) else {
             return Err(fault_on(head, FieldCause::UnknownDataset));
         };
-        let again = head.rec == self.rec && self.seen[usize::from(head.set)];
+        let again = head.rec == self.rec && self.seen.contains(head.set);
         if let Some(fault) = row_fault(again, &row, head) {
             return Err(fault);
         }
@@ -158,11 +169,11 @@ impl Order {
         ensures { Takes self.old head self.new }
     {
         if head.rec == self.rec {
-            self.seen[usize::from(head.set)] = true;
+            self.seen.insert(head.set);
             return;
         }
         self.rec = head.rec;
-        self.seen = [false; 256];
-        self.seen[usize::from(head.set)] = true;
+        self.seen = NumberSet::new();
+        self.seen.insert(head.set);
     }
 }

@@ -3,6 +3,7 @@
 ghost use Rattle.std.specs.Prelude.{◌≡◌, ◌+◌, ◌≤◌, ◌<◌, ◌++◌, ◌∷◌, [], IfOk, IfErr, length, vec_len, vec_capacity};
 ghost use Rattle.iim_fields.specs.Stores.{store_room, ends_at, begun_octets};
 
+use crate::block::Block;
 use std::alloc::{AllocError, Global};
 
 /// A kept dataset: the numbers of its record and of itself, and where its octets end in the store. They begin where
@@ -21,7 +22,7 @@ pub(crate) struct Entry {
 #[derive(Drop)]
 pub(crate) struct Store {
     /// The octets of the kept datasets, joined, and then those of a begun one.
-    pub octets: Vec<u8>,
+    pub octets: Block,
     /// An entry for each kept dataset.
     pub entries: Vec<Entry>,
 }
@@ -31,11 +32,11 @@ impl Store {
     pub fn new(alloc: Global, octets: usize, entries: usize) -> Result<Store, AllocError>
         ensures octets { IfOk result (λ store. store.octets.items ≡ []) }
         ensures entries { IfOk result (λ store. store.entries.items ≡ []) }
-        ensures octets_room { IfOk result (λ store. vec_capacity store.octets ≡ octets) }
+        ensures octets_room { IfOk result (λ store. store.octets.room ≡ octets) }
         ensures entries_room { IfOk result (λ store. vec_capacity store.entries ≡ entries) }
     {
         let store = Store {
-            octets: Vec::with_capacity(alloc, octets)?,
+            octets: Block::new(alloc, octets)?,
             entries: Vec::with_capacity(alloc, entries)?,
         };
         Ok(store)
@@ -45,12 +46,12 @@ impl Store {
     pub fn emptied(self, octets: usize, entries: usize) -> Result<Store, Store>
         ensures octets { IfOk result (λ store. store.octets.items ≡ []) }
         ensures entries { IfOk result (λ store. store.entries.items ≡ []) }
-        ensures octets_room { IfOk result (λ store. octets ≤ vec_capacity store.octets) }
+        ensures octets_room { IfOk result (λ store. octets ≤ store.octets.room) }
         ensures entries_room { IfOk result (λ store. entries ≤ vec_capacity store.entries) }
         ensures room { IfOk result (λ store. store_room store ≡ store_room self) }
         ensures handed_back { IfErr result (λ store. store ≡ self) }
     {
-        if self.octets.capacity() < octets || self.entries.capacity() < entries {
+        if self.octets.room() < octets || self.entries.capacity() < entries {
             return Err(self);
         }
         let mut store = self;
@@ -59,17 +60,14 @@ impl Store {
         Ok(store)
     }
 
-    /// Takes octets of the begun dataset, one by one into the room that there is.
+    /// Takes octets of the begun dataset into the room that there is.
     pub fn take(&mut self, octets: &[u8])
-        requires { vec_len self.old.octets + length octets.now ≤ vec_capacity self.old.octets }
+        requires { length self.old.octets.items + length octets.now ≤ self.old.octets.room }
         ensures octets { self.new.octets.items ≡ self.old.octets.items ++ octets.now }
         ensures entries { self.new.entries ≡ self.old.entries }
-        ensures len { vec_len self.new.octets ≡ vec_len self.old.octets + length octets.now }
-        ensures capacity { vec_capacity self.new.octets ≡ vec_capacity self.old.octets }
+        ensures capacity { self.new.octets.room ≡ self.old.octets.room }
     {
-        for &octet in octets {
-            self.octets.push_reserved(octet);
-        }
+        self.octets.take(octets);
     }
 
     /// Where the octets of the kept datasets end, and those of the begun one begin.
@@ -84,17 +82,17 @@ impl Store {
 
     /// The octets of the begun dataset.
     pub fn begun(&self) -> &[u8]
-        requires { ends_at 0 self.now.entries.items ≤ vec_len self.now.octets }
+        requires { ends_at 0 self.now.entries.items ≤ length self.now.octets.items }
         ensures { result.now ≡ begun_octets self.now }
     {
-        &self.octets[self.end()..]
+        &self.octets.as_slice()[self.end()..]
     }
 
     /// Keeps the begun dataset, whose octets are all there.
     pub fn keep(&mut self, rec: u8, set: u8)
         requires { vec_len self.old.entries < vec_capacity self.old.entries }
         ensures octets { self.new.octets ≡ self.old.octets }
-        ensures entries { self.new.entries.items ≡ self.old.entries.items ++ record { rec = rec; set = set; end = vec_len self.old.octets } ∷ [] }
+        ensures entries { self.new.entries.items ≡ self.old.entries.items ++ record { rec = rec; set = set; end = length self.old.octets.items } ∷ [] }
         ensures len { vec_len self.new.entries ≡ vec_len self.old.entries + 1 }
         ensures capacity { vec_capacity self.new.entries ≡ vec_capacity self.old.entries }
     {

@@ -171,11 +171,13 @@ fn all_datasets_are_taken(rt: HostRuntime) -> Result<(), Fail> {
 fn what_has_come_is_told(rt: HostRuntime) -> Result<(), Fail> {
     let mut fields = Fields::new(rt.alloc(), LIMITS)?;
     assert_eq!(rt; fields.section(), 0);
+    assert_eq!(rt; fields.begun_head(), None);
     if let Err(fault) = pass_fields(&mut fields, false) {
         assert!(rt; false, "{fault:?}");
         return Ok(());
     }
     assert_eq!(rt; fields.section(), 2);
+    assert_eq!(rt; fields.begun_head(), None);
     let mut kept = fields.kept();
     for (rec, set, octets) in FIELDS {
         assert!(rt; kept.next() == Some((rec, set, octets)));
@@ -190,6 +192,7 @@ fn what_has_come_is_told(rt: HostRuntime) -> Result<(), Fail> {
         fields.bytes(b"\x01\x02");
         assert_eq!(rt; fields.begun(), b"\x01\x02".as_slice());
         assert_eq!(rt; fields.section(), 7);
+        assert_eq!(rt; fields.begun_head(), Some(head));
     }
     Ok(())
 }
@@ -290,7 +293,10 @@ fn a_failed_reader_hands_nothing_over(rt: HostRuntime) -> Result<(), Fail> {
     assert_eq!(rt; pass(&mut fields, 9, 10, b"\0\0\0\x32", false), Err(again));
     match fields.into_envelope() {
         Ok(_) => assert!(rt; false),
-        Err(fields) => assert!(rt; fields.is_failed()),
+        Err(fields) => {
+            assert!(rt; fields.is_failed());
+            assert_eq!(rt; fields.begun_head(), None);
+        }
     }
     Ok(())
 }

@@ -1,13 +1,13 @@
-use Rattle.std.proofs.Common.{◌≡◌, List, ℕ, ◌∷◌, ◌++◌, [], length, sym, ap, ◌∙◌, subst, arith, Option, Some, None}
-use Rattle.std.specs.Prelude.{vec_len, vec_capacity}
+use Rattle.std.proofs.Common.{◌≡◌, List, ℕ, length-append, ◌∷◌, ◌++◌, [], length, sym, ap, ◌∙◌, subst, Option, Some, None}
+use Rattle.std.specs.Prelude.{vec_capacity}
 use Rattle.iim_dataset.specs.Datasets.{Dataset}
 use Rattle.iim_fields.specs.Faults.{room_fault}
-use Rattle.iim_fields.specs.Checks.{HasChecked, HasTaken}
+use Rattle.iim_fields.specs.Checks.{HasChecked}
 use Rattle.iim_fields.specs.Stores.{fields_of}
 use Rattle.iim_fields.specs.Builders.{Building, add_fault}
 use Rattle.iim_fields.specs.declared.check.RecordPlace.{RecordPlace}
 use Rattle.iim_fields.proofs.Handed.{handed_on}
-use Rattle.iim_fields.proofs.Build.{Stored, added_record_fault, added_room_fault, added_value_fault, added_fine, fields_more, building_more}
+use Rattle.iim_fields.proofs.Build.{Stored, added_room_fault, added_value_fault, added_fine, fields_more, building_more}
 use Rattle.iim_fields.proofs.builder.EnvelopeBuilder.add.Goals as goal
 
 pub returns-in-Some-clause-fault : goal.returns-in-Some-clause-fault
@@ -45,8 +45,8 @@ returns-clause-admitted c =
 stored : (c : goal.After-keep) → Stored c.self.inside.store c.keep.new.self (record { rec = c.args.rec; set = c.args.set; octets = c.args.octets.now })
 stored c = record {
   octets = ap (λ v. v.items) c.keep.ensures.octets ∙ c.take.ensures.octets;
-  entries = c.keep.ensures.entries ∙ (λ i. (c.take.ensures.entries i).items ++ record { rec = c.args.rec; set = c.args.set; end = c.take.ensures.len i } ∷ []);
-  octets_room = ap (λ v. vec_capacity v) c.keep.ensures.octets ∙ c.take.ensures.capacity;
+  entries = c.keep.ensures.entries ∙ (λ i. (c.take.ensures.entries i).items ++ record { rec = c.args.rec; set = c.args.set; end = (ap (λ (xs : List ℕ). length xs) c.take.ensures.octets ∙ length-append c.self.inside.store.octets.items c.args.octets.now) i } ∷ []);
+  octets_room = ap (λ v. v.room) c.keep.ensures.octets ∙ c.take.ensures.capacity;
   entries_room = c.keep.ensures.capacity ∙ ap (λ v. vec_capacity v) c.take.ensures.entries;
 }
 

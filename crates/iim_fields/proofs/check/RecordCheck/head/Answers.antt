@@ -1,6 +1,5 @@
-use Rattle.std.proofs.Common.{◌≡◌, List, sym, ◌∙◌, subst, arith, Option, Some}
-use Rattle.iim_dataset.specs.Datasets.{Dataset}
-use Rattle.iim_fields.specs.Checks.{TakesHead, HasChecked, HasTaken, IsRecordPlace}
+use Rattle.std.proofs.Common.{◌≡◌, sym, ◌∙◌, subst, arith, Option, Some}
+use Rattle.iim_fields.specs.Checks.{TakesHead, HasChecked, IsRecordPlace}
 use Rattle.iim_fields.specs.declared.check.RecordPlace.{RecordPlace}
 use Rattle.iim_fields.proofs.Checking.{taken_by, record_fault_by, place_headed, same_place}
 use Rattle.iim_fields.proofs.check.RecordCheck.head.Goals as goal

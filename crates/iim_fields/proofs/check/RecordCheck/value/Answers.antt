@@ -1,6 +1,4 @@
-use Rattle.std.proofs.Common.{◌≡◌, List, sym, ◌∙◌, subst, arith, ap, refl, length, Option, Some}
-use Rattle.iim_dataset.specs.Datasets.{Dataset}
-use Rattle.iim_dataset.specs.declared.head.Head.{Head}
+use Rattle.std.proofs.Common.{◌≡◌, sym, ◌∙◌, subst, arith, refl, Option, Some}
 use Rattle.iim_fields.specs.Checks.{IsIn, IsChecking}
 use Rattle.iim_fields.specs.declared.check.RecordPlace.{RecordPlace}
 use Rattle.iim_fields.proofs.Checking.{checked_value, value_fault_by, awaited_count}

@@ -5,5 +5,5 @@ use Rattle.iim_fields.proofs.envelope.Envelope.fields.Goals as goal
 
 pub invariant_of-result : goal.invariant_of-result
 invariant_of-result c = record {
-  sound = (λ i. is_sound 0 (c.deref.ensures.value i) (length (c.deref-2.ensures.value i))) ∙ sound c.self.inside.store c.self.invariant;
+  sound = (λ i. is_sound 0 (c.deref.ensures.value i) (length (c.as_slice.ensures i))) ∙ sound c.self.inside.store c.self.invariant;
 }

@@ -22,7 +22,8 @@ entry_decides E is x y = (
 
 pub returns-then-eq : goal.returns-then-eq
 returns-then-eq c =
-    let octets_same : c.self.inside.store.octets.items ≡ c.other.inside.store.octets.items = (bytes_decides c.self.inside.store.octets.items c.other.inside.store.octets.items).0 (sym c.eq.ensures ∙ c.if-eq.true) in
+    let slices_same : c.as_slice.result.now ≡ c.as_slice-2.result.now = (bytes_decides c.as_slice.result.now c.as_slice-2.result.now).0 (sym c.eq.ensures ∙ c.if-eq.true) in
+    let octets_same : c.self.inside.store.octets.items ≡ c.other.inside.store.octets.items = sym c.as_slice.ensures ∙ (slices_same ∙ c.as_slice-2.ensures) in
     let decides = pointwise_decides {E = eq-value.it} (entry_decides eq-value.it (λ x y. refl)) c.self.inside.store.entries.items c.other.inside.store.entries.items in (
       (λ h. sym c.self.view_is ∙ ((λ i. fields_from 0 (decides.0 (sym c.eq-then-eq.ensures ∙ h) i) (octets_same i)) ∙ c.other.view_is)),
       (λ e. c.eq-then-eq.ensures

@@ -1,5 +1,4 @@
-use Rattle.std.proofs.Common.{◌≡◌, List, [], sym, subst, ◌∙◌, Some, None}
-use Rattle.std.specs.Prelude.{vec_len}
+use Rattle.std.proofs.Common.{List, [], sym, subst, ◌∙◌}
 use Rattle.iim_fields.specs.Faults.{room_fault}
 use Rattle.iim_dataset.specs.Datasets.{Dataset}
 use Rattle.iim_fields.specs.Standing.{FieldsPlace, StandsBehind, StandsIn, IsHeadFault, IsBetween, limits_of, place_of}

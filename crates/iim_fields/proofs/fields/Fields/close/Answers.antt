@@ -1,10 +1,9 @@
-use Rattle.std.proofs.Common.{◌≡◌, List, ℕ, [], ◌∷◌, ◌++◌, length, sym, ap, subst, refl, ◌∙◌, append-nil, Option, None}
+use Rattle.std.proofs.Common.{◌≡◌, List, ℕ, [], ◌∷◌, ◌++◌, sym, ap, subst, refl, ◌∙◌, None}
 use Rattle.iim_dataset.specs.Datasets.{Dataset}
 use Rattle.iim_dataset.specs.declared.head.Head.{Head}
 use Rattle.iim_fields.specs.Values.{data_of, number_told}
-use Rattle.iim_fields.specs.Checks.{HasChecked, IsChecking, IsValueFault, IsIn}
-use Rattle.iim_fields.specs.Stores.{begun_octets, fields_of}
-use Rattle.iim_fields.specs.Standing.{FieldsPlace, CanClose, StandsBehind, StandsIn, StandsSomewhere, IsOf, place_of}
+use Rattle.iim_fields.specs.Checks.{HasChecked, IsChecking, IsValueFault}
+use Rattle.iim_fields.specs.Standing.{FieldsPlace, CanClose, StandsBehind, StandsIn, IsOf, place_of}
 use Rattle.iim_fields.proofs.Handed.{handed_on}
 use Rattle.iim_fields.proofs.Stand.{ends_within, closed_subfile, closes_in, stands_closed, refused_value, somewhere_closed, kept_in_store, reading_kept, reading_passed, somewhere_subfile, entry_room, in_store_alone}
 use Rattle.iim_fields.proofs.Stand.Kept.{Passed}

@@ -8,5 +8,5 @@ pub invariant_of-result : goal.invariant_of-result
 invariant_of-result c =
     let store = c.self.inside.store in
     record {
-      sound = (λ i. is_sound 0 (c.deref.ensures.value i) (length (c.deref-2.ensures.value i))) ∙ sound_holding store (fields_of store) (begun_octets store) c.self.invariant.store_is;
+      sound = (λ i. is_sound 0 (c.deref.ensures.value i) (length (c.as_slice.ensures i))) ∙ sound_holding store (fields_of store) (begun_octets store) c.self.invariant.store_is;
     }

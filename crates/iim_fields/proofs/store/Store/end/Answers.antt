@@ -1,7 +1,6 @@
-use Rattle.std.proofs.Common.{◌≡◌, ◌-◌, length, ap, sym, ◌∙◌, Option, Some}
+use Rattle.std.proofs.Common.{◌-◌, length, ap, sym, ◌∙◌}
 use Rattle.std.specs.Prelude.{slice_get}
 use Rattle.std.specs.Option.{option_copied}
-use Rattle.iim_fields.specs.declared.store.Entry.{Entry}
 use Rattle.iim_fields.proofs.Entries.{ends_last}
 use Rattle.iim_fields.proofs.store.Store.end.Goals as goal
 

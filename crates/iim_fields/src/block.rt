@@ -1,0 +1,120 @@
+//! Octets in memory that is taken once.
+
+ghost use Rattle.std.specs.Prelude.{◌≡◌, ◌+◌, ◌≤◌, ◌++◌, [], IfOk, length, take, vec_len, vec_capacity};
+
+use std::alloc::{AllocError, Global};
+use std::marker::Model;
+
+/// Octets in memory that is taken once: those that come after it was emptied lie over the earlier ones, and are copied there at
+/// once. Contracts see it as the octets, and how many there is room for.
+#[derive(Drop)]
+pub(crate) struct Block {
+    /// The octets, and after them what is left of earlier ones.
+    places: Vec<u8>,
+    /// How many octets there are.
+    used: usize,
+}
+
+impl Model for Block {
+    ghost use Rattle.std.specs.Prelude.{◌≤◌, take, vec_len, vec_capacity};
+    ghost use Rattle.iim_fields.specs.Blocks.{Written};
+
+    ghost Value = { Written };
+
+    ghost view = { λ b. record { items = take b.used b.places.items; room = vec_capacity b.places } };
+
+    ghost invariant = { λ b. b.used ≤ vec_len b.places };
+}
+
+/// Writes octets at the end of all that was written, one by one into the room that there is.
+fn append(places: &mut Vec<u8>, octets: &[u8])
+    requires { vec_len places.old + length octets.now ≤ vec_capacity places.old }
+    ensures items { places.new.items ≡ places.old.items ++ octets.now }
+    ensures len { vec_len places.new ≡ vec_len places.old + length octets.now }
+    ensures room { vec_capacity places.new ≡ vec_capacity places.old }
+{
+    for &octet in octets {
+        places.push_reserved(octet);
+    }
+}
+
+/// Copies octets over earlier ones, from a place on.
+fn overwrite(places: &mut Vec<u8>, from: usize, octets: &[u8])
+    requires { from + length octets.now ≤ vec_len places.old }
+    ensures items { take (from + length octets.now) places.new.items ≡ take from places.old.items ++ octets.now }
+    ensures len { vec_len places.new ≡ vec_len places.old }
+    ensures room { vec_capacity places.new ≡ vec_capacity places.old }
+{
+    places[from..from + octets.len()].copy_from_slice(octets);
+}
+
+/// Writes octets from a place on: over earlier ones, as far as those go, and then after them.
+fn write(places: &mut Vec<u8>, from: usize, octets: &[u8])
+    requires within { from ≤ vec_len places.old }
+    requires fits { from + length octets.now ≤ vec_capacity places.old }
+    ensures items { take (from + length octets.now) places.new.items ≡ take from places.old.items ++ octets.now }
+    ensures len { from + length octets.now ≤ vec_len places.new }
+    ensures room { vec_capacity places.new ≡ vec_capacity places.old }
+{
+    let earlier = places.len() - from;
+    if octets.len() <= earlier {
+        overwrite(places, from, octets);
+        return;
+    }
+    let (over, after) = octets.split_at(earlier);
+    overwrite(places, from, over);
+    append(places, after);
+}
+
+impl Block {
+    /// No octets, with room for just so many.
+    pub fn new(alloc: Global, room: usize) -> Result<Block, AllocError>
+        ensures items { IfOk result (λ block. block.items ≡ []) }
+        ensures room { IfOk result (λ block. block.room ≡ room) }
+    {
+        let block = Block {
+            places: Vec::with_capacity(alloc, room)?,
+            used: 0,
+        };
+        Ok(block)
+    }
+
+    /// How many octets there is room for.
+    pub fn room(&self) -> usize
+        ensures { result ≡ self.now.room }
+    {
+        self.places.capacity()
+    }
+
+    /// How many octets there are.
+    pub fn len(&self) -> usize
+        ensures { result ≡ length self.now.items }
+    {
+        self.used
+    }
+
+    /// The octets.
+    pub fn as_slice(&self) -> &[u8]
+        ensures { result.now ≡ self.now.items }
+    {
+        &self.places[..self.used]
+    }
+
+    /// Drops the octets, and keeps the room.
+    pub fn clear(&mut self)
+        ensures items { self.new.items ≡ [] }
+        ensures room { self.new.room ≡ self.old.room }
+    {
+        self.used = 0;
+    }
+
+    /// Takes octets, for which there is room.
+    pub fn take(&mut self, octets: &[u8])
+        requires { length self.old.items + length octets.now ≤ self.old.room }
+        ensures items { self.new.items ≡ self.old.items ++ octets.now }
+        ensures room { self.new.room ≡ self.old.room }
+    {
+        write(&mut self.places, self.used, octets);
+        self.used += octets.len();
+    }
+}

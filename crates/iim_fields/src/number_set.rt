@@ -1,0 +1,57 @@
+//! Sets of the numbers that datasets have.
+
+ghost use Rattle.std.specs.Prelude.{◌≡◌, false, true, replicate, slice_index_or, slice_set};
+
+use std::marker::Model;
+
+/// The bits of a word.
+const BITS: u8 = 64;
+
+/// A set of numbers from 0 to 255. Contracts see it as a list of 256: whether each number is in it.
+#[derive(Drop)]
+pub(crate) struct NumberSet {
+    /// A bit for each number, from the lowest bit of the first word up.
+    words: [u64; 4],
+}
+
+impl Model for NumberSet {
+    ghost use Rattle.std.specs.Prelude.{◌≡◌, Bool, List, length};
+    ghost use Rattle.iim_fields.specs.NumberSets.{members};
+
+    ghost Value = { List Bool };
+
+    ghost view = { λ s. members s.words };
+
+    ghost invariant = { λ s. length s.words ≡ 4 };
+}
+
+impl NumberSet {
+    /// No number is in it.
+    pub fn new() -> NumberSet
+        ensures { result ≡ replicate 256 false }
+    {
+        NumberSet { words: [0; 4] }
+    }
+
+    /// Another one with the same numbers.
+    pub fn copied(&self) -> NumberSet
+        ensures { result ≡ self.now }
+    {
+        NumberSet { words: self.words }
+    }
+
+    /// Whether the number is in it.
+    pub fn contains(&self, number: u8) -> bool
+        ensures { result ≡ slice_index_or self.now number false }
+    {
+        let word = self.words[usize::from(number / BITS)];
+        word >> (number % BITS) & 1 == 1
+    }
+
+    /// Adds a number.
+    pub fn insert(&mut self, number: u8)
+        ensures { self.new ≡ slice_set self.old number true }
+    {
+        self.words[usize::from(number / BITS)] |= 1 << (number % BITS);
+    }
+}
