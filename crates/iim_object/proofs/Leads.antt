@@ -29,7 +29,7 @@ once_front : (ps qs : List Stated) → AreOnce (ps ++ qs) → AreOnce ps
 once_front [] qs o = tt
 once_front (p ∷ ps) qs o = (none_front p.set ps qs o.0, once_front ps qs o.1)
 
-stated_front : (ps qs : List Stated) → AreStated (ps ++ qs) → AreStated ps
+pub stated_front : (ps qs : List Stated) → AreStated (ps ++ qs) → AreStated ps
 stated_front ps qs h = record { each = all_front InRow ps qs h.each; once = once_front ps qs h.once }
 
 numbers_more : (xs : List Dataset) (d : Dataset) (ys : List Dataset) → numbers_of (xs ++ d ∷ ys) ≡ (numbers_of xs ++ stated_of d ∷ []) ++ numbers_of ys

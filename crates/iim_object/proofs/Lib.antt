@@ -13,3 +13,6 @@ pub mod Outputs
 pub mod Writing
 pub mod Reached
 pub mod Staying
+pub mod Saved
+pub mod Leading
+pub mod Alike

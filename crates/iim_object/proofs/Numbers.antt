@@ -31,14 +31,14 @@ pub none-append : (set : ℕ) (ps qs : List Stated) → number_at set ps ≡ Non
 none-append set [] qs e = refl
 none-append set (p ∷ ps) qs e = let n = none_parts set p ps e in rw (n.0) (none-append set ps qs n.1)
 
-once-append : (ps : List Stated) (q : Stated) → AreOnce ps → number_at q.set ps ≡ None → AreOnce (ps ++ (q ∷ []))
+pub once-append : (ps : List Stated) (q : Stated) → AreOnce ps → number_at q.set ps ≡ None → AreOnce (ps ++ (q ∷ []))
 once-append [] q o e = (refl, tt)
 once-append (p ∷ ps) q o e =
     let n = none_parts q.set p ps e in
     let other : eqb q.set p.set ≡ false = ne_eqb q.set p.set (λ s. eqb-false p.set q.set n.0 (sym s)) in
     (none-append p.set ps (q ∷ []) o.0 ∙ rw other refl, once-append ps q o.1 n.1)
 
-each-append : (ps : List Stated) (q : Stated) → AllByRecursion InRow ps → InRow q → AllByRecursion InRow (ps ++ (q ∷ []))
+pub each-append : (ps : List Stated) (q : Stated) → AllByRecursion InRow ps → InRow q → AllByRecursion InRow (ps ++ (q ∷ []))
 each-append [] q h r = (r, tt)
 each-append (p ∷ ps) q h r = (h.0, each-append ps q h.1 r)
 

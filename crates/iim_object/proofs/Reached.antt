@@ -22,7 +22,7 @@ use Rattle.iim_object.proofs.Steps.{tells_of, both_of, not_ended_tokens, number_
 -- ---- the state of a place
 
 -- what lives, lived before
-front_lives : (xs ys : List ObjectToken) → IsAlive ObjectLanguage (xs ++ ys) → IsAlive ObjectLanguage xs
+pub front_lives : (xs ys : List ObjectToken) → IsAlive ObjectLanguage (xs ++ ys) → IsAlive ObjectLanguage xs
 front_lives xs ys (rest, all) = (ys ++ rest, subst ObjectLanguage (append_assoc xs ys rest) all)
 
 -- a number that is stated is one of its row
@@ -246,7 +246,7 @@ fits_in s is h =
 both_in : (s : State) → HasSubfiles s → HasBoth (numbers_in s)
 both_in s h = (ap (λ (o : Option ℕ). is_some o) (mode_in s ∙ h.mode), ap (λ (o : Option ℕ). is_some o) (largest_in s ∙ h.largest))
 
-no_lengths : (xs : List ℕ) → length xs ≡ 0 → xs ≡ []
+pub no_lengths : (xs : List ℕ) → length xs ≡ 0 → xs ≡ []
 no_lengths [] e = refl
 no_lengths (x ∷ xs) e = absurd (omega (arith, e))
 

@@ -6,18 +6,18 @@ use Rattle.iim_tables.specs.Numbers.{greatest_size}
 use Rattle.iim_object.specs.declared.state.State.{State}
 use Rattle.iim_object.specs.Sizes.{Stated, InRow, number_at}
 use Rattle.iim_object.specs.Objects.{NumberRead, SubfileBegun}
-use Rattle.iim_object.specs.Places.{Place, HasBoth, place_after}
+use Rattle.iim_object.specs.Places.{Place, MayFollow, place_after}
 use Rattle.iim_object.specs.Living.{NoClash}
 use Rattle.iim_object.specs.Causes.{number_cause, subfile_cause, bound}
 use Rattle.iim_object.specs.States.{IsState, TakesNumber, TakesSubfile, set_where, state_with}
-use Rattle.iim_object.specs.Reading.{GoesOn}
+use Rattle.iim_object.specs.Reading.{StandsAt, GoesOn}
 use Rattle.iim_object.proofs.Numbers.{mode_at_most_one, at_least_one, at_most_size}
 use Rattle.iim_object.proofs.Steps.{tells_of, clear_numbers, clear_of, announced_small, not_below, subfile_goes_on}
 use Rattle.iim_object.proofs.Reached.{numbers_in, mode_in, largest_in, announced_in, maximum_in, are_stated, largest_at_most, maximum_at_most, place_in, tells_in, stands_in, state_of}
 
 -- ---- tokens that may not come
 
-last_row : (ps : List Stated) (q : Stated) → AllByRecursion InRow (ps ++ q ∷ []) → InRow q
+pub last_row : (ps : List Stated) (q : Stated) → AllByRecursion InRow (ps ++ q ∷ []) → InRow q
 last_row [] q each = each.0
 last_row (p ∷ ps) q each = last_row ps q each.1
 
@@ -25,10 +25,13 @@ pub number_not_taken : (s : State) (set number : ℕ) → (TakesNumber s set num
 number_not_taken s set number out p st (not_ended, none, stated) =
     absurd (out ((tells_of s p st).subfiles ∙ ap length none, last_row p.stated (record { set = set; number = number }) stated.each))
 
+-- where a subfile may follow, the state takes one
+pub takes_of : (s : State) (count : ℕ) (p : Place) → StandsAt (Some s) p → MayFollow p (SubfileBegun count) → TakesSubfile s
+takes_of s count p st (not_ended, both, few) =
+    let t = tells_of s p st in (ap (λ (o : Option ℕ). is_some o) t.mode ∙ both.0, ap (λ (o : Option ℕ). is_some o) t.largest ∙ both.1, omega (arith, t.subfiles, few))
+
 pub subfile_not_taken : (s : State) (count : ℕ) → (TakesSubfile s → ⊥) → GoesOn (Some s) (SubfileBegun count) (Some s)
-subfile_not_taken s count out p st (not_ended, both, few) =
-    let t = tells_of s p st in
-    absurd (out (ap (λ (o : Option ℕ). is_some o) t.mode ∙ both.0, ap (λ (o : Option ℕ). is_some o) t.largest ∙ both.1, omega (arith, t.subfiles, few)))
+subfile_not_taken s count out p st follows = absurd (out (takes_of s count p st follows))
 
 -- ---- a number
 
@@ -72,12 +75,18 @@ room_for s count is no_cause =
     let within : s.total + count ≤ bound (number_at 90 ps) (number_at 95 ps) = not_below (bound (number_at 90 ps) (number_at 95 ps)) (s.total + count) clear.within in
     omega (arith, within, announced_small ps (are_stated s is.numbers) (number_at 90 ps) refl)
 
+-- after the subfiles of a state that takes one more, one may follow
+pub may_take : (s : State) (count : ℕ) → IsState s → TakesSubfile s → MayFollow (place_in s) (SubfileBegun count)
+may_take s count is (mode, largest, few) = (
+  refl,
+  (ap (λ (o : Option ℕ). is_some o) (mode_in s) ∙ mode, ap (λ (o : Option ℕ). is_some o) (largest_in s) ∙ largest),
+  omega (arith, (tells_in s is).subfiles, few),
+)
+
 pub subfile_state : (s : State) (count : ℕ) → IsState s → TakesSubfile s → subfile_cause s.mode s.subfile s.announced s.maximum s.total count ≡ None
     → IsState (record s { subfiles = s.subfiles + 1; total = s.total + count })
-subfile_state s count is (mode, largest, few) no_cause =
+subfile_state s count is takes no_cause =
     let p : Place = place_in s in
-    let t = tells_in s is in
-    let both : HasBoth p.stated = (ap (λ (o : Option ℕ). is_some o) (mode_in s) ∙ mode, ap (λ (o : Option ℕ). is_some o) (largest_in s) ∙ largest) in
-    let next = subfile_goes_on s count no_cause p (stands_in s is) (refl, both, omega (arith, t.subfiles, few)) in
+    let next = subfile_goes_on s count no_cause p (stands_in s is) (may_take s count is takes) in
     state_of (record s { subfiles = s.subfiles + 1; total = s.total + count }) (place_after p (SubfileBegun count)) next
-    (omega (arith, t.subfiles, few, length-append p.lengths (count ∷ [])))
+    (omega (arith, (tells_in s is).subfiles, takes.2, length-append p.lengths (count ∷ [])))

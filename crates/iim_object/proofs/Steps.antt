@@ -43,7 +43,7 @@ at_set wanted set number ps none = elim (cases_Bool (eqb set wanted)) [
     by_old (Some n) e f = e ∙ sym (at-append wanted n ps (record { set = set; number = number } ∷ []) e)
 
 -- the last of numbers that don't repeat was not there before
-once_last : (ps : List Stated) (q : Stated) → AreOnce (ps ++ q ∷ []) → number_at q.set ps ≡ None
+pub once_last : (ps : List Stated) (q : Stated) → AreOnce (ps ++ q ∷ []) → number_at q.set ps ≡ None
 once_last [] q o = refl
 once_last (p ∷ ps) q o =
     let rest : number_at q.set ps ≡ None = once_last ps q o.1 in
@@ -205,7 +205,7 @@ so_far known subfile ps [] d alive = record { clash = (numbers_law ps d.stated).
 so_far known subfile ps (l ∷ lengths) d alive =
     let fit = (subfiles_law known subfile ps (l ∷ lengths) d (omega arith)).0 alive in record { clash = fit.clash; each = fit.each }
 
-sum_more : (lengths : List ℕ) (count : ℕ) → sum (lengths ++ count ∷ []) ≡ sum lengths + count
+pub sum_more : (lengths : List ℕ) (count : ℕ) → sum (lengths ++ count ∷ []) ≡ sum lengths + count
 sum_more lengths count = sum_append lengths (count ∷ []) ∙ (let one : sum (count ∷ []) ≡ count = one_sum count in ap (λ (n : ℕ). sum lengths + n) one)
   where
     one_sum : (n : ℕ) → sum (n ∷ []) ≡ n
@@ -217,15 +217,15 @@ not_below a b f = elim (cases_lt a b) [ inl lt ↦ let bad : true ≡ false = sy
 pub is_below : (a b : ℕ) → nat_lt a b ≡ true → a < b
 is_below a b t = elim (cases_lt a b) [ inl lt ↦ lt | inr ge ↦ let bad : false ≡ true = sym (le-ltb a b ge) ∙ t in absurd cc ]
 
-or_less : (o : Option ℕ) (n most other : ℕ) → n ≤ min (unwrap_or o most) other → IfSome o (λ m. n ≤ m)
+pub or_less : (o : Option ℕ) (n most other : ℕ) → n ≤ min (unwrap_or o most) other → IfSome o (λ m. n ≤ m)
 or_less None n most other h = tt
 or_less (Some m) n most other h = omega arith
 
-or_less_right : (o : Option ℕ) (n most other : ℕ) → n ≤ min other (unwrap_or o most) → IfSome o (λ m. n ≤ m)
+pub or_less_right : (o : Option ℕ) (n most other : ℕ) → n ≤ min other (unwrap_or o most) → IfSome o (λ m. n ≤ m)
 or_less_right None n most other h = tt
 or_less_right (Some m) n most other h = omega arith
 
-under_both : (o q : Option ℕ) (n most : ℕ) → n ≤ most → IfSome o (λ m. n ≤ m) → IfSome q (λ m. n ≤ m) → n ≤ min (unwrap_or o most) (unwrap_or q most)
+pub under_both : (o q : Option ℕ) (n most : ℕ) → n ≤ most → IfSome o (λ m. n ≤ m) → IfSome q (λ m. n ≤ m) → n ≤ min (unwrap_or o most) (unwrap_or q most)
 under_both None None n most h a b = omega arith
 under_both None (Some m) n most h a b = omega arith
 under_both (Some k) None n most h a b = omega arith

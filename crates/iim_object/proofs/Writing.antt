@@ -8,7 +8,7 @@ use Rattle.iim_dataset.specs.Datasets.{Dataset, canonical_dataset, canonical_str
 use Rattle.iim_object.specs.Cuts.{joined_parts, AreFull, IsCut, ObjectsAreCutOneWay}
 use Rattle.iim_object.specs.Packing.{plan_datasets, subfile_dataset, subfile_datasets, confirmed_datasets, number_dataset, object_datasets, IsWritten}
 use Rattle.iim_object.specs.Outputs.{Puts, Cuts}
-use Rattle.iim_object.specs.Writing.{Writing, total_of, begun_octets, StandsAt, Lengthens, Begins, BreaksOff, GoesOnWith, IsTheWhole, Finishes, writing_of, HasRoom, Flushes, Halts, write_cause}
+use Rattle.iim_object.specs.Writing.{Writing, total_of, begun_octets, StandsAt, Lengthens, Begins, BreaksOff, GoesOnWith, IsTheWhole, Finishes, writing_of, HasRoom, Fills, Flushes, Halts, write_cause}
 use Rattle.iim_object.specs.declared.plan.Plan.{Plan}
 use Rattle.iim_object.specs.declared.output.Output.{Output}
 use Rattle.iim_object.specs.declared.cutter.Cutter.{Cutter}
@@ -106,60 +106,59 @@ pub held_is : {W : Type 0} (c : Cutter W) → vec_len c.held ≡ length c.held.i
 held_is c = c.held.ok.0
 
 -- Octets are held.
-pub filled : {W : Type 0} (state : W → Device) (old new : Cutter W) (xs : List ℕ) → TextsJoin → old.failed ≡ false → 1 ≤ length xs → new.held.items ≡ old.held.items ++ xs → new.plan ≡ old.plan → new.sent ≡ old.sent
-    → new.output ≡ old.output → new.failed ≡ old.failed → HasRoom new → Lengthens state (writing_of old) (writing_of new) xs
-filled state old new xs join unfailed some held plan sent output failed room =
-    let same : new.output.writer ≡ old.output.writer = ap (λ o. o.writer) output in
+pub filled : {W : Type 0} (state : W → Device) (old new : Cutter W) (xs : List ℕ) → TextsJoin → old.failed ≡ false → 1 ≤ length xs → Fills old new xs → HasRoom new → Lengthens state (writing_of old) (writing_of new) xs
+filled state old new xs join unfailed some f room =
+    let same : new.output.writer ≡ old.output.writer = ap (λ o. o.writer) f.output in
     record {
       more = [];
       wrote = subst (λ w. Wrote (state old.output.writer) (state w) []) (sym same) (join.none (state old.output.writer));
-      plan = plan;
-      unfailed = failed ∙ unfailed;
-      counted = let o = ap (λ p. p.written) output in omega (arith, o);
-      total = omega (arith, sent, ap length held, length-append old.held.items xs);
+      plan = f.plan;
+      unfailed = f.failed ∙ unfailed;
+      counted = let o = ap (λ p. p.written) f.output in omega (arith, o);
+      total = omega (arith, f.sent, ap length f.held, length-append old.held.items xs);
       stands = λ object out s. record {
-        unfailed = failed ∙ unfailed;
+        unfailed = f.failed ∙ unfailed;
         parts = s.parts;
-        are_full = subst (λ (p : Plan). AreFull p.subfile s.parts) (sym plan) s.are_full;
-        object_is = ap (λ (t : List ℕ). t ++ xs) s.object_is ∙ (append_assoc (joined_parts s.parts) old.held.items xs ∙ ap (λ (t : List ℕ). joined_parts s.parts ++ t) (sym held));
-        some = λ empty. absurd (no_less old.held.items xs some (sym held ∙ empty));
-        sent = sent ∙ s.sent;
+        are_full = subst (λ (p : Plan). AreFull p.subfile s.parts) (sym f.plan) s.are_full;
+        object_is = ap (λ (t : List ℕ). t ++ xs) s.object_is ∙ (append_assoc (joined_parts s.parts) old.held.items xs ∙ ap (λ (t : List ℕ). joined_parts s.parts ++ t) (sym f.held));
+        some = λ empty. absurd (no_less old.held.items xs some (sym f.held ∙ empty));
+        sent = f.sent ∙ s.sent;
         within = omega (arith, room.within, room.bound, held_is new);
-        out_is = append-nil out ∙ (s.out_is ∙ ap (λ (p : Plan). begun_octets p s.parts) (sym plan));
-        written = ap (λ o. o.written) output ∙ (s.written ∙ ap length (sym (append-nil out)));
+        out_is = append-nil out ∙ (s.out_is ∙ ap (λ (p : Plan). begun_octets p s.parts) (sym f.plan));
+        written = ap (λ o. o.written) f.output ∙ (s.written ∙ ap length (sym (append-nil out)));
       };
     }
 
 -- A full subfile is written, and octets are held after it.
 pub flushed : {W : Type 0} (state : W → Device) (old mid new : Cutter W) (xs : List ℕ) → TextsJoin → old.failed ≡ false → vec_len old.held ≡ old.plan.subfile → 1 ≤ length xs → Flushes state old mid
-    → new.held.items ≡ mid.held.items ++ xs → new.plan ≡ mid.plan → new.sent ≡ mid.sent → new.output ≡ mid.output → new.failed ≡ mid.failed → HasRoom new
+    → Fills mid new xs → HasRoom new
     → Lengthens state (writing_of old) (writing_of new) xs
-flushed state old mid new xs join unfailed full some f held plan sent output failed room =
+flushed state old mid new xs join unfailed full some f h room =
     let text : List ℕ = canonical_dataset (subfile_dataset old.held.items) in
-    let same : new.output.writer ≡ mid.output.writer = ap (λ o. o.writer) output in
-    let plans : new.plan ≡ old.plan = plan ∙ f.plan in
-    let now : new.held.items ≡ xs = held ∙ ap (λ (t : List ℕ). t ++ xs) f.held in
-    let still : new.failed ≡ false = failed ∙ f.failed in
+    let same : new.output.writer ≡ mid.output.writer = ap (λ o. o.writer) h.output in
+    let plans : new.plan ≡ old.plan = h.plan ∙ f.plan in
+    let now : new.held.items ≡ xs = h.held ∙ ap (λ (t : List ℕ). t ++ xs) f.held in
+    let still : new.failed ≡ false = h.failed ∙ f.failed in
     let length_held : length old.held.items ≡ old.plan.subfile = sym (held_is old) ∙ full in
     record {
       more = text;
       wrote = subst (λ w. Wrote (state old.output.writer) (state w) text) (sym same) f.put.wrote;
       plan = plans;
       unfailed = still;
-      counted = let o = ap (λ p. p.written) output in omega (arith, o, f.put.counted);
-      total = omega (arith, sent, f.sent, held_is old, ap length now);
+      counted = let o = ap (λ p. p.written) h.output in omega (arith, o, f.put.counted);
+      total = omega (arith, h.sent, f.sent, held_is old, ap length now);
       stands = λ object out s. record {
         unfailed = still;
         parts = s.parts ++ old.held.items ∷ [];
         are_full = subst (λ (p : Plan). AreFull p.subfile (s.parts ++ old.held.items ∷ [])) (sym plans) (full_append old.plan.subfile s.parts old.held.items s.are_full length_held);
         object_is = λ i. (s.object_is ∙ sym (joined_append s.parts old.held.items)) i ++ sym now i;
         some = λ empty. absurd (omega (arith, some, ap length (sym now ∙ empty)));
-        sent = omega (arith, sent, f.sent, held_is old, s.sent, ap length (joined_append s.parts old.held.items), length-append (joined_parts s.parts) old.held.items);
+        sent = omega (arith, h.sent, f.sent, held_is old, s.sent, ap length (joined_append s.parts old.held.items), length-append (joined_parts s.parts) old.held.items);
         within = omega (arith, room.within, room.bound, held_is new);
         out_is = ap (λ (t : List ℕ). t ++ text) s.out_is
             ∙ (ap (λ (t : List ℕ). begun_octets old.plan s.parts ++ t) (sym (append-nil text))
             ∙ (sym (begun_more old.plan s.parts (old.held.items ∷ [])) ∙ ap (λ (p : Plan). begun_octets p (s.parts ++ old.held.items ∷ [])) (sym plans)));
-        written = ap (λ o. o.written) output ∙ omega (arith, f.put.counted, s.written, length-append out text);
+        written = ap (λ o. o.written) h.output ∙ omega (arith, f.put.counted, s.written, length-append out text);
       };
     }
 

@@ -10,6 +10,7 @@ pub mod Causes
 pub mod States
 pub mod Reading
 pub mod Reached
+pub mod Saved
 pub mod Conditions
 pub mod Told
 pub mod Cuts

@@ -1,5 +1,5 @@
 -- The numbers that a reader keeps.
-use Rattle.std.specs.Prelude.{◌≡◌, ℕ, ◌*◌, ◌<◌, ◌≤◌, ◌==◌, Bool, true, if◌then◌else◌, is_some, Option, Some, None, IfSome}
+use Rattle.std.specs.Prelude.{◌≡◌, ℕ, ◌*◌, ◌<◌, ◌≤◌, ◌==◌, Bool, true, if◌then◌else◌, List, [], ◌∷◌, is_some, Option, Some, None, IfSome}
 use Rattle.iim_tables.specs.Numbers.{greatest_size}
 use Rattle.iim_object.specs.Plans.{max_subfiles}
 use Rattle.iim_object.specs.Sizes.{InRow, mode_number}
@@ -7,6 +7,10 @@ use Rattle.iim_object.specs.declared.state.State.{State}
 
 abbrev pub state_start : State
 state_start = record { mode = None; subfile = None; announced = None; maximum = None; subfiles = 0; total = 0 }
+
+-- the numbers of 7:10, 7:20, 7:90 and 7:95
+abbrev pub state_numbers : State → List (Option ℕ)
+state_numbers s = s.mode ∷ s.subfile ∷ s.announced ∷ s.maximum ∷ []
 
 -- the number, where the dataset is this one
 abbrev pub set_where : ℕ → ℕ → ℕ → Option ℕ → Option ℕ

@@ -142,6 +142,20 @@ pub record HasRoom {W : Type 0} (c : Cutter W) : Type 0 where
   pub count : c.failed ≡ false → c.output.written ≤ 24 + 10 * c.sent
   pub small : c.output.written < 2 ^ 40
 
+-- It may take these octets: no write failed, there are some, and with them the object is within the bound.
+pub record MayTake {W : Type 0} (c : Cutter W) (octets : List ℕ) : Type 0 where
+  pub unfailed : c.failed ≡ false
+  pub some : 0 < length octets
+  pub within : total_of (writing_of c) + length octets ≤ most_of c.plan
+
+-- It holds these octets too. Nothing else has changed.
+pub record Fills {W : Type 0} (old new : Cutter W) (octets : List ℕ) : Type 0 where
+  pub held : new.held.items ≡ old.held.items ++ octets
+  pub plan : new.plan ≡ old.plan
+  pub sent : new.sent ≡ old.sent
+  pub output : new.output ≡ old.output
+  pub failed : new.failed ≡ old.failed
+
 -- The octets that it held are out as a subfile.
 pub record Flushes {W : Type 0} (state : W → Device) (old new : Cutter W) : Type 0 where
   pub put : Puts state old.output new.output (canonical_dataset (subfile_dataset old.held.items))

@@ -3,7 +3,7 @@
 ghost use Rattle.std.specs.Prelude.{◌≡◌, ◌+◌, ◌-◌, ◌^◌, ◌<◌, ◌≤◌, ◌++◌, [], length, take, true, false, IfOk, IfErr, OnOk, OnErr, IfSome, IfNone, Err, vec_len, vec_capacity};
 ghost use Rattle.iim_dataset.specs.Datasets.{canonical_dataset};
 ghost use Rattle.iim_object.specs.Packing.{subfile_dataset};
-ghost use Rattle.iim_object.specs.Writing.{most_of, total_of, Lengthens, BreaksOff, GoesOnWith, IsTheWhole, Finishes, write_cause, finish_cause, is_short, writing_of, HasRoom, Flushes, Halts};
+ghost use Rattle.iim_object.specs.Writing.{most_of, total_of, Lengthens, BreaksOff, GoesOnWith, IsTheWhole, Finishes, write_cause, finish_cause, is_short, writing_of, HasRoom, MayTake, Fills, Flushes, Halts};
 ghost use Rattle.iim_object.specs.declared.cause.PackCause.TheVariants as causes;
 
 use crate::cause::PackCause;
@@ -90,12 +90,7 @@ impl<W: Target> Cutter<W> {
         requires short { vec_len self.old.held < self.old.plan.subfile }
         ensures within { result ≤ length rest.now }
         ensures some { 0 < length rest.now → 0 < result }
-        ensures held { self.new.held.items ≡ self.old.held.items ++ take result rest.now }
-        ensures len { vec_len self.new.held ≡ vec_len self.old.held + result }
-        ensures plan { self.new.plan ≡ self.old.plan }
-        ensures sent { self.new.sent ≡ self.old.sent }
-        ensures output { self.new.output ≡ self.old.output }
-        ensures failed { self.new.failed ≡ self.old.failed }
+        ensures fills { Fills self.old self.new (take result rest.now) }
         ensures room { HasRoom self.new }
     {
         let room = (self.plan.subfile - self.held.len() as u64) as usize;
@@ -107,9 +102,7 @@ impl<W: Target> Cutter<W> {
     /// Takes octets from the front, one at least, and answers how many.
     fn take_front(&mut self, rest: &[u8]) -> Result<usize, PackCause>
         requires room { HasRoom self.old }
-        requires unfailed { self.old.failed ≡ false }
-        requires some { 0 < length rest.now }
-        requires fits { total_of (writing_of self.old) + length rest.now ≤ most_of self.old.plan }
+        requires may { MayTake self.old rest.now }
         ensures room { HasRoom self.new }
         ensures within { IfOk result (λ taken. taken ≤ length rest.now) }
         ensures some { IfOk result (λ taken. 0 < taken) }

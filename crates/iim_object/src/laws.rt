@@ -6,6 +6,7 @@ ghost use Rattle.iim_object.specs.Behind.{TokensAreOfSizedDatasets, DatasetsLive
 ghost use Rattle.iim_object.specs.Records.{SizesAreDetermined};
 ghost use Rattle.iim_object.specs.Conditions.{CausesAreTheFirst, ObjectsDieForCauses};
 ghost use Rattle.iim_object.specs.Reached.{PlacesAreReached};
+ghost use Rattle.iim_object.specs.Saved.{PlacesAreLedTo, PlacesHaveOneReader, TokensLeadOnAlike};
 ghost use Rattle.iim_object.specs.Told.{ReadersTellSizes};
 ghost use Rattle.iim_object.specs.Cuts.{ObjectsAreCutOneWay};
 ghost use Rattle.iim_object.specs.Packing.{PackedObjectsHaveSizes, SubfilesAreFew};
@@ -66,6 +67,21 @@ pub fn objects_die_for_causes()
 /// An [`crate::ObjectReader`] holds numbers to which some tokens lead, and all such numbers are ones that it may hold.
 pub fn places_are_reached()
     ensures { PlacesAreReached }
+{}
+
+/// Tokens lead to the places that are possible, and to no others from which the object layer can continue.
+pub fn places_are_led_to()
+    ensures { PlacesAreLedTo }
+{}
+
+/// What stands at a place is determined by the place.
+pub fn places_have_one_reader()
+    ensures { PlacesHaveOneReader }
+{}
+
+/// From places at which one reader stands the same tokens lead on alike.
+pub fn tokens_lead_on_alike()
+    ensures { TokensLeadOnAlike }
 {}
 
 /// Wherever a reader stands after whole records, it has their sizes.

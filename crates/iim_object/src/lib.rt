@@ -10,6 +10,9 @@ mod cutter;
 mod fault;
 pub mod laws;
 mod output;
+mod place;
+#[cfg(test)]
+mod place_tests;
 mod plan;
 mod reader;
 mod sink;

@@ -1,18 +1,20 @@
 //! The reader of an object.
 
-ghost use Rattle.std.specs.Prelude.{◌≡◌, [], ◌∷◌, ℕ, List, Option, is_none, map, sum, Some, None, IsSome, IfErr, OnOk, OnErr};
+ghost use Rattle.std.specs.Prelude.{◌≡◌, ◌↔◌, [], ◌∷◌, ℕ, List, Option, is_none, length, map, sum, Some, None, IsSome, IfSome, IfErr, OnOk, OnErr};
 ghost use Rattle.std.specs.Option.{ForSome};
 ghost use Rattle.iim_dataset.specs.Datasets.{Dataset};
 ghost use Rattle.iim_object.specs.declared.state.State.{State};
-ghost use Rattle.iim_object.specs.States.{IsState};
+ghost use Rattle.iim_object.specs.States.{IsState, state_numbers};
 ghost use Rattle.iim_object.specs.Events.{ObjectOctet, ObjectEnd};
 ghost use Rattle.iim_object.specs.Objects.{ObjectEnded};
 ghost use Rattle.iim_object.specs.Places.{Place, ConfirmedAs, place_start, value_token, head_token};
 ghost use Rattle.iim_object.specs.Records.{AreRecords, HaveSizes};
 ghost use Rattle.iim_object.specs.Behind.{place_behind};
+ghost use Rattle.iim_object.specs.Saved.{IsAt, IsPossible, stated_numbers};
 ghost use Rattle.iim_object.specs.Reading.{StandsAt, GoesOn, RefusesValue, RefusesHead, RefusesRun, IsSizes, events_at};
 
 use crate::fault::ObjectFault;
+use crate::place::state_at;
 use crate::sink::ObjectSink;
 use crate::size::Sizes;
 use crate::state::{KNOWN, State, is_given};
@@ -51,6 +53,23 @@ impl ObjectReader {
     {
         let state = Some(State::new());
         ObjectReader { state }
+    }
+
+    /// The reader that stands where these numbers of record 7 have come, 7:10, 7:20, 7:90 and 7:95, then `heads` heads of
+    /// subfiles, and `taken` octets of the object. `begun` is the count of a begun subfile, and how many octets of it are still
+    /// to come. The object has not ended. None exactly where no tokens lead there.
+    pub fn at(
+        numbers: [Option<u64>; 4],
+        taken: u64,
+        begun: Option<(u64, u64)>,
+        heads: u64,
+    ) -> Option<ObjectReader>
+        ensures exactly { IsSome result ↔ ((p : Place) × IsAt numbers taken begun heads p × IsPossible p) }
+        ensures stands { IfSome result (λ reader. (p : Place) → IsAt numbers taken begun heads p → IsPossible p → StandsAt reader p) }
+        ensures takes_calls { IfSome result IsSome }
+    {
+        let state = Some(state_at(numbers, taken, begun, heads)?);
+        Some(ObjectReader { state })
     }
 
     /// Whether a call was refused.
@@ -155,6 +174,24 @@ impl ObjectReader {
         ensures { (p : Place) → StandsAt self.now p → result ≡ sum p.lengths }
     {
         self.state.unwrap().total
+    }
+
+    /// How many subfiles came. The reader has not failed.
+    pub fn subfiles(&self) -> u64
+        requires { IsSome self.now }
+        ensures place { (p : Place) → StandsAt self.now p → result ≡ length p.lengths }
+        ensures seen { (state : State) → self.now ≡ Some state → result ≡ state.subfiles }
+    {
+        self.state.unwrap().subfiles
+    }
+
+    /// The numbers of record 7 that have come: of 7:10, 7:20, 7:90 and 7:95. The reader has not failed.
+    pub fn numbers(&self) -> [Option<u64>; 4]
+        requires { IsSome self.now }
+        ensures place { (p : Place) → StandsAt self.now p → result ≡ stated_numbers p.stated }
+        ensures seen { (state : State) → self.now ≡ Some state → result ≡ state_numbers state }
+    {
+        self.state.unwrap().numbers()
     }
 
     /// What records 7 to 9 have said of the object, once its size is confirmed. The reader has not failed.

@@ -1,7 +1,8 @@
 //! What records 7 to 9 have told of an object so far.
 
-ghost use Rattle.std.specs.Prelude.{◌≡◌, ◌↔◌, ◌+◌, ◌-◌, ◌^◌, ◌<◌, IsTrue};
-ghost use Rattle.iim_object.specs.States.{TakesNumber, TakesSubfile, state_start, state_with};
+ghost use Rattle.std.specs.Prelude.{◌≡◌, ◌↔◌, ◌+◌, ◌-◌, ◌^◌, ◌<◌, ◌≤◌, IsTrue, IfSome, is_some};
+ghost use Rattle.iim_object.specs.Sizes.{mode_number};
+ghost use Rattle.iim_object.specs.States.{HasNumbers, HasSubfiles, IsState, TakesNumber, TakesSubfile, state_start, state_numbers, state_with};
 ghost use Rattle.iim_object.specs.Causes.{is_given, is_above, number_cause, bound, is_past, subfile_cause, end_cause, confirmed_cause};
 
 use crate::fault::SizeCause;
@@ -53,6 +54,16 @@ pub(crate) fn is_given(number: Option<u64>, wanted: u64) -> bool
     }
 }
 
+/// Whether a number, if it is given, lies in these bounds.
+fn is_within(number: Option<u64>, least: u64, most: u64) -> bool
+    ensures { IsTrue result ↔ IfSome number (λ n. (least ≤ n) × (n ≤ most)) }
+{
+    match number {
+        Some(number) => (least..=most).contains(&number),
+        None => true,
+    }
+}
+
 fn is_above(announced: Option<u64>, maximum: Option<u64>) -> bool
     ensures { result ≡ is_above announced maximum }
 {
@@ -84,6 +95,75 @@ impl State {
             subfiles: 0,
             total: 0,
         }
+    }
+
+    /// With these numbers of 7:10, 7:20, 7:90 and 7:95, and no subfile.
+    pub fn of_numbers(numbers: [Option<u64>; 4]) -> State
+        ensures { state_numbers result ≡ numbers }
+    {
+        let [mode, subfile, announced, maximum] = numbers;
+        State {
+            mode,
+            subfile,
+            announced,
+            maximum,
+            ..State::new()
+        }
+    }
+
+    /// The numbers of 7:10, 7:20, 7:90 and 7:95.
+    pub fn numbers(&self) -> [Option<u64>; 4]
+        ensures { result ≡ state_numbers self.now }
+    {
+        [self.mode, self.subfile, self.announced, self.maximum]
+    }
+
+    /// Whether the numbers of record 7 are ones that may have come together.
+    fn has_numbers(&self) -> bool
+        ensures { IsTrue result ↔ HasNumbers self.now }
+    {
+        is_within(self.mode, UNKNOWN, KNOWN)
+            && is_within(self.subfile, 1, GREATEST_SIZE)
+            && is_within(self.announced, 0, GREATEST_SIZE)
+            && is_within(self.maximum, 0, GREATEST_SIZE)
+            && self.number_cause().is_none()
+    }
+
+    /// Whether the mode is given, and the size is announced exactly where it is known.
+    fn is_announced_by_mode(&self) -> bool
+        ensures { result ≡ is_given self.now.mode (mode_number (is_some self.now.announced)) }
+    {
+        match self.announced {
+            Some(_) => is_given(self.mode, KNOWN),
+            None => is_given(self.mode, UNKNOWN),
+        }
+    }
+
+    /// Whether so many subfiles may have come, and hold so many octets together.
+    fn has_subfiles(&self) -> bool
+        requires { HasNumbers self.now }
+        ensures { IsTrue result ↔ HasSubfiles self.now }
+    {
+        let Some(subfile) = self.subfile else {
+            return false;
+        };
+        self.is_announced_by_mode()
+            && self.subfiles <= MAX_SUBFILES
+            && self.total <= self.subfiles.saturating_mul(subfile)
+            && self.total <= bound(self.announced, self.maximum)
+    }
+
+    /// Whether some tokens lead to it.
+    pub fn is_state(&self) -> bool
+        ensures { IsTrue result ↔ IsState self.now }
+    {
+        if !self.has_numbers() {
+            return false;
+        }
+        if self.subfiles == 0 {
+            return self.total == 0;
+        }
+        self.has_subfiles()
     }
 
     /// With the number of a dataset of record 7.

@@ -312,7 +312,7 @@ fn sizes_and_octets(rt: HostRuntime) {
         assert_eq!(rt; reader.run(octets, &mut sink), Ok(()));
     }
     assert!(rt; !reader.is_failed());
-    assert_eq!(rt; reader.total(), 14);
+    assert_eq!(rt; (reader.subfiles(), reader.total()), (2, 14));
     assert_eq!(rt; reader.head(9, 10, 4, &mut sink), Ok(()));
     assert!(rt; !reader.is_failed());
     assert_eq!(rt; reader.value(9, 10, 14), Ok(()));

@@ -1,0 +1,206 @@
+-- Where numbers are those of a possible place, and the state that stands there.
+use Rattle.std.proofs.Common.{◌≡◌, ℕ, ◌+◌, ◌-◌, ◌*◌, ◌≤◌, true, List, [], ◌∷◌, ◌++◌, length, sum, Option, Some, None, is_some, IsSome, IfSome, unwrap_or, Result, Ok, Err, IfOk, IfErr, refl, sym, ap, subst, ◌∙◌, arith, length-append}
+use Rattle.std.specs.Result.{result_ok}
+use Rattle.iim_dataset.specs.Languages.{IsAlive}
+use Rattle.iim_tables.specs.Numbers.{greatest_size}
+use Rattle.iim_object.specs.declared.state.State.{State}
+use Rattle.iim_object.specs.declared.fault.SizeCause.{SizeCause}
+use Rattle.iim_object.specs.Plans.{max_subfiles}
+use Rattle.iim_object.specs.Sizes.{mode_number}
+use Rattle.iim_object.specs.Objects.{ObjectToken, SubfileBegun, ObjectLanguage}
+use Rattle.iim_object.specs.Places.{Place, HasBoth, MayFollow, place_after, tokens_of}
+use Rattle.iim_object.specs.Causes.{is_given, bound}
+use Rattle.iim_object.specs.States.{HasNumbers, HasSubfiles, IsState, TakesSubfile, state_numbers}
+use Rattle.iim_object.specs.Reading.{Tells, StandsAt, GoesOn, Refuses}
+use Rattle.iim_object.specs.Saved.{IsAt, LastIsBegun, IsPossible, Finds, PlacesHaveOneReader, stated_numbers}
+use Rattle.iim_object.proofs.Steps.{given_is, or_less, or_less_right, under_both, sum_more, tokens_follow}
+use Rattle.iim_object.proofs.Reached.{front_lives, place_in, tells_in, stands_in, few_in, state_of}
+use Rattle.iim_object.proofs.Staying.{takes_of, may_take}
+
+-- ---- the tests of a state
+
+small : (o : Option ℕ) → IfSome o (λ n. n ≤ greatest_size) → unwrap_or o greatest_size ≤ greatest_size
+small None h = omega arith
+small (Some n) h = h
+
+pub subfiles_hold : (s : State) (subfile : ℕ) → HasNumbers s → s.subfile ≡ Some subfile → is_given s.mode (mode_number (is_some s.announced)) ≡ true
+    → s.subfiles ≤ max_subfiles → s.total ≤ s.subfiles * subfile → s.total ≤ bound s.announced s.maximum → HasSubfiles s
+subfiles_hold s subfile h largest mode few held within = record {
+  known = is_some s.announced;
+  subfile = subfile;
+  mode = given_is s.mode (mode_number (is_some s.announced)) mode;
+  largest = largest;
+  by_mode = refl;
+  few = few;
+  held = held;
+  total = omega (arith, within, small s.announced h.announced);
+  announced = or_less s.announced s.total greatest_size (unwrap_or s.maximum greatest_size) within;
+  maximum = or_less_right s.maximum s.total greatest_size (unwrap_or s.announced greatest_size) within;
+}
+
+pub subfiles_within : (s : State) → HasSubfiles s → s.total ≤ bound s.announced s.maximum
+subfiles_within s h = under_both s.announced s.maximum s.total greatest_size h.total h.announced h.maximum
+
+-- ---- a place and its state
+
+pub possible_of : (r : Option State) (p : Place) → StandsAt r p → length p.lengths ≤ max_subfiles → IsPossible p
+possible_of r p st few = record { stated = st.stated; subfiles = st.subfiles; duties = st.duties; few = few; alive = st.alive }
+
+pub stands_by : (s : State) (p : Place) → Tells s p → IsPossible p → StandsAt (Some s) p
+stands_by s p t h = record { state = s; is_state = refl; tells = t; stated = h.stated; subfiles = h.subfiles; duties = h.duties; alive = h.alive }
+
+-- the numbers, one by one
+pub tells_by : (s : State) (p : Place) → state_numbers s ≡ stated_numbers p.stated → s.subfiles ≡ length p.lengths → s.total ≡ sum p.lengths → Tells s p
+tells_by s p numbers subfiles total = record { mode = cc; largest = cc; announced = cc; maximum = cc; subfiles = subfiles; total = total }
+
+pub numbers_told : (s : State) (p : Place) → Tells s p → state_numbers s ≡ stated_numbers p.stated
+numbers_told s p t = λ i. t.mode i ∷ t.largest i ∷ t.announced i ∷ t.maximum i ∷ []
+
+pub one_state : PlacesHaveOneReader
+one_state a b p x y =
+    let s = x.tells in
+    let t = y.tells in
+    let same : x.state ≡ y.state = λ i. record {
+      mode = (s.mode ∙ sym t.mode) i;
+      subfile = (s.largest ∙ sym t.largest) i;
+      announced = (s.announced ∙ sym t.announced) i;
+      maximum = (s.maximum ∙ sym t.maximum) i;
+      subfiles = (s.subfiles ∙ sym t.subfiles) i;
+      total = (s.total ∙ sym t.total) i;
+    } in
+    x.is_state ∙ (ap (λ (s : State). Some s) same ∙ sym y.is_state)
+
+-- ---- between subfiles
+
+-- the state with so many subfiles, and octets of them
+abbrev pub with_subfiles : State → ℕ → ℕ → State
+with_subfiles s subfiles total = record s { subfiles = subfiles; total = total }
+
+is_value : (found : Option State) (s : State) → IfSome found (λ x. x ≡ s) → (x : State) → found ≡ Some x → x ≡ s
+is_value None s h x e = absurd cc
+is_value (Some y) s h x e = let same : y ≡ x = cc in sym same ∙ h
+
+pub finds_between : (n : State) (taken heads : ℕ) (found : Option State) → (IsSome found → IsState (with_subfiles n heads taken)) → (IsState (with_subfiles n heads taken) → IsSome found)
+    → IfSome found (λ x. x ≡ with_subfiles n heads taken) → Finds (IsAt (state_numbers n) taken None heads) found
+finds_between n taken heads found there back value =
+    let s : State = with_subfiles n heads taken in
+    let at : (p : Place) → IsAt (state_numbers n) taken None heads p → IsPossible p → StandsAt (Some s) p =
+    λ p is possible. stands_by s p (tells_by s p is.numbers_are is.subfiles (sym is.octets)) possible in
+    record {
+      exactly = (
+        λ some.
+            let is = there some in
+            let t = tells_in s is in
+            (place_in s, record { numbers_are = numbers_told s (place_in s) t; octets = sym t.total; subfiles = t.subfiles; not_ended = refl }, possible_of (Some s) (place_in s) (stands_in s is) (few_in s is)),
+        λ h. back (state_of s h.0 (at h.0 h.1 h.2) h.2.few),
+      );
+      stands = λ x e p is possible. subst (λ (y : State). StandsAt (Some y) p) (sym (is_value found s value x e)) (at p is possible);
+    }
+
+-- ---- within a subfile
+
+long_by : (finished : List ℕ) (count : ℕ) → length (finished ++ count ∷ []) ≡ length finished + 1
+long_by finished count = omega (arith, length-append finished (count ∷ []))
+
+-- before a begun subfile
+abbrev pub state_before : State → ℕ → ℕ → ℕ → ℕ → State
+state_before n taken count left heads = with_subfiles n (heads - 1) (taken - (count - left))
+
+abbrev pub MayHaveBegun : ℕ → ℕ → ℕ → ℕ → Type 0
+MayHaveBegun taken count left heads = (1 ≤ left) × (left ≤ count) × (1 ≤ heads) × (count ≤ taken + left)
+
+pub record Before (n : State) (taken count left heads : ℕ) (p : Place) : Type 0 where
+  pub place : Place
+  pub begun : MayHaveBegun taken count left heads
+  pub stands : StandsAt (Some (state_before n taken count left heads)) place
+  pub is_state : IsState (state_before n taken count left heads)
+  pub follows : MayFollow place (SubfileBegun count)
+  pub leads : place_after place (SubfileBegun count) ≡ p
+
+pub before : (n : State) (taken count left heads : ℕ) (p : Place) → IsAt (state_numbers n) taken (Some (count, left)) heads p → IsPossible p → Before n taken count left heads p
+before n taken count left heads p is possible =
+    let b : LastIsBegun p.lengths taken count left = is.octets in
+    let s : State = state_before n taken count left heads in
+    let q : Place = record p { lengths = b.finished } in
+    let token : ObjectToken = SubfileBegun count in
+    let long : length p.lengths ≡ length b.finished + 1 = ap length b.lengths_are ∙ long_by b.finished count in
+    let total : sum p.lengths ≡ sum b.finished + count = ap sum b.lengths_are ∙ sum_more b.finished count in
+    let leads : place_after q token ≡ p = λ i. record { stated = p.stated; lengths = sym b.lengths_are i; ending = p.ending } in
+    let both : HasBoth p.stated = possible.duties (omega (arith, long)) in
+    let follows : MayFollow q token = (is.not_ended, both, omega (arith, long, possible.few)) in
+    let tells : Tells s q = tells_by s q is.numbers_are (omega (arith, is.subfiles, long)) (omega (arith, b.octets, total, b.fits)) in
+    let all : tokens_of p ≡ tokens_of q ++ token ∷ [] = ap tokens_of (sym leads) ∙ tokens_follow q token follows in
+    let alive : IsAlive ObjectLanguage (tokens_of q) = front_lives (tokens_of q) (token ∷ []) (subst (IsAlive ObjectLanguage) all possible.alive) in
+    let few : length q.lengths ≤ max_subfiles = omega (arith, long, possible.few) in
+    let stands : StandsAt (Some s) q = stands_by s q tells (record { stated = possible.stated; subfiles = λ e. is.not_ended; duties = λ some. both; few = few; alive = alive }) in
+    record {
+      place = q;
+      begun = (b.some, b.fits, omega (arith, is.subfiles, long), omega (arith, b.octets, total));
+      stands = stands;
+      is_state = state_of s q stands few;
+      follows = follows;
+      leads = leads;
+    }
+
+finds_none : (IsOne : Place → Type 0) → ((p : Place) → IsOne p → IsPossible p → ⊥) → Finds IsOne None
+finds_none IsOne out = record { exactly = (λ some. absurd cc, λ h. absurd (out h.0 h.1 h.2)); stands = λ s e p is possible. absurd cc }
+
+pub not_begun : (n : State) (taken count left heads : ℕ) → (MayHaveBegun taken count left heads → ⊥) → Finds (IsAt (state_numbers n) taken (Some (count, left)) heads) None
+not_begun n taken count left heads out = finds_none (IsAt (state_numbers n) taken (Some (count, left)) heads) (λ p is possible. out (before n taken count left heads p is possible).begun)
+
+pub no_state_before : (n : State) (taken count left heads : ℕ) → (IsState (state_before n taken count left heads) → ⊥) → Finds (IsAt (state_numbers n) taken (Some (count, left)) heads) None
+no_state_before n taken count left heads out = finds_none (IsAt (state_numbers n) taken (Some (count, left)) heads) (λ p is possible. out (before n taken count left heads p is possible).is_state)
+
+pub no_head : (n : State) (taken count left heads : ℕ) → (TakesSubfile (state_before n taken count left heads) → ⊥) → Finds (IsAt (state_numbers n) taken (Some (count, left)) heads) None
+no_head n taken count left heads out =
+    finds_none (IsAt (state_numbers n) taken (Some (count, left)) heads)
+    (λ p is possible. let b = before n taken count left heads p is possible in out (takes_of (state_before n taken count left heads) count b.place b.stands b.follows))
+
+pub dead_head : (n : State) (taken count left heads : ℕ) (cause : SizeCause) → Refuses (Some (state_before n taken count left heads)) (SubfileBegun count) cause
+    → Finds (IsAt (state_numbers n) taken (Some (count, left)) heads) None
+dead_head n taken count left heads cause refused =
+    finds_none (IsAt (state_numbers n) taken (Some (count, left)) heads)
+    (λ p is possible.
+    let b = before n taken count left heads p is possible in
+    let all : tokens_of p ≡ tokens_of b.place ++ SubfileBegun count ∷ [] = ap tokens_of (sym b.leads) ∙ tokens_follow b.place (SubfileBegun count) b.follows in
+    (refused b.place b.stands b.follows).0.1 (subst (IsAlive ObjectLanguage) all possible.alive))
+
+some_state : (a b : State) → Some a ≡ Some b → a ≡ b
+some_state a b e = cc
+
+pub finds_within : (n : State) (taken count left heads : ℕ) (new : State) → MayHaveBegun taken count left heads → IsState (state_before n taken count left heads)
+    → TakesSubfile (state_before n taken count left heads) → GoesOn (Some (state_before n taken count left heads)) (SubfileBegun count) (Some new)
+    → Finds (IsAt (state_numbers n) taken (Some (count, left)) heads) (Some new)
+finds_within n taken count left heads new (some, fits, long, room) is takes goes =
+    let s : State = state_before n taken count left heads in
+    let t = tells_in s is in
+    let p : Place = place_in s in
+    let q : Place = place_after p (SubfileBegun count) in
+    let follows = may_take s count is takes in
+    let stands : StandsAt (Some new) q = goes p (stands_in s is) follows in
+    let heads_are : heads ≡ length q.lengths = omega (arith, t.subfiles, long, long_by p.lengths count) in
+    let octets : sum q.lengths ≡ taken + left = omega (arith, t.total, sum_more p.lengths count, fits, room) in
+    record {
+      exactly = (
+        λ found. (
+          q,
+          record {
+            numbers_are = numbers_told s p t;
+            octets = record { finished = p.lengths; lengths_are = refl; some = some; fits = fits; octets = octets };
+            subfiles = heads_are;
+            not_ended = refl;
+          },
+          possible_of (Some new) q stands (omega (arith, long_by p.lengths count, follows.2)),
+        ),
+        λ h. refl,
+      );
+      stands = λ x e r here possible.
+          let b = before n taken count left heads r here possible in
+          subst (λ (y : State). StandsAt (Some y) r) (some_state new x e) (subst (StandsAt (Some new)) b.leads (goes b.place b.stands b.follows));
+    }
+
+pub finds_after : (n : State) (taken count left heads : ℕ) (answer : Result State SizeCause) → MayHaveBegun taken count left heads → IsState (state_before n taken count left heads)
+    → TakesSubfile (state_before n taken count left heads) → IfOk answer (λ new. GoesOn (Some (state_before n taken count left heads)) (SubfileBegun count) (Some new))
+    → IfErr answer (Refuses (Some (state_before n taken count left heads)) (SubfileBegun count)) → Finds (IsAt (state_numbers n) taken (Some (count, left)) heads) (result_ok answer)
+finds_after n taken count left heads (Ok new) begun is takes goes refused = finds_within n taken count left heads new begun is takes goes
+finds_after n taken count left heads (Err cause) begun is takes goes refused = dead_head n taken count left heads cause refused
