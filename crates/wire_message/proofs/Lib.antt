@@ -8,6 +8,7 @@ pub mod Transitions
 pub mod Alive
 pub mod Stops
 pub mod Goings
+pub mod Longer
 pub mod Rests
 pub mod TextSoFar
 pub mod Held
@@ -16,5 +17,7 @@ pub mod Standing
 pub mod OnePlace
 pub mod Alike
 pub mod Reached
+pub mod Bounds
 pub mod Ended
 pub mod Headers
+pub mod Saving

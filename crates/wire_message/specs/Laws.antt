@@ -7,6 +7,7 @@ use Rattle.wire_message.specs.Canonical.{canonical}
 use Rattle.wire_message.specs.Layers.{MessageLivesWith, text_so_far, trailer_so_far, StoryLivesIn}
 use Rattle.wire_message.specs.SoFar.{IsPlace, LeadTo}
 use Rattle.wire_message.specs.Reading.{StandsAt, head_read, trailer_read}
+use Rattle.wire_message.specs.Saved.{saved}
 use Rattle.wire_message.specs.declared.place.Place.{Place}
 
 -- An object is a message in one way at most.
@@ -63,3 +64,7 @@ MessagesKeepTheirHeader = (octets more text trailer : List ℕ) (head other : He
 abbrev pub TrailersStandBetweenEtxAndEot : Type 0
 TrailersStandBetweenEtxAndEot = (object text trailer : List ℕ) (head : Header)
     → IsMessage object head text trailer → trailer_so_far object ≡ trailer
+
+-- Two places that are saved alike are one.
+abbrev pub PlacesAreSavedApart : Type 0
+PlacesAreSavedApart = (p q : Place) → IsPlace p → IsPlace q → saved p ≡ saved q → p ≡ q

@@ -4,4 +4,7 @@ pub mod Canonical
 pub mod Layers
 pub mod SoFar
 pub mod Reading
+pub mod Lengths
+pub mod Parts
+pub mod Saved
 pub mod Laws

@@ -117,3 +117,18 @@ pub record TakesSome (old : Place) (rest : List ℕ) (new : Place) (used : ℕ) 
   pub is_place : IsPlace new
   pub adds : Adds old (take used rest) new
   pub story : (text : List ℕ) → StoryStands text old → StoryStands text new
+
+-- Octets were taken: they led from one place to the next, the sink was told what they deliver, and it did not stop.
+pub record Takes {S : Type 0} (goes : S → List Event → S → Type 0) (failures : S → ℕ) (old : Place) (before : S) (octets : List ℕ)
+    (new : Place) (after : S) : Type 0 where
+  pub is_place : IsPlace new
+  pub told : Told goes before (Some old) octets (Some new) after
+  pub calm : failures after ≡ failures before
+
+-- An octet of a piece was refused: for its cause, and the sink was told what those before it deliver.
+pub record Stops {S : Type 0} (goes : S → List Event → S → Type 0) (failures : S → ℕ) (old : Place) (before : S) (piece : List ℕ)
+    (after : S) (fault : MessageFault) : Type 0 where
+  pub within : fault.taken < length piece
+  pub refused : Refuses (Some old) piece fault
+  pub told : ToldFront goes before (Some old) (take fault.taken piece) after
+  pub counted : CountsCause (failures before) (failures after) fault.cause

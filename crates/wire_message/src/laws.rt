@@ -1,6 +1,6 @@
 //! What holds of all messages, and where a reader of messages stands. The functions do nothing: their contracts are the laws.
 
-ghost use Rattle.wire_message.specs.Laws.{MessagesHaveOneReading, CanonicalObjectsAreMessages, TextsStandBetweenStxAndEtx, ReadersStandAtLivingOctets, HeadersAreToldFromStx, TrailersAreToldFromEtx, MessagesKeepTheirHeader, TrailersStandBetweenEtxAndEot, PlacesAreReached, OctetsLeadToOnePlace, OctetsLeadOnAlike};
+ghost use Rattle.wire_message.specs.Laws.{MessagesHaveOneReading, CanonicalObjectsAreMessages, TextsStandBetweenStxAndEtx, ReadersStandAtLivingOctets, HeadersAreToldFromStx, TrailersAreToldFromEtx, MessagesKeepTheirHeader, TrailersStandBetweenEtxAndEot, PlacesAreReached, OctetsLeadToOnePlace, OctetsLeadOnAlike, PlacesAreSavedApart};
 
 use wire_story::laws::{
     packed_lines_are_a_text, stories_end_as_texts, stories_live_as_texts_so_far,
@@ -71,3 +71,8 @@ pub fn octets_lead_on_alike()
     texts_end_in_no_return();
     wire_story::laws::octets_lead_on_alike();
 }
+
+/// Two places that are saved alike are one.
+pub fn places_are_saved_apart()
+    ensures { PlacesAreSavedApart }
+{}

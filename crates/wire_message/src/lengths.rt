@@ -16,3 +16,6 @@ pub(crate) const MAX_TRAILER: usize = 64;
 
 /// So many octets of filler may stand before SOH, in the gap, and after EOT.
 pub(crate) const MAX_FILLER: u8 = 32;
+
+/// A saved place has this much room for each part.
+pub(crate) const MAX_SAVED: usize = 64;

@@ -1,14 +1,20 @@
 //! The reader of a message, for any cut into pieces.
 
-ghost use Rattle.std.specs.Prelude.{◌≡◌, ◌<◌, [], List, ℕ, Option, is_none, length, take, Some, None, IsSome, IsOk, IfOk, IfErr, OnOk, OnErr};
+ghost use Rattle.std.specs.Prelude.{◌≡◌, ◌↔◌, ◌<◌, [], List, ℕ, Option, is_none, length, take, Some, None, IsSome, IsOk, IfSome, IfOk, IfErr, OnOk, OnErr};
 ghost use Rattle.wire_story.specs.Tokens.{End};
 ghost use Rattle.wire_message.specs.Layers.{MessageDiesAt};
+ghost use Rattle.wire_message.specs.Saved.{IsAt, LeadToSaved};
+ghost use Rattle.wire_message.specs.Lengths.{LeadsIn, IsOneOf, least_of, greatest_of};
 
 use crate::fault::{MessageCause, MessageFault};
 use crate::head::MessageHead;
-use crate::laws::readers_stand_at_living_octets;
+use crate::laws::{places_are_reached, places_are_saved_apart, readers_stand_at_living_octets};
 use crate::piece::take_piece;
 use crate::place::Place;
+use crate::restore::restore;
+use crate::save::save;
+use crate::saved::MessagePlace;
+use crate::span::lengths_to;
 use std::marker::Model;
 use wire_story::StorySink;
 
@@ -53,6 +59,44 @@ impl MessageReader {
         ensures { result ≡ is_none self.now }
     {
         self.place.is_none()
+    }
+
+    /// The place of the reader, of which [`MessageReader::at`] makes the reader again. The reader has not failed.
+    pub fn place(&self) -> MessagePlace
+        requires { IsSome self.now }
+        ensures { IsAt self.now result }
+    {
+        match &self.place {
+            Some(place) => save(place),
+            None => unreachable!(),
+        }
+    }
+
+    /// The reader that stands at this place, or None exactly where no octets lead there.
+    pub fn at(place: MessagePlace) -> Option<MessageReader>
+        ensures place { IfSome result (λ reader. IsAt reader place) }
+        ensures stands { IfSome result (λ reader.
+            (octets text : List ℕ) → LeadToSaved octets text place → StandsAt reader octets text) }
+        ensures exactly { IsSome result ↔ ((octets : List ℕ) × (text : List ℕ) × LeadToSaved octets text place) }
+    {
+        places_are_reached();
+        places_are_saved_apart();
+        let place = restore(&place)?;
+        Some(MessageReader { place: Some(place) })
+    }
+
+    /// How many octets lead to where the reader stands: the least and the greatest number, None where there is no greatest.
+    /// For each number between them there are octets that do. The reader has not failed.
+    pub fn lengths(&self) -> (u64, Option<u64>)
+        requires { IsSome self.now }
+        ensures exactly { (count : ℕ) → LeadsIn self.now count ↔ IsOneOf result.0 result.1 count }
+        ensures least { IfSome self.now (λ place. result.0 ≡ least_of place) }
+        ensures greatest { IfSome self.now (λ place. result.1 ≡ greatest_of place) }
+    {
+        match &self.place {
+            Some(place) => lengths_to(place),
+            None => unreachable!(),
+        }
     }
 
     /// Takes the next octets of the object, and tells the sink what is delivered of its text among them, or among those

@@ -1,7 +1,8 @@
 //! Messages read in pieces and written. What is expected is worked out from the format.
 
 use crate::{
-    MessageCause, MessageFault, MessageHead, MessageReader, head_text, is_trailer, tail_text,
+    MessageCause, MessageFault, MessageHead, MessagePart, MessagePlace, MessageReader, head_text,
+    is_trailer, tail_text,
 };
 use iim_dataset::{Stop, TrialWriter, Trouble};
 use std::alloc::Global;
@@ -375,4 +376,301 @@ fn tails_written(rt: HostRuntime) {
     assert!(rt; tail_text(&ZEROS[..65]).is_none());
     expect_tail(&rt, EMPTY, b"\x03\x04");
     expect_tail(&rt, b"a\r\n", b"\x03a\r\n\x04");
+}
+
+ghost use Rattle.std.specs.Prelude.{IsSome, IfSome};
+
+/// The reader that has taken these octets.
+fn reader_after(octets: &[u8]) -> Option<MessageReader>
+    ensures { IfSome result (λ reader. IsSome reader) }
+{
+    let mut reader = MessageReader::new();
+    match reader.feed(octets, &mut Discard) {
+        Ok(()) => Some(reader),
+        Err(_) => None,
+    }
+}
+
+/// How many octets of source, number, priority, category, words, info and trailer a place has.
+fn lengths(place: &MessagePlace) -> [usize; 7] {
+    [
+        place.source.len(),
+        place.number.len(),
+        place.priority.len(),
+        place.category.len(),
+        place.words.len(),
+        place.info.len(),
+        place.trailer.len(),
+    ]
+}
+
+/// After these octets the reader is at a place of this part, counter, flag and lengths.
+fn expect_place(
+    rt: &impl Abort,
+    octets: &[u8],
+    part: MessagePart,
+    counter: u8,
+    flag: u8,
+    lens: [usize; 7],
+) {
+    match reader_after(octets) {
+        Some(reader) => {
+            let place = reader.place();
+            assert_eq!(rt; place.part, part);
+            assert_eq!(rt; place.counter, counter);
+            assert_eq!(rt; place.flag, flag);
+            assert_eq!(rt; lengths(&place), lens);
+        }
+        None => assert!(rt; false),
+    }
+}
+
+#[test]
+fn places_in_the_header(rt: HostRuntime) {
+    let nuls = b"\0\x16".as_slice();
+    let rows = [
+        (EMPTY, MessagePart::Filler, 0, [0, 0, 0, 0, 0, 0, 0]),
+        (nuls, MessagePart::Filler, 2, [0, 0, 0, 0, 0, 0, 0]),
+        (&RATES[..4], MessagePart::Source, 0, [3, 0, 0, 0, 0, 0, 0]),
+        (&RATES[..8], MessagePart::Number, 0, [3, 4, 0, 0, 0, 0, 0]),
+        (&RATES[..9], MessagePart::Priority, 0, [3, 4, 0, 0, 0, 0, 0]),
+        (
+            &RATES[..10],
+            MessagePart::PriorityRead,
+            0,
+            [3, 4, 1, 0, 0, 0, 0],
+        ),
+        (
+            &RATES[..11],
+            MessagePart::Category,
+            0,
+            [3, 4, 1, 0, 0, 0, 0],
+        ),
+        (
+            &RATES[..14],
+            MessagePart::Category,
+            0,
+            [3, 4, 1, 3, 0, 0, 0],
+        ),
+        (&RATES[..15], MessagePart::Words, 0, [3, 4, 1, 3, 0, 0, 0]),
+        (&RATES[..16], MessagePart::Words, 0, [3, 4, 1, 3, 1, 0, 0]),
+        (&RATES[..22], MessagePart::Info, 0, [3, 4, 1, 3, 1, 5, 0]),
+    ];
+    for (octets, part, counter, lens) in rows {
+        expect_place(&rt, octets, part, counter, 0, lens);
+    }
+}
+
+#[test]
+fn places_after_the_header(rt: HostRuntime) {
+    let rows = [
+        (&RATES[..23], MessagePart::Gap, 1, 0),
+        (&RATES[..24], MessagePart::Gap, 2, 1),
+        (&RATES[..25], MessagePart::Text, 0, 0),
+        (&RATES[..37], MessagePart::Text, 0, 1),
+        (&RATES[..49], MessagePart::Trailer, 0, 0),
+        (RATES, MessagePart::AfterEnd, 0, 0),
+    ];
+    for (octets, part, counter, flag) in rows {
+        expect_place(&rt, octets, part, counter, flag, [3, 4, 1, 3, 1, 5, 0]);
+    }
+    let small = b"\x01X1 4 N 0\r\n\x02\x03end\x04\n".as_slice();
+    expect_place(
+        &rt,
+        small,
+        MessagePart::AfterEnd,
+        1,
+        0,
+        [1, 1, 1, 1, 1, 0, 3],
+    );
+}
+
+/// The reader of the story of two lines, saved and put back after so many octets.
+fn put_back_after(count: usize) -> Option<MessageReader>
+    ensures { IfSome result (λ reader. IsSome reader) }
+{
+    if count > RATES.len() {
+        return None;
+    }
+    let reader = reader_after(&RATES[..count])?;
+    let mut again = MessageReader::at(reader.place())?;
+    match again.feed(&RATES[count..], &mut Discard) {
+        Ok(()) => Some(again),
+        Err(_) => None,
+    }
+}
+
+#[test]
+fn readers_put_back_at_each_octet(rt: HostRuntime) {
+    for count in 0..=RATES.len() {
+        match put_back_after(count) {
+            Some(mut reader) => {
+                assert_eq!(rt; reader.close(), Ok(()));
+                match reader.head() {
+                    Some(head) => expect_rates(&rt, &head),
+                    None => assert!(rt; false),
+                }
+            }
+            None => assert!(rt; false),
+        }
+    }
+}
+
+/// The octets in a room of 64.
+fn saved_octets(octets: &[u8]) -> arrayvec::ArrayVec<u8, 64> {
+    let mut kept = arrayvec::ArrayVec::new();
+    let _ = kept.try_extend_from_slice(octets);
+    kept
+}
+
+/// Whether a reader can be at a place of this part, counter, flag, source, number and info, the rest as in the smallest header.
+fn may_be_at(
+    part: MessagePart,
+    counter: u8,
+    flag: u8,
+    source: &[u8],
+    number: &[u8],
+    info: &[u8],
+) -> bool {
+    let place = MessagePlace {
+        part,
+        counter,
+        flag,
+        source: saved_octets(source),
+        number: saved_octets(number),
+        priority: saved_octets(b"4"),
+        category: saved_octets(b"N"),
+        words: saved_octets(b"0"),
+        info: saved_octets(info),
+        trailer: saved_octets(EMPTY),
+    };
+    MessageReader::at(place).is_some()
+}
+
+/// Whether a reader can be at a place of this part, counter and flag, after the smallest header.
+fn may_be_after(part: MessagePart, counter: u8, flag: u8) -> bool {
+    may_be_at(part, counter, flag, b"X", b"1", EMPTY)
+}
+
+#[test]
+fn places_to_which_octets_lead(rt: HostRuntime) {
+    assert!(rt; may_be_after(MessagePart::Gap, 1, 0));
+    assert!(rt; may_be_after(MessagePart::Gap, 31, 0));
+    assert!(rt; may_be_after(MessagePart::Gap, 32, 1));
+    assert!(rt; may_be_after(MessagePart::Text, 0, 2));
+    assert!(rt; may_be_after(MessagePart::AfterEnd, 32, 0));
+    assert!(rt;
+        may_be_at(
+            MessagePart::Info,
+            0,
+            0,
+            b"ABCDEFGH",
+            &ZEROS[..8],
+            &ZEROS[..64]
+        )
+    );
+}
+
+#[test]
+fn places_to_which_no_octets_lead(rt: HostRuntime) {
+    assert!(rt; !may_be_after(MessagePart::Gap, 0, 1));
+    assert!(rt; !may_be_after(MessagePart::Gap, 32, 0));
+    assert!(rt; !may_be_after(MessagePart::Gap, 33, 1));
+    assert!(rt; !may_be_after(MessagePart::Gap, 2, 2));
+    assert!(rt; !may_be_after(MessagePart::Text, 0, 3));
+    assert!(rt; !may_be_after(MessagePart::Text, 1, 0));
+    assert!(rt; !may_be_after(MessagePart::Info, 0, 1));
+    assert!(rt; !may_be_after(MessagePart::AfterEnd, 33, 0));
+    assert!(rt; !may_be_after(MessagePart::Words, 1, 0));
+    assert!(rt; !may_be_after(MessagePart::Filler, 0, 0));
+    assert!(rt; !may_be_at(MessagePart::Words, 0, 0, b"X", b"1", b"i"));
+    assert!(rt; !may_be_at(MessagePart::Info, 0, 0, b"ABCDEFGHI", b"1", EMPTY));
+    assert!(rt; !may_be_at(MessagePart::Info, 0, 0, b"X", b"1", b"\n"));
+    assert!(rt; !may_be_at(MessagePart::Number, 0, 0, b"X", EMPTY, EMPTY));
+}
+
+/// A message of the longest header, gap, trailer and filler after it, its text two empty lines.
+fn longest_parts() -> arrayvec::ArrayVec<u8, 256> {
+    let feeds = [b'\n'; 32];
+    let mut object = arrayvec::ArrayVec::new();
+    let _ = object.try_extend_from_slice(b"\x01ABCDEFGH12345678 4 ABCDEFGH 123456 ");
+    let _ = object.try_extend_from_slice(&ZEROS[..64]);
+    let _ = object.try_extend_from_slice(&feeds);
+    let _ = object.try_extend_from_slice(b"\x02\r\r\n\x03");
+    let _ = object.try_extend_from_slice(&ZEROS[..64]);
+    let _ = object.try_extend_from_slice(b"\x04");
+    let _ = object.try_extend_from_slice(&feeds);
+    object
+}
+
+/// How many octets lead where the first `count` of these lead.
+fn lengths_after(object: &[u8], count: usize) -> Option<(u64, Option<u64>)> {
+    if count > object.len() {
+        return None;
+    }
+    let reader = reader_after(&object[..count])?;
+    Some(reader.lengths())
+}
+
+#[test]
+fn lengths_of_the_longest_parts(rt: HostRuntime) {
+    let object = longest_parts();
+    let rows = [
+        (9, 9, Some(41)),
+        (17, 17, Some(49)),
+        (18, 18, Some(50)),
+        (19, 19, Some(51)),
+        (28, 28, Some(60)),
+        (35, 35, Some(67)),
+        (100, 100, Some(132)),
+        (132, 132, Some(164)),
+        (133, 102, None),
+        (135, 104, None),
+        (136, 102, None),
+        (137, 103, None),
+        (201, 167, None),
+        (202, 168, None),
+        (234, 200, None),
+    ];
+    for (count, least, greatest) in rows {
+        assert_eq!(rt; lengths_after(&object, count), Some((least, greatest)));
+    }
+}
+
+/// Just so many octets, at least and at most, lead where these lead.
+fn expect_lengths(rt: &impl Abort, octets: &[u8], least: u64, greatest: Option<u64>) {
+    assert_eq!(rt;
+        lengths_after(octets, octets.len()),
+        Some((least, greatest))
+    );
+}
+
+#[test]
+fn lengths_of_the_shortest_parts(rt: HostRuntime) {
+    expect_lengths(&rt, EMPTY, 0, Some(0));
+    expect_lengths(&rt, &[0; 32], 32, Some(32));
+    expect_lengths(&rt, b"\x01", 1, Some(33));
+    expect_lengths(&rt, b"\0\n\r\x16\x01", 1, Some(33));
+    expect_lengths(&rt, b"\x01X1", 3, Some(35));
+    expect_lengths(&rt, b"\x01X1 ", 4, Some(36));
+    expect_lengths(&rt, b"\x01X1 4", 5, Some(37));
+    expect_lengths(&rt, b"\x01X1 4 ", 6, Some(38));
+    expect_lengths(&rt, b"\x01X1 4 N ", 8, Some(40));
+    expect_lengths(&rt, b"\x01X1 4 N 0", 9, Some(41));
+    expect_lengths(&rt, b"\x01X1 4 N 0 ", 10, Some(42));
+    expect_lengths(&rt, b"\x01X1 4 N 0 i", 11, Some(43));
+}
+
+#[test]
+fn lengths_from_the_gap_on(rt: HostRuntime) {
+    expect_lengths(&rt, b"\x01X1 4 N 0\r", 10, Some(43));
+    expect_lengths(&rt, b"\x01X1 4 N 0 \r", 10, Some(43));
+    expect_lengths(&rt, b"\x01X1 4 N 0 i\r", 12, Some(44));
+    expect_lengths(&rt, b"\x01X1 4 N 0 \r\n\x02", 11, None);
+    expect_lengths(&rt, b"\x01X1 4 N 0\r\n\x02A line.\r\n\r", 12, None);
+    expect_lengths(&rt, b"\x01X1 4 N 0 i\r\n\x02", 13, None);
+    expect_lengths(&rt, b"\x01X1 4 N 0\r\n\x02A line.\x03", 12, None);
+    expect_lengths(&rt, b"\x01X1 4 N 0\r\n\x02A line.\x03end", 15, None);
+    expect_lengths(&rt, SMALL, 13, None);
+    expect_lengths(&rt, b"\0\x01X1 4 N 0\r\n\x02\x03\x04\n", 14, None);
 }

@@ -4,7 +4,7 @@ ghost use Rattle.std.specs.Prelude.{◌≡◌, ◌<◌, ◌≤◌, ℕ, false, t
 ghost use Rattle.arrayvec.specs.ArrayVec.{ArrayVec};
 ghost use Rattle.wire_message.specs.declared.place.Place.{Place};
 ghost use Rattle.wire_message.specs.SoFar.{IsPlace};
-ghost use Rattle.wire_message.specs.Reading.{cause_of, Told, ToldFront, Refuses, CountsCause};
+ghost use Rattle.wire_message.specs.Reading.{cause_of, Takes, Stops};
 
 use crate::fault::{MessageCause, MessageFault};
 use crate::head::MessageHead;
@@ -48,20 +48,14 @@ pub(crate) fn in_text<S: StorySink>(
     requires some { 0 < length rest.now }
     ensures some { IfOk result (λ front. 0 < front.0) }
     ensures within { IfOk result (λ front. front.0 ≤ length rest.now) }
-    ensures is_place { IfOk result (λ front. front.1 ≡ false → IsPlace (Place.Text head.now text.new)) }
-    ensures told { IfOk result (λ front. front.1 ≡ false →
-        Told S.goes sink.old (Some (Place.Text head.now text.old)) (take front.0 rest.now)
-        (Some (Place.Text head.now text.new)) sink.new) }
+    ensures takes { IfOk result (λ front. front.1 ≡ false →
+        Takes S.goes S.failures (Place.Text head.now text.old) sink.old (take front.0 rest.now)
+        (Place.Text head.now text.new) sink.new) }
     ensures ended { IfOk result (λ front. front.1 ≡ true → (trailer : ArrayVec ℕ) → trailer.items ≡ [] →
-        Told S.goes sink.old (Some (Place.Text head.now text.old)) (take front.0 rest.now)
-        (Some (Place.Trailer head.now trailer)) sink.new) }
-    ensures calm { OnOk result (S.failures sink.new ≡ S.failures sink.old) }
-    ensures before { IfErr result (λ fault. fault.taken < length rest.now) }
-    ensures refused { IfErr result (Refuses (Some (Place.Text head.now text.old)) rest.now) }
-    ensures told_front { IfErr result (λ fault.
-        ToldFront S.goes sink.old (Some (Place.Text head.now text.old)) (take fault.taken rest.now) sink.new) }
-    ensures counted { IfErr result (λ fault.
-        CountsCause (S.failures sink.old) (S.failures sink.new) fault.cause) }
+        Takes S.goes S.failures (Place.Text head.now text.old) sink.old (take front.0 rest.now)
+        (Place.Trailer head.now trailer) sink.new) }
+    ensures stops { IfErr result (
+        Stops S.goes S.failures (Place.Text head.now text.old) sink.old rest.now sink.new) }
 {
     let _ = head;
     stories_live_as_texts_so_far();

@@ -1,21 +1,21 @@
-use Rattle.std.proofs.Common.{◌≡◌, take, Some, sym, subst, ◌∙◌}
-use Rattle.wire_story.specs.declared.reader.TextReader.{TextReader}
-use Rattle.wire_message.specs.Messages.{Header}
-use Rattle.wire_message.specs.Reading.{Told, Refuses}
+use Rattle.std.proofs.Common.{[], take, refl, sym, subst}
+use Rattle.wire_message.specs.Reading.{Takes, Stops}
 use Rattle.wire_message.specs.declared.place.Place.{Place}
-use Rattle.wire_message.specs.declared.place.Place.TheVariants.{Text, Trailer}
+use Rattle.wire_message.specs.declared.place.Place.TheVariants.{Text}
+use Rattle.wire_message.proofs.Machine.{of}
 use Rattle.wire_message.proofs.piece.take_front.Goals as goal
 
-same_head : (h k : Header) (r s : TextReader) → ◌≡◌ {A = Place} (Text h r) (Text k s) → k ≡ h
-same_head h k r s e = cc
-
-pub returns-in-Text-replace-clause-told : goal.returns-in-Text-replace-clause-told
-returns-in-Text-replace-clause-told g c =
+pub returns-then-ended-clause-takes : goal.returns-then-ended-clause-takes
+returns-then-ended-clause-takes g c =
     let front = take c.in-Ok.used c.args.rest.now in
-    let trailer = c.new.result in
-    subst (λ (p : Place). Told g.S.StorySink.goes c.args.sink.now (Some p) front (Some (Trailer c.in-Text-replace.head trailer)) c.in_text.new.sink) (sym c.in-Text.is)
-    (subst (λ (h : Header). Told g.S.StorySink.goes c.args.sink.now (Some (Text c.in-Text.head c.in-Text.text)) front (Some (Trailer h trailer)) c.in_text.new.sink)
-    (sym (same_head _ _ _ _ (sym c.replace.ensures.value ∙ c.in-Text-replace.is))) (c.in-Ok.ensures.ended c.if-ended.true trailer c.new.ensures))
+    let old : Place = Text c.in-Text.head c.in-Text.text in
+    let goes = g.S.StorySink.goes in
+    let failures = g.S.StorySink.failures in
+    let sink = c.args.sink.now in
+    subst (λ (p : Place). Takes goes failures p sink front c.begin_trailer.new.place c.in_text.new.sink) (sym c.in-Text.is)
+    (subst (λ (q : Place). Takes goes failures old sink front q c.in_text.new.sink) (sym (c.begin_trailer.ensures _ _ refl))
+    (c.in-Ok.ensures.ended c.if-ended.true (of []) refl))
 
-pub returns-in-Err-clause-refused : goal.returns-in-Err-clause-refused
-returns-in-Err-clause-refused g c = subst (λ (p : Place). Refuses (Some p) c.args.rest.now c.in-Err.fault) (sym c.in-Text.is) c.in-Err.ensures.refused
+pub returns-in-Err-clause-stops : goal.returns-in-Err-clause-stops
+returns-in-Err-clause-stops g c =
+    subst (λ (p : Place). Stops g.S.StorySink.goes g.S.StorySink.failures p c.args.sink.now c.args.rest.now c.in_text.new.sink c.in-Err.fault) (sym c.in-Text.is) c.in-Err.ensures.stops

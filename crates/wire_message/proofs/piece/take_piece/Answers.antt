@@ -12,13 +12,13 @@ loop-at-preserved g c =
     let piece = c.args.piece.now in
     let at = c.loop-at.at in
     let i = c.loop-at.invariant in
-    let h = c.in-Ok.ensures in
+    let h = c.in-Ok.ensures.takes in
     let k = c.in-Ok.used in
     let m = i.told.0 in
     let n = h.told.0 in
     record {
       is_place = h.is_place;
-      within = omega (arith, h.within, length-rest piece at);
+      within = omega (arith, c.in-Ok.ensures.within, length-rest piece at);
       told = (
         m ++ n,
         subst (λ (es : List Event). g.S.StorySink.goes c.args.sink.now es c.take_front.new.sink) (delivered_both m n)
@@ -29,30 +29,35 @@ loop-at-preserved g c =
       calm = h.calm ∙ i.calm;
     }
 
-pub returns-in-Err-clause-before : goal.returns-in-Err-clause-before
-returns-in-Err-clause-before g c = omega (arith, c.in-Err.ensures.before, length-rest c.args.piece.now c.loop-at.at)
+pub returns-in-Err-clause-stops : goal.returns-in-Err-clause-stops
+returns-in-Err-clause-stops g c =
+    let place = c.args.place.now in
+    let sink = c.args.sink.now in
+    let piece = c.args.piece.now in
+    let at = c.loop-at.at in
+    let fault = c.in-Err.fault in
+    let i = c.loop-at.invariant in
+    let h = c.in-Err.ensures.stops in
+    record {
+      within = omega (arith, h.within, length-rest piece at);
+      refused = refuses_front (Some place) (Some c.loop-at.place) piece at fault.taken i.told.0 fault.cause i.told.2 h.refused;
+      told = (
+        i.told.0 ++ h.told.0,
+        subst (λ (es : List Event). g.S.StorySink.goes sink es c.take_front.new.sink) (delivered_both i.told.0 h.told.0)
+            (g.met.S.StorySink.joined sink c.loop-at.sink c.take_front.new.sink _ _ i.told.1 h.told.1),
+        somewhere_front (Some place) (Some c.loop-at.place) piece at fault.taken i.told.0 h.told.0 i.told.2 h.told.2,
+      );
+      counted = subst (λ (n : ℕ). CountsCause n (g.S.StorySink.failures c.take_front.new.sink) fault.cause) i.calm h.counted;
+    }
 
-pub returns-in-Err-clause-refused : goal.returns-in-Err-clause-refused
-returns-in-Err-clause-refused g c =
-    refuses_front (Some c.args.place.now) (Some c.loop-at.place) c.args.piece.now c.loop-at.at c.in-Err.fault.taken c.loop-at.invariant.told.0 c.in-Err.fault.cause c.loop-at.invariant.told.2 c.in-Err.ensures.refused
-
-pub returns-in-Err-clause-told_front : goal.returns-in-Err-clause-told_front
-returns-in-Err-clause-told_front g c =
-    let i = c.loop-at.invariant.told in
-    let h = c.in-Err.ensures.told_front in (
-      i.0 ++ h.0,
-      subst (λ (es : List Event). g.S.StorySink.goes c.args.sink.now es c.take_front.new.sink) (delivered_both i.0 h.0)
-          (g.met.S.StorySink.joined c.args.sink.now c.loop-at.sink c.take_front.new.sink _ _ i.1 h.1),
-      somewhere_front (Some c.args.place.now) (Some c.loop-at.place) c.args.piece.now c.loop-at.at c.in-Err.fault.taken i.0 h.0 i.2 h.2,
-    )
-
-pub returns-in-Err-clause-counted : goal.returns-in-Err-clause-counted
-returns-in-Err-clause-counted g c =
-    subst (λ (n : ℕ). CountsCause n (g.S.StorySink.failures c.take_front.new.sink) c.in-Err.fault.cause) c.loop-at.invariant.calm c.in-Err.ensures.counted
-
-pub returns-clause-told : goal.returns-clause-told
-returns-clause-told g c =
-    subst (λ (xs : List ℕ). Told g.S.StorySink.goes c.args.sink.now (Some c.args.place.now) xs (Some c.loop-at.place) c.loop-at.sink) (take_all c.loop-at.at c.args.piece.now (omega arith)) c.loop-at.invariant.told
+pub returns-clause-takes : goal.returns-clause-takes
+returns-clause-takes g c =
+    let i = c.loop-at.invariant in
+    record {
+      is_place = i.is_place;
+      told = subst (λ (xs : List ℕ). Told g.S.StorySink.goes c.args.sink.now (Some c.args.place.now) xs (Some c.loop-at.place) c.loop-at.sink) (take_all c.loop-at.at c.args.piece.now (omega arith)) i.told;
+      calm = i.calm;
+    }
 
 pub loop-at-init : goal.loop-at-init
 loop-at-init g c = record {

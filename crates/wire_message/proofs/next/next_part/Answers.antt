@@ -1,0 +1,46 @@
+use Rattle.std.proofs.Common.{slice_index, sym, subst}
+use Rattle.std.specs.Prelude.{IfNone}
+use Rattle.wire_message.specs.Reading.{DiesWith}
+use Rattle.wire_message.specs.declared.place.Place.{Place}
+use Rattle.wire_message.specs.declared.place.Place.TheVariants.{AfterEnd}
+use Rattle.wire_message.specs.Parts.{EndsPart}
+use Rattle.wire_message.specs.SoFar.{IsPlace}
+use Rattle.wire_message.proofs.Stops.{dies, end_stops}
+use Rattle.wire_message.proofs.next.next_part.Goals as goal
+
+pub returns-in-Filler-clause-dies : goal.returns-in-Filler-clause-dies
+returns-in-Filler-clause-dies c = subst (λ (p : Place). IfNone c.after_filler.result (DiesWith p (slice_index c.args.rest.now 0))) (sym c.in-Filler.is) c.after_filler.ensures.dies
+
+pub returns-in-Source-clause-dies : goal.returns-in-Source-clause-dies
+returns-in-Source-clause-dies c = subst (λ (p : Place). IfNone c.after_source.result (DiesWith p (slice_index c.args.rest.now 0))) (sym c.in-Source.is) c.after_source.ensures.dies
+
+pub returns-in-Number-clause-dies : goal.returns-in-Number-clause-dies
+returns-in-Number-clause-dies c = subst (λ (p : Place). IfNone c.after_number.result (DiesWith p (slice_index c.args.rest.now 0))) (sym c.in-Number.is) c.after_number.ensures.dies
+
+pub returns-in-Priority-clause-dies : goal.returns-in-Priority-clause-dies
+returns-in-Priority-clause-dies c = subst (λ (p : Place). IfNone c.in_priority.result (DiesWith p (slice_index c.args.rest.now 0))) (sym c.in-Priority.is) c.in_priority.ensures.dies
+
+pub returns-in-PriorityRead-clause-dies : goal.returns-in-PriorityRead-clause-dies
+returns-in-PriorityRead-clause-dies c = subst (λ (p : Place). IfNone c.after_priority.result (DiesWith p (slice_index c.args.rest.now 0))) (sym c.in-PriorityRead.is) c.after_priority.ensures.dies
+
+pub returns-in-Category-clause-dies : goal.returns-in-Category-clause-dies
+returns-in-Category-clause-dies c = subst (λ (p : Place). IfNone c.after_category.result (DiesWith p (slice_index c.args.rest.now 0))) (sym c.in-Category.is) c.after_category.ensures.dies
+
+pub returns-in-Words-clause-dies : goal.returns-in-Words-clause-dies
+returns-in-Words-clause-dies c = subst (λ (p : Place). IfNone c.after_words.result (DiesWith p (slice_index c.args.rest.now 0))) (sym c.in-Words.is) c.after_words.ensures.dies
+
+pub returns-in-Info-clause-dies : goal.returns-in-Info-clause-dies
+returns-in-Info-clause-dies c = subst (λ (p : Place). IfNone c.after_info.result (DiesWith p (slice_index c.args.rest.now 0))) (sym c.in-Info.is) c.after_info.ensures.dies
+
+pub returns-in-Gap-clause-dies : goal.returns-in-Gap-clause-dies
+returns-in-Gap-clause-dies c = subst (λ (p : Place). IfNone c.after_gap.result (DiesWith p (slice_index c.args.rest.now 0))) (sym c.in-Gap.is) c.after_gap.ensures.dies
+
+pub returns-in-Trailer-clause-dies : goal.returns-in-Trailer-clause-dies
+returns-in-Trailer-clause-dies c = subst (λ (p : Place). IfNone c.after_trailer.result (DiesWith p (slice_index c.args.rest.now 0))) (sym c.in-Trailer.is) c.after_trailer.ensures.dies
+
+pub returns-in-AfterEnd-clause-dies : goal.returns-in-AfterEnd-clause-dies
+returns-in-AfterEnd-clause-dies c =
+    let octet = slice_index c.args.rest.now 0 in
+    let end = c.in-AfterEnd in
+    subst (λ (p : Place). DiesWith p octet) (sym end.is)
+    (dies (AfterEnd end.head end.trailer end.count) octet (subst IsPlace end.is c.requires.place) (end_stops end.head end.trailer end.count octet (subst (λ (p : Place). EndsPart p octet) end.is c.requires.ends)))

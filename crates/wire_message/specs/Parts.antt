@@ -1,0 +1,35 @@
+-- How the part that is being read gets longer, and what ends it.
+use Rattle.std.specs.Prelude.{◌≡◌, ℕ, ◌+◌, ◌<◌, ◌&&◌, ◌||◌, ◌==◌, nat_lt, Bool, false, List, [], length, slice_index}
+use Rattle.wire_story.specs.declared.reader.TextReader.{TextReader}
+use Rattle.wire_message.specs.Fields.{is_digit, is_letter, is_alphanumeric, is_info_octet, is_trailer_octet, is_filler_octet}
+use Rattle.wire_message.specs.Messages.{Header}
+use Rattle.wire_message.specs.Reading.{TakesSome}
+use Rattle.wire_message.specs.declared.place.Place.{Place}
+use Rattle.wire_message.specs.declared.place.Place.TheVariants.{Filler, Source, Number, Category, Words, Info, Gap, Text, Trailer, AfterEnd}
+
+-- The octet lengthens a gap of so many octets, an LF among them or not, so that STX can still come.
+abbrev pub lengthens_gap : ℕ → Bool → ℕ → Bool
+lengthens_gap count feed octet = is_filler_octet octet && nat_lt count 32 && (feed || octet == 10 || nat_lt (count + 1) 32)
+
+-- The octet does not lengthen the part that is being read: it is none of that part's octets, or the part is full.
+abbrev pub EndsPart : Place → ℕ → Type 0
+EndsPart (Filler count) octet = (is_filler_octet octet && nat_lt count 32) ≡ false
+EndsPart (Source s) octet = length s.items < 8 → is_letter octet ≡ false
+EndsPart (Number s n) octet = length n.items < 8 → is_digit octet ≡ false
+EndsPart (Category s n p c) octet = length c.items < 8 → is_alphanumeric octet ≡ false
+EndsPart (Words s n p c w) octet = length w.items < 6 → is_digit octet ≡ false
+EndsPart (Info h) octet = length h.info < 64 → is_info_octet octet ≡ false
+EndsPart (Gap h count feed) octet = lengthens_gap count feed octet ≡ false
+EndsPart (Trailer h t) octet = length t.items < 64 → is_trailer_octet octet ≡ false
+EndsPart (AfterEnd h t count) octet = (is_filler_octet octet && nat_lt count 32) ≡ false
+EndsPart _ octet = Unit {0}
+
+-- The part that is being read took so many octets: some, or none and then the first octet ends it.
+pub record Lengthens (old : Place) (rest : List ℕ) (new : Place) (used : ℕ) : Type 0 where
+  pub takes : 0 < used → TakesSome old rest new used
+  pub same : used ≡ 0 → new ≡ old
+  pub ends : used ≡ 0 → EndsPart old (slice_index rest 0)
+
+-- After the text of a header there is its trailer, of which no octet has come.
+abbrev pub BeginsTrailer : Place → Place → Type 0
+BeginsTrailer old new = (head : Header) (text : TextReader) → old ≡ Text head text → new ≡ Trailer head (record { items = [] })

@@ -1,0 +1,86 @@
+//! How a part gets longer where it lies: by its longest run, or by one octet of filler.
+
+ghost use Rattle.std.specs.Prelude.{◌≡◌, ◌<◌, ◌≤◌, ◌+◌, ◌&&◌, ◌||◌, ◌==◌, nat_lt, true, false, length};
+ghost use Rattle.wire_message.specs.Fields.{is_filler_octet};
+ghost use Rattle.wire_message.specs.SoFar.{IsPlace};
+ghost use Rattle.wire_message.specs.Parts.{Lengthens, lengthens_gap};
+
+use crate::class::{Class, is_in};
+use crate::field::take_run;
+use crate::lengths::MAX_FILLER;
+use crate::octets::LF;
+use crate::place::Place;
+
+/// Whether an octet lengthens so much filler.
+#[inline(always)]
+fn fills(count: u8, octet: u8) -> bool
+    ensures { result ≡ (is_filler_octet octet && nat_lt count 32) }
+{
+    is_in(Class::Filler, octet) && count < MAX_FILLER
+}
+
+/// Counts an octet that lengthens so much filler, and answers how many it counted.
+#[inline(always)]
+fn lengthen_filler(count: &mut u8, octet: u8) -> usize
+    ensures one { result ≤ 1 }
+    ensures some { result ≡ 1 → (is_filler_octet octet && nat_lt count.old 32) ≡ true }
+    ensures none { result ≡ 0 → (is_filler_octet octet && nat_lt count.old 32) ≡ false }
+    ensures counted { count.new ≡ count.old + result }
+{
+    if !fills(*count, octet) {
+        return 0;
+    }
+    *count += 1;
+    1
+}
+
+/// Whether an octet lengthens a gap of so many octets, an LF among them or not, so that STX can still come.
+#[inline(always)]
+fn gap_goes_on(count: u8, feed: bool, octet: u8) -> bool
+    ensures { result ≡ lengthens_gap count feed octet }
+{
+    fills(count, octet) && (feed || octet == LF || count < MAX_FILLER - 1)
+}
+
+/// Counts an octet that lengthens a gap, keeps whether an LF has come, and answers how many it counted.
+#[inline(always)]
+fn lengthen_gap(count: &mut u8, feed: &mut bool, octet: u8) -> usize
+    ensures one { result ≤ 1 }
+    ensures some { result ≡ 1 → lengthens_gap count.old feed.old octet ≡ true }
+    ensures none { result ≡ 0 → lengthens_gap count.old feed.old octet ≡ false }
+    ensures counted { count.new ≡ count.old + result }
+    ensures feed { result ≡ 1 → feed.new ≡ (feed.old || octet == 10) }
+    ensures same { result ≡ 0 → feed.new ≡ feed.old }
+{
+    if !gap_goes_on(*count, *feed, octet) {
+        return 0;
+    }
+    *count += 1;
+    *feed = *feed || octet == LF;
+    1
+}
+
+/// Lengthens the part that is being read by the octets of it that follow, and answers how many.
+#[inline(always)]
+pub(crate) fn lengthen(place: &mut Place, rest: &[u8]) -> usize
+    requires place { IsPlace place.old }
+    requires some { 0 < length rest.now }
+    ensures { Lengthens place.old rest.now place.new result }
+{
+    match place {
+        Place::Filler { count } => lengthen_filler(count, rest[0]),
+        Place::Source { source } => take_run(source, Class::Letter, rest),
+        Place::Number { number, .. } => take_run(number, Class::Digit, rest),
+        Place::Category { category, .. } => take_run(category, Class::Alphanumeric, rest),
+        Place::Words { words, .. } => take_run(words, Class::Digit, rest),
+        Place::Info { head } => head.take_info(rest),
+        Place::Gap {
+            count,
+            has_feed,
+            ..
+        } => lengthen_gap(count, has_feed, rest[0]),
+        Place::Trailer { trailer, .. } => take_run(trailer, Class::Trailer, rest),
+        Place::AfterEnd { count, .. } => lengthen_filler(count, rest[0]),
+        _ => 0,
+    }
+}

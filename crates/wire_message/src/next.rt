@@ -1,0 +1,93 @@
+//! The step from one part of a message to the next.
+
+ghost use Rattle.std.specs.Prelude.{◌<◌, ◌≡◌, true, false, length, slice_index, IfSome, IfNone};
+ghost use Rattle.wire_message.specs.SoFar.{IsPlace};
+ghost use Rattle.wire_message.specs.Parts.{EndsPart, BeginsTrailer};
+ghost use Rattle.wire_message.specs.Reading.{DiesWith, TakesSome, IsNoText};
+
+use crate::place::Place;
+use crate::step::{
+    after_category, after_filler, after_number, after_priority, after_source, after_words,
+    in_priority,
+};
+use crate::tail::{after_gap, after_info, after_trailer};
+use arrayvec::ArrayVec;
+use std::mem;
+
+/// The place after an octet that does not lengthen the part that is being read, or None where it dies.
+fn next_part(place: Place, rest: &[u8]) -> Option<Place>
+    requires place { IsPlace place }
+    requires outside { IsNoText place }
+    requires some { 0 < length rest.now }
+    requires ends { EndsPart place (slice_index rest.now 0) }
+    ensures takes { IfSome result (λ next. TakesSome place rest.now next 1) }
+    ensures dies { IfNone result (DiesWith place (slice_index rest.now 0)) }
+{
+    match place {
+        Place::Filler { count } => after_filler(count, rest),
+        Place::Source { source } => after_source(source, rest),
+        Place::Number { source, number } => after_number(source, number, rest),
+        Place::Priority { source, number } => in_priority(source, number, rest),
+        Place::PriorityRead {
+            source,
+            number,
+            priority,
+        } => after_priority(source, number, priority, rest),
+        Place::Category {
+            source,
+            number,
+            priority,
+            category,
+        } => after_category(source, number, priority, category, rest),
+        Place::Words {
+            source,
+            number,
+            priority,
+            category,
+            words,
+        } => after_words(source, number, priority, category, words, rest),
+        Place::Info { head } => after_info(head, rest),
+        Place::Gap {
+            head,
+            count,
+            has_feed,
+        } => after_gap(head, count, has_feed, rest),
+        Place::Text { .. } => unreachable!(),
+        Place::Trailer { head, trailer } => after_trailer(head, trailer, rest),
+        Place::AfterEnd { .. } => None,
+    }
+}
+
+/// Takes an octet that does not lengthen the part that is being read, and answers whether it begins the next part.
+#[inline(never)]
+pub(crate) fn begin_next(place: &mut Place, rest: &[u8]) -> bool
+    requires place { IsPlace place.old }
+    requires outside { IsNoText place.old }
+    requires some { 0 < length rest.now }
+    requires ends { EndsPart place.old (slice_index rest.now 0) }
+    ensures takes { result ≡ true → TakesSome place.old rest.now place.new 1 }
+    ensures dies { result ≡ false → DiesWith place.old (slice_index rest.now 0) }
+{
+    let old = mem::replace(place, Place::Filler { count: 0 });
+    match next_part(old, rest) {
+        Some(next) => {
+            *place = next;
+            true
+        }
+        None => false,
+    }
+}
+
+/// Ends the text, and begins the trailer.
+#[inline(never)]
+pub(crate) fn begin_trailer(place: &mut Place)
+    ensures { BeginsTrailer place.old place.new }
+{
+    let old = mem::replace(place, Place::Filler { count: 0 });
+    if let Place::Text { head, .. } = old {
+        *place = Place::Trailer {
+            head,
+            trailer: ArrayVec::new(),
+        };
+    }
+}

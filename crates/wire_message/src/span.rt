@@ -1,0 +1,110 @@
+//! How many octets lead to a place.
+
+ghost use Rattle.std.specs.Prelude.{◌≡◌, ◌≤◌, ◌+◌, Some, None, length};
+ghost use Rattle.wire_message.specs.Canonical.{packed_info};
+ghost use Rattle.wire_message.specs.SoFar.{IsPlace};
+ghost use Rattle.wire_message.specs.Lengths.{fixed_octets, least_head, least_of, greatest_of};
+
+use crate::head::MessageHead;
+use crate::lengths::MAX_FILLER;
+use crate::place::Place;
+
+/// From SOH on so many octets, and filler before them or none.
+fn after_filler(octets: usize) -> (u64, Option<u64>)
+    requires { octets ≤ 256 }
+    ensures least { result.0 ≡ octets }
+    ensures greatest { result.1 ≡ Some (32 + octets) }
+{
+    let octets = octets as u64;
+    (octets, Some(u64::from(MAX_FILLER) + octets))
+}
+
+/// From SOH on so many octets at least, a text of any length among them.
+fn with_text(octets: usize) -> (u64, Option<u64>)
+    ensures least { result.0 ≡ octets }
+    ensures greatest { result.1 ≡ None }
+{
+    (octets as u64, None)
+}
+
+/// SOH and the parts up to the words, with the SP between them.
+fn fixed_len(head: &MessageHead) -> usize
+    ensures sum { result ≡ fixed_octets head.now }
+    ensures within { result ≤ 35 }
+{
+    let numbered = head.source().len() + head.number().len();
+    4 + numbered + head.priority().len() + head.category().len() + head.words().len()
+}
+
+/// The SP and the info, or nothing for an empty info.
+fn info_len(head: &MessageHead) -> usize
+    ensures least { result ≡ length (packed_info head.now.info) }
+    ensures within { result ≤ 65 }
+{
+    let info = head.info();
+    if info.is_empty() { 0 } else { 1 + info.len() }
+}
+
+/// SOH to STX, with LF alone as the gap.
+fn head_len(head: &MessageHead) -> usize
+    ensures least { result ≡ least_head head.now }
+    ensures within { result ≤ 102 }
+{
+    fixed_len(head) + info_len(head) + 2
+}
+
+/// The header, and so many octets of the gap.
+fn in_gap(head: &MessageHead, count: u8) -> (u64, Option<u64>)
+    requires { count ≤ 32 }
+    ensures least { result.0 ≡ fixed_octets head.now + length (packed_info head.now.info) + count }
+    ensures greatest { result.1 ≡ Some (32 + (fixed_octets head.now + 1 + length head.now.info + count)) }
+{
+    let others = fixed_len(head) + usize::from(count);
+    let (least, _) = after_filler(others + info_len(head));
+    let (_, greatest) = after_filler(others + 1 + head.info().len());
+    (least, greatest)
+}
+
+/// The least number of octets that lead to a place, and the greatest where there is one.
+pub(crate) fn lengths_to(place: &Place) -> (u64, Option<u64>)
+    requires { IsPlace place.now }
+    ensures least { result.0 ≡ least_of place.now }
+    ensures greatest { result.1 ≡ greatest_of place.now }
+{
+    match place {
+        Place::Filler { count } => (u64::from(*count), Some(u64::from(*count))),
+        Place::Source { source } => after_filler(1 + source.len()),
+        Place::Number { source, number } => after_filler(1 + source.len() + number.len()),
+        Place::Priority { source, number } => after_filler(2 + source.len() + number.len()),
+        Place::PriorityRead {
+            source,
+            number,
+            priority,
+        } => after_filler(2 + source.len() + number.len() + priority.len()),
+        Place::Category {
+            source,
+            number,
+            priority,
+            category,
+        } => after_filler(3 + source.len() + number.len() + priority.len() + category.len()),
+        Place::Words {
+            source,
+            number,
+            priority,
+            category,
+            words,
+        } => {
+            let parts = source.len() + number.len() + priority.len() + category.len();
+            after_filler(4 + parts + words.len())
+        }
+        Place::Info { head } => after_filler(fixed_len(head) + 1 + head.info().len()),
+        Place::Gap { head, count, .. } => in_gap(head, *count),
+        Place::Text { head, text } => with_text(head_len(head) + usize::from(text.held())),
+        Place::Trailer { head, trailer } => with_text(head_len(head) + 1 + trailer.len()),
+        Place::AfterEnd {
+            head,
+            trailer,
+            count,
+        } => with_text(head_len(head) + 2 + trailer.len() + usize::from(*count)),
+    }
+}
