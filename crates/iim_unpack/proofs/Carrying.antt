@@ -1,16 +1,16 @@
 -- Where heads, data and ends of datasets lead the parts of an unpacker.
-use Rattle.std.proofs.Common.{◌≡◌, ℕ, ◌-◌, ◌≤◌, Bool, true, false, cond, if◌then◌else◌, nat_eq, List, [], ◌∷◌, ◌++◌, length, map, flat_map, Option, Some, None, refl, ap, sym, subst, ◌∙◌, inl, inr, arith, append_assoc, append-nil, length-append}
+use Rattle.std.proofs.Common.{◌≡◌, ℕ, Bool, true, false, cond, if◌then◌else◌, nat_eq, List, [], ◌∷◌, ◌++◌, map, Option, Some, None, refl, ap, sym, subst, ◌∙◌, inl, inr, arith, append_assoc, append-nil}
 use Rattle.std.proofs.lemmas.Bool.{eqb-true}
 use Rattle.std.proofs.lemmas.Bool.Decides.{eqb_tells}
 use Rattle.iim_dataset.specs.Octets.{Octets}
 use Rattle.iim_dataset.specs.Datasets.{Dataset}
 use Rattle.iim_dataset.specs.Splits.{Begun, InTag, InData}
-use Rattle.iim_dataset.specs.Events.{Event, HeadRead, DataOctet, events_of, handed_on}
+use Rattle.iim_dataset.specs.Events.{Event, DataOctet, handed_on}
 use Rattle.iim_dataset.specs.Languages as languages
 use Rattle.iim_dataset.specs.declared.head.Head.{Head}
 use Rattle.iim_fields.specs.Checks.{begun_head}
 use Rattle.iim_fields.specs.Standing as records
-use Rattle.iim_fields.specs.Standing.{IsBetween, IsInside, IsWithin, limits_of}
+use Rattle.iim_fields.specs.Standing.{IsBetween, begun_head_of, limits_of}
 use Rattle.iim_fields.specs.declared.limits.Limits.{Limits}
 use Rattle.iim_fields.specs.Standing.{FieldsPlace}
 use Rattle.iim_object.specs.Events as object_events
@@ -29,26 +29,17 @@ use Rattle.iim_unpack.specs.Tokens.{GoOn, GoOnAt}
 use Rattle.iim_unpack.specs.Passed.{Passed, Halted}
 use Rattle.iim_unpack.specs.Passing.{octets_in-octets}
 use Rattle.iim_unpack.specs.Refusals.{message_on, cause_of_message}
-use Rattle.iim_unpack.specs.Parts.{object_so_far, section, AllGoOn, Behind, Within, StandsFor, Led, TakesData, Went, CountsFor, Stopped}
+use Rattle.iim_unpack.specs.Parts.{object_so_far, section, AllGoOn, Behind, Within, StandsFor, Led, Went, CountsFor, Stopped}
 use Rattle.iim_unpack.specs.declared.parts.Parts.{Parts}
 use Rattle.iim_unpack.specs.LowerLaws.{MessageLaws}
 use Rattle.iim_unpack.proofs.Lasts.{not_all}
+use Rattle.iim_unpack.proofs.Sequences.{data_more}
 
 -- ---- lists
 
 octets_join : (xs ys : List ℕ) → Octets xs → Octets ys → Octets (xs ++ ys)
 octets_join [] ys h k = k
 octets_join (x ∷ xs) ys h k = (h.0, octets_join xs ys h.1 k)
-
-map-octets : (xs ys : List ℕ) → map DataOctet (xs ++ ys) ≡ map DataOctet xs ++ map DataOctet ys
-map-octets [] ys = refl
-map-octets (x ∷ xs) ys = ap (λ es. DataOctet x ∷ es) (map-octets xs ys)
-
--- the events of a begun dataset, and some octets more
-pub data_more : (ds : List Dataset) (h : Head) (taken run : List ℕ) → handed_on ds (InData h taken) ++ map DataOctet run ≡ handed_on ds (InData h (taken ++ run))
-data_more ds h taken run =
-    append_assoc (flat_map events_of ds) (HeadRead h ∷ map DataOctet taken) (map DataOctet run)
-    ∙ ap (λ (es : List Event). flat_map events_of ds ++ (HeadRead h ∷ es)) (sym (map-octets taken run))
 
 -- ---- the reader of the message
 
@@ -76,14 +67,18 @@ pub record BehindAll (p : Parts) (events : List Event) (text : List ℕ) : Type 
   pub told : events ≡ handed_on ds (InTag held)
   pub is_text : text ≡ text_so_far (object_of ds)
 
-not_both : (c : FieldsPlace) (h : Head) (n : ℕ) → IsBetween c → IsInside c h n → ⊥
-not_both c h n between inside = let bad : None ≡ Some h = sym (ap begun_head between.between) ∙ ap begun_head inside.head.inside in cc
+-- This head is begun.
+abbrev pub HasBegun : Parts → Head → Type 0
+HasBegun p h = begun_head_of p.fields ≡ Some h
 
-pub in_one : (p : Parts) (n : ℕ) (events : List Event) (text : List ℕ) → TakesData p n → Led p events text → InOne p events text
-in_one p n events text takes led = by_begun led.begun led.stands led.told led.is_text
+not_both : (p : Parts) (h : Head) → IsBetween p.fields → HasBegun p h → ⊥
+not_both p h between begun = let bad : None ≡ Some h = sym (ap begun_head between.between) ∙ begun in cc
+
+pub in_one : (p : Parts) (h : Head) (events : List Event) (text : List ℕ) → HasBegun p h → Led p events text → InOne p events text
+in_one p k events text begun led = by_begun led.begun led.stands led.told led.is_text
   where
     by_begun : (b : Begun) → StandsFor p led.whole b → events ≡ handed_on led.whole b → text ≡ text_so_far (object_so_far led.whole b) → InOne p events text
-    by_begun (InTag held) stands told is = absurd (not_both p.fields p.head takes.fields.0 stands.fields.between takes.fields.1)
+    by_begun (InTag held) stands told is = absurd (not_both p k stands.fields.between begun)
     by_begun (InData h taken) stands told is = record { ds = led.whole; h = h; taken = taken; within = stands; told = told; is_text = is }
 
 pub behind_all : (p : Parts) (events : List Event) (text : List ℕ) → IsBetween p.fields → Led p events text → BehindAll p events text
@@ -91,7 +86,13 @@ behind_all p events text between led = by_begun led.begun led.stands led.told le
   where
     by_begun : (b : Begun) → StandsFor p led.whole b → events ≡ handed_on led.whole b → text ≡ text_so_far (object_so_far led.whole b) → BehindAll p events text
     by_begun (InTag held) stands told is = record { ds = led.whole; held = held; behind = stands; told = told; is_text = is }
-    by_begun (InData h taken) stands told is = absurd (not_both p.fields h stands.fields.inside.0 between stands.fields.inside.1)
+    by_begun (InData h taken) stands told is = absurd (not_both p h between (ap begun_head stands.fields.inside.1.head.inside))
+
+pub same_head : (p : Parts) (k : Head) (ds : List Dataset) (h : Head) (taken : List ℕ) → HasBegun p k → Within p ds h taken → k ≡ h
+same_head p k ds h taken begun at = some-same (sym begun ∙ ap begun_head at.fields.inside.1.head.inside)
+  where
+    some-same : {x y : Head} → Some x ≡ Some y → x ≡ y
+    some-same e = cc
 
 -- ---- every layer can continue
 
@@ -143,40 +144,36 @@ all_within living p ds h taken at =
 
 -- ---- data that is no subfile's
 
-pub within_other : (p : Parts) (ds : List Dataset) (h : Head) (taken run : List ℕ) (checker : FieldsPlace) → Within p ds h taken → (h.rec ≡ 8 → ⊥) → Octets run → length run ≤ p.left
+pub within_other : (p : Parts) (ds : List Dataset) (h : Head) (taken run : List ℕ) (checker : FieldsPlace) → Within p ds h taken → (h.rec ≡ 8 → ⊥) → Octets run
     → ((ds : List Dataset) (h : Head) (taken : List ℕ) → records.StandsIn p.fields ds h taken → records.StandsIn checker ds h (taken ++ run))
-    → Within (record p { fields = checker; left = p.left - length run }) ds h (taken ++ run)
-within_other p ds h taken run checker at other octets fits stands =
+    → Within (record p { fields = checker }) ds h (taken ++ run)
+within_other p ds h taken run checker at other octets stands =
     let no : nat_eq h.rec 8 ≡ false = not_eight h.rec other in
     let same : (xs : List ℕ) → object_so_far ds (InData h xs) ≡ object_of ds ++ [] = λ xs. ap (λ (b : Bool). object_of ds ++ cond b xs []) no in
     let is = same taken ∙ sym (same (taken ++ run)) in
     record {
-      head = at.head;
-      left = omega (arith, at.left, fits, length-append taken run);
       octets = octets_join taken run at.octets octets;
       fields = subst (records.StandsIn checker ds h) (sym (ap (λ (b : Bool). cond b [] (taken ++ run)) no))
           (stands ds h taken (subst (records.StandsIn p.fields ds h) (ap (λ (b : Bool). cond b [] taken) no) at.fields));
       object = at.object;
-      subfiles = at.subfiles;
       few = at.few;
       room = at.room;
       message = subst (λ (o : List ℕ). wire.StandsAt p.message o (text_so_far o)) is at.message;
       ended = at.ended;
-      last = at.last;
     }
 
-pub went_other : {S : Type 0} (goes : S → List story.Event → S → Type 0) (failures : S → ℕ) (p : Parts) (a : S) (run : List ℕ) (checker : FieldsPlace) → TakesData p p.left → (p.head.rec ≡ 8 → ⊥)
-    → Octets run → length run ≤ p.left → goes a [] a → limits_of checker ≡ limits_of p.fields
+pub went_other : {S : Type 0} (goes : S → List story.Event → S → Type 0) (failures : S → ℕ) (p : Parts) (a : S) (run : List ℕ) (checker : FieldsPlace) (k : Head) → HasBegun p k → (k.rec ≡ 8 → ⊥)
+    → Octets run → goes a [] a → limits_of checker ≡ limits_of p.fields
     → ((ds : List Dataset) (h : Head) (taken : List ℕ) → records.StandsIn p.fields ds h taken → records.StandsIn checker ds h (taken ++ run))
-    → Went goes failures p a (map DataOctet run) (record p { fields = checker; left = p.left - length run }) a
-went_other goes failures p a run checker takes other octets fits g same stands = record {
+    → Went goes failures p a (map DataOctet run) (record p { fields = checker }) a
+went_other goes failures p a run checker k begun other octets g same stands = record {
   limits = same;
   more = [];
   told = g;
   calm = refl;
-  leads = λ before text led.
-      let one = in_one p p.left before text takes led in
-      let apart : one.h.rec ≡ 8 → ⊥ = λ eight. other (ap (λ (k : Head). k.rec) one.within.head ∙ eight) in
+  leads = λ before text order led.
+      let one = in_one p k before text begun led in
+      let apart : one.h.rec ≡ 8 → ⊥ = λ eight. other (ap (λ (k : Head). k.rec) (same_head p k one.ds one.h one.taken begun one.within) ∙ eight) in
       let no : nat_eq one.h.rec 8 ≡ false = not_eight one.h.rec apart in
       let same_object : object_so_far one.ds (InData one.h one.taken) ≡ object_so_far one.ds (InData one.h (one.taken ++ run)) =
       ap (λ (b : Bool). object_of one.ds ++ cond b one.taken []) no ∙ sym (ap (λ (b : Bool). object_of one.ds ++ cond b (one.taken ++ run) []) no) in
@@ -184,7 +181,7 @@ went_other goes failures p a run checker takes other octets fits g same stands =
         whole = one.ds;
         begun = InData one.h (one.taken ++ run);
         told = ap (λ (es : List Event). es ++ map DataOctet run) one.told ∙ data_more one.ds one.h one.taken run;
-        stands = within_other p one.ds one.h one.taken run checker one.within apart octets fits stands;
+        stands = within_other p one.ds one.h one.taken run checker one.within apart octets stands;
         is_text = append-nil text ∙ one.is_text ∙ ap text_so_far same_object;
       };
 }
@@ -200,18 +197,18 @@ object_more ds h taken run eight =
     let yes : nat_eq h.rec 8 ≡ true = is_eight h.rec eight in
     ap (λ (b : Bool). (object_of ds ++ cond b taken []) ++ run) yes ∙ append_assoc (object_of ds) taken run ∙ sym (ap (λ (b : Bool). object_of ds ++ cond b (taken ++ run) []) yes)
 
-pub went_object : {S : Type 0} (goes : S → List story.Event → S → Type 0) (failures : S → ℕ) (p : Parts) (a b : S) (run : List ℕ) (message : Option Place) → MessageLaws → TakesData p p.left → p.head.rec ≡ 8
-    → Octets run → length run ≤ p.left → Passed goes failures p.message a (map object_events.ObjectOctet run) message b
-    → Went goes failures p a (map DataOctet run) (record p { message = message; left = p.left - length run }) b
-went_object goes failures p a b run message laws takes eight octets fits passed = record {
+pub went_object : {S : Type 0} (goes : S → List story.Event → S → Type 0) (failures : S → ℕ) (p : Parts) (a b : S) (run : List ℕ) (message : Option Place) → MessageLaws → (k : Head) → HasBegun p k → k.rec ≡ 8
+    → Octets run → Passed goes failures p.message a (map object_events.ObjectOctet run) message b
+    → Went goes failures p a (map DataOctet run) (record p { message = message }) b
+went_object goes failures p a b run message laws k begun eight octets passed = record {
   limits = refl;
   more = passed.more;
   told = passed.told;
   calm = passed.calm;
-  leads = λ before text led.
-      let one = in_one p p.left before text takes led in
+  leads = λ before text order led.
+      let one = in_one p k before text begun led in
       let at = one.within in
-      let is : one.h.rec ≡ 8 = sym (ap (λ (k : Head). k.rec) at.head) ∙ eight in
+      let is : one.h.rec ≡ 8 = sym (ap (λ (k : Head). k.rec) (same_head p k one.ds one.h one.taken begun at)) ∙ eight in
       let yes : nat_eq one.h.rec 8 ≡ true = is_eight one.h.rec is in
       let o : List ℕ = object_so_far one.ds (InData one.h one.taken) in
       let goes_on : wire.GoesOn p.message run passed.more message = subst (λ (xs : List ℕ). wire.GoesOn p.message xs passed.more message) (octets_in-octets run) passed.stands in
@@ -222,17 +219,13 @@ went_object goes failures p a b run message laws takes eight octets fits passed 
         begun = InData one.h (one.taken ++ run);
         told = ap (λ (es : List Event). es ++ map DataOctet run) one.told ∙ data_more one.ds one.h one.taken run;
         stands = record {
-          head = at.head;
-          left = omega (arith, at.left, fits, length-append one.taken run);
           octets = octets_join one.taken run at.octets octets;
           fields = subst (records.StandsIn p.fields one.ds one.h) (ap (λ (b : Bool). cond b [] one.taken) yes ∙ sym (ap (λ (b : Bool). cond b [] (one.taken ++ run)) yes)) at.fields;
           object = at.object;
-          subfiles = at.subfiles;
           few = at.few;
           room = at.room;
           message = subst (λ (x : List ℕ). wire.StandsAt message x (text_so_far x)) longer next.0;
           ended = λ nine. absurd (let bad : 8 ≡ 9 = sym is ∙ nine in omega (arith, bad));
-          last = at.last;
         };
         is_text = ap (λ (t : List ℕ). t ++ passed.more) one.is_text ∙ next.1 ∙ ap text_so_far longer;
       };
@@ -245,21 +238,22 @@ counts_for messages.LoneReturn m n h = h
 counts_for messages.ControlOctet m n h = h
 counts_for messages.Sink m n h = h
 
-pub stopped_object : {S : Type 0} (goes : S → List story.Event → S → Type 0) (failures : S → ℕ) (p : Parts) (a b : S) (front : List ℕ) (octet : ℕ) (cause : MessageCause) → MessageLaws → TakesData p p.left → p.head.rec ≡ 8
+pub stopped_object : {S : Type 0} (goes : S → List story.Event → S → Type 0) (failures : S → ℕ) (p : Parts) (a b : S) (front : List ℕ) (octet : ℕ) (cause : MessageCause) → MessageLaws → (k : Head) → HasBegun p k → k.rec ≡ 8
     → Halted goes failures p.message a (map object_events.ObjectOctet front) (object_events.ObjectOctet octet) (Some cause) b
-    → Stopped goes failures p a (map DataOctet front) (DataOctet octet) (Some (message_on p.head cause)) b
-stopped_object goes failures p a b front octet cause laws takes eight halted =
+    → Stopped goes failures p a (map DataOctet front) (DataOctet octet) (Some (message_on k cause)) b
+stopped_object goes failures p a b front octet cause laws k begun eight halted =
     let same : halted.why ≡ cause = sym (some-same halted.is_cause) in
     record {
-      fault = message_on p.head cause;
+      fault = message_on k cause;
       is_fault = refl;
       more = halted.more;
       told = halted.told;
       counts = counts_for cause (failures a) (failures b) (subst (wire.CountsCause (failures a) (failures b)) same halted.counts);
-      why = λ before text led.
-          let one = in_one p p.left before text takes led in
+      why = λ before text order led.
+          let one = in_one p k before text begun led in
           let at = one.within in
-          let is : one.h.rec ≡ 8 = sym (ap (λ (k : Head). k.rec) at.head) ∙ eight in
+          let same_begun : k ≡ one.h = same_head p k one.ds one.h one.taken begun at in
+          let is : one.h.rec ≡ 8 = sym (ap (λ (x : Head). x.rec) same_begun) ∙ eight in
           let o : List ℕ = object_so_far one.ds (InData one.h one.taken) in
           let longer = object_more one.ds one.h one.taken front is in
           let t : List ℕ = text_so_far o in
@@ -286,7 +280,7 @@ stopped_object goes failures p a b front octet cause laws takes eight halted =
               (
                 cause,
                 subst (λ (c : MessageCause). wire.HasCause c (object_of one.ds ++ (one.taken ++ front)) octet) same (subst (λ (x : List ℕ). wire.HasCause halted.why x octet) (longer ∙ in_full) has),
-                ap (λ (k : Head). message_on k cause) at.head,
+                ap (λ (x : Head). message_on x cause) same_begun,
               ),
             );
           };

@@ -1,12 +1,12 @@
 -- Where the end of a dataset leads the parts of an unpacker, and why it is refused.
-use Rattle.std.proofs.Common.{◌≡◌, ℕ, ◌<◌, ◌≤◌, ◌⊎◌, Bool, true, false, cond, if◌then◌else◌, nat_eq, List, [], ◌∷◌, ◌++◌, length, map, flat_map, Option, Some, None, refl, ap, sym, subst, ◌∙◌, inl, inr, arith, append-nil, append_assoc}
+use Rattle.std.proofs.Common.{◌≡◌, ℕ, ◌<◌, ◌≤◌, ◌⊎◌, Bool, true, false, cond, if◌then◌else◌, nat_eq, List, [], ◌∷◌, ◌++◌, length, Option, Some, None, refl, ap, sym, subst, ◌∙◌, inl, inr, arith, append-nil}
 use Rattle.std.proofs.lemmas.List.Concat.{flat_map-append}
 use Rattle.std.proofs.lemmas.List.Elements.{filter-append}
 use Rattle.std.proofs.lemmas.Bool.Decides.{eqb_tells}
 use Rattle.iim_dataset.specs.Octets.{number}
 use Rattle.iim_dataset.specs.Datasets.{Dataset, head_of}
 use Rattle.iim_dataset.specs.Splits.{InTag, InData}
-use Rattle.iim_dataset.specs.Events.{Event, HeadRead, DataOctet, DatasetEnd, events_of, handed_on}
+use Rattle.iim_dataset.specs.Events.{Event, DatasetEnd}
 use Rattle.iim_dataset.specs.declared.head.Head.{Head}
 use Rattle.iim_fields.specs.Alive.{IsAliveAt}
 use Rattle.iim_fields.specs.Faults.{present_record, joined}
@@ -27,12 +27,13 @@ use Rattle.wire_message.specs.Reading as wire
 use Rattle.iim_unpack.specs.Admitted.{object_of}
 use Rattle.iim_unpack.specs.Tokens.{place_at, IsRefusedValue}
 use Rattle.iim_unpack.specs.Refusals.{of_field, IsObjectFault}
-use Rattle.iim_unpack.specs.Parts.{object_so_far, Behind, Within, TakesData, CountsFor, Closed, NotClosed}
+use Rattle.iim_unpack.specs.Parts.{object_so_far, Behind, Within, CountsFor, Closed, NotClosed}
 use Rattle.iim_unpack.specs.declared.parts.Parts.{Parts}
 use Rattle.iim_unpack.specs.declared.fault.Fault.{Fault}
 use Rattle.iim_unpack.proofs.Faults.{field_value, object_value}
 use Rattle.iim_unpack.proofs.Places.{number_leads, silent_leads, one_more}
-use Rattle.iim_unpack.proofs.Carrying.{in_one, all_within}
+use Rattle.iim_unpack.proofs.Carrying.{HasBegun, in_one, same_head, all_within}
+use Rattle.iim_unpack.proofs.Sequences.{end_told, all_came}
 use Rattle.iim_unpack.proofs.Heading.{quiet_field, counts_size}
 use Rattle.iim_unpack.proofs.Lasts.{present_last, not_all}
 use Rattle.iim_fields.specs.Laws.{NoSectionsBeginOthers}
@@ -48,20 +49,6 @@ pub object_of_more : (ds : List Dataset) (d : Dataset) → object_of (ds ++ d �
 object_of_more ds d =
     ap joined (filter-append (λ (x : Dataset). nat_eq x.rec 8) ds (d ∷ [])) ∙ flat_map-append (λ (x : Dataset). x.octets) (of_record 8 ds) (of_record 8 (d ∷ []))
     ∙ ap (λ xs. object_of ds ++ xs) (object_one d (nat_eq d.rec 8))
-
-end_told : (ds : List Dataset) (h : Head) (taken : List ℕ) → length taken ≡ h.count → handed_on ds (InData h taken) ++ DatasetEnd ∷ [] ≡ handed_on (ds ++ data_of h taken ∷ []) (InTag [])
-end_told ds h taken whole =
-    append_assoc (flat_map events_of ds) (HeadRead h ∷ map DataOctet taken) (DatasetEnd ∷ [])
-    ∙ ap (λ (k : Head). flat_map events_of ds ++ (HeadRead k ∷ (map DataOctet taken ++ DatasetEnd ∷ []))) same
-    ∙ ap (λ (es : List Event). flat_map events_of ds ++ es) (sym (append-nil (events_of d)))
-    ∙ sym (flat_map-append events_of ds (d ∷ []))
-    ∙ sym (append-nil (flat_map events_of (ds ++ d ∷ [])))
-  where
-    d : Dataset
-    d = data_of h taken
-
-    same : h ≡ head_of (data_of h taken)
-    same = λ i. record { rec = h.rec; set = h.set; count = sym whole i }
 
 -- ---- numbers
 
@@ -90,35 +77,32 @@ pub record Ends (new : Parts) (ds : List Dataset) (d : Dataset) : Type 0 where
   pub fields : records.StandsBehind new.fields (ds ++ d ∷ [])
   pub object : objects.StandsAt new.object (place_behind (ds ++ d ∷ []))
 
-behind_end : (p new : Parts) (ds : List Dataset) (h : Head) (taken : List ℕ) → Within p ds h taken → length taken ≡ h.count → Ends new ds (data_of h taken) → new.message ≡ p.message → new.subfiles ≡ p.subfiles
-    → new.last ≡ nat_eq p.head.rec 9 → Behind new (ds ++ data_of h taken ∷ [])
-behind_end p new ds h taken at whole ends message subfiles last =
+behind_end : (p new : Parts) (ds : List Dataset) (h : Head) (taken : List ℕ) → Within p ds h taken → length taken ≡ h.count → Ends new ds (data_of h taken) → new.message ≡ p.message → Behind new (ds ++ data_of h taken ∷ [])
+behind_end p new ds h taken at whole ends message =
     let d : Dataset = data_of h taken in
     let present : present_record (ds ++ d ∷ []) ≡ h.rec = present_last 0 ds d in
     let object : object_so_far ds (InData h taken) ≡ object_of (ds ++ d ∷ []) = sym (object_of_more ds d) in
     record {
       fields = ends.fields;
       object = ends.object;
-      subfiles = subfiles ∙ at.subfiles ∙ sym (one_more ds d);
       few = few_more ds d at.few at.room;
       message = subst (λ m. wire.StandsAt m (object_of (ds ++ d ∷ [])) (text_so_far (object_of (ds ++ d ∷ [])))) (sym message) (subst (λ (o : List ℕ). wire.StandsAt p.message o (text_so_far o)) object at.message);
       ended = λ nine. subst wire.IsWhole (sym message) (at.ended (sym present ∙ nine));
-      last = last ∙ ap (λ (k : Head). nat_eq k.rec 9) at.head ∙ ap (λ n. nat_eq n 9) (sym present);
     }
 
-closed_by : (p new : Parts) → TakesData p 0 → limits_of new.fields ≡ limits_of p.fields → new.message ≡ p.message → new.subfiles ≡ p.subfiles → new.last ≡ nat_eq p.head.rec 9
+closed_by : (p new : Parts) (k : Head) → HasBegun p k → limits_of new.fields ≡ limits_of p.fields → new.message ≡ p.message
     → ((ds : List Dataset) (h : Head) (taken : List ℕ) → Within p ds h taken → length taken ≡ h.count → Ends new ds (data_of h taken)) → Closed p new
-closed_by p new takes same message subfiles last ends = record {
+closed_by p new k begun same message ends = record {
   limits = same;
-  leads = λ before text led.
-      let one = in_one p 0 before text takes led in
+  leads = λ before text order led.
+      let one = in_one p k before text begun led in
       let at = one.within in
-      let whole : length one.taken ≡ one.h.count = omega (arith, at.left, takes.left_is) in
+      let whole : length one.taken ≡ one.h.count = all_came before one.ds one.h one.taken one.told order in
       record {
         whole = one.ds ++ data_of one.h one.taken ∷ [];
         begun = InTag [];
         told = ap (λ (es : List Event). es ++ DatasetEnd ∷ []) one.told ∙ end_told one.ds one.h one.taken whole;
-        stands = behind_end p new one.ds one.h one.taken at whole (ends one.ds one.h one.taken at whole) message subfiles last;
+        stands = behind_end p new one.ds one.h one.taken at whole (ends one.ds one.h one.taken at whole) message;
         is_text = one.is_text ∙ ap text_so_far (sym (object_of_more one.ds (data_of one.h one.taken)));
       };
 }
@@ -139,10 +123,10 @@ abbrev pub ClosesFields : FieldsPlace → FieldsPlace → Option ℕ → Type 0
 ClosesFields old new told = (ds : List Dataset) (h : Head) (taken : List ℕ) → records.StandsIn old ds h taken → (d : Dataset) → IsOf h taken d
     → records.StandsBehind new (ds ++ d ∷ []) × (told ≡ number_told d)
 
-pub closed_number : CloseLaws → (p new : Parts) (n : ℕ) → TakesData p 0 → limits_of new.fields ≡ limits_of p.fields → ClosesFields p.fields new.fields (Some n)
-    → objects.GoesOn p.object (value_token p.head.rec p.head.set n) new.object → new.message ≡ p.message → new.subfiles ≡ p.subfiles → new.last ≡ nat_eq p.head.rec 9 → Closed p new
-closed_number laws p new n takes same closes goes message subfiles is_last =
-    closed_by p new takes same message subfiles is_last
+pub closed_number : CloseLaws → (p new : Parts) (n : ℕ) (k : Head) → HasBegun p k → limits_of new.fields ≡ limits_of p.fields → ClosesFields p.fields new.fields (Some n)
+    → objects.GoesOn p.object (value_token k.rec k.set n) new.object → new.message ≡ p.message → Closed p new
+closed_number laws p new n k begun same closes goes message =
+    closed_by p new k begun same message
     (λ ds h taken at whole.
     let d : Dataset = data_of h taken in
     let both = closes ds h (if nat_eq h.rec 8 then [] else taken) at.fields d (is_of ds p h taken at whole) in
@@ -150,16 +134,15 @@ closed_number laws p new n takes same closes goes message subfiles is_last =
     let leads = number_leads laws.objects ds d both.0.alive tells.0 in
     let head : head_of d ≡ h = λ i. record { rec = h.rec; set = h.set; count = whole i } in
     let goes_d : objects.GoesOn p.object (value_token d.rec d.set (number d.octets)) new.object =
-    subst (λ (m : ℕ). objects.GoesOn p.object (value_token d.rec d.set m) new.object) tells.1 (subst (λ (k : Head). objects.GoesOn p.object (value_token k.rec k.set n) new.object) at.head goes) in
+    subst (λ (m : ℕ). objects.GoesOn p.object (value_token d.rec d.set m) new.object) tells.1 (subst (λ (x : Head). objects.GoesOn p.object (value_token x.rec x.set n) new.object) (same_head p k ds h taken begun at) goes) in
     record {
       fields = both.0;
       object = subst (objects.StandsAt new.object) leads.1 (goes_d (place_at ds (head_of d)) (subst (λ (k : Head). objects.StandsAt p.object (place_at ds k)) (sym head) at.object) leads.0);
     })
 
-pub closed_silent : CloseLaws → (p : Parts) (checker : FieldsPlace) → TakesData p 0 → limits_of checker ≡ limits_of p.fields → ClosesFields p.fields checker None → (left : ℕ) → (last : Bool) → last ≡ nat_eq p.head.rec 9
-    → Closed p (record { fields = checker; object = p.object; message = p.message; subfiles = p.subfiles; head = p.head; left = left; last = last })
-closed_silent laws p checker takes same closes left last is_last =
-    closed_by p (record { fields = checker; object = p.object; message = p.message; subfiles = p.subfiles; head = p.head; left = left; last = last }) takes same refl refl is_last
+pub closed_silent : CloseLaws → (p : Parts) (checker : FieldsPlace) (k : Head) → HasBegun p k → limits_of checker ≡ limits_of p.fields → ClosesFields p.fields checker None → Closed p (record p { fields = checker })
+closed_silent laws p checker k begun same closes =
+    closed_by p (record p { fields = checker }) k begun same refl
     (λ ds h taken at whole.
     let d : Dataset = data_of h taken in
     let both = closes ds h (if nat_eq h.rec 8 then [] else taken) at.fields d (is_of ds p h taken at whole) in
@@ -177,12 +160,12 @@ closed_silent laws p checker takes same closes left last is_last =
 
 -- ---- refusals
 
-not_closed_by : (p : Parts) (fault : Fault) → ReadersStandAtLivingOctets → NoSectionsBeginOthers → TakesData p 0 → ((n : ℕ) → CountsFor fault.cause n n)
+not_closed_by : (p : Parts) (fault : Fault) → ReadersStandAtLivingOctets → NoSectionsBeginOthers → (k : Head) → HasBegun p k → ((n : ℕ) → CountsFor fault.cause n n)
     → ((ds : List Dataset) (h : Head) (taken : List ℕ) → Within p ds h taken → length taken ≡ h.count → (h.rec ≡ 8 → ⊥) × IsRefusedValue ds (data_of h taken) fault) → NotClosed p fault
-not_closed_by p fault living sections takes quiet refuses = record {
+not_closed_by p fault living sections k begun quiet refuses = record {
   quiet = quiet;
-  why = λ before text led.
-      let one = in_one p 0 before text takes led in
+  why = λ before text order led.
+      let one = in_one p k before text begun led in
       let at = one.within in
       record {
         whole = one.ds;
@@ -191,26 +174,26 @@ not_closed_by p fault living sections takes quiet refuses = record {
         is_text = one.is_text;
         goes_on = all_within living p one.ds one.h one.taken at;
         unfinished = not_all sections one.ds one.h at.fields.alive;
-        refuses = refuses one.ds one.h one.taken at (omega (arith, at.left, takes.left_is));
+        refuses = refuses one.ds one.h one.taken at (all_came before one.ds one.h one.taken one.told order);
       };
 }
 
 not_subfile : (r : ℕ) → tells_number r ≡ true → r ≡ 8 → ⊥
 not_subfile r tells eight = let bad : false ≡ true = sym (ap tells_number eight) ∙ tells in cc
 
-pub not_closed_field : ReadersStandAtLivingOctets → NoSectionsBeginOthers → (p : Parts) (f : FieldFault) → TakesData p 0
+pub not_closed_field : ReadersStandAtLivingOctets → NoSectionsBeginOthers → (p : Parts) (f : FieldFault) (k : Head) → HasBegun p k
     → ((ds : List Dataset) (h : Head) (taken : List ℕ) → records.StandsIn p.fields ds h taken → IsValueFault ds (data_of h taken) f) → NotClosed p (of_field f)
-not_closed_field living sections p f takes is =
-    not_closed_by p (of_field f) living sections takes (quiet_field f.cause)
+not_closed_field living sections p f k begun is =
+    not_closed_by p (of_field f) living sections k begun (quiet_field f.cause)
     (λ ds h taken at whole.
     let given = is ds h (if nat_eq h.rec 8 then [] else taken) at.fields in
     let apart : nat_eq h.rec 8 ≡ false = elim (eqb_tells h.rec 8) [ inl same ↦ absurd (given.value same.1) | inr other ↦ other.0 ] in
     (given.value, field_value ds (data_of h taken) f (subst (λ (xs : List ℕ). IsValueFault ds (data_of h xs) f) (ap (λ (b : Bool). cond b [] taken) apart) given)))
 
-pub not_closed_number : CloseLaws → (p : Parts) (checker : FieldsPlace) (n : ℕ) (fault : Fault) → TakesData p 0 → ClosesFields p.fields checker (Some n)
-    → IsObjectFault p.object (value_token p.head.rec p.head.set n) p.head fault → NotClosed p fault
-not_closed_number laws p checker n fault takes closes bad =
-    not_closed_by p fault laws.living laws.sections takes
+pub not_closed_number : CloseLaws → (p : Parts) (checker : FieldsPlace) (n : ℕ) (fault : Fault) (k : Head) → HasBegun p k → ClosesFields p.fields checker (Some n)
+    → IsObjectFault p.object (value_token k.rec k.set n) k fault → NotClosed p fault
+not_closed_number laws p checker n fault k begun closes bad =
+    not_closed_by p fault laws.living laws.sections k begun
     (λ m. subst (λ (f : Fault). CountsFor f.cause m m) (sym bad.2) (counts_size bad.0 m m refl))
     (λ ds h taken at whole.
     let d : Dataset = data_of h taken in
@@ -221,5 +204,5 @@ not_closed_number laws p checker n fault takes closes bad =
       object_value laws.values laws.objects.tokens ds d fault p.object at.octets (subst (IsAliveAt ds) (sym head) at.fields.alive) both.0.alive tells.0 (number_leads laws.objects ds d both.0.alive tells.0)
           (subst (λ (k : Head). objects.StandsAt p.object (place_at ds k)) (sym head) at.object)
           (subst (λ (m : ℕ). IsObjectFault p.object (value_token d.rec d.set m) (head_of d) fault) tells.1
-          (subst (λ (k : Head). IsObjectFault p.object (value_token k.rec k.set n) k fault) (at.head ∙ sym head) bad)),
+          (subst (λ (x : Head). IsObjectFault p.object (value_token x.rec x.set n) x fault) (same_head p k ds h taken begun at ∙ sym head) bad)),
     ))

@@ -1,5 +1,5 @@
 -- Where an unpacker stands after a piece.
-use Rattle.std.proofs.Common.{◌≡◌, ℕ, ◌<◌, ◌≤◌, ◌⊎◌, Bool, true, false, nat_eq, if◌then◌else◌, get_or, List, [], ◌∷◌, ◌++◌, length, take, slice_index, Option, Some, None, refl, ap, sym, subst, ◌∙◌, inl, inr, arith, append-nil}
+use Rattle.std.proofs.Common.{◌≡◌, ℕ, ◌<◌, ◌≤◌, ◌⊎◌, Bool, true, false, nat_eq, if◌then◌else◌, get_or, List, [], ◌∷◌, ◌++◌, length, take, slice_index, Option, Some, None, IsSome, refl, ap, sym, subst, ◌∙◌, inl, inr, arith, append-nil, append_assoc}
 use Rattle.std.proofs.lemmas.List.{take_all}
 use Rattle.std.proofs.lemmas.Bool.{eqb-true, true≢false}
 use Rattle.std.proofs.lemmas.Bool.Decides.{eqb_tells}
@@ -8,7 +8,7 @@ use Rattle.iim_dataset.specs.Splits.{Begun, InTag, InData, Reads}
 use Rattle.iim_dataset.specs.Tags.{Concerns}
 use Rattle.iim_dataset.specs.Events.{Event, HeadRead, DataOctet, DatasetEnd, handed_on, begun_data}
 use Rattle.iim_dataset.specs.Places.{LeadsTo, HandsOn, IsKeptAs, between, named_by, to_come}
-use Rattle.iim_dataset.specs.Reading.{TagDies, TakesCalls}
+use Rattle.iim_dataset.specs.Reading.{Completes, TagDies, TakesCalls}
 use Rattle.iim_dataset.specs.Completing.{CompletesData, CompletesHead, CompletesOctet, CompletesEnd, CompletesNow}
 use Rattle.iim_dataset.specs.declared.head.Head.{Head}
 use Rattle.iim_dataset.specs.declared.head.HeadCause.{HeadCause}
@@ -40,7 +40,9 @@ use Rattle.iim_unpack.specs.Refusals.{refusal_at, message_on}
 use Rattle.iim_unpack.specs.Tokens.{IsRefusedHead, IsRefusedValue}
 use Rattle.iim_fields.specs.Values.{data_of}
 use Rattle.iim_unpack.specs.Refusals.{cause_of_tag}
-use Rattle.iim_unpack.specs.Parts.{object_so_far, AllGoOn, Behind, StandsFor, Led, Refused, RefusesAt, IsUnfinished}
+use Rattle.iim_unpack.specs.Parts.{object_so_far, AllGoOn, Behind, StandsFor, Led, Refused, RefusesAt, IsUnfinished, has_ended}
+use Rattle.iim_unpack.specs.Sequence.{AreInOrder}
+use Rattle.iim_unpack.specs.Going.{front_in_order}
 use Rattle.iim_unpack.specs.Routing.{Takes, HasEnded}
 use Rattle.iim_unpack.specs.Unpacking.{Unpacking, Advanced, FailsAs, IsOnward, tag_fault, raised, are_some, begins, limits_in, IsTextOf, Adds, IsOpen, IsBadTagAt, RefusesNext, IsLed, Stands, IsDoneWith, IsRefusedIn, IsTruncatedAt, truncated_in, Stood, IsUnpacking}
 use Rattle.iim_unpack.specs.declared.parts.Parts.{Parts}
@@ -51,6 +53,8 @@ use Rattle.iim_unpack.specs.declared.refusal.Layer.TheVariants as layers
 use Rattle.iim_unpack.proofs.Objects.{are_records}
 use Rattle.iim_unpack.proofs.Carrying.{all_behind, all_within}
 use Rattle.iim_unpack.proofs.Lasts.{sections_last, last_sections, not_all}
+use Rattle.iim_unpack.proofs.Ended.{ended_behind, unended_inside}
+use Rattle.iim_unpack.proofs.Sequences.{handed_in_order}
 use Rattle.iim_unpack.specs.LowerLaws.{FeedLaws}
 
 -- ---- begun datasets that are told alike
@@ -125,13 +129,13 @@ one_text laws p x y (ds, b, reads, is) (es, c, other, that) =
     is ∙ ap text_so_far (ap (λ (xs : List Dataset). object_so_far xs b) told.0 ∙ ap (object_so_far es) way.1) ∙ sym that
 
 -- not yet an envelope
-unfinished : FeedLaws → (parts : Parts) (ds : List Dataset) (b : Begun) → StandsFor parts ds b → parts.last ≡ false → AreSections ds → ⊥
+unfinished : FeedLaws → (parts : Parts) (ds : List Dataset) (b : Begun) → StandsFor parts ds b → has_ended parts ≡ false → AreSections ds → ⊥
 unfinished laws parts ds (InTag held) at more sections =
     let nine = sections_last laws.ends ds at.fields.alive sections in
-    true≢false (sym (ap (λ n. nat_eq n 9) nine) ∙ sym at.last ∙ more)
+    true≢false (sym (ap (λ n. nat_eq n 9) nine) ∙ sym (ended_behind parts ds at.fields) ∙ more)
 unfinished laws parts ds (InData h taken) at more sections = not_all laws.sections ds h at.fields.alive sections
 
-pub open_by : FeedLaws → (parts : Parts) (p : List ℕ) (events : List Event) (text : List ℕ) (place : Place) → LeadsTo p events place → Led parts events text → parts.last ≡ false → IsOpen (limits_of parts.fields) p
+pub open_by : FeedLaws → (parts : Parts) (p : List ℕ) (events : List Event) (text : List ℕ) (place : Place) → LeadsTo p events place → Led parts events text → has_ended parts ≡ false → IsOpen (limits_of parts.fields) p
 open_by laws parts p events text place leads led more =
     let b = both laws parts p events text place leads led in
     record {
@@ -142,10 +146,21 @@ open_by laws parts p events text place leads led more =
       unfinished = λ sections. unfinished laws parts b.led_whole b.led_begun b.stands more (subst AreSections b.same sections);
     }
 
+open_parts : (parts : Parts) (left : Option ℕ) → Takes parts left → has_ended parts ≡ false
+open_parts parts None takes = takes.more
+open_parts parts (Some left) takes = unended_inside parts takes.head left takes.fields
+
 -- ---- a piece
 
 raised_on : (m n a k : ℕ) → m ≡ a → n ≡ raised m k → n ≡ raised a k
 raised_on m n a k same is = is ∙ ap (λ x. raised x k) same
+
+-- by octets, the parts went on from where events had led them
+went_on : {S : Type 0} (goes : S → List story.Event → S → Type 0) (failures : S → ℕ) (old : Place) (was : Parts) (p octets : List ℕ) (place : Place) (q : Parts) (a b : S)
+    → (advanced : Advanced goes failures old octets place was a q b) → (events : List Event) (text : List ℕ) → LeadsTo p events old → Led was events text
+    → Led q (events ++ advanced.more) (text ++ advanced.went.more)
+went_on goes failures old was p octets place q a b advanced events text leads led =
+    let next = advanced.brings p events leads in advanced.went.leads events text (handed_in_order (p ++ octets) (events ++ advanced.more) next.begun next.hands) led
 
 pub adds_by : {S : Type 0} (goes : S → List story.Event → S → Type 0) (failures : S → ℕ) → FeedLaws → (u v : Unpacking) (p octets : List ℕ) (place : Place) (q : Parts) (a b : S)
     → (advanced : Advanced goes failures u.reader.place octets place u.parts a q b) → IsLed u p → Adds p octets (story.delivered advanced.went.more)
@@ -153,7 +168,7 @@ adds_by goes failures laws u v p octets place q a b advanced led text is =
     let same = one_text laws p text led.text is (text_of laws u.parts p led.events led.text u.reader.place led.leads led.led) in (
       advanced.went.more,
       subst (λ (t : List ℕ). IsTextOf (p ++ octets) (t ++ advanced.went.more)) (sym same)
-          (text_of laws q (p ++ octets) (led.events ++ advanced.more) (led.text ++ advanced.went.more) place (advanced.brings p led.events led.leads) (advanced.went.leads led.events led.text led.led)),
+          (text_of laws q (p ++ octets) (led.events ++ advanced.more) (led.text ++ advanced.went.more) place (advanced.brings p led.events led.leads) (went_on goes failures u.reader.place u.parts p octets place q a b advanced led.events led.text led.leads led.led)),
       refl,
     )
 
@@ -163,7 +178,7 @@ led_by goes failures u v p octets a b advanced led = record {
   events = led.events ++ advanced.more;
   text = led.text ++ advanced.went.more;
   leads = advanced.brings p led.events led.leads;
-  led = advanced.went.leads led.events led.text led.led;
+  led = went_on goes failures u.reader.place u.parts p octets v.reader.place v.parts a b advanced led.events led.text led.leads led.led;
 }
 
 begun_on : (u v : Bool) (p piece : List ℕ) → u ≡ are_some p → v ≡ begins u piece → v ≡ are_some (p ++ piece)
@@ -172,7 +187,7 @@ begun_on u v (x ∷ p) piece was is = rw was at is
 
 pub goes_more : {S : Type 0} (goes : S → List story.Event → S → Type 0) (failures : S → ℕ) → FeedLaws → (u v : Unpacking) (piece : List ℕ) (used : ℕ) (a b : S)
     → (advanced : Advanced goes failures u.reader.place (take used piece) v.reader.place u.parts a v.parts b) → IsOnward v.reader.place v.parts (length piece) used
-    → v.refused ≡ u.refused → v.parts.last ≡ false → v.octets ≡ raised u.octets used → v.begun ≡ begins u.begun piece
+    → v.refused ≡ u.refused → has_ended v.parts ≡ false → v.octets ≡ raised u.octets used → v.begun ≡ begins u.begun piece
     → (p : List ℕ) (n : ℕ) → Stands u p n → Stands v (p ++ piece) (raised n (length piece)) × Adds p piece (story.delivered advanced.went.more)
 goes_more goes failures laws u v piece used a b advanced onward same more counts some p n at =
     let all : used ≡ length piece = elim onward [ inl h ↦ h.0 | inr h ↦ absurd (true≢false (sym h.0.last ∙ more)) ] in
@@ -218,19 +233,19 @@ record AtEnd (v : Unpacking) (events : List Event) : Type 0 where
   pub behind : Behind v.parts ds
   pub told : events ≡ handed_on ds (InTag held)
 
-at_end : (v : Unpacking) (events : List Event) (text : List ℕ) → v.parts.last ≡ true → Led v.parts events text → AtEnd v events
+at_end : (v : Unpacking) (events : List Event) (text : List ℕ) → has_ended v.parts ≡ true → Led v.parts events text → AtEnd v events
 at_end v events text last led = by led.begun led.stands led.told
   where
     by : (b : Begun) → StandsFor v.parts led.whole b → events ≡ handed_on led.whole b → AtEnd v events
     by (InTag held) behind told = record { ds = led.whole; held = held; behind = behind; told = told }
-    by (InData h taken) at told = absurd (true≢false (sym last ∙ at.last))
+    by (InData h taken) at told = absurd (true≢false (sym last ∙ unended_inside v.parts h at.fields.inside.0 at.fields.inside.1))
 
-pub whole_parts : FeedLaws → (v : Unpacking) (p : List ℕ) → v.parts.last ≡ true → v.reader.place ≡ between → IsLed v p → WholeParts v p
+pub whole_parts : FeedLaws → (v : Unpacking) (p : List ℕ) → has_ended v.parts ≡ true → v.reader.place ≡ between → IsLed v p → WholeParts v p
 whole_parts laws v p last place led =
     let at = at_end v led.events led.text last led.led in
     let same = (laws.tell at.ds led.leads.hands.whole (InTag at.held) led.leads.begun (sym at.told ∙ led.leads.hands.handed)).0 in
     let behind = at.behind in
-    let nine : present_record at.ds ≡ 9 = eqb-true (present_record at.ds) 9 (sym behind.last ∙ last) in
+    let nine : present_record at.ds ≡ 9 = eqb-true (present_record at.ds) 9 (sym (ended_behind v.parts at.ds behind.fields) ∙ last) in
     let (head, is, message, (lines, lined)) = behind.ended nine (object_of at.ds) (text_so_far (object_of at.ds)) behind.message in
     record {
       ds = at.ds;
@@ -300,7 +315,7 @@ has_head laws u p n at none = let w = whole_parts laws u p at.ended at.place at.
 
 pub goes_done : {S : Type 0} (goes : S → List story.Event → S → Type 0) (failures : S → ℕ) → FeedLaws → (u v : Unpacking) (piece : List ℕ) (used : ℕ) (a b : S) (s : Sizes)
     → (advanced : Advanced goes failures u.reader.place (take used piece) v.reader.place u.parts a v.parts b) → IsOnward v.reader.place v.parts (length piece) used
-    → v.refused ≡ u.refused → v.parts.last ≡ true → v.octets ≡ raised u.octets used → used ≤ length piece
+    → v.refused ≡ u.refused → has_ended v.parts ≡ true → v.octets ≡ raised u.octets used → used ≤ length piece
     → ((ds : List Dataset) (r : AreRecords ds) → objects.StandsAt v.parts.object (place_behind ds) → HaveSizes r.r7 r.r8 r.r9 s)
     → (p : List ℕ) (n : ℕ) → Stands u p n
     → (used ≤ length piece) × IsDoneWith v (p ++ take used piece) (raised n used) × Adds p (take used piece) (story.delivered advanced.went.more)
@@ -316,8 +331,7 @@ goes_done goes failures laws u v piece used a b s advanced onward same last coun
     to_come' w = to_come w.reader.place
 
     not_taken : (left : Option ℕ) → Takes v.parts left → ⊥
-    not_taken None takes = true≢false (sym last ∙ takes.last)
-    not_taken (Some left) takes = true≢false (sym last ∙ takes.last)
+    not_taken left takes = true≢false (sym last ∙ open_parts v.parts left takes)
 
 -- ---- refusals
 
@@ -332,7 +346,7 @@ kept_tag held (InTag octets) keeps = ap InTag (sym keeps)
 kept_tag held (InData h taken) keeps = absurd keeps
 
 bad_tag : FeedLaws → (limits : Limits) (parts : Parts) (p : List ℕ) (events : List Event) (text : List ℕ) (place : Place) (next : ℕ) (cause : HeadCause) (fault : Fault) → limits_of parts.fields ≡ limits
-    → LeadsTo p events place → Led parts events text → parts.last ≡ false → TagDies place next cause → fault ≡ tag_fault (named_by place) cause → IsBadTagAt limits p next fault
+    → LeadsTo p events place → Led parts events text → has_ended parts ≡ false → TagDies place next cause → fault ≡ tag_fault (named_by place) cause → IsBadTagAt limits p next fault
 bad_tag laws limits parts p events text place next cause fault same leads led more dies is =
     let b = both laws parts p events text place leads led in
     let begun : leads.begun ≡ InTag dies.held = kept_tag dies.held leads.begun (subst (λ (x : Place). IsKeptAs x leads.begun) dies.tag leads.keeps) in
@@ -447,16 +461,18 @@ end_refused laws limits octets next events text fault c r = by r.begun r.refuses
           })));
         }
 
+-- the events up to one that an octet completes
+completed_in_order : (octets : List ℕ) (next : ℕ) (events : List Event) (event : Event) → Completes octets next events event → AreInOrder (events ++ event ∷ [])
+completed_in_order octets next events event c =
+    front_in_order (events ++ event ∷ []) c.later
+    (subst AreInOrder (sym (append_assoc events (event ∷ []) c.later)) (handed_in_order (octets ++ next ∷ []) (events ++ event ∷ c.later) c.next_begun c.with_next))
+
 token_refused : FeedLaws → (limits : Limits) (octets : List ℕ) (next : ℕ) (events : List Event) (text : List ℕ) (event : Event) (fault : Fault) → CompletesNow octets next events event
     → Refused limits events text event fault → Told limits octets text next fault
 token_refused laws limits octets next events text (HeadRead h) fault c r = head_refused laws limits octets next events text h fault c r
 token_refused laws limits octets next events text (DataOctet b) fault c r =
     octet_refused laws limits octets next events text fault c.1 (subst (λ (x : ℕ). Refused limits events text (DataOctet x) fault) c.0 r)
 token_refused laws limits octets next events text DatasetEnd fault c r = end_refused laws limits octets next events text fault c r
-
-open_parts : (parts : Parts) (left : Option ℕ) → Takes parts left → parts.last ≡ false
-open_parts parts None takes = takes.last
-open_parts parts (Some left) takes = takes.last
 
 -- the sink's answer at a refusal
 pub refused_in : {S : Type 0} (goes : S → List story.Event → S → Type 0) (failures : S → ℕ) → FeedLaws → (u : Unpacking) (piece : List ℕ) (k : ℕ) (fault : Fault) (a b : S) (e : Refusal)
@@ -469,7 +485,7 @@ refused_in goes failures laws u piece k fault a b e within is (inl (cause, new, 
       λ p n at.
           let led = at.is_led in
           let leads = stuck.advanced.brings p led.events led.leads in
-          let then_led = w.leads led.events led.text led.led in
+          let then_led = went_on goes failures u.reader.place u.parts p (take k piece) new stuck.parts a b stuck.advanced led.events led.text led.leads led.led in
           record {
             k = k;
             within = within;
@@ -491,9 +507,11 @@ refused_in goes failures laws u piece k fault a b e within is (inr stop) =
       s.told,
       λ p n at.
           let led = at.is_led in
-          let now = laws.octet (p ++ take k piece) (slice_index piece k) (led.events ++ stop.more) stop.event (stop.completes p led.events led.leads) in
+          let completes = stop.completes p led.events led.leads in
+          let now = laws.octet (p ++ take k piece) (slice_index piece k) (led.events ++ stop.more) stop.event completes in
+          let order : AreInOrder ((led.events ++ stop.more) ++ stop.event ∷ []) = completed_in_order (p ++ take k piece) (slice_index piece k) (led.events ++ stop.more) stop.event completes in
           let told = token_refused laws (limits_in u) (p ++ take k piece) (slice_index piece k) (led.events ++ stop.more) (led.text ++ s.more) stop.event fault now
-          (subst (λ (f : Fault). Refused (limits_in u) (led.events ++ stop.more) (led.text ++ s.more) stop.event f) same_fault (s.why led.events led.text led.led)) in
+          (subst (λ (f : Fault). Refused (limits_in u) (led.events ++ stop.more) (led.text ++ s.more) stop.event f) same_fault (s.why led.events led.text order led.led)) in
           record {
             k = k;
             within = within;
@@ -530,8 +548,9 @@ truncated_by u p a at =
     }
 
 -- an unpacker of which no octet has come
-pub stands_new : FeedLaws → (u : Unpacking) → u.refused ≡ None → u.parts.last ≡ false → u.octets ≡ 0 → u.begun ≡ false → LeadsTo [] [] u.reader.place → Behind u.parts [] → Stands u [] 0
-stands_new laws u taking more counts none leads behind =
+pub stands_new : FeedLaws → (u : Unpacking) → u.refused ≡ None → u.octets ≡ 0 → u.begun ≡ false → LeadsTo [] [] u.reader.place → Behind u.parts [] → Stands u [] 0
+stands_new laws u taking counts none leads behind =
+    let more : has_ended u.parts ≡ false = ended_behind u.parts [] behind.fields in
     let led : Led u.parts [] [] = record { whole = []; begun = InTag []; told = refl; stands = behind; is_text = refl } in
     record {
       taking = taking;
@@ -544,13 +563,23 @@ stands_new laws u taking more counts none leads behind =
 
 -- ---- an unpacker stands somewhere
 
-pub stood_stands : (u : Unpacking) → u.parts.last ≡ false → Stood u → (p : List ℕ) × (a : ℕ) × Stands u p a
+pub sound_new : FeedLaws → (u : Unpacking) → u.refused ≡ None → u.octets ≡ 0 → u.begun ≡ false → LeadsTo [] [] u.reader.place → Behind u.parts [] → TakesCalls u.reader → u.reader.place ≡ between
+    → IsSome u.parts.object → IsSome u.parts.message → IsUnpacking u
+sound_new laws u taking counts none leads behind calls place object message =
+    let more : has_ended u.parts ≡ false = ended_behind u.parts [] behind.fields in
+    record {
+      calls = calls;
+      takes = inl (more, subst (λ (x : Place). Takes u.parts (to_come x)) (sym place) (record { fields = behind.fields.between; object = object; message = message; more = more }));
+      stood = ([], 0, inl (stands_new laws u taking counts none leads behind));
+    }
+
+pub stood_stands : (u : Unpacking) → has_ended u.parts ≡ false → Stood u → (p : List ℕ) × (a : ℕ) × Stands u p a
 stood_stands u more (p, a, inl at) = (p, a, at)
 stood_stands u more (p, a, inr at) = absurd (true≢false (sym at.ended ∙ more))
 
 pub sound_more : {S : Type 0} (goes : S → List story.Event → S → Type 0) (failures : S → ℕ) → FeedLaws → (u v : Unpacking) (piece : List ℕ) (used : ℕ) (a b : S)
     → (advanced : Advanced goes failures u.reader.place (take used piece) v.reader.place u.parts a v.parts b) → IsOnward v.reader.place v.parts (length piece) used → TakesCalls v.reader
-    → v.refused ≡ u.refused → v.parts.last ≡ false → v.octets ≡ raised u.octets used → v.begun ≡ begins u.begun piece → IsUnpacking u → u.parts.last ≡ false → IsUnpacking v
+    → v.refused ≡ u.refused → has_ended v.parts ≡ false → v.octets ≡ raised u.octets used → v.begun ≡ begins u.begun piece → IsUnpacking u → has_ended u.parts ≡ false → IsUnpacking v
 sound_more goes failures laws u v piece used a b advanced onward calls same more counts some sound unended =
     let (p, n, at) = stood_stands u unended sound.stood in
     let both = goes_more goes failures laws u v piece used a b advanced onward same more counts some p n at in
@@ -562,7 +591,7 @@ sound_more goes failures laws u v piece used a b advanced onward calls same more
 
 pub sound_done : {S : Type 0} (goes : S → List story.Event → S → Type 0) (failures : S → ℕ) → FeedLaws → (u v : Unpacking) (piece : List ℕ) (used : ℕ) (a b : S) (s : Sizes)
     → (advanced : Advanced goes failures u.reader.place (take used piece) v.reader.place u.parts a v.parts b) → IsOnward v.reader.place v.parts (length piece) used → TakesCalls v.reader
-    → v.refused ≡ u.refused → v.parts.last ≡ true → v.octets ≡ raised u.octets used → used ≤ length piece → TellsSizes v s → IsUnpacking u → u.parts.last ≡ false → IsUnpacking v
+    → v.refused ≡ u.refused → has_ended v.parts ≡ true → v.octets ≡ raised u.octets used → used ≤ length piece → TellsSizes v s → IsUnpacking u → has_ended u.parts ≡ false → IsUnpacking v
 sound_done goes failures laws u v piece used a b s advanced onward calls same last counts fits sizes sound unended =
     let (p, n, at) = stood_stands u unended sound.stood in
     let all = goes_done goes failures laws u v piece used a b s advanced onward same last counts fits sizes p n at in
@@ -572,25 +601,24 @@ sound_done goes failures laws u v piece used a b s advanced onward calls same la
       stood = (p ++ take used piece, raised n used, inr all.1);
     }
   where
-    taken_not : (w : Unpacking) → w.parts.last ≡ true → (left : Option ℕ) → Takes w.parts left → ⊥
-    taken_not w ended None takes = true≢false (sym ended ∙ takes.last)
-    taken_not w ended (Some left) takes = true≢false (sym ended ∙ takes.last)
+    taken_not : (w : Unpacking) → has_ended w.parts ≡ true → (left : Option ℕ) → Takes w.parts left → ⊥
+    taken_not w ended left takes = true≢false (sym ended ∙ open_parts w.parts left takes)
 
 -- an unpacker of which the last dataset has ended is done with some octets
-pub stood_done : (u : Unpacking) → u.parts.last ≡ true → Stood u → (p : List ℕ) × (a : ℕ) × IsDoneWith u p a
+pub stood_done : (u : Unpacking) → has_ended u.parts ≡ true → Stood u → (p : List ℕ) × (a : ℕ) × IsDoneWith u p a
 stood_done u last (p, a, inl at) = absurd (true≢false (sym last ∙ at.unended))
 stood_done u last (p, a, inr at) = (p, a, at)
 
 -- its trailer is short
-pub short_trailer : FeedLaws → (u : Unpacking) → u.parts.last ≡ true → Stood u → length (wire.trailer_read u.parts.message) ≤ 64
+pub short_trailer : FeedLaws → (u : Unpacking) → has_ended u.parts ≡ true → Stood u → length (wire.trailer_read u.parts.message) ≤ 64
 short_trailer laws u last stood =
     let (p, a, at) = stood_done u last stood in
     (whole_parts laws u p at.ended at.place at.is_led).message.is_trailer.2
 
-pub some_head : FeedLaws → (u : Unpacking) → u.parts.last ≡ true → Stood u → wire.head_read u.parts.message ≡ None → ⊥
+pub some_head : FeedLaws → (u : Unpacking) → has_ended u.parts ≡ true → Stood u → wire.head_read u.parts.message ≡ None → ⊥
 some_head laws u last stood = let (p, a, at) = stood_done u last stood in has_head laws u p a at
 
-pub all_sections : FeedLaws → (u : Unpacking) → u.parts.last ≡ true → Stood u → (((ds : List Dataset) → StandsBehind u.parts.fields ds → AreSections ds → ⊥) → ⊥)
+pub all_sections : FeedLaws → (u : Unpacking) → has_ended u.parts ≡ true → Stood u → (((ds : List Dataset) → StandsBehind u.parts.fields ds → AreSections ds → ⊥) → ⊥)
 all_sections laws u last stood none =
     let (p, a, at) = stood_done u last stood in
     let w = whole_parts laws u p at.ended at.place at.is_led in none w.ds w.behind.fields w.sections

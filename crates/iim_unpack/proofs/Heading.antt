@@ -1,5 +1,5 @@
 -- Where a head leads the parts of an unpacker, and why it is refused.
-use Rattle.std.proofs.Common.{◌≡◌, ℕ, ◌+◌, ◌<◌, ◌≤◌, ◌⊎◌, Bool, true, false, cond, if◌then◌else◌, nat_eq, List, [], ◌∷◌, ◌++◌, length, flat_map, Option, Some, refl, ap, sym, subst, ◌∙◌, inl, inr, arith, append-nil}
+use Rattle.std.proofs.Common.{◌≡◌, ℕ, ◌<◌, ◌≤◌, ◌⊎◌, Bool, true, false, cond, if◌then◌else◌, nat_eq, List, [], ◌∷◌, ◌++◌, length, flat_map, Option, Some, refl, ap, sym, subst, ◌∙◌, inl, inr, arith, append-nil}
 use Rattle.std.proofs.lemmas.Bool.Decides.{eqb_tells}
 use Rattle.iim_dataset.specs.Datasets.{Dataset}
 use Rattle.iim_dataset.specs.Splits.{InTag, InData}
@@ -31,31 +31,29 @@ use Rattle.wire_message.specs.Reading as wire
 use Rattle.wire_message.specs.declared.place.Place.{Place}
 use Rattle.iim_unpack.specs.Admitted.{object_of}
 use Rattle.iim_unpack.specs.Tokens.{place_at, ObjectLives, IsRefusedHead}
-use Rattle.iim_unpack.specs.Passed.{Passed, RefusesBySize, RefusesAtEnd, RefusesObject, octets_in, is_ended}
+use Rattle.iim_unpack.specs.Passed.{Passed, HasFewSubfiles, IsFullOfSubfiles, RefusesBySize, RefusesAtEnd, RefusesObject, RefusesSubfile, octets_in, is_ended}
 use Rattle.iim_unpack.specs.Refusals.{of_field, too_many_on, message_on, cause_of, cause_of_size}
-use Rattle.iim_unpack.specs.Parts.{object_so_far, Behind, Within, Went, CountsFor, IsUnfinished, Stopped}
+use Rattle.iim_unpack.specs.Parts.{object_so_far, Behind, Within, Went, CountsFor, IsUnfinished, Stopped, has_ended}
 use Rattle.iim_unpack.specs.declared.parts.Parts.{Parts}
 use Rattle.iim_unpack.specs.declared.fault.Fault.{Fault}
 use Rattle.wire_message.specs.declared.fault.MessageCause.{MessageCause}
 use Rattle.iim_unpack.proofs.Places.{HeadLeads, subfile_leads, end_leads}
 use Rattle.iim_unpack.proofs.Faults.{field_head, too_many_head, object_head, have_room}
 use Rattle.std.proofs.lemmas.Bool.{true≢false}
+use Rattle.std.proofs.lemmas.List.{length-map}
 use Rattle.iim_unpack.proofs.Lasts.{sections_last}
+use Rattle.iim_unpack.proofs.Ended.{ended_behind}
 use Rattle.iim_unpack.proofs.Carrying.{counts_for, passes_on, behind_all, all_behind}
 use Rattle.iim_unpack.specs.LowerLaws.{HeadLaws}
 
 -- What stands after a head.
 pub record Begins (new : Parts) (ds : List Dataset) (h : Head) : Type 0 where
   pub fields : records.StandsIn new.fields ds h []
-  pub head : new.head ≡ h
-  pub left : new.left ≡ h.count
   pub object : objects.StandsAt new.object (place_at ds h)
-  pub subfiles : new.subfiles ≡ length (of_record 8 ds) + (if nat_eq h.rec 8 then 1 else 0)
   pub few : length (of_record 8 ds) ≤ max_subfiles
   pub room : h.rec ≡ 8 → length (of_record 8 ds) < max_subfiles
   pub message : wire.StandsAt new.message (object_of ds) (text_so_far (object_of ds))
   pub ended : h.rec ≡ 9 → wire.IsWhole new.message
-  pub last : new.last ≡ false
 
 either_way : (b : Bool) (xs : List ℕ) → cond b xs xs ≡ xs
 either_way true xs = refl
@@ -66,17 +64,13 @@ no_more ds h = ap (λ (xs : List ℕ). object_of ds ++ xs) (either_way (nat_eq h
 
 within_begun : (new : Parts) (ds : List Dataset) (h : Head) → Begins new ds h → Within new ds h []
 within_begun new ds h b = record {
-  head = b.head;
-  left = omega (arith, b.left);
   octets = tt;
   fields = subst (records.StandsIn new.fields ds h) (sym (either_way (nat_eq h.rec 8) [])) b.fields;
   object = b.object;
-  subfiles = b.subfiles;
   few = b.few;
   room = b.room;
   message = subst (λ (o : List ℕ). wire.StandsAt new.message o (text_so_far o)) (sym (no_more ds h)) b.message;
   ended = b.ended;
-  last = b.last;
 }
 
 -- a head, from after whole datasets
@@ -89,7 +83,7 @@ went_head goes failures p new a b h more between same told calm begins = record 
   more = more;
   told = told;
   calm = calm;
-  leads = λ before text led.
+  leads = λ before text order led.
       let at = behind_all p before text between led in
       let next = begins at.ds at.behind in
       record {
@@ -124,58 +118,49 @@ somewhere_text texts old o more goes at =
 
 -- ---- each kind of head
 
-abbrev pick : Bool → ℕ
-pick b = if b then 1 else 0
+-- how many subfiles the object has
+as_many : (ds : List Dataset) → length (place_behind ds).lengths ≡ length (of_record 8 ds)
+as_many ds = length-map (of_record 8 ds) (λ (d : Dataset). length d.octets)
 
-one_if : (r : ℕ) → r ≡ 8 → pick (nat_eq r 8) ≡ 1
-one_if r eight = ap (λ n. pick (nat_eq n 8)) eight
+few_of : (p : Parts) (ds : List Dataset) → Behind p ds → HasFewSubfiles p.object → length (of_record 8 ds) < max_subfiles
+few_of p ds at few = let n = few (place_behind ds) at.object in omega (arith, n, as_many ds)
 
-pub begins_subfile : {S : Type 0} (goes : S → List story.Event → S → Type 0) (failures : S → ℕ) → HeadLaws → (p : Parts) (a b : S) (ds : List Dataset) (h : Head) (checker : FieldsPlace) (object : Option State) (message : Option Place) (subfiles : ℕ)
-    → h.rec ≡ 8 → p.last ≡ false → Behind p ds → records.StandsIn checker ds h [] → objects.GoesOn p.object (head_token h.rec h.count) object
-    → (passed : Passed goes failures p.message a (events_at h.rec) message b) → subfiles ≡ p.subfiles + 1 → p.subfiles < max_subfiles
-    → Begins (record { fields = checker; object = object; message = message; subfiles = subfiles; head = h; left = h.count; last = p.last }) ds h
+pub begins_subfile : {S : Type 0} (goes : S → List story.Event → S → Type 0) (failures : S → ℕ) → HeadLaws → (p : Parts) (a b : S) (ds : List Dataset) (h : Head) (checker : FieldsPlace) (object : Option State) (message : Option Place)
+    → h.rec ≡ 8 → Behind p ds → records.StandsIn checker ds h [] → objects.GoesOn p.object (head_token h.rec h.count) object
+    → (passed : Passed goes failures p.message a (events_at h.rec) message b) → HasFewSubfiles p.object
+    → Begins (record { fields = checker; object = object; message = message }) ds h
     × (text_so_far (object_of ds) ++ passed.more ≡ text_so_far (object_of ds))
-begins_subfile goes failures laws p a b ds h checker object message subfiles eight last at inside goes_on passed more few =
-    let room : length (of_record 8 ds) < max_subfiles = omega (arith, few, at.subfiles) in
+begins_subfile goes failures laws p a b ds h checker object message eight at inside goes_on passed few =
+    let room : length (of_record 8 ds) < max_subfiles = few_of p ds at few in
     let leads = subfile_leads laws.objects ds h inside.alive eight room in
-    let text = same_text laws.message.texts p.message message h.rec (object_of ds) passed.more passed.stands at.message in
-    let one = one_if h.rec eight in (
+    let text = same_text laws.message.texts p.message message h.rec (object_of ds) passed.more passed.stands at.message in (
       record {
         fields = inside;
-        head = refl;
-        left = refl;
         object = subst (objects.StandsAt object) leads.1 (goes_on (place_behind ds) at.object leads.0);
-        subfiles = omega (arith, more, at.subfiles, one);
         few = at.few;
         room = λ is. room;
         message = text.0;
         ended = λ nine. absurd (let bad : 8 ≡ 9 = sym eight ∙ nine in omega (arith, bad));
-        last = last;
       },
       text.1,
     )
 
 pub begins_end : {S : Type 0} (goes : S → List story.Event → S → Type 0) (failures : S → ℕ) → HeadLaws → (p : Parts) (a b : S) (ds : List Dataset) (h : Head) (checker : FieldsPlace) (object : Option State) (message : Option Place)
-    → h.rec ≡ 9 → p.last ≡ false → Behind p ds → records.StandsIn checker ds h [] → objects.GoesOn p.object (head_token h.rec h.count) object
+    → h.rec ≡ 9 → Behind p ds → records.StandsIn checker ds h [] → objects.GoesOn p.object (head_token h.rec h.count) object
     → (passed : Passed goes failures p.message a (events_at h.rec) message b)
-    → Begins (record { fields = checker; object = object; message = message; subfiles = p.subfiles; head = h; left = h.count; last = p.last }) ds h
+    → Begins (record { fields = checker; object = object; message = message }) ds h
     × (text_so_far (object_of ds) ++ passed.more ≡ text_so_far (object_of ds))
-begins_end goes failures laws p a b ds h checker object message nine last at inside goes_on passed =
+begins_end goes failures laws p a b ds h checker object message nine at inside goes_on passed =
     let leads = end_leads laws.objects ds h inside.alive nine in
     let text = same_text laws.message.texts p.message message h.rec (object_of ds) passed.more passed.stands at.message in
-    let none : pick (nat_eq h.rec 8) ≡ 0 = ap (λ n. pick (nat_eq n 8)) nine in
     let is_end : is_ended false (events_at h.rec) ≡ true = ap (λ n. is_ended false (events_at n)) nine in (
       record {
         fields = inside;
-        head = refl;
-        left = refl;
         object = subst (objects.StandsAt object) leads.1 (goes_on (place_behind ds) at.object leads.0);
-        subfiles = omega (arith, at.subfiles, none);
         few = at.few;
         room = λ is. absurd (let bad : 8 ≡ 9 = sym is ∙ nine in omega (arith, bad));
         message = text.0;
         ended = λ is. passed.whole false (λ bad. absurd (let e : false ≡ true = bad in cc)) is_end;
-        last = last;
       },
       text.1,
     )
@@ -183,24 +168,19 @@ begins_end goes failures laws p a b ds h checker object message nine last at ins
 not_equal : (r s : ℕ) → (r ≡ s → ⊥) → nat_eq r s ≡ false
 not_equal r s other = elim (eqb_tells r s) [ inl same ↦ absurd (other same.1) | inr apart ↦ apart.0 ]
 
-pub begins_other : (p : Parts) (ds : List Dataset) (h : Head) (checker : FieldsPlace) → (h.rec ≡ 8 → ⊥) → (h.rec ≡ 9 → ⊥) → p.last ≡ false → Behind p ds → records.StandsIn checker ds h []
-    → Begins (record { fields = checker; object = p.object; message = p.message; subfiles = p.subfiles; head = h; left = h.count; last = p.last }) ds h
-begins_other p ds h checker other8 other9 last at inside =
+pub begins_other : (p : Parts) (ds : List Dataset) (h : Head) (checker : FieldsPlace) → (h.rec ≡ 8 → ⊥) → (h.rec ≡ 9 → ⊥) → Behind p ds → records.StandsIn checker ds h []
+    → Begins (record { fields = checker; object = p.object; message = p.message }) ds h
+begins_other p ds h checker other8 other9 at inside =
     let no8 = not_equal h.rec 8 other8 in
     let no9 = not_equal h.rec 9 other9 in
     let elsewhere : place_at ds h ≡ place_behind ds = rw (no8, no9) refl in
-    let none : pick (nat_eq h.rec 8) ≡ 0 = ap pick no8 in
     record {
       fields = inside;
-      head = refl;
-      left = refl;
       object = subst (objects.StandsAt p.object) (sym elsewhere) at.object;
-      subfiles = omega (arith, at.subfiles, none);
       few = at.few;
       room = λ is. absurd (other8 is);
       message = at.message;
       ended = λ is. absurd (other9 is);
-      last = last;
     }
 
 -- ---- refusals
@@ -225,7 +205,7 @@ counts_size sizes.Short m n e = e
 counts_size sizes.ConfirmedWrong m n e = e
 
 -- a head is refused, and the sink was told what is delivered of no more text
-stopped_head : {S : Type 0} (goes : S → List story.Event → S → Type 0) (failures : S → ℕ) (p : Parts) (a b : S) (h : Head) (fault : Fault) (more : List ℕ) → HeadLaws → p.last ≡ false → IsBetween p.fields
+stopped_head : {S : Type 0} (goes : S → List story.Event → S → Type 0) (failures : S → ℕ) (p : Parts) (a b : S) (h : Head) (fault : Fault) (more : List ℕ) → HeadLaws → has_ended p ≡ false → IsBetween p.fields
     → goes a (story.delivered more) b → CountsFor fault.cause (failures a) (failures b)
     → ((ds : List Dataset) → Behind p ds → (IsRefusedHead (limits_of p.fields) ds h fault ⊎ IsUnfinished (limits_of p.fields) ds h fault) × (text_so_far (object_of ds) ++ more ≡ text_so_far (object_of ds)))
     → Stopped goes failures p a [] (HeadRead h) (Some fault) b
@@ -235,7 +215,7 @@ stopped_head goes failures p a b h fault more laws last between told counts refu
   more = more;
   told = told;
   counts = counts;
-  why = λ before text led.
+  why = λ before text order led.
       let at = behind_all p before text between led in
       let next = refuses at.ds at.behind in
       record {
@@ -244,35 +224,35 @@ stopped_head goes failures p a b h fault more laws last between told counts refu
         told = append-nil before ∙ at.told;
         is_text = ap (λ (t : List ℕ). t ++ more) at.is_text ∙ next.1;
         goes_on = all_behind laws.message.living p at.ds at.held at.behind;
-        unfinished = λ sections. true≢false (sym (ap (λ n. nat_eq n 9) (sections_last laws.ends at.ds at.behind.fields.alive sections)) ∙ sym at.behind.last ∙ last);
+        unfinished = λ sections. true≢false (sym (ap (λ n. nat_eq n 9) (sections_last laws.ends at.ds at.behind.fields.alive sections)) ∙ sym (ended_behind p at.ds at.behind.fields) ∙ last);
         refuses = next.0;
       };
 }
 
-pub stopped_field : {S : Type 0} (goes : S → List story.Event → S → Type 0) (failures : S → ℕ) (p : Parts) (a : S) (h : Head) (f : FieldFault) → h.set < 256 → HeadLaws → p.last ≡ false → IsBetween p.fields → goes a [] a
+pub stopped_field : {S : Type 0} (goes : S → List story.Event → S → Type 0) (failures : S → ℕ) (p : Parts) (a : S) (h : Head) (f : FieldFault) → h.set < 256 → HeadLaws → has_ended p ≡ false → IsBetween p.fields → goes a [] a
     → ((ds : List Dataset) → records.StandsBehind p.fields ds → IsHeadFault (limits_of p.fields) ds h f) → Stopped goes failures p a [] (HeadRead h) (Some (of_field f)) a
 stopped_field goes failures p a h f small laws last between g is =
     stopped_head goes failures p a a h (of_field f) [] laws last between g (quiet_field f.cause (failures a))
     (λ ds at. (inl (field_head laws.heads (limits_of p.fields) ds h f small at.fields.alive (is ds at.fields)), append-nil (text_so_far (object_of ds))))
 
-pub stopped_many : {S : Type 0} (goes : S → List story.Event → S → Type 0) (failures : S → ℕ) (p : Parts) (a : S) (h : Head) (checker : FieldsPlace) → HeadLaws → p.last ≡ false → IsBetween p.fields → goes a [] a
-    → ((ds : List Dataset) → records.StandsBehind p.fields ds → records.StandsIn checker ds h []) → h.rec ≡ 8 → max_subfiles ≤ p.subfiles
+pub stopped_many : {S : Type 0} (goes : S → List story.Event → S → Type 0) (failures : S → ℕ) (p : Parts) (a : S) (h : Head) (checker : FieldsPlace) → HeadLaws → has_ended p ≡ false → IsBetween p.fields → goes a [] a
+    → ((ds : List Dataset) → records.StandsBehind p.fields ds → records.StandsIn checker ds h []) → h.rec ≡ 8 → IsFullOfSubfiles p.object
     → Stopped goes failures p a [] (HeadRead h) (Some (too_many_on h)) a
 stopped_many goes failures p a h checker laws last between g inside eight many =
     stopped_head goes failures p a a h (too_many_on h) [] laws last between g refl
     (λ ds at.
-    let full : max_subfiles ≤ length (of_record 8 ds) = omega (arith, many, at.subfiles) in
+    let full : max_subfiles ≤ length (of_record 8 ds) = let n = many (place_behind ds) at.object in omega (arith, n, as_many ds) in
     (inl (too_many_head laws.heads (limits_of p.fields) ds h (too_many_on h) at.fields.alive (inside ds at.fields).alive eight full refl), append-nil (text_so_far (object_of ds))))
 
-pub stopped_size : {S : Type 0} (goes : S → List story.Event → S → Type 0) (failures : S → ℕ) (p : Parts) (a b : S) (h : Head) (checker : FieldsPlace) (fault : Fault) → HeadLaws → p.last ≡ false → IsBetween p.fields
-    → ((ds : List Dataset) → records.StandsBehind p.fields ds → records.StandsIn checker ds h []) → (h.rec ≡ 8) ⊎ (h.rec ≡ 9) → (h.rec ≡ 8 → p.subfiles < max_subfiles)
+pub stopped_size : {S : Type 0} (goes : S → List story.Event → S → Type 0) (failures : S → ℕ) (p : Parts) (a b : S) (h : Head) (checker : FieldsPlace) (fault : Fault) → HeadLaws → has_ended p ≡ false → IsBetween p.fields
+    → ((ds : List Dataset) → records.StandsBehind p.fields ds → records.StandsIn checker ds h []) → (h.rec ≡ 8) ⊎ (h.rec ≡ 9) → (h.rec ≡ 8 → HasFewSubfiles p.object)
     → RefusesBySize goes failures p.object p.message h a b fault → Stopped goes failures p a [] (HeadRead h) (Some fault) b
 stopped_size goes failures p a b h checker fault laws last between inside is few r =
     stopped_head goes failures p a b h fault r.more laws last between r.told
     (subst (λ (f : Fault). CountsFor f.cause (failures a) (failures b)) (sym r.is_fault) (counts_size r.cause (failures a) (failures b) r.calm))
     (λ ds at.
     let alive = (inside ds at.fields).alive in
-    let room : h.rec ≡ 8 → length (of_record 8 ds) < max_subfiles = λ eight. let less = few eight in omega (arith, less, at.subfiles) in (
+    let room : h.rec ≡ 8 → length (of_record 8 ds) < max_subfiles = λ eight. few_of p ds at (few eight) in (
       inl (object_head laws.heads laws.objects.tokens (limits_of p.fields) ds h fault p.object at.fields.alive alive is room (leads_by is ds alive room) at.object (r.cause, r.refuses, r.is_fault)),
       somewhere_text laws.message.texts p.message (object_of ds) r.more r.leads at.message,
     ))
@@ -281,7 +261,7 @@ stopped_size goes failures p a b h checker fault laws last between inside is few
     leads_by (inl eight) ds alive room = subfile_leads laws.objects ds h alive eight (room eight)
     leads_by (inr nine) ds alive room = end_leads laws.objects ds h alive nine
 
-pub stopped_end : {S : Type 0} (goes : S → List story.Event → S → Type 0) (failures : S → ℕ) (p : Parts) (a b : S) (h : Head) (checker : FieldsPlace) (fault : Fault) → HeadLaws → p.last ≡ false → IsBetween p.fields
+pub stopped_end : {S : Type 0} (goes : S → List story.Event → S → Type 0) (failures : S → ℕ) (p : Parts) (a b : S) (h : Head) (checker : FieldsPlace) (fault : Fault) → HeadLaws → has_ended p ≡ false → IsBetween p.fields
     → ((ds : List Dataset) → records.StandsBehind p.fields ds → records.StandsIn checker ds h []) → h.rec ≡ 9
     → RefusesAtEnd goes failures p.object p.message h a b fault → Stopped goes failures p a [] (HeadRead h) (Some fault) b
 stopped_end goes failures p a b h checker fault laws last between inside nine r =
@@ -312,9 +292,9 @@ stopped_end goes failures p a b h checker fault laws last between inside nine r 
     some-same : {x y : MessageCause} → Some x ≡ Some y → x ≡ y
     some-same e = cc
 
-pub stopped_subfile : {S : Type 0} (goes : S → List story.Event → S → Type 0) (failures : S → ℕ) (p : Parts) (a b : S) (h : Head) (checker : FieldsPlace) → HeadLaws → p.last ≡ false → IsBetween p.fields → goes a [] a
+pub stopped_subfile : {S : Type 0} (goes : S → List story.Event → S → Type 0) (failures : S → ℕ) (p : Parts) (a b : S) (h : Head) (checker : FieldsPlace) → HeadLaws → has_ended p ≡ false → IsBetween p.fields → goes a [] a
     → ((ds : List Dataset) → records.StandsBehind p.fields ds → records.StandsIn checker ds h []) → h.rec ≡ 8 → (fault : Fault)
-    → ((max_subfiles ≤ p.subfiles) × (fault ≡ too_many_on h) × (b ≡ a)) ⊎ ((p.subfiles < max_subfiles) × RefusesObject goes failures p.object p.message h a b fault)
+    → RefusesSubfile goes failures p.object p.message h a b fault
     → Stopped goes failures p a [] (HeadRead h) (Some fault) b
 stopped_subfile goes failures p a b h checker laws last between g inside eight fault (inl (many, is, same)) =
     subst (λ (s : _). Stopped goes failures p a [] (HeadRead h) (Some fault) s) (sym same)
@@ -324,7 +304,7 @@ stopped_subfile goes failures p a b h checker laws last between g inside eight f
 stopped_subfile goes failures p a b h checker laws last between g inside eight fault (inr (few, inr r)) =
     absurd (let bad : SubfileBegun h.count ≡ ObjectEnded = sym (ap (λ n. head_token n h.count) eight) ∙ r.token in cc)
 
-pub stopped_last : {S : Type 0} (goes : S → List story.Event → S → Type 0) (failures : S → ℕ) (p : Parts) (a b : S) (h : Head) (checker : FieldsPlace) → HeadLaws → p.last ≡ false → IsBetween p.fields
+pub stopped_last : {S : Type 0} (goes : S → List story.Event → S → Type 0) (failures : S → ℕ) (p : Parts) (a b : S) (h : Head) (checker : FieldsPlace) → HeadLaws → has_ended p ≡ false → IsBetween p.fields
     → ((ds : List Dataset) → records.StandsBehind p.fields ds → records.StandsIn checker ds h []) → h.rec ≡ 9 → (fault : Fault)
     → RefusesObject goes failures p.object p.message h a b fault → Stopped goes failures p a [] (HeadRead h) (Some fault) b
 stopped_last goes failures p a b h checker laws last between inside nine fault (inl r) =

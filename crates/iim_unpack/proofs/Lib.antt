@@ -13,6 +13,8 @@ pub mod Refused
 pub mod Results
 pub mod Ends
 pub mod Lasts
+pub mod Ended
+pub mod Sequences
 pub mod Carrying
 pub mod Heading
 pub mod Closing
@@ -23,3 +25,5 @@ pub mod Following
 pub mod Answering
 pub mod PieceLemmas
 pub mod Admitted
+pub mod Tickets
+pub mod TicketLengths

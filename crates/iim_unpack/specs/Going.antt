@@ -6,11 +6,16 @@ use Rattle.iim_fields.specs.Standing.{limits_of}
 use Rattle.iim_fields.specs.declared.limits.Limits.{Limits}
 use Rattle.wire_story.specs.Delivery as story
 use Rattle.iim_unpack.specs.Parts.{Led, Went, Stopped, Refused, CountsFor, Closed, NotClosed}
+use Rattle.iim_unpack.specs.Sequence.{AreInOrder}
 use Rattle.iim_unpack.specs.declared.parts.Parts.{Parts}
 use Rattle.iim_unpack.specs.declared.fault.Fault.{Fault}
 
 delivered-append : (x y : List ℕ) → story.delivered (x ++ y) ≡ story.delivered x ++ story.delivered y
 delivered-append x y = flat_map-append story.events_of x y
+
+-- the events before others
+pub front_in_order : (xs ys : List Event) → AreInOrder (xs ++ ys) → AreInOrder xs
+front_in_order xs ys order = record { later = ys ++ order.later; whole = order.whole; are = sym (append_assoc xs ys order.later) ∙ order.are }
 
 pub went_nothing : {S : Type 0} (goes : S → List story.Event → S → Type 0) (failures : S → ℕ) (old : Parts) (a : S) → goes a [] a → Went goes failures old a [] old a
 went_nothing goes failures old a g = record {
@@ -18,7 +23,7 @@ went_nothing goes failures old a g = record {
   more = [];
   told = g;
   calm = refl;
-  leads = λ before text led.
+  leads = λ before text order led.
       subst (λ (t : List ℕ). Led old (before ++ []) t) (sym (append-nil text)) (subst (λ (es : List Event). Led old es text) (sym (append-nil before)) led);
 }
 
@@ -30,9 +35,11 @@ went_joined goes failures joined p q r a b c xs ys h k = record {
   more = h.more ++ k.more;
   told = subst (λ (es : List story.Event). goes a es c) (sym (delivered-append h.more k.more)) (joined a b c (story.delivered h.more) (story.delivered k.more) h.told k.told);
   calm = k.calm ∙ h.calm;
-  leads = λ before text led.
+  leads = λ before text order led.
+      let in_order : AreInOrder ((before ++ xs) ++ ys) = subst AreInOrder (sym (append_assoc before xs ys)) order in
       subst (λ (t : List ℕ). Led r (before ++ (xs ++ ys)) t) (append_assoc text h.more k.more)
-      (subst (λ (es : List Event). Led r es ((text ++ h.more) ++ k.more)) (append_assoc before xs ys) (k.leads (before ++ xs) (text ++ h.more) (h.leads before text led)));
+      (subst (λ (es : List Event). Led r es ((text ++ h.more) ++ k.more)) (append_assoc before xs ys)
+      (k.leads (before ++ xs) (text ++ h.more) in_order (h.leads before text (front_in_order (before ++ xs) ys in_order) led)));
 }
 
 pub stopped_joined : {S : Type 0} (goes : S → List story.Event → S → Type 0) (failures : S → ℕ)
@@ -45,10 +52,12 @@ stopped_joined goes failures joined p q a b c xs ys event refused h k = record {
   more = h.more ++ k.more;
   told = subst (λ (es : List story.Event). goes a es c) (sym (delivered-append h.more k.more)) (joined a b c (story.delivered h.more) (story.delivered k.more) h.told k.told);
   counts = subst (λ (n : ℕ). CountsFor k.fault.cause n (failures c)) h.calm k.counts;
-  why = λ before text led.
+  why = λ before text order led.
+      let in_order : AreInOrder (((before ++ xs) ++ ys) ++ event ∷ []) = subst (λ (es : List Event). AreInOrder (es ++ event ∷ [])) (sym (append_assoc before xs ys)) order in
+      let front : AreInOrder (before ++ xs) = front_in_order (before ++ xs) ys (front_in_order ((before ++ xs) ++ ys) (event ∷ []) in_order) in
       subst (λ (t : List ℕ). Refused (limits_of p.fields) (before ++ (xs ++ ys)) t event k.fault) (append_assoc text h.more k.more)
       (subst (λ (es : List Event). Refused (limits_of p.fields) es ((text ++ h.more) ++ k.more) event k.fault) (append_assoc before xs ys)
-      (subst (λ (l : Limits). Refused l ((before ++ xs) ++ ys) ((text ++ h.more) ++ k.more) event k.fault) h.limits (k.why (before ++ xs) (text ++ h.more) (h.leads before text led))));
+      (subst (λ (l : Limits). Refused l ((before ++ xs) ++ ys) ((text ++ h.more) ++ k.more) event k.fault) h.limits (k.why (before ++ xs) (text ++ h.more) in_order (h.leads before text front led))));
 }
 
 -- the end of a dataset, with which nothing is delivered
@@ -58,7 +67,7 @@ went_closed goes failures old new a nothing closed = record {
   more = [];
   told = nothing;
   calm = refl;
-  leads = λ before text led. subst (Led new (before ++ DatasetEnd ∷ [])) (sym (append-nil text)) (closed.leads before text led);
+  leads = λ before text order led. subst (Led new (before ++ DatasetEnd ∷ [])) (sym (append-nil text)) (closed.leads before text order led);
 }
 
 -- the end of a dataset, of which no sink is told
@@ -70,7 +79,8 @@ stopped_closed goes failures p a fault g bad = record {
   more = [];
   told = g;
   counts = bad.quiet (failures a);
-  why = λ before text led.
+  why = λ before text order led.
+      let in_order : AreInOrder (before ++ DatasetEnd ∷ []) = subst (λ (es : List Event). AreInOrder (es ++ DatasetEnd ∷ [])) (append-nil before) order in
       subst (λ (t : List ℕ). Refused (limits_of p.fields) (before ++ []) t DatasetEnd fault) (sym (append-nil text))
-      (subst (λ (es : List Event). Refused (limits_of p.fields) es text DatasetEnd fault) (sym (append-nil before)) (bad.why before text led));
+      (subst (λ (es : List Event). Refused (limits_of p.fields) es text DatasetEnd fault) (sym (append-nil before)) (bad.why before text in_order led));
 }

@@ -10,7 +10,7 @@ use Rattle.wire_story.specs.Delivery as story
 use Rattle.iim_unpack.specs.Admitted.{Value, Admits}
 use Rattle.iim_unpack.specs.Blocks.{behind}
 use Rattle.iim_unpack.specs.Framed.{AreWithin}
-use Rattle.iim_unpack.specs.Parts.{CountsFor}
+use Rattle.iim_unpack.specs.Parts.{CountsFor, has_ended}
 use Rattle.iim_unpack.specs.Refusals.{refusal_at}
 use Rattle.iim_unpack.specs.Unpacking.{Unpacking, Stands, IsDoneWith, IsOpen, Adds, RefusesNext, IsTruncatedAt, limits_in, raised}
 use Rattle.iim_unpack.specs.Value.{HasParts}
@@ -27,7 +27,7 @@ line state i = behind i.block (state i.reader)
 
 -- The unpacker is neither done nor failed.
 abbrev pub IsReady : Unpacking → Type 0
-IsReady u = (u.refused ≡ None) × (u.parts.last ≡ false)
+IsReady u = (u.refused ≡ None) × (has_ended u.parts ≡ false)
 
 -- Just these octets came from the line, and the sink was told this.
 pub record Came {S : Type 0} (goes : S → List story.Event → S → Type 0) (old new : Device) (a b : S) (octets : List ℕ) (more : List story.Event) : Type 0 where

@@ -9,11 +9,13 @@ pub mod Intakes
 pub mod Laws
 pub mod Passed
 pub mod Passing
+pub mod Sequence
 pub mod Parts
 pub mod Going
 pub mod Routing
 pub mod Unpacking
 pub mod LowerLaws
 pub mod Streams
+pub mod Tickets
 pub mod Value
 pub mod Pieces

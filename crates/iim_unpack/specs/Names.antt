@@ -1,5 +1,6 @@
 -- The numbers and names of layers and causes.
-use Rattle.std.specs.Prelude.{ℕ, if◌then◌else◌, nat_lt, List, [], ◌++◌, codes, decimal}
+use Rattle.std.specs.Prelude.{ℕ, List, ◌++◌, codes, decimal}
+use Rattle.iim_dataset.specs.Shown.{dataset_name}
 use Rattle.iim_unpack.specs.declared.refusal.Refusal.{Refusal}
 use Rattle.iim_unpack.specs.declared.refusal.Layer.{Layer}
 use Rattle.iim_unpack.specs.declared.refusal.Layer.TheVariants.{Dataset, Record, Limits, Object, Message, Story, Outside}
@@ -76,14 +77,6 @@ cause_name OutOfMemory = codes "OutOfMemory"
 -- a cause's number and name
 abbrev pub cause_text : Cause → List ℕ
 cause_text cause = decimal (cause_number cause) ++ (codes " " ++ cause_name cause)
-
--- a 0 before a number of one digit
-abbrev pub padding : ℕ → List ℕ
-padding n = if nat_lt n 10 then codes "0" else []
-
--- a dataset's name: its record, and its number with two digits at least, as 1:00 or 2:105
-abbrev pub dataset_name : ℕ → ℕ → List ℕ
-dataset_name rec set = decimal rec ++ (codes ":" ++ (padding set ++ decimal set))
 
 -- a refusal: the octet, the layer, the dataset and the cause
 abbrev pub refusal_text : Refusal → List ℕ

@@ -1,5 +1,5 @@
 -- Where the parts of an unpacker stand, and what heads, data and ends of datasets lead them to.
-use Rattle.std.specs.Prelude.{◌≡◌, ℕ, ◌+◌, ◌<◌, ◌≤◌, ◌==◌, ◌⊎◌, if◌then◌else◌, false, List, [], ◌∷◌, ◌++◌, length, map, Option, Some, IsSome}
+use Rattle.std.specs.Prelude.{◌≡◌, ℕ, ◌<◌, ◌≤◌, ◌==◌, ◌&&◌, ◌⊎◌, if◌then◌else◌, Bool, false, List, [], ◌∷◌, ◌++◌, length, map, Option, Some, is_none, IsSome}
 use Rattle.iim_dataset.specs.Octets.{Octets}
 use Rattle.iim_dataset.specs.Datasets.{Dataset}
 use Rattle.iim_dataset.specs.Devices.{Rose}
@@ -25,6 +25,7 @@ use Rattle.iim_unpack.specs.Admitted.{object_of}
 use Rattle.iim_unpack.specs.Tokens.{place_at, GoOnAt, IsRefusedHead, IsRefusedValue}
 use Rattle.iim_unpack.specs.Tokens.{MayGoOn}
 use Rattle.iim_unpack.specs.Refusals.{message_on}
+use Rattle.iim_unpack.specs.Sequence.{AreInOrder}
 use Rattle.iim_unpack.specs.declared.fault.Fault.{Fault}
 use Rattle.iim_unpack.specs.declared.parts.Parts.{Parts}
 use Rattle.iim_unpack.specs.declared.refusal.Cause.{Cause}
@@ -58,25 +59,19 @@ pub record AllGoOn (limits : Limits) (ds : List Dataset) (begun : Begun) : Type 
 pub record Behind (parts : Parts) (ds : List Dataset) : Type 0 where
   pub fields : records.StandsBehind parts.fields ds
   pub object : objects.StandsAt parts.object (place_behind ds)
-  pub subfiles : parts.subfiles ≡ length (of_record 8 ds)
   pub few : length (of_record 8 ds) ≤ max_subfiles
   pub message : wire.StandsAt parts.message (object_of ds) (text_so_far (object_of ds))
   pub ended : present_record ds ≡ 9 → wire.IsWhole parts.message
-  pub last : parts.last ≡ (present_record ds == 9)
 
 -- in one of this head, with these data so far
 pub record Within (parts : Parts) (ds : List Dataset) (h : Head) (taken : List ℕ) : Type 0 where
-  pub head : parts.head ≡ h
-  pub left : length taken + parts.left ≡ h.count
   pub octets : Octets taken
   pub fields : records.StandsIn parts.fields ds h (if h.rec == 8 then [] else taken)
   pub object : objects.StandsAt parts.object (place_at ds h)
-  pub subfiles : parts.subfiles ≡ length (of_record 8 ds) + (if h.rec == 8 then 1 else 0)
   pub few : length (of_record 8 ds) ≤ max_subfiles
   pub room : h.rec ≡ 8 → length (of_record 8 ds) < max_subfiles
   pub message : wire.StandsAt parts.message (object_so_far ds (InData h taken)) (text_so_far (object_so_far ds (InData h taken)))
   pub ended : h.rec ≡ 9 → wire.IsWhole parts.message
-  pub last : parts.last ≡ false
 
 abbrev pub StandsFor : Parts → List Dataset → Begun → Type 0
 StandsFor parts ds (InTag held) = Behind parts ds
@@ -90,20 +85,23 @@ pub record Led (parts : Parts) (events : List Event) (text : List ℕ) : Type 0 
   pub stands : StandsFor parts whole begun
   pub is_text : text ≡ text_so_far (object_so_far whole begun)
 
+-- The last dataset has ended: record 9 is the present one, and no dataset is begun.
+unfoldable pub has_ended : Parts → Bool
+has_ended parts = (records.section_of parts.fields == 9) && is_none (records.begun_head_of parts.fields)
+
 -- They take a head.
 pub record TakesHead (parts : Parts) : Type 0 where
   pub fields : records.IsBetween parts.fields
   pub object : IsSome parts.object
   pub message : IsSome parts.message
-  pub last : parts.last ≡ false
+  pub more : has_ended parts ≡ false
 
 -- So many octets of the begun dataset are to come.
 pub record TakesData (parts : Parts) (left : ℕ) : Type 0 where
-  pub fields : (n : ℕ) × records.IsInside parts.fields parts.head n × ((parts.head.rec ≡ 8 → ⊥) → n ≡ parts.left)
-  pub left_is : parts.left ≡ left
+  pub head : Head
+  pub fields : records.IsInside parts.fields head left
   pub object : IsSome parts.object
   pub message : IsSome parts.message
-  pub last : parts.last ≡ false
 
 -- ---- what events do
 
@@ -112,13 +110,13 @@ abbrev pub CountsFor : Cause → ℕ → ℕ → Type 0
 CountsFor Sink old new = Rose old new
 CountsFor _ old new = new ≡ old
 
--- From parts to parts by these events, and the sink was told what is delivered of the text that they add.
+-- From parts to parts by these events, if they come in order, and the sink was told what is delivered of the text that they add.
 pub record Went {S : Type 0} (goes : S → List story.Event → S → Type 0) (failures : S → ℕ) (old : Parts) (a : S) (events : List Event) (new : Parts) (b : S) : Type 0 where
   pub limits : records.limits_of new.fields ≡ records.limits_of old.fields
   pub more : List ℕ
   pub told : goes a (story.delivered more) b
   pub calm : failures b ≡ failures a
-  pub leads : (before : List Event) (text : List ℕ) → Led old before text → Led new (before ++ events) (text ++ more)
+  pub leads : (before : List Event) (text : List ℕ) → AreInOrder (before ++ events) → Led old before text → Led new (before ++ events) (text ++ more)
 
 -- With the head of 9:10 no message ends, though all layers that are asked before can continue.
 pub record IsUnfinished (limits : Limits) (ds : List Dataset) (h : Head) (fault : Fault) : Type 0 where
@@ -147,21 +145,21 @@ pub record Refused (limits : Limits) (events : List Event) (text : List ℕ) (ev
   pub unfinished : AreSections whole → ⊥
   pub refuses : RefusesAt limits whole begun event fault
 
--- They ended the dataset, and no sink was told.
+-- They ended the dataset, if its end is next in order, and no sink was told.
 pub record Closed (old new : Parts) : Type 0 where
   pub limits : records.limits_of new.fields ≡ records.limits_of old.fields
-  pub leads : (before : List Event) (text : List ℕ) → Led old before text → Led new (before ++ DatasetEnd ∷ []) text
+  pub leads : (before : List Event) (text : List ℕ) → AreInOrder (before ++ DatasetEnd ∷ []) → Led old before text → Led new (before ++ DatasetEnd ∷ []) text
 
--- The end of the dataset is refused.
+-- The end of the dataset is refused, if it is next in order.
 pub record NotClosed (old : Parts) (fault : Fault) : Type 0 where
   pub quiet : (n : ℕ) → CountsFor fault.cause n n
-  pub why : (before : List Event) (text : List ℕ) → Led old before text → Refused (records.limits_of old.fields) before text DatasetEnd fault
+  pub why : (before : List Event) (text : List ℕ) → AreInOrder (before ++ DatasetEnd ∷ []) → Led old before text → Refused (records.limits_of old.fields) before text DatasetEnd fault
 
--- The parts took the events and refused the next one.
+-- The parts took the events and refused the next one, if they come in order.
 pub record Stopped {S : Type 0} (goes : S → List story.Event → S → Type 0) (failures : S → ℕ) (old : Parts) (a : S) (events : List Event) (event : Event) (refused : Option Fault) (b : S) : Type 0 where
   pub fault : Fault
   pub is_fault : refused ≡ Some fault
   pub more : List ℕ
   pub told : goes a (story.delivered more) b
   pub counts : CountsFor fault.cause (failures a) (failures b)
-  pub why : (before : List Event) (text : List ℕ) → Led old before text → Refused (records.limits_of old.fields) (before ++ events) (text ++ more) event fault
+  pub why : (before : List Event) (text : List ℕ) → AreInOrder ((before ++ events) ++ event ∷ []) → Led old before text → Refused (records.limits_of old.fields) (before ++ events) (text ++ more) event fault

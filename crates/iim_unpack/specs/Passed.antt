@@ -1,15 +1,18 @@
 -- What a reader of messages is told of an object: its octets, in any cut, and its end.
-use Rattle.std.specs.Prelude.{◌≡◌, ℕ, Bool, true, false, List, [], ◌∷◌, ◌++◌, map, length, take, slice_index, ◌<◌, ◌⊎◌, Option, Some, IsSome}
+use Rattle.std.specs.Prelude.{◌≡◌, ℕ, Bool, true, false, List, [], ◌∷◌, ◌++◌, map, length, take, slice_index, ◌<◌, ◌≤◌, ◌⊎◌, Option, Some, IsSome}
 use Rattle.iim_object.specs.Events.{Event, ObjectOctet, ObjectEnd}
 use Rattle.iim_dataset.specs.declared.head.Head.{Head}
 use Rattle.iim_object.specs.Objects.{ObjectToken, ObjectEnded}
 use Rattle.iim_object.specs.Places.{head_token}
+use Rattle.iim_object.specs.Places.{Place as ObjectPlace}
+use Rattle.iim_object.specs.Plans.{max_subfiles}
+use Rattle.iim_object.specs.Reading as objects
 use Rattle.iim_object.specs.Reading.{Refuses, LivesWith}
 use Rattle.iim_object.specs.declared.state.State.{State}
 use Rattle.iim_object.specs.declared.fault.SizeCause.{SizeCause}
 use Rattle.iim_object.specs.declared.fault.ObjectFault.{ObjectFault}
 use Rattle.iim_object.specs.declared.fault.ObjectFault.TheVariants.{Size, Stopped}
-use Rattle.iim_unpack.specs.Refusals.{size_on, message_on}
+use Rattle.iim_unpack.specs.Refusals.{size_on, message_on, too_many_on}
 use Rattle.iim_unpack.specs.declared.fault.Fault.{Fault}
 use Rattle.iim_unpack.specs.declared.message.ToMessage.{ToMessage}
 use Rattle.wire_story.specs.Delivery as story
@@ -86,6 +89,19 @@ pub record RefusesAtEnd {S : Type 0} (goes : S → List story.Event → S → Ty
 
 abbrev pub RefusesObject : {S : Type 0} → (S → List story.Event → S → Type 0) → (S → ℕ) → Option State → Option Place → Head → S → S → Fault → Type 0
 RefusesObject goes failures object message h a b fault = RefusesBySize goes failures object message h a b fault ⊎ RefusesAtEnd goes failures object message h a b fault
+
+-- Wherever the object stands, there may be one subfile more.
+abbrev pub HasFewSubfiles : Option State → Type 0
+HasFewSubfiles object = (p : ObjectPlace) → objects.StandsAt object p → length p.lengths < max_subfiles
+
+-- Wherever it stands, there are as many as there may be.
+abbrev pub IsFullOfSubfiles : Option State → Type 0
+IsFullOfSubfiles object = (p : ObjectPlace) → objects.StandsAt object p → max_subfiles ≤ length p.lengths
+
+-- The head of a subfile is one too many, and the sink was told nothing; or object or message refused it.
+abbrev pub RefusesSubfile : {S : Type 0} → (S → List story.Event → S → Type 0) → (S → ℕ) → Option State → Option Place → Head → S → S → Fault → Type 0
+RefusesSubfile goes failures object message h a b fault =
+    (IsFullOfSubfiles object × (fault ≡ too_many_on h) × (b ≡ a)) ⊎ (HasFewSubfiles object × RefusesObject goes failures object message h a b fault)
 
 -- the same of the sink that holds a reader and a sink: its references stay what they are
 abbrev pub PassesTo : {S : Type 0} → (S → List story.Event → S → Type 0) → (S → ℕ) → ToMessage S → List Event → ToMessage S → Type 0

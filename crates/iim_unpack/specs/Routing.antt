@@ -4,7 +4,7 @@ use Rattle.std.specs.Prelude.{◌≡◌, ℕ, List, Option, Some, None, IsSome, 
 use Rattle.iim_dataset.specs.Events.{Event}
 use Rattle.iim_fields.specs.Standing.{IsBetween, room_of}
 use Rattle.wire_story.specs.Delivery as story
-use Rattle.iim_unpack.specs.Parts.{TakesHead, TakesData, Went, Stopped}
+use Rattle.iim_unpack.specs.Parts.{TakesHead, TakesData, Went, Stopped, has_ended}
 use Rattle.iim_unpack.specs.declared.parts.Parts.{Parts}
 use Rattle.iim_unpack.specs.declared.router.Router.{Router}
 
@@ -23,7 +23,7 @@ Takes parts (Some left) = TakesData parts left
 
 -- The last dataset has ended.
 pub record HasEnded (parts : Parts) : Type 0 where
-  pub last : parts.last ≡ true
+  pub last : has_ended parts ≡ true
   pub between : IsBetween parts.fields
   pub object : IsSome parts.object
   pub message : IsSome parts.message

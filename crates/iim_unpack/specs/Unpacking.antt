@@ -16,7 +16,7 @@ use Rattle.iim_fields.specs.declared.limits.Limits.{Limits}
 use Rattle.wire_story.specs.Delivery as story
 use Rattle.wire_message.specs.Layers.{text_so_far}
 use Rattle.iim_unpack.specs.Refusals.{begun_record, begun_number, tag_cause}
-use Rattle.iim_unpack.specs.Parts.{object_so_far, AllGoOn, IsUnfinished, Led, Went, Stopped}
+use Rattle.iim_unpack.specs.Parts.{object_so_far, AllGoOn, IsUnfinished, Led, Went, Stopped, has_ended}
 use Rattle.iim_unpack.specs.Tokens.{IsRefusedHead, IsRefusedValue}
 use Rattle.iim_fields.specs.Values.{data_of}
 use Rattle.wire_message.specs.Reading as wire
@@ -185,7 +185,7 @@ pub record IsLed (u : Unpacking) (p : List ℕ) : Type 0 where
 -- It stands on these octets, and counts so many.
 pub record Stands (u : Unpacking) (p : List ℕ) (a : ℕ) : Type 0 where
   pub taking : u.refused ≡ None
-  pub unended : u.parts.last ≡ false
+  pub unended : has_ended u.parts ≡ false
   pub counts : u.octets ≡ a
   pub begun : u.begun ≡ are_some p
   pub is_led : IsLed u p
@@ -194,7 +194,7 @@ pub record Stands (u : Unpacking) (p : List ℕ) (a : ℕ) : Type 0 where
 -- It is done with these octets.
 pub record IsDoneWith (u : Unpacking) (p : List ℕ) (a : ℕ) : Type 0 where
   pub taking : u.refused ≡ None
-  pub ended : u.parts.last ≡ true
+  pub ended : has_ended u.parts ≡ true
   pub place : u.reader.place ≡ between
   pub counts : u.octets ≡ a
   pub is_led : IsLed u p
@@ -203,7 +203,7 @@ pub record IsDoneWith (u : Unpacking) (p : List ℕ) (a : ℕ) : Type 0 where
   pub within : AreWithin (limits_in u) admits.datasets
 
 abbrev pub IsDone : Unpacking → Type 0
-IsDone u = (u.refused ≡ None) × (u.parts.last ≡ true)
+IsDone u = (u.refused ≡ None) × (has_ended u.parts ≡ true)
 
 -- What is answered, of octets on which it stood.
 abbrev pub Goes : Unpacking → List ℕ → ℕ → List ℕ → List story.Event → Progress → Type 0
@@ -232,7 +232,7 @@ Stood u = (p : List ℕ) × (a : ℕ) × (Stands u p a ⊎ IsDoneWith u p a)
 -- what holds of an unpacker between calls
 pub record IsUnpacking (u : Unpacking) : Type 0 where
   pub calls : TakesCalls u.reader
-  pub takes : ((u.parts.last ≡ false) × Takes u.parts (to_come u.reader.place)) ⊎ HasEnded u.parts
+  pub takes : ((has_ended u.parts ≡ false) × Takes u.parts (to_come u.reader.place)) ⊎ HasEnded u.parts
   pub stood : Stood u
 
 abbrev pub IsSound : Unpacking → Type 0

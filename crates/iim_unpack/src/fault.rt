@@ -14,9 +14,13 @@ use wire_message::MessageCause;
 /// A token that is refused: the layer, the record and number of the dataset that is named, and the cause.
 #[derive(Clone, Copy, Debug, PartialEq, Eq)]
 pub(crate) struct Fault {
+    /// The layer that refuses it.
     pub layer: Layer,
+    /// The number of the record.
     pub rec: u8,
+    /// The number of the dataset.
     pub set: u8,
+    /// Why it is refused.
     pub cause: Cause,
 }
 

@@ -4,6 +4,7 @@ ghost use Rattle.iim_unpack.specs.Laws.{AdmittedOctetsAreFramed, AdmittedOctetsH
 ghost use Rattle.iim_unpack.specs.Intakes.{OpenOctetsAreBounded};
 ghost use Rattle.iim_unpack.specs.LowerLaws.{AnswerLaws, CloseLaws, FeedLaws, HeadLaws, MessageLaws, ObjectLaws};
 ghost use Rattle.iim_unpack.specs.Streams.{EnvelopesAreBounded, NothingGoesOnFromRefusedOctets, RefusalsAreDetermined, RefusedOctetsWereOpen, StreamsHaveOneAnswer};
+ghost use Rattle.iim_unpack.specs.Tickets.{OctetsHaveOneTicket};
 ghost use Rattle.iim_unpack.specs.Unpacking.{OpenOctetsBeginWithNoEnvelope};
 
 use iim_dataset::laws::{
@@ -19,7 +20,8 @@ use iim_object::laws::{
     sizes_are_determined,
 };
 use wire_message::laws::{
-    messages_have_one_reading, readers_stand_at_living_octets, texts_stand_between_stx_and_etx,
+    messages_have_one_reading, octets_lead_to_one_place, readers_stand_at_living_octets,
+    texts_stand_between_stx_and_etx,
 };
 use wire_story::laws::{texts_have_one_reading, texts_so_far_have_one_reading};
 
@@ -169,4 +171,13 @@ pub fn streams_have_one_answer()
     admitted_octets_have_one_value();
     no_admitted_octets_begin_others();
     open_octets_begin_with_no_envelope();
+}
+
+/// Octets have one ticket: an unpacker's place is determined by what it was fed.
+pub fn octets_have_one_ticket()
+    ensures { OctetsHaveOneTicket }
+{
+    octets_are_handed_on_one_way();
+    events_tell_the_datasets();
+    octets_lead_to_one_place();
 }

@@ -17,9 +17,11 @@ mod refusal;
 mod router;
 #[cfg(test)]
 mod tests;
+mod ticket;
 mod unpacker;
 
 pub use intake::{Intake, IntakeFault};
 pub use pieces::unpack_pieces;
 pub use refusal::{Cause, Layer, Refusal};
+pub use ticket::SaveFault;
 pub use unpacker::{Progress, Unpacked, Unpacker};

@@ -1,8 +1,9 @@
 //! Why octets are refused.
 
 ghost use Rattle.std.specs.Prelude.{◌≡◌, Some};
-ghost use Rattle.iim_unpack.specs.Names.{layer_name, cause_number, cause_name, cause_text, padding, dataset_name, refusal_text};
+ghost use Rattle.iim_unpack.specs.Names.{layer_name, cause_number, cause_name, cause_text, refusal_text};
 
+use iim_dataset::DatasetName;
 use std::fmt;
 use std::fmt::{Display, Formatter};
 
@@ -150,10 +151,15 @@ impl Cause {
 /// [`Cause::OutOfMemory`] names octet 0 and 0:00.
 #[derive(Clone, Copy, Debug, PartialEq, Eq)]
 pub struct Refusal {
+    /// The layer that refuses.
     pub layer: Layer,
+    /// The number of the record, or 0.
     pub rec: u8,
+    /// The number of the dataset, or 0.
     pub set: u8,
+    /// The offset in octets from the envelope's first one.
     pub octet: u64,
+    /// Why it refuses.
     pub cause: Cause,
 }
 
@@ -173,31 +179,6 @@ impl Display for Cause {
         let number = self.number();
         let name = self.name();
         write!(f, "{number} {name}")
-    }
-}
-
-/// What stands before a number of one digit.
-fn padding(number: u8) -> &'static str
-    ensures { result.now ≡ padding number }
-{
-    if number < 10 { "0" } else { "" }
-}
-
-/// A dataset's name, as `1:00` or `2:105`.
-#[derive(Clone, Copy)]
-struct DatasetName {
-    rec: u8,
-    set: u8,
-}
-
-impl Display for DatasetName {
-    ghost output = { λ n. Some (dataset_name n.rec n.set) };
-
-    fn fmt<W: fmt::Write>(&self, f: &mut Formatter<W>) -> fmt::Result {
-        let rec = self.rec;
-        let zero = padding(self.set);
-        let set = self.set;
-        write!(f, "{rec}:{zero}{set}")
     }
 }
 

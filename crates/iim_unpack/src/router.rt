@@ -13,8 +13,11 @@ use wire_story::StorySink;
 /// A sink of datasets: they go to the parts of an unpacker, and what is delivered of the text to a sink of stories. A refusal
 /// is kept.
 pub(crate) struct Router<'p, 's, S> {
+    /// Where the datasets go.
     pub parts: &'p mut Parts,
+    /// Where the text goes.
     pub sink: &'s mut S,
+    /// What was refused, or None.
     pub refused: Option<Fault>,
 }
 
@@ -55,8 +58,8 @@ impl<'p, 's, S: StorySink> DatasetSink for Router<'p, 's, S> {
 
     fn close(&mut self) -> Result<Step, Stop> {
         match self.parts.close() {
-            Ok(last) => {
-                if last {
+            Ok(()) => {
+                if self.parts.has_ended() {
                     return Ok(Step::Last);
                 }
                 Ok(Step::More)

@@ -10,6 +10,7 @@ mod records;
 mod rule;
 mod sizes;
 mod streams;
+mod tickets;
 
 use crate::{Cause, Layer};
 use iim_fields::Limits;

@@ -1,6 +1,6 @@
 //! The streaming unpacker.
 
-ghost use Rattle.std.specs.Prelude.{◌≡◌, ◌^◌, [], is_some, ◌<◌, ◌≤◌, ◌⊎◌, ℕ, List, Option, Some, None, Ok, Err, true, false, length, take, IsTrue, ◌↔◌, IfOk, IfErr, OnOk, OnErr};
+ghost use Rattle.std.specs.Prelude.{◌≡◌, ◌+◌, ◌*◌, ◌^◌, [], is_some, ◌<◌, ◌≤◌, ◌⊎◌, ℕ, List, Option, Some, None, Ok, Err, true, false, length, take, IsTrue, ◌↔◌, IfOk, IfErr, OnOk, OnErr};
 ghost use Rattle.iim_dataset.specs.Places.{to_come, named_by};
 ghost use Rattle.iim_dataset.specs.Reading.{TakesCalls};
 ghost use Rattle.iim_dataset.specs.declared.head.HeadCause.{HeadCause as HeadCauseValue};
@@ -14,6 +14,7 @@ ghost use Rattle.iim_unpack.specs.Unpacking.{Advanced, FailsFor, FailsAs, IsOnwa
 ghost use Rattle.iim_dataset.specs.Reading.{is_of};
 ghost use Rattle.iim_unpack.specs.Unpacking.{Stood, Stands, IsDoneWith, IsDone, IsRefusedIn, IsTruncatedAt, Goes, limits_in, room_in, LeftAs};
 ghost use Rattle.iim_unpack.specs.Admitted.{Value, Admits};
+ghost use Rattle.iim_unpack.specs.Tickets.{IsTicketOf};
 ghost use Rattle.iim_unpack.specs.Value.{HasParts};
 ghost use Rattle.iim_unpack.specs.declared.refusal.Refusal.{Refusal as RefusalValue};
 
@@ -23,8 +24,9 @@ use crate::message::give_back;
 use crate::parts::{Halt, Parts};
 use crate::refusal::{Cause, Layer, Refusal};
 use crate::router::Router;
+use crate::ticket::{SaveFault, spell_ticket};
 use arrayvec::ArrayVec;
-use iim_dataset::{Fault as TagFault, FaultCause, Head, HeadReader};
+use iim_dataset::{Fault as TagFault, FaultCause, HeadReader};
 use iim_fields::{Envelope, Fields, Limits};
 use iim_object::laws::readers_tell_sizes;
 use iim_object::{ObjectReader, Sizes};
@@ -125,9 +127,13 @@ fn advance<S: StorySink>(
 /// What an envelope has, but for its lines, which went to the sink.
 #[derive(Drop)]
 pub struct Unpacked {
+    /// Its datasets of records 1 and 2.
     pub envelope: Envelope,
+    /// The header of its message.
     pub head: MessageHead,
+    /// What stands between ETX and EOT, 64 octets at most.
     pub trailer: ArrayVec<u8, 64>,
+    /// What records 7 to 9 say of the object's size.
     pub sizes: Sizes,
 }
 
@@ -205,6 +211,25 @@ impl Unpacker {
         Ok(Unpacker::begin(Fields::new(alloc, limits)?))
     }
 
+    /// An unpacker that stands on no octets, with the memory of an envelope that is no longer wanted, where one is given that has
+    /// enough for the limits; else with memory of its own, for just what the limits allow. No later call takes any.
+    pub fn reusing(
+        alloc: Global,
+        spare: Option<Unpacked>,
+        limits: Limits,
+    ) -> Result<Unpacker, AllocError>
+        ensures stands { IfOk result (λ u. Stands u [] 0) }
+        ensures limits { IfOk result (λ u. limits_in u ≡ limits) }
+    {
+        let Some(unpacked) = spare else {
+            return Unpacker::new(alloc, limits);
+        };
+        match Unpacker::over(unpacked, limits) {
+            Ok(unpacker) => Ok(unpacker),
+            Err(_) => Unpacker::new(alloc, limits),
+        }
+    }
+
     /// An unpacker that stands on no octets, with the memory of an envelope that is no longer wanted, where that is enough for the
     /// limits: it takes none, as no later call does. Else what was handed in is handed back.
     pub fn over(unpacked: Unpacked, limits: Limits) -> Result<Unpacker, Unpacked>
@@ -243,14 +268,6 @@ impl Unpacker {
                 fields,
                 object: ObjectReader::new(),
                 message: MessageReader::new(),
-                subfiles: 0,
-                head: Head {
-                    rec: 0,
-                    set: 0,
-                    count: 0,
-                },
-                left: 0,
-                last: false,
             },
             octets: 0,
             begun: false,
@@ -262,7 +279,7 @@ impl Unpacker {
     pub fn is_done(&self) -> bool
         ensures { IsTrue result ↔ IsDone self.now }
     {
-        self.parts.last && self.refused.is_none()
+        self.parts.has_ended() && self.refused.is_none()
     }
 
     /// Whether something was refused.
@@ -325,7 +342,7 @@ impl Unpacker {
         if let Some(octet) = self.refused {
             return Err(failed_at(octet));
         }
-        if self.parts.last {
+        if self.parts.has_ended() {
             return Ok(Progress::Done { used: 0 });
         }
         feed_laws();
@@ -334,7 +351,7 @@ impl Unpacker {
             Ok(used) => {
                 self.octets = raised(self.octets, used);
                 self.begun = begins(self.begun, piece);
-                if self.parts.last {
+                if self.parts.has_ended() {
                     return Ok(Progress::Done { used });
                 }
                 Ok(Progress::More)
@@ -356,7 +373,7 @@ impl Unpacker {
         if let Some(octet) = self.refused {
             return Some(failed_at(octet));
         }
-        if self.parts.last {
+        if self.parts.has_ended() {
             return None;
         }
         let (rec, set) = self.reader.named();
@@ -367,6 +384,25 @@ impl Unpacker {
             octet: self.octets,
             cause: Cause::Truncated,
         })
+    }
+
+    /// The ticket of the place that the octets so far have led to, in the middle of an envelope or at its end. The same octets
+    /// have one ticket, however they were cut. It tells nothing of the sink, and not the limits.
+    pub fn save(&self, alloc: Global) -> Result<Vec<u8>, SaveFault>
+        ensures failed { (octet : ℕ) → self.now.refused ≡ Some octet → result ≡ Err SaveFault.Failed }
+        ensures memory { self.now.refused ≡ None → IfErr result (λ fault. fault ≡ SaveFault.OutOfMemory) }
+        ensures ticket { IfOk result (λ ticket. (p : List ℕ) (a : ℕ) → Stands self.now p a ⊎ IsDoneWith self.now p a → IsTicketOf p ticket.items) }
+        ensures short { IfOk result (λ ticket. length ticket.items ≤ (limits_in self.now).octets + 6 * (limits_in self.now).fields + 256) }
+    {
+        if self.refused.is_some() {
+            return Err(SaveFault::Failed);
+        }
+        feed_laws();
+        self.stands_somewhere();
+        match spell_ticket(alloc, &self.reader, &self.parts) {
+            Ok(ticket) => Ok(ticket),
+            Err(_) => Err(SaveFault::OutOfMemory),
+        }
     }
 
     /// The value of the envelope, where one has ended. Else the unpacker is handed back as it was.

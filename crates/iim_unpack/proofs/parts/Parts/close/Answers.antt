@@ -1,26 +1,30 @@
 use Rattle.std.proofs.Common.{refl, sym, ◌∙◌}
 use Rattle.iim_unpack.proofs.Closing.{closed_number, closed_silent, not_closed_field, not_closed_number}
+use Rattle.iim_unpack.proofs.Results.{on_ok, err_then}
 use Rattle.iim_unpack.proofs.parts.Parts.close.Goals as goal
 
-pub returns-in-Ok-clause-closed : goal.returns-in-Ok-clause-closed
-returns-in-Ok-clause-closed c =
+pub returns-in-Ok-Some-clause-closed : goal.returns-in-Ok-Some-clause-closed
+returns-in-Ok-Some-clause-closed c =
     let laws = c.close_laws.ensures in
-    let e = c.number.ensures in
-    closed_number laws c.args.self.now _ c.in-Ok-Some.number c.requires (rw e.fields c.close.ensures.limits)
-    (rw e.fields (λ ds h taken stands d is. let both = c.in-Ok-Some.ensures.stands ds h taken stands d is in (both.0, sym c.in-Ok-Some.field-0-is ∙ both.1))) c.in-Ok.ensures.goes_on e.message e.subfiles refl
+    on_ok _ _ c.tell_number.result
+    (λ goes. closed_number laws c.args.self.now _ c.in-Ok-Some.number c.in-Some.head (sym c.begun_head.ensures.head ∙ c.in-Some.is) c.close.ensures.limits
+    (λ ds h taken stands d is. let both = c.in-Ok-Some.ensures.stands ds h taken stands d is in (both.0, sym c.in-Ok-Some.field-0-is ∙ both.1)) goes refl)
+    c.tell_number.ensures.goes_on
 
-pub returns-in-Err-number-clause-refused : goal.returns-in-Err-number-clause-refused
-returns-in-Err-number-clause-refused c =
+pub returns-in-Ok-Some-clause-refused : goal.returns-in-Ok-Some-clause-refused
+returns-in-Ok-Some-clause-refused c =
     let laws = c.close_laws.ensures in
-    not_closed_number laws c.args.self.now c.close.new.self c.in-Ok-Some.number c.in-Err-number.fault c.requires
-    (λ ds h taken stands d is. let both = c.in-Ok-Some.ensures.stands ds h taken stands d is in (both.0, sym c.in-Ok-Some.field-0-is ∙ both.1)) c.in-Err-number.ensures.refused
+    err_then _ _ c.tell_number.result c.tell_number.ensures.refused
+    (λ fault bad. not_closed_number laws c.args.self.now c.close.new.self c.in-Ok-Some.number fault c.in-Some.head (sym c.begun_head.ensures.head ∙ c.in-Some.is)
+    (λ ds h taken stands d is. let both = c.in-Ok-Some.ensures.stands ds h taken stands d is in (both.0, sym c.in-Ok-Some.field-0-is ∙ both.1)) bad)
 
 pub returns-in-Ok-None-clause-closed : goal.returns-in-Ok-None-clause-closed
 returns-in-Ok-None-clause-closed c =
     let laws = c.close_laws.ensures in
-    closed_silent laws c.args.self.now c.close.new.self c.requires c.close.ensures.limits
-    (λ ds h taken stands d is. let both = c.in-Ok-None.ensures.stands ds h taken stands d is in (both.0, sym c.in-Ok-None.field-0-is ∙ both.1)) c.args.self.now.left _ refl
+    closed_silent laws c.args.self.now c.close.new.self c.in-Some.head (sym c.begun_head.ensures.head ∙ c.in-Some.is) c.close.ensures.limits
+    (λ ds h taken stands d is. let both = c.in-Ok-None.ensures.stands ds h taken stands d is in (both.0, sym c.in-Ok-None.field-0-is ∙ both.1))
 
 pub returns-in-Err-clause-refused : goal.returns-in-Err-clause-refused
 returns-in-Err-clause-refused c =
-    rw c.of_field.ensures (not_closed_field c.close_laws.ensures.living c.close_laws.ensures.sections c.args.self.now c.in-Err.fault c.requires c.in-Err.ensures.fault)
+    let laws = c.close_laws.ensures in
+    rw c.of_field.ensures (not_closed_field laws.living laws.sections c.args.self.now c.in-Err.fault c.in-Some.head (sym c.begun_head.ensures.head ∙ c.in-Some.is) c.in-Err.ensures.fault)

@@ -8,7 +8,7 @@ use Rattle.iim_unpack.proofs.parts.Parts.head.Goals as goal
 pub returns-in-Err-clause-stopped : goal.returns-in-Err-clause-stopped
 returns-in-Err-clause-stopped g c =
     let laws = c.head_laws.ensures in
-    rw c.of_field.ensures (stopped_field g.S.StorySink.goes g.S.StorySink.failures c.args.self.now c.args.sink.now c.args.head c.in-Err.fault (omega (arith, c.well_formed)) laws c.requires.last c.requires.fields (g.met.S.StorySink.nothing c.args.sink.now) c.in-Err.ensures.fault)
+    rw c.of_field.ensures (stopped_field g.S.StorySink.goes g.S.StorySink.failures c.args.self.now c.args.sink.now c.args.head c.in-Err.fault (omega (arith, c.well_formed)) laws c.requires.more c.requires.fields (g.met.S.StorySink.nothing c.args.sink.now) c.in-Err.ensures.fault)
 
 pub returns-then-head-eq-OBJECT-clause-went : goal.returns-then-head-eq-OBJECT-clause-went
 returns-then-head-eq-OBJECT-clause-went g c =
@@ -16,15 +16,15 @@ returns-then-head-eq-OBJECT-clause-went g c =
     let p = c.args.self.now in
     on_ok _ _ c.subfile.result
     (λ h. went_head g.S.StorySink.goes g.S.StorySink.failures p _ c.args.sink.now c.subfile.new.sink c.args.head h.1.0.more c.requires.fields c.in_default.ensures.limits h.1.0.told h.1.0.calm
-    (λ ds at. begins_subfile g.S.StorySink.goes g.S.StorySink.failures laws p c.args.sink.now c.subfile.new.sink ds c.args.head c.begin.new.self c.subfile.new.object c.subfile.new.message c.subfile.new.subfiles
-    (omega (arith, c.if-head-eq-OBJECT.true)) c.requires.last at (c.in_default.ensures.stands ds at.fields) h.0 h.1.0 h.1.1.0 h.1.1.1))
-    (on_both _ _ c.subfile.result c.subfile.ensures.goes_on (on_both _ _ c.subfile.result c.subfile.ensures.told (on_both _ _ c.subfile.result c.subfile.ensures.subfiles c.subfile.ensures.room)))
+    (λ ds at. begins_subfile g.S.StorySink.goes g.S.StorySink.failures laws p c.args.sink.now c.subfile.new.sink ds c.args.head c.begin.new.self c.subfile.new.object c.subfile.new.message
+    (omega (arith, c.if-head-eq-OBJECT.true)) at (c.in_default.ensures.stands ds at.fields) h.0 h.1.0 h.1.1))
+    (on_both _ _ c.subfile.result c.subfile.ensures.goes_on (on_both _ _ c.subfile.result c.subfile.ensures.told c.subfile.ensures.few))
 
 pub returns-then-head-eq-OBJECT-clause-stopped : goal.returns-then-head-eq-OBJECT-clause-stopped
 returns-then-head-eq-OBJECT-clause-stopped g c =
     let laws = c.head_laws.ensures in
     err_then _ _ c.subfile.result c.subfile.ensures.refused
-    (stopped_subfile g.S.StorySink.goes g.S.StorySink.failures c.args.self.now c.args.sink.now c.subfile.new.sink c.args.head c.begin.new.self laws c.requires.last c.requires.fields (g.met.S.StorySink.nothing c.args.sink.now) c.in_default.ensures.stands (omega (arith, c.if-head-eq-OBJECT.true)))
+    (stopped_subfile g.S.StorySink.goes g.S.StorySink.failures c.args.self.now c.args.sink.now c.subfile.new.sink c.args.head c.begin.new.self laws c.requires.more c.requires.fields (g.met.S.StorySink.nothing c.args.sink.now) c.in_default.ensures.stands (omega (arith, c.if-head-eq-OBJECT.true)))
 
 pub returns-then-head-eq-POST_OBJECT-clause-went : goal.returns-then-head-eq-POST_OBJECT-clause-went
 returns-then-head-eq-POST_OBJECT-clause-went g c =
@@ -33,18 +33,18 @@ returns-then-head-eq-POST_OBJECT-clause-went g c =
     on_ok _ _ c.pass_head.result
     (λ h. went_head g.S.StorySink.goes g.S.StorySink.failures p _ c.args.sink.now c.pass_head.new.sink c.args.head h.1.more c.requires.fields c.in_default.ensures.limits h.1.told h.1.calm
     (λ ds at. begins_end g.S.StorySink.goes g.S.StorySink.failures laws p c.args.sink.now c.pass_head.new.sink ds c.args.head c.begin.new.self c.pass_head.new.object c.pass_head.new.message
-    (omega (arith, c.if-head-eq-POST_OBJECT.true)) c.requires.last at (c.in_default.ensures.stands ds at.fields) h.0 h.1))
+    (omega (arith, c.if-head-eq-POST_OBJECT.true)) at (c.in_default.ensures.stands ds at.fields) h.0 h.1))
     (on_both _ _ c.pass_head.result c.pass_head.ensures.goes_on c.pass_head.ensures.told)
 
 pub returns-then-head-eq-POST_OBJECT-clause-stopped : goal.returns-then-head-eq-POST_OBJECT-clause-stopped
 returns-then-head-eq-POST_OBJECT-clause-stopped g c =
     let laws = c.head_laws.ensures in
     err_then _ _ c.pass_head.result c.pass_head.ensures.refused
-    (stopped_last g.S.StorySink.goes g.S.StorySink.failures c.args.self.now c.args.sink.now c.pass_head.new.sink c.args.head c.begin.new.self laws c.requires.last c.requires.fields c.in_default.ensures.stands (omega (arith, c.if-head-eq-POST_OBJECT.true)))
+    (stopped_last g.S.StorySink.goes g.S.StorySink.failures c.args.self.now c.args.sink.now c.pass_head.new.sink c.args.head c.begin.new.self laws c.requires.more c.requires.fields c.in_default.ensures.stands (omega (arith, c.if-head-eq-POST_OBJECT.true)))
 
 pub returns-clause-went : goal.returns-clause-went
 returns-clause-went g c =
     let p = c.args.self.now in
     let a = c.args.sink.now in
     went_head g.S.StorySink.goes g.S.StorySink.failures p _ a a c.args.head [] c.requires.fields c.in_default.ensures.limits (g.met.S.StorySink.nothing a) refl
-    (λ ds at. (begins_other p ds c.args.head c.begin.new.self (λ is. omega (arith, is, c.if-head-eq-OBJECT.false)) (λ is. omega (arith, is, c.if-head-eq-POST_OBJECT.false)) c.requires.last at (c.in_default.ensures.stands ds at.fields), append-nil (text_so_far (object_of ds))))
+    (λ ds at. (begins_other p ds c.args.head c.begin.new.self (λ is. omega (arith, is, c.if-head-eq-OBJECT.false)) (λ is. omega (arith, is, c.if-head-eq-POST_OBJECT.false)) at (c.in_default.ensures.stands ds at.fields), append-nil (text_so_far (object_of ds))))

@@ -7,12 +7,12 @@ returns-in-Err-clause-stopped g c =
     let a = c.args.self.now in
     (refl, refl, stopped_closed g.S.StorySink.goes g.S.StorySink.failures a.parts.now a.sink.now c.in-Err.fault (g.met.S.StorySink.nothing a.sink.now) c.in-Err.ensures.refused, c.close.ensures.room)
 
-pub returns-then-last-clause-ok : goal.returns-then-last-clause-ok
-returns-then-last-clause-ok g c =
+pub returns-then-has_ended-clause-ok : goal.returns-then-has_ended-clause-ok
+returns-then-has_ended-clause-ok g c =
     let a = c.args.self.now in
     (refl, refl, went_closed g.S.StorySink.goes g.S.StorySink.failures a.parts.now c.close.new.self a.sink.now (g.met.S.StorySink.nothing a.sink.now) c.in-Ok.ensures.closed, c.close.ensures.room)
 
-pub returns-else-last-clause-ok : goal.returns-else-last-clause-ok
-returns-else-last-clause-ok g c =
+pub returns-else-has_ended-clause-ok : goal.returns-else-has_ended-clause-ok
+returns-else-has_ended-clause-ok g c =
     let a = c.args.self.now in
     (refl, refl, went_closed g.S.StorySink.goes g.S.StorySink.failures a.parts.now c.close.new.self a.sink.now (g.met.S.StorySink.nothing a.sink.now) c.in-Ok.ensures.closed, c.close.ensures.room)

@@ -1,20 +1,21 @@
 use Rattle.std.proofs.Common.{◌≡◌, ℕ, [], true, false, refl, ap, sym, subst, ◌∙◌}
 use Rattle.iim_unpack.specs.Refusals.{refusal_at}
 use Rattle.iim_unpack.specs.Unpacking.{Unpacking, Stands, IsRefusedIn, limits_in}
+use Rattle.iim_unpack.specs.Parts.{has_ended}
 use Rattle.wire_story.specs.Delivery as story
 use Rattle.iim_unpack.proofs.Feeding.{goes_more, goes_done, refused_in, sound_more, sound_done}
 use Rattle.iim_unpack.proofs.unpacker.Unpacker.feed.Goals as goal
 
-pub returns-then-self-clause-goes : goal.returns-then-self-clause-goes
-returns-then-self-clause-goes g c = (
+pub returns-then-has_ended-clause-goes : goal.returns-then-has_ended-clause-goes
+returns-then-has_ended-clause-goes g c = (
   [],
   g.met.S.StorySink.nothing c.args.sink.now,
   λ p a at.
-      let bad : false ≡ true = sym at.unended ∙ sym (ap (λ (u : Unpacking). u.parts.last) c.self.view_is) ∙ c.if-self.true in absurd cc,
+      let bad : false ≡ true = sym at.unended ∙ sym (ap (λ (u : Unpacking). has_ended u.parts) c.self.view_is) ∙ sym c.if-has_ended.ensures in absurd cc,
 )
 
-pub returns-then-self-2-clause-goes : goal.returns-then-self-2-clause-goes
-returns-then-self-2-clause-goes g c =
+pub returns-then-has_ended-2-clause-goes : goal.returns-then-has_ended-2-clause-goes
+returns-then-has_ended-2-clause-goes g c =
     let laws = c.feed_laws.ensures in
     let i = c.self.inside in
     let n = c.advance.new in
@@ -24,12 +25,12 @@ returns-then-self-2-clause-goes g c =
       story.delivered h.advanced.went.more,
       h.advanced.went.told,
       λ p a at.
-          goes_done g.S.StorySink.goes g.S.StorySink.failures laws u v c.args.piece.now c.in-Ok.used c.args.sink.now n.sink (c.readers_tell_sizes.ensures n.parts.object).0 h.advanced h.onward refl c.if-self-2.true c.raised-self-inside.ensures h.within (c.readers_tell_sizes.ensures n.parts.object).1 p a
+          goes_done g.S.StorySink.goes g.S.StorySink.failures laws u v c.args.piece.now c.in-Ok.used c.args.sink.now n.sink (c.readers_tell_sizes.ensures n.parts.object).0 h.advanced h.onward refl (sym c.if-has_ended-2.ensures) c.raised-self-inside.ensures h.within (c.readers_tell_sizes.ensures n.parts.object).1 p a
           (subst (λ (w : Unpacking). Stands w p a) (sym c.self.view_is) at),
     )
 
-pub returns-else-self-2-clause-goes : goal.returns-else-self-2-clause-goes
-returns-else-self-2-clause-goes g c =
+pub returns-else-has_ended-2-clause-goes : goal.returns-else-has_ended-2-clause-goes
+returns-else-has_ended-2-clause-goes g c =
     let laws = c.feed_laws.ensures in
     let i = c.self.inside in
     let n = c.advance.new in
@@ -39,7 +40,7 @@ returns-else-self-2-clause-goes g c =
       story.delivered h.advanced.went.more,
       h.advanced.went.told,
       λ p a at.
-          goes_more g.S.StorySink.goes g.S.StorySink.failures laws u v c.args.piece.now c.in-Ok.used c.args.sink.now n.sink h.advanced h.onward refl c.if-self-2.false c.raised-self-inside.ensures c.begins-self-inside.ensures p a
+          goes_more g.S.StorySink.goes g.S.StorySink.failures laws u v c.args.piece.now c.in-Ok.used c.args.sink.now n.sink h.advanced h.onward refl (sym c.if-has_ended-2.ensures) c.raised-self-inside.ensures c.begins-self-inside.ensures p a
           (subst (λ (w : Unpacking). Stands w p a) (sym c.self.view_is) at),
     )
 
@@ -62,8 +63,8 @@ invariant_of-self g c =
     let u : Unpacking = record { reader = i.reader; parts = i.parts; octets = i.octets; begun = i.begun; refused = i.refused } in
     let v : Unpacking = record { reader = n.reader; parts = n.parts; octets = c.raised-self-inside.result; begun = c.begins-self-inside.result; refused = i.refused } in
     let h = c.in-Ok.ensures in
-    λ none. sound_done g.S.StorySink.goes g.S.StorySink.failures laws u v c.args.piece.now c.in-Ok.used c.args.sink.now n.sink (c.readers_tell_sizes.ensures n.parts.object).0 h.advanced h.onward h.takes_calls refl c.if-self-2.true c.raised-self-inside.ensures h.within (c.readers_tell_sizes.ensures n.parts.object).1
-    (c.self.invariant none) c.if-self.false
+    λ none. sound_done g.S.StorySink.goes g.S.StorySink.failures laws u v c.args.piece.now c.in-Ok.used c.args.sink.now n.sink (c.readers_tell_sizes.ensures n.parts.object).0 h.advanced h.onward h.takes_calls refl (sym c.if-has_ended-2.ensures) c.raised-self-inside.ensures h.within (c.readers_tell_sizes.ensures n.parts.object).1
+    (c.self.invariant none) (sym c.if-has_ended.ensures)
 
 pub invariant_of-self-in-Ok : goal.invariant_of-self-in-Ok
 invariant_of-self-in-Ok g c =
@@ -73,5 +74,5 @@ invariant_of-self-in-Ok g c =
     let u : Unpacking = record { reader = i.reader; parts = i.parts; octets = i.octets; begun = i.begun; refused = i.refused } in
     let v : Unpacking = record { reader = n.reader; parts = n.parts; octets = c.raised-self-inside.result; begun = c.begins-self-inside.result; refused = i.refused } in
     let h = c.in-Ok.ensures in
-    λ none. sound_more g.S.StorySink.goes g.S.StorySink.failures laws u v c.args.piece.now c.in-Ok.used c.args.sink.now n.sink h.advanced h.onward h.takes_calls refl c.if-self-2.false c.raised-self-inside.ensures c.begins-self-inside.ensures
-    (c.self.invariant none) c.if-self.false
+    λ none. sound_more g.S.StorySink.goes g.S.StorySink.failures laws u v c.args.piece.now c.in-Ok.used c.args.sink.now n.sink h.advanced h.onward h.takes_calls refl (sym c.if-has_ended-2.ensures) c.raised-self-inside.ensures c.begins-self-inside.ensures
+    (c.self.invariant none) (sym c.if-has_ended.ensures)

@@ -1,0 +1,50 @@
+-- Whether the last dataset has ended.
+use Rattle.std.proofs.Common.{◌≡◌, ℕ, ◌&&◌, Bool, true, false, not, nat_eq, is_none, is_some, List, Option, Some, None, refl, ap, sym, ◌∙◌, inl, inr}
+use Rattle.std.proofs.lemmas.Bool.Decides.{eqb_tells}
+use Rattle.iim_dataset.specs.Datasets.{Dataset}
+use Rattle.iim_dataset.specs.declared.head.Head.{Head}
+use Rattle.iim_fields.specs.Checks.{begun_head, present_at}
+use Rattle.iim_fields.specs.Faults.{present_record}
+use Rattle.iim_fields.specs.Standing.{IsInside, StandsBehind, begun_head_of, section_of}
+use Rattle.iim_unpack.specs.Parts.{has_ended}
+use Rattle.iim_unpack.specs.declared.parts.Parts.{Parts}
+
+and_true : (b : Bool) → (b && true) ≡ b
+and_true true = refl
+and_true false = refl
+
+and_false : (b : Bool) → (b && false) ≡ false
+and_false true = refl
+and_false false = refl
+
+pub ended_behind : (p : Parts) (ds : List Dataset) → StandsBehind p.fields ds → has_ended p ≡ nat_eq (present_record ds) 9
+unfolding has_ended
+ended_behind p ds at =
+    let none : begun_head_of p.fields ≡ None = ap begun_head at.between.between in
+    let present : section_of p.fields ≡ present_record ds = ap present_at at.checked.at ∙ at.checked.tells.present in
+    ap (λ (h : Option Head). nat_eq (section_of p.fields) 9 && is_none h) none ∙ and_true (nat_eq (section_of p.fields) 9) ∙ ap (λ n. nat_eq n 9) present
+
+pub unended_inside : (p : Parts) (h : Head) (n : ℕ) → IsInside p.fields h n → has_ended p ≡ false
+unfolding has_ended
+unended_inside p h n at =
+    let some : begun_head_of p.fields ≡ Some h = ap begun_head at.head.inside in
+    ap (λ (k : Option Head). nat_eq (section_of p.fields) 9 && is_none k) some ∙ and_false (nat_eq (section_of p.fields) 9)
+
+-- what the two readings tell
+none_told : (b : Bool) (o : Option Head) → is_some o ≡ not b → b ≡ is_none o
+none_told true None e = refl
+none_told true (Some h) e = absurd (let bad : true ≡ false = e in cc)
+none_told false None e = absurd (let bad : false ≡ true = e in cc)
+none_told false (Some h) e = refl
+
+pub ended_by : (p : Parts) (section : ℕ) (begun : Option Head) (b : Bool) → section ≡ section_of p.fields → section ≡ 9 → begun ≡ begun_head_of p.fields → is_some begun ≡ not b → b ≡ has_ended p
+unfolding has_ended
+ended_by p section begun b is nine head none =
+    none_told b begun none ∙ ap is_none head ∙ sym (ap (λ (n : ℕ). nat_eq n 9 && is_none (begun_head_of p.fields)) (sym is ∙ nine))
+
+pub unended_by : (p : Parts) (section : ℕ) → section ≡ section_of p.fields → (section ≡ 9 → ⊥) → nat_eq section 9 ≡ has_ended p
+unfolding has_ended
+unended_by p section is other = elim (eqb_tells section 9) [
+  | inl same ↦ absurd (other same.1)
+  | inr apart ↦ apart.0 ∙ sym (ap (λ (b : Bool). b && is_none (begun_head_of p.fields)) (ap (λ (n : ℕ). nat_eq n 9) (sym is) ∙ apart.0))
+]

@@ -1,0 +1,276 @@
+-- How long a ticket is at most.
+use Rattle.std.proofs.Common.{◌≡◌, ℕ, ◌+◌, ◌*◌, ◌-◌, ◌<◌, ◌≤◌, ◌⊎◌, ◌&&◌, nat_eq, nat_le, Bool, true, false, if◌then◌else◌, List, [], ◌∷◌, ◌++◌, length, Option, Some, None, refl, ap, sym, subst, ◌∙◌, inl, inr, arith, length-append}
+use Rattle.std.specs.List.{AllByRecursion, flat_map}
+use Rattle.std.proofs.lemmas.Bool.{and_parts, leb-true}
+use Rattle.std.proofs.lemmas.Bool.Decides.{eqb_tells}
+use Rattle.iim_dataset.specs.Datasets.{Dataset, SpellsTag, SpellsCount, count_octets}
+use Rattle.iim_dataset.specs.Splits.{Begun, InTag, InData, Reads}
+use Rattle.iim_dataset.specs.declared.head.Head.{Head}
+use Rattle.iim_tables.specs.Octets.{within}
+use Rattle.iim_tables.specs.Rows.{table, row_of, Meets}
+use Rattle.iim_fields.specs.Alive.{IsAliveAt}
+use Rattle.iim_fields.specs.Faults.{joined, kept, is_kept, present_record}
+use Rattle.iim_fields.specs.Records.{AreSections, IsGoodDataset}
+use Rattle.wire_message.specs.Saved.{saved, LeadToSaved}
+use Rattle.wire_message.specs.SoFar.{IsPlace}
+use Rattle.wire_message.specs.declared.place.Place.{Place as Message}
+use Rattle.wire_message.specs.declared.place.Place.TheVariants as at
+use Rattle.wire_message.specs.declared.saved.MessagePlace.{MessagePlace}
+use Rattle.iim_unpack.specs.Parts.{StandsFor}
+use Rattle.iim_unpack.specs.Tickets.{TagBegun, DataBegun, AllEnded, Place, phase_of, place_of, four, phase_octets, field_octets, fields_octets, number_octets, text_octets, texts_octets, part_number, message_octets, ticket_name, ticket_of}
+use Rattle.iim_dataset.specs.Laws.{EventsTellTheDatasets}
+use Rattle.iim_unpack.specs.Tickets.{IsSpelled}
+use Rattle.iim_unpack.specs.Unpacking.{Unpacking, IsLed, Stood, limits_in}
+use Rattle.iim_unpack.proofs.Tickets.{placed}
+use Rattle.iim_unpack.specs.declared.parts.Parts.{Parts}
+
+-- ---- joined lists
+
+len3 : (a b c : List ℕ) → length (a ++ b ++ c) ≡ length a + length b + length c
+len3 a b c = length-append (a ++ b) c ∙ ap (λ n. n + length c) (length-append a b)
+
+len4 : (a b c d : List ℕ) → length (a ++ b ++ c ++ d) ≡ length a + length b + length c + length d
+len4 a b c d = length-append (a ++ b ++ c) d ∙ ap (λ n. n + length d) (len3 a b c)
+
+len7 : (a b c d e f g : List ℕ) → length (a ++ b ++ c ++ d ++ e ++ f ++ g) ≡ length a + length b + length c + length d + length e + length f + length g
+len7 a b c d e f g =
+    length-append (a ++ b ++ c ++ d ++ e ++ f) g
+    ∙ ap (λ n. n + length g) (length-append (a ++ b ++ c ++ d ++ e) f ∙ ap (λ n. n + length f) (length-append (a ++ b ++ c ++ d) e ∙ ap (λ n. n + length e) (len4 a b c d)))
+
+len8 : (a b c d e f g h : List ℕ) → length (a ++ b ++ c ++ d ++ e ++ f ++ g ++ h) ≡ length a + length b + length c + length d + length e + length f + length g + length h
+len8 a b c d e f g h = length-append (a ++ b ++ c ++ d ++ e ++ f ++ g) h ∙ ap (λ n. n + length h) (len7 a b c d e f g)
+
+-- ---- fields and numbers
+
+field_length : (d : Dataset) → length (field_octets d) ≡ 6 + length d.octets
+field_length d = len3 (d.rec ∷ d.set ∷ []) (four (length d.octets)) d.octets
+
+fields_length : (ds : List Dataset) → length (flat_map field_octets ds) ≡ 6 * length ds + length (joined ds)
+fields_length [] = refl
+fields_length (d ∷ ds) =
+    let all = length-append (field_octets d) (flat_map field_octets ds) in
+    let one = field_length d in
+    let rest = fields_length ds in
+    let data_all = length-append d.octets (joined ds) in
+    by (length (flat_map field_octets (d ∷ ds))) (length (field_octets d)) (length (flat_map field_octets ds)) (length d.octets) (length (joined (d ∷ ds))) (length (joined ds)) (length ds) (length (d ∷ ds)) all one rest data_all (length-append (d ∷ []) ds)
+  where
+    by : (whole first more size both left n k : ℕ) → whole ≡ first + more → first ≡ 6 + size → more ≡ 6 * n + left → both ≡ size + left → k ≡ 1 + n → whole ≡ 6 * k + both
+    by whole first more size both left n k a b c d e = omega (arith, a, b, c, d, e)
+
+number_length : (n : Option ℕ) → length (number_octets n) ≤ 5
+number_length None = omega arith
+number_length (Some n) = omega arith
+
+numbers_length : (a b c d : Option ℕ) → length (flat_map number_octets (a ∷ b ∷ c ∷ d ∷ [])) ≤ 20
+numbers_length a b c d =
+    let p = length-append (number_octets a) (number_octets b ++ (number_octets c ++ (number_octets d ++ []))) in
+    let q = length-append (number_octets b) (number_octets c ++ (number_octets d ++ [])) in
+    let r = length-append (number_octets c) (number_octets d ++ []) in
+    let s = length-append (number_octets d) [] in
+    by (length (number_octets a)) (length (number_octets b)) (length (number_octets c)) (length (number_octets d)) _ _ _ _ p q r s (number_length a) (number_length b) (number_length c) (number_length d)
+  where
+    by : (a b c d w x y z : ℕ) → w ≡ a + x → x ≡ b + y → y ≡ c + z → z ≡ d + 0 → a ≤ 5 → b ≤ 5 → c ≤ 5 → d ≤ 5 → w ≤ 20
+    by a b c d w x y z p q r s h i j k = omega (arith, p, q, r, s, h, i, j, k)
+
+-- ---- the message
+
+text_length : (xs : List ℕ) → length (text_octets xs) ≡ 1 + length xs
+text_length xs = length-append (length xs ∷ []) xs
+
+seven : (a b c d e f g : List ℕ) → length a ≤ 8 → length b ≤ 8 → length c ≤ 1 → length d ≤ 8 → length e ≤ 6 → length f ≤ 64 → length g ≤ 64
+    → length (text_octets a ++ text_octets b ++ text_octets c ++ text_octets d ++ text_octets e ++ text_octets f ++ text_octets g) ≤ 166
+seven a b c d e f g ha hb hc hd he hf hg =
+    let all = len7 (text_octets a) (text_octets b) (text_octets c) (text_octets d) (text_octets e) (text_octets f) (text_octets g) in
+    by _ (length (text_octets a)) (length (text_octets b)) (length (text_octets c)) (length (text_octets d)) (length (text_octets e)) (length (text_octets f)) (length (text_octets g)) all
+    (less a 8 ha) (less b 8 hb) (less c 1 hc) (less d 8 hd) (less e 6 he) (less f 64 hf) (less g 64 hg)
+  where
+    less : (xs : List ℕ) (n : ℕ) → length xs ≤ n → length (text_octets xs) ≤ 1 + n
+    less xs n h = let is = text_length xs in omega (arith, is, h)
+
+    by : (w a b c d e f g : ℕ) → w ≡ a + b + c + d + e + f + g → a ≤ 1 + 8 → b ≤ 1 + 8 → c ≤ 1 + 1 → d ≤ 1 + 8 → e ≤ 1 + 6 → f ≤ 1 + 64 → g ≤ 1 + 64 → w ≤ 166
+    by w a b c d e f g is ha hb hc hd he hf hg = omega (arith, is, ha, hb, hc, hd, he, hf, hg)
+
+none : (n : ℕ) → length {A = ℕ} [] ≤ n
+none n = omega arith
+
+texts_length : (place : Message) → IsPlace place → length (texts_octets (saved place)) ≤ 166
+texts_length (at.Filler count) h = seven [] [] [] [] [] [] [] (none 8) (none 8) (none 1) (none 8) (none 6) (none 64) (none 64)
+texts_length (at.Source s) h = seven s.items [] [] [] [] [] [] h.2 (none 8) (none 1) (none 8) (none 6) (none 64) (none 64)
+texts_length (at.Number s n) h = seven s.items n.items [] [] [] [] [] h.0.2 h.1.2 (none 1) (none 8) (none 6) (none 64) (none 64)
+texts_length (at.Priority s n) h = seven s.items n.items [] [] [] [] [] h.0.2 h.1.2 (none 1) (none 8) (none 6) (none 64) (none 64)
+texts_length (at.PriorityRead s n p) (hs, hn, hp) = seven s.items n.items p.items [] [] [] [] hs.2 hn.2 hp.2 (none 8) (none 6) (none 64) (none 64)
+texts_length (at.Category s n p c) (hs, hn, hp, hc) = seven s.items n.items p.items c.items [] [] [] hs.2 hn.2 hp.2 hc.2 (none 6) (none 64) (none 64)
+texts_length (at.Words s n p c w) (hs, hn, hp, hc, hw) = seven s.items n.items p.items c.items w.items [] [] hs.2 hn.2 hp.2 hc.2 hw.2 (none 64) (none 64)
+texts_length (at.Info h) k = seven h.source h.number h.priority h.category h.words h.info [] k.source.2 k.number.2 k.priority.2 k.category.2 k.words.2 k.info.2 (none 64)
+texts_length (at.Gap h count feed) (k, some, few, feeds) = seven h.source h.number h.priority h.category h.words h.info [] k.source.2 k.number.2 k.priority.2 k.category.2 k.words.2 k.info.2 (none 64)
+texts_length (at.Text h (Some held)) (k, more) = seven h.source h.number h.priority h.category h.words h.info [] k.source.2 k.number.2 k.priority.2 k.category.2 k.words.2 k.info.2 (none 64)
+texts_length (at.Text h None) (k, more) = seven h.source h.number h.priority h.category h.words h.info [] k.source.2 k.number.2 k.priority.2 k.category.2 k.words.2 k.info.2 (none 64)
+texts_length (at.Trailer h t) (k, more) = seven h.source h.number h.priority h.category h.words h.info t.items k.source.2 k.number.2 k.priority.2 k.category.2 k.words.2 k.info.2 more.2
+texts_length (at.AfterEnd h t count) (k, more, few) = seven h.source h.number h.priority h.category h.words h.info t.items k.source.2 k.number.2 k.priority.2 k.category.2 k.words.2 k.info.2 more.2
+
+message_length : (m : MessagePlace) → length (texts_octets m) ≤ 166 → length (message_octets m) ≤ 169
+message_length m h = let is = length-append (part_number m.part ∷ m.counter ∷ m.flag ∷ []) (texts_octets m) in omega (arith, is, h)
+
+-- ---- what is begun
+
+count_length : (limit count : ℕ) (xs : List ℕ) → SpellsCount limit count xs → length xs ≤ 2 + limit
+count_length limit count [] h = absurd h
+count_length limit count (x ∷ []) h = absurd h
+count_length limit count (high ∷ low ∷ more) (inl h) = let is = ap length h.2 in omega (arith, is)
+count_length limit count (high ∷ low ∷ more) (inr h) = omega (arith, h.1, h.3)
+
+tag_length : (h : Head) (tag : List ℕ) → SpellsTag count_octets h tag → length tag ≤ 9
+tag_length h tag s = let is = ap length s.parts in let most = count_length count_octets h.count s.count s.is_count in omega (arith, is, most)
+
+held_length : (p : List ℕ) (ds : List Dataset) (held : List ℕ) → Reads p ds (InTag held) → length held ≤ 8
+held_length p ds held r =
+    let (same, h, tag, spells, (rest, some, is)) = r.is_rest in
+    let most = tag_length h tag spells in
+    let all = sym (length-append held rest) ∙ ap length is in
+    omega (arith, most, all, some)
+
+-- A dataset is kept, or a subfile, or short.
+abbrev IsOne : Dataset → Type 0
+IsOne d = (is_kept d.rec ≡ true) ⊎ ((d.rec ≡ 8) ⊎ (length d.octets ≤ 4))
+
+most : (low high n : ℕ) (kind : Bool) → (within low high n && kind) ≡ true → n ≤ high
+most low high n kind h = leb-true n high (and_parts (nat_le low n) (nat_le n high) (and_parts (within low high n) kind h).0).1
+
+no_row : (rec set : ℕ) (xs : List ℕ) → row_of rec set ≡ None → Meets rec set xs → ⊥
+no_row rec set xs is h = rw is at h
+
+short_seven : (set : ℕ) (xs : List ℕ) → Meets 7 set xs → length xs ≤ 4
+unfolding row_of table
+short_seven set xs = elim (eqb_tells 10 set) [
+  | inl is ↦ subst (λ (k : ℕ). Meets 7 k xs → length xs ≤ 4) is.1 (λ h. let one = most 1 1 (length xs) _ h in omega (arith, one))
+  | inr not10 ↦ elim (eqb_tells 20 set) [
+    | inl is ↦ subst (λ (k : ℕ). Meets 7 k xs → length xs ≤ 4) is.1 (λ h. most 1 4 (length xs) _ h)
+    | inr not20 ↦ elim (eqb_tells 90 set) [
+      | inl is ↦ subst (λ (k : ℕ). Meets 7 k xs → length xs ≤ 4) is.1 (λ h. most 1 4 (length xs) _ h)
+      | inr not90 ↦ elim (eqb_tells 95 set) [
+        | inl is ↦ subst (λ (k : ℕ). Meets 7 k xs → length xs ≤ 4) is.1 (λ h. most 1 4 (length xs) _ h)
+        | inr not95 ↦ λ h. absurd (no_row 7 set xs (rw (not10.0, not20.0, not90.0, not95.0) refl) h)
+      ]
+    ]
+  ]
+]
+
+short_nine : (set : ℕ) (xs : List ℕ) → Meets 9 set xs → length xs ≤ 4
+unfolding row_of table
+short_nine set xs = elim (eqb_tells 10 set) [
+  | inl is ↦ subst (λ (k : ℕ). Meets 9 k xs → length xs ≤ 4) is.1 (λ h. most 1 4 (length xs) _ h)
+  | inr not10 ↦ λ h. absurd (no_row 9 set xs (rw not10.0 refl) h)
+]
+
+all_join : (P : Dataset → Type 0) (xs ys : List Dataset) → AllByRecursion P xs → AllByRecursion P ys → AllByRecursion P (xs ++ ys)
+all_join P [] ys h k = k
+all_join P (x ∷ xs) ys h k = (h.0, all_join P xs ys h.1 k)
+
+all_weaker : (P Q : Dataset → Type 0) → ((x : Dataset) → P x → Q x) → (xs : List Dataset) → AllByRecursion P xs → AllByRecursion Q xs
+all_weaker P Q f [] h = tt
+all_weaker P Q f (x ∷ xs) h = (f x h.0, all_weaker P Q f xs h.1)
+
+all_at : (ds : List Dataset) (d : Dataset) (more : List Dataset) → AllByRecursion IsOne ((ds ++ d ∷ []) ++ more) → IsOne d
+all_at [] d more h = h.0
+all_at (x ∷ ds) d more h = all_at ds d more h.1
+
+of_first : (rec : ℕ) → is_kept rec ≡ true → (d : Dataset) → (d.rec ≡ rec) × IsGoodDataset d → IsOne d
+of_first rec yes' d h = inl (ap is_kept h.0 ∙ yes')
+
+of_seven : (d : Dataset) → (d.rec ≡ 7) × IsGoodDataset d → IsOne d
+of_seven d h = inr (inr (short_seven d.set d.octets (subst (λ (r : ℕ). Meets r d.set d.octets) h.0 h.1.meets)))
+
+of_nine : (d : Dataset) → (d.rec ≡ 9) × IsGoodDataset d → IsOne d
+of_nine d h = inr (inr (short_nine d.set d.octets (subst (λ (r : ℕ). Meets r d.set d.octets) h.0 h.1.meets)))
+
+all_ones : (ds : List Dataset) → AreSections ds → AllByRecursion IsOne ds
+all_ones ds (r1, from2, one, good1, (r2, from7, two, good2, (r7, from8, seven', good7, (r8, from9, eight, good8, (r9, rest, nine, good9, end))))) =
+    let last : AllByRecursion IsOne rest = subst (AllByRecursion IsOne) (sym end) tt in
+    let a9 : AllByRecursion IsOne from9 = subst (AllByRecursion IsOne) (sym nine) (all_join IsOne r9 rest (all_weaker _ IsOne of_nine r9 good9.each) last) in
+    let a8 : AllByRecursion IsOne from8 = subst (AllByRecursion IsOne) (sym eight) (all_join IsOne r8 from9 (all_weaker _ IsOne (λ d h. inr (inl h.0)) r8 good8.each) a9) in
+    let a7 : AllByRecursion IsOne from7 = subst (AllByRecursion IsOne) (sym seven') (all_join IsOne r7 from8 (all_weaker _ IsOne of_seven r7 good7.each) a8) in
+    let a2 : AllByRecursion IsOne from2 = subst (AllByRecursion IsOne) (sym two) (all_join IsOne r2 from7 (all_weaker _ IsOne (of_first 2 refl) r2 good2.each) a7) in
+    subst (AllByRecursion IsOne) (sym one) (all_join IsOne r1 from2 (all_weaker _ IsOne (of_first 1 refl) r1 good1.each) a2)
+
+is_one : (ds : List Dataset) (h : Head) → IsAliveAt ds h → (is_kept h.rec ≡ true) ⊎ ((h.rec ≡ 8) ⊎ (h.count ≤ 4))
+is_one ds h (d, is, alive) =
+    subst (λ (k : Head). (is_kept k.rec ≡ true) ⊎ ((k.rec ≡ 8) ⊎ (k.count ≤ 4))) is (all_at ds d alive.0 (all_ones ((ds ++ d ∷ []) ++ alive.0) alive.1))
+
+-- ---- a ticket
+
+-- all but what is begun and the kept datasets
+rest_length : (p : Place) → length (flat_map number_octets p.numbers) ≤ 20 → length (texts_octets p.message) ≤ 166
+    → length (ticket_of p) ≤ 207 + length (phase_octets p.phase) + (6 * length p.fields + length (joined p.fields))
+rest_length p few texts =
+    let all = len8 ticket_name (p.section ∷ []) (phase_octets p.phase) (fields_octets p.fields) (flat_map number_octets p.numbers) (four p.taken) (four p.heads) (message_octets p.message) in
+    let message = message_length p.message texts in
+    let fields = length-append (four (length p.fields)) (flat_map field_octets p.fields) in
+    let each = fields_length p.fields in
+    by _ (length (phase_octets p.phase)) (length (fields_octets p.fields)) (length (flat_map number_octets p.numbers)) (length (message_octets p.message)) _ _ all few message fields each
+  where
+    by : (w phase fields numbers message each kept : ℕ) → w ≡ 5 + 1 + phase + fields + numbers + 4 + 4 + message → numbers ≤ 20 → message ≤ 169 → fields ≡ 4 + each → each ≡ kept → w ≤ 207 + phase + kept
+    by w phase fields numbers message each kept a b c d e = omega (arith, a, b, c, d, e)
+
+data_length : (set count left : ℕ) (taken : List ℕ) → length (phase_octets (DataBegun set count left taken)) ≡ 10 + length taken
+data_length set count left taken = len4 (1 ∷ set ∷ []) (four count) (four left) taken
+
+tag_begun_length : (b : Bool) (held : List ℕ) → length held ≤ 8 → length (phase_octets (if b then AllEnded else TagBegun held)) ≤ 10
+tag_begun_length true held h = omega arith
+tag_begun_length false held h = let is = length-append (0 ∷ length held ∷ []) held in omega (arith, is, h)
+
+some_taken : (b : Bool) (taken : List ℕ) → length (if b then [] else taken) ≤ length taken
+some_taken true taken = omega arith
+some_taken false taken = omega arith
+
+none_taken : (rec : ℕ) (taken : List ℕ) → rec ≡ 8 → length (if nat_eq rec 8 then [] else taken) ≡ 0
+none_taken rec taken is = ap (λ (r : ℕ). length (if nat_eq r 8 then [] else taken)) is
+
+-- with the kept datasets, what is begun is within the limits and some octets
+begun_length : (parts : Parts) (p : List ℕ) (ds : List Dataset) (b : Begun) → Reads p ds b → StandsFor parts ds b
+    → length (phase_octets (phase_of ds b)) + (6 * length (kept ds) + length (joined (kept ds))) ≤ 14 + (parts.fields.limits.octets + 6 * parts.fields.limits.fields)
+begun_length parts p ds (InTag held) reads stands =
+    let phase = tag_begun_length (nat_eq (present_record ds) 9) held (held_length p ds held reads) in
+    by (length (phase_octets (phase_of ds (InTag held)))) (length (kept ds)) (length (joined (kept ds))) parts.fields.limits.octets parts.fields.limits.fields phase stands.fields.within.octets_in stands.fields.within.fields_in
+  where
+    by : (phase n data_all octets fields : ℕ) → phase ≤ 10 → data_all ≤ octets → n ≤ fields → phase + (6 * n + data_all) ≤ 14 + (octets + 6 * fields)
+    by phase n data_all octets fields a b c = omega (arith, a, b, c)
+begun_length parts p ds (InData h taken) reads stands =
+    let phase = data_length h.set h.count (h.count - length taken) (if nat_eq h.rec 8 then [] else taken) in
+    let some = some_taken (nat_eq h.rec 8) taken in
+    let less = reads.is_rest.2 in
+    let all = length (phase_octets (phase_of ds (InData h taken))) in
+    elim (is_one ds h stands.fields.alive) [
+      | inl keeps ↦
+          let room = stands.fields.within keeps in
+          in_kept all (length (if nat_eq h.rec 8 then [] else taken)) (length taken) h.count (length (kept ds)) (length (joined (kept ds))) parts.fields.limits.octets parts.fields.limits.fields phase some less room.octets_in room.fields_in
+      | inr (inl eight) ↦
+          in_other all (length (if nat_eq h.rec 8 then [] else taken)) (length (kept ds)) (length (joined (kept ds))) parts.fields.limits.octets parts.fields.limits.fields phase (let zero = none_taken h.rec taken eight in omega (arith, zero))
+          stands.fields.others.octets_in stands.fields.others.fields_in
+      | inr (inr few) ↦
+          in_other all (length (if nat_eq h.rec 8 then [] else taken)) (length (kept ds)) (length (joined (kept ds))) parts.fields.limits.octets parts.fields.limits.fields phase (omega (arith, some, less, few)) stands.fields.others.octets_in
+          stands.fields.others.fields_in
+    ]
+  where
+    in_kept : (phase some taken count n data_all octets fields : ℕ) → phase ≡ 10 + some → some ≤ taken → taken < count → data_all + count ≤ octets → n + 1 ≤ fields → phase + (6 * n + data_all) ≤ 14 + (octets + 6 * fields)
+    in_kept phase some taken count n data_all octets fields a b c d e = omega (arith, a, b, c, d, e)
+
+    in_other : (phase some n data_all octets fields : ℕ) → phase ≡ 10 + some → some ≤ 4 → data_all ≤ octets → n ≤ fields → phase + (6 * n + data_all) ≤ 14 + (octets + 6 * fields)
+    in_other phase some n data_all octets fields a b c d = omega (arith, a, b, c, d)
+
+texts_short : (octets text : List ℕ) (m : MessagePlace) → LeadToSaved octets text m → length (texts_octets m) ≤ 166
+texts_short octets text m (place, leads, is) = subst (λ (x : MessagePlace). length (texts_octets x) ≤ 166) is (texts_length place leads.is_place)
+
+short_led : EventsTellTheDatasets → (u : Unpacking) (p ticket : List ℕ) → IsSpelled u.reader.place u.parts ticket → IsLed u p → length ticket ≤ (limits_in u).octets + 6 * (limits_in u).fields + 256
+short_led tell u p ticket s led =
+    let by = placed tell u p ticket s led in
+    let rest = rest_length (place_of by.whole by.begun by.message) (numbers_length _ _ _ _) (texts_short _ by.text by.message by.leads) in
+    let begun = begun_length u.parts p by.whole by.begun by.reads by.stands in
+    let is = ap length by.spelled in
+    sums (length ticket) _ (length (phase_octets (phase_of by.whole by.begun))) _ (limits_in u).octets (limits_in u).fields is rest begun
+  where
+    sums : (ticket whole phase kept octets fields : ℕ) → ticket ≡ whole → whole ≤ 207 + phase + kept → phase + kept ≤ 14 + (octets + 6 * fields) → ticket ≤ octets + 6 * fields + 256
+    sums ticket whole phase kept octets fields a b c = omega (arith, a, b, c)
+
+-- Wherever the unpacker stands, its ticket is short.
+pub short_ticket : EventsTellTheDatasets → (u : Unpacking) (ticket : List ℕ) → IsSpelled u.reader.place u.parts ticket → Stood u → length ticket ≤ (limits_in u).octets + 6 * (limits_in u).fields + 256
+short_ticket tell u ticket s (p, a, stood) = elim stood [ inl at' ↦ short_led tell u p ticket s at'.is_led | inr at' ↦ short_led tell u p ticket s at'.is_led ]

@@ -1,0 +1,225 @@
+-- The ticket that an unpacker spells is that of the octets on which it stands.
+use Rattle.std.proofs.Common.{◌≡◌, ℕ, ◌+◌, ◌-◌, ◌≤◌, nat_eq, Bool, true, false, if◌then◌else◌, List, [], ◌∷◌, ◌++◌, length, sum, Option, Some, None, refl, ap, sym, subst, ◌∙◌, inl, inr, ◌⊎◌, arith, append-nil, length-append}
+use Rattle.std.proofs.lemmas.List.Sums.{sum_by-cons}
+use Rattle.std.proofs.lemmas.List.{length-map}
+use Rattle.iim_dataset.specs.Datasets.{Dataset}
+use Rattle.iim_dataset.specs.Splits.{Begun, InTag, InData, Reads}
+use Rattle.iim_dataset.specs.Events.{handed_on, begun_data}
+use Rattle.iim_dataset.specs.Places.{IsKeptAs}
+use Rattle.iim_dataset.specs.Laws.{OctetsAreHandedOnOneWay, EventsTellTheDatasets}
+use Rattle.iim_dataset.specs.declared.head.Head.{Head}
+use Rattle.iim_dataset.specs.declared.place.DatasetPlace.{DatasetPlace}
+use Rattle.iim_dataset.specs.declared.place.DatasetPlace.TheVariants.{Tag, Inside}
+use Rattle.iim_fields.specs.Faults.{joined, kept, present_record}
+use Rattle.iim_object.specs.Objects.{SubfileBegun}
+use Rattle.iim_object.specs.Places as objects
+use Rattle.iim_object.specs.Records.{lengths_of, numbers_of}
+use Rattle.iim_object.specs.Behind.{of_record, place_behind, place_ended}
+use Rattle.iim_object.specs.Saved.{stated_numbers}
+use Rattle.wire_message.specs.Laws.{OctetsLeadToOnePlace}
+use Rattle.wire_message.specs.Reading as wire
+use Rattle.wire_message.specs.SoFar.{LeadTo}
+use Rattle.wire_message.specs.Saved.{saved, IsAt, LeadToSaved}
+use Rattle.wire_message.specs.declared.place.Place.{Place as Message}
+use Rattle.wire_message.specs.declared.saved.MessagePlace.{MessagePlace}
+use Rattle.iim_unpack.specs.Admitted.{object_of}
+use Rattle.iim_unpack.specs.Tokens.{place_at}
+use Rattle.iim_unpack.specs.Parts.{object_so_far, section, Behind, Within, StandsFor, has_ended}
+use Rattle.iim_unpack.specs.Unpacking.{Unpacking, IsLed, Stands, IsDoneWith, Stood, limits_in}
+use Rattle.iim_unpack.specs.Tickets.{TagBegun, DataBegun, AllEnded, phase_of, heads_of, place_of, ticket_of, IsTicketOf, OctetsHaveOneTicket, phase_in, IsSpelled}
+use Rattle.iim_unpack.specs.declared.parts.Parts.{Parts}
+use Rattle.iim_unpack.proofs.Ended.{ended_behind, unended_inside}
+
+-- ---- lengths
+
+sum_cons : (x : ℕ) (xs : List ℕ) → sum (x ∷ xs) ≡ x + sum xs
+sum_cons x xs = sum_by-cons (λ (n : ℕ). n) x xs
+
+total_of : (ds : List Dataset) → sum (lengths_of ds) ≡ length (joined ds)
+total_of [] = refl
+total_of (d ∷ ds) = sum_cons (length d.octets) (lengths_of ds) ∙ (ap (λ n. length d.octets + n) (total_of ds) ∙ sym (length-append d.octets (joined ds)))
+
+count_of : (ds : List Dataset) → length (lengths_of ds) ≡ length ds
+count_of ds = length-map ds (λ (d : Dataset). length d.octets)
+
+sum_more : (xs ys : List ℕ) → sum (xs ++ ys) ≡ sum xs + sum ys
+sum_more [] ys = let none : sum [] ≡ 0 = refl in omega (arith, none)
+sum_more (x ∷ xs) ys = sum_cons x (xs ++ ys) ∙ (let more = sum_more xs ys in let first = sum_cons x xs in omega (arith, more, first))
+
+sum_one : (x : ℕ) → sum (x ∷ []) ≡ x
+sum_one x = sum_cons x [] ∙ (let none : sum [] ≡ 0 = refl in omega (arith, none))
+
+-- ---- the object at a head
+
+-- the place at a head, by the tests of its record
+abbrev at_by : Bool → Bool → List Dataset → ℕ → objects.Place
+at_by b c ds count = if b then objects.place_after (place_behind ds) (SubfileBegun count) else if c then place_ended ds else place_behind ds
+
+stated_by : (b c : Bool) (ds : List Dataset) (count : ℕ) → (at_by b c ds count).stated ≡ numbers_of (of_record 7 ds)
+stated_by true c ds count = refl
+stated_by false true ds count = refl
+stated_by false false ds count = refl
+
+heads_by : (b c : Bool) (ds : List Dataset) (count : ℕ) → length (at_by b c ds count).lengths ≡ length (of_record 8 ds) + (if b then 1 else 0)
+heads_by true c ds count = length-append (lengths_of (of_record 8 ds)) (count ∷ []) ∙ ap (λ n. n + 1) (count_of (of_record 8 ds))
+heads_by false true ds count = let same = count_of (of_record 8 ds) in omega (arith, same)
+heads_by false false ds count = let same = count_of (of_record 8 ds) in omega (arith, same)
+
+taken_by : (b c : Bool) (ds : List Dataset) (taken : List ℕ) (count left : ℕ) → length taken + left ≡ count
+    → sum (at_by b c ds count).lengths - (if b then left else 0) ≡ length (object_of ds ++ (if b then taken else []))
+taken_by true c ds taken count left e =
+    let sums = sum_more (lengths_of (of_record 8 ds)) (count ∷ []) in
+    let one = sum_one count in
+    let total = total_of (of_record 8 ds) in
+    let both = length-append (object_of ds) taken in
+    omega (arith, sums, one, total, both, e)
+taken_by false true ds taken count left e = let total = total_of (of_record 8 ds) in let same = ap length (append-nil (object_of ds)) in omega (arith, total, same)
+taken_by false false ds taken count left e = let total = total_of (of_record 8 ds) in let same = ap length (append-nil (object_of ds)) in omega (arith, total, same)
+
+-- ---- the message
+
+message_at : (reader : Option Message) (octets text : List ℕ) (m : MessagePlace) → wire.StandsAt reader octets text → IsAt reader m → LeadToSaved octets text m
+message_at reader octets text m (at, is, leads) (place, has, same) =
+    let one : at ≡ place = some-same (sym is ∙ has) in (at, leads, ap saved one ∙ same)
+  where
+    some-same : {x y : Message} → Some x ≡ Some y → x ≡ y
+    some-same e = cc
+
+-- ---- begun datasets that are told alike
+
+told_by : (parts : Parts) (ds es : List Dataset) (b c : Begun) → ds ≡ es → begun_data b ≡ begun_data c → StandsFor parts ds b → StandsFor parts es c
+told_by parts ds es (InTag x) (InTag y) e same at = subst (Behind parts) e at
+told_by parts ds es (InTag x) (InData h t) e same at = absurd (let bad : None ≡ Some (h, t) = same in cc)
+told_by parts ds es (InData h t) (InTag x) e same at = absurd (let bad : Some (h, t) ≡ None = same in cc)
+told_by parts ds es (InData h t) (InData k v) e same at =
+    let pair : (h, t) ≡ (k, v) = some-same same in
+    subst (λ (x : Head × List ℕ). Within parts es x.0 x.1) pair (subst (λ (x : List Dataset). Within parts x h t) e at)
+  where
+    some-same : {x y : Head × List ℕ} → Some x ≡ Some y → x ≡ y
+    some-same e = cc
+
+-- ---- the place
+
+-- what the readers tell, part by part, of whole datasets and a begun one
+record Parted (place : DatasetPlace) (parts : Parts) (ticket : List ℕ) (s : IsSpelled place parts ticket) (whole : List Dataset) (begun : Begun) : Type 0 where
+  pub section : s.section ≡ section whole begun
+  pub phase : phase_in place parts ≡ phase_of whole begun
+  pub fields : parts.fields.kept ≡ kept whole
+  pub numbers : s.numbers ≡ stated_numbers (numbers_of (of_record 7 whole))
+  pub taken : s.taken ≡ length (object_so_far whole begun)
+  pub heads : s.heads ≡ heads_of whole begun
+  pub text : List ℕ
+  pub leads : LeadToSaved (object_so_far whole begun) text s.message
+
+parted_behind : (parts : Parts) (ticket : List ℕ) (ds : List Dataset) (held : List ℕ) (place : DatasetPlace) (s : IsSpelled place parts ticket) → IsKeptAs place (InTag held) → Behind parts ds
+    → Parted place parts ticket s ds (InTag held)
+parted_behind parts ticket ds held (Inside g left) s keeps at = absurd keeps
+parted_behind parts ticket ds held (Tag octets) s keeps at = record {
+  section = s.behind ds at.fields;
+  phase = ap (λ (b : Bool). if b then AllEnded else TagBegun octets.items) (ended_behind parts ds at.fields) ∙ ap (λ (xs : List ℕ). if nat_eq (present_record ds) 9 then AllEnded else TagBegun xs) keeps;
+  fields = at.fields.kept_are;
+  numbers = s.numbers_are (place_behind ds) at.object;
+  taken = let is = s.taken_is (place_behind ds) at.object in let total = total_of (of_record 8 ds) in omega (arith, is, total);
+  heads = s.heads_are (place_behind ds) at.object ∙ count_of (of_record 8 ds);
+  text = _;
+  leads = message_at parts.message (object_of ds) _ s.message at.message s.message_is;
+}
+
+parted_within : (parts : Parts) (ticket : List ℕ) (ds : List Dataset) (h : Head) (given : List ℕ) (place : DatasetPlace) (s : IsSpelled place parts ticket) → IsKeptAs place (InData h given) → Within parts ds h given
+    → Parted place parts ticket s ds (InData h given)
+parted_within parts ticket ds h given (Tag octets) s keeps at = absurd keeps
+parted_within parts ticket ds h given (Inside g left) s (is, many) at =
+    let ended : has_ended parts ≡ false = unended_inside parts h at.fields.inside.0 at.fields.inside.1 in
+    let rest : left ≡ h.count - length given = omega (arith, many) in
+    record {
+      section = s.inside ds h _ at.fields;
+      phase = ap (λ (b : Bool). if b then AllEnded else DataBegun g.set g.count left parts.fields.taken) ended
+          ∙ ap (λ (k : Head). DataBegun k.set k.count left parts.fields.taken) is
+          ∙ ap (λ n. DataBegun h.set h.count n parts.fields.taken) rest
+          ∙ ap (DataBegun h.set h.count (h.count - length given)) at.fields.taken_are;
+      fields = at.fields.kept_are;
+      numbers = s.numbers_are (place_at ds h) at.object ∙ ap stated_numbers (stated_by (nat_eq h.rec 8) (nat_eq h.rec 9) ds h.count);
+      taken = s.taken_is (place_at ds h) at.object
+          ∙ (ap (λ (k : Head). sum (place_at ds h).lengths - (if nat_eq k.rec 8 then left else 0)) is
+          ∙ taken_by (nat_eq h.rec 8) (nat_eq h.rec 9) ds given h.count left many);
+      heads = s.heads_are (place_at ds h) at.object ∙ heads_by (nat_eq h.rec 8) (nat_eq h.rec 9) ds h.count;
+      text = _;
+      leads = message_at parts.message (object_so_far ds (InData h given)) _ s.message at.message s.message_is;
+    }
+
+parted : (parts : Parts) (ticket : List ℕ) (whole : List Dataset) (begun : Begun) (place : DatasetPlace) (s : IsSpelled place parts ticket) → IsKeptAs place begun → StandsFor parts whole begun
+    → Parted place parts ticket s whole begun
+parted parts ticket whole (InTag held) place s keeps at = parted_behind parts ticket whole held place s keeps at
+parted parts ticket whole (InData h given) place s keeps at = parted_within parts ticket whole h given place s keeps at
+
+-- The ticket is that of octets that led here.
+pub record Placed (u : Unpacking) (p ticket : List ℕ) : Type 0 where
+  pub whole : List Dataset
+  pub begun : Begun
+  pub reads : Reads p whole begun
+  pub stands : StandsFor u.parts whole begun
+  pub text : List ℕ
+  pub message : MessagePlace
+  pub leads : LeadToSaved (object_so_far whole begun) text message
+  pub spelled : ticket ≡ ticket_of (place_of whole begun message)
+
+pub placed : EventsTellTheDatasets → (u : Unpacking) (p ticket : List ℕ) → IsSpelled u.reader.place u.parts ticket → IsLed u p → Placed u p ticket
+placed tell u p ticket s led =
+    let hands = led.leads.hands in
+    let told = tell led.led.whole hands.whole led.led.begun led.leads.begun (sym led.led.told ∙ hands.handed) in
+    let at : StandsFor u.parts hands.whole led.leads.begun = told_by u.parts led.led.whole hands.whole led.led.begun led.leads.begun told.0 told.1 led.led.stands in
+    let by = parted u.parts ticket hands.whole led.leads.begun u.reader.place s led.leads.keeps at in
+    let same : record { section = s.section; phase = phase_in u.reader.place u.parts; fields = u.parts.fields.kept; numbers = s.numbers; taken = s.taken; heads = s.heads; message = s.message } ≡ place_of hands.whole led.leads.begun s.message =
+    λ i. record { section = by.section i; phase = by.phase i; fields = by.fields i; numbers = by.numbers i; taken = by.taken i; heads = by.heads i; message = s.message } in
+    record {
+      whole = hands.whole;
+      begun = led.leads.begun;
+      reads = hands.reads;
+      stands = at;
+      text = by.text;
+      message = s.message;
+      leads = by.leads;
+      spelled = s.spelled ∙ ap ticket_of same;
+    }
+
+ticket_led : EventsTellTheDatasets → (u : Unpacking) (p ticket : List ℕ) → IsSpelled u.reader.place u.parts ticket → IsLed u p → IsTicketOf p ticket
+ticket_led tell u p ticket s led =
+    let by = placed tell u p ticket s led in
+    record {
+      place = place_of by.whole by.begun by.message;
+      is_place = record { whole = by.whole; begun = by.begun; reads = by.reads; text = by.text; message = by.message; leads = by.leads; is_place = refl };
+      spelled = by.spelled;
+    }
+
+pub ticket_by : EventsTellTheDatasets → (u : Unpacking) (p ticket : List ℕ) (a : ℕ) → IsSpelled u.reader.place u.parts ticket → Stands u p a ⊎ IsDoneWith u p a → IsTicketOf p ticket
+ticket_by tell u p ticket a s (inl at) = ticket_led tell u p ticket s at.is_led
+ticket_by tell u p ticket a s (inr at) = ticket_led tell u p ticket s at.is_led
+
+-- The kept datasets are few.
+pub few_kept : (u : Unpacking) → Stood u → length u.parts.fields.kept ≤ (limits_in u).fields
+few_kept u (p, a, stood) = elim stood [ inl at ↦ few_led at.is_led | inr at ↦ few_led at.is_led ]
+  where
+    few_by : (b : Begun) (ds : List Dataset) → StandsFor u.parts ds b → length u.parts.fields.kept ≤ (limits_in u).fields
+    few_by (InTag held) ds at = let same = ap length at.fields.kept_are in omega (arith, same, at.fields.within.fields_in)
+    few_by (InData h taken) ds at = let same = ap length at.fields.kept_are in omega (arith, same, at.fields.others.fields_in)
+
+    few_led : IsLed u p → length u.parts.fields.kept ≤ (limits_in u).fields
+    few_led led = few_by led.led.begun led.led.whole led.led.stands
+
+-- ---- one ticket
+
+same_place : OctetsLeadToOnePlace → (whole es : List Dataset) (b c : Begun) (m n : MessagePlace) (t v : List ℕ) → whole ≡ es → b ≡ c
+    → LeadToSaved (object_so_far whole b) t m → LeadToSaved (object_so_far es c) v n → place_of whole b m ≡ place_of es c n
+same_place one whole es b c m n t v is same (at, leads, saves) (other, goes, keeps) =
+    let octets : object_so_far es c ≡ object_so_far whole b = ap (λ (ds : List Dataset). object_so_far ds c) (sym is) ∙ ap (object_so_far whole) (sym same) in
+    let met : at ≡ other = (one (object_so_far whole b) t v at other leads (subst (λ (xs : List ℕ). LeadTo xs v other) octets goes)).1 in
+    let message : m ≡ n = sym saves ∙ ap saved met ∙ keeps in
+    ap (λ (ds : List Dataset). place_of ds b m) is ∙ ap (λ (x : Begun). place_of es x m) same ∙ ap (place_of es c) message
+
+pub one_ticket : OctetsAreHandedOnOneWay → EventsTellTheDatasets → OctetsLeadToOnePlace → OctetsHaveOneTicket
+one_ticket way tell one octets ticket other x y =
+    let a = x.is_place in
+    let b = y.is_place in
+    let told = way octets (handed_on a.whole a.begun) (handed_on b.whole b.begun) a.begun b.begun (record { whole = a.whole; reads = a.reads; handed = refl }) (record { whole = b.whole; reads = b.reads; handed = refl }) in
+    let whole = (tell a.whole b.whole a.begun b.begun told.0).0 in
+    x.spelled ∙ ap ticket_of (a.is_place ∙ same_place one a.whole b.whole a.begun b.begun a.message b.message a.text b.text whole told.1 a.leads b.leads ∙ sym b.is_place) ∙ sym y.spelled
