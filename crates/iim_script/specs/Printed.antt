@@ -1,40 +1,14 @@
 -- What is printed of an envelope, as the lines of a script.
-use Rattle.std.specs.Prelude.{◌≡◌, ◌⊎◌, ℕ, ◌+◌, ◌/◌, ◌%◌, ◌==◌, ◌&&◌, not, Bool, if◌then◌else◌, nat_le, nat_lt, List, [], ◌∷◌, ◌++◌, codes, decimal}
+use Rattle.std.specs.Prelude.{◌≡◌, ◌⊎◌, ℕ, List, [], ◌∷◌, ◌++◌, codes}
 use Rattle.std.specs.List.{flat_map, join_with_byte}
 use Rattle.iim_dataset.specs.Datasets.{Dataset}
+use Rattle.iim_dataset.specs.Shown.{shown, dataset_name}
 use Rattle.wire_message.specs.Messages.{Header}
-
--- the digit of a number below 16: 0 to 9, A to F
-abbrev pub hex_digit : ℕ → ℕ
-hex_digit n = if nat_lt n 10 then 48 + n else 55 + n
-
--- \x and the two digits of an octet
-abbrev pub escape : ℕ → List ℕ
-escape octet = 92 ∷ 120 ∷ hex_digit (octet / 16) ∷ hex_digit (octet % 16) ∷ []
-
--- Octets from 20 to 7E stand for themselves, but for the backslash.
-abbrev pub is_plain : ℕ → Bool
-is_plain octet = nat_le 32 octet && nat_le octet 126 && not (octet == 92)
-
--- an octet as itself, or as \x and two digits
-abbrev pub shown_octet : ℕ → List ℕ
-shown_octet octet = if is_plain octet then octet ∷ [] else escape octet
-
-abbrev pub shown : List ℕ → List ℕ
-shown octets = flat_map shown_octet octets
 
 -- a space and the octets, shown; nothing where there are none
 abbrev pub after_space : List ℕ → List ℕ
 after_space [] = []
 after_space (x ∷ xs) = 32 ∷ shown (x ∷ xs)
-
--- a 0 before a number of one digit
-abbrev pub padding : ℕ → List ℕ
-padding n = if nat_lt n 10 then codes "0" else []
-
--- a dataset's name: its record, and its number with two digits at least, as 1:00 or 2:105
-abbrev pub dataset_name : ℕ → ℕ → List ℕ
-dataset_name rec set = decimal rec ++ (codes ":" ++ (padding set ++ decimal set))
 
 -- a dataset: its name and its octets
 abbrev pub field_line : Dataset → List ℕ

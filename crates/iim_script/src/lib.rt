@@ -20,5 +20,5 @@ mod story;
 mod tests;
 
 pub use fault::{ScriptCause, ScriptFault};
-pub use reading::read_script;
+pub use reading::{MAX_SCRIPT, read_script};
 pub use script::Script;

@@ -21,7 +21,7 @@ use std::alloc::Global;
 use wire_message::{MessageHead, is_trailer};
 
 /// The most octets of a script.
-const MAX_SCRIPT: usize = 16_777_216;
+pub const MAX_SCRIPT: usize = 16_777_216;
 
 /// The line that stands before the story.
 const TEXT: &[u8] = b"text";
