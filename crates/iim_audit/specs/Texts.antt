@@ -1,28 +1,9 @@
 -- The text of a report.
-use Rattle.std.specs.Prelude.{ℕ, ◌+◌, ◌/◌, ◌%◌, ◌==◌, ◌&&◌, not, ℤ, Bool, if◌then◌else◌, nat_le, nat_lt, List, [], ◌∷◌, ◌++◌, length, count_by, codes, decimal, Option, Some, None, is_some}
+use Rattle.std.specs.Prelude.{ℕ, ◌+◌, ℤ, List, [], ◌∷◌, ◌++◌, length, count_by, codes, decimal, Option, Some, None, is_some}
 use Rattle.std.specs.Fmt.{signed_decimal}
-use Rattle.std.specs.List.{flat_map}
 use Rattle.std.specs.Option.{unwrap_or}
+use Rattle.iim_dataset.specs.Shown.{shown}
 use Rattle.iim_audit.specs.declared.row.AuditRow.{AuditRow}
-
--- the digit of a number below 16: 0 to 9, A to F
-abbrev pub hex_digit : ℕ → ℕ
-hex_digit n = if nat_lt n 10 then 48 + n else 55 + n
-
--- \x and the two digits of an octet
-abbrev pub escape : ℕ → List ℕ
-escape octet = 92 ∷ 120 ∷ hex_digit (octet / 16) ∷ hex_digit (octet % 16) ∷ []
-
--- Octets from 20 to 7E stand for themselves, but for the backslash.
-abbrev pub is_plain : ℕ → Bool
-is_plain octet = nat_le 32 octet && nat_le octet 126 && not (octet == 92)
-
--- an octet as itself, or as \x and two digits
-abbrev pub shown_octet : ℕ → List ℕ
-shown_octet octet = if is_plain octet then octet ∷ [] else escape octet
-
-abbrev pub shown : List ℕ → List ℕ
-shown octets = flat_map shown_octet octets
 
 -- a digit, or `-` where there is none
 abbrev pub digit_or_dash : Option ℕ → ℕ

@@ -13,7 +13,7 @@ use iim_dataset::Source;
 use iim_dataset::device_laws::gifts_join;
 use iim_dataset::laws::{events_tell_the_datasets, octets_are_handed_on_one_way};
 use iim_fields::Limits;
-use iim_unpack::{Intake, Unpacker};
+use iim_unpack::{Intake, Unpacked, Unpacker};
 use jiff::Timestamp;
 use std::alloc::Global;
 use wire_message::laws::texts_stand_between_stx_and_etx;
@@ -23,9 +23,11 @@ use wire_story::laws::texts_are_counted_as_lines;
 /// The most envelopes that one audit lists.
 pub const MAX_ENVELOPES: u64 = 1_000_000;
 
-/// The next envelope of an intake, or None at the end of its input.
+/// The next envelope of an intake, or None at the end of its input. The memory of an envelope that is no longer wanted, if there is
+/// one, serves the next.
 fn take_envelope<R: Source>(
     alloc: Global,
+    spare: Option<Unpacked>,
     intake: &mut Intake<R>,
     limits: Limits,
 ) -> Result<Option<Taken>, AuditCause>
@@ -41,7 +43,7 @@ fn take_envelope<R: Source>(
     events_tell_the_datasets();
     texts_stand_between_stx_and_etx();
     texts_are_counted_as_lines();
-    let Ok(unpacker) = Unpacker::new(alloc, limits) else {
+    let Ok(unpacker) = Unpacker::reusing(alloc, spare, limits) else {
         return Err(AuditCause::OutOfMemory);
     };
     let mut count = WordCount::new();
@@ -58,7 +60,7 @@ fn take_envelope<R: Source>(
 /// The report of all envelopes of an input, at the instant `now`: a row for each, in their order. An intake that had answered
 /// a fault before tells it again, with envelope 1.
 ///
-/// It takes memory for each envelope, and time that grows with n log n for n envelopes.
+/// It takes memory for each row, and time that grows with n log n for n envelopes.
 pub fn audit<R: Source>(
     alloc: Global,
     intake: &mut Intake<R>,
@@ -76,9 +78,10 @@ pub fn audit<R: Source>(
 {
     gifts_join();
     let mut ledger = Ledger::new(alloc);
+    let mut spare = None;
     'envelopes: loop {
         let number = ledger.next_number();
-        let got = match take_envelope(alloc, intake, limits) {
+        let got = match take_envelope(alloc, spare.take(), intake, limits) {
             Ok(Some(got)) => got,
             Ok(None) => return Ok(ledger.into_report()),
             Err(cause) => {
@@ -100,5 +103,6 @@ pub fn audit<R: Source>(
                 cause: AuditCause::OutOfMemory,
             });
         };
+        spare = Some(got.unpacked);
     }
 }

@@ -6,17 +6,18 @@
 
 mod age;
 mod auditing;
+mod dash;
 mod fault;
 mod ledger;
 mod report;
 mod row;
-mod shown;
 #[cfg(test)]
 mod tests;
 mod text;
 
 pub use age::whole_seconds_are_floors;
-pub use auditing::audit;
+pub use auditing::{MAX_ENVELOPES, audit};
+pub use dash::NumberOrDash;
 pub use fault::{AuditCause, AuditFault};
 pub use report::Report;
 pub use row::AuditRow;

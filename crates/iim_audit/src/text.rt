@@ -1,29 +1,15 @@
 //! The text of a report.
 
 ghost use Rattle.std.specs.Prelude.{◌≡◌, ◌++◌, OnOk, IfOk, Some, string_bytes};
-ghost use Rattle.iim_audit.specs.Texts.{ages_of, known_by, number_or_dash, repeated, row_line, seconds_or_dash, sizes_of, sums_line, text_of};
+ghost use Rattle.iim_audit.specs.Texts.{ages_of, known_by, repeated, row_line, seconds_or_dash, sizes_of, sums_line, text_of};
 
+use crate::dash::NumberOrDash;
 use crate::report::Report;
 use crate::row::AuditRow;
-use crate::shown::push_shown;
+use iim_dataset::push_shown;
 use std::alloc::{AllocError, Global};
 use std::fmt;
 use std::fmt::{Display, Formatter};
-
-/// A number, or `-` where there is none.
-#[derive(Clone, Copy)]
-struct NumberOrDash(Option<u64>);
-
-impl Display for NumberOrDash {
-    ghost output = { λ n. Some (number_or_dash n.0) };
-
-    fn fmt<W: fmt::Write>(&self, f: &mut Formatter<W>) -> fmt::Result {
-        match self.0 {
-            None => f.write_str("-"),
-            Some(number) => write!(f, "{number}"),
-        }
-    }
-}
 
 /// A number of seconds, or `-` where there is none.
 #[derive(Clone, Copy)]

@@ -5,6 +5,7 @@ use Rattle.iim_fields.specs.declared.limits.Limits.{Limits}
 use Rattle.wire_story.specs.Delivery.{Event, delivered}
 use Rattle.iim_unpack.specs.Admitted.{Value, Admits}
 use Rattle.iim_unpack.specs.Framed.{AreWithin}
+pub use Rattle.iim_unpack.specs.Listing.{max_envelopes}
 use Rattle.iim_unpack.specs.Intakes.{IsRefusedOf, IsTruncatedIn}
 use Rattle.iim_unpack.specs.Unpacking.{IsTextOf, raised}
 use Rattle.iim_unpack.specs.declared.refusal.Refusal.{Refusal}
@@ -13,10 +14,6 @@ use Rattle.iim_unpack.specs.declared.refusal.Cause.TheVariants.{Sink}
 -- what the records 1 and 2 of an envelope may have: 65,536 octets in 512 datasets
 abbrev pub limits : Limits
 limits = record { octets = 65536; fields = 512 }
-
--- so many envelopes are listed at most
-abbrev pub max_envelopes : ℕ
-max_envelopes = 1000000
 
 -- an envelope of an input: its octets, and the value that they have
 pub record Envelope : Type 0 where

@@ -1,19 +1,15 @@
 -- What `show` writes of an envelope.
-use Rattle.std.specs.Prelude.{ℕ, List, ◌++◌, codes, decimal, Bool, true, false, Option, None, Some}
+use Rattle.std.specs.Prelude.{ℕ, List, ◌++◌, codes, decimal, Bool, true, false}
 use Rattle.std.specs.List.{flat_map}
 use Rattle.iim_object.specs.declared.size.Sizes.{Sizes}
 use Rattle.iim_unpack.specs.Admitted.{Value}
 use Rattle.iim_script.specs.Printed.{field_line, message_line, trailer_line}
+use Rattle.iim_audit.specs.Texts.{number_or_dash}
 use Rattle.iim_commands.specs.Listings.{Envelope}
 
 -- the first line
 abbrev pub number_line : ℕ → List ℕ
 number_line number = codes "envelope " ++ (decimal number ++ codes "\n")
-
--- a number, or - where there is none
-abbrev pub number_or_dash : Option ℕ → List ℕ
-number_or_dash None = codes "-"
-number_or_dash (Some n) = decimal n
 
 -- the size mode: 1 where the size is known at the start
 abbrev pub mode_of : Bool → ℕ

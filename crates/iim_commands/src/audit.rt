@@ -1,12 +1,12 @@
 //! `audit`: the report of an input.
 
-ghost use Rattle.std.specs.Prelude.{◌≡◌, None, IfOk, IfErr, string_bytes};
+ghost use Rattle.std.specs.Prelude.{◌≡◌, None, IfOk, IfErr};
 ghost use Rattle.iim_unpack.specs.Intakes.{line};
 ghost use Rattle.iim_commands.specs.Audits.{Audited, IsUnaudited, TellsWhy, CannotTell};
 
 use crate::coming::LIMITS;
 use crate::fault::Fault;
-use crate::report::{TOO_MANY, refused_line, say};
+use crate::report::{TOO_MANY, push_refused, say};
 use crate::status::{ACCEPTED, REFUSED};
 use iim_audit::{AuditCause, AuditFault, audit, report_text};
 use iim_dataset::{Source, Target};
@@ -15,13 +15,17 @@ use jiff::Timestamp;
 use std::alloc::Global;
 
 /// The line that tells why there is no report, where it is the octets; else the fault.
-fn reason(alloc: Global, fault: AuditFault) -> Result<String, Fault>
-    ensures told { IfOk result (λ line. TellsWhy fault.envelope fault.cause (string_bytes line)) }
+fn reason(alloc: Global, fault: AuditFault) -> Result<Vec<u8>, Fault>
+    ensures told { IfOk result (λ line. TellsWhy fault.envelope fault.cause line.items) }
     ensures other { IfErr result (CannotTell fault.cause) }
 {
     match fault.cause {
-        AuditCause::Refused(refusal) => Ok(refused_line(alloc, fault.envelope, refusal)?),
-        AuditCause::TooManyEnvelopes => Ok(String::from_str(alloc, TOO_MANY)?),
+        AuditCause::Refused(refusal) => {
+            let mut line = Vec::new(alloc);
+            push_refused(&mut line, fault.envelope, refusal)?;
+            Ok(line)
+        }
+        AuditCause::TooManyEnvelopes => Ok(Vec::from_slice(alloc, TOO_MANY.as_bytes())?),
         AuditCause::Read | AuditCause::Interrupted => Err(Fault::CannotRead),
         AuditCause::OutOfMemory => Err(Fault::OutOfMemory),
     }
@@ -47,7 +51,7 @@ pub fn write_audit<R: Source, W: Target>(
         }
         Err(fault) => {
             let line = reason(alloc, fault)?;
-            say(output, line.as_bytes())?;
+            say(output, line.as_slice())?;
             Ok(REFUSED)
         }
     }

@@ -3,9 +3,9 @@
 ghost use Rattle.iim_commands.specs.Lines.{line_of};
 
 use crate::list::Report;
-use crate::report::accepted_line;
+use crate::report::push_accepted;
 use iim_unpack::Unpacked;
-use std::alloc::{AllocError, Global};
+use std::alloc::AllocError;
 
 /// Tells how many octets each envelope has.
 #[derive(Clone, Copy)]
@@ -14,13 +14,13 @@ pub struct Check;
 impl Report for Check {
     ghost written = { line_of };
 
-    fn text(
+    fn push_text(
         &self,
-        alloc: Global,
+        text: &mut Vec<u8>,
         number: u64,
         octets: u64,
         _got: &Unpacked,
-    ) -> Result<Vec<u8>, AllocError> {
-        Ok(accepted_line(alloc, number, octets)?.into_bytes())
+    ) -> Result<(), AllocError> {
+        push_accepted(text, number, octets)
     }
 }

@@ -1,8 +1,6 @@
 //! What comes next of an input.
 
 ghost use Rattle.std.specs.Prelude.{◌≡◌, [], None, IfOk};
-ghost use Rattle.iim_unpack.specs.Unpacking.{Stands, limits_in};
-ghost use Rattle.iim_commands.specs.Listings.{limits};
 ghost use Rattle.iim_unpack.specs.Intakes.{line};
 ghost use Rattle.iim_commands.specs.Coming.{IsNext, IsCalm, CanGoOn};
 
@@ -10,11 +8,8 @@ use crate::fault::Fault;
 use iim_dataset::Source;
 use iim_fields::Limits;
 use iim_unpack::{Cause, Intake, IntakeFault, Refusal, Unpacked, Unpacker};
-use std::alloc::{AllocError, Global};
+use std::alloc::Global;
 use wire_story::StorySink;
-
-/// The most envelopes that one run lists.
-pub const MAX_ENVELOPES: u64 = 1_000_000;
 
 /// What the records 1 and 2 of an envelope may have.
 pub const LIMITS: Limits = Limits {
@@ -33,20 +28,6 @@ pub enum Next {
     Refused(Refusal),
 }
 
-/// An unpacker of the next envelope, with the memory of one that is no longer wanted, if there is one.
-fn next_unpacker(alloc: Global, spare: Option<Unpacked>) -> Result<Unpacker, AllocError>
-    ensures stands { IfOk result (λ u. Stands u [] 0) }
-    ensures limits { IfOk result (λ u. limits_in u ≡ limits) }
-{
-    let Some(unpacked) = spare else {
-        return Unpacker::new(alloc, LIMITS);
-    };
-    match Unpacker::over(unpacked, LIMITS) {
-        Ok(unpacker) => Ok(unpacker),
-        Err(_) => Unpacker::new(alloc, LIMITS),
-    }
-}
-
 /// Takes what comes next, and tells the sink the text of it. The memory of an envelope that is no longer wanted, if there is one,
 /// serves the next.
 pub fn take_next<R: Source, S: StorySink>(
@@ -61,7 +42,7 @@ pub fn take_next<R: Source, S: StorySink>(
     ensures lives { CanGoOn intake.new.failed result }
     ensures leads { R.leads intake.old.reader intake.new.reader }
 {
-    let unpacker = next_unpacker(alloc, spare)?;
+    let unpacker = Unpacker::reusing(alloc, spare, LIMITS)?;
     match intake.next_envelope(unpacker, sink) {
         Ok(Some(got)) => Ok(Next::Envelope(got, intake.octets())),
         Ok(None) => Ok(Next::End),

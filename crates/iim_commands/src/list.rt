@@ -1,15 +1,16 @@
 //! Reports of inputs: a text for each envelope, and a last line.
 
-ghost use Rattle.std.specs.Prelude.{◌≡◌, ℕ, List, length, None, IfOk, IfErr};
+ghost use Rattle.std.specs.Prelude.{◌≡◌, ◌++◌, ℕ, List, length, None, IfOk, IfErr, OnOk};
 ghost use Rattle.iim_unpack.specs.Intakes.{line};
 ghost use Rattle.iim_unpack.specs.Value.{HasParts};
 ghost use Rattle.iim_commands.specs.Listings.{Envelope, told};
 ghost use Rattle.iim_commands.specs.Reports.{Reported, IsUnreported};
 
-use crate::coming::{MAX_ENVELOPES, Next, take_next};
+use crate::coming::{Next, take_next};
 use crate::fault::Fault;
-use crate::report::{TOO_MANY, refused_line, say};
+use crate::report::{TOO_MANY, push_refused, say};
 use crate::status::{ACCEPTED, REFUSED};
+use iim_audit::MAX_ENVELOPES;
 use iim_dataset::device_laws::{gifts_join, texts_join};
 use iim_dataset::{Source, Target};
 use iim_unpack::{Intake, Unpacked};
@@ -21,15 +22,15 @@ pub trait Report {
     /// The text of the envelope with this number.
     ghost written: { ℕ → Envelope → List ℕ };
 
-    /// The text of an envelope with this number, which has so many octets.
-    fn text(
+    /// Adds the text of an envelope with this number, which has so many octets.
+    fn push_text(
         &self,
-        alloc: Global,
+        text: &mut Vec<u8>,
         number: u64,
         octets: u64,
         got: &Unpacked,
-    ) -> Result<Vec<u8>, AllocError>
-        ensures { (e : Envelope) → octets ≡ told (length e.octets) → HasParts got.now e.value → IfOk result (λ text. text.items ≡ written number e) };
+    ) -> Result<(), AllocError>
+        ensures { (e : Envelope) → octets ≡ told (length e.octets) → HasParts got.now e.value → OnOk result (text.new.items ≡ text.old.items ++ written number e) };
 }
 
 /// Reports an input: each envelope, up to the end, to octets that are refused or to one envelope too many.
@@ -48,22 +49,24 @@ pub fn list<P: Report, R: Source, W: Target>(
     texts_join();
     let mut count = 0;
     let mut spare = None;
+    let mut text = Vec::new(alloc);
     'listing: loop {
+        text.clear();
         match take_next(alloc, spare.take(), intake, &mut Discard)? {
             Next::Envelope(got, octets) => {
                 if count == MAX_ENVELOPES {
                     say(output, TOO_MANY.as_bytes())?;
                     return Ok(REFUSED);
                 }
-                let text = texts.text(alloc, count + 1, octets, &got)?;
+                texts.push_text(&mut text, count + 1, octets, &got)?;
                 say(output, text.as_slice())?;
                 count += 1;
                 spare = Some(got);
             }
             Next::End => return Ok(ACCEPTED),
             Next::Refused(refusal) => {
-                let line = refused_line(alloc, count + 1, refusal)?;
-                say(output, line.as_bytes())?;
+                push_refused(&mut text, count + 1, refusal)?;
+                say(output, text.as_slice())?;
                 return Ok(REFUSED);
             }
         }

@@ -12,7 +12,7 @@ use iim_dataset::device_laws::gifts_join;
 use iim_dataset::{Source, Target, take};
 use iim_object::{PackCause, Plan, Size};
 use iim_pack::{pack, packed_size};
-use iim_script::{Script, ScriptCause, ScriptFault, read_script};
+use iim_script::{MAX_SCRIPT, Script, ScriptCause, ScriptFault, read_script};
 use std::alloc::Global;
 
 /// How an envelope is to be packed.
@@ -33,9 +33,6 @@ ghost use Rattle.iim_commands.specs.Packing.{Answered, IsPacked, IsPast, IsPlanO
 ghost use Rattle.iim_commands.specs.PackSteps.{ComesTo, GotSome, IsFailedRead, IsUnpacked, MayComeOf, PacksTold, TellsFault, UnpacksTold, told_by};
 ghost use Rattle.iim_commands.specs.Reports.{IsTold};
 ghost use Rattle.iim_commands.specs.declared.fault.Fault.TheVariants.{OutOfMemory};
-
-/// The most octets of a script.
-const MAX_SCRIPT: usize = 16_777_216;
 
 /// So many octets are asked for at once.
 const BLOCK: usize = 4096;

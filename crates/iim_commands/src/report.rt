@@ -1,6 +1,6 @@
 //! The lines of `check`.
 
-ghost use Rattle.std.specs.Prelude.{◌≡◌, IfOk, IfErr, OnOk, string_bytes};
+ghost use Rattle.std.specs.Prelude.{◌≡◌, ◌++◌, IfErr, IfSome, OnOk};
 ghost use Rattle.iim_dataset.specs.Devices.{Wrote};
 ghost use Rattle.iim_commands.specs.Reports.{IsTold, IsUnsaid};
 ghost use Rattle.iim_commands.specs.Lines.{accepted_line, refused_line};
@@ -9,7 +9,9 @@ use crate::fault::Fault;
 use crate::status::FAILED;
 use iim_dataset::{Target, put};
 use iim_unpack::Refusal;
-use std::alloc::{AllocError, Global};
+use std::alloc::AllocError;
+use std::fmt::Display;
+use std::io::Write;
 
 /// The line in place of that of one envelope too many.
 pub const TOO_MANY: &str = "too many envelopes\n";
@@ -35,16 +37,26 @@ pub fn tell<E: Target>(errors: &mut E, text: &[u8], status: u8) -> u8
     }
 }
 
-/// The line of an accepted envelope.
-pub fn accepted_line(alloc: Global, number: u64, used: u64) -> Result<String, AllocError>
-    ensures { IfOk result (λ line. string_bytes line ≡ accepted_line number used) }
+/// Adds what a value is printed as.
+pub fn push_printed<D: Display + Drop>(text: &mut Vec<u8>, value: D) -> Result<(), AllocError>
+    ensures { OnOk result (IfSome (D.output value) (λ words. text.new.items ≡ text.old.items ++ words)) }
 {
-    format!(in alloc; "{number} accepted {used} octets\n")
+    match text.write_fmt(value) {
+        Ok(()) => Ok(()),
+        Err(_) => Err(AllocError),
+    }
 }
 
-/// The line of octets that are refused.
-pub fn refused_line(alloc: Global, number: u64, refusal: Refusal) -> Result<String, AllocError>
-    ensures { IfOk result (λ line. string_bytes line ≡ refused_line number refusal) }
+/// Adds the line of an accepted envelope.
+pub fn push_accepted(text: &mut Vec<u8>, number: u64, used: u64) -> Result<(), AllocError>
+    ensures { OnOk result (text.new.items ≡ text.old.items ++ accepted_line number used) }
 {
-    format!(in alloc; "{number} {refusal}\n")
+    push_printed(text, format_args!("{number} accepted {used} octets\n"))
+}
+
+/// Adds the line of octets that are refused.
+pub fn push_refused(text: &mut Vec<u8>, number: u64, refusal: Refusal) -> Result<(), AllocError>
+    ensures { OnOk result (text.new.items ≡ text.old.items ++ refused_line number refusal) }
+{
+    push_printed(text, format_args!("{number} {refusal}\n"))
 }

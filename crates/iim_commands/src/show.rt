@@ -1,19 +1,21 @@
 //! `show`: all parts of each envelope but its story.
 
-ghost use Rattle.std.specs.Prelude.{◌≡◌, ◌++◌, ◌∷◌, OnOk, Some, string_bytes, IfOk, codes, decimal};
+ghost use Rattle.std.specs.Prelude.{◌≡◌, ◌++◌, ◌∷◌, OnOk, codes, decimal};
+ghost use Rattle.iim_audit.specs.Texts.{number_or_dash};
 ghost use Rattle.iim_dataset.specs.Datasets.{Dataset};
-ghost use Rattle.iim_script.specs.Printed.{after_space, dataset_name, field_line, message_line, padding, trailer_line};
-ghost use Rattle.iim_commands.specs.Texts.{mode_of, number_line, number_or_dash, shown_of, sizes_line};
+ghost use Rattle.iim_script.specs.Printed.{after_space, field_line, message_line, trailer_line};
+ghost use Rattle.iim_commands.specs.Texts.{mode_of, number_line, shown_of, sizes_line};
 ghost use Rattle.std.specs.List.{flat_map};
 
 use crate::list::Report;
+use crate::report::push_printed;
 use crate::shown::push_after_space;
+use iim_audit::NumberOrDash;
+use iim_dataset::DatasetName;
 use iim_fields::Envelope;
 use iim_object::Sizes;
 use iim_unpack::Unpacked;
-use std::alloc::{AllocError, Global};
-use std::fmt;
-use std::fmt::{Display, Formatter};
+use std::alloc::AllocError;
 use wire_message::MessageHead;
 
 /// Tells the fields of each envelope, the header and the trailer of its message, and its sizes.
@@ -23,69 +25,45 @@ pub struct Show;
 impl Report for Show {
     ghost written = { shown_of };
 
-    fn text(
+    fn push_text(
         &self,
-        alloc: Global,
+        text: &mut Vec<u8>,
         number: u64,
         _octets: u64,
         got: &Unpacked,
-    ) -> Result<Vec<u8>, AllocError> {
-        let mut text = format!(in alloc; "envelope {number}\n")?.into_bytes();
-        push_fields(alloc, &mut text, &got.envelope)?;
-        push_message(&mut text, &got.head)?;
-        push_trailer(&mut text, got.trailer.as_slice())?;
-        push_sizes(alloc, &mut text, got.sizes)?;
-        Ok(text)
+    ) -> Result<(), AllocError> {
+        push_number(text, number)?;
+        push_fields(text, &got.envelope)?;
+        push_message(text, &got.head)?;
+        push_trailer(text, got.trailer.as_slice())?;
+        push_sizes(text, got.sizes)
     }
 }
 
-/// What stands before a number of one digit.
-fn padding(number: u8) -> &'static str
-    ensures { result.now ≡ padding number }
+/// Adds the first line.
+fn push_number(text: &mut Vec<u8>, number: u64) -> Result<(), AllocError>
+    ensures { OnOk result (text.new.items ≡ text.old.items ++ number_line number) }
 {
-    if number < 10 { "0" } else { "" }
-}
-
-/// A dataset's name, as `1:00` or `2:105`.
-#[derive(Clone, Copy)]
-struct DatasetName {
-    rec: u8,
-    set: u8,
-}
-
-impl Display for DatasetName {
-    ghost output = { λ n. Some (dataset_name n.rec n.set) };
-
-    fn fmt<W: fmt::Write>(&self, f: &mut Formatter<W>) -> fmt::Result {
-        let rec = self.rec;
-        let zero = padding(self.set);
-        let set = self.set;
-        write!(f, "{rec}:{zero}{set}")
-    }
+    push_printed(text, format_args!("envelope {number}\n"))
 }
 
 /// Adds the line of a dataset.
-fn push_field(
-    alloc: Global,
-    text: &mut Vec<u8>,
-    name: DatasetName,
-    octets: &[u8],
-) -> Result<(), AllocError>
+fn push_field(text: &mut Vec<u8>, name: DatasetName, octets: &[u8]) -> Result<(), AllocError>
     ensures { OnOk result (text.new.items ≡ text.old.items ++ field_line (record { rec = name.rec; set = name.set; octets = octets.now })) }
 {
-    text.extend_from_slice(format!(in alloc; "{name}")?.as_bytes())?;
+    push_printed(text, name)?;
     push_after_space(text, octets)?;
     text.push(b'\n')?;
     Ok(())
 }
 
 /// Adds the lines of all datasets.
-fn push_fields(alloc: Global, text: &mut Vec<u8>, envelope: &Envelope) -> Result<(), AllocError>
+fn push_fields(text: &mut Vec<u8>, envelope: &Envelope) -> Result<(), AllocError>
     ensures { OnOk result (text.new.items ≡ text.old.items ++ flat_map field_line envelope.now) }
 {
     let mut fields = envelope.fields();
     while let Some((rec, set, octets)) = fields.next() {
-        push_field(alloc, text, DatasetName { rec, set }, octets)?;
+        push_field(text, DatasetName { rec, set }, octets)?;
     }
     Ok(())
 }
@@ -137,21 +115,6 @@ fn push_trailer(text: &mut Vec<u8>, trailer: &[u8]) -> Result<(), AllocError>
     Ok(())
 }
 
-/// A number, or `-` where there is none.
-#[derive(Clone, Copy)]
-struct NumberOrDash(Option<u64>);
-
-impl Display for NumberOrDash {
-    ghost output = { λ n. Some (number_or_dash n.0) };
-
-    fn fmt<W: fmt::Write>(&self, f: &mut Formatter<W>) -> fmt::Result {
-        match self.0 {
-            None => f.write_str("-"),
-            Some(number) => write!(f, "{number}"),
-        }
-    }
-}
-
 /// The size mode: 1 where the size is known at the start.
 fn mode(known: bool) -> u8
     ensures { result ≡ mode_of known }
@@ -159,25 +122,36 @@ fn mode(known: bool) -> u8
     if known { 1 } else { 0 }
 }
 
-/// The first half of the line of sizes.
-fn counts(alloc: Global, sizes: Sizes) -> Result<String, AllocError>
-    ensures { IfOk result (λ line. string_bytes line ≡ codes "object " ++ (decimal sizes.total ++ (codes " octets, " ++ (decimal sizes.subfiles ++ (codes " subfiles, mode " ++ decimal (mode_of sizes.known)))))) }
+/// Adds the first half of the line of sizes.
+fn push_counts(text: &mut Vec<u8>, sizes: Sizes) -> Result<(), AllocError>
+    ensures { OnOk result (text.new.items ≡ text.old.items ++ (codes "object " ++ (decimal sizes.total ++ (codes " octets, " ++ (decimal sizes.subfiles ++ (codes " subfiles, mode " ++ decimal (mode_of sizes.known))))))) }
 {
     let total = sizes.total;
     let subfiles = sizes.subfiles;
     let mode = mode(sizes.known);
-    format!(in alloc; "object {total} octets, {subfiles} subfiles, mode {mode}")
+    push_printed(
+        text,
+        format_args!("object {total} octets, {subfiles} subfiles, mode {mode}"),
+    )
 }
 
-/// Adds the line of the object's sizes.
-fn push_sizes(alloc: Global, text: &mut Vec<u8>, sizes: Sizes) -> Result<(), AllocError>
-    ensures { OnOk result (text.new.items ≡ text.old.items ++ sizes_line sizes) }
+/// Adds the second half of it.
+fn push_bounds(text: &mut Vec<u8>, sizes: Sizes) -> Result<(), AllocError>
+    ensures { OnOk result (text.new.items ≡ text.old.items ++ (codes ", limit " ++ (decimal sizes.subfile ++ (codes ", announced " ++ (number_or_dash sizes.announced ++ (codes ", maximum " ++ (number_or_dash sizes.maximum ++ codes "\n"))))))) }
 {
     let limit = sizes.subfile;
     let announced = NumberOrDash(sizes.announced);
     let maximum = NumberOrDash(sizes.maximum);
-    let bounds = format!(in alloc; ", limit {limit}, announced {announced}, maximum {maximum}\n")?;
-    text.extend_from_slice(counts(alloc, sizes)?.as_bytes())?;
-    text.extend_from_slice(bounds.as_bytes())?;
-    Ok(())
+    push_printed(
+        text,
+        format_args!(", limit {limit}, announced {announced}, maximum {maximum}\n"),
+    )
+}
+
+/// Adds the line of the object's sizes.
+fn push_sizes(text: &mut Vec<u8>, sizes: Sizes) -> Result<(), AllocError>
+    ensures { OnOk result (text.new.items ≡ text.old.items ++ sizes_line sizes) }
+{
+    push_counts(text, sizes)?;
+    push_bounds(text, sizes)
 }

@@ -1,30 +1,11 @@
 //! Octets as text that can be printed.
 
-ghost use Rattle.std.specs.Prelude.{◌≡◌, ◌++◌, ◌<◌, OnOk};
-ghost use Rattle.iim_script.specs.Printed.{after_space, escape, hex_digit, is_plain, shown};
+ghost use Rattle.std.specs.Prelude.{◌≡◌, ◌++◌, OnOk};
+ghost use Rattle.iim_script.specs.Printed.{after_space};
 ghost use Rattle.iim_commands.specs.Shown.{shown_name};
 
+use iim_dataset::{push_escape, push_shown};
 use std::alloc::AllocError;
-
-/// The digit of a number below 16: `0` to `9`, `A` to `F`.
-fn hex_digit(number: u8) -> u8
-    requires { number < 16 }
-    ensures { result ≡ hex_digit number }
-{
-    if number < 10 {
-        b'0' + number
-    } else {
-        b'A' - 10 + number
-    }
-}
-
-/// Adds `\x` and the two digits of an octet.
-fn push_escape(text: &mut Vec<u8>, octet: u8) -> Result<(), AllocError>
-    ensures { OnOk result (text.new.items ≡ text.old.items ++ escape octet) }
-{
-    let digits = [b'\\', b'x', hex_digit(octet / 16), hex_digit(octet % 16)];
-    text.extend_from_slice(&digits)
-}
 
 /// Adds a name: its control characters (00 to 1F, and 7F) as `\x` and two digits, all else as it is.
 pub fn push_name(text: &mut Vec<u8>, name: &str) -> Result<(), AllocError>
@@ -35,27 +16,6 @@ pub fn push_name(text: &mut Vec<u8>, name: &str) -> Result<(), AllocError>
             push_escape(text, *octet)?;
         } else {
             text.push(*octet)?;
-        }
-    }
-    Ok(())
-}
-
-/// Whether an octet stands for itself where octets are shown.
-fn is_plain(octet: u8) -> bool
-    ensures { result ≡ is_plain octet }
-{
-    octet >= b' ' && octet <= b'~' && octet != b'\\'
-}
-
-/// Adds octets as they are shown: those from 20 to 7E but the backslash as they are, all others as `\x` and two digits.
-fn push_shown(text: &mut Vec<u8>, octets: &[u8]) -> Result<(), AllocError>
-    ensures { OnOk result (text.new.items ≡ text.old.items ++ shown octets.now) }
-{
-    for octet in octets {
-        if is_plain(*octet) {
-            text.push(*octet)?;
-        } else {
-            push_escape(text, *octet)?;
         }
     }
     Ok(())

@@ -6,11 +6,12 @@ ghost use Rattle.iim_unpack.specs.Intakes.{line};
 ghost use Rattle.wire_story.specs.Writing.{device_of, stops_of};
 ghost use Rattle.iim_commands.specs.Narration.{IsUnended, IsUnnarrated, Narrated};
 
-use crate::coming::{MAX_ENVELOPES, Next, take_next};
+use crate::coming::{Next, take_next};
 use crate::fault::Fault;
 use crate::laws::envelopes_are_delivered_as_lines;
-use crate::report::{TOO_MANY, accepted_line, refused_line, say};
+use crate::report::{TOO_MANY, push_accepted, push_refused, say};
 use crate::status::{ACCEPTED, REFUSED};
+use iim_audit::MAX_ENVELOPES;
 use iim_dataset::device_laws::{gifts_join, texts_join};
 use iim_dataset::{Source, Target};
 use iim_unpack::Intake;
@@ -50,23 +51,25 @@ pub fn narrate<R: Source, W: Target, E: Target>(
     lines_are_joined_by_line_feeds();
     let mut count = 0;
     let mut spare = None;
+    let mut line = Vec::new(alloc);
     'telling: loop {
+        line.clear();
         match take_next(alloc, spare.take(), intake, output)? {
             Next::Envelope(got, octets) => {
                 if count == MAX_ENVELOPES {
                     say(errors, TOO_MANY.as_bytes())?;
                     return Ok(REFUSED);
                 }
-                let line = accepted_line(alloc, count + 1, octets)?;
+                push_accepted(&mut line, count + 1, octets)?;
                 end_text(output)?;
-                say(errors, line.as_bytes())?;
+                say(errors, line.as_slice())?;
                 count += 1;
                 spare = Some(got);
             }
             Next::End => return Ok(ACCEPTED),
             Next::Refused(refusal) => {
-                let line = refused_line(alloc, count + 1, refusal)?;
-                say(errors, line.as_bytes())?;
+                push_refused(&mut line, count + 1, refusal)?;
+                say(errors, line.as_slice())?;
                 return Ok(REFUSED);
             }
         }

@@ -37,8 +37,11 @@ pub fn unpack_packed<S: StorySink>(
 /// An envelope with its lines, and how many octets of the stream it has.
 #[derive(Drop)]
 pub struct Story {
+    /// The envelope, but for its lines.
     pub unpacked: Unpacked,
+    /// The lines of its story.
     pub lines: Lines,
+    /// How many octets of the stream it has.
     pub used: u64,
 }
 

@@ -32,7 +32,9 @@ pub enum Job {
 /// A file, or else standard input, and what is to be done with it.
 #[derive(Clone, Copy, Debug, PartialEq, Eq)]
 pub struct Request<'a> {
+    /// The path of the file, or None for standard input.
     pub file: Option<&'a str>,
+    /// What is to be done.
     pub job: Job,
 }
 

@@ -40,4 +40,4 @@ returns-in_err-say-in-Err-clause-err g c =
     let fault = c.in_err-say-in-Err.field-0.0 in
     let why : FailsAt limits source rest c.in-Err.fault.envelope c.in-Err.fault.cause = search rules in
     handed_on (IsUnaudited now source rest old new) c.from_residual-in_err-say-in-Err.result fault c.from_residual-in_err-say-in-Err.ensures.1
-    (unsaid now source rest old new c.as_bytes.result.now 1 fault (inr (c.in-Err.fault.envelope, c.in-Err.fault.cause, why, search rules, refl)) c.in_err-say-in-Err.ensures.err)
+    (unsaid now source rest old new c.as_slice-in-Err.result.now 1 fault (inr (c.in-Err.fault.envelope, c.in-Err.fault.cause, why, search rules, refl)) c.in_err-say-in-Err.ensures.err)

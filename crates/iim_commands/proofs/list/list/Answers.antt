@@ -1,4 +1,4 @@
-use Rattle.std.proofs.Common.{rules, ◌≡◌, ◌+◌, [], refl, sym, ◌∙◌, append-nil}
+use Rattle.std.proofs.Common.{rules, ◌≡◌, ◌+◌, [], refl, sym, append-nil}
 use Rattle.iim_unpack.specs.Intakes.{line}
 use Rattle.iim_commands.specs.Lines.{refused_line, too_many_line}
 use Rattle.iim_commands.specs.Listings.{max_envelopes, Whole, RefusedBy, TooMany}
@@ -6,7 +6,7 @@ use Rattle.iim_commands.specs.Reports.{IsUnreported}
 use Rattle.iim_commands.specs.declared.fault.Fault.TheVariants.{OutOfMemory}
 use Rattle.iim_commands.proofs.Reports.{discards, ends_refused, failed, heard, left_of, never_fails, none_left, reported, reported_more, starved, unended, unsaid_of}
 use Rattle.iim_commands.proofs.Taken.{come_as, end_as, lives_as, refusal_as}
-use Rattle.iim_commands.proofs.Told.{handed_on}
+use Rattle.iim_commands.proofs.Told.{added, handed_on}
 use Rattle.iim_commands.proofs.list.list.Goals as goal
 
 pub returns-in_err-got-clause-err : goal.returns-in_err-got-clause-err
@@ -60,8 +60,8 @@ returns-then-count-eq-MAX_ENVELOPES-clause-ok g c =
     reported c.gifts_join.ensures c.texts_join.ensures text source mid rest old now new c.listing.count 1 h.envelope.octets more.0 c.as_bytes.result.now TooMany r
     h.came.given more.1 (full, h.envelope, h.is, more.0, refl) refl words c.in_ok-say-in-Envelope.ensures.ok
 
-pub returns-in_err-text-in-Envelope-clause-err : goal.returns-in_err-text-in-Envelope-clause-err
-returns-in_err-text-in-Envelope-clause-err g c =
+pub returns-in_err-push_text-in-Envelope-clause-err : goal.returns-in_err-push_text-in-Envelope-clause-err
+returns-in_err-push_text-in-Envelope-clause-err g c =
     let text = g.P.Report.written in
     let source = line g.R.Source.state c.args.intake.now in
     let mid = line g.R.Source.state c.listing.intake in
@@ -71,7 +71,7 @@ returns-in_err-text-in-Envelope-clause-err g c =
     let sink = c.take_next.new.sink in
     let r = c.listing.invariant.reported in
     let h = come_as discards never_fails mid rest sink sink c.in_ok-got.field-0 c.in-Envelope.got c.in-Envelope.octets c.in-Envelope.is c.in_ok-got.ensures.next in
-    handed_on (IsUnreported text source rest old now) c.from_residual-in_err-text-in-Envelope.result OutOfMemory c.from_residual-in_err-text-in-Envelope.ensures.1
+    handed_on (IsUnreported text source rest old now) c.from_residual-in_err-push_text-in-Envelope.result OutOfMemory c.from_residual-in_err-push_text-in-Envelope.ensures.1
     (starved c.gifts_join.ensures text source mid rest old now c.listing.count h.envelope.octets r h.came.given)
 
 pub returns-in_err-say-in-Envelope-2-clause-err : goal.returns-in_err-say-in-Envelope-2-clause-err
@@ -85,7 +85,8 @@ returns-in_err-say-in-Envelope-2-clause-err g c =
     let sink = c.take_next.new.sink in
     let r = c.listing.invariant.reported in
     let h = come_as discards never_fails mid rest sink sink c.in_ok-got.field-0 c.in-Envelope.got c.in-Envelope.octets c.in-Envelope.is c.in_ok-got.ensures.next in
-    let words = c.as_slice.ensures.value ∙ c.in_ok-text-in-Envelope.ensures h.envelope h.counts h.parts in
+    let words = added c.clear.new.self.items c.push_text.new.text.items (text (c.listing.count + 1) h.envelope) c.as_slice.result.now c.clear.ensures.items
+    (c.in_ok-push_text-in-Envelope.ensures h.envelope h.counts h.parts) c.as_slice.ensures.value in
     let below : c.listing.count ≡ max_envelopes → ⊥ = search rules in
     let new = g.W.Target.state c.say-in-Envelope.new.output in
     let fault = c.in_err-say-in-Envelope-2.field-0.0 in
@@ -104,7 +105,8 @@ listing-preserved g c =
     let sink = c.take_next.new.sink in
     let r = c.listing.invariant.reported in
     let h = come_as discards never_fails mid rest sink sink c.in_ok-got.field-0 c.in-Envelope.got c.in-Envelope.octets c.in-Envelope.is c.in_ok-got.ensures.next in
-    let words = c.as_slice.ensures.value ∙ c.in_ok-text-in-Envelope.ensures h.envelope h.counts h.parts in
+    let words = added c.clear.new.self.items c.push_text.new.text.items (text (c.listing.count + 1) h.envelope) c.as_slice.result.now c.clear.ensures.items
+    (c.in_ok-push_text-in-Envelope.ensures h.envelope h.counts h.parts) c.as_slice.ensures.value in
     let below : c.listing.count ≡ max_envelopes → ⊥ = search rules in
     let new = g.W.Target.state c.say-in-Envelope.new.output in
     record {
@@ -129,8 +131,8 @@ returns-in-End-clause-ok g c =
     reported c.gifts_join.ensures c.texts_join.ensures text source mid rest old now now c.listing.count 0 [] [] [] Whole r h.0 (none_left rest.octets h.1) refl refl refl
     (c.texts_join.ensures.none now)
 
-pub returns-in_err-line-in-Refused-clause-err : goal.returns-in_err-line-in-Refused-clause-err
-returns-in_err-line-in-Refused-clause-err g c =
+pub returns-in_err-push_refused-in-Refused-clause-err : goal.returns-in_err-push_refused-in-Refused-clause-err
+returns-in_err-push_refused-in-Refused-clause-err g c =
     let text = g.P.Report.written in
     let source = line g.R.Source.state c.args.intake.now in
     let mid = line g.R.Source.state c.listing.intake in
@@ -140,7 +142,7 @@ returns-in_err-line-in-Refused-clause-err g c =
     let sink = c.take_next.new.sink in
     let r = c.listing.invariant.reported in
     let h = refusal_as discards never_fails mid rest sink sink c.in_ok-got.field-0 c.in-Refused.refusal c.in-Refused.is c.in_ok-got.ensures.next in
-    handed_on (IsUnreported text source rest old now) c.from_residual-in_err-line-in-Refused.result OutOfMemory c.from_residual-in_err-line-in-Refused.ensures.1
+    handed_on (IsUnreported text source rest old now) c.from_residual-in_err-push_refused-in-Refused.result OutOfMemory c.from_residual-in_err-push_refused-in-Refused.ensures.1
     (starved c.gifts_join.ensures text source mid rest old now c.listing.count h.octets r h.came.given)
 
 pub returns-in_err-say-in-Refused-clause-err : goal.returns-in_err-say-in-Refused-clause-err
@@ -155,10 +157,10 @@ returns-in_err-say-in-Refused-clause-err g c =
     let r = c.listing.invariant.reported in
     let h = refusal_as discards never_fails mid rest sink sink c.in_ok-got.field-0 c.in-Refused.refusal c.in-Refused.is c.in_ok-got.ensures.next in
     let new = g.W.Target.state c.say-in-Refused.new.output in
-    let words : c.as_bytes-in-Refused.result.now ≡ refused_line (c.listing.count + 1) c.in-Refused.refusal = search rules in
+    let words : c.as_slice-in-Refused.result.now ≡ refused_line (c.listing.count + 1) c.in-Refused.refusal = search rules in
     let fault = c.in_err-say-in-Refused.field-0.0 in
     handed_on (IsUnreported text source rest old new) c.from_residual-in_err-say-in-Refused.result fault c.from_residual-in_err-say-in-Refused.ensures.1
-    (unended c.gifts_join.ensures c.texts_join.ensures text source mid rest old now new c.listing.count h.octets c.as_bytes-in-Refused.result.now (RefusedBy c.in-Refused.refusal) fault r
+    (unended c.gifts_join.ensures c.texts_join.ensures text source mid rest old now new c.listing.count h.octets c.as_slice-in-Refused.result.now (RefusedBy c.in-Refused.refusal) fault r
     h.came.given (h.k, h.refused) words c.in_err-say-in-Refused.ensures.err)
 
 pub returns-in-Refused-clause-ok : goal.returns-in-Refused-clause-ok
@@ -173,7 +175,7 @@ returns-in-Refused-clause-ok g c =
     let r = c.listing.invariant.reported in
     let h = refusal_as discards never_fails mid rest sink sink c.in_ok-got.field-0 c.in-Refused.refusal c.in-Refused.is c.in_ok-got.ensures.next in
     let new = g.W.Target.state c.say-in-Refused.new.output in
-    let words : c.as_bytes-in-Refused.result.now ≡ refused_line (c.listing.count + 1) c.in-Refused.refusal = search rules in
+    let words : c.as_slice-in-Refused.result.now ≡ refused_line (c.listing.count + 1) c.in-Refused.refusal = search rules in
     let more = ends_refused discards mid rest sink sink c.in-Refused.refusal h in
-    reported c.gifts_join.ensures c.texts_join.ensures text source mid rest old now new c.listing.count 1 h.octets more.0 c.as_bytes-in-Refused.result.now (RefusedBy c.in-Refused.refusal) r
+    reported c.gifts_join.ensures c.texts_join.ensures text source mid rest old now new c.listing.count 1 h.octets more.0 c.as_slice-in-Refused.result.now (RefusedBy c.in-Refused.refusal) r
     h.came.given more.1 (h.k, more.2) refl words c.in_ok-say-in-Refused.ensures.ok

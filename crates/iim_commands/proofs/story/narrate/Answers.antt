@@ -11,7 +11,7 @@ use Rattle.iim_commands.specs.declared.fault.Fault.TheVariants.{OutOfMemory}
 use Rattle.iim_commands.proofs.Narration.{broke_in_line, broke_in_lines, front_out, narrated, narrated_more, text_out, text_refused, unended_text, unfed, unfed_for_memory}
 use Rattle.iim_commands.proofs.Reports.{ends_refused, left_of, none_left}
 use Rattle.iim_commands.proofs.Taken.{end_as, lives_as}
-use Rattle.iim_commands.proofs.Told.{handed_on}
+use Rattle.iim_commands.proofs.Told.{added, handed_on}
 use Rattle.iim_commands.proofs.story.narrate.Goals as goal
 
 pub returns-in_err-got-clause-err : goal.returns-in_err-got-clause-err
@@ -81,8 +81,8 @@ returns-then-count-eq-MAX_ENVELOPES-clause-ok g c =
     narrated joins texts source mid rest old (state a.writer) (state b.writer) errors_old errors_now errors_new c.telling.count 1 e.octets more.0 (text_of e) c.as_bytes.result.now TooMany r
     h.come.came.given more.1 (full, e, h.come.is, more.0, refl) (e, h.come.is, more.0, refl, refl) refl h.out same c.in_ok-say-in-Envelope.ensures.ok
 
-pub returns-in_err-line-in-Envelope-clause-err : goal.returns-in_err-line-in-Envelope-clause-err
-returns-in_err-line-in-Envelope-clause-err g c =
+pub returns-in_err-push_accepted-in-Envelope-clause-err : goal.returns-in_err-push_accepted-in-Envelope-clause-err
+returns-in_err-push_accepted-in-Envelope-clause-err g c =
     let source = line g.R.Source.state c.args.intake.now in
     let mid = line g.R.Source.state c.telling.intake in
     let rest = line g.R.Source.state c.take_next.new.intake in
@@ -98,7 +98,7 @@ returns-in_err-line-in-Envelope-clause-err g c =
     let h = text_out state c.envelopes_are_delivered_as_lines.ensures c.lines_are_joined_by_line_feeds.ensures mid rest a b c.in_ok-got.field-0 c.in-Envelope.got c.in-Envelope.octets
     c.in-Envelope.is c.telling.invariant.unbroken c.in_ok-got.ensures.calm c.in_ok-got.ensures.next in
     let e = h.come.envelope in
-    handed_on (IsUnnarrated source rest old (state b.writer) errors_old errors_now) c.from_residual-in_err-line-in-Envelope.result OutOfMemory c.from_residual-in_err-line-in-Envelope.ensures.1
+    handed_on (IsUnnarrated source rest old (state b.writer) errors_old errors_now) c.from_residual-in_err-push_accepted-in-Envelope.result OutOfMemory c.from_residual-in_err-push_accepted-in-Envelope.ensures.1
     (unfed_for_memory joins texts source mid rest old (state a.writer) (state b.writer) errors_old errors_now c.telling.count e.octets (length e.octets) (text_of e) r h.come.came.given h.whole h.out)
 
 pub returns-in_err-end_text-in-Envelope-clause-err : goal.returns-in_err-end_text-in-Envelope-clause-err
@@ -140,14 +140,19 @@ returns-in_err-say-in-Envelope-2-clause-err g c =
     let h = text_out state c.envelopes_are_delivered_as_lines.ensures c.lines_are_joined_by_line_feeds.ensures mid rest a b c.in_ok-got.field-0 c.in-Envelope.got c.in-Envelope.octets
     c.in-Envelope.is c.telling.invariant.unbroken c.in_ok-got.ensures.calm c.in_ok-got.ensures.next in
     let e = h.come.envelope in
-    let words = c.as_bytes-in-Envelope.ensures.value ∙ c.in_ok-line-in-Envelope.ensures ∙ ap (accepted_line (c.telling.count + 1)) h.come.counts in
+    let words = added c.clear.new.self.items c.push_accepted.new.text.items (accepted_line (c.telling.count + 1) c.in-Envelope.octets) c.as_slice.result.now c.clear.ensures.items
+    c.in_ok-push_accepted-in-Envelope.ensures c.as_slice.ensures.value ∙ ap (accepted_line (c.telling.count + 1)) h.come.counts in
     let below : c.telling.count ≡ max_envelopes → ⊥ = search rules in
     let d = c.end_text.new.output in
     let errors_new = g.E.Target.state c.say-in-Envelope.new.output in
     let fault = c.in_err-say-in-Envelope-2.field-0.0 in
     handed_on (IsUnnarrated source rest old (state d.writer) errors_old errors_new) c.from_residual-in_err-say-in-Envelope-2.result fault c.from_residual-in_err-say-in-Envelope-2.ensures.1
-    (broke_in_line joins texts source mid rest old (state a.writer) (state b.writer) (state d.writer) errors_old errors_now errors_new c.telling.count c.as_bytes-in-Envelope.result.now e fault r
+    (broke_in_line joins texts source mid rest old (state a.writer) (state b.writer) (state d.writer) errors_old errors_now errors_new c.telling.count c.as_slice.result.now e fault r
     h.come.is h.come.came.given below h.out c.in_ok-end_text-in-Envelope.ensures.ok words c.in_err-say-in-Envelope-2.ensures.err)
+
+pub returns-in_err-say-in-Envelope-2-clause-leads : goal.returns-in_err-say-in-Envelope-2-clause-leads
+returns-in_err-say-in-Envelope-2-clause-leads g c =
+    g.met.R.Source.goes_on c.args.intake.now.reader c.telling.intake.reader c.take_next.new.intake.reader c.telling.invariant.leads c.take_next.ensures.leads
 
 pub returns-in-End-clause-ok : goal.returns-in-End-clause-ok
 returns-in-End-clause-ok g c =
@@ -168,8 +173,8 @@ returns-in-End-clause-ok g c =
     narrated joins texts source mid rest old (state a.writer) (state b.writer) errors_old errors_now errors_now c.telling.count 0 [] [] [] [] Whole r h.0 (none_left rest.octets h.1) refl refl refl
     still refl (texts.none errors_now)
 
-pub returns-in_err-line-in-Refused-clause-err : goal.returns-in_err-line-in-Refused-clause-err
-returns-in_err-line-in-Refused-clause-err g c =
+pub returns-in_err-push_refused-in-Refused-clause-err : goal.returns-in_err-push_refused-in-Refused-clause-err
+returns-in_err-push_refused-in-Refused-clause-err g c =
     let source = line g.R.Source.state c.args.intake.now in
     let mid = line g.R.Source.state c.telling.intake in
     let rest = line g.R.Source.state c.take_next.new.intake in
@@ -185,7 +190,7 @@ returns-in_err-line-in-Refused-clause-err g c =
     let h = front_out state mid rest a b c.in_ok-got.field-0 c.in-Refused.refusal c.in-Refused.is c.telling.invariant.unbroken c.in_ok-got.ensures.calm c.in_ok-got.ensures.next in
     let f = h.refused in
     let words = map octet_for f.more in
-    handed_on (IsUnnarrated source rest old (state b.writer) errors_old errors_now) c.from_residual-in_err-line-in-Refused.result OutOfMemory c.from_residual-in_err-line-in-Refused.ensures.1
+    handed_on (IsUnnarrated source rest old (state b.writer) errors_old errors_now) c.from_residual-in_err-push_refused-in-Refused.result OutOfMemory c.from_residual-in_err-push_refused-in-Refused.ensures.1
     (unfed_for_memory joins texts source mid rest old (state a.writer) (state b.writer) errors_old errors_now c.telling.count f.octets f.k words r f.came.given (f.more, f.delivered, refl) h.out)
 
 pub returns-in_err-say-in-Refused-clause-err : goal.returns-in_err-say-in-Refused-clause-err
@@ -206,10 +211,10 @@ returns-in_err-say-in-Refused-clause-err g c =
     let f = h.refused in
     let words = map octet_for f.more in
     let errors_new = g.E.Target.state c.say-in-Refused.new.output in
-    let same : c.as_bytes-in-Refused.result.now ≡ refused_line (c.telling.count + 1) c.in-Refused.refusal = search rules in
+    let same : c.as_slice-in-Refused.result.now ≡ refused_line (c.telling.count + 1) c.in-Refused.refusal = search rules in
     let fault = c.in_err-say-in-Refused.field-0.0 in
     handed_on (IsUnnarrated source rest old (state b.writer) errors_old errors_new) c.from_residual-in_err-say-in-Refused.result fault c.from_residual-in_err-say-in-Refused.ensures.1
-    (broke_in_lines joins texts source mid rest old (state a.writer) (state b.writer) errors_old errors_now errors_new c.telling.count f.octets words c.as_bytes-in-Refused.result.now
+    (broke_in_lines joins texts source mid rest old (state a.writer) (state b.writer) errors_old errors_now errors_new c.telling.count f.octets words c.as_slice-in-Refused.result.now
     (RefusedBy c.in-Refused.refusal) fault r f.came.given (f.k, f.refused) (f.k, f.refused, (f.more, f.delivered, refl)) h.out same c.in_err-say-in-Refused.ensures.err)
 
 pub returns-in-Refused-clause-ok : goal.returns-in-Refused-clause-ok
@@ -230,9 +235,9 @@ returns-in-Refused-clause-ok g c =
     let f = h.refused in
     let words = map octet_for f.more in
     let errors_new = g.E.Target.state c.say-in-Refused.new.output in
-    let same : c.as_bytes-in-Refused.result.now ≡ refused_line (c.telling.count + 1) c.in-Refused.refusal = search rules in
+    let same : c.as_slice-in-Refused.result.now ≡ refused_line (c.telling.count + 1) c.in-Refused.refusal = search rules in
     let more = ends_refused (WritesLines state) mid rest a b c.in-Refused.refusal f in
-    narrated joins texts source mid rest old (state a.writer) (state b.writer) errors_old errors_now errors_new c.telling.count 1 f.octets more.0 words c.as_bytes-in-Refused.result.now
+    narrated joins texts source mid rest old (state a.writer) (state b.writer) errors_old errors_now errors_new c.telling.count 1 f.octets more.0 words c.as_slice-in-Refused.result.now
     (RefusedBy c.in-Refused.refusal) r f.came.given more.1 (f.k, more.2) (text_refused state mid rest a b c.in-Refused.refusal f more.0 more.2) refl h.out same c.in_ok-say-in-Refused.ensures.ok
 
 pub telling-preserved : goal.telling-preserved
@@ -252,7 +257,8 @@ telling-preserved g c =
     let h = text_out state c.envelopes_are_delivered_as_lines.ensures c.lines_are_joined_by_line_feeds.ensures mid rest a b c.in_ok-got.field-0 c.in-Envelope.got c.in-Envelope.octets
     c.in-Envelope.is c.telling.invariant.unbroken c.in_ok-got.ensures.calm c.in_ok-got.ensures.next in
     let e = h.come.envelope in
-    let words = c.as_bytes-in-Envelope.ensures.value ∙ c.in_ok-line-in-Envelope.ensures ∙ ap (accepted_line (c.telling.count + 1)) h.come.counts in
+    let words = added c.clear.new.self.items c.push_accepted.new.text.items (accepted_line (c.telling.count + 1) c.in-Envelope.octets) c.as_slice.result.now c.clear.ensures.items
+    c.in_ok-push_accepted-in-Envelope.ensures c.as_slice.ensures.value ∙ ap (accepted_line (c.telling.count + 1)) h.come.counts in
     let below : c.telling.count ≡ max_envelopes → ⊥ = search rules in
     let d = c.end_text.new.output in
     let errors_new = g.E.Target.state c.say-in-Envelope.new.output in
@@ -260,7 +266,7 @@ telling-preserved g c =
       alive = lives_as c.take_next.new.intake.failed c.in_ok-got.field-0 c.in-Envelope.got c.in-Envelope.octets c.in-Envelope.is c.in_ok-got.ensures.lives;
       unbroken = c.in_ok-end_text-in-Envelope.ensures.calm ∙ h.unbroken;
       narrated =
-          narrated_more joins texts source mid rest old (state a.writer) (state b.writer) (state d.writer) errors_old errors_now errors_new c.telling.count c.as_bytes-in-Envelope.result.now e r
+          narrated_more joins texts source mid rest old (state a.writer) (state b.writer) (state d.writer) errors_old errors_now errors_new c.telling.count c.as_slice.result.now e r
           h.come.is h.come.came.given below h.out c.in_ok-end_text-in-Envelope.ensures.ok words c.in_ok-say-in-Envelope-2.ensures.ok;
-      leads = search rules;
+      leads = g.met.R.Source.goes_on c.args.intake.now.reader c.telling.intake.reader c.take_next.new.intake.reader c.telling.invariant.leads c.take_next.ensures.leads;
     }

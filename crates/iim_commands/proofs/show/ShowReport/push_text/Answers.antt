@@ -1,5 +1,6 @@
-use Rattle.std.proofs.Common.{◌≡◌, ℕ, List, ◌++◌, ap, ◌∙◌, append_assoc, rules}
+use Rattle.std.proofs.Common.{◌≡◌, ℕ, List, ◌++◌, ap, ◌∙◌, append_assoc}
 use Rattle.std.specs.List.{flat_map}
+use Rattle.std.proofs.lemmas.Result.{on_ok_weaker}
 use Rattle.iim_dataset.specs.Datasets.{Dataset}
 use Rattle.iim_object.specs.declared.size.Sizes.{Sizes}
 use Rattle.wire_message.specs.Messages.{Header}
@@ -8,13 +9,13 @@ use Rattle.iim_unpack.specs.Value.{HasParts}
 use Rattle.iim_unpack.specs.declared.unpacker.Unpacked.{Unpacked}
 use Rattle.iim_script.specs.Printed.{field_line, message_line, trailer_line}
 use Rattle.iim_commands.specs.Texts.{number_line, sizes_line, shown_text}
-use Rattle.iim_commands.proofs.show.ShowReport.text.Goals as goal
+use Rattle.iim_commands.proofs.show.ShowReport.push_text.Goals as goal
 
--- four parts, one after another
-joined : (a f m t s x y z w : List ℕ) → x ≡ a ++ f → y ≡ x ++ m → z ≡ y ++ t → w ≡ z ++ s → w ≡ a ++ (f ++ (m ++ (t ++ s)))
-joined a f m t s x y z w one two three four =
-    four ∙ (ap (λ l. l ++ s) (three ∙ ap (λ l. l ++ t) (two ∙ ap (λ l. l ++ m) one))
-    ∙ (append_assoc ((a ++ f) ++ m) t s ∙ (append_assoc (a ++ f) m (t ++ s) ∙ append_assoc a f (m ++ (t ++ s)))))
+-- five parts, one after another
+joined : (o a f m t s v x y z w : List ℕ) → v ≡ o ++ a → x ≡ v ++ f → y ≡ x ++ m → z ≡ y ++ t → w ≡ z ++ s → w ≡ o ++ (a ++ (f ++ (m ++ (t ++ s))))
+joined o a f m t s v x y z w one two three four five =
+    five ∙ (ap (λ l. l ++ s) (four ∙ ap (λ l. l ++ t) (three ∙ ap (λ l. l ++ m) (two ∙ ap (λ l. l ++ f) one)))
+    ∙ (append_assoc (((o ++ a) ++ f) ++ m) t s ∙ (append_assoc ((o ++ a) ++ f) m (t ++ s) ∙ (append_assoc (o ++ a) f (m ++ (t ++ s)) ∙ append_assoc o a (f ++ (m ++ (t ++ s)))))))
 
 -- the text of what was handed over is that of the value
 same_value : (number : ℕ) (got : Unpacked) (v : Value) → HasParts got v
@@ -28,12 +29,11 @@ same_value number got v parts =
 pub returns : goal.returns
 returns c = λ e counts parts.
     let got = c.args.got.now in
-    let first : c.into_bytes-text.result.items ≡ number_line c.args.number = search rules in
-    let one : c.push_fields.new.text.items ≡ number_line c.args.number ++ flat_map field_line got.envelope =
-    c.in_ok-push_fields.ensures ∙ ap (λ (l : List ℕ). l ++ flat_map field_line got.envelope) first in
-    let three : c.push_trailer.new.text.items ≡ c.push_message.new.text.items ++ trailer_line got.trailer.items =
+    let old = c.args.text.now.items in
+    let trailer : c.push_trailer.new.text.items ≡ c.push_message.new.text.items ++ trailer_line got.trailer.items =
     c.in_ok-push_trailer.ensures ∙ ap (λ (l : List ℕ). c.push_message.new.text.items ++ trailer_line l) c.as_slice.ensures.value in
-    joined (number_line c.args.number) (flat_map field_line got.envelope) (message_line got.head) (trailer_line got.trailer.items) (sizes_line got.sizes)
-    c.push_fields.new.text.items c.push_message.new.text.items c.push_trailer.new.text.items c.push_sizes.new.text.items
-    one c.in_ok-push_message.ensures three c.in_ok-push_sizes.ensures
-    ∙ same_value c.args.number got e.value parts
+    on_ok_weaker _ (λ sizes.
+    joined old (number_line c.args.number) (flat_map field_line got.envelope) (message_line got.head) (trailer_line got.trailer.items) (sizes_line got.sizes)
+    c.push_number.new.text.items c.push_fields.new.text.items c.push_message.new.text.items c.push_trailer.new.text.items c.push_sizes.new.text.items
+    c.in_ok-push_number.ensures c.in_ok-push_fields.ensures c.in_ok-push_message.ensures trailer sizes
+    ∙ ap (λ (l : List ℕ). old ++ l) (same_value c.args.number got e.value parts)) c.push_sizes.ensures
