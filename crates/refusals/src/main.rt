@@ -43,6 +43,9 @@ fn reads<R: Print + AllocGlobal>(rt: &R) -> Result<(), End> {
     tell(rt, "Unpacker::new and feed", || {
         unpacking::fed(rt.alloc())
     })?;
+    tell(rt, "Unpacker::new and save", || {
+        unpacking::saved(rt.alloc())
+    })?;
     tell(rt, "Unpacker::new and next_envelope", || {
         unpacking::taken_in(rt.alloc())
     })?;

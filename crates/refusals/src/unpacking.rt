@@ -5,7 +5,7 @@ use crate::outcome::{Trouble, right};
 use crate::records::is_worked;
 use crate::worked::{LIMITS, STORY};
 use iim_dataset::FromRead;
-use iim_unpack::{Cause, Intake, Progress, Unpacker};
+use iim_unpack::{Cause, Intake, Progress, SaveFault, Unpacker};
 use std::alloc::Global;
 use wire_story::{Discard, Lines};
 
@@ -17,6 +17,21 @@ pub(crate) fn fed(alloc: Global) -> Result<(), Trouble> {
     match unpacker.into_unpacked() {
         Ok(got) => right(is_worked(&got.envelope)),
         Err(_) => Err(Trouble::Wrong),
+    }
+}
+
+/// Saves an unpacker in the middle of the worked envelope: after `new` only `save` takes memory. Refused or not, it leaves the
+/// unpacker as it was, which is fed the rest.
+pub(crate) fn saved(alloc: Global) -> Result<(), Trouble> {
+    let mut unpacker = Unpacker::new(alloc, LIMITS)?;
+    let (front, rest) = STORY.split_at(200.min(STORY.len()));
+    right(unpacker.feed(front, &mut Discard) == Ok(Progress::More))?;
+    let ticket = unpacker.save(alloc);
+    right(unpacker.feed(rest, &mut Discard) == Ok(Progress::Done { used: 46 }))?;
+    match ticket {
+        Ok(ticket) => right(ticket.len() == 238),
+        Err(SaveFault::OutOfMemory) => Err(Trouble::OutOfMemory),
+        Err(SaveFault::Failed) => Err(Trouble::Wrong),
     }
 }
 

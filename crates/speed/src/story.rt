@@ -9,8 +9,11 @@ use wire_story::{Lines, TextReader};
 /// What a packer is given: an envelope, a header and lines.
 #[derive(Drop)]
 pub struct Story {
+    /// The datasets of records 1 and 2.
     pub envelope: Envelope,
+    /// The header of the message.
     pub head: MessageHead,
+    /// The lines of the story.
     pub lines: Lines,
 }
 
