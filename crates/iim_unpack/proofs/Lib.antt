@@ -27,3 +27,5 @@ pub mod PieceLemmas
 pub mod Admitted
 pub mod Tickets
 pub mod TicketLengths
+pub mod SameRecords
+pub mod SamePlace

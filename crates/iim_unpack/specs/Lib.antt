@@ -17,5 +17,6 @@ pub mod Unpacking
 pub mod LowerLaws
 pub mod Streams
 pub mod Tickets
+pub mod Possible
 pub mod Value
 pub mod Pieces

@@ -3,6 +3,7 @@
 ghost use Rattle.iim_unpack.specs.Laws.{AdmittedOctetsAreFramed, AdmittedOctetsHaveOneValue, NoAdmittedOctetsBeginOthers, NoEnvelopeIsEmpty};
 ghost use Rattle.iim_unpack.specs.Intakes.{OpenOctetsAreBounded};
 ghost use Rattle.iim_unpack.specs.LowerLaws.{AnswerLaws, CloseLaws, FeedLaws, HeadLaws, MessageLaws, ObjectLaws};
+ghost use Rattle.iim_unpack.specs.Possible.{UnpackersStandByPlace};
 ghost use Rattle.iim_unpack.specs.Streams.{EnvelopesAreBounded, NothingGoesOnFromRefusedOctets, RefusalsAreDetermined, RefusedOctetsWereOpen, StreamsHaveOneAnswer};
 ghost use Rattle.iim_unpack.specs.Tickets.{OctetsHaveOneTicket};
 ghost use Rattle.iim_unpack.specs.Unpacking.{OpenOctetsBeginWithNoEnvelope};
@@ -20,8 +21,8 @@ use iim_object::laws::{
     sizes_are_determined,
 };
 use wire_message::laws::{
-    messages_have_one_reading, octets_lead_to_one_place, readers_stand_at_living_octets,
-    texts_stand_between_stx_and_etx,
+    messages_have_one_reading, octets_lead_to_one_place, places_are_saved_apart,
+    readers_stand_at_living_octets, texts_stand_between_stx_and_etx,
 };
 use wire_story::laws::{texts_have_one_reading, texts_so_far_have_one_reading};
 
@@ -180,4 +181,15 @@ pub fn octets_have_one_ticket()
     octets_are_handed_on_one_way();
     events_tell_the_datasets();
     octets_lead_to_one_place();
+}
+
+/// Where an unpacker stands is told by the place alone: it stands on all open octets that lead there, if on some.
+pub fn unpackers_stand_by_place()
+    ensures { UnpackersStandByPlace }
+{
+    answer_laws();
+    octets_lead_to_one_place();
+    places_are_saved_apart();
+    texts_stand_between_stx_and_etx();
+    values_die_with_their_fault();
 }

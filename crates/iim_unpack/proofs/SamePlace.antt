@@ -1,0 +1,462 @@
+-- Octets of one place: what stands on the one stands on the other.
+use Rattle.std.proofs.Common.{◌≡◌, ℕ, ◌+◌, ◌-◌, ◌<◌, Bool, true, false, cond, if◌then◌else◌, ◌==◌, nat_eq, List, [], ◌∷◌, ◌++◌, length, sum, Option, Some, None, refl, ap, sym, subst, ◌∙◌, inl, inr, arith, append-nil, append_assoc, length-append}
+use Rattle.std.proofs.lemmas.Bool.Decides.{eqb_tells}
+use Rattle.std.proofs.lemmas.List.Sums.{sum_by-cons}
+use Rattle.std.proofs.lemmas.List.{length-map}
+use Rattle.iim_dataset.specs.Octets.{Octets}
+use Rattle.std.proofs.lemmas.List.Elements.{filter-append}
+use Rattle.iim_dataset.specs.Datasets.{Dataset, head_of}
+use Rattle.iim_dataset.specs.Splits.{Begun, InTag, InData, Reads}
+use Rattle.iim_dataset.specs.Events.{handed_on, begun_data}
+use Rattle.iim_dataset.specs.Places.{IsKeptAs}
+use Rattle.iim_dataset.specs.declared.head.Head.{Head}
+use Rattle.iim_dataset.specs.declared.place.DatasetPlace.{DatasetPlace}
+use Rattle.iim_dataset.specs.declared.place.DatasetPlace.TheVariants.{Tag, Inside}
+use Rattle.iim_fields.specs.Records.{AreSections, occurs}
+use Rattle.iim_fields.specs.Orders as orders
+use Rattle.iim_fields.specs.Checks.{HasChecked, HasTaken}
+use Rattle.iim_fields.specs.Faults.{kept, joined, present_record}
+use Rattle.iim_fields.specs.Alive.{IsAlive, IsAliveAt}
+use Rattle.iim_fields.specs.Laws.{ValuesDieWithTheirFault}
+use Rattle.iim_fields.specs.Standing as records
+use Rattle.iim_fields.specs.declared.limits.Limits.{Limits}
+use Rattle.iim_fields.specs.declared.order.Order.{Order}
+use Rattle.iim_fields.specs.declared.check.RecordPlace.{RecordPlace}
+use Rattle.iim_object.specs.Objects.{SubfileBegun}
+use Rattle.iim_object.specs.Places as objects
+use Rattle.iim_object.specs.Reading as reading
+use Rattle.iim_object.specs.Records.{lengths_of, numbers_of}
+use Rattle.iim_object.specs.Behind.{of_record, place_behind, place_ended}
+use Rattle.iim_object.specs.declared.state.State.{State}
+use Rattle.iim_object.specs.Saved.{stated_numbers}
+use Rattle.wire_message.specs.Layers.{text_so_far}
+use Rattle.wire_message.specs.Laws.{TextsStandBetweenStxAndEtx, OctetsLeadToOnePlace, PlacesAreSavedApart}
+use Rattle.wire_message.specs.Reading as wire
+use Rattle.wire_message.specs.SoFar.{LeadTo}
+use Rattle.wire_message.specs.Saved.{LeadToSaved}
+use Rattle.wire_message.specs.declared.place.Place.{Place as Message}
+use Rattle.wire_message.specs.declared.saved.MessagePlace.{MessagePlace}
+use Rattle.iim_unpack.specs.Admitted.{object_of}
+use Rattle.iim_unpack.specs.LowerLaws.{AnswerLaws}
+use Rattle.iim_unpack.specs.Tokens.{place_at, ObjectLives, GoOn, GoOnAt}
+use Rattle.iim_unpack.specs.Parts.{object_so_far, section, Behind, Within, StandsFor, AllGoOn}
+use Rattle.iim_unpack.specs.Unpacking.{IsOpen, limits_in, are_some}
+use Rattle.iim_unpack.specs.Tickets.{Place, Phase, TagBegun, DataBegun, AllEnded, phase_of, heads_of, place_of}
+use Rattle.iim_unpack.specs.Possible.{UnpackersStandByPlace}
+use Rattle.iim_unpack.specs.declared.parts.Parts.{Parts}
+use Rattle.iim_unpack.proofs.Following.{alive_of}
+use Rattle.iim_unpack.proofs.Lasts.{SplitLast, split_last, present_last, last_sections}
+use Rattle.iim_unpack.proofs.SameRecords.{SameRecords, SameFields, SameNumbers, IsStated, same_records, same_more, same_numbers, none_other, stated_behind, stated_at}
+
+-- the laws by which one place has one unpacker
+pub record PlaceLaws : Type 0 where
+  pub answer : AnswerLaws
+  pub texts : TextsStandBetweenStxAndEtx
+  pub one_place : OctetsLeadToOnePlace
+  pub apart : PlacesAreSavedApart
+  pub values : ValuesDieWithTheirFault
+
+-- ---- what is begun
+
+-- the same octets of a tag; or the same head, as many octets of its data, and, but for a subfile, the same
+pub record SameData (h : Head) (xs : List ℕ) (k : Head) (ys : List ℕ) : Type 0 where
+  pub head : h ≡ k
+  pub many : length xs ≡ length ys
+  pub given : (if h.rec == 8 then [] else xs) ≡ (if k.rec == 8 then [] else ys)
+
+abbrev pub SameBegun : Begun → Begun → Type 0
+SameBegun (InTag x) (InTag y) = x ≡ y
+SameBegun (InTag x) (InData k ys) = ⊥
+SameBegun (InData h xs) (InTag y) = ⊥
+SameBegun (InData h xs) (InData k ys) = SameData h xs k ys
+
+abbrev tag_phase : Bool → List ℕ → Phase
+tag_phase b held = if b then AllEnded else TagBegun held
+
+-- the octets of a tag, where no dataset has ended the envelope
+abbrev HeldAlike : List Dataset → Begun → Begun → Type 0
+HeldAlike ds (InTag x) (InTag y) = nat_eq (present_record ds) 9 ≡ true → x ≡ y
+HeldAlike ds b c = Unit {0}
+
+same_tag : (b c : Bool) (x y : List ℕ) → b ≡ c → tag_phase b x ≡ tag_phase c y → (b ≡ true → x ≡ y) → x ≡ y
+same_tag true c x y is e held = held refl
+same_tag false true x y is e held = absurd cc
+same_tag false false x y is e held = cc
+
+no_data : {A : Type 0} (b : Bool) (x : List ℕ) (set count left : ℕ) (ys : List ℕ) → tag_phase b x ≡ DataBegun set count left ys → A
+no_data true x set count left ys e = absurd (let bad : AllEnded ≡ DataBegun set count left ys = e in cc)
+no_data false x set count left ys e = absurd (let bad : TagBegun x ≡ DataBegun set count left ys = e in cc)
+
+same_data : (h k : Head) (xs ys : List ℕ) → h.rec ≡ k.rec → length xs < h.count → length ys < k.count
+    → DataBegun h.set h.count (h.count - length xs) (if h.rec == 8 then [] else xs) ≡ DataBegun k.set k.count (k.count - length ys) (if k.rec == 8 then [] else ys) → SameData h xs k ys
+same_data h k xs ys rec less few e =
+    let set : h.set ≡ k.set = cc e in
+    let count : h.count ≡ k.count = cc e in
+    let left : h.count - length xs ≡ k.count - length ys = cc e in
+    record { head = λ i. record { rec = rec i; set = set i; count = count i }; many = omega (arith, count, left, less, few); given = cc e }
+
+same_begun : (p q : List ℕ) (ds es : List Dataset) (c d : Begun) → Reads p ds c → Reads q es d → section ds c ≡ section es d → phase_of ds c ≡ phase_of es d → HeldAlike ds c d → SameBegun c d
+same_begun p q ds es (InTag x) (InTag y) r s sec e held = same_tag (nat_eq (present_record ds) 9) (nat_eq (present_record es) 9) x y (ap (λ n. nat_eq n 9) sec) e held
+same_begun p q ds es (InTag x) (InData k ys) r s sec e held = no_data (nat_eq (present_record ds) 9) x k.set k.count (k.count - length ys) (if k.rec == 8 then [] else ys) e
+same_begun p q ds es (InData h xs) (InTag y) r s sec e held = no_data (nat_eq (present_record es) 9) y h.set h.count (h.count - length xs) (if h.rec == 8 then [] else xs) (sym e)
+same_begun p q ds es (InData h xs) (InData k ys) r s sec e held = same_data h k xs ys sec r.is_rest.2 s.is_rest.2 e
+
+-- ---- the records
+
+same_tells : (o : Order) (ds es : List Dataset) → orders.Tells o ds → present_record ds ≡ present_record es → SameRecords ds es → orders.Tells o es
+same_tells o ds es t is s =
+    record { places = t.places; present = t.present ∙ is; seen = λ n. t.seen n ∙ (s.seen (present_record ds) n ∙ ap (λ (r : ℕ). occurs n (of_record r es)) is) }
+
+last_same : (ds es : List Dataset) (d : Dataset) → present_record (ds ++ d ∷ []) ≡ present_record (es ++ d ∷ [])
+last_same ds es d = present_last 0 ds d ∙ sym (present_last 0 es d)
+
+checked_as : (check : Option RecordPlace) (ds es : List Dataset) → HasChecked check ds → IsAlive es → present_record ds ≡ present_record es → SameRecords ds es → HasChecked check es
+checked_as check ds es at alive present same =
+    record { order = at.order; begun = at.begun; at = at.at; none = at.none; alive = alive; tells = same_tells at.order ds es at.tells present same }
+
+-- the record layer lives with a value that lived after datasets of the same records
+value_as : ValuesDieWithTheirFault → (ds es : List Dataset) (d : Dataset) → Octets d.octets → IsAlive (ds ++ d ∷ []) → IsAliveAt es (head_of d) → IsAlive (es ++ d ∷ [])
+value_as law ds es d octets alive at = (law es d at octets).0 ((law ds d (d, refl, alive) octets).1 alive)
+
+taken_as : ValuesDieWithTheirFault → (check : Option RecordPlace) (ds es : List Dataset) (h : Head) → HasTaken check ds h → IsAliveAt es h → SameRecords ds es → HasTaken check es h
+taken_as law check ds es h at alive same = record {
+  checking = λ value.
+      let was = at.checking value in record {
+        order = was.order;
+        row = was.row;
+        inside = was.inside;
+        known = was.known;
+        value = value;
+        alive = alive;
+        tells = λ d is. same_tells was.order (ds ++ d ∷ []) (es ++ d ∷ []) (was.tells d is) (last_same ds es d) (same_more ds es d d refl same);
+      };
+  subfile = λ eight d is octets.
+      let was = at.subfile eight d is octets in
+      checked_as check (ds ++ d ∷ []) (es ++ d ∷ []) was (value_as law ds es d octets was.alive (subst (IsAliveAt es) (sym is) alive)) (last_same ds es d) (same_more ds es d d refl same);
+}
+
+fields_behind : (fields : records.FieldsPlace) (ds es : List Dataset) → records.StandsBehind fields ds → IsAlive es → present_record ds ≡ present_record es → kept ds ≡ kept es → SameRecords ds es → records.StandsBehind fields es
+fields_behind fields ds es at alive present keeps same = record {
+  between = at.between;
+  checked = checked_as fields.check ds es at.checked alive present same;
+  alive = alive;
+  within = subst (λ (ks : List Dataset). records.IsWithin fields.limits (length (joined ks)) (length ks)) keeps at.within;
+  kept_are = at.kept_are ∙ keeps;
+  taken_are = at.taken_are;
+}
+
+fields_in : ValuesDieWithTheirFault → (fields : records.FieldsPlace) (ds es : List Dataset) (h : Head) (taken : List ℕ) → records.StandsIn fields ds h taken → IsAliveAt es h → kept ds ≡ kept es → SameRecords ds es
+    → records.StandsIn fields es h taken
+fields_in law fields ds es h taken at alive keeps same = record {
+  inside = at.inside;
+  checked = taken_as law fields.check ds es h at.checked alive same;
+  alive = alive;
+  within = λ is. subst (λ (ks : List Dataset). records.IsWithin fields.limits (length (joined ks) + h.count) (length ks + 1)) keeps (at.within is);
+  others = subst (λ (ks : List Dataset). records.IsWithin fields.limits (length (joined ks)) (length ks)) keeps at.others;
+  kept_are = at.kept_are ∙ keeps;
+  taken_are = at.taken_are;
+  octets = at.octets;
+  nothing = at.nothing;
+}
+
+-- ---- the object
+
+sum_cons : (x : ℕ) (xs : List ℕ) → sum (x ∷ xs) ≡ x + sum xs
+sum_cons x xs = sum_by-cons (λ (n : ℕ). n) x xs
+
+total_of : (ds : List Dataset) → sum (lengths_of ds) ≡ length (joined ds)
+total_of [] = refl
+total_of (d ∷ ds) = sum_cons (length d.octets) (lengths_of ds) ∙ (ap (λ n. length d.octets + n) (total_of ds) ∙ sym (length-append d.octets (joined ds)))
+
+count_of : (ds : List Dataset) → length (lengths_of ds) ≡ length ds
+count_of ds = length-map ds (λ (d : Dataset). length d.octets)
+
+sum_more : (xs ys : List ℕ) → sum (xs ++ ys) ≡ sum xs + sum ys
+sum_more [] ys = let none : sum [] ≡ 0 = refl in omega (arith, none)
+sum_more (x ∷ xs) ys = sum_cons x (xs ++ ys) ∙ (let more = sum_more xs ys in let first = sum_cons x xs in omega (arith, more, first))
+
+-- places of the object with the same numbers, heads and octets
+pub record SameObject (p q : objects.Place) : Type 0 where
+  pub numbers : SameNumbers p.stated q.stated
+  pub heads : length p.lengths ≡ length q.lengths
+  pub octets : sum p.lengths ≡ sum q.lengths
+
+object_as : (reader : Option State) (p q : objects.Place) → reading.StandsAt reader p → SameObject p q → IsStated q → ObjectLives q → reading.StandsAt reader q
+object_as reader p q at same is lives =
+    let t = at.tells in record {
+      state = at.state;
+      is_state = at.is_state;
+      tells = record {
+        mode = t.mode ∙ same.numbers.mode;
+        largest = t.largest ∙ same.numbers.largest;
+        announced = t.announced ∙ same.numbers.announced;
+        maximum = t.maximum ∙ same.numbers.maximum;
+        subfiles = t.subfiles ∙ same.heads;
+        total = t.total ∙ same.octets;
+      };
+      stated = is.stated;
+      subfiles = is.subfiles;
+      duties = is.duties;
+      alive = lives;
+    }
+
+-- the datasets have the same fields, and objects of the same length
+pub record SameWhole (ds es : List Dataset) : Type 0 where
+  pub fields : SameFields ds es
+  pub octets : length (object_of ds) ≡ length (object_of es)
+
+object_behind_as : (ds es : List Dataset) → SameWhole ds es → SameObject (place_behind ds) (place_behind es)
+object_behind_as ds es same = record {
+  numbers = same_numbers _ _ same.fields.numbers;
+  heads = count_of (of_record 8 ds) ∙ same.fields.heads ∙ sym (count_of (of_record 8 es));
+  octets = total_of (of_record 8 ds) ∙ same.octets ∙ sym (total_of (of_record 8 es));
+}
+
+more_object : (p q : objects.Place) (count : ℕ) → SameObject p q → SameObject (objects.place_after p (SubfileBegun count)) (objects.place_after q (SubfileBegun count))
+more_object p q count same = record {
+  numbers = same.numbers;
+  heads = length-append p.lengths (count ∷ []) ∙ ap (λ n. n + 1) same.heads ∙ sym (length-append q.lengths (count ∷ []));
+  octets = sum_more p.lengths (count ∷ []) ∙ ap (λ n. n + sum (count ∷ [])) same.octets ∙ sym (sum_more q.lengths (count ∷ []));
+}
+
+object_at_as : (ds es : List Dataset) (h : Head) → SameWhole ds es → SameObject (place_at ds h) (place_at es h)
+object_at_as ds es h same = by (nat_eq h.rec 8) (nat_eq h.rec 9)
+  where
+    before : SameObject (place_behind ds) (place_behind es)
+    before = object_behind_as ds es same
+
+    by : (b c : Bool) → SameObject (if b then objects.place_after (place_behind ds) (SubfileBegun h.count) else if c then place_ended ds else place_behind ds)
+        (if b then objects.place_after (place_behind es) (SubfileBegun h.count) else if c then place_ended es else place_behind es)
+    by true c = more_object (place_behind ds) (place_behind es) h.count before
+    by false true = record { numbers = before.numbers; heads = before.heads; octets = before.octets }
+    by false false = before
+
+-- ---- the message
+
+message_as : PlaceLaws → (reader : Option Message) (o r t v : List ℕ) (m : Message) → wire.StandsAt reader o (text_so_far o) → LeadTo o t m → LeadTo r v m → wire.StandsAt reader r (text_so_far r)
+message_as laws reader o r t v m at here there =
+    let same : at.0 ≡ m = (laws.one_place o (text_so_far o) t at.0 m at.2 here).1 in
+    (m, at.1 ∙ ap Some same, subst (λ (x : List ℕ). LeadTo r x m) (laws.texts r v m there) there)
+
+-- Both have led the message to one place.
+pub record SameMessage (o r : List ℕ) : Type 0 where
+  pub text : List ℕ
+  pub other : List ℕ
+  pub at : Message
+  pub here : LeadTo o text at
+  pub there : LeadTo r other at
+
+pub same_message : PlaceLaws → (o r t v : List ℕ) (m n : MessagePlace) → m ≡ n → LeadToSaved o t m → LeadToSaved r v n → SameMessage o r
+same_message laws o r t v m n is (at, leads, saves) (other, goes, keeps) =
+    let one : at ≡ other = laws.apart at other leads.is_place goes.is_place (saves ∙ is ∙ sym keeps) in
+    record { text = t; other = v; at = at; here = leads; there = subst (λ (x : Message). LeadTo r v x) (sym one) goes }
+
+-- ---- the parts
+
+behind_as : PlaceLaws → (limits : Limits) (parts : Parts) (ds es : List Dataset) → Behind parts ds → GoOn limits es → present_record ds ≡ present_record es → SameWhole ds es → SameMessage (object_of ds) (object_of es)
+    → Behind parts es
+behind_as laws limits parts ds es at goes present same m =
+    let recs = same_records laws.answer.follow laws.answer.numbers ds es at.fields.alive goes.records at.few goes.within.subfiles same.fields in record {
+      fields = fields_behind parts.fields ds es at.fields goes.records present same.fields.fields recs;
+      object = object_as parts.object (place_behind ds) (place_behind es) at.object (object_behind_as ds es same)
+          (stated_behind laws.answer.follow.objects es goes.records goes.within.subfiles) goes.object;
+      few = goes.within.subfiles;
+      message = message_as laws parts.message (object_of ds) (object_of es) m.text m.other m.at at.message m.here m.there;
+      ended = λ nine. at.ended (present ∙ nine);
+    }
+
+less_alive : (ds : List Dataset) (h : Head) → IsAliveAt ds h → IsAlive ds
+less_alive ds h (d, is, alive) = ((d ∷ []) ++ alive.0, subst AreSections (append_assoc ds (d ∷ []) alive.0) alive.1)
+
+within_as : PlaceLaws → (limits : Limits) (parts : Parts) (ds es : List Dataset) (h : Head) (xs ys : List ℕ) → Within parts ds h xs → GoOnAt limits es h → Octets ys
+    → (if h.rec == 8 then [] else xs) ≡ (if h.rec == 8 then [] else ys) → SameWhole ds es → SameMessage (object_so_far ds (InData h xs)) (object_so_far es (InData h ys)) → Within parts es h ys
+within_as laws limits parts ds es h xs ys at goes octets given same m =
+    let recs = same_records laws.answer.follow laws.answer.numbers ds es (less_alive ds h at.fields.alive) (less_alive es h goes.records) at.few goes.within.subfiles same.fields in record {
+      octets = octets;
+      fields = subst (records.StandsIn parts.fields es h) given (fields_in laws.values parts.fields ds es h (if h.rec == 8 then [] else xs) at.fields goes.records same.fields.fields recs);
+      object = object_as parts.object (place_at ds h) (place_at es h) at.object (object_at_as ds es h same)
+          (stated_at laws.answer.follow.objects es h goes.records goes.within.subfiles goes.room.subfiles) goes.object;
+      few = goes.within.subfiles;
+      room = goes.room.subfiles;
+      message = message_as laws parts.message (object_so_far ds (InData h xs)) (object_so_far es (InData h ys)) m.text m.other m.at at.message m.here m.there;
+      ended = at.ended;
+    }
+
+-- ---- whether an octet has come
+
+none_present : (es : List Dataset) → IsAlive es → present_record es ≡ 0 → es ≡ []
+none_present es alive zero = by (split_last es)
+  where
+    by : SplitLast es → es ≡ []
+    by (inl none) = none
+    by (inr (front, l, is)) =
+        let rec : l.rec ≡ 0 = sym (present_last 0 front l) ∙ sym (ap present_record is) ∙ zero in
+        let none : of_record 0 (front ++ l ∷ []) ≡ [] = none_other 0 (refl, (refl, (refl, (refl, (refl, tt))))) (front ++ l ∷ []) (subst IsAlive is alive) in
+        let few = ap length (sym (filter-append (λ (x : Dataset). nat_eq x.rec 0) front (l ∷ [])) ∙ none) in
+        let one : length (of_record 0 (l ∷ [])) ≡ 1 = ap (λ (r : ℕ). length (cond (nat_eq r 0) (l ∷ []) [])) rec in
+        absurd (omega (arith, few, one, length-append (of_record 0 front) (of_record 0 (l ∷ []))))
+
+abbrev has_begun : List Dataset → Begun → Bool
+has_begun [] (InTag x) = are_some x
+has_begun [] (InData h xs) = true
+has_begun (d ∷ ds) c = true
+
+some_read : (p : List ℕ) (ds : List Dataset) (c : Begun) → Reads p ds c → are_some p ≡ has_begun ds c
+some_read p [] (InTag x) r = ap are_some (r.parts ∙ ap (λ (l : List ℕ). l ++ r.rest) r.is_front ∙ r.is_rest.0)
+some_read p [] (InData h xs) r =
+    ap are_some (r.parts ∙ ap (λ (l : List ℕ). l ++ r.rest) r.is_front ∙ r.is_rest.4 ∙ ap (λ (l : List ℕ). l ++ xs) r.is_rest.1.parts)
+some_read p (d ∷ ds) c r =
+    let (first, rest, spelled, later, parts) = r.is_front in
+    ap are_some (r.parts ∙ ap (λ (l : List ℕ). l ++ r.rest) (parts ∙ ap (λ (l : List ℕ). l ++ rest) (spelled.parts ∙ ap (λ (l : List ℕ). l ++ d.octets) spelled.is_tag.parts)))
+
+same_some : (ds es : List Dataset) (x y : List ℕ) → IsAlive ds → IsAlive es → present_record ds ≡ present_record es → x ≡ y → has_begun ds (InTag x) ≡ has_begun es (InTag y)
+same_some [] [] x y a b present is = ap are_some is
+same_some [] (e ∷ es) x y a b present is = absurd (let bad : e ∷ es ≡ [] = none_present (e ∷ es) b (sym present) in cc)
+same_some (d ∷ ds) [] x y a b present is = absurd (let bad : d ∷ ds ≡ [] = none_present (d ∷ ds) a present in cc)
+same_some (d ∷ ds) (e ∷ es) x y a b present is = refl
+
+data_some : (ds : List Dataset) (h : Head) (xs : List ℕ) → has_begun ds (InData h xs) ≡ true
+data_some [] h xs = refl
+data_some (d ∷ ds) h xs = refl
+
+-- ---- the whole unpacker
+
+-- what the place says of whole datasets and a begun one
+record SameAll (ds es : List Dataset) (c d : Begun) : Type 0 where
+  section : section ds c ≡ section es d
+  fields : kept ds ≡ kept es
+  numbers : stated_numbers (numbers_of (of_record 7 ds)) ≡ stated_numbers (numbers_of (of_record 7 es))
+  taken : length (object_so_far ds c) ≡ length (object_so_far es d)
+  heads : heads_of ds c ≡ heads_of es d
+  message : SameMessage (object_so_far ds c) (object_so_far es d)
+
+total_as : (b : Bool) (o r xs ys : List ℕ) → length xs ≡ length ys → length (o ++ (if b then xs else [])) ≡ length (r ++ (if b then ys else [])) → length o ≡ length r
+total_as true o r xs ys many e = let one = length-append o xs in let two = length-append r ys in omega (arith, many, e, one, two)
+total_as false o r xs ys many e = sym (ap length (append-nil o)) ∙ e ∙ ap length (append-nil r)
+
+count_as : (x y one : ℕ) → x + one ≡ y + one → x ≡ y
+count_as x y one e = omega (arith, e)
+
+data_by : PlaceLaws → (limits : Limits) (parts : Parts) (ds es : List Dataset) (h : Head) (xs ys : List ℕ) → length xs ≡ length ys → nat_eq (present_record ds) 9 ≡ nat_eq (present_record es) 9 → Octets ys
+    → Within parts ds h xs → (if h.rec == 8 then [] else xs) ≡ (if h.rec == 8 then [] else ys) → SameAll ds es (InData h xs) (InData h ys) → AllGoOn limits es (InData h ys) → Within parts es h ys
+data_by laws limits parts ds es h xs ys many ended octets at given all goes =
+    within_as laws limits parts ds es h xs ys at goes.sizes octets given
+    (record {
+      fields = record { ended = ended; fields = all.fields; numbers = all.numbers; heads = count_as _ _ (if h.rec == 8 then 1 else 0) all.heads };
+      octets = total_as (h.rec == 8) (object_of ds) (object_of es) xs ys many all.taken;
+    }) all.message
+
+data_as : PlaceLaws → (limits : Limits) (parts : Parts) (ds es : List Dataset) (h k : Head) (xs ys : List ℕ) → SameData h xs k ys → nat_eq (present_record ds) 9 ≡ nat_eq (present_record es) 9 → Octets ys
+    → Within parts ds h xs → SameAll ds es (InData h xs) (InData k ys) → AllGoOn limits es (InData k ys) → Within parts es k ys
+data_as laws limits parts ds es h k xs ys same ended octets at all goes =
+    subst (λ (g : Head). (if h.rec == 8 then [] else xs) ≡ (if g.rec == 8 then [] else ys) → SameAll ds es (InData h xs) (InData g ys) → AllGoOn limits es (InData g ys) → Within parts es g ys) same.head
+    (λ given all goes. data_by laws limits parts ds es h xs ys same.many ended octets at given all goes) same.given all goes
+
+octets_of : (q : List ℕ) (es : List Dataset) (h : Head) (ys : List ℕ) → Reads q es (InData h ys) → Octets ys
+octets_of q es h ys r = r.is_rest.3
+
+parts_as : PlaceLaws → (limits : Limits) (parts : Parts) (q : List ℕ) (ds es : List Dataset) (c d : Begun) → SameBegun c d → nat_eq (present_record ds) 9 ≡ nat_eq (present_record es) 9 → Reads q es d
+    → StandsFor parts ds c → SameAll ds es c d → AllGoOn limits es d → StandsFor parts es d
+parts_as laws limits parts q ds es (InTag x) (InTag y) same ended reads at all goes =
+    behind_as laws limits parts ds es at goes.sizes all.section
+    (record { fields = record { ended = ended; fields = all.fields; numbers = all.numbers; heads = all.heads }; octets = all.taken }) all.message
+parts_as laws limits parts q ds es (InTag x) (InData k ys) same ended reads at all goes = absurd same
+parts_as laws limits parts q ds es (InData h xs) (InTag y) same ended reads at all goes = absurd same
+parts_as laws limits parts q ds es (InData h xs) (InData k ys) same ended reads at all goes = data_as laws limits parts ds es h k xs ys same ended (octets_of q es k ys reads) at all goes
+
+keeps_as : (place : DatasetPlace) (c d : Begun) → SameBegun c d → IsKeptAs place c → IsKeptAs place d
+keeps_as (Tag held) (InTag x) (InTag y) same k = k ∙ same
+keeps_as (Tag held) (InTag x) (InData h ys) same k = absurd same
+keeps_as (Tag held) (InData h xs) d same k = absurd k
+keeps_as (Inside g left) (InTag x) d same k = absurd k
+keeps_as (Inside g left) (InData h xs) (InTag y) same k = absurd same
+keeps_as (Inside g left) (InData h xs) (InData i ys) same (is, many) =
+    let count : h.count ≡ i.count = ap (λ (x : Head). x.count) same.head in
+    let long = same.many in
+    (is ∙ same.head, omega (arith, many, count, long))
+
+told_by : (parts : Parts) (ds es : List Dataset) (b c : Begun) → ds ≡ es → begun_data b ≡ begun_data c → StandsFor parts ds b → StandsFor parts es c
+told_by parts ds es (InTag x) (InTag y) e same at = subst (Behind parts) e at
+told_by parts ds es (InTag x) (InData h t) e same at = absurd (let bad : None ≡ Some (h, t) = same in cc)
+told_by parts ds es (InData h t) (InTag x) e same at = absurd (let bad : Some (h, t) ≡ None = same in cc)
+told_by parts ds es (InData h t) (InData k v) e same at =
+    let pair : (h, t) ≡ (k, v) = some-same same in
+    subst (λ (x : Head × List ℕ). Within parts es x.0 x.1) pair (subst (λ (x : List Dataset). Within parts x h t) e at)
+  where
+    some-same : {x y : Head × List ℕ} → Some x ≡ Some y → x ≡ y
+    some-same e = cc
+
+-- what octets read is open
+record Opened (limits : Limits) (ds : List Dataset) (c : Begun) : Type 0 where
+  goes : AllGoOn limits ds c
+  ended : nat_eq (present_record ds) 9 ≡ false
+
+opened : PlaceLaws → (limits : Limits) (p : List ℕ) (ds : List Dataset) (c : Begun) → Reads p ds c → IsOpen limits p → Opened limits ds c
+opened laws limits p ds c r is =
+    let same = laws.answer.way p (handed_on is.whole is.begun) (handed_on ds c) is.begun c (record { whole = is.whole; reads = is.reads; handed = refl }) (record { whole = ds; reads = r; handed = refl }) in
+    let told = (laws.answer.tell is.whole ds is.begun c same.0).0 in
+    let goes : AllGoOn limits ds c = subst (AllGoOn limits ds) same.1 (subst (λ (es : List Dataset). AllGoOn limits es is.begun) told is.goes_on) in
+    record {
+      goes = goes;
+      ended = elim (eqb_tells (present_record ds) 9) [
+        | inl nine ↦ absurd (is.unfinished (subst AreSections (sym told) (last_sections laws.answer.follow.ends ds (alive_of limits ds c goes.sizes) nine.1)))
+        | inr apart ↦ apart.0
+      ];
+    }
+
+held_open : (ds : List Dataset) (c d : Begun) → nat_eq (present_record ds) 9 ≡ false → HeldAlike ds c d
+held_open ds (InTag x) (InTag y) none = λ nine. absurd (let bad : false ≡ true = sym none ∙ nine in cc)
+held_open ds (InTag x) (InData k ys) none = tt
+held_open ds (InData h xs) (InTag y) none = tt
+held_open ds (InData h xs) (InData k ys) none = tt
+
+has_as : (ds es : List Dataset) (c d : Begun) → SameBegun c d → IsAlive ds → IsAlive es → section ds c ≡ section es d → has_begun ds c ≡ has_begun es d
+has_as ds es (InTag x) (InTag y) same a b sec = same_some ds es x y a b sec same
+has_as ds es (InTag x) (InData k ys) same a b sec = absurd same
+has_as ds es (InData h xs) (InTag y) same a b sec = absurd same
+has_as ds es (InData h xs) (InData k ys) same a b sec = data_some ds h xs ∙ sym (data_some es k ys)
+
+pub same_stands : PlaceLaws → UnpackersStandByPlace
+same_stands laws u p q a place at there stands opens =
+    let led = stands.is_led in
+    let begun = laws.answer.way p led.events (handed_on at.whole at.begun) led.leads.begun at.begun led.leads.hands (record { whole = at.whole; reads = at.reads; handed = refl }) in
+    let told = laws.answer.tell led.led.whole at.whole led.led.begun at.begun (sym led.led.told ∙ begun.0) in
+    let mine : StandsFor u.parts at.whole at.begun = told_by u.parts led.led.whole at.whole led.led.begun at.begun told.0 told.1 led.led.stands in
+    let was = opened laws (limits_in u) p at.whole at.begun at.reads stands.is_open in
+    let now = opened laws (limits_in u) q there.whole there.begun there.reads opens in
+    let e : place_of at.whole at.begun at.message ≡ place_of there.whole there.begun there.message = sym at.is_place ∙ there.is_place in
+    let all : SameAll at.whole there.whole at.begun there.begun = record {
+      section = ap (λ (x : Place). x.section) e;
+      fields = ap (λ (x : Place). x.fields) e;
+      numbers = ap (λ (x : Place). x.numbers) e;
+      taken = ap (λ (x : Place). x.taken) e;
+      heads = ap (λ (x : Place). x.heads) e;
+      message = same_message laws (object_so_far at.whole at.begun) (object_so_far there.whole there.begun) at.text there.text at.message there.message (ap (λ (x : Place). x.message) e) at.leads there.leads;
+    } in
+    let same = same_begun p q at.whole there.whole at.begun there.begun at.reads there.reads all.section (ap (λ (x : Place). x.phase) e) (held_open at.whole at.begun there.begun was.ended) in
+    let some : are_some p ≡ are_some q = some_read p at.whole at.begun at.reads
+    ∙ has_as at.whole there.whole at.begun there.begun same (alive_of (limits_in u) at.whole at.begun was.goes.sizes) (alive_of (limits_in u) there.whole there.begun now.goes.sizes) all.section
+    ∙ sym (some_read q there.whole there.begun there.reads) in
+    record {
+      taking = stands.taking;
+      unended = stands.unended;
+      counts = stands.counts;
+      begun = stands.begun ∙ some;
+      is_led = record {
+        events = handed_on there.whole there.begun;
+        text = text_so_far (object_so_far there.whole there.begun);
+        leads = record {
+          begun = there.begun;
+          hands = record { whole = there.whole; reads = there.reads; handed = refl };
+          keeps = keeps_as u.reader.place at.begun there.begun same (subst (IsKeptAs u.reader.place) begun.1 led.leads.keeps);
+        };
+        led = record {
+          whole = there.whole;
+          begun = there.begun;
+          told = refl;
+          stands = parts_as laws (limits_in u) u.parts q at.whole there.whole at.begun there.begun same (was.ended ∙ sym now.ended) there.reads mine all now.goes;
+          is_text = refl;
+        };
+      };
+      is_open = opens;
+    }
