@@ -11,8 +11,6 @@ mod fault;
 mod ledger;
 mod report;
 mod row;
-#[cfg(test)]
-mod tests;
 mod text;
 
 pub use age::whole_seconds_are_floors;

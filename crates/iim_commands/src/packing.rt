@@ -231,6 +231,3 @@ pub fn pack_script<R: Source, W: Target, E: Target>(
         Err((PackFault::Around(fault), output)) => (Err(fault), output),
     }
 }
-
-#[cfg(test)]
-mod tests;

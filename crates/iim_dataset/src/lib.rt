@@ -21,8 +21,6 @@ mod sink;
 mod source;
 mod stop;
 mod target;
-#[cfg(test)]
-mod tests;
 mod trial;
 
 pub use device::IoFault;

@@ -19,8 +19,6 @@ mod number_set;
 mod order;
 mod records;
 mod store;
-#[cfg(test)]
-mod tests;
 mod value;
 mod walk;
 

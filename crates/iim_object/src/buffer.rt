@@ -35,3 +35,6 @@ impl SubfileBuffer {
         Ok(SubfileBuffer { plan, octets })
     }
 }
+
+#[cfg(test)]
+mod tests;

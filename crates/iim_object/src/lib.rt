@@ -11,19 +11,13 @@ mod fault;
 pub mod laws;
 mod output;
 mod place;
-#[cfg(test)]
-mod place_tests;
 mod plan;
 mod reader;
 mod sink;
 mod size;
 mod state;
 mod step;
-#[cfg(test)]
-mod tests;
 mod writer;
-#[cfg(test)]
-mod writing_tests;
 
 pub use buffer::SubfileBuffer;
 pub use cause::{PackCause, StartFault};

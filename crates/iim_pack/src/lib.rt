@@ -16,8 +16,6 @@ mod lines;
 mod opening;
 mod packer;
 mod size;
-#[cfg(test)]
-mod tests;
 mod whole;
 
 pub use packer::Packer;

@@ -77,6 +77,3 @@ pub fn unpack_story(alloc: Global, limits: Limits, pieces: &[&[u8]]) -> Result<S
         Err(refusal) => Err(StoryFault::Refused(refusal)),
     }
 }
-
-#[cfg(test)]
-mod tests;

@@ -16,8 +16,6 @@ mod rest;
 mod script;
 mod shown;
 mod story;
-#[cfg(test)]
-mod tests;
 
 pub use fault::{ScriptCause, ScriptFault};
 pub use reading::{MAX_SCRIPT, read_script};

@@ -15,8 +15,6 @@ mod numbers;
 mod octets;
 mod shape;
 mod table;
-#[cfg(test)]
-mod tests;
 
 pub use crate::dates::date_of;
 pub use crate::instants::instant_of;

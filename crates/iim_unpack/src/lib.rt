@@ -15,8 +15,6 @@ mod parts;
 mod pieces;
 mod refusal;
 mod router;
-#[cfg(test)]
-mod tests;
 mod ticket;
 mod unpacker;
 

@@ -1,11 +1,12 @@
 //! Tags and devices at worked values, and datasets in pieces.
 
+mod first;
 mod halting;
 mod places;
 mod reading;
 
-use crate::head::read_head;
-use crate::{
+use first::read_head;
+use iim_dataset::{
     FromRead, FromWrite, Head, HeadCause, HeadFault, IoFault, Source, Target, TrialReader,
     TrialWriter, Trouble, head_bytes, put, take,
 };

@@ -8,8 +8,8 @@ mod views;
 ghost use Rattle.std.specs.Prelude.{◌≢◌, length, OnOk};
 ghost use Rattle.iim_fields.specs.Standing.{IsBetween, IsInside};
 
-use crate::{Envelope, EnvelopeBuilder, FieldCause, FieldFault, Fields, Limits};
 use iim_dataset::Head;
+use iim_fields::{Envelope, EnvelopeBuilder, FieldCause, FieldFault, Fields, Limits};
 use std::process::Abort;
 use std::rt::HostRuntime;
 use std::test::Fail;

@@ -1,12 +1,12 @@
 //! Messages read in pieces and written. What is expected is worked out from the format.
 
-use crate::{
-    MessageCause, MessageFault, MessageHead, MessagePart, MessagePlace, MessageReader, head_text,
-    is_trailer, tail_text,
-};
 use iim_dataset::{Stop, TrialWriter, Trouble};
 use std::alloc::Global;
 use std::process::Abort;
+use wire_message::{
+    MessageCause, MessageFault, MessageHead, MessagePart, MessagePlace, MessageReader, head_text,
+    is_trailer, tail_text,
+};
 use wire_story::{Discard, LineWriter, Lines, StorySink};
 
 /// The smallest message: a story of one empty line.

@@ -2,9 +2,12 @@
 
 ghost use Rattle.std.specs.Prelude.{⊤};
 
-use crate::{ObjectFault, ObjectReader, ObjectSink, Plan, Size, SizeCause, Sizes};
+mod places;
+mod writing;
+
 use Token::{Confirmed, End, Number, Subfile};
 use iim_dataset::Stop;
+use iim_object::{ObjectFault, ObjectReader, ObjectSink, Plan, Size, SizeCause, Sizes};
 
 /// A sink that counts the octets, and refuses the octet after `room` of them and perhaps the end.
 struct Counter {

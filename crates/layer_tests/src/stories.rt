@@ -4,14 +4,14 @@ ghost use Rattle.std.specs.Prelude.{◌≡◌, ◌++◌, OnOk};
 ghost use Rattle.wire_story.specs.Texts.{AreLines};
 ghost use Rattle.wire_story.specs.Delivery.{delivered};
 
-use crate::{
-    Discard, LINE_END, LineWriter, Lines, StorySink, TextCause, TextFault, TextReader, TrialSink,
-    WordCount, is_text, text_len,
-};
 use iim_dataset::{Stop, TrialWriter, Trouble};
 use std::alloc::Global;
 use std::process::Abort;
 use std::test::Fail;
+use wire_story::{
+    Discard, LINE_END, LineWriter, Lines, StorySink, TextCause, TextFault, TextReader, TrialSink,
+    WordCount, is_text, text_len,
+};
 
 /// Four lines, with each of the line ends.
 const FOUR: &[u8] = b"a\nb\r\nc\r\r\nd";

@@ -4,9 +4,9 @@ ghost use Rattle.std.specs.Prelude.{◌≤◌, ⊤, None, IfSome};
 ghost use Rattle.iim_tables.specs.Numbers.{greatest_size};
 ghost use Rattle.iim_dataset.specs.Devices.{unbroken};
 
-use super::{PackRequest, pack_script};
-use crate::fault::Fault;
-use crate::status::{ACCEPTED, FAILED, REFUSED};
+use iim_commands::fault::Fault;
+use iim_commands::packing::{PackRequest, pack_script};
+use iim_commands::status::{ACCEPTED, FAILED, REFUSED};
 use iim_dataset::{IoFault, Source, TrialReader, TrialWriter, Trouble};
 use std::alloc::{AllocError, Global};
 use std::process::Abort;

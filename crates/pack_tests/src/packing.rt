@@ -5,10 +5,10 @@ mod calls;
 mod failing;
 mod plans;
 
-use crate::pack;
 use iim_dataset::FromWrite;
 use iim_fields::{Envelope, EnvelopeBuilder, Limits};
 use iim_object::{PackCause, Plan, Size};
+use iim_pack::pack;
 use std::alloc::{AllocError, Global};
 use std::process::Abort;
 use wire_message::MessageHead;

@@ -1,10 +1,10 @@
 //! Envelopes packed, cut anywhere, and unpacked again. What is expected is worked out from the format.
 
-use super::{unpack_packed, unpack_story};
 use iim_dataset::FromWrite;
 use iim_fields::Limits;
 use iim_object::{Plan, Size};
 use iim_pack::{pack, packed_size};
+use iim_round_trip::{unpack_packed, unpack_story};
 use iim_unpack::{Cause, Progress, Unpacked, Unpacker};
 use std::alloc::Global;
 use std::process::Abort;

@@ -1,11 +1,11 @@
 //! Scripts, whole and with one fault each. What is expected is worked out from the format.
 
-use crate::laws::{
+use iim_fields::Limits;
+use iim_script::laws::{
     forms_exclude_one_another, lines_tell_one_thing, octets_have_one_fault,
     octets_have_one_next_line, scripts_have_no_fault, scripts_tell_one_thing,
 };
-use crate::{Script, read_script};
-use iim_fields::Limits;
+use iim_script::{Script, read_script};
 use std::alloc::{AllocError, Global};
 use std::test::Fail;
 

@@ -2,7 +2,7 @@
 
 ghost use Rattle.std.specs.Prelude.{◌<◌};
 
-use crate::{AuditCause, AuditFault, Report, audit, report_text, whole_seconds_are_floors};
+use iim_audit::{AuditCause, AuditFault, Report, audit, report_text, whole_seconds_are_floors};
 use iim_dataset::{FromRead, TrialReader, Trouble};
 use iim_fields::Limits;
 use iim_unpack::{Cause, Intake, Layer, Refusal};

@@ -12,8 +12,8 @@ mod sizes;
 mod streams;
 mod tickets;
 
-use crate::{Cause, Layer};
 use iim_fields::Limits;
+use iim_unpack::{Cause, Layer};
 use std::alloc::{AllocError, Global};
 
 /// The mandatory datasets alone, and a story of one empty line.

@@ -24,8 +24,6 @@ mod saved;
 mod span;
 mod step;
 mod tail;
-#[cfg(test)]
-mod tests;
 mod text;
 mod writing;
 

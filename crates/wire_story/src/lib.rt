@@ -15,8 +15,6 @@ mod reader;
 mod sink;
 mod size;
 mod step;
-#[cfg(test)]
-mod tests;
 mod trial;
 mod word_count;
 mod writer;

@@ -1,6 +1,6 @@
 //! Readers and writers of std that are interrupted, and then break.
 
-use crate::{FromRead, FromWrite, IoFault, Source, Target, put, take};
+use iim_dataset::{FromRead, FromWrite, IoFault, Source, Target, put, take};
 use std::io::{Error, ErrorKind, Read, Result, Write};
 
 /// It is interrupted `waits` times before each octet, and breaks after `good` of them.

@@ -1,7 +1,7 @@
 //! Readers put where some octets lead, and nowhere else.
 
-use crate::{DatasetPlace, Head, HeadReader};
 use arrayvec::ArrayVec;
+use iim_dataset::{DatasetPlace, Head, HeadReader};
 use std::process::Abort;
 use std::test::Fail;
 

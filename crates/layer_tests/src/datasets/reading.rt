@@ -3,8 +3,8 @@
 ghost use Rattle.std.specs.Prelude.{⊤, OnOk};
 ghost use Rattle.iim_dataset.specs.Reading.{TakesCalls};
 
-use crate::{DatasetSink, Fault, FaultCause, Head, HeadReader, Step, Stop};
 use arrayvec::ArrayVec;
+use iim_dataset::{DatasetSink, Fault, FaultCause, Head, HeadReader, Step, Stop};
 use std::process::Abort;
 
 /// Three datasets: a standard count, an extended one, and no data; and an octet after them.

@@ -1,7 +1,7 @@
 //! Envelopes built dataset by dataset.
 
 use super::{FIELDS, LIMITS, add_fields, add_some, expect_fields, fault, finished};
-use crate::{EnvelopeBuilder, FieldCause};
+use iim_fields::{EnvelopeBuilder, FieldCause};
 use std::test::Fail;
 
 #[test]

@@ -4,8 +4,8 @@ ghost use Rattle.std.specs.Prelude.{OnOk};
 ghost use Rattle.iim_fields.specs.Standing.{IsBetween};
 
 use super::{FIELDS, fault, pass};
-use crate::{FieldCause, FieldFault, Fields, Limits};
 use iim_dataset::Head;
+use iim_fields::{FieldCause, FieldFault, Fields, Limits};
 use std::alloc::{AllocError, Global};
 use std::process::Abort;
 use std::test::Fail;

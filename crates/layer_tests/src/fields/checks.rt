@@ -4,8 +4,8 @@ ghost use Rattle.std.specs.Prelude.{OnOk};
 ghost use Rattle.iim_fields.specs.Checks.{TakesHead};
 
 use super::{FIELDS, SIZES, fault};
-use crate::{FieldCause, FieldFault, RecordCheck};
 use iim_dataset::Head;
+use iim_fields::{FieldCause, FieldFault, RecordCheck};
 use std::process::Abort;
 use std::test::Fail;
 

@@ -1,7 +1,7 @@
 //! What an envelope shows of its datasets.
 
 use super::{FIELDS, LIMITS, add_fields, add_some, expect_fields, finished};
-use crate::{DataIter, Envelope, EnvelopeBuilder, EnvelopeId, FieldFault};
+use iim_fields::{DataIter, Envelope, EnvelopeBuilder, EnvelopeId, FieldFault};
 use jiff::Timestamp;
 use jiff::civil::Date;
 use std::alloc::{AllocError, Global};

@@ -2,8 +2,8 @@
 
 ghost use Rattle.std.specs.Prelude.{⊤};
 
-use crate::{ObjectReader, ObjectSink};
 use iim_dataset::Stop;
+use iim_object::{ObjectReader, ObjectSink};
 
 /// The numbers of 7:10, 7:20, 7:90 and 7:95; the octets that have come; the count of a begun subfile and its octets to come; the
 /// heads.

@@ -1,7 +1,7 @@
 //! Objects written at worked sizes, and to a target that fails at each call.
 
-use crate::{PackCause, Plan, Size, SubfileBuffer, SubfileWriter};
 use iim_dataset::{Target, TrialWriter, Trouble};
+use iim_object::{PackCause, Plan, Size, SubfileBuffer, SubfileWriter};
 use std::alloc::Global;
 use std::process::Abort;
 
@@ -90,24 +90,6 @@ fn written(
     match writer.finish() {
         Ok(target) => target,
         Err(_) => panic!(rt; "finish"),
-    }
-}
-
-#[test]
-fn buffers_have_room_for_the_lesser_of_subfile_and_bound(rt: HostRuntime) {
-    let rows = [
-        (1, Size::Known(50), 1),
-        (7, Size::Known(50), 7),
-        (1024, Size::Known(50), 50),
-        (1024, Size::Known(0), 0),
-        (1024, Size::Unknown(Some(20)), 20),
-        (16, Size::Unknown(Some(20)), 16),
-        (1024, Size::Unknown(None), 1024),
-    ];
-    for (subfile, size, room) in rows {
-        let buffer = buffer(&rt, rt.alloc(), subfile, size);
-        assert_eq!(&rt; buffer.octets.capacity(), room, "{subfile}, {size:?}");
-        assert_eq!(&rt; buffer.octets.len(), 0);
     }
 }
 

@@ -1,10 +1,10 @@
 //! A writer that fails within each call of a packer, and within a whole `pack`.
 
 use super::{STORY, STORY_FRONT, STORY_OBJECT, envelope, expected, lines, plan, story_head};
-use crate::{Packer, pack};
 use iim_dataset::{Target, TrialWriter, Trouble};
 use iim_fields::Envelope;
 use iim_object::{PackCause, Plan, Size, StartFault};
+use iim_pack::{Packer, pack};
 use std::alloc::Global;
 use std::process::Abort;
 use std::test::Fail;

@@ -4,10 +4,10 @@ use super::{
     SMALLEST, STORY, STORY_FRONT, STORY_OBJECT, STORY_REST, envelope, expected, plan,
     smallest_head, story_head,
 };
-use crate::Packer;
 use iim_dataset::FromWrite;
 use iim_fields::Envelope;
 use iim_object::{PackCause, Plan, Size};
+use iim_pack::Packer;
 use std::alloc::Global;
 use std::process::Abort;
 use std::test::Fail;

@@ -1,9 +1,9 @@
 //! A packer whose writer fails.
 
 use super::{STORY, STORY_FRONT, STORY_REST, envelope, plan, story_head};
-use crate::Packer;
 use iim_dataset::{TrialWriter, Trouble};
 use iim_object::{PackCause, Size};
+use iim_pack::Packer;
 use std::alloc::Global;
 use std::process::Abort;
 

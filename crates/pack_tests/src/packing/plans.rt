@@ -4,12 +4,12 @@ use super::{
     SMALLEST, SMALLEST_FRONT, SMALLEST_OBJECT, STORY, STORY_FRONT, STORY_OBJECT, STORY_REST,
     envelope, expected, lines, packed, plan, smallest_head, story_head,
 };
-use crate::laws::{
+use iim_object::{PackCause, Size};
+use iim_pack::laws::{
     packed_octets_are_few, packed_octets_are_one, packed_octets_carry_the_value,
     packed_subfiles_are_few,
 };
-use crate::packed_size;
-use iim_object::{PackCause, Size};
+use iim_pack::packed_size;
 use std::test::Fail;
 
 #[test]

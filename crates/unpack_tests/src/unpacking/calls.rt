@@ -6,8 +6,8 @@ ghost use Rattle.wire_story.specs.Delivery.{Event};
 use super::feeding::text_of;
 use super::rule::refusal;
 use super::{LIMITS, SMALLEST, joined, story};
-use crate::{Cause, Layer, Progress, Unpacker};
 use iim_dataset::Stop;
+use iim_unpack::{Cause, Layer, Progress, Unpacker};
 use std::test::Fail;
 use wire_story::{Lines, StorySink, TrialSink};
 

@@ -2,8 +2,8 @@
 
 use super::rule::refusal;
 use super::{LIMITS, joined};
-use crate::{Cause, Layer, Progress, Refusal, Unpacker};
 use iim_fields::Limits;
+use iim_unpack::{Cause, Layer, Progress, Refusal, Unpacker};
 use std::alloc::{AllocError, Global};
 use std::process::Abort;
 use std::test::Fail;
@@ -13,7 +13,7 @@ use wire_story::{Lines, StorySink};
 pub type Answer<'t> = (Result<u64, Refusal>, &'t [u8]);
 
 /// The lines, with an LF after each.
-pub fn text_of(alloc: Global, lines: &Lines) -> Result<Vec<u8>, AllocError> {
+pub(crate) fn text_of(alloc: Global, lines: &Lines) -> Result<Vec<u8>, AllocError> {
     let mut text = Vec::new(alloc);
     for line in lines.iter() {
         text.extend_from_slice(line)?;
@@ -23,7 +23,7 @@ pub fn text_of(alloc: Global, lines: &Lines) -> Result<Vec<u8>, AllocError> {
 }
 
 /// What is answered where no more octets come.
-pub fn settled(unpacker: &Unpacker, used: u64) -> Result<u64, Refusal> {
+pub(crate) fn settled(unpacker: &Unpacker, used: u64) -> Result<u64, Refusal> {
     match unpacker.end_of_input() {
         Some(refusal) => Err(refusal),
         None => Ok(used),
@@ -31,7 +31,7 @@ pub fn settled(unpacker: &Unpacker, used: u64) -> Result<u64, Refusal> {
 }
 
 /// Feeds all at once.
-pub fn in_one_piece<S: StorySink>(
+pub(crate) fn in_one_piece<S: StorySink>(
     alloc: Global,
     limits: Limits,
     octets: &[u8],
@@ -70,7 +70,7 @@ fn in_pieces<S: StorySink>(
 }
 
 /// Feeds octet by octet, with an empty piece before each.
-pub fn by_octets<S: StorySink>(
+pub(crate) fn by_octets<S: StorySink>(
     alloc: Global,
     limits: Limits,
     octets: &[u8],
@@ -100,7 +100,7 @@ fn expect_in_pieces(
 }
 
 /// Expects an answer under the limits, in one piece and in pieces of each size.
-pub fn expect_within(
+pub(crate) fn expect_within(
     rt: &impl Abort,
     alloc: Global,
     limits: Limits,
@@ -120,7 +120,7 @@ pub fn expect_within(
 }
 
 /// Expects an answer to joined pieces.
-pub fn expect(
+pub(crate) fn expect(
     rt: &impl Abort,
     alloc: Global,
     pieces: &[&[u8]],
@@ -131,7 +131,7 @@ pub fn expect(
 }
 
 /// The answer to octets that are refused, while the lines stand so.
-pub fn refused(
+pub(crate) fn refused(
     layer: Layer,
     names: (u8, u8),
     octet: usize,

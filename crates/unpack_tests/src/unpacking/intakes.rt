@@ -2,8 +2,8 @@
 
 use super::rule::refusal;
 use super::{LIMITS, SMALLEST, STORY, joined, story};
-use crate::{Cause, Intake, IntakeFault, Layer, Unpacker};
 use iim_dataset::{TrialReader, Trouble};
+use iim_unpack::{Cause, Intake, IntakeFault, Layer, Unpacker};
 use std::alloc::{AllocError, Global};
 use std::process::Abort;
 use std::test::Fail;

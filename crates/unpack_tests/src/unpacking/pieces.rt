@@ -3,7 +3,7 @@
 use super::feeding::text_of;
 use super::rule::refusal;
 use super::{LIMITS, SMALLEST, part, story};
-use crate::{Cause, Layer, Refusal, Unpacker, unpack_pieces};
+use iim_unpack::{Cause, Layer, Refusal, Unpacker, unpack_pieces};
 use std::alloc::{AllocError, Global};
 use std::test::Fail;
 use wire_story::{Discard, Lines};

@@ -2,8 +2,8 @@
 
 use super::feeding::{in_one_piece, settled, text_of};
 use super::{SMALLEST, joined, part, story};
-use crate::{Progress, Refusal, Unpacker};
 use iim_fields::Limits;
+use iim_unpack::{Progress, Refusal, Unpacker};
 use std::alloc::{AllocError, Global};
 use std::process::Abort;
 use std::test::Fail;

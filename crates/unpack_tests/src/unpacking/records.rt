@@ -2,7 +2,7 @@
 
 use super::feeding::{Answer, expect, refused};
 use super::{SMALLEST, part, story};
-use crate::{Cause, Layer};
+use iim_unpack::{Cause, Layer};
 use std::alloc::Global;
 use std::process::Abort;
 use std::test::Fail;

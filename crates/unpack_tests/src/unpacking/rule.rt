@@ -1,6 +1,6 @@
 //! What the rules say of short envelopes, in plain words: a second reading, dataset by dataset.
 
-use crate::{Cause, Layer, Refusal};
+use iim_unpack::{Cause, Layer, Refusal};
 use std::alloc::{AllocError, Global};
 
 /// What the octets of a value have to be.
@@ -95,7 +95,7 @@ const DAY: &[u8] = b"20240301";
 type Tag = (u8, u8, usize, usize);
 
 /// A refusal of the dataset with these numbers.
-pub fn refusal(layer: Layer, (rec, set): (u8, u8), octet: usize, cause: Cause) -> Refusal {
+pub(crate) fn refusal(layer: Layer, (rec, set): (u8, u8), octet: usize, cause: Cause) -> Refusal {
     Refusal {
         layer,
         rec,
@@ -312,7 +312,7 @@ fn dataset(
 }
 
 /// What the rules say of octets that hold at most forty datasets, within the limits.
-pub fn by_rule(alloc: Global, octets: &[u8]) -> Result<Result<u64, Refusal>, AllocError> {
+pub(crate) fn by_rule(alloc: Global, octets: &[u8]) -> Result<Result<u64, Refusal>, AllocError> {
     let mut behind = Vec::new(alloc);
     let mut sizes = Sizes {
         mode: None,

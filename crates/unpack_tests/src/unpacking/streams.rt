@@ -3,8 +3,8 @@
 use super::feeding::{Answer, expect, expect_within, refused, text_of};
 use super::rule::refusal;
 use super::{LIMITS, SMALLEST, TAGS, joined, story};
-use crate::{Cause, Layer, Progress, Unpacker};
 use iim_fields::Limits;
+use iim_unpack::{Cause, Layer, Progress, Unpacker};
 use std::alloc::{AllocError, Global};
 use std::test::Fail;
 use wire_story::{Discard, Lines};

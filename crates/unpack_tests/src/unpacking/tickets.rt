@@ -1,8 +1,8 @@
 //! Tickets, octet by octet.
 
 use super::{LIMITS, SMALLEST, joined, story};
-use crate::{SaveFault, Unpacker};
 use iim_fields::Limits;
+use iim_unpack::{SaveFault, Unpacker};
 use std::alloc::Global;
 use std::process::Abort;
 use std::test::Fail;

@@ -1,5 +1,5 @@
 use Rattle.iim_fields.specs.Standing.{IsBetween}
-use Rattle.iim_fields.proofs.tests.pass_sizes.Given as goal
+use Rattle.layer_tests.proofs.fields.pass_sizes.Given as goal
 
 abbrev pub invariant-loop-rec : goal.invariant-loop-rec
 invariant-loop-rec g l = IsBetween l.fields

@@ -1,5 +1,5 @@
 use Rattle.std.proofs.Common.{◌≡◌, sym, ◌∙◌, None}
-use Rattle.iim_fields.proofs.tests.what_has_come_is_told.Goals as goal
+use Rattle.layer_tests.proofs.fields.what_has_come_is_told.Goals as goal
 
 pub begun-requires : goal.begun-requires
 begun-requires g c failed =

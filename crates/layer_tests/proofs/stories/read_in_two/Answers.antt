@@ -1,6 +1,6 @@
 use Rattle.std.proofs.Common.{[], ◌++◌, Result, Ok, Err, OnOk}
 use Rattle.wire_story.specs.Texts.{AreLines}
-use Rattle.wire_story.proofs.tests.read_in_two.Goals as goal
+use Rattle.layer_tests.proofs.stories.read_in_two.Goals as goal
 
 on_ok : {T E : Type 0} (r : Result T E) (P Q : Type 0) → (P → Q) → OnOk r P → OnOk r Q
 on_ok (Ok x) P Q f h = f h

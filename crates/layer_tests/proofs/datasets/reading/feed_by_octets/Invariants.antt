@@ -1,5 +1,5 @@
 use Rattle.iim_dataset.specs.Reading.{TakesCalls}
-use Rattle.iim_dataset.proofs.tests.reading.feed_by_octets.Given as goal
+use Rattle.layer_tests.proofs.datasets.reading.feed_by_octets.Given as goal
 
 abbrev pub invariant-loop-at : goal.invariant-loop-at
 invariant-loop-at g l = TakesCalls l.reader

@@ -1,5 +1,5 @@
 use Rattle.iim_fields.specs.Checks.{TakesHead}
-use Rattle.iim_fields.proofs.tests.checks.pass_sizes.Given as goal
+use Rattle.layer_tests.proofs.fields.checks.pass_sizes.Given as goal
 
 abbrev pub invariant-loop-rec : goal.invariant-loop-rec
 invariant-loop-rec g l = TakesHead l.check
