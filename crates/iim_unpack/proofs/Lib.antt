@@ -29,3 +29,4 @@ pub mod Tickets
 pub mod TicketLengths
 pub mod SameRecords
 pub mod SamePlace
+pub mod Splitting

@@ -18,5 +18,9 @@ pub mod LowerLaws
 pub mod Streams
 pub mod Tickets
 pub mod Possible
+pub mod Begins
+pub mod TicketFields
+pub mod FieldLaws
+pub mod TicketParts
 pub mod Value
 pub mod Pieces

@@ -124,10 +124,15 @@ message_octets m = (part_number m.part ∷ m.counter ∷ m.flag ∷ []) ++ texts
 abbrev pub ticket_name : List ℕ
 ticket_name = codes "IIMT" ++ 1 ∷ []
 
+-- the order of what follows: the section, what is begun, the datasets, the numbers of record 7, the octets and heads of the object,
+-- and the octets of the message
+abbrev pub layout : ℕ → Phase → List Dataset → List (Option ℕ) → ℕ → ℕ → List ℕ → List ℕ
+layout section phase fields numbers taken heads message =
+    ticket_name ++ (section ∷ []) ++ phase_octets phase ++ fields_octets fields ++ flat_map number_octets numbers
+    ++ four taken ++ four heads ++ message
+
 abbrev pub ticket_of : Place → List ℕ
-ticket_of p =
-    ticket_name ++ (p.section ∷ []) ++ phase_octets p.phase ++ fields_octets p.fields ++ flat_map number_octets p.numbers
-    ++ four p.taken ++ four p.heads ++ message_octets p.message
+ticket_of p = layout p.section p.phase p.fields p.numbers p.taken p.heads (message_octets p.message)
 
 -- The octets of the ticket are those of the place that the octets so far have led to.
 pub record IsTicketOf (octets ticket : List ℕ) : Type 0 where

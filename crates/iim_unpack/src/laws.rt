@@ -5,6 +5,7 @@ ghost use Rattle.iim_unpack.specs.Intakes.{OpenOctetsAreBounded};
 ghost use Rattle.iim_unpack.specs.LowerLaws.{AnswerLaws, CloseLaws, FeedLaws, HeadLaws, MessageLaws, ObjectLaws};
 ghost use Rattle.iim_unpack.specs.Possible.{UnpackersStandByPlace};
 ghost use Rattle.iim_unpack.specs.Streams.{EnvelopesAreBounded, NothingGoesOnFromRefusedOctets, RefusalsAreDetermined, RefusedOctetsWereOpen, StreamsHaveOneAnswer};
+ghost use Rattle.iim_unpack.specs.TicketParts.{TicketsHaveOneSplit};
 ghost use Rattle.iim_unpack.specs.Tickets.{OctetsHaveOneTicket};
 ghost use Rattle.iim_unpack.specs.Unpacking.{OpenOctetsBeginWithNoEnvelope};
 
@@ -182,6 +183,11 @@ pub fn octets_have_one_ticket()
     events_tell_the_datasets();
     octets_lead_to_one_place();
 }
+
+/// A ticket is taken apart in one way: octets have the form of a ticket with one list of parts at most.
+pub fn tickets_have_one_split()
+    ensures { TicketsHaveOneSplit }
+{}
 
 /// Where an unpacker stands is told by the place alone: it stands on all open octets that lead there, if on some.
 pub fn unpackers_stand_by_place()

@@ -8,6 +8,7 @@
 
 mod block;
 mod fault;
+mod front;
 mod intake;
 pub mod laws;
 mod message;
@@ -16,10 +17,14 @@ mod pieces;
 mod refusal;
 mod router;
 mod ticket;
+mod ticket_fields;
+mod ticket_parts;
 mod unpacker;
 
 pub use intake::{Intake, IntakeFault};
 pub use pieces::unpack_pieces;
 pub use refusal::{Cause, Layer, Refusal};
 pub use ticket::SaveFault;
+pub use ticket_fields::TicketFields;
+pub use ticket_parts::{TicketFault, TicketParts, TicketPhase, split_ticket};
 pub use unpacker::{Progress, Unpacked, Unpacker};

@@ -31,16 +31,16 @@ pub enum SaveFault {
 const NAME: [u8; 5] = [b'I', b'I', b'M', b'T', 1];
 
 /// Between datasets, or in a tag.
-const IN_TAG: u8 = 0;
+pub(crate) const IN_TAG: u8 = 0;
 
 /// In the data of a dataset.
-const IN_DATA: u8 = 1;
+pub(crate) const IN_DATA: u8 = 1;
 
 /// The last dataset has ended.
-const ENDED: u8 = 2;
+pub(crate) const ENDED: u8 = 2;
 
 /// The record of subfiles.
-const OBJECT: u8 = 8;
+pub(crate) const OBJECT: u8 = 8;
 
 /// Adds a number in four octets, high octet first. No number of a ticket needs more.
 fn push_number(ticket: &mut Vec<u8>, number: u64) -> Result<(), AllocError>

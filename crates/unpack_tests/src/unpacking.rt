@@ -9,6 +9,7 @@ mod random;
 mod records;
 mod rule;
 mod sizes;
+mod splits;
 mod streams;
 mod tickets;
 
