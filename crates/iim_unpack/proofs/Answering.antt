@@ -55,7 +55,7 @@ pub record Lives (limits : Limits) (octets : List ℕ) : Type 0 where
 
 -- ---- open octets and envelopes live
 
-lives_open : (limits : Limits) (octets : List ℕ) → IsOpen limits octets → Lives limits octets
+pub lives_open : (limits : Limits) (octets : List ℕ) → IsOpen limits octets → Lives limits octets
 lives_open limits octets is = record { whole = is.whole; begun = is.begun; reads = is.reads; goes_on = is.goes_on }
 
 -- an envelope's object leads to the end of its message
@@ -91,7 +91,7 @@ goes_envelope laws limits octets v is =
 pub reads_envelope : (octets : List ℕ) (v : Value) → (a : Admits octets v) → Reads octets a.datasets (InTag [])
 reads_envelope octets v a = record { front = octets; rest = []; is_front = a.spelled; is_rest = nothing_held; parts = sym (append-nil octets) }
 
-lives_envelope : AnswerLaws → (limits : Limits) (octets : List ℕ) (v : Value) → IsEnvelopeWithin limits octets v → Lives limits octets
+pub lives_envelope : AnswerLaws → (limits : Limits) (octets : List ℕ) (v : Value) → IsEnvelopeWithin limits octets v → Lives limits octets
 lives_envelope laws limits octets v is =
     record { whole = is.admits.datasets; begun = InTag []; reads = reads_envelope octets v is.admits; goes_on = goes_envelope laws limits octets v is }
 
@@ -259,11 +259,11 @@ was_open laws limits octets next fault (inr (inr (inr bad))) = by bad.completes
 -- ---- the refusal is determined
 
 -- octets split in one way into whole datasets and a begun one
-record SameReading (whole other : List Dataset) (b c : Begun) : Type 0 where
+pub record SameReading (whole other : List Dataset) (b c : Begun) : Type 0 where
   pub whole_is : whole ≡ other
   pub begun_is : b ≡ c
 
-one_reading : AnswerLaws → (octets : List ℕ) (whole other : List Dataset) (b c : Begun) → Reads octets whole b → Reads octets other c → SameReading whole other b c
+pub one_reading : AnswerLaws → (octets : List ℕ) (whole other : List Dataset) (b c : Begun) → Reads octets whole b → Reads octets other c → SameReading whole other b c
 one_reading laws octets whole other b c r s =
     let way = laws.way octets (handed_on whole b) (handed_on other c) b c (record { whole = whole; reads = r; handed = refl }) (record { whole = other; reads = s; handed = refl }) in
     record { whole_is = (laws.tell whole other b c way.0).0; begun_is = way.1 }

@@ -233,7 +233,7 @@ few_numbers p (rest, is) =
 
 -- ---- counts
 
-low : (xs : List ℕ) → Octets xs → length xs ≤ 4 → number xs < 4294967296
+pub low : (xs : List ℕ) → Octets xs → length xs ≤ 4 → number xs < 4294967296
 low [] all fits = omega arith
 low (a ∷ []) all fits = omega (arith, all.0)
 low (a ∷ b ∷ []) all fits = omega (arith, all.0, all.1.0)

@@ -30,3 +30,4 @@ pub mod TicketLengths
 pub mod SameRecords
 pub mod SamePlace
 pub mod Splitting
+pub mod Fitting

@@ -77,12 +77,24 @@ numbers_length a b c d =
 text_length : (xs : List ℕ) → length (text_octets xs) ≡ 1 + length xs
 text_length xs = length-append (length xs ∷ []) xs
 
-seven : (a b c d e f g : List ℕ) → length a ≤ 8 → length b ≤ 8 → length c ≤ 1 → length d ≤ 8 → length e ≤ 6 → length f ≤ 64 → length g ≤ 64
-    → length (text_octets a ++ text_octets b ++ text_octets c ++ text_octets d ++ text_octets e ++ text_octets f ++ text_octets g) ≤ 166
-seven a b c d e f g ha hb hc hd he hf hg =
+-- how long the texts of a message are at most
+pub record AreShort (a b c d e f g : List ℕ) : Type 0 where
+  pub source : length a ≤ 8
+  pub number : length b ≤ 8
+  pub priority : length c ≤ 1
+  pub category : length d ≤ 8
+  pub words : length e ≤ 6
+  pub info : length f ≤ 64
+  pub trailer : length g ≤ 64
+
+seven : (a b c d e f g : List ℕ) → length a ≤ 8 → length b ≤ 8 → length c ≤ 1 → length d ≤ 8 → length e ≤ 6 → length f ≤ 64 → length g ≤ 64 → AreShort a b c d e f g
+seven a b c d e f g ha hb hc hd he hf hg = record { source = ha; number = hb; priority = hc; category = hd; words = he; info = hf; trailer = hg }
+
+seven_length : (a b c d e f g : List ℕ) → AreShort a b c d e f g → length (text_octets a ++ text_octets b ++ text_octets c ++ text_octets d ++ text_octets e ++ text_octets f ++ text_octets g) ≤ 166
+seven_length a b c d e f g short =
     let all = len7 (text_octets a) (text_octets b) (text_octets c) (text_octets d) (text_octets e) (text_octets f) (text_octets g) in
     by _ (length (text_octets a)) (length (text_octets b)) (length (text_octets c)) (length (text_octets d)) (length (text_octets e)) (length (text_octets f)) (length (text_octets g)) all
-    (less a 8 ha) (less b 8 hb) (less c 1 hc) (less d 8 hd) (less e 6 he) (less f 64 hf) (less g 64 hg)
+    (less a 8 short.source) (less b 8 short.number) (less c 1 short.priority) (less d 8 short.category) (less e 6 short.words) (less f 64 short.info) (less g 64 short.trailer)
   where
     less : (xs : List ℕ) (n : ℕ) → length xs ≤ n → length (text_octets xs) ≤ 1 + n
     less xs n h = let is = text_length xs in omega (arith, is, h)
@@ -93,20 +105,24 @@ seven a b c d e f g ha hb hc hd he hf hg =
 none : (n : ℕ) → length {A = ℕ} [] ≤ n
 none n = omega arith
 
-texts_length : (place : Message) → IsPlace place → length (texts_octets (saved place)) ≤ 166
-texts_length (at.Filler count) h = seven [] [] [] [] [] [] [] (none 8) (none 8) (none 1) (none 8) (none 6) (none 64) (none 64)
-texts_length (at.Source s) h = seven s.items [] [] [] [] [] [] h.2 (none 8) (none 1) (none 8) (none 6) (none 64) (none 64)
-texts_length (at.Number s n) h = seven s.items n.items [] [] [] [] [] h.0.2 h.1.2 (none 1) (none 8) (none 6) (none 64) (none 64)
-texts_length (at.Priority s n) h = seven s.items n.items [] [] [] [] [] h.0.2 h.1.2 (none 1) (none 8) (none 6) (none 64) (none 64)
-texts_length (at.PriorityRead s n p) (hs, hn, hp) = seven s.items n.items p.items [] [] [] [] hs.2 hn.2 hp.2 (none 8) (none 6) (none 64) (none 64)
-texts_length (at.Category s n p c) (hs, hn, hp, hc) = seven s.items n.items p.items c.items [] [] [] hs.2 hn.2 hp.2 hc.2 (none 6) (none 64) (none 64)
-texts_length (at.Words s n p c w) (hs, hn, hp, hc, hw) = seven s.items n.items p.items c.items w.items [] [] hs.2 hn.2 hp.2 hc.2 hw.2 (none 64) (none 64)
-texts_length (at.Info h) k = seven h.source h.number h.priority h.category h.words h.info [] k.source.2 k.number.2 k.priority.2 k.category.2 k.words.2 k.info.2 (none 64)
-texts_length (at.Gap h count feed) (k, some, few, feeds) = seven h.source h.number h.priority h.category h.words h.info [] k.source.2 k.number.2 k.priority.2 k.category.2 k.words.2 k.info.2 (none 64)
-texts_length (at.Text h (Some held)) (k, more) = seven h.source h.number h.priority h.category h.words h.info [] k.source.2 k.number.2 k.priority.2 k.category.2 k.words.2 k.info.2 (none 64)
-texts_length (at.Text h None) (k, more) = seven h.source h.number h.priority h.category h.words h.info [] k.source.2 k.number.2 k.priority.2 k.category.2 k.words.2 k.info.2 (none 64)
-texts_length (at.Trailer h t) (k, more) = seven h.source h.number h.priority h.category h.words h.info t.items k.source.2 k.number.2 k.priority.2 k.category.2 k.words.2 k.info.2 more.2
-texts_length (at.AfterEnd h t count) (k, more, few) = seven h.source h.number h.priority h.category h.words h.info t.items k.source.2 k.number.2 k.priority.2 k.category.2 k.words.2 k.info.2 more.2
+-- The texts of a saved place are short.
+abbrev pub AreShortIn : MessagePlace → Type 0
+AreShortIn m = AreShort m.source.items m.number.items m.priority.items m.category.items m.words.items m.info.items m.trailer.items
+
+pub texts_at : (place : Message) → IsPlace place → AreShortIn (saved place)
+texts_at (at.Filler count) h = seven [] [] [] [] [] [] [] (none 8) (none 8) (none 1) (none 8) (none 6) (none 64) (none 64)
+texts_at (at.Source s) h = seven s.items [] [] [] [] [] [] h.2 (none 8) (none 1) (none 8) (none 6) (none 64) (none 64)
+texts_at (at.Number s n) h = seven s.items n.items [] [] [] [] [] h.0.2 h.1.2 (none 1) (none 8) (none 6) (none 64) (none 64)
+texts_at (at.Priority s n) h = seven s.items n.items [] [] [] [] [] h.0.2 h.1.2 (none 1) (none 8) (none 6) (none 64) (none 64)
+texts_at (at.PriorityRead s n p) (hs, hn, hp) = seven s.items n.items p.items [] [] [] [] hs.2 hn.2 hp.2 (none 8) (none 6) (none 64) (none 64)
+texts_at (at.Category s n p c) (hs, hn, hp, hc) = seven s.items n.items p.items c.items [] [] [] hs.2 hn.2 hp.2 hc.2 (none 6) (none 64) (none 64)
+texts_at (at.Words s n p c w) (hs, hn, hp, hc, hw) = seven s.items n.items p.items c.items w.items [] [] hs.2 hn.2 hp.2 hc.2 hw.2 (none 64) (none 64)
+texts_at (at.Info h) k = seven h.source h.number h.priority h.category h.words h.info [] k.source.2 k.number.2 k.priority.2 k.category.2 k.words.2 k.info.2 (none 64)
+texts_at (at.Gap h count feed) (k, some, few, feeds) = seven h.source h.number h.priority h.category h.words h.info [] k.source.2 k.number.2 k.priority.2 k.category.2 k.words.2 k.info.2 (none 64)
+texts_at (at.Text h (Some held)) (k, more) = seven h.source h.number h.priority h.category h.words h.info [] k.source.2 k.number.2 k.priority.2 k.category.2 k.words.2 k.info.2 (none 64)
+texts_at (at.Text h None) (k, more) = seven h.source h.number h.priority h.category h.words h.info [] k.source.2 k.number.2 k.priority.2 k.category.2 k.words.2 k.info.2 (none 64)
+texts_at (at.Trailer h t) (k, more) = seven h.source h.number h.priority h.category h.words h.info t.items k.source.2 k.number.2 k.priority.2 k.category.2 k.words.2 k.info.2 more.2
+texts_at (at.AfterEnd h t count) (k, more, few) = seven h.source h.number h.priority h.category h.words h.info t.items k.source.2 k.number.2 k.priority.2 k.category.2 k.words.2 k.info.2 more.2
 
 message_length : (m : MessagePlace) → length (texts_octets m) ≤ 166 → length (message_octets m) ≤ 169
 message_length m h = let is = length-append (part_number m.part ∷ m.counter ∷ m.flag ∷ []) (texts_octets m) in omega (arith, is, h)
@@ -122,7 +138,7 @@ count_length limit count (high ∷ low ∷ more) (inr h) = omega (arith, h.1, h.
 tag_length : (h : Head) (tag : List ℕ) → SpellsTag count_octets h tag → length tag ≤ 9
 tag_length h tag s = let is = ap length s.parts in let most = count_length count_octets h.count s.count s.is_count in omega (arith, is, most)
 
-held_length : (p : List ℕ) (ds : List Dataset) (held : List ℕ) → Reads p ds (InTag held) → length held ≤ 8
+pub held_length : (p : List ℕ) (ds : List Dataset) (held : List ℕ) → Reads p ds (InTag held) → length held ≤ 8
 held_length p ds held r =
     let (same, h, tag, spells, (rest, some, is)) = r.is_rest in
     let most = tag_length h tag spells in
@@ -130,7 +146,7 @@ held_length p ds held r =
     omega (arith, most, all, some)
 
 -- A dataset is kept, or a subfile, or short.
-abbrev IsOne : Dataset → Type 0
+abbrev pub IsOne : Dataset → Type 0
 IsOne d = (is_kept d.rec ≡ true) ⊎ ((d.rec ≡ 8) ⊎ (length d.octets ≤ 4))
 
 most : (low high n : ℕ) (kind : Bool) → (within low high n && kind) ≡ true → n ≤ high
@@ -183,7 +199,7 @@ of_seven d h = inr (inr (short_seven d.set d.octets (subst (λ (r : ℕ). Meets 
 of_nine : (d : Dataset) → (d.rec ≡ 9) × IsGoodDataset d → IsOne d
 of_nine d h = inr (inr (short_nine d.set d.octets (subst (λ (r : ℕ). Meets r d.set d.octets) h.0 h.1.meets)))
 
-all_ones : (ds : List Dataset) → AreSections ds → AllByRecursion IsOne ds
+pub all_ones : (ds : List Dataset) → AreSections ds → AllByRecursion IsOne ds
 all_ones ds (r1, from2, one, good1, (r2, from7, two, good2, (r7, from8, seven', good7, (r8, from9, eight, good8, (r9, rest, nine, good9, end))))) =
     let last : AllByRecursion IsOne rest = subst (AllByRecursion IsOne) (sym end) tt in
     let a9 : AllByRecursion IsOne from9 = subst (AllByRecursion IsOne) (sym nine) (all_join IsOne r9 rest (all_weaker _ IsOne of_nine r9 good9.each) last) in
@@ -257,8 +273,12 @@ begun_length parts p ds (InData h taken) reads stands =
     in_other : (phase some n data_all octets fields : ℕ) → phase ≡ 10 + some → some ≤ 4 → data_all ≤ octets → n ≤ fields → phase + (6 * n + data_all) ≤ 14 + (octets + 6 * fields)
     in_other phase some n data_all octets fields a b c d = omega (arith, a, b, c, d)
 
+pub texts_led : (octets text : List ℕ) (m : MessagePlace) → LeadToSaved octets text m → AreShortIn m
+texts_led octets text m (place, leads, is) = subst AreShortIn is (texts_at place leads.is_place)
+
 texts_short : (octets text : List ℕ) (m : MessagePlace) → LeadToSaved octets text m → length (texts_octets m) ≤ 166
-texts_short octets text m (place, leads, is) = subst (λ (x : MessagePlace). length (texts_octets x) ≤ 166) is (texts_length place leads.is_place)
+texts_short octets text m leads =
+    seven_length m.source.items m.number.items m.priority.items m.category.items m.words.items m.info.items m.trailer.items (texts_led octets text m leads)
 
 short_led : EventsTellTheDatasets → (u : Unpacking) (p ticket : List ℕ) → IsSpelled u.reader.place u.parts ticket → IsLed u p → length ticket ≤ (limits_in u).octets + 6 * (limits_in u).fields + 256
 short_led tell u p ticket s led =

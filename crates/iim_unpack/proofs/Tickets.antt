@@ -35,18 +35,18 @@ use Rattle.iim_unpack.proofs.Ended.{ended_behind, unended_inside}
 sum_cons : (x : ℕ) (xs : List ℕ) → sum (x ∷ xs) ≡ x + sum xs
 sum_cons x xs = sum_by-cons (λ (n : ℕ). n) x xs
 
-total_of : (ds : List Dataset) → sum (lengths_of ds) ≡ length (joined ds)
+pub total_of : (ds : List Dataset) → sum (lengths_of ds) ≡ length (joined ds)
 total_of [] = refl
 total_of (d ∷ ds) = sum_cons (length d.octets) (lengths_of ds) ∙ (ap (λ n. length d.octets + n) (total_of ds) ∙ sym (length-append d.octets (joined ds)))
 
 count_of : (ds : List Dataset) → length (lengths_of ds) ≡ length ds
 count_of ds = length-map ds (λ (d : Dataset). length d.octets)
 
-sum_more : (xs ys : List ℕ) → sum (xs ++ ys) ≡ sum xs + sum ys
+pub sum_more : (xs ys : List ℕ) → sum (xs ++ ys) ≡ sum xs + sum ys
 sum_more [] ys = let none : sum [] ≡ 0 = refl in omega (arith, none)
 sum_more (x ∷ xs) ys = sum_cons x (xs ++ ys) ∙ (let more = sum_more xs ys in let first = sum_cons x xs in omega (arith, more, first))
 
-sum_one : (x : ℕ) → sum (x ∷ []) ≡ x
+pub sum_one : (x : ℕ) → sum (x ∷ []) ≡ x
 sum_one x = sum_cons x [] ∙ (let none : sum [] ≡ 0 = refl in omega (arith, none))
 
 -- ---- the object at a head

@@ -1,10 +1,12 @@
 -- Places to which octets can lead, and what an unpacker at one of them does.
-use Rattle.std.specs.Prelude.{ℕ, ◌^◌, ◌-◌, ◌⊎◌, List}
+use Rattle.std.specs.Prelude.{◌≡◌, ℕ, ◌^◌, ◌-◌, ◌⊎◌, List, [], ◌∷◌}
 use Rattle.iim_fields.specs.declared.limits.Limits.{Limits}
 use Rattle.iim_unpack.specs.Admitted.{Value}
 use Rattle.iim_unpack.specs.Unpacking.{Unpacking, Stands, IsOpen, limits_in}
 use Rattle.iim_unpack.specs.Streams.{IsEnvelopeWithin}
-use Rattle.iim_unpack.specs.Tickets.{Place, IsPlaceOf}
+use Rattle.wire_message.specs.declared.saved.MessagePlace.{MessagePlace}
+use Rattle.iim_unpack.specs.Tickets.{Place, IsPlaceOf, part_number, ticket_of}
+use Rattle.iim_unpack.specs.TicketParts.{Split, SplitsInto}
 
 -- the widest limits: 4,294,967,295 octets and as many fields
 abbrev pub widest : Limits
@@ -23,3 +25,32 @@ pub record Possible (place : Place) : Type 0 where
 -- An unpacker stands by the place alone: on all octets that lead there and are open under its limits, if on some.
 abbrev pub UnpackersStandByPlace : Type 0
 UnpackersStandByPlace = (u : Unpacking) (p q : List ℕ) (a : ℕ) (place : Place) → IsPlaceOf p place → IsPlaceOf q place → Stands u p a → IsOpen (limits_in u) q → Stands u q a
+
+-- ---- the tickets of places
+
+-- source, number, priority, category, words, info and trailer so far
+abbrev pub texts_of : MessagePlace → List (List ℕ)
+texts_of m = m.source.items ∷ m.number.items ∷ m.priority.items ∷ m.category.items ∷ m.words.items ∷ m.info.items ∷ m.trailer.items ∷ []
+
+-- the parts of a place's ticket
+abbrev pub split_of : Place → Split
+split_of p = record {
+  section = p.section;
+  phase = p.phase;
+  fields = p.fields;
+  numbers = p.numbers;
+  taken = p.taken;
+  heads = p.heads;
+  part = part_number p.message.part;
+  counter = p.message.counter;
+  flag = p.message.flag;
+  texts = texts_of p.message;
+}
+
+-- The ticket of a possible place has the form of a ticket, with the parts of the place.
+abbrev pub TicketsOfPlacesAreSplit : Type 0
+TicketsOfPlacesAreSplit = (place : Place) → Possible place → SplitsInto (ticket_of place) (split_of place)
+
+-- Possible places with one ticket are one.
+abbrev pub TicketsTellOnePlace : Type 0
+TicketsTellOnePlace = (p q : Place) → Possible p → Possible q → ticket_of p ≡ ticket_of q → p ≡ q

@@ -3,7 +3,7 @@
 ghost use Rattle.iim_unpack.specs.Laws.{AdmittedOctetsAreFramed, AdmittedOctetsHaveOneValue, NoAdmittedOctetsBeginOthers, NoEnvelopeIsEmpty};
 ghost use Rattle.iim_unpack.specs.Intakes.{OpenOctetsAreBounded};
 ghost use Rattle.iim_unpack.specs.LowerLaws.{AnswerLaws, CloseLaws, FeedLaws, HeadLaws, MessageLaws, ObjectLaws};
-ghost use Rattle.iim_unpack.specs.Possible.{UnpackersStandByPlace};
+ghost use Rattle.iim_unpack.specs.Possible.{TicketsOfPlacesAreSplit, TicketsTellOnePlace, UnpackersStandByPlace};
 ghost use Rattle.iim_unpack.specs.Streams.{EnvelopesAreBounded, NothingGoesOnFromRefusedOctets, RefusalsAreDetermined, RefusedOctetsWereOpen, StreamsHaveOneAnswer};
 ghost use Rattle.iim_unpack.specs.TicketParts.{TicketsHaveOneSplit};
 ghost use Rattle.iim_unpack.specs.Tickets.{OctetsHaveOneTicket};
@@ -188,6 +188,20 @@ pub fn octets_have_one_ticket()
 pub fn tickets_have_one_split()
     ensures { TicketsHaveOneSplit }
 {}
+
+/// The ticket of a possible place has the form of a ticket, and its parts are those of the place.
+pub fn tickets_of_places_are_split()
+    ensures { TicketsOfPlacesAreSplit }
+{
+    answer_laws();
+}
+
+/// A ticket tells one possible place at most.
+pub fn tickets_tell_one_place()
+    ensures { TicketsTellOnePlace }
+{
+    answer_laws();
+}
 
 /// Where an unpacker stands is told by the place alone: it stands on all open octets that lead there, if on some.
 pub fn unpackers_stand_by_place()
