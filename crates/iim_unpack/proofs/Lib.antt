@@ -31,3 +31,4 @@ pub mod SameRecords
 pub mod SamePlace
 pub mod Splitting
 pub mod Fitting
+pub mod Plain

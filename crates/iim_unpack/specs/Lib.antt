@@ -22,5 +22,6 @@ pub mod Begins
 pub mod TicketFields
 pub mod FieldLaws
 pub mod TicketParts
+pub mod Plain
 pub mod Value
 pub mod Pieces

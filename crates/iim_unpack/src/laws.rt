@@ -3,6 +3,7 @@
 ghost use Rattle.iim_unpack.specs.Laws.{AdmittedOctetsAreFramed, AdmittedOctetsHaveOneValue, NoAdmittedOctetsBeginOthers, NoEnvelopeIsEmpty};
 ghost use Rattle.iim_unpack.specs.Intakes.{OpenOctetsAreBounded};
 ghost use Rattle.iim_unpack.specs.LowerLaws.{AnswerLaws, CloseLaws, FeedLaws, HeadLaws, MessageLaws, ObjectLaws};
+ghost use Rattle.iim_unpack.specs.Plain.{PlainOctetsLeadToTheirPlace};
 ghost use Rattle.iim_unpack.specs.Possible.{TicketsOfPlacesAreSplit, TicketsTellOnePlace, UnpackersStandByPlace};
 ghost use Rattle.iim_unpack.specs.Streams.{EnvelopesAreBounded, NothingGoesOnFromRefusedOctets, RefusalsAreDetermined, RefusedOctetsWereOpen, StreamsHaveOneAnswer};
 ghost use Rattle.iim_unpack.specs.TicketParts.{TicketsHaveOneSplit};
@@ -10,8 +11,8 @@ ghost use Rattle.iim_unpack.specs.Tickets.{OctetsHaveOneTicket};
 ghost use Rattle.iim_unpack.specs.Unpacking.{OpenOctetsBeginWithNoEnvelope};
 
 use iim_dataset::laws::{
-    events_tell_the_datasets, no_dataset_begins_another, no_octets_go_on, no_tag_begins_another,
-    octets_are_handed_on_one_way, what_an_octet_completes,
+    canonical_streams_are_spelled, events_tell_the_datasets, no_dataset_begins_another,
+    no_octets_go_on, no_tag_begins_another, octets_are_handed_on_one_way, what_an_octet_completes,
 };
 use iim_fields::laws::{
     envelopes_end_with_the_last_record, heads_die_with_their_fault, no_sections_begin_others,
@@ -201,6 +202,14 @@ pub fn tickets_tell_one_place()
     ensures { TicketsTellOnePlace }
 {
     answer_laws();
+}
+
+/// Plain octets lead to their place: records 1 and 2 as they are kept, the numbers of record 7 in their order, subfiles that are
+/// filled one after the other, and what is begun after them.
+pub fn plain_octets_lead_to_their_place()
+    ensures { PlainOctetsLeadToTheirPlace }
+{
+    canonical_streams_are_spelled();
 }
 
 /// Where an unpacker stands is told by the place alone: it stands on all open octets that lead there, if on some.

@@ -1,0 +1,94 @@
+-- The plain datasets of a place: those that tell it, and no others.
+use Rattle.std.specs.Prelude.{◌≡◌, ℕ, zero, suc, ◌+◌, ◌*◌, ◌^◌, ◌<◌, ◌≤◌, ◌==◌, if◌then◌else◌, Bool, true, List, [], ◌∷◌, ◌++◌, length, take, drop, Option, Some, None, IfSome}
+use Rattle.std.specs.List.{AllByRecursion}
+use Rattle.std.specs.Option.{unwrap_or}
+use Rattle.iim_dataset.specs.Octets.{IsOctet, Octets}
+use Rattle.iim_dataset.specs.Datasets.{Dataset, canonical_stream, count_octets}
+use Rattle.iim_dataset.specs.Splits.{Begun, InTag, InData, IsBegun}
+use Rattle.iim_dataset.specs.Laws.{HasSpellings}
+use Rattle.iim_fields.specs.Faults.{is_kept}
+use Rattle.iim_object.specs.Packing.{number_dataset, subfile_datasets, confirmed_datasets}
+use Rattle.wire_message.specs.Saved.{LeadToSaved}
+use Rattle.wire_message.specs.declared.saved.MessagePlace.{MessagePlace}
+use Rattle.iim_unpack.specs.Begins.{IsNumber}
+use Rattle.iim_unpack.specs.Parts.{section}
+use Rattle.iim_unpack.specs.Tickets.{Place, phase_of, IsPlaceOf}
+
+-- what a ticket tells of record 7: the numbers of 7:10, 7:20, 7:90 and 7:95
+pub record Numbers : Type 0 where
+  pub mode : Option ℕ
+  pub largest : Option ℕ
+  pub announced : Option ℕ
+  pub maximum : Option ℕ
+
+abbrev pub number_list : Numbers → List (Option ℕ)
+number_list n = n.mode ∷ n.largest ∷ n.announced ∷ n.maximum ∷ []
+
+-- Size Mode, in one octet
+abbrev pub mode_dataset : ℕ → Dataset
+mode_dataset n = record { rec = 7; set = 10; octets = n ∷ [] }
+
+-- a dataset where there is a number
+abbrev pub one_dataset : (ℕ → Dataset) → Option ℕ → List Dataset
+one_dataset made None = []
+one_dataset made (Some n) = made n ∷ []
+
+-- record 7: its numbers in their order
+abbrev pub plain_numbers : Numbers → List Dataset
+plain_numbers n =
+    one_dataset mode_dataset n.mode ++ (one_dataset (number_dataset 7 20) n.largest ++ (one_dataset (number_dataset 7 90) n.announced ++ one_dataset (number_dataset 7 95) n.maximum))
+
+-- the octets cut into so many parts of at most `size` octets, each filled before the next
+abbrev pub filled : (size count : ℕ) → List ℕ → List (List ℕ)
+filled size zero xs = []
+filled size (suc count) xs = take size xs ∷ filled size count (drop size xs)
+
+-- 9:10, where the object has ended
+abbrev pub plain_end : Bool → List ℕ → List Dataset
+plain_end ended object = if ended then confirmed_datasets object else []
+
+-- records 1 and 2, the numbers of record 7, so many subfiles of the object, each filled before the next, and its end where it has
+-- come
+abbrev pub plain : List Dataset → Numbers → ℕ → List ℕ → Bool → List Dataset
+plain fields numbers heads object ended = fields ++ (plain_numbers numbers ++ (subfile_datasets (filled (unwrap_or numbers.largest 0) heads object) ++ plain_end ended object))
+
+-- ---- their place
+
+-- The plain datasets can be spelled: the fields are datasets of records 1 and 2, each number fits its octets, and the subfiles have
+-- room for the object.
+pub record AreSpellable (fields : List Dataset) (numbers : Numbers) (heads : ℕ) (object : List ℕ) : Type 0 where
+  pub kept : AllByRecursion (λ d. is_kept d.rec ≡ true) fields
+  pub spelled : AllByRecursion HasSpellings fields
+  pub mode : IfSome numbers.mode IsOctet
+  pub fit : AllByRecursion IsNumber (number_list numbers)
+  pub octets : Octets object
+  pub few : length object < 2 ^ 32
+  pub room : length object ≤ heads * unwrap_or numbers.largest 0
+
+-- the octets of the object in a begun subfile
+abbrev pub begun_object : Begun → List ℕ
+begun_object (InTag held) = []
+begun_object (InData h taken) = if h.rec == 8 then taken else []
+
+-- a begun subfile has a head too
+abbrev pub begun_heads : Begun → ℕ
+begun_heads (InTag held) = 0
+begun_heads (InData h taken) = if h.rec == 8 then 1 else 0
+
+-- the place of plain datasets and a begun one
+abbrev pub plain_place : List Dataset → Numbers → ℕ → List ℕ → Bool → Begun → MessagePlace → Place
+plain_place fields numbers heads object ended begun message = record {
+  section = section (plain fields numbers heads object ended) begun;
+  phase = phase_of (plain fields numbers heads object ended) begun;
+  fields = fields;
+  numbers = number_list numbers;
+  taken = length (object ++ begun_object begun);
+  heads = heads + begun_heads begun;
+  message = message;
+}
+
+-- The plain datasets, spelled canonically, and what is begun after them lead to the place that they tell.
+abbrev pub PlainOctetsLeadToTheirPlace : Type 0
+PlainOctetsLeadToTheirPlace = (fields : List Dataset) (numbers : Numbers) (heads : ℕ) (object : List ℕ) (ended : Bool) (begun : Begun) (rest text : List ℕ) (message : MessagePlace)
+    → AreSpellable fields numbers heads object → IsBegun count_octets begun rest → LeadToSaved (object ++ begun_object begun) text message
+    → IsPlaceOf (canonical_stream (plain fields numbers heads object ended) ++ rest) (plain_place fields numbers heads object ended begun message)
