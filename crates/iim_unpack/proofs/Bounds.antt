@@ -45,7 +45,7 @@ stream_fits (d ∷ ds) xs (first, rest, one, more, parts) =
 
 -- ---- the records apart
 
-abbrev IsFive : ℕ → Type 0
+abbrev pub IsFive : ℕ → Type 0
 IsFive r = (r ≡ 1) ⊎ ((r ≡ 2) ⊎ ((r ≡ 7) ⊎ ((r ≡ 8) ⊎ (r ≡ 9))))
 
 abbrev Apart : Dataset → List Dataset → List Dataset → List Dataset → List Dataset → ℕ → ℕ → Type 0

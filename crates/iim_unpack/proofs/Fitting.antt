@@ -35,18 +35,18 @@ use Rattle.iim_unpack.proofs.Tickets.{total_of, sum_more, sum_one}
 -- ---- what is read
 
 -- Octets lead to the place, and every layer can continue from them under the widest limits.
-record Lived (place : Place) : Type 0 where
-  whole : List Dataset
-  begun : Begun
-  octets : List ℕ
-  reads : Reads octets whole begun
-  goes_on : AllGoOn widest whole begun
-  text : List ℕ
-  message : MessagePlace
-  leads : LeadToSaved (object_so_far whole begun) text message
-  is_place : place ≡ place_of whole begun message
+pub record Lived (place : Place) : Type 0 where
+  pub whole : List Dataset
+  pub begun : Begun
+  pub octets : List ℕ
+  pub reads : Reads octets whole begun
+  pub goes_on : AllGoOn widest whole begun
+  pub text : List ℕ
+  pub message : MessagePlace
+  pub leads : LeadToSaved (object_so_far whole begun) text message
+  pub is_place : place ≡ place_of whole begun message
 
-lived : AnswerLaws → (place : Place) → Possible place → Lived place
+pub lived : AnswerLaws → (place : Place) → Possible place → Lived place
 lived laws place p =
     let is = p.leads in
     let lives : Lives widest p.octets = elim p.comes [ inl o ↦ lives_open widest p.octets o | inr e ↦ lives_envelope laws widest p.octets e.0 e.1 ] in
@@ -69,7 +69,7 @@ each_fits : (ds : List Dataset) (xs : List ℕ) → SpellsStream count_octets ds
 each_fits [] xs none = tt
 each_fits (d ∷ ds) xs (first, rest, one, more, parts) = (tag_low _ one.tag one.is_tag, each_fits ds rest more)
 
-each_octets : (ds : List Dataset) (xs : List ℕ) → SpellsStream count_octets ds xs → AllByRecursion (λ (d : Dataset). Octets d.octets) ds
+pub each_octets : (ds : List Dataset) (xs : List ℕ) → SpellsStream count_octets ds xs → AllByRecursion (λ (d : Dataset). Octets d.octets) ds
 each_octets [] xs none = tt
 each_octets (d ∷ ds) xs (first, rest, one, more, parts) = (one.data_octets, each_octets ds rest more)
 
@@ -83,7 +83,7 @@ each_kept (d ∷ ds) all = by (is_kept d.rec) (each_kept ds all.1)
 
 -- ---- the numbers of record 7
 
-abbrev IsLow : Stated → Type 0
+abbrev pub IsLow : Stated → Type 0
 IsLow p = p.number < 2 ^ 32
 
 few_in_seven : (d : Dataset) → d.rec ≡ 7 → IsOne d → length d.octets ≤ 4
@@ -91,7 +91,7 @@ few_in_seven d seven (inl keeps) = absurd (let bad : false ≡ true = ap is_kept
 few_in_seven d seven (inr (inl eight)) = absurd (omega (arith, seven, eight))
 few_in_seven d seven (inr (inr few)) = few
 
-each_low : (ds : List Dataset) → AllByRecursion IsOne ds → AllByRecursion (λ (d : Dataset). Octets d.octets) ds → AllByRecursion IsLow (numbers_of (of_record 7 ds))
+pub each_low : (ds : List Dataset) → AllByRecursion IsOne ds → AllByRecursion (λ (d : Dataset). Octets d.octets) ds → AllByRecursion IsLow (numbers_of (of_record 7 ds))
 each_low [] ones octets = tt
 each_low (d ∷ ds) ones octets = by (nat_eq d.rec 7) refl (each_low ds ones.1 octets.1)
   where
@@ -107,14 +107,14 @@ low_at set (p ∷ ps) all = by (nat_eq p.set set) (low_at set ps all.1)
     by true more = all.0
     by false more = more
 
-numbers_fit : (ps : List Stated) → AllByRecursion IsLow ps → AreNumbers (stated_numbers ps)
+pub numbers_fit : (ps : List Stated) → AllByRecursion IsLow ps → AreNumbers (stated_numbers ps)
 numbers_fit ps all = record { each = (low_at 10 ps all, (low_at 20 ps all, (low_at 90 ps all, (low_at 95 ps all, tt)))); four = refl }
 
 front_ones : (xs ys : List Dataset) → AllByRecursion IsOne (xs ++ ys) → AllByRecursion IsOne xs
 front_ones [] ys all = tt
 front_ones (x ∷ xs) ys all = (all.0, front_ones xs ys all.1)
 
-ones_in : (ds : List Dataset) (b : Begun) → MayGoOn widest ds b → AllByRecursion IsOne ds
+pub ones_in : (ds : List Dataset) (b : Begun) → MayGoOn widest ds b → AllByRecursion IsOne ds
 ones_in ds (InTag held) goes = front_ones ds goes.records.0 (all_ones (ds ++ goes.records.0) goes.records.1)
 ones_in ds (InData h taken) goes =
     let (d, head, (later, are)) = goes.records in
@@ -134,7 +134,7 @@ taken_by true c ds count taken few lives =
 taken_by false true ds count taken few lives = let total = total_of (of_record 8 ds) in let same = ap length (append-nil (object_of ds)) in let fits = object_fits (place_ended ds) lives in omega (arith, total, same, fits)
 taken_by false false ds count taken few lives = let total = total_of (of_record 8 ds) in let same = ap length (append-nil (object_of ds)) in let fits = object_fits (place_behind ds) lives in omega (arith, total, same, fits)
 
-taken_fits : (octets : List ℕ) (ds : List Dataset) (b : Begun) → Reads octets ds b → MayGoOn widest ds b → length (object_so_far ds b) < 2 ^ 32
+pub taken_fits : (octets : List ℕ) (ds : List Dataset) (b : Begun) → Reads octets ds b → MayGoOn widest ds b → length (object_so_far ds b) < 2 ^ 32
 taken_fits octets ds (InTag held) reads goes = let total = total_of (of_record 8 ds) in let fits = object_fits (place_behind ds) goes.object in omega (arith, total, fits)
 taken_fits octets ds (InData h taken) reads goes = let less = reads.is_rest.2 in taken_by (nat_eq h.rec 8) (nat_eq h.rec 9) ds h.count taken (omega (arith, less)) goes.object
 

@@ -32,3 +32,4 @@ pub mod SamePlace
 pub mod Splitting
 pub mod Fitting
 pub mod Plain
+pub mod PlainPlaces

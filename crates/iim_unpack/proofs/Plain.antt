@@ -32,7 +32,7 @@ record Tell (ds fields : List Dataset) (numbers : Numbers) (heads : ℕ) (object
 
 -- ---- which datasets are of which records
 
-abbrev AreOf : ℕ → List Dataset → Type 0
+abbrev pub AreOf : ℕ → List Dataset → Type 0
 AreOf r ds = AllByRecursion (λ (d : Dataset). d.rec ≡ r) ds
 
 kept_fields : (ds : List Dataset) → AllByRecursion (λ (d : Dataset). is_kept d.rec ≡ true) ds → kept ds ≡ ds
@@ -69,7 +69,7 @@ are_both : (r : ℕ) (xs ys : List Dataset) → AreOf r xs → AreOf r ys → Ar
 are_both r [] ys a b = b
 are_both r (x ∷ xs) ys a b = (a.0, are_both r xs ys a.1 b)
 
-are_sevens : (n : Numbers) → AreOf 7 (plain_numbers n)
+pub are_sevens : (n : Numbers) → AreOf 7 (plain_numbers n)
 are_sevens n =
     are_both 7 _ _ (are_one mode_dataset (λ k. refl) n.mode)
     (are_both 7 _ _ (are_one (number_dataset 7 20) (λ k. refl) n.largest) (are_both 7 _ _ (are_one (number_dataset 7 90) (λ k. refl) n.announced) (are_one (number_dataset 7 95) (λ k. refl) n.maximum)))
@@ -137,11 +137,11 @@ four_told n =
 
 -- ---- record 8
 
-are_eights : (parts : List (List ℕ)) → AreOf 8 (subfile_datasets parts)
+pub are_eights : (parts : List (List ℕ)) → AreOf 8 (subfile_datasets parts)
 are_eights [] = tt
 are_eights (p ∷ parts) = (refl, are_eights parts)
 
-filled_count : (size count : ℕ) (xs : List ℕ) → length (subfile_datasets (filled size count xs)) ≡ count
+pub filled_count : (size count : ℕ) (xs : List ℕ) → length (subfile_datasets (filled size count xs)) ≡ count
 filled_count size zero xs = refl
 filled_count size (suc count) xs = let more = filled_count size count (drop size xs) in omega (arith, more)
 
@@ -154,7 +154,7 @@ filled_all size (suc count) xs fits =
 
 -- ---- record 9
 
-are_nines : (ended : Bool) (object : List ℕ) → AreOf 9 (plain_end ended object)
+pub are_nines : (ended : Bool) (object : List ℕ) → AreOf 9 (plain_end ended object)
 are_nines true object = (refl, tt)
 are_nines false object = tt
 
@@ -246,11 +246,11 @@ plain_spelled fields numbers heads object ended are =
 
 -- ---- the place
 
-taken_told : (ds : List Dataset) (object : List ℕ) (begun : Begun) → object_of ds ≡ object → object_so_far ds begun ≡ object ++ begun_object begun
+pub taken_told : (ds : List Dataset) (object : List ℕ) (begun : Begun) → object_of ds ≡ object → object_so_far ds begun ≡ object ++ begun_object begun
 taken_told ds object (InTag held) is = is ∙ sym (append-nil object)
 taken_told ds object (InData h taken) is = ap (λ (xs : List ℕ). xs ++ begun_object (InData h taken)) is
 
-heads_told : (ds : List Dataset) (heads : ℕ) (begun : Begun) → length (of_record 8 ds) ≡ heads → heads_of ds begun ≡ heads + begun_heads begun
+pub heads_told : (ds : List Dataset) (heads : ℕ) (begun : Begun) → length (of_record 8 ds) ≡ heads → heads_of ds begun ≡ heads + begun_heads begun
 heads_told ds heads (InTag held) is = omega (arith, is)
 heads_told ds heads (InData h taken) is = ap (λ (n : ℕ). n + begun_heads (InData h taken)) is
 

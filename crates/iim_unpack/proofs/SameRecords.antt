@@ -254,10 +254,10 @@ length_one : (b : Bool) (d : Dataset) → length (cond b (d ∷ []) []) ≡ cond
 length_one true d = refl
 length_one false d = refl
 
-abbrev CountsNines : List Dataset → Type 0
+abbrev pub CountsNines : List Dataset → Type 0
 CountsNines ds = length (of_record 9 ds) ≡ cond (nat_eq (present_record ds) 9) 1 0
 
-nines : FollowLaws → (ds : List Dataset) → IsAlive ds → CountsNines ds
+pub nines : FollowLaws → (ds : List Dataset) → IsAlive ds → CountsNines ds
 nines laws ds alive = by (split_last ds)
   where
     at_last : (front : List Dataset) (d : Dataset) → IsAlive (front ++ d ∷ []) → CountsNines (front ++ d ∷ [])

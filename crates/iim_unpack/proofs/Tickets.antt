@@ -39,7 +39,7 @@ pub total_of : (ds : List Dataset) → sum (lengths_of ds) ≡ length (joined ds
 total_of [] = refl
 total_of (d ∷ ds) = sum_cons (length d.octets) (lengths_of ds) ∙ (ap (λ n. length d.octets + n) (total_of ds) ∙ sym (length-append d.octets (joined ds)))
 
-count_of : (ds : List Dataset) → length (lengths_of ds) ≡ length ds
+pub count_of : (ds : List Dataset) → length (lengths_of ds) ≡ length ds
 count_of ds = length-map ds (λ (d : Dataset). length d.octets)
 
 pub sum_more : (xs ys : List ℕ) → sum (xs ++ ys) ≡ sum xs + sum ys

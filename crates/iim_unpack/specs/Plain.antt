@@ -12,6 +12,7 @@ use Rattle.wire_message.specs.Saved.{LeadToSaved}
 use Rattle.wire_message.specs.declared.saved.MessagePlace.{MessagePlace}
 use Rattle.iim_unpack.specs.Begins.{IsNumber}
 use Rattle.iim_unpack.specs.Parts.{section}
+use Rattle.iim_unpack.specs.Possible.{Possible}
 use Rattle.iim_unpack.specs.Tickets.{Place, phase_of, IsPlaceOf}
 
 -- what a ticket tells of record 7: the numbers of 7:10, 7:20, 7:90 and 7:95
@@ -92,3 +93,22 @@ abbrev pub PlainOctetsLeadToTheirPlace : Type 0
 PlainOctetsLeadToTheirPlace = (fields : List Dataset) (numbers : Numbers) (heads : ℕ) (object : List ℕ) (ended : Bool) (begun : Begun) (rest text : List ℕ) (message : MessagePlace)
     → AreSpellable fields numbers heads object → IsBegun count_octets begun rest → LeadToSaved (object ++ begun_object begun) text message
     → IsPlaceOf (canonical_stream (plain fields numbers heads object ended) ++ rest) (plain_place fields numbers heads object ended begun message)
+
+-- The place is led to by plain octets.
+pub record IsPlain (place : Place) : Type 0 where
+  pub numbers : Numbers
+  pub heads : ℕ
+  pub object : List ℕ
+  pub ended : Bool
+  pub begun : Begun
+  pub rest : List ℕ
+  pub text : List ℕ
+  pub message : MessagePlace
+  pub spellable : AreSpellable place.fields numbers heads object
+  pub is_begun : IsBegun count_octets begun rest
+  pub leads : LeadToSaved (object ++ begun_object begun) text message
+  pub is_place : place ≡ plain_place place.fields numbers heads object ended begun message
+
+-- Each possible place is led to by plain octets.
+abbrev pub PossiblePlacesArePlain : Type 0
+PossiblePlacesArePlain = (place : Place) → Possible place → IsPlain place

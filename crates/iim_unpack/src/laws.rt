@@ -3,7 +3,7 @@
 ghost use Rattle.iim_unpack.specs.Laws.{AdmittedOctetsAreFramed, AdmittedOctetsHaveOneValue, NoAdmittedOctetsBeginOthers, NoEnvelopeIsEmpty};
 ghost use Rattle.iim_unpack.specs.Intakes.{OpenOctetsAreBounded};
 ghost use Rattle.iim_unpack.specs.LowerLaws.{AnswerLaws, CloseLaws, FeedLaws, HeadLaws, MessageLaws, ObjectLaws};
-ghost use Rattle.iim_unpack.specs.Plain.{PlainOctetsLeadToTheirPlace};
+ghost use Rattle.iim_unpack.specs.Plain.{PlainOctetsLeadToTheirPlace, PossiblePlacesArePlain};
 ghost use Rattle.iim_unpack.specs.Possible.{TicketsOfPlacesAreSplit, TicketsTellOnePlace, UnpackersStandByPlace};
 ghost use Rattle.iim_unpack.specs.Streams.{EnvelopesAreBounded, NothingGoesOnFromRefusedOctets, RefusalsAreDetermined, RefusedOctetsWereOpen, StreamsHaveOneAnswer};
 ghost use Rattle.iim_unpack.specs.TicketParts.{TicketsHaveOneSplit};
@@ -20,7 +20,7 @@ use iim_fields::laws::{
 };
 use iim_object::laws::{
     datasets_lead_from_place_to_place, datasets_live_with_their_tokens, records_are_by_number,
-    sizes_are_determined,
+    sizes_are_determined, subfiles_live_while_they_fit,
 };
 use wire_message::laws::{
     messages_have_one_reading, octets_lead_to_one_place, places_are_saved_apart,
@@ -210,6 +210,14 @@ pub fn plain_octets_lead_to_their_place()
     ensures { PlainOctetsLeadToTheirPlace }
 {
     canonical_streams_are_spelled();
+}
+
+/// Each possible place is led to by plain octets.
+pub fn possible_places_are_plain()
+    ensures { PossiblePlacesArePlain }
+{
+    answer_laws();
+    subfiles_live_while_they_fit();
 }
 
 /// Where an unpacker stands is told by the place alone: it stands on all open octets that lead there, if on some.
