@@ -2,7 +2,7 @@
 
 use super::{LIMITS, SMALLEST, joined, story};
 use iim_fields::Limits;
-use iim_unpack::{SaveFault, Unpacker};
+use iim_unpack::{SaveFault, Unpacker, split_ticket};
 use std::alloc::Global;
 use std::process::Abort;
 use std::test::Fail;
@@ -89,6 +89,7 @@ fn expect_ticket(
         return Err(Fail::from("no ticket"));
     };
     assert_eq!(rt; got.as_slice(), want.as_slice());
+    assert!(rt; split_ticket(got.as_slice()).is_ok());
     Ok(())
 }
 
