@@ -1,4 +1,4 @@
-use Rattle.std.proofs.Common.{◌==◌, length, get_or, sym, arith}
+use Rattle.std.proofs.Common.{◌==◌, get_or, sym, arith}
 use Rattle.std.proofs.lemmas.Bool.{eq-eqb}
 use Rattle.std.proofs.lemmas.List.Sums.{position_or_len_is}
 use Rattle.wire_story.proofs.Calm.{no_feed_in}

@@ -1,4 +1,4 @@
-use Rattle.std.proofs.Common.{◌≡◌, ◌≤◌, ℕ, refl, arith, Option, Some}
+use Rattle.std.proofs.Common.{◌≡◌, ℕ, refl, arith, Some}
 use Rattle.wire_story.proofs.reader.TextReader.at.Goals as goal
 
 some_same : (a b : ℕ) → Some a ≡ Some b → a ≡ b
