@@ -33,3 +33,4 @@ pub mod Splitting
 pub mod Fitting
 pub mod Plain
 pub mod PlainPlaces
+pub mod HeadsWithin

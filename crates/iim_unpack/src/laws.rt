@@ -4,7 +4,7 @@ ghost use Rattle.iim_unpack.specs.Laws.{AdmittedOctetsAreFramed, AdmittedOctetsH
 ghost use Rattle.iim_unpack.specs.Intakes.{OpenOctetsAreBounded};
 ghost use Rattle.iim_unpack.specs.LowerLaws.{AnswerLaws, CloseLaws, FeedLaws, HeadLaws, MessageLaws, ObjectLaws};
 ghost use Rattle.iim_unpack.specs.Plain.{PlainOctetsLeadToTheirPlace, PossiblePlacesArePlain};
-ghost use Rattle.iim_unpack.specs.Possible.{TicketsOfPlacesAreSplit, TicketsTellOnePlace, UnpackersStandByPlace};
+ghost use Rattle.iim_unpack.specs.Possible.{LimitsAreToldByPlace, TicketsOfPlacesAreSplit, TicketsTellOnePlace, UnpackersStandByPlace};
 ghost use Rattle.iim_unpack.specs.Streams.{EnvelopesAreBounded, NothingGoesOnFromRefusedOctets, RefusalsAreDetermined, RefusedOctetsWereOpen, StreamsHaveOneAnswer};
 ghost use Rattle.iim_unpack.specs.TicketParts.{TicketsHaveOneSplit};
 ghost use Rattle.iim_unpack.specs.Tickets.{OctetsHaveOneTicket};
@@ -218,6 +218,13 @@ pub fn possible_places_are_plain()
 {
     answer_laws();
     subfiles_live_while_they_fit();
+}
+
+/// Whether octets keep to limits is told by their place: by the heads of records 1 and 2 that it tells, a begun one among them.
+pub fn limits_are_told_by_place()
+    ensures { LimitsAreToldByPlace }
+{
+    answer_laws();
 }
 
 /// Where an unpacker stands is told by the place alone: it stands on all open octets that lead there, if on some.
