@@ -34,3 +34,4 @@ pub mod Fitting
 pub mod Plain
 pub mod PlainPlaces
 pub mod HeadsWithin
+pub mod PlainGoesOn

@@ -43,15 +43,15 @@ none_kept : (r : ℕ) (ds : List Dataset) → is_kept r ≡ false → AreOf r ds
 none_kept r [] is all = refl
 none_kept r (d ∷ ds) is all = ap (λ (b : Bool). cond b (d ∷ kept ds) (kept ds)) (ap is_kept all.0 ∙ is) ∙ none_kept r ds is all.1
 
-all_of : (r : ℕ) (ds : List Dataset) → nat_eq r r ≡ true → AreOf r ds → of_record r ds ≡ ds
+pub all_of : (r : ℕ) (ds : List Dataset) → nat_eq r r ≡ true → AreOf r ds → of_record r ds ≡ ds
 all_of r [] same all = refl
 all_of r (d ∷ ds) same all = ap (λ (b : Bool). cond b (d ∷ of_record r ds) (of_record r ds)) (ap (λ (n : ℕ). nat_eq n r) all.0 ∙ same) ∙ ap (λ (xs : List Dataset). d ∷ xs) (all_of r ds same all.1)
 
-none_of : (r s : ℕ) (ds : List Dataset) → nat_eq s r ≡ false → AreOf s ds → of_record r ds ≡ []
+pub none_of : (r s : ℕ) (ds : List Dataset) → nat_eq s r ≡ false → AreOf s ds → of_record r ds ≡ []
 none_of r s [] apart all = refl
 none_of r s (d ∷ ds) apart all = ap (λ (b : Bool). cond b (d ∷ of_record r ds) (of_record r ds)) (ap (λ (n : ℕ). nat_eq n r) all.0 ∙ apart) ∙ none_of r s ds apart all.1
 
-none_in_fields : (r : ℕ) (ds : List Dataset) → is_kept r ≡ false → AllByRecursion (λ (d : Dataset). is_kept d.rec ≡ true) ds → of_record r ds ≡ []
+pub none_in_fields : (r : ℕ) (ds : List Dataset) → is_kept r ≡ false → AllByRecursion (λ (d : Dataset). is_kept d.rec ≡ true) ds → of_record r ds ≡ []
 none_in_fields r [] is all = refl
 none_in_fields r (d ∷ ds) is all = by (nat_eq d.rec r) refl (none_in_fields r ds is all.1)
   where
@@ -74,7 +74,7 @@ are_sevens n =
     are_both 7 _ _ (are_one mode_dataset (λ k. refl) n.mode)
     (are_both 7 _ _ (are_one (number_dataset 7 20) (λ k. refl) n.largest) (are_both 7 _ _ (are_one (number_dataset 7 90) (λ k. refl) n.announced) (are_one (number_dataset 7 95) (λ k. refl) n.maximum)))
 
-abbrev one_stated : ℕ → Option ℕ → List Stated
+abbrev pub one_stated : ℕ → Option ℕ → List Stated
 one_stated set None = []
 one_stated set (Some n) = record { set = set; number = n } ∷ []
 
@@ -89,7 +89,7 @@ one_told : (set : ℕ) (o : Option ℕ) → IsNumber o → numbers_of (one_datas
 one_told set None h = refl
 one_told set (Some n) h = ap (λ (k : ℕ). record { set = set; number = k } ∷ []) (number_back set n h)
 
-abbrev all_stated : Numbers → List Stated
+abbrev pub all_stated : Numbers → List Stated
 all_stated n = one_stated 10 n.mode ++ (one_stated 20 n.largest ++ (one_stated 90 n.announced ++ one_stated 95 n.maximum))
 
 numbers_join : (xs ys : List Dataset) → numbers_of (xs ++ ys) ≡ numbers_of xs ++ numbers_of ys
@@ -99,7 +99,7 @@ numbers_join (x ∷ xs) ys = ap (λ (ps : List Stated). record { set = x.set; nu
 both_lists : {a b c d : List Stated} → a ≡ c → b ≡ d → a ++ b ≡ c ++ d
 both_lists {b = b} {c = c} e f = ap (λ (xs : List Stated). xs ++ b) e ∙ ap (λ (xs : List Stated). c ++ xs) f
 
-are_told : (n : Numbers) → AllByRecursion IsNumber (number_list n) → numbers_of (plain_numbers n) ≡ all_stated n
+pub are_told : (n : Numbers) → AllByRecursion IsNumber (number_list n) → numbers_of (plain_numbers n) ≡ all_stated n
 are_told n fit =
     let last = numbers_join (one_dataset (number_dataset 7 90) n.announced) (one_dataset (number_dataset 7 95) n.maximum) ∙ both_lists (one_told 90 n.announced fit.1.1.0) (one_told 95 n.maximum fit.1.1.1.0) in
     let more = numbers_join (one_dataset (number_dataset 7 20) n.largest) (one_dataset (number_dataset 7 90) n.announced ++ one_dataset (number_dataset 7 95) n.maximum) ∙ both_lists (one_told 20 n.largest fit.1.0) last in
@@ -121,7 +121,7 @@ last_past : (set other : ℕ) (o : Option ℕ) → nat_eq other set ≡ false �
 last_past set other None apart = refl
 last_past set other (Some n) apart = ap (λ (b : Bool). cond b (Some n) None) apart
 
-four_told : (n : Numbers) → stated_numbers (all_stated n) ≡ number_list n
+pub four_told : (n : Numbers) → stated_numbers (all_stated n) ≡ number_list n
 four_told n =
     let from90 = one_stated 90 n.announced ++ one_stated 95 n.maximum in
     let from20 = one_stated 20 n.largest ++ from90 in
@@ -222,12 +222,12 @@ numbers_spelled n mode =
     all_both HasSpellings _ _ (mode_spelled n.mode mode)
     (all_both HasSpellings _ _ (number_spelled 20 (omega arith) n.largest) (all_both HasSpellings _ _ (number_spelled 90 (omega arith) n.announced) (number_spelled 95 (omega arith) n.maximum)))
 
-front_octets : (k : ℕ) (xs : List ℕ) → Octets xs → Octets (take k xs)
+pub front_octets : (k : ℕ) (xs : List ℕ) → Octets xs → Octets (take k xs)
 front_octets zero xs all = tt
 front_octets (suc k) [] all = tt
 front_octets (suc k) (x ∷ xs) all = (all.0, front_octets k xs all.1)
 
-back_octets : (k : ℕ) (xs : List ℕ) → Octets xs → Octets (drop k xs)
+pub back_octets : (k : ℕ) (xs : List ℕ) → Octets xs → Octets (drop k xs)
 back_octets zero xs all = all
 back_octets (suc k) [] all = tt
 back_octets (suc k) (x ∷ xs) all = back_octets k xs all.1

@@ -61,7 +61,7 @@ last_of k r [] all = refl
 last_of k r (x ∷ xs) all = last_of k x.rec xs all.1 ∙ ap (pick xs k) all.0 ∙ pick_same xs k
 
 -- each record is as great as those before it
-abbrev IsOrdered : ℕ → List Dataset → Type 0
+abbrev pub IsOrdered : ℕ → List Dataset → Type 0
 IsOrdered r [] = Unit {0}
 IsOrdered r (d ∷ ds) = (r ≤ d.rec) × IsOrdered d.rec ds
 
@@ -70,11 +70,11 @@ run_ordered r s [] rest le all more = more s le
 run_ordered r s (d ∷ run) rest le all more =
     (omega (arith, le, all.0.0), subst (λ (k : ℕ). IsOrdered k (run ++ rest)) (sym all.0.0) (run_ordered r r run rest (omega arith) all.1 more))
 
-front_ordered : (r : ℕ) (xs ys : List Dataset) → IsOrdered r (xs ++ ys) → IsOrdered r xs
+pub front_ordered : (r : ℕ) (xs ys : List Dataset) → IsOrdered r (xs ++ ys) → IsOrdered r xs
 front_ordered r [] ys is = tt
 front_ordered r (x ∷ xs) ys is = (is.0, front_ordered x.rec xs ys is.1)
 
-sections_ordered : (ds : List Dataset) → AreSections ds → IsOrdered 0 ds
+pub sections_ordered : (ds : List Dataset) → AreSections ds → IsOrdered 0 ds
 sections_ordered ds (r1, from2, one, good1, (r2, from7, two, good2, (r7, from8, seven, good7, (r8, from9, eight, good8, (r9, none, nine, good9, end))))) =
     let o9 : (t : ℕ) → t ≤ 9 → IsOrdered t from9 = λ t le. subst (IsOrdered t) (sym nine) (run_ordered 9 t r9 none le good9.each (λ u h. subst (IsOrdered u) (sym end) tt)) in
     let o8 : (t : ℕ) → t ≤ 8 → IsOrdered t from8 = λ t le. subst (IsOrdered t) (sym eight) (run_ordered 8 t r8 from9 le good8.each (λ u h. o9 u (omega (arith, h)))) in
@@ -83,7 +83,7 @@ sections_ordered ds (r1, from2, one, good1, (r2, from7, two, good2, (r7, from8, 
     subst (IsOrdered 0) (sym one) (run_ordered 1 0 r1 from2 (omega arith) good1.each (λ u h. o2 u (omega (arith, h))))
 
 -- none of lower records
-none_below : (r s : ℕ) (ds : List Dataset) → IsOrdered s ds → r < s → of_record r ds ≡ []
+pub none_below : (r s : ℕ) (ds : List Dataset) → IsOrdered s ds → r < s → of_record r ds ≡ []
 none_below r s [] is less = refl
 none_below r s (d ∷ ds) is less = by (nat_eq d.rec r) refl (none_below r d.rec ds is.1 (omega (arith, is.0, less)))
   where
@@ -161,7 +161,7 @@ picks_plain fields numbers heads object ended =
 
 -- ---- the numbers
 
-abbrev numbers_in : List Stated → Numbers
+abbrev pub numbers_in : List Stated → Numbers
 numbers_in ps = record { mode = number_at 10 ps; largest = number_at 20 ps; announced = number_at 90 ps; maximum = number_at 95 ps }
 
 one_length : (made : ℕ → Dataset) (o : Option ℕ) (n : ℕ) → o ≡ Some n → length (one_dataset made o) ≡ 1
@@ -266,7 +266,7 @@ room_for law ds is lives = by (of_record 8 ds) (room_some law ds is lives)
 
 -- ---- the fields
 
-all_kept : (ds : List Dataset) → AllByRecursion (λ (d : Dataset). is_kept d.rec ≡ true) (kept ds)
+pub all_kept : (ds : List Dataset) → AllByRecursion (λ (d : Dataset). is_kept d.rec ≡ true) (kept ds)
 all_kept [] = tt
 all_kept (d ∷ ds) = by (is_kept d.rec) refl (all_kept ds)
   where
@@ -282,7 +282,7 @@ each_spelled (d ∷ ds) xs (first, rest, one, more, parts) = by (is_kept d.rec) 
     by true later = (record { rec = one.is_tag.rec; set = one.is_tag.set; octets = one.data_octets; few = tag_low _ one.tag one.is_tag }, later)
     by false later = later
 
-join_octets : (xs ys : List ℕ) → Octets xs → Octets ys → Octets (xs ++ ys)
+pub join_octets : (xs ys : List ℕ) → Octets xs → Octets ys → Octets (xs ++ ys)
 join_octets [] ys a b = b
 join_octets (x ∷ xs) ys a b = (a.0, join_octets xs ys a.1 b)
 
@@ -296,9 +296,29 @@ object_octets (d ∷ ds) all = by (nat_eq d.rec 8) (object_octets ds all.1)
 
 -- ---- all of it
 
-end_length : (ended : Bool) (object : List ℕ) → length (plain_end ended object) ≡ cond ended 1 0
+pub end_length : (ended : Bool) (object : List ℕ) → length (plain_end ended object) ≡ cond ended 1 0
 end_length true object = refl
 end_length false object = refl
+
+-- the present record is that of the plain datasets
+pub present_same : AnswerLaws → (ds : List Dataset) → IsAlive ds → IsStated (place_behind ds)
+    → present_record ds ≡ present_record (plain (kept ds) (numbers_in (numbers_of (of_record 7 ds))) (length (of_record 8 ds)) (object_of ds) (nat_eq (present_record ds) 9))
+present_same laws ds alive stated =
+    let ps = numbers_of (of_record 7 ds) in
+    let numbers = numbers_in ps in
+    let heads = length (of_record 8 ds) in
+    let object = object_of ds in
+    let ended = nat_eq (present_record ds) 9 in
+    let size = unwrap_or numbers.largest 0 in
+    picks_alive ds alive
+    ∙ pick_by (of_record 9 ds) (plain_end ended object) 9 (nines laws.follow ds alive ∙ sym (end_length ended object))
+    (pick_by (of_record 8 ds) (subfile_datasets (filled size heads object)) 8 (sym (filled_count size heads object))
+    (pick_like (of_record 7 ds) (plain_numbers numbers) 7 (λ none. none_plain ps (same_count (of_record 7 ds) ∙ none)) (λ none. sym (same_count (of_record 7 ds)) ∙ none_stated ps stated.stated.each none) refl))
+    ∙ sym (picks_plain (kept ds) numbers heads object ended)
+  where
+    same_count : (es : List Dataset) → length (numbers_of es) ≡ length es
+    same_count [] = refl
+    same_count (e ∷ es) = let rest = same_count es in omega (arith, rest)
 
 -- the laws by which it is so
 pub record PlainLaws : Type 0 where
@@ -323,13 +343,7 @@ plain_of laws place l =
     let more = taken_told ds object l.begun refl in
     let both = length-append object (begun_object l.begun) in
     let long = ap length more in
-    let size = unwrap_or numbers.largest 0 in
-    let present : present_record ds ≡ present_record (plain (kept ds) numbers heads object ended) =
-    picks_alive ds alive
-    ∙ pick_by (of_record 9 ds) (plain_end ended object) 9 (nines laws.answer.follow ds alive ∙ sym (end_length ended object))
-    (pick_by (of_record 8 ds) (subfile_datasets (filled size heads object)) 8 (sym (filled_count size heads object))
-    (pick_like (of_record 7 ds) (plain_numbers numbers) 7 (λ none. none_plain ps (same_count (of_record 7 ds) ∙ none)) (λ none. sym (same_count (of_record 7 ds)) ∙ none_stated ps stated.stated.each none) refl))
-    ∙ sym (picks_plain (kept ds) numbers heads object ended) in
+    let present = present_same laws.answer ds alive stated in
     record {
       numbers = numbers;
       heads = heads;
@@ -353,10 +367,6 @@ plain_of laws place l =
       is_place = same_place ds (plain (kept ds) numbers heads object ended) l.begun l.message object heads more (heads_told ds heads l.begun refl) present;
     }
   where
-    same_count : (es : List Dataset) → length (numbers_of es) ≡ length es
-    same_count [] = refl
-    same_count (e ∷ es) = let rest = same_count es in omega (arith, rest)
-
     same_place : (ds es : List Dataset) (begun : Begun) (message : MessagePlace) (object : List ℕ) (heads : ℕ) → object_so_far ds begun ≡ object ++ begun_object begun → heads_of ds begun ≡ heads + begun_heads begun
         → present_record ds ≡ present_record es
         → place_of ds begun message ≡ record {

@@ -50,7 +50,7 @@ same_more ds es d e is same = record {
 
 -- ---- records 1 and 2, which are kept
 
-of_kept : (r : ℕ) → is_kept r ≡ true → (ds : List Dataset) → of_record r (kept ds) ≡ of_record r ds
+pub of_kept : (r : ℕ) → is_kept r ≡ true → (ds : List Dataset) → of_record r (kept ds) ≡ of_record r ds
 of_kept r is [] = refl
 of_kept r is (d ∷ ds) = by (is_kept d.rec) (λ e. ap is_kept (eqb-true d.rec r e) ∙ is) (of_kept r is ds)
   where
@@ -126,7 +126,7 @@ stated_at laws ds h at few room =
     ]
 
 -- a number occurs where it is stated
-occurs_stated : (n : ℕ) (ds : List Dataset) → occurs n ds ≡ is_some (number_at n (numbers_of ds))
+pub occurs_stated : (n : ℕ) (ds : List Dataset) → occurs n ds ≡ is_some (number_at n (numbers_of ds))
 occurs_stated n [] = refl
 occurs_stated n (d ∷ ds) = by (nat_eq d.set n) (occurs_stated n ds)
   where
@@ -162,7 +162,7 @@ pub record SameNumbers (ps qs : List Stated) : Type 0 where
 pub same_numbers : (ps qs : List Stated) → stated_numbers ps ≡ stated_numbers qs → SameNumbers ps qs
 same_numbers ps qs e = record { mode = cc e; largest = cc e; announced = cc e; maximum = cc e }
 
-same_stated : (n : ℕ) (ps qs : List Stated) → SameNumbers ps qs → AllByRecursion InRow ps → AllByRecursion InRow qs → number_at n ps ≡ number_at n qs
+pub same_stated : (n : ℕ) (ps qs : List Stated) → SameNumbers ps qs → AllByRecursion InRow ps → AllByRecursion InRow qs → number_at n ps ≡ number_at n qs
 same_stated n ps qs same a b = elim (eqb_tells 10 n) [
   | inl is ↦ subst (λ (k : ℕ). number_at k ps ≡ number_at k qs) is.1 same.mode
   | inr not10 ↦ elim (eqb_tells 20 n) [
@@ -188,7 +188,7 @@ no_other n e = (rw e refl, rw e refl)
 no_row : (r n : ℕ) (xs : List ℕ) → row_of r n ≡ None → Meets r n xs → ⊥
 no_row r n xs none h = rw none at h
 
-abbrev AreTens : List Dataset → Type 0
+abbrev pub AreTens : List Dataset → Type 0
 AreTens ds = AllByRecursion (λ d. d.set ≡ 10) ds
 
 -- a record that has a row for the number 10 alone
@@ -213,7 +213,7 @@ tens_front : (r : ℕ) (xs ys zs : List Dataset) → of_record r (xs ++ ys) ≡ 
 tens_front r xs ys zs is tens =
     all_front (λ d. d.set ≡ 10) (of_record r xs) (of_record r ys) (subst AreTens (sym is ∙ filter-append (λ (x : Dataset). nat_eq x.rec r) xs ys) tens)
 
-tens_behind : RecordsAreByNumber → (ds : List Dataset) → IsAlive ds → AreTens (of_record 8 ds) × AreTens (of_record 9 ds)
+pub tens_behind : RecordsAreByNumber → (ds : List Dataset) → IsAlive ds → AreTens (of_record 8 ds) × AreTens (of_record 9 ds)
 tens_behind numbers ds alive =
     let r = records_alive ds alive in
     let is = numbers (ds ++ r.0) r.1 in (

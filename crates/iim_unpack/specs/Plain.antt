@@ -6,7 +6,14 @@ use Rattle.iim_dataset.specs.Octets.{IsOctet, Octets}
 use Rattle.iim_dataset.specs.Datasets.{Dataset, canonical_stream, count_octets}
 use Rattle.iim_dataset.specs.Splits.{Begun, InTag, InData, IsBegun}
 use Rattle.iim_dataset.specs.Laws.{HasSpellings}
-use Rattle.iim_fields.specs.Faults.{is_kept}
+use Rattle.iim_fields.specs.Faults.{is_kept, kept, present_record}
+use Rattle.iim_fields.specs.Records.{AreSections}
+use Rattle.iim_tables.specs.Numbers.{greatest_size}
+use Rattle.iim_object.specs.Behind.{of_record}
+use Rattle.iim_object.specs.Plans.{max_subfiles}
+use Rattle.iim_object.specs.Records.{numbers_of}
+use Rattle.iim_object.specs.Sizes.{number_at}
+use Rattle.iim_unpack.specs.Admitted.{object_of}
 use Rattle.iim_object.specs.Packing.{number_dataset, subfile_datasets, confirmed_datasets}
 use Rattle.wire_message.specs.Saved.{LeadToSaved}
 use Rattle.wire_message.specs.declared.saved.MessagePlace.{MessagePlace}
@@ -112,3 +119,19 @@ pub record IsPlain (place : Place) : Type 0 where
 -- Each possible place is led to by plain octets.
 abbrev pub PossiblePlacesArePlain : Type 0
 PossiblePlacesArePlain = (place : Place) → Possible place → IsPlain place
+
+-- the plain datasets of datasets
+abbrev pub plain_of : List Dataset → List Dataset
+plain_of ds =
+    plain (kept ds)
+    (record {
+      mode = number_at 10 (numbers_of (of_record 7 ds));
+      largest = number_at 20 (numbers_of (of_record 7 ds));
+      announced = number_at 90 (numbers_of (of_record 7 ds));
+      maximum = number_at 95 (numbers_of (of_record 7 ds));
+    })
+    (length (of_record 8 ds)) (object_of ds) (present_record ds == 9)
+
+-- What follows datasets to the sections of an envelope follows their plain ones to such too.
+abbrev pub PlainDatasetsGoOnAlike : Type 0
+PlainDatasetsGoOnAlike = (ds more : List Dataset) → AreSections (ds ++ more) → length (of_record 8 ds) ≤ max_subfiles → length (object_of ds) ≤ greatest_size → AreSections (plain_of ds ++ more)

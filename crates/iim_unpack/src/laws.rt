@@ -3,7 +3,7 @@
 ghost use Rattle.iim_unpack.specs.Laws.{AdmittedOctetsAreFramed, AdmittedOctetsHaveOneValue, NoAdmittedOctetsBeginOthers, NoEnvelopeIsEmpty};
 ghost use Rattle.iim_unpack.specs.Intakes.{OpenOctetsAreBounded};
 ghost use Rattle.iim_unpack.specs.LowerLaws.{AnswerLaws, CloseLaws, FeedLaws, HeadLaws, MessageLaws, ObjectLaws};
-ghost use Rattle.iim_unpack.specs.Plain.{PlainOctetsLeadToTheirPlace, PossiblePlacesArePlain};
+ghost use Rattle.iim_unpack.specs.Plain.{PlainDatasetsGoOnAlike, PlainOctetsLeadToTheirPlace, PossiblePlacesArePlain};
 ghost use Rattle.iim_unpack.specs.Possible.{LimitsAreToldByPlace, TicketsOfPlacesAreSplit, TicketsTellOnePlace, UnpackersStandByPlace};
 ghost use Rattle.iim_unpack.specs.Streams.{EnvelopesAreBounded, NothingGoesOnFromRefusedOctets, RefusalsAreDetermined, RefusedOctetsWereOpen, StreamsHaveOneAnswer};
 ghost use Rattle.iim_unpack.specs.TicketParts.{TicketsHaveOneSplit};
@@ -210,6 +210,13 @@ pub fn plain_octets_lead_to_their_place()
     ensures { PlainOctetsLeadToTheirPlace }
 {
     canonical_streams_are_spelled();
+}
+
+/// What follows datasets to the records of an envelope follows their plain ones to such, too.
+pub fn plain_datasets_go_on_alike()
+    ensures { PlainDatasetsGoOnAlike }
+{
+    answer_laws();
 }
 
 /// Each possible place is led to by plain octets.
