@@ -35,3 +35,4 @@ pub mod Plain
 pub mod PlainPlaces
 pub mod HeadsWithin
 pub mod PlainGoesOn
+pub mod PlainSizes

@@ -200,7 +200,7 @@ pick_like [] (y ∷ ys) r f g e = absurd (let bad = f refl in omega (arith, bad)
 pick_like (x ∷ xs) [] r f g e = absurd (let bad = g refl in omega (arith, bad))
 pick_like (x ∷ xs) (y ∷ ys) r f g e = refl
 
-low_mode : (ps : List Stated) → AllByRecursion InRow ps → IfSome (number_at 10 ps) (λ n. n ≤ 1)
+pub low_mode : (ps : List Stated) → AllByRecursion InRow ps → IfSome (number_at 10 ps) (λ n. n ≤ 1)
 low_mode [] all = tt
 low_mode (p ∷ ps) all = by (nat_eq p.set 10) refl (low_mode ps all.1)
   where
@@ -219,11 +219,11 @@ mode_octet (Some n) h = omega (arith, h)
 
 -- ---- the subfiles have room
 
-some_of : (o : Option ℕ) → is_some o ≡ true → (n : ℕ) × (o ≡ Some n)
+pub some_of : (o : Option ℕ) → is_some o ≡ true → (n : ℕ) × (o ≡ Some n)
 some_of None h = absurd cc
 some_of (Some n) h = (n, refl)
 
-known_of : (n : ℕ) → n ≤ 1 → (b : Bool) × (n ≡ mode_number b)
+pub known_of : (n : ℕ) → n ≤ 1 → (b : Bool) × (n ≡ mode_number b)
 known_of zero h = (false, refl)
 known_of (suc n) h = (true, omega (arith, h))
 

@@ -1,5 +1,5 @@
 -- The plain datasets of a place: those that tell it, and no others.
-use Rattle.std.specs.Prelude.{◌≡◌, ℕ, zero, suc, ◌+◌, ◌*◌, ◌^◌, ◌<◌, ◌≤◌, ◌==◌, if◌then◌else◌, Bool, true, List, [], ◌∷◌, ◌++◌, length, take, drop, Option, Some, None, IfSome}
+use Rattle.std.specs.Prelude.{◌≡◌, ℕ, zero, suc, ◌+◌, ◌*◌, ◌^◌, ◌<◌, ◌≤◌, ◌==◌, if◌then◌else◌, Bool, true, List, [], ◌∷◌, ◌++◌, length, sum, take, drop, Option, Some, None, IfSome}
 use Rattle.std.specs.List.{AllByRecursion}
 use Rattle.std.specs.Option.{unwrap_or}
 use Rattle.iim_dataset.specs.Octets.{IsOctet, Octets}
@@ -12,7 +12,9 @@ use Rattle.iim_tables.specs.Numbers.{greatest_size}
 use Rattle.iim_object.specs.Behind.{of_record}
 use Rattle.iim_object.specs.Plans.{max_subfiles}
 use Rattle.iim_object.specs.Records.{numbers_of}
-use Rattle.iim_object.specs.Sizes.{number_at}
+use Rattle.iim_object.specs.Places as objects
+use Rattle.iim_object.specs.Saved.{IsPossible, stated_numbers}
+use Rattle.iim_object.specs.Sizes.{AreStated, number_at}
 use Rattle.iim_unpack.specs.Admitted.{object_of}
 use Rattle.iim_object.specs.Packing.{number_dataset, subfile_datasets, confirmed_datasets}
 use Rattle.wire_message.specs.Saved.{LeadToSaved}
@@ -135,3 +137,9 @@ plain_of ds =
 -- What follows datasets to the sections of an envelope follows their plain ones to such too.
 abbrev pub PlainDatasetsGoOnAlike : Type 0
 PlainDatasetsGoOnAlike = (ds more : List Dataset) → AreSections (ds ++ more) → length (of_record 8 ds) ≤ max_subfiles → length (object_of ds) ≤ greatest_size → AreSections (plain_of ds ++ more)
+
+-- Places of an object whose numbers, whose ends and whose subfiles in number and in octets are the same are possible alike, where no
+-- subfile is longer than 7:20.
+abbrev pub ObjectsArePossibleAlike : Type 0
+ObjectsArePossibleAlike = (p q : objects.Place) → IsPossible p → AreStated q.stated → stated_numbers p.stated ≡ stated_numbers q.stated → length p.lengths ≡ length q.lengths → sum p.lengths ≡ sum q.lengths
+    → ((size : ℕ) → number_at 20 q.stated ≡ Some size → AllByRecursion (λ n. n ≤ size) q.lengths) → p.ending ≡ q.ending → IsPossible q

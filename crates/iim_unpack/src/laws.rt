@@ -3,7 +3,7 @@
 ghost use Rattle.iim_unpack.specs.Laws.{AdmittedOctetsAreFramed, AdmittedOctetsHaveOneValue, NoAdmittedOctetsBeginOthers, NoEnvelopeIsEmpty};
 ghost use Rattle.iim_unpack.specs.Intakes.{OpenOctetsAreBounded};
 ghost use Rattle.iim_unpack.specs.LowerLaws.{AnswerLaws, CloseLaws, FeedLaws, HeadLaws, MessageLaws, ObjectLaws};
-ghost use Rattle.iim_unpack.specs.Plain.{PlainDatasetsGoOnAlike, PlainOctetsLeadToTheirPlace, PossiblePlacesArePlain};
+ghost use Rattle.iim_unpack.specs.Plain.{ObjectsArePossibleAlike, PlainDatasetsGoOnAlike, PlainOctetsLeadToTheirPlace, PossiblePlacesArePlain};
 ghost use Rattle.iim_unpack.specs.Possible.{LimitsAreToldByPlace, TicketsOfPlacesAreSplit, TicketsTellOnePlace, UnpackersStandByPlace};
 ghost use Rattle.iim_unpack.specs.Streams.{EnvelopesAreBounded, NothingGoesOnFromRefusedOctets, RefusalsAreDetermined, RefusedOctetsWereOpen, StreamsHaveOneAnswer};
 ghost use Rattle.iim_unpack.specs.TicketParts.{TicketsHaveOneSplit};
@@ -19,8 +19,9 @@ use iim_fields::laws::{
     values_die_with_their_fault,
 };
 use iim_object::laws::{
-    datasets_lead_from_place_to_place, datasets_live_with_their_tokens, records_are_by_number,
-    sizes_are_determined, subfiles_live_while_they_fit,
+    datasets_lead_from_place_to_place, datasets_live_with_their_tokens, numbers_live_without_clash,
+    objects_end_where_they_are_whole, records_are_by_number, sizes_are_determined,
+    subfiles_live_while_they_fit, totals_are_confirmed,
 };
 use wire_message::laws::{
     messages_have_one_reading, octets_lead_to_one_place, places_are_saved_apart,
@@ -210,6 +211,16 @@ pub fn plain_octets_lead_to_their_place()
     ensures { PlainOctetsLeadToTheirPlace }
 {
     canonical_streams_are_spelled();
+}
+
+/// Places of an object that tell the same are possible alike.
+pub fn objects_are_possible_alike()
+    ensures { ObjectsArePossibleAlike }
+{
+    numbers_live_without_clash();
+    subfiles_live_while_they_fit();
+    objects_end_where_they_are_whole();
+    totals_are_confirmed();
 }
 
 /// What follows datasets to the records of an envelope follows their plain ones to such, too.
