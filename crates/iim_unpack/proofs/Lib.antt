@@ -36,3 +36,4 @@ pub mod PlainPlaces
 pub mod HeadsWithin
 pub mod PlainGoesOn
 pub mod PlainSizes
+pub mod PlainOpens

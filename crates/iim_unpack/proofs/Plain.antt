@@ -24,11 +24,13 @@ use Rattle.iim_unpack.specs.Tickets.{phase_of, heads_of}
 use Rattle.iim_unpack.specs.Plain.{Numbers, number_list, mode_dataset, one_dataset, plain_numbers, filled, plain_end, plain, AreSpellable, begun_object, begun_heads, PlainOctetsLeadToTheirPlace}
 
 -- The datasets tell these fields, numbers, object octets and heads.
-record Tell (ds fields : List Dataset) (numbers : Numbers) (heads : ℕ) (object : List ℕ) : Type 0 where
-  kept_are : kept ds ≡ fields
-  numbers_are : stated_numbers (numbers_of (of_record 7 ds)) ≡ number_list numbers
-  object_is : object_of ds ≡ object
-  heads_are : length (of_record 8 ds) ≡ heads
+pub record Tell (ds fields : List Dataset) (numbers : Numbers) (heads : ℕ) (object : List ℕ) (ended : Bool) : Type 0 where
+  pub kept_are : kept ds ≡ fields
+  pub numbers_are : stated_numbers (numbers_of (of_record 7 ds)) ≡ number_list numbers
+  pub object_is : object_of ds ≡ object
+  pub heads_are : length (of_record 8 ds) ≡ heads
+  pub eights_are : of_record 8 ds ≡ subfile_datasets (filled (unwrap_or numbers.largest 0) heads object)
+  pub nines_are : of_record 9 ds ≡ plain_end ended object
 
 -- ---- which datasets are of which records
 
@@ -161,8 +163,8 @@ are_nines false object = tt
 -- ---- all of it
 
 -- The plain datasets tell what they are made of.
-plain_told : (fields : List Dataset) (numbers : Numbers) (heads : ℕ) (object : List ℕ) (ended : Bool) → AllByRecursion (λ (d : Dataset). is_kept d.rec ≡ true) fields → AllByRecursion IsNumber (number_list numbers)
-    → length object ≤ heads * unwrap_or numbers.largest 0 → Tell (plain fields numbers heads object ended) fields numbers heads object
+pub plain_told : (fields : List Dataset) (numbers : Numbers) (heads : ℕ) (object : List ℕ) (ended : Bool) → AllByRecursion (λ (d : Dataset). is_kept d.rec ≡ true) fields → AllByRecursion IsNumber (number_list numbers)
+    → length object ≤ heads * unwrap_or numbers.largest 0 → Tell (plain fields numbers heads object ended) fields numbers heads object ended
 plain_told fields numbers heads object ended each fit room =
     let parts = filled (unwrap_or numbers.largest 0) heads object in
     let sevens = plain_numbers numbers in
@@ -184,6 +186,10 @@ plain_told fields numbers heads object ended each fit room =
       numbers_are = ap (λ (xs : List Dataset). stated_numbers (numbers_of xs)) seven ∙ ap stated_numbers (are_told numbers fit) ∙ four_told numbers;
       object_is = ap joined eight ∙ filled_all (unwrap_or numbers.largest 0) heads object room;
       heads_are = ap length eight ∙ filled_count (unwrap_or numbers.largest 0) heads object;
+      eights_are = eight;
+      nines_are =
+          split (λ (d : Dataset). nat_eq d.rec 9) fields sevens eights nines
+          ∙ joins (none_in_fields 9 fields refl each) (none_of 9 7 sevens refl are7) (none_of 9 8 eights refl are8) (all_of 9 nines refl are9);
     }
   where
     split : (test : Dataset → Bool) (a b c d : List Dataset) → filter test (a ++ (b ++ (c ++ d))) ≡ filter test a ++ (filter test b ++ (filter test c ++ filter test d))
@@ -239,7 +245,7 @@ parts_spelled size (suc count) xs all few =
     let rest = length-drop size xs in
     (record { rec = omega arith; set = omega arith; octets = front_octets size xs all; few = omega (arith, few, first) }, parts_spelled size count (drop size xs) (back_octets size xs all) (omega (arith, few, rest)))
 
-plain_spelled : (fields : List Dataset) (numbers : Numbers) (heads : ℕ) (object : List ℕ) (ended : Bool) → AreSpellable fields numbers heads object → AllByRecursion HasSpellings (plain fields numbers heads object ended)
+pub plain_spelled : (fields : List Dataset) (numbers : Numbers) (heads : ℕ) (object : List ℕ) (ended : Bool) → AreSpellable fields numbers heads object → AllByRecursion HasSpellings (plain fields numbers heads object ended)
 plain_spelled fields numbers heads object ended are =
     all_both HasSpellings fields _ are.spelled
     (all_both HasSpellings _ _ (numbers_spelled numbers are.mode) (all_both HasSpellings _ _ (parts_spelled (unwrap_or numbers.largest 0) heads object are.octets are.few) (end_spelled ended object)))

@@ -333,7 +333,7 @@ go_on ds more sevens eights nines five like sections =
 
 -- ---- record 7
 
-low_number : (n : ℕ) → n ≤ greatest_size → number (number_dataset 7 20 n).octets ≡ n
+pub low_number : (n : ℕ) → n ≤ greatest_size → number (number_dataset 7 20 n).octets ≡ n
 low_number n h = let back = from_be_bytes-to_be_bytes_4 n (omega (arith, h)) in omega (arith, back)
 
 size_from : (least n : ℕ) → least ≤ n → n ≤ greatest_size → within least greatest_size (number (number_dataset 7 20 n).octets) ≡ true
@@ -371,7 +371,7 @@ good_number rec set n small other meets = record { numbered = small; octets = (o
 abbrev InRowAt : ℕ → Option ℕ → Type 0
 InRowAt set o = IfSome o (λ n. InRow (record { set = set; number = n }))
 
-in_row : (set : ℕ) (ps : List Stated) → AllByRecursion InRow ps → InRowAt set (number_at set ps)
+pub in_row : (set : ℕ) (ps : List Stated) → AllByRecursion InRow ps → InRowAt set (number_at set ps)
 in_row set [] all = tt
 in_row set (p ∷ ps) all = by (nat_eq p.set set) refl (in_row set ps all.1)
   where
@@ -510,7 +510,7 @@ in_both : (xs ys : List Stated) → AllByRecursion InRow xs → AllByRecursion I
 in_both [] ys a b = b
 in_both (x ∷ xs) ys a b = (a.0, in_both xs ys a.1 b)
 
-low_in_row : (set : ℕ) (o : Option ℕ) → InRowAt set o → IsNumber o
+pub low_in_row : (set : ℕ) (o : Option ℕ) → InRowAt set o → IsNumber o
 low_in_row set None h = tt
 low_in_row set (Some n) h = elim h [
   | inl row ↦ (let le = row.1 in omega (arith, le))

@@ -213,7 +213,7 @@ low_mode (p ∷ ps) all = by (nat_eq p.set 10) refl (low_mode ps all.1)
     ]
     by false is more = more
 
-mode_octet : (o : Option ℕ) → IfSome o (λ n. n ≤ 1) → IfSome o IsOctet
+pub mode_octet : (o : Option ℕ) → IfSome o (λ n. n ≤ 1) → IfSome o IsOctet
 mode_octet None h = tt
 mode_octet (Some n) h = omega (arith, h)
 
@@ -231,7 +231,7 @@ sum_most : (size : ℕ) (ls : List ℕ) → AllByRecursion (λ n. n ≤ size) ls
 sum_most size [] all = omega arith
 sum_most size (n ∷ ls) all = let more = sum_most size ls all.1 in let one = sum_by-cons (λ (k : ℕ). k) n ls in omega (arith, more, one, all.0)
 
-alive_front : (xs ys : List ObjectToken) → languages.IsAlive ObjectLanguage (xs ++ ys) → languages.IsAlive ObjectLanguage xs
+pub alive_front : (xs ys : List ObjectToken) → languages.IsAlive ObjectLanguage (xs ++ ys) → languages.IsAlive ObjectLanguage xs
 alive_front xs ys (rest, is) = (ys ++ rest, subst ObjectLanguage (append_assoc xs ys rest) is)
 
 room_some : SubfilesLiveWhileTheyFit → (ds : List Dataset) → IsStated (place_behind ds) → ObjectLives (place_behind ds) → 0 < length (lengths_of (of_record 8 ds))
@@ -250,7 +250,7 @@ room_some law ds is lives some =
     let most = sum_most size lengths fit.each in
     subst (λ (k : ℕ). sum lengths ≤ length lengths * k) (sym (ap (λ (o : Option ℕ). unwrap_or o 0) largest)) most
 
-room_for : SubfilesLiveWhileTheyFit → (ds : List Dataset) → IsStated (place_behind ds) → ObjectLives (place_behind ds)
+pub room_for : SubfilesLiveWhileTheyFit → (ds : List Dataset) → IsStated (place_behind ds) → ObjectLives (place_behind ds)
     → length (object_of ds) ≤ length (of_record 8 ds) * unwrap_or (number_at 20 (numbers_of (of_record 7 ds))) 0
 room_for law ds is lives = by (of_record 8 ds) (room_some law ds is lives)
   where
@@ -274,7 +274,7 @@ all_kept (d ∷ ds) = by (is_kept d.rec) refl (all_kept ds)
     by true is more = (is, more)
     by false is more = more
 
-each_spelled : (ds : List Dataset) (xs : List ℕ) → SpellsStream count_octets ds xs → AllByRecursion HasSpellings (kept ds)
+pub each_spelled : (ds : List Dataset) (xs : List ℕ) → SpellsStream count_octets ds xs → AllByRecursion HasSpellings (kept ds)
 each_spelled [] xs none = tt
 each_spelled (d ∷ ds) xs (first, rest, one, more, parts) = by (is_kept d.rec) (each_spelled ds rest more)
   where
@@ -286,7 +286,7 @@ pub join_octets : (xs ys : List ℕ) → Octets xs → Octets ys → Octets (xs 
 join_octets [] ys a b = b
 join_octets (x ∷ xs) ys a b = (a.0, join_octets xs ys a.1 b)
 
-object_octets : (ds : List Dataset) → AllByRecursion (λ (d : Dataset). Octets d.octets) ds → Octets (object_of ds)
+pub object_octets : (ds : List Dataset) → AllByRecursion (λ (d : Dataset). Octets d.octets) ds → Octets (object_of ds)
 object_octets [] all = tt
 object_octets (d ∷ ds) all = by (nat_eq d.rec 8) (object_octets ds all.1)
   where
@@ -325,8 +325,8 @@ pub record PlainLaws : Type 0 where
   pub answer : AnswerLaws
   pub fit : SubfilesLiveWhileTheyFit
 
-plain_of : PlainLaws → (place : Place) (l : Lived place) → IsPlain (place_of l.whole l.begun l.message)
-plain_of laws place l =
+unfoldable pub plain_by : PlainLaws → (place : Place) (l : Lived place) → IsPlain (place_of l.whole l.begun l.message)
+plain_by laws place l =
     let ds = l.whole in
     let goes = l.goes_on.sizes in
     let alive = alive_of widest ds l.begun goes in
@@ -399,4 +399,4 @@ plain_of laws place l =
 
 -- Each possible place is plain.
 pub possible_plain : PlainLaws → PossiblePlacesArePlain
-possible_plain laws place p = let l = lived laws.answer place p in subst IsPlain (sym l.is_place) (plain_of laws place l)
+possible_plain laws place p = let l = lived laws.answer place p in subst IsPlain (sym l.is_place) (plain_by laws place l)

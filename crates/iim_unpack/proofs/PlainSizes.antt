@@ -39,13 +39,13 @@ whole_like ps qs ls ks same total is =
     subst (λ (o : Option ℕ). IfSome o (λ a. sum ks ≡ a)) same.announced (subst (λ (n : ℕ). IfSome (number_at 90 ps) (λ a. n ≡ a)) total is)
 
 -- mode and largest subfile, where both are stated
-record Duties (ps : List Stated) : Type 0 where
-  known : Bool
-  size : ℕ
-  mode : number_at 10 ps ≡ Some (mode_number known)
-  largest : number_at 20 ps ≡ Some size
+pub record Duties (ps : List Stated) : Type 0 where
+  pub known : Bool
+  pub size : ℕ
+  pub mode : number_at 10 ps ≡ Some (mode_number known)
+  pub largest : number_at 20 ps ≡ Some size
 
-duties_of : (ps : List Stated) → AreStated ps → HasBoth ps → Duties ps
+pub duties_of : (ps : List Stated) → AreStated ps → HasBoth ps → Duties ps
 duties_of ps stated both =
     let (n, mode) = some_of (number_at 10 ps) both.0 in
     let (size, largest) = some_of (number_at 20 ps) both.1 in
@@ -53,7 +53,7 @@ duties_of ps stated both =
     let (known, same) = known_of n low in
     record { known = known; size = size; mode = mode ∙ ap Some same; largest = largest }
 
-abbrev Lives : List Stated → List ℕ → Ending → Type 0
+abbrev pub Lives : List Stated → List ℕ → Ending → Type 0
 Lives ps ls e = IsAlive ObjectLanguage (number_tokens ps ++ (map SubfileBegun ls ++ ending_tokens e))
 
 none_ended : (ps : List Stated) → IsAlive ObjectLanguage (number_tokens ps) ≡ Lives ps [] NotEnded

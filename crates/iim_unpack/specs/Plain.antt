@@ -21,7 +21,7 @@ use Rattle.wire_message.specs.Saved.{LeadToSaved}
 use Rattle.wire_message.specs.declared.saved.MessagePlace.{MessagePlace}
 use Rattle.iim_unpack.specs.Begins.{IsNumber}
 use Rattle.iim_unpack.specs.Parts.{section}
-use Rattle.iim_unpack.specs.Possible.{Possible}
+use Rattle.iim_unpack.specs.Possible.{Possible, AreOpenOrWhole, widest}
 use Rattle.iim_unpack.specs.Tickets.{Place, phase_of, IsPlaceOf}
 
 -- what a ticket tells of record 7: the numbers of 7:10, 7:20, 7:90 and 7:95
@@ -121,6 +121,14 @@ pub record IsPlain (place : Place) : Type 0 where
 -- Each possible place is led to by plain octets.
 abbrev pub PossiblePlacesArePlain : Type 0
 PossiblePlacesArePlain = (place : Place) → Possible place → IsPlain place
+
+-- its plain octets
+abbrev pub plain_octets : (place : Place) → IsPlain place → List ℕ
+plain_octets place p = canonical_stream (plain place.fields p.numbers p.heads p.object p.ended) ++ p.rest
+
+-- Each possible place is led to by plain octets that are open, or an envelope, under the widest limits.
+abbrev pub PlainOctetsAreOpenOrWhole : Type 0
+PlainOctetsAreOpenOrWhole = (place : Place) → Possible place → (p : IsPlain place) × AreOpenOrWhole widest (plain_octets place p)
 
 -- the plain datasets of datasets
 abbrev pub plain_of : List Dataset → List Dataset

@@ -3,7 +3,7 @@
 ghost use Rattle.iim_unpack.specs.Laws.{AdmittedOctetsAreFramed, AdmittedOctetsHaveOneValue, NoAdmittedOctetsBeginOthers, NoEnvelopeIsEmpty};
 ghost use Rattle.iim_unpack.specs.Intakes.{OpenOctetsAreBounded};
 ghost use Rattle.iim_unpack.specs.LowerLaws.{AnswerLaws, CloseLaws, FeedLaws, HeadLaws, MessageLaws, ObjectLaws};
-ghost use Rattle.iim_unpack.specs.Plain.{ObjectsArePossibleAlike, PlainDatasetsGoOnAlike, PlainOctetsLeadToTheirPlace, PossiblePlacesArePlain};
+ghost use Rattle.iim_unpack.specs.Plain.{ObjectsArePossibleAlike, PlainDatasetsGoOnAlike, PlainOctetsAreOpenOrWhole, PlainOctetsLeadToTheirPlace, PossiblePlacesArePlain};
 ghost use Rattle.iim_unpack.specs.Possible.{LimitsAreToldByPlace, TicketsOfPlacesAreSplit, TicketsTellOnePlace, UnpackersStandByPlace};
 ghost use Rattle.iim_unpack.specs.Streams.{EnvelopesAreBounded, NothingGoesOnFromRefusedOctets, RefusalsAreDetermined, RefusedOctetsWereOpen, StreamsHaveOneAnswer};
 ghost use Rattle.iim_unpack.specs.TicketParts.{TicketsHaveOneSplit};
@@ -236,6 +236,18 @@ pub fn possible_places_are_plain()
 {
     answer_laws();
     subfiles_live_while_they_fit();
+}
+
+/// Each possible place is led to by plain octets that are open, or an envelope, under the widest limits.
+pub fn plain_octets_are_open_or_whole()
+    ensures { PlainOctetsAreOpenOrWhole }
+{
+    answer_laws();
+    canonical_streams_are_spelled();
+    numbers_live_without_clash();
+    subfiles_live_while_they_fit();
+    objects_end_where_they_are_whole();
+    totals_are_confirmed();
 }
 
 /// Whether octets keep to limits is told by their place: by the heads of records 1 and 2 that it tells, a begun one among them.
