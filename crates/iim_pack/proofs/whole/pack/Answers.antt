@@ -7,14 +7,14 @@ use Rattle.iim_pack.proofs.whole.pack.Goals as goal
 
 pub returns-in-Err-clause-fault : goal.returns-in-Err-clause-fault
 returns-in-Err-clause-fault g c =
-    let may = may_pack c.lines_are_packed_as_their_events.ensures c.args.head.now c.args.lines.now.lines c.args.trailer.now c.args.plan (sym c.pack_cause.ensures ∙ c.in_default.is) in
+    let may = may_pack c.lines_are_packed_as_their_events.ensures c.args.head.now c.args.lines.now.lines c.args.trailer.now c.args.plan (sym {b = pack_cause c.args.head.now c.args.lines.now.lines c.args.trailer.now c.args.plan} c.pack_cause.ensures ∙ c.in_default.is) in
     if_none (pack_cause c.args.head.now c.args.lines.now.lines c.args.trailer.now c.args.plan) _
     (not_started g.W.Target.state c.args.writer c.args.envelope.now c.args.head.now c.args.lines.now.lines c.args.trailer.now c.args.plan c.in-Err.fault
     (of_none (start_cause c.args.head.now c.args.plan) _ (may_start c.args.head.now c.args.lines.now.lines c.args.trailer.now c.args.plan may) c.in-Err.ensures.fault))
 
 pub put_lines-requires-clause-fits : goal.put_lines-requires-clause-fits
 put_lines-requires-clause-fits g c =
-    let may = may_pack c.lines_are_packed_as_their_events.ensures c.args.head.now c.args.lines.now.lines c.args.trailer.now c.args.plan (sym c.pack_cause.ensures ∙ c.in_default.is) in
+    let may = may_pack c.lines_are_packed_as_their_events.ensures c.args.head.now c.args.lines.now.lines c.args.trailer.now c.args.plan (sym {b = pack_cause c.args.head.now c.args.lines.now.lines c.args.trailer.now c.args.plan} c.pack_cause.ensures ∙ c.in_default.is) in
     lines_fit g.W.Target.state c.args.writer c.args.envelope.now c.args.head.now c.args.lines.now.lines c.args.trailer.now c.args.plan c.in-Ok.packer may c.in-Ok.ensures.ok
 
 pub returns-in-Err-put_lines-clause-fault : goal.returns-in-Err-put_lines-clause-fault
@@ -33,7 +33,7 @@ pub returns-in-Err-finish-clause-fault : goal.returns-in-Err-finish-clause-fault
 returns-in-Err-finish-clause-fault g c =
     let lines : List (List ℕ) = c.args.lines.now.lines in
     let again = lines_again c.packed_lines_are_a_text.ensures c.texts_are_delivered_as_lines.ensures c.texts_are_collected_as_lines.ensures lines c.put_lines.ensures.made in
-    let may = may_pack c.lines_are_packed_as_their_events.ensures c.args.head.now lines c.args.trailer.now c.args.plan (sym c.pack_cause.ensures ∙ c.in_default.is) in
+    let may = may_pack c.lines_are_packed_as_their_events.ensures c.args.head.now lines c.args.trailer.now c.args.plan (sym {b = pack_cause c.args.head.now lines c.args.trailer.now c.args.plan} c.pack_cause.ensures ∙ c.in_default.is) in
     let none = may_finish g.W.Target.state c.args.writer c.args.envelope.now c.args.head.now lines c.args.trailer.now c.args.plan c.in-Ok.packer c.put_lines.new.packer may c.in-Ok.ensures.ok c.in-Ok-put_lines.ensures.ok in
     let broke = of_none (finish_cause c.put_lines.new.packer c.args.trailer.now) _ none c.in-Err-finish.ensures.broke in
     let cause = of_none (finish_cause c.put_lines.new.packer c.args.trailer.now) _ none c.in-Err-finish.ensures.cause in
