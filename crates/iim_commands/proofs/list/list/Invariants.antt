@@ -7,7 +7,7 @@ abbrev pub invariant-listing : goal.invariant-listing
 invariant-listing g l = record {
   alive : l.intake.failed ≡ None;
   reported : AreReported g.P.Report.written (line g.R.Source.state l.fn.intake) (line g.R.Source.state l.intake) (g.W.Target.state l.fn.output) (g.W.Target.state l.output) l.count;
-  leads : g.R.Source.leads l.fn.intake.reader l.intake.reader;
+  leads : (last : _) → g.R.Source.leads l.intake.reader last → g.R.Source.leads l.fn.intake.reader last;
 }
 
 abbrev pub decreases-listing : goal.decreases-listing

@@ -150,10 +150,6 @@ returns-in_err-say-in-Envelope-2-clause-err g c =
     (broke_in_line joins texts source mid rest old (state a.writer) (state b.writer) (state d.writer) errors_old errors_now errors_new c.telling.count c.as_slice.result.now e fault r
     h.come.is h.come.came.given below h.out c.in_ok-end_text-in-Envelope.ensures.ok words c.in_err-say-in-Envelope-2.ensures.err)
 
-pub returns-in_err-say-in-Envelope-2-clause-leads : goal.returns-in_err-say-in-Envelope-2-clause-leads
-returns-in_err-say-in-Envelope-2-clause-leads g c =
-    g.met.R.Source.goes_on c.args.intake.now.reader c.telling.intake.reader c.take_next.new.intake.reader c.telling.invariant.leads c.take_next.ensures.leads
-
 pub returns-in-End-clause-ok : goal.returns-in-End-clause-ok
 returns-in-End-clause-ok g c =
     let source = line g.R.Source.state c.args.intake.now in
@@ -268,41 +264,5 @@ telling-preserved g c =
       narrated =
           narrated_more joins texts source mid rest old (state a.writer) (state b.writer) (state d.writer) errors_old errors_now errors_new c.telling.count c.as_slice.result.now e r
           h.come.is h.come.came.given below h.out c.in_ok-end_text-in-Envelope.ensures.ok words c.in_ok-say-in-Envelope-2.ensures.ok;
-      leads = g.met.R.Source.goes_on c.args.intake.now.reader c.telling.intake.reader c.take_next.new.intake.reader c.telling.invariant.leads c.take_next.ensures.leads;
+      leads = λ last h. c.telling.invariant.leads last (g.met.R.Source.goes_on c.telling.intake.reader c.take_next.new.intake.reader last c.take_next.ensures.leads h);
     }
-
-pub returns-in_err-got-clause-leads : goal.returns-in_err-got-clause-leads
-returns-in_err-got-clause-leads g c =
-    g.met.R.Source.goes_on c.args.intake.now.reader c.telling.intake.reader c.take_next.new.intake.reader c.telling.invariant.leads c.take_next.ensures.leads
-
-pub returns-in_err-say-in-Envelope-clause-leads : goal.returns-in_err-say-in-Envelope-clause-leads
-returns-in_err-say-in-Envelope-clause-leads g c =
-    g.met.R.Source.goes_on c.args.intake.now.reader c.telling.intake.reader c.take_next.new.intake.reader c.telling.invariant.leads c.take_next.ensures.leads
-
-pub returns-then-count-eq-MAX_ENVELOPES-clause-leads : goal.returns-then-count-eq-MAX_ENVELOPES-clause-leads
-returns-then-count-eq-MAX_ENVELOPES-clause-leads g c =
-    g.met.R.Source.goes_on c.args.intake.now.reader c.telling.intake.reader c.take_next.new.intake.reader c.telling.invariant.leads c.take_next.ensures.leads
-
-pub returns-in_err-push_accepted-in-Envelope-clause-leads : goal.returns-in_err-push_accepted-in-Envelope-clause-leads
-returns-in_err-push_accepted-in-Envelope-clause-leads g c =
-    g.met.R.Source.goes_on c.args.intake.now.reader c.telling.intake.reader c.take_next.new.intake.reader c.telling.invariant.leads c.take_next.ensures.leads
-
-pub returns-in_err-end_text-in-Envelope-clause-leads : goal.returns-in_err-end_text-in-Envelope-clause-leads
-returns-in_err-end_text-in-Envelope-clause-leads g c =
-    g.met.R.Source.goes_on c.args.intake.now.reader c.telling.intake.reader c.take_next.new.intake.reader c.telling.invariant.leads c.take_next.ensures.leads
-
-pub returns-in-End-clause-leads : goal.returns-in-End-clause-leads
-returns-in-End-clause-leads g c =
-    g.met.R.Source.goes_on c.args.intake.now.reader c.telling.intake.reader c.take_next.new.intake.reader c.telling.invariant.leads c.take_next.ensures.leads
-
-pub returns-in_err-push_refused-in-Refused-clause-leads : goal.returns-in_err-push_refused-in-Refused-clause-leads
-returns-in_err-push_refused-in-Refused-clause-leads g c =
-    g.met.R.Source.goes_on c.args.intake.now.reader c.telling.intake.reader c.take_next.new.intake.reader c.telling.invariant.leads c.take_next.ensures.leads
-
-pub returns-in_err-say-in-Refused-clause-leads : goal.returns-in_err-say-in-Refused-clause-leads
-returns-in_err-say-in-Refused-clause-leads g c =
-    g.met.R.Source.goes_on c.args.intake.now.reader c.telling.intake.reader c.take_next.new.intake.reader c.telling.invariant.leads c.take_next.ensures.leads
-
-pub returns-in-Refused-clause-leads : goal.returns-in-Refused-clause-leads
-returns-in-Refused-clause-leads g c =
-    g.met.R.Source.goes_on c.args.intake.now.reader c.telling.intake.reader c.take_next.new.intake.reader c.telling.invariant.leads c.take_next.ensures.leads

@@ -9,7 +9,7 @@ invariant-telling g l = record {
   alive : l.intake.failed ≡ None;
   unbroken : stops_of l.output ≡ 0;
   narrated : AreNarrated (line g.R.Source.state l.fn.intake) (line g.R.Source.state l.intake) (device_of g.W.Target.state l.fn.output) (device_of g.W.Target.state l.output) (g.E.Target.state l.fn.errors) (g.E.Target.state l.errors) l.count;
-  leads : g.R.Source.leads l.fn.intake.reader l.intake.reader;
+  leads : (last : _) → g.R.Source.leads l.intake.reader last → g.R.Source.leads l.fn.intake.reader last;
 }
 
 abbrev pub decreases-telling : goal.decreases-telling
