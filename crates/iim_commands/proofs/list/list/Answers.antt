@@ -179,3 +179,30 @@ returns-in-Refused-clause-ok g c =
     let more = ends_refused discards mid rest sink sink c.in-Refused.refusal h in
     reported c.gifts_join.ensures c.texts_join.ensures text source mid rest old now new c.listing.count 1 h.octets more.0 c.as_slice-in-Refused.result.now (RefusedBy c.in-Refused.refusal) r
     h.came.given more.1 (h.k, more.2) refl words c.in_ok-say-in-Refused.ensures.ok
+
+pub returns-in_err-got-clause-leads : goal.returns-in_err-got-clause-leads
+returns-in_err-got-clause-leads g c = c.listing.invariant.leads c.take_next.new.intake.reader c.take_next.ensures.leads
+
+pub returns-in_err-say-in-Envelope-clause-leads : goal.returns-in_err-say-in-Envelope-clause-leads
+returns-in_err-say-in-Envelope-clause-leads g c = c.listing.invariant.leads c.take_next.new.intake.reader c.take_next.ensures.leads
+
+pub returns-then-count-eq-MAX_ENVELOPES-clause-leads : goal.returns-then-count-eq-MAX_ENVELOPES-clause-leads
+returns-then-count-eq-MAX_ENVELOPES-clause-leads g c = c.listing.invariant.leads c.take_next.new.intake.reader c.take_next.ensures.leads
+
+pub returns-in_err-push_text-in-Envelope-clause-leads : goal.returns-in_err-push_text-in-Envelope-clause-leads
+returns-in_err-push_text-in-Envelope-clause-leads g c = c.listing.invariant.leads c.take_next.new.intake.reader c.take_next.ensures.leads
+
+pub returns-in_err-say-in-Envelope-2-clause-leads : goal.returns-in_err-say-in-Envelope-2-clause-leads
+returns-in_err-say-in-Envelope-2-clause-leads g c = c.listing.invariant.leads c.take_next.new.intake.reader c.take_next.ensures.leads
+
+pub returns-in-End-clause-leads : goal.returns-in-End-clause-leads
+returns-in-End-clause-leads g c = c.listing.invariant.leads c.take_next.new.intake.reader c.take_next.ensures.leads
+
+pub returns-in_err-push_refused-in-Refused-clause-leads : goal.returns-in_err-push_refused-in-Refused-clause-leads
+returns-in_err-push_refused-in-Refused-clause-leads g c = c.listing.invariant.leads c.take_next.new.intake.reader c.take_next.ensures.leads
+
+pub returns-in_err-say-in-Refused-clause-leads : goal.returns-in_err-say-in-Refused-clause-leads
+returns-in_err-say-in-Refused-clause-leads g c = c.listing.invariant.leads c.take_next.new.intake.reader c.take_next.ensures.leads
+
+pub returns-in-Refused-clause-leads : goal.returns-in-Refused-clause-leads
+returns-in-Refused-clause-leads g c = c.listing.invariant.leads c.take_next.new.intake.reader c.take_next.ensures.leads

@@ -266,3 +266,33 @@ telling-preserved g c =
           h.come.is h.come.came.given below h.out c.in_ok-end_text-in-Envelope.ensures.ok words c.in_ok-say-in-Envelope-2.ensures.ok;
       leads = λ last h. c.telling.invariant.leads last (g.met.R.Source.goes_on c.telling.intake.reader c.take_next.new.intake.reader last c.take_next.ensures.leads h);
     }
+
+pub returns-in_err-say-in-Envelope-2-clause-leads : goal.returns-in_err-say-in-Envelope-2-clause-leads
+returns-in_err-say-in-Envelope-2-clause-leads g c = c.telling.invariant.leads c.take_next.new.intake.reader c.take_next.ensures.leads
+
+pub returns-in_err-got-clause-leads : goal.returns-in_err-got-clause-leads
+returns-in_err-got-clause-leads g c = c.telling.invariant.leads c.take_next.new.intake.reader c.take_next.ensures.leads
+
+pub returns-in_err-say-in-Envelope-clause-leads : goal.returns-in_err-say-in-Envelope-clause-leads
+returns-in_err-say-in-Envelope-clause-leads g c = c.telling.invariant.leads c.take_next.new.intake.reader c.take_next.ensures.leads
+
+pub returns-then-count-eq-MAX_ENVELOPES-clause-leads : goal.returns-then-count-eq-MAX_ENVELOPES-clause-leads
+returns-then-count-eq-MAX_ENVELOPES-clause-leads g c = c.telling.invariant.leads c.take_next.new.intake.reader c.take_next.ensures.leads
+
+pub returns-in_err-push_accepted-in-Envelope-clause-leads : goal.returns-in_err-push_accepted-in-Envelope-clause-leads
+returns-in_err-push_accepted-in-Envelope-clause-leads g c = c.telling.invariant.leads c.take_next.new.intake.reader c.take_next.ensures.leads
+
+pub returns-in_err-end_text-in-Envelope-clause-leads : goal.returns-in_err-end_text-in-Envelope-clause-leads
+returns-in_err-end_text-in-Envelope-clause-leads g c = c.telling.invariant.leads c.take_next.new.intake.reader c.take_next.ensures.leads
+
+pub returns-in-End-clause-leads : goal.returns-in-End-clause-leads
+returns-in-End-clause-leads g c = c.telling.invariant.leads c.take_next.new.intake.reader c.take_next.ensures.leads
+
+pub returns-in_err-push_refused-in-Refused-clause-leads : goal.returns-in_err-push_refused-in-Refused-clause-leads
+returns-in_err-push_refused-in-Refused-clause-leads g c = c.telling.invariant.leads c.take_next.new.intake.reader c.take_next.ensures.leads
+
+pub returns-in_err-say-in-Refused-clause-leads : goal.returns-in_err-say-in-Refused-clause-leads
+returns-in_err-say-in-Refused-clause-leads g c = c.telling.invariant.leads c.take_next.new.intake.reader c.take_next.ensures.leads
+
+pub returns-in-Refused-clause-leads : goal.returns-in-Refused-clause-leads
+returns-in-Refused-clause-leads g c = c.telling.invariant.leads c.take_next.new.intake.reader c.take_next.ensures.leads
