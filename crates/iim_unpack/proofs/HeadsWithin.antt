@@ -25,7 +25,7 @@ none_begun section false held = refl
 
 -- ---- from the limits to the place
 
-told_by : (limits : Limits) (ds : List Dataset) (b : Begun) (m : MessagePlace) → MayGoOn limits ds b → AreHeadsWithin limits (place_of ds b m)
+pub told_by : (limits : Limits) (ds : List Dataset) (b : Begun) (m : MessagePlace) → MayGoOn limits ds b → AreHeadsWithin limits (place_of ds b m)
 told_by limits ds (InTag held) m goes =
     let count = none_counted (present_record ds) (nat_eq (present_record ds) 9) held in
     let begun = none_begun (present_record ds) (nat_eq (present_record ds) 9) held in

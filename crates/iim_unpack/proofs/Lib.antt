@@ -37,3 +37,7 @@ pub mod HeadsWithin
 pub mod PlainGoesOn
 pub mod PlainSizes
 pub mod PlainOpens
+pub mod Alike
+pub mod LeadsByLayers
+pub mod MessageOctets
+pub mod LayersLead

@@ -29,6 +29,7 @@ pub record Tell (ds fields : List Dataset) (numbers : Numbers) (heads : ℕ) (ob
   pub numbers_are : stated_numbers (numbers_of (of_record 7 ds)) ≡ number_list numbers
   pub object_is : object_of ds ≡ object
   pub heads_are : length (of_record 8 ds) ≡ heads
+  pub sevens_are : of_record 7 ds ≡ plain_numbers numbers
   pub eights_are : of_record 8 ds ≡ subfile_datasets (filled (unwrap_or numbers.largest 0) heads object)
   pub nines_are : of_record 9 ds ≡ plain_end ended object
 
@@ -186,6 +187,7 @@ plain_told fields numbers heads object ended each fit room =
       numbers_are = ap (λ (xs : List Dataset). stated_numbers (numbers_of xs)) seven ∙ ap stated_numbers (are_told numbers fit) ∙ four_told numbers;
       object_is = ap joined eight ∙ filled_all (unwrap_or numbers.largest 0) heads object room;
       heads_are = ap length eight ∙ filled_count (unwrap_or numbers.largest 0) heads object;
+      sevens_are = seven;
       eights_are = eight;
       nines_are =
           split (λ (d : Dataset). nat_eq d.rec 9) fields sevens eights nines

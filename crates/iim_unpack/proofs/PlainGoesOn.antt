@@ -142,12 +142,12 @@ ordered_sorted r [] is five = refl
 ordered_sorted r (d ∷ ds) is five = sorted_step d ds is.1 (ordered_sorted d.rec ds is.1 five.1) five.0
 
 -- every record of the datasets is good
-record AreAllGood (ds : List Dataset) : Type 0 where
-  one : IsGoodRecord 1 (of_record 1 ds)
-  two : IsGoodRecord 2 (of_record 2 ds)
-  seven : IsGoodRecord 7 (of_record 7 ds)
-  eight : IsGoodRecord 8 (of_record 8 ds)
-  nine : IsGoodRecord 9 (of_record 9 ds)
+pub record AreAllGood (ds : List Dataset) : Type 0 where
+  pub one : IsGoodRecord 1 (of_record 1 ds)
+  pub two : IsGoodRecord 2 (of_record 2 ds)
+  pub seven : IsGoodRecord 7 (of_record 7 ds)
+  pub eight : IsGoodRecord 8 (of_record 8 ds)
+  pub nine : IsGoodRecord 9 (of_record 9 ds)
 
 rebuilt : (ds : List Dataset) → IsSorted ds → AreAllGood ds → AreSections ds
 rebuilt ds sorted good = (
@@ -174,7 +174,7 @@ are_of : (r : ℕ) (ds : List Dataset) → AreGood r ds → AreOf r ds
 are_of r [] all = tt
 are_of r (d ∷ ds) all = (all.0.0, are_of r ds all.1)
 
-all_good : (ds : List Dataset) → AreSections ds → AreAllGood ds
+pub all_good : (ds : List Dataset) → AreSections ds → AreAllGood ds
 all_good ds (r1, from2, one, good1, (r2, from7, two, good2, (r7, from8, seven, good7, (r8, from9, eight, good8, (r9, none, nine, good9, end))))) =
     let a1 = are_of 1 r1 good1.each in
     let a2 = are_of 2 r2 good2.each in
@@ -223,7 +223,7 @@ kept_ordered r (d ∷ ds) is = by (is_kept d.rec) (kept_ordered d.rec ds is.1)
     by true more = (is.0, more)
     by false more = lower_ordered r d.rec (kept ds) is.0 more
 
-two_at_most : (r : ℕ) → is_kept r ≡ true → r ≤ 2
+pub two_at_most : (r : ℕ) → is_kept r ≡ true → r ≤ 2
 two_at_most r is = by (nat_eq r 1) (nat_eq r 2) refl refl is
   where
     by : (b c : Bool) → nat_eq r 1 ≡ b → nat_eq r 2 ≡ c → (b || c) ≡ true → r ≤ 2
@@ -231,7 +231,7 @@ two_at_most r is = by (nat_eq r 1) (nat_eq r 2) refl refl is
     by false true one two yes' = let e = eqb-true r 2 two in omega (arith, e)
     by false false one two bad = absurd (let no' : false ≡ true = bad in cc)
 
-fields_low : (r : ℕ) (ds : List Dataset) → r ≤ 2 → AllByRecursion (λ (d : Dataset). is_kept d.rec ≡ true) ds → last_record r ds ≤ 2
+pub fields_low : (r : ℕ) (ds : List Dataset) → r ≤ 2 → AllByRecursion (λ (d : Dataset). is_kept d.rec ≡ true) ds → last_record r ds ≤ 2
 fields_low r [] le all = le
 fields_low r (d ∷ ds) le all = fields_low d.rec ds (two_at_most d.rec all.0) all.1
 
@@ -456,7 +456,7 @@ sevens_once n numbers =
     ]
 
 -- records 8 and 9, whose one number is 10
-abbrev AreTens : List Dataset → Type 0
+abbrev pub AreTens : List Dataset → Type 0
 AreTens ds = AllByRecursion (λ d. d.set ≡ 10) ds
 
 tens_same : (n : ℕ) (xs ys : List Dataset) → AreTens xs → AreTens ys → length xs ≡ length ys → (occurs n xs ≡ occurs n ys) × (occurrences n xs ≡ occurrences n ys)
@@ -472,22 +472,22 @@ tens_same n (x ∷ xs) (y ∷ ys) a b e =
     let rest = more.1 in
     ((λ i. nat_eq (set i) n || more.0 i), omega (arith, first, left, right, rest))
 
-replace_tens : (r : ℕ) (xs ys : List Dataset) → AreTens xs → AreTens ys → length xs ≡ length ys → AreGood r ys → MayReplace r xs ys
+pub replace_tens : (r : ℕ) (xs ys : List Dataset) → AreTens xs → AreTens ys → length xs ≡ length ys → AreGood r ys → MayReplace r xs ys
 replace_tens r xs ys a b e good = record {
   each = good;
   seen = λ n. (tens_same n xs ys a b e).0;
   fewer = λ n no'. let same = (tens_same n xs ys a b e).1 in omega (arith, same);
 }
 
-part_tens : (parts : List (List ℕ)) → AreTens (subfile_datasets parts)
+pub part_tens : (parts : List (List ℕ)) → AreTens (subfile_datasets parts)
 part_tens [] = tt
 part_tens (p ∷ parts) = (refl, part_tens parts)
 
-end_tens : (ended : Bool) (object : List ℕ) → AreTens (plain_end ended object)
+pub end_tens : (ended : Bool) (object : List ℕ) → AreTens (plain_end ended object)
 end_tens true object = (refl, tt)
 end_tens false object = tt
 
-good_parts : (size count : ℕ) (xs : List ℕ) → Octets xs → length xs ≤ greatest_size → AreGood 8 (subfile_datasets (filled size count xs))
+pub good_parts : (size count : ℕ) (xs : List ℕ) → Octets xs → length xs ≤ greatest_size → AreGood 8 (subfile_datasets (filled size count xs))
 good_parts size zero xs all few = tt
 good_parts size (suc count) xs all few =
     let first = length-take size xs in
@@ -496,7 +496,7 @@ good_parts size (suc count) xs all few =
       good_parts size count (drop size xs) (back_octets size xs all) (omega (arith, few, rest)),
     )
 
-good_end : (ended : Bool) (object : List ℕ) → length object ≤ greatest_size → AreGood 9 (plain_end ended object)
+pub good_end : (ended : Bool) (object : List ℕ) → length object ≤ greatest_size → AreGood 9 (plain_end ended object)
 good_end true object few = ((refl, good_number 9 10 (length object) (omega arith) refl (confirmed_meets (length object) few)), tt)
 good_end false object few = tt
 

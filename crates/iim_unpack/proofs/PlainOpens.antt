@@ -73,24 +73,24 @@ record Told (ds es : List Dataset) : Type 0 where
   present : present_record ds ≡ present_record es
   records : (more : List Dataset) → AreSections (ds ++ more) → AreSections (es ++ more)
 
-part_small : (size count : ℕ) (xs : List ℕ) → AllByRecursion (λ n. n ≤ size) (lengths_of (subfile_datasets (filled size count xs)))
+pub part_small : (size count : ℕ) (xs : List ℕ) → AllByRecursion (λ n. n ≤ size) (lengths_of (subfile_datasets (filled size count xs)))
 part_small size zero xs = tt
 part_small size (suc count) xs = (let first = length-take size xs in omega (arith, first), part_small size count (drop size xs))
 
-confirmed_by : SizeLaws → (ps : List Stated) (ls : List ℕ) (n : ℕ) → AreStated ps → (0 < length ls → HasBoth ps) → (ls ≡ [] → ConfirmedAs n ≡ NotEnded) → Lives ps ls (ConfirmedAs n) → n ≡ sum ls
+pub confirmed_by : SizeLaws → (ps : List Stated) (ls : List ℕ) (n : ℕ) → AreStated ps → (0 < length ls → HasBoth ps) → (ls ≡ [] → ConfirmedAs n ≡ NotEnded) → Lives ps ls (ConfirmedAs n) → n ≡ sum ls
 confirmed_by laws ps [] n are both none lives = absurd (let bad : ConfirmedAs n ≡ NotEnded = none refl in cc)
 confirmed_by laws ps (l ∷ ls) n are both none lives =
     let d = duties_of ps are (both (omega arith)) in
     ((laws.confirmed d.known d.size ps (l ∷ ls) n (record { stated = are; mode = d.mode; largest = d.largest }) (omega arith)).0 lives).2
 
-ending_like : SizeLaws → (ps : List Stated) (ls : List ℕ) (rs : List Dataset) (ended : Bool) (object : List ℕ) → AreStated ps → (0 < length ls → HasBoth ps) → (ls ≡ [] → ending_of rs ≡ NotEnded) → Lives ps ls (ending_of rs)
+pub ending_like : SizeLaws → (ps : List Stated) (ls : List ℕ) (rs : List Dataset) (ended : Bool) (object : List ℕ) → AreStated ps → (0 < length ls → HasBoth ps) → (ls ≡ [] → ending_of rs ≡ NotEnded) → Lives ps ls (ending_of rs)
     → length rs ≡ cond ended 1 0 → sum ls ≡ length object → length object ≤ greatest_size → ending_of rs ≡ ending_of (plain_end ended object)
 ending_like laws ps ls [] true object are both none lives many total fits = absurd (omega (arith, many))
 ending_like laws ps ls [] false object are both none lives many total fits = refl
 ending_like laws ps ls (r ∷ rs) false object are both none lives many total fits = absurd (omega (arith, many))
 ending_like laws ps ls (r ∷ rs) true object are both none lives many total fits = ap ConfirmedAs (confirmed_by laws ps ls (number r.octets) are both none lives ∙ total ∙ sym (low_number (length object) fits))
 
-fit_in_rows : (ps : List Stated) → AllByRecursion InRow ps → AllByRecursion IsNumber (number_list (numbers_in ps))
+pub fit_in_rows : (ps : List Stated) → AllByRecursion InRow ps → AllByRecursion IsNumber (number_list (numbers_in ps))
 fit_in_rows ps all = (
   low_in_row 10 (number_at 10 ps) (in_row 10 ps all),
   (
@@ -133,7 +133,7 @@ last_small : (size : ℕ) (ls : List ℕ) (c : ℕ) → AllByRecursion (λ n. n 
 last_small size [] c all = all.0
 last_small size (l ∷ ls) c all = last_small size ls c all.1
 
-begun_small : SizeLaws → (ps : List Stated) (ls : List ℕ) (c size : ℕ) (e : Ending) → AreStated ps → HasBoth ps → number_at 20 ps ≡ Some size → Lives ps (ls ++ c ∷ []) e → c ≤ size
+pub begun_small : SizeLaws → (ps : List Stated) (ls : List ℕ) (c size : ℕ) (e : Ending) → AreStated ps → HasBoth ps → number_at 20 ps ≡ Some size → Lives ps (ls ++ c ∷ []) e → c ≤ size
 begun_small laws ps ls c size e are both largest lives =
     let d = duties_of ps are both in
     let ks = ls ++ c ∷ [] in
@@ -142,11 +142,11 @@ begun_small laws ps ls c size e are both largest lives =
     alive_front (number_tokens ps ++ map SubfileBegun ks) (ending_tokens e) (subst (languages.IsAlive ObjectLanguage) (sym (append_assoc (number_tokens ps) (map SubfileBegun ks) (ending_tokens e))) lives) in
     last_small size ls c ((laws.fit d.known size ps ks (record { stated = are; mode = d.mode; largest = largest }) (omega (arith, some))).0 alive).each
 
-join_small : (size : ℕ) (xs ys : List ℕ) → AllByRecursion (λ n. n ≤ size) xs → AllByRecursion (λ n. n ≤ size) ys → AllByRecursion (λ n. n ≤ size) (xs ++ ys)
+pub join_small : (size : ℕ) (xs ys : List ℕ) → AllByRecursion (λ n. n ≤ size) xs → AllByRecursion (λ n. n ≤ size) ys → AllByRecursion (λ n. n ≤ size) (xs ++ ys)
 join_small size [] ys a b = b
 join_small size (x ∷ xs) ys a b = (a.0, join_small size xs ys a.1 b)
 
-possible_of : (p : objects.Place) → IsStated p → length p.lengths ≤ max_subfiles → ObjectLives p → IsPossible p
+pub possible_of : (p : objects.Place) → IsStated p → length p.lengths ≤ max_subfiles → ObjectLives p → IsPossible p
 possible_of p is few lives = record { stated = is.stated; subfiles = is.subfiles; duties = is.duties; few = few; alive = lives }
 
 behind_on : SizeLaws → (ds es : List Dataset) → Told ds es → IsStated (place_behind ds) → IsStated (place_behind es) → length (of_record 8 ds) ≤ max_subfiles → ObjectLives (place_behind ds) → ObjectLives (place_behind es)

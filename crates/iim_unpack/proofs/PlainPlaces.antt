@@ -38,7 +38,7 @@ use Rattle.iim_unpack.proofs.Tickets.{total_of, count_of}
 -- ---- the present record
 
 -- the record r where there are some, and else this one
-abbrev pick : {A : Type 0} → List A → ℕ → ℕ → ℕ
+abbrev pub pick : {A : Type 0} → List A → ℕ → ℕ → ℕ
 pick [] r other = other
 pick (x ∷ xs) r other = r
 
@@ -46,7 +46,7 @@ pick_same : {A : Type 0} (xs : List A) (r : ℕ) → pick xs r r ≡ r
 pick_same [] r = refl
 pick_same (x ∷ xs) r = refl
 
-pick_by : {A B : Type 0} (xs : List A) (ys : List B) (r : ℕ) {m n : ℕ} → length xs ≡ length ys → m ≡ n → pick xs r m ≡ pick ys r n
+pub pick_by : {A B : Type 0} (xs : List A) (ys : List B) (r : ℕ) {m n : ℕ} → length xs ≡ length ys → m ≡ n → pick xs r m ≡ pick ys r n
 pick_by [] [] r same e = e
 pick_by [] (y ∷ ys) r same e = absurd (omega (arith, same))
 pick_by (x ∷ xs) [] r same e = absurd (omega (arith, same))
@@ -146,7 +146,7 @@ picks r (d ∷ ds) is five = picks_more r d ds is.1 (picks d.rec ds is.1 five.1)
 picks_alive : (ds : List Dataset) → IsAlive ds → Picks 0 ds
 picks_alive ds alive = picks 0 ds (front_ordered 0 ds alive.0 (sections_ordered (ds ++ alive.0) alive.1)) (alive_five ds alive)
 
-picks_plain : (fields : List Dataset) (numbers : Numbers) (heads : ℕ) (object : List ℕ) (ended : Bool)
+pub picks_plain : (fields : List Dataset) (numbers : Numbers) (heads : ℕ) (object : List ℕ) (ended : Bool)
     → present_record (plain fields numbers heads object ended)
     ≡ pick (plain_end ended object) 9 (pick (subfile_datasets (filled (unwrap_or numbers.largest 0) heads object)) 8 (pick (plain_numbers numbers) 7 (last_record 0 fields)))
 picks_plain fields numbers heads object ended =
@@ -194,7 +194,7 @@ none_stated (p ∷ ps) all none =
       | inr (inr (inr is, low)) ↦ (let some = one_length (number_dataset 7 95) _ p.number (at_first 95 p ps is refl) in omega (arith, many, none, some))
     ])
 
-pick_like : {A B : Type 0} (xs : List A) (ys : List B) (r : ℕ) {m n : ℕ} → (length xs ≡ 0 → length ys ≡ 0) → (length ys ≡ 0 → length xs ≡ 0) → m ≡ n → pick xs r m ≡ pick ys r n
+pub pick_like : {A B : Type 0} (xs : List A) (ys : List B) (r : ℕ) {m n : ℕ} → (length xs ≡ 0 → length ys ≡ 0) → (length ys ≡ 0 → length xs ≡ 0) → m ≡ n → pick xs r m ≡ pick ys r n
 pick_like [] [] r f g e = e
 pick_like [] (y ∷ ys) r f g e = absurd (let bad = f refl in omega (arith, bad))
 pick_like (x ∷ xs) [] r f g e = absurd (let bad = g refl in omega (arith, bad))
@@ -227,7 +227,7 @@ pub known_of : (n : ℕ) → n ≤ 1 → (b : Bool) × (n ≡ mode_number b)
 known_of zero h = (false, refl)
 known_of (suc n) h = (true, omega (arith, h))
 
-sum_most : (size : ℕ) (ls : List ℕ) → AllByRecursion (λ n. n ≤ size) ls → sum ls ≤ length ls * size
+pub sum_most : (size : ℕ) (ls : List ℕ) → AllByRecursion (λ n. n ≤ size) ls → sum ls ≤ length ls * size
 sum_most size [] all = omega arith
 sum_most size (n ∷ ls) all = let more = sum_most size ls all.1 in let one = sum_by-cons (λ (k : ℕ). k) n ls in omega (arith, more, one, all.0)
 

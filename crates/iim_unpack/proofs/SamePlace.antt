@@ -387,11 +387,11 @@ told_by parts ds es (InData h t) (InData k v) e same at =
     some-same e = cc
 
 -- what octets read is open
-record Opened (limits : Limits) (ds : List Dataset) (c : Begun) : Type 0 where
-  goes : AllGoOn limits ds c
-  ended : nat_eq (present_record ds) 9 ≡ false
+pub record Opened (limits : Limits) (ds : List Dataset) (c : Begun) : Type 0 where
+  pub goes : AllGoOn limits ds c
+  pub ended : nat_eq (present_record ds) 9 ≡ false
 
-opened : PlaceLaws → (limits : Limits) (p : List ℕ) (ds : List Dataset) (c : Begun) → Reads p ds c → IsOpen limits p → Opened limits ds c
+pub opened : PlaceLaws → (limits : Limits) (p : List ℕ) (ds : List Dataset) (c : Begun) → Reads p ds c → IsOpen limits p → Opened limits ds c
 opened laws limits p ds c r is =
     let same = laws.answer.way p (handed_on is.whole is.begun) (handed_on ds c) is.begun c (record { whole = is.whole; reads = is.reads; handed = refl }) (record { whole = ds; reads = r; handed = refl }) in
     let told = (laws.answer.tell is.whole ds is.begun c same.0).0 in

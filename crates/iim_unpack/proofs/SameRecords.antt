@@ -19,6 +19,7 @@ use Rattle.iim_object.specs.Objects.{ObjectToken, NumberRead, SubfileBegun, Obje
 use Rattle.iim_object.specs.Places.{Place, NotEnded, Ended, HasBoth, MayFollow, place_after, head_token}
 use Rattle.iim_object.specs.Behind.{place_behind, place_ended, RecordsAreByNumber}
 use Rattle.iim_object.specs.Saved.{stated_numbers}
+use Rattle.iim_unpack.specs.ByLayers.{one_of_some}
 use Rattle.iim_unpack.specs.Tokens.{place_at}
 use Rattle.iim_unpack.specs.LowerLaws.{ObjectLaws, FollowLaws}
 use Rattle.iim_unpack.proofs.Lasts.{SplitLast, split_last, present_last}
@@ -221,14 +222,24 @@ tens_behind numbers ds alive =
       tens_front 9 ds r.0 r.1.r9 is.nines (tens_of 9 (λ n e. (no_other n e).1) r.1.r9 r.1.confirmation.each),
     )
 
-same_tens : (n : ℕ) (xs ys : List Dataset) → AreTens xs → AreTens ys → length xs ≡ length ys → occurs n xs ≡ occurs n ys
-same_tens n [] [] a b e = refl
-same_tens n [] (y ∷ ys) a b e = absurd (omega (arith, e))
-same_tens n (x ∷ xs) [] a b e = absurd (omega (arith, e))
-same_tens n (x ∷ xs) (y ∷ ys) a b e =
-    let more = same_tens n xs ys a.1 b.1 (omega (arith, e)) in
-    let set : x.set ≡ y.set = a.0 ∙ sym b.0 in
-    λ i. nat_eq (set i) n || more i
+-- Datasets of the number 10 have the same numbers as others, where there are some of both or none.
+pub tens_seen : (n : ℕ) (xs ys : List Dataset) → AreTens xs → AreTens ys → one_of_some (length xs) ≡ one_of_some (length ys) → occurs n xs ≡ occurs n ys
+tens_seen n [] [] a b e = refl
+tens_seen n [] (y ∷ ys) a b e = absurd (let bad : 0 ≡ 1 = e in omega (arith, bad))
+tens_seen n (x ∷ xs) [] a b e = absurd (let bad : 1 ≡ 0 = e in omega (arith, bad))
+tens_seen n (x ∷ xs) (y ∷ ys) a b e = first x xs a ∙ sym (first y ys b)
+  where
+    first : (z : Dataset) (zs : List Dataset) → AreTens (z ∷ zs) → occurs n (z ∷ zs) ≡ nat_eq 10 n
+    first z [] all = by (nat_eq z.set n) (ap (λ (s : ℕ). nat_eq s n) all.0)
+      where
+        by : (t : Bool) → t ≡ nat_eq 10 n → (t || false) ≡ nat_eq 10 n
+        by true is = is
+        by false is = is
+    first z (w ∷ zs) all = by (nat_eq z.set n) (occurs n (w ∷ zs)) (ap (λ (s : ℕ). nat_eq s n) all.0) (first w zs all.1)
+      where
+        by : (t u : Bool) → t ≡ nat_eq 10 n → u ≡ nat_eq 10 n → (t || u) ≡ nat_eq 10 n
+        by true u is more = is
+        by false u is more = more
 
 -- ---- record 9 is the last
 
@@ -299,6 +310,13 @@ pub record SameFields (ds es : List Dataset) : Type 0 where
   pub numbers : stated_numbers (numbers_of (of_record 7 ds)) ≡ stated_numbers (numbers_of (of_record 7 es))
   pub heads : length (of_record 8 ds) ≡ length (of_record 8 es)
 
+-- the same, but that of the subfiles it says no more than whether some have ended
+pub record SameShape (ds es : List Dataset) : Type 0 where
+  pub ended : nat_eq (present_record ds) 9 ≡ nat_eq (present_record es) 9
+  pub fields : kept ds ≡ kept es
+  pub numbers : stated_numbers (numbers_of (of_record 7 ds)) ≡ stated_numbers (numbers_of (of_record 7 es))
+  pub some : one_of_some (length (of_record 8 ds)) ≡ one_of_some (length (of_record 8 es))
+
 abbrev SameIn : List Dataset → List Dataset → ℕ → Type 0
 SameIn ds es r = (n : ℕ) → occurs n (of_record r ds) ≡ occurs n (of_record r es)
 
@@ -306,9 +324,9 @@ same_kept : (ds es : List Dataset) (r : ℕ) → is_kept r ≡ true → kept ds 
 same_kept ds es r is same n =
     ap (occurs n) (sym (of_kept r is ds)) ∙ ap (λ (xs : List Dataset). occurs n (of_record r xs)) same ∙ ap (occurs n) (of_kept r is es)
 
-pub same_records : FollowLaws → RecordsAreByNumber → (ds es : List Dataset) → IsAlive ds → IsAlive es → length (of_record 8 ds) ≤ max_subfiles → length (of_record 8 es) ≤ max_subfiles → SameFields ds es
+pub same_shape : FollowLaws → RecordsAreByNumber → (ds es : List Dataset) → IsAlive ds → IsAlive es → length (of_record 8 ds) ≤ max_subfiles → length (of_record 8 es) ≤ max_subfiles → SameShape ds es
     → SameRecords ds es
-same_records laws numbers ds es a b few less same = record { seen = seen }
+same_shape laws numbers ds es a b few less same = record { seen = seen }
   where
     one : SameIn ds es 1
     one = same_kept ds es 1 refl same.fields
@@ -324,12 +342,12 @@ same_records laws numbers ds es a b few less same = record { seen = seen }
         ∙ sym (occurs_stated n (of_record 7 es))
 
     eight : SameIn ds es 8
-    eight n = same_tens n (of_record 8 ds) (of_record 8 es) (tens_behind numbers ds a).0 (tens_behind numbers es b).0 same.heads
+    eight n = tens_seen n (of_record 8 ds) (of_record 8 es) (tens_behind numbers ds a).0 (tens_behind numbers es b).0 same.some
 
     nine : SameIn ds es 9
     nine n =
-        same_tens n (of_record 9 ds) (of_record 9 es) (tens_behind numbers ds a).1 (tens_behind numbers es b).1
-        (nines laws ds a ∙ ap (λ (b : Bool). cond b 1 0) same.ended ∙ sym (nines laws es b))
+        tens_seen n (of_record 9 ds) (of_record 9 es) (tens_behind numbers ds a).1 (tens_behind numbers es b).1
+        (ap one_of_some (nines laws ds a ∙ ap (λ (b : Bool). cond b 1 0) same.ended ∙ sym (nines laws es b)))
 
     other : (r : ℕ) → AllByRecursion (λ k. nat_eq k r ≡ false) records → SameIn ds es r
     other r apart n = ap (occurs n) (none_other r apart ds a ∙ sym (none_other r apart es b))
@@ -351,3 +369,8 @@ same_records laws numbers ds es a b few less same = record { seen = seen }
         ]
       ]
     ]
+
+pub same_records : FollowLaws → RecordsAreByNumber → (ds es : List Dataset) → IsAlive ds → IsAlive es → length (of_record 8 ds) ≤ max_subfiles → length (of_record 8 es) ≤ max_subfiles → SameFields ds es
+    → SameRecords ds es
+same_records laws numbers ds es a b few less same =
+    same_shape laws numbers ds es a b few less (record { ended = same.ended; fields = same.fields; numbers = same.numbers; some = ap one_of_some same.heads })

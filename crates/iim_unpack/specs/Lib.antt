@@ -23,5 +23,6 @@ pub mod TicketFields
 pub mod FieldLaws
 pub mod TicketParts
 pub mod Plain
+pub mod ByLayers
 pub mod Value
 pub mod Pieces

@@ -2,6 +2,7 @@
 
 ghost use Rattle.iim_unpack.specs.Laws.{AdmittedOctetsAreFramed, AdmittedOctetsHaveOneValue, NoAdmittedOctetsBeginOthers, NoEnvelopeIsEmpty};
 ghost use Rattle.iim_unpack.specs.Intakes.{OpenOctetsAreBounded};
+ghost use Rattle.iim_unpack.specs.ByLayers.{PlacesArePossibleByLayers};
 ghost use Rattle.iim_unpack.specs.LowerLaws.{AnswerLaws, CloseLaws, FeedLaws, HeadLaws, MessageLaws, ObjectLaws};
 ghost use Rattle.iim_unpack.specs.Plain.{ObjectsArePossibleAlike, PlainDatasetsGoOnAlike, PlainOctetsAreOpenOrWhole, PlainOctetsLeadToTheirPlace, PossiblePlacesArePlain};
 ghost use Rattle.iim_unpack.specs.Possible.{LimitsAreToldByPlace, TicketsOfPlacesAreSplit, TicketsTellOnePlace, UnpackersStandByPlace};
@@ -24,8 +25,8 @@ use iim_object::laws::{
     subfiles_live_while_they_fit, totals_are_confirmed,
 };
 use wire_message::laws::{
-    messages_have_one_reading, octets_lead_to_one_place, places_are_saved_apart,
-    readers_stand_at_living_octets, texts_stand_between_stx_and_etx,
+    messages_end_after_eot, messages_have_one_reading, octets_lead_to_one_place,
+    places_are_saved_apart, readers_stand_at_living_octets, texts_stand_between_stx_and_etx,
 };
 use wire_story::laws::{texts_have_one_reading, texts_so_far_have_one_reading};
 
@@ -248,6 +249,19 @@ pub fn plain_octets_are_open_or_whole()
     subfiles_live_while_they_fit();
     objects_end_where_they_are_whole();
     totals_are_confirmed();
+}
+
+/// A place is possible exactly where each layer alone can be there.
+pub fn places_are_possible_by_layers()
+    ensures { PlacesArePossibleByLayers }
+{
+    answer_laws();
+    canonical_streams_are_spelled();
+    numbers_live_without_clash();
+    subfiles_live_while_they_fit();
+    objects_end_where_they_are_whole();
+    totals_are_confirmed();
+    messages_end_after_eot();
 }
 
 /// Whether octets keep to limits is told by their place: by the heads of records 1 and 2 that it tells, a begun one among them.

@@ -4,9 +4,11 @@ use Rattle.std.specs.List.{list_any}
 use Rattle.wire_story.specs.Texts.{packed_text, IsText, MakeText}
 use Rattle.wire_message.specs.Messages.{Header, IsHeader, IsTrailer, IsMessage, BeginsWithHeader}
 use Rattle.wire_message.specs.Canonical.{canonical}
-use Rattle.wire_message.specs.Layers.{MessageLivesWith, text_so_far, trailer_so_far, StoryLivesIn}
+use Rattle.iim_dataset.specs.Languages.{IsAlive}
+use Rattle.wire_story.specs.Tokens.{with_end}
+use Rattle.wire_message.specs.Layers.{MessageLanguage, MessageLivesWith, text_so_far, trailer_so_far, StoryLivesIn}
 use Rattle.wire_message.specs.SoFar.{IsPlace, LeadTo}
-use Rattle.wire_message.specs.Reading.{StandsAt, head_read, trailer_read}
+use Rattle.wire_message.specs.Reading.{StandsAt, head_read, trailer_read, is_ended}
 use Rattle.wire_message.specs.Saved.{saved}
 use Rattle.wire_message.specs.declared.place.Place.{Place}
 
@@ -64,6 +66,10 @@ MessagesKeepTheirHeader = (octets more text trailer : List ℕ) (head other : He
 abbrev pub TrailersStandBetweenEtxAndEot : Type 0
 TrailersStandBetweenEtxAndEot = (object text trailer : List ℕ) (head : Header)
     → IsMessage object head text trailer → trailer_so_far object ≡ trailer
+
+-- Where octets have led to a place, a message can end with them exactly where EOT has come.
+abbrev pub MessagesEndAfterEot : Type 0
+MessagesEndAfterEot = (octets text : List ℕ) (place : Place) → LeadTo octets text place → IsAlive MessageLanguage (with_end octets) ↔ IsTrue (is_ended (Some place))
 
 -- Two places that are saved alike are one.
 abbrev pub PlacesAreSavedApart : Type 0

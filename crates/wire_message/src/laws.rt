@@ -1,6 +1,6 @@
 //! What holds of all messages, and where a reader of messages stands. The functions do nothing: their contracts are the laws.
 
-ghost use Rattle.wire_message.specs.Laws.{MessagesHaveOneReading, CanonicalObjectsAreMessages, TextsStandBetweenStxAndEtx, ReadersStandAtLivingOctets, HeadersAreToldFromStx, TrailersAreToldFromEtx, MessagesKeepTheirHeader, TrailersStandBetweenEtxAndEot, PlacesAreReached, OctetsLeadToOnePlace, OctetsLeadOnAlike, PlacesAreSavedApart};
+ghost use Rattle.wire_message.specs.Laws.{MessagesHaveOneReading, CanonicalObjectsAreMessages, TextsStandBetweenStxAndEtx, ReadersStandAtLivingOctets, HeadersAreToldFromStx, TrailersAreToldFromEtx, MessagesKeepTheirHeader, TrailersStandBetweenEtxAndEot, MessagesEndAfterEot, PlacesAreReached, OctetsLeadToOnePlace, OctetsLeadOnAlike, PlacesAreSavedApart};
 
 use wire_story::laws::{
     packed_lines_are_a_text, stories_end_as_texts, stories_live_as_texts_so_far,
@@ -50,6 +50,11 @@ pub fn messages_keep_their_header()
 /// The trailer of a message is what stands after ETX and before EOT.
 pub fn trailers_stand_between_etx_and_eot()
     ensures { TrailersStandBetweenEtxAndEot }
+{}
+
+/// Where octets have led to a place, a message can end with them exactly where EOT has come.
+pub fn messages_end_after_eot()
+    ensures { MessagesEndAfterEot }
 {}
 
 /// A reader's invariant holds exactly of the places to which some octets lead.
