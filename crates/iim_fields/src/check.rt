@@ -4,6 +4,7 @@ ghost use Rattle.std.specs.Prelude.{◌≡◌, ◌≢◌, ℕ, List, [], ◌∷�
 ghost use Rattle.std.specs.Option.{ForSome};
 ghost use Rattle.iim_dataset.specs.Datasets.{Dataset};
 ghost use Rattle.iim_dataset.specs.declared.head.Head.{Head as HeadValue};
+ghost use Rattle.iim_fields.specs.Faults.{present_record};
 ghost use Rattle.iim_fields.specs.Orders.{Takes};
 ghost use Rattle.iim_fields.specs.Values.{number_told, data_of};
 ghost use Rattle.iim_fields.specs.Checks.{begun_head, present_at, missing_at, TakesHead, TakesValue, IsBetween, IsIn, IsRecordPlace, HasChecked, IsChecking, HasTaken, IsRecordFault, IsValueFault, HasEnded};
@@ -115,8 +116,9 @@ impl RecordCheck {
     }
 
     /// The record of the last head, 0 at the beginning and after a refusal.
-    pub(crate) fn section(&self) -> u8
-        ensures { result ≡ present_at self.now }
+    pub fn section(&self) -> u8
+        ensures seen { result ≡ present_at self.now }
+        ensures stands { (ds : List Dataset) → HasChecked self.now ds → result ≡ present_record ds }
     {
         match &self.place {
             Some(place) => place.order.present(),

@@ -209,7 +209,7 @@ tickets_split laws place p =
 
 -- ---- one place
 
-part_told : (p q : MessagePart) → part_number p ≡ part_number q → p ≡ q
+pub part_told : (p q : MessagePart) → part_number p ≡ part_number q → p ≡ q
 part_told p q e = sym (back p) ∙ ap part_at e ∙ back q
   where
     part_at : ℕ → MessagePart

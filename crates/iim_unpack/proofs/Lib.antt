@@ -41,3 +41,8 @@ pub mod Alike
 pub mod LeadsByLayers
 pub mod MessageOctets
 pub mod LayersLead
+pub mod Restored
+pub mod Taking
+pub mod AtPlaces
+pub mod ObjectPlaces
+pub mod Restoring

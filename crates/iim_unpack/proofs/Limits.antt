@@ -19,13 +19,13 @@ joined_append (d ∷ ds) es =
 kept_append : (ds es : List Dataset) → kept (ds ++ es) ≡ kept ds ++ kept es
 kept_append ds es = filter-append (λ (d : Dataset). is_kept d.rec) ds es
 
-kept_octets_append : (ds es : List Dataset) → kept_octets (ds ++ es) ≡ kept_octets ds + kept_octets es
+pub kept_octets_append : (ds es : List Dataset) → kept_octets (ds ++ es) ≡ kept_octets ds + kept_octets es
 kept_octets_append ds es = ap (λ (xs : List Dataset). length (joined xs)) (kept_append ds es) ∙ joined_append (kept ds) (kept es)
 
-kept_length_append : (ds es : List Dataset) → length (kept (ds ++ es)) ≡ length (kept ds) + length (kept es)
+pub kept_length_append : (ds es : List Dataset) → length (kept (ds ++ es)) ≡ length (kept ds) + length (kept es)
 kept_length_append ds es = ap length (kept_append ds es) ∙ length-append (kept ds) (kept es)
 
-kept_first : (b : Bool) (d : Dataset) (es : List Dataset) → b ≡ true
+pub kept_first : (b : Bool) (d : Dataset) (es : List Dataset) → b ≡ true
     → (length d.octets ≤ length (joined (cond b (d ∷ es) es))) × (1 ≤ length (cond b (d ∷ es) es))
 kept_first true d es is = (omega (arith, length-append d.octets (joined es)), omega arith)
 kept_first false d es is = absurd cc

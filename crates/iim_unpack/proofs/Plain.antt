@@ -38,7 +38,7 @@ pub record Tell (ds fields : List Dataset) (numbers : Numbers) (heads : ℕ) (ob
 abbrev pub AreOf : ℕ → List Dataset → Type 0
 AreOf r ds = AllByRecursion (λ (d : Dataset). d.rec ≡ r) ds
 
-kept_fields : (ds : List Dataset) → AllByRecursion (λ (d : Dataset). is_kept d.rec ≡ true) ds → kept ds ≡ ds
+pub kept_fields : (ds : List Dataset) → AllByRecursion (λ (d : Dataset). is_kept d.rec ≡ true) ds → kept ds ≡ ds
 kept_fields [] all = refl
 kept_fields (d ∷ ds) all = ap (λ (b : Bool). cond b (d ∷ kept ds) (kept ds)) all.0 ∙ ap (λ (xs : List Dataset). d ∷ xs) (kept_fields ds all.1)
 

@@ -1,5 +1,5 @@
 -- Clauses of results that are handed on.
-use Rattle.std.proofs.Common.{◌≡◌, Result, Ok, Err, IfErr, OnOk}
+use Rattle.std.proofs.Common.{◌≡◌, Result, Ok, Err, IfErr, OnOk, Option, Some, None, IfNone}
 use Rattle.std.specs.Result.{IsErrAnd}
 
 pub if_err : {T E : Type 0} (P Q : E → Type 0) (r : Result T E) → ((e : E) → P e → Q e) → IfErr r P → IfErr r Q
@@ -26,3 +26,7 @@ err_both P Q (Err e) h k = (h, k)
 pub handed_on : {T E : Type 0} → (P : E → Type 0) (r : Result T E) (fault : E) → IsErrAnd r (λ e. e ≡ fault) → P fault → IfErr r P
 handed_on P (Ok x) fault is h = tt
 handed_on P (Err e) fault is h = rw is h
+
+pub if_none : {T : Type 0} (P Q : Type 0) (o : Option T) → (P → Q) → IfNone o P → IfNone o Q
+if_none P Q (Some x) f h = tt
+if_none P Q None f h = f h

@@ -135,7 +135,7 @@ taken_as law check ds es h at alive same = record {
       checked_as check (ds ++ d ∷ []) (es ++ d ∷ []) was (value_as law ds es d octets was.alive (subst (IsAliveAt es) (sym is) alive)) (last_same ds es d) (same_more ds es d d refl same);
 }
 
-fields_behind : (fields : records.FieldsPlace) (ds es : List Dataset) → records.StandsBehind fields ds → IsAlive es → present_record ds ≡ present_record es → kept ds ≡ kept es → SameRecords ds es → records.StandsBehind fields es
+pub fields_behind : (fields : records.FieldsPlace) (ds es : List Dataset) → records.StandsBehind fields ds → IsAlive es → present_record ds ≡ present_record es → kept ds ≡ kept es → SameRecords ds es → records.StandsBehind fields es
 fields_behind fields ds es at alive present keeps same = record {
   between = at.between;
   checked = checked_as fields.check ds es at.checked alive present same;
@@ -145,7 +145,7 @@ fields_behind fields ds es at alive present keeps same = record {
   taken_are = at.taken_are;
 }
 
-fields_in : ValuesDieWithTheirFault → (fields : records.FieldsPlace) (ds es : List Dataset) (h : Head) (taken : List ℕ) → records.StandsIn fields ds h taken → IsAliveAt es h → kept ds ≡ kept es → SameRecords ds es
+pub fields_in : ValuesDieWithTheirFault → (fields : records.FieldsPlace) (ds es : List Dataset) (h : Head) (taken : List ℕ) → records.StandsIn fields ds h taken → IsAliveAt es h → kept ds ≡ kept es → SameRecords ds es
     → records.StandsIn fields es h taken
 fields_in law fields ds es h taken at alive keeps same = record {
   inside = at.inside;
@@ -265,7 +265,7 @@ behind_as laws limits parts ds es at goes present same m =
       ended = λ nine. at.ended (present ∙ nine);
     }
 
-less_alive : (ds : List Dataset) (h : Head) → IsAliveAt ds h → IsAlive ds
+pub less_alive : (ds : List Dataset) (h : Head) → IsAliveAt ds h → IsAlive ds
 less_alive ds h (d, is, alive) = ((d ∷ []) ++ alive.0, subst AreSections (append_assoc ds (d ∷ []) alive.0) alive.1)
 
 within_as : PlaceLaws → (limits : Limits) (parts : Parts) (ds es : List Dataset) (h : Head) (xs ys : List ℕ) → Within parts ds h xs → GoOnAt limits es h → Octets ys
@@ -284,7 +284,7 @@ within_as laws limits parts ds es h xs ys at goes octets given same m =
 
 -- ---- whether an octet has come
 
-none_present : (es : List Dataset) → IsAlive es → present_record es ≡ 0 → es ≡ []
+pub none_present : (es : List Dataset) → IsAlive es → present_record es ≡ 0 → es ≡ []
 none_present es alive zero = by (split_last es)
   where
     by : SplitLast es → es ≡ []
@@ -296,12 +296,12 @@ none_present es alive zero = by (split_last es)
         let one : length (of_record 0 (l ∷ [])) ≡ 1 = ap (λ (r : ℕ). length (cond (nat_eq r 0) (l ∷ []) [])) rec in
         absurd (omega (arith, few, one, length-append (of_record 0 front) (of_record 0 (l ∷ []))))
 
-abbrev has_begun : List Dataset → Begun → Bool
+abbrev pub has_begun : List Dataset → Begun → Bool
 has_begun [] (InTag x) = are_some x
 has_begun [] (InData h xs) = true
 has_begun (d ∷ ds) c = true
 
-some_read : (p : List ℕ) (ds : List Dataset) (c : Begun) → Reads p ds c → are_some p ≡ has_begun ds c
+pub some_read : (p : List ℕ) (ds : List Dataset) (c : Begun) → Reads p ds c → are_some p ≡ has_begun ds c
 some_read p [] (InTag x) r = ap are_some (r.parts ∙ ap (λ (l : List ℕ). l ++ r.rest) r.is_front ∙ r.is_rest.0)
 some_read p [] (InData h xs) r =
     ap are_some (r.parts ∙ ap (λ (l : List ℕ). l ++ r.rest) r.is_front ∙ r.is_rest.4 ∙ ap (λ (l : List ℕ). l ++ xs) r.is_rest.1.parts)
@@ -352,7 +352,7 @@ data_as laws limits parts ds es h k xs ys same ended octets at all goes =
     subst (λ (g : Head). (if h.rec == 8 then [] else xs) ≡ (if g.rec == 8 then [] else ys) → SameAll ds es (InData h xs) (InData g ys) → AllGoOn limits es (InData g ys) → Within parts es g ys) same.head
     (λ given all goes. data_by laws limits parts ds es h xs ys same.many ended octets at given all goes) same.given all goes
 
-octets_of : (q : List ℕ) (es : List Dataset) (h : Head) (ys : List ℕ) → Reads q es (InData h ys) → Octets ys
+pub octets_of : (q : List ℕ) (es : List Dataset) (h : Head) (ys : List ℕ) → Reads q es (InData h ys) → Octets ys
 octets_of q es h ys r = r.is_rest.3
 
 parts_as : PlaceLaws → (limits : Limits) (parts : Parts) (q : List ℕ) (ds es : List Dataset) (c d : Begun) → SameBegun c d → nat_eq (present_record ds) 9 ≡ nat_eq (present_record es) 9 → Reads q es d

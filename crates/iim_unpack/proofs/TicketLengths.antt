@@ -178,11 +178,11 @@ short_nine set xs = elim (eqb_tells 10 set) [
   | inr not10 ↦ λ h. absurd (no_row 9 set xs (rw not10.0 refl) h)
 ]
 
-all_join : (P : Dataset → Type 0) (xs ys : List Dataset) → AllByRecursion P xs → AllByRecursion P ys → AllByRecursion P (xs ++ ys)
+pub all_join : (P : Dataset → Type 0) (xs ys : List Dataset) → AllByRecursion P xs → AllByRecursion P ys → AllByRecursion P (xs ++ ys)
 all_join P [] ys h k = k
 all_join P (x ∷ xs) ys h k = (h.0, all_join P xs ys h.1 k)
 
-all_weaker : (P Q : Dataset → Type 0) → ((x : Dataset) → P x → Q x) → (xs : List Dataset) → AllByRecursion P xs → AllByRecursion Q xs
+pub all_weaker : (P Q : Dataset → Type 0) → ((x : Dataset) → P x → Q x) → (xs : List Dataset) → AllByRecursion P xs → AllByRecursion Q xs
 all_weaker P Q f [] h = tt
 all_weaker P Q f (x ∷ xs) h = (f x h.0, all_weaker P Q f xs h.1)
 

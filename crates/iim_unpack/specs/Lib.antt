@@ -24,5 +24,8 @@ pub mod FieldLaws
 pub mod TicketParts
 pub mod Plain
 pub mod ByLayers
+pub mod Taking
+pub mod Restoring
+pub mod Nowhere
 pub mod Value
 pub mod Pieces

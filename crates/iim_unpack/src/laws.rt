@@ -31,7 +31,7 @@ use wire_message::laws::{
 use wire_story::laws::{texts_have_one_reading, texts_so_far_have_one_reading};
 
 /// The laws by which datasets lead the object from place to place.
-fn object_laws()
+pub(crate) fn object_laws()
     ensures { ObjectLaws }
 {
     datasets_lead_from_place_to_place();

@@ -36,6 +36,15 @@ pub(crate) fn walk_over(octets: &[u8]) -> TicketFields<'_>
     TicketFields { octets }
 }
 
+impl<'a> TicketFields<'a> {
+    /// Another walk over those that are left.
+    pub(crate) fn again(&self) -> TicketFields<'a>
+        ensures { result ≡ self.now }
+    {
+        walk_over(self.octets)
+    }
+}
+
 impl<'a> Iterator for TicketFields<'a> {
     ghost use Rattle.std.specs.Iterator.{YieldsFirstBy, item_count};
     ghost use Rattle.iim_unpack.specs.TicketFields.{those_left};

@@ -1,0 +1,16 @@
+use Rattle.std.proofs.Common.{◌≡◌, List, ◌++◌, length, true}
+use Rattle.iim_dataset.specs.Datasets.{Dataset}
+use Rattle.iim_unpack.specs.Taking.{AreKept, TookAll}
+use Rattle.iim_unpack.proofs.taker.take_fields.Given as goal
+
+-- some datasets are taken
+abbrev pub invariant-loop-rec : goal.invariant-loop-rec
+invariant-loop-rec g l = record {
+  done : List Dataset;
+  parts : l.fn.fields ≡ done ++ l.fields;
+  each : AreKept done;
+  took : TookAll g.T.DatasetTaker.ready g.T.DatasetTaker.stands g.T.DatasetTaker.limits l.fn.taker done l.taker true;
+}
+
+abbrev pub decreases-loop-rec : goal.decreases-loop-rec
+decreases-loop-rec g l = length l.fields

@@ -1,0 +1,53 @@
+-- What takes whole datasets, and the datasets by which it is told the records of a ticket.
+use Rattle.std.specs.Prelude.{◌≡◌, ℕ, Bool, true, false, List, [], ◌∷◌, ◌++◌, length, Option, None, cond}
+use Rattle.std.specs.List.{AllByRecursion}
+use Rattle.iim_dataset.specs.Datasets.{Dataset}
+use Rattle.iim_dataset.specs.Places.{between}
+use Rattle.iim_dataset.specs.declared.place.DatasetPlace.{DatasetPlace}
+use Rattle.iim_dataset.specs.declared.place.DatasetPlace.TheVariants.{Tag, Inside}
+use Rattle.iim_fields.specs.Alive.{IsAlive}
+use Rattle.iim_fields.specs.Faults.{is_kept, kept, kept_octets}
+use Rattle.iim_fields.specs.Standing.{IsWithin}
+use Rattle.iim_fields.specs.declared.limits.Limits.{Limits}
+use Rattle.wire_message.specs.declared.saved.MessagePlace.{MessagePlace}
+use Rattle.iim_unpack.specs.ByLayers.{head_at}
+use Rattle.iim_unpack.specs.Plain.{Numbers, plain}
+use Rattle.iim_unpack.specs.Possible.{texts_of}
+use Rattle.iim_unpack.specs.Tickets.{Phase, TagBegun, DataBegun, AllEnded, part_number}
+
+-- all are of records 1 and 2
+abbrev pub AreKept : List Dataset → Type 0
+AreKept ds = AllByRecursion (λ (d : Dataset). is_kept d.rec ≡ true) ds
+
+-- Datasets within the limits can continue after these, and these are within them.
+pub record GoOnWithin (limits : Limits) (ds : List Dataset) : Type 0 where
+  pub alive : IsAlive ds
+  pub within : IsWithin limits (kept_octets ds) (length (kept ds))
+
+-- Whether it took the datasets. If so, it stands after them, wherever it stood. If not, no datasets within the limits can continue with
+-- them, wherever it stood.
+abbrev pub TookAll : {T : Type 0} → (T → Type 0) → (T → List Dataset → Type 0) → (T → Limits) → T → List Dataset → T → Bool → Type 0
+TookAll ready stands limits old es new true = ready new × (limits new ≡ limits old) × ((ds : List Dataset) → stands old ds → stands new (ds ++ es))
+TookAll ready stands limits old es new false = (ds : List Dataset) → stands old ds → GoOnWithin (limits old) (ds ++ es) → ⊥
+
+-- the numbers of 7:10, 7:20, 7:90 and 7:95
+abbrev pub numbers_told : List (Option ℕ) → Numbers
+numbers_told (mode ∷ largest ∷ announced ∷ maximum ∷ []) = record { mode = mode; largest = largest; announced = announced; maximum = maximum }
+numbers_told other = record { mode = None; largest = None; announced = None; maximum = None }
+
+-- fields, numbers, one subfile where some have ended, and 9:10 where the object has
+abbrev pub told_datasets : List Dataset → List (Option ℕ) → (some ended : Bool) → List Dataset
+told_datasets fields numbers some ended = plain fields (numbers_told numbers) (cond some 1 0) [] ended
+
+-- where the next octet stands
+abbrev pub tag_place : ℕ → Phase → DatasetPlace
+tag_place section (TagBegun held) = Tag (record { items = held })
+tag_place section (DataBegun set count left taken) = Inside (head_at section set count) left
+tag_place section AllEnded = between
+
+-- The place of a message that a ticket tells by its part, counter, flag and texts.
+pub record IsMessageOf (part counter flag : ℕ) (texts : List (List ℕ)) (m : MessagePlace) : Type 0 where
+  pub part_is : part_number m.part ≡ part
+  pub counter_is : m.counter ≡ counter
+  pub flag_is : m.flag ≡ flag
+  pub texts_are : texts_of m ≡ texts

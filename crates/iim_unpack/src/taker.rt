@@ -1,0 +1,182 @@
+//! What takes whole datasets, one after another: a check of records, or a reader that keeps them.
+
+ghost use Rattle.std.specs.Prelude.{◌≡◌, ℕ, [], ◌∷◌, List, length, IsTrue, true, cond};
+ghost use Rattle.iim_dataset.specs.Datasets.{Dataset};
+ghost use Rattle.iim_fields.specs.Checks as checks;
+ghost use Rattle.iim_fields.specs.Faults.{is_kept};
+ghost use Rattle.iim_fields.specs.Standing.{IsBetween, StandsBehind, limits_of};
+ghost use Rattle.iim_fields.specs.declared.limits.Limits.{Limits as LimitsValue};
+ghost use Rattle.iim_object.specs.Packing.{number_dataset};
+ghost use Rattle.iim_unpack.specs.Begins.{dataset, AreNumbers, IsNumber};
+ghost use Rattle.iim_unpack.specs.Plain.{mode_dataset, one_dataset, plain_end, plain_numbers};
+ghost use Rattle.iim_unpack.specs.Possible.{widest};
+ghost use Rattle.iim_unpack.specs.Taking.{AreKept, TookAll, numbers_told, told_datasets};
+
+use crate::ticket::OBJECT;
+use crate::ticket_fields::TicketFields;
+use iim_dataset::Head;
+use iim_fields::{Fields, RecordCheck};
+
+/// The record of sizes before the object.
+const PRE_OBJECT: u8 = 7;
+
+/// What takes the datasets of an envelope, each with its whole data.
+pub(crate) trait DatasetTaker {
+    /// It takes a dataset.
+    ghost ready: { Self → Type 0 };
+
+    /// It stands after these datasets.
+    ghost stands: { Self → List Dataset → Type 0 };
+
+    /// The limits that it keeps to.
+    ghost limits: { Self → LimitsValue };
+
+    /// Takes a dataset, or answers that no datasets within the limits can continue with it.
+    fn take(&mut self, rec: u8, set: u8, octets: &[u8]) -> bool
+        requires { ready self.old }
+        ensures { TookAll ready stands limits self.old (dataset rec set octets.now ∷ []) self.new result };
+}
+
+impl DatasetTaker for RecordCheck {
+    ghost ready = { checks.TakesHead };
+
+    ghost stands = { checks.HasChecked };
+
+    // Whatever the limits, none is kept to: the widest say no more than the records do.
+    ghost limits = { λ _. widest };
+
+    fn take(&mut self, rec: u8, set: u8, octets: &[u8]) -> bool {
+        let head = Head {
+            rec,
+            set,
+            count: octets.len() as u64,
+        };
+        match self.head(head) {
+            Ok(()) if rec == OBJECT => true,
+            Ok(()) => self.value(octets).is_ok(),
+            Err(_) => false,
+        }
+    }
+}
+
+impl DatasetTaker for Fields {
+    ghost ready = { IsBetween };
+
+    ghost stands = { StandsBehind };
+
+    ghost limits = { limits_of };
+
+    fn take(&mut self, rec: u8, set: u8, octets: &[u8]) -> bool {
+        let head = Head {
+            rec,
+            set,
+            count: octets.len() as u64,
+        };
+        match self.begin(head) {
+            Ok(()) if rec == OBJECT => self.close().is_ok(),
+            Ok(()) => {
+                self.bytes(octets);
+                self.close().is_ok()
+            }
+            Err(_) => false,
+        }
+    }
+}
+
+/// Whether the record is one that is kept.
+pub(crate) fn is_kept(rec: u8) -> bool
+    ensures { result ≡ is_kept rec }
+{
+    rec == 1 || rec == 2
+}
+
+/// Takes the datasets of records 1 and 2.
+fn take_fields<T: DatasetTaker>(taker: &mut T, fields: TicketFields<'_>) -> bool
+    requires { T.ready taker.old }
+    ensures kept { IsTrue result → AreKept fields.entry }
+    ensures all { AreKept fields.entry → TookAll T.ready T.stands T.limits taker.old fields.entry taker.new result }
+{
+    let mut fields = fields;
+    while let Some((rec, set, octets)) = fields.next() {
+        if !is_kept(rec) {
+            return false;
+        }
+        if !taker.take(rec, set, octets) {
+            return false;
+        }
+    }
+    true
+}
+
+/// Takes the mode, 7:10, where there is one.
+fn take_mode<T: DatasetTaker>(taker: &mut T, mode: Option<u64>) -> bool
+    requires { T.ready taker.old }
+    ensures { TookAll T.ready T.stands T.limits taker.old (one_dataset mode_dataset mode) taker.new result }
+{
+    match mode {
+        None => true,
+        Some(mode) if mode < 256 => taker.take(PRE_OBJECT, 10, &[mode as u8]),
+        Some(_) => false,
+    }
+}
+
+/// Takes the size 7:`set`, where there is one.
+fn take_size<T: DatasetTaker>(taker: &mut T, set: u8, size: Option<u64>) -> bool
+    requires ready { T.ready taker.old }
+    requires fits { IsNumber size }
+    ensures { TookAll T.ready T.stands T.limits taker.old (one_dataset (number_dataset 7 set) size) taker.new result }
+{
+    match size {
+        None => true,
+        Some(size) => taker.take(PRE_OBJECT, set, &(size as u32).to_be_bytes()),
+    }
+}
+
+/// Takes the numbers of record 7, in their order.
+fn take_numbers<T: DatasetTaker>(taker: &mut T, numbers: [Option<u64>; 4]) -> bool
+    requires ready { T.ready taker.old }
+    requires fits { AreNumbers numbers }
+    ensures { TookAll T.ready T.stands T.limits taker.old (plain_numbers (numbers_told numbers)) taker.new result }
+{
+    let [mode, largest, announced, maximum] = numbers;
+    take_mode(taker, mode)
+        && take_size(taker, 20, largest)
+        && take_size(taker, 90, announced)
+        && take_size(taker, 95, maximum)
+}
+
+/// Takes a subfile without octets, where some have ended.
+fn take_subfile<T: DatasetTaker>(taker: &mut T, some: bool) -> bool
+    requires { T.ready taker.old }
+    ensures { TookAll T.ready T.stands T.limits taker.old (cond some (dataset 8 10 [] ∷ []) []) taker.new result }
+{
+    !some || taker.take(OBJECT, 10, &[])
+}
+
+/// Takes 9:10 of an object without octets, where it has ended.
+fn take_end<T: DatasetTaker>(taker: &mut T, ended: bool) -> bool
+    requires { T.ready taker.old }
+    ensures { TookAll T.ready T.stands T.limits taker.old (plain_end ended []) taker.new result }
+{
+    !ended || taker.take(9, 10, &[0, 0, 0, 0])
+}
+
+/// Takes the datasets by which the record layer is told a ticket's place: its fields, the numbers of record 7, a subfile without
+/// octets where some have ended, and 9:10 where the object has.
+pub(crate) fn take_told<T: DatasetTaker>(
+    taker: &mut T,
+    fields: TicketFields<'_>,
+    numbers: [Option<u64>; 4],
+    some: bool,
+    ended: bool,
+) -> bool
+    requires ready { T.ready taker.old }
+    requires fits { AreNumbers numbers }
+    ensures kept { IsTrue result → AreKept fields.entry }
+    ensures all { AreKept fields.entry → TookAll T.ready T.stands T.limits taker.old (told_datasets fields.entry numbers some ended) taker.new result }
+{
+    take_fields(taker, fields)
+        && take_numbers(taker, numbers)
+        && take_subfile(taker, some)
+        && take_end(taker, ended)
+}
