@@ -16,21 +16,21 @@ use Rattle.wire_message.specs.declared.place.Place.TheVariants.{Filler, Source, 
 use Rattle.wire_message.proofs.Machine.{of, begun, more_info, guarded, next, run, run_parts, and_then_place}
 use Rattle.wire_message.proofs.Runs.{unread, spelled_runs}
 use Rattle.wire_message.proofs.Alive.{begun_header}
-use Rattle.wire_message.proofs.TextSoFar.{text_at}
+use Rattle.wire_message.proofs.TextSoFar.{none_yet, text_at}
 use Rattle.wire_message.proofs.OnePlace.{some_same}
 use Rattle.wire_message.proofs.Transitions.{field_more, field_one, field_none, field_from, one_is, filler_more, filler_soh, source_more, source_number, number_more, number_space, space_priority, priority_space, category_more, category_space, words_more, words_space, words_gap, info_more, info_gap, gap_more, gap_stx, text_more, text_etx, trailer_more, trailer_eot, end_more}
 
 -- ---- octets that stand at a place, whatever its reader of the text
 
-abbrev IsBare : Place → Type 0
+abbrev pub IsBare : Place → Type 0
 IsBare (Text h reader) = IsHeader h
 IsBare p = IsPlace p
 
-record Stands (xs text : List ℕ) (p : Place) : Type 0 where
-  bare : IsBare p
-  spelled : Spells xs text p
+pub record Stands (xs text : List ℕ) (p : Place) : Type 0 where
+  pub bare : IsBare p
+  pub spelled : Spells xs text p
 
-stands_bare : (xs text : List ℕ) (p : Place) → LeadTo xs text p → Stands xs text (unread p)
+pub stands_bare : (xs text : List ℕ) (p : Place) → LeadTo xs text p → Stands xs text (unread p)
 stands_bare xs text (Text h reader) l = record { bare = l.is_place.0; spelled = l.spelled }
 stands_bare xs text p l = record { bare = l.is_place; spelled = l.spelled }
 
@@ -39,7 +39,7 @@ spells_read xs text (Text h reader) s = s
 spells_read xs text p s = s
 
 -- From all octets that stand at p these lead to q, and add the same to the text.
-abbrev Continues : Place → List ℕ → Place → Type 0
+abbrev pub Continues : Place → List ℕ → Place → Type 0
 Continues p ys q = (more : List ℕ) × ((xs text : List ℕ) → Stands xs text p → Stands (xs ++ ys) (text ++ more) q)
 
 -- they add nothing to the text
@@ -249,7 +249,7 @@ octet_on (AfterEnd h v k) q b e = from_end h v k b q e
 
 -- ---- more octets
 
-octets_on : (p q : Place) (ys : List ℕ) → run p ys ≡ Some q → Continues p ys q
+pub octets_on : (p q : Place) (ys : List ℕ) → run p ys ≡ Some q → Continues p ys q
 octets_on p q [] e =
     let same : p ≡ q = cc in
     subst (Continues p []) same (quiet p p [] (λ xs text s. subst (λ (u : List ℕ). Stands u text p) (sym (append-nil xs)) s))
@@ -266,35 +266,24 @@ octets_on p q (b ∷ ys) e =
 -- ---- the story
 
 -- the reader of the text, and one that holds no CR where no text is being read
-abbrev reader_at : Place → Option ℕ
+abbrev pub reader_at : Place → Option ℕ
 reader_at (Text h reader) = reader
 reader_at p = Some 0
 
-reader_stands : stories.TextsEndInNoReturn → (text : List ℕ) (p : Place) → StoryStands text p → story.StandsAt (reader_at p) text
+pub reader_stands : stories.TextsEndInNoReturn → (text : List ℕ) (p : Place) → StoryStands text p → story.StandsAt (reader_at p) text
 reader_stands ends text (Text h reader) at = at
 reader_stands ends text (Trailer h v) at = (0, refl, (ends text).0 at)
 reader_stands ends text (AfterEnd h v k) at = (0, refl, (ends text).0 at)
 reader_stands ends text p at = subst (story.StandsAt (Some 0)) (sym at) (0, refl, ([], [], (refl, omega arith, refl)))
 
 whole_text : stories.TextsEndInNoReturn → (text : List ℕ) → story.StandsAt (Some 0) text → AreLines text
-whole_text ends text at = (ends text).1 (subst (Holds text) (sym (same 0 at.0 at.1)) at.2)
-  where
-    same : (a b : ℕ) → ◌≡◌ {A = Option ℕ} (Some a) (Some b) → a ≡ b
-    same a b e = cc
+whole_text ends text at = (ends text).1 (subst (Holds text) (sym (some_same at.1)) at.2)
 
 story_stands : stories.TextsEndInNoReturn → (xs text : List ℕ) (p : Place) → Spells xs text p → story.StandsAt (reader_at p) text → StoryStands text p
-story_stands ends xs text (Filler k) l at = l.2
-story_stands ends xs text (Source s) l at = l.3
-story_stands ends xs text (Number s n) l at = l.3
-story_stands ends xs text (Priority s n) l at = l.3
-story_stands ends xs text (PriorityRead s n p) l at = l.3
-story_stands ends xs text (Category s n p c) l at = l.3
-story_stands ends xs text (Words s n p c w) l at = l.3
-story_stands ends xs text (Info h) l at = l.3
-story_stands ends xs text (Gap h k feed) l at = l.9
 story_stands ends xs text (Text h reader) l at = at
 story_stands ends xs text (Trailer h v) l at = whole_text ends text at
 story_stands ends xs text (AfterEnd h v k) l at = whole_text ends text at
+story_stands ends xs text p l at = none_yet xs text p l refl
 
 -- ---- alike
 

@@ -16,6 +16,8 @@ pub mod Readings
 pub mod Standing
 pub mod OnePlace
 pub mod Alike
+pub mod Living
+pub mod Refused
 pub mod Reached
 pub mod Bounds
 pub mod Ended

@@ -9,10 +9,10 @@ use Rattle.wire_message.specs.declared.place.Place.TheVariants.{Text}
 use Rattle.wire_message.proofs.Runs.{unread, spelled_runs}
 use Rattle.wire_message.proofs.Standing.{texts_between}
 
-pub some_same : {p q : Place} → Some p ≡ Some q → p ≡ q
+pub some_same : {A : Type 0} {p q : A} → Some p ≡ Some q → p ≡ q
 some_same e = cc
 
-one_held : TextsSoFarHaveOneReading → (x : List ℕ) (held returns : ℕ) → Holds x held → Holds x returns → held ≡ returns
+pub one_held : TextsSoFarHaveOneReading → (x : List ℕ) (held returns : ℕ) → Holds x held → Holds x returns → held ≡ returns
 one_held law x held returns h k = (law x h.0 k.0 h.1 k.1 held returns h.2 k.2).2
 
 -- the reader of the text, where the text is being read

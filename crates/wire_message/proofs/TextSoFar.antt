@@ -210,22 +210,19 @@ no_stx octets text (Trailer h t) i l e = absurd cc
 no_stx octets text (AfterEnd h t k) i l e = absurd cc
 
 -- Before STX there is no text.
-no_text : (octets text : List ℕ) (p : Place) → IsPlace p → Spells octets text p → head_read (Some p) ≡ None → text ≡ [] → TextIs octets text false
-no_text octets text p i l e none = not_begun octets text (no_stx octets text p i l e) none
+pub none_yet : (octets text : List ℕ) (p : Place) → Spells octets text p → head_read (Some p) ≡ None → text ≡ []
+none_yet octets text (Filler k) l e = l.2
+none_yet octets text (Gap h k feed) l e = l.9
+none_yet octets text (Text h reader) l e = absurd cc
+none_yet octets text (Trailer h t) l e = absurd cc
+none_yet octets text (AfterEnd h t k) l e = absurd cc
+none_yet octets text p l e = l.3
 
 pub text_at : (octets text : List ℕ) (p : Place) → IsPlace p → Spells octets text p → TextIs octets text (text_ended p)
-text_at octets text (Filler k) i l = no_text octets text (Filler k) i l refl l.2
-text_at octets text (Source s) i l = no_text octets text (Source s) i l refl l.3
-text_at octets text (Number s n) i l = no_text octets text (Number s n) i l refl l.3
-text_at octets text (Priority s n) i l = no_text octets text (Priority s n) i l refl l.3
-text_at octets text (PriorityRead s n p) i l = no_text octets text (PriorityRead s n p) i l refl l.3
-text_at octets text (Category s n p c) i l = no_text octets text (Category s n p c) i l refl l.3
-text_at octets text (Words s n p c w) i l = no_text octets text (Words s n p c w) i l refl l.3
-text_at octets text (Info h) i l = no_text octets text (Info h) i l refl l.3
-text_at octets text (Gap h k feed) i l = no_text octets text (Gap h k feed) i l refl l.9
 text_at octets text (Text h reader) i l = in_text octets text h reader i.0 l
 text_at octets text (Trailer h t) i l =
     has_ended octets text t.items (after_head octets l.0 l.1 l.2 (text ++ (3 ∷ t.items)) h l.3 i.0 l.4 l.5.0.0 l.7) l.6
 text_at octets text (AfterEnd h t k) i l =
     let m = l.0 in
     has_ended octets text (t.items ++ (4 ∷ m.after)) (after_head octets m.before m.info m.gap (text ++ (3 ∷ (t.items ++ (4 ∷ m.after)))) h m.is_before i.0 m.is_info m.is_gap.0.0 m.parts) m.is_text
+text_at octets text p i l = not_begun octets text (no_stx octets text p i l refl) (none_yet octets text p l refl)

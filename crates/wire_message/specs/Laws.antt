@@ -8,9 +8,10 @@ use Rattle.iim_dataset.specs.Languages.{IsAlive}
 use Rattle.wire_story.specs.Tokens.{with_end}
 use Rattle.wire_message.specs.Layers.{MessageLanguage, MessageLivesWith, text_so_far, trailer_so_far, StoryLivesIn}
 use Rattle.wire_message.specs.SoFar.{IsPlace, LeadTo}
-use Rattle.wire_message.specs.Reading.{StandsAt, head_read, trailer_read, is_ended}
+use Rattle.wire_message.specs.Reading.{StandsAt, HasCause, head_read, trailer_read, is_ended}
 use Rattle.wire_message.specs.Saved.{saved}
 use Rattle.wire_message.specs.declared.place.Place.{Place}
+use Rattle.wire_message.specs.declared.fault.MessageCause.{MessageCause}
 
 -- An object is a message in one way at most.
 abbrev pub MessagesHaveOneReading : Type 0
@@ -32,6 +33,13 @@ TextsStandBetweenStxAndEtx = (octets text : List ℕ) (place : Place) → LeadTo
 abbrev pub ReadersStandAtLivingOctets : Type 0
 ReadersStandAtLivingOctets = (octets text : List ℕ) (place : Place) → LeadTo octets text place → MessageLivesWith octets × StoryLivesIn octets
 
+-- From octets that have led to a place others lead on, where a message can continue from both joined, and the story in it; and
+-- they add to the text.
+abbrev pub LivingOctetsLeadOn : Type 0
+LivingOctetsLeadOn = (octets more text : List ℕ) (place : Place) → LeadTo octets text place
+    → MessageLivesWith (octets ++ more) → StoryLivesIn (octets ++ more)
+    → (added : List ℕ) × (new : Place) × LeadTo (octets ++ more) (text ++ added) new
+
 -- A reader's invariant holds exactly of the places to which some octets lead.
 abbrev pub PlacesAreReached : Type 0
 PlacesAreReached = (place : Place) → IsPlace place ↔ ((octets : List ℕ) × (text : List ℕ) × LeadTo octets text place)
@@ -43,6 +51,11 @@ OctetsLeadToOnePlace = (octets text other : List ℕ) (p q : Place) → LeadTo o
 -- From the same place the same octets lead on alike.
 abbrev pub OctetsLeadOnAlike : Type 0
 OctetsLeadOnAlike = (a b x t u y : List ℕ) (p q : Place) → LeadTo a t p → LeadTo b u p → LeadTo (a ++ x) (t ++ y) q → LeadTo (b ++ x) (u ++ y) q
+
+-- From one place an octet is refused for one cause, whatever octets have led there.
+abbrev pub OctetsAreRefusedAlike : Type 0
+OctetsAreRefusedAlike = (octets others text other : List ℕ) (place : Place) (cause : MessageCause) (next : ℕ)
+    → LeadTo octets text place → LeadTo others other place → HasCause cause octets next → HasCause cause others next
 
 -- A header is told where STX has come, and nowhere else; and it is the one with which the octets begin.
 pub record TellsHeaderOf (reader : Option Place) (octets : List ℕ) : Type 0 where

@@ -1,6 +1,6 @@
 //! What holds of all messages, and where a reader of messages stands. The functions do nothing: their contracts are the laws.
 
-ghost use Rattle.wire_message.specs.Laws.{MessagesHaveOneReading, CanonicalObjectsAreMessages, TextsStandBetweenStxAndEtx, ReadersStandAtLivingOctets, HeadersAreToldFromStx, TrailersAreToldFromEtx, MessagesKeepTheirHeader, TrailersStandBetweenEtxAndEot, MessagesEndAfterEot, PlacesAreReached, OctetsLeadToOnePlace, OctetsLeadOnAlike, PlacesAreSavedApart};
+ghost use Rattle.wire_message.specs.Laws.{MessagesHaveOneReading, CanonicalObjectsAreMessages, TextsStandBetweenStxAndEtx, ReadersStandAtLivingOctets, LivingOctetsLeadOn, HeadersAreToldFromStx, TrailersAreToldFromEtx, MessagesKeepTheirHeader, TrailersStandBetweenEtxAndEot, MessagesEndAfterEot, PlacesAreReached, OctetsLeadToOnePlace, OctetsLeadOnAlike, OctetsAreRefusedAlike, PlacesAreSavedApart};
 
 use wire_story::laws::{
     packed_lines_are_a_text, stories_end_as_texts, stories_live_as_texts_so_far,
@@ -27,6 +27,14 @@ pub fn texts_stand_between_stx_and_etx()
 /// A reader stands at octets from which a message can continue, and the story in it.
 pub fn readers_stand_at_living_octets()
     ensures { ReadersStandAtLivingOctets }
+{
+    stories_live_as_texts_so_far();
+    stories_end_as_texts();
+}
+
+/// Octets lead on from a place where a message can continue from those so far and these, and so can the story in it.
+pub fn living_octets_lead_on()
+    ensures { LivingOctetsLeadOn }
 {
     stories_live_as_texts_so_far();
     stories_end_as_texts();
@@ -75,6 +83,17 @@ pub fn octets_lead_on_alike()
 {
     texts_end_in_no_return();
     wire_story::laws::octets_lead_on_alike();
+}
+
+/// From the same place an octet is refused for the same cause, whatever octets have led there.
+pub fn octets_are_refused_alike()
+    ensures { OctetsAreRefusedAlike }
+{
+    texts_so_far_have_one_reading();
+    texts_end_in_no_return();
+    octets_lead_on_alike();
+    readers_stand_at_living_octets();
+    living_octets_lead_on();
 }
 
 /// Two places that are saved alike are one.

@@ -1,4 +1,4 @@
-use Rattle.std.proofs.Common.{◌≡◌, ℕ, Bool, true, false, IsTrue, List, [], Some, refl, sym, subst, append-nil}
+use Rattle.std.proofs.Common.{◌≡◌, ℕ, Bool, true, false, IsTrue, List, [], Some, refl, append-nil}
 use Rattle.iim_dataset.specs.Languages.{IsAlive}
 use Rattle.wire_story.specs.Tokens.{with_end}
 use Rattle.wire_message.specs.Layers.{MessageLanguage}
