@@ -1,5 +1,5 @@
 -- Plain datasets with other subfiles, and another size in 9:10, are sections alike.
-use Rattle.std.proofs.Common.{◌≡◌, ℕ, zero, suc, ◌+◌, ◌*◌, ◌<◌, ◌≤◌, nat_eq, ◌||◌, Bool, true, false, List, [], ◌∷◌, ◌++◌, length, Option, Some, None, refl, ap, sym, subst, ◌∙◌, inl, inr, arith, append-nil}
+use Rattle.std.proofs.Common.{◌≡◌, ℕ, ◌*◌, ◌≤◌, nat_eq, Bool, true, false, List, [], ◌∷◌, ◌++◌, length, refl, ap, sym, subst, ◌∙◌, inl, inr, arith, append-nil}
 use Rattle.std.proofs.lemmas.Bool.Decides.{eqb_tells}
 use Rattle.std.specs.List.{AllByRecursion}
 use Rattle.std.specs.Option.{unwrap_or}
@@ -8,9 +8,8 @@ use Rattle.iim_dataset.specs.Octets.{Octets}
 use Rattle.iim_dataset.specs.Datasets.{Dataset}
 use Rattle.iim_tables.specs.Numbers.{greatest_size}
 use Rattle.iim_tables.specs.Rows.{table, row_of}
-use Rattle.iim_fields.specs.Alive.{IsAlive}
-use Rattle.iim_fields.specs.Faults.{is_kept, kept, present_record, last_record}
-use Rattle.iim_fields.specs.Records.{AreSections, occurs, occurrences, repeats}
+use Rattle.iim_fields.specs.Faults.{is_kept, kept, present_record}
+use Rattle.iim_fields.specs.Records.{AreSections, repeats}
 use Rattle.iim_object.specs.Behind.{of_record}
 use Rattle.iim_object.specs.Packing.{subfile_datasets}
 use Rattle.iim_unpack.specs.Begins.{IsNumber}
@@ -18,9 +17,9 @@ use Rattle.iim_unpack.specs.ByLayers.{one_of_some}
 use Rattle.iim_unpack.specs.Plain.{Numbers, number_list, plain_numbers, filled, plain_end, plain}
 use Rattle.iim_unpack.proofs.Bounds.{alive_five}
 use Rattle.iim_unpack.proofs.Plain.{Tell, plain_told, are_sevens, are_eights, are_nines, filled_count}
-use Rattle.iim_unpack.proofs.PlainGoesOn.{AreGood, AreTens, MayReplace, AreAllGood, all_good, replace_tens, part_tens, end_tens, good_parts, good_end, go_on}
+use Rattle.iim_unpack.proofs.PlainGoesOn.{AreGood, AreTens, MayReplace, all_good, replace_tens, part_tens, end_tens, good_parts, good_end, go_on}
 use Rattle.iim_unpack.proofs.SameRecords.{tens_seen}
-use Rattle.iim_unpack.proofs.PlainPlaces.{pick, pick_like, pick_by, picks_plain, end_length}
+use Rattle.iim_unpack.proofs.PlainPlaces.{pick_like, pick_by, picks_plain, end_length}
 
 -- subfiles may repeat, and there are no others than 8:10 that could not
 eights_repeat : (n : ℕ) → repeats 8 n ≡ true

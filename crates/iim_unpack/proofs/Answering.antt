@@ -212,7 +212,7 @@ no_object : (ds : List Dataset) (h : Head) (x y : List ℕ) → (h.rec ≡ 8 →
 no_object ds h x y other = ap (λ (b : Bool). object_of ds ++ (if b then x else [])) (not_eight h.rec other) ∙ sym (ap (λ (b : Bool). object_of ds ++ (if b then y else [])) (not_eight h.rec other))
 
 -- data that are no subfile's change no layer
-fewer_data : (limits : Limits) (ds : List Dataset) (h : Head) (x y : List ℕ) → (h.rec ≡ 8 → ⊥) → AllGoOn limits ds (InData h x) → AllGoOn limits ds (InData h y)
+pub fewer_data : (limits : Limits) (ds : List Dataset) (h : Head) (x y : List ℕ) → (h.rec ≡ 8 → ⊥) → AllGoOn limits ds (InData h x) → AllGoOn limits ds (InData h y)
 fewer_data limits ds h x y other all = record {
   sizes = all.sizes;
   message = subst (λ (o : List ℕ). languages.IsAlive MessageLanguage (map Octet o ++ (if nat_eq h.rec 9 then End ∷ [] else []))) (no_object ds h x y other) all.message;
@@ -220,7 +220,7 @@ fewer_data limits ds h x y other all = record {
 }
 
 -- before a head
-before_it : AnswerLaws → (limits : Limits) (ds : List Dataset) (h : Head) (held : List ℕ) → (h.rec ≡ 8 → ⊥) → (AreSections ds → ⊥) → AllGoOn limits ds (InData h []) → AllGoOn limits ds (InTag held)
+pub before_it : AnswerLaws → (limits : Limits) (ds : List Dataset) (h : Head) (held : List ℕ) → (h.rec ≡ 8 → ⊥) → (AreSections ds → ⊥) → AllGoOn limits ds (InData h []) → AllGoOn limits ds (InTag held)
 before_it laws limits ds h held other unfinished all =
     let alive = alive_of limits ds (InData h []) all.sizes in
     let object : object_so_far ds (InData h []) ≡ object_of ds = ap (λ (b : Bool). object_of ds ++ (if b then [] else [])) (not_eight h.rec other) ∙ append-nil (object_of ds) in

@@ -65,7 +65,7 @@ number_tells d n told = tells_by (tells_number d.rec) refl told
 abbrev pick : Bool → ℕ
 pick b = if b then 1 else 0
 
-few_more : (ds : List Dataset) (d : Dataset) → length (of_record 8 ds) ≤ max_subfiles → (d.rec ≡ 8 → length (of_record 8 ds) < max_subfiles)
+pub few_more : (ds : List Dataset) (d : Dataset) → length (of_record 8 ds) ≤ max_subfiles → (d.rec ≡ 8 → length (of_record 8 ds) < max_subfiles)
     → length (of_record 8 (ds ++ d ∷ [])) ≤ max_subfiles
 few_more ds d few room = elim (eqb_tells d.rec 8) [
   | inl same ↦ let sum = one_more ds d in let one : pick (nat_eq d.rec 8) ≡ 1 = ap pick same.0 in let less = room same.1 in omega (arith, sum, one, less)

@@ -421,7 +421,7 @@ octet_refused laws limits octets next events text fault c r = by r.begun r.refus
         }
 
 -- data of another record than 8 are no part of the object
-no_object : (ds : List Dataset) (h : Head) (taken : List ℕ) → (h.rec ≡ 8 → ⊥) → object_so_far ds (InData h taken) ≡ object_of ds
+pub no_object : (ds : List Dataset) (h : Head) (taken : List ℕ) → (h.rec ≡ 8 → ⊥) → object_so_far ds (InData h taken) ≡ object_of ds
 no_object ds h taken other = ap (λ (b : Bool). object_of ds ++ (if b then taken else [])) (apart (eqb_tells h.rec 8)) ∙ append-nil (object_of ds)
   where
     apart : ((nat_eq h.rec 8 ≡ true) × (h.rec ≡ 8)) ⊎ ((nat_eq h.rec 8 ≡ false) × (h.rec ≡ 8 → ⊥)) → nat_eq h.rec 8 ≡ false

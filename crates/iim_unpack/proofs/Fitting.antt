@@ -187,7 +187,7 @@ texts_told m =
 
 -- ---- a ticket
 
-spelled : (p : Place) → ticket_of p ≡ split_octets (split_of p)
+pub spelled : (p : Place) → ticket_of p ≡ split_octets (split_of p)
 spelled p =
     ap (λ (xs : List ℕ). layout p.section p.phase p.fields p.numbers p.taken p.heads ((part_number p.message.part ∷ p.message.counter ∷ p.message.flag ∷ []) ++ xs)) (texts_told p.message)
 

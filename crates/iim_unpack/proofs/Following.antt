@@ -35,7 +35,7 @@ use Rattle.iim_unpack.specs.LowerLaws.{FollowLaws, ObjectLaws}
 -- ---- lists
 
 -- equal lists whose one front is no longer than the other
-longer_front : (x y u v : List ℕ) → x ++ y ≡ u ++ v → length x ≤ length u → (m : List ℕ) × (u ≡ x ++ m)
+pub longer_front : (x y u v : List ℕ) → x ++ y ≡ u ++ v → length x ≤ length u → (m : List ℕ) × (u ≡ x ++ m)
 longer_front [] y u v e le = (u, refl)
 longer_front (a ∷ x) y [] v e le = absurd (omega (arith, le))
 longer_front (a ∷ x) y (b ∷ u) v e le =
@@ -164,7 +164,7 @@ head_lives laws limits W c all whole head z (inr (same, begun, less)) = (subst (
 
 -- ---- values
 
-same_data : (d : Dataset) (head : Head) (given : List ℕ) → head_of d ≡ head → d.octets ≡ given → d ≡ data_of head given
+pub same_data : (d : Dataset) (head : Head) (given : List ℕ) → head_of d ≡ head → d.octets ≡ given → d ≡ data_of head given
 same_data d head given h o = λ i. record { rec = (h i).rec; set = (h i).set; octets = o i }
 
 -- The records and the sizes can continue with a value that has come.
@@ -180,7 +180,7 @@ value_lives laws limits W c all whole head z given y (inr (same, begun, less)) p
 
 -- ---- the message
 
-objects_append : (ds es : List Dataset) → object_of (ds ++ es) ≡ object_of ds ++ object_of es
+pub objects_append : (ds es : List Dataset) → object_of (ds ++ es) ≡ object_of ds ++ object_of es
 objects_append ds es =
     ap joined (filter-append (λ (x : Dataset). nat_eq x.rec 8) ds es) ∙ flat_map-append (λ (x : Dataset). x.octets) (of_record 8 ds) (of_record 8 es)
 
@@ -189,7 +189,7 @@ object_more : (ds : List Dataset) (c : Begun) → (e : List ℕ) × (object_so_f
 object_more ds (InTag held) = ([], sym (append-nil (object_of ds)))
 object_more ds (InData h taken) = (if nat_eq h.rec 8 then taken else [], refl)
 
-with_data : (ds : List Dataset) (h : Head) (taken : List ℕ) → h.rec ≡ 8 → object_so_far ds (InData h taken) ≡ object_of ds ++ taken
+pub with_data : (ds : List Dataset) (h : Head) (taken : List ℕ) → h.rec ≡ 8 → object_so_far ds (InData h taken) ≡ object_of ds ++ taken
 with_data ds h taken eight = ap (λ (r : ℕ). object_of ds ++ (if nat_eq r 8 then taken else [])) eight
 
 -- The octets of a begun subfile, and one more, are octets of the object so far.

@@ -1,24 +1,23 @@
 -- A place where each layer alone can be is possible: its plain octets lead there.
-use Rattle.std.proofs.Common.{IsTrue, ◌≡◌, ℕ, zero, suc, ◌+◌, ◌*◌, ◌-◌, ◌<◌, ◌≤◌, ◌^◌, nat_eq, cond, if◌then◌else◌, Bool, true, false, List, [], ◌∷◌, ◌++◌, length, map, sum, take, drop, Option, Some, None, IfSome, refl, ap, sym, subst, ◌∙◌, inl, inr, arith, append_assoc, append-nil, length-append, length-drop}
+use Rattle.std.proofs.Common.{IsTrue, ◌≡◌, ℕ, ◌+◌, ◌*◌, ◌-◌, ◌<◌, ◌≤◌, ◌^◌, nat_eq, if◌then◌else◌, Bool, true, false, List, [], ◌∷◌, ◌++◌, length, map, sum, take, drop, Option, Some, None, IfSome, refl, ap, sym, subst, ◌∙◌, inl, inr, arith, append_assoc, append-nil, length-append, length-drop}
 use Rattle.std.specs.List.{AllByRecursion}
 use Rattle.std.specs.Option.{unwrap_or}
 use Rattle.std.proofs.lemmas.Bool.{eqb-true}
 use Rattle.std.proofs.lemmas.Bool.Decides.{eqb_tells}
 use Rattle.std.proofs.lemmas.List.{length-take, take-append-drop}
 use Rattle.iim_dataset.specs.Octets.{IsOctet, Octets, number}
-use Rattle.iim_dataset.specs.Datasets.{Dataset, SpellsTag, SpellsStream, canonical_stream, head_of, count_octets}
+use Rattle.iim_dataset.specs.Datasets.{Dataset, SpellsTag, SpellsStream, canonical_stream, count_octets}
 use Rattle.iim_dataset.specs.Languages as languages
 use Rattle.iim_dataset.specs.Laws.{HasSpellings}
-use Rattle.iim_dataset.specs.Splits.{Begun, InTag, InData, IsBegun, Reads}
+use Rattle.iim_dataset.specs.Splits.{Begun, InTag, InData, IsBegun}
 use Rattle.iim_dataset.specs.Tags.{BeginsTag}
 use Rattle.iim_dataset.specs.declared.head.Head.{Head}
 use Rattle.iim_tables.specs.Numbers.{greatest_size}
 use Rattle.iim_fields.specs.Alive.{IsAlive, IsAliveAt}
-use Rattle.iim_fields.specs.Faults.{is_kept, kept, kept_octets, joined, present_record, last_record}
+use Rattle.iim_fields.specs.Faults.{is_kept, kept, joined, present_record, last_record}
 use Rattle.iim_fields.specs.Records.{AreSections, AreRecords, IsGoodDataset, records}
 use Rattle.iim_fields.specs.Standing.{IsWithin}
 use Rattle.iim_object.specs.Behind.{of_record, place_behind, place_ended, ending_of}
-use Rattle.iim_object.specs.Living.{Fit, IsWhole, HasDuties}
 use Rattle.iim_object.specs.Objects.{ObjectEnded, Confirmed, SubfileBegun, ObjectLanguage, number_tokens}
 use Rattle.iim_object.specs.Packing.{number_dataset, subfile_datasets}
 use Rattle.iim_object.specs.Places.{Ending, NotEnded, Ended, ConfirmedAs, ending_tokens, place_after}
@@ -30,8 +29,7 @@ use Rattle.iim_object.specs.Sizes.{Stated, AreStated, number_at}
 use Rattle.iim_object.specs.declared.size.Sizes.{Sizes}
 use Rattle.wire_story.specs.Texts.{IsText}
 use Rattle.wire_story.specs.Tokens.{Octet, End}
-use Rattle.wire_message.specs.Layers.{MessageLanguage, StoryLivesIn}
-use Rattle.wire_message.specs.Laws.{MessagesEndAfterEot, ReadersStandAtLivingOctets}
+use Rattle.wire_message.specs.Layers.{MessageLanguage}
 use Rattle.wire_message.specs.Messages.{Header, IsMessage}
 use Rattle.wire_message.specs.Reading.{is_ended}
 use Rattle.wire_message.specs.Saved.{LeadToSaved, saved}
@@ -40,30 +38,29 @@ use Rattle.wire_message.specs.declared.place.Place.{Place as Message}
 use Rattle.wire_message.specs.declared.place.Place.TheVariants as at_message
 use Rattle.wire_message.specs.declared.saved.MessagePart.TheVariants as part
 use Rattle.wire_message.specs.declared.saved.MessagePlace.{MessagePlace}
-use Rattle.iim_unpack.specs.Admitted.{Value, object_of}
+use Rattle.iim_unpack.specs.Admitted.{object_of}
 use Rattle.iim_unpack.specs.Begins.{IsNumber}
-use Rattle.iim_unpack.specs.ByLayers.{LeadsByLayers, TagsLead, RecordsLive, ObjectLeads, record_datasets, one_of_some, head_at}
+use Rattle.iim_unpack.specs.ByLayers.{LeadsByLayers, record_datasets, one_of_some, head_at}
 use Rattle.iim_unpack.specs.Framed.{AreWithin}
-use Rattle.iim_unpack.specs.LowerLaws.{AnswerLaws}
 use Rattle.iim_unpack.specs.Parts.{object_so_far, section, AllGoOn}
-use Rattle.iim_unpack.specs.Plain.{Numbers, number_list, plain_numbers, filled, plain_end, plain, AreSpellable, begun_object, begun_heads, plain_place}
-use Rattle.iim_unpack.specs.Possible.{Possible, AreOpenOrWhole, widest, AreHeadsWithin}
-use Rattle.iim_unpack.specs.Streams.{IsEnvelopeWithin}
+use Rattle.iim_unpack.specs.Plain.{Numbers, number_list, plain_numbers, filled, plain_end, plain, AreSpellable, begun_object, plain_place}
+use Rattle.iim_unpack.specs.Possible.{Possible, AreOpenOrWhole, widest}
 use Rattle.iim_unpack.specs.Tickets.{Place, Phase, TagBegun, DataBegun, AllEnded, IsPlaceOf}
-use Rattle.iim_unpack.specs.Tokens.{place_at, ObjectLives, MayGoOn, GoOn, GoOnAt}
+use Rattle.iim_unpack.specs.Tokens.{place_at, ObjectLives, MayGoOn, GoOn}
+use Rattle.iim_unpack.specs.LowerLaws.{ByLayersLaws, SizeLaws}
 use Rattle.iim_unpack.proofs.Alike.{Fits, alike, told_by, present_alike}
 use Rattle.iim_unpack.proofs.Answering.{nothing_held}
 use Rattle.iim_unpack.proofs.Bounds.{object_fits}
 use Rattle.iim_unpack.proofs.Following.{alive_of}
 use Rattle.iim_unpack.proofs.Lasts.{sections_last, last_sections}
-use Rattle.iim_unpack.proofs.LeadsByLayers.{ByLayersLaws, one_same}
+use Rattle.iim_unpack.proofs.LeadsByLayers.{one_same}
 use Rattle.iim_unpack.proofs.MessageOctets.{living_octets}
 use Rattle.iim_unpack.proofs.Plain.{Tell, taken_told, plain_led, plain_spelled, front_octets, back_octets}
 use Rattle.iim_unpack.proofs.PlainGoesOn.{fields_low, two_at_most, low_number}
-use Rattle.iim_unpack.proofs.PlainOpens.{OpenLaws, fit_in_rows, part_small, join_small, begun_small}
+use Rattle.iim_unpack.proofs.PlainOpens.{fit_in_rows, part_small, join_small}
 use Rattle.iim_unpack.proofs.PlainPlaces.{pick, picks_plain, numbers_in, alive_front, low_mode, mode_octet, sum_most}
 use Rattle.iim_unpack.proofs.Places.{at_end}
-use Rattle.iim_unpack.proofs.PlainSizes.{SizeLaws, duties_of, possible_like}
+use Rattle.iim_unpack.proofs.PlainSizes.{duties_of, possible_like}
 use Rattle.iim_unpack.proofs.SameRecords.{stated_behind}
 use Rattle.iim_unpack.proofs.Tickets.{total_of, count_of, sum_more, sum_one}
 
@@ -144,7 +141,7 @@ present_ended fields numbers heads object false keeps =
 
 -- ---- an envelope
 
-sizes_of : SizeLaws → (ps : List Stated) (r7 r8 r9 : List Dataset) (n : ℕ) → ps ≡ numbers_of r7 → AreStated ps → (0 < length (lengths_of r8) → objects.HasBoth ps) → (lengths_of r8 ≡ [] → ConfirmedAs n ≡ NotEnded)
+pub sizes_of : SizeLaws → (ps : List Stated) (r7 r8 r9 : List Dataset) (n : ℕ) → ps ≡ numbers_of r7 → AreStated ps → (0 < length (lengths_of r8) → objects.HasBoth ps) → (lengths_of r8 ≡ [] → ConfirmedAs n ≡ NotEnded)
     → languages.IsAlive ObjectLanguage (number_tokens ps ++ (map SubfileBegun (lengths_of r8) ++ ending_tokens (ConfirmedAs n))) → number_at 10 (numbers_of r9) ≡ Some n → (s : Sizes) × HaveSizes r7 r8 r9 s
 sizes_of laws ps r7 [] r9 n is are both none lives last = absurd (let bad : ConfirmedAs n ≡ NotEnded = none refl in cc)
 sizes_of laws ps r7 (r ∷ r8) r9 n is are both none lives last =
@@ -319,7 +316,7 @@ same_stated numbers ps e =
     record { mode = mode; largest = largest; are = λ i. record { mode = mode i; largest = largest i; announced = announced i; maximum = maximum i } }
 
 -- subfiles of a possible place are no longer than 7:20
-each_small : SizeLaws → (p : objects.Place) → IsPossible p → (size : ℕ) → number_at 20 p.stated ≡ Some size → 0 < length p.lengths → AllByRecursion (λ n. n ≤ size) p.lengths
+pub each_small : SizeLaws → (p : objects.Place) → IsPossible p → (size : ℕ) → number_at 20 p.stated ≡ Some size → 0 < length p.lengths → AllByRecursion (λ n. n ≤ size) p.lengths
 each_small laws p is size largest some =
     let d = duties_of p.stated is.stated (is.duties some) in
     let alive : languages.IsAlive ObjectLanguage (number_tokens p.stated ++ map SubfileBegun p.lengths) =

@@ -1,65 +1,52 @@
 -- At a possible place each layer alone can be.
-use Rattle.std.proofs.Common.{IsTrue, ◌≡◌, ℕ, zero, suc, ◌+◌, ◌*◌, ◌-◌, ◌<◌, ◌≤◌, nat_eq, cond, if◌then◌else◌, Bool, true, false, List, [], ◌∷◌, ◌++◌, length, map, sum, Option, Some, None, refl, ap, sym, subst, ◌∙◌, inl, inr, arith, append_assoc, append-nil, length-append}
-use Rattle.std.specs.List.{AllByRecursion}
-use Rattle.std.specs.Option.{unwrap_or}
+use Rattle.std.proofs.Common.{IsTrue, ◌≡◌, ℕ, zero, suc, ◌+◌, ◌-◌, ◌<◌, ◌≤◌, nat_eq, cond, if◌then◌else◌, Bool, true, false, List, [], ◌∷◌, ◌++◌, length, map, Some, None, refl, ap, sym, subst, ◌∙◌, inl, inr, arith, append_assoc, append-nil, length-append}
 use Rattle.std.proofs.lemmas.Bool.{eqb-true}
 use Rattle.std.proofs.lemmas.Bool.Decides.{eqb_tells}
 use Rattle.iim_dataset.specs.Octets.{Octets}
-use Rattle.iim_dataset.specs.Datasets.{Dataset, SpellsTag, head_of, count_octets}
+use Rattle.iim_dataset.specs.Datasets.{Dataset, SpellsTag, count_octets}
 use Rattle.iim_dataset.specs.Languages as languages
-use Rattle.iim_dataset.specs.Places.{IsPlace}
 use Rattle.iim_dataset.specs.Splits.{Begun, InTag, InData, Reads}
 use Rattle.iim_dataset.specs.Tags.{BeginsTag}
 use Rattle.iim_dataset.specs.declared.head.Head.{Head}
-use Rattle.iim_dataset.specs.declared.place.DatasetPlace.TheVariants.{Inside}
 use Rattle.iim_tables.specs.Numbers.{greatest_size}
 use Rattle.iim_fields.specs.Alive.{IsAlive, IsAliveAt}
-use Rattle.iim_fields.specs.Faults.{is_kept, kept, joined, present_record}
+use Rattle.iim_fields.specs.Faults.{kept, present_record}
 use Rattle.iim_fields.specs.Records.{AreSections}
 use Rattle.iim_object.specs.Behind.{of_record, place_behind, place_ended, ending_of}
-use Rattle.iim_object.specs.Objects.{ObjectEnded, Confirmed, SubfileBegun}
+use Rattle.iim_object.specs.Objects.{ObjectEnded, SubfileBegun}
 use Rattle.iim_object.specs.Places.{NotEnded, ConfirmedAs, place_after}
 use Rattle.iim_object.specs.Places as objects
 use Rattle.iim_object.specs.Plans.{max_subfiles}
 use Rattle.iim_object.specs.Records.{lengths_of, numbers_of}
-use Rattle.iim_object.specs.Saved.{IsAt, IsPossible, LastIsBegun, stated_numbers}
+use Rattle.iim_object.specs.Saved.{IsAt, IsPossible, stated_numbers}
 use Rattle.wire_story.specs.Tokens.{OctetOrEnd, Octet, End, with_end}
 use Rattle.wire_message.specs.Layers.{MessageLanguage}
 use Rattle.wire_message.specs.Laws.{MessagesEndAfterEot}
 use Rattle.wire_message.specs.Reading.{is_ended}
 use Rattle.wire_message.specs.Saved.{LeadToSaved, saved}
-use Rattle.wire_message.specs.SoFar.{LeadTo}
 use Rattle.wire_message.specs.declared.place.Place.{Place as Message}
 use Rattle.wire_message.specs.declared.place.Place.TheVariants as at_message
 use Rattle.wire_message.specs.declared.saved.MessagePart.TheVariants as part
 use Rattle.wire_message.specs.declared.saved.MessagePlace.{MessagePlace}
 use Rattle.iim_unpack.specs.Admitted.{object_of}
-use Rattle.iim_unpack.specs.Begins.{IsNumber}
-use Rattle.iim_unpack.specs.ByLayers.{LeadsByLayers, TagsLead, RecordsLive, ObjectLeads, MessageLeads, record_datasets, begun_subfiles, begun_of_object, object_after, one_of_some, are_ended, head_at}
-use Rattle.iim_unpack.specs.LowerLaws.{AnswerLaws}
+use Rattle.iim_unpack.specs.ByLayers.{LeadsByLayers, TagsLead, RecordsLive, ObjectLeads, MessageLeads, record_datasets, begun_subfiles, begun_of_object, object_after, one_of_some, are_ended}
 use Rattle.iim_unpack.specs.Parts.{object_so_far, section, AllGoOn}
-use Rattle.iim_unpack.specs.Plain.{Numbers, number_list, plain, plain_of}
-use Rattle.iim_unpack.specs.Possible.{Possible, widest, AreHeadsWithin}
-use Rattle.iim_unpack.specs.TicketParts.{came}
-use Rattle.iim_unpack.specs.Tickets.{Place, Phase, TagBegun, DataBegun, AllEnded, phase_of, heads_of, place_of}
-use Rattle.iim_unpack.specs.Tokens.{place_at, ObjectLives, MayGoOn}
+use Rattle.iim_unpack.specs.Plain.{plain}
+use Rattle.iim_unpack.specs.Possible.{Possible, widest}
+use Rattle.iim_unpack.specs.Tickets.{Place, Phase, TagBegun, AllEnded, phase_of, place_of}
+use Rattle.iim_unpack.specs.Tokens.{ObjectLives, MayGoOn}
+use Rattle.iim_unpack.specs.LowerLaws.{ByLayersLaws, OpenLaws}
 use Rattle.iim_unpack.proofs.Alike.{Fits, alike, present_alike}
 use Rattle.iim_unpack.proofs.Bounds.{object_fits}
 use Rattle.iim_unpack.proofs.Fitting.{Lived, lived}
-use Rattle.iim_unpack.proofs.Following.{alive_of, within_of, object_behind}
+use Rattle.iim_unpack.proofs.Following.{alive_of, object_behind}
 use Rattle.iim_unpack.proofs.HeadsWithin.{told_by}
 use Rattle.iim_unpack.proofs.Lasts.{last_sections, not_all}
 use Rattle.iim_unpack.proofs.PlainGoesOn.{plain_on, low_number}
-use Rattle.iim_unpack.proofs.PlainOpens.{OpenLaws, ending_like, possible_of, fit_in_rows}
+use Rattle.iim_unpack.proofs.PlainOpens.{ending_like, possible_of, fit_in_rows}
 use Rattle.iim_unpack.proofs.PlainPlaces.{numbers_in, all_kept, room_for, present_same}
 use Rattle.iim_unpack.proofs.SameRecords.{IsStated, nines, stated_behind, stated_at}
 use Rattle.iim_unpack.proofs.Tickets.{total_of, count_of, sum_more, sum_one}
-use Rattle.iim_unpack.proofs.PlainPlaces.{join_octets}
-
--- the laws by which it is so
-pub record ByLayersLaws : Type 0 where
-  pub opens : OpenLaws
-  pub ends : MessagesEndAfterEot
 
 -- ---- the dataset layer
 

@@ -46,3 +46,11 @@ pub mod Taking
 pub mod AtPlaces
 pub mod ObjectPlaces
 pub mod Restoring
+pub mod Made
+pub mod PlacesTold
+pub mod Twins
+pub mod Onward
+pub mod Continuing
+pub mod Refusing
+pub mod Saved
+pub mod TicketFaults

@@ -1,5 +1,5 @@
 -- Places of the object at its end, and before it.
-use Rattle.std.proofs.Common.{◌≡◌, ℕ, ◌<◌, ◌≤◌, List, [], ◌∷◌, ◌++◌, length, Option, refl, sym, subst, ◌∙◌, arith, append_assoc}
+use Rattle.std.proofs.Common.{◌≡◌, ℕ, ◌<◌, ◌≤◌, List, [], ◌∷◌, ◌++◌, length, Option, refl, subst, arith}
 use Rattle.iim_dataset.specs.Languages.{IsAlive}
 use Rattle.iim_object.specs.Behind.{TokensFollow}
 use Rattle.iim_object.specs.Objects.{ObjectToken, ObjectEnded, Confirmed, ObjectLanguage}

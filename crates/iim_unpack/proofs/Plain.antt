@@ -95,7 +95,7 @@ one_told set (Some n) h = ap (λ (k : ℕ). record { set = set; number = k } ∷
 abbrev pub all_stated : Numbers → List Stated
 all_stated n = one_stated 10 n.mode ++ (one_stated 20 n.largest ++ (one_stated 90 n.announced ++ one_stated 95 n.maximum))
 
-numbers_join : (xs ys : List Dataset) → numbers_of (xs ++ ys) ≡ numbers_of xs ++ numbers_of ys
+pub numbers_join : (xs ys : List Dataset) → numbers_of (xs ++ ys) ≡ numbers_of xs ++ numbers_of ys
 numbers_join [] ys = refl
 numbers_join (x ∷ xs) ys = ap (λ (ps : List Stated). record { set = x.set; number = number x.octets } ∷ ps) (numbers_join xs ys)
 

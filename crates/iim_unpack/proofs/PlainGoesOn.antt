@@ -36,7 +36,7 @@ use Rattle.iim_unpack.proofs.SameRecords.{of_kept, occurs_stated, same_stated, s
 counted : (n : ℕ) (d : Dataset) (ds : List Dataset) → occurrences n (d ∷ ds) ≡ cond (nat_eq d.set n) 1 0 + occurrences n ds
 counted n d ds = sum_by-cons (λ (x : Dataset). cond (nat_eq x.set n) 1 0) d ds
 
-count_join : (n : ℕ) (xs ys : List Dataset) → occurrences n (xs ++ ys) ≡ occurrences n xs + occurrences n ys
+pub count_join : (n : ℕ) (xs ys : List Dataset) → occurrences n (xs ++ ys) ≡ occurrences n xs + occurrences n ys
 count_join n xs ys = sum_by-append (λ (x : Dataset). cond (nat_eq x.set n) 1 0) xs ys
 
 none_occurs : (n : ℕ) (ds : List Dataset) → occurs n ds ≡ false → occurrences n ds ≡ 0
@@ -56,7 +56,7 @@ some_occurs n (d ∷ ds) e = by (nat_eq d.set n) refl (some_occurs n ds) e
     by false is more some = let all = counted n d ds in let rest = more some in omega (arith, all, rest)
 
 -- what occurs once at most occurs no oftener than in other datasets where it is seen as well
-fewer_by : (n : ℕ) (xs ys : List Dataset) → occurs n xs ≡ occurs n ys → occurrences n ys ≤ 1 → occurrences n ys ≤ occurrences n xs
+pub fewer_by : (n : ℕ) (xs ys : List Dataset) → occurs n xs ≡ occurs n ys → occurrences n ys ≤ 1 → occurrences n ys ≤ occurrences n xs
 fewer_by n xs ys same one = by (occurs n ys) refl
   where
     by : (b : Bool) → occurs n ys ≡ b → occurrences n ys ≤ occurrences n xs
@@ -82,7 +82,7 @@ good_back : (r : ℕ) (xs ys : List Dataset) → AreGood r (xs ++ ys) → AreGoo
 good_back r [] ys a = a
 good_back r (x ∷ xs) ys a = good_back r xs ys a.1
 
-good_with : (r : ℕ) (xs ys more : List Dataset) → MayReplace r xs ys → IsGoodRecord r (xs ++ more) → IsGoodRecord r (ys ++ more)
+pub good_with : (r : ℕ) (xs ys more : List Dataset) → MayReplace r xs ys → IsGoodRecord r (xs ++ more) → IsGoodRecord r (ys ++ more)
 good_with r xs ys more may good = record {
   each = good_both r ys more may.each (good_back r xs more good.each);
   mandatory = all_seen (mandatory r) good.mandatory;
@@ -137,7 +137,7 @@ sorted_step d ds is more five = elim five [
     first : d ∷ ds ≡ d ∷ joined5 (of_record 1 ds) (of_record 2 ds) (of_record 7 ds) (of_record 8 ds) (of_record 9 ds)
     first = ap (λ (xs : List Dataset). d ∷ xs) more
 
-ordered_sorted : (r : ℕ) (ds : List Dataset) → IsOrdered r ds → AllByRecursion (λ d. IsFive d.rec) ds → IsSorted ds
+pub ordered_sorted : (r : ℕ) (ds : List Dataset) → IsOrdered r ds → AllByRecursion (λ d. IsFive d.rec) ds → IsSorted ds
 ordered_sorted r [] is five = refl
 ordered_sorted r (d ∷ ds) is five = sorted_step d ds is.1 (ordered_sorted d.rec ds is.1 five.1) five.0
 
@@ -149,7 +149,7 @@ pub record AreAllGood (ds : List Dataset) : Type 0 where
   pub eight : IsGoodRecord 8 (of_record 8 ds)
   pub nine : IsGoodRecord 9 (of_record 9 ds)
 
-rebuilt : (ds : List Dataset) → IsSorted ds → AreAllGood ds → AreSections ds
+pub rebuilt : (ds : List Dataset) → IsSorted ds → AreAllGood ds → AreSections ds
 rebuilt ds sorted good = (
   of_record 1 ds,
   of_record 2 ds ++ (of_record 7 ds ++ (of_record 8 ds ++ of_record 9 ds)),
@@ -203,11 +203,11 @@ all_good ds (r1, from2, one, good1, (r2, from7, two, good2, (r7, from8, seven, g
 
 -- ---- order
 
-join_ordered : (r : ℕ) (xs ys : List Dataset) → IsOrdered r xs → IsOrdered (last_record r xs) ys → IsOrdered r (xs ++ ys)
+pub join_ordered : (r : ℕ) (xs ys : List Dataset) → IsOrdered r xs → IsOrdered (last_record r xs) ys → IsOrdered r (xs ++ ys)
 join_ordered r [] ys a b = b
 join_ordered r (x ∷ xs) ys a b = (a.0, join_ordered x.rec xs ys a.1 b)
 
-back_ordered : (r : ℕ) (xs ys : List Dataset) → IsOrdered r (xs ++ ys) → IsOrdered (last_record r xs) ys
+pub back_ordered : (r : ℕ) (xs ys : List Dataset) → IsOrdered r (xs ++ ys) → IsOrdered (last_record r xs) ys
 back_ordered r [] ys a = a
 back_ordered r (x ∷ xs) ys a = back_ordered x.rec xs ys a.1
 
@@ -252,11 +252,11 @@ three_ordered r a b c le is7 is8 is9 =
 
 -- ---- five records
 
-five_both : (xs ys : List Dataset) → AllByRecursion (λ d. IsFive d.rec) xs → AllByRecursion (λ d. IsFive d.rec) ys → AllByRecursion (λ d. IsFive d.rec) (xs ++ ys)
+pub five_both : (xs ys : List Dataset) → AllByRecursion (λ d. IsFive d.rec) xs → AllByRecursion (λ d. IsFive d.rec) ys → AllByRecursion (λ d. IsFive d.rec) (xs ++ ys)
 five_both [] ys a b = b
 five_both (x ∷ xs) ys a b = (a.0, five_both xs ys a.1 b)
 
-five_back : (xs ys : List Dataset) → AllByRecursion (λ d. IsFive d.rec) (xs ++ ys) → AllByRecursion (λ d. IsFive d.rec) ys
+pub five_back : (xs ys : List Dataset) → AllByRecursion (λ d. IsFive d.rec) (xs ++ ys) → AllByRecursion (λ d. IsFive d.rec) ys
 five_back [] ys a = a
 five_back (x ∷ xs) ys a = five_back xs ys a.1
 

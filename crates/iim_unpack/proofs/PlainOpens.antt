@@ -7,7 +7,6 @@ use Rattle.std.proofs.lemmas.Bool.{eqb-true}
 use Rattle.iim_dataset.specs.Octets.{number}
 use Rattle.iim_dataset.specs.Datasets.{Dataset, SpellsStream, canonical_stream, count_octets}
 use Rattle.iim_dataset.specs.Languages as languages
-use Rattle.iim_dataset.specs.Laws.{CanonicalStreamsAreSpelled}
 use Rattle.iim_dataset.specs.Splits.{Begun, InTag, InData, Reads}
 use Rattle.iim_dataset.specs.declared.head.Head.{Head}
 use Rattle.iim_tables.specs.Numbers.{greatest_size}
@@ -40,7 +39,7 @@ use Rattle.iim_unpack.specs.Possible.{AreOpenOrWhole, widest}
 use Rattle.iim_unpack.specs.Streams.{IsEnvelopeWithin}
 use Rattle.iim_unpack.specs.Tickets.{Place, IsPlaceOf, place_of}
 use Rattle.iim_unpack.specs.Tokens.{place_at, ObjectLives, MayGoOn}
-use Rattle.iim_unpack.specs.LowerLaws.{AnswerLaws}
+use Rattle.iim_unpack.specs.LowerLaws.{AnswerLaws, OpenLaws, SizeLaws}
 use Rattle.iim_unpack.proofs.Answering.{one_reading, reads_envelope, goes_envelope, nothing_held}
 use Rattle.iim_unpack.proofs.Bounds.{object_fits}
 use Rattle.iim_unpack.proofs.Fitting.{Lived}
@@ -49,15 +48,9 @@ use Rattle.iim_unpack.proofs.Lasts.{sections_last, last_sections}
 use Rattle.iim_unpack.proofs.Plain.{plain_told, plain_spelled}
 use Rattle.iim_unpack.proofs.PlainGoesOn.{plain_on, in_row, low_in_row, low_number}
 use Rattle.iim_unpack.proofs.PlainPlaces.{plain_by, numbers_in, all_kept, alive_front, room_for, present_same}
-use Rattle.iim_unpack.proofs.PlainSizes.{SizeLaws, duties_of, Lives, possible_like}
+use Rattle.iim_unpack.proofs.PlainSizes.{duties_of, Lives, possible_like}
 use Rattle.iim_unpack.proofs.SameRecords.{IsStated, nines, same_numbers, stated_behind, stated_at}
 use Rattle.iim_unpack.proofs.Tickets.{total_of, count_of, sum_more}
-
--- the laws by which it is so
-pub record OpenLaws : Type 0 where
-  pub answer : AnswerLaws
-  pub sizes : SizeLaws
-  pub spelled : CanonicalStreamsAreSpelled
 
 -- ---- the plain datasets
 

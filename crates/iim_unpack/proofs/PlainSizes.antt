@@ -3,20 +3,14 @@ use Rattle.std.proofs.Common.{◌≡◌, ℕ, ◌<◌, ◌≤◌, Bool, List, []
 use Rattle.std.specs.List.{AllByRecursion}
 use Rattle.iim_dataset.specs.Languages.{IsAlive}
 use Rattle.iim_tables.specs.Numbers.{greatest_size}
-use Rattle.iim_object.specs.Living.{NoClash, HasDuties, Fit, IsWhole, NumbersLiveWithoutClash, SubfilesLiveWhileTheyFit, ObjectsEndWhereTheyAreWhole, TotalsAreConfirmed}
+use Rattle.iim_object.specs.Living.{NoClash, HasDuties, Fit, IsWhole}
 use Rattle.iim_object.specs.Objects.{SubfileBegun, ObjectLanguage, number_tokens}
 use Rattle.iim_object.specs.Places.{Ending, NotEnded, Ended, ConfirmedAs, HasBoth, ending_tokens}
 use Rattle.iim_object.specs.Sizes.{Stated, AreStated, number_at, mode_number}
 use Rattle.iim_unpack.specs.Plain.{ObjectsArePossibleAlike}
+use Rattle.iim_unpack.specs.LowerLaws.{SizeLaws}
 use Rattle.iim_unpack.proofs.PlainPlaces.{some_of, known_of, low_mode}
 use Rattle.iim_unpack.proofs.SameRecords.{SameNumbers, same_numbers}
-
--- the laws by which the object layer lives
-pub record SizeLaws : Type 0 where
-  pub numbers : NumbersLiveWithoutClash
-  pub fit : SubfilesLiveWhileTheyFit
-  pub ends : ObjectsEndWhereTheyAreWhole
-  pub confirmed : TotalsAreConfirmed
 
 clash_like : (ps qs : List Stated) → SameNumbers ps qs → NoClash ps → NoClash qs
 clash_like ps qs same none = record {

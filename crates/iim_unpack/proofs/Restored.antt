@@ -1,19 +1,17 @@
 -- Readers that were made for a possible place stand at all octets that lead there.
-use Rattle.std.proofs.Common.{IsTrue, ◌≡◌, ℕ, zero, suc, ◌+◌, ◌-◌, ◌<◌, ◌≤◌, ◌⊎◌, nat_eq, cond, if◌then◌else◌, Bool, true, false, List, [], ◌∷◌, ◌++◌, length, sum, Option, Some, None, IsSome, refl, ap, sym, subst, ◌∙◌, inl, inr, arith, append_assoc, append-nil, length-append}
+use Rattle.std.proofs.Common.{◌≡◌, ℕ, zero, suc, ◌+◌, ◌-◌, ◌<◌, ◌≤◌, nat_eq, if◌then◌else◌, Bool, true, false, List, [], ◌∷◌, ◌++◌, length, Option, Some, None, IsSome, refl, ap, sym, subst, ◌∙◌, inl, inr, arith, append-nil, length-append}
 use Rattle.std.specs.List.{AllByRecursion}
 use Rattle.std.proofs.lemmas.Bool.{eqb-true}
 use Rattle.std.proofs.lemmas.Bool.Decides.{eqb_tells}
 use Rattle.iim_dataset.specs.Octets.{Octets}
-use Rattle.iim_dataset.specs.Datasets.{Dataset, count_octets}
+use Rattle.iim_dataset.specs.Datasets.{Dataset}
 use Rattle.iim_dataset.specs.Splits.{Begun, InTag, InData, Reads}
 use Rattle.iim_dataset.specs.Events.{handed_on}
-use Rattle.iim_dataset.specs.Places.{IsKeptAs, between, to_come}
+use Rattle.iim_dataset.specs.Places.{IsKeptAs, between}
 use Rattle.iim_dataset.specs.declared.head.Head.{Head}
 use Rattle.iim_dataset.specs.declared.place.DatasetPlace.{DatasetPlace}
-use Rattle.iim_dataset.specs.declared.place.DatasetPlace.TheVariants.{Tag, Inside}
 use Rattle.iim_fields.specs.Alive.{IsAlive, IsAliveAt}
-use Rattle.iim_fields.specs.Faults.{is_kept, kept, joined, present_record}
-use Rattle.iim_fields.specs.Records.{AreSections}
+use Rattle.iim_fields.specs.Faults.{is_kept, kept, present_record}
 use Rattle.iim_fields.specs.Standing as records
 use Rattle.iim_fields.specs.declared.limits.Limits.{Limits}
 use Rattle.iim_object.specs.Behind.{of_record, place_behind, place_ended, ending_of}
@@ -28,7 +26,6 @@ use Rattle.iim_object.specs.declared.state.State.{State}
 use Rattle.iim_object.specs.declared.size.Sizes.{Sizes}
 use Rattle.wire_story.specs.Texts.{AreLines}
 use Rattle.wire_message.specs.Layers.{text_so_far}
-use Rattle.wire_message.specs.Laws.{MessagesEndAfterEot, TextsStandBetweenStxAndEtx, OctetsLeadToOnePlace}
 use Rattle.wire_message.specs.Messages.{Header, IsMessage}
 use Rattle.wire_message.specs.Reading as wire
 use Rattle.wire_message.specs.Saved.{LeadToSaved, saved}
@@ -39,39 +36,29 @@ use Rattle.wire_message.specs.declared.saved.MessagePart.TheVariants as part
 use Rattle.wire_message.specs.declared.saved.MessagePlace.{MessagePlace}
 use Rattle.iim_unpack.specs.Admitted.{Value, object_of}
 use Rattle.iim_unpack.specs.Begins.{IsNumber}
-use Rattle.iim_unpack.specs.ByLayers.{LeadsByLayers, TagsLead, RecordsLive, record_datasets, begun_of_object, object_after, one_of_some, are_ended, head_at, begun_subfiles}
-use Rattle.iim_unpack.specs.LowerLaws.{AnswerLaws, FeedLaws}
-use Rattle.iim_unpack.specs.Parts.{object_so_far, section, AllGoOn, Behind, Within, StandsFor, TakesHead, TakesData, has_ended}
+use Rattle.iim_unpack.specs.ByLayers.{LeadsByLayers, RecordsLive, record_datasets, begun_of_object, object_after, one_of_some, are_ended, begun_subfiles}
+use Rattle.iim_unpack.specs.LowerLaws.{RestoreLaws}
+use Rattle.iim_unpack.specs.Parts.{object_so_far, section, Behind, Within, StandsFor, has_ended}
 use Rattle.iim_unpack.specs.Plain.{Numbers, number_list, plain}
-use Rattle.iim_unpack.specs.Possible.{Possible, AreOpenOrWhole, widest, AreHeadsWithin, LimitsAreToldByPlace}
-use Rattle.iim_unpack.specs.Restoring.{IsMadeFor, RecordsStand, ObjectStands, MessageStands, has_come}
-use Rattle.iim_unpack.specs.Routing.{Takes, HasEnded}
+use Rattle.iim_unpack.specs.Restoring.{IsMadeFor, RecordsStand, MessageStands, has_come}
 use Rattle.iim_unpack.specs.Streams.{IsEnvelopeWithin}
 use Rattle.iim_unpack.specs.Taking.{tag_place}
-use Rattle.iim_unpack.specs.Tickets.{Place, Phase, TagBegun, DataBegun, AllEnded, IsPlaceOf, phase_of, heads_of, place_of}
+use Rattle.iim_unpack.specs.Tickets.{Place, Phase, TagBegun, AllEnded, IsPlaceOf, phase_of, place_of}
 use Rattle.iim_unpack.specs.Tokens.{place_at, ObjectLives, GoOn, GoOnAt, MayGoOn}
-use Rattle.iim_unpack.specs.Unpacking.{Unpacking, Stands, IsDoneWith, IsOpen, IsLed, IsUnpacking, Stood, limits_in, are_some}
+use Rattle.iim_unpack.specs.Unpacking.{Unpacking, Stands, IsDoneWith, IsOpen, are_some}
 use Rattle.iim_unpack.specs.declared.parts.Parts.{Parts}
 use Rattle.iim_unpack.proofs.Alike.{Fits, told_by}
 use Rattle.iim_unpack.proofs.Answering.{one_reading, reads_envelope, goes_envelope}
 use Rattle.iim_unpack.proofs.Ended.{ended_behind, unended_inside}
-use Rattle.iim_unpack.proofs.Feeding.{TellsSizes, done_by, whole_parts}
+use Rattle.iim_unpack.proofs.Feeding.{TellsSizes, done_by}
 use Rattle.iim_unpack.proofs.Following.{alive_of}
 use Rattle.iim_unpack.proofs.Lasts.{sections_last}
-use Rattle.iim_unpack.proofs.LayersLead.{SameStated, same_stated, present_ended, front_alive}
-use Rattle.iim_unpack.proofs.LeadsByLayers.{ByLayersLaws, whole_at, subfile_at, opened_at, confirmed_at, nine_ended, one_same}
-use Rattle.iim_unpack.proofs.Plain.{Tell}
+use Rattle.iim_unpack.proofs.LayersLead.{same_stated, present_ended, front_alive}
+use Rattle.iim_unpack.proofs.LeadsByLayers.{whole_at, subfile_at, opened_at, confirmed_at, nine_ended, one_same}
 use Rattle.iim_unpack.proofs.PlainOpens.{fit_in_rows, possible_of}
-use Rattle.iim_unpack.proofs.PlainPlaces.{numbers_in}
-use Rattle.iim_unpack.proofs.SamePlace.{PlaceLaws, Opened, opened, fields_behind, fields_in, some_read, has_begun, none_present, less_alive, octets_of}
-use Rattle.iim_unpack.proofs.SameRecords.{IsStated, SameRecords, SameShape, same_shape, stated_behind, stated_at}
-use Rattle.iim_unpack.proofs.Tickets.{total_of, count_of}
-
--- the laws by which it is so
-pub record RestoreLaws : Type 0 where
-  pub layers : ByLayersLaws
-  pub places : PlaceLaws
-  pub feed : FeedLaws
+use Rattle.iim_unpack.proofs.SamePlace.{opened, fields_behind, fields_in, some_read, has_begun, none_present, less_alive}
+use Rattle.iim_unpack.proofs.SameRecords.{IsStated, SameRecords, same_shape, stated_behind, stated_at}
+use Rattle.iim_unpack.proofs.Tickets.{count_of}
 
 -- ---- the records
 
@@ -317,6 +304,21 @@ ended_for : (parts : Parts) (ds : List Dataset) (b : Begun) → nat_eq (present_
 ended_for parts ds (InTag held) open' stand = ended_behind parts ds stand.fields ∙ open'
 ended_for parts ds (InData h xs) open' stand = unended_inside parts h stand.fields.inside.0 stand.fields.inside.1
 
+-- What holds of the readers where open octets have led.
+pub record AreOpenAt (u : Unpacking) (ds : List Dataset) (b : Begun) : Type 0 where
+  pub stands : StandsFor u.parts ds b
+  pub keeps : IsKeptAs u.reader.place b
+  pub unended : has_ended u.parts ≡ false
+
+pub made_open : RestoreLaws → (place : Place) (limits : Limits) (at : ℕ) (u : Unpacking) → AreMadeFor limits at u place → (p : List ℕ) (is : IsPlaceOf p place) → IsOpen limits p → AreOpenAt u is.whole is.begun
+made_open laws place limits at u made p is opens =
+    let ds = is.whole in
+    let b = is.begun in
+    let here : AreMadeFor limits at u (place_of ds b is.message) = subst (AreMadeFor limits at u) is.is_place made in
+    let was = opened laws.places limits p ds b is.reads opens in
+    let stand = stands_for laws limits at u p ds b is.message is.text here is.reads was.goes.sizes was.ended is.leads in
+    record { stands = stand; keeps = keeps u.reader.place p ds b is.reads was.ended here.1.tags; unended = ended_for u.parts ds b was.ended stand }
+
 -- An unpacker that was made for a place stands on all octets that lead there and are open.
 pub made_stands : RestoreLaws → (place : Place) (limits : Limits) (at : ℕ) (u : Unpacking) → AreMadeFor limits at u place → (p : List ℕ) → IsPlaceOf p place → IsOpen limits p → Stands u p at
 made_stands laws place limits at u made p is opens =
@@ -324,18 +326,18 @@ made_stands laws place limits at u made p is opens =
     let b = is.begun in
     let here : AreMadeFor limits at u (place_of ds b is.message) = subst (AreMadeFor limits at u) is.is_place made in
     let was = opened laws.places limits p ds b is.reads opens in
-    let stand = stands_for laws limits at u p ds b is.message is.text here is.reads was.goes.sizes was.ended is.leads in
     let alive = alive_of limits ds b was.goes.sizes in
+    let are = made_open laws place limits at u made p is opens in
     record {
       taking = here.1.taking;
-      unended = ended_for u.parts ds b was.ended stand;
+      unended = are.unended;
       counts = here.1.counts;
       begun = here.1.begun ∙ come p ds b is.reads was.ended alive ∙ sym (some_read p ds b is.reads);
       is_led = record {
         events = handed_on ds b;
         text = text_so_far (object_so_far ds b);
-        leads = record { begun = b; hands = record { whole = ds; reads = is.reads; handed = refl }; keeps = keeps u.reader.place p ds b is.reads was.ended here.1.tags };
-        led = record { whole = ds; begun = b; told = refl; stands = stand; is_text = refl };
+        leads = record { begun = b; hands = record { whole = ds; reads = is.reads; handed = refl }; keeps = are.keeps };
+        led = record { whole = ds; begun = b; told = refl; stands = are.stands; is_text = refl };
       };
       is_open = subst (λ (l : Limits). IsOpen l p) (sym here.1.limits_are) opens;
     }

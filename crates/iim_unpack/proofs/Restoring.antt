@@ -1,21 +1,15 @@
 -- What the parts of a ticket say of its place.
-use Rattle.std.proofs.Common.{IsTrue, ◌≡◌, ℕ, ◌+◌, ◌-◌, ◌<◌, ◌≤◌, nat_eq, cond, if◌then◌else◌, Bool, true, false, List, [], ◌∷◌, ◌++◌, length, Option, None, refl, ap, sym, subst, ◌∙◌, arith}
-use Rattle.std.specs.List.{AllByRecursion}
-use Rattle.std.proofs.lemmas.Bool.{eqb-true}
-use Rattle.iim_dataset.specs.Octets.{Octets}
+use Rattle.std.proofs.Common.{◌≡◌, ℕ, ◌+◌, ◌-◌, ◌≤◌, nat_eq, cond, if◌then◌else◌, Bool, true, false, List, [], ◌∷◌, length, Option, refl, ap, sym, subst, arith}
 use Rattle.iim_dataset.specs.Datasets.{Dataset}
-use Rattle.iim_fields.specs.Alive.{IsAlive}
-use Rattle.iim_fields.specs.Faults.{is_kept, kept, kept_octets, joined}
+use Rattle.iim_fields.specs.Faults.{kept, kept_octets, joined}
 use Rattle.iim_fields.specs.Standing.{IsWithin}
 use Rattle.iim_fields.specs.declared.limits.Limits.{Limits}
-use Rattle.iim_unpack.specs.Begins.{IsNumber, AreNumbers}
-use Rattle.iim_unpack.specs.ByLayers.{TagsLead, RecordsLive, head_at, begun_subfiles}
-use Rattle.iim_unpack.specs.Plain.{number_list}
+use Rattle.iim_unpack.specs.Begins.{AreNumbers}
+use Rattle.iim_unpack.specs.ByLayers.{TagsLead, RecordsLive, head_at}
 use Rattle.iim_unpack.specs.Possible.{begun_count, begun_fields}
 use Rattle.iim_unpack.specs.Restoring.{HasFew, MayBegin, AreWithinWith}
 use Rattle.iim_unpack.specs.Taking.{AreKept, GoOnWithin, numbers_told, told_datasets}
-use Rattle.iim_unpack.specs.TicketParts.{came}
-use Rattle.iim_unpack.specs.Tickets.{Phase, TagBegun, DataBegun, AllEnded}
+use Rattle.iim_unpack.specs.Tickets.{Phase, DataBegun}
 use Rattle.iim_unpack.proofs.AtPlaces.{fits_told, live_alive}
 use Rattle.iim_unpack.proofs.Plain.{plain_told}
 

@@ -30,14 +30,13 @@ use Rattle.iim_object.specs.Behind.{of_record, place_behind, place_ended}
 use Rattle.iim_object.specs.declared.state.State.{State}
 use Rattle.iim_object.specs.Saved.{stated_numbers}
 use Rattle.wire_message.specs.Layers.{text_so_far}
-use Rattle.wire_message.specs.Laws.{TextsStandBetweenStxAndEtx, OctetsLeadToOnePlace, PlacesAreSavedApart}
 use Rattle.wire_message.specs.Reading as wire
 use Rattle.wire_message.specs.SoFar.{LeadTo}
 use Rattle.wire_message.specs.Saved.{LeadToSaved}
 use Rattle.wire_message.specs.declared.place.Place.{Place as Message}
 use Rattle.wire_message.specs.declared.saved.MessagePlace.{MessagePlace}
 use Rattle.iim_unpack.specs.Admitted.{object_of}
-use Rattle.iim_unpack.specs.LowerLaws.{AnswerLaws}
+use Rattle.iim_unpack.specs.LowerLaws.{PlaceLaws}
 use Rattle.iim_unpack.specs.Tokens.{place_at, ObjectLives, GoOn, GoOnAt}
 use Rattle.iim_unpack.specs.Parts.{object_so_far, section, Behind, Within, StandsFor, AllGoOn}
 use Rattle.iim_unpack.specs.Unpacking.{IsOpen, limits_in, are_some}
@@ -47,14 +46,6 @@ use Rattle.iim_unpack.specs.declared.parts.Parts.{Parts}
 use Rattle.iim_unpack.proofs.Following.{alive_of}
 use Rattle.iim_unpack.proofs.Lasts.{SplitLast, split_last, present_last, last_sections}
 use Rattle.iim_unpack.proofs.SameRecords.{SameRecords, SameFields, SameNumbers, IsStated, same_records, same_more, same_numbers, none_other, stated_behind, stated_at}
-
--- the laws by which one place has one unpacker
-pub record PlaceLaws : Type 0 where
-  pub answer : AnswerLaws
-  pub texts : TextsStandBetweenStxAndEtx
-  pub one_place : OctetsLeadToOnePlace
-  pub apart : PlacesAreSavedApart
-  pub values : ValuesDieWithTheirFault
 
 -- ---- what is begun
 
@@ -74,7 +65,7 @@ abbrev tag_phase : Bool → List ℕ → Phase
 tag_phase b held = if b then AllEnded else TagBegun held
 
 -- the octets of a tag, where no dataset has ended the envelope
-abbrev HeldAlike : List Dataset → Begun → Begun → Type 0
+abbrev pub HeldAlike : List Dataset → Begun → Begun → Type 0
 HeldAlike ds (InTag x) (InTag y) = nat_eq (present_record ds) 9 ≡ true → x ≡ y
 HeldAlike ds b c = Unit {0}
 
@@ -95,7 +86,7 @@ same_data h k xs ys rec less few e =
     let left : h.count - length xs ≡ k.count - length ys = cc e in
     record { head = λ i. record { rec = rec i; set = set i; count = count i }; many = omega (arith, count, left, less, few); given = cc e }
 
-same_begun : (p q : List ℕ) (ds es : List Dataset) (c d : Begun) → Reads p ds c → Reads q es d → section ds c ≡ section es d → phase_of ds c ≡ phase_of es d → HeldAlike ds c d → SameBegun c d
+pub same_begun : (p q : List ℕ) (ds es : List Dataset) (c d : Begun) → Reads p ds c → Reads q es d → section ds c ≡ section es d → phase_of ds c ≡ phase_of es d → HeldAlike ds c d → SameBegun c d
 same_begun p q ds es (InTag x) (InTag y) r s sec e held = same_tag (nat_eq (present_record ds) 9) (nat_eq (present_record es) 9) x y (ap (λ n. nat_eq n 9) sec) e held
 same_begun p q ds es (InTag x) (InData k ys) r s sec e held = no_data (nat_eq (present_record ds) 9) x k.set k.count (k.count - length ys) (if k.rec == 8 then [] else ys) e
 same_begun p q ds es (InData h xs) (InTag y) r s sec e held = no_data (nat_eq (present_record es) 9) y h.set h.count (h.count - length xs) (if h.rec == 8 then [] else xs) (sym e)
@@ -115,7 +106,7 @@ checked_as check ds es at alive present same =
     record { order = at.order; begun = at.begun; at = at.at; none = at.none; alive = alive; tells = same_tells at.order ds es at.tells present same }
 
 -- the record layer lives with a value that lived after datasets of the same records
-value_as : ValuesDieWithTheirFault → (ds es : List Dataset) (d : Dataset) → Octets d.octets → IsAlive (ds ++ d ∷ []) → IsAliveAt es (head_of d) → IsAlive (es ++ d ∷ [])
+pub value_as : ValuesDieWithTheirFault → (ds es : List Dataset) (d : Dataset) → Octets d.octets → IsAlive (ds ++ d ∷ []) → IsAliveAt es (head_of d) → IsAlive (es ++ d ∷ [])
 value_as law ds es d octets alive at = (law es d at octets).0 ((law ds d (d, refl, alive) octets).1 alive)
 
 taken_as : ValuesDieWithTheirFault → (check : Option RecordPlace) (ds es : List Dataset) (h : Head) → HasTaken check ds h → IsAliveAt es h → SameRecords ds es → HasTaken check es h
@@ -322,19 +313,19 @@ data_some (d ∷ ds) h xs = refl
 -- ---- the whole unpacker
 
 -- what the place says of whole datasets and a begun one
-record SameAll (ds es : List Dataset) (c d : Begun) : Type 0 where
-  section : section ds c ≡ section es d
-  fields : kept ds ≡ kept es
-  numbers : stated_numbers (numbers_of (of_record 7 ds)) ≡ stated_numbers (numbers_of (of_record 7 es))
-  taken : length (object_so_far ds c) ≡ length (object_so_far es d)
-  heads : heads_of ds c ≡ heads_of es d
-  message : SameMessage (object_so_far ds c) (object_so_far es d)
+pub record SameAll (ds es : List Dataset) (c d : Begun) : Type 0 where
+  pub section : section ds c ≡ section es d
+  pub fields : kept ds ≡ kept es
+  pub numbers : stated_numbers (numbers_of (of_record 7 ds)) ≡ stated_numbers (numbers_of (of_record 7 es))
+  pub taken : length (object_so_far ds c) ≡ length (object_so_far es d)
+  pub heads : heads_of ds c ≡ heads_of es d
+  pub message : SameMessage (object_so_far ds c) (object_so_far es d)
 
-total_as : (b : Bool) (o r xs ys : List ℕ) → length xs ≡ length ys → length (o ++ (if b then xs else [])) ≡ length (r ++ (if b then ys else [])) → length o ≡ length r
+pub total_as : (b : Bool) (o r xs ys : List ℕ) → length xs ≡ length ys → length (o ++ (if b then xs else [])) ≡ length (r ++ (if b then ys else [])) → length o ≡ length r
 total_as true o r xs ys many e = let one = length-append o xs in let two = length-append r ys in omega (arith, many, e, one, two)
 total_as false o r xs ys many e = sym (ap length (append-nil o)) ∙ e ∙ ap length (append-nil r)
 
-count_as : (x y one : ℕ) → x + one ≡ y + one → x ≡ y
+pub count_as : (x y one : ℕ) → x + one ≡ y + one → x ≡ y
 count_as x y one e = omega (arith, e)
 
 data_by : PlaceLaws → (limits : Limits) (parts : Parts) (ds es : List Dataset) (h : Head) (xs ys : List ℕ) → length xs ≡ length ys → nat_eq (present_record ds) 9 ≡ nat_eq (present_record es) 9 → Octets ys
@@ -404,7 +395,7 @@ opened laws limits p ds c r is =
       ];
     }
 
-held_open : (ds : List Dataset) (c d : Begun) → nat_eq (present_record ds) 9 ≡ false → HeldAlike ds c d
+pub held_open : (ds : List Dataset) (c d : Begun) → nat_eq (present_record ds) 9 ≡ false → HeldAlike ds c d
 held_open ds (InTag x) (InTag y) none = λ nine. absurd (let bad : false ≡ true = sym none ∙ nine in cc)
 held_open ds (InTag x) (InData k ys) none = tt
 held_open ds (InData h xs) (InTag y) none = tt

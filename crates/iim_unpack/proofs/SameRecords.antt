@@ -182,7 +182,7 @@ same_stated n ps qs same a b = elim (eqb_tells 10 n) [
 
 -- ---- records 8 and 9, whose one number is 10
 
-no_other : (n : ℕ) → nat_eq 10 n ≡ false → (row_of 8 n ≡ None) × (row_of 9 n ≡ None)
+pub no_other : (n : ℕ) → nat_eq 10 n ≡ false → (row_of 8 n ≡ None) × (row_of 9 n ≡ None)
 unfolding row_of table
 no_other n e = (rw e refl, rw e refl)
 

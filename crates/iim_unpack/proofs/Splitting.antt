@@ -8,7 +8,7 @@ use Rattle.iim_unpack.specs.TicketFields.{IsField, HoldsFields}
 use Rattle.iim_unpack.specs.Begins.{BeginsWithNone, BeginsWithFewer, AreFields, AreNumbers, AreTexts, FieldsBefore, IsFour, IsNumber, IsShort}
 use Rattle.iim_unpack.specs.FieldLaws.{first_same, rest_same, fronts, one_four, one_field, some_octets, same_fields}
 use Rattle.iim_unpack.specs.TicketParts.{IsPhase, IsFaultOf, AreNoMessage, AreNoBody, HasForm, Split, SplitsInto, TicketsHaveOneSplit, split_octets, body_octets, message_parts, came}
-use Rattle.iim_unpack.specs.declared.ticket_parts.TicketFault.TheVariants.{Form}
+use Rattle.iim_unpack.specs.declared.ticket_fault.TicketFault.TheVariants.{Form}
 
 -- octets that two spellings begin have one reading
 abbrev pub HasOne : {X : Type 0} → (X → Type 0) → (X → List ℕ) → Type 0

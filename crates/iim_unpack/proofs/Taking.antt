@@ -61,12 +61,16 @@ pub took_else : {T : Type 0} (ready : T → Type 0) (stands : T → List Dataset
 took_else ready stands limits a b c es fs first all h none is =
     subst (λ (v : Bool). TookAll ready stands limits a (es ++ fs) c v) (sym is) (took_none ready stands limits a b c es fs (subst (λ (v : Bool). TookAll ready stands limits a es b v) none h))
 
+-- the same of the datasets and the value told otherwise
+pub took_as : {T : Type 0} (ready : T → Type 0) (stands : T → List Dataset → Type 0) (limits : T → Limits) (a b : T) (es fs : List Dataset) (v w : Bool) → es ≡ fs → v ≡ w → TookAll ready stands limits a es b v → TookAll ready stands limits a fs b w
+took_as {T} ready stands limits a b es fs v w same is took = subst (λ (x : Bool). TookAll ready stands limits a fs b x) is (subst (λ (xs : List Dataset). TookAll ready stands limits a xs b v) same took)
+
 -- ---- what no datasets can continue with
 
 good_only : (r : ℕ) (d : Dataset) → (d.rec ≡ r) × IsGoodDataset d → IsGoodDataset d
 good_only r d h = h.1
 
-each_good : (ds : List Dataset) → AreSections ds → AllByRecursion IsGoodDataset ds
+pub each_good : (ds : List Dataset) → AreSections ds → AllByRecursion IsGoodDataset ds
 each_good ds (r1, from2, one, good1, (r2, from7, two, good2, (r7, from8, seven, good7, (r8, from9, eight, good8, (r9, rest, nine, good9, end))))) =
     let last : AllByRecursion IsGoodDataset rest = subst (AllByRecursion IsGoodDataset) (sym end) tt in
     let a9 : AllByRecursion IsGoodDataset from9 = subst (AllByRecursion IsGoodDataset) (sym nine) (all_join IsGoodDataset r9 rest (all_weaker _ IsGoodDataset (good_only 9) r9 good9.each) last) in
@@ -75,7 +79,7 @@ each_good ds (r1, from2, one, good1, (r2, from7, two, good2, (r7, from8, seven, 
     let a2 : AllByRecursion IsGoodDataset from2 = subst (AllByRecursion IsGoodDataset) (sym two) (all_join IsGoodDataset r2 from7 (all_weaker _ IsGoodDataset (good_only 2) r2 good2.each) a7) in
     subst (AllByRecursion IsGoodDataset) (sym one) (all_join IsGoodDataset r1 from2 (all_weaker _ IsGoodDataset (good_only 1) r1 good1.each) a2)
 
-good_at : (ds : List Dataset) (d : Dataset) (more : List Dataset) → AllByRecursion IsGoodDataset ((ds ++ d ∷ []) ++ more) → IsGoodDataset d
+pub good_at : (ds : List Dataset) (d : Dataset) (more : List Dataset) → AllByRecursion IsGoodDataset ((ds ++ d ∷ []) ++ more) → IsGoodDataset d
 good_at [] d more h = h.0
 good_at (x ∷ ds) d more h = good_at ds d more h.1
 

@@ -208,7 +208,7 @@ few_kept u (p, a, stood) = elim stood [ inl at ↦ few_led at.is_led | inr at �
 
 -- ---- one ticket
 
-same_place : OctetsLeadToOnePlace → (whole es : List Dataset) (b c : Begun) (m n : MessagePlace) (t v : List ℕ) → whole ≡ es → b ≡ c
+pub same_place : OctetsLeadToOnePlace → (whole es : List Dataset) (b c : Begun) (m n : MessagePlace) (t v : List ℕ) → whole ≡ es → b ≡ c
     → LeadToSaved (object_so_far whole b) t m → LeadToSaved (object_so_far es c) v n → place_of whole b m ≡ place_of es c n
 same_place one whole es b c m n t v is same (at, leads, saves) (other, goes, keeps) =
     let octets : object_so_far es c ≡ object_so_far whole b = ap (λ (ds : List Dataset). object_so_far ds c) (sym is) ∙ ap (object_so_far whole) (sym same) in

@@ -26,6 +26,7 @@ pub mod Plain
 pub mod ByLayers
 pub mod Taking
 pub mod Restoring
+pub mod Continuing
 pub mod Nowhere
 pub mod Value
 pub mod Pieces

@@ -1,9 +1,10 @@
 -- The laws of the lower crates, bundled by what rests on them.
-use Rattle.iim_dataset.specs.Laws.{NoTagBeginsAnother, NoDatasetBeginsAnother, NoOctetsGoOn, OctetsAreHandedOnOneWay, EventsTellTheDatasets, WhatAnOctetCompletes}
+use Rattle.iim_dataset.specs.Laws.{CanonicalStreamsAreSpelled, NoTagBeginsAnother, NoDatasetBeginsAnother, NoOctetsGoOn, OctetsAreHandedOnOneWay, EventsTellTheDatasets, WhatAnOctetCompletes}
 use Rattle.iim_fields.specs.Laws.{EnvelopesEndWithTheLastRecord, HeadsDieWithTheirFault, NoSectionsBeginOthers, ValuesDieWithTheirFault}
 use Rattle.iim_object.specs.Behind.{TokensFollow, OthersLeadNowhere, NumbersLead, SubfilesLead, EndsLead, DatasetsLiveWithTheirTokens, DatasetsEndWithTheirTokens, RecordsAreByNumber}
+use Rattle.iim_object.specs.Living.{NumbersLiveWithoutClash, ObjectsEndWhereTheyAreWhole, SubfilesLiveWhileTheyFit, TotalsAreConfirmed}
 use Rattle.wire_story.specs.Laws.{TextsSoFarHaveOneReading}
-use Rattle.wire_message.specs.Laws.{ReadersStandAtLivingOctets, TextsStandBetweenStxAndEtx}
+use Rattle.wire_message.specs.Laws.{LivingOctetsLeadOn, MessagesEndAfterEot, OctetsAreRefusedAlike, OctetsLeadOnAlike, OctetsLeadToOnePlace, PlacesAreSavedApart, ReadersStandAtLivingOctets, TextsStandBetweenStxAndEtx}
 
 -- how datasets lead the object from place to place
 pub record ObjectLaws : Type 0 where
@@ -62,3 +63,44 @@ pub record AnswerLaws : Type 0 where
   pub living : ReadersStandAtLivingOctets
   pub numbers : RecordsAreByNumber
   pub texts : TextsSoFarHaveOneReading
+
+-- how long the object layer lives
+pub record SizeLaws : Type 0 where
+  pub numbers : NumbersLiveWithoutClash
+  pub fit : SubfilesLiveWhileTheyFit
+  pub ends : ObjectsEndWhereTheyAreWhole
+  pub confirmed : TotalsAreConfirmed
+
+-- by which plain octets are open
+pub record OpenLaws : Type 0 where
+  pub answer : AnswerLaws
+  pub sizes : SizeLaws
+  pub spelled : CanonicalStreamsAreSpelled
+
+-- by which one place has one unpacker
+pub record PlaceLaws : Type 0 where
+  pub answer : AnswerLaws
+  pub texts : TextsStandBetweenStxAndEtx
+  pub one_place : OctetsLeadToOnePlace
+  pub apart : PlacesAreSavedApart
+  pub values : ValuesDieWithTheirFault
+
+-- by which places are possible where each layer can be there
+pub record ByLayersLaws : Type 0 where
+  pub opens : OpenLaws
+  pub ends : MessagesEndAfterEot
+
+-- by which an unpacker is made of readers
+pub record RestoreLaws : Type 0 where
+  pub layers : ByLayersLaws
+  pub places : PlaceLaws
+  pub feed : FeedLaws
+
+-- by which octets of one place continue alike
+pub record OnwardLaws : Type 0 where
+  pub opens : OpenLaws
+  pub places : PlaceLaws
+  pub on : LivingOctetsLeadOn
+  pub alike : OctetsLeadOnAlike
+  pub ends : MessagesEndAfterEot
+  pub refused : OctetsAreRefusedAlike

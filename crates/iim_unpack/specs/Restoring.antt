@@ -3,7 +3,7 @@ use Rattle.std.specs.Prelude.{◌≡◌, ℕ, ◌+◌, ◌<◌, ◌≤◌, ◌�
 use Rattle.iim_dataset.specs.Datasets.{Dataset}
 use Rattle.iim_dataset.specs.Octets.{Octets}
 use Rattle.iim_dataset.specs.declared.head.Head.{Head}
-use Rattle.iim_dataset.specs.Reading.{Reader, TakesCalls}
+use Rattle.iim_dataset.specs.Reading.{TakesCalls}
 use Rattle.iim_fields.specs.Alive.{IsAliveAt}
 use Rattle.iim_fields.specs.Faults.{is_kept, joined, kept, kept_octets}
 use Rattle.iim_fields.specs.Standing.{FieldsPlace, StandsBehind, StandsIn, IsWithin}
@@ -22,9 +22,12 @@ use Rattle.iim_unpack.specs.Plain.{Numbers}
 use Rattle.iim_unpack.specs.Possible.{Possible, AreHeadsWithin, begun_count, begun_fields, split_of}
 use Rattle.iim_unpack.specs.Streams.{IsEnvelopeWithin}
 use Rattle.iim_unpack.specs.Taking.{tag_place}
-use Rattle.iim_unpack.specs.TicketParts.{Split}
+use Rattle.iim_unpack.specs.TicketParts.{Split, SplitsInto, IsFaultOf}
 use Rattle.iim_unpack.specs.Tickets.{Place, Phase, TagBegun, DataBegun, AllEnded, IsPlaceOf, ticket_of}
-use Rattle.iim_unpack.specs.Unpacking.{Unpacking, Stands, IsDoneWith, IsOpen, limits_in, are_some}
+use Rattle.iim_unpack.specs.Unpacking.{Unpacking, Stands, IsDoneWith, IsOpen, IsUnpacking, limits_in, are_some}
+use Rattle.iim_unpack.specs.declared.possible.Readers.{Readers}
+use Rattle.iim_unpack.specs.declared.ticket_fault.TicketFault.{TicketFault}
+use Rattle.iim_unpack.specs.declared.ticket_fault.TicketFault.TheVariants.{Form, Version, Impossible, HeaderFull, TooManyFields, OutOfMemory}
 
 -- The octets are the ticket of this place, which is possible.
 pub record IsTicketAt (ticket : List ℕ) (place : Place) : Type 0 where
@@ -49,6 +52,30 @@ octets_told p = length (joined p.fields) + begun_count p.section p.phase
 
 abbrev pub fields_told : Place → ℕ
 fields_told p = length p.fields + begun_fields p.section p.phase
+
+-- Why no unpacker is made from the octets: they have not the form of a ticket, or are one of another version. Or they have the form,
+-- and are the ticket of no possible place. Or they are that of one, whose heads of records 1 and 2 count more octets than the limits
+-- allow, or else are more datasets. Or all is well but for memory.
+abbrev pub IsRestoreFault : Limits → List ℕ → TicketFault → Type 0
+IsRestoreFault limits ticket Form = IsFaultOf ticket Form
+IsRestoreFault limits ticket Version = IsFaultOf ticket Version
+IsRestoreFault limits ticket Impossible = ((s : Split) × SplitsInto ticket s) × ((place : Place) → IsTicketAt ticket place → ⊥)
+IsRestoreFault limits ticket HeaderFull = (place : Place) × IsTicketAt ticket place × (limits.octets < octets_told place)
+IsRestoreFault limits ticket TooManyFields = (place : Place) × IsTicketAt ticket place × (octets_told place ≤ limits.octets) × (limits.fields < fields_told place)
+IsRestoreFault limits ticket OutOfMemory = (place : Place) × IsTicketAt ticket place × AreHeadsWithin limits place
+
+-- The ticket of a possible place is refused for the octets of its heads where these pass the limit, else for their number where that
+-- does, and else for memory alone.
+abbrev pub PossiblePlacesAreTaken : Type 0
+PossiblePlacesAreTaken = (limits : Limits) (ticket : List ℕ) (place : Place) (fault : TicketFault) → IsTicketAt ticket place → IsRestoreFault limits ticket fault
+    → (limits.octets < octets_told place → fault ≡ HeaderFull) × (octets_told place ≤ limits.octets → limits.fields < fields_told place → fault ≡ TooManyFields)
+    × (AreHeadsWithin limits place → fault ≡ OutOfMemory)
+
+-- which limit so many octets and datasets pass
+abbrev pub IsLimitFault : Limits → (octets fields : ℕ) → TicketFault → Type 0
+IsLimitFault limits octets fields HeaderFull = limits.octets < octets
+IsLimitFault limits octets fields TooManyFields = (octets ≤ limits.octets) × (limits.fields < fields)
+IsLimitFault limits octets fields _ = ⊥
 
 -- ---- the readers of a place
 
@@ -85,6 +112,11 @@ pub record IsMadeFor (place : Place) (numbers : Numbers) (limits : Limits) (at :
   pub object : ObjectStands u.parts.object place
   pub message : MessageStands u.parts.message place
 
+-- An unpacker that was made of the readers of a possible place, within the limits, is sound, and restored from the place's ticket.
+abbrev pub ReadersMakeUnpackers : Type 0
+ReadersMakeUnpackers = (place : Place) (limits : Limits) (at : ℕ) (u : Unpacking) (ticket : List ℕ) → IsTicketAt ticket place → AreHeadsWithin limits place → (l : LeadsByLayers place) → IsMadeFor place l.numbers limits at u
+    → IsSome u.parts.object → IsSome u.parts.message → IsUnpacking u × IsRestored limits ticket at u
+
 -- ---- what a ticket's parts tell
 
 -- the place of these parts, and of a message's place
@@ -96,18 +128,18 @@ abbrev pub LeadsNowhere : Split → Type 0
 LeadsNowhere s = (place : Place) → split_of place ≡ s → LeadsByLayers place → ⊥
 
 -- The readers stand where the parts tell, and each layer can be there.
-pub record AreAt (s : Split) (tags : Reader) (object : Option State) (message : Option Message) (octets fields : ℕ) : Type 0 where
+pub record AreAt (s : Split) (r : Readers) : Type 0 where
   pub place : Place
   pub parts : split_of place ≡ s
   pub leads : LeadsByLayers place
-  pub calls : TakesCalls tags
-  pub tags_are : tags.place ≡ tag_place place.section place.phase
-  pub some_object : IsSome object
-  pub some_message : IsSome message
-  pub object_is : ObjectStands object place
-  pub message_is : MessageStands message place
-  pub octets_are : octets ≡ octets_told place
-  pub fields_are : fields ≡ fields_told place
+  pub calls : TakesCalls r.tags
+  pub tags_are : r.tags.place ≡ tag_place place.section place.phase
+  pub some_object : IsSome r.object
+  pub some_message : IsSome r.message
+  pub object_is : ObjectStands r.object place
+  pub message_is : MessageStands r.message place
+  pub octets_are : r.octets ≡ octets_told place
+  pub fields_are : r.fields ≡ fields_told place
 
 -- The head may stand after the datasets, within the limits.
 abbrev pub MayBegin : Limits → List Dataset → Head → Type 0

@@ -4,8 +4,8 @@ use Rattle.std.specs.List.{flat_map}
 use Rattle.iim_dataset.specs.Datasets.{Dataset}
 use Rattle.iim_unpack.specs.Tickets.{Phase, TagBegun, DataBegun, AllEnded, layout, four, phase_octets, fields_octets, number_octets, text_octets}
 use Rattle.iim_unpack.specs.Begins.{AreFields, AreNumbers, AreTexts}
-use Rattle.iim_unpack.specs.declared.ticket_parts.TicketFault.{TicketFault}
-use Rattle.iim_unpack.specs.declared.ticket_parts.TicketFault.TheVariants.{Form, Version}
+use Rattle.iim_unpack.specs.declared.ticket_fault.TicketFault.{TicketFault}
+use Rattle.iim_unpack.specs.declared.ticket_fault.TicketFault.TheVariants.{Form, Version}
 use Rattle.iim_unpack.specs.declared.ticket_parts.TicketParts.{TicketParts}
 use Rattle.iim_unpack.specs.declared.ticket_parts.TicketPhase.{TicketPhase}
 use Rattle.iim_unpack.specs.declared.ticket_parts.TicketPhase.TheVariants.{Tag, Data, Ended}
@@ -98,6 +98,7 @@ IsHeld held = length held ≤ 8
 abbrev pub IsNameFault : List ℕ → TicketFault → Type 0
 IsNameFault ticket Version = HasOtherVersion ticket
 IsNameFault ticket Form = (version : ℕ) (rest : List ℕ) → ticket ≡ codes "IIMT" ++ version ∷ rest → ⊥
+IsNameFault ticket _ = ⊥
 
 -- ---- what the call tells
 
@@ -124,3 +125,4 @@ split_told p = record {
 abbrev pub IsFaultOf : List ℕ → TicketFault → Type 0
 IsFaultOf ticket Version = HasOtherVersion ticket
 IsFaultOf ticket Form = (HasOtherVersion ticket → ⊥) × ((s : Split) → SplitsInto ticket s → ⊥)
+IsFaultOf ticket _ = ⊥

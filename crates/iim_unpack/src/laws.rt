@@ -3,9 +3,11 @@
 ghost use Rattle.iim_unpack.specs.Laws.{AdmittedOctetsAreFramed, AdmittedOctetsHaveOneValue, NoAdmittedOctetsBeginOthers, NoEnvelopeIsEmpty};
 ghost use Rattle.iim_unpack.specs.Intakes.{OpenOctetsAreBounded};
 ghost use Rattle.iim_unpack.specs.ByLayers.{PlacesArePossibleByLayers};
-ghost use Rattle.iim_unpack.specs.LowerLaws.{AnswerLaws, CloseLaws, FeedLaws, HeadLaws, MessageLaws, ObjectLaws};
+ghost use Rattle.iim_unpack.specs.Continuing.{OctetsHaveOnePlace, PlacesContinueAlike, PlacesRefuseAlike, RestoredStandAsSaved};
+ghost use Rattle.iim_unpack.specs.LowerLaws.{AnswerLaws, ByLayersLaws, CloseLaws, FeedLaws, HeadLaws, MessageLaws, ObjectLaws, OnwardLaws, OpenLaws, PlaceLaws, SizeLaws};
 ghost use Rattle.iim_unpack.specs.Plain.{ObjectsArePossibleAlike, PlainDatasetsGoOnAlike, PlainOctetsAreOpenOrWhole, PlainOctetsLeadToTheirPlace, PossiblePlacesArePlain};
 ghost use Rattle.iim_unpack.specs.Possible.{LimitsAreToldByPlace, TicketsOfPlacesAreSplit, TicketsTellOnePlace, UnpackersStandByPlace};
+ghost use Rattle.iim_unpack.specs.Restoring.{PossiblePlacesAreTaken, ReadersMakeUnpackers};
 ghost use Rattle.iim_unpack.specs.Streams.{EnvelopesAreBounded, NothingGoesOnFromRefusedOctets, RefusalsAreDetermined, RefusedOctetsWereOpen, StreamsHaveOneAnswer};
 ghost use Rattle.iim_unpack.specs.TicketParts.{TicketsHaveOneSplit};
 ghost use Rattle.iim_unpack.specs.Tickets.{OctetsHaveOneTicket};
@@ -21,11 +23,13 @@ use iim_fields::laws::{
 };
 use iim_object::laws::{
     datasets_lead_from_place_to_place, datasets_live_with_their_tokens, numbers_live_without_clash,
-    objects_end_where_they_are_whole, records_are_by_number, sizes_are_determined,
-    subfiles_live_while_they_fit, totals_are_confirmed,
+    objects_end_where_they_are_whole, readers_tell_sizes, records_are_by_number,
+    sizes_are_determined, subfiles_live_while_they_fit, totals_are_confirmed,
 };
+use wire_message::MessageReader;
 use wire_message::laws::{
-    messages_end_after_eot, messages_have_one_reading, octets_lead_to_one_place,
+    living_octets_lead_on, messages_end_after_eot, messages_have_one_reading,
+    octets_are_refused_alike, octets_lead_on_alike, octets_lead_to_one_place,
     places_are_saved_apart, readers_stand_at_living_octets, texts_stand_between_stx_and_etx,
 };
 use wire_story::laws::{texts_have_one_reading, texts_so_far_have_one_reading};
@@ -90,6 +94,56 @@ fn answer_laws()
     datasets_live_with_their_tokens();
     no_octets_go_on();
     texts_so_far_have_one_reading();
+}
+
+/// The laws of how long the object layer lives.
+fn size_laws()
+    ensures { SizeLaws }
+{
+    numbers_live_without_clash();
+    subfiles_live_while_they_fit();
+    objects_end_where_they_are_whole();
+    totals_are_confirmed();
+}
+
+/// The laws by which plain octets are open.
+fn open_laws()
+    ensures { OpenLaws }
+{
+    answer_laws();
+    size_laws();
+    canonical_streams_are_spelled();
+}
+
+/// The laws by which one place has one unpacker.
+fn place_laws()
+    ensures { PlaceLaws }
+{
+    answer_laws();
+    texts_stand_between_stx_and_etx();
+    octets_lead_to_one_place();
+    places_are_saved_apart();
+    values_die_with_their_fault();
+}
+
+/// The laws by which a place is possible where each layer can be there.
+fn by_layers_laws()
+    ensures { ByLayersLaws }
+{
+    open_laws();
+    messages_end_after_eot();
+}
+
+/// The laws by which octets of one place continue alike.
+fn onward_laws()
+    ensures { OnwardLaws }
+{
+    open_laws();
+    place_laws();
+    living_octets_lead_on();
+    octets_lead_on_alike();
+    messages_end_after_eot();
+    octets_are_refused_alike();
 }
 
 /// No envelope is empty.
@@ -187,6 +241,14 @@ pub fn octets_have_one_ticket()
     octets_lead_to_one_place();
 }
 
+/// Octets that are open or an envelope lead to one place.
+pub fn octets_have_one_place()
+    ensures { OctetsHaveOnePlace }
+{
+    onward_laws();
+    let _start = MessageReader::new();
+}
+
 /// A ticket is taken apart in one way: octets have the form of a ticket with one list of parts at most.
 pub fn tickets_have_one_split()
     ensures { TicketsHaveOneSplit }
@@ -206,6 +268,23 @@ pub fn tickets_tell_one_place()
     answer_laws();
 }
 
+/// The ticket of a possible place whose heads are within the limits is refused for memory alone; and of the limits the octets are told
+/// before the fields.
+pub fn possible_places_are_taken()
+    ensures { PossiblePlacesAreTaken }
+{
+    tickets_of_places_are_split();
+    tickets_tell_one_place();
+}
+
+/// An unpacker that is restored from another's ticket, under its limits and with its count of octets, stands where the other stands, and
+/// is done with what the other is done with: each call on the one answers as on the other.
+pub fn restored_unpackers_stand_as_saved()
+    ensures { RestoredStandAsSaved }
+{
+    tickets_tell_one_place();
+}
+
 /// Plain octets lead to their place: records 1 and 2 as they are kept, the numbers of record 7 in their order, subfiles that are
 /// filled one after the other, and what is begun after them.
 pub fn plain_octets_lead_to_their_place()
@@ -218,10 +297,7 @@ pub fn plain_octets_lead_to_their_place()
 pub fn objects_are_possible_alike()
     ensures { ObjectsArePossibleAlike }
 {
-    numbers_live_without_clash();
-    subfiles_live_while_they_fit();
-    objects_end_where_they_are_whole();
-    totals_are_confirmed();
+    size_laws();
 }
 
 /// What follows datasets to the records of an envelope follows their plain ones to such, too.
@@ -243,25 +319,25 @@ pub fn possible_places_are_plain()
 pub fn plain_octets_are_open_or_whole()
     ensures { PlainOctetsAreOpenOrWhole }
 {
-    answer_laws();
-    canonical_streams_are_spelled();
-    numbers_live_without_clash();
-    subfiles_live_while_they_fit();
-    objects_end_where_they_are_whole();
-    totals_are_confirmed();
+    open_laws();
 }
 
 /// A place is possible exactly where each layer alone can be there.
 pub fn places_are_possible_by_layers()
     ensures { PlacesArePossibleByLayers }
 {
-    answer_laws();
-    canonical_streams_are_spelled();
-    numbers_live_without_clash();
-    subfiles_live_while_they_fit();
-    objects_end_where_they_are_whole();
-    totals_are_confirmed();
-    messages_end_after_eot();
+    by_layers_laws();
+}
+
+/// An unpacker that is made of the readers of a possible place is sound, and restored from its ticket.
+pub(crate) fn readers_make_unpackers()
+    ensures { ReadersMakeUnpackers }
+{
+    by_layers_laws();
+    place_laws();
+    feed_laws();
+    limits_are_told_by_place();
+    readers_tell_sizes();
 }
 
 /// Whether octets keep to limits is told by their place: by the heads of records 1 and 2 that it tells, a begun one among them.
@@ -271,13 +347,29 @@ pub fn limits_are_told_by_place()
     answer_laws();
 }
 
+/// Octets that lead to one place, each open or an envelope, have the same continuations: the same open ones, the same envelopes with
+/// the same value but for the lines, the same refusals counted from there, and the same further text.
+pub fn places_continue_alike()
+    ensures { PlacesContinueAlike }
+{
+    onward_laws();
+    open_octets_begin_with_no_envelope();
+    no_admitted_octets_begin_others();
+}
+
+/// After octets that lead to one place, each open or an envelope, and the same further ones, the same octet is refused for the same
+/// fault.
+pub fn places_refuse_alike()
+    ensures { PlacesRefuseAlike }
+{
+    onward_laws();
+    open_octets_begin_with_no_envelope();
+    refused_octets_were_open();
+}
+
 /// Where an unpacker stands is told by the place alone: it stands on all open octets that lead there, if on some.
 pub fn unpackers_stand_by_place()
     ensures { UnpackersStandByPlace }
 {
-    answer_laws();
-    octets_lead_to_one_place();
-    places_are_saved_apart();
-    texts_stand_between_stx_and_etx();
-    values_die_with_their_fault();
+    place_laws();
 }

@@ -10,16 +10,10 @@ ghost use Rattle.iim_unpack.specs.Nowhere.{goes_nowhere, stops_nowhere, joins_no
 ghost use Rattle.iim_unpack.specs.TicketParts.{phase_told};
 
 use crate::laws::object_laws;
-use crate::ticket::OBJECT;
+use crate::records::{CONFIRMED_SIZE, OBJECT, POST_OBJECT};
 use crate::ticket_parts::TicketPhase;
 use iim_dataset::Stop;
 use iim_object::{ObjectReader, ObjectSink};
-
-/// The record whose head ends the object.
-pub(crate) const POST_OBJECT: u8 = 9;
-
-/// The number of the one dataset of record 9.
-const CONFIRMED_SIZE: u8 = 10;
 
 /// A sink of objects that takes all of it, and keeps nothing.
 #[derive(Drop)]

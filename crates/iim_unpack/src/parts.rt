@@ -14,17 +14,12 @@ ghost use Rattle.iim_unpack.specs.Refusals.{too_many_on};
 use crate::fault::{Fault, message_on, of_field, size_on, too_many_on};
 use crate::laws::{close_laws, head_laws, message_laws};
 use crate::message::{pass_head, pass_octets};
+use crate::records::{OBJECT, POST_OBJECT};
 use iim_dataset::Head;
 use iim_fields::Fields;
 use iim_object::{MAX_SUBFILES, ObjectFault, ObjectReader};
 use wire_message::MessageReader;
 use wire_story::StorySink;
-
-/// The record of subfiles, whose data are no matter of the records.
-const OBJECT: u8 = 8;
-
-/// The record whose head ends the object.
-const POST_OBJECT: u8 = 9;
 
 /// What an unpacker has taken of an envelope: its records, its object and its message. What is begun, and how much of it is to
 /// come, the readers tell.

@@ -1,66 +1,32 @@
 //! An unpacker, made again from a ticket.
 
-ghost use Rattle.std.specs.Prelude.{◌≡◌, ◌+◌, ◌-◌, cond, List, length, IfSome, IfNone, IfOk};
+ghost use Rattle.std.specs.Prelude.{◌≡◌, ◌+◌, ℕ, List, length, IfSome, IfNone, IfOk, IfErr};
 ghost use Rattle.iim_dataset.specs.Datasets.{Dataset};
 ghost use Rattle.iim_fields.specs.Faults.{joined};
 ghost use Rattle.iim_fields.specs.Standing.{IsWithin, StandsBehind, StandsIn, limits_of};
 ghost use Rattle.iim_unpack.specs.Begins.{AreNumbers};
-ghost use Rattle.iim_unpack.specs.ByLayers.{TagsLead, RecordsLive, are_ended, begun_subfiles, one_of_some};
-ghost use Rattle.iim_unpack.specs.Possible.{widest, begun_count, begun_fields};
-ghost use Rattle.iim_unpack.specs.Restoring.{RecordsStand, MayBegin, AreWithinWith, HasFew, has_come};
+ghost use Rattle.iim_unpack.specs.ByLayers.{TagsLead, RecordsLive, are_ended};
+ghost use Rattle.iim_unpack.specs.Possible.{begun_count, begun_fields};
+ghost use Rattle.iim_unpack.specs.Restoring.{AreAt, RecordsStand, MayBegin, AreWithinWith, HasFew, IsLimitFault, IsRestored, IsRestoreFault, has_come};
 ghost use Rattle.iim_unpack.specs.Taking.{AreKept, told_datasets};
-ghost use Rattle.iim_unpack.specs.TicketParts.{phase_told};
+ghost use Rattle.iim_unpack.specs.TicketParts.{HasForm, SplitsInto, phase_told, split_told};
 
+use crate::laws::{
+    places_are_possible_by_layers, readers_make_unpackers, tickets_have_one_split,
+    tickets_of_places_are_split,
+};
+use crate::parts::Parts;
+use crate::possible::{Readers, readers_at, some_ended};
 use crate::readers::has_ended;
-use crate::taker::{is_kept, take_told};
-use crate::ticket::OBJECT;
+use crate::records::OBJECT;
+use crate::taker::take_told;
+use crate::ticket_fault::TicketFault;
 use crate::ticket_fields::TicketFields;
-use crate::ticket_parts::TicketPhase;
+use crate::ticket_parts::{TicketParts, TicketPhase, split_ticket};
+use crate::unpacker::Unpacker;
 use iim_dataset::Head;
-use iim_fields::{Fields, Limits};
+use iim_fields::{FieldCause, Fields, Limits};
 use std::alloc::{AllocError, Global};
-
-/// How many octets the data of the datasets have together, and how many datasets they are; None where either needs more than 32 bits.
-fn told_fields(fields: TicketFields<'_>) -> Option<(u32, u32)>
-    ensures some { IfSome result (λ r. (r.0 ≡ length (joined fields.entry)) × (r.1 ≡ length fields.entry)) }
-    ensures none { IfNone result (IsWithin widest (length (joined fields.entry)) (length fields.entry) → ⊥) }
-{
-    let mut fields = fields;
-    let mut octets: u32 = 0;
-    let mut count: u32 = 0;
-    while let Some((_, _, data)) = fields.next() {
-        octets = octets.checked_add(u32::try_from(data.len()).ok()?)?;
-        count = count.checked_add(1)?;
-    }
-    Some((octets, count))
-}
-
-/// The same with a begun dataset of records 1 and 2, which counts its octets.
-fn told(section: u8, phase: &TicketPhase<'_>, fields: TicketFields<'_>) -> Option<(u32, u32)>
-    ensures some { IfSome result (λ r. (r.0 ≡ length (joined fields.entry) + begun_count section (phase_told phase.now))
-        × (r.1 ≡ length fields.entry + begun_fields section (phase_told phase.now))) }
-    ensures none { IfNone result (IsWithin widest (length (joined fields.entry) + begun_count section (phase_told phase.now))
-        (length fields.entry + begun_fields section (phase_told phase.now)) → ⊥) }
-{
-    let (octets, count) = told_fields(fields)?;
-    match phase {
-        TicketPhase::Data { count: more, .. } if is_kept(section) => {
-            let octets = octets.checked_add(u32::try_from(*more).ok()?)?;
-            Some((octets, count.checked_add(1)?))
-        }
-        _ => Some((octets, count)),
-    }
-}
-
-/// Whether some subfiles have ended.
-fn some_ended(section: u8, phase: &TicketPhase<'_>, heads: u64) -> bool
-    ensures { cond result 1 0 ≡ one_of_some (heads - begun_subfiles section (phase_told phase.now)) }
-{
-    match phase {
-        TicketPhase::Data { .. } if section == OBJECT => heads > 1,
-        _ => heads > 0,
-    }
-}
 
 /// Takes the head and the data so far of a begun dataset. It has none of a subfile.
 fn take_begun(records: &mut Fields, head: Head, taken: &[u8])
@@ -133,5 +99,92 @@ fn has_come(section: u8, phase: &TicketPhase<'_>) -> bool
     match phase {
         TicketPhase::Tag(held) if section == 0 => !held.is_empty(),
         _ => true,
+    }
+}
+
+/// Which limit so many octets and datasets pass, None where they pass none.
+fn limit_fault(limits: Limits, octets: u32, fields: u32) -> Option<TicketFault>
+    ensures some { IfSome result (λ fault. IsLimitFault limits octets fields fault) }
+    ensures none { IfNone result (IsWithin limits octets fields) }
+{
+    match limits.passed(u64::from(octets), u64::from(fields)) {
+        Some(FieldCause::HeaderFull) => Some(TicketFault::HeaderFull),
+        Some(FieldCause::TooManyFields) => Some(TicketFault::TooManyFields),
+        Some(_) => unreachable!(),
+        None => None,
+    }
+}
+
+/// The unpacker that these readers and the kept datasets of the ticket make, with memory for just what the limits allow. An error
+/// says that memory was refused.
+fn unpacker_at(
+    alloc: Global,
+    limits: Limits,
+    parts: &TicketParts<'_>,
+    readers: Readers,
+    at: u64,
+) -> Result<Unpacker, AllocError>
+    requires form { HasForm (split_told parts.now) }
+    requires readers { AreAt (split_told parts.now) readers }
+    requires within { IsWithin limits readers.octets readers.fields }
+    ensures { IfOk result (λ u. (ticket : List ℕ) → SplitsInto ticket (split_told parts.now) → IsRestored limits ticket at u) }
+{
+    readers_make_unpackers();
+    places_are_possible_by_layers();
+    let fields = records_at(
+        alloc,
+        limits,
+        parts.section,
+        &parts.phase,
+        parts.fields.again(),
+        parts.numbers,
+        some_ended(parts.section, &parts.phase, parts.heads),
+    )?;
+    let begun = has_come(parts.section, &parts.phase);
+    let Readers {
+        tags,
+        object,
+        message,
+        ..
+    } = readers;
+    let parts = Parts {
+        fields,
+        object,
+        message,
+    };
+    Ok(Unpacker::at_place(tags, parts, at, begun))
+}
+
+impl Unpacker {
+    /// An unpacker at the place that a ticket tells, which has taken `at` octets. It continues as the saved one would under the
+    /// same limits, if its `octets()` are handed in as `at`: the same answers to all pieces, and the same lines. It has memory
+    /// for just what the limits allow, and no later call takes any.
+    ///
+    /// Refused are, in this order: octets that begin with no name of a ticket (`Form`); another version (`Version`); what else has
+    /// not the form of a ticket (`Form`); a place where no envelope can be (`Impossible`); one that passes a limit (`HeaderFull`,
+    /// else `TooManyFields`); and memory (`OutOfMemory`). Before that no memory is asked for.
+    pub fn restore(
+        alloc: Global,
+        limits: Limits,
+        ticket: &[u8],
+        at: u64,
+    ) -> Result<Unpacker, TicketFault>
+        ensures restored { IfOk result (IsRestored limits ticket.now at) }
+        ensures fault { IfErr result (IsRestoreFault limits ticket.now) }
+    {
+        places_are_possible_by_layers();
+        tickets_of_places_are_split();
+        tickets_have_one_split();
+        let parts = split_ticket(ticket)?;
+        let Some(readers) = readers_at(&parts) else {
+            return Err(TicketFault::Impossible);
+        };
+        if let Some(fault) = limit_fault(limits, readers.octets, readers.fields) {
+            return Err(fault);
+        }
+        match unpacker_at(alloc, limits, &parts, readers, at) {
+            Ok(unpacker) => Ok(unpacker),
+            Err(_) => Err(TicketFault::OutOfMemory),
+        }
     }
 }

@@ -12,13 +12,13 @@ ghost use Rattle.iim_unpack.specs.Plain.{mode_dataset, one_dataset, plain_end, p
 ghost use Rattle.iim_unpack.specs.Possible.{widest};
 ghost use Rattle.iim_unpack.specs.Taking.{AreKept, TookAll, numbers_told, told_datasets};
 
-use crate::ticket::OBJECT;
+use crate::records::{
+    ANNOUNCED_SIZE, CONFIRMED_SIZE, LARGEST_SUBFILE, MAXIMUM_SIZE, OBJECT, POST_OBJECT, PRE_OBJECT,
+    SIZE_MODE, SUBFILE,
+};
 use crate::ticket_fields::TicketFields;
 use iim_dataset::Head;
 use iim_fields::{Fields, RecordCheck};
-
-/// The record of sizes before the object.
-const PRE_OBJECT: u8 = 7;
 
 /// What takes the datasets of an envelope, each with its whole data.
 pub(crate) trait DatasetTaker {
@@ -115,7 +115,7 @@ fn take_mode<T: DatasetTaker>(taker: &mut T, mode: Option<u64>) -> bool
 {
     match mode {
         None => true,
-        Some(mode) if mode < 256 => taker.take(PRE_OBJECT, 10, &[mode as u8]),
+        Some(mode) if mode < 256 => taker.take(PRE_OBJECT, SIZE_MODE, &[mode as u8]),
         Some(_) => false,
     }
 }
@@ -140,9 +140,9 @@ fn take_numbers<T: DatasetTaker>(taker: &mut T, numbers: [Option<u64>; 4]) -> bo
 {
     let [mode, largest, announced, maximum] = numbers;
     take_mode(taker, mode)
-        && take_size(taker, 20, largest)
-        && take_size(taker, 90, announced)
-        && take_size(taker, 95, maximum)
+        && take_size(taker, LARGEST_SUBFILE, largest)
+        && take_size(taker, ANNOUNCED_SIZE, announced)
+        && take_size(taker, MAXIMUM_SIZE, maximum)
 }
 
 /// Takes a subfile without octets, where some have ended.
@@ -150,7 +150,7 @@ fn take_subfile<T: DatasetTaker>(taker: &mut T, some: bool) -> bool
     requires { T.ready taker.old }
     ensures { TookAll T.ready T.stands T.limits taker.old (cond some (dataset 8 10 [] ∷ []) []) taker.new result }
 {
-    !some || taker.take(OBJECT, 10, &[])
+    !some || taker.take(OBJECT, SUBFILE, &[])
 }
 
 /// Takes 9:10 of an object without octets, where it has ended.
@@ -158,7 +158,7 @@ fn take_end<T: DatasetTaker>(taker: &mut T, ended: bool) -> bool
     requires { T.ready taker.old }
     ensures { TookAll T.ready T.stands T.limits taker.old (plain_end ended []) taker.new result }
 {
-    !ended || taker.take(9, 10, &[0, 0, 0, 0])
+    !ended || taker.take(POST_OBJECT, CONFIRMED_SIZE, &[0, 0, 0, 0])
 }
 
 /// Takes the datasets by which the record layer is told a ticket's place: its fields, the numbers of record 7, a subfile without

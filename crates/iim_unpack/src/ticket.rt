@@ -9,6 +9,7 @@ ghost use Rattle.iim_object.specs.Reading as objects;
 ghost use Rattle.iim_unpack.specs.Tickets.{four, field_octets, fields_octets, number_octets, text_octets, part_number, texts_octets, message_octets, phase_octets, phase_in, left_in, DataBegun, TagBegun, IsSpelled};
 
 use crate::parts::Parts;
+use crate::records::OBJECT;
 use iim_dataset::{DatasetPlace, Head, HeadReader};
 use iim_fields::Fields;
 use iim_object::ObjectReader;
@@ -38,9 +39,6 @@ pub(crate) const IN_DATA: u8 = 1;
 
 /// The last dataset has ended.
 pub(crate) const ENDED: u8 = 2;
-
-/// The record of subfiles.
-pub(crate) const OBJECT: u8 = 8;
 
 /// Adds a number in four octets, high octet first. No number of a ticket needs more.
 fn push_number(ticket: &mut Vec<u8>, number: u64) -> Result<(), AllocError>
@@ -170,7 +168,7 @@ fn object_octets(reader: &HeadReader, object: &ObjectReader) -> u64
 }
 
 /// The number of a part of a message.
-fn part_number(part: MessagePart) -> u8
+pub(crate) fn part_number(part: MessagePart) -> u8
     ensures { result ≡ part_number part }
 {
     match part {

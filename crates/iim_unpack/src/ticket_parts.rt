@@ -8,9 +8,10 @@ ghost use Rattle.iim_unpack.specs.Begins.{BeginsWithNone, BeginsWithFewer, AreFi
 ghost use Rattle.iim_unpack.specs.TicketParts.{IsHeld, IsPhase, IsNameFault, IsFaultOf, BeginsWithNoData, AreNoMessage, AreNoBody, HasForm, SplitsInto, phase_told, split_told, message_parts, body_octets};
 
 use crate::front::{take_field, take_front, take_number, take_octet, take_option, take_text};
-use crate::ticket::{ENDED, IN_DATA, IN_TAG, OBJECT};
+use crate::records::OBJECT;
+use crate::ticket::{ENDED, IN_DATA, IN_TAG};
+use crate::ticket_fault::TicketFault;
 use crate::ticket_fields::{TicketFields, walk_over};
-use thiserror::Error;
 
 /// What each ticket begins with.
 const NAME: &[u8] = b"IIMT";
@@ -20,17 +21,6 @@ const VERSION: u8 = 1;
 
 /// How many octets of a tag are held at most.
 const MOST_HELD: usize = 8;
-
-/// Why octets have no parts of a ticket.
-#[derive(Clone, Copy, Debug, PartialEq, Eq, Error)]
-pub enum TicketFault {
-    /// They have not the form of a ticket (100).
-    #[error("the octets have not the form of a ticket")]
-    Form,
-    /// They are a ticket of another version (101).
-    #[error("the ticket is of another version")]
-    Version,
-}
 
 /// What is begun where a ticket was made.
 #[derive(Drop)]

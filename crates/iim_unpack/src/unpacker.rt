@@ -12,7 +12,7 @@ ghost use Rattle.iim_unpack.specs.Refusals.{refusal_at};
 ghost use Rattle.iim_unpack.specs.Routing.{Takes};
 ghost use Rattle.iim_unpack.specs.Unpacking.{Advanced, FailsFor, FailsAs, IsOnward, tag_fault, raised, begins, failed_at};
 ghost use Rattle.iim_dataset.specs.Reading.{is_of};
-ghost use Rattle.iim_unpack.specs.Unpacking.{Stood, Stands, IsDoneWith, IsDone, IsRefusedIn, IsTruncatedAt, Goes, limits_in, room_in, LeftAs};
+ghost use Rattle.iim_unpack.specs.Unpacking.{IsUnpacking, Stood, Stands, IsDoneWith, IsDone, IsRefusedIn, IsTruncatedAt, Goes, limits_in, room_in, LeftAs};
 ghost use Rattle.iim_unpack.specs.Admitted.{Value, Admits};
 ghost use Rattle.iim_unpack.specs.Tickets.{IsTicketOf};
 ghost use Rattle.iim_unpack.specs.Value.{HasParts};
@@ -271,6 +271,20 @@ impl Unpacker {
             },
             octets: 0,
             begun: false,
+            refused: None,
+        }
+    }
+
+    /// An unpacker of these readers, which has taken so many octets; whether an octet has come is told.
+    pub(crate) fn at_place(reader: HeadReader, parts: Parts, octets: u64, begun: bool) -> Unpacker
+        requires { IsUnpacking (record { reader = reader; parts = parts; octets = octets; begun = begun; refused = None }) }
+        ensures { result ≡ record { reader = reader; parts = parts; octets = octets; begun = begun; refused = None } }
+    {
+        Unpacker {
+            reader,
+            parts,
+            octets,
+            begun,
             refused: None,
         }
     }

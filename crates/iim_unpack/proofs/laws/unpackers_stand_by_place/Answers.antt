@@ -2,12 +2,4 @@ use Rattle.iim_unpack.proofs.SamePlace.{same_stands}
 use Rattle.iim_unpack.proofs.laws.unpackers_stand_by_place.Goals as goal
 
 pub returns : goal.returns
-returns c =
-    same_stands
-    (record {
-      answer = c.answer_laws.ensures;
-      texts = c.texts_stand_between_stx_and_etx.ensures;
-      one_place = c.octets_lead_to_one_place.ensures;
-      apart = c.places_are_saved_apart.ensures;
-      values = c.values_die_with_their_fault.ensures;
-    })
+returns c = same_stands c.place_laws.ensures

@@ -1,5 +1,3 @@
-use Rattle.std.proofs.Common.{◌≡◌, true, refl}
-use Rattle.iim_object.specs.Places.{Place, place_after}
 use Rattle.iim_unpack.proofs.ObjectPlaces.{may_end, before_end}
 use Rattle.iim_unpack.proofs.Results.{if_none}
 use Rattle.iim_unpack.proofs.object_place.ended_at.Goals as goal

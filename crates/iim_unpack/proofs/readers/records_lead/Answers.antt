@@ -1,4 +1,4 @@
-use Rattle.std.proofs.Common.{Bool, true, false, List, [], subst}
+use Rattle.std.proofs.Common.{Bool, true, false, List, [], ap}
 use Rattle.iim_dataset.specs.Datasets.{Dataset}
 use Rattle.iim_fields.specs.Checks.{TakesHead, HasChecked}
 use Rattle.iim_unpack.specs.ByLayers.{are_ended}
@@ -6,37 +6,29 @@ use Rattle.iim_unpack.specs.Possible.{widest}
 use Rattle.iim_unpack.specs.Taking.{TookAll, told_datasets}
 use Rattle.iim_unpack.specs.TicketParts.{phase_told}
 use Rattle.iim_unpack.proofs.AtPlaces.{goes_on_told}
+use Rattle.iim_unpack.proofs.Taking.{took_as}
 use Rattle.iim_unpack.proofs.readers.records_lead.Goals as goal
 
 pub returns-then-take_told-clause-lives : goal.returns-then-take_told-clause-lives
 returns-then-take_told-clause-lives c yes' =
     let told : Bool → List Dataset = λ ended. told_datasets c.args.fields c.args.numbers c.args.some ended in
     let ended : Bool = are_ended (phase_told c.args.phase.now) in
-    let all : TookAll TakesHead HasChecked (λ _. widest) c.new-check.result (told c.has_ended.result) c.take_told.new.taker c.take_told.result = c.take_told.ensures.all (c.take_told.ensures.kept c.if-take_told.true) in
-    let same : TookAll TakesHead HasChecked (λ _. widest) c.new-check.result (told ended) c.take_told.new.taker c.take_told.result =
-    subst (λ (e : Bool). TookAll TakesHead HasChecked (λ _. widest) c.new-check.result (told e) c.take_told.new.taker c.take_told.result) c.has_ended.ensures all in
     let took : TookAll TakesHead HasChecked (λ _. widest) c.new-check.result (told ended) c.take_told.new.taker true =
-    subst (λ (b : Bool). TookAll TakesHead HasChecked (λ _. widest) c.new-check.result (told ended) c.take_told.new.taker b) c.if-take_told.true same in
+    took_as TakesHead HasChecked (λ _. widest) _ _ _ _ _ _ (ap told c.has_ended.ensures) c.if-take_told.true (c.take_told.ensures.all (c.take_told.ensures.kept c.if-take_told.true)) in
     c.can_continue.ensures.lives yes' (told ended) (took.2 [] c.new-check.ensures.stands)
 
 pub returns-then-take_told-clause-dies : goal.returns-then-take_told-clause-dies
 returns-then-take_told-clause-dies c no' each within lives =
     let told : Bool → List Dataset = λ ended. told_datasets c.args.fields c.args.numbers c.args.some ended in
     let ended : Bool = are_ended (phase_told c.args.phase.now) in
-    let all : TookAll TakesHead HasChecked (λ _. widest) c.new-check.result (told c.has_ended.result) c.take_told.new.taker c.take_told.result = c.take_told.ensures.all each in
-    let same : TookAll TakesHead HasChecked (λ _. widest) c.new-check.result (told ended) c.take_told.new.taker c.take_told.result =
-    subst (λ (e : Bool). TookAll TakesHead HasChecked (λ _. widest) c.new-check.result (told e) c.take_told.new.taker c.take_told.result) c.has_ended.ensures all in
     let took : TookAll TakesHead HasChecked (λ _. widest) c.new-check.result (told ended) c.take_told.new.taker true =
-    subst (λ (b : Bool). TookAll TakesHead HasChecked (λ _. widest) c.new-check.result (told ended) c.take_told.new.taker b) c.if-take_told.true same in
+    took_as TakesHead HasChecked (λ _. widest) _ _ _ _ _ _ (ap told c.has_ended.ensures) c.if-take_told.true (c.take_told.ensures.all each) in
     c.can_continue.ensures.dies no' (told ended) (took.2 [] c.new-check.ensures.stands) lives
 
 pub returns-else-take_told-clause-dies : goal.returns-else-take_told-clause-dies
 returns-else-take_told-clause-dies c no' each within lives =
     let told : Bool → List Dataset = λ ended. told_datasets c.args.fields c.args.numbers c.args.some ended in
     let ended : Bool = are_ended (phase_told c.args.phase.now) in
-    let all : TookAll TakesHead HasChecked (λ _. widest) c.new-check.result (told c.has_ended.result) c.take_told.new.taker c.take_told.result = c.take_told.ensures.all each in
-    let same : TookAll TakesHead HasChecked (λ _. widest) c.new-check.result (told ended) c.take_told.new.taker c.take_told.result =
-    subst (λ (e : Bool). TookAll TakesHead HasChecked (λ _. widest) c.new-check.result (told e) c.take_told.new.taker c.take_told.result) c.has_ended.ensures all in
     let none : TookAll TakesHead HasChecked (λ _. widest) c.new-check.result (told ended) c.take_told.new.taker false =
-    subst (λ (b : Bool). TookAll TakesHead HasChecked (λ _. widest) c.new-check.result (told ended) c.take_told.new.taker b) c.if-take_told.false same in
+    took_as TakesHead HasChecked (λ _. widest) _ _ _ _ _ _ (ap told c.has_ended.ensures) c.if-take_told.false (c.take_told.ensures.all each) in
     none [] c.new-check.ensures.stands (goes_on_told c.args.section (phase_told c.args.phase.now) c.args.fields c.args.numbers c.args.some ended c.requires each within lives)

@@ -1,4 +1,4 @@
-use Rattle.std.proofs.Common.{◌≡◌, Bool, true, false, List, [], sym, ap, subst, ◌∙◌}
+use Rattle.std.proofs.Common.{Bool, true, false, List, [], sym, ap, subst, ◌∙◌}
 use Rattle.iim_dataset.specs.Datasets.{Dataset}
 use Rattle.iim_fields.specs.Standing.{IsBetween, StandsBehind, limits_of}
 use Rattle.iim_fields.specs.declared.limits.Limits.{Limits}
@@ -7,6 +7,7 @@ use Rattle.iim_unpack.specs.Restoring.{AreWithinWith}
 use Rattle.iim_unpack.specs.Taking.{GoOnWithin, TookAll, told_datasets}
 use Rattle.iim_unpack.specs.TicketParts.{phase_told}
 use Rattle.iim_unpack.proofs.Restoring.{with_told, goes_told}
+use Rattle.iim_unpack.proofs.Taking.{took_as}
 use Rattle.iim_unpack.proofs.restore.records_at.Goals as goal
 
 pub unreachable-requires : goal.unreachable-requires
@@ -14,12 +15,8 @@ unreachable-requires c =
     let told : Bool → List Dataset = λ ended. told_datasets c.args.fields c.args.numbers c.args.some ended in
     let phase = phase_told c.args.phase.now in
     let ended : Bool = are_ended phase in
-    let old = c.in_ok-records.records in
-    let all : TookAll IsBetween StandsBehind limits_of old (told c.has_ended.result) c.take_told.new.taker c.take_told.result = c.take_told.ensures.all c.requires.kept in
-    let same : TookAll IsBetween StandsBehind limits_of old (told ended) c.take_told.new.taker c.take_told.result =
-    subst (λ (e : Bool). TookAll IsBetween StandsBehind limits_of old (told e) c.take_told.new.taker c.take_told.result) c.has_ended.ensures all in
-    let none : TookAll IsBetween StandsBehind limits_of old (told ended) c.take_told.new.taker false =
-    subst (λ (b : Bool). TookAll IsBetween StandsBehind limits_of old (told ended) c.take_told.new.taker b) c.if-not-take_told.true same in
+    let none : TookAll IsBetween StandsBehind limits_of c.in_ok-records.records (told ended) c.take_told.new.taker false =
+    took_as IsBetween StandsBehind limits_of _ _ _ _ _ _ (ap told c.has_ended.ensures) c.if-not-take_told.true (c.take_told.ensures.all c.requires.kept) in
     let goes : GoOnWithin c.args.limits (told ended) =
     goes_told c.args.limits c.args.section phase (told ended) c.requires.lives (with_told c.args.limits c.args.section phase c.args.fields c.args.numbers c.args.some ended c.requires.fits c.requires.kept c.requires.within) in
     none [] c.in_ok-records.ensures.stands (subst (λ (l : Limits). GoOnWithin l (told ended)) (sym c.in_ok-records.ensures.limits) goes)
@@ -29,12 +26,8 @@ take_phase-requires-clause-stands c =
     let told : Bool → List Dataset = λ ended. told_datasets c.args.fields c.args.numbers c.args.some ended in
     let phase = phase_told c.args.phase.now in
     let ended : Bool = are_ended phase in
-    let old = c.in_ok-records.records in
-    let all : TookAll IsBetween StandsBehind limits_of old (told c.has_ended.result) c.take_told.new.taker c.take_told.result = c.take_told.ensures.all c.requires.kept in
-    let same : TookAll IsBetween StandsBehind limits_of old (told ended) c.take_told.new.taker c.take_told.result =
-    subst (λ (e : Bool). TookAll IsBetween StandsBehind limits_of old (told e) c.take_told.new.taker c.take_told.result) c.has_ended.ensures all in
-    let took : TookAll IsBetween StandsBehind limits_of old (told ended) c.take_told.new.taker true =
-    subst (λ (b : Bool). TookAll IsBetween StandsBehind limits_of old (told ended) c.take_told.new.taker b) c.if-not-take_told.false same in
+    let took : TookAll IsBetween StandsBehind limits_of c.in_ok-records.records (told ended) c.take_told.new.taker true =
+    took_as IsBetween StandsBehind limits_of _ _ _ _ _ _ (ap told c.has_ended.ensures) c.if-not-take_told.false (c.take_told.ensures.all c.requires.kept) in
     let within : AreWithinWith c.args.limits c.args.section phase (told ended) =
     with_told c.args.limits c.args.section phase c.args.fields c.args.numbers c.args.some ended c.requires.fits c.requires.kept c.requires.within in
     (told ended, took.2 [] c.in_ok-records.ensures.stands, c.requires.lives, subst (λ (l : Limits). AreWithinWith l c.args.section phase (told ended)) (sym (took.1 ∙ c.in_ok-records.ensures.limits)) within)
@@ -44,12 +37,8 @@ returns-clause-stands c =
     let told : Bool → List Dataset = λ ended. told_datasets c.args.fields c.args.numbers c.args.some ended in
     let phase = phase_told c.args.phase.now in
     let ended : Bool = are_ended phase in
-    let old = c.in_ok-records.records in
-    let all : TookAll IsBetween StandsBehind limits_of old (told c.has_ended.result) c.take_told.new.taker c.take_told.result = c.take_told.ensures.all c.requires.kept in
-    let same : TookAll IsBetween StandsBehind limits_of old (told ended) c.take_told.new.taker c.take_told.result =
-    subst (λ (e : Bool). TookAll IsBetween StandsBehind limits_of old (told e) c.take_told.new.taker c.take_told.result) c.has_ended.ensures all in
-    let took : TookAll IsBetween StandsBehind limits_of old (told ended) c.take_told.new.taker true =
-    subst (λ (b : Bool). TookAll IsBetween StandsBehind limits_of old (told ended) c.take_told.new.taker b) c.if-not-take_told.false same in
+    let took : TookAll IsBetween StandsBehind limits_of c.in_ok-records.records (told ended) c.take_told.new.taker true =
+    took_as IsBetween StandsBehind limits_of _ _ _ _ _ _ (ap told c.has_ended.ensures) c.if-not-take_told.false (c.take_told.ensures.all c.requires.kept) in
     let within : AreWithinWith c.args.limits c.args.section phase (told ended) =
     with_told c.args.limits c.args.section phase c.args.fields c.args.numbers c.args.some ended c.requires.fits c.requires.kept c.requires.within in
     c.take_phase.ensures.stands (told ended) (took.2 [] c.in_ok-records.ensures.stands) c.requires.lives

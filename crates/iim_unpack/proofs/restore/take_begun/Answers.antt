@@ -1,4 +1,4 @@
-use Rattle.std.proofs.Common.{◌≡◌, ℕ, List, [], sym, subst}
+use Rattle.std.proofs.Common.{ℕ, List, [], sym, subst}
 use Rattle.iim_fields.specs.Standing.{StandsIn}
 use Rattle.iim_unpack.proofs.restore.take_begun.Goals as goal
 

@@ -1,6 +1,6 @@
 use Rattle.std.proofs.Common.{◌≡◌, ◌+◌, length}
 use Rattle.iim_fields.specs.Faults.{joined}
-use Rattle.iim_unpack.proofs.restore.told_fields.Given as goal
+use Rattle.iim_unpack.proofs.possible.told_fields.Given as goal
 
 -- the octets of those that are left are to come
 abbrev pub invariant-loop-data : goal.invariant-loop-data

@@ -1,0 +1,225 @@
+-- The place that the parts of a ticket tell, and whether an envelope can be there.
+use Rattle.std.proofs.Common.{◌≡◌, ℕ, ◌+◌, ◌-◌, ◌≤◌, ◌<◌, ◌^◌, cond, Bool, List, [], ◌∷◌, length, Option, None, IsSome, refl, ap, sym, subst, ◌∙◌, arith}
+use Rattle.iim_dataset.specs.Reading.{TakesCalls}
+use Rattle.iim_dataset.specs.Datasets.{Dataset}
+use Rattle.iim_fields.specs.Faults.{kept_octets, joined}
+use Rattle.iim_fields.specs.Standing.{IsWithin}
+use Rattle.iim_fields.specs.declared.limits.Limits.{Limits}
+use Rattle.iim_object.specs.Places as objects
+use Rattle.iim_object.specs.Reading as reading
+use Rattle.iim_object.specs.Saved.{IsAt, IsPossible}
+use Rattle.wire_message.specs.Reading as wire
+use Rattle.wire_message.specs.Saved.{LeadToSaved}
+use Rattle.wire_message.specs.declared.saved.MessagePart.TheVariants.{AfterEnd}
+use Rattle.wire_message.specs.declared.saved.MessagePlace.{MessagePlace}
+use Rattle.iim_unpack.specs.ByLayers.{LeadsByLayers, PlacesArePossibleByLayers, TagsLead, RecordsLive, are_ended, begun_of_object, begun_subfiles, object_after, one_of_some, record_datasets}
+use Rattle.iim_unpack.specs.Plain.{Numbers, number_list, plain}
+use Rattle.iim_unpack.specs.Possible.{TicketsOfPlacesAreSplit, AreHeadsWithin, begun_count, begun_fields, split_of, widest}
+use Rattle.iim_unpack.specs.Restoring.{AreAt, octets_told, IsLimitFault, IsMadeFor, IsRestoreFault, IsTicketAt, LeadsNowhere, ObjectStands, MessageStands, RecordsStand, has_come, place_told}
+use Rattle.iim_unpack.specs.Taking.{AreKept, IsMessageOf, numbers_told, tag_place, told_datasets}
+use Rattle.iim_unpack.specs.TicketParts.{HasForm, Split, SplitsInto, TicketsHaveOneSplit, split_octets}
+use Rattle.iim_unpack.specs.Tickets.{Place, part_number}
+use Rattle.iim_unpack.specs.Unpacking.{Unpacking, limits_in}
+use Rattle.iim_unpack.specs.declared.possible.Readers.{Readers}
+use Rattle.iim_unpack.specs.declared.ticket_fault.TicketFault.{TicketFault}
+use Rattle.iim_unpack.specs.declared.ticket_fault.TicketFault.TheVariants.{Form, Version, Impossible, HeaderFull, TooManyFields, OutOfMemory}
+use Rattle.iim_unpack.proofs.Fitting.{part_told, spelled}
+use Rattle.iim_unpack.proofs.Plain.{kept_fields}
+
+-- what a ticket's parts count together
+abbrev pub OctetsIn : Split → ℕ
+OctetsIn s = length (joined s.fields) + begun_count s.section s.phase
+
+abbrev pub FieldsIn : Split → ℕ
+FieldsIn s = length s.fields + begun_fields s.section s.phase
+
+-- whether some subfiles have ended
+abbrev pub TellsSome : Bool → Split → Type 0
+TellsSome some s = cond some 1 0 ≡ one_of_some (s.heads - begun_subfiles s.section s.phase)
+
+-- the datasets by which the record layer is told
+abbrev pub datasets_told : Split → Bool → List Dataset
+datasets_told s some = told_datasets s.fields s.numbers some (are_ended s.phase)
+
+-- ---- the records of a place
+
+told_same : (place : Place) (numbers : Numbers) (some : Bool) → place.numbers ≡ number_list numbers → TellsSome some (split_of place) → datasets_told (split_of place) some ≡ record_datasets place numbers
+told_same place numbers some are one =
+    ap (λ (ns : List (Option ℕ)). plain place.fields (numbers_told ns) (cond some 1 0) [] (are_ended place.phase)) are
+    ∙ ap (λ (k : ℕ). plain place.fields numbers k [] (are_ended place.phase)) one
+
+pub records_at_place : (s : Split) (place : Place) (some : Bool) → split_of place ≡ s → (l : LeadsByLayers place) → TellsSome some s → datasets_told s some ≡ record_datasets place l.numbers
+records_at_place s place some is l one =
+    subst (λ (t : Split). datasets_told t some ≡ record_datasets place l.numbers) is (told_same place l.numbers some l.numbers_are (subst (TellsSome some) (sym is) one))
+
+pub lives_at_place : (s : Split) (place : Place) (some : Bool) → split_of place ≡ s → LeadsByLayers place → TellsSome some s → RecordsLive s.section s.phase (datasets_told s some)
+lives_at_place s place some is l one =
+    subst (λ (ds : List Dataset). RecordsLive s.section s.phase ds) (sym (records_at_place s place some is l one))
+    (subst (λ (t : Split). RecordsLive t.section t.phase (record_datasets place l.numbers)) is l.records)
+
+-- ---- where no envelope can be
+
+pub no_room : (s : Split) → (IsWithin widest (OctetsIn s) (FieldsIn s) → ⊥) → LeadsNowhere s
+no_room s none place is l = none (subst (λ (t : Split). IsWithin widest (OctetsIn t) (FieldsIn t)) is l.within)
+
+pub no_tags : (s : Split) → (TagsLead s.section s.phase → ⊥) → LeadsNowhere s
+no_tags s none place is l = none (subst (λ (t : Split). TagsLead t.section t.phase) is l.tags)
+
+-- what is kept is within the widest limits where it is with what is begun
+within_less : (fields : List Dataset) (octets count : ℕ) → AreKept fields → IsWithin widest (length (joined fields) + octets) (length fields + count) → IsWithin widest (kept_octets fields) (length fields)
+within_less fields octets count each within =
+    let same : kept_octets fields ≡ length (joined fields) = ap (λ (ds : List Dataset). length (joined ds)) (kept_fields fields each) in
+    record { octets_in = let low = within.octets_in in omega (arith, same, low); fields_in = let low = within.fields_in in omega (arith, low) }
+
+pub no_records : (s : Split) (some : Bool) → TellsSome some s → (AreKept s.fields → IsWithin widest (kept_octets s.fields) (length s.fields) → RecordsLive s.section s.phase (datasets_told s some) → ⊥) → LeadsNowhere s
+no_records s some one none place is l =
+    let each : AreKept s.fields = subst (λ (t : Split). AreKept t.fields) is l.kept in
+    let within : IsWithin widest (OctetsIn s) (FieldsIn s) = subst (λ (t : Split). IsWithin widest (OctetsIn t) (FieldsIn t)) is l.within in
+    none each (within_less s.fields (begun_count s.section s.phase) (begun_fields s.section s.phase) each within) (lives_at_place s place some is l one)
+
+-- the object can be where these parts tell
+abbrev pub ObjectCanBe : Split → objects.Place → Type 0
+ObjectCanBe s p = IsAt s.numbers s.taken (begun_of_object s.section s.phase) s.heads p × IsPossible (object_after s.section s.phase s.taken p)
+
+pub no_object : (s : Split) → ((p : objects.Place) → ObjectCanBe s p → ⊥) → LeadsNowhere s
+no_object s none place is l =
+    let at : ObjectCanBe s l.object.0 = subst (λ (t : Split). ObjectCanBe t l.object.0) is (l.object.1, l.object.2) in
+    none l.object.0 at
+
+-- the message of a place is the one that its parts tell
+message_of : (s : Split) (place : Place) → split_of place ≡ s → IsMessageOf s.part s.counter s.flag s.texts place.message
+message_of s place is = subst (λ (t : Split). IsMessageOf t.part t.counter t.flag t.texts place.message) is (record { part_is = refl; counter_is = refl; flag_is = refl; texts_are = refl })
+
+pub no_message : (s : Split) → ((m : MessagePlace) (octets text : List ℕ) → IsMessageOf s.part s.counter s.flag s.texts m → LeadToSaved octets text m → length octets ≡ s.taken → ⊥) → LeadsNowhere s
+no_message s none place is l =
+    let (octets, text, leads, count, ended) = l.message in
+    none place.message octets text (message_of s place is) leads (subst (λ (t : Split). length octets ≡ t.taken) is count)
+
+pub no_end : (s : Split) → s.section ≡ 9 → (s.part ≡ 11 → ⊥) → LeadsNowhere s
+no_end s nine other place is l =
+    let (octets, text, leads, count, ended) = l.message in
+    let last = ended (ap (λ (t : Split). t.section) is ∙ nine) in
+    other (sym (ap (λ (t : Split). t.part) is) ∙ ap part_number last)
+
+-- ---- where one can be
+
+place_is : (s : Split) (m : MessagePlace) → IsMessageOf s.part s.counter s.flag s.texts m → split_of (place_told s m) ≡ s
+place_is s m is = λ i. record {
+  section = s.section;
+  phase = s.phase;
+  fields = s.fields;
+  numbers = s.numbers;
+  taken = s.taken;
+  heads = s.heads;
+  part = is.part_is i;
+  counter = is.counter_is i;
+  flag = is.flag_is i;
+  texts = is.texts_are i;
+}
+
+four_back : (numbers : List (Option ℕ)) → length numbers ≡ 4 → numbers ≡ number_list (numbers_told numbers)
+four_back [] is = absurd (omega (arith, is))
+four_back (a ∷ []) is = absurd (omega (arith, is))
+four_back (a ∷ b ∷ []) is = absurd (omega (arith, is))
+four_back (a ∷ b ∷ c ∷ []) is = absurd (omega (arith, is))
+four_back (a ∷ b ∷ c ∷ d ∷ []) is = refl
+four_back (a ∷ b ∷ c ∷ d ∷ e ∷ more) is = absurd (omega (arith, is))
+
+-- what the readers of a ticket's place tell of it
+pub record Reached (s : Split) (r : Readers) (some : Bool) (m : MessagePlace) : Type 0 where
+  pub form : HasForm s
+  pub one : TellsSome some s
+  pub calls : TakesCalls r.tags
+  pub tags_are : r.tags.place ≡ tag_place s.section s.phase
+  pub tags : TagsLead s.section s.phase
+  pub kept : AreKept s.fields
+  pub lives : RecordsLive s.section s.phase (datasets_told s some)
+  pub some_object : IsSome r.object
+  pub object : (p : objects.Place) × IsAt s.numbers s.taken (begun_of_object s.section s.phase) s.heads p × IsPossible (object_after s.section s.phase s.taken p)
+  pub object_is : (p : objects.Place) → IsAt s.numbers s.taken (begun_of_object s.section s.phase) s.heads p → IsPossible (object_after s.section s.phase s.taken p) → reading.StandsAt r.object (object_after s.section s.phase s.taken p)
+  pub some_message : IsSome r.message
+  pub message_of : IsMessageOf s.part s.counter s.flag s.texts m
+  pub message : (octets : List ℕ) × (text : List ℕ) × LeadToSaved octets text m × (length octets ≡ s.taken)
+  pub message_is : (octets text : List ℕ) → LeadToSaved octets text m → wire.StandsAt r.message octets text
+  pub ends : s.section ≡ 9 → s.part ≡ 11
+  pub octets_are : r.octets ≡ OctetsIn s
+  pub fields_are : r.fields ≡ FieldsIn s
+  pub octets_fit : r.octets < 2 ^ 32
+  pub fields_fit : r.fields < 2 ^ 32
+
+pub are_at : (s : Split) (r : Readers) (some : Bool) (m : MessagePlace) → Reached s r some m → AreAt s r
+are_at s r some m is =
+    let place = place_told s m in
+    let numbers = numbers_told s.numbers in
+    let four : s.numbers ≡ number_list numbers = four_back s.numbers is.form.numbers.four in
+    let (octets, text, leads, count) = is.message in
+    let fit = is.octets_fit in
+    let few = is.fields_fit in
+    let all = is.octets_are in
+    let many = is.fields_are in
+    record {
+      place = place;
+      parts = place_is s m is.message_of;
+      leads = record {
+        numbers = numbers;
+        numbers_are = four;
+        kept = is.kept;
+        tags = is.tags;
+        records = subst (λ (ds : List Dataset). RecordsLive s.section s.phase ds) (told_same place numbers some four is.one) is.lives;
+        object = is.object;
+        message = (octets, text, leads, count, (λ nine. part_told m.part AfterEnd (is.message_of.part_is ∙ is.ends nine)));
+        within = record { octets_in = omega (arith, fit, all); fields_in = omega (arith, few, many) };
+      };
+      calls = is.calls;
+      tags_are = is.tags_are;
+      some_object = is.some_object;
+      some_message = is.some_message;
+      object_is = is.object_is;
+      message_is = is.message_is;
+      octets_are = is.octets_are;
+      fields_are = is.fields_are;
+    }
+
+-- ---- an unpacker of the readers
+
+pub made_for : (s : Split) (r : Readers) (at : AreAt s r) (some : Bool) → TellsSome some s → (limits : Limits) (count : ℕ) (u : Unpacking) → u.refused ≡ None → u.octets ≡ count → u.begun ≡ has_come s.section s.phase
+    → u.reader ≡ r.tags → u.parts.object ≡ r.object → u.parts.message ≡ r.message → RecordsStand u.parts.fields s.section s.phase (datasets_told s some) → limits_in u ≡ limits → IsMadeFor at.place at.leads.numbers limits count u
+made_for s r at some one limits count u taking counts begun tags object message records limits_are = record {
+  taking = taking;
+  counts = counts;
+  begun = begun ∙ sym (ap (λ (t : Split). has_come t.section t.phase) at.parts);
+  calls = subst TakesCalls (sym tags) at.calls;
+  tags = ap (λ t. t.place) tags ∙ at.tags_are;
+  records = subst (λ (ds : List Dataset). RecordsStand u.parts.fields at.place.section at.place.phase ds) (records_at_place s at.place some at.parts at.leads one)
+      (subst (λ (t : Split). RecordsStand u.parts.fields t.section t.phase (datasets_told s some)) (sym at.parts) records);
+  limits_are = limits_are;
+  object = subst (λ o. ObjectStands o at.place) (sym object) at.object_is;
+  message = subst (λ m. MessageStands m at.place) (sym message) at.message_is;
+}
+
+-- ---- the ticket of a place
+
+pub ticket_at : PlacesArePossibleByLayers → (ticket : List ℕ) (s : Split) (place : Place) → SplitsInto ticket s → split_of place ≡ s → LeadsByLayers place → IsTicketAt ticket place
+ticket_at law ticket s place splits is leads = record {
+  possible = (law place).1 leads;
+  spelled = splits.spelled ∙ ap split_octets (sym is) ∙ sym (spelled place);
+}
+
+-- Octets whose parts lead nowhere are the ticket of no place.
+pub no_ticket : PlacesArePossibleByLayers → TicketsOfPlacesAreSplit → TicketsHaveOneSplit → (ticket : List ℕ) (s : Split) → SplitsInto ticket s → LeadsNowhere s → (place : Place) → IsTicketAt ticket place → ⊥
+no_ticket law split one ticket s splits nowhere place is =
+    let parts : SplitsInto ticket (split_of place) = subst (λ (xs : List ℕ). SplitsInto xs (split_of place)) (sym is.spelled) (split place is.possible) in
+    nowhere place (one ticket (split_of place) s parts splits) ((law place).0 is.possible)
+
+-- A limit that the readers' counts pass is passed by the ticket's place.
+pub limit_told : (limits : Limits) (ticket : List ℕ) (s : Split) (r : Readers) (at : AreAt s r) → IsTicketAt ticket at.place → (fault : TicketFault) → IsLimitFault limits r.octets r.fields fault → IsRestoreFault limits ticket fault
+limit_told limits ticket s r at is HeaderFull bad = (at.place, is, subst (λ (n : ℕ). limits.octets < n) at.octets_are bad)
+limit_told limits ticket s r at is TooManyFields bad = (at.place, is, subst (λ (n : ℕ). n ≤ limits.octets) at.octets_are bad.0, subst (λ (n : ℕ). limits.fields < n) at.fields_are bad.1)
+limit_told limits ticket s r at is Form bad = absurd bad
+limit_told limits ticket s r at is Version bad = absurd bad
+limit_told limits ticket s r at is Impossible bad = absurd bad
+limit_told limits ticket s r at is OutOfMemory bad = absurd bad
+
+pub heads_within : (limits : Limits) (s : Split) (r : Readers) (at : AreAt s r) → IsWithin limits r.octets r.fields → AreHeadsWithin limits at.place
+heads_within limits s r at within =
+    subst (λ (n : ℕ). IsWithin limits (octets_told at.place) n) at.fields_are (subst (λ (n : ℕ). IsWithin limits n r.fields) at.octets_are within)

@@ -1,0 +1,91 @@
+-- What a ticket is restored to stands where the saved unpacker stood; and octets have a place.
+use Rattle.std.proofs.Common.{◌≡◌, ℕ, ◌<◌, ◌^◌, List, [], refl, sym, subst, ◌∙◌, inl, inr, arith, append-nil}
+use Rattle.iim_dataset.specs.Datasets.{Dataset}
+use Rattle.iim_dataset.specs.Splits.{Begun, InTag, InData}
+use Rattle.iim_fields.specs.Standing.{IsWithin}
+use Rattle.iim_fields.specs.declared.limits.Limits.{Limits}
+use Rattle.wire_message.specs.Saved.{saved}
+use Rattle.wire_message.specs.SoFar.{LeadTo}
+use Rattle.wire_message.specs.declared.place.Place.{Place as Message}
+use Rattle.iim_unpack.specs.Admitted.{Value}
+use Rattle.iim_unpack.specs.Continuing.{OctetsHaveOnePlace, RestoredStandAsSaved}
+use Rattle.iim_unpack.specs.Framed.{AreWithin}
+use Rattle.iim_unpack.specs.LowerLaws.{OnwardLaws}
+use Rattle.iim_unpack.specs.Parts.{object_so_far}
+use Rattle.iim_unpack.specs.Possible.{AreOpenOrWhole, Possible, TicketsTellOnePlace, widest}
+use Rattle.iim_unpack.specs.Streams.{IsEnvelopeWithin}
+use Rattle.iim_unpack.specs.Tickets.{Place, IsPlaceOf, place_of, ticket_of}
+use Rattle.iim_unpack.specs.Tokens.{MayGoOn}
+use Rattle.iim_unpack.specs.Unpacking.{IsOpen, limits_in}
+use Rattle.iim_unpack.proofs.Answering.{Lives, lives_envelope, lives_open, one_reading}
+use Rattle.iim_unpack.proofs.Following.{message_of, story_of}
+use Rattle.iim_unpack.proofs.Tickets.{same_place}
+
+-- ---- the place of octets
+
+lives_as : OnwardLaws → (limits : Limits) (octets : List ℕ) → AreOpenOrWhole limits octets → Lives limits octets
+lives_as laws limits octets (inl opens) = lives_open limits octets opens
+lives_as laws limits octets (inr (v, whole)) = lives_envelope laws.opens.answer limits octets v whole
+
+pub one_place : OnwardLaws → (start : Message) → LeadTo [] [] start → OctetsHaveOnePlace
+one_place laws start begins limits octets comes =
+    let lives = lives_as laws limits octets comes in
+    let ds = lives.whole in
+    let b = lives.begun in
+    let o = object_so_far ds b in
+    let message = message_of limits ds b lives.goes_on o [] (sym (append-nil o)) in
+    let story = story_of limits ds b lives.goes_on o [] (sym (append-nil o)) in
+    let (text, at, led) = laws.on [] o [] start begins message story in
+    let place = place_of ds b (saved at) in (
+      place,
+      record { whole = ds; begun = b; reads = lives.reads; text = text; message = saved at; leads = (at, led, refl); is_place = refl },
+      λ other is.
+          let same = one_reading laws.opens.answer octets is.whole ds is.begun b is.reads lives.reads in
+          is.is_place ∙ same_place laws.places.one_place is.whole ds is.begun b is.message (saved at) is.text text same.whole_is same.begun_is is.leads (at, led, refl),
+    )
+
+-- ---- under wider limits
+
+within_wider : (limits : Limits) (octets fields : ℕ) → limits.octets < 2 ^ 32 → limits.fields < 2 ^ 32 → IsWithin limits octets fields → IsWithin widest octets fields
+within_wider limits octets fields less few within = record { octets_in = let low = within.octets_in in omega (arith, less, low); fields_in = let low = within.fields_in in omega (arith, few, low) }
+
+are_wider : (limits : Limits) (ds : List Dataset) → limits.octets < 2 ^ 32 → limits.fields < 2 ^ 32 → AreWithin limits ds → AreWithin widest ds
+are_wider limits ds less few within = record { kept = within_wider limits _ _ less few within.kept; subfiles = within.subfiles }
+
+goes_wider : (limits : Limits) (ds : List Dataset) (b : Begun) → limits.octets < 2 ^ 32 → limits.fields < 2 ^ 32 → MayGoOn limits ds b → MayGoOn widest ds b
+goes_wider limits ds (InTag held) less few goes = record { records = goes.records; within = are_wider limits ds less few goes.within; object = goes.object }
+goes_wider limits ds (InData h taken) less few goes = record {
+  records = goes.records;
+  within = are_wider limits ds less few goes.within;
+  room = record { kept = λ is. within_wider limits _ _ less few (goes.room.kept is); subfiles = goes.room.subfiles };
+  object = goes.object;
+}
+
+open_wider : (limits : Limits) (octets : List ℕ) → limits.octets < 2 ^ 32 → limits.fields < 2 ^ 32 → IsOpen limits octets → IsOpen widest octets
+open_wider limits octets less few opens = record {
+  whole = opens.whole;
+  begun = opens.begun;
+  reads = opens.reads;
+  goes_on = record { sizes = goes_wider limits opens.whole opens.begun less few opens.goes_on.sizes; message = opens.goes_on.message; story = opens.goes_on.story };
+  unfinished = opens.unfinished;
+}
+
+whole_wider : (limits : Limits) (octets : List ℕ) (v : Value) → limits.octets < 2 ^ 32 → limits.fields < 2 ^ 32 → IsEnvelopeWithin limits octets v → IsEnvelopeWithin widest octets v
+whole_wider limits octets v less few whole = record { admits = whole.admits; within = are_wider limits whole.admits.datasets less few whole.within }
+
+-- ---- the restored unpacker
+
+-- the place of octets is the one that their ticket is restored to
+at_restored : TicketsTellOnePlace → (p ticket : List ℕ) (here there : Place) → IsPlaceOf p here → AreOpenOrWhole widest p → ticket ≡ ticket_of here → Possible there → ticket ≡ ticket_of there → IsPlaceOf p there
+at_restored one p ticket here there is comes left possible right = subst (IsPlaceOf p) (one here there (record { octets = p; leads = is; comes = comes }) possible (sym left ∙ right)) is
+
+pub restored_stand : TicketsTellOnePlace → RestoredStandAsSaved
+restored_stand one u v p ticket a less few is restored = (
+  (λ stands.
+      let place = at_restored one p ticket is.place restored.place is.is_place (inl (open_wider _ p less few stands.is_open)) is.spelled restored.is_ticket.possible restored.is_ticket.spelled in
+      restored.stands p place stands.is_open),
+  (λ done.
+      let whole : IsEnvelopeWithin (limits_in u) p done.value = record { admits = done.admits; within = done.within } in
+      let place = at_restored one p ticket is.place restored.place is.is_place (inr (done.value, whole_wider _ p done.value less few whole)) is.spelled restored.is_ticket.possible restored.is_ticket.spelled in
+      restored.done p done.value place whole),
+)

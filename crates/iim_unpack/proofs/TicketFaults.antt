@@ -1,0 +1,44 @@
+-- Why the ticket of a possible place is refused.
+use Rattle.std.proofs.Common.{◌≡◌, ℕ, ◌<◌, ◌≤◌, List, ◌∷◌, ◌++◌, codes, get_or, refl, ap, sym, subst, ◌∙◌, arith}
+use Rattle.iim_fields.specs.declared.limits.Limits.{Limits}
+use Rattle.iim_unpack.specs.Possible.{AreHeadsWithin, TicketsOfPlacesAreSplit, TicketsTellOnePlace, split_of}
+use Rattle.iim_unpack.specs.Restoring.{IsTicketAt, PossiblePlacesAreTaken, fields_told, octets_told}
+use Rattle.iim_unpack.specs.TicketParts.{HasOtherVersion, SplitsInto}
+use Rattle.iim_unpack.specs.Tickets.{Place, ticket_of}
+use Rattle.iim_unpack.specs.declared.ticket_fault.TicketFault.{TicketFault}
+use Rattle.iim_unpack.specs.declared.ticket_fault.TicketFault.TheVariants.{Form, Version, Impossible, HeaderFull, TooManyFields, OutOfMemory}
+
+-- what a fault may be, by the place
+abbrev Due : Limits → Place → TicketFault → Type 0
+Due limits place fault =
+    (limits.octets < octets_told place → fault ≡ HeaderFull) × (octets_told place ≤ limits.octets → limits.fields < fields_told place → fault ≡ TooManyFields)
+    × (AreHeadsWithin limits place → fault ≡ OutOfMemory)
+
+parts_of : TicketsOfPlacesAreSplit → (ticket : List ℕ) (place : Place) → IsTicketAt ticket place → SplitsInto ticket (split_of place)
+parts_of split ticket place is = subst (λ (xs : List ℕ). SplitsInto xs (split_of place)) (sym is.spelled) (split place is.possible)
+
+no_version : (ticket : List ℕ) (place : Place) → IsTicketAt ticket place → HasOtherVersion ticket → ⊥
+no_version ticket place is other =
+    let e : codes "IIMT" ++ other.version ∷ other.rest ≡ ticket_of place = sym other.named ∙ is.spelled in
+    other.other (ap (λ (xs : List ℕ). get_or xs 4 0) e)
+
+same_place : TicketsTellOnePlace → (ticket : List ℕ) (place there : Place) → IsTicketAt ticket place → IsTicketAt ticket there → there ≡ place
+same_place one ticket place there is are = one there place are.possible is.possible (sym are.spelled ∙ is.spelled)
+
+pub taken : TicketsOfPlacesAreSplit → TicketsTellOnePlace → PossiblePlacesAreTaken
+taken split one limits ticket place Form is bad = absurd (bad.1 (split_of place) (parts_of split ticket place is))
+taken split one limits ticket place Version is bad = absurd (no_version ticket place is bad)
+taken split one limits ticket place Impossible is bad = absurd (bad.1 place is)
+taken split one limits ticket place HeaderFull is (there, are, over) =
+    let same = same_place one ticket place there is are in
+    let more : limits.octets < octets_told place = subst (λ (p : Place). limits.octets < octets_told p) same over in
+    ((λ _. refl), (λ within passes. absurd (omega (arith, more, within))), (λ within. absurd (let low = within.octets_in in omega (arith, more, low))))
+taken split one limits ticket place TooManyFields is (there, are, low, over) =
+    let same = same_place one ticket place there is are in
+    let few : octets_told place ≤ limits.octets = subst (λ (p : Place). octets_told p ≤ limits.octets) same low in
+    let more : limits.fields < fields_told place = subst (λ (p : Place). limits.fields < fields_told p) same over in
+    ((λ passes. absurd (omega (arith, few, passes))), (λ within passes. refl), (λ within. absurd (let low' = within.fields_in in omega (arith, more, low'))))
+taken split one limits ticket place OutOfMemory is (there, are, heads) =
+    let same = same_place one ticket place there is are in
+    let within : AreHeadsWithin limits place = subst (AreHeadsWithin limits) same heads in
+    ((λ passes. absurd (let low = within.octets_in in omega (arith, passes, low))), (λ few passes. absurd (let low = within.fields_in in omega (arith, passes, low))), (λ _. refl))
