@@ -46,6 +46,9 @@ fn reads<R: Print + AllocGlobal>(rt: &R) -> Result<(), End> {
     tell(rt, "Unpacker::new and save", || {
         unpacking::saved(rt.alloc())
     })?;
+    tell(rt, "Unpacker::save and restore", || {
+        unpacking::restored(rt.alloc())
+    })?;
     tell(rt, "Unpacker::new and next_envelope", || {
         unpacking::taken_in(rt.alloc())
     })?;

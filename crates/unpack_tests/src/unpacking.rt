@@ -1,13 +1,22 @@
 //! The unpacker on worked envelopes, on what breaks them, and on every change of an octet.
 
 mod calls;
+mod changed_tickets;
 mod changes;
+mod continued;
 mod feeding;
+mod impossible_objects;
+mod impossible_records;
 mod intakes;
+mod leading;
+mod lengths;
+mod parts;
 mod pieces;
 mod random;
 mod records;
+mod restores;
 mod rule;
+mod saving;
 mod sizes;
 mod splits;
 mod streams;
@@ -41,6 +50,12 @@ const STORY: &[u8] =
 const LIMITS: Limits = Limits {
     octets: 65_536,
     fields: 512,
+};
+
+/// Enough for both envelopes, and little memory.
+const FEW: Limits = Limits {
+    octets: 200,
+    fields: 20,
 };
 
 /// Where each tag of the smallest envelope begins, its record and number, and its count.

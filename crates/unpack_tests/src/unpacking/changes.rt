@@ -2,18 +2,11 @@
 
 use super::feeding::{by_octets, in_one_piece};
 use super::rule::by_rule;
-use super::{SMALLEST, TAGS, joined, part, story};
-use iim_fields::Limits;
+use super::{FEW, SMALLEST, TAGS, joined, part, story};
 use std::alloc::{AllocError, Global};
 use std::process::Abort;
 use std::test::Fail;
 use wire_story::Discard;
-
-/// Enough for both envelopes, and little memory.
-const FEW: Limits = Limits {
-    octets: 200,
-    fields: 20,
-};
 
 /// The octets, with this one at a place.
 fn changed(alloc: Global, octets: &[u8], at: usize, value: u8) -> Result<Vec<u8>, AllocError> {

@@ -1,6 +1,7 @@
-//! What an unpacker answers to octets, in one piece and in pieces of each size.
+//! What an unpacker answers to octets, in one piece, in pieces of each size, and continued from tickets.
 
 use super::rule::refusal;
+use super::saving::expect_continued;
 use super::{LIMITS, joined};
 use iim_fields::Limits;
 use iim_unpack::{Cause, Layer, Progress, Refusal, Unpacker};
@@ -99,7 +100,7 @@ fn expect_in_pieces(
     Ok(())
 }
 
-/// Expects an answer under the limits, in one piece and in pieces of each size.
+/// Expects an answer under the limits, in one piece, in pieces of each size, and continued from tickets.
 pub(crate) fn expect_within(
     rt: &impl Abort,
     alloc: Global,
@@ -116,7 +117,7 @@ pub(crate) fn expect_within(
     for size in 1..=LONGEST_PIECE {
         expect_in_pieces(rt, alloc, limits, octets, size, answer)?;
     }
-    Ok(())
+    expect_continued(rt, alloc, limits, octets, answer)
 }
 
 /// Expects an answer to joined pieces.

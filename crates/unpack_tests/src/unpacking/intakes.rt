@@ -1,9 +1,10 @@
 //! Envelopes from a source of one octet a call.
 
 use super::rule::refusal;
-use super::{LIMITS, SMALLEST, STORY, joined, story};
+use super::saving::ticket_after;
+use super::{LIMITS, SMALLEST, STORY, joined, part, story};
 use iim_dataset::{TrialReader, Trouble};
-use iim_unpack::{Cause, Intake, IntakeFault, Layer, Unpacker};
+use iim_unpack::{Cause, Intake, IntakeFault, Layer, Unpacked, Unpacker};
 use std::alloc::{AllocError, Global};
 use std::process::Abort;
 use std::test::Fail;
@@ -19,18 +20,60 @@ fn both(alloc: Global) -> Result<Vec<u8>, AllocError> {
     )
 }
 
-/// What the next envelope is: its object's octets and how many were used for it, or why there is none.
+/// What an intake answered: the object's octets of an envelope and how many were used for it, or why there is none.
+fn told(
+    answer: Result<Option<Unpacked>, IntakeFault>,
+    used: u64,
+) -> Result<Option<(u64, u64)>, IntakeFault> {
+    match answer {
+        Ok(Some(got)) => Ok(Some((got.sizes.total, used))),
+        Ok(None) => Ok(None),
+        Err(fault) => Err(fault),
+    }
+}
+
+/// What the next envelope is.
 fn next(
     alloc: Global,
     intake: &mut Intake<TrialReader<'_>>,
 ) -> Result<Result<Option<(u64, u64)>, IntakeFault>, AllocError> {
     let unpacker = Unpacker::new(alloc, LIMITS)?;
-    let answer = match intake.next_envelope(unpacker, &mut Discard) {
-        Ok(Some(got)) => Ok(Some((got.sizes.total, intake.octets()))),
-        Ok(None) => Ok(None),
-        Err(fault) => Err(fault),
-    };
-    Ok(answer)
+    let answer = intake.next_envelope(unpacker, &mut Discard);
+    Ok(told(answer, intake.octets()))
+}
+
+/// What the next envelope is where an unpacker is restored from the ticket of so many octets of the smallest.
+fn next_after(
+    alloc: Global,
+    count: usize,
+    octets: &[u8],
+) -> Result<Result<Option<(u64, u64)>, IntakeFault>, Fail> {
+    let ticket = ticket_after(alloc, part(&SMALLEST, 0, count))?;
+    let unpacker = Unpacker::restore(alloc, LIMITS, ticket.as_slice(), count as u64)?;
+    if unpacker.is_done() || unpacker.is_failed() {
+        return Err(Fail::from("the envelope has ended"));
+    }
+    let mut intake = Intake::new(TrialReader::new(octets, GOOD, Trouble::Failure));
+    let answer = intake.next_envelope(unpacker, &mut Discard);
+    Ok(told(answer, intake.octets()))
+}
+
+/// An unpacker that is restored from the ticket of no octets stands on none; from any other it stands inside an envelope.
+#[test]
+fn unpackers_from_tickets(rt: HostRuntime) -> Result<(), Fail> {
+    let alloc = rt.alloc();
+    assert_eq!(rt; next_after(alloc, 0, &[])?, Ok(None));
+    for (count, names) in [(1, (0, 0)), (7, (0, 0)), (58, (2, 0)), (100, (8, 10))] {
+        let short = refusal(Layer::Dataset, names, count, Cause::Truncated);
+        let answer = next_after(alloc, count, &[])?;
+        assert_eq!(rt; answer, Err(IntakeFault::Refused(short)));
+    }
+    for count in 0..114usize {
+        let rest = part(&SMALLEST, count, 114);
+        let answer = next_after(alloc, count, rest)?;
+        assert_eq!(rt; answer, Ok(Some((14, rest.len() as u64))));
+    }
+    Ok(())
 }
 
 #[test]

@@ -1,8 +1,9 @@
-//! Random streams: good envelopes, some of whose octets are changed, cut out or doubled, in one piece and in random pieces.
+//! Random streams: good envelopes, some of whose octets are changed, cut out or doubled, in one piece and in random pieces, some of
+//! which are continued from tickets.
 
 use super::feeding::{in_one_piece, settled, text_of};
-use super::{SMALLEST, joined, part, story};
-use iim_fields::Limits;
+use super::saving::restored;
+use super::{FEW, SMALLEST, joined, part, story};
 use iim_unpack::{Progress, Refusal, Unpacker};
 use std::alloc::{AllocError, Global};
 use std::process::Abort;
@@ -14,12 +15,6 @@ const SEED: u64 = 7901;
 
 /// How many streams are made.
 const STREAMS: u32 = 3000;
-
-/// Enough for both envelopes, and little memory.
-const FEW: Limits = Limits {
-    octets: 200,
-    fields: 20,
-};
 
 /// Random numbers by a linear congruence modulo 2^64, with Knuth's factor: the same for the same seed.
 #[derive(Drop)]
@@ -81,18 +76,22 @@ fn stream(alloc: Global, numbers: &mut Numbers, longer: &[u8]) -> Result<Vec<u8>
     Ok(octets)
 }
 
-/// Feeds pieces of 1 to 64 octets, with an empty one before each.
+/// Feeds pieces of 1 to 64 octets, with an empty one before each, and before one in four an unpacker is restored from a ticket.
 fn in_random_pieces<S: StorySink>(
+    rt: &impl Abort,
     alloc: Global,
     numbers: &mut Numbers,
     octets: &[u8],
     sink: &mut S,
-) -> Result<Result<u64, Refusal>, AllocError> {
+) -> Result<Result<u64, Refusal>, Fail> {
     let mut unpacker = Unpacker::new(alloc, FEW)?;
     let mut at = 0usize;
     for _ in 0..octets.len() {
         let size = numbers.below(64) as usize;
         let to = at.saturating_add(1).saturating_add(size).min(octets.len());
+        if numbers.below(4) == 0 {
+            unpacker = restored(rt, alloc, FEW, &unpacker)?;
+        }
         if let Err(refusal) = unpacker.feed(&[], sink) {
             return Ok(Err(refusal));
         }
@@ -116,7 +115,7 @@ fn expect_one_answer(
 ) -> Result<Result<u64, Refusal>, Fail> {
     let (mut whole, mut cut) = (Lines::new(alloc), Lines::new(alloc));
     let answer = in_one_piece(alloc, FEW, octets, &mut whole)?;
-    let other = in_random_pieces(alloc, numbers, octets, &mut cut)?;
+    let other = in_random_pieces(rt, alloc, numbers, octets, &mut cut)?;
     assert_eq!(rt; answer, other);
     let (text, other) = (text_of(alloc, &whole)?, text_of(alloc, &cut)?);
     assert_eq!(rt; text.as_slice(), other.as_slice());

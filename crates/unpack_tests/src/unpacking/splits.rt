@@ -5,7 +5,7 @@ use iim_unpack::{TicketFault, TicketPhase, split_ticket};
 use std::test::Fail;
 
 /// The ticket of a new unpacker.
-const NEW: [u8; 34] = [
+pub(crate) const NEW: [u8; 34] = [
     0x49, 0x49, 0x4d, 0x54, 0x01, 0, 0, 0, 0, 0, 0, 0, 0, 0, 0, 0, 0, 0, 0, 0, 0, 0, 0, 0, 0, 0, 0,
     0, 0, 0, 0, 0, 0, 0,
 ];

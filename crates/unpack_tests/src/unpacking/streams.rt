@@ -28,7 +28,7 @@ const MORE_TAGS: [(usize, u8, u8, usize); 14] = [
 ];
 
 /// The smallest envelope with this object, of so many octets.
-fn sized(alloc: Global, size: u8, object: &[&[u8]]) -> Result<Vec<u8>, AllocError> {
+pub(crate) fn sized(alloc: Global, size: u8, object: &[&[u8]]) -> Result<Vec<u8>, AllocError> {
     let object = joined(alloc, object)?;
     joined(
         alloc,
@@ -175,7 +175,7 @@ fn texts(rt: HostRuntime) -> Result<(), Fail> {
 }
 
 /// As many CR as a gap may have besides one LF.
-const RETURNS: [u8; 31] = [b'\r'; 31];
+pub(crate) const RETURNS: [u8; 31] = [b'\r'; 31];
 
 /// One octet of filler more than may stand there.
 const FILLER: [u8; 33] = [b'\n'; 33];
@@ -279,7 +279,7 @@ fn nothing_changes_any_more(rt: HostRuntime) -> Result<(), Fail> {
 }
 
 /// The numbers of the dataset that so many octets have begun, each 0 while it is not read.
-fn begun_at(tags: &[(usize, u8, u8, usize)], octets: usize) -> (u8, u8) {
+pub(crate) fn begun_at(tags: &[(usize, u8, u8, usize)], octets: usize) -> (u8, u8) {
     let last = tags.iter().rev().find(|tag| tag.0 < octets);
     let Some((offset, rec, set, count)) = last.copied() else {
         return (0, 0);
@@ -292,10 +292,9 @@ fn begun_at(tags: &[(usize, u8, u8, usize)], octets: usize) -> (u8, u8) {
     }
 }
 
-#[test]
-fn every_front_is_truncated(rt: HostRuntime) -> Result<(), Fail> {
-    let octets = story(rt.alloc())?;
-    let mut tags = Vec::new(rt.alloc());
+/// The tags of the longer envelope.
+pub(crate) fn story_tags(alloc: Global) -> Result<Vec<(usize, u8, u8, usize)>, AllocError> {
+    let mut tags = Vec::new(alloc);
     for tag in TAGS {
         if tag.0 < 62 {
             tags.push(tag)?;
@@ -304,6 +303,13 @@ fn every_front_is_truncated(rt: HostRuntime) -> Result<(), Fail> {
     for tag in MORE_TAGS {
         tags.push(tag)?;
     }
+    Ok(tags)
+}
+
+#[test]
+fn every_front_is_truncated(rt: HostRuntime) -> Result<(), Fail> {
+    let octets = story(rt.alloc())?;
+    let tags = story_tags(rt.alloc())?;
     let streams: [(&[u8], &[(usize, u8, u8, usize)]); 2] = [
         (&SMALLEST, &TAGS),
         (octets.as_slice(), tags.as_slice()),

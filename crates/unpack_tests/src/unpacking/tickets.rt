@@ -9,19 +9,20 @@ use std::test::Fail;
 use wire_story::Discard;
 
 /// Each ticket's name and version.
-const NAME: &[u8] = b"IIMT\x01";
+pub(crate) const NAME: &[u8] = b"IIMT\x01";
 
 /// The seven fields of the smallest envelope, after their number.
-const FIELDS: &[u8] =
+pub(crate) const FIELDS: &[u8] =
     b"\x00\x00\x00\x07\x01\x00\x00\x00\x00\x02\x00\x04\x01\x14\x00\x00\x00\x02\x00\x02\
 \x01\x16\x00\x00\x00\x02\x00\x01\x01\x1e\x00\x00\x00\x03TST\x01\x28\x00\x00\x00\x0800000001\
 \x01\x46\x00\x00\x00\x0820240301\x02\x00\x00\x00\x00\x02\x00\x04";
 
 /// 7:10, 7:20, 7:90 and 7:95 of the smallest envelope; the last is absent.
-const NUMBERS: &[u8] = b"\x01\x00\x00\x00\x01\x01\x00\x00\x04\x00\x01\x00\x00\x00\x0e\x00";
+pub(crate) const NUMBERS: &[u8] =
+    b"\x01\x00\x00\x00\x01\x01\x00\x00\x04\x00\x01\x00\x00\x00\x0e\x00";
 
 /// Its header, and no trailer.
-const TEXTS: &[u8] = b"\x01X\x011\x014\x01N\x010\x00\x00";
+pub(crate) const TEXTS: &[u8] = b"\x01X\x011\x014\x01N\x010\x00\x00";
 
 /// So many octets of the smallest envelope; how many of its subfile are then to come, where it is begun; what the ticket tells of
 /// the object and the message; and their texts.
