@@ -1,0 +1,79 @@
+//! Receives an envelope in parts: each run continues at the place that the run before has kept in a file.
+#![tactic(auto)]
+
+ghost use Rattle.std.specs.Prelude.{◌↔◌, IsTrue, IfOk};
+ghost use Rattle.iim_unpack.specs.Unpacking.{IsDone};
+
+use anyhow::{Result, bail, ensure};
+use byteorder::{BigEndian, ByteOrder};
+use iim_dataset::{FromRead, FromWrite, Source, take};
+use iim_fields::Limits;
+use iim_unpack::{Progress, Unpacker};
+use std::process::ExitCode;
+use std::{env, fs};
+use wire_story::{LineWriter, StorySink};
+
+/// The most that records 1 and 2 of an envelope may have, the same in each run.
+const LIMITS: Limits = Limits {
+    octets: 65_536,
+    fields: 512,
+};
+
+/// Receives a part. Where it is refused or something fails, the file stays as it was, and the part can be sent again.
+fn main(rt: HostRuntime) -> Result<ExitCode> {
+    let Some(name) = env::args(&rt)?.nth(1) else {
+        bail!("usage: resume_copy PLACE");
+    };
+    let mut unpacker = load(&rt, name.as_str())?;
+    // A sink has no place of its own: lines are written as they come, joined by LF, and the next run continues a begun one.
+    let mut lines = LineWriter::new(FromWrite::new(rt.stdout()));
+    if !receive(&mut unpacker, &mut FromRead::new(rt.stdin()), &mut lines)? {
+        store(&rt, name.as_str(), &unpacker)?;
+        return Ok(ExitCode::from(4));
+    }
+    println!(rt; "")?;
+    if fs::exists(&rt, name.as_str())? {
+        fs::remove_file(&rt, name.as_str())?;
+    }
+    Ok(ExitCode::SUCCESS)
+}
+
+/// The unpacker at the place that the file keeps: how many octets have come, in eight octets, and the ticket.
+fn load(rt: &HostRuntime, name: &str) -> Result<Unpacker> {
+    if !fs::exists(rt, name)? {
+        return Ok(Unpacker::new(rt.alloc(), LIMITS)?);
+    }
+    let place = fs::read(rt, name)?;
+    ensure!(place.len() >= 8, "the place is cut short");
+    let octets = BigEndian::read_u64(&place[..8]);
+    Ok(Unpacker::restore(rt.alloc(), LIMITS, &place[8..], octets)?)
+}
+
+/// Keeps the place. A new file takes the name at once: if this is cut off, the old place is still there.
+fn store(rt: &HostRuntime, name: &str, unpacker: &Unpacker) -> Result<()> {
+    let mut place = Vec::from_slice(rt.alloc(), &unpacker.octets().to_be_bytes())?;
+    place.extend_from_slice(&unpacker.save(rt.alloc())?)?;
+    let new = format!(in rt.alloc(); "{name}.new")?;
+    fs::write(rt, new.as_str(), &place)?;
+    Ok(fs::rename(rt, new.as_str(), name)?)
+}
+
+/// Feeds the input to its end, and answers whether the envelope has ended.
+fn receive<R: Source, S: StorySink>(to: &mut Unpacker, from: &mut R, lines: &mut S) -> Result<bool>
+    ensures { IfOk result (λ ended. IsTrue ended ↔ IsDone to.new) }
+{
+    let mut block = [0; 4096];
+    'receiving: for _ in 0..u64::MAX {
+        let count = match take(from, &mut block) {
+            Ok(0) => return Ok(to.is_done()),
+            Ok(count) => count,
+            Err(_) => bail!("cannot read"),
+        };
+        match to.feed(&block[..count], lines) {
+            Ok(Progress::Done { used }) => ensure!(used == count, "octets follow the envelope"),
+            Ok(Progress::More) => {}
+            Err(refusal) => bail!("{refusal}"),
+        }
+    }
+    bail!("too many blocks")
+}
