@@ -346,13 +346,6 @@ record Given (fields : List Dataset) (numbers : Numbers) (p : objects.Place) : T
   same : SameStated numbers p.stated
   stated : AreStated p.stated
 
-fits_in : (fields : List Dataset) (numbers : Numbers) (p : objects.Place) → Given fields numbers p → (heads : ℕ) (object : List ℕ) → length object ≤ heads * unwrap_or (number_at 20 p.stated) 0 → Fits fields numbers heads object
-fits_in fields numbers p g heads object room = record {
-  kept = g.kept;
-  fit = subst (λ (n : Numbers). AllByRecursion IsNumber (number_list n)) (sym g.same.are) (fit_in_rows p.stated g.stated.each);
-  room = subst (λ (o : Option ℕ). length object ≤ heads * unwrap_or o 0) (sym g.same.largest) room;
-}
-
 spellable_by : (fields : List Dataset) (numbers : Numbers) (p : objects.Place) → Given fields numbers p → (heads : ℕ) (object : List ℕ) → Fits fields numbers heads object → AllByRecursion HasSpellings fields → Octets object
     → length object < 2 ^ 32 → AreSpellable fields numbers heads object
 spellable_by fields numbers p g heads object fits spelled octets few = record {
@@ -398,6 +391,30 @@ within_plain fields numbers heads object ended tell within few = record {
   subfiles = let heads_are = tell.heads_are in omega (arith, heads_are, few);
 }
 
+-- The first subfiles of a possible place have these octets, which plain subfiles can have, too.
+record Filling (fields : List Dataset) (numbers : Numbers) (p : objects.Place) (heads : ℕ) (object : List ℕ) : Type 0 where
+  given : Given fields numbers p
+  few : length object ≤ greatest_size
+  fits : Fits fields numbers heads object
+
+filling : ByLayersLaws → (fields : List Dataset) (numbers : Numbers) (p : objects.Place) (heads : ℕ) (object : List ℕ) → AllByRecursion (λ (d : Dataset). is_kept d.rec ≡ true) fields → number_list numbers ≡ stated_numbers p.stated
+    → IsPossible p → (ls ks : List ℕ) → p.lengths ≡ ls ++ ks → heads ≡ length ls → sum ls ≡ length object → Filling fields numbers p heads object
+filling laws fields numbers p heads object keeps same is ls ks parts many total =
+    let most = object_fits p is.alive in
+    let sums : sum p.lengths ≡ sum ls + sum ks = ap sum parts ∙ sum_more ls ks in
+    let stated = same_stated numbers p.stated same in
+    let room : length object ≤ heads * unwrap_or (number_at 20 p.stated) 0 =
+    subst (λ (n : ℕ). n ≤ heads * unwrap_or (number_at 20 p.stated) 0) total (subst (λ (k : ℕ). sum ls ≤ k * unwrap_or (number_at 20 p.stated) 0) (sym many) (room_in laws.opens.sizes p is ls ks parts)) in
+    record {
+      given = record { kept = keeps; same = stated; stated = is.stated };
+      few = omega (arith, most, sums, total);
+      fits = record {
+        kept = keeps;
+        fit = subst (λ (n : Numbers). AllByRecursion IsNumber (number_list n)) (sym stated.are) (fit_in_rows p.stated is.stated.each);
+        room = subst (λ (o : Option ℕ). length object ≤ heads * unwrap_or o 0) (sym stated.largest) room;
+      };
+    }
+
 -- ---- between datasets, or in a tag, or at the end
 
 ending_plain : (ended : Bool) (o : List ℕ) → length o ≤ greatest_size → (if ended then ConfirmedAs (length o) else NotEnded) ≡ ending_of (plain_end ended o)
@@ -410,9 +427,9 @@ lead_whole : ByLayersLaws → (place : Place) (numbers : Numbers) (p : objects.P
     → present_record (plain place.fields numbers (one_of_some place.heads) [] ended) ≡ place.section → IsBegun count_octets (InTag held) held → (ended ≡ true → held ≡ []) → place.phase ≡ (if ended then AllEnded else TagBegun held)
     → IsWithin widest (length (joined place.fields)) (length place.fields) → Possible place
 lead_whole laws place numbers p ended held o text numbers_are keeps same is end' many total taken leads last (more, sections) present is_begun none phase within =
-    finish laws place numbers heads o ended (InTag held) held text (spellable_by fields numbers p given heads o fits spelled octets (omega (arith, few)))
+    finish laws place numbers heads o ended (InTag held) held text (spellable_by fields numbers p base.given heads o base.fits spelled octets (let low = base.few in omega (arith, low)))
     is_begun (subst (λ (x : List ℕ). LeadToSaved x text place.message) (sym (append-nil o)) leads) last
-    (record { records = alive; within = inside; object = subst (λ (e : Ending). ObjectLives (record (place_behind ds) { ending = e })) (ending_plain ended o few ∙ sym (ap ending_of tell.nines_are)) lives })
+    (record { records = alive; within = inside; object = subst (λ (e : Ending). ObjectLives (record (place_behind ds) { ending = e })) (ending_plain ended o base.few ∙ sym (ap ending_of tell.nines_are)) lives })
     (λ e. let nil = none e in (ap InTag nil, nil)) place_is
   where
     fields : List Dataset
@@ -421,19 +438,8 @@ lead_whole laws place numbers p ended held o text numbers_are keeps same is end'
     heads : ℕ
     heads = place.heads
 
-    given : Given fields numbers p
-    given = record { kept = keeps; same = same_stated numbers p.stated same; stated = is.stated }
-
-    few : length o ≤ greatest_size
-    few = let most = object_fits p is.alive in omega (arith, most, total)
-
-    room : length o ≤ heads * unwrap_or (number_at 20 p.stated) 0
-    room =
-        subst (λ (n : ℕ). n ≤ heads * unwrap_or (number_at 20 p.stated) 0) total
-        (subst (λ (k : ℕ). sum p.lengths ≤ k * unwrap_or (number_at 20 p.stated) 0) (sym many) (room_in laws.opens.sizes p is p.lengths [] (sym (append-nil p.lengths))))
-
-    fits : Fits fields numbers heads o
-    fits = fits_in fields numbers p given heads o room
+    base : Filling fields numbers p heads o
+    base = filling laws fields numbers p heads o keeps same is p.lengths [] (sym (append-nil p.lengths)) many total
 
     octets : Octets o
     octets = living_octets o (laws.opens.answer.living o text leads.0 leads.1).0
@@ -442,13 +448,13 @@ lead_whole laws place numbers p ended held o text numbers_are keeps same is end'
     ds = plain fields numbers heads o ended
 
     tell : Tell ds fields numbers heads o ended
-    tell = told_by fields numbers heads o ended fits
+    tell = told_by fields numbers heads o ended base.fits
 
     spelled : AllByRecursion HasSpellings fields
     spelled = fields_spelled fields numbers (one_of_some heads) [] ended more keeps sections (let low = within.octets_in in omega (arith, low))
 
     alive : IsAlive ds
-    alive = (more, alive_with fields numbers heads o ended fits octets few more sections)
+    alive = (more, alive_with fields numbers heads o ended base.fits octets base.few more sections)
 
     inside : AreWithin widest ds
     inside = within_plain fields numbers heads o ended tell within (let most = is.few in omega (arith, many, most))
@@ -539,7 +545,7 @@ lead_other : ByLayersLaws → (place : Place) (numbers : Numbers) (p : objects.P
     → ((ds : List Dataset) → ending_of (of_record 9 ds) ≡ NotEnded → ObjectLives (record (place_behind ds) { ending = e }) → ObjectLives (place_at ds h))
     → IsWithin widest (length (joined place.fields) + (if is_kept h.rec then h.count else 0)) (length place.fields + (if is_kept h.rec then 1 else 0)) → Possible place
 lead_other laws place numbers p e h left taken o text tag numbers_are keeps same is end' many total come leads last at section_is not8 spells data_octets counts some phase lives_at within =
-    finish laws place numbers heads o false (InData h taken) (tag ++ taken) text (spellable_by fields numbers p given heads o fits spelled octets (omega (arith, few)))
+    finish laws place numbers heads o false (InData h taken) (tag ++ taken) text (spellable_by fields numbers p base.given heads o base.fits spelled octets (let low = base.few in omega (arith, low)))
     (tag, spells, omega (arith, counts, some), data_octets, refl)
     (subst (λ (x : List ℕ). LeadToSaved x text place.message) (sym (append-nil o) ∙ ap (λ (b : Bool). o ++ (if b then taken else [])) (sym not8)) leads) last
     (record {
@@ -559,19 +565,8 @@ lead_other laws place numbers p e h left taken o text tag numbers_are keeps same
     heads : ℕ
     heads = place.heads
 
-    given : Given fields numbers p
-    given = record { kept = keeps; same = same_stated numbers p.stated same; stated = is.stated }
-
-    few : length o ≤ greatest_size
-    few = let most = object_fits p is.alive in omega (arith, most, total)
-
-    room : length o ≤ heads * unwrap_or (number_at 20 p.stated) 0
-    room =
-        subst (λ (n : ℕ). n ≤ heads * unwrap_or (number_at 20 p.stated) 0) total
-        (subst (λ (k : ℕ). sum p.lengths ≤ k * unwrap_or (number_at 20 p.stated) 0) (sym many) (room_in laws.opens.sizes p is p.lengths [] (sym (append-nil p.lengths))))
-
-    fits : Fits fields numbers heads o
-    fits = fits_in fields numbers p given heads o room
+    base : Filling fields numbers p heads o
+    base = filling laws fields numbers p heads o keeps same is p.lengths [] (sym (append-nil p.lengths)) many total
 
     octets : Octets o
     octets = living_octets o (laws.opens.answer.living o text leads.0 leads.1).0
@@ -580,7 +575,7 @@ lead_other laws place numbers p e h left taken o text tag numbers_are keeps same
     ds = plain fields numbers heads o false
 
     tell : Tell ds fields numbers heads o false
-    tell = told_by fields numbers heads o false fits
+    tell = told_by fields numbers heads o false base.fits
 
     base_alive : IsAlive (plain fields numbers (one_of_some heads) [] false)
     base_alive = front_alive (plain fields numbers (one_of_some heads) [] false) h at
@@ -589,7 +584,7 @@ lead_other laws place numbers p e h left taken o text tag numbers_are keeps same
     spelled = fields_spelled fields numbers (one_of_some heads) [] false base_alive.0 keeps base_alive.1 (let low = within.octets_in in omega (arith, low))
 
     alive_at : IsAliveAt ds h
-    alive_at = at_with fields numbers heads o fits octets few h at
+    alive_at = at_with fields numbers heads o base.fits octets base.few h at
 
     inside : AreWithin widest ds
     inside = within_plain fields numbers heads o false tell (within_whole fields _ _ within) (let most = is.few in omega (arith, many, most))
@@ -615,7 +610,7 @@ lead_subfile : ByLayersLaws → (place : Place) (numbers : Numbers) (p : objects
     → length o ≡ place.taken → LeadToSaved o text place.message → IsAliveAt (plain place.fields numbers (one_of_some (place.heads - 1)) [] false) (head_at 8 set count) → place.section ≡ 8
     → SpellsTag count_octets (head_at 8 set count) tag → place.phase ≡ DataBegun set count left [] → IsWithin widest (length (joined place.fields)) (length place.fields) → Possible place
 lead_subfile laws place numbers p set count left o text tag numbers_are keeps same is end' many last come leads at section_is spells phase within =
-    finish laws place numbers heads object false (InData h begun) (tag ++ begun) text (spellable_by fields numbers p given heads object fits spelled object_octets (omega (arith, few)))
+    finish laws place numbers heads object false (InData h begun) (tag ++ begun) text (spellable_by fields numbers p base.given heads object base.fits spelled object_octets (let low = base.few in omega (arith, low)))
     (tag, spells, omega (arith, begun_length, more), back_octets cut o octets, refl)
     (subst (λ (x : List ℕ). LeadToSaved x text place.message) (sym (take-append-drop cut o)) leads) (λ nine. absurd (omega (arith, nine, section_is)))
     (record {
@@ -668,19 +663,8 @@ lead_subfile laws place numbers p set count left o text tag numbers_are keeps sa
     heads_are : heads ≡ length last.finished
     heads_are = omega (arith, many, lengths_many)
 
-    given : Given fields numbers p
-    given = record { kept = keeps; same = same_stated numbers p.stated same; stated = is.stated }
-
-    few : length object ≤ greatest_size
-    few = let most = object_fits p is.alive in omega (arith, most, sums, finished_is, object_length)
-
-    room : length object ≤ heads * unwrap_or (number_at 20 p.stated) 0
-    room =
-        subst (λ (n : ℕ). n ≤ heads * unwrap_or (number_at 20 p.stated) 0) (finished_is ∙ sym object_length)
-        (subst (λ (k : ℕ). sum last.finished ≤ k * unwrap_or (number_at 20 p.stated) 0) (sym heads_are) (room_in laws.opens.sizes p is last.finished (count ∷ []) last.lengths_are))
-
-    fits : Fits fields numbers heads object
-    fits = fits_in fields numbers p given heads object room
+    base : Filling fields numbers p heads object
+    base = filling laws fields numbers p heads object keeps same is last.finished (count ∷ []) last.lengths_are heads_are (finished_is ∙ sym object_length)
 
     octets : Octets o
     octets = living_octets o (laws.opens.answer.living o text leads.0 leads.1).0
@@ -692,7 +676,7 @@ lead_subfile laws place numbers p set count left o text tag numbers_are keeps sa
     ds = plain fields numbers heads object false
 
     tell : Tell ds fields numbers heads object false
-    tell = told_by fields numbers heads object false fits
+    tell = told_by fields numbers heads object false base.fits
 
     base_alive : IsAlive (plain fields numbers (one_of_some heads) [] false)
     base_alive = front_alive (plain fields numbers (one_of_some heads) [] false) h at
@@ -701,7 +685,7 @@ lead_subfile laws place numbers p set count left o text tag numbers_are keeps sa
     spelled = fields_spelled fields numbers (one_of_some heads) [] false base_alive.0 keeps base_alive.1 (let low = within.octets_in in omega (arith, low))
 
     alive_at : IsAliveAt ds h
-    alive_at = at_with fields numbers heads object fits object_octets few h at
+    alive_at = at_with fields numbers heads object base.fits object_octets base.few h at
 
     inside : AreWithin widest ds
     inside = within_plain fields numbers heads object false tell within (let most = is.few in omega (arith, many, most))
@@ -712,7 +696,7 @@ lead_subfile laws place numbers p set count left o text tag numbers_are keeps sa
     small : (size : ℕ) → number_at 20 (numbers_of (of_record 7 ds)) ≡ Some size → count ≤ size
     small size e =
         let told = tell.numbers_are in
-        let largest : number_at 20 p.stated ≡ Some size = let here : number_at 20 (numbers_of (of_record 7 ds)) ≡ numbers.largest = cc in sym given.same.largest ∙ sym here ∙ e in
+        let largest : number_at 20 p.stated ≡ Some size = let here : number_at 20 (numbers_of (of_record 7 ds)) ≡ numbers.largest = cc in sym base.given.same.largest ∙ sym here ∙ e in
         last_small size last.finished count (subst (AllByRecursion (λ n. n ≤ size)) last.lengths_are (each_small laws.opens.sizes p is size largest (omega (arith, lengths_many))))
       where
         last_small : (size : ℕ) (ls : List ℕ) (c : ℕ) → AllByRecursion (λ n. n ≤ size) (ls ++ c ∷ []) → c ≤ size

@@ -8,6 +8,7 @@ use Rattle.iim_dataset.specs.declared.place.DatasetPlace.TheVariants.{Tag, Insid
 use Rattle.iim_fields.specs.Alive.{IsAlive}
 use Rattle.iim_fields.specs.Faults.{is_kept, kept, kept_octets}
 use Rattle.iim_fields.specs.Standing.{IsWithin}
+use Rattle.iim_fields.specs.Stores.{Room}
 use Rattle.iim_fields.specs.declared.limits.Limits.{Limits}
 use Rattle.wire_message.specs.declared.saved.MessagePlace.{MessagePlace}
 use Rattle.iim_unpack.specs.ByLayers.{head_at}
@@ -29,6 +30,10 @@ pub record GoOnWithin (limits : Limits) (ds : List Dataset) : Type 0 where
 abbrev pub TookAll : {T : Type 0} → (T → Type 0) → (T → List Dataset → Type 0) → (T → Limits) → T → List Dataset → T → Bool → Type 0
 TookAll ready stands limits old es new true = ready new × (limits new ≡ limits old) × ((ds : List Dataset) → stands old ds → stands new (ds ++ es))
 TookAll ready stands limits old es new false = (ds : List Dataset) → stands old ds → GoOnWithin (limits old) (ds ++ es) → ⊥
+
+-- the room of what keeps nothing
+abbrev pub no_room : Room
+no_room = record { octets = 0; entries = 0 }
 
 -- the numbers of 7:10, 7:20, 7:90 and 7:95
 abbrev pub numbers_told : List (Option ℕ) → Numbers

@@ -76,6 +76,14 @@ FailsAs goes failures old octets k fault p a b =
 abbrev pub IsOnward : Place → Parts → ℕ → ℕ → Type 0
 IsOnward place parts all used = ((used ≡ all) × Takes parts (to_come place)) ⊎ (HasEnded parts × (place ≡ between))
 
+-- So many octets of the piece were used, and parts and sink went by what these complete: all of the piece, or those up to the end of the
+-- last dataset.
+pub record HasAdvanced {S : Type 0} (goes : S → List story.Event → S → Type 0) (failures : S → ℕ) (old : Place) (piece : List ℕ) (p : Parts) (a : S) (new : Reader) (q : Parts) (b : S) (used : ℕ) : Type 0 where
+  pub takes_calls : TakesCalls new
+  pub within : used ≤ length piece
+  pub advanced : Advanced goes failures old (take used piece) new.place p a q b
+  pub onward : IsOnward new.place q (length piece) used
+
 -- ---- what octets say
 
 -- the text in the octets: what stands after STX and before ETX in the data of the subfiles so far

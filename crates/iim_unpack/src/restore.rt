@@ -3,13 +3,14 @@
 ghost use Rattle.std.specs.Prelude.{◌≡◌, ◌+◌, ℕ, List, length, IfSome, IfNone, IfOk, IfErr};
 ghost use Rattle.iim_dataset.specs.Datasets.{Dataset};
 ghost use Rattle.iim_fields.specs.Faults.{joined};
-ghost use Rattle.iim_fields.specs.Standing.{IsWithin, StandsBehind, StandsIn, limits_of};
+ghost use Rattle.iim_fields.specs.Standing.{IsWithin, StandsBehind, StandsIn, limits_of, room_for, room_of};
 ghost use Rattle.iim_unpack.specs.Begins.{AreNumbers};
 ghost use Rattle.iim_unpack.specs.ByLayers.{TagsLead, RecordsLive, are_ended};
 ghost use Rattle.iim_unpack.specs.Possible.{begun_count, begun_fields};
 ghost use Rattle.iim_unpack.specs.Restoring.{AreAt, RecordsStand, MayBegin, AreWithinWith, HasFew, IsLimitFault, IsRestored, IsRestoreFault, has_come};
 ghost use Rattle.iim_unpack.specs.Taking.{AreKept, told_datasets};
 ghost use Rattle.iim_unpack.specs.TicketParts.{HasForm, SplitsInto, phase_told, split_told};
+ghost use Rattle.iim_unpack.specs.Unpacking.{room_in};
 
 use crate::laws::{
     places_are_possible_by_layers, readers_make_unpackers, tickets_have_one_split,
@@ -34,6 +35,7 @@ fn take_begun(records: &mut Fields, head: Head, taken: &[u8])
     requires few { HasFew head taken.now }
     ensures stands { (ds : List Dataset) → StandsBehind records.old ds → MayBegin (limits_of records.old) ds head → StandsIn records.new ds head taken.now }
     ensures limits { limits_of records.new ≡ limits_of records.old }
+    ensures room { room_of records.new ≡ room_of records.old }
 {
     match records.begin(head) {
         Ok(()) if head.rec == OBJECT => {}
@@ -49,6 +51,7 @@ fn take_phase(records: &mut Fields, section: u8, phase: &TicketPhase<'_>)
     ensures stands { (ds : List Dataset) → StandsBehind records.old ds → RecordsLive section (phase_told phase.now) ds → AreWithinWith (limits_of records.old) section (phase_told phase.now) ds
         → RecordsStand records.new section (phase_told phase.now) ds }
     ensures limits { limits_of records.new ≡ limits_of records.old }
+    ensures room { room_of records.new ≡ room_of records.old }
 {
     if let TicketPhase::Data {
         set,
@@ -83,6 +86,7 @@ fn records_at(
     requires within { IsWithin limits (length (joined fields) + begun_count section (phase_told phase.now)) (length fields + begun_fields section (phase_told phase.now)) }
     ensures stands { IfOk result (λ records. RecordsStand records section (phase_told phase.now) (told_datasets fields.entry numbers some (are_ended (phase_told phase.now)))) }
     ensures limits { IfOk result (λ records. limits_of records ≡ limits) }
+    ensures room { IfOk result (λ records. room_of records ≡ room_for limits) }
 {
     let mut records = Fields::new(alloc, limits)?;
     if !take_told(&mut records, fields, numbers, some, has_ended(phase)) {
@@ -127,7 +131,8 @@ fn unpacker_at(
     requires form { HasForm (split_told parts.now) }
     requires readers { AreAt (split_told parts.now) readers }
     requires within { IsWithin limits readers.octets readers.fields }
-    ensures { IfOk result (λ u. (ticket : List ℕ) → SplitsInto ticket (split_told parts.now) → IsRestored limits ticket at u) }
+    ensures restored { IfOk result (λ u. (ticket : List ℕ) → SplitsInto ticket (split_told parts.now) → IsRestored limits ticket at u) }
+    ensures room { IfOk result (λ u. room_in u ≡ room_for limits) }
 {
     readers_make_unpackers();
     places_are_possible_by_layers();
@@ -170,6 +175,7 @@ impl Unpacker {
         at: u64,
     ) -> Result<Unpacker, TicketFault>
         ensures restored { IfOk result (IsRestored limits ticket.now at) }
+        ensures room { IfOk result (λ u. room_in u ≡ room_for limits) }
         ensures fault { IfErr result (IsRestoreFault limits ticket.now) }
     {
         places_are_possible_by_layers();

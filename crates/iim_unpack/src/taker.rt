@@ -1,16 +1,17 @@
 //! What takes whole datasets, one after another: a check of records, or a reader that keeps them.
 
-ghost use Rattle.std.specs.Prelude.{◌≡◌, ℕ, [], ◌∷◌, List, length, IsTrue, true, cond};
+ghost use Rattle.std.specs.Prelude.{◌≡◌, ℕ, [], ◌∷◌, ◌++◌, List, length, IsTrue, true, cond};
 ghost use Rattle.iim_dataset.specs.Datasets.{Dataset};
 ghost use Rattle.iim_fields.specs.Checks as checks;
 ghost use Rattle.iim_fields.specs.Faults.{is_kept};
-ghost use Rattle.iim_fields.specs.Standing.{IsBetween, StandsBehind, limits_of};
+ghost use Rattle.iim_fields.specs.Standing.{IsBetween, StandsBehind, limits_of, room_of};
+ghost use Rattle.iim_fields.specs.Stores.{Room};
 ghost use Rattle.iim_fields.specs.declared.limits.Limits.{Limits as LimitsValue};
 ghost use Rattle.iim_object.specs.Packing.{number_dataset};
 ghost use Rattle.iim_unpack.specs.Begins.{dataset, AreNumbers, IsNumber};
 ghost use Rattle.iim_unpack.specs.Plain.{mode_dataset, one_dataset, plain_end, plain_numbers};
 ghost use Rattle.iim_unpack.specs.Possible.{widest};
-ghost use Rattle.iim_unpack.specs.Taking.{AreKept, TookAll, numbers_told, told_datasets};
+ghost use Rattle.iim_unpack.specs.Taking.{AreKept, TookAll, no_room, numbers_told, told_datasets};
 
 use crate::records::{
     ANNOUNCED_SIZE, CONFIRMED_SIZE, LARGEST_SUBFILE, MAXIMUM_SIZE, OBJECT, POST_OBJECT, PRE_OBJECT,
@@ -31,10 +32,14 @@ pub(crate) trait DatasetTaker {
     /// The limits that it keeps to.
     ghost limits: { Self → LimitsValue };
 
-    /// Takes a dataset, or answers that no datasets within the limits can continue with it.
+    /// What it has room for.
+    ghost room: { Self → Room };
+
+    /// Takes a dataset, or answers that no datasets within the limits can continue with it. It takes no memory.
     fn take(&mut self, rec: u8, set: u8, octets: &[u8]) -> bool
         requires { ready self.old }
-        ensures { TookAll ready stands limits self.old (dataset rec set octets.now ∷ []) self.new result };
+        ensures took { TookAll ready stands limits self.old (dataset rec set octets.now ∷ []) self.new result }
+        ensures room { room self.new ≡ room self.old };
 }
 
 impl DatasetTaker for RecordCheck {
@@ -44,6 +49,9 @@ impl DatasetTaker for RecordCheck {
 
     // Whatever the limits, none is kept to: the widest say no more than the records do.
     ghost limits = { λ _. widest };
+
+    // It keeps nothing.
+    ghost room = { λ _. no_room };
 
     fn take(&mut self, rec: u8, set: u8, octets: &[u8]) -> bool {
         let head = Head {
@@ -65,6 +73,8 @@ impl DatasetTaker for Fields {
     ghost stands = { StandsBehind };
 
     ghost limits = { limits_of };
+
+    ghost room = { room_of };
 
     fn take(&mut self, rec: u8, set: u8, octets: &[u8]) -> bool {
         let head = Head {
@@ -95,6 +105,7 @@ fn take_fields<T: DatasetTaker>(taker: &mut T, fields: TicketFields<'_>) -> bool
     requires { T.ready taker.old }
     ensures kept { IsTrue result → AreKept fields.entry }
     ensures all { AreKept fields.entry → TookAll T.ready T.stands T.limits taker.old fields.entry taker.new result }
+    ensures room { T.room taker.new ≡ T.room taker.old }
 {
     let mut fields = fields;
     while let Some((rec, set, octets)) = fields.next() {
@@ -111,7 +122,8 @@ fn take_fields<T: DatasetTaker>(taker: &mut T, fields: TicketFields<'_>) -> bool
 /// Takes the mode, 7:10, where there is one.
 fn take_mode<T: DatasetTaker>(taker: &mut T, mode: Option<u64>) -> bool
     requires { T.ready taker.old }
-    ensures { TookAll T.ready T.stands T.limits taker.old (one_dataset mode_dataset mode) taker.new result }
+    ensures took { TookAll T.ready T.stands T.limits taker.old (one_dataset mode_dataset mode) taker.new result }
+    ensures room { T.room taker.new ≡ T.room taker.old }
 {
     match mode {
         None => true,
@@ -124,7 +136,8 @@ fn take_mode<T: DatasetTaker>(taker: &mut T, mode: Option<u64>) -> bool
 fn take_size<T: DatasetTaker>(taker: &mut T, set: u8, size: Option<u64>) -> bool
     requires ready { T.ready taker.old }
     requires fits { IsNumber size }
-    ensures { TookAll T.ready T.stands T.limits taker.old (one_dataset (number_dataset 7 set) size) taker.new result }
+    ensures took { TookAll T.ready T.stands T.limits taker.old (one_dataset (number_dataset 7 set) size) taker.new result }
+    ensures room { T.room taker.new ≡ T.room taker.old }
 {
     match size {
         None => true,
@@ -136,7 +149,8 @@ fn take_size<T: DatasetTaker>(taker: &mut T, set: u8, size: Option<u64>) -> bool
 fn take_numbers<T: DatasetTaker>(taker: &mut T, numbers: [Option<u64>; 4]) -> bool
     requires ready { T.ready taker.old }
     requires fits { AreNumbers numbers }
-    ensures { TookAll T.ready T.stands T.limits taker.old (plain_numbers (numbers_told numbers)) taker.new result }
+    ensures took { TookAll T.ready T.stands T.limits taker.old (plain_numbers (numbers_told numbers)) taker.new result }
+    ensures room { T.room taker.new ≡ T.room taker.old }
 {
     let [mode, largest, announced, maximum] = numbers;
     take_mode(taker, mode)
@@ -148,7 +162,8 @@ fn take_numbers<T: DatasetTaker>(taker: &mut T, numbers: [Option<u64>; 4]) -> bo
 /// Takes a subfile without octets, where some have ended.
 fn take_subfile<T: DatasetTaker>(taker: &mut T, some: bool) -> bool
     requires { T.ready taker.old }
-    ensures { TookAll T.ready T.stands T.limits taker.old (cond some (dataset 8 10 [] ∷ []) []) taker.new result }
+    ensures took { TookAll T.ready T.stands T.limits taker.old (cond some (dataset 8 10 [] ∷ []) []) taker.new result }
+    ensures room { T.room taker.new ≡ T.room taker.old }
 {
     !some || taker.take(OBJECT, SUBFILE, &[])
 }
@@ -156,9 +171,34 @@ fn take_subfile<T: DatasetTaker>(taker: &mut T, some: bool) -> bool
 /// Takes 9:10 of an object without octets, where it has ended.
 fn take_end<T: DatasetTaker>(taker: &mut T, ended: bool) -> bool
     requires { T.ready taker.old }
-    ensures { TookAll T.ready T.stands T.limits taker.old (plain_end ended []) taker.new result }
+    ensures took { TookAll T.ready T.stands T.limits taker.old (plain_end ended []) taker.new result }
+    ensures room { T.room taker.new ≡ T.room taker.old }
 {
     !ended || taker.take(POST_OBJECT, CONFIRMED_SIZE, &[0, 0, 0, 0])
+}
+
+/// Takes the datasets of records 1 and 2 and the numbers of record 7.
+fn take_records<T: DatasetTaker>(
+    taker: &mut T,
+    fields: TicketFields<'_>,
+    numbers: [Option<u64>; 4],
+) -> bool
+    requires ready { T.ready taker.old }
+    requires fits { AreNumbers numbers }
+    ensures kept { IsTrue result → AreKept fields.entry }
+    ensures all { AreKept fields.entry → TookAll T.ready T.stands T.limits taker.old (fields.entry ++ plain_numbers (numbers_told numbers)) taker.new result }
+    ensures room { T.room taker.new ≡ T.room taker.old }
+{
+    take_fields(taker, fields) && take_numbers(taker, numbers)
+}
+
+/// Takes a subfile without octets, where some have ended, and 9:10, where the object has.
+fn take_object<T: DatasetTaker>(taker: &mut T, some: bool, ended: bool) -> bool
+    requires { T.ready taker.old }
+    ensures took { TookAll T.ready T.stands T.limits taker.old (cond some (dataset 8 10 [] ∷ []) [] ++ plain_end ended []) taker.new result }
+    ensures room { T.room taker.new ≡ T.room taker.old }
+{
+    take_subfile(taker, some) && take_end(taker, ended)
 }
 
 /// Takes the datasets by which the record layer is told a ticket's place: its fields, the numbers of record 7, a subfile without
@@ -174,9 +214,7 @@ pub(crate) fn take_told<T: DatasetTaker>(
     requires fits { AreNumbers numbers }
     ensures kept { IsTrue result → AreKept fields.entry }
     ensures all { AreKept fields.entry → TookAll T.ready T.stands T.limits taker.old (told_datasets fields.entry numbers some ended) taker.new result }
+    ensures room { T.room taker.new ≡ T.room taker.old }
 {
-    take_fields(taker, fields)
-        && take_numbers(taker, numbers)
-        && take_subfile(taker, some)
-        && take_end(taker, ended)
+    take_records(taker, fields, numbers) && take_object(taker, some, ended)
 }

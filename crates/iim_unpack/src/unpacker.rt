@@ -10,7 +10,7 @@ ghost use Rattle.wire_story.specs.Delivery as story;
 ghost use Rattle.iim_unpack.specs.Parts.{CountsFor};
 ghost use Rattle.iim_unpack.specs.Refusals.{refusal_at};
 ghost use Rattle.iim_unpack.specs.Routing.{Takes};
-ghost use Rattle.iim_unpack.specs.Unpacking.{Advanced, FailsFor, FailsAs, IsOnward, tag_fault, raised, begins, failed_at};
+ghost use Rattle.iim_unpack.specs.Unpacking.{HasAdvanced, FailsFor, FailsAs, tag_fault, raised, begins, failed_at};
 ghost use Rattle.iim_dataset.specs.Reading.{is_of};
 ghost use Rattle.iim_unpack.specs.Unpacking.{IsUnpacking, Stood, Stands, IsDoneWith, IsDone, IsRefusedIn, IsTruncatedAt, Goes, limits_in, room_in, LeftAs};
 ghost use Rattle.iim_unpack.specs.Admitted.{Value, Admits};
@@ -54,10 +54,7 @@ fn feed_router<'p, 's, S: StorySink>(
     requires stands { Takes router.old.parts.now (to_come reader.old.place) }
     ensures parts { router.new.parts.ghost_name ≡ router.old.parts.ghost_name }
     ensures sink { router.new.sink.ghost_name ≡ router.old.sink.ghost_name }
-    ensures takes_calls { OnOk result (TakesCalls reader.new) }
-    ensures within { IfOk result (λ used. used ≤ length piece.now) }
-    ensures advanced { IfOk result (λ used. Advanced S.goes S.failures reader.old.place (take used piece.now) reader.new.place router.old.parts.now router.old.sink.now router.new.parts.now router.new.sink.now) }
-    ensures onward { IfOk result (IsOnward reader.new.place router.new.parts.now (length piece.now)) }
+    ensures taken { IfOk result (HasAdvanced S.goes S.failures reader.old.place piece.now router.old.parts.now router.old.sink.now reader.new router.new.parts.now router.new.sink.now) }
     ensures before { IfErr result (λ fault. fault.used < length piece.now) }
     ensures fails { IfErr result (λ fault. FailsFor S.goes S.failures (is_of fault.cause) reader.old.place piece.now fault.used reader.new.place router.old.parts.now router.old.sink.now router.new.refused router.new.sink.now) }
     ensures room { room_of router.new.parts.now.fields ≡ room_of router.old.parts.now.fields }
@@ -85,10 +82,7 @@ fn advance<S: StorySink>(
 ) -> Result<usize, Halt>
     requires takes_calls { TakesCalls reader.old }
     requires stands { Takes parts.old (to_come reader.old.place) }
-    ensures takes_calls { OnOk result (TakesCalls reader.new) }
-    ensures within { IfOk result (λ used. used ≤ length piece.now) }
-    ensures advanced { IfOk result (λ used. Advanced S.goes S.failures reader.old.place (take used piece.now) reader.new.place parts.old sink.old parts.new sink.new) }
-    ensures onward { IfOk result (IsOnward reader.new.place parts.new (length piece.now)) }
+    ensures taken { IfOk result (HasAdvanced S.goes S.failures reader.old.place piece.now parts.old sink.old reader.new parts.new sink.new) }
     ensures before { IfErr result (λ halt. halt.taken < length piece.now) }
     ensures fails { IfErr result (λ halt. FailsAs S.goes S.failures reader.old.place piece.now halt.taken halt.fault parts.old sink.old sink.new) }
     ensures room { room_of parts.new.fields ≡ room_of parts.old.fields }
@@ -310,8 +304,9 @@ impl Unpacker {
         ensures octets { (limits_in self.now).octets < 2 ^ 32 }
         ensures fields { (limits_in self.now).fields < 2 ^ 32 }
     {
-        let _ = self.octets();
-        let _ = self.parts.fields.limits();
+        // Both are asked for what the types of their answers say.
+        let _octets = self.octets();
+        let _limits = self.parts.fields.limits();
     }
 
     /// Whether it stands on no octets.
@@ -334,10 +329,9 @@ impl Unpacker {
     /// An error is the refusal of the first octet with which a layer is dead, or of one at which the sink stopped
     /// ([`Cause::Sink`]); later calls answer [`Cause::Failed`]. No call takes memory.
     pub fn feed<S: StorySink>(&mut self, piece: &[u8], sink: &mut S) -> Result<Progress, Refusal>
-        // It stands on the octets so far, or an envelope ends with them; and the sink was told what they add.
-        ensures goes { IfOk result (λ progress. (more : List story.Event) × S.goes sink.old more sink.new
-            × ((p : List ℕ) (a : ℕ) → Stands self.old p a → Goes self.new p a piece.now more progress)) }
-        ensures calm { OnOk result (S.failures sink.new ≡ S.failures sink.old) }
+        // It stands on the octets so far, or an envelope ends with them; and the sink was told what they add, and did not fail.
+        ensures goes { IfOk result (λ progress. (S.failures sink.new ≡ S.failures sink.old) × ((more : List story.Event) × S.goes sink.old more sink.new
+            × ((p : List ℕ) (a : ℕ) → Stands self.old p a → Goes self.new p a piece.now more progress))) }
 
         // The first dead token is one that octet k completes; the sink was told what the octets before it add.
         ensures refused { IfErr result (λ e. (more : List story.Event) × S.goes sink.old more sink.new

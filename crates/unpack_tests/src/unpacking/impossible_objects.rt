@@ -1,8 +1,9 @@
 //! Tickets of places where the reader of the object or of the message cannot be.
 
 use super::parts::{
-    BEGUN, ENDED, IMPOSSIBLE, IN_CONFIRMED, IN_FIELDS, IN_GAP, IN_OBJECT, IN_SIZES, IN_SOURCE,
-    IN_SUBFILE, IN_TEXT, MESSAGE, OBJECT, Parts, SIZES, TEXT, expect_changed,
+    AFTER_SOH, BEGUN, ENDED, HEADLESS, IMPOSSIBLE, IN_CONFIRMED, IN_FIELDS, IN_GAP, IN_OBJECT,
+    IN_SIZES, IN_SOURCE, IN_SUBFILE, IN_TEXT, MESSAGE, OBJECT, Parts, SIZES, TEXT, expect_changed,
+    expect_parts,
 };
 use super::tickets::NUMBERS;
 use std::test::Fail;
@@ -76,6 +77,13 @@ fn objects(rt: HostRuntime) -> Result<(), Fail> {
         &[b"\x00\x00\x00\x0e\xff\xff\xff\xff"],
     ];
     expect_changed(&rt, rt.alloc(), (&IN_OBJECT, OBJECT), &more, None)
+}
+
+/// An octet of the object that no subfile has brought.
+#[test]
+fn octets_without_a_subfile(rt: HostRuntime) -> Result<(), Fail> {
+    expect_parts(&rt, rt.alloc(), &AFTER_SOH, None)?;
+    expect_parts(&rt, rt.alloc(), &HEADLESS, IMPOSSIBLE)
 }
 
 /// What is begun in records 8 and 9.

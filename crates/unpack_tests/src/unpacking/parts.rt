@@ -137,6 +137,26 @@ pub(crate) const IN_TEXT: Parts = [
     TEXTS,
 ];
 
+/// After one octet of it, which is all of its first subfile.
+pub(crate) const AFTER_SOH: Parts = [
+    b"\x08\x00\x00",
+    FIELDS,
+    UNKNOWN,
+    b"\x00\x00\x00\x01\x00\x00\x00\x01",
+    b"\x01\x00\x00",
+    NO_TEXTS,
+];
+
+/// The same, where no subfile has come: no octet of the object can have.
+pub(crate) const HEADLESS: Parts = [
+    b"\x07\x00\x00",
+    FIELDS,
+    UNKNOWN,
+    b"\x00\x00\x00\x01\x00\x00\x00\x00",
+    b"\x01\x00\x00",
+    NO_TEXTS,
+];
+
 /// No envelope can be there.
 pub(crate) const IMPOSSIBLE: Option<TicketFault> = Some(TicketFault::Impossible);
 
@@ -156,6 +176,19 @@ fn changed(
     Ok(ticket)
 }
 
+/// Expects this answer to the ticket of these parts.
+pub(crate) fn expect_parts(
+    rt: &impl Abort,
+    alloc: Global,
+    parts: &Parts,
+    want: Option<TicketFault>,
+) -> Result<(), Fail> {
+    let ticket = changed(alloc, parts, parts.len(), &[])?;
+    let fault = fault_of(rt, alloc, LIMITS, ticket.as_slice(), 0)?;
+    assert_eq!(rt; fault, want);
+    Ok(())
+}
+
 /// Expects that a real ticket is restored, and what it answers with one of its parts changed to each of these.
 pub(crate) fn expect_changed(
     rt: &impl Abort,
@@ -164,10 +197,7 @@ pub(crate) fn expect_changed(
     changes: &[&[&[u8]]],
     want: Option<TicketFault>,
 ) -> Result<(), Fail> {
-    let own = parts.get(place).copied().unwrap_or(&[]);
-    let ticket = changed(alloc, parts, place, &[own])?;
-    let fault = fault_of(rt, alloc, LIMITS, ticket.as_slice(), 0)?;
-    assert_eq!(rt; fault, None, "part {place}");
+    expect_parts(rt, alloc, parts, None)?;
     for (row, pieces) in changes.iter().enumerate() {
         let ticket = changed(alloc, parts, place, pieces)?;
         let fault = fault_of(rt, alloc, LIMITS, ticket.as_slice(), 0)?;

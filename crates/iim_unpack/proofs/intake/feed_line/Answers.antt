@@ -112,12 +112,12 @@ feeding-preserved g c =
     let some : 0 < length piece = subst (λ (xs : List ℕ). 0 < length xs) (sym c.held.ensures) (c.in-Ok-true.ensures.some c.in-Ok-true.field-0-test) in
     let went = went_more goes g.met.S.StorySink.joined joins c.delivery_may_be_cut.ensures old mid nxt new u v c.feed.new.self c.args.sink.now c.feeding.sink c.feed.new.sink c.feeding.used c.raised-used.result piece
     on c.in-Ok-true.ensures.given (line_used count c.next_piece.new.block c.pass.new.self piece (st c.next_piece.new.reader) (ap length c.held-count.ensures) c.held.ensures c.pass.ensures) some
-    (c.raised-used.ensures ∙ ap (raised c.feeding.used) all) (c.in-Ok-More.ensures.limits c.feeding.invariant.ready.0) c.in-Ok-More.field-0 c.in-Ok-More.field-0-is c.in-Ok-More.ensures.goes in
+    (c.raised-used.ensures ∙ ap (raised c.feeding.used) all) (c.in-Ok-More.ensures.limits c.feeding.invariant.ready.0) c.in-Ok-More.field-0 c.in-Ok-More.field-0-is c.in-Ok-More.ensures.goes.1 in
     let then_ = went.stands here.0 here.1 here.2 in
     record {
       went = went;
       ready = (then_.0.taking, then_.0.unended);
-      calm = c.in-Ok-More.ensures.calm ∙ c.feeding.invariant.calm;
+      calm = c.in-Ok-More.ensures.goes.0 ∙ c.feeding.invariant.calm;
       leads = g.met.R.Source.goes_on c.args.reader.now c.feeding.reader c.next_piece.new.reader c.feeding.invariant.leads c.next_piece.ensures.leads;
     }
 
@@ -138,8 +138,8 @@ returns-in-Ok-Done-clause-fed g c =
     let new : Device = behind c.pass-in-Ok-Done.new.self (st c.next_piece.new.reader) in
     went_done goes g.met.S.StorySink.joined joins c.delivery_may_be_cut.ensures old mid nxt new u v c.feed.new.self c.args.sink.now c.feeding.sink c.feed.new.sink c.feeding.used c.raised.result c.in-Ok-Done.last piece
     on c.in-Ok-true.ensures.given (line_front c.in-Ok-Done.last c.next_piece.new.block c.pass-in-Ok-Done.new.self piece (st c.next_piece.new.reader) c.held.ensures c.pass-in-Ok-Done.ensures)
-    (used_within c.feed.new.self piece c.in-Ok-Done.ensures.goes.0 c.in-Ok-Done.last c.in-Ok-Done.field-0 _ _ c.in-Ok-Done.field-0-is (c.in-Ok-Done.ensures.goes.2 _ _ there.0))
-    c.raised.ensures (c.in-Ok-Done.ensures.limits c.feeding.invariant.ready.0) c.in-Ok-Done.field-0 c.in-Ok-Done.field-0-is c.in-Ok-Done.ensures.goes
+    (used_within c.feed.new.self piece c.in-Ok-Done.ensures.goes.1.0 c.in-Ok-Done.last c.in-Ok-Done.field-0 _ _ c.in-Ok-Done.field-0-is (c.in-Ok-Done.ensures.goes.1.2 _ _ there.0))
+    c.raised.ensures (c.in-Ok-Done.ensures.limits c.feeding.invariant.ready.0) c.in-Ok-Done.field-0 c.in-Ok-Done.field-0-is c.in-Ok-Done.ensures.goes.1
 
 pub pass-requires-in-Ok-Done : goal.pass-requires-in-Ok-Done
 pass-requires-in-Ok-Done g c =
@@ -149,7 +149,7 @@ pass-requires-in-Ok-Done g c =
     let there = on.stands here.0 here.1 here.2 in
     let piece = c.held.result.now in
     subst (λ (xs : List ℕ). c.in-Ok-Done.last ≤ length xs) c.held.ensures
-    (used_within c.feed.new.self piece c.in-Ok-Done.ensures.goes.0 c.in-Ok-Done.last c.in-Ok-Done.field-0 _ _ c.in-Ok-Done.field-0-is (c.in-Ok-Done.ensures.goes.2 _ _ there.0))
+    (used_within c.feed.new.self piece c.in-Ok-Done.ensures.goes.1.0 c.in-Ok-Done.last c.in-Ok-Done.field-0 _ _ c.in-Ok-Done.field-0-is (c.in-Ok-Done.ensures.goes.1.2 _ _ there.0))
 
 pub returns-in-Err-feed-clause-faults : goal.returns-in-Err-feed-clause-faults
 returns-in-Err-feed-clause-faults g c =

@@ -37,8 +37,8 @@ loop-piece-preserved g c =
     let fed = c.loop-piece.invariant.fed in
     let same = c.in_ok-feed.ensures.limits (still_taking goes limits u c.args.sink.now c.loop-piece.sink (stream_of (take k ps)) fed) in
     let on = went_on goes g.met.S.StorySink.joined laws limits low u c.feed.new.self c.args.sink.now c.loop-piece.sink c.feed.new.sink (stream_of (take k ps)) (get_or ps k none).now c.in_ok-feed.field-0 fed (same ∙ fed.limits_are)
-    c.in_ok-feed.ensures.goes (λ used fits at. (c.feed.ensures.done (at.taking, at.ended)).1) in
+    c.in_ok-feed.ensures.goes.1 (λ used fits at. (c.feed.ensures.done (at.taking, at.ended)).1) in
     record {
       fed = subst (λ (o : List ℕ). HasFed goes limits c.feed.new.self c.args.sink.now c.feed.new.sink o) (sym (stream_step ps k none c.loop-piece-test.true)) on;
-      calm = c.in_ok-feed.ensures.calm ∙ c.loop-piece.invariant.calm;
+      calm = c.in_ok-feed.ensures.goes.0 ∙ c.loop-piece.invariant.calm;
     }

@@ -22,8 +22,8 @@ at_place-requires c =
     (c.readers_make_unpackers.ensures at.place c.args.limits c.args.at u ticket (ticket_at c.places_are_possible_by_layers.ensures ticket s at.place (record { form = c.requires.form; spelled = refl }) at.parts at.leads)
     (heads_within c.args.limits s r at c.requires.within) at.leads made at.some_object at.some_message).0
 
-pub returns : goal.returns
-returns c ticket splits =
+pub returns-clause-restored : goal.returns-clause-restored
+returns-clause-restored c ticket splits =
     let s : Split = split_told c.args.parts.now in
     let r = c.args.readers in
     let at = c.requires.readers in

@@ -30,7 +30,7 @@ returns-then-not-take-clause-all g c all ds s goes =
     let d : Dataset = dataset c.in-Some.rec c.in-Some.set c.in-Some.octets.now in
     let rest : List Dataset = c.next.new.self in
     let parts : c.args.fields ≡ (done ++ d ∷ []) ++ rest = c.loop-rec.invariant.parts ∙ (ap (λ (t : List Dataset). done ++ t) c.in-Some.ensures.steps ∙ sym (append_assoc done (d ∷ []) rest)) in
-    let one : TookAll ready stands limits c.loop-rec.taker (d ∷ []) new false = subst (λ (b : Bool). TookAll ready stands limits c.loop-rec.taker (d ∷ []) new b) c.if-not-take.true c.take.ensures in
+    let one : TookAll ready stands limits c.loop-rec.taker (d ∷ []) new false = subst (λ (b : Bool). TookAll ready stands limits c.loop-rec.taker (d ∷ []) new b) c.if-not-take.true c.take.ensures.took in
     let some : TookAll ready stands limits old (done ++ d ∷ []) new false = took_more ready stands limits old c.loop-rec.taker new done (d ∷ []) false c.loop-rec.invariant.took one in
     took_none ready stands limits old new new (done ++ d ∷ []) rest some ds s (subst (λ (t : List Dataset). GoOnWithin (limits old) (ds ++ t)) parts goes)
 
@@ -42,10 +42,11 @@ loop-rec-preserved g c =
     let new = c.take.new.self in
     let done : List Dataset = c.loop-rec.invariant.done in
     let d : Dataset = dataset c.in-Some.rec c.in-Some.set c.in-Some.octets.now in
-    let one : TookAll ready stands limits c.loop-rec.taker (d ∷ []) new true = subst (λ (b : Bool). TookAll ready stands limits c.loop-rec.taker (d ∷ []) new b) c.if-not-take.false c.take.ensures in
+    let one : TookAll ready stands limits c.loop-rec.taker (d ∷ []) new true = subst (λ (b : Bool). TookAll ready stands limits c.loop-rec.taker (d ∷ []) new b) c.if-not-take.false c.take.ensures.took in
     record {
       done = done ++ d ∷ [];
       parts = c.loop-rec.invariant.parts ∙ (ap (λ (t : List Dataset). done ++ t) c.in-Some.ensures.steps ∙ sym (append_assoc done (d ∷ []) c.next.new.self));
       each = all_join (λ (e : Dataset). is_kept e.rec ≡ true) done (d ∷ []) c.loop-rec.invariant.each (sym c.is_kept.ensures ∙ c.if-not-is_kept.false, tt);
       took = took_more ready stands limits c.args.taker.now c.loop-rec.taker new done (d ∷ []) true c.loop-rec.invariant.took one;
+      room = c.take.ensures.room ∙ c.loop-rec.invariant.room;
     }

@@ -10,6 +10,7 @@ invariant-loop-rec g l = record {
   parts : l.fn.fields ≡ done ++ l.fields;
   each : AreKept done;
   took : TookAll g.T.DatasetTaker.ready g.T.DatasetTaker.stands g.T.DatasetTaker.limits l.fn.taker done l.taker true;
+  room : g.T.DatasetTaker.room l.taker ≡ g.T.DatasetTaker.room l.fn.taker;
 }
 
 abbrev pub decreases-loop-rec : goal.decreases-loop-rec

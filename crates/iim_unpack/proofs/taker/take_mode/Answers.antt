@@ -4,7 +4,7 @@ use Rattle.iim_unpack.specs.Taking.{GoOnWithin}
 use Rattle.iim_unpack.proofs.Taking.{no_wide_mode}
 use Rattle.iim_unpack.proofs.taker.take_mode.Goals as goal
 
-pub returns-in-Some-2 : goal.returns-in-Some-2
-returns-in-Some-2 g c ds s goes =
+pub returns-in-Some-2-clause-took : goal.returns-in-Some-2-clause-took
+returns-in-Some-2-clause-took g c ds s goes =
     let limits = g.T.DatasetTaker.limits c.args.taker.now in
     no_wide_mode limits ds c.in-Some.mode c.if-mode-lt256.false (subst (λ (o : Option ℕ). GoOnWithin limits (ds ++ one_dataset mode_dataset o)) c.in-Some.is goes)

@@ -25,9 +25,9 @@ four (a ∷ b ∷ c ∷ d ∷ []) is =
     ∙ append_assoc (one_dataset mode_dataset a) (one_dataset (number_dataset 7 20) b) (one_dataset (number_dataset 7 90) c ++ one_dataset (number_dataset 7 95) d)
 four (a ∷ b ∷ c ∷ d ∷ e ∷ more) is = absurd (omega (arith, is))
 
-pub returns-else-take_size-2 : goal.returns-else-take_size-2
+pub returns-else-take_size-2-clause-took : goal.returns-else-take_size-2-clause-took
 unfolding mode_in size_in
-returns-else-take_size-2 g c =
+returns-else-take_size-2-clause-took g c =
     let ready = g.T.DatasetTaker.ready in
     let stands = g.T.DatasetTaker.stands in
     let limits = g.T.DatasetTaker.limits in
@@ -37,16 +37,16 @@ returns-else-take_size-2 g c =
     elim c.if-take_mode.branch [
       | then-take_mode w ↦
           took_then ready stands limits old c.take_mode.new.taker w.take_size.new.taker c.if-take_mode.taker (mode_in ns) (size_in 20 1 ns) c.take_mode.result w.take_size.result c.if-take_mode.value
-          c.take_mode.ensures w.if-take_mode.true w.take_size.ensures w.taker-is w.value-is
+          c.take_mode.ensures.took w.if-take_mode.true w.take_size.ensures.took w.taker-is w.value-is
       | else-take_mode w ↦
           let none : c.if-take_mode.value ≡ false = cc (w.value-is, w.if-take_mode.false) in
-          took_else ready stands limits old c.take_mode.new.taker c.if-take_mode.taker (mode_in ns) (size_in 20 1 ns) c.take_mode.result c.if-take_mode.value c.take_mode.ensures w.if-take_mode.false none
+          took_else ready stands limits old c.take_mode.new.taker c.if-take_mode.taker (mode_in ns) (size_in 20 1 ns) c.take_mode.result c.if-take_mode.value c.take_mode.ensures.took w.if-take_mode.false none
     ] in
     let three : TookAll ready stands limits old ((mode_in ns ++ size_in 20 1 ns) ++ size_in 90 2 ns) c.if-take_size.taker c.if-take_size.value =
     elim c.if-take_size.branch [
       | then-take_size w ↦
           took_then ready stands limits old c.if-take_mode.taker w.take_size-then-take_size.new.taker c.if-take_size.taker (mode_in ns ++ size_in 20 1 ns) (size_in 90 2 ns) c.if-take_mode.value w.take_size-then-take_size.result c.if-take_size.value
-          two w.if-take_size.true w.take_size-then-take_size.ensures w.taker-is w.value-is
+          two w.if-take_size.true w.take_size-then-take_size.ensures.took w.taker-is w.value-is
       | else-take_size w ↦
           took_else ready stands limits old c.if-take_mode.taker c.if-take_size.taker (mode_in ns ++ size_in 20 1 ns) (size_in 90 2 ns) c.if-take_mode.value c.if-take_size.value two w.if-take_size.false c.if-take_size-2.false
     ] in

@@ -16,16 +16,16 @@ close-requires-in-Ok-2 c =
     let head : Head = record { rec = c.args.rec; set = c.args.set; count = n } in
     (head, n - n, c.bytes.ensures.inside head n c.in-Ok.ensures.inside, inr (nothing_left n))
 
-pub returns-in-Ok : goal.returns-in-Ok
-returns-in-Ok c =
+pub returns-in-Ok-clause-took : goal.returns-in-Ok-clause-took
+returns-in-Ok-clause-took c =
     let d = dataset c.args.rec c.args.set c.args.octets.now in
     subst (λ (b : Bool). TookAll IsBetween StandsBehind limits_of c.args.self.now (d ∷ []) c.close.new.self b) (sym c.is_ok.ensures.value)
     (closed_took c.args.self.now c.begin.new.self c.close.new.self d [] c.close.result c.in-Ok.ensures.stands
     (record { head = refl; octets = are_octets c.args.octets.now (λ i. omega (arith, c.type_inv.octets i)); given = λ other. absurd (other c.if-rec-eq-OBJECT.true) })
     c.close.ensures.between (c.close.ensures.limits ∙ c.begin.ensures.limits) c.close.ensures.stands c.close.ensures.fault)
 
-pub returns-in-Ok-2 : goal.returns-in-Ok-2
-returns-in-Ok-2 c =
+pub returns-in-Ok-2-clause-took : goal.returns-in-Ok-2-clause-took
+returns-in-Ok-2-clause-took c =
     let d = dataset c.args.rec c.args.set c.args.octets.now in
     let h : Head = record { rec = c.args.rec; set = c.args.set; count = length c.args.octets.now } in
     subst (λ (b : Bool). TookAll IsBetween StandsBehind limits_of c.args.self.now (d ∷ []) c.close-in-Ok-2.new.self b) (sym c.is_ok-in-Ok-2.ensures.value)

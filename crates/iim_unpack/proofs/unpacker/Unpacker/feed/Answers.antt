@@ -8,10 +8,13 @@ use Rattle.iim_unpack.proofs.unpacker.Unpacker.feed.Goals as goal
 
 pub returns-then-has_ended-clause-goes : goal.returns-then-has_ended-clause-goes
 returns-then-has_ended-clause-goes g c = (
-  [],
-  g.met.S.StorySink.nothing c.args.sink.now,
-  λ p a at.
-      let bad : false ≡ true = sym at.unended ∙ sym (ap (λ (u : Unpacking). has_ended u.parts) c.self.view_is) ∙ sym c.if-has_ended.ensures in absurd cc,
+  refl,
+  (
+    [],
+    g.met.S.StorySink.nothing c.args.sink.now,
+    λ p a at.
+        let bad : false ≡ true = sym at.unended ∙ sym (ap (λ (u : Unpacking). has_ended u.parts) c.self.view_is) ∙ sym c.if-has_ended.ensures in absurd cc,
+  ),
 )
 
 pub returns-then-has_ended-2-clause-goes : goal.returns-then-has_ended-2-clause-goes
@@ -21,12 +24,13 @@ returns-then-has_ended-2-clause-goes g c =
     let n = c.advance.new in
     let u : Unpacking = record { reader = i.reader; parts = i.parts; octets = i.octets; begun = i.begun; refused = i.refused } in
     let v : Unpacking = record { reader = n.reader; parts = n.parts; octets = c.raised-self-inside.result; begun = c.begins-self-inside.result; refused = i.refused } in
-    let h = c.in-Ok.ensures in (
-      story.delivered h.advanced.went.more,
+    let h = c.in-Ok.ensures.taken in (
+      h.advanced.went.calm,
+      (story.delivered h.advanced.went.more,
       h.advanced.went.told,
       λ p a at.
           goes_done g.S.StorySink.goes g.S.StorySink.failures laws u v c.args.piece.now c.in-Ok.used c.args.sink.now n.sink (c.readers_tell_sizes.ensures n.parts.object).0 h.advanced h.onward refl (sym c.if-has_ended-2.ensures) c.raised-self-inside.ensures h.within (c.readers_tell_sizes.ensures n.parts.object).1 p a
-          (subst (λ (w : Unpacking). Stands w p a) (sym c.self.view_is) at),
+          (subst (λ (w : Unpacking). Stands w p a) (sym c.self.view_is) at)),
     )
 
 pub returns-else-has_ended-2-clause-goes : goal.returns-else-has_ended-2-clause-goes
@@ -36,12 +40,13 @@ returns-else-has_ended-2-clause-goes g c =
     let n = c.advance.new in
     let u : Unpacking = record { reader = i.reader; parts = i.parts; octets = i.octets; begun = i.begun; refused = i.refused } in
     let v : Unpacking = record { reader = n.reader; parts = n.parts; octets = c.raised-self-inside.result; begun = c.begins-self-inside.result; refused = i.refused } in
-    let h = c.in-Ok.ensures in (
-      story.delivered h.advanced.went.more,
+    let h = c.in-Ok.ensures.taken in (
+      h.advanced.went.calm,
+      (story.delivered h.advanced.went.more,
       h.advanced.went.told,
       λ p a at.
           goes_more g.S.StorySink.goes g.S.StorySink.failures laws u v c.args.piece.now c.in-Ok.used c.args.sink.now n.sink h.advanced h.onward refl (sym c.if-has_ended-2.ensures) c.raised-self-inside.ensures c.begins-self-inside.ensures p a
-          (subst (λ (w : Unpacking). Stands w p a) (sym c.self.view_is) at),
+          (subst (λ (w : Unpacking). Stands w p a) (sym c.self.view_is) at)),
     )
 
 pub returns-in-Err-clause-refused : goal.returns-in-Err-clause-refused
@@ -62,7 +67,7 @@ invariant_of-self g c =
     let n = c.advance.new in
     let u : Unpacking = record { reader = i.reader; parts = i.parts; octets = i.octets; begun = i.begun; refused = i.refused } in
     let v : Unpacking = record { reader = n.reader; parts = n.parts; octets = c.raised-self-inside.result; begun = c.begins-self-inside.result; refused = i.refused } in
-    let h = c.in-Ok.ensures in
+    let h = c.in-Ok.ensures.taken in
     λ none. sound_done g.S.StorySink.goes g.S.StorySink.failures laws u v c.args.piece.now c.in-Ok.used c.args.sink.now n.sink (c.readers_tell_sizes.ensures n.parts.object).0 h.advanced h.onward h.takes_calls refl (sym c.if-has_ended-2.ensures) c.raised-self-inside.ensures h.within (c.readers_tell_sizes.ensures n.parts.object).1
     (c.self.invariant none) (sym c.if-has_ended.ensures)
 
@@ -73,6 +78,6 @@ invariant_of-self-in-Ok g c =
     let n = c.advance.new in
     let u : Unpacking = record { reader = i.reader; parts = i.parts; octets = i.octets; begun = i.begun; refused = i.refused } in
     let v : Unpacking = record { reader = n.reader; parts = n.parts; octets = c.raised-self-inside.result; begun = c.begins-self-inside.result; refused = i.refused } in
-    let h = c.in-Ok.ensures in
+    let h = c.in-Ok.ensures.taken in
     λ none. sound_more g.S.StorySink.goes g.S.StorySink.failures laws u v c.args.piece.now c.in-Ok.used c.args.sink.now n.sink h.advanced h.onward h.takes_calls refl (sym c.if-has_ended-2.ensures) c.raised-self-inside.ensures c.begins-self-inside.ensures
     (c.self.invariant none) (sym c.if-has_ended.ensures)

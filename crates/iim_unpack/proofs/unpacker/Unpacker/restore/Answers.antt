@@ -16,4 +16,4 @@ returns-in-Some-limit_fault-clause-fault c =
     limit_told c.args.limits c.args.ticket.now s c.in-Some.readers at is c.in-Some-limit_fault.fault c.in-Some-limit_fault.ensures.some
 
 pub returns-in-Ok-clause-restored : goal.returns-in-Ok-clause-restored
-returns-in-Ok-clause-restored c = c.in-Ok.ensures c.args.ticket.now c.in_ok-parts.ensures.parts
+returns-in-Ok-clause-restored c = c.in-Ok.ensures.restored c.args.ticket.now c.in_ok-parts.ensures.parts
