@@ -1,6 +1,6 @@
 -- The lines of rows.
 use Rattle.std.proofs.Common.{◌≡◌, ℕ, ◌+◌, List, [], ◌∷◌, ◌++◌, length, append-nil, append_assoc, add-zero, suc, ap, sym, ◌∙◌, arith}
-use Rattle.iim_audit.specs.Texts.{row_line, lines_from}
+use Rattle.iim_audit.specs.Format.Texts.{row_line, lines_from}
 use Rattle.iim_audit.specs.declared.row.AuditRow.{AuditRow}
 
 -- a row more

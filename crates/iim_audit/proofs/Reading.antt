@@ -7,10 +7,10 @@ use Rattle.iim_dataset.specs.DeviceLaws.{HasGiven, MissedBehind, BrokeFor, Gifts
 use Rattle.iim_dataset.specs.declared.device.IoFault.{IoFault}
 use Rattle.iim_dataset.specs.declared.device.IoFault.TheVariants as io
 use Rattle.iim_fields.specs.declared.limits.Limits.{Limits}
-use Rattle.iim_unpack.specs.Admitted.{Value}
-use Rattle.iim_unpack.specs.Listing.{Listed, Divides, values_of, max_envelopes}
-use Rattle.iim_unpack.specs.Streams.{IsEnvelopeWithin}
-use Rattle.iim_audit.specs.Auditing.{HasCome, IsAudited, FailsAt}
+use Rattle.iim_unpack.specs.Format.Admitted.{Value}
+use Rattle.iim_unpack.specs.Format.Listing.{Listed, Divides, values_of, max_envelopes}
+use Rattle.iim_unpack.specs.Format.Streams.{IsEnvelopeWithin}
+use Rattle.iim_audit.specs.Format.Auditing.{HasCome, IsAudited, FailsAt}
 use Rattle.iim_audit.specs.Ledgers.{Keeps}
 use Rattle.iim_audit.specs.Taking.{IsTaken, Took, TookOne, TookNone}
 use Rattle.iim_audit.specs.declared.fault.AuditCause.{AuditCause}

@@ -6,8 +6,8 @@ use Rattle.std.specs.Option.{unwrap_or}
 use Rattle.iim_dataset.specs.Datasets.{Dataset}
 use Rattle.iim_fields.specs.Ids.{Identity, id_eq, id_cmp, id_equivalence, id_ties}
 use Rattle.iim_fields.specs.Views.{first_data}
-use Rattle.iim_unpack.specs.Admitted.{Value}
-use Rattle.iim_audit.specs.Rows.{id_of, first_same, row_of, rows_after, report_of}
+use Rattle.iim_unpack.specs.Format.Admitted.{Value}
+use Rattle.iim_audit.specs.Format.Rows.{id_of, first_same, row_of, rows_after, report_of}
 use Rattle.iim_audit.specs.declared.row.AuditRow.{AuditRow}
 
 rows_after-push : (now : ℤ) (earlier vs : List Value) (v : Value)

@@ -4,7 +4,7 @@ use Rattle.iim_dataset.specs.Devices.{Device}
 use Rattle.iim_fields.specs.declared.limits.Limits.{Limits}
 use Rattle.wire_story.specs.Delivery.{Event}
 use Rattle.wire_story.specs.Words.{WordsSoFar, CountsWords}
-use Rattle.iim_unpack.specs.Framed.{AreWithin}
+use Rattle.iim_unpack.specs.Format.Framed.{AreWithin}
 use Rattle.iim_unpack.specs.Intakes.{Gives, Faults, WasRefused, WasTruncated}
 use Rattle.iim_unpack.specs.Parts.{CountsFor}
 use Rattle.iim_unpack.specs.Unpacking.{Unpacking, Stands, limits_in}

@@ -15,9 +15,9 @@ use Rattle.wire_message.specs.Laws.{TextsStandBetweenStxAndEtx}
 use Rattle.wire_message.specs.Layers.{text_so_far}
 use Rattle.wire_message.specs.Messages.{Header, IsMessage}
 use Rattle.wire_message.specs.declared.place.Place.TheVariants.{AfterEnd}
-use Rattle.iim_unpack.specs.Admitted.{Value, Admits, object_of}
-use Rattle.iim_unpack.specs.Parts.{object_so_far}
-use Rattle.iim_unpack.specs.Unpacking.{IsTextOf, Adds}
+use Rattle.iim_unpack.specs.Format.Admitted.{Value, Admits, object_of}
+use Rattle.iim_unpack.specs.Format.Open.{object_so_far}
+use Rattle.iim_unpack.specs.Format.Open.{IsTextOf, Adds}
 
 pub record TextLaws : Type 0 where
   pub way : OctetsAreHandedOnOneWay

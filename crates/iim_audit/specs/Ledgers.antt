@@ -2,8 +2,8 @@
 use Rattle.std.specs.Prelude.{◌≡◌, ℤ, List, map}
 use Rattle.std.specs.BTreeMap.{get}
 use Rattle.iim_fields.specs.Ids.{Identity, id_cmp}
-use Rattle.iim_unpack.specs.Admitted.{Value}
-use Rattle.iim_audit.specs.Rows.{id_of, first_same, report_of}
+use Rattle.iim_unpack.specs.Format.Admitted.{Value}
+use Rattle.iim_audit.specs.Format.Rows.{id_of, first_same, report_of}
 use Rattle.iim_audit.specs.declared.ledger.Ledger.{Ledger}
 
 -- The rows are those of the envelopes so far, and the map has the number of the first envelope with each id.

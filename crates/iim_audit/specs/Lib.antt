@@ -1,7 +1,4 @@
-pub mod Ages
-pub mod Auditing
+pub mod Format
 pub mod Faults
 pub mod Ledgers
-pub mod Rows
 pub mod Taking
-pub mod Texts

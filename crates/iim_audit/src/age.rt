@@ -1,7 +1,7 @@
 //! How old an envelope is.
 
 ghost use Rattle.std.specs.Prelude.{◌≡◌, ◌-ℤ◌};
-ghost use Rattle.iim_audit.specs.Ages.{whole_seconds, WholeSecondsAreFloors};
+ghost use Rattle.iim_audit.specs.Format.Ages.{whole_seconds, WholeSecondsAreFloors};
 
 use jiff::Timestamp;
 

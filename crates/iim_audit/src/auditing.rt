@@ -2,7 +2,7 @@
 
 ghost use Rattle.std.specs.Prelude.{◌≡◌, ℕ, None, Some, IfOk, IfErr, OnOk, IsErrAnd};
 ghost use Rattle.iim_unpack.specs.Intakes.{line};
-ghost use Rattle.iim_audit.specs.Auditing.{IsAudited, FailsAt, IsToldAgain};
+ghost use Rattle.iim_audit.specs.Format.Auditing.{IsAudited, FailsAt, IsToldAgain};
 ghost use Rattle.iim_audit.specs.Taking.{Took, TookNone, Leaves};
 
 use crate::fault::{AuditCause, AuditFault, cause_of};

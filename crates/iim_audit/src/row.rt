@@ -3,9 +3,9 @@
 ghost use Rattle.std.specs.Prelude.{◌≡◌, ◌<◌};
 ghost use Rattle.std.specs.Str.Parse.{digits_value};
 ghost use Rattle.wire_message.specs.Fields.{is_digit, IsField};
-ghost use Rattle.iim_unpack.specs.Admitted.{Value};
+ghost use Rattle.iim_unpack.specs.Format.Admitted.{Value};
 ghost use Rattle.iim_audit.specs.Taking.{IsTaken};
-ghost use Rattle.iim_audit.specs.Rows.{row_with};
+ghost use Rattle.iim_audit.specs.Format.Rows.{row_with};
 
 use crate::age::seconds_between;
 use iim_fields::EnvelopeId;

@@ -1,7 +1,7 @@
 //! The text of a report.
 
 ghost use Rattle.std.specs.Prelude.{◌≡◌, ◌++◌, OnOk, IfOk, Some, string_bytes};
-ghost use Rattle.iim_audit.specs.Texts.{ages_of, known_by, repeated, row_line, seconds_or_dash, sizes_of, sums_line, text_of};
+ghost use Rattle.iim_audit.specs.Format.Texts.{ages_of, known_by, repeated, row_line, seconds_or_dash, sizes_of, sums_line, text_of};
 
 use crate::dash::NumberOrDash;
 use crate::report::Report;

@@ -1,12 +1,12 @@
 -- What stops an audit's report.
 use Rattle.std.proofs.Common.{ℕ, ℤ, inl, inr, refl, sym, subst, List}
 use Rattle.iim_dataset.specs.Devices.{Device}
-use Rattle.iim_audit.specs.Auditing.{FailsAt}
+use Rattle.iim_audit.specs.Format.Auditing.{FailsAt}
 use Rattle.iim_audit.specs.declared.fault.AuditCause.{AuditCause}
 use Rattle.iim_audit.specs.declared.fault.AuditCause.TheVariants as causes
-use Rattle.iim_commands.specs.Audits.{CannotTell, IsAnswer, IsUnaudited}
-use Rattle.iim_commands.specs.Listings.{limits}
-use Rattle.iim_commands.specs.Reports.{IsUnsaid}
+use Rattle.iim_commands.specs.Format.Audits.{CannotTell, IsAnswer, IsUnaudited}
+use Rattle.iim_commands.specs.Format.Listings.{limits}
+use Rattle.iim_commands.specs.Format.Reports.{IsUnsaid}
 use Rattle.iim_commands.specs.declared.fault.Fault.{Fault}
 
 -- the output broke inside the answer

@@ -4,15 +4,16 @@ use Rattle.std.specs.List.{AllByRecursion}
 use Rattle.std.proofs.lemmas.List.{append-nil, length-take-le}
 use Rattle.std.proofs.lemmas.Bool.{false≢true}
 use Rattle.std.proofs.Math.Seq.{take-append_seam}
-use Rattle.iim_unpack.specs.Admitted.{Value, Admits}
-use Rattle.iim_unpack.specs.Framed.{Framed}
+use Rattle.iim_unpack.specs.Format.Admitted.{Value, Admits}
+use Rattle.iim_unpack.specs.Format.Framed.{Framed}
 use Rattle.iim_unpack.specs.Intakes.{OpenOctetsAreBounded}
-use Rattle.iim_unpack.specs.Laws.{AdmittedOctetsAreFramed, AdmittedOctetsHaveOneValue, NoAdmittedOctetsBeginOthers, NoEnvelopeIsEmpty}
-use Rattle.iim_unpack.specs.Refusals.{refusal_at}
-use Rattle.iim_unpack.specs.Streams.{Answer, Answers, IsEnvelopeWithin, Finished, Refused, Truncated, StreamsHaveOneAnswer, RefusedOctetsWereOpen}
-use Rattle.iim_unpack.specs.Unpacking.{IsTruncatedAt, RefusesNext, raised}
+use Rattle.iim_unpack.specs.Format.Laws.{AdmittedOctetsAreFramed, AdmittedOctetsHaveOneValue, NoAdmittedOctetsBeginOthers, NoEnvelopeIsEmpty}
+use Rattle.iim_unpack.specs.Format.Refusals.{refusal_at}
+use Rattle.iim_unpack.specs.Format.Streams.{Answer, Answers, IsEnvelopeWithin, Finished, Refused, Truncated, StreamsHaveOneAnswer, RefusedOctetsWereOpen}
+use Rattle.iim_unpack.specs.Format.Open.{IsTruncatedAt, RefusesNext}
+use Rattle.iim_unpack.specs.Unpacking.{raised}
 use Rattle.iim_unpack.specs.declared.refusal.Refusal.{Refusal}
-use Rattle.iim_commands.specs.Listings.{limits, max_envelopes, joined, Envelope, IsEnvelope, Ending, Whole, RefusedBy, TooMany, EndsBy, IsDead, IsTruncated, IsRefusedAfter, InputsHaveOneListing, ListingsAreLongest}
+use Rattle.iim_commands.specs.Format.Listings.{limits, max_envelopes, joined, Envelope, IsEnvelope, Ending, Whole, RefusedBy, TooMany, EndsBy, IsDead, IsTruncated, IsRefusedAfter, InputsHaveOneListing, ListingsAreLongest}
 
 -- the laws that one listing rests on
 pub record ListingLaws : Type 0 where

@@ -17,17 +17,18 @@ use Rattle.wire_story.specs.Delivery.{Event, delivered, octet_for}
 use Rattle.wire_story.specs.Laws.{LinesAreJoinedByLineFeeds, TextsAreDeliveredAsLines}
 use Rattle.wire_story.specs.Writing.{HasBroken, WritesLines, WritesOn, device_of, stops_of}
 use Rattle.wire_story.specs.declared.writer.LineWriter.{LineWriter}
-use Rattle.iim_unpack.specs.Admitted.{object_of}
-use Rattle.iim_unpack.specs.Parts.{object_so_far}
+use Rattle.iim_unpack.specs.Format.Admitted.{object_of}
+use Rattle.iim_unpack.specs.Format.Open.{object_so_far}
 use Rattle.iim_unpack.specs.declared.refusal.Refusal.{Refusal}
 use Rattle.iim_unpack.specs.declared.unpacker.Unpacked.{Unpacked}
 use Rattle.iim_unpack.proofs.Answering.{leads_to, reads_envelope}
 use Rattle.iim_commands.specs.Coming.{HasCome, IsCalm, IsNext, IsRefusal}
-use Rattle.iim_commands.specs.Devices.{Holds}
-use Rattle.iim_commands.specs.Lines.{ending_line, line_of, status_of, texts_from}
-use Rattle.iim_commands.specs.Listings.{joined, max_envelopes, Ending, EndsBy, Envelope, IsDelivered, IsEnvelope, IsRefusedAfter, RefusedBy}
-use Rattle.iim_commands.specs.Narration.{EnvelopesAreDeliveredAsLines, IsTextIn, IsUnended, IsUnnarrated, LeavesText, Narrated, stories, story_of, text_of}
-use Rattle.iim_commands.specs.Reports.{IsUnsaid}
+use Rattle.iim_commands.specs.Format.Devices.{Holds}
+use Rattle.iim_commands.specs.Format.Lines.{ending_line, line_of, status_of, texts_from}
+use Rattle.iim_commands.specs.Format.Listings.{joined, max_envelopes, Ending, EndsBy, Envelope, IsDelivered, IsEnvelope, IsRefusedAfter, RefusedBy}
+use Rattle.iim_commands.specs.Format.Narration.{EnvelopesAreDeliveredAsLines, IsTextIn, IsUnnarrated, LeavesText, Narrated, stories, story_of, text_of}
+use Rattle.iim_commands.specs.Narration.{IsUnended}
+use Rattle.iim_commands.specs.Format.Reports.{IsUnsaid}
 use Rattle.iim_commands.specs.declared.coming.Next.{Next}
 use Rattle.iim_commands.specs.declared.coming.Next.TheVariants as next
 use Rattle.iim_commands.specs.declared.fault.Fault.{Fault}

@@ -15,14 +15,14 @@ use Rattle.iim_object.specs.declared.size.Size.TheVariants.{Known, Unknown}
 use Rattle.wire_message.specs.Messages.{IsTrailer}
 use Rattle.iim_object.proofs.PackedSizes.{plan_parts}
 use Rattle.iim_pack.specs.Packing.{pack_cause}
-use Rattle.iim_pack.specs.Orders.{IsBelowKnown, IsFirstOf, AgainstPack}
-use Rattle.iim_pack.specs.Packed.{Packed}
+use Rattle.iim_pack.specs.Format.Orders.{IsBelowKnown, IsFirstOf, AgainstPack}
+use Rattle.iim_pack.specs.Format.Packed.{Packed}
 use Rattle.iim_pack.specs.Starting.{IsRefused, Halts}
-use Rattle.iim_pack.specs.Whole.{IsPackFault, Packs}
-use Rattle.iim_script.specs.Scripts.{max_script}
-use Rattle.iim_commands.specs.Devices.{devices}
-use Rattle.iim_commands.specs.Reports.{IsTold}
-use Rattle.iim_commands.specs.Packing.{Answered, Asked, HasRoom, IsBrokenOff, IsPast, IsPlanOf, IsRead, IsRefusal, IsUnanswered, IsUnread, Tells, Told, most_asked, object_of, refusal_line, said_size}
+use Rattle.iim_pack.specs.Format.Whole.{IsPackFault, Packs}
+use Rattle.iim_script.specs.Format.Scripts.{max_script}
+use Rattle.iim_commands.specs.Format.Devices.{devices}
+use Rattle.iim_commands.specs.Format.Reports.{IsTold}
+use Rattle.iim_commands.specs.Format.Packing.{Answered, Asked, HasRoom, IsBrokenOff, IsPast, IsPlanOf, IsRead, IsRefusal, IsUnanswered, IsUnread, Tells, Told, most_asked, object_of, refusal_line, said_size}
 use Rattle.iim_commands.specs.PackSteps.{ComesTo, IsFailedRead, IsUnpacked, PacksTold, UnpacksTold}
 use Rattle.iim_commands.specs.declared.fault.Fault.{Fault}
 use Rattle.iim_commands.specs.declared.fault.Fault.TheVariants.{CannotRead, CannotWrite, OutOfMemory}

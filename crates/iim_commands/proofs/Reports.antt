@@ -10,13 +10,13 @@ use Rattle.iim_dataset.specs.declared.device.IoFault.{IoFault}
 use Rattle.iim_dataset.proofs.DeviceLaws.{broke_for_later}
 use Rattle.wire_story.specs.Delivery.{Event}
 use Rattle.wire_story.specs.declared.discard.Discard.{Discard}
-use Rattle.iim_unpack.specs.Unpacking.{Adds, RefusesNext}
+use Rattle.iim_unpack.specs.Format.Open.{Adds, RefusesNext}
 use Rattle.iim_unpack.specs.declared.refusal.Refusal.{Refusal}
 use Rattle.iim_commands.specs.Coming.{IsNext, IsRefusal, IsUnheard}
-use Rattle.iim_commands.specs.Devices.{Holds}
-use Rattle.iim_commands.specs.Lines.{ending_line, status_of, texts_from}
-use Rattle.iim_commands.specs.Listings.{joined, limits, max_envelopes, Divides, Ending, EndsBy, Envelope, IsDead, IsEnvelope, IsRefusedAfter}
-use Rattle.iim_commands.specs.Reports.{IsUnreported, IsUnsaid, Reported}
+use Rattle.iim_commands.specs.Format.Devices.{Holds}
+use Rattle.iim_commands.specs.Format.Lines.{ending_line, status_of, texts_from}
+use Rattle.iim_commands.specs.Format.Listings.{joined, limits, max_envelopes, Divides, Ending, EndsBy, Envelope, IsDead, IsEnvelope, IsRefusedAfter}
+use Rattle.iim_commands.specs.Format.Reports.{IsUnreported, IsUnsaid, Reported}
 use Rattle.iim_commands.specs.declared.fault.Fault.{Fault}
 use Rattle.iim_commands.specs.declared.fault.Fault.TheVariants.{CannotRead, CannotWrite, OutOfMemory}
 

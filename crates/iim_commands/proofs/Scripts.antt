@@ -9,14 +9,14 @@ use Rattle.iim_fields.specs.Faults.{is_kept, joined, kept}
 use Rattle.iim_fields.specs.Records.{AreRecords, AreSections, IsGoodDataset}
 use Rattle.iim_fields.specs.Standing.{IsWithin}
 use Rattle.wire_story.specs.Texts.{IsLine, IsText}
-use Rattle.iim_script.specs.Laws.{PrintedValuesAreScripts, ScriptsTellOneThing, ScriptsHaveNoFault, IsOneScript}
-use Rattle.iim_script.specs.Printed.{field_line, message_line, trailer_line, value_lines}
-use Rattle.iim_script.specs.Scripts.{max_script}
-use Rattle.iim_commands.specs.Listings.{Envelope, IsEnvelope, limits}
-use Rattle.iim_commands.specs.Narration.{story_of}
-use Rattle.iim_commands.specs.Packing.{Told, Tells}
-use Rattle.iim_commands.specs.Scripts.{told_of, TellsJust, ShownEnvelopesAreScripts}
-use Rattle.iim_commands.specs.Texts.{number_line, sizes_line, shown_of}
+use Rattle.iim_script.specs.Format.Laws.{PrintedValuesAreScripts, ScriptsTellOneThing, ScriptsHaveNoFault, IsOneScript}
+use Rattle.iim_script.specs.Format.Printed.{field_line, message_line, trailer_line, value_lines}
+use Rattle.iim_script.specs.Format.Scripts.{max_script}
+use Rattle.iim_commands.specs.Format.Listings.{Envelope, IsEnvelope, limits}
+use Rattle.iim_commands.specs.Format.Narration.{story_of}
+use Rattle.iim_commands.specs.Format.Packing.{Told, Tells}
+use Rattle.iim_commands.specs.Format.Scripts.{told_of, TellsJust, ShownEnvelopesAreScripts}
+use Rattle.iim_commands.specs.Format.Texts.{number_line, sizes_line, shown_of}
 
 -- ---- the datasets that are kept
 

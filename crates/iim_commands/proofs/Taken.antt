@@ -12,18 +12,19 @@ use Rattle.iim_commands.specs.declared.coming.Next.TheVariants as next
 use Rattle.iim_commands.specs.declared.coming.Next.TheVariants.{Envelope}
 use Rattle.iim_fields.specs.declared.limits.Limits.{Limits}
 use Rattle.wire_story.specs.Delivery.{Event}
-use Rattle.iim_unpack.specs.Framed.{AreWithin}
+use Rattle.iim_unpack.specs.Format.Framed.{AreWithin}
 use Rattle.iim_unpack.specs.declared.intake.IntakeFault.{IntakeFault}
 use Rattle.iim_unpack.specs.declared.intake.IntakeFault.TheVariants.{Refused, Read, Interrupted}
 use Rattle.iim_unpack.specs.Intakes.{Faults, Gives, IsRefusedOf, IsTruncatedIn, WasGiven, WasMissed, WasRefused, WasTruncated}
 use Rattle.iim_unpack.specs.Parts.{CountsFor}
-use Rattle.iim_unpack.specs.Unpacking.{Adds, IsOpen, IsTextOf, Stands, Unpacking, limits_in}
+use Rattle.iim_unpack.specs.Format.Open.{Adds, IsOpen, IsTextOf}
+use Rattle.iim_unpack.specs.Unpacking.{Stands, Unpacking, limits_in}
 use Rattle.iim_unpack.specs.declared.refusal.Refusal.{Refusal}
 use Rattle.iim_unpack.specs.declared.refusal.Cause.{Cause}
 use Rattle.iim_unpack.specs.declared.refusal.Cause.TheVariants.{Sink, Truncated}
 use Rattle.iim_unpack.specs.declared.unpacker.Unpacked.{Unpacked}
 use Rattle.iim_commands.specs.Coming.{CanGoOn, HasCome, IsCutOff, IsNext, IsRefusal, IsUnheard}
-use Rattle.iim_commands.specs.Listings.{limits, IsDelivered}
+use Rattle.iim_commands.specs.Format.Listings.{limits, IsDelivered}
 
 -- no octets are no datasets, and the beginning of a tag
 reads_none : Reads [] [] (InTag [])

@@ -6,11 +6,11 @@ use Rattle.iim_dataset.specs.DeviceLaws.{HasGiven, MissedBehind}
 use Rattle.iim_dataset.specs.declared.device.IoFault.{IoFault}
 use Rattle.wire_story.specs.Delivery.{Event}
 use Rattle.iim_unpack.specs.Intakes.{Came}
-use Rattle.iim_unpack.specs.Unpacking.{IsOpen}
-use Rattle.iim_unpack.specs.Value.{HasParts}
+use Rattle.iim_unpack.specs.Format.Open.{IsOpen}
+use Rattle.iim_unpack.specs.Format.Value.{HasParts}
 use Rattle.iim_unpack.specs.declared.refusal.Refusal.{Refusal}
 use Rattle.iim_unpack.specs.declared.unpacker.Unpacked.{Unpacked}
-use Rattle.iim_commands.specs.Listings.{limits, told, Envelope, IsDelivered, IsEnvelope, IsRefusedAfter}
+use Rattle.iim_commands.specs.Format.Listings.{limits, told, Envelope, IsDelivered, IsEnvelope, IsRefusedAfter}
 use Rattle.iim_commands.specs.declared.fault.Fault.{Fault}
 use Rattle.iim_commands.specs.declared.fault.Fault.TheVariants.{CannotRead, CannotWrite, OutOfMemory}
 use Rattle.iim_commands.specs.declared.coming.Next.{Next}

@@ -1,12 +1,4 @@
-pub mod Listings
-pub mod Lines
-pub mod Shown
-pub mod Texts
+pub mod Format
 pub mod Coming
-pub mod Devices
-pub mod Reports
 pub mod Narration
-pub mod Audits
-pub mod Packing
 pub mod PackSteps
-pub mod Scripts

@@ -8,8 +8,8 @@ use Rattle.iim_object.specs.Writing.{Begins}
 use Rattle.iim_object.specs.declared.cause.PackCause.{PackCause}
 use Rattle.iim_object.specs.declared.cause.PackCause.TheVariants as causes
 use Rattle.iim_object.specs.declared.plan.Plan.{Plan}
-use Rattle.iim_pack.specs.Packed.{Packed}
-use Rattle.iim_script.specs.Causes.{cause_name, cause_number}
+use Rattle.iim_pack.specs.Format.Packed.{Packed}
+use Rattle.iim_script.specs.Format.Causes.{cause_name, cause_number}
 use Rattle.iim_script.specs.declared.fault.ScriptFault.{ScriptFault}
 use Rattle.iim_script.specs.declared.fault.ScriptCause.TheVariants as script
 use Rattle.iim_script.specs.declared.script.Script.{Script}
@@ -17,7 +17,7 @@ use Rattle.iim_commands.specs.declared.fault.Fault.{Fault}
 use Rattle.iim_commands.specs.declared.fault.Fault.TheVariants.{CannotRead, CannotWrite, OutOfMemory}
 use Rattle.iim_commands.specs.declared.packing.PackFault.{PackFault}
 use Rattle.iim_commands.specs.declared.packing.PackFault.TheVariants.{Refused, Around}
-use Rattle.iim_commands.specs.Packing.{Asked, HasRoom, IsBrokenOff, IsFormOf, IsPast, IsPlanOf, IsRefusal, Told, object_of, refusal_line}
+use Rattle.iim_commands.specs.Format.Packing.{Asked, HasRoom, IsBrokenOff, IsFormOf, IsPast, IsPlanOf, IsRefusal, Told, object_of, refusal_line}
 
 -- One read, past interruptions, added so many octets: none only at the end.
 pub record GotSome (old new : Device) (before after : List ℕ) (count : ℕ) : Type 0 where

@@ -2,7 +2,7 @@
 
 ghost use Rattle.std.specs.Prelude.{◌≡◌, None, IfOk, IfErr};
 ghost use Rattle.iim_unpack.specs.Intakes.{line};
-ghost use Rattle.iim_commands.specs.Audits.{Audited, IsUnaudited, TellsWhy, CannotTell};
+ghost use Rattle.iim_commands.specs.Format.Audits.{Audited, IsUnaudited, TellsWhy, CannotTell};
 
 use crate::coming::LIMITS;
 use crate::fault::Fault;

@@ -1,6 +1,6 @@
 //! `check`: a line for each envelope.
 
-ghost use Rattle.iim_commands.specs.Lines.{line_of};
+ghost use Rattle.iim_commands.specs.Format.Lines.{line_of};
 
 use crate::list::Report;
 use crate::report::push_accepted;

@@ -16,7 +16,7 @@ pub enum Fault {
 }
 
 impl Fault {
-    ghost use Rattle.iim_commands.specs.Lines.{fault_line};
+    ghost use Rattle.iim_commands.specs.Format.Lines.{fault_line};
 
     /// The line that tells it.
     pub fn line(self) -> &'static str

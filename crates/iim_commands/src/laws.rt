@@ -1,8 +1,8 @@
 //! What holds of all inputs.
 
-ghost use Rattle.iim_commands.specs.Listings.{InputsHaveOneListing, ListingsAreLongest};
-ghost use Rattle.iim_commands.specs.Narration.{EnvelopesAreDeliveredAsLines};
-ghost use Rattle.iim_commands.specs.Scripts.{ShownEnvelopesAreScripts};
+ghost use Rattle.iim_commands.specs.Format.Listings.{InputsHaveOneListing, ListingsAreLongest};
+ghost use Rattle.iim_commands.specs.Format.Narration.{EnvelopesAreDeliveredAsLines};
+ghost use Rattle.iim_commands.specs.Format.Scripts.{ShownEnvelopesAreScripts};
 
 use iim_dataset::laws::{events_tell_the_datasets, octets_are_handed_on_one_way};
 use iim_script::laws::{printed_values_are_scripts, scripts_have_no_fault, scripts_tell_one_thing};

@@ -2,9 +2,9 @@
 
 ghost use Rattle.std.specs.Prelude.{◌≡◌, ◌++◌, ℕ, List, length, None, IfOk, IfErr, OnOk};
 ghost use Rattle.iim_unpack.specs.Intakes.{line};
-ghost use Rattle.iim_unpack.specs.Value.{HasParts};
-ghost use Rattle.iim_commands.specs.Listings.{Envelope, told};
-ghost use Rattle.iim_commands.specs.Reports.{Reported, IsUnreported};
+ghost use Rattle.iim_unpack.specs.Format.Value.{HasParts};
+ghost use Rattle.iim_commands.specs.Format.Listings.{Envelope, told};
+ghost use Rattle.iim_commands.specs.Format.Reports.{Reported, IsUnreported};
 
 use crate::coming::{Next, take_next};
 use crate::fault::Fault;

@@ -28,10 +28,10 @@ pub struct PackRequest {
 }
 
 ghost use Rattle.wire_message.specs.Messages.{IsTrailer};
-ghost use Rattle.iim_commands.specs.Devices.{devices};
-ghost use Rattle.iim_commands.specs.Packing.{Answered, IsPacked, IsPast, IsPlanOf, IsRead, IsUnanswered, IsUnread, asked, object_of, refusal_line};
+ghost use Rattle.iim_commands.specs.Format.Devices.{devices};
+ghost use Rattle.iim_commands.specs.Format.Packing.{Answered, IsPacked, IsPast, IsPlanOf, IsRead, IsUnanswered, IsUnread, asked, object_of, refusal_line};
 ghost use Rattle.iim_commands.specs.PackSteps.{ComesTo, GotSome, IsFailedRead, IsUnpacked, MayComeOf, PacksTold, TellsFault, UnpacksTold, told_by};
-ghost use Rattle.iim_commands.specs.Reports.{IsTold};
+ghost use Rattle.iim_commands.specs.Format.Reports.{IsTold};
 ghost use Rattle.iim_commands.specs.declared.fault.Fault.TheVariants.{OutOfMemory};
 
 /// So many octets are asked for at once.

@@ -2,8 +2,8 @@
 
 ghost use Rattle.std.specs.Prelude.{◌≡◌, ◌++◌, IfErr, IfSome, OnOk};
 ghost use Rattle.iim_dataset.specs.Devices.{Wrote};
-ghost use Rattle.iim_commands.specs.Reports.{IsTold, IsUnsaid};
-ghost use Rattle.iim_commands.specs.Lines.{accepted_line, refused_line};
+ghost use Rattle.iim_commands.specs.Format.Reports.{IsTold, IsUnsaid};
+ghost use Rattle.iim_commands.specs.Format.Lines.{accepted_line, refused_line};
 
 use crate::fault::Fault;
 use crate::status::FAILED;

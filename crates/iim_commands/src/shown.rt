@@ -1,8 +1,8 @@
 //! Octets as text that can be printed.
 
 ghost use Rattle.std.specs.Prelude.{◌≡◌, ◌++◌, OnOk};
-ghost use Rattle.iim_script.specs.Printed.{after_space};
-ghost use Rattle.iim_commands.specs.Shown.{shown_name};
+ghost use Rattle.iim_script.specs.Format.Printed.{after_space};
+ghost use Rattle.iim_commands.specs.Format.Shown.{shown_name};
 
 use iim_dataset::{push_escape, push_shown};
 use std::alloc::AllocError;

@@ -4,7 +4,8 @@ ghost use Rattle.std.specs.Prelude.{◌≡◌, [], ◌∷◌, None, IfOk, IfErr,
 ghost use Rattle.iim_dataset.specs.Devices.{Wrote};
 ghost use Rattle.iim_unpack.specs.Intakes.{line};
 ghost use Rattle.wire_story.specs.Writing.{device_of, stops_of};
-ghost use Rattle.iim_commands.specs.Narration.{IsUnended, IsUnnarrated, Narrated};
+ghost use Rattle.iim_commands.specs.Narration.{IsUnended};
+ghost use Rattle.iim_commands.specs.Format.Narration.{IsUnnarrated, Narrated};
 
 use crate::coming::{Next, take_next};
 use crate::fault::Fault;

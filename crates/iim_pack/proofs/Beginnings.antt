@@ -8,7 +8,7 @@ use Rattle.wire_story.specs.Delivery.{Event}
 use Rattle.wire_message.specs.Messages.{Header}
 use Rattle.iim_pack.specs.Packing.{Packing, Lengthens, Finishes}
 use Rattle.iim_pack.specs.Starting.{Starts}
-use Rattle.iim_pack.specs.Begun.{Begun, GoesOnBegun, EndsBegun}
+use Rattle.iim_pack.specs.Format.Begun.{Begun, GoesOnBegun, EndsBegun}
 
 pub begun_at_start : {W : Type 0} (state : W → Device) (writer : W) (fields : List Dataset) (head : Header) (plan : Plan) (k : Packing W) → Starts state writer fields head plan k → Begun state (state writer) k fields head [] plan
 begun_at_start state writer fields head plan k s = record { out = s.out; wrote = s.wrote; counted = s.counted; stands = s.stands }

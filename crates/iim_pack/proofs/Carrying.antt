@@ -16,7 +16,7 @@ use Rattle.iim_object.specs.Packing.{plan_datasets, subfile_datasets, confirmed_
 use Rattle.iim_object.specs.declared.size.Size.{Size}
 use Rattle.iim_object.specs.declared.size.Size.TheVariants.{Known, Unknown}
 use Rattle.wire_message.specs.Canonical.{canonical}
-use Rattle.iim_pack.specs.Laws.{PackedOctetsCarryTheValue}
+use Rattle.iim_pack.specs.Format.Laws.{PackedOctetsCarryTheValue}
 use Rattle.iim_pack.proofs.Octets.{all_append, message_octets}
 use Rattle.iim_pack.proofs.GoodRecords.{good_seven, good_eight, good_nine}
 use Rattle.iim_pack.proofs.Spelling.{record_spelled}

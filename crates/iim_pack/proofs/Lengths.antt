@@ -9,7 +9,7 @@ use Rattle.iim_object.specs.Packing.{plan_datasets, subfile_dataset, subfile_dat
 use Rattle.iim_object.specs.Writing.{plan_octets}
 use Rattle.iim_object.specs.declared.plan.Plan.{Plan}
 use Rattle.wire_message.specs.Canonical.{canonical}
-use Rattle.iim_pack.specs.Laws.{PackedOctetsAreFew}
+use Rattle.iim_pack.specs.Format.Laws.{PackedOctetsAreFew}
 use Rattle.iim_pack.proofs.Carrying.{plan_parts}
 use Rattle.iim_pack.proofs.FieldsOut.{stream_append, stream_length}
 use Rattle.iim_pack.proofs.Ones.{few_subfiles}

@@ -8,7 +8,7 @@ use Rattle.wire_story.specs.Texts.{IsLine}
 use Rattle.wire_story.specs.Delivery.{Event, LineOctet, LineEnd, events_of_lines}
 use Rattle.wire_story.specs.Packing.{packed_events}
 use Rattle.iim_pack.specs.Packing.{Packing, StandsAt, Lengthens, BreaksOff, GoesOnWith, FormWith, text_cause, line_end_cause}
-use Rattle.iim_pack.specs.Whole.{events_left}
+use Rattle.iim_pack.specs.Format.Whole.{events_left}
 use Rattle.iim_pack.proofs.Goings.{events_append}
 
 pub goes_nowhere : {W : Type 0} (state : W → Device) (k : Packing W) → TextsJoin → k.object.failed ≡ false → Lengthens state k k []

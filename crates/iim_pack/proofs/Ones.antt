@@ -8,7 +8,7 @@ use Rattle.iim_object.specs.Cuts.{AreFull, IsCut, joined_parts, ObjectsAreCutOne
 use Rattle.iim_object.specs.Packing.{object_datasets}
 use Rattle.iim_object.specs.declared.size.Size.{Size}
 use Rattle.wire_message.specs.Canonical.{canonical}
-use Rattle.iim_pack.specs.Laws.{PackedOctetsAreOne, PackedSubfilesAreFew}
+use Rattle.iim_pack.specs.Format.Laws.{PackedOctetsAreOne, PackedSubfilesAreFew}
 
 pub least_subfile : (subfile : ℕ) (size : Size) → IsTrue (is_plan subfile size) → 1 ≤ subfile
 least_subfile subfile size h =

@@ -13,7 +13,7 @@ use Rattle.wire_message.specs.Fields.{is_trailer_octet}
 use Rattle.wire_message.specs.Messages.{Header, IsTrailer}
 use Rattle.wire_message.specs.Canonical.{packed_head, packed_tail, canonical}
 use Rattle.iim_pack.specs.Packing.{Packing, is_past, is_trailer, start_cause, text_cause, line_end_cause, finish_cause, pack_cause}
-use Rattle.iim_pack.specs.Orders.{IsFirstOf, PassesBound, IsBelowKnown, AgainstStart, AgainstText, AgainstLineEnd, AgainstFinish, AgainstPack}
+use Rattle.iim_pack.specs.Format.Orders.{IsFirstOf, PassesBound, IsBelowKnown, AgainstStart, AgainstText, AgainstLineEnd, AgainstFinish, AgainstPack}
 
 -- a test that tells what its cause says
 record Tells (b : Bool) (P : Type 0) : Type 0 where

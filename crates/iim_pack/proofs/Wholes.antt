@@ -15,10 +15,10 @@ use Rattle.wire_story.specs.Laws.{PackedLinesAreAText, TextsAreDeliveredAsLines,
 use Rattle.wire_story.specs.Packing.{packed_events, lines_of, LinesArePackedAsTheirEvents}
 use Rattle.wire_message.specs.Messages.{Header}
 use Rattle.wire_message.specs.Canonical.{packed_head, packed_tail, canonical}
-use Rattle.iim_pack.specs.Packed.{Packed}
+use Rattle.iim_pack.specs.Format.Packed.{Packed}
 use Rattle.iim_pack.specs.Packing.{Packing, Lengthens, BreaksOff, GoesOnWith, EndsIn, Finishes, is_trailer, is_past, pack_cause, start_cause, finish_cause, least_ending, written_of}
 use Rattle.iim_pack.specs.Starting.{Starts, Halts, IsStartFault}
-use Rattle.iim_pack.specs.Whole.{Packs, IsPackFault}
+use Rattle.iim_pack.specs.Format.Whole.{Packs, IsPackFault}
 use Rattle.iim_pack.proofs.Finishings.{first_none, not_false}
 
 -- the lines of the events of lines are these

@@ -16,7 +16,7 @@ use Rattle.wire_story.specs.Packing.{packed_events, AreEvents, lines_of}
 use Rattle.wire_message.specs.Fields.{is_trailer_octet}
 use Rattle.wire_message.specs.Messages.{Header, IsHeader}
 use Rattle.wire_message.specs.Canonical.{packed_head, packed_tail, canonical}
-use Rattle.iim_pack.specs.Packed.{Packed}
+use Rattle.iim_pack.specs.Format.Packed.{Packed}
 
 -- A packer is seen as how many octets records 1 and 2 have, and the writer of its object.
 pub record Packing (W : Type 0) : Type 0 where

@@ -7,7 +7,7 @@ ghost use Rattle.wire_story.specs.Texts.{IsLine, MakeText};
 ghost use Rattle.wire_story.specs.Packing.{packed_events};
 ghost use Rattle.wire_story.specs.Delivery.{events_of_lines};
 ghost use Rattle.iim_pack.specs.Packing.{Lengthens, BreaksOff, GoesOnWith};
-ghost use Rattle.iim_pack.specs.Whole.{line_events};
+ghost use Rattle.iim_pack.specs.Format.Whole.{line_events};
 
 use crate::packer::Packer;
 use iim_dataset::Target;

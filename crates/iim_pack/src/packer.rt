@@ -4,8 +4,8 @@ ghost use Rattle.std.specs.Prelude.{◌≡◌, ◌<◌, ◌^◌, [], ◌∷◌, 
 ghost use Rattle.wire_story.specs.Delivery.{LineOctet, LineEnd};
 ghost use Rattle.iim_pack.specs.Packing.{Lengthens, BreaksOff, GoesOnWith, EndsIn, Finishes, start_cause, text_cause, line_end_cause, finish_cause, written_of};
 ghost use Rattle.iim_pack.specs.Starting.{Starts, IsRefused, IsStartFault};
-ghost use Rattle.iim_pack.specs.Begun.{Begun, GoesOnBegun, EndsBegun};
-ghost use Rattle.iim_pack.specs.Orders.{IsFirstOf, AgainstStart, AgainstText, AgainstLineEnd, AgainstFinish};
+ghost use Rattle.iim_pack.specs.Format.Begun.{Begun, GoesOnBegun, EndsBegun};
+ghost use Rattle.iim_pack.specs.Format.Orders.{IsFirstOf, AgainstStart, AgainstText, AgainstLineEnd, AgainstFinish};
 ghost use Rattle.iim_object.specs.declared.cause.PackCause.TheVariants as causes;
 
 use crate::cause::{LEAST_ENDING, ending_cause, is_past};

@@ -5,9 +5,9 @@ ghost use Rattle.wire_message.specs.Canonical.{canonical};
 ghost use Rattle.iim_pack.specs.Packing.{written_of};
 ghost use Rattle.iim_pack.specs.Packing as words;
 ghost use Rattle.iim_object.specs.declared.cause.PackCause.TheVariants as causes;
-ghost use Rattle.iim_pack.specs.Orders.{IsFirstOf, AgainstPack};
+ghost use Rattle.iim_pack.specs.Format.Orders.{IsFirstOf, AgainstPack};
 ghost use Rattle.iim_pack.specs.Starting.{IsRefused};
-ghost use Rattle.iim_pack.specs.Whole.{Packs, IsPackFault};
+ghost use Rattle.iim_pack.specs.Format.Whole.{Packs, IsPackFault};
 
 use crate::cause::is_short;
 use crate::lines::put_lines;

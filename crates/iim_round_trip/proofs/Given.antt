@@ -3,15 +3,15 @@ use Rattle.std.proofs.Common.{◌≡◌, ◌≢◌, ℕ, ◌⊎◌, inl, inr, Li
 use Rattle.std.specs.Prelude.{Result, Ok, Err, IfOk, IfErr}
 use Rattle.iim_fields.specs.declared.limits.Limits.{Limits}
 use Rattle.wire_story.specs.Delivery as story
-use Rattle.iim_unpack.specs.Admitted.{Value}
+use Rattle.iim_unpack.specs.Format.Admitted.{Value}
 use Rattle.iim_unpack.specs.Pieces.{IsUnpacked, IsAnswer}
-use Rattle.iim_unpack.specs.Streams.{Answer, Answers, Finished}
+use Rattle.iim_unpack.specs.Format.Streams.{Answer, Answers, Finished}
 use Rattle.iim_unpack.specs.declared.refusal.Cause.{Cause}
 use Rattle.iim_unpack.specs.declared.refusal.Cause.TheVariants as causes
 use Rattle.iim_unpack.specs.declared.refusal.Refusal.{Refusal}
 use Rattle.iim_unpack.specs.declared.unpacker.Unpacked.{Unpacked}
-use Rattle.iim_round_trip.specs.Laws.{packed_value}
-use Rattle.iim_round_trip.specs.RoundTrip.{packed_answer, GivesBack, RefusesBySink, PackedStreamsHaveTheirAnswer}
+use Rattle.iim_round_trip.specs.Format.Laws.{packed_value}
+use Rattle.iim_round_trip.specs.Format.RoundTrip.{packed_answer, GivesBack, RefusesBySink, PackedStreamsHaveTheirAnswer}
 
 pub given : {S : Type 0} (goes : S → List story.Event → S → Type 0) (limits : Limits) (stream : List ℕ) (a b : S) (got : Unpacked) (used : ℕ) → PackedStreamsHaveTheirAnswer
     → ((answer : Answer) → Answers limits stream answer → IsAnswer (Ok (got, used)) answer)

@@ -5,8 +5,8 @@ use Rattle.wire_story.specs.Collecting.{Collected, collect}
 use Rattle.wire_story.specs.Delivery.{Event, events_of_lines}
 use Rattle.wire_story.specs.Texts.{IsText}
 use Rattle.wire_story.specs.Laws.{TextsAreDeliveredAsLines, TextsAreCollectedAsLines}
-use Rattle.iim_round_trip.specs.RoundTrip.{GivesBack, RefusesBySink}
-use Rattle.iim_round_trip.specs.Stories.{ComesBack, FailsForMemory}
+use Rattle.iim_round_trip.specs.Format.RoundTrip.{GivesBack, RefusesBySink}
+use Rattle.iim_round_trip.specs.Format.Stories.{ComesBack, FailsForMemory}
 use Rattle.iim_round_trip.specs.declared.unpacking.Story.{Story}
 use Rattle.iim_round_trip.specs.declared.unpacking.StoryFault.TheVariants.{Refused}
 use Rattle.iim_unpack.specs.declared.refusal.Refusal.{Refusal}

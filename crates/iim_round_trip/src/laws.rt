@@ -1,7 +1,7 @@
 //! What holds of packing and unpacking together.
 
-ghost use Rattle.iim_round_trip.specs.Laws.{PackedOctetsAreAdmitted, PackedEnvelopesAreFound};
-ghost use Rattle.iim_round_trip.specs.RoundTrip.{PackedOctetsAreWithin, PackedStreamsHaveTheirAnswer};
+ghost use Rattle.iim_round_trip.specs.Format.Laws.{PackedOctetsAreAdmitted, PackedEnvelopesAreFound};
+ghost use Rattle.iim_round_trip.specs.Format.RoundTrip.{PackedOctetsAreWithin, PackedStreamsHaveTheirAnswer};
 
 use iim_pack::laws::{packed_octets_carry_the_value, packed_subfiles_are_few};
 use iim_unpack::laws::{

@@ -4,8 +4,8 @@ ghost use Rattle.std.specs.Prelude.{◌≡◌, [], IfOk, IfErr, OnOk};
 ghost use Rattle.iim_unpack.specs.Parts.{CountsFor};
 ghost use Rattle.iim_unpack.specs.Pieces.{stream_of};
 ghost use Rattle.iim_unpack.specs.Unpacking.{Stands, limits_in};
-ghost use Rattle.iim_round_trip.specs.RoundTrip.{GivesBack, RefusesBySink};
-ghost use Rattle.iim_round_trip.specs.Stories.{ComesBack, FailsForMemory};
+ghost use Rattle.iim_round_trip.specs.Format.RoundTrip.{GivesBack, RefusesBySink};
+ghost use Rattle.iim_round_trip.specs.Format.Stories.{ComesBack, FailsForMemory};
 
 use crate::laws::packed_streams_have_their_answer;
 use iim_fields::Limits;

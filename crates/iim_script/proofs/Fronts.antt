@@ -6,11 +6,11 @@ use Rattle.iim_dataset.specs.Datasets.{Dataset}
 use Rattle.iim_fields.specs.Builders.{Building, add_fault, finish_fault}
 use Rattle.iim_fields.specs.declared.limits.Limits.{Limits}
 use Rattle.wire_message.specs.Messages.{Header, IsTrailer}
-use Rattle.iim_script.specs.Lines.{HasNo, EndsLine, NextLine, EndLines}
-use Rattle.iim_script.specs.Forms.{TellsField, TellsHead, TellsTrailer, is_digit, text_word}
+use Rattle.iim_script.specs.Format.Lines.{HasNo, EndsLine, NextLine, EndLines}
+use Rattle.iim_script.specs.Format.Forms.{TellsField, TellsHead, TellsTrailer, is_digit, text_word}
 use Rattle.iim_script.specs.Adding.{Adds, RefusesLine}
-use Rattle.iim_script.specs.Scripts.{TellFields, AreTaken, IsFront, max_script}
-use Rattle.iim_script.specs.Faults.{Stage, InFields, AfterMessage, AfterTrailer, HaveCome, Stands, TellsNoField, TellsNoHead, TellsNoTrailer, IsNextWrong, IsFrontFault, IsScriptFault}
+use Rattle.iim_script.specs.Format.Scripts.{TellFields, AreTaken, IsFront, max_script}
+use Rattle.iim_script.specs.Format.Faults.{Stage, InFields, AfterMessage, AfterTrailer, HaveCome, Stands, TellsNoField, TellsNoHead, TellsNoTrailer, IsNextWrong, IsFrontFault, IsScriptFault}
 use Rattle.iim_script.specs.Steps.{number_after, NextIs, LacksNext, NextMustBe, RefusesFields, RefusesHead, TakesTrailer, RefusesTrailer, RefusesText, RefusesEnd}
 use Rattle.iim_script.specs.declared.fault.ScriptCause.{ScriptCause}
 use Rattle.iim_script.specs.declared.fault.ScriptCause.TheVariants.{ScriptLine, ScriptTooLong, Field, BadTrailer, BadTextOctet, OutOfMemory}

@@ -5,9 +5,9 @@ use Rattle.std.proofs.lemmas.Bool.{eqb-true, false≢true}
 use Rattle.std.proofs.lemmas.List.{take_rest, take-append-drop}
 use Rattle.wire_message.specs.Fields.{is_letter, is_digit, is_alphanumeric}
 use Rattle.wire_message.specs.Messages.{Header, header_of, IsHeader}
-use Rattle.iim_script.specs.Lines.{HasNo}
-use Rattle.iim_script.specs.Shown.{TellsLast}
-use Rattle.iim_script.specs.Forms.{HeadWords, AreWords, TellsHead, words_of, message_word, after_source, after_number, after_priority, after_category}
+use Rattle.iim_script.specs.Format.Lines.{HasNo}
+use Rattle.iim_script.specs.Format.Shown.{TellsLast}
+use Rattle.iim_script.specs.Format.Forms.{HeadWords, AreWords, TellsHead, words_of, message_word, after_source, after_number, after_priority, after_category}
 use Rattle.iim_script.proofs.Cuts.{cut_once, has_no_octet, has_no_before}
 use Rattle.iim_script.proofs.Names.{and_both}
 use Rattle.iim_script.proofs.Texts.{last_once}

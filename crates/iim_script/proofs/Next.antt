@@ -1,6 +1,6 @@
 -- The next line of a script.
 use Rattle.std.proofs.Common.{◌≡◌, ◌⊎◌, inl, inr, ℕ, ◌+◌, List, [], ◌∷◌, ◌++◌, append_assoc, append-nil, length, length-append, drop, get_or, refl, ap, sym, ◌∙◌, subst, arith}
-use Rattle.iim_script.specs.Lines.{HasNo, EndsInReturn, EndsLine, NextLine, EndLines}
+use Rattle.iim_script.specs.Format.Lines.{HasNo, EndsInReturn, EndsLine, NextLine, EndLines}
 use Rattle.iim_script.proofs.Cuts.{cut_once, has_no_octet, has_no_append}
 
 snoc_once : (xs ys : List ℕ) (b : ℕ) → xs ++ b ∷ [] ≡ ys ++ b ∷ [] → xs ≡ ys

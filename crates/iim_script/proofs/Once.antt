@@ -3,8 +3,8 @@ use Rattle.std.proofs.Common.{◌≡◌, ℕ, List, ◌∷◌, ◌++◌, get_or,
 use Rattle.std.specs.List.{position_or_len}
 use Rattle.iim_dataset.specs.Datasets.{Dataset}
 use Rattle.wire_message.specs.Messages.{Header}
-use Rattle.iim_script.specs.Shown.{TellsLast}
-use Rattle.iim_script.specs.Forms.{TellsNumber, TellsNames, TellsField, TellsHead, TellsTrailer, words_of, after_source, text_word}
+use Rattle.iim_script.specs.Format.Shown.{TellsLast}
+use Rattle.iim_script.specs.Format.Forms.{TellsNumber, TellsNames, TellsField, TellsHead, TellsTrailer, words_of, after_source, text_word}
 use Rattle.iim_script.proofs.Texts.{last_once}
 use Rattle.iim_script.proofs.Names.{no_digit, no_colon, NamesAt, names_at, names_once}
 use Rattle.iim_script.proofs.Heads.{words_of_header, last_ends, head_once}

@@ -12,12 +12,12 @@ use Rattle.wire_message.specs.Fields.{Are, is_letter, is_alphanumeric}
 use Rattle.wire_message.specs.Fields as message
 use Rattle.wire_message.specs.Messages.{Header, IsHeader}
 use Rattle.wire_story.specs.Texts.{IsLine, is_line_octet}
-use Rattle.iim_script.specs.Lines.{HasNo, EndsLine, EndLines}
-use Rattle.iim_script.specs.Shown.{IsHexDigit, TellsOctet, Tells, TellsLast}
-use Rattle.iim_script.specs.Forms.{TellsNumber, TellsField, TellsHead, TellsTrailer, is_digit, decimal_from, message_word, trailer_word, words_of, after_source, after_number, after_priority, after_category}
+use Rattle.iim_script.specs.Format.Lines.{HasNo, EndsLine, EndLines}
+use Rattle.iim_script.specs.Format.Shown.{IsHexDigit, TellsOctet, Tells, TellsLast}
+use Rattle.iim_script.specs.Format.Forms.{TellsNumber, TellsField, TellsHead, TellsTrailer, is_digit, decimal_from, message_word, trailer_word, words_of, after_source, after_number, after_priority, after_category}
 use Rattle.iim_dataset.specs.Shown.{hex_digit, escape, is_plain, shown_octet, shown, padding, dataset_name}
-use Rattle.iim_script.specs.Printed.{after_space, field_line, message_line, trailer_line, PrintsStory}
-use Rattle.iim_script.specs.Scripts.{TellFields, IsStory}
+use Rattle.iim_script.specs.Format.Printed.{after_space, field_line, message_line, trailer_line, PrintsStory}
+use Rattle.iim_script.specs.Format.Scripts.{TellFields, IsStory}
 use Rattle.iim_script.proofs.Cuts.{has_no_octet, has_no_append}
 use Rattle.iim_script.proofs.Names.{and_both}
 

@@ -6,10 +6,10 @@ use Rattle.iim_fields.specs.declared.limits.Limits.{Limits}
 use Rattle.iim_fields.specs.declared.fault.FieldFault.{FieldFault}
 use Rattle.iim_fields.specs.declared.fault.FieldCause.{FieldCause}
 use Rattle.wire_message.specs.Messages.{Header, IsTrailer}
-use Rattle.iim_script.specs.Lines.{NextLine, EndLines}
-use Rattle.iim_script.specs.Forms.{TellsField, TellsHead, TellsTrailer, is_digit, text_word}
-use Rattle.iim_script.specs.Scripts.{TellFields, AreTaken, AreTrailer, IsFront}
-use Rattle.iim_script.specs.Faults.{Stage, InFields, AfterMessage, AfterTrailer, HaveCome, Stands, HasNoForm, TellsBadField, EndsTooSoon, TellsBadTrailer, IsWrong, IsNextWrong}
+use Rattle.iim_script.specs.Format.Lines.{NextLine, EndLines}
+use Rattle.iim_script.specs.Format.Forms.{TellsField, TellsHead, TellsTrailer, is_digit, text_word}
+use Rattle.iim_script.specs.Format.Scripts.{TellFields, AreTaken, AreTrailer, IsFront}
+use Rattle.iim_script.specs.Format.Faults.{Stage, InFields, AfterMessage, AfterTrailer, HaveCome, Stands, HasNoForm, TellsBadField, EndsTooSoon, TellsBadTrailer, IsWrong, IsNextWrong}
 use Rattle.iim_script.specs.declared.fault.ScriptCause.{ScriptCause}
 use Rattle.iim_script.specs.declared.fault.ScriptCause.TheVariants.{ScriptLine, ScriptTooLong, Field, BadTrailer, BadTextOctet, OutOfMemory}
 use Rattle.std.proofs.lemmas.Bool.{false≢true}

@@ -5,10 +5,10 @@ use Rattle.iim_dataset.specs.Datasets.{Dataset}
 use Rattle.iim_fields.specs.declared.limits.Limits.{Limits}
 use Rattle.wire_message.specs.Messages.{Header}
 use Rattle.wire_story.specs.Texts.{IsLine}
-use Rattle.iim_script.specs.Lines.{HasNo, NextLine}
-use Rattle.iim_script.specs.Scripts.{IsStory, IsScript, max_script}
-use Rattle.iim_script.specs.Faults.{IsBadStory, IsNextWrong, IsFrontFault, IsStoryFault, IsScriptFault}
-use Rattle.iim_script.specs.Laws.{IsOneScript}
+use Rattle.iim_script.specs.Format.Lines.{HasNo, NextLine}
+use Rattle.iim_script.specs.Format.Scripts.{IsStory, IsScript, max_script}
+use Rattle.iim_script.specs.Format.Faults.{IsBadStory, IsNextWrong, IsFrontFault, IsStoryFault, IsScriptFault}
+use Rattle.iim_script.specs.Format.Laws.{IsOneScript}
 use Rattle.iim_script.specs.declared.fault.ScriptCause.{ScriptCause}
 use Rattle.iim_script.specs.declared.fault.ScriptCause.TheVariants.{ScriptLine, ScriptTooLong, Field, BadTrailer, BadTextOctet, OutOfMemory}
 use Rattle.iim_script.proofs.Next.{next_once, no_next}

@@ -4,8 +4,8 @@ use Rattle.std.specs.List.{AllByRecursion}
 use Rattle.wire_story.specs.Texts.{IsLine}
 use Rattle.wire_story.specs.Delivery.{LineOctet, LineEnd}
 use Rattle.wire_story.specs.Collecting.{collect, add_octet}
-use Rattle.iim_script.specs.Lines.{HasNo, EndsLine, NextLine, EndLines}
-use Rattle.iim_script.specs.Scripts.{IsStory}
+use Rattle.iim_script.specs.Format.Lines.{HasNo, EndsLine, NextLine, EndLines}
+use Rattle.iim_script.specs.Format.Scripts.{IsStory}
 use Rattle.iim_script.specs.Steps.{number_after, IsLastLine, RefusesStory, RefusesStoryLine}
 use Rattle.iim_script.specs.declared.fault.ScriptCause.{ScriptCause}
 use Rattle.iim_script.specs.declared.fault.ScriptCause.TheVariants.{ScriptLine, ScriptTooLong, Field, BadTrailer, BadTextOctet, OutOfMemory}

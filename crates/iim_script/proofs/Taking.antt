@@ -19,7 +19,7 @@ use Rattle.iim_fields.specs.Standing.{IsWithin}
 use Rattle.iim_fields.specs.declared.fault.FieldFault.{FieldFault}
 use Rattle.iim_fields.specs.declared.fault.FieldCause.TheVariants.{RecordOrder}
 use Rattle.iim_fields.specs.declared.limits.Limits.{Limits}
-use Rattle.iim_script.specs.Scripts.{AreTaken}
+use Rattle.iim_script.specs.Format.Scripts.{AreTaken}
 use Rattle.iim_script.proofs.Printing.{IsPrintable}
 
 -- ---- records that can follow

@@ -1,10 +1,3 @@
-pub mod Lines
-pub mod Shown
-pub mod Forms
+pub mod Format
 pub mod Adding
-pub mod Printed
-pub mod Scripts
-pub mod Faults
 pub mod Steps
-pub mod Causes
-pub mod Laws

@@ -6,9 +6,9 @@ use Rattle.iim_fields.specs.declared.limits.Limits.{Limits}
 use Rattle.iim_fields.specs.declared.fault.FieldFault.{FieldFault}
 use Rattle.wire_message.specs.Messages.{IsTrailer}
 use Rattle.wire_story.specs.Texts.{IsLine}
-use Rattle.iim_script.specs.Lines.{HasNo, NextLine}
-use Rattle.iim_script.specs.Forms.{TellsTrailer, text_word}
-use Rattle.iim_script.specs.Faults.{IsFrontFault, IsBadStory, TellsNoHead, TellsNoTrailer, TellsBadTrailer}
+use Rattle.iim_script.specs.Format.Lines.{HasNo, NextLine}
+use Rattle.iim_script.specs.Format.Forms.{TellsTrailer, text_word}
+use Rattle.iim_script.specs.Format.Faults.{IsFrontFault, IsBadStory, TellsNoHead, TellsNoTrailer, TellsBadTrailer}
 use Rattle.iim_script.specs.declared.fault.ScriptCause.{ScriptCause}
 use Rattle.iim_script.specs.declared.fault.ScriptCause.TheVariants.{ScriptLine, Field, BadTrailer, BadTextOctet, OutOfMemory}
 

@@ -2,7 +2,7 @@
 
 ghost use Rattle.std.specs.Prelude.{◌≡◌, ◌≤◌};
 ghost use Rattle.iim_fields.specs.Causes.{number_of_cause};
-ghost use Rattle.iim_script.specs.Causes.{cause_number, cause_name, field_cause_name};
+ghost use Rattle.iim_script.specs.Format.Causes.{cause_number, cause_name, field_cause_name};
 ghost use Rattle.iim_script.specs.Steps.{number_after};
 
 use iim_fields::FieldCause;

@@ -3,7 +3,7 @@
 ghost use Rattle.std.specs.Prelude.{◌≡◌, ◌≢◌, ◌++◌, ◌∷◌, [], not, ℕ, List, IfOk, IfErr, OnOk, OnErr, IfSome, IfNone};
 ghost use Rattle.std.specs.List.{position_or_len};
 ghost use Rattle.iim_dataset.specs.Datasets.{Dataset};
-ghost use Rattle.iim_script.specs.Forms.{TellsField, TellsNames, is_digit};
+ghost use Rattle.iim_script.specs.Format.Forms.{TellsField, TellsNames, is_digit};
 ghost use Rattle.iim_script.specs.Adding.{Adds, RefusesLine};
 
 use crate::fault::ScriptCause;

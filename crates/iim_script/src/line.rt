@@ -2,7 +2,7 @@
 
 ghost use Rattle.std.specs.Prelude.{◌≡◌, ◌==◌, ◌≤◌, ◌<◌, ◌++◌, ◌∷◌, ℕ, List, length, IfSome, IfNone};
 ghost use Rattle.std.specs.List.{position_or_len};
-ghost use Rattle.iim_script.specs.Lines.{HasNo, NextLine};
+ghost use Rattle.iim_script.specs.Format.Lines.{HasNo, NextLine};
 
 /// Ends a line.
 const LF: u8 = b'\n';

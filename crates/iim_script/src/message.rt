@@ -2,7 +2,7 @@
 
 ghost use Rattle.std.specs.Prelude.{◌≡◌, ◌++◌, ◌∷◌, ℕ, List, IfOk, IfSome, IfNone};
 ghost use Rattle.wire_message.specs.Messages.{Header};
-ghost use Rattle.iim_script.specs.Forms.{HeadWords, AreWords, TellsHead, TellsTrailer};
+ghost use Rattle.iim_script.specs.Format.Forms.{HeadWords, AreWords, TellsHead, TellsTrailer};
 
 use crate::line::{after, before_first, cut_at};
 use crate::shown::read_last;

@@ -1,7 +1,7 @@
 //! Numbers of records and datasets.
 
 ghost use Rattle.std.specs.Prelude.{◌≡◌, ◌+◌, ◌≤◌, ◌<◌, ◌-◌, ◌*◌, ℕ, false, IsTrue, IfSome, IfNone};
-ghost use Rattle.iim_script.specs.Forms.{TellsNumber, is_digit, AreDigits, value_of};
+ghost use Rattle.iim_script.specs.Format.Forms.{TellsNumber, is_digit, AreDigits, value_of};
 
 /// Whether the octet is a decimal digit.
 pub(crate) fn is_decimal(octet: u8) -> bool

@@ -2,10 +2,10 @@
 
 ghost use Rattle.std.specs.Prelude.{◌≡◌, ◌≤◌, ◌+◌, ◌++◌, [], ℕ, List, length, slice_index, IfOk, IfErr, OnOk, None};
 ghost use Rattle.iim_fields.specs.Builders.{finish_fault};
-ghost use Rattle.iim_script.specs.Forms.{TellsHead, is_digit, text_word};
-ghost use Rattle.iim_script.specs.Lines.{NextLine};
-ghost use Rattle.iim_script.specs.Scripts.{IsFront, IsScript};
-ghost use Rattle.iim_script.specs.Faults.{Stands, InFields, TellsNoField, IsScriptFault};
+ghost use Rattle.iim_script.specs.Format.Forms.{TellsHead, is_digit, text_word};
+ghost use Rattle.iim_script.specs.Format.Lines.{NextLine};
+ghost use Rattle.iim_script.specs.Format.Scripts.{IsFront, IsScript};
+ghost use Rattle.iim_script.specs.Format.Faults.{Stands, InFields, TellsNoField, IsScriptFault};
 ghost use Rattle.iim_script.specs.Steps.{NextIs, NextMustBe, RefusesFields, RefusesHead, TakesTrailer, RefusesTrailer, RefusesText, RefusesEnd};
 
 use crate::fault::{ScriptCause, ScriptFault, fault_after};

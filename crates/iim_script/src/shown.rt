@@ -1,7 +1,7 @@
 //! Octets that are shown as text, read back.
 
 ghost use Rattle.std.specs.Prelude.{◌≡◌, ◌+◌, ◌≤◌, ◌++◌, ◌∷◌, ℕ, List, IfOk, IfSome, IfNone};
-ghost use Rattle.iim_script.specs.Shown.{IsHexDigit, IsOfDigits, BeginsWith, Tells, TellsLast};
+ghost use Rattle.iim_script.specs.Format.Shown.{IsHexDigit, IsOfDigits, BeginsWith, Tells, TellsLast};
 
 use std::alloc::{AllocError, Global};
 

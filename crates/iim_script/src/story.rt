@@ -5,8 +5,8 @@ ghost use Rattle.std.specs.List.{AllByRecursion};
 ghost use Rattle.wire_story.specs.Texts.{IsLine};
 ghost use Rattle.wire_story.specs.Delivery.{LineOctet};
 ghost use Rattle.wire_story.specs.Collecting.{collect};
-ghost use Rattle.iim_script.specs.Lines.{NextLine};
-ghost use Rattle.iim_script.specs.Scripts.{IsStory};
+ghost use Rattle.iim_script.specs.Format.Lines.{NextLine};
+ghost use Rattle.iim_script.specs.Format.Scripts.{IsStory};
 ghost use Rattle.iim_script.specs.Steps.{IsLastLine, RefusesStory, RefusesStoryLine};
 
 use crate::fault::{ScriptCause, ScriptFault, fault_after};

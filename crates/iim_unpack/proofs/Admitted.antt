@@ -10,8 +10,8 @@ use Rattle.wire_message.specs.Messages.{IsMessage}
 use Rattle.wire_message.specs.Laws.{MessagesHaveOneReading}
 use Rattle.wire_story.specs.Texts.{IsText}
 use Rattle.wire_story.specs.Laws.{TextsHaveOneReading}
-use Rattle.iim_unpack.specs.Admitted.{Value, Admits, object_of}
-use Rattle.iim_unpack.specs.Laws.{AdmittedOctetsHaveOneValue, NoAdmittedOctetsBeginOthers, AdmittedOctetsAreFramed}
+use Rattle.iim_unpack.specs.Format.Admitted.{Value, Admits, object_of}
+use Rattle.iim_unpack.specs.Format.Laws.{AdmittedOctetsHaveOneValue, NoAdmittedOctetsBeginOthers, AdmittedOctetsAreFramed}
 use Rattle.iim_unpack.proofs.Frames.{envelope_alone}
 use Rattle.iim_unpack.proofs.Objects.{are_records}
 

@@ -24,14 +24,14 @@ use Rattle.wire_message.specs.SoFar.{LeadTo}
 use Rattle.wire_message.specs.declared.place.Place.TheVariants.{AfterEnd}
 use Rattle.wire_message.specs.declared.fault.MessageCause.{MessageCause}
 use Rattle.wire_message.specs.declared.fault.MessageCause.TheVariants as messages
-use Rattle.iim_unpack.specs.Admitted.{Value, Admits, object_of}
-use Rattle.iim_unpack.specs.Refusals.{begun_record, begun_number, tag_cause}
-use Rattle.iim_unpack.specs.Laws.{AdmittedOctetsHaveOneValue, NoAdmittedOctetsBeginOthers}
-use Rattle.iim_unpack.specs.Parts.{object_so_far, AllGoOn, IsUnfinished}
-use Rattle.iim_unpack.specs.Refusals.{refusal_at, message_on}
-use Rattle.iim_unpack.specs.Tokens.{IsRefusedHead, IsRefusedValue}
-use Rattle.iim_unpack.specs.Unpacking.{IsOpen, IsBadTagAt, IsBadHeadAt, IsBadOctetAt, IsBadValueAt, RefusesNext, truncated_in, OpenOctetsBeginWithNoEnvelope}
-use Rattle.iim_unpack.specs.Streams.{IsEnvelopeWithin, Finished, Refused, Truncated, IsFinished, IsRefused, IsTruncated, EnvelopesAreBounded, RefusedOctetsWereOpen, NothingGoesOnFromRefusedOctets, RefusalsAreDetermined, StreamsHaveOneAnswer}
+use Rattle.iim_unpack.specs.Format.Admitted.{Value, Admits, object_of}
+use Rattle.iim_unpack.specs.Format.Refusals.{begun_record, begun_number, tag_cause}
+use Rattle.iim_unpack.specs.Format.Laws.{AdmittedOctetsHaveOneValue, NoAdmittedOctetsBeginOthers}
+use Rattle.iim_unpack.specs.Format.Open.{object_so_far, AllGoOn, IsUnfinished}
+use Rattle.iim_unpack.specs.Format.Refusals.{refusal_at, message_on}
+use Rattle.iim_unpack.specs.Format.Tokens.{IsRefusedHead, IsRefusedValue}
+use Rattle.iim_unpack.specs.Format.Open.{IsOpen, IsBadTagAt, IsBadHeadAt, IsBadOctetAt, IsBadValueAt, RefusesNext, truncated_in, OpenOctetsBeginWithNoEnvelope}
+use Rattle.iim_unpack.specs.Format.Streams.{IsEnvelopeWithin, Finished, Refused, Truncated, IsFinished, IsRefused, IsTruncated, EnvelopesAreBounded, RefusedOctetsWereOpen, NothingGoesOnFromRefusedOctets, RefusalsAreDetermined, StreamsHaveOneAnswer}
 use Rattle.iim_unpack.specs.declared.fault.Fault.{Fault}
 use Rattle.iim_unpack.specs.declared.refusal.Refusal.{Refusal}
 use Rattle.iim_unpack.specs.declared.refusal.Layer.TheVariants as layers

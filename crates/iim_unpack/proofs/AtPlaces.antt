@@ -23,9 +23,10 @@ use Rattle.wire_message.specs.declared.saved.MessagePlace.{MessagePlace}
 use Rattle.iim_unpack.specs.Begins.{AreNumbers, IsNumber}
 use Rattle.iim_unpack.specs.ByLayers.{RecordsLive, head_at}
 use Rattle.iim_unpack.specs.Plain.{number_list}
-use Rattle.iim_unpack.specs.Possible.{texts_of, widest}
+use Rattle.iim_unpack.specs.Possible.{texts_of}
+use Rattle.iim_unpack.specs.Format.Possible.{widest}
 use Rattle.iim_unpack.specs.Taking.{AreKept, GoOnWithin, IsMessageOf, numbers_told, told_datasets}
-use Rattle.iim_unpack.specs.Tickets.{Phase, TagBegun, DataBegun, AllEnded}
+use Rattle.iim_unpack.specs.Format.Tickets.{Phase, TagBegun, DataBegun, AllEnded}
 use Rattle.iim_unpack.proofs.Fitting.{part_told}
 use Rattle.iim_unpack.proofs.Plain.{kept_fields, plain_told}
 use Rattle.iim_unpack.proofs.Taking.{head_alive}

@@ -17,10 +17,10 @@ use Rattle.iim_object.specs.Places.{Place, ending_tokens, tokens_of, place_after
 use Rattle.iim_object.specs.Behind.{of_record, place_behind, place_ended}
 use Rattle.iim_object.specs.Records.{lengths_of, numbers_of}
 use Rattle.iim_object.specs.Sizes.{Stated, AreStated, AreOnce, InRow, number_at}
-use Rattle.iim_unpack.specs.Tokens.{MayGoOn}
+use Rattle.iim_unpack.specs.Format.Tokens.{MayGoOn}
 use Rattle.iim_unpack.specs.Intakes.{OpenOctetsAreBounded}
-use Rattle.iim_unpack.specs.Framed.{AreWithin}
-use Rattle.iim_unpack.specs.Tokens.{ObjectLives}
+use Rattle.iim_unpack.specs.Format.Framed.{AreWithin}
+use Rattle.iim_unpack.specs.Format.Tokens.{ObjectLives}
 
 -- how many octets datasets take at most: nine for each tag, and the data
 abbrev pub weight : List Dataset → ℕ

@@ -23,13 +23,14 @@ use Rattle.wire_message.specs.SoFar.{LeadTo}
 use Rattle.wire_message.specs.declared.place.Place.{Place}
 use Rattle.wire_message.specs.declared.fault.MessageCause.{MessageCause}
 use Rattle.wire_message.specs.declared.fault.MessageCause.TheVariants as messages
-use Rattle.iim_unpack.specs.Admitted.{object_of}
-use Rattle.iim_unpack.specs.Tokens.{MayGoOn}
-use Rattle.iim_unpack.specs.Tokens.{GoOn, GoOnAt}
+use Rattle.iim_unpack.specs.Format.Admitted.{object_of}
+use Rattle.iim_unpack.specs.Format.Tokens.{MayGoOn}
+use Rattle.iim_unpack.specs.Format.Tokens.{GoOn, GoOnAt}
 use Rattle.iim_unpack.specs.Passed.{Passed, Halted}
 use Rattle.iim_unpack.specs.Passing.{octets_in-octets}
-use Rattle.iim_unpack.specs.Refusals.{message_on, cause_of_message}
-use Rattle.iim_unpack.specs.Parts.{object_so_far, section, AllGoOn, Behind, Within, StandsFor, Led, Went, CountsFor, Stopped}
+use Rattle.iim_unpack.specs.Format.Refusals.{message_on, cause_of_message}
+use Rattle.iim_unpack.specs.Format.Open.{object_so_far, section, AllGoOn}
+use Rattle.iim_unpack.specs.Parts.{Behind, Within, StandsFor, Led, Went, CountsFor, Stopped}
 use Rattle.iim_unpack.specs.declared.parts.Parts.{Parts}
 use Rattle.iim_unpack.specs.LowerLaws.{MessageLaws}
 use Rattle.iim_unpack.proofs.Lasts.{not_all}

@@ -24,10 +24,11 @@ use Rattle.iim_object.specs.Behind.{of_record, place_behind}
 use Rattle.wire_message.specs.Layers.{text_so_far}
 use Rattle.wire_message.specs.Laws.{ReadersStandAtLivingOctets}
 use Rattle.wire_message.specs.Reading as wire
-use Rattle.iim_unpack.specs.Admitted.{object_of}
-use Rattle.iim_unpack.specs.Tokens.{place_at, IsRefusedValue}
-use Rattle.iim_unpack.specs.Refusals.{of_field, IsObjectFault}
-use Rattle.iim_unpack.specs.Parts.{object_so_far, Behind, Within, CountsFor, Closed, NotClosed}
+use Rattle.iim_unpack.specs.Format.Admitted.{object_of}
+use Rattle.iim_unpack.specs.Format.Tokens.{place_at, IsRefusedValue}
+use Rattle.iim_unpack.specs.Format.Refusals.{of_field, IsObjectFault}
+use Rattle.iim_unpack.specs.Format.Open.{object_so_far}
+use Rattle.iim_unpack.specs.Parts.{Behind, Within, CountsFor, Closed, NotClosed}
 use Rattle.iim_unpack.specs.declared.parts.Parts.{Parts}
 use Rattle.iim_unpack.specs.declared.fault.Fault.{Fault}
 use Rattle.iim_unpack.proofs.Faults.{field_value, object_value}

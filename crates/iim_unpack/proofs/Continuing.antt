@@ -21,15 +21,15 @@ use Rattle.wire_message.specs.Saved.{LeadToSaved}
 use Rattle.wire_message.specs.SoFar.{LeadTo}
 use Rattle.wire_message.specs.declared.saved.MessagePlace.{MessagePlace}
 use Rattle.wire_message.specs.declared.place.Place.TheVariants as at_message
-use Rattle.iim_unpack.specs.Admitted.{Value, Admits, object_of}
+use Rattle.iim_unpack.specs.Format.Admitted.{Value, Admits, object_of}
 use Rattle.iim_unpack.specs.ByLayers.{are_ended}
-use Rattle.iim_unpack.specs.Continuing.{AreAlike, ContinueAlike, PlacesContinueAlike}
-use Rattle.iim_unpack.specs.Laws.{NoAdmittedOctetsBeginOthers}
-use Rattle.iim_unpack.specs.Parts.{AllGoOn, object_so_far}
-use Rattle.iim_unpack.specs.Streams.{IsEnvelopeWithin}
-use Rattle.iim_unpack.specs.Tokens.{GoOn}
-use Rattle.iim_unpack.specs.Tickets.{Place, TagBegun, AllEnded, IsPlaceOf, heads_of, phase_of, place_of}
-use Rattle.iim_unpack.specs.Unpacking.{Adds, IsOpen, IsTextOf, OpenOctetsBeginWithNoEnvelope}
+use Rattle.iim_unpack.specs.Format.Continuing.{AreAlike, ContinueAlike, PlacesContinueAlike}
+use Rattle.iim_unpack.specs.Format.Laws.{NoAdmittedOctetsBeginOthers}
+use Rattle.iim_unpack.specs.Format.Open.{AllGoOn, object_so_far}
+use Rattle.iim_unpack.specs.Format.Streams.{IsEnvelopeWithin}
+use Rattle.iim_unpack.specs.Format.Tokens.{GoOn}
+use Rattle.iim_unpack.specs.Format.Tickets.{Place, TagBegun, AllEnded, IsPlaceOf, heads_of, phase_of, place_of}
+use Rattle.iim_unpack.specs.Format.Open.{Adds, IsOpen, IsTextOf, OpenOctetsBeginWithNoEnvelope}
 use Rattle.iim_unpack.specs.LowerLaws.{OnwardLaws}
 use Rattle.iim_unpack.proofs.Answering.{Lives, goes_envelope, leads_to, lives_envelope, lives_open, one_reading, reads_envelope}
 use Rattle.iim_unpack.proofs.Following.{alive_of, message_of, story_of, within_of}

@@ -27,9 +27,9 @@ use Rattle.iim_object.specs.Reading.{StandsAt, Refuses}
 use Rattle.iim_object.specs.Behind.{of_record, place_behind, TokensFollow}
 use Rattle.iim_object.specs.declared.state.State.{State}
 use Rattle.iim_object.specs.declared.fault.SizeCause.{SizeCause}
-use Rattle.iim_unpack.specs.Refusals.{layer_of, of_field, size_on, too_many_on}
-use Rattle.iim_unpack.specs.Tokens.{HaveRoom, ObjectLives, place_at, DiesAtHead, DiesAtValue, subfile_fault, object_fault, number_fault, IsRefusedHead, IsRefusedValue}
-use Rattle.iim_unpack.specs.Refusals.{IsObjectFault}
+use Rattle.iim_unpack.specs.Format.Refusals.{layer_of, of_field, size_on, too_many_on}
+use Rattle.iim_unpack.specs.Format.Tokens.{HaveRoom, ObjectLives, place_at, DiesAtHead, DiesAtValue, subfile_fault, object_fault, number_fault, IsRefusedHead, IsRefusedValue}
+use Rattle.iim_unpack.specs.Format.Refusals.{IsObjectFault}
 use Rattle.iim_unpack.specs.declared.fault.Fault.{Fault}
 use Rattle.iim_unpack.specs.declared.refusal.Layer.{Layer}
 use Rattle.iim_unpack.specs.declared.refusal.Layer.TheVariants as layers

@@ -31,20 +31,22 @@ use Rattle.wire_message.specs.Reading as wire
 use Rattle.wire_story.specs.Texts.{IsText}
 use Rattle.wire_message.specs.Messages.{Header, IsMessage}
 use Rattle.iim_fields.specs.Standing.{StandsBehind}
-use Rattle.iim_unpack.specs.Laws.{AdmittedOctetsHaveOneValue}
-use Rattle.iim_unpack.specs.Value.{HasParts}
+use Rattle.iim_unpack.specs.Format.Laws.{AdmittedOctetsHaveOneValue}
+use Rattle.iim_unpack.specs.Format.Value.{HasParts}
 use Rattle.iim_unpack.specs.declared.unpacker.Unpacked.{Unpacked}
-use Rattle.iim_unpack.specs.Admitted.{Value, Admits, object_of}
-use Rattle.iim_unpack.specs.Refusals.{begun_record, begun_number, tag_cause}
-use Rattle.iim_unpack.specs.Refusals.{refusal_at, message_on}
-use Rattle.iim_unpack.specs.Tokens.{IsRefusedHead, IsRefusedValue}
+use Rattle.iim_unpack.specs.Format.Admitted.{Value, Admits, object_of}
+use Rattle.iim_unpack.specs.Format.Refusals.{begun_record, begun_number, tag_cause}
+use Rattle.iim_unpack.specs.Format.Refusals.{refusal_at, message_on}
+use Rattle.iim_unpack.specs.Format.Tokens.{IsRefusedHead, IsRefusedValue}
 use Rattle.iim_fields.specs.Values.{data_of}
-use Rattle.iim_unpack.specs.Refusals.{cause_of_tag}
-use Rattle.iim_unpack.specs.Parts.{object_so_far, AllGoOn, Behind, StandsFor, Led, Refused, RefusesAt, IsUnfinished, has_ended}
+use Rattle.iim_unpack.specs.Format.Refusals.{cause_of_tag}
+use Rattle.iim_unpack.specs.Format.Open.{object_so_far, AllGoOn, IsUnfinished}
+use Rattle.iim_unpack.specs.Parts.{Behind, StandsFor, Led, Refused, RefusesAt, has_ended}
 use Rattle.iim_unpack.specs.Sequence.{AreInOrder}
 use Rattle.iim_unpack.specs.Going.{front_in_order}
 use Rattle.iim_unpack.specs.Routing.{Takes, HasEnded}
-use Rattle.iim_unpack.specs.Unpacking.{Unpacking, Advanced, FailsAs, IsOnward, tag_fault, raised, are_some, begins, limits_in, IsTextOf, Adds, IsOpen, IsBadTagAt, RefusesNext, IsLed, Stands, IsDoneWith, IsRefusedIn, IsTruncatedAt, truncated_in, Stood, IsUnpacking}
+use Rattle.iim_unpack.specs.Unpacking.{Unpacking, Advanced, FailsAs, IsOnward, tag_fault, raised, are_some, begins, limits_in, IsLed, Stands, IsDoneWith, IsRefusedIn, Stood, IsUnpacking}
+use Rattle.iim_unpack.specs.Format.Open.{IsTextOf, Adds, IsOpen, IsBadTagAt, RefusesNext, IsTruncatedAt, truncated_in}
 use Rattle.iim_unpack.specs.declared.parts.Parts.{Parts}
 use Rattle.iim_unpack.specs.declared.fault.Fault.{Fault}
 use Rattle.iim_unpack.specs.declared.refusal.Refusal.{Refusal}

@@ -17,15 +17,16 @@ use Rattle.wire_message.specs.Saved.{LeadToSaved}
 use Rattle.wire_message.specs.declared.saved.MessagePart.{MessagePart}
 use Rattle.wire_message.specs.declared.saved.MessagePart.TheVariants as part
 use Rattle.wire_message.specs.declared.saved.MessagePlace.{MessagePlace}
-use Rattle.iim_unpack.specs.Admitted.{object_of}
+use Rattle.iim_unpack.specs.Format.Admitted.{object_of}
 use Rattle.iim_unpack.specs.LowerLaws.{AnswerLaws}
-use Rattle.iim_unpack.specs.Parts.{object_so_far, section, AllGoOn}
-use Rattle.iim_unpack.specs.Tokens.{ObjectLives, MayGoOn}
-use Rattle.iim_unpack.specs.Tickets.{Place, TagBegun, AllEnded, phase_of, heads_of, place_of, ticket_of, layout, text_octets, texts_octets, part_number}
+use Rattle.iim_unpack.specs.Format.Open.{object_so_far, section, AllGoOn}
+use Rattle.iim_unpack.specs.Format.Tokens.{ObjectLives, MayGoOn}
+use Rattle.iim_unpack.specs.Format.Tickets.{Place, TagBegun, AllEnded, phase_of, heads_of, place_of, ticket_of, layout, text_octets, texts_octets, part_number}
 use Rattle.iim_unpack.specs.TicketFields.{IsField}
 use Rattle.iim_unpack.specs.Begins.{IsNumber, AreNumbers, AreTexts}
-use Rattle.iim_unpack.specs.TicketParts.{IsPhase, HasForm, Split, SplitsInto, split_octets}
-use Rattle.iim_unpack.specs.Possible.{Possible, TicketsOfPlacesAreSplit, TicketsTellOnePlace, widest, texts_of, split_of}
+use Rattle.iim_unpack.specs.Format.TicketForm.{IsPhase, HasForm, Split, SplitsInto, split_octets}
+use Rattle.iim_unpack.specs.Format.Possible.{Possible, TicketsTellOnePlace, widest}
+use Rattle.iim_unpack.specs.Possible.{TicketsOfPlacesAreSplit, texts_of, split_of}
 use Rattle.iim_unpack.proofs.Answering.{Lives, lives_open, lives_envelope, one_reading}
 use Rattle.iim_unpack.proofs.Bounds.{low, object_fits, tag_low}
 use Rattle.iim_unpack.proofs.Splitting.{one_split}

@@ -18,11 +18,11 @@ use Rattle.iim_object.specs.Records.{AreSized}
 use Rattle.iim_object.specs.Behind.{of_record, place_behind}
 use Rattle.wire_story.specs.Tokens.{Octet, End}
 use Rattle.wire_message.specs.Layers.{MessageLanguage, MessageLivesWith, StoryLivesIn}
-use Rattle.iim_unpack.specs.Admitted.{object_of}
-use Rattle.iim_unpack.specs.Tokens.{MayGoOn}
-use Rattle.iim_unpack.specs.Framed.{AreWithin}
-use Rattle.iim_unpack.specs.Parts.{object_so_far, section, message_tokens, AllGoOn}
-use Rattle.iim_unpack.specs.Tokens.{GoOnAt, ObjectLives, place_at}
+use Rattle.iim_unpack.specs.Format.Admitted.{object_of}
+use Rattle.iim_unpack.specs.Format.Tokens.{MayGoOn}
+use Rattle.iim_unpack.specs.Format.Framed.{AreWithin}
+use Rattle.iim_unpack.specs.Format.Open.{object_so_far, section, message_tokens, AllGoOn}
+use Rattle.iim_unpack.specs.Format.Tokens.{GoOnAt, ObjectLives, place_at}
 use Rattle.iim_unpack.proofs.Frames.{compare}
 use Rattle.iim_unpack.proofs.Fronts.{no_longer, begun_none}
 use Rattle.iim_unpack.proofs.Lasts.{present_last, not_all}

@@ -6,7 +6,7 @@ use Rattle.iim_dataset.specs.Laws.{NoDatasetBeginsAnother}
 use Rattle.iim_tables.specs.Rows.{table}
 use Rattle.iim_fields.specs.Records.{AreSections}
 use Rattle.iim_fields.specs.Laws.{NoSectionsBeginOthers}
-use Rattle.iim_unpack.specs.Laws.{NoEnvelopeIsEmpty}
+use Rattle.iim_unpack.specs.Format.Laws.{NoEnvelopeIsEmpty}
 
 -- ---- two streams that agree
 

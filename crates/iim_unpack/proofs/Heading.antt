@@ -29,11 +29,12 @@ use Rattle.wire_message.specs.Layers.{text_so_far, MessageDiesAt}
 use Rattle.wire_message.specs.Laws.{TextsStandBetweenStxAndEtx}
 use Rattle.wire_message.specs.Reading as wire
 use Rattle.wire_message.specs.declared.place.Place.{Place}
-use Rattle.iim_unpack.specs.Admitted.{object_of}
-use Rattle.iim_unpack.specs.Tokens.{place_at, ObjectLives, IsRefusedHead}
+use Rattle.iim_unpack.specs.Format.Admitted.{object_of}
+use Rattle.iim_unpack.specs.Format.Tokens.{place_at, ObjectLives, IsRefusedHead}
 use Rattle.iim_unpack.specs.Passed.{Passed, HasFewSubfiles, IsFullOfSubfiles, RefusesBySize, RefusesAtEnd, RefusesObject, RefusesSubfile, octets_in, is_ended}
-use Rattle.iim_unpack.specs.Refusals.{of_field, too_many_on, message_on, cause_of, cause_of_size}
-use Rattle.iim_unpack.specs.Parts.{object_so_far, Behind, Within, Went, CountsFor, IsUnfinished, Stopped, has_ended}
+use Rattle.iim_unpack.specs.Format.Refusals.{of_field, too_many_on, message_on, cause_of, cause_of_size}
+use Rattle.iim_unpack.specs.Format.Open.{object_so_far, IsUnfinished}
+use Rattle.iim_unpack.specs.Parts.{Behind, Within, Went, CountsFor, Stopped, has_ended}
 use Rattle.iim_unpack.specs.declared.parts.Parts.{Parts}
 use Rattle.iim_unpack.specs.declared.fault.Fault.{Fault}
 use Rattle.wire_message.specs.declared.fault.MessageCause.{MessageCause}

@@ -7,10 +7,10 @@ use Rattle.iim_fields.specs.Standing.{IsWithin}
 use Rattle.iim_fields.specs.declared.limits.Limits.{Limits}
 use Rattle.wire_message.specs.declared.saved.MessagePlace.{MessagePlace}
 use Rattle.iim_unpack.specs.LowerLaws.{AnswerLaws}
-use Rattle.iim_unpack.specs.Parts.{AllGoOn}
-use Rattle.iim_unpack.specs.Tokens.{MayGoOn}
-use Rattle.iim_unpack.specs.Tickets.{Place, AllEnded, TagBegun, IsPlaceOf, place_of}
-use Rattle.iim_unpack.specs.Possible.{widest, AreOpenOrWhole, AreHeadsWithin, begun_count, begun_fields, LimitsAreToldByPlace}
+use Rattle.iim_unpack.specs.Format.Open.{AllGoOn}
+use Rattle.iim_unpack.specs.Format.Tokens.{MayGoOn}
+use Rattle.iim_unpack.specs.Format.Tickets.{Place, AllEnded, TagBegun, IsPlaceOf, place_of}
+use Rattle.iim_unpack.specs.Format.Possible.{widest, AreOpenOrWhole, AreHeadsWithin, begun_count, begun_fields, LimitsAreToldByPlace}
 use Rattle.iim_unpack.proofs.Answering.{Lives, lives_open, lives_envelope, one_reading, reads_envelope}
 
 -- ---- a begun dataset

@@ -12,15 +12,16 @@ use Rattle.iim_fields.specs.declared.limits.Limits.{Limits}
 use Rattle.wire_story.specs.Delivery as story
 use Rattle.wire_story.specs.Laws.{DeliveryMayBeCut}
 use Rattle.iim_unpack.specs.Parts.{CountsFor}
-use Rattle.iim_unpack.specs.Refusals.{refusal_at}
-use Rattle.iim_unpack.specs.Unpacking.{Unpacking, Stands, Stood, IsDoneWith, IsOpen, IsTextOf, Adds, Goes, IsRefusedIn, IsTruncatedAt, RefusesNext, limits_in, raised}
+use Rattle.iim_unpack.specs.Format.Refusals.{refusal_at}
+use Rattle.iim_unpack.specs.Unpacking.{Unpacking, Stands, Stood, IsDoneWith, Goes, IsRefusedIn, limits_in, raised}
+use Rattle.iim_unpack.specs.Format.Open.{IsOpen, IsTextOf, Adds, IsTruncatedAt, RefusesNext}
 use Rattle.iim_unpack.specs.Intakes.{WentOn, WasDone, WasEnded, IsRefusedOf, WasRefused, WasTruncated, WasMissed, FedAs, WasGiven, IsReady, Faults, read_fault, OpenOctetsAreBounded}
 use Rattle.iim_unpack.specs.declared.intake.IntakeFault.{IntakeFault}
 use Rattle.iim_unpack.proofs.Feeding.{stood_stands}
 use Rattle.iim_unpack.specs.declared.refusal.Refusal.{Refusal}
-use Rattle.iim_unpack.specs.Admitted.{Value, Admits}
-use Rattle.iim_unpack.specs.Framed.{AreWithin}
-use Rattle.iim_unpack.specs.Value.{HasParts}
+use Rattle.iim_unpack.specs.Format.Admitted.{Value, Admits}
+use Rattle.iim_unpack.specs.Format.Framed.{AreWithin}
+use Rattle.iim_unpack.specs.Format.Value.{HasParts}
 use Rattle.iim_unpack.specs.declared.unpacker.Unpacked.{Unpacked}
 use Rattle.iim_unpack.specs.declared.unpacker.Progress.{Progress}
 use Rattle.iim_unpack.specs.declared.unpacker.Progress.TheVariants.{More, Done}

@@ -38,15 +38,15 @@ use Rattle.wire_message.specs.declared.place.Place.{Place as Message}
 use Rattle.wire_message.specs.declared.place.Place.TheVariants as at_message
 use Rattle.wire_message.specs.declared.saved.MessagePart.TheVariants as part
 use Rattle.wire_message.specs.declared.saved.MessagePlace.{MessagePlace}
-use Rattle.iim_unpack.specs.Admitted.{object_of}
+use Rattle.iim_unpack.specs.Format.Admitted.{object_of}
 use Rattle.iim_unpack.specs.Begins.{IsNumber}
 use Rattle.iim_unpack.specs.ByLayers.{LeadsByLayers, record_datasets, one_of_some, head_at}
-use Rattle.iim_unpack.specs.Framed.{AreWithin}
-use Rattle.iim_unpack.specs.Parts.{object_so_far, section, AllGoOn}
+use Rattle.iim_unpack.specs.Format.Framed.{AreWithin}
+use Rattle.iim_unpack.specs.Format.Open.{object_so_far, section, AllGoOn}
 use Rattle.iim_unpack.specs.Plain.{Numbers, number_list, plain_numbers, filled, plain_end, plain, AreSpellable, begun_object, plain_place}
-use Rattle.iim_unpack.specs.Possible.{Possible, AreOpenOrWhole, widest}
-use Rattle.iim_unpack.specs.Tickets.{Place, Phase, TagBegun, DataBegun, AllEnded, IsPlaceOf}
-use Rattle.iim_unpack.specs.Tokens.{place_at, ObjectLives, MayGoOn, GoOn}
+use Rattle.iim_unpack.specs.Format.Possible.{Possible, AreOpenOrWhole, widest}
+use Rattle.iim_unpack.specs.Format.Tickets.{Place, Phase, TagBegun, DataBegun, AllEnded, IsPlaceOf}
+use Rattle.iim_unpack.specs.Format.Tokens.{place_at, ObjectLives, MayGoOn, GoOn}
 use Rattle.iim_unpack.specs.LowerLaws.{ByLayersLaws, SizeLaws}
 use Rattle.iim_unpack.proofs.Alike.{Fits, alike, told_by, present_alike}
 use Rattle.iim_unpack.proofs.Answering.{nothing_held}

@@ -28,13 +28,13 @@ use Rattle.wire_message.specs.declared.place.Place.{Place as Message}
 use Rattle.wire_message.specs.declared.place.Place.TheVariants as at_message
 use Rattle.wire_message.specs.declared.saved.MessagePart.TheVariants as part
 use Rattle.wire_message.specs.declared.saved.MessagePlace.{MessagePlace}
-use Rattle.iim_unpack.specs.Admitted.{object_of}
+use Rattle.iim_unpack.specs.Format.Admitted.{object_of}
 use Rattle.iim_unpack.specs.ByLayers.{LeadsByLayers, TagsLead, RecordsLive, ObjectLeads, MessageLeads, record_datasets, begun_subfiles, begun_of_object, object_after, one_of_some, are_ended}
-use Rattle.iim_unpack.specs.Parts.{object_so_far, section, AllGoOn}
+use Rattle.iim_unpack.specs.Format.Open.{object_so_far, section, AllGoOn}
 use Rattle.iim_unpack.specs.Plain.{plain}
-use Rattle.iim_unpack.specs.Possible.{Possible, widest}
-use Rattle.iim_unpack.specs.Tickets.{Place, Phase, TagBegun, AllEnded, phase_of, place_of}
-use Rattle.iim_unpack.specs.Tokens.{ObjectLives, MayGoOn}
+use Rattle.iim_unpack.specs.Format.Possible.{Possible, widest}
+use Rattle.iim_unpack.specs.Format.Tickets.{Place, Phase, TagBegun, AllEnded, phase_of, place_of}
+use Rattle.iim_unpack.specs.Format.Tokens.{ObjectLives, MayGoOn}
 use Rattle.iim_unpack.specs.LowerLaws.{ByLayersLaws, OpenLaws}
 use Rattle.iim_unpack.proofs.Alike.{Fits, alike, present_alike}
 use Rattle.iim_unpack.proofs.Bounds.{object_fits}

@@ -5,8 +5,8 @@ use Rattle.iim_dataset.specs.Datasets.{Dataset, head_of}
 use Rattle.iim_fields.specs.Faults.{kept, kept_octets, is_kept, joined}
 use Rattle.iim_fields.specs.declared.limits.Limits.{Limits}
 use Rattle.iim_object.specs.Behind.{of_record}
-use Rattle.iim_unpack.specs.Framed.{AreWithin}
-use Rattle.iim_unpack.specs.Tokens.{HaveRoom}
+use Rattle.iim_unpack.specs.Format.Framed.{AreWithin}
+use Rattle.iim_unpack.specs.Format.Tokens.{HaveRoom}
 
 -- ---- datasets after others
 

@@ -9,11 +9,12 @@ use Rattle.iim_dataset.specs.declared.place.DatasetPlace.TheVariants.{Tag, Insid
 use Rattle.iim_fields.specs.declared.limits.Limits.{Limits}
 use Rattle.iim_object.specs.Told.{ReadersTellSizes}
 use Rattle.iim_unpack.specs.Parts.{StandsFor, has_ended}
-use Rattle.iim_unpack.specs.Possible.{AreOpenOrWhole, LimitsAreToldByPlace}
+use Rattle.iim_unpack.specs.Format.Possible.{AreOpenOrWhole, LimitsAreToldByPlace}
 use Rattle.iim_unpack.specs.Restoring.{ReadersMakeUnpackers}
 use Rattle.iim_unpack.specs.Routing.{Takes, HasEnded}
-use Rattle.iim_unpack.specs.Tickets.{Place, IsPlaceOf}
-use Rattle.iim_unpack.specs.Unpacking.{Unpacking, Stands, IsDoneWith, IsOpen, IsUnpacking}
+use Rattle.iim_unpack.specs.Format.Tickets.{Place, IsPlaceOf}
+use Rattle.iim_unpack.specs.Unpacking.{Unpacking, Stands, IsDoneWith, IsUnpacking}
+use Rattle.iim_unpack.specs.Format.Open.{IsOpen}
 use Rattle.iim_unpack.specs.declared.parts.Parts.{Parts}
 use Rattle.iim_unpack.specs.LowerLaws.{RestoreLaws}
 use Rattle.iim_unpack.proofs.Ended.{unended_inside}

@@ -23,10 +23,10 @@ use Rattle.iim_object.specs.Behind.{of_record, place_behind}
 use Rattle.iim_object.specs.Plans.{max_subfiles}
 use Rattle.wire_story.specs.Tokens.{Octet, End}
 use Rattle.wire_message.specs.Layers.{MessageLanguage, MessageLivesWith, StoryLivesIn}
-use Rattle.iim_unpack.specs.Admitted.{object_of}
-use Rattle.iim_unpack.specs.Framed.{AreWithin}
-use Rattle.iim_unpack.specs.Parts.{AllGoOn, object_so_far, section}
-use Rattle.iim_unpack.specs.Tokens.{MayGoOn, ObjectLives}
+use Rattle.iim_unpack.specs.Format.Admitted.{object_of}
+use Rattle.iim_unpack.specs.Format.Framed.{AreWithin}
+use Rattle.iim_unpack.specs.Format.Open.{AllGoOn, object_so_far, section}
+use Rattle.iim_unpack.specs.Format.Tokens.{MayGoOn, ObjectLives}
 use Rattle.iim_unpack.specs.LowerLaws.{OnwardLaws}
 use Rattle.iim_unpack.proofs.Answering.{nothing_held}
 use Rattle.iim_unpack.proofs.Closing.{object_of_more}

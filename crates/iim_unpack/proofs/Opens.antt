@@ -6,8 +6,8 @@ use Rattle.iim_dataset.specs.Laws.{NoTagBeginsAnother, NoDatasetBeginsAnother}
 use Rattle.iim_fields.specs.Records.{AreSections}
 use Rattle.iim_fields.specs.Laws.{NoSectionsBeginOthers}
 use Rattle.iim_fields.specs.declared.limits.Limits.{Limits}
-use Rattle.iim_unpack.specs.Tokens.{MayGoOn}
-use Rattle.iim_unpack.specs.Unpacking.{OpenOctetsBeginWithNoEnvelope}
+use Rattle.iim_unpack.specs.Format.Tokens.{MayGoOn}
+use Rattle.iim_unpack.specs.Format.Open.{OpenOctetsBeginWithNoEnvelope}
 use Rattle.iim_unpack.proofs.Frames.{compare}
 use Rattle.iim_unpack.proofs.Fronts.{begun_none}
 

@@ -11,14 +11,15 @@ use Rattle.wire_story.specs.Laws.{DeliveryMayBeCut, TextsAreDeliveredAsLines}
 use Rattle.wire_message.specs.Layers.{text_so_far}
 use Rattle.wire_message.specs.Laws.{TextsStandBetweenStxAndEtx}
 use Rattle.wire_message.specs.declared.place.Place.TheVariants.{AfterEnd}
-use Rattle.iim_unpack.specs.Admitted.{Value, Admits, object_of}
+use Rattle.iim_unpack.specs.Format.Admitted.{Value, Admits, object_of}
 use Rattle.iim_unpack.specs.Intakes.{OpenOctetsAreBounded}
 use Rattle.iim_unpack.specs.LowerLaws.{FeedLaws}
 use Rattle.iim_unpack.specs.Pieces.{stream_of, IsUnpacked, IsTurnedDown, DoneIn, HasFed, IsAnswer}
-use Rattle.iim_unpack.specs.Refusals.{refusal_at}
-use Rattle.iim_unpack.specs.Streams.{Answer, Answers, Finished, Refused, Truncated, IsEnvelopeWithin, IsFinished, IsRefused, EnvelopesAreBounded, RefusedOctetsWereOpen, StreamsHaveOneAnswer}
-use Rattle.iim_unpack.specs.Unpacking.{Unpacking, Stands, IsDone, IsDoneWith, IsOpen, IsTextOf, Adds, Goes, IsRefusedIn, IsTruncatedAt, RefusesNext, limits_in, raised}
-use Rattle.iim_unpack.specs.Value.{HasParts}
+use Rattle.iim_unpack.specs.Format.Refusals.{refusal_at}
+use Rattle.iim_unpack.specs.Format.Streams.{Answer, Answers, Finished, Refused, Truncated, IsEnvelopeWithin, IsFinished, IsRefused, EnvelopesAreBounded, RefusedOctetsWereOpen, StreamsHaveOneAnswer}
+use Rattle.iim_unpack.specs.Unpacking.{Unpacking, Stands, IsDone, IsDoneWith, Goes, IsRefusedIn, limits_in, raised}
+use Rattle.iim_unpack.specs.Format.Open.{IsOpen, IsTextOf, Adds, IsTruncatedAt, RefusesNext}
+use Rattle.iim_unpack.specs.Format.Value.{HasParts}
 use Rattle.iim_unpack.specs.declared.refusal.Refusal.{Refusal}
 use Rattle.iim_unpack.specs.Parts.{CountsFor}
 use Rattle.iim_unpack.specs.declared.refusal.Cause.{Cause}

@@ -15,7 +15,7 @@ use Rattle.iim_object.specs.Objects.{ObjectToken, NumberRead, SubfileBegun, Obje
 use Rattle.iim_object.specs.Places.{Place, MayFollow, place_after, head_token, value_token}
 use Rattle.iim_object.specs.Records.{AreRecords, AreSized}
 use Rattle.iim_object.specs.Behind.{of_record, place_behind, place_ended, DatasetsLiveWithTheirTokens, DatasetsEndWithTheirTokens}
-use Rattle.iim_unpack.specs.Tokens.{place_at, ObjectLives}
+use Rattle.iim_unpack.specs.Format.Tokens.{place_at, ObjectLives}
 use Rattle.iim_unpack.proofs.Objects.{records_alive}
 use Rattle.iim_unpack.specs.LowerLaws.{ObjectLaws}
 

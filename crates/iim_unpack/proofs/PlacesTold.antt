@@ -14,11 +14,13 @@ use Rattle.wire_message.specs.declared.saved.MessagePart.TheVariants.{AfterEnd}
 use Rattle.wire_message.specs.declared.saved.MessagePlace.{MessagePlace}
 use Rattle.iim_unpack.specs.ByLayers.{LeadsByLayers, PlacesArePossibleByLayers, TagsLead, RecordsLive, are_ended, begun_of_object, begun_subfiles, object_after, one_of_some, record_datasets}
 use Rattle.iim_unpack.specs.Plain.{Numbers, number_list, plain}
-use Rattle.iim_unpack.specs.Possible.{TicketsOfPlacesAreSplit, AreHeadsWithin, begun_count, begun_fields, split_of, widest}
-use Rattle.iim_unpack.specs.Restoring.{AreAt, octets_told, IsLimitFault, IsMadeFor, IsRestoreFault, IsTicketAt, LeadsNowhere, ObjectStands, MessageStands, RecordsStand, has_come, place_told}
+use Rattle.iim_unpack.specs.Possible.{TicketsOfPlacesAreSplit, split_of}
+use Rattle.iim_unpack.specs.Format.Possible.{AreHeadsWithin, begun_count, begun_fields, widest}
+use Rattle.iim_unpack.specs.Restoring.{AreAt, IsLimitFault, IsMadeFor, LeadsNowhere, ObjectStands, MessageStands, RecordsStand, has_come, place_told}
+use Rattle.iim_unpack.specs.Format.Restored.{octets_told, IsRestoreFault, IsTicketAt}
 use Rattle.iim_unpack.specs.Taking.{AreKept, IsMessageOf, numbers_told, tag_place, told_datasets}
-use Rattle.iim_unpack.specs.TicketParts.{HasForm, Split, SplitsInto, TicketsHaveOneSplit, split_octets}
-use Rattle.iim_unpack.specs.Tickets.{Place, part_number}
+use Rattle.iim_unpack.specs.Format.TicketForm.{HasForm, Split, SplitsInto, TicketsHaveOneSplit, split_octets}
+use Rattle.iim_unpack.specs.Format.Tickets.{Place, part_number}
 use Rattle.iim_unpack.specs.Unpacking.{Unpacking, limits_in}
 use Rattle.iim_unpack.specs.declared.possible.Readers.{Readers}
 use Rattle.iim_unpack.specs.declared.ticket_fault.TicketFault.{TicketFault}

@@ -17,10 +17,10 @@ use Rattle.iim_object.specs.Packing.{number_dataset, subfile_datasets}
 use Rattle.iim_object.specs.Saved.{stated_numbers}
 use Rattle.iim_object.specs.Sizes.{Stated, number_at}
 use Rattle.wire_message.specs.Saved.{LeadToSaved}
-use Rattle.iim_unpack.specs.Admitted.{object_of}
+use Rattle.iim_unpack.specs.Format.Admitted.{object_of}
 use Rattle.iim_unpack.specs.Begins.{IsNumber}
-use Rattle.iim_unpack.specs.Parts.{object_so_far, section}
-use Rattle.iim_unpack.specs.Tickets.{phase_of, heads_of}
+use Rattle.iim_unpack.specs.Format.Open.{object_so_far, section}
+use Rattle.iim_unpack.specs.Format.Tickets.{phase_of, heads_of}
 use Rattle.iim_unpack.specs.Plain.{Numbers, number_list, mode_dataset, one_dataset, plain_numbers, filled, plain_end, plain, AreSpellable, begun_object, begun_heads, PlainOctetsLeadToTheirPlace}
 
 -- The datasets tell these fields, numbers, object octets and heads.

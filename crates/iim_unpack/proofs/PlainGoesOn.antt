@@ -22,7 +22,7 @@ use Rattle.iim_object.specs.Packing.{number_dataset, subfile_datasets}
 use Rattle.iim_object.specs.Records.{numbers_of}
 use Rattle.iim_object.specs.Sizes.{Stated, InRow, number_at}
 use Rattle.iim_object.specs.Saved.{stated_numbers}
-use Rattle.iim_unpack.specs.Admitted.{object_of}
+use Rattle.iim_unpack.specs.Format.Admitted.{object_of}
 use Rattle.iim_unpack.specs.Begins.{IsNumber}
 use Rattle.iim_unpack.specs.LowerLaws.{AnswerLaws}
 use Rattle.iim_unpack.specs.Plain.{Numbers, number_list, mode_dataset, one_dataset, plain_numbers, filled, plain_end, PlainDatasetsGoOnAlike}

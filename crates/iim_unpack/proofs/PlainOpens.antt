@@ -30,15 +30,15 @@ use Rattle.wire_message.specs.Layers.{MessageLanguage, StoryLivesIn}
 use Rattle.wire_message.specs.Messages.{IsMessage}
 use Rattle.wire_message.specs.Saved.{LeadToSaved}
 use Rattle.wire_message.specs.declared.saved.MessagePlace.{MessagePlace}
-use Rattle.iim_unpack.specs.Admitted.{Value, object_of}
+use Rattle.iim_unpack.specs.Format.Admitted.{Value, object_of}
 use Rattle.iim_unpack.specs.Begins.{IsNumber}
-use Rattle.iim_unpack.specs.Framed.{AreWithin}
-use Rattle.iim_unpack.specs.Parts.{object_so_far, section, AllGoOn}
+use Rattle.iim_unpack.specs.Format.Framed.{AreWithin}
+use Rattle.iim_unpack.specs.Format.Open.{object_so_far, section, AllGoOn}
 use Rattle.iim_unpack.specs.Plain.{number_list, filled, plain_end, plain_of, plain_octets, IsPlain, PlainOctetsAreOpenOrWhole}
-use Rattle.iim_unpack.specs.Possible.{AreOpenOrWhole, widest}
-use Rattle.iim_unpack.specs.Streams.{IsEnvelopeWithin}
-use Rattle.iim_unpack.specs.Tickets.{Place, IsPlaceOf, place_of}
-use Rattle.iim_unpack.specs.Tokens.{place_at, ObjectLives, MayGoOn}
+use Rattle.iim_unpack.specs.Format.Possible.{AreOpenOrWhole, widest}
+use Rattle.iim_unpack.specs.Format.Streams.{IsEnvelopeWithin}
+use Rattle.iim_unpack.specs.Format.Tickets.{Place, IsPlaceOf, place_of}
+use Rattle.iim_unpack.specs.Format.Tokens.{place_at, ObjectLives, MayGoOn}
 use Rattle.iim_unpack.specs.LowerLaws.{AnswerLaws, OpenLaws, SizeLaws}
 use Rattle.iim_unpack.proofs.Answering.{one_reading, reads_envelope, goes_envelope, nothing_held}
 use Rattle.iim_unpack.proofs.Bounds.{object_fits}

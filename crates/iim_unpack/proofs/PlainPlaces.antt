@@ -19,14 +19,14 @@ use Rattle.iim_object.specs.Records.{lengths_of, numbers_of}
 use Rattle.iim_object.specs.Sizes.{Stated, InRow, number_at, mode_number}
 use Rattle.iim_object.specs.Living.{SubfilesLiveWhileTheyFit}
 use Rattle.iim_object.specs.Packing.{number_dataset, subfile_datasets}
-use Rattle.iim_unpack.specs.Admitted.{object_of}
+use Rattle.iim_unpack.specs.Format.Admitted.{object_of}
 use Rattle.iim_unpack.specs.LowerLaws.{AnswerLaws}
 use Rattle.wire_message.specs.Saved.{LeadToSaved}
 use Rattle.wire_message.specs.declared.saved.MessagePlace.{MessagePlace}
-use Rattle.iim_unpack.specs.Parts.{section, object_so_far}
-use Rattle.iim_unpack.specs.Tickets.{Place, AllEnded, TagBegun, phase_of, heads_of, place_of}
-use Rattle.iim_unpack.specs.Tokens.{ObjectLives}
-use Rattle.iim_unpack.specs.Possible.{widest}
+use Rattle.iim_unpack.specs.Format.Open.{section, object_so_far}
+use Rattle.iim_unpack.specs.Format.Tickets.{Place, AllEnded, TagBegun, phase_of, heads_of, place_of}
+use Rattle.iim_unpack.specs.Format.Tokens.{ObjectLives}
+use Rattle.iim_unpack.specs.Format.Possible.{widest}
 use Rattle.iim_unpack.specs.Plain.{Numbers, plain_numbers, filled, number_list, mode_dataset, one_dataset, plain_end, plain, begun_object, begun_heads, IsPlain, PossiblePlacesArePlain}
 use Rattle.iim_unpack.proofs.Bounds.{IsFive, alive_five, tag_low}
 use Rattle.iim_unpack.proofs.Fitting.{Lived, lived, each_octets, each_low, numbers_fit, ones_in, taken_fits}

@@ -7,7 +7,7 @@ use Rattle.iim_fields.specs.Alive.{IsAlive}
 use Rattle.iim_fields.specs.declared.limits.Limits.{Limits}
 use Rattle.iim_object.specs.Records.{AreSized}
 use Rattle.iim_object.specs.Behind.{DatasetsLiveWithTheirTokens}
-use Rattle.iim_unpack.specs.Tokens.{GoOnAt, DiesAtHead, DiesAtValue}
+use Rattle.iim_unpack.specs.Format.Tokens.{GoOnAt, DiesAtHead, DiesAtValue}
 use Rattle.iim_unpack.specs.declared.refusal.Layer.{Layer}
 use Rattle.iim_unpack.specs.declared.refusal.Layer.TheVariants as layers
 use Rattle.iim_unpack.proofs.Places.{lives_behind}

@@ -21,13 +21,13 @@ use Rattle.iim_object.specs.declared.fault.SizeCause.{SizeCause}
 use Rattle.wire_message.specs.Layers.{MessageDiesAt}
 use Rattle.wire_message.specs.Reading.{HasCause}
 use Rattle.wire_story.specs.Tokens.{End}
-use Rattle.iim_unpack.specs.Admitted.{object_of}
-use Rattle.iim_unpack.specs.Continuing.{PlacesRefuseAlike}
-use Rattle.iim_unpack.specs.Parts.{AllGoOn, IsUnfinished, object_so_far}
-use Rattle.iim_unpack.specs.Refusals.{of_field, size_on, too_many_on}
-use Rattle.iim_unpack.specs.Streams.{RefusedOctetsWereOpen}
-use Rattle.iim_unpack.specs.Tokens.{DiesAtHead, DiesAtValue, GoOnAt, HaveRoom, IsRefusedHead, IsRefusedValue, ObjectLives, fault_at_head, fault_at_value, place_at}
-use Rattle.iim_unpack.specs.Unpacking.{IsBadHeadAt, IsBadOctetAt, IsBadTagAt, IsBadValueAt, OpenOctetsBeginWithNoEnvelope, RefusesNext}
+use Rattle.iim_unpack.specs.Format.Admitted.{object_of}
+use Rattle.iim_unpack.specs.Format.Continuing.{PlacesRefuseAlike}
+use Rattle.iim_unpack.specs.Format.Open.{AllGoOn, IsUnfinished, object_so_far}
+use Rattle.iim_unpack.specs.Format.Refusals.{of_field, size_on, too_many_on}
+use Rattle.iim_unpack.specs.Format.Streams.{RefusedOctetsWereOpen}
+use Rattle.iim_unpack.specs.Format.Tokens.{DiesAtHead, DiesAtValue, GoOnAt, HaveRoom, IsRefusedHead, IsRefusedValue, ObjectLives, fault_at_head, fault_at_value, place_at}
+use Rattle.iim_unpack.specs.Format.Open.{IsBadHeadAt, IsBadOctetAt, IsBadTagAt, IsBadValueAt, OpenOctetsBeginWithNoEnvelope, RefusesNext}
 use Rattle.iim_unpack.specs.declared.fault.Fault.{Fault}
 use Rattle.iim_unpack.specs.declared.refusal.Layer.{Layer}
 use Rattle.iim_unpack.specs.declared.refusal.Layer.TheVariants as layers

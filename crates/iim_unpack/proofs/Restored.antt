@@ -34,18 +34,20 @@ use Rattle.wire_message.specs.declared.place.Place.{Place as Message}
 use Rattle.wire_message.specs.declared.place.Place.TheVariants as at_message
 use Rattle.wire_message.specs.declared.saved.MessagePart.TheVariants as part
 use Rattle.wire_message.specs.declared.saved.MessagePlace.{MessagePlace}
-use Rattle.iim_unpack.specs.Admitted.{Value, object_of}
+use Rattle.iim_unpack.specs.Format.Admitted.{Value, object_of}
 use Rattle.iim_unpack.specs.Begins.{IsNumber}
 use Rattle.iim_unpack.specs.ByLayers.{LeadsByLayers, RecordsLive, record_datasets, begun_of_object, object_after, one_of_some, are_ended, begun_subfiles}
 use Rattle.iim_unpack.specs.LowerLaws.{RestoreLaws}
-use Rattle.iim_unpack.specs.Parts.{object_so_far, section, Behind, Within, StandsFor, has_ended}
+use Rattle.iim_unpack.specs.Format.Open.{object_so_far, section}
+use Rattle.iim_unpack.specs.Parts.{Behind, Within, StandsFor, has_ended}
 use Rattle.iim_unpack.specs.Plain.{Numbers, number_list, plain}
 use Rattle.iim_unpack.specs.Restoring.{IsMadeFor, RecordsStand, MessageStands, has_come}
-use Rattle.iim_unpack.specs.Streams.{IsEnvelopeWithin}
+use Rattle.iim_unpack.specs.Format.Streams.{IsEnvelopeWithin}
 use Rattle.iim_unpack.specs.Taking.{tag_place}
-use Rattle.iim_unpack.specs.Tickets.{Place, Phase, TagBegun, AllEnded, IsPlaceOf, phase_of, place_of}
-use Rattle.iim_unpack.specs.Tokens.{place_at, ObjectLives, GoOn, GoOnAt, MayGoOn}
-use Rattle.iim_unpack.specs.Unpacking.{Unpacking, Stands, IsDoneWith, IsOpen, are_some}
+use Rattle.iim_unpack.specs.Format.Tickets.{Place, Phase, TagBegun, AllEnded, IsPlaceOf, phase_of, place_of}
+use Rattle.iim_unpack.specs.Format.Tokens.{place_at, ObjectLives, GoOn, GoOnAt, MayGoOn}
+use Rattle.iim_unpack.specs.Unpacking.{Unpacking, Stands, IsDoneWith, are_some}
+use Rattle.iim_unpack.specs.Format.Open.{IsOpen}
 use Rattle.iim_unpack.specs.declared.parts.Parts.{Parts}
 use Rattle.iim_unpack.proofs.Alike.{Fits, told_by}
 use Rattle.iim_unpack.proofs.Answering.{one_reading, reads_envelope, goes_envelope}

@@ -6,10 +6,10 @@ use Rattle.iim_fields.specs.Standing.{IsWithin}
 use Rattle.iim_fields.specs.declared.limits.Limits.{Limits}
 use Rattle.iim_unpack.specs.Begins.{AreNumbers}
 use Rattle.iim_unpack.specs.ByLayers.{TagsLead, RecordsLive, head_at}
-use Rattle.iim_unpack.specs.Possible.{begun_count, begun_fields}
+use Rattle.iim_unpack.specs.Format.Possible.{begun_count, begun_fields}
 use Rattle.iim_unpack.specs.Restoring.{HasFew, MayBegin, AreWithinWith}
 use Rattle.iim_unpack.specs.Taking.{AreKept, GoOnWithin, numbers_told, told_datasets}
-use Rattle.iim_unpack.specs.Tickets.{Phase, DataBegun}
+use Rattle.iim_unpack.specs.Format.Tickets.{Phase, DataBegun}
 use Rattle.iim_unpack.proofs.AtPlaces.{fits_told, live_alive}
 use Rattle.iim_unpack.proofs.Plain.{plain_told}
 

@@ -35,12 +35,14 @@ use Rattle.wire_message.specs.SoFar.{LeadTo}
 use Rattle.wire_message.specs.Saved.{LeadToSaved}
 use Rattle.wire_message.specs.declared.place.Place.{Place as Message}
 use Rattle.wire_message.specs.declared.saved.MessagePlace.{MessagePlace}
-use Rattle.iim_unpack.specs.Admitted.{object_of}
+use Rattle.iim_unpack.specs.Format.Admitted.{object_of}
 use Rattle.iim_unpack.specs.LowerLaws.{PlaceLaws}
-use Rattle.iim_unpack.specs.Tokens.{place_at, ObjectLives, GoOn, GoOnAt}
-use Rattle.iim_unpack.specs.Parts.{object_so_far, section, Behind, Within, StandsFor, AllGoOn}
-use Rattle.iim_unpack.specs.Unpacking.{IsOpen, limits_in, are_some}
-use Rattle.iim_unpack.specs.Tickets.{Place, Phase, TagBegun, DataBegun, AllEnded, phase_of, heads_of, place_of}
+use Rattle.iim_unpack.specs.Format.Tokens.{place_at, ObjectLives, GoOn, GoOnAt}
+use Rattle.iim_unpack.specs.Format.Open.{object_so_far, section, AllGoOn}
+use Rattle.iim_unpack.specs.Parts.{Behind, Within, StandsFor}
+use Rattle.iim_unpack.specs.Format.Open.{IsOpen}
+use Rattle.iim_unpack.specs.Unpacking.{limits_in, are_some}
+use Rattle.iim_unpack.specs.Format.Tickets.{Place, Phase, TagBegun, DataBegun, AllEnded, phase_of, heads_of, place_of}
 use Rattle.iim_unpack.specs.Possible.{UnpackersStandByPlace}
 use Rattle.iim_unpack.specs.declared.parts.Parts.{Parts}
 use Rattle.iim_unpack.proofs.Following.{alive_of}

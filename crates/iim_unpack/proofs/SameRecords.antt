@@ -20,7 +20,7 @@ use Rattle.iim_object.specs.Places.{Place, NotEnded, Ended, HasBoth, MayFollow, 
 use Rattle.iim_object.specs.Behind.{place_behind, place_ended, RecordsAreByNumber}
 use Rattle.iim_object.specs.Saved.{stated_numbers}
 use Rattle.iim_unpack.specs.ByLayers.{one_of_some}
-use Rattle.iim_unpack.specs.Tokens.{place_at}
+use Rattle.iim_unpack.specs.Format.Tokens.{place_at}
 use Rattle.iim_unpack.specs.LowerLaws.{ObjectLaws, FollowLaws}
 use Rattle.iim_unpack.proofs.Lasts.{SplitLast, split_last, present_last}
 use Rattle.iim_unpack.proofs.Objects.{records_alive}

@@ -7,16 +7,17 @@ use Rattle.iim_fields.specs.declared.limits.Limits.{Limits}
 use Rattle.wire_message.specs.Saved.{saved}
 use Rattle.wire_message.specs.SoFar.{LeadTo}
 use Rattle.wire_message.specs.declared.place.Place.{Place as Message}
-use Rattle.iim_unpack.specs.Admitted.{Value}
-use Rattle.iim_unpack.specs.Continuing.{OctetsHaveOnePlace, RestoredStandAsSaved}
-use Rattle.iim_unpack.specs.Framed.{AreWithin}
+use Rattle.iim_unpack.specs.Format.Admitted.{Value}
+use Rattle.iim_unpack.specs.Format.Continuing.{OctetsHaveOnePlace, RestoredStandAsSaved}
+use Rattle.iim_unpack.specs.Format.Framed.{AreWithin}
 use Rattle.iim_unpack.specs.LowerLaws.{OnwardLaws}
-use Rattle.iim_unpack.specs.Parts.{object_so_far}
-use Rattle.iim_unpack.specs.Possible.{AreOpenOrWhole, Possible, TicketsTellOnePlace, widest}
-use Rattle.iim_unpack.specs.Streams.{IsEnvelopeWithin}
-use Rattle.iim_unpack.specs.Tickets.{Place, IsPlaceOf, place_of, ticket_of}
-use Rattle.iim_unpack.specs.Tokens.{MayGoOn}
-use Rattle.iim_unpack.specs.Unpacking.{IsOpen, limits_in}
+use Rattle.iim_unpack.specs.Format.Open.{object_so_far}
+use Rattle.iim_unpack.specs.Format.Possible.{AreOpenOrWhole, Possible, TicketsTellOnePlace, widest}
+use Rattle.iim_unpack.specs.Format.Streams.{IsEnvelopeWithin}
+use Rattle.iim_unpack.specs.Format.Tickets.{Place, IsPlaceOf, place_of, ticket_of}
+use Rattle.iim_unpack.specs.Format.Tokens.{MayGoOn}
+use Rattle.iim_unpack.specs.Format.Open.{IsOpen}
+use Rattle.iim_unpack.specs.Unpacking.{limits_in}
 use Rattle.iim_unpack.proofs.Answering.{Lives, lives_envelope, lives_open, one_reading}
 use Rattle.iim_unpack.proofs.Following.{message_of, story_of}
 use Rattle.iim_unpack.proofs.Tickets.{same_place}

@@ -3,11 +3,12 @@ use Rattle.std.proofs.Common.{◌≡◌, ℕ, ◌+◌, ◌-◌, ◌<◌, ◌≤�
 use Rattle.std.proofs.lemmas.List.{take-append-drop, length-take}
 use Rattle.std.specs.List.{AllByRecursion, flat_map}
 use Rattle.iim_dataset.specs.Datasets.{Dataset}
-use Rattle.iim_unpack.specs.Tickets.{Phase, TagBegun, DataBegun, AllEnded, ticket_name, four, phase_octets, field_octets, fields_octets, number_octets, text_octets}
+use Rattle.iim_unpack.specs.Format.Tickets.{Phase, TagBegun, DataBegun, AllEnded, ticket_name, four, phase_octets, field_octets, fields_octets, number_octets, text_octets}
 use Rattle.iim_unpack.specs.TicketFields.{IsField, HoldsFields}
 use Rattle.iim_unpack.specs.Begins.{BeginsWithNone, BeginsWithFewer, AreFields, AreNumbers, AreTexts, FieldsBefore, IsFour, IsNumber, IsShort}
 use Rattle.iim_unpack.specs.FieldLaws.{first_same, rest_same, fronts, one_four, one_field, some_octets, same_fields}
-use Rattle.iim_unpack.specs.TicketParts.{IsPhase, IsFaultOf, AreNoMessage, AreNoBody, HasForm, Split, SplitsInto, TicketsHaveOneSplit, split_octets, body_octets, message_parts, came}
+use Rattle.iim_unpack.specs.Format.TicketForm.{IsPhase, IsFaultOf, HasForm, Split, SplitsInto, TicketsHaveOneSplit, split_octets, came}
+use Rattle.iim_unpack.specs.TicketParts.{AreNoMessage, AreNoBody, body_octets, message_parts}
 use Rattle.iim_unpack.specs.declared.ticket_fault.TicketFault.TheVariants.{Form}
 
 -- octets that two spellings begin have one reading

@@ -13,7 +13,7 @@ use Rattle.iim_fields.specs.declared.check.RecordPlace.{RecordPlace}
 use Rattle.iim_fields.specs.declared.fault.FieldFault.{FieldFault}
 use Rattle.iim_fields.specs.declared.limits.Limits.{Limits}
 use Rattle.iim_unpack.specs.Plain.{mode_dataset}
-use Rattle.iim_unpack.specs.Possible.{widest}
+use Rattle.iim_unpack.specs.Format.Possible.{widest}
 use Rattle.iim_unpack.specs.Taking.{GoOnWithin, TookAll}
 use Rattle.iim_unpack.proofs.Limits.{kept_first, kept_octets_append, kept_length_append}
 use Rattle.iim_unpack.proofs.TicketLengths.{all_join, all_weaker}

@@ -1,10 +1,11 @@
 -- Why the ticket of a possible place is refused.
 use Rattle.std.proofs.Common.{◌≡◌, ℕ, ◌<◌, ◌≤◌, List, ◌∷◌, ◌++◌, codes, get_or, refl, ap, sym, subst, ◌∙◌, arith}
 use Rattle.iim_fields.specs.declared.limits.Limits.{Limits}
-use Rattle.iim_unpack.specs.Possible.{AreHeadsWithin, TicketsOfPlacesAreSplit, TicketsTellOnePlace, split_of}
-use Rattle.iim_unpack.specs.Restoring.{IsTicketAt, PossiblePlacesAreTaken, fields_told, octets_told}
-use Rattle.iim_unpack.specs.TicketParts.{HasOtherVersion, SplitsInto}
-use Rattle.iim_unpack.specs.Tickets.{Place, ticket_of}
+use Rattle.iim_unpack.specs.Format.Possible.{AreHeadsWithin, TicketsTellOnePlace}
+use Rattle.iim_unpack.specs.Possible.{TicketsOfPlacesAreSplit, split_of}
+use Rattle.iim_unpack.specs.Format.Restored.{IsTicketAt, PossiblePlacesAreTaken, fields_told, octets_told}
+use Rattle.iim_unpack.specs.Format.TicketForm.{HasOtherVersion, SplitsInto}
+use Rattle.iim_unpack.specs.Format.Tickets.{Place, ticket_of}
 use Rattle.iim_unpack.specs.declared.ticket_fault.TicketFault.{TicketFault}
 use Rattle.iim_unpack.specs.declared.ticket_fault.TicketFault.TheVariants.{Form, Version, Impossible, HeaderFull, TooManyFields, OutOfMemory}
 

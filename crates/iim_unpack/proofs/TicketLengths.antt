@@ -17,7 +17,7 @@ use Rattle.wire_message.specs.declared.place.Place.{Place as Message}
 use Rattle.wire_message.specs.declared.place.Place.TheVariants as at
 use Rattle.wire_message.specs.declared.saved.MessagePlace.{MessagePlace}
 use Rattle.iim_unpack.specs.Parts.{StandsFor}
-use Rattle.iim_unpack.specs.Tickets.{TagBegun, DataBegun, AllEnded, Place, phase_of, place_of, four, phase_octets, field_octets, fields_octets, number_octets, text_octets, texts_octets, part_number, message_octets, ticket_name, ticket_of}
+use Rattle.iim_unpack.specs.Format.Tickets.{TagBegun, DataBegun, AllEnded, Place, phase_of, place_of, four, phase_octets, field_octets, fields_octets, number_octets, text_octets, texts_octets, part_number, message_octets, ticket_name, ticket_of}
 use Rattle.iim_dataset.specs.Laws.{EventsTellTheDatasets}
 use Rattle.iim_unpack.specs.Tickets.{IsSpelled}
 use Rattle.iim_unpack.specs.Unpacking.{Unpacking, IsLed, Stood, limits_in}

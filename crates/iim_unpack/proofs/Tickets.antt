@@ -22,11 +22,13 @@ use Rattle.wire_message.specs.SoFar.{LeadTo}
 use Rattle.wire_message.specs.Saved.{saved, IsAt, LeadToSaved}
 use Rattle.wire_message.specs.declared.place.Place.{Place as Message}
 use Rattle.wire_message.specs.declared.saved.MessagePlace.{MessagePlace}
-use Rattle.iim_unpack.specs.Admitted.{object_of}
-use Rattle.iim_unpack.specs.Tokens.{place_at}
-use Rattle.iim_unpack.specs.Parts.{object_so_far, section, Behind, Within, StandsFor, has_ended}
+use Rattle.iim_unpack.specs.Format.Admitted.{object_of}
+use Rattle.iim_unpack.specs.Format.Tokens.{place_at}
+use Rattle.iim_unpack.specs.Format.Open.{object_so_far, section}
+use Rattle.iim_unpack.specs.Parts.{Behind, Within, StandsFor, has_ended}
 use Rattle.iim_unpack.specs.Unpacking.{Unpacking, IsLed, Stands, IsDoneWith, Stood, limits_in}
-use Rattle.iim_unpack.specs.Tickets.{TagBegun, DataBegun, AllEnded, phase_of, heads_of, place_of, ticket_of, IsTicketOf, OctetsHaveOneTicket, phase_in, IsSpelled}
+use Rattle.iim_unpack.specs.Format.Tickets.{TagBegun, DataBegun, AllEnded, phase_of, heads_of, place_of, ticket_of, IsTicketOf, OctetsHaveOneTicket}
+use Rattle.iim_unpack.specs.Tickets.{phase_in, IsSpelled}
 use Rattle.iim_unpack.specs.declared.parts.Parts.{Parts}
 use Rattle.iim_unpack.proofs.Ended.{ended_behind, unended_inside}
 

@@ -19,9 +19,9 @@ use Rattle.iim_object.specs.Plans.{max_subfiles}
 use Rattle.iim_object.specs.Records.{lengths_of, numbers_of}
 use Rattle.iim_object.specs.Saved.{IsPossible, stated_numbers}
 use Rattle.iim_object.specs.Sizes.{Stated, number_at}
-use Rattle.iim_unpack.specs.Framed.{AreWithin}
+use Rattle.iim_unpack.specs.Format.Framed.{AreWithin}
 use Rattle.iim_unpack.specs.LowerLaws.{ObjectLaws, OpenLaws, SizeLaws}
-use Rattle.iim_unpack.specs.Tokens.{place_at, ObjectLives, HaveRoom, GoOn, GoOnAt}
+use Rattle.iim_unpack.specs.Format.Tokens.{place_at, ObjectLives, HaveRoom, GoOn, GoOnAt}
 use Rattle.iim_unpack.proofs.Bounds.{alive_five}
 use Rattle.iim_unpack.proofs.LayersLead.{each_small}
 use Rattle.iim_unpack.proofs.Plain.{numbers_join}

@@ -2,7 +2,7 @@
 use Rattle.std.specs.Prelude.{◌≡◌, ℕ, ◌^◌, ◌<◌, List, ◌++◌, length, Option, Some, None, ⊤}
 use Rattle.std.specs.List.{AllByRecursion, flat_map}
 use Rattle.iim_dataset.specs.Datasets.{Dataset}
-use Rattle.iim_unpack.specs.Tickets.{field_octets}
+use Rattle.iim_unpack.specs.Format.Tickets.{field_octets}
 use Rattle.iim_unpack.specs.TicketFields.{IsField}
 
 -- a number that four octets tell

@@ -15,9 +15,9 @@ use Rattle.iim_object.specs.Saved.{IsAt, IsPossible}
 use Rattle.wire_message.specs.Saved.{LeadToSaved}
 use Rattle.wire_message.specs.declared.saved.MessagePart.TheVariants.{AfterEnd}
 use Rattle.iim_unpack.specs.Plain.{Numbers, number_list, plain}
-use Rattle.iim_unpack.specs.Possible.{Possible, widest, AreHeadsWithin}
-use Rattle.iim_unpack.specs.TicketParts.{came}
-use Rattle.iim_unpack.specs.Tickets.{Place, Phase, TagBegun, DataBegun, AllEnded}
+use Rattle.iim_unpack.specs.Format.Possible.{Possible, widest, AreHeadsWithin}
+use Rattle.iim_unpack.specs.Format.TicketForm.{came}
+use Rattle.iim_unpack.specs.Format.Tickets.{Place, Phase, TagBegun, DataBegun, AllEnded}
 
 -- ---- the dataset layer
 

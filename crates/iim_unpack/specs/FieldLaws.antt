@@ -5,7 +5,7 @@ use Rattle.std.specs.Int.{w32, from_be_bytes}
 use Rattle.std.specs.List.{AllByRecursion, flat_map}
 use Rattle.std.proofs.lemmas.Nat.{from_be_bytes-to_be_bytes_4}
 use Rattle.iim_dataset.specs.Datasets.{Dataset}
-use Rattle.iim_unpack.specs.Tickets.{four, field_octets}
+use Rattle.iim_unpack.specs.Format.Tickets.{four, field_octets}
 use Rattle.iim_unpack.specs.TicketFields.{IsField, HoldsFields}
 use mathlib.Core.HLevel.{Σ_prop_path}
 

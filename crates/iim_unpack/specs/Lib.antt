@@ -1,12 +1,6 @@
-pub mod Names
-pub mod Framed
-pub mod Admitted
-pub mod Refusals
-pub mod Tokens
+pub mod Format
 pub mod Blocks
-pub mod Listing
 pub mod Intakes
-pub mod Laws
 pub mod Passed
 pub mod Passing
 pub mod Sequence
@@ -15,7 +9,6 @@ pub mod Going
 pub mod Routing
 pub mod Unpacking
 pub mod LowerLaws
-pub mod Streams
 pub mod Tickets
 pub mod Possible
 pub mod Begins
@@ -26,7 +19,5 @@ pub mod Plain
 pub mod ByLayers
 pub mod Taking
 pub mod Restoring
-pub mod Continuing
 pub mod Nowhere
-pub mod Value
 pub mod Pieces

@@ -1,11 +1,10 @@
 -- Where the parts of an unpacker stand, and what heads, data and ends of datasets lead them to.
-use Rattle.std.specs.Prelude.{◌≡◌, ℕ, ◌<◌, ◌≤◌, ◌==◌, ◌&&◌, ◌⊎◌, if◌then◌else◌, Bool, false, List, [], ◌∷◌, ◌++◌, length, map, Option, Some, is_none, IsSome}
+use Rattle.std.specs.Prelude.{◌≡◌, ℕ, ◌<◌, ◌≤◌, ◌==◌, ◌&&◌, ◌⊎◌, if◌then◌else◌, Bool, false, List, [], ◌∷◌, ◌++◌, length, Option, Some, is_none, IsSome}
 use Rattle.iim_dataset.specs.Octets.{Octets}
 use Rattle.iim_dataset.specs.Datasets.{Dataset}
 use Rattle.iim_dataset.specs.Devices.{Rose}
 use Rattle.iim_dataset.specs.Splits.{Begun, InTag, InData}
 use Rattle.iim_dataset.specs.Events.{Event, HeadRead, DataOctet, DatasetEnd, handed_on}
-use Rattle.iim_dataset.specs.Languages as languages
 use Rattle.iim_dataset.specs.declared.head.Head.{Head}
 use Rattle.iim_fields.specs.Records.{AreSections}
 use Rattle.iim_fields.specs.Faults.{present_record}
@@ -16,42 +15,18 @@ use Rattle.iim_object.specs.Plans.{max_subfiles}
 use Rattle.iim_object.specs.Reading as objects
 use Rattle.iim_object.specs.Behind.{of_record, place_behind}
 use Rattle.wire_story.specs.Delivery as story
-use Rattle.wire_story.specs.Tokens.{OctetOrEnd, End, Octet}
-use Rattle.wire_message.specs.Layers.{MessageLanguage, MessageDiesAt, text_so_far, StoryLivesIn}
+use Rattle.wire_message.specs.Layers.{text_so_far}
 use Rattle.wire_message.specs.Reading as wire
 use Rattle.wire_message.specs.declared.fault.MessageCause.{MessageCause}
-use Rattle.wire_message.specs.declared.fault.MessageCause.TheVariants.{Unfinished}
-use Rattle.iim_unpack.specs.Admitted.{object_of}
-use Rattle.iim_unpack.specs.Tokens.{place_at, GoOnAt, IsRefusedHead, IsRefusedValue}
-use Rattle.iim_unpack.specs.Tokens.{MayGoOn}
-use Rattle.iim_unpack.specs.Refusals.{message_on}
+use Rattle.iim_unpack.specs.Format.Admitted.{object_of}
+use Rattle.iim_unpack.specs.Format.Tokens.{place_at, IsRefusedHead, IsRefusedValue}
+use Rattle.iim_unpack.specs.Format.Refusals.{message_on}
 use Rattle.iim_unpack.specs.Sequence.{AreInOrder}
 use Rattle.iim_unpack.specs.declared.fault.Fault.{Fault}
 use Rattle.iim_unpack.specs.declared.parts.Parts.{Parts}
 use Rattle.iim_unpack.specs.declared.refusal.Cause.{Cause}
 use Rattle.iim_unpack.specs.declared.refusal.Cause.TheVariants.{Sink}
-
--- ---- what octets so far say
-
--- the octets of the object so far: the data of the whole subfiles, and of a begun one
-abbrev pub object_so_far : List Dataset → Begun → List ℕ
-object_so_far ds (InTag held) = object_of ds
-object_so_far ds (InData h taken) = object_of ds ++ (if h.rec == 8 then taken else [])
-
--- the record of the last head
-abbrev pub section : List Dataset → Begun → ℕ
-section ds (InTag held) = present_record ds
-section ds (InData h taken) = h.rec
-
--- the tokens of the message: the octets of the object, and its end with the head of 9:10
-abbrev pub message_tokens : List Dataset → Begun → List OctetOrEnd
-message_tokens ds begun = map Octet (object_so_far ds begun) ++ (if section ds begun == 9 then End ∷ [] else [])
-
--- Every layer can continue with its tokens, within the limits.
-pub record AllGoOn (limits : Limits) (ds : List Dataset) (begun : Begun) : Type 0 where
-  pub sizes : MayGoOn limits ds begun
-  pub message : languages.IsAlive MessageLanguage (message_tokens ds begun)
-  pub story : StoryLivesIn (object_so_far ds begun)
+use Rattle.iim_unpack.specs.Format.Open.{object_so_far, AllGoOn, IsUnfinished}
 
 -- ---- where the parts stand
 
@@ -117,13 +92,6 @@ pub record Went {S : Type 0} (goes : S → List story.Event → S → Type 0) (f
   pub told : goes a (story.delivered more) b
   pub calm : failures b ≡ failures a
   pub leads : (before : List Event) (text : List ℕ) → AreInOrder (before ++ events) → Led old before text → Led new (before ++ events) (text ++ more)
-
--- With the head of 9:10 no message ends, though all layers that are asked before can continue.
-pub record IsUnfinished (limits : Limits) (ds : List Dataset) (h : Head) (fault : Fault) : Type 0 where
-  pub last : h.rec ≡ 9
-  pub goes_on : GoOnAt limits ds h
-  pub dies : MessageDiesAt (object_of ds) End
-  pub is_fault : fault ≡ message_on h Unfinished
 
 -- why an event is refused after whole datasets and a begun one
 abbrev pub RefusesAt : Limits → List Dataset → Begun → Event → Fault → Type 0

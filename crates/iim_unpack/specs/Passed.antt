@@ -12,7 +12,7 @@ use Rattle.iim_object.specs.declared.state.State.{State}
 use Rattle.iim_object.specs.declared.fault.SizeCause.{SizeCause}
 use Rattle.iim_object.specs.declared.fault.ObjectFault.{ObjectFault}
 use Rattle.iim_object.specs.declared.fault.ObjectFault.TheVariants.{Size, Stopped}
-use Rattle.iim_unpack.specs.Refusals.{size_on, message_on, too_many_on}
+use Rattle.iim_unpack.specs.Format.Refusals.{size_on, message_on, too_many_on}
 use Rattle.iim_unpack.specs.declared.fault.Fault.{Fault}
 use Rattle.iim_unpack.specs.declared.message.ToMessage.{ToMessage}
 use Rattle.wire_story.specs.Delivery as story

@@ -3,11 +3,12 @@ use Rattle.std.specs.Prelude.{◌≡◌, ℕ, ◌<◌, ◌≤◌, ◌⊎◌, Lis
 use Rattle.std.specs.Borrow.{Bor}
 use Rattle.iim_fields.specs.declared.limits.Limits.{Limits}
 use Rattle.wire_story.specs.Delivery as story
-use Rattle.iim_unpack.specs.Admitted.{Value}
-use Rattle.iim_unpack.specs.Refusals.{refusal_at}
-use Rattle.iim_unpack.specs.Streams.{Answer, Finished, Refused, Truncated, IsFinished, IsTruncated}
-use Rattle.iim_unpack.specs.Unpacking.{Unpacking, Stands, IsDoneWith, Adds, RefusesNext, limits_in}
-use Rattle.iim_unpack.specs.Value.{HasParts}
+use Rattle.iim_unpack.specs.Format.Admitted.{Value}
+use Rattle.iim_unpack.specs.Format.Refusals.{refusal_at}
+use Rattle.iim_unpack.specs.Format.Streams.{Answer, Finished, Refused, Truncated, IsFinished, IsTruncated}
+use Rattle.iim_unpack.specs.Unpacking.{Unpacking, Stands, IsDoneWith, limits_in}
+use Rattle.iim_unpack.specs.Format.Open.{Adds, RefusesNext}
+use Rattle.iim_unpack.specs.Format.Value.{HasParts}
 use Rattle.iim_unpack.specs.declared.fault.Fault.{Fault}
 use Rattle.iim_unpack.specs.declared.refusal.Refusal.{Refusal}
 use Rattle.iim_unpack.specs.declared.unpacker.Unpacked.{Unpacked}

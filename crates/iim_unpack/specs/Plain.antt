@@ -15,14 +15,14 @@ use Rattle.iim_object.specs.Records.{numbers_of}
 use Rattle.iim_object.specs.Places as objects
 use Rattle.iim_object.specs.Saved.{IsPossible, stated_numbers}
 use Rattle.iim_object.specs.Sizes.{AreStated, number_at}
-use Rattle.iim_unpack.specs.Admitted.{object_of}
+use Rattle.iim_unpack.specs.Format.Admitted.{object_of}
 use Rattle.iim_object.specs.Packing.{number_dataset, subfile_datasets, confirmed_datasets}
 use Rattle.wire_message.specs.Saved.{LeadToSaved}
 use Rattle.wire_message.specs.declared.saved.MessagePlace.{MessagePlace}
 use Rattle.iim_unpack.specs.Begins.{IsNumber}
-use Rattle.iim_unpack.specs.Parts.{section}
-use Rattle.iim_unpack.specs.Possible.{Possible, AreOpenOrWhole, widest}
-use Rattle.iim_unpack.specs.Tickets.{Place, phase_of, IsPlaceOf}
+use Rattle.iim_unpack.specs.Format.Open.{section}
+use Rattle.iim_unpack.specs.Format.Possible.{Possible, AreOpenOrWhole, widest}
+use Rattle.iim_unpack.specs.Format.Tickets.{Place, phase_of, IsPlaceOf}
 
 -- what a ticket tells of record 7: the numbers of 7:10, 7:20, 7:90 and 7:95
 pub record Numbers : Type 0 where

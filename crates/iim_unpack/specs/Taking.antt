@@ -14,7 +14,7 @@ use Rattle.wire_message.specs.declared.saved.MessagePlace.{MessagePlace}
 use Rattle.iim_unpack.specs.ByLayers.{head_at}
 use Rattle.iim_unpack.specs.Plain.{Numbers, plain}
 use Rattle.iim_unpack.specs.Possible.{texts_of}
-use Rattle.iim_unpack.specs.Tickets.{Phase, TagBegun, DataBegun, AllEnded, part_number}
+use Rattle.iim_unpack.specs.Format.Tickets.{Phase, TagBegun, DataBegun, AllEnded, part_number}
 
 -- all are of records 1 and 2
 abbrev pub AreKept : List Dataset → Type 0

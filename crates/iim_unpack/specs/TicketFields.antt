@@ -2,7 +2,7 @@
 use Rattle.std.specs.Prelude.{◌≡◌, ℕ, ◌^◌, ◌<◌, List, length}
 use Rattle.std.specs.List.{AllByRecursion, flat_map}
 use Rattle.iim_dataset.specs.Datasets.{Dataset}
-use Rattle.iim_unpack.specs.Tickets.{field_octets}
+use Rattle.iim_unpack.specs.Format.Tickets.{field_octets}
 
 -- a dataset whose length four octets tell
 abbrev pub IsField : Dataset → Type 0

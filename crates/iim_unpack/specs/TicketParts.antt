@@ -1,69 +1,14 @@
--- The parts of a ticket, whether or not some place has it.
-use Rattle.std.specs.Prelude.{◌≡◌, ℕ, ◌-◌, ◌^◌, ◌<◌, ◌≤◌, ◌==◌, if◌then◌else◌, List, [], ◌∷◌, ◌++◌, ◌≢◌, length, map, codes, Option, ⊤}
+-- The parts of a ticket, one by one.
+use Rattle.std.specs.Prelude.{◌≡◌, ℕ, ◌-◌, ◌≤◌, List, ◌∷◌, ◌++◌, length, map, codes}
 use Rattle.std.specs.List.{flat_map}
-use Rattle.iim_dataset.specs.Datasets.{Dataset}
-use Rattle.iim_unpack.specs.Tickets.{Phase, TagBegun, DataBegun, AllEnded, layout, four, phase_octets, fields_octets, number_octets, text_octets}
-use Rattle.iim_unpack.specs.Begins.{AreFields, AreNumbers, AreTexts}
+use Rattle.iim_unpack.specs.Format.Tickets.{Phase, TagBegun, DataBegun, AllEnded, four, phase_octets, fields_octets, number_octets, text_octets}
+use Rattle.iim_unpack.specs.Begins.{AreTexts}
 use Rattle.iim_unpack.specs.declared.ticket_fault.TicketFault.{TicketFault}
 use Rattle.iim_unpack.specs.declared.ticket_fault.TicketFault.TheVariants.{Form, Version}
 use Rattle.iim_unpack.specs.declared.ticket_parts.TicketParts.{TicketParts}
 use Rattle.iim_unpack.specs.declared.ticket_parts.TicketPhase.{TicketPhase}
 use Rattle.iim_unpack.specs.declared.ticket_parts.TicketPhase.TheVariants.{Tag, Data, Ended}
-
--- ---- parts
-
--- The section; what is begun; the datasets; the numbers of record 7; how many octets of the object, and how many heads of 8:10, have
--- come; of the message the part, the counter, the flag and the texts.
-pub record Split : Type 0 where
-  pub section : ℕ
-  pub phase : Phase
-  pub fields : List Dataset
-  pub numbers : List (Option ℕ)
-  pub taken : ℕ
-  pub heads : ℕ
-  pub part : ℕ
-  pub counter : ℕ
-  pub flag : ℕ
-  pub texts : List (List ℕ)
-
--- the octets of these parts
-abbrev pub split_octets : Split → List ℕ
-split_octets s = layout s.section s.phase s.fields s.numbers s.taken s.heads ((s.part ∷ s.counter ∷ s.flag ∷ []) ++ flat_map text_octets s.texts)
-
--- how many octets of begun data stand there
-abbrev pub came : (section count left : ℕ) → ℕ
-came section count left = if section == 8 then 0 else count - left
-
--- Of a tag at most 8 octets are held. Of data no more are to come than its count, and what has come stands there unless it is a subfile's.
-abbrev pub IsPhase : ℕ → Phase → Type 0
-IsPhase section (TagBegun held) = length held ≤ 8
-IsPhase section (DataBegun set count left taken) = (count < 2 ^ 32) × (left ≤ count) × (length taken ≡ came section count left)
-IsPhase section AllEnded = ⊤
-
--- The parts have the form of a ticket's: each number is one that its octets can tell.
-pub record HasForm (s : Split) : Type 0 where
-  pub phase : IsPhase s.section s.phase
-  pub fields : AreFields s.fields
-  pub numbers : AreNumbers s.numbers
-  pub taken : s.taken < 2 ^ 32
-  pub heads : s.heads < 2 ^ 32
-  pub texts : AreTexts s.texts
-
--- The octets have the form of a ticket, with these parts.
-pub record SplitsInto (ticket : List ℕ) (s : Split) : Type 0 where
-  pub form : HasForm s
-  pub spelled : ticket ≡ split_octets s
-
--- The octets begin with a ticket's name, and with a version other than 1.
-pub record HasOtherVersion (ticket : List ℕ) : Type 0 where
-  pub version : ℕ
-  pub rest : List ℕ
-  pub named : ticket ≡ codes "IIMT" ++ version ∷ rest
-  pub other : version ≢ 1
-
--- A ticket has one split.
-abbrev pub TicketsHaveOneSplit : Type 0
-TicketsHaveOneSplit = (ticket : List ℕ) (s t : Split) → SplitsInto ticket s → SplitsInto ticket t → s ≡ t
+use Rattle.iim_unpack.specs.Format.TicketForm.{Split, IsPhase, HasForm, HasOtherVersion}
 
 -- ---- part by part
 
@@ -120,9 +65,3 @@ split_told p = record {
   flag = p.flag;
   texts = map (λ t. t.now) p.texts;
 }
-
--- The version is told exactly where a ticket's name is followed by another one. The form is told exactly of all else without parts.
-abbrev pub IsFaultOf : List ℕ → TicketFault → Type 0
-IsFaultOf ticket Version = HasOtherVersion ticket
-IsFaultOf ticket Form = (HasOtherVersion ticket → ⊥) × ((s : Split) → SplitsInto ticket s → ⊥)
-IsFaultOf ticket _ = ⊥

@@ -1,148 +1,20 @@
--- The ticket of an unpacker: the place that the octets so far have led to, as octets.
-use Rattle.std.specs.Prelude.{◌≡◌, ℕ, ◌+◌, ◌-◌, ◌==◌, if◌then◌else◌, List, [], ◌∷◌, ◌++◌, length, sum, codes, Option, Some, None}
-use Rattle.std.specs.List.{flat_map}
-use Rattle.std.specs.Int.{w32, to_be_bytes}
+-- What the readers of an unpacker tell of a ticket.
+use Rattle.std.specs.Prelude.{◌≡◌, ℕ, ◌-◌, ◌==◌, if◌then◌else◌, List, length, sum, Option}
 use Rattle.iim_dataset.specs.Datasets.{Dataset}
-use Rattle.iim_dataset.specs.Splits.{Begun, InTag, InData, Reads}
 use Rattle.iim_dataset.specs.declared.head.Head.{Head}
 use Rattle.iim_dataset.specs.declared.place.DatasetPlace.{DatasetPlace}
 use Rattle.iim_dataset.specs.declared.place.DatasetPlace.TheVariants.{Tag, Inside}
 use Rattle.iim_fields.specs.Faults.{kept, present_record}
 use Rattle.iim_fields.specs.Standing as records
-use Rattle.iim_object.specs.Records.{numbers_of}
-use Rattle.iim_object.specs.Behind.{of_record}
 use Rattle.iim_object.specs.Places as object_places
 use Rattle.iim_object.specs.Reading as objects
 use Rattle.iim_object.specs.Saved.{stated_numbers}
-use Rattle.wire_message.specs.Saved.{LeadToSaved, IsAt}
-use Rattle.wire_message.specs.declared.saved.MessagePart.{MessagePart}
-use Rattle.wire_message.specs.declared.saved.MessagePart.TheVariants as part
+use Rattle.wire_message.specs.Saved.{IsAt}
 use Rattle.wire_message.specs.declared.saved.MessagePlace.{MessagePlace}
-use Rattle.iim_unpack.specs.Parts.{object_so_far, section, has_ended}
+use Rattle.iim_unpack.specs.Format.Open.{section}
+use Rattle.iim_unpack.specs.Parts.{has_ended}
 use Rattle.iim_unpack.specs.declared.parts.Parts.{Parts}
-
--- ---- places
-
--- What is begun: some octets of a tag, none of them between datasets; or data, of which the dataset's number, the count, how many
--- octets are to come, and those that have come are kept (of a subfile none of these); or nothing, since the last dataset has ended.
-pub data Phase : Type 0 where
-  TagBegun : List ℕ → Phase
-  DataBegun : (set count left : ℕ) → List ℕ → Phase
-  AllEnded : Phase
-
--- The record of the last head; what is begun; the datasets of records 1 and 2; the numbers of 7:10, 7:20, 7:90 and 7:95; how many
--- octets of the object, and how many heads of 8:10, have come; and the place of the message.
-pub record Place : Type 0 where
-  pub section : ℕ
-  pub phase : Phase
-  pub fields : List Dataset
-  pub numbers : List (Option ℕ)
-  pub taken : ℕ
-  pub heads : ℕ
-  pub message : MessagePlace
-
-abbrev pub phase_of : List Dataset → Begun → Phase
-phase_of ds (InTag held) = if present_record ds == 9 then AllEnded else TagBegun held
-phase_of ds (InData h taken) = DataBegun h.set h.count (h.count - length taken) (if h.rec == 8 then [] else taken)
-
--- the heads of 8:10, that of a begun subfile among them
-abbrev pub heads_of : List Dataset → Begun → ℕ
-heads_of ds (InTag held) = length (of_record 8 ds)
-heads_of ds (InData h taken) = length (of_record 8 ds) + (if h.rec == 8 then 1 else 0)
-
--- the place of whole datasets and a begun one, whose object has led the message there
-abbrev pub place_of : List Dataset → Begun → MessagePlace → Place
-place_of whole begun message = record {
-  section = section whole begun;
-  phase = phase_of whole begun;
-  fields = kept whole;
-  numbers = stated_numbers (numbers_of (of_record 7 whole));
-  taken = length (object_so_far whole begun);
-  heads = heads_of whole begun;
-  message = message;
-}
-
--- The octets so far have led to this place.
-pub record IsPlaceOf (octets : List ℕ) (place : Place) : Type 0 where
-  pub whole : List Dataset
-  pub begun : Begun
-  pub reads : Reads octets whole begun
-  pub text : List ℕ
-  pub message : MessagePlace
-  pub leads : LeadToSaved (object_so_far whole begun) text message
-  pub is_place : place ≡ place_of whole begun message
-
--- ---- the octets of a place
-
--- a number in four octets, high octet first
-abbrev pub four : ℕ → List ℕ
-four n = to_be_bytes w32 n
-
-abbrev pub phase_octets : Phase → List ℕ
-phase_octets (TagBegun held) = 0 ∷ length held ∷ held
-phase_octets (DataBegun set count left taken) = (1 ∷ set ∷ []) ++ four count ++ four left ++ taken
-phase_octets AllEnded = 2 ∷ []
-
-abbrev pub field_octets : Dataset → List ℕ
-field_octets d = (d.rec ∷ d.set ∷ []) ++ four (length d.octets) ++ d.octets
-
-abbrev pub fields_octets : List Dataset → List ℕ
-fields_octets ds = four (length ds) ++ flat_map field_octets ds
-
-abbrev pub number_octets : Option ℕ → List ℕ
-number_octets None = 0 ∷ []
-number_octets (Some n) = 1 ∷ four n
-
-abbrev pub text_octets : List ℕ → List ℕ
-text_octets xs = length xs ∷ xs
-
--- the parts of a message are told by their number
-abbrev pub part_number : MessagePart → ℕ
-part_number part.Filler = 0
-part_number part.Source = 1
-part_number part.Number = 2
-part_number part.Priority = 3
-part_number part.PriorityRead = 4
-part_number part.Category = 5
-part_number part.Words = 6
-part_number part.Info = 7
-part_number part.Gap = 8
-part_number part.Text = 9
-part_number part.Trailer = 10
-part_number part.AfterEnd = 11
-
--- the texts of the header so far, in its order, and the trailer so far
-abbrev pub texts_octets : MessagePlace → List ℕ
-texts_octets m =
-    text_octets m.source.items ++ text_octets m.number.items ++ text_octets m.priority.items ++ text_octets m.category.items
-    ++ text_octets m.words.items ++ text_octets m.info.items ++ text_octets m.trailer.items
-
-abbrev pub message_octets : MessagePlace → List ℕ
-message_octets m = (part_number m.part ∷ m.counter ∷ m.flag ∷ []) ++ texts_octets m
-
--- what each ticket begins with: a name, and the version
-abbrev pub ticket_name : List ℕ
-ticket_name = codes "IIMT" ++ 1 ∷ []
-
--- the order of what follows: the section, what is begun, the datasets, the numbers of record 7, the octets and heads of the object,
--- and the octets of the message
-abbrev pub layout : ℕ → Phase → List Dataset → List (Option ℕ) → ℕ → ℕ → List ℕ → List ℕ
-layout section phase fields numbers taken heads message =
-    ticket_name ++ (section ∷ []) ++ phase_octets phase ++ fields_octets fields ++ flat_map number_octets numbers
-    ++ four taken ++ four heads ++ message
-
-abbrev pub ticket_of : Place → List ℕ
-ticket_of p = layout p.section p.phase p.fields p.numbers p.taken p.heads (message_octets p.message)
-
--- The octets of the ticket are those of the place that the octets so far have led to.
-pub record IsTicketOf (octets ticket : List ℕ) : Type 0 where
-  pub place : Place
-  pub is_place : IsPlaceOf octets place
-  pub spelled : ticket ≡ ticket_of place
-
--- Octets have one ticket.
-abbrev pub OctetsHaveOneTicket : Type 0
-OctetsHaveOneTicket = (octets ticket other : List ℕ) → IsTicketOf octets ticket → IsTicketOf octets other → ticket ≡ other
+use Rattle.iim_unpack.specs.Format.Tickets.{Phase, TagBegun, DataBegun, AllEnded, ticket_of}
 
 -- ---- what the readers tell
 

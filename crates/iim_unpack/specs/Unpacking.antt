@@ -1,36 +1,24 @@
 -- Where an unpacker stands, and what it answers.
 use Rattle.std.specs.Prelude.{◌≡◌, ℕ, ◌+◌, ◌^◌, ◌-◌, ◌<◌, ◌≤◌, ◌⊎◌, min, true, false, List, [], ◌∷◌, ◌++◌, length, take, slice_index, Option, Some, None, Bool}
-use Rattle.iim_dataset.specs.Datasets.{Dataset, SpellsTag, count_octets}
-use Rattle.iim_dataset.specs.Splits.{Begun, InTag, InData, Reads}
-use Rattle.iim_dataset.specs.Tags.{BeginsNoTag}
+use Rattle.iim_dataset.specs.Datasets.{Dataset}
 use Rattle.iim_dataset.specs.Events.{Event}
-use Rattle.iim_dataset.specs.Completing.{CompletesData}
 use Rattle.iim_dataset.specs.Places.{LeadsTo, Brings, between, to_come, named_by}
 use Rattle.iim_dataset.specs.Reading.{Reader, Completes, TagDies, TakesCalls}
 use Rattle.iim_dataset.specs.declared.place.DatasetPlace.{DatasetPlace as Place}
 use Rattle.iim_dataset.specs.declared.head.HeadCause.{HeadCause}
-use Rattle.iim_fields.specs.Records.{AreSections}
 use Rattle.iim_fields.specs.Standing.{limits_of, room_of}
 use Rattle.iim_fields.specs.Stores.{Room}
 use Rattle.iim_fields.specs.declared.limits.Limits.{Limits}
 use Rattle.wire_story.specs.Delivery as story
-use Rattle.wire_message.specs.Layers.{text_so_far}
-use Rattle.iim_unpack.specs.Refusals.{begun_record, begun_number, tag_cause}
-use Rattle.iim_unpack.specs.Parts.{object_so_far, AllGoOn, IsUnfinished, Led, Went, Stopped, has_ended}
-use Rattle.iim_unpack.specs.Tokens.{IsRefusedHead, IsRefusedValue}
-use Rattle.iim_fields.specs.Values.{data_of}
-use Rattle.wire_message.specs.Reading as wire
-use Rattle.wire_message.specs.declared.fault.MessageCause.{MessageCause}
-use Rattle.iim_dataset.specs.declared.head.Head.{Head}
-use Rattle.iim_unpack.specs.Admitted.{object_of, Value, Admits}
-use Rattle.iim_unpack.specs.Refusals.{refusal_at, message_on}
-use Rattle.iim_unpack.specs.Refusals.{cause_of_tag}
+use Rattle.iim_unpack.specs.Format.Refusals.{refusal_at, cause_of_tag}
+use Rattle.iim_unpack.specs.Format.Open.{IsTextOf, Adds, IsOpen, RefusesNext}
+use Rattle.iim_unpack.specs.Parts.{Led, Went, Stopped, has_ended}
+use Rattle.iim_unpack.specs.Format.Admitted.{Value, Admits}
 use Rattle.iim_unpack.specs.Routing.{Takes, HasEnded}
-use Rattle.iim_unpack.specs.Admitted.{Value, Admits}
-use Rattle.iim_unpack.specs.Framed.{AreWithin}
+use Rattle.iim_unpack.specs.Format.Framed.{AreWithin}
 use Rattle.iim_unpack.specs.declared.unpacker.Progress.{Progress}
 use Rattle.iim_unpack.specs.declared.unpacker.Progress.TheVariants.{More, Done}
-use Rattle.iim_unpack.specs.declared.refusal.Cause.TheVariants.{Failed, Truncated}
+use Rattle.iim_unpack.specs.declared.refusal.Cause.TheVariants.{Failed}
 use Rattle.iim_unpack.specs.declared.parts.Parts.{Parts}
 use Rattle.iim_unpack.specs.declared.fault.Fault.{Fault}
 use Rattle.iim_unpack.specs.declared.refusal.Refusal.{Refusal}
@@ -83,75 +71,6 @@ pub record HasAdvanced {S : Type 0} (goes : S → List story.Event → S → Typ
   pub within : used ≤ length piece
   pub advanced : Advanced goes failures old (take used piece) new.place p a q b
   pub onward : IsOnward new.place q (length piece) used
-
--- ---- what octets say
-
--- the text in the octets: what stands after STX and before ETX in the data of the subfiles so far
-abbrev pub IsTextOf : List ℕ → List ℕ → Type 0
-IsTextOf octets text = (whole : List Dataset) × (begun : Begun) × Reads octets whole begun × (text ≡ text_so_far (object_so_far whole begun))
-
--- Of the octets after those, exactly this is delivered.
-abbrev pub Adds : List ℕ → List ℕ → List story.Event → Type 0
-Adds p octets more = (text : List ℕ) → IsTextOf p text → (added : List ℕ) × IsTextOf (p ++ octets) (text ++ added) × (more ≡ story.delivered added)
-
--- Every layer can continue from the octets, within the limits, and they are no envelope.
-pub record IsOpen (limits : Limits) (octets : List ℕ) : Type 0 where
-  pub whole : List Dataset
-  pub begun : Begun
-  pub reads : Reads octets whole begun
-  pub goes_on : AllGoOn limits whole begun
-  pub unfinished : AreSections whole → ⊥
-
--- With the next octet no tag continues.
-pub record IsBadTagAt (limits : Limits) (octets : List ℕ) (next : ℕ) (fault : Fault) : Type 0 where
-  pub whole : List Dataset
-  pub held : List ℕ
-  pub reads : Reads octets whole (InTag held)
-  pub goes_on : AllGoOn limits whole (InTag held)
-  pub unfinished : AreSections whole → ⊥
-  pub dead : BeginsNoTag count_octets (held ++ next ∷ [])
-  pub is_fault : fault ≡ record { layer = layers.Dataset; rec = begun_record (InTag held); set = begun_number (InTag held); cause = tag_cause held }
-
--- The next octet completes a head, and that is refused.
-pub record IsBadHeadAt (limits : Limits) (octets : List ℕ) (next : ℕ) (fault : Fault) : Type 0 where
-  pub whole : List Dataset
-  pub held : List ℕ
-  pub head : Head
-  pub reads : Reads octets whole (InTag held)
-  pub goes_on : AllGoOn limits whole (InTag held)
-  pub unfinished : AreSections whole → ⊥
-  pub tag : SpellsTag count_octets head (held ++ next ∷ [])
-  pub refuses : IsRefusedHead limits whole head fault ⊎ IsUnfinished limits whole head fault
-
--- The next octet is one of the object, and message, story or sink refuse it.
-pub record IsBadOctetAt (limits : Limits) (octets : List ℕ) (next : ℕ) (fault : Fault) : Type 0 where
-  pub whole : List Dataset
-  pub head : Head
-  pub taken : List ℕ
-  pub reads : Reads octets whole (InData head taken)
-  pub goes_on : AllGoOn limits whole (InData head taken)
-  pub unfinished : AreSections whole → ⊥
-  pub subfile : head.rec ≡ 8
-  pub cause : MessageCause
-  pub has_cause : wire.HasCause cause (object_of whole ++ taken) next
-  pub is_fault : fault ≡ message_on head cause
-
--- The next octet completes a value, which is no subfile's, and that is refused.
-pub record IsBadValueAt (limits : Limits) (octets : List ℕ) (next : ℕ) (fault : Fault) : Type 0 where
-  pub whole : List Dataset
-  pub head : Head
-  pub given : List ℕ
-  pub is_value : head.rec ≡ 8 → ⊥
-  pub completes : CompletesData octets next whole head given
-  pub goes_on : AllGoOn limits whole (InData head given)
-  pub unfinished : AreSections whole → ⊥
-  pub refuses : IsRefusedValue whole (data_of head given) fault
-
--- Every layer can continue from the octets, within the limits. With the first token that the next octet completes and that is
--- refused the layer of the fault is dead, and the layers that are asked before are not.
-abbrev pub RefusesNext : Limits → List ℕ → ℕ → Fault → Type 0
-RefusesNext limits octets next fault =
-    IsBadTagAt limits octets next fault ⊎ (IsBadHeadAt limits octets next fault ⊎ (IsBadOctetAt limits octets next fault ⊎ IsBadValueAt limits octets next fault))
 
 -- ---- the unpacker
 
@@ -249,18 +168,3 @@ IsSound u = u.refused ≡ None → IsUnpacking u
 -- Unpacker and sink are left as they were.
 abbrev pub LeftAs : {S : Type 0} → Unpacking → S → Unpacking → S → Type 0
 LeftAs old a new b = (new ≡ old) × (b ≡ a)
-
--- the refusal of octets that end here, of which this dataset is begun
-abbrev pub truncated_in : ℕ → ℕ × ℕ → Refusal
-truncated_in octet names = record { layer = layers.Dataset; rec = names.0; set = names.1; octet = octet; cause = Truncated }
-
--- The octets are truncated: after so many, in this begun dataset.
-pub record IsTruncatedAt (p : List ℕ) (a : ℕ) (e : Refusal) : Type 0 where
-  pub whole : List Dataset
-  pub begun : Begun
-  pub reads : Reads p whole begun
-  pub refusal : e ≡ truncated_in a (begun_record begun, begun_number begun)
-
--- Open octets begin with no admitted ones (the third condition of open octets).
-abbrev pub OpenOctetsBeginWithNoEnvelope : Type 0
-OpenOctetsBeginWithNoEnvelope = (limits : Limits) (octets front rest : List ℕ) (v : Value) → IsOpen limits octets → octets ≡ front ++ rest → Admits front v → ⊥

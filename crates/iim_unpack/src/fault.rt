@@ -2,8 +2,8 @@
 
 ghost use Rattle.std.specs.Prelude.{◌≡◌};
 ghost use Rattle.iim_fields.specs.Causes.{number_of_cause};
-ghost use Rattle.iim_unpack.specs.Names.{cause_number};
-ghost use Rattle.iim_unpack.specs.Refusals.{of_field, size_on, too_many_on, message_on, cause_of, cause_of_size, cause_of_message, layer_of, layer_of_message};
+ghost use Rattle.iim_unpack.specs.Format.Names.{cause_number};
+ghost use Rattle.iim_unpack.specs.Format.Refusals.{of_field, size_on, too_many_on, message_on, cause_of, cause_of_size, cause_of_message, layer_of, layer_of_message};
 
 use crate::refusal::{Cause, Layer};
 use iim_dataset::Head;

@@ -1,7 +1,7 @@
 //! What octets begin with: a number, a text, a dataset.
 
 ghost use Rattle.std.specs.Prelude.{◌≡◌, ◌^◌, ◌<◌, ◌++◌, ◌∷◌, [], length, IfSome, IfNone};
-ghost use Rattle.iim_unpack.specs.Tickets.{four, field_octets, number_octets, text_octets};
+ghost use Rattle.iim_unpack.specs.Format.Tickets.{four, field_octets, number_octets, text_octets};
 ghost use Rattle.iim_unpack.specs.TicketFields.{IsField};
 ghost use Rattle.iim_unpack.specs.Begins.{BeginsWithNone, IsFour, IsNumber, IsShort, dataset};
 

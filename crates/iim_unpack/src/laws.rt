@@ -1,17 +1,19 @@
 //! What holds of all envelopes.
 
-ghost use Rattle.iim_unpack.specs.Laws.{AdmittedOctetsAreFramed, AdmittedOctetsHaveOneValue, NoAdmittedOctetsBeginOthers, NoEnvelopeIsEmpty};
+ghost use Rattle.iim_unpack.specs.Format.Laws.{AdmittedOctetsAreFramed, AdmittedOctetsHaveOneValue, NoAdmittedOctetsBeginOthers, NoEnvelopeIsEmpty};
 ghost use Rattle.iim_unpack.specs.Intakes.{OpenOctetsAreBounded};
 ghost use Rattle.iim_unpack.specs.ByLayers.{PlacesArePossibleByLayers};
-ghost use Rattle.iim_unpack.specs.Continuing.{OctetsHaveOnePlace, PlacesContinueAlike, PlacesRefuseAlike, RestoredStandAsSaved};
+ghost use Rattle.iim_unpack.specs.Format.Continuing.{OctetsHaveOnePlace, PlacesContinueAlike, PlacesRefuseAlike, RestoredStandAsSaved};
 ghost use Rattle.iim_unpack.specs.LowerLaws.{AnswerLaws, ByLayersLaws, CloseLaws, FeedLaws, HeadLaws, MessageLaws, ObjectLaws, OnwardLaws, OpenLaws, PlaceLaws, SizeLaws};
 ghost use Rattle.iim_unpack.specs.Plain.{ObjectsArePossibleAlike, PlainDatasetsGoOnAlike, PlainOctetsAreOpenOrWhole, PlainOctetsLeadToTheirPlace, PossiblePlacesArePlain};
-ghost use Rattle.iim_unpack.specs.Possible.{LimitsAreToldByPlace, TicketsOfPlacesAreSplit, TicketsTellOnePlace, UnpackersStandByPlace};
-ghost use Rattle.iim_unpack.specs.Restoring.{PossiblePlacesAreTaken, ReadersMakeUnpackers};
-ghost use Rattle.iim_unpack.specs.Streams.{EnvelopesAreBounded, NothingGoesOnFromRefusedOctets, RefusalsAreDetermined, RefusedOctetsWereOpen, StreamsHaveOneAnswer};
-ghost use Rattle.iim_unpack.specs.TicketParts.{TicketsHaveOneSplit};
-ghost use Rattle.iim_unpack.specs.Tickets.{OctetsHaveOneTicket};
-ghost use Rattle.iim_unpack.specs.Unpacking.{OpenOctetsBeginWithNoEnvelope};
+ghost use Rattle.iim_unpack.specs.Format.Possible.{LimitsAreToldByPlace, TicketsTellOnePlace};
+ghost use Rattle.iim_unpack.specs.Possible.{TicketsOfPlacesAreSplit, UnpackersStandByPlace};
+ghost use Rattle.iim_unpack.specs.Format.Restored.{PossiblePlacesAreTaken};
+ghost use Rattle.iim_unpack.specs.Restoring.{ReadersMakeUnpackers};
+ghost use Rattle.iim_unpack.specs.Format.Streams.{EnvelopesAreBounded, NothingGoesOnFromRefusedOctets, RefusalsAreDetermined, RefusedOctetsWereOpen, StreamsHaveOneAnswer};
+ghost use Rattle.iim_unpack.specs.Format.TicketForm.{TicketsHaveOneSplit};
+ghost use Rattle.iim_unpack.specs.Format.Tickets.{OctetsHaveOneTicket};
+ghost use Rattle.iim_unpack.specs.Format.Open.{OpenOctetsBeginWithNoEnvelope};
 
 use iim_dataset::laws::{
     canonical_streams_are_spelled, events_tell_the_datasets, no_dataset_begins_another,

@@ -6,10 +6,10 @@ ghost use Rattle.iim_dataset.specs.Events.{HeadRead, DataOctet};
 ghost use Rattle.iim_fields.specs.Standing.{limits_of, room_of, IsBetween};
 ghost use Rattle.iim_object.specs.Places.{head_token, value_token};
 ghost use Rattle.iim_object.specs.Reading.{GoesOn, events_at};
-ghost use Rattle.iim_unpack.specs.Refusals.{IsObjectFault};
+ghost use Rattle.iim_unpack.specs.Format.Refusals.{IsObjectFault};
 ghost use Rattle.iim_unpack.specs.Passed.{Passed, HasFewSubfiles, RefusesSubfile};
 ghost use Rattle.iim_unpack.specs.Parts.{TakesHead, TakesData, Went, Stopped, Closed, NotClosed, has_ended};
-ghost use Rattle.iim_unpack.specs.Refusals.{too_many_on};
+ghost use Rattle.iim_unpack.specs.Format.Refusals.{too_many_on};
 
 use crate::fault::{Fault, message_on, of_field, size_on, too_many_on};
 use crate::laws::{close_laws, head_laws, message_laws};

@@ -3,7 +3,7 @@
 ghost use Rattle.std.specs.Prelude.{◌≡◌, ◌≢◌, ℕ, [], IfOk, IfErr, OnOk};
 ghost use Rattle.iim_unpack.specs.Parts.{CountsFor};
 ghost use Rattle.iim_unpack.specs.Pieces.{HasFed, IsAnswer, IsTurnedDown, IsUnpacked, stream_of};
-ghost use Rattle.iim_unpack.specs.Streams.{Answer, Answers};
+ghost use Rattle.iim_unpack.specs.Format.Streams.{Answer, Answers};
 ghost use Rattle.iim_unpack.specs.Unpacking.{Stands, limits_in};
 ghost use Rattle.iim_unpack.specs.declared.refusal.Cause.TheVariants.{Sink};
 

@@ -4,9 +4,10 @@ ghost use Rattle.std.specs.Prelude.{◌≡◌, ◌+◌, ◌-◌, cond, length, f
 ghost use Rattle.iim_fields.specs.Faults.{joined};
 ghost use Rattle.iim_fields.specs.Standing.{IsWithin};
 ghost use Rattle.iim_unpack.specs.ByLayers.{begun_subfiles, one_of_some};
-ghost use Rattle.iim_unpack.specs.Possible.{widest, begun_count, begun_fields};
+ghost use Rattle.iim_unpack.specs.Format.Possible.{widest, begun_count, begun_fields};
 ghost use Rattle.iim_unpack.specs.Restoring.{AreAt, LeadsNowhere};
-ghost use Rattle.iim_unpack.specs.TicketParts.{HasForm, phase_told, split_told};
+ghost use Rattle.iim_unpack.specs.Format.TicketForm.{HasForm};
+ghost use Rattle.iim_unpack.specs.TicketParts.{phase_told, split_told};
 
 use crate::object_place::object_at;
 use crate::readers::{message_at, records_lead, tags_at};

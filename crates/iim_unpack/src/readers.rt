@@ -14,10 +14,11 @@ ghost use Rattle.wire_message.specs.declared.saved.MessagePart.{MessagePart as M
 ghost use Rattle.wire_message.specs.declared.saved.MessagePlace.{MessagePlace as MessagePlaceValue};
 ghost use Rattle.iim_unpack.specs.Begins.{AreNumbers};
 ghost use Rattle.iim_unpack.specs.ByLayers.{TagsLead, RecordsLive, are_ended};
-ghost use Rattle.iim_unpack.specs.Possible.{widest};
+ghost use Rattle.iim_unpack.specs.Format.Possible.{widest};
 ghost use Rattle.iim_unpack.specs.Taking.{AreKept, IsMessageOf, tag_place, told_datasets};
-ghost use Rattle.iim_unpack.specs.TicketParts.{IsPhase, phase_told};
-ghost use Rattle.iim_unpack.specs.Tickets.{part_number};
+ghost use Rattle.iim_unpack.specs.Format.TicketForm.{IsPhase};
+ghost use Rattle.iim_unpack.specs.TicketParts.{phase_told};
+ghost use Rattle.iim_unpack.specs.Format.Tickets.{part_number};
 
 use crate::taker::take_told;
 use crate::ticket_fields::TicketFields;

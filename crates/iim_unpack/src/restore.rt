@@ -6,10 +6,12 @@ ghost use Rattle.iim_fields.specs.Faults.{joined};
 ghost use Rattle.iim_fields.specs.Standing.{IsWithin, StandsBehind, StandsIn, limits_of, room_for, room_of};
 ghost use Rattle.iim_unpack.specs.Begins.{AreNumbers};
 ghost use Rattle.iim_unpack.specs.ByLayers.{TagsLead, RecordsLive, are_ended};
-ghost use Rattle.iim_unpack.specs.Possible.{begun_count, begun_fields};
-ghost use Rattle.iim_unpack.specs.Restoring.{AreAt, RecordsStand, MayBegin, AreWithinWith, HasFew, IsLimitFault, IsRestored, IsRestoreFault, has_come};
+ghost use Rattle.iim_unpack.specs.Format.Possible.{begun_count, begun_fields};
+ghost use Rattle.iim_unpack.specs.Restoring.{AreAt, RecordsStand, MayBegin, AreWithinWith, HasFew, IsLimitFault, has_come};
+ghost use Rattle.iim_unpack.specs.Format.Restored.{IsRestored, IsRestoreFault};
 ghost use Rattle.iim_unpack.specs.Taking.{AreKept, told_datasets};
-ghost use Rattle.iim_unpack.specs.TicketParts.{HasForm, SplitsInto, phase_told, split_told};
+ghost use Rattle.iim_unpack.specs.Format.TicketForm.{HasForm, SplitsInto};
+ghost use Rattle.iim_unpack.specs.TicketParts.{phase_told, split_told};
 ghost use Rattle.iim_unpack.specs.Unpacking.{room_in};
 
 use crate::laws::{

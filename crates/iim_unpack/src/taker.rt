@@ -10,7 +10,7 @@ ghost use Rattle.iim_fields.specs.declared.limits.Limits.{Limits as LimitsValue}
 ghost use Rattle.iim_object.specs.Packing.{number_dataset};
 ghost use Rattle.iim_unpack.specs.Begins.{dataset, AreNumbers, IsNumber};
 ghost use Rattle.iim_unpack.specs.Plain.{mode_dataset, one_dataset, plain_end, plain_numbers};
-ghost use Rattle.iim_unpack.specs.Possible.{widest};
+ghost use Rattle.iim_unpack.specs.Format.Possible.{widest};
 ghost use Rattle.iim_unpack.specs.Taking.{AreKept, TookAll, no_room, numbers_told, told_datasets};
 
 use crate::records::{

@@ -6,7 +6,8 @@ ghost use Rattle.iim_dataset.specs.Reading.{TakesCalls};
 ghost use Rattle.iim_fields.specs.Standing.{IsFailed};
 ghost use Rattle.iim_object.specs.Places as object_places;
 ghost use Rattle.iim_object.specs.Reading as objects;
-ghost use Rattle.iim_unpack.specs.Tickets.{four, field_octets, fields_octets, number_octets, text_octets, part_number, texts_octets, message_octets, phase_octets, phase_in, left_in, DataBegun, TagBegun, IsSpelled};
+ghost use Rattle.iim_unpack.specs.Format.Tickets.{four, field_octets, fields_octets, number_octets, text_octets, part_number, texts_octets, message_octets, phase_octets, DataBegun, TagBegun};
+ghost use Rattle.iim_unpack.specs.Tickets.{phase_in, left_in, IsSpelled};
 
 use crate::parts::Parts;
 use crate::records::OBJECT;

@@ -2,7 +2,7 @@
 
 ghost use Rattle.std.specs.Prelude.{◌≡◌};
 ghost use Rattle.std.specs.List.{AllByRecursion, flat_map};
-ghost use Rattle.iim_unpack.specs.Tickets.{field_octets};
+ghost use Rattle.iim_unpack.specs.Format.Tickets.{field_octets};
 ghost use Rattle.iim_unpack.specs.TicketFields.{IsField, HoldsFields};
 ghost use Rattle.iim_unpack.specs.FieldLaws.{held_once};
 

@@ -2,10 +2,11 @@
 
 ghost use Rattle.std.specs.Prelude.{◌≡◌, ◌++◌, ◌∷◌, map, IfSome, IfNone, IfOk, IfErr};
 ghost use Rattle.std.specs.List.{flat_map};
-ghost use Rattle.iim_unpack.specs.Tickets.{ticket_name, phase_octets, field_octets, fields_octets, number_octets, text_octets};
+ghost use Rattle.iim_unpack.specs.Format.Tickets.{ticket_name, phase_octets, field_octets, fields_octets, number_octets, text_octets};
 ghost use Rattle.iim_unpack.specs.TicketFields.{IsField};
 ghost use Rattle.iim_unpack.specs.Begins.{BeginsWithNone, BeginsWithFewer, AreFields, AreNumbers, AreTexts, FieldsBefore};
-ghost use Rattle.iim_unpack.specs.TicketParts.{IsHeld, IsPhase, IsNameFault, IsFaultOf, BeginsWithNoData, AreNoMessage, AreNoBody, HasForm, SplitsInto, phase_told, split_told, message_parts, body_octets};
+ghost use Rattle.iim_unpack.specs.TicketParts.{IsHeld, IsNameFault, BeginsWithNoData, AreNoMessage, AreNoBody, phase_told, split_told, message_parts, body_octets};
+ghost use Rattle.iim_unpack.specs.Format.TicketForm.{IsPhase, IsFaultOf, HasForm, SplitsInto};
 
 use crate::front::{take_field, take_front, take_number, take_octet, take_option, take_text};
 use crate::records::OBJECT;

@@ -8,14 +8,15 @@ ghost use Rattle.iim_dataset.specs.declared.place.DatasetPlace.{DatasetPlace as 
 ghost use Rattle.iim_fields.specs.Standing.{StandsBehind, limits_of, room_of, room_for};
 ghost use Rattle.wire_story.specs.Delivery as story;
 ghost use Rattle.iim_unpack.specs.Parts.{CountsFor};
-ghost use Rattle.iim_unpack.specs.Refusals.{refusal_at};
+ghost use Rattle.iim_unpack.specs.Format.Refusals.{refusal_at};
 ghost use Rattle.iim_unpack.specs.Routing.{Takes};
 ghost use Rattle.iim_unpack.specs.Unpacking.{HasAdvanced, FailsFor, FailsAs, tag_fault, raised, begins, failed_at};
 ghost use Rattle.iim_dataset.specs.Reading.{is_of};
-ghost use Rattle.iim_unpack.specs.Unpacking.{IsUnpacking, Stood, Stands, IsDoneWith, IsDone, IsRefusedIn, IsTruncatedAt, Goes, limits_in, room_in, LeftAs};
-ghost use Rattle.iim_unpack.specs.Admitted.{Value, Admits};
-ghost use Rattle.iim_unpack.specs.Tickets.{IsTicketOf};
-ghost use Rattle.iim_unpack.specs.Value.{HasParts};
+ghost use Rattle.iim_unpack.specs.Unpacking.{IsUnpacking, Stood, Stands, IsDoneWith, IsDone, IsRefusedIn, Goes, limits_in, room_in, LeftAs};
+ghost use Rattle.iim_unpack.specs.Format.Open.{IsTruncatedAt};
+ghost use Rattle.iim_unpack.specs.Format.Admitted.{Value, Admits};
+ghost use Rattle.iim_unpack.specs.Format.Tickets.{IsTicketOf};
+ghost use Rattle.iim_unpack.specs.Format.Value.{HasParts};
 ghost use Rattle.iim_unpack.specs.declared.refusal.Refusal.{Refusal as RefusalValue};
 
 use crate::fault::Fault;

@@ -4,14 +4,14 @@ use Rattle.iim_dataset.specs.Devices.{Device, Wrote, Stopped}
 use Rattle.iimwire.specs.declared.request.Job.{Job}
 use Rattle.iimwire.specs.declared.request.Job.TheVariants.{Check, Show, Story, Pack, Audit}
 use Rattle.iim_commands.specs.declared.fault.Fault.{Fault}
-use Rattle.iim_commands.specs.Audits.{Audited, IsUnaudited}
-use Rattle.iim_commands.specs.Devices.{Devices}
-use Rattle.iim_commands.specs.Listings.{Envelope}
-use Rattle.iim_commands.specs.Lines.{fault_line, line_of}
-use Rattle.iim_commands.specs.Narration.{IsUnnarrated, Narrated}
-use Rattle.iim_commands.specs.Packing.{Answered, Asked, IsUnanswered, asked}
-use Rattle.iim_commands.specs.Reports.{Reported, IsUnreported}
-use Rattle.iim_commands.specs.Texts.{shown_of}
+use Rattle.iim_commands.specs.Format.Audits.{Audited, IsUnaudited}
+use Rattle.iim_commands.specs.Format.Devices.{Devices}
+use Rattle.iim_commands.specs.Format.Listings.{Envelope}
+use Rattle.iim_commands.specs.Format.Lines.{fault_line, line_of}
+use Rattle.iim_commands.specs.Format.Narration.{IsUnnarrated, Narrated}
+use Rattle.iim_commands.specs.Format.Packing.{Answered, Asked, IsUnanswered, asked}
+use Rattle.iim_commands.specs.Format.Reports.{Reported, IsUnreported}
+use Rattle.iim_commands.specs.Format.Texts.{shown_of}
 
 -- The line of the fault is out, or the device broke inside it.
 abbrev pub Complained : Device → Device → Fault → Type 0

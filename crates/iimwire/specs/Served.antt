@@ -4,7 +4,7 @@ use Rattle.iim_dataset.specs.Devices.{Device}
 use Rattle.iimwire.specs.declared.request.Request.{Request}
 use Rattle.iimwire.specs.declared.start.StartFault.{StartFault}
 use Rattle.iim_unpack.specs.Blocks.{behind}
-use Rattle.iim_commands.specs.Devices.{devices}
+use Rattle.iim_commands.specs.Format.Devices.{devices}
 use Rattle.iimwire.specs.Outcomes.{Ran}
 use Rattle.iimwire.specs.Starts.{IsHindered}
 

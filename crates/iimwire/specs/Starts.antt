@@ -5,8 +5,8 @@ use Rattle.iimwire.specs.declared.request.UsageFault.{UsageFault}
 use Rattle.iimwire.specs.declared.request.UsageFault.TheVariants as usage
 use Rattle.iimwire.specs.declared.start.StartFault.{StartFault}
 use Rattle.iimwire.specs.declared.start.StartFault.TheVariants.{Usage, NoText, CannotOpen, OutOfMemory}
-use Rattle.iim_commands.specs.Reports.{IsTold}
-use Rattle.iim_commands.specs.Shown.{shown_name}
+use Rattle.iim_commands.specs.Format.Reports.{IsTold}
+use Rattle.iim_commands.specs.Format.Shown.{shown_name}
 
 -- the line that tells that memory was refused
 abbrev pub no_memory_line : List ℕ

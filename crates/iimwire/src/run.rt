@@ -3,8 +3,8 @@
 ghost use Rattle.std.specs.Prelude.{◌≡◌, ℕ, List};
 ghost use Rattle.iim_unpack.specs.Blocks.{behind};
 ghost use Rattle.iimwire.specs.Outcomes.{Complained, Finishes, Listed, Packs, Ran, Reviewed, Told};
-ghost use Rattle.iim_commands.specs.Packing.{asked};
-ghost use Rattle.iim_commands.specs.Devices.{devices};
+ghost use Rattle.iim_commands.specs.Format.Packing.{asked};
+ghost use Rattle.iim_commands.specs.Format.Devices.{devices};
 
 use crate::instant::Instant;
 use crate::request::{Job, Request};

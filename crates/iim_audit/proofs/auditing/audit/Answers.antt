@@ -1,7 +1,7 @@
 use Rattle.std.proofs.Common.{◌≡◌, None, Option, [], length, ap, sym, subst, arith, List, Result, Ok, ◌+◌, IsErrAnd}
 use Rattle.iim_dataset.specs.Devices.{Device}
 use Rattle.iim_unpack.specs.Intakes.{line}
-use Rattle.iim_audit.specs.Auditing.{IsAudited}
+use Rattle.iim_audit.specs.Format.Auditing.{IsAudited}
 use Rattle.iim_audit.specs.Taking.{Took}
 use Rattle.iim_audit.specs.declared.row.AuditRow.{AuditRow}
 use Rattle.iim_audit.specs.declared.row.Taken.{Taken}

@@ -1,5 +1,5 @@
 use Rattle.std.proofs.Common.{codes}
-use Rattle.iim_audit.specs.Texts.{known_by, sizes_of, ages_of, digit_or_dash}
+use Rattle.iim_audit.specs.Format.Texts.{known_by, sizes_of, ages_of, digit_or_dash}
 use Rattle.iim_audit.proofs.Lines.{row_parts}
 use Rattle.iim_audit.proofs.text.push_row.Goals as goal
 

@@ -1,7 +1,7 @@
 use Rattle.std.proofs.Common.{◌≡◌, ◌+◌, ◌++◌, ◌∷◌, [], ℕ, List, length, take, get_or, ap, sym, ◌∙◌, arith}
 use Rattle.std.proofs.Math.Nat.{le_of_lt}
 use Rattle.std.proofs.lemmas.List.{length-take-le, take_more}
-use Rattle.iim_audit.specs.Texts.{lines_from, row_line}
+use Rattle.iim_audit.specs.Format.Texts.{lines_from, row_line}
 use Rattle.iim_audit.specs.declared.row.AuditRow.{AuditRow}
 use Rattle.iim_audit.proofs.Lines.{lines_from-push}
 use Rattle.iim_audit.proofs.text.report_text.Goals as goal

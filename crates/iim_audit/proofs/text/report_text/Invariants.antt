@@ -1,5 +1,5 @@
 use Rattle.std.proofs.Common.{◌≡◌, take}
-use Rattle.iim_audit.specs.Texts.{lines_from}
+use Rattle.iim_audit.specs.Format.Texts.{lines_from}
 use Rattle.iim_audit.proofs.text.report_text.Given as goal
 
 abbrev pub invariant-rows : goal.invariant-rows

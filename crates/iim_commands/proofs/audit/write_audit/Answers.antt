@@ -1,8 +1,8 @@
 use Rattle.std.proofs.Common.{rules, refl, inl, inr}
-use Rattle.iim_audit.specs.Auditing.{FailsAt, IsAudited}
+use Rattle.iim_audit.specs.Format.Auditing.{FailsAt, IsAudited}
 use Rattle.iim_unpack.specs.Intakes.{line}
-use Rattle.iim_commands.specs.Audits.{IsUnaudited}
-use Rattle.iim_commands.specs.Listings.{limits}
+use Rattle.iim_commands.specs.Format.Audits.{IsUnaudited}
+use Rattle.iim_commands.specs.Format.Listings.{limits}
 use Rattle.iim_commands.proofs.Audits.{unsaid, untold}
 use Rattle.iim_commands.proofs.Told.{handed_on}
 use Rattle.iim_commands.proofs.audit.write_audit.Goals as goal

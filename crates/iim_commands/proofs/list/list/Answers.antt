@@ -1,8 +1,8 @@
 use Rattle.std.proofs.Common.{rules, ◌≡◌, ◌+◌, [], refl, sym, append-nil}
 use Rattle.iim_unpack.specs.Intakes.{line}
-use Rattle.iim_commands.specs.Lines.{refused_line, too_many_line}
-use Rattle.iim_commands.specs.Listings.{max_envelopes, Whole, RefusedBy, TooMany}
-use Rattle.iim_commands.specs.Reports.{IsUnreported}
+use Rattle.iim_commands.specs.Format.Lines.{refused_line, too_many_line}
+use Rattle.iim_commands.specs.Format.Listings.{max_envelopes, Whole, RefusedBy, TooMany}
+use Rattle.iim_commands.specs.Format.Reports.{IsUnreported}
 use Rattle.iim_commands.specs.declared.fault.Fault.TheVariants.{OutOfMemory}
 use Rattle.iim_commands.proofs.Reports.{discards, ends_refused, failed, heard, left_of, never_fails, none_left, reported, reported_more, starved, unended, unsaid_of}
 use Rattle.iim_commands.proofs.Taken.{come_as, end_as, lives_as, refusal_as}

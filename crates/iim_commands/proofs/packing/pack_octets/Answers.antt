@@ -1,4 +1,4 @@
-use Rattle.iim_commands.specs.Packing.{asked}
+use Rattle.iim_commands.specs.Format.Packing.{asked}
 use Rattle.iim_commands.specs.PackSteps.{IsUnpacked, UnpacksTold, told_by}
 use Rattle.iim_commands.proofs.Packings.{if_err_map, unpacked_of}
 use Rattle.iim_commands.proofs.packing.pack_octets.Goals as goal

@@ -1,5 +1,5 @@
 use Rattle.std.proofs.Common.{subst}
-use Rattle.iim_commands.specs.Packing.{asked, refusal_line}
+use Rattle.iim_commands.specs.Format.Packing.{asked, refusal_line}
 use Rattle.iim_commands.specs.PackSteps.{IsUnpacked}
 use Rattle.iim_commands.specs.declared.packing.PackFault.{PackFault}
 use Rattle.iim_commands.proofs.Packings.{told_refused, unanswered_as}

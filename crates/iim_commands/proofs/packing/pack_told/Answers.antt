@@ -1,4 +1,4 @@
-use Rattle.iim_commands.specs.Packing.{asked}
+use Rattle.iim_commands.specs.Format.Packing.{asked}
 use Rattle.iim_commands.specs.PackSteps.{told_by}
 use Rattle.iim_commands.proofs.Packings.{packs_told, unpacks_told}
 use Rattle.iim_commands.proofs.packing.pack_told.Goals as goal

@@ -1,6 +1,6 @@
 use Rattle.std.proofs.Common.{rules, ◌≡◌, ℕ, List, subst}
-use Rattle.iim_commands.specs.Packing.{refusal_line}
-use Rattle.iim_commands.specs.Reports.{IsTold}
+use Rattle.iim_commands.specs.Format.Packing.{refusal_line}
+use Rattle.iim_commands.specs.Format.Reports.{IsTold}
 use Rattle.iim_commands.proofs.packing.tell_refusal.Goals as goal
 
 pub returns-in-Ok-clause-told : goal.returns-in-Ok-clause-told

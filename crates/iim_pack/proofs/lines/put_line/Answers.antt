@@ -4,7 +4,7 @@ use Rattle.iim_object.specs.declared.plan.Plan.{Plan}
 use Rattle.wire_story.specs.Delivery.{LineOctet, LineEnd}
 use Rattle.wire_story.specs.Packing.{packed_events}
 use Rattle.iim_pack.specs.Packing.{Lengthens, BreaksOff, GoesOnWith, text_cause, line_end_cause}
-use Rattle.iim_pack.specs.Whole.{line_events}
+use Rattle.iim_pack.specs.Format.Whole.{line_events}
 use Rattle.iim_pack.proofs.Goings.{on_ok, on_err, of_none, line_packed}
 use Rattle.iim_pack.proofs.LinesOut.{goes_on, breaks_later, breaks_before, may_text, may_end_line}
 use Rattle.iim_pack.proofs.lines.put_line.Goals as goal

@@ -5,7 +5,7 @@ use Rattle.std.proofs.lemmas.Bool.{and_parts}
 use Rattle.wire_story.specs.Texts.{is_line_octet}
 use Rattle.wire_story.specs.Delivery.{Event}
 use Rattle.iim_pack.specs.Packing.{BreaksOff, GoesOnWith}
-use Rattle.iim_pack.specs.Whole.{line_events, events_left}
+use Rattle.iim_pack.specs.Format.Whole.{line_events, events_left}
 use Rattle.iim_pack.proofs.LinesOut.{goes_nowhere, goes_on, breaks_later, breaks_before, all_left}
 use Rattle.iim_pack.proofs.lines.put_lines.Goals as goal
 

@@ -1,4 +1,4 @@
-use Rattle.iim_script.specs.Forms.{after_source, after_number, after_priority, after_category}
+use Rattle.iim_script.specs.Format.Forms.{after_source, after_number, after_priority, after_category}
 use Rattle.iim_script.proofs.Heads.{words_found, no_more, after_first, after_second, after_third}
 use Rattle.iim_script.proofs.message.cut_words.Goals as goal
 

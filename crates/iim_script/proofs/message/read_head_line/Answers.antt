@@ -1,6 +1,6 @@
 use Rattle.std.proofs.Common.{ℕ, List, sym, subst}
-use Rattle.iim_script.specs.Shown.{TellsLast}
-use Rattle.iim_script.specs.Forms.{words_of}
+use Rattle.iim_script.specs.Format.Shown.{TellsLast}
+use Rattle.iim_script.specs.Format.Forms.{words_of}
 use Rattle.iim_script.proofs.Heads.{words_told, head_told, is_told, is_not_told}
 use Rattle.iim_script.proofs.message.read_head_line.Goals as goal
 

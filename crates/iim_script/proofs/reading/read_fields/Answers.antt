@@ -1,5 +1,5 @@
 use Rattle.std.proofs.Common.{refl, sym, ◌∙◌, subst, arith}
-use Rattle.iim_script.specs.Faults.{TellsNoField}
+use Rattle.iim_script.specs.Format.Faults.{TellsNoField}
 use Rattle.iim_script.specs.Steps.{RefusesFields}
 use Rattle.iim_script.specs.declared.fault.ScriptCause.{ScriptCause}
 use Rattle.iim_script.proofs.Fronts.{stands_start, fields_added, fields_refused, tells_no_field, next_must_be, must_be_none}

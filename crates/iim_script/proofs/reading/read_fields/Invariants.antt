@@ -1,5 +1,5 @@
 use Rattle.std.proofs.Common.{◌≡◌, ◌+◌, ◌≤◌, length}
-use Rattle.iim_script.specs.Faults.{Stands, InFields}
+use Rattle.iim_script.specs.Format.Faults.{Stands, InFields}
 use Rattle.iim_script.proofs.reading.read_fields.Given as goal
 
 abbrev pub invariant-loop-line : goal.invariant-loop-line

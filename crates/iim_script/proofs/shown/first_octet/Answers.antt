@@ -1,6 +1,6 @@
 use Rattle.std.proofs.Common.{◌≡◌, ◌-◌, ◌<◌, ℕ, List, [], ◌∷◌, length, take, drop, get_or, sym, ◌∙◌, ap, subst, inl, refl, rules, IfSome, IfNone, arith}
 use Rattle.std.proofs.lemmas.Bool.{eqb-true}
-use Rattle.iim_script.specs.Shown.{BeginsWith}
+use Rattle.iim_script.specs.Format.Shown.{BeginsWith}
 use Rattle.iim_script.proofs.Texts.{first_and_rest, empty_begins}
 use Rattle.iim_script.proofs.shown.first_octet.Goals as goal
 

@@ -3,9 +3,10 @@ use Rattle.iim_dataset.specs.Datasets.{Dataset}
 use Rattle.iim_fields.specs.Faults.{kept_octets, joined}
 use Rattle.iim_fields.specs.Standing.{IsWithin}
 use Rattle.iim_unpack.specs.ByLayers.{RecordsLive, are_ended}
-use Rattle.iim_unpack.specs.Possible.{begun_count, begun_fields, widest}
+use Rattle.iim_unpack.specs.Format.Possible.{begun_count, begun_fields, widest}
 use Rattle.iim_unpack.specs.Taking.{AreKept, told_datasets}
-use Rattle.iim_unpack.specs.TicketParts.{Split, split_told}
+use Rattle.iim_unpack.specs.Format.TicketForm.{Split}
+use Rattle.iim_unpack.specs.TicketParts.{split_told}
 use Rattle.iim_unpack.specs.declared.possible.Readers.{Readers}
 use Rattle.iim_unpack.proofs.PlacesTold.{no_records, no_message, are_at}
 use Rattle.iim_unpack.proofs.possible.readers_at.Goals as goal

@@ -2,7 +2,7 @@ use Rattle.std.proofs.Common.{Bool, true, false, List, [], ap}
 use Rattle.iim_dataset.specs.Datasets.{Dataset}
 use Rattle.iim_fields.specs.Checks.{TakesHead, HasChecked}
 use Rattle.iim_unpack.specs.ByLayers.{are_ended}
-use Rattle.iim_unpack.specs.Possible.{widest}
+use Rattle.iim_unpack.specs.Format.Possible.{widest}
 use Rattle.iim_unpack.specs.Taking.{TookAll, told_datasets}
 use Rattle.iim_unpack.specs.TicketParts.{phase_told}
 use Rattle.iim_unpack.proofs.AtPlaces.{goes_on_told}

@@ -3,7 +3,8 @@ use Rattle.iim_dataset.specs.Datasets.{count_octets}
 use Rattle.iim_dataset.specs.Tags.{BeginsTag}
 use Rattle.iim_dataset.specs.declared.place.DatasetPlace.TheVariants.{Tag, Inside}
 use Rattle.iim_unpack.specs.ByLayers.{TagsLead, head_at}
-use Rattle.iim_unpack.specs.TicketParts.{IsPhase, phase_told}
+use Rattle.iim_unpack.specs.Format.TicketForm.{IsPhase}
+use Rattle.iim_unpack.specs.TicketParts.{phase_told}
 use Rattle.iim_unpack.specs.declared.ticket_parts.TicketPhase.{TicketPhase}
 use Rattle.iim_unpack.proofs.AtPlaces.{some_place, no_place}
 use Rattle.iim_unpack.proofs.readers.tags_at.Goals as goal

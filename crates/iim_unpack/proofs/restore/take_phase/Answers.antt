@@ -2,7 +2,7 @@ use Rattle.std.proofs.Common.{◌≡◌, sym, ap, subst}
 use Rattle.iim_fields.specs.Standing.{limits_of}
 use Rattle.iim_unpack.specs.ByLayers.{TagsLead, RecordsLive}
 use Rattle.iim_unpack.specs.Restoring.{AreWithinWith, RecordsStand}
-use Rattle.iim_unpack.specs.Tickets.{Phase, DataBegun}
+use Rattle.iim_unpack.specs.Format.Tickets.{Phase, DataBegun}
 use Rattle.iim_unpack.specs.TicketParts.{phase_told}
 use Rattle.iim_unpack.proofs.Restoring.{few_in, may_begin}
 use Rattle.iim_unpack.proofs.restore.take_phase.Goals as goal

@@ -29,8 +29,8 @@ returns-then-take_records-clause-all g c all =
     let numbers : Numbers = numbers_told c.args.numbers in
     subst (λ (es : List Dataset). TookAll g.T.DatasetTaker.ready g.T.DatasetTaker.stands g.T.DatasetTaker.limits c.args.taker.now es c.take_object.new.taker c.take_object.result) (joined c.args.fields numbers c.args.some c.args.ended)
     (took_then g.T.DatasetTaker.ready g.T.DatasetTaker.stands g.T.DatasetTaker.limits c.args.taker.now c.take_records.new.taker c.take_object.new.taker c.take_object.new.taker
-        (c.args.fields ++ plain_numbers numbers) (subfile c.args.some ++ plain_end c.args.ended []) c.take_records.result c.take_object.result c.take_object.result
-        (c.take_records.ensures.all all) c.if-take_records.true c.take_object.ensures.took refl refl)
+    (c.args.fields ++ plain_numbers numbers) (subfile c.args.some ++ plain_end c.args.ended []) c.take_records.result c.take_object.result c.take_object.result
+    (c.take_records.ensures.all all) c.if-take_records.true c.take_object.ensures.took refl refl)
 
 pub returns-else-take_records-clause-all : goal.returns-else-take_records-clause-all
 unfolding subfile
@@ -38,5 +38,5 @@ returns-else-take_records-clause-all g c all =
     let numbers : Numbers = numbers_told c.args.numbers in
     subst (λ (es : List Dataset). TookAll g.T.DatasetTaker.ready g.T.DatasetTaker.stands g.T.DatasetTaker.limits c.args.taker.now es c.take_records.new.taker c.take_records.result) (joined c.args.fields numbers c.args.some c.args.ended)
     (took_else g.T.DatasetTaker.ready g.T.DatasetTaker.stands g.T.DatasetTaker.limits c.args.taker.now c.take_records.new.taker c.take_records.new.taker
-        (c.args.fields ++ plain_numbers numbers) (subfile c.args.some ++ plain_end c.args.ended []) c.take_records.result c.take_records.result
-        (c.take_records.ensures.all all) c.if-take_records.false c.if-take_records.false)
+    (c.args.fields ++ plain_numbers numbers) (subfile c.args.some ++ plain_end c.args.ended []) c.take_records.result c.take_records.result
+    (c.take_records.ensures.all all) c.if-take_records.false c.if-take_records.false)

@@ -3,7 +3,7 @@ use Rattle.std.specs.List.{flat_map}
 use Rattle.std.proofs.lemmas.List.{append-nil}
 use Rattle.iim_dataset.specs.Datasets.{Dataset}
 use Rattle.iim_fields.specs.Walks.{rest_of}
-use Rattle.iim_unpack.specs.Tickets.{four, field_octets}
+use Rattle.iim_unpack.specs.Format.Tickets.{four, field_octets}
 use Rattle.iim_unpack.proofs.ticket.push_fields.Goals as goal
 
 one_more : (done : List Dataset) (d : Dataset) → flat_map field_octets (done ++ d ∷ []) ≡ flat_map field_octets done ++ field_octets d

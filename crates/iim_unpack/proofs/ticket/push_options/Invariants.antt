@@ -1,6 +1,6 @@
 use Rattle.std.proofs.Common.{◌≡◌, ◌++◌, take}
 use Rattle.std.specs.List.{flat_map}
-use Rattle.iim_unpack.specs.Tickets.{number_octets}
+use Rattle.iim_unpack.specs.Format.Tickets.{number_octets}
 use Rattle.iim_unpack.proofs.ticket.push_options.Given as goal
 
 abbrev pub invariant-loop-number : goal.invariant-loop-number

@@ -1,6 +1,6 @@
 use Rattle.std.proofs.Common.{[], ◌∷◌, refl}
 use Rattle.iim_unpack.proofs.Splitting.{no_text, spelled_then, texts_after, no_texts}
-use Rattle.iim_unpack.specs.Tickets.{text_octets}
+use Rattle.iim_unpack.specs.Format.Tickets.{text_octets}
 use Rattle.iim_unpack.proofs.ticket_parts.take_texts.Goals as goal
 
 pub returns-in_err-source-clause-none : goal.returns-in_err-source-clause-none

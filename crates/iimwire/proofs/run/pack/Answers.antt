@@ -1,8 +1,8 @@
 use Rattle.std.proofs.Common.{◌≡◌, ℕ, Result, Ok, Err, IfOk, IfErr, OnErr, ap, sym, inl, inr, subst}
 use Rattle.iim_dataset.specs.Devices.{Device}
-use Rattle.iim_commands.specs.Devices.{devices}
+use Rattle.iim_commands.specs.Format.Devices.{devices}
 use Rattle.iimwire.specs.Outcomes.{Complained, Finishes, Packs}
-use Rattle.iim_commands.specs.Packing.{Answered, Asked, IsUnanswered, asked}
+use Rattle.iim_commands.specs.Format.Packing.{Answered, Asked, IsUnanswered, asked}
 use Rattle.iim_commands.specs.declared.fault.Fault.{Fault}
 use Rattle.iim_commands.specs.declared.fault.Fault.TheVariants.{CannotRead, CannotWrite, OutOfMemory}
 use Rattle.iimwire.proofs.run.pack.Goals as goal

@@ -1,10 +1,10 @@
 use Rattle.std.proofs.Common.{◌≡◌, ℕ, List, Result, Ok, Err, IfOk, IfErr, ap, sym, ◌∙◌, inl, inr, subst}
 use Rattle.iim_dataset.specs.Devices.{Device}
 use Rattle.iim_unpack.specs.Intakes.{line}
-use Rattle.iim_commands.specs.Devices.{devices}
-use Rattle.iim_commands.specs.Listings.{Envelope}
+use Rattle.iim_commands.specs.Format.Devices.{devices}
+use Rattle.iim_commands.specs.Format.Listings.{Envelope}
 use Rattle.iimwire.specs.Outcomes.{Finishes, Listed}
-use Rattle.iim_commands.specs.Reports.{Reported, IsUnreported}
+use Rattle.iim_commands.specs.Format.Reports.{Reported, IsUnreported}
 use Rattle.iim_commands.specs.declared.fault.Fault.{Fault}
 use Rattle.iimwire.proofs.Runs.{behind_none}
 use Rattle.iimwire.proofs.run.report.Goals as goal

@@ -1,8 +1,8 @@
 use Rattle.std.proofs.Common.{◌≡◌, ℕ, ℤ, Result, Ok, Err, IfOk, IfErr, ap, sym, ◌∙◌, inl, inr, subst}
 use Rattle.iim_dataset.specs.Devices.{Device}
 use Rattle.iim_unpack.specs.Intakes.{line}
-use Rattle.iim_commands.specs.Audits.{Audited, IsUnaudited}
-use Rattle.iim_commands.specs.Devices.{devices}
+use Rattle.iim_commands.specs.Format.Audits.{Audited, IsUnaudited}
+use Rattle.iim_commands.specs.Format.Devices.{devices}
 use Rattle.iimwire.specs.Outcomes.{Finishes, Reviewed}
 use Rattle.iim_commands.specs.declared.fault.Fault.{Fault}
 use Rattle.iimwire.proofs.Runs.{behind_none}

@@ -1,7 +1,7 @@
 use Rattle.std.proofs.Common.{[], refl, sym, subst}
 use Rattle.iim_dataset.specs.Devices.{Device}
 use Rattle.iim_unpack.specs.Blocks.{behind}
-use Rattle.iim_commands.specs.Devices.{Devices, devices}
+use Rattle.iim_commands.specs.Format.Devices.{Devices, devices}
 use Rattle.iimwire.specs.Outcomes.{Ran}
 use Rattle.iimwire.specs.declared.request.Job.{Job}
 use Rattle.iimwire.proofs.Runs.{behind_none}

@@ -4,11 +4,11 @@ use Rattle.std.proofs.lemmas.Result.{on_ok_weaker}
 use Rattle.iim_dataset.specs.Datasets.{Dataset}
 use Rattle.iim_object.specs.declared.size.Sizes.{Sizes}
 use Rattle.wire_message.specs.Messages.{Header}
-use Rattle.iim_unpack.specs.Admitted.{Value}
-use Rattle.iim_unpack.specs.Value.{HasParts}
+use Rattle.iim_unpack.specs.Format.Admitted.{Value}
+use Rattle.iim_unpack.specs.Format.Value.{HasParts}
 use Rattle.iim_unpack.specs.declared.unpacker.Unpacked.{Unpacked}
-use Rattle.iim_script.specs.Printed.{field_line, message_line, trailer_line}
-use Rattle.iim_commands.specs.Texts.{number_line, sizes_line, shown_text}
+use Rattle.iim_script.specs.Format.Printed.{field_line, message_line, trailer_line}
+use Rattle.iim_commands.specs.Format.Texts.{number_line, sizes_line, shown_text}
 use Rattle.iim_commands.proofs.show.ShowReport.push_text.Goals as goal
 
 -- five parts, one after another

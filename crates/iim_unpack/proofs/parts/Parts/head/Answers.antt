@@ -1,5 +1,5 @@
 use Rattle.std.proofs.Common.{[], refl, arith, append-nil}
-use Rattle.iim_unpack.specs.Admitted.{object_of}
+use Rattle.iim_unpack.specs.Format.Admitted.{object_of}
 use Rattle.wire_message.specs.Layers.{text_so_far}
 use Rattle.iim_unpack.proofs.Heading.{went_head, begins_subfile, begins_end, begins_other, stopped_field, stopped_subfile, stopped_last}
 use Rattle.iim_unpack.proofs.Results.{on_ok, on_both, err_then}

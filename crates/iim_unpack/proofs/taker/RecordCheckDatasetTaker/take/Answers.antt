@@ -1,7 +1,7 @@
 use Rattle.std.proofs.Common.{Bool, [], ◌∷◌, subst, sym}
 use Rattle.iim_fields.specs.Checks.{TakesHead, HasChecked}
 use Rattle.iim_unpack.specs.Begins.{dataset}
-use Rattle.iim_unpack.specs.Possible.{widest}
+use Rattle.iim_unpack.specs.Format.Possible.{widest}
 use Rattle.iim_unpack.specs.Taking.{TookAll}
 use Rattle.iim_unpack.proofs.Taking.{value_took}
 use Rattle.iim_unpack.proofs.taker.RecordCheckDatasetTaker.take.Goals as goal

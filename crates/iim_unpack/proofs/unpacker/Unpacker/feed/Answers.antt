@@ -1,5 +1,5 @@
 use Rattle.std.proofs.Common.{◌≡◌, ℕ, [], true, false, refl, ap, sym, subst, ◌∙◌}
-use Rattle.iim_unpack.specs.Refusals.{refusal_at}
+use Rattle.iim_unpack.specs.Format.Refusals.{refusal_at}
 use Rattle.iim_unpack.specs.Unpacking.{Unpacking, Stands, IsRefusedIn, limits_in}
 use Rattle.iim_unpack.specs.Parts.{has_ended}
 use Rattle.wire_story.specs.Delivery as story
@@ -26,11 +26,13 @@ returns-then-has_ended-2-clause-goes g c =
     let v : Unpacking = record { reader = n.reader; parts = n.parts; octets = c.raised-self-inside.result; begun = c.begins-self-inside.result; refused = i.refused } in
     let h = c.in-Ok.ensures.taken in (
       h.advanced.went.calm,
-      (story.delivered h.advanced.went.more,
-      h.advanced.went.told,
-      λ p a at.
-          goes_done g.S.StorySink.goes g.S.StorySink.failures laws u v c.args.piece.now c.in-Ok.used c.args.sink.now n.sink (c.readers_tell_sizes.ensures n.parts.object).0 h.advanced h.onward refl (sym c.if-has_ended-2.ensures) c.raised-self-inside.ensures h.within (c.readers_tell_sizes.ensures n.parts.object).1 p a
-          (subst (λ (w : Unpacking). Stands w p a) (sym c.self.view_is) at)),
+      (
+        story.delivered h.advanced.went.more,
+        h.advanced.went.told,
+        λ p a at.
+            goes_done g.S.StorySink.goes g.S.StorySink.failures laws u v c.args.piece.now c.in-Ok.used c.args.sink.now n.sink (c.readers_tell_sizes.ensures n.parts.object).0 h.advanced h.onward refl (sym c.if-has_ended-2.ensures) c.raised-self-inside.ensures h.within (c.readers_tell_sizes.ensures n.parts.object).1 p a
+            (subst (λ (w : Unpacking). Stands w p a) (sym c.self.view_is) at),
+      ),
     )
 
 pub returns-else-has_ended-2-clause-goes : goal.returns-else-has_ended-2-clause-goes
@@ -42,11 +44,13 @@ returns-else-has_ended-2-clause-goes g c =
     let v : Unpacking = record { reader = n.reader; parts = n.parts; octets = c.raised-self-inside.result; begun = c.begins-self-inside.result; refused = i.refused } in
     let h = c.in-Ok.ensures.taken in (
       h.advanced.went.calm,
-      (story.delivered h.advanced.went.more,
-      h.advanced.went.told,
-      λ p a at.
-          goes_more g.S.StorySink.goes g.S.StorySink.failures laws u v c.args.piece.now c.in-Ok.used c.args.sink.now n.sink h.advanced h.onward refl (sym c.if-has_ended-2.ensures) c.raised-self-inside.ensures c.begins-self-inside.ensures p a
-          (subst (λ (w : Unpacking). Stands w p a) (sym c.self.view_is) at)),
+      (
+        story.delivered h.advanced.went.more,
+        h.advanced.went.told,
+        λ p a at.
+            goes_more g.S.StorySink.goes g.S.StorySink.failures laws u v c.args.piece.now c.in-Ok.used c.args.sink.now n.sink h.advanced h.onward refl (sym c.if-has_ended-2.ensures) c.raised-self-inside.ensures c.begins-self-inside.ensures p a
+            (subst (λ (w : Unpacking). Stands w p a) (sym c.self.view_is) at),
+      ),
     )
 
 pub returns-in-Err-clause-refused : goal.returns-in-Err-clause-refused

@@ -1,0 +1,4 @@
+pub mod Ages
+pub mod Auditing
+pub mod Rows
+pub mod Texts

@@ -1,0 +1,10 @@
+pub mod Audits
+pub mod Devices
+pub mod Lines
+pub mod Listings
+pub mod Narration
+pub mod Packing
+pub mod Reports
+pub mod Scripts
+pub mod Shown
+pub mod Texts

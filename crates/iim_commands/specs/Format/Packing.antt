@@ -1,0 +1,139 @@
+-- What `pack` leaves of its input, its output and its errors.
+use Rattle.std.specs.Prelude.{◌≡◌, ◌≢◌, ℕ, ◌+◌, ◌<◌, ◌≤◌, ◌⊎◌, Bool, true, false, List, ◌++◌, length, codes, decimal, Option, Some}
+use Rattle.std.specs.Io.KnownBytes.{IsAtEnd}
+use Rattle.iim_tables.specs.Numbers.{greatest_size}
+use Rattle.iim_dataset.specs.Datasets.{Dataset}
+use Rattle.iim_dataset.specs.Devices.{Device, Wrote}
+use Rattle.iim_dataset.specs.DeviceLaws.{BrokeAfter, HasGiven, MissedBehind}
+use Rattle.iim_dataset.specs.declared.device.IoFault.{IoFault}
+use Rattle.iim_object.specs.Writing.{Begins}
+use Rattle.iim_object.specs.declared.plan.Plan.{Plan}
+use Rattle.iim_object.specs.declared.size.Size.{Size}
+use Rattle.iim_object.specs.declared.size.Size.TheVariants.{Known, Unknown}
+use Rattle.wire_message.specs.Messages.{Header}
+use Rattle.wire_message.specs.Canonical.{canonical}
+use Rattle.iim_pack.specs.Format.Packed.{Packed}
+use Rattle.iim_script.specs.Format.Causes.{cause_name, cause_number}
+use Rattle.iim_script.specs.Format.Faults.{IsScriptFault}
+use Rattle.iim_script.specs.Format.Scripts.{IsScript, max_script}
+use Rattle.iim_script.specs.declared.fault.ScriptCause.{ScriptCause}
+use Rattle.iim_script.specs.declared.fault.ScriptCause.TheVariants as script
+use Rattle.iim_commands.specs.declared.fault.Fault.{Fault}
+use Rattle.iim_commands.specs.declared.fault.Fault.TheVariants.{CannotRead, CannotWrite, OutOfMemory}
+use Rattle.iim_commands.specs.Format.Devices.{Devices}
+use Rattle.iim_commands.specs.Format.Listings.{limits}
+use Rattle.iim_commands.specs.Format.Reports.{IsTold}
+
+-- how an envelope is to be packed: the octets of a full subfile; whether the size is to be left unknown, and then the most octets of
+-- the object
+pub record Asked : Type 0 where
+  pub subfile : ℕ
+  pub unknown : Bool
+  pub max : Option ℕ
+
+abbrev pub asked : ℕ → Bool → Option ℕ → Asked
+asked subfile unknown max = record { subfile = subfile; unknown = unknown; max = max }
+
+-- the size that is said of an object: how many octets it has, or no more than a maximum
+abbrev pub said_size : Bool → Option ℕ → List ℕ → Size
+said_size false max object = Known (length object)
+said_size true max object = Unknown max
+
+-- the most octets of an object: the maximum of an unknown size, or else the greatest size
+abbrev pub most_asked : Bool → Option ℕ → ℕ
+most_asked true (Some most) = most
+most_asked unknown max = greatest_size
+
+-- The plan is the one that is asked for, of this object.
+pub record IsPlanOf (a : Asked) (object : List ℕ) (plan : Plan) : Type 0 where
+  pub subfile_is : plan.subfile ≡ a.subfile
+  pub size_is : plan.size ≡ said_size a.unknown a.max object
+
+-- ---- what a script tells
+
+pub record Told : Type 0 where
+  pub fields : List Dataset
+  pub head : Header
+  pub trailer : List ℕ
+  pub lines : List (List ℕ)
+  pub text_line : ℕ
+
+-- the object of it
+abbrev pub object_of : Told → List ℕ
+object_of t = canonical t.head t.lines t.trailer
+
+-- The object has no more octets than are asked for.
+abbrev pub HasRoom : Asked → Told → Type 0
+HasRoom a t = length (object_of t) ≤ most_asked a.unknown a.max
+
+-- It has more.
+abbrev pub IsPast : Asked → Told → Type 0
+IsPast a t = most_asked a.unknown a.max < length (object_of t)
+
+-- The octets are a script, within the program's limits, that tells this.
+abbrev pub Tells : List ℕ → Told → Type 0
+Tells octets t = IsScript limits octets t.fields t.head t.trailer t.lines t.text_line
+
+-- The form is the packed one of what is told, as it is asked for.
+pub record IsFormOf (a : Asked) (t : Told) (form : List ℕ) : Type 0 where
+  pub plan : Plan
+  pub is_plan : IsPlanOf a (object_of t) plan
+  pub packed : Packed t.fields t.head t.lines t.trailer plan form
+
+-- the line that tells a refusal: the number of a line of the script, and a cause's number and name
+abbrev pub refusal_line : ℕ → ℕ → List ℕ → List ℕ
+refusal_line line number name =
+    codes "refused: script line " ++ (decimal line ++ (codes " cause " ++ (decimal number ++ (codes " " ++ (name ++ codes "\n")))))
+
+-- The octets are no script, and the line tells their first fault.
+abbrev pub IsFaultLine : List ℕ → List ℕ → Type 0
+IsFaultLine octets text = (line : ℕ) × (cause : ScriptCause) × IsScriptFault limits octets line cause × (cause ≢ script.OutOfMemory)
+    × (text ≡ refusal_line line (cause_number cause) (cause_name cause))
+
+-- The octets are a script whose object has more octets than are asked for, which is told of the line `text`.
+abbrev pub IsPastLine : Asked → List ℕ → List ℕ → Type 0
+IsPastLine a octets text = (t : Told) × Tells octets t × IsPast a t
+    × (text ≡ refusal_line t.text_line 80 (codes "PastAnnounced"))
+
+-- Why the octets are not packed, and the line that tells it.
+abbrev pub IsRefusal : Asked → List ℕ → List ℕ → Type 0
+IsRefusal a octets text = IsFaultLine octets text ⊎ IsPastLine a octets text
+
+-- ---- the input
+
+-- These octets were read, and no read failed: all that the input has, or one more than a script may have.
+abbrev pub IsRead : Device → Device → List ℕ → Type 0
+IsRead old new octets = HasGiven old new octets × ((IsAtEnd new.octets × (length octets ≤ max_script)) ⊎ (length octets ≡ max_script + 1))
+
+-- Why the input was not read: a read failed after no more octets than a script may have; or memory was short.
+abbrev pub IsUnread : Device → Device → Fault → Type 0
+IsUnread old new CannotRead = (octets : List ℕ) × (fault : IoFault) × (length octets ≤ max_script) × MissedBehind old new octets fault
+IsUnread old new CannotWrite = ⊥
+IsUnread old new OutOfMemory = (octets : List ℕ) × (length octets ≤ max_script + 1) × HasGiven old new octets
+
+-- ---- the output
+
+-- The octets are a script, and the form that is asked for of what it tells is out.
+abbrev pub IsPacked : Asked → List ℕ → Device → Device → Type 0
+IsPacked a octets old new = (t : Told) × (form : List ℕ) × Tells octets t × IsFormOf a t form × Wrote old new form
+
+-- The octets are a script whose object has room, and a write failed after octets with which the form begins that is packed of what
+-- the script tells by the plan that is asked for.
+abbrev pub IsBrokenOff : Asked → List ℕ → Device → Device → Type 0
+IsBrokenOff a octets old new = (t : Told) × (plan : Plan) × (out : List ℕ) × Tells octets t × HasRoom a t × IsPlanOf a (object_of t) plan × BrokeAfter old new out
+    × ((form : List ℕ) → Packed t.fields t.head t.lines t.trailer plan form → Begins out form)
+
+-- ---- what is left
+
+-- The envelope of the script is packed, and nothing is told; or the script is refused, nothing is written to the output, and the
+-- errors tell it.
+abbrev pub Answered : Asked → Devices → Devices → ℕ → Type 0
+Answered a old new status = (octets : List ℕ) × IsRead old.input new.input octets
+    × ((IsPacked a octets old.output new.output × (new.errors ≡ old.errors) × (status ≡ 0))
+    ⊎ ((text : List ℕ) × IsRefusal a octets text × (new.output ≡ old.output) × IsTold old.errors new.errors text 1 status))
+
+-- Why there is no answer: the input was not read; or memory was short; or the output broke. Only in the last case anything is written.
+abbrev pub IsUnanswered : Asked → Devices → Devices → Fault → Type 0
+IsUnanswered a old new CannotRead = IsUnread old.input new.input CannotRead × (new.output ≡ old.output)
+IsUnanswered a old new CannotWrite = (octets : List ℕ) × IsRead old.input new.input octets × IsBrokenOff a octets old.output new.output
+IsUnanswered a old new OutOfMemory = IsUnread old.input new.input OutOfMemory × (new.output ≡ old.output)

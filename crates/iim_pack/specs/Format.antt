@@ -1,0 +1,5 @@
+pub mod Packed
+pub mod Laws
+pub mod Orders
+pub mod Begun
+pub mod Whole

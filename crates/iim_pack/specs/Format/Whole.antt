@@ -1,0 +1,31 @@
+-- A whole envelope packed in one call.
+use Rattle.std.specs.Prelude.{ℕ, ◌⊎◌, Bool, true, false, List, [], ◌∷◌, ◌++◌, map}
+use Rattle.iim_dataset.specs.Devices.{Device, Wrote}
+use Rattle.iim_dataset.specs.Datasets.{Dataset}
+use Rattle.iim_object.specs.declared.plan.Plan.{Plan}
+use Rattle.iim_object.specs.declared.cause.PackCause.TheVariants as causes
+use Rattle.iim_object.specs.declared.cause.StartFault.{StartFault}
+use Rattle.wire_story.specs.Delivery.{Event, LineOctet, LineEnd}
+use Rattle.wire_message.specs.Messages.{Header}
+use Rattle.iim_pack.specs.Format.Packed.{Packed}
+use Rattle.iim_pack.specs.Starting.{IsRefused, Halts}
+
+-- the events of a line: before each but the first the last one ends
+abbrev pub line_events : Bool → List ℕ → List Event
+line_events true line = map LineOctet line
+line_events false line = LineEnd ∷ map LineOctet line
+
+-- the events of the lines that are left
+abbrev pub events_left : Bool → List (List ℕ) → List Event
+events_left is_first [] = []
+events_left is_first (line ∷ lines) = line_events is_first line ++ events_left false lines
+
+-- The packed form is out.
+pub record Packs {W : Type 0} (state : W → Device) (writer : W) (fields : List Dataset) (head : Header) (lines : List (List ℕ)) (trailer : List ℕ) (plan : Plan) (last : W) : Type 0 where
+  pub out : List ℕ
+  pub wrote : Wrote (state writer) (state last) out
+  pub packed : Packed fields head lines trailer plan out
+
+-- Memory was refused, and nothing was written; or a write failed, and what is out begins the form.
+abbrev pub IsPackFault : {W : Type 0} → (W → Device) → List Dataset → Header → List (List ℕ) → List ℕ → Plan → W → StartFault W → Type 0
+IsPackFault state fields head lines trailer plan writer fault = IsRefused causes.OutOfMemory writer fault ⊎ Halts state (Packed fields head lines trailer plan) writer fault

@@ -1,0 +1,70 @@
+-- What was packed, unpacked.
+use Rattle.std.specs.Prelude.{◌≡◌, ℕ, List, ◌++◌, length}
+use Rattle.iim_dataset.specs.Datasets.{Dataset}
+use Rattle.iim_fields.specs.Faults.{joined}
+use Rattle.iim_fields.specs.Standing.{IsWithin}
+use Rattle.iim_fields.specs.declared.limits.Limits.{Limits}
+use Rattle.iim_object.specs.declared.plan.Plan.{Plan}
+use Rattle.wire_story.specs.Delivery as story
+use Rattle.wire_message.specs.Messages.{Header}
+use Rattle.iim_pack.specs.Format.Packed.{Packed}
+use Rattle.iim_unpack.specs.Format.Admitted.{Value}
+use Rattle.iim_unpack.specs.Format.Value.{HasParts}
+use Rattle.iim_unpack.specs.declared.refusal.Refusal.{Refusal}
+use Rattle.iim_unpack.specs.declared.refusal.Cause.TheVariants.{Sink}
+use Rattle.iim_unpack.specs.declared.unpacker.Unpacked.{Unpacked}
+use Rattle.iim_unpack.specs.Format.Streams.{IsEnvelopeWithin, Answer, Answers, Finished}
+use Rattle.iim_round_trip.specs.Format.Laws.{packed_value}
+
+-- The fields have no more octets than the limits allow, and are no more.
+abbrev pub FieldsAreWithin : Limits → List Dataset → Type 0
+FieldsAreWithin limits fields = IsWithin limits (length (joined fields)) (length fields)
+
+-- Packed octets are an envelope within each limits that its fields are within.
+abbrev pub PackedOctetsAreWithin : Type 0
+PackedOctetsAreWithin = (limits : Limits) (fields : List Dataset) (head : Header) (lines : List (List ℕ)) (trailer : List ℕ) (plan : Plan) (octets : List ℕ)
+    → (p : Packed fields head lines trailer plan octets) → FieldsAreWithin limits fields
+    → IsEnvelopeWithin limits octets (packed_value fields head lines trailer plan p.written.parts)
+
+-- The stream begins with what was packed, within the limits. Anything may follow.
+pub record BeginsPacked (limits : Limits) (stream : List ℕ) (fields : List Dataset) (head : Header) (lines : List (List ℕ)) (trailer : List ℕ) (plan : Plan) : Type 0 where
+  pub octets : List ℕ
+  pub packed : Packed fields head lines trailer plan octets
+  pub within : FieldsAreWithin limits fields
+  pub rest : List ℕ
+  pub parts : stream ≡ octets ++ rest
+
+-- the answer to such a stream: an envelope of just the packed octets, with the value that was packed
+abbrev pub packed_answer : {limits : Limits} → {stream : List ℕ} → {fields : List Dataset} → {head : Header} → {lines : List (List ℕ)} → {trailer : List ℕ} → {plan : Plan}
+    → BeginsPacked limits stream fields head lines trailer plan → Answer
+packed_answer {limits} {stream} {fields} {head} {lines} {trailer} {plan} b =
+    Finished (length b.octets) (packed_value fields head lines trailer plan b.packed.written.parts)
+
+-- A stream that begins with what was packed has this answer, and no other.
+pub record IsAnsweredSo (limits : Limits) (stream : List ℕ) (answer : Answer) : Type 0 where
+  pub answers : Answers limits stream answer
+  pub only : (other : Answer) → Answers limits stream other → other ≡ answer
+
+abbrev pub PackedStreamsHaveTheirAnswer : Type 0
+PackedStreamsHaveTheirAnswer = (limits : Limits) (stream : List ℕ) (fields : List Dataset) (head : Header) (lines : List (List ℕ)) (trailer : List ℕ) (plan : Plan)
+    → (b : BeginsPacked limits stream fields head lines trailer plan) → IsAnsweredSo limits stream (packed_answer b)
+
+-- ---- a stream that was unpacked
+
+-- The envelope, the header, the trailer and the sizes are those that were packed; just the packed octets were used, and the sink was
+-- told the lines.
+pub record IsGivenBack {S : Type 0} (goes : S → List story.Event → S → Type 0) (value : Value) (octets : List ℕ) (a b : S) (got : Unpacked) (used : ℕ) : Type 0 where
+  pub used_is : used ≡ length octets
+  pub parts : HasParts got value
+  pub told : goes a (story.events_of_lines value.lines) b
+
+-- If the stream begins with what was packed, within the limits, then this is given back.
+abbrev pub GivesBack : {S : Type 0} → (S → List story.Event → S → Type 0) → Limits → List ℕ → S → S → Unpacked → ℕ → Type 0
+GivesBack goes limits stream a b got used = (fields : List Dataset) (head : Header) (lines : List (List ℕ)) (trailer : List ℕ) (plan : Plan)
+    → (p : BeginsPacked limits stream fields head lines trailer plan)
+    → IsGivenBack goes (packed_value fields head lines trailer plan p.packed.written.parts) p.octets a b got used
+
+-- If the stream begins with what was packed, within the limits, then the sink refused.
+abbrev pub RefusesBySink : Limits → List ℕ → Refusal → Type 0
+RefusesBySink limits stream e = (fields : List Dataset) (head : Header) (lines : List (List ℕ)) (trailer : List ℕ) (plan : Plan)
+    → BeginsPacked limits stream fields head lines trailer plan → e.cause ≡ Sink

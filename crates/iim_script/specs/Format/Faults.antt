@@ -1,0 +1,129 @@
+-- Why octets are no script: the first fault by line.
+use Rattle.std.specs.Prelude.{◌≡◌, ℕ, ◌+◌, ◌<◌, ◌≤◌, ◌⊎◌, List, [], ◌∷◌, ◌++◌, length, Some}
+use Rattle.std.specs.List.{AllByRecursion}
+use Rattle.iim_dataset.specs.Datasets.{Dataset}
+use Rattle.iim_fields.specs.Builders.{add_fault, finish_fault}
+use Rattle.iim_fields.specs.declared.limits.Limits.{Limits}
+use Rattle.iim_fields.specs.declared.fault.FieldCause.{FieldCause}
+use Rattle.iim_fields.specs.declared.fault.FieldFault.{FieldFault}
+use Rattle.wire_message.specs.Messages.{Header, IsTrailer}
+use Rattle.wire_story.specs.Texts.{IsLine}
+use Rattle.iim_script.specs.Format.Lines.{HasNo, NextLine, EndLines}
+use Rattle.iim_script.specs.Format.Forms.{TellsField, TellsHead, TellsTrailer, text_word}
+use Rattle.iim_script.specs.Format.Scripts.{AreFields, IsFront, max_script}
+use Rattle.iim_script.specs.declared.fault.ScriptCause.{ScriptCause}
+use Rattle.iim_script.specs.declared.fault.ScriptCause.TheVariants.{ScriptLine, ScriptTooLong, Field, BadTrailer, BadTextOctet, OutOfMemory}
+
+-- how far a script has come after some lines, and what they tell: datasets; then the header too; then the trailer too
+pub data Stage : Type 0 where
+  InFields : List Dataset → Stage
+  AfterMessage : List Dataset → Header → Stage
+  AfterTrailer : List Dataset → Header → List ℕ → Stage
+
+-- The lines are the beginning of a script, which has come this far.
+abbrev pub HaveCome : Limits → List (List ℕ) → Stage → Type 0
+HaveCome limits lines (InFields ds) = AreFields limits lines ds
+HaveCome limits lines (AfterMessage ds head) =
+    (fields : List (List ℕ)) × (message : List ℕ) × AreFields limits fields ds × TellsHead message head × (lines ≡ fields ++ message ∷ [])
+HaveCome limits lines (AfterTrailer ds head trailer) =
+    (fields : List (List ℕ)) × (message : List ℕ) × (line : List ℕ) × AreFields limits fields ds × TellsHead message head
+    × TellsTrailer line trailer × IsTrailer trailer × (lines ≡ fields ++ (message ∷ line ∷ []))
+
+-- The octets begin with so many lines, each with its end, after which a script has come this far, and this is left.
+pub record Stands (limits : Limits) (octets : List ℕ) (stage : Stage) (rest : List ℕ) (count : ℕ) : Type 0 where
+  pub lines : List (List ℕ)
+  pub front : List ℕ
+  pub lined : EndLines lines front
+  pub parts : octets ≡ front ++ rest
+  pub count_is : count ≡ length lines
+  pub come : HaveCome limits lines stage
+
+-- The line tells no dataset.
+abbrev pub TellsNoField : List ℕ → Type 0
+TellsNoField line = (d : Dataset) → TellsField line d → ⊥
+
+-- The line tells no header.
+abbrev pub TellsNoHead : List ℕ → Type 0
+TellsNoHead line = (head : Header) → TellsHead line head → ⊥
+
+-- The line tells no octets of a trailer.
+abbrev pub TellsNoTrailer : List ℕ → Type 0
+TellsNoTrailer line = (octets : List ℕ) → TellsTrailer line octets → ⊥
+
+-- The line has no form of those that may stand at this stage.
+abbrev pub HasNoForm : Stage → List ℕ → Type 0
+HasNoForm (InFields ds) line = TellsNoField line × TellsNoHead line
+HasNoForm (AfterMessage ds head) line = TellsNoTrailer line × (line ≡ text_word → ⊥)
+HasNoForm (AfterTrailer ds head trailer) line = line ≡ text_word → ⊥
+
+-- The line tells a dataset that the builder takes not, for this cause.
+abbrev pub TellsBadField : Limits → List Dataset → List ℕ → FieldCause → Type 0
+TellsBadField limits ds line cause = (d : Dataset) × (fault : FieldFault) × TellsField line d × (add_fault limits ds d ≡ Some fault) × (cause ≡ fault.cause)
+
+-- The line is `text`, and the datasets make no envelope, for this cause.
+abbrev pub EndsTooSoon : List Dataset → List ℕ → FieldCause → Type 0
+EndsTooSoon ds line cause = (fault : FieldFault) × (line ≡ text_word) × (finish_fault ds ≡ Some fault) × (cause ≡ fault.cause)
+
+-- The line tells octets that may be no trailer.
+abbrev pub TellsBadTrailer : List ℕ → Type 0
+TellsBadTrailer line = (octets : List ℕ) × TellsTrailer line octets × (IsTrailer octets → ⊥)
+
+-- What is wrong with the line at this stage: 91 ScriptLine, the cause of its dataset or of what is missing, 83 BadTrailer.
+abbrev pub IsWrong : Limits → Stage → List ℕ → ScriptCause → Type 0
+IsWrong limits stage line ScriptLine = HasNoForm stage line
+IsWrong limits (InFields ds) line (Field cause) = TellsBadField limits ds line cause
+IsWrong limits (AfterMessage ds head) line (Field cause) = EndsTooSoon ds line cause
+IsWrong limits (AfterTrailer ds head trailer) line (Field cause) = EndsTooSoon ds line cause
+IsWrong limits (AfterMessage ds head) line BadTrailer = TellsBadTrailer line
+IsWrong limits stage line cause = ⊥
+
+-- The next line before the story is wrong; or no LF ends it, as where the octets end, for 91 ScriptLine.
+abbrev pub IsNextWrong : Limits → Stage → List ℕ → ScriptCause → Type 0
+IsNextWrong limits stage rest cause =
+    (HasNo 10 rest × (cause ≡ ScriptLine)) ⊎ ((line : List ℕ) × (after : List ℕ) × NextLine rest line after × IsWrong limits stage line cause)
+
+-- The line with this number, before the story, is the first that is wrong.
+pub record IsFrontFault (limits : Limits) (octets : List ℕ) (number : ℕ) (cause : ScriptCause) : Type 0 where
+  pub stage : Stage
+  pub rest : List ℕ
+  pub count : ℕ
+  pub stands : Stands limits octets stage rest count
+  pub number_is : number ≡ count + 1
+  pub wrong : IsNextWrong limits stage rest cause
+
+-- After these lines of a story stands this line: with its end, or at the end of the story.
+pub record HasLine (story : List ℕ) (before : List (List ℕ)) (line : List ℕ) : Type 0 where
+  pub front : List ℕ
+  pub rest : List ℕ
+  pub lined : EndLines before front
+  pub parts : story ≡ front ++ rest
+  pub is_next : ((after : List ℕ) × NextLine rest line after) ⊎ (HasNo 10 rest × (line ≡ rest))
+
+-- A line of the story has an octet that may stand in no line, and none before it has. The line `text` has that number.
+pub record IsBadStory (story : List ℕ) (text_line number : ℕ) : Type 0 where
+  pub before : List (List ℕ)
+  pub line : List ℕ
+  pub has_line : HasLine story before line
+  pub texts : AllByRecursion IsLine before
+  pub bad : IsLine line → ⊥
+  pub number_is : number ≡ text_line + length before + 1
+
+-- What stands before the story is that of a script, and the line of the story with this number is the first that is wrong.
+pub record IsStoryFault (limits : Limits) (octets : List ℕ) (number : ℕ) : Type 0 where
+  pub front : List ℕ
+  pub story : List ℕ
+  pub parts : octets ≡ front ++ story
+  pub fields : List Dataset
+  pub head : Header
+  pub trailer : List ℕ
+  pub text_line : ℕ
+  pub is_front : IsFront limits front fields head trailer text_line
+  pub is_bad : IsBadStory story text_line number
+
+-- Why octets are no script: they are too many (of line 0); else the first line that is wrong, and why. Memory may be refused at
+-- any place (of line 0).
+abbrev pub IsScriptFault : Limits → List ℕ → ℕ → ScriptCause → Type 0
+IsScriptFault limits octets number ScriptTooLong = (max_script < length octets) × (number ≡ 0)
+IsScriptFault limits octets number OutOfMemory = (length octets ≤ max_script) × (number ≡ 0)
+IsScriptFault limits octets number BadTextOctet = (length octets ≤ max_script) × IsStoryFault limits octets number
+IsScriptFault limits octets number cause = (length octets ≤ max_script) × IsFrontFault limits octets number cause

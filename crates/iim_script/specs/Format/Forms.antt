@@ -1,0 +1,106 @@
+-- The forms of a script's lines.
+use Rattle.std.specs.Prelude.{◌≡◌, ℕ, ◌+◌, ◌*◌, ◌-◌, ◌≤◌, ◌&&◌, Bool, false, get_or, nat_le, IsTrue, List, [], ◌∷◌, ◌++◌, length}
+use Rattle.std.specs.List.{list_all}
+use Rattle.iim_dataset.specs.Datasets.{Dataset}
+use Rattle.wire_message.specs.Messages.{Header, IsHeader}
+use Rattle.iim_script.specs.Format.Lines.{HasNo}
+use Rattle.iim_script.specs.Format.Shown.{TellsLast}
+
+abbrev pub is_digit : ℕ → Bool
+is_digit b = nat_le 48 b && nat_le b 57
+
+-- three decimal digits
+abbrev pub AreDigits : ℕ → ℕ → ℕ → Type 0
+AreDigits hundreds tens ones = IsTrue (is_digit hundreds) × IsTrue (is_digit tens) × IsTrue (is_digit ones)
+
+-- the number that they spell
+abbrev pub value_of : ℕ → ℕ → ℕ → ℕ
+value_of hundreds tens ones = (hundreds - 48) * 100 + (tens - 48) * 10 + (ones - 48)
+
+-- the number of decimal digits, after those that have told this number
+abbrev pub decimal_from : ℕ → List ℕ → ℕ
+decimal_from n [] = n
+decimal_from n (digit ∷ digits) = decimal_from (n * 10 + (digit - 48)) digits
+
+-- The number of a record or a dataset: 1 to 3 decimal digits, of a value up to 255.
+pub record TellsNumber (digits : List ℕ) (n : ℕ) : Type 0 where
+  pub some : 1 ≤ length digits
+  pub few : length digits ≤ 3
+  pub are_digits : IsTrue (list_all is_digit digits)
+  pub value : n ≡ decimal_from 0 digits
+  pub fits : n ≤ 255
+
+-- The line is the numbers `R:D`, and what ends it, which begins with no digit.
+pub record TellsNames (line : List ℕ) (rec set : ℕ) (end : List ℕ) : Type 0 where
+  pub rec_digits : List ℕ
+  pub set_digits : List ℕ
+  pub is_rec : TellsNumber rec_digits rec
+  pub is_set : TellsNumber set_digits set
+  pub undigited : is_digit (get_or end 0 0) ≡ false
+  pub line_is : line ≡ rec_digits ++ (58 ∷ set_digits ++ end)
+
+-- A line `R:D`, and SP and the octets as text where there are some.
+pub record TellsField (line : List ℕ) (d : Dataset) : Type 0 where
+  pub end : List ℕ
+  pub names : TellsNames line d.rec d.set end
+  pub is_end : TellsLast end d.octets
+
+-- `message` and SP
+abbrev pub message_word : List ℕ
+message_word = 109 ∷ 101 ∷ 115 ∷ 115 ∷ 97 ∷ 103 ∷ 101 ∷ 32 ∷ []
+
+-- `trailer`
+abbrev pub trailer_word : List ℕ
+trailer_word = 116 ∷ 114 ∷ 97 ∷ 105 ∷ 108 ∷ 101 ∷ 114 ∷ []
+
+-- `text`
+abbrev pub text_word : List ℕ
+text_word = 116 ∷ 101 ∷ 120 ∷ 116 ∷ []
+
+-- the words of a header's line after `message`
+pub record HeadWords : Type 0 where
+  pub source : List ℕ
+  pub number : List ℕ
+  pub priority : List ℕ
+  pub category : List ℕ
+  pub words : List ℕ
+
+-- what follows the source, the number, the priority and the category
+abbrev pub after_category : HeadWords → List ℕ → List ℕ
+after_category w end = w.words ++ end
+
+abbrev pub after_priority : HeadWords → List ℕ → List ℕ
+after_priority w end = w.category ++ (32 ∷ after_category w end)
+
+abbrev pub after_number : HeadWords → List ℕ → List ℕ
+after_number w end = w.priority ++ (32 ∷ after_priority w end)
+
+abbrev pub after_source : HeadWords → List ℕ → List ℕ
+after_source w end = w.number ++ (32 ∷ after_number w end)
+
+-- The octets are these words, with one SP between each two, and what ends the line: nothing, or SP and more.
+pub record AreWords (octets : List ℕ) (w : HeadWords) (end : List ℕ) : Type 0 where
+  pub source : HasNo 32 w.source
+  pub number : HasNo 32 w.number
+  pub priority : HasNo 32 w.priority
+  pub category : HasNo 32 w.category
+  pub words : HasNo 32 w.words
+  pub ends : get_or end 0 32 ≡ 32
+  pub octets_are : octets ≡ w.source ++ (32 ∷ after_source w end)
+
+-- the words of a header
+abbrev pub words_of : Header → HeadWords
+words_of head = record { source = head.source; number = head.number; priority = head.priority; category = head.category; words = head.words }
+
+-- A line `message SOURCE NUMBER PRIORITY CATEGORY WORDS`, and SP and the info as text where there is one.
+pub record TellsHead (line : List ℕ) (head : Header) : Type 0 where
+  pub end : List ℕ
+  pub is_header : IsHeader head
+  pub is_end : TellsLast end head.info
+  pub line_is : line ≡ message_word ++ (head.source ++ (32 ∷ after_source (words_of head) end))
+
+-- A line `trailer`, and SP and the octets as text where there are some.
+pub record TellsTrailer (line octets : List ℕ) : Type 0 where
+  pub end : List ℕ
+  pub is_end : TellsLast end octets
+  pub line_is : line ≡ trailer_word ++ end

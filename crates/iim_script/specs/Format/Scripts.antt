@@ -1,0 +1,67 @@
+-- What a script is, and what it tells.
+use Rattle.std.specs.Prelude.{◌≡◌, ℕ, ◌+◌, ◌<◌, ◌≤◌, ◌⊎◌, List, [], ◌∷◌, ◌++◌, length, None}
+use Rattle.std.specs.List.{AllByRecursion}
+use Rattle.iim_dataset.specs.Datasets.{Dataset}
+use Rattle.iim_fields.specs.Builders.{add_fault, finish_fault}
+use Rattle.iim_fields.specs.declared.limits.Limits.{Limits}
+use Rattle.wire_message.specs.Messages.{Header, IsTrailer}
+use Rattle.wire_story.specs.Texts.{IsLine}
+use Rattle.iim_script.specs.Format.Lines.{HasNo, EndLines}
+use Rattle.iim_script.specs.Format.Forms.{TellsField, TellsHead, TellsTrailer, text_word}
+
+-- the most octets of a script
+abbrev pub max_script : ℕ
+max_script = 16777216
+
+-- Each line tells the dataset in its place.
+abbrev pub TellFields : List (List ℕ) → List Dataset → Type 0
+TellFields [] [] = Unit {0}
+TellFields [] (d ∷ ds) = ⊥
+TellFields (line ∷ lines) [] = ⊥
+TellFields (line ∷ lines) (d ∷ ds) = TellsField line d × TellFields lines ds
+
+-- A builder takes the datasets, one after another, after those before them.
+abbrev pub AreTaken : Limits → List Dataset → List Dataset → Type 0
+AreTaken limits before [] = Unit {0}
+AreTaken limits before (d ∷ ds) = (add_fault limits before d ≡ None) × AreTaken limits (before ++ d ∷ []) ds
+
+-- The lines tell datasets that a builder takes.
+pub record AreFields (limits : Limits) (lines : List (List ℕ)) (ds : List Dataset) : Type 0 where
+  pub told : TellFields lines ds
+  pub taken : AreTaken limits [] ds
+
+-- No line, for a trailer of no octets; or the one line that tells it.
+abbrev pub AreTrailer : List (List ℕ) → List ℕ → Type 0
+AreTrailer [] octets = octets ≡ []
+AreTrailer (line ∷ []) octets = TellsTrailer line octets × IsTrailer octets
+AreTrailer (line ∷ next ∷ lines) octets = ⊥
+
+-- What stands before the story: lines of datasets, which make an envelope; the line of the header; that of the trailer, if any; and
+-- the line `text`.
+pub record IsFront (limits : Limits) (octets : List ℕ) (fields : List Dataset) (head : Header) (trailer : List ℕ) (text_line : ℕ) : Type 0 where
+  pub field_lines : List (List ℕ)
+  pub message : List ℕ
+  pub trailers : List (List ℕ)
+  pub lined : EndLines (field_lines ++ (message ∷ trailers ++ text_word ∷ [])) octets
+  pub are_fields : AreFields limits field_lines fields
+  pub whole : finish_fault fields ≡ None
+  pub is_head : TellsHead message head
+  pub is_trailer : AreTrailer trailers trailer
+  pub text_line_is : text_line ≡ length field_lines + length trailers + 2
+
+-- The lines of a story, one at least: each but the last with its end; the last with its end, or without one, and then it is not
+-- empty where others stand before it.
+abbrev pub IsStory : List ℕ → List (List ℕ) → Type 0
+IsStory octets lines = (0 < length lines) × (EndLines lines octets
+    ⊎ ((before : List (List ℕ)) × (last : List ℕ) × (ended : List ℕ) × (lines ≡ before ++ last ∷ []) × EndLines before ended
+    × (octets ≡ ended ++ last) × HasNo 10 last × (last ≡ [] → before ≡ [])))
+
+-- A script tells datasets of records 1 and 2, a header, a trailer, and the lines of a story; the line `text` has this number.
+pub record IsScript (limits : Limits) (octets : List ℕ) (fields : List Dataset) (head : Header) (trailer : List ℕ) (lines : List (List ℕ)) (text_line : ℕ) : Type 0 where
+  pub front : List ℕ
+  pub story : List ℕ
+  pub parts : octets ≡ front ++ story
+  pub short : length octets ≤ max_script
+  pub is_front : IsFront limits front fields head trailer text_line
+  pub is_story : IsStory story lines
+  pub texts : AllByRecursion IsLine lines

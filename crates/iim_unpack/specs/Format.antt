@@ -1,0 +1,15 @@
+pub mod Admitted
+pub mod Framed
+pub mod Refusals
+pub mod Names
+pub mod Tokens
+pub mod Listing
+pub mod Streams
+pub mod Continuing
+pub mod Laws
+pub mod Value
+pub mod Open
+pub mod Tickets
+pub mod Possible
+pub mod TicketForm
+pub mod Restored

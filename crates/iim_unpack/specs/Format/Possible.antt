@@ -1,0 +1,50 @@
+-- Places at which an envelope can be, and the limits that they keep.
+use Rattle.std.specs.Prelude.{◌≡◌, ◌↔◌, ℕ, ◌+◌, ◌^◌, ◌-◌, ◌⊎◌, if◌then◌else◌, List, length}
+use Rattle.iim_fields.specs.Faults.{is_kept, joined}
+use Rattle.iim_fields.specs.Standing.{IsWithin}
+use Rattle.iim_fields.specs.declared.limits.Limits.{Limits}
+use Rattle.iim_unpack.specs.Format.Admitted.{Value}
+use Rattle.iim_unpack.specs.Format.Open.{IsOpen}
+use Rattle.iim_unpack.specs.Format.Streams.{IsEnvelopeWithin}
+use Rattle.iim_unpack.specs.Format.Tickets.{Place, Phase, TagBegun, DataBegun, AllEnded, IsPlaceOf, ticket_of}
+
+-- the widest limits: 4,294,967,295 octets and as many fields
+abbrev pub widest : Limits
+widest = record { octets = 2 ^ 32 - 1; fields = 2 ^ 32 - 1 }
+
+-- The octets are open under the limits, or an envelope within them.
+abbrev pub AreOpenOrWhole : Limits → List ℕ → Type 0
+AreOpenOrWhole limits octets = IsOpen limits octets ⊎ ((value : Value) × IsEnvelopeWithin limits octets value)
+
+-- Some octets lead to the place, and are open or an envelope under the widest limits.
+pub record Possible (place : Place) : Type 0 where
+  pub octets : List ℕ
+  pub leads : IsPlaceOf octets place
+  pub comes : AreOpenOrWhole widest octets
+
+-- Possible places with one ticket are one.
+abbrev pub TicketsTellOnePlace : Type 0
+TicketsTellOnePlace = (p q : Place) → Possible p → Possible q → ticket_of p ≡ ticket_of q → p ≡ q
+
+-- ---- limits
+
+-- what a begun dataset of records 1 and 2 counts
+abbrev pub begun_count : ℕ → Phase → ℕ
+begun_count section (TagBegun held) = 0
+begun_count section (DataBegun set count left taken) = if is_kept section then count else 0
+begun_count section AllEnded = 0
+
+-- It is one dataset more.
+abbrev pub begun_fields : ℕ → Phase → ℕ
+begun_fields section (TagBegun held) = 0
+begun_fields section (DataBegun set count left taken) = if is_kept section then 1 else 0
+begun_fields section AllEnded = 0
+
+-- The heads of records 1 and 2 that the place tells, a begun one among them, are within the limits.
+abbrev pub AreHeadsWithin : Limits → Place → Type 0
+AreHeadsWithin limits p = IsWithin limits (length (joined p.fields) + begun_count p.section p.phase) (length p.fields + begun_fields p.section p.phase)
+
+-- Octets that are open or an envelope under the widest limits are so under others exactly where the heads that their place tells are
+-- within these.
+abbrev pub LimitsAreToldByPlace : Type 0
+LimitsAreToldByPlace = (limits : Limits) (octets : List ℕ) (place : Place) → IsPlaceOf octets place → AreOpenOrWhole widest octets → AreOpenOrWhole limits octets ↔ AreHeadsWithin limits place

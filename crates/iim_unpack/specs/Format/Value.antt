@@ -1,0 +1,11 @@
+-- The value that an unpacker hands over.
+use Rattle.std.specs.Prelude.{◌≡◌}
+use Rattle.iim_unpack.specs.Format.Admitted.{Value}
+use Rattle.iim_unpack.specs.declared.unpacker.Unpacked.{Unpacked}
+
+-- It has the parts of the value, but for the lines.
+pub record HasParts (got : Unpacked) (v : Value) : Type 0 where
+  pub fields : got.envelope ≡ v.fields
+  pub head : got.head ≡ v.head
+  pub trailer : got.trailer.items ≡ v.trailer
+  pub sizes : got.sizes ≡ v.sizes
