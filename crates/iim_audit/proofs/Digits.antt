@@ -7,7 +7,8 @@ use Rattle.std.proofs.lemmas.Bool.Decides.{nat_tests}
 use Rattle.std.proofs.lemmas.Int.Digits.{digits_value_push}
 use Rattle.std.proofs.lemmas.List.{take_more}
 use Rattle.std.proofs.lemmas.List.Folds.{list_all_at}
-use Rattle.wire_message.specs.Fields.{is_digit, Are}
+use Rattle.wire_message.specs.Format.Fields.{Are}
+use Rattle.iim_dataset.specs.Format.Octets.{is_digit}
 
 digit_value_is : (b : ℕ) → is_digit b ≡ true → digit_value b ≡ b - 48
 digit_value_is b h = grind (arith, nat_tests)

@@ -2,8 +2,8 @@
 use Rattle.std.proofs.Common.{◌≡◌, ℕ, ◌+◌, ◌≤◌, ℤ, List, [], ◌∷◌, ◌++◌, length, append_assoc, append-nil, ◌<◌, Option, None, Some, ap, sym, ◌∙◌, refl, subst, arith, inl, inr, ⊎_elim, length-append}
 use Rattle.std.proofs.lemmas.List.{length-map, map-append}
 use Rattle.std.proofs.KnownBytes.{Consumes-trans}
-use Rattle.iim_dataset.specs.Devices.{Device, Rose}
-use Rattle.iim_dataset.specs.DeviceLaws.{HasGiven, MissedBehind, BrokeFor, GiftsJoin}
+use Rattle.iim_dataset.specs.Format.Devices.{Device, Rose}
+use Rattle.iim_dataset.specs.Format.DeviceLaws.{HasGiven, MissedAfter, BrokeFor, GiftsJoin}
 use Rattle.iim_dataset.specs.declared.device.IoFault.{IoFault}
 use Rattle.iim_dataset.specs.declared.device.IoFault.TheVariants as io
 use Rattle.iim_fields.specs.declared.limits.Limits.{Limits}
@@ -63,7 +63,7 @@ broke_later a b c xs io.Interrupted given broke =
     let more : b.interruptions ≤ c.interruptions = broke.1 in
     (broke.0 ∙ calm, omega arith, ⊎_elim (λ many. inl (omega arith)) (λ full. inr full) broke.2)
 
-missed_later : (a b c : Device) (xs ys : List ℕ) (fault : IoFault) → HasGiven a b xs → MissedBehind b c ys fault → MissedBehind a c (xs ++ ys) fault
+missed_later : (a b c : Device) (xs ys : List ℕ) (fault : IoFault) → HasGiven a b xs → MissedAfter b c ys fault → MissedAfter a c (xs ++ ys) fault
 missed_later a b c xs ys fault given missed =
     (Consumes-trans a.octets b.octets c.octets xs ys given.0 missed.0, broke_later a b c xs fault given missed.1)
 
@@ -81,7 +81,7 @@ pub record IsAuditing (limits : Limits) (now : ℤ) (first : Option ℕ) (old ne
   pub reads : first ≡ None → HasRead limits now old new ledger failed
   pub again : (octet : ℕ) → first ≡ Some octet → (failed ≡ Some octet) × (length ledger.rows.items ≡ 0)
 
--- so many rows as envelopes
+-- there are as many rows as envelopes
 count_of : (now : ℤ) (ledger : Ledger) (es : List Listed) → Keeps now ledger (values_of es) → length ledger.rows.items ≡ length es
 count_of now ledger es keeps =
     let P : Listed → Value = λ e. e.value in

@@ -3,9 +3,10 @@ use Rattle.std.proofs.Common.{◌≡◌, ℕ, ◌+◌, ℤ, ◌⊎◌, List, [],
 use Rattle.std.proofs.lemmas.List.{length-map, map-append}
 use Rattle.std.specs.BTreeMap.{is_at}
 use Rattle.std.specs.Option.{unwrap_or}
-use Rattle.iim_dataset.specs.Datasets.{Dataset}
-use Rattle.iim_fields.specs.Ids.{Identity, id_eq, id_cmp, id_equivalence, id_ties}
-use Rattle.iim_fields.specs.Views.{first_data}
+use Rattle.iim_dataset.specs.Format.Datasets.{Dataset}
+use Rattle.iim_fields.specs.Format.Ids.{Identity, id_eq, id_cmp}
+use Rattle.iim_fields.specs.IdLaws.{id_equivalence, id_ties}
+use Rattle.iim_fields.specs.Format.Views.{first_data}
 use Rattle.iim_unpack.specs.Format.Admitted.{Value}
 use Rattle.iim_audit.specs.Format.Rows.{id_of, first_same, row_of, rows_after, report_of}
 use Rattle.iim_audit.specs.declared.row.AuditRow.{AuditRow}

@@ -1,13 +1,13 @@
 -- From what an intake answers to what an audit takes of it.
 use Rattle.std.proofs.Common.{◌≡◌, ◌≢◌, ℕ, ◌⊎◌, List, [], Some, None, subst, false, ◌∙◌, inl, inr, ⊎_elim, arith, refl, ap}
-use Rattle.iim_dataset.specs.Devices.{Device}
+use Rattle.iim_dataset.specs.Format.Devices.{Device}
 use Rattle.iim_fields.specs.declared.limits.Limits.{Limits}
-use Rattle.wire_story.specs.Delivery.{Event}
-use Rattle.wire_story.specs.Words.{WordsSoFar, CountsWords}
+use Rattle.wire_story.specs.Format.Delivery.{StoryEvent}
+use Rattle.wire_story.specs.Format.Words.{WordsSoFar, CountsWords}
 use Rattle.iim_unpack.specs.Format.Framed.{AreWithin}
-use Rattle.iim_unpack.specs.Intakes.{Gives, Faults, WasRefused, WasTruncated}
-use Rattle.iim_unpack.specs.Parts.{CountsFor}
-use Rattle.iim_unpack.specs.Unpacking.{Unpacking, Stands, limits_in}
+use Rattle.iim_unpack.specs.Format.Intakes.{Gives, Faults, WasRefused, WasTruncated}
+use Rattle.iim_unpack.specs.Format.Parts.{CountsFor}
+use Rattle.iim_unpack.specs.Format.Unpacking.{Unpacking, Stands, limits_in}
 use Rattle.iim_unpack.specs.declared.intake.IntakeFault.{IntakeFault}
 use Rattle.iim_unpack.specs.declared.intake.IntakeFault.TheVariants as intakes
 use Rattle.iim_unpack.specs.declared.refusal.Cause.{Cause}
@@ -44,7 +44,7 @@ unsunk cause n zero counts same =
     let P : Cause → Type 0 = λ c. CountsFor c n n in
     ⊎_elim (λ rose. omega arith) (λ full. omega arith) (subst P same counts)
 
-refused_fresh : {S : Type 0} (goes : S → List Event → S → Type 0) (failures : S → ℕ) (old new : Device) (u : Unpacking) (a b : S) (e : Refusal)
+refused_fresh : {S : Type 0} (goes : S → List StoryEvent → S → Type 0) (failures : S → ℕ) (old new : Device) (u : Unpacking) (a b : S) (e : Refusal)
     → failures a ≡ 0 → failures b ≡ 0 → Stands u [] 0 → WasRefused goes failures old new u a b e ⊎ WasTruncated goes failures old new u a b e
     → TookNone (limits_in u) old new (cause_of (intakes.Refused e))
 refused_fresh goes failures old new u a b e before after stands why =
@@ -62,7 +62,7 @@ refused_fresh goes failures old new u a b e before after stands why =
     (was.octets, was.came.given, inr (record { some = in_it.some; is_open = in_it.is_open; truncated = in_it.truncated }, was.at_end)))
     why
 
-none_fresh : {S : Type 0} (goes : S → List Event → S → Type 0) (failures : S → ℕ) (old new : Device) (u : Unpacking) (a b : S) (kept : ℕ) (fault : IntakeFault)
+none_fresh : {S : Type 0} (goes : S → List StoryEvent → S → Type 0) (failures : S → ℕ) (old new : Device) (u : Unpacking) (a b : S) (kept : ℕ) (fault : IntakeFault)
     → failures a ≡ 0 → failures b ≡ 0 → Stands u [] 0 → Faults goes failures old new u a b kept fault → TookNone (limits_in u) old new (cause_of fault)
 none_fresh goes failures old new u a b kept (intakes.Refused e) before after stands faults =
     refused_fresh goes failures old new u a b e before after stands faults.1
@@ -72,7 +72,7 @@ none_fresh goes failures old new u a b kept intakes.Interrupted before after sta
     (faults.octets, faults.missed, (faults.is_open [] 0 stands).0)
 
 -- why an intake gives nothing to an unpacker that stands on no octets
-pub none : {S : Type 0} (goes : S → List Event → S → Type 0) (failures : S → ℕ) (limits : Limits) (old new : Device) (u : Unpacking) (a b : S) (kept : ℕ) (fault : IntakeFault)
+pub none : {S : Type 0} (goes : S → List StoryEvent → S → Type 0) (failures : S → ℕ) (limits : Limits) (old new : Device) (u : Unpacking) (a b : S) (kept : ℕ) (fault : IntakeFault)
     → failures a ≡ 0 → failures b ≡ 0 → limits_in u ≡ limits → Stands u [] 0 → Faults goes failures old new u a b kept fault → TookNone limits old new (cause_of fault)
 none goes failures limits old new u a b kept fault before after same stands faults =
     let P : Limits → Type 0 = λ l. TookNone l old new (cause_of fault) in

@@ -1,19 +1,19 @@
 -- The text of an envelope, and the words of its lines.
 use Rattle.std.proofs.Common.{◌≡◌, ℕ, List, [], ◌∷◌, length, refl, sym, ap, subst, ◌∙◌, inl, lit<, append-nil, false}
-use Rattle.iim_dataset.specs.Octets.{number}
-use Rattle.iim_dataset.specs.Datasets.{Dataset, SpellsTag, SpellsStream, count_octets}
-use Rattle.iim_dataset.specs.Splits.{InTag, IsBegun, Reads}
-use Rattle.iim_dataset.specs.Events.{handed_on}
-use Rattle.iim_dataset.specs.Places.{HandsOn}
-use Rattle.iim_dataset.specs.Laws.{OctetsAreHandedOnOneWay, EventsTellTheDatasets}
+use Rattle.iim_dataset.specs.Format.Octets.{number}
+use Rattle.iim_dataset.specs.Format.Datasets.{Dataset, SpellsTag, SpellsStream, count_octets}
+use Rattle.iim_dataset.specs.Format.Splits.{InTag, IsBegun, Reads}
+use Rattle.iim_dataset.specs.Format.Events.{handed_on}
+use Rattle.iim_dataset.specs.Format.Places.{HandsOn}
+use Rattle.iim_dataset.specs.Format.Laws.{OctetsAreHandedOnOneWay, EventsTellTheDatasets}
 use Rattle.iim_dataset.specs.declared.head.Head.{Head}
-use Rattle.wire_story.specs.Delivery.{Event}
-use Rattle.wire_story.specs.Texts.{IsText}
-use Rattle.wire_story.specs.WordLaws.{TextsAreCountedAsLines}
-use Rattle.wire_story.specs.Words.{WordsSoFar, CountsWords, capped, words}
-use Rattle.wire_message.specs.Laws.{TextsStandBetweenStxAndEtx}
-use Rattle.wire_message.specs.Layers.{text_so_far}
-use Rattle.wire_message.specs.Messages.{Header, IsMessage}
+use Rattle.wire_story.specs.Format.Delivery.{StoryEvent}
+use Rattle.wire_story.specs.Format.Texts.{IsText}
+use Rattle.wire_story.specs.Format.WordLaws.{TextsAreCountedAsLines}
+use Rattle.wire_story.specs.Format.Words.{WordsSoFar, CountsWords, capped, words}
+use Rattle.wire_message.specs.Format.Laws.{TextsStandBetweenStxAndEtx}
+use Rattle.wire_message.specs.Format.Layers.{text_so_far}
+use Rattle.wire_message.specs.Format.Messages.{Header, IsMessage}
 use Rattle.wire_message.specs.declared.place.Place.TheVariants.{AfterEnd}
 use Rattle.iim_unpack.specs.Format.Admitted.{Value, Admits, object_of}
 use Rattle.iim_unpack.specs.Format.Open.{object_so_far}
@@ -38,7 +38,7 @@ nothing_begun =
     } in
     (refl, head, tag, spells, (tag, lit< tt, refl))
 
-reads_whole : (octets : List ℕ) (ds : List Dataset) → SpellsStream count_octets ds octets → Reads octets ds (InTag [])
+reads_whole : (octets : List ℕ) (ds : List Dataset) → SpellsStream count_octets ds octets → Reads count_octets octets ds (InTag [])
 reads_whole octets ds spelled = record { front = octets; rest = []; is_front = spelled; is_rest = nothing_begun; parts = sym (append-nil octets) }
 
 no_text : IsTextOf [] []
@@ -56,8 +56,8 @@ text_of_message law object text trailer head lines m are =
 -- The text in an envelope has the lines of its value.
 text_of_value : TextLaws → (octets text : List ℕ) (v : Value) → Admits octets v → IsTextOf octets text → IsText text v.lines
 text_of_value laws octets text v admits (whole, begun, reads, is) =
-    let hands : HandsOn octets (handed_on whole begun) begun = record { whole = whole; reads = reads; handed = refl } in
-    let gives : HandsOn octets (handed_on admits.datasets (InTag [])) (InTag []) =
+    let hands : HandsOn count_octets octets (handed_on whole begun) begun = record { whole = whole; reads = reads; handed = refl } in
+    let gives : HandsOn count_octets octets (handed_on admits.datasets (InTag [])) (InTag []) =
     record { whole = admits.datasets; reads = reads_whole octets admits.datasets admits.spelled; handed = refl } in
     let way = laws.way octets (handed_on whole begun) (handed_on admits.datasets (InTag [])) begun (InTag []) hands gives in
     let told = laws.tell whole admits.datasets begun (InTag []) way.0 in
@@ -69,9 +69,9 @@ text_of_value laws octets text v admits (whole, begun, reads, is) =
     subst (λ (t : List ℕ). IsText t v.lines) same admits.lines
 
 -- The words of an envelope are counted, from a count of none on.
-pub words_of_value : TextLaws → (octets : List ℕ) (more : List Event) (v : Value) (old new : WordsSoFar) → Admits octets v → Adds [] octets more
+pub words_of_value : TextLaws → (octets : List ℕ) (more : List StoryEvent) (v : Value) (old new : WordsSoFar) → Admits octets v → Adds [] octets more
     → old.words ≡ 0 → old.inside ≡ false → CountsWords old more new → new.words ≡ capped (words v.lines)
 words_of_value laws octets more v old new admits adds none outside counts =
     let (added, is, delivers) = adds [] no_text in
     laws.counts added v.lines old new (text_of_value laws octets added v admits is) none outside
-    (subst (λ (events : List Event). CountsWords old events new) delivers counts)
+    (subst (λ (events : List StoryEvent). CountsWords old events new) delivers counts)

@@ -1,7 +1,7 @@
 -- What an audit keeps while it reads.
 use Rattle.std.specs.Prelude.{◌≡◌, ℤ, List, map}
 use Rattle.std.specs.BTreeMap.{get}
-use Rattle.iim_fields.specs.Ids.{Identity, id_cmp}
+use Rattle.iim_fields.specs.Format.Ids.{Identity, id_cmp}
 use Rattle.iim_unpack.specs.Format.Admitted.{Value}
 use Rattle.iim_audit.specs.Format.Rows.{id_of, first_same, report_of}
 use Rattle.iim_audit.specs.declared.ledger.Ledger.{Ledger}

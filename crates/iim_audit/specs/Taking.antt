@@ -1,20 +1,20 @@
 -- What one envelope of an intake's line comes to.
-use Rattle.std.specs.Prelude.{◌≡◌, ℕ, ◌⊎◌, List, [], Option, Some, None, IsSome}
+use Rattle.std.specs.Prelude.{◌≡◌, ℕ, List, [], Option, Some, None}
 use Rattle.std.specs.Io.KnownBytes.{IsAtEnd}
-use Rattle.iim_dataset.specs.Devices.{Device}
-use Rattle.iim_dataset.specs.DeviceLaws.{HasGiven, MissedBehind}
+use Rattle.iim_dataset.specs.Format.Devices.{Device}
+use Rattle.iim_dataset.specs.Format.DeviceLaws.{HasGiven, MissedAfter}
 use Rattle.iim_dataset.specs.declared.device.IoFault.TheVariants as io
 use Rattle.iim_fields.specs.declared.limits.Limits.{Limits}
 use Rattle.iim_unpack.specs.Format.Admitted.{Value}
-use Rattle.iim_unpack.specs.Format.Listing.{Listed, IsRefusedRest, IsTruncatedRest}
+use Rattle.iim_unpack.specs.Format.Listing.{Listed}
 use Rattle.iim_unpack.specs.Format.Streams.{IsEnvelopeWithin}
 use Rattle.iim_unpack.specs.Format.Open.{IsOpen}
 use Rattle.iim_unpack.specs.Format.Value.{HasParts}
-use Rattle.iim_unpack.specs.declared.refusal.Refusal.{Refusal}
 use Rattle.iim_audit.specs.Format.Rows.{counted_words}
 use Rattle.iim_audit.specs.declared.row.Taken.{Taken}
 use Rattle.iim_audit.specs.declared.fault.AuditCause.{AuditCause}
 use Rattle.iim_audit.specs.declared.fault.AuditCause.TheVariants as causes
+use Rattle.iim_audit.specs.Format.Taking.{IsStopped}
 
 -- The parts of the value, and the words of its lines.
 pub record IsTaken (got : Taken) (v : Value) : Type 0 where
@@ -33,22 +33,10 @@ abbrev pub Took : Limits → Device → Device → Option Taken → Type 0
 Took limits old new (Some got) = TookOne limits old new got
 Took limits old new None = HasGiven old new [] × IsAtEnd new.octets
 
--- Octets came that are refused, or in which the input ends.
-abbrev pub IsStopped : Limits → Device → List ℕ → Refusal → Type 0
-IsStopped limits new rest e = IsRefusedRest limits rest e ⊎ (IsTruncatedRest limits rest e × IsAtEnd new.octets)
-
 -- Why no envelope came, and what came.
 abbrev pub TookNone : Limits → Device → Device → AuditCause → Type 0
 TookNone limits old new (causes.Refused e) = (rest : List ℕ) × HasGiven old new rest × IsStopped limits new rest e
-TookNone limits old new causes.Read = (rest : List ℕ) × MissedBehind old new rest io.Failed × IsOpen limits rest
-TookNone limits old new causes.Interrupted = (rest : List ℕ) × MissedBehind old new rest io.Interrupted × IsOpen limits rest
+TookNone limits old new causes.Read = (rest : List ℕ) × MissedAfter old new rest io.Failed × IsOpen limits rest
+TookNone limits old new causes.Interrupted = (rest : List ℕ) × MissedAfter old new rest io.Interrupted × IsOpen limits rest
 TookNone limits old new causes.OutOfMemory = HasGiven old new []
 TookNone limits old new causes.TooManyEnvelopes = ⊥
-
--- What of an intake is left: after a fault it keeps the octet that is told from then on.
-abbrev pub Leaves : AuditCause → Option ℕ → Type 0
-Leaves (causes.Refused e) failed = failed ≡ Some e.octet
-Leaves causes.Read failed = IsSome failed
-Leaves causes.Interrupted failed = IsSome failed
-Leaves causes.OutOfMemory failed = failed ≡ None
-Leaves causes.TooManyEnvelopes failed = failed ≡ None

@@ -1,9 +1,10 @@
 //! Audits the envelopes of an intake.
 
 ghost use Rattle.std.specs.Prelude.{◌≡◌, ℕ, None, Some, IfOk, IfErr, OnOk, IsErrAnd};
-ghost use Rattle.iim_unpack.specs.Intakes.{line};
+ghost use Rattle.iim_unpack.specs.Format.Intakes.{line};
 ghost use Rattle.iim_audit.specs.Format.Auditing.{IsAudited, FailsAt, IsToldAgain};
-ghost use Rattle.iim_audit.specs.Taking.{Took, TookNone, Leaves};
+ghost use Rattle.iim_audit.specs.Taking.{Took, TookNone};
+ghost use Rattle.iim_audit.specs.Format.Taking.{Leaves};
 
 use crate::fault::{AuditCause, AuditFault, cause_of};
 use crate::ledger::Ledger;

@@ -2,7 +2,7 @@
 
 ghost use Rattle.std.specs.Prelude.{◌≡◌, ◌+◌, ◌++◌, ◌∷◌, [], ℤ, List, length, cond, None, Some, IsSome, OnOk, IfOk};
 ghost use Rattle.std.specs.BTreeMap.{get, is_at};
-ghost use Rattle.iim_fields.specs.Ids.{Identity, id_cmp};
+ghost use Rattle.iim_fields.specs.Format.Ids.{Identity, id_cmp};
 ghost use Rattle.iim_unpack.specs.Format.Admitted.{Value};
 ghost use Rattle.iim_audit.specs.Taking.{IsTaken};
 

@@ -2,7 +2,8 @@
 
 ghost use Rattle.std.specs.Prelude.{◌≡◌, ◌<◌};
 ghost use Rattle.std.specs.Str.Parse.{digits_value};
-ghost use Rattle.wire_message.specs.Fields.{is_digit, IsField};
+ghost use Rattle.wire_message.specs.Format.Fields.{IsField};
+ghost use Rattle.iim_dataset.specs.Format.Octets.{is_digit};
 ghost use Rattle.iim_unpack.specs.Format.Admitted.{Value};
 ghost use Rattle.iim_audit.specs.Taking.{IsTaken};
 ghost use Rattle.iim_audit.specs.Format.Rows.{row_with};

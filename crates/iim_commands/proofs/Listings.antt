@@ -6,14 +6,14 @@ use Rattle.std.proofs.lemmas.Bool.{false≢true}
 use Rattle.std.proofs.Math.Seq.{take-append_seam}
 use Rattle.iim_unpack.specs.Format.Admitted.{Value, Admits}
 use Rattle.iim_unpack.specs.Format.Framed.{Framed}
-use Rattle.iim_unpack.specs.Intakes.{OpenOctetsAreBounded}
+use Rattle.iim_unpack.specs.Format.Intakes.{OpenOctetsAreBounded}
 use Rattle.iim_unpack.specs.Format.Laws.{AdmittedOctetsAreFramed, AdmittedOctetsHaveOneValue, NoAdmittedOctetsBeginOthers, NoEnvelopeIsEmpty}
 use Rattle.iim_unpack.specs.Format.Refusals.{refusal_at}
 use Rattle.iim_unpack.specs.Format.Streams.{Answer, Answers, IsEnvelopeWithin, Finished, Refused, Truncated, StreamsHaveOneAnswer, RefusedOctetsWereOpen}
 use Rattle.iim_unpack.specs.Format.Open.{IsTruncatedAt, RefusesNext}
-use Rattle.iim_unpack.specs.Unpacking.{raised}
+use Rattle.iim_unpack.specs.Format.Unpacking.{raised}
 use Rattle.iim_unpack.specs.declared.refusal.Refusal.{Refusal}
-use Rattle.iim_commands.specs.Format.Listings.{limits, max_envelopes, joined, Envelope, IsEnvelope, Ending, Whole, RefusedBy, TooMany, EndsBy, IsDead, IsTruncated, IsRefusedAfter, InputsHaveOneListing, ListingsAreLongest}
+use Rattle.iim_commands.specs.Format.Listings.{limits, max_envelopes, joined, Envelope, IsListed, Ending, Whole, RefusedBy, TooMany, EndsBy, IsDead, IsTruncated, IsRefusedAfter, InputsHaveOneListing, ListingsAreLongest}
 
 -- the laws that one listing rests on
 pub record ListingLaws : Type 0 where
@@ -43,7 +43,7 @@ cancel [] x y e = e
 cancel (a ∷ f) x y e = cancel f x y (let tail : f ++ x ≡ f ++ y = cc in tail)
 
 -- Envelopes that equal lists begin with are equal.
-same_octets : NoAdmittedOctetsBeginOthers → (e f : Envelope) (x y : List ℕ) → IsEnvelope e → IsEnvelope f → e.octets ++ x ≡ f.octets ++ y → (e.octets ≡ f.octets) × (x ≡ y)
+same_octets : NoAdmittedOctetsBeginOthers → (e f : Envelope) (x y : List ℕ) → IsListed e → IsListed f → e.octets ++ x ≡ f.octets ++ y → (e.octets ≡ f.octets) × (x ≡ y)
 same_octets law e f x y is_e is_f at = elim (fronts e.octets f.octets x y at) [
   | inl h ↦
       let none : h.0 ≡ [] = law e.octets h.0 e.value f.value is_e.admits (subst (λ (l : List ℕ). Admits l f.value) h.1 is_f.admits) in
@@ -60,14 +60,14 @@ same_parts e f o v =
     let make : List ℕ → Value → Envelope = λ l w. record { octets = l; value = w } in
     ap (λ (l : List ℕ). make l e.value) o ∙ ap (λ (w : Value). make f.octets w) v
 
-same_front : ListingLaws → (e f : Envelope) (x y : List ℕ) → IsEnvelope e → IsEnvelope f → e.octets ++ x ≡ f.octets ++ y → (e ≡ f) × (x ≡ y)
+same_front : ListingLaws → (e f : Envelope) (x y : List ℕ) → IsListed e → IsListed f → e.octets ++ x ≡ f.octets ++ y → (e ≡ f) × (x ≡ y)
 same_front laws e f x y is_e is_f at =
     let same = same_octets laws.one_end e f x y is_e is_f at in
     (same_parts e f same.0 (laws.one_value f.octets e.value f.value (subst (λ (l : List ℕ). Admits l e.value) same.0 is_e.admits) is_f.admits), same.1)
 
 -- A second list of envelopes is no longer, or an envelope stands after the first.
-no_more : ListingLaws → (es fs : List Envelope) (x y : List ℕ) → AllByRecursion IsEnvelope es → AllByRecursion IsEnvelope fs
-    → joined es ++ x ≡ joined fs ++ y → (length fs ≤ length es) ⊎ ((f : Envelope) × (rest : List ℕ) × IsEnvelope f × (x ≡ f.octets ++ rest))
+no_more : ListingLaws → (es fs : List Envelope) (x y : List ℕ) → AllByRecursion IsListed es → AllByRecursion IsListed fs
+    → joined es ++ x ≡ joined fs ++ y → (length fs ≤ length es) ⊎ ((f : Envelope) × (rest : List ℕ) × IsListed f × (x ≡ f.octets ++ rest))
 no_more laws es [] x y all_e all_f e = inl (omega arith)
 no_more laws [] (f ∷ fs) x y all_e all_f e = inr (f, joined fs ++ y, all_f.0, e ∙ append_assoc f.octets (joined fs) y)
 no_more laws (g ∷ es) (f ∷ fs) x y all_e all_f e =
@@ -79,7 +79,7 @@ no_more laws (g ∷ es) (f ∷ fs) x y all_e all_f e =
     ]
 
 -- Lists of as many envelopes are equal, and so is what follows them.
-same_lists : ListingLaws → (es fs : List Envelope) (x y : List ℕ) → AllByRecursion IsEnvelope es → AllByRecursion IsEnvelope fs
+same_lists : ListingLaws → (es fs : List Envelope) (x y : List ℕ) → AllByRecursion IsListed es → AllByRecursion IsListed fs
     → length es ≡ length fs → joined es ++ x ≡ joined fs ++ y → (es ≡ fs) × (x ≡ y)
 same_lists laws [] [] x y all_e all_f n e = (refl, e)
 same_lists laws [] (f ∷ fs) x y all_e all_f n e = absurd (omega (arith, n))
@@ -121,7 +121,7 @@ truncated_answer laws rest e t =
       refusal = subst (λ (n : ℕ). IsTruncatedAt rest n e) (told_short (length rest) short) t.refused.truncated;
     }
 
-finished_answer : (rest : List ℕ) (f : Envelope) (more : List ℕ) → IsEnvelope f → rest ≡ f.octets ++ more → Answers limits rest (Finished (length f.octets) f.value)
+finished_answer : (rest : List ℕ) (f : Envelope) (more : List ℕ) → IsListed f → rest ≡ f.octets ++ more → Answers limits rest (Finished (length f.octets) f.value)
 finished_answer rest f more is at =
     let front : take (length f.octets) rest ≡ f.octets = ap (λ (l : List ℕ). take (length f.octets) l) at ∙ take-append_seam f.octets more in
     let whole : IsEnvelopeWithin limits f.octets f.value = record { admits = is.admits; within = is.within } in
@@ -146,7 +146,7 @@ refusal_in other (Refused e) = e
 refusal_in other (Truncated e) = e
 
 -- octets that are refused begin with no envelope
-refused_begins : ListingLaws → (rest : List ℕ) (k : ℕ) (e : Refusal) (f : Envelope) (more : List ℕ) → IsRefusedAfter rest k e → IsEnvelope f → rest ≡ f.octets ++ more → ⊥
+refused_begins : ListingLaws → (rest : List ℕ) (k : ℕ) (e : Refusal) (f : Envelope) (more : List ℕ) → IsRefusedAfter rest k e → IsListed f → rest ≡ f.octets ++ more → ⊥
 unfolding is_finished
 refused_begins laws rest k e f more (inl (t, at_end)) is at =
     false≢true (ap is_finished (laws.one_answer limits rest (Truncated e) (Finished (length f.octets) f.value) (truncated_answer laws rest e t) (finished_answer rest f more is at)))
@@ -158,13 +158,13 @@ none_before [] more e = refl
 none_before (a ∷ f) more e = absurd (omega (arith, ap length e))
 
 -- no octets begin with no envelope
-empty_begins : ListingLaws → (rest : List ℕ) (f : Envelope) (more : List ℕ) → rest ≡ [] → IsEnvelope f → rest ≡ f.octets ++ more → ⊥
+empty_begins : ListingLaws → (rest : List ℕ) (f : Envelope) (more : List ℕ) → rest ≡ [] → IsListed f → rest ≡ f.octets ++ more → ⊥
 empty_begins laws rest f more none is at =
     let empty : f.octets ≡ [] = none_before f.octets more (sym at ∙ none) in
     laws.some limits (subst (λ (l : List ℕ). Framed limits l) empty (laws.framed limits f.octets f.value is.admits is.within))
 
 -- after a listing no envelope stands, unless it is one too many
-listed_all : ListingLaws → (count : ℕ) (rest : List ℕ) (x : Ending) (f : Envelope) (more : List ℕ) → EndsBy count rest x → IsEnvelope f → rest ≡ f.octets ++ more → count ≡ max_envelopes
+listed_all : ListingLaws → (count : ℕ) (rest : List ℕ) (x : Ending) (f : Envelope) (more : List ℕ) → EndsBy count rest x → IsListed f → rest ≡ f.octets ++ more → count ≡ max_envelopes
 listed_all laws count rest Whole f more none is at = absurd (empty_begins laws rest f more none is at)
 listed_all laws count rest (RefusedBy e) f more (k, after) is at = absurd (refused_begins laws rest k e f more after is at)
 listed_all laws count rest TooMany f more ends is at = ends.0

@@ -3,19 +3,19 @@ use Rattle.std.proofs.Common.{◌≡◌, ℕ, ◌+◌, ◌<◌, ◌≤◌, inl, 
 use Rattle.std.proofs.Math.Seq.{take-length}
 use Rattle.std.proofs.lemmas.List.{take-append-le}
 use Rattle.std.specs.Io.KnownBytes.{Appends}
-use Rattle.iim_dataset.specs.Devices.{Device, Rose, RoseAtLeast, Wrote, max_interruptions}
-use Rattle.iim_dataset.specs.DeviceLaws.{GiftsJoin, HasGiven, TextsJoin}
-use Rattle.iim_dataset.specs.Events.{handed_on}
-use Rattle.iim_dataset.specs.Datasets.{Dataset}
-use Rattle.iim_dataset.specs.Laws.{OctetsAreHandedOnOneWay, EventsTellTheDatasets}
-use Rattle.iim_dataset.specs.Places.{HandsOn}
-use Rattle.iim_dataset.specs.Splits.{InTag}
-use Rattle.wire_message.specs.Laws.{TextsStandBetweenStxAndEtx}
-use Rattle.wire_message.specs.Layers.{text_so_far}
+use Rattle.iim_dataset.specs.Format.Devices.{Device, Rose, RoseAtLeast, Wrote, max_interruptions}
+use Rattle.iim_dataset.specs.Format.DeviceLaws.{GiftsJoin, HasGiven, TextsJoin}
+use Rattle.iim_dataset.specs.Format.Events.{handed_on}
+use Rattle.iim_dataset.specs.Format.Datasets.{Dataset, count_octets}
+use Rattle.iim_dataset.specs.Format.Laws.{OctetsAreHandedOnOneWay, EventsTellTheDatasets}
+use Rattle.iim_dataset.specs.Format.Places.{HandsOn}
+use Rattle.iim_dataset.specs.Format.Splits.{InTag}
+use Rattle.wire_message.specs.Format.Laws.{TextsStandBetweenStxAndEtx}
+use Rattle.wire_message.specs.Format.Layers.{text_so_far}
 use Rattle.wire_message.specs.declared.place.Place.TheVariants.{AfterEnd}
-use Rattle.wire_story.specs.Delivery.{Event, delivered, octet_for}
-use Rattle.wire_story.specs.Laws.{LinesAreJoinedByLineFeeds, TextsAreDeliveredAsLines}
-use Rattle.wire_story.specs.Writing.{HasBroken, WritesLines, WritesOn, device_of, stops_of}
+use Rattle.wire_story.specs.Format.Delivery.{StoryEvent, delivered, octet_for}
+use Rattle.wire_story.specs.Format.Laws.{LinesAreJoinedByLineFeeds, TextsAreDeliveredAsLines}
+use Rattle.wire_story.specs.Format.Writing.{HasBroken, WritesLines, WritesOn, device_of, stops_of}
 use Rattle.wire_story.specs.declared.writer.LineWriter.{LineWriter}
 use Rattle.iim_unpack.specs.Format.Admitted.{object_of}
 use Rattle.iim_unpack.specs.Format.Open.{object_so_far}
@@ -25,14 +25,14 @@ use Rattle.iim_unpack.proofs.Answering.{leads_to, reads_envelope}
 use Rattle.iim_commands.specs.Coming.{HasCome, IsCalm, IsNext, IsRefusal}
 use Rattle.iim_commands.specs.Format.Devices.{Holds}
 use Rattle.iim_commands.specs.Format.Lines.{ending_line, line_of, status_of, texts_from}
-use Rattle.iim_commands.specs.Format.Listings.{joined, max_envelopes, Ending, EndsBy, Envelope, IsDelivered, IsEnvelope, IsRefusedAfter, RefusedBy}
+use Rattle.iim_commands.specs.Format.Listings.{joined, max_envelopes, Ending, EndsBy, Envelope, IsDelivered, IsListed, IsRefusedAfter, RefusedBy}
 use Rattle.iim_commands.specs.Format.Narration.{EnvelopesAreDeliveredAsLines, IsTextIn, IsUnnarrated, LeavesText, Narrated, stories, story_of, text_of}
 use Rattle.iim_commands.specs.Narration.{IsUnended}
 use Rattle.iim_commands.specs.Format.Reports.{IsUnsaid}
 use Rattle.iim_commands.specs.declared.coming.Next.{Next}
 use Rattle.iim_commands.specs.declared.coming.Next.TheVariants as next
-use Rattle.iim_commands.specs.declared.fault.Fault.{Fault}
-use Rattle.iim_commands.specs.declared.fault.Fault.TheVariants.{CannotRead, CannotWrite, OutOfMemory}
+use Rattle.iim_commands.specs.declared.fault.CommandFault.{CommandFault}
+use Rattle.iim_commands.specs.declared.fault.CommandFault.TheVariants.{CannotRead, CannotWrite, OutOfMemory}
 use Rattle.iim_commands.proofs.Reports.{AreTaken, consumes_holds, divides, given_then, missed_then, none_taken, taken_more, text_after}
 use Rattle.iim_commands.proofs.Taken.{come_as, no_text, refusal_as}
 
@@ -40,8 +40,8 @@ use Rattle.iim_commands.proofs.Taken.{come_as, no_text, refusal_as}
 
 pub delivered_lines : OctetsAreHandedOnOneWay → EventsTellTheDatasets → TextsStandBetweenStxAndEtx → TextsAreDeliveredAsLines → EnvelopesAreDeliveredAsLines
 delivered_lines way tell between lines octets v more a (text, (whole, begun, reads, is), told) =
-    let hands : HandsOn octets (handed_on whole begun) begun = record { whole = whole; reads = reads; handed = refl } in
-    let gives : HandsOn octets (handed_on a.datasets (InTag [])) (InTag []) = record { whole = a.datasets; reads = reads_envelope octets v a; handed = refl } in
+    let hands : HandsOn count_octets octets (handed_on whole begun) begun = record { whole = whole; reads = reads; handed = refl } in
+    let gives : HandsOn count_octets octets (handed_on a.datasets (InTag [])) (InTag []) = record { whole = a.datasets; reads = reads_envelope octets v a; handed = refl } in
     let one = way octets (handed_on whole begun) (handed_on a.datasets (InTag [])) begun (InTag []) hands gives in
     let same = tell whole a.datasets begun (InTag []) one.0 in
     let object : object_so_far whole begun ≡ object_of a.datasets =
@@ -51,13 +51,13 @@ delivered_lines way tell between lines octets v more a (text, (whole, begun, rea
     told ∙ ap delivered (is ∙ ap text_so_far object ∙ sym found) ∙ lines a.text v.lines a.lines
 
 -- the words that a sink wrote of an envelope
-pub envelope_text : EnvelopesAreDeliveredAsLines → LinesAreJoinedByLineFeeds → (e : Envelope) (more : List Event) → IsEnvelope e → IsDelivered e.octets more
+pub envelope_text : EnvelopesAreDeliveredAsLines → LinesAreJoinedByLineFeeds → (e : Envelope) (more : List StoryEvent) → IsListed e → IsDelivered e.octets more
     → map octet_for more ≡ text_of e
-envelope_text law joins e more is d = ap (λ (events : List Event). map octet_for events) (law e.octets e.value more is.admits d) ∙ joins e.value.lines
+envelope_text law joins e more is d = ap (λ (events : List StoryEvent). map octet_for events) (law e.octets e.value more is.admits d) ∙ joins e.value.lines
 
 -- ---- what a writer of lines leaves
 
-pub wrote_by : {W : Type 0} (state : W → Device) (a b : LineWriter W) (more : List Event) → stops_of a ≡ 0 → stops_of b ≡ stops_of a → WritesLines state a more b
+pub wrote_by : {W : Type 0} (state : W → Device) (a b : LineWriter W) (more : List StoryEvent) → stops_of a ≡ 0 → stops_of b ≡ stops_of a → WritesLines state a more b
     → Wrote (device_of state a) (device_of state b) (map octet_for more)
 wrote_by state a b more none same w = (w.octets, (w.unbroken same (omega (arith, none, same)), w.interruptions))
 
@@ -88,7 +88,7 @@ broke_on a b c i j xs ys out w none rose = (
 
 -- ---- the envelopes so far
 
--- So many envelopes came from the input, and nothing else; their stories and their lines are out.
+-- Some envelopes, `count` of them, came from the input, and nothing else; their stories and their lines are out.
 pub record AreNarrated (source rest old new errors_old errors_new : Device) (count : ℕ) : Type 0 where
   pub envelopes : List Envelope
   pub taken : AreTaken source rest count envelopes
@@ -103,7 +103,7 @@ story_after : (es : List Envelope) (e : Envelope) (count : ℕ) → count ≡ le
 story_after es e count is = text_after story_of es e count is
 
 pub narrated_more : GiftsJoin → TextsJoin → (source mid rest old now then new errors_old errors_now errors_new : Device) (count : ℕ) (line : List ℕ) (e : Envelope)
-    → AreNarrated source mid old now errors_old errors_now count → IsEnvelope e → HasGiven mid rest e.octets → (count ≡ max_envelopes → ⊥)
+    → AreNarrated source mid old now errors_old errors_now count → IsListed e → HasGiven mid rest e.octets → (count ≡ max_envelopes → ⊥)
     → Wrote now then (text_of e) → Wrote then new (10 ∷ []) → line ≡ line_of (count + 1) e → Wrote errors_now errors_new line
     → AreNarrated source rest old new errors_old errors_new (count + 1)
 narrated_more joins texts source mid rest old now then new errors_old errors_now errors_new count line e r is given below out ended words told = record {
@@ -165,7 +165,7 @@ unfed_for_memory joins texts source mid rest old now new errors_old errors_new c
 )
 
 -- all octets of an envelope have its text
-pub whole_text : EnvelopesAreDeliveredAsLines → LinesAreJoinedByLineFeeds → (e : Envelope) (more : List Event) → IsEnvelope e → IsDelivered e.octets more
+pub whole_text : EnvelopesAreDeliveredAsLines → LinesAreJoinedByLineFeeds → (e : Envelope) (more : List StoryEvent) → IsListed e → IsDelivered e.octets more
     → IsTextIn (take (length e.octets) e.octets) (text_of e)
 whole_text law joins e more is d =
     subst (λ (octets : List ℕ). IsTextIn octets (text_of e)) (sym (take-length e.octets)) (more, d, sym (envelope_text law joins e more is d))
@@ -173,7 +173,7 @@ whole_text law joins e more is d =
 -- ---- the output broke
 
 pub broke_in_text : GiftsJoin → (source mid rest old now new errors_old errors_new : Device) (i j count : ℕ) (begun : List ℕ) (k : ℕ) (before words more : List ℕ)
-    → AreNarrated source mid old now errors_old errors_new count → HasGiven mid rest begun → k ≤ length begun → (k ≡ length begun → (e : Envelope) × IsEnvelope e × (e.octets ≡ begun))
+    → AreNarrated source mid old now errors_old errors_new count → HasGiven mid rest begun → k ≤ length begun → (k ≡ length begun → (e : Envelope) × IsListed e × (e.octets ≡ begun))
     → IsTextIn (take k begun) words → before ++ more ≡ words → (then : Device) → Wrote now then before → TextsJoin → WritesOn then new i j more → i ≡ 0 → Rose i j
     → IsUnnarrated source rest old new errors_old errors_new CannotWrite
 broke_in_text joins source mid rest old now new errors_old errors_new i j count begun k before words more r given within all is same then out texts w none rose =
@@ -200,7 +200,7 @@ broke_in_text joins source mid rest old now new errors_old errors_new i j count 
 
 -- ---- the errors broke
 
-pub broke_in_lines : GiftsJoin → TextsJoin → (source mid rest old now new errors_old errors_now errors_new : Device) (count : ℕ) (begun words line : List ℕ) (ending : Ending) (fault : Fault)
+pub broke_in_lines : GiftsJoin → TextsJoin → (source mid rest old now new errors_old errors_now errors_new : Device) (count : ℕ) (begun words line : List ℕ) (ending : Ending) (fault : CommandFault)
     → AreNarrated source mid old now errors_old errors_now count → HasGiven mid rest begun → EndsBy count begun ending → LeavesText begun ending words
     → Wrote now new words → line ≡ ending_line count ending → IsUnsaid errors_now errors_new line fault → IsUnnarrated source rest old new errors_old errors_new fault
 broke_in_lines joins texts source mid rest old now new errors_old errors_now errors_new count begun words line ending fault r given ends leaves out same unsaid =
@@ -224,8 +224,8 @@ broke_in_lines joins texts source mid rest old now new errors_old errors_now err
     )
 
 -- inside the line of an envelope whose story is out
-pub broke_in_line : GiftsJoin → TextsJoin → (source mid rest old now then new errors_old errors_now errors_new : Device) (count : ℕ) (line : List ℕ) (e : Envelope) (fault : Fault)
-    → AreNarrated source mid old now errors_old errors_now count → IsEnvelope e → HasGiven mid rest e.octets → (count ≡ max_envelopes → ⊥)
+pub broke_in_line : GiftsJoin → TextsJoin → (source mid rest old now then new errors_old errors_now errors_new : Device) (count : ℕ) (line : List ℕ) (e : Envelope) (fault : CommandFault)
+    → AreNarrated source mid old now errors_old errors_now count → IsListed e → HasGiven mid rest e.octets → (count ≡ max_envelopes → ⊥)
     → Wrote now then (text_of e) → Wrote then new (10 ∷ []) → line ≡ line_of (count + 1) e → IsUnsaid errors_now errors_new line fault
     → IsUnnarrated source rest old new errors_old errors_new fault
 broke_in_line joins texts source mid rest old now then new errors_old errors_now errors_new count line e fault r is given below out ended words unsaid =
@@ -251,7 +251,7 @@ broke_in_line joins texts source mid rest old now then new errors_old errors_now
 
 -- ---- nothing comes next
 
-pub unfed : {W : Type 0} (state : W → Device) → GiftsJoin → TextsJoin → (source mid rest old errors_old errors_new : Device) (a b : LineWriter W) (count : ℕ) (fault : Fault)
+pub unfed : {W : Type 0} (state : W → Device) → GiftsJoin → TextsJoin → (source mid rest old errors_old errors_new : Device) (a b : LineWriter W) (count : ℕ) (fault : CommandFault)
     → AreNarrated source mid old (device_of state a) errors_old errors_new count → stops_of a ≡ 0 → IsCalm (stops_of a) (stops_of b) (Err fault)
     → IsNext (WritesLines state) stops_of mid rest a b (Err fault) → IsUnnarrated source rest old (device_of state b) errors_old errors_new fault
 unfed state joins texts source mid rest old errors_old errors_new a b count CannotRead r none calm c = (
@@ -320,7 +320,7 @@ front_out state mid rest a b x e is none calm n =
     record { refused = h; out = wrote_by state a b h.more none calm h.came.told }
 
 -- the LF after the text of an envelope was refused
-pub unended_text : {W : Type 0} (state : W → Device) → GiftsJoin → TextsJoin → (source mid rest old errors_old errors_new : Device) (a b d : LineWriter W) (count : ℕ) (got : Unpacked) (octets : ℕ) (fault : Fault)
+pub unended_text : {W : Type 0} (state : W → Device) → GiftsJoin → TextsJoin → (source mid rest old errors_old errors_new : Device) (a b d : LineWriter W) (count : ℕ) (got : Unpacked) (octets : ℕ) (fault : CommandFault)
     → AreNarrated source mid old (device_of state a) errors_old errors_new count → TextIsOut state mid rest a b got octets → IsUnended state b d fault
     → IsUnnarrated source rest old (device_of state d) errors_old errors_new fault
 unended_text state joins texts source mid rest old errors_old errors_new a b d count got octets fault r t u =

@@ -1,31 +1,31 @@
 -- `pack`: what its parts leave comes to what it leaves.
 use Rattle.std.proofs.Common.{◌≡◌, ℕ, ◌+◌, ap, length-append, IfOk, ◌&&◌, nat_le, ◌<◌, ◌≤◌, ◌++◌, List, [], ◌∷◌, length, inl, inr, sym, subst, ◌∙◌, arith, Bool, true, false, Option, Some, None, Result, Ok, Err, IfErr, IfSome, IfNone, IsTrue}
 use Rattle.std.proofs.lemmas.Bool.{and_parts, leb-true}
-use Rattle.iim_tables.specs.Numbers.{greatest_size}
-use Rattle.iim_dataset.specs.Devices.{Device}
-use Rattle.iim_dataset.specs.DeviceLaws.{BrokeAfter, GiftsJoin, HasGiven}
-use Rattle.iim_object.specs.Plans.{bound_of, fits, is_plan, most_in}
-use Rattle.iim_object.specs.Writing.{Begins, most_of}
+use Rattle.iim_dataset.specs.Format.Octets.{greatest_size}
+use Rattle.iim_dataset.specs.Format.Devices.{Device}
+use Rattle.iim_dataset.specs.Format.DeviceLaws.{BrokeAfter, GiftsJoin, HasGiven}
+use Rattle.iim_object.specs.Format.Plans.{bound_of, fits, is_plan, most_in}
+use Rattle.iim_object.specs.Format.Writing.{Begins, most_of}
 use Rattle.iim_object.specs.declared.cause.PackCause.{PackCause}
 use Rattle.iim_object.specs.declared.cause.PackCause.TheVariants as causes
 use Rattle.iim_object.specs.declared.cause.StartFault.{StartFault}
 use Rattle.iim_object.specs.declared.plan.Plan.{Plan}
 use Rattle.iim_object.specs.declared.size.Size.{Size}
 use Rattle.iim_object.specs.declared.size.Size.TheVariants.{Known, Unknown}
-use Rattle.wire_message.specs.Messages.{IsTrailer}
+use Rattle.wire_message.specs.Format.Messages.{IsTrailer}
 use Rattle.iim_object.proofs.PackedSizes.{plan_parts}
-use Rattle.iim_pack.specs.Packing.{pack_cause}
+use Rattle.iim_pack.specs.Format.Packing.{pack_cause}
 use Rattle.iim_pack.specs.Format.Orders.{IsBelowKnown, IsFirstOf, AgainstPack}
 use Rattle.iim_pack.specs.Format.Packed.{Packed}
-use Rattle.iim_pack.specs.Starting.{IsRefused, Halts}
+use Rattle.iim_pack.specs.Format.Starting.{IsRefused, Halts}
 use Rattle.iim_pack.specs.Format.Whole.{IsPackFault, Packs}
 use Rattle.iim_script.specs.Format.Scripts.{max_script}
 use Rattle.iim_commands.specs.Format.Devices.{devices}
 use Rattle.iim_commands.specs.Format.Reports.{IsTold}
 use Rattle.iim_commands.specs.Format.Packing.{Answered, Asked, HasRoom, IsBrokenOff, IsPast, IsPlanOf, IsRead, IsRefusal, IsUnanswered, IsUnread, Tells, Told, most_asked, object_of, refusal_line, said_size}
 use Rattle.iim_commands.specs.PackSteps.{ComesTo, IsFailedRead, IsUnpacked, PacksTold, UnpacksTold}
-use Rattle.iim_commands.specs.declared.fault.Fault.{Fault}
-use Rattle.iim_commands.specs.declared.fault.Fault.TheVariants.{CannotRead, CannotWrite, OutOfMemory}
+use Rattle.iim_commands.specs.declared.fault.CommandFault.{CommandFault}
+use Rattle.iim_commands.specs.declared.fault.CommandFault.TheVariants.{CannotRead, CannotWrite, OutOfMemory}
 use Rattle.iim_commands.specs.declared.packing.PackFault.{PackFault}
 use Rattle.iim_commands.specs.declared.packing.PackFault.TheVariants.{Refused, Around}
 
@@ -176,7 +176,7 @@ unpacked_of a octets t old new (Around OutOfMemory) tells h = h
 
 -- ---- the input
 
-pub unread : GiftsJoin → (first mid new : Device) (script : List ℕ) (room : ℕ) (fault : Fault) → length script ≤ max_script → length script + room ≤ max_script + 1
+pub unread : GiftsJoin → (first mid new : Device) (script : List ℕ) (room : ℕ) (fault : CommandFault) → length script ≤ max_script → length script + room ≤ max_script + 1
     → HasGiven first mid script → IsFailedRead mid new room fault → IsUnread first new fault
 unread joins first mid new script room CannotRead few fits given h = (script, h.0, few, joins.missed first mid new script h.0 given h.1)
 unread joins first mid new script room CannotWrite few fits given h = absurd h
@@ -187,7 +187,7 @@ unread joins first mid new script room OutOfMemory few fits given h =
 
 -- ---- answers
 
-pub told_refused : (a : Asked) (octets slice text : List ℕ) (first rest old new errors said : Device) (result : Result ℕ Fault) → slice ≡ octets → IsRead first rest octets
+pub told_refused : (a : Asked) (octets slice text : List ℕ) (first rest old new errors said : Device) (result : Result ℕ CommandFault) → slice ≡ octets → IsRead first rest octets
     → new ≡ old → IsRefusal a slice text → IfOk result (IsTold errors said text 1) → IfOk result (Answered a (devices first old errors) (devices rest new said))
 told_refused a octets slice text first rest old new errors said (Ok status) is read same refusal told =
     (octets, read, inr (text, subst (λ (o : List ℕ). IsRefusal a o text) is refusal, same, told))
@@ -196,7 +196,7 @@ told_refused a octets slice text first rest old new errors said (Err e) is read 
 few_read : (old new : Device) (octets : List ℕ) → IsRead old new octets → length octets ≤ max_script + 1
 few_read old new octets read = elim read.1 [ inl h ↦ (let within : length octets ≤ max_script = h.1 in omega (arith, within)) | inr h ↦ omega (arith, h) ]
 
-pub unanswered_as : (a : Asked) (octets slice : List ℕ) (first rest old new errors said : Device) (fault : Fault) → slice ≡ octets → IsRead first rest octets
+pub unanswered_as : (a : Asked) (octets slice : List ℕ) (first rest old new errors said : Device) (fault : CommandFault) → slice ≡ octets → IsRead first rest octets
     → IsUnpacked a slice old new (Around fault) → IsUnanswered a (devices first old errors) (devices rest new said) fault
 unanswered_as a octets slice first rest old new errors said CannotRead is read h = absurd h
 unanswered_as a octets slice first rest old new errors said CannotWrite is read h = (octets, read, subst (λ (o : List ℕ). IsBrokenOff a o old new) is h)

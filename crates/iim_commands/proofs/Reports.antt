@@ -4,21 +4,21 @@ use Rattle.std.specs.List.{AllByRecursion}
 use Rattle.std.proofs.Math.ListN.{get_or-append}
 use Rattle.std.proofs.lemmas.List.{append-nil, take-append-le}
 use Rattle.std.specs.Io.KnownBytes.{Consumes, IsAtEnd}
-use Rattle.iim_dataset.specs.Devices.{Device, Rose, Wrote}
-use Rattle.iim_dataset.specs.DeviceLaws.{GiftsJoin, HasGiven, MissedBehind, TextsJoin}
+use Rattle.iim_dataset.specs.Format.Devices.{Device, Rose, Wrote}
+use Rattle.iim_dataset.specs.Format.DeviceLaws.{GiftsJoin, HasGiven, MissedAfter, TextsJoin}
 use Rattle.iim_dataset.specs.declared.device.IoFault.{IoFault}
 use Rattle.iim_dataset.proofs.DeviceLaws.{broke_for_later}
-use Rattle.wire_story.specs.Delivery.{Event}
+use Rattle.wire_story.specs.Format.Delivery.{StoryEvent}
 use Rattle.wire_story.specs.declared.discard.Discard.{Discard}
 use Rattle.iim_unpack.specs.Format.Open.{Adds, RefusesNext}
 use Rattle.iim_unpack.specs.declared.refusal.Refusal.{Refusal}
 use Rattle.iim_commands.specs.Coming.{IsNext, IsRefusal, IsUnheard}
 use Rattle.iim_commands.specs.Format.Devices.{Holds}
 use Rattle.iim_commands.specs.Format.Lines.{ending_line, status_of, texts_from}
-use Rattle.iim_commands.specs.Format.Listings.{joined, limits, max_envelopes, Divides, Ending, EndsBy, Envelope, IsDead, IsEnvelope, IsRefusedAfter}
+use Rattle.iim_commands.specs.Format.Listings.{joined, limits, max_envelopes, Divides, Ending, EndsBy, Envelope, IsDead, IsListed, IsRefusedAfter}
 use Rattle.iim_commands.specs.Format.Reports.{IsUnreported, IsUnsaid, Reported}
-use Rattle.iim_commands.specs.declared.fault.Fault.{Fault}
-use Rattle.iim_commands.specs.declared.fault.Fault.TheVariants.{CannotRead, CannotWrite, OutOfMemory}
+use Rattle.iim_commands.specs.declared.fault.CommandFault.{CommandFault}
+use Rattle.iim_commands.specs.declared.fault.CommandFault.TheVariants.{CannotRead, CannotWrite, OutOfMemory}
 
 -- ---- one envelope more
 
@@ -26,7 +26,7 @@ pub joined_more : (es : List Envelope) (e : Envelope) → joined (es ++ e ∷ []
 joined_more [] e = append-nil e.octets
 joined_more (f ∷ es) e = ap (λ (l : List ℕ). f.octets ++ l) (joined_more es e) ∙ sym (append_assoc f.octets (joined es) e.octets)
 
-pub admitted_more : (es : List Envelope) (e : Envelope) → AllByRecursion IsEnvelope es → IsEnvelope e → AllByRecursion IsEnvelope (es ++ e ∷ [])
+pub admitted_more : (es : List Envelope) (e : Envelope) → AllByRecursion IsListed es → IsListed e → AllByRecursion IsListed (es ++ e ∷ [])
 admitted_more [] e all one = (one, tt)
 admitted_more (f ∷ es) e all one = (all.0, admitted_more es e all.1 one)
 
@@ -44,9 +44,9 @@ text_after text es e count is =
 
 -- ---- the envelopes so far
 
--- So many envelopes came from the input, and nothing else.
+-- These envelopes, `count` of them, came from the input, and nothing else.
 pub record AreTaken (source rest : Device) (count : ℕ) (envelopes : List Envelope) : Type 0 where
-  pub admitted : AllByRecursion IsEnvelope envelopes
+  pub admitted : AllByRecursion IsListed envelopes
   pub given : HasGiven source rest (joined envelopes)
   pub counted : count ≡ length envelopes
   pub few : count ≤ max_envelopes
@@ -63,7 +63,7 @@ none_taken joins source = record { admitted = tt; given = joins.none source; cou
 pub none_reported : GiftsJoin → TextsJoin → (text : ℕ → Envelope → List ℕ) (source old : Device) → AreReported text source source old old 0
 none_reported joins texts text source old = record { envelopes = []; taken = none_taken joins source; out = texts.none old }
 
-pub taken_more : GiftsJoin → (source mid rest : Device) (count : ℕ) (es : List Envelope) (e : Envelope) → AreTaken source mid count es → IsEnvelope e
+pub taken_more : GiftsJoin → (source mid rest : Device) (count : ℕ) (es : List Envelope) (e : Envelope) → AreTaken source mid count es → IsListed e
     → HasGiven mid rest e.octets → (count ≡ max_envelopes → ⊥) → AreTaken source rest (count + 1) (es ++ e ∷ [])
 taken_more joins source mid rest count es e t is given below = record {
   admitted = admitted_more es e t.admitted is;
@@ -116,7 +116,7 @@ refused_later begun more k e d =
     }
 
 -- a refusal of octets that came is one of all that stands after the envelopes
-pub ends_refused : {S : Type 0} (goes : S → List Event → S → Type 0) (mid rest : Device) (a b : S) (e : Refusal) (r : IsRefusal goes mid rest a b e)
+pub ends_refused : {S : Type 0} (goes : S → List StoryEvent → S → Type 0) (mid rest : Device) (a b : S) (e : Refusal) (r : IsRefusal goes mid rest a b e)
     → (more : List ℕ) × Holds rest.octets more × IsRefusedAfter (r.octets ++ more) r.k e
 ends_refused goes mid rest a b e r = by_kind r.refused
   where
@@ -157,7 +157,7 @@ reported joins texts text source mid rest old now new count status begun more li
 
 -- an envelope more is out
 pub reported_more : GiftsJoin → TextsJoin → (text : ℕ → Envelope → List ℕ) (source mid rest old now new : Device) (count : ℕ) (line : List ℕ) (e : Envelope)
-    → AreReported text source mid old now count → IsEnvelope e → HasGiven mid rest e.octets → (count ≡ max_envelopes → ⊥) → line ≡ text (count + 1) e
+    → AreReported text source mid old now count → IsListed e → HasGiven mid rest e.octets → (count ≡ max_envelopes → ⊥) → line ≡ text (count + 1) e
     → Wrote now new line → AreReported text source rest old new (count + 1)
 reported_more joins texts text source mid rest old now new count line e r is given below words out = record {
   envelopes = r.envelopes ++ e ∷ [];
@@ -175,7 +175,7 @@ consumes_on (Some x) None c xs ys h k = absurd h
 consumes_on (Some x) (Some y) None xs ys h k = absurd k
 consumes_on (Some x) (Some y) (Some z) xs ys h k = h ∙ (ap (λ (l : List ℕ). xs ++ l) k ∙ sym (append_assoc xs ys z))
 
-pub missed_then : (a b c : Device) (xs ys : List ℕ) (fault : IoFault) → HasGiven a b xs → MissedBehind b c ys fault → MissedBehind a c (xs ++ ys) fault
+pub missed_then : (a b c : Device) (xs ys : List ℕ) (fault : IoFault) → HasGiven a b xs → MissedAfter b c ys fault → MissedAfter a c (xs ++ ys) fault
 missed_then a b c xs ys fault given missed =
     (consumes_on a.octets b.octets c.octets xs ys given.0 missed.0, broke_for_later a b c fault given.1 missed.1)
 
@@ -191,7 +191,7 @@ starved joins text source mid rest old new count begun r given = (
 )
 
 -- nothing comes next
-pub failed : {S : Type 0} (goes : S → List Event → S → Type 0) (failures : S → ℕ) → GiftsJoin → (text : ℕ → Envelope → List ℕ) (source mid rest old new : Device) (a b : S) (count : ℕ) (fault : Fault)
+pub failed : {S : Type 0} (goes : S → List StoryEvent → S → Type 0) (failures : S → ℕ) → GiftsJoin → (text : ℕ → Envelope → List ℕ) (source mid rest old new : Device) (a b : S) (count : ℕ) (fault : CommandFault)
     → AreReported text source mid old new count → (IsUnheard goes failures mid rest a b → ⊥) → IsNext goes failures mid rest a b (Err fault)
     → IsUnreported text source rest old new fault
 failed goes failures joins text source mid rest old new a b count CannotRead r heard c = (
@@ -209,7 +209,7 @@ failed goes failures joins text source mid rest old new a b count OutOfMemory r 
     starved joins text source mid rest old new count [] r (subst (λ (d : Device). HasGiven mid d []) (sym c.0) (joins.none mid))
 
 -- the output broke inside the last line
-pub unended : GiftsJoin → TextsJoin → (text : ℕ → Envelope → List ℕ) (source mid rest old now new : Device) (count : ℕ) (begun line : List ℕ) (ending : Ending) (fault : Fault)
+pub unended : GiftsJoin → TextsJoin → (text : ℕ → Envelope → List ℕ) (source mid rest old now new : Device) (count : ℕ) (begun line : List ℕ) (ending : Ending) (fault : CommandFault)
     → AreReported text source mid old now count → HasGiven mid rest begun → EndsBy count begun ending → line ≡ ending_line count ending → IsUnsaid now new line fault
     → IsUnreported text source rest old new fault
 unended joins texts text source mid rest old now new count begun line ending fault r given ends words unsaid =
@@ -228,8 +228,8 @@ unended joins texts text source mid rest old now new count begun line ending fau
     )
 
 -- the output broke inside the text of an envelope
-pub unsaid_of : GiftsJoin → TextsJoin → (text : ℕ → Envelope → List ℕ) (source mid rest old now new : Device) (count : ℕ) (line : List ℕ) (e : Envelope) (fault : Fault)
-    → AreReported text source mid old now count → IsEnvelope e → HasGiven mid rest e.octets → (count ≡ max_envelopes → ⊥) → line ≡ text (count + 1) e
+pub unsaid_of : GiftsJoin → TextsJoin → (text : ℕ → Envelope → List ℕ) (source mid rest old now new : Device) (count : ℕ) (line : List ℕ) (e : Envelope) (fault : CommandFault)
+    → AreReported text source mid old now count → IsListed e → HasGiven mid rest e.octets → (count ≡ max_envelopes → ⊥) → line ≡ text (count + 1) e
     → IsUnsaid now new line fault → IsUnreported text source rest old new fault
 unsaid_of joins texts text source mid rest old now new count line e fault r is given below words unsaid =
     let es = r.envelopes ++ e ∷ [] in
@@ -252,7 +252,7 @@ rises (inl e) = omega (arith, e)
 rises (inr h) = omega (arith, h.0)
 
 -- ---- what `Discard` tells
-abbrev pub discards : Discard → List Event → Discard → Type 0
+abbrev pub discards : Discard → List StoryEvent → Discard → Type 0
 discards = λ old events new. new ≡ old
 
 abbrev pub never_fails : Discard → ℕ

@@ -3,16 +3,17 @@ use Rattle.std.proofs.Common.{◌≡◌, inl, ℕ, ◌<◌, ◌≤◌, Bool, tru
 use Rattle.std.specs.Prelude.{codes}
 use Rattle.std.specs.List.{AllByRecursion, flat_map}
 use Rattle.std.proofs.lemmas.List.Elements.{filter-append}
-use Rattle.iim_dataset.specs.Datasets.{Dataset}
-use Rattle.iim_fields.specs.Builders as builders
-use Rattle.iim_fields.specs.Faults.{is_kept, joined, kept}
-use Rattle.iim_fields.specs.Records.{AreRecords, AreSections, IsGoodDataset}
-use Rattle.iim_fields.specs.Standing.{IsWithin}
-use Rattle.wire_story.specs.Texts.{IsLine, IsText}
+use Rattle.iim_dataset.specs.Format.Datasets.{Dataset}
+use Rattle.iim_fields.specs.Format.Builders as builders
+use Rattle.iim_fields.specs.Format.Faults.{is_kept, joined, kept}
+use Rattle.iim_fields.specs.Format.Records.{AreRecords, AreSections}
+use Rattle.iim_tables.specs.Format.Records.{IsGoodDataset}
+use Rattle.iim_fields.specs.Format.Standing.{IsWithin}
+use Rattle.wire_story.specs.Format.Texts.{IsLine, IsText}
 use Rattle.iim_script.specs.Format.Laws.{PrintedValuesAreScripts, ScriptsTellOneThing, ScriptsHaveNoFault, IsOneScript}
 use Rattle.iim_script.specs.Format.Printed.{field_line, message_line, trailer_line, value_lines}
 use Rattle.iim_script.specs.Format.Scripts.{max_script}
-use Rattle.iim_commands.specs.Format.Listings.{Envelope, IsEnvelope, limits}
+use Rattle.iim_commands.specs.Format.Listings.{Envelope, IsListed, limits}
 use Rattle.iim_commands.specs.Format.Narration.{story_of}
 use Rattle.iim_commands.specs.Format.Packing.{Told, Tells}
 use Rattle.iim_commands.specs.Format.Scripts.{told_of, TellsJust, ShownEnvelopesAreScripts}
@@ -51,7 +52,7 @@ text_lines text (line ∷ next ∷ lines) (is, returns, few, rest, parts, later)
 -- ---- the script
 
 -- the values of an envelope are those of a script, which is printed with this story
-printed : PrintedValuesAreScripts → (e : Envelope) → IsEnvelope e → (number : ℕ) → length (value_lines e.value.fields e.value.head e.value.trailer ++ (codes "text\n" ++ story_of number e)) ≤ max_script
+printed : PrintedValuesAreScripts → (e : Envelope) → IsListed e → (number : ℕ) → length (value_lines e.value.fields e.value.head e.value.trailer ++ (codes "text\n" ++ story_of number e)) ≤ max_script
     → Tells (value_lines e.value.fields e.value.head e.value.trailer ++ (codes "text\n" ++ story_of number e)) (told_of e.value)
 printed law e is number short =
     let a = is.admits in

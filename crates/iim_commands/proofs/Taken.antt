@@ -1,33 +1,34 @@
 -- What an intake gives, of an unpacker that stands on no octets.
 use Rattle.std.proofs.Common.{◌≡◌, ◌≢◌, ◌⊎◌, ℕ, inl, inr, refl, sym, ap, subst, arith, List, [], ◌∷◌, length, take, Option, None, Some, Ok}
 use Rattle.std.proofs.Math.Seq.{take-length}
-use Rattle.iim_dataset.specs.Devices.{Device}
-use Rattle.iim_dataset.specs.Splits.{InTag, Reads}
+use Rattle.iim_dataset.specs.Format.Datasets.{count_octets}
+use Rattle.iim_dataset.specs.Format.Devices.{Device}
+use Rattle.iim_dataset.specs.Format.Splits.{InTag, Reads}
 use Rattle.iim_dataset.specs.declared.device.IoFault.{IoFault}
 use Rattle.iim_dataset.specs.declared.device.IoFault.TheVariants as io
-use Rattle.iim_dataset.specs.DeviceLaws.{HasGiven}
+use Rattle.iim_dataset.specs.Format.DeviceLaws.{HasGiven}
 use Rattle.std.specs.Io.KnownBytes.{IsAtEnd}
 use Rattle.iim_commands.specs.declared.coming.Next.{Next}
 use Rattle.iim_commands.specs.declared.coming.Next.TheVariants as next
 use Rattle.iim_commands.specs.declared.coming.Next.TheVariants.{Envelope}
 use Rattle.iim_fields.specs.declared.limits.Limits.{Limits}
-use Rattle.wire_story.specs.Delivery.{Event}
+use Rattle.wire_story.specs.Format.Delivery.{StoryEvent}
 use Rattle.iim_unpack.specs.Format.Framed.{AreWithin}
 use Rattle.iim_unpack.specs.declared.intake.IntakeFault.{IntakeFault}
 use Rattle.iim_unpack.specs.declared.intake.IntakeFault.TheVariants.{Refused, Read, Interrupted}
-use Rattle.iim_unpack.specs.Intakes.{Faults, Gives, IsRefusedOf, IsTruncatedIn, WasGiven, WasMissed, WasRefused, WasTruncated}
-use Rattle.iim_unpack.specs.Parts.{CountsFor}
+use Rattle.iim_unpack.specs.Format.Intakes.{Faults, Gives, IsRefusedOf, IsTruncatedIn, WasGiven, WasMissed, WasRefused, WasTruncated}
+use Rattle.iim_unpack.specs.Format.Parts.{CountsFor}
 use Rattle.iim_unpack.specs.Format.Open.{Adds, IsOpen, IsTextOf}
-use Rattle.iim_unpack.specs.Unpacking.{Stands, Unpacking, limits_in}
+use Rattle.iim_unpack.specs.Format.Unpacking.{Stands, Unpacking, limits_in}
 use Rattle.iim_unpack.specs.declared.refusal.Refusal.{Refusal}
 use Rattle.iim_unpack.specs.declared.refusal.Cause.{Cause}
 use Rattle.iim_unpack.specs.declared.refusal.Cause.TheVariants.{Sink, Truncated}
 use Rattle.iim_unpack.specs.declared.unpacker.Unpacked.{Unpacked}
-use Rattle.iim_commands.specs.Coming.{CanGoOn, HasCome, IsCutOff, IsNext, IsRefusal, IsUnheard}
+use Rattle.iim_commands.specs.Coming.{CanAskForMore, HasCome, IsCutOff, IsNext, IsRefusal, IsUnheard}
 use Rattle.iim_commands.specs.Format.Listings.{limits, IsDelivered}
 
 -- no octets are no datasets, and the beginning of a tag
-reads_none : Reads [] [] (InTag [])
+reads_none : Reads count_octets [] [] (InTag [])
 reads_none = record {
   front = [];
   rest = [];
@@ -51,12 +52,12 @@ reads_none = record {
 pub no_text : IsTextOf [] []
 no_text = ([], InTag [], reads_none, refl)
 
-pub delivered_of : (octets : List ℕ) (more : List Event) → Adds [] octets more → IsDelivered octets more
+pub delivered_of : (octets : List ℕ) (more : List StoryEvent) → Adds [] octets more → IsDelivered octets more
 delivered_of octets more adds =
     let added = adds [] no_text in
     (added.0, added.1, added.2)
 
-pub has_come : {S : Type 0} (goes : S → List Event → S → Type 0) (old new : Device) (u : Unpacking) (a b : S) (used : ℕ) (got : Unpacked)
+pub has_come : {S : Type 0} (goes : S → List StoryEvent → S → Type 0) (old new : Device) (u : Unpacking) (a b : S) (used : ℕ) (got : Unpacked)
     → limits_in u ≡ limits → Stands u [] 0 → WasGiven goes old new u a b used got → HasCome goes old new a b got used
 has_come goes old new u a b used got same at w =
     let e = w.envelope [] 0 at in
@@ -70,11 +71,11 @@ has_come goes old new u a b used got same at w =
       delivered = delivered_of w.octets w.more e.adds;
     }
 
-refused_here : (u : Unpacking) (octets : List ℕ) (more : List Event) (e : Refusal) → limits_in u ≡ limits → IsRefusedOf (limits_in u) [] 0 octets more e
+refused_here : (u : Unpacking) (octets : List ℕ) (more : List StoryEvent) (e : Refusal) → limits_in u ≡ limits → IsRefusedOf (limits_in u) [] 0 octets more e
     → IsRefusedOf limits [] 0 octets more e
 refused_here u octets more e same is = subst (λ (l : Limits). IsRefusedOf l [] 0 octets more e) same is
 
-pub is_refusal : {S : Type 0} (goes : S → List Event → S → Type 0) (failures : S → ℕ) (old new : Device) (u : Unpacking) (a b : S) (e : Refusal)
+pub is_refusal : {S : Type 0} (goes : S → List StoryEvent → S → Type 0) (failures : S → ℕ) (old new : Device) (u : Unpacking) (a b : S) (e : Refusal)
     → limits_in u ≡ limits → Stands u [] 0 → e.cause ≢ Sink → WasRefused goes failures old new u a b e ⊎ WasTruncated goes failures old new u a b e
     → IsRefusal goes old new a b e
 is_refusal goes failures old new u a b e same at other (inl w) =
@@ -100,7 +101,7 @@ is_refusal goes failures old new u a b e same at other (inr w) =
       delivered = subst (λ (xs : List ℕ). IsDelivered xs w.more) (sym (take-length w.octets)) (delivered_of w.octets w.more is.adds);
     }
 
-pub is_unheard : {S : Type 0} (goes : S → List Event → S → Type 0) (failures : S → ℕ) (old new : Device) (u : Unpacking) (a b : S) (e : Refusal)
+pub is_unheard : {S : Type 0} (goes : S → List StoryEvent → S → Type 0) (failures : S → ℕ) (old new : Device) (u : Unpacking) (a b : S) (e : Refusal)
     → Stands u [] 0 → e.cause ≡ Sink → WasRefused goes failures old new u a b e ⊎ WasTruncated goes failures old new u a b e
     → IsUnheard goes failures old new a b
 is_unheard goes failures old new u a b e at sink (inl w) =
@@ -124,7 +125,7 @@ pub calm_counts : (cause : Cause) (before now : ℕ) → cause ≢ Sink → Coun
 calm_counts Sink before now other counts = absurd (other refl)
 calm_counts _ before now other counts = counts
 
-pub is_cut_off : {S : Type 0} (goes : S → List Event → S → Type 0) (failures : S → ℕ) (old new : Device) (u : Unpacking) (a b : S) (kept : ℕ) (fault : IoFault)
+pub is_cut_off : {S : Type 0} (goes : S → List StoryEvent → S → Type 0) (failures : S → ℕ) (old new : Device) (u : Unpacking) (a b : S) (kept : ℕ) (fault : IoFault)
     → limits_in u ≡ limits → Stands u [] 0 → WasMissed goes failures old new u a b kept fault → IsCutOff goes old new a b
 is_cut_off goes failures old new u a b kept fault same at w =
     let is = w.is_open [] 0 at in
@@ -140,22 +141,22 @@ is_cut_off goes failures old new u a b kept fault same at w =
 
 -- ---- of answers
 
-pub refused_by : {S : Type 0} (goes : S → List Event → S → Type 0) (failures : S → ℕ) (old new : Device) (u : Unpacking) (a b : S) (kept : ℕ) (fault : IntakeFault) (e : Refusal)
+pub refused_by : {S : Type 0} (goes : S → List StoryEvent → S → Type 0) (failures : S → ℕ) (old new : Device) (u : Unpacking) (a b : S) (kept : ℕ) (fault : IntakeFault) (e : Refusal)
     → fault ≡ Refused e → Faults goes failures old new u a b kept fault → WasRefused goes failures old new u a b e ⊎ WasTruncated goes failures old new u a b e
 refused_by goes failures old new u a b kept fault e is f = (subst (λ (x : IntakeFault). Faults goes failures old new u a b kept x) is f).1
 
-pub given_as : {S : Type 0} (goes : S → List Event → S → Type 0) (old new : Device) (u : Unpacking) (a b : S) (used told : ℕ) (answer : Option Unpacked) (got : Unpacked)
+pub given_as : {S : Type 0} (goes : S → List StoryEvent → S → Type 0) (old new : Device) (u : Unpacking) (a b : S) (used told : ℕ) (answer : Option Unpacked) (got : Unpacked)
     → answer ≡ Some got → told ≡ used → Gives goes old new u a b used answer → WasGiven goes old new u a b told got
 given_as goes old new u a b used told answer got is same g =
     subst (λ (n : ℕ). WasGiven goes old new u a b n got) (sym same) (subst (λ (x : Option Unpacked). Gives goes old new u a b used x) is g)
 
 -- the count of a sink that refused nothing
-pub calm_of : {S : Type 0} (goes : S → List Event → S → Type 0) (failures : S → ℕ) (old new : Device) (u : Unpacking) (a b : S) (e : Refusal)
+pub calm_of : {S : Type 0} (goes : S → List StoryEvent → S → Type 0) (failures : S → ℕ) (old new : Device) (u : Unpacking) (a b : S) (e : Refusal)
     → e.cause ≢ Sink → WasRefused goes failures old new u a b e ⊎ WasTruncated goes failures old new u a b e → failures b ≡ failures a
 calm_of goes failures old new u a b e other (inl w) = calm_counts e.cause (failures a) (failures b) other w.counts
 calm_of goes failures old new u a b e other (inr w) = w.calm
 
-pub cut_off_by : {S : Type 0} (goes : S → List Event → S → Type 0) (failures : S → ℕ) (old new : Device) (u : Unpacking) (a b : S) (kept : ℕ) (fault : IntakeFault)
+pub cut_off_by : {S : Type 0} (goes : S → List StoryEvent → S → Type 0) (failures : S → ℕ) (old new : Device) (u : Unpacking) (a b : S) (kept : ℕ) (fault : IntakeFault)
     → (fault ≡ Read) ⊎ (fault ≡ Interrupted) → limits_in u ≡ limits → Stands u [] 0 → Faults goes failures old new u a b kept fault → IsCutOff goes old new a b
 cut_off_by goes failures old new u a b kept fault (inl is) same at f =
     is_cut_off goes failures old new u a b kept io.Failed same at (subst (λ (x : IntakeFault). Faults goes failures old new u a b kept x) is f)
@@ -163,17 +164,17 @@ cut_off_by goes failures old new u a b kept fault (inr is) same at f =
     is_cut_off goes failures old new u a b kept io.Interrupted same at (subst (λ (x : IntakeFault). Faults goes failures old new u a b kept x) is f)
 
 -- an envelope came
-pub come_as : {S : Type 0} (goes : S → List Event → S → Type 0) (failures : S → ℕ) (old new : Device) (a b : S) (x : Next) (got : Unpacked) (octets : ℕ)
+pub come_as : {S : Type 0} (goes : S → List StoryEvent → S → Type 0) (failures : S → ℕ) (old new : Device) (a b : S) (x : Next) (got : Unpacked) (octets : ℕ)
     → x ≡ Envelope got octets → IsNext goes failures old new a b (Ok x) → HasCome goes old new a b got octets
 come_as goes failures old new a b x got octets is n = subst (λ (y : Next). IsNext goes failures old new a b (Ok y)) is n
 
-pub lives_as : (failed : Option ℕ) (x : Next) (got : Unpacked) (octets : ℕ) → x ≡ Envelope got octets → CanGoOn failed (Ok x) → failed ≡ None
-lives_as failed x got octets is n = subst (λ (y : Next). CanGoOn failed (Ok y)) is n
+pub lives_as : (failed : Option ℕ) (x : Next) (got : Unpacked) (octets : ℕ) → x ≡ Envelope got octets → CanAskForMore failed (Ok x) → failed ≡ None
+lives_as failed x got octets is n = subst (λ (y : Next). CanAskForMore failed (Ok y)) is n
 
-pub refusal_as : {S : Type 0} (goes : S → List Event → S → Type 0) (failures : S → ℕ) (old new : Device) (a b : S) (x : Next) (e : Refusal)
+pub refusal_as : {S : Type 0} (goes : S → List StoryEvent → S → Type 0) (failures : S → ℕ) (old new : Device) (a b : S) (x : Next) (e : Refusal)
     → x ≡ next.Refused e → IsNext goes failures old new a b (Ok x) → IsRefusal goes old new a b e
 refusal_as goes failures old new a b x e is n = subst (λ (y : Next). IsNext goes failures old new a b (Ok y)) is n
 
-pub end_as : {S : Type 0} (goes : S → List Event → S → Type 0) (failures : S → ℕ) (old new : Device) (a b : S) (x : Next)
+pub end_as : {S : Type 0} (goes : S → List StoryEvent → S → Type 0) (failures : S → ℕ) (old new : Device) (a b : S) (x : Next)
     → x ≡ next.End → IsNext goes failures old new a b (Ok x) → HasGiven old new [] × IsAtEnd new.octets × (b ≡ a)
 end_as goes failures old new a b x is n = subst (λ (y : Next). IsNext goes failures old new a b (Ok y)) is n

@@ -1,35 +1,35 @@
 -- What comes next of an input.
 use Rattle.std.specs.Prelude.{◌≡◌, ℕ, ◌<◌, ⊤, List, [], length, take, Option, None, Result, Ok, Err}
 use Rattle.std.specs.Io.KnownBytes.{IsAtEnd}
-use Rattle.iim_dataset.specs.Devices.{Device, Rose}
-use Rattle.iim_dataset.specs.DeviceLaws.{HasGiven, MissedBehind}
+use Rattle.iim_dataset.specs.Format.Devices.{Device, Rose}
+use Rattle.iim_dataset.specs.Format.DeviceLaws.{HasGiven, MissedAfter}
 use Rattle.iim_dataset.specs.declared.device.IoFault.{IoFault}
-use Rattle.wire_story.specs.Delivery.{Event}
-use Rattle.iim_unpack.specs.Intakes.{Came}
+use Rattle.wire_story.specs.Format.Delivery.{StoryEvent}
+use Rattle.iim_unpack.specs.Format.Intakes.{Came}
 use Rattle.iim_unpack.specs.Format.Open.{IsOpen}
 use Rattle.iim_unpack.specs.Format.Value.{HasParts}
 use Rattle.iim_unpack.specs.declared.refusal.Refusal.{Refusal}
 use Rattle.iim_unpack.specs.declared.unpacker.Unpacked.{Unpacked}
-use Rattle.iim_commands.specs.Format.Listings.{limits, told, Envelope, IsDelivered, IsEnvelope, IsRefusedAfter}
-use Rattle.iim_commands.specs.declared.fault.Fault.{Fault}
-use Rattle.iim_commands.specs.declared.fault.Fault.TheVariants.{CannotRead, CannotWrite, OutOfMemory}
+use Rattle.iim_commands.specs.Format.Listings.{limits, told, Envelope, IsDelivered, IsListed, IsRefusedAfter}
+use Rattle.iim_commands.specs.declared.fault.CommandFault.{CommandFault}
+use Rattle.iim_commands.specs.declared.fault.CommandFault.TheVariants.{CannotRead, CannotWrite, OutOfMemory}
 use Rattle.iim_commands.specs.declared.coming.Next.{Next}
 use Rattle.iim_commands.specs.declared.coming.Next.TheVariants as next
 
 -- An envelope came, and the sink was told its text.
-pub record HasCome {S : Type 0} (goes : S → List Event → S → Type 0) (old new : Device) (a b : S) (got : Unpacked) (octets : ℕ) : Type 0 where
+pub record HasCome {S : Type 0} (goes : S → List StoryEvent → S → Type 0) (old new : Device) (a b : S) (got : Unpacked) (octets : ℕ) : Type 0 where
   pub envelope : Envelope
-  pub is : IsEnvelope envelope
+  pub is : IsListed envelope
   pub parts : HasParts got envelope.value
   pub counts : octets ≡ told (length envelope.octets)
-  pub more : List Event
+  pub more : List StoryEvent
   pub came : Came goes old new a b envelope.octets more
   pub delivered : IsDelivered envelope.octets more
 
 -- Octets came that are refused, and the sink was told the text of those before the refused one.
-pub record IsRefusal {S : Type 0} (goes : S → List Event → S → Type 0) (old new : Device) (a b : S) (e : Refusal) : Type 0 where
+pub record IsRefusal {S : Type 0} (goes : S → List StoryEvent → S → Type 0) (old new : Device) (a b : S) (e : Refusal) : Type 0 where
   pub octets : List ℕ
-  pub more : List Event
+  pub more : List StoryEvent
   pub came : Came goes old new a b octets more
   pub k : ℕ
   pub refused : IsRefusedAfter octets k e
@@ -37,9 +37,9 @@ pub record IsRefusal {S : Type 0} (goes : S → List Event → S → Type 0) (ol
   pub delivered : IsDelivered (take k octets) more
 
 -- Octets came, of which the sink took the text of the first k and refused the next.
-pub record IsUnheard {S : Type 0} (goes : S → List Event → S → Type 0) (failures : S → ℕ) (old new : Device) (a b : S) : Type 0 where
+pub record IsUnheard {S : Type 0} (goes : S → List StoryEvent → S → Type 0) (failures : S → ℕ) (old new : Device) (a b : S) : Type 0 where
   pub octets : List ℕ
-  pub more : List Event
+  pub more : List StoryEvent
   pub came : Came goes old new a b octets more
   pub k : ℕ
   pub within : k < length octets
@@ -47,17 +47,17 @@ pub record IsUnheard {S : Type 0} (goes : S → List Event → S → Type 0) (fa
   pub rose : Rose (failures a) (failures b)
 
 -- Octets came that every layer can continue from, and then a read failed.
-pub record IsCutOff {S : Type 0} (goes : S → List Event → S → Type 0) (old new : Device) (a b : S) : Type 0 where
+pub record IsCutOff {S : Type 0} (goes : S → List StoryEvent → S → Type 0) (old new : Device) (a b : S) : Type 0 where
   pub octets : List ℕ
-  pub more : List Event
+  pub more : List StoryEvent
   pub fault : IoFault
-  pub missed : MissedBehind old new octets fault
+  pub missed : MissedAfter old new octets fault
   pub told : goes a more b
   pub is_open : IsOpen limits octets
   pub delivered : IsDelivered octets more
 
 -- What comes next, or why nothing does. (The input before and after, and the sink.)
-abbrev pub IsNext : {S : Type 0} → (S → List Event → S → Type 0) → (S → ℕ) → Device → Device → S → S → Result Next Fault → Type 0
+abbrev pub IsNext : {S : Type 0} → (S → List StoryEvent → S → Type 0) → (S → ℕ) → Device → Device → S → S → Result Next CommandFault → Type 0
 IsNext goes failures old new a b (Ok (next.Envelope got octets)) = HasCome goes old new a b got octets
 IsNext goes failures old new a b (Ok next.End) = HasGiven old new [] × IsAtEnd new.octets × (b ≡ a)
 IsNext goes failures old new a b (Ok (next.Refused refusal)) = IsRefusal goes old new a b refusal
@@ -66,11 +66,11 @@ IsNext goes failures old new a b (Err CannotWrite) = IsUnheard goes failures old
 IsNext goes failures old new a b (Err OutOfMemory) = (new ≡ old) × (b ≡ a)
 
 -- The sink counted a failure only where it refused.
-abbrev pub IsCalm : ℕ → ℕ → Result Next Fault → Type 0
+abbrev pub IsCalm : ℕ → ℕ → Result Next CommandFault → Type 0
 IsCalm before now (Err CannotWrite) = ⊤
 IsCalm before now _ = now ≡ before
 
 -- After an envelope more can be asked for. (The octet that a failed intake keeps.)
-abbrev pub CanGoOn : Option ℕ → Result Next Fault → Type 0
-CanGoOn failed (Ok (next.Envelope got octets)) = failed ≡ None
-CanGoOn failed _ = ⊤
+abbrev pub CanAskForMore : Option ℕ → Result Next CommandFault → Type 0
+CanAskForMore failed (Ok (next.Envelope got octets)) = failed ≡ None
+CanAskForMore failed _ = ⊤

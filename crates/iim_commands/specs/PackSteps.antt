@@ -1,10 +1,10 @@
 -- What the parts of `pack` leave.
 use Rattle.std.specs.Prelude.{◌≡◌, ◌≢◌, ℕ, ◌≤◌, List, ◌++◌, length, codes}
 use Rattle.std.specs.Io.KnownBytes.{IsAtEnd}
-use Rattle.iim_dataset.specs.Devices.{Device, Missed, Wrote}
-use Rattle.iim_dataset.specs.DeviceLaws.{BrokeAfter, HasGiven}
+use Rattle.iim_dataset.specs.Format.Devices.{Device, Missed, Wrote}
+use Rattle.iim_dataset.specs.Format.DeviceLaws.{BrokeAfter, HasGiven}
 use Rattle.iim_dataset.specs.declared.device.IoFault.{IoFault}
-use Rattle.iim_object.specs.Writing.{Begins}
+use Rattle.iim_object.specs.Format.Writing.{Begins}
 use Rattle.iim_object.specs.declared.cause.PackCause.{PackCause}
 use Rattle.iim_object.specs.declared.cause.PackCause.TheVariants as causes
 use Rattle.iim_object.specs.declared.plan.Plan.{Plan}
@@ -13,13 +13,13 @@ use Rattle.iim_script.specs.Format.Causes.{cause_name, cause_number}
 use Rattle.iim_script.specs.declared.fault.ScriptFault.{ScriptFault}
 use Rattle.iim_script.specs.declared.fault.ScriptCause.TheVariants as script
 use Rattle.iim_script.specs.declared.script.Script.{Script}
-use Rattle.iim_commands.specs.declared.fault.Fault.{Fault}
-use Rattle.iim_commands.specs.declared.fault.Fault.TheVariants.{CannotRead, CannotWrite, OutOfMemory}
+use Rattle.iim_commands.specs.declared.fault.CommandFault.{CommandFault}
+use Rattle.iim_commands.specs.declared.fault.CommandFault.TheVariants.{CannotRead, CannotWrite, OutOfMemory}
 use Rattle.iim_commands.specs.declared.packing.PackFault.{PackFault}
 use Rattle.iim_commands.specs.declared.packing.PackFault.TheVariants.{Refused, Around}
 use Rattle.iim_commands.specs.Format.Packing.{Asked, HasRoom, IsBrokenOff, IsFormOf, IsPast, IsPlanOf, IsRefusal, Told, object_of, refusal_line}
 
--- One read, past interruptions, added so many octets: none only at the end.
+-- One read, past interruptions, added `count` octets: none only at the end.
 pub record GotSome (old new : Device) (before after : List ℕ) (count : ℕ) : Type 0 where
   pub more : List ℕ
   pub given : HasGiven old new more
@@ -28,7 +28,7 @@ pub record GotSome (old new : Device) (before after : List ℕ) (count : ℕ) : 
   pub at_end : count ≡ 0 → IsAtEnd new.octets
 
 -- A read failed; or no more octets came than there is room for, and memory was short.
-abbrev pub IsFailedRead : Device → Device → ℕ → Fault → Type 0
+abbrev pub IsFailedRead : Device → Device → ℕ → CommandFault → Type 0
 IsFailedRead old new room CannotRead = (fault : IoFault) × Missed old new fault
 IsFailedRead old new room CannotWrite = ⊥
 IsFailedRead old new room OutOfMemory = (more : List ℕ) × (length more ≤ room) × HasGiven old new more

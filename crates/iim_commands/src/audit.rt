@@ -1,11 +1,11 @@
 //! `audit`: the report of an input.
 
 ghost use Rattle.std.specs.Prelude.{◌≡◌, None, IfOk, IfErr};
-ghost use Rattle.iim_unpack.specs.Intakes.{line};
+ghost use Rattle.iim_unpack.specs.Format.Intakes.{line};
 ghost use Rattle.iim_commands.specs.Format.Audits.{Audited, IsUnaudited, TellsWhy, CannotTell};
 
 use crate::coming::LIMITS;
-use crate::fault::Fault;
+use crate::fault::CommandFault;
 use crate::report::{TOO_MANY, push_refused, say};
 use crate::status::{ACCEPTED, REFUSED};
 use iim_audit::{AuditCause, AuditFault, audit, report_text};
@@ -15,7 +15,7 @@ use jiff::Timestamp;
 use std::alloc::Global;
 
 /// The line that tells why there is no report, where it is the octets; else the fault.
-fn reason(alloc: Global, fault: AuditFault) -> Result<Vec<u8>, Fault>
+fn reason(alloc: Global, fault: AuditFault) -> Result<Vec<u8>, CommandFault>
     ensures told { IfOk result (λ line. TellsWhy fault.envelope fault.cause line.items) }
     ensures other { IfErr result (CannotTell fault.cause) }
 {
@@ -26,8 +26,8 @@ fn reason(alloc: Global, fault: AuditFault) -> Result<Vec<u8>, Fault>
             Ok(line)
         }
         AuditCause::TooManyEnvelopes => Ok(Vec::from_slice(alloc, TOO_MANY.as_bytes())?),
-        AuditCause::Read | AuditCause::Interrupted => Err(Fault::CannotRead),
-        AuditCause::OutOfMemory => Err(Fault::OutOfMemory),
+        AuditCause::Read | AuditCause::Interrupted => Err(CommandFault::CannotRead),
+        AuditCause::OutOfMemory => Err(CommandFault::OutOfMemory),
     }
 }
 
@@ -37,7 +37,7 @@ pub fn write_audit<R: Source, W: Target>(
     now: Timestamp,
     intake: &mut Intake<R>,
     output: &mut W,
-) -> Result<u8, Fault>
+) -> Result<u8, CommandFault>
     requires { intake.old.failed ≡ None }
     ensures ok { IfOk result (Audited now.nanosecond (line R.state intake.old) (line R.state intake.new) (W.state output.old) (W.state output.new)) }
     ensures err { IfErr result (IsUnaudited now.nanosecond (line R.state intake.old) (line R.state intake.new) (W.state output.old) (W.state output.new)) }

@@ -1,10 +1,10 @@
 //! What comes next of an input.
 
 ghost use Rattle.std.specs.Prelude.{◌≡◌, [], None, IfOk};
-ghost use Rattle.iim_unpack.specs.Intakes.{line};
-ghost use Rattle.iim_commands.specs.Coming.{IsNext, IsCalm, CanGoOn};
+ghost use Rattle.iim_unpack.specs.Format.Intakes.{line};
+ghost use Rattle.iim_commands.specs.Coming.{IsNext, IsCalm, CanAskForMore};
 
-use crate::fault::Fault;
+use crate::fault::CommandFault;
 use iim_dataset::Source;
 use iim_fields::Limits;
 use iim_unpack::{Cause, Intake, IntakeFault, Refusal, Unpacked, Unpacker};
@@ -35,11 +35,11 @@ pub fn take_next<R: Source, S: StorySink>(
     spare: Option<Unpacked>,
     intake: &mut Intake<R>,
     sink: &mut S,
-) -> Result<Next, Fault>
+) -> Result<Next, CommandFault>
     requires { intake.old.failed ≡ None }
     ensures next { IsNext S.goes S.failures (line R.state intake.old) (line R.state intake.new) sink.old sink.new result }
     ensures calm { IsCalm (S.failures sink.old) (S.failures sink.new) result }
-    ensures lives { CanGoOn intake.new.failed result }
+    ensures lives { CanAskForMore intake.new.failed result }
     ensures leads { R.leads intake.old.reader intake.new.reader }
 {
     let unpacker = Unpacker::reusing(alloc, spare, LIMITS)?;
@@ -48,11 +48,11 @@ pub fn take_next<R: Source, S: StorySink>(
         Ok(None) => Ok(Next::End),
         Err(IntakeFault::Refused(refusal)) => {
             if refusal.cause == Cause::Sink {
-                return Err(Fault::CannotWrite);
+                return Err(CommandFault::CannotWrite);
             }
             Ok(Next::Refused(refusal))
         }
-        Err(IntakeFault::Read) => Err(Fault::CannotRead),
-        Err(IntakeFault::Interrupted) => Err(Fault::CannotRead),
+        Err(IntakeFault::Read) => Err(CommandFault::CannotRead),
+        Err(IntakeFault::Interrupted) => Err(CommandFault::CannotRead),
     }
 }

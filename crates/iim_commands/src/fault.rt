@@ -6,7 +6,7 @@ use std::alloc::AllocError;
 
 /// What went wrong around the octets, and not with them.
 #[derive(Clone, Copy, Debug, PartialEq, Eq)]
-pub enum Fault {
+pub enum CommandFault {
     /// The input failed, was interrupted without end, or is too long.
     CannotRead,
     /// The output took no more.
@@ -15,7 +15,7 @@ pub enum Fault {
     OutOfMemory,
 }
 
-impl Fault {
+impl CommandFault {
     ghost use Rattle.iim_commands.specs.Format.Lines.{fault_line};
 
     /// The line that tells it.
@@ -23,19 +23,19 @@ impl Fault {
         ensures { result.now ≡ fault_line self }
     {
         match self {
-            Fault::CannotRead => "cannot read\n",
-            Fault::CannotWrite => "cannot write\n",
-            Fault::OutOfMemory => "out of memory\n",
+            CommandFault::CannotRead => "cannot read\n",
+            CommandFault::CannotWrite => "cannot write\n",
+            CommandFault::OutOfMemory => "out of memory\n",
         }
     }
 }
 
-impl From<AllocError> for Fault {
-    ghost use Rattle.iim_commands.specs.declared.fault.Fault.TheVariants.{OutOfMemory};
+impl From<AllocError> for CommandFault {
+    ghost use Rattle.iim_commands.specs.declared.fault.CommandFault.TheVariants.{OutOfMemory};
 
     ghost from_gives = { λ _ fault. fault ≡ OutOfMemory };
 
-    fn from(_error: AllocError) -> Fault {
-        Fault::OutOfMemory
+    fn from(_error: AllocError) -> CommandFault {
+        CommandFault::OutOfMemory
     }
 }

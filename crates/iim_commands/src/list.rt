@@ -1,13 +1,13 @@
 //! Reports of inputs: a text for each envelope, and a last line.
 
 ghost use Rattle.std.specs.Prelude.{◌≡◌, ◌++◌, ℕ, List, length, None, IfOk, IfErr, OnOk};
-ghost use Rattle.iim_unpack.specs.Intakes.{line};
+ghost use Rattle.iim_unpack.specs.Format.Intakes.{line};
 ghost use Rattle.iim_unpack.specs.Format.Value.{HasParts};
 ghost use Rattle.iim_commands.specs.Format.Listings.{Envelope, told};
 ghost use Rattle.iim_commands.specs.Format.Reports.{Reported, IsUnreported};
 
 use crate::coming::{Next, take_next};
-use crate::fault::Fault;
+use crate::fault::CommandFault;
 use crate::report::{TOO_MANY, push_refused, say};
 use crate::status::{ACCEPTED, REFUSED};
 use iim_audit::MAX_ENVELOPES;
@@ -22,7 +22,7 @@ pub trait Report {
     /// The text of the envelope with this number.
     ghost written: { ℕ → Envelope → List ℕ };
 
-    /// Adds the text of an envelope with this number, which has so many octets.
+    /// Adds the text of an envelope with this number, which has `octets` octets.
     fn push_text(
         &self,
         text: &mut Vec<u8>,
@@ -39,7 +39,7 @@ pub fn list<P: Report, R: Source, W: Target>(
     texts: &P,
     intake: &mut Intake<R>,
     output: &mut W,
-) -> Result<u8, Fault>
+) -> Result<u8, CommandFault>
     requires { intake.old.failed ≡ None }
     ensures ok { IfOk result (Reported P.written (line R.state intake.old) (line R.state intake.new) (W.state output.old) (W.state output.new)) }
     ensures err { IfErr result (IsUnreported P.written (line R.state intake.old) (line R.state intake.new) (W.state output.old) (W.state output.new)) }

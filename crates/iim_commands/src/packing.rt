@@ -1,11 +1,11 @@
 //! `pack`: the envelope that a script tells.
 
 ghost use Rattle.std.specs.Prelude.{◌≡◌, ◌<◌, ◌≤◌, length, IfOk, IfErr, IfSome, IfNone, OnErr, IsTrue};
-ghost use Rattle.iim_object.specs.Plans.{is_plan};
+ghost use Rattle.iim_object.specs.Format.Plans.{is_plan};
 ghost use Rattle.iim_object.specs.declared.size.Size.TheVariants.{Unknown};
 
 use crate::coming::LIMITS;
-use crate::fault::Fault;
+use crate::fault::CommandFault;
 use crate::report::tell;
 use crate::status::{ACCEPTED, REFUSED};
 use iim_dataset::device_laws::gifts_join;
@@ -27,14 +27,14 @@ pub struct PackRequest {
     ghost valid: { IsTrue (is_plan subfile (Unknown max)) },
 }
 
-ghost use Rattle.wire_message.specs.Messages.{IsTrailer};
+ghost use Rattle.wire_message.specs.Format.Messages.{IsTrailer};
 ghost use Rattle.iim_commands.specs.Format.Devices.{devices};
 ghost use Rattle.iim_commands.specs.Format.Packing.{Answered, IsPacked, IsPast, IsPlanOf, IsRead, IsUnanswered, IsUnread, asked, object_of, refusal_line};
 ghost use Rattle.iim_commands.specs.PackSteps.{ComesTo, GotSome, IsFailedRead, IsUnpacked, MayComeOf, PacksTold, TellsFault, UnpacksTold, told_by};
 ghost use Rattle.iim_commands.specs.Format.Reports.{IsTold};
-ghost use Rattle.iim_commands.specs.declared.fault.Fault.TheVariants.{OutOfMemory};
+ghost use Rattle.iim_commands.specs.declared.fault.CommandFault.TheVariants.{OutOfMemory};
 
-/// So many octets are asked for at once.
+/// The most octets that are asked for at once.
 const BLOCK: usize = 4096;
 
 /// What keeps an envelope from being packed.
@@ -46,7 +46,7 @@ enum PackFault {
         name: &'static str,
     },
     /// Something went wrong around it.
-    Around(Fault),
+    Around(CommandFault),
 }
 
 /// Reads once, past interruptions, and adds what came to a script: answers how many octets, none only at the end.
@@ -54,7 +54,7 @@ fn read_some<R: Source>(
     reader: &mut R,
     block: &mut [u8],
     script: &mut Vec<u8>,
-) -> Result<usize, Fault>
+) -> Result<usize, CommandFault>
     requires { 0 < length block.old }
     ensures got { IfOk result (GotSome (R.state reader.old) (R.state reader.new) script.old.items script.new.items) }
     ensures within { IfOk result (λ count. count ≤ length block.old) }
@@ -64,14 +64,14 @@ fn read_some<R: Source>(
     match take(reader, block) {
         Ok(count) => match script.extend_from_slice(&block[..count]) {
             Ok(()) => Ok(count),
-            Err(_) => Err(Fault::OutOfMemory),
+            Err(_) => Err(CommandFault::OutOfMemory),
         },
-        Err(_) => Err(Fault::CannotRead),
+        Err(_) => Err(CommandFault::CannotRead),
     }
 }
 
 /// Reads an input whole, but for what stands after the first octet too many for a script.
-fn read_input<R: Source>(alloc: Global, reader: &mut R) -> Result<Vec<u8>, Fault>
+fn read_input<R: Source>(alloc: Global, reader: &mut R) -> Result<Vec<u8>, CommandFault>
     ensures read { IfOk result (λ script. IsRead (R.state reader.old) (R.state reader.new) script.items) }
     ensures unread { IfErr result (IsUnread (R.state reader.old) (R.state reader.new)) }
     ensures leads { R.leads reader.old reader.new }
@@ -115,8 +115,8 @@ fn fault_for(cause: PackCause, text_line: u64) -> PackFault
             number: cause.number(),
             name: "PastAnnounced",
         },
-        PackCause::OutOfMemory => PackFault::Around(Fault::OutOfMemory),
-        PackCause::Write => PackFault::Around(Fault::CannotWrite),
+        PackCause::OutOfMemory => PackFault::Around(CommandFault::OutOfMemory),
+        PackCause::Write => PackFault::Around(CommandFault::CannotWrite),
         _ => unreachable!(),
     }
 }
@@ -154,7 +154,7 @@ fn fault_of(fault: ScriptFault) -> PackFault
     ensures { TellsFault fault result }
 {
     match fault.cause {
-        ScriptCause::OutOfMemory => PackFault::Around(Fault::OutOfMemory),
+        ScriptCause::OutOfMemory => PackFault::Around(CommandFault::OutOfMemory),
         cause => PackFault::Refused {
             line: fault.line,
             number: cause.number(),
@@ -186,14 +186,14 @@ fn tell_refusal<E: Target>(
     line: u64,
     number: u8,
     name: &str,
-) -> Result<u8, Fault>
+) -> Result<u8, CommandFault>
     ensures told { IfOk result (IsTold (E.state errors.old) (E.state errors.new) (refusal_line line number name.now) 1) }
     ensures memory { IfErr result (λ fault. fault ≡ OutOfMemory) }
     ensures nothing { OnErr result (errors.new ≡ errors.old) }
 {
     match format!(in alloc; "refused: script line {line} cause {number} {name}\n") {
         Ok(text) => Ok(tell(errors, text.as_bytes(), REFUSED)),
-        Err(_) => Err(Fault::OutOfMemory),
+        Err(_) => Err(CommandFault::OutOfMemory),
     }
 }
 
@@ -211,7 +211,7 @@ pub fn pack_script<R: Source, W: Target, E: Target>(
     reader: &mut R,
     output: W,
     errors: &mut E,
-) -> (Result<u8, Fault>, W)
+) -> (Result<u8, CommandFault>, W)
     ensures answered { IfOk result.0 (Answered (asked request.subfile request.unknown request.max)
         (devices (R.state reader.old) (W.state output) (E.state errors.old)) (devices (R.state reader.new) (W.state result.1) (E.state errors.new))) }
     ensures unanswered { IfErr result.0 (IsUnanswered (asked request.subfile request.unknown request.max)

@@ -1,11 +1,11 @@
 //! The lines of `check`.
 
 ghost use Rattle.std.specs.Prelude.{◌≡◌, ◌++◌, IfErr, IfSome, OnOk};
-ghost use Rattle.iim_dataset.specs.Devices.{Wrote};
+ghost use Rattle.iim_dataset.specs.Format.Devices.{Wrote};
 ghost use Rattle.iim_commands.specs.Format.Reports.{IsTold, IsUnsaid};
 ghost use Rattle.iim_commands.specs.Format.Lines.{accepted_line, refused_line};
 
-use crate::fault::Fault;
+use crate::fault::CommandFault;
 use crate::status::FAILED;
 use iim_dataset::{Target, put};
 use iim_unpack::Refusal;
@@ -17,13 +17,13 @@ use std::io::Write;
 pub const TOO_MANY: &str = "too many envelopes\n";
 
 /// Writes a text.
-pub fn say<W: Target>(output: &mut W, text: &[u8]) -> Result<(), Fault>
+pub fn say<W: Target>(output: &mut W, text: &[u8]) -> Result<(), CommandFault>
     ensures ok { OnOk result (Wrote (W.state output.old) (W.state output.new) text.now) }
     ensures err { IfErr result (IsUnsaid (W.state output.old) (W.state output.new) text.now) }
 {
     match put(output, text) {
         Ok(()) => Ok(()),
-        Err(_) => Err(Fault::CannotWrite),
+        Err(_) => Err(CommandFault::CannotWrite),
     }
 }
 

@@ -2,7 +2,7 @@
 
 ghost use Rattle.std.specs.Prelude.{◌≡◌, ◌++◌, ◌∷◌, OnOk, codes, decimal};
 ghost use Rattle.iim_audit.specs.Format.Texts.{number_or_dash};
-ghost use Rattle.iim_dataset.specs.Datasets.{Dataset};
+ghost use Rattle.iim_dataset.specs.Format.Datasets.{Dataset};
 ghost use Rattle.iim_script.specs.Format.Printed.{after_space, field_line, message_line, trailer_line};
 ghost use Rattle.iim_commands.specs.Format.Texts.{mode_of, number_line, shown_of, sizes_line};
 ghost use Rattle.std.specs.List.{flat_map};

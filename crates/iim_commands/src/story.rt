@@ -1,14 +1,14 @@
 //! `story`: the text of each envelope, as it comes.
 
 ghost use Rattle.std.specs.Prelude.{◌≡◌, [], ◌∷◌, None, IfOk, IfErr, OnOk};
-ghost use Rattle.iim_dataset.specs.Devices.{Wrote};
-ghost use Rattle.iim_unpack.specs.Intakes.{line};
-ghost use Rattle.wire_story.specs.Writing.{device_of, stops_of};
+ghost use Rattle.iim_dataset.specs.Format.Devices.{Wrote};
+ghost use Rattle.iim_unpack.specs.Format.Intakes.{line};
+ghost use Rattle.wire_story.specs.Format.Writing.{device_of, stops_of};
 ghost use Rattle.iim_commands.specs.Narration.{IsUnended};
 ghost use Rattle.iim_commands.specs.Format.Narration.{IsUnnarrated, Narrated};
 
 use crate::coming::{Next, take_next};
-use crate::fault::Fault;
+use crate::fault::CommandFault;
 use crate::laws::envelopes_are_delivered_as_lines;
 use crate::report::{TOO_MANY, push_accepted, push_refused, say};
 use crate::status::{ACCEPTED, REFUSED};
@@ -21,14 +21,14 @@ use wire_story::laws::lines_are_joined_by_line_feeds;
 use wire_story::{LineWriter, StorySink};
 
 /// Writes an LF after the text of an envelope.
-fn end_text<W: Target>(output: &mut LineWriter<W>) -> Result<(), Fault>
+fn end_text<W: Target>(output: &mut LineWriter<W>) -> Result<(), CommandFault>
     ensures ok { OnOk result (Wrote (device_of W.state output.old) (device_of W.state output.new) (10 ∷ [])) }
     ensures calm { OnOk result (stops_of output.new ≡ stops_of output.old) }
     ensures err { IfErr result (IsUnended W.state output.old output.new) }
 {
     match output.line_end() {
         Ok(()) => Ok(()),
-        Err(_) => Err(Fault::CannotWrite),
+        Err(_) => Err(CommandFault::CannotWrite),
     }
 }
 
@@ -39,7 +39,7 @@ pub fn narrate<R: Source, W: Target, E: Target>(
     intake: &mut Intake<R>,
     output: &mut LineWriter<W>,
     errors: &mut E,
-) -> Result<u8, Fault>
+) -> Result<u8, CommandFault>
     requires alive { intake.old.failed ≡ None }
     requires unbroken { stops_of output.old ≡ 0 }
     ensures ok { IfOk result (Narrated (line R.state intake.old) (line R.state intake.new) (device_of W.state output.old) (device_of W.state output.new) (E.state errors.old) (E.state errors.new)) }

@@ -4,10 +4,10 @@ use Rattle.std.proofs.lemmas.List.{take-append-drop, take-append-le}
 use Rattle.std.proofs.Math.Seq.{take-append_seam, take-append-add}
 use Rattle.std.proofs.lemmas.Bool.{lt-ltb, le-ltb, cases_lt}
 use Rattle.byteorder.specs.Numbers.{big_number-reads_back}
-use Rattle.iim_dataset.specs.Octets.{IsOctet}
-use Rattle.iim_dataset.specs.Datasets.{Dataset, SpellsCount, SpellsTag, SpellsDataset, canonical_count, canonical_tag, canonical_dataset, canonical_stream, count_octets, head_of}
-use Rattle.iim_dataset.specs.Tags.{BeginsTag}
-use Rattle.iim_dataset.specs.Laws.{CanonicalTagsReadBack, CanonicalStreamsAreSpelled, HasSpellings}
+use Rattle.iim_dataset.specs.Format.Octets.{IsOctet}
+use Rattle.iim_dataset.specs.Format.Datasets.{Dataset, SpellsCount, SpellsTag, SpellsDataset, canonical_count, canonical_tag, canonical_dataset, canonical_stream, count_octets, head_of}
+use Rattle.iim_dataset.specs.Format.Tags.{BeginsTag}
+use Rattle.iim_dataset.specs.Format.Laws.{CanonicalTagsReadBack, CanonicalStreamsAreSpelled, HasSpellings}
 use Rattle.iim_dataset.specs.declared.head.Head.{Head}
 use Rattle.iim_dataset.proofs.Spellings.{one_tag}
 

@@ -2,8 +2,8 @@
 use Rattle.std.proofs.Common.{◌≡◌, ℕ, ◌+◌, ◌*◌, ◌^◌, ◌<◌, ◌≤◌, [], ◌∷◌, List, length, ap, arith, inl, inr}
 use Rattle.std.proofs.Math.Nat.{mul-le-mul_right, pow-succ', pow-le-pow_right}
 use Rattle.byteorder.specs.Numbers.{big_from-cons}
-use Rattle.iim_dataset.specs.Octets.{Octets, number}
-use Rattle.iim_dataset.specs.Datasets.{SpellsCount, SpellsTag, count_octets}
+use Rattle.iim_dataset.specs.Format.Octets.{Octets, number}
+use Rattle.iim_dataset.specs.Format.Datasets.{SpellsCount, SpellsTag, count_octets}
 use Rattle.iim_dataset.specs.declared.head.Head.{Head}
 
 -- the first octet counts by its place
@@ -18,7 +18,7 @@ number-lt (b ∷ bs) h =
     let high : b * 256 ^ length bs ≤ 255 * 256 ^ length bs = mul-le-mul_right (256 ^ length bs) (omega (arith, h.0)) in
     rw (number-cons b bs, pow-succ' 256 (length bs)) (omega arith)
 
--- so many octets or fewer
+-- n octets or fewer
 few-lt : (xs : List ℕ) (n : ℕ) → Octets xs → length xs ≤ n → number xs < 256 ^ n
 few-lt xs n h fits =
     let less = number-lt xs h in

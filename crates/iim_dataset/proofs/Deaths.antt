@@ -1,9 +1,9 @@
 -- Where no tag continues, no octets do.
 use Rattle.std.proofs.Common.{◌≡◌, ℕ, ◌⊎◌, List, [], ◌∷◌, ◌++◌, length, refl, ap, sym, subst, ◌∙◌, arith, inl, inr, append_assoc, append-nil, length-append}
-use Rattle.iim_dataset.specs.Datasets.{Dataset, SpellsTag, SpellsStream, count_octets}
-use Rattle.iim_dataset.specs.Splits.{Begun, InTag, InData, IsBegun}
-use Rattle.iim_dataset.specs.Tags.{BeginsNoTag}
-use Rattle.iim_dataset.specs.Laws.{NoOctetsGoOn}
+use Rattle.iim_dataset.specs.Format.Datasets.{Dataset, SpellsTag, SpellsStream, count_octets}
+use Rattle.iim_dataset.specs.Format.Splits.{Begun, InTag, InData, IsBegun}
+use Rattle.iim_dataset.specs.Format.Tags.{BeginsNoTag}
+use Rattle.iim_dataset.specs.Format.Laws.{NoOctetsContinue}
 use Rattle.iim_dataset.specs.declared.head.Head.{Head}
 use Rattle.iim_dataset.proofs.Spellings.{one_tag, one_dataset, no_whole}
 use Rattle.iim_dataset.proofs.OneHanding.{ends}
@@ -55,26 +55,26 @@ not_begun (InTag other) rest held next more (e, h, tag, s, (left, some, joined))
 not_begun (InData h taken) rest held next more (tag, s, lt, o, e) d is = no_tag h tag taken held next more s d (sym e ∙ is)
 
 -- no datasets and no begun one do
-none_go_on : (whole w : List Dataset) (front held other rest : List ℕ) (next : ℕ) (more : List ℕ) (b : Begun) → SpellsStream count_octets whole front → Dies held next
+none_continue : (whole w : List Dataset) (front held other rest : List ℕ) (next : ℕ) (more : List ℕ) (b : Begun) → SpellsStream count_octets whole front → Dies held next
     → SpellsStream count_octets w other → IsBegun count_octets b rest → front ++ (held ++ next ∷ more) ≡ other ++ rest → ⊥
-none_go_on [] [] front held other rest next more b s d t i e =
+none_continue [] [] front held other rest next more b s d t i e =
     not_begun b rest held next more i d (ap (λ u. u ++ rest) (sym t) ∙ (sym e ∙ ap (λ u. u ++ (held ++ next ∷ more)) s))
-none_go_on [] (f ∷ w) front held other rest next more b s d (p, q, first, later, parts) i e =
+none_continue [] (f ∷ w) front held other rest next more b s d (p, q, first, later, parts) i e =
     let begins : first.tag ++ (f.octets ++ (q ++ rest)) ≡ held ++ next ∷ more =
     sym (append_assoc first.tag f.octets (q ++ rest)) ∙ (ap (λ u. u ++ (q ++ rest)) (sym first.parts) ∙ (sym (append_assoc p q rest) ∙ (ap (λ u. u ++ rest) (sym parts)
     ∙ (sym e ∙ ap (λ u. u ++ (held ++ next ∷ more)) s)))) in
     no_tag _ first.tag (f.octets ++ (q ++ rest)) held next more first.is_tag d begins
-none_go_on (c ∷ whole) [] front held other rest next more b (p, q, first, later, parts) d t i e =
+none_continue (c ∷ whole) [] front held other rest next more b (p, q, first, later, parts) d t i e =
     let end = ends b rest i in
     let begins : p ++ (q ++ (held ++ next ∷ more)) ≡ rest = sym (append_assoc p q (held ++ next ∷ more)) ∙ (ap (λ u. u ++ (held ++ next ∷ more)) (sym parts) ∙ (e ∙ ap (λ u. u ++ rest) t)) in
     no_whole count_octets c end.0 p end.1 (q ++ (held ++ next ∷ more)) end.2 first end.3 end.4 (ap (λ u. u ++ end.2) begins ∙ end.5)
-none_go_on (c ∷ whole) (f ∷ w) front held other rest next more b (p, q, first, later, parts) d (u, v, second, others, joined) i e =
+none_continue (c ∷ whole) (f ∷ w) front held other rest next more b (p, q, first, later, parts) d (u, v, second, others, joined) i e =
     let both : p ++ (q ++ (held ++ next ∷ more)) ≡ u ++ (v ++ rest) =
     sym (append_assoc p q (held ++ next ∷ more)) ∙ (ap (λ x. x ++ (held ++ next ∷ more)) (sym parts) ∙ (e ∙ (ap (λ x. x ++ rest) joined ∙ append_assoc u v rest))) in
     let one = one_dataset count_octets c f p u (q ++ (held ++ next ∷ more)) (v ++ rest) first second both in
-    none_go_on whole w q held v rest next more b later d others i one.2
+    none_continue whole w q held v rest next more b later d others i one.2
 
-pub no_octets_go_on : NoOctetsGoOn
-no_octets_go_on octets more next whole held w b r dead s =
-    none_go_on whole w r.front held s.front s.rest next more b r.is_front (record { begun = subst (IsBegun count_octets (InTag held)) r.is_rest.0 r.is_rest; dead = dead }) s.is_front s.is_rest
+pub no_octets_continue : NoOctetsContinue
+no_octets_continue octets more next whole held w b r dead s =
+    none_continue whole w r.front held s.front s.rest next more b r.is_front (record { begun = subst (IsBegun count_octets (InTag held)) r.is_rest.0 r.is_rest; dead = dead }) s.is_front s.is_rest
     (sym (append_assoc r.front held (next ∷ more)) ∙ (ap (λ u. u ++ next ∷ more) (ap (λ u. r.front ++ u) (sym r.is_rest.0) ∙ sym r.parts) ∙ s.parts))

@@ -5,9 +5,9 @@ use Rattle.std.proofs.Math.Seq.{take-append-add}
 use Rattle.byteorder.specs.Endian.{big_number}
 use Rattle.byteorder.specs.Numbers.{big_from-take}
 use Rattle.std.proofs.lemmas.Bool.{cases_lt}
-use Rattle.iim_dataset.specs.Octets.{Octets, number}
-use Rattle.iim_dataset.specs.Datasets.{SpellsCount, count_octets}
-use Rattle.iim_dataset.specs.Tags.{BeginsTag, BeginsNoTag, HasTag}
+use Rattle.iim_dataset.specs.Format.Octets.{Octets, number}
+use Rattle.iim_dataset.specs.Format.Datasets.{SpellsCount, count_octets}
+use Rattle.iim_dataset.specs.Format.Tags.{BeginsTag, BeginsNoTag, HasTag}
 
 -- each is an octet
 abbrev pub Fit : List ℕ → Type 0
@@ -31,9 +31,9 @@ front_are (suc n) [] h = tt
 front_are (suc n) (x ∷ xs) h = (h.0, front_are n xs h.1)
 
 -- octets that a tag continues from
-goes_on : (octets more count : List ℕ) (rec set n : ℕ) → 0 < length more → rec < 256 → set < 256 → SpellsCount count_octets n count
+leads_on : (octets more count : List ℕ) (rec set n : ℕ) → 0 < length more → rec < 256 → set < 256 → SpellsCount count_octets n count
     → octets ++ more ≡ 28 ∷ rec ∷ set ∷ count → BeginsTag count_octets octets
-goes_on octets more count rec set n long r s is e = record {
+leads_on octets more count rec set n long r s is e = record {
   head = record { rec = rec; set = set; count = n };
   more = more;
   some_more = long;
@@ -44,28 +44,28 @@ standard : (high low : ℕ) → high < 128 → low < 256 → SpellsCount count_o
 standard high low h l = inl (h, l, refl, refl)
 
 pub begun_none : BeginsTag count_octets []
-begun_none = goes_on [] (28 ∷ 0 ∷ 0 ∷ 0 ∷ 0 ∷ []) (0 ∷ 0 ∷ []) 0 0 0 (omega arith) (omega arith) (omega arith) (standard 0 0 (omega arith) (omega arith)) refl
+begun_none = leads_on [] (28 ∷ 0 ∷ 0 ∷ 0 ∷ 0 ∷ []) (0 ∷ 0 ∷ []) 0 0 0 (omega arith) (omega arith) (omega arith) (standard 0 0 (omega arith) (omega arith)) refl
 
 -- the fourth octet is a count's first: two octets of a count, or 80h, and then one octet of it
 begun_four : (b c d : ℕ) → b < 256 → c < 256 → d ≤ 128 → BeginsTag count_octets (28 ∷ b ∷ c ∷ d ∷ [])
 begun_four b c d r s form = elim (cases_lt d 128) [
-  | inl lt ↦ goes_on (28 ∷ b ∷ c ∷ d ∷ []) (0 ∷ []) (d ∷ 0 ∷ []) b c (number (d ∷ 0 ∷ [])) (omega arith) r s (standard d 0 lt (omega arith)) refl
+  | inl lt ↦ leads_on (28 ∷ b ∷ c ∷ d ∷ []) (0 ∷ []) (d ∷ 0 ∷ []) b c (number (d ∷ 0 ∷ [])) (omega arith) r s (standard d 0 lt (omega arith)) refl
   | inr ge ↦
       let is : d ≡ 128 = omega arith in
-      goes_on (28 ∷ b ∷ c ∷ d ∷ []) (1 ∷ 0 ∷ []) (d ∷ 1 ∷ 0 ∷ []) b c 0 (omega arith) r s (inr (is, refl, omega arith, omega arith, (omega arith, tt), refl)) refl
+      leads_on (28 ∷ b ∷ c ∷ d ∷ []) (1 ∷ 0 ∷ []) (d ∷ 1 ∷ 0 ∷ []) b c 0 (omega arith) r s (inr (is, refl, omega arith, omega arith, (omega arith, tt), refl)) refl
 ]
 
 -- fewer than five octets that may continue
 pub begun : (o : List ℕ) → Fit o → length o < 5 → (0 < length o → get_or o 0 0 ≡ 28) → (3 < length o → get_or o 3 0 ≤ 128) → BeginsTag count_octets o
 begun [] fits short marker form = begun_none
 begun (a ∷ []) fits short marker form =
-    goes_on (a ∷ []) (0 ∷ 0 ∷ 0 ∷ 0 ∷ []) (0 ∷ 0 ∷ []) 0 0 0 (omega arith) (omega arith) (omega arith) (standard 0 0 (omega arith) (omega arith))
+    leads_on (a ∷ []) (0 ∷ 0 ∷ 0 ∷ 0 ∷ []) (0 ∷ 0 ∷ []) 0 0 0 (omega arith) (omega arith) (omega arith) (standard 0 0 (omega arith) (omega arith))
     (let is : a ≡ 28 = marker (omega arith) in ap (λ (x : ℕ). x ∷ 0 ∷ 0 ∷ 0 ∷ 0 ∷ []) is)
 begun (a ∷ b ∷ []) fits short marker form =
-    goes_on (a ∷ b ∷ []) (0 ∷ 0 ∷ 0 ∷ []) (0 ∷ 0 ∷ []) b 0 0 (omega arith) (fits 1) (omega arith) (standard 0 0 (omega arith) (omega arith))
+    leads_on (a ∷ b ∷ []) (0 ∷ 0 ∷ 0 ∷ []) (0 ∷ 0 ∷ []) b 0 0 (omega arith) (fits 1) (omega arith) (standard 0 0 (omega arith) (omega arith))
     (let is : a ≡ 28 = marker (omega arith) in ap (λ (x : ℕ). x ∷ b ∷ 0 ∷ 0 ∷ 0 ∷ []) is)
 begun (a ∷ b ∷ c ∷ []) fits short marker form =
-    goes_on (a ∷ b ∷ c ∷ []) (0 ∷ 0 ∷ []) (0 ∷ 0 ∷ []) b c 0 (omega arith) (fits 1) (fits 2) (standard 0 0 (omega arith) (omega arith))
+    leads_on (a ∷ b ∷ c ∷ []) (0 ∷ 0 ∷ []) (0 ∷ 0 ∷ []) b c 0 (omega arith) (fits 1) (fits 2) (standard 0 0 (omega arith) (omega arith))
     (let is : a ≡ 28 = marker (omega arith) in ap (λ (x : ℕ). x ∷ b ∷ c ∷ 0 ∷ 0 ∷ []) is)
 begun (a ∷ b ∷ c ∷ d ∷ []) fits short marker form =
     let is : 28 ≡ a = sym (marker (omega arith)) in
@@ -78,7 +78,7 @@ begun_three [] fits long marker = absurd (omega arith)
 begun_three (a ∷ []) fits long marker = absurd (omega arith)
 begun_three (a ∷ b ∷ []) fits long marker = absurd (omega arith)
 begun_three (a ∷ b ∷ c ∷ o) fits long marker =
-    goes_on (a ∷ b ∷ c ∷ []) (0 ∷ 0 ∷ []) (0 ∷ 0 ∷ []) b c 0 (omega arith) (fits 1) (fits 2) (standard 0 0 (omega arith) (omega arith))
+    leads_on (a ∷ b ∷ c ∷ []) (0 ∷ 0 ∷ []) (0 ∷ 0 ∷ []) b c 0 (omega arith) (fits 1) (fits 2) (standard 0 0 (omega arith) (omega arith))
     (ap (λ (x : ℕ). x ∷ b ∷ c ∷ 0 ∷ 0 ∷ []) marker)
 
 pub begun_front : (o : List ℕ) → Fit o → 4 < length o → get_or o 0 0 ≡ 28 → get_or o 3 0 ≤ 128 → BeginsTag count_octets (take 4 o)
@@ -102,7 +102,7 @@ begun_extended (a ∷ b ∷ c ∷ d ∷ e ∷ o) n fits long marker form is some
     let zeros : List ℕ = replicate (e - length o) 0 in
     let len : length (o ++ zeros) ≡ e = omega (arith, length-append o zeros, length-replicate {A = ℕ} (e - length o) 0) in
     let rest : Octets (o ++ zeros) = both_are o zeros (are_octets o (λ i. fits (suc (suc (suc (suc (suc i))))))) (zeros_are (e - length o)) in
-    goes_on (a ∷ b ∷ c ∷ d ∷ e ∷ o) zeros (d ∷ e ∷ (o ++ zeros)) b c (number (o ++ zeros)) (omega (arith, length-replicate {A = ℕ} (e - length o) 0)) (fits 1) (fits 2)
+    leads_on (a ∷ b ∷ c ∷ d ∷ e ∷ o) zeros (d ∷ e ∷ (o ++ zeros)) b c (number (o ++ zeros)) (omega (arith, length-replicate {A = ℕ} (e - length o) 0)) (fits 1) (fits 2)
     (inr (form, sym len, omega arith, omega arith, rest, refl)) (ap (λ (x : ℕ). x ∷ b ∷ c ∷ d ∷ e ∷ (o ++ zeros)) marker)
 
 -- another first octet is no marker

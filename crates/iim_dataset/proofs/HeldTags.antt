@@ -3,8 +3,8 @@ use Rattle.std.proofs.Common.{◌≡◌, ℕ, suc, ◌+◌, ◌-◌, ◌<◌, �
 use Rattle.std.proofs.lemmas.Bool.{cases_lt}
 use Rattle.std.proofs.lemmas.List.{take_all, take-take, take-append-drop, take-append-le, length-take, length-take-le}
 use Rattle.std.proofs.Math.Seq.{take-append-add, take-suc}
-use Rattle.iim_dataset.specs.Datasets.{SpellsCount, SpellsTag, count_octets}
-use Rattle.iim_dataset.specs.Tags.{BeginsTag, BeginsNoTag, HasTag, HasNoTag}
+use Rattle.iim_dataset.specs.Format.Datasets.{SpellsCount, SpellsTag, count_octets}
+use Rattle.iim_dataset.specs.Format.Tags.{BeginsTag, BeginsNoTag, HasTag, HasNoTag}
 use Rattle.iim_dataset.specs.declared.head.Head.{Head}
 use Rattle.iim_dataset.specs.declared.head.HeadFault.{HeadFault}
 use Rattle.iim_dataset.proofs.Spellings.{one_tag}
@@ -62,8 +62,8 @@ longer held rest h n b t = elim (cases_lt (length held) n) [
 ]
 
 -- no tag continues with an octet after the held ones
-pub behind_held : (held rest : List ℕ) (f : HeadFault) → BeginsTag count_octets held → HasNoTag (held ++ rest) f → length held ≤ f.at
-behind_held held rest f b t = elim (cases_lt f.at (length held)) [
+pub after_held : (held rest : List ℕ) (f : HeadFault) → BeginsTag count_octets held → HasNoTag (held ++ rest) f → length held ≤ f.at
+after_held held rest f b t = elim (cases_lt f.at (length held)) [
   | inl lt ↦
       let n = f.at + 1 in
       let front : take n (held ++ rest) ≡ take n held = take-append-le n held rest (omega (arith, lt)) in
@@ -99,7 +99,7 @@ unfinished held rest h k lt s = record {
 pub refused_at : (held rest : List ℕ) (f : HeadFault) (k : ℕ) → BeginsTag count_octets held → HasNoTag (held ++ rest) f → k ≡ f.at - length held
     → (k < length rest) × BeginsTag count_octets (held ++ take k rest) × BeginsNoTag count_octets ((held ++ take k rest) ++ slice_index rest k ∷ []) × (f.at ≡ length (held ++ take k rest))
 refused_at held rest f k b t e =
-    let all : f.at ≡ length held + k = omega (arith, behind_held held rest f b t, e) in
+    let all : f.at ≡ length held + k = omega (arith, after_held held rest f b t, e) in
     let lt : k < length rest = omega (arith, t.within, length-append held rest, all) in
     let more : f.at + 1 ≡ length held + (k + 1) = omega (arith, all) in (
       lt,

@@ -3,7 +3,6 @@ pub mod DeviceLaws
 pub mod Fronts
 pub mod Spellings
 pub mod Canonical
-pub mod Rests
 pub mod Places
 pub mod HeldTags
 pub mod Stopping

@@ -1,24 +1,24 @@
 -- Where octets of datasets can continue, and where they can't.
 use Rattle.std.proofs.Common.{◌≡◌, ℕ, List, [], ◌∷◌, ◌++◌, replicate, refl, ap, sym, subst, ◌∙◌, append_assoc, append-nil}
 use Rattle.std.proofs.lemmas.List.{length-replicate}
-use Rattle.iim_dataset.specs.Datasets.{Dataset, SpellsTag, SpellsStream, count_octets}
-use Rattle.iim_dataset.specs.Splits.{Begun, InTag, Reads}
-use Rattle.iim_dataset.specs.Events.{Event}
-use Rattle.iim_dataset.specs.Places.{HandsOn, LeadsTo, IsKeptAs}
-use Rattle.iim_dataset.specs.Reading.{TagDies}
-use Rattle.iim_dataset.specs.Tags.{BeginsNoTag}
-use Rattle.iim_dataset.specs.Languages.{IsAlive, DiesAt}
-use Rattle.iim_dataset.specs.Laws.{AreDatasets, ReadOctetsGoOn, ReadOctetsSplit, OctetsDieInTheirTag, ReadersDieExactly}
+use Rattle.iim_dataset.specs.Format.Datasets.{Dataset, SpellsTag, SpellsStream, count_octets}
+use Rattle.iim_dataset.specs.Format.Splits.{Begun, InTag, Reads}
+use Rattle.iim_dataset.specs.Format.Events.{DatasetEvent}
+use Rattle.iim_dataset.specs.Format.Places.{HandsOn, LeadsTo, IsKeptAs}
+use Rattle.iim_dataset.specs.Format.Reading.{TagDies}
+use Rattle.iim_dataset.specs.Format.Tags.{BeginsNoTag}
+use Rattle.iim_dataset.specs.Format.Languages.{IsAlive, DiesAt}
+use Rattle.iim_dataset.specs.Format.Laws.{AreDatasets, ReadOctetsContinue, ReadOctetsSplit, OctetsDieInTheirTag, ReadersDieExactly}
 use Rattle.iim_dataset.specs.declared.head.Head.{Head}
 use Rattle.iim_dataset.specs.declared.head.HeadCause.{HeadCause}
 use Rattle.iim_dataset.specs.declared.place.DatasetPlace.{DatasetPlace}
-use Rattle.iim_dataset.proofs.Deaths.{no_octets_go_on}
+use Rattle.iim_dataset.proofs.Deaths.{no_octets_continue}
 use Rattle.iim_dataset.proofs.Fronts.{begun_none, zeros_are}
 use Rattle.iim_dataset.proofs.OneHanding.{ends, with_data}
 use Rattle.iim_dataset.proofs.Places.{stream_more, tag_held}
 
-pub read_octets_go_on : ReadOctetsGoOn
-read_octets_go_on octets whole begun r =
+pub read_octets_continue : ReadOctetsContinue
+read_octets_continue octets whole begun r =
     let e = ends begun r.rest r.is_rest in
     let joined : r.front ++ e.1 ≡ octets ++ e.2 =
     ap (λ u. r.front ++ u) (sym e.5) ∙ (sym (append_assoc r.front r.rest e.2) ∙ ap (λ u. u ++ e.2) (sym r.parts)) in
@@ -38,7 +38,7 @@ read_octets_split octets whole begun r =
     )
 
 -- whole datasets were read, and nothing is begun
-whole_read : (xs : List ℕ) (ds : List Dataset) → SpellsStream count_octets ds xs → Reads xs ds (InTag [])
+whole_read : (xs : List ℕ) (ds : List Dataset) → SpellsStream count_octets ds xs → Reads count_octets xs ds (InTag [])
 whole_read xs ds s = record {
   front = xs;
   rest = [];
@@ -47,18 +47,18 @@ whole_read xs ds s = record {
   parts = sym (append-nil xs);
 }
 
-dies : (octets : List ℕ) (next : ℕ) (whole : List Dataset) (held : List ℕ) → Reads octets whole (InTag held) → BeginsNoTag count_octets (held ++ next ∷ []) → DiesAt AreDatasets octets next
+dies : (octets : List ℕ) (next : ℕ) (whole : List Dataset) (held : List ℕ) → Reads count_octets octets whole (InTag held) → BeginsNoTag count_octets (held ++ next ∷ []) → DiesAt AreDatasets octets next
 dies octets next whole held r dead =
-    let on = read_octets_go_on octets whole (InTag held) r in (
+    let on = read_octets_continue octets whole (InTag held) r in (
       (on.1, (whole ++ on.0 ∷ [], on.3)),
       λ alive.
           let (rest, (ds, s)) = alive in
           let joined : (octets ++ next ∷ []) ++ rest ≡ octets ++ next ∷ rest = append_assoc octets (next ∷ []) rest in
-          no_octets_go_on octets rest next whole held ds (InTag []) r dead (whole_read (octets ++ next ∷ rest) ds (subst (SpellsStream count_octets ds) joined s)),
+          no_octets_continue octets rest next whole held ds (InTag []) r dead (whole_read (octets ++ next ∷ rest) ds (subst (SpellsStream count_octets ds) joined s)),
     )
 
 -- with the octets of a tag a whole dataset can follow
-lives : (octets : List ℕ) (next : ℕ) (whole : List Dataset) (held : List ℕ) → Reads octets whole (InTag held) → (h : Head) (more : List ℕ) → SpellsTag count_octets h ((held ++ next ∷ []) ++ more)
+lives : (octets : List ℕ) (next : ℕ) (whole : List Dataset) (held : List ℕ) → Reads count_octets octets whole (InTag held) → (h : Head) (more : List ℕ) → SpellsTag count_octets h ((held ++ next ∷ []) ++ more)
     → IsAlive AreDatasets (octets ++ next ∷ [])
 lives octets next whole held r h more s =
     let zeros = replicate h.count 0 in
@@ -77,10 +77,10 @@ octets_die_in_their_tag octets next whole held r =
 
 -- ---- readers
 
-alive : (octets : List ℕ) (events : List Event) (begun : Begun) → HandsOn octets events begun → IsAlive AreDatasets octets
-alive octets events begun h = let on = read_octets_go_on octets h.whole begun h.reads in (on.1, (h.whole ++ on.0 ∷ [], on.3))
+alive : (octets : List ℕ) (events : List DatasetEvent) (begun : Begun) → HandsOn count_octets octets events begun → IsAlive AreDatasets octets
+alive octets events begun h = let on = read_octets_continue octets h.whole begun h.reads in (on.1, (h.whole ++ on.0 ∷ [], on.3))
 
-tag_dies : (octets : List ℕ) (events : List Event) (place : DatasetPlace) (next : ℕ) (cause : HeadCause) → LeadsTo octets events place → TagDies place next cause → DiesAt AreDatasets octets next
+tag_dies : (octets : List ℕ) (events : List DatasetEvent) (place : DatasetPlace) (next : ℕ) (cause : HeadCause) → LeadsTo count_octets octets events place → TagDies place next cause → DiesAt AreDatasets octets next
 tag_dies octets events place next cause l d =
     let h = tag_held (record { items = d.held }) octets events l.begun l.hands (subst (λ (p : DatasetPlace). IsKeptAs p l.begun) d.tag l.keeps) in
     dies octets next h.whole d.held h.reads d.dead

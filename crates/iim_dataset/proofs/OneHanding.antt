@@ -1,11 +1,11 @@
 -- Octets are handed on in one way.
 use Rattle.std.proofs.Common.{◌≡◌, ℕ, ◌-◌, ◌<◌, List, [], ◌++◌, length, replicate, refl, ap, sym, subst, ◌∙◌, arith, append_assoc, append-nil, length-append}
 use Rattle.std.proofs.lemmas.List.{length-replicate}
-use Rattle.iim_dataset.specs.Octets.{Octets}
-use Rattle.iim_dataset.specs.Datasets.{Dataset, SpellsTag, SpellsDataset, count_octets}
-use Rattle.iim_dataset.specs.Splits.{Begun, InTag, InData, IsBegun}
-use Rattle.iim_dataset.specs.Events.{Event, handed_on}
-use Rattle.iim_dataset.specs.Places.{HandsOn}
+use Rattle.iim_dataset.specs.Format.Octets.{Octets}
+use Rattle.iim_dataset.specs.Format.Datasets.{Dataset, SpellsTag, SpellsDataset, count_octets}
+use Rattle.iim_dataset.specs.Format.Splits.{Begun, InTag, InData, IsBegun}
+use Rattle.iim_dataset.specs.Format.Events.{DatasetEvent, handed_on}
+use Rattle.iim_dataset.specs.Format.Places.{HandsOn}
 use Rattle.iim_dataset.specs.declared.head.Head.{Head}
 use Rattle.iim_dataset.proofs.Fronts.{zeros_are, both_are}
 use Rattle.iim_dataset.proofs.Spellings.{one_tag, one_splitting}
@@ -54,7 +54,7 @@ one_begun rest (InData h taken) (InData k other) (tag, s, lt, o, e) (gat, t, tl,
     let one = one_tag count_octets h k tag gat taken other s t (sym e ∙ f) in
     (λ i. InData (one.0 i) (one.2 i))
 
-pub one_handing : (octets : List ℕ) (es fs : List Event) (b c : Begun) → HandsOn octets es b → HandsOn octets fs c → (es ≡ fs) × (b ≡ c)
+pub one_handing : (octets : List ℕ) (es fs : List DatasetEvent) (b c : Begun) → HandsOn count_octets octets es b → HandsOn count_octets octets fs c → (es ≡ fs) × (b ≡ c)
 one_handing octets es fs b c h k =
     let r = h.reads in
     let s = k.reads in

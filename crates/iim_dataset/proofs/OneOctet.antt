@@ -1,11 +1,11 @@
 -- What one octet completes.
 use Rattle.std.proofs.Common.{◌≡◌, ℕ, ◌<◌, ◌⊎◌, List, [], ◌∷◌, ◌++◌, length, map, flat_map, refl, ap, sym, subst, ◌∙◌, inl, inr, arith, append-nil, append_assoc, length-append}
 use Rattle.std.proofs.lemmas.List.Concat.{flat_map-append}
-use Rattle.iim_dataset.specs.Datasets.{Dataset, SpellsTag, SpellsDataset, SpellsStream, head_of, count_octets}
-use Rattle.iim_dataset.specs.Splits.{Begun, InTag, InData, IsBegun, Reads}
-use Rattle.iim_dataset.specs.Events.{Event, HeadRead, DataOctet, DatasetEnd, events_of, handed_on}
-use Rattle.iim_dataset.specs.Completing.{CompletesNow}
-use Rattle.iim_dataset.specs.Laws.{WhatAnOctetCompletes}
+use Rattle.iim_dataset.specs.Format.Datasets.{Dataset, SpellsTag, SpellsDataset, SpellsStream, head_of, count_octets}
+use Rattle.iim_dataset.specs.Format.Splits.{Begun, InTag, InData, IsBegun, Reads}
+use Rattle.iim_dataset.specs.Format.Events.{DatasetEvent, HeadRead, DataOctet, DatasetEnd, events_of, handed_on}
+use Rattle.iim_dataset.specs.Format.Completing.{CompletesNow}
+use Rattle.iim_dataset.specs.Format.Laws.{WhatAnOctetCompletes}
 use Rattle.iim_dataset.specs.declared.head.Head.{Head}
 use Rattle.iim_dataset.proofs.Spellings.{one_tag, one_dataset}
 
@@ -21,7 +21,7 @@ no_snoc : {A : Type 0} (ys zs : List A) (y : A) → ys ++ (y ∷ zs) ≡ [] → 
 no_snoc [] zs y h = absurd cc
 no_snoc (a ∷ ys) zs y h = absurd cc
 
-cancel : (xs ys zs : List Event) → xs ++ ys ≡ xs ++ zs → ys ≡ zs
+cancel : (xs ys zs : List DatasetEvent) → xs ++ ys ≡ xs ++ zs → ys ≡ zs
 cancel [] ys zs h = h
 cancel (x ∷ xs) ys zs h = cancel xs ys zs (tail_of h)
 
@@ -33,11 +33,11 @@ shorter (h ∷ held) xs (x ∷ tag) next t e =
     let first : h ≡ x = first_of' e in
     let rest = shorter held xs tag next t (tail_of e) in (rest.0, λ i. first i ∷ rest.1 i)
 
-one_of : (since later : List Event) (event a : Event) → since ++ (event ∷ later) ≡ a ∷ [] → (since ≡ []) × (event ≡ a)
+one_of : (since later : List DatasetEvent) (event a : DatasetEvent) → since ++ (event ∷ later) ≡ a ∷ [] → (since ≡ []) × (event ≡ a)
 one_of [] later event a e = (refl, first_of' e)
 one_of (x ∷ since) later event a e = absurd (no_snoc since later event (tail_of e))
 
-two_of : (since later : List Event) (event a b : Event) → since ++ (event ∷ later) ≡ a ∷ b ∷ [] → ((since ≡ []) × (event ≡ a)) ⊎ ((since ≡ a ∷ []) × (event ≡ b))
+two_of : (since later : List DatasetEvent) (event a b : DatasetEvent) → since ++ (event ∷ later) ≡ a ∷ b ∷ [] → ((since ≡ []) × (event ≡ a)) ⊎ ((since ≡ a ∷ []) × (event ≡ b))
 two_of [] later event a b e = inl (refl, first_of' e)
 two_of (x ∷ since) later event a b e =
     let first : x ≡ a = first_of' e in
@@ -126,34 +126,34 @@ front_none (x ∷ xs) ys e = absurd cc
 -- ---- one octet
 
 -- The events that an octet completes, after those that were handed on.
-since_is : (whole W : List Dataset) (begun c : Begun) (before since later events X : List Event) (event : Event) → before ≡ handed_on whole begun → events ≡ before ++ since
+since_is : (whole W : List Dataset) (begun c : Begun) (before since later events X : List DatasetEvent) (event : DatasetEvent) → before ≡ handed_on whole begun → events ≡ before ++ since
     → events ++ (event ∷ later) ≡ handed_on W c → handed_on W c ≡ handed_on whole begun ++ X → since ++ (event ∷ later) ≡ X
 since_is whole W begun c before since later events X event is parts told grows =
     cancel before (since ++ (event ∷ later)) X
-    (sym (append_assoc before since (event ∷ later)) ∙ ap (λ (es : List Event). es ++ (event ∷ later)) (sym parts) ∙ told ∙ grows ∙ ap (λ (es : List Event). es ++ X) (sym is))
+    (sym (append_assoc before since (event ∷ later)) ∙ ap (λ (es : List DatasetEvent). es ++ (event ∷ later)) (sym parts) ∙ told ∙ grows ∙ ap (λ (es : List DatasetEvent). es ++ X) (sym is))
 
 data_one : (ds : List Dataset) (h : Head) (taken : List ℕ) (next : ℕ) → handed_on ds (InData h (taken ++ next ∷ [])) ≡ handed_on ds (InData h taken) ++ DataOctet next ∷ []
 data_one ds h taken next =
-    ap (λ (es : List Event). flat_map events_of ds ++ (HeadRead h ∷ es)) (mapped taken) ∙ sym (append_assoc (flat_map events_of ds) (HeadRead h ∷ map DataOctet taken) (DataOctet next ∷ []))
+    ap (λ (es : List DatasetEvent). flat_map events_of ds ++ (HeadRead h ∷ es)) (mapped taken) ∙ sym (append_assoc (flat_map events_of ds) (HeadRead h ∷ map DataOctet taken) (DataOctet next ∷ []))
   where
     mapped : (xs : List ℕ) → map DataOctet (xs ++ next ∷ []) ≡ map DataOctet xs ++ DataOctet next ∷ []
     mapped [] = refl
-    mapped (x ∷ xs) = ap (λ (es : List Event). DataOctet x ∷ es) (mapped xs)
+    mapped (x ∷ xs) = ap (λ (es : List DatasetEvent). DataOctet x ∷ es) (mapped xs)
 
 -- no more datasets are whole: the next octet completes a head, or is one of data
-same_whole : (octets : List ℕ) (next : ℕ) (events since later : List Event) (event : Event) (whole : List Dataset) (begun c : Begun) (rest : List ℕ) → Reads octets whole begun
+same_whole : (octets : List ℕ) (next : ℕ) (events since later : List DatasetEvent) (event : DatasetEvent) (whole : List Dataset) (begun c : Begun) (rest : List ℕ) → Reads count_octets octets whole begun
     → IsBegun count_octets begun rest → IsBegun count_octets c (rest ++ next ∷ []) → events ≡ handed_on whole begun ++ since
-    → ((X : List Event) → handed_on whole c ≡ handed_on whole begun ++ X → since ++ (event ∷ later) ≡ X) → CompletesNow octets next events event
+    → ((X : List DatasetEvent) → handed_on whole c ≡ handed_on whole begun ++ X → since ++ (event ∷ later) ≡ X) → CompletesNow octets next events event
 same_whole octets next events since later event whole (InTag held) (InTag other) rest reads b d parts grows =
     absurd (no_snoc since later event (grows [] (sym (append-nil (flat_map events_of whole ++ [])))))
 same_whole octets next events since later event whole (InTag held) (InData h []) rest reads b d parts grows =
-    let X = one_of since later event (HeadRead h) (grows (HeadRead h ∷ []) (ap (λ (es : List Event). es ++ HeadRead h ∷ []) (sym (append-nil (flat_map events_of whole))))) in
+    let X = one_of since later event (HeadRead h) (grows (HeadRead h ∷ []) (ap (λ (es : List DatasetEvent). es ++ HeadRead h ∷ []) (sym (append-nil (flat_map events_of whole))))) in
     subst (CompletesNow octets next events) (sym X.1) (record {
       whole = whole;
       held = held;
       reads = reads;
       tag = subst (SpellsTag count_octets h) (sym (append-nil d.0) ∙ sym d.4 ∙ ap (λ l. l ++ next ∷ []) b.0) d.1;
-      told = parts ∙ ap (λ (es : List Event). handed_on whole (InTag held) ++ es) X.0 ∙ append-nil (handed_on whole (InTag held));
+      told = parts ∙ ap (λ (es : List DatasetEvent). handed_on whole (InTag held) ++ es) X.0 ∙ append-nil (handed_on whole (InTag held));
     })
 same_whole octets next events since later event whole (InTag held) (InData h (t ∷ taken)) rest reads b d parts grows =
     let longer = shorter rest taken d.0 next t d.4 in
@@ -174,7 +174,7 @@ same_whole octets next events since later event whole (InData h taken) (InData k
         head = h;
         taken = taken;
         reads = reads;
-        told = parts ∙ ap (λ (es : List Event). handed_on whole (InData h taken) ++ es) X.0 ∙ append-nil (handed_on whole (InData h taken));
+        told = parts ∙ ap (λ (es : List DatasetEvent). handed_on whole (InData h taken) ++ es) X.0 ∙ append-nil (handed_on whole (InData h taken));
       },
     )
 
@@ -194,13 +194,13 @@ nothing_begun : (W whole more : List Dataset) (d : Dataset) (c : Begun) (q y : L
 nothing_begun W whole more d (InTag held) q y is later b none =
     let no_more : more ≡ [] = no_datasets more (subst (SpellsStream count_octets more) (front_none q y none) later) in
     append-nil (flat_map events_of W) ∙ ap (λ (ds : List Dataset). flat_map events_of ds) (is ∙ ap (λ (ds : List Dataset). whole ++ d ∷ ds) no_more)
-    ∙ flat_map-append events_of whole (d ∷ []) ∙ ap (λ (es : List Event). flat_map events_of whole ++ es) (append-nil (events_of d))
+    ∙ flat_map-append events_of whole (d ∷ []) ∙ ap (λ (es : List DatasetEvent). flat_map events_of whole ++ es) (append-nil (events_of d))
 nothing_begun W whole more d (InData h taken) q y is later b none =
     absurd (let bad : [] ≡ 28 ∷ (h.rec ∷ h.set ∷ b.1.count) ++ taken = sym (back_none q y none) ∙ b.4 ∙ ap (λ l. l ++ taken) b.1.parts in cc)
 
-more_in_tag : (octets : List ℕ) (next : ℕ) (events since later : List Event) (event : Event) (whole W : List Dataset) (held : List ℕ) (c : Begun) (rest y : List ℕ) → Reads octets whole (InTag held)
+more_in_tag : (octets : List ℕ) (next : ℕ) (events since later : List DatasetEvent) (event : DatasetEvent) (whole W : List Dataset) (held : List ℕ) (c : Begun) (rest y : List ℕ) → Reads count_octets octets whole (InTag held)
     → IsBegun count_octets (InTag held) rest → IsBegun count_octets c y → (n : Next whole W (rest ++ next ∷ []) y) → events ≡ handed_on whole (InTag held) ++ since
-    → ((X : List Event) → handed_on W c ≡ handed_on whole (InTag held) ++ X → since ++ (event ∷ later) ≡ X)
+    → ((X : List DatasetEvent) → handed_on W c ≡ handed_on whole (InTag held) ++ X → since ++ (event ∷ later) ≡ X)
     → (l : List ℕ) → n.dataset.octets ++ (n.q ++ y) ≡ l → CompletesNow octets next events event
 more_in_tag octets next events since later event whole W held c rest y reads b bc n parts grows (t ∷ ts) is =
     let s = n.spelled in
@@ -213,31 +213,31 @@ more_in_tag octets next events since later event whole W held c rest y reads b b
     let agree : rest ++ next ∷ [] ≡ s.tag ++ [] = n.agree ∙ ap (λ l. l ++ (n.q ++ y)) s.parts ∙ append_assoc s.tag d.octets (n.q ++ y) ∙ ap (λ l. s.tag ++ l) is in
     let empty : d.octets ≡ [] = front_none d.octets (n.q ++ y) is in
     let tag : SpellsTag count_octets (head_of d) (held ++ next ∷ []) = subst (SpellsTag count_octets (head_of d)) (sym (append-nil s.tag) ∙ sym agree ∙ ap (λ l. l ++ next ∷ []) b.0) s.is_tag in
-    let F : List Event = flat_map events_of whole in
-    let two : List Event = HeadRead (head_of d) ∷ DatasetEnd ∷ [] in
+    let F : List DatasetEvent = flat_map events_of whole in
+    let two : List DatasetEvent = HeadRead (head_of d) ∷ DatasetEnd ∷ [] in
     let told : handed_on W c ≡ (F ++ []) ++ two =
     nothing_begun W whole n.more d c n.q y n.parts n.later bc (back_none d.octets (n.q ++ y) is)
-    ∙ ap (λ (xs : List ℕ). F ++ (HeadRead (head_of d) ∷ (map DataOctet xs ++ DatasetEnd ∷ []))) empty ∙ ap (λ (es : List Event). es ++ two) (sym (append-nil F)) in
+    ∙ ap (λ (xs : List ℕ). F ++ (HeadRead (head_of d) ∷ (map DataOctet xs ++ DatasetEnd ∷ []))) empty ∙ ap (λ (es : List DatasetEvent). es ++ two) (sym (append-nil F)) in
     elim (two_of since later event (HeadRead (head_of d)) DatasetEnd (grows two told)) [
       | inl first ↦ subst (CompletesNow octets next events) (sym first.1) (record {
         whole = whole;
         held = held;
         reads = reads;
         tag = tag;
-        told = parts ∙ ap (λ (es : List Event). handed_on whole (InTag held) ++ es) first.0 ∙ append-nil (handed_on whole (InTag held));
+        told = parts ∙ ap (λ (es : List DatasetEvent). handed_on whole (InTag held) ++ es) first.0 ∙ append-nil (handed_on whole (InTag held));
       })
       | inr second ↦ subst (CompletesNow octets next events) (sym second.1) (record {
         whole = whole;
         head = head_of d;
         given = [];
         completes = inr (held, reads, tag, ap length empty, refl);
-        told = parts ∙ ap (λ (es : List Event). (F ++ []) ++ es) second.0 ∙ ap (λ (es : List Event). es ++ HeadRead (head_of d) ∷ []) (append-nil F);
+        told = parts ∙ ap (λ (es : List DatasetEvent). (F ++ []) ++ es) second.0 ∙ ap (λ (es : List DatasetEvent). es ++ HeadRead (head_of d) ∷ []) (append-nil F);
       })
     ]
 
-more_in_data : (octets : List ℕ) (next : ℕ) (events since later : List Event) (event : Event) (whole W : List Dataset) (h : Head) (taken : List ℕ) (c : Begun) (rest y : List ℕ) → Reads octets whole (InData h taken)
+more_in_data : (octets : List ℕ) (next : ℕ) (events since later : List DatasetEvent) (event : DatasetEvent) (whole W : List Dataset) (h : Head) (taken : List ℕ) (c : Begun) (rest y : List ℕ) → Reads count_octets octets whole (InData h taken)
     → IsBegun count_octets (InData h taken) rest → IsBegun count_octets c y → Next whole W (rest ++ next ∷ []) y → events ≡ handed_on whole (InData h taken) ++ since
-    → ((X : List Event) → handed_on W c ≡ handed_on whole (InData h taken) ++ X → since ++ (event ∷ later) ≡ X) → CompletesNow octets next events event
+    → ((X : List DatasetEvent) → handed_on W c ≡ handed_on whole (InData h taken) ++ X → since ++ (event ∷ later) ≡ X) → CompletesNow octets next events event
 more_in_data octets next events since later event whole W h taken c rest y reads b bc n parts grows =
     let s = n.spelled in
     let d = n.dataset in
@@ -249,14 +249,14 @@ more_in_data octets next events since later event whole W h taken c rest y reads
     let less = b.2 in
     let none : n.q ++ y ≡ [] = no_length (n.q ++ y) (omega (arith, less, count, lengths, length-append taken (next ∷ []), length-append d.octets (n.q ++ y))) in
     let all : taken ++ next ∷ [] ≡ d.octets = same.2 ∙ ap (λ l. d.octets ++ l) none ∙ append-nil d.octets in
-    let F : List Event = flat_map events_of whole in
-    let two : List Event = DataOctet next ∷ DatasetEnd ∷ [] in
+    let F : List DatasetEvent = flat_map events_of whole in
+    let two : List DatasetEvent = DataOctet next ∷ DatasetEnd ∷ [] in
     let told : handed_on W c ≡ handed_on whole (InData h taken) ++ two =
     nothing_begun W whole n.more d c n.q y n.parts n.later bc none
     ∙ ap (λ (k : Head). F ++ (HeadRead k ∷ (map DataOctet d.octets ++ DatasetEnd ∷ []))) (sym same.0)
     ∙ ap (λ (xs : List ℕ). F ++ (HeadRead h ∷ (map DataOctet xs ++ DatasetEnd ∷ []))) (sym all)
     ∙ sym (append_assoc F (HeadRead h ∷ map DataOctet (taken ++ next ∷ [])) (DatasetEnd ∷ []))
-    ∙ ap (λ (es : List Event). es ++ DatasetEnd ∷ []) (data_one whole h taken next)
+    ∙ ap (λ (es : List DatasetEvent). es ++ DatasetEnd ∷ []) (data_one whole h taken next)
     ∙ append_assoc (handed_on whole (InData h taken)) (DataOctet next ∷ []) (DatasetEnd ∷ []) in
     elim (two_of since later event (DataOctet next) DatasetEnd (grows two told)) [
       | inl first ↦ subst (CompletesNow octets next events) (sym first.1) (
@@ -266,7 +266,7 @@ more_in_data octets next events since later event whole W h taken c rest y reads
           head = h;
           taken = taken;
           reads = reads;
-          told = parts ∙ ap (λ (es : List Event). handed_on whole (InData h taken) ++ es) first.0 ∙ append-nil (handed_on whole (InData h taken));
+          told = parts ∙ ap (λ (es : List DatasetEvent). handed_on whole (InData h taken) ++ es) first.0 ∙ append-nil (handed_on whole (InData h taken));
         },
       )
       | inr second ↦ subst (CompletesNow octets next events) (sym second.1) (record {
@@ -274,15 +274,15 @@ more_in_data octets next events since later event whole W h taken c rest y reads
         head = h;
         given = taken ++ next ∷ [];
         completes = inl (taken, reads, refl, ap length all ∙ sym count);
-        told = parts ∙ ap (λ (es : List Event). handed_on whole (InData h taken) ++ es) second.0 ∙ sym (data_one whole h taken next);
+        told = parts ∙ ap (λ (es : List DatasetEvent). handed_on whole (InData h taken) ++ es) second.0 ∙ sym (data_one whole h taken next);
       })
     ]
 
 -- ---- all cases
 
-more_whole : (octets : List ℕ) (next : ℕ) (events since later : List Event) (event : Event) (whole W : List Dataset) (begun c : Begun) (rest y : List ℕ) → Reads octets whole begun
+more_whole : (octets : List ℕ) (next : ℕ) (events since later : List DatasetEvent) (event : DatasetEvent) (whole W : List Dataset) (begun c : Begun) (rest y : List ℕ) → Reads count_octets octets whole begun
     → IsBegun count_octets begun rest → IsBegun count_octets c y → Next whole W (rest ++ next ∷ []) y → events ≡ handed_on whole begun ++ since
-    → ((X : List Event) → handed_on W c ≡ handed_on whole begun ++ X → since ++ (event ∷ later) ≡ X) → CompletesNow octets next events event
+    → ((X : List DatasetEvent) → handed_on W c ≡ handed_on whole begun ++ X → since ++ (event ∷ later) ≡ X) → CompletesNow octets next events event
 more_whole octets next events since later event whole W (InTag held) c rest y reads b bc n parts grows =
     more_in_tag octets next events since later event whole W held c rest y reads b bc n parts grows (n.dataset.octets ++ (n.q ++ y)) refl
 more_whole octets next events since later event whole W (InData h taken) c rest y reads b bc n parts grows =
@@ -295,13 +295,13 @@ no_longer_stream c y z r (m ∷ more) bc (first, rest, s, later, parts) e =
 
 pub what_an_octet_completes : WhatAnOctetCompletes
 what_an_octet_completes octets next events event c =
-    let r0 = c.behind.reads in
+    let r0 = c.after.reads in
     let r1 = c.with_next.reads in
-    let whole = c.behind.whole in
+    let whole = c.after.whole in
     let W = c.with_next.whole in
     let z : List ℕ = r0.rest ++ next ∷ [] in
     let agree : r0.front ++ z ≡ r1.front ++ r1.rest = sym (append_assoc r0.front r0.rest (next ∷ [])) ∙ ap (λ l. l ++ next ∷ []) (sym r0.parts) ∙ r1.parts in
-    let parts : events ≡ handed_on whole c.begun ++ c.since = c.parts ∙ ap (λ (es : List Event). es ++ c.since) c.behind.handed in
+    let parts : events ≡ handed_on whole c.begun ++ c.since = c.parts ∙ ap (λ (es : List DatasetEvent). es ++ c.since) c.after.handed in
     elim (compare whole W r0.front r1.front z r1.rest r0.is_front r1.is_front agree) [
       | inl longer ↦
           let (more, r, is, stream, tail) = longer in
@@ -310,8 +310,8 @@ what_an_octet_completes octets next events event c =
           let empty : r ≡ [] = subst (λ (xs : List Dataset). SpellsStream count_octets xs r) none stream in
           let rest_is : z ≡ r1.rest = ap (λ l. l ++ z) (sym empty) ∙ tail in
           same_whole octets next events c.since c.later event whole c.begun c.next_begun r0.rest r0 r0.is_rest (subst (IsBegun count_octets c.next_begun) (sym rest_is) r1.is_rest) parts
-          (λ X grows. since_is whole W c.begun c.next_begun c.before c.since c.later events X event c.behind.handed c.parts c.with_next.handed (ap (λ (xs : List Dataset). handed_on xs c.next_begun) same ∙ grows))
+          (λ X grows. since_is whole W c.begun c.next_begun c.before c.since c.later events X event c.after.handed c.parts c.with_next.handed (ap (λ (xs : List Dataset). handed_on xs c.next_begun) same ∙ grows))
       | inr n ↦
           more_whole octets next events c.since c.later event whole W c.begun c.next_begun r0.rest r1.rest r0 r0.is_rest r1.is_rest n parts
-          (λ X grows. since_is whole W c.begun c.next_begun c.before c.since c.later events X event c.behind.handed c.parts c.with_next.handed grows)
+          (λ X grows. since_is whole W c.begun c.next_begun c.before c.since c.later events X event c.after.handed c.parts c.with_next.handed grows)
     ]

@@ -5,14 +5,14 @@ use Rattle.std.proofs.lemmas.Bool.Decides.{nat_tests}
 use Rattle.std.proofs.lemmas.List.{map-append}
 use Rattle.std.proofs.lemmas.List.Concat.{flat_map-append}
 use Rattle.arrayvec.specs.ArrayVec.{ArrayVec}
-use Rattle.iim_dataset.specs.Octets.{Octets}
-use Rattle.iim_dataset.specs.Datasets.{Dataset, SpellsTag, SpellsDataset, SpellsStream, count_octets}
-use Rattle.iim_dataset.specs.Splits.{Begun, InTag, InData, Reads}
-use Rattle.iim_dataset.specs.Tags.{BeginsTag}
-use Rattle.iim_dataset.specs.Events.{Event, HeadRead, DataOctet, DatasetEnd, events_of, handed_on}
-use Rattle.iim_dataset.specs.Places.{LeadsTo, HandsOn, IsKeptAs, Brings, between}
-use Rattle.iim_dataset.specs.Reading.{Stops}
-use Rattle.iim_dataset.specs.Completing.{head_events, behind_head}
+use Rattle.iim_dataset.specs.Format.Octets.{Octets}
+use Rattle.iim_dataset.specs.Format.Datasets.{Dataset, SpellsTag, SpellsDataset, SpellsStream, count_octets}
+use Rattle.iim_dataset.specs.Format.Splits.{Begun, InTag, InData, Reads}
+use Rattle.iim_dataset.specs.Format.Tags.{BeginsTag}
+use Rattle.iim_dataset.specs.Format.Events.{DatasetEvent, HeadRead, DataOctet, DatasetEnd, events_of, handed_on}
+use Rattle.iim_dataset.specs.Format.Places.{LeadsTo, HandsOn, IsKeptAs, Brings, between}
+use Rattle.iim_dataset.specs.Format.Reading.{Stops}
+use Rattle.iim_dataset.specs.Completing.{head_events, place_after_head}
 use Rattle.iim_dataset.specs.declared.head.Head.{Head}
 use Rattle.iim_dataset.specs.declared.place.DatasetPlace.{DatasetPlace}
 use Rattle.iim_dataset.specs.declared.place.DatasetPlace.TheVariants.{Tag, Inside}
@@ -28,7 +28,7 @@ stream_more (c ∷ ds) front d x (p, q, first, more, joined) one =
     (p, q ++ x, first, stream_more ds q d x more one, ap (λ l. l ++ x) joined ∙ append_assoc p q x)
 
 -- a tag continues
-pub tag_reads_on : (xs ys held : List ℕ) (whole : List Dataset) → BeginsTag count_octets (held ++ ys) → Reads xs whole (InTag held) → Reads (xs ++ ys) whole (InTag (held ++ ys))
+pub tag_reads_on : (xs ys held : List ℕ) (whole : List Dataset) → BeginsTag count_octets (held ++ ys) → Reads count_octets xs whole (InTag held) → Reads count_octets (xs ++ ys) whole (InTag (held ++ ys))
 tag_reads_on xs ys held whole b r = record {
   front = r.front;
   rest = held ++ ys;
@@ -38,8 +38,8 @@ tag_reads_on xs ys held whole b r = record {
 }
 
 -- a tag ends before data
-pub head_reads_on : (xs ys held : List ℕ) (whole : List Dataset) (h : Head) → SpellsTag count_octets h (held ++ ys) → 0 < h.count → Reads xs whole (InTag held)
-    → Reads (xs ++ ys) whole (InData h [])
+pub head_reads_on : (xs ys held : List ℕ) (whole : List Dataset) (h : Head) → SpellsTag count_octets h (held ++ ys) → 0 < h.count → Reads count_octets xs whole (InTag held)
+    → Reads count_octets (xs ++ ys) whole (InData h [])
 head_reads_on xs ys held whole h s some r = record {
   front = r.front;
   rest = (held ++ ys) ++ [];
@@ -49,7 +49,7 @@ head_reads_on xs ys held whole h s some r = record {
 }
 
 -- between datasets
-nothing_begun : (front xs : List ℕ) (whole : List Dataset) → SpellsStream count_octets whole front → xs ≡ front → Reads xs whole (InTag [])
+nothing_begun : (front xs : List ℕ) (whole : List Dataset) → SpellsStream count_octets whole front → xs ≡ front → Reads count_octets xs whole (InTag [])
 nothing_begun front xs whole s e = record {
   front = front;
   rest = [];
@@ -59,8 +59,8 @@ nothing_begun front xs whole s e = record {
 }
 
 -- a dataset without data ends
-pub empty_reads_on : (xs ys held : List ℕ) (whole : List Dataset) (h : Head) → SpellsTag count_octets h (held ++ ys) → h.count ≡ 0 → Reads xs whole (InTag held)
-    → Reads (xs ++ ys) (whole ++ record { rec = h.rec; set = h.set; octets = [] } ∷ []) (InTag [])
+pub empty_reads_on : (xs ys held : List ℕ) (whole : List Dataset) (h : Head) → SpellsTag count_octets h (held ++ ys) → h.count ≡ 0 → Reads count_octets xs whole (InTag held)
+    → Reads count_octets (xs ++ ys) (whole ++ record { rec = h.rec; set = h.set; octets = [] } ∷ []) (InTag [])
 empty_reads_on xs ys held whole h s none r =
     let same : h ≡ record { rec = h.rec; set = h.set; count = 0 } = (λ i. record { rec = h.rec; set = h.set; count = none i }) in
     nothing_begun (r.front ++ (held ++ ys)) (xs ++ ys) _
@@ -72,8 +72,8 @@ data_parts xs ys front rest tag taken e f =
     ap (λ l. l ++ ys) e ∙ (append_assoc front rest ys ∙ ap (λ l. front ++ l) (ap (λ l. l ++ ys) f ∙ append_assoc tag taken ys))
 
 -- data continue
-pub data_reads_on : (xs ys taken : List ℕ) (whole : List Dataset) (h : Head) → Octets ys → length taken + length ys < h.count → Reads xs whole (InData h taken)
-    → Reads (xs ++ ys) whole (InData h (taken ++ ys))
+pub data_reads_on : (xs ys taken : List ℕ) (whole : List Dataset) (h : Head) → Octets ys → length taken + length ys < h.count → Reads count_octets xs whole (InData h taken)
+    → Reads count_octets (xs ++ ys) whole (InData h (taken ++ ys))
 data_reads_on xs ys taken whole h o short r =
     let i = r.is_rest in record {
       front = r.front;
@@ -84,8 +84,8 @@ data_reads_on xs ys taken whole h o short r =
     }
 
 -- data end
-pub data_reads_end : (xs ys taken : List ℕ) (whole : List Dataset) (h : Head) → Octets ys → length taken + length ys ≡ h.count → Reads xs whole (InData h taken)
-    → Reads (xs ++ ys) (whole ++ record { rec = h.rec; set = h.set; octets = taken ++ ys } ∷ []) (InTag [])
+pub data_reads_end : (xs ys taken : List ℕ) (whole : List Dataset) (h : Head) → Octets ys → length taken + length ys ≡ h.count → Reads count_octets xs whole (InData h taken)
+    → Reads count_octets (xs ++ ys) (whole ++ record { rec = h.rec; set = h.set; octets = taken ++ ys } ∷ []) (InTag [])
 data_reads_end xs ys taken whole h o all r =
     let i = r.is_rest in
     let count : h.count ≡ length (taken ++ ys) = omega (arith, all, length-append taken ys) in
@@ -109,21 +109,21 @@ handed_data whole h taken ys =
 
 -- ---- what a place keeps
 
-pub tag_held : (held : ArrayVec ℕ) (octets : List ℕ) (events : List Event) (begun : Begun) → HandsOn octets events begun → IsKeptAs (Tag held) begun
-    → HandsOn octets events (InTag held.items)
-tag_held held octets events (InTag xs) h k = subst (λ (zs : List ℕ). HandsOn octets events (InTag zs)) (sym k) h
+pub tag_held : (held : ArrayVec ℕ) (octets : List ℕ) (events : List DatasetEvent) (begun : Begun) → HandsOn count_octets octets events begun → IsKeptAs (Tag held) begun
+    → HandsOn count_octets octets events (InTag held.items)
+tag_held held octets events (InTag xs) h k = subst (λ (zs : List ℕ). HandsOn count_octets octets events (InTag zs)) (sym k) h
 tag_held held octets events (InData h taken) hands k = absurd k
 
-pub data_kept : (h : Head) (left : ℕ) (octets : List ℕ) (events : List Event) (begun : Begun) → HandsOn octets events begun → IsKeptAs (Inside h left) begun
-    → (taken : List ℕ) × HandsOn octets events (InData h taken) × (length taken + left ≡ h.count)
+pub data_kept : (h : Head) (left : ℕ) (octets : List ℕ) (events : List DatasetEvent) (begun : Begun) → HandsOn count_octets octets events begun → IsKeptAs (Inside h left) begun
+    → (taken : List ℕ) × HandsOn count_octets octets events (InData h taken) × (length taken + left ≡ h.count)
 data_kept h left octets events (InTag xs) hands k = absurd k
 data_kept h left octets events (InData g taken) hands k =
-    (taken, subst (λ (j : Head). HandsOn octets events (InData j taken)) (sym k.0) hands, k.1 ∙ ap (λ (j : Head). j.count) (sym k.0))
+    (taken, subst (λ (j : Head). HandsOn count_octets octets events (InData j taken)) (sym k.0) hands, k.1 ∙ ap (λ (j : Head). j.count) (sym k.0))
 
 -- ---- from place to place
 
 -- at the beginning
-pub begins : LeadsTo [] [] between
+pub begins : LeadsTo count_octets [] [] between
 begins = record {
   begun = InTag [];
   hands = record { whole = []; reads = nothing_begun [] [] [] refl refl; handed = refl };
@@ -132,7 +132,7 @@ begins = record {
 
 -- nothing
 pub stays : (p : DatasetPlace) → Brings p [] [] p
-stays p octets events l = subst (λ (xs : List ℕ). LeadsTo xs (events ++ []) p) (sym (append-nil octets)) (subst (λ (es : List Event). LeadsTo octets es p) (sym (append-nil events)) l)
+stays p octets events l = subst (λ (xs : List ℕ). LeadsTo count_octets xs (events ++ []) p) (sym (append-nil octets)) (subst (λ (es : List DatasetEvent). LeadsTo count_octets octets es p) (sym (append-nil events)) l)
 
 -- octets of a tag
 pub tag_on : (held then_held : ArrayVec ℕ) (ys : List ℕ) → BeginsTag count_octets (held.items ++ ys) → then_held.items ≡ held.items ++ ys → Brings (Tag held) ys [] (Tag then_held)
@@ -166,7 +166,7 @@ empty_on held ys h s none octets events l =
       keeps = refl;
     }
 
-pub head_leads : (held : ArrayVec ℕ) (ys : List ℕ) (h : Head) → SpellsTag count_octets h (held.items ++ ys) → Brings (Tag held) ys (head_events h) (behind_head h)
+pub head_leads : (held : ArrayVec ℕ) (ys : List ℕ) (h : Head) → SpellsTag count_octets h (held.items ++ ys) → Brings (Tag held) ys (head_events h) (place_after_head h)
 head_leads held ys h s = by_count (h.count == 0) refl
   where
     by_count : (b : Bool) → (h.count == 0) ≡ b → Brings (Tag held) ys (if b then HeadRead h ∷ DatasetEnd ∷ [] else HeadRead h ∷ []) (if b then between else Inside h h.count)
@@ -210,7 +210,7 @@ data_end h left ys o all octets events l =
     }
 
 -- one octet of data, and what it completes
-pub octet_on : (h : Head) (left b : ℕ) → b < 256 → 0 < left → (later : List Event) × (next : DatasetPlace) × Brings (Inside h left) (b ∷ []) (DataOctet b ∷ later) next
+pub octet_on : (h : Head) (left b : ℕ) → b < 256 → 0 < left → (later : List DatasetEvent) × (next : DatasetPlace) × Brings (Inside h left) (b ∷ []) (DataOctet b ∷ later) next
 octet_on h left b o some = elim (cases_lt 1 left) [
   | inl more ↦ ([], Inside h (left - 1), data_on h left (left - 1) (b ∷ []) (o, tt) (omega (arith, more)) (omega (arith, more)))
   | inr last ↦ (DatasetEnd ∷ [], between, data_end h left (b ∷ []) (o, tt) (omega (arith, last, some)))
@@ -219,7 +219,7 @@ octet_on h left b o some = elim (cases_lt 1 left) [
 -- ---- stops
 
 -- The octets before octet k lead to a place, and from there it completes events, of which the sink refused one.
-pub stops_at : {D : Type 0} (stops : D → List Event → Event → D → Type 0) (p q r : DatasetPlace) (piece : List ℕ) (k : ℕ) (es fs mine later : List Event) (event : Event) (a b : D)
+pub stops_at : {D : Type 0} (stops : D → List DatasetEvent → DatasetEvent → D → Type 0) (p q r : DatasetPlace) (piece : List ℕ) (k : ℕ) (es fs mine later : List DatasetEvent) (event : DatasetEvent) (a b : D)
     → Brings p (take k piece) es q → Brings q (slice_index piece k ∷ []) fs r → fs ≡ mine ++ event ∷ later → stops a (es ++ mine) event b → Stops stops p piece k a b
 stops_at stops p q r piece k es fs mine later event a b f g parts s = record {
   more = es ++ mine;
@@ -230,13 +230,13 @@ stops_at stops p q r piece k es fs mine later event a b f g parts s = record {
       let n = g (octets ++ take k piece) (events ++ es) m in record {
         before = events ++ es;
         begun = m.begun;
-        behind = m.hands;
+        after = m.hands;
         since = mine;
         parts = sym (append_assoc events es mine);
         later = later;
         next_begun = n.begun;
         with_next =
-            subst (λ (all : List Event). HandsOn ((octets ++ take k piece) ++ slice_index piece k ∷ []) all n.begun)
+            subst (λ (all : List DatasetEvent). HandsOn count_octets ((octets ++ take k piece) ++ slice_index piece k ∷ []) all n.begun)
             (ap (λ u. (events ++ es) ++ u) parts ∙ (sym (append_assoc (events ++ es) mine (event ∷ later)) ∙ ap (λ u. u ++ event ∷ later) (append_assoc events es mine))) n.hands;
       };
 }

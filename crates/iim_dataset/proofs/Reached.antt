@@ -2,11 +2,11 @@
 use Rattle.std.proofs.Common.{◌≡◌, ℕ, ◌-◌, List, [], ◌++◌, length, replicate, refl, ap, sym, subst, ◌∙◌, arith}
 use Rattle.std.proofs.lemmas.List.{length-replicate}
 use Rattle.arrayvec.specs.ArrayVec.{ArrayVec}
-use Rattle.iim_dataset.specs.Datasets.{SpellsTag, count_octets}
-use Rattle.iim_dataset.specs.Splits.{Begun, InTag, InData}
-use Rattle.iim_dataset.specs.Events.{Event, handed_on}
-use Rattle.iim_dataset.specs.Places.{IsPlace, IsKeptAs, LeadsTo}
-use Rattle.iim_dataset.specs.Laws.{PlacesAreReached, OctetsLeadToOnePlace}
+use Rattle.iim_dataset.specs.Format.Datasets.{SpellsTag, count_octets}
+use Rattle.iim_dataset.specs.Format.Splits.{Begun, InTag, InData}
+use Rattle.iim_dataset.specs.Format.Events.{DatasetEvent, handed_on}
+use Rattle.iim_dataset.specs.Format.Places.{IsPlace, IsKeptAs, LeadsTo}
+use Rattle.iim_dataset.specs.Format.Laws.{PlacesAreReached, OctetsLeadToOnePlace}
 use Rattle.iim_dataset.specs.declared.place.DatasetPlace.{DatasetPlace}
 use Rattle.iim_dataset.specs.declared.place.DatasetPlace.TheVariants.{Tag, Inside}
 use Rattle.iim_dataset.proofs.Fronts.{zeros_are}
@@ -15,7 +15,7 @@ use Rattle.iim_dataset.proofs.OneHanding.{one_handing}
 
 -- ---- octets that lead to a place
 
-reached : (place : DatasetPlace) → IsPlace place → (octets : List ℕ) × (events : List Event) × LeadsTo octets events place
+reached : (place : DatasetPlace) → IsPlace place → (octets : List ℕ) × (events : List DatasetEvent) × LeadsTo count_octets octets events place
 reached (Tag held) is = (
   held.items,
   [],
@@ -47,7 +47,7 @@ reached (Inside h left) is =
 
 -- ---- octets that led to a place
 
-led : (place : DatasetPlace) (octets : List ℕ) (events : List Event) → LeadsTo octets events place → IsPlace place
+led : (place : DatasetPlace) (octets : List ℕ) (events : List DatasetEvent) → LeadsTo count_octets octets events place → IsPlace place
 led (Tag held) octets events l =
     let b = (tag_held held octets events l.begun l.hands l.keeps).reads.is_rest in
     record { head = b.1; more = b.4.0; some_more = b.4.1; whole = subst (SpellsTag count_octets b.1) (sym b.4.2) b.3 }

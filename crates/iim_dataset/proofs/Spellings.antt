@@ -1,8 +1,8 @@
 -- No spelling of a dataset begins another, so octets have one splitting into datasets.
 use Rattle.std.proofs.Common.{◌≡◌, ℕ, ◌<◌, List, [], ◌∷◌, ◌++◌, length, refl, sym, ap, ◌∙◌, arith, inl, inr, append_assoc, append-nil, length-append}
-use Rattle.iim_dataset.specs.Octets.{number, IsProperPrefix}
-use Rattle.iim_dataset.specs.Datasets.{Dataset, head_of, SpellsCount, SpellsTag, SpellsDataset, SpellsStream}
-use Rattle.iim_dataset.specs.Splits.{SplitsInto}
+use Rattle.iim_dataset.specs.Format.Octets.{number, IsProperPrefix}
+use Rattle.iim_dataset.specs.Format.Datasets.{Dataset, head_of, SpellsCount, SpellsTag, SpellsDataset, SpellsStream}
+use Rattle.iim_dataset.specs.Format.Splits.{SplitsInto}
 use Rattle.iim_dataset.specs.declared.head.Head.{Head}
 
 pub same_length : {A : Type 0} (a b x y : List A) → length a ≡ length b → a ++ x ≡ b ++ y → (a ≡ b) × (x ≡ y)

@@ -1,12 +1,12 @@
 -- What was handed on tells the datasets.
 use Rattle.std.proofs.Common.{◌≡◌, ℕ, List, [], ◌∷◌, ◌++◌, refl, ap, sym, ◌∙◌, append_assoc, map, flat_map}
-use Rattle.iim_dataset.specs.Datasets.{Dataset, head_of}
-use Rattle.iim_dataset.specs.Splits.{Begun, InTag, InData}
-use Rattle.iim_dataset.specs.Events.{Event, HeadRead, DataOctet, DatasetEnd, events_of, begun_events, begun_data, handed_on}
+use Rattle.iim_dataset.specs.Format.Datasets.{Dataset, head_of}
+use Rattle.iim_dataset.specs.Format.Splits.{Begun, InTag, InData}
+use Rattle.iim_dataset.specs.Format.Events.{DatasetEvent, HeadRead, DataOctet, DatasetEnd, events_of, begun_events, begun_data, handed_on}
 use Rattle.iim_dataset.specs.declared.head.Head.{Head}
 
 -- the data before an end are determined
-same_data : (xs ys : List ℕ) (r s : List Event) → map DataOctet xs ++ DatasetEnd ∷ r ≡ map DataOctet ys ++ DatasetEnd ∷ s → (xs ≡ ys) × (r ≡ s)
+same_data : (xs ys : List ℕ) (r s : List DatasetEvent) → map DataOctet xs ++ DatasetEnd ∷ r ≡ map DataOctet ys ++ DatasetEnd ∷ s → (xs ≡ ys) × (r ≡ s)
 same_data [] [] r s e = (refl, cc)
 same_data [] (y ∷ ys) r s e = absurd cc
 same_data (x ∷ xs) [] r s e = absurd cc
@@ -17,7 +17,7 @@ same_data (x ∷ xs) (y ∷ ys) r s e =
     (cc, more.1)
 
 -- data alone have no end
-no_end : (xs ys : List ℕ) (r : List Event) → map DataOctet xs ≡ map DataOctet ys ++ DatasetEnd ∷ r → ⊥
+no_end : (xs ys : List ℕ) (r : List DatasetEvent) → map DataOctet xs ≡ map DataOctet ys ++ DatasetEnd ∷ r → ⊥
 no_end [] [] r e = absurd cc
 no_end [] (y ∷ ys) r e = absurd cc
 no_end (x ∷ xs) [] r e = absurd cc

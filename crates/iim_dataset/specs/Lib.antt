@@ -1,17 +1,8 @@
-pub mod Octets
-pub mod Datasets
-pub mod Splits
-pub mod Events
-pub mod Languages
-pub mod Tags
-pub mod Places
-pub mod Reading
+-- What the promises cite: a reader has to believe these.
+pub mod Format
+-- What only proofs and private clauses cite.
 pub mod Fronts
 pub mod Completing
-pub mod Devices
 pub mod Later
-pub mod Trials
 pub mod TrialLaws
-pub mod Shown
-pub mod Laws
-pub mod DeviceLaws
+pub mod Calls

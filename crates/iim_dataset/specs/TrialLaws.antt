@@ -4,30 +4,30 @@ use Rattle.iim_dataset.specs.declared.trial.Plan.{Plan}
 use Rattle.iim_dataset.specs.declared.trial.Trouble.{Trouble}
 use Rattle.iim_dataset.specs.declared.trial.Trouble.TheVariants.{Failure, Interruptions}
 use Rattle.iim_dataset.specs.declared.trial.TrialReader.{TrialReader}
-use Rattle.iim_dataset.specs.Devices.{Calm}
-use Rattle.iim_dataset.specs.Trials.{planned, SameTrouble, KeepsFailures, GoesByPlan, ReadsOn, trial_device}
-use Rattle.iim_dataset.specs.Later.{later_stays, later_goes_on}
+use Rattle.iim_dataset.specs.Format.Devices.{Calm}
+use Rattle.iim_dataset.specs.Format.Trials.{planned, SameTrouble, KeepsFailures, GoesByPlan, ReadsOn, trial_device}
+use Rattle.iim_dataset.specs.Later.{later_stays, later_leads_on}
 
 same_stays : (t : Trouble) → SameTrouble t t
 same_stays Failure = tt
 same_stays (Interruptions k) = tt
 
-same_goes_on : (t u v : Trouble) → SameTrouble t u → SameTrouble u v → SameTrouble t v
-same_goes_on Failure Failure v h k = k
-same_goes_on Failure (Interruptions j) v h k = absurd h
-same_goes_on (Interruptions i) Failure v h k = absurd h
-same_goes_on (Interruptions i) (Interruptions j) Failure h k = absurd k
-same_goes_on (Interruptions i) (Interruptions j) (Interruptions l) h k = tt
+same_leads_on : (t u v : Trouble) → SameTrouble t u → SameTrouble u v → SameTrouble t v
+same_leads_on Failure Failure v h k = k
+same_leads_on Failure (Interruptions j) v h k = absurd h
+same_leads_on (Interruptions i) Failure v h k = absurd h
+same_leads_on (Interruptions i) (Interruptions j) Failure h k = absurd k
+same_leads_on (Interruptions i) (Interruptions j) (Interruptions l) h k = tt
 
 keeps_stays : (t : Trouble) (n : ℕ) → KeepsFailures t n n
 keeps_stays Failure n = omega arith
 keeps_stays (Interruptions k) n = refl
 
-keeps_goes_on : (t u : Trouble) (a b c : ℕ) → SameTrouble t u → KeepsFailures t a b → KeepsFailures u b c → KeepsFailures t a c
-keeps_goes_on Failure Failure a b c s h k = omega (arith, h, k)
-keeps_goes_on Failure (Interruptions j) a b c s h k = absurd s
-keeps_goes_on (Interruptions i) Failure a b c s h k = absurd s
-keeps_goes_on (Interruptions i) (Interruptions j) a b c s h k = k ∙ h
+keeps_leads_on : (t u : Trouble) (a b c : ℕ) → SameTrouble t u → KeepsFailures t a b → KeepsFailures u b c → KeepsFailures t a c
+keeps_leads_on Failure Failure a b c s h k = omega (arith, h, k)
+keeps_leads_on Failure (Interruptions j) a b c s h k = absurd s
+keeps_leads_on (Interruptions i) Failure a b c s h k = absurd s
+keeps_leads_on (Interruptions i) (Interruptions j) a b c s h k = k ∙ h
 
 pub plan_stays : (p : Plan) → GoesByPlan p p
 plan_stays p = record {
@@ -39,17 +39,17 @@ plan_stays p = record {
   later = omega arith;
 }
 
-calm_goes_on : (p q r : Plan) → GoesByPlan p q → GoesByPlan q r → 0 < r.good → Calm (planned None p) (planned None r)
-calm_goes_on p q r h k some =
+calm_leads_on : (p q r : Plan) → GoesByPlan p q → GoesByPlan q r → 0 < r.good → Calm (planned None p) (planned None r)
+calm_leads_on p q r h k some =
     let first = h.calm (omega (arith, k.good, some)) in
     let second = k.calm some in (second.0 ∙ first.0, second.1 ∙ first.1)
 
-pub plan_goes_on : (p q r : Plan) → GoesByPlan p q → GoesByPlan q r → GoesByPlan p r
-plan_goes_on p q r h k = record {
+pub plan_leads_on : (p q r : Plan) → GoesByPlan p q → GoesByPlan q r → GoesByPlan p r
+plan_leads_on p q r h k = record {
   good = omega (arith, h.good, k.good);
-  calm = calm_goes_on p q r h k;
-  trouble = same_goes_on p.trouble q.trouble r.trouble h.trouble k.trouble;
-  failures = keeps_goes_on p.trouble q.trouble p.failures q.failures r.failures h.trouble h.failures k.failures;
+  calm = calm_leads_on p q r h k;
+  trouble = same_leads_on p.trouble q.trouble r.trouble h.trouble k.trouble;
+  failures = keeps_leads_on p.trouble q.trouble p.failures q.failures r.failures h.trouble h.failures k.failures;
   interruptions = omega (arith, h.interruptions, k.interruptions);
   later = omega (arith, h.later, k.later);
 }
@@ -57,8 +57,8 @@ plan_goes_on p q r h k = record {
 pub reads_on_stays : (r : TrialReader) → ReadsOn r r
 reads_on_stays r = record { later = later_stays (trial_device r); plan = plan_stays r.plan }
 
-pub reads_on_goes_on : (a b c : TrialReader) → ReadsOn a b → ReadsOn b c → ReadsOn a c
-reads_on_goes_on a b c h k = record {
-  later = later_goes_on (trial_device a) (trial_device b) (trial_device c) h.later k.later;
-  plan = plan_goes_on a.plan b.plan c.plan h.plan k.plan;
+pub reads_on_leads_on : (a b c : TrialReader) → ReadsOn a b → ReadsOn b c → ReadsOn a c
+reads_on_leads_on a b c h k = record {
+  later = later_leads_on (trial_device a) (trial_device b) (trial_device c) h.later k.later;
+  plan = plan_leads_on a.plan b.plan c.plan h.plan k.plan;
 }

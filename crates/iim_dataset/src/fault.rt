@@ -1,7 +1,7 @@
 //! Why octets are refused.
 
 ghost use Rattle.std.specs.Prelude.{◌≡◌, Some};
-ghost use Rattle.iim_dataset.specs.Reading.{is_of};
+ghost use Rattle.iim_dataset.specs.Format.Reading.{tag_cause_of};
 
 use crate::head::HeadCause;
 
@@ -27,7 +27,7 @@ pub struct Fault {
 
 /// Why no tag can continue, as the cause of a fault.
 pub(crate) fn tag_fault(cause: HeadCause) -> FaultCause
-    ensures { is_of result ≡ Some cause }
+    ensures { tag_cause_of result ≡ Some cause }
 {
     match cause {
         HeadCause::Marker => FaultCause::Marker,

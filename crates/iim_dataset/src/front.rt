@@ -1,12 +1,13 @@
 //! How octets are read from a place on: by whole tags, and by the longest runs that lie in one dataset.
 
 ghost use Rattle.std.specs.Prelude.{◌≡◌, ◌<◌, length, Some, None, IfOk, IfErr, OnOk, OnErr};
-ghost use Rattle.iim_dataset.specs.Datasets.{count_octets};
-ghost use Rattle.iim_dataset.specs.Tags.{BeginsTag};
-ghost use Rattle.iim_dataset.specs.Places.{IsPlace, between, to_come};
-ghost use Rattle.iim_dataset.specs.Reading.{GoesOn};
-ghost use Rattle.iim_dataset.specs.Fronts.{TakesFront, TakesPiece, RefusesOne};
-ghost use Rattle.iim_dataset.specs.Completing.{StopsAmong, head_events, behind_head};
+ghost use Rattle.iim_dataset.specs.Format.Datasets.{count_octets};
+ghost use Rattle.iim_dataset.specs.Format.Tags.{BeginsTag};
+ghost use Rattle.iim_dataset.specs.Format.Places.{IsPlace, between, to_come};
+ghost use Rattle.iim_dataset.specs.Fronts.{TakesOnward};
+ghost use Rattle.iim_dataset.specs.Fronts.{TakesFront};
+ghost use Rattle.iim_dataset.specs.Format.Reading.{TakesPiece, RefusesOne};
+ghost use Rattle.iim_dataset.specs.Completing.{StopsAmong, head_events, place_after_head};
 
 use crate::fault::{Fault, FaultCause, tag_fault};
 use crate::head::Head;
@@ -56,9 +57,9 @@ fn stopped(used: usize) -> Refused
 /// Hands on what the last octet of a tag completes.
 fn begin<D: DatasetSink>(head: Head, sink: &mut D) -> Result<(DatasetPlace, Step), Stop>
     requires { D.stands sink.old None }
-    ensures place { IfOk result (λ next. next.0 ≡ behind_head head) }
+    ensures place { IfOk result (λ next. next.0 ≡ place_after_head head) }
     ensures told { OnOk result (D.goes sink.old (head_events head) sink.new) }
-    ensures onward { IfOk result (λ next. GoesOn D.stands D.ends next.1 next.0 sink.new) }
+    ensures onward { IfOk result (λ next. TakesOnward D.stands D.ends next.1 next.0 sink.new) }
     ensures stopped { OnErr result (StopsAmong D.stops (head_events head) sink.old sink.new) }
 {
     sink.head(head)?;
@@ -80,7 +81,7 @@ fn take_tag<D: DatasetSink>(
     requires stands { D.stands sink.old None }
     requires some { 0 < length rest.now }
     ensures front { IfOk result (λ front. TakesFront D.goes D.stands D.ends (DatasetPlace.Tag held) rest.now front sink.old sink.new) }
-    ensures refused { IfErr result (λ given. RefusesOne D.goes D.stops D.stands (DatasetPlace.Tag held) rest.now given sink.old sink.new) }
+    ensures refused { IfErr result (λ given. RefusesOne D.goes D.stops D.stands (DatasetPlace.Tag held) rest.now given.fault given.place sink.old sink.new) }
 {
     let mut held = held;
     match read_tag(held.as_slice(), rest) {
@@ -122,7 +123,7 @@ fn take_data<D: DatasetSink>(
     requires stands { D.stands sink.old (Some left) }
     requires some { 0 < length rest.now }
     ensures front { IfOk result (λ front. TakesFront D.goes D.stands D.ends (DatasetPlace.Inside head left) rest.now front sink.old sink.new) }
-    ensures refused { IfErr result (λ given. RefusesOne D.goes D.stops D.stands (DatasetPlace.Inside head left) rest.now given sink.old sink.new) }
+    ensures refused { IfErr result (λ given. RefusesOne D.goes D.stops D.stands (DatasetPlace.Inside head left) rest.now given.fault given.place sink.old sink.new) }
 {
     if (rest.len() as u64) < left {
         let left = left - rest.len() as u64;
@@ -159,7 +160,7 @@ fn take_front<D: DatasetSink>(
     requires stands { D.stands sink.old (to_come place) }
     requires some { 0 < length rest.now }
     ensures front { IfOk result (λ front. TakesFront D.goes D.stands D.ends place rest.now front sink.old sink.new) }
-    ensures refused { IfErr result (λ given. RefusesOne D.goes D.stops D.stands place rest.now given sink.old sink.new) }
+    ensures refused { IfErr result (λ given. RefusesOne D.goes D.stops D.stands place rest.now given.fault given.place sink.old sink.new) }
 {
     match place {
         DatasetPlace::Tag(held) => take_tag(held, rest, sink),
@@ -177,7 +178,7 @@ pub(crate) fn take_piece<D: DatasetSink>(
     requires place { IsPlace place }
     requires stands { D.stands sink.old (to_come place) }
     ensures piece { IfOk result (λ front. TakesPiece D.goes D.stands D.ends place octets.now front.0 front.1 sink.old sink.new) }
-    ensures refused { IfErr result (λ given. RefusesOne D.goes D.stops D.stands place octets.now given sink.old sink.new) }
+    ensures refused { IfErr result (λ given. RefusesOne D.goes D.stops D.stands place octets.now given.fault given.place sink.old sink.new) }
 {
     let mut now = place;
     let mut at = 0;

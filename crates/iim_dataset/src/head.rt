@@ -1,9 +1,10 @@
 //! The tag of a dataset: a marker, two numbers and a count.
 
 ghost use Rattle.std.specs.Prelude.{◌≡◌, ◌^◌, ◌<◌, IfOk, IfErr, MatchOption};
-ghost use Rattle.iim_dataset.specs.Datasets.{SpellsTag, canonical_tag, count_octets};
-ghost use Rattle.iim_dataset.specs.Tags.{BeginsTag, HasTag, HasNoTag};
+ghost use Rattle.iim_dataset.specs.Format.Datasets.{SpellsTag, canonical_tag, count_octets};
+ghost use Rattle.iim_dataset.specs.Format.Tags.{BeginsTag, HasTag, HasNoTag};
 
+use crate::size::COUNT_OCTETS;
 use arrayvec::ArrayVec;
 use byteorder::{BigEndian, ByteOrder};
 
@@ -43,14 +44,11 @@ pub const TAG_MARKER: u8 = 0x1c;
 /// The first octet of an extended count: its top bit is set, and no count has more than 255 octets.
 const EXTENDED: u8 = 0x80;
 
-/// The most octets of an extended count after its first two (profile).
-const COUNT_OCTETS: u8 = 4;
-
 /// The octets of a tag up to the end of a standard count.
 const TAG_LENGTH: usize = 5;
 
-/// The most octets of data that a tag counts: as many as `COUNT_OCTETS` octets can say.
-pub(crate) const MAX_COUNT: u64 = 4_294_967_295;
+/// The most octets of a tag.
+pub const TAG_OCTETS: usize = TAG_LENGTH + COUNT_OCTETS as usize;
 
 /// The greatest count that has the standard form.
 const MAX_STANDARD: u64 = 32_767;
@@ -92,7 +90,7 @@ fn fault(cause: HeadCause, at: usize) -> HeadFault
 
 /// The canonical tag of a head: a standard count up to 32,767, above that an extended count of four octets. The count is
 /// at most 4,294,967,295 octets, the greatest size of an object.
-pub fn head_bytes(head: Head) -> ArrayVec<u8, 9>
+pub fn head_bytes(head: Head) -> ArrayVec<u8, TAG_OCTETS>
     requires { head.count < 256 ^ count_octets }
     ensures canonical { result.items ≡ canonical_tag head }
     ensures spells { SpellsTag count_octets head result.items }

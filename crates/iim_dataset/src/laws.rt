@@ -1,6 +1,6 @@
 //! What holds of all spellings, whatever form the counts have.
 
-ghost use Rattle.iim_dataset.specs.Laws.{CanonicalStreamsAreSpelled, CanonicalTagsReadBack, EventsTellTheDatasets, NoDatasetBeginsAnother, NoOctetsGoOn, NoTagBeginsAnother, OctetsAreHandedOnOneWay, OctetsDieInTheirTag, OctetsLeadToOnePlace, OctetsSplitOneWay, PlacesAreReached, ReadOctetsGoOn, ReadOctetsSplit, ReadersDieExactly, WhatAnOctetCompletes};
+ghost use Rattle.iim_dataset.specs.Format.Laws.{CanonicalStreamsAreSpelled, CanonicalTagsReadBack, EventsTellTheDatasets, NoDatasetBeginsAnother, NoOctetsContinue, NoTagBeginsAnother, OctetsAreHandedOnOneWay, OctetsDieInTheirTag, OctetsLeadToOnePlace, OctetsSplitOneWay, PlacesAreReached, ReadOctetsContinue, ReadOctetsSplit, ReadersDieExactly, WhatAnOctetCompletes};
 
 /// No tag begins another.
 pub fn no_tag_begins_another()
@@ -33,8 +33,8 @@ pub fn octets_lead_to_one_place()
 {}
 
 /// Where no tag can continue with an octet, the octets so far with that one begin no datasets, whatever follows.
-pub fn no_octets_go_on()
-    ensures { NoOctetsGoOn }
+pub fn no_octets_continue()
+    ensures { NoOctetsContinue }
 {}
 
 /// What a reader handed on tells the whole datasets, and the head and the data so far of the begun one.
@@ -53,8 +53,8 @@ pub fn canonical_streams_are_spelled()
 {}
 
 /// Octets that were read can continue to whole datasets, and some octets are still to come: the layer is alive.
-pub fn read_octets_go_on()
-    ensures { ReadOctetsGoOn }
+pub fn read_octets_continue()
+    ensures { ReadOctetsContinue }
 {}
 
 /// Octets that were read split into the whole datasets and what is begun, in the one way in which octets split.

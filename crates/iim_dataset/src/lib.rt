@@ -1,7 +1,7 @@
 //! Datasets of the Information Interchange Model: their tags, datasets in pieces, and the devices that octets come from and
 //! go to.
 //!
-//! Stands on `byteorder` and `arrayvec`. Every crate but `iim_tables` stands on it, at least for its definitions. The unpacker
+//! Stands on `byteorder` and `arrayvec`. Every crate stands on it, at least for its definitions. The unpacker
 //! feeds [`HeadReader`] with a sink of its own, and relies on the contract of [`HeadReader::feed`] and on
 //! [`laws::what_an_octet_completes`]. Writers of objects and envelopes spell tags by [`head_bytes`]. Sources and targets are reached by
 //! [`take`] and [`put`] alone.
@@ -14,10 +14,12 @@ mod front;
 mod head;
 pub mod laws;
 mod name;
+pub mod octets;
 mod place;
 mod reader;
 mod shown;
 mod sink;
+mod size;
 mod source;
 mod stop;
 mod target;
@@ -25,12 +27,13 @@ mod trial;
 
 pub use device::IoFault;
 pub use fault::{Fault, FaultCause};
-pub use head::{Head, HeadCause, HeadFault, TAG_MARKER, head_bytes};
+pub use head::{Head, HeadCause, HeadFault, TAG_MARKER, TAG_OCTETS, head_bytes};
 pub use name::DatasetName;
-pub use place::DatasetPlace;
+pub use place::{DatasetPlace, HELD_OCTETS};
 pub use reader::HeadReader;
 pub use shown::{push_escape, push_shown};
 pub use sink::{DatasetSink, Step};
+pub use size::{COUNT_OCTETS, GREATEST_SIZE};
 pub use source::{FromRead, Source, take};
 pub use stop::Stop;
 pub use target::{FromWrite, Target, put};

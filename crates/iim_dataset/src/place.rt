@@ -2,19 +2,17 @@
 
 ghost use Rattle.std.specs.Prelude.{◌≡◌, ◌↔◌, ◌+◌, ◌≤◌, ◌++◌, ℕ, List, length, take, IsTrue, IfOk, IfErr, MatchOption};
 ghost use Rattle.arrayvec.specs.ArrayVec.{array_vec_len};
-ghost use Rattle.iim_dataset.specs.Datasets.{SpellsTag, count_octets};
-ghost use Rattle.iim_dataset.specs.Places.{IsPlace};
-ghost use Rattle.iim_dataset.specs.Tags.{BeginsTag, HasTag, HasNoTag};
+ghost use Rattle.iim_dataset.specs.Format.Datasets.{SpellsTag, count_octets};
+ghost use Rattle.iim_dataset.specs.Format.Places.{IsPlace};
+ghost use Rattle.iim_dataset.specs.Format.Tags.{BeginsTag, HasTag, HasNoTag};
 
-use crate::head::{Head, HeadFault, MAX_COUNT, read_head};
+use crate::head::{Head, HeadFault, TAG_OCTETS, read_head};
 use crate::laws::no_tag_begins_another;
+use crate::size::GREATEST_SIZE;
 use arrayvec::ArrayVec;
 
-/// The most octets of a tag.
-const TAG_OCTETS: usize = 9;
-
 /// The most octets of a tag that is not whole.
-pub(crate) const HELD_OCTETS: usize = 8;
+pub const HELD_OCTETS: usize = TAG_OCTETS - 1;
 
 /// Where the next octet of a stream of datasets stands.
 #[derive(Debug, Drop)]
@@ -40,8 +38,8 @@ pub(crate) fn lengthen<const ROOM: usize>(held: &mut ArrayVec<u8, ROOM>, octets:
 
 /// The first octets of two slices, joined: as many as a tag may have.
 fn tag_room(held: &[u8], next: &[u8]) -> ArrayVec<u8, TAG_OCTETS>
-    requires { length held.now ≤ 8 }
-    ensures { result.items ≡ take 9 (held.now ++ next.now) }
+    requires { length held.now ≤ HELD_OCTETS }
+    ensures { result.items ≡ take TAG_OCTETS (held.now ++ next.now) }
 {
     let mut tag = ArrayVec::new();
     lengthen(&mut tag, held);
@@ -52,7 +50,7 @@ fn tag_room(held: &[u8], next: &[u8]) -> ArrayVec<u8, TAG_OCTETS>
 
 /// Reads the tag that begins with the held octets and continues with the next ones, as [`read_head`] does.
 pub(crate) fn read_tag(held: &[u8], next: &[u8]) -> Result<Option<(Head, usize)>, HeadFault>
-    requires { length held.now ≤ 8 }
+    requires { length held.now ≤ HELD_OCTETS }
     ensures found { IfOk result (λ found. MatchOption found (BeginsTag count_octets (held.now ++ next.now)) (λ f. HasTag (held.now ++ next.now) f.0 f.1)) }
     ensures fault { IfErr result (HasNoTag (held.now ++ next.now)) }
 {
@@ -70,11 +68,11 @@ fn begins_tag(octets: &[u8]) -> bool
     matches!(read_head(octets), Ok(None))
 }
 
-/// Whether a tag can tell so many octets of data.
+/// Whether a tag can tell `head.count` octets of data.
 fn is_told(head: Head) -> bool
     ensures { IsTrue result ↔ ((tag : List ℕ) × SpellsTag count_octets head tag) }
 {
-    head.count <= MAX_COUNT
+    head.count <= GREATEST_SIZE
 }
 
 /// Whether some octets lead to the place.

@@ -1,7 +1,8 @@
 //! The reader of datasets, for any cut into pieces.
 
-ghost use Rattle.std.specs.Prelude.{◌≡◌, ◌<◌, ◌≤◌, ℕ, List, [], length, take, IsTrue, IsSome, IfSome, MatchOption, ◌↔◌, IfOk, IfErr, OnOk, OnErr};
-ghost use Rattle.iim_dataset.specs.Events.{Event};
+ghost use Rattle.std.specs.Prelude.{◌≡◌, ℕ, List, [], IsTrue, IsSome, IfSome, MatchOption, ◌↔◌, IfOk, IfErr, OnOk, OnErr};
+ghost use Rattle.iim_dataset.specs.Format.Datasets.{count_octets};
+ghost use Rattle.iim_dataset.specs.Format.Events.{DatasetEvent};
 
 use crate::fault::Fault;
 use crate::front::{start, take_piece};
@@ -20,8 +21,8 @@ pub struct HeadReader {
 }
 
 impl Model for HeadReader {
-    ghost use Rattle.iim_dataset.specs.Places.{IsPlace};
-    ghost use Rattle.iim_dataset.specs.Reading.{Reader};
+    ghost use Rattle.iim_dataset.specs.Format.Places.{IsPlace};
+    ghost use Rattle.iim_dataset.specs.Format.Reading.{Reader};
 
     ghost Value = { Reader };
 
@@ -30,8 +31,8 @@ impl Model for HeadReader {
     ghost invariant = { λ reader. IsPlace reader.place };
 }
 
-ghost use Rattle.iim_dataset.specs.Places.{LeadsTo, Tells, between, named_by, to_come};
-ghost use Rattle.iim_dataset.specs.Reading.{StandsAt, TakesCalls, IsFailed, Refuses, TookAll, StillStands, is_of};
+ghost use Rattle.iim_dataset.specs.Format.Places.{LeadsTo, between, named_by, to_come};
+ghost use Rattle.iim_dataset.specs.Format.Reading.{StandsAt, TakesCalls, IsFailed, TakesPiece, RefusesOne};
 
 impl HeadReader {
     /// The reader of a stream of which no octet has come.
@@ -67,7 +68,7 @@ impl HeadReader {
     /// data that a tag can count.
     pub fn at(place: DatasetPlace) -> Option<HeadReader>
         ensures place { IfSome result (λ reader. (reader.place ≡ place) × TakesCalls reader) }
-        ensures exactly { IsSome result ↔ ((octets : List ℕ) × (events : List Event) × LeadsTo octets events place) }
+        ensures exactly { IsSome result ↔ ((octets : List ℕ) × (events : List DatasetEvent) × LeadsTo count_octets octets events place) }
     {
         places_are_reached();
         if !is_place(&place) {
@@ -99,19 +100,15 @@ impl HeadReader {
         requires takes_calls { TakesCalls self.old }
         requires stands { D.stands sink.old (to_come self.old.place) }
 
-        // The used octets lead on, and the sink was told what they complete.
+        // The used octets lead on, and the sink was told what they complete. It takes what comes next, or has ended.
         ensures takes_calls { OnOk result (TakesCalls self.new) }
-        ensures within { IfOk result (λ used. used ≤ length octets.now) }
-        ensures told { IfOk result (λ used.
-            Tells D.goes self.old.place (take used octets.now) self.new.place sink.old sink.new) }
-        ensures onward { IfOk result (TookAll D.stands D.ends self.new.place sink.new (length octets.now)) }
+        ensures taken { IfOk result (λ used.
+            TakesPiece D.goes D.stands D.ends self.old.place octets.now self.new.place used sink.old sink.new) }
 
         // With the refused octet no tag can continue, or the sink stopped at what it completes.
         ensures failed { OnErr result (IsFailed self.new) }
-        ensures before { IfErr result (λ fault. fault.used < length octets.now) }
         ensures refused { IfErr result (λ fault.
-            Refuses D.goes D.stops self.old.place octets.now fault self.new.place sink.old sink.new) }
-        ensures open { IfErr result (λ fault. StillStands D.stands (is_of fault.cause) self.new.place sink.new) }
+            RefusesOne D.goes D.stops D.stands self.old.place octets.now fault self.new.place sink.old sink.new) }
     {
         let place = mem::replace(&mut self.place, start());
         match take_piece(place, octets, sink) {

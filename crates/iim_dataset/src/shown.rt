@@ -1,7 +1,7 @@
 //! Octets as text that can be printed.
 
 ghost use Rattle.std.specs.Prelude.{◌≡◌, ◌++◌, ◌<◌, OnOk};
-ghost use Rattle.iim_dataset.specs.Shown.{escape, hex_digit, is_plain, shown};
+ghost use Rattle.iim_dataset.specs.Format.Shown.{escape, hex_digit, is_plain, shown};
 
 use std::alloc::AllocError;
 

@@ -1,8 +1,8 @@
 //! Where datasets go.
 
 ghost use Rattle.std.specs.Prelude.{◌≡◌, ◌-◌, ◌<◌, ◌≤◌, ◌++◌, [], ◌∷◌, List, ℕ, length, map, take, slice_index, Option, Some, None, IfOk, IfErr, OnOk, OnErr};
-ghost use Rattle.iim_dataset.specs.Events.{Event, HeadRead, DataOctet, DatasetEnd};
-ghost use Rattle.iim_dataset.specs.Reading.{Answers};
+ghost use Rattle.iim_dataset.specs.Format.Events.{DatasetEvent, HeadRead, DataOctet, DatasetEnd};
+ghost use Rattle.iim_dataset.specs.Format.Reading.{Answers};
 
 use crate::head::Head;
 use crate::stop::Stop;
@@ -19,10 +19,10 @@ pub enum Step {
 /// Where datasets go: of each its head, its data in any cut, and its end. A sink may refuse any of them.
 pub trait DatasetSink {
     /// From one value to another by these events, told in this order.
-    ghost goes: { Self → List Event → Self → Type 0 };
+    ghost goes: { Self → List DatasetEvent → Self → Type 0 };
 
     /// From one value to another by these events, where the next one was refused.
-    ghost stops: { Self → List Event → Event → Self → Type 0 };
+    ghost stops: { Self → List DatasetEvent → DatasetEvent → Self → Type 0 };
 
     /// It takes calls, and this number of octets of the begun dataset is to come; None between datasets.
     ghost stands: { Self → Option ℕ → Type 0 };
@@ -59,8 +59,8 @@ pub trait DatasetSink {
     ghost nothing: { (sink : Self) → goes sink [] sink };
 
     /// Events and then others lead where all of them joined lead.
-    ghost joined: { (a b c : Self) (xs ys : List Event) → goes a xs b → goes b ys c → goes a (xs ++ ys) c };
+    ghost joined: { (a b c : Self) (xs ys : List DatasetEvent) → goes a xs b → goes b ys c → goes a (xs ++ ys) c };
 
     /// A refusal after events is one after all of them joined.
-    ghost joined_stop: { (a b c : Self) (xs ys : List Event) (refused : Event) → goes a xs b → stops b ys refused c → stops a (xs ++ ys) refused c };
+    ghost joined_stop: { (a b c : Self) (xs ys : List DatasetEvent) (refused : DatasetEvent) → goes a xs b → stops b ys refused c → stops a (xs ++ ys) refused c };
 }

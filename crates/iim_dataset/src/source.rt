@@ -1,7 +1,7 @@
 //! Where octets come from.
 
 ghost use Rattle.std.specs.Prelude.{◌≡◌, ◌<◌, ℕ, length, IfOk, IfErr, OnOk};
-ghost use Rattle.iim_dataset.specs.Devices.{Device, Gave, Calm, Faulted, Took, Missed, WithinInterruptionLimit, LaterThan, unbroken, reader_device};
+ghost use Rattle.iim_dataset.specs.Format.Devices.{Device, Gave, Calm, Faulted, Took, Missed, WithinInterruptionLimit, LaterThan, unbroken, reader_device};
 
 use crate::device::{Faults, IoFault, MAX_INTERRUPTIONS};
 use std::io::Read;
@@ -26,7 +26,7 @@ pub trait Source {
     ghost stays: { (a : Self) → leads a a };
 
     /// Reads and then others lead where all of them lead.
-    ghost goes_on: { (a b c : Self) → leads a b → leads b c → leads a c };
+    ghost leads_on: { (a b c : Self) → leads a b → leads b c → leads a c };
 }
 
 /// Reads once, past interruptions: the millionth in a row is answered. Answers how many octets stand at the front of
@@ -70,11 +70,11 @@ impl<R: Read> Source for FromRead<R> {
 
     ghost leads = { λ old new. LaterThan (reader_device R.remaining old) (reader_device R.remaining new) };
 
-    ghost use Rattle.iim_dataset.specs.Later.{later_stays, later_goes_on};
+    ghost use Rattle.iim_dataset.specs.Later.{later_stays, later_leads_on};
 
     ghost stays = { λ a. later_stays (reader_device R.remaining a) };
 
-    ghost goes_on = { λ a b c. later_goes_on (reader_device R.remaining a) (reader_device R.remaining b) (reader_device R.remaining c) };
+    ghost leads_on = { λ a b c. later_leads_on (reader_device R.remaining a) (reader_device R.remaining b) (reader_device R.remaining c) };
 
     fn read(&mut self, buffer: &mut [u8]) -> Result<usize, IoFault> {
         match self.reader.read(buffer) {

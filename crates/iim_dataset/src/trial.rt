@@ -1,8 +1,8 @@
 //! A reader and a writer that fail at a chosen call, for tests.
 
 ghost use Rattle.std.specs.Prelude.{◌≡◌, ◌≤◌, [], Some, None, drop, IfOk, IfErr, OnOk};
-ghost use Rattle.iim_dataset.specs.Devices.{Gave, Accepted, Calm, Faulted, CountedFailure, unbroken};
-ghost use Rattle.iim_dataset.specs.Trials.{planned, new_plan, trial_device, reader_plan, writer_plan, taken_octets, trial_target, TakesOne, WentWell, MetTrouble, GoesByPlan, ReadsOn};
+ghost use Rattle.iim_dataset.specs.Format.Devices.{Gave, Accepted, Calm, Faulted, CountedFailure, unbroken};
+ghost use Rattle.iim_dataset.specs.Format.Trials.{planned, new_plan, trial_device, reader_plan, writer_plan, taken_octets, trial_target, TakesOne, WentWell, MetTrouble, GoesByPlan, ReadsOn};
 
 use crate::device::IoFault;
 use crate::source::Source;
@@ -101,11 +101,11 @@ impl Source for TrialReader<'_> {
 
     ghost leads = { ReadsOn };
 
-    ghost use Rattle.iim_dataset.specs.TrialLaws.{reads_on_stays, reads_on_goes_on};
+    ghost use Rattle.iim_dataset.specs.TrialLaws.{reads_on_stays, reads_on_leads_on};
 
     ghost stays = { reads_on_stays };
 
-    ghost goes_on = { reads_on_goes_on };
+    ghost leads_on = { reads_on_leads_on };
 
     fn read(&mut self, buffer: &mut [u8]) -> Result<usize, IoFault>
         ensures ok { IfOk result (Gave (trial_device self.old) (trial_device self.new) buffer.new) }

@@ -2,13 +2,14 @@
 use Rattle.std.proofs.Common.{◌≡◌, ℕ, ◌+◌, Bool, true, not, cond, List, [], ◌∷◌, ◌++◌, length, ap, sym, ◌∙◌, arith, subst, append-nil, length-append, Option, Some, None}
 use Rattle.std.specs.Prelude.{vec_len, vec_capacity}
 use Rattle.std.specs.Option.{option_or}
-use Rattle.iim_dataset.specs.Datasets.{Dataset, head_of}
+use Rattle.iim_dataset.specs.Format.Datasets.{Dataset, head_of}
 use Rattle.iim_dataset.specs.declared.head.Head.{Head}
-use Rattle.iim_fields.specs.Faults.{record_fault, limits_fault, room_fault, value_fault, first_fault, is_kept, kept, joined, fault_on}
-use Rattle.iim_fields.specs.Values.{data_of, number_told}
-use Rattle.iim_fields.specs.Checks.{HasChecked, IsChecking, HasTaken, IsRecordFault, IsValueFault}
+use Rattle.iim_fields.specs.Format.Faults.{record_fault, limits_fault, room_fault, value_fault, first_fault, is_kept, kept, joined, fault_on}
+use Rattle.iim_fields.specs.Format.Values.{data_of, number_told}
+use Rattle.iim_fields.specs.Format.Checks.{HasChecked, IsChecking, HasTaken, IsRecordFault, IsValueFault}
 use Rattle.iim_fields.specs.Stores.{Holds, fields_of}
-use Rattle.iim_fields.specs.Builders.{IsBuilding, add_fault}
+use Rattle.iim_fields.specs.Building.{IsBuilding}
+use Rattle.iim_fields.specs.Format.Builders.{add_fault}
 use Rattle.iim_fields.specs.declared.limits.Limits.{Limits}
 use Rattle.iim_fields.specs.declared.store.Store.{Store}
 use Rattle.iim_fields.specs.declared.fault.FieldFault.{FieldFault}

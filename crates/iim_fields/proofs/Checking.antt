@@ -6,21 +6,23 @@ use Rattle.std.specs.Option.{option_or}
 use Rattle.std.proofs.lemmas.List.Folds.{list_any-append}
 use Rattle.std.proofs.lemmas.Bool.{leb-true, and_parts, and_from}
 use Rattle.std.proofs.lemmas.Bool.Decides.{eqb_tells}
-use Rattle.iim_dataset.specs.Octets.{Octets, number}
-use Rattle.iim_dataset.specs.Datasets.{Dataset, head_of}
+use Rattle.iim_dataset.specs.Format.Octets.{Octets, number, within}
+use Rattle.iim_dataset.specs.Format.Datasets.{Dataset, head_of, of_record}
 use Rattle.iim_dataset.specs.declared.head.Head.{Head}
-use Rattle.iim_tables.specs.Octets.{within}
-use Rattle.iim_tables.specs.Rows.{row_of, is_admitted}
+use Rattle.iim_tables.specs.Format.Rows.{row_of, is_admitted}
 use Rattle.iim_tables.specs.declared.shape.Row.{Row}
-use Rattle.iim_tables.specs.Kinds.{has_kind}
+use Rattle.iim_tables.specs.Format.Kinds.{has_kind}
 use Rattle.iim_tables.specs.declared.shape.Kind.{Kind}
 use Rattle.iim_tables.specs.declared.shape.Kind.TheVariants as kinds
-use Rattle.iim_fields.specs.Records.{occurs, records, after, is_file_format}
-use Rattle.iim_fields.specs.Alive.{IsAlive, IsAliveAt}
-use Rattle.iim_fields.specs.Faults.{head_fault, record_fault, value_fault, fault_by_row, limits_fault, present_record, present_run, of_record}
-use Rattle.iim_fields.specs.Orders.{nothing, has_seen, Tells, Takes}
-use Rattle.iim_fields.specs.Values.{data_of, number_told}
-use Rattle.iim_fields.specs.Checks.{TakesHead, AwaitsNone, IsIn, HasChecked, IsChecking, HasTaken, IsRecordPlace, IsRecordFault, IsValueFault}
+use Rattle.iim_fields.specs.Format.Records.{records, after}
+use Rattle.iim_tables.specs.Format.Records.{occurs, is_file_format}
+use Rattle.iim_fields.specs.Format.Alive.{SectionsLive, SectionsLiveAt}
+use Rattle.iim_fields.specs.Format.Faults.{head_fault, record_fault, value_fault, fault_by_row, limits_fault, present_record, present_run}
+use Rattle.iim_fields.specs.Format.Orders.{nothing, has_seen, IsOrderOf}
+use Rattle.iim_fields.specs.Orders.{AddsHead}
+use Rattle.iim_fields.specs.Format.Values.{data_of, number_told}
+use Rattle.iim_fields.specs.Format.Checks.{TakesHead, AwaitsNone, IsIn, HasChecked, IsChecking, HasTaken, IsRecordFault, IsValueFault}
+use Rattle.iim_fields.specs.Checking.{IsRecordPlace}
 use Rattle.iim_fields.specs.declared.order.Order.{Order}
 use Rattle.iim_fields.specs.declared.check.Begun.{Begun}
 use Rattle.iim_fields.specs.declared.check.RecordPlace.{RecordPlace}
@@ -45,7 +47,7 @@ or_swap true false = refl
 or_swap false true = refl
 or_swap false false = refl
 
-pub tells_start : (o : Order) → o.rec ≡ 0 → o.seen ≡ nothing → Tells o []
+pub tells_start : (o : Order) → o.rec ≡ 0 → o.seen ≡ nothing → IsOrderOf o []
 tells_start o first none = record {
   places = ap (λ (xs : List Bool). length xs) none;
   present = first;
@@ -55,7 +57,7 @@ tells_start o first none = record {
 occurs_more : (n : ℕ) (ds : List Dataset) (d : Dataset) → occurs n (present_run (ds ++ d ∷ [])) ≡ (occurs n (of_record d.rec ds) || (nat_eq d.set n || false))
 occurs_more n ds d = ap (occurs n) (run_more ds d) ∙ list_any-append (λ (x : Dataset). nat_eq x.set n) (of_record d.rec ds) (d ∷ [])
 
-tells_same : (o new : Order) (ds : List Dataset) (d : Dataset) → d.set < 256 → d.rec ≡ present_record ds → Takes o (head_of d) new → Tells o ds → Tells new (ds ++ d ∷ [])
+tells_same : (o new : Order) (ds : List Dataset) (d : Dataset) → d.set < 256 → d.rec ≡ present_record ds → AddsHead o (head_of d) new → IsOrderOf o ds → IsOrderOf new (ds ++ d ∷ [])
 tells_same o new ds d fits same takes tells =
     let seen = takes.same (same ∙ sym tells.present) in
     let room : d.set < length o.seen = omega (arith, tells.places) in
@@ -66,7 +68,7 @@ tells_same o new ds d fits same takes tells =
           ∙ (or_swap (nat_eq d.set n) (occurs n (present_run ds)) ∙ (ap (λ (r : ℕ). occurs n (of_record r ds) || (nat_eq d.set n || false)) (sym same) ∙ sym (occurs_more n ds d)))));
     }
 
-tells_next : (o new : Order) (ds : List Dataset) (d : Dataset) → d.set < 256 → (d.rec ≡ present_record ds → ⊥) → of_record d.rec ds ≡ [] → Takes o (head_of d) new → Tells o ds → Tells new (ds ++ d ∷ [])
+tells_next : (o new : Order) (ds : List Dataset) (d : Dataset) → d.set < 256 → (d.rec ≡ present_record ds → ⊥) → of_record d.rec ds ≡ [] → AddsHead o (head_of d) new → IsOrderOf o ds → IsOrderOf new (ds ++ d ∷ [])
 tells_next o new ds d fits differ fresh takes tells =
     let seen = takes.next (λ e. differ (e ∙ tells.present)) in
     let room : d.set < length nothing = omega arith in
@@ -78,7 +80,7 @@ tells_next o new ds d fits differ fresh takes tells =
     }
 
 pub tells_more : (o new : Order) (ds : List Dataset) (d : Dataset) → Follows ds → d.set < 256 → HasNoFault (present_record ds) (λ n. occurs n (present_run ds)) (head_of d)
-    → Takes o (head_of d) new → Tells o ds → Tells new (ds ++ d ∷ [])
+    → AddsHead o (head_of d) new → IsOrderOf o ds → IsOrderOf new (ds ++ d ∷ [])
 tells_more o new ds d follows fits f takes tells = elim (in_order_cases (present_record ds) d.rec f.order) [
   | inl same ↦ tells_same o new ds d fits same takes tells
   | inr next ↦ tells_next o new ds d fits (λ same. not_after_itself (present_record ds) d.rec (after d.rec) next (sym same))
@@ -86,7 +88,7 @@ tells_more o new ds d follows fits f takes tells = elim (in_order_cases (present
 ]
 
 -- the fault by what is kept is the fault by the datasets
-pub record_fault_is : (o : Order) (ds : List Dataset) (h : Head) → Tells o ds → head_fault o.rec (has_seen o) h ≡ record_fault ds h
+pub record_fault_is : (o : Order) (ds : List Dataset) (h : Head) → IsOrderOf o ds → head_fault o.rec (has_seen o) h ≡ record_fault ds h
 record_fault_is o ds h tells = λ i. head_fault (tells.present i) (λ n. tells.seen n i) h
 
 -- the count of a head without a fault is within its row
@@ -119,7 +121,7 @@ subfile_fine row d kind fits other =
     fine true true e f g h k = absurd cc
     fine false b e f g h k = absurd cc
 
-subfile_value : (ds : List Dataset) (d : Dataset) → IsAliveAt ds (head_of d) → d.rec ≡ 8 → value_fault d ≡ None
+subfile_value : (ds : List Dataset) (d : Dataset) → SectionsLiveAt ds (head_of d) → d.rec ≡ 8 → value_fault d ≡ None
 subfile_value ds d at eight =
     let f = no_fault_parts (present_record ds) (λ n. occurs n (present_run ds)) (head_of d) (head_no_fault ds (head_of d) at) in
     let known : row_of 8 d.set ≡ Some f.row = subst (λ (r : ℕ). row_of r d.set ≡ Some f.row) eight f.known in
@@ -132,7 +134,7 @@ zeros_are (suc n) = (omega arith, zeros_are n)
 
 -- ---- the start
 
-pub start_alive : EachRowHasValues → IsAlive []
+pub start_alive : EachRowHasValues → SectionsLive []
 start_alive values = records_to_come values records
 
 pub checked_start : EachRowHasValues → (o : Order) → o.rec ≡ 0 → o.seen ≡ nothing → HasChecked (Some (record { order = o; begun = None })) []
@@ -165,7 +167,7 @@ not_both check o p a begun e none f other = other (subst AwaitsNone (one_begun c
 
 -- ---- a head
 
--- a dataset with so many octets, each 0
+-- a dataset with this head: `h.count` octets, each 0
 pub some_data : (h : Head) → (d : Dataset) × (head_of d ≡ h) × Octets d.octets
 some_data h =
     let zeros : List ℕ = replicate h.count 0 in
@@ -176,19 +178,19 @@ pub in_by : (new : RecordPlace) (h : Head) (row : Row) → new.begun ≡ Some (r
 in_by new h row begun known = record { order = new.order; row = row; inside = (λ i. Some (record { order = new.order; begun = begun i })); known = known }
 
 -- the head was taken
-pub taken_by : EachRowHasValues → (old new : RecordPlace) (h : Head) (row : Row) → h.set < 256 → Takes old.order h new.order → new.begun ≡ Some (record { head = h; row = row }) → row_of h.rec h.set ≡ Some row
+pub taken_by : EachRowHasValues → (old new : RecordPlace) (h : Head) (row : Row) → h.set < 256 → AddsHead old.order h new.order → new.begun ≡ Some (record { head = h; row = row }) → row_of h.rec h.set ≡ Some row
     → head_fault old.order.rec (has_seen old.order) h ≡ None → (ds : List Dataset) → HasChecked (Some old) ds → HasTaken (Some new) ds h
 taken_by values old new h row small takes begun known none ds s =
     let order_is = order_at old s.order s.begun s.at in
-    let told : Tells old.order ds = subst (λ (o : Order). Tells o ds) (sym order_is) s.tells in
+    let told : IsOrderOf old.order ds = subst (λ (o : Order). IsOrderOf o ds) (sym order_is) s.tells in
     let follows = alive_follows ds s.alive in
     let ok : record_fault ds h ≡ None = sym (record_fault_is old.order ds h told) ∙ none in
     let f = no_fault_parts (present_record ds) (λ n. occurs n (present_run ds)) h ok in
-    let at : IsAliveAt ds h = head_alive values ds h s.alive small ok in
-    let more : (d : Dataset) → head_of d ≡ h → Tells new.order (ds ++ d ∷ []) =
+    let at : SectionsLiveAt ds h = head_alive values ds h s.alive small ok in
+    let more : (d : Dataset) → head_of d ≡ h → IsOrderOf new.order (ds ++ d ∷ []) =
     λ d is. tells_more old.order new.order ds d follows (omega (arith, ap (λ (k : Head). k.set) is))
     (subst (λ (k : Head). HasNoFault (present_record ds) (λ n. occurs n (present_run ds)) k) (sym is) f)
-    (subst (λ (k : Head). Takes old.order k new.order) (sym is) takes) told in
+    (subst (λ (k : Head). AddsHead old.order k new.order) (sym is) takes) told in
     record {
       checking = λ other. record {
         order = new.order;
@@ -204,7 +206,7 @@ taken_by values old new h row small takes begun known none ds s =
         begun = Some (record { head = h; row = row });
         at = (λ i. Some (record { order = new.order; begun = begun i }));
         none = eight;
-        alive = value_alive values ds d (subst (IsAliveAt ds) (sym is) at) octets (subfile_value ds d (subst (IsAliveAt ds) (sym is) at) (ap (λ (k : Head). k.rec) is ∙ eight));
+        alive = value_alive values ds d (subst (SectionsLiveAt ds) (sym is) at) octets (subfile_value ds d (subst (SectionsLiveAt ds) (sym is) at) (ap (λ (k : Head). k.rec) is ∙ eight));
         tells = more d is;
       };
     }
@@ -213,7 +215,7 @@ taken_by values old new h row small takes begun known none ds s =
 pub record_fault_by : (old : RecordPlace) (h : Head) (fault : FieldFault) → head_fault old.order.rec (has_seen old.order) h ≡ Some fault → (ds : List Dataset) → HasChecked (Some old) ds
     → IsRecordFault ds h fault
 record_fault_by old h fault some ds s =
-    let told : Tells old.order ds = subst (λ (o : Order). Tells o ds) (sym (order_at old s.order s.begun s.at)) s.tells in
+    let told : IsOrderOf old.order ds = subst (λ (o : Order). IsOrderOf o ds) (sym (order_at old s.order s.begun s.at)) s.tells in
     let first : record_fault ds h ≡ Some fault = sym (record_fault_is old.order ds h told) ∙ some in
     record {
       first = first;
@@ -251,7 +253,7 @@ checked_value values old new begun xs number is order none count small fine told
         begun = None;
         at = λ i. Some (record { order = (order ∙ one.0) i; begun = none i });
         none = tt;
-        alive = value_alive values ds (data_of h xs) (subst (IsAliveAt ds) (sym at) s.alive) (octets_of xs small) (subst (λ (k : Head). value_fault (data_of k xs) ≡ None) head fine);
+        alive = value_alive values ds (data_of h xs) (subst (SectionsLiveAt ds) (sym at) s.alive) (octets_of xs small) (subst (λ (k : Head). value_fault (data_of k xs) ≡ None) head fine);
         tells = s.tells (data_of h xs) at;
       },
       told ∙ ap (λ (k : Head). number_told (data_of k xs)) head,

@@ -5,16 +5,16 @@ use Rattle.std.specs.List.{AllByRecursion, find}
 use Rattle.std.specs.Option.{option_or}
 use Rattle.std.proofs.lemmas.Bool.{and_parts, and_from, or_cases, eqb-true}
 use Rattle.std.proofs.lemmas.Bool.Decides.{eqb_tells}
-use Rattle.iim_dataset.specs.Octets.{IsOctet, Octets}
-use Rattle.iim_dataset.specs.Datasets.{Dataset, head_of}
+use Rattle.iim_dataset.specs.Format.Octets.{IsOctet, Octets, within}
+use Rattle.iim_dataset.specs.Format.Datasets.{Dataset, head_of}
 use Rattle.iim_dataset.specs.declared.head.Head.{Head}
-use Rattle.iim_tables.specs.Octets.{within}
-use Rattle.iim_tables.specs.Kinds.{has_kind}
-use Rattle.iim_tables.specs.Rows.{row_of, is_admitted}
+use Rattle.iim_tables.specs.Format.Kinds.{has_kind}
+use Rattle.iim_tables.specs.Format.Rows.{row_of, is_admitted}
 use Rattle.iim_tables.specs.declared.shape.Row.{Row}
-use Rattle.iim_fields.specs.Records.{mandatory, after, repeats, may_repeat, occurs, occurrences, has_file_format, IsGoodDataset, IsGoodRecord, AreSections}
-use Rattle.iim_fields.specs.Alive.{IsAlive, IsAliveAt}
-use Rattle.iim_fields.specs.Faults.{present_record, present_run, is_first, is_in_order, fault_on, row_fault, missing_fault, missing_of, head_fault, record_fault, fault_by_row, value_fault}
+use Rattle.iim_fields.specs.Format.Records.{after, AreSections}
+use Rattle.iim_tables.specs.Format.Records.{mandatory, repeats, may_repeat, occurs, occurrences, has_file_format, IsGoodDataset, IsGoodRecord}
+use Rattle.iim_fields.specs.Format.Alive.{SectionsLive, SectionsLiveAt}
+use Rattle.iim_fields.specs.Format.Faults.{present_record, present_run, is_first, is_in_order, fault_on, row_fault, missing_fault, missing_of, head_fault, record_fault, fault_by_row, value_fault}
 use Rattle.iim_fields.specs.declared.fault.FieldFault.{FieldFault}
 use Rattle.iim_fields.specs.declared.fault.FieldCause.TheVariants.{RecordOrder, BadValue, FileFormat}
 use Rattle.iim_fields.proofs.Table.{EachRowHasValues, after_tail, not_after_itself, no_row, value_for}
@@ -243,11 +243,11 @@ may_come r xs d false false rep occ h = inr occ
 may_repeat_of : (r n : ℕ) (row : Row) → row_of r n ≡ Some row → repeats r n ≡ row.repeats
 may_repeat_of r n row e = ap may_repeat e
 
-alive_from : (ds : List Dataset) (d : Dataset) (more : List Dataset) → Follows ds → From ds (d ∷ more) → IsAlive (ds ++ d ∷ [])
+alive_from : (ds : List Dataset) (d : Dataset) (more : List Dataset) → Follows ds → From ds (d ∷ more) → SectionsLive (ds ++ d ∷ [])
 alive_from ds d more follows from = (more, subst AreSections (sym (append_assoc ds (d ∷ []) more)) (follows.comes (d ∷ more) from))
 
 same_alive : EachRowHasValues → (ds : List Dataset) (d : Dataset) → Follows ds → IsPart (present_record ds) (present_run ds) → IsGoodDataset d
-    → HasNoFault (present_record ds) (λ n. occurs n (present_run ds)) (head_of d) → d.rec ≡ present_record ds → IsAlive (ds ++ d ∷ [])
+    → HasNoFault (present_record ds) (λ n. occurs n (present_run ds)) (head_of d) → d.rec ≡ present_record ds → SectionsLive (ds ++ d ∷ [])
 same_alive values ds d follows part good f same =
     let present : ℕ = present_record ds in
     let is : nat_eq d.rec present ≡ true = subst (λ (q : ℕ). nat_eq d.rec q ≡ true) same (eq_itself d.rec) in
@@ -267,7 +267,7 @@ same_alive values ds d follows part good f same =
     }))
 
 next_alive : EachRowHasValues → (ds : List Dataset) (d : Dataset) → Follows ds → IsPart (present_record ds) (present_run ds) → IsGoodDataset d
-    → HasNoFault (present_record ds) (λ n. occurs n (present_run ds)) (head_of d) → after (present_record ds) ≡ d.rec ∷ after d.rec → IsAlive (ds ++ d ∷ [])
+    → HasNoFault (present_record ds) (λ n. occurs n (present_run ds)) (head_of d) → after (present_record ds) ≡ d.rec ∷ after d.rec → SectionsLive (ds ++ d ∷ [])
 next_alive values ds d follows part good f next =
     let present : ℕ = present_record ds in
     let whole = none_missing (λ k. occurs k (present_run ds)) (mandatory present) (f.whole (is_first_of present d.rec next)) in
@@ -284,7 +284,7 @@ next_alive values ds d follows part good f next =
     }))
 
 -- a head without a fault, and good data of it, may come
-pub alive_next : EachRowHasValues → (ds : List Dataset) (d : Dataset) → IsAlive ds → record_fault ds (head_of d) ≡ None → IsGoodDataset d → IsAlive (ds ++ d ∷ [])
+pub alive_next : EachRowHasValues → (ds : List Dataset) (d : Dataset) → SectionsLive ds → record_fault ds (head_of d) ≡ None → IsGoodDataset d → SectionsLive (ds ++ d ∷ [])
 alive_next values ds d alive none good =
     let follows = alive_follows ds alive in
     let part = part_so_far ds alive.0 (follows.goes alive.0 alive.1) in
@@ -296,23 +296,23 @@ alive_next values ds d alive none good =
 
 -- ---- the laws
 
-pub alive_before : (ds : List Dataset) (d : Dataset) → IsAlive (ds ++ d ∷ []) → IsAlive ds
+pub alive_before : (ds : List Dataset) (d : Dataset) → SectionsLive (ds ++ d ∷ []) → SectionsLive ds
 alive_before ds d alive = (d ∷ alive.0, subst AreSections (append_assoc ds (d ∷ []) alive.0) alive.1)
 
-pub from_alive : (ds : List Dataset) (d : Dataset) → (alive : IsAlive (ds ++ d ∷ [])) → From ds (d ∷ alive.0)
+pub from_alive : (ds : List Dataset) (d : Dataset) → (alive : SectionsLive (ds ++ d ∷ [])) → From ds (d ∷ alive.0)
 from_alive ds d alive = (alive_follows ds (alive_before ds d alive)).goes (d ∷ alive.0) (subst AreSections (append_assoc ds (d ∷ []) alive.0) alive.1)
 
-pub head_alive : EachRowHasValues → (ds : List Dataset) (h : Head) → IsAlive ds → IsOctet h.set → record_fault ds h ≡ None → IsAliveAt ds h
+pub head_alive : EachRowHasValues → (ds : List Dataset) (h : Head) → SectionsLive ds → IsOctet h.set → record_fault ds h ≡ None → SectionsLiveAt ds h
 head_alive values ds h alive small none =
     let f = no_fault_parts (present_record ds) (λ n. occurs n (present_run ds)) h none in
     let d = value_for values h f.row small f.known f.fits in
     (d.0, d.1, alive_next values ds d.0 alive (subst (λ (k : Head). record_fault ds k ≡ None) (sym d.1) none) d.2)
 
-pub head_no_fault : (ds : List Dataset) (h : Head) → IsAliveAt ds h → record_fault ds h ≡ None
+pub head_no_fault : (ds : List Dataset) (h : Head) → SectionsLiveAt ds h → record_fault ds h ≡ None
 head_no_fault ds h (d, is, alive) = subst (λ (k : Head). record_fault ds k ≡ None) is (from_no_fault ds d alive.0 (from_alive ds d alive))
 
 -- a head that continues has an octet for its number
-pub head_octet : (ds : List Dataset) (h : Head) → IsAliveAt ds h → IsOctet h.set
+pub head_octet : (ds : List Dataset) (h : Head) → SectionsLiveAt ds h → IsOctet h.set
 head_octet ds h (d, is, alive) = subst (λ (k : Head). IsOctet k.set) is (good_next ds d alive.0 (from_alive ds d alive)).numbered
 
 value_parts : (o : Option Row) (d : Dataset) → IsOctet d.set → row_of d.rec d.set ≡ o → Octets d.octets → fault_by_row o d ≡ None → IsGoodDataset d
@@ -348,8 +348,8 @@ value_built (Some own) d row known admitted format =
 pub good_value : (d : Dataset) → IsGoodDataset d → value_fault d ≡ None
 good_value d good = let m = meets_row (row_of d.rec d.set) d.octets good.meets in value_built (row_of d.rec d.set) d m.0 m.1 m.3 good.file_format
 
-pub value_alive : EachRowHasValues → (ds : List Dataset) (d : Dataset) → IsAliveAt ds (head_of d) → Octets d.octets → value_fault d ≡ None → IsAlive (ds ++ d ∷ [])
+pub value_alive : EachRowHasValues → (ds : List Dataset) (d : Dataset) → SectionsLiveAt ds (head_of d) → Octets d.octets → value_fault d ≡ None → SectionsLive (ds ++ d ∷ [])
 value_alive values ds d at octets none = alive_next values ds d (alive_before ds at.0 at.2) (head_no_fault ds (head_of d) at) (value_good d (head_octet ds (head_of d) at) octets none)
 
-pub value_no_fault : (ds : List Dataset) (d : Dataset) → IsAlive (ds ++ d ∷ []) → value_fault d ≡ None
+pub value_no_fault : (ds : List Dataset) (d : Dataset) → SectionsLive (ds ++ d ∷ []) → value_fault d ≡ None
 value_no_fault ds d alive = good_value d (good_next ds d alive.0 (from_alive ds d alive))

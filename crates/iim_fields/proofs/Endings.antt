@@ -3,13 +3,14 @@ use Rattle.std.proofs.Common.{◌≡◌, ℕ, ◌+◌, ◌<◌, ◌≤◌, false
 use Rattle.std.specs.Prelude.{IsSomeAnd, IsTrue, Option, None}
 use Rattle.std.specs.List.{AllByRecursion}
 use Rattle.std.proofs.lemmas.Bool.Decides.{eqb_tells}
-use Rattle.iim_dataset.specs.Datasets.{Dataset}
-use Rattle.iim_tables.specs.Rows.{table, row_of, is_admitted}
+use Rattle.iim_dataset.specs.Format.Datasets.{Dataset, of_record}
+use Rattle.iim_tables.specs.Format.Rows.{table, row_of, is_admitted}
 use Rattle.iim_tables.specs.declared.shape.Row.{Row}
-use Rattle.iim_fields.specs.Alive.{IsAlive}
-use Rattle.iim_fields.specs.Records.{after, repeats, occurrences, IsGoodDataset, IsGoodRecord, AreRecords, AreSections}
-use Rattle.iim_fields.specs.Faults.{last_record, present_record, of_record}
-use Rattle.iim_fields.specs.Laws.{EnvelopesEndWithTheLastRecord, NoSectionsBeginOthers}
+use Rattle.iim_fields.specs.Format.Alive.{SectionsLive}
+use Rattle.iim_fields.specs.Format.Records.{after, AreRecords, AreSections}
+use Rattle.iim_tables.specs.Format.Records.{repeats, occurrences, IsGoodDataset, IsGoodRecord}
+use Rattle.iim_fields.specs.Format.Faults.{last_record, present_record}
+use Rattle.iim_fields.specs.Format.Laws.{EnvelopesEndWithTheLastRecord, NoSectionsBeginOthers}
 use Rattle.iim_fields.proofs.Table.{mandatory_is}
 use Rattle.iim_fields.proofs.Runs.{not_empty, occurrences_append}
 use Rattle.iim_fields.proofs.Follows.{Follows, alive_follows, present_more, run_more}
@@ -42,9 +43,9 @@ all_ten (d ∷ ds) each =
 at_most_one : (ds : List Dataset) → IsGoodRecord 9 ds → length ds ≤ 1
 at_most_one ds good = let count = all_ten ds good.each in let most = good.once 10 once_ten in omega arith
 
-nothing_behind_one : (own run : List Dataset) → 0 < length own → IsGoodRecord 9 (own ++ run) → run ≡ []
-nothing_behind_one own [] some good = refl
-nothing_behind_one own (d ∷ run) some good =
+nothing_after_one : (own run : List Dataset) → 0 < length own → IsGoodRecord 9 (own ++ run) → run ≡ []
+nothing_after_one own [] some good = refl
+nothing_after_one own (d ∷ run) some good =
     let most = at_most_one (own ++ d ∷ run) good in absurd (omega (arith, length-append own (d ∷ run)))
 
 -- ---- the last dataset of an envelope is of record 9
@@ -78,7 +79,7 @@ nothing_more ds more follows last some sections =
     let (run, rest, parts, good, later) = follows.goes more sections in
     let none : rest ≡ [] = subst (λ (r : ℕ). AreRecords (after r) rest) last later in
     let one : IsGoodRecord 9 (of_record 9 ds ++ run) = subst (λ (r : ℕ). IsGoodRecord r (of_record r ds ++ run)) last good in
-    parts ∙ (λ i. nothing_behind_one (of_record 9 ds) run some one i ++ none i)
+    parts ∙ (λ i. nothing_after_one (of_record 9 ds) run some one i ++ none i)
 
 own_of_sections : (ds : List Dataset) → AreSections ds → Follows ds → 0 < length (of_record 9 ds)
 own_of_sections ds sections follows =
@@ -119,8 +120,8 @@ split_last d [] = ([], d, refl)
 split_last d (e ∷ ds) = let (front, last, is) = split_last e ds in (d ∷ front, last, ap (λ (xs : List Dataset). d ∷ xs) is)
 
 -- datasets that are alive, and whose last is of record 9, are whole
-pub whole_behind_nine : (ds : List Dataset) → IsAlive ds → present_record ds ≡ 9 → AreSections ds
-whole_behind_nine [] alive nine = absurd cc
-whole_behind_nine (d ∷ ds) alive nine =
+pub whole_after_nine : (ds : List Dataset) → SectionsLive ds → present_record ds ≡ 9 → AreSections ds
+whole_after_nine [] alive nine = absurd cc
+whole_after_nine (d ∷ ds) alive nine =
     let (front, last, is) = split_last d ds in
-    subst AreSections (sym is) ((envelopes_end front last (subst IsAlive is alive)).0 (sym (present_more front last) ∙ (ap present_record (sym is) ∙ nine)))
+    subst AreSections (sym is) ((envelopes_end front last (subst SectionsLive is alive)).0 (sym (present_more front last) ∙ (ap present_record (sym is) ∙ nine)))

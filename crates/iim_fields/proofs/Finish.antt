@@ -4,13 +4,16 @@ use Rattle.std.specs.List.{AllByRecursion, list_any, filter}
 use Rattle.std.specs.Option.{option_or}
 use Rattle.std.proofs.lemmas.List.Elements.{filter-append, filter_passes, recursion_from_All}
 use Rattle.std.proofs.lemmas.Bool.{or_cases, eqb-true}
-use Rattle.iim_dataset.specs.Datasets.{Dataset}
-use Rattle.iim_fields.specs.Records.{mandatory, after, occurs, IsGoodDataset, IsGoodRecord, AreRecords, AreSections}
-use Rattle.iim_fields.specs.Alive.{IsAlive}
-use Rattle.iim_fields.specs.Faults.{last_record, present_record, present_run, of_record, is_kept, kept, missing_fault, missing_of}
-use Rattle.iim_fields.specs.Orders.{has_seen, Tells, end_fault, no_application}
-use Rattle.iim_fields.specs.Builders.{IsEnvelope, IsEnvelopeStore, absent, finish_fault, IsBuilding}
-use Rattle.iim_fields.specs.Checks.{missing_at}
+use Rattle.iim_dataset.specs.Format.Datasets.{Dataset, of_record}
+use Rattle.iim_fields.specs.Format.Records.{after, AreRecords, AreSections}
+use Rattle.iim_tables.specs.Format.Records.{mandatory, occurs, IsGoodDataset, IsGoodRecord}
+use Rattle.iim_fields.specs.Format.Alive.{SectionsLive}
+use Rattle.iim_fields.specs.Format.Faults.{last_record, present_record, present_run, is_kept, kept, missing_fault, missing_of}
+use Rattle.iim_fields.specs.Format.Orders.{has_seen, IsOrderOf}
+use Rattle.iim_fields.specs.Orders.{end_fault, no_application}
+use Rattle.iim_fields.specs.Format.Builders.{IsEnvelope, absent, finish_fault}
+use Rattle.iim_fields.specs.Building.{IsEnvelopeStore, IsBuilding}
+use Rattle.iim_fields.specs.Checking.{missing_at}
 use Rattle.iim_fields.specs.Stores.{fields_of}
 use Rattle.iim_fields.specs.declared.limits.Limits.{Limits}
 use Rattle.iim_fields.specs.declared.store.Store.{Store}
@@ -46,7 +49,7 @@ after_two : (ds : List Dataset) (rest : List Dataset) → present_record ds ≡ 
 after_two ds rest two recs = subst (λ (r : ℕ). AreRecords (after r) rest) two recs
 
 -- record 1 is whole
-first_whole : (ds : List Dataset) → IsAlive ds → present_record ds ≡ 2 → IsGoodRecord 1 (of_record 1 ds)
+first_whole : (ds : List Dataset) → SectionsLive ds → present_record ds ≡ 2 → IsGoodRecord 1 (of_record 1 ds)
 first_whole ds alive two =
     let (run, rest, parts, good, later) = (alive_follows ds alive).goes alive.0 alive.1 in
     let (r1, rest1, parts1, good1, later1) = alive.1 in
@@ -69,7 +72,7 @@ missing_nothing : (r : ℕ) (o : Option ℕ) → o ≡ None → missing_fault r 
 missing_nothing r None h = refl
 missing_nothing r (Some n) h = absurd cc
 
-two_case : (ds : List Dataset) (o : Order) → IsAlive ds → Tells o ds → present_record ds ≡ 2 → end_fault 2 (has_seen o) ≡ finish_fault ds
+two_case : (ds : List Dataset) (o : Order) → SectionsLive ds → IsOrderOf o ds → present_record ds ≡ 2 → end_fault 2 (has_seen o) ≡ finish_fault ds
 two_case ds o alive tells two =
     let whole = all_there (λ n. occurs n (of_record 1 ds)) (mandatory 1) (first_whole ds alive two).mandatory in
     let first : absent 1 ds ≡ None = missing_nothing 1 (missing_of 1 (λ n. occurs n (of_record 1 ds))) whole in
@@ -114,11 +117,11 @@ nothing_of_zero d ds same zero = elim (last_kept d.rec ds (all_kept (d ∷ ds) s
   | inr is ↦ let bad : is_kept 0 ≡ true = ap is_kept (sym zero) ∙ is in cc
 ]
 
-zero_case : (ds : List Dataset) (o : Order) → kept ds ≡ ds → Tells o ds → present_record ds ≡ 0 → (n : ℕ) → has_seen o n ≡ occurs n (of_record 1 ds)
+zero_case : (ds : List Dataset) (o : Order) → kept ds ≡ ds → IsOrderOf o ds → present_record ds ≡ 0 → (n : ℕ) → has_seen o n ≡ occurs n (of_record 1 ds)
 zero_case [] o same tells zero n = tells.seen n
 zero_case (d ∷ ds) o same tells zero n = absurd (nothing_of_zero d ds same zero)
 
-pub end_fault_is : (ds : List Dataset) (o : Order) → IsAlive ds → kept ds ≡ ds → Tells o ds → end_fault o.rec (has_seen o) ≡ finish_fault ds
+pub end_fault_is : (ds : List Dataset) (o : Order) → SectionsLive ds → kept ds ≡ ds → IsOrderOf o ds → end_fault o.rec (has_seen o) ≡ finish_fault ds
 end_fault_is ds o alive same tells =
     let follows = alive_follows ds alive in
     elim (present_cases ds same) [
@@ -150,7 +153,7 @@ nothing_missing false present has is none =
     sym (ap (λ (b : Bool). cond b (missing_fault 2 (missing_of 2 has)) (option_or (missing_fault 1 (missing_of 1 has)) no_application)) is) ∙ none in
     absurd (second_not_none (missing_fault 1 (missing_of 1 has)) here)
 
-present_good : (ds : List Dataset) (o : Order) → IsAlive ds → Tells o ds → present_record ds ≡ 2 → missing_of 2 (has_seen o) ≡ None → IsGoodRecord 2 (present_run ds)
+present_good : (ds : List Dataset) (o : Order) → SectionsLive ds → IsOrderOf o ds → present_record ds ≡ 2 → missing_of 2 (has_seen o) ≡ None → IsGoodRecord 2 (present_run ds)
 present_good ds o alive tells two none =
     let (run, rest, parts, good, later) = (alive_follows ds alive).goes alive.0 alive.1 in
     let part = part_front (present_record ds) (present_run ds) run (part_of (present_record ds) (present_run ds ++ run) good) in
@@ -172,7 +175,7 @@ split_kept ds rest same later sections =
     let left : kept (ds ++ rest) ≡ ds = filter-append (λ (d : Dataset). is_kept d.rec) ds rest ∙ ((λ i. same i ++ records_lack is_kept (7 ∷ 8 ∷ 9 ∷ []) rest later (refl, (refl, (refl, tt))) i) ∙ append-nil ds) in
     subst IsEnvelope left (kept_of_sections (ds ++ rest) sections)
 
-pub finished : EachRowHasValues → (ds : List Dataset) (o : Order) → IsAlive ds → kept ds ≡ ds → Tells o ds → end_fault o.rec (has_seen o) ≡ None → IsEnvelope ds
+pub finished : EachRowHasValues → (ds : List Dataset) (o : Order) → SectionsLive ds → kept ds ≡ ds → IsOrderOf o ds → end_fault o.rec (has_seen o) ≡ None → IsEnvelope ds
 finished values ds o alive same tells none =
     let m = nothing_missing (nat_eq o.rec 2) o.rec (has_seen o) refl none in
     let two : present_record ds ≡ 2 = sym tells.present ∙ m.0 in

@@ -3,13 +3,14 @@ use Rattle.std.proofs.Common.{◌≡◌, ℕ, ◌⊎◌, Bool, true, false, ◌|
 use Rattle.std.specs.List.{AllByRecursion, list_any}
 use Rattle.std.proofs.lemmas.List.Elements.{filter-append}
 use Rattle.std.proofs.lemmas.Bool.Decides.{eqb_tells}
-use Rattle.iim_dataset.specs.Datasets.{Dataset}
+use Rattle.iim_dataset.specs.Format.Datasets.{Dataset, of_record}
 use Rattle.std.specs.Prelude.{IsSomeAnd, IsTrue, Option, None}
-use Rattle.iim_tables.specs.Rows.{row_of, is_admitted, table}
+use Rattle.iim_tables.specs.Format.Rows.{row_of, is_admitted, table}
 use Rattle.iim_tables.specs.declared.shape.Row.{Row}
-use Rattle.iim_fields.specs.Records.{after, records, IsGoodDataset, IsGoodRecord, AreRecords, AreSections}
-use Rattle.iim_fields.specs.Alive.{IsAlive}
-use Rattle.iim_fields.specs.Faults.{last_record, present_record, of_record, present_run}
+use Rattle.iim_fields.specs.Format.Records.{after, records, AreRecords, AreSections}
+use Rattle.iim_tables.specs.Format.Records.{IsGoodDataset, IsGoodRecord}
+use Rattle.iim_fields.specs.Format.Alive.{SectionsLive}
+use Rattle.iim_fields.specs.Format.Faults.{last_record, present_record, present_run}
 use Rattle.iim_fields.proofs.Table.{after_tail, no_row}
 use Rattle.iim_fields.proofs.Runs.{not_empty, eq_itself}
 
@@ -236,12 +237,12 @@ follows_start = record {
   fresh = λ r coming. refl;
 }
 
-follows_on : (ds rest : List Dataset) → Follows ds → IsAlive (ds ++ rest) → Follows (ds ++ rest)
+follows_on : (ds rest : List Dataset) → Follows ds → SectionsLive (ds ++ rest) → Follows (ds ++ rest)
 follows_on ds [] follows alive = subst Follows (sym (append-nil ds)) follows
 follows_on ds (d ∷ rest) follows alive =
     let before : From ds (d ∷ (rest ++ alive.0)) = follows.goes (d ∷ (rest ++ alive.0)) (subst AreSections (append_assoc ds (d ∷ rest) alive.0) alive.1) in
     let same : (ds ++ d ∷ []) ++ rest ≡ ds ++ (d ∷ rest) = append_assoc ds (d ∷ []) rest in
-    subst Follows same (follows_on (ds ++ d ∷ []) rest (follows_next ds d (rest ++ alive.0) follows before) (subst IsAlive (sym same) alive))
+    subst Follows same (follows_on (ds ++ d ∷ []) rest (follows_next ds d (rest ++ alive.0) follows before) (subst SectionsLive (sym same) alive))
 
-pub alive_follows : (ds : List Dataset) → IsAlive ds → Follows ds
+pub alive_follows : (ds : List Dataset) → SectionsLive ds → Follows ds
 alive_follows ds alive = follows_on [] ds follows_start alive

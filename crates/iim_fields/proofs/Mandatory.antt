@@ -3,10 +3,10 @@ use Rattle.std.proofs.Common.{◌≡◌, ℕ, Bool, true, false, ◌&&◌, ◌||
 use Rattle.std.specs.Prelude.{is_some, IsSome}
 use Rattle.std.specs.Option.{option_map}
 use Rattle.std.specs.List.{AllByRecursion}
-use Rattle.iim_dataset.specs.Datasets.{Dataset}
-use Rattle.iim_fields.specs.Records.{occurs, IsGoodDataset}
-use Rattle.iim_fields.specs.Builders.{IsEnvelope}
-use Rattle.iim_fields.specs.Views.{is_of, first_data}
+use Rattle.iim_dataset.specs.Format.Datasets.{Dataset}
+use Rattle.iim_tables.specs.Format.Records.{occurs, IsGoodDataset}
+use Rattle.iim_fields.specs.Format.Builders.{IsEnvelope}
+use Rattle.iim_fields.specs.Format.Views.{has_names, first_data}
 use Rattle.iim_fields.proofs.Table.{mandatory_is}
 use Rattle.iim_fields.proofs.Runs.{eq_itself}
 
@@ -26,9 +26,9 @@ keep_by : (a : Bool) (xs : List ℕ) (rest : Option (List ℕ)) → is_some rest
 keep_by true xs rest h = refl
 keep_by false xs rest h = h
 
-first_behind : (r n : ℕ) (front back : List Dataset) → is_some (first_data r n back) ≡ true → is_some (first_data r n (front ++ back)) ≡ true
-first_behind r n [] back h = h
-first_behind r n (d ∷ front) back h = keep_by (is_of r n d) d.octets (first_data r n (front ++ back)) (first_behind r n front back h)
+first_after : (r n : ℕ) (front back : List Dataset) → is_some (first_data r n back) ≡ true → is_some (first_data r n (front ++ back)) ≡ true
+first_after r n [] back h = h
+first_after r n (d ∷ front) back h = keep_by (has_names r n d) d.octets (first_data r n (front ++ back)) (first_after r n front back h)
 
 pub first_of_one : (ds : List Dataset) → IsEnvelope ds → AllByRecursion (λ n. is_some (first_data 1 n ds) ≡ true) (0 ∷ 20 ∷ 22 ∷ 30 ∷ 40 ∷ 70 ∷ [])
 first_of_one ds e =
@@ -40,7 +40,7 @@ pub first_of_two : (ds : List Dataset) → IsEnvelope ds → is_some (first_data
 first_of_two ds e =
     let occur = subst (AllByRecursion (λ n. occurs n e.r2 ≡ true)) (mandatory_is 2) e.application.mandatory in
     let last : is_some (first_data 2 0 e.r2) ≡ true = subst (λ (xs : List Dataset). is_some (first_data 2 0 xs) ≡ true) (append-nil e.r2) (first_in_run 2 0 e.r2 [] e.application.each occur.0) in
-    ap (λ (xs : List Dataset). is_some (first_data 2 0 xs)) e.parts ∙ first_behind 2 0 e.r1 e.r2 last
+    ap (λ (xs : List Dataset). is_some (first_data 2 0 xs)) e.parts ∙ first_after 2 0 e.r1 e.r2 last
 
 pub found : {A : Type 0} (f : A → List ℕ) (o : Option A) (x : Option (List ℕ)) → option_map f o ≡ x → is_some x ≡ true → IsSome o
 found f None x e h = let bad : is_some {T = List ℕ} None ≡ true = ap (λ (y : Option (List ℕ)). is_some y) e ∙ h in absurd cc

@@ -1,10 +1,10 @@
 -- Datasets lead a check to one place.
 use Rattle.std.proofs.Common.{◌≡◌, List, [], ◌∷◌, ◌++◌, ap, sym, ◌∙◌, Option, Some, None}
-use Rattle.iim_dataset.specs.Datasets.{Dataset, head_of}
+use Rattle.iim_dataset.specs.Format.Datasets.{Dataset, head_of}
 use Rattle.iim_dataset.specs.declared.head.Head.{Head}
-use Rattle.iim_fields.specs.Orders.{Tells}
-use Rattle.iim_fields.specs.Checks.{IsBetween, HasChecked, IsChecking}
-use Rattle.iim_fields.specs.Laws.{DatasetsLeadToOnePlace}
+use Rattle.iim_fields.specs.Format.Orders.{IsOrderOf}
+use Rattle.iim_fields.specs.Format.Checks.{IsBetween, HasChecked, IsChecking}
+use Rattle.iim_fields.specs.Format.Laws.{DatasetsLeadToOnePlace}
 use Rattle.iim_fields.specs.declared.order.Order.{Order}
 use Rattle.iim_fields.specs.declared.check.Begun.{Begun}
 use Rattle.iim_fields.specs.declared.check.RecordPlace.{RecordPlace}
@@ -12,7 +12,7 @@ use Rattle.iim_fields.proofs.NumberSets.{same_members}
 use Rattle.iim_fields.proofs.Checking.{same_place}
 
 -- one order tells of datasets
-one_order : (o p : Order) (ds : List Dataset) → Tells o ds → Tells p ds → o ≡ p
+one_order : (o p : Order) (ds : List Dataset) → IsOrderOf o ds → IsOrderOf p ds → o ≡ p
 one_order o p ds s t =
     let seen : o.seen ≡ p.seen = same_members o.seen p.seen (s.places ∙ sym t.places) (λ n. s.seen n ∙ sym (t.seen n)) in
     let rec_is : o.rec ≡ p.rec = s.present ∙ sym t.present in

@@ -3,19 +3,20 @@ use Rattle.std.proofs.Common.{◌≡◌, ℕ, ◌≤◌, Bool, true, false, cond
 use Rattle.std.specs.List.{AllByRecursion, list_all, slice_get}
 use Rattle.std.specs.Option.{option_map}
 use Rattle.std.proofs.lemmas.Bool.{and_parts, eqb-true, leb-true}
-use Rattle.iim_dataset.specs.Datasets.{Dataset}
-use Rattle.iim_tables.specs.Octets.{within, is_digit, is_graphic}
-use Rattle.iim_tables.specs.Dates.{is_date}
-use Rattle.iim_tables.specs.Rows.{table, row_of, Meets}
-use Rattle.iim_fields.specs.Records.{IsGoodDataset}
-use Rattle.iim_fields.specs.Builders.{IsEnvelope}
-use Rattle.iim_fields.specs.Views.{is_of, first_data}
+use Rattle.iim_dataset.specs.Format.Datasets.{Dataset}
+use Rattle.iim_tables.specs.Format.Octets.{is_graphic}
+use Rattle.iim_dataset.specs.Format.Octets.{within, is_digit}
+use Rattle.iim_tables.specs.Format.Dates.{is_date}
+use Rattle.iim_tables.specs.Format.Rows.{table, row_of, Meets}
+use Rattle.iim_tables.specs.Format.Records.{IsGoodDataset}
+use Rattle.iim_fields.specs.Format.Builders.{IsEnvelope}
+use Rattle.iim_fields.specs.Format.Views.{has_names, first_data}
 use Rattle.iim_fields.proofs.Runs.{all_append}
 
 abbrev MeetsItsRow : Dataset → Type 0
 MeetsItsRow d = Meets d.rec d.set d.octets
 
-meets_by : (b : Bool) (r n : ℕ) (d : Dataset) (rest : Option (List ℕ)) (xs : List ℕ) → is_of r n d ≡ b → MeetsItsRow d → (rest ≡ Some xs → Meets r n xs)
+meets_by : (b : Bool) (r n : ℕ) (d : Dataset) (rest : Option (List ℕ)) (xs : List ℕ) → has_names r n d ≡ b → MeetsItsRow d → (rest ≡ Some xs → Meets r n xs)
     → cond b (Some d.octets) rest ≡ Some xs → Meets r n xs
 meets_by true r n d rest xs is good later h =
     let parts = and_parts (nat_eq d.rec r) (nat_eq d.set n) is in
@@ -27,7 +28,7 @@ meets_by false r n d rest xs is good later h = later h
 
 first_meets : (r n : ℕ) (ds : List Dataset) (xs : List ℕ) → AllByRecursion MeetsItsRow ds → first_data r n ds ≡ Some xs → Meets r n xs
 first_meets r n [] xs each h = absurd cc
-first_meets r n (d ∷ ds) xs each h = meets_by (is_of r n d) r n d (first_data r n ds) xs refl each.0 (λ k. first_meets r n ds xs each.1 k) h
+first_meets r n (d ∷ ds) xs each h = meets_by (has_names r n d) r n d (first_data r n ds) xs refl each.0 (λ k. first_meets r n ds xs each.1 k) h
 
 all_meet : (r : ℕ) (run : List Dataset) → AllByRecursion (λ d. (d.rec ≡ r) × IsGoodDataset d) run → AllByRecursion MeetsItsRow run
 all_meet r [] h = tt

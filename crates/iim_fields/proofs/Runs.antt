@@ -5,8 +5,9 @@ use Rattle.std.proofs.lemmas.List.Folds.{list_any-append}
 use Rattle.std.proofs.lemmas.List.Sums.{sum_by-append}
 use Rattle.std.proofs.lemmas.Bool.{or_parts}
 use Rattle.std.proofs.lemmas.Bool.Decides.{eqb_tells}
-use Rattle.iim_dataset.specs.Datasets.{Dataset}
-use Rattle.iim_fields.specs.Records.{mandatory, IsGoodDataset, IsGoodRecord, AreRecords, occurs, occurrences, repeats}
+use Rattle.iim_dataset.specs.Format.Datasets.{Dataset}
+use Rattle.iim_fields.specs.Format.Records.{AreRecords}
+use Rattle.iim_tables.specs.Format.Records.{mandatory, IsGoodDataset, IsGoodRecord, occurs, occurrences, repeats}
 use Rattle.iim_fields.proofs.Table.{EachRowHasValues, HasSample, samples}
 
 pub all_append : {X : Type 0} (P : X → Type 0) (xs ys : List X) → AllByRecursion P xs → AllByRecursion P ys → AllByRecursion P (xs ++ ys)

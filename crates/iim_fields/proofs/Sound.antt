@@ -1,12 +1,12 @@
 -- The entries of an envelope's store end in order.
 use Rattle.std.proofs.Common.{◌≡◌, ℕ, ◌+◌, ◌-◌, ◌≤◌, true, nat_le, List, [], ◌∷◌, length, refl, ap, ◌∙◌, arith, length-append}
 use Rattle.std.proofs.lemmas.Bool.{and_from, le-leb}
-use Rattle.iim_dataset.specs.Datasets.{Dataset}
-use Rattle.iim_fields.specs.Faults.{joined}
+use Rattle.iim_dataset.specs.Format.Datasets.{Dataset}
+use Rattle.iim_fields.specs.Format.Faults.{joined}
 use Rattle.iim_fields.specs.Stores.{Holds, entries_of}
-use Rattle.iim_fields.specs.Builders.{IsEnvelopeStore}
+use Rattle.iim_fields.specs.Building.{IsEnvelopeStore}
 use Rattle.iim_fields.specs.Stores.{fields_of}
-use Rattle.iim_fields.specs.Views.{is_sound}
+use Rattle.iim_fields.specs.Stores.{is_sound}
 use Rattle.iim_fields.specs.declared.store.Store.{Store}
 
 sound_by : (from n : ℕ) (ks : List Dataset) → length (joined ks) ≤ n → is_sound from (entries_of from ks) n ≡ true

@@ -7,18 +7,20 @@ use Rattle.std.proofs.lemmas.List.Elements.{filter-append}
 use Rattle.std.proofs.lemmas.Grind.{flat_map-append}
 use Rattle.std.proofs.lemmas.Bool.{leb-true, le-leb}
 use Rattle.std.proofs.lemmas.Bool.Decides.{eqb_tells}
-use Rattle.iim_dataset.specs.Octets.{Octets}
-use Rattle.iim_dataset.specs.Datasets.{Dataset, head_of}
+use Rattle.iim_dataset.specs.Format.Octets.{Octets}
+use Rattle.iim_dataset.specs.Format.Datasets.{Dataset, head_of}
 use Rattle.iim_dataset.specs.declared.head.Head.{Head}
-use Rattle.iim_tables.specs.Numbers.{size_octets}
-use Rattle.iim_fields.specs.Records.{occurs}
-use Rattle.iim_fields.specs.Alive.{IsAliveAt}
-use Rattle.iim_fields.specs.Faults.{room_fault, limits_fault, first_fault, fault_on, is_kept, kept, kept_octets, joined, present_record, present_run}
-use Rattle.iim_fields.specs.Values.{data_of, number_told, tells_number}
-use Rattle.iim_fields.specs.Checks.{present_at, TakesHead, TakesValue, IsIn, HasChecked, IsChecking, HasTaken, IsRecordFault, IsValueFault, begun_head}
-use Rattle.iim_fields.specs.Checks as checks
-use Rattle.iim_fields.specs.Stores.{Holds, IsStore, entries_of, fields_from, fields_of, ends_at, begun_octets}
-use Rattle.iim_fields.specs.Standing.{FieldsPlace, IsBetween, IsInside, CanTake, CanClose, IsWithin, StandsBehind, StandsIn, IsHeadFault, IsOf, place_of, StandsSomewhere, HasRoom, IsReading, section_of, begun_head_of}
+use Rattle.iim_tables.specs.Format.Numbers.{size_octets}
+use Rattle.iim_tables.specs.Format.Records.{occurs}
+use Rattle.iim_fields.specs.Format.Alive.{SectionsLiveAt}
+use Rattle.iim_fields.specs.Format.Faults.{room_fault, limits_fault, first_fault, fault_on, is_kept, kept, kept_octets, joined, present_record, present_run}
+use Rattle.iim_fields.specs.Format.Values.{data_of, number_told, tells_number}
+use Rattle.iim_fields.specs.Format.Checks.{present_at, TakesHead, TakesValue, IsIn, HasChecked, IsChecking, HasTaken, IsRecordFault, IsValueFault, begun_head}
+use Rattle.iim_fields.specs.Format.Checks as checks
+use Rattle.iim_fields.specs.Stores.{Holds, IsStore, entries_of, fields_of, ends_at, begun_octets}
+use Rattle.iim_fields.specs.Format.Stores.{fields_from}
+use Rattle.iim_fields.specs.Format.Standing.{FieldsPlace, IsBetween, IsInside, CanTake, CanClose, IsWithin, StandsAfter, StandsIn, IsHeadFault, IsOf, section_of, begun_head_of}
+use Rattle.iim_fields.specs.Reading.{place_of, StandsSomewhere, HasRoom, IsReading}
 use Rattle.iim_fields.specs.declared.limits.Limits.{Limits}
 use Rattle.iim_fields.specs.declared.store.Store.{Store}
 use Rattle.iim_fields.specs.declared.fault.FieldFault.{FieldFault}
@@ -142,11 +144,11 @@ nothing_of_two (x ∷ xs) ys h = absurd cc
 -- ---- the start
 
 pub reading_start : (check : Option RecordPlace) (limits : Limits) (store : Store) → checks.IsBetween check → HasChecked check [] → store.octets.items ≡ [] → store.entries.items ≡ [] → HasRoom limits store
-    → StandsBehind (place_of check limits store []) [] × IsReading check limits store []
+    → StandsAfter (place_of check limits store []) [] × IsReading check limits store []
 reading_start check limits store between checked octets entries room =
     let holds : Holds store [] [] = record { entries = entries; octets = octets } in
     let none : begun_octets store ≡ [] = begun_held store [] [] holds in
-    let stands : StandsBehind (place_of check limits store []) [] = record {
+    let stands : StandsAfter (place_of check limits store []) [] = record {
       between = between;
       checked = checked;
       alive = checked.alive;
@@ -171,10 +173,10 @@ pub none_begun : (check : Option RecordPlace) (o : _) (h : Head) → check ≡ S
 none_begun check o h e a = let clash = one_begun check o a.order None (Some (record { head = h; row = a.row })) e a.inside in cc
 
 -- between datasets it stands after some
-pub between_behind : (f : FieldsPlace) → (f.check ≡ None) ⊎ StandsSomewhere f → IsBetween f → (ds : List Dataset) × StandsBehind f ds
-between_behind f (inl none) t = let clash = sym t.between ∙ none in cc
-between_behind f (inr (inl (ds, s))) t = (ds, s)
-between_behind f (inr (inr (ds, h, taken, s))) t = absurd (none_begun f.check t.order h t.between s.inside.1.head)
+pub between_after : (f : FieldsPlace) → (f.check ≡ None) ⊎ StandsSomewhere f → IsBetween f → (ds : List Dataset) × StandsAfter f ds
+between_after f (inl none) t = let clash = sym t.between ∙ none in cc
+between_after f (inr (inl (ds, s))) t = (ds, s)
+between_after f (inr (inr (ds, h, taken, s))) t = absurd (none_begun f.check t.order h t.between s.inside.1.head)
 
 -- in a dataset it stands in one
 failed_in : (check : Option RecordPlace) (h : Head) → check ≡ None → IsIn check h → ⊥
@@ -199,7 +201,7 @@ none_between check t = ap begun_head t.between
 
 -- ---- a head
 
-pub taken_alive : (check : Option RecordPlace) (ds : List Dataset) (h : Head) → HasTaken check ds h → IsAliveAt ds h
+pub taken_alive : (check : Option RecordPlace) (ds : List Dataset) (h : Head) → HasTaken check ds h → SectionsLiveAt ds h
 taken_alive check ds h t = elim (eqb_tells h.rec 8) [
   | inl eight ↦ let (d, is, octets) = some_data h in (d, is, (t.subfile eight.1 d is octets).alive)
   | inr other ↦ (t.checking other.1).alive
@@ -220,15 +222,15 @@ room_fault_is limits store ds h holds =
     ap (λ (n : ℕ). room_fault limits n (vec_len store.entries) h) first ∙ ap (λ (n : ℕ). room_fault limits (kept_octets ds) n h) c.1
 
 -- the store after datasets
-pub holds_behind : (check : Option RecordPlace) (limits : Limits) (store : Store) (size : List ℕ) (ds : List Dataset) → IsStore store → StandsBehind (place_of check limits store size) ds → Holds store (kept ds) []
-holds_behind check limits store size ds is s =
+pub holds_after : (check : Option RecordPlace) (limits : Limits) (store : Store) (size : List ℕ) (ds : List Dataset) → IsStore store → StandsAfter (place_of check limits store size) ds → Holds store (kept ds) []
+holds_after check limits store size ds is s =
     subst (Holds store (kept ds)) (nothing_of_two (begun_octets store) size s.taken_are).0 (holds_kept store ds is s.kept_are)
 
 pub fault_of_room : (check new : Option RecordPlace) (limits : Limits) (store : Store) (size : List ℕ) (h : Head) (fault : FieldFault) → IsStore store
     → ((ds : List Dataset) → HasChecked check ds → HasTaken new ds h) → room_fault limits (length store.octets.items) (vec_len store.entries) h ≡ Some fault
-    → (ds : List Dataset) → StandsBehind (place_of check limits store size) ds → IsHeadFault limits ds h fault
+    → (ds : List Dataset) → StandsAfter (place_of check limits store size) ds → IsHeadFault limits ds h fault
 fault_of_room check new limits store size h fault is on some ds s =
-    let room : limits_fault limits ds h ≡ Some fault = sym (room_fault_is limits store ds h (holds_behind check limits store size ds is s)) ∙ some in
+    let room : limits_fault limits ds h ≡ Some fault = sym (room_fault_is limits store ds h (holds_after check limits store size ds is s)) ∙ some in
     let none = head_no_fault ds h (taken_alive new ds h (on ds s.checked)) in
     let first : first_fault limits ds h ≡ Some fault = ap (λ (o : Option FieldFault). option_or o (limits_fault limits ds h)) none ∙ room in
     record {
@@ -239,9 +241,9 @@ fault_of_room check new limits store size h fault is on some ds s =
 
 pub stands_in : (check new : Option RecordPlace) (limits : Limits) (store : Store) (size : List ℕ) (h : Head) → IsStore store → IsIn new h
     → ((ds : List Dataset) → HasChecked check ds → HasTaken new ds h) → room_fault limits (length store.octets.items) (vec_len store.entries) h ≡ None
-    → (ds : List Dataset) → StandsBehind (place_of check limits store size) ds → StandsIn (place_of new limits store size) ds h []
+    → (ds : List Dataset) → StandsAfter (place_of check limits store size) ds → StandsIn (place_of new limits store size) ds h []
 stands_in check new limits store size h is at on none ds s =
-    let room : limits_fault limits ds h ≡ None = sym (room_fault_is limits store ds h (holds_behind check limits store size ds is s)) ∙ none in
+    let room : limits_fault limits ds h ≡ None = sym (room_fault_is limits store ds h (holds_after check limits store size ds is s)) ∙ none in
     let taken = on ds s.checked in
     record {
       inside = (h.count, record { head = at; to_come = λ _. omega (arith, ap (λ (ys : List ℕ). length ys) s.taken_are) });
@@ -257,7 +259,7 @@ stands_in check new limits store size h is at on none ds s =
 
 -- a subfile adds nothing to what is kept
 pub stands_subfile : (f new : FieldsPlace) (ds : List Dataset) (h : Head) (taken : List ℕ) (d : Dataset) → h.rec ≡ 8 → IsBetween new → ((ds : List Dataset) → HasChecked f.check ds → HasChecked new.check ds) → new.limits ≡ f.limits
-    → new.kept ≡ f.kept → new.taken ≡ f.taken → StandsIn f ds h taken → head_of d ≡ h → Octets d.octets → StandsBehind new (ds ++ d ∷ [])
+    → new.kept ≡ f.kept → new.taken ≡ f.taken → StandsIn f ds h taken → head_of d ≡ h → Octets d.octets → StandsAfter new (ds ++ d ∷ [])
 stands_subfile f new ds h taken d eight between on limits_are kept_same taken_same s is octets =
     let checked = on (ds ++ d ∷ []) (s.checked.subfile eight d is octets) in
     let same = kept_other ds d (ap is_kept (ap (λ (k : Head). k.rec) is ∙ eight)) in
@@ -272,9 +274,9 @@ stands_subfile f new ds h taken d eight between on limits_are kept_same taken_sa
     }
 
 pub reading_begun : (check new : Option RecordPlace) (limits : Limits) (store : Store) (size : List ℕ) (h : Head) → IsReading check limits store size → checks.IsBetween check
-    → ((ds : List Dataset) → StandsBehind (place_of check limits store size) ds → StandsIn (place_of new limits store size) ds h []) → IsReading new limits store size
+    → ((ds : List Dataset) → StandsAfter (place_of check limits store size) ds → StandsIn (place_of new limits store size) ds h []) → IsReading new limits store size
 reading_begun check new limits store size h r t on =
-    let (ds, s) = between_behind (place_of check limits store size) r.stands t in
+    let (ds, s) = between_after (place_of check limits store size) r.stands t in
     let none = nothing_of_two (begun_octets store) size s.taken_are in
     record {
       room = r.room;
@@ -391,7 +393,7 @@ size_room values check limits store size k head r t is not_kept =
     let (ds, g, taken, s) = inside_in (place_of check limits store size) h r.stands a in
     let g_is = in_begun (place_of check limits store size) h a ds g taken s in
     let h_not_kept : is_kept h.rec ≡ false = ap (λ (k : Head). is_kept k.rec) same ∙ not_kept in
-    let none = head_no_fault ds h (subst (IsAliveAt ds) g_is s.alive) in
+    let none = head_no_fault ds h (subst (SectionsLiveAt ds) g_is s.alive) in
     let high = count_fits (present_record ds) (λ n. occurs n (present_run ds)) h a.row none a.known in
     let bound = size_row h.rec h.set a.row (kept_or_tells h.rec h.set a.row a.known other h_not_kept) a.known in
     let all = inside.to_come other in
@@ -448,11 +450,11 @@ closes_in f g (h, n, inside, ended) is =
 
 -- a subfile ends
 pub closed_subfile : (f new : FieldsPlace) (g : Head) → IsIn f.check g → g.rec ≡ 8 → IsBetween new → ((ds : List Dataset) → HasChecked f.check ds → HasChecked new.check ds) → new.limits ≡ f.limits → new.kept ≡ f.kept → new.taken ≡ f.taken
-    → (ds : List Dataset) (h : Head) (taken : List ℕ) → StandsIn f ds h taken → (d : Dataset) → IsOf h taken d → StandsBehind new (ds ++ d ∷ []) × (None ≡ number_told d)
+    → (ds : List Dataset) (h : Head) (taken : List ℕ) → StandsIn f ds h taken → (d : Dataset) → IsOf h taken d → StandsAfter new (ds ++ d ∷ []) × (None ≡ number_told d)
 closed_subfile f new g a eight between on limits_are kept_same taken_same ds h taken s d of =
     let h_eight : h.rec ≡ 8 = ap (λ (k : Head). k.rec) (in_begun f g a ds h taken s) ∙ eight in (
       stands_subfile f new ds h taken d h_eight between on limits_are kept_same taken_same s of.head of.octets,
-      ap (λ (r : ℕ). cond (tells_number r) (Some (Rattle.iim_dataset.specs.Octets.number d.octets)) None) (sym (ap (λ (k : Head). k.rec) of.head ∙ h_eight)),
+      ap (λ (r : ℕ). cond (tells_number r) (Some (Rattle.iim_dataset.specs.Format.Octets.number d.octets)) None) (sym (ap (λ (k : Head). k.rec) of.head ∙ h_eight)),
     )
 
 pub somewhere_subfile : (f new : FieldsPlace) (g : Head) → (f.check ≡ None) ⊎ StandsSomewhere f → IsIn f.check g → g.rec ≡ 8 → IsBetween new → ((ds : List Dataset) → HasChecked f.check ds → HasChecked new.check ds) → new.limits ≡ f.limits
@@ -475,7 +477,7 @@ kept_now ds d old new is (Passed passes same) = same ∙ (is ∙ sym (kept_other
 -- the value was taken
 pub stands_closed : (f new : FieldsPlace) (g : Head) (number : Option ℕ) → IsIn f.check g → g.rec ≢ 8 → IsBetween new → length f.taken ≡ g.count → new.limits ≡ f.limits → new.taken ≡ [] → Kept f.kept (data_of g f.taken) new.kept
     → ((ds : List Dataset) (h : Head) → IsChecking f.check ds h → HasChecked new.check (ds ++ data_of h f.taken ∷ []) × (number ≡ number_told (data_of h f.taken)))
-    → (ds : List Dataset) (h : Head) (taken : List ℕ) → StandsIn f ds h taken → (d : Dataset) → IsOf h taken d → StandsBehind new (ds ++ d ∷ []) × (number ≡ number_told d)
+    → (ds : List Dataset) (h : Head) (taken : List ℕ) → StandsIn f ds h taken → (d : Dataset) → IsOf h taken d → StandsAfter new (ds ++ d ∷ []) × (number ≡ number_told d)
 stands_closed f new g number a g_other between all limits_are none keeps on ds h taken s d of =
     let same = in_begun f g a ds h taken s in
     let other : h.rec ≢ 8 = λ eight. g_other (ap (λ (k : Head). k.rec) (sym same) ∙ eight) in
@@ -509,7 +511,7 @@ refused_value f g xs fault a g_other same on ds h taken s =
 
 -- it stands somewhere after the value
 pub somewhere_closed : (f new : FieldsPlace) (g : Head) (number : Option ℕ) → (f.check ≡ None) ⊎ StandsSomewhere f → IsIn f.check g → length f.taken ≡ g.count
-    → ((ds : List Dataset) (h : Head) (taken : List ℕ) → StandsIn f ds h taken → (d : Dataset) → IsOf h taken d → StandsBehind new (ds ++ d ∷ []) × (number ≡ number_told d)) → StandsSomewhere new
+    → ((ds : List Dataset) (h : Head) (taken : List ℕ) → StandsIn f ds h taken → (d : Dataset) → IsOf h taken d → StandsAfter new (ds ++ d ∷ []) × (number ≡ number_told d)) → StandsSomewhere new
 somewhere_closed f new g number stands a all on =
     let (ds, h, taken, s) = inside_in f g stands a in
     let same = in_begun f g a ds h taken s in
@@ -595,8 +597,8 @@ section_in f ds h taken s =
 
 -- ---- the begun head
 
-pub begun_behind : (f : FieldsPlace) (ds : List Dataset) → StandsBehind f ds → begun_head_of f ≡ None
-begun_behind f ds s = ap begun_head s.between.between
+pub begun_after : (f : FieldsPlace) (ds : List Dataset) → StandsAfter f ds → begun_head_of f ≡ None
+begun_after f ds s = ap begun_head s.between.between
 
 pub begun_in : (f : FieldsPlace) (ds : List Dataset) (h : Head) (taken : List ℕ) → StandsIn f ds h taken → begun_head_of f ≡ Some h
 begun_in f ds h taken s = ap begun_head s.inside.1.head.inside

@@ -2,23 +2,23 @@
 use Rattle.std.proofs.Common.{◌≡◌, ◌≢◌, ℕ, ◌<◌, ◌≤◌, ◌⊎◌, Bool, true, false, not, ◌&&◌, ◌||◌, cond, nat_eq, nat_le, List, [], ◌∷◌, length, map, Option, Some, None, refl, ap, sym, ◌∙◌, inl, inr, arith, subst}
 use Rattle.std.specs.List.{AllByRecursion, list_all, filter, find}
 use Rattle.std.specs.Option.{option_or, option_map}
-use Rattle.iim_fields.specs.Faults.{is_kept, value_fault, fault_by_row, missing_fault}
+use Rattle.iim_fields.specs.Format.Faults.{is_kept, value_fault, fault_by_row, missing_fault}
 use Rattle.iim_fields.specs.Orders.{no_application}
 use Rattle.iim_fields.specs.declared.fault.FieldCause.TheVariants as causes
 use Rattle.iim_fields.specs.declared.fault.FieldFault.{FieldFault}
 use Rattle.iim_tables.specs.declared.shape.Kind.TheVariants as kinds
 use Rattle.std.proofs.lemmas.Bool.{and_parts, or_cases, or_parts, leb-true, eqb-true}
 use Rattle.std.proofs.lemmas.Bool.Decides.{eqb_tells}
-use Rattle.iim_dataset.specs.Octets.{IsOctet}
-use Rattle.iim_dataset.specs.Datasets.{Dataset, head_of}
+use Rattle.iim_dataset.specs.Format.Octets.{IsOctet, within}
+use Rattle.iim_dataset.specs.Format.Datasets.{Dataset, head_of}
 use Rattle.iim_dataset.specs.declared.head.Head.{Head}
-use Rattle.iim_tables.specs.Octets.{within}
-use Rattle.iim_tables.specs.Numbers.{size_octets}
-use Rattle.iim_tables.specs.Kinds.{has_kind}
-use Rattle.iim_fields.specs.Values.{tells_number, data_of}
-use Rattle.iim_tables.specs.Rows.{table, row_of, row_of_others, HasValue, Meets, is_admitted}
+use Rattle.iim_tables.specs.Format.Numbers.{size_octets}
+use Rattle.iim_tables.specs.Format.Kinds.{has_kind}
+use Rattle.iim_fields.specs.Format.Values.{tells_number, data_of}
+use Rattle.iim_tables.specs.Format.Rows.{table, row_of, row_of_others, Meets, is_admitted}
+use Rattle.iim_tables.specs.Format.Records.{HasValue, mandatory, has_to_occur, IsGoodDataset}
 use Rattle.iim_tables.specs.declared.shape.Row.{Row}
-use Rattle.iim_fields.specs.Records.{mandatory, has_to_occur, after, IsGoodDataset}
+use Rattle.iim_fields.specs.Format.Records.{after}
 
 -- the numbers that the table makes mandatory, written out
 abbrev pub mandatory_numbers : ℕ → List ℕ

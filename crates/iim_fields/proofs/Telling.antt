@@ -5,17 +5,17 @@ use Rattle.std.specs.List.{find, list_any}
 use Rattle.std.specs.Option.{option_or}
 use Rattle.std.proofs.lemmas.Bool.{and_parts, and_from, or_cases, or_parts, eqb-true, leb-true, leb-false}
 use Rattle.std.proofs.lemmas.Bool.Decides.{eqb_tells}
-use Rattle.iim_dataset.specs.Octets.{number}
-use Rattle.iim_dataset.specs.Datasets.{Dataset, head_of}
+use Rattle.iim_dataset.specs.Format.Octets.{number, within}
+use Rattle.iim_dataset.specs.Format.Datasets.{Dataset, head_of}
 use Rattle.iim_dataset.specs.declared.head.Head.{Head}
-use Rattle.iim_tables.specs.Octets.{within}
-use Rattle.iim_tables.specs.Rows.{row_of, is_admitted}
+use Rattle.iim_tables.specs.Format.Rows.{row_of, is_admitted}
 use Rattle.iim_tables.specs.declared.shape.Row.{Row}
-use Rattle.iim_fields.specs.Records.{after, mandatory, may_repeat, occurs, is_file_format, has_file_format}
-use Rattle.iim_fields.specs.Faults.{present_record, present_run, is_first, is_in_order, fault_on, row_fault, missing_fault, missing_of, is_kept, kept, kept_octets, limits_fault, first_fault, value_fault, fault_by_row}
-use Rattle.iim_fields.specs.Causes.{Token, IsInPresent, BeginsNext, IsOutOfOrder, HasNoRow, IsRepeated, IsOutOfRange, IsAbsent, EndsTooEarly, IsBad, IsOtherFormat, PassesOctets, PassesFields, number_of_cause, Holds, Names, IsFault, HasNoFault}
-use Rattle.iim_fields.specs.Causes.Token.{AtHead, AtValue}
-use Rattle.iim_fields.specs.Laws.{Tells, HeadsTellTheLowestCause, ValuesTellTheLowestCause}
+use Rattle.iim_fields.specs.Format.Records.{after}
+use Rattle.iim_tables.specs.Format.Records.{mandatory, may_repeat, occurs, is_file_format, has_file_format}
+use Rattle.iim_fields.specs.Format.Faults.{present_record, present_run, is_first, is_in_order, fault_on, row_fault, missing_fault, missing_of, is_kept, kept, kept_octets, limits_fault, first_fault, value_fault, fault_by_row}
+use Rattle.iim_fields.specs.Format.Causes.{Token, IsInPresent, BeginsNext, IsOutOfOrder, HasNoRow, IsRepeated, IsOutOfRange, IsAbsent, EndsTooEarly, IsBad, IsOtherFormat, PassesOctets, PassesFields, number_of_cause, Holds, Names, IsFault, HasNoFault}
+use Rattle.iim_fields.specs.Format.Causes.Token.{AtHead, AtValue}
+use Rattle.iim_fields.specs.Format.Laws.{TellsFault, HeadsTellTheLowestCause, ValuesTellTheLowestCause}
 use Rattle.iim_fields.specs.declared.limits.Limits.{Limits}
 use Rattle.iim_fields.specs.declared.fault.FieldFault.{FieldFault}
 use Rattle.iim_fields.specs.declared.fault.FieldCause.{FieldCause}
@@ -156,7 +156,7 @@ least_by has low x ns n false is rise later h =
       absent = ap has (sym same) ∙ is;
       least = λ m some lacks. elim (or_cases (nat_eq x m) (list_any (λ k. nat_eq k m) ns) some) [
         | inl here ↦ let at = eqb-true x m here in omega arith
-        | inr behind ↦ let above = not_below x m ns rise.1 behind in omega arith
+        | inr later ↦ let above = not_below x m ns rise.1 later in omega arith
       ];
     }
 least_by has low x ns n true is rise later h =
@@ -165,7 +165,7 @@ least_by has low x ns n true is rise later h =
       absent = l.absent;
       least = λ m some lacks. elim (or_cases (nat_eq x m) (list_any (λ k. nat_eq k m) ns) some) [
         | inl here ↦ let at : x ≡ m = eqb-true x m here in let bad : has m ≡ true = ap has (sym at) ∙ is in absurd (cc (bad, lacks))
-        | inr behind ↦ l.least m behind lacks
+        | inr later ↦ l.least m later lacks
       ];
     }
 
@@ -183,7 +183,7 @@ none_absent has (x ∷ ns) m none some =
     let parts = none_by (has x) x (find (λ n. not (has n)) ns) none in
     elim (or_cases (nat_eq x m) (list_any (λ k. nat_eq k m) ns) some) [
       | inl here ↦ ap has (sym (eqb-true x m here)) ∙ parts.0
-      | inr behind ↦ none_absent has ns m parts.1 behind
+      | inr later ↦ none_absent has ns m parts.1 later
     ]
 
 -- ---- heads
@@ -425,7 +425,7 @@ head_fault_told limits ds h f is = told_some limits ds (AtHead h) (first_fault l
 pub value_fault_told : (limits : Limits) (ds : List Dataset) (d : Dataset) (f : FieldFault) → value_fault d ≡ Some f → IsFault limits ds (AtValue d) f
 value_fault_told limits ds d f is = told_some limits ds (AtValue d) (value_fault d) f (value_told limits ds d) is
 
-tells : (limits : Limits) (ds : List Dataset) (t : Token) (o : Option FieldFault) → Told limits ds t o → Tells o limits ds t
+tells : (limits : Limits) (ds : List Dataset) (t : Token) (o : Option FieldFault) → Told limits ds t o → TellsFault o limits ds t
 tells limits ds t o told = ((λ f. (told_some limits ds t o f told, some_told limits ds t o f told)), (told_none limits ds t o told, none_told limits ds t o told))
 
 pub heads_tell : HeadsTellTheLowestCause

@@ -1,16 +1,11 @@
-pub mod Records
-pub mod Alive
-pub mod Faults
-pub mod Causes
+-- What the promises cite: a reader has to believe these.
+pub mod Format
+-- What only proofs and private clauses cite.
 pub mod NumberSets
 pub mod Orders
-pub mod Values
-pub mod Checks
 pub mod Blocks
 pub mod Stores
-pub mod Standing
-pub mod Builders
-pub mod Views
-pub mod Ids
-pub mod Walks
-pub mod Laws
+pub mod Checking
+pub mod Reading
+pub mod Building
+pub mod IdLaws

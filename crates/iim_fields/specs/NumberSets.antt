@@ -1,7 +1,7 @@
 -- What a set of numbers keeps.
 use Rattle.std.specs.Prelude.{ℕ, zero, suc, ◌/◌, ◌%◌, ◌==◌, Bool, List, [], ◌∷◌, ◌++◌}
 
--- whether each of the low bits of a word, so many, is 1, the lowest first
+-- whether each of the n lowest bits of a word is 1, the lowest first
 unfoldable pub bits : ℕ → ℕ → List Bool
 bits zero word = []
 bits (suc n) word = (word % 2 == 1) ∷ bits n (word / 2)

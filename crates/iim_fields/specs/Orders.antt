@@ -1,29 +1,14 @@
--- What the checker of heads keeps.
-use Rattle.std.specs.Prelude.{◌≡◌, ◌≢◌, ℕ, Bool, true, false, List, length, replicate, slice_set, slice_index_or, Option, ◌==◌, if◌then◌else◌}
-use Rattle.iim_dataset.specs.Datasets.{Dataset}
+-- How a head changes what a check knows of the present record, and what is missing where records 1 and 2 end.
+use Rattle.std.specs.Prelude.{◌≡◌, ◌≢◌, ℕ, Bool, true, false, slice_set, Option, ◌==◌, if◌then◌else◌}
 use Rattle.iim_dataset.specs.declared.head.Head.{Head}
-use Rattle.iim_fields.specs.Records.{occurs}
 use Rattle.std.specs.Option.{option_or}
-use Rattle.iim_fields.specs.Faults.{present_record, present_run, missing_fault, missing_of}
+use Rattle.iim_fields.specs.Format.Faults.{missing_fault, missing_of}
 use Rattle.iim_fields.specs.declared.fault.FieldFault.{FieldFault}
 use Rattle.iim_fields.specs.declared.order.Order.{Order}
-
--- none of the 256 numbers has occurred
-abbrev pub nothing : List Bool
-nothing = replicate 256 false
-
--- the number has occurred in the present record
-abbrev pub has_seen : Order → ℕ → Bool
-has_seen o n = slice_index_or o.seen n false
-
--- It has the present record of the datasets, and, in a place for each of 256 numbers, which occurred in it.
-pub record Tells (o : Order) (ds : List Dataset) : Type 0 where
-  pub places : length o.seen ≡ 256
-  pub present : o.rec ≡ present_record ds
-  pub seen : (n : ℕ) → has_seen o n ≡ occurs n (present_run ds)
+use Rattle.iim_fields.specs.Format.Orders.{nothing}
 
 -- A head leads from one to the other: its number is added, to those of the present record or to none.
-pub record Takes (old : Order) (h : Head) (new : Order) : Type 0 where
+pub record AddsHead (old : Order) (h : Head) (new : Order) : Type 0 where
   pub rec : new.rec ≡ h.rec
   pub same : h.rec ≡ old.rec → new.seen ≡ slice_set old.seen h.set true
   pub next : h.rec ≢ old.rec → new.seen ≡ slice_set nothing h.set true

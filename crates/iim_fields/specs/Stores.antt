@@ -1,20 +1,21 @@
--- The store of the kept datasets.
-use Rattle.std.specs.Prelude.{◌≡◌, ℕ, ◌+◌, ◌-◌, List, [], ◌∷◌, ◌++◌, length, take, drop, vec_capacity}
-use Rattle.iim_dataset.specs.Datasets.{Dataset}
-use Rattle.iim_fields.specs.Faults.{joined}
+-- The store of the kept datasets: an entry for each, and their octets.
+use Rattle.std.specs.Prelude.{◌≡◌, ℕ, ◌+◌, ◌-◌, List, [], ◌∷◌, ◌++◌, length, drop, vec_capacity, Bool, true, ◌&&◌, nat_le}
+use Rattle.iim_dataset.specs.Format.Datasets.{Dataset}
+use Rattle.iim_fields.specs.Format.Faults.{joined}
 use Rattle.iim_fields.specs.declared.store.Entry.{Entry}
 use Rattle.iim_fields.specs.declared.store.Store.{Store}
+use Rattle.iim_fields.specs.Format.Stores.{Room, fields_from}
+
+-- the entries end in order, within n octets after `from`
+abbrev pub is_sound : ℕ → List Entry → ℕ → Bool
+is_sound from [] n = true
+is_sound from (e ∷ es) n = nat_le from e.end && (nat_le (e.end - from) n && is_sound e.end es (n - (e.end - from)))
 
 -- the entries of datasets whose octets begin there
 abbrev pub entries_of : ℕ → List Dataset → List Entry
 entries_of from [] = []
 entries_of from (d ∷ ds) =
     record { rec = d.rec; set = d.set; end = from + length d.octets } ∷ entries_of (from + length d.octets) ds
-
--- how many octets and how many entries there is room for
-pub record Room : Type 0 where
-  pub octets : ℕ
-  pub entries : ℕ
 
 -- what a store has room for: as much as its vectors were made for
 abbrev pub store_room : Store → Room
@@ -24,12 +25,6 @@ store_room store = record { octets = store.octets.room; entries = vec_capacity s
 pub record Holds (store : Store) (ds : List Dataset) (more : List ℕ) : Type 0 where
   pub entries : store.entries.items ≡ entries_of 0 ds
   pub octets : store.octets.items ≡ joined ds ++ more
-
--- the datasets of entries, the first of which begins there, with these octets
-abbrev pub fields_from : ℕ → List Entry → List ℕ → List Dataset
-fields_from from [] xs = []
-fields_from from (e ∷ es) xs =
-    record { rec = e.rec; set = e.set; octets = take (e.end - from) xs } ∷ fields_from e.end es (drop (e.end - from) xs)
 
 -- the datasets in a store
 abbrev pub fields_of : Store → List Dataset

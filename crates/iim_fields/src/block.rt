@@ -67,7 +67,7 @@ fn write(places: &mut Vec<u8>, from: usize, octets: &[u8])
 }
 
 impl Block {
-    /// No octets, with room for just so many.
+    /// No octets, with room for just `room` octets.
     pub fn new(alloc: Global, room: usize) -> Result<Block, AllocError>
         ensures items { IfOk result (λ block. block.items ≡ []) }
         ensures room { IfOk result (λ block. block.room ≡ room) }

@@ -1,8 +1,8 @@
 //! Envelopes, built dataset by dataset.
 
 ghost use Rattle.std.specs.Prelude.{◌≡◌, [], ◌∷◌, ◌++◌, Some, None, IfOk, IfErr, OnOk, OnErr};
-ghost use Rattle.iim_fields.specs.Builders.{add_fault, finish_fault};
-ghost use Rattle.iim_fields.specs.Standing.{room_for};
+ghost use Rattle.iim_fields.specs.Format.Builders.{add_fault, finish_fault};
+ghost use Rattle.iim_fields.specs.Format.Standing.{room_for};
 
 use crate::check::RecordCheck;
 use crate::envelope::Envelope;
@@ -27,7 +27,8 @@ pub struct EnvelopeBuilder {
 }
 
 impl Model for EnvelopeBuilder {
-    ghost use Rattle.iim_fields.specs.Builders.{Building, building_of, IsBuilding};
+    ghost use Rattle.iim_fields.specs.Format.Builders.{Building};
+    ghost use Rattle.iim_fields.specs.Building.{building_of, IsBuilding};
 
     ghost Value = { Building };
 

@@ -2,21 +2,22 @@
 
 ghost use Rattle.std.specs.Prelude.{◌≡◌, ◌≢◌, ℕ, List, [], ◌∷◌, ◌++◌, length, Option, is_none, Some, None, IsSome, IfOk, IfErr, OnOk, OnErr, ◌↔◌, IsTrue};
 ghost use Rattle.std.specs.Option.{ForSome};
-ghost use Rattle.iim_dataset.specs.Datasets.{Dataset};
+ghost use Rattle.iim_dataset.specs.Format.Datasets.{Dataset};
 ghost use Rattle.iim_dataset.specs.declared.head.Head.{Head as HeadValue};
-ghost use Rattle.iim_fields.specs.Faults.{present_record};
-ghost use Rattle.iim_fields.specs.Orders.{Takes};
-ghost use Rattle.iim_fields.specs.Values.{number_told, data_of};
-ghost use Rattle.iim_fields.specs.Checks.{begun_head, present_at, missing_at, TakesHead, TakesValue, IsBetween, IsIn, IsRecordPlace, HasChecked, IsChecking, HasTaken, IsRecordFault, IsValueFault, HasEnded};
+ghost use Rattle.iim_fields.specs.Format.Faults.{present_record};
+ghost use Rattle.iim_fields.specs.Orders.{AddsHead};
+ghost use Rattle.iim_fields.specs.Format.Values.{number_told, data_of};
+ghost use Rattle.iim_fields.specs.Format.Checks.{begun_head, present_at, TakesHead, TakesValue, IsBetween, IsIn, HasChecked, IsChecking, HasTaken, IsRecordFault, IsValueFault, HasEnded};
+ghost use Rattle.iim_fields.specs.Checking.{missing_at, IsRecordPlace};
 ghost use Rattle.iim_fields.specs.declared.check.RecordPlace.{RecordPlace as PlaceValue};
 
 use crate::fault::FieldFault;
 use crate::order::Order;
-use crate::records::POST_OBJECT;
 use crate::value::check_value;
 use iim_dataset::Head;
 use iim_tables::Row;
 use iim_tables::laws::each_row_has_values;
+use iim_tables::records::POST_OBJECT;
 use std::marker::Model;
 
 /// A begun dataset.
@@ -50,7 +51,7 @@ impl RecordPlace {
 
     /// Takes a head that may stand next, which has this row.
     fn enter(&mut self, head: Head, row: Row)
-        ensures order { Takes self.old.order head self.new.order }
+        ensures order { AddsHead self.old.order head self.new.order }
         ensures begun { self.new.begun ≡ Some (record { head = head; row = row }) }
     {
         self.order.take(head);

@@ -1,9 +1,9 @@
 //! Envelopes: the datasets of records 1 and 2, and the views of them.
 
 use crate::id::EnvelopeId;
-use crate::records::{APPLICATION, ENVELOPE};
 use crate::store::Store;
 use crate::walk::{DataIter, FieldIter};
+use iim_tables::records::{APPLICATION, ENVELOPE};
 use iim_tables::{date_of, instant_of};
 use jiff::Timestamp;
 use jiff::civil::Date;
@@ -17,8 +17,8 @@ pub struct Envelope {
 
 impl Model for Envelope {
     ghost use Rattle.std.specs.Prelude.{List};
-    ghost use Rattle.iim_dataset.specs.Datasets.{Dataset};
-    ghost use Rattle.iim_fields.specs.Builders.{IsEnvelopeStore};
+    ghost use Rattle.iim_dataset.specs.Format.Datasets.{Dataset};
+    ghost use Rattle.iim_fields.specs.Building.{IsEnvelopeStore};
     ghost use Rattle.iim_fields.specs.Stores.{fields_of};
 
     ghost Value = { List Dataset };
@@ -32,11 +32,11 @@ impl Envelope {
     ghost use Rattle.std.specs.Prelude.{◌≡◌, ◌≤◌, [], ◌∷◌, length, Some, ◌↔◌, IsTrue, IsSomeAnd, IfSome, pos};
     ghost use Rattle.std.specs.Option.{option_map};
     ghost use Rattle.jiff.specs.Words.{IsYmd};
-    ghost use Rattle.iim_tables.specs.Dates.{is_date, year_in, month_in, day_in};
-    ghost use Rattle.iim_fields.specs.Walks.{rest_of, data_left};
-    ghost use Rattle.iim_fields.specs.Builders.{IsEnvelope, AreFew};
-    ghost use Rattle.iim_fields.specs.Views.{first_data, all_data, instant_sent, IsInEach};
-    ghost use Rattle.iim_tables.specs.Rows.{Meets};
+    ghost use Rattle.iim_tables.specs.Format.Dates.{is_date, year_in, month_in, day_in};
+    ghost use Rattle.iim_fields.specs.Format.Walks.{rest_of, data_left};
+    ghost use Rattle.iim_fields.specs.Format.Builders.{IsEnvelope, AreFew};
+    ghost use Rattle.iim_fields.specs.Format.Views.{first_data, all_data, instant_sent, IsInEach};
+    ghost use Rattle.iim_tables.specs.Format.Rows.{Meets};
 
     /// All datasets, in order: record, number and data of each.
     pub fn fields(&self) -> FieldIter<'_>

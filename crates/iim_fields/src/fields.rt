@@ -1,29 +1,30 @@
 //! The records of an envelope, dataset by dataset.
 
 ghost use Rattle.std.specs.Prelude.{◌≡◌, ◌≢◌, ◌+◌, ◌-◌, ◌≤◌, ◌<◌, ℕ, List, [], ◌∷◌, ◌++◌, length, vec_len, Some, None, IfOk, IfErr, OnOk, OnErr, ◌↔◌, IsTrue};
-ghost use Rattle.iim_dataset.specs.Datasets.{Dataset};
+ghost use Rattle.iim_dataset.specs.Format.Datasets.{Dataset};
 ghost use Rattle.iim_dataset.specs.declared.head.Head.{Head as HeadValue};
-ghost use Rattle.iim_fields.specs.Records.{AreSections};
-ghost use Rattle.iim_fields.specs.Faults.{kept, room_fault};
-ghost use Rattle.iim_fields.specs.Checks.{IsValueFault};
-ghost use Rattle.iim_fields.specs.Values.{number_told, data_of};
+ghost use Rattle.iim_fields.specs.Format.Records.{AreSections};
+ghost use Rattle.iim_fields.specs.Format.Faults.{kept, room_fault};
+ghost use Rattle.iim_fields.specs.Format.Checks.{IsValueFault};
+ghost use Rattle.iim_fields.specs.Format.Values.{number_told, data_of};
 
 use crate::check::RecordCheck;
 use crate::envelope::Envelope;
 use crate::fault::{FieldCause, FieldFault};
 use crate::limits::Limits;
 use crate::order::fault_on;
-use crate::records::{OBJECT, is_kept};
+use crate::records::is_kept;
 use crate::store::Store;
 use crate::walk::FieldIter;
 use arrayvec::ArrayVec;
 use iim_dataset::Head;
 use iim_tables::SIZE_OCTETS;
 use iim_tables::laws::each_row_has_values;
+use iim_tables::records::OBJECT;
 use std::alloc::{AllocError, Global};
 use std::marker::Model;
 
-/// The first limit that a head passes, after so many kept octets and datasets.
+/// The first limit that a head passes, after `octets` kept octets and `fields` kept datasets.
 pub(crate) fn room_fault(
     limits: Limits,
     octets: usize,
@@ -58,7 +59,8 @@ pub struct Fields {
 }
 
 impl Model for Fields {
-    ghost use Rattle.iim_fields.specs.Standing.{FieldsPlace, place_of, IsReading};
+    ghost use Rattle.iim_fields.specs.Format.Standing.{FieldsPlace};
+    ghost use Rattle.iim_fields.specs.Reading.{place_of, IsReading};
 
     ghost Value = { FieldsPlace };
 
@@ -68,16 +70,16 @@ impl Model for Fields {
 }
 
 impl Fields {
-    ghost use Rattle.iim_fields.specs.Faults.{present_record};
-    ghost use Rattle.iim_fields.specs.Walks.{rest_of};
-    ghost use Rattle.iim_fields.specs.Standing.{limits_of, room_of, section_of, begun_head_of, room_for, IsEnough, IsFailed, IsBetween, IsInside, CanTake, CanClose, StandsBehind, StandsIn, IsHeadFault, IsOf, IsEnded};
+    ghost use Rattle.iim_fields.specs.Format.Faults.{present_record};
+    ghost use Rattle.iim_fields.specs.Format.Walks.{rest_of};
+    ghost use Rattle.iim_fields.specs.Format.Standing.{limits_of, room_of, section_of, begun_head_of, room_for, IsEnough, IsFailed, IsBetween, IsInside, CanTake, CanClose, StandsAfter, StandsIn, IsHeadFault, IsOf, IsEnded};
     ghost use Rattle.iim_fields.specs.Stores.{store_room};
     ghost use Rattle.std.specs.Prelude.{vec_capacity};
 
     /// At the beginning of an envelope, with memory for just what the limits allow: no later call takes any. An error says that
     /// memory was refused.
     pub fn new(alloc: Global, limits: Limits) -> Result<Fields, AllocError>
-        ensures stands { IfOk result (λ fields. StandsBehind fields []) }
+        ensures stands { IfOk result (λ fields. StandsAfter fields []) }
         ensures limits { IfOk result (λ fields. limits_of fields ≡ limits) }
         ensures room { IfOk result (λ fields. room_of fields ≡ room_for limits) }
     {
@@ -88,7 +90,7 @@ impl Fields {
     /// At the beginning of an envelope, with the memory of one that is no longer wanted, where that is enough for the limits: it
     /// takes none. Else that envelope is handed back.
     pub fn over(envelope: Envelope, limits: Limits) -> Result<Fields, Envelope>
-        ensures stands { IfOk result (λ fields. StandsBehind fields []) }
+        ensures stands { IfOk result (λ fields. StandsAfter fields []) }
         ensures limits { IfOk result (λ fields. limits_of fields ≡ limits) }
         ensures room { IfOk result (λ fields. IsEnough (room_of fields) limits) }
         ensures handed_back { IfErr result (λ same. same ≡ envelope) }
@@ -108,7 +110,7 @@ impl Fields {
         requires entries { store.entries.items ≡ [] }
         requires octets_room { limits.octets ≤ store.octets.room }
         requires entries_room { limits.fields ≤ vec_capacity store.entries }
-        ensures stands { StandsBehind result [] }
+        ensures stands { StandsAfter result [] }
         ensures limits { limits_of result ≡ limits }
         ensures room { room_of result ≡ store_room store }
     {
@@ -137,7 +139,7 @@ impl Fields {
     /// The record of the last head, which is the present one; 0 at the beginning of an envelope, and after a refusal.
     pub fn section(&self) -> u8
         ensures section { result ≡ section_of self.now }
-        ensures behind { (ds : List Dataset) → StandsBehind self.now ds → result ≡ present_record ds }
+        ensures after { (ds : List Dataset) → StandsAfter self.now ds → result ≡ present_record ds }
         ensures inside { (ds : List Dataset) (h : HeadValue) (taken : List ℕ) → StandsIn self.now ds h taken → result ≡ h.rec }
     {
         self.check.section()
@@ -146,7 +148,7 @@ impl Fields {
     /// The head of the begun dataset; `None` between datasets, at the beginning of an envelope, and after a refusal.
     pub fn begun_head(&self) -> Option<Head>
         ensures head { result ≡ begun_head_of self.now }
-        ensures behind { (ds : List Dataset) → StandsBehind self.now ds → result ≡ None }
+        ensures after { (ds : List Dataset) → StandsAfter self.now ds → result ≡ None }
         ensures inside { (ds : List Dataset) (h : HeadValue) (taken : List ℕ) → StandsIn self.now ds h taken → result ≡ Some h }
     {
         self.check.begun()
@@ -179,9 +181,9 @@ impl Fields {
     pub fn begin(&mut self, head: Head) -> Result<(), FieldFault>
         requires { IsBetween self.old }
         ensures inside { OnOk result (IsInside self.new head head.count) }
-        ensures stands { OnOk result ((ds : List Dataset) → StandsBehind self.old ds → StandsIn self.new ds head []) }
+        ensures stands { OnOk result ((ds : List Dataset) → StandsAfter self.old ds → StandsIn self.new ds head []) }
         ensures failed { OnErr result (IsFailed self.new) }
-        ensures fault { IfErr result (λ fault. (ds : List Dataset) → StandsBehind self.old ds → IsHeadFault (limits_of self.old) ds head fault) }
+        ensures fault { IfErr result (λ fault. (ds : List Dataset) → StandsAfter self.old ds → IsHeadFault (limits_of self.old) ds head fault) }
         ensures limits { limits_of self.new ≡ limits_of self.old }
         ensures room { room_of self.new ≡ room_of self.old }
     {
@@ -220,7 +222,7 @@ impl Fields {
         requires { CanClose self.old }
         ensures between { OnOk result (IsBetween self.new) }
         ensures stands { IfOk result (λ number. (ds : List Dataset) (h : HeadValue) (taken : List ℕ) → StandsIn self.old ds h taken
-            → (d : Dataset) → IsOf h taken d → StandsBehind self.new (ds ++ d ∷ []) × (number ≡ number_told d)) }
+            → (d : Dataset) → IsOf h taken d → StandsAfter self.new (ds ++ d ∷ []) × (number ≡ number_told d)) }
         ensures failed { OnErr result (IsFailed self.new) }
         ensures fault { IfErr result (λ fault. (ds : List Dataset) (h : HeadValue) (taken : List ℕ) → StandsIn self.old ds h taken
             → IsValueFault ds (data_of h taken) fault) }
@@ -247,10 +249,10 @@ impl Fields {
     /// The envelope that was kept, where 9:10 has ended and nothing was refused. Else the reader is handed back as it was.
     pub fn into_envelope(self) -> Result<Envelope, Fields>
         ensures ended { OnOk result (IsEnded self) }
-        ensures whole { OnOk result ((ds : List Dataset) → StandsBehind self ds → AreSections ds) }
-        ensures envelope { IfOk result (λ envelope. (ds : List Dataset) → StandsBehind self ds → envelope ≡ kept ds) }
+        ensures whole { OnOk result ((ds : List Dataset) → StandsAfter self ds → AreSections ds) }
+        ensures envelope { IfOk result (λ envelope. (ds : List Dataset) → StandsAfter self ds → envelope ≡ kept ds) }
         ensures not_ended { OnErr result (IsEnded self → ⊥) }
-        ensures refused { OnErr result ((ds : List Dataset) → StandsBehind self ds → AreSections ds → ⊥) }
+        ensures refused { OnErr result ((ds : List Dataset) → StandsAfter self ds → AreSections ds → ⊥) }
         ensures handed_back { IfErr result (λ fields. fields ≡ self) }
     {
         if !self.check.is_ended() {

@@ -2,7 +2,8 @@
 
 ghost use Rattle.std.specs.Prelude.{◌≡◌, ◌≤◌, ◌↔◌, length, IsTrue, refl};
 ghost use Rattle.std.specs.Ordering.{as_partial_cmp};
-ghost use Rattle.iim_fields.specs.Ids.{id_eq, id_cmp, id_equivalence, id_partial_equivalence, id_total, id_ties, id_order};
+ghost use Rattle.iim_fields.specs.Format.Ids.{id_eq, id_cmp};
+ghost use Rattle.iim_fields.specs.IdLaws.{id_equivalence, id_partial_equivalence, id_total, id_ties, id_order};
 
 use arrayvec::ArrayVec;
 use std::cmp::Ordering;
@@ -23,7 +24,7 @@ pub struct EnvelopeId {
 }
 
 impl Model for EnvelopeId {
-    ghost use Rattle.iim_fields.specs.Ids.{Identity};
+    ghost use Rattle.iim_fields.specs.Format.Ids.{Identity};
 
     ghost Value = { Identity };
 

@@ -1,6 +1,6 @@
 //! What holds of all datasets.
 
-ghost use Rattle.iim_fields.specs.Laws.{HeadsDieWithTheirFault, ValuesDieWithTheirFault, EnvelopesEndWithTheLastRecord, NoSectionsBeginOthers, HeadsTellTheLowestCause, ValuesTellTheLowestCause, DatasetsLeadToOnePlace};
+ghost use Rattle.iim_fields.specs.Format.Laws.{HeadsDieWithTheirFault, ValuesDieWithTheirFault, EnvelopesEndWithTheLastRecord, NoSectionsBeginOthers, HeadsTellTheLowestCause, ValuesTellTheLowestCause, DatasetsLeadToOnePlace};
 
 use iim_tables::laws::each_row_has_values;
 

@@ -1,7 +1,7 @@
 //! How much of the records 1 and 2 may be kept.
 
 ghost use Rattle.std.specs.Prelude.{◌≡◌};
-ghost use Rattle.iim_fields.specs.Faults.{limit_passed};
+ghost use Rattle.iim_fields.specs.Format.Faults.{limit_passed};
 
 use crate::fault::FieldCause;
 
@@ -15,7 +15,8 @@ pub struct Limits {
 }
 
 impl Limits {
-    /// The first limit that so many octets and datasets pass, of all that is kept: `HeaderFull`, or else `TooManyFields`.
+    /// The first limit that `octets` octets and `fields` datasets pass, of all that is kept: `HeaderFull`, or else
+    /// `TooManyFields`.
     pub fn passed(self, octets: u64, fields: u64) -> Option<FieldCause>
         ensures { result ≡ limit_passed self octets fields }
     {

@@ -1,15 +1,17 @@
 //! Where a head may stand: the order of the records, and the rows of their datasets.
 
 ghost use Rattle.std.specs.Prelude.{◌≡◌, Some, None, IfOk, IfErr, OnOk};
-ghost use Rattle.iim_tables.specs.Rows.{row_of};
-ghost use Rattle.iim_fields.specs.Faults.{head_fault, row_fault, missing_of, missing_fault, is_in_order, is_first};
-ghost use Rattle.iim_fields.specs.Records.{after};
-ghost use Rattle.iim_fields.specs.Orders.{has_seen, nothing, Takes, end_fault, no_application};
+ghost use Rattle.iim_tables.specs.Format.Rows.{row_of};
+ghost use Rattle.iim_fields.specs.Format.Faults.{head_fault, row_fault, missing_of, missing_fault, is_in_order, is_first};
+ghost use Rattle.iim_fields.specs.Format.Records.{after};
+ghost use Rattle.iim_fields.specs.Format.Orders.{has_seen, nothing};
+ghost use Rattle.iim_fields.specs.Orders.{AddsHead, end_fault, no_application};
 
 use crate::fault::{FieldCause, FieldFault};
 use crate::number_set::NumberSet;
-use crate::records::{APPLICATION, ENVELOPE, mandatory, next_record};
+use crate::records::{mandatory, next_record};
 use iim_dataset::Head;
+use iim_tables::records::{APPLICATION, ENVELOPE};
 use iim_tables::{Row, row};
 
 /// What the heads so far leave open: the present record, 0 before the first, and the numbers that occurred in it.
@@ -166,7 +168,7 @@ impl Order {
 
     /// Takes a head that may stand next.
     pub fn take(&mut self, head: Head)
-        ensures { Takes self.old head self.new }
+        ensures { AddsHead self.old head self.new }
     {
         if head.rec == self.rec {
             self.seen.insert(head.set);

@@ -1,23 +1,11 @@
 //! The records of an envelope, and the datasets that each must have.
 
 ghost use Rattle.std.specs.Prelude.{◌≡◌, ◌∷◌, [], MatchOption};
-ghost use Rattle.iim_fields.specs.Records.{mandatory, after};
-ghost use Rattle.iim_fields.specs.Faults.{is_kept};
+ghost use Rattle.iim_fields.specs.Format.Records.{after};
+ghost use Rattle.iim_tables.specs.Format.Records.{mandatory};
+ghost use Rattle.iim_fields.specs.Format.Faults.{is_kept};
 
-/// The Envelope Record, whose datasets are kept.
-pub(crate) const ENVELOPE: u8 = 1;
-
-/// The Application Record, whose datasets are kept.
-pub(crate) const APPLICATION: u8 = 2;
-
-/// The pre-ObjectData Descriptor Record.
-pub(crate) const PRE_OBJECT: u8 = 7;
-
-/// The ObjectData Record, whose data do not pass here.
-pub(crate) const OBJECT: u8 = 8;
-
-/// The post-ObjectData Descriptor Record.
-pub(crate) const POST_OBJECT: u8 = 9;
+use iim_tables::records::{APPLICATION, ENVELOPE, OBJECT, POST_OBJECT, PRE_OBJECT};
 
 /// The numbers of the datasets that a record must have, lowest first.
 #[tactic(auto, using(crate::proofs::Table::mandatory_is))]

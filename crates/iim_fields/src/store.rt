@@ -28,7 +28,7 @@ pub(crate) struct Store {
 }
 
 impl Store {
-    /// Nothing, with room for just so many octets and entries.
+    /// Nothing, with room for just `octets` octets and `entries` entries.
     pub fn new(alloc: Global, octets: usize, entries: usize) -> Result<Store, AllocError>
         ensures octets { IfOk result (λ store. store.octets.items ≡ []) }
         ensures entries { IfOk result (λ store. store.entries.items ≡ []) }
@@ -42,7 +42,7 @@ impl Store {
         Ok(store)
     }
 
-    /// The same room with nothing in it, where it is enough for so many octets and entries. Else the store as it was.
+    /// The same room with nothing in it, where it is enough for `octets` octets and `entries` entries. Else the store as it was.
     pub fn emptied(self, octets: usize, entries: usize) -> Result<Store, Store>
         ensures octets { IfOk result (λ store. store.octets.items ≡ []) }
         ensures entries { IfOk result (λ store. store.entries.items ≡ []) }

@@ -1,21 +1,18 @@
 //! What a complete value has to be.
 
 ghost use Rattle.std.specs.Prelude.{◌≡◌, Some, None, length, IfOk, IfErr, OnOk};
-ghost use Rattle.iim_tables.specs.Rows.{row_of};
-ghost use Rattle.iim_fields.specs.Faults.{value_fault};
+ghost use Rattle.iim_tables.specs.Format.Rows.{row_of};
+ghost use Rattle.iim_fields.specs.Format.Faults.{value_fault};
 ghost use Rattle.std.specs.Int.{IsInRange};
-ghost use Rattle.iim_tables.specs.Numbers.{size_octets};
-ghost use Rattle.iim_fields.specs.Records.{has_file_format};
-ghost use Rattle.iim_fields.specs.Values.{data_of, number_told, TellsNumber};
+ghost use Rattle.iim_tables.specs.Format.Numbers.{size_octets};
+ghost use Rattle.iim_tables.specs.Format.Records.{has_file_format};
+ghost use Rattle.iim_fields.specs.Format.Values.{data_of, number_told, TellsNumber};
 
 use crate::fault::{FieldCause, FieldFault};
 use crate::order::fault_on;
-use crate::records::{ENVELOPE, POST_OBJECT, PRE_OBJECT};
 use iim_dataset::Head;
+use iim_tables::records::{ENVELOPE, FILE_FORMAT, POST_OBJECT, PRE_OBJECT};
 use iim_tables::{Row, admits, number_of};
-
-/// The number of 1:20 File Format.
-const FILE_FORMAT: u8 = 20;
 
 /// The file format of a text for wire services, which the profile asks for.
 const WIRE_FORMAT: u64 = 2;

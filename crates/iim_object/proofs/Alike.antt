@@ -1,17 +1,17 @@
 -- From places at which one reader stands the same tokens lead on alike.
 use Rattle.std.proofs.Common.{◌≡◌, ℕ, ◌+◌, ◌⊎◌, List, [], ◌∷◌, ◌++◌, length, Option, Some, None, is_some, refl, sym, ap, subst, ◌∙◌, arith, inl, inr}
-use Rattle.iim_dataset.specs.Languages.{IsAlive}
+use Rattle.iim_dataset.specs.Format.Languages.{IsAlive}
 use Rattle.iim_object.specs.declared.state.State.{State}
 use Rattle.iim_object.specs.declared.fault.SizeCause.{SizeCause}
-use Rattle.iim_object.specs.Sizes.{Stated, InRow, number_at}
-use Rattle.iim_object.specs.Objects.{ObjectToken, NumberRead, SubfileBegun, ObjectEnded, Confirmed, ObjectLanguage}
-use Rattle.iim_object.specs.Places.{Place, MayFollow, place_after, tokens_of}
-use Rattle.iim_object.specs.Causes.{number_cause, subfile_cause, end_cause, confirmed_cause}
+use Rattle.iim_object.specs.Format.Sizes.{Stated, InRow, number_at}
+use Rattle.iim_object.specs.Format.Objects.{ObjectToken, NumberRead, SubfileBegun, ObjectEnded, Confirmed, ObjectLanguage}
+use Rattle.iim_object.specs.Format.Places.{Place, MayFollow, place_after, tokens_of}
+use Rattle.iim_object.specs.Format.Causes.{number_cause, subfile_cause, end_cause, confirmed_cause}
 use Rattle.iim_object.specs.States.{state_with}
-use Rattle.iim_object.specs.Reading.{Tells, StandsAt, GoesOn, Refuses}
-use Rattle.iim_object.specs.Saved.{TokensLead, TokensLeadOnAlike}
+use Rattle.iim_object.specs.Format.Reading.{IsStateAt, StandsAt, LeadsOn, Refuses}
+use Rattle.iim_object.specs.Format.Saved.{TokensLead, TokensLeadOnAlike}
 use Rattle.iim_object.proofs.Numbers.{each-append, once-append}
-use Rattle.iim_object.proofs.Steps.{tells_of, once_last, number_goes_on, number_refused, subfile_goes_on, subfile_refused, end_goes_on, end_refused, confirmed_goes_on, confirmed_refused, tokens_follow}
+use Rattle.iim_object.proofs.Steps.{tells_of, once_last, number_leads_on, number_refused, subfile_leads_on, subfile_refused, end_leads_on, end_refused, confirmed_leads_on, confirmed_refused, tokens_follow}
 use Rattle.iim_object.proofs.Reached.{front_lives, no_lengths}
 use Rattle.iim_object.proofs.Staying.{last_row}
 use Rattle.iim_object.proofs.Saved.{one_state}
@@ -19,10 +19,10 @@ use Rattle.iim_object.proofs.Leading.{tokens_after}
 
 -- ---- a token follows at both places
 
-same_length : (s : State) (p q : Place) → Tells s p → Tells s q → length p.lengths ≡ length q.lengths
+same_length : (s : State) (p q : Place) → IsStateAt s p → IsStateAt s q → length p.lengths ≡ length q.lengths
 same_length s p q t u = sym t.subfiles ∙ u.subfiles
 
-same_number : (s : State) (p q : Place) (set n : ℕ) → Tells s p → Tells s q → InRow (record { set = set; number = n }) → number_at set p.stated ≡ number_at set q.stated
+same_number : (s : State) (p q : Place) (set n : ℕ) → IsStateAt s p → IsStateAt s q → InRow (record { set = set; number = n }) → number_at set p.stated ≡ number_at set q.stated
 same_number s p q set n t u (inl h) = subst (λ (k : ℕ). number_at k p.stated ≡ number_at k q.stated) (sym h.0) (sym t.mode ∙ u.mode)
 same_number s p q set n t u (inr (inl h)) = subst (λ (k : ℕ). number_at k p.stated ≡ number_at k q.stated) (sym h.0) (sym t.largest ∙ u.largest)
 same_number s p q set n t u (inr (inr h)) = elim h.0 [
@@ -57,7 +57,7 @@ same_ending p q (Confirmed n) e = refl
 -- ---- what a token does to a state
 
 abbrev Step : State → ObjectToken → Type 0
-Step s token = ((next : State) × GoesOn (Some s) token (Some next)) ⊎ ((cause : SizeCause) × Refuses (Some s) token cause)
+Step s token = ((next : State) × LeadsOn (Some s) token (Some next)) ⊎ ((cause : SizeCause) × Refuses (Some s) token cause)
 
 by_cause : (P : Type 0) (o : Option SizeCause) → (o ≡ None → P) → ((cause : SizeCause) → o ≡ Some cause → P) → P
 by_cause P None f g = f refl
@@ -66,14 +66,14 @@ by_cause P (Some cause) f g = g cause refl
 step : (s : State) (token : ObjectToken) → Step s token
 step s (NumberRead set n) =
     let new : State = state_with s set n in
-    by_cause (Step s (NumberRead set n)) (number_cause new.mode new.announced new.maximum) (λ e. inl (new, number_goes_on s set n e)) (λ cause e. inr (cause, number_refused s set n cause e))
+    by_cause (Step s (NumberRead set n)) (number_cause new.mode new.announced new.maximum) (λ e. inl (new, number_leads_on s set n e)) (λ cause e. inr (cause, number_refused s set n cause e))
 step s (SubfileBegun count) =
     by_cause (Step s (SubfileBegun count)) (subfile_cause s.mode s.subfile s.announced s.maximum s.total count)
-    (λ e. inl (record s { subfiles = s.subfiles + 1; total = s.total + count }, subfile_goes_on s count e)) (λ cause e. inr (cause, subfile_refused s count cause e))
-step s ObjectEnded = by_cause (Step s ObjectEnded) (end_cause s.announced s.total) (λ e. inl (s, end_goes_on s e)) (λ cause e. inr (cause, end_refused s cause e))
-step s (Confirmed n) = by_cause (Step s (Confirmed n)) (confirmed_cause s.total n) (λ e. inl (s, confirmed_goes_on s n e)) (λ cause e. inr (cause, confirmed_refused s n cause e))
+    (λ e. inl (record s { subfiles = s.subfiles + 1; total = s.total + count }, subfile_leads_on s count e)) (λ cause e. inr (cause, subfile_refused s count cause e))
+step s ObjectEnded = by_cause (Step s ObjectEnded) (end_cause s.announced s.total) (λ e. inl (s, end_leads_on s e)) (λ cause e. inr (cause, end_refused s cause e))
+step s (Confirmed n) = by_cause (Step s (Confirmed n)) (confirmed_cause s.total n) (λ e. inl (s, confirmed_leads_on s n e)) (λ cause e. inr (cause, confirmed_refused s n cause e))
 
-next_of : (s : State) (p : Place) (token : ObjectToken) → StandsAt (Some s) p → MayFollow p token → IsAlive ObjectLanguage (tokens_of p ++ token ∷ []) → (next : State) × GoesOn (Some s) token (Some next)
+next_of : (s : State) (p : Place) (token : ObjectToken) → StandsAt (Some s) p → MayFollow p token → IsAlive ObjectLanguage (tokens_of p ++ token ∷ []) → (next : State) × LeadsOn (Some s) token (Some next)
 next_of s p token st follows alive = elim (step s token) [ inl goes ↦ goes | inr dies ↦ absurd ((dies.1 p st follows).0.1 alive) ]
 
 -- ---- tokens

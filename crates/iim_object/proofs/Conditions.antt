@@ -1,18 +1,18 @@
 -- The first cause by tests is the cause of the lowest number whose condition holds.
 use Rattle.std.proofs.Common.{◌≡◌, ℕ, ◌+◌, ◌<◌, ◌≤◌, ◌==◌, if◌then◌else◌, Bool, true, false, ◌&&◌, not, nat_lt, eqb, List, sum, Option, Some, None, is_some, unwrap_or, refl, sym, ap, subst, ◌∙◌, arith, inl, inr}
 use Rattle.std.proofs.lemmas.Bool.{cases_Bool, cases_lt, eqb-true, eq-eqb, lt-ltb}
-use Rattle.iim_dataset.specs.Languages.{IsAlive, DiesAt}
-use Rattle.iim_tables.specs.Numbers.{greatest_size}
+use Rattle.iim_dataset.specs.Format.Languages.{IsAlive, DiesAt}
+use Rattle.iim_dataset.specs.Format.Octets.{greatest_size}
 use Rattle.iim_object.specs.declared.state.State.{State}
 use Rattle.iim_object.specs.declared.fault.SizeCause.{SizeCause}
 use Rattle.iim_object.specs.declared.fault.SizeCause.TheVariants.{ModeClash, SizeClash, SubfileTooLong, PastSize, Short, ConfirmedWrong}
-use Rattle.iim_object.specs.Sizes.{Stated, AreStated, number_at}
-use Rattle.iim_object.specs.Objects.{ObjectToken, NumberRead, SubfileBegun, ObjectEnded, Confirmed, ObjectLanguage}
-use Rattle.iim_object.specs.Places.{Place, MayFollow, HasBoth, tokens_of, place_after}
-use Rattle.iim_object.specs.Causes.{is_given, is_above, bound, is_past, cause_at}
-use Rattle.iim_object.specs.Conditions.{number_of, stated_with, PassesBound, HasCause, IsFirstCause, CausesAreTheFirst, ObjectsDieForCauses}
-use Rattle.iim_object.specs.Reading.{StandsAt}
-use Rattle.iim_object.proofs.Steps.{tells_of, number_tells, number_cause_is, number_goes_on, number_refused, subfile_cause_is, subfile_goes_on, subfile_refused, end_cause_is, end_goes_on, end_refused, confirmed_cause_is, confirmed_goes_on, confirmed_refused, tokens_follow, given_is, is_given_by, none_of, both_true, given, not_below, is_below, announced_small, not_true}
+use Rattle.iim_object.specs.Format.Sizes.{Stated, AreStated, number_at}
+use Rattle.iim_object.specs.Format.Objects.{ObjectToken, NumberRead, SubfileBegun, ObjectEnded, Confirmed, ObjectLanguage}
+use Rattle.iim_object.specs.Format.Places.{Place, MayFollow, HasBoth, tokens_of, place_after}
+use Rattle.iim_object.specs.Format.Causes.{is_given, is_above, bound, is_past, cause_at}
+use Rattle.iim_object.specs.Format.Conditions.{number_of, stated_with, PassesBound, HasCause, IsFirstCause, CausesAreTheFirst, ObjectsDieForCauses}
+use Rattle.iim_object.specs.Format.Reading.{StandsAt}
+use Rattle.iim_object.proofs.Steps.{tells_of, number_tells, number_cause_is, number_leads_on, number_refused, subfile_cause_is, subfile_leads_on, subfile_refused, end_cause_is, end_leads_on, end_refused, confirmed_cause_is, confirmed_leads_on, confirmed_refused, tokens_follow, given_is, is_given_by, none_of, both_true, given, not_below, is_below, announced_small, not_true}
 
 -- ---- numbers of causes
 
@@ -362,20 +362,20 @@ pub record Leads (s : State) (p : Place) (token : ObjectToken) : Type 0 where
 leads : (s : State) (p : Place) (token : ObjectToken) → StandsAt (Some s) p → MayFollow p token → Leads s p token
 leads s p (NumberRead set n) st (not_ended, none, stated) =
     let is = number_cause_is s p set n (number_tells s p set n (tells_of s p st) stated) in
-    record { on = λ e. (number_goes_on s set n (is ∙ e) p st (not_ended, none, stated)).alive; dead = λ c e. (number_refused s set n c (is ∙ e) p st (not_ended, none, stated)).0 }
+    record { on = λ e. (number_leads_on s set n (is ∙ e) p st (not_ended, none, stated)).alive; dead = λ c e. (number_refused s set n c (is ∙ e) p st (not_ended, none, stated)).0 }
 leads s p (SubfileBegun count) st (not_ended, both, few) =
     let t = tells_of s p st in
     let is = subfile_cause_is s p count t in
     record {
-      on = λ e. (subfile_goes_on s count (is ∙ e) p st (not_ended, both, few)).alive;
+      on = λ e. (subfile_leads_on s count (is ∙ e) p st (not_ended, both, few)).alive;
       dead = λ c e. (subfile_refused s count c (is ∙ e) p st (not_ended, both, few)).0;
     }
 leads s p ObjectEnded st may =
     let is = end_cause_is s p (tells_of s p st) in
-    record { on = λ e. (end_goes_on s (is ∙ e) p st may).alive; dead = λ c e. (end_refused s c (is ∙ e) p st may).0 }
+    record { on = λ e. (end_leads_on s (is ∙ e) p st may).alive; dead = λ c e. (end_refused s c (is ∙ e) p st may).0 }
 leads s p (Confirmed n) st may =
     let is = confirmed_cause_is s p n (tells_of s p st) in
-    record { on = λ e. (confirmed_goes_on s n (is ∙ e) p st may).alive; dead = λ c e. (confirmed_refused s n c (is ∙ e) p st may).0 }
+    record { on = λ e. (confirmed_leads_on s n (is ∙ e) p st may).alive; dead = λ c e. (confirmed_refused s n c (is ∙ e) p st may).0 }
 
 pub dies_law : ObjectsDieForCauses
 dies_law reader p token st may =

@@ -3,10 +3,11 @@ use Rattle.std.proofs.Common.{◌≡◌, ℕ, ◌<◌, ◌≤◌, ◌⊎◌, Boo
 use Rattle.std.specs.List.{AllByRecursion}
 use Rattle.std.proofs.lemmas.Bool.{eq-eqb, ne_eqb}
 use Rattle.std.proofs.lemmas.List.Elements.{filter-append}
-use Rattle.iim_dataset.specs.Datasets.{Dataset}
-use Rattle.iim_object.specs.Places.{Place}
-use Rattle.iim_object.specs.Records.{AreRecords, MeetRows, numbers_of, lengths_of}
-use Rattle.iim_object.specs.Behind.{of_record, ending_of, place_behind, RecordsAreByNumber}
+use Rattle.iim_dataset.specs.Format.Datasets.{Dataset, of_record}
+use Rattle.iim_object.specs.Format.Places.{Place}
+use Rattle.iim_object.specs.Format.Records.{AreObjectRecords, numbers_of, lengths_of}
+use Rattle.iim_tables.specs.Format.Records.{IsGoodRecord}
+use Rattle.iim_object.specs.Format.Numbers.{ending_of, place_after_datasets, RecordsAreByNumber}
 use Rattle.iim_object.proofs.Members.{IsMember, all_front, all_back, all_map, one_confirmation, some_subfile}
 
 -- ---- the datasets of a record
@@ -67,7 +68,7 @@ nines_in b x y z s =
 abbrev pub place_with : List Dataset → List Dataset → List Dataset → Place
 place_with d7 d8 d9 = record { stated = numbers_of d7; lengths = lengths_of d8; ending = ending_of d9 }
 
-pub place_is : (b x y z : List Dataset) → AreSorted b x y z → place_behind (b ++ (x ++ (y ++ z))) ≡ place_with x y z
+pub place_is : (b x y z : List Dataset) → AreSorted b x y z → place_after_datasets (b ++ (x ++ (y ++ z))) ≡ place_with x y z
 place_is b x y z s = λ i. place_with (sevens_in b x y z s i) (eights_in b x y z s i) (nines_in b x y z s i)
 
 -- ---- where datasets end
@@ -143,7 +144,7 @@ at_nine ds more before r7 r8 r9 m (x ∷ t) e others one seen parts rest = inr (
         let tail : t ++ more ≡ [] = cc in
         no_more t more tail
 
-pub cut : (ds more : List Dataset) (r : AreRecords (ds ++ more)) → Cut ds more r.r7 r.r8 r.r9
+pub cut : (ds more : List Dataset) (r : AreObjectRecords (ds ++ more)) → Cut ds more r.r7 r.r8 r.r9
 cut ds more r = elim (split ds more r.before (r.r7 ++ (r.r8 ++ r.r9)) r.parts) [
   | inl p ↦ inl (record {
     before = ds;
@@ -180,7 +181,7 @@ of_rec : (rec : ℕ) (ds : List Dataset) → AllByRecursion (IsMember rec) ds �
 of_rec rec ds h = all_map (IsMember rec) (λ (d : Dataset). d.rec ≡ rec) ds (λ d m. m.0) h
 
 -- the records that come after are sorted
-pub sorted : {ds : List Dataset} (r : AreRecords ds) → AreSorted r.before r.r7 r.r8 r.r9
+pub sorted : {ds : List Dataset} (r : AreObjectRecords ds) → AreSorted r.before r.r7 r.r8 r.r9
 sorted r = record { others = r.others; sevens = of_rec 7 r.r7 r.descriptor.each; eights = of_rec 8 r.r8 r.object.each; nines = of_rec 9 r.r9 r.confirmation.each }
 
 pub records_by_number : RecordsAreByNumber
@@ -213,7 +214,7 @@ pub record NextEnd (ds r7 r8 : List Dataset) : Type 0 where
   pub seen : ds ≡ before ++ (r7 ++ r8)
 
 -- after numbers: another one, or the first subfile
-next_in_numbers : (ds : List Dataset) (d : Dataset) (more r7 r8 r9 : List Dataset) → MeetRows 7 r7 → MeetRows 8 r8 → 7 ≤ d.rec → InNumbers ds (d ∷ more) r7 r8 r9
+next_in_numbers : (ds : List Dataset) (d : Dataset) (more r7 r8 r9 : List Dataset) → IsGoodRecord 7 r7 → IsGoodRecord 8 r8 → 7 ≤ d.rec → InNumbers ds (d ∷ more) r7 r8 r9
     → (NextNumber ds d r7 × (d.rec ≡ 7)) ⊎ (NextSubfile ds d r7 r8 × (d.rec ≡ 8))
 next_in_numbers ds d more r7 r8 r9 good7 good8 high c = elim (first_is (λ (x : Dataset). x.rec < 7) d more c.between (c.m7 ++ (r8 ++ r9)) c.left c.others_left) [
   | inl p ↦ absurd (omega (arith, p.2))
@@ -234,7 +235,7 @@ next_in_numbers ds d more r7 r8 r9 good7 good8 high c = elim (first_is (λ (x : 
 ]
 
 -- after subfiles: another one, or the end
-next_in_subfiles : (ds : List Dataset) (d : Dataset) (more r7 r8 r9 : List Dataset) → MeetRows 8 r8 → MeetRows 9 r9 → InSubfiles ds (d ∷ more) r7 r8 r9
+next_in_subfiles : (ds : List Dataset) (d : Dataset) (more r7 r8 r9 : List Dataset) → IsGoodRecord 8 r8 → IsGoodRecord 9 r9 → InSubfiles ds (d ∷ more) r7 r8 r9
     → (NextSubfile ds d r7 r8 × (d.rec ≡ 8)) ⊎ (NextEnd ds r7 r8 × IsMember 9 d)
 next_in_subfiles ds d more r7 r8 r9 good8 good9 c =
     let eights = all_back (λ (x : Dataset). x.rec ≡ 8) c.d8 c.m8 (subst (AllByRecursion (λ x. x.rec ≡ 8)) c.whole (of_rec 8 r8 good8.each)) in
@@ -246,21 +247,21 @@ next_in_subfiles ds d more r7 r8 r9 good8 good9 c =
           inr (record { before = c.before; others = c.others; seen = c.seen ∙ ap (λ (t : List Dataset). c.before ++ (r7 ++ t)) (sym all) }, nine.0)
     ]
 
-pub next_number : (ds : List Dataset) (d : Dataset) (more : List Dataset) (r : AreRecords (ds ++ d ∷ more)) → d.rec ≡ 7 → NextNumber ds d r.r7
+pub next_number : (ds : List Dataset) (d : Dataset) (more : List Dataset) (r : AreObjectRecords (ds ++ d ∷ more)) → d.rec ≡ 7 → NextNumber ds d r.r7
 next_number ds d more r is = elim (cut ds (d ∷ more) r) [
   | inl c ↦ elim (next_in_numbers ds d more r.r7 r.r8 r.r9 r.descriptor r.object (omega arith) c) [ inl n ↦ n.0 | inr n ↦ absurd (omega (arith, n.1)) ]
   | inr (inl c) ↦ elim (next_in_subfiles ds d more r.r7 r.r8 r.r9 r.object r.confirmation c) [ inl n ↦ absurd (omega (arith, n.1)) | inr n ↦ absurd (omega (arith, n.1.0)) ]
   | inr (inr c) ↦ absurd (let none : d ∷ more ≡ [] = c.left in cc)
 ]
 
-pub next_subfile : (ds : List Dataset) (d : Dataset) (more : List Dataset) (r : AreRecords (ds ++ d ∷ more)) → d.rec ≡ 8 → NextSubfile ds d r.r7 r.r8
+pub next_subfile : (ds : List Dataset) (d : Dataset) (more : List Dataset) (r : AreObjectRecords (ds ++ d ∷ more)) → d.rec ≡ 8 → NextSubfile ds d r.r7 r.r8
 next_subfile ds d more r is = elim (cut ds (d ∷ more) r) [
   | inl c ↦ elim (next_in_numbers ds d more r.r7 r.r8 r.r9 r.descriptor r.object (omega arith) c) [ inl n ↦ absurd (omega (arith, n.1)) | inr n ↦ n.0 ]
   | inr (inl c) ↦ elim (next_in_subfiles ds d more r.r7 r.r8 r.r9 r.object r.confirmation c) [ inl n ↦ n.0 | inr n ↦ absurd (omega (arith, n.1.0)) ]
   | inr (inr c) ↦ absurd (let none : d ∷ more ≡ [] = c.left in cc)
 ]
 
-pub next_end : (ds : List Dataset) (d : Dataset) (more : List Dataset) (r : AreRecords (ds ++ d ∷ more)) → d.rec ≡ 9 → NextEnd ds r.r7 r.r8
+pub next_end : (ds : List Dataset) (d : Dataset) (more : List Dataset) (r : AreObjectRecords (ds ++ d ∷ more)) → d.rec ≡ 9 → NextEnd ds r.r7 r.r8
 next_end ds d more r is = elim (cut ds (d ∷ more) r) [
   | inl c ↦ elim (next_in_numbers ds d more r.r7 r.r8 r.r9 r.descriptor r.object (omega arith) c) [ inl n ↦ absurd (omega (arith, n.1)) | inr n ↦ absurd (omega (arith, n.1)) ]
   | inr (inl c) ↦ elim (next_in_subfiles ds d more r.r7 r.r8 r.r9 r.object r.confirmation c) [ inl n ↦ absurd (omega (arith, n.1)) | inr n ↦ n.0 ]

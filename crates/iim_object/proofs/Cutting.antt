@@ -2,10 +2,10 @@
 use Rattle.std.proofs.Common.{◌≡◌, ℕ, ◌+◌, ◌*◌, ◌≤◌, ◌&&◌, nat_le, inl, inr, subst, IsTrue, List, [], ◌∷◌, ◌++◌, length, refl, sym, ap, ◌∙◌, arith, append_assoc, length-append}
 use Rattle.std.proofs.Math.Nat.{mul-le-mul_left}
 use Rattle.std.proofs.lemmas.Bool.{and_parts, leb-true, cases_lt}
-use Rattle.iim_object.specs.Cuts.{joined_parts, AreFull, ObjectsAreCutOneWay}
-use Rattle.iim_object.specs.Plans.{is_plan, fits, max_subfiles}
-use Rattle.iim_tables.specs.Numbers.{greatest_size}
-use Rattle.iim_object.specs.Packing.{SubfilesAreFew}
+use Rattle.iim_object.specs.Format.Cuts.{joined_parts, AreFull, ObjectsAreCutOneWay}
+use Rattle.iim_object.specs.Format.Plans.{is_plan, fits, max_subfiles}
+use Rattle.iim_dataset.specs.Format.Octets.{greatest_size}
+use Rattle.iim_object.specs.Format.Packing.{SubfilesAreFew}
 use Rattle.iim_object.specs.declared.size.Size.{Size}
 
 -- lists of one length that lists begin with are equal, and so is what follows

@@ -1,11 +1,11 @@
 -- Tokens lead to the places that are possible.
 use Rattle.std.proofs.Common.{◌≡◌, ℕ, ◌<◌, ◌≤◌, List, [], ◌∷◌, ◌++◌, length, map, refl, sym, ap, subst, ◌∙◌, arith, append_assoc, append-nil, length-append}
-use Rattle.iim_dataset.specs.Languages.{IsAlive}
-use Rattle.iim_object.specs.Plans.{max_subfiles}
-use Rattle.iim_object.specs.Sizes.{Stated, AreStated}
-use Rattle.iim_object.specs.Objects.{ObjectToken, NumberRead, SubfileBegun, ObjectEnded, Confirmed, ObjectLanguage, number_tokens}
-use Rattle.iim_object.specs.Places.{Place, Ending, NotEnded, Ended, ConfirmedAs, HasBoth, MayFollow, ending_tokens, place_start, place_after, tokens_of}
-use Rattle.iim_object.specs.Saved.{IsPossible, TokensLead, PlacesAreLedTo}
+use Rattle.iim_dataset.specs.Format.Languages.{IsAlive}
+use Rattle.iim_object.specs.Format.Plans.{max_subfiles}
+use Rattle.iim_object.specs.Format.Sizes.{Stated, AreStated}
+use Rattle.iim_object.specs.Format.Objects.{ObjectToken, NumberRead, SubfileBegun, ObjectEnded, Confirmed, ObjectLanguage, number_tokens}
+use Rattle.iim_object.specs.Format.Places.{Place, Ending, NotEnded, Ended, ConfirmedAs, HasBoth, MayFollow, ending_tokens, place_start, place_after, tokens_of}
+use Rattle.iim_object.specs.Format.Saved.{IsPossible, TokensLead, PlacesAreLedTo}
 use Rattle.iim_object.proofs.Leads.{stated_front}
 use Rattle.iim_object.proofs.Steps.{tokens_follow}
 

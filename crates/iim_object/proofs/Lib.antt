@@ -4,7 +4,7 @@ pub mod Steps
 pub mod Conditions
 pub mod Members
 pub mod Cuts
-pub mod Behind
+pub mod DatasetPlaces
 pub mod Leads
 pub mod Stands
 pub mod Cutting

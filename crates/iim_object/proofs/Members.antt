@@ -1,20 +1,17 @@
 -- Datasets of records 7, 8 and 9 as their rows say, and the numbers that they state.
-use Rattle.std.proofs.Common.{◌≡◌, ℕ, zero, suc, ◌+◌, ◌*◌, ◌/◌, ◌%◌, ◌<◌, ◌≤◌, Bool, true, false, ◌&&◌, ◌||◌, ◌==◌, cond, eqb, nat_le, List, [], ◌∷◌, ◌++◌, length, replicate, Option, Some, None, is_some, IfSome, refl, sym, ap, subst, ◌∙◌, arith, inl, inr}
-use Rattle.std.specs.List.{AllByRecursion, list_any, list_all, count_by}
+use Rattle.std.proofs.Common.{◌≡◌, ℕ, zero, suc, ◌+◌, ◌*◌, ◌/◌, ◌%◌, ◌<◌, ◌≤◌, Bool, true, false, ◌&&◌, ◌||◌, ◌==◌, cond, eqb, nat_le, List, [], ◌∷◌, ◌++◌, length, replicate, Some, None, is_some, refl, sym, ap, subst, ◌∙◌, arith, inl, inr}
+use Rattle.std.specs.List.{AllByRecursion, list_any, list_all}
 use Rattle.std.proofs.lemmas.List.{length-replicate}
 use Rattle.std.proofs.lemmas.List.Sums.{sum_by-cons}
 use Rattle.std.proofs.lemmas.Bool.{and_parts, and_from, eqb-true, leb-true, le-leb, eq-eqb}
 use Rattle.std.proofs.lemmas.Bool.Decides.{eqb_tells}
-use Rattle.iim_dataset.specs.Octets.{Octets, number}
-use Rattle.iim_dataset.specs.Datasets.{Dataset}
-use Rattle.iim_tables.specs.Numbers.{greatest_size}
-use Rattle.iim_tables.specs.Octets.{within}
-use Rattle.iim_tables.specs.Kinds.{is_mode, is_size_from}
-use Rattle.iim_tables.specs.Rows.{table, row_of, Meets}
-use Rattle.iim_tables.specs.declared.shape.Row.{Row}
-use Rattle.iim_tables.specs.declared.shape.Duty.TheVariants.{Mandatory}
-use Rattle.iim_object.specs.Sizes.{Stated, InRow, AreOnce, AreStated, number_at}
-use Rattle.iim_object.specs.Records.{MeetRows, numbers_of, lengths_of}
+use Rattle.iim_dataset.specs.Format.Octets.{Octets, number, greatest_size, within}
+use Rattle.iim_dataset.specs.Format.Datasets.{Dataset}
+use Rattle.iim_tables.specs.Format.Kinds.{is_mode, is_size_from}
+use Rattle.iim_tables.specs.Format.Rows.{table, row_of, Meets}
+use Rattle.iim_tables.specs.Format.Records.{repeats, may_repeat, occurrences, IsGoodDataset, IsGoodRecord}
+use Rattle.iim_object.specs.Format.Sizes.{Stated, InRow, AreOnce, AreStated, number_at}
+use Rattle.iim_object.specs.Format.Records.{numbers_of, lengths_of}
 use Rattle.iim_object.proofs.Numbers.{none_parts}
 
 -- ---- parts of lists
@@ -37,9 +34,13 @@ all_map P Q (x ∷ xs) f h = (f x h.0, all_map P Q xs f h.1)
 
 -- ---- what the rows say
 
--- the dataset is of the record and as its row says
+-- the dataset is of the record and good
 abbrev pub IsMember : ℕ → Dataset → Type 0
-IsMember rec d = (d.rec ≡ rec) × Octets d.octets × Meets rec d.set d.octets
+IsMember rec d = (d.rec ≡ rec) × IsGoodDataset d
+
+-- its octets are as its row says
+met : (rec : ℕ) (d : Dataset) → IsMember rec d → Meets rec d.set d.octets
+met rec d m = subst (λ (r : ℕ). Meets r d.set d.octets) m.0 m.1.meets
 
 abbrev pub stated_of : Dataset → Stated
 stated_of d = record { set = d.set; number = number d.octets }
@@ -90,16 +91,12 @@ in_row set xs = by_row (λ (k : ℕ). Meets 7 k xs → InRow (record { set = k; 
     (λ none h. absurd (no_row 7 set xs none h))
 
 -- no dataset of record 7 repeats
-at_most_one : (set : ℕ) (xs : List ℕ) (k : ℕ) → Meets 7 set xs → IfSome (row_of 7 set) (λ r. r.repeats ≡ false → k ≤ 1) → k ≤ 1
+at_most_one : (set : ℕ) (xs : List ℕ) (k : ℕ) → Meets 7 set xs → (repeats 7 set ≡ false → k ≤ 1) → k ≤ 1
 unfolding row_of table
-at_most_one set xs k = by_row (λ (n : ℕ). Meets 7 n xs → IfSome (row_of 7 n) (λ r. r.repeats ≡ false → k ≤ 1) → k ≤ 1) set
+at_most_one set xs k = by_row (λ (n : ℕ). Meets 7 n xs → (repeats 7 n ≡ false → k ≤ 1) → k ≤ 1) set
     (λ h f. f refl) (λ h f. f refl) (λ h f. f refl) (λ h f. f refl) (λ none h. absurd (no_row 7 set xs none h))
 
 -- ---- numbers of record 7
-
--- how many datasets have the number
-abbrev occurrences : ℕ → List Dataset → ℕ
-occurrences set ds = count_by (λ d. d.set == set) ds
 
 counted : (set : ℕ) (d : Dataset) (ds : List Dataset) → occurrences set (d ∷ ds) ≡ cond (d.set == set) 1 0 + occurrences set ds
 counted set d ds = sum_by-cons (λ (x : Dataset). cond (x.set == set) 1 0) d ds
@@ -131,19 +128,19 @@ none_counts set (d ∷ ds) h = let parts = none_parts set (stated_of d) (numbers
 are_once : (ds : List Dataset) → AllByRecursion (IsMember 7) ds → ((set : ℕ) (xs : List ℕ) → Meets 7 set xs → occurrences set ds ≤ 1) → AreOnce (numbers_of ds)
 are_once [] h once = tt
 are_once (d ∷ ds) h once = (
-  none_at d.set ds (omega (arith, once d.set d.octets h.0.2, here_counted d.set d ds (eq-eqb d.set d.set refl))),
+  none_at d.set ds (omega (arith, once d.set d.octets (met 7 d h.0), here_counted d.set d ds (eq-eqb d.set d.set refl))),
   are_once ds h.1 (λ set xs m. omega (arith, once set xs m, rest_counted set d ds)),
 )
 
 each_in_row : (ds : List Dataset) → AllByRecursion (IsMember 7) ds → AllByRecursion InRow (numbers_of ds)
 each_in_row [] h = tt
-each_in_row (d ∷ ds) h = (in_row d.set d.octets h.0.2, each_in_row ds h.1)
+each_in_row (d ∷ ds) h = (in_row d.set d.octets (met 7 d h.0), each_in_row ds h.1)
 
 -- the numbers of record 7 meet their rows
-pub are_stated : (ds : List Dataset) → MeetRows 7 ds → AreStated (numbers_of ds)
+pub are_stated : (ds : List Dataset) → IsGoodRecord 7 ds → AreStated (numbers_of ds)
 are_stated ds m = record {
   each = each_in_row ds m.each;
-  once = are_once ds m.each (λ set xs h. at_most_one set xs (count_by (λ (d : Dataset). d.set == set) ds) h (m.once set));
+  once = are_once ds m.each (λ set xs h. at_most_one set xs (occurrences set ds) h (m.once set));
 }
 
 occurs_at : (set : ℕ) (ds : List Dataset) → list_any (λ d. d.set == set) ds ≡ true → is_some (number_at set (numbers_of ds)) ≡ true
@@ -161,9 +158,9 @@ at_occurs set n (d ∷ ds) h = elim (eqb_tells d.set set) [
 ]
 
 -- mode and largest subfile occur
-pub have_both : (ds : List Dataset) → MeetRows 7 ds → (is_some (number_at 10 (numbers_of ds)) ≡ true) × (is_some (number_at 20 (numbers_of ds)) ≡ true)
+pub have_both : (ds : List Dataset) → IsGoodRecord 7 ds → (is_some (number_at 10 (numbers_of ds)) ≡ true) × (is_some (number_at 20 (numbers_of ds)) ≡ true)
 unfolding row_of table
-have_both ds m = (occurs_at 10 ds (m.mandatory 10 refl), occurs_at 20 ds (m.mandatory 20 refl))
+have_both ds m = (occurs_at 10 ds m.mandatory.0, occurs_at 20 ds m.mandatory.1.0)
 
 once_counts : (set : ℕ) (ds : List Dataset) → AreOnce (numbers_of ds) → occurrences set ds ≤ 1
 once_counts set [] o = omega arith
@@ -172,23 +169,18 @@ once_counts set (d ∷ ds) o = elim (eqb_tells d.set set) [
   | inr other ↦ omega (arith, not_counted set d ds other.0, once_counts set ds o.1)
 ]
 
-if_some : (o : Option Row) (P : Row → Type 0) → ((r : Row) → P r) → IfSome o P
-if_some None P f = tt
-if_some (Some r) P f = f r
-
-if_none : (o : Option Row) (P : Row → Type 0) → o ≡ None → IfSome o P
-if_none o P e = rw e tt
+-- a number that has no row may repeat
+no_row_repeats : (rec set : ℕ) → row_of rec set ≡ None → repeats rec set ≡ false → ⊥
+no_row_repeats rec set none once = let bad : true ≡ false = sym (ap may_repeat none) ∙ once in absurd cc
 
 -- datasets whose numbers are those of an object are record 7
 pub descriptor_of : (ds : List Dataset) (mode largest : ℕ) → AllByRecursion (IsMember 7) ds → AreOnce (numbers_of ds)
-    → number_at 10 (numbers_of ds) ≡ Some mode → number_at 20 (numbers_of ds) ≡ Some largest → MeetRows 7 ds
+    → number_at 10 (numbers_of ds) ≡ Some mode → number_at 20 (numbers_of ds) ≡ Some largest → IsGoodRecord 7 ds
 unfolding row_of table
 descriptor_of ds mode largest each once m l = record {
   each = each;
-  mandatory = λ set. by_row (λ (k : ℕ). IfSome (row_of 7 k) (λ r. r.duty ≡ Mandatory → list_any (λ d. d.set == k) ds ≡ true)) set
-      (λ h. at_occurs 10 mode ds m) (λ h. at_occurs 20 largest ds l) (λ h. absurd cc) (λ h. absurd cc)
-      (λ none. if_none (row_of 7 set) (λ r. r.duty ≡ Mandatory → list_any (λ d. d.set == set) ds ≡ true) none);
-  once = λ set. if_some (row_of 7 set) (λ r. r.repeats ≡ false → count_by (λ d. d.set == set) ds ≤ 1) (λ r h. once_counts set ds once);
+  mandatory = (at_occurs 10 mode ds m, (at_occurs 20 largest ds l, tt));
+  once = λ set h. once_counts set ds once;
 }
 
 -- ---- records 8 and 9
@@ -206,46 +198,44 @@ unfolding row_of table
 no_other9 set e = rw e refl
 
 -- subfiles, one or more, are record 8
-pub object_of : (ds : List Dataset) → AllByRecursion (IsMember 8) ds → 0 < length ds → MeetRows 8 ds
+pub object_of : (ds : List Dataset) → AllByRecursion (IsMember 8) ds → 0 < length ds → IsGoodRecord 8 ds
 unfolding row_of table
 object_of [] each some = absurd (omega arith)
 object_of (d ∷ ds) each some = record {
   each = each;
-  mandatory = λ set. by_one (λ (k : ℕ). IfSome (row_of 8 k) (λ r. r.duty ≡ Mandatory → list_any (λ x. x.set == k) (d ∷ ds) ≡ true)) 8 set (no_other8 set)
-      (λ h. first) (λ none. if_none (row_of 8 set) (λ r. r.duty ≡ Mandatory → list_any (λ x. x.set == set) (d ∷ ds) ≡ true) none);
-  once = λ set. by_one (λ (k : ℕ). IfSome (row_of 8 k) (λ r. r.repeats ≡ false → count_by (λ x. x.set == k) (d ∷ ds) ≤ 1)) 8 set (no_other8 set)
-      (λ h. absurd cc) (λ none. if_none (row_of 8 set) (λ r. r.repeats ≡ false → count_by (λ x. x.set == set) (d ∷ ds) ≤ 1) none);
+  mandatory = (first, tt);
+  once = λ set. by_one (λ (k : ℕ). repeats 8 k ≡ false → occurrences k (d ∷ ds) ≤ 1) 8 set (no_other8 set)
+      (λ h. absurd cc) (λ none h. absurd (no_row_repeats 8 set none h));
 }
   where
     ten : d.set ≡ 10
-    ten = by_one (λ (k : ℕ). Meets 8 k d.octets → k ≡ 10) 8 d.set (no_other8 d.set) (λ h. refl) (λ none h. absurd (no_row 8 d.set d.octets none h)) each.0.2
+    ten = by_one (λ (k : ℕ). Meets 8 k d.octets → k ≡ 10) 8 d.set (no_other8 d.set) (λ h. refl) (λ none h. absurd (no_row 8 d.set d.octets none h)) (met 8 d each.0)
 
     first : (eqb d.set 10 || list_any (λ x. x.set == 10) ds) ≡ true
     first = rw (eq-eqb d.set 10 ten) refl
 
 pub ten_of : (d : Dataset) → IsMember 9 d → d.set ≡ 10
-ten_of d m = by_one (λ (k : ℕ). Meets 9 k d.octets → k ≡ 10) 9 d.set (no_other9 d.set) (λ h. refl) (λ none h. absurd (no_row 9 d.set d.octets none h)) m.2
+ten_of d m = by_one (λ (k : ℕ). Meets 9 k d.octets → k ≡ 10) 9 d.set (no_other9 d.set) (λ h. refl) (λ none h. absurd (no_row 9 d.set d.octets none h)) (met 9 d m)
 
 -- record 8 has a subfile
-pub some_subfile : (ds : List Dataset) → MeetRows 8 ds → 0 < length ds
+pub some_subfile : (ds : List Dataset) → IsGoodRecord 8 ds → 0 < length ds
 unfolding row_of table
-some_subfile [] m = let bad : false ≡ true = m.mandatory 10 refl in absurd cc
+some_subfile [] m = let bad : false ≡ true = m.mandatory.0 in absurd cc
 some_subfile (d ∷ ds) m = omega arith
 
 -- one confirmed size is record 9
-pub confirmation_of : (d : Dataset) → IsMember 9 d → MeetRows 9 (d ∷ [])
+pub confirmation_of : (d : Dataset) → IsMember 9 d → IsGoodRecord 9 (d ∷ [])
 unfolding row_of table
 confirmation_of d m = record {
   each = (m, tt);
-  mandatory = λ set. by_one (λ (k : ℕ). IfSome (row_of 9 k) (λ r. r.duty ≡ Mandatory → list_any (λ x. x.set == k) (d ∷ []) ≡ true)) 9 set (no_other9 set)
-      (λ h. rw (eq-eqb d.set 10 (ten_of d m)) refl) (λ none. if_none (row_of 9 set) (λ r. r.duty ≡ Mandatory → list_any (λ x. x.set == set) (d ∷ []) ≡ true) none);
-  once = λ set. if_some (row_of 9 set) (λ r. r.repeats ≡ false → count_by (λ x. x.set == set) (d ∷ []) ≤ 1) (λ r h. once_counts set (d ∷ []) (refl, tt));
+  mandatory = (rw (eq-eqb d.set 10 (ten_of d m)) refl, tt);
+  once = λ set h. once_counts set (d ∷ []) (refl, tt);
 }
 
 -- and record 9 is one
-pub one_confirmation : (ds : List Dataset) → MeetRows 9 ds → (d : Dataset) × IsMember 9 d × (ds ≡ d ∷ [])
+pub one_confirmation : (ds : List Dataset) → IsGoodRecord 9 ds → (d : Dataset) × IsMember 9 d × (ds ≡ d ∷ [])
 unfolding row_of table
-one_confirmation [] m = let bad : false ≡ true = m.mandatory 10 refl in absurd cc
+one_confirmation [] m = let bad : false ≡ true = m.mandatory.0 in absurd cc
 one_confirmation (d ∷ []) m = (d, m.each.0, refl)
 one_confirmation (d ∷ e ∷ ds) m =
     let most : occurrences 10 (d ∷ e ∷ ds) ≤ 1 = m.once 10 refl in
@@ -283,23 +273,23 @@ states : (p : Stated) → InRow p → States p
 unfolding row_of table
 states p (inl h) = (
   record { rec = 7; set = 10; octets = p.number ∷ [] },
-  (refl, (omega (arith, h.1), tt), and_from (nat_le p.number 1) true (le-leb p.number 1 h.1) refl),
+  (refl, record { numbered = omega arith; octets = (omega (arith, h.1), tt); meets = and_from (nat_le p.number 1) true (le-leb p.number 1 h.1) refl; file_format = refl }),
   stated_is p 10 (number (p.number ∷ [])) h.0 (omega arith),
 )
 states p (inr (inl h)) = (
   record { rec = 7; set = 20; octets = spelled p.number },
-  (refl, spelled_octets p.number h.2, is_size 1 p.number h.1 h.2),
+  (refl, record { numbered = omega arith; octets = spelled_octets p.number h.2; meets = is_size 1 p.number h.1 h.2; file_format = refl }),
   stated_is p 20 (number (spelled p.number)) h.0 (size_read p.number),
 )
 states p (inr (inr h)) = elim h.0 [
   | inl is ↦ (
     record { rec = 7; set = 90; octets = spelled p.number },
-    (refl, spelled_octets p.number h.1, is_size 0 p.number (omega arith) h.1),
+    (refl, record { numbered = omega arith; octets = spelled_octets p.number h.1; meets = is_size 0 p.number (omega arith) h.1; file_format = refl }),
     stated_is p 90 (number (spelled p.number)) is (size_read p.number),
   )
   | inr is ↦ (
     record { rec = 7; set = 95; octets = spelled p.number },
-    (refl, spelled_octets p.number h.1, is_size 0 p.number (omega arith) h.1),
+    (refl, record { numbered = omega arith; octets = spelled_octets p.number h.1; meets = is_size 0 p.number (omega arith) h.1; file_format = refl }),
     stated_is p 95 (number (spelled p.number)) is (size_read p.number),
   )
 ]
@@ -320,7 +310,7 @@ unfolding row_of table
 subfile n h =
     let long : length {A = ℕ} (replicate n 0) ≡ n = length-replicate n 0 in (
       record { rec = 8; set = 10; octets = replicate n 0 },
-      (refl, zeros_octets n, and_from (within 0 greatest_size (length {A = ℕ} (replicate n 0))) true (rw long (and_from (nat_le 0 n) (nat_le n greatest_size) (le-leb 0 n (omega arith)) (le-leb n greatest_size h))) refl),
+      (refl, record { numbered = omega arith; octets = zeros_octets n; meets = and_from (within 0 greatest_size (length {A = ℕ} (replicate n 0))) true (rw long (and_from (nat_le 0 n) (nat_le n greatest_size) (le-leb 0 n (omega arith)) (le-leb n greatest_size h))) refl; file_format = refl }),
       long,
     )
 
@@ -333,4 +323,4 @@ subfiles (n ∷ ns) h =
 
 pub confirmation : (n : ℕ) → n ≤ greatest_size → (d : Dataset) × IsMember 9 d × (number d.octets ≡ n)
 unfolding row_of table
-confirmation n h = (record { rec = 9; set = 10; octets = spelled n }, (refl, spelled_octets n h, is_size 0 n (omega arith) h), size_read n)
+confirmation n h = (record { rec = 9; set = 10; octets = spelled n }, (refl, record { numbered = omega arith; octets = spelled_octets n h; meets = is_size 0 n (omega arith) h; file_format = refl }), size_read n)

@@ -4,11 +4,11 @@ use Rattle.std.proofs.Common.{◌≡◌, ℕ, zero, suc, ◌+◌, ◌<◌, ◌�
 use Rattle.std.specs.List.{AllByRecursion}
 use Rattle.std.proofs.lemmas.Bool.{cases_Bool, eqb-true, eqb-false, eq-eqb, ne_eqb}
 use Rattle.std.proofs.lemmas.List.Sums.{sum_by-cons}
-use Rattle.iim_dataset.specs.Languages.{IsAlive}
-use Rattle.iim_tables.specs.Numbers.{greatest_size}
-use Rattle.iim_object.specs.Sizes.{Stated, InRow, AreOnce, AreStated, Agree, number_at, mode_number, sizes_at}
-use Rattle.iim_object.specs.Living.{NoClash}
-use Rattle.iim_object.specs.Objects.{ObjectToken, NumberRead, SubfileBegun, ObjectEnded, Confirmed, ObjectLanguage, number_tokens}
+use Rattle.iim_dataset.specs.Format.Languages.{IsAlive}
+use Rattle.iim_dataset.specs.Format.Octets.{greatest_size}
+use Rattle.iim_object.specs.Format.Sizes.{Stated, InRow, AreOnce, AreStated, Agree, number_at, mode_number, sizes_at}
+use Rattle.iim_object.specs.Format.Living.{NoClash}
+use Rattle.iim_object.specs.Format.Objects.{ObjectToken, NumberRead, SubfileBegun, ObjectEnded, Confirmed, ObjectLanguage, number_tokens}
 
 -- ---- what is stated stays stated
 

@@ -3,8 +3,8 @@ use Rattle.std.proofs.Common.{◌≡◌, ℕ, ◌+◌, List, [], ◌++◌, lengt
 use Rattle.std.specs.Prelude.{Result, Ok, Err, OnOk, OnErr}
 use Rattle.std.proofs.lemmas.List.{take-append-le}
 use Rattle.std.specs.Io.KnownBytes.{Appends}
-use Rattle.iim_dataset.specs.Devices.{Device}
-use Rattle.iim_dataset.specs.DeviceLaws.{TextsJoin}
+use Rattle.iim_dataset.specs.Format.Devices.{Device}
+use Rattle.iim_dataset.specs.Format.DeviceLaws.{TextsJoin}
 use Rattle.iim_object.specs.Outputs.{Puts, Cuts}
 use Rattle.iim_object.specs.declared.output.Output.{Output}
 

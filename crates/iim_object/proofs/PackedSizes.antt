@@ -5,13 +5,13 @@ use Rattle.std.proofs.lemmas.Bool.{and_parts, leb-true}
 use Rattle.std.proofs.lemmas.List.Sums.{sum_by-cons}
 use Rattle.byteorder.specs.Endian.{big_bytes}
 use Rattle.byteorder.specs.Numbers.{big_number-reads_back}
-use Rattle.iim_dataset.specs.Octets.{number}
-use Rattle.iim_tables.specs.Numbers.{size_octets, greatest_size}
-use Rattle.iim_object.specs.Sizes.{Agree, number_at, mode_number}
-use Rattle.iim_object.specs.Plans.{is_plan, fits, limit_of, bound_of}
-use Rattle.iim_object.specs.Records.{numbers_of, lengths_of}
-use Rattle.iim_object.specs.Cuts.{joined_parts, AreFull, IsCut}
-use Rattle.iim_object.specs.Packing.{is_known, announced_of, maximum_of, plan_datasets, subfile_datasets, IsAsKnown, packed_sizes, PackedObjectsHaveSizes}
+use Rattle.iim_dataset.specs.Format.Octets.{number, greatest_size}
+use Rattle.iim_tables.specs.Format.Numbers.{size_octets}
+use Rattle.iim_object.specs.Format.Sizes.{Agree, number_at, mode_number}
+use Rattle.iim_object.specs.Format.Plans.{is_plan, fits, limit_of, bound_of}
+use Rattle.iim_object.specs.Format.Records.{numbers_of, lengths_of}
+use Rattle.iim_object.specs.Format.Cuts.{joined_parts, AreFull, IsCut}
+use Rattle.iim_object.specs.Format.Packing.{is_known, announced_of, maximum_of, plan_datasets, subfile_datasets, IsAsKnown, packed_sizes, PackedObjectsHaveSizes}
 use Rattle.iim_object.specs.declared.size.Size.{Size}
 use Rattle.iim_object.specs.declared.size.Size.TheVariants.{Known, Unknown}
 

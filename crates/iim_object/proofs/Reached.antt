@@ -4,17 +4,17 @@ use Rattle.std.specs.List.{AllByRecursion}
 use Rattle.std.proofs.lemmas.Bool.{cases_lt, eq-eqb}
 use Rattle.std.proofs.lemmas.List.Sums.{sum_by-cons}
 use Rattle.std.proofs.Math.Nat.{suc-mul}
-use Rattle.iim_dataset.specs.Languages.{IsAlive}
-use Rattle.iim_tables.specs.Numbers.{greatest_size}
+use Rattle.iim_dataset.specs.Format.Languages.{IsAlive}
+use Rattle.iim_dataset.specs.Format.Octets.{greatest_size}
 use Rattle.iim_object.specs.declared.state.State.{State}
-use Rattle.iim_object.specs.Plans.{max_subfiles}
-use Rattle.iim_object.specs.Sizes.{Stated, InRow, AreOnce, AreStated, number_at}
-use Rattle.iim_object.specs.Objects.{ObjectToken, SubfileBegun, ObjectLanguage, number_tokens}
-use Rattle.iim_object.specs.Living.{NoClash, HasDuties, Fit}
-use Rattle.iim_object.specs.Places.{Place, NotEnded, HasBoth, ending_tokens, tokens_of}
-use Rattle.iim_object.specs.States.{HasNumbers, HasSubfiles, IsState}
-use Rattle.iim_object.specs.Reading.{Tells, StandsAt}
-use Rattle.iim_object.specs.Reached.{PlacesAreReached}
+use Rattle.iim_object.specs.Format.Plans.{max_subfiles}
+use Rattle.iim_object.specs.Format.Sizes.{Stated, InRow, AreOnce, AreStated, number_at}
+use Rattle.iim_object.specs.Format.Objects.{ObjectToken, SubfileBegun, ObjectLanguage, number_tokens}
+use Rattle.iim_object.specs.Format.Living.{NoClash, HasDuties, Fit}
+use Rattle.iim_object.specs.Format.Places.{Place, NotEnded, HasBoth, ending_tokens, tokens_of}
+use Rattle.iim_object.specs.Format.States.{HasNumbers, HasSubfiles, IsState}
+use Rattle.iim_object.specs.Format.Reading.{IsStateAt, StandsAt}
+use Rattle.iim_object.specs.Format.Reached.{PlacesAreReached}
 use Rattle.iim_object.proofs.Numbers.{in_row_at, mode_at_most_one, at_least_one, at_most_size}
 use Rattle.iim_object.proofs.Subfiles.{numbers_law, subfiles_law}
 use Rattle.iim_object.proofs.Steps.{tells_of, both_of, not_ended_tokens, number_before}
@@ -220,7 +220,7 @@ total_in s is = filled_sum s.subfiles (unwrap_or s.subfile 0) s.total (elim (cas
 abbrev pub place_in : State → Place
 place_in s = record { stated = numbers_in s; lengths = lengths_in s; ending = NotEnded }
 
-pub tells_in : (s : State) → IsState s → Tells s (place_in s)
+pub tells_in : (s : State) → IsState s → IsStateAt s (place_in s)
 tells_in s is = record {
   mode = sym (mode_in s);
   largest = sym (largest_in s);

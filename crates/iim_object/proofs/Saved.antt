@@ -1,18 +1,20 @@
 -- Where numbers are those of a possible place, and the state that stands there.
 use Rattle.std.proofs.Common.{◌≡◌, ℕ, ◌+◌, ◌-◌, ◌*◌, ◌≤◌, true, List, [], ◌∷◌, ◌++◌, length, sum, Option, Some, None, is_some, IsSome, IfSome, unwrap_or, Result, Ok, Err, IfOk, IfErr, refl, sym, ap, subst, ◌∙◌, arith, length-append}
 use Rattle.std.specs.Result.{result_ok}
-use Rattle.iim_dataset.specs.Languages.{IsAlive}
-use Rattle.iim_tables.specs.Numbers.{greatest_size}
+use Rattle.iim_dataset.specs.Format.Languages.{IsAlive}
+use Rattle.iim_dataset.specs.Format.Octets.{greatest_size}
 use Rattle.iim_object.specs.declared.state.State.{State}
 use Rattle.iim_object.specs.declared.fault.SizeCause.{SizeCause}
-use Rattle.iim_object.specs.Plans.{max_subfiles}
-use Rattle.iim_object.specs.Sizes.{mode_number}
-use Rattle.iim_object.specs.Objects.{ObjectToken, SubfileBegun, ObjectLanguage}
-use Rattle.iim_object.specs.Places.{Place, HasBoth, MayFollow, place_after, tokens_of}
-use Rattle.iim_object.specs.Causes.{is_given, bound}
-use Rattle.iim_object.specs.States.{HasNumbers, HasSubfiles, IsState, TakesSubfile, state_numbers}
-use Rattle.iim_object.specs.Reading.{Tells, StandsAt, GoesOn, Refuses}
-use Rattle.iim_object.specs.Saved.{IsAt, LastIsBegun, IsPossible, Finds, PlacesHaveOneReader, stated_numbers}
+use Rattle.iim_object.specs.Format.Plans.{max_subfiles}
+use Rattle.iim_object.specs.Format.Sizes.{mode_number}
+use Rattle.iim_object.specs.Format.Objects.{ObjectToken, SubfileBegun, ObjectLanguage}
+use Rattle.iim_object.specs.Format.Places.{Place, HasBoth, MayFollow, place_after, tokens_of}
+use Rattle.iim_object.specs.Format.Causes.{is_given, bound}
+use Rattle.iim_object.specs.Format.States.{HasNumbers, HasSubfiles, IsState, state_numbers}
+use Rattle.iim_object.specs.States.{TakesSubfile}
+use Rattle.iim_object.specs.Format.Reading.{IsStateAt, StandsAt, LeadsOn, Refuses}
+use Rattle.iim_object.specs.Format.Saved.{IsAt, LastIsBegun, IsPossible, PlacesHaveOneReader, stated_numbers}
+use Rattle.iim_object.specs.Finding.{Finds}
 use Rattle.iim_object.proofs.Steps.{given_is, or_less, or_less_right, under_both, sum_more, tokens_follow}
 use Rattle.iim_object.proofs.Reached.{front_lives, place_in, tells_in, stands_in, few_in, state_of}
 use Rattle.iim_object.proofs.Staying.{takes_of, may_take}
@@ -46,14 +48,14 @@ subfiles_within s h = under_both s.announced s.maximum s.total greatest_size h.t
 pub possible_of : (r : Option State) (p : Place) → StandsAt r p → length p.lengths ≤ max_subfiles → IsPossible p
 possible_of r p st few = record { stated = st.stated; subfiles = st.subfiles; duties = st.duties; few = few; alive = st.alive }
 
-pub stands_by : (s : State) (p : Place) → Tells s p → IsPossible p → StandsAt (Some s) p
+pub stands_by : (s : State) (p : Place) → IsStateAt s p → IsPossible p → StandsAt (Some s) p
 stands_by s p t h = record { state = s; is_state = refl; tells = t; stated = h.stated; subfiles = h.subfiles; duties = h.duties; alive = h.alive }
 
 -- the numbers, one by one
-pub tells_by : (s : State) (p : Place) → state_numbers s ≡ stated_numbers p.stated → s.subfiles ≡ length p.lengths → s.total ≡ sum p.lengths → Tells s p
+pub tells_by : (s : State) (p : Place) → state_numbers s ≡ stated_numbers p.stated → s.subfiles ≡ length p.lengths → s.total ≡ sum p.lengths → IsStateAt s p
 tells_by s p numbers subfiles total = record { mode = cc; largest = cc; announced = cc; maximum = cc; subfiles = subfiles; total = total }
 
-pub numbers_told : (s : State) (p : Place) → Tells s p → state_numbers s ≡ stated_numbers p.stated
+pub numbers_told : (s : State) (p : Place) → IsStateAt s p → state_numbers s ≡ stated_numbers p.stated
 numbers_told s p t = λ i. t.mode i ∷ t.largest i ∷ t.announced i ∷ t.maximum i ∷ []
 
 pub one_state : PlacesHaveOneReader
@@ -72,7 +74,7 @@ one_state a b p x y =
 
 -- ---- between subfiles
 
--- the state with so many subfiles, and octets of them
+-- the state with `subfiles` subfiles, and `total` octets of them
 abbrev pub with_subfiles : State → ℕ → ℕ → State
 with_subfiles s subfiles total = record s { subfiles = subfiles; total = total }
 
@@ -128,7 +130,7 @@ before n taken count left heads p is possible =
     let leads : place_after q token ≡ p = λ i. record { stated = p.stated; lengths = sym b.lengths_are i; ending = p.ending } in
     let both : HasBoth p.stated = possible.duties (omega (arith, long)) in
     let follows : MayFollow q token = (is.not_ended, both, omega (arith, long, possible.few)) in
-    let tells : Tells s q = tells_by s q is.numbers_are (omega (arith, is.subfiles, long)) (omega (arith, b.octets, total, b.fits)) in
+    let tells : IsStateAt s q = tells_by s q is.numbers_are (omega (arith, is.subfiles, long)) (omega (arith, b.octets, total, b.fits)) in
     let all : tokens_of p ≡ tokens_of q ++ token ∷ [] = ap tokens_of (sym leads) ∙ tokens_follow q token follows in
     let alive : IsAlive ObjectLanguage (tokens_of q) = front_lives (tokens_of q) (token ∷ []) (subst (IsAlive ObjectLanguage) all possible.alive) in
     let few : length q.lengths ≤ max_subfiles = omega (arith, long, possible.few) in
@@ -169,7 +171,7 @@ some_state : (a b : State) → Some a ≡ Some b → a ≡ b
 some_state a b e = cc
 
 pub finds_within : (n : State) (taken count left heads : ℕ) (new : State) → MayHaveBegun taken count left heads → IsState (state_before n taken count left heads)
-    → TakesSubfile (state_before n taken count left heads) → GoesOn (Some (state_before n taken count left heads)) (SubfileBegun count) (Some new)
+    → TakesSubfile (state_before n taken count left heads) → LeadsOn (Some (state_before n taken count left heads)) (SubfileBegun count) (Some new)
     → Finds (IsAt (state_numbers n) taken (Some (count, left)) heads) (Some new)
 finds_within n taken count left heads new (some, fits, long, room) is takes goes =
     let s : State = state_before n taken count left heads in
@@ -200,7 +202,7 @@ finds_within n taken count left heads new (some, fits, long, room) is takes goes
     }
 
 pub finds_after : (n : State) (taken count left heads : ℕ) (answer : Result State SizeCause) → MayHaveBegun taken count left heads → IsState (state_before n taken count left heads)
-    → TakesSubfile (state_before n taken count left heads) → IfOk answer (λ new. GoesOn (Some (state_before n taken count left heads)) (SubfileBegun count) (Some new))
+    → TakesSubfile (state_before n taken count left heads) → IfOk answer (λ new. LeadsOn (Some (state_before n taken count left heads)) (SubfileBegun count) (Some new))
     → IfErr answer (Refuses (Some (state_before n taken count left heads)) (SubfileBegun count)) → Finds (IsAt (state_numbers n) taken (Some (count, left)) heads) (result_ok answer)
 finds_after n taken count left heads (Ok new) begun is takes goes refused = finds_within n taken count left heads new begun is takes goes
 finds_after n taken count left heads (Err cause) begun is takes goes refused = dead_head n taken count left heads cause refused

@@ -2,28 +2,28 @@
 use Rattle.std.proofs.Common.{◌≡◌, ◌<◌, List, [], ◌∷◌, length, true, Option, Some, None, refl, sym, ap, subst, ◌∙◌, arith, unwrap_or}
 use Rattle.std.proofs.lemmas.List.{length-map}
 use Rattle.std.proofs.lemmas.Bool.{eq-eqb}
-use Rattle.iim_dataset.specs.Octets.{number}
-use Rattle.iim_dataset.specs.Datasets.{Dataset}
+use Rattle.iim_dataset.specs.Format.Octets.{number}
+use Rattle.iim_dataset.specs.Format.Datasets.{Dataset}
 use Rattle.iim_object.specs.declared.state.State.{State}
-use Rattle.iim_object.specs.Sizes.{Agree, number_at, sizes_at}
-use Rattle.iim_object.specs.Living.{HasDuties}
-use Rattle.iim_object.specs.Causes.{is_given}
-use Rattle.iim_object.specs.Records.{AreRecords, HaveSizes, numbers_of, lengths_of}
-use Rattle.iim_object.specs.Behind.{place_behind}
-use Rattle.iim_object.specs.Reading.{StandsAt}
-use Rattle.iim_object.specs.Told.{ReadersTellSizes}
+use Rattle.iim_object.specs.Format.Sizes.{Agree, number_at, sizes_at}
+use Rattle.iim_object.specs.Format.Living.{HasDuties}
+use Rattle.iim_object.specs.Format.Causes.{is_given}
+use Rattle.iim_object.specs.Format.Records.{AreObjectRecords, HaveSizes, numbers_of, lengths_of}
+use Rattle.iim_object.specs.Format.Numbers.{place_after_datasets}
+use Rattle.iim_object.specs.Format.Reading.{StandsAt}
+use Rattle.iim_object.specs.Format.Told.{ReadersTellSizes}
 use Rattle.iim_object.proofs.Subfiles.{agree_of, confirmed_law}
 use Rattle.iim_object.proofs.Steps.{sizes_are}
 use Rattle.iim_object.proofs.Members.{one_confirmation, some_subfile, ten_of}
 use Rattle.iim_object.proofs.Cuts.{place_is, place_with, sorted}
 
-pub have_sizes : (s : State) (ds : List Dataset) (r : AreRecords ds) → StandsAt (Some s) (place_behind ds)
+pub have_sizes : (s : State) (ds : List Dataset) (r : AreObjectRecords ds) → StandsAt (Some s) (place_after_datasets ds)
     → HaveSizes r.r7 r.r8 r.r9 (record { known = is_given s.mode 1; subfile = unwrap_or s.subfile 0; announced = s.announced; maximum = s.maximum; subfiles = s.subfiles; total = s.total })
 have_sizes s ds r st =
     let one = one_confirmation r.r9 r.confirmation in
     let e : Dataset = one.0 in
-    let place : place_behind ds ≡ place_with r.r7 r.r8 (e ∷ []) =
-    ap place_behind r.parts ∙ (place_is r.before r.r7 r.r8 r.r9 (sorted r) ∙ ap (place_with r.r7 r.r8) one.2) in
+    let place : place_after_datasets ds ≡ place_with r.r7 r.r8 (e ∷ []) =
+    ap place_after_datasets r.parts ∙ (place_is r.before r.r7 r.r8 r.r9 (sorted r) ∙ ap (place_with r.r7 r.r8) one.2) in
     let at : StandsAt (Some s) (place_with r.r7 r.r8 (e ∷ [])) = subst (StandsAt (Some s)) place st in
     let sizes = sizes_are s (place_with r.r7 r.r8 (e ∷ [])) (number e.octets) at refl in
     let duties : HasDuties sizes.0 sizes.1 (numbers_of r.r7) = record { stated = at.stated; mode = sizes.2; largest = sizes.3 } in
@@ -44,7 +44,7 @@ have_sizes s ds r st =
 pub tell_sizes : ReadersTellSizes
 tell_sizes None = (record { known = true; subfile = 0; announced = None; maximum = None; subfiles = 0; total = 0 }, λ ds r st. absurd (none_stands ds st))
   where
-    none_stands : (ds : List Dataset) → StandsAt None (place_behind ds) → ⊥
+    none_stands : (ds : List Dataset) → StandsAt None (place_after_datasets ds) → ⊥
     none_stands ds st = let clash : ◌≡◌ {A = Option State} None (Some st.state) = st.is_state in cc
 tell_sizes (Some s) = (
   record { known = is_given s.mode 1; subfile = unwrap_or s.subfile 0; announced = s.announced; maximum = s.maximum; subfiles = s.subfiles; total = s.total },

@@ -2,17 +2,18 @@
 use Rattle.std.proofs.Common.{◌≡◌, ℕ, ◌+◌, ◌≤◌, ◌==◌, List, [], ◌∷◌, ◌++◌, length, Option, Some, None, is_some, IfSome, refl, sym, ap, subst, ◌∙◌, arith, inl, inr, length-append}
 use Rattle.std.specs.List.{AllByRecursion}
 use Rattle.std.proofs.lemmas.Bool.{cases_Bool, eqb-true}
-use Rattle.iim_tables.specs.Numbers.{greatest_size}
+use Rattle.iim_dataset.specs.Format.Octets.{greatest_size}
 use Rattle.iim_object.specs.declared.state.State.{State}
-use Rattle.iim_object.specs.Sizes.{Stated, InRow, number_at}
-use Rattle.iim_object.specs.Objects.{NumberRead, SubfileBegun}
-use Rattle.iim_object.specs.Places.{Place, MayFollow, place_after}
-use Rattle.iim_object.specs.Living.{NoClash}
-use Rattle.iim_object.specs.Causes.{number_cause, subfile_cause, bound}
-use Rattle.iim_object.specs.States.{IsState, TakesNumber, TakesSubfile, set_where, state_with}
-use Rattle.iim_object.specs.Reading.{StandsAt, GoesOn}
+use Rattle.iim_object.specs.Format.Sizes.{Stated, InRow, number_at}
+use Rattle.iim_object.specs.Format.Objects.{NumberRead, SubfileBegun}
+use Rattle.iim_object.specs.Format.Places.{Place, MayFollow, place_after}
+use Rattle.iim_object.specs.Format.Living.{NoClash}
+use Rattle.iim_object.specs.Format.Causes.{number_cause, subfile_cause, bound}
+use Rattle.iim_object.specs.Format.States.{IsState}
+use Rattle.iim_object.specs.States.{TakesNumber, TakesSubfile, set_where, state_with}
+use Rattle.iim_object.specs.Format.Reading.{StandsAt, LeadsOn}
 use Rattle.iim_object.proofs.Numbers.{mode_at_most_one, at_least_one, at_most_size}
-use Rattle.iim_object.proofs.Steps.{tells_of, clear_numbers, clear_of, announced_small, not_below, subfile_goes_on}
+use Rattle.iim_object.proofs.Steps.{tells_of, clear_numbers, clear_of, announced_small, not_below, subfile_leads_on}
 use Rattle.iim_object.proofs.Reached.{numbers_in, mode_in, largest_in, announced_in, maximum_in, are_stated, largest_at_most, maximum_at_most, place_in, tells_in, stands_in, state_of}
 
 -- ---- tokens that may not come
@@ -21,7 +22,7 @@ pub last_row : (ps : List Stated) (q : Stated) → AllByRecursion InRow (ps ++ q
 last_row [] q each = each.0
 last_row (p ∷ ps) q each = last_row ps q each.1
 
-pub number_not_taken : (s : State) (set number : ℕ) → (TakesNumber s set number → ⊥) → GoesOn (Some s) (NumberRead set number) (Some s)
+pub number_not_taken : (s : State) (set number : ℕ) → (TakesNumber s set number → ⊥) → LeadsOn (Some s) (NumberRead set number) (Some s)
 number_not_taken s set number out p st (not_ended, none, stated) =
     absurd (out ((tells_of s p st).subfiles ∙ ap length none, last_row p.stated (record { set = set; number = number }) stated.each))
 
@@ -30,7 +31,7 @@ pub takes_of : (s : State) (count : ℕ) (p : Place) → StandsAt (Some s) p →
 takes_of s count p st (not_ended, both, few) =
     let t = tells_of s p st in (ap (λ (o : Option ℕ). is_some o) t.mode ∙ both.0, ap (λ (o : Option ℕ). is_some o) t.largest ∙ both.1, omega (arith, t.subfiles, few))
 
-pub subfile_not_taken : (s : State) (count : ℕ) → (TakesSubfile s → ⊥) → GoesOn (Some s) (SubfileBegun count) (Some s)
+pub subfile_not_taken : (s : State) (count : ℕ) → (TakesSubfile s → ⊥) → LeadsOn (Some s) (SubfileBegun count) (Some s)
 subfile_not_taken s count out p st follows = absurd (out (takes_of s count p st follows))
 
 -- ---- a number
@@ -87,6 +88,6 @@ pub subfile_state : (s : State) (count : ℕ) → IsState s → TakesSubfile s �
     → IsState (record s { subfiles = s.subfiles + 1; total = s.total + count })
 subfile_state s count is takes no_cause =
     let p : Place = place_in s in
-    let next = subfile_goes_on s count no_cause p (stands_in s is) (may_take s count is takes) in
+    let next = subfile_leads_on s count no_cause p (stands_in s is) (may_take s count is takes) in
     state_of (record s { subfiles = s.subfiles + 1; total = s.total + count }) (place_after p (SubfileBegun count)) next
     (omega (arith, (tells_in s is).subfiles, takes.2, length-append p.lengths (count ∷ [])))

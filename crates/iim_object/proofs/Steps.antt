@@ -3,18 +3,18 @@ use Rattle.std.proofs.Common.{◌≡◌, ℕ, zero, suc, ◌+◌, ◌<◌, ◌�
 use Rattle.std.specs.List.{AllByRecursion}
 use Rattle.std.proofs.lemmas.List.{map-append}
 use Rattle.std.proofs.lemmas.Bool.{cases_Bool, cases_lt, eqb-true, eq-eqb, lt-ltb, le-ltb}
-use Rattle.iim_dataset.specs.Languages.{IsAlive}
-use Rattle.iim_tables.specs.Numbers.{greatest_size}
+use Rattle.iim_dataset.specs.Format.Languages.{IsAlive}
+use Rattle.iim_dataset.specs.Format.Octets.{greatest_size}
 use Rattle.iim_object.specs.declared.state.State.{State}
 use Rattle.iim_object.specs.declared.fault.SizeCause.{SizeCause}
 use Rattle.iim_object.specs.declared.fault.SizeCause.TheVariants.{ModeClash, SizeClash, SubfileTooLong, PastSize, Short, ConfirmedWrong}
-use Rattle.iim_object.specs.Sizes.{Stated, AreOnce, AreStated, number_at, mode_number}
-use Rattle.iim_object.specs.Objects.{ObjectToken, NumberRead, SubfileBegun, ObjectEnded, Confirmed, ObjectLanguage, number_tokens}
-use Rattle.iim_object.specs.Living.{NoClash, HasDuties, Fit}
-use Rattle.iim_object.specs.Places.{Place, Ending, NotEnded, Ended, ConfirmedAs, ending_tokens, tokens_of, place_after, place_start, HasBoth}
-use Rattle.iim_object.specs.Behind.{TokensFollow}
-use Rattle.iim_object.specs.Causes.{is_given, is_above, number_cause, bound, is_past, subfile_cause, end_cause, confirmed_cause, cause_at}
-use Rattle.iim_object.specs.Reading.{Tells, StandsAt, GoesOn, LivesWith, Refuses, IsSizes}
+use Rattle.iim_object.specs.Format.Sizes.{Stated, AreOnce, AreStated, number_at, mode_number}
+use Rattle.iim_object.specs.Format.Objects.{ObjectToken, NumberRead, SubfileBegun, ObjectEnded, Confirmed, ObjectLanguage, number_tokens}
+use Rattle.iim_object.specs.Format.Living.{NoClash, HasDuties, Fit}
+use Rattle.iim_object.specs.Format.Places.{Place, Ending, NotEnded, Ended, ConfirmedAs, ending_tokens, tokens_of, place_after, place_start, HasBoth}
+use Rattle.iim_object.specs.Format.Numbers.{TokensFollow}
+use Rattle.iim_object.specs.Format.Causes.{is_given, is_above, number_cause, bound, is_past, subfile_cause, end_cause, confirmed_cause, cause_at}
+use Rattle.iim_object.specs.Format.Reading.{IsStateAt, StandsAt, LeadsOn, LivesWith, Refuses, IsSizes}
 use Rattle.iim_object.specs.States.{set_where, state_start, state_with}
 use Rattle.iim_object.proofs.Numbers.{at-append, at_most_size, in_row_at, mode_at_most_one, none-append, read-append}
 use Rattle.iim_object.proofs.Subfiles.{numbers_law, subfiles_law, ends_law, confirmed_law, each_append, sum_append}
@@ -130,11 +130,11 @@ pub some_is : (a b : State) → Some a ≡ Some b → a ≡ b
 some_is a b e = cc
 
 -- the state that the reader has tells of the place
-pub tells_of : (s : State) (p : Place) → StandsAt (Some s) p → Tells s p
-tells_of s p st = subst (λ (x : State). Tells x p) (sym (some_is s st.state st.is_state)) st.tells
+pub tells_of : (s : State) (p : Place) → StandsAt (Some s) p → IsStateAt s p
+tells_of s p st = subst (λ (x : State). IsStateAt x p) (sym (some_is s st.state st.is_state)) st.tells
 
-pub number_tells : (s : State) (p : Place) (set number : ℕ) → Tells s p → AreStated (p.stated ++ record { set = set; number = number } ∷ [])
-    → Tells (state_with s set number) (place_after p (NumberRead set number))
+pub number_tells : (s : State) (p : Place) (set number : ℕ) → IsStateAt s p → AreStated (p.stated ++ record { set = set; number = number } ∷ [])
+    → IsStateAt (state_with s set number) (place_after p (NumberRead set number))
 number_tells s p set number t stated =
     let none : number_at set p.stated ≡ None = once_last p.stated (record { set = set; number = number }) stated.once in
     record {
@@ -147,13 +147,13 @@ number_tells s p set number t stated =
     }
 
 -- the state's cause is the place's
-pub number_cause_is : (s : State) (p : Place) (set number : ℕ) → Tells (state_with s set number) (place_after p (NumberRead set number))
+pub number_cause_is : (s : State) (p : Place) (set number : ℕ) → IsStateAt (state_with s set number) (place_after p (NumberRead set number))
     → number_cause (state_with s set number).mode (state_with s set number).announced (state_with s set number).maximum ≡ cause_at p (NumberRead set number)
 number_cause_is s p set number t = λ i. number_cause (t.mode i) (t.announced i) (t.maximum i)
 
-pub number_goes_on : (s : State) (set number : ℕ) → number_cause (state_with s set number).mode (state_with s set number).announced (state_with s set number).maximum ≡ None
-    → GoesOn (Some s) (NumberRead set number) (Some (state_with s set number))
-number_goes_on s set number clear p st (not_ended, none, stated) =
+pub number_leads_on : (s : State) (set number : ℕ) → number_cause (state_with s set number).mode (state_with s set number).announced (state_with s set number).maximum ≡ None
+    → LeadsOn (Some s) (NumberRead set number) (Some (state_with s set number))
+number_leads_on s set number clear p st (not_ended, none, stated) =
     let tells = number_tells s p set number (tells_of s p st) stated in
     let no_cause = sym (number_cause_is s p set number tells) ∙ clear in
     record {
@@ -320,8 +320,8 @@ fits_clear known subfile ps lengths count d fit =
         let announced : is_some (number_at 90 ps) ≡ true = fit.by_mode ∙ known_one (given_is (number_at 10 ps) 1 e) known d.mode in
         ap (λ (b : Bool). b && not (is_some (number_at 90 ps))) e ∙ ap (λ (b : Bool). not b) announced
 
-subfile_tells : (s : State) (p : Place) (count subfiles total : ℕ) → Tells s p → subfiles ≡ s.subfiles + 1 → total ≡ s.total + count
-    → Tells (record s { subfiles = subfiles; total = total }) (place_after p (SubfileBegun count))
+subfile_tells : (s : State) (p : Place) (count subfiles total : ℕ) → IsStateAt s p → subfiles ≡ s.subfiles + 1 → total ≡ s.total + count
+    → IsStateAt (record s { subfiles = subfiles; total = total }) (place_after p (SubfileBegun count))
 subfile_tells s p count subfiles total t more octets = record {
   mode = t.mode;
   largest = t.largest;
@@ -331,7 +331,7 @@ subfile_tells s p count subfiles total t more octets = record {
   total = omega (arith, octets, t.total, sum_more p.lengths count);
 }
 
-pub subfile_cause_is : (s : State) (p : Place) (count : ℕ) → Tells s p → subfile_cause s.mode s.subfile s.announced s.maximum s.total count ≡ cause_at p (SubfileBegun count)
+pub subfile_cause_is : (s : State) (p : Place) (count : ℕ) → IsStateAt s p → subfile_cause s.mode s.subfile s.announced s.maximum s.total count ≡ cause_at p (SubfileBegun count)
 subfile_cause_is s p count t = λ i. subfile_cause (t.mode i) (t.largest i) (t.announced i) (t.maximum i) (t.total i) count
 
 pub not_ended_tokens : (p : Place) → p.ending ≡ NotEnded → tokens_of p ≡ number_tokens p.stated ++ map SubfileBegun p.lengths
@@ -347,9 +347,9 @@ subfile_tokens p count e =
 some_longer : (lengths : List ℕ) (count : ℕ) → 0 < length (lengths ++ count ∷ [])
 some_longer lengths count = omega (arith, length-append lengths (count ∷ []))
 
-pub subfile_goes_on : (s : State) (count : ℕ) → subfile_cause s.mode s.subfile s.announced s.maximum s.total count ≡ None
-    → GoesOn (Some s) (SubfileBegun count) (Some (record s { subfiles = s.subfiles + 1; total = s.total + count }))
-subfile_goes_on s count no_cause p st (not_ended, both, few) =
+pub subfile_leads_on : (s : State) (count : ℕ) → subfile_cause s.mode s.subfile s.announced s.maximum s.total count ≡ None
+    → LeadsOn (Some s) (SubfileBegun count) (Some (record s { subfiles = s.subfiles + 1; total = s.total + count }))
+subfile_leads_on s count no_cause p st (not_ended, both, few) =
     let t = tells_of s p st in
     let duties = both_of p.stated st.stated both in
     let d = duties.2 in
@@ -406,14 +406,14 @@ end_tokens : (p : Place) → p.ending ≡ NotEnded → tokens_of p ++ ObjectEnde
 end_tokens p e =
     ap (λ (t : List ObjectToken). t ++ ObjectEnded ∷ []) (not_ended_tokens p e) ∙ append_assoc (number_tokens p.stated) (map SubfileBegun p.lengths) (ObjectEnded ∷ [])
 
-pub end_cause_is : (s : State) (p : Place) → Tells s p → end_cause s.announced s.total ≡ cause_at p ObjectEnded
+pub end_cause_is : (s : State) (p : Place) → IsStateAt s p → end_cause s.announced s.total ≡ cause_at p ObjectEnded
 end_cause_is s p t = λ i. end_cause (t.announced i) (t.total i)
 
 no_length : (xs : List ℕ) → xs ≡ [] → length xs ≡ 0
 no_length xs e = ap length e
 
-pub end_goes_on : (s : State) → end_cause s.announced s.total ≡ None → GoesOn (Some s) ObjectEnded (Some s)
-end_goes_on s no_cause p st (not_ended, some) =
+pub end_leads_on : (s : State) → end_cause s.announced s.total ≡ None → LeadsOn (Some s) ObjectEnded (Some s)
+end_leads_on s no_cause p st (not_ended, some) =
     let t = tells_of s p st in
     let both = st.duties some in
     let duties = both_of p.stated st.stated both in
@@ -475,11 +475,11 @@ some_subfile s p st e = by_lengths p.lengths refl
     by_lengths [] f = let clash : ◌≡◌ {A = Ending} NotEnded Ended = sym (st.subfiles f) ∙ e in absurd cc
     by_lengths (l ∷ ls) f = omega (arith, ap length f)
 
-pub confirmed_cause_is : (s : State) (p : Place) (n : ℕ) → Tells s p → confirmed_cause s.total n ≡ cause_at p (Confirmed n)
+pub confirmed_cause_is : (s : State) (p : Place) (n : ℕ) → IsStateAt s p → confirmed_cause s.total n ≡ cause_at p (Confirmed n)
 confirmed_cause_is s p n t = λ i. confirmed_cause (t.total i) n
 
-pub confirmed_goes_on : (s : State) (n : ℕ) → confirmed_cause s.total n ≡ None → GoesOn (Some s) (Confirmed n) (Some s)
-confirmed_goes_on s n no_cause p st ended =
+pub confirmed_leads_on : (s : State) (n : ℕ) → confirmed_cause s.total n ≡ None → LeadsOn (Some s) (Confirmed n) (Some s)
+confirmed_leads_on s n no_cause p st ended =
     let t = tells_of s p st in
     let some = some_subfile s p st ended in
     let both = st.duties some in
@@ -525,7 +525,7 @@ tokens_follow p ObjectEnded (not_ended, some) = sym (end_tokens p not_ended)
 tokens_follow p (Confirmed n) ended = sym (confirmed_tokens p n ended)
 
 -- a token that leads on leaves the object layer alive
-pub lives_with : (old new : Option State) (token : ObjectToken) → GoesOn old token new → LivesWith old token
+pub lives_with : (old new : Option State) (token : ObjectToken) → LeadsOn old token new → LivesWith old token
 lives_with old new token goes p st may = subst (IsAlive ObjectLanguage) (tokens_follow p token may) (goes p st may).alive
 
 -- ---- the beginning, and the sizes at the end

@@ -3,11 +3,11 @@ use Rattle.std.proofs.Common.{◌≡◌, ℕ, ◌+◌, ◌-◌, ◌<◌, ◌≤�
 use Rattle.std.specs.List.{AllByRecursion}
 use Rattle.std.proofs.lemmas.List.{map-append}
 use Rattle.std.proofs.lemmas.List.Sums.{sum_by-append}
-use Rattle.iim_dataset.specs.Languages.{IsAlive}
-use Rattle.iim_object.specs.Records.{SizesAreDetermined}
-use Rattle.iim_object.specs.Sizes.{Stated, Agree, number_at, mode_number, sizes_at}
-use Rattle.iim_object.specs.Living.{HasDuties, Fit, IsWhole, NumbersLiveWithoutClash, SubfilesLiveWhileTheyFit, ObjectsEndWhereTheyAreWhole, TotalsAreConfirmed}
-use Rattle.iim_object.specs.Objects.{ObjectToken, SubfileBegun, ObjectEnded, Confirmed, ObjectLanguage, number_tokens}
+use Rattle.iim_dataset.specs.Format.Languages.{IsAlive}
+use Rattle.iim_object.specs.Format.Records.{SizesAreDetermined}
+use Rattle.iim_object.specs.Format.Sizes.{Stated, Agree, number_at, mode_number, sizes_at}
+use Rattle.iim_object.specs.Format.Living.{HasDuties, Fit, IsWhole, NumbersLiveWithoutClash, SubfilesLiveWhileTheyFit, ObjectsEndWhereTheyAreWhole, TotalsAreConfirmed}
+use Rattle.iim_object.specs.Format.Objects.{ObjectToken, SubfileBegun, ObjectEnded, Confirmed, ObjectLanguage, number_tokens}
 use Rattle.iim_object.proofs.Numbers.{numbers_alive, numbers_live, in_row_at, at_least_one, at_most_size, short_ones, sum-ones}
 
 pub numbers_law : NumbersLiveWithoutClash

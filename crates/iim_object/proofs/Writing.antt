@@ -2,13 +2,14 @@
 use Rattle.std.proofs.Common.{◌≡◌, ℕ, ◌<◌, ◌≤◌, Bool, true, false, cond, Option, Some, None, List, [], ◌∷◌, ◌++◌, length, take, drop, refl, sym, ap, subst, ◌∙◌, arith, append_assoc, append-nil, length-append, length-take}
 use Rattle.std.specs.Prelude.{vec_len, IfNone}
 use Rattle.std.proofs.lemmas.List.{take-append-drop}
-use Rattle.iim_dataset.specs.Devices.{Device, Wrote}
-use Rattle.iim_dataset.specs.DeviceLaws.{TextsJoin}
-use Rattle.iim_dataset.specs.Datasets.{Dataset, canonical_dataset, canonical_stream}
-use Rattle.iim_object.specs.Cuts.{joined_parts, AreFull, IsCut, ObjectsAreCutOneWay}
-use Rattle.iim_object.specs.Packing.{plan_datasets, subfile_dataset, subfile_datasets, confirmed_datasets, number_dataset, object_datasets, IsWritten}
+use Rattle.iim_dataset.specs.Format.Devices.{Device, Wrote}
+use Rattle.iim_dataset.specs.Format.DeviceLaws.{TextsJoin}
+use Rattle.iim_dataset.specs.Format.Datasets.{Dataset, canonical_dataset, canonical_stream}
+use Rattle.iim_object.specs.Format.Cuts.{joined_parts, AreFull, IsCut, ObjectsAreCutOneWay}
+use Rattle.iim_object.specs.Format.Packing.{plan_datasets, subfile_dataset, subfile_datasets, confirmed_datasets, number_dataset, object_datasets, IsWritten}
 use Rattle.iim_object.specs.Outputs.{Puts, Cuts}
-use Rattle.iim_object.specs.Writing.{Writing, total_of, begun_octets, StandsAt, Lengthens, Begins, BreaksOff, GoesOnWith, IsTheWhole, Finishes, writing_of, HasRoom, Fills, Flushes, Halts, write_cause}
+use Rattle.iim_object.specs.Format.Writing.{Writing, total_of, begun_octets, StandsAt, Lengthens, Begins, BreaksOff, ContinuesWith, IsTheWhole, Finishes, write_cause}
+use Rattle.iim_object.specs.Cutting.{writing_of, HasRoom, Fills, Flushes, Halts}
 use Rattle.iim_object.specs.declared.plan.Plan.{Plan}
 use Rattle.iim_object.specs.declared.output.Output.{Output}
 use Rattle.iim_object.specs.declared.cutter.Cutter.{Cutter}
@@ -85,8 +86,8 @@ goes_nowhere state w join unfailed = record {
   stands = λ object out s. subst (λ (t : List ℕ). StandsAt w t (out ++ [])) (sym (append-nil object)) (subst (StandsAt w object) (sym (append-nil out)) s);
 }
 
-pub goes_on : {W : Type 0} (state : W → Device) (a b c : Writing W) (xs ys : List ℕ) → TextsJoin → Lengthens state a b xs → Lengthens state b c ys → Lengthens state a c (xs ++ ys)
-goes_on state a b c xs ys join l m = record {
+pub leads_on : {W : Type 0} (state : W → Device) (a b c : Writing W) (xs ys : List ℕ) → TextsJoin → Lengthens state a b xs → Lengthens state b c ys → Lengthens state a c (xs ++ ys)
+leads_on state a b c xs ys join l m = record {
   more = l.more ++ m.more;
   wrote = join.more (state a.writer) (state b.writer) (state c.writer) l.more m.more l.wrote m.wrote;
   plan = m.plan ∙ l.plan;
@@ -184,7 +185,7 @@ regroup object joined held octets rest e = append_assoc object octets rest ∙ a
 
 -- A full subfile could not be written, and octets were to come after it.
 pub halted : {W : Type 0} (state : W → Device) (old new : Cutter W) (octets : List ℕ) → vec_len old.held ≡ old.plan.subfile → 1 ≤ length octets → Halts state old new (canonical_dataset (subfile_dataset old.held.items))
-    → BreaksOff state (GoesOnWith old.plan octets) (writing_of old) (writing_of new)
+    → BreaksOff state (ContinuesWith old.plan octets) (writing_of old) (writing_of new)
 halted state old new octets full some h =
     let text : List ℕ = canonical_dataset (subfile_dataset old.held.items) in
     let plan = old.plan in
@@ -213,8 +214,8 @@ halted state old new octets full some h =
           begins_by out text (canonical_stream (subfile_datasets others) ++ canonical_stream (confirmed_datasets ((object ++ octets) ++ rest))) whole h.cut.out is;
     }
 
-pub breaks_later : {W : Type 0} (state : W → Device) (plan : Plan) (a b c : Writing W) (xs ys : List ℕ) → TextsJoin → Lengthens state a b xs → BreaksOff state (GoesOnWith plan ys) b c
-    → BreaksOff state (GoesOnWith plan (xs ++ ys)) a c
+pub breaks_later : {W : Type 0} (state : W → Device) (plan : Plan) (a b c : Writing W) (xs ys : List ℕ) → TextsJoin → Lengthens state a b xs → BreaksOff state (ContinuesWith plan ys) b c
+    → BreaksOff state (ContinuesWith plan (xs ++ ys)) a c
 breaks_later state plan a b c xs ys join l k = record {
   more = l.more ++ k.more;
   appends = (join.broke (state a.writer) (state b.writer) (state c.writer) l.more k.more l.wrote (k.appends, k.broke)).0;

@@ -1,20 +1,7 @@
-pub mod Plans
-pub mod Sizes
-pub mod Objects
-pub mod Living
-pub mod Records
-pub mod Events
-pub mod Places
-pub mod Behind
-pub mod Causes
+-- What the promises cite: a reader has to believe these.
+pub mod Format
+-- What only proofs and private clauses cite.
 pub mod States
-pub mod Reading
-pub mod Reached
-pub mod Saved
-pub mod Conditions
-pub mod Told
-pub mod Cuts
-pub mod Packing
 pub mod Outputs
-pub mod PackCauses
-pub mod Writing
+pub mod Finding
+pub mod Cutting

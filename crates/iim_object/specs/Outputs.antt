@@ -1,6 +1,6 @@
 -- What is written to a target whose octets are counted.
 use Rattle.std.specs.Prelude.{◌≡◌, ℕ, ◌+◌, List, length}
-use Rattle.iim_dataset.specs.Devices.{Device, Wrote, Stopped}
+use Rattle.iim_dataset.specs.Format.Devices.{Device, Wrote, Stopped}
 use Rattle.iim_object.specs.declared.output.Output.{Output}
 
 -- The text is out, and was counted.

@@ -1,7 +1,7 @@
 //! Room for the octets of a subfile.
 
 ghost use Rattle.std.specs.Prelude.{◌≡◌, ◌≤◌, [], IfOk, vec_len, vec_capacity};
-ghost use Rattle.iim_object.specs.Writing.{room_of};
+ghost use Rattle.iim_object.specs.Format.Writing.{room_of};
 
 use crate::plan::Plan;
 use std::alloc::{AllocError, Global};
@@ -16,7 +16,7 @@ pub struct SubfileBuffer {
 
 impl Model for SubfileBuffer {
     ghost use Rattle.iim_object.specs.declared.plan.Plan.{Plan};
-    ghost use Rattle.iim_object.specs.Writing.{IsReserved};
+    ghost use Rattle.iim_object.specs.Cutting.{IsReserved};
 
     ghost Value = { Plan };
 

@@ -1,7 +1,7 @@
 //! Why a packer refuses a call.
 
 ghost use Rattle.std.specs.Prelude.{◌≡◌};
-ghost use Rattle.iim_object.specs.PackCauses.{pack_number};
+ghost use Rattle.iim_object.specs.Format.PackCauses.{pack_number};
 
 /// Why a packer refuses a call, each with its number.
 #[derive(Clone, Copy, Debug, PartialEq, Eq)]

@@ -1,9 +1,10 @@
 //! An object, cut into subfiles as it comes.
 
 ghost use Rattle.std.specs.Prelude.{◌≡◌, ◌+◌, ◌-◌, ◌^◌, ◌<◌, ◌≤◌, ◌++◌, [], length, take, true, false, IfOk, IfErr, OnOk, OnErr, IfSome, IfNone, Err, vec_len, vec_capacity};
-ghost use Rattle.iim_dataset.specs.Datasets.{canonical_dataset};
-ghost use Rattle.iim_object.specs.Packing.{subfile_dataset};
-ghost use Rattle.iim_object.specs.Writing.{most_of, total_of, Lengthens, BreaksOff, GoesOnWith, IsTheWhole, Finishes, write_cause, finish_cause, is_short, writing_of, HasRoom, MayTake, Fills, Flushes, Halts};
+ghost use Rattle.iim_dataset.specs.Format.Datasets.{canonical_dataset};
+ghost use Rattle.iim_object.specs.Format.Packing.{subfile_dataset};
+ghost use Rattle.iim_object.specs.Format.Writing.{most_of, total_of, Lengthens, BreaksOff, ContinuesWith, IsTheWhole, Finishes, write_cause, finish_cause, is_short};
+ghost use Rattle.iim_object.specs.Cutting.{writing_of, HasRoom, MayTake, Fills, Flushes, Halts};
 ghost use Rattle.iim_object.specs.declared.cause.PackCause.TheVariants as causes;
 
 use crate::cause::PackCause;
@@ -13,18 +14,7 @@ use crate::plan::Plan;
 use crate::size::Size;
 use iim_dataset::Target;
 use iim_dataset::device_laws::texts_join;
-
-/// The ObjectData record.
-const OBJECT: u8 = 8;
-
-/// 8:10 Subfile.
-const SUBFILE: u8 = 10;
-
-/// The post-ObjectData descriptor record.
-const POST_OBJECT: u8 = 9;
-
-/// 9:10 Confirmed ObjectData Size.
-const CONFIRMED: u8 = 10;
+use iim_tables::records::{CONFIRMED_SIZE, OBJECT, POST_OBJECT, SUBFILE};
 
 /// The octets of an object that are not out, and how many are.
 #[derive(Drop)]
@@ -107,7 +97,7 @@ impl<W: Target> Cutter<W> {
         ensures within { IfOk result (λ taken. taken ≤ length rest.now) }
         ensures some { IfOk result (λ taken. 0 < taken) }
         ensures ok { IfOk result (λ taken. Lengthens W.state (writing_of self.old) (writing_of self.new) (take taken rest.now)) }
-        ensures err { OnErr result (BreaksOff W.state (GoesOnWith self.old.plan rest.now) (writing_of self.old) (writing_of self.new)) }
+        ensures err { OnErr result (BreaksOff W.state (ContinuesWith self.old.plan rest.now) (writing_of self.old) (writing_of self.new)) }
         ensures cause { IfErr result (λ cause. cause ≡ causes.Write) }
     {
         texts_join();
@@ -156,7 +146,7 @@ impl<W: Target> Cutter<W> {
         ensures refused { IfSome (write_cause (writing_of self.old) (length octets.now)) (λ cause. (result ≡ Err cause) × (self.new ≡ self.old)) }
         ensures ok { OnOk result (Lengthens W.state (writing_of self.old) (writing_of self.new) octets.now) }
         ensures broke { IfNone (write_cause (writing_of self.old) (length octets.now))
-            (OnErr result (BreaksOff W.state (GoesOnWith self.old.plan octets.now) (writing_of self.old) (writing_of self.new))) }
+            (OnErr result (BreaksOff W.state (ContinuesWith self.old.plan octets.now) (writing_of self.old) (writing_of self.new))) }
         ensures cause { IfNone (write_cause (writing_of self.old) (length octets.now)) (IfErr result (λ cause. cause ≡ causes.Write)) }
     {
         texts_join();
@@ -196,7 +186,7 @@ impl<W: Target> Cutter<W> {
                 return Err(cause);
             }
         }
-        match self.output.put_number(POST_OBJECT, CONFIRMED, total) {
+        match self.output.put_number(POST_OBJECT, CONFIRMED_SIZE, total) {
             Ok(()) => Ok(()),
             Err(cause) => {
                 self.failed = true;

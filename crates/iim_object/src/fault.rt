@@ -1,7 +1,7 @@
 //! Why an object is refused.
 
 ghost use Rattle.std.specs.Prelude.{◌≡◌};
-ghost use Rattle.iim_object.specs.Conditions.{number_of};
+ghost use Rattle.iim_object.specs.Format.Conditions.{number_of};
 ghost use Rattle.iim_object.specs.declared.fault.ObjectFault.TheVariants.{Size, Stopped};
 
 use iim_dataset::Stop;

@@ -1,15 +1,15 @@
 //! When the object layer can continue, and how its tokens come from datasets. The functions do nothing: their contracts are
 //! the laws.
 
-ghost use Rattle.iim_object.specs.Living.{NumbersLiveWithoutClash, SubfilesLiveWhileTheyFit, ObjectsEndWhereTheyAreWhole, TotalsAreConfirmed};
-ghost use Rattle.iim_object.specs.Behind.{TokensAreOfSizedDatasets, DatasetsLiveWithTheirTokens, DatasetsEndWithTheirTokens, TokensFollow, OthersLeadNowhere, NumbersLead, SubfilesLead, EndsLead, RecordsAreByNumber};
-ghost use Rattle.iim_object.specs.Records.{SizesAreDetermined};
-ghost use Rattle.iim_object.specs.Conditions.{CausesAreTheFirst, ObjectsDieForCauses};
-ghost use Rattle.iim_object.specs.Reached.{PlacesAreReached};
-ghost use Rattle.iim_object.specs.Saved.{PlacesAreLedTo, PlacesHaveOneReader, TokensLeadOnAlike};
-ghost use Rattle.iim_object.specs.Told.{ReadersTellSizes};
-ghost use Rattle.iim_object.specs.Cuts.{ObjectsAreCutOneWay};
-ghost use Rattle.iim_object.specs.Packing.{PackedObjectsHaveSizes, SubfilesAreFew};
+ghost use Rattle.iim_object.specs.Format.Living.{NumbersLiveWithoutClash, SubfilesLiveWhileTheyFit, ObjectsEndWhereTheyAreWhole, TotalsAreConfirmed};
+ghost use Rattle.iim_object.specs.Format.Numbers.{TokensAreOfSizedDatasets, DatasetsLiveWithTheirTokens, DatasetsEndWithTheirTokens, TokensFollow, OthersLeadNowhere, NumbersLead, SubfilesLead, EndsLead, RecordsAreByNumber};
+ghost use Rattle.iim_object.specs.Format.Records.{SizesAreDetermined};
+ghost use Rattle.iim_object.specs.Format.Conditions.{CausesAreTheFirst, ObjectsDieForCauses};
+ghost use Rattle.iim_object.specs.Format.Reached.{PlacesAreReached};
+ghost use Rattle.iim_object.specs.Format.Saved.{PlacesAreLedTo, PlacesHaveOneReader, TokensLeadOnAlike};
+ghost use Rattle.iim_object.specs.Format.Told.{ReadersTellSizes};
+ghost use Rattle.iim_object.specs.Format.Cuts.{ObjectsAreCutOneWay};
+ghost use Rattle.iim_object.specs.Format.Packing.{PackedObjectsHaveSizes, SubfilesAreFew};
 
 /// While record 7 is read, the object layer can continue exactly where its numbers don't clash.
 pub fn numbers_live_without_clash()
@@ -40,7 +40,7 @@ pub fn tokens_are_of_sized_datasets()
 /// Datasets as their rows say can continue to some that have sizes exactly where the object layer can continue from their
 /// tokens: after whole datasets, and after the head of 9:10.
 pub fn datasets_live_with_their_tokens()
-    ensures behind { DatasetsLiveWithTheirTokens }
+    ensures after { DatasetsLiveWithTheirTokens }
     ensures ended { DatasetsEndWithTheirTokens }
 {}
 

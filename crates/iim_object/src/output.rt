@@ -1,11 +1,11 @@
 //! A target whose octets are counted, and datasets written to it.
 
 ghost use Rattle.std.specs.Prelude.{◌≡◌, ◌+◌, ◌^◌, ◌<◌, ◌≤◌, length, IfErr, OnOk, OnErr};
-ghost use Rattle.iim_dataset.specs.Datasets.{canonical_dataset, canonical_stream, count_octets};
-ghost use Rattle.iim_tables.specs.Numbers.{greatest_size};
-ghost use Rattle.iim_object.specs.Packing.{number_dataset, size_datasets, plan_datasets, is_known};
-ghost use Rattle.iim_object.specs.Plans.{limit_of};
-ghost use Rattle.iim_object.specs.Sizes.{mode_number};
+ghost use Rattle.iim_dataset.specs.Format.Datasets.{canonical_dataset, canonical_stream, count_octets};
+ghost use Rattle.iim_dataset.specs.Format.Octets.{greatest_size};
+ghost use Rattle.iim_object.specs.Format.Packing.{number_dataset, size_datasets, plan_datasets, is_known};
+ghost use Rattle.iim_object.specs.Format.Plans.{limit_of};
+ghost use Rattle.iim_object.specs.Format.Sizes.{mode_number};
 ghost use Rattle.iim_object.specs.Outputs.{Puts, Cuts};
 ghost use Rattle.iim_object.specs.declared.cause.PackCause.TheVariants as causes;
 
@@ -14,21 +14,7 @@ use crate::plan::Plan;
 use crate::size::Size;
 use iim_dataset::device_laws::texts_join;
 use iim_dataset::{Head, Target, head_bytes, put};
-
-/// The pre-ObjectData descriptor record.
-const DESCRIPTOR: u8 = 7;
-
-/// 7:10 Size Mode.
-const MODE: u8 = 10;
-
-/// 7:20 Max Subfile Size.
-const SUBFILE_SIZE: u8 = 20;
-
-/// 7:90 ObjectData Size Announced.
-const ANNOUNCED: u8 = 90;
-
-/// 7:95 Maximum ObjectData Size.
-const MAXIMUM: u8 = 95;
+use iim_tables::records::{ANNOUNCED_SIZE, MAX_SUBFILE_SIZE, MAXIMUM_SIZE, PRE_OBJECT, SIZE_MODE};
 
 /// A target, and how many octets are out.
 #[derive(Drop)]
@@ -98,8 +84,8 @@ impl<W: Target> Output<W> {
     {
         texts_join();
         match size {
-            Size::Known(octets) => self.put_number(DESCRIPTOR, ANNOUNCED, octets),
-            Size::Unknown(Some(maximum)) => self.put_number(DESCRIPTOR, MAXIMUM, maximum),
+            Size::Known(octets) => self.put_number(PRE_OBJECT, ANNOUNCED_SIZE, octets),
+            Size::Unknown(Some(maximum)) => self.put_number(PRE_OBJECT, MAXIMUM_SIZE, maximum),
             Size::Unknown(None) => Ok(()),
         }
     }
@@ -112,11 +98,11 @@ impl<W: Target> Output<W> {
         ensures cause { IfErr result (λ cause. cause ≡ causes.Write) }
     {
         texts_join();
-        match self.put_dataset(DESCRIPTOR, MODE, &[mode_of(plan.size)]) {
+        match self.put_dataset(PRE_OBJECT, SIZE_MODE, &[mode_of(plan.size)]) {
             Ok(()) => {}
             Err(cause) => return Err(cause),
         }
-        match self.put_number(DESCRIPTOR, SUBFILE_SIZE, plan.subfile) {
+        match self.put_number(PRE_OBJECT, MAX_SUBFILE_SIZE, plan.subfile) {
             Ok(()) => {}
             Err(cause) => return Err(cause),
         }

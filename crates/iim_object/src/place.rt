@@ -1,14 +1,15 @@
 //! The states of places that are given by numbers.
 
 ghost use Rattle.std.specs.Prelude.{◌≡◌, ◌↔◌, ◌≤◌, ◌+◌, IsTrue, IsSome, IfSome, Some, None};
-ghost use Rattle.iim_object.specs.States.{IsState, state_numbers};
-ghost use Rattle.iim_object.specs.Saved.{IsAt, Finds};
+ghost use Rattle.iim_object.specs.Format.States.{IsState, state_numbers};
+ghost use Rattle.iim_object.specs.Format.Saved.{IsAt};
+ghost use Rattle.iim_object.specs.Finding.{Finds};
 
 use crate::state::State;
 use crate::step::take_subfile;
 
-/// The state where these numbers of record 7 have come, and subfiles of so many octets together. None where no tokens lead
-/// there.
+/// The state where these numbers of record 7 have come, and `subfiles` subfiles, of `total` octets together. None where no
+/// tokens lead there.
 fn between(numbers: State, subfiles: u64, total: u64) -> Option<State>
     ensures exactly { IsSome result ↔ IsState (record numbers { subfiles = subfiles; total = total }) }
     ensures value { IfSome result (λ state. state ≡ record numbers { subfiles = subfiles; total = total }) }

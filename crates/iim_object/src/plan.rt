@@ -1,11 +1,11 @@
 //! How an object is to be cut into subfiles.
 
 ghost use Rattle.std.specs.Prelude.{◌≡◌, ◌≤◌, ◌↔◌, IsTrue, IsSome, IfSome};
-ghost use Rattle.iim_tables.specs.Numbers.{greatest_size};
-ghost use Rattle.iim_object.specs.Plans.{is_plan, bound_of, limit_of, fits};
+ghost use Rattle.iim_dataset.specs.Format.Octets.{greatest_size};
+ghost use Rattle.iim_object.specs.Format.Plans.{is_plan, bound_of, limit_of, fits};
 
 use crate::size::Size;
-use iim_tables::GREATEST_SIZE;
+use iim_dataset::GREATEST_SIZE;
 
 /// The most subfiles of one envelope.
 pub const MAX_SUBFILES: u64 = 4_294_967_295;

@@ -2,16 +2,16 @@
 
 ghost use Rattle.std.specs.Prelude.{◌≡◌, ◌↔◌, [], ◌∷◌, ℕ, List, Option, is_none, length, map, sum, Some, None, IsSome, IfSome, IfErr, OnOk, OnErr};
 ghost use Rattle.std.specs.Option.{ForSome};
-ghost use Rattle.iim_dataset.specs.Datasets.{Dataset};
+ghost use Rattle.iim_dataset.specs.Format.Datasets.{Dataset};
 ghost use Rattle.iim_object.specs.declared.state.State.{State};
-ghost use Rattle.iim_object.specs.States.{IsState, state_numbers};
-ghost use Rattle.iim_object.specs.Events.{ObjectOctet, ObjectEnd};
-ghost use Rattle.iim_object.specs.Objects.{ObjectEnded};
-ghost use Rattle.iim_object.specs.Places.{Place, ConfirmedAs, place_start, value_token, head_token};
-ghost use Rattle.iim_object.specs.Records.{AreRecords, HaveSizes};
-ghost use Rattle.iim_object.specs.Behind.{place_behind};
-ghost use Rattle.iim_object.specs.Saved.{IsAt, IsPossible, stated_numbers};
-ghost use Rattle.iim_object.specs.Reading.{StandsAt, GoesOn, RefusesValue, RefusesHead, RefusesRun, IsSizes, events_at};
+ghost use Rattle.iim_object.specs.Format.States.{IsState, state_numbers};
+ghost use Rattle.iim_object.specs.Format.Events.{ObjectOctet, ObjectEnd};
+ghost use Rattle.iim_object.specs.Format.Objects.{ObjectEnded};
+ghost use Rattle.iim_object.specs.Format.Places.{Place, ConfirmedAs, place_start, value_token, head_token};
+ghost use Rattle.iim_object.specs.Format.Records.{AreObjectRecords, HaveSizes};
+ghost use Rattle.iim_object.specs.Format.Numbers.{place_after_datasets};
+ghost use Rattle.iim_object.specs.Format.Saved.{IsAt, IsPossible, stated_numbers};
+ghost use Rattle.iim_object.specs.Format.Reading.{StandsAt, LeadsOn, RefusesValue, RefusesHead, RefusesRun, IsSizes, events_at};
 
 use crate::fault::ObjectFault;
 use crate::place::state_at;
@@ -19,10 +19,8 @@ use crate::sink::ObjectSink;
 use crate::size::Sizes;
 use crate::state::{KNOWN, State, is_given};
 use crate::step::{take_confirmed, take_end, take_number, take_subfile};
+use iim_tables::records::POST_OBJECT;
 use std::marker::Model;
-
-/// The post-ObjectData descriptor record, which ends an envelope.
-const POST_OBJECT: u8 = 9;
 
 /// A reader of an object: the numbers of record 7, the heads of its subfiles, its octets, its end, and the size that
 /// record 9 confirms. It holds a few numbers, and no octet.
@@ -94,7 +92,7 @@ impl ObjectReader {
     pub fn value(&mut self, rec: u8, set: u8, number: u64) -> Result<(), ObjectFault>
         requires { IsSome self.old }
         ensures takes_calls { OnOk result (IsSome self.new) }
-        ensures goes_on { OnOk result (GoesOn self.old (value_token rec set number) self.new) }
+        ensures leads_on { OnOk result (LeadsOn self.old (value_token rec set number) self.new) }
         ensures failed { OnErr result (self.new ≡ None) }
         ensures refused { IfErr result (RefusesValue self.old (value_token rec set number)) }
     {
@@ -120,7 +118,7 @@ impl ObjectReader {
         requires takes_calls { IsSome self.old }
         requires stands { S.stands sink.old }
         ensures takes_calls { OnOk result (IsSome self.new) }
-        ensures goes_on { OnOk result (GoesOn self.old (head_token rec count) self.new) }
+        ensures leads_on { OnOk result (LeadsOn self.old (head_token rec count) self.new) }
         ensures told { OnOk result (S.goes sink.old (events_at rec) sink.new) }
         ensures untold { (rec ≡ 9 → ⊥) → sink.new ≡ sink.old }
         ensures failed { OnErr result (self.new ≡ None) }
@@ -139,7 +137,7 @@ impl ObjectReader {
         requires takes_calls { IsSome self.old }
         requires stands { S.stands sink.old }
         ensures takes_calls { OnOk result (IsSome self.new) }
-        ensures goes_on { OnOk result (GoesOn self.old ObjectEnded self.new) }
+        ensures leads_on { OnOk result (LeadsOn self.old ObjectEnded self.new) }
         ensures told { OnOk result (S.goes sink.old (ObjectEnd ∷ []) sink.new) }
         ensures failed { OnErr result (self.new ≡ None) }
         ensures refused { IfErr result (RefusesHead S.goes S.stops self.old ObjectEnded sink.old sink.new) }
@@ -198,7 +196,7 @@ impl ObjectReader {
     pub fn sizes(&self) -> Sizes
         requires { IsSome self.now }
         ensures place { (p : Place) (n : ℕ) → StandsAt self.now p → p.ending ≡ ConfirmedAs n → IsSizes p result }
-        ensures records { (ds : List Dataset) (r : AreRecords ds) → StandsAt self.now (place_behind ds) → HaveSizes r.r7 r.r8 r.r9 result }
+        ensures records { (ds : List Dataset) (r : AreObjectRecords ds) → StandsAt self.now (place_after_datasets ds) → HaveSizes r.r7 r.r8 r.r9 result }
     {
         let state = self.state.unwrap();
         Sizes {

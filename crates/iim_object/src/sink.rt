@@ -1,17 +1,17 @@
 //! Where the octets of an object go.
 
 ghost use Rattle.std.specs.Prelude.{◌≡◌, ◌<◌, ◌++◌, [], ◌∷◌, List, ℕ, length, map, take, slice_index, IfErr, OnOk, OnErr};
-ghost use Rattle.iim_object.specs.Events.{Event, ObjectOctet, ObjectEnd};
+ghost use Rattle.iim_object.specs.Format.Events.{ObjectEvent, ObjectOctet, ObjectEnd};
 
 use iim_dataset::Stop;
 
 /// Where the octets of an object go, whatever its subfiles, and then its end. A sink may refuse any of them.
 pub trait ObjectSink {
     /// From one value to another by these events, told in this order.
-    ghost goes: { Self → List Event → Self → Type 0 };
+    ghost goes: { Self → List ObjectEvent → Self → Type 0 };
 
     /// From one value to another by these events, where the next one was refused.
-    ghost stops: { Self → List Event → Event → Self → Type 0 };
+    ghost stops: { Self → List ObjectEvent → ObjectEvent → Self → Type 0 };
 
     /// It takes octets and the end. After the end, and after a refusal, it need not.
     ghost stands: { Self → Type 0 };
@@ -36,8 +36,8 @@ pub trait ObjectSink {
     ghost nothing: { (sink : Self) → goes sink [] sink };
 
     /// Events and then others lead where all of them joined lead.
-    ghost joined: { (a b c : Self) (xs ys : List Event) → goes a xs b → goes b ys c → goes a (xs ++ ys) c };
+    ghost joined: { (a b c : Self) (xs ys : List ObjectEvent) → goes a xs b → goes b ys c → goes a (xs ++ ys) c };
 
     /// A refusal after events is one after all of them joined.
-    ghost joined_stop: { (a b c : Self) (xs ys : List Event) (refused : Event) → goes a xs b → stops b ys refused c → stops a (xs ++ ys) refused c };
+    ghost joined_stop: { (a b c : Self) (xs ys : List ObjectEvent) (refused : ObjectEvent) → goes a xs b → stops b ys refused c → stops a (xs ++ ys) refused c };
 }

@@ -1,25 +1,15 @@
 //! What records 7 to 9 have told of an object so far.
 
 ghost use Rattle.std.specs.Prelude.{◌≡◌, ◌↔◌, ◌+◌, ◌-◌, ◌^◌, ◌<◌, ◌≤◌, IsTrue, IfSome, is_some};
-ghost use Rattle.iim_object.specs.Sizes.{mode_number};
-ghost use Rattle.iim_object.specs.States.{HasNumbers, HasSubfiles, IsState, TakesNumber, TakesSubfile, state_start, state_numbers, state_with};
-ghost use Rattle.iim_object.specs.Causes.{is_given, is_above, number_cause, bound, is_past, subfile_cause, end_cause, confirmed_cause};
+ghost use Rattle.iim_object.specs.Format.Sizes.{mode_number};
+ghost use Rattle.iim_object.specs.Format.States.{HasNumbers, HasSubfiles, IsState, state_numbers};
+ghost use Rattle.iim_object.specs.States.{TakesNumber, TakesSubfile, state_start, state_with};
+ghost use Rattle.iim_object.specs.Format.Causes.{is_given, is_above, number_cause, bound, is_past, subfile_cause, end_cause, confirmed_cause};
 
 use crate::fault::SizeCause;
 use crate::plan::MAX_SUBFILES;
-use iim_tables::GREATEST_SIZE;
-
-/// 7:10 Size Mode.
-const SIZE_MODE: u8 = 10;
-
-/// 7:20 Max Subfile Size.
-const MAX_SUBFILE_SIZE: u8 = 20;
-
-/// 7:90 ObjectData Size Announced.
-const ANNOUNCED_SIZE: u8 = 90;
-
-/// 7:95 Maximum ObjectData Size.
-const MAXIMUM_SIZE: u8 = 95;
+use iim_dataset::GREATEST_SIZE;
+use iim_tables::records::{ANNOUNCED_SIZE, MAX_SUBFILE_SIZE, MAXIMUM_SIZE, SIZE_MODE};
 
 /// The size mode of an object whose size is not known at the start.
 const UNKNOWN: u64 = 0;
@@ -139,7 +129,7 @@ impl State {
         }
     }
 
-    /// Whether so many subfiles may have come, and hold so many octets together.
+    /// Whether `subfiles` subfiles may have come, and hold `total` octets together.
     fn has_subfiles(&self) -> bool
         requires { HasNumbers self.now }
         ensures { IsTrue result ↔ HasSubfiles self.now }

@@ -1,9 +1,9 @@
 //! How each token leads on.
 
 ghost use Rattle.std.specs.Prelude.{◌≡◌, Some, IfOk, IfErr, OnOk};
-ghost use Rattle.iim_object.specs.Objects.{NumberRead, SubfileBegun, ObjectEnded, Confirmed};
-ghost use Rattle.iim_object.specs.Reading.{GoesOn, LivesWith, Refuses};
-ghost use Rattle.iim_object.specs.States.{IsState};
+ghost use Rattle.iim_object.specs.Format.Objects.{NumberRead, SubfileBegun, ObjectEnded, Confirmed};
+ghost use Rattle.iim_object.specs.Format.Reading.{LeadsOn, LivesWith, Refuses};
+ghost use Rattle.iim_object.specs.Format.States.{IsState};
 
 use crate::fault::SizeCause;
 use crate::state::State;
@@ -12,7 +12,7 @@ use crate::state::State;
 pub(crate) fn take_number(state: State, set: u8, number: u64) -> Result<State, SizeCause>
     requires { IsState state }
     ensures is_state { IfOk result IsState }
-    ensures goes_on { IfOk result (λ new. GoesOn (Some state) (NumberRead set number) (Some new)) }
+    ensures leads_on { IfOk result (λ new. LeadsOn (Some state) (NumberRead set number) (Some new)) }
     ensures refused { IfErr result (Refuses (Some state) (NumberRead set number)) }
 {
     if !state.takes_number(set, number) {
@@ -29,7 +29,7 @@ pub(crate) fn take_number(state: State, set: u8, number: u64) -> Result<State, S
 pub(crate) fn take_subfile(state: State, count: u64) -> Result<State, SizeCause>
     requires { IsState state }
     ensures is_state { IfOk result IsState }
-    ensures goes_on { IfOk result (λ new. GoesOn (Some state) (SubfileBegun count) (Some new)) }
+    ensures leads_on { IfOk result (λ new. LeadsOn (Some state) (SubfileBegun count) (Some new)) }
     ensures refused { IfErr result (Refuses (Some state) (SubfileBegun count)) }
 {
     if !state.takes_subfile() {
@@ -45,7 +45,7 @@ pub(crate) fn take_subfile(state: State, count: u64) -> Result<State, SizeCause>
 pub(crate) fn take_end(state: State) -> Result<State, SizeCause>
     requires { IsState state }
     ensures is_state { IfOk result IsState }
-    ensures goes_on { IfOk result (λ new. GoesOn (Some state) ObjectEnded (Some new)) }
+    ensures leads_on { IfOk result (λ new. LeadsOn (Some state) ObjectEnded (Some new)) }
     ensures lives { OnOk result (LivesWith (Some state) ObjectEnded) }
     ensures refused { IfErr result (Refuses (Some state) ObjectEnded) }
 {
@@ -59,7 +59,7 @@ pub(crate) fn take_end(state: State) -> Result<State, SizeCause>
 pub(crate) fn take_confirmed(state: State, number: u64) -> Result<State, SizeCause>
     requires { IsState state }
     ensures is_state { IfOk result IsState }
-    ensures goes_on { IfOk result (λ new. GoesOn (Some state) (Confirmed number) (Some new)) }
+    ensures leads_on { IfOk result (λ new. LeadsOn (Some state) (Confirmed number) (Some new)) }
     ensures refused { IfErr result (Refuses (Some state) (Confirmed number)) }
 {
     match state.confirmed_cause(number) {

@@ -1,8 +1,8 @@
 //! A writer of an object in subfiles.
 
 ghost use Rattle.std.specs.Prelude.{◌≡◌, ◌<◌, ◌≤◌, ◌^◌, [], length, IfOk, IfErr, OnOk, OnErr, IfSome, IfNone, Err};
-ghost use Rattle.iim_dataset.specs.Devices.{Wrote, Stopped};
-ghost use Rattle.iim_object.specs.Writing.{StandsAt, Lengthens, BreaksOff, GoesOnWith, IsTheWhole, Finishes, write_cause, finish_cause, RefusesOctets, RefusesEnd, plan_octets, total_of, most_of, room_of};
+ghost use Rattle.iim_dataset.specs.Format.Devices.{Wrote, Stopped};
+ghost use Rattle.iim_object.specs.Format.Writing.{StandsAt, Lengthens, BreaksOff, ContinuesWith, IsTheWhole, Finishes, write_cause, finish_cause, RefusesOctets, RefusesEnd, plan_octets, total_of, most_of, room_of};
 ghost use Rattle.iim_object.specs.declared.cause.PackCause.{PackCause as PackCauseValue};
 ghost use Rattle.iim_object.specs.declared.cause.PackCause.TheVariants as causes;
 
@@ -26,7 +26,8 @@ pub struct SubfileWriter<W> {
 }
 
 impl<W> Model for SubfileWriter<W> {
-    ghost use Rattle.iim_object.specs.Writing.{Writing, writing_of, HasRoom};
+    ghost use Rattle.iim_object.specs.Format.Writing.{Writing};
+    ghost use Rattle.iim_object.specs.Cutting.{writing_of, HasRoom};
 
     ghost Value = { Writing W };
 
@@ -81,7 +82,7 @@ impl<W: Target> SubfileWriter<W> {
         ensures ok { OnOk result (Lengthens W.state self.old self.new octets.now) }
         ensures cause { IfNone (write_cause self.old (length octets.now)) (IfErr result (λ cause. cause ≡ causes.Write)) }
         ensures broke { IfNone (write_cause self.old (length octets.now))
-            (OnErr result (BreaksOff W.state (GoesOnWith self.old.plan octets.now) self.old self.new)) }
+            (OnErr result (BreaksOff W.state (ContinuesWith self.old.plan octets.now) self.old self.new)) }
     {
         self.cutter.write(octets)
     }

@@ -1,19 +1,19 @@
 -- What a packer has begun with, call by call.
 use Rattle.std.proofs.Common.{ℕ, List, [], ◌++◌, arith, length-append}
-use Rattle.iim_dataset.specs.Devices.{Device}
-use Rattle.iim_dataset.specs.DeviceLaws.{TextsJoin}
-use Rattle.iim_dataset.specs.Datasets.{Dataset}
+use Rattle.iim_dataset.specs.Format.Devices.{Device}
+use Rattle.iim_dataset.specs.Format.DeviceLaws.{TextsJoin}
+use Rattle.iim_dataset.specs.Format.Datasets.{Dataset}
 use Rattle.iim_object.specs.declared.plan.Plan.{Plan}
-use Rattle.wire_story.specs.Delivery.{Event}
-use Rattle.wire_message.specs.Messages.{Header}
-use Rattle.iim_pack.specs.Packing.{Packing, Lengthens, Finishes}
-use Rattle.iim_pack.specs.Starting.{Starts}
-use Rattle.iim_pack.specs.Format.Begun.{Begun, GoesOnBegun, EndsBegun}
+use Rattle.wire_story.specs.Format.Delivery.{StoryEvent}
+use Rattle.wire_message.specs.Format.Messages.{Header}
+use Rattle.iim_pack.specs.Format.Packing.{Packing, Lengthens, Finishes}
+use Rattle.iim_pack.specs.Format.Starting.{Starts}
+use Rattle.iim_pack.specs.Format.Begun.{HasBegun, ContinuesBegun, EndsBegun}
 
-pub begun_at_start : {W : Type 0} (state : W → Device) (writer : W) (fields : List Dataset) (head : Header) (plan : Plan) (k : Packing W) → Starts state writer fields head plan k → Begun state (state writer) k fields head [] plan
+pub begun_at_start : {W : Type 0} (state : W → Device) (writer : W) (fields : List Dataset) (head : Header) (plan : Plan) (k : Packing W) → Starts state writer fields head plan k → HasBegun state (state writer) k fields head [] plan
 begun_at_start state writer fields head plan k s = record { out = s.out; wrote = s.wrote; counted = s.counted; stands = s.stands }
 
-pub begun_on : {W : Type 0} (state : W → Device) (old new : Packing W) (events : List Event) → TextsJoin → Lengthens state old new events → GoesOnBegun state old new events
+pub begun_on : {W : Type 0} (state : W → Device) (old new : Packing W) (events : List StoryEvent) → TextsJoin → Lengthens state old new events → ContinuesBegun state old new events
 begun_on state old new events join l first fields head before plan b = record {
   out = b.out ++ l.more;
   wrote = join.more first (state old.object.writer) (state new.object.writer) b.out l.more b.wrote l.wrote;

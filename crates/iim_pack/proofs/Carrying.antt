@@ -2,20 +2,19 @@
 use Rattle.std.proofs.Common.{◌≡◌, ℕ, ◌≤◌, ◌&&◌, true, nat_le, IsTrue, List, [], ◌∷◌, ◌++◌, length, Some, None, refl, sym, ap, subst, ◌∙◌, arith, append_assoc, append-nil}
 use Rattle.std.specs.List.{AllByRecursion}
 use Rattle.std.proofs.lemmas.Bool.{and_parts, leb-true}
-use Rattle.iim_dataset.specs.Octets.{IsOctet, Octets}
-use Rattle.iim_dataset.specs.Datasets.{Dataset, SpellsStream, canonical_dataset, canonical_stream, count_octets}
-use Rattle.iim_dataset.specs.Laws.{HasSpellings, CanonicalStreamsAreSpelled}
-use Rattle.iim_tables.specs.Numbers.{greatest_size}
-use Rattle.iim_fields.specs.Records.{IsGoodDataset, IsGoodRecord, AreSections}
-use Rattle.iim_fields.specs.Faults.{kept, joined}
-use Rattle.iim_object.specs.Behind.{of_record}
-use Rattle.iim_object.specs.Records.{HaveSizes}
-use Rattle.iim_object.specs.Plans.{is_plan, fits, limit_of, bound_of}
-use Rattle.iim_object.specs.Cuts.{AreFull, joined_parts}
-use Rattle.iim_object.specs.Packing.{plan_datasets, subfile_datasets, confirmed_datasets, packed_sizes, PackedObjectsHaveSizes}
+use Rattle.iim_dataset.specs.Format.Octets.{IsOctet, Octets, greatest_size}
+use Rattle.iim_dataset.specs.Format.Datasets.{Dataset, SpellsStream, canonical_dataset, canonical_stream, count_octets, of_record}
+use Rattle.iim_dataset.specs.Format.Laws.{HasSpellings, CanonicalStreamsAreSpelled}
+use Rattle.iim_fields.specs.Format.Records.{AreSections}
+use Rattle.iim_tables.specs.Format.Records.{IsGoodDataset, IsGoodRecord}
+use Rattle.iim_fields.specs.Format.Faults.{kept, joined}
+use Rattle.iim_object.specs.Format.Records.{HaveSizes}
+use Rattle.iim_object.specs.Format.Plans.{is_plan, fits, limit_of, bound_of}
+use Rattle.iim_object.specs.Format.Cuts.{AreFull, joined_parts}
+use Rattle.iim_object.specs.Format.Packing.{plan_datasets, subfile_datasets, confirmed_datasets, packed_sizes, PackedObjectsHaveSizes}
 use Rattle.iim_object.specs.declared.size.Size.{Size}
 use Rattle.iim_object.specs.declared.size.Size.TheVariants.{Known, Unknown}
-use Rattle.wire_message.specs.Canonical.{canonical}
+use Rattle.wire_message.specs.Format.Canonical.{canonical}
 use Rattle.iim_pack.specs.Format.Laws.{PackedOctetsCarryTheValue}
 use Rattle.iim_pack.proofs.Octets.{all_append, message_octets}
 use Rattle.iim_pack.proofs.GoodRecords.{good_seven, good_eight, good_nine}

@@ -2,10 +2,10 @@
 use Rattle.std.proofs.Common.{◌≡◌, ℕ, ◌+◌, ◌≤◌, false, None, List, [], ◌++◌, length, refl, sym, subst, ◌∙◌, arith, append_assoc, append-nil, length-append}
 use Rattle.std.specs.Prelude.{Result, Ok, Err, IfOk, IfErr}
 use Rattle.std.proofs.lemmas.Bool.{le-leb}
-use Rattle.iim_dataset.specs.Devices.{Device}
-use Rattle.iim_dataset.specs.DeviceLaws.{TextsJoin}
-use Rattle.iim_object.specs.Packing.{IsWritten}
-use Rattle.iim_object.specs.Writing.{Writing, Lengthens, BreaksOff, GoesOnWith, IsTheWhole, Finishes, Begins, most_of, total_of, write_cause, finish_cause, is_short}
+use Rattle.iim_dataset.specs.Format.Devices.{Device}
+use Rattle.iim_dataset.specs.Format.DeviceLaws.{TextsJoin}
+use Rattle.iim_object.specs.Format.Packing.{IsWritten}
+use Rattle.iim_object.specs.Format.Writing.{Writing, Lengthens, BreaksOff, ContinuesWith, IsTheWhole, Finishes, Begins, most_of, total_of, write_cause, finish_cause, is_short}
 use Rattle.iim_object.specs.declared.plan.Plan.{Plan}
 use Rattle.iim_pack.specs.Ending.{Ends, EndsWithTail}
 
@@ -19,7 +19,7 @@ ends state old mid tail writer join l f = record {
 }
 
 -- the tail could not be written
-pub tail_broke : {W : Type 0} (state : W → Device) (old new : Writing W) (tail : List ℕ) → BreaksOff state (GoesOnWith old.plan tail) old new → BreaksOff state (EndsWithTail old.plan tail) old new
+pub tail_broke : {W : Type 0} (state : W → Device) (old new : Writing W) (tail : List ℕ) → BreaksOff state (ContinuesWith old.plan tail) old new → BreaksOff state (EndsWithTail old.plan tail) old new
 tail_broke state old new tail k = record {
   more = k.more;
   appends = k.appends;

@@ -4,12 +4,12 @@ use Rattle.std.specs.List.{AllByRecursion}
 use Rattle.std.proofs.lemmas.List.{take-append-le}
 use Rattle.std.proofs.lemmas.Bool.{lt-ltb, le-ltb, cases_lt}
 use Rattle.std.specs.Io.KnownBytes.{Appends}
-use Rattle.iim_dataset.specs.Devices.{Device, Wrote, Stopped}
-use Rattle.iim_dataset.specs.DeviceLaws.{TextsJoin}
-use Rattle.iim_dataset.specs.Datasets.{Dataset, canonical_count, canonical_dataset, canonical_stream, count_octets}
-use Rattle.iim_fields.specs.Faults.{joined}
-use Rattle.iim_fields.specs.Records.{IsGoodDataset}
-use Rattle.iim_fields.specs.Builders.{IsEnvelope, AreFew}
+use Rattle.iim_dataset.specs.Format.Devices.{Device, Wrote, Stopped}
+use Rattle.iim_dataset.specs.Format.DeviceLaws.{TextsJoin}
+use Rattle.iim_dataset.specs.Format.Datasets.{Dataset, canonical_count, canonical_dataset, canonical_stream, count_octets}
+use Rattle.iim_fields.specs.Format.Faults.{joined}
+use Rattle.iim_tables.specs.Format.Records.{IsGoodDataset}
+use Rattle.iim_fields.specs.Format.Builders.{IsEnvelope, AreFew}
 use Rattle.iim_pack.proofs.Octets.{all_append}
 use Rattle.iim_pack.proofs.Spelling.{few}
 

@@ -2,26 +2,26 @@
 use Rattle.std.proofs.Common.{◌≡◌, ℕ, ◌+◌, ◌≤◌, Bool, true, false, not, nat_le, cond, Option, Some, None, List, ◌++◌, length, refl, sym, ap, subst, ◌∙◌, arith, append_assoc, length-append}
 use Rattle.std.specs.List.{list_all}
 use Rattle.std.proofs.lemmas.Bool.{and_parts, leb-true, ltb-false}
-use Rattle.iim_dataset.specs.Devices.{Device}
-use Rattle.iim_dataset.specs.Datasets.{canonical_stream}
-use Rattle.iim_object.specs.Plans.{bound_of}
-use Rattle.iim_object.specs.Packing.{IsWritten, IsAsKnown}
-use Rattle.iim_object.specs.Cuts.{joined_parts}
-use Rattle.iim_object.specs.Writing as object
-use Rattle.iim_object.specs.Writing.{Writing, most_of, total_of, is_short, Begins}
+use Rattle.iim_dataset.specs.Format.Devices.{Device}
+use Rattle.iim_dataset.specs.Format.Datasets.{canonical_stream}
+use Rattle.iim_object.specs.Format.Plans.{bound_of}
+use Rattle.iim_object.specs.Format.Packing.{IsWritten, IsAsKnown}
+use Rattle.iim_object.specs.Format.Cuts.{joined_parts}
+use Rattle.iim_object.specs.Format.Writing as object
+use Rattle.iim_object.specs.Format.Writing.{Writing, most_of, total_of, is_short, Begins}
 use Rattle.iim_object.specs.declared.plan.Plan.{Plan}
 use Rattle.iim_object.specs.declared.size.Size.{Size}
 use Rattle.iim_object.specs.declared.size.Size.TheVariants.{Known, Unknown}
-use Rattle.wire_story.specs.Texts.{packed_text}
-use Rattle.wire_story.specs.Delivery.{Event}
-use Rattle.wire_story.specs.Packing.{packed_events, lines_of, EventsArePackedAsLines}
-use Rattle.wire_message.specs.Fields.{is_trailer_octet}
-use Rattle.wire_message.specs.Messages.{Header, IsTrailer}
-use Rattle.wire_message.specs.Canonical.{packed_head, packed_tail, canonical}
-use Rattle.wire_message.specs.Laws.{CanonicalObjectsAreMessages}
-use Rattle.iim_pack.specs.Packing.{BreaksOff, EndsIn, Finishes, is_trailer, is_past, ending_cause}
+use Rattle.wire_story.specs.Format.Texts.{packed_text}
+use Rattle.wire_story.specs.Format.Delivery.{StoryEvent}
+use Rattle.wire_story.specs.Format.Packing.{packed_events, lines_of, EventsArePackedAsLines}
+use Rattle.wire_message.specs.Format.Fields.{is_trailer_octet}
+use Rattle.wire_message.specs.Format.Messages.{Header, IsTrailer}
+use Rattle.wire_message.specs.Format.Canonical.{packed_head, packed_tail, canonical}
+use Rattle.wire_message.specs.Format.Laws.{CanonicalObjectsAreMessages}
+use Rattle.iim_pack.specs.Format.Packing.{BreaksOff, EndsIn, Finishes, is_trailer, is_past, ending_cause}
 use Rattle.iim_pack.specs.Ending.{Ends, EndsWithTail}
-use Rattle.iim_pack.proofs.Goings.{begins_behind}
+use Rattle.iim_pack.proofs.Goings.{begins_after}
 
 -- ---- causes
 
@@ -60,7 +60,7 @@ pub total_is : {W : Type 0} (w : Writing W) (xs out : List ℕ) → object.Stand
 total_is w xs out s = omega (arith, ap length s.object_is, s.sent, length-append (joined_parts s.parts) w.held)
 
 -- the canonical object of the lines of a text is what has come of it, and its end
-pub canonical_is : (head : Header) (events : List Event) (trailer : List ℕ) → packed_text (lines_of events) ≡ packed_events events
+pub canonical_is : (head : Header) (events : List StoryEvent) (trailer : List ℕ) → packed_text (lines_of events) ≡ packed_events events
     → canonical head (lines_of events) trailer ≡ (packed_head head ++ packed_events events) ++ packed_tail trailer
 canonical_is head events trailer e =
     ap (λ (t : List ℕ). packed_head head ++ (t ++ packed_tail trailer)) e ∙ sym (append_assoc (packed_head head) (packed_events events) (packed_tail trailer))
@@ -109,7 +109,7 @@ unfinished state before old new trailer lines k = record {
       subst (λ (q : Plan). IsWritten q.subfile q.size ((packed_head head ++ packed_events events) ++ packed_tail trailer) p.object) (sym s.is_plan)
       (subst (λ (o : List ℕ). IsWritten plan.subfile plan.size o p.object) is p.written) in
       let here = k.begins (packed_head head ++ packed_events events) s.object_out p.object s.stands written in
-      let there : Begins (canonical_stream fields ++ (s.object_out ++ k.more)) (canonical_stream fields ++ p.object) = begins_behind (canonical_stream fields) (s.object_out ++ k.more) p.object here in
+      let there : Begins (canonical_stream fields ++ (s.object_out ++ k.more)) (canonical_stream fields ++ p.object) = begins_after (canonical_stream fields) (s.object_out ++ k.more) p.object here in
       subst (λ (w : List ℕ). Begins (out ++ k.more) w) (sym p.octets_are)
       (subst (λ (x : List ℕ). Begins x (canonical_stream fields ++ p.object)) (sym (ap (λ (t : List ℕ). t ++ k.more) s.out_is ∙ append_assoc (canonical_stream fields) s.object_out k.more)) there);
 }

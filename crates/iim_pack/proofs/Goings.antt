@@ -3,18 +3,18 @@ use Rattle.std.proofs.Common.{◌≡◌, ℕ, ◌+◌, ◌≤◌, Bool, true, fa
 use Rattle.std.specs.Prelude.{Result, Ok, Err, OnOk, OnErr, IfNone}
 use Rattle.std.proofs.lemmas.Bool.{and_parts, le-leb, leb-true}
 use Rattle.std.specs.List.{list_all}
-use Rattle.iim_dataset.specs.Devices.{Device}
-use Rattle.iim_dataset.specs.Datasets.{canonical_stream}
-use Rattle.iim_object.specs.Packing.{IsWritten}
-use Rattle.iim_object.specs.Writing as object
-use Rattle.iim_object.specs.Writing.{Writing, most_of, total_of, write_cause, Begins}
+use Rattle.iim_dataset.specs.Format.Devices.{Device}
+use Rattle.iim_dataset.specs.Format.Datasets.{canonical_stream}
+use Rattle.iim_object.specs.Format.Packing.{IsWritten}
+use Rattle.iim_object.specs.Format.Writing as object
+use Rattle.iim_object.specs.Format.Writing.{Writing, most_of, total_of, write_cause, Begins}
 use Rattle.iim_object.specs.declared.plan.Plan.{Plan}
-use Rattle.wire_story.specs.Texts.{is_line_octet, IsLine, packed_text}
-use Rattle.wire_story.specs.Delivery.{Event, LineOctet, events_of_lines}
-use Rattle.wire_story.specs.Packing.{packed_event, packed_events, AreEvents, LinesArePackedAsTheirEvents}
-use Rattle.wire_message.specs.Messages.{Header}
-use Rattle.wire_message.specs.Canonical.{packed_head, packed_tail, canonical}
-use Rattle.iim_pack.specs.Packing.{Lengthens, BreaksOff, GoesOnWith}
+use Rattle.wire_story.specs.Format.Texts.{is_line_octet, IsLine, packed_text}
+use Rattle.wire_story.specs.Format.Delivery.{StoryEvent, LineOctet, events_of_lines}
+use Rattle.wire_story.specs.Format.Packing.{packed_event, packed_events, AreEvents, LinesArePackedAsTheirEvents}
+use Rattle.wire_message.specs.Format.Messages.{Header}
+use Rattle.wire_message.specs.Format.Canonical.{packed_head, packed_tail, canonical}
+use Rattle.iim_pack.specs.Format.Packing.{Lengthens, BreaksOff, ContinuesWith}
 use Rattle.iim_pack.proofs.Octets.{all_append}
 
 -- ---- results
@@ -37,7 +37,7 @@ of_none (Some a) P e h = absurd cc
 
 -- ---- events
 
-pub events_append : (xs ys : List Event) → packed_events (xs ++ ys) ≡ packed_events xs ++ packed_events ys
+pub events_append : (xs ys : List StoryEvent) → packed_events (xs ++ ys) ≡ packed_events xs ++ packed_events ys
 events_append [] ys = refl
 events_append (x ∷ xs) ys = ap (λ (t : List ℕ). packed_event x ++ t) (events_append xs ys) ∙ sym (append_assoc (packed_event x) (packed_events xs) (packed_events ys))
 
@@ -51,10 +51,10 @@ line_events (b ∷ bs) h = let parts = and_parts (is_line_octet b) (list_all is_
 
 -- ---- continuing
 
-pub begins_behind : (zs xs ys : List ℕ) → Begins xs ys → Begins (zs ++ xs) (zs ++ ys)
-begins_behind zs xs ys b = (b.0, append_assoc zs xs b.0 ∙ ap (λ (t : List ℕ). zs ++ t) b.1)
+pub begins_after : (zs xs ys : List ℕ) → Begins xs ys → Begins (zs ++ xs) (zs ++ ys)
+begins_after zs xs ys b = (b.0, append_assoc zs xs b.0 ∙ ap (λ (t : List ℕ). zs ++ t) b.1)
 
-pub lengthened : {W : Type 0} (state : W → Device) (before : ℕ) (old new : Writing W) (events : List Event) → AreEvents events → object.Lengthens state old new (packed_events events)
+pub lengthened : {W : Type 0} (state : W → Device) (before : ℕ) (old new : Writing W) (events : List StoryEvent) → AreEvents events → object.Lengthens state old new (packed_events events)
     → Lengthens state (record { before = before; object = old }) (record { before = before; object = new }) events
 lengthened state before old new events are l = record {
   more = l.more;
@@ -79,7 +79,7 @@ lengthened state before old new events are l = record {
 }
 
 -- the canonical object of lines that begin with events
-form_object : (head : Header) (evs events rest : List Event) (lines : List (List ℕ)) (trailer : List ℕ) → LinesArePackedAsTheirEvents → events_of_lines lines ≡ (evs ++ events) ++ rest
+form_object : (head : Header) (evs events rest : List StoryEvent) (lines : List (List ℕ)) (trailer : List ℕ) → LinesArePackedAsTheirEvents → events_of_lines lines ≡ (evs ++ events) ++ rest
     → canonical head lines trailer ≡ ((packed_head head ++ packed_events evs) ++ packed_events events) ++ (packed_events rest ++ packed_tail trailer)
 form_object head evs events rest lines trailer law e =
     let h : List ℕ = packed_head head in
@@ -92,8 +92,8 @@ form_object head evs events rest lines trailer law e =
     ∙ (ap (λ (x : List ℕ). h ++ x) (append_assoc (a ++ b) r t ∙ append_assoc a b (r ++ t))
     ∙ (sym (append_assoc h a (b ++ (r ++ t))) ∙ sym (append_assoc (h ++ a) b (r ++ t))))
 
-pub broken : {W : Type 0} (state : W → Device) (before : ℕ) (old new : Writing W) (events : List Event) → LinesArePackedAsTheirEvents → object.BreaksOff state (object.GoesOnWith old.plan (packed_events events)) old new
-    → BreaksOff state (GoesOnWith events) (record { before = before; object = old }) (record { before = before; object = new })
+pub broken : {W : Type 0} (state : W → Device) (before : ℕ) (old new : Writing W) (events : List StoryEvent) → LinesArePackedAsTheirEvents → object.BreaksOff state (object.ContinuesWith old.plan (packed_events events)) old new
+    → BreaksOff state (ContinuesWith events) (record { before = before; object = old }) (record { before = before; object = new })
 broken state before old new events law k = record {
   more = k.more;
   appends = k.appends;
@@ -108,7 +108,7 @@ broken state before old new events law k = record {
       subst (λ (q : Plan). IsWritten q.subfile q.size (((packed_head head ++ packed_events evs) ++ packed_events events) ++ (packed_events form.rest ++ packed_tail form.trailer)) p.object) (sym s.is_plan)
       (subst (λ (o : List ℕ). IsWritten plan.subfile plan.size o p.object) is p.written) in
       let here = k.begins (packed_head head ++ packed_events evs) s.object_out p.object s.stands (packed_events form.rest ++ packed_tail form.trailer, written) in
-      let there : Begins (canonical_stream fields ++ (s.object_out ++ k.more)) (canonical_stream fields ++ p.object) = begins_behind (canonical_stream fields) (s.object_out ++ k.more) p.object here in
+      let there : Begins (canonical_stream fields ++ (s.object_out ++ k.more)) (canonical_stream fields ++ p.object) = begins_after (canonical_stream fields) (s.object_out ++ k.more) p.object here in
       subst (λ (w : List ℕ). Begins (out ++ k.more) w) (sym p.octets_are)
       (subst (λ (x : List ℕ). Begins x (canonical_stream fields ++ p.object)) (sym (ap (λ (t : List ℕ). t ++ k.more) s.out_is ∙ append_assoc (canonical_stream fields) s.object_out k.more)) there);
 }

@@ -6,15 +6,14 @@ use Rattle.std.proofs.lemmas.Bool.Decides.{eqb_tells}
 use Rattle.std.proofs.lemmas.List.Sums.{sum_by-cons}
 use Rattle.byteorder.specs.Endian.{big_bytes}
 use Rattle.byteorder.specs.Numbers.{big_number-reads_back}
-use Rattle.iim_dataset.specs.Octets.{Octets}
-use Rattle.iim_dataset.specs.Datasets.{Dataset}
-use Rattle.iim_tables.specs.Numbers.{number, size_octets, greatest_size}
-use Rattle.iim_tables.specs.Octets.{within}
-use Rattle.iim_tables.specs.Rows.{table, row_of, Meets}
-use Rattle.iim_fields.specs.Records.{IsGoodDataset, IsGoodRecord, occurs, occurrences, repeats, mandatory}
-use Rattle.iim_object.specs.Sizes.{mode_number}
-use Rattle.iim_object.specs.Plans.{limit_of}
-use Rattle.iim_object.specs.Packing.{number_dataset, is_known, plan_datasets, subfile_dataset, subfile_datasets, confirmed_datasets}
+use Rattle.iim_dataset.specs.Format.Octets.{Octets, greatest_size, number, within}
+use Rattle.iim_dataset.specs.Format.Datasets.{Dataset}
+use Rattle.iim_tables.specs.Format.Numbers.{size_octets}
+use Rattle.iim_tables.specs.Format.Rows.{table, row_of, Meets}
+use Rattle.iim_tables.specs.Format.Records.{IsGoodDataset, IsGoodRecord, occurs, occurrences, repeats, mandatory}
+use Rattle.iim_object.specs.Format.Sizes.{mode_number}
+use Rattle.iim_object.specs.Format.Plans.{limit_of}
+use Rattle.iim_object.specs.Format.Packing.{number_dataset, is_known, plan_datasets, subfile_dataset, subfile_datasets, confirmed_datasets}
 use Rattle.iim_object.specs.declared.size.Size.{Size}
 use Rattle.iim_object.specs.declared.size.Size.TheVariants.{Known, Unknown}
 

@@ -1,14 +1,14 @@
 -- How long a packed form is.
 use Rattle.std.proofs.Common.{◌≡◌, ℕ, ◌+◌, ◌*◌, ◌≤◌, List, ◌++◌, length, refl, sym, ap, ◌∙◌, arith, length-append}
 use Rattle.std.proofs.lemmas.List.{length-map}
-use Rattle.iim_dataset.specs.Datasets.{canonical_stream}
-use Rattle.iim_tables.specs.Numbers.{greatest_size}
-use Rattle.iim_fields.specs.Faults.{joined}
-use Rattle.iim_object.specs.Cuts.{IsCut}
-use Rattle.iim_object.specs.Packing.{plan_datasets, subfile_dataset, subfile_datasets, confirmed_datasets, object_datasets}
-use Rattle.iim_object.specs.Writing.{plan_octets}
+use Rattle.iim_dataset.specs.Format.Datasets.{canonical_stream}
+use Rattle.iim_dataset.specs.Format.Octets.{greatest_size}
+use Rattle.iim_fields.specs.Format.Faults.{joined}
+use Rattle.iim_object.specs.Format.Cuts.{IsCut}
+use Rattle.iim_object.specs.Format.Packing.{plan_datasets, subfile_dataset, subfile_datasets, confirmed_datasets, object_datasets}
+use Rattle.iim_object.specs.Format.Writing.{plan_octets}
 use Rattle.iim_object.specs.declared.plan.Plan.{Plan}
-use Rattle.wire_message.specs.Canonical.{canonical}
+use Rattle.wire_message.specs.Format.Canonical.{canonical}
 use Rattle.iim_pack.specs.Format.Laws.{PackedOctetsAreFew}
 use Rattle.iim_pack.proofs.Carrying.{plan_parts}
 use Rattle.iim_pack.proofs.FieldsOut.{stream_append, stream_length}

@@ -1,13 +1,13 @@
 -- Lines packed one after another.
 use Rattle.std.proofs.Common.{◌≡◌, ℕ, ◌+◌, ◌≤◌, true, false, None, List, [], ◌∷◌, ◌++◌, length, map, refl, sym, ap, subst, ◌∙◌, arith, append_assoc, append-nil, length-append}
 use Rattle.std.proofs.lemmas.Bool.{le-leb}
-use Rattle.iim_dataset.specs.Devices.{Device}
-use Rattle.iim_dataset.specs.DeviceLaws.{TextsJoin}
-use Rattle.iim_object.specs.Writing.{most_of, total_of, Begins}
-use Rattle.wire_story.specs.Texts.{IsLine}
-use Rattle.wire_story.specs.Delivery.{Event, LineOctet, LineEnd, events_of_lines}
-use Rattle.wire_story.specs.Packing.{packed_events}
-use Rattle.iim_pack.specs.Packing.{Packing, StandsAt, Lengthens, BreaksOff, GoesOnWith, FormWith, text_cause, line_end_cause}
+use Rattle.iim_dataset.specs.Format.Devices.{Device}
+use Rattle.iim_dataset.specs.Format.DeviceLaws.{TextsJoin}
+use Rattle.iim_object.specs.Format.Writing.{most_of, total_of, Begins}
+use Rattle.wire_story.specs.Format.Texts.{IsLine}
+use Rattle.wire_story.specs.Format.Delivery.{StoryEvent, LineOctet, LineEnd, events_of_lines}
+use Rattle.wire_story.specs.Format.Packing.{packed_events}
+use Rattle.iim_pack.specs.Format.Packing.{Packing, StandsAt, Lengthens, BreaksOff, ContinuesWith, FormWith, text_cause, line_end_cause}
 use Rattle.iim_pack.specs.Format.Whole.{events_left}
 use Rattle.iim_pack.proofs.Goings.{events_append}
 
@@ -19,11 +19,11 @@ goes_nowhere state k join unfailed = record {
   total = omega arith;
   unfailed = unfailed;
   plan = refl;
-  stands = λ fields head evs plan out s. subst (λ (e : List Event). StandsAt k fields head e plan (out ++ [])) (sym (append-nil evs)) (subst (StandsAt k fields head evs plan) (sym (append-nil out)) s);
+  stands = λ fields head evs plan out s. subst (λ (e : List StoryEvent). StandsAt k fields head e plan (out ++ [])) (sym (append-nil evs)) (subst (StandsAt k fields head evs plan) (sym (append-nil out)) s);
 }
 
-pub goes_on : {W : Type 0} (state : W → Device) (a b c : Packing W) (xs ys : List Event) → TextsJoin → Lengthens state a b xs → Lengthens state b c ys → Lengthens state a c (xs ++ ys)
-goes_on state a b c xs ys join l m = record {
+pub leads_on : {W : Type 0} (state : W → Device) (a b c : Packing W) (xs ys : List StoryEvent) → TextsJoin → Lengthens state a b xs → Lengthens state b c ys → Lengthens state a c (xs ++ ys)
+leads_on state a b c xs ys join l m = record {
   more = l.more ++ m.more;
   wrote = join.more (state a.object.writer) (state b.object.writer) (state c.object.writer) l.more m.more l.wrote m.wrote;
   counted = omega (arith, l.counted, m.counted, length-append l.more m.more);
@@ -31,11 +31,11 @@ goes_on state a b c xs ys join l m = record {
   unfailed = m.unfailed;
   plan = m.plan ∙ l.plan;
   stands = λ fields head evs plan out s.
-      subst (λ (e : List Event). StandsAt c fields head e plan (out ++ (l.more ++ m.more))) (append_assoc evs xs ys)
+      subst (λ (e : List StoryEvent). StandsAt c fields head e plan (out ++ (l.more ++ m.more))) (append_assoc evs xs ys)
       (subst (StandsAt c fields head ((evs ++ xs) ++ ys) plan) (append_assoc out l.more m.more) (m.stands fields head (evs ++ xs) plan (out ++ l.more) (l.stands fields head evs plan out s)));
 }
 
-pub breaks_later : {W : Type 0} (state : W → Device) (a b c : Packing W) (xs ys : List Event) → TextsJoin → Lengthens state a b xs → BreaksOff state (GoesOnWith ys) b c → BreaksOff state (GoesOnWith (xs ++ ys)) a c
+pub breaks_later : {W : Type 0} (state : W → Device) (a b c : Packing W) (xs ys : List StoryEvent) → TextsJoin → Lengthens state a b xs → BreaksOff state (ContinuesWith ys) b c → BreaksOff state (ContinuesWith (xs ++ ys)) a c
 breaks_later state a b c xs ys join l k = record {
   more = l.more ++ k.more;
   appends = (join.broke (state a.object.writer) (state b.object.writer) (state c.object.writer) l.more k.more l.wrote (k.appends, k.broke)).0;
@@ -44,11 +44,11 @@ breaks_later state a b c xs ys join l k = record {
   counted = omega (arith, k.counted, l.counted, length-append l.more k.more);
   begins = λ fields head evs plan out whole s form.
       subst (λ (t : List ℕ). Begins t whole) (append_assoc out l.more k.more)
-      (k.begins fields head (evs ++ xs) plan (out ++ l.more) whole (l.stands fields head evs plan out s) (subst (λ (e : List Event). FormWith fields head plan e whole) (sym (append_assoc evs xs ys)) form));
+      (k.begins fields head (evs ++ xs) plan (out ++ l.more) whole (l.stands fields head evs plan out s) (subst (λ (e : List StoryEvent). FormWith fields head plan e whole) (sym (append_assoc evs xs ys)) form));
 }
 
 -- what continues with more events than these continues with these
-pub breaks_before : {W : Type 0} (state : W → Device) (a c : Packing W) (xs ys : List Event) → BreaksOff state (GoesOnWith xs) a c → BreaksOff state (GoesOnWith (xs ++ ys)) a c
+pub breaks_before : {W : Type 0} (state : W → Device) (a c : Packing W) (xs ys : List StoryEvent) → BreaksOff state (ContinuesWith xs) a c → BreaksOff state (ContinuesWith (xs ++ ys)) a c
 breaks_before state a c xs ys k = record {
   more = k.more;
   appends = k.appends;
@@ -61,7 +61,7 @@ breaks_before state a c xs ys k = record {
         trailer = form.trailer;
         packed = form.packed;
         rest = ys ++ form.rest;
-        begins = form.begins ∙ (ap (λ (e : List Event). e ++ form.rest) (sym (append_assoc evs xs ys)) ∙ append_assoc (evs ++ xs) ys form.rest);
+        begins = form.begins ∙ (ap (λ (e : List StoryEvent). e ++ form.rest) (sym (append_assoc evs xs ys)) ∙ append_assoc (evs ++ xs) ys form.rest);
       });
 }
 
@@ -73,7 +73,7 @@ may_end_line k unfailed fits = rw (unfailed, le-leb (total_of k.object + 4) (mos
 
 first_left : (line : List ℕ) (lines : List (List ℕ)) → events_of_lines (line ∷ lines) ≡ map LineOctet line ++ events_left false lines
 first_left line [] = sym (append-nil (map LineOctet line))
-first_left line (next ∷ lines) = ap (λ (t : List Event). map LineOctet line ++ (LineEnd ∷ t)) (first_left next lines)
+first_left line (next ∷ lines) = ap (λ (t : List StoryEvent). map LineOctet line ++ (LineEnd ∷ t)) (first_left next lines)
 
 pub all_left : (lines : List (List ℕ)) → events_of_lines lines ≡ events_left true lines
 all_left [] = refl

@@ -3,9 +3,9 @@ use Rattle.std.proofs.Common.{◌≡◌, ℕ, ◌<◌, Bool, true, List, [], ◌
 use Rattle.std.specs.List.{AllByRecursion, list_all}
 use Rattle.std.proofs.lemmas.Bool.{and_parts}
 use Rattle.std.proofs.lemmas.Bool.Decides.{nat_tests}
-use Rattle.iim_dataset.specs.Octets.{IsOctet, Octets}
-use Rattle.wire_message.specs.Fields.{Are, is_digit, is_letter, is_alphanumeric, is_info_octet, is_trailer_octet, is_filler_octet, is_text_octet}
-use Rattle.wire_message.specs.Messages.{Header, IsHeader, IsMessage, SpellsInfo, fixed_header}
+use Rattle.iim_dataset.specs.Format.Octets.{IsOctet, Octets, is_digit, is_letter}
+use Rattle.wire_message.specs.Format.Fields.{Are, is_alphanumeric, is_info_octet, is_trailer_octet, is_filler_octet, is_text_octet}
+use Rattle.wire_message.specs.Format.Messages.{Header, IsHeader, IsMessage, SpellsInfo, fixed_header}
 
 pub all_append : {A : Type 0} (P : A → Type 0) (xs ys : List A) → AllByRecursion P xs → AllByRecursion P ys → AllByRecursion P (xs ++ ys)
 all_append P [] ys h k = k

@@ -1,13 +1,13 @@
 -- There is one packed form, and it has few subfiles.
 use Rattle.std.proofs.Common.{◌≡◌, ℕ, ◌+◌, ◌*◌, ◌≤◌, ◌⊎◌, inl, inr, ◌&&◌, nat_le, IsTrue, List, [], ◌∷◌, ◌++◌, length, refl, sym, ap, ◌∙◌, arith, length-append, mul-le-mul_left}
 use Rattle.std.proofs.lemmas.Bool.{and_parts, leb-true, cases_lt}
-use Rattle.iim_dataset.specs.Datasets.{canonical_stream}
-use Rattle.iim_tables.specs.Numbers.{greatest_size}
-use Rattle.iim_object.specs.Plans.{is_plan, fits, bound_of, max_subfiles}
-use Rattle.iim_object.specs.Cuts.{AreFull, IsCut, joined_parts, ObjectsAreCutOneWay}
-use Rattle.iim_object.specs.Packing.{object_datasets}
+use Rattle.iim_dataset.specs.Format.Datasets.{canonical_stream}
+use Rattle.iim_dataset.specs.Format.Octets.{greatest_size}
+use Rattle.iim_object.specs.Format.Plans.{is_plan, fits, bound_of, max_subfiles}
+use Rattle.iim_object.specs.Format.Cuts.{AreFull, IsCut, joined_parts, ObjectsAreCutOneWay}
+use Rattle.iim_object.specs.Format.Packing.{object_datasets}
 use Rattle.iim_object.specs.declared.size.Size.{Size}
-use Rattle.wire_message.specs.Canonical.{canonical}
+use Rattle.wire_message.specs.Format.Canonical.{canonical}
 use Rattle.iim_pack.specs.Format.Laws.{PackedOctetsAreOne, PackedSubfilesAreFew}
 
 pub least_subfile : (subfile : ℕ) (size : Size) → IsTrue (is_plan subfile size) → 1 ≤ subfile
@@ -27,7 +27,7 @@ empty_or_some : (xs : List ℕ) → (xs ≡ []) ⊎ (1 ≤ length xs)
 empty_or_some [] = inl refl
 empty_or_some (x ∷ xs) = inr (omega arith)
 
--- full parts of so many octets
+-- how many octets full parts of `size` octets have together
 full_length : (size : ℕ) (full : List (List ℕ)) → AreFull size full → length (joined_parts full) ≡ size * length full
 full_length size [] h = grind arith
 full_length size (f ∷ fs) h =

@@ -3,18 +3,19 @@ use Rattle.std.proofs.Common.{◌≡◌, ℕ, ◌+◌, ◌<◌, ◌≤◌, Some,
 use Rattle.std.proofs.lemmas.List.{take-append-drop}
 use Rattle.std.proofs.lemmas.Bool.{le-leb}
 use Rattle.std.specs.Io.KnownBytes.{Appends}
-use Rattle.iim_dataset.specs.Devices.{Device, Wrote, Stopped, Broke}
-use Rattle.iim_dataset.specs.DeviceLaws.{TextsJoin}
-use Rattle.iim_dataset.specs.Datasets.{canonical_stream}
-use Rattle.iim_object.specs.Packing.{IsWritten, plan_datasets, subfile_datasets, confirmed_datasets}
-use Rattle.iim_object.specs.Cuts.{joined_parts}
-use Rattle.iim_object.specs.Writing.{Writing, StandsAt, Lengthens, BreaksOff, GoesOnWith, Begins, most_of, total_of, plan_octets, write_cause}
+use Rattle.iim_dataset.specs.Format.Devices.{Device, Wrote, Stopped, Broke}
+use Rattle.iim_dataset.specs.Format.DeviceLaws.{TextsJoin}
+use Rattle.iim_dataset.specs.Format.Datasets.{canonical_stream}
+use Rattle.iim_object.specs.Format.Packing.{IsWritten, plan_datasets, subfile_datasets, confirmed_datasets}
+use Rattle.iim_object.specs.Format.Cuts.{joined_parts}
+use Rattle.iim_object.specs.Format.Writing.{Writing, StandsAt, Lengthens, BreaksOff, ContinuesWith, Begins, most_of, total_of, plan_octets, write_cause}
 use Rattle.iim_object.specs.declared.plan.Plan.{Plan}
 use Rattle.iim_object.specs.declared.size.Size.{Size}
 use Rattle.iim_object.specs.declared.size.Size.TheVariants.{Known, Unknown}
 use Rattle.iim_object.specs.declared.cause.StartFault.{StartFault}
 use Rattle.iim_object.specs.declared.cause.PackCause.TheVariants as causes
-use Rattle.iim_pack.specs.Starting.{Opens, Halts, BeginsWith}
+use Rattle.iim_pack.specs.Starting.{Opens, BeginsWith}
+use Rattle.iim_pack.specs.Format.Starting.{Halts}
 use Rattle.iim_pack.proofs.FieldsOut.{stream_append}
 
 front_length : (n : ℕ) (text : List ℕ) → n < length text → length (take n text) ≡ n
@@ -62,7 +63,7 @@ opened state writer plan front first new join is_plan s wrote l = record {
 
 -- the octets of the beginning could not be written
 pub opening_broke : {W : Type 0} (state : W → Device) (writer : W) (plan : Plan) (front : List ℕ) (first new : Writing W) (fault : StartFault W) → TextsJoin → first.plan ≡ plan → StandsAt first [] (plan_octets plan)
-    → Wrote (state writer) (state first.writer) (plan_octets plan) → BreaksOff state (GoesOnWith first.plan front) first new → fault.cause ≡ causes.Write → fault.writer ≡ new.writer → fault.written ≡ new.written
+    → Wrote (state writer) (state first.writer) (plan_octets plan) → BreaksOff state (ContinuesWith first.plan front) first new → fault.cause ≡ causes.Write → fault.writer ≡ new.writer → fault.written ≡ new.written
     → Halts state (BeginsWith plan front) writer fault
 opening_broke state writer plan front first new fault join is_plan s wrote k cause handed written = record {
   cause_is = cause;

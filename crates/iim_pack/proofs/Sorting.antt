@@ -2,11 +2,10 @@
 use Rattle.std.proofs.Common.{◌≡◌, ℕ, Bool, true, false, nat_eq, List, [], ◌∷◌, ◌++◌, refl, sym, ap, ◌∙◌, append_assoc, append-nil}
 use Rattle.std.specs.List.{AllByRecursion, filter}
 use Rattle.std.proofs.lemmas.List.Elements.{filter-append}
-use Rattle.iim_dataset.specs.Datasets.{Dataset}
-use Rattle.iim_fields.specs.Faults.{kept, is_kept, joined}
-use Rattle.iim_object.specs.Behind.{of_record}
-use Rattle.iim_object.specs.Cuts.{joined_parts}
-use Rattle.iim_object.specs.Packing.{subfile_datasets}
+use Rattle.iim_dataset.specs.Format.Datasets.{Dataset, of_record}
+use Rattle.iim_fields.specs.Format.Faults.{kept, is_kept, joined}
+use Rattle.iim_object.specs.Format.Cuts.{joined_parts}
+use Rattle.iim_object.specs.Format.Packing.{subfile_datasets}
 
 -- ---- what passes a test
 

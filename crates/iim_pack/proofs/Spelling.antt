@@ -3,14 +3,12 @@ use Rattle.std.proofs.Common.{◌≡◌, ℕ, ◌<◌, ◌≤◌, ◌^◌, true,
 use Rattle.std.specs.List.{AllByRecursion, list_all, find}
 use Rattle.std.specs.Option.{option_map, option_or}
 use Rattle.std.proofs.lemmas.Bool.{and_parts, leb-true, cond_both}
-use Rattle.iim_dataset.specs.Octets.{IsOctet}
-use Rattle.iim_dataset.specs.Datasets.{Dataset, count_octets}
-use Rattle.iim_dataset.specs.Laws.{HasSpellings}
-use Rattle.iim_tables.specs.Octets.{within}
-use Rattle.iim_tables.specs.Numbers.{greatest_size}
-use Rattle.iim_tables.specs.Rows.{table, row_of, row_in, row_of_others, is_admitted}
+use Rattle.iim_dataset.specs.Format.Octets.{IsOctet, greatest_size, within}
+use Rattle.iim_dataset.specs.Format.Datasets.{Dataset, count_octets}
+use Rattle.iim_dataset.specs.Format.Laws.{HasSpellings}
+use Rattle.iim_tables.specs.Format.Rows.{table, row_of, row_in, row_of_others, is_admitted}
 use Rattle.iim_tables.specs.declared.shape.Row.{Row}
-use Rattle.iim_fields.specs.Records.{IsGoodDataset}
+use Rattle.iim_tables.specs.Format.Records.{IsGoodDataset}
 
 abbrev IsBounded : Option Row → Type 0
 IsBounded o = IfSome o (λ r. r.max ≤ greatest_size)

@@ -1,21 +1,22 @@
 -- How a packer begins.
 use Rattle.std.proofs.Common.{◌≡◌, ℕ, ◌+◌, List, [], ◌++◌, length, take, refl, sym, subst, ◌∙◌, arith, append-nil, length-append, length-take}
-use Rattle.iim_dataset.specs.Devices.{Device, Wrote, Stopped, Broke}
+use Rattle.iim_dataset.specs.Format.Devices.{Device, Wrote, Stopped, Broke}
 use Rattle.std.specs.Io.KnownBytes.{Appends}
-use Rattle.iim_dataset.specs.DeviceLaws.{TextsJoin}
-use Rattle.iim_dataset.specs.Datasets.{Dataset, canonical_stream}
-use Rattle.iim_fields.specs.Builders.{IsEnvelope}
-use Rattle.iim_object.specs.Writing as object
-use Rattle.iim_object.specs.Writing.{Writing, Begins}
+use Rattle.iim_dataset.specs.Format.DeviceLaws.{TextsJoin}
+use Rattle.iim_dataset.specs.Format.Datasets.{Dataset, canonical_stream}
+use Rattle.iim_fields.specs.Format.Builders.{IsEnvelope}
+use Rattle.iim_object.specs.Format.Writing as object
+use Rattle.iim_object.specs.Format.Writing.{Writing, Begins}
 use Rattle.iim_object.specs.declared.plan.Plan.{Plan}
 use Rattle.iim_object.specs.declared.cause.StartFault.{StartFault}
 use Rattle.iim_object.specs.declared.cause.PackCause.TheVariants as causes
-use Rattle.wire_story.specs.Texts.{packed_text}
-use Rattle.wire_message.specs.Messages.{Header, IsHeader}
-use Rattle.wire_message.specs.Canonical.{packed_head, packed_tail}
-use Rattle.iim_pack.specs.Packing.{FormWith}
-use Rattle.iim_pack.specs.Starting.{Opens, Halts, BeginsWith, Starts}
-use Rattle.iim_pack.proofs.Goings.{begins_behind}
+use Rattle.wire_story.specs.Format.Texts.{packed_text}
+use Rattle.wire_message.specs.Format.Messages.{Header, IsHeader}
+use Rattle.wire_message.specs.Format.Canonical.{packed_head, packed_tail}
+use Rattle.iim_pack.specs.Format.Packing.{FormWith}
+use Rattle.iim_pack.specs.Starting.{Opens, BeginsWith}
+use Rattle.iim_pack.specs.Format.Starting.{Halts, Starts}
+use Rattle.iim_pack.proofs.Goings.{begins_after}
 use Rattle.iim_pack.proofs.Openings.{begins_by}
 
 -- records 1 and 2 could not be written
@@ -43,7 +44,7 @@ object_broke state writer first fields head plan before fault new join wrote cou
   counted = omega (arith, written, counted, h.counted, length-append (canonical_stream fields) h.out);
   begins = λ whole form.
       subst (λ (w : List ℕ). Begins (canonical_stream fields ++ h.out) w) (sym form.packed.octets_are)
-      (begins_behind (canonical_stream fields) h.out form.packed.object (h.begins form.packed.object (packed_text form.lines ++ packed_tail form.trailer, form.packed.written)));
+      (begins_after (canonical_stream fields) h.out form.packed.object (h.begins form.packed.object (packed_text form.lines ++ packed_tail form.trailer, form.packed.written)));
 }
 
 pub started : {W : Type 0} (state : W → Device) (writer first : W) (fields : List Dataset) (head : Header) (plan : Plan) (before : ℕ) (new : Writing W) → TextsJoin → IsEnvelope fields → IsHeader head

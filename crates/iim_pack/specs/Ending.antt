@@ -1,8 +1,8 @@
 -- The end of an object: its last octets, and what follows them.
 use Rattle.std.specs.Prelude.{ℕ, List, ◌++◌}
-use Rattle.iim_dataset.specs.Devices.{Device, Wrote}
-use Rattle.iim_object.specs.Packing.{IsWritten}
-use Rattle.iim_object.specs.Writing.{Writing, StandsAt}
+use Rattle.iim_dataset.specs.Format.Devices.{Device, Wrote}
+use Rattle.iim_object.specs.Format.Packing.{IsWritten}
+use Rattle.iim_object.specs.Format.Writing.{Writing, StandsAt}
 use Rattle.iim_object.specs.declared.plan.Plan.{Plan}
 
 -- what is written of the object with its last octets

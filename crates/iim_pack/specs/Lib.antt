@@ -1,4 +1,5 @@
+-- What the promises cite: a reader has to believe these.
 pub mod Format
-pub mod Packing
+-- What only proofs and private clauses cite.
 pub mod Ending
 pub mod Starting

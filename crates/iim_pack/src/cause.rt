@@ -1,9 +1,9 @@
 //! Why a packer refuses a call, by numbers alone.
 
 ghost use Rattle.std.specs.Prelude.{◌≡◌, ◌+◌, ◌<◌, ◌^◌};
-ghost use Rattle.iim_object.specs.Writing.{is_short, most_of};
-ghost use Rattle.iim_pack.specs.Packing.{is_past, ending_cause};
-ghost use Rattle.iim_pack.specs.Packing as words;
+ghost use Rattle.iim_object.specs.Format.Writing.{is_short, most_of};
+ghost use Rattle.iim_pack.specs.Format.Packing.{is_past, ending_cause};
+ghost use Rattle.iim_pack.specs.Format.Packing as words;
 
 use iim_object::{PackCause, Plan, Size};
 use wire_message::is_trailer;
@@ -11,7 +11,7 @@ use wire_message::is_trailer;
 /// ETX and EOT.
 pub(crate) const LEAST_ENDING: u64 = 2;
 
-/// Whether so many octets more pass the plan's bound.
+/// Whether `octets` octets after the first `total` pass the plan's bound.
 pub(crate) fn is_past(plan: Plan, total: u64, octets: u64) -> bool
     requires total { total < 2 ^ 62 }
     requires octets { octets < 2 ^ 63 + 4 }
@@ -20,7 +20,7 @@ pub(crate) fn is_past(plan: Plan, total: u64, octets: u64) -> bool
     total + octets > plan.bound()
 }
 
-/// Whether an object of so many octets is below a known size.
+/// Whether an object of `total` octets is below a known size.
 pub(crate) fn is_short(size: Size, total: u64) -> bool
     ensures { result ≡ is_short size total }
 {
@@ -30,7 +30,7 @@ pub(crate) fn is_short(size: Size, total: u64) -> bool
     }
 }
 
-/// Why an object may not end with the trailer after so many octets.
+/// Why an object may not end with the trailer after `total` octets.
 pub(crate) fn ending_cause(plan: Plan, total: u64, trailer: &[u8]) -> Option<PackCause>
     requires total { total < 2 ^ 62 }
     ensures { result ≡ words.ending_cause plan total trailer.now }

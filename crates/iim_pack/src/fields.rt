@@ -2,9 +2,9 @@
 
 ghost use Rattle.std.specs.Prelude.{◌≡◌, ◌+◌, ◌<◌, ◌≤◌, ◌^◌, length, IfOk, IfErr, OnOk};
 ghost use Rattle.std.specs.List.{AllByRecursion};
-ghost use Rattle.iim_dataset.specs.Datasets.{canonical_dataset, canonical_stream, count_octets};
-ghost use Rattle.iim_dataset.specs.Devices.{Wrote, Stopped};
-ghost use Rattle.iim_fields.specs.Builders.{IsEnvelope};
+ghost use Rattle.iim_dataset.specs.Format.Datasets.{canonical_dataset, canonical_stream, count_octets};
+ghost use Rattle.iim_dataset.specs.Format.Devices.{Wrote, Stopped};
+ghost use Rattle.iim_fields.specs.Format.Builders.{IsEnvelope};
 
 use iim_dataset::device_laws::texts_join;
 use iim_dataset::{Head, Target, head_bytes, put};

@@ -1,12 +1,12 @@
 //! Lines, packed one after another.
 
 ghost use Rattle.std.specs.Prelude.{◌≡◌, ◌+◌, ◌≤◌, false, length, OnOk, OnErr, IfErr};
-ghost use Rattle.iim_object.specs.Writing.{most_of, total_of};
+ghost use Rattle.iim_object.specs.Format.Writing.{most_of, total_of};
 ghost use Rattle.iim_object.specs.declared.cause.PackCause.TheVariants as causes;
-ghost use Rattle.wire_story.specs.Texts.{IsLine, MakeText};
-ghost use Rattle.wire_story.specs.Packing.{packed_events};
-ghost use Rattle.wire_story.specs.Delivery.{events_of_lines};
-ghost use Rattle.iim_pack.specs.Packing.{Lengthens, BreaksOff, GoesOnWith};
+ghost use Rattle.wire_story.specs.Format.Texts.{IsLine, MakeText};
+ghost use Rattle.wire_story.specs.Format.Packing.{packed_events};
+ghost use Rattle.wire_story.specs.Format.Delivery.{events_of_lines};
+ghost use Rattle.iim_pack.specs.Format.Packing.{Lengthens, BreaksOff, ContinuesWith};
 ghost use Rattle.iim_pack.specs.Format.Whole.{line_events};
 
 use crate::packer::Packer;
@@ -22,7 +22,7 @@ fn put_line<W: Target>(packer: &mut Packer<W>, line: &[u8], is_first: bool) -> R
     requires fits { total_of packer.old.object + (length (packed_events (line_events is_first line.now)) + 2) ≤ most_of packer.old.object.plan }
     ensures ok { OnOk result (Lengthens W.state packer.old packer.new (line_events is_first line.now)) }
     ensures cause { IfErr result (λ cause. cause ≡ causes.Write) }
-    ensures broke { OnErr result (BreaksOff W.state (GoesOnWith (line_events is_first line.now)) packer.old packer.new) }
+    ensures broke { OnErr result (BreaksOff W.state (ContinuesWith (line_events is_first line.now)) packer.old packer.new) }
 {
     texts_join();
     if is_first {
@@ -40,7 +40,7 @@ pub(crate) fn put_lines<W: Target>(packer: &mut Packer<W>, lines: &Lines) -> Res
     requires fits { total_of packer.old.object + (length (packed_events (events_of_lines lines.now.lines)) + 2) ≤ most_of packer.old.object.plan }
     ensures ok { OnOk result (Lengthens W.state packer.old packer.new (events_of_lines lines.now.lines)) }
     ensures cause { IfErr result (λ cause. cause ≡ causes.Write) }
-    ensures broke { OnErr result (BreaksOff W.state (GoesOnWith (events_of_lines lines.now.lines)) packer.old packer.new) }
+    ensures broke { OnErr result (BreaksOff W.state (ContinuesWith (events_of_lines lines.now.lines)) packer.old packer.new) }
     ensures made { MakeText lines.now.lines }
 {
     texts_join();

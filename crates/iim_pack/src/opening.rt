@@ -1,8 +1,9 @@
 //! The beginning of an object.
 
 ghost use Rattle.std.specs.Prelude.{◌≡◌, ◌<◌, ◌≤◌, ◌^◌, length, IfOk, IfErr};
-ghost use Rattle.iim_object.specs.Writing.{most_of};
-ghost use Rattle.iim_pack.specs.Starting.{Opens, Halts, BeginsWith};
+ghost use Rattle.iim_object.specs.Format.Writing.{most_of};
+ghost use Rattle.iim_pack.specs.Starting.{Opens, BeginsWith};
+ghost use Rattle.iim_pack.specs.Format.Starting.{Halts};
 
 use iim_dataset::Target;
 use iim_dataset::device_laws::texts_join;

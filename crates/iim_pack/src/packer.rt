@@ -1,10 +1,10 @@
 //! The packer.
 
 ghost use Rattle.std.specs.Prelude.{◌≡◌, ◌<◌, ◌^◌, [], ◌∷◌, map, length, IfOk, IfErr, OnOk, OnErr, IfSome, IfNone, MatchResult, Err};
-ghost use Rattle.wire_story.specs.Delivery.{LineOctet, LineEnd};
-ghost use Rattle.iim_pack.specs.Packing.{Lengthens, BreaksOff, GoesOnWith, EndsIn, Finishes, start_cause, text_cause, line_end_cause, finish_cause, written_of};
-ghost use Rattle.iim_pack.specs.Starting.{Starts, IsRefused, IsStartFault};
-ghost use Rattle.iim_pack.specs.Format.Begun.{Begun, GoesOnBegun, EndsBegun};
+ghost use Rattle.wire_story.specs.Format.Delivery.{LineOctet, LineEnd};
+ghost use Rattle.iim_pack.specs.Format.Packing.{Lengthens, BreaksOff, ContinuesWith, EndsIn, Finishes, start_cause, text_cause, line_end_cause, finish_cause, written_of};
+ghost use Rattle.iim_pack.specs.Format.Starting.{Starts, IsRefused, IsStartFault};
+ghost use Rattle.iim_pack.specs.Format.Begun.{HasBegun, ContinuesBegun, EndsBegun};
 ghost use Rattle.iim_pack.specs.Format.Orders.{IsFirstOf, AgainstStart, AgainstText, AgainstLineEnd, AgainstFinish};
 ghost use Rattle.iim_object.specs.declared.cause.PackCause.TheVariants as causes;
 
@@ -32,7 +32,7 @@ use wire_story::{LINE_END, is_text};
 /// memory for just those, in one request, and no later call asks for any. All else that it has is of a fixed size, below 256
 /// octets: the plan, four counts, whether a write failed, and what it writes to.
 ///
-/// Contracts see it as how many octets records 1 and 2 have, and the writer of its object. `Begun` (`specs/Begun.antt`) says what
+/// Contracts see it as how many octets records 1 and 2 have, and the writer of its object. `HasBegun` (`specs/HasBegun.antt`) says what
 /// it has taken and what is out.
 #[derive(Drop)]
 pub struct Packer<W> {
@@ -42,7 +42,7 @@ pub struct Packer<W> {
 
 impl<W> Model for Packer<W> {
     ghost use Rattle.std.specs.Prelude.{◌<◌, ◌^◌};
-    ghost use Rattle.iim_pack.specs.Packing.{Packing};
+    ghost use Rattle.iim_pack.specs.Format.Packing.{Packing};
 
     ghost Value = { Packing W };
 
@@ -67,7 +67,7 @@ impl<W: Target> Packer<W> {
         ensures refused { IfSome (start_cause head.now plan) (λ cause. MatchResult result (λ _. ⊥) (IsRefused cause writer)) }
         ensures order { IsFirstOf (AgainstStart head.now plan) (causes.PastAnnounced ∷ []) (start_cause head.now plan) }
         ensures ok { IfOk result (Starts W.state writer envelope.now head.now plan) }
-        ensures begun { IfOk result (λ k. Begun W.state (W.state writer) k envelope.now head.now [] plan) }
+        ensures begun { IfOk result (λ k. HasBegun W.state (W.state writer) k envelope.now head.now [] plan) }
         ensures fault { IfNone (start_cause head.now plan) (IfErr result (IsStartFault W.state envelope.now head.now plan writer)) }
     {
         lines_are_packed_as_their_events();
@@ -120,10 +120,10 @@ impl<W: Target> Packer<W> {
         ensures refused { IfSome (text_cause self.old octets.now) (λ cause. (result ≡ Err cause) × (self.new ≡ self.old)) }
         ensures order { IsFirstOf (AgainstText self.old octets.now) (causes.Failed ∷ causes.BadTextOctet ∷ causes.PastAnnounced ∷ []) (text_cause self.old octets.now) }
         ensures ok { OnOk result (Lengthens W.state self.old self.new (map LineOctet octets.now)) }
-        ensures begun { OnOk result (GoesOnBegun W.state self.old self.new (map LineOctet octets.now)) }
+        ensures begun { OnOk result (ContinuesBegun W.state self.old self.new (map LineOctet octets.now)) }
         ensures cause { IfNone (text_cause self.old octets.now) (IfErr result (λ cause. cause ≡ causes.Write)) }
         ensures broke { IfNone (text_cause self.old octets.now)
-            (OnErr result (BreaksOff W.state (GoesOnWith (map LineOctet octets.now)) self.old self.new)) }
+            (OnErr result (BreaksOff W.state (ContinuesWith (map LineOctet octets.now)) self.old self.new)) }
     {
         texts_join();
         lines_are_packed_as_their_events();
@@ -151,9 +151,9 @@ impl<W: Target> Packer<W> {
         ensures refused { IfSome (line_end_cause self.old) (λ cause. (result ≡ Err cause) × (self.new ≡ self.old)) }
         ensures order { IsFirstOf (AgainstLineEnd self.old) (causes.Failed ∷ causes.PastAnnounced ∷ []) (line_end_cause self.old) }
         ensures ok { OnOk result (Lengthens W.state self.old self.new (LineEnd ∷ [])) }
-        ensures begun { OnOk result (GoesOnBegun W.state self.old self.new (LineEnd ∷ [])) }
+        ensures begun { OnOk result (ContinuesBegun W.state self.old self.new (LineEnd ∷ [])) }
         ensures cause { IfNone (line_end_cause self.old) (IfErr result (λ cause. cause ≡ causes.Write)) }
-        ensures broke { IfNone (line_end_cause self.old) (OnErr result (BreaksOff W.state (GoesOnWith (LineEnd ∷ [])) self.old self.new)) }
+        ensures broke { IfNone (line_end_cause self.old) (OnErr result (BreaksOff W.state (ContinuesWith (LineEnd ∷ [])) self.old self.new)) }
     {
         texts_join();
         lines_are_packed_as_their_events();

@@ -1,12 +1,12 @@
 //! How long a packed object is.
 
 ghost use Rattle.std.specs.Prelude.{◌≡◌, ◌≤◌, ◌↔◌, length, IsSome, IfSome};
-ghost use Rattle.iim_tables.specs.Numbers.{greatest_size};
-ghost use Rattle.wire_message.specs.Messages.{IsTrailer};
-ghost use Rattle.wire_message.specs.Canonical.{canonical};
+ghost use Rattle.iim_dataset.specs.Format.Octets.{greatest_size};
+ghost use Rattle.wire_message.specs.Format.Messages.{IsTrailer};
+ghost use Rattle.wire_message.specs.Format.Canonical.{canonical};
 
 use crate::cause::LEAST_ENDING;
-use iim_tables::GREATEST_SIZE;
+use iim_dataset::GREATEST_SIZE;
 use wire_message::{MessageHead, head_text, is_trailer};
 use wire_story::{Lines, text_len};
 

@@ -1,12 +1,12 @@
 //! A whole envelope, packed in one call.
 
 ghost use Rattle.std.specs.Prelude.{◌≡◌, [], ◌∷◌, length, IfOk, IfErr, IfSome, IfNone, MatchResult};
-ghost use Rattle.wire_message.specs.Canonical.{canonical};
-ghost use Rattle.iim_pack.specs.Packing.{written_of};
-ghost use Rattle.iim_pack.specs.Packing as words;
+ghost use Rattle.wire_message.specs.Format.Canonical.{canonical};
+ghost use Rattle.iim_pack.specs.Format.Packing.{written_of};
+ghost use Rattle.iim_pack.specs.Format.Packing as words;
 ghost use Rattle.iim_object.specs.declared.cause.PackCause.TheVariants as causes;
 ghost use Rattle.iim_pack.specs.Format.Orders.{IsFirstOf, AgainstPack};
-ghost use Rattle.iim_pack.specs.Starting.{IsRefused};
+ghost use Rattle.iim_pack.specs.Format.Starting.{IsRefused};
 ghost use Rattle.iim_pack.specs.Format.Whole.{Packs, IsPackFault};
 
 use crate::cause::is_short;

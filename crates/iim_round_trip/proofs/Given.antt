@@ -2,9 +2,9 @@
 use Rattle.std.proofs.Common.{◌≡◌, ◌≢◌, ℕ, ◌⊎◌, inl, inr, List, length, refl, subst}
 use Rattle.std.specs.Prelude.{Result, Ok, Err, IfOk, IfErr}
 use Rattle.iim_fields.specs.declared.limits.Limits.{Limits}
-use Rattle.wire_story.specs.Delivery as story
+use Rattle.wire_story.specs.Format.Delivery as story
 use Rattle.iim_unpack.specs.Format.Admitted.{Value}
-use Rattle.iim_unpack.specs.Pieces.{IsUnpacked, IsAnswer}
+use Rattle.iim_unpack.specs.Format.Pieces.{IsUnpacked, IsAnswer}
 use Rattle.iim_unpack.specs.Format.Streams.{Answer, Answers, Finished}
 use Rattle.iim_unpack.specs.declared.refusal.Cause.{Cause}
 use Rattle.iim_unpack.specs.declared.refusal.Cause.TheVariants as causes
@@ -13,7 +13,7 @@ use Rattle.iim_unpack.specs.declared.unpacker.Unpacked.{Unpacked}
 use Rattle.iim_round_trip.specs.Format.Laws.{packed_value}
 use Rattle.iim_round_trip.specs.Format.RoundTrip.{packed_answer, GivesBack, RefusesBySink, PackedStreamsHaveTheirAnswer}
 
-pub given : {S : Type 0} (goes : S → List story.Event → S → Type 0) (limits : Limits) (stream : List ℕ) (a b : S) (got : Unpacked) (used : ℕ) → PackedStreamsHaveTheirAnswer
+pub given : {S : Type 0} (goes : S → List story.StoryEvent → S → Type 0) (limits : Limits) (stream : List ℕ) (a b : S) (got : Unpacked) (used : ℕ) → PackedStreamsHaveTheirAnswer
     → ((answer : Answer) → Answers limits stream answer → IsAnswer (Ok (got, used)) answer)
     → IsUnpacked goes limits stream a b got used → GivesBack goes limits stream a b got used
 given goes limits stream a b got used law only u fields head lines trailer plan p =
@@ -66,7 +66,7 @@ by_sink limits stream e law only fields head lines trailer plan p = elim (sink_o
 
 -- ---- of a result
 
-pub given_all : {S : Type 0} (goes : S → List story.Event → S → Type 0) (limits : Limits) (stream : List ℕ) (a b : S) (r : Result (Unpacked × ℕ) Refusal) → PackedStreamsHaveTheirAnswer
+pub given_all : {S : Type 0} (goes : S → List story.StoryEvent → S → Type 0) (limits : Limits) (stream : List ℕ) (a b : S) (r : Result (Unpacked × ℕ) Refusal) → PackedStreamsHaveTheirAnswer
     → ((answer : Answer) → Answers limits stream answer → IfErr r (λ e. e.cause ≢ causes.Sink) → IsAnswer r answer)
     → IfOk r (λ got. IsUnpacked goes limits stream a b got.0 got.1) → IfOk r (λ got. GivesBack goes limits stream a b got.0 got.1)
 given_all goes limits stream a b (Ok got) law only u = given goes limits stream a b got.0 got.1 law (λ answer h. only answer h tt) u

@@ -1,6 +1,6 @@
 -- What is packed is admitted, and found.
 use Rattle.std.proofs.Common.{◌≡◌, ℕ, ◌⊎◌, inl, inr, List, [], ◌∷◌, ◌++◌, refl, sym, ap, subst, ◌∙◌, append-nil}
-use Rattle.wire_message.specs.Messages.{IsMessage}
+use Rattle.wire_message.specs.Format.Messages.{IsMessage}
 use Rattle.iim_pack.specs.Format.Laws.{datasets_of, PackedOctetsCarryTheValue}
 use Rattle.iim_unpack.specs.Format.Admitted.{Value, Admits}
 use Rattle.iim_unpack.specs.Format.Laws.{AdmittedOctetsHaveOneValue, NoAdmittedOctetsBeginOthers}

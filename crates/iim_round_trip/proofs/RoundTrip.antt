@@ -1,7 +1,7 @@
 -- What was packed, unpacked.
 use Rattle.std.proofs.Common.{◌≡◌, ℕ, ◌≤◌, List, length, take, sym, subst, ◌∙◌, arith, ap, length-append}
 use Rattle.std.proofs.Math.Seq.{take-append_seam}
-use Rattle.iim_object.specs.Plans.{max_subfiles}
+use Rattle.iim_object.specs.Format.Plans.{max_subfiles}
 use Rattle.iim_pack.specs.Format.Laws.{PackedSubfilesAreFew}
 use Rattle.iim_unpack.specs.Format.Streams.{IsEnvelopeWithin, Answers, StreamsHaveOneAnswer}
 use Rattle.iim_round_trip.specs.Format.Laws.{packed_value, PackedOctetsAreAdmitted}

@@ -1,10 +1,10 @@
 -- An envelope that comes back with its lines.
 use Rattle.std.proofs.Common.{◌≡◌, ℕ, List, [], ◌∷◌, sym, ap, subst, ◌∙◌}
 use Rattle.iim_fields.specs.declared.limits.Limits.{Limits}
-use Rattle.wire_story.specs.Collecting.{Collected, collect}
-use Rattle.wire_story.specs.Delivery.{Event, events_of_lines}
-use Rattle.wire_story.specs.Texts.{IsText}
-use Rattle.wire_story.specs.Laws.{TextsAreDeliveredAsLines, TextsAreCollectedAsLines}
+use Rattle.wire_story.specs.Format.Collecting.{Collected, collect}
+use Rattle.wire_story.specs.Format.Delivery.{StoryEvent, events_of_lines}
+use Rattle.wire_story.specs.Format.Texts.{IsText}
+use Rattle.wire_story.specs.Format.Laws.{TextsAreDeliveredAsLines, TextsAreCollectedAsLines}
 use Rattle.iim_round_trip.specs.Format.RoundTrip.{GivesBack, RefusesBySink}
 use Rattle.iim_round_trip.specs.Format.Stories.{ComesBack, FailsForMemory}
 use Rattle.iim_round_trip.specs.declared.unpacking.Story.{Story}
@@ -13,7 +13,7 @@ use Rattle.iim_unpack.specs.declared.refusal.Refusal.{Refusal}
 
 -- what lines are told collects to them
 collected : TextsAreDeliveredAsLines → TextsAreCollectedAsLines → (text : List ℕ) (lines : List (List ℕ)) → IsText text lines → collect ([] ∷ []) (events_of_lines lines) ≡ lines
-collected deliver gather text lines is = ap (λ (events : List Event). collect ([] ∷ []) events) (sym (deliver text lines is)) ∙ gather text lines is
+collected deliver gather text lines is = ap (λ (events : List StoryEvent). collect ([] ∷ []) events) (sym (deliver text lines is)) ∙ gather text lines is
 
 pub comes : TextsAreDeliveredAsLines → TextsAreCollectedAsLines → (limits found : Limits) (stream : List ℕ) (old : Collected) (got : Story) → found ≡ limits → old.lines ≡ [] ∷ []
     → GivesBack (λ (a : Collected) events (b : Collected). b.lines ≡ collect a.lines events) found stream old got.lines got.unpacked got.used → ComesBack limits stream got

@@ -1,1 +1,2 @@
+-- What the promises cite: a reader has to believe these.
 pub mod Format

@@ -1,9 +1,9 @@
 //! What was packed, unpacked again.
 
 ghost use Rattle.std.specs.Prelude.{◌≡◌, [], IfOk, IfErr, OnOk};
-ghost use Rattle.iim_unpack.specs.Parts.{CountsFor};
-ghost use Rattle.iim_unpack.specs.Pieces.{stream_of};
-ghost use Rattle.iim_unpack.specs.Unpacking.{Stands, limits_in};
+ghost use Rattle.iim_unpack.specs.Format.Parts.{CountsFor};
+ghost use Rattle.iim_unpack.specs.Format.Pieces.{stream_of};
+ghost use Rattle.iim_unpack.specs.Format.Unpacking.{Stands, limits_in};
 ghost use Rattle.iim_round_trip.specs.Format.RoundTrip.{GivesBack, RefusesBySink};
 ghost use Rattle.iim_round_trip.specs.Format.Stories.{ComesBack, FailsForMemory};
 

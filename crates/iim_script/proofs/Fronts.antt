@@ -2,12 +2,13 @@
 use Rattle.std.proofs.Common.{◌≡◌, ◌⊎◌, inl, inr, ℕ, ◌+◌, ◌≤◌, true, false, List, [], ◌∷◌, ◌++◌, append_assoc, append-nil, length, length-append, get_or, refl, ap, sym, ◌∙◌, subst, arith, Some, None}
 use Rattle.std.specs.List.{list_all}
 use Rattle.std.proofs.lemmas.Bool.{false≢true}
-use Rattle.iim_dataset.specs.Datasets.{Dataset}
-use Rattle.iim_fields.specs.Builders.{Building, add_fault, finish_fault}
+use Rattle.iim_dataset.specs.Format.Datasets.{Dataset}
+use Rattle.iim_fields.specs.Format.Builders.{Building, add_fault, finish_fault}
 use Rattle.iim_fields.specs.declared.limits.Limits.{Limits}
-use Rattle.wire_message.specs.Messages.{Header, IsTrailer}
+use Rattle.wire_message.specs.Format.Messages.{Header, IsTrailer}
 use Rattle.iim_script.specs.Format.Lines.{HasNo, EndsLine, NextLine, EndLines}
-use Rattle.iim_script.specs.Format.Forms.{TellsField, TellsHead, TellsTrailer, is_digit, text_word}
+use Rattle.iim_script.specs.Format.Forms.{TellsField, TellsHead, TellsTrailer, text_word}
+use Rattle.iim_dataset.specs.Format.Octets.{is_digit}
 use Rattle.iim_script.specs.Adding.{Adds, RefusesLine}
 use Rattle.iim_script.specs.Format.Scripts.{TellFields, AreTaken, IsFront, max_script}
 use Rattle.iim_script.specs.Format.Faults.{Stage, InFields, AfterMessage, AfterTrailer, HaveCome, Stands, TellsNoField, TellsNoHead, TellsNoTrailer, IsNextWrong, IsFrontFault, IsScriptFault}

@@ -3,8 +3,9 @@ use Rattle.std.proofs.Common.{◌≡◌, ℕ, suc, ◌+◌, ◌-◌, ◌==◌, B
 use Rattle.std.specs.List.{position_or_len, list_all}
 use Rattle.std.proofs.lemmas.Bool.{eqb-true, false≢true}
 use Rattle.std.proofs.lemmas.List.{take_rest, take-append-drop}
-use Rattle.wire_message.specs.Fields.{is_letter, is_digit, is_alphanumeric}
-use Rattle.wire_message.specs.Messages.{Header, header_of, IsHeader}
+use Rattle.wire_message.specs.Format.Fields.{is_alphanumeric}
+use Rattle.iim_dataset.specs.Format.Octets.{is_letter, is_digit}
+use Rattle.wire_message.specs.Format.Messages.{Header, header_of, IsHeader}
 use Rattle.iim_script.specs.Format.Lines.{HasNo}
 use Rattle.iim_script.specs.Format.Shown.{TellsLast}
 use Rattle.iim_script.specs.Format.Forms.{HeadWords, AreWords, TellsHead, words_of, message_word, after_source, after_number, after_priority, after_category}

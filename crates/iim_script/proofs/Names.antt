@@ -5,7 +5,8 @@ use Rattle.std.proofs.lemmas.Bool.{false≢true, and_from}
 use Rattle.std.proofs.lemmas.Bool.Decides.{nat_tests}
 use Rattle.std.proofs.lemmas.List.{take_rest, take-append-drop}
 use Rattle.iim_script.specs.Format.Lines.{HasNo}
-use Rattle.iim_script.specs.Format.Forms.{TellsNumber, TellsNames, is_digit}
+use Rattle.iim_script.specs.Format.Forms.{TellsNumber, TellsNames}
+use Rattle.iim_dataset.specs.Format.Octets.{is_digit}
 use Rattle.iim_script.proofs.Cuts.{cut_once, has_no_octet}
 
 abbrev pub no_digit : ℕ → Bool

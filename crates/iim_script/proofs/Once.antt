@@ -1,8 +1,8 @@
 -- What a line tells is one thing.
 use Rattle.std.proofs.Common.{◌≡◌, ℕ, List, ◌∷◌, ◌++◌, get_or, drop, refl, ap, sym, ◌∙◌, subst, arith}
 use Rattle.std.specs.List.{position_or_len}
-use Rattle.iim_dataset.specs.Datasets.{Dataset}
-use Rattle.wire_message.specs.Messages.{Header}
+use Rattle.iim_dataset.specs.Format.Datasets.{Dataset}
+use Rattle.wire_message.specs.Format.Messages.{Header}
 use Rattle.iim_script.specs.Format.Shown.{TellsLast}
 use Rattle.iim_script.specs.Format.Forms.{TellsNumber, TellsNames, TellsField, TellsHead, TellsTrailer, words_of, after_source, text_word}
 use Rattle.iim_script.proofs.Texts.{last_once}

@@ -6,16 +6,16 @@ use Rattle.std.proofs.lemmas.Bool.{false≢true, and_from, leb-true, le-leb}
 use Rattle.std.proofs.lemmas.Bool.Decides.{nat_tests, eqb_tells}
 use Rattle.std.proofs.lemmas.Fmt.{decimal_nonempty, digits_decimal, digits_value-decimal, length-decimal-le}
 use Rattle.std.proofs.lemmas.Str.Parse.{IsDigitsTest, IsNumeralModel, numerals_by_fold}
-use Rattle.iim_dataset.specs.Octets.{Octets}
-use Rattle.iim_dataset.specs.Datasets.{Dataset}
-use Rattle.wire_message.specs.Fields.{Are, is_letter, is_alphanumeric}
-use Rattle.wire_message.specs.Fields as message
-use Rattle.wire_message.specs.Messages.{Header, IsHeader}
-use Rattle.wire_story.specs.Texts.{IsLine, is_line_octet}
+use Rattle.iim_dataset.specs.Format.Octets.{Octets, is_letter, is_digit}
+use Rattle.iim_dataset.specs.Format.Datasets.{Dataset}
+use Rattle.wire_message.specs.Format.Fields.{Are, is_alphanumeric}
+use Rattle.wire_message.specs.Format.Fields as message
+use Rattle.wire_message.specs.Format.Messages.{Header, IsHeader}
+use Rattle.wire_story.specs.Format.Texts.{IsLine, is_line_octet}
 use Rattle.iim_script.specs.Format.Lines.{HasNo, EndsLine, EndLines}
 use Rattle.iim_script.specs.Format.Shown.{IsHexDigit, TellsOctet, Tells, TellsLast}
-use Rattle.iim_script.specs.Format.Forms.{TellsNumber, TellsField, TellsHead, TellsTrailer, is_digit, decimal_from, message_word, trailer_word, words_of, after_source, after_number, after_priority, after_category}
-use Rattle.iim_dataset.specs.Shown.{hex_digit, escape, is_plain, shown_octet, shown, padding, dataset_name}
+use Rattle.iim_script.specs.Format.Forms.{TellsNumber, TellsField, TellsHead, TellsTrailer, decimal_from, message_word, trailer_word, words_of, after_source, after_number, after_priority, after_category}
+use Rattle.iim_dataset.specs.Format.Shown.{hex_digit, escape, is_plain, shown_octet, shown, padding, dataset_name}
 use Rattle.iim_script.specs.Format.Printed.{after_space, field_line, message_line, trailer_line, PrintsStory}
 use Rattle.iim_script.specs.Format.Scripts.{TellFields, IsStory}
 use Rattle.iim_script.proofs.Cuts.{has_no_octet, has_no_append}
@@ -211,17 +211,17 @@ head_told head h = record {
 word_lacks : (test : ℕ → Bool) (b : ℕ) (word rest : List ℕ) → b < 32 → test b ≡ false → Are test word → HasNo b rest → HasNo b (word ++ (32 ∷ rest))
 word_lacks test b word rest small fails h k = has_no_append b word (32 ∷ rest) (lacks test b word fails h) (other 32 b small, k)
 
-message_lacks : (b : ℕ) (head : Header) → b < 32 → is_letter b ≡ false → message.is_digit b ≡ false → is_alphanumeric b ≡ false → HasNo b message_word → IsHeader head
+message_lacks : (b : ℕ) (head : Header) → b < 32 → is_letter b ≡ false → is_digit b ≡ false → is_alphanumeric b ≡ false → HasNo b message_word → IsHeader head
     → HasNo b (message_words head)
 message_lacks b head small letter digit alphanumeric word h =
     let end = after_space head.info in
     let w = words_of head in
     has_no_append b message_word (head.source ++ (32 ∷ after_source w end)) word
     (word_lacks is_letter b head.source (after_source w end) small letter h.source.0
-    (word_lacks message.is_digit b head.number (after_number w end) small digit h.number.0
-    (word_lacks message.is_digit b head.priority (after_priority w end) small digit h.priority.0
+    (word_lacks is_digit b head.number (after_number w end) small digit h.number.0
+    (word_lacks is_digit b head.priority (after_priority w end) small digit h.priority.0
     (word_lacks is_alphanumeric b head.category (after_category w end) small alphanumeric h.category.0
-    (has_no_append b head.words end (lacks message.is_digit b head.words digit h.words.0) (after_lacks b head.info small))))))
+    (has_no_append b head.words end (lacks is_digit b head.words digit h.words.0) (after_lacks b head.info small))))))
 
 -- a word, SP and what follows, and an end
 pushed : (word rest more after : List ℕ) → rest ++ more ≡ after → (word ++ (32 ∷ rest)) ++ more ≡ word ++ (32 ∷ after)

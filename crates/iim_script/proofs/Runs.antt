@@ -1,13 +1,14 @@
 -- Scripts line by line: what each line leads to, and that lines lead to one thing.
 use Rattle.std.proofs.Common.{◌≡◌, ◌⊎◌, inl, inr, ℕ, ◌+◌, true, List, [], ◌∷◌, ◌++◌, append_assoc, append-nil, length, length-append, get_or, refl, ap, sym, ◌∙◌, subst, arith, Option, Some, None}
-use Rattle.iim_dataset.specs.Datasets.{Dataset}
-use Rattle.iim_fields.specs.Builders.{add_fault, finish_fault}
+use Rattle.iim_dataset.specs.Format.Datasets.{Dataset}
+use Rattle.iim_fields.specs.Format.Builders.{add_fault, finish_fault}
 use Rattle.iim_fields.specs.declared.limits.Limits.{Limits}
 use Rattle.iim_fields.specs.declared.fault.FieldFault.{FieldFault}
 use Rattle.iim_fields.specs.declared.fault.FieldCause.{FieldCause}
-use Rattle.wire_message.specs.Messages.{Header, IsTrailer}
+use Rattle.wire_message.specs.Format.Messages.{Header, IsTrailer}
 use Rattle.iim_script.specs.Format.Lines.{NextLine, EndLines}
-use Rattle.iim_script.specs.Format.Forms.{TellsField, TellsHead, TellsTrailer, is_digit, text_word}
+use Rattle.iim_script.specs.Format.Forms.{TellsField, TellsHead, TellsTrailer, text_word}
+use Rattle.iim_dataset.specs.Format.Octets.{is_digit}
 use Rattle.iim_script.specs.Format.Scripts.{TellFields, AreTaken, AreTrailer, IsFront}
 use Rattle.iim_script.specs.Format.Faults.{Stage, InFields, AfterMessage, AfterTrailer, HaveCome, Stands, HasNoForm, TellsBadField, EndsTooSoon, TellsBadTrailer, IsWrong, IsNextWrong}
 use Rattle.iim_script.specs.declared.fault.ScriptCause.{ScriptCause}
@@ -149,7 +150,7 @@ path_leads limits place (l ∷ lines) line more end other (there, leads, p) (her
 abbrev pub start : Place
 start = At (InFields [])
 
--- The octets begin with so many lines, which lead to this place, and this is left.
+-- The octets begin with `count` lines, which lead to this place, and this is left.
 pub record Run (limits : Limits) (octets : List ℕ) (place : Place) (rest : List ℕ) (count : ℕ) : Type 0 where
   pub lines : List (List ℕ)
   pub lined : Lined lines octets rest

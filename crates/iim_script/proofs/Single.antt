@@ -1,10 +1,10 @@
 -- Octets tell one script or have one fault.
 use Rattle.std.proofs.Common.{◌≡◌, ◌⊎◌, inl, inr, ℕ, ◌+◌, ◌<◌, ◌≤◌, List, [], ◌∷◌, ◌++◌, append-nil, length, refl, ap, sym, ◌∙◌, subst, arith}
 use Rattle.std.specs.List.{AllByRecursion}
-use Rattle.iim_dataset.specs.Datasets.{Dataset}
+use Rattle.iim_dataset.specs.Format.Datasets.{Dataset}
 use Rattle.iim_fields.specs.declared.limits.Limits.{Limits}
-use Rattle.wire_message.specs.Messages.{Header}
-use Rattle.wire_story.specs.Texts.{IsLine}
+use Rattle.wire_message.specs.Format.Messages.{Header}
+use Rattle.wire_story.specs.Format.Texts.{IsLine}
 use Rattle.iim_script.specs.Format.Lines.{HasNo, NextLine}
 use Rattle.iim_script.specs.Format.Scripts.{IsStory, IsScript, max_script}
 use Rattle.iim_script.specs.Format.Faults.{IsBadStory, IsNextWrong, IsFrontFault, IsStoryFault, IsScriptFault}

@@ -1,9 +1,9 @@
 -- The lines of a story, one after another.
 use Rattle.std.proofs.Common.{◌≡◌, ◌⊎◌, inl, inr, ℕ, ◌+◌, ◌<◌, List, [], ◌∷◌, ◌++◌, append_assoc, append-nil, length, map, refl, ap, sym, ◌∙◌, subst, arith, Option, Some, None, IfSome, IfNone, Bor}
 use Rattle.std.specs.List.{AllByRecursion}
-use Rattle.wire_story.specs.Texts.{IsLine}
-use Rattle.wire_story.specs.Delivery.{LineOctet, LineEnd}
-use Rattle.wire_story.specs.Collecting.{collect, add_octet}
+use Rattle.wire_story.specs.Format.Texts.{IsLine}
+use Rattle.wire_story.specs.Format.Delivery.{LineOctet, LineEnd}
+use Rattle.wire_story.specs.Format.Collecting.{collect, add_octet}
 use Rattle.iim_script.specs.Format.Lines.{HasNo, EndsLine, NextLine, EndLines}
 use Rattle.iim_script.specs.Format.Scripts.{IsStory}
 use Rattle.iim_script.specs.Steps.{number_after, IsLastLine, RefusesStory, RefusesStoryLine}

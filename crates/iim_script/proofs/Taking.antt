@@ -7,15 +7,16 @@ use Rattle.std.proofs.lemmas.Bool.Decides.{nat_tests}
 use Rattle.std.proofs.lemmas.List.Elements.{filter-append}
 use Rattle.std.proofs.lemmas.List.Folds.{list_any-append}
 use Rattle.std.proofs.lemmas.List.Concat.{flat_map-append}
-use Rattle.iim_dataset.specs.Octets.{Octets}
-use Rattle.iim_dataset.specs.Datasets.{Dataset, head_of}
-use Rattle.iim_tables.specs.Rows.{table, row_of}
-use Rattle.iim_fields.specs.Alive.{IsAlive, IsAliveAt}
-use Rattle.iim_fields.specs.Builders.{IsEnvelope, absent, finish_fault}
-use Rattle.iim_fields.specs.Faults.{joined, kept, kept_octets, is_kept, of_record, limits_fault, record_fault, value_fault, missing_fault, fault_on}
-use Rattle.iim_fields.specs.Laws.{HeadsDieWithTheirFault, ValuesDieWithTheirFault}
-use Rattle.iim_fields.specs.Records.{IsGoodDataset, IsGoodRecord, AreRecords, AreSections, mandatory, occurs}
-use Rattle.iim_fields.specs.Standing.{IsWithin}
+use Rattle.iim_dataset.specs.Format.Octets.{Octets}
+use Rattle.iim_dataset.specs.Format.Datasets.{Dataset, head_of, of_record}
+use Rattle.iim_tables.specs.Format.Rows.{table, row_of}
+use Rattle.iim_fields.specs.Format.Alive.{SectionsLive, SectionsLiveAt}
+use Rattle.iim_fields.specs.Format.Builders.{IsEnvelope, absent, finish_fault}
+use Rattle.iim_fields.specs.Format.Faults.{joined, kept, kept_octets, is_kept, limits_fault, record_fault, value_fault, missing_fault, fault_on}
+use Rattle.iim_fields.specs.Format.Laws.{HeadsDieWithTheirFault, ValuesDieWithTheirFault}
+use Rattle.iim_fields.specs.Format.Records.{AreRecords, AreSections}
+use Rattle.iim_tables.specs.Format.Records.{IsGoodDataset, IsGoodRecord, mandatory, occurs}
+use Rattle.iim_fields.specs.Format.Standing.{IsWithin}
 use Rattle.iim_fields.specs.declared.fault.FieldFault.{FieldFault}
 use Rattle.iim_fields.specs.declared.fault.FieldCause.TheVariants.{RecordOrder}
 use Rattle.iim_fields.specs.declared.limits.Limits.{Limits}
@@ -165,9 +166,9 @@ taken_from heads values limits before [] rest sections each all within = tt
 taken_from heads values limits before (d ∷ ds) rest sections each all within =
     let parts : (before ++ d ∷ []) ++ ds ≡ before ++ d ∷ ds = append_assoc before (d ∷ []) ds in
     let more : AreSections (((before ++ d ∷ []) ++ ds) ++ rest) = subst (λ (l : List Dataset). AreSections (l ++ rest)) (sym parts) sections in
-    let alive : IsAlive before = (d ∷ ds ++ rest, subst AreSections (append_assoc before (d ∷ ds) rest) sections) in
-    let alive_more : IsAlive (before ++ d ∷ []) = (ds ++ rest, subst AreSections (append_assoc (before ++ d ∷ []) ds rest) more) in
-    let at : IsAliveAt before (head_of d) = (d, refl, alive_more) in (
+    let alive : SectionsLive before = (d ∷ ds ++ rest, subst AreSections (append_assoc before (d ∷ ds) rest) sections) in
+    let alive_more : SectionsLive (before ++ d ∷ []) = (ds ++ rest, subst AreSections (append_assoc (before ++ d ∷ []) ds rest) more) in
+    let at : SectionsLiveAt before (head_of d) = (d, refl, alive_more) in (
       none_at_all (is_kept d.rec) (fault_on (head_of d) RecordOrder) (record_fault before (head_of d)) (limits_fault limits before (head_of d)) (value_fault d)
           each.0.is_kept ((heads before (head_of d) alive).1 at).0 (has_room limits before ds d all within) ((values before d at each.0.octets).1 alive_more),
       taken_from heads values limits (before ++ d ∷ []) ds rest more each.1 (one_kept before d all each.0.is_kept)

@@ -1,18 +1,18 @@
--- What the parts of the reader answer, each of what is left after so many lines.
+-- What the parts of the reader answer, each of what is left after the lines before it.
 use Rattle.std.specs.Prelude.{◌≡◌, ℕ, ◌+◌, ◌⊎◌, List, [], Some}
-use Rattle.iim_dataset.specs.Datasets.{Dataset}
-use Rattle.iim_fields.specs.Builders.{finish_fault}
+use Rattle.iim_dataset.specs.Format.Datasets.{Dataset}
+use Rattle.iim_fields.specs.Format.Builders.{finish_fault}
 use Rattle.iim_fields.specs.declared.limits.Limits.{Limits}
 use Rattle.iim_fields.specs.declared.fault.FieldFault.{FieldFault}
-use Rattle.wire_message.specs.Messages.{IsTrailer}
-use Rattle.wire_story.specs.Texts.{IsLine}
+use Rattle.wire_message.specs.Format.Messages.{IsTrailer}
+use Rattle.wire_story.specs.Format.Texts.{IsLine}
 use Rattle.iim_script.specs.Format.Lines.{HasNo, NextLine}
 use Rattle.iim_script.specs.Format.Forms.{TellsTrailer, text_word}
 use Rattle.iim_script.specs.Format.Faults.{IsFrontFault, IsBadStory, TellsNoHead, TellsNoTrailer, TellsBadTrailer}
 use Rattle.iim_script.specs.declared.fault.ScriptCause.{ScriptCause}
 use Rattle.iim_script.specs.declared.fault.ScriptCause.TheVariants.{ScriptLine, Field, BadTrailer, BadTextOctet, OutOfMemory}
 
--- the number of the line after so many, or 0 where memory is refused
+-- the number of the line after the first `count` lines, or 0 where memory is refused
 abbrev pub number_after : ℕ → ScriptCause → ℕ
 number_after count OutOfMemory = 0
 number_after count cause = count + 1

@@ -1,7 +1,7 @@
 //! Why a script tells no envelope.
 
 ghost use Rattle.std.specs.Prelude.{◌≡◌, ◌≤◌};
-ghost use Rattle.iim_fields.specs.Causes.{number_of_cause};
+ghost use Rattle.iim_fields.specs.Format.Causes.{number_of_cause};
 ghost use Rattle.iim_script.specs.Format.Causes.{cause_number, cause_name, field_cause_name};
 ghost use Rattle.iim_script.specs.Steps.{number_after};
 
@@ -100,7 +100,7 @@ pub struct ScriptFault {
     pub cause: ScriptCause,
 }
 
-/// A fault of the line after so many. That memory was refused is told of line 0.
+/// A fault of the line after the first `lines` lines. That memory was refused is told of line 0.
 pub(crate) fn fault_after(lines: u64, cause: ScriptCause) -> ScriptFault
     requires { lines ≤ 16777216 }
     ensures line { result.line ≡ number_after lines cause }

@@ -2,8 +2,9 @@
 
 ghost use Rattle.std.specs.Prelude.{◌≡◌, ◌≢◌, ◌++◌, ◌∷◌, [], not, ℕ, List, IfOk, IfErr, OnOk, OnErr, IfSome, IfNone};
 ghost use Rattle.std.specs.List.{position_or_len};
-ghost use Rattle.iim_dataset.specs.Datasets.{Dataset};
-ghost use Rattle.iim_script.specs.Format.Forms.{TellsField, TellsNames, is_digit};
+ghost use Rattle.iim_dataset.specs.Format.Datasets.{Dataset};
+ghost use Rattle.iim_script.specs.Format.Forms.{TellsField, TellsNames};
+ghost use Rattle.iim_dataset.specs.Format.Octets.{is_digit};
 ghost use Rattle.iim_script.specs.Adding.{Adds, RefusesLine};
 
 use crate::fault::ScriptCause;

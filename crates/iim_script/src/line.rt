@@ -4,11 +4,7 @@ ghost use Rattle.std.specs.Prelude.{◌≡◌, ◌==◌, ◌≤◌, ◌<◌, ◌
 ghost use Rattle.std.specs.List.{position_or_len};
 ghost use Rattle.iim_script.specs.Format.Lines.{HasNo, NextLine};
 
-/// Ends a line.
-const LF: u8 = b'\n';
-
-/// Dropped where it stands right before the LF.
-const CR: u8 = b'\r';
+use iim_dataset::octets::{CR, LF};
 
 /// How many octets stand before the first of this one.
 pub(crate) fn before_first(octets: &[u8], octet: u8) -> usize

@@ -1,7 +1,7 @@
 //! The lines that tell the message's header and its trailer.
 
 ghost use Rattle.std.specs.Prelude.{◌≡◌, ◌++◌, ◌∷◌, ℕ, List, IfOk, IfSome, IfNone};
-ghost use Rattle.wire_message.specs.Messages.{Header};
+ghost use Rattle.wire_message.specs.Format.Messages.{Header};
 ghost use Rattle.iim_script.specs.Format.Forms.{HeadWords, AreWords, TellsHead, TellsTrailer};
 
 use crate::line::{after, before_first, cut_at};

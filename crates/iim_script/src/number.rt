@@ -1,7 +1,8 @@
 //! Numbers of records and datasets.
 
 ghost use Rattle.std.specs.Prelude.{◌≡◌, ◌+◌, ◌≤◌, ◌<◌, ◌-◌, ◌*◌, ℕ, false, IsTrue, IfSome, IfNone};
-ghost use Rattle.iim_script.specs.Format.Forms.{TellsNumber, is_digit, AreDigits, value_of};
+ghost use Rattle.iim_script.specs.Format.Forms.{TellsNumber, AreDigits, value_of};
+ghost use Rattle.iim_dataset.specs.Format.Octets.{is_digit};
 
 /// Whether the octet is a decimal digit.
 pub(crate) fn is_decimal(octet: u8) -> bool

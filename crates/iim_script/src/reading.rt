@@ -1,8 +1,9 @@
 //! Reads a script.
 
 ghost use Rattle.std.specs.Prelude.{◌≡◌, ◌≤◌, ◌+◌, ◌++◌, [], ℕ, List, length, slice_index, IfOk, IfErr, OnOk, None};
-ghost use Rattle.iim_fields.specs.Builders.{finish_fault};
-ghost use Rattle.iim_script.specs.Format.Forms.{TellsHead, is_digit, text_word};
+ghost use Rattle.iim_fields.specs.Format.Builders.{finish_fault};
+ghost use Rattle.iim_script.specs.Format.Forms.{TellsHead, text_word};
+ghost use Rattle.iim_dataset.specs.Format.Octets.{is_digit};
 ghost use Rattle.iim_script.specs.Format.Lines.{NextLine};
 ghost use Rattle.iim_script.specs.Format.Scripts.{IsFront, IsScript};
 ghost use Rattle.iim_script.specs.Format.Faults.{Stands, InFields, TellsNoField, IsScriptFault};
@@ -143,7 +144,7 @@ fn read_text<'a>(rest: Rest<'a>) -> Result<Rest<'a>, ScriptFault>
     })
 }
 
-/// The envelope that a builder has, at the line `text`, before which so many lines stand.
+/// The envelope that a builder has, at the line `text`, before which `lines` lines stand.
 fn finish(builder: EnvelopeBuilder, lines: u64) -> Result<Envelope, ScriptFault>
     requires { lines ≤ 16777216 }
     ensures whole { OnOk result (finish_fault builder.fields ≡ None) }

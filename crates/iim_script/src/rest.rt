@@ -2,7 +2,7 @@
 
 ghost use Rattle.std.specs.Prelude.{◌+◌, ◌≤◌, length};
 
-/// What is left of a script, after so many lines.
+/// What is left of a script, after its first `lines` lines.
 #[derive(Clone, Copy)]
 pub(crate) struct Rest<'a> {
     pub(crate) octets: &'a [u8],

@@ -2,9 +2,9 @@
 
 ghost use Rattle.std.specs.Prelude.{◌≡◌, ◌<◌, length, map, IfOk, IfErr, IfSome, IfNone, OnOk};
 ghost use Rattle.std.specs.List.{AllByRecursion};
-ghost use Rattle.wire_story.specs.Texts.{IsLine};
-ghost use Rattle.wire_story.specs.Delivery.{LineOctet};
-ghost use Rattle.wire_story.specs.Collecting.{collect};
+ghost use Rattle.wire_story.specs.Format.Texts.{IsLine};
+ghost use Rattle.wire_story.specs.Format.Delivery.{LineOctet};
+ghost use Rattle.wire_story.specs.Format.Collecting.{collect};
 ghost use Rattle.iim_script.specs.Format.Lines.{NextLine};
 ghost use Rattle.iim_script.specs.Format.Scripts.{IsStory};
 ghost use Rattle.iim_script.specs.Steps.{IsLastLine, RefusesStory, RefusesStoryLine};

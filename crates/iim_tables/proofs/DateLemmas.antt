@@ -4,8 +4,8 @@ use Rattle.std.specs.List.{list_all}
 use Rattle.std.specs.Prelude.{nat_le}
 use Rattle.std.proofs.lemmas.Bool.{and_parts, and_from, eqb-true, le-leb}
 use Rattle.std.proofs.lemmas.Bool.Decides.{nat_tests}
-use Rattle.iim_tables.specs.Octets.{is_digit}
-use Rattle.iim_tables.specs.Dates.{year_in, month_in, day_in, are_eight_digits, two_digits, date_text, ReadsDate}
+use Rattle.iim_dataset.specs.Format.Octets.{is_digit}
+use Rattle.iim_tables.specs.Format.Dates.{year_in, month_in, day_in, are_eight_digits, two_digits, date_text, ReadsDate}
 
 -- the number that two digits write
 abbrev pub pair : ℕ → ℕ → ℕ

@@ -3,8 +3,9 @@ use Rattle.std.proofs.Common.{◌≡◌, refl, take, get_or, add-one, ℕ, ◌+�
 use Rattle.byteorder.specs.Numbers.{big_from-cons}
 use Rattle.std.proofs.Math.Seq.{take-suc}
 use Rattle.std.proofs.Math.Nat.{mul_left_comm, mul-le-mul_right, pow-succ', pow-le-pow_right}
-use Rattle.iim_tables.specs.Octets.{AreOctets}
-use Rattle.iim_tables.specs.Numbers.{number, size_octets, greatest_size}
+use Rattle.iim_dataset.specs.Format.Octets.{Octets as AreOctets}
+use Rattle.iim_tables.specs.Format.Numbers.{size_octets}
+use Rattle.iim_dataset.specs.Format.Octets.{number, greatest_size}
 
 -- the first octet counts by its place
 pub number-cons : (b : ℕ) (bs : List ℕ) → number (b ∷ bs) ≡ b * 256 ^ length bs + number bs
@@ -35,7 +36,7 @@ number-snoc (x ∷ xs) b =
 
 -- ---- octet by octet
 
--- the number is what the first octets spell, so many
+-- the value is the number that the first n octets spell
 pub record SpellsSoFar (xs : List ℕ) (n value : ℕ) : Type 0 where
   pub spelt : value ≡ number (take n xs)
   pub below : value < 256 ^ n

@@ -4,10 +4,12 @@ use Rattle.std.specs.List.{list_all}
 use Rattle.std.proofs.lemmas.List.{length-replicate}
 use Rattle.std.proofs.lemmas.Bool.{and_from, and_parts, eqb-true, le-leb, leb-true}
 use Rattle.iim_tables.proofs.NumberLemmas.{number-cons}
-use Rattle.iim_tables.specs.Octets.{AreOctets, within, is_digit, is_letter, is_graphic, is_spaced, is_spaced_or_line_end}
-use Rattle.iim_tables.specs.Numbers.{number, size_octets, greatest_size}
-use Rattle.iim_tables.specs.Kinds.{has_kind, is_size_from}
-use Rattle.iim_tables.specs.Rows.{Entry, table, row_of, row_in, row_of_others, is_for, kept, is_admitted, HasValue}
+use Rattle.iim_dataset.specs.Format.Octets.{Octets as AreOctets, within, is_digit, is_letter, number, greatest_size}
+use Rattle.iim_tables.specs.Format.Octets.{is_graphic, is_spaced, is_spaced_or_line_end}
+use Rattle.iim_tables.specs.Format.Numbers.{size_octets}
+use Rattle.iim_tables.specs.Format.Kinds.{has_kind, is_size_from}
+use Rattle.iim_tables.specs.Format.Rows.{Entry, table, row_of, row_in, row_of_others, is_for, kept_row, is_admitted}
+use Rattle.iim_tables.specs.Format.Records.{HasValue}
 use Rattle.iim_tables.specs.declared.shape.Row.{Row}
 use Rattle.std.specs.List.{find}
 use Rattle.std.specs.Option.{option_map, option_or}
@@ -124,7 +126,7 @@ first_or_other : (a b : Option Row) (r : Row) → option_or a b ≡ Some r → (
 first_or_other (Some x) b r h = inl h
 first_or_other None b r h = inr h
 
-only_kept : (b : Bool) (r : Row) → (if b then Some kept else None) ≡ Some r → kept ≡ r
+only_kept : (b : Bool) (r : Row) → (if b then Some kept_row else None) ≡ Some r → kept_row ≡ r
 only_kept true r h = cc
 only_kept false r h = absurd cc
 

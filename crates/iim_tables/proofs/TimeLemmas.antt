@@ -4,9 +4,10 @@ use Rattle.std.specs.Prelude.{slice_index}
 use Rattle.std.specs.List.{list_all}
 use Rattle.std.proofs.lemmas.Bool.{and_parts, eqb-true}
 use Rattle.std.proofs.lemmas.Bool.Decides.{nat_tests}
-use Rattle.iim_tables.specs.Octets.{is_digit, minus}
-use Rattle.iim_tables.specs.Dates.{pair_at, two_digits}
-use Rattle.iim_tables.specs.Instants.{is_sign, has_time_form, sign_of, time_text}
+use Rattle.iim_tables.specs.Format.Octets.{minus}
+use Rattle.iim_dataset.specs.Format.Octets.{is_digit}
+use Rattle.iim_tables.specs.Format.Dates.{pair_at, two_digits}
+use Rattle.iim_tables.specs.Format.Instants.{is_sign, has_time_form, sign_of, time_text}
 use Rattle.iim_tables.proofs.DateLemmas.{pair, front, two_digits-pair}
 
 -- what a time is made of, whole

@@ -1,10 +1,10 @@
 -- Worked values of the definitions, computed.
 use Rattle.std.proofs.Common.{◌≡◌, true, false, Some, None, [], ◌∷◌, refl, codes, pos}
 use Rattle.jiff_core.specs.Calendar.{days_from_civil, day_count, days_of_years, days_of_months}
-use Rattle.iim_tables.specs.Numbers.{number}
-use Rattle.iim_tables.specs.Dates.{is_date, is_part_date, date_text}
-use Rattle.iim_tables.specs.Instants.{is_time, instant_in, time_text}
-use Rattle.iim_tables.specs.Rows.{row_of, table, kept}
+use Rattle.iim_dataset.specs.Format.Octets.{number}
+use Rattle.iim_tables.specs.Format.Dates.{is_date, is_part_date, date_text}
+use Rattle.iim_tables.specs.Format.Instants.{is_time, instant_in, time_text}
+use Rattle.iim_tables.specs.Format.Rows.{row_of, table, kept_row}
 
 leap_day : is_date (codes "20240229") ≡ true
 leap_day = refl
@@ -45,7 +45,7 @@ written_date = refl
 written_time : time_text 23 59 59 true 1 30 ≡ codes "235959-0130"
 written_time = refl
 
-kept_unread : row_of 2 250 ≡ Some kept
+kept_unread : row_of 2 250 ≡ Some kept_row
 unfolding row_of table
 kept_unread = refl
 

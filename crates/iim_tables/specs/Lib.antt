@@ -1,6 +1,2 @@
-pub mod Octets
-pub mod Numbers
-pub mod Dates
-pub mod Instants
-pub mod Kinds
-pub mod Rows
+-- What the promises cite: a reader has to believe these.
+pub mod Format

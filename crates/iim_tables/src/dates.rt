@@ -2,7 +2,7 @@
 
 ghost use Rattle.std.specs.Prelude.{◌≡◌, ◌↔◌, ◌+◌, ◌<◌, pos, length, IsTrue, IsSome, IfSome};
 ghost use Rattle.jiff.specs.Words.{IsYmd};
-ghost use Rattle.iim_tables.specs.Dates.{pair_at, year_in, month_in, day_in, is_year, is_month, is_day, lacks_part, is_part_day, are_eight_digits, is_date, is_part_date};
+ghost use Rattle.iim_tables.specs.Format.Dates.{pair_at, year_in, month_in, day_in, is_year, is_month, is_day, lacks_part, is_part_day, are_eight_digits, is_date, is_part_date};
 
 use crate::kinds::are_digits;
 use crate::octets::DIGIT_ZERO;

@@ -2,15 +2,17 @@
 
 ghost use Rattle.std.specs.Prelude.{◌≡◌};
 ghost use Rattle.std.specs.List.{list_all};
-ghost use Rattle.iim_tables.specs.Octets.{is_digit, is_letter, is_graphic, is_spaced, is_spaced_or_line_end};
-ghost use Rattle.iim_tables.specs.Kinds.{is_mode, is_size_from, has_kind};
-ghost use Rattle.iim_tables.specs.Rows.{is_admitted};
+ghost use Rattle.iim_tables.specs.Format.Octets.{is_graphic, is_spaced, is_spaced_or_line_end};
+ghost use Rattle.iim_dataset.specs.Format.Octets.{is_digit, is_letter};
+ghost use Rattle.iim_tables.specs.Format.Kinds.{is_mode, is_size_from, has_kind};
+ghost use Rattle.iim_tables.specs.Format.Rows.{is_admitted};
 
 use crate::dates::{is_date, is_part_date};
 use crate::instants::is_time;
-use crate::numbers::{GREATEST_SIZE, number_of};
+use crate::numbers::number_of;
 use crate::octets::{is_graphic, is_spaced, is_spaced_or_line_end};
 use crate::shape::{Kind, Row};
+use iim_dataset::GREATEST_SIZE;
 
 fn are_graphic(octets: &[u8]) -> bool
     ensures { result ≡ list_all is_graphic octets.now }

@@ -1,11 +1,12 @@
 //! What holds of all dates, times and rows.
 
 ghost use Rattle.std.specs.Prelude.{◌≡◌, ◌==◌, ◌<◌, ℕ, Bool, List, slice_index, ◌≤◌, Option, Some, IsTrue};
-ghost use Rattle.iim_tables.specs.Octets.{minus, within};
-ghost use Rattle.iim_tables.specs.Numbers.{greatest_size};
-ghost use Rattle.iim_tables.specs.Dates.{pair_at, year_in, month_in, day_in, are_eight_digits, date_text, ReadsDate};
-ghost use Rattle.iim_tables.specs.Instants.{has_time_form, time_text, ReadsTime};
-ghost use Rattle.iim_tables.specs.Rows.{row_of, HasValue};
+ghost use Rattle.iim_tables.specs.Format.Octets.{minus};
+ghost use Rattle.iim_dataset.specs.Format.Octets.{within, greatest_size};
+ghost use Rattle.iim_tables.specs.Format.Dates.{pair_at, year_in, month_in, day_in, are_eight_digits, date_text, ReadsDate};
+ghost use Rattle.iim_tables.specs.Format.Instants.{has_time_form, time_text, ReadsTime};
+ghost use Rattle.iim_tables.specs.Format.Rows.{row_of};
+ghost use Rattle.iim_tables.specs.Format.Records.{HasValue};
 ghost use Rattle.iim_tables.specs.declared.shape.Row.{Row};
 
 /// Eight digits are the text of one year, month and day, and what is read of that text are these.

@@ -3,8 +3,8 @@
 //! spell, and the days and instants that dates and times name.
 //!
 //! The crates above ask two questions: `row`, what the table says of a dataset, and `admits`, whether
-//! octets are as a row says. Nothing here takes memory. It stands on `jiff` for days and instants, and
-//! on a definition of `byteorder` for numbers.
+//! octets are as a row says. Nothing here takes memory. It stands on `iim_dataset` for octets and datasets, on
+//! `jiff` for days and instants, and on a definition of `byteorder` for numbers.
 #![tactic(auto)]
 
 mod dates;
@@ -13,12 +13,13 @@ mod kinds;
 pub mod laws;
 mod numbers;
 mod octets;
+pub mod records;
 mod shape;
 mod table;
 
 pub use crate::dates::date_of;
 pub use crate::instants::instant_of;
 pub use crate::kinds::admits;
-pub use crate::numbers::{GREATEST_SIZE, SIZE_OCTETS, number_of};
+pub use crate::numbers::{SIZE_OCTETS, number_of};
 pub use crate::shape::{Duty, Kind, Row};
 pub use crate::table::row;

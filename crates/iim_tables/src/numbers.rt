@@ -2,13 +2,13 @@
 
 ghost use Rattle.std.specs.Prelude.{◌≡◌, ◌↔◌, length, IsSome, IfSome};
 ghost use Rattle.std.specs.Int.{IsInRange};
-ghost use Rattle.iim_tables.specs.Numbers.{number, size_octets};
+ghost use Rattle.iim_tables.specs.Format.Numbers.{size_octets};
+ghost use Rattle.iim_dataset.specs.Format.Octets.{number};
+
+use iim_dataset::COUNT_OCTETS;
 
 /// The most octets of a size.
-pub const SIZE_OCTETS: usize = 4;
-
-/// The greatest size of an object, in octets.
-pub const GREATEST_SIZE: u64 = 4_294_967_295;
+pub const SIZE_OCTETS: usize = COUNT_OCTETS as usize;
 
 /// The unsigned binary number that 1 to `SIZE_OCTETS` octets spell, high octet first, and `None` for no
 /// octets and for more.

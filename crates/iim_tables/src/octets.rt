@@ -1,13 +1,9 @@
 //! Octets and the classes that they are of.
 
 ghost use Rattle.std.specs.Prelude.{◌≡◌};
-ghost use Rattle.iim_tables.specs.Octets.{is_graphic, is_spaced, is_spaced_or_line_end};
+ghost use Rattle.iim_tables.specs.Format.Octets.{is_graphic, is_spaced, is_spaced_or_line_end};
 
-pub(crate) const LINE_FEED: u8 = b'\n';
-
-pub(crate) const CARRIAGE_RETURN: u8 = b'\r';
-
-pub(crate) const SPACE: u8 = b' ';
+use iim_dataset::octets::{CR, LF, SP};
 
 pub(crate) const PLUS: u8 = b'+';
 
@@ -26,12 +22,12 @@ pub(crate) fn is_graphic(octet: u8) -> bool
 pub(crate) fn is_spaced(octet: u8) -> bool
     ensures { result ≡ is_spaced octet }
 {
-    is_graphic(octet) || octet == SPACE
+    is_graphic(octet) || octet == SP
 }
 
 /// Whether the octet is a graphic character, the space, or one of a line end.
 pub(crate) fn is_spaced_or_line_end(octet: u8) -> bool
     ensures { result ≡ is_spaced_or_line_end octet }
 {
-    is_spaced(octet) || matches!(octet, LINE_FEED | CARRIAGE_RETURN)
+    is_spaced(octet) || matches!(octet, LF | CR)
 }

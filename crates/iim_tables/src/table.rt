@@ -1,10 +1,11 @@
 //! The table.
 
 ghost use Rattle.std.specs.Prelude.{◌≡◌, Some, None, MatchOption};
-ghost use Rattle.iim_tables.specs.Rows.{row_of};
+ghost use Rattle.iim_tables.specs.Format.Rows.{row_of};
 
-use crate::numbers::{GREATEST_SIZE, SIZE_OCTETS};
+use crate::numbers::SIZE_OCTETS;
 use crate::shape::{Duty, Kind, Row};
+use iim_dataset::GREATEST_SIZE;
 
 /// What stands for the other numbers of the records 1 and 2: they are kept unread.
 const KEPT: Row = Row {
@@ -94,7 +95,7 @@ macro_rules! row_in_table {
 }
 
 /// The row of a dataset, where it lies.
-#[tactic(auto, unfolding(crate::specs::Rows::row_of, crate::specs::Rows::table))]
+#[tactic(auto, unfolding(crate::specs::Format::Rows::row_of, crate::specs::Format::Rows::table))]
 fn line(rec: u8, set: u8) -> Option<&'static Row>
     ensures { MatchOption result (row_of rec set ≡ None) (λ row. row_of rec set ≡ Some row.now) }
 {

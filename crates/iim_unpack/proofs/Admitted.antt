@@ -1,15 +1,15 @@
 -- Admitted octets have one value, and end where they end.
 use Rattle.std.proofs.Common.{◌≡◌, ℕ, List, [], ap, sym, ◌∙◌, subst, append-nil}
-use Rattle.iim_dataset.specs.Datasets.{Dataset, SpellsStream, count_octets}
-use Rattle.iim_dataset.specs.Laws.{NoDatasetBeginsAnother}
-use Rattle.iim_fields.specs.Faults.{kept}
-use Rattle.iim_fields.specs.Laws.{NoSectionsBeginOthers}
-use Rattle.iim_object.specs.Behind.{of_record, RecordsAreByNumber}
-use Rattle.iim_object.specs.Records.{AreSized, HaveSizes, SizesAreDetermined}
-use Rattle.wire_message.specs.Messages.{IsMessage}
-use Rattle.wire_message.specs.Laws.{MessagesHaveOneReading}
-use Rattle.wire_story.specs.Texts.{IsText}
-use Rattle.wire_story.specs.Laws.{TextsHaveOneReading}
+use Rattle.iim_dataset.specs.Format.Datasets.{Dataset, SpellsStream, count_octets, of_record}
+use Rattle.iim_dataset.specs.Format.Laws.{NoDatasetBeginsAnother}
+use Rattle.iim_fields.specs.Format.Faults.{kept}
+use Rattle.iim_fields.specs.Format.Laws.{NoSectionsBeginOthers}
+use Rattle.iim_object.specs.Format.Numbers.{RecordsAreByNumber}
+use Rattle.iim_object.specs.Format.Records.{AreSized, HaveSizes, SizesAreDetermined}
+use Rattle.wire_message.specs.Format.Messages.{IsMessage}
+use Rattle.wire_message.specs.Format.Laws.{MessagesHaveOneReading}
+use Rattle.wire_story.specs.Format.Texts.{IsText}
+use Rattle.wire_story.specs.Format.Laws.{TextsHaveOneReading}
 use Rattle.iim_unpack.specs.Format.Admitted.{Value, Admits, object_of}
 use Rattle.iim_unpack.specs.Format.Laws.{AdmittedOctetsHaveOneValue, NoAdmittedOctetsBeginOthers, AdmittedOctetsAreFramed}
 use Rattle.iim_unpack.proofs.Frames.{envelope_alone}
@@ -44,6 +44,6 @@ sized_by by_number octets v a =
     (subst (λ (xs : List Dataset). HaveSizes (of_record 7 a.datasets) (of_record 8 a.datasets) xs v.sizes) is.nines a.sizes)) in
     record { records = records; sizes = v.sizes; have = have }
 
-pub framed_of : RecordsAreByNumber → AdmittedOctetsAreFramed
-framed_of by_number limits octets v a within =
-    record { datasets = a.datasets; spelled = a.spelled; sections = a.sections; sized = sized_by by_number octets v a; within = within }
+pub framed_of : AdmittedOctetsAreFramed
+framed_of limits octets v a within =
+    record { datasets = a.datasets; spelled = a.spelled; sections = a.sections; sizes = v.sizes; agree = a.sizes; within = within }

@@ -4,20 +4,19 @@ use Rattle.std.proofs.lemmas.Bool.Decides.{eqb_tells}
 use Rattle.std.specs.List.{AllByRecursion}
 use Rattle.std.specs.Option.{unwrap_or}
 use Rattle.std.proofs.lemmas.List.Elements.{filter-append}
-use Rattle.iim_dataset.specs.Octets.{Octets}
-use Rattle.iim_dataset.specs.Datasets.{Dataset}
-use Rattle.iim_tables.specs.Numbers.{greatest_size}
-use Rattle.iim_tables.specs.Rows.{table, row_of}
-use Rattle.iim_fields.specs.Faults.{is_kept, kept, present_record}
-use Rattle.iim_fields.specs.Records.{AreSections, repeats}
-use Rattle.iim_object.specs.Behind.{of_record}
-use Rattle.iim_object.specs.Packing.{subfile_datasets}
-use Rattle.iim_unpack.specs.Begins.{IsNumber}
+use Rattle.iim_dataset.specs.Format.Octets.{Octets, greatest_size}
+use Rattle.iim_dataset.specs.Format.Datasets.{Dataset, of_record}
+use Rattle.iim_tables.specs.Format.Rows.{table, row_of}
+use Rattle.iim_fields.specs.Format.Faults.{is_kept, kept, present_record}
+use Rattle.iim_fields.specs.Format.Records.{AreSections}
+use Rattle.iim_tables.specs.Format.Records.{repeats}
+use Rattle.iim_object.specs.Format.Packing.{subfile_datasets}
+use Rattle.iim_unpack.specs.Format.Begins.{IsSize}
 use Rattle.iim_unpack.specs.ByLayers.{one_of_some}
 use Rattle.iim_unpack.specs.Plain.{Numbers, number_list, plain_numbers, filled, plain_end, plain}
 use Rattle.iim_unpack.proofs.Bounds.{alive_five}
 use Rattle.iim_unpack.proofs.Plain.{Tell, plain_told, are_sevens, are_eights, are_nines, filled_count}
-use Rattle.iim_unpack.proofs.PlainGoesOn.{AreGood, AreTens, MayReplace, all_good, replace_tens, part_tens, end_tens, good_parts, good_end, go_on}
+use Rattle.iim_unpack.proofs.PlainContinues.{AreGood, AreTens, MayReplace, all_good, replace_tens, part_tens, end_tens, good_parts, good_end, sections_continue}
 use Rattle.iim_unpack.proofs.SameRecords.{tens_seen}
 use Rattle.iim_unpack.proofs.PlainPlaces.{pick_like, pick_by, picks_plain, end_length}
 
@@ -48,7 +47,7 @@ replace_eights xs ys a b e good = record {
 -- what plain datasets have: their fields are of records 1 and 2, each number fits its octets, and the subfiles have room for the object
 pub record Fits (fields : List Dataset) (numbers : Numbers) (heads : ℕ) (object : List ℕ) : Type 0 where
   pub kept : AllByRecursion (λ (d : Dataset). is_kept d.rec ≡ true) fields
-  pub fit : AllByRecursion IsNumber (number_list numbers)
+  pub fit : AllByRecursion IsSize (number_list numbers)
   pub room : length object ≤ heads * unwrap_or numbers.largest 0
 
 pub told_by : (fields : List Dataset) (numbers : Numbers) (heads : ℕ) (object : List ℕ) (ended : Bool) → Fits fields numbers heads object → Tell (plain fields numbers heads object ended) fields numbers heads object ended
@@ -78,7 +77,7 @@ alike fields numbers a b x y ended more left right some octets few sections =
     let e : one_of_some (length (subfile_datasets (filled size a x))) ≡ one_of_some (length eights) = ap one_of_some (filled_count size a x) ∙ some ∙ sym (ap one_of_some (filled_count size b y)) in
     let is : kept ds ++ (plain_numbers numbers ++ (eights ++ plain_end ended y)) ≡ plain fields numbers b y ended = ap (λ (xs : List Dataset). xs ++ (plain_numbers numbers ++ (eights ++ plain_end ended y))) tell.kept_are in
     subst (λ (es : List Dataset). AreSections (es ++ more)) is
-    (go_on ds more (plain_numbers numbers) eights (plain_end ended y) (alive_five (ds ++ more) ([], subst AreSections (sym (append-nil (ds ++ more))) sections))
+    (sections_continue ds more (plain_numbers numbers) eights (plain_end ended y) (alive_five (ds ++ more) ([], subst AreSections (sym (append-nil (ds ++ more))) sections))
     (record {
       is7 = are_sevens numbers;
       is8 = are_eights (filled size b y);

@@ -3,45 +3,45 @@ use Rattle.std.proofs.Common.{◌≡◌, ◌≢◌, ℕ, zero, suc, ◌-◌, ◌
 use Rattle.std.proofs.lemmas.Bool.{cases_lt}
 use Rattle.std.proofs.lemmas.Bool.Decides.{eqb_tells}
 use Rattle.std.proofs.lemmas.List.{map-append, take-append-drop, take-take}
-use Rattle.iim_dataset.specs.Datasets.{Dataset, SpellsTag, SpellsDataset, SpellsStream, head_of, count_octets}
-use Rattle.iim_dataset.specs.Splits.{Begun, InTag, InData, IsBegun, Reads}
-use Rattle.iim_dataset.specs.Tags.{BeginsNoTag}
-use Rattle.iim_dataset.specs.Completing.{CompletesData}
-use Rattle.iim_dataset.specs.Events.{handed_on}
-use Rattle.iim_dataset.specs.Languages as languages
+use Rattle.iim_dataset.specs.Format.Datasets.{Dataset, SpellsTag, SpellsDataset, SpellsStream, head_of, count_octets}
+use Rattle.iim_dataset.specs.Format.Splits.{Begun, InTag, InData, IsBegun, Reads}
+use Rattle.iim_dataset.specs.Format.Tags.{BeginsNoTag}
+use Rattle.iim_dataset.specs.Format.Completing.{CompletesData}
+use Rattle.iim_dataset.specs.Format.Events.{handed_on}
+use Rattle.iim_dataset.specs.Format.Languages as languages
 use Rattle.iim_dataset.specs.declared.head.Head.{Head}
-use Rattle.iim_fields.specs.Records.{AreSections}
-use Rattle.iim_fields.specs.Alive.{IsAlive}
-use Rattle.iim_fields.specs.Faults.{present_record}
-use Rattle.iim_fields.specs.Values.{data_of}
+use Rattle.iim_fields.specs.Format.Records.{AreSections}
+use Rattle.iim_fields.specs.Format.Alive.{SectionsLive}
+use Rattle.iim_fields.specs.Format.Faults.{present_record}
+use Rattle.iim_fields.specs.Format.Values.{data_of}
 use Rattle.iim_fields.specs.declared.limits.Limits.{Limits}
-use Rattle.iim_object.specs.Records.{AreSized}
-use Rattle.wire_story.specs.Texts.{Holds}
-use Rattle.wire_story.specs.Tokens.{Octet, End}
-use Rattle.wire_message.specs.Layers.{MessageLanguage, MessageLivesWith, MessageDiesAt, StoryLivesIn, text_so_far}
-use Rattle.wire_message.specs.Reading.{HasCause}
-use Rattle.wire_message.specs.SoFar.{LeadTo}
+use Rattle.iim_object.specs.Format.Records.{AreSized}
+use Rattle.wire_story.specs.Format.Texts.{Holds}
+use Rattle.wire_story.specs.Format.Tokens.{Octet, End}
+use Rattle.wire_message.specs.Format.Layers.{MessageLanguage, MessageLivesWith, MessageDiesAt, StoryLivesIn, text_so_far}
+use Rattle.wire_message.specs.Format.Reading.{HasCause}
+use Rattle.wire_message.specs.Format.SoFar.{LeadTo}
 use Rattle.wire_message.specs.declared.place.Place.TheVariants.{AfterEnd}
 use Rattle.wire_message.specs.declared.fault.MessageCause.{MessageCause}
 use Rattle.wire_message.specs.declared.fault.MessageCause.TheVariants as messages
 use Rattle.iim_unpack.specs.Format.Admitted.{Value, Admits, object_of}
 use Rattle.iim_unpack.specs.Format.Refusals.{begun_record, begun_number, tag_cause}
 use Rattle.iim_unpack.specs.Format.Laws.{AdmittedOctetsHaveOneValue, NoAdmittedOctetsBeginOthers}
-use Rattle.iim_unpack.specs.Format.Open.{object_so_far, AllGoOn, IsUnfinished}
+use Rattle.iim_unpack.specs.Format.Open.{object_so_far, AllCanContinue, IsUnfinished}
 use Rattle.iim_unpack.specs.Format.Refusals.{refusal_at, message_on}
 use Rattle.iim_unpack.specs.Format.Tokens.{IsRefusedHead, IsRefusedValue}
 use Rattle.iim_unpack.specs.Format.Open.{IsOpen, IsBadTagAt, IsBadHeadAt, IsBadOctetAt, IsBadValueAt, RefusesNext, truncated_in, OpenOctetsBeginWithNoEnvelope}
-use Rattle.iim_unpack.specs.Format.Streams.{IsEnvelopeWithin, Finished, Refused, Truncated, IsFinished, IsRefused, IsTruncated, EnvelopesAreBounded, RefusedOctetsWereOpen, NothingGoesOnFromRefusedOctets, RefusalsAreDetermined, StreamsHaveOneAnswer}
-use Rattle.iim_unpack.specs.declared.fault.Fault.{Fault}
+use Rattle.iim_unpack.specs.Format.Streams.{IsEnvelopeWithin, Finished, Refused, Truncated, IsFinished, IsRefused, IsTruncated, EnvelopesAreBounded, RefusedOctetsWereOpen, NothingContinuesFromRefusedOctets, RefusalsAreDetermined, StreamsHaveOneAnswer}
+use Rattle.iim_unpack.specs.declared.fault.TokenFault.{TokenFault}
 use Rattle.iim_unpack.specs.declared.refusal.Refusal.{Refusal}
 use Rattle.iim_unpack.specs.declared.refusal.Layer.TheVariants as layers
 use Rattle.iim_unpack.specs.declared.refusal.Cause.TheVariants as causes
 use Rattle.iim_unpack.proofs.Carrying.{lives_whole}
-use Rattle.iim_unpack.proofs.Following.{Follows, in_front, follows, alive_of, within_of, head_lives, value_lives, object_behind, object_on, message_of, story_of, message_ends, ends_tokens}
+use Rattle.iim_unpack.proofs.Following.{Follows, in_front, follows, alive_of, within_of, head_lives, value_lives, object_lives_after, object_on, message_of, story_of, message_ends, ends_tokens}
 use Rattle.iim_unpack.proofs.Bounds.{front_fits, tag_fits, tag_low}
 use Rattle.iim_unpack.proofs.Frames.{no_sections}
 use Rattle.iim_unpack.proofs.Lasts.{SplitLast, split_last, last_sections}
-use Rattle.iim_unpack.proofs.Places.{lives_behind}
+use Rattle.iim_unpack.proofs.Places.{lives_after}
 use Rattle.iim_unpack.proofs.Refused.{no_dead_head, no_dead_value}
 use Rattle.iim_unpack.proofs.Admitted.{sized_by}
 use Rattle.iim_unpack.specs.LowerLaws.{AnswerLaws}
@@ -50,13 +50,13 @@ use Rattle.iim_unpack.specs.LowerLaws.{AnswerLaws}
 pub record Lives (limits : Limits) (octets : List ℕ) : Type 0 where
   pub whole : List Dataset
   pub begun : Begun
-  pub reads : Reads octets whole begun
-  pub goes_on : AllGoOn limits whole begun
+  pub reads : Reads count_octets octets whole begun
+  pub leads_on : AllCanContinue limits whole begun
 
 -- ---- open octets and envelopes live
 
 pub lives_open : (limits : Limits) (octets : List ℕ) → IsOpen limits octets → Lives limits octets
-lives_open limits octets is = record { whole = is.whole; begun = is.begun; reads = is.reads; goes_on = is.goes_on }
+lives_open limits octets is = record { whole = is.whole; begun = is.begun; reads = is.reads; leads_on = is.leads_on }
 
 -- an envelope's object leads to the end of its message
 pub leads_to : (octets : List ℕ) (v : Value) → (a : Admits octets v) → LeadTo (object_of a.datasets) a.text (AfterEnd v.head (record { items = v.trailer }) (length a.message.after))
@@ -72,28 +72,28 @@ nothing_held = (
 )
 
 -- every layer can continue from whole datasets of an envelope
-pub goes_envelope : AnswerLaws → (limits : Limits) (octets : List ℕ) (v : Value) → (is : IsEnvelopeWithin limits octets v) → AllGoOn limits is.admits.datasets (InTag [])
+pub goes_envelope : AnswerLaws → (limits : Limits) (octets : List ℕ) (v : Value) → (is : IsEnvelopeWithin limits octets v) → AllCanContinue limits is.admits.datasets (InTag [])
 goes_envelope laws limits octets v is =
     let a = is.admits in
     let ds = a.datasets in
     let o : List ℕ = object_of ds in
     let m = a.message in
-    let alive : IsAlive ds = ([], subst AreSections (sym (append-nil ds)) a.sections) in
+    let alive : SectionsLive ds = ([], subst AreSections (sym (append-nil ds)) a.sections) in
     let sized : languages.IsAlive AreSized ds = ([], subst AreSized (sym (append-nil ds)) (sized_by laws.numbers octets v a)) in
     let both = laws.living o a.text (AfterEnd v.head (record { items = v.trailer }) (length m.after)) (leads_to octets v a) in
     record {
-      sizes = record { records = alive; within = is.within; object = lives_behind laws.follow.live ds alive sized };
+      sizes = record { records = alive; within = is.within; object = lives_after laws.follow.live ds alive sized };
       message = lives_whole o (nat_eq (present_record ds) 9) both.0 (λ is'. record { object = o; head = v.head; text = a.text; trailer = v.trailer; message = m; tokens_are = refl });
       story = both.1;
     }
 
 -- what an envelope's octets read
-pub reads_envelope : (octets : List ℕ) (v : Value) → (a : Admits octets v) → Reads octets a.datasets (InTag [])
+pub reads_envelope : (octets : List ℕ) (v : Value) → (a : Admits octets v) → Reads count_octets octets a.datasets (InTag [])
 reads_envelope octets v a = record { front = octets; rest = []; is_front = a.spelled; is_rest = nothing_held; parts = sym (append-nil octets) }
 
 pub lives_envelope : AnswerLaws → (limits : Limits) (octets : List ℕ) (v : Value) → IsEnvelopeWithin limits octets v → Lives limits octets
 lives_envelope laws limits octets v is =
-    record { whole = is.admits.datasets; begun = InTag []; reads = reads_envelope octets v is.admits; goes_on = goes_envelope laws limits octets v is }
+    record { whole = is.admits.datasets; begun = InTag []; reads = reads_envelope octets v is.admits; leads_on = goes_envelope laws limits octets v is }
 
 -- ---- with a refused octet nothing lives
 
@@ -108,36 +108,36 @@ octet_dead messages.ControlOctet o next other has message story = has.1.1 story
 octet_dead messages.Sink o next other has message story = other refl
 
 -- what was read, and a next octet in a tag or in data
-tag_on : (octets more : List ℕ) (next : ℕ) (whole : List Dataset) (held : List ℕ) → (r : Reads octets whole (InTag held)) → octets ++ next ∷ more ≡ r.front ++ ((held ++ next ∷ []) ++ more)
+tag_on : (octets more : List ℕ) (next : ℕ) (whole : List Dataset) (held : List ℕ) → (r : Reads count_octets octets whole (InTag held)) → octets ++ next ∷ more ≡ r.front ++ ((held ++ next ∷ []) ++ more)
 tag_on octets more next whole held r =
     ap (λ (l : List ℕ). l ++ next ∷ more) (r.parts ∙ ap (λ (l : List ℕ). r.front ++ l) r.is_rest.0) ∙ append_assoc r.front held (next ∷ more) ∙ ap (λ (l : List ℕ). r.front ++ l) (sym (append_assoc held (next ∷ []) more))
 
-data_on : (octets more : List ℕ) (next : ℕ) (whole : List Dataset) (h : Head) (taken : List ℕ) → (r : Reads octets whole (InData h taken)) → octets ++ next ∷ more ≡ r.front ++ (r.is_rest.0 ++ (taken ++ next ∷ more))
+data_on : (octets more : List ℕ) (next : ℕ) (whole : List Dataset) (h : Head) (taken : List ℕ) → (r : Reads count_octets octets whole (InData h taken)) → octets ++ next ∷ more ≡ r.front ++ (r.is_rest.0 ++ (taken ++ next ∷ more))
 data_on octets more next whole h taken r =
     ap (λ (l : List ℕ). l ++ next ∷ more) (r.parts ∙ ap (λ (l : List ℕ). r.front ++ l) r.is_rest.4) ∙ append_assoc r.front (r.is_rest.0 ++ taken) (next ∷ more) ∙ ap (λ (l : List ℕ). r.front ++ l) (append_assoc r.is_rest.0 taken (next ∷ more))
 
-tag_follows : AnswerLaws → (octets more : List ℕ) (next : ℕ) (W : List Dataset) (c : Begun) → Reads (octets ++ next ∷ more) W c → (whole : List Dataset) (held : List ℕ) (h : Head) → Reads octets whole (InTag held)
+tag_follows : AnswerLaws → (octets more : List ℕ) (next : ℕ) (W : List Dataset) (c : Begun) → Reads count_octets (octets ++ next ∷ more) W c → (whole : List Dataset) (held : List ℕ) (h : Head) → Reads count_octets octets whole (InTag held)
     → SpellsTag count_octets h (held ++ next ∷ []) → Follows whole h more W c
 tag_follows laws octets more next W c r whole held h reads tag =
     follows laws.follow (octets ++ next ∷ more) W c r whole reads.front (held ++ next ∷ []) more h reads.is_front tag (tag_on octets more next whole held reads)
 
-data_follows : AnswerLaws → (octets more : List ℕ) (next : ℕ) (W : List Dataset) (c : Begun) → Reads (octets ++ next ∷ more) W c → (whole : List Dataset) (h : Head) (taken : List ℕ) → Reads octets whole (InData h taken)
+data_follows : AnswerLaws → (octets more : List ℕ) (next : ℕ) (W : List Dataset) (c : Begun) → Reads count_octets (octets ++ next ∷ more) W c → (whole : List Dataset) (h : Head) (taken : List ℕ) → Reads count_octets octets whole (InData h taken)
     → Follows whole h (taken ++ next ∷ more) W c
 data_follows laws octets more next W c r whole h taken reads =
     follows laws.follow (octets ++ next ∷ more) W c r whole reads.front reads.is_rest.0 (taken ++ next ∷ more) h reads.is_front reads.is_rest.1 (data_on octets more next whole h taken reads)
 
-no_value : AnswerLaws → (limits : Limits) (W : List Dataset) (c : Begun) → AllGoOn limits W c → (whole : List Dataset) (h : Head) (z given y : List ℕ) (fault : Fault) → Follows whole h z W c → z ≡ given ++ y
+no_value : AnswerLaws → (limits : Limits) (W : List Dataset) (c : Begun) → AllCanContinue limits W c → (whole : List Dataset) (h : Head) (z given y : List ℕ) (fault : TokenFault) → Follows whole h z W c → z ≡ given ++ y
     → length given ≡ h.count → IsRefusedValue whole (data_of h given) fault → ⊥
 no_value laws limits W c all whole h z given y fault f parts many refused =
     let lives = value_lives laws.follow limits W c all whole h z given y f parts many in
     no_dead_value laws.follow.live fault.layer whole (data_of h given) lives.0 lives.1 refused.dead
 
-head_dead : AnswerLaws → (limits : Limits) (W : List Dataset) (c : Begun) → AllGoOn limits W c → (whole : List Dataset) (h : Head) (z : List ℕ) (fault : Fault) → Follows whole h z W c
+head_dead : AnswerLaws → (limits : Limits) (W : List Dataset) (c : Begun) → AllCanContinue limits W c → (whole : List Dataset) (h : Head) (z : List ℕ) (fault : TokenFault) → Follows whole h z W c
     → IsRefusedHead limits whole h fault ⊎ IsUnfinished limits whole h fault → ⊥
 head_dead laws limits W c all whole h z fault f (inl refused) = no_dead_head fault.layer limits whole h (head_lives laws.follow limits W c all whole h z f) refused.dead
 head_dead laws limits W c all whole h z fault f (inr unfinished) = unfinished.dies.1 (message_ends laws.follow limits W c all whole h z f unfinished.last)
 
-value_dead : AnswerLaws → (limits : Limits) (octets more : List ℕ) (next : ℕ) (W : List Dataset) (c : Begun) → Reads (octets ++ next ∷ more) W c → AllGoOn limits W c → (whole : List Dataset) (h : Head) (given : List ℕ) (fault : Fault)
+value_dead : AnswerLaws → (limits : Limits) (octets more : List ℕ) (next : ℕ) (W : List Dataset) (c : Begun) → Reads count_octets (octets ++ next ∷ more) W c → AllCanContinue limits W c → (whole : List Dataset) (h : Head) (given : List ℕ) (fault : TokenFault)
     → CompletesData octets next whole h given → IsRefusedValue whole (data_of h given) fault → ⊥
 value_dead laws limits octets more next W c r all whole h given fault (inl (taken, reads, parts, many)) refused =
     no_value laws limits W c all whole h (taken ++ next ∷ more) given more fault (data_follows laws octets more next W c r whole h taken reads)
@@ -146,22 +146,22 @@ value_dead laws limits octets more next W c r all whole h given fault (inr (held
     no_value laws limits W c all whole h more given more fault (tag_follows laws octets more next W c r whole held h reads tag)
     (ap (λ (l : List ℕ). l ++ more) (sym is)) (ap length is ∙ sym none) refused
 
-none_lives : AnswerLaws → (limits : Limits) (octets more : List ℕ) (next : ℕ) (fault : Fault) → RefusesNext limits octets next fault → fault.cause ≢ causes.Sink → Lives limits (octets ++ next ∷ more) → ⊥
+none_lives : AnswerLaws → (limits : Limits) (octets more : List ℕ) (next : ℕ) (fault : TokenFault) → RefusesNext limits octets next fault → fault.cause ≢ causes.Sink → Lives limits (octets ++ next ∷ more) → ⊥
 none_lives laws limits octets more next fault (inl bad) other lives =
     laws.stuck octets more next bad.whole bad.held lives.whole lives.begun bad.reads bad.dead lives.reads
 none_lives laws limits octets more next fault (inr (inl bad)) other lives =
-    head_dead laws limits lives.whole lives.begun lives.goes_on bad.whole bad.head more fault (tag_follows laws octets more next lives.whole lives.begun lives.reads bad.whole bad.held bad.head bad.reads bad.tag) bad.refuses
+    head_dead laws limits lives.whole lives.begun lives.leads_on bad.whole bad.head more fault (tag_follows laws octets more next lives.whole lives.begun lives.reads bad.whole bad.held bad.head bad.reads bad.tag) bad.refuses
 none_lives laws limits octets more next fault (inr (inr (inl bad))) other lives =
     let f = data_follows laws octets more next lives.whole lives.begun lives.reads bad.whole bad.head bad.taken bad.reads in
     let (tail, is) = object_on lives.whole lives.begun bad.whole bad.head bad.taken more next bad.subfile bad.reads.is_rest.2 f in
     let o : List ℕ = object_of bad.whole ++ bad.taken in
-    octet_dead bad.cause o next (λ sink. other (ap (λ (x : Fault). x.cause) bad.is_fault ∙ ap (λ (x : MessageCause). (message_on bad.head x).cause) sink)) bad.has_cause
-    (message_of limits lives.whole lives.begun lives.goes_on (o ++ next ∷ []) tail is) (story_of limits lives.whole lives.begun lives.goes_on (o ++ next ∷ []) tail is)
+    octet_dead bad.cause o next (λ sink. other (ap (λ (x : TokenFault). x.cause) bad.is_fault ∙ ap (λ (x : MessageCause). (message_on bad.head x).cause) sink)) bad.has_cause
+    (message_of limits lives.whole lives.begun lives.leads_on (o ++ next ∷ []) tail is) (story_of limits lives.whole lives.begun lives.leads_on (o ++ next ∷ []) tail is)
 none_lives laws limits octets more next fault (inr (inr (inr bad))) other lives =
-    value_dead laws limits octets more next lives.whole lives.begun lives.reads lives.goes_on bad.whole bad.head bad.given fault bad.completes bad.refuses
+    value_dead laws limits octets more next lives.whole lives.begun lives.reads lives.leads_on bad.whole bad.head bad.given fault bad.completes bad.refuses
 
-pub nothing_goes_on : AnswerLaws → NothingGoesOnFromRefusedOctets
-nothing_goes_on laws limits octets more next fault kills = (
+pub nothing_continues : AnswerLaws → NothingContinuesFromRefusedOctets
+nothing_continues laws limits octets more next fault kills = (
   λ is. none_lives laws limits octets more next fault kills.refuses kills.by_octets (lives_open limits (octets ++ next ∷ more) is),
   λ v is. none_lives laws limits octets more next fault kills.refuses kills.by_octets (lives_envelope laws limits (octets ++ next ∷ more) v is),
 )
@@ -212,7 +212,7 @@ no_object : (ds : List Dataset) (h : Head) (x y : List ℕ) → (h.rec ≡ 8 →
 no_object ds h x y other = ap (λ (b : Bool). object_of ds ++ (if b then x else [])) (not_eight h.rec other) ∙ sym (ap (λ (b : Bool). object_of ds ++ (if b then y else [])) (not_eight h.rec other))
 
 -- data that are no subfile's change no layer
-pub fewer_data : (limits : Limits) (ds : List Dataset) (h : Head) (x y : List ℕ) → (h.rec ≡ 8 → ⊥) → AllGoOn limits ds (InData h x) → AllGoOn limits ds (InData h y)
+pub fewer_data : (limits : Limits) (ds : List Dataset) (h : Head) (x y : List ℕ) → (h.rec ≡ 8 → ⊥) → AllCanContinue limits ds (InData h x) → AllCanContinue limits ds (InData h y)
 fewer_data limits ds h x y other all = record {
   sizes = all.sizes;
   message = subst (λ (o : List ℕ). languages.IsAlive MessageLanguage (map Octet o ++ (if nat_eq h.rec 9 then End ∷ [] else []))) (no_object ds h x y other) all.message;
@@ -220,7 +220,7 @@ fewer_data limits ds h x y other all = record {
 }
 
 -- before a head
-pub before_it : AnswerLaws → (limits : Limits) (ds : List Dataset) (h : Head) (held : List ℕ) → (h.rec ≡ 8 → ⊥) → (AreSections ds → ⊥) → AllGoOn limits ds (InData h []) → AllGoOn limits ds (InTag held)
+pub before_it : AnswerLaws → (limits : Limits) (ds : List Dataset) (h : Head) (held : List ℕ) → (h.rec ≡ 8 → ⊥) → (AreSections ds → ⊥) → AllCanContinue limits ds (InData h []) → AllCanContinue limits ds (InTag held)
 before_it laws limits ds h held other unfinished all =
     let alive = alive_of limits ds (InData h []) all.sizes in
     let object : object_so_far ds (InData h []) ≡ object_of ds = ap (λ (b : Bool). object_of ds ++ (if b then [] else [])) (not_eight h.rec other) ∙ append-nil (object_of ds) in
@@ -228,16 +228,16 @@ before_it laws limits ds h held other unfinished all =
     elim (eqb_tells (present_record ds) 9) [ inl same ↦ absurd (unfinished (last_sections laws.follow.ends ds alive same.1)) | inr apart ↦ apart.0 ] in
     let message : MessageLivesWith (object_of ds) = message_of limits ds (InData h []) all (object_of ds) [] (object ∙ sym (append-nil (object_of ds))) in
     record {
-      sizes = record { records = alive; within = within_of limits ds (InData h []) all.sizes; object = object_behind laws.follow.objects limits ds (InData h []) all.sizes };
+      sizes = record { records = alive; within = within_of limits ds (InData h []) all.sizes; object = object_lives_after laws.follow.objects limits ds (InData h []) all.sizes };
       message = subst (λ (b : Bool). languages.IsAlive MessageLanguage (map Octet (object_of ds) ++ (if b then End ∷ [] else []))) (sym not_nine)
           (subst (languages.IsAlive MessageLanguage) (sym (append-nil (map Octet (object_of ds)))) message);
       story = subst StoryLivesIn object all.story;
     }
 
 pub was_open : AnswerLaws → RefusedOctetsWereOpen
-was_open laws limits octets next fault (inl bad) = record { whole = bad.whole; begun = InTag bad.held; reads = bad.reads; goes_on = bad.goes_on; unfinished = bad.unfinished }
-was_open laws limits octets next fault (inr (inl bad)) = record { whole = bad.whole; begun = InTag bad.held; reads = bad.reads; goes_on = bad.goes_on; unfinished = bad.unfinished }
-was_open laws limits octets next fault (inr (inr (inl bad))) = record { whole = bad.whole; begun = InData bad.head bad.taken; reads = bad.reads; goes_on = bad.goes_on; unfinished = bad.unfinished }
+was_open laws limits octets next fault (inl bad) = record { whole = bad.whole; begun = InTag bad.held; reads = bad.reads; leads_on = bad.leads_on; unfinished = bad.unfinished }
+was_open laws limits octets next fault (inr (inl bad)) = record { whole = bad.whole; begun = InTag bad.held; reads = bad.reads; leads_on = bad.leads_on; unfinished = bad.unfinished }
+was_open laws limits octets next fault (inr (inr (inl bad))) = record { whole = bad.whole; begun = InData bad.head bad.taken; reads = bad.reads; leads_on = bad.leads_on; unfinished = bad.unfinished }
 was_open laws limits octets next fault (inr (inr (inr bad))) = by bad.completes
   where
     by : CompletesData octets next bad.whole bad.head bad.given → IsOpen limits octets
@@ -245,14 +245,14 @@ was_open laws limits octets next fault (inr (inr (inr bad))) = by bad.completes
       whole = bad.whole;
       begun = InData bad.head taken;
       reads = reads;
-      goes_on = fewer_data limits bad.whole bad.head bad.given taken bad.is_value bad.goes_on;
+      leads_on = fewer_data limits bad.whole bad.head bad.given taken bad.is_value bad.leads_on;
       unfinished = bad.unfinished;
     }
     by (inr (held, reads, tag, none, is)) = record {
       whole = bad.whole;
       begun = InTag held;
       reads = reads;
-      goes_on = before_it laws limits bad.whole bad.head held bad.is_value bad.unfinished (fewer_data limits bad.whole bad.head bad.given [] bad.is_value bad.goes_on);
+      leads_on = before_it laws limits bad.whole bad.head held bad.is_value bad.unfinished (fewer_data limits bad.whole bad.head bad.given [] bad.is_value bad.leads_on);
       unfinished = bad.unfinished;
     }
 
@@ -263,7 +263,7 @@ pub record SameReading (whole other : List Dataset) (b c : Begun) : Type 0 where
   pub whole_is : whole ≡ other
   pub begun_is : b ≡ c
 
-pub one_reading : AnswerLaws → (octets : List ℕ) (whole other : List Dataset) (b c : Begun) → Reads octets whole b → Reads octets other c → SameReading whole other b c
+pub one_reading : AnswerLaws → (octets : List ℕ) (whole other : List Dataset) (b c : Begun) → Reads count_octets octets whole b → Reads count_octets octets other c → SameReading whole other b c
 one_reading laws octets whole other b c r s =
     let way = laws.way octets (handed_on whole b) (handed_on other c) b c (record { whole = whole; reads = r; handed = refl }) (record { whole = other; reads = s; handed = refl }) in
     record { whole_is = (laws.tell whole other b c way.0).0; begun_is = way.1 }
@@ -280,17 +280,17 @@ data_is e = cc
 not_data : {A : Type 0} {h : Head} {x y : List ℕ} → InTag x ≡ InData h y → A
 not_data e = absurd cc
 
-some_is : {x y : Fault} → Some x ≡ Some y → x ≡ y
+some_is : {x y : TokenFault} → Some x ≡ Some y → x ≡ y
 some_is e = cc
 
-not_in_tag : AnswerLaws → {A : Type 0} → (octets : List ℕ) (whole other : List Dataset) (held taken : List ℕ) (h : Head) → Reads octets whole (InTag held) → Reads octets other (InData h taken) → A
+not_in_tag : AnswerLaws → {A : Type 0} → (octets : List ℕ) (whole other : List Dataset) (held taken : List ℕ) (h : Head) → Reads count_octets octets whole (InTag held) → Reads count_octets octets other (InData h taken) → A
 not_in_tag laws octets whole other held taken h r s = not_data (one_reading laws octets whole other (InTag held) (InData h taken) r s).begun_is
 
-same_tag : AnswerLaws → (octets : List ℕ) (whole other : List Dataset) (held tag : List ℕ) → Reads octets whole (InTag held) → Reads octets other (InTag tag) → (whole ≡ other) × (held ≡ tag)
+same_tag : AnswerLaws → (octets : List ℕ) (whole other : List Dataset) (held tag : List ℕ) → Reads count_octets octets whole (InTag held) → Reads count_octets octets other (InTag tag) → (whole ≡ other) × (held ≡ tag)
 same_tag laws octets whole other held tag r s =
     let same = one_reading laws octets whole other (InTag held) (InTag tag) r s in (same.whole_is, tag_is same.begun_is)
 
-same_data : AnswerLaws → (octets : List ℕ) (whole other : List Dataset) (h k : Head) (x y : List ℕ) → Reads octets whole (InData h x) → Reads octets other (InData k y) → (whole ≡ other) × (h ≡ k) × (x ≡ y)
+same_data : AnswerLaws → (octets : List ℕ) (whole other : List Dataset) (h k : Head) (x y : List ℕ) → Reads count_octets octets whole (InData h x) → Reads count_octets octets other (InData k y) → (whole ≡ other) × (h ≡ k) × (x ≡ y)
 same_data laws octets whole other h k x y r s =
     let same = one_reading laws octets whole other (InData h x) (InData k y) r s in (same.whole_is, head_is same.begun_is, data_is same.begun_is)
 
@@ -304,15 +304,15 @@ not_tag held tag next h same dead spelled =
     absurd (dead h [] (subst (SpellsTag count_octets h) (sym (append-nil (held ++ next ∷ []) ∙ ap (λ (l : List ℕ). l ++ next ∷ []) same)) spelled))
 
 -- a head that is refused, and one with which all continues
-not_both : AnswerLaws → {A : Type 0} → (limits : Limits) (whole : List Dataset) (h : Head) (given : List ℕ) (fault : Fault) → AllGoOn limits whole (InData h given) → IsRefusedHead limits whole h fault ⊎ IsUnfinished limits whole h fault → A
+not_both : AnswerLaws → {A : Type 0} → (limits : Limits) (whole : List Dataset) (h : Head) (given : List ℕ) (fault : TokenFault) → AllCanContinue limits whole (InData h given) → IsRefusedHead limits whole h fault ⊎ IsUnfinished limits whole h fault → A
 not_both laws limits whole h given fault all (inl refused) = absurd (no_dead_head fault.layer limits whole h all.sizes refused.dead)
 not_both laws limits whole h given fault all (inr unfinished) =
     absurd (unfinished.dies.1 (subst (languages.IsAlive MessageLanguage) (ends_tokens whole h given unfinished.last) all.message))
 
-one_head_fault : (limits : Limits) (whole : List Dataset) (h : Head) (f g : Fault) → IsRefusedHead limits whole h f ⊎ IsUnfinished limits whole h f → IsRefusedHead limits whole h g ⊎ IsUnfinished limits whole h g → f ≡ g
+one_head_fault : (limits : Limits) (whole : List Dataset) (h : Head) (f g : TokenFault) → IsRefusedHead limits whole h f ⊎ IsUnfinished limits whole h f → IsRefusedHead limits whole h g ⊎ IsUnfinished limits whole h g → f ≡ g
 one_head_fault limits whole h f g (inl a) (inl b) = some_is (sym a.first ∙ b.first)
-one_head_fault limits whole h f g (inl a) (inr b) = absurd (no_dead_head f.layer limits whole h b.goes_on a.dead)
-one_head_fault limits whole h f g (inr a) (inl b) = absurd (no_dead_head g.layer limits whole h a.goes_on b.dead)
+one_head_fault limits whole h f g (inl a) (inr b) = absurd (no_dead_head f.layer limits whole h b.leads_on a.dead)
+one_head_fault limits whole h f g (inr a) (inl b) = absurd (no_dead_head g.layer limits whole h a.leads_on b.dead)
 one_head_fault limits whole h f g (inr a) (inr b) = a.is_fault ∙ sym b.is_fault
 
 -- ---- one cause of an octet
@@ -346,37 +346,37 @@ one_cause laws messages.Sink messages.Sink o next h k = refl
 
 -- ---- each two refusals
 
-tags_agree : AnswerLaws → (limits : Limits) (octets : List ℕ) (next : ℕ) (f g : Fault) → IsBadTagAt limits octets next f → IsBadTagAt limits octets next g → f ≡ g
+tags_agree : AnswerLaws → (limits : Limits) (octets : List ℕ) (next : ℕ) (f g : TokenFault) → IsBadTagAt limits octets next f → IsBadTagAt limits octets next g → f ≡ g
 tags_agree laws limits octets next f g a b =
     let same = (same_tag laws octets a.whole b.whole a.held b.held a.reads b.reads).1 in
     a.is_fault ∙ ap (λ (held : List ℕ). record { layer = layers.Dataset; rec = begun_record (InTag held); set = begun_number (InTag held); cause = tag_cause held }) same
     ∙ sym b.is_fault
 
-tag_not_head : AnswerLaws → {A : Type 0} → (limits : Limits) (octets : List ℕ) (next : ℕ) (f g : Fault) → IsBadTagAt limits octets next f → IsBadHeadAt limits octets next g → A
+tag_not_head : AnswerLaws → {A : Type 0} → (limits : Limits) (octets : List ℕ) (next : ℕ) (f g : TokenFault) → IsBadTagAt limits octets next f → IsBadHeadAt limits octets next g → A
 tag_not_head laws limits octets next f g a b =
     not_tag a.held b.held next b.head (same_tag laws octets a.whole b.whole a.held b.held a.reads b.reads).1 a.dead b.tag
 
-tag_not_octet : AnswerLaws → {A : Type 0} → (limits : Limits) (octets : List ℕ) (next : ℕ) (f g : Fault) → IsBadTagAt limits octets next f → IsBadOctetAt limits octets next g → A
+tag_not_octet : AnswerLaws → {A : Type 0} → (limits : Limits) (octets : List ℕ) (next : ℕ) (f g : TokenFault) → IsBadTagAt limits octets next f → IsBadOctetAt limits octets next g → A
 tag_not_octet laws limits octets next f g a b = not_in_tag laws octets a.whole b.whole a.held b.taken b.head a.reads b.reads
 
-tag_not_value : AnswerLaws → {A : Type 0} → (limits : Limits) (octets : List ℕ) (next : ℕ) (f g : Fault) → IsBadTagAt limits octets next f → IsBadValueAt limits octets next g → A
+tag_not_value : AnswerLaws → {A : Type 0} → (limits : Limits) (octets : List ℕ) (next : ℕ) (f g : TokenFault) → IsBadTagAt limits octets next f → IsBadValueAt limits octets next g → A
 tag_not_value laws {A} limits octets next f g a b = by b.completes
   where
     by : CompletesData octets next b.whole b.head b.given → A
     by (inl (taken, reads, parts, many)) = not_in_tag laws octets a.whole b.whole a.held taken b.head a.reads reads
     by (inr (held, reads, tag, none, is)) = not_tag a.held held next b.head (same_tag laws octets a.whole b.whole a.held held a.reads reads).1 a.dead tag
 
-heads_agree : AnswerLaws → (limits : Limits) (octets : List ℕ) (next : ℕ) (f g : Fault) → IsBadHeadAt limits octets next f → IsBadHeadAt limits octets next g → f ≡ g
+heads_agree : AnswerLaws → (limits : Limits) (octets : List ℕ) (next : ℕ) (f g : TokenFault) → IsBadHeadAt limits octets next f → IsBadHeadAt limits octets next g → f ≡ g
 heads_agree laws limits octets next f g a b =
     let same = same_tag laws octets a.whole b.whole a.held b.held a.reads b.reads in
     let head = same_head laws a.head b.head a.held b.held next same.1 a.tag b.tag in
     one_head_fault limits b.whole b.head f g
     (subst (λ (h : Head). IsRefusedHead limits b.whole h f ⊎ IsUnfinished limits b.whole h f) head (subst (λ (ds : List Dataset). IsRefusedHead limits ds a.head f ⊎ IsUnfinished limits ds a.head f) same.0 a.refuses)) b.refuses
 
-head_not_octet : AnswerLaws → {A : Type 0} → (limits : Limits) (octets : List ℕ) (next : ℕ) (f g : Fault) → IsBadHeadAt limits octets next f → IsBadOctetAt limits octets next g → A
+head_not_octet : AnswerLaws → {A : Type 0} → (limits : Limits) (octets : List ℕ) (next : ℕ) (f g : TokenFault) → IsBadHeadAt limits octets next f → IsBadOctetAt limits octets next g → A
 head_not_octet laws limits octets next f g a b = not_in_tag laws octets a.whole b.whole a.held b.taken b.head a.reads b.reads
 
-head_not_value : AnswerLaws → {A : Type 0} → (limits : Limits) (octets : List ℕ) (next : ℕ) (f g : Fault) → IsBadHeadAt limits octets next f → IsBadValueAt limits octets next g → A
+head_not_value : AnswerLaws → {A : Type 0} → (limits : Limits) (octets : List ℕ) (next : ℕ) (f g : TokenFault) → IsBadHeadAt limits octets next f → IsBadValueAt limits octets next g → A
 head_not_value laws {A} limits octets next f g a b = by b.completes
   where
     by : CompletesData octets next b.whole b.head b.given → A
@@ -384,10 +384,10 @@ head_not_value laws {A} limits octets next f g a b = by b.completes
     by (inr (held, reads, tag, none, is)) =
         let same = same_tag laws octets a.whole b.whole a.held held a.reads reads in
         let head = same_head laws a.head b.head a.held held next same.1 a.tag tag in
-        not_both laws limits b.whole b.head b.given f b.goes_on
+        not_both laws limits b.whole b.head b.given f b.leads_on
         (subst (λ (h : Head). IsRefusedHead limits b.whole h f ⊎ IsUnfinished limits b.whole h f) head (subst (λ (ds : List Dataset). IsRefusedHead limits ds a.head f ⊎ IsUnfinished limits ds a.head f) same.0 a.refuses))
 
-octets_agree : AnswerLaws → (limits : Limits) (octets : List ℕ) (next : ℕ) (f g : Fault) → IsBadOctetAt limits octets next f → IsBadOctetAt limits octets next g → f ≡ g
+octets_agree : AnswerLaws → (limits : Limits) (octets : List ℕ) (next : ℕ) (f g : TokenFault) → IsBadOctetAt limits octets next f → IsBadOctetAt limits octets next g → f ≡ g
 octets_agree laws limits octets next f g a b =
     let same = same_data laws octets a.whole b.whole a.head b.head a.taken b.taken a.reads b.reads in
     let has : HasCause a.cause (object_of b.whole ++ b.taken) next =
@@ -395,7 +395,7 @@ octets_agree laws limits octets next f g a b =
     let cause = one_cause laws a.cause b.cause (object_of b.whole ++ b.taken) next has b.has_cause in
     a.is_fault ∙ ap (λ (h : Head). message_on h a.cause) same.1 ∙ ap (message_on b.head) cause ∙ sym b.is_fault
 
-octet_not_value : AnswerLaws → {A : Type 0} → (limits : Limits) (octets : List ℕ) (next : ℕ) (f g : Fault) → IsBadOctetAt limits octets next f → IsBadValueAt limits octets next g → A
+octet_not_value : AnswerLaws → {A : Type 0} → (limits : Limits) (octets : List ℕ) (next : ℕ) (f g : TokenFault) → IsBadOctetAt limits octets next f → IsBadValueAt limits octets next g → A
 octet_not_value laws {A} limits octets next f g a b = by b.completes
   where
     by : CompletesData octets next b.whole b.head b.given → A
@@ -419,7 +419,7 @@ one_value laws octets next whole other h k x y (inr (held, reads, tag, none, is)
     let same = same_tag laws octets whole other held holds reads are in
     record { whole_is = same.0; head_is = same_head laws h k held holds next same.1 tag that; given_is = is ∙ sym empty }
 
-values_agree : AnswerLaws → (limits : Limits) (octets : List ℕ) (next : ℕ) (f g : Fault) → IsBadValueAt limits octets next f → IsBadValueAt limits octets next g → f ≡ g
+values_agree : AnswerLaws → (limits : Limits) (octets : List ℕ) (next : ℕ) (f g : TokenFault) → IsBadValueAt limits octets next f → IsBadValueAt limits octets next g → f ≡ g
 values_agree laws limits octets next f g a b =
     let same = one_value laws octets next a.whole b.whole a.head b.head a.given b.given a.completes b.completes in
     let refused : IsRefusedValue b.whole (data_of b.head b.given) f =
@@ -479,7 +479,7 @@ ends_or_dies : {A : Type 0} → StreamLaws → (limits : Limits) (stream : List 
 ends_or_dies laws limits stream used v e a b = elim (cases_lt e.octet used) [
   | inl later ↦
       let (more, is) = front_at stream e.octet used later a.fits in
-      absurd ((nothing_goes_on laws.answer limits (take e.octet stream) more (slice_index stream e.octet) b.fault b.kills).1 v (subst (λ (o : List ℕ). IsEnvelopeWithin limits o v) is a.envelope))
+      absurd ((nothing_continues laws.answer limits (take e.octet stream) more (slice_index stream e.octet) b.fault b.kills).1 v (subst (λ (o : List ℕ). IsEnvelopeWithin limits o v) is a.envelope))
   | inr earlier ↦
       absurd (laws.none limits (take e.octet stream) (take used stream) (drop used (take e.octet stream)) v
       (was_open laws.answer limits (take e.octet stream) (slice_index stream e.octet) b.fault b.kills.refuses)
@@ -492,13 +492,13 @@ ends_or_breaks laws limits stream used v e a b = absurd (laws.none limits stream
 dies_or_breaks : {A : Type 0} → StreamLaws → (limits : Limits) (stream : List ℕ) (e f : Refusal) → IsRefused limits stream e → IsTruncated limits stream f → A
 dies_or_breaks laws limits stream e f a b =
     let (more, is) = cut_at stream e.octet a.fits in
-    absurd ((nothing_goes_on laws.answer limits (take e.octet stream) more (slice_index stream e.octet) a.fault a.kills).0 (subst (IsOpen limits) is b.is_open))
+    absurd ((nothing_continues laws.answer limits (take e.octet stream) more (slice_index stream e.octet) a.fault a.kills).0 (subst (IsOpen limits) is b.is_open))
 
 dies_before : StreamLaws → (limits : Limits) (stream : List ℕ) (e f : Refusal) → IsRefused limits stream e → IsRefused limits stream f → e.octet < f.octet → ⊥
 dies_before laws limits stream e f a b less =
     let fits = b.fits in
     let (more, is) = front_at stream e.octet f.octet less (omega (arith, fits)) in
-    (nothing_goes_on laws.answer limits (take e.octet stream) more (slice_index stream e.octet) a.fault a.kills).0
+    (nothing_continues laws.answer limits (take e.octet stream) more (slice_index stream e.octet) a.fault a.kills).0
     (subst (IsOpen limits) is (was_open laws.answer limits (take f.octet stream) (slice_index stream f.octet) b.fault b.kills.refuses))
 
 same_death : StreamLaws → (limits : Limits) (stream : List ℕ) (e f : Refusal) → IsRefused limits stream e → IsRefused limits stream f → e.octet ≡ f.octet → e ≡ f

@@ -3,29 +3,29 @@ use Rattle.std.proofs.Common.{◌≡◌, ℕ, zero, suc, ◌≤◌, ◌↔◌, B
 use Rattle.std.proofs.lemmas.Bool.Decides.{eqb_tells}
 use Rattle.std.proofs.lemmas.List.{length-replicate}
 use Rattle.std.specs.List.{AllByRecursion}
-use Rattle.iim_dataset.specs.Octets.{Octets}
-use Rattle.iim_dataset.specs.Datasets.{Dataset, head_of}
-use Rattle.iim_dataset.specs.Events.{Event}
-use Rattle.iim_dataset.specs.Places.{IsPlace, LeadsTo}
+use Rattle.iim_dataset.specs.Format.Octets.{Octets}
+use Rattle.iim_dataset.specs.Format.Datasets.{Dataset, head_of, count_octets}
+use Rattle.iim_dataset.specs.Format.Events.{DatasetEvent}
+use Rattle.iim_dataset.specs.Format.Places.{IsPlace, LeadsTo}
 use Rattle.iim_dataset.specs.declared.head.Head.{Head}
 use Rattle.iim_dataset.specs.declared.place.DatasetPlace.{DatasetPlace}
-use Rattle.iim_fields.specs.Alive.{IsAlive, IsAliveAt}
-use Rattle.iim_fields.specs.Checks.{HasChecked, HasTaken, IsRecordFault}
-use Rattle.iim_fields.specs.Faults.{joined, kept, kept_octets}
-use Rattle.iim_fields.specs.Standing.{IsWithin}
+use Rattle.iim_fields.specs.Format.Alive.{SectionsLive, SectionsLiveAt}
+use Rattle.iim_fields.specs.Format.Checks.{HasChecked, HasTaken, IsRecordFault}
+use Rattle.iim_fields.specs.Format.Faults.{joined, kept, kept_octets}
+use Rattle.iim_fields.specs.Format.Standing.{IsWithin}
 use Rattle.iim_fields.specs.declared.check.RecordPlace.{RecordPlace}
 use Rattle.iim_fields.specs.declared.fault.FieldFault.{FieldFault}
-use Rattle.wire_message.specs.Reading.{StandsAt}
-use Rattle.wire_message.specs.SoFar.{LeadTo}
-use Rattle.wire_message.specs.Saved.{IsAt, LeadToSaved}
+use Rattle.wire_message.specs.Format.Reading.{StandsAt}
+use Rattle.wire_message.specs.Format.SoFar.{LeadTo}
+use Rattle.wire_message.specs.Format.Saved.{IsAt, LeadToSaved}
 use Rattle.wire_message.specs.declared.place.Place.{Place as Message}
 use Rattle.wire_message.specs.declared.saved.MessagePlace.{MessagePlace}
-use Rattle.iim_unpack.specs.Begins.{AreNumbers, IsNumber}
+use Rattle.iim_unpack.specs.Format.Begins.{AreNumbers, IsSize}
 use Rattle.iim_unpack.specs.ByLayers.{RecordsLive, head_at}
 use Rattle.iim_unpack.specs.Plain.{number_list}
 use Rattle.iim_unpack.specs.Possible.{texts_of}
 use Rattle.iim_unpack.specs.Format.Possible.{widest}
-use Rattle.iim_unpack.specs.Taking.{AreKept, GoOnWithin, IsMessageOf, numbers_told, told_datasets}
+use Rattle.iim_unpack.specs.Taking.{AreKept, CanContinueWithin, IsMessageOf, numbers_told, told_datasets}
 use Rattle.iim_unpack.specs.Format.Tickets.{Phase, TagBegun, DataBegun, AllEnded}
 use Rattle.iim_unpack.proofs.Fitting.{part_told}
 use Rattle.iim_unpack.proofs.Plain.{kept_fields, plain_told}
@@ -34,13 +34,13 @@ use Rattle.iim_unpack.proofs.Taking.{head_alive}
 -- ---- tags
 
 -- A reader is made exactly at a place that octets lead to.
-pub some_place : {X : Type 0} (result : Option X) (place : DatasetPlace) → IsSome result ↔ ((octets : List ℕ) × (events : List Event) × LeadsTo octets events place)
-    → IsPlace place ↔ ((octets : List ℕ) × (events : List Event) × LeadsTo octets events place) → (P : Type 0) → (IsPlace place → P) → IfSome result (λ r. P)
+pub some_place : {X : Type 0} (result : Option X) (place : DatasetPlace) → IsSome result ↔ ((octets : List ℕ) × (events : List DatasetEvent) × LeadsTo count_octets octets events place)
+    → IsPlace place ↔ ((octets : List ℕ) × (events : List DatasetEvent) × LeadsTo count_octets octets events place) → (P : Type 0) → (IsPlace place → P) → IfSome result (λ r. P)
 some_place (Some r) place exactly law P by = by (law.1 (exactly.0 refl))
 some_place None place exactly law P by = tt
 
-pub no_place : {X : Type 0} (result : Option X) (place : DatasetPlace) → IsSome result ↔ ((octets : List ℕ) × (events : List Event) × LeadsTo octets events place)
-    → IsPlace place ↔ ((octets : List ℕ) × (events : List Event) × LeadsTo octets events place) → (P : Type 0) → (P → IsPlace place) → IfNone result (P → ⊥)
+pub no_place : {X : Type 0} (result : Option X) (place : DatasetPlace) → IsSome result ↔ ((octets : List ℕ) × (events : List DatasetEvent) × LeadsTo count_octets octets events place)
+    → IsPlace place ↔ ((octets : List ℕ) × (events : List DatasetEvent) × LeadsTo count_octets octets events place) → (P : Type 0) → (P → IsPlace place) → IfNone result (P → ⊥)
 no_place (Some r) place exactly law P by = tt
 no_place None place exactly law P by = λ p. let bad : false ≡ true = exactly.1 (law.0 (by p)) in cc
 
@@ -51,7 +51,7 @@ zeros zero = tt
 zeros (suc n) = (omega arith, zeros n)
 
 -- After a head that was taken datasets can continue.
-pub taken_alive : (check : Option RecordPlace) (ds : List Dataset) (h : Head) → HasTaken check ds h → IsAliveAt ds h
+pub taken_alive : (check : Option RecordPlace) (ds : List Dataset) (h : Head) → HasTaken check ds h → SectionsLiveAt ds h
 taken_alive check ds h taken = elim (eqb_tells h.rec 8) [
   | inl eight ↦
       let d : Dataset = record { rec = h.rec; set = h.set; octets = replicate h.count 0 } in
@@ -61,21 +61,21 @@ taken_alive check ds h taken = elim (eqb_tells h.rec 8) [
 ]
 
 pub lives_at : (old new : Option RecordPlace) (h : Head) (r : Result (Unit {0}) FieldFault) → OnOk r ((ds : List Dataset) → HasChecked old ds → HasTaken new ds h) → IsTrue (is_ok r)
-    → (ds : List Dataset) → HasChecked old ds → IsAliveAt ds h
+    → (ds : List Dataset) → HasChecked old ds → SectionsLiveAt ds h
 lives_at old new h (Ok u) stands yes' ds s = taken_alive new ds h (stands ds s)
 lives_at old new h (Err e) stands yes' ds s = let bad : false ≡ true = yes' in cc
 
 pub dies_at : (old : Option RecordPlace) (h : Head) (r : Result (Unit {0}) FieldFault) → IfErr r (λ fault. (ds : List Dataset) → HasChecked old ds → IsRecordFault ds h fault) → is_ok r ≡ false
-    → (ds : List Dataset) → HasChecked old ds → IsAliveAt ds h → ⊥
+    → (ds : List Dataset) → HasChecked old ds → SectionsLiveAt ds h → ⊥
 dies_at old h (Ok u) fault no' ds s alive = let bad : true ≡ false = no' in cc
 dies_at old h (Err e) fault no' ds s alive = (fault ds s).dead alive
 
-pub live_alive : (section : ℕ) (phase : Phase) (ds : List Dataset) → RecordsLive section phase ds → IsAlive ds
+pub live_alive : (section : ℕ) (phase : Phase) (ds : List Dataset) → RecordsLive section phase ds → SectionsLive ds
 live_alive section (TagBegun held) ds lives = lives.1
 live_alive section (DataBegun set count left taken) ds lives = head_alive ds (head_at section set count) lives
 live_alive section AllEnded ds lives = lives.1
 
-pub fits_told : (numbers : List (Option ℕ)) → AreNumbers numbers → AllByRecursion IsNumber (number_list (numbers_told numbers))
+pub fits_told : (numbers : List (Option ℕ)) → AreNumbers numbers → AllByRecursion IsSize (number_list (numbers_told numbers))
 fits_told [] fit = absurd (let bad = fit.four in omega (arith, bad))
 fits_told (a ∷ []) fit = absurd (let bad = fit.four in omega (arith, bad))
 fits_told (a ∷ b ∷ []) fit = absurd (let bad = fit.four in omega (arith, bad))
@@ -86,9 +86,9 @@ fits_told (a ∷ b ∷ c ∷ d ∷ e ∷ more) fit = absurd (let bad = fit.four 
 none_fits : (n : ℕ) → length {A = ℕ} [] ≤ n
 none_fits n = omega arith
 
-pub goes_on_told : (section : ℕ) (phase : Phase) (fields : List Dataset) (numbers : List (Option ℕ)) (some ended : Bool) → AreNumbers numbers → AreKept fields → IsWithin widest (kept_octets fields) (length fields)
-    → RecordsLive section phase (told_datasets fields numbers some ended) → GoOnWithin widest (told_datasets fields numbers some ended)
-goes_on_told section phase fields numbers some ended fit each within lives =
+pub leads_on_told : (section : ℕ) (phase : Phase) (fields : List Dataset) (numbers : List (Option ℕ)) (some ended : Bool) → AreNumbers numbers → AreKept fields → IsWithin widest (kept_octets fields) (length fields)
+    → RecordsLive section phase (told_datasets fields numbers some ended) → CanContinueWithin widest (told_datasets fields numbers some ended)
+leads_on_told section phase fields numbers some ended fit each within lives =
     let told = told_datasets fields numbers some ended in
     let are : kept told ≡ fields = (plain_told fields (numbers_told numbers) (cond some 1 0) [] ended each (fits_told numbers fit) (none_fits _)).kept_are in
     let octets : kept_octets told ≡ kept_octets fields = ap (λ (ds : List Dataset). length (joined ds)) (are ∙ sym (kept_fields fields each)) in

@@ -2,9 +2,10 @@
 use Rattle.std.proofs.Common.{◌≡◌, ℕ, zero, suc, ◌+◌, ◌-◌, ◌≤◌, List, [], ◌∷◌, ◌++◌, length, take, drop, Option, None, Some, ap, sym, subst, ◌∙◌, arith, append_assoc}
 use Rattle.std.proofs.lemmas.List.{drop-take, drop-drop, take-append-drop, take_all}
 use Rattle.std.specs.Io.KnownBytes.{Consumes}
-use Rattle.iim_dataset.specs.Devices.{Device}
-use Rattle.iim_dataset.specs.DeviceLaws.{HasGiven}
-use Rattle.iim_unpack.specs.Blocks.{held_in, put_before, behind}
+use Rattle.iim_dataset.specs.Format.Devices.{Device}
+use Rattle.iim_dataset.specs.Format.DeviceLaws.{HasGiven}
+use Rattle.iim_unpack.specs.Blocks.{held_in}
+use Rattle.iim_unpack.specs.Format.Blocks.{put_before, with_held}
 
 -- after some of the octets of a block
 pub passes : (octets : List ℕ) (from to used : ℕ) (held : List ℕ) → held_in octets from to ≡ held → from + used ≤ to → held_in octets (from + used) to ≡ drop used held
@@ -17,7 +18,7 @@ used_up n xs None = tt
 used_up n xs (Some rest) = ap (λ w. w ++ rest) (sym (take-append-drop n xs)) ∙ append_assoc (take n xs) (drop n xs) rest
 
 -- Octets of the block were used.
-pub line_passed : (n : ℕ) (held new : List ℕ) (d : Device) → new ≡ drop n held → HasGiven (behind held d) (behind new d) (take n held)
+pub line_passed : (n : ℕ) (held new : List ℕ) (d : Device) → new ≡ drop n held → HasGiven (with_held held d) (with_held new d) (take n held)
 line_passed n held new d is =
     (subst (λ (ys : List ℕ). Consumes (put_before held d.octets) (put_before ys d.octets) (take n held)) (sym is) (used_up n held d.octets), (omega arith, omega arith))
 
@@ -26,15 +27,15 @@ short zero xs = omega arith
 short (suc n) [] = omega arith
 short (suc n) (x ∷ xs) = omega (arith, short n xs)
 
--- as many as are held can be passed
+-- where `used` octets at least are held, they can be passed
 pub fits : (octets : List ℕ) (from to used : ℕ) (held : List ℕ) → held_in octets from to ≡ held → from ≤ to → used ≤ length held → from + used ≤ to
 fits octets from to used held is order le = omega (arith, order, le, rw is at (short (to - from) (drop from octets)))
 
 -- The whole block was used.
-pub line_used : (n : ℕ) (held new piece : List ℕ) (d : Device) → n ≡ length held → piece ≡ held → new ≡ drop n held → HasGiven (behind held d) (behind new d) piece
+pub line_used : (n : ℕ) (held new piece : List ℕ) (d : Device) → n ≡ length held → piece ≡ held → new ≡ drop n held → HasGiven (with_held held d) (with_held new d) piece
 line_used n held new piece d all same is =
-    subst (λ (ys : List ℕ). HasGiven (behind held d) (behind new d) ys) (take_all n held (omega (arith, all)) ∙ sym same) (line_passed n held new d is)
+    subst (λ (ys : List ℕ). HasGiven (with_held held d) (with_held new d) ys) (take_all n held (omega (arith, all)) ∙ sym same) (line_passed n held new d is)
 
 -- Some of it was.
-pub line_front : (n : ℕ) (held new piece : List ℕ) (d : Device) → piece ≡ held → new ≡ drop n held → HasGiven (behind held d) (behind new d) (take n piece)
-line_front n held new piece d same is = subst (λ (ys : List ℕ). HasGiven (behind held d) (behind new d) (take n ys)) (sym same) (line_passed n held new d is)
+pub line_front : (n : ℕ) (held new piece : List ℕ) (d : Device) → piece ≡ held → new ≡ drop n held → HasGiven (with_held held d) (with_held new d) (take n piece)
+line_front n held new piece d same is = subst (λ (ys : List ℕ). HasGiven (with_held held d) (with_held new d) (take n ys)) (sym same) (line_passed n held new d is)

@@ -3,22 +3,23 @@ use Rattle.std.proofs.Common.{◌≡◌, ℕ, ◌+◌, ◌*◌, ◌<◌, ◌≤�
 use Rattle.std.specs.List.{AllByRecursion}
 use Rattle.std.proofs.lemmas.Bool.{eqb-true}
 use Rattle.std.proofs.lemmas.List.Sums.{sum_by-cons, sum_by-append}
-use Rattle.iim_dataset.specs.Octets.{Octets, number}
-use Rattle.iim_dataset.specs.Datasets.{Dataset, SpellsCount, SpellsTag, SpellsStream, count_octets}
-use Rattle.iim_dataset.specs.Splits.{Begun, InTag, InData, IsBegun}
+use Rattle.iim_dataset.specs.Format.Octets.{Octets, number}
+use Rattle.iim_dataset.specs.Format.Datasets.{Dataset, SpellsCount, SpellsTag, SpellsStream, count_octets, of_record}
+use Rattle.iim_dataset.specs.Format.Splits.{Begun, InTag, InData, IsBegun}
 use Rattle.iim_dataset.specs.declared.head.Head.{Head}
-use Rattle.iim_fields.specs.Records.{IsGoodDataset, AreSections}
-use Rattle.iim_fields.specs.Alive.{IsAlive}
-use Rattle.iim_fields.specs.Faults.{kept, joined}
-use Rattle.iim_fields.specs.Laws.{NoSectionsBeginOthers, EnvelopesEndWithTheLastRecord}
+use Rattle.iim_fields.specs.Format.Records.{AreSections}
+use Rattle.iim_tables.specs.Format.Records.{IsGoodDataset}
+use Rattle.iim_fields.specs.Format.Alive.{SectionsLive}
+use Rattle.iim_fields.specs.Format.Faults.{kept, joined}
+use Rattle.iim_fields.specs.Format.Laws.{NoSectionsBeginOthers, EnvelopesEndWithTheLastRecord}
 use Rattle.iim_fields.specs.declared.limits.Limits.{Limits}
-use Rattle.iim_object.specs.Objects.{ObjectToken, NumberRead, SubfileBegun, ObjectEnded, Confirmed, number_tokens}
-use Rattle.iim_object.specs.Places.{Place, ending_tokens, tokens_of, place_after}
-use Rattle.iim_object.specs.Behind.{of_record, place_behind, place_ended}
-use Rattle.iim_object.specs.Records.{lengths_of, numbers_of}
-use Rattle.iim_object.specs.Sizes.{Stated, AreStated, AreOnce, InRow, number_at}
-use Rattle.iim_unpack.specs.Format.Tokens.{MayGoOn}
-use Rattle.iim_unpack.specs.Intakes.{OpenOctetsAreBounded}
+use Rattle.iim_object.specs.Format.Objects.{ObjectToken, NumberRead, SubfileBegun, ObjectEnded, Confirmed, number_tokens}
+use Rattle.iim_object.specs.Format.Places.{Place, ending_tokens, tokens_of, place_after}
+use Rattle.iim_object.specs.Format.Numbers.{place_after_datasets, place_ended}
+use Rattle.iim_object.specs.Format.Records.{lengths_of, numbers_of}
+use Rattle.iim_object.specs.Format.Sizes.{Stated, AreStated, AreOnce, InRow, number_at}
+use Rattle.iim_unpack.specs.Format.Tokens.{MayContinue}
+use Rattle.iim_unpack.specs.Format.Intakes.{OpenOctetsAreBounded}
 use Rattle.iim_unpack.specs.Format.Framed.{AreWithin}
 use Rattle.iim_unpack.specs.Format.Tokens.{ObjectLives}
 
@@ -86,7 +87,7 @@ sections_five ds (r1, from2, one, good1, (r2, from7, two, good2, (r7, from8, sev
     joined_five 1 ds r1 from2 (inl refl) one good1.each (joined_five 2 from2 r2 from7 (inr (inl refl)) two good2.each (joined_five 7 from7 r7 from8 (inr (inr (inl refl))) seven good7.each
     (joined_five 8 from8 r8 from9 (inr (inr (inr (inl refl)))) eight good8.each (joined_five 9 from9 r9 none (inr (inr (inr (inr refl)))) nine good9.each (none_five none end)))))
 
-pub alive_five : (ds : List Dataset) → IsAlive ds → AllByRecursion (λ d. IsFive d.rec) ds
+pub alive_five : (ds : List Dataset) → SectionsLive ds → AllByRecursion (λ d. IsFive d.rec) ds
 alive_five ds alive = front ds alive.0 (sections_five (ds ++ alive.0) alive.1)
 
 -- ---- the kept ones, and the subfiles
@@ -143,14 +144,14 @@ object_fits p (rest, is) =
 
 -- ---- no dataset of record 9
 
-pub no_nine : NoSectionsBeginOthers → EnvelopesEndWithTheLastRecord → (whole xs ys : List Dataset) → IsAlive whole → (AreSections whole → ⊥) → whole ≡ xs ++ ys → weight (of_record 9 ys) ≡ 0
+pub no_nine : NoSectionsBeginOthers → EnvelopesEndWithTheLastRecord → (whole xs ys : List Dataset) → SectionsLive whole → (AreSections whole → ⊥) → whole ≡ xs ++ ys → weight (of_record 9 ys) ≡ 0
 no_nine law ends whole xs [] alive unfinished is = refl
 no_nine law ends whole xs (d ∷ ys) alive unfinished is = by (no_nine law ends whole (xs ++ d ∷ []) ys alive unfinished whole_is) (nat_eq d.rec 9) refl
   where
     whole_is : whole ≡ (xs ++ d ∷ []) ++ ys
     whole_is = is ∙ sym (append_assoc xs (d ∷ []) ys)
 
-    there : IsAlive (xs ++ d ∷ [])
+    there : SectionsLive (xs ++ d ∷ [])
     there = (ys ++ alive.0, subst AreSections (ap (λ (t : List Dataset). t ++ alive.0) whole_is ∙ append_assoc (xs ++ d ∷ []) ys alive.0) alive.1)
 
     no_front : (us bs : List Dataset) → us ++ bs ≡ [] → us ≡ []
@@ -266,7 +267,7 @@ map_length (d ∷ ds) = omega (arith, map_length ds)
 
 -- the whole datasets
 pub whole_fits : NoSectionsBeginOthers → EnvelopesEndWithTheLastRecord → (limits : Limits) → limits.octets < 4294967296 → limits.fields < 4294967296 → (ds : List Dataset) (xs : List ℕ) → SpellsStream count_octets ds xs
-    → IsAlive ds → AreWithin limits ds → length (numbers_of (of_record 7 ds)) ≤ 4 → sum (lengths_of (of_record 8 ds)) ≤ 4294967295 → (AreSections ds → ⊥) → length xs < 1000000000000
+    → SectionsLive ds → AreWithin limits ds → length (numbers_of (of_record 7 ds)) ≤ 4 → sum (lengths_of (of_record 8 ds)) ≤ 4294967295 → (AreSections ds → ⊥) → length xs < 1000000000000
 whole_fits law ends limits octets fields ds xs spelled alive within few size unfinished =
     omega (
       arith,
@@ -291,16 +292,16 @@ begun_fits (InTag held) xs (is, h, tag, spelled, (rest, some, parts)) = omega (a
 begun_fits (InData h taken) xs (tag, spelled, fits, octets, is) = omega (arith, ap length is, length-append tag taken, tag_fits h tag spelled, fits, tag_low h tag spelled)
 
 -- what the place at a head says of the datasets before it
-sizes_at : (ds : List Dataset) (n : ℕ) (b c : Bool) → ObjectLives (if b then place_after (place_behind ds) (SubfileBegun n) else if c then place_ended ds else place_behind ds)
+sizes_at : (ds : List Dataset) (n : ℕ) (b c : Bool) → ObjectLives (if b then place_after (place_after_datasets ds) (SubfileBegun n) else if c then place_ended ds else place_after_datasets ds)
     → (length (numbers_of (of_record 7 ds)) ≤ 4) × (sum (lengths_of (of_record 8 ds)) ≤ 4294967295)
-sizes_at ds n true c is = (few_numbers (place_after (place_behind ds) (SubfileBegun n)) is, omega (arith, object_fits (place_after (place_behind ds) (SubfileBegun n)) is, sum_by-append (λ k. k) (lengths_of (of_record 8 ds)) (n ∷ [])))
+sizes_at ds n true c is = (few_numbers (place_after (place_after_datasets ds) (SubfileBegun n)) is, omega (arith, object_fits (place_after (place_after_datasets ds) (SubfileBegun n)) is, sum_by-append (λ k. k) (lengths_of (of_record 8 ds)) (n ∷ [])))
 sizes_at ds n false true is = (few_numbers (place_ended ds) is, object_fits (place_ended ds) is)
-sizes_at ds n false false is = (few_numbers (place_behind ds) is, object_fits (place_behind ds) is)
+sizes_at ds n false false is = (few_numbers (place_after_datasets ds) is, object_fits (place_after_datasets ds) is)
 
 pub front_fits : NoSectionsBeginOthers → EnvelopesEndWithTheLastRecord → (limits : Limits) → limits.octets < 4294967296 → limits.fields < 4294967296 → (ds : List Dataset) (begun : Begun) (xs : List ℕ) → SpellsStream count_octets ds xs
-    → MayGoOn limits ds begun → (AreSections ds → ⊥) → length xs < 1000000000000
+    → MayContinue limits ds begun → (AreSections ds → ⊥) → length xs < 1000000000000
 front_fits law ends limits octets fields ds (InTag held) xs spelled goes unfinished =
-    whole_fits law ends limits octets fields ds xs spelled goes.records goes.within (few_numbers (place_behind ds) goes.object) (object_fits (place_behind ds) goes.object) unfinished
+    whole_fits law ends limits octets fields ds xs spelled goes.records goes.within (few_numbers (place_after_datasets ds) goes.object) (object_fits (place_after_datasets ds) goes.object) unfinished
 front_fits law ends limits octets fields ds (InData h taken) xs spelled goes unfinished =
     let (d, head, (later, are)) = goes.records in
     let sizes = sizes_at ds h.count (nat_eq h.rec 8) (nat_eq h.rec 9) goes.object in
@@ -309,4 +310,4 @@ front_fits law ends limits octets fields ds (InData h taken) xs spelled goes unf
 pub bounded_octets : NoSectionsBeginOthers → EnvelopesEndWithTheLastRecord → OpenOctetsAreBounded
 bounded_octets law ends limits octets low_octets few_fields is =
     let r = is.reads in
-    omega (arith, ap length r.parts, length-append r.front r.rest, begun_fits is.begun r.rest r.is_rest, front_fits law ends limits low_octets few_fields is.whole is.begun r.front r.is_front is.goes_on.sizes is.unfinished)
+    omega (arith, ap length r.parts, length-append r.front r.rest, begun_fits is.begun r.rest r.is_rest, front_fits law ends limits low_octets few_fields is.whole is.begun r.front r.is_front is.leads_on.sizes is.unfinished)

@@ -2,35 +2,36 @@
 use Rattle.std.proofs.Common.{◌≡◌, ℕ, Bool, true, false, cond, if◌then◌else◌, nat_eq, List, [], ◌∷◌, ◌++◌, map, Option, Some, None, refl, ap, sym, subst, ◌∙◌, inl, inr, arith, append_assoc, append-nil}
 use Rattle.std.proofs.lemmas.Bool.{eqb-true}
 use Rattle.std.proofs.lemmas.Bool.Decides.{eqb_tells}
-use Rattle.iim_dataset.specs.Octets.{Octets}
-use Rattle.iim_dataset.specs.Datasets.{Dataset}
-use Rattle.iim_dataset.specs.Splits.{Begun, InTag, InData}
-use Rattle.iim_dataset.specs.Events.{Event, DataOctet, handed_on}
-use Rattle.iim_dataset.specs.Languages as languages
+use Rattle.iim_dataset.specs.Format.Octets.{Octets}
+use Rattle.iim_dataset.specs.Format.Datasets.{Dataset}
+use Rattle.iim_dataset.specs.Format.Splits.{Begun, InTag, InData}
+use Rattle.iim_dataset.specs.Format.Events.{DatasetEvent, DataOctet, handed_on}
+use Rattle.iim_dataset.specs.Format.Languages as languages
 use Rattle.iim_dataset.specs.declared.head.Head.{Head}
-use Rattle.iim_fields.specs.Checks.{begun_head}
-use Rattle.iim_fields.specs.Standing as records
-use Rattle.iim_fields.specs.Standing.{IsBetween, begun_head_of, limits_of}
+use Rattle.iim_fields.specs.Format.Checks.{begun_head}
+use Rattle.iim_fields.specs.Format.Standing as records
+use Rattle.iim_fields.specs.Format.Standing.{IsBetween, begun_head_of, limits_of}
 use Rattle.iim_fields.specs.declared.limits.Limits.{Limits}
-use Rattle.iim_fields.specs.Standing.{FieldsPlace}
-use Rattle.iim_object.specs.Events as object_events
-use Rattle.wire_story.specs.Delivery as story
-use Rattle.wire_story.specs.Tokens.{End, Octet, with_end}
-use Rattle.wire_message.specs.Layers.{MessageLanguage, MessageLivesWith, StoryLivesIn, text_so_far}
-use Rattle.wire_message.specs.Laws.{TextsStandBetweenStxAndEtx, ReadersStandAtLivingOctets}
-use Rattle.wire_message.specs.Reading as wire
-use Rattle.wire_message.specs.SoFar.{LeadTo}
+use Rattle.iim_fields.specs.Format.Standing.{FieldsPlace}
+use Rattle.iim_object.specs.Format.Events as object_events
+use Rattle.wire_story.specs.Format.Delivery as story
+use Rattle.wire_story.specs.Format.Tokens.{End, Octet, with_end}
+use Rattle.wire_message.specs.Format.Layers.{MessageLanguage, MessageLivesWith, StoryLivesIn, text_so_far}
+use Rattle.wire_message.specs.Format.Laws.{TextsStandBetweenStxAndEtx, ReadersStandAtLivingOctets}
+use Rattle.wire_message.specs.Format.Reading as wire
+use Rattle.wire_message.specs.Format.SoFar.{LeadTo}
 use Rattle.wire_message.specs.declared.place.Place.{Place}
 use Rattle.wire_message.specs.declared.fault.MessageCause.{MessageCause}
 use Rattle.wire_message.specs.declared.fault.MessageCause.TheVariants as messages
 use Rattle.iim_unpack.specs.Format.Admitted.{object_of}
-use Rattle.iim_unpack.specs.Format.Tokens.{MayGoOn}
-use Rattle.iim_unpack.specs.Format.Tokens.{GoOn, GoOnAt}
+use Rattle.iim_unpack.specs.Format.Tokens.{MayContinue}
+use Rattle.iim_unpack.specs.Format.Tokens.{CanContinue, CanContinueAt}
 use Rattle.iim_unpack.specs.Passed.{Passed, Halted}
 use Rattle.iim_unpack.specs.Passing.{octets_in-octets}
 use Rattle.iim_unpack.specs.Format.Refusals.{message_on, cause_of_message}
-use Rattle.iim_unpack.specs.Format.Open.{object_so_far, section, AllGoOn}
-use Rattle.iim_unpack.specs.Parts.{Behind, Within, StandsFor, Led, Went, CountsFor, Stopped}
+use Rattle.iim_unpack.specs.Format.Open.{object_so_far, section, AllCanContinue}
+use Rattle.iim_unpack.specs.Format.Parts.{AreAfter, Within, StandsFor, Led, CountsFor}
+use Rattle.iim_unpack.specs.Parts.{Went, WasStopped}
 use Rattle.iim_unpack.specs.declared.parts.Parts.{Parts}
 use Rattle.iim_unpack.specs.LowerLaws.{MessageLaws}
 use Rattle.iim_unpack.proofs.Lasts.{not_all}
@@ -44,7 +45,7 @@ octets_join (x ∷ xs) ys h k = (h.0, octets_join xs ys h.1 k)
 
 -- ---- the reader of the message
 
-pub passes_on : TextsStandBetweenStxAndEtx → (old new : Option Place) (o piece more : List ℕ) → wire.GoesOn old piece more new → wire.StandsAt old o (text_so_far o)
+pub passes_on : TextsStandBetweenStxAndEtx → (old new : Option Place) (o piece more : List ℕ) → wire.LeadsOn old piece more new → wire.StandsAt old o (text_so_far o)
     → wire.StandsAt new (o ++ piece) (text_so_far (o ++ piece)) × (text_so_far o ++ more ≡ text_so_far (o ++ piece))
 passes_on texts old new o piece more goes at =
     let next = goes o (text_so_far o) at in
@@ -53,7 +54,7 @@ passes_on texts old new o piece more goes at =
 
 -- ---- where the parts stand
 
-pub record InOne (p : Parts) (events : List Event) (text : List ℕ) : Type 0 where
+pub record InOne (p : Parts) (events : List DatasetEvent) (text : List ℕ) : Type 0 where
   pub ds : List Dataset
   pub h : Head
   pub taken : List ℕ
@@ -61,10 +62,10 @@ pub record InOne (p : Parts) (events : List Event) (text : List ℕ) : Type 0 wh
   pub told : events ≡ handed_on ds (InData h taken)
   pub is_text : text ≡ text_so_far (object_so_far ds (InData h taken))
 
-pub record BehindAll (p : Parts) (events : List Event) (text : List ℕ) : Type 0 where
+pub record AreAfterAll (p : Parts) (events : List DatasetEvent) (text : List ℕ) : Type 0 where
   pub ds : List Dataset
   pub held : List ℕ
-  pub behind : Behind p ds
+  pub after : AreAfter p ds
   pub told : events ≡ handed_on ds (InTag held)
   pub is_text : text ≡ text_so_far (object_of ds)
 
@@ -75,18 +76,18 @@ HasBegun p h = begun_head_of p.fields ≡ Some h
 not_both : (p : Parts) (h : Head) → IsBetween p.fields → HasBegun p h → ⊥
 not_both p h between begun = let bad : None ≡ Some h = sym (ap begun_head between.between) ∙ begun in cc
 
-pub in_one : (p : Parts) (h : Head) (events : List Event) (text : List ℕ) → HasBegun p h → Led p events text → InOne p events text
+pub in_one : (p : Parts) (h : Head) (events : List DatasetEvent) (text : List ℕ) → HasBegun p h → Led p events text → InOne p events text
 in_one p k events text begun led = by_begun led.begun led.stands led.told led.is_text
   where
     by_begun : (b : Begun) → StandsFor p led.whole b → events ≡ handed_on led.whole b → text ≡ text_so_far (object_so_far led.whole b) → InOne p events text
     by_begun (InTag held) stands told is = absurd (not_both p k stands.fields.between begun)
     by_begun (InData h taken) stands told is = record { ds = led.whole; h = h; taken = taken; within = stands; told = told; is_text = is }
 
-pub behind_all : (p : Parts) (events : List Event) (text : List ℕ) → IsBetween p.fields → Led p events text → BehindAll p events text
-behind_all p events text between led = by_begun led.begun led.stands led.told led.is_text
+pub after_all : (p : Parts) (events : List DatasetEvent) (text : List ℕ) → IsBetween p.fields → Led p events text → AreAfterAll p events text
+after_all p events text between led = by_begun led.begun led.stands led.told led.is_text
   where
-    by_begun : (b : Begun) → StandsFor p led.whole b → events ≡ handed_on led.whole b → text ≡ text_so_far (object_so_far led.whole b) → BehindAll p events text
-    by_begun (InTag held) stands told is = record { ds = led.whole; held = held; behind = stands; told = told; is_text = is }
+    by_begun : (b : Begun) → StandsFor p led.whole b → events ≡ handed_on led.whole b → text ≡ text_so_far (object_so_far led.whole b) → AreAfterAll p events text
+    by_begun (InTag held) stands told is = record { ds = led.whole; held = held; after = stands; told = told; is_text = is }
     by_begun (InData h taken) stands told is = absurd (not_both p h between (ap begun_head stands.fields.inside.1.head.inside))
 
 pub same_head : (p : Parts) (k : Head) (ds : List Dataset) (h : Head) (taken : List ℕ) → HasBegun p k → Within p ds h taken → k ≡ h
@@ -100,10 +101,10 @@ same_head p k ds h taken begun at = some-same (sym begun ∙ ap begun_head at.fi
 not_eight : (r : ℕ) → (r ≡ 8 → ⊥) → nat_eq r 8 ≡ false
 not_eight r other = elim (eqb_tells r 8) [ inl same ↦ absurd (other same.1) | inr apart ↦ apart.0 ]
 
-pub goes_behind : (p : Parts) (ds : List Dataset) → Behind p ds → GoOn (limits_of p.fields) ds
-goes_behind p ds at = record { records = at.fields.alive; within = record { kept = at.fields.within; subfiles = at.few }; object = at.object.alive }
+pub goes_after : (p : Parts) (ds : List Dataset) → AreAfter p ds → CanContinue (limits_of p.fields) ds
+goes_after p ds at = record { records = at.fields.alive; within = record { kept = at.fields.within; subfiles = at.few }; object = at.object.alive }
 
-pub goes_within : (p : Parts) (ds : List Dataset) (h : Head) (taken : List ℕ) → Within p ds h taken → GoOnAt (limits_of p.fields) ds h
+pub goes_within : (p : Parts) (ds : List Dataset) (h : Head) (taken : List ℕ) → Within p ds h taken → CanContinueAt (limits_of p.fields) ds h
 goes_within p ds h taken at = record {
   records = at.fields.alive;
   within = record { kept = at.fields.others; subfiles = at.few };
@@ -127,7 +128,7 @@ is_language reader o text whole at =
     record { object = o; head = head; text = text; trailer = wire.trailer_read reader; message = message; tokens_are = refl }
 
 all_by : ReadersStandAtLivingOctets → (limits : Limits) (ds : List Dataset) (begun : Begun) (reader : Option Place) (text : List ℕ)
-    → wire.StandsAt reader (object_so_far ds begun) text → (section ds begun ≡ 9 → wire.IsWhole reader) → MayGoOn limits ds begun → AllGoOn limits ds begun
+    → wire.StandsAt reader (object_so_far ds begun) text → (section ds begun ≡ 9 → wire.IsWhole reader) → MayContinue limits ds begun → AllCanContinue limits ds begun
 all_by living limits ds begun reader text at whole sizes =
     let both = living (object_so_far ds begun) text at.0 at.2 in
     record {
@@ -136,10 +137,10 @@ all_by living limits ds begun reader text at whole sizes =
       story = both.1;
     }
 
-pub all_behind : ReadersStandAtLivingOctets → (p : Parts) (ds : List Dataset) (held : List ℕ) → Behind p ds → AllGoOn (limits_of p.fields) ds (InTag held)
-all_behind living p ds held at = all_by living (limits_of p.fields) ds (InTag held) p.message (text_so_far (object_of ds)) at.message at.ended (goes_behind p ds at)
+pub all_after : ReadersStandAtLivingOctets → (p : Parts) (ds : List Dataset) (held : List ℕ) → AreAfter p ds → AllCanContinue (limits_of p.fields) ds (InTag held)
+all_after living p ds held at = all_by living (limits_of p.fields) ds (InTag held) p.message (text_so_far (object_of ds)) at.message at.ended (goes_after p ds at)
 
-pub all_within : ReadersStandAtLivingOctets → (p : Parts) (ds : List Dataset) (h : Head) (taken : List ℕ) → Within p ds h taken → AllGoOn (limits_of p.fields) ds (InData h taken)
+pub all_within : ReadersStandAtLivingOctets → (p : Parts) (ds : List Dataset) (h : Head) (taken : List ℕ) → Within p ds h taken → AllCanContinue (limits_of p.fields) ds (InData h taken)
 all_within living p ds h taken at =
     all_by living (limits_of p.fields) ds (InData h taken) p.message (text_so_far (object_so_far ds (InData h taken))) at.message at.ended (goes_within p ds h taken at)
 
@@ -163,7 +164,7 @@ within_other p ds h taken run checker at other octets stands =
       ended = at.ended;
     }
 
-pub went_other : {S : Type 0} (goes : S → List story.Event → S → Type 0) (failures : S → ℕ) (p : Parts) (a : S) (run : List ℕ) (checker : FieldsPlace) (k : Head) → HasBegun p k → (k.rec ≡ 8 → ⊥)
+pub went_other : {S : Type 0} (goes : S → List story.StoryEvent → S → Type 0) (failures : S → ℕ) (p : Parts) (a : S) (run : List ℕ) (checker : FieldsPlace) (k : Head) → HasBegun p k → (k.rec ≡ 8 → ⊥)
     → Octets run → goes a [] a → limits_of checker ≡ limits_of p.fields
     → ((ds : List Dataset) (h : Head) (taken : List ℕ) → records.StandsIn p.fields ds h taken → records.StandsIn checker ds h (taken ++ run))
     → Went goes failures p a (map DataOctet run) (record p { fields = checker }) a
@@ -181,7 +182,7 @@ went_other goes failures p a run checker k begun other octets g same stands = re
       record {
         whole = one.ds;
         begun = InData one.h (one.taken ++ run);
-        told = ap (λ (es : List Event). es ++ map DataOctet run) one.told ∙ data_more one.ds one.h one.taken run;
+        told = ap (λ (es : List DatasetEvent). es ++ map DataOctet run) one.told ∙ data_more one.ds one.h one.taken run;
         stands = within_other p one.ds one.h one.taken run checker one.within apart octets stands;
         is_text = append-nil text ∙ one.is_text ∙ ap text_so_far same_object;
       };
@@ -198,7 +199,7 @@ object_more ds h taken run eight =
     let yes : nat_eq h.rec 8 ≡ true = is_eight h.rec eight in
     ap (λ (b : Bool). (object_of ds ++ cond b taken []) ++ run) yes ∙ append_assoc (object_of ds) taken run ∙ sym (ap (λ (b : Bool). object_of ds ++ cond b (taken ++ run) []) yes)
 
-pub went_object : {S : Type 0} (goes : S → List story.Event → S → Type 0) (failures : S → ℕ) (p : Parts) (a b : S) (run : List ℕ) (message : Option Place) → MessageLaws → (k : Head) → HasBegun p k → k.rec ≡ 8
+pub went_object : {S : Type 0} (goes : S → List story.StoryEvent → S → Type 0) (failures : S → ℕ) (p : Parts) (a b : S) (run : List ℕ) (message : Option Place) → MessageLaws → (k : Head) → HasBegun p k → k.rec ≡ 8
     → Octets run → Passed goes failures p.message a (map object_events.ObjectOctet run) message b
     → Went goes failures p a (map DataOctet run) (record p { message = message }) b
 went_object goes failures p a b run message laws k begun eight octets passed = record {
@@ -212,13 +213,13 @@ went_object goes failures p a b run message laws k begun eight octets passed = r
       let is : one.h.rec ≡ 8 = sym (ap (λ (k : Head). k.rec) (same_head p k one.ds one.h one.taken begun at)) ∙ eight in
       let yes : nat_eq one.h.rec 8 ≡ true = is_eight one.h.rec is in
       let o : List ℕ = object_so_far one.ds (InData one.h one.taken) in
-      let goes_on : wire.GoesOn p.message run passed.more message = subst (λ (xs : List ℕ). wire.GoesOn p.message xs passed.more message) (octets_in-octets run) passed.stands in
-      let next = passes_on laws.texts p.message message o run passed.more goes_on at.message in
+      let leads_on : wire.LeadsOn p.message run passed.more message = subst (λ (xs : List ℕ). wire.LeadsOn p.message xs passed.more message) (octets_in-octets run) passed.stands in
+      let next = passes_on laws.texts p.message message o run passed.more leads_on at.message in
       let longer = object_more one.ds one.h one.taken run is in
       record {
         whole = one.ds;
         begun = InData one.h (one.taken ++ run);
-        told = ap (λ (es : List Event). es ++ map DataOctet run) one.told ∙ data_more one.ds one.h one.taken run;
+        told = ap (λ (es : List DatasetEvent). es ++ map DataOctet run) one.told ∙ data_more one.ds one.h one.taken run;
         stands = record {
           octets = octets_join one.taken run at.octets octets;
           fields = subst (records.StandsIn p.fields one.ds one.h) (ap (λ (b : Bool). cond b [] one.taken) yes ∙ sym (ap (λ (b : Bool). cond b [] (one.taken ++ run)) yes)) at.fields;
@@ -239,9 +240,9 @@ counts_for messages.LoneReturn m n h = h
 counts_for messages.ControlOctet m n h = h
 counts_for messages.Sink m n h = h
 
-pub stopped_object : {S : Type 0} (goes : S → List story.Event → S → Type 0) (failures : S → ℕ) (p : Parts) (a b : S) (front : List ℕ) (octet : ℕ) (cause : MessageCause) → MessageLaws → (k : Head) → HasBegun p k → k.rec ≡ 8
+pub stopped_object : {S : Type 0} (goes : S → List story.StoryEvent → S → Type 0) (failures : S → ℕ) (p : Parts) (a b : S) (front : List ℕ) (octet : ℕ) (cause : MessageCause) → MessageLaws → (k : Head) → HasBegun p k → k.rec ≡ 8
     → Halted goes failures p.message a (map object_events.ObjectOctet front) (object_events.ObjectOctet octet) (Some cause) b
-    → Stopped goes failures p a (map DataOctet front) (DataOctet octet) (Some (message_on k cause)) b
+    → WasStopped goes failures p a (map DataOctet front) (DataOctet octet) (Some (message_on k cause)) b
 stopped_object goes failures p a b front octet cause laws k begun eight halted =
     let same : halted.why ≡ cause = sym (some-same halted.is_cause) in
     record {
@@ -268,9 +269,9 @@ stopped_object goes failures p a b front octet cause laws k begun eight halted =
           record {
             whole = one.ds;
             begun = InData one.h (one.taken ++ front);
-            told = ap (λ (es : List Event). es ++ map DataOctet front) one.told ∙ data_more one.ds one.h one.taken front;
+            told = ap (λ (es : List DatasetEvent). es ++ map DataOctet front) one.told ∙ data_more one.ds one.h one.taken front;
             is_text = ap (λ (x : List ℕ). x ++ halted.more) one.is_text ∙ laws.texts (o ++ front) (t ++ halted.more) next.0 led_to ∙ ap text_so_far longer;
-            goes_on = record {
+            leads_on = record {
               sizes = goes_within p one.ds one.h one.taken at;
               message = lives_on (object_so_far one.ds (InData one.h (one.taken ++ front))) (nat_eq one.h.rec 9) not_nine (subst MessageLivesWith longer both.0);
               story = subst StoryLivesIn longer both.1;

@@ -3,41 +3,42 @@ use Rattle.std.proofs.Common.{◌≡◌, ℕ, ◌<◌, ◌≤◌, ◌⊎◌, Boo
 use Rattle.std.proofs.lemmas.List.Concat.{flat_map-append}
 use Rattle.std.proofs.lemmas.List.Elements.{filter-append}
 use Rattle.std.proofs.lemmas.Bool.Decides.{eqb_tells}
-use Rattle.iim_dataset.specs.Octets.{number}
-use Rattle.iim_dataset.specs.Datasets.{Dataset, head_of}
-use Rattle.iim_dataset.specs.Splits.{InTag, InData}
-use Rattle.iim_dataset.specs.Events.{Event, DatasetEnd}
+use Rattle.iim_dataset.specs.Format.Octets.{number}
+use Rattle.iim_dataset.specs.Format.Datasets.{Dataset, head_of, of_record}
+use Rattle.iim_dataset.specs.Format.Splits.{InTag, InData}
+use Rattle.iim_dataset.specs.Format.Events.{DatasetEvent, DatasetEnd}
 use Rattle.iim_dataset.specs.declared.head.Head.{Head}
-use Rattle.iim_fields.specs.Alive.{IsAliveAt}
-use Rattle.iim_fields.specs.Faults.{present_record, joined}
-use Rattle.iim_fields.specs.Standing as records
-use Rattle.iim_fields.specs.Checks.{IsValueFault}
-use Rattle.iim_fields.specs.Standing.{IsOf, limits_of}
-use Rattle.iim_fields.specs.Values.{data_of, tells_number, number_told}
-use Rattle.iim_fields.specs.Laws.{NoSectionsBeginOthers}
-use Rattle.iim_fields.specs.Standing.{FieldsPlace}
+use Rattle.iim_fields.specs.Format.Alive.{SectionsLiveAt}
+use Rattle.iim_fields.specs.Format.Faults.{present_record, joined}
+use Rattle.iim_fields.specs.Format.Standing as records
+use Rattle.iim_fields.specs.Format.Checks.{IsValueFault}
+use Rattle.iim_fields.specs.Format.Standing.{IsOf, limits_of}
+use Rattle.iim_fields.specs.Format.Values.{data_of, tells_number, number_told}
+use Rattle.iim_fields.specs.Format.Laws.{NoSectionsBeginOthers}
+use Rattle.iim_fields.specs.Format.Standing.{FieldsPlace}
 use Rattle.iim_fields.specs.declared.fault.FieldFault.{FieldFault}
-use Rattle.iim_object.specs.Plans.{max_subfiles}
-use Rattle.iim_object.specs.Places.{value_token}
-use Rattle.iim_object.specs.Reading as objects
-use Rattle.iim_object.specs.Behind.{of_record, place_behind}
-use Rattle.wire_message.specs.Layers.{text_so_far}
-use Rattle.wire_message.specs.Laws.{ReadersStandAtLivingOctets}
-use Rattle.wire_message.specs.Reading as wire
+use Rattle.iim_object.specs.Format.Plans.{max_subfiles}
+use Rattle.iim_object.specs.Format.Places.{value_token}
+use Rattle.iim_object.specs.Format.Reading as objects
+use Rattle.iim_object.specs.Format.Numbers.{place_after_datasets}
+use Rattle.wire_message.specs.Format.Layers.{text_so_far}
+use Rattle.wire_message.specs.Format.Laws.{ReadersStandAtLivingOctets}
+use Rattle.wire_message.specs.Format.Reading as wire
 use Rattle.iim_unpack.specs.Format.Admitted.{object_of}
 use Rattle.iim_unpack.specs.Format.Tokens.{place_at, IsRefusedValue}
 use Rattle.iim_unpack.specs.Format.Refusals.{of_field, IsObjectFault}
 use Rattle.iim_unpack.specs.Format.Open.{object_so_far}
-use Rattle.iim_unpack.specs.Parts.{Behind, Within, CountsFor, Closed, NotClosed}
+use Rattle.iim_unpack.specs.Format.Parts.{AreAfter, Within, CountsFor}
+use Rattle.iim_unpack.specs.Parts.{Closed, NotClosed}
 use Rattle.iim_unpack.specs.declared.parts.Parts.{Parts}
-use Rattle.iim_unpack.specs.declared.fault.Fault.{Fault}
+use Rattle.iim_unpack.specs.declared.fault.TokenFault.{TokenFault}
 use Rattle.iim_unpack.proofs.Faults.{field_value, object_value}
 use Rattle.iim_unpack.proofs.Places.{number_leads, silent_leads, one_more}
 use Rattle.iim_unpack.proofs.Carrying.{HasBegun, in_one, same_head, all_within}
 use Rattle.iim_unpack.proofs.Sequences.{end_told, all_came}
 use Rattle.iim_unpack.proofs.Heading.{quiet_field, counts_size}
 use Rattle.iim_unpack.proofs.Lasts.{present_last, not_all}
-use Rattle.iim_fields.specs.Laws.{NoSectionsBeginOthers}
+use Rattle.iim_fields.specs.Format.Laws.{NoSectionsBeginOthers}
 use Rattle.iim_unpack.specs.LowerLaws.{CloseLaws}
 
 -- ---- lists
@@ -75,11 +76,11 @@ few_more ds d few room = elim (eqb_tells d.rec 8) [
 
 -- The end of the dataset was taken by the records and by the object.
 pub record Ends (new : Parts) (ds : List Dataset) (d : Dataset) : Type 0 where
-  pub fields : records.StandsBehind new.fields (ds ++ d ∷ [])
-  pub object : objects.StandsAt new.object (place_behind (ds ++ d ∷ []))
+  pub fields : records.StandsAfter new.fields (ds ++ d ∷ [])
+  pub object : objects.StandsAt new.object (place_after_datasets (ds ++ d ∷ []))
 
-behind_end : (p new : Parts) (ds : List Dataset) (h : Head) (taken : List ℕ) → Within p ds h taken → length taken ≡ h.count → Ends new ds (data_of h taken) → new.message ≡ p.message → Behind new (ds ++ data_of h taken ∷ [])
-behind_end p new ds h taken at whole ends message =
+after_data : (p new : Parts) (ds : List Dataset) (h : Head) (taken : List ℕ) → Within p ds h taken → length taken ≡ h.count → Ends new ds (data_of h taken) → new.message ≡ p.message → AreAfter new (ds ++ data_of h taken ∷ [])
+after_data p new ds h taken at whole ends message =
     let d : Dataset = data_of h taken in
     let present : present_record (ds ++ d ∷ []) ≡ h.rec = present_last 0 ds d in
     let object : object_so_far ds (InData h taken) ≡ object_of (ds ++ d ∷ []) = sym (object_of_more ds d) in
@@ -102,8 +103,8 @@ closed_by p new k begun same message ends = record {
       record {
         whole = one.ds ++ data_of one.h one.taken ∷ [];
         begun = InTag [];
-        told = ap (λ (es : List Event). es ++ DatasetEnd ∷ []) one.told ∙ end_told one.ds one.h one.taken whole;
-        stands = behind_end p new one.ds one.h one.taken at whole (ends one.ds one.h one.taken at whole) message;
+        told = ap (λ (es : List DatasetEvent). es ++ DatasetEnd ∷ []) one.told ∙ end_told one.ds one.h one.taken whole;
+        stands = after_data p new one.ds one.h one.taken at whole (ends one.ds one.h one.taken at whole) message;
         is_text = one.is_text ∙ ap text_so_far (sym (object_of_more one.ds (data_of one.h one.taken)));
       };
 }
@@ -122,10 +123,10 @@ is_of ds p h taken at whole = record {
 
 abbrev pub ClosesFields : FieldsPlace → FieldsPlace → Option ℕ → Type 0
 ClosesFields old new told = (ds : List Dataset) (h : Head) (taken : List ℕ) → records.StandsIn old ds h taken → (d : Dataset) → IsOf h taken d
-    → records.StandsBehind new (ds ++ d ∷ []) × (told ≡ number_told d)
+    → records.StandsAfter new (ds ++ d ∷ []) × (told ≡ number_told d)
 
 pub closed_number : CloseLaws → (p new : Parts) (n : ℕ) (k : Head) → HasBegun p k → limits_of new.fields ≡ limits_of p.fields → ClosesFields p.fields new.fields (Some n)
-    → objects.GoesOn p.object (value_token k.rec k.set n) new.object → new.message ≡ p.message → Closed p new
+    → objects.LeadsOn p.object (value_token k.rec k.set n) new.object → new.message ≡ p.message → Closed p new
 closed_number laws p new n k begun same closes goes message =
     closed_by p new k begun same message
     (λ ds h taken at whole.
@@ -134,8 +135,8 @@ closed_number laws p new n k begun same closes goes message =
     let tells = number_tells d n both.1 in
     let leads = number_leads laws.objects ds d both.0.alive tells.0 in
     let head : head_of d ≡ h = λ i. record { rec = h.rec; set = h.set; count = whole i } in
-    let goes_d : objects.GoesOn p.object (value_token d.rec d.set (number d.octets)) new.object =
-    subst (λ (m : ℕ). objects.GoesOn p.object (value_token d.rec d.set m) new.object) tells.1 (subst (λ (x : Head). objects.GoesOn p.object (value_token x.rec x.set n) new.object) (same_head p k ds h taken begun at) goes) in
+    let goes_d : objects.LeadsOn p.object (value_token d.rec d.set (number d.octets)) new.object =
+    subst (λ (m : ℕ). objects.LeadsOn p.object (value_token d.rec d.set m) new.object) tells.1 (subst (λ (x : Head). objects.LeadsOn p.object (value_token x.rec x.set n) new.object) (same_head p k ds h taken begun at) goes) in
     record {
       fields = both.0;
       object = subst (objects.StandsAt new.object) leads.1 (goes_d (place_at ds (head_of d)) (subst (λ (k : Head). objects.StandsAt p.object (place_at ds k)) (sym head) at.object) leads.0);
@@ -161,7 +162,7 @@ closed_silent laws p checker k begun same closes =
 
 -- ---- refusals
 
-not_closed_by : (p : Parts) (fault : Fault) → ReadersStandAtLivingOctets → NoSectionsBeginOthers → (k : Head) → HasBegun p k → ((n : ℕ) → CountsFor fault.cause n n)
+not_closed_by : (p : Parts) (fault : TokenFault) → ReadersStandAtLivingOctets → NoSectionsBeginOthers → (k : Head) → HasBegun p k → ((n : ℕ) → CountsFor fault.cause n n)
     → ((ds : List Dataset) (h : Head) (taken : List ℕ) → Within p ds h taken → length taken ≡ h.count → (h.rec ≡ 8 → ⊥) × IsRefusedValue ds (data_of h taken) fault) → NotClosed p fault
 not_closed_by p fault living sections k begun quiet refuses = record {
   quiet = quiet;
@@ -173,7 +174,7 @@ not_closed_by p fault living sections k begun quiet refuses = record {
         begun = InData one.h one.taken;
         told = one.told;
         is_text = one.is_text;
-        goes_on = all_within living p one.ds one.h one.taken at;
+        leads_on = all_within living p one.ds one.h one.taken at;
         unfinished = not_all sections one.ds one.h at.fields.alive;
         refuses = refuses one.ds one.h one.taken at (all_came before one.ds one.h one.taken one.told order);
       };
@@ -191,18 +192,18 @@ not_closed_field living sections p f k begun is =
     let apart : nat_eq h.rec 8 ≡ false = elim (eqb_tells h.rec 8) [ inl same ↦ absurd (given.value same.1) | inr other ↦ other.0 ] in
     (given.value, field_value ds (data_of h taken) f (subst (λ (xs : List ℕ). IsValueFault ds (data_of h xs) f) (ap (λ (b : Bool). cond b [] taken) apart) given)))
 
-pub not_closed_number : CloseLaws → (p : Parts) (checker : FieldsPlace) (n : ℕ) (fault : Fault) (k : Head) → HasBegun p k → ClosesFields p.fields checker (Some n)
+pub not_closed_number : CloseLaws → (p : Parts) (checker : FieldsPlace) (n : ℕ) (fault : TokenFault) (k : Head) → HasBegun p k → ClosesFields p.fields checker (Some n)
     → IsObjectFault p.object (value_token k.rec k.set n) k fault → NotClosed p fault
 not_closed_number laws p checker n fault k begun closes bad =
     not_closed_by p fault laws.living laws.sections k begun
-    (λ m. subst (λ (f : Fault). CountsFor f.cause m m) (sym bad.2) (counts_size bad.0 m m refl))
+    (λ m. subst (λ (f : TokenFault). CountsFor f.cause m m) (sym bad.2) (counts_size bad.0 m m refl))
     (λ ds h taken at whole.
     let d : Dataset = data_of h taken in
     let both = closes ds h (if nat_eq h.rec 8 then [] else taken) at.fields d (is_of ds p h taken at whole) in
     let tells = number_tells d n both.1 in
     let head : head_of d ≡ h = λ i. record { rec = h.rec; set = h.set; count = whole i } in (
       not_subfile h.rec tells.0,
-      object_value laws.values laws.objects.tokens ds d fault p.object at.octets (subst (IsAliveAt ds) (sym head) at.fields.alive) both.0.alive tells.0 (number_leads laws.objects ds d both.0.alive tells.0)
+      object_value laws.values laws.objects.tokens ds d fault p.object at.octets (subst (SectionsLiveAt ds) (sym head) at.fields.alive) both.0.alive tells.0 (number_leads laws.objects ds d both.0.alive tells.0)
           (subst (λ (k : Head). objects.StandsAt p.object (place_at ds k)) (sym head) at.object)
           (subst (λ (m : ℕ). IsObjectFault p.object (value_token d.rec d.set m) (head_of d) fault) tells.1
           (subst (λ (x : Head). IsObjectFault p.object (value_token x.rec x.set n) x fault) (same_head p k ds h taken begun at ∙ sym head) bad)),

@@ -1,33 +1,33 @@
 -- Octets that lead to one place continue alike.
 use Rattle.std.proofs.Common.{◌≡◌, ℕ, ◌+◌, nat_eq, cond, if◌then◌else◌, Bool, true, false, List, [], ◌∷◌, ◌++◌, length, map, Some, None, refl, ap, sym, subst, ◌∙◌, inl, inr, arith, append_assoc, append-nil}
-use Rattle.iim_dataset.specs.Languages as languages
-use Rattle.iim_dataset.specs.Octets.{number}
-use Rattle.iim_dataset.specs.Datasets.{Dataset, SpellsStream, count_octets}
-use Rattle.iim_dataset.specs.Splits.{Begun, InTag, InData, Reads}
+use Rattle.iim_dataset.specs.Format.Languages as languages
+use Rattle.iim_dataset.specs.Format.Octets.{number}
+use Rattle.iim_dataset.specs.Format.Datasets.{Dataset, SpellsStream, count_octets, of_record}
+use Rattle.iim_dataset.specs.Format.Splits.{Begun, InTag, InData, Reads}
 use Rattle.iim_dataset.specs.declared.head.Head.{Head}
-use Rattle.iim_fields.specs.Alive.{IsAlive, IsAliveAt}
-use Rattle.iim_fields.specs.Faults.{kept, present_record}
-use Rattle.iim_fields.specs.Records.{AreSections}
+use Rattle.iim_fields.specs.Format.Alive.{SectionsLive, SectionsLiveAt}
+use Rattle.iim_fields.specs.Format.Faults.{kept, present_record}
+use Rattle.iim_fields.specs.Format.Records.{AreSections}
 use Rattle.iim_fields.specs.declared.limits.Limits.{Limits}
-use Rattle.iim_object.specs.Behind.{ending_of, of_record}
-use Rattle.iim_object.specs.Objects.{ObjectLanguage, SubfileBegun, number_tokens}
-use Rattle.iim_object.specs.Places.{ConfirmedAs, Ending, ending_tokens}
-use Rattle.iim_object.specs.Records.{HaveSizes, numbers_of}
-use Rattle.iim_object.specs.Sizes.{mode_number, number_at}
+use Rattle.iim_object.specs.Format.Numbers.{ending_of}
+use Rattle.iim_object.specs.Format.Objects.{ObjectLanguage, SubfileBegun, number_tokens}
+use Rattle.iim_object.specs.Format.Places.{ConfirmedAs, Ending, ending_tokens}
+use Rattle.iim_object.specs.Format.Records.{HaveSizes, numbers_of}
+use Rattle.iim_object.specs.Format.Sizes.{mode_number, number_at}
 use Rattle.iim_object.specs.declared.size.Sizes.{Sizes}
-use Rattle.wire_story.specs.Delivery as story
-use Rattle.wire_message.specs.Layers.{text_so_far}
-use Rattle.wire_message.specs.Saved.{LeadToSaved}
-use Rattle.wire_message.specs.SoFar.{LeadTo}
+use Rattle.wire_story.specs.Format.Delivery as story
+use Rattle.wire_message.specs.Format.Layers.{text_so_far}
+use Rattle.wire_message.specs.Format.Saved.{LeadToSaved}
+use Rattle.wire_message.specs.Format.SoFar.{LeadTo}
 use Rattle.wire_message.specs.declared.saved.MessagePlace.{MessagePlace}
 use Rattle.wire_message.specs.declared.place.Place.TheVariants as at_message
 use Rattle.iim_unpack.specs.Format.Admitted.{Value, Admits, object_of}
 use Rattle.iim_unpack.specs.ByLayers.{are_ended}
 use Rattle.iim_unpack.specs.Format.Continuing.{AreAlike, ContinueAlike, PlacesContinueAlike}
 use Rattle.iim_unpack.specs.Format.Laws.{NoAdmittedOctetsBeginOthers}
-use Rattle.iim_unpack.specs.Format.Open.{AllGoOn, object_so_far}
+use Rattle.iim_unpack.specs.Format.Open.{AllCanContinue, object_so_far}
 use Rattle.iim_unpack.specs.Format.Streams.{IsEnvelopeWithin}
-use Rattle.iim_unpack.specs.Format.Tokens.{GoOn}
+use Rattle.iim_unpack.specs.Format.Tokens.{CanContinue}
 use Rattle.iim_unpack.specs.Format.Tickets.{Place, TagBegun, AllEnded, IsPlaceOf, heads_of, phase_of, place_of}
 use Rattle.iim_unpack.specs.Format.Open.{Adds, IsOpen, IsTextOf, OpenOctetsBeginWithNoEnvelope}
 use Rattle.iim_unpack.specs.LowerLaws.{OnwardLaws}
@@ -37,7 +37,7 @@ use Rattle.iim_unpack.proofs.LayersLead.{sizes_of}
 use Rattle.iim_unpack.proofs.Lasts.{last_sections, sections_last}
 use Rattle.iim_unpack.proofs.Onward.{Pair, ReadAlike, bounded_of, data_on, given_as, tag_on}
 use Rattle.iim_unpack.proofs.SamePlace.{SameAll, SameBegun, SameData, SameMessage, count_as, held_open, opened, same_begun, same_message, total_as}
-use Rattle.iim_unpack.proofs.SameRecords.{AreTens, SameNumbers, nines, same_numbers, same_records, stated_behind, tens_behind}
+use Rattle.iim_unpack.proofs.SameRecords.{AreTens, SameNumbers, nines, same_numbers, same_records, stated_after_all, tens_after}
 use Rattle.iim_unpack.proofs.Tickets.{count_of, total_of}
 use Rattle.iim_unpack.proofs.Twins.{Twins, eights, sevens}
 
@@ -47,7 +47,7 @@ none_left : (xs : List Dataset) → length xs ≡ 0 → xs ≡ []
 none_left [] e = refl
 none_left (x ∷ xs) e = absurd (omega (arith, e))
 
-no_nine : OnwardLaws → (ds : List Dataset) → IsAlive ds → nat_eq (present_record ds) 9 ≡ false → of_record 9 ds ≡ []
+no_nine : OnwardLaws → (ds : List Dataset) → SectionsLive ds → nat_eq (present_record ds) 9 ≡ false → of_record 9 ds ≡ []
 no_nine laws ds alive open' = none_left (of_record 9 ds) (nines laws.opens.answer.follow ds alive ∙ ap (λ (b : Bool). cond b 1 0) open')
 
 heads_as : (ds es : List Dataset) (c d : Begun) → SameBegun c d → heads_of ds c ≡ heads_of es d → length (of_record 8 ds) ≡ length (of_record 8 es)
@@ -111,18 +111,18 @@ open_pair laws limits p q place is are opens goes =
 -- ---- what follows is read alike
 
 abbrev pub Onward : Limits → List ℕ → List ℕ → List Dataset → List Dataset → Begun → Begun → List ℕ → Type 0
-Onward limits p q ds es c d more = (W : List Dataset) (b : Begun) → Reads (p ++ more) W b → AllGoOn limits W b → ReadAlike limits (q ++ more) (object_so_far ds c) (object_so_far es d) W b
+Onward limits p q ds es c d more = (W : List Dataset) (b : Begun) → Reads count_octets (p ++ more) W b → AllCanContinue limits W b → ReadAlike limits (q ++ more) (object_so_far ds c) (object_so_far es d) W b
 
-on_data : OnwardLaws → (limits : Limits) (p q : List ℕ) (ds es : List Dataset) (h k : Head) (t v : List ℕ) → h ≡ k → Reads p ds (InData h t) → Reads q es (InData k v) → SameData h t k v → Pair limits ds es (InData h t) (InData k v) → (more : List ℕ)
+on_data : OnwardLaws → (limits : Limits) (p q : List ℕ) (ds es : List Dataset) (h k : Head) (t v : List ℕ) → h ≡ k → Reads count_octets p ds (InData h t) → Reads count_octets q es (InData k v) → SameData h t k v → Pair limits ds es (InData h t) (InData k v) → (more : List ℕ)
     → Onward limits p q ds es (InData h t) (InData k v) more
 on_data laws limits p q ds es h k t v e r s same pair more =
-    subst (λ (x : Head). Reads q es (InData x v) → SameData h t x v → Pair limits ds es (InData h t) (InData x v) → Onward limits p q ds es (InData h t) (InData x v) more) e
+    subst (λ (x : Head). Reads count_octets q es (InData x v) → SameData h t x v → Pair limits ds es (InData h t) (InData x v) → Onward limits p q ds es (InData h t) (InData x v) more) e
     (λ s same pair W b w goes. data_on laws limits p q more ds es h t v r s (same.many, given_as (nat_eq h.rec 8) t v same.given) pair W b w goes) s same pair
 
-on_as : OnwardLaws → (limits : Limits) (p q : List ℕ) (ds es : List Dataset) (c d : Begun) → Reads p ds c → Reads q es d → OpenPair limits ds es c d → (more : List ℕ) → Onward limits p q ds es c d more
+on_as : OnwardLaws → (limits : Limits) (p q : List ℕ) (ds es : List Dataset) (c d : Begun) → Reads count_octets p ds c → Reads count_octets q es d → OpenPair limits ds es c d → (more : List ℕ) → Onward limits p q ds es c d more
 on_as laws limits p q ds es (InTag x) (InTag y) r s both more W b w goes =
     let pair = both.pair in
-    tag_on laws limits p q more ds es x r (subst (λ (l : List ℕ). Reads q es (InTag l)) (sym both.begun) s)
+    tag_on laws limits p q more ds es x r (subst (λ (l : List ℕ). Reads count_octets q es (InTag l)) (sym both.begun) s)
     (record { present = pair.section_is; twins = pair.twins; alive = pair.there.sizes.records; message = pair.message }) W b w goes
 on_as laws limits p q ds es (InTag x) (InData k v) r s both more W b w goes = absurd both.begun
 on_as laws limits p q ds es (InData h t) (InTag y) r s both more W b w goes = absurd both.begun
@@ -133,7 +133,7 @@ on_open laws limits p q place is are opens goes more = on_as laws limits p q is.
 
 -- ---- open octets
 
-no_sections_inside : OnwardLaws → (ds : List Dataset) (h : Head) → IsAliveAt ds h → AreSections ds → ⊥
+no_sections_inside : OnwardLaws → (ds : List Dataset) (h : Head) → SectionsLiveAt ds h → AreSections ds → ⊥
 no_sections_inside laws ds h (d, is, (later, alive)) sections =
     let none : d ∷ later ≡ [] = laws.opens.answer.follow.sections ds (d ∷ later) sections (subst AreSections (append_assoc ds (d ∷ []) later) alive) in
     absurd cc
@@ -151,7 +151,7 @@ open_as laws limits q o r p opens read = record {
   whole = read.whole;
   begun = read.begun;
   reads = read.reads;
-  goes_on = read.pair.there;
+  leads_on = read.pair.there;
   unfinished = unfinished_as laws limits opens.whole read.whole opens.begun read.begun read.pair opens.unfinished;
 }
 
@@ -193,12 +193,12 @@ one_nine [] one tens = absurd (omega (arith, one))
 one_nine (d ∷ []) one tens = (number d.octets, refl, ap (λ (set : ℕ). cond (nat_eq set 10) (Some (number d.octets)) None) tens.0)
 one_nine (d ∷ x ∷ xs) one tens = absurd (omega (arith, one))
 
-sized : OnwardLaws → (limits : Limits) (es : List Dataset) → GoOn limits es → present_record es ≡ 9 → Sized es
+sized : OnwardLaws → (limits : Limits) (es : List Dataset) → CanContinue limits es → present_record es ≡ 9 → Sized es
 sized laws limits es goes nine =
     let follow = laws.opens.answer.follow in
-    let stated = stated_behind follow.objects es goes.records goes.within.subfiles in
+    let stated = stated_after_all follow.objects es goes.records goes.within.subfiles in
     let one : length (of_record 9 es) ≡ 1 = nines follow es goes.records ∙ ap (λ (n : ℕ). cond (nat_eq n 9) 1 0) nine in
-    let (n, ending, confirmed) = one_nine (of_record 9 es) one (tens_behind laws.opens.answer.numbers es goes.records).1 in
+    let (n, ending, confirmed) = one_nine (of_record 9 es) one (tens_after laws.opens.answer.numbers es goes.records).1 in
     let (s, have) = sizes_of laws.opens.sizes (sevens es) (of_record 7 es) (of_record 8 es) (of_record 9 es) n refl stated.stated stated.duties (λ none. sym ending ∙ stated.subfiles none)
     (subst (λ (e : Ending). languages.IsAlive ObjectLanguage (number_tokens (sevens es) ++ (map SubfileBegun (eights es) ++ ending_tokens e))) ending goes.object) confirmed in
     record { sizes = s; have = have }
@@ -209,7 +209,7 @@ ended_at laws octets v a r m =
     let same : m.at ≡ at_message.AfterEnd v.head (record { items = v.trailer }) (length a.message.after) = (laws.places.one_place (object_of a.datasets) m.text a.text m.at _ m.here (leads_to octets v a)).1 in
     subst (LeadTo r m.other) same m.there
 
-pub whole_as : OnwardLaws → (limits : Limits) (octets others : List ℕ) (v : Value) (a : Admits octets v) (es : List Dataset) → Reads others es (InTag []) → SameEnvelope a.datasets es → GoOn limits es → present_record es ≡ 9
+pub whole_as : OnwardLaws → (limits : Limits) (octets others : List ℕ) (v : Value) (a : Admits octets v) (es : List Dataset) → Reads count_octets others es (InTag []) → SameEnvelope a.datasets es → CanContinue limits es → present_record es ≡ 9
     → (w : Value) × IsEnvelopeWithin limits others w × AreAlike v w
 whole_as laws limits octets others v a es reads same goes nine =
     let led = ended_at laws octets v a (object_of es) same.message in
@@ -238,12 +238,12 @@ envelope_as laws limits p q o r v is read = by read.begun read.reads read.pair
     ds : List Dataset
     ds = is.admits.datasets
 
-    by : (c : Begun) → Reads q read.whole c → Pair limits ds read.whole (InTag []) c → (w : Value) × IsEnvelopeWithin limits q w × AreAlike v w
+    by : (c : Begun) → Reads count_octets q read.whole c → Pair limits ds read.whole (InTag []) c → (w : Value) × IsEnvelopeWithin limits q w × AreAlike v w
     by (InTag held) reads pair =
         let alive = pair.here.sizes.records in
         let nine = sections_last laws.opens.answer.follow.ends ds alive is.admits.sections in
         let twins = pair.twins in
-        whole_as laws limits p q v is.admits read.whole (subst (λ (l : List ℕ). Reads q read.whole (InTag l)) (sym pair.begun) reads)
+        whole_as laws limits p q v is.admits read.whole (subst (λ (l : List ℕ). Reads count_octets q read.whole (InTag l)) (sym pair.begun) reads)
         (record {
           fields = twins.fields;
           numbers = twins.numbers;
@@ -256,7 +256,7 @@ envelope_as laws limits p q o r v is read = by read.begun read.reads read.pair
 
 -- ---- the text
 
-text_of : OnwardLaws → (p : List ℕ) (ds : List Dataset) (c : Begun) → Reads p ds c → (text : List ℕ) → IsTextOf p text → text ≡ text_so_far (object_so_far ds c)
+text_of : OnwardLaws → (p : List ℕ) (ds : List Dataset) (c : Begun) → Reads count_octets p ds c → (text : List ℕ) → IsTextOf p text → text ≡ text_so_far (object_so_far ds c)
 text_of laws p ds c reads text (whole, begun, other, is) =
     let same = one_reading laws.opens.answer p whole ds begun c other reads in
     is ∙ ap (λ (zs : List Dataset). text_so_far (object_so_far zs begun)) same.whole_is ∙ ap (λ (b : Begun). text_so_far (object_so_far ds b)) same.begun_is
@@ -265,8 +265,8 @@ cancel : (t x y : List ℕ) → t ++ x ≡ t ++ y → x ≡ y
 cancel [] x y e = e
 cancel (a ∷ t) x y e = cancel t x y (let tails : t ++ x ≡ t ++ y = cc in tails)
 
-pub adds_as : OnwardLaws → (limits : Limits) (p q more : List ℕ) (ds es : List Dataset) (c d : Begun) → Reads p ds c → Reads q es d → SameMessage (object_so_far ds c) (object_so_far es d) → (W : List Dataset) (b : Begun) → Reads (p ++ more) W b
-    → ReadAlike limits (q ++ more) (object_so_far ds c) (object_so_far es d) W b → (events : List story.Event) → Adds p more events → Adds q more events
+pub adds_as : OnwardLaws → (limits : Limits) (p q more : List ℕ) (ds es : List Dataset) (c d : Begun) → Reads count_octets p ds c → Reads count_octets q es d → SameMessage (object_so_far ds c) (object_so_far es d) → (W : List Dataset) (b : Begun) → Reads count_octets (p ++ more) W b
+    → ReadAlike limits (q ++ more) (object_so_far ds c) (object_so_far es d) W b → (events : List story.StoryEvent) → Adds p more events → Adds q more events
 adds_as laws limits p q more ds es c d r s m W b w read events adds text is =
     let o = object_so_far ds c in
     let x = object_so_far es d in
@@ -296,11 +296,11 @@ both_open laws limits p q place is are opens goes more =
     let r = object_so_far are.whole are.begun in
     let answer = laws.opens.answer in
     record {
-      are_open = λ open'. open_as laws limits (q ++ more) o r (p ++ more) open' (on open'.whole open'.begun open'.reads open'.goes_on);
+      are_open = λ open'. open_as laws limits (q ++ more) o r (p ++ more) open' (on open'.whole open'.begun open'.reads open'.leads_on);
       are_whole = λ v whole. envelope_as laws limits (p ++ more) (q ++ more) o r v whole (on whole.admits.datasets (InTag []) (reads_envelope (p ++ more) v whole.admits) (goes_envelope answer limits (p ++ more) v whole));
       add = λ events comes.
           let lives : Lives limits (p ++ more) = (elim comes [ inl open' ↦ lives_open limits (p ++ more) open' | inr (v, whole) ↦ lives_envelope answer limits (p ++ more) v whole ]) in
-          adds_as laws limits p q more is.whole are.whole is.begun are.begun is.reads are.reads all.message lives.whole lives.begun lives.reads (on lives.whole lives.begun lives.reads lives.goes_on) events;
+          adds_as laws limits p q more is.whole are.whole is.begun are.begun is.reads are.reads all.message lives.whole lives.begun lives.reads (on lives.whole lives.begun lives.reads lives.leads_on) events;
     }
 
 -- where an envelope has ended

@@ -1,12 +1,12 @@
 -- Whether the last dataset has ended.
 use Rattle.std.proofs.Common.{◌≡◌, ℕ, ◌&&◌, Bool, true, false, not, nat_eq, is_none, is_some, List, Option, Some, None, refl, ap, sym, ◌∙◌, inl, inr}
 use Rattle.std.proofs.lemmas.Bool.Decides.{eqb_tells}
-use Rattle.iim_dataset.specs.Datasets.{Dataset}
+use Rattle.iim_dataset.specs.Format.Datasets.{Dataset}
 use Rattle.iim_dataset.specs.declared.head.Head.{Head}
-use Rattle.iim_fields.specs.Checks.{begun_head, present_at}
-use Rattle.iim_fields.specs.Faults.{present_record}
-use Rattle.iim_fields.specs.Standing.{IsInside, StandsBehind, begun_head_of, section_of}
-use Rattle.iim_unpack.specs.Parts.{has_ended}
+use Rattle.iim_fields.specs.Format.Checks.{begun_head, present_at}
+use Rattle.iim_fields.specs.Format.Faults.{present_record}
+use Rattle.iim_fields.specs.Format.Standing.{IsInside, StandsAfter, begun_head_of, section_of}
+use Rattle.iim_unpack.specs.Format.Parts.{has_ended}
 use Rattle.iim_unpack.specs.declared.parts.Parts.{Parts}
 
 and_true : (b : Bool) → (b && true) ≡ b
@@ -17,9 +17,9 @@ and_false : (b : Bool) → (b && false) ≡ false
 and_false true = refl
 and_false false = refl
 
-pub ended_behind : (p : Parts) (ds : List Dataset) → StandsBehind p.fields ds → has_ended p ≡ nat_eq (present_record ds) 9
+pub ended_by_record : (p : Parts) (ds : List Dataset) → StandsAfter p.fields ds → has_ended p ≡ nat_eq (present_record ds) 9
 unfolding has_ended
-ended_behind p ds at =
+ended_by_record p ds at =
     let none : begun_head_of p.fields ≡ None = ap begun_head at.between.between in
     let present : section_of p.fields ≡ present_record ds = ap present_at at.checked.at ∙ at.checked.tells.present in
     ap (λ (h : Option Head). nat_eq (section_of p.fields) 9 && is_none h) none ∙ and_true (nat_eq (section_of p.fields) 9) ∙ ap (λ n. nat_eq n 9) present

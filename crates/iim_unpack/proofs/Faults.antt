@@ -2,35 +2,35 @@
 use Rattle.std.proofs.Common.{◌≡◌, ℕ, ◌+◌, ◌<◌, ◌≤◌, ◌⊎◌, Bool, true, false, not, ◌&&◌, ◌||◌, if◌then◌else◌, nat_eq, nat_le, nat_lt, List, [], ◌∷◌, ◌++◌, length, Option, Some, None, refl, ap, sym, subst, ◌∙◌, inl, inr, arith}
 use Rattle.std.specs.Option.{option_or, option_map}
 use Rattle.std.proofs.lemmas.Bool.{lt-ltb, le-ltb}
-use Rattle.iim_dataset.specs.Octets.{IsOctet, Octets, number}
-use Rattle.iim_dataset.specs.Datasets.{Dataset, head_of}
-use Rattle.iim_dataset.specs.Languages as languages
+use Rattle.iim_dataset.specs.Format.Octets.{IsOctet, Octets, number, within}
+use Rattle.iim_dataset.specs.Format.Datasets.{Dataset, head_of, of_record}
+use Rattle.iim_dataset.specs.Format.Languages as languages
 use Rattle.iim_dataset.specs.declared.head.Head.{Head}
-use Rattle.iim_tables.specs.Rows.{row_of, is_admitted}
+use Rattle.iim_tables.specs.Format.Rows.{row_of, is_admitted}
 use Rattle.iim_tables.specs.declared.shape.Row.{Row}
-use Rattle.iim_tables.specs.Octets.{within}
-use Rattle.iim_fields.specs.Records.{after, occurs, has_file_format}
-use Rattle.iim_fields.specs.Alive.{IsAlive, IsAliveAt}
-use Rattle.iim_fields.specs.Values.{tells_number}
-use Rattle.iim_fields.specs.Faults.{kept, kept_octets, is_kept, is_first, is_in_order, fault_on, row_fault, missing_fault, missing_of, head_fault, record_fault, room_fault, limits_fault, first_fault, value_fault, fault_by_row, present_record, present_run}
-use Rattle.iim_fields.specs.Checks.{IsValueFault}
-use Rattle.iim_fields.specs.Standing.{IsHeadFault}
-use Rattle.iim_fields.specs.Laws.{HeadsDieWithTheirFault, ValuesDieWithTheirFault}
+use Rattle.iim_fields.specs.Format.Records.{after}
+use Rattle.iim_tables.specs.Format.Records.{occurs, has_file_format}
+use Rattle.iim_fields.specs.Format.Alive.{SectionsLive, SectionsLiveAt}
+use Rattle.iim_fields.specs.Format.Values.{tells_number}
+use Rattle.iim_fields.specs.Format.Faults.{kept, kept_octets, is_kept, is_first, is_in_order, fault_on, row_fault, missing_fault, missing_of, head_fault, record_fault, room_fault, limits_fault, first_fault, value_fault, fault_by_row, present_record, present_run}
+use Rattle.iim_fields.specs.Format.Checks.{IsValueFault}
+use Rattle.iim_fields.specs.Format.Standing.{IsHeadFault}
+use Rattle.iim_fields.specs.Format.Laws.{HeadsDieWithTheirFault, ValuesDieWithTheirFault}
 use Rattle.iim_fields.specs.declared.limits.Limits.{Limits}
 use Rattle.iim_fields.specs.declared.fault.FieldFault.{FieldFault}
 use Rattle.iim_fields.specs.declared.fault.FieldCause.TheVariants.{RecordOrder, Repeated, CountRange, BadValue, FileFormat, HeaderFull, TooManyFields}
-use Rattle.iim_object.specs.Plans.{max_subfiles}
-use Rattle.iim_object.specs.Objects.{ObjectToken, ObjectLanguage}
-use Rattle.iim_object.specs.Places.{Place, MayFollow, place_after, head_token, value_token}
-use Rattle.iim_object.specs.Causes.{cause_at}
-use Rattle.iim_object.specs.Reading.{StandsAt, Refuses}
-use Rattle.iim_object.specs.Behind.{of_record, place_behind, TokensFollow}
+use Rattle.iim_object.specs.Format.Plans.{max_subfiles}
+use Rattle.iim_object.specs.Format.Objects.{ObjectToken, ObjectLanguage}
+use Rattle.iim_object.specs.Format.Places.{Place, MayFollow, place_after, head_token, value_token}
+use Rattle.iim_object.specs.Format.Causes.{cause_at}
+use Rattle.iim_object.specs.Format.Reading.{StandsAt, Refuses}
+use Rattle.iim_object.specs.Format.Numbers.{place_after_datasets, TokensFollow}
 use Rattle.iim_object.specs.declared.state.State.{State}
 use Rattle.iim_object.specs.declared.fault.SizeCause.{SizeCause}
 use Rattle.iim_unpack.specs.Format.Refusals.{layer_of, of_field, size_on, too_many_on}
 use Rattle.iim_unpack.specs.Format.Tokens.{HaveRoom, ObjectLives, place_at, DiesAtHead, DiesAtValue, subfile_fault, object_fault, number_fault, IsRefusedHead, IsRefusedValue}
 use Rattle.iim_unpack.specs.Format.Refusals.{IsObjectFault}
-use Rattle.iim_unpack.specs.declared.fault.Fault.{Fault}
+use Rattle.iim_unpack.specs.declared.fault.TokenFault.{TokenFault}
 use Rattle.iim_unpack.specs.declared.refusal.Layer.{Layer}
 use Rattle.iim_unpack.specs.declared.refusal.Layer.TheVariants as layers
 use Rattle.iim_unpack.proofs.Places.{HeadLeads, ValueLeads}
@@ -85,8 +85,8 @@ value_by (Some r) d =
     records_if (not (is_admitted r d.octets)) (Some (fault_on (head_of d) BadValue)) _ refl (records_if (not (has_file_format d)) (Some (fault_on (head_of d) FileFormat)) None refl tt)
 
 dies_by : (limits : Limits) (ds : List Dataset) (h : Head) (fault : FieldFault) (o rest : Option FieldFault) → IsRecords o → IsLimits rest
-    → ((o ≡ None) → IsAliveAt ds h) → (IsAliveAt ds h → o ≡ None) → option_or o rest ≡ Some fault
-    → (IsAliveAt ds h → HaveRoom limits ds h → ⊥) → DiesAtHead (layer_of fault.cause) limits ds h
+    → ((o ≡ None) → SectionsLiveAt ds h) → (SectionsLiveAt ds h → o ≡ None) → option_or o rest ≡ Some fault
+    → (SectionsLiveAt ds h → HaveRoom limits ds h → ⊥) → DiesAtHead (layer_of fault.cause) limits ds h
 dies_by limits ds h fault None None by more alive none is dead = absurd cc
 dies_by limits ds h fault None (Some other) by more alive none is dead =
     let same : other ≡ fault = cc in
@@ -98,7 +98,7 @@ dies_by limits ds h fault (Some other) rest by more alive none is dead =
     subst (λ (l : Layer). DiesAtHead l limits ds h) (sym layer) (λ goes. let bad : Some other ≡ None = none goes in cc)
 
 -- a head that the records or the limits refuse
-pub field_head : HeadsDieWithTheirFault → (limits : Limits) (ds : List Dataset) (h : Head) (f : FieldFault) → IsOctet h.set → IsAlive ds → IsHeadFault limits ds h f
+pub field_head : HeadsDieWithTheirFault → (limits : Limits) (ds : List Dataset) (h : Head) (f : FieldFault) → IsOctet h.set → SectionsLive ds → IsHeadFault limits ds h f
     → IsRefusedHead limits ds h (of_field f)
 field_head dies limits ds h f small alive is =
     let both = dies ds h alive in
@@ -133,7 +133,7 @@ objects : (r : ℕ) → IsObjects r → (nat_eq r 8 || nat_eq r 9) ≡ true
 objects r (inl eight) = ap (λ n. nat_eq n 8 || nat_eq n 9) eight
 objects r (inr nine) = ap (λ n. nat_eq n 8 || nat_eq n 9) nine
 
-no_first : HeadsDieWithTheirFault → (limits : Limits) (ds : List Dataset) (h : Head) → IsAlive ds → IsAliveAt ds h → IsObjects h.rec → first_fault limits ds h ≡ None
+no_first : HeadsDieWithTheirFault → (limits : Limits) (ds : List Dataset) (h : Head) → SectionsLive ds → SectionsLiveAt ds h → IsObjects h.rec → first_fault limits ds h ≡ None
 no_first dies limits ds h alive at is =
     let none : record_fault ds h ≡ None = ((dies ds h alive).1 at).0 in
     let room : limits_fault limits ds h ≡ None = rw (not_kept h.rec is) refl in
@@ -145,8 +145,8 @@ have_room limits ds h is few = record {
   subfiles = few;
 }
 
--- so many subfiles are too many
-pub too_many_head : HeadsDieWithTheirFault → (limits : Limits) (ds : List Dataset) (h : Head) (fault : Fault) → IsAlive ds → IsAliveAt ds h → h.rec ≡ 8
+-- where `max_subfiles` subfiles have come, the head of another is one too many
+pub too_many_head : HeadsDieWithTheirFault → (limits : Limits) (ds : List Dataset) (h : Head) (fault : TokenFault) → SectionsLive ds → SectionsLiveAt ds h → h.rec ≡ 8
     → max_subfiles ≤ length (of_record 8 ds) → fault ≡ too_many_on h → IsRefusedHead limits ds h fault
 too_many_head dies limits ds h fault alive at eight many same =
     let none = no_first dies limits ds h alive at (inl eight) in
@@ -159,22 +159,22 @@ too_many_head dies limits ds h fault alive at eight many same =
     })
 
 -- the object layer dies with the token, after the tokens of the place
-dead_behind : TokensFollow → (old : Option State) (p q : Place) (token : ObjectToken) (cause : SizeCause) → Refuses old token cause → StandsAt old p → MayFollow p token
+dead_after : TokensFollow → (old : Option State) (p q : Place) (token : ObjectToken) (cause : SizeCause) → Refuses old token cause → StandsAt old p → MayFollow p token
     → place_after p token ≡ q → (ObjectLives q → ⊥) × (cause_at p token ≡ Some cause)
-dead_behind follow old p q token cause refuses stands may leads =
+dead_after follow old p q token cause refuses stands may leads =
     let both = refuses p stands may in (
       (λ lives. both.0.1 (subst (languages.IsAlive ObjectLanguage) (follow p token may) (subst ObjectLives (sym leads) lives))),
       both.1,
     )
 
 -- the object refuses a head
-pub object_head : HeadsDieWithTheirFault → TokensFollow → (limits : Limits) (ds : List Dataset) (h : Head) (fault : Fault) (old : Option State) → IsAlive ds → IsAliveAt ds h
-    → IsObjects h.rec → (h.rec ≡ 8 → length (of_record 8 ds) < max_subfiles) → HeadLeads ds h → StandsAt old (place_behind ds)
+pub object_head : HeadsDieWithTheirFault → TokensFollow → (limits : Limits) (ds : List Dataset) (h : Head) (fault : TokenFault) (old : Option State) → SectionsLive ds → SectionsLiveAt ds h
+    → IsObjects h.rec → (h.rec ≡ 8 → length (of_record 8 ds) < max_subfiles) → HeadLeads ds h → StandsAt old (place_after_datasets ds)
     → IsObjectFault old (head_token h.rec h.count) h fault → IsRefusedHead limits ds h fault
 object_head dies follow limits ds h fault old alive at is few leads stands (cause, refuses, same) =
     let none = no_first dies limits ds h alive at is in
     let room : subfile_fault ds h ≡ None = no_subfile ds h is few in
-    let dead = dead_behind follow old (place_behind ds) (place_at ds h) (head_token h.rec h.count) cause refuses stands leads.0 leads.1 in
+    let dead = dead_after follow old (place_after_datasets ds) (place_at ds h) (head_token h.rec h.count) cause refuses stands leads.0 leads.1 in
     let third : object_fault ds h ≡ Some (size_on h cause) = rw (objects h.rec is, dead.1) refl in
     subst (IsRefusedHead limits ds h) (sym same) (record {
       first = λ i. option_or (option_map of_field (none i)) (option_or (room i) (third i));
@@ -189,12 +189,12 @@ object_head dies follow limits ds h fault old alive at is few leads stands (caus
     no_subfile ds h (inr nine) few = let is : nat_eq h.rec 8 ≡ false = ap (λ n. nat_eq n 8) nine in rw is refl
 
 -- the object refuses the number of a value
-pub object_value : ValuesDieWithTheirFault → TokensFollow → (ds : List Dataset) (d : Dataset) (fault : Fault) (old : Option State) → Octets d.octets → IsAliveAt ds (head_of d)
-    → IsAlive (ds ++ d ∷ []) → tells_number d.rec ≡ true → ValueLeads ds d → StandsAt old (place_at ds (head_of d))
+pub object_value : ValuesDieWithTheirFault → TokensFollow → (ds : List Dataset) (d : Dataset) (fault : TokenFault) (old : Option State) → Octets d.octets → SectionsLiveAt ds (head_of d)
+    → SectionsLive (ds ++ d ∷ []) → tells_number d.rec ≡ true → ValueLeads ds d → StandsAt old (place_at ds (head_of d))
     → IsObjectFault old (value_token d.rec d.set (number d.octets)) (head_of d) fault → IsRefusedValue ds d fault
 object_value dies follow ds d fault old octets at alive tells leads stands (cause, refuses, same) =
     let none : value_fault d ≡ None = (dies ds d at octets).1 alive in
-    let dead = dead_behind follow old (place_at ds (head_of d)) (place_behind (ds ++ d ∷ [])) (value_token d.rec d.set (number d.octets)) cause refuses stands leads.0 leads.1 in
+    let dead = dead_after follow old (place_at ds (head_of d)) (place_after_datasets (ds ++ d ∷ [])) (value_token d.rec d.set (number d.octets)) cause refuses stands leads.0 leads.1 in
     let second : number_fault ds d ≡ Some (size_on (head_of d) cause) = rw (tells, dead.1) refl in
     subst (IsRefusedValue ds d) (sym same) (record {
       first = λ i. option_or (option_map of_field (none i)) (second i);

@@ -3,34 +3,34 @@ use Rattle.std.proofs.Common.{◌≡◌, ℕ, ◌<◌, ◌≤◌, ◌⊎◌, Boo
 use Rattle.std.proofs.lemmas.List.{take_all}
 use Rattle.std.proofs.lemmas.Bool.{eqb-true, true≢false}
 use Rattle.std.proofs.lemmas.Bool.Decides.{eqb_tells}
-use Rattle.iim_dataset.specs.Datasets.{Dataset, SpellsStream, count_octets}
-use Rattle.iim_dataset.specs.Splits.{Begun, InTag, InData, Reads}
-use Rattle.iim_dataset.specs.Tags.{Concerns}
-use Rattle.iim_dataset.specs.Events.{Event, HeadRead, DataOctet, DatasetEnd, handed_on, begun_data}
-use Rattle.iim_dataset.specs.Places.{LeadsTo, HandsOn, IsKeptAs, between, named_by, to_come}
-use Rattle.iim_dataset.specs.Reading.{Completes, TagDies, TakesCalls}
-use Rattle.iim_dataset.specs.Completing.{CompletesData, CompletesHead, CompletesOctet, CompletesEnd, CompletesNow}
+use Rattle.iim_dataset.specs.Format.Datasets.{Dataset, SpellsStream, count_octets, of_record}
+use Rattle.iim_dataset.specs.Format.Splits.{Begun, InTag, InData, Reads}
+use Rattle.iim_dataset.specs.Format.Tags.{Concerns}
+use Rattle.iim_dataset.specs.Format.Events.{DatasetEvent, HeadRead, DataOctet, DatasetEnd, handed_on, begun_data}
+use Rattle.iim_dataset.specs.Format.Places.{LeadsTo, HandsOn, IsKeptAs, between, named_by, to_come}
+use Rattle.iim_dataset.specs.Format.Reading.{Completes, TagDies, TakesCalls}
+use Rattle.iim_dataset.specs.Format.Completing.{CompletesData, CompletesHead, CompletesOctet, CompletesEnd, CompletesNow}
 use Rattle.iim_dataset.specs.declared.head.Head.{Head}
 use Rattle.iim_dataset.specs.declared.head.HeadCause.{HeadCause}
 use Rattle.iim_dataset.specs.declared.head.HeadCause.TheVariants.{Marker, CountForm}
 use Rattle.iim_dataset.specs.declared.place.DatasetPlace.{DatasetPlace as Place}
 use Rattle.iim_dataset.specs.declared.place.DatasetPlace.TheVariants.{Tag, Inside}
-use Rattle.iim_fields.specs.Records.{AreSections}
-use Rattle.iim_fields.specs.Faults.{present_record, kept as kept_of}
-use Rattle.iim_fields.specs.Faults.{kept as kept_of}
-use Rattle.iim_fields.specs.Standing.{limits_of, StandsBehind}
+use Rattle.iim_fields.specs.Format.Records.{AreSections}
+use Rattle.iim_fields.specs.Format.Faults.{present_record, kept as kept_of}
+use Rattle.iim_fields.specs.Format.Faults.{kept as kept_of}
+use Rattle.iim_fields.specs.Format.Standing.{limits_of, StandsAfter}
 use Rattle.iim_fields.specs.declared.limits.Limits.{Limits}
-use Rattle.iim_object.specs.Reading as objects
-use Rattle.iim_object.specs.Behind.{of_record, place_behind}
-use Rattle.iim_object.specs.Records.{AreRecords, HaveSizes}
+use Rattle.iim_object.specs.Format.Reading as objects
+use Rattle.iim_object.specs.Format.Numbers.{place_after_datasets}
+use Rattle.iim_object.specs.Format.Records.{AreObjectRecords, HaveSizes}
 use Rattle.iim_object.specs.declared.size.Sizes.{Sizes}
-use Rattle.wire_story.specs.Delivery as story
-use Rattle.wire_message.specs.Layers.{text_so_far}
-use Rattle.wire_message.specs.Laws.{ReadersStandAtLivingOctets}
-use Rattle.wire_message.specs.Reading as wire
-use Rattle.wire_story.specs.Texts.{IsText}
-use Rattle.wire_message.specs.Messages.{Header, IsMessage}
-use Rattle.iim_fields.specs.Standing.{StandsBehind}
+use Rattle.wire_story.specs.Format.Delivery as story
+use Rattle.wire_message.specs.Format.Layers.{text_so_far}
+use Rattle.wire_message.specs.Format.Laws.{ReadersStandAtLivingOctets}
+use Rattle.wire_message.specs.Format.Reading as wire
+use Rattle.wire_story.specs.Format.Texts.{IsText}
+use Rattle.wire_message.specs.Format.Messages.{Header, IsMessage}
+use Rattle.iim_fields.specs.Format.Standing.{StandsAfter}
 use Rattle.iim_unpack.specs.Format.Laws.{AdmittedOctetsHaveOneValue}
 use Rattle.iim_unpack.specs.Format.Value.{HasParts}
 use Rattle.iim_unpack.specs.declared.unpacker.Unpacked.{Unpacked}
@@ -38,36 +38,37 @@ use Rattle.iim_unpack.specs.Format.Admitted.{Value, Admits, object_of}
 use Rattle.iim_unpack.specs.Format.Refusals.{begun_record, begun_number, tag_cause}
 use Rattle.iim_unpack.specs.Format.Refusals.{refusal_at, message_on}
 use Rattle.iim_unpack.specs.Format.Tokens.{IsRefusedHead, IsRefusedValue}
-use Rattle.iim_fields.specs.Values.{data_of}
+use Rattle.iim_fields.specs.Format.Values.{data_of}
 use Rattle.iim_unpack.specs.Format.Refusals.{cause_of_tag}
-use Rattle.iim_unpack.specs.Format.Open.{object_so_far, AllGoOn, IsUnfinished}
-use Rattle.iim_unpack.specs.Parts.{Behind, StandsFor, Led, Refused, RefusesAt, has_ended}
+use Rattle.iim_unpack.specs.Format.Open.{object_so_far, AllCanContinue, IsUnfinished}
+use Rattle.iim_unpack.specs.Format.Parts.{AreAfter, StandsFor, Led, Refused, RefusesAt, has_ended}
 use Rattle.iim_unpack.specs.Sequence.{AreInOrder}
 use Rattle.iim_unpack.specs.Going.{front_in_order}
 use Rattle.iim_unpack.specs.Routing.{Takes, HasEnded}
-use Rattle.iim_unpack.specs.Unpacking.{Unpacking, Advanced, FailsAs, IsOnward, tag_fault, raised, are_some, begins, limits_in, IsLed, Stands, IsDoneWith, IsRefusedIn, Stood, IsUnpacking}
+use Rattle.iim_unpack.specs.Format.Unpacking.{Unpacking, raised, are_some, limits_in, IsLed, Stands, IsDoneWith, IsRefusedIn}
+use Rattle.iim_unpack.specs.Unpacking.{Advanced, FailsAs, IsOnward, tag_fault, begins, Stood, IsUnpacking}
 use Rattle.iim_unpack.specs.Format.Open.{IsTextOf, Adds, IsOpen, IsBadTagAt, RefusesNext, IsTruncatedAt, truncated_in}
 use Rattle.iim_unpack.specs.declared.parts.Parts.{Parts}
-use Rattle.iim_unpack.specs.declared.fault.Fault.{Fault}
+use Rattle.iim_unpack.specs.declared.fault.TokenFault.{TokenFault}
 use Rattle.iim_unpack.specs.declared.refusal.Refusal.{Refusal}
 use Rattle.iim_unpack.specs.declared.refusal.Cause.{Cause}
 use Rattle.iim_unpack.specs.declared.refusal.Layer.TheVariants as layers
 use Rattle.iim_unpack.proofs.Objects.{are_records}
-use Rattle.iim_unpack.proofs.Carrying.{all_behind, all_within}
+use Rattle.iim_unpack.proofs.Carrying.{all_after, all_within}
 use Rattle.iim_unpack.proofs.Lasts.{sections_last, last_sections, not_all}
-use Rattle.iim_unpack.proofs.Ended.{ended_behind, unended_inside}
+use Rattle.iim_unpack.proofs.Ended.{ended_by_record, unended_inside}
 use Rattle.iim_unpack.proofs.Sequences.{handed_in_order}
 use Rattle.iim_unpack.specs.LowerLaws.{FeedLaws}
 
 -- ---- begun datasets that are told alike
 
-all_as : (limits : Limits) (ds : List Dataset) (b c : Begun) → begun_data b ≡ begun_data c → AllGoOn limits ds c → AllGoOn limits ds b
+all_as : (limits : Limits) (ds : List Dataset) (b c : Begun) → begun_data b ≡ begun_data c → AllCanContinue limits ds c → AllCanContinue limits ds b
 all_as limits ds (InTag held) (InTag other) same h = record { sizes = h.sizes; message = h.message; story = h.story }
 all_as limits ds (InTag held) (InData h taken) same k = absurd (let bad : None ≡ Some (h, taken) = same in cc)
 all_as limits ds (InData h taken) (InTag held) same k = absurd (let bad : Some (h, taken) ≡ None = same in cc)
 all_as limits ds (InData h taken) (InData k other) same g =
     let pair : (h, taken) ≡ (k, other) = some-same same in
-    subst (λ (x : Head × List ℕ). AllGoOn limits ds (InData x.0 x.1)) (sym pair) g
+    subst (λ (x : Head × List ℕ). AllCanContinue limits ds (InData x.0 x.1)) (sym pair) g
   where
     some-same : {x y : Head × List ℕ} → Some x ≡ Some y → x ≡ y
     some-same e = cc
@@ -89,28 +90,28 @@ object_as ds (InData h taken) (InData k other) same =
 -- what the reader of tags and the parts say of the octets
 pub record Both (limits : Limits) (p : List ℕ) (begun : Begun) (text : List ℕ) (parts : Parts) : Type 0 where
   pub whole : List Dataset
-  pub reads : Reads p whole begun
-  pub goes_on : AllGoOn limits whole begun
+  pub reads : Reads count_octets p whole begun
+  pub leads_on : AllCanContinue limits whole begun
   pub text_is : text ≡ text_so_far (object_so_far whole begun)
   pub led_whole : List Dataset
   pub led_begun : Begun
   pub stands : StandsFor parts led_whole led_begun
   pub same : whole ≡ led_whole
 
-all_for : ReadersStandAtLivingOctets → (parts : Parts) (ds : List Dataset) (b : Begun) → StandsFor parts ds b → AllGoOn (limits_of parts.fields) ds b
-all_for living parts ds (InTag held) at = all_behind living parts ds held at
+all_for : ReadersStandAtLivingOctets → (parts : Parts) (ds : List Dataset) (b : Begun) → StandsFor parts ds b → AllCanContinue (limits_of parts.fields) ds b
+all_for living parts ds (InTag held) at = all_after living parts ds held at
 all_for living parts ds (InData h taken) at = all_within living parts ds h taken at
 
-pub both : FeedLaws → (parts : Parts) (p : List ℕ) (events : List Event) (text : List ℕ) (place : Place) → (leads : LeadsTo p events place) → Led parts events text
+pub both : FeedLaws → (parts : Parts) (p : List ℕ) (events : List DatasetEvent) (text : List ℕ) (place : Place) → (leads : LeadsTo count_octets p events place) → Led parts events text
     → Both (limits_of parts.fields) p leads.begun text parts
 both laws parts p events text place leads led =
     let told = laws.tell leads.hands.whole led.whole leads.begun led.begun (sym leads.hands.handed ∙ led.told) in
-    let all : AllGoOn (limits_of parts.fields) leads.hands.whole led.begun =
-    subst (λ (ds : List Dataset). AllGoOn (limits_of parts.fields) ds led.begun) (sym told.0) (all_for laws.living parts led.whole led.begun led.stands) in
+    let all : AllCanContinue (limits_of parts.fields) leads.hands.whole led.begun =
+    subst (λ (ds : List Dataset). AllCanContinue (limits_of parts.fields) ds led.begun) (sym told.0) (all_for laws.living parts led.whole led.begun led.stands) in
     record {
       whole = leads.hands.whole;
       reads = leads.hands.reads;
-      goes_on = all_as (limits_of parts.fields) leads.hands.whole leads.begun led.begun told.1 all;
+      leads_on = all_as (limits_of parts.fields) leads.hands.whole leads.begun led.begun told.1 all;
       text_is = led.is_text ∙ ap text_so_far (ap (λ (ds : List Dataset). object_so_far ds led.begun) (sym told.0) ∙ sym (object_as leads.hands.whole leads.begun led.begun told.1));
       led_whole = led.whole;
       led_begun = led.begun;
@@ -118,14 +119,14 @@ both laws parts p events text place leads led =
       same = told.0;
     }
 
-pub text_of : FeedLaws → (parts : Parts) (p : List ℕ) (events : List Event) (text : List ℕ) (place : Place) → LeadsTo p events place → Led parts events text → IsTextOf p text
+pub text_of : FeedLaws → (parts : Parts) (p : List ℕ) (events : List DatasetEvent) (text : List ℕ) (place : Place) → LeadsTo count_octets p events place → Led parts events text → IsTextOf p text
 text_of laws parts p events text place leads led = let b = both laws parts p events text place leads led in (b.whole, leads.begun, b.reads, b.text_is)
 
 -- octets have one text
 pub one_text : FeedLaws → (p x y : List ℕ) → IsTextOf p x → IsTextOf p y → x ≡ y
 one_text laws p x y (ds, b, reads, is) (es, c, other, that) =
-    let hands : HandsOn p (handed_on ds b) b = record { whole = ds; reads = reads; handed = refl } in
-    let gives : HandsOn p (handed_on es c) c = record { whole = es; reads = other; handed = refl } in
+    let hands : HandsOn count_octets p (handed_on ds b) b = record { whole = ds; reads = reads; handed = refl } in
+    let gives : HandsOn count_octets p (handed_on es c) c = record { whole = es; reads = other; handed = refl } in
     let way = laws.way p (handed_on ds b) (handed_on es c) b c hands gives in
     let told = laws.tell ds es b c way.0 in
     is ∙ ap text_so_far (ap (λ (xs : List Dataset). object_so_far xs b) told.0 ∙ ap (object_so_far es) way.1) ∙ sym that
@@ -134,17 +135,17 @@ one_text laws p x y (ds, b, reads, is) (es, c, other, that) =
 unfinished : FeedLaws → (parts : Parts) (ds : List Dataset) (b : Begun) → StandsFor parts ds b → has_ended parts ≡ false → AreSections ds → ⊥
 unfinished laws parts ds (InTag held) at more sections =
     let nine = sections_last laws.ends ds at.fields.alive sections in
-    true≢false (sym (ap (λ n. nat_eq n 9) nine) ∙ sym (ended_behind parts ds at.fields) ∙ more)
+    true≢false (sym (ap (λ n. nat_eq n 9) nine) ∙ sym (ended_by_record parts ds at.fields) ∙ more)
 unfinished laws parts ds (InData h taken) at more sections = not_all laws.sections ds h at.fields.alive sections
 
-pub open_by : FeedLaws → (parts : Parts) (p : List ℕ) (events : List Event) (text : List ℕ) (place : Place) → LeadsTo p events place → Led parts events text → has_ended parts ≡ false → IsOpen (limits_of parts.fields) p
+pub open_by : FeedLaws → (parts : Parts) (p : List ℕ) (events : List DatasetEvent) (text : List ℕ) (place : Place) → LeadsTo count_octets p events place → Led parts events text → has_ended parts ≡ false → IsOpen (limits_of parts.fields) p
 open_by laws parts p events text place leads led more =
     let b = both laws parts p events text place leads led in
     record {
       whole = b.whole;
       begun = leads.begun;
       reads = b.reads;
-      goes_on = b.goes_on;
+      leads_on = b.leads_on;
       unfinished = λ sections. unfinished laws parts b.led_whole b.led_begun b.stands more (subst AreSections b.same sections);
     }
 
@@ -158,13 +159,13 @@ raised_on : (m n a k : ℕ) → m ≡ a → n ≡ raised m k → n ≡ raised a 
 raised_on m n a k same is = is ∙ ap (λ x. raised x k) same
 
 -- by octets, the parts went on from where events had led them
-went_on : {S : Type 0} (goes : S → List story.Event → S → Type 0) (failures : S → ℕ) (old : Place) (was : Parts) (p octets : List ℕ) (place : Place) (q : Parts) (a b : S)
-    → (advanced : Advanced goes failures old octets place was a q b) → (events : List Event) (text : List ℕ) → LeadsTo p events old → Led was events text
+went_on : {S : Type 0} (goes : S → List story.StoryEvent → S → Type 0) (failures : S → ℕ) (old : Place) (was : Parts) (p octets : List ℕ) (place : Place) (q : Parts) (a b : S)
+    → (advanced : Advanced goes failures old octets place was a q b) → (events : List DatasetEvent) (text : List ℕ) → LeadsTo count_octets p events old → Led was events text
     → Led q (events ++ advanced.more) (text ++ advanced.went.more)
 went_on goes failures old was p octets place q a b advanced events text leads led =
     let next = advanced.brings p events leads in advanced.went.leads events text (handed_in_order (p ++ octets) (events ++ advanced.more) next.begun next.hands) led
 
-pub adds_by : {S : Type 0} (goes : S → List story.Event → S → Type 0) (failures : S → ℕ) → FeedLaws → (u v : Unpacking) (p octets : List ℕ) (place : Place) (q : Parts) (a b : S)
+pub adds_by : {S : Type 0} (goes : S → List story.StoryEvent → S → Type 0) (failures : S → ℕ) → FeedLaws → (u v : Unpacking) (p octets : List ℕ) (place : Place) (q : Parts) (a b : S)
     → (advanced : Advanced goes failures u.reader.place octets place u.parts a q b) → IsLed u p → Adds p octets (story.delivered advanced.went.more)
 adds_by goes failures laws u v p octets place q a b advanced led text is =
     let same = one_text laws p text led.text is (text_of laws u.parts p led.events led.text u.reader.place led.leads led.led) in (
@@ -174,7 +175,7 @@ adds_by goes failures laws u v p octets place q a b advanced led text is =
       refl,
     )
 
-led_by : {S : Type 0} (goes : S → List story.Event → S → Type 0) (failures : S → ℕ) (u v : Unpacking) (p octets : List ℕ) (a b : S)
+led_by : {S : Type 0} (goes : S → List story.StoryEvent → S → Type 0) (failures : S → ℕ) (u v : Unpacking) (p octets : List ℕ) (a b : S)
     → Advanced goes failures u.reader.place octets v.reader.place u.parts a v.parts b → IsLed u p → IsLed v (p ++ octets)
 led_by goes failures u v p octets a b advanced led = record {
   events = led.events ++ advanced.more;
@@ -187,7 +188,7 @@ begun_on : (u v : Bool) (p piece : List ℕ) → u ≡ are_some p → v ≡ begi
 begun_on u v [] piece was is = rw was at is
 begun_on u v (x ∷ p) piece was is = rw was at is
 
-pub goes_more : {S : Type 0} (goes : S → List story.Event → S → Type 0) (failures : S → ℕ) → FeedLaws → (u v : Unpacking) (piece : List ℕ) (used : ℕ) (a b : S)
+pub goes_more : {S : Type 0} (goes : S → List story.StoryEvent → S → Type 0) (failures : S → ℕ) → FeedLaws → (u v : Unpacking) (piece : List ℕ) (used : ℕ) (a b : S)
     → (advanced : Advanced goes failures u.reader.place (take used piece) v.reader.place u.parts a v.parts b) → IsOnward v.reader.place v.parts (length piece) used
     → v.refused ≡ u.refused → has_ended v.parts ≡ false → v.octets ≡ raised u.octets used → v.begun ≡ begins u.begun piece
     → (p : List ℕ) (n : ℕ) → Stands u p n → Stands v (p ++ piece) (raised n (length piece)) × Adds p piece (story.delivered advanced.went.more)
@@ -210,7 +211,7 @@ goes_more goes failures laws u v piece used a b advanced onward same more counts
 -- ---- the end
 
 -- between datasets, the octets are whole datasets
-stream_of : (p : List ℕ) (whole : List Dataset) (begun : Begun) → Reads p whole begun → IsKeptAs between begun → SpellsStream count_octets whole p
+stream_of : (p : List ℕ) (whole : List Dataset) (begun : Begun) → Reads count_octets p whole begun → IsKeptAs between begun → SpellsStream count_octets whole p
 stream_of p whole (InTag held) reads keeps =
     let none : reads.rest ≡ [] = reads.is_rest.0 ∙ sym keeps in
     let is : reads.front ≡ p = sym (append-nil reads.front) ∙ ap (λ (xs : List ℕ). reads.front ++ xs) (sym none) ∙ sym reads.parts in
@@ -220,7 +221,7 @@ stream_of p whole (InData h taken) reads keeps = absurd keeps
 -- What stands after whole octets.
 pub record WholeParts (v : Unpacking) (p : List ℕ) : Type 0 where
   pub ds : List Dataset
-  pub behind : Behind v.parts ds
+  pub after : AreAfter v.parts ds
   pub stream : SpellsStream count_octets ds p
   pub sections : AreSections ds
   pub head : Header
@@ -229,32 +230,32 @@ pub record WholeParts (v : Unpacking) (p : List ℕ) : Type 0 where
   pub lines : List (List ℕ)
   pub lined : IsText (text_so_far (object_of ds)) lines
 
-record AtEnd (v : Unpacking) (events : List Event) : Type 0 where
+record AtEnd (v : Unpacking) (events : List DatasetEvent) : Type 0 where
   pub ds : List Dataset
   pub held : List ℕ
-  pub behind : Behind v.parts ds
+  pub after : AreAfter v.parts ds
   pub told : events ≡ handed_on ds (InTag held)
 
-at_end : (v : Unpacking) (events : List Event) (text : List ℕ) → has_ended v.parts ≡ true → Led v.parts events text → AtEnd v events
+at_end : (v : Unpacking) (events : List DatasetEvent) (text : List ℕ) → has_ended v.parts ≡ true → Led v.parts events text → AtEnd v events
 at_end v events text last led = by led.begun led.stands led.told
   where
     by : (b : Begun) → StandsFor v.parts led.whole b → events ≡ handed_on led.whole b → AtEnd v events
-    by (InTag held) behind told = record { ds = led.whole; held = held; behind = behind; told = told }
+    by (InTag held) after told = record { ds = led.whole; held = held; after = after; told = told }
     by (InData h taken) at told = absurd (true≢false (sym last ∙ unended_inside v.parts h at.fields.inside.0 at.fields.inside.1))
 
 pub whole_parts : FeedLaws → (v : Unpacking) (p : List ℕ) → has_ended v.parts ≡ true → v.reader.place ≡ between → IsLed v p → WholeParts v p
 whole_parts laws v p last place led =
     let at = at_end v led.events led.text last led.led in
     let same = (laws.tell at.ds led.leads.hands.whole (InTag at.held) led.leads.begun (sym at.told ∙ led.leads.hands.handed)).0 in
-    let behind = at.behind in
-    let nine : present_record at.ds ≡ 9 = eqb-true (present_record at.ds) 9 (sym (ended_behind v.parts at.ds behind.fields) ∙ last) in
-    let (head, is, message, (lines, lined)) = behind.ended nine (object_of at.ds) (text_so_far (object_of at.ds)) behind.message in
+    let after = at.after in
+    let nine : present_record at.ds ≡ 9 = eqb-true (present_record at.ds) 9 (sym (ended_by_record v.parts at.ds after.fields) ∙ last) in
+    let (head, is, message, (lines, lined)) = after.ended nine (object_of at.ds) (text_so_far (object_of at.ds)) after.message in
     record {
       ds = at.ds;
-      behind = behind;
+      after = after;
       stream = subst (λ (ds : List Dataset). SpellsStream count_octets ds p) (sym same)
           (stream_of p led.leads.hands.whole led.leads.begun led.leads.hands.reads (subst (λ (x : Place). IsKeptAs x led.leads.begun) place led.leads.keeps));
-      sections = last_sections laws.ends at.ds behind.fields.alive nine;
+      sections = last_sections laws.ends at.ds after.fields.alive nine;
       head = head;
       head_is = is;
       message = message;
@@ -264,14 +265,14 @@ whole_parts laws v p last place led =
 
 -- what the sizes of the object are
 abbrev pub TellsSizes : Unpacking → Sizes → Type 0
-TellsSizes v s = (ds : List Dataset) (r : AreRecords ds) → objects.StandsAt v.parts.object (place_behind ds) → HaveSizes r.r7 r.r8 r.r9 s
+TellsSizes v s = (ds : List Dataset) (r : AreObjectRecords ds) → objects.StandsAt v.parts.object (place_after_datasets ds) → HaveSizes r.r7 r.r8 r.r9 s
 
 admits_by : FeedLaws → (v : Unpacking) (p : List ℕ) (s : Sizes) → (w : WholeParts v p) → TellsSizes v s
     → Admits p (record { fields = kept_of w.ds; head = w.head; lines = w.lines; trailer = wire.trailer_read v.parts.message; sizes = s })
 admits_by laws v p s w sizes =
     let r = are_records w.ds w.sections in
     let by = laws.numbers w.ds r in
-    let have = sizes w.ds r w.behind.object in
+    let have = sizes w.ds r w.after.object in
     let have' : HaveSizes (of_record 7 w.ds) (of_record 8 w.ds) (of_record 9 w.ds) s = rw (by.sevens, by.eights, by.nines) have in
     record { datasets = w.ds; spelled = w.stream; sections = w.sections; fields = refl; text = text_so_far (object_of w.ds); message = w.message; lines = w.lined; sizes = have' }
 
@@ -280,7 +281,7 @@ done_by laws v p n s taking ended place counts led sizes =
     let w = whole_parts laws v p ended.last place led in
     let r = are_records w.ds w.sections in
     let by = laws.numbers w.ds r in
-    let have = sizes w.ds r w.behind.object in
+    let have = sizes w.ds r w.after.object in
     let have' : HaveSizes (of_record 7 w.ds) (of_record 8 w.ds) (of_record 9 w.ds) s = rw (by.sevens, by.eights, by.nines) have in
     record {
       taking = taking;
@@ -290,19 +291,19 @@ done_by laws v p n s taking ended place counts led sizes =
       is_led = led;
       value = record { fields = kept_of w.ds; head = w.head; lines = w.lines; trailer = wire.trailer_read v.parts.message; sizes = s };
       admits = record { datasets = w.ds; spelled = w.stream; sections = w.sections; fields = refl; text = text_so_far (object_of w.ds); message = w.message; lines = w.lined; sizes = have' };
-      within = record { kept = w.behind.fields.within; subfiles = w.behind.few };
+      within = record { kept = w.after.fields.within; subfiles = w.after.few };
     }
 
 -- the value is handed over
 pub hands_over : FeedLaws → AdmittedOctetsHaveOneValue → (u : Unpacking) (p : List ℕ) (n : ℕ) (got : Unpacked) → IsDoneWith u p n → wire.head_read u.parts.message ≡ Some got.head
-    → got.trailer.items ≡ wire.trailer_read u.parts.message → TellsSizes u got.sizes → ((ds : List Dataset) → StandsBehind u.parts.fields ds → got.envelope ≡ kept_of ds)
+    → got.trailer.items ≡ wire.trailer_read u.parts.message → TellsSizes u got.sizes → ((ds : List Dataset) → StandsAfter u.parts.fields ds → got.envelope ≡ kept_of ds)
     → (v : Value) → Admits p v → HasParts got v
 hands_over laws one u p n got at head trailer sizes envelope v admits =
     let w = whole_parts laws u p at.ended at.place at.is_led in
     let mine : Value = record { fields = kept_of w.ds; head = w.head; lines = w.lines; trailer = wire.trailer_read u.parts.message; sizes = got.sizes } in
     let same : mine ≡ v = one p mine v (admits_by laws u p got.sizes w sizes) admits in
     record {
-      fields = envelope w.ds w.behind.fields ∙ ap (λ (x : Value). x.fields) same;
+      fields = envelope w.ds w.after.fields ∙ ap (λ (x : Value). x.fields) same;
       head = some-same (sym head ∙ w.head_is) ∙ ap (λ (x : Value). x.head) same;
       trailer = trailer ∙ ap (λ (x : Value). x.trailer) same;
       sizes = ap (λ (x : Value). x.sizes) same;
@@ -315,10 +316,10 @@ hands_over laws one u p n got at head trailer sizes envelope v admits =
 pub has_head : FeedLaws → (u : Unpacking) (p : List ℕ) (n : ℕ) → IsDoneWith u p n → wire.head_read u.parts.message ≡ None → ⊥
 has_head laws u p n at none = let w = whole_parts laws u p at.ended at.place at.is_led in let bad : None ≡ Some w.head = sym none ∙ w.head_is in cc
 
-pub goes_done : {S : Type 0} (goes : S → List story.Event → S → Type 0) (failures : S → ℕ) → FeedLaws → (u v : Unpacking) (piece : List ℕ) (used : ℕ) (a b : S) (s : Sizes)
+pub goes_done : {S : Type 0} (goes : S → List story.StoryEvent → S → Type 0) (failures : S → ℕ) → FeedLaws → (u v : Unpacking) (piece : List ℕ) (used : ℕ) (a b : S) (s : Sizes)
     → (advanced : Advanced goes failures u.reader.place (take used piece) v.reader.place u.parts a v.parts b) → IsOnward v.reader.place v.parts (length piece) used
     → v.refused ≡ u.refused → has_ended v.parts ≡ true → v.octets ≡ raised u.octets used → used ≤ length piece
-    → ((ds : List Dataset) (r : AreRecords ds) → objects.StandsAt v.parts.object (place_behind ds) → HaveSizes r.r7 r.r8 r.r9 s)
+    → ((ds : List Dataset) (r : AreObjectRecords ds) → objects.StandsAt v.parts.object (place_after_datasets ds) → HaveSizes r.r7 r.r8 r.r9 s)
     → (p : List ℕ) (n : ℕ) → Stands u p n
     → (used ≤ length piece) × IsDoneWith v (p ++ take used piece) (raised n used) × Adds p (take used piece) (story.delivered advanced.went.more)
 goes_done goes failures laws u v piece used a b s advanced onward same last counts fits sizes p n at =
@@ -347,16 +348,16 @@ kept_tag : (held : List ℕ) (begun : Begun) → IsKeptAs (Tag (record { items =
 kept_tag held (InTag octets) keeps = ap InTag (sym keeps)
 kept_tag held (InData h taken) keeps = absurd keeps
 
-bad_tag : FeedLaws → (limits : Limits) (parts : Parts) (p : List ℕ) (events : List Event) (text : List ℕ) (place : Place) (next : ℕ) (cause : HeadCause) (fault : Fault) → limits_of parts.fields ≡ limits
-    → LeadsTo p events place → Led parts events text → has_ended parts ≡ false → TagDies place next cause → fault ≡ tag_fault (named_by place) cause → IsBadTagAt limits p next fault
+bad_tag : FeedLaws → (limits : Limits) (parts : Parts) (p : List ℕ) (events : List DatasetEvent) (text : List ℕ) (place : Place) (next : ℕ) (cause : HeadCause) (fault : TokenFault) → limits_of parts.fields ≡ limits
+    → LeadsTo count_octets p events place → Led parts events text → has_ended parts ≡ false → TagDies place next cause → fault ≡ tag_fault (named_by place) cause → IsBadTagAt limits p next fault
 bad_tag laws limits parts p events text place next cause fault same leads led more dies is =
     let b = both laws parts p events text place leads led in
     let begun : leads.begun ≡ InTag dies.held = kept_tag dies.held leads.begun (subst (λ (x : Place). IsKeptAs x leads.begun) dies.tag leads.keeps) in
     record {
       whole = b.whole;
       held = dies.held;
-      reads = subst (Reads p b.whole) begun b.reads;
-      goes_on = subst (AllGoOn limits b.whole) begun (subst (λ (l : Limits). AllGoOn l b.whole leads.begun) same b.goes_on);
+      reads = subst (Reads count_octets p b.whole) begun b.reads;
+      leads_on = subst (AllCanContinue limits b.whole) begun (subst (λ (l : Limits). AllCanContinue l b.whole leads.begun) same b.leads_on);
       unfinished = λ sections. unfinished laws parts b.led_whole b.led_begun b.stands more (subst AreSections b.same sections);
       dead = dies.dead;
       is_fault = is ∙ ap (λ (x : Place). tag_fault (named_by x) cause) dies.tag
@@ -364,11 +365,11 @@ bad_tag laws limits parts p events text place next cause fault same leads led mo
     }
 
 -- What the octets are and what the parts say of them.
-record Told (limits : Limits) (octets text : List ℕ) (next : ℕ) (fault : Fault) : Type 0 where
+record Told (limits : Limits) (octets text : List ℕ) (next : ℕ) (fault : TokenFault) : Type 0 where
   pub text_is : IsTextOf octets text
   pub refuses : RefusesNext limits octets next fault
 
-head_refused : FeedLaws → (limits : Limits) (octets : List ℕ) (next : ℕ) (events : List Event) (text : List ℕ) (h : Head) (fault : Fault) → CompletesHead octets next events h
+head_refused : FeedLaws → (limits : Limits) (octets : List ℕ) (next : ℕ) (events : List DatasetEvent) (text : List ℕ) (h : Head) (fault : TokenFault) → CompletesHead octets next events h
     → Refused limits events text (HeadRead h) fault → Told limits octets text next fault
 head_refused laws limits octets next events text h fault c r = by r.begun r.refuses (laws.tell r.whole c.whole r.begun (InTag c.held) (sym r.told ∙ c.told))
   where
@@ -380,7 +381,7 @@ head_refused laws limits octets next events text h fault c r = by r.begun r.refu
         held = c.held;
         head = h;
         reads = c.reads;
-        goes_on = all_as limits c.whole (InTag c.held) r.begun (sym told.1) (subst (λ (ds : List Dataset). AllGoOn limits ds r.begun) told.0 r.goes_on);
+        leads_on = all_as limits c.whole (InTag c.held) r.begun (sym told.1) (subst (λ (ds : List Dataset). AllCanContinue limits ds r.begun) told.0 r.leads_on);
         unfinished = subst (λ (ds : List Dataset). AreSections ds → ⊥) told.0 r.unfinished;
         tag = c.tag;
         refuses = subst (λ (ds : List Dataset). IsRefusedHead limits ds h fault ⊎ IsUnfinished limits ds h fault) told.0 refuses;
@@ -388,7 +389,7 @@ head_refused laws limits octets next events text h fault c r = by r.begun r.refu
     }
     by (InData k taken) refuses told = absurd refuses
 
-octet_refused : FeedLaws → (limits : Limits) (octets : List ℕ) (next : ℕ) (events : List Event) (text : List ℕ) (fault : Fault) → CompletesOctet octets next events
+octet_refused : FeedLaws → (limits : Limits) (octets : List ℕ) (next : ℕ) (events : List DatasetEvent) (text : List ℕ) (fault : TokenFault) → CompletesOctet octets next events
     → Refused limits events text (DataOctet next) fault → Told limits octets text next fault
 octet_refused laws limits octets next events text fault c r = by r.begun r.refuses (laws.tell r.whole c.whole r.begun (InData c.head c.taken) (sym r.told ∙ c.told)) refl
   where
@@ -413,7 +414,7 @@ octet_refused laws limits octets next events text fault c r = by r.begun r.refus
             head = c.head;
             taken = c.taken;
             reads = c.reads;
-            goes_on = all_as limits c.whole (InData c.head c.taken) r.begun (sym told.1) (subst (λ (ds : List Dataset). AllGoOn limits ds r.begun) told.0 r.goes_on);
+            leads_on = all_as limits c.whole (InData c.head c.taken) r.begun (sym told.1) (subst (λ (ds : List Dataset). AllCanContinue limits ds r.begun) told.0 r.leads_on);
             unfinished = subst (λ (ds : List Dataset). AreSections ds → ⊥) told.0 r.unfinished;
             subfile = sym (ap (λ (x : Head). x.rec) head) ∙ eight;
             cause = cause;
@@ -434,7 +435,7 @@ end_text : (octets : List ℕ) (next : ℕ) (ds : List Dataset) (h : Head) (give
 end_text octets next ds h given text other is (inl (taken, reads, parts, count)) = (ds, InData h taken, reads, is ∙ ap text_so_far (sym (no_object ds h taken other)))
 end_text octets next ds h given text other is (inr (held, reads, tag, count, none)) = (ds, InTag held, reads, is)
 
-end_refused : FeedLaws → (limits : Limits) (octets : List ℕ) (next : ℕ) (events : List Event) (text : List ℕ) (fault : Fault) → CompletesEnd octets next events
+end_refused : FeedLaws → (limits : Limits) (octets : List ℕ) (next : ℕ) (events : List DatasetEvent) (text : List ℕ) (fault : TokenFault) → CompletesEnd octets next events
     → Refused limits events text DatasetEnd fault → Told limits octets text next fault
 end_refused laws limits octets next events text fault c r = by r.begun r.refuses (laws.tell r.whole c.whole r.begun (InData c.head c.given) (sym r.told ∙ c.told)) refl
   where
@@ -457,19 +458,19 @@ end_refused laws limits octets next events text fault c r = by r.begun r.refuses
             given = c.given;
             is_value = apart;
             completes = c.completes;
-            goes_on = all_as limits c.whole (InData c.head c.given) r.begun (sym told.1) (subst (λ (ds : List Dataset). AllGoOn limits ds r.begun) told.0 r.goes_on);
+            leads_on = all_as limits c.whole (InData c.head c.given) r.begun (sym told.1) (subst (λ (ds : List Dataset). AllCanContinue limits ds r.begun) told.0 r.leads_on);
             unfinished = subst (λ (ds : List Dataset). AreSections ds → ⊥) told.0 r.unfinished;
             refuses = subst (λ (ds : List Dataset). IsRefusedValue ds (data_of c.head c.given) fault) told.0 (subst (λ (x : Head × List ℕ). IsRefusedValue r.whole (data_of x.0 x.1) fault) pair refuses);
           })));
         }
 
 -- the events up to one that an octet completes
-completed_in_order : (octets : List ℕ) (next : ℕ) (events : List Event) (event : Event) → Completes octets next events event → AreInOrder (events ++ event ∷ [])
+completed_in_order : (octets : List ℕ) (next : ℕ) (events : List DatasetEvent) (event : DatasetEvent) → Completes octets next events event → AreInOrder (events ++ event ∷ [])
 completed_in_order octets next events event c =
     front_in_order (events ++ event ∷ []) c.later
     (subst AreInOrder (sym (append_assoc events (event ∷ []) c.later)) (handed_in_order (octets ++ next ∷ []) (events ++ event ∷ c.later) c.next_begun c.with_next))
 
-token_refused : FeedLaws → (limits : Limits) (octets : List ℕ) (next : ℕ) (events : List Event) (text : List ℕ) (event : Event) (fault : Fault) → CompletesNow octets next events event
+token_refused : FeedLaws → (limits : Limits) (octets : List ℕ) (next : ℕ) (events : List DatasetEvent) (text : List ℕ) (event : DatasetEvent) (fault : TokenFault) → CompletesNow octets next events event
     → Refused limits events text event fault → Told limits octets text next fault
 token_refused laws limits octets next events text (HeadRead h) fault c r = head_refused laws limits octets next events text h fault c r
 token_refused laws limits octets next events text (DataOctet b) fault c r =
@@ -477,9 +478,9 @@ token_refused laws limits octets next events text (DataOctet b) fault c r =
 token_refused laws limits octets next events text DatasetEnd fault c r = end_refused laws limits octets next events text fault c r
 
 -- the sink's answer at a refusal
-pub refused_in : {S : Type 0} (goes : S → List story.Event → S → Type 0) (failures : S → ℕ) → FeedLaws → (u : Unpacking) (piece : List ℕ) (k : ℕ) (fault : Fault) (a b : S) (e : Refusal)
+pub refused_in : {S : Type 0} (goes : S → List story.StoryEvent → S → Type 0) (failures : S → ℕ) → FeedLaws → (u : Unpacking) (piece : List ℕ) (k : ℕ) (fault : TokenFault) (a b : S) (e : Refusal)
     → k < length piece → e ≡ refusal_at (raised u.octets k) fault → FailsAs goes failures u.reader.place piece k fault u.parts a b
-    → (more : List story.Event) × goes a more b × ((p : List ℕ) (n : ℕ) → Stands u p n → IsRefusedIn (limits_in u) p n piece more e)
+    → (more : List story.StoryEvent) × goes a more b × ((p : List ℕ) (n : ℕ) → Stands u p n → IsRefusedIn (limits_in u) p n piece more e)
 refused_in goes failures laws u piece k fault a b e within is (inl (cause, new, stuck, is_fault)) =
     let w = stuck.advanced.went in (
       story.delivered w.more,
@@ -513,7 +514,7 @@ refused_in goes failures laws u piece k fault a b e within is (inr stop) =
           let now = laws.octet (p ++ take k piece) (slice_index piece k) (led.events ++ stop.more) stop.event completes in
           let order : AreInOrder ((led.events ++ stop.more) ++ stop.event ∷ []) = completed_in_order (p ++ take k piece) (slice_index piece k) (led.events ++ stop.more) stop.event completes in
           let told = token_refused laws (limits_in u) (p ++ take k piece) (slice_index piece k) (led.events ++ stop.more) (led.text ++ s.more) stop.event fault now
-          (subst (λ (f : Fault). Refused (limits_in u) (led.events ++ stop.more) (led.text ++ s.more) stop.event f) same_fault (s.why led.events led.text order led.led)) in
+          (subst (λ (f : TokenFault). Refused (limits_in u) (led.events ++ stop.more) (led.text ++ s.more) stop.event f) same_fault (s.why led.events led.text order led.led)) in
           record {
             k = k;
             within = within;
@@ -528,7 +529,7 @@ refused_in goes failures laws u piece k fault a b e within is (inr stop) =
           },
     )
   where
-    some-same : {x y : Fault} → Some x ≡ Some y → x ≡ y
+    some-same : {x y : TokenFault} → Some x ≡ Some y → x ≡ y
     some-same h = cc
 
 -- ---- the beginning and the end
@@ -550,10 +551,10 @@ truncated_by u p a at =
     }
 
 -- an unpacker of which no octet has come
-pub stands_new : FeedLaws → (u : Unpacking) → u.refused ≡ None → u.octets ≡ 0 → u.begun ≡ false → LeadsTo [] [] u.reader.place → Behind u.parts [] → Stands u [] 0
-stands_new laws u taking counts none leads behind =
-    let more : has_ended u.parts ≡ false = ended_behind u.parts [] behind.fields in
-    let led : Led u.parts [] [] = record { whole = []; begun = InTag []; told = refl; stands = behind; is_text = refl } in
+pub stands_new : FeedLaws → (u : Unpacking) → u.refused ≡ None → u.octets ≡ 0 → u.begun ≡ false → LeadsTo count_octets [] [] u.reader.place → AreAfter u.parts [] → Stands u [] 0
+stands_new laws u taking counts none leads after =
+    let more : has_ended u.parts ≡ false = ended_by_record u.parts [] after.fields in
+    let led : Led u.parts [] [] = record { whole = []; begun = InTag []; told = refl; stands = after; is_text = refl } in
     record {
       taking = taking;
       unended = more;
@@ -565,21 +566,21 @@ stands_new laws u taking counts none leads behind =
 
 -- ---- an unpacker stands somewhere
 
-pub sound_new : FeedLaws → (u : Unpacking) → u.refused ≡ None → u.octets ≡ 0 → u.begun ≡ false → LeadsTo [] [] u.reader.place → Behind u.parts [] → TakesCalls u.reader → u.reader.place ≡ between
+pub sound_new : FeedLaws → (u : Unpacking) → u.refused ≡ None → u.octets ≡ 0 → u.begun ≡ false → LeadsTo count_octets [] [] u.reader.place → AreAfter u.parts [] → TakesCalls u.reader → u.reader.place ≡ between
     → IsSome u.parts.object → IsSome u.parts.message → IsUnpacking u
-sound_new laws u taking counts none leads behind calls place object message =
-    let more : has_ended u.parts ≡ false = ended_behind u.parts [] behind.fields in
+sound_new laws u taking counts none leads after calls place object message =
+    let more : has_ended u.parts ≡ false = ended_by_record u.parts [] after.fields in
     record {
       calls = calls;
-      takes = inl (more, subst (λ (x : Place). Takes u.parts (to_come x)) (sym place) (record { fields = behind.fields.between; object = object; message = message; more = more }));
-      stood = ([], 0, inl (stands_new laws u taking counts none leads behind));
+      takes = inl (more, subst (λ (x : Place). Takes u.parts (to_come x)) (sym place) (record { fields = after.fields.between; object = object; message = message; more = more }));
+      stood = ([], 0, inl (stands_new laws u taking counts none leads after));
     }
 
 pub stood_stands : (u : Unpacking) → has_ended u.parts ≡ false → Stood u → (p : List ℕ) × (a : ℕ) × Stands u p a
 stood_stands u more (p, a, inl at) = (p, a, at)
 stood_stands u more (p, a, inr at) = absurd (true≢false (sym at.ended ∙ more))
 
-pub sound_more : {S : Type 0} (goes : S → List story.Event → S → Type 0) (failures : S → ℕ) → FeedLaws → (u v : Unpacking) (piece : List ℕ) (used : ℕ) (a b : S)
+pub sound_more : {S : Type 0} (goes : S → List story.StoryEvent → S → Type 0) (failures : S → ℕ) → FeedLaws → (u v : Unpacking) (piece : List ℕ) (used : ℕ) (a b : S)
     → (advanced : Advanced goes failures u.reader.place (take used piece) v.reader.place u.parts a v.parts b) → IsOnward v.reader.place v.parts (length piece) used → TakesCalls v.reader
     → v.refused ≡ u.refused → has_ended v.parts ≡ false → v.octets ≡ raised u.octets used → v.begun ≡ begins u.begun piece → IsUnpacking u → has_ended u.parts ≡ false → IsUnpacking v
 sound_more goes failures laws u v piece used a b advanced onward calls same more counts some sound unended =
@@ -591,7 +592,7 @@ sound_more goes failures laws u v piece used a b advanced onward calls same more
       stood = (p ++ piece, raised n (length piece), inl both.0);
     }
 
-pub sound_done : {S : Type 0} (goes : S → List story.Event → S → Type 0) (failures : S → ℕ) → FeedLaws → (u v : Unpacking) (piece : List ℕ) (used : ℕ) (a b : S) (s : Sizes)
+pub sound_done : {S : Type 0} (goes : S → List story.StoryEvent → S → Type 0) (failures : S → ℕ) → FeedLaws → (u v : Unpacking) (piece : List ℕ) (used : ℕ) (a b : S) (s : Sizes)
     → (advanced : Advanced goes failures u.reader.place (take used piece) v.reader.place u.parts a v.parts b) → IsOnward v.reader.place v.parts (length piece) used → TakesCalls v.reader
     → v.refused ≡ u.refused → has_ended v.parts ≡ true → v.octets ≡ raised u.octets used → used ≤ length piece → TellsSizes v s → IsUnpacking u → has_ended u.parts ≡ false → IsUnpacking v
 sound_done goes failures laws u v piece used a b s advanced onward calls same last counts fits sizes sound unended =
@@ -620,7 +621,7 @@ short_trailer laws u last stood =
 pub some_head : FeedLaws → (u : Unpacking) → has_ended u.parts ≡ true → Stood u → wire.head_read u.parts.message ≡ None → ⊥
 some_head laws u last stood = let (p, a, at) = stood_done u last stood in has_head laws u p a at
 
-pub all_sections : FeedLaws → (u : Unpacking) → has_ended u.parts ≡ true → Stood u → (((ds : List Dataset) → StandsBehind u.parts.fields ds → AreSections ds → ⊥) → ⊥)
+pub all_sections : FeedLaws → (u : Unpacking) → has_ended u.parts ≡ true → Stood u → (((ds : List Dataset) → StandsAfter u.parts.fields ds → AreSections ds → ⊥) → ⊥)
 all_sections laws u last stood none =
     let (p, a, at) = stood_done u last stood in
-    let w = whole_parts laws u p at.ended at.place at.is_led in none w.ds w.behind.fields w.sections
+    let w = whole_parts laws u p at.ended at.place at.is_led in none w.ds w.after.fields w.sections

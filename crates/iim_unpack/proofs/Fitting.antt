@@ -2,28 +2,28 @@
 use Rattle.std.proofs.Common.{◌≡◌, ℕ, ◌+◌, ◌-◌, ◌<◌, ◌≤◌, ◌^◌, nat_eq, cond, if◌then◌else◌, Bool, true, false, List, [], ◌∷◌, ◌++◌, length, Some, refl, ap, sym, subst, ◌∙◌, inl, inr, arith, append_assoc, append-nil, length-append}
 use Rattle.std.specs.List.{AllByRecursion, flat_map}
 use Rattle.std.proofs.lemmas.Bool.{eqb-true}
-use Rattle.iim_dataset.specs.Octets.{Octets}
-use Rattle.iim_dataset.specs.Datasets.{Dataset, SpellsStream, count_octets}
-use Rattle.iim_dataset.specs.Splits.{Begun, InTag, InData, Reads}
-use Rattle.iim_fields.specs.Records.{AreSections}
-use Rattle.iim_fields.specs.Faults.{kept, is_kept, present_record}
-use Rattle.iim_object.specs.Objects.{SubfileBegun}
-use Rattle.iim_object.specs.Places.{place_after}
-use Rattle.iim_object.specs.Behind.{of_record, place_behind, place_ended}
-use Rattle.iim_object.specs.Records.{lengths_of, numbers_of}
-use Rattle.iim_object.specs.Saved.{stated_numbers}
-use Rattle.iim_object.specs.Sizes.{Stated, number_at}
-use Rattle.wire_message.specs.Saved.{LeadToSaved}
+use Rattle.iim_dataset.specs.Format.Octets.{Octets}
+use Rattle.iim_dataset.specs.Format.Datasets.{Dataset, SpellsStream, count_octets, of_record}
+use Rattle.iim_dataset.specs.Format.Splits.{Begun, InTag, InData, Reads}
+use Rattle.iim_fields.specs.Format.Records.{AreSections}
+use Rattle.iim_fields.specs.Format.Faults.{kept, is_kept, present_record}
+use Rattle.iim_object.specs.Format.Objects.{SubfileBegun}
+use Rattle.iim_object.specs.Format.Places.{place_after}
+use Rattle.iim_object.specs.Format.Numbers.{place_after_datasets, place_ended}
+use Rattle.iim_object.specs.Format.Records.{lengths_of, numbers_of}
+use Rattle.iim_object.specs.Format.Saved.{stated_numbers}
+use Rattle.iim_object.specs.Format.Sizes.{Stated, number_at}
+use Rattle.wire_message.specs.Format.Saved.{LeadToSaved}
 use Rattle.wire_message.specs.declared.saved.MessagePart.{MessagePart}
 use Rattle.wire_message.specs.declared.saved.MessagePart.TheVariants as part
 use Rattle.wire_message.specs.declared.saved.MessagePlace.{MessagePlace}
 use Rattle.iim_unpack.specs.Format.Admitted.{object_of}
 use Rattle.iim_unpack.specs.LowerLaws.{AnswerLaws}
-use Rattle.iim_unpack.specs.Format.Open.{object_so_far, section, AllGoOn}
-use Rattle.iim_unpack.specs.Format.Tokens.{ObjectLives, MayGoOn}
+use Rattle.iim_unpack.specs.Format.Open.{object_so_far, section, AllCanContinue}
+use Rattle.iim_unpack.specs.Format.Tokens.{ObjectLives, MayContinue}
 use Rattle.iim_unpack.specs.Format.Tickets.{Place, TagBegun, AllEnded, phase_of, heads_of, place_of, ticket_of, layout, text_octets, texts_octets, part_number}
-use Rattle.iim_unpack.specs.TicketFields.{IsField}
-use Rattle.iim_unpack.specs.Begins.{IsNumber, AreNumbers, AreTexts}
+use Rattle.iim_unpack.specs.Format.Begins.{IsLongField}
+use Rattle.iim_unpack.specs.Format.Begins.{IsSize, AreNumbers, AreTexts}
 use Rattle.iim_unpack.specs.Format.TicketForm.{IsPhase, HasForm, Split, SplitsInto, split_octets}
 use Rattle.iim_unpack.specs.Format.Possible.{Possible, TicketsTellOnePlace, widest}
 use Rattle.iim_unpack.specs.Possible.{TicketsOfPlacesAreSplit, texts_of, split_of}
@@ -40,8 +40,8 @@ pub record Lived (place : Place) : Type 0 where
   pub whole : List Dataset
   pub begun : Begun
   pub octets : List ℕ
-  pub reads : Reads octets whole begun
-  pub goes_on : AllGoOn widest whole begun
+  pub reads : Reads count_octets octets whole begun
+  pub leads_on : AllCanContinue widest whole begun
   pub text : List ℕ
   pub message : MessagePlace
   pub leads : LeadToSaved (object_so_far whole begun) text message
@@ -57,7 +57,7 @@ lived laws place p =
       begun = is.begun;
       octets = p.octets;
       reads = is.reads;
-      goes_on = subst (λ (ds : List Dataset). AllGoOn widest ds is.begun) same.whole_is (subst (λ (b : Begun). AllGoOn widest lives.whole b) same.begun_is lives.goes_on);
+      leads_on = subst (λ (ds : List Dataset). AllCanContinue widest ds is.begun) same.whole_is (subst (λ (b : Begun). AllCanContinue widest lives.whole b) same.begun_is lives.leads_on);
       text = is.text;
       message = is.message;
       leads = is.leads;
@@ -66,7 +66,7 @@ lived laws place p =
 
 -- ---- datasets
 
-each_fits : (ds : List Dataset) (xs : List ℕ) → SpellsStream count_octets ds xs → AllByRecursion IsField ds
+each_fits : (ds : List Dataset) (xs : List ℕ) → SpellsStream count_octets ds xs → AllByRecursion IsLongField ds
 each_fits [] xs none = tt
 each_fits (d ∷ ds) xs (first, rest, one, more, parts) = (tag_low _ one.tag one.is_tag, each_fits ds rest more)
 
@@ -74,11 +74,11 @@ pub each_octets : (ds : List Dataset) (xs : List ℕ) → SpellsStream count_oct
 each_octets [] xs none = tt
 each_octets (d ∷ ds) xs (first, rest, one, more, parts) = (one.data_octets, each_octets ds rest more)
 
-each_kept : (ds : List Dataset) → AllByRecursion IsField ds → AllByRecursion IsField (kept ds)
+each_kept : (ds : List Dataset) → AllByRecursion IsLongField ds → AllByRecursion IsLongField (kept ds)
 each_kept [] all = tt
 each_kept (d ∷ ds) all = by (is_kept d.rec) (each_kept ds all.1)
   where
-    by : (b : Bool) → AllByRecursion IsField (kept ds) → AllByRecursion IsField (cond b (d ∷ kept ds) (kept ds))
+    by : (b : Bool) → AllByRecursion IsLongField (kept ds) → AllByRecursion IsLongField (cond b (d ∷ kept ds) (kept ds))
     by true more = (all.0, more)
     by false more = more
 
@@ -100,11 +100,11 @@ each_low (d ∷ ds) ones octets = by (nat_eq d.rec 7) refl (each_low ds ones.1 o
     by true is more = (low d.octets octets.0 (few_in_seven d (eqb-true d.rec 7 is) ones.0), more)
     by false is more = more
 
-low_at : (set : ℕ) (ps : List Stated) → AllByRecursion IsLow ps → IsNumber (number_at set ps)
+low_at : (set : ℕ) (ps : List Stated) → AllByRecursion IsLow ps → IsSize (number_at set ps)
 low_at set [] all = tt
 low_at set (p ∷ ps) all = by (nat_eq p.set set) (low_at set ps all.1)
   where
-    by : (b : Bool) → IsNumber (number_at set ps) → IsNumber (cond b (Some p.number) (number_at set ps))
+    by : (b : Bool) → IsSize (number_at set ps) → IsSize (cond b (Some p.number) (number_at set ps))
     by true more = all.0
     by false more = more
 
@@ -115,7 +115,7 @@ front_ones : (xs ys : List Dataset) → AllByRecursion IsOne (xs ++ ys) → AllB
 front_ones [] ys all = tt
 front_ones (x ∷ xs) ys all = (all.0, front_ones xs ys all.1)
 
-pub ones_in : (ds : List Dataset) (b : Begun) → MayGoOn widest ds b → AllByRecursion IsOne ds
+pub ones_in : (ds : List Dataset) (b : Begun) → MayContinue widest ds b → AllByRecursion IsOne ds
 ones_in ds (InTag held) goes = front_ones ds goes.records.0 (all_ones (ds ++ goes.records.0) goes.records.1)
 ones_in ds (InData h taken) goes =
     let (d, head, (later, are)) = goes.records in
@@ -123,23 +123,23 @@ ones_in ds (InData h taken) goes =
 
 -- ---- the object
 
-taken_by : (b c : Bool) (ds : List Dataset) (count : ℕ) (taken : List ℕ) → length taken ≤ count → ObjectLives (if b then place_after (place_behind ds) (SubfileBegun count) else if c then place_ended ds else place_behind ds)
+taken_by : (b c : Bool) (ds : List Dataset) (count : ℕ) (taken : List ℕ) → length taken ≤ count → ObjectLives (if b then place_after (place_after_datasets ds) (SubfileBegun count) else if c then place_ended ds else place_after_datasets ds)
     → length (object_of ds ++ (if b then taken else [])) < 2 ^ 32
 taken_by true c ds count taken few lives =
     let sums = sum_more (lengths_of (of_record 8 ds)) (count ∷ []) in
     let one = sum_one count in
     let total = total_of (of_record 8 ds) in
     let both = length-append (object_of ds) taken in
-    let fits = object_fits (place_after (place_behind ds) (SubfileBegun count)) lives in
+    let fits = object_fits (place_after (place_after_datasets ds) (SubfileBegun count)) lives in
     omega (arith, sums, one, total, both, fits, few)
 taken_by false true ds count taken few lives = let total = total_of (of_record 8 ds) in let same = ap length (append-nil (object_of ds)) in let fits = object_fits (place_ended ds) lives in omega (arith, total, same, fits)
-taken_by false false ds count taken few lives = let total = total_of (of_record 8 ds) in let same = ap length (append-nil (object_of ds)) in let fits = object_fits (place_behind ds) lives in omega (arith, total, same, fits)
+taken_by false false ds count taken few lives = let total = total_of (of_record 8 ds) in let same = ap length (append-nil (object_of ds)) in let fits = object_fits (place_after_datasets ds) lives in omega (arith, total, same, fits)
 
-pub taken_fits : (octets : List ℕ) (ds : List Dataset) (b : Begun) → Reads octets ds b → MayGoOn widest ds b → length (object_so_far ds b) < 2 ^ 32
-taken_fits octets ds (InTag held) reads goes = let total = total_of (of_record 8 ds) in let fits = object_fits (place_behind ds) goes.object in omega (arith, total, fits)
+pub taken_fits : (octets : List ℕ) (ds : List Dataset) (b : Begun) → Reads count_octets octets ds b → MayContinue widest ds b → length (object_so_far ds b) < 2 ^ 32
+taken_fits octets ds (InTag held) reads goes = let total = total_of (of_record 8 ds) in let fits = object_fits (place_after_datasets ds) goes.object in omega (arith, total, fits)
 taken_fits octets ds (InData h taken) reads goes = let less = reads.is_rest.2 in taken_by (nat_eq h.rec 8) (nat_eq h.rec 9) ds h.count taken (omega (arith, less)) goes.object
 
-heads_fit : (ds : List Dataset) (b : Begun) → MayGoOn widest ds b → heads_of ds b < 2 ^ 32
+heads_fit : (ds : List Dataset) (b : Begun) → MayContinue widest ds b → heads_of ds b < 2 ^ 32
 heads_fit ds (InTag held) goes = let few = goes.within.subfiles in omega (arith, few)
 heads_fit ds (InData h taken) goes = by (nat_eq h.rec 8) refl
   where
@@ -147,13 +147,13 @@ heads_fit ds (InData h taken) goes = by (nat_eq h.rec 8) refl
     by true is = let few = goes.room.subfiles (eqb-true h.rec 8 is) in omega (arith, few)
     by false is = let few = goes.within.subfiles in omega (arith, few)
 
-few_kept : (ds : List Dataset) (b : Begun) → MayGoOn widest ds b → length (kept ds) < 2 ^ 32
+few_kept : (ds : List Dataset) (b : Begun) → MayContinue widest ds b → length (kept ds) < 2 ^ 32
 few_kept ds (InTag held) goes = let few = goes.within.kept.fields_in in omega (arith, few)
 few_kept ds (InData h taken) goes = let few = goes.within.kept.fields_in in omega (arith, few)
 
 -- ---- what is begun
 
-phase_fits : (octets : List ℕ) (ds : List Dataset) (b : Begun) → Reads octets ds b → IsPhase (section ds b) (phase_of ds b)
+phase_fits : (octets : List ℕ) (ds : List Dataset) (b : Begun) → Reads count_octets octets ds b → IsPhase (section ds b) (phase_of ds b)
 phase_fits octets ds (InTag held) reads = by (nat_eq (present_record ds) 9)
   where
     by : (b : Bool) → IsPhase (present_record ds) (if b then AllEnded else TagBegun held)
@@ -195,10 +195,10 @@ spelled p =
 form_of : (place : Place) (l : Lived place) → HasForm (split_of (place_of l.whole l.begun l.message))
 form_of place l = record {
   phase = phase_fits l.octets l.whole l.begun l.reads;
-  fields = record { each = each_kept l.whole (each_fits l.whole l.reads.front l.reads.is_front); few = few_kept l.whole l.begun l.goes_on.sizes };
-  numbers = numbers_fit (numbers_of (of_record 7 l.whole)) (each_low l.whole (ones_in l.whole l.begun l.goes_on.sizes) (each_octets l.whole l.reads.front l.reads.is_front));
-  taken = taken_fits l.octets l.whole l.begun l.reads l.goes_on.sizes;
-  heads = heads_fit l.whole l.begun l.goes_on.sizes;
+  fields = record { each = each_kept l.whole (each_fits l.whole l.reads.front l.reads.is_front); few = few_kept l.whole l.begun l.leads_on.sizes };
+  numbers = numbers_fit (numbers_of (of_record 7 l.whole)) (each_low l.whole (ones_in l.whole l.begun l.leads_on.sizes) (each_octets l.whole l.reads.front l.reads.is_front));
+  taken = taken_fits l.octets l.whole l.begun l.reads l.leads_on.sizes;
+  heads = heads_fit l.whole l.begun l.leads_on.sizes;
   texts = texts_fit l.message (texts_led _ l.text l.message l.leads);
 }
 

@@ -2,27 +2,27 @@
 use Rattle.std.proofs.Common.{◌≡◌, ℕ, ◌<◌, ◌≤◌, ◌⊎◌, cond, nat_eq, if◌then◌else◌, List, [], ◌∷◌, ◌++◌, length, map, refl, ap, sym, subst, ◌∙◌, inl, inr, arith, append-nil, append_assoc, length-append}
 use Rattle.std.proofs.lemmas.List.Concat.{flat_map-append}
 use Rattle.std.proofs.lemmas.List.Elements.{filter-append}
-use Rattle.iim_dataset.specs.Datasets.{Dataset, SpellsTag, SpellsStream, head_of, count_octets}
-use Rattle.iim_dataset.specs.Splits.{Begun, InTag, InData, IsBegun, Reads}
-use Rattle.iim_dataset.specs.Laws.{NoTagBeginsAnother}
-use Rattle.iim_dataset.specs.Languages as languages
+use Rattle.iim_dataset.specs.Format.Datasets.{Dataset, SpellsTag, SpellsStream, head_of, count_octets, of_record}
+use Rattle.iim_dataset.specs.Format.Splits.{Begun, InTag, InData, IsBegun, Reads}
+use Rattle.iim_dataset.specs.Format.Laws.{NoTagBeginsAnother}
+use Rattle.iim_dataset.specs.Format.Languages as languages
 use Rattle.iim_dataset.specs.declared.head.Head.{Head}
-use Rattle.iim_fields.specs.Records.{AreSections}
-use Rattle.iim_fields.specs.Alive.{IsAlive}
-use Rattle.iim_fields.specs.Faults.{present_record, joined}
-use Rattle.iim_fields.specs.Values.{data_of}
+use Rattle.iim_fields.specs.Format.Records.{AreSections}
+use Rattle.iim_fields.specs.Format.Alive.{SectionsLive}
+use Rattle.iim_fields.specs.Format.Faults.{present_record, joined}
+use Rattle.iim_fields.specs.Format.Values.{data_of}
 use Rattle.iim_fields.specs.declared.limits.Limits.{Limits}
-use Rattle.iim_object.specs.Objects.{ObjectLanguage}
-use Rattle.iim_object.specs.Places.{place_after, head_token, tokens_of}
-use Rattle.iim_object.specs.Records.{AreSized}
-use Rattle.iim_object.specs.Behind.{of_record, place_behind}
-use Rattle.wire_story.specs.Tokens.{Octet, End}
-use Rattle.wire_message.specs.Layers.{MessageLanguage, MessageLivesWith, StoryLivesIn}
+use Rattle.iim_object.specs.Format.Objects.{ObjectLanguage}
+use Rattle.iim_object.specs.Format.Places.{place_after, head_token, tokens_of}
+use Rattle.iim_object.specs.Format.Records.{AreSized}
+use Rattle.iim_object.specs.Format.Numbers.{place_after_datasets}
+use Rattle.wire_story.specs.Format.Tokens.{Octet, End}
+use Rattle.wire_message.specs.Format.Layers.{MessageLanguage, MessageLivesWith, StoryLivesIn}
 use Rattle.iim_unpack.specs.Format.Admitted.{object_of}
-use Rattle.iim_unpack.specs.Format.Tokens.{MayGoOn}
+use Rattle.iim_unpack.specs.Format.Tokens.{MayContinue}
 use Rattle.iim_unpack.specs.Format.Framed.{AreWithin}
-use Rattle.iim_unpack.specs.Format.Open.{object_so_far, section, message_tokens, AllGoOn}
-use Rattle.iim_unpack.specs.Format.Tokens.{GoOnAt, ObjectLives, place_at}
+use Rattle.iim_unpack.specs.Format.Open.{object_so_far, section, message_tokens, AllCanContinue}
+use Rattle.iim_unpack.specs.Format.Tokens.{CanContinueAt, ObjectLives, place_at}
 use Rattle.iim_unpack.proofs.Frames.{compare}
 use Rattle.iim_unpack.proofs.Fronts.{no_longer, begun_none}
 use Rattle.iim_unpack.proofs.Lasts.{present_last, not_all}
@@ -80,7 +80,7 @@ begun_as laws head tag z rest st (InData h taken) b e =
     let less = b.2 in
     (λ i. InData (sym one.0 i) (sym one.2 i), omega (arith, less, count, many))
 
-pub follows : FollowLaws → (octets : List ℕ) (W : List Dataset) (c : Begun) → Reads octets W c → (whole : List Dataset) (F tag z : List ℕ) (head : Head) → SpellsStream count_octets whole F
+pub follows : FollowLaws → (octets : List ℕ) (W : List Dataset) (c : Begun) → Reads count_octets octets W c → (whole : List Dataset) (F tag z : List ℕ) (head : Head) → SpellsStream count_octets whole F
     → SpellsTag count_octets head tag → octets ≡ F ++ (tag ++ z) → Follows whole head z W c
 follows laws octets W c r whole F tag z head sw st parts =
     elim (compare laws.one_dataset whole W F r.front (tag ++ z) r.rest sw r.is_front (sym parts ∙ r.parts)) [
@@ -100,24 +100,24 @@ follows laws octets W c r whole F tag z head sw st parts =
 
 -- ---- records, limits and sizes
 
-pub alive_of : (limits : Limits) (W : List Dataset) (c : Begun) → MayGoOn limits W c → IsAlive W
+pub alive_of : (limits : Limits) (W : List Dataset) (c : Begun) → MayContinue limits W c → SectionsLive W
 alive_of limits W (InTag held) goes = goes.records
 alive_of limits W (InData h taken) goes = let (d, head, (later, are)) = goes.records in ((d ∷ []) ++ later, subst AreSections (append_assoc W (d ∷ []) later) are)
 
-pub within_of : (limits : Limits) (W : List Dataset) (c : Begun) → MayGoOn limits W c → AreWithin limits W
+pub within_of : (limits : Limits) (W : List Dataset) (c : Begun) → MayContinue limits W c → AreWithin limits W
 within_of limits W (InTag held) goes = goes.within
 within_of limits W (InData h taken) goes = goes.within
 
 -- where a token of a head has led, the layer can continue from before it
-before_head : ObjectLaws → (W : List Dataset) (h : Head) → HeadLeads W h → ObjectLives (place_at W h) → ObjectLives (place_behind W)
+before_head : ObjectLaws → (W : List Dataset) (h : Head) → HeadLeads W h → ObjectLives (place_at W h) → ObjectLives (place_after_datasets W)
 before_head laws W h leads lives =
     let token = head_token h.rec h.count in
-    let there : ObjectLives (place_after (place_behind W) token) = subst ObjectLives (sym leads.1) lives in
-    alive_front ObjectLanguage (tokens_of (place_behind W)) (token ∷ []) (subst (languages.IsAlive ObjectLanguage) (laws.tokens (place_behind W) token leads.0) there)
+    let there : ObjectLives (place_after (place_after_datasets W) token) = subst ObjectLives (sym leads.1) lives in
+    alive_front ObjectLanguage (tokens_of (place_after_datasets W)) (token ∷ []) (subst (languages.IsAlive ObjectLanguage) (laws.tokens (place_after_datasets W) token leads.0) there)
 
-pub object_behind : ObjectLaws → (limits : Limits) (W : List Dataset) (c : Begun) → MayGoOn limits W c → ObjectLives (place_behind W)
-object_behind laws limits W (InTag held) goes = goes.object
-object_behind laws limits W (InData h taken) goes =
+pub object_lives_after : ObjectLaws → (limits : Limits) (W : List Dataset) (c : Begun) → MayContinue limits W c → ObjectLives (place_after_datasets W)
+object_lives_after laws limits W (InTag held) goes = goes.object
+object_lives_after laws limits W (InData h taken) goes =
     let (d, head, alive) = goes.records in
     let rec : d.rec ≡ h.rec = ap (λ (k : Head). k.rec) head in
     elim (is_one W d alive) [
@@ -128,22 +128,22 @@ object_behind laws limits W (InData h taken) goes =
     ]
 
 -- whole datasets that are followed continue to some that have sizes
-pub sized_of : FollowLaws → (limits : Limits) (W : List Dataset) (c : Begun) → MayGoOn limits W c → languages.IsAlive AreSized W
-sized_of laws limits W c goes = (laws.live W (records_alive W (alive_of limits W c goes))).1 (object_behind laws.objects limits W c goes)
+pub sized_of : FollowLaws → (limits : Limits) (W : List Dataset) (c : Begun) → MayContinue limits W c → languages.IsAlive AreSized W
+sized_of laws limits W c goes = (laws.live W (records_alive W (alive_of limits W c goes))).1 (object_lives_after laws.objects limits W c goes)
 
 -- what stands in front of further datasets
 pub record InFront (limits : Limits) (whole : List Dataset) (d : Dataset) : Type 0 where
-  pub alive : IsAlive (whole ++ d ∷ [])
+  pub alive : SectionsLive (whole ++ d ∷ [])
   pub sized : languages.IsAlive AreSized (whole ++ d ∷ [])
-  pub goes_at : GoOnAt limits whole (head_of d)
+  pub goes_at : CanContinueAt limits whole (head_of d)
 
-pub in_front : FollowLaws → (limits : Limits) (W : List Dataset) (c : Begun) → MayGoOn limits W c → (whole ws : List Dataset) (d : Dataset) → W ≡ whole ++ d ∷ ws → InFront limits whole d
+pub in_front : FollowLaws → (limits : Limits) (W : List Dataset) (c : Begun) → MayContinue limits W c → (whole ws : List Dataset) (d : Dataset) → W ≡ whole ++ d ∷ ws → InFront limits whole d
 in_front laws limits W c goes whole ws d is =
     let alive = alive_of limits W c goes in
     let sized = sized_of laws limits W c goes in
     let within : AreWithin limits (whole ++ d ∷ ws) = subst (AreWithin limits) is (within_of limits W c goes) in
     let regroup : (ms : List Dataset) → W ++ ms ≡ (whole ++ d ∷ []) ++ (ws ++ ms) = λ ms. ap (λ (xs : List Dataset). xs ++ ms) is ∙ append_assoc whole (d ∷ ws) ms ∙ sym (append_assoc whole (d ∷ []) (ws ++ ms)) in
-    let front : IsAlive (whole ++ d ∷ []) = (ws ++ alive.0, subst AreSections (regroup alive.0) alive.1) in
+    let front : SectionsLive (whole ++ d ∷ []) = (ws ++ alive.0, subst AreSections (regroup alive.0) alive.1) in
     let sizes : languages.IsAlive AreSized (whole ++ d ∷ []) = (ws ++ sized.0, subst AreSized (regroup sized.0) sized.1) in
     let room = leaves_room limits whole d ws within in
     record {
@@ -158,9 +158,9 @@ in_front laws limits W c goes whole ws d is =
     }
 
 -- Every layer that is asked before the message can continue with a head that has come.
-pub head_lives : FollowLaws → (limits : Limits) (W : List Dataset) (c : Begun) → AllGoOn limits W c → (whole : List Dataset) (head : Head) (z : List ℕ) → Follows whole head z W c → GoOnAt limits whole head
-head_lives laws limits W c all whole head z (inl (d, ws, tail, is, h, rest)) = subst (GoOnAt limits whole) h (in_front laws limits W c all.sizes whole ws d is).goes_at
-head_lives laws limits W c all whole head z (inr (same, begun, less)) = (subst (AllGoOn limits whole) begun (subst (λ (ds : List Dataset). AllGoOn limits ds c) same all)).sizes
+pub head_lives : FollowLaws → (limits : Limits) (W : List Dataset) (c : Begun) → AllCanContinue limits W c → (whole : List Dataset) (head : Head) (z : List ℕ) → Follows whole head z W c → CanContinueAt limits whole head
+head_lives laws limits W c all whole head z (inl (d, ws, tail, is, h, rest)) = subst (CanContinueAt limits whole) h (in_front laws limits W c all.sizes whole ws d is).goes_at
+head_lives laws limits W c all whole head z (inr (same, begun, less)) = (subst (AllCanContinue limits whole) begun (subst (λ (ds : List Dataset). AllCanContinue limits ds c) same all)).sizes
 
 -- ---- values
 
@@ -168,14 +168,14 @@ pub same_data : (d : Dataset) (head : Head) (given : List ℕ) → head_of d ≡
 same_data d head given h o = λ i. record { rec = (h i).rec; set = (h i).set; octets = o i }
 
 -- The records and the sizes can continue with a value that has come.
-pub value_lives : FollowLaws → (limits : Limits) (W : List Dataset) (c : Begun) → AllGoOn limits W c → (whole : List Dataset) (head : Head) (z given y : List ℕ) → Follows whole head z W c → z ≡ given ++ y
-    → length given ≡ head.count → IsAlive (whole ++ data_of head given ∷ []) × languages.IsAlive AreSized (whole ++ data_of head given ∷ [])
+pub value_lives : FollowLaws → (limits : Limits) (W : List Dataset) (c : Begun) → AllCanContinue limits W c → (whole : List Dataset) (head : Head) (z given y : List ℕ) → Follows whole head z W c → z ≡ given ++ y
+    → length given ≡ head.count → SectionsLive (whole ++ data_of head given ∷ []) × languages.IsAlive AreSized (whole ++ data_of head given ∷ [])
 value_lives laws limits W c all whole head z given y (inl (d, ws, tail, is, h, rest)) parts many =
     let front = in_front laws limits W c all.sizes whole ws d is in
     let count : length d.octets ≡ head.count = ap (λ (k : Head). k.count) h in
     let octets : d.octets ≡ given = same_front given y d.octets tail (sym parts ∙ rest) (many ∙ sym count) in
     let same = same_data d head given h octets in
-    (subst (λ (x : Dataset). IsAlive (whole ++ x ∷ [])) same front.alive, subst (λ (x : Dataset). languages.IsAlive AreSized (whole ++ x ∷ [])) same front.sized)
+    (subst (λ (x : Dataset). SectionsLive (whole ++ x ∷ [])) same front.alive, subst (λ (x : Dataset). languages.IsAlive AreSized (whole ++ x ∷ [])) same front.sized)
 value_lives laws limits W c all whole head z given y (inr (same, begun, less)) parts many = absurd (omega (arith, less, many, ap length parts, length-append given y))
 
 -- ---- the message
@@ -216,12 +216,12 @@ object_on W c whole head taken more next eight less (inl (d, ws, tail, is, h, re
     regroup o t n k s e = simp append_assoc
 
 -- A message can continue from the octets of the object so far.
-pub message_of : (limits : Limits) (W : List Dataset) (c : Begun) → AllGoOn limits W c → (x tail : List ℕ) → object_so_far W c ≡ x ++ tail → MessageLivesWith x
+pub message_of : (limits : Limits) (W : List Dataset) (c : Begun) → AllCanContinue limits W c → (x tail : List ℕ) → object_so_far W c ≡ x ++ tail → MessageLivesWith x
 message_of limits W c all x tail is =
     message_front x tail (if nat_eq (section W c) 9 then End ∷ [] else [])
     (subst (λ (o : List ℕ). languages.IsAlive MessageLanguage (map Octet o ++ (if nat_eq (section W c) 9 then End ∷ [] else []))) is all.message)
 
-pub story_of : (limits : Limits) (W : List Dataset) (c : Begun) → AllGoOn limits W c → (x tail : List ℕ) → object_so_far W c ≡ x ++ tail → StoryLivesIn x
+pub story_of : (limits : Limits) (W : List Dataset) (c : Begun) → AllCanContinue limits W c → (x tail : List ℕ) → object_so_far W c ≡ x ++ tail → StoryLivesIn x
 story_of limits W c all x tail is = story_front x tail (subst StoryLivesIn is all.story)
 
 -- ---- the end of the message
@@ -232,18 +232,18 @@ ends_tokens ds h taken nine =
     ap (λ (r : ℕ). map Octet (object_of ds ++ (if nat_eq r 8 then taken else [])) ++ (if nat_eq r 9 then End ∷ [] else [])) nine
     ∙ ap (λ (o : List ℕ). map Octet o ++ End ∷ []) (append-nil (object_of ds))
 
-behind_last : (ds : List Dataset) (d : Dataset) → d.rec ≡ 9 → map Octet (object_of (ds ++ d ∷ [])) ++ (if nat_eq (present_record (ds ++ d ∷ [])) 9 then End ∷ [] else []) ≡ map Octet (object_of ds) ++ End ∷ []
-behind_last ds d nine =
+after_last : (ds : List Dataset) (d : Dataset) → d.rec ≡ 9 → map Octet (object_of (ds ++ d ∷ [])) ++ (if nat_eq (present_record (ds ++ d ∷ [])) 9 then End ∷ [] else []) ≡ map Octet (object_of ds) ++ End ∷ []
+after_last ds d nine =
     let none : object_of (d ∷ []) ≡ [] = ap (λ (r : ℕ). joined (cond (nat_eq r 8) (d ∷ []) [])) nine in
     let object : object_of (ds ++ d ∷ []) ≡ object_of ds = objects_append ds (d ∷ []) ∙ ap (λ (xs : List ℕ). object_of ds ++ xs) none ∙ append-nil (object_of ds) in
     ap (λ (o : List ℕ). map Octet o ++ (if nat_eq (present_record (ds ++ d ∷ [])) 9 then End ∷ [] else [])) object
     ∙ ap (λ (r : ℕ). map Octet (object_of ds) ++ (if nat_eq r 9 then End ∷ [] else [])) (present_last 0 ds d ∙ nine)
 
 -- Where the head of 9:10 has come, a message can end with the octets of the object.
-pub message_ends : FollowLaws → (limits : Limits) (W : List Dataset) (c : Begun) → AllGoOn limits W c → (whole : List Dataset) (head : Head) (z : List ℕ) → Follows whole head z W c → head.rec ≡ 9
+pub message_ends : FollowLaws → (limits : Limits) (W : List Dataset) (c : Begun) → AllCanContinue limits W c → (whole : List Dataset) (head : Head) (z : List ℕ) → Follows whole head z W c → head.rec ≡ 9
     → languages.IsAlive MessageLanguage (map Octet (object_of whole) ++ End ∷ [])
 message_ends laws limits W c all whole head z (inr (same, begun, less)) nine =
-    subst (languages.IsAlive MessageLanguage) (ends_tokens whole head z nine) (subst (AllGoOn limits whole) begun (subst (λ (ds : List Dataset). AllGoOn limits ds c) same all)).message
+    subst (languages.IsAlive MessageLanguage) (ends_tokens whole head z nine) (subst (AllCanContinue limits whole) begun (subst (λ (ds : List Dataset). AllCanContinue limits ds c) same all)).message
 message_ends laws limits W c all whole head z (inl (d, ws, tail, is, h, rest)) nine =
     let rec : d.rec ≡ 9 = ap (λ (k : Head). k.rec) h ∙ nine in
     let front = in_front laws limits W c all.sizes whole ws d is in
@@ -252,8 +252,8 @@ message_ends laws limits W c all whole head z (inl (d, ws, tail, is, h, rest)) n
     let later : ws ++ alive.0 ≡ [] = laws.sections (whole ++ d ∷ []) (ws ++ alive.0) sections
     (subst AreSections (ap (λ (xs : List Dataset). xs ++ alive.0) is ∙ append_assoc whole (d ∷ ws) alive.0 ∙ sym (append_assoc whole (d ∷ []) (ws ++ alive.0))) alive.1) in
     let same : W ≡ whole ++ d ∷ [] = is ∙ ap (λ (xs : List Dataset). whole ++ d ∷ xs) (none_of ws alive.0 later) in
-    at_last c (subst (λ (ds : List Dataset). AllGoOn limits ds c) same all) sections rec
+    at_last c (subst (λ (ds : List Dataset). AllCanContinue limits ds c) same all) sections rec
   where
-    at_last : (b : Begun) → AllGoOn limits (whole ++ d ∷ []) b → AreSections (whole ++ d ∷ []) → d.rec ≡ 9 → languages.IsAlive MessageLanguage (map Octet (object_of whole) ++ End ∷ [])
-    at_last (InTag held) all' sections rec = subst (languages.IsAlive MessageLanguage) (behind_last whole d rec) all'.message
+    at_last : (b : Begun) → AllCanContinue limits (whole ++ d ∷ []) b → AreSections (whole ++ d ∷ []) → d.rec ≡ 9 → languages.IsAlive MessageLanguage (map Octet (object_of whole) ++ End ∷ [])
+    at_last (InTag held) all' sections rec = subst (languages.IsAlive MessageLanguage) (after_last whole d rec) all'.message
     at_last (InData k taken) all' sections rec = absurd (not_all laws.sections (whole ++ d ∷ []) k all'.sizes.records sections)

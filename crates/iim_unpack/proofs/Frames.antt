@@ -1,11 +1,11 @@
 -- Framed octets, and the whole datasets that octets begin with.
 use Rattle.std.proofs.Common.{◌≡◌, ℕ, ◌⊎◌, true, false, List, [], ◌∷◌, ◌++◌, refl, ap, sym, subst, ◌∙◌, inl, inr, append_assoc}
 use Rattle.std.proofs.lemmas.List.{append-nil}
-use Rattle.iim_dataset.specs.Datasets.{Dataset, SpellsDataset, SpellsStream, count_octets}
-use Rattle.iim_dataset.specs.Laws.{NoDatasetBeginsAnother}
-use Rattle.iim_tables.specs.Rows.{table}
-use Rattle.iim_fields.specs.Records.{AreSections}
-use Rattle.iim_fields.specs.Laws.{NoSectionsBeginOthers}
+use Rattle.iim_dataset.specs.Format.Datasets.{Dataset, SpellsDataset, SpellsStream, count_octets}
+use Rattle.iim_dataset.specs.Format.Laws.{NoDatasetBeginsAnother}
+use Rattle.iim_tables.specs.Format.Rows.{table}
+use Rattle.iim_fields.specs.Format.Records.{AreSections}
+use Rattle.iim_fields.specs.Format.Laws.{NoSectionsBeginOthers}
 use Rattle.iim_unpack.specs.Format.Laws.{NoEnvelopeIsEmpty}
 
 -- ---- two streams that agree

@@ -1,9 +1,9 @@
 -- What the tag at the front says of the datasets there.
 use Rattle.std.proofs.Common.{◌≡◌, ℕ, ◌<◌, List, [], ◌++◌, length, ap, sym, subst, ◌∙◌, arith, append_assoc, length-append}
 use Rattle.std.proofs.lemmas.List.{append-nil}
-use Rattle.iim_dataset.specs.Datasets.{Dataset, SpellsTag, SpellsDataset, head_of, count_octets}
-use Rattle.iim_dataset.specs.Splits.{Begun, InTag, InData, IsBegun}
-use Rattle.iim_dataset.specs.Laws.{NoTagBeginsAnother}
+use Rattle.iim_dataset.specs.Format.Datasets.{Dataset, SpellsTag, SpellsDataset, head_of, count_octets}
+use Rattle.iim_dataset.specs.Format.Splits.{Begun, InTag, InData, IsBegun}
+use Rattle.iim_dataset.specs.Format.Laws.{NoTagBeginsAnother}
 use Rattle.iim_dataset.specs.declared.head.Head.{Head}
 
 -- a tag is no longer tag

@@ -1,50 +1,51 @@
 -- Where a head leads the parts of an unpacker, and why it is refused.
 use Rattle.std.proofs.Common.{◌≡◌, ℕ, ◌<◌, ◌≤◌, ◌⊎◌, Bool, true, false, cond, if◌then◌else◌, nat_eq, List, [], ◌∷◌, ◌++◌, length, flat_map, Option, Some, refl, ap, sym, subst, ◌∙◌, inl, inr, arith, append-nil}
 use Rattle.std.proofs.lemmas.Bool.Decides.{eqb_tells}
-use Rattle.iim_dataset.specs.Datasets.{Dataset}
-use Rattle.iim_dataset.specs.Splits.{InTag, InData}
-use Rattle.iim_dataset.specs.Events.{Event, HeadRead, events_of}
-use Rattle.iim_dataset.specs.Languages as languages
+use Rattle.iim_dataset.specs.Format.Datasets.{Dataset, of_record}
+use Rattle.iim_dataset.specs.Format.Splits.{InTag, InData}
+use Rattle.iim_dataset.specs.Format.Events.{DatasetEvent, HeadRead, events_of}
+use Rattle.iim_dataset.specs.Format.Languages as languages
 use Rattle.iim_dataset.specs.declared.head.Head.{Head}
-use Rattle.iim_fields.specs.Alive.{IsAliveAt}
-use Rattle.iim_fields.specs.Standing as records
-use Rattle.iim_fields.specs.Standing.{IsBetween, IsHeadFault, limits_of}
-use Rattle.iim_fields.specs.Standing.{FieldsPlace}
+use Rattle.iim_fields.specs.Format.Alive.{SectionsLiveAt}
+use Rattle.iim_fields.specs.Format.Standing as records
+use Rattle.iim_fields.specs.Format.Standing.{IsBetween, IsHeadFault, limits_of}
+use Rattle.iim_fields.specs.Format.Standing.{FieldsPlace}
 use Rattle.iim_fields.specs.declared.fault.FieldFault.{FieldFault}
 use Rattle.iim_fields.specs.declared.fault.FieldCause.{FieldCause}
 use Rattle.iim_fields.specs.declared.fault.FieldCause.TheVariants as fields
-use Rattle.iim_object.specs.Events.{ObjectEnd}
-use Rattle.iim_object.specs.Plans.{max_subfiles}
-use Rattle.iim_object.specs.Objects.{ObjectLanguage, ObjectEnded, SubfileBegun}
-use Rattle.iim_object.specs.Places.{head_token}
-use Rattle.iim_object.specs.Reading as objects
-use Rattle.iim_object.specs.Reading.{events_at}
-use Rattle.iim_object.specs.Behind.{of_record, place_behind}
+use Rattle.iim_object.specs.Format.Events.{ObjectEnd}
+use Rattle.iim_object.specs.Format.Plans.{max_subfiles}
+use Rattle.iim_object.specs.Format.Objects.{ObjectLanguage, ObjectEnded, SubfileBegun}
+use Rattle.iim_object.specs.Format.Places.{head_token}
+use Rattle.iim_object.specs.Format.Reading as objects
+use Rattle.iim_object.specs.Format.Reading.{events_at}
+use Rattle.iim_object.specs.Format.Numbers.{place_after_datasets}
 use Rattle.iim_object.specs.declared.state.State.{State}
 use Rattle.iim_object.specs.declared.fault.SizeCause.{SizeCause}
 use Rattle.iim_object.specs.declared.fault.SizeCause.TheVariants as sizes
-use Rattle.wire_story.specs.Delivery as story
-use Rattle.wire_story.specs.Tokens.{End}
-use Rattle.wire_message.specs.Layers.{text_so_far, MessageDiesAt}
-use Rattle.wire_message.specs.Laws.{TextsStandBetweenStxAndEtx}
-use Rattle.wire_message.specs.Reading as wire
+use Rattle.wire_story.specs.Format.Delivery as story
+use Rattle.wire_story.specs.Format.Tokens.{End}
+use Rattle.wire_message.specs.Format.Layers.{text_so_far, MessageDiesAt}
+use Rattle.wire_message.specs.Format.Laws.{TextsStandBetweenStxAndEtx}
+use Rattle.wire_message.specs.Format.Reading as wire
 use Rattle.wire_message.specs.declared.place.Place.{Place}
 use Rattle.iim_unpack.specs.Format.Admitted.{object_of}
 use Rattle.iim_unpack.specs.Format.Tokens.{place_at, ObjectLives, IsRefusedHead}
 use Rattle.iim_unpack.specs.Passed.{Passed, HasFewSubfiles, IsFullOfSubfiles, RefusesBySize, RefusesAtEnd, RefusesObject, RefusesSubfile, octets_in, is_ended}
 use Rattle.iim_unpack.specs.Format.Refusals.{of_field, too_many_on, message_on, cause_of, cause_of_size}
 use Rattle.iim_unpack.specs.Format.Open.{object_so_far, IsUnfinished}
-use Rattle.iim_unpack.specs.Parts.{Behind, Within, Went, CountsFor, Stopped, has_ended}
+use Rattle.iim_unpack.specs.Format.Parts.{AreAfter, Within, CountsFor, has_ended}
+use Rattle.iim_unpack.specs.Parts.{Went, WasStopped}
 use Rattle.iim_unpack.specs.declared.parts.Parts.{Parts}
-use Rattle.iim_unpack.specs.declared.fault.Fault.{Fault}
+use Rattle.iim_unpack.specs.declared.fault.TokenFault.{TokenFault}
 use Rattle.wire_message.specs.declared.fault.MessageCause.{MessageCause}
 use Rattle.iim_unpack.proofs.Places.{HeadLeads, subfile_leads, end_leads}
 use Rattle.iim_unpack.proofs.Faults.{field_head, too_many_head, object_head, have_room}
 use Rattle.std.proofs.lemmas.Bool.{true≢false}
 use Rattle.std.proofs.lemmas.List.{length-map}
 use Rattle.iim_unpack.proofs.Lasts.{sections_last}
-use Rattle.iim_unpack.proofs.Ended.{ended_behind}
-use Rattle.iim_unpack.proofs.Carrying.{counts_for, passes_on, behind_all, all_behind}
+use Rattle.iim_unpack.proofs.Ended.{ended_by_record}
+use Rattle.iim_unpack.proofs.Carrying.{counts_for, passes_on, after_all, all_after}
 use Rattle.iim_unpack.specs.LowerLaws.{HeadLaws}
 
 -- What stands after a head.
@@ -75,9 +76,9 @@ within_begun new ds h b = record {
 }
 
 -- a head, from after whole datasets
-pub went_head : {S : Type 0} (goes : S → List story.Event → S → Type 0) (failures : S → ℕ) (p new : Parts) (a b : S) (h : Head) (more : List ℕ) → IsBetween p.fields
+pub went_head : {S : Type 0} (goes : S → List story.StoryEvent → S → Type 0) (failures : S → ℕ) (p new : Parts) (a b : S) (h : Head) (more : List ℕ) → IsBetween p.fields
     → limits_of new.fields ≡ limits_of p.fields → goes a (story.delivered more) b → failures b ≡ failures a
-    → ((ds : List Dataset) → Behind p ds → Begins new ds h × (text_so_far (object_of ds) ++ more ≡ text_so_far (object_of ds)))
+    → ((ds : List Dataset) → AreAfter p ds → Begins new ds h × (text_so_far (object_of ds) ++ more ≡ text_so_far (object_of ds)))
     → Went goes failures p a (HeadRead h ∷ []) new b
 went_head goes failures p new a b h more between same told calm begins = record {
   limits = same;
@@ -85,12 +86,12 @@ went_head goes failures p new a b h more between same told calm begins = record 
   told = told;
   calm = calm;
   leads = λ before text order led.
-      let at = behind_all p before text between led in
-      let next = begins at.ds at.behind in
+      let at = after_all p before text between led in
+      let next = begins at.ds at.after in
       record {
         whole = at.ds;
         begun = InData h [];
-        told = ap (λ (es : List Event). es ++ HeadRead h ∷ []) (at.told ∙ append-nil (flat_map events_of at.ds));
+        told = ap (λ (es : List DatasetEvent). es ++ HeadRead h ∷ []) (at.told ∙ append-nil (flat_map events_of at.ds));
         stands = within_begun new at.ds h next.0;
         is_text = ap (λ (t : List ℕ). t ++ more) at.is_text ∙ next.1 ∙ ap text_so_far (sym (no_more at.ds h));
       };
@@ -105,10 +106,10 @@ none_by false = refl
 none_in : (r : ℕ) → octets_in (events_at r) ≡ []
 none_in r = none_by (nat_eq r 9)
 
-same_text : TextsStandBetweenStxAndEtx → (old new : Option Place) (r : ℕ) (o more : List ℕ) → wire.GoesOn old (octets_in (events_at r)) more new → wire.StandsAt old o (text_so_far o)
+same_text : TextsStandBetweenStxAndEtx → (old new : Option Place) (r : ℕ) (o more : List ℕ) → wire.LeadsOn old (octets_in (events_at r)) more new → wire.StandsAt old o (text_so_far o)
     → wire.StandsAt new o (text_so_far o) × (text_so_far o ++ more ≡ text_so_far o)
 same_text texts old new r o more goes at =
-    let next = passes_on texts old new o [] more (subst (λ (xs : List ℕ). wire.GoesOn old xs more new) (none_in r) goes) at in (
+    let next = passes_on texts old new o [] more (subst (λ (xs : List ℕ). wire.LeadsOn old xs more new) (none_in r) goes) at in (
       subst (λ (x : List ℕ). wire.StandsAt new x (text_so_far x)) (append-nil o) next.0,
       next.1 ∙ ap text_so_far (append-nil o),
     )
@@ -120,24 +121,24 @@ somewhere_text texts old o more goes at =
 -- ---- each kind of head
 
 -- how many subfiles the object has
-as_many : (ds : List Dataset) → length (place_behind ds).lengths ≡ length (of_record 8 ds)
+as_many : (ds : List Dataset) → length (place_after_datasets ds).lengths ≡ length (of_record 8 ds)
 as_many ds = length-map (of_record 8 ds) (λ (d : Dataset). length d.octets)
 
-few_of : (p : Parts) (ds : List Dataset) → Behind p ds → HasFewSubfiles p.object → length (of_record 8 ds) < max_subfiles
-few_of p ds at few = let n = few (place_behind ds) at.object in omega (arith, n, as_many ds)
+few_of : (p : Parts) (ds : List Dataset) → AreAfter p ds → HasFewSubfiles p.object → length (of_record 8 ds) < max_subfiles
+few_of p ds at few = let n = few (place_after_datasets ds) at.object in omega (arith, n, as_many ds)
 
-pub begins_subfile : {S : Type 0} (goes : S → List story.Event → S → Type 0) (failures : S → ℕ) → HeadLaws → (p : Parts) (a b : S) (ds : List Dataset) (h : Head) (checker : FieldsPlace) (object : Option State) (message : Option Place)
-    → h.rec ≡ 8 → Behind p ds → records.StandsIn checker ds h [] → objects.GoesOn p.object (head_token h.rec h.count) object
+pub begins_subfile : {S : Type 0} (goes : S → List story.StoryEvent → S → Type 0) (failures : S → ℕ) → HeadLaws → (p : Parts) (a b : S) (ds : List Dataset) (h : Head) (checker : FieldsPlace) (object : Option State) (message : Option Place)
+    → h.rec ≡ 8 → AreAfter p ds → records.StandsIn checker ds h [] → objects.LeadsOn p.object (head_token h.rec h.count) object
     → (passed : Passed goes failures p.message a (events_at h.rec) message b) → HasFewSubfiles p.object
     → Begins (record { fields = checker; object = object; message = message }) ds h
     × (text_so_far (object_of ds) ++ passed.more ≡ text_so_far (object_of ds))
-begins_subfile goes failures laws p a b ds h checker object message eight at inside goes_on passed few =
+begins_subfile goes failures laws p a b ds h checker object message eight at inside leads_on passed few =
     let room : length (of_record 8 ds) < max_subfiles = few_of p ds at few in
     let leads = subfile_leads laws.objects ds h inside.alive eight room in
     let text = same_text laws.message.texts p.message message h.rec (object_of ds) passed.more passed.stands at.message in (
       record {
         fields = inside;
-        object = subst (objects.StandsAt object) leads.1 (goes_on (place_behind ds) at.object leads.0);
+        object = subst (objects.StandsAt object) leads.1 (leads_on (place_after_datasets ds) at.object leads.0);
         few = at.few;
         room = λ is. room;
         message = text.0;
@@ -146,18 +147,18 @@ begins_subfile goes failures laws p a b ds h checker object message eight at ins
       text.1,
     )
 
-pub begins_end : {S : Type 0} (goes : S → List story.Event → S → Type 0) (failures : S → ℕ) → HeadLaws → (p : Parts) (a b : S) (ds : List Dataset) (h : Head) (checker : FieldsPlace) (object : Option State) (message : Option Place)
-    → h.rec ≡ 9 → Behind p ds → records.StandsIn checker ds h [] → objects.GoesOn p.object (head_token h.rec h.count) object
+pub begins_end : {S : Type 0} (goes : S → List story.StoryEvent → S → Type 0) (failures : S → ℕ) → HeadLaws → (p : Parts) (a b : S) (ds : List Dataset) (h : Head) (checker : FieldsPlace) (object : Option State) (message : Option Place)
+    → h.rec ≡ 9 → AreAfter p ds → records.StandsIn checker ds h [] → objects.LeadsOn p.object (head_token h.rec h.count) object
     → (passed : Passed goes failures p.message a (events_at h.rec) message b)
     → Begins (record { fields = checker; object = object; message = message }) ds h
     × (text_so_far (object_of ds) ++ passed.more ≡ text_so_far (object_of ds))
-begins_end goes failures laws p a b ds h checker object message nine at inside goes_on passed =
+begins_end goes failures laws p a b ds h checker object message nine at inside leads_on passed =
     let leads = end_leads laws.objects ds h inside.alive nine in
     let text = same_text laws.message.texts p.message message h.rec (object_of ds) passed.more passed.stands at.message in
     let is_end : is_ended false (events_at h.rec) ≡ true = ap (λ n. is_ended false (events_at n)) nine in (
       record {
         fields = inside;
-        object = subst (objects.StandsAt object) leads.1 (goes_on (place_behind ds) at.object leads.0);
+        object = subst (objects.StandsAt object) leads.1 (leads_on (place_after_datasets ds) at.object leads.0);
         few = at.few;
         room = λ is. absurd (let bad : 8 ≡ 9 = sym is ∙ nine in omega (arith, bad));
         message = text.0;
@@ -169,12 +170,12 @@ begins_end goes failures laws p a b ds h checker object message nine at inside g
 not_equal : (r s : ℕ) → (r ≡ s → ⊥) → nat_eq r s ≡ false
 not_equal r s other = elim (eqb_tells r s) [ inl same ↦ absurd (other same.1) | inr apart ↦ apart.0 ]
 
-pub begins_other : (p : Parts) (ds : List Dataset) (h : Head) (checker : FieldsPlace) → (h.rec ≡ 8 → ⊥) → (h.rec ≡ 9 → ⊥) → Behind p ds → records.StandsIn checker ds h []
+pub begins_other : (p : Parts) (ds : List Dataset) (h : Head) (checker : FieldsPlace) → (h.rec ≡ 8 → ⊥) → (h.rec ≡ 9 → ⊥) → AreAfter p ds → records.StandsIn checker ds h []
     → Begins (record { fields = checker; object = p.object; message = p.message }) ds h
 begins_other p ds h checker other8 other9 at inside =
     let no8 = not_equal h.rec 8 other8 in
     let no9 = not_equal h.rec 9 other9 in
-    let elsewhere : place_at ds h ≡ place_behind ds = rw (no8, no9) refl in
+    let elsewhere : place_at ds h ≡ place_after_datasets ds = rw (no8, no9) refl in
     record {
       fields = inside;
       object = subst (objects.StandsAt p.object) (sym elsewhere) at.object;
@@ -206,10 +207,10 @@ counts_size sizes.Short m n e = e
 counts_size sizes.ConfirmedWrong m n e = e
 
 -- a head is refused, and the sink was told what is delivered of no more text
-stopped_head : {S : Type 0} (goes : S → List story.Event → S → Type 0) (failures : S → ℕ) (p : Parts) (a b : S) (h : Head) (fault : Fault) (more : List ℕ) → HeadLaws → has_ended p ≡ false → IsBetween p.fields
+stopped_head : {S : Type 0} (goes : S → List story.StoryEvent → S → Type 0) (failures : S → ℕ) (p : Parts) (a b : S) (h : Head) (fault : TokenFault) (more : List ℕ) → HeadLaws → has_ended p ≡ false → IsBetween p.fields
     → goes a (story.delivered more) b → CountsFor fault.cause (failures a) (failures b)
-    → ((ds : List Dataset) → Behind p ds → (IsRefusedHead (limits_of p.fields) ds h fault ⊎ IsUnfinished (limits_of p.fields) ds h fault) × (text_so_far (object_of ds) ++ more ≡ text_so_far (object_of ds)))
-    → Stopped goes failures p a [] (HeadRead h) (Some fault) b
+    → ((ds : List Dataset) → AreAfter p ds → (IsRefusedHead (limits_of p.fields) ds h fault ⊎ IsUnfinished (limits_of p.fields) ds h fault) × (text_so_far (object_of ds) ++ more ≡ text_so_far (object_of ds)))
+    → WasStopped goes failures p a [] (HeadRead h) (Some fault) b
 stopped_head goes failures p a b h fault more laws last between told counts refuses = record {
   fault = fault;
   is_fault = refl;
@@ -217,40 +218,40 @@ stopped_head goes failures p a b h fault more laws last between told counts refu
   told = told;
   counts = counts;
   why = λ before text order led.
-      let at = behind_all p before text between led in
-      let next = refuses at.ds at.behind in
+      let at = after_all p before text between led in
+      let next = refuses at.ds at.after in
       record {
         whole = at.ds;
         begun = InTag at.held;
         told = append-nil before ∙ at.told;
         is_text = ap (λ (t : List ℕ). t ++ more) at.is_text ∙ next.1;
-        goes_on = all_behind laws.message.living p at.ds at.held at.behind;
-        unfinished = λ sections. true≢false (sym (ap (λ n. nat_eq n 9) (sections_last laws.ends at.ds at.behind.fields.alive sections)) ∙ sym (ended_behind p at.ds at.behind.fields) ∙ last);
+        leads_on = all_after laws.message.living p at.ds at.held at.after;
+        unfinished = λ sections. true≢false (sym (ap (λ n. nat_eq n 9) (sections_last laws.ends at.ds at.after.fields.alive sections)) ∙ sym (ended_by_record p at.ds at.after.fields) ∙ last);
         refuses = next.0;
       };
 }
 
-pub stopped_field : {S : Type 0} (goes : S → List story.Event → S → Type 0) (failures : S → ℕ) (p : Parts) (a : S) (h : Head) (f : FieldFault) → h.set < 256 → HeadLaws → has_ended p ≡ false → IsBetween p.fields → goes a [] a
-    → ((ds : List Dataset) → records.StandsBehind p.fields ds → IsHeadFault (limits_of p.fields) ds h f) → Stopped goes failures p a [] (HeadRead h) (Some (of_field f)) a
+pub stopped_field : {S : Type 0} (goes : S → List story.StoryEvent → S → Type 0) (failures : S → ℕ) (p : Parts) (a : S) (h : Head) (f : FieldFault) → h.set < 256 → HeadLaws → has_ended p ≡ false → IsBetween p.fields → goes a [] a
+    → ((ds : List Dataset) → records.StandsAfter p.fields ds → IsHeadFault (limits_of p.fields) ds h f) → WasStopped goes failures p a [] (HeadRead h) (Some (of_field f)) a
 stopped_field goes failures p a h f small laws last between g is =
     stopped_head goes failures p a a h (of_field f) [] laws last between g (quiet_field f.cause (failures a))
     (λ ds at. (inl (field_head laws.heads (limits_of p.fields) ds h f small at.fields.alive (is ds at.fields)), append-nil (text_so_far (object_of ds))))
 
-pub stopped_many : {S : Type 0} (goes : S → List story.Event → S → Type 0) (failures : S → ℕ) (p : Parts) (a : S) (h : Head) (checker : FieldsPlace) → HeadLaws → has_ended p ≡ false → IsBetween p.fields → goes a [] a
-    → ((ds : List Dataset) → records.StandsBehind p.fields ds → records.StandsIn checker ds h []) → h.rec ≡ 8 → IsFullOfSubfiles p.object
-    → Stopped goes failures p a [] (HeadRead h) (Some (too_many_on h)) a
+pub stopped_many : {S : Type 0} (goes : S → List story.StoryEvent → S → Type 0) (failures : S → ℕ) (p : Parts) (a : S) (h : Head) (checker : FieldsPlace) → HeadLaws → has_ended p ≡ false → IsBetween p.fields → goes a [] a
+    → ((ds : List Dataset) → records.StandsAfter p.fields ds → records.StandsIn checker ds h []) → h.rec ≡ 8 → IsFullOfSubfiles p.object
+    → WasStopped goes failures p a [] (HeadRead h) (Some (too_many_on h)) a
 stopped_many goes failures p a h checker laws last between g inside eight many =
     stopped_head goes failures p a a h (too_many_on h) [] laws last between g refl
     (λ ds at.
-    let full : max_subfiles ≤ length (of_record 8 ds) = let n = many (place_behind ds) at.object in omega (arith, n, as_many ds) in
+    let full : max_subfiles ≤ length (of_record 8 ds) = let n = many (place_after_datasets ds) at.object in omega (arith, n, as_many ds) in
     (inl (too_many_head laws.heads (limits_of p.fields) ds h (too_many_on h) at.fields.alive (inside ds at.fields).alive eight full refl), append-nil (text_so_far (object_of ds))))
 
-pub stopped_size : {S : Type 0} (goes : S → List story.Event → S → Type 0) (failures : S → ℕ) (p : Parts) (a b : S) (h : Head) (checker : FieldsPlace) (fault : Fault) → HeadLaws → has_ended p ≡ false → IsBetween p.fields
-    → ((ds : List Dataset) → records.StandsBehind p.fields ds → records.StandsIn checker ds h []) → (h.rec ≡ 8) ⊎ (h.rec ≡ 9) → (h.rec ≡ 8 → HasFewSubfiles p.object)
-    → RefusesBySize goes failures p.object p.message h a b fault → Stopped goes failures p a [] (HeadRead h) (Some fault) b
+pub stopped_size : {S : Type 0} (goes : S → List story.StoryEvent → S → Type 0) (failures : S → ℕ) (p : Parts) (a b : S) (h : Head) (checker : FieldsPlace) (fault : TokenFault) → HeadLaws → has_ended p ≡ false → IsBetween p.fields
+    → ((ds : List Dataset) → records.StandsAfter p.fields ds → records.StandsIn checker ds h []) → (h.rec ≡ 8) ⊎ (h.rec ≡ 9) → (h.rec ≡ 8 → HasFewSubfiles p.object)
+    → RefusesBySize goes failures p.object p.message h a b fault → WasStopped goes failures p a [] (HeadRead h) (Some fault) b
 stopped_size goes failures p a b h checker fault laws last between inside is few r =
     stopped_head goes failures p a b h fault r.more laws last between r.told
-    (subst (λ (f : Fault). CountsFor f.cause (failures a) (failures b)) (sym r.is_fault) (counts_size r.cause (failures a) (failures b) r.calm))
+    (subst (λ (f : TokenFault). CountsFor f.cause (failures a) (failures b)) (sym r.is_fault) (counts_size r.cause (failures a) (failures b) r.calm))
     (λ ds at.
     let alive = (inside ds at.fields).alive in
     let room : h.rec ≡ 8 → length (of_record 8 ds) < max_subfiles = λ eight. few_of p ds at (few eight) in (
@@ -258,27 +259,27 @@ stopped_size goes failures p a b h checker fault laws last between inside is few
       somewhere_text laws.message.texts p.message (object_of ds) r.more r.leads at.message,
     ))
   where
-    leads_by : (h.rec ≡ 8) ⊎ (h.rec ≡ 9) → (ds : List Dataset) → IsAliveAt ds h → (h.rec ≡ 8 → length (of_record 8 ds) < max_subfiles) → HeadLeads ds h
+    leads_by : (h.rec ≡ 8) ⊎ (h.rec ≡ 9) → (ds : List Dataset) → SectionsLiveAt ds h → (h.rec ≡ 8 → length (of_record 8 ds) < max_subfiles) → HeadLeads ds h
     leads_by (inl eight) ds alive room = subfile_leads laws.objects ds h alive eight (room eight)
     leads_by (inr nine) ds alive room = end_leads laws.objects ds h alive nine
 
-pub stopped_end : {S : Type 0} (goes : S → List story.Event → S → Type 0) (failures : S → ℕ) (p : Parts) (a b : S) (h : Head) (checker : FieldsPlace) (fault : Fault) → HeadLaws → has_ended p ≡ false → IsBetween p.fields
-    → ((ds : List Dataset) → records.StandsBehind p.fields ds → records.StandsIn checker ds h []) → h.rec ≡ 9
-    → RefusesAtEnd goes failures p.object p.message h a b fault → Stopped goes failures p a [] (HeadRead h) (Some fault) b
+pub stopped_end : {S : Type 0} (goes : S → List story.StoryEvent → S → Type 0) (failures : S → ℕ) (p : Parts) (a b : S) (h : Head) (checker : FieldsPlace) (fault : TokenFault) → HeadLaws → has_ended p ≡ false → IsBetween p.fields
+    → ((ds : List Dataset) → records.StandsAfter p.fields ds → records.StandsIn checker ds h []) → h.rec ≡ 9
+    → RefusesAtEnd goes failures p.object p.message h a b fault → WasStopped goes failures p a [] (HeadRead h) (Some fault) b
 stopped_end goes failures p a b h checker fault laws last between inside nine r =
     let same : r.halted.why ≡ r.cause = sym (some-same r.halted.is_cause) in
     stopped_head goes failures p a b h fault r.halted.more laws last between r.halted.told
-    (subst (λ (f : Fault). CountsFor f.cause (failures a) (failures b)) (sym r.is_fault)
+    (subst (λ (f : TokenFault). CountsFor f.cause (failures a) (failures b)) (sym r.is_fault)
     (counts_for r.cause (failures a) (failures b) (subst (wire.CountsCause (failures a) (failures b)) same r.halted.counts)))
     (λ ds at.
     let alive = (inside ds at.fields).alive in
     let leads = end_leads laws.objects ds h alive nine in
     let lives : ObjectLives (place_at ds h) = subst ObjectLives leads.1
-    (subst (languages.IsAlive ObjectLanguage) (sym (laws.objects.tokens (place_behind ds) (head_token h.rec h.count) leads.0)) (r.lives (place_behind ds) at.object leads.0)) in
+    (subst (languages.IsAlive ObjectLanguage) (sym (laws.objects.tokens (place_after_datasets ds) (head_token h.rec h.count) leads.0)) (r.lives (place_after_datasets ds) at.object leads.0)) in
     let has = r.halted.has_cause (object_of ds) (text_so_far (object_of ds)) at.message in (
       inr (record {
         last = nine;
-        goes_on = record {
+        leads_on = record {
           records = alive;
           within = record { kept = at.fields.within; subfiles = at.few };
           room = have_room (limits_of p.fields) ds h (inr nine) (λ eight. absurd (let bad : 8 ≡ 9 = sym eight ∙ nine in omega (arith, bad)));
@@ -293,21 +294,21 @@ stopped_end goes failures p a b h checker fault laws last between inside nine r 
     some-same : {x y : MessageCause} → Some x ≡ Some y → x ≡ y
     some-same e = cc
 
-pub stopped_subfile : {S : Type 0} (goes : S → List story.Event → S → Type 0) (failures : S → ℕ) (p : Parts) (a b : S) (h : Head) (checker : FieldsPlace) → HeadLaws → has_ended p ≡ false → IsBetween p.fields → goes a [] a
-    → ((ds : List Dataset) → records.StandsBehind p.fields ds → records.StandsIn checker ds h []) → h.rec ≡ 8 → (fault : Fault)
+pub stopped_subfile : {S : Type 0} (goes : S → List story.StoryEvent → S → Type 0) (failures : S → ℕ) (p : Parts) (a b : S) (h : Head) (checker : FieldsPlace) → HeadLaws → has_ended p ≡ false → IsBetween p.fields → goes a [] a
+    → ((ds : List Dataset) → records.StandsAfter p.fields ds → records.StandsIn checker ds h []) → h.rec ≡ 8 → (fault : TokenFault)
     → RefusesSubfile goes failures p.object p.message h a b fault
-    → Stopped goes failures p a [] (HeadRead h) (Some fault) b
+    → WasStopped goes failures p a [] (HeadRead h) (Some fault) b
 stopped_subfile goes failures p a b h checker laws last between g inside eight fault (inl (many, is, same)) =
-    subst (λ (s : _). Stopped goes failures p a [] (HeadRead h) (Some fault) s) (sym same)
-    (subst (λ (f : Fault). Stopped goes failures p a [] (HeadRead h) (Some f) a) (sym is) (stopped_many goes failures p a h checker laws last between g inside eight many))
+    subst (λ (s : _). WasStopped goes failures p a [] (HeadRead h) (Some fault) s) (sym same)
+    (subst (λ (f : TokenFault). WasStopped goes failures p a [] (HeadRead h) (Some f) a) (sym is) (stopped_many goes failures p a h checker laws last between g inside eight many))
 stopped_subfile goes failures p a b h checker laws last between g inside eight fault (inr (few, inl r)) =
     stopped_size goes failures p a b h checker fault laws last between inside (inl eight) (λ is. few) r
 stopped_subfile goes failures p a b h checker laws last between g inside eight fault (inr (few, inr r)) =
     absurd (let bad : SubfileBegun h.count ≡ ObjectEnded = sym (ap (λ n. head_token n h.count) eight) ∙ r.token in cc)
 
-pub stopped_last : {S : Type 0} (goes : S → List story.Event → S → Type 0) (failures : S → ℕ) (p : Parts) (a b : S) (h : Head) (checker : FieldsPlace) → HeadLaws → has_ended p ≡ false → IsBetween p.fields
-    → ((ds : List Dataset) → records.StandsBehind p.fields ds → records.StandsIn checker ds h []) → h.rec ≡ 9 → (fault : Fault)
-    → RefusesObject goes failures p.object p.message h a b fault → Stopped goes failures p a [] (HeadRead h) (Some fault) b
+pub stopped_last : {S : Type 0} (goes : S → List story.StoryEvent → S → Type 0) (failures : S → ℕ) (p : Parts) (a b : S) (h : Head) (checker : FieldsPlace) → HeadLaws → has_ended p ≡ false → IsBetween p.fields
+    → ((ds : List Dataset) → records.StandsAfter p.fields ds → records.StandsIn checker ds h []) → h.rec ≡ 9 → (fault : TokenFault)
+    → RefusesObject goes failures p.object p.message h a b fault → WasStopped goes failures p a [] (HeadRead h) (Some fault) b
 stopped_last goes failures p a b h checker laws last between inside nine fault (inl r) =
     stopped_size goes failures p a b h checker fault laws last between inside (inr nine) (λ eight. absurd (let bad : 8 ≡ 9 = sym eight ∙ nine in omega (arith, bad))) r
 stopped_last goes failures p a b h checker laws last between inside nine fault (inr r) = stopped_end goes failures p a b h checker fault laws last between inside nine r

@@ -1,14 +1,14 @@
 -- Whether octets keep to limits is told by their place.
 use Rattle.std.proofs.Common.{◌≡◌, ℕ, ◌+◌, nat_eq, if◌then◌else◌, Bool, true, false, List, [], length, refl, sym, subst, inl, inr, arith}
-use Rattle.iim_dataset.specs.Datasets.{Dataset}
-use Rattle.iim_dataset.specs.Splits.{Begun, InTag, InData, Reads}
-use Rattle.iim_fields.specs.Faults.{kept, kept_octets, is_kept, present_record}
-use Rattle.iim_fields.specs.Standing.{IsWithin}
+use Rattle.iim_dataset.specs.Format.Datasets.{Dataset, count_octets}
+use Rattle.iim_dataset.specs.Format.Splits.{Begun, InTag, InData, Reads}
+use Rattle.iim_fields.specs.Format.Faults.{kept, kept_octets, is_kept, present_record}
+use Rattle.iim_fields.specs.Format.Standing.{IsWithin}
 use Rattle.iim_fields.specs.declared.limits.Limits.{Limits}
 use Rattle.wire_message.specs.declared.saved.MessagePlace.{MessagePlace}
 use Rattle.iim_unpack.specs.LowerLaws.{AnswerLaws}
-use Rattle.iim_unpack.specs.Format.Open.{AllGoOn}
-use Rattle.iim_unpack.specs.Format.Tokens.{MayGoOn}
+use Rattle.iim_unpack.specs.Format.Open.{AllCanContinue}
+use Rattle.iim_unpack.specs.Format.Tokens.{MayContinue}
 use Rattle.iim_unpack.specs.Format.Tickets.{Place, AllEnded, TagBegun, IsPlaceOf, place_of}
 use Rattle.iim_unpack.specs.Format.Possible.{widest, AreOpenOrWhole, AreHeadsWithin, begun_count, begun_fields, LimitsAreToldByPlace}
 use Rattle.iim_unpack.proofs.Answering.{Lives, lives_open, lives_envelope, one_reading, reads_envelope}
@@ -25,7 +25,7 @@ none_begun section false held = refl
 
 -- ---- from the limits to the place
 
-pub told_by : (limits : Limits) (ds : List Dataset) (b : Begun) (m : MessagePlace) → MayGoOn limits ds b → AreHeadsWithin limits (place_of ds b m)
+pub told_by : (limits : Limits) (ds : List Dataset) (b : Begun) (m : MessagePlace) → MayContinue limits ds b → AreHeadsWithin limits (place_of ds b m)
 told_by limits ds (InTag held) m goes =
     let count = none_counted (present_record ds) (nat_eq (present_record ds) 9) held in
     let begun = none_begun (present_record ds) (nat_eq (present_record ds) 9) held in
@@ -42,7 +42,7 @@ told_by limits ds (InData h taken) m goes = by (is_kept h.rec) refl
 kept_tag : (limits : Limits) (ds : List Dataset) (held : List ℕ) (m : MessagePlace) → AreHeadsWithin limits (place_of ds (InTag held) m) → IsWithin limits (kept_octets ds) (length (kept ds))
 kept_tag limits ds held m within = record { octets_in = omega (arith, within.octets_in); fields_in = omega (arith, within.fields_in) }
 
-within_by : (limits : Limits) (ds : List Dataset) (b : Begun) (m : MessagePlace) → MayGoOn widest ds b → AreHeadsWithin limits (place_of ds b m) → MayGoOn limits ds b
+within_by : (limits : Limits) (ds : List Dataset) (b : Begun) (m : MessagePlace) → MayContinue widest ds b → AreHeadsWithin limits (place_of ds b m) → MayContinue limits ds b
 within_by limits ds (InTag held) m goes within = record { records = goes.records; within = record { kept = kept_tag limits ds held m within; subfiles = goes.within.subfiles }; object = goes.object }
 within_by limits ds (InData h taken) m goes within = record {
   records = goes.records;
@@ -51,7 +51,7 @@ within_by limits ds (InData h taken) m goes within = record {
   object = goes.object;
 }
 
-goes_by : (limits : Limits) (ds : List Dataset) (b : Begun) (m : MessagePlace) → AllGoOn widest ds b → AreHeadsWithin limits (place_of ds b m) → AllGoOn limits ds b
+goes_by : (limits : Limits) (ds : List Dataset) (b : Begun) (m : MessagePlace) → AllCanContinue widest ds b → AreHeadsWithin limits (place_of ds b m) → AllCanContinue limits ds b
 goes_by limits ds b m goes within = record { sizes = within_by limits ds b m goes.sizes within; message = goes.message; story = goes.story }
 
 -- ---- both ways
@@ -59,11 +59,11 @@ goes_by limits ds b m goes within = record { sizes = within_by limits ds b m goe
 told : AnswerLaws → (limits : Limits) (octets : List ℕ) (place : Place) → IsPlaceOf octets place → Lives limits octets → AreHeadsWithin limits place
 told laws limits octets place is lives =
     let same = one_reading laws octets lives.whole is.whole lives.begun is.begun lives.reads is.reads in
-    let goes : MayGoOn limits is.whole is.begun = subst (λ (ds : List Dataset). MayGoOn limits ds is.begun) same.whole_is (subst (λ (b : Begun). MayGoOn limits lives.whole b) same.begun_is lives.goes_on.sizes) in
+    let goes : MayContinue limits is.whole is.begun = subst (λ (ds : List Dataset). MayContinue limits ds is.begun) same.whole_is (subst (λ (b : Begun). MayContinue limits lives.whole b) same.begun_is lives.leads_on.sizes) in
     subst (AreHeadsWithin limits) (sym is.is_place) (told_by limits is.whole is.begun is.message goes)
 
 -- the place by another reading of its octets
-placed_by : AnswerLaws → (limits : Limits) (octets : List ℕ) (place : Place) (is : IsPlaceOf octets place) (whole : List Dataset) (begun : Begun) → Reads octets whole begun → AreHeadsWithin limits place
+placed_by : AnswerLaws → (limits : Limits) (octets : List ℕ) (place : Place) (is : IsPlaceOf octets place) (whole : List Dataset) (begun : Begun) → Reads count_octets octets whole begun → AreHeadsWithin limits place
     → AreHeadsWithin limits (place_of whole begun is.message)
 placed_by laws limits octets place is whole begun reads within =
     let same = one_reading laws octets whole is.whole begun is.begun reads is.reads in
@@ -74,7 +74,7 @@ placed_by laws limits octets place is whole begun reads within =
 back : AnswerLaws → (limits : Limits) (octets : List ℕ) (place : Place) → IsPlaceOf octets place → AreOpenOrWhole widest octets → AreHeadsWithin limits place → AreOpenOrWhole limits octets
 back laws limits octets place is (inl open') within =
     let at = placed_by laws limits octets place is open'.whole open'.begun open'.reads within in
-    inl (record { whole = open'.whole; begun = open'.begun; reads = open'.reads; goes_on = goes_by limits open'.whole open'.begun is.message open'.goes_on at; unfinished = open'.unfinished })
+    inl (record { whole = open'.whole; begun = open'.begun; reads = open'.reads; leads_on = goes_by limits open'.whole open'.begun is.message open'.leads_on at; unfinished = open'.unfinished })
 back laws limits octets place is (inr (value, envelope)) within =
     let at = placed_by laws limits octets place is envelope.admits.datasets (InTag []) (reads_envelope octets value envelope.admits) within in
     inr (value, record { admits = envelope.admits; within = record { kept = kept_tag limits envelope.admits.datasets [] is.message at; subfiles = envelope.within.subfiles } })

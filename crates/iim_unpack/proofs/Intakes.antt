@@ -4,18 +4,20 @@ use Rattle.std.specs.Prelude.{IsTrue, ◌↔◌}
 use Rattle.std.proofs.lemmas.List.{get_or-append-add, length-take-le}
 use Rattle.std.proofs.Math.Seq.{take-append-add}
 use Rattle.std.specs.Io.KnownBytes.{IsAtEnd, Consumes}
-use Rattle.iim_dataset.specs.Devices.{Device, Unfailed, RoseAtLeast, max_interruptions}
-use Rattle.iim_dataset.specs.DeviceLaws.{HasGiven, GiftsJoin, MissedBehind, BrokeFor}
+use Rattle.iim_dataset.specs.Format.Devices.{Device, Unfailed, RoseAtLeast, max_interruptions}
+use Rattle.iim_dataset.specs.Format.DeviceLaws.{HasGiven, GiftsJoin, MissedAfter, BrokeFor}
 use Rattle.iim_dataset.specs.declared.device.IoFault.{IoFault}
 use Rattle.iim_dataset.specs.declared.device.IoFault.TheVariants as io
 use Rattle.iim_fields.specs.declared.limits.Limits.{Limits}
-use Rattle.wire_story.specs.Delivery as story
-use Rattle.wire_story.specs.Laws.{DeliveryMayBeCut}
-use Rattle.iim_unpack.specs.Parts.{CountsFor}
+use Rattle.wire_story.specs.Format.Delivery as story
+use Rattle.wire_story.specs.Format.Laws.{DeliveryMayBeCut}
+use Rattle.iim_unpack.specs.Format.Parts.{CountsFor}
 use Rattle.iim_unpack.specs.Format.Refusals.{refusal_at}
-use Rattle.iim_unpack.specs.Unpacking.{Unpacking, Stands, Stood, IsDoneWith, Goes, IsRefusedIn, limits_in, raised}
+use Rattle.iim_unpack.specs.Format.Unpacking.{Unpacking, Stands, IsDoneWith, Goes, IsRefusedIn, limits_in, raised}
+use Rattle.iim_unpack.specs.Unpacking.{Stood}
 use Rattle.iim_unpack.specs.Format.Open.{IsOpen, IsTextOf, Adds, IsTruncatedAt, RefusesNext}
-use Rattle.iim_unpack.specs.Intakes.{WentOn, WasDone, WasEnded, IsRefusedOf, WasRefused, WasTruncated, WasMissed, FedAs, WasGiven, IsReady, Faults, read_fault, OpenOctetsAreBounded}
+use Rattle.iim_unpack.specs.Intakes.{WentOn, WasDone, FedAs, read_fault}
+use Rattle.iim_unpack.specs.Format.Intakes.{WasEnded, IsRefusedOf, WasRefused, WasTruncated, WasMissed, WasGiven, IsReady, Faults, OpenOctetsAreBounded}
 use Rattle.iim_unpack.specs.declared.intake.IntakeFault.{IntakeFault}
 use Rattle.iim_unpack.proofs.Feeding.{stood_stands}
 use Rattle.iim_unpack.specs.declared.refusal.Refusal.{Refusal}
@@ -26,8 +28,8 @@ use Rattle.iim_unpack.specs.declared.unpacker.Unpacked.{Unpacked}
 use Rattle.iim_unpack.specs.declared.unpacker.Progress.{Progress}
 use Rattle.iim_unpack.specs.declared.unpacker.Progress.TheVariants.{More, Done}
 
-abbrev pub Joined : {S : Type 0} → (S → List story.Event → S → Type 0) → Type 0
-Joined {S} goes = (a b c : S) (xs ys : List story.Event) → goes a xs b → goes b ys c → goes a (xs ++ ys) c
+abbrev pub Joined : {S : Type 0} → (S → List story.StoryEvent → S → Type 0) → Type 0
+Joined {S} goes = (a b c : S) (xs ys : List story.StoryEvent) → goes a xs b → goes b ys c → goes a (xs ++ ys) c
 
 -- ---- counts
 
@@ -39,13 +41,13 @@ raised_twice a m n = omega arith
 pub adds_none : (p : List ℕ) → Adds p [] []
 adds_none p text is = ([], subst (λ (t : List ℕ). IsTextOf (p ++ []) t) (sym (append-nil text)) (subst (λ (q : List ℕ). IsTextOf q text) (sym (append-nil p)) is), refl)
 
-pub adds_more : DeliveryMayBeCut → (p x y : List ℕ) (m n : List story.Event) → Adds p x m → Adds (p ++ x) y n → Adds p (x ++ y) (m ++ n)
+pub adds_more : DeliveryMayBeCut → (p x y : List ℕ) (m n : List story.StoryEvent) → Adds p x m → Adds (p ++ x) y n → Adds p (x ++ y) (m ++ n)
 adds_more cut p x y m n one two text is =
     let (first, there, told) = one text is in
     let (second, then', told') = two (text ++ first) there in (
       first ++ second,
       subst (λ (t : List ℕ). IsTextOf (p ++ (x ++ y)) t) (append_assoc text first second) (subst (λ (q : List ℕ). IsTextOf q ((text ++ first) ++ second)) (append_assoc p x y) then'),
-      ap (λ (es : List story.Event). es ++ n) told ∙ ap (λ (es : List story.Event). story.delivered first ++ es) told' ∙ sym (cut first second),
+      ap (λ (es : List story.StoryEvent). es ++ n) told ∙ ap (λ (es : List story.StoryEvent). story.delivered first ++ es) told' ∙ sym (cut first second),
     )
 
 -- ---- one piece more
@@ -53,7 +55,7 @@ adds_more cut p x y m n one two text is =
 given_on : GiftsJoin → (a b c d : Device) (xs ys : List ℕ) → HasGiven a b xs → HasGiven b c [] → HasGiven c d ys → HasGiven a d (xs ++ ys)
 given_on joins a b c d xs ys one none two = joins.more a b d xs ys one (joins.more b c d [] ys none two)
 
-pub begin_on : {S : Type 0} (goes : S → List story.Event → S → Type 0) → GiftsJoin → (d : Device) (u : Unpacking) (a : S) → u.octets < 2 ^ 64 → goes a [] a → WentOn goes d d u u a a 0
+pub begin_on : {S : Type 0} (goes : S → List story.StoryEvent → S → Type 0) → GiftsJoin → (d : Device) (u : Unpacking) (a : S) → u.octets < 2 ^ 64 → goes a [] a → WentOn goes d d u u a a 0
 begin_on goes joins d u a low nothing = record {
   octets = [];
   more = [];
@@ -84,9 +86,9 @@ not_empty xs [] some none = absurd (omega (arith, some))
 not_empty [] (y ∷ ys) some none = absurd cc
 not_empty (x ∷ xs) (y ∷ ys) some none = absurd cc
 
-pub went_more : {S : Type 0} (goes : S → List story.Event → S → Type 0) → Joined goes → GiftsJoin → DeliveryMayBeCut → (old mid then' new : Device) (u v w : Unpacking) (a b c : S) (used now : ℕ) (piece : List ℕ)
+pub went_more : {S : Type 0} (goes : S → List story.StoryEvent → S → Type 0) → Joined goes → GiftsJoin → DeliveryMayBeCut → (old mid then' new : Device) (u v w : Unpacking) (a b c : S) (used now : ℕ) (piece : List ℕ)
     → WentOn goes old mid u v a b used → HasGiven mid then' [] → HasGiven then' new piece → 0 < length piece → now ≡ raised used (length piece) → limits_in w ≡ limits_in v → (progress : Progress) → progress ≡ More
-    → ((more : List story.Event) × goes b more c × ((p : List ℕ) (n : ℕ) → Stands v p n → Goes w p n piece more progress)) → WentOn goes old new u w a c now
+    → ((more : List story.StoryEvent) × goes b more c × ((p : List ℕ) (n : ℕ) → Stands v p n → Goes w p n piece more progress)) → WentOn goes old new u w a c now
 went_more goes joined joins cut old mid then' new u v w a b c used now piece on none given some count same progress onward (more, told, is) = record {
   octets = on.octets ++ piece;
   more = on.more ++ more;
@@ -100,9 +102,9 @@ went_more goes joined joins cut old mid then' new u v w a b c used now piece on 
   still = λ empty. absurd (not_empty on.octets piece some empty);
 }
 
-pub went_done : {S : Type 0} (goes : S → List story.Event → S → Type 0) → Joined goes → GiftsJoin → DeliveryMayBeCut → (old mid then' new : Device) (u v w : Unpacking) (a b c : S) (used now last : ℕ) (piece : List ℕ)
+pub went_done : {S : Type 0} (goes : S → List story.StoryEvent → S → Type 0) → Joined goes → GiftsJoin → DeliveryMayBeCut → (old mid then' new : Device) (u v w : Unpacking) (a b c : S) (used now last : ℕ) (piece : List ℕ)
     → WentOn goes old mid u v a b used → HasGiven mid then' [] → HasGiven then' new (take last piece) → last ≤ length piece → now ≡ raised used last → limits_in w ≡ limits_in v → (progress : Progress) → progress ≡ Done last
-    → ((more : List story.Event) × goes b more c × ((p : List ℕ) (n : ℕ) → Stands v p n → Goes w p n piece more progress)) → WasDone goes old new u w a c now
+    → ((more : List story.StoryEvent) × goes b more c × ((p : List ℕ) (n : ℕ) → Stands v p n → Goes w p n piece more progress)) → WasDone goes old new u w a c now
 went_done goes joined joins cut old mid then' new u v w a b c used now last piece on none given fit count same progress ended (more, told, is) =
     let len : length (take last piece) ≡ last = length-take-le last piece fit in
     record {
@@ -119,7 +121,7 @@ went_done goes joined joins cut old mid then' new u v w a b c used now last piec
           );
     }
 
-refused_on : DeliveryMayBeCut → (limits : Limits) (p : List ℕ) (n : ℕ) (xs piece : List ℕ) (first more : List story.Event) (e : Refusal) → Adds p xs first
+refused_on : DeliveryMayBeCut → (limits : Limits) (p : List ℕ) (n : ℕ) (xs piece : List ℕ) (first more : List story.StoryEvent) (e : Refusal) → Adds p xs first
     → IsRefusedIn limits (p ++ xs) (raised n (length xs)) piece more e → IsRefusedOf limits p n (xs ++ piece) (first ++ more) e
 refused_on cut limits p n xs piece first more e adds is =
     let front : take (length xs + is.k) (xs ++ piece) ≡ xs ++ take is.k piece = take-append-add xs piece is.k in
@@ -134,9 +136,9 @@ refused_on cut limits p n xs piece first more e adds is =
           (subst (λ (ys : List ℕ). RefusesNext limits ys (slice_index piece is.k) is.fault) (append_assoc p xs (take is.k piece) ∙ ap (λ (ys : List ℕ). p ++ ys) (sym front)) is.refuses);
     }
 
-pub went_refused : {S : Type 0} (goes : S → List story.Event → S → Type 0) (failures : S → ℕ) → Joined goes → GiftsJoin → DeliveryMayBeCut → (old mid then' new : Device) (u v : Unpacking) (a b c : S) (used : ℕ) (piece : List ℕ) (e : Refusal)
+pub went_refused : {S : Type 0} (goes : S → List story.StoryEvent → S → Type 0) (failures : S → ℕ) → Joined goes → GiftsJoin → DeliveryMayBeCut → (old mid then' new : Device) (u v : Unpacking) (a b c : S) (used : ℕ) (piece : List ℕ) (e : Refusal)
     → WentOn goes old mid u v a b used → failures b ≡ failures a → HasGiven mid then' [] → HasGiven then' new piece → CountsFor e.cause (failures b) (failures c)
-    → ((more : List story.Event) × goes b more c × ((p : List ℕ) (n : ℕ) → Stands v p n → IsRefusedIn (limits_in v) p n piece more e)) → WasRefused goes failures old new u a c e
+    → ((more : List story.StoryEvent) × goes b more c × ((p : List ℕ) (n : ℕ) → Stands v p n → IsRefusedIn (limits_in v) p n piece more e)) → WasRefused goes failures old new u a c e
 went_refused goes failures joined joins cut old mid then' new u v a b c used piece e on calm none given counts (more, told, is) = record {
   octets = on.octets ++ piece;
   more = on.more ++ more;
@@ -158,7 +160,7 @@ no_front [] ys e = (refl, e)
 no_front (x ∷ xs) ys e = absurd cc
 
 -- it stands on no octets
-pub went_ended : {S : Type 0} (goes : S → List story.Event → S → Type 0) → GiftsJoin → (old mid new : Device) (u v : Unpacking) (a b : S) (used : ℕ)
+pub went_ended : {S : Type 0} (goes : S → List story.StoryEvent → S → Type 0) → GiftsJoin → (old mid new : Device) (u v : Unpacking) (a b : S) (used : ℕ)
     → WentOn goes old mid u v a b used → HasGiven mid new [] → IsAtEnd new.octets → (p : List ℕ) (n : ℕ) → Stands u p n → ((q : List ℕ) (k : ℕ) → Stands v q k → q ≡ []) → WasEnded old new u a b
 went_ended goes joins old mid new u v a b used on none end p n at fresh =
     let empty : on.octets ≡ [] = (no_front p on.octets (fresh (p ++ on.octets) (raised n (length on.octets)) (on.stands p n at).0)).1 in
@@ -169,7 +171,7 @@ went_ended goes joins old mid new u v a b used on none end p n at fresh =
       none = λ q k is. (no_front q on.octets (fresh (q ++ on.octets) (raised k (length on.octets)) (on.stands q k is).0)).0;
     }
 
-pub went_truncated : {S : Type 0} (goes : S → List story.Event → S → Type 0) (failures : S → ℕ) → GiftsJoin → (old mid new : Device) (u v : Unpacking) (a b : S) (used : ℕ) (e : Refusal)
+pub went_truncated : {S : Type 0} (goes : S → List story.StoryEvent → S → Type 0) (failures : S → ℕ) → GiftsJoin → (old mid new : Device) (u v : Unpacking) (a b : S) (used : ℕ) (e : Refusal)
     → WentOn goes old mid u v a b used → failures b ≡ failures a → HasGiven mid new [] → IsAtEnd new.octets → ((q : List ℕ) (k : ℕ) → Stands v q k → q ≡ [] → ⊥)
     → ((q : List ℕ) (k : ℕ) → Stands v q k → IsTruncatedAt q k e) → WasTruncated goes failures old new u a b e
 went_truncated goes failures joins old mid new u v a b used e on calm none end some is = record {
@@ -202,11 +204,11 @@ broke_on : (a b c : Device) (fault : IoFault) → Unfailed a b → BrokeFor b c 
 broke_on a b c io.Failed h f = (rw h.0 at f.0, omega (arith, h.1, f.1))
 broke_on a b c io.Interrupted h i = (i.0 ∙ h.0, omega (arith, h.1, i.1), higher a.interruptions b.interruptions c.interruptions h.1 i.2)
 
-missed_on : GiftsJoin → (a b c : Device) (xs : List ℕ) (fault : IoFault) → HasGiven a b xs → MissedBehind b c [] fault → MissedBehind a c xs fault
+missed_on : GiftsJoin → (a b c : Device) (xs : List ℕ) (fault : IoFault) → HasGiven a b xs → MissedAfter b c [] fault → MissedAfter a c xs fault
 missed_on joins a b c xs fault given missed = (consumed_on a.octets b.octets c.octets xs given.0 missed.0, broke_on a b c fault given.1 missed.1)
 
-pub went_missed : {S : Type 0} (goes : S → List story.Event → S → Type 0) (failures : S → ℕ) → GiftsJoin → (old mid new : Device) (u v : Unpacking) (a b : S) (used kept : ℕ) (fault : IoFault)
-    → WentOn goes old mid u v a b used → failures b ≡ failures a → MissedBehind mid new [] fault → kept ≡ v.octets → WasMissed goes failures old new u a b kept fault
+pub went_missed : {S : Type 0} (goes : S → List story.StoryEvent → S → Type 0) (failures : S → ℕ) → GiftsJoin → (old mid new : Device) (u v : Unpacking) (a b : S) (used kept : ℕ) (fault : IoFault)
+    → WentOn goes old mid u v a b used → failures b ≡ failures a → MissedAfter mid new [] fault → kept ≡ v.octets → WasMissed goes failures old new u a b kept fault
 went_missed goes failures joins old mid new u v a b used kept fault on calm missed is = record {
   octets = on.octets;
   more = on.more;
@@ -220,7 +222,7 @@ went_missed goes failures joins old mid new u v a b used kept fault on calm miss
 
 -- ---- the end of feeding
 
-pub bounded : {S : Type 0} (goes : S → List story.Event → S → Type 0) → OpenOctetsAreBounded → (old mid : Device) (u v : Unpacking) (a b : S) (used : ℕ) → WentOn goes old mid u v a b used
+pub bounded : {S : Type 0} (goes : S → List story.StoryEvent → S → Type 0) → OpenOctetsAreBounded → (old mid : Device) (u v : Unpacking) (a b : S) (used : ℕ) → WentOn goes old mid u v a b used
     → (limits_in v).octets < 2 ^ 32 → (limits_in v).fields < 2 ^ 32 → (p : List ℕ) (n : ℕ) → Stands u p n → used < 2 ^ 64 - 1
 bounded goes law old mid u v a b used on low few p n at =
     omega (arith, on.counts, length-append p on.octets, law (limits_in v) (p ++ on.octets) low few (on.stands p n at).0.is_open)
@@ -231,7 +233,7 @@ smaller used now k is some low = omega (arith, is, some, low)
 pub somewhere : (u : Unpacking) → IsReady u → (u.refused ≡ None → Stood u) → (p : List ℕ) × (a : ℕ) × Stands u p a
 somewhere u ready stood = stood_stands u ready.1 (stood ready.0)
 
-pub faulted : {S : Type 0} (goes : S → List story.Event → S → Type 0) (failures : S → ℕ) (old new : Device) (u : Unpacking) (a b : S) (kept : ℕ) (fault : IoFault) (answer : IntakeFault)
+pub faulted : {S : Type 0} (goes : S → List story.StoryEvent → S → Type 0) (failures : S → ℕ) (old new : Device) (u : Unpacking) (a b : S) (kept : ℕ) (fault : IoFault) (answer : IntakeFault)
     → answer ≡ read_fault fault → WasMissed goes failures old new u a b kept fault → Faults goes failures old new u a b kept answer
 faulted goes failures old new u a b kept io.Failed answer is missed = subst (λ (x : IntakeFault). Faults goes failures old new u a b kept x) (sym is) missed
 faulted goes failures old new u a b kept io.Interrupted answer is missed = subst (λ (x : IntakeFault). Faults goes failures old new u a b kept x) (sym is) missed
@@ -245,7 +247,7 @@ told_truncated q k answer e is (f, same, told) = subst (λ (x : Refusal). IsTrun
 pub not_told : (answer : Option Refusal) (q : List ℕ) (k : ℕ) → answer ≡ None → ((f : Refusal) × (answer ≡ Some f) × IsTruncatedAt q k f) → ⊥
 not_told answer q k none (f, same, told) = let bad : None ≡ Some f = sym none ∙ same in cc
 
-pub used_within : (w : Unpacking) (piece : List ℕ) (more : List story.Event) (last : ℕ) (progress : Progress) (p : List ℕ) (n : ℕ) → progress ≡ Done last → Goes w p n piece more progress → last ≤ length piece
+pub used_within : (w : Unpacking) (piece : List ℕ) (more : List story.StoryEvent) (last : ℕ) (progress : Progress) (p : List ℕ) (n : ℕ) → progress ≡ Done last → Goes w p n piece more progress → last ≤ length piece
 used_within w piece more last progress p n is goes = (subst (λ (x : Progress). Goes w p n piece more x) is goes).0
 
 pub was_fresh : (b : Bool) (q : List ℕ) → b ≡ true → (IsTrue b ↔ (q ≡ [])) → q ≡ []
@@ -258,10 +260,10 @@ not_fresh false q is both none = let bad : false ≡ true = both.1 none in cc
 
 -- ---- what is given
 
-pub fed_done : {S : Type 0} (goes : S → List story.Event → S → Type 0) (old new : Device) (u v : Unpacking) (a b : S) (used : ℕ) (end : Option ℕ) → end ≡ Some used → FedAs goes old new u v a b end → WasDone goes old new u v a b used
+pub fed_done : {S : Type 0} (goes : S → List story.StoryEvent → S → Type 0) (old new : Device) (u v : Unpacking) (a b : S) (used : ℕ) (end : Option ℕ) → end ≡ Some used → FedAs goes old new u v a b end → WasDone goes old new u v a b used
 fed_done goes old new u v a b used end is fed = subst (λ (x : Option ℕ). FedAs goes old new u v a b x) is fed
 
-pub given_by : {S : Type 0} (goes : S → List story.Event → S → Type 0) (old new : Device) (u v : Unpacking) (a b : S) (used : ℕ) (got : Unpacked) → WasDone goes old new u v a b used
+pub given_by : {S : Type 0} (goes : S → List story.StoryEvent → S → Type 0) (old new : Device) (u v : Unpacking) (a b : S) (used : ℕ) (got : Unpacked) → WasDone goes old new u v a b used
     → ((p : List ℕ) (n : ℕ) → IsDoneWith v p n → (w : Value) → Admits p w → HasParts got w) → WasGiven goes old new u a b used got
 given_by goes old new u v a b used got done' parts = record {
   octets = done'.octets;

@@ -5,48 +5,48 @@ use Rattle.std.specs.Option.{unwrap_or}
 use Rattle.std.proofs.lemmas.Bool.{eqb-true}
 use Rattle.std.proofs.lemmas.Bool.Decides.{eqb_tells}
 use Rattle.std.proofs.lemmas.List.{length-take, take-append-drop}
-use Rattle.iim_dataset.specs.Octets.{IsOctet, Octets, number}
-use Rattle.iim_dataset.specs.Datasets.{Dataset, SpellsTag, SpellsStream, canonical_stream, count_octets}
-use Rattle.iim_dataset.specs.Languages as languages
-use Rattle.iim_dataset.specs.Laws.{HasSpellings}
-use Rattle.iim_dataset.specs.Splits.{Begun, InTag, InData, IsBegun}
-use Rattle.iim_dataset.specs.Tags.{BeginsTag}
+use Rattle.iim_dataset.specs.Format.Octets.{IsOctet, Octets, number, greatest_size}
+use Rattle.iim_dataset.specs.Format.Datasets.{Dataset, SpellsTag, SpellsStream, canonical_stream, count_octets, of_record}
+use Rattle.iim_dataset.specs.Format.Languages as languages
+use Rattle.iim_dataset.specs.Format.Laws.{HasSpellings}
+use Rattle.iim_dataset.specs.Format.Splits.{Begun, InTag, InData, IsBegun}
+use Rattle.iim_dataset.specs.Format.Tags.{BeginsTag}
 use Rattle.iim_dataset.specs.declared.head.Head.{Head}
-use Rattle.iim_tables.specs.Numbers.{greatest_size}
-use Rattle.iim_fields.specs.Alive.{IsAlive, IsAliveAt}
-use Rattle.iim_fields.specs.Faults.{is_kept, kept, joined, present_record, last_record}
-use Rattle.iim_fields.specs.Records.{AreSections, AreRecords, IsGoodDataset, records}
-use Rattle.iim_fields.specs.Standing.{IsWithin}
-use Rattle.iim_object.specs.Behind.{of_record, place_behind, place_ended, ending_of}
-use Rattle.iim_object.specs.Objects.{ObjectEnded, Confirmed, SubfileBegun, ObjectLanguage, number_tokens}
-use Rattle.iim_object.specs.Packing.{number_dataset, subfile_datasets}
-use Rattle.iim_object.specs.Places.{Ending, NotEnded, Ended, ConfirmedAs, ending_tokens, place_after}
-use Rattle.iim_object.specs.Places as objects
-use Rattle.iim_object.specs.Plans.{max_subfiles}
-use Rattle.iim_object.specs.Records.{HaveSizes, lengths_of, numbers_of}
-use Rattle.iim_object.specs.Saved.{IsAt, IsPossible, LastIsBegun, stated_numbers}
-use Rattle.iim_object.specs.Sizes.{Stated, AreStated, number_at}
+use Rattle.iim_fields.specs.Format.Alive.{SectionsLive, SectionsLiveAt}
+use Rattle.iim_fields.specs.Format.Faults.{is_kept, kept, joined, present_record, last_record}
+use Rattle.iim_fields.specs.Format.Records.{AreSections, AreRecords, records}
+use Rattle.iim_tables.specs.Format.Records.{IsGoodDataset}
+use Rattle.iim_fields.specs.Format.Standing.{IsWithin}
+use Rattle.iim_object.specs.Format.Numbers.{place_after_datasets, place_ended, ending_of}
+use Rattle.iim_object.specs.Format.Objects.{ObjectEnded, Confirmed, SubfileBegun, ObjectLanguage, number_tokens}
+use Rattle.iim_object.specs.Format.Packing.{number_dataset, subfile_datasets}
+use Rattle.iim_object.specs.Format.Places.{Ending, NotEnded, Ended, ConfirmedAs, ending_tokens, place_after}
+use Rattle.iim_object.specs.Format.Places as objects
+use Rattle.iim_object.specs.Format.Plans.{max_subfiles}
+use Rattle.iim_object.specs.Format.Records.{HaveSizes, lengths_of, numbers_of}
+use Rattle.iim_object.specs.Format.Saved.{IsAt, IsPossible, LastIsBegun, stated_numbers}
+use Rattle.iim_object.specs.Format.Sizes.{Stated, AreStated, number_at}
 use Rattle.iim_object.specs.declared.size.Sizes.{Sizes}
-use Rattle.wire_story.specs.Texts.{IsText}
-use Rattle.wire_story.specs.Tokens.{Octet, End}
-use Rattle.wire_message.specs.Layers.{MessageLanguage}
-use Rattle.wire_message.specs.Messages.{Header, IsMessage}
-use Rattle.wire_message.specs.Reading.{is_ended}
-use Rattle.wire_message.specs.Saved.{LeadToSaved, saved}
-use Rattle.wire_message.specs.SoFar.{LeadTo}
+use Rattle.wire_story.specs.Format.Texts.{IsText}
+use Rattle.wire_story.specs.Format.Tokens.{Octet, End}
+use Rattle.wire_message.specs.Format.Layers.{MessageLanguage}
+use Rattle.wire_message.specs.Format.Messages.{Header, IsMessage}
+use Rattle.wire_message.specs.Format.Reading.{is_ended}
+use Rattle.wire_message.specs.Format.Saved.{LeadToSaved, saved}
+use Rattle.wire_message.specs.Format.SoFar.{LeadTo}
 use Rattle.wire_message.specs.declared.place.Place.{Place as Message}
 use Rattle.wire_message.specs.declared.place.Place.TheVariants as at_message
 use Rattle.wire_message.specs.declared.saved.MessagePart.TheVariants as part
 use Rattle.wire_message.specs.declared.saved.MessagePlace.{MessagePlace}
 use Rattle.iim_unpack.specs.Format.Admitted.{object_of}
-use Rattle.iim_unpack.specs.Begins.{IsNumber}
+use Rattle.iim_unpack.specs.Format.Begins.{IsSize}
 use Rattle.iim_unpack.specs.ByLayers.{LeadsByLayers, record_datasets, one_of_some, head_at}
 use Rattle.iim_unpack.specs.Format.Framed.{AreWithin}
-use Rattle.iim_unpack.specs.Format.Open.{object_so_far, section, AllGoOn}
+use Rattle.iim_unpack.specs.Format.Open.{object_so_far, section, AllCanContinue}
 use Rattle.iim_unpack.specs.Plain.{Numbers, number_list, plain_numbers, filled, plain_end, plain, AreSpellable, begun_object, plain_place}
 use Rattle.iim_unpack.specs.Format.Possible.{Possible, AreOpenOrWhole, widest}
 use Rattle.iim_unpack.specs.Format.Tickets.{Place, Phase, TagBegun, DataBegun, AllEnded, IsPlaceOf}
-use Rattle.iim_unpack.specs.Format.Tokens.{place_at, ObjectLives, MayGoOn, GoOn}
+use Rattle.iim_unpack.specs.Format.Tokens.{place_at, ObjectLives, MayContinue, CanContinue}
 use Rattle.iim_unpack.specs.LowerLaws.{ByLayersLaws, SizeLaws}
 use Rattle.iim_unpack.proofs.Alike.{Fits, alike, told_by, present_alike}
 use Rattle.iim_unpack.proofs.Answering.{nothing_held}
@@ -56,12 +56,12 @@ use Rattle.iim_unpack.proofs.Lasts.{sections_last, last_sections}
 use Rattle.iim_unpack.proofs.LeadsByLayers.{one_same}
 use Rattle.iim_unpack.proofs.MessageOctets.{living_octets}
 use Rattle.iim_unpack.proofs.Plain.{Tell, taken_told, plain_led, plain_spelled, front_octets, back_octets}
-use Rattle.iim_unpack.proofs.PlainGoesOn.{fields_low, two_at_most, low_number}
+use Rattle.iim_unpack.proofs.PlainContinues.{fields_low, two_at_most, low_number}
 use Rattle.iim_unpack.proofs.PlainOpens.{fit_in_rows, part_small, join_small}
 use Rattle.iim_unpack.proofs.PlainPlaces.{pick, picks_plain, numbers_in, alive_front, low_mode, mode_octet, sum_most}
 use Rattle.iim_unpack.proofs.Places.{at_end}
 use Rattle.iim_unpack.proofs.PlainSizes.{duties_of, possible_like}
-use Rattle.iim_unpack.proofs.SameRecords.{stated_behind}
+use Rattle.iim_unpack.proofs.SameRecords.{stated_after_all}
 use Rattle.iim_unpack.proofs.Tickets.{total_of, count_of, sum_more, sum_one}
 
 -- ---- the message
@@ -180,7 +180,7 @@ sizes_of laws ps r7 (r ∷ r8) r9 n is are both none lives last =
 
 -- Plain octets from which each layer can continue, or with which the envelope ends, make their place possible.
 finish : ByLayersLaws → (place : Place) (numbers : Numbers) (heads : ℕ) (object : List ℕ) (ended : Bool) (begun : Begun) (rest text : List ℕ) → AreSpellable place.fields numbers heads object → IsBegun count_octets begun rest
-    → LeadToSaved (object ++ begun_object begun) text place.message → (place.section ≡ 9 → place.message.part ≡ part.AfterEnd) → MayGoOn widest (plain place.fields numbers heads object ended) begun
+    → LeadToSaved (object ++ begun_object begun) text place.message → (place.section ≡ 9 → place.message.part ≡ part.AfterEnd) → MayContinue widest (plain place.fields numbers heads object ended) begun
     → (ended ≡ true → (begun ≡ InTag []) × (rest ≡ [])) → place ≡ plain_place place.fields numbers heads object ended begun place.message → Possible place
 finish laws place numbers heads object ended begun rest text spellable is_begun leads last goes nothing same = record {
   octets = canonical_stream ds ++ rest;
@@ -206,14 +206,14 @@ finish laws place numbers heads object ended begun rest text spellable is_begun 
     section_is : place.section ≡ section ds begun
     section_is = ap (λ (x : Place). x.section) same
 
-    all : AllGoOn widest ds begun
+    all : AllCanContinue widest ds begun
     all = record {
       sizes = goes;
       message = message_lives laws (object_so_far ds begun) text place.message here (section ds begun) (λ nine. last (section_is ∙ nine));
       story = (laws.opens.answer.living (object_so_far ds begun) text here.0 here.1).1;
     }
 
-    alive : IsAlive ds
+    alive : SectionsLive ds
     alive = alive_of widest ds begun goes
 
     spelled : SpellsStream count_octets ds (canonical_stream ds)
@@ -224,7 +224,7 @@ finish laws place numbers heads object ended begun rest text spellable is_begun 
       whole = ds;
       begun = begun;
       reads = record { front = canonical_stream ds; rest = rest; is_front = spelled; is_rest = is_begun; parts = refl };
-      goes_on = all;
+      leads_on = all;
       unfinished = λ sections.
           let nine = sections_last laws.opens.answer.follow.ends ds alive sections in
           let bad : true ≡ false = sym (ap (λ (n : ℕ). nat_eq n 9) nine) ∙ present_ended place.fields numbers heads object ended spellable.kept ∙ more in
@@ -238,8 +238,8 @@ finish laws place numbers heads object ended begun rest text spellable is_begun 
         let section9 : place.section ≡ 9 = section_is ∙ ap (section ds) no_more.0 ∙ nine in
         let o_is : object_so_far ds begun ≡ object_of ds = ap (object_so_far ds) no_more.0 in
         let m = whole_saved (object_of ds) text place.message (subst (λ (o : List ℕ). LeadToSaved o text place.message) o_is here) (last section9) in
-        let tag : GoOn widest ds = subst (MayGoOn widest ds) no_more.0 goes in
-        let stated = stated_behind laws.opens.answer.follow.objects ds alive tag.within.subfiles in
+        let tag : CanContinue widest ds = subst (MayContinue widest ds) no_more.0 goes in
+        let stated = stated_after_all laws.opens.answer.follow.objects ds alive tag.within.subfiles in
         let ends : of_record 9 ds ≡ plain_end true object = tell.nines_are ∙ ap (λ (b : Bool). plain_end b object) is in
         let n = number (number_dataset 9 10 (length object)).octets in
         let ending : ending_of (of_record 9 ds) ≡ ConfirmedAs n = ap ending_of ends in
@@ -368,14 +368,14 @@ small_in fields numbers heads object ended tell size e =
     (subst (λ (o : Option ℕ). AllByRecursion (λ n. n ≤ size) (lengths_of (subfile_datasets (filled (unwrap_or o 0) heads object)))) (sym (sym largest ∙ e)) (part_small size heads object))
 
 -- the object lives after plain datasets as at the place
-behind_plain : SizeLaws → (fields : List Dataset) (numbers : Numbers) (heads : ℕ) (object : List ℕ) (ended : Bool) (p : objects.Place) (e : Ending) → Tell (plain fields numbers heads object ended) fields numbers heads object ended
+after_plain : SizeLaws → (fields : List Dataset) (numbers : Numbers) (heads : ℕ) (object : List ℕ) (ended : Bool) (p : objects.Place) (e : Ending) → Tell (plain fields numbers heads object ended) fields numbers heads object ended
     → number_list numbers ≡ stated_numbers p.stated → IsPossible p → AreStated (numbers_of (of_record 7 (plain fields numbers heads object ended))) → heads ≡ length p.lengths → sum p.lengths ≡ length object → p.ending ≡ e
-    → ObjectLives (record (place_behind (plain fields numbers heads object ended)) { ending = e })
-behind_plain laws fields numbers heads object ended p e tell same is stated many total end' =
+    → ObjectLives (record (place_after_datasets (plain fields numbers heads object ended)) { ending = e })
+after_plain laws fields numbers heads object ended p e tell same is stated many total end' =
     let ds = plain fields numbers heads object ended in
     let count = count_of (of_record 8 ds) in
     let heads_are = tell.heads_are in
-    (possible_like laws p (record (place_behind ds) { ending = e }) is stated (sym same ∙ sym tell.numbers_are) (omega (arith, count, heads_are, many)) (total ∙ sym (ap length tell.object_is) ∙ sym (total_of (of_record 8 ds)))
+    (possible_like laws p (record (place_after_datasets ds) { ending = e }) is stated (sym same ∙ sym tell.numbers_are) (omega (arith, count, heads_are, many)) (total ∙ sym (ap length tell.object_is) ∙ sym (total_of (of_record 8 ds)))
     (small_in fields numbers heads object ended tell) end').alive
 
 -- alive with plain datasets, as with those that tell the record layer
@@ -410,7 +410,7 @@ filling laws fields numbers p heads object keeps same is ls ks parts many total 
       few = omega (arith, most, sums, total);
       fits = record {
         kept = keeps;
-        fit = subst (λ (n : Numbers). AllByRecursion IsNumber (number_list n)) (sym stated.are) (fit_in_rows p.stated is.stated.each);
+        fit = subst (λ (n : Numbers). AllByRecursion IsSize (number_list n)) (sym stated.are) (fit_in_rows p.stated is.stated.each);
         room = subst (λ (o : Option ℕ). length object ≤ heads * unwrap_or o 0) (sym stated.largest) room;
       };
     }
@@ -423,13 +423,13 @@ ending_plain false o few = refl
 
 lead_whole : ByLayersLaws → (place : Place) (numbers : Numbers) (p : objects.Place) (ended : Bool) (held o text : List ℕ) → place.numbers ≡ number_list numbers → AllByRecursion (λ (d : Dataset). is_kept d.rec ≡ true) place.fields
     → number_list numbers ≡ stated_numbers p.stated → IsPossible p → p.ending ≡ (if ended then ConfirmedAs (length o) else NotEnded) → place.heads ≡ length p.lengths → sum p.lengths ≡ length o → length o ≡ place.taken
-    → LeadToSaved o text place.message → (place.section ≡ 9 → place.message.part ≡ part.AfterEnd) → IsAlive (plain place.fields numbers (one_of_some place.heads) [] ended)
+    → LeadToSaved o text place.message → (place.section ≡ 9 → place.message.part ≡ part.AfterEnd) → SectionsLive (plain place.fields numbers (one_of_some place.heads) [] ended)
     → present_record (plain place.fields numbers (one_of_some place.heads) [] ended) ≡ place.section → IsBegun count_octets (InTag held) held → (ended ≡ true → held ≡ []) → place.phase ≡ (if ended then AllEnded else TagBegun held)
     → IsWithin widest (length (joined place.fields)) (length place.fields) → Possible place
 lead_whole laws place numbers p ended held o text numbers_are keeps same is end' many total taken leads last (more, sections) present is_begun none phase within =
     finish laws place numbers heads o ended (InTag held) held text (spellable_by fields numbers p base.given heads o base.fits spelled octets (let low = base.few in omega (arith, low)))
     is_begun (subst (λ (x : List ℕ). LeadToSaved x text place.message) (sym (append-nil o)) leads) last
-    (record { records = alive; within = inside; object = subst (λ (e : Ending). ObjectLives (record (place_behind ds) { ending = e })) (ending_plain ended o base.few ∙ sym (ap ending_of tell.nines_are)) lives })
+    (record { records = alive; within = inside; object = subst (λ (e : Ending). ObjectLives (record (place_after_datasets ds) { ending = e })) (ending_plain ended o base.few ∙ sym (ap ending_of tell.nines_are)) lives })
     (λ e. let nil = none e in (ap InTag nil, nil)) place_is
   where
     fields : List Dataset
@@ -453,14 +453,14 @@ lead_whole laws place numbers p ended held o text numbers_are keeps same is end'
     spelled : AllByRecursion HasSpellings fields
     spelled = fields_spelled fields numbers (one_of_some heads) [] ended more keeps sections (let low = within.octets_in in omega (arith, low))
 
-    alive : IsAlive ds
+    alive : SectionsLive ds
     alive = (more, alive_with fields numbers heads o ended base.fits octets base.few more sections)
 
     inside : AreWithin widest ds
     inside = within_plain fields numbers heads o ended tell within (let most = is.few in omega (arith, many, most))
 
-    lives : ObjectLives (record (place_behind ds) { ending = if ended then ConfirmedAs (length o) else NotEnded })
-    lives = behind_plain laws.opens.sizes fields numbers heads o ended p (if ended then ConfirmedAs (length o) else NotEnded) tell same is (stated_behind laws.opens.answer.follow.objects ds alive inside.subfiles).stated many total end'
+    lives : ObjectLives (record (place_after_datasets ds) { ending = if ended then ConfirmedAs (length o) else NotEnded })
+    lives = after_plain laws.opens.sizes fields numbers heads o ended p (if ended then ConfirmedAs (length o) else NotEnded) tell same is (stated_after_all laws.opens.answer.follow.objects ds alive inside.subfiles).stated many total end'
 
     present_is : place.section ≡ present_record ds
     present_is = sym present ∙ present_alike fields numbers (one_of_some heads) heads [] o ended (sym (one_same heads))
@@ -491,7 +491,7 @@ lead_tag laws section held fields nums taken heads m l =
     λ i. plain fields l.numbers (one_of_some (less_none heads i)) [] false in
     let within = l.within in
     lead_whole laws (record { section = section; phase = TagBegun held; fields = fields; numbers = nums; taken = taken; heads = heads; message = m }) l.numbers l.object.0 false held o text l.numbers_are l.kept
-    (sym l.numbers_are ∙ at.numbers_are) l.object.2 at.not_ended at.subfiles (octets ∙ sym many) many leads last (subst IsAlive is l.records.1) (ap present_record (sym is) ∙ l.records.0)
+    (sym l.numbers_are ∙ at.numbers_are) l.object.2 at.not_ended at.subfiles (octets ∙ sym many) many leads last (subst SectionsLive is l.records.1) (ap present_record (sym is) ∙ l.records.0)
     (held_begun held l.tags) (λ bad. absurd (let no' : false ≡ true = bad in cc)) refl
     (record { octets_in = let low = within.octets_in in omega (arith, low); fields_in = let low = within.fields_in in omega (arith, low) })
 
@@ -510,7 +510,7 @@ lead_ended laws section fields nums taken heads m l =
     let nine : present_record base ≡ 9 = eqb-true (present_record base) 9 (present_ended fields l.numbers (one_of_some heads) [] true l.kept) in
     lead_whole laws (record { section = section; phase = AllEnded; fields = fields; numbers = nums; taken = taken; heads = heads; message = m }) l.numbers
     (place_after (place_after p ObjectEnded) (Confirmed taken)) true [] o text l.numbers_are l.kept
-    (sym l.numbers_are ∙ at.numbers_are) l.object.2 (ap ConfirmedAs (sym many)) at.subfiles (octets ∙ sym many) many leads last (subst IsAlive is l.records.1) (nine ∙ sym l.records.0)
+    (sym l.numbers_are ∙ at.numbers_are) l.object.2 (ap ConfirmedAs (sym many)) at.subfiles (octets ∙ sym many) many leads last (subst SectionsLive is l.records.1) (nine ∙ sym l.records.0)
     nothing_held (λ yes'. refl) refl
     (record { octets_in = let low = within.octets_in in omega (arith, low); fields_in = let low = within.fields_in in omega (arith, low) })
 
@@ -528,21 +528,21 @@ room_kept fields ks h same within is =
 
 -- the head that stands after the datasets by which the record layer is told stands after the plain ones
 at_with : (fields : List Dataset) (numbers : Numbers) (heads : ℕ) (object : List ℕ) → Fits fields numbers heads object → Octets object → length object ≤ greatest_size → (h : Head)
-    → IsAliveAt (plain fields numbers (one_of_some heads) [] false) h → IsAliveAt (plain fields numbers heads object false) h
+    → SectionsLiveAt (plain fields numbers (one_of_some heads) [] false) h → SectionsLiveAt (plain fields numbers heads object false) h
 at_with fields numbers heads object fits octets few h (d, is, (more, sections)) =
     let base = plain fields numbers (one_of_some heads) [] false in
     let ds = plain fields numbers heads object false in
     (d, is, (more, subst AreSections (sym (append_assoc ds (d ∷ []) more)) (alive_with fields numbers heads object false fits octets few ((d ∷ []) ++ more) (subst AreSections (append_assoc base (d ∷ []) more) sections))))
 
-pub front_alive : (ds : List Dataset) (h : Head) → IsAliveAt ds h → IsAlive ds
+pub front_alive : (ds : List Dataset) (h : Head) → SectionsLiveAt ds h → SectionsLive ds
 front_alive ds h (d, is, (more, sections)) = ((d ∷ []) ++ more, subst AreSections (append_assoc ds (d ∷ []) more) sections)
 
 -- in data that are no subfile's
 lead_other : ByLayersLaws → (place : Place) (numbers : Numbers) (p : objects.Place) (e : Ending) (h : Head) (left : ℕ) (taken o text tag : List ℕ) → place.numbers ≡ number_list numbers
     → AllByRecursion (λ (d : Dataset). is_kept d.rec ≡ true) place.fields → number_list numbers ≡ stated_numbers p.stated → IsPossible p → p.ending ≡ e → place.heads ≡ length p.lengths → sum p.lengths ≡ length o → length o ≡ place.taken
-    → LeadToSaved o text place.message → (place.section ≡ 9 → place.message.part ≡ part.AfterEnd) → IsAliveAt (plain place.fields numbers (one_of_some place.heads) [] false) h → place.section ≡ h.rec → nat_eq h.rec 8 ≡ false
+    → LeadToSaved o text place.message → (place.section ≡ 9 → place.message.part ≡ part.AfterEnd) → SectionsLiveAt (plain place.fields numbers (one_of_some place.heads) [] false) h → place.section ≡ h.rec → nat_eq h.rec 8 ≡ false
     → SpellsTag count_octets h tag → Octets taken → length taken + left ≡ h.count → 0 < left → place.phase ≡ DataBegun h.set h.count left taken
-    → ((ds : List Dataset) → ending_of (of_record 9 ds) ≡ NotEnded → ObjectLives (record (place_behind ds) { ending = e }) → ObjectLives (place_at ds h))
+    → ((ds : List Dataset) → ending_of (of_record 9 ds) ≡ NotEnded → ObjectLives (record (place_after_datasets ds) { ending = e }) → ObjectLives (place_at ds h))
     → IsWithin widest (length (joined place.fields) + (if is_kept h.rec then h.count else 0)) (length place.fields + (if is_kept h.rec then 1 else 0)) → Possible place
 lead_other laws place numbers p e h left taken o text tag numbers_are keeps same is end' many total come leads last at section_is not8 spells data_octets counts some phase lives_at within =
     finish laws place numbers heads o false (InData h taken) (tag ++ taken) text (spellable_by fields numbers p base.given heads o base.fits spelled octets (let low = base.few in omega (arith, low)))
@@ -577,20 +577,20 @@ lead_other laws place numbers p e h left taken o text tag numbers_are keeps same
     tell : Tell ds fields numbers heads o false
     tell = told_by fields numbers heads o false base.fits
 
-    base_alive : IsAlive (plain fields numbers (one_of_some heads) [] false)
+    base_alive : SectionsLive (plain fields numbers (one_of_some heads) [] false)
     base_alive = front_alive (plain fields numbers (one_of_some heads) [] false) h at
 
     spelled : AllByRecursion HasSpellings fields
     spelled = fields_spelled fields numbers (one_of_some heads) [] false base_alive.0 keeps base_alive.1 (let low = within.octets_in in omega (arith, low))
 
-    alive_at : IsAliveAt ds h
+    alive_at : SectionsLiveAt ds h
     alive_at = at_with fields numbers heads o base.fits octets base.few h at
 
     inside : AreWithin widest ds
     inside = within_plain fields numbers heads o false tell (within_whole fields _ _ within) (let most = is.few in omega (arith, many, most))
 
-    lives : ObjectLives (record (place_behind ds) { ending = e })
-    lives = behind_plain laws.opens.sizes fields numbers heads o false p e tell same is (stated_behind laws.opens.answer.follow.objects ds (front_alive ds h alive_at) inside.subfiles).stated many total end'
+    lives : ObjectLives (record (place_after_datasets ds) { ending = e })
+    lives = after_plain laws.opens.sizes fields numbers heads o false p e tell same is (stated_after_all laws.opens.answer.follow.objects ds (front_alive ds h alive_at) inside.subfiles).stated many total end'
 
     place_is : place ≡ plain_place fields numbers heads o false (InData h taken) place.message
     place_is =
@@ -607,7 +607,7 @@ lead_other laws place numbers p e h left taken o text tag numbers_are keeps same
 -- in a subfile
 lead_subfile : ByLayersLaws → (place : Place) (numbers : Numbers) (p : objects.Place) (set count left : ℕ) (o text tag : List ℕ) → place.numbers ≡ number_list numbers
     → AllByRecursion (λ (d : Dataset). is_kept d.rec ≡ true) place.fields → number_list numbers ≡ stated_numbers p.stated → IsPossible p → p.ending ≡ NotEnded → place.heads ≡ length p.lengths → (last : LastIsBegun p.lengths place.taken count left)
-    → length o ≡ place.taken → LeadToSaved o text place.message → IsAliveAt (plain place.fields numbers (one_of_some (place.heads - 1)) [] false) (head_at 8 set count) → place.section ≡ 8
+    → length o ≡ place.taken → LeadToSaved o text place.message → SectionsLiveAt (plain place.fields numbers (one_of_some (place.heads - 1)) [] false) (head_at 8 set count) → place.section ≡ 8
     → SpellsTag count_octets (head_at 8 set count) tag → place.phase ≡ DataBegun set count left [] → IsWithin widest (length (joined place.fields)) (length place.fields) → Possible place
 lead_subfile laws place numbers p set count left o text tag numbers_are keeps same is end' many last come leads at section_is spells phase within =
     finish laws place numbers heads object false (InData h begun) (tag ++ begun) text (spellable_by fields numbers p base.given heads object base.fits spelled object_octets (let low = base.few in omega (arith, low)))
@@ -678,20 +678,20 @@ lead_subfile laws place numbers p set count left o text tag numbers_are keeps sa
     tell : Tell ds fields numbers heads object false
     tell = told_by fields numbers heads object false base.fits
 
-    base_alive : IsAlive (plain fields numbers (one_of_some heads) [] false)
+    base_alive : SectionsLive (plain fields numbers (one_of_some heads) [] false)
     base_alive = front_alive (plain fields numbers (one_of_some heads) [] false) h at
 
     spelled : AllByRecursion HasSpellings fields
     spelled = fields_spelled fields numbers (one_of_some heads) [] false base_alive.0 keeps base_alive.1 (let low = within.octets_in in omega (arith, low))
 
-    alive_at : IsAliveAt ds h
+    alive_at : SectionsLiveAt ds h
     alive_at = at_with fields numbers heads object base.fits object_octets base.few h at
 
     inside : AreWithin widest ds
     inside = within_plain fields numbers heads object false tell within (let most = is.few in omega (arith, many, most))
 
     stated : AreStated (numbers_of (of_record 7 ds))
-    stated = (stated_behind laws.opens.answer.follow.objects ds (front_alive ds h alive_at) inside.subfiles).stated
+    stated = (stated_after_all laws.opens.answer.follow.objects ds (front_alive ds h alive_at) inside.subfiles).stated
 
     small : (size : ℕ) → number_at 20 (numbers_of (of_record 7 ds)) ≡ Some size → count ≤ size
     small size e =
@@ -703,9 +703,9 @@ lead_subfile laws place numbers p set count left o text tag numbers_are keeps sa
         last_small size [] c all = all.0
         last_small size (l ∷ ls) c all = last_small size ls c all.1
 
-    lives : ObjectLives (place_after (place_behind ds) (SubfileBegun count))
+    lives : ObjectLives (place_after (place_after_datasets ds) (SubfileBegun count))
     lives =
-        let q = place_after (place_behind ds) (SubfileBegun count) in
+        let q = place_after (place_after_datasets ds) (SubfileBegun count) in
         let ls = lengths_of (of_record 8 ds) in
         let count_is = count_of (of_record 8 ds) in
         let told = tell.heads_are in
@@ -744,16 +744,16 @@ lead_eight laws set count left given fields nums taken heads m l =
 
 -- where the object stands at a head of another record
 abbrev LivesAt : Ending → Head → Type 0
-LivesAt e h = (ds : List Dataset) → ending_of (of_record 9 ds) ≡ NotEnded → ObjectLives (record (place_behind ds) { ending = e }) → ObjectLives (place_at ds h)
+LivesAt e h = (ds : List Dataset) → ending_of (of_record 9 ds) ≡ NotEnded → ObjectLives (record (place_after_datasets ds) { ending = e }) → ObjectLives (place_at ds h)
 
 at_nine : (h : Head) → nat_eq h.rec 9 ≡ true → LivesAt Ended h
 at_nine h nine ds none lives = subst ObjectLives (sym (at_end ds h (eqb-true h.rec 9 nine))) lives
 
 at_others : (h : Head) → nat_eq h.rec 8 ≡ false → nat_eq h.rec 9 ≡ false → LivesAt NotEnded h
 at_others h not8 not9 ds none lives =
-    let is : place_at ds h ≡ place_behind ds =
-    ap (λ (b : Bool). if b then place_after (place_behind ds) (SubfileBegun h.count) else if nat_eq h.rec 9 then place_ended ds else place_behind ds) not8 ∙ ap (λ (c : Bool). if c then place_ended ds else place_behind ds) not9 in
-    subst ObjectLives (sym is) (subst (λ (e : Ending). ObjectLives (record (place_behind ds) { ending = e })) (sym none) lives)
+    let is : place_at ds h ≡ place_after_datasets ds =
+    ap (λ (b : Bool). if b then place_after (place_after_datasets ds) (SubfileBegun h.count) else if nat_eq h.rec 9 then place_ended ds else place_after_datasets ds) not8 ∙ ap (λ (c : Bool). if c then place_ended ds else place_after_datasets ds) not9 in
+    subst ObjectLives (sym is) (subst (λ (e : Ending). ObjectLives (record (place_after_datasets ds) { ending = e })) (sym none) lives)
 
 lead_not_eight : ByLayersLaws → (section set count left : ℕ) (given : List ℕ) (fields : List Dataset) (nums : List (Option ℕ)) (taken heads : ℕ) (m : MessagePlace) → nat_eq section 8 ≡ false
     → LeadsByLayers (DataPlace section set count left given fields nums taken heads m) → Possible (DataPlace section set count left given fields nums taken heads m)
@@ -766,9 +766,9 @@ lead_not_eight laws section set count left given fields nums taken heads m not8 
     let come : length given ≡ count - left = subst (λ (b : Bool). length given ≡ (if b then 0 else count - left)) not8 l.tags.1 in
     let some : 0 < left = l.tags.0.0 in
     let fits : left ≤ count = l.tags.0.1 in
-    let alive : IsAliveAt (plain fields l.numbers (one_of_some heads) [] false) h =
-    subst (λ (n : ℕ). IsAliveAt (plain fields l.numbers (one_of_some n) [] false) h) (less_none heads)
-    (subst (λ (b : Bool). IsAliveAt (plain fields l.numbers (one_of_some (heads - (if b then 1 else 0))) [] false) h) not8 l.records) in
+    let alive : SectionsLiveAt (plain fields l.numbers (one_of_some heads) [] false) h =
+    subst (λ (n : ℕ). SectionsLiveAt (plain fields l.numbers (one_of_some n) [] false) h) (less_none heads)
+    (subst (λ (b : Bool). SectionsLiveAt (plain fields l.numbers (one_of_some (heads - (if b then 1 else 0))) [] false) h) not8 l.records) in
     let lead : (q : objects.Place) (e : Ending) → number_list l.numbers ≡ stated_numbers q.stated → IsPossible q → q.ending ≡ e → heads ≡ length q.lengths → sum q.lengths ≡ length o → LivesAt e h
     → Possible (DataPlace section set count left given fields nums taken heads m) =
     λ q e same is end' count_is total lives.

@@ -34,7 +34,7 @@ pub mod Fitting
 pub mod Plain
 pub mod PlainPlaces
 pub mod HeadsWithin
-pub mod PlainGoesOn
+pub mod PlainContinues
 pub mod PlainSizes
 pub mod PlainOpens
 pub mod Alike

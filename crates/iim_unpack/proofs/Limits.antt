@@ -1,10 +1,9 @@
 -- What datasets after others add to the limits.
 use Rattle.std.proofs.Common.{◌≡◌, ◌+◌, ◌≤◌, Bool, true, false, cond, nat_eq, List, [], ◌∷◌, ◌++◌, length, ap, ◌∙◌, arith, length-append}
 use Rattle.std.proofs.lemmas.List.Elements.{filter-append}
-use Rattle.iim_dataset.specs.Datasets.{Dataset, head_of}
-use Rattle.iim_fields.specs.Faults.{kept, kept_octets, is_kept, joined}
+use Rattle.iim_dataset.specs.Format.Datasets.{Dataset, head_of, of_record}
+use Rattle.iim_fields.specs.Format.Faults.{kept, kept_octets, is_kept, joined}
 use Rattle.iim_fields.specs.declared.limits.Limits.{Limits}
-use Rattle.iim_object.specs.Behind.{of_record}
 use Rattle.iim_unpack.specs.Format.Framed.{AreWithin}
 use Rattle.iim_unpack.specs.Format.Tokens.{HaveRoom}
 

@@ -4,9 +4,9 @@ use Rattle.std.specs.List.{list_any, position_or_len, before_first, after_first}
 use Rattle.std.proofs.lemmas.List.{drop-append-le, take-append-le, map-append}
 use Rattle.std.proofs.lemmas.List.Folds.{list_any-append}
 use Rattle.std.proofs.Math.Seq.{drop-append-add, take-append-add, take-length}
-use Rattle.iim_dataset.specs.Languages as languages
-use Rattle.wire_story.specs.Tokens.{OctetOrEnd, Octet, End, StoryLanguage}
-use Rattle.wire_message.specs.Layers.{MessageLanguage, MessageLivesWith, StoryLivesIn, after_stx}
+use Rattle.iim_dataset.specs.Format.Languages as languages
+use Rattle.wire_story.specs.Format.Tokens.{OctetOrEnd, Octet, End, StoryLanguage}
+use Rattle.wire_message.specs.Format.Layers.{MessageLanguage, MessageLivesWith, StoryLivesIn, after_stx}
 
 pub alive_front : {T : Type 0} (L : List T → Type 0) (xs ys : List T) → languages.IsAlive L (xs ++ ys) → languages.IsAlive L xs
 alive_front L xs ys alive = (ys ++ alive.0, subst L (append_assoc xs ys alive.0) alive.1)
@@ -75,28 +75,28 @@ abbrev is_stx : ℕ → Bool
 is_stx b = b == 2
 
 -- the story's tokens of what stands after STX
-abbrev tokens_behind : List ℕ → List OctetOrEnd
-tokens_behind x = map Octet (before_first is_etx x) ++ (if list_any is_etx x then End ∷ [] else [])
+abbrev tokens_after_stx : List ℕ → List OctetOrEnd
+tokens_after_stx x = map Octet (before_first is_etx x) ++ (if list_any is_etx x then End ∷ [] else [])
 
-behind_front : (x y : List ℕ) (b : Bool) → list_any is_etx x ≡ b → languages.IsAlive StoryLanguage (tokens_behind (x ++ y)) → languages.IsAlive StoryLanguage (tokens_behind x)
-behind_front x y true found alive =
-    let same : tokens_behind (x ++ y) ≡ tokens_behind x =
+after_front : (x y : List ℕ) (b : Bool) → list_any is_etx x ≡ b → languages.IsAlive StoryLanguage (tokens_after_stx (x ++ y)) → languages.IsAlive StoryLanguage (tokens_after_stx x)
+after_front x y true found alive =
+    let same : tokens_after_stx (x ++ y) ≡ tokens_after_stx x =
     ap (λ (t : List ℕ). map Octet t ++ (if list_any is_etx (x ++ y) then End ∷ [] else [])) (before_found is_etx x y found)
     ∙ ap (λ (c : Bool). map Octet (before_first is_etx x) ++ (if c then End ∷ [] else [])) (list_any-append is_etx x y ∙ ap (λ (c : Bool). c || list_any is_etx y) found ∙ sym found) in
     subst (languages.IsAlive StoryLanguage) same alive
-behind_front x y false none alive =
+after_front x y false none alive =
     let E : List OctetOrEnd = if list_any is_etx (x ++ y) then End ∷ [] else [] in
-    let longer : tokens_behind (x ++ y) ≡ map Octet x ++ (map Octet (before_first is_etx y) ++ E) =
+    let longer : tokens_after_stx (x ++ y) ≡ map Octet x ++ (map Octet (before_first is_etx y) ++ E) =
     ap (λ (t : List ℕ). map Octet t ++ E) (before_later is_etx x y none) ∙ ap (λ (ts : List OctetOrEnd). ts ++ E) (map-append Octet x (before_first is_etx y)) ∙ append_assoc (map Octet x) (map Octet (before_first is_etx y)) E in
-    let shorter : tokens_behind x ≡ map Octet x =
+    let shorter : tokens_after_stx x ≡ map Octet x =
     ap (λ (t : List ℕ). map Octet t ++ (if list_any is_etx x then End ∷ [] else [])) (before_all is_etx x none) ∙ ap (λ (c : Bool). map Octet x ++ (if c then End ∷ [] else [])) none ∙ append-nil (map Octet x) in
     subst (languages.IsAlive StoryLanguage) (sym shorter) (alive_front StoryLanguage (map Octet x) (map Octet (before_first is_etx y) ++ E) (subst (languages.IsAlive StoryLanguage) longer alive))
 
 story_by : (x y : List ℕ) (b : Bool) → list_any is_stx x ≡ b → StoryLivesIn (x ++ y) → StoryLivesIn x
 story_by x y true found alive =
-    behind_front (after_stx x) y (list_any is_etx (after_stx x)) refl (subst (λ (t : List ℕ). languages.IsAlive StoryLanguage (tokens_behind t)) (after_found is_stx x y found) alive)
+    after_front (after_stx x) y (list_any is_etx (after_stx x)) refl (subst (λ (t : List ℕ). languages.IsAlive StoryLanguage (tokens_after_stx t)) (after_found is_stx x y found) alive)
 story_by x y false none alive =
-    subst (λ (t : List ℕ). languages.IsAlive StoryLanguage (tokens_behind t)) (sym (after_none is_stx x none)) (alive_front StoryLanguage [] (tokens_behind (after_stx (x ++ y))) alive)
+    subst (λ (t : List ℕ). languages.IsAlive StoryLanguage (tokens_after_stx t)) (sym (after_none is_stx x none)) (alive_front StoryLanguage [] (tokens_after_stx (after_stx (x ++ y))) alive)
 
 -- The story of fewer octets can continue.
 pub story_front : (x y : List ℕ) → StoryLivesIn (x ++ y) → StoryLivesIn x

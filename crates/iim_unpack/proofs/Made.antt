@@ -1,19 +1,20 @@
 -- An unpacker that was made of the readers of a possible place is sound, and restored from the place's ticket.
 use Rattle.std.proofs.Common.{◌≡◌, ℕ, ◌⊎◌, nat_eq, if◌then◌else◌, Bool, true, false, List, [], length, IsSome, ap, sym, ◌∙◌, inl, inr, arith}
 use Rattle.std.proofs.lemmas.Bool.Decides.{eqb_tells}
-use Rattle.iim_dataset.specs.Datasets.{Dataset}
-use Rattle.iim_dataset.specs.Places.{IsKeptAs, to_come}
-use Rattle.iim_dataset.specs.Splits.{Begun, InTag, InData}
+use Rattle.iim_dataset.specs.Format.Datasets.{Dataset}
+use Rattle.iim_dataset.specs.Format.Places.{IsKeptAs, to_come}
+use Rattle.iim_dataset.specs.Format.Splits.{Begun, InTag, InData}
 use Rattle.iim_dataset.specs.declared.place.DatasetPlace.{DatasetPlace}
 use Rattle.iim_dataset.specs.declared.place.DatasetPlace.TheVariants.{Tag, Inside}
 use Rattle.iim_fields.specs.declared.limits.Limits.{Limits}
-use Rattle.iim_object.specs.Told.{ReadersTellSizes}
-use Rattle.iim_unpack.specs.Parts.{StandsFor, has_ended}
+use Rattle.iim_object.specs.Format.Told.{ReadersTellSizes}
+use Rattle.iim_unpack.specs.Format.Parts.{StandsFor, has_ended}
 use Rattle.iim_unpack.specs.Format.Possible.{AreOpenOrWhole, LimitsAreToldByPlace}
 use Rattle.iim_unpack.specs.Restoring.{ReadersMakeUnpackers}
 use Rattle.iim_unpack.specs.Routing.{Takes, HasEnded}
 use Rattle.iim_unpack.specs.Format.Tickets.{Place, IsPlaceOf}
-use Rattle.iim_unpack.specs.Unpacking.{Unpacking, Stands, IsDoneWith, IsUnpacking}
+use Rattle.iim_unpack.specs.Format.Unpacking.{Unpacking, Stands, IsDoneWith}
+use Rattle.iim_unpack.specs.Unpacking.{IsUnpacking}
 use Rattle.iim_unpack.specs.Format.Open.{IsOpen}
 use Rattle.iim_unpack.specs.declared.parts.Parts.{Parts}
 use Rattle.iim_unpack.specs.LowerLaws.{RestoreLaws}

@@ -2,11 +2,11 @@
 use Rattle.std.proofs.Common.{◌≡◌, ℕ, ◌<◌, ◌≤◌, ◌||◌, not, nat_eq, nat_le, nat_lt, Bool, true, List, [], ◌∷◌, ◌++◌, map, sym, subst, inl, inr, arith}
 use Rattle.std.specs.List.{list_all}
 use Rattle.std.proofs.lemmas.Bool.{and_parts, or_cases, eqb-true, leb-true, ltb-true}
-use Rattle.iim_dataset.specs.Octets.{Octets}
-use Rattle.wire_story.specs.Tokens.{OctetOrEnd, Octet, End, with_end}
-use Rattle.wire_message.specs.Fields.{Are, within, is_digit, is_letter, is_alphanumeric, is_info_octet, is_trailer_octet, is_filler_octet, is_text_octet}
-use Rattle.wire_message.specs.Layers.{MessageLivesWith}
-use Rattle.wire_message.specs.Messages.{Header, IsMessage, SpellsInfo, fixed_header}
+use Rattle.iim_dataset.specs.Format.Octets.{Octets, within, is_digit, is_letter}
+use Rattle.wire_story.specs.Format.Tokens.{OctetOrEnd, Octet, End, with_end}
+use Rattle.wire_message.specs.Format.Fields.{Are, is_alphanumeric, is_info_octet, is_trailer_octet, is_filler_octet, is_text_octet}
+use Rattle.wire_message.specs.Format.Layers.{MessageLivesWith}
+use Rattle.wire_message.specs.Format.Messages.{Header, IsMessage, SpellsInfo, fixed_header}
 use Rattle.iim_unpack.proofs.PlainPlaces.{join_octets}
 
 abbrev Bounds : (ℕ → Bool) → Type 0

@@ -1,12 +1,12 @@
 -- Places of the object at its end, and before it.
 use Rattle.std.proofs.Common.{◌≡◌, ℕ, ◌<◌, ◌≤◌, List, [], ◌∷◌, ◌++◌, length, Option, refl, subst, arith}
-use Rattle.iim_dataset.specs.Languages.{IsAlive}
-use Rattle.iim_object.specs.Behind.{TokensFollow}
-use Rattle.iim_object.specs.Objects.{ObjectToken, ObjectEnded, Confirmed, ObjectLanguage}
-use Rattle.iim_object.specs.Places.{Place, NotEnded, Ended, ConfirmedAs, MayFollow, place_after, tokens_of}
-use Rattle.iim_object.specs.Plans.{max_subfiles}
-use Rattle.iim_object.specs.Reading.{StandsAt}
-use Rattle.iim_object.specs.Saved.{IsPossible}
+use Rattle.iim_dataset.specs.Format.Languages.{IsAlive}
+use Rattle.iim_object.specs.Format.Numbers.{TokensFollow}
+use Rattle.iim_object.specs.Format.Objects.{ObjectToken, ObjectEnded, Confirmed, ObjectLanguage}
+use Rattle.iim_object.specs.Format.Places.{Place, NotEnded, Ended, ConfirmedAs, MayFollow, place_after, tokens_of}
+use Rattle.iim_object.specs.Format.Plans.{max_subfiles}
+use Rattle.iim_object.specs.Format.Reading.{StandsAt}
+use Rattle.iim_object.specs.Format.Saved.{IsPossible}
 use Rattle.iim_object.specs.declared.state.State.{State}
 use Rattle.iim_unpack.proofs.PlainPlaces.{alive_front}
 

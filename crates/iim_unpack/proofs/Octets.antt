@@ -1,6 +1,6 @@
 -- Parts of octets are octets.
 use Rattle.std.proofs.Common.{ℕ, ◌<◌, List, [], ◌∷◌, suc, get_or}
-use Rattle.iim_dataset.specs.Octets.{Octets}
+use Rattle.iim_dataset.specs.Format.Octets.{Octets}
 
 -- each is an octet
 abbrev pub Fit : List ℕ → Type 0

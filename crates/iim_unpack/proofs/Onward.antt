@@ -2,44 +2,43 @@
 use Rattle.std.proofs.Common.{◌≡◌, ℕ, ◌<◌, ◌≤◌, ◌&&◌, nat_eq, cond, not, if◌then◌else◌, Bool, true, false, List, [], ◌∷◌, ◌++◌, length, map, Option, Some, None, refl, ap, sym, subst, ◌∙◌, inl, inr, arith, append_assoc, append-nil, length-append}
 use Rattle.std.specs.List.{AllByRecursion}
 use Rattle.std.proofs.lemmas.Bool.Decides.{eqb_tells}
-use Rattle.iim_dataset.specs.Octets.{Octets}
-use Rattle.iim_dataset.specs.Languages as languages
-use Rattle.iim_dataset.specs.Datasets.{Dataset, SpellsStream, SpellsTag, head_of, count_octets}
-use Rattle.iim_dataset.specs.Splits.{Begun, InTag, InData, Reads}
+use Rattle.iim_dataset.specs.Format.Octets.{Octets, greatest_size, within}
+use Rattle.iim_dataset.specs.Format.Languages as languages
+use Rattle.iim_dataset.specs.Format.Datasets.{Dataset, SpellsStream, SpellsTag, head_of, count_octets, of_record}
+use Rattle.iim_dataset.specs.Format.Splits.{Begun, InTag, InData, Reads}
 use Rattle.iim_dataset.specs.declared.head.Head.{Head}
-use Rattle.iim_tables.specs.Numbers.{greatest_size}
-use Rattle.iim_tables.specs.Octets.{within}
-use Rattle.iim_tables.specs.Rows.{table, row_of}
+use Rattle.iim_tables.specs.Format.Rows.{table, row_of}
 use Rattle.iim_tables.specs.declared.shape.Row.{Row}
-use Rattle.iim_fields.specs.Alive.{IsAlive, IsAliveAt}
-use Rattle.iim_fields.specs.Faults.{fault_by_row, present_record, value_fault}
-use Rattle.iim_fields.specs.Laws.{ValuesDieWithTheirFault}
-use Rattle.iim_fields.specs.Records.{AreSections, occurs}
-use Rattle.iim_fields.specs.Values.{data_of}
+use Rattle.iim_fields.specs.Format.Alive.{SectionsLive, SectionsLiveAt}
+use Rattle.iim_fields.specs.Format.Faults.{fault_by_row, present_record, value_fault}
+use Rattle.iim_fields.specs.Format.Laws.{ValuesDieWithTheirFault}
+use Rattle.iim_fields.specs.Format.Records.{AreSections}
+use Rattle.iim_tables.specs.Format.Records.{occurs}
+use Rattle.iim_fields.specs.Format.Values.{data_of}
 use Rattle.iim_fields.specs.declared.fault.FieldFault.{FieldFault}
 use Rattle.iim_fields.specs.declared.fault.FieldCause.TheVariants.{BadValue}
 use Rattle.iim_fields.specs.declared.limits.Limits.{Limits}
-use Rattle.iim_object.specs.Behind.{of_record, place_behind}
-use Rattle.iim_object.specs.Plans.{max_subfiles}
-use Rattle.wire_story.specs.Tokens.{Octet, End}
-use Rattle.wire_message.specs.Layers.{MessageLanguage, MessageLivesWith, StoryLivesIn}
+use Rattle.iim_object.specs.Format.Numbers.{place_after_datasets}
+use Rattle.iim_object.specs.Format.Plans.{max_subfiles}
+use Rattle.wire_story.specs.Format.Tokens.{Octet, End}
+use Rattle.wire_message.specs.Format.Layers.{MessageLanguage, MessageLivesWith, StoryLivesIn}
 use Rattle.iim_unpack.specs.Format.Admitted.{object_of}
 use Rattle.iim_unpack.specs.Format.Framed.{AreWithin}
-use Rattle.iim_unpack.specs.Format.Open.{AllGoOn, object_so_far, section}
-use Rattle.iim_unpack.specs.Format.Tokens.{MayGoOn, ObjectLives}
+use Rattle.iim_unpack.specs.Format.Open.{AllCanContinue, object_so_far, section}
+use Rattle.iim_unpack.specs.Format.Tokens.{MayContinue, ObjectLives}
 use Rattle.iim_unpack.specs.LowerLaws.{OnwardLaws}
 use Rattle.iim_unpack.proofs.Answering.{nothing_held}
 use Rattle.iim_unpack.proofs.Closing.{object_of_more}
 use Rattle.iim_unpack.proofs.Fitting.{each_octets}
-use Rattle.iim_unpack.proofs.Following.{alive_of, follows, in_front, longer_front, message_of, object_behind, objects_append, same_data, story_of, within_of}
+use Rattle.iim_unpack.proofs.Following.{alive_of, follows, in_front, longer_front, message_of, object_lives_after, objects_append, same_data, story_of, within_of}
 use Rattle.iim_unpack.proofs.Frames.{compare}
 use Rattle.iim_unpack.proofs.Fronts.{begun_none}
 use Rattle.iim_unpack.proofs.Lasts.{present_last}
 use Rattle.iim_unpack.proofs.Limits.{within_front}
-use Rattle.iim_unpack.proofs.Places.{lives_behind}
+use Rattle.iim_unpack.proofs.Places.{lives_after}
 use Rattle.iim_unpack.proofs.PlainOpens.{possible_of}
 use Rattle.iim_unpack.proofs.SamePlace.{SameBegun, SameMessage}
-use Rattle.iim_unpack.proofs.SameRecords.{no_other, stated_behind}
+use Rattle.iim_unpack.proofs.SameRecords.{no_other, stated_after_all}
 use Rattle.iim_unpack.proofs.Tickets.{count_of}
 use Rattle.iim_unpack.proofs.Twins.{AreBounded, SameTail, Twins, bounded_at, eights, follows_as, goes_as, goes_at_as, present_on, same_tail, sevens, twins_on}
 
@@ -55,7 +54,7 @@ lives_as laws o r m true alive = (laws.ends r m.other m.at m.there).1 ((laws.end
 lives_as laws o r m false alive = subst (languages.IsAlive MessageLanguage) (sym (append-nil (map Octet r))) (laws.places.answer.living r m.other m.at m.there).0
 
 -- Every layer can continue from the one, if all but message and story can from the other and these are at one place.
-pub all_as : OnwardLaws → (limits : Limits) (ds es : List Dataset) (c d : Begun) → AllGoOn limits ds c → MayGoOn limits es d → section ds c ≡ section es d → SameMessage (object_so_far ds c) (object_so_far es d) → AllGoOn limits es d
+pub all_as : OnwardLaws → (limits : Limits) (ds es : List Dataset) (c d : Begun) → AllCanContinue limits ds c → MayContinue limits es d → section ds c ≡ section es d → SameMessage (object_so_far ds c) (object_so_far es d) → AllCanContinue limits es d
 all_as laws limits ds es c d goes sizes same m = record {
   sizes = sizes;
   message = subst (λ (n : ℕ). languages.IsAlive MessageLanguage (map Octet (object_so_far es d) ++ (if nat_eq n 9 then End ∷ [] else []))) same
@@ -71,14 +70,14 @@ pub record Pair (limits : Limits) (ds es : List Dataset) (c d : Begun) : Type 0 
   pub begun : SameBegun c d
   pub twins : Twins ds es
   pub message : SameMessage (object_so_far ds c) (object_so_far es d)
-  pub here : AllGoOn limits ds c
-  pub there : AllGoOn limits es d
+  pub here : AllCanContinue limits ds c
+  pub there : AllCanContinue limits es d
 
 -- Other octets read on alike: to a place as this, with as much of the object after the one and after the other.
 pub record ReadAlike (limits : Limits) (q o r : List ℕ) (ds : List Dataset) (c : Begun) : Type 0 where
   pub whole : List Dataset
   pub begun : Begun
-  pub reads : Reads q whole begun
+  pub reads : Reads count_octets q whole begun
   pub pair : Pair limits ds whole c begun
   pub added : List ℕ
   pub here : object_so_far ds c ≡ o ++ added
@@ -98,7 +97,7 @@ stream_both (d ∷ ds) es x y (first, rest, spelled, later, parts) t = (first, r
 pub record Before (ds es : List Dataset) : Type 0 where
   pub present : present_record ds ≡ present_record es
   pub twins : Twins ds es
-  pub alive : IsAlive es
+  pub alive : SectionsLive es
   pub message : SameMessage (object_of ds) (object_of es)
 
 same_begun : (c : Begun) → SameBegun c c
@@ -109,26 +108,26 @@ section_on : (ds es xs : List Dataset) (c : Begun) → present_record ds ≡ pre
 section_on ds es xs (InTag held) same = present_on ds es xs same
 section_on ds es xs (InData h taken) same = refl
 
-alive_on : (ds es xs : List Dataset) → Before ds es → IsAlive (ds ++ xs) → IsAlive (es ++ xs)
+alive_on : (ds es xs : List Dataset) → Before ds es → SectionsLive (ds ++ xs) → SectionsLive (es ++ xs)
 alive_on ds es xs b (later, are) =
     (later, subst AreSections (sym (append_assoc es xs later)) (follows_as ds es b.alive b.present b.twins.seen (xs ++ later) (subst AreSections (append_assoc ds xs later) are)))
 
-alive_at_on : (ds es xs : List Dataset) (h : Head) → Before ds es → IsAliveAt (ds ++ xs) h → IsAliveAt (es ++ xs) h
+alive_at_on : (ds es xs : List Dataset) (h : Head) → Before ds es → SectionsLiveAt (ds ++ xs) h → SectionsLiveAt (es ++ xs) h
 alive_at_on ds es xs h b (d, is, alive) =
-    (d, is, subst IsAlive (sym (append_assoc es xs (d ∷ []))) (alive_on ds es (xs ++ d ∷ []) b (subst IsAlive (append_assoc ds xs (d ∷ [])) alive)))
+    (d, is, subst SectionsLive (sym (append_assoc es xs (d ∷ []))) (alive_on ds es (xs ++ d ∷ []) b (subst SectionsLive (append_assoc ds xs (d ∷ [])) alive)))
 
-pub bounded_of : OnwardLaws → (limits : Limits) (ds : List Dataset) (c : Begun) → MayGoOn limits ds c → AreBounded (sevens ds) (eights ds)
+pub bounded_of : OnwardLaws → (limits : Limits) (ds : List Dataset) (c : Begun) → MayContinue limits ds c → AreBounded (sevens ds) (eights ds)
 bounded_of laws limits ds c goes =
     let objects = laws.opens.answer.follow.objects in
     let few = (within_of limits ds c goes).subfiles in
     let count = count_of (of_record 8 ds) in
-    bounded_at laws.opens.sizes (place_behind ds) (possible_of (place_behind ds) (stated_behind objects ds (alive_of limits ds c goes) few) (omega (arith, few, count)) (object_behind objects limits ds c goes))
+    bounded_at laws.opens.sizes (place_after_datasets ds) (possible_of (place_after_datasets ds) (stated_after_all objects ds (alive_of limits ds c goes) few) (omega (arith, few, count)) (object_lives_after objects limits ds c goes))
 
-goes_on_as : OnwardLaws → (limits : Limits) (ds es xs : List Dataset) (c : Begun) → Before ds es → Twins (ds ++ xs) (es ++ xs) → MayGoOn limits (ds ++ xs) c → MayGoOn limits (es ++ xs) c
-goes_on_as laws limits ds es xs (InTag held) b twins goes = goes_as laws.opens limits (ds ++ xs) (es ++ xs) (alive_on ds es xs b goes.records) twins goes
-goes_on_as laws limits ds es xs (InData h taken) b twins goes = goes_at_as laws.opens limits (ds ++ xs) (es ++ xs) h (alive_at_on ds es xs h b goes.records) twins goes
+leads_on_as : OnwardLaws → (limits : Limits) (ds es xs : List Dataset) (c : Begun) → Before ds es → Twins (ds ++ xs) (es ++ xs) → MayContinue limits (ds ++ xs) c → MayContinue limits (es ++ xs) c
+leads_on_as laws limits ds es xs (InTag held) b twins goes = goes_as laws.opens limits (ds ++ xs) (es ++ xs) (alive_on ds es xs b goes.records) twins goes
+leads_on_as laws limits ds es xs (InData h taken) b twins goes = goes_at_as laws.opens limits (ds ++ xs) (es ++ xs) h (alive_at_on ds es xs h b goes.records) twins goes
 
-pair_on : OnwardLaws → (limits : Limits) (ds es xs : List Dataset) (c : Begun) → Before ds es → AllGoOn limits (ds ++ xs) c → Pair limits (ds ++ xs) (es ++ xs) c c
+pair_on : OnwardLaws → (limits : Limits) (ds es xs : List Dataset) (c : Begun) → Before ds es → AllCanContinue limits (ds ++ xs) c → Pair limits (ds ++ xs) (es ++ xs) c c
 pair_on laws limits ds es xs c b goes =
     let twins = twins_on ds es xs xs b.twins (same_tail xs) (bounded_of laws limits (ds ++ xs) c goes.sizes) in
     let more = object_so_far xs c in
@@ -144,10 +143,10 @@ pair_on laws limits ds es xs c b goes =
       twins = twins;
       message = message;
       here = goes;
-      there = all_as laws limits (ds ++ xs) (es ++ xs) c c goes (goes_on_as laws limits ds es xs c b twins goes.sizes) same message;
+      there = all_as laws limits (ds ++ xs) (es ++ xs) c c goes (leads_on_as laws limits ds es xs c b twins goes.sizes) same message;
     }
 
-pub tag_on : OnwardLaws → (limits : Limits) (p q more : List ℕ) (ds es : List Dataset) (held : List ℕ) → Reads p ds (InTag held) → Reads q es (InTag held) → Before ds es → (W : List Dataset) (c : Begun) → Reads (p ++ more) W c → AllGoOn limits W c
+pub tag_on : OnwardLaws → (limits : Limits) (p q more : List ℕ) (ds es : List Dataset) (held : List ℕ) → Reads count_octets p ds (InTag held) → Reads count_octets q es (InTag held) → Before ds es → (W : List Dataset) (c : Begun) → Reads count_octets (p ++ more) W c → AllCanContinue limits W c
     → ReadAlike limits (q ++ more) (object_of ds) (object_of es) W c
 tag_on laws limits p q more ds es held r s b W c w goes =
     let follow = laws.opens.answer.follow in
@@ -165,7 +164,7 @@ tag_on laws limits p q more ds es held r s b W c w goes =
               is_rest = w.is_rest;
               parts = right ∙ ap (λ (l : List ℕ). s.front ++ l) (sym tail) ∙ sym (append_assoc s.front f w.rest);
             };
-            pair = subst (λ (zs : List Dataset). Pair limits zs (es ++ xs) c c) is (pair_on laws limits ds es xs c b (subst (λ (zs : List Dataset). AllGoOn limits zs c) (sym is) goes));
+            pair = subst (λ (zs : List Dataset). Pair limits zs (es ++ xs) c c) is (pair_on laws limits ds es xs c b (subst (λ (zs : List Dataset). AllCanContinue limits zs c) (sym is) goes));
             added = object_so_far xs c;
             here = ap (λ (zs : List Dataset). object_so_far zs c) (sym is) ∙ so_far_both ds xs c;
             there = so_far_both es xs c;
@@ -210,10 +209,10 @@ value_as h xs ys are none = elim (eqb_tells h.rec 8) [
 pub head_is : (h : Head) (xs : List ℕ) → length xs ≡ h.count → head_of (data_of h xs) ≡ h
 head_is h xs many = λ i. record { rec = h.rec; set = h.set; count = many i }
 
-alive_with : ValuesDieWithTheirFault → (ds es : List Dataset) (h : Head) (xs ys : List ℕ) → AreData h xs ys → length ys ≡ h.count → Octets xs → Octets ys → IsAlive (ds ++ data_of h xs ∷ []) → IsAliveAt es h → IsAlive (es ++ data_of h ys ∷ [])
+alive_with : ValuesDieWithTheirFault → (ds es : List Dataset) (h : Head) (xs ys : List ℕ) → AreData h xs ys → length ys ≡ h.count → Octets xs → Octets ys → SectionsLive (ds ++ data_of h xs ∷ []) → SectionsLiveAt es h → SectionsLive (es ++ data_of h ys ∷ [])
 alive_with law ds es h xs ys are many left right alive at =
     let none = (law ds (data_of h xs) (data_of h xs, refl, alive) left).1 alive in
-    (law es (data_of h ys) (subst (IsAliveAt es) (sym (head_is h ys many)) at) right).0 (value_as h xs ys are none)
+    (law es (data_of h ys) (subst (SectionsLiveAt es) (sym (head_is h ys many)) at) right).0 (value_as h xs ys are none)
 
 one_seen : (b : Bool) (set n : ℕ) (xs ys : List ℕ) → occurs n (cond b (record { rec = 8; set = set; octets = xs } ∷ []) []) ≡ occurs n (cond b (record { rec = 8; set = set; octets = ys } ∷ []) [])
 one_seen true set n xs ys = refl
@@ -260,7 +259,7 @@ octets_both [] z a b = b
 octets_both (x ∷ t) z a b = (a.0, octets_both t z a.1 b)
 
 -- where the last octets of a dataset have come
-closes : (p : List ℕ) (ds : List Dataset) (h : Head) (t z : List ℕ) → Reads p ds (InData h t) → length (t ++ z) ≡ h.count → Octets z → Reads (p ++ z) (ds ++ data_of h (t ++ z) ∷ []) (InTag [])
+closes : (p : List ℕ) (ds : List Dataset) (h : Head) (t z : List ℕ) → Reads count_octets p ds (InData h t) → length (t ++ z) ≡ h.count → Octets z → Reads count_octets (p ++ z) (ds ++ data_of h (t ++ z) ∷ []) (InTag [])
 closes p ds h t z r many octets =
     let (tag, spelled, less, given, parts) = r.is_rest in
     let d = data_of h (t ++ z) in
@@ -280,7 +279,7 @@ closes p ds h t z r many octets =
     }
 
 -- where more octets of it have come, and it is not whole
-stays_in : (p : List ℕ) (ds : List Dataset) (h : Head) (t z : List ℕ) → Reads p ds (InData h t) → length (t ++ z) < h.count → Octets z → Reads (p ++ z) ds (InData h (t ++ z))
+stays_in : (p : List ℕ) (ds : List Dataset) (h : Head) (t z : List ℕ) → Reads count_octets p ds (InData h t) → length (t ++ z) < h.count → Octets z → Reads count_octets (p ++ z) ds (InData h (t ++ z))
 stays_in p ds h t z r short octets =
     let (tag, spelled, less, given, parts) = r.is_rest in
     record {
@@ -304,7 +303,7 @@ given_as true t v e is = absurd cc
 given_as false t v e is = e
 
 -- within the data
-inside_on : OnwardLaws → (limits : Limits) (ds es : List Dataset) (h : Head) (t v more : List ℕ) → AreData h t v → Pair limits ds es (InData h t) (InData h v) → AllGoOn limits ds (InData h (t ++ more)) → Pair limits ds es (InData h (t ++ more)) (InData h (v ++ more))
+inside_on : OnwardLaws → (limits : Limits) (ds es : List Dataset) (h : Head) (t v more : List ℕ) → AreData h t v → Pair limits ds es (InData h t) (InData h v) → AllCanContinue limits ds (InData h (t ++ more)) → Pair limits ds es (InData h (t ++ more)) (InData h (v ++ more))
 inside_on laws limits ds es h t v more are pair goes =
     let e = brought (nat_eq h.rec 8) more in
     let o = object_so_far ds (InData h t) in
@@ -332,7 +331,7 @@ within_few : (limits : Limits) (ds ws : List Dataset) → AreWithin limits (ds +
 within_few limits ds ws within = (within_front limits ds ws within).subfiles
 
 -- after the end of the dataset
-closed_before : OnwardLaws → (limits : Limits) (ds es ws : List Dataset) (h : Head) (t v z : List ℕ) (W : List Dataset) (c : Begun) → AreData h t v → Pair limits ds es (InData h t) (InData h v) → AllGoOn limits W c
+closed_before : OnwardLaws → (limits : Limits) (ds es ws : List Dataset) (h : Head) (t v z : List ℕ) (W : List Dataset) (c : Begun) → AreData h t v → Pair limits ds es (InData h t) (InData h v) → AllCanContinue limits W c
     → W ≡ ds ++ data_of h (t ++ z) ∷ ws → length (t ++ z) ≡ h.count → Octets (t ++ z) → Octets (v ++ z) → Before (ds ++ data_of h (t ++ z) ∷ []) (es ++ data_of h (v ++ z) ∷ [])
 closed_before laws limits ds es ws h t v z W c are pair goes is many left right =
     let d = data_of h (t ++ z) in
@@ -343,8 +342,8 @@ closed_before laws limits ds es ws h t v z W c are pair goes is many left right 
     let regroup : W ≡ (ds ++ d ∷ []) ++ ws = is ∙ sym (append_assoc ds (d ∷ []) ws) in
     let few = within_few limits (ds ++ d ∷ []) ws (subst (AreWithin limits) regroup (within_of limits W c goes.sizes)) in
     let count = count_of (of_record 8 (ds ++ d ∷ [])) in
-    let lives : ObjectLives (place_behind (ds ++ d ∷ [])) = lives_behind follow.live (ds ++ d ∷ []) front.alive front.sized in
-    let bounded = bounded_at laws.opens.sizes (place_behind (ds ++ d ∷ [])) (possible_of (place_behind (ds ++ d ∷ [])) (stated_behind follow.objects (ds ++ d ∷ []) front.alive few) (omega (arith, few, count)) lives) in
+    let lives : ObjectLives (place_after_datasets (ds ++ d ∷ [])) = lives_after follow.live (ds ++ d ∷ []) front.alive front.sized in
+    let bounded = bounded_at laws.opens.sizes (place_after_datasets (ds ++ d ∷ [])) (possible_of (place_after_datasets (ds ++ d ∷ [])) (stated_after_all follow.objects (ds ++ d ∷ []) front.alive few) (omega (arith, few, count)) lives) in
     let e = brought (nat_eq h.rec 8) z in
     let o = object_so_far ds (InData h t) in
     let so_far : object_so_far W c ≡ (o ++ e) ++ object_so_far ws c = ap (λ (zs : List Dataset). object_so_far zs c) regroup ∙ so_far_both (ds ++ d ∷ []) ws c ∙ ap (λ (l : List ℕ). l ++ object_so_far ws c) (closed_object ds h t z) in
@@ -368,8 +367,8 @@ after_more limits q x y o r e W c left right read = record {
   there = read.there ∙ ap (λ (l : List ℕ). l ++ read.added) right ∙ append_assoc r e read.added;
 }
 
-pub data_on : OnwardLaws → (limits : Limits) (p q more : List ℕ) (ds es : List Dataset) (h : Head) (t v : List ℕ) → Reads p ds (InData h t) → Reads q es (InData h v) → AreData h t v → Pair limits ds es (InData h t) (InData h v)
-    → (W : List Dataset) (c : Begun) → Reads (p ++ more) W c → AllGoOn limits W c → ReadAlike limits (q ++ more) (object_so_far ds (InData h t)) (object_so_far es (InData h v)) W c
+pub data_on : OnwardLaws → (limits : Limits) (p q more : List ℕ) (ds es : List Dataset) (h : Head) (t v : List ℕ) → Reads count_octets p ds (InData h t) → Reads count_octets q es (InData h v) → AreData h t v → Pair limits ds es (InData h t) (InData h v)
+    → (W : List Dataset) (c : Begun) → Reads count_octets (p ++ more) W c → AllCanContinue limits W c → ReadAlike limits (q ++ more) (object_so_far ds (InData h t)) (object_so_far es (InData h v)) W c
 data_on laws limits p q more ds es h t v r s are pair W c w goes =
     let (tag, spelled, less, given, parts) = r.is_rest in
     let whole : p ++ more ≡ r.front ++ (tag ++ (t ++ more)) = ap (λ (l : List ℕ). l ++ more) (r.parts ∙ ap (λ (l : List ℕ). r.front ++ l) parts) ∙ append_assoc r.front (tag ++ t) more ∙ ap (λ (l : List ℕ). r.front ++ l) (append_assoc tag t more) in
@@ -390,10 +389,10 @@ data_on laws limits p q more ds es h t v r s are pair W c w goes =
           subst (λ (l : List ℕ). ReadAlike limits l (object_so_far ds (InData h t)) (object_so_far es (InData h v)) W c) (joined q)
           (after_more limits ((q ++ z) ++ tail) (object_of (ds ++ data_of h (t ++ z) ∷ [])) (object_of (es ++ data_of h (v ++ z) ∷ [])) (object_so_far ds (InData h t)) (object_so_far es (InData h v)) e W c (closed_object ds h t z) (closed_object es h v z)
           (tag_on laws limits (p ++ z) (q ++ z) tail (ds ++ data_of h (t ++ z) ∷ []) (es ++ data_of h (v ++ z) ∷ []) [] (closes p ds h t z r many more_octets) (closes q es h v z s many' more_octets) before W c
-          (subst (λ (l : List ℕ). Reads l W c) (sym (joined p)) w) goes)))
+          (subst (λ (l : List ℕ). Reads count_octets l W c) (sym (joined p)) w) goes)))
       | inr (same, begun, short) ↦
-          (let here : AllGoOn limits ds (InData h (t ++ more)) = subst (AllGoOn limits ds) begun (subst (λ (zs : List Dataset). AllGoOn limits zs c) same goes) in
-          let read : Reads (p ++ more) ds (InData h (t ++ more)) = subst (Reads (p ++ more) ds) begun (subst (λ (zs : List Dataset). Reads (p ++ more) zs c) same w) in
+          (let here : AllCanContinue limits ds (InData h (t ++ more)) = subst (AllCanContinue limits ds) begun (subst (λ (zs : List Dataset). AllCanContinue limits zs c) same goes) in
+          let read : Reads count_octets (p ++ more) ds (InData h (t ++ more)) = subst (Reads count_octets (p ++ more) ds) begun (subst (λ (zs : List Dataset). Reads count_octets (p ++ more) zs c) same w) in
           let more_octets = octets_back t more read.is_rest.3 in
           let both = data_more h t v more are in
           let short' : length (v ++ more) < h.count = (let many = both.0 in omega (arith, many, short)) in

@@ -1,12 +1,12 @@
 -- Open octets begin with no admitted ones.
 use Rattle.std.proofs.Common.{◌≡◌, List, [], ◌∷◌, ◌++◌, refl, ap, sym, subst, ◌∙◌, inl, inr, append-nil, append_assoc}
-use Rattle.iim_dataset.specs.Datasets.{Dataset}
-use Rattle.iim_dataset.specs.Splits.{Begun, InTag, InData}
-use Rattle.iim_dataset.specs.Laws.{NoTagBeginsAnother, NoDatasetBeginsAnother}
-use Rattle.iim_fields.specs.Records.{AreSections}
-use Rattle.iim_fields.specs.Laws.{NoSectionsBeginOthers}
+use Rattle.iim_dataset.specs.Format.Datasets.{Dataset}
+use Rattle.iim_dataset.specs.Format.Splits.{Begun, InTag, InData}
+use Rattle.iim_dataset.specs.Format.Laws.{NoTagBeginsAnother, NoDatasetBeginsAnother}
+use Rattle.iim_fields.specs.Format.Records.{AreSections}
+use Rattle.iim_fields.specs.Format.Laws.{NoSectionsBeginOthers}
 use Rattle.iim_fields.specs.declared.limits.Limits.{Limits}
-use Rattle.iim_unpack.specs.Format.Tokens.{MayGoOn}
+use Rattle.iim_unpack.specs.Format.Tokens.{MayContinue}
 use Rattle.iim_unpack.specs.Format.Open.{OpenOctetsBeginWithNoEnvelope}
 use Rattle.iim_unpack.proofs.Frames.{compare}
 use Rattle.iim_unpack.proofs.Fronts.{begun_none}
@@ -15,7 +15,7 @@ no_more : (xs ys : List Dataset) → xs ++ ys ≡ [] → xs ≡ []
 no_more [] ys e = refl
 no_more (x ∷ xs) ys e = absurd cc
 
-not_begun : NoSectionsBeginOthers → (limits : Limits) (ds whole more : List Dataset) (begun : Begun) → MayGoOn limits whole begun → AreSections ds → ds ++ more ≡ whole → more ≡ []
+not_begun : NoSectionsBeginOthers → (limits : Limits) (ds whole more : List Dataset) (begun : Begun) → MayContinue limits whole begun → AreSections ds → ds ++ more ≡ whole → more ≡ []
 not_begun law limits ds whole more (InTag held) goes sections is =
     let (later, are) = goes.records in
     no_more more later (law ds (more ++ later) sections (subst AreSections (ap (λ (xs : List Dataset). xs ++ later) (sym is) ∙ append_assoc ds more later) are))
@@ -29,7 +29,7 @@ no_front tags one law limits octets front rest v open' parts admits =
     let r = open'.reads in
     elim (compare one open'.whole admits.datasets r.front front r.rest rest r.is_front admits.spelled (sym r.parts ∙ parts)) [
       | inl (more, q, is, stream, tail) ↦
-          let none = not_begun law limits admits.datasets open'.whole more open'.begun open'.goes_on.sizes admits.sections is in
+          let none = not_begun law limits admits.datasets open'.whole more open'.begun open'.leads_on.sizes admits.sections is in
           open'.unfinished (subst AreSections (sym (append-nil admits.datasets) ∙ ap (λ (xs : List Dataset). admits.datasets ++ xs) (sym none) ∙ is) admits.sections)
       | inr n ↦ begun_none tags open'.begun r.rest r.is_rest n.dataset n.p (n.q ++ rest) n.spelled n.agree
     ]

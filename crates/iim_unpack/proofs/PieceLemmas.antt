@@ -4,24 +4,25 @@ use Rattle.std.proofs.lemmas.List.{get_or-append-add, get_or_append_left, length
 use Rattle.std.proofs.lemmas.List.Concat.{flat_map-append}
 use Rattle.std.proofs.Math.Seq.{take-append-add}
 use Rattle.std.specs.Result.{IsErrAnd}
-use Rattle.iim_dataset.specs.Splits.{InTag}
+use Rattle.iim_dataset.specs.Format.Splits.{InTag}
 use Rattle.iim_fields.specs.declared.limits.Limits.{Limits}
-use Rattle.wire_story.specs.Delivery as story
-use Rattle.wire_story.specs.Laws.{DeliveryMayBeCut, TextsAreDeliveredAsLines}
-use Rattle.wire_message.specs.Layers.{text_so_far}
-use Rattle.wire_message.specs.Laws.{TextsStandBetweenStxAndEtx}
+use Rattle.wire_story.specs.Format.Delivery as story
+use Rattle.wire_story.specs.Format.Laws.{DeliveryMayBeCut, TextsAreDeliveredAsLines}
+use Rattle.wire_message.specs.Format.Layers.{text_so_far}
+use Rattle.wire_message.specs.Format.Laws.{TextsStandBetweenStxAndEtx}
 use Rattle.wire_message.specs.declared.place.Place.TheVariants.{AfterEnd}
 use Rattle.iim_unpack.specs.Format.Admitted.{Value, Admits, object_of}
-use Rattle.iim_unpack.specs.Intakes.{OpenOctetsAreBounded}
+use Rattle.iim_unpack.specs.Format.Intakes.{OpenOctetsAreBounded}
 use Rattle.iim_unpack.specs.LowerLaws.{FeedLaws}
-use Rattle.iim_unpack.specs.Pieces.{stream_of, IsUnpacked, IsTurnedDown, DoneIn, HasFed, IsAnswer}
+use Rattle.iim_unpack.specs.Format.Pieces.{stream_of, IsUnpacked, IsTurnedDown, IsAnswer}
+use Rattle.iim_unpack.specs.Pieces.{DoneIn, HasFed}
 use Rattle.iim_unpack.specs.Format.Refusals.{refusal_at}
 use Rattle.iim_unpack.specs.Format.Streams.{Answer, Answers, Finished, Refused, Truncated, IsEnvelopeWithin, IsFinished, IsRefused, EnvelopesAreBounded, RefusedOctetsWereOpen, StreamsHaveOneAnswer}
-use Rattle.iim_unpack.specs.Unpacking.{Unpacking, Stands, IsDone, IsDoneWith, Goes, IsRefusedIn, limits_in, raised}
+use Rattle.iim_unpack.specs.Format.Unpacking.{Unpacking, Stands, IsDone, IsDoneWith, Goes, IsRefusedIn, limits_in, raised}
 use Rattle.iim_unpack.specs.Format.Open.{IsOpen, IsTextOf, Adds, IsTruncatedAt, RefusesNext}
 use Rattle.iim_unpack.specs.Format.Value.{HasParts}
 use Rattle.iim_unpack.specs.declared.refusal.Refusal.{Refusal}
-use Rattle.iim_unpack.specs.Parts.{CountsFor}
+use Rattle.iim_unpack.specs.Format.Parts.{CountsFor}
 use Rattle.iim_unpack.specs.declared.refusal.Cause.{Cause}
 use Rattle.iim_unpack.specs.declared.refusal.Cause.TheVariants.{Sink}
 use Rattle.iim_unpack.specs.declared.unpacker.Progress.{Progress}
@@ -46,7 +47,7 @@ pub record AreLow (limits : Limits) : Type 0 where
 exact : (n k : ℕ) → n + k < 2 ^ 64 - 1 → raised n k ≡ n + k
 exact n k less = omega (arith, less)
 
-pub begin_fed : {S : Type 0} (goes : S → List story.Event → S → Type 0) → (u : Unpacking) (a : S) → Stands u [] 0 → goes a [] a → HasFed goes (limits_in u) u a a []
+pub begin_fed : {S : Type 0} (goes : S → List story.StoryEvent → S → Type 0) → (u : Unpacking) (a : S) → Stands u [] 0 → goes a [] a → HasFed goes (limits_in u) u a a []
 begin_fed goes u a at nothing = record { limits_are = refl; more = []; told = nothing; stood = inl (at, adds_none []) }
 
 -- ---- a piece that was taken
@@ -60,7 +61,7 @@ on_more laws limits low v o piece same at =
     subst (Stands v (o ++ piece)) (exact (length o) (length piece) (omega (arith, less, sum)) ∙ sym sum) at
 
 -- or it is done with a front of it
-on_done : (laws : CountLaws) (limits : Limits) → AreLow limits → (v : Unpacking) (o piece : List ℕ) (more next : List story.Event) (used : ℕ) → limits_in v ≡ limits → used ≤ length piece
+on_done : (laws : CountLaws) (limits : Limits) → AreLow limits → (v : Unpacking) (o piece : List ℕ) (more next : List story.StoryEvent) (used : ℕ) → limits_in v ≡ limits → used ≤ length piece
     → IsDoneWith v (o ++ take used piece) (raised (length o) used) → Adds [] o more → Adds o (take used piece) next → DoneIn v (o ++ piece) (more ++ next)
 on_done laws limits low v o piece more next used same fits done before adds =
     let within : IsEnvelopeWithin limits (o ++ take used piece) done.value =
@@ -75,8 +76,8 @@ on_done laws limits low v o piece more next used same fits done before adds =
       adds = subst (λ (x : List ℕ). Adds [] x (more ++ next)) (sym front) (adds_more laws.cut [] o (take used piece) more next before adds);
     }
 
-pub went_on : {S : Type 0} (goes : S → List story.Event → S → Type 0) → Joined goes → CountLaws → (limits : Limits) → AreLow limits → (u v : Unpacking) (a b c : S) (o piece : List ℕ) (progress : Progress) → HasFed goes limits u a b o
-    → limits_in v ≡ limits → ((more : List story.Event) × goes b more c × ((p : List ℕ) (n : ℕ) → Stands u p n → Goes v p n piece more progress))
+pub went_on : {S : Type 0} (goes : S → List story.StoryEvent → S → Type 0) → Joined goes → CountLaws → (limits : Limits) → AreLow limits → (u v : Unpacking) (a b c : S) (o piece : List ℕ) (progress : Progress) → HasFed goes limits u a b o
+    → limits_in v ≡ limits → ((more : List story.StoryEvent) × goes b more c × ((p : List ℕ) (n : ℕ) → Stands u p n → Goes v p n piece more progress))
     → (DoneIn' : (used : ℕ) → used ≤ length o → IsDoneWith u (take used o) used → (v ≡ u) × (c ≡ b)) → HasFed goes limits v a c (o ++ piece)
 went_on {S = S} goes joined laws limits low u v a b c o piece progress fed same step done' = by fed.stood
   where
@@ -113,7 +114,7 @@ went_on {S = S} goes joined laws limits low u v a b c o piece progress fed same 
 
 -- ---- a piece of which an octet is refused
 
-refused_there : (laws : CountLaws) (limits : Limits) → AreLow limits → (o piece rest : List ℕ) (next : List story.Event) (e : Refusal) → (r : IsRefusedIn limits o (length o) piece next e)
+refused_there : (laws : CountLaws) (limits : Limits) → AreLow limits → (o piece rest : List ℕ) (next : List story.StoryEvent) (e : Refusal) → (r : IsRefusedIn limits o (length o) piece next e)
     → e.octet ≡ length o + r.k
 refused_there laws limits low o piece rest next e r =
     let within = r.within in
@@ -122,7 +123,7 @@ refused_there laws limits low o piece rest next e r =
     let sum : length (o ++ take r.k piece) ≡ length o + r.k = length-append o (take r.k piece) ∙ ap (λ (n : ℕ). length o + n) (length-take-le r.k piece (omega (arith, within))) in
     ap (λ (x : Refusal). x.octet) r.refusal ∙ exact (length o) r.k (omega (arith, less, sum))
 
-pub was_refused : {S : Type 0} (goes : S → List story.Event → S → Type 0) → Joined goes → CountLaws → (limits : Limits) → AreLow limits → (a b c : S) (o piece rest : List ℕ) (more next : List story.Event) (e : Refusal)
+pub was_refused : {S : Type 0} (goes : S → List story.StoryEvent → S → Type 0) → Joined goes → CountLaws → (limits : Limits) → AreLow limits → (a b c : S) (o piece rest : List ℕ) (more next : List story.StoryEvent) (e : Refusal)
     → goes a more b → goes b next c → Adds [] o more → IsRefusedIn limits o (length o) piece next e → IsTurnedDown goes limits (o ++ (piece ++ rest)) a c e
 was_refused goes joined laws limits low a b c o piece rest more next e told then' adds r =
     let within = r.within in
@@ -151,7 +152,7 @@ no_text : IsTextOf [] []
 no_text = ([], InTag [], record { front = []; rest = []; is_front = refl; is_rest = nothing_held; parts = refl }, refl)
 
 -- what is delivered of an envelope is its lines
-lines_of : FeedLaws → TextsStandBetweenStxAndEtx → TextsAreDeliveredAsLines → (octets : List ℕ) (v : Value) (more : List story.Event) → Admits octets v → Adds [] octets more → more ≡ story.events_of_lines v.lines
+lines_of : FeedLaws → TextsStandBetweenStxAndEtx → TextsAreDeliveredAsLines → (octets : List ℕ) (v : Value) (more : List story.StoryEvent) → Admits octets v → Adds [] octets more → more ≡ story.events_of_lines v.lines
 lines_of laws between delivered octets v more a adds =
     let (added, is, told) = adds [] no_text in
     let text : a.text ≡ text_so_far (object_of a.datasets) = between (object_of a.datasets) a.text (AfterEnd v.head (record { items = v.trailer }) (length a.message.after)) (leads_to octets v a) in
@@ -159,7 +160,7 @@ lines_of laws between delivered octets v more a adds =
     told ∙ ap story.delivered (same ∙ sym text) ∙ delivered a.text v.lines a.lines
 
 -- an unpacker that is done with a front of the stream
-pub is_unpacked : {S : Type 0} (goes : S → List story.Event → S → Type 0) → FeedLaws → TextsStandBetweenStxAndEtx → TextsAreDeliveredAsLines → (limits : Limits) (v : Unpacking) (a b : S) (stream : List ℕ) (more : List story.Event) (got : Unpacked) (used : ℕ)
+pub is_unpacked : {S : Type 0} (goes : S → List story.StoryEvent → S → Type 0) → FeedLaws → TextsStandBetweenStxAndEtx → TextsAreDeliveredAsLines → (limits : Limits) (v : Unpacking) (a b : S) (stream : List ℕ) (more : List story.StoryEvent) (got : Unpacked) (used : ℕ)
     → limits_in v ≡ limits → goes a more b → (d : DoneIn v stream more) → ((p : List ℕ) (n : ℕ) → IsDoneWith v p n → (w : Value) → Admits p w → HasParts got w) → used ≡ v.octets → IsUnpacked goes limits stream a b got used
 is_unpacked goes laws between delivered limits v a b stream more got used same told d value counts =
     let is : used ≡ d.used = counts ∙ d.done.counts in
@@ -169,10 +170,10 @@ is_unpacked goes laws between delivered limits v a b stream more got used same t
       value = d.done.value;
       finished = subst (λ (n : ℕ). IsFinished limits stream n d.done.value) (sym is) (record { fits = d.fits; envelope = within });
       parts = value (take d.used stream) d.used d.done d.done.value d.done.admits;
-      told = subst (λ (es : List story.Event). goes a es b) (lines_of laws between delivered (take d.used stream) d.done.value more d.done.admits d.adds) told;
+      told = subst (λ (es : List story.StoryEvent). goes a es b) (lines_of laws between delivered (take d.used stream) d.done.value more d.done.admits d.adds) told;
     }
 
-pub cut_short : {S : Type 0} (goes : S → List story.Event → S → Type 0) → (limits : Limits) (v : Unpacking) (a b : S) (stream : List ℕ) (more : List story.Event) (e : Refusal) → limits_in v ≡ limits → goes a more b
+pub cut_short : {S : Type 0} (goes : S → List story.StoryEvent → S → Type 0) → (limits : Limits) (v : Unpacking) (a b : S) (stream : List ℕ) (more : List story.StoryEvent) (e : Refusal) → limits_in v ≡ limits → goes a more b
     → Stands v stream (length stream) → Adds [] stream more → IsTruncatedAt stream (length stream) e → IsTurnedDown goes limits stream a b e
 cut_short goes limits v a b stream more e same told at adds truncated =
     inr (record { truncated = record { is_open = subst (λ (l : Limits). IsOpen l stream) same at.is_open; refusal = truncated }; told = (more, told, adds) })
@@ -188,12 +189,12 @@ stream_rest ps k d less =
     ap stream_of (sym (take-append-drop (k + 1) ps)) ∙ flat_map-append (λ (p : Bor (List ℕ)). p.now) (take (k + 1) ps) (drop (k + 1) ps)
     ∙ ap (λ (x : List ℕ). x ++ stream_of (drop (k + 1) ps)) (stream_step ps k d less) ∙ append_assoc (stream_of (take k ps)) (get_or ps k d).now (stream_of (drop (k + 1) ps))
 
-pub still_taking : {S : Type 0} (goes : S → List story.Event → S → Type 0) (limits : Limits) (u : Unpacking) (a b : S) (o : List ℕ) → HasFed goes limits u a b o → u.refused ≡ None
+pub still_taking : {S : Type 0} (goes : S → List story.StoryEvent → S → Type 0) (limits : Limits) (u : Unpacking) (a b : S) (o : List ℕ) → HasFed goes limits u a b o → u.refused ≡ None
 still_taking goes limits u a b o fed = elim fed.stood [ inl at ↦ at.0.taking | inr d ↦ d.done.taking ]
 
 -- the answer of feeding a piece of which an octet is refused
-pub turned_down : {S : Type 0} (goes : S → List story.Event → S → Type 0) → Joined goes → CountLaws → (limits : Limits) → AreLow limits → (u : Unpacking) (a b c : S) (o piece rest : List ℕ) (answer : Result Progress Refusal) (e : Refusal)
-    → HasFed goes limits u a b o → answer ≡ Err e → ((more : List story.Event) × goes b more c × ((p : List ℕ) (n : ℕ) → Stands u p n → IsRefusedIn (limits_in u) p n piece more e))
+pub turned_down : {S : Type 0} (goes : S → List story.StoryEvent → S → Type 0) → Joined goes → CountLaws → (limits : Limits) → AreLow limits → (u : Unpacking) (a b c : S) (o piece rest : List ℕ) (answer : Result Progress Refusal) (e : Refusal)
+    → HasFed goes limits u a b o → answer ≡ Err e → ((more : List story.StoryEvent) × goes b more c × ((p : List ℕ) (n : ℕ) → Stands u p n → IsRefusedIn (limits_in u) p n piece more e))
     → (IsDone u → answer ≡ Ok (Done 0)) → IsTurnedDown goes limits (o ++ (piece ++ rest)) a c e
 turned_down goes joined laws limits low u a b c o piece rest answer e fed is step done' =
     elim fed.stood [
@@ -205,7 +206,7 @@ turned_down goes joined laws limits low u a b c o piece rest answer e fed is ste
 
 -- ---- the answer of a stream
 
-pub only_down : {S : Type 0} (goes : S → List story.Event → S → Type 0) → StreamsHaveOneAnswer → (limits : Limits) (stream : List ℕ) (a b : S) (e : Refusal) → IsTurnedDown goes limits stream a b e → (answer : Answer) → Answers limits stream answer
+pub only_down : {S : Type 0} (goes : S → List story.StoryEvent → S → Type 0) → StreamsHaveOneAnswer → (limits : Limits) (stream : List ℕ) (a b : S) (e : Refusal) → IsTurnedDown goes limits stream a b e → (answer : Answer) → Answers limits stream answer
     → (e.cause ≡ Sink → ⊥) → IsAnswer (Err e) answer
 only_down goes one limits stream a b e (inl stopped) answer is other =
     let mine : IsRefused limits stream e = record {
@@ -217,7 +218,7 @@ only_down goes one limits stream a b e (inl stopped) answer is other =
     subst (λ (x : Answer). IsAnswer (Err e) x) (one limits stream (Refused e) answer mine is) refl
 only_down goes one limits stream a b e (inr short) answer is other = subst (λ (x : Answer). IsAnswer (Err e) x) (one limits stream (Truncated e) answer short.truncated is) refl
 
-pub only_up : {S : Type 0} (goes : S → List story.Event → S → Type 0) → StreamsHaveOneAnswer → (limits : Limits) (stream : List ℕ) (a b : S) (got : Unpacked) (used : ℕ) → IsUnpacked goes limits stream a b got used → (answer : Answer) → Answers limits stream answer
+pub only_up : {S : Type 0} (goes : S → List story.StoryEvent → S → Type 0) → StreamsHaveOneAnswer → (limits : Limits) (stream : List ℕ) (a b : S) (got : Unpacked) (used : ℕ) → IsUnpacked goes limits stream a b got used → (answer : Answer) → Answers limits stream answer
     → IsAnswer (Ok (got, used)) answer
 only_up goes one limits stream a b got used up answer is = subst (λ (x : Answer). IsAnswer (Ok (got, used)) x) (one limits stream (Finished used up.value) answer up.finished is) (up.parts, refl)
 
@@ -227,7 +228,7 @@ only_on limits stream (Ok got) e is only answer answers other = absurd is
 only_on limits stream (Err f) e is only answer answers other =
     subst (λ (x : Refusal). IsAnswer (Err x) answer) (sym is) (only answer answers (subst (λ (x : Refusal). x.cause ≡ Sink → ⊥) is other))
 
-pub ends_short : {S : Type 0} (goes : S → List story.Event → S → Type 0) → (limits : Limits) (v : Unpacking) (a b : S) (stream : List ℕ) (answer : Option Refusal) (e : Refusal) → HasFed goes limits v a b stream → answer ≡ Some e
+pub ends_short : {S : Type 0} (goes : S → List story.StoryEvent → S → Type 0) → (limits : Limits) (v : Unpacking) (a b : S) (stream : List ℕ) (answer : Option Refusal) (e : Refusal) → HasFed goes limits v a b stream → answer ≡ Some e
     → ((p : List ℕ) (n : ℕ) → Stands v p n → (f : Refusal) × (answer ≡ Some f) × IsTruncatedAt p n f) → (IsDone v → answer ≡ None) → IsTurnedDown goes limits stream a b e
 ends_short goes limits v a b stream answer e fed is truncated done' = elim fed.stood [
   | inl (at, adds) ↦
@@ -236,19 +237,19 @@ ends_short goes limits v a b stream answer e fed is truncated done' = elim fed.s
 ]
 
 -- what is known of an unpacker that is done with a front of the stream
-pub record Finishes {S : Type 0} (goes : S → List story.Event → S → Type 0) (v : Unpacking) (a b : S) (stream : List ℕ) : Type 0 where
-  pub more : List story.Event
+pub record Finishes {S : Type 0} (goes : S → List story.StoryEvent → S → Type 0) (v : Unpacking) (a b : S) (stream : List ℕ) : Type 0 where
+  pub more : List story.StoryEvent
   pub told : goes a more b
   pub done : DoneIn v stream more
 
-pub ends_done : {S : Type 0} (goes : S → List story.Event → S → Type 0) → (limits : Limits) (v : Unpacking) (a b : S) (stream : List ℕ) (answer : Option Refusal) → HasFed goes limits v a b stream → answer ≡ None
+pub ends_done : {S : Type 0} (goes : S → List story.StoryEvent → S → Type 0) → (limits : Limits) (v : Unpacking) (a b : S) (stream : List ℕ) (answer : Option Refusal) → HasFed goes limits v a b stream → answer ≡ None
     → ((p : List ℕ) (n : ℕ) → Stands v p n → (f : Refusal) × (answer ≡ Some f) × IsTruncatedAt p n f) → Finishes goes v a b stream
 ends_done goes limits v a b stream answer fed is truncated = elim fed.stood [
   | inl (at, adds) ↦ absurd (not_told answer stream (length stream) is (truncated stream (length stream) at))
   | inr d ↦ record { more = fed.more; told = fed.told; done = d }
 ]
 
-pub short_counts : {S : Type 0} (goes : S → List story.Event → S → Type 0) → (limits : Limits) (v : Unpacking) (a b : S) (stream : List ℕ) (answer : Option Refusal) (e : Refusal) (old new : ℕ) → HasFed goes limits v a b stream → answer ≡ Some e
+pub short_counts : {S : Type 0} (goes : S → List story.StoryEvent → S → Type 0) → (limits : Limits) (v : Unpacking) (a b : S) (stream : List ℕ) (answer : Option Refusal) (e : Refusal) (old new : ℕ) → HasFed goes limits v a b stream → answer ≡ Some e
     → ((p : List ℕ) (n : ℕ) → Stands v p n → (f : Refusal) × (answer ≡ Some f) × IsTruncatedAt p n f) → (IsDone v → answer ≡ None) → new ≡ old → CountsFor e.cause old new
 short_counts goes limits v a b stream answer e old new fed is truncated done' calm = elim fed.stood [
   | inl (at, adds) ↦

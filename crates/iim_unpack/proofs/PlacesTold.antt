@@ -1,15 +1,15 @@
 -- The place that the parts of a ticket tell, and whether an envelope can be there.
 use Rattle.std.proofs.Common.{◌≡◌, ℕ, ◌+◌, ◌-◌, ◌≤◌, ◌<◌, ◌^◌, cond, Bool, List, [], ◌∷◌, length, Option, None, IsSome, refl, ap, sym, subst, ◌∙◌, arith}
-use Rattle.iim_dataset.specs.Reading.{TakesCalls}
-use Rattle.iim_dataset.specs.Datasets.{Dataset}
-use Rattle.iim_fields.specs.Faults.{kept_octets, joined}
-use Rattle.iim_fields.specs.Standing.{IsWithin}
+use Rattle.iim_dataset.specs.Format.Reading.{TakesCalls}
+use Rattle.iim_dataset.specs.Format.Datasets.{Dataset}
+use Rattle.iim_fields.specs.Format.Faults.{kept_octets, joined}
+use Rattle.iim_fields.specs.Format.Standing.{IsWithin}
 use Rattle.iim_fields.specs.declared.limits.Limits.{Limits}
-use Rattle.iim_object.specs.Places as objects
-use Rattle.iim_object.specs.Reading as reading
-use Rattle.iim_object.specs.Saved.{IsAt, IsPossible}
-use Rattle.wire_message.specs.Reading as wire
-use Rattle.wire_message.specs.Saved.{LeadToSaved}
+use Rattle.iim_object.specs.Format.Places as objects
+use Rattle.iim_object.specs.Format.Reading as reading
+use Rattle.iim_object.specs.Format.Saved.{IsAt, IsPossible}
+use Rattle.wire_message.specs.Format.Reading as wire
+use Rattle.wire_message.specs.Format.Saved.{LeadToSaved}
 use Rattle.wire_message.specs.declared.saved.MessagePart.TheVariants.{AfterEnd}
 use Rattle.wire_message.specs.declared.saved.MessagePlace.{MessagePlace}
 use Rattle.iim_unpack.specs.ByLayers.{LeadsByLayers, PlacesArePossibleByLayers, TagsLead, RecordsLive, are_ended, begun_of_object, begun_subfiles, object_after, one_of_some, record_datasets}
@@ -21,7 +21,7 @@ use Rattle.iim_unpack.specs.Format.Restored.{octets_told, IsRestoreFault, IsTick
 use Rattle.iim_unpack.specs.Taking.{AreKept, IsMessageOf, numbers_told, tag_place, told_datasets}
 use Rattle.iim_unpack.specs.Format.TicketForm.{HasForm, Split, SplitsInto, TicketsHaveOneSplit, split_octets}
 use Rattle.iim_unpack.specs.Format.Tickets.{Place, part_number}
-use Rattle.iim_unpack.specs.Unpacking.{Unpacking, limits_in}
+use Rattle.iim_unpack.specs.Format.Unpacking.{Unpacking, limits_in}
 use Rattle.iim_unpack.specs.declared.possible.Readers.{Readers}
 use Rattle.iim_unpack.specs.declared.ticket_fault.TicketFault.{TicketFault}
 use Rattle.iim_unpack.specs.declared.ticket_fault.TicketFault.TheVariants.{Form, Version, Impossible, HeaderFull, TooManyFields, OutOfMemory}

@@ -6,19 +6,18 @@ use Rattle.std.proofs.lemmas.Bool.{eqb-true}
 use Rattle.std.proofs.lemmas.List.{take-append-drop, length-take}
 use Rattle.std.proofs.lemmas.List.Elements.{filter-append}
 use Rattle.std.proofs.lemmas.Nat.{from_be_bytes-to_be_bytes_4}
-use Rattle.iim_dataset.specs.Octets.{IsOctet, Octets, number}
-use Rattle.iim_dataset.specs.Datasets.{Dataset, canonical_stream}
-use Rattle.iim_dataset.specs.Splits.{Begun, InTag, InData}
-use Rattle.iim_dataset.specs.Laws.{HasSpellings, CanonicalStreamsAreSpelled}
-use Rattle.iim_fields.specs.Faults.{kept, is_kept, joined}
-use Rattle.iim_object.specs.Records.{numbers_of}
-use Rattle.iim_object.specs.Behind.{of_record}
-use Rattle.iim_object.specs.Packing.{number_dataset, subfile_datasets}
-use Rattle.iim_object.specs.Saved.{stated_numbers}
-use Rattle.iim_object.specs.Sizes.{Stated, number_at}
-use Rattle.wire_message.specs.Saved.{LeadToSaved}
+use Rattle.iim_dataset.specs.Format.Octets.{IsOctet, Octets, number}
+use Rattle.iim_dataset.specs.Format.Datasets.{Dataset, canonical_stream, of_record}
+use Rattle.iim_dataset.specs.Format.Splits.{Begun, InTag, InData}
+use Rattle.iim_dataset.specs.Format.Laws.{HasSpellings, CanonicalStreamsAreSpelled}
+use Rattle.iim_fields.specs.Format.Faults.{kept, is_kept, joined}
+use Rattle.iim_object.specs.Format.Records.{numbers_of}
+use Rattle.iim_object.specs.Format.Packing.{number_dataset, subfile_datasets}
+use Rattle.iim_object.specs.Format.Saved.{stated_numbers}
+use Rattle.iim_object.specs.Format.Sizes.{Stated, number_at}
+use Rattle.wire_message.specs.Format.Saved.{LeadToSaved}
 use Rattle.iim_unpack.specs.Format.Admitted.{object_of}
-use Rattle.iim_unpack.specs.Begins.{IsNumber}
+use Rattle.iim_unpack.specs.Format.Begins.{IsSize}
 use Rattle.iim_unpack.specs.Format.Open.{object_so_far, section}
 use Rattle.iim_unpack.specs.Format.Tickets.{phase_of, heads_of}
 use Rattle.iim_unpack.specs.Plain.{Numbers, number_list, mode_dataset, one_dataset, plain_numbers, filled, plain_end, plain, AreSpellable, begun_object, begun_heads, PlainOctetsLeadToTheirPlace}
@@ -88,7 +87,7 @@ mode_told : (o : Option ℕ) → numbers_of (one_dataset mode_dataset o) ≡ one
 mode_told None = refl
 mode_told (Some n) = ap (λ (k : ℕ). record { set = 10; number = k } ∷ []) (let same : n * 1 + 0 ≡ n = omega arith in same)
 
-one_told : (set : ℕ) (o : Option ℕ) → IsNumber o → numbers_of (one_dataset (number_dataset 7 set) o) ≡ one_stated set o
+one_told : (set : ℕ) (o : Option ℕ) → IsSize o → numbers_of (one_dataset (number_dataset 7 set) o) ≡ one_stated set o
 one_told set None h = refl
 one_told set (Some n) h = ap (λ (k : ℕ). record { set = set; number = k } ∷ []) (number_back set n h)
 
@@ -102,7 +101,7 @@ numbers_join (x ∷ xs) ys = ap (λ (ps : List Stated). record { set = x.set; nu
 both_lists : {a b c d : List Stated} → a ≡ c → b ≡ d → a ++ b ≡ c ++ d
 both_lists {b = b} {c = c} e f = ap (λ (xs : List Stated). xs ++ b) e ∙ ap (λ (xs : List Stated). c ++ xs) f
 
-pub are_told : (n : Numbers) → AllByRecursion IsNumber (number_list n) → numbers_of (plain_numbers n) ≡ all_stated n
+pub are_told : (n : Numbers) → AllByRecursion IsSize (number_list n) → numbers_of (plain_numbers n) ≡ all_stated n
 are_told n fit =
     let last = numbers_join (one_dataset (number_dataset 7 90) n.announced) (one_dataset (number_dataset 7 95) n.maximum) ∙ both_lists (one_told 90 n.announced fit.1.1.0) (one_told 95 n.maximum fit.1.1.1.0) in
     let more = numbers_join (one_dataset (number_dataset 7 20) n.largest) (one_dataset (number_dataset 7 90) n.announced ++ one_dataset (number_dataset 7 95) n.maximum) ∙ both_lists (one_told 20 n.largest fit.1.0) last in
@@ -164,7 +163,7 @@ are_nines false object = tt
 -- ---- all of it
 
 -- The plain datasets tell what they are made of.
-pub plain_told : (fields : List Dataset) (numbers : Numbers) (heads : ℕ) (object : List ℕ) (ended : Bool) → AllByRecursion (λ (d : Dataset). is_kept d.rec ≡ true) fields → AllByRecursion IsNumber (number_list numbers)
+pub plain_told : (fields : List Dataset) (numbers : Numbers) (heads : ℕ) (object : List ℕ) (ended : Bool) → AllByRecursion (λ (d : Dataset). is_kept d.rec ≡ true) fields → AllByRecursion IsSize (number_list numbers)
     → length object ≤ heads * unwrap_or numbers.largest 0 → Tell (plain fields numbers heads object ended) fields numbers heads object ended
 plain_told fields numbers heads object ended each fit room =
     let parts = filled (unwrap_or numbers.largest 0) heads object in

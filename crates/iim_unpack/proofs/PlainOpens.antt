@@ -4,52 +4,51 @@ use Rattle.std.proofs.lemmas.List.{length-take}
 use Rattle.std.specs.List.{AllByRecursion}
 use Rattle.std.specs.Option.{unwrap_or}
 use Rattle.std.proofs.lemmas.Bool.{eqb-true}
-use Rattle.iim_dataset.specs.Octets.{number}
-use Rattle.iim_dataset.specs.Datasets.{Dataset, SpellsStream, canonical_stream, count_octets}
-use Rattle.iim_dataset.specs.Languages as languages
-use Rattle.iim_dataset.specs.Splits.{Begun, InTag, InData, Reads}
+use Rattle.iim_dataset.specs.Format.Octets.{number, greatest_size}
+use Rattle.iim_dataset.specs.Format.Datasets.{Dataset, SpellsStream, canonical_stream, count_octets, of_record}
+use Rattle.iim_dataset.specs.Format.Languages as languages
+use Rattle.iim_dataset.specs.Format.Splits.{Begun, InTag, InData, Reads}
 use Rattle.iim_dataset.specs.declared.head.Head.{Head}
-use Rattle.iim_tables.specs.Numbers.{greatest_size}
-use Rattle.iim_fields.specs.Alive.{IsAlive, IsAliveAt}
-use Rattle.iim_fields.specs.Faults.{kept, joined, present_record}
-use Rattle.iim_fields.specs.Records.{AreSections}
-use Rattle.iim_fields.specs.Standing.{IsWithin}
+use Rattle.iim_fields.specs.Format.Alive.{SectionsLive, SectionsLiveAt}
+use Rattle.iim_fields.specs.Format.Faults.{kept, joined, present_record}
+use Rattle.iim_fields.specs.Format.Records.{AreSections}
+use Rattle.iim_fields.specs.Format.Standing.{IsWithin}
 use Rattle.iim_fields.specs.declared.limits.Limits.{Limits}
-use Rattle.iim_object.specs.Behind.{of_record, place_behind, place_ended, ending_of}
-use Rattle.iim_object.specs.Objects.{SubfileBegun, ObjectLanguage, number_tokens}
-use Rattle.iim_object.specs.Packing.{subfile_datasets}
-use Rattle.iim_object.specs.Places.{Ending, NotEnded, ConfirmedAs, HasBoth, ending_tokens, place_after}
-use Rattle.iim_object.specs.Places as objects
-use Rattle.iim_object.specs.Plans.{max_subfiles}
-use Rattle.iim_object.specs.Records.{HaveSizes, lengths_of, numbers_of}
-use Rattle.iim_object.specs.Saved.{IsPossible, stated_numbers}
+use Rattle.iim_object.specs.Format.Numbers.{place_after_datasets, place_ended, ending_of}
+use Rattle.iim_object.specs.Format.Objects.{SubfileBegun, ObjectLanguage, number_tokens}
+use Rattle.iim_object.specs.Format.Packing.{subfile_datasets}
+use Rattle.iim_object.specs.Format.Places.{Ending, NotEnded, ConfirmedAs, HasBoth, ending_tokens, place_after}
+use Rattle.iim_object.specs.Format.Places as objects
+use Rattle.iim_object.specs.Format.Plans.{max_subfiles}
+use Rattle.iim_object.specs.Format.Records.{HaveSizes, lengths_of, numbers_of}
+use Rattle.iim_object.specs.Format.Saved.{IsPossible, stated_numbers}
 use Rattle.iim_object.specs.declared.size.Sizes.{Sizes}
-use Rattle.iim_object.specs.Sizes.{Stated, InRow, AreStated, number_at}
-use Rattle.wire_story.specs.Tokens.{Octet, End}
-use Rattle.wire_message.specs.Layers.{MessageLanguage, StoryLivesIn}
-use Rattle.wire_message.specs.Messages.{IsMessage}
-use Rattle.wire_message.specs.Saved.{LeadToSaved}
+use Rattle.iim_object.specs.Format.Sizes.{Stated, InRow, AreStated, number_at}
+use Rattle.wire_story.specs.Format.Tokens.{Octet, End}
+use Rattle.wire_message.specs.Format.Layers.{MessageLanguage, StoryLivesIn}
+use Rattle.wire_message.specs.Format.Messages.{IsMessage}
+use Rattle.wire_message.specs.Format.Saved.{LeadToSaved}
 use Rattle.wire_message.specs.declared.saved.MessagePlace.{MessagePlace}
 use Rattle.iim_unpack.specs.Format.Admitted.{Value, object_of}
-use Rattle.iim_unpack.specs.Begins.{IsNumber}
+use Rattle.iim_unpack.specs.Format.Begins.{IsSize}
 use Rattle.iim_unpack.specs.Format.Framed.{AreWithin}
-use Rattle.iim_unpack.specs.Format.Open.{object_so_far, section, AllGoOn}
+use Rattle.iim_unpack.specs.Format.Open.{object_so_far, section, AllCanContinue}
 use Rattle.iim_unpack.specs.Plain.{number_list, filled, plain_end, plain_of, plain_octets, IsPlain, PlainOctetsAreOpenOrWhole}
 use Rattle.iim_unpack.specs.Format.Possible.{AreOpenOrWhole, widest}
 use Rattle.iim_unpack.specs.Format.Streams.{IsEnvelopeWithin}
 use Rattle.iim_unpack.specs.Format.Tickets.{Place, IsPlaceOf, place_of}
-use Rattle.iim_unpack.specs.Format.Tokens.{place_at, ObjectLives, MayGoOn}
+use Rattle.iim_unpack.specs.Format.Tokens.{place_at, ObjectLives, MayContinue}
 use Rattle.iim_unpack.specs.LowerLaws.{AnswerLaws, OpenLaws, SizeLaws}
 use Rattle.iim_unpack.proofs.Answering.{one_reading, reads_envelope, goes_envelope, nothing_held}
 use Rattle.iim_unpack.proofs.Bounds.{object_fits}
 use Rattle.iim_unpack.proofs.Fitting.{Lived}
-use Rattle.iim_unpack.proofs.Following.{alive_of, within_of, object_behind}
+use Rattle.iim_unpack.proofs.Following.{alive_of, within_of, object_lives_after}
 use Rattle.iim_unpack.proofs.Lasts.{sections_last, last_sections}
 use Rattle.iim_unpack.proofs.Plain.{plain_told, plain_spelled}
-use Rattle.iim_unpack.proofs.PlainGoesOn.{plain_on, in_row, low_in_row, low_number}
+use Rattle.iim_unpack.proofs.PlainContinues.{plain_on, in_row, low_in_row, low_number}
 use Rattle.iim_unpack.proofs.PlainPlaces.{plain_by, numbers_in, all_kept, alive_front, room_for, present_same}
 use Rattle.iim_unpack.proofs.PlainSizes.{duties_of, Lives, possible_like}
-use Rattle.iim_unpack.proofs.SameRecords.{IsStated, nines, same_numbers, stated_behind, stated_at}
+use Rattle.iim_unpack.proofs.SameRecords.{IsStated, nines, same_numbers, stated_after_all, stated_at}
 use Rattle.iim_unpack.proofs.Tickets.{total_of, count_of, sum_more}
 
 -- ---- the plain datasets
@@ -83,7 +82,7 @@ ending_like laws ps ls [] false object are both none lives many total fits = ref
 ending_like laws ps ls (r ∷ rs) false object are both none lives many total fits = absurd (omega (arith, many))
 ending_like laws ps ls (r ∷ rs) true object are both none lives many total fits = ap ConfirmedAs (confirmed_by laws ps ls (number r.octets) are both none lives ∙ total ∙ sym (low_number (length object) fits))
 
-pub fit_in_rows : (ps : List Stated) → AllByRecursion InRow ps → AllByRecursion IsNumber (number_list (numbers_in ps))
+pub fit_in_rows : (ps : List Stated) → AllByRecursion InRow ps → AllByRecursion IsSize (number_list (numbers_in ps))
 fit_in_rows ps all = (
   low_in_row 10 (number_at 10 ps) (in_row 10 ps all),
   (
@@ -92,16 +91,16 @@ fit_in_rows ps all = (
   ),
 )
 
-told : OpenLaws → (ds : List Dataset) → IsAlive ds → length (of_record 8 ds) ≤ max_subfiles → ObjectLives (place_behind ds) → Told ds (plain_of ds)
+told : OpenLaws → (ds : List Dataset) → SectionsLive ds → length (of_record 8 ds) ≤ max_subfiles → ObjectLives (place_after_datasets ds) → Told ds (plain_of ds)
 told laws ds alive few lives =
-    let stated = stated_behind laws.answer.follow.objects ds alive few in
+    let stated = stated_after_all laws.answer.follow.objects ds alive few in
     let ps = numbers_of (of_record 7 ds) in
     let numbers = numbers_in ps in
     let heads = length (of_record 8 ds) in
     let object = object_of ds in
     let ended = nat_eq (present_record ds) 9 in
     let total = total_of (of_record 8 ds) in
-    let most = object_fits (place_behind ds) lives in
+    let most = object_fits (place_after_datasets ds) lives in
     let fits : length object ≤ greatest_size = omega (arith, total, most) in
     let tell = plain_told (kept ds) numbers heads object ended (all_kept ds) (fit_in_rows ps stated.stated.each) (room_for laws.sizes.fit ds stated lives) in
     record {
@@ -142,10 +141,10 @@ join_small size (x ∷ xs) ys a b = (a.0, join_small size xs ys a.1 b)
 pub possible_of : (p : objects.Place) → IsStated p → length p.lengths ≤ max_subfiles → ObjectLives p → IsPossible p
 possible_of p is few lives = record { stated = is.stated; subfiles = is.subfiles; duties = is.duties; few = few; alive = lives }
 
-behind_on : SizeLaws → (ds es : List Dataset) → Told ds es → IsStated (place_behind ds) → IsStated (place_behind es) → length (of_record 8 ds) ≤ max_subfiles → ObjectLives (place_behind ds) → ObjectLives (place_behind es)
-behind_on laws ds es t was is few lives =
+after_on : SizeLaws → (ds es : List Dataset) → Told ds es → IsStated (place_after_datasets ds) → IsStated (place_after_datasets es) → length (of_record 8 ds) ≤ max_subfiles → ObjectLives (place_after_datasets ds) → ObjectLives (place_after_datasets es)
+after_on laws ds es t was is few lives =
     let count = count_of (of_record 8 ds) in
-    (possible_like laws (place_behind ds) (place_behind es) (possible_of (place_behind ds) was (omega (arith, count, few)) lives) is.stated t.numbers
+    (possible_like laws (place_after_datasets ds) (place_after_datasets es) (possible_of (place_after_datasets ds) was (omega (arith, count, few)) lives) is.stated t.numbers
     (count ∙ t.heads ∙ sym (count_of (of_record 8 es))) (total_of (of_record 8 ds) ∙ ap length t.object ∙ sym (total_of (of_record 8 es))) t.each t.ending).alive
 
 ended_on : SizeLaws → (ds es : List Dataset) → Told ds es → IsStated (place_ended ds) → IsStated (place_ended es) → length (of_record 8 ds) ≤ max_subfiles → ObjectLives (place_ended ds) → ObjectLives (place_ended es)
@@ -154,14 +153,14 @@ ended_on laws ds es t was is few lives =
     (possible_like laws (place_ended ds) (place_ended es) (possible_of (place_ended ds) was (omega (arith, count, few)) lives) is.stated t.numbers
     (count ∙ t.heads ∙ sym (count_of (of_record 8 es))) (total_of (of_record 8 ds) ∙ ap length t.object ∙ sym (total_of (of_record 8 es))) t.each refl).alive
 
-subfile_on : SizeLaws → (ds es : List Dataset) (c : ℕ) → Told ds es → IsStated (place_after (place_behind ds) (SubfileBegun c)) → IsStated (place_after (place_behind es) (SubfileBegun c)) → length (of_record 8 ds) < max_subfiles
-    → ObjectLives (place_after (place_behind ds) (SubfileBegun c)) → ObjectLives (place_after (place_behind es) (SubfileBegun c))
+subfile_on : SizeLaws → (ds es : List Dataset) (c : ℕ) → Told ds es → IsStated (place_after (place_after_datasets ds) (SubfileBegun c)) → IsStated (place_after (place_after_datasets es) (SubfileBegun c)) → length (of_record 8 ds) < max_subfiles
+    → ObjectLives (place_after (place_after_datasets ds) (SubfileBegun c)) → ObjectLives (place_after (place_after_datasets es) (SubfileBegun c))
 subfile_on laws ds es c t was is few lives =
     let ps = numbers_of (of_record 7 ds) in
     let ls = lengths_of (of_record 8 ds) in
     let ks = lengths_of (of_record 8 es) in
-    let p = place_after (place_behind ds) (SubfileBegun c) in
-    let q = place_after (place_behind es) (SubfileBegun c) in
+    let p = place_after (place_after_datasets ds) (SubfileBegun c) in
+    let q = place_after (place_after_datasets es) (SubfileBegun c) in
     let count = count_of (of_record 8 ds) in
     let count' = count_of (of_record 8 es) in
     let heads = t.heads in
@@ -178,12 +177,12 @@ at_on : SizeLaws → (ds es : List Dataset) (h : Head) → Told ds es → IsStat
 at_on laws ds es h t = by (nat_eq h.rec 8) (nat_eq h.rec 9) refl
   where
     at : Bool → Bool → List Dataset → objects.Place
-    at b c xs = if b then place_after (place_behind xs) (SubfileBegun h.count) else if c then place_ended xs else place_behind xs
+    at b c xs = if b then place_after (place_after_datasets xs) (SubfileBegun h.count) else if c then place_ended xs else place_after_datasets xs
 
     by : (b c : Bool) → nat_eq h.rec 8 ≡ b → IsStated (at b c ds) → IsStated (at b c es) → length (of_record 8 ds) ≤ max_subfiles → (h.rec ≡ 8 → length (of_record 8 ds) < max_subfiles) → ObjectLives (at b c ds) → ObjectLives (at b c es)
     by true c eight was is few room lives = subfile_on laws ds es h.count t was is (room (eqb-true h.rec 8 eight)) lives
     by false true eight was is few room lives = ended_on laws ds es t was is few lives
-    by false false eight was is few room lives = behind_on laws ds es t was is few lives
+    by false false eight was is few room lives = after_on laws ds es t was is few lives
 
 -- ---- records and limits
 
@@ -193,14 +192,14 @@ within_on limits ds es t is = record {
   subfiles = subst (λ (n : ℕ). n ≤ max_subfiles) t.heads is.subfiles;
 }
 
-alive_on : (ds es : List Dataset) → Told ds es → IsAlive ds → IsAlive es
+alive_on : (ds es : List Dataset) → Told ds es → SectionsLive ds → SectionsLive es
 alive_on ds es t (more, are) = (more, t.records more are)
 
-alive_at_on : (ds es : List Dataset) (h : Head) → Told ds es → IsAliveAt ds h → IsAliveAt es h
+alive_at_on : (ds es : List Dataset) (h : Head) → Told ds es → SectionsLiveAt ds h → SectionsLiveAt es h
 alive_at_on ds es h t (d, is, (more, are)) =
     (d, is, (more, subst AreSections (sym (append_assoc es (d ∷ []) more)) (t.records ((d ∷ []) ++ more) (subst AreSections (append_assoc ds (d ∷ []) more) are))))
 
-goes_sizes : OpenLaws → (limits : Limits) (ds es : List Dataset) (b : Begun) → Told ds es → MayGoOn limits ds b → MayGoOn limits es b
+goes_sizes : OpenLaws → (limits : Limits) (ds es : List Dataset) (b : Begun) → Told ds es → MayContinue limits ds b → MayContinue limits es b
 goes_sizes laws limits ds es (InTag held) t goes =
     let objects = laws.answer.follow.objects in
     let alive = alive_on ds es t goes.records in
@@ -208,7 +207,7 @@ goes_sizes laws limits ds es (InTag held) t goes =
     record {
       records = alive;
       within = within;
-      object = behind_on laws.sizes ds es t (stated_behind objects ds goes.records goes.within.subfiles) (stated_behind objects es alive within.subfiles) goes.within.subfiles goes.object;
+      object = after_on laws.sizes ds es t (stated_after_all objects ds goes.records goes.within.subfiles) (stated_after_all objects es alive within.subfiles) goes.within.subfiles goes.object;
     }
 goes_sizes laws limits ds es (InData h taken) t goes =
     let objects = laws.answer.follow.objects in
@@ -234,8 +233,8 @@ same_section ds es (InTag held) t = t.present
 same_section ds es (InData h taken) t = refl
 
 -- Every layer that can continue after datasets can continue after their plain ones.
-goes_on : OpenLaws → (limits : Limits) (ds es : List Dataset) (b : Begun) → Told ds es → AllGoOn limits ds b → AllGoOn limits es b
-goes_on laws limits ds es b t goes = record {
+leads_on : OpenLaws → (limits : Limits) (ds es : List Dataset) (b : Begun) → Told ds es → AllCanContinue limits ds b → AllCanContinue limits es b
+leads_on laws limits ds es b t goes = record {
   sizes = goes_sizes laws limits ds es b t goes.sizes;
   message =
       subst (λ (r : ℕ). languages.IsAlive MessageLanguage (map Octet (object_so_far es b) ++ (if nat_eq r 9 then End ∷ [] else []))) (same_section ds es b t)
@@ -281,7 +280,7 @@ envelope_on : AnswerLaws → (limits : Limits) (octets : List ℕ) (v : Value) (
 envelope_on laws limits octets v is es front t spelled =
     let a = is.admits in
     let ds = a.datasets in
-    let alive : IsAlive ds = ([], subst AreSections (sym (append-nil ds)) a.sections) in
+    let alive : SectionsLive ds = ([], subst AreSections (sym (append-nil ds)) a.sections) in
     record {
       admits = record {
         datasets = es;
@@ -305,7 +304,7 @@ record Coming (place : Place) (whole : List Dataset) (begun : Begun) : Type 0 wh
   leads : LeadToSaved (object_so_far whole begun) text message
   is_place : place ≡ place_of whole begun message
 
-coming : AnswerLaws → (place : Place) (octets : List ℕ) → IsPlaceOf octets place → (whole : List Dataset) (begun : Begun) → Reads octets whole begun → Coming place whole begun
+coming : AnswerLaws → (place : Place) (octets : List ℕ) → IsPlaceOf octets place → (whole : List Dataset) (begun : Begun) → Reads count_octets octets whole begun → Coming place whole begun
 coming laws place octets is whole begun reads =
     let same = one_reading laws octets is.whole whole is.begun begun is.reads reads in
     record {
@@ -323,8 +322,8 @@ Opens place = (p : IsPlain place) × AreOpenOrWhole widest (plain_octets place p
 -- what is told of datasets that octets of a possible place spell
 told_of : OpenLaws → (place : Place) (l : Lived place) → Told l.whole (plain_of l.whole)
 told_of laws place l =
-    let goes = l.goes_on.sizes in
-    told laws l.whole (alive_of widest l.whole l.begun goes) (within_of widest l.whole l.begun goes).subfiles (object_behind laws.answer.follow.objects widest l.whole l.begun goes)
+    let goes = l.leads_on.sizes in
+    told laws l.whole (alive_of widest l.whole l.begun goes) (within_of widest l.whole l.begun goes).subfiles (object_lives_after laws.answer.follow.objects widest l.whole l.begun goes)
 
 spelled_of : OpenLaws → (place : Place) (l : Lived place) → SpellsStream count_octets (plain_of l.whole) (canonical_stream (plain_of l.whole))
 unfolding plain_by
@@ -339,14 +338,14 @@ from_open laws place l unfinished =
     let ds = l.whole in
     let es = plain_of ds in
     let t = told_of laws place l in
-    let alive = alive_of widest ds l.begun l.goes_on.sizes in
+    let alive = alive_of widest ds l.begun l.leads_on.sizes in
     let ends = laws.answer.follow.ends in (
       plain_by (record { answer = laws.answer; fit = laws.sizes.fit }) place l,
       inl (record {
         whole = es;
         begun = l.begun;
         reads = record { front = canonical_stream es; rest = l.reads.rest; is_front = spelled_of laws place l; is_rest = l.reads.is_rest; parts = refl };
-        goes_on = goes_on laws widest ds es l.begun t l.goes_on;
+        leads_on = leads_on laws widest ds es l.begun t l.leads_on;
         unfinished = λ sections. unfinished (last_sections ends ds alive (t.present ∙ sections_last ends es (alive_on ds es t alive) sections));
       }),
     )
@@ -362,7 +361,7 @@ from_whole laws octets v is text message leads =
       begun = InTag [];
       octets = octets;
       reads = record { front = octets; rest = []; is_front = is.admits.spelled; is_rest = nothing_held; parts = sym (append-nil octets) };
-      goes_on = goes_envelope laws.answer widest octets v is;
+      leads_on = goes_envelope laws.answer widest octets v is;
       text = text;
       message = message;
       leads = leads;
@@ -382,7 +381,7 @@ plain_open laws place poss = elim poss.comes [
         begun = o.begun;
         octets = poss.octets;
         reads = o.reads;
-        goes_on = o.goes_on;
+        leads_on = o.leads_on;
         text = c.text;
         message = c.message;
         leads = c.leads;

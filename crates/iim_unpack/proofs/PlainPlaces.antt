@@ -4,24 +4,25 @@ use Rattle.std.specs.List.{AllByRecursion}
 use Rattle.std.specs.Option.{unwrap_or}
 use Rattle.std.proofs.lemmas.Bool.{eqb-true}
 use Rattle.std.proofs.lemmas.List.Sums.{sum_by-cons}
-use Rattle.iim_dataset.specs.Octets.{IsOctet, Octets}
-use Rattle.iim_dataset.specs.Datasets.{Dataset, SpellsStream, count_octets}
-use Rattle.iim_dataset.specs.Languages as languages
-use Rattle.iim_dataset.specs.Laws.{HasSpellings}
-use Rattle.iim_dataset.specs.Splits.{Begun, InTag, InData}
-use Rattle.iim_fields.specs.Alive.{IsAlive}
-use Rattle.iim_fields.specs.Faults.{kept, is_kept, joined, present_record, last_record}
-use Rattle.iim_fields.specs.Records.{AreSections, IsGoodDataset}
-use Rattle.iim_object.specs.Objects.{ObjectToken, SubfileBegun, ObjectLanguage, number_tokens}
-use Rattle.iim_object.specs.Places.{ending_tokens}
-use Rattle.iim_object.specs.Behind.{of_record, place_behind}
-use Rattle.iim_object.specs.Records.{lengths_of, numbers_of}
-use Rattle.iim_object.specs.Sizes.{Stated, InRow, number_at, mode_number}
-use Rattle.iim_object.specs.Living.{SubfilesLiveWhileTheyFit}
-use Rattle.iim_object.specs.Packing.{number_dataset, subfile_datasets}
+use Rattle.iim_dataset.specs.Format.Octets.{IsOctet, Octets}
+use Rattle.iim_dataset.specs.Format.Datasets.{Dataset, SpellsStream, count_octets, of_record}
+use Rattle.iim_dataset.specs.Format.Languages as languages
+use Rattle.iim_dataset.specs.Format.Laws.{HasSpellings}
+use Rattle.iim_dataset.specs.Format.Splits.{Begun, InTag, InData}
+use Rattle.iim_fields.specs.Format.Alive.{SectionsLive}
+use Rattle.iim_fields.specs.Format.Faults.{kept, is_kept, joined, present_record, last_record}
+use Rattle.iim_fields.specs.Format.Records.{AreSections}
+use Rattle.iim_tables.specs.Format.Records.{IsGoodDataset}
+use Rattle.iim_object.specs.Format.Objects.{ObjectToken, SubfileBegun, ObjectLanguage, number_tokens}
+use Rattle.iim_object.specs.Format.Places.{ending_tokens}
+use Rattle.iim_object.specs.Format.Numbers.{place_after_datasets}
+use Rattle.iim_object.specs.Format.Records.{lengths_of, numbers_of}
+use Rattle.iim_object.specs.Format.Sizes.{Stated, InRow, number_at, mode_number}
+use Rattle.iim_object.specs.Format.Living.{SubfilesLiveWhileTheyFit}
+use Rattle.iim_object.specs.Format.Packing.{number_dataset, subfile_datasets}
 use Rattle.iim_unpack.specs.Format.Admitted.{object_of}
 use Rattle.iim_unpack.specs.LowerLaws.{AnswerLaws}
-use Rattle.wire_message.specs.Saved.{LeadToSaved}
+use Rattle.wire_message.specs.Format.Saved.{LeadToSaved}
 use Rattle.wire_message.specs.declared.saved.MessagePlace.{MessagePlace}
 use Rattle.iim_unpack.specs.Format.Open.{section, object_so_far}
 use Rattle.iim_unpack.specs.Format.Tickets.{Place, AllEnded, TagBegun, phase_of, heads_of, place_of}
@@ -30,9 +31,9 @@ use Rattle.iim_unpack.specs.Format.Possible.{widest}
 use Rattle.iim_unpack.specs.Plain.{Numbers, plain_numbers, filled, number_list, mode_dataset, one_dataset, plain_end, plain, begun_object, begun_heads, IsPlain, PossiblePlacesArePlain}
 use Rattle.iim_unpack.proofs.Bounds.{IsFive, alive_five, tag_low}
 use Rattle.iim_unpack.proofs.Fitting.{Lived, lived, each_octets, each_low, numbers_fit, ones_in, taken_fits}
-use Rattle.iim_unpack.proofs.Following.{alive_of, within_of, object_behind}
+use Rattle.iim_unpack.proofs.Following.{alive_of, within_of, object_lives_after}
 use Rattle.iim_unpack.proofs.Plain.{AreOf, are_sevens, are_eights, are_nines, taken_told, heads_told, filled_count}
-use Rattle.iim_unpack.proofs.SameRecords.{IsStated, stated_behind, nines}
+use Rattle.iim_unpack.proofs.SameRecords.{IsStated, stated_after_all, nines}
 use Rattle.iim_unpack.proofs.Tickets.{total_of, count_of}
 
 -- ---- the present record
@@ -143,7 +144,7 @@ picks : (r : ℕ) (ds : List Dataset) → IsOrdered r ds → AllByRecursion (λ 
 picks r [] is five = refl
 picks r (d ∷ ds) is five = picks_more r d ds is.1 (picks d.rec ds is.1 five.1) five.0
 
-picks_alive : (ds : List Dataset) → IsAlive ds → Picks 0 ds
+picks_alive : (ds : List Dataset) → SectionsLive ds → Picks 0 ds
 picks_alive ds alive = picks 0 ds (front_ordered 0 ds alive.0 (sections_ordered (ds ++ alive.0) alive.1)) (alive_five ds alive)
 
 pub picks_plain : (fields : List Dataset) (numbers : Numbers) (heads : ℕ) (object : List ℕ) (ended : Bool)
@@ -234,7 +235,7 @@ sum_most size (n ∷ ls) all = let more = sum_most size ls all.1 in let one = su
 pub alive_front : (xs ys : List ObjectToken) → languages.IsAlive ObjectLanguage (xs ++ ys) → languages.IsAlive ObjectLanguage xs
 alive_front xs ys (rest, is) = (ys ++ rest, subst ObjectLanguage (append_assoc xs ys rest) is)
 
-room_some : SubfilesLiveWhileTheyFit → (ds : List Dataset) → IsStated (place_behind ds) → ObjectLives (place_behind ds) → 0 < length (lengths_of (of_record 8 ds))
+room_some : SubfilesLiveWhileTheyFit → (ds : List Dataset) → IsStated (place_after_datasets ds) → ObjectLives (place_after_datasets ds) → 0 < length (lengths_of (of_record 8 ds))
     → sum (lengths_of (of_record 8 ds)) ≤ length (lengths_of (of_record 8 ds)) * unwrap_or (number_at 20 (numbers_of (of_record 7 ds))) 0
 room_some law ds is lives some =
     let ps = numbers_of (of_record 7 ds) in
@@ -245,12 +246,12 @@ room_some law ds is lives some =
     let low : n ≤ 1 = subst (λ (o : Option ℕ). IfSome o (λ k. k ≤ 1)) mode (low_mode ps is.stated.each) in
     let (known, same) = known_of n low in
     let alive : languages.IsAlive ObjectLanguage (number_tokens ps ++ map SubfileBegun lengths) =
-    alive_front (number_tokens ps ++ map SubfileBegun lengths) (ending_tokens (place_behind ds).ending) (subst (languages.IsAlive ObjectLanguage) (sym (append_assoc (number_tokens ps) (map SubfileBegun lengths) (ending_tokens (place_behind ds).ending))) lives) in
+    alive_front (number_tokens ps ++ map SubfileBegun lengths) (ending_tokens (place_after_datasets ds).ending) (subst (languages.IsAlive ObjectLanguage) (sym (append_assoc (number_tokens ps) (map SubfileBegun lengths) (ending_tokens (place_after_datasets ds).ending))) lives) in
     let fit = (law known size ps lengths (record { stated = is.stated; mode = mode ∙ ap Some same; largest = largest }) some).0 alive in
     let most = sum_most size lengths fit.each in
     subst (λ (k : ℕ). sum lengths ≤ length lengths * k) (sym (ap (λ (o : Option ℕ). unwrap_or o 0) largest)) most
 
-pub room_for : SubfilesLiveWhileTheyFit → (ds : List Dataset) → IsStated (place_behind ds) → ObjectLives (place_behind ds)
+pub room_for : SubfilesLiveWhileTheyFit → (ds : List Dataset) → IsStated (place_after_datasets ds) → ObjectLives (place_after_datasets ds)
     → length (object_of ds) ≤ length (of_record 8 ds) * unwrap_or (number_at 20 (numbers_of (of_record 7 ds))) 0
 room_for law ds is lives = by (of_record 8 ds) (room_some law ds is lives)
   where
@@ -301,7 +302,7 @@ end_length true object = refl
 end_length false object = refl
 
 -- the present record is that of the plain datasets
-pub present_same : AnswerLaws → (ds : List Dataset) → IsAlive ds → IsStated (place_behind ds)
+pub present_same : AnswerLaws → (ds : List Dataset) → SectionsLive ds → IsStated (place_after_datasets ds)
     → present_record ds ≡ present_record (plain (kept ds) (numbers_in (numbers_of (of_record 7 ds))) (length (of_record 8 ds)) (object_of ds) (nat_eq (present_record ds) 9))
 present_same laws ds alive stated =
     let ps = numbers_of (of_record 7 ds) in
@@ -328,11 +329,11 @@ pub record PlainLaws : Type 0 where
 unfoldable pub plain_by : PlainLaws → (place : Place) (l : Lived place) → IsPlain (place_of l.whole l.begun l.message)
 plain_by laws place l =
     let ds = l.whole in
-    let goes = l.goes_on.sizes in
+    let goes = l.leads_on.sizes in
     let alive = alive_of widest ds l.begun goes in
     let within = within_of widest ds l.begun goes in
-    let stated = stated_behind laws.answer.follow.objects ds alive within.subfiles in
-    let lives = object_behind laws.answer.follow.objects widest ds l.begun goes in
+    let stated = stated_after_all laws.answer.follow.objects ds alive within.subfiles in
+    let lives = object_lives_after laws.answer.follow.objects widest ds l.begun goes in
     let ps = numbers_of (of_record 7 ds) in
     let numbers = numbers_in ps in
     let heads = length (of_record 8 ds) in

@@ -1,12 +1,12 @@
 -- The object layer lives with other numbers and lengths that tell the same.
 use Rattle.std.proofs.Common.{◌≡◌, ℕ, ◌<◌, ◌≤◌, Bool, List, [], ◌∷◌, ◌++◌, length, map, sum, Option, Some, is_some, IfSome, refl, ap, sym, subst, ◌∙◌, arith, append-nil}
 use Rattle.std.specs.List.{AllByRecursion}
-use Rattle.iim_dataset.specs.Languages.{IsAlive}
-use Rattle.iim_tables.specs.Numbers.{greatest_size}
-use Rattle.iim_object.specs.Living.{NoClash, HasDuties, Fit, IsWhole}
-use Rattle.iim_object.specs.Objects.{SubfileBegun, ObjectLanguage, number_tokens}
-use Rattle.iim_object.specs.Places.{Ending, NotEnded, Ended, ConfirmedAs, HasBoth, ending_tokens}
-use Rattle.iim_object.specs.Sizes.{Stated, AreStated, number_at, mode_number}
+use Rattle.iim_dataset.specs.Format.Languages.{IsAlive}
+use Rattle.iim_dataset.specs.Format.Octets.{greatest_size}
+use Rattle.iim_object.specs.Format.Living.{NoClash, HasDuties, Fit, IsWhole}
+use Rattle.iim_object.specs.Format.Objects.{SubfileBegun, ObjectLanguage, number_tokens}
+use Rattle.iim_object.specs.Format.Places.{Ending, NotEnded, Ended, ConfirmedAs, HasBoth, ending_tokens}
+use Rattle.iim_object.specs.Format.Sizes.{Stated, AreStated, number_at, mode_number}
 use Rattle.iim_unpack.specs.Plain.{ObjectsArePossibleAlike}
 use Rattle.iim_unpack.specs.LowerLaws.{SizeLaws}
 use Rattle.iim_unpack.proofs.PlainPlaces.{some_of, known_of, low_mode}

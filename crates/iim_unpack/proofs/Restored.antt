@@ -3,63 +3,63 @@ use Rattle.std.proofs.Common.{◌≡◌, ℕ, zero, suc, ◌+◌, ◌-◌, ◌<�
 use Rattle.std.specs.List.{AllByRecursion}
 use Rattle.std.proofs.lemmas.Bool.{eqb-true}
 use Rattle.std.proofs.lemmas.Bool.Decides.{eqb_tells}
-use Rattle.iim_dataset.specs.Octets.{Octets}
-use Rattle.iim_dataset.specs.Datasets.{Dataset}
-use Rattle.iim_dataset.specs.Splits.{Begun, InTag, InData, Reads}
-use Rattle.iim_dataset.specs.Events.{handed_on}
-use Rattle.iim_dataset.specs.Places.{IsKeptAs, between}
+use Rattle.iim_dataset.specs.Format.Octets.{Octets}
+use Rattle.iim_dataset.specs.Format.Datasets.{Dataset, of_record, count_octets}
+use Rattle.iim_dataset.specs.Format.Splits.{Begun, InTag, InData, Reads}
+use Rattle.iim_dataset.specs.Format.Events.{handed_on}
+use Rattle.iim_dataset.specs.Format.Places.{IsKeptAs, between}
 use Rattle.iim_dataset.specs.declared.head.Head.{Head}
 use Rattle.iim_dataset.specs.declared.place.DatasetPlace.{DatasetPlace}
-use Rattle.iim_fields.specs.Alive.{IsAlive, IsAliveAt}
-use Rattle.iim_fields.specs.Faults.{is_kept, kept, present_record}
-use Rattle.iim_fields.specs.Standing as records
+use Rattle.iim_fields.specs.Format.Alive.{SectionsLive, SectionsLiveAt}
+use Rattle.iim_fields.specs.Format.Faults.{is_kept, kept, present_record}
+use Rattle.iim_fields.specs.Format.Standing as records
 use Rattle.iim_fields.specs.declared.limits.Limits.{Limits}
-use Rattle.iim_object.specs.Behind.{of_record, place_behind, place_ended, ending_of}
-use Rattle.iim_object.specs.Objects.{ObjectEnded, Confirmed, SubfileBegun}
-use Rattle.iim_object.specs.Places.{NotEnded, ConfirmedAs, place_after}
-use Rattle.iim_object.specs.Places as objects
-use Rattle.iim_object.specs.Plans.{max_subfiles}
-use Rattle.iim_object.specs.Reading as reading
-use Rattle.iim_object.specs.Records.{lengths_of, numbers_of}
-use Rattle.iim_object.specs.Saved.{IsAt, IsPossible, stated_numbers}
+use Rattle.iim_object.specs.Format.Numbers.{place_after_datasets, place_ended, ending_of}
+use Rattle.iim_object.specs.Format.Objects.{ObjectEnded, Confirmed, SubfileBegun}
+use Rattle.iim_object.specs.Format.Places.{NotEnded, ConfirmedAs, place_after}
+use Rattle.iim_object.specs.Format.Places as objects
+use Rattle.iim_object.specs.Format.Plans.{max_subfiles}
+use Rattle.iim_object.specs.Format.Reading as reading
+use Rattle.iim_object.specs.Format.Records.{lengths_of, numbers_of}
+use Rattle.iim_object.specs.Format.Saved.{IsAt, IsPossible, stated_numbers}
 use Rattle.iim_object.specs.declared.state.State.{State}
 use Rattle.iim_object.specs.declared.size.Sizes.{Sizes}
-use Rattle.wire_story.specs.Texts.{AreLines}
-use Rattle.wire_message.specs.Layers.{text_so_far}
-use Rattle.wire_message.specs.Messages.{Header, IsMessage}
-use Rattle.wire_message.specs.Reading as wire
-use Rattle.wire_message.specs.Saved.{LeadToSaved, saved}
-use Rattle.wire_message.specs.SoFar.{LeadTo}
+use Rattle.wire_story.specs.Format.Texts.{AreLines}
+use Rattle.wire_message.specs.Format.Layers.{text_so_far}
+use Rattle.wire_message.specs.Format.Messages.{Header, IsMessage}
+use Rattle.wire_message.specs.Format.Reading as wire
+use Rattle.wire_message.specs.Format.Saved.{LeadToSaved, saved}
+use Rattle.wire_message.specs.Format.SoFar.{LeadTo}
 use Rattle.wire_message.specs.declared.place.Place.{Place as Message}
 use Rattle.wire_message.specs.declared.place.Place.TheVariants as at_message
 use Rattle.wire_message.specs.declared.saved.MessagePart.TheVariants as part
 use Rattle.wire_message.specs.declared.saved.MessagePlace.{MessagePlace}
 use Rattle.iim_unpack.specs.Format.Admitted.{Value, object_of}
-use Rattle.iim_unpack.specs.Begins.{IsNumber}
+use Rattle.iim_unpack.specs.Format.Begins.{IsSize}
 use Rattle.iim_unpack.specs.ByLayers.{LeadsByLayers, RecordsLive, record_datasets, begun_of_object, object_after, one_of_some, are_ended, begun_subfiles}
 use Rattle.iim_unpack.specs.LowerLaws.{RestoreLaws}
 use Rattle.iim_unpack.specs.Format.Open.{object_so_far, section}
-use Rattle.iim_unpack.specs.Parts.{Behind, Within, StandsFor, has_ended}
+use Rattle.iim_unpack.specs.Format.Parts.{AreAfter, Within, StandsFor, has_ended}
 use Rattle.iim_unpack.specs.Plain.{Numbers, number_list, plain}
 use Rattle.iim_unpack.specs.Restoring.{IsMadeFor, RecordsStand, MessageStands, has_come}
 use Rattle.iim_unpack.specs.Format.Streams.{IsEnvelopeWithin}
 use Rattle.iim_unpack.specs.Taking.{tag_place}
 use Rattle.iim_unpack.specs.Format.Tickets.{Place, Phase, TagBegun, AllEnded, IsPlaceOf, phase_of, place_of}
-use Rattle.iim_unpack.specs.Format.Tokens.{place_at, ObjectLives, GoOn, GoOnAt, MayGoOn}
-use Rattle.iim_unpack.specs.Unpacking.{Unpacking, Stands, IsDoneWith, are_some}
+use Rattle.iim_unpack.specs.Format.Tokens.{place_at, ObjectLives, CanContinue, CanContinueAt, MayContinue}
+use Rattle.iim_unpack.specs.Format.Unpacking.{Unpacking, Stands, IsDoneWith, are_some}
 use Rattle.iim_unpack.specs.Format.Open.{IsOpen}
 use Rattle.iim_unpack.specs.declared.parts.Parts.{Parts}
 use Rattle.iim_unpack.proofs.Alike.{Fits, told_by}
 use Rattle.iim_unpack.proofs.Answering.{one_reading, reads_envelope, goes_envelope}
-use Rattle.iim_unpack.proofs.Ended.{ended_behind, unended_inside}
+use Rattle.iim_unpack.proofs.Ended.{ended_by_record, unended_inside}
 use Rattle.iim_unpack.proofs.Feeding.{TellsSizes, done_by}
 use Rattle.iim_unpack.proofs.Following.{alive_of}
 use Rattle.iim_unpack.proofs.Lasts.{sections_last}
 use Rattle.iim_unpack.proofs.LayersLead.{same_stated, present_ended, front_alive}
 use Rattle.iim_unpack.proofs.LeadsByLayers.{whole_at, subfile_at, opened_at, confirmed_at, nine_ended, one_same}
 use Rattle.iim_unpack.proofs.PlainOpens.{fit_in_rows, possible_of}
-use Rattle.iim_unpack.proofs.SamePlace.{opened, fields_behind, fields_in, some_read, has_begun, none_present, less_alive}
-use Rattle.iim_unpack.proofs.SameRecords.{IsStated, SameRecords, same_shape, stated_behind, stated_at}
+use Rattle.iim_unpack.proofs.SamePlace.{opened, fields_after, fields_in, some_read, has_begun, none_present, less_alive}
+use Rattle.iim_unpack.proofs.SameRecords.{IsStated, SameRecords, same_shape, stated_after_all, stated_at}
 use Rattle.iim_unpack.proofs.Tickets.{count_of}
 
 -- ---- the records
@@ -74,14 +74,14 @@ few_subfiles zero = omega arith
 few_subfiles (suc n) = omega arith
 
 like : RestoreLaws → (fields : List Dataset) (numbers : Numbers) (some : ℕ) (ended : Bool) (ds : List Dataset) → AllByRecursion (λ (d : Dataset). is_kept d.rec ≡ true) fields
-    → number_list numbers ≡ stated_numbers (numbers_of (of_record 7 ds)) → IsAlive (plain fields numbers (one_of_some some) [] ended) → IsAlive ds → length (of_record 8 ds) ≤ max_subfiles → fields ≡ kept ds
+    → number_list numbers ≡ stated_numbers (numbers_of (of_record 7 ds)) → SectionsLive (plain fields numbers (one_of_some some) [] ended) → SectionsLive ds → length (of_record 8 ds) ≤ max_subfiles → fields ≡ kept ds
     → some ≡ length (of_record 8 ds) → nat_eq (present_record ds) 9 ≡ ended → Like (plain fields numbers (one_of_some some) [] ended) ds
 like laws fields numbers some ended ds keeps same alive there few fields_are some_are ended_is =
     let es = plain fields numbers (one_of_some some) [] ended in
     let ps = numbers_of (of_record 7 ds) in
-    let stated = stated_behind laws.layers.opens.answer.follow.objects ds there few in
+    let stated = stated_after_all laws.layers.opens.answer.follow.objects ds there few in
     let is = same_stated numbers ps same in
-    let fits : Fits fields numbers (one_of_some some) [] = record { kept = keeps; fit = subst (λ (n : Numbers). AllByRecursion IsNumber (number_list n)) (sym is.are) (fit_in_rows ps stated.stated.each); room = omega arith } in
+    let fits : Fits fields numbers (one_of_some some) [] = record { kept = keeps; fit = subst (λ (n : Numbers). AllByRecursion IsSize (number_list n)) (sym is.are) (fit_in_rows ps stated.stated.each); room = omega arith } in
     let tell = told_by fields numbers (one_of_some some) [] ended fits in
     let heads = tell.heads_are in
     record {
@@ -153,11 +153,11 @@ base_tag : (b : Bool) (section heads : ℕ) (held : List ℕ) (fields : List Dat
 base_tag true section heads held fields numbers = ap (λ (n : ℕ). plain fields numbers (one_of_some n) [] true) (less_none heads)
 base_tag false section heads held fields numbers = ap (λ (n : ℕ). plain fields numbers (one_of_some n) [] false) (less_none heads)
 
-live_tag : (b : Bool) (section : ℕ) (held : List ℕ) (ds : List Dataset) → RecordsLive section (TagPhase b held) ds → IsAlive ds
+live_tag : (b : Bool) (section : ℕ) (held : List ℕ) (ds : List Dataset) → RecordsLive section (TagPhase b held) ds → SectionsLive ds
 live_tag true section held ds live = live.1
 live_tag false section held ds live = live.1
 
-stand_tag : (b : Bool) (fields : records.FieldsPlace) (section : ℕ) (held : List ℕ) (ds : List Dataset) → RecordsStand fields section (TagPhase b held) ds → records.StandsBehind fields ds
+stand_tag : (b : Bool) (fields : records.FieldsPlace) (section : ℕ) (held : List ℕ) (ds : List Dataset) → RecordsStand fields section (TagPhase b held) ds → records.StandsAfter fields ds
 stand_tag true fields section held ds stand = stand
 stand_tag false fields section held ds stand = stand
 
@@ -171,17 +171,17 @@ object_tag : (b : Bool) (reader : Option State) (numbers : List (Option ℕ)) (s
 object_tag true reader numbers section taken heads held p q stands at is possible = subst (reading.StandsAt reader) is (stands p at (subst IsPossible (sym is) possible))
 object_tag false reader numbers section taken heads held p q stands at is possible = subst (reading.StandsAt reader) is (stands p at (subst IsPossible (sym is) possible))
 
-ending_tag : RestoreLaws → (limits : Limits) (ds : List Dataset) → GoOn limits ds → (b : Bool) → nat_eq (present_record ds) 9 ≡ b
-    → (if b then place_after (place_after (record (place_behind ds) { ending = NotEnded }) ObjectEnded) (Confirmed (length (object_of ds))) else record (place_behind ds) { ending = NotEnded }) ≡ place_behind ds
+ending_tag : RestoreLaws → (limits : Limits) (ds : List Dataset) → CanContinue limits ds → (b : Bool) → nat_eq (present_record ds) 9 ≡ b
+    → (if b then place_after (place_after (record (place_after_datasets ds) { ending = NotEnded }) ObjectEnded) (Confirmed (length (object_of ds))) else record (place_after_datasets ds) { ending = NotEnded }) ≡ place_after_datasets ds
 ending_tag laws limits ds goes true is =
     let end' = confirmed_at laws.layers.opens ds goes.records goes.within.subfiles goes.object is in
     λ i. record { stated = numbers_of (of_record 7 ds); lengths = lengths_of (of_record 8 ds); ending = sym end' i }
 ending_tag laws limits ds goes false is = opened_at ds (nine_ended laws.layers.opens ds goes.records is)
 
 -- Readers that were made for the place of whole datasets, and perhaps a tag, stand after them.
-behind_tag : RestoreLaws → (limits : Limits) (at : ℕ) (u : Unpacking) (ds : List Dataset) (held : List ℕ) (m : MessagePlace) (text : List ℕ) → AreMadeFor limits at u (place_of ds (InTag held) m) → GoOn limits ds
-    → LeadToSaved (object_of ds) text m → Behind u.parts ds
-behind_tag laws limits at u ds held m text (l, made) goes leads =
+after_datasets : RestoreLaws → (limits : Limits) (at : ℕ) (u : Unpacking) (ds : List Dataset) (held : List ℕ) (m : MessagePlace) (text : List ℕ) → AreMadeFor limits at u (place_of ds (InTag held) m) → CanContinue limits ds
+    → LeadToSaved (object_of ds) text m → AreAfter u.parts ds
+after_datasets laws limits at u ds held m text (l, made) goes leads =
     let ended = nat_eq (present_record ds) 9 in
     let heads = length (of_record 8 ds) in
     let base = plain (kept ds) l.numbers (one_of_some heads) [] ended in
@@ -190,14 +190,14 @@ behind_tag laws limits at u ds held m text (l, made) goes leads =
     let alive = live_tag ended (present_record ds) held base live in
     let alike = like laws (kept ds) l.numbers heads ended ds l.kept (sym l.numbers_are) alive goes.records goes.within.subfiles refl refl refl in
     let stand = stand_tag ended u.parts.fields (present_record ds) held base (subst (RecordsStand u.parts.fields (present_record ds) (TagPhase ended held)) is made.records) in
-    let stated = stated_behind laws.layers.opens.answer.follow.objects ds goes.records goes.within.subfiles in
+    let stated = stated_after_all laws.layers.opens.answer.follow.objects ds goes.records goes.within.subfiles in
     let few = goes.within.subfiles in
     let count = count_of (of_record 8 ds) in
     let begun = present_tag ended (present_record ds) held base (present_ended (kept ds) l.numbers (one_of_some heads) [] ended l.kept) live in
     record {
-      fields = fields_behind u.parts.fields base ds stand goes.records begun alike.kept_are alike.same;
-      object = object_tag ended u.parts.object (stated_numbers (numbers_of (of_record 7 ds))) (present_record ds) (length (object_of ds)) heads held (record (place_behind ds) { ending = NotEnded }) (place_behind ds) made.object
-          (whole_at ds (length (object_of ds)) heads refl refl) (ending_tag laws limits ds goes ended refl) (possible_of (place_behind ds) stated (omega (arith, count, few)) goes.object);
+      fields = fields_after u.parts.fields base ds stand goes.records begun alike.kept_are alike.same;
+      object = object_tag ended u.parts.object (stated_numbers (numbers_of (of_record 7 ds))) (present_record ds) (length (object_of ds)) heads held (record (place_after_datasets ds) { ending = NotEnded }) (place_after_datasets ds) made.object
+          (whole_at ds (length (object_of ds)) heads refl refl) (ending_tag laws limits ds goes ended refl) (possible_of (place_after_datasets ds) stated (omega (arith, count, few)) goes.object);
       few = goes.within.subfiles;
       message = text_led laws u.parts.message (place_of ds (InTag held) m) (object_of ds) text made.message leads;
       ended = λ nine. ended_reader laws u.parts.message (place_of ds (InTag held) m) (object_of ds) text made.message leads (l.message.4 nine);
@@ -209,7 +209,7 @@ same_heads : (n : ℕ) (b : Bool) → (n + (if b then 1 else 0)) - (if b then 1 
 same_heads n true = omega arith
 same_heads n false = omega arith
 
-object_data : RestoreLaws → (limits : Limits) (reader : Option State) (ds : List Dataset) (h : Head) (xs : List ℕ) → GoOnAt limits ds h → nat_eq (present_record ds) 9 ≡ false → length xs < h.count
+object_data : RestoreLaws → (limits : Limits) (reader : Option State) (ds : List Dataset) (h : Head) (xs : List ℕ) → CanContinueAt limits ds h → nat_eq (present_record ds) 9 ≡ false → length xs < h.count
     → ((p : objects.Place) → IsAt (stated_numbers (numbers_of (of_record 7 ds))) (length (object_of ds ++ (if nat_eq h.rec 8 then xs else []))) (if nat_eq h.rec 8 then Some (h.count, h.count - length xs) else None)
     (length (of_record 8 ds) + (if nat_eq h.rec 8 then 1 else 0)) p → IsPossible (if nat_eq h.rec 9 then place_after p ObjectEnded else p) → reading.StandsAt reader (if nat_eq h.rec 9 then place_after p ObjectEnded else p))
     → reading.StandsAt reader (place_at ds h)
@@ -220,7 +220,7 @@ object_data laws limits reader ds h xs goes open' less = by (nat_eq h.rec 8) (na
     none = nine_ended laws.layers.opens ds (less_alive ds h goes.records) open'
 
     at : Bool → Bool → objects.Place
-    at b c = if b then place_after (place_behind ds) (SubfileBegun h.count) else if c then place_ended ds else place_behind ds
+    at b c = if b then place_after (place_after_datasets ds) (SubfileBegun h.count) else if c then place_ended ds else place_after_datasets ds
 
     few : length (lengths_of (of_record 8 ds)) ≤ max_subfiles
     few = let count = count_of (of_record 8 ds) in let few = goes.within.subfiles in omega (arith, count, few)
@@ -238,25 +238,25 @@ object_data laws limits reader ds h xs goes open' less = by (nat_eq h.rec 8) (na
         → reading.StandsAt reader (at b c)
     by true true eight nine stated lives stands = absurd (let e = eqb-true h.rec 8 eight in let f = eqb-true h.rec 9 nine in omega (arith, e, f))
     by true false eight nine stated lives stands =
-        let is : place_after (record (place_behind ds) { ending = NotEnded }) (SubfileBegun h.count) ≡ place_after (place_behind ds) (SubfileBegun h.count) = ap (λ (p : objects.Place). place_after p (SubfileBegun h.count)) (opened_at ds none) in
+        let is : place_after (record (place_after_datasets ds) { ending = NotEnded }) (SubfileBegun h.count) ≡ place_after (place_after_datasets ds) (SubfileBegun h.count) = ap (λ (p : objects.Place). place_after p (SubfileBegun h.count)) (opened_at ds none) in
         subst (reading.StandsAt reader) is
-        (stands (place_after (record (place_behind ds) { ending = NotEnded }) (SubfileBegun h.count)) (subfile_at ds h xs less)
-        (subst IsPossible (sym is) (possible_of (place_after (place_behind ds) (SubfileBegun h.count)) stated (more eight) lives)))
+        (stands (place_after (record (place_after_datasets ds) { ending = NotEnded }) (SubfileBegun h.count)) (subfile_at ds h xs less)
+        (subst IsPossible (sym is) (possible_of (place_after (place_after_datasets ds) (SubfileBegun h.count)) stated (more eight) lives)))
     by false true eight nine stated lives stands =
-        stands (record (place_behind ds) { ending = NotEnded }) (whole_at ds (length (object_of ds ++ [])) (length (of_record 8 ds) + 0) (ap length (append-nil (object_of ds))) (omega arith)) (possible_of (place_ended ds) stated few lives)
+        stands (record (place_after_datasets ds) { ending = NotEnded }) (whole_at ds (length (object_of ds ++ [])) (length (of_record 8 ds) + 0) (ap length (append-nil (object_of ds))) (omega arith)) (possible_of (place_ended ds) stated few lives)
     by false false eight nine stated lives stands =
         subst (reading.StandsAt reader) (opened_at ds none)
-        (stands (record (place_behind ds) { ending = NotEnded }) (whole_at ds (length (object_of ds ++ [])) (length (of_record 8 ds) + 0) (ap length (append-nil (object_of ds))) (omega arith))
-        (subst IsPossible (sym (opened_at ds none)) (possible_of (place_behind ds) stated few lives)))
+        (stands (record (place_after_datasets ds) { ending = NotEnded }) (whole_at ds (length (object_of ds ++ [])) (length (of_record 8 ds) + 0) (ap length (append-nil (object_of ds))) (omega arith))
+        (subst IsPossible (sym (opened_at ds none)) (possible_of (place_after_datasets ds) stated few lives)))
 
 -- Readers that were made for the place of whole datasets and a begun one stand in it.
-within_data : RestoreLaws → (limits : Limits) (at : ℕ) (u : Unpacking) (ds : List Dataset) (h : Head) (xs : List ℕ) (m : MessagePlace) (text : List ℕ) → AreMadeFor limits at u (place_of ds (InData h xs) m) → GoOnAt limits ds h
+within_data : RestoreLaws → (limits : Limits) (at : ℕ) (u : Unpacking) (ds : List Dataset) (h : Head) (xs : List ℕ) (m : MessagePlace) (text : List ℕ) → AreMadeFor limits at u (place_of ds (InData h xs) m) → CanContinueAt limits ds h
     → nat_eq (present_record ds) 9 ≡ false → Octets xs → length xs < h.count → LeadToSaved (object_so_far ds (InData h xs)) text m → Within u.parts ds h xs
 within_data laws limits at u ds h xs m text (l, made) goes open' octets less leads =
     let heads = length (of_record 8 ds) in
     let base = plain (kept ds) l.numbers (one_of_some heads) [] false in
     let is : record_datasets (place_of ds (InData h xs) m) l.numbers ≡ base = ap (λ (n : ℕ). plain (kept ds) l.numbers (one_of_some n) [] false) (same_heads heads (nat_eq h.rec 8)) in
-    let alive_at : IsAliveAt base h = subst (λ (es : List Dataset). IsAliveAt es h) is l.records in
+    let alive_at : SectionsLiveAt base h = subst (λ (es : List Dataset). SectionsLiveAt es h) is l.records in
     let alike = like laws (kept ds) l.numbers heads false ds l.kept (sym l.numbers_are) (front_alive base h alive_at) (less_alive ds h goes.records) goes.within.subfiles refl refl open' in
     let given = if nat_eq h.rec 8 then [] else xs in
     let stand : records.StandsIn u.parts.fields base h given = subst (λ (es : List Dataset). records.StandsIn u.parts.fields es h given) is made.records in
@@ -276,13 +276,13 @@ keeps_tag : (b : Bool) (place : DatasetPlace) (section : ℕ) (held : List ℕ) 
 keeps_tag true place section held e is = absurd cc
 keeps_tag false place section held e is = subst (λ (x : DatasetPlace). IsKeptAs x (InTag held)) (sym is) refl
 
-keeps : (place : DatasetPlace) (p : List ℕ) (ds : List Dataset) (b : Begun) → Reads p ds b → nat_eq (present_record ds) 9 ≡ false → place ≡ tag_place (section ds b) (phase_of ds b) → IsKeptAs place b
+keeps : (place : DatasetPlace) (p : List ℕ) (ds : List Dataset) (b : Begun) → Reads count_octets p ds b → nat_eq (present_record ds) 9 ≡ false → place ≡ tag_place (section ds b) (phase_of ds b) → IsKeptAs place b
 keeps place p ds (InTag held) reads open' is = keeps_tag (nat_eq (present_record ds) 9) place (present_record ds) held open' is
 keeps place p ds (InData h xs) reads open' is = subst (λ (x : DatasetPlace). IsKeptAs x (InData h xs)) (sym is) (refl, (let less = reads.is_rest.2 in omega (arith, less)))
 
 -- ---- whether an octet has come
 
-come_tag : (b : Bool) (ds : List Dataset) (held : List ℕ) → b ≡ false → IsAlive ds → has_come (present_record ds) (TagPhase b held) ≡ has_begun ds (InTag held)
+come_tag : (b : Bool) (ds : List Dataset) (held : List ℕ) → b ≡ false → SectionsLive ds → has_come (present_record ds) (TagPhase b held) ≡ has_begun ds (InTag held)
 come_tag true ds held e alive = absurd cc
 come_tag false [] held e alive = refl
 come_tag false (d ∷ ds) held e alive = elim (eqb_tells (present_record (d ∷ ds)) 0) [
@@ -290,20 +290,20 @@ come_tag false (d ∷ ds) held e alive = elim (eqb_tells (present_record (d ∷ 
   | inr other ↦ ap (λ (c : Bool). if c then are_some held else true) other.0
 ]
 
-come : (p : List ℕ) (ds : List Dataset) (b : Begun) → Reads p ds b → nat_eq (present_record ds) 9 ≡ false → IsAlive ds → has_come (section ds b) (phase_of ds b) ≡ has_begun ds b
+come : (p : List ℕ) (ds : List Dataset) (b : Begun) → Reads count_octets p ds b → nat_eq (present_record ds) 9 ≡ false → SectionsLive ds → has_come (section ds b) (phase_of ds b) ≡ has_begun ds b
 come p ds (InTag held) reads open' alive = come_tag (nat_eq (present_record ds) 9) ds held open' alive
 come p [] (InData h xs) reads open' alive = refl
 come p (d ∷ ds) (InData h xs) reads open' alive = refl
 
 -- ---- open octets
 
-stands_for : RestoreLaws → (limits : Limits) (at : ℕ) (u : Unpacking) (p : List ℕ) (ds : List Dataset) (b : Begun) (m : MessagePlace) (text : List ℕ) → AreMadeFor limits at u (place_of ds b m) → Reads p ds b → MayGoOn limits ds b
+stands_for : RestoreLaws → (limits : Limits) (at : ℕ) (u : Unpacking) (p : List ℕ) (ds : List Dataset) (b : Begun) (m : MessagePlace) (text : List ℕ) → AreMadeFor limits at u (place_of ds b m) → Reads count_octets p ds b → MayContinue limits ds b
     → nat_eq (present_record ds) 9 ≡ false → LeadToSaved (object_so_far ds b) text m → StandsFor u.parts ds b
-stands_for laws limits at u p ds (InTag held) m text made reads goes open' leads = behind_tag laws limits at u ds held m text made goes leads
+stands_for laws limits at u p ds (InTag held) m text made reads goes open' leads = after_datasets laws limits at u ds held m text made goes leads
 stands_for laws limits at u p ds (InData h xs) m text made reads goes open' leads = within_data laws limits at u ds h xs m text made goes open' reads.is_rest.3 reads.is_rest.2 leads
 
 ended_for : (parts : Parts) (ds : List Dataset) (b : Begun) → nat_eq (present_record ds) 9 ≡ false → StandsFor parts ds b → has_ended parts ≡ false
-ended_for parts ds (InTag held) open' stand = ended_behind parts ds stand.fields ∙ open'
+ended_for parts ds (InTag held) open' stand = ended_by_record parts ds stand.fields ∙ open'
 ended_for parts ds (InData h xs) open' stand = unended_inside parts h stand.fields.inside.0 stand.fields.inside.1
 
 -- What holds of the readers where open octets have led.
@@ -362,11 +362,11 @@ made_done laws place limits at u s made sizes object message p v is whole =
     subst (λ (b : Begun). LeadToSaved (object_so_far ds b) is.text is.message) same.begun_is (subst (λ (es : List Dataset). LeadToSaved (object_so_far es is.begun) is.text is.message) same.whole_is is.leads) in
     let here : AreMadeFor limits at u (place_of ds (InTag []) is.message) = subst (AreMadeFor limits at u) is_place made in
     let goes = (goes_envelope laws.layers.opens.answer limits p v whole).sizes in
-    let stand = behind_tag laws limits at u ds [] is.message is.text here goes leads in
+    let stand = after_datasets laws limits at u ds [] is.message is.text here goes leads in
     let nine : present_record ds ≡ 9 = sections_last laws.layers.opens.answer.follow.ends ds goes.records whole.admits.sections in
     let ended : nat_eq (present_record ds) 9 ≡ true = ap (λ (n : ℕ). nat_eq n 9) nine in
     let tags : u.reader.place ≡ between = between_tag (nat_eq (present_record ds) 9) u.reader.place (present_record ds) ended here.1.tags in
-    done_by laws.feed u p at s here.1.taking (record { last = ended_behind u.parts ds stand.fields ∙ ended; between = stand.fields.between; object = object; message = message }) tags here.1.counts
+    done_by laws.feed u p at s here.1.taking (record { last = ended_by_record u.parts ds stand.fields ∙ ended; between = stand.fields.between; object = object; message = message }) tags here.1.counts
     (record {
       events = handed_on ds (InTag []);
       text = text_so_far (object_of ds);

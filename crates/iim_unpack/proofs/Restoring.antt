@@ -1,14 +1,14 @@
 -- What the parts of a ticket say of its place.
 use Rattle.std.proofs.Common.{◌≡◌, ℕ, ◌+◌, ◌-◌, ◌≤◌, nat_eq, cond, if◌then◌else◌, Bool, true, false, List, [], ◌∷◌, length, Option, refl, ap, sym, subst, arith}
-use Rattle.iim_dataset.specs.Datasets.{Dataset}
-use Rattle.iim_fields.specs.Faults.{kept, kept_octets, joined}
-use Rattle.iim_fields.specs.Standing.{IsWithin}
+use Rattle.iim_dataset.specs.Format.Datasets.{Dataset}
+use Rattle.iim_fields.specs.Format.Faults.{kept, kept_octets, joined}
+use Rattle.iim_fields.specs.Format.Standing.{IsWithin}
 use Rattle.iim_fields.specs.declared.limits.Limits.{Limits}
-use Rattle.iim_unpack.specs.Begins.{AreNumbers}
+use Rattle.iim_unpack.specs.Format.Begins.{AreNumbers}
 use Rattle.iim_unpack.specs.ByLayers.{TagsLead, RecordsLive, head_at}
 use Rattle.iim_unpack.specs.Format.Possible.{begun_count, begun_fields}
 use Rattle.iim_unpack.specs.Restoring.{HasFew, MayBegin, AreWithinWith}
-use Rattle.iim_unpack.specs.Taking.{AreKept, GoOnWithin, numbers_told, told_datasets}
+use Rattle.iim_unpack.specs.Taking.{AreKept, CanContinueWithin, numbers_told, told_datasets}
 use Rattle.iim_unpack.specs.Format.Tickets.{Phase, DataBegun}
 use Rattle.iim_unpack.proofs.AtPlaces.{fits_told, live_alive}
 use Rattle.iim_unpack.proofs.Plain.{plain_told}
@@ -25,7 +25,7 @@ pub with_told : (limits : Limits) (section : ℕ) (phase : Phase) (fields : List
 with_told limits section phase fields numbers some ended fit each within =
     subst (λ (ks : List Dataset). IsWithin limits (length (joined ks) + begun_count section phase) (length ks + begun_fields section phase)) (sym (kept_told fields numbers some ended fit each)) within
 
-pub goes_told : (limits : Limits) (section : ℕ) (phase : Phase) (ds : List Dataset) → RecordsLive section phase ds → AreWithinWith limits section phase ds → GoOnWithin limits ds
+pub goes_told : (limits : Limits) (section : ℕ) (phase : Phase) (ds : List Dataset) → RecordsLive section phase ds → AreWithinWith limits section phase ds → CanContinueWithin limits ds
 goes_told limits section phase ds lives within = record {
   alive = live_alive section phase ds lives;
   within = record { octets_in = let low = within.octets_in in omega (arith, low); fields_in = let low = within.fields_in in omega (arith, low) };

@@ -3,51 +3,52 @@ use Rattle.std.proofs.Common.{◌≡◌, ℕ, ◌+◌, ◌-◌, ◌<◌, Bool, t
 use Rattle.std.proofs.lemmas.Bool.Decides.{eqb_tells}
 use Rattle.std.proofs.lemmas.List.Sums.{sum_by-cons}
 use Rattle.std.proofs.lemmas.List.{length-map}
-use Rattle.iim_dataset.specs.Octets.{Octets}
+use Rattle.iim_dataset.specs.Format.Octets.{Octets}
 use Rattle.std.proofs.lemmas.List.Elements.{filter-append}
-use Rattle.iim_dataset.specs.Datasets.{Dataset, head_of}
-use Rattle.iim_dataset.specs.Splits.{Begun, InTag, InData, Reads}
-use Rattle.iim_dataset.specs.Events.{handed_on, begun_data}
-use Rattle.iim_dataset.specs.Places.{IsKeptAs}
+use Rattle.iim_dataset.specs.Format.Datasets.{Dataset, head_of, of_record, count_octets}
+use Rattle.iim_dataset.specs.Format.Splits.{Begun, InTag, InData, Reads}
+use Rattle.iim_dataset.specs.Format.Events.{handed_on, begun_data}
+use Rattle.iim_dataset.specs.Format.Places.{IsKeptAs}
 use Rattle.iim_dataset.specs.declared.head.Head.{Head}
 use Rattle.iim_dataset.specs.declared.place.DatasetPlace.{DatasetPlace}
 use Rattle.iim_dataset.specs.declared.place.DatasetPlace.TheVariants.{Tag, Inside}
-use Rattle.iim_fields.specs.Records.{AreSections, occurs}
-use Rattle.iim_fields.specs.Orders as orders
-use Rattle.iim_fields.specs.Checks.{HasChecked, HasTaken}
-use Rattle.iim_fields.specs.Faults.{kept, joined, present_record}
-use Rattle.iim_fields.specs.Alive.{IsAlive, IsAliveAt}
-use Rattle.iim_fields.specs.Laws.{ValuesDieWithTheirFault}
-use Rattle.iim_fields.specs.Standing as records
+use Rattle.iim_fields.specs.Format.Records.{AreSections}
+use Rattle.iim_tables.specs.Format.Records.{occurs}
+use Rattle.iim_fields.specs.Format.Orders as orders
+use Rattle.iim_fields.specs.Format.Checks.{HasChecked, HasTaken}
+use Rattle.iim_fields.specs.Format.Faults.{kept, joined, present_record}
+use Rattle.iim_fields.specs.Format.Alive.{SectionsLive, SectionsLiveAt}
+use Rattle.iim_fields.specs.Format.Laws.{ValuesDieWithTheirFault}
+use Rattle.iim_fields.specs.Format.Standing as records
 use Rattle.iim_fields.specs.declared.limits.Limits.{Limits}
 use Rattle.iim_fields.specs.declared.order.Order.{Order}
 use Rattle.iim_fields.specs.declared.check.RecordPlace.{RecordPlace}
-use Rattle.iim_object.specs.Objects.{SubfileBegun}
-use Rattle.iim_object.specs.Places as objects
-use Rattle.iim_object.specs.Reading as reading
-use Rattle.iim_object.specs.Records.{lengths_of, numbers_of}
-use Rattle.iim_object.specs.Behind.{of_record, place_behind, place_ended}
+use Rattle.iim_object.specs.Format.Objects.{SubfileBegun}
+use Rattle.iim_object.specs.Format.Places as objects
+use Rattle.iim_object.specs.Format.Reading as reading
+use Rattle.iim_object.specs.Format.Records.{lengths_of, numbers_of}
+use Rattle.iim_object.specs.Format.Numbers.{place_after_datasets, place_ended}
 use Rattle.iim_object.specs.declared.state.State.{State}
-use Rattle.iim_object.specs.Saved.{stated_numbers}
-use Rattle.wire_message.specs.Layers.{text_so_far}
-use Rattle.wire_message.specs.Reading as wire
-use Rattle.wire_message.specs.SoFar.{LeadTo}
-use Rattle.wire_message.specs.Saved.{LeadToSaved}
+use Rattle.iim_object.specs.Format.Saved.{stated_numbers}
+use Rattle.wire_message.specs.Format.Layers.{text_so_far}
+use Rattle.wire_message.specs.Format.Reading as wire
+use Rattle.wire_message.specs.Format.SoFar.{LeadTo}
+use Rattle.wire_message.specs.Format.Saved.{LeadToSaved}
 use Rattle.wire_message.specs.declared.place.Place.{Place as Message}
 use Rattle.wire_message.specs.declared.saved.MessagePlace.{MessagePlace}
 use Rattle.iim_unpack.specs.Format.Admitted.{object_of}
 use Rattle.iim_unpack.specs.LowerLaws.{PlaceLaws}
-use Rattle.iim_unpack.specs.Format.Tokens.{place_at, ObjectLives, GoOn, GoOnAt}
-use Rattle.iim_unpack.specs.Format.Open.{object_so_far, section, AllGoOn}
-use Rattle.iim_unpack.specs.Parts.{Behind, Within, StandsFor}
+use Rattle.iim_unpack.specs.Format.Tokens.{place_at, ObjectLives, CanContinue, CanContinueAt}
+use Rattle.iim_unpack.specs.Format.Open.{object_so_far, section, AllCanContinue}
+use Rattle.iim_unpack.specs.Format.Parts.{AreAfter, Within, StandsFor}
 use Rattle.iim_unpack.specs.Format.Open.{IsOpen}
-use Rattle.iim_unpack.specs.Unpacking.{limits_in, are_some}
+use Rattle.iim_unpack.specs.Format.Unpacking.{limits_in, are_some}
 use Rattle.iim_unpack.specs.Format.Tickets.{Place, Phase, TagBegun, DataBegun, AllEnded, phase_of, heads_of, place_of}
 use Rattle.iim_unpack.specs.Possible.{UnpackersStandByPlace}
 use Rattle.iim_unpack.specs.declared.parts.Parts.{Parts}
 use Rattle.iim_unpack.proofs.Following.{alive_of}
 use Rattle.iim_unpack.proofs.Lasts.{SplitLast, split_last, present_last, last_sections}
-use Rattle.iim_unpack.proofs.SameRecords.{SameRecords, SameFields, SameNumbers, IsStated, same_records, same_more, same_numbers, none_other, stated_behind, stated_at}
+use Rattle.iim_unpack.proofs.SameRecords.{SameRecords, SameFields, SameNumbers, IsStated, same_records, same_more, same_numbers, none_other, stated_after_all, stated_at}
 
 -- ---- what is begun
 
@@ -88,7 +89,7 @@ same_data h k xs ys rec less few e =
     let left : h.count - length xs ≡ k.count - length ys = cc e in
     record { head = λ i. record { rec = rec i; set = set i; count = count i }; many = omega (arith, count, left, less, few); given = cc e }
 
-pub same_begun : (p q : List ℕ) (ds es : List Dataset) (c d : Begun) → Reads p ds c → Reads q es d → section ds c ≡ section es d → phase_of ds c ≡ phase_of es d → HeldAlike ds c d → SameBegun c d
+pub same_begun : (p q : List ℕ) (ds es : List Dataset) (c d : Begun) → Reads count_octets p ds c → Reads count_octets q es d → section ds c ≡ section es d → phase_of ds c ≡ phase_of es d → HeldAlike ds c d → SameBegun c d
 same_begun p q ds es (InTag x) (InTag y) r s sec e held = same_tag (nat_eq (present_record ds) 9) (nat_eq (present_record es) 9) x y (ap (λ n. nat_eq n 9) sec) e held
 same_begun p q ds es (InTag x) (InData k ys) r s sec e held = no_data (nat_eq (present_record ds) 9) x k.set k.count (k.count - length ys) (if k.rec == 8 then [] else ys) e
 same_begun p q ds es (InData h xs) (InTag y) r s sec e held = no_data (nat_eq (present_record es) 9) y h.set h.count (h.count - length xs) (if h.rec == 8 then [] else xs) (sym e)
@@ -96,22 +97,22 @@ same_begun p q ds es (InData h xs) (InData k ys) r s sec e held = same_data h k 
 
 -- ---- the records
 
-same_tells : (o : Order) (ds es : List Dataset) → orders.Tells o ds → present_record ds ≡ present_record es → SameRecords ds es → orders.Tells o es
+same_tells : (o : Order) (ds es : List Dataset) → orders.IsOrderOf o ds → present_record ds ≡ present_record es → SameRecords ds es → orders.IsOrderOf o es
 same_tells o ds es t is s =
     record { places = t.places; present = t.present ∙ is; seen = λ n. t.seen n ∙ (s.seen (present_record ds) n ∙ ap (λ (r : ℕ). occurs n (of_record r es)) is) }
 
 last_same : (ds es : List Dataset) (d : Dataset) → present_record (ds ++ d ∷ []) ≡ present_record (es ++ d ∷ [])
 last_same ds es d = present_last 0 ds d ∙ sym (present_last 0 es d)
 
-checked_as : (check : Option RecordPlace) (ds es : List Dataset) → HasChecked check ds → IsAlive es → present_record ds ≡ present_record es → SameRecords ds es → HasChecked check es
+checked_as : (check : Option RecordPlace) (ds es : List Dataset) → HasChecked check ds → SectionsLive es → present_record ds ≡ present_record es → SameRecords ds es → HasChecked check es
 checked_as check ds es at alive present same =
     record { order = at.order; begun = at.begun; at = at.at; none = at.none; alive = alive; tells = same_tells at.order ds es at.tells present same }
 
 -- the record layer lives with a value that lived after datasets of the same records
-pub value_as : ValuesDieWithTheirFault → (ds es : List Dataset) (d : Dataset) → Octets d.octets → IsAlive (ds ++ d ∷ []) → IsAliveAt es (head_of d) → IsAlive (es ++ d ∷ [])
+pub value_as : ValuesDieWithTheirFault → (ds es : List Dataset) (d : Dataset) → Octets d.octets → SectionsLive (ds ++ d ∷ []) → SectionsLiveAt es (head_of d) → SectionsLive (es ++ d ∷ [])
 value_as law ds es d octets alive at = (law es d at octets).0 ((law ds d (d, refl, alive) octets).1 alive)
 
-taken_as : ValuesDieWithTheirFault → (check : Option RecordPlace) (ds es : List Dataset) (h : Head) → HasTaken check ds h → IsAliveAt es h → SameRecords ds es → HasTaken check es h
+taken_as : ValuesDieWithTheirFault → (check : Option RecordPlace) (ds es : List Dataset) (h : Head) → HasTaken check ds h → SectionsLiveAt es h → SameRecords ds es → HasTaken check es h
 taken_as law check ds es h at alive same = record {
   checking = λ value.
       let was = at.checking value in record {
@@ -125,11 +126,11 @@ taken_as law check ds es h at alive same = record {
       };
   subfile = λ eight d is octets.
       let was = at.subfile eight d is octets in
-      checked_as check (ds ++ d ∷ []) (es ++ d ∷ []) was (value_as law ds es d octets was.alive (subst (IsAliveAt es) (sym is) alive)) (last_same ds es d) (same_more ds es d d refl same);
+      checked_as check (ds ++ d ∷ []) (es ++ d ∷ []) was (value_as law ds es d octets was.alive (subst (SectionsLiveAt es) (sym is) alive)) (last_same ds es d) (same_more ds es d d refl same);
 }
 
-pub fields_behind : (fields : records.FieldsPlace) (ds es : List Dataset) → records.StandsBehind fields ds → IsAlive es → present_record ds ≡ present_record es → kept ds ≡ kept es → SameRecords ds es → records.StandsBehind fields es
-fields_behind fields ds es at alive present keeps same = record {
+pub fields_after : (fields : records.FieldsPlace) (ds es : List Dataset) → records.StandsAfter fields ds → SectionsLive es → present_record ds ≡ present_record es → kept ds ≡ kept es → SameRecords ds es → records.StandsAfter fields es
+fields_after fields ds es at alive present keeps same = record {
   between = at.between;
   checked = checked_as fields.check ds es at.checked alive present same;
   alive = alive;
@@ -138,7 +139,7 @@ fields_behind fields ds es at alive present keeps same = record {
   taken_are = at.taken_are;
 }
 
-pub fields_in : ValuesDieWithTheirFault → (fields : records.FieldsPlace) (ds es : List Dataset) (h : Head) (taken : List ℕ) → records.StandsIn fields ds h taken → IsAliveAt es h → kept ds ≡ kept es → SameRecords ds es
+pub fields_in : ValuesDieWithTheirFault → (fields : records.FieldsPlace) (ds es : List Dataset) (h : Head) (taken : List ℕ) → records.StandsIn fields ds h taken → SectionsLiveAt es h → kept ds ≡ kept es → SameRecords ds es
     → records.StandsIn fields es h taken
 fields_in law fields ds es h taken at alive keeps same = record {
   inside = at.inside;
@@ -198,8 +199,8 @@ pub record SameWhole (ds es : List Dataset) : Type 0 where
   pub fields : SameFields ds es
   pub octets : length (object_of ds) ≡ length (object_of es)
 
-object_behind_as : (ds es : List Dataset) → SameWhole ds es → SameObject (place_behind ds) (place_behind es)
-object_behind_as ds es same = record {
+object_lives_after_as : (ds es : List Dataset) → SameWhole ds es → SameObject (place_after_datasets ds) (place_after_datasets es)
+object_lives_after_as ds es same = record {
   numbers = same_numbers _ _ same.fields.numbers;
   heads = count_of (of_record 8 ds) ∙ same.fields.heads ∙ sym (count_of (of_record 8 es));
   octets = total_of (of_record 8 ds) ∙ same.octets ∙ sym (total_of (of_record 8 es));
@@ -215,12 +216,12 @@ more_object p q count same = record {
 object_at_as : (ds es : List Dataset) (h : Head) → SameWhole ds es → SameObject (place_at ds h) (place_at es h)
 object_at_as ds es h same = by (nat_eq h.rec 8) (nat_eq h.rec 9)
   where
-    before : SameObject (place_behind ds) (place_behind es)
-    before = object_behind_as ds es same
+    before : SameObject (place_after_datasets ds) (place_after_datasets es)
+    before = object_lives_after_as ds es same
 
-    by : (b c : Bool) → SameObject (if b then objects.place_after (place_behind ds) (SubfileBegun h.count) else if c then place_ended ds else place_behind ds)
-        (if b then objects.place_after (place_behind es) (SubfileBegun h.count) else if c then place_ended es else place_behind es)
-    by true c = more_object (place_behind ds) (place_behind es) h.count before
+    by : (b c : Bool) → SameObject (if b then objects.place_after (place_after_datasets ds) (SubfileBegun h.count) else if c then place_ended ds else place_after_datasets ds)
+        (if b then objects.place_after (place_after_datasets es) (SubfileBegun h.count) else if c then place_ended es else place_after_datasets es)
+    by true c = more_object (place_after_datasets ds) (place_after_datasets es) h.count before
     by false true = record { numbers = before.numbers; heads = before.heads; octets = before.octets }
     by false false = before
 
@@ -246,22 +247,22 @@ same_message laws o r t v m n is (at, leads, saves) (other, goes, keeps) =
 
 -- ---- the parts
 
-behind_as : PlaceLaws → (limits : Limits) (parts : Parts) (ds es : List Dataset) → Behind parts ds → GoOn limits es → present_record ds ≡ present_record es → SameWhole ds es → SameMessage (object_of ds) (object_of es)
-    → Behind parts es
-behind_as laws limits parts ds es at goes present same m =
+after_as : PlaceLaws → (limits : Limits) (parts : Parts) (ds es : List Dataset) → AreAfter parts ds → CanContinue limits es → present_record ds ≡ present_record es → SameWhole ds es → SameMessage (object_of ds) (object_of es)
+    → AreAfter parts es
+after_as laws limits parts ds es at goes present same m =
     let recs = same_records laws.answer.follow laws.answer.numbers ds es at.fields.alive goes.records at.few goes.within.subfiles same.fields in record {
-      fields = fields_behind parts.fields ds es at.fields goes.records present same.fields.fields recs;
-      object = object_as parts.object (place_behind ds) (place_behind es) at.object (object_behind_as ds es same)
-          (stated_behind laws.answer.follow.objects es goes.records goes.within.subfiles) goes.object;
+      fields = fields_after parts.fields ds es at.fields goes.records present same.fields.fields recs;
+      object = object_as parts.object (place_after_datasets ds) (place_after_datasets es) at.object (object_lives_after_as ds es same)
+          (stated_after_all laws.answer.follow.objects es goes.records goes.within.subfiles) goes.object;
       few = goes.within.subfiles;
       message = message_as laws parts.message (object_of ds) (object_of es) m.text m.other m.at at.message m.here m.there;
       ended = λ nine. at.ended (present ∙ nine);
     }
 
-pub less_alive : (ds : List Dataset) (h : Head) → IsAliveAt ds h → IsAlive ds
+pub less_alive : (ds : List Dataset) (h : Head) → SectionsLiveAt ds h → SectionsLive ds
 less_alive ds h (d, is, alive) = ((d ∷ []) ++ alive.0, subst AreSections (append_assoc ds (d ∷ []) alive.0) alive.1)
 
-within_as : PlaceLaws → (limits : Limits) (parts : Parts) (ds es : List Dataset) (h : Head) (xs ys : List ℕ) → Within parts ds h xs → GoOnAt limits es h → Octets ys
+within_as : PlaceLaws → (limits : Limits) (parts : Parts) (ds es : List Dataset) (h : Head) (xs ys : List ℕ) → Within parts ds h xs → CanContinueAt limits es h → Octets ys
     → (if h.rec == 8 then [] else xs) ≡ (if h.rec == 8 then [] else ys) → SameWhole ds es → SameMessage (object_so_far ds (InData h xs)) (object_so_far es (InData h ys)) → Within parts es h ys
 within_as laws limits parts ds es h xs ys at goes octets given same m =
     let recs = same_records laws.answer.follow laws.answer.numbers ds es (less_alive ds h at.fields.alive) (less_alive es h goes.records) at.few goes.within.subfiles same.fields in record {
@@ -277,14 +278,14 @@ within_as laws limits parts ds es h xs ys at goes octets given same m =
 
 -- ---- whether an octet has come
 
-pub none_present : (es : List Dataset) → IsAlive es → present_record es ≡ 0 → es ≡ []
+pub none_present : (es : List Dataset) → SectionsLive es → present_record es ≡ 0 → es ≡ []
 none_present es alive zero = by (split_last es)
   where
     by : SplitLast es → es ≡ []
     by (inl none) = none
     by (inr (front, l, is)) =
         let rec : l.rec ≡ 0 = sym (present_last 0 front l) ∙ sym (ap present_record is) ∙ zero in
-        let none : of_record 0 (front ++ l ∷ []) ≡ [] = none_other 0 (refl, (refl, (refl, (refl, (refl, tt))))) (front ++ l ∷ []) (subst IsAlive is alive) in
+        let none : of_record 0 (front ++ l ∷ []) ≡ [] = none_other 0 (refl, (refl, (refl, (refl, (refl, tt))))) (front ++ l ∷ []) (subst SectionsLive is alive) in
         let few = ap length (sym (filter-append (λ (x : Dataset). nat_eq x.rec 0) front (l ∷ [])) ∙ none) in
         let one : length (of_record 0 (l ∷ [])) ≡ 1 = ap (λ (r : ℕ). length (cond (nat_eq r 0) (l ∷ []) [])) rec in
         absurd (omega (arith, few, one, length-append (of_record 0 front) (of_record 0 (l ∷ []))))
@@ -294,7 +295,7 @@ has_begun [] (InTag x) = are_some x
 has_begun [] (InData h xs) = true
 has_begun (d ∷ ds) c = true
 
-pub some_read : (p : List ℕ) (ds : List Dataset) (c : Begun) → Reads p ds c → are_some p ≡ has_begun ds c
+pub some_read : (p : List ℕ) (ds : List Dataset) (c : Begun) → Reads count_octets p ds c → are_some p ≡ has_begun ds c
 some_read p [] (InTag x) r = ap are_some (r.parts ∙ ap (λ (l : List ℕ). l ++ r.rest) r.is_front ∙ r.is_rest.0)
 some_read p [] (InData h xs) r =
     ap are_some (r.parts ∙ ap (λ (l : List ℕ). l ++ r.rest) r.is_front ∙ r.is_rest.4 ∙ ap (λ (l : List ℕ). l ++ xs) r.is_rest.1.parts)
@@ -302,7 +303,7 @@ some_read p (d ∷ ds) c r =
     let (first, rest, spelled, later, parts) = r.is_front in
     ap are_some (r.parts ∙ ap (λ (l : List ℕ). l ++ r.rest) (parts ∙ ap (λ (l : List ℕ). l ++ rest) (spelled.parts ∙ ap (λ (l : List ℕ). l ++ d.octets) spelled.is_tag.parts)))
 
-same_some : (ds es : List Dataset) (x y : List ℕ) → IsAlive ds → IsAlive es → present_record ds ≡ present_record es → x ≡ y → has_begun ds (InTag x) ≡ has_begun es (InTag y)
+same_some : (ds es : List Dataset) (x y : List ℕ) → SectionsLive ds → SectionsLive es → present_record ds ≡ present_record es → x ≡ y → has_begun ds (InTag x) ≡ has_begun es (InTag y)
 same_some [] [] x y a b present is = ap are_some is
 same_some [] (e ∷ es) x y a b present is = absurd (let bad : e ∷ es ≡ [] = none_present (e ∷ es) b (sym present) in cc)
 same_some (d ∷ ds) [] x y a b present is = absurd (let bad : d ∷ ds ≡ [] = none_present (d ∷ ds) a present in cc)
@@ -331,7 +332,7 @@ pub count_as : (x y one : ℕ) → x + one ≡ y + one → x ≡ y
 count_as x y one e = omega (arith, e)
 
 data_by : PlaceLaws → (limits : Limits) (parts : Parts) (ds es : List Dataset) (h : Head) (xs ys : List ℕ) → length xs ≡ length ys → nat_eq (present_record ds) 9 ≡ nat_eq (present_record es) 9 → Octets ys
-    → Within parts ds h xs → (if h.rec == 8 then [] else xs) ≡ (if h.rec == 8 then [] else ys) → SameAll ds es (InData h xs) (InData h ys) → AllGoOn limits es (InData h ys) → Within parts es h ys
+    → Within parts ds h xs → (if h.rec == 8 then [] else xs) ≡ (if h.rec == 8 then [] else ys) → SameAll ds es (InData h xs) (InData h ys) → AllCanContinue limits es (InData h ys) → Within parts es h ys
 data_by laws limits parts ds es h xs ys many ended octets at given all goes =
     within_as laws limits parts ds es h xs ys at goes.sizes octets given
     (record {
@@ -340,18 +341,18 @@ data_by laws limits parts ds es h xs ys many ended octets at given all goes =
     }) all.message
 
 data_as : PlaceLaws → (limits : Limits) (parts : Parts) (ds es : List Dataset) (h k : Head) (xs ys : List ℕ) → SameData h xs k ys → nat_eq (present_record ds) 9 ≡ nat_eq (present_record es) 9 → Octets ys
-    → Within parts ds h xs → SameAll ds es (InData h xs) (InData k ys) → AllGoOn limits es (InData k ys) → Within parts es k ys
+    → Within parts ds h xs → SameAll ds es (InData h xs) (InData k ys) → AllCanContinue limits es (InData k ys) → Within parts es k ys
 data_as laws limits parts ds es h k xs ys same ended octets at all goes =
-    subst (λ (g : Head). (if h.rec == 8 then [] else xs) ≡ (if g.rec == 8 then [] else ys) → SameAll ds es (InData h xs) (InData g ys) → AllGoOn limits es (InData g ys) → Within parts es g ys) same.head
+    subst (λ (g : Head). (if h.rec == 8 then [] else xs) ≡ (if g.rec == 8 then [] else ys) → SameAll ds es (InData h xs) (InData g ys) → AllCanContinue limits es (InData g ys) → Within parts es g ys) same.head
     (λ given all goes. data_by laws limits parts ds es h xs ys same.many ended octets at given all goes) same.given all goes
 
-pub octets_of : (q : List ℕ) (es : List Dataset) (h : Head) (ys : List ℕ) → Reads q es (InData h ys) → Octets ys
+pub octets_of : (q : List ℕ) (es : List Dataset) (h : Head) (ys : List ℕ) → Reads count_octets q es (InData h ys) → Octets ys
 octets_of q es h ys r = r.is_rest.3
 
-parts_as : PlaceLaws → (limits : Limits) (parts : Parts) (q : List ℕ) (ds es : List Dataset) (c d : Begun) → SameBegun c d → nat_eq (present_record ds) 9 ≡ nat_eq (present_record es) 9 → Reads q es d
-    → StandsFor parts ds c → SameAll ds es c d → AllGoOn limits es d → StandsFor parts es d
+parts_as : PlaceLaws → (limits : Limits) (parts : Parts) (q : List ℕ) (ds es : List Dataset) (c d : Begun) → SameBegun c d → nat_eq (present_record ds) 9 ≡ nat_eq (present_record es) 9 → Reads count_octets q es d
+    → StandsFor parts ds c → SameAll ds es c d → AllCanContinue limits es d → StandsFor parts es d
 parts_as laws limits parts q ds es (InTag x) (InTag y) same ended reads at all goes =
-    behind_as laws limits parts ds es at goes.sizes all.section
+    after_as laws limits parts ds es at goes.sizes all.section
     (record { fields = record { ended = ended; fields = all.fields; numbers = all.numbers; heads = all.heads }; octets = all.taken }) all.message
 parts_as laws limits parts q ds es (InTag x) (InData k ys) same ended reads at all goes = absurd same
 parts_as laws limits parts q ds es (InData h xs) (InTag y) same ended reads at all goes = absurd same
@@ -369,7 +370,7 @@ keeps_as (Inside g left) (InData h xs) (InData i ys) same (is, many) =
     (is ∙ same.head, omega (arith, many, count, long))
 
 told_by : (parts : Parts) (ds es : List Dataset) (b c : Begun) → ds ≡ es → begun_data b ≡ begun_data c → StandsFor parts ds b → StandsFor parts es c
-told_by parts ds es (InTag x) (InTag y) e same at = subst (Behind parts) e at
+told_by parts ds es (InTag x) (InTag y) e same at = subst (AreAfter parts) e at
 told_by parts ds es (InTag x) (InData h t) e same at = absurd (let bad : None ≡ Some (h, t) = same in cc)
 told_by parts ds es (InData h t) (InTag x) e same at = absurd (let bad : Some (h, t) ≡ None = same in cc)
 told_by parts ds es (InData h t) (InData k v) e same at =
@@ -381,14 +382,14 @@ told_by parts ds es (InData h t) (InData k v) e same at =
 
 -- what octets read is open
 pub record Opened (limits : Limits) (ds : List Dataset) (c : Begun) : Type 0 where
-  pub goes : AllGoOn limits ds c
+  pub goes : AllCanContinue limits ds c
   pub ended : nat_eq (present_record ds) 9 ≡ false
 
-pub opened : PlaceLaws → (limits : Limits) (p : List ℕ) (ds : List Dataset) (c : Begun) → Reads p ds c → IsOpen limits p → Opened limits ds c
+pub opened : PlaceLaws → (limits : Limits) (p : List ℕ) (ds : List Dataset) (c : Begun) → Reads count_octets p ds c → IsOpen limits p → Opened limits ds c
 opened laws limits p ds c r is =
     let same = laws.answer.way p (handed_on is.whole is.begun) (handed_on ds c) is.begun c (record { whole = is.whole; reads = is.reads; handed = refl }) (record { whole = ds; reads = r; handed = refl }) in
     let told = (laws.answer.tell is.whole ds is.begun c same.0).0 in
-    let goes : AllGoOn limits ds c = subst (AllGoOn limits ds) same.1 (subst (λ (es : List Dataset). AllGoOn limits es is.begun) told is.goes_on) in
+    let goes : AllCanContinue limits ds c = subst (AllCanContinue limits ds) same.1 (subst (λ (es : List Dataset). AllCanContinue limits es is.begun) told is.leads_on) in
     record {
       goes = goes;
       ended = elim (eqb_tells (present_record ds) 9) [
@@ -403,7 +404,7 @@ held_open ds (InTag x) (InData k ys) none = tt
 held_open ds (InData h xs) (InTag y) none = tt
 held_open ds (InData h xs) (InData k ys) none = tt
 
-has_as : (ds es : List Dataset) (c d : Begun) → SameBegun c d → IsAlive ds → IsAlive es → section ds c ≡ section es d → has_begun ds c ≡ has_begun es d
+has_as : (ds es : List Dataset) (c d : Begun) → SameBegun c d → SectionsLive ds → SectionsLive es → section ds c ≡ section es d → has_begun ds c ≡ has_begun es d
 has_as ds es (InTag x) (InTag y) same a b sec = same_some ds es x y a b sec same
 has_as ds es (InTag x) (InData k ys) same a b sec = absurd same
 has_as ds es (InData h xs) (InTag y) same a b sec = absurd same

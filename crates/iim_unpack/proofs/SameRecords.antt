@@ -5,20 +5,21 @@ use Rattle.std.proofs.lemmas.Bool.{eqb-true}
 use Rattle.std.proofs.lemmas.Bool.Decides.{eqb_tells}
 use Rattle.std.proofs.lemmas.List.Elements.{filter-append}
 use Rattle.std.proofs.lemmas.List.Folds.{list_any-append}
-use Rattle.iim_dataset.specs.Octets.{Octets, number}
-use Rattle.iim_dataset.specs.Datasets.{Dataset, head_of}
+use Rattle.iim_dataset.specs.Format.Octets.{Octets, number}
+use Rattle.iim_dataset.specs.Format.Datasets.{Dataset, head_of, of_record}
 use Rattle.iim_dataset.specs.declared.head.Head.{Head}
-use Rattle.iim_tables.specs.Rows.{table, row_of, Meets}
-use Rattle.iim_fields.specs.Records.{AreSections, AreRecords, IsGoodDataset, records, occurs}
-use Rattle.iim_fields.specs.Alive.{IsAlive, IsAliveAt}
-use Rattle.iim_fields.specs.Faults.{present_record, of_record, kept, is_kept}
-use Rattle.iim_object.specs.Plans.{max_subfiles}
-use Rattle.iim_object.specs.Sizes.{Stated, InRow, AreStated, number_at}
-use Rattle.iim_object.specs.Records.{numbers_of}
-use Rattle.iim_object.specs.Objects.{ObjectToken, NumberRead, SubfileBegun, ObjectEnded, Confirmed}
-use Rattle.iim_object.specs.Places.{Place, NotEnded, Ended, HasBoth, MayFollow, place_after, head_token}
-use Rattle.iim_object.specs.Behind.{place_behind, place_ended, RecordsAreByNumber}
-use Rattle.iim_object.specs.Saved.{stated_numbers}
+use Rattle.iim_tables.specs.Format.Rows.{table, row_of, Meets}
+use Rattle.iim_fields.specs.Format.Records.{AreSections, AreRecords, records}
+use Rattle.iim_tables.specs.Format.Records.{IsGoodDataset, occurs}
+use Rattle.iim_fields.specs.Format.Alive.{SectionsLive, SectionsLiveAt}
+use Rattle.iim_fields.specs.Format.Faults.{present_record, kept, is_kept}
+use Rattle.iim_object.specs.Format.Plans.{max_subfiles}
+use Rattle.iim_object.specs.Format.Sizes.{Stated, InRow, AreStated, number_at}
+use Rattle.iim_object.specs.Format.Records.{numbers_of}
+use Rattle.iim_object.specs.Format.Objects.{ObjectToken, NumberRead, SubfileBegun, ObjectEnded, Confirmed}
+use Rattle.iim_object.specs.Format.Places.{Place, NotEnded, Ended, HasBoth, MayFollow, place_after, head_token}
+use Rattle.iim_object.specs.Format.Numbers.{place_after_datasets, place_ended, RecordsAreByNumber}
+use Rattle.iim_object.specs.Format.Saved.{stated_numbers}
 use Rattle.iim_unpack.specs.ByLayers.{one_of_some}
 use Rattle.iim_unpack.specs.Format.Tokens.{place_at}
 use Rattle.iim_unpack.specs.LowerLaws.{ObjectLaws, FollowLaws}
@@ -87,43 +88,43 @@ few_front xs d ys few eight =
     let one : length (of_record 8 (d ∷ ys)) ≡ 1 + length (of_record 8 ys) = ap (λ (r : ℕ). length (cond (nat_eq r 8) (d ∷ of_record 8 ys) (of_record 8 ys))) eight ∙ omega arith in
     omega (arith, few, parts, both, one)
 
-stated_step : ObjectLaws → (xs : List Dataset) (d : Dataset) → IsAlive (xs ++ d ∷ []) → (d.rec ≡ 8 → length (of_record 8 xs) < max_subfiles) → IsStated (place_behind xs) → IsStated (place_behind (xs ++ d ∷ []))
+stated_step : ObjectLaws → (xs : List Dataset) (d : Dataset) → SectionsLive (xs ++ d ∷ []) → (d.rec ≡ 8 → length (of_record 8 xs) < max_subfiles) → IsStated (place_after_datasets xs) → IsStated (place_after_datasets (xs ++ d ∷ []))
 stated_step laws xs d alive few is = elim (is_one xs d alive) [
   | inl less ↦ subst IsStated (sym (laws.others xs d less)) is
-  | inr (inl seven) ↦ (let leads = laws.numbers xs d (records_alive (xs ++ d ∷ []) alive) seven in subst IsStated leads.1 (stated_after (place_behind xs) (NumberRead d.set (number d.octets)) leads.0 is))
-  | inr (inr (inl eight)) ↦ (let leads = laws.subfiles xs d (records_alive (xs ++ d ∷ []) alive) eight (few eight) in subst IsStated leads.1 (stated_after (place_behind xs) (SubfileBegun (length d.octets)) leads.0 is))
+  | inr (inl seven) ↦ (let leads = laws.numbers xs d (records_alive (xs ++ d ∷ []) alive) seven in subst IsStated leads.1 (stated_after (place_after_datasets xs) (NumberRead d.set (number d.octets)) leads.0 is))
+  | inr (inr (inl eight)) ↦ (let leads = laws.subfiles xs d (records_alive (xs ++ d ∷ []) alive) eight (few eight) in subst IsStated leads.1 (stated_after (place_after_datasets xs) (SubfileBegun (length d.octets)) leads.0 is))
   | inr (inr (inr nine)) ↦
       (let leads = laws.ends xs d (records_alive (xs ++ d ∷ []) alive) nine in
-      let ended = subst IsStated leads.0.1 (stated_after (place_behind xs) ObjectEnded leads.0.0 is) in
+      let ended = subst IsStated leads.0.1 (stated_after (place_after_datasets xs) ObjectEnded leads.0.0 is) in
       subst IsStated leads.1.1 (stated_after (place_ended xs) (Confirmed (number d.octets)) leads.1.0 ended))
 ]
 
-front_alive : (xs : List Dataset) (d : Dataset) (ys : List Dataset) → IsAlive (xs ++ d ∷ ys) → IsAlive (xs ++ d ∷ [])
+front_alive : (xs : List Dataset) (d : Dataset) (ys : List Dataset) → SectionsLive (xs ++ d ∷ ys) → SectionsLive (xs ++ d ∷ [])
 front_alive xs d ys alive =
     (ys ++ alive.0, subst AreSections (append_assoc xs (d ∷ ys) alive.0 ∙ sym (append_assoc xs (d ∷ []) (ys ++ alive.0))) alive.1)
 
-stated_on : ObjectLaws → (xs ys : List Dataset) → IsAlive (xs ++ ys) → length (of_record 8 (xs ++ ys)) ≤ max_subfiles → IsStated (place_behind xs) → IsStated (place_behind (xs ++ ys))
-stated_on laws xs [] alive few is = subst (λ (zs : List Dataset). IsStated (place_behind zs)) (sym (append-nil xs)) is
+stated_on : ObjectLaws → (xs ys : List Dataset) → SectionsLive (xs ++ ys) → length (of_record 8 (xs ++ ys)) ≤ max_subfiles → IsStated (place_after_datasets xs) → IsStated (place_after_datasets (xs ++ ys))
+stated_on laws xs [] alive few is = subst (λ (zs : List Dataset). IsStated (place_after_datasets zs)) (sym (append-nil xs)) is
 stated_on laws xs (d ∷ ys) alive few is =
     let parts = append_assoc xs (d ∷ []) ys in
-    subst (λ (zs : List Dataset). IsStated (place_behind zs)) parts
-    (stated_on laws (xs ++ d ∷ []) ys (subst IsAlive (sym parts) alive) (subst (λ (zs : List Dataset). length (of_record 8 zs) ≤ max_subfiles) (sym parts) few)
+    subst (λ (zs : List Dataset). IsStated (place_after_datasets zs)) parts
+    (stated_on laws (xs ++ d ∷ []) ys (subst SectionsLive (sym parts) alive) (subst (λ (zs : List Dataset). length (of_record 8 zs) ≤ max_subfiles) (sym parts) few)
     (stated_step laws xs d (front_alive xs d ys alive) (few_front xs d ys few) is))
 
-pub stated_behind : ObjectLaws → (ds : List Dataset) → IsAlive ds → length (of_record 8 ds) ≤ max_subfiles → IsStated (place_behind ds)
-stated_behind laws ds alive few = stated_on laws [] ds alive few (record { stated = record { each = tt; once = tt }; subfiles = λ e. refl; duties = λ some. absurd (omega (arith, some)) })
+pub stated_after_all : ObjectLaws → (ds : List Dataset) → SectionsLive ds → length (of_record 8 ds) ≤ max_subfiles → IsStated (place_after_datasets ds)
+stated_after_all laws ds alive few = stated_on laws [] ds alive few (record { stated = record { each = tt; once = tt }; subfiles = λ e. refl; duties = λ some. absurd (omega (arith, some)) })
 
-pub stated_at : ObjectLaws → (ds : List Dataset) (h : Head) → IsAliveAt ds h → length (of_record 8 ds) ≤ max_subfiles → (h.rec ≡ 8 → length (of_record 8 ds) < max_subfiles) → IsStated (place_at ds h)
+pub stated_at : ObjectLaws → (ds : List Dataset) (h : Head) → SectionsLiveAt ds h → length (of_record 8 ds) ≤ max_subfiles → (h.rec ≡ 8 → length (of_record 8 ds) < max_subfiles) → IsStated (place_at ds h)
 stated_at laws ds h at few room =
     let (d, is, alive) = at in
     let rec : d.rec ≡ h.rec = ap (λ (k : Head). k.rec) is in
-    let less : IsAlive ds = ((d ∷ []) ++ alive.0, subst AreSections (append_assoc ds (d ∷ []) alive.0) alive.1) in
-    let before = stated_behind laws ds less few in
+    let less : SectionsLive ds = ((d ∷ []) ++ alive.0, subst AreSections (append_assoc ds (d ∷ []) alive.0) alive.1) in
+    let before = stated_after_all laws ds less few in
     elim (is_one ds d alive) [
       | inl low ↦ subst IsStated (sym (at_other ds h (omega (arith, low, rec)))) before
       | inr (inl seven) ↦ subst IsStated (sym (at_number ds h (sym rec ∙ seven))) before
-      | inr (inr (inl eight)) ↦ (let leads = subfile_leads laws ds h at (sym rec ∙ eight) (room (sym rec ∙ eight)) in subst IsStated leads.1 (stated_after (place_behind ds) (head_token h.rec h.count) leads.0 before))
-      | inr (inr (inr nine)) ↦ (let leads = end_leads laws ds h at (sym rec ∙ nine) in subst IsStated leads.1 (stated_after (place_behind ds) (head_token h.rec h.count) leads.0 before))
+      | inr (inr (inl eight)) ↦ (let leads = subfile_leads laws ds h at (sym rec ∙ eight) (room (sym rec ∙ eight)) in subst IsStated leads.1 (stated_after (place_after_datasets ds) (head_token h.rec h.count) leads.0 before))
+      | inr (inr (inr nine)) ↦ (let leads = end_leads laws ds h at (sym rec ∙ nine) in subst IsStated leads.1 (stated_after (place_after_datasets ds) (head_token h.rec h.count) leads.0 before))
     ]
 
 -- a number occurs where it is stated
@@ -196,14 +197,14 @@ AreTens ds = AllByRecursion (λ d. d.set ≡ 10) ds
 abbrev HasTen : ℕ → Type 0
 HasTen r = (n : ℕ) → nat_eq 10 n ≡ false → row_of r n ≡ None
 
-tens_of : (r : ℕ) → HasTen r → (ds : List Dataset) → AllByRecursion (λ d. (d.rec ≡ r) × Octets d.octets × Meets r d.set d.octets) ds → AreTens ds
+tens_of : (r : ℕ) → HasTen r → (ds : List Dataset) → AllByRecursion (λ d. (d.rec ≡ r) × IsGoodDataset d) ds → AreTens ds
 tens_of r none [] all = tt
 tens_of r none (d ∷ ds) all = (ten, tens_of r none ds all.1)
   where
     ten : d.set ≡ 10
     ten = elim (eqb_tells 10 d.set) [
       | inl is ↦ sym is.1
-      | inr other ↦ absurd (no_row r d.set d.octets (none d.set other.0) all.0.2)
+      | inr other ↦ absurd (no_row r d.set d.octets (none d.set other.0) (subst (λ (k : ℕ). Meets k d.set d.octets) all.0.0 all.0.1.meets))
     ]
 
 all_front : (P : Dataset → Type 0) (xs ys : List Dataset) → AllByRecursion P (xs ++ ys) → AllByRecursion P xs
@@ -214,8 +215,8 @@ tens_front : (r : ℕ) (xs ys zs : List Dataset) → of_record r (xs ++ ys) ≡ 
 tens_front r xs ys zs is tens =
     all_front (λ d. d.set ≡ 10) (of_record r xs) (of_record r ys) (subst AreTens (sym is ∙ filter-append (λ (x : Dataset). nat_eq x.rec r) xs ys) tens)
 
-pub tens_behind : RecordsAreByNumber → (ds : List Dataset) → IsAlive ds → AreTens (of_record 8 ds) × AreTens (of_record 9 ds)
-tens_behind numbers ds alive =
+pub tens_after : RecordsAreByNumber → (ds : List Dataset) → SectionsLive ds → AreTens (of_record 8 ds) × AreTens (of_record 9 ds)
+tens_after numbers ds alive =
     let r = records_alive ds alive in
     let is = numbers (ds ++ r.0) r.1 in (
       tens_front 8 ds r.0 r.1.r8 is.eights (tens_of 8 (λ n e. (no_other n e).0) r.1.r8 r.1.object.each),
@@ -247,7 +248,7 @@ no_first : (xs ys : List Dataset) → xs ++ ys ≡ [] → xs ≡ []
 no_first [] ys e = refl
 no_first (x ∷ xs) ys e = absurd cc
 
-none_nine : FollowLaws → (xs ys : List Dataset) → IsAlive (xs ++ ys) → (AreSections (xs ++ ys) → ⊥) → of_record 9 ys ≡ []
+none_nine : FollowLaws → (xs ys : List Dataset) → SectionsLive (xs ++ ys) → (AreSections (xs ++ ys) → ⊥) → of_record 9 ys ≡ []
 none_nine laws xs [] alive open' = refl
 none_nine laws xs (d ∷ ys) alive open' = elim (eqb_tells d.rec 9) [
   | inl nine ↦
@@ -258,7 +259,7 @@ none_nine laws xs (d ∷ ys) alive open' = elim (eqb_tells d.rec 9) [
   | inr apart ↦
       (let parts = append_assoc xs (d ∷ []) ys in
       ap (λ (b : Bool). cond b (d ∷ of_record 9 ys) (of_record 9 ys)) apart.0
-      ∙ none_nine laws (xs ++ d ∷ []) ys (subst IsAlive (sym parts) alive) (λ s. open' (subst AreSections parts s)))
+      ∙ none_nine laws (xs ++ d ∷ []) ys (subst SectionsLive (sym parts) alive) (λ s. open' (subst AreSections parts s)))
 ]
 
 length_one : (b : Bool) (d : Dataset) → length (cond b (d ∷ []) []) ≡ cond b 1 0
@@ -268,10 +269,10 @@ length_one false d = refl
 abbrev pub CountsNines : List Dataset → Type 0
 CountsNines ds = length (of_record 9 ds) ≡ cond (nat_eq (present_record ds) 9) 1 0
 
-pub nines : FollowLaws → (ds : List Dataset) → IsAlive ds → CountsNines ds
+pub nines : FollowLaws → (ds : List Dataset) → SectionsLive ds → CountsNines ds
 nines laws ds alive = by (split_last ds)
   where
-    at_last : (front : List Dataset) (d : Dataset) → IsAlive (front ++ d ∷ []) → CountsNines (front ++ d ∷ [])
+    at_last : (front : List Dataset) (d : Dataset) → SectionsLive (front ++ d ∷ []) → CountsNines (front ++ d ∷ [])
     at_last front d alive =
         let parts = append_assoc front (d ∷ []) alive.0 in
         let more : AreSections (front ++ d ∷ alive.0) = subst AreSections parts alive.1 in
@@ -281,7 +282,7 @@ nines laws ds alive = by (split_last ds)
 
     by : SplitLast ds → CountsNines ds
     by (inl none) = subst CountsNines (sym none) refl
-    by (inr (front, d, is)) = subst CountsNines (sym is) (at_last front d (subst IsAlive is alive))
+    by (inr (front, d, is)) = subst CountsNines (sym is) (at_last front d (subst SectionsLive is alive))
 
 -- ---- there are no other records
 
@@ -297,7 +298,7 @@ none_of r (k ∷ rs) ds (run, rest, parts, good, later) apart =
     ap (of_record r) parts ∙ filter-append (λ (x : Dataset). nat_eq x.rec r) run rest
     ∙ ap (λ (xs : List Dataset). xs ++ of_record r rest) (none_in r k apart.0 run good.each) ∙ none_of r rs rest later apart.1
 
-pub none_other : (r : ℕ) → AllByRecursion (λ k. nat_eq k r ≡ false) records → (ds : List Dataset) → IsAlive ds → of_record r ds ≡ []
+pub none_other : (r : ℕ) → AllByRecursion (λ k. nat_eq k r ≡ false) records → (ds : List Dataset) → SectionsLive ds → of_record r ds ≡ []
 none_other r apart ds alive =
     no_first (of_record r ds) (of_record r alive.0) (sym (filter-append (λ (x : Dataset). nat_eq x.rec r) ds alive.0) ∙ none_of r records (ds ++ alive.0) alive.1 apart)
 
@@ -324,7 +325,7 @@ same_kept : (ds es : List Dataset) (r : ℕ) → is_kept r ≡ true → kept ds 
 same_kept ds es r is same n =
     ap (occurs n) (sym (of_kept r is ds)) ∙ ap (λ (xs : List Dataset). occurs n (of_record r xs)) same ∙ ap (occurs n) (of_kept r is es)
 
-pub same_shape : FollowLaws → RecordsAreByNumber → (ds es : List Dataset) → IsAlive ds → IsAlive es → length (of_record 8 ds) ≤ max_subfiles → length (of_record 8 es) ≤ max_subfiles → SameShape ds es
+pub same_shape : FollowLaws → RecordsAreByNumber → (ds es : List Dataset) → SectionsLive ds → SectionsLive es → length (of_record 8 ds) ≤ max_subfiles → length (of_record 8 es) ≤ max_subfiles → SameShape ds es
     → SameRecords ds es
 same_shape laws numbers ds es a b few less same = record { seen = seen }
   where
@@ -338,15 +339,15 @@ same_shape laws numbers ds es a b few less same = record { seen = seen }
     seven n =
         occurs_stated n (of_record 7 ds)
         ∙ ap is_some (same_stated n (numbers_of (of_record 7 ds)) (numbers_of (of_record 7 es)) (same_numbers _ _ same.numbers)
-        (stated_behind laws.objects ds a few).stated.each (stated_behind laws.objects es b less).stated.each)
+        (stated_after_all laws.objects ds a few).stated.each (stated_after_all laws.objects es b less).stated.each)
         ∙ sym (occurs_stated n (of_record 7 es))
 
     eight : SameIn ds es 8
-    eight n = tens_seen n (of_record 8 ds) (of_record 8 es) (tens_behind numbers ds a).0 (tens_behind numbers es b).0 same.some
+    eight n = tens_seen n (of_record 8 ds) (of_record 8 es) (tens_after numbers ds a).0 (tens_after numbers es b).0 same.some
 
     nine : SameIn ds es 9
     nine n =
-        tens_seen n (of_record 9 ds) (of_record 9 es) (tens_behind numbers ds a).1 (tens_behind numbers es b).1
+        tens_seen n (of_record 9 ds) (of_record 9 es) (tens_after numbers ds a).1 (tens_after numbers es b).1
         (ap one_of_some (nines laws ds a ∙ ap (λ (b : Bool). cond b 1 0) same.ended ∙ sym (nines laws es b)))
 
     other : (r : ℕ) → AllByRecursion (λ k. nat_eq k r ≡ false) records → SameIn ds es r
@@ -370,7 +371,7 @@ same_shape laws numbers ds es a b few less same = record { seen = seen }
       ]
     ]
 
-pub same_records : FollowLaws → RecordsAreByNumber → (ds es : List Dataset) → IsAlive ds → IsAlive es → length (of_record 8 ds) ≤ max_subfiles → length (of_record 8 es) ≤ max_subfiles → SameFields ds es
+pub same_records : FollowLaws → RecordsAreByNumber → (ds es : List Dataset) → SectionsLive ds → SectionsLive es → length (of_record 8 ds) ≤ max_subfiles → length (of_record 8 es) ≤ max_subfiles → SameFields ds es
     → SameRecords ds es
 same_records laws numbers ds es a b few less same =
     same_shape laws numbers ds es a b few less (record { ended = same.ended; fields = same.fields; numbers = same.numbers; some = ap one_of_some same.heads })

@@ -1,11 +1,11 @@
 -- What a ticket is restored to stands where the saved unpacker stood; and octets have a place.
 use Rattle.std.proofs.Common.{◌≡◌, ℕ, ◌<◌, ◌^◌, List, [], refl, sym, subst, ◌∙◌, inl, inr, arith, append-nil}
-use Rattle.iim_dataset.specs.Datasets.{Dataset}
-use Rattle.iim_dataset.specs.Splits.{Begun, InTag, InData}
-use Rattle.iim_fields.specs.Standing.{IsWithin}
+use Rattle.iim_dataset.specs.Format.Datasets.{Dataset}
+use Rattle.iim_dataset.specs.Format.Splits.{Begun, InTag, InData}
+use Rattle.iim_fields.specs.Format.Standing.{IsWithin}
 use Rattle.iim_fields.specs.declared.limits.Limits.{Limits}
-use Rattle.wire_message.specs.Saved.{saved}
-use Rattle.wire_message.specs.SoFar.{LeadTo}
+use Rattle.wire_message.specs.Format.Saved.{saved}
+use Rattle.wire_message.specs.Format.SoFar.{LeadTo}
 use Rattle.wire_message.specs.declared.place.Place.{Place as Message}
 use Rattle.iim_unpack.specs.Format.Admitted.{Value}
 use Rattle.iim_unpack.specs.Format.Continuing.{OctetsHaveOnePlace, RestoredStandAsSaved}
@@ -15,9 +15,9 @@ use Rattle.iim_unpack.specs.Format.Open.{object_so_far}
 use Rattle.iim_unpack.specs.Format.Possible.{AreOpenOrWhole, Possible, TicketsTellOnePlace, widest}
 use Rattle.iim_unpack.specs.Format.Streams.{IsEnvelopeWithin}
 use Rattle.iim_unpack.specs.Format.Tickets.{Place, IsPlaceOf, place_of, ticket_of}
-use Rattle.iim_unpack.specs.Format.Tokens.{MayGoOn}
+use Rattle.iim_unpack.specs.Format.Tokens.{MayContinue}
 use Rattle.iim_unpack.specs.Format.Open.{IsOpen}
-use Rattle.iim_unpack.specs.Unpacking.{limits_in}
+use Rattle.iim_unpack.specs.Format.Unpacking.{limits_in}
 use Rattle.iim_unpack.proofs.Answering.{Lives, lives_envelope, lives_open, one_reading}
 use Rattle.iim_unpack.proofs.Following.{message_of, story_of}
 use Rattle.iim_unpack.proofs.Tickets.{same_place}
@@ -34,8 +34,8 @@ one_place laws start begins limits octets comes =
     let ds = lives.whole in
     let b = lives.begun in
     let o = object_so_far ds b in
-    let message = message_of limits ds b lives.goes_on o [] (sym (append-nil o)) in
-    let story = story_of limits ds b lives.goes_on o [] (sym (append-nil o)) in
+    let message = message_of limits ds b lives.leads_on o [] (sym (append-nil o)) in
+    let story = story_of limits ds b lives.leads_on o [] (sym (append-nil o)) in
     let (text, at, led) = laws.on [] o [] start begins message story in
     let place = place_of ds b (saved at) in (
       place,
@@ -53,7 +53,7 @@ within_wider limits octets fields less few within = record { octets_in = let low
 are_wider : (limits : Limits) (ds : List Dataset) → limits.octets < 2 ^ 32 → limits.fields < 2 ^ 32 → AreWithin limits ds → AreWithin widest ds
 are_wider limits ds less few within = record { kept = within_wider limits _ _ less few within.kept; subfiles = within.subfiles }
 
-goes_wider : (limits : Limits) (ds : List Dataset) (b : Begun) → limits.octets < 2 ^ 32 → limits.fields < 2 ^ 32 → MayGoOn limits ds b → MayGoOn widest ds b
+goes_wider : (limits : Limits) (ds : List Dataset) (b : Begun) → limits.octets < 2 ^ 32 → limits.fields < 2 ^ 32 → MayContinue limits ds b → MayContinue widest ds b
 goes_wider limits ds (InTag held) less few goes = record { records = goes.records; within = are_wider limits ds less few goes.within; object = goes.object }
 goes_wider limits ds (InData h taken) less few goes = record {
   records = goes.records;
@@ -67,7 +67,7 @@ open_wider limits octets less few opens = record {
   whole = opens.whole;
   begun = opens.begun;
   reads = opens.reads;
-  goes_on = record { sizes = goes_wider limits opens.whole opens.begun less few opens.goes_on.sizes; message = opens.goes_on.message; story = opens.goes_on.story };
+  leads_on = record { sizes = goes_wider limits opens.whole opens.begun less few opens.leads_on.sizes; message = opens.leads_on.message; story = opens.leads_on.story };
   unfinished = opens.unfinished;
 }
 

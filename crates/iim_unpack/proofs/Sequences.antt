@@ -2,12 +2,12 @@
 use Rattle.std.proofs.Common.{◌≡◌, ℕ, ◌-◌, ◌<◌, List, [], ◌∷◌, ◌++◌, length, map, flat_map, replicate, refl, ap, sym, ◌∙◌, arith, append-nil, append_assoc, length-append}
 use Rattle.std.proofs.lemmas.List.{length-replicate}
 use Rattle.std.proofs.lemmas.List.Concat.{flat_map-append}
-use Rattle.iim_dataset.specs.Datasets.{Dataset, head_of}
-use Rattle.iim_dataset.specs.Splits.{Begun, InTag, InData}
-use Rattle.iim_dataset.specs.Events.{Event, HeadRead, DataOctet, DatasetEnd, events_of, handed_on}
-use Rattle.iim_dataset.specs.Places.{HandsOn}
+use Rattle.iim_dataset.specs.Format.Datasets.{Dataset, head_of, count_octets}
+use Rattle.iim_dataset.specs.Format.Splits.{Begun, InTag, InData}
+use Rattle.iim_dataset.specs.Format.Events.{DatasetEvent, HeadRead, DataOctet, DatasetEnd, events_of, handed_on}
+use Rattle.iim_dataset.specs.Format.Places.{HandsOn}
 use Rattle.iim_dataset.specs.declared.head.Head.{Head}
-use Rattle.iim_fields.specs.Values.{data_of}
+use Rattle.iim_fields.specs.Format.Values.{data_of}
 use Rattle.iim_unpack.specs.Sequence.{AreInOrder}
 
 -- ---- the events of a begun dataset
@@ -20,14 +20,14 @@ map-octets (x ∷ xs) ys = ap (λ es. DataOctet x ∷ es) (map-octets xs ys)
 pub data_more : (ds : List Dataset) (h : Head) (taken run : List ℕ) → handed_on ds (InData h taken) ++ map DataOctet run ≡ handed_on ds (InData h (taken ++ run))
 data_more ds h taken run =
     append_assoc (flat_map events_of ds) (HeadRead h ∷ map DataOctet taken) (map DataOctet run)
-    ∙ ap (λ (es : List Event). flat_map events_of ds ++ (HeadRead h ∷ es)) (sym (map-octets taken run))
+    ∙ ap (λ (es : List DatasetEvent). flat_map events_of ds ++ (HeadRead h ∷ es)) (sym (map-octets taken run))
 
 -- its end
 pub end_told : (ds : List Dataset) (h : Head) (taken : List ℕ) → length taken ≡ h.count → handed_on ds (InData h taken) ++ DatasetEnd ∷ [] ≡ handed_on (ds ++ data_of h taken ∷ []) (InTag [])
 end_told ds h taken whole =
     append_assoc (flat_map events_of ds) (HeadRead h ∷ map DataOctet taken) (DatasetEnd ∷ [])
     ∙ ap (λ (k : Head). flat_map events_of ds ++ (HeadRead k ∷ (map DataOctet taken ++ DatasetEnd ∷ []))) same
-    ∙ ap (λ (es : List Event). flat_map events_of ds ++ es) (sym (append-nil (events_of d)))
+    ∙ ap (λ (es : List DatasetEvent). flat_map events_of ds ++ es) (sym (append-nil (events_of d)))
     ∙ sym (flat_map-append events_of ds (d ∷ []))
     ∙ sym (append-nil (flat_map events_of (ds ++ d ∷ [])))
   where
@@ -48,23 +48,23 @@ filled : (ds : List Dataset) (h : Head) (taken : List ℕ) → length taken < h.
 filled ds h taken less =
     let all : length (taken ++ lacking h taken) ≡ h.count = omega (arith, less, length-append taken (lacking h taken), length-replicate {A = ℕ} (h.count - length taken) 0) in
     sym (append_assoc (handed_on ds (InData h taken)) (map DataOctet (lacking h taken)) (DatasetEnd ∷ []))
-    ∙ ap (λ (es : List Event). es ++ DatasetEnd ∷ []) (data_more ds h taken (lacking h taken))
+    ∙ ap (λ (es : List DatasetEvent). es ++ DatasetEnd ∷ []) (data_more ds h taken (lacking h taken))
     ∙ end_told ds h (taken ++ lacking h taken) all
     ∙ append-nil (flat_map events_of (ds ++ data_of h (taken ++ lacking h taken) ∷ []))
 
-pub handed_in_order : (octets : List ℕ) (events : List Event) (begun : Begun) → HandsOn octets events begun → AreInOrder events
+pub handed_in_order : (octets : List ℕ) (events : List DatasetEvent) (begun : Begun) → HandsOn count_octets octets events begun → AreInOrder events
 handed_in_order octets events (InTag held) hands =
     record { later = []; whole = hands.whole; are = append-nil events ∙ hands.handed ∙ append-nil (flat_map events_of hands.whole) }
 handed_in_order octets events (InData h taken) hands = record {
   later = map DataOctet (lacking h taken) ++ DatasetEnd ∷ [];
   whole = hands.whole ++ data_of h (taken ++ lacking h taken) ∷ [];
-  are = ap (λ (es : List Event). es ++ (map DataOctet (lacking h taken) ++ DatasetEnd ∷ [])) hands.handed ∙ filled hands.whole h taken hands.reads.is_rest.2;
+  are = ap (λ (es : List DatasetEvent). es ++ (map DataOctet (lacking h taken) ++ DatasetEnd ∷ [])) hands.handed ∙ filled hands.whole h taken hands.reads.is_rest.2;
 }
 
 -- ---- where a dataset ends
 
 -- the data before an end, and what follows it, are determined
-same_data : (xs ys : List ℕ) (r s : List Event) → map DataOctet xs ++ DatasetEnd ∷ r ≡ map DataOctet ys ++ DatasetEnd ∷ s → (xs ≡ ys) × (r ≡ s)
+same_data : (xs ys : List ℕ) (r s : List DatasetEvent) → map DataOctet xs ++ DatasetEnd ∷ r ≡ map DataOctet ys ++ DatasetEnd ∷ s → (xs ≡ ys) × (r ≡ s)
 same_data [] [] r s e = (refl, cc)
 same_data [] (y ∷ ys) r s e = absurd cc
 same_data (x ∷ xs) [] r s e = absurd cc
@@ -75,10 +75,10 @@ same_data (x ∷ xs) (y ∷ ys) r s e =
     (cc, more.1)
 
 -- the first dataset, and what follows it
-first_then : (d : Dataset) (es : List Event) → events_of d ++ es ≡ HeadRead (head_of d) ∷ (map DataOctet d.octets ++ DatasetEnd ∷ es)
+first_then : (d : Dataset) (es : List DatasetEvent) → events_of d ++ es ≡ HeadRead (head_of d) ∷ (map DataOctet d.octets ++ DatasetEnd ∷ es)
 first_then d es = ap (λ fs. HeadRead (head_of d) ∷ fs) (append_assoc (map DataOctet d.octets) (DatasetEnd ∷ []) es)
 
-ends_full : (ds : List Dataset) (h : Head) (taken : List ℕ) (later : List Event) (whole : List Dataset)
+ends_full : (ds : List Dataset) (h : Head) (taken : List ℕ) (later : List DatasetEvent) (whole : List Dataset)
     → flat_map events_of ds ++ (HeadRead h ∷ (map DataOctet taken ++ DatasetEnd ∷ later)) ≡ flat_map events_of whole → length taken ≡ h.count
 ends_full [] h taken later [] e = absurd cc
 ends_full [] h taken later (d ∷ whole) e =
@@ -89,17 +89,17 @@ ends_full [] h taken later (d ∷ whole) e =
 ends_full (x ∷ ds) h taken later [] e =
     let none : HeadRead (head_of x) ∷ ((map DataOctet x.octets ++ DatasetEnd ∷ []) ++ flat_map events_of ds) ++ (HeadRead h ∷ (map DataOctet taken ++ DatasetEnd ∷ later)) ≡ [] = e in absurd cc
 ends_full (x ∷ ds) h taken later (d ∷ whole) e =
-    let rest : List Event = flat_map events_of ds ++ (HeadRead h ∷ (map DataOctet taken ++ DatasetEnd ∷ later)) in
+    let rest : List DatasetEvent = flat_map events_of ds ++ (HeadRead h ∷ (map DataOctet taken ++ DatasetEnd ∷ later)) in
     let both : HeadRead (head_of x) ∷ (map DataOctet x.octets ++ DatasetEnd ∷ rest) ≡ HeadRead (head_of d) ∷ (map DataOctet d.octets ++ DatasetEnd ∷ flat_map events_of whole) =
     sym (first_then x rest) ∙ sym (append_assoc (events_of x) (flat_map events_of ds) (HeadRead h ∷ (map DataOctet taken ++ DatasetEnd ∷ later))) ∙ e ∙ first_then d (flat_map events_of whole) in
     let tails : map DataOctet x.octets ++ DatasetEnd ∷ rest ≡ map DataOctet d.octets ++ DatasetEnd ∷ flat_map events_of whole = cc in
     ends_full ds h taken later whole (same_data x.octets d.octets rest (flat_map events_of whole) tails).1
 
 -- where the end of a begun dataset comes in order, it has as many octets as its head counts
-pub all_came : (events : List Event) (ds : List Dataset) (h : Head) (taken : List ℕ) → events ≡ handed_on ds (InData h taken) → AreInOrder (events ++ DatasetEnd ∷ []) → length taken ≡ h.count
+pub all_came : (events : List DatasetEvent) (ds : List Dataset) (h : Head) (taken : List ℕ) → events ≡ handed_on ds (InData h taken) → AreInOrder (events ++ DatasetEnd ∷ []) → length taken ≡ h.count
 all_came events ds h taken told order =
     ends_full ds h taken order.later order.whole
     (sym (append_assoc (flat_map events_of ds) (HeadRead h ∷ map DataOctet taken) (DatasetEnd ∷ order.later))
-    ∙ ap (λ (es : List Event). es ++ DatasetEnd ∷ order.later) (sym told)
+    ∙ ap (λ (es : List DatasetEvent). es ++ DatasetEnd ∷ order.later) (sym told)
     ∙ sym (append_assoc events (DatasetEnd ∷ []) order.later)
     ∙ order.are)

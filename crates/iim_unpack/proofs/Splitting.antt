@@ -2,10 +2,12 @@
 use Rattle.std.proofs.Common.{◌≡◌, ℕ, ◌+◌, ◌-◌, ◌<◌, ◌≤◌, ◌^◌, ◌==◌, pred, Bool, true, false, List, [], ◌∷◌, ◌++◌, length, take, drop, Option, Some, None, refl, ap, sym, subst, ◌∙◌, arith, append_assoc, append-nil, length-append}
 use Rattle.std.proofs.lemmas.List.{take-append-drop, length-take}
 use Rattle.std.specs.List.{AllByRecursion, flat_map}
-use Rattle.iim_dataset.specs.Datasets.{Dataset}
+use Rattle.iim_dataset.specs.Format.Datasets.{Dataset}
 use Rattle.iim_unpack.specs.Format.Tickets.{Phase, TagBegun, DataBegun, AllEnded, ticket_name, four, phase_octets, field_octets, fields_octets, number_octets, text_octets}
-use Rattle.iim_unpack.specs.TicketFields.{IsField, HoldsFields}
-use Rattle.iim_unpack.specs.Begins.{BeginsWithNone, BeginsWithFewer, AreFields, AreNumbers, AreTexts, FieldsBefore, IsFour, IsNumber, IsShort}
+use Rattle.iim_unpack.specs.Format.Begins.{IsLongField}
+use Rattle.iim_unpack.specs.TicketFields.{HoldsFields}
+use Rattle.iim_unpack.specs.Begins.{BeginsWithNone, BeginsWithFewer, FieldsBefore, IsFour}
+use Rattle.iim_unpack.specs.Format.Begins.{AreFields, AreNumbers, AreTexts, IsSize, IsShort}
 use Rattle.iim_unpack.specs.FieldLaws.{first_same, rest_same, fronts, one_four, one_field, some_octets, same_fields}
 use Rattle.iim_unpack.specs.Format.TicketForm.{IsPhase, IsFaultOf, HasForm, Split, SplitsInto, TicketsHaveOneSplit, split_octets, came}
 use Rattle.iim_unpack.specs.TicketParts.{AreNoMessage, AreNoBody, body_octets, message_parts}
@@ -23,7 +25,7 @@ one_text x y a b e = fronts x y a b (first_same e) (rest_same e)
 pub one_short : HasOne IsShort text_octets
 one_short x y a b hx hy e = one_text x y a b e
 
-pub one_number : HasOne IsNumber number_octets
+pub one_number : HasOne IsSize number_octets
 one_number None None a b hx hy e = (refl, rest_same e)
 one_number None (Some n) a b hx hy e = absurd (let bad = first_same e in omega (arith, bad))
 one_number (Some m) None a b hx hy e = absurd (let bad = first_same e in omega (arith, bad))
@@ -77,16 +79,16 @@ fewer_after Is spelled one count x octets rest is parts fewer (y ∷ ys) more ea
 -- ---- a walk over datasets
 
 -- After a dataset the rest holds the others.
-pub rest_held : (octets rest : List ℕ) (d : Dataset) → HoldsFields octets → IsField d → octets ≡ field_octets d ++ rest → HoldsFields rest
+pub rest_held : (octets rest : List ℕ) (d : Dataset) → HoldsFields octets → IsLongField d → octets ≡ field_octets d ++ rest → HoldsFields rest
 rest_held octets rest d ([], (each, same)) h e = absurd (some_octets d rest (sym e ∙ same))
 rest_held octets rest d (x ∷ xs, (each, same)) h e = (xs, (each.1, sym (one_field x d (flat_map field_octets xs) rest each.0 h (sym same ∙ e)).1))
 
 -- What is held is the first dataset, and what the rest holds.
-pub first_held : (octets rest : List ℕ) (d : Dataset) (h : HoldsFields octets) (k : HoldsFields rest) → IsField d → octets ≡ field_octets d ++ rest → h.0 ≡ d ∷ k.0
+pub first_held : (octets rest : List ℕ) (d : Dataset) (h : HoldsFields octets) (k : HoldsFields rest) → IsLongField d → octets ≡ field_octets d ++ rest → h.0 ≡ d ∷ k.0
 first_held octets rest d h k hd e = same_fields h.0 (d ∷ k.0) h.1.0 (hd, k.1.0) (sym h.1.1 ∙ e ∙ ap (λ (xs : List ℕ). field_octets d ++ xs) k.1.1)
 
 -- Octets that begin with no dataset hold none.
-pub none_held : (octets : List ℕ) (h : HoldsFields octets) → BeginsWithNone IsField field_octets octets → h.0 ≡ []
+pub none_held : (octets : List ℕ) (h : HoldsFields octets) → BeginsWithNone IsLongField field_octets octets → h.0 ≡ []
 none_held octets ([], held) none = refl
 none_held octets (d ∷ ds, held) none = absurd (none d (flat_map field_octets ds) held.0.0 held.1)
 
@@ -96,12 +98,12 @@ flat_map-join : (xs ys : List Dataset) → flat_map field_octets (xs ++ ys) ≡ 
 flat_map-join [] ys = refl
 flat_map-join (x ∷ xs) ys = ap (λ (o : List ℕ). field_octets x ++ o) (flat_map-join xs ys) ∙ sym (append_assoc (field_octets x) (flat_map field_octets xs) (flat_map field_octets ys))
 
-all_join : (xs : List Dataset) (y : Dataset) → AllByRecursion IsField xs → IsField y → AllByRecursion IsField (xs ++ y ∷ [])
+all_join : (xs : List Dataset) (y : Dataset) → AllByRecursion IsLongField xs → IsLongField y → AllByRecursion IsLongField (xs ++ y ∷ [])
 all_join [] y h k = (k, tt)
 all_join (x ∷ xs) y h k = (h.0, all_join xs y h.1 k)
 
 -- One dataset more stands before the rest.
-pub one_more : (count : ℕ) (octets rest after : List ℕ) (d : Dataset) → FieldsBefore count octets rest → IsField d → rest ≡ field_octets d ++ after → FieldsBefore (count + 1) octets after
+pub one_more : (count : ℕ) (octets rest after : List ℕ) (d : Dataset) → FieldsBefore count octets rest → IsLongField d → rest ≡ field_octets d ++ after → FieldsBefore (count + 1) octets after
 one_more count octets rest after d before hd e = record {
   datasets = before.datasets ++ d ∷ [];
   each = all_join before.datasets d before.each hd;
@@ -111,19 +113,19 @@ one_more count octets rest after d before hd e = record {
       ∙ ap (λ (xs : List ℕ). xs ++ after) (sym (flat_map-join before.datasets (d ∷ []) ∙ ap (λ (xs : List ℕ). flat_map field_octets before.datasets ++ xs) (append-nil (field_octets d))));
 }
 
-one_field_of : HasOne IsField field_octets
+one_field_of : HasOne IsLongField field_octets
 one_field_of x y a b hx hy e = one_field x y a b hx hy e
 
 -- Where no dataset follows some, there are not more.
-pub no_more : (done count : ℕ) (octets rest : List ℕ) → FieldsBefore done octets rest → done < count → BeginsWithNone IsField field_octets rest
-    → BeginsWithFewer IsField field_octets count octets
+pub no_more : (done count : ℕ) (octets rest : List ℕ) → FieldsBefore done octets rest → done < count → BeginsWithNone IsLongField field_octets rest
+    → BeginsWithFewer IsLongField field_octets count octets
 no_more done count octets rest before fewer none ds more each many e =
     let same : flat_map field_octets before.datasets ++ rest ≡ flat_map field_octets ds ++ more = sym before.spelled ∙ e in
     let few = before.many in
-    let (left, parts, these, follow) = others IsField field_octets one_field_of before.datasets ds rest more before.each each (omega (arith, few, many, fewer)) same in
+    let (left, parts, these, follow) = others IsLongField field_octets one_field_of before.datasets ds rest more before.each each (omega (arith, few, many, fewer)) same in
     bad left parts these follow
   where
-    bad : (left : List Dataset) → ds ≡ before.datasets ++ left → AllByRecursion IsField left → rest ≡ flat_map field_octets left ++ more → ⊥
+    bad : (left : List Dataset) → ds ≡ before.datasets ++ left → AllByRecursion IsLongField left → rest ≡ flat_map field_octets left ++ more → ⊥
     bad [] parts these follow = let n = ap length (parts ∙ append-nil before.datasets) in let few = before.many in omega (arith, n, few, many, fewer)
     bad (x ∷ xs) parts these follow = none x (flat_map field_octets xs ++ more) these.0 (follow ∙ append_assoc (field_octets x) (flat_map field_octets xs) more)
 
@@ -144,7 +146,7 @@ cut_held count octets rest front back before is_front is_back = let (b, is, same
 
 -- These datasets are those that are held, and they stand there after their number.
 pub cut_told : (all : List ℕ) (count : ℕ) (octets rest front back : List ℕ) → count < 2 ^ 32 → all ≡ four count ++ octets → FieldsBefore count octets rest → front ≡ take (length octets - length rest) octets
-    → back ≡ drop (length octets - length rest) octets → (ds : List Dataset) → AllByRecursion IsField ds → front ≡ flat_map field_octets ds → (all ≡ fields_octets ds ++ back) × AreFields ds
+    → back ≡ drop (length octets - length rest) octets → (ds : List Dataset) → AllByRecursion IsLongField ds → front ≡ flat_map field_octets ds → (all ≡ fields_octets ds ++ back) × AreFields ds
 cut_told all count octets rest front back fits parts before is_front is_back ds each is =
     let (b, was, same) = cut_fields count octets rest front back before is_front is_back in
     let one = same_fields ds b.datasets each b.each (sym is ∙ was) in
@@ -161,10 +163,10 @@ one_fields x y a b hx hy e =
     let is : four (length x) ++ (flat_map field_octets x ++ a) ≡ four (length y) ++ (flat_map field_octets y ++ b) =
     sym (append_assoc (four (length x)) (flat_map field_octets x) a) ∙ e ∙ append_assoc (four (length y)) (flat_map field_octets y) b in
     let count = one_four (length x) (length y) _ _ hx.few hy.few is in
-    one_list IsField field_octets one_field_of x y a b hx.each hy.each count.0 count.1
+    one_list IsLongField field_octets one_field_of x y a b hx.each hy.each count.0 count.1
 
 one_numbers : HasOne AreNumbers (flat_map number_octets)
-one_numbers x y a b hx hy e = one_list IsNumber number_octets one_number x y a b hx.each hy.each (hx.four ∙ sym hy.four) e
+one_numbers x y a b hx hy e = one_list IsSize number_octets one_number x y a b hx.each hy.each (hx.four ∙ sym hy.four) e
 
 one_texts : HasOne AreTexts (flat_map text_octets)
 one_texts x y a b hx hy e = one_list IsShort text_octets one_short x y a b hx.each hy.each (hx.seven ∙ sym hy.seven) e
@@ -190,19 +192,19 @@ one_phase section AllEnded AllEnded a b hx hy e = (refl, rest_same e)
 pub texts_after : (count : ℕ) (x octets rest : List ℕ) → IsShort x → octets ≡ text_octets x ++ rest → BeginsWithFewer IsShort text_octets count rest → BeginsWithFewer IsShort text_octets (count + 1) octets
 texts_after = fewer_after IsShort text_octets one_short
 
-pub numbers_after : (count : ℕ) (x : Option ℕ) (octets rest : List ℕ) → IsNumber x → octets ≡ number_octets x ++ rest → BeginsWithFewer IsNumber number_octets count rest → BeginsWithFewer IsNumber number_octets (count + 1) octets
-numbers_after = fewer_after IsNumber number_octets one_number
+pub numbers_after : (count : ℕ) (x : Option ℕ) (octets rest : List ℕ) → IsSize x → octets ≡ number_octets x ++ rest → BeginsWithFewer IsSize number_octets count rest → BeginsWithFewer IsSize number_octets (count + 1) octets
+numbers_after = fewer_after IsSize number_octets one_number
 
 pub no_text : (count : ℕ) (octets : List ℕ) → BeginsWithNone IsShort text_octets octets → BeginsWithFewer IsShort text_octets (count + 1) octets
 no_text = no_first IsShort text_octets
 
-pub no_number : (count : ℕ) (octets : List ℕ) → BeginsWithNone IsNumber number_octets octets → BeginsWithFewer IsNumber number_octets (count + 1) octets
-no_number = no_first IsNumber number_octets
+pub no_number : (count : ℕ) (octets : List ℕ) → BeginsWithNone IsSize number_octets octets → BeginsWithFewer IsSize number_octets (count + 1) octets
+no_number = no_first IsSize number_octets
 
 pub no_texts : (octets : List ℕ) → BeginsWithFewer IsShort text_octets 7 octets → BeginsWithNone AreTexts (flat_map text_octets) octets
 no_texts octets fewer xs rest are e = fewer xs rest are.each are.seven e
 
-pub no_numbers : (octets : List ℕ) → BeginsWithFewer IsNumber number_octets 4 octets → BeginsWithNone AreNumbers (flat_map number_octets) octets
+pub no_numbers : (octets : List ℕ) → BeginsWithFewer IsSize number_octets 4 octets → BeginsWithNone AreNumbers (flat_map number_octets) octets
 no_numbers octets fewer xs rest are e = fewer xs rest are.each are.four e
 
 -- ---- what follows the name, part by part

@@ -1,34 +1,35 @@
 -- What takes whole datasets one after another: takes joined, and datasets that can continue.
 use Rattle.std.proofs.Common.{◌≡◌, ℕ, ◌<◌, ◌≤◌, ◌≢◌, Bool, true, false, Option, Result, Ok, Err, OnOk, IfOk, IfErr, is_ok, List, [], ◌∷◌, ◌++◌, refl, sym, subst, ◌∙◌, arith, append_assoc, append-nil}
 use Rattle.std.specs.List.{AllByRecursion}
-use Rattle.iim_dataset.specs.Datasets.{Dataset, head_of}
+use Rattle.iim_dataset.specs.Format.Datasets.{Dataset, head_of}
 use Rattle.iim_dataset.specs.declared.head.Head.{Head}
-use Rattle.iim_fields.specs.Checks.{TakesHead, HasChecked, HasTaken, IsChecking, IsValueFault}
-use Rattle.iim_fields.specs.Alive.{IsAlive, IsAliveAt}
-use Rattle.iim_fields.specs.Faults.{is_kept}
-use Rattle.iim_fields.specs.Records.{AreSections, IsGoodDataset}
-use Rattle.iim_fields.specs.Standing.{FieldsPlace, IsBetween, IsHeadFault, IsOf, StandsBehind, StandsIn, limits_of}
-use Rattle.iim_fields.specs.Values.{data_of, number_told}
+use Rattle.iim_fields.specs.Format.Checks.{TakesHead, HasChecked, HasTaken, IsChecking, IsValueFault}
+use Rattle.iim_fields.specs.Format.Alive.{SectionsLive, SectionsLiveAt}
+use Rattle.iim_fields.specs.Format.Faults.{is_kept}
+use Rattle.iim_fields.specs.Format.Records.{AreSections}
+use Rattle.iim_tables.specs.Format.Records.{IsGoodDataset}
+use Rattle.iim_fields.specs.Format.Standing.{FieldsPlace, IsBetween, IsHeadFault, IsOf, StandsAfter, StandsIn, limits_of}
+use Rattle.iim_fields.specs.Format.Values.{data_of, number_told}
 use Rattle.iim_fields.specs.declared.check.RecordPlace.{RecordPlace}
 use Rattle.iim_fields.specs.declared.fault.FieldFault.{FieldFault}
 use Rattle.iim_fields.specs.declared.limits.Limits.{Limits}
 use Rattle.iim_unpack.specs.Plain.{mode_dataset}
 use Rattle.iim_unpack.specs.Format.Possible.{widest}
-use Rattle.iim_unpack.specs.Taking.{GoOnWithin, TookAll}
+use Rattle.iim_unpack.specs.Taking.{CanContinueWithin, TookAll}
 use Rattle.iim_unpack.proofs.Limits.{kept_first, kept_octets_append, kept_length_append}
 use Rattle.iim_unpack.proofs.TicketLengths.{all_join, all_weaker}
 
 -- ---- datasets that can continue
 
-pub front_alive : (xs ys : List Dataset) → IsAlive (xs ++ ys) → IsAlive xs
+pub front_alive : (xs ys : List Dataset) → SectionsLive (xs ++ ys) → SectionsLive xs
 front_alive xs ys (more, are) = (ys ++ more, subst AreSections (append_assoc xs ys more) are)
 
 -- datasets can continue where they can with a head
-pub head_alive : (ds : List Dataset) (h : Head) → IsAliveAt ds h → IsAlive ds
+pub head_alive : (ds : List Dataset) (h : Head) → SectionsLiveAt ds h → SectionsLive ds
 head_alive ds h (d, is, alive) = front_alive ds (d ∷ []) alive
 
-pub front_goes_on : (limits : Limits) (xs ys : List Dataset) → GoOnWithin limits (xs ++ ys) → GoOnWithin limits xs
-front_goes_on limits xs ys goes =
+pub front_leads_on : (limits : Limits) (xs ys : List Dataset) → CanContinueWithin limits (xs ++ ys) → CanContinueWithin limits xs
+front_leads_on limits xs ys goes =
     let octets = kept_octets_append xs ys in
     let fields = kept_length_append xs ys in
     record { alive = front_alive xs ys goes.alive; within = record { octets_in = omega (arith, octets, goes.within.octets_in); fields_in = omega (arith, fields, goes.within.fields_in) } }
@@ -42,12 +43,12 @@ pub took_more : {T : Type 0} (ready : T → Type 0) (stands : T → List Dataset
     → TookAll ready stands limits a es b true → TookAll ready stands limits b fs c all → TookAll ready stands limits a (es ++ fs) c all
 took_more ready stands limits a b c es fs true h k = (k.0, k.1 ∙ h.1, λ ds s. subst (stands c) (append_assoc ds es fs) (k.2 (ds ++ es) (h.2 ds s)))
 took_more ready stands limits a b c es fs false h k = λ ds s goes.
-    k (ds ++ es) (h.2 ds s) (subst (λ (l : Limits). GoOnWithin l ((ds ++ es) ++ fs)) (sym h.1) (subst (GoOnWithin (limits a)) (sym (append_assoc ds es fs)) goes))
+    k (ds ++ es) (h.2 ds s) (subst (λ (l : Limits). CanContinueWithin l ((ds ++ es) ++ fs)) (sym h.1) (subst (CanContinueWithin (limits a)) (sym (append_assoc ds es fs)) goes))
 
 -- where some are not taken, they are not taken with others after them
 pub took_none : {T : Type 0} (ready : T → Type 0) (stands : T → List Dataset → Type 0) (limits : T → Limits) (a b c : T) (es fs : List Dataset)
     → TookAll ready stands limits a es b false → TookAll ready stands limits a (es ++ fs) c false
-took_none ready stands limits a b c es fs h = λ ds s goes. h ds s (front_goes_on (limits a) (ds ++ es) fs (subst (GoOnWithin (limits a)) (sym (append_assoc ds es fs)) goes))
+took_none ready stands limits a b c es fs h = λ ds s goes. h ds s (front_leads_on (limits a) (ds ++ es) fs (subst (CanContinueWithin (limits a)) (sym (append_assoc ds es fs)) goes))
 
 -- a take after another, and their value
 pub took_then : {T : Type 0} (ready : T → Type 0) (stands : T → List Dataset → Type 0) (limits : T → Limits) (a b c d : T) (es fs : List Dataset) (first last all : Bool)
@@ -84,7 +85,7 @@ good_at [] d more h = h.0
 good_at (x ∷ ds) d more h = good_at ds d more h.1
 
 -- a mode is an octet
-pub no_wide_mode : (limits : Limits) (ds : List Dataset) (n : ℕ) → 256 ≤ n → GoOnWithin limits (ds ++ mode_dataset n ∷ []) → ⊥
+pub no_wide_mode : (limits : Limits) (ds : List Dataset) (n : ℕ) → 256 ≤ n → CanContinueWithin limits (ds ++ mode_dataset n ∷ []) → ⊥
 no_wide_mode limits ds n wide goes =
     let good = good_at ds (mode_dataset n) goes.alive.0 (each_good ((ds ++ mode_dataset n ∷ []) ++ goes.alive.0) goes.alive.1) in
     let low : n < 256 = good.octets.0 in
@@ -103,7 +104,7 @@ value_took a b c d (Err e) taken other takes stands fault = λ ds s goes. (fault
 -- ---- a reader of records
 
 -- with a head that is refused no datasets can continue
-pub head_dead : (limits : Limits) (ds : List Dataset) (d : Dataset) (fault : FieldFault) → IsHeadFault limits ds (head_of d) fault → GoOnWithin limits (ds ++ d ∷ []) → ⊥
+pub head_dead : (limits : Limits) (ds : List Dataset) (d : Dataset) (fault : FieldFault) → IsHeadFault limits ds (head_of d) fault → CanContinueWithin limits (ds ++ d ∷ []) → ⊥
 head_dead limits ds d fault is goes =
     let octets = kept_octets_append ds (d ∷ []) in
     let fields = kept_length_append ds (d ∷ []) in
@@ -113,12 +114,12 @@ head_dead limits ds d fault is goes =
     record { octets_in = omega (arith, octets, first, goes.within.octets_in); fields_in = omega (arith, fields, first, goes.within.fields_in) })
 
 -- a dataset that was taken after its head and its data, or not
-pub closed_took : (a b c : FieldsPlace) (d : Dataset) (taken : List ℕ) (r : Result (Option ℕ) FieldFault) → ((ds : List Dataset) → StandsBehind a ds → StandsIn b ds (head_of d) taken) → IsOf (head_of d) taken d
+pub closed_took : (a b c : FieldsPlace) (d : Dataset) (taken : List ℕ) (r : Result (Option ℕ) FieldFault) → ((ds : List Dataset) → StandsAfter a ds → StandsIn b ds (head_of d) taken) → IsOf (head_of d) taken d
     → OnOk r (IsBetween c) → limits_of c ≡ limits_of a
-    → IfOk r (λ number. (ds : List Dataset) (h : Head) (xs : List ℕ) → StandsIn b ds h xs → (e : Dataset) → IsOf h xs e → StandsBehind c (ds ++ e ∷ []) × (number ≡ number_told e))
+    → IfOk r (λ number. (ds : List Dataset) (h : Head) (xs : List ℕ) → StandsIn b ds h xs → (e : Dataset) → IsOf h xs e → StandsAfter c (ds ++ e ∷ []) × (number ≡ number_told e))
     → IfErr r (λ fault. (ds : List Dataset) (h : Head) (xs : List ℕ) → StandsIn b ds h xs → IsValueFault ds (data_of h xs) fault)
-    → TookAll IsBetween StandsBehind limits_of a (d ∷ []) c (is_ok r)
+    → TookAll IsBetween StandsAfter limits_of a (d ∷ []) c (is_ok r)
 closed_took a b c d taken (Ok number) stands is between same closes fault = (between, same, λ ds s. (closes ds (head_of d) taken (stands ds s) d is).0)
 closed_took a b c d taken (Err e) stands is between same closes fault = λ ds s goes.
     let bad = fault ds (head_of d) taken (stands ds s) in
-    bad.dead (subst (λ (xs : List ℕ). IsAlive (ds ++ data_of (head_of d) xs ∷ [])) (is.given bad.value) goes.alive)
+    bad.dead (subst (λ (xs : List ℕ). SectionsLive (ds ++ data_of (head_of d) xs ∷ [])) (is.given bad.value) goes.alive)

@@ -3,24 +3,26 @@ use Rattle.std.proofs.Common.{◌≡◌, ℕ, ◌+◌, ◌*◌, ◌-◌, ◌<◌
 use Rattle.std.specs.List.{AllByRecursion, flat_map}
 use Rattle.std.proofs.lemmas.Bool.{and_parts, leb-true}
 use Rattle.std.proofs.lemmas.Bool.Decides.{eqb_tells}
-use Rattle.iim_dataset.specs.Datasets.{Dataset, SpellsTag, SpellsCount, count_octets}
-use Rattle.iim_dataset.specs.Splits.{Begun, InTag, InData, Reads}
+use Rattle.iim_dataset.specs.Format.Datasets.{Dataset, SpellsTag, SpellsCount, count_octets}
+use Rattle.iim_dataset.specs.Format.Splits.{Begun, InTag, InData, Reads}
 use Rattle.iim_dataset.specs.declared.head.Head.{Head}
-use Rattle.iim_tables.specs.Octets.{within}
-use Rattle.iim_tables.specs.Rows.{table, row_of, Meets}
-use Rattle.iim_fields.specs.Alive.{IsAliveAt}
-use Rattle.iim_fields.specs.Faults.{joined, kept, is_kept, present_record}
-use Rattle.iim_fields.specs.Records.{AreSections, IsGoodDataset}
-use Rattle.wire_message.specs.Saved.{saved, LeadToSaved}
-use Rattle.wire_message.specs.SoFar.{IsPlace}
+use Rattle.iim_dataset.specs.Format.Octets.{within}
+use Rattle.iim_tables.specs.Format.Rows.{table, row_of, Meets}
+use Rattle.iim_fields.specs.Format.Alive.{SectionsLiveAt}
+use Rattle.iim_fields.specs.Format.Faults.{joined, kept, is_kept, present_record}
+use Rattle.iim_fields.specs.Format.Records.{AreSections}
+use Rattle.iim_tables.specs.Format.Records.{IsGoodDataset}
+use Rattle.wire_message.specs.Format.Saved.{saved, LeadToSaved}
+use Rattle.wire_message.specs.Format.SoFar.{IsPlace}
 use Rattle.wire_message.specs.declared.place.Place.{Place as Message}
 use Rattle.wire_message.specs.declared.place.Place.TheVariants as at
 use Rattle.wire_message.specs.declared.saved.MessagePlace.{MessagePlace}
-use Rattle.iim_unpack.specs.Parts.{StandsFor}
+use Rattle.iim_unpack.specs.Format.Parts.{StandsFor}
 use Rattle.iim_unpack.specs.Format.Tickets.{TagBegun, DataBegun, AllEnded, Place, phase_of, place_of, four, phase_octets, field_octets, fields_octets, number_octets, text_octets, texts_octets, part_number, message_octets, ticket_name, ticket_of}
-use Rattle.iim_dataset.specs.Laws.{EventsTellTheDatasets}
+use Rattle.iim_dataset.specs.Format.Laws.{EventsTellTheDatasets}
 use Rattle.iim_unpack.specs.Tickets.{IsSpelled}
-use Rattle.iim_unpack.specs.Unpacking.{Unpacking, IsLed, Stood, limits_in}
+use Rattle.iim_unpack.specs.Format.Unpacking.{Unpacking, IsLed, limits_in}
+use Rattle.iim_unpack.specs.Unpacking.{Stood}
 use Rattle.iim_unpack.proofs.Tickets.{placed}
 use Rattle.iim_unpack.specs.declared.parts.Parts.{Parts}
 
@@ -138,7 +140,7 @@ count_length limit count (high ∷ low ∷ more) (inr h) = omega (arith, h.1, h.
 tag_length : (h : Head) (tag : List ℕ) → SpellsTag count_octets h tag → length tag ≤ 9
 tag_length h tag s = let is = ap length s.parts in let most = count_length count_octets h.count s.count s.is_count in omega (arith, is, most)
 
-pub held_length : (p : List ℕ) (ds : List Dataset) (held : List ℕ) → Reads p ds (InTag held) → length held ≤ 8
+pub held_length : (p : List ℕ) (ds : List Dataset) (held : List ℕ) → Reads count_octets p ds (InTag held) → length held ≤ 8
 held_length p ds held r =
     let (same, h, tag, spells, (rest, some, is)) = r.is_rest in
     let most = tag_length h tag spells in
@@ -208,7 +210,7 @@ all_ones ds (r1, from2, one, good1, (r2, from7, two, good2, (r7, from8, seven', 
     let a2 : AllByRecursion IsOne from2 = subst (AllByRecursion IsOne) (sym two) (all_join IsOne r2 from7 (all_weaker _ IsOne (of_first 2 refl) r2 good2.each) a7) in
     subst (AllByRecursion IsOne) (sym one) (all_join IsOne r1 from2 (all_weaker _ IsOne (of_first 1 refl) r1 good1.each) a2)
 
-is_one : (ds : List Dataset) (h : Head) → IsAliveAt ds h → (is_kept h.rec ≡ true) ⊎ ((h.rec ≡ 8) ⊎ (h.count ≤ 4))
+is_one : (ds : List Dataset) (h : Head) → SectionsLiveAt ds h → (is_kept h.rec ≡ true) ⊎ ((h.rec ≡ 8) ⊎ (h.count ≤ 4))
 is_one ds h (d, is, alive) =
     subst (λ (k : Head). (is_kept k.rec ≡ true) ⊎ ((k.rec ≡ 8) ⊎ (k.count ≤ 4))) is (all_at ds d alive.0 (all_ones ((ds ++ d ∷ []) ++ alive.0) alive.1))
 
@@ -242,7 +244,7 @@ none_taken : (rec : ℕ) (taken : List ℕ) → rec ≡ 8 → length (if nat_eq 
 none_taken rec taken is = ap (λ (r : ℕ). length (if nat_eq r 8 then [] else taken)) is
 
 -- with the kept datasets, what is begun is within the limits and some octets
-begun_length : (parts : Parts) (p : List ℕ) (ds : List Dataset) (b : Begun) → Reads p ds b → StandsFor parts ds b
+begun_length : (parts : Parts) (p : List ℕ) (ds : List Dataset) (b : Begun) → Reads count_octets p ds b → StandsFor parts ds b
     → length (phase_octets (phase_of ds b)) + (6 * length (kept ds) + length (joined (kept ds))) ≤ 14 + (parts.fields.limits.octets + 6 * parts.fields.limits.fields)
 begun_length parts p ds (InTag held) reads stands =
     let phase = tag_begun_length (nat_eq (present_record ds) 9) held (held_length p ds held reads) in

@@ -2,35 +2,36 @@
 use Rattle.std.proofs.Common.{◌≡◌, ℕ, ◌+◌, ◌-◌, ◌≤◌, nat_eq, Bool, true, false, if◌then◌else◌, List, [], ◌∷◌, ◌++◌, length, sum, Option, Some, None, refl, ap, sym, subst, ◌∙◌, inl, inr, ◌⊎◌, arith, append-nil, length-append}
 use Rattle.std.proofs.lemmas.List.Sums.{sum_by-cons}
 use Rattle.std.proofs.lemmas.List.{length-map}
-use Rattle.iim_dataset.specs.Datasets.{Dataset}
-use Rattle.iim_dataset.specs.Splits.{Begun, InTag, InData, Reads}
-use Rattle.iim_dataset.specs.Events.{handed_on, begun_data}
-use Rattle.iim_dataset.specs.Places.{IsKeptAs}
-use Rattle.iim_dataset.specs.Laws.{OctetsAreHandedOnOneWay, EventsTellTheDatasets}
+use Rattle.iim_dataset.specs.Format.Datasets.{Dataset, of_record, count_octets}
+use Rattle.iim_dataset.specs.Format.Splits.{Begun, InTag, InData, Reads}
+use Rattle.iim_dataset.specs.Format.Events.{handed_on, begun_data}
+use Rattle.iim_dataset.specs.Format.Places.{IsKeptAs}
+use Rattle.iim_dataset.specs.Format.Laws.{OctetsAreHandedOnOneWay, EventsTellTheDatasets}
 use Rattle.iim_dataset.specs.declared.head.Head.{Head}
 use Rattle.iim_dataset.specs.declared.place.DatasetPlace.{DatasetPlace}
 use Rattle.iim_dataset.specs.declared.place.DatasetPlace.TheVariants.{Tag, Inside}
-use Rattle.iim_fields.specs.Faults.{joined, kept, present_record}
-use Rattle.iim_object.specs.Objects.{SubfileBegun}
-use Rattle.iim_object.specs.Places as objects
-use Rattle.iim_object.specs.Records.{lengths_of, numbers_of}
-use Rattle.iim_object.specs.Behind.{of_record, place_behind, place_ended}
-use Rattle.iim_object.specs.Saved.{stated_numbers}
-use Rattle.wire_message.specs.Laws.{OctetsLeadToOnePlace}
-use Rattle.wire_message.specs.Reading as wire
-use Rattle.wire_message.specs.SoFar.{LeadTo}
-use Rattle.wire_message.specs.Saved.{saved, IsAt, LeadToSaved}
+use Rattle.iim_fields.specs.Format.Faults.{joined, kept, present_record}
+use Rattle.iim_object.specs.Format.Objects.{SubfileBegun}
+use Rattle.iim_object.specs.Format.Places as objects
+use Rattle.iim_object.specs.Format.Records.{lengths_of, numbers_of}
+use Rattle.iim_object.specs.Format.Numbers.{place_after_datasets, place_ended}
+use Rattle.iim_object.specs.Format.Saved.{stated_numbers}
+use Rattle.wire_message.specs.Format.Laws.{OctetsLeadToOnePlace}
+use Rattle.wire_message.specs.Format.Reading as wire
+use Rattle.wire_message.specs.Format.SoFar.{LeadTo}
+use Rattle.wire_message.specs.Format.Saved.{saved, IsAt, LeadToSaved}
 use Rattle.wire_message.specs.declared.place.Place.{Place as Message}
 use Rattle.wire_message.specs.declared.saved.MessagePlace.{MessagePlace}
 use Rattle.iim_unpack.specs.Format.Admitted.{object_of}
 use Rattle.iim_unpack.specs.Format.Tokens.{place_at}
 use Rattle.iim_unpack.specs.Format.Open.{object_so_far, section}
-use Rattle.iim_unpack.specs.Parts.{Behind, Within, StandsFor, has_ended}
-use Rattle.iim_unpack.specs.Unpacking.{Unpacking, IsLed, Stands, IsDoneWith, Stood, limits_in}
+use Rattle.iim_unpack.specs.Format.Parts.{AreAfter, Within, StandsFor, has_ended}
+use Rattle.iim_unpack.specs.Format.Unpacking.{Unpacking, IsLed, Stands, IsDoneWith, limits_in}
+use Rattle.iim_unpack.specs.Unpacking.{Stood}
 use Rattle.iim_unpack.specs.Format.Tickets.{TagBegun, DataBegun, AllEnded, phase_of, heads_of, place_of, ticket_of, IsTicketOf, OctetsHaveOneTicket}
 use Rattle.iim_unpack.specs.Tickets.{phase_in, IsSpelled}
 use Rattle.iim_unpack.specs.declared.parts.Parts.{Parts}
-use Rattle.iim_unpack.proofs.Ended.{ended_behind, unended_inside}
+use Rattle.iim_unpack.proofs.Ended.{ended_by_record, unended_inside}
 
 -- ---- lengths
 
@@ -55,7 +56,7 @@ sum_one x = sum_cons x [] ∙ (let none : sum [] ≡ 0 = refl in omega (arith, n
 
 -- the place at a head, by the tests of its record
 abbrev at_by : Bool → Bool → List Dataset → ℕ → objects.Place
-at_by b c ds count = if b then objects.place_after (place_behind ds) (SubfileBegun count) else if c then place_ended ds else place_behind ds
+at_by b c ds count = if b then objects.place_after (place_after_datasets ds) (SubfileBegun count) else if c then place_ended ds else place_after_datasets ds
 
 stated_by : (b c : Bool) (ds : List Dataset) (count : ℕ) → (at_by b c ds count).stated ≡ numbers_of (of_record 7 ds)
 stated_by true c ds count = refl
@@ -90,7 +91,7 @@ message_at reader octets text m (at, is, leads) (place, has, same) =
 -- ---- begun datasets that are told alike
 
 told_by : (parts : Parts) (ds es : List Dataset) (b c : Begun) → ds ≡ es → begun_data b ≡ begun_data c → StandsFor parts ds b → StandsFor parts es c
-told_by parts ds es (InTag x) (InTag y) e same at = subst (Behind parts) e at
+told_by parts ds es (InTag x) (InTag y) e same at = subst (AreAfter parts) e at
 told_by parts ds es (InTag x) (InData h t) e same at = absurd (let bad : None ≡ Some (h, t) = same in cc)
 told_by parts ds es (InData h t) (InTag x) e same at = absurd (let bad : Some (h, t) ≡ None = same in cc)
 told_by parts ds es (InData h t) (InData k v) e same at =
@@ -113,16 +114,16 @@ record Parted (place : DatasetPlace) (parts : Parts) (ticket : List ℕ) (s : Is
   pub text : List ℕ
   pub leads : LeadToSaved (object_so_far whole begun) text s.message
 
-parted_behind : (parts : Parts) (ticket : List ℕ) (ds : List Dataset) (held : List ℕ) (place : DatasetPlace) (s : IsSpelled place parts ticket) → IsKeptAs place (InTag held) → Behind parts ds
+parted_after : (parts : Parts) (ticket : List ℕ) (ds : List Dataset) (held : List ℕ) (place : DatasetPlace) (s : IsSpelled place parts ticket) → IsKeptAs place (InTag held) → AreAfter parts ds
     → Parted place parts ticket s ds (InTag held)
-parted_behind parts ticket ds held (Inside g left) s keeps at = absurd keeps
-parted_behind parts ticket ds held (Tag octets) s keeps at = record {
-  section = s.behind ds at.fields;
-  phase = ap (λ (b : Bool). if b then AllEnded else TagBegun octets.items) (ended_behind parts ds at.fields) ∙ ap (λ (xs : List ℕ). if nat_eq (present_record ds) 9 then AllEnded else TagBegun xs) keeps;
+parted_after parts ticket ds held (Inside g left) s keeps at = absurd keeps
+parted_after parts ticket ds held (Tag octets) s keeps at = record {
+  section = s.after ds at.fields;
+  phase = ap (λ (b : Bool). if b then AllEnded else TagBegun octets.items) (ended_by_record parts ds at.fields) ∙ ap (λ (xs : List ℕ). if nat_eq (present_record ds) 9 then AllEnded else TagBegun xs) keeps;
   fields = at.fields.kept_are;
-  numbers = s.numbers_are (place_behind ds) at.object;
-  taken = let is = s.taken_is (place_behind ds) at.object in let total = total_of (of_record 8 ds) in omega (arith, is, total);
-  heads = s.heads_are (place_behind ds) at.object ∙ count_of (of_record 8 ds);
+  numbers = s.numbers_are (place_after_datasets ds) at.object;
+  taken = let is = s.taken_is (place_after_datasets ds) at.object in let total = total_of (of_record 8 ds) in omega (arith, is, total);
+  heads = s.heads_are (place_after_datasets ds) at.object ∙ count_of (of_record 8 ds);
   text = _;
   leads = message_at parts.message (object_of ds) _ s.message at.message s.message_is;
 }
@@ -151,14 +152,14 @@ parted_within parts ticket ds h given (Inside g left) s (is, many) at =
 
 parted : (parts : Parts) (ticket : List ℕ) (whole : List Dataset) (begun : Begun) (place : DatasetPlace) (s : IsSpelled place parts ticket) → IsKeptAs place begun → StandsFor parts whole begun
     → Parted place parts ticket s whole begun
-parted parts ticket whole (InTag held) place s keeps at = parted_behind parts ticket whole held place s keeps at
+parted parts ticket whole (InTag held) place s keeps at = parted_after parts ticket whole held place s keeps at
 parted parts ticket whole (InData h given) place s keeps at = parted_within parts ticket whole h given place s keeps at
 
 -- The ticket is that of octets that led here.
 pub record Placed (u : Unpacking) (p ticket : List ℕ) : Type 0 where
   pub whole : List Dataset
   pub begun : Begun
-  pub reads : Reads p whole begun
+  pub reads : Reads count_octets p whole begun
   pub stands : StandsFor u.parts whole begun
   pub text : List ℕ
   pub message : MessagePlace

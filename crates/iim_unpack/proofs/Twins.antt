@@ -5,31 +5,32 @@ use Rattle.std.specs.Option.{option_or}
 use Rattle.std.proofs.lemmas.List.Elements.{filter-append}
 use Rattle.std.proofs.lemmas.List.Folds.{list_any-append}
 use Rattle.std.proofs.lemmas.Bool.{eqb-true}
-use Rattle.iim_dataset.specs.Datasets.{Dataset}
+use Rattle.iim_dataset.specs.Format.Datasets.{Dataset, of_record}
 use Rattle.iim_dataset.specs.declared.head.Head.{Head}
-use Rattle.iim_fields.specs.Alive.{IsAlive, IsAliveAt}
-use Rattle.iim_fields.specs.Faults.{is_kept, joined, kept, last_record, present_record}
-use Rattle.iim_fields.specs.Records.{AreSections, IsGoodRecord, occurs}
-use Rattle.iim_fields.specs.Standing.{IsWithin}
+use Rattle.iim_fields.specs.Format.Alive.{SectionsLive, SectionsLiveAt}
+use Rattle.iim_fields.specs.Format.Faults.{is_kept, joined, kept, last_record, present_record}
+use Rattle.iim_fields.specs.Format.Records.{AreSections}
+use Rattle.iim_tables.specs.Format.Records.{IsGoodRecord, occurs}
+use Rattle.iim_fields.specs.Format.Standing.{IsWithin}
 use Rattle.iim_fields.specs.declared.limits.Limits.{Limits}
-use Rattle.iim_object.specs.Behind.{of_record, ending_of, place_behind, place_ended}
-use Rattle.iim_object.specs.Objects.{SubfileBegun}
-use Rattle.iim_object.specs.Places as objects
-use Rattle.iim_object.specs.Plans.{max_subfiles}
-use Rattle.iim_object.specs.Records.{lengths_of, numbers_of}
-use Rattle.iim_object.specs.Saved.{IsPossible, stated_numbers}
-use Rattle.iim_object.specs.Sizes.{Stated, number_at}
+use Rattle.iim_object.specs.Format.Numbers.{ending_of, place_after_datasets, place_ended}
+use Rattle.iim_object.specs.Format.Objects.{SubfileBegun}
+use Rattle.iim_object.specs.Format.Places as objects
+use Rattle.iim_object.specs.Format.Plans.{max_subfiles}
+use Rattle.iim_object.specs.Format.Records.{lengths_of, numbers_of}
+use Rattle.iim_object.specs.Format.Saved.{IsPossible, stated_numbers}
+use Rattle.iim_object.specs.Format.Sizes.{Stated, number_at}
 use Rattle.iim_unpack.specs.Format.Framed.{AreWithin}
 use Rattle.iim_unpack.specs.LowerLaws.{ObjectLaws, OpenLaws, SizeLaws}
-use Rattle.iim_unpack.specs.Format.Tokens.{place_at, ObjectLives, HaveRoom, GoOn, GoOnAt}
+use Rattle.iim_unpack.specs.Format.Tokens.{place_at, ObjectLives, HaveRoom, CanContinue, CanContinueAt}
 use Rattle.iim_unpack.proofs.Bounds.{alive_five}
 use Rattle.iim_unpack.proofs.LayersLead.{each_small}
 use Rattle.iim_unpack.proofs.Plain.{numbers_join}
-use Rattle.iim_unpack.proofs.PlainGoesOn.{AreGood, MayReplace, all_good, back_ordered, count_join, fewer_by, five_both, five_back, good_with, join_ordered, ordered_sorted, rebuilt}
+use Rattle.iim_unpack.proofs.PlainContinues.{AreGood, MayReplace, all_good, back_ordered, count_join, fewer_by, five_both, five_back, good_with, join_ordered, ordered_sorted, rebuilt}
 use Rattle.iim_unpack.proofs.PlainOpens.{possible_of}
 use Rattle.iim_unpack.proofs.PlainPlaces.{IsOrdered, front_ordered, sections_ordered}
 use Rattle.iim_unpack.proofs.PlainSizes.{duties_of, possible_like}
-use Rattle.iim_unpack.proofs.SameRecords.{IsStated, SameNumbers, SameRecords, stated_at, stated_behind}
+use Rattle.iim_unpack.proofs.SameRecords.{IsStated, SameNumbers, SameRecords, stated_at, stated_after_all}
 use Rattle.iim_unpack.proofs.Tickets.{count_of, sum_more}
 
 -- ---- what follows datasets to the sections of an envelope
@@ -55,7 +56,7 @@ replaced r ds es later more same there here =
     (good_with r (of_record r ds) (of_record r es) (of_record r more) (may_replace r (of_record r ds) (of_record r es) (of_record r later) (same.seen r) (subst (IsGoodRecord r) (of_both r es later) there))
     (subst (IsGoodRecord r) (of_both r ds more) here))
 
-pub follows_as : (ds es : List Dataset) → IsAlive es → present_record ds ≡ present_record es → SameRecords ds es → (more : List Dataset) → AreSections (ds ++ more) → AreSections (es ++ more)
+pub follows_as : (ds es : List Dataset) → SectionsLive es → present_record ds ≡ present_record es → SameRecords ds es → (more : List Dataset) → AreSections (ds ++ more) → AreSections (es ++ more)
 follows_as ds es (later, alive) present same more sections =
     let here = all_good (ds ++ more) sections in
     let there = all_good (es ++ later) alive in
@@ -230,13 +231,13 @@ pub place_as : SizeLaws → (p q : objects.Place) → IsStated p → length p.le
 place_as laws p q was few is same many total bounded ending lives =
     (possible_like laws p q (possible_of p was few lives) is.stated (stated_as p.stated q.stated same) many total (each_by q.stated q.lengths bounded) ending).alive
 
-pub behind_as : OpenLaws → (ds es : List Dataset) → IsAlive ds → IsAlive es → length (of_record 8 ds) ≤ max_subfiles → Twins ds es → ObjectLives (place_behind ds) → ObjectLives (place_behind es)
-behind_as laws ds es alive there few twins lives =
+pub after_as : OpenLaws → (ds es : List Dataset) → SectionsLive ds → SectionsLive es → length (of_record 8 ds) ≤ max_subfiles → Twins ds es → ObjectLives (place_after_datasets ds) → ObjectLives (place_after_datasets es)
+after_as laws ds es alive there few twins lives =
     let objects = laws.answer.follow.objects in
     let count = count_of (of_record 8 ds) in
     let count' = count_of (of_record 8 es) in
     let heads = twins.heads in
-    place_as laws.sizes (place_behind ds) (place_behind es) (stated_behind objects ds alive few) (omega (arith, count, few)) (stated_behind objects es there (omega (arith, few, heads, count, count')))
+    place_as laws.sizes (place_after_datasets ds) (place_after_datasets es) (stated_after_all objects ds alive few) (omega (arith, count, few)) (stated_after_all objects es there (omega (arith, few, heads, count, count')))
     twins.numbers twins.heads twins.octets twins.bounded (ap ending_of twins.nines) lives
 
 nil_bounded : (ps : List Stated) (ls : List ℕ) → AreBounded (ps ++ []) ls → AreBounded ps ls
@@ -245,7 +246,7 @@ nil_bounded ps ls bounded = subst (λ (qs : List Stated). AreBounded qs ls) (app
 one_more : (ls : List ℕ) (n most : ℕ) → length ls < most → length (ls ++ n ∷ []) ≤ most
 one_more ls n most less = let more = length-append ls (n ∷ []) in omega (arith, less, more)
 
-pub at_as : OpenLaws → (ds es : List Dataset) (h : Head) → IsAliveAt ds h → IsAliveAt es h → length (of_record 8 ds) ≤ max_subfiles → (h.rec ≡ 8 → length (of_record 8 ds) < max_subfiles) → Twins ds es
+pub at_as : OpenLaws → (ds es : List Dataset) (h : Head) → SectionsLiveAt ds h → SectionsLiveAt es h → length (of_record 8 ds) ≤ max_subfiles → (h.rec ≡ 8 → length (of_record 8 ds) < max_subfiles) → Twins ds es
     → ObjectLives (place_at ds h) → ObjectLives (place_at es h)
 at_as laws ds es h alive there few room twins =
     by (nat_eq h.rec 8) (nat_eq h.rec 9) refl (stated_at layer ds h alive few room) (stated_at layer es h there (omega (arith, few, heads, count, count')) (λ eight. let less = room eight in omega (arith, less, heads, count, count')))
@@ -263,12 +264,12 @@ at_as laws ds es h alive there few room twins =
     count' = count_of (of_record 8 es)
 
     at : Bool → Bool → List Dataset → objects.Place
-    at b c xs = if b then objects.place_after (place_behind xs) (SubfileBegun h.count) else if c then place_ended xs else place_behind xs
+    at b c xs = if b then objects.place_after (place_after_datasets xs) (SubfileBegun h.count) else if c then place_ended xs else place_after_datasets xs
 
     by : (b c : Bool) → nat_eq h.rec 8 ≡ b → IsStated (at b c ds) → IsStated (at b c es) → ObjectLives (at b c ds) → ObjectLives (at b c es)
     by true c eight was is lives =
-        let p = objects.place_after (place_behind ds) (SubfileBegun h.count) in
-        let q = objects.place_after (place_behind es) (SubfileBegun h.count) in
+        let p = objects.place_after (place_after_datasets ds) (SubfileBegun h.count) in
+        let q = objects.place_after (place_after_datasets es) (SubfileBegun h.count) in
         let less = room (eqb-true h.rec 8 eight) in
         let room' : length p.lengths ≤ max_subfiles = one_more (eights ds) h.count max_subfiles (omega (arith, less, count)) in
         let here : AreBounded (sevens ds) (eights ds ++ h.count ∷ []) = bounded_at laws.sizes p (possible_of p was room' lives) in
@@ -279,7 +280,7 @@ at_as laws ds es h alive there few room twins =
         (length-append (eights ds) (h.count ∷ []) ∙ ap (λ (n : ℕ). n + 1) twins.heads ∙ sym (length-append (eights es) (h.count ∷ [])))
         (sum_more (eights ds) (h.count ∷ []) ∙ ap (λ (n : ℕ). n + sum (h.count ∷ [])) twins.octets ∙ sym (sum_more (eights es) (h.count ∷ []))) bounded (ap ending_of twins.nines) lives
     by false true eight was is lives = place_as laws.sizes (place_ended ds) (place_ended es) was (omega (arith, few, count)) is twins.numbers twins.heads twins.octets twins.bounded refl lives
-    by false false eight was is lives = place_as laws.sizes (place_behind ds) (place_behind es) was (omega (arith, few, count)) is twins.numbers twins.heads twins.octets twins.bounded (ap ending_of twins.nines) lives
+    by false false eight was is lives = place_as laws.sizes (place_after_datasets ds) (place_after_datasets es) was (omega (arith, few, count)) is twins.numbers twins.heads twins.octets twins.bounded (ap ending_of twins.nines) lives
 
 -- ---- every layer but the message
 
@@ -309,11 +310,11 @@ room_as limits ds es h twins room = record {
   subfiles = λ eight. less_as ds es max_subfiles twins (room.subfiles eight);
 }
 
-pub goes_as : OpenLaws → (limits : Limits) (ds es : List Dataset) → IsAlive es → Twins ds es → GoOn limits ds → GoOn limits es
+pub goes_as : OpenLaws → (limits : Limits) (ds es : List Dataset) → SectionsLive es → Twins ds es → CanContinue limits ds → CanContinue limits es
 goes_as laws limits ds es there twins goes =
-    record { records = there; within = within_as limits ds es twins goes.within; object = behind_as laws ds es goes.records there goes.within.subfiles twins goes.object }
+    record { records = there; within = within_as limits ds es twins goes.within; object = after_as laws ds es goes.records there goes.within.subfiles twins goes.object }
 
-pub goes_at_as : OpenLaws → (limits : Limits) (ds es : List Dataset) (h : Head) → IsAliveAt es h → Twins ds es → GoOnAt limits ds h → GoOnAt limits es h
+pub goes_at_as : OpenLaws → (limits : Limits) (ds es : List Dataset) (h : Head) → SectionsLiveAt es h → Twins ds es → CanContinueAt limits ds h → CanContinueAt limits es h
 goes_at_as laws limits ds es h there twins goes = record {
   records = there;
   within = within_as limits ds es twins goes.within;

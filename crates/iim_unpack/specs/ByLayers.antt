@@ -1,18 +1,18 @@
 -- What each layer says of a place: whether some tokens lead there, and whether the layer can continue from them.
 use Rattle.std.specs.Prelude.{◌≡◌, ◌↔◌, ℕ, zero, suc, ◌-◌, ◌==◌, if◌then◌else◌, Bool, true, false, List, [], length, Option, Some, None, ⊤}
 use Rattle.std.specs.List.{AllByRecursion}
-use Rattle.iim_dataset.specs.Octets.{Octets}
-use Rattle.iim_dataset.specs.Datasets.{Dataset, count_octets}
-use Rattle.iim_dataset.specs.Places.{IsPlace}
-use Rattle.iim_dataset.specs.Tags.{BeginsTag}
+use Rattle.iim_dataset.specs.Format.Octets.{Octets}
+use Rattle.iim_dataset.specs.Format.Datasets.{Dataset, count_octets}
+use Rattle.iim_dataset.specs.Format.Places.{IsPlace}
+use Rattle.iim_dataset.specs.Format.Tags.{BeginsTag}
 use Rattle.iim_dataset.specs.declared.head.Head.{Head}
 use Rattle.iim_dataset.specs.declared.place.DatasetPlace.TheVariants.{Inside}
-use Rattle.iim_fields.specs.Alive.{IsAlive, IsAliveAt}
-use Rattle.iim_fields.specs.Faults.{is_kept, present_record}
-use Rattle.iim_object.specs.Objects.{ObjectEnded, Confirmed}
-use Rattle.iim_object.specs.Places as objects
-use Rattle.iim_object.specs.Saved.{IsAt, IsPossible}
-use Rattle.wire_message.specs.Saved.{LeadToSaved}
+use Rattle.iim_fields.specs.Format.Alive.{SectionsLive, SectionsLiveAt}
+use Rattle.iim_fields.specs.Format.Faults.{is_kept, present_record}
+use Rattle.iim_object.specs.Format.Objects.{ObjectEnded, Confirmed}
+use Rattle.iim_object.specs.Format.Places as objects
+use Rattle.iim_object.specs.Format.Saved.{IsAt, IsPossible}
+use Rattle.wire_message.specs.Format.Saved.{LeadToSaved}
 use Rattle.wire_message.specs.declared.saved.MessagePart.TheVariants.{AfterEnd}
 use Rattle.iim_unpack.specs.Plain.{Numbers, number_list, plain}
 use Rattle.iim_unpack.specs.Format.Possible.{Possible, widest, AreHeadsWithin}
@@ -59,9 +59,9 @@ record_datasets p numbers = plain p.fields numbers (one_of_some (p.heads - begun
 
 -- The layer can continue after the whole datasets with what is begun, and the section is the record of the last head.
 abbrev pub RecordsLive : ℕ → Phase → List Dataset → Type 0
-RecordsLive section (TagBegun held) ds = (present_record ds ≡ section) × IsAlive ds
-RecordsLive section (DataBegun set count left taken) ds = IsAliveAt ds (head_at section set count)
-RecordsLive section AllEnded ds = (section ≡ 9) × IsAlive ds
+RecordsLive section (TagBegun held) ds = (present_record ds ≡ section) × SectionsLive ds
+RecordsLive section (DataBegun set count left taken) ds = SectionsLiveAt ds (head_at section set count)
+RecordsLive section AllEnded ds = (section ≡ 9) × SectionsLive ds
 
 -- ---- the object layer
 
@@ -84,7 +84,7 @@ ObjectLeads place = (p : objects.Place) × IsAt place.numbers place.taken (begun
 
 -- ---- message and story
 
--- So many octets lead to the message's place, and where the object has ended, so has the message.
+-- Some octets, `place.taken` of them, lead to the message's place, and where the object has ended, so has the message.
 abbrev pub MessageLeads : Place → Type 0
 MessageLeads place = (octets : List ℕ) × (text : List ℕ) × LeadToSaved octets text place.message × (length octets ≡ place.taken)
     × (place.section ≡ 9 → place.message.part ≡ AfterEnd)

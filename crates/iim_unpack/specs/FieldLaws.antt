@@ -4,9 +4,10 @@ use Rattle.std.proofs.Props.{props}
 use Rattle.std.specs.Int.{w32, from_be_bytes}
 use Rattle.std.specs.List.{AllByRecursion, flat_map}
 use Rattle.std.proofs.lemmas.Nat.{from_be_bytes-to_be_bytes_4}
-use Rattle.iim_dataset.specs.Datasets.{Dataset}
+use Rattle.iim_dataset.specs.Format.Datasets.{Dataset}
 use Rattle.iim_unpack.specs.Format.Tickets.{four, field_octets}
-use Rattle.iim_unpack.specs.TicketFields.{IsField, HoldsFields}
+use Rattle.iim_unpack.specs.Format.Begins.{IsLongField}
+use Rattle.iim_unpack.specs.TicketFields.{HoldsFields}
 use mathlib.Core.HLevel.{Σ_prop_path}
 
 -- ---- lists
@@ -38,7 +39,7 @@ one_four m n a b hm hn e =
 pub field_parts : (d : Dataset) (a : List ℕ) → field_octets d ++ a ≡ d.rec ∷ d.set ∷ (four (length d.octets) ++ (d.octets ++ a))
 field_parts d a = ap (λ (xs : List ℕ). d.rec ∷ d.set ∷ xs) (append_assoc (four (length d.octets)) d.octets a)
 
-pub one_field : (d e : Dataset) (a b : List ℕ) → IsField d → IsField e → field_octets d ++ a ≡ field_octets e ++ b → (d ≡ e) × (a ≡ b)
+pub one_field : (d e : Dataset) (a b : List ℕ) → IsLongField d → IsLongField e → field_octets d ++ a ≡ field_octets e ++ b → (d ≡ e) × (a ≡ b)
 one_field d e a b hd he same =
     let is : d.rec ∷ d.set ∷ (four (length d.octets) ++ (d.octets ++ a)) ≡ e.rec ∷ e.set ∷ (four (length e.octets) ++ (e.octets ++ b)) = sym (field_parts d a) ∙ same ∙ field_parts e b in
     let rec : d.rec ≡ e.rec = first_same is in
@@ -52,7 +53,7 @@ one_field d e a b hd he same =
 pub some_octets : (d : Dataset) (a : List ℕ) → field_octets d ++ a ≡ [] → ⊥
 some_octets d a e = let is = sym (field_parts d a) ∙ e in let bad = ap length is in omega (arith, bad)
 
-pub same_fields : (xs ys : List Dataset) → AllByRecursion IsField xs → AllByRecursion IsField ys → flat_map field_octets xs ≡ flat_map field_octets ys → xs ≡ ys
+pub same_fields : (xs ys : List Dataset) → AllByRecursion IsLongField xs → AllByRecursion IsLongField ys → flat_map field_octets xs ≡ flat_map field_octets ys → xs ≡ ys
 same_fields [] [] h k e = refl
 same_fields [] (y ∷ ys) h k e = absurd (some_octets y (flat_map field_octets ys) (sym e))
 same_fields (x ∷ xs) [] h k e = absurd (some_octets x (flat_map field_octets xs) e)
@@ -64,5 +65,5 @@ same_fields (x ∷ xs) (y ∷ ys) h k e =
 -- Octets hold one list of datasets.
 pub held_once : (octets : List ℕ) → IsProp (HoldsFields octets)
 held_once octets u v =
-    Σ_prop_path {B = λ (ds : List Dataset). AllByRecursion IsField ds × (octets ≡ flat_map field_octets ds)} (λ ds. Prim.hlevel props) {u = u} {v = v}
+    Σ_prop_path {B = λ (ds : List Dataset). AllByRecursion IsLongField ds × (octets ≡ flat_map field_octets ds)} (λ ds. Prim.hlevel props) {u = u} {v = v}
     (same_fields u.0 v.0 u.1.0 v.1.0 (sym u.1.1 ∙ v.1.1))

@@ -13,3 +13,9 @@ pub mod Tickets
 pub mod Possible
 pub mod TicketForm
 pub mod Restored
+pub mod Blocks
+pub mod Parts
+pub mod Intakes
+pub mod Unpacking
+pub mod Pieces
+pub mod Begins

@@ -1,67 +1,68 @@
 -- What is told one after another is told joined: the laws of the router.
 use Rattle.std.proofs.Common.{◌≡◌, ℕ, List, [], ◌∷◌, ◌++◌, Option, Some, refl, sym, subst, ◌∙◌, append_assoc, append-nil}
 use Rattle.std.proofs.lemmas.List.Concat.{flat_map-append}
-use Rattle.iim_dataset.specs.Events.{Event, DatasetEnd}
-use Rattle.iim_fields.specs.Standing.{limits_of}
+use Rattle.iim_dataset.specs.Format.Events.{DatasetEvent, DatasetEnd}
+use Rattle.iim_fields.specs.Format.Standing.{limits_of}
 use Rattle.iim_fields.specs.declared.limits.Limits.{Limits}
-use Rattle.wire_story.specs.Delivery as story
-use Rattle.iim_unpack.specs.Parts.{Led, Went, Stopped, Refused, CountsFor, Closed, NotClosed}
+use Rattle.wire_story.specs.Format.Delivery as story
+use Rattle.iim_unpack.specs.Format.Parts.{Led, Refused, CountsFor}
+use Rattle.iim_unpack.specs.Parts.{Went, WasStopped, Closed, NotClosed}
 use Rattle.iim_unpack.specs.Sequence.{AreInOrder}
 use Rattle.iim_unpack.specs.declared.parts.Parts.{Parts}
-use Rattle.iim_unpack.specs.declared.fault.Fault.{Fault}
+use Rattle.iim_unpack.specs.declared.fault.TokenFault.{TokenFault}
 
 delivered-append : (x y : List ℕ) → story.delivered (x ++ y) ≡ story.delivered x ++ story.delivered y
 delivered-append x y = flat_map-append story.events_of x y
 
 -- the events before others
-pub front_in_order : (xs ys : List Event) → AreInOrder (xs ++ ys) → AreInOrder xs
+pub front_in_order : (xs ys : List DatasetEvent) → AreInOrder (xs ++ ys) → AreInOrder xs
 front_in_order xs ys order = record { later = ys ++ order.later; whole = order.whole; are = sym (append_assoc xs ys order.later) ∙ order.are }
 
-pub went_nothing : {S : Type 0} (goes : S → List story.Event → S → Type 0) (failures : S → ℕ) (old : Parts) (a : S) → goes a [] a → Went goes failures old a [] old a
+pub went_nothing : {S : Type 0} (goes : S → List story.StoryEvent → S → Type 0) (failures : S → ℕ) (old : Parts) (a : S) → goes a [] a → Went goes failures old a [] old a
 went_nothing goes failures old a g = record {
   limits = refl;
   more = [];
   told = g;
   calm = refl;
   leads = λ before text order led.
-      subst (λ (t : List ℕ). Led old (before ++ []) t) (sym (append-nil text)) (subst (λ (es : List Event). Led old es text) (sym (append-nil before)) led);
+      subst (λ (t : List ℕ). Led old (before ++ []) t) (sym (append-nil text)) (subst (λ (es : List DatasetEvent). Led old es text) (sym (append-nil before)) led);
 }
 
-pub went_joined : {S : Type 0} (goes : S → List story.Event → S → Type 0) (failures : S → ℕ)
-    → ((a b c : S) (xs ys : List story.Event) → goes a xs b → goes b ys c → goes a (xs ++ ys) c)
-    → (p q r : Parts) (a b c : S) (xs ys : List Event) → Went goes failures p a xs q b → Went goes failures q b ys r c → Went goes failures p a (xs ++ ys) r c
+pub went_joined : {S : Type 0} (goes : S → List story.StoryEvent → S → Type 0) (failures : S → ℕ)
+    → ((a b c : S) (xs ys : List story.StoryEvent) → goes a xs b → goes b ys c → goes a (xs ++ ys) c)
+    → (p q r : Parts) (a b c : S) (xs ys : List DatasetEvent) → Went goes failures p a xs q b → Went goes failures q b ys r c → Went goes failures p a (xs ++ ys) r c
 went_joined goes failures joined p q r a b c xs ys h k = record {
   limits = k.limits ∙ h.limits;
   more = h.more ++ k.more;
-  told = subst (λ (es : List story.Event). goes a es c) (sym (delivered-append h.more k.more)) (joined a b c (story.delivered h.more) (story.delivered k.more) h.told k.told);
+  told = subst (λ (es : List story.StoryEvent). goes a es c) (sym (delivered-append h.more k.more)) (joined a b c (story.delivered h.more) (story.delivered k.more) h.told k.told);
   calm = k.calm ∙ h.calm;
   leads = λ before text order led.
       let in_order : AreInOrder ((before ++ xs) ++ ys) = subst AreInOrder (sym (append_assoc before xs ys)) order in
       subst (λ (t : List ℕ). Led r (before ++ (xs ++ ys)) t) (append_assoc text h.more k.more)
-      (subst (λ (es : List Event). Led r es ((text ++ h.more) ++ k.more)) (append_assoc before xs ys)
+      (subst (λ (es : List DatasetEvent). Led r es ((text ++ h.more) ++ k.more)) (append_assoc before xs ys)
       (k.leads (before ++ xs) (text ++ h.more) in_order (h.leads before text (front_in_order (before ++ xs) ys in_order) led)));
 }
 
-pub stopped_joined : {S : Type 0} (goes : S → List story.Event → S → Type 0) (failures : S → ℕ)
-    → ((a b c : S) (xs ys : List story.Event) → goes a xs b → goes b ys c → goes a (xs ++ ys) c)
-    → (p q : Parts) (a b c : S) (xs ys : List Event) (event : Event) (refused : Option Fault) → Went goes failures p a xs q b → Stopped goes failures q b ys event refused c
-    → Stopped goes failures p a (xs ++ ys) event refused c
+pub stopped_joined : {S : Type 0} (goes : S → List story.StoryEvent → S → Type 0) (failures : S → ℕ)
+    → ((a b c : S) (xs ys : List story.StoryEvent) → goes a xs b → goes b ys c → goes a (xs ++ ys) c)
+    → (p q : Parts) (a b c : S) (xs ys : List DatasetEvent) (event : DatasetEvent) (refused : Option TokenFault) → Went goes failures p a xs q b → WasStopped goes failures q b ys event refused c
+    → WasStopped goes failures p a (xs ++ ys) event refused c
 stopped_joined goes failures joined p q a b c xs ys event refused h k = record {
   fault = k.fault;
   is_fault = k.is_fault;
   more = h.more ++ k.more;
-  told = subst (λ (es : List story.Event). goes a es c) (sym (delivered-append h.more k.more)) (joined a b c (story.delivered h.more) (story.delivered k.more) h.told k.told);
+  told = subst (λ (es : List story.StoryEvent). goes a es c) (sym (delivered-append h.more k.more)) (joined a b c (story.delivered h.more) (story.delivered k.more) h.told k.told);
   counts = subst (λ (n : ℕ). CountsFor k.fault.cause n (failures c)) h.calm k.counts;
   why = λ before text order led.
-      let in_order : AreInOrder (((before ++ xs) ++ ys) ++ event ∷ []) = subst (λ (es : List Event). AreInOrder (es ++ event ∷ [])) (sym (append_assoc before xs ys)) order in
+      let in_order : AreInOrder (((before ++ xs) ++ ys) ++ event ∷ []) = subst (λ (es : List DatasetEvent). AreInOrder (es ++ event ∷ [])) (sym (append_assoc before xs ys)) order in
       let front : AreInOrder (before ++ xs) = front_in_order (before ++ xs) ys (front_in_order ((before ++ xs) ++ ys) (event ∷ []) in_order) in
       subst (λ (t : List ℕ). Refused (limits_of p.fields) (before ++ (xs ++ ys)) t event k.fault) (append_assoc text h.more k.more)
-      (subst (λ (es : List Event). Refused (limits_of p.fields) es ((text ++ h.more) ++ k.more) event k.fault) (append_assoc before xs ys)
+      (subst (λ (es : List DatasetEvent). Refused (limits_of p.fields) es ((text ++ h.more) ++ k.more) event k.fault) (append_assoc before xs ys)
       (subst (λ (l : Limits). Refused l ((before ++ xs) ++ ys) ((text ++ h.more) ++ k.more) event k.fault) h.limits (k.why (before ++ xs) (text ++ h.more) in_order (h.leads before text front led))));
 }
 
 -- the end of a dataset, with which nothing is delivered
-pub went_closed : {S : Type 0} (goes : S → List story.Event → S → Type 0) (failures : S → ℕ) (old new : Parts) (a : S) → goes a [] a → Closed old new → Went goes failures old a (DatasetEnd ∷ []) new a
+pub went_closed : {S : Type 0} (goes : S → List story.StoryEvent → S → Type 0) (failures : S → ℕ) (old new : Parts) (a : S) → goes a [] a → Closed old new → Went goes failures old a (DatasetEnd ∷ []) new a
 went_closed goes failures old new a nothing closed = record {
   limits = closed.limits;
   more = [];
@@ -71,8 +72,8 @@ went_closed goes failures old new a nothing closed = record {
 }
 
 -- the end of a dataset, of which no sink is told
-pub stopped_closed : {S : Type 0} (goes : S → List story.Event → S → Type 0) (failures : S → ℕ) (p : Parts) (a : S) (fault : Fault) → goes a [] a → NotClosed p fault
-    → Stopped goes failures p a [] DatasetEnd (Some fault) a
+pub stopped_closed : {S : Type 0} (goes : S → List story.StoryEvent → S → Type 0) (failures : S → ℕ) (p : Parts) (a : S) (fault : TokenFault) → goes a [] a → NotClosed p fault
+    → WasStopped goes failures p a [] DatasetEnd (Some fault) a
 stopped_closed goes failures p a fault g bad = record {
   fault = fault;
   is_fault = refl;
@@ -80,7 +81,7 @@ stopped_closed goes failures p a fault g bad = record {
   told = g;
   counts = bad.quiet (failures a);
   why = λ before text order led.
-      let in_order : AreInOrder (before ++ DatasetEnd ∷ []) = subst (λ (es : List Event). AreInOrder (es ++ DatasetEnd ∷ [])) (append-nil before) order in
+      let in_order : AreInOrder (before ++ DatasetEnd ∷ []) = subst (λ (es : List DatasetEvent). AreInOrder (es ++ DatasetEnd ∷ [])) (append-nil before) order in
       subst (λ (t : List ℕ). Refused (limits_of p.fields) (before ++ []) t DatasetEnd fault) (sym (append-nil text))
-      (subst (λ (es : List Event). Refused (limits_of p.fields) es text DatasetEnd fault) (sym (append-nil before)) (bad.why before text in_order led));
+      (subst (λ (es : List DatasetEvent). Refused (limits_of p.fields) es text DatasetEnd fault) (sym (append-nil before)) (bad.why before text in_order led));
 }

@@ -1,4 +1,6 @@
+-- What the promises cite: a reader has to believe these.
 pub mod Format
+-- What only proofs and private clauses cite.
 pub mod Blocks
 pub mod Intakes
 pub mod Passed

@@ -1,10 +1,10 @@
 -- The laws of the lower crates, bundled by what rests on them.
-use Rattle.iim_dataset.specs.Laws.{CanonicalStreamsAreSpelled, NoTagBeginsAnother, NoDatasetBeginsAnother, NoOctetsGoOn, OctetsAreHandedOnOneWay, EventsTellTheDatasets, WhatAnOctetCompletes}
-use Rattle.iim_fields.specs.Laws.{EnvelopesEndWithTheLastRecord, HeadsDieWithTheirFault, NoSectionsBeginOthers, ValuesDieWithTheirFault}
-use Rattle.iim_object.specs.Behind.{TokensFollow, OthersLeadNowhere, NumbersLead, SubfilesLead, EndsLead, DatasetsLiveWithTheirTokens, DatasetsEndWithTheirTokens, RecordsAreByNumber}
-use Rattle.iim_object.specs.Living.{NumbersLiveWithoutClash, ObjectsEndWhereTheyAreWhole, SubfilesLiveWhileTheyFit, TotalsAreConfirmed}
-use Rattle.wire_story.specs.Laws.{TextsSoFarHaveOneReading}
-use Rattle.wire_message.specs.Laws.{LivingOctetsLeadOn, MessagesEndAfterEot, OctetsAreRefusedAlike, OctetsLeadOnAlike, OctetsLeadToOnePlace, PlacesAreSavedApart, ReadersStandAtLivingOctets, TextsStandBetweenStxAndEtx}
+use Rattle.iim_dataset.specs.Format.Laws.{CanonicalStreamsAreSpelled, NoTagBeginsAnother, NoDatasetBeginsAnother, NoOctetsContinue, OctetsAreHandedOnOneWay, EventsTellTheDatasets, WhatAnOctetCompletes}
+use Rattle.iim_fields.specs.Format.Laws.{EnvelopesEndWithTheLastRecord, HeadsDieWithTheirFault, NoSectionsBeginOthers, ValuesDieWithTheirFault}
+use Rattle.iim_object.specs.Format.Numbers.{TokensFollow, OthersLeadNowhere, NumbersLead, SubfilesLead, EndsLead, DatasetsLiveWithTheirTokens, DatasetsEndWithTheirTokens, RecordsAreByNumber}
+use Rattle.iim_object.specs.Format.Living.{NumbersLiveWithoutClash, ObjectsEndWhereTheyAreWhole, SubfilesLiveWhileTheyFit, TotalsAreConfirmed}
+use Rattle.wire_story.specs.Format.Laws.{TextsSoFarHaveOneReading}
+use Rattle.wire_message.specs.Format.Laws.{LivingOctetsLeadOn, MessagesEndAfterEot, OctetsAreRefusedAlike, OctetsLeadOnAlike, OctetsLeadToOnePlace, PlacesAreSavedApart, ReadersStandAtLivingOctets, TextsStandBetweenStxAndEtx}
 
 -- how datasets lead the object from place to place
 pub record ObjectLaws : Type 0 where
@@ -59,7 +59,7 @@ pub record AnswerLaws : Type 0 where
   pub follow : FollowLaws
   pub way : OctetsAreHandedOnOneWay
   pub tell : EventsTellTheDatasets
-  pub stuck : NoOctetsGoOn
+  pub stuck : NoOctetsContinue
   pub living : ReadersStandAtLivingOctets
   pub numbers : RecordsAreByNumber
   pub texts : TextsSoFarHaveOneReading

@@ -1,56 +1,56 @@
 -- What a reader of messages is told of an object: its octets, in any cut, and its end.
 use Rattle.std.specs.Prelude.{◌≡◌, ℕ, Bool, true, false, List, [], ◌∷◌, ◌++◌, map, length, take, slice_index, ◌<◌, ◌≤◌, ◌⊎◌, Option, Some, IsSome}
-use Rattle.iim_object.specs.Events.{Event, ObjectOctet, ObjectEnd}
+use Rattle.iim_object.specs.Format.Events.{ObjectEvent, ObjectOctet, ObjectEnd}
 use Rattle.iim_dataset.specs.declared.head.Head.{Head}
-use Rattle.iim_object.specs.Objects.{ObjectToken, ObjectEnded}
-use Rattle.iim_object.specs.Places.{head_token}
-use Rattle.iim_object.specs.Places.{Place as ObjectPlace}
-use Rattle.iim_object.specs.Plans.{max_subfiles}
-use Rattle.iim_object.specs.Reading as objects
-use Rattle.iim_object.specs.Reading.{Refuses, LivesWith}
+use Rattle.iim_object.specs.Format.Objects.{ObjectToken, ObjectEnded}
+use Rattle.iim_object.specs.Format.Places.{head_token}
+use Rattle.iim_object.specs.Format.Places.{Place as ObjectPlace}
+use Rattle.iim_object.specs.Format.Plans.{max_subfiles}
+use Rattle.iim_object.specs.Format.Reading as objects
+use Rattle.iim_object.specs.Format.Reading.{Refuses, LivesWith}
 use Rattle.iim_object.specs.declared.state.State.{State}
 use Rattle.iim_object.specs.declared.fault.SizeCause.{SizeCause}
 use Rattle.iim_object.specs.declared.fault.ObjectFault.{ObjectFault}
 use Rattle.iim_object.specs.declared.fault.ObjectFault.TheVariants.{Size, Stopped}
 use Rattle.iim_unpack.specs.Format.Refusals.{size_on, message_on, too_many_on}
-use Rattle.iim_unpack.specs.declared.fault.Fault.{Fault}
+use Rattle.iim_unpack.specs.declared.fault.TokenFault.{TokenFault}
 use Rattle.iim_unpack.specs.declared.message.ToMessage.{ToMessage}
-use Rattle.wire_story.specs.Delivery as story
-use Rattle.wire_story.specs.Tokens.{End}
-use Rattle.wire_message.specs.Layers.{MessageDiesAt}
-use Rattle.wire_message.specs.Reading.{StandsAt, GoesOn, GoesSomewhere, HasCause, CountsCause, IsWhole}
+use Rattle.wire_story.specs.Format.Delivery as story
+use Rattle.wire_story.specs.Format.Tokens.{End}
+use Rattle.wire_message.specs.Format.Layers.{MessageDiesAt}
+use Rattle.wire_message.specs.Format.Reading.{StandsAt, LeadsOn, GoesSomewhere, HasCause, CountsCause, IsWhole}
 use Rattle.wire_message.specs.declared.place.Place.{Place}
 use Rattle.wire_message.specs.declared.fault.MessageCause.{MessageCause}
 use Rattle.wire_message.specs.declared.fault.MessageCause.TheVariants.{Unfinished}
 
 -- the octets among the events
-abbrev pub octets_in : List Event → List ℕ
+abbrev pub octets_in : List ObjectEvent → List ℕ
 octets_in [] = []
 octets_in (ObjectOctet b ∷ es) = b ∷ octets_in es
 octets_in (ObjectEnd ∷ es) = octets_in es
 
 -- whether the end has come and no octet after it, where it had or had not before the events
-abbrev pub is_ended : Bool → List Event → Bool
+abbrev pub is_ended : Bool → List ObjectEvent → Bool
 is_ended b [] = b
 is_ended b (ObjectOctet x ∷ es) = is_ended false es
 is_ended b (ObjectEnd ∷ es) = is_ended true es
 
 -- The reader took the events, and the sink was told what is delivered of the text that they add.
-pub record Passed {S : Type 0} (goes : S → List story.Event → S → Type 0) (failures : S → ℕ) (old : Option Place) (a : S) (events : List Event) (new : Option Place) (b : S) : Type 0 where
+pub record Passed {S : Type 0} (goes : S → List story.StoryEvent → S → Type 0) (failures : S → ℕ) (old : Option Place) (a : S) (events : List ObjectEvent) (new : Option Place) (b : S) : Type 0 where
   pub takes_calls : IsSome new
   pub more : List ℕ
   pub told : goes a (story.delivered more) b
   pub calm : failures b ≡ failures a
-  pub stands : GoesOn old (octets_in events) more new
+  pub stands : LeadsOn old (octets_in events) more new
   pub whole : (before : Bool) → (before ≡ true → IsWhole old) → is_ended before events ≡ true → IsWhole new
 
 -- why the event is refused after these octets
-abbrev pub HasCauseAt : MessageCause → List ℕ → Event → Type 0
+abbrev pub HasCauseAt : MessageCause → List ℕ → ObjectEvent → Type 0
 HasCauseAt cause octets (ObjectOctet b) = HasCause cause octets b
 HasCauseAt cause octets ObjectEnd = (cause ≡ Unfinished) × MessageDiesAt octets End
 
 -- The reader took the events and refused the next one for this cause; the sink was told what is delivered of those.
-pub record Halted {S : Type 0} (goes : S → List story.Event → S → Type 0) (failures : S → ℕ) (old : Option Place) (a : S) (events : List Event) (refused : Event) (cause : Option MessageCause) (b : S) : Type 0 where
+pub record Halted {S : Type 0} (goes : S → List story.StoryEvent → S → Type 0) (failures : S → ℕ) (old : Option Place) (a : S) (events : List ObjectEvent) (refused : ObjectEvent) (cause : Option MessageCause) (b : S) : Type 0 where
   pub why : MessageCause
   pub is_cause : cause ≡ Some why
   pub more : List ℕ
@@ -60,18 +60,18 @@ pub record Halted {S : Type 0} (goes : S → List story.Event → S → Type 0) 
   pub has_cause : (octets text : List ℕ) → StandsAt old octets text → HasCauseAt why (octets ++ octets_in events) refused
 
 -- The message refused an octet of the run.
-abbrev pub RefusesOctet : {S : Type 0} → (S → List story.Event → S → Type 0) → (S → ℕ) → Option Place → S → List ℕ → Option MessageCause → S → ObjectFault → Type 0
+abbrev pub RefusesOctet : {S : Type 0} → (S → List story.StoryEvent → S → Type 0) → (S → ℕ) → Option Place → S → List ℕ → Option MessageCause → S → ObjectFault → Type 0
 RefusesOctet goes failures old a run cause b (Size why) = ⊥
 RefusesOctet goes failures old a run cause b (Stopped stop) = (stop.taken < length run)
     × Halted goes failures old a (map ObjectOctet (take stop.taken run)) (ObjectOctet (slice_index run stop.taken)) cause b
 
 -- The object refused a token of a head; or it took the end, and the message refused it.
-abbrev pub RefusesEnd : {S : Type 0} → (S → List story.Event → S → Type 0) → (S → ℕ) → Option State → ObjectToken → Option Place → S → Option MessageCause → S → ObjectFault → Type 0
+abbrev pub RefusesEnd : {S : Type 0} → (S → List story.StoryEvent → S → Type 0) → (S → ℕ) → Option State → ObjectToken → Option Place → S → Option MessageCause → S → ObjectFault → Type 0
 RefusesEnd goes failures object token old a cause b (Size why) = Refuses object token why × ((more : List ℕ) × goes a (story.delivered more) b × (failures b ≡ failures a) × GoesSomewhere old [] more)
 RefusesEnd goes failures object token old a cause b (Stopped stop) = (token ≡ ObjectEnded) × LivesWith object token × Halted goes failures old a [] ObjectEnd cause b
 
 -- The fault is the object's, and the sink was told nothing; or it is the message's at the end of the object.
-pub record RefusesBySize {S : Type 0} (goes : S → List story.Event → S → Type 0) (failures : S → ℕ) (object : Option State) (message : Option Place) (h : Head) (a b : S) (fault : Fault) : Type 0 where
+pub record RefusesBySize {S : Type 0} (goes : S → List story.StoryEvent → S → Type 0) (failures : S → ℕ) (object : Option State) (message : Option Place) (h : Head) (a b : S) (fault : TokenFault) : Type 0 where
   pub cause : SizeCause
   pub refuses : Refuses object (head_token h.rec h.count) cause
   pub is_fault : fault ≡ size_on h cause
@@ -80,34 +80,34 @@ pub record RefusesBySize {S : Type 0} (goes : S → List story.Event → S → T
   pub calm : failures b ≡ failures a
   pub leads : GoesSomewhere message [] more
 
-pub record RefusesAtEnd {S : Type 0} (goes : S → List story.Event → S → Type 0) (failures : S → ℕ) (object : Option State) (message : Option Place) (h : Head) (a b : S) (fault : Fault) : Type 0 where
+pub record RefusesAtEnd {S : Type 0} (goes : S → List story.StoryEvent → S → Type 0) (failures : S → ℕ) (object : Option State) (message : Option Place) (h : Head) (a b : S) (fault : TokenFault) : Type 0 where
   pub token : head_token h.rec h.count ≡ ObjectEnded
   pub lives : LivesWith object (head_token h.rec h.count)
   pub cause : MessageCause
   pub halted : Halted goes failures message a [] ObjectEnd (Some cause) b
   pub is_fault : fault ≡ message_on h cause
 
-abbrev pub RefusesObject : {S : Type 0} → (S → List story.Event → S → Type 0) → (S → ℕ) → Option State → Option Place → Head → S → S → Fault → Type 0
+abbrev pub RefusesObject : {S : Type 0} → (S → List story.StoryEvent → S → Type 0) → (S → ℕ) → Option State → Option Place → Head → S → S → TokenFault → Type 0
 RefusesObject goes failures object message h a b fault = RefusesBySize goes failures object message h a b fault ⊎ RefusesAtEnd goes failures object message h a b fault
 
 -- Wherever the object stands, there may be one subfile more.
 abbrev pub HasFewSubfiles : Option State → Type 0
 HasFewSubfiles object = (p : ObjectPlace) → objects.StandsAt object p → length p.lengths < max_subfiles
 
--- Wherever it stands, there are as many as there may be.
+-- Wherever the object stands, there are the most subfiles that there may be.
 abbrev pub IsFullOfSubfiles : Option State → Type 0
 IsFullOfSubfiles object = (p : ObjectPlace) → objects.StandsAt object p → max_subfiles ≤ length p.lengths
 
 -- The head of a subfile is one too many, and the sink was told nothing; or object or message refused it.
-abbrev pub RefusesSubfile : {S : Type 0} → (S → List story.Event → S → Type 0) → (S → ℕ) → Option State → Option Place → Head → S → S → Fault → Type 0
+abbrev pub RefusesSubfile : {S : Type 0} → (S → List story.StoryEvent → S → Type 0) → (S → ℕ) → Option State → Option Place → Head → S → S → TokenFault → Type 0
 RefusesSubfile goes failures object message h a b fault =
     (IsFullOfSubfiles object × (fault ≡ too_many_on h) × (b ≡ a)) ⊎ (HasFewSubfiles object × RefusesObject goes failures object message h a b fault)
 
 -- the same of the sink that holds a reader and a sink: its references stay what they are
-abbrev pub PassesTo : {S : Type 0} → (S → List story.Event → S → Type 0) → (S → ℕ) → ToMessage S → List Event → ToMessage S → Type 0
+abbrev pub PassesTo : {S : Type 0} → (S → List story.StoryEvent → S → Type 0) → (S → ℕ) → ToMessage S → List ObjectEvent → ToMessage S → Type 0
 PassesTo goes failures a events b = (a.message.ghost_name ≡ b.message.ghost_name) × (a.sink.ghost_name ≡ b.sink.ghost_name)
     × (IsSome a.message.now → Passed goes failures a.message.now a.sink.now events b.message.now b.sink.now)
 
-abbrev pub HaltsAt : {S : Type 0} → (S → List story.Event → S → Type 0) → (S → ℕ) → ToMessage S → List Event → Event → ToMessage S → Type 0
+abbrev pub HaltsAt : {S : Type 0} → (S → List story.StoryEvent → S → Type 0) → (S → ℕ) → ToMessage S → List ObjectEvent → ObjectEvent → ToMessage S → Type 0
 HaltsAt goes failures a events refused b = (a.message.ghost_name ≡ b.message.ghost_name) × (a.sink.ghost_name ≡ b.sink.ghost_name)
     × (IsSome a.message.now → Halted goes failures a.message.now a.sink.now events refused b.cause b.sink.now)

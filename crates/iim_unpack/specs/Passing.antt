@@ -2,18 +2,18 @@
 use Rattle.std.proofs.Common.{◌≡◌, ℕ, Bool, true, false, List, [], ◌∷◌, ◌++◌, map, Option, Some, IsSome, refl, ap, sym, subst, ◌∙◌, append_assoc, append-nil, length, ◌==◌, arith}
 use Rattle.std.proofs.lemmas.List.Concat.{flat_map-append}
 use Rattle.std.proofs.lemmas.Bool.{eqb-true}
-use Rattle.iim_object.specs.Events.{Event, ObjectOctet, ObjectEnd}
-use Rattle.wire_story.specs.Delivery as story
-use Rattle.wire_message.specs.Layers.{MessageDiesAt}
-use Rattle.wire_message.specs.Reading.{StandsAt, GoesOn, GoesSomewhere, HasCause, CountsCause, IsWhole}
-use Rattle.wire_message.specs.SoFar.{LeadTo}
+use Rattle.iim_object.specs.Format.Events.{ObjectEvent, ObjectOctet, ObjectEnd}
+use Rattle.wire_story.specs.Format.Delivery as story
+use Rattle.wire_message.specs.Format.Layers.{MessageDiesAt}
+use Rattle.wire_message.specs.Format.Reading.{StandsAt, LeadsOn, GoesSomewhere, HasCause, CountsCause, IsWhole}
+use Rattle.wire_message.specs.Format.SoFar.{LeadTo}
 use Rattle.wire_message.specs.declared.place.Place.{Place}
 use Rattle.wire_message.specs.declared.fault.MessageCause.{MessageCause}
 use Rattle.wire_message.specs.declared.fault.MessageCause.TheVariants.{Unfinished}
-use Rattle.wire_story.specs.Tokens.{End}
+use Rattle.wire_story.specs.Format.Tokens.{End}
 use Rattle.iim_unpack.specs.Passed.{octets_in, is_ended, Passed, HasCauseAt, Halted}
 
-pub octets_in-append : (xs ys : List Event) → octets_in (xs ++ ys) ≡ octets_in xs ++ octets_in ys
+pub octets_in-append : (xs ys : List ObjectEvent) → octets_in (xs ++ ys) ≡ octets_in xs ++ octets_in ys
 octets_in-append [] ys = refl
 octets_in-append (ObjectOctet b ∷ xs) ys = ap (λ zs. b ∷ zs) (octets_in-append xs ys)
 octets_in-append (ObjectEnd ∷ xs) ys = octets_in-append xs ys
@@ -22,7 +22,7 @@ pub octets_in-octets : (xs : List ℕ) → octets_in (map ObjectOctet xs) ≡ xs
 octets_in-octets [] = refl
 octets_in-octets (x ∷ xs) = ap (λ zs. x ∷ zs) (octets_in-octets xs)
 
-pub is_ended-append : (b : Bool) (xs ys : List Event) → is_ended b (xs ++ ys) ≡ is_ended (is_ended b xs) ys
+pub is_ended-append : (b : Bool) (xs ys : List ObjectEvent) → is_ended b (xs ++ ys) ≡ is_ended (is_ended b xs) ys
 is_ended-append b [] ys = refl
 is_ended-append b (ObjectOctet x ∷ xs) ys = is_ended-append false xs ys
 is_ended-append b (ObjectEnd ∷ xs) ys = is_ended-append true xs ys
@@ -34,10 +34,10 @@ not_ended (x ∷ xs) = not_ended xs
 delivered-append : (x y : List ℕ) → story.delivered (x ++ y) ≡ story.delivered x ++ story.delivered y
 delivered-append x y = flat_map-append story.events_of x y
 
-goes_nowhere : (old : Option Place) → GoesOn old [] [] old
+goes_nowhere : (old : Option Place) → LeadsOn old [] [] old
 goes_nowhere old octets text at = subst (λ (t : List ℕ). StandsAt old (octets ++ []) t) (sym (append-nil text)) (subst (λ (o : List ℕ). StandsAt old o text) (sym (append-nil octets)) at)
 
-pub passed_nothing : {S : Type 0} (goes : S → List story.Event → S → Type 0) (failures : S → ℕ) (old : Option Place) (a : S) → IsSome old → goes a [] a → Passed goes failures old a [] old a
+pub passed_nothing : {S : Type 0} (goes : S → List story.StoryEvent → S → Type 0) (failures : S → ℕ) (old : Option Place) (a : S) → IsSome old → goes a [] a → Passed goes failures old a [] old a
 passed_nothing goes failures old a some g = record {
   takes_calls = some;
   more = [];
@@ -47,13 +47,13 @@ passed_nothing goes failures old a some g = record {
   whole = λ before w e. w e;
 }
 
-pub passed_joined : {S : Type 0} (goes : S → List story.Event → S → Type 0) (failures : S → ℕ)
-    → ((a b c : S) (xs ys : List story.Event) → goes a xs b → goes b ys c → goes a (xs ++ ys) c)
-    → (p q r : Option Place) (a b c : S) (xs ys : List Event) → Passed goes failures p a xs q b → Passed goes failures q b ys r c → Passed goes failures p a (xs ++ ys) r c
+pub passed_joined : {S : Type 0} (goes : S → List story.StoryEvent → S → Type 0) (failures : S → ℕ)
+    → ((a b c : S) (xs ys : List story.StoryEvent) → goes a xs b → goes b ys c → goes a (xs ++ ys) c)
+    → (p q r : Option Place) (a b c : S) (xs ys : List ObjectEvent) → Passed goes failures p a xs q b → Passed goes failures q b ys r c → Passed goes failures p a (xs ++ ys) r c
 passed_joined goes failures joined p q r a b c xs ys h k = record {
   takes_calls = k.takes_calls;
   more = h.more ++ k.more;
-  told = subst (λ (es : List story.Event). goes a es c) (sym (delivered-append h.more k.more)) (joined a b c (story.delivered h.more) (story.delivered k.more) h.told k.told);
+  told = subst (λ (es : List story.StoryEvent). goes a es c) (sym (delivered-append h.more k.more)) (joined a b c (story.delivered h.more) (story.delivered k.more) h.told k.told);
   calm = k.calm ∙ h.calm;
   stands = λ octets text at.
       let next = k.stands (octets ++ octets_in xs) (text ++ h.more) (h.stands octets text at) in
@@ -62,15 +62,15 @@ passed_joined goes failures joined p q r a b c xs ys h k = record {
   whole = λ before w e. k.whole (is_ended before xs) (λ e'. h.whole before w e') (sym (is_ended-append before xs ys) ∙ e);
 }
 
-pub halted_joined : {S : Type 0} (goes : S → List story.Event → S → Type 0) (failures : S → ℕ)
-    → ((a b c : S) (xs ys : List story.Event) → goes a xs b → goes b ys c → goes a (xs ++ ys) c)
-    → (p q : Option Place) (a b c : S) (xs ys : List Event) (refused : Event) (cause : Option MessageCause) → Passed goes failures p a xs q b → Halted goes failures q b ys refused cause c
+pub halted_joined : {S : Type 0} (goes : S → List story.StoryEvent → S → Type 0) (failures : S → ℕ)
+    → ((a b c : S) (xs ys : List story.StoryEvent) → goes a xs b → goes b ys c → goes a (xs ++ ys) c)
+    → (p q : Option Place) (a b c : S) (xs ys : List ObjectEvent) (refused : ObjectEvent) (cause : Option MessageCause) → Passed goes failures p a xs q b → Halted goes failures q b ys refused cause c
     → Halted goes failures p a (xs ++ ys) refused cause c
 halted_joined goes failures joined p q a b c xs ys refused cause h k = record {
   why = k.why;
   is_cause = k.is_cause;
   more = h.more ++ k.more;
-  told = subst (λ (es : List story.Event). goes a es c) (sym (delivered-append h.more k.more)) (joined a b c (story.delivered h.more) (story.delivered k.more) h.told k.told);
+  told = subst (λ (es : List story.StoryEvent). goes a es c) (sym (delivered-append h.more k.more)) (joined a b c (story.delivered h.more) (story.delivered k.more) h.told k.told);
   counts = subst (λ (n : ℕ). CountsCause n (failures c) k.why) h.calm k.counts;
   leads = λ octets text at.
       let next = k.leads (octets ++ octets_in xs) (text ++ h.more) (h.stands octets text at) in (
@@ -84,19 +84,19 @@ halted_joined goes failures joined p q a b c xs ys refused cause h k = record {
 }
 
 -- one run of octets, at least one
-pub passed_octets : {S : Type 0} (goes : S → List story.Event → S → Type 0) (failures : S → ℕ) (old new : Option Place) (a b : S) (run : List ℕ) (more : List ℕ)
-    → (run ≡ [] → ⊥) → IsSome new → goes a (story.delivered more) b → failures b ≡ failures a → GoesOn old run more new → Passed goes failures old a (map ObjectOctet run) new b
+pub passed_octets : {S : Type 0} (goes : S → List story.StoryEvent → S → Type 0) (failures : S → ℕ) (old new : Option Place) (a b : S) (run : List ℕ) (more : List ℕ)
+    → (run ≡ [] → ⊥) → IsSome new → goes a (story.delivered more) b → failures b ≡ failures a → LeadsOn old run more new → Passed goes failures old a (map ObjectOctet run) new b
 passed_octets goes failures old new a b [] more some takes told calm stands = absurd (some refl)
 passed_octets goes failures old new a b (x ∷ xs) more some takes told calm stands = record {
   takes_calls = takes;
   more = more;
   told = told;
   calm = calm;
-  stands = subst (λ (o : List ℕ). GoesOn old o more new) (sym (octets_in-octets (x ∷ xs))) stands;
+  stands = subst (λ (o : List ℕ). LeadsOn old o more new) (sym (octets_in-octets (x ∷ xs))) stands;
   whole = λ before w e. let bad : true ≡ false = sym e ∙ not_ended xs in cc;
 }
 
-pub passed_end : {S : Type 0} (goes : S → List story.Event → S → Type 0) (failures : S → ℕ) (old : Option Place) (a : S) → IsSome old → goes a [] a → IsWhole old
+pub passed_end : {S : Type 0} (goes : S → List story.StoryEvent → S → Type 0) (failures : S → ℕ) (old : Option Place) (a : S) → IsSome old → goes a [] a → IsWhole old
     → Passed goes failures old a (ObjectEnd ∷ []) old a
 passed_end goes failures old a some g whole = record {
   takes_calls = some;
@@ -107,7 +107,7 @@ passed_end goes failures old a some g whole = record {
   whole = λ before w e. whole;
 }
 
-pub halted_octet : {S : Type 0} (goes : S → List story.Event → S → Type 0) (failures : S → ℕ) (old : Option Place) (a b : S) (front : List ℕ) (octet : ℕ) (why : MessageCause) (more : List ℕ)
+pub halted_octet : {S : Type 0} (goes : S → List story.StoryEvent → S → Type 0) (failures : S → ℕ) (old : Option Place) (a b : S) (front : List ℕ) (octet : ℕ) (why : MessageCause) (more : List ℕ)
     → goes a (story.delivered more) b → CountsCause (failures a) (failures b) why → GoesSomewhere old front more
     → ((octets text : List ℕ) → StandsAt old octets text → HasCause why (octets ++ front) octet) → Halted goes failures old a (map ObjectOctet front) (ObjectOctet octet) (Some why) b
 halted_octet goes failures old a b front octet why more told counts leads has = record {
@@ -125,7 +125,7 @@ leads_nowhere : (old : Option Place) → GoesSomewhere old [] []
 leads_nowhere old octets text (place, is, leads) =
     (place, subst (λ (t : List ℕ). LeadTo (octets ++ []) t place) (sym (append-nil text)) (subst (λ (o : List ℕ). LeadTo o text place) (sym (append-nil octets)) leads))
 
-pub halted_end : {S : Type 0} (goes : S → List story.Event → S → Type 0) (failures : S → ℕ) (old : Option Place) (a : S) (why : MessageCause) → IsSome old → why ≡ Unfinished → goes a [] a
+pub halted_end : {S : Type 0} (goes : S → List story.StoryEvent → S → Type 0) (failures : S → ℕ) (old : Option Place) (a : S) (why : MessageCause) → IsSome old → why ≡ Unfinished → goes a [] a
     → ((octets text : List ℕ) → StandsAt old octets text → MessageDiesAt octets End) → Halted goes failures old a [] ObjectEnd (Some why) a
 halted_end goes failures old a why some is g dies = record {
   why = why;
@@ -138,7 +138,7 @@ halted_end goes failures old a why some is g dies = record {
 }
 
 -- an empty run
-pub passed_empty : {S : Type 0} (goes : S → List story.Event → S → Type 0) (failures : S → ℕ) (old : Option Place) (a : S) (run : List ℕ) → true ≡ (length run == 0) → IsSome old → goes a [] a
+pub passed_empty : {S : Type 0} (goes : S → List story.StoryEvent → S → Type 0) (failures : S → ℕ) (old : Option Place) (a : S) (run : List ℕ) → true ≡ (length run == 0) → IsSome old → goes a [] a
     → Passed goes failures old a (map ObjectOctet run) old a
 passed_empty goes failures old a [] none some g = passed_nothing goes failures old a some g
 passed_empty goes failures old a (x ∷ xs) none some g = absurd (let is = eqb-true (length (x ∷ xs)) 0 (sym none) in omega (arith, is))

@@ -2,24 +2,22 @@
 use Rattle.std.specs.Prelude.{◌≡◌, ℕ, zero, suc, ◌+◌, ◌*◌, ◌^◌, ◌<◌, ◌≤◌, ◌==◌, if◌then◌else◌, Bool, true, List, [], ◌∷◌, ◌++◌, length, sum, take, drop, Option, Some, None, IfSome}
 use Rattle.std.specs.List.{AllByRecursion}
 use Rattle.std.specs.Option.{unwrap_or}
-use Rattle.iim_dataset.specs.Octets.{IsOctet, Octets}
-use Rattle.iim_dataset.specs.Datasets.{Dataset, canonical_stream, count_octets}
-use Rattle.iim_dataset.specs.Splits.{Begun, InTag, InData, IsBegun}
-use Rattle.iim_dataset.specs.Laws.{HasSpellings}
-use Rattle.iim_fields.specs.Faults.{is_kept, kept, present_record}
-use Rattle.iim_fields.specs.Records.{AreSections}
-use Rattle.iim_tables.specs.Numbers.{greatest_size}
-use Rattle.iim_object.specs.Behind.{of_record}
-use Rattle.iim_object.specs.Plans.{max_subfiles}
-use Rattle.iim_object.specs.Records.{numbers_of}
-use Rattle.iim_object.specs.Places as objects
-use Rattle.iim_object.specs.Saved.{IsPossible, stated_numbers}
-use Rattle.iim_object.specs.Sizes.{AreStated, number_at}
+use Rattle.iim_dataset.specs.Format.Octets.{IsOctet, Octets, greatest_size}
+use Rattle.iim_dataset.specs.Format.Datasets.{Dataset, canonical_stream, count_octets, of_record}
+use Rattle.iim_dataset.specs.Format.Splits.{Begun, InTag, InData, IsBegun}
+use Rattle.iim_dataset.specs.Format.Laws.{HasSpellings}
+use Rattle.iim_fields.specs.Format.Faults.{is_kept, kept, present_record}
+use Rattle.iim_fields.specs.Format.Records.{AreSections}
+use Rattle.iim_object.specs.Format.Plans.{max_subfiles}
+use Rattle.iim_object.specs.Format.Records.{numbers_of}
+use Rattle.iim_object.specs.Format.Places as objects
+use Rattle.iim_object.specs.Format.Saved.{IsPossible, stated_numbers}
+use Rattle.iim_object.specs.Format.Sizes.{AreStated, number_at}
 use Rattle.iim_unpack.specs.Format.Admitted.{object_of}
-use Rattle.iim_object.specs.Packing.{number_dataset, subfile_datasets, confirmed_datasets}
-use Rattle.wire_message.specs.Saved.{LeadToSaved}
+use Rattle.iim_object.specs.Format.Packing.{number_dataset, subfile_datasets, confirmed_datasets}
+use Rattle.wire_message.specs.Format.Saved.{LeadToSaved}
 use Rattle.wire_message.specs.declared.saved.MessagePlace.{MessagePlace}
-use Rattle.iim_unpack.specs.Begins.{IsNumber}
+use Rattle.iim_unpack.specs.Format.Begins.{IsSize}
 use Rattle.iim_unpack.specs.Format.Open.{section}
 use Rattle.iim_unpack.specs.Format.Possible.{Possible, AreOpenOrWhole, widest}
 use Rattle.iim_unpack.specs.Format.Tickets.{Place, phase_of, IsPlaceOf}
@@ -48,7 +46,7 @@ abbrev pub plain_numbers : Numbers → List Dataset
 plain_numbers n =
     one_dataset mode_dataset n.mode ++ (one_dataset (number_dataset 7 20) n.largest ++ (one_dataset (number_dataset 7 90) n.announced ++ one_dataset (number_dataset 7 95) n.maximum))
 
--- the octets cut into so many parts of at most `size` octets, each filled before the next
+-- the octets cut into `count` parts of at most `size` octets, each filled before the next
 abbrev pub filled : (size count : ℕ) → List ℕ → List (List ℕ)
 filled size zero xs = []
 filled size (suc count) xs = take size xs ∷ filled size count (drop size xs)
@@ -57,7 +55,7 @@ filled size (suc count) xs = take size xs ∷ filled size count (drop size xs)
 abbrev pub plain_end : Bool → List ℕ → List Dataset
 plain_end ended object = if ended then confirmed_datasets object else []
 
--- records 1 and 2, the numbers of record 7, so many subfiles of the object, each filled before the next, and its end where it has
+-- records 1 and 2, the numbers of record 7, `heads` subfiles of the object, each filled before the next, and its end where it has
 -- come
 abbrev pub plain : List Dataset → Numbers → ℕ → List ℕ → Bool → List Dataset
 plain fields numbers heads object ended = fields ++ (plain_numbers numbers ++ (subfile_datasets (filled (unwrap_or numbers.largest 0) heads object) ++ plain_end ended object))
@@ -70,7 +68,7 @@ pub record AreSpellable (fields : List Dataset) (numbers : Numbers) (heads : ℕ
   pub kept : AllByRecursion (λ d. is_kept d.rec ≡ true) fields
   pub spelled : AllByRecursion HasSpellings fields
   pub mode : IfSome numbers.mode IsOctet
-  pub fit : AllByRecursion IsNumber (number_list numbers)
+  pub fit : AllByRecursion IsSize (number_list numbers)
   pub octets : Octets object
   pub few : length object < 2 ^ 32
   pub room : length object ≤ heads * unwrap_or numbers.largest 0
@@ -143,8 +141,8 @@ plain_of ds =
     (length (of_record 8 ds)) (object_of ds) (present_record ds == 9)
 
 -- What follows datasets to the sections of an envelope follows their plain ones to such too.
-abbrev pub PlainDatasetsGoOnAlike : Type 0
-PlainDatasetsGoOnAlike = (ds more : List Dataset) → AreSections (ds ++ more) → length (of_record 8 ds) ≤ max_subfiles → length (object_of ds) ≤ greatest_size → AreSections (plain_of ds ++ more)
+abbrev pub PlainDatasetsContinueAlike : Type 0
+PlainDatasetsContinueAlike = (ds more : List Dataset) → AreSections (ds ++ more) → length (of_record 8 ds) ≤ max_subfiles → length (object_of ds) ≤ greatest_size → AreSections (plain_of ds ++ more)
 
 -- Places of an object whose numbers, whose ends and whose subfiles in number and in octets are the same are possible alike, where no
 -- subfile is longer than 7:20.

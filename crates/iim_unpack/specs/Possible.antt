@@ -1,6 +1,6 @@
 -- The tickets of places, and what an unpacker at a place does.
 use Rattle.std.specs.Prelude.{ℕ, ◌-◌, List, [], ◌∷◌}
-use Rattle.iim_unpack.specs.Unpacking.{Unpacking, Stands, limits_in}
+use Rattle.iim_unpack.specs.Format.Unpacking.{Unpacking, Stands, limits_in}
 use Rattle.iim_unpack.specs.Format.Open.{IsOpen}
 use Rattle.wire_message.specs.declared.saved.MessagePlace.{MessagePlace}
 use Rattle.iim_unpack.specs.Format.Tickets.{Place, IsPlaceOf, part_number, ticket_of}

@@ -1,19 +1,19 @@
 -- The readers that a ticket's place has.
 use Rattle.std.specs.Prelude.{◌≡◌, ℕ, ◌+◌, ◌<◌, ◌≤◌, ◌==◌, if◌then◌else◌, Bool, true, List, [], length, Option, None, IsSome, IsTrue}
-use Rattle.iim_dataset.specs.Datasets.{Dataset}
-use Rattle.iim_dataset.specs.Octets.{Octets}
+use Rattle.iim_dataset.specs.Format.Datasets.{Dataset}
+use Rattle.iim_dataset.specs.Format.Octets.{Octets}
 use Rattle.iim_dataset.specs.declared.head.Head.{Head}
-use Rattle.iim_dataset.specs.Reading.{TakesCalls}
-use Rattle.iim_fields.specs.Alive.{IsAliveAt}
-use Rattle.iim_fields.specs.Faults.{is_kept, kept, kept_octets}
-use Rattle.iim_fields.specs.Standing.{FieldsPlace, StandsBehind, StandsIn, IsWithin}
+use Rattle.iim_dataset.specs.Format.Reading.{TakesCalls}
+use Rattle.iim_fields.specs.Format.Alive.{SectionsLiveAt}
+use Rattle.iim_fields.specs.Format.Faults.{is_kept, kept, kept_octets}
+use Rattle.iim_fields.specs.Format.Standing.{FieldsPlace, StandsAfter, StandsIn, IsWithin}
 use Rattle.iim_fields.specs.declared.limits.Limits.{Limits}
-use Rattle.iim_object.specs.Places as objects
-use Rattle.iim_object.specs.Reading as reading
-use Rattle.iim_object.specs.Saved.{IsAt, IsPossible}
+use Rattle.iim_object.specs.Format.Places as objects
+use Rattle.iim_object.specs.Format.Reading as reading
+use Rattle.iim_object.specs.Format.Saved.{IsAt, IsPossible}
 use Rattle.iim_object.specs.declared.state.State.{State}
-use Rattle.wire_message.specs.Reading as wire
-use Rattle.wire_message.specs.Saved.{LeadToSaved}
+use Rattle.wire_message.specs.Format.Reading as wire
+use Rattle.wire_message.specs.Format.Saved.{LeadToSaved}
 use Rattle.wire_message.specs.declared.place.Place.{Place as Message}
 use Rattle.wire_message.specs.declared.saved.MessagePlace.{MessagePlace}
 use Rattle.iim_unpack.specs.ByLayers.{LeadsByLayers, head_at, record_datasets, begun_of_object, object_after}
@@ -23,13 +23,14 @@ use Rattle.iim_unpack.specs.Possible.{split_of}
 use Rattle.iim_unpack.specs.Taking.{tag_place}
 use Rattle.iim_unpack.specs.Format.TicketForm.{Split}
 use Rattle.iim_unpack.specs.Format.Tickets.{Place, Phase, TagBegun, DataBegun, AllEnded}
-use Rattle.iim_unpack.specs.Unpacking.{Unpacking, IsUnpacking, limits_in, are_some}
+use Rattle.iim_unpack.specs.Format.Unpacking.{Unpacking, limits_in, are_some}
+use Rattle.iim_unpack.specs.Unpacking.{IsUnpacking}
 use Rattle.iim_unpack.specs.declared.possible.Readers.{Readers}
 use Rattle.iim_unpack.specs.declared.ticket_fault.TicketFault.{TicketFault}
 use Rattle.iim_unpack.specs.declared.ticket_fault.TicketFault.TheVariants.{HeaderFull, TooManyFields}
 use Rattle.iim_unpack.specs.Format.Restored.{IsTicketAt, IsRestored, octets_told, fields_told}
 
--- which limit so many octets and datasets pass
+-- which limit `octets` octets and `fields` datasets pass
 abbrev pub IsLimitFault : Limits → (octets fields : ℕ) → TicketFault → Type 0
 IsLimitFault limits octets fields HeaderFull = limits.octets < octets
 IsLimitFault limits octets fields TooManyFields = (octets ≤ limits.octets) × (limits.fields < fields)
@@ -39,9 +40,9 @@ IsLimitFault limits octets fields _ = ⊥
 
 -- Where the reader of records stands by whole datasets: after them, or in the begun data after them.
 abbrev pub RecordsStand : FieldsPlace → ℕ → Phase → List Dataset → Type 0
-RecordsStand fields section (TagBegun held) ds = StandsBehind fields ds
+RecordsStand fields section (TagBegun held) ds = StandsAfter fields ds
 RecordsStand fields section (DataBegun set count left given) ds = StandsIn fields ds (head_at section set count) given
-RecordsStand fields section AllEnded ds = StandsBehind fields ds
+RecordsStand fields section AllEnded ds = StandsAfter fields ds
 
 -- whether an octet has come: there was a head, or a tag is begun
 abbrev pub has_come : ℕ → Phase → Bool
@@ -58,7 +59,7 @@ ObjectStands reader place = (p : objects.Place) → IsAt place.numbers place.tak
 abbrev pub MessageStands : Option Message → Place → Type 0
 MessageStands reader place = (octets text : List ℕ) → LeadToSaved octets text place.message → wire.StandsAt reader octets text
 
--- The unpacker was made of the readers of the place, and counts so many octets.
+-- The unpacker was made of the readers of the place, and counts `at` octets.
 pub record IsMadeFor (place : Place) (numbers : Numbers) (limits : Limits) (at : ℕ) (u : Unpacking) : Type 0 where
   pub taking : u.refused ≡ None
   pub counts : u.octets ≡ at
@@ -101,7 +102,7 @@ pub record AreAt (s : Split) (r : Readers) : Type 0 where
 
 -- The head may stand after the datasets, within the limits.
 abbrev pub MayBegin : Limits → List Dataset → Head → Type 0
-MayBegin limits ds h = IsAliveAt ds h × (IsTrue (is_kept h.rec) → IsWithin limits (kept_octets ds + h.count) (length (kept ds) + 1))
+MayBegin limits ds h = SectionsLiveAt ds h × (IsTrue (is_kept h.rec) → IsWithin limits (kept_octets ds + h.count) (length (kept ds) + 1))
 
 -- With what is begun the kept datasets are within the limits.
 abbrev pub AreWithinWith : Limits → ℕ → Phase → List Dataset → Type 0

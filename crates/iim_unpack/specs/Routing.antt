@@ -1,22 +1,23 @@
 -- What a router of datasets does: its parts go by the events, its references stay what they are, and the header has the room
 -- that it had.
 use Rattle.std.specs.Prelude.{◌≡◌, ℕ, List, Option, Some, None, IsSome, true}
-use Rattle.iim_dataset.specs.Events.{Event}
-use Rattle.iim_fields.specs.Standing.{IsBetween, room_of}
-use Rattle.wire_story.specs.Delivery as story
-use Rattle.iim_unpack.specs.Parts.{TakesHead, TakesData, Went, Stopped, has_ended}
+use Rattle.iim_dataset.specs.Format.Events.{DatasetEvent}
+use Rattle.iim_fields.specs.Format.Standing.{IsBetween, room_of}
+use Rattle.wire_story.specs.Format.Delivery as story
+use Rattle.iim_unpack.specs.Parts.{TakesHead, TakesData, Went, WasStopped}
+use Rattle.iim_unpack.specs.Format.Parts.{has_ended}
 use Rattle.iim_unpack.specs.declared.parts.Parts.{Parts}
 use Rattle.iim_unpack.specs.declared.router.Router.{Router}
 
-abbrev pub Routes : {S : Type 0} → (S → List story.Event → S → Type 0) → (S → ℕ) → Router S → List Event → Router S → Type 0
+abbrev pub Routes : {S : Type 0} → (S → List story.StoryEvent → S → Type 0) → (S → ℕ) → Router S → List DatasetEvent → Router S → Type 0
 Routes goes failures a events b = (a.parts.ghost_name ≡ b.parts.ghost_name) × (a.sink.ghost_name ≡ b.sink.ghost_name)
     × Went goes failures a.parts.now a.sink.now events b.parts.now b.sink.now × (room_of b.parts.now.fields ≡ room_of a.parts.now.fields)
 
-abbrev pub RefusesRoute : {S : Type 0} → (S → List story.Event → S → Type 0) → (S → ℕ) → Router S → List Event → Event → Router S → Type 0
+abbrev pub RefusesRoute : {S : Type 0} → (S → List story.StoryEvent → S → Type 0) → (S → ℕ) → Router S → List DatasetEvent → DatasetEvent → Router S → Type 0
 RefusesRoute goes failures a events event b = (a.parts.ghost_name ≡ b.parts.ghost_name) × (a.sink.ghost_name ≡ b.sink.ghost_name)
-    × Stopped goes failures a.parts.now a.sink.now events event b.refused b.sink.now × (room_of b.parts.now.fields ≡ room_of a.parts.now.fields)
+    × WasStopped goes failures a.parts.now a.sink.now events event b.refused b.sink.now × (room_of b.parts.now.fields ≡ room_of a.parts.now.fields)
 
--- The parts take a head, or so many octets.
+-- The parts take a head, or `left` octets.
 abbrev pub Takes : Parts → Option ℕ → Type 0
 Takes parts None = TakesHead parts
 Takes parts (Some left) = TakesData parts left

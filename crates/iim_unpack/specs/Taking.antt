@@ -1,14 +1,14 @@
 -- What takes whole datasets, and the datasets by which it is told the records of a ticket.
 use Rattle.std.specs.Prelude.{◌≡◌, ℕ, Bool, true, false, List, [], ◌∷◌, ◌++◌, length, Option, None, cond}
 use Rattle.std.specs.List.{AllByRecursion}
-use Rattle.iim_dataset.specs.Datasets.{Dataset}
-use Rattle.iim_dataset.specs.Places.{between}
+use Rattle.iim_dataset.specs.Format.Datasets.{Dataset}
+use Rattle.iim_dataset.specs.Format.Places.{between}
 use Rattle.iim_dataset.specs.declared.place.DatasetPlace.{DatasetPlace}
 use Rattle.iim_dataset.specs.declared.place.DatasetPlace.TheVariants.{Tag, Inside}
-use Rattle.iim_fields.specs.Alive.{IsAlive}
-use Rattle.iim_fields.specs.Faults.{is_kept, kept, kept_octets}
-use Rattle.iim_fields.specs.Standing.{IsWithin}
-use Rattle.iim_fields.specs.Stores.{Room}
+use Rattle.iim_fields.specs.Format.Alive.{SectionsLive}
+use Rattle.iim_fields.specs.Format.Faults.{is_kept, kept, kept_octets}
+use Rattle.iim_fields.specs.Format.Standing.{IsWithin}
+use Rattle.iim_fields.specs.Format.Stores.{Room}
 use Rattle.iim_fields.specs.declared.limits.Limits.{Limits}
 use Rattle.wire_message.specs.declared.saved.MessagePlace.{MessagePlace}
 use Rattle.iim_unpack.specs.ByLayers.{head_at}
@@ -21,15 +21,15 @@ abbrev pub AreKept : List Dataset → Type 0
 AreKept ds = AllByRecursion (λ (d : Dataset). is_kept d.rec ≡ true) ds
 
 -- Datasets within the limits can continue after these, and these are within them.
-pub record GoOnWithin (limits : Limits) (ds : List Dataset) : Type 0 where
-  pub alive : IsAlive ds
+pub record CanContinueWithin (limits : Limits) (ds : List Dataset) : Type 0 where
+  pub alive : SectionsLive ds
   pub within : IsWithin limits (kept_octets ds) (length (kept ds))
 
 -- Whether it took the datasets. If so, it stands after them, wherever it stood. If not, no datasets within the limits can continue with
 -- them, wherever it stood.
 abbrev pub TookAll : {T : Type 0} → (T → Type 0) → (T → List Dataset → Type 0) → (T → Limits) → T → List Dataset → T → Bool → Type 0
 TookAll ready stands limits old es new true = ready new × (limits new ≡ limits old) × ((ds : List Dataset) → stands old ds → stands new (ds ++ es))
-TookAll ready stands limits old es new false = (ds : List Dataset) → stands old ds → GoOnWithin (limits old) (ds ++ es) → ⊥
+TookAll ready stands limits old es new false = (ds : List Dataset) → stands old ds → CanContinueWithin (limits old) (ds ++ es) → ⊥
 
 -- the room of what keeps nothing
 abbrev pub no_room : Room

@@ -2,7 +2,7 @@
 use Rattle.std.specs.Prelude.{◌≡◌, ℕ, ◌-◌, ◌≤◌, List, ◌∷◌, ◌++◌, length, map, codes}
 use Rattle.std.specs.List.{flat_map}
 use Rattle.iim_unpack.specs.Format.Tickets.{Phase, TagBegun, DataBegun, AllEnded, four, phase_octets, fields_octets, number_octets, text_octets}
-use Rattle.iim_unpack.specs.Begins.{AreTexts}
+use Rattle.iim_unpack.specs.Format.Begins.{AreTexts}
 use Rattle.iim_unpack.specs.declared.ticket_fault.TicketFault.{TicketFault}
 use Rattle.iim_unpack.specs.declared.ticket_fault.TicketFault.TheVariants.{Form, Version}
 use Rattle.iim_unpack.specs.declared.ticket_parts.TicketParts.{TicketParts}

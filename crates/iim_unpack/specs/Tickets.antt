@@ -1,18 +1,18 @@
 -- What the readers of an unpacker tell of a ticket.
 use Rattle.std.specs.Prelude.{◌≡◌, ℕ, ◌-◌, ◌==◌, if◌then◌else◌, List, length, sum, Option}
-use Rattle.iim_dataset.specs.Datasets.{Dataset}
+use Rattle.iim_dataset.specs.Format.Datasets.{Dataset}
 use Rattle.iim_dataset.specs.declared.head.Head.{Head}
 use Rattle.iim_dataset.specs.declared.place.DatasetPlace.{DatasetPlace}
 use Rattle.iim_dataset.specs.declared.place.DatasetPlace.TheVariants.{Tag, Inside}
-use Rattle.iim_fields.specs.Faults.{kept, present_record}
-use Rattle.iim_fields.specs.Standing as records
-use Rattle.iim_object.specs.Places as object_places
-use Rattle.iim_object.specs.Reading as objects
-use Rattle.iim_object.specs.Saved.{stated_numbers}
-use Rattle.wire_message.specs.Saved.{IsAt}
+use Rattle.iim_fields.specs.Format.Faults.{kept, present_record}
+use Rattle.iim_fields.specs.Format.Standing as records
+use Rattle.iim_object.specs.Format.Places as object_places
+use Rattle.iim_object.specs.Format.Reading as objects
+use Rattle.iim_object.specs.Format.Saved.{stated_numbers}
+use Rattle.wire_message.specs.Format.Saved.{IsAt}
 use Rattle.wire_message.specs.declared.saved.MessagePlace.{MessagePlace}
 use Rattle.iim_unpack.specs.Format.Open.{section}
-use Rattle.iim_unpack.specs.Parts.{has_ended}
+use Rattle.iim_unpack.specs.Format.Parts.{has_ended}
 use Rattle.iim_unpack.specs.declared.parts.Parts.{Parts}
 use Rattle.iim_unpack.specs.Format.Tickets.{Phase, TagBegun, DataBegun, AllEnded, ticket_of}
 
@@ -38,7 +38,7 @@ pub record IsSpelled (place : DatasetPlace) (parts : Parts) (ticket : List ℕ) 
   pub taken : ℕ
   pub heads : ℕ
   pub message : MessagePlace
-  pub behind : (ds : List Dataset) → records.StandsBehind parts.fields ds → section ≡ present_record ds
+  pub after : (ds : List Dataset) → records.StandsAfter parts.fields ds → section ≡ present_record ds
   pub inside : (ds : List Dataset) (h : Head) (given : List ℕ) → records.StandsIn parts.fields ds h given → section ≡ h.rec
   pub numbers_are : (p : object_places.Place) → objects.StandsAt parts.object p → numbers ≡ stated_numbers p.stated
   pub taken_is : (p : object_places.Place) → objects.StandsAt parts.object p → taken ≡ sum p.lengths - left_in place

@@ -2,13 +2,13 @@
 
 ghost use Rattle.std.specs.Prelude.{◌≡◌, ◌≤◌, [], ℕ, length, drop, IfOk, IfErr, OnErr};
 ghost use Rattle.std.specs.Io.KnownBytes.{IsAtEnd};
-ghost use Rattle.iim_dataset.specs.Devices.{Missed};
-ghost use Rattle.iim_dataset.specs.DeviceLaws.{HasGiven};
+ghost use Rattle.iim_dataset.specs.Format.Devices.{Missed};
+ghost use Rattle.iim_dataset.specs.Format.DeviceLaws.{HasGiven};
 
 use iim_dataset::{IoFault, Source, take};
 use std::marker::Model;
 
-/// So many octets are asked for at once.
+/// How many octets are asked for at once.
 const BLOCK: usize = 4096;
 
 /// Octets that were read and not used yet, in room for a read.
@@ -49,7 +49,7 @@ impl Block {
         &self.octets[self.from..self.to]
     }
 
-    /// Continues after so many of the octets.
+    /// Continues after the first `used` of the octets.
     pub fn pass(&mut self, used: usize)
         requires { used ≤ length self.old }
         ensures { self.new ≡ drop used self.old }

@@ -1,7 +1,7 @@
 //! Tokens that a layer refuses.
 
 ghost use Rattle.std.specs.Prelude.{◌≡◌};
-ghost use Rattle.iim_fields.specs.Causes.{number_of_cause};
+ghost use Rattle.iim_fields.specs.Format.Causes.{number_of_cause};
 ghost use Rattle.iim_unpack.specs.Format.Names.{cause_number};
 ghost use Rattle.iim_unpack.specs.Format.Refusals.{of_field, size_on, too_many_on, message_on, cause_of, cause_of_size, cause_of_message, layer_of, layer_of_message};
 
@@ -13,7 +13,7 @@ use wire_message::MessageCause;
 
 /// A token that is refused: the layer, the record and number of the dataset that is named, and the cause.
 #[derive(Clone, Copy, Debug, PartialEq, Eq)]
-pub(crate) struct Fault {
+pub(crate) struct TokenFault {
     /// The layer that refuses it.
     pub layer: Layer,
     /// The number of the record.
@@ -64,10 +64,10 @@ fn size_cause(cause: SizeCause) -> Cause
 }
 
 /// A fault of the record layer or of the limits.
-pub(crate) fn of_field(fault: FieldFault) -> Fault
+pub(crate) fn of_field(fault: FieldFault) -> TokenFault
     ensures { result ≡ of_field fault }
 {
-    Fault {
+    TokenFault {
         layer: field_layer(fault.cause),
         rec: fault.rec,
         set: fault.set,
@@ -76,10 +76,10 @@ pub(crate) fn of_field(fault: FieldFault) -> Fault
 }
 
 /// A fault of the object layer, on the dataset of the head.
-pub(crate) fn size_on(head: Head, cause: SizeCause) -> Fault
+pub(crate) fn size_on(head: Head, cause: SizeCause) -> TokenFault
     ensures { result ≡ size_on head cause }
 {
-    Fault {
+    TokenFault {
         layer: Layer::Object,
         rec: head.rec,
         set: head.set,
@@ -88,10 +88,10 @@ pub(crate) fn size_on(head: Head, cause: SizeCause) -> Fault
 }
 
 /// The head of a subfile too many.
-pub(crate) fn too_many_on(head: Head) -> Fault
+pub(crate) fn too_many_on(head: Head) -> TokenFault
     ensures { result ≡ too_many_on head }
 {
-    Fault {
+    TokenFault {
         layer: Layer::Limits,
         rec: head.rec,
         set: head.set,
@@ -122,10 +122,10 @@ fn message_cause(cause: MessageCause) -> Cause
 }
 
 /// A fault of the message, the story or the sink, on the dataset of the head.
-pub(crate) fn message_on(head: Head, cause: MessageCause) -> Fault
+pub(crate) fn message_on(head: Head, cause: MessageCause) -> TokenFault
     ensures { result ≡ message_on head cause }
 {
-    Fault {
+    TokenFault {
         layer: message_layer(cause),
         rec: head.rec,
         set: head.set,

@@ -2,10 +2,11 @@
 
 ghost use Rattle.std.specs.Prelude.{◌≡◌, ◌^◌, ◌<◌, ◌++◌, ◌∷◌, [], length, IfSome, IfNone};
 ghost use Rattle.iim_unpack.specs.Format.Tickets.{four, field_octets, number_octets, text_octets};
-ghost use Rattle.iim_unpack.specs.TicketFields.{IsField};
-ghost use Rattle.iim_unpack.specs.Begins.{BeginsWithNone, IsFour, IsNumber, IsShort, dataset};
+ghost use Rattle.iim_unpack.specs.Format.Begins.{IsLongField};
+ghost use Rattle.iim_unpack.specs.Begins.{BeginsWithNone, IsFour};
+ghost use Rattle.iim_unpack.specs.Format.Begins.{IsSize, IsShort, dataset};
 
-/// So many octets, and those that follow.
+/// The first `count` octets, and those that follow.
 pub(crate) fn take_front(octets: &[u8], count: u64) -> Option<(&[u8], &[u8])>
     ensures parts { IfSome result (λ r. octets.now ≡ r.0.now ++ r.1.now) }
     ensures len { IfSome result (λ r. length r.0.now ≡ count) }
@@ -59,8 +60,8 @@ pub(crate) fn take_text(octets: &[u8]) -> Option<(&[u8], &[u8])>
 /// A number that may be absent, and what follows it.
 pub(crate) fn take_option(octets: &[u8]) -> Option<(Option<u64>, &[u8])>
     ensures parts { IfSome result (λ r. octets.now ≡ number_octets r.0 ++ r.1.now) }
-    ensures fits { IfSome result (λ r. IsNumber r.0) }
-    ensures none { IfNone result (BeginsWithNone IsNumber number_octets octets.now) }
+    ensures fits { IfSome result (λ r. IsSize r.0) }
+    ensures none { IfNone result (BeginsWithNone IsSize number_octets octets.now) }
 {
     let (mark, rest) = take_octet(octets)?;
     match mark {
@@ -77,7 +78,7 @@ pub(crate) fn take_option(octets: &[u8]) -> Option<(Option<u64>, &[u8])>
 pub(crate) fn take_field(octets: &[u8]) -> Option<((u8, u8, &[u8]), &[u8])>
     ensures parts { IfSome result (λ r. octets.now ≡ field_octets (dataset r.0.0 r.0.1 r.0.2.now) ++ r.1.now) }
     ensures fits { IfSome result (λ r. length r.0.2.now < 2 ^ 32) }
-    ensures none { IfNone result (BeginsWithNone IsField field_octets octets.now) }
+    ensures none { IfNone result (BeginsWithNone IsLongField field_octets octets.now) }
 {
     let (rec, rest) = take_octet(octets)?;
     let (set, rest) = take_octet(rest)?;

@@ -2,10 +2,11 @@
 
 ghost use Rattle.std.specs.Prelude.{◌≡◌, ◌≢◌, ◌<◌, ◌≤◌, [], ℕ, List, Option, Some, None, Ok, Err, true, false, length, IfOk, IfErr, OnOk, OnErr};
 ghost use Rattle.std.specs.Io.KnownBytes.{IsAtEnd};
-ghost use Rattle.iim_dataset.specs.DeviceLaws.{HasGiven, MissedBehind};
-ghost use Rattle.iim_unpack.specs.Blocks.{behind};
-ghost use Rattle.iim_unpack.specs.Intakes.{line, IsReady, Faults, FedAs, Gives, read_fault};
-ghost use Rattle.iim_unpack.specs.Unpacking.{failed_at};
+ghost use Rattle.iim_dataset.specs.Format.DeviceLaws.{HasGiven, MissedAfter};
+ghost use Rattle.iim_unpack.specs.Format.Blocks.{with_held};
+ghost use Rattle.iim_unpack.specs.Format.Intakes.{line, IsReady, Faults, Gives};
+ghost use Rattle.iim_unpack.specs.Intakes.{FedAs, read_fault};
+ghost use Rattle.iim_unpack.specs.Format.Unpacking.{failed_at};
 ghost use Rattle.iim_unpack.specs.declared.intake.IntakeFault.TheVariants.{Refused as RefusedFault};
 
 use crate::block::Block;
@@ -34,10 +35,10 @@ pub enum IntakeFault {
 
 /// Sees to it that a block has octets: reads once where it has none. Answers false at the end of the source.
 fn next_piece<R: Source>(block: &mut Block, reader: &mut R) -> Result<bool, IoFault>
-    ensures given { OnOk result (HasGiven (behind block.old (R.state reader.old)) (behind block.new (R.state reader.new)) []) }
+    ensures given { OnOk result (HasGiven (with_held block.old (R.state reader.old)) (with_held block.new (R.state reader.new)) []) }
     ensures some { IfOk result (λ more. more ≡ true → 0 < length block.new) }
-    ensures end { IfOk result (λ more. more ≡ false → IsAtEnd (behind block.new (R.state reader.new)).octets) }
-    ensures missed { IfErr result (MissedBehind (behind block.old (R.state reader.old)) (behind block.new (R.state reader.new)) []) }
+    ensures end { IfOk result (λ more. more ≡ false → IsAtEnd (with_held block.new (R.state reader.new)).octets) }
+    ensures missed { IfErr result (MissedAfter (with_held block.old (R.state reader.old)) (with_held block.new (R.state reader.new)) []) }
     ensures leads { R.leads reader.old reader.new }
 {
     gifts_join();
@@ -69,9 +70,9 @@ fn feed_line<R: Source, S: StorySink>(
     sink: &mut S,
 ) -> Result<Option<u64>, (IntakeFault, u64)>
     requires ready { IsReady unpacker.old }
-    ensures fed { IfOk result (FedAs S.goes (behind block.old (R.state reader.old)) (behind block.new (R.state reader.new)) unpacker.old unpacker.new sink.old sink.new) }
+    ensures fed { IfOk result (FedAs S.goes (with_held block.old (R.state reader.old)) (with_held block.new (R.state reader.new)) unpacker.old unpacker.new sink.old sink.new) }
     ensures calm { OnOk result (S.failures sink.new ≡ S.failures sink.old) }
-    ensures faults { IfErr result (λ halt. Faults S.goes S.failures (behind block.old (R.state reader.old)) (behind block.new (R.state reader.new)) unpacker.old sink.old sink.new halt.1 halt.0) }
+    ensures faults { IfErr result (λ halt. Faults S.goes S.failures (with_held block.old (R.state reader.old)) (with_held block.new (R.state reader.new)) unpacker.old sink.old sink.new halt.1 halt.0) }
     ensures leads { R.leads reader.old reader.new }
 {
     gifts_join();

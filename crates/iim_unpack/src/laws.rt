@@ -1,23 +1,24 @@
 //! What holds of all envelopes.
 
 ghost use Rattle.iim_unpack.specs.Format.Laws.{AdmittedOctetsAreFramed, AdmittedOctetsHaveOneValue, NoAdmittedOctetsBeginOthers, NoEnvelopeIsEmpty};
-ghost use Rattle.iim_unpack.specs.Intakes.{OpenOctetsAreBounded};
+ghost use Rattle.iim_unpack.specs.Format.Intakes.{OpenOctetsAreBounded};
 ghost use Rattle.iim_unpack.specs.ByLayers.{PlacesArePossibleByLayers};
 ghost use Rattle.iim_unpack.specs.Format.Continuing.{OctetsHaveOnePlace, PlacesContinueAlike, PlacesRefuseAlike, RestoredStandAsSaved};
 ghost use Rattle.iim_unpack.specs.LowerLaws.{AnswerLaws, ByLayersLaws, CloseLaws, FeedLaws, HeadLaws, MessageLaws, ObjectLaws, OnwardLaws, OpenLaws, PlaceLaws, SizeLaws};
-ghost use Rattle.iim_unpack.specs.Plain.{ObjectsArePossibleAlike, PlainDatasetsGoOnAlike, PlainOctetsAreOpenOrWhole, PlainOctetsLeadToTheirPlace, PossiblePlacesArePlain};
+ghost use Rattle.iim_unpack.specs.Plain.{ObjectsArePossibleAlike, PlainDatasetsContinueAlike, PlainOctetsAreOpenOrWhole, PlainOctetsLeadToTheirPlace, PossiblePlacesArePlain};
 ghost use Rattle.iim_unpack.specs.Format.Possible.{LimitsAreToldByPlace, TicketsTellOnePlace};
 ghost use Rattle.iim_unpack.specs.Possible.{TicketsOfPlacesAreSplit, UnpackersStandByPlace};
 ghost use Rattle.iim_unpack.specs.Format.Restored.{PossiblePlacesAreTaken};
 ghost use Rattle.iim_unpack.specs.Restoring.{ReadersMakeUnpackers};
-ghost use Rattle.iim_unpack.specs.Format.Streams.{EnvelopesAreBounded, NothingGoesOnFromRefusedOctets, RefusalsAreDetermined, RefusedOctetsWereOpen, StreamsHaveOneAnswer};
+ghost use Rattle.iim_unpack.specs.Format.Streams.{EnvelopesAreBounded, NothingContinuesFromRefusedOctets, RefusalsAreDetermined, RefusedOctetsWereOpen, StreamsHaveOneAnswer};
 ghost use Rattle.iim_unpack.specs.Format.TicketForm.{TicketsHaveOneSplit};
 ghost use Rattle.iim_unpack.specs.Format.Tickets.{OctetsHaveOneTicket};
 ghost use Rattle.iim_unpack.specs.Format.Open.{OpenOctetsBeginWithNoEnvelope};
 
 use iim_dataset::laws::{
     canonical_streams_are_spelled, events_tell_the_datasets, no_dataset_begins_another,
-    no_octets_go_on, no_tag_begins_another, octets_are_handed_on_one_way, what_an_octet_completes,
+    no_octets_continue, no_tag_begins_another, octets_are_handed_on_one_way,
+    what_an_octet_completes,
 };
 use iim_fields::laws::{
     envelopes_end_with_the_last_record, heads_die_with_their_fault, no_sections_begin_others,
@@ -94,7 +95,7 @@ fn answer_laws()
     no_dataset_begins_another();
     object_laws();
     datasets_live_with_their_tokens();
-    no_octets_go_on();
+    no_octets_continue();
     texts_so_far_have_one_reading();
 }
 
@@ -175,9 +176,7 @@ pub fn no_admitted_octets_begin_others()
 /// Admitted octets are framed under the limits that they are within, the greatest number of subfiles among them.
 pub fn admitted_octets_are_framed()
     ensures { AdmittedOctetsAreFramed }
-{
-    records_are_by_number();
-}
+{}
 
 /// Open octets begin with no admitted ones.
 pub fn open_octets_begin_with_no_envelope()
@@ -211,8 +210,8 @@ pub fn refused_octets_were_open()
 }
 
 /// With a refused octet, and whatever follows it, octets are neither open nor an envelope within the limits.
-pub fn nothing_goes_on_from_refused_octets()
-    ensures { NothingGoesOnFromRefusedOctets }
+pub fn nothing_continues_from_refused_octets()
+    ensures { NothingContinuesFromRefusedOctets }
 {
     answer_laws();
 }
@@ -303,8 +302,8 @@ pub fn objects_are_possible_alike()
 }
 
 /// What follows datasets to the records of an envelope follows their plain ones to such, too.
-pub fn plain_datasets_go_on_alike()
-    ensures { PlainDatasetsGoOnAlike }
+pub fn plain_datasets_continue_alike()
+    ensures { PlainDatasetsContinueAlike }
 {
     answer_laws();
 }

@@ -19,7 +19,6 @@ mod parts;
 mod pieces;
 mod possible;
 mod readers;
-mod records;
 mod refusal;
 mod restore;
 mod router;

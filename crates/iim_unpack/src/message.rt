@@ -2,13 +2,13 @@
 
 ghost use Rattle.std.specs.Prelude.{◌≡◌, ◌<◌, ◌++◌, [], ◌∷◌, List, ℕ, length, map, take, slice_index, Some, IsSome, IfErr, OnOk, OnErr, refl};
 ghost use Rattle.std.proofs.Common.{◌∙◌};
-ghost use Rattle.iim_object.specs.Events.{Event, ObjectOctet, ObjectEnd};
-ghost use Rattle.iim_object.specs.Places.{head_token};
-ghost use Rattle.iim_object.specs.Reading.{GoesOn, events_at};
+ghost use Rattle.iim_object.specs.Format.Events.{ObjectEvent, ObjectOctet, ObjectEnd};
+ghost use Rattle.iim_object.specs.Format.Places.{head_token};
+ghost use Rattle.iim_object.specs.Format.Reading.{LeadsOn, events_at};
 ghost use Rattle.iim_unpack.specs.Passed.{Passed, Halted, PassesTo, HaltsAt, RefusesOctet, RefusesEnd, RefusesObject};
 ghost use Rattle.iim_unpack.specs.Passing.{passed_nothing, passed_joined, halted_joined};
 
-use crate::fault::{Fault, message_on, size_on};
+use crate::fault::{TokenFault, message_on, size_on};
 use iim_dataset::{Head, Stop};
 use iim_object::{ObjectFault, ObjectReader, ObjectSink};
 use wire_message::{MessageCause, MessageFault, MessageReader};
@@ -101,7 +101,7 @@ fn end_object<'m, 's, S: StorySink>(
     ensures message { to.new.message.ghost_name ≡ to.old.message.ghost_name }
     ensures sink { to.new.sink.ghost_name ≡ to.old.sink.ghost_name }
     ensures takes_calls { OnOk result (IsSome object.new) }
-    ensures goes_on { OnOk result (GoesOn object.old (head_token head.rec head.count) object.new) }
+    ensures leads_on { OnOk result (LeadsOn object.old (head_token head.rec head.count) object.new) }
     ensures told { OnOk result (Passed S.goes S.failures to.old.message.now to.old.sink.now (events_at head.rec) to.new.message.now to.new.sink.now) }
     ensures refused { IfErr result (RefusesEnd S.goes S.failures object.old (head_token head.rec head.count) to.old.message.now to.old.sink.now to.new.cause to.new.sink.now) }
 {
@@ -153,11 +153,11 @@ pub(crate) fn pass_head<S: StorySink>(
     message: &mut MessageReader,
     head: Head,
     sink: &mut S,
-) -> Result<(), Fault>
+) -> Result<(), TokenFault>
     requires object { IsSome object.old }
     requires message { IsSome message.old }
     ensures takes_calls { OnOk result (IsSome object.new) }
-    ensures goes_on { OnOk result (GoesOn object.old (head_token head.rec head.count) object.new) }
+    ensures leads_on { OnOk result (LeadsOn object.old (head_token head.rec head.count) object.new) }
     ensures told { OnOk result (Passed S.goes S.failures message.old sink.old (events_at head.rec) message.new sink.new) }
     ensures refused { IfErr result (RefusesObject S.goes S.failures object.old message.old head sink.old sink.new) }
 {

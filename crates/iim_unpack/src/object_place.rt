@@ -1,19 +1,19 @@
 //! The reader of the object at the place that a ticket tells.
 
 ghost use Rattle.std.specs.Prelude.{◌≡◌, Some, None, IsSome, IfSome, IfNone};
-ghost use Rattle.iim_object.specs.Objects.{ObjectEnded, Confirmed};
-ghost use Rattle.iim_object.specs.Places.{Place, MayFollow, place_after};
-ghost use Rattle.iim_object.specs.Reading.{StandsAt};
-ghost use Rattle.iim_object.specs.Saved.{IsAt, IsPossible};
+ghost use Rattle.iim_object.specs.Format.Objects.{ObjectEnded, Confirmed};
+ghost use Rattle.iim_object.specs.Format.Places.{Place, MayFollow, place_after};
+ghost use Rattle.iim_object.specs.Format.Reading.{StandsAt};
+ghost use Rattle.iim_object.specs.Format.Saved.{IsAt, IsPossible};
 ghost use Rattle.iim_unpack.specs.ByLayers.{begun_of_object, object_after};
 ghost use Rattle.iim_unpack.specs.Nowhere.{goes_nowhere, stops_nowhere, joins_nowhere, joins_stop_nowhere};
 ghost use Rattle.iim_unpack.specs.TicketParts.{phase_told};
 
 use crate::laws::object_laws;
-use crate::records::{CONFIRMED_SIZE, OBJECT, POST_OBJECT};
 use crate::ticket_parts::TicketPhase;
 use iim_dataset::Stop;
 use iim_object::{ObjectReader, ObjectSink};
+use iim_tables::records::{CONFIRMED_SIZE, OBJECT, POST_OBJECT};
 
 /// A sink of objects that takes all of it, and keeps nothing.
 #[derive(Drop)]

@@ -1,23 +1,24 @@
 //! The readers of an unpacker after that of the tags, as one.
 
 ghost use Rattle.std.specs.Prelude.{◌≡◌, ◌<◌, ◌≤◌, ◌-◌, ℕ, List, [], ◌∷◌, ◌++◌, length, map, take, slice_index, Some, IsSome, IfOk, IfErr, OnOk};
-ghost use Rattle.iim_dataset.specs.Datasets.{Dataset};
-ghost use Rattle.iim_dataset.specs.Events.{HeadRead, DataOctet};
-ghost use Rattle.iim_fields.specs.Standing.{limits_of, room_of, IsBetween};
-ghost use Rattle.iim_object.specs.Places.{head_token, value_token};
-ghost use Rattle.iim_object.specs.Reading.{GoesOn, events_at};
+ghost use Rattle.iim_dataset.specs.Format.Datasets.{Dataset};
+ghost use Rattle.iim_dataset.specs.Format.Events.{HeadRead, DataOctet};
+ghost use Rattle.iim_fields.specs.Format.Standing.{limits_of, room_of, IsBetween};
+ghost use Rattle.iim_object.specs.Format.Places.{head_token, value_token};
+ghost use Rattle.iim_object.specs.Format.Reading.{LeadsOn, events_at};
 ghost use Rattle.iim_unpack.specs.Format.Refusals.{IsObjectFault};
 ghost use Rattle.iim_unpack.specs.Passed.{Passed, HasFewSubfiles, RefusesSubfile};
-ghost use Rattle.iim_unpack.specs.Parts.{TakesHead, TakesData, Went, Stopped, Closed, NotClosed, has_ended};
+ghost use Rattle.iim_unpack.specs.Parts.{TakesHead, TakesData, Went, WasStopped, Closed, NotClosed};
+ghost use Rattle.iim_unpack.specs.Format.Parts.{has_ended};
 ghost use Rattle.iim_unpack.specs.Format.Refusals.{too_many_on};
 
-use crate::fault::{Fault, message_on, of_field, size_on, too_many_on};
+use crate::fault::{TokenFault, message_on, of_field, size_on, too_many_on};
 use crate::laws::{close_laws, head_laws, message_laws};
 use crate::message::{pass_head, pass_octets};
-use crate::records::{OBJECT, POST_OBJECT};
 use iim_dataset::Head;
 use iim_fields::Fields;
 use iim_object::{MAX_SUBFILES, ObjectFault, ObjectReader};
+use iim_tables::records::{OBJECT, POST_OBJECT};
 use wire_message::MessageReader;
 use wire_story::StorySink;
 
@@ -39,7 +40,7 @@ pub(crate) struct Halt {
     /// How many octets of the data stand before the refused one.
     pub taken: usize,
     /// What is refused.
-    pub fault: Fault,
+    pub fault: TokenFault,
 }
 
 /// Takes the head of a subfile.
@@ -48,11 +49,11 @@ fn subfile<S: StorySink>(
     message: &mut MessageReader,
     head: Head,
     sink: &mut S,
-) -> Result<(), Fault>
+) -> Result<(), TokenFault>
     requires object { IsSome object.old }
     requires message { IsSome message.old }
     ensures takes_calls { OnOk result (IsSome object.new) }
-    ensures goes_on { OnOk result (GoesOn object.old (head_token head.rec head.count) object.new) }
+    ensures leads_on { OnOk result (LeadsOn object.old (head_token head.rec head.count) object.new) }
     ensures told { OnOk result (Passed S.goes S.failures message.old sink.old (events_at head.rec) message.new sink.new) }
     ensures few { OnOk result (HasFewSubfiles object.old) }
     ensures refused { IfErr result (RefusesSubfile S.goes S.failures object.old message.old head sink.old sink.new) }
@@ -64,10 +65,10 @@ fn subfile<S: StorySink>(
 }
 
 /// Hands the number of a value to the object.
-fn tell_number(object: &mut ObjectReader, head: Head, number: u64) -> Result<(), Fault>
+fn tell_number(object: &mut ObjectReader, head: Head, number: u64) -> Result<(), TokenFault>
     requires { IsSome object.old }
     ensures takes_calls { OnOk result (IsSome object.new) }
-    ensures goes_on { OnOk result (GoesOn object.old (value_token head.rec head.set number) object.new) }
+    ensures leads_on { OnOk result (LeadsOn object.old (value_token head.rec head.set number) object.new) }
     ensures refused { IfErr result (IsObjectFault object.old (value_token head.rec head.set number) head) }
 {
     match object.value(head.rec, head.set, number) {
@@ -86,11 +87,11 @@ impl Parts {
     }
 
     /// Takes the next head, or tells the first fault of it.
-    pub fn head<S: StorySink>(&mut self, head: Head, sink: &mut S) -> Result<(), Fault>
+    pub fn head<S: StorySink>(&mut self, head: Head, sink: &mut S) -> Result<(), TokenFault>
         requires { TakesHead self.old }
         ensures takes { OnOk result (TakesData self.new head.count) }
         ensures went { OnOk result (Went S.goes S.failures self.old sink.old (HeadRead head ∷ []) self.new sink.new) }
-        ensures stopped { IfErr result (λ fault. Stopped S.goes S.failures self.old sink.old [] (HeadRead head) (Some fault) sink.new) }
+        ensures stopped { IfErr result (λ fault. WasStopped S.goes S.failures self.old sink.old [] (HeadRead head) (Some fault) sink.new) }
         ensures room { room_of self.new.fields ≡ room_of self.old.fields }
     {
         head_laws();
@@ -112,7 +113,7 @@ impl Parts {
         ensures takes { OnOk result ((left : ℕ) → TakesData self.old left → TakesData self.new (left - length run.now)) }
         ensures went { OnOk result (Went S.goes S.failures self.old sink.old (map DataOctet run.now) self.new sink.new) }
         ensures before { IfErr result (λ halt. halt.taken < length run.now) }
-        ensures stopped { IfErr result (λ halt. Stopped S.goes S.failures self.old sink.old (map DataOctet (take halt.taken run.now)) (DataOctet (slice_index run.now halt.taken)) (Some halt.fault) sink.new) }
+        ensures stopped { IfErr result (λ halt. WasStopped S.goes S.failures self.old sink.old (map DataOctet (take halt.taken run.now)) (DataOctet (slice_index run.now halt.taken)) (Some halt.fault) sink.new) }
         ensures room { room_of self.new.fields ≡ room_of self.old.fields }
     {
         message_laws();
@@ -133,7 +134,7 @@ impl Parts {
     }
 
     /// Ends the begun dataset, or tells the first fault of its value.
-    pub fn close(&mut self) -> Result<(), Fault>
+    pub fn close(&mut self) -> Result<(), TokenFault>
         requires { TakesData self.old 0 }
         ensures object { OnOk result (IsSome self.new.object) }
         ensures message { OnOk result (IsSome self.new.message) }

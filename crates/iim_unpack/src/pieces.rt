@@ -1,10 +1,11 @@
 //! A stream in pieces.
 
 ghost use Rattle.std.specs.Prelude.{◌≡◌, ◌≢◌, ℕ, [], IfOk, IfErr, OnOk};
-ghost use Rattle.iim_unpack.specs.Parts.{CountsFor};
-ghost use Rattle.iim_unpack.specs.Pieces.{HasFed, IsAnswer, IsTurnedDown, IsUnpacked, stream_of};
+ghost use Rattle.iim_unpack.specs.Format.Parts.{CountsFor};
+ghost use Rattle.iim_unpack.specs.Pieces.{HasFed};
+ghost use Rattle.iim_unpack.specs.Format.Pieces.{IsAnswer, IsTurnedDown, IsUnpacked, stream_of};
 ghost use Rattle.iim_unpack.specs.Format.Streams.{Answer, Answers};
-ghost use Rattle.iim_unpack.specs.Unpacking.{Stands, limits_in};
+ghost use Rattle.iim_unpack.specs.Format.Unpacking.{Stands, limits_in};
 ghost use Rattle.iim_unpack.specs.declared.refusal.Cause.TheVariants.{Sink};
 
 use crate::laws::{

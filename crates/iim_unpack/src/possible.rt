@@ -1,8 +1,8 @@
 //! Whether an envelope can be at the place that a ticket tells, and the readers there.
 
 ghost use Rattle.std.specs.Prelude.{◌≡◌, ◌+◌, ◌-◌, cond, length, false, IsTrue, IfSome, IfNone};
-ghost use Rattle.iim_fields.specs.Faults.{joined};
-ghost use Rattle.iim_fields.specs.Standing.{IsWithin};
+ghost use Rattle.iim_fields.specs.Format.Faults.{joined};
+ghost use Rattle.iim_fields.specs.Format.Standing.{IsWithin};
 ghost use Rattle.iim_unpack.specs.ByLayers.{begun_subfiles, one_of_some};
 ghost use Rattle.iim_unpack.specs.Format.Possible.{widest, begun_count, begun_fields};
 ghost use Rattle.iim_unpack.specs.Restoring.{AreAt, LeadsNowhere};
@@ -11,13 +11,13 @@ ghost use Rattle.iim_unpack.specs.TicketParts.{phase_told, split_told};
 
 use crate::object_place::object_at;
 use crate::readers::{message_at, records_lead, tags_at};
-use crate::records::{OBJECT, POST_OBJECT};
 use crate::taker::is_kept;
 use crate::ticket::part_number;
 use crate::ticket_fields::TicketFields;
 use crate::ticket_parts::{TicketParts, TicketPhase};
 use iim_dataset::HeadReader;
 use iim_object::ObjectReader;
+use iim_tables::records::{OBJECT, POST_OBJECT};
 use wire_message::{MessagePart, MessageReader};
 
 /// The readers of a place, but for that of the records, which takes memory.

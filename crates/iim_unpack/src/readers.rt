@@ -1,18 +1,18 @@
 //! The readers at the place that a ticket tells, but for the records that it keeps.
 
 ghost use Rattle.std.specs.Prelude.{◌≡◌, ◌↔◌, ◌<◌, ℕ, List, length, map, IsSome, IfSome, IfNone, IsTrue, false};
-ghost use Rattle.iim_dataset.specs.Datasets.{Dataset};
-ghost use Rattle.iim_dataset.specs.Octets.{Octets};
-ghost use Rattle.iim_dataset.specs.Reading.{TakesCalls};
-ghost use Rattle.iim_fields.specs.Checks.{TakesHead, HasChecked};
-ghost use Rattle.iim_fields.specs.Faults.{kept_octets};
-ghost use Rattle.iim_fields.specs.Standing.{IsWithin};
-ghost use Rattle.wire_message.specs.Lengths.{LeadsIn, IsOneOf};
-ghost use Rattle.wire_message.specs.Reading.{StandsAt};
-ghost use Rattle.wire_message.specs.Saved.{LeadToSaved};
+ghost use Rattle.iim_dataset.specs.Format.Datasets.{Dataset};
+ghost use Rattle.iim_dataset.specs.Format.Octets.{Octets};
+ghost use Rattle.iim_dataset.specs.Format.Reading.{TakesCalls};
+ghost use Rattle.iim_fields.specs.Format.Checks.{TakesHead, HasChecked};
+ghost use Rattle.iim_fields.specs.Format.Faults.{kept_octets};
+ghost use Rattle.iim_fields.specs.Format.Standing.{IsWithin};
+ghost use Rattle.wire_message.specs.Format.Lengths.{LeadsIn, IsOneOf};
+ghost use Rattle.wire_message.specs.Format.Reading.{StandsAt};
+ghost use Rattle.wire_message.specs.Format.Saved.{LeadToSaved};
 ghost use Rattle.wire_message.specs.declared.saved.MessagePart.{MessagePart as MessagePartValue};
 ghost use Rattle.wire_message.specs.declared.saved.MessagePlace.{MessagePlace as MessagePlaceValue};
-ghost use Rattle.iim_unpack.specs.Begins.{AreNumbers};
+ghost use Rattle.iim_unpack.specs.Format.Begins.{AreNumbers};
 ghost use Rattle.iim_unpack.specs.ByLayers.{TagsLead, RecordsLive, are_ended};
 ghost use Rattle.iim_unpack.specs.Format.Possible.{widest};
 ghost use Rattle.iim_unpack.specs.Taking.{AreKept, IsMessageOf, tag_place, told_datasets};
@@ -171,7 +171,7 @@ fn is_between(least: u64, greatest: Option<u64>, count: u64) -> bool
     }
 }
 
-/// Whether so many octets lead to where the reader stands.
+/// Whether `taken` octets lead to where the reader stands.
 fn is_reached(reader: &MessageReader, taken: u64) -> bool
     requires { IsSome reader.now }
     ensures { IsTrue result ↔ LeadsIn reader.now taken }
@@ -180,7 +180,7 @@ fn is_reached(reader: &MessageReader, taken: u64) -> bool
     is_between(least, greatest, taken)
 }
 
-/// The reader of messages where this part, counter, flag and texts have been reached by so many octets, or None where no octets of
+/// The reader of messages where this part, counter, flag and texts have been reached by `taken` octets, or None where no octets of
 /// that number lead there.
 pub(crate) fn message_at(
     part: u8,

@@ -1,10 +1,10 @@
 //! An unpacker, made again from a ticket.
 
 ghost use Rattle.std.specs.Prelude.{◌≡◌, ◌+◌, ℕ, List, length, IfSome, IfNone, IfOk, IfErr};
-ghost use Rattle.iim_dataset.specs.Datasets.{Dataset};
-ghost use Rattle.iim_fields.specs.Faults.{joined};
-ghost use Rattle.iim_fields.specs.Standing.{IsWithin, StandsBehind, StandsIn, limits_of, room_for, room_of};
-ghost use Rattle.iim_unpack.specs.Begins.{AreNumbers};
+ghost use Rattle.iim_dataset.specs.Format.Datasets.{Dataset};
+ghost use Rattle.iim_fields.specs.Format.Faults.{joined};
+ghost use Rattle.iim_fields.specs.Format.Standing.{IsWithin, StandsAfter, StandsIn, limits_of, room_for, room_of};
+ghost use Rattle.iim_unpack.specs.Format.Begins.{AreNumbers};
 ghost use Rattle.iim_unpack.specs.ByLayers.{TagsLead, RecordsLive, are_ended};
 ghost use Rattle.iim_unpack.specs.Format.Possible.{begun_count, begun_fields};
 ghost use Rattle.iim_unpack.specs.Restoring.{AreAt, RecordsStand, MayBegin, AreWithinWith, HasFew, IsLimitFault, has_come};
@@ -12,7 +12,7 @@ ghost use Rattle.iim_unpack.specs.Format.Restored.{IsRestored, IsRestoreFault};
 ghost use Rattle.iim_unpack.specs.Taking.{AreKept, told_datasets};
 ghost use Rattle.iim_unpack.specs.Format.TicketForm.{HasForm, SplitsInto};
 ghost use Rattle.iim_unpack.specs.TicketParts.{phase_told, split_told};
-ghost use Rattle.iim_unpack.specs.Unpacking.{room_in};
+ghost use Rattle.iim_unpack.specs.Format.Unpacking.{room_in};
 
 use crate::laws::{
     places_are_possible_by_layers, readers_make_unpackers, tickets_have_one_split,
@@ -21,7 +21,6 @@ use crate::laws::{
 use crate::parts::Parts;
 use crate::possible::{Readers, readers_at, some_ended};
 use crate::readers::has_ended;
-use crate::records::OBJECT;
 use crate::taker::take_told;
 use crate::ticket_fault::TicketFault;
 use crate::ticket_fields::TicketFields;
@@ -29,13 +28,14 @@ use crate::ticket_parts::{TicketParts, TicketPhase, split_ticket};
 use crate::unpacker::Unpacker;
 use iim_dataset::Head;
 use iim_fields::{FieldCause, Fields, Limits};
+use iim_tables::records::OBJECT;
 use std::alloc::{AllocError, Global};
 
 /// Takes the head and the data so far of a begun dataset. It has none of a subfile.
 fn take_begun(records: &mut Fields, head: Head, taken: &[u8])
-    requires stands { (ds : List Dataset) × StandsBehind records.old ds × MayBegin (limits_of records.old) ds head }
+    requires stands { (ds : List Dataset) × StandsAfter records.old ds × MayBegin (limits_of records.old) ds head }
     requires few { HasFew head taken.now }
-    ensures stands { (ds : List Dataset) → StandsBehind records.old ds → MayBegin (limits_of records.old) ds head → StandsIn records.new ds head taken.now }
+    ensures stands { (ds : List Dataset) → StandsAfter records.old ds → MayBegin (limits_of records.old) ds head → StandsIn records.new ds head taken.now }
     ensures limits { limits_of records.new ≡ limits_of records.old }
     ensures room { room_of records.new ≡ room_of records.old }
 {
@@ -48,9 +48,9 @@ fn take_begun(records: &mut Fields, head: Head, taken: &[u8])
 
 /// Takes what is begun after a head of the section.
 fn take_phase(records: &mut Fields, section: u8, phase: &TicketPhase<'_>)
-    requires stands { (ds : List Dataset) × StandsBehind records.old ds × RecordsLive section (phase_told phase.now) ds × AreWithinWith (limits_of records.old) section (phase_told phase.now) ds }
+    requires stands { (ds : List Dataset) × StandsAfter records.old ds × RecordsLive section (phase_told phase.now) ds × AreWithinWith (limits_of records.old) section (phase_told phase.now) ds }
     requires tags { TagsLead section (phase_told phase.now) }
-    ensures stands { (ds : List Dataset) → StandsBehind records.old ds → RecordsLive section (phase_told phase.now) ds → AreWithinWith (limits_of records.old) section (phase_told phase.now) ds
+    ensures stands { (ds : List Dataset) → StandsAfter records.old ds → RecordsLive section (phase_told phase.now) ds → AreWithinWith (limits_of records.old) section (phase_told phase.now) ds
         → RecordsStand records.new section (phase_told phase.now) ds }
     ensures limits { limits_of records.new ≡ limits_of records.old }
     ensures room { room_of records.new ≡ room_of records.old }
@@ -108,7 +108,7 @@ fn has_come(section: u8, phase: &TicketPhase<'_>) -> bool
     }
 }
 
-/// Which limit so many octets and datasets pass, None where they pass none.
+/// Which limit `octets` octets and `fields` datasets pass, None where they pass none.
 fn limit_fault(limits: Limits, octets: u32, fields: u32) -> Option<TicketFault>
     ensures some { IfSome result (λ fault. IsLimitFault limits octets fields fault) }
     ensures none { IfNone result (IsWithin limits octets fields) }

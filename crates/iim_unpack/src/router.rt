@@ -5,7 +5,7 @@ ghost use Rattle.std.proofs.Common.{◌∙◌};
 ghost use Rattle.iim_unpack.specs.Going.{went_nothing, went_joined, stopped_joined};
 ghost use Rattle.iim_unpack.specs.Routing.{Routes, RefusesRoute, TakesNext, IsOver};
 
-use crate::fault::Fault;
+use crate::fault::TokenFault;
 use crate::parts::Parts;
 use iim_dataset::{DatasetSink, Head, Step, Stop};
 use wire_story::StorySink;
@@ -18,7 +18,7 @@ pub(crate) struct Router<'p, 's, S> {
     /// Where the text goes.
     pub sink: &'s mut S,
     /// What was refused, or None.
-    pub refused: Option<Fault>,
+    pub refused: Option<TokenFault>,
 }
 
 impl<'p, 's, S: StorySink> DatasetSink for Router<'p, 's, S> {

@@ -1,25 +1,25 @@
 //! What takes whole datasets, one after another: a check of records, or a reader that keeps them.
 
 ghost use Rattle.std.specs.Prelude.{◌≡◌, ℕ, [], ◌∷◌, ◌++◌, List, length, IsTrue, true, cond};
-ghost use Rattle.iim_dataset.specs.Datasets.{Dataset};
-ghost use Rattle.iim_fields.specs.Checks as checks;
-ghost use Rattle.iim_fields.specs.Faults.{is_kept};
-ghost use Rattle.iim_fields.specs.Standing.{IsBetween, StandsBehind, limits_of, room_of};
-ghost use Rattle.iim_fields.specs.Stores.{Room};
+ghost use Rattle.iim_dataset.specs.Format.Datasets.{Dataset};
+ghost use Rattle.iim_fields.specs.Format.Checks as checks;
+ghost use Rattle.iim_fields.specs.Format.Faults.{is_kept};
+ghost use Rattle.iim_fields.specs.Format.Standing.{IsBetween, StandsAfter, limits_of, room_of};
+ghost use Rattle.iim_fields.specs.Format.Stores.{Room};
 ghost use Rattle.iim_fields.specs.declared.limits.Limits.{Limits as LimitsValue};
-ghost use Rattle.iim_object.specs.Packing.{number_dataset};
-ghost use Rattle.iim_unpack.specs.Begins.{dataset, AreNumbers, IsNumber};
+ghost use Rattle.iim_object.specs.Format.Packing.{number_dataset};
+ghost use Rattle.iim_unpack.specs.Format.Begins.{dataset, AreNumbers, IsSize};
 ghost use Rattle.iim_unpack.specs.Plain.{mode_dataset, one_dataset, plain_end, plain_numbers};
 ghost use Rattle.iim_unpack.specs.Format.Possible.{widest};
 ghost use Rattle.iim_unpack.specs.Taking.{AreKept, TookAll, no_room, numbers_told, told_datasets};
 
-use crate::records::{
-    ANNOUNCED_SIZE, CONFIRMED_SIZE, LARGEST_SUBFILE, MAXIMUM_SIZE, OBJECT, POST_OBJECT, PRE_OBJECT,
-    SIZE_MODE, SUBFILE,
-};
 use crate::ticket_fields::TicketFields;
 use iim_dataset::Head;
 use iim_fields::{Fields, RecordCheck};
+use iim_tables::records::{
+    ANNOUNCED_SIZE, CONFIRMED_SIZE, MAX_SUBFILE_SIZE, MAXIMUM_SIZE, OBJECT, POST_OBJECT,
+    PRE_OBJECT, SIZE_MODE, SUBFILE,
+};
 
 /// What takes the datasets of an envelope, each with its whole data.
 pub(crate) trait DatasetTaker {
@@ -70,7 +70,7 @@ impl DatasetTaker for RecordCheck {
 impl DatasetTaker for Fields {
     ghost ready = { IsBetween };
 
-    ghost stands = { StandsBehind };
+    ghost stands = { StandsAfter };
 
     ghost limits = { limits_of };
 
@@ -135,7 +135,7 @@ fn take_mode<T: DatasetTaker>(taker: &mut T, mode: Option<u64>) -> bool
 /// Takes the size 7:`set`, where there is one.
 fn take_size<T: DatasetTaker>(taker: &mut T, set: u8, size: Option<u64>) -> bool
     requires ready { T.ready taker.old }
-    requires fits { IsNumber size }
+    requires fits { IsSize size }
     ensures took { TookAll T.ready T.stands T.limits taker.old (one_dataset (number_dataset 7 set) size) taker.new result }
     ensures room { T.room taker.new ≡ T.room taker.old }
 {
@@ -154,7 +154,7 @@ fn take_numbers<T: DatasetTaker>(taker: &mut T, numbers: [Option<u64>; 4]) -> bo
 {
     let [mode, largest, announced, maximum] = numbers;
     take_mode(taker, mode)
-        && take_size(taker, LARGEST_SUBFILE, largest)
+        && take_size(taker, MAX_SUBFILE_SIZE, largest)
         && take_size(taker, ANNOUNCED_SIZE, announced)
         && take_size(taker, MAXIMUM_SIZE, maximum)
 }

@@ -2,18 +2,18 @@
 
 ghost use Rattle.std.specs.Prelude.{◌≡◌, ◌^◌, ◌-◌, ◌<◌, ◌++◌, ◌∷◌, [], length, sum, Some, IsSome, IfOk, OnOk};
 ghost use Rattle.std.specs.List.{flat_map};
-ghost use Rattle.iim_dataset.specs.Reading.{TakesCalls};
-ghost use Rattle.iim_fields.specs.Standing.{IsFailed};
-ghost use Rattle.iim_object.specs.Places as object_places;
-ghost use Rattle.iim_object.specs.Reading as objects;
+ghost use Rattle.iim_dataset.specs.Format.Reading.{TakesCalls};
+ghost use Rattle.iim_fields.specs.Format.Standing.{IsFailed};
+ghost use Rattle.iim_object.specs.Format.Places as object_places;
+ghost use Rattle.iim_object.specs.Format.Reading as objects;
 ghost use Rattle.iim_unpack.specs.Format.Tickets.{four, field_octets, fields_octets, number_octets, text_octets, part_number, texts_octets, message_octets, phase_octets, DataBegun, TagBegun};
 ghost use Rattle.iim_unpack.specs.Tickets.{phase_in, left_in, IsSpelled};
 
 use crate::parts::Parts;
-use crate::records::OBJECT;
 use iim_dataset::{DatasetPlace, Head, HeadReader};
 use iim_fields::Fields;
 use iim_object::ObjectReader;
+use iim_tables::records::OBJECT;
 use std::alloc::{AllocError, Global};
 use thiserror::Error;
 use wire_message::{MessagePart, MessagePlace};

@@ -3,7 +3,8 @@
 ghost use Rattle.std.specs.Prelude.{◌≡◌};
 ghost use Rattle.std.specs.List.{AllByRecursion, flat_map};
 ghost use Rattle.iim_unpack.specs.Format.Tickets.{field_octets};
-ghost use Rattle.iim_unpack.specs.TicketFields.{IsField, HoldsFields};
+ghost use Rattle.iim_unpack.specs.Format.Begins.{IsLongField};
+ghost use Rattle.iim_unpack.specs.TicketFields.{HoldsFields};
 ghost use Rattle.iim_unpack.specs.FieldLaws.{held_once};
 
 use crate::front::take_field;
@@ -20,7 +21,7 @@ pub struct TicketFields<'a> {
 
 impl<'a> Model for TicketFields<'a> {
     ghost use Rattle.std.specs.Prelude.{List};
-    ghost use Rattle.iim_dataset.specs.Datasets.{Dataset};
+    ghost use Rattle.iim_dataset.specs.Format.Datasets.{Dataset};
 
     ghost Value = { List Dataset };
 
@@ -30,7 +31,7 @@ impl<'a> Model for TicketFields<'a> {
 /// A walk over all datasets that octets hold.
 pub(crate) fn walk_over(octets: &[u8]) -> TicketFields<'_>
     requires { HoldsFields octets.now }
-    ensures each { AllByRecursion IsField result }
+    ensures each { AllByRecursion IsLongField result }
     ensures spelled { octets.now ≡ flat_map field_octets result }
 {
     TicketFields { octets }

@@ -3,16 +3,17 @@
 ghost use Rattle.std.specs.Prelude.{◌≡◌, ◌++◌, ◌∷◌, map, IfSome, IfNone, IfOk, IfErr};
 ghost use Rattle.std.specs.List.{flat_map};
 ghost use Rattle.iim_unpack.specs.Format.Tickets.{ticket_name, phase_octets, field_octets, fields_octets, number_octets, text_octets};
-ghost use Rattle.iim_unpack.specs.TicketFields.{IsField};
-ghost use Rattle.iim_unpack.specs.Begins.{BeginsWithNone, BeginsWithFewer, AreFields, AreNumbers, AreTexts, FieldsBefore};
+ghost use Rattle.iim_unpack.specs.Format.Begins.{IsLongField};
+ghost use Rattle.iim_unpack.specs.Begins.{BeginsWithNone, BeginsWithFewer, FieldsBefore};
+ghost use Rattle.iim_unpack.specs.Format.Begins.{AreFields, AreNumbers, AreTexts};
 ghost use Rattle.iim_unpack.specs.TicketParts.{IsHeld, IsNameFault, BeginsWithNoData, AreNoMessage, AreNoBody, phase_told, split_told, message_parts, body_octets};
 ghost use Rattle.iim_unpack.specs.Format.TicketForm.{IsPhase, IsFaultOf, HasForm, SplitsInto};
 
 use crate::front::{take_field, take_front, take_number, take_octet, take_option, take_text};
-use crate::records::OBJECT;
 use crate::ticket::{ENDED, IN_DATA, IN_TAG};
 use crate::ticket_fault::TicketFault;
 use crate::ticket_fields::{TicketFields, walk_over};
+use iim_tables::records::OBJECT;
 
 /// What each ticket begins with.
 const NAME: &[u8] = b"IIMT";
@@ -26,7 +27,7 @@ const MOST_HELD: usize = 8;
 /// What is begun where a ticket was made.
 #[derive(Drop)]
 pub enum TicketPhase<'a> {
-    /// So many octets of a tag, none of them between datasets.
+    /// A tag. These octets of it have come; none between datasets.
     Tag(&'a [u8]),
     /// The data of a dataset.
     Data {
@@ -146,10 +147,10 @@ fn take_phase(section: u8, octets: &[u8]) -> Option<(TicketPhase<'_>, &[u8])>
     }
 }
 
-/// What follows so many datasets.
+/// What follows the first `count` datasets.
 fn after_fields(octets: &[u8], count: u64) -> Option<&[u8]>
     ensures parts { IfSome result (λ rest. FieldsBefore count octets.now rest.now) }
-    ensures none { IfNone result (BeginsWithFewer IsField field_octets count octets.now) }
+    ensures none { IfNone result (BeginsWithFewer IsLongField field_octets count octets.now) }
 {
     let mut rest = octets;
     for _ in 0..count {

@@ -1,25 +1,27 @@
 //! The streaming unpacker.
 
 ghost use Rattle.std.specs.Prelude.{◌≡◌, ◌+◌, ◌*◌, ◌^◌, [], is_some, ◌<◌, ◌≤◌, ◌⊎◌, ℕ, List, Option, Some, None, Ok, Err, true, false, length, take, IsTrue, ◌↔◌, IfOk, IfErr, OnOk, OnErr};
-ghost use Rattle.iim_dataset.specs.Places.{to_come, named_by};
-ghost use Rattle.iim_dataset.specs.Reading.{TakesCalls};
+ghost use Rattle.iim_dataset.specs.Format.Places.{to_come, named_by};
+ghost use Rattle.iim_dataset.specs.Format.Reading.{TakesCalls};
 ghost use Rattle.iim_dataset.specs.declared.head.HeadCause.{HeadCause as HeadCauseValue};
 ghost use Rattle.iim_dataset.specs.declared.place.DatasetPlace.{DatasetPlace as Place};
-ghost use Rattle.iim_fields.specs.Standing.{StandsBehind, limits_of, room_of, room_for};
-ghost use Rattle.wire_story.specs.Delivery as story;
-ghost use Rattle.iim_unpack.specs.Parts.{CountsFor};
+ghost use Rattle.iim_fields.specs.Format.Standing.{StandsAfter, limits_of, room_of, room_for};
+ghost use Rattle.wire_story.specs.Format.Delivery as story;
+ghost use Rattle.iim_unpack.specs.Format.Parts.{CountsFor};
 ghost use Rattle.iim_unpack.specs.Format.Refusals.{refusal_at};
 ghost use Rattle.iim_unpack.specs.Routing.{Takes};
-ghost use Rattle.iim_unpack.specs.Unpacking.{HasAdvanced, FailsFor, FailsAs, tag_fault, raised, begins, failed_at};
-ghost use Rattle.iim_dataset.specs.Reading.{is_of};
-ghost use Rattle.iim_unpack.specs.Unpacking.{IsUnpacking, Stood, Stands, IsDoneWith, IsDone, IsRefusedIn, Goes, limits_in, room_in, LeftAs};
+ghost use Rattle.iim_unpack.specs.Unpacking.{HasAdvanced, FailsFor, FailsAs, tag_fault, begins};
+ghost use Rattle.iim_unpack.specs.Format.Unpacking.{raised, failed_at};
+ghost use Rattle.iim_dataset.specs.Format.Reading.{tag_cause_of};
+ghost use Rattle.iim_unpack.specs.Unpacking.{IsUnpacking, Stood};
+ghost use Rattle.iim_unpack.specs.Format.Unpacking.{Stands, IsDoneWith, IsDone, IsRefusedIn, Goes, limits_in, room_in, LeftAs};
 ghost use Rattle.iim_unpack.specs.Format.Open.{IsTruncatedAt};
 ghost use Rattle.iim_unpack.specs.Format.Admitted.{Value, Admits};
 ghost use Rattle.iim_unpack.specs.Format.Tickets.{IsTicketOf};
 ghost use Rattle.iim_unpack.specs.Format.Value.{HasParts};
 ghost use Rattle.iim_unpack.specs.declared.refusal.Refusal.{Refusal as RefusalValue};
 
-use crate::fault::Fault;
+use crate::fault::TokenFault;
 use crate::laws::{admitted_octets_have_one_value, feed_laws};
 use crate::message::give_back;
 use crate::parts::{Halt, Parts};
@@ -41,7 +43,7 @@ use wire_story::StorySink;
 pub enum Progress {
     /// All of it was used, and the envelope can continue.
     More,
-    /// The envelope ends after so many octets of it.
+    /// The envelope ends after `used` octets of it.
     Done { used: usize },
 }
 
@@ -57,16 +59,16 @@ fn feed_router<'p, 's, S: StorySink>(
     ensures sink { router.new.sink.ghost_name ≡ router.old.sink.ghost_name }
     ensures taken { IfOk result (HasAdvanced S.goes S.failures reader.old.place piece.now router.old.parts.now router.old.sink.now reader.new router.new.parts.now router.new.sink.now) }
     ensures before { IfErr result (λ fault. fault.used < length piece.now) }
-    ensures fails { IfErr result (λ fault. FailsFor S.goes S.failures (is_of fault.cause) reader.old.place piece.now fault.used reader.new.place router.old.parts.now router.old.sink.now router.new.refused router.new.sink.now) }
+    ensures fails { IfErr result (λ fault. FailsFor S.goes S.failures (tag_cause_of fault.cause) reader.old.place piece.now fault.used reader.new.place router.old.parts.now router.old.sink.now router.new.refused router.new.sink.now) }
     ensures room { room_of router.new.parts.now.fields ≡ room_of router.old.parts.now.fields }
 {
     reader.feed(piece, router)
 }
 
-fn tag_fault(names: (u8, u8), cause: Cause) -> Fault
+fn tag_fault(names: (u8, u8), cause: Cause) -> TokenFault
     ensures { result ≡ record { layer = Layer.Dataset; rec = names.0; set = names.1; cause = cause } }
 {
-    Fault {
+    TokenFault {
         layer: Layer::Dataset,
         rec: names.0,
         set: names.1,
@@ -147,7 +149,8 @@ pub struct Unpacker {
 }
 
 impl Model for Unpacker {
-    ghost use Rattle.iim_unpack.specs.Unpacking.{Unpacking, IsSound};
+    ghost use Rattle.iim_unpack.specs.Format.Unpacking.{Unpacking};
+    ghost use Rattle.iim_unpack.specs.Unpacking.{IsSound};
 
     ghost Value = { Unpacking };
 
@@ -157,7 +160,7 @@ impl Model for Unpacker {
 }
 
 /// The refusal for a fault, at this octet.
-fn refusal_at(octet: u64, fault: Fault) -> Refusal
+fn refusal_at(octet: u64, fault: TokenFault) -> Refusal
     ensures { result ≡ refusal_at octet fault }
 {
     Refusal {
@@ -251,7 +254,7 @@ impl Unpacker {
 
     /// An unpacker that stands on no octets.
     fn begin(fields: Fields) -> Unpacker
-        requires { StandsBehind fields [] }
+        requires { StandsAfter fields [] }
         ensures stands { Stands result [] 0 }
         ensures limits { limits_in result ≡ limits_of fields }
         ensures room { room_in result ≡ room_of fields }
@@ -270,7 +273,7 @@ impl Unpacker {
         }
     }
 
-    /// An unpacker of these readers, which has taken so many octets; whether an octet has come is told.
+    /// An unpacker of these readers, which has taken `octets` octets; `begun` tells whether an octet has come.
     pub(crate) fn at_place(reader: HeadReader, parts: Parts, octets: u64, begun: bool) -> Unpacker
         requires { IsUnpacking (record { reader = reader; parts = parts; octets = octets; begun = begun; refused = None }) }
         ensures { result ≡ record { reader = reader; parts = parts; octets = octets; begun = begun; refused = None } }
@@ -331,11 +334,11 @@ impl Unpacker {
     /// ([`Cause::Sink`]); later calls answer [`Cause::Failed`]. No call takes memory.
     pub fn feed<S: StorySink>(&mut self, piece: &[u8], sink: &mut S) -> Result<Progress, Refusal>
         // It stands on the octets so far, or an envelope ends with them; and the sink was told what they add, and did not fail.
-        ensures goes { IfOk result (λ progress. (S.failures sink.new ≡ S.failures sink.old) × ((more : List story.Event) × S.goes sink.old more sink.new
+        ensures goes { IfOk result (λ progress. (S.failures sink.new ≡ S.failures sink.old) × ((more : List story.StoryEvent) × S.goes sink.old more sink.new
             × ((p : List ℕ) (a : ℕ) → Stands self.old p a → Goes self.new p a piece.now more progress))) }
 
         // The first dead token is one that octet k completes; the sink was told what the octets before it add.
-        ensures refused { IfErr result (λ e. (more : List story.Event) × S.goes sink.old more sink.new
+        ensures refused { IfErr result (λ e. (more : List story.StoryEvent) × S.goes sink.old more sink.new
             × ((p : List ℕ) (a : ℕ) → Stands self.old p a → IsRefusedIn (limits_in self.old) p a piece.now more e)) }
         ensures counted { IfErr result (λ e. CountsFor e.cause (S.failures sink.old) (S.failures sink.new)) }
         ensures failed { IfErr result (λ e. self.new.refused ≡ Some e.octet) }

@@ -23,7 +23,7 @@ use Rattle.iimwire.specs.declared.request.Verb.{Verb}
 use Rattle.iimwire.specs.declared.request.Verb.TheVariants.{Check, Show, Story, Pack, Audit}
 use Rattle.iimwire.specs.declared.request.UsageFault.{UsageFault}
 use Rattle.iimwire.specs.declared.request.UsageFault.TheVariants as usage
-use Rattle.iimwire.specs.Requests.{GivesNumber, IsFaultOf, IsFlag, IsInstant, IsNoInstant, IsSubfile, Names, TellsPacking, program, text_given}
+use Rattle.iimwire.specs.Format.Requests.{GivesNumber, IsFaultOf, IsFlag, IsInstant, IsNoInstant, IsSubfile, Names, TellsPacking, program, text_given}
 use Rattle.iimwire.specs.Verbs.{IsJobFault, verb_name}
 
 pub program_simple : is_simple program ≡ true

@@ -1,6 +1,5 @@
-pub mod Outcomes
+-- What the promises cite: a reader has to believe these.
+pub mod Format
+-- What only proofs and private clauses cite.
 pub mod Faults
-pub mod Requests
 pub mod Verbs
-pub mod Starts
-pub mod Served

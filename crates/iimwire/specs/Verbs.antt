@@ -1,7 +1,7 @@
 -- The names of the commands.
 use Rattle.std.specs.Prelude.{◌≡◌, List, codes}
 use Rattle.clap.specs.Words.{Row, Text, first_of}
-use Rattle.iimwire.specs.Requests.{IsMaxAlone, IsNoInstant}
+use Rattle.iimwire.specs.Format.Requests.{IsMaxAlone, IsNoInstant}
 use Rattle.iimwire.specs.declared.request.UsageFault.{UsageFault}
 use Rattle.iimwire.specs.declared.request.UsageFault.TheVariants as usage
 use Rattle.iimwire.specs.declared.request.Verb.{Verb}

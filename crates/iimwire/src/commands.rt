@@ -3,14 +3,12 @@
 ghost use Rattle.std.specs.Prelude.{◌≡◌, codes, false, IfOk};
 ghost use Rattle.clap.specs.Words.{app_of, new_app, rule_of};
 ghost use Rattle.clap.specs.declared.builder.command.Command.TheViews.{out-Command as fields_of};
-ghost use Rattle.iimwire.specs.Requests.{audit_command, file_command, number_rule, pack_command, program, unknown_rule, wanting};
+ghost use Rattle.iimwire.specs.Format.Requests.{audit_command, file_command, number_rule, pack_command, program, unknown_rule, wanting};
 
 use clap::builder::ValueParser;
 use clap::{Arg, ArgAction, Command};
+use iim_dataset::GREATEST_SIZE;
 use std::alloc::{AllocError, Global};
-
-/// The greatest size of an object, and so of a subfile.
-pub const GREATEST_SIZE: u64 = 4_294_967_295;
 
 /// What help says of the file.
 const FILE_HELP: &str = "The file to read, or else standard input";

@@ -2,12 +2,14 @@
 
 ghost use Rattle.std.specs.Prelude.{◌≡◌, ◌≤◌, IfOk, IfErr, IfSome, IsNone, IsSome, true, false, map, string_bytes};
 ghost use Rattle.clap.specs.Words.{kind_of, first_of, found_of, one_of, rows_of};
+ghost use Rattle.iim_dataset.specs.Format.Octets.{greatest_size};
 
-use crate::commands::{GREATEST_SIZE, command};
+use crate::commands::command;
 use crate::instant::Instant;
 use clap::error::ErrorKind;
 use clap::{ArgMatches, Error};
 use iim_commands::packing::PackRequest;
+use iim_dataset::GREATEST_SIZE;
 use jiff::Timestamp;
 use std::alloc::{AllocError, Global};
 
@@ -75,7 +77,7 @@ impl From<Error> for UsageFault {
 }
 
 ghost use Rattle.iimwire.specs.declared.request.Verb.{Verb as VerbValue};
-ghost use Rattle.iimwire.specs.Requests.{AsksFor, AsksJob, GivesNumber, IsFaultOf, IsInstant, IsMaxAlone, IsNoInstant, IsSubfile, TellsPacking, text_given};
+ghost use Rattle.iimwire.specs.Format.Requests.{AsksFor, AsksJob, GivesNumber, IsFaultOf, IsInstant, IsMaxAlone, IsNoInstant, IsSubfile, TellsPacking, text_given};
 ghost use Rattle.iimwire.specs.Verbs.{verb_name, IsJobFault};
 
 /// A command's name.
@@ -106,7 +108,7 @@ fn verb_named(name: &str) -> Option<Verb>
 /// The number that an option was given, from the least one to the greatest size.
 fn number_given(text: Option<&str>, least: u64) -> Option<u64>
     ensures given { GivesNumber least (text_given text.entry) result }
-    ensures within { IfSome result (λ number. (least ≤ number) × (number ≤ 4294967295)) }
+    ensures within { IfSome result (λ number. (least ≤ number) × (number ≤ greatest_size)) }
 {
     let number = text?.parse::<u64>().ok()?;
     if number < least || number > GREATEST_SIZE {
@@ -118,7 +120,7 @@ fn number_given(text: Option<&str>, least: u64) -> Option<u64>
 /// The octets of a full subfile: the number that was given, or 1,024.
 fn subfile_given(text: Option<&str>) -> u64
     ensures given { IsSubfile (text_given text.entry) result }
-    ensures within { (1 ≤ result) × (result ≤ 4294967295) }
+    ensures within { (1 ≤ result) × (result ≤ greatest_size) }
 {
     match number_given(text, 1) {
         Some(number) => number,

@@ -1,8 +1,8 @@
 //! Does what a request asks for.
 
 ghost use Rattle.std.specs.Prelude.{◌≡◌, ℕ, List};
-ghost use Rattle.iim_unpack.specs.Blocks.{behind};
-ghost use Rattle.iimwire.specs.Outcomes.{Complained, Finishes, Listed, Packs, Ran, Reviewed, Told};
+ghost use Rattle.iim_unpack.specs.Format.Blocks.{with_held};
+ghost use Rattle.iimwire.specs.Format.Outcomes.{Complained, Finishes, Listed, Packs, Ran, Reviewed, ToldAsStory};
 ghost use Rattle.iim_commands.specs.Format.Packing.{asked};
 ghost use Rattle.iim_commands.specs.Format.Devices.{devices};
 
@@ -10,7 +10,7 @@ use crate::instant::Instant;
 use crate::request::{Job, Request};
 use iim_commands::audit::write_audit;
 use iim_commands::check::Check;
-use iim_commands::fault::Fault;
+use iim_commands::fault::CommandFault;
 use iim_commands::list::{Report, list};
 use iim_commands::packing::{PackRequest, pack_script};
 use iim_commands::show::Show;
@@ -22,7 +22,7 @@ use std::alloc::Global;
 use wire_story::LineWriter;
 
 /// Tells a fault. The status is the same whether the line of it could be written or not.
-fn complain<E: Target>(errors: &mut E, fault: Fault) -> u8
+fn complain<E: Target>(errors: &mut E, fault: CommandFault) -> u8
     ensures status { result ≡ 3 }
     ensures told { Complained (E.state errors.old) (E.state errors.new) fault }
 {
@@ -31,7 +31,7 @@ fn complain<E: Target>(errors: &mut E, fault: Fault) -> u8
 }
 
 /// Ends a run with its answer: the status, after a fault was told.
-fn finish<E: Target>(errors: &mut E, answer: Result<u8, Fault>) -> u8
+fn finish<E: Target>(errors: &mut E, answer: Result<u8, CommandFault>) -> u8
     ensures { Finishes (E.state errors.old) (E.state errors.new) answer result }
 {
     match answer {
@@ -48,7 +48,7 @@ fn report<P: Report, R: Source + Drop, W: Target, E: Target>(
     output: W,
     errors: E,
 ) -> (u8, W, E)
-    ensures { (last : R) × (held : List ℕ) × R.leads reader last × Listed P.written (devices (R.state reader) (W.state output) (E.state errors)) (devices (behind held (R.state last)) (W.state result.1) (E.state result.2)) result.0 }
+    ensures { (last : R) × (held : List ℕ) × R.leads reader last × Listed P.written (devices (R.state reader) (W.state output) (E.state errors)) (devices (with_held held (R.state last)) (W.state result.1) (E.state result.2)) result.0 }
 {
     let mut intake = Intake::new(reader);
     let mut output = output;
@@ -65,7 +65,7 @@ fn tell<R: Source + Drop, W: Target, E: Target>(
     output: W,
     errors: E,
 ) -> (u8, W, E)
-    ensures { (last : R) × (held : List ℕ) × R.leads reader last × Told (devices (R.state reader) (W.state output) (E.state errors)) (devices (behind held (R.state last)) (W.state result.1) (E.state result.2)) result.0 }
+    ensures { (last : R) × (held : List ℕ) × R.leads reader last × ToldAsStory (devices (R.state reader) (W.state output) (E.state errors)) (devices (with_held held (R.state last)) (W.state result.1) (E.state result.2)) result.0 }
 {
     let mut intake = Intake::new(reader);
     let mut lines = LineWriter::new(output);
@@ -83,7 +83,7 @@ fn review<R: Source + Drop, W: Target, E: Target>(
     output: W,
     errors: E,
 ) -> (u8, W, E)
-    ensures { (last : R) × (held : List ℕ) × R.leads reader last × Reviewed now.nanosecond (devices (R.state reader) (W.state output) (E.state errors)) (devices (behind held (R.state last)) (W.state result.1) (E.state result.2)) result.0 }
+    ensures { (last : R) × (held : List ℕ) × R.leads reader last × Reviewed now.nanosecond (devices (R.state reader) (W.state output) (E.state errors)) (devices (with_held held (R.state last)) (W.state result.1) (E.state result.2)) result.0 }
 {
     let mut intake = Intake::new(reader);
     let mut output = output;
@@ -119,7 +119,7 @@ pub fn run<R: Source + Drop, W: Target, E: Target>(
     errors: E,
 ) -> (u8, W, E)
     // The reader came to `last`, of whose octets some were read and not used.
-    ensures { (last : R) × (held : List ℕ) × R.leads reader last × Ran request.entry.job (devices (R.state reader) (W.state output) (E.state errors)) (devices (behind held (R.state last)) (W.state result.1) (E.state result.2)) result.0 }
+    ensures { (last : R) × (held : List ℕ) × R.leads reader last × Ran request.entry.job (devices (R.state reader) (W.state output) (E.state errors)) (devices (with_held held (R.state last)) (W.state result.1) (E.state result.2)) result.0 }
 {
     match request.job {
         Job::Check => report(alloc, &Check, reader, output, errors),

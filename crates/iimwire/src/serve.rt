@@ -1,6 +1,6 @@
 //! All that the program does once it has its words and its input.
 
-ghost use Rattle.iimwire.specs.Served.{Served};
+ghost use Rattle.iimwire.specs.Format.Served.{Served};
 
 use crate::request::Request;
 use crate::run::run;

@@ -3,7 +3,7 @@
 ghost use Rattle.std.specs.Prelude.{◌≡◌, IfOk};
 
 use crate::request::UsageFault;
-use iim_commands::fault::Fault;
+use iim_commands::fault::CommandFault;
 use iim_commands::report::tell;
 use iim_commands::shown::push_name;
 use iim_commands::status::{FAILED, USAGE};
@@ -23,7 +23,7 @@ pub enum StartFault<'a> {
     OutOfMemory,
 }
 
-ghost use Rattle.iimwire.specs.Starts.{status_of_usage, status_of_start, IsHindered, IsTextOf};
+ghost use Rattle.iimwire.specs.Format.Starts.{status_of_usage, status_of_start, IsHindered, IsTextOf};
 
 /// The status for a fault of the words.
 fn usage_status(fault: &UsageFault) -> u8
@@ -67,7 +67,7 @@ fn text(alloc: Global, fault: &StartFault<'_>) -> Result<Vec<u8>, AllocError>
             text.push(b'\n')?;
         }
         StartFault::Usage(UsageFault::OutOfMemory) | StartFault::OutOfMemory => {
-            text.extend_from_slice(Fault::OutOfMemory.line().as_bytes())?;
+            text.extend_from_slice(CommandFault::OutOfMemory.line().as_bytes())?;
         }
     }
     Ok(text)
@@ -79,6 +79,6 @@ pub fn hinder<E: Target>(alloc: Global, fault: StartFault<'_>, errors: &mut E) -
 {
     match text(alloc, &fault) {
         Ok(text) => tell(errors, text.as_slice(), status(&fault)),
-        Err(_) => tell(errors, Fault::OutOfMemory.line().as_bytes(), FAILED),
+        Err(_) => tell(errors, CommandFault::OutOfMemory.line().as_bytes(), FAILED),
     }
 }

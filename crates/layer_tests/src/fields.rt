@@ -6,7 +6,7 @@ mod checks;
 mod views;
 
 ghost use Rattle.std.specs.Prelude.{◌≢◌, length, OnOk};
-ghost use Rattle.iim_fields.specs.Standing.{IsBetween, IsInside};
+ghost use Rattle.iim_fields.specs.Format.Standing.{IsBetween, IsInside};
 
 use iim_dataset::Head;
 use iim_fields::{Envelope, EnvelopeBuilder, FieldCause, FieldFault, Fields, Limits};
@@ -108,7 +108,7 @@ fn pass_fields(fields: &mut Fields, one_by_one: bool) -> Result<(), FieldFault>
     Ok(())
 }
 
-/// Passes so many of the datasets of records 7, 8 and 9, each of which tells its number, and answers the first fault.
+/// Passes the first `count` datasets of records 7, 8 and 9, each of which tells its number, and answers the first fault.
 fn pass_sizes(
     rt: &impl Abort,
     fields: &mut Fields,
@@ -127,7 +127,7 @@ fn pass_sizes(
     Ok(())
 }
 
-/// Passes all datasets of the longer worked envelope but the last so many.
+/// Passes all datasets of the longer worked envelope but the last `last` of them.
 fn pass_all_but(
     rt: &impl Abort,
     fields: &mut Fields,
@@ -239,7 +239,7 @@ fn the_memory_of_an_envelope_serves_the_next(rt: HostRuntime) -> Result<(), Fail
 }
 
 #[test]
-fn the_reader_goes_on_where_nothing_is_handed_over(rt: HostRuntime) -> Result<(), Fail> {
+fn the_reader_continues_where_nothing_is_handed_over(rt: HostRuntime) -> Result<(), Fail> {
     let mut fields = Fields::new(rt.alloc(), LIMITS)?;
     if let Err(fault) = pass_fields(&mut fields, false) {
         assert!(rt; false, "{fault:?}");
@@ -322,7 +322,7 @@ fn limits_are_exact(rt: HostRuntime) -> Result<(), Fail> {
     Ok(())
 }
 
-/// Adds so many of these fields at most, and answers the first fault.
+/// Adds the first `count` of these fields, or all where they are fewer, and answers the first fault.
 fn add_some(
     builder: &mut EnvelopeBuilder,
     fields: &[(u8, u8, &'static [u8])],

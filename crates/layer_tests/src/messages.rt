@@ -19,7 +19,7 @@ const EMPTY: &[u8] = b"";
 
 const ZEROS: &[u8] = &[b'0'; 66];
 
-/// What a sink was told: so many octets of a line, or the end of a line.
+/// What a sink was told: octets of a line, of which the number is kept, or the end of a line.
 #[derive(Clone, Copy, Debug, PartialEq, Eq)]
 enum Call {
     Text(usize),
@@ -91,7 +91,7 @@ fn read<S: StorySink>(
     }
 }
 
-/// Reads front, so many of an octet, and back, each way.
+/// Reads front, the octet `times` times, and back, each way.
 fn expect(
     rt: &impl Abort,
     front: &[u8],
@@ -110,7 +110,7 @@ fn expect(
     assert_eq!(rt; read(&object, true, &mut Discard), want);
 }
 
-/// Reads an object each way into a writer that fails after so many octets, and compares what is written then.
+/// Reads an object each way into a writer that fails after `good` octets, and compares what is written then.
 fn expect_lines(
     rt: &impl Abort,
     object: &[u8],
@@ -134,7 +134,7 @@ fn expect_text(rt: &impl Abort, back: &[u8], lines: &[u8], want: Option<(usize, 
     expect_lines(rt, &object, 100, lines, want);
 }
 
-/// Reads front, so many of an octet, and back, where the octet at that place is wrong.
+/// Reads front, the octet `times` times, and back, where the octet at the place `at` is wrong.
 fn expect_bad(rt: &impl Abort, front: &[u8], octet: u8, times: usize, back: &[u8], at: usize) {
     expect(
         rt,
@@ -485,7 +485,7 @@ fn places_after_the_header(rt: HostRuntime) {
     );
 }
 
-/// The reader of the story of two lines, saved and put back after so many octets.
+/// The reader of the story of two lines, saved and put back after `count` octets.
 fn put_back_after(count: usize) -> Option<MessageReader>
     ensures { IfSome result (λ reader. IsSome reader) }
 {
@@ -637,7 +637,7 @@ fn lengths_of_the_longest_parts(rt: HostRuntime) {
     }
 }
 
-/// Just so many octets, at least and at most, lead where these lead.
+/// The least and the greatest number of octets that lead where these lead are `least` and `greatest`.
 fn expect_lengths(rt: &impl Abort, octets: &[u8], least: u64, greatest: Option<u64>) {
     assert_eq!(rt;
         lengths_after(octets, octets.len()),

@@ -1,8 +1,8 @@
 //! Texts read in pieces, collected and written. What is expected is worked out from the format.
 
 ghost use Rattle.std.specs.Prelude.{◌≡◌, ◌++◌, OnOk};
-ghost use Rattle.wire_story.specs.Texts.{AreLines};
-ghost use Rattle.wire_story.specs.Delivery.{delivered};
+ghost use Rattle.wire_story.specs.Format.Texts.{AreLines};
+ghost use Rattle.wire_story.specs.Format.Delivery.{delivered};
 
 use iim_dataset::{Stop, TrialWriter, Trouble};
 use std::alloc::Global;

@@ -1,10 +1,10 @@
 //! `pack` over memory: scripts, what is wrong with them, and devices that break.
 
 ghost use Rattle.std.specs.Prelude.{◌≤◌, ⊤, None, IfSome};
-ghost use Rattle.iim_tables.specs.Numbers.{greatest_size};
-ghost use Rattle.iim_dataset.specs.Devices.{unbroken};
+ghost use Rattle.iim_dataset.specs.Format.Octets.{greatest_size};
+ghost use Rattle.iim_dataset.specs.Format.Devices.{unbroken};
 
-use iim_commands::fault::Fault;
+use iim_commands::fault::CommandFault;
 use iim_commands::packing::{PackRequest, pack_script};
 use iim_commands::status::{ACCEPTED, FAILED, REFUSED};
 use iim_dataset::{IoFault, Source, TrialReader, TrialWriter, Trouble};
@@ -222,7 +222,7 @@ fn tells_an_object_that_passes_the_maximum(rt: HostRuntime) -> Result<(), Fail> 
     Ok(())
 }
 
-/// A source of so many octets 00, which gives as many as there is room for.
+/// A source that has `left` octets 00 to give, and gives as many as there is room for.
 #[derive(Drop)]
 struct Zeros {
     left: u64,
@@ -235,7 +235,7 @@ impl Source for Zeros {
 
     ghost stays = { λ _. tt };
 
-    ghost goes_on = { λ _ _ _ _ _. tt };
+    ghost leads_on = { λ _ _ _ _ _. tt };
 
     fn read(&mut self, buffer: &mut [u8]) -> Result<usize, IoFault> {
         let room = buffer.len() as u64;
@@ -273,7 +273,7 @@ fn hands_on_a_reader_that_fails(rt: HostRuntime) -> Result<(), Fail> {
         let mut source = TrialReader::new(script.as_slice(), good, Trouble::Failure);
         let mut errors = writer();
         let (answer, output) = pack_script(rt.alloc(), known(), &mut source, writer(), &mut errors);
-        assert_eq!(rt; answer, Err(Fault::CannotRead), "at {good}");
+        assert_eq!(rt; answer, Err(CommandFault::CannotRead), "at {good}");
         assert!(rt; output.octets().is_empty(), "at {good}");
         assert!(rt; errors.octets().is_empty(), "at {good}");
     }
@@ -285,7 +285,7 @@ fn reads_past_interruptions(rt: HostRuntime) -> Result<(), Fail> {
     let script = joined(rt.alloc(), SMALLEST.as_slice())?;
     let rows = [
         (999_999, Ok(ACCEPTED), 114),
-        (1_000_000, Err(Fault::CannotRead), 0),
+        (1_000_000, Err(CommandFault::CannotRead), 0),
     ];
     for (running, want, octets) in rows {
         let mut source = TrialReader::new(script.as_slice(), 50, Trouble::Interruptions(running));
@@ -306,7 +306,7 @@ fn hands_on_an_output_that_fails(rt: HostRuntime) -> Result<(), Fail> {
         let target: TrialWriter<256> = TrialWriter::new(good, Trouble::Failure);
         let mut source = reader(script.as_slice());
         let (answer, output) = pack_script(rt.alloc(), known(), &mut source, target, &mut errors);
-        assert_eq!(rt; answer, Err(Fault::CannotWrite), "at {good}");
+        assert_eq!(rt; answer, Err(CommandFault::CannotWrite), "at {good}");
         assert_eq!(rt;
             Some(output.octets()),
             form.as_slice().get(..good as usize),

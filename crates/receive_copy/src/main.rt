@@ -3,7 +3,7 @@
 
 ghost use Rattle.std.specs.Prelude.{◌≡◌, None, IfOk};
 ghost use Rattle.std.specs.Io.KnownBytes.{IsAtEnd};
-ghost use Rattle.iim_unpack.specs.Intakes.{line};
+ghost use Rattle.iim_unpack.specs.Format.Intakes.{line};
 
 use anyhow::{Result, bail};
 use iim_dataset::{FromRead, Source};

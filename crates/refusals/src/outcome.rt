@@ -10,7 +10,7 @@ pub enum Trouble {
     OutOfMemory,
     /// Memory was refused, at the envelope of this number, and nothing else changed.
     OutOfMemoryAt(u64),
-    /// The lines were refused memory for this octet of an envelope, and there are so many, with so many octets.
+    /// The lines were refused memory for the octet of this number. Then come the number of lines, and that of their octets.
     StoppedAt(u64, usize, usize),
     /// Anything else.
     Wrong,

@@ -2,8 +2,8 @@
 use Rattle.std.proofs.Common.{◌≡◌, ℕ, ◌+◌, ◌<◌, ◌^◌, List, [], ◌∷◌, length, map, refl, sym, ap, ◌∙◌, arith}
 use Rattle.std.proofs.lemmas.List.Sums.{sum_by-append}
 use Rattle.std.specs.List.{sum_by}
-use Rattle.iim_dataset.specs.Events.{DataOctet}
-use Rattle.wire_story.specs.Delivery.{LineOctet}
+use Rattle.iim_dataset.specs.Format.Events.{DataOctet}
+use Rattle.wire_story.specs.Format.Delivery.{LineOctet}
 use Rattle.speed.specs.declared.tally.Tally.{Tally}
 use Rattle.speed.specs.Counts.{capped, Grew, octets_of, line_ends_of, CountsText, data_of, ends_of, CountsDatasets}
 

@@ -2,8 +2,8 @@
 use Rattle.std.proofs.Common.{◌≡◌, ℕ, ◌+◌, ◌<◌, ◌^◌, List, [], ◌++◌, refl, sym, ap, ◌∙◌, arith}
 use Rattle.std.proofs.lemmas.List.Sums.{sum_by-append}
 use Rattle.std.specs.List.{sum_by}
-use Rattle.iim_dataset.specs.Events as datasets
-use Rattle.wire_story.specs.Delivery as story
+use Rattle.iim_dataset.specs.Format.Events as datasets
+use Rattle.wire_story.specs.Format.Delivery as story
 use Rattle.speed.specs.declared.tally.Tally.{Tally}
 use Rattle.speed.specs.Counts.{capped, Grew, octets_of, line_ends_of, CountsText, data_of, ends_of, CountsDatasets, NeverStops}
 
@@ -29,7 +29,7 @@ text_nothing tally = record {
   whole = refl;
 }
 
-pub text_joined : (a b c : Tally) (xs ys : List story.Event) → CountsText a xs b → CountsText b ys c → CountsText a (xs ++ ys) c
+pub text_joined : (a b c : Tally) (xs ys : List story.StoryEvent) → CountsText a xs b → CountsText b ys c → CountsText a (xs ++ ys) c
 text_joined a b c xs ys first then = record {
   octets = grew_joined octets_of a.octets b.octets c.octets xs ys first.octets then.octets;
   line_ends = grew_joined line_ends_of a.line_ends b.line_ends c.line_ends xs ys first.line_ends then.line_ends;
@@ -43,12 +43,12 @@ datasets_nothing tally = record {
   line_ends = refl;
 }
 
-pub datasets_joined : (a b c : Tally) (xs ys : List datasets.Event) → CountsDatasets a xs b → CountsDatasets b ys c → CountsDatasets a (xs ++ ys) c
+pub datasets_joined : (a b c : Tally) (xs ys : List datasets.DatasetEvent) → CountsDatasets a xs b → CountsDatasets b ys c → CountsDatasets a (xs ++ ys) c
 datasets_joined a b c xs ys first then = record {
   octets = grew_joined data_of a.octets b.octets c.octets xs ys first.octets then.octets;
   whole = grew_joined ends_of a.whole b.whole c.whole xs ys first.whole then.whole;
   line_ends = then.line_ends ∙ first.line_ends;
 }
 
-pub never_stopped : (a b c : Tally) (xs ys : List datasets.Event) (refused : datasets.Event) → CountsDatasets a xs b → NeverStops b ys refused c → NeverStops a (xs ++ ys) refused c
+pub never_stopped : (a b c : Tally) (xs ys : List datasets.DatasetEvent) (refused : datasets.DatasetEvent) → CountsDatasets a xs b → NeverStops b ys refused c → NeverStops a (xs ++ ys) refused c
 never_stopped a b c xs ys refused first stop = stop

@@ -1,8 +1,8 @@
 -- What the shapes are made of.
 use Rattle.std.specs.Prelude.{ℕ, suc, zero, List, [], ◌∷◌, ◌++◌, length}
-use Rattle.iim_dataset.specs.Datasets.{canonical_tag}
+use Rattle.iim_dataset.specs.Format.Datasets.{canonical_tag}
 
--- a piece, so many times
+-- a piece, n times
 abbrev pub repeated : List ℕ → ℕ → List ℕ
 repeated piece zero = []
 repeated piece (suc n) = repeated piece n ++ piece

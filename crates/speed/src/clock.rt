@@ -63,7 +63,7 @@ fn copy(octets: &[u8], room: &mut [u8])
     room.copy_from_slice(octets);
 }
 
-/// The least times of so many turns, each a plain copy and then the work. None where the work was refused, or counted otherwise
+/// The least times of `turns` turns, each a plain copy and then the work. None where the work was refused, or counted otherwise
 /// than it should.
 pub(crate) fn measure<R: CpuClock>(
     rt: &R,

@@ -6,7 +6,7 @@ ghost use Rattle.speed.specs.Shapes.{repeated, written};
 use iim_dataset::{Head, head_bytes};
 use std::alloc::{AllocError, Global};
 
-/// A piece, so many times.
+/// A piece, `times` times.
 pub(crate) fn repeated(alloc: Global, piece: &[u8], times: usize) -> Result<Vec<u8>, AllocError>
     ensures octets { IfOk result (λ all. all.items ≡ repeated piece.now times) }
     ensures len { IfOk result (λ all. vec_len all ≡ times * length piece.now) }
@@ -34,7 +34,7 @@ pub(crate) fn push_dataset(
     all.extend_from_slice(octets)
 }
 
-/// Adds an object in full subfiles of so many octets, and one of the octets that are left.
+/// Adds an object in full subfiles of `subfile` octets, and one of the octets that are left.
 pub(crate) fn push_subfiles(
     all: &mut Vec<u8>,
     object: &[u8],

@@ -1,7 +1,7 @@
 //! A benchmark of the readers and writers: how long each takes over shapes of octets that are made here, against a plain copy
 //! of the same octets.
 //!
-//! `speed [TURNS]` runs each so many turns and prints the least time of them; 20 where no number is given. With 0 it prints
+//! `speed [TURNS]` runs each `TURNS` times and prints the least time of them; 20 where no number is given. With 0 it prints
 //! what each run counts, and no time. Stands on the crates of the layers, whose public calls it measures.
 #![tactic(auto)]
 

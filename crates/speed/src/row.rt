@@ -33,7 +33,7 @@ pub struct Table<'a, R> {
 }
 
 impl<'a, R: Print + CpuClock> Table<'a, R> {
-    /// A table of the least times of so many turns, or of counts where they are none.
+    /// A table of the least times of `turns` turns, or of counts where `turns` is 0.
     pub(crate) fn new(rt: &'a R, alloc: Global, turns: u32) -> Table<'a, R> {
         Table { rt, alloc, turns }
     }

@@ -1,7 +1,7 @@
 //! A sink and target that counts.
 
 ghost use Rattle.std.specs.Prelude.{◌≡◌, ◌+◌, ⊤};
-ghost use Rattle.iim_dataset.specs.Devices.{unbroken};
+ghost use Rattle.iim_dataset.specs.Format.Devices.{unbroken};
 ghost use Rattle.speed.specs.Counts.{capped};
 
 use iim_dataset::{DatasetSink, Head, IoFault, Step, Stop, Target};

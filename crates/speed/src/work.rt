@@ -1,7 +1,7 @@
 //! What is run over a shape.
 
 ghost use Rattle.std.specs.Prelude.{◌≡◌, IfSome};
-ghost use Rattle.wire_story.specs.Delivery.{delivered};
+ghost use Rattle.wire_story.specs.Format.Delivery.{delivered};
 ghost use Rattle.speed.specs.Counts.{CountsText};
 
 use crate::story::Story;
@@ -45,7 +45,7 @@ pub enum Reading {
 pub enum Work<'a> {
     /// A reader, over the shape.
     Read(Reading),
-    /// `pack`, with so many octets in a full subfile, of the story whose text is the shape.
+    /// `pack`, with `subfile` octets in a full subfile, of the story whose text is the shape.
     Pack { story: &'a Story, subfile: u64 },
 }
 

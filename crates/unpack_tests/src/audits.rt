@@ -359,7 +359,7 @@ fn truncated_after_an_accepted_one(rt: HostRuntime) -> Result<(), Fail> {
     Ok(())
 }
 
-/// The answer for two of the smallest envelopes, from a reader of one octet a call, with this trouble after so many calls.
+/// The answer for two of the smallest envelopes, from a reader of one octet a call, with this trouble after `good` calls.
 fn troubled(
     alloc: Global,
     octets: &[u8],
@@ -421,7 +421,7 @@ struct Again {
 }
 
 impl Again {
-    /// So many of them.
+    /// The smallest envelope, `left` times.
     fn new(alloc: Global, left: u32) -> Result<Again, AllocError> {
         Ok(Again {
             before: joined(alloc, &[BEGIN, b"\x1c\x01\x28\x00\x08"])?,

@@ -82,7 +82,7 @@ fn joined(alloc: Global, pieces: &[&[u8]]) -> Result<Vec<u8>, AllocError> {
     Ok(all)
 }
 
-/// The octets from one place to another; none where they are not so many.
+/// The octets from the place `from` up to the place `to`; none where there are fewer than `to`.
 fn part(octets: &[u8], from: usize, to: usize) -> &[u8] {
     octets.get(from..to).unwrap_or(&[])
 }

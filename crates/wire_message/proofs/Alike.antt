@@ -3,14 +3,15 @@ use Rattle.std.proofs.Common.{◌≡◌, ℕ, ◌+◌, ◌<◌, ◌≤◌, Bool,
 use Rattle.std.proofs.lemmas.Bool.{and_parts, or_right, eqb-true, ltb-true}
 use Rattle.std.proofs.lemmas.List.{append_cancel_left}
 use Rattle.arrayvec.specs.ArrayVec.{ArrayVec}
-use Rattle.wire_story.specs.Texts.{AreLines, Holds}
-use Rattle.wire_story.specs.Reading as story
-use Rattle.wire_story.specs.Laws as stories
+use Rattle.wire_story.specs.Format.Texts.{AreLines, Holds}
+use Rattle.wire_story.specs.Format.Reading as story
+use Rattle.wire_story.specs.Format.Laws as stories
 use Rattle.wire_story.specs.declared.reader.TextReader.{TextReader}
-use Rattle.wire_message.specs.Fields.{IsField, is_digit, is_letter, is_alphanumeric, is_info_octet, is_trailer_octet, is_filler_octet, is_text_octet}
-use Rattle.wire_message.specs.Messages.{Header, IsHeader}
-use Rattle.wire_message.specs.SoFar.{IsPlace, Spells, StoryStands, LeadTo}
-use Rattle.wire_message.specs.Laws.{OctetsLeadOnAlike}
+use Rattle.wire_message.specs.Format.Fields.{IsField, is_alphanumeric, is_info_octet, is_trailer_octet, is_filler_octet, is_text_octet}
+use Rattle.iim_dataset.specs.Format.Octets.{is_digit, is_letter}
+use Rattle.wire_message.specs.Format.Messages.{Header, IsHeader}
+use Rattle.wire_message.specs.Format.SoFar.{IsPlace, Spells, StoryStands, LeadTo}
+use Rattle.wire_message.specs.Format.Laws.{OctetsLeadOnAlike}
 use Rattle.wire_message.specs.declared.place.Place.{Place}
 use Rattle.wire_message.specs.declared.place.Place.TheVariants.{Filler, Source, Number, Priority, PriorityRead, Category, Words, Info, Gap, Text, Trailer, AfterEnd}
 use Rattle.wire_message.proofs.Machine.{of, begun, more_info, guarded, next, run, run_parts, and_then_place}

@@ -2,12 +2,13 @@
 use Rattle.std.proofs.Common.{◌≡◌, ℕ, ◌+◌, ◌<◌, ◌≤◌, Bool, true, false, ◌||◌, nat_lt, List, [], ◌∷◌, ◌++◌, length, Option, Some, None, refl, sym, ap, subst, ◌∙◌, arith, append_assoc, append-nil, map}
 use Rattle.std.proofs.lemmas.Bool.{ltb-true}
 use Rattle.arrayvec.specs.ArrayVec.{ArrayVec}
-use Rattle.iim_dataset.specs.Languages.{IsAlive}
-use Rattle.wire_story.specs.Tokens.{OctetOrEnd, Octet, End, with_end}
-use Rattle.wire_message.specs.Fields.{IsField, is_digit, is_letter, is_alphanumeric, is_trailer_octet}
-use Rattle.wire_message.specs.Messages.{Header, IsHeader, IsMessage, IsTrailer}
-use Rattle.wire_message.specs.Layers.{MessageLanguage, MessageLivesWith, MessageDiesAt}
-use Rattle.wire_message.specs.SoFar.{IsPlace, Spells}
+use Rattle.iim_dataset.specs.Format.Languages.{IsAlive}
+use Rattle.wire_story.specs.Format.Tokens.{OctetOrEnd, Octet, End, with_end}
+use Rattle.wire_message.specs.Format.Fields.{IsField, is_alphanumeric, is_trailer_octet}
+use Rattle.iim_dataset.specs.Format.Octets.{is_digit, is_letter}
+use Rattle.wire_message.specs.Format.Messages.{Header, IsHeader, IsMessage, IsTrailer}
+use Rattle.wire_message.specs.Format.Layers.{MessageLanguage, MessageLivesWith, MessageDiesAt}
+use Rattle.wire_message.specs.Format.SoFar.{IsPlace, Spells}
 use Rattle.wire_message.specs.declared.place.Place.{Place}
 use Rattle.wire_message.specs.declared.place.Place.TheVariants.{Filler, Source, Number, Priority, PriorityRead, Category, Words, Info, Gap, Text, Trailer, AfterEnd}
 use Rattle.wire_message.proofs.Machine.{of, begun, next, run, run_parts, first_step}

@@ -1,11 +1,11 @@
 -- The numbers of octets that lead to a place are those from the least on, up to the greatest where there is one.
 use Rattle.std.proofs.Common.{◌≡◌, ℕ, ◌+◌, ◌≤◌, ◌↔◌, List, [], ◌∷◌, ◌++◌, length, replicate, Option, Some, None, refl, sym, ap, subst, ◌∙◌, arith, length-append, ⊎_elim}
 use Rattle.std.proofs.lemmas.List.{length-replicate}
-use Rattle.wire_story.specs.Texts.{IsTextSoFar, line_end}
-use Rattle.wire_message.specs.Messages.{IsFiller, SpellsInfo, fixed_header}
-use Rattle.wire_message.specs.Canonical.{packed_info}
-use Rattle.wire_message.specs.SoFar.{IsPlace, LeadTo}
-use Rattle.wire_message.specs.Lengths.{LeadsIn, IsOneOf, least_of, greatest_of}
+use Rattle.wire_story.specs.Format.Texts.{IsTextSoFar, line_end}
+use Rattle.wire_message.specs.Format.Messages.{IsFiller, SpellsInfo, fixed_header}
+use Rattle.wire_message.specs.Format.Canonical.{packed_info}
+use Rattle.wire_message.specs.Format.SoFar.{IsPlace, LeadTo}
+use Rattle.wire_message.specs.Format.Lengths.{LeadsIn, IsOneOf, least_of, greatest_of}
 use Rattle.wire_message.specs.declared.place.Place.{Place}
 use Rattle.wire_message.specs.declared.place.Place.TheVariants.{Filler, Gap, Text, Trailer, AfterEnd}
 use Rattle.wire_message.proofs.OnePlace.{some_same}
@@ -33,7 +33,7 @@ object_length before fixed info rest = omega (arith, length-append before (1 ∷
 
 -- ---- the places
 
--- filler, and then so many octets
+-- filler, and then `least` octets
 filler_within : (octets before rest : List ℕ) (least : ℕ) → IsFiller before → octets ≡ before ++ rest → length rest ≡ least → IsOneOf least (Some (32 + least)) (length octets)
 filler_within octets before rest least fill e long =
     let sum : length octets ≡ length before + length rest = ap length e ∙ length-append before rest in

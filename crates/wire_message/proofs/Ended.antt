@@ -3,18 +3,19 @@ use Rattle.std.proofs.Common.{◌≡◌, ℕ, zero, suc, Bool, ◌==◌, ◌+◌
 use Rattle.std.proofs.lemmas.List.{take_more}
 use Rattle.std.proofs.lemmas.Bool.{eqb-true}
 use Rattle.std.proofs.lemmas.Bool.Decides.{nat_tests}
-use Rattle.wire_story.specs.Texts.{Holds, IsTextSoFar, is_line_octet, line_end}
-use Rattle.wire_story.specs.Tokens.{End, StoryDiesAt}
-use Rattle.wire_story.specs.Laws.{StoriesLiveAsTextsSoFar, StoriesEndAsTexts, TextsEndInNoReturn, TextsSoFarHaveOneReading}
-use Rattle.wire_story.specs.Reading as story
+use Rattle.wire_story.specs.Format.Texts.{Holds, IsTextSoFar, is_line_octet, line_end}
+use Rattle.wire_story.specs.Format.Tokens.{End, StoryDiesAt}
+use Rattle.wire_story.specs.Format.Laws.{StoriesLiveAsTextsSoFar, StoriesEndAsTexts, TextsEndInNoReturn, TextsSoFarHaveOneReading}
+use Rattle.wire_story.specs.Format.Reading as story
 use Rattle.wire_story.specs.declared.reader.TextReader.{TextReader}
 use Rattle.wire_story.specs.declared.fault.TextCause.{TextCause}
 use Rattle.wire_story.specs.declared.fault.TextCause.TheVariants as text_cause
 use Rattle.arrayvec.specs.ArrayVec.{ArrayVec}
-use Rattle.wire_message.specs.Fields.{Are, is_text_octet}
-use Rattle.wire_message.specs.Messages.{Header}
-use Rattle.wire_message.specs.SoFar.{LeadTo}
-use Rattle.wire_message.specs.Reading.{GoesOn, GoesSomewhere, Refuses, HasCause, cause_of}
+use Rattle.wire_message.specs.Format.Fields.{Are, is_text_octet}
+use Rattle.wire_message.specs.Format.Messages.{Header}
+use Rattle.wire_message.specs.Format.SoFar.{LeadTo}
+use Rattle.wire_message.specs.Format.Reading.{LeadsOn, GoesSomewhere, Refuses, HasCause}
+use Rattle.wire_message.specs.Steps.{cause_of}
 use Rattle.wire_message.specs.declared.fault.MessageCause.TheVariants.{LoneReturn}
 use Rattle.wire_message.specs.declared.place.Place.TheVariants.{Text, Trailer}
 use Rattle.wire_message.proofs.Machine.{of}
@@ -22,7 +23,7 @@ use Rattle.wire_message.proofs.Spans.{Are-tail, Are-head, Are-cons, Are-append}
 use Rattle.wire_message.proofs.TextSoFar.{each}
 use Rattle.wire_message.proofs.Transitions.{text_more}
 use Rattle.wire_message.proofs.Held.{holds_two, holds_none}
-use Rattle.wire_message.proofs.Readings.{goes_on_of, goes_somewhere_of, refuses_of, stood_before, text_leads, text_stops, text_refuses, etx_leads, etx_refuses}
+use Rattle.wire_message.proofs.Readings.{leads_on_of, goes_somewhere_of, refuses_of, stood_before, text_leads, text_stops, text_refuses, etx_leads, etx_refuses}
 
 -- ---- octets of a story are octets of a text
 
@@ -50,9 +51,9 @@ back_text (x ∷ xs) ys h = back_text xs ys (Are-tail is_text_octet x (xs ++ ys)
 
 -- ---- a story takes all
 
-pub all_taken : (h : Header) (old new : TextReader) (ys : List ℕ) → story.GoesOn old ys new → GoesOn (Some (Text h old)) ys ys (Some (Text h new))
+pub all_taken : (h : Header) (old new : TextReader) (ys : List ℕ) → story.LeadsOn old ys new → LeadsOn (Some (Text h old)) ys ys (Some (Text h new))
 all_taken h old new ys goes =
-    goes_on_of (Text h old) (Text h new) ys ys
+    leads_on_of (Text h old) (Text h new) ys ys
     (λ octets text l.
     let after = goes text l.story in
     text_leads h old new ys goes (back_text text ys (holds_text (text ++ ys) after.0 after.2)) octets text l)
@@ -73,10 +74,10 @@ stops_somewhere law h old ys b cause refuses =
 pub ends_at : TextsEndInNoReturn → StoriesLiveAsTextsSoFar → (h : Header) (old : TextReader) (t : ArrayVec ℕ) (rest : List ℕ) (taken : ℕ) (cause : TextCause) → t.items ≡ []
     → taken < length rest → cause ≡ text_cause.ControlOctet → slice_index rest taken ≡ 3
     → ((x : List ℕ) → story.StandsAt old x → story.HasCause cause (x ++ take taken rest) (slice_index rest taken))
-    → GoesOn (Some (Text h old)) (take (taken + 1) rest) (take taken rest) (Some (Trailer h t))
+    → LeadsOn (Some (Text h old)) (take (taken + 1) rest) (take taken rest) (Some (Trailer h t))
 ends_at ends law h old t rest taken cause none before control etx refuses =
     let ys = take taken rest in
-    goes_on_of (Text h old) (Trailer h t) (take (taken + 1) rest) ys
+    leads_on_of (Text h old) (Trailer h t) (take (taken + 1) rest) ys
     (λ octets text l.
     let has : story.HasCause text_cause.ControlOctet (text ++ ys) (slice_index rest taken) = subst (λ (c : TextCause). story.HasCause c (text ++ ys) (slice_index rest taken)) control (refuses text l.story) in
     let reader : TextReader = Some 0 in

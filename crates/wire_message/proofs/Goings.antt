@@ -4,14 +4,14 @@ use Rattle.std.proofs.lemmas.Bool.{and_parts, or_right, eqb-true, ltb-true}
 use Rattle.std.proofs.lemmas.List.{take_more, length-take-le}
 use Rattle.arrayvec.specs.ArrayVec.{ArrayVec}
 use Rattle.wire_story.specs.declared.reader.TextReader.{TextReader}
-use Rattle.wire_story.specs.Reading as story
-use Rattle.wire_message.specs.Fields.{Are, is_trailer_octet, is_filler_octet}
-use Rattle.wire_message.specs.Messages.{Header, IsHeader, IsTrailer}
-use Rattle.wire_message.specs.SoFar.{IsPlace, Spells, StoryStands}
-use Rattle.wire_message.specs.Reading.{Adds, TakesSome}
+use Rattle.wire_story.specs.Format.Reading as story
+use Rattle.wire_message.specs.Format.Fields.{Are, is_trailer_octet, is_filler_octet}
+use Rattle.wire_message.specs.Format.Messages.{Header, IsHeader, IsTrailer}
+use Rattle.wire_message.specs.Format.SoFar.{IsPlace, Spells, StoryStands}
+use Rattle.wire_message.specs.Steps.{Adds, TakesSome}
 use Rattle.wire_message.specs.declared.place.Place.{Place}
 use Rattle.wire_message.specs.declared.place.Place.TheVariants.{Words, Info, Gap, Text, Trailer, AfterEnd}
-use Rattle.wire_message.proofs.Machine.{of, begun, gap_goes_on}
+use Rattle.wire_message.proofs.Machine.{of, begun, gap_leads_on}
 use Rattle.wire_message.proofs.Transitions.{words_gap, info_gap, gap_more, gap_stx, trailer_more, trailer_eot, end_more, field_more, one_is}
 
 -- one octet leads from a place to another
@@ -49,7 +49,7 @@ info_to_gap h k rest feed some same i fills e =
     (info_gap before text h (slice_index rest 0) fills l)))
     (λ text l. l)
 
-pub gap_on : (h : Header) (k : ℕ) (feed now : Bool) (rest : List ℕ) → 0 < length rest → IsPlace (Gap h k feed) → gap_goes_on k feed (slice_index rest 0) ≡ true
+pub gap_on : (h : Header) (k : ℕ) (feed now : Bool) (rest : List ℕ) → 0 < length rest → IsPlace (Gap h k feed) → gap_leads_on k feed (slice_index rest 0) ≡ true
     → now ≡ (feed || slice_index rest 0 == 10) → TakesSome (Gap h k feed) rest (Gap h (k + 1) now) 1
 gap_on h k feed now rest some i on e =
     let b = slice_index rest 0 in

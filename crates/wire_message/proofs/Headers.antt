@@ -3,12 +3,12 @@ use Rattle.std.proofs.Common.{◌≡◌, ℕ, ◌==◌, true, false, IsSome, Opt
 use Rattle.std.specs.List.{list_any, before_first, after_first}
 use Rattle.std.proofs.lemmas.Bool.{both_ways}
 use Rattle.std.proofs.lemmas.Bool.Decides.{nat_tests}
-use Rattle.wire_message.specs.Fields.{Are, is_trailer_octet}
-use Rattle.wire_message.specs.Messages.{Header, IsTrailer, BeginsWithHeader, fixed_header}
-use Rattle.wire_message.specs.Layers.{after_stx, trailer_so_far}
-use Rattle.wire_message.specs.SoFar.{LeadTo}
-use Rattle.wire_message.specs.Reading.{head_read, trailer_read}
-use Rattle.wire_message.specs.Laws.{TellsHeaderOf, HeadersAreToldFromStx, TrailersAreToldFromEtx, MessagesKeepTheirHeader, TrailersStandBetweenEtxAndEot}
+use Rattle.wire_message.specs.Format.Fields.{Are, is_trailer_octet}
+use Rattle.wire_message.specs.Format.Messages.{Header, IsTrailer, BeginsWithHeader, fixed_header}
+use Rattle.wire_message.specs.Format.Layers.{after_stx, trailer_so_far}
+use Rattle.wire_message.specs.Format.SoFar.{LeadTo}
+use Rattle.wire_message.specs.Format.Reading.{head_read, trailer_read}
+use Rattle.wire_message.specs.Format.Laws.{TellsHeaderOf, HeadersAreToldFromStx, TrailersAreToldFromEtx, MessagesKeepTheirHeader, TrailersStandBetweenEtxAndEot}
 use Rattle.wire_message.specs.declared.place.Place.{Place}
 use Rattle.wire_message.specs.declared.place.Place.TheVariants.{Filler, Source, Number, Priority, PriorityRead, Category, Words, Info, Gap, Text, Trailer, AfterEnd}
 use Rattle.wire_message.proofs.OneReading.{one_head, message_begins}

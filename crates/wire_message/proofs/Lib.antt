@@ -9,7 +9,6 @@ pub mod Alive
 pub mod Stops
 pub mod Goings
 pub mod Longer
-pub mod Rests
 pub mod TextSoFar
 pub mod Held
 pub mod Readings

@@ -1,12 +1,12 @@
 -- From a place octets with which a message can continue, and the story in it, lead on.
 use Rattle.std.proofs.Common.{◌≡◌, ℕ, Bool, true, cond, Some, List, [], ◌∷◌, ◌++◌, map, refl, sym, subst, ◌∙◌}
-use Rattle.iim_dataset.specs.Languages.{IsAlive}
-use Rattle.wire_story.specs.Texts.{AreLines}
-use Rattle.wire_story.specs.Tokens.{Octet, End, StoryLanguage}
-use Rattle.wire_story.specs.Laws.{StoriesLiveAsTextsSoFar, StoriesEndAsTexts}
-use Rattle.wire_message.specs.Layers.{MessageLivesWith, StoryLivesIn}
-use Rattle.wire_message.specs.SoFar.{IsPlace, Spells, LeadTo}
-use Rattle.wire_message.specs.Laws.{LivingOctetsLeadOn}
+use Rattle.iim_dataset.specs.Format.Languages.{IsAlive}
+use Rattle.wire_story.specs.Format.Texts.{AreLines}
+use Rattle.wire_story.specs.Format.Tokens.{Octet, End, StoryLanguage}
+use Rattle.wire_story.specs.Format.Laws.{StoriesLiveAsTextsSoFar, StoriesEndAsTexts}
+use Rattle.wire_message.specs.Format.Layers.{MessageLivesWith, StoryLivesIn}
+use Rattle.wire_message.specs.Format.SoFar.{IsPlace, Spells, LeadTo}
+use Rattle.wire_message.specs.Format.Laws.{LivingOctetsLeadOn}
 use Rattle.wire_message.specs.declared.place.Place.{Place}
 use Rattle.wire_message.specs.declared.place.Place.TheVariants.{Filler, Text, Trailer, AfterEnd}
 use Rattle.wire_message.proofs.Machine.{run, run_parts}

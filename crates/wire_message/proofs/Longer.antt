@@ -1,10 +1,10 @@
 -- An octet of filler lengthens a part where the octets are counted, or it ends it.
 use Rattle.std.proofs.Common.{◌≡◌, ℕ, ◌+◌, ◌<◌, ◌≤◌, Bool, true, false, ◌&&◌, ◌||◌, ◌==◌, nat_lt, length, slice_index, List, sym, ap, subst, arith}
 use Rattle.arrayvec.specs.ArrayVec.{ArrayVec}
-use Rattle.wire_message.specs.Fields.{is_filler_octet}
-use Rattle.wire_message.specs.Messages.{Header}
-use Rattle.wire_message.specs.SoFar.{IsPlace}
-use Rattle.wire_message.specs.Reading.{TakesSome}
+use Rattle.wire_message.specs.Format.Fields.{is_filler_octet}
+use Rattle.wire_message.specs.Format.Messages.{Header}
+use Rattle.wire_message.specs.Format.SoFar.{IsPlace}
+use Rattle.wire_message.specs.Steps.{TakesSome}
 use Rattle.wire_message.specs.Parts.{EndsPart, Lengthens, lengthens_gap}
 use Rattle.wire_message.specs.declared.place.Place.{Place}
 use Rattle.wire_message.specs.declared.place.Place.TheVariants.{Gap, AfterEnd}

@@ -2,8 +2,9 @@
 use Rattle.std.proofs.Common.{◌≡◌, ℕ, ◌+◌, ◌<◌, ◌≤◌, Bool, true, false, ◌&&◌, ◌||◌, ◌==◌, nat_lt, cond, List, [], ◌∷◌, ◌++◌, length, Option, Some, None, refl, sym, ap, ◌∙◌, arith, append_assoc, append-nil, length-append, option_and_then}
 use Rattle.std.proofs.lemmas.Bool.{and_from, lt-ltb, and_left}
 use Rattle.arrayvec.specs.ArrayVec.{ArrayVec}
-use Rattle.wire_message.specs.Fields.{Are, IsField, is_digit, is_letter, is_alphanumeric, is_info_octet, is_trailer_octet, is_filler_octet, is_text_octet}
-use Rattle.wire_message.specs.Messages.{Header, header_of, IsFiller}
+use Rattle.wire_message.specs.Format.Fields.{Are, IsField, is_alphanumeric, is_info_octet, is_trailer_octet, is_filler_octet, is_text_octet}
+use Rattle.iim_dataset.specs.Format.Octets.{is_digit, is_letter}
+use Rattle.wire_message.specs.Format.Messages.{Header, header_of, IsFiller}
 use Rattle.wire_message.specs.declared.place.Place.{Place}
 use Rattle.wire_message.specs.declared.place.Place.TheVariants.{Filler, Source, Number, Priority, PriorityRead, Category, Words, Info, Gap, Text, Trailer, AfterEnd}
 use Rattle.wire_message.proofs.Spans.{Are-head, Are-tail}
@@ -24,8 +25,8 @@ begun s n p c w = header_of s.items n.items p.items c.items w.items []
 abbrev pub may : (ℕ → Bool) → ℕ → ArrayVec ℕ → ℕ → Bool
 may test room xs b = test b && nat_lt (length xs.items) room
 
-abbrev pub gap_goes_on : ℕ → Bool → ℕ → Bool
-gap_goes_on count feed b = is_filler_octet b && nat_lt count 32 && (feed || b == 10 || nat_lt (count + 1) 32)
+abbrev pub gap_leads_on : ℕ → Bool → ℕ → Bool
+gap_leads_on count feed b = is_filler_octet b && nat_lt count 32 && (feed || b == 10 || nat_lt (count + 1) 32)
 
 abbrev pub guarded : Bool → Place → Option Place → Option Place
 guarded b p o = cond b (Some p) o
@@ -41,7 +42,7 @@ next (Category s n p c) b = guarded (may is_alphanumeric 8 c b) (Category s n p 
 next (Words s n p c w) b = guarded (may is_digit 6 w b) (Words s n p c (push w b))
     (guarded (b == 32 && nat_lt 0 (length w.items)) (Info (begun s n p c w)) (guarded (is_filler_octet b && nat_lt 0 (length w.items)) (Gap (begun s n p c w) 1 (b == 10)) None))
 next (Info h) b = guarded (is_info_octet b && nat_lt (length h.info) 64) (Info (more_info h b)) (guarded (is_filler_octet b) (Gap h 1 (b == 10)) None)
-next (Gap h k feed) b = guarded (gap_goes_on k feed b) (Gap h (k + 1) (feed || b == 10)) (guarded (b == 2 && feed) (Text h None) None)
+next (Gap h k feed) b = guarded (gap_leads_on k feed b) (Gap h (k + 1) (feed || b == 10)) (guarded (b == 2 && feed) (Text h None) None)
 next (Text h r) b = guarded (is_text_octet b) (Text h None) (guarded (b == 3) (Trailer h (of [])) None)
 next (Trailer h t) b = guarded (may is_trailer_octet 64 t b) (Trailer h (push t b)) (guarded (b == 4) (AfterEnd h t 0) None)
 next (AfterEnd h t k) b = guarded (is_filler_octet b && nat_lt k 32) (AfterEnd h t (k + 1)) None

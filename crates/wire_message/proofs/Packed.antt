@@ -1,9 +1,9 @@
 -- The canonical object is a message.
 use Rattle.std.proofs.Common.{◌≡◌, ℕ, zero, suc, true, List, [], ◌∷◌, ◌++◌, refl, sym, subst, arith, inl, inr, append_assoc, replicate}
-use Rattle.wire_story.specs.Texts.{IsLine, IsText, is_line_octet, line_end, packed_text}
-use Rattle.wire_message.specs.Fields.{Are, is_text_octet}
-use Rattle.wire_message.specs.Messages.{Header, IsHeader, IsMessage, IsTrailer, SpellsInfo, fixed_header}
-use Rattle.wire_message.specs.Canonical.{canonical, packed_info}
+use Rattle.wire_story.specs.Format.Texts.{IsLine, IsText, is_line_octet, line_end, packed_text}
+use Rattle.wire_message.specs.Format.Fields.{Are, is_text_octet}
+use Rattle.wire_message.specs.Format.Messages.{Header, IsHeader, IsMessage, IsTrailer, SpellsInfo, fixed_header}
+use Rattle.wire_message.specs.Format.Canonical.{canonical, packed_info}
 use Rattle.wire_message.proofs.Spans.{Are-append, Are-head, Are-tail, Are-cons}
 use Rattle.std.proofs.lemmas.Bool.Decides.{nat_tests}
 

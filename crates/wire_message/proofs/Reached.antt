@@ -4,13 +4,13 @@ use Rattle.std.proofs.Common.{◌≡◌, ℕ, zero, suc, ◌+◌, ◌-◌, ◌�
 use Rattle.std.proofs.lemmas.Bool.{cases_lt}
 use Rattle.std.proofs.lemmas.List.{length-replicate}
 use Rattle.arrayvec.specs.ArrayVec.{ArrayVec}
-use Rattle.wire_story.specs.Texts.{IsLine, is_line_octet}
-use Rattle.wire_message.specs.Fields.{Are, is_filler_octet, is_text_octet}
-use Rattle.wire_message.specs.Messages.{Header, IsFiller, IsGap, IsMessage, SpellsInfo, fixed_header, has_feed}
-use Rattle.wire_message.specs.Canonical.{packed_info}
-use Rattle.wire_message.specs.SoFar.{IsPlace, Spells, StoryStands, LeadTo}
-use Rattle.wire_message.specs.Lengths.{IsOneOf, fixed_octets, least_head, least_of, greatest_of}
-use Rattle.wire_message.specs.Laws.{PlacesAreReached}
+use Rattle.wire_story.specs.Format.Texts.{IsLine, is_line_octet}
+use Rattle.wire_message.specs.Format.Fields.{Are, is_filler_octet, is_text_octet}
+use Rattle.wire_message.specs.Format.Messages.{Header, IsFiller, IsGap, IsMessage, SpellsInfo, fixed_header, has_feed}
+use Rattle.wire_message.specs.Format.Canonical.{packed_info}
+use Rattle.wire_message.specs.Format.SoFar.{IsPlace, Spells, StoryStands, LeadTo}
+use Rattle.wire_message.specs.Format.Lengths.{IsOneOf, fixed_octets, least_head, least_of, greatest_of}
+use Rattle.wire_message.specs.Format.Laws.{PlacesAreReached}
 use Rattle.wire_message.specs.declared.place.Place.{Place}
 use Rattle.wire_message.specs.declared.place.Place.TheVariants.{Filler, Source, Number, Priority, PriorityRead, Category, Words, Info, Gap, Text, Trailer, AfterEnd}
 use Rattle.wire_message.proofs.Spans.{Are-cons, Are-append}
@@ -21,7 +21,7 @@ use Rattle.wire_message.proofs.Ended.{returns_text}
 abbrev IsReached : Place → ℕ → Type 0
 IsReached place count = (octets : List ℕ) × (text : List ℕ) × LeadTo octets text place × (length octets ≡ count)
 
--- so many NUL
+-- NUL, k times
 abbrev zeros : ℕ → List ℕ
 zeros k = replicate k 0
 
@@ -46,7 +46,7 @@ nothing = field_none is_filler_octet 32
 feed_alone : IsGap (10 ∷ [])
 feed_alone = ((refl, omega arith, omega arith), refl)
 
--- so many letters
+-- the letter a, k times
 abbrev letters : ℕ → List ℕ
 letters k = replicate k 97
 
@@ -77,7 +77,7 @@ filled p rest least i story long spells count above below =
 
 -- ---- the gap
 
--- so many octets of a gap, its LF first or none yet
+-- k octets of a gap, its LF first or none yet
 abbrev gap_of : ℕ → Bool → List ℕ
 gap_of k true = 10 ∷ zeros (k - 1)
 gap_of k false = zeros k

@@ -1,22 +1,25 @@
 -- What a piece does to a reader that stands at a place, and to the story in it.
+use Rattle.std.proofs.Math.Seq.{take-add}
+use Rattle.std.specs.List.{slice_range}
 use Rattle.std.proofs.lemmas.List.{take_rest}
-use Rattle.std.proofs.Common.{◌≡◌, ℕ, zero, suc, ◌+◌, ◌<◌, true, false, List, [], ◌∷◌, ◌++◌, take, slice_index, Option, Some, None, map, refl, sym, ap, subst, ◌∙◌, arith, append_assoc, append-nil}
+use Rattle.std.proofs.Common.{◌≡◌, ℕ, zero, suc, ◌+◌, ◌<◌, true, false, List, [], ◌∷◌, ◌++◌, take, slice_index, Option, Some, None, map, refl, sym, ap, subst, ◌∙◌, arith, append_assoc, append-nil, length}
 use Rattle.std.proofs.lemmas.Bool.Decides.{nat_tests}
 use Rattle.std.proofs.lemmas.List.Concat.{flat_map-append}
-use Rattle.iim_dataset.specs.Languages.{IsAlive}
-use Rattle.wire_story.specs.Texts.{AreLines, Holds}
-use Rattle.wire_story.specs.Delivery.{delivered, events_of}
-use Rattle.wire_story.specs.Tokens.{OctetOrEnd, Octet, End, StoryLanguage, LivesWith, StoryDiesAt}
-use Rattle.wire_story.specs.Laws.{StoriesLiveAsTextsSoFar, TextsEndInNoReturn, StoriesEndAsTexts}
-use Rattle.wire_story.specs.Reading as story
+use Rattle.iim_dataset.specs.Format.Languages.{IsAlive}
+use Rattle.wire_story.specs.Format.Texts.{AreLines, Holds}
+use Rattle.wire_story.specs.Format.Delivery.{delivered, events_of}
+use Rattle.wire_story.specs.Format.Tokens.{OctetOrEnd, Octet, End, StoryLanguage, LivesWith, StoryDiesAt}
+use Rattle.wire_story.specs.Format.Laws.{StoriesLiveAsTextsSoFar, TextsEndInNoReturn, StoriesEndAsTexts}
+use Rattle.wire_story.specs.Format.Reading as story
 use Rattle.wire_story.specs.declared.reader.TextReader.{TextReader}
 use Rattle.wire_story.specs.declared.fault.TextCause.{TextCause}
 use Rattle.wire_story.specs.declared.fault.TextCause.TheVariants as text_cause
-use Rattle.wire_message.specs.Fields.{Are, is_text_octet}
-use Rattle.wire_message.specs.Messages.{Header, IsHeader, IsMessage}
-use Rattle.wire_message.specs.Layers.{MessageDiesAt}
-use Rattle.wire_message.specs.SoFar.{Spells, LeadTo}
-use Rattle.wire_message.specs.Reading.{StandsAt, GoesOn, GoesSomewhere, Refuses, HasCause, cause_of, StoryDiesWith, TakesSome, DiesWith, IsWhole, is_ended, head_read, trailer_read}
+use Rattle.wire_message.specs.Format.Fields.{Are, is_text_octet}
+use Rattle.wire_message.specs.Format.Messages.{Header, IsHeader, IsMessage}
+use Rattle.wire_message.specs.Format.Layers.{MessageDiesAt}
+use Rattle.wire_message.specs.Format.SoFar.{Spells, LeadTo}
+use Rattle.wire_message.specs.Format.Reading.{StandsAt, LeadsOn, GoesSomewhere, Refuses, HasCause, StoryDiesWith, IsWhole, is_ended, head_read, trailer_read}
+use Rattle.wire_message.specs.Steps.{cause_of, TakesSome, DiesWith}
 use Rattle.wire_message.specs.declared.fault.MessageCause.{MessageCause}
 use Rattle.wire_message.specs.declared.fault.MessageCause.TheVariants.{BadOctet, LoneReturn}
 use Rattle.wire_message.specs.declared.place.Place.{Place}
@@ -26,7 +29,6 @@ use Rattle.wire_message.proofs.Transitions.{text_more, text_etx, one_is}
 use Rattle.wire_message.proofs.Alive.{message_lives, map_snoc, message_unfinished, IsAfterEnd}
 use Rattle.wire_message.proofs.Runs.{unread}
 use Rattle.wire_message.proofs.TextSoFar.{text_is, tokens_are, tokens_at_etx}
-use Rattle.wire_message.proofs.Rests.{rest_of, take-front}
 use Rattle.wire_message.proofs.Held.{holds_two, stands_two, holds_none}
 use Rattle.std.proofs.lemmas.List.{get_or-drop}
 
@@ -35,8 +37,8 @@ use Rattle.std.proofs.lemmas.List.{get_or-drop}
 same_place : (p q : Place) → ◌≡◌ {A = Option Place} (Some p) (Some q) → q ≡ p
 same_place p q e = cc
 
-pub goes_on_of : (p q : Place) (piece more : List ℕ) → ((octets text : List ℕ) → LeadTo octets text p → LeadTo (octets ++ piece) (text ++ more) q) → GoesOn (Some p) piece more (Some q)
-goes_on_of p q piece more f octets text s = (q, refl, f octets text (subst (LeadTo octets text) (same_place p s.0 s.1) s.2))
+pub leads_on_of : (p q : Place) (piece more : List ℕ) → ((octets text : List ℕ) → LeadTo octets text p → LeadTo (octets ++ piece) (text ++ more) q) → LeadsOn (Some p) piece more (Some q)
+leads_on_of p q piece more f octets text s = (q, refl, f octets text (subst (LeadTo octets text) (same_place p s.0 s.1) s.2))
 
 pub goes_somewhere_of : (p : Place) (piece more : List ℕ) → ((octets text : List ℕ) → LeadTo octets text p → (q : Place) × LeadTo (octets ++ piece) (text ++ more) q) → GoesSomewhere (Some p) piece more
 goes_somewhere_of p piece more f octets text s = f octets text (subst (LeadTo octets text) (same_place p s.0 s.1) s.2)
@@ -60,7 +62,7 @@ stays_at p octets text l = subst (λ (u : List ℕ). LeadTo u (text ++ []) p) (s
 
 -- ---- the text
 
-pub text_leads : (h : Header) (old new : TextReader) (ys : List ℕ) → story.GoesOn old ys new → Are is_text_octet ys
+pub text_leads : (h : Header) (old new : TextReader) (ys : List ℕ) → story.LeadsOn old ys new → Are is_text_octet ys
     → (octets text : List ℕ) → LeadTo octets text (Text h old) → LeadTo (octets ++ ys) (text ++ ys) (Text h new)
 text_leads h old new ys goes are octets text l =
     let after = goes text l.story in
@@ -140,35 +142,35 @@ etx_refuses law ends h old dies octets text l =
 
 -- ---- a piece after another
 
-pub goes_on_front : (a b c : Option Place) (piece : List ℕ) (at k : ℕ) (m n : List ℕ) → GoesOn a (take at piece) m b → GoesOn b (take k (rest_of piece at)) n c → GoesOn a (take (at + k) piece) (m ++ n) c
-goes_on_front a b c piece at k m n f g octets text s =
-    subst (λ (u : List ℕ). StandsAt c u (text ++ (m ++ n))) (append_assoc octets (take at piece) (take k (rest_of piece at)) ∙ ap (λ (u : List ℕ). octets ++ u) (sym (take-front piece at k)))
-    (subst (λ (t : List ℕ). StandsAt c ((octets ++ take at piece) ++ take k (rest_of piece at)) t) (append_assoc text m n) (g (octets ++ take at piece) (text ++ m) (f octets text s)))
+pub leads_on_front : (a b c : Option Place) (piece : List ℕ) (at k : ℕ) (m n : List ℕ) → LeadsOn a (take at piece) m b → LeadsOn b (take k (slice_range piece at (length piece))) n c → LeadsOn a (take (at + k) piece) (m ++ n) c
+leads_on_front a b c piece at k m n f g octets text s =
+    subst (λ (u : List ℕ). StandsAt c u (text ++ (m ++ n))) (append_assoc octets (take at piece) (take k (slice_range piece at (length piece))) ∙ ap (λ (u : List ℕ). octets ++ u) (sym (take-add at k piece ∙ ap (λ r. take at piece ++ take k r) (sym (take_rest piece at)))))
+    (subst (λ (t : List ℕ). StandsAt c ((octets ++ take at piece) ++ take k (slice_range piece at (length piece))) t) (append_assoc text m n) (g (octets ++ take at piece) (text ++ m) (f octets text s)))
 
-pub somewhere_front : (a b : Option Place) (piece : List ℕ) (at k : ℕ) (m n : List ℕ) → GoesOn a (take at piece) m b → GoesSomewhere b (take k (rest_of piece at)) n → GoesSomewhere a (take (at + k) piece) (m ++ n)
+pub somewhere_front : (a b : Option Place) (piece : List ℕ) (at k : ℕ) (m n : List ℕ) → LeadsOn a (take at piece) m b → GoesSomewhere b (take k (slice_range piece at (length piece))) n → GoesSomewhere a (take (at + k) piece) (m ++ n)
 somewhere_front a b piece at k m n f g octets text s =
     let there = g (octets ++ take at piece) (text ++ m) (f octets text s) in (
       there.0,
-      subst (λ (u : List ℕ). LeadTo u (text ++ (m ++ n)) there.0) (append_assoc octets (take at piece) (take k (rest_of piece at)) ∙ ap (λ (u : List ℕ). octets ++ u) (sym (take-front piece at k)))
-          (subst (λ (t : List ℕ). LeadTo ((octets ++ take at piece) ++ take k (rest_of piece at)) t there.0) (append_assoc text m n) there.1),
+      subst (λ (u : List ℕ). LeadTo u (text ++ (m ++ n)) there.0) (append_assoc octets (take at piece) (take k (slice_range piece at (length piece))) ∙ ap (λ (u : List ℕ). octets ++ u) (sym (take-add at k piece ∙ ap (λ r. take at piece ++ take k r) (sym (take_rest piece at)))))
+          (subst (λ (t : List ℕ). LeadTo ((octets ++ take at piece) ++ take k (slice_range piece at (length piece))) t there.0) (append_assoc text m n) there.1),
     )
 
 pub delivered_both : (m n : List ℕ) → delivered m ++ delivered n ≡ delivered (m ++ n)
 delivered_both m n = sym (flat_map-append events_of m n)
 
 -- an octet of what is left is refused in the whole
-pub refuses_front : (a b : Option Place) (piece : List ℕ) (at k : ℕ) (m : List ℕ) (cause : MessageCause) → GoesOn a (take at piece) m b
-    → Refuses b (rest_of piece at) (record { taken = k; cause = cause }) → Refuses a piece (record { taken = at + k; cause = cause })
+pub refuses_front : (a b : Option Place) (piece : List ℕ) (at k : ℕ) (m : List ℕ) (cause : MessageCause) → LeadsOn a (take at piece) m b
+    → Refuses b (slice_range piece at (length piece)) (record { taken = k; cause = cause }) → Refuses a piece (record { taken = at + k; cause = cause })
 refuses_front a b piece at k m cause f g octets text s =
-    let front : (octets ++ take at piece) ++ take k (rest_of piece at) ≡ octets ++ take (at + k) piece =
-    append_assoc octets (take at piece) (take k (rest_of piece at)) ∙ ap (λ (u : List ℕ). octets ++ u) (sym (take-front piece at k)) in
-    let octet : slice_index (rest_of piece at) k ≡ slice_index piece (at + k) = ap (λ (r : List ℕ). slice_index r k) (take_rest piece at) ∙ get_or-drop at piece k 0 in
+    let front : (octets ++ take at piece) ++ take k (slice_range piece at (length piece)) ≡ octets ++ take (at + k) piece =
+    append_assoc octets (take at piece) (take k (slice_range piece at (length piece))) ∙ ap (λ (u : List ℕ). octets ++ u) (sym (take-add at k piece ∙ ap (λ r. take at piece ++ take k r) (sym (take_rest piece at)))) in
+    let octet : slice_index (slice_range piece at (length piece)) k ≡ slice_index piece (at + k) = ap (λ (r : List ℕ). slice_index r k) (take_rest piece at) ∙ get_or-drop at piece k 0 in
     subst (λ (t : List ℕ). HasCause cause t (slice_index piece (at + k))) front
-    (subst (λ (n : ℕ). HasCause cause ((octets ++ take at piece) ++ take k (rest_of piece at)) n) octet (g (octets ++ take at piece) (text ++ m) (f octets text s)))
+    (subst (λ (n : ℕ). HasCause cause ((octets ++ take at piece) ++ take k (slice_range piece at (length piece))) n) octet (g (octets ++ take at piece) (text ++ m) (f octets text s)))
 
 -- ---- no octet, and the end
 
-pub stays_standing : (p : Option Place) (piece : List ℕ) → GoesOn p (take 0 piece) [] p
+pub stays_standing : (p : Option Place) (piece : List ℕ) → LeadsOn p (take 0 piece) [] p
 stays_standing p piece octets text s =
     subst (λ (u : List ℕ). StandsAt p u (text ++ [])) (sym (append-nil octets)) (subst (λ (t : List ℕ). StandsAt p octets t) (sym (append-nil text)) s)
 

@@ -1,13 +1,13 @@
 -- From one place an octet is refused for one cause, whatever octets have led there.
 use Rattle.std.proofs.Common.{◌≡◌, ℕ, Some, List, [], ◌∷◌, ◌++◌, sym, ap, subst, ◌∙◌}
 use Rattle.std.proofs.lemmas.List.{append_cancel_left}
-use Rattle.iim_dataset.specs.Languages.{IsAlive}
-use Rattle.wire_story.specs.Texts.{Holds}
-use Rattle.wire_story.specs.Laws.{TextsSoFarHaveOneReading, TextsEndInNoReturn}
-use Rattle.wire_message.specs.Layers.{MessageLanguage, MessageLivesWith, text_so_far, StoryLivesIn}
-use Rattle.wire_message.specs.SoFar.{LeadTo}
-use Rattle.wire_message.specs.Reading.{StoryDiesWith, HasCause}
-use Rattle.wire_message.specs.Laws.{ReadersStandAtLivingOctets, LivingOctetsLeadOn, OctetsLeadOnAlike, OctetsAreRefusedAlike}
+use Rattle.iim_dataset.specs.Format.Languages.{IsAlive}
+use Rattle.wire_story.specs.Format.Texts.{Holds}
+use Rattle.wire_story.specs.Format.Laws.{TextsSoFarHaveOneReading, TextsEndInNoReturn}
+use Rattle.wire_message.specs.Format.Layers.{MessageLanguage, MessageLivesWith, text_so_far, StoryLivesIn}
+use Rattle.wire_message.specs.Format.SoFar.{LeadTo}
+use Rattle.wire_message.specs.Format.Reading.{StoryDiesWith, HasCause}
+use Rattle.wire_message.specs.Format.Laws.{ReadersStandAtLivingOctets, LivingOctetsLeadOn, OctetsLeadOnAlike, OctetsAreRefusedAlike}
 use Rattle.wire_message.specs.declared.place.Place.{Place}
 use Rattle.wire_message.specs.declared.place.Place.TheVariants.{Text}
 use Rattle.wire_message.specs.declared.fault.MessageCause.{MessageCause}

@@ -1,14 +1,15 @@
 -- Octets that spell a place run to it, and a message runs to its end.
 use Rattle.std.proofs.Common.{◌≡◌, ℕ, ◌+◌, ◌≤◌, Bool, true, false, ◌&&◌, ◌||◌, ◌==◌, nat_lt, List, [], ◌∷◌, ◌++◌, length, Some, None, refl, sym, ap, ◌∙◌, arith, inl, inr, append-nil}
 use Rattle.std.proofs.lemmas.Bool.{and_from, or_right, lt-ltb, and_left}
-use Rattle.wire_message.specs.Fields.{Are, IsField, is_digit, is_letter, is_alphanumeric, is_info_octet, is_trailer_octet, is_filler_octet, is_text_octet}
-use Rattle.wire_message.specs.Messages.{Header, header_of, IsHeader, IsMessage, IsFiller, IsGap, IsTrailer, SpellsInfo, fixed_header, has_feed}
-use Rattle.wire_message.specs.SoFar.{IsPlace, Spells}
+use Rattle.wire_message.specs.Format.Fields.{Are, IsField, is_alphanumeric, is_info_octet, is_trailer_octet, is_filler_octet, is_text_octet}
+use Rattle.iim_dataset.specs.Format.Octets.{is_digit, is_letter}
+use Rattle.wire_message.specs.Format.Messages.{Header, header_of, IsHeader, IsMessage, IsFiller, IsGap, IsTrailer, SpellsInfo, fixed_header, has_feed}
+use Rattle.wire_message.specs.Format.SoFar.{IsPlace, Spells}
 use Rattle.wire_message.specs.declared.place.Place.{Place}
 use Rattle.wire_message.specs.declared.place.Place.TheVariants.{Filler, Source, Number, Priority, PriorityRead, Category, Words, Info, Gap, Text, Trailer, AfterEnd}
 use Rattle.wire_message.proofs.Spans.{Are-head, Are-tail}
 use Rattle.wire_message.proofs.OneReading.{filler_cases, regroup}
-use Rattle.wire_message.proofs.Machine.{of, gap_goes_on, run, guard_yes, guard_no, step_to, field_run, count_run, extends, fill, reads_filler, reads_soh, reads_number, reads_priority, reads_category, category_ends, reads_words}
+use Rattle.wire_message.proofs.Machine.{of, gap_leads_on, run, guard_yes, guard_no, step_to, field_run, count_run, extends, fill, reads_filler, reads_soh, reads_number, reads_priority, reads_category, category_ends, reads_words}
 
 -- ---- the header
 
@@ -67,7 +68,7 @@ last_feed false false z h = h
 
 -- a gap octet may come where the gap can continue after the last one
 gap_octet : (b : ℕ) (xs : List ℕ) (k : ℕ) (feed : Bool) → is_filler_octet b ≡ true → k + length (b ∷ xs) ≤ 32
-    → ((feed || has_feed (b ∷ xs)) || nat_lt (k + length (b ∷ xs)) 32) ≡ true → gap_goes_on k feed b ≡ true
+    → ((feed || has_feed (b ∷ xs)) || nat_lt (k + length (b ∷ xs)) 32) ≡ true → gap_leads_on k feed b ≡ true
 gap_octet b [] k feed t le on = and_from (is_filler_octet b && nat_lt k 32) (feed || b == 10 || nat_lt (k + 1) 32) (fill k b t (omega arith)) (last_feed feed (b == 10) (nat_lt (k + 1) 32) on)
 gap_octet b (c ∷ xs) k feed t le on =
     and_from (is_filler_octet b && nat_lt k 32) (feed || b == 10 || nat_lt (k + 1) 32) (fill k b t (omega arith)) (or_right (feed || b == 10) (nat_lt (k + 1) 32) (lt-ltb (k + 1) 32 (omega arith)))
@@ -83,10 +84,10 @@ reads_gap h (b ∷ xs) k feed rest t le on =
     ∙ same_gap h ((k + 1) + length xs) (k + length (b ∷ xs)) ((feed || b == 10) || has_feed xs) (feed || has_feed (b ∷ xs)) rest count feeds)
 
 -- what may stand at the end of a gap so far
-abbrev pub GapGoesOn : List ℕ → Type 0
-GapGoesOn gap = (has_feed gap || nat_lt (length gap) 32) ≡ true
+abbrev pub GapContinues : List ℕ → Type 0
+GapContinues gap = (has_feed gap || nat_lt (length gap) 32) ≡ true
 
-first_gap : (h : Header) (b : ℕ) (gap rest : List ℕ) → IsField is_filler_octet 1 32 (b ∷ gap) → GapGoesOn (b ∷ gap)
+first_gap : (h : Header) (b : ℕ) (gap rest : List ℕ) → IsField is_filler_octet 1 32 (b ∷ gap) → GapContinues (b ∷ gap)
     → run (Gap h 1 (b == 10)) (gap ++ rest) ≡ run (Gap h (length (b ∷ gap)) (has_feed (b ∷ gap))) rest
 first_gap h b gap rest g on =
     let count : 1 + length gap ≡ length (b ∷ gap) = omega arith in
@@ -102,7 +103,7 @@ no_space b fills = filler_cases (λ k. (k == 32) ≡ false) b fills refl refl re
 no_info : (b : ℕ) → is_filler_octet b ≡ true → is_info_octet b ≡ false
 no_info b fills = filler_cases (λ k. is_info_octet k ≡ false) b fills refl refl refl refl
 
-gap_after_words : (h : Header) (gap rest : List ℕ) → h.info ≡ [] → IsField is_digit 1 6 h.words → IsField is_filler_octet 1 32 gap → GapGoesOn gap
+gap_after_words : (h : Header) (gap rest : List ℕ) → h.info ≡ [] → IsField is_digit 1 6 h.words → IsField is_filler_octet 1 32 gap → GapContinues gap
     → run (words_of h) (gap ++ rest) ≡ run (Gap h (length gap) (has_feed gap)) rest
 gap_after_words h [] rest none hw g on = absurd (omega (arith, g.1))
 gap_after_words h (b ∷ gap) rest none hw g on =
@@ -112,7 +113,7 @@ gap_after_words h (b ∷ gap) rest none hw g on =
     ∙ (first_gap (bare h) b gap rest g on
     ∙ ap (λ (u : List ℕ). run (Gap (with_info h u) (length (b ∷ gap)) (has_feed (b ∷ gap))) rest) (sym none))
 
-gap_after_info : (h : Header) (gap rest : List ℕ) → IsField is_filler_octet 1 32 gap → GapGoesOn gap
+gap_after_info : (h : Header) (gap rest : List ℕ) → IsField is_filler_octet 1 32 gap → GapContinues gap
     → run (Info h) (gap ++ rest) ≡ run (Gap h (length gap) (has_feed gap)) rest
 gap_after_info h [] rest g on = absurd (omega (arith, g.1))
 gap_after_info h (b ∷ gap) rest g on =
@@ -120,7 +121,7 @@ gap_after_info h (b ∷ gap) rest g on =
     step_to (Info h) (Gap h 1 (b == 10)) b (gap ++ rest) (guard_no _ _ _ (and_left (is_info_octet b) (nat_lt (length h.info) 64) (no_info b fills)) ∙ guard_yes _ _ _ fills)
     ∙ first_gap h b gap rest g on
 
-pub to_gap : (h : Header) (spelled gap rest : List ℕ) → IsHeader h → SpellsInfo h.info spelled → IsField is_filler_octet 1 32 gap → GapGoesOn gap
+pub to_gap : (h : Header) (spelled gap rest : List ℕ) → IsHeader h → SpellsInfo h.info spelled → IsField is_filler_octet 1 32 gap → GapContinues gap
     → run (words_of h) (spelled ++ (gap ++ rest)) ≡ run (Gap h (length gap) (has_feed gap)) rest
 to_gap h spelled gap rest p (inl sp) g on = ap (λ (u : List ℕ). run (words_of h) (u ++ (gap ++ rest))) sp.1 ∙ gap_after_words h gap rest sp.0 p.words g on
 to_gap h spelled gap rest p (inr sp) g on =
@@ -129,7 +130,7 @@ to_gap h spelled gap rest p (inr sp) g on =
 
 -- ---- the text and what follows
 
-whole_gap : (gap : List ℕ) → IsGap gap → GapGoesOn gap
+whole_gap : (gap : List ℕ) → IsGap gap → GapContinues gap
 whole_gap gap g = ap (λ (t : Bool). t || nat_lt (length gap) 32) g.1
 
 pub to_text : (h : Header) (spelled gap text rest : List ℕ) → IsHeader h → SpellsInfo h.info spelled → IsGap gap → Are is_text_octet text
@@ -197,7 +198,7 @@ spelled_runs octets text (Info h) i l =
 spelled_runs octets text (Gap h k feed) i l =
     let gap : List ℕ = l.2 in
     let is_gap : IsField is_filler_octet 1 32 gap = (l.5, omega (arith, i.1, l.6), omega (arith, i.2, l.6)) in
-    let on : GapGoesOn gap = rw (l.6, l.7) i.3 in
+    let on : GapContinues gap = rw (l.6, l.7) i.3 in
     ap (run (Filler 0)) l.8 ∙ (to_header l.0 h (l.1 ++ gap) l.3 i.0 ∙ (ap (λ (u : List ℕ). run (words_of h) (l.1 ++ u)) (sym (append-nil gap))
     ∙ (to_gap h l.1 gap [] i.0 l.4 is_gap on ∙ same_gap h (length gap) k (has_feed gap) feed [] l.6 l.7)))
 spelled_runs octets text (Text h reader) i l =

@@ -4,7 +4,7 @@ use Rattle.std.proofs.lemmas.Bool.{and_parts, and_from, both_ways}
 use Rattle.std.specs.List.{list_all}
 use Rattle.std.proofs.lemmas.List.Sums.{AllPass-from_list_all, list_all-from_AllPass}
 use Rattle.std.proofs.lemmas.List.Elements.{All-take}
-use Rattle.wire_message.specs.Fields.{Are}
+use Rattle.wire_message.specs.Format.Fields.{Are}
 
 pub Are-head : (p : ℕ → Bool) (b : ℕ) (bs : List ℕ) → Are p (b ∷ bs) → p b ≡ true
 Are-head p b bs h = (and_parts (p b) (list_all p bs) h).0

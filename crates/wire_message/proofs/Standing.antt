@@ -1,12 +1,12 @@
 -- Octets that have led to a place can continue, as a message and as a story.
 use Rattle.std.proofs.Common.{◌≡◌, ℕ, Bool, false, cond, Option, List, [], ◌∷◌, ◌++◌, map, refl, sym, subst, arith, append-nil}
-use Rattle.iim_dataset.specs.Languages.{IsAlive}
-use Rattle.wire_story.specs.Texts.{Holds}
-use Rattle.wire_story.specs.Tokens.{OctetOrEnd, Octet, End, StoryLanguage}
-use Rattle.wire_story.specs.Laws.{StoriesLiveAsTextsSoFar, StoriesEndAsTexts}
-use Rattle.wire_message.specs.SoFar.{StoryStands}
-use Rattle.wire_message.specs.Reading.{GoesOn, GoesSomewhere, LivesOn}
-use Rattle.wire_message.specs.Laws.{TextsStandBetweenStxAndEtx, ReadersStandAtLivingOctets}
+use Rattle.iim_dataset.specs.Format.Languages.{IsAlive}
+use Rattle.wire_story.specs.Format.Texts.{Holds}
+use Rattle.wire_story.specs.Format.Tokens.{OctetOrEnd, Octet, End, StoryLanguage}
+use Rattle.wire_story.specs.Format.Laws.{StoriesLiveAsTextsSoFar, StoriesEndAsTexts}
+use Rattle.wire_message.specs.Format.SoFar.{StoryStands}
+use Rattle.wire_message.specs.Format.Reading.{LeadsOn, GoesSomewhere, LivesOn}
+use Rattle.wire_message.specs.Format.Laws.{TextsStandBetweenStxAndEtx, ReadersStandAtLivingOctets}
 use Rattle.wire_message.specs.declared.place.Place.{Place}
 use Rattle.wire_message.specs.declared.place.Place.TheVariants.{Text, Trailer, AfterEnd}
 use Rattle.wire_message.proofs.Alive.{message_lives}
@@ -37,7 +37,7 @@ stand_alive live ends octets text place led = (
   subst (IsAlive StoryLanguage) (sym (tokens_of octets text (text_ended place) (text_at octets text place led.is_place led.spelled))) (story_lives live ends text place led.story),
 )
 
-pub lives_on : ReadersStandAtLivingOctets → (old new : Option Place) (piece more : List ℕ) → GoesOn old piece more new → LivesOn old piece
+pub lives_on : ReadersStandAtLivingOctets → (old new : Option Place) (piece more : List ℕ) → LeadsOn old piece more new → LivesOn old piece
 lives_on law old new piece more goes octets text stands =
     let there = goes octets text stands in
     law (octets ++ piece) (text ++ more) there.0 there.2

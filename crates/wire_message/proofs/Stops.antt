@@ -3,13 +3,14 @@ use Rattle.std.proofs.Common.{◌≡◌, ℕ, ◌<◌, ◌≤◌, Bool, false, �
 use Rattle.std.proofs.lemmas.Bool.{and_left, and_right, cases_lt}
 use Rattle.std.proofs.lemmas.Bool.Decides.{nat_tests}
 use Rattle.arrayvec.specs.ArrayVec.{ArrayVec}
-use Rattle.wire_message.specs.Fields.{is_digit, is_letter, is_alphanumeric, is_info_octet, is_trailer_octet, is_filler_octet}
-use Rattle.wire_message.specs.Messages.{Header}
-use Rattle.wire_message.specs.SoFar.{IsPlace}
-use Rattle.wire_message.specs.Reading.{DiesWith}
+use Rattle.wire_message.specs.Format.Fields.{is_alphanumeric, is_info_octet, is_trailer_octet, is_filler_octet}
+use Rattle.iim_dataset.specs.Format.Octets.{is_digit, is_letter}
+use Rattle.wire_message.specs.Format.Messages.{Header}
+use Rattle.wire_message.specs.Format.SoFar.{IsPlace}
+use Rattle.wire_message.specs.Steps.{DiesWith}
 use Rattle.wire_message.specs.declared.place.Place.{Place}
 use Rattle.wire_message.specs.declared.place.Place.TheVariants.{Filler, Source, Number, Priority, PriorityRead, Category, Words, Info, Gap, Trailer, AfterEnd}
-use Rattle.wire_message.proofs.Machine.{may, gap_goes_on, guard_no, next}
+use Rattle.wire_message.proofs.Machine.{may, gap_leads_on, guard_no, next}
 use Rattle.wire_message.proofs.Runs.{unread}
 use Rattle.wire_message.proofs.Alive.{message_dies}
 
@@ -59,7 +60,7 @@ words_stops s n p c w b e d f = guard_no _ _ _ (stays is_digit 6 w b e) ∙ (gua
 pub info_stops : (h : Header) (b : ℕ) → (length h.info < 64 → is_info_octet b ≡ false) → is_filler_octet b ≡ false → next (Info h) b ≡ None
 info_stops h b e d = guard_no _ _ _ (stays is_info_octet 64 (record { items = h.info }) b e) ∙ guard_no _ _ _ d
 
-pub gap_stops : (h : Header) (k : ℕ) (feed : Bool) (b : ℕ) → gap_goes_on k feed b ≡ false → (b == 2 && feed) ≡ false → next (Gap h k feed) b ≡ None
+pub gap_stops : (h : Header) (k : ℕ) (feed : Bool) (b : ℕ) → gap_leads_on k feed b ≡ false → (b == 2 && feed) ≡ false → next (Gap h k feed) b ≡ None
 gap_stops h k feed b e d = guard_no _ _ _ e ∙ guard_no _ _ _ d
 
 pub trailer_stops : (h : Header) (t : ArrayVec ℕ) (b : ℕ) → (length t.items < 64 → is_trailer_octet b ≡ false) → (b ≡ 4 → ⊥) → next (Trailer h t) b ≡ None

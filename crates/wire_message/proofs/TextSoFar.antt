@@ -4,13 +4,14 @@ use Rattle.std.specs.List.{list_any, position_or_len, before_first, after_first}
 use Rattle.std.proofs.lemmas.Bool.{and_parts}
 use Rattle.std.proofs.lemmas.Bool.Decides.{nat_tests}
 use Rattle.std.proofs.Math.Seq.{drop-append-add, take-append_seam, take-length}
-use Rattle.wire_story.specs.Tokens.{Octet, End}
+use Rattle.wire_story.specs.Format.Tokens.{Octet, End}
 use Rattle.wire_story.specs.declared.reader.TextReader.{TextReader}
-use Rattle.wire_message.specs.Fields.{Are, IsField, is_digit, is_letter, is_alphanumeric, is_info_octet, is_filler_octet, is_text_octet}
-use Rattle.wire_message.specs.Messages.{Header, IsHeader, IsFiller, SpellsInfo, fixed_header}
-use Rattle.wire_message.specs.Layers.{after_stx, text_so_far, story_tokens_of}
-use Rattle.wire_message.specs.SoFar.{IsPlace, Spells}
-use Rattle.wire_message.specs.Reading.{head_read}
+use Rattle.wire_message.specs.Format.Fields.{Are, IsField, is_alphanumeric, is_info_octet, is_filler_octet, is_text_octet}
+use Rattle.iim_dataset.specs.Format.Octets.{is_digit, is_letter}
+use Rattle.wire_message.specs.Format.Messages.{Header, IsHeader, IsFiller, SpellsInfo, fixed_header}
+use Rattle.wire_message.specs.Format.Layers.{after_stx, text_so_far, story_tokens_of}
+use Rattle.wire_message.specs.Format.SoFar.{IsPlace, Spells}
+use Rattle.wire_message.specs.Format.Reading.{head_read}
 use Rattle.wire_message.specs.declared.place.Place.{Place}
 use Rattle.wire_message.specs.declared.place.Place.TheVariants.{Filler, Source, Number, Priority, PriorityRead, Category, Words, Info, Gap, Text, Trailer, AfterEnd}
 use Rattle.wire_message.proofs.Spans.{Are-append, Are-head, Are-tail, Are-cons}
@@ -119,8 +120,8 @@ pub record TextIs (octets text : List ℕ) (ended : Bool) : Type 0 where
   pub text_is : text_so_far octets ≡ text
   pub ended_is : list_any (λ b. b == 3) (after_stx octets) ≡ ended
 
-goes_on : (octets text : List ℕ) → after_stx octets ≡ text → Are is_text_octet text → TextIs octets text false
-goes_on octets text e are = record {
+leads_on : (octets text : List ℕ) → after_stx octets ≡ text → Are is_text_octet text → TextIs octets text false
+leads_on octets text e are = record {
   text_is = ap (before_first (λ b. b == 3)) e ∙ before_none 3 text (no_etx text are);
   ended_is = ap (list_any (λ b. b == 3)) e ∙ any_none 3 text (no_etx text are);
 }
@@ -137,7 +138,7 @@ tokens_of octets text ended is =
     ∙ ap (λ (b : Bool). map Octet text ++ cond b (End ∷ []) []) is.ended_is
 
 in_text : (octets text : List ℕ) (h : Header) (reader : TextReader) → IsHeader h → Spells octets text (Text h reader) → TextIs octets text false
-in_text octets text h reader i l = goes_on octets text (ap after_stx (sym (append-nil octets)) ∙ (after_stx_is octets text h reader [] i l ∙ append-nil text)) l.6
+in_text octets text h reader i l = leads_on octets text (ap after_stx (sym (append-nil octets)) ∙ (after_stx_is octets text h reader [] i l ∙ append-nil text)) l.6
 
 pub text_is : (octets text : List ℕ) (h : Header) (reader : TextReader) → IsHeader h → Spells octets text (Text h reader) → text_so_far octets ≡ text
 text_is octets text h reader i l = (in_text octets text h reader i l).text_is
@@ -169,8 +170,8 @@ not_begun octets text h e = record {
 }
 
 -- SOH and what follows it, with no STX
-behind_soh : (octets before rest : List ℕ) → IsFiller before → octets ≡ before ++ (1 ∷ rest) → Are (is_not 2) rest → Are (is_not 2) octets
-behind_soh octets before rest f parts are =
+after_soh : (octets before rest : List ℕ) → IsFiller before → octets ≡ before ++ (1 ∷ rest) → Are (is_not 2) rest → Are (is_not 2) octets
+after_soh octets before rest f parts are =
     subst (Are (is_not 2)) (sym parts) (Are-append (is_not 2) before (1 ∷ rest) (each is_filler_octet (is_not 2) before filler_not f.0) are)
 
 numbered : (s n rest : List ℕ) → Are is_letter s → Are is_digit n → Are (is_not 2) rest → Are (is_not 2) (s ++ (n ++ rest))
@@ -184,25 +185,25 @@ parted p rest ip are = Are-append (is_not 2) p (32 ∷ rest) (each is_digit (is_
 -- Before STX no octet is one.
 pub no_stx : (octets text : List ℕ) (p : Place) → IsPlace p → Spells octets text p → head_read (Some p) ≡ None → Are (is_not 2) octets
 no_stx octets text (Filler k) i l e = each is_filler_octet (is_not 2) octets filler_not l.0.0
-no_stx octets text (Source s) i l e = behind_soh octets l.0 s.items l.1 l.2 (each is_letter (is_not 2) s.items letter_not i.0)
+no_stx octets text (Source s) i l e = after_soh octets l.0 s.items l.1 l.2 (each is_letter (is_not 2) s.items letter_not i.0)
 no_stx octets text (Number s n) i l e =
-    behind_soh octets l.0 (s.items ++ n.items) l.1 l.2
+    after_soh octets l.0 (s.items ++ n.items) l.1 l.2
     (Are-append (is_not 2) s.items n.items (each is_letter (is_not 2) s.items letter_not i.0.0) (each is_digit (is_not 2) n.items digit_not i.1.0))
-no_stx octets text (Priority s n) i l e = behind_soh octets l.0 (s.items ++ (n.items ++ (32 ∷ []))) l.1 l.2 (numbered s.items n.items (32 ∷ []) i.0.0 i.1.0 refl)
+no_stx octets text (Priority s n) i l e = after_soh octets l.0 (s.items ++ (n.items ++ (32 ∷ []))) l.1 l.2 (numbered s.items n.items (32 ∷ []) i.0.0 i.1.0 refl)
 no_stx octets text (PriorityRead s n p) i l e =
-    behind_soh octets l.0 (s.items ++ (n.items ++ (32 ∷ p.items))) l.1 l.2
+    after_soh octets l.0 (s.items ++ (n.items ++ (32 ∷ p.items))) l.1 l.2
     (numbered s.items n.items (32 ∷ p.items) i.0.0 i.1.0 (each is_digit (is_not 2) p.items digit_not i.2.0))
 no_stx octets text (Category s n p c) i l e =
-    behind_soh octets l.0 (s.items ++ (n.items ++ (32 ∷ (p.items ++ (32 ∷ c.items))))) l.1 l.2
+    after_soh octets l.0 (s.items ++ (n.items ++ (32 ∷ (p.items ++ (32 ∷ c.items))))) l.1 l.2
     (numbered s.items n.items (32 ∷ (p.items ++ (32 ∷ c.items))) i.0.0 i.1.0
     (parted p.items c.items i.2.0 (each is_alphanumeric (is_not 2) c.items alphanumeric_not i.3.0)))
 no_stx octets text (Words s n p c w) i l e =
-    behind_soh octets l.0 (s.items ++ (n.items ++ (32 ∷ (p.items ++ (32 ∷ (c.items ++ (32 ∷ w.items))))))) l.1 l.2
+    after_soh octets l.0 (s.items ++ (n.items ++ (32 ∷ (p.items ++ (32 ∷ (c.items ++ (32 ∷ w.items))))))) l.1 l.2
     (numbered s.items n.items (32 ∷ (p.items ++ (32 ∷ (c.items ++ (32 ∷ w.items))))) i.0.0 i.1.0
     (parted p.items (c.items ++ (32 ∷ w.items)) i.2.0
     (Are-append (is_not 2) c.items (32 ∷ w.items) (each is_alphanumeric (is_not 2) c.items alphanumeric_not i.3.0) (each is_digit (is_not 2) w.items digit_not i.4.0))))
 no_stx octets text (Info h) i l e =
-    behind_soh octets l.0 (fixed_header h ++ (32 ∷ h.info)) l.1 l.2
+    after_soh octets l.0 (fixed_header h ++ (32 ∷ h.info)) l.1 l.2
     (Are-append (is_not 2) (fixed_header h) (32 ∷ h.info) (fixed_not h i) (each is_info_octet (is_not 2) h.info info_not i.info.0))
 no_stx octets text (Gap h k feed) i l e = subst (Are (is_not 2)) (sym l.8) (before_text l.0 l.1 l.2 h l.3 i.0 l.4 l.5)
 no_stx octets text (Text h reader) i l e = absurd cc

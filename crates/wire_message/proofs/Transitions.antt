@@ -2,9 +2,9 @@
 use Rattle.std.proofs.Common.{◌≡◌, ℕ, ◌+◌, ◌≤◌, Bool, true, false, ◌||◌, ◌==◌, List, [], ◌∷◌, ◌++◌, length, refl, sym, ap, subst, ◌∙◌, arith, inl, inr, append_assoc, length-append}
 use Rattle.std.proofs.lemmas.Bool.{and_from}
 use Rattle.arrayvec.specs.ArrayVec.{ArrayVec}
-use Rattle.wire_message.specs.Fields.{Are, IsField, is_filler_octet, is_text_octet}
-use Rattle.wire_message.specs.Messages.{Header, IsHeader, IsTrailer, fixed_header, has_feed}
-use Rattle.wire_message.specs.SoFar.{Spells}
+use Rattle.wire_message.specs.Format.Fields.{Are, IsField, is_filler_octet, is_text_octet}
+use Rattle.wire_message.specs.Format.Messages.{Header, IsHeader, IsTrailer, fixed_header, has_feed}
+use Rattle.wire_message.specs.Format.SoFar.{Spells}
 use Rattle.wire_message.specs.declared.place.Place.TheVariants.{Filler, Source, Number, Priority, PriorityRead, Category, Words, Info, Gap, Text, Trailer, AfterEnd}
 use Rattle.wire_message.proofs.Spans.{Are-append}
 use Rattle.wire_message.proofs.Machine.{of, begun}

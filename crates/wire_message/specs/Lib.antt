@@ -1,10 +1,7 @@
-pub mod Fields
-pub mod Messages
-pub mod Canonical
-pub mod Layers
-pub mod SoFar
-pub mod Reading
-pub mod Lengths
+-- What the promises cite: a reader has to believe these.
+pub mod Format
+-- What only proofs and private clauses cite.
 pub mod Parts
-pub mod Saved
-pub mod Laws
+pub mod Classes
+pub mod Steps
+pub mod Restoring

@@ -1,13 +1,14 @@
 -- How the part that is being read gets longer, and what ends it.
 use Rattle.std.specs.Prelude.{◌≡◌, ℕ, ◌+◌, ◌<◌, ◌&&◌, ◌||◌, ◌==◌, nat_lt, Bool, false, List, [], length, slice_index}
 use Rattle.wire_story.specs.declared.reader.TextReader.{TextReader}
-use Rattle.wire_message.specs.Fields.{is_digit, is_letter, is_alphanumeric, is_info_octet, is_trailer_octet, is_filler_octet}
-use Rattle.wire_message.specs.Messages.{Header}
-use Rattle.wire_message.specs.Reading.{TakesSome}
+use Rattle.wire_message.specs.Format.Fields.{is_alphanumeric, is_info_octet, is_trailer_octet, is_filler_octet}
+use Rattle.iim_dataset.specs.Format.Octets.{is_digit, is_letter}
+use Rattle.wire_message.specs.Format.Messages.{Header}
+use Rattle.wire_message.specs.Steps.{TakesSome}
 use Rattle.wire_message.specs.declared.place.Place.{Place}
 use Rattle.wire_message.specs.declared.place.Place.TheVariants.{Filler, Source, Number, Category, Words, Info, Gap, Text, Trailer, AfterEnd}
 
--- The octet lengthens a gap of so many octets, an LF among them or not, so that STX can still come.
+-- The octet lengthens a gap of `count` octets, an LF among them or not, so that STX can still come.
 abbrev pub lengthens_gap : ℕ → Bool → ℕ → Bool
 lengthens_gap count feed octet = is_filler_octet octet && nat_lt count 32 && (feed || octet == 10 || nat_lt (count + 1) 32)
 
@@ -24,7 +25,7 @@ EndsPart (Trailer h t) octet = length t.items < 64 → is_trailer_octet octet �
 EndsPart (AfterEnd h t count) octet = (is_filler_octet octet && nat_lt count 32) ≡ false
 EndsPart _ octet = Unit {0}
 
--- The part that is being read took so many octets: some, or none and then the first octet ends it.
+-- The part that is being read took `used` octets: some, or none and then the first octet ends it.
 pub record Lengthens (old : Place) (rest : List ℕ) (new : Place) (used : ℕ) : Type 0 where
   pub takes : 0 < used → TakesSome old rest new used
   pub same : used ≡ 0 → new ≡ old

@@ -1,9 +1,11 @@
 //! The classes of octets that the parts of a message are made of.
 
 ghost use Rattle.std.specs.Prelude.{◌≡◌};
-ghost use Rattle.wire_message.specs.Fields.{is_letter, is_digit, is_info_octet, is_filler_octet, is_of};
+ghost use Rattle.wire_message.specs.Format.Fields.{is_info_octet, is_filler_octet};
+ghost use Rattle.iim_dataset.specs.Format.Octets.{is_letter, is_digit};
+ghost use Rattle.wire_message.specs.Classes.{is_in_class};
 
-use crate::octets::{CR, ETX, LF, NUL, SYN};
+use iim_dataset::octets::{CR, ETX, LF, NUL, SYN};
 
 /// A class of octets.
 #[derive(Clone, Copy, Debug, PartialEq, Eq)]
@@ -55,7 +57,7 @@ fn filler(octet: u8) -> bool
 /// Whether the octet is of the class.
 #[inline(always)]
 pub(crate) fn is_in(class: Class, octet: u8) -> bool
-    ensures { result ≡ is_of class octet }
+    ensures { result ≡ is_in_class class octet }
 {
     match class {
         Class::Letter => letter(octet),

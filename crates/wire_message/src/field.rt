@@ -1,21 +1,22 @@
 //! Parts of a bounded length.
 
 ghost use Rattle.std.specs.Prelude.{◌≡◌, ◌≤◌, ◌<◌, ◌↔◌, ◌+◌, ◌++◌, [], ◌∷◌, false, length, slice_index, take, IsTrue};
-ghost use Rattle.wire_message.specs.Fields.{is_of, Are, IsField};
+ghost use Rattle.wire_message.specs.Classes.{is_in_class};
+ghost use Rattle.wire_message.specs.Format.Fields.{Are, IsField};
 
 use crate::class::{Class, is_in};
 use arrayvec::ArrayVec;
 
 /// Whether each octet is of the class.
 fn are_in(class: Class, octets: &[u8]) -> bool
-    ensures { IsTrue result ↔ Are (is_of class) octets.now }
+    ensures { IsTrue result ↔ Are (is_in_class class) octets.now }
 {
     octets.iter().all(|octet| is_in(class, *octet))
 }
 
 /// Whether the octets are of the class, and least to most of them.
 pub(crate) fn is_field(class: Class, least: usize, most: usize, octets: &[u8]) -> bool
-    ensures { IsTrue result ↔ IsField (is_of class) least most octets.now }
+    ensures { IsTrue result ↔ IsField (is_in_class class) least most octets.now }
 {
     if octets.len() < least || most < octets.len() {
         return false;
@@ -37,8 +38,8 @@ pub(crate) fn kept<const ROOM: usize>(octets: &[u8]) -> ArrayVec<u8, ROOM>
 #[inline(always)]
 pub(crate) fn run_len(class: Class, octets: &[u8]) -> usize
     ensures within { result ≤ length octets.now }
-    ensures class { Are (is_of class) (take result octets.now) }
-    ensures longest { result < length octets.now → is_of class (slice_index octets.now result) ≡ false }
+    ensures class { Are (is_in_class class) (take result octets.now) }
+    ensures longest { result < length octets.now → is_in_class class (slice_index octets.now result) ≡ false }
 {
     for (at, octet) in octets.iter().enumerate() {
         if !is_in(class, *octet) {
@@ -56,11 +57,11 @@ pub(crate) fn take_run<const ROOM: usize>(
     octets: &[u8],
 ) -> usize
     ensures within { result ≤ length octets.now }
-    ensures class { Are (is_of class) (take result octets.now) }
+    ensures class { Are (is_in_class class) (take result octets.now) }
     ensures items { part.new.items ≡ part.old.items ++ take result octets.now }
     ensures fits { length part.old.items + result ≤ ROOM }
     ensures longest { result ≡ 0 → 0 < length octets.now → length part.old.items < ROOM →
-        is_of class (slice_index octets.now 0) ≡ false }
+        is_in_class class (slice_index octets.now 0) ≡ false }
 {
     let room = part.remaining_capacity();
     let most = octets.len().min(room);

@@ -23,7 +23,7 @@ pub struct MessageHead {
 }
 
 impl Model for MessageHead {
-    ghost use Rattle.wire_message.specs.Messages.{Header, header_of, IsHeader};
+    ghost use Rattle.wire_message.specs.Format.Messages.{Header, header_of, IsHeader};
 
     ghost Value = { Header };
 
@@ -32,8 +32,9 @@ impl Model for MessageHead {
     ghost invariant = { λ head. IsHeader (header_of head.source.items head.number.items head.priority.items head.category.items head.words.items head.info.items) };
 }
 
-ghost use Rattle.wire_message.specs.Messages.{header_of, IsHeader};
-ghost use Rattle.wire_message.specs.Fields.{is_letter, is_digit, is_alphanumeric, is_info_octet, Are, IsField};
+ghost use Rattle.wire_message.specs.Format.Messages.{header_of, IsHeader};
+ghost use Rattle.wire_message.specs.Format.Fields.{is_alphanumeric, is_info_octet, Are, IsField};
+ghost use Rattle.iim_dataset.specs.Format.Octets.{is_letter, is_digit};
 
 /// Whether the parts are those of a header.
 fn is_header(

@@ -1,17 +1,17 @@
 //! How a part gets longer where it lies: by its longest run, or by one octet of filler.
 
 ghost use Rattle.std.specs.Prelude.{◌≡◌, ◌<◌, ◌≤◌, ◌+◌, ◌&&◌, ◌||◌, ◌==◌, nat_lt, true, false, length};
-ghost use Rattle.wire_message.specs.Fields.{is_filler_octet};
-ghost use Rattle.wire_message.specs.SoFar.{IsPlace};
+ghost use Rattle.wire_message.specs.Format.Fields.{is_filler_octet};
+ghost use Rattle.wire_message.specs.Format.SoFar.{IsPlace};
 ghost use Rattle.wire_message.specs.Parts.{Lengthens, lengthens_gap};
 
 use crate::class::{Class, is_in};
 use crate::field::take_run;
 use crate::lengths::MAX_FILLER;
-use crate::octets::LF;
 use crate::place::Place;
+use iim_dataset::octets::LF;
 
-/// Whether an octet lengthens so much filler.
+/// Whether an octet lengthens filler of `count` octets.
 #[inline(always)]
 fn fills(count: u8, octet: u8) -> bool
     ensures { result ≡ (is_filler_octet octet && nat_lt count 32) }
@@ -19,7 +19,7 @@ fn fills(count: u8, octet: u8) -> bool
     is_in(Class::Filler, octet) && count < MAX_FILLER
 }
 
-/// Counts an octet that lengthens so much filler, and answers how many it counted.
+/// Counts an octet that lengthens filler of `count` octets, and answers how many it counted.
 #[inline(always)]
 fn lengthen_filler(count: &mut u8, octet: u8) -> usize
     ensures one { result ≤ 1 }
@@ -34,9 +34,9 @@ fn lengthen_filler(count: &mut u8, octet: u8) -> usize
     1
 }
 
-/// Whether an octet lengthens a gap of so many octets, an LF among them or not, so that STX can still come.
+/// Whether an octet lengthens a gap of `count` octets, an LF among them or not, so that STX can still come.
 #[inline(always)]
-fn gap_goes_on(count: u8, feed: bool, octet: u8) -> bool
+fn gap_leads_on(count: u8, feed: bool, octet: u8) -> bool
     ensures { result ≡ lengthens_gap count feed octet }
 {
     fills(count, octet) && (feed || octet == LF || count < MAX_FILLER - 1)
@@ -52,7 +52,7 @@ fn lengthen_gap(count: &mut u8, feed: &mut bool, octet: u8) -> usize
     ensures feed { result ≡ 1 → feed.new ≡ (feed.old || octet == 10) }
     ensures same { result ≡ 0 → feed.new ≡ feed.old }
 {
-    if !gap_goes_on(*count, *feed, octet) {
+    if !gap_leads_on(*count, *feed, octet) {
         return 0;
     }
     *count += 1;

@@ -14,7 +14,7 @@ pub(crate) const MAX_INFO: usize = 64;
 
 pub(crate) const MAX_TRAILER: usize = 64;
 
-/// So many octets of filler may stand before SOH, in the gap, and after EOT.
+/// The most octets of filler that may stand before SOH, in the gap, or after EOT.
 pub(crate) const MAX_FILLER: u8 = 32;
 
 /// A saved place has this much room for each part.

@@ -14,7 +14,6 @@ pub mod laws;
 mod lengthen;
 mod lengths;
 mod next;
-mod octets;
 mod piece;
 mod place;
 mod reader;

@@ -1,9 +1,9 @@
 //! The step from one part of a message to the next.
 
 ghost use Rattle.std.specs.Prelude.{◌<◌, ◌≡◌, true, false, length, slice_index, IfSome, IfNone};
-ghost use Rattle.wire_message.specs.SoFar.{IsPlace};
+ghost use Rattle.wire_message.specs.Format.SoFar.{IsPlace};
 ghost use Rattle.wire_message.specs.Parts.{EndsPart, BeginsTrailer};
-ghost use Rattle.wire_message.specs.Reading.{DiesWith, TakesSome, IsNoText};
+ghost use Rattle.wire_message.specs.Steps.{DiesWith, TakesSome, IsNoText};
 
 use crate::place::Place;
 use crate::step::{

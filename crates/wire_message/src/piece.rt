@@ -1,8 +1,8 @@
 //! How a piece of a message is read from a place on: by the longest runs that lie in one part, and else octet by octet.
 
 ghost use Rattle.std.specs.Prelude.{◌≡◌, ◌<◌, ◌≤◌, length, slice_index, take, IfOk, IfErr, IfSome, IfNone, OnOk};
-ghost use Rattle.wire_message.specs.SoFar.{IsPlace};
-ghost use Rattle.wire_message.specs.Reading.{DiesWith, TakesSome, IsNoText, Takes, Stops};
+ghost use Rattle.wire_message.specs.Format.SoFar.{IsPlace};
+ghost use Rattle.wire_message.specs.Steps.{DiesWith, TakesSome, IsNoText, TakesOctets, Stops};
 
 use crate::fault::{MessageCause, MessageFault};
 use crate::lengthen::lengthen;
@@ -43,7 +43,7 @@ fn take_outside_text<S: StorySink>(
     ensures some { IfOk result (λ used. 0 < used) }
     ensures within { IfOk result (λ used. used ≤ length rest.now) }
     ensures takes { IfOk result (λ used.
-        Takes S.goes S.failures place.old sink.old (take used rest.now) place.new sink.new) }
+        TakesOctets S.goes S.failures place.old sink.old (take used rest.now) place.new sink.new) }
     ensures stops { IfErr result (Stops S.goes S.failures place.old sink.old rest.now sink.new) }
 {
     let _ = sink;
@@ -68,7 +68,7 @@ fn take_front<S: StorySink>(
     ensures some { IfOk result (λ used. 0 < used) }
     ensures within { IfOk result (λ used. used ≤ length rest.now) }
     ensures takes { IfOk result (λ used.
-        Takes S.goes S.failures place.old sink.old (take used rest.now) place.new sink.new) }
+        TakesOctets S.goes S.failures place.old sink.old (take used rest.now) place.new sink.new) }
     ensures stops { IfErr result (Stops S.goes S.failures place.old sink.old rest.now sink.new) }
 {
     match place {
@@ -92,7 +92,7 @@ pub(crate) fn take_piece<S: StorySink>(
     sink: &mut S,
 ) -> Result<(), MessageFault>
     requires { IsPlace place.old }
-    ensures takes { OnOk result (Takes S.goes S.failures place.old sink.old piece.now place.new sink.new) }
+    ensures takes { OnOk result (TakesOctets S.goes S.failures place.old sink.old piece.now place.new sink.new) }
     ensures nothing { length piece.now ≡ 0 → (place.new ≡ place.old) × (sink.new ≡ sink.old) }
     ensures stops { IfErr result (Stops S.goes S.failures place.old sink.old piece.now sink.new) }
 {

@@ -8,7 +8,7 @@ use wire_story::TextReader;
 /// The part of a message that is being read, with what was read of the header and the trailer.
 #[derive(Debug, Drop)]
 pub(crate) enum Place {
-    /// So many octets of filler, and no SOH.
+    /// `count` octets of filler, and no SOH.
     Filler {
         count: u8,
     },
@@ -51,7 +51,7 @@ pub(crate) enum Place {
     Info {
         head: MessageHead,
     },
-    /// The header, and so many octets of the gap, with an LF among them or not yet.
+    /// The header, and `count` octets of the gap, with an LF among them or not yet.
     Gap {
         head: MessageHead,
         count: u8,
@@ -67,7 +67,7 @@ pub(crate) enum Place {
         head: MessageHead,
         trailer: ArrayVec<u8, MAX_TRAILER>,
     },
-    /// The header, the text, the trailer, EOT, and so many octets of filler.
+    /// The header, the text, the trailer, EOT, and `count` octets of filler.
     AfterEnd {
         head: MessageHead,
         trailer: ArrayVec<u8, MAX_TRAILER>,

@@ -1,10 +1,10 @@
 //! The reader of a message, for any cut into pieces.
 
 ghost use Rattle.std.specs.Prelude.{◌≡◌, ◌↔◌, ◌<◌, [], List, ℕ, Option, is_none, length, take, Some, None, IsSome, IsOk, IfSome, IfOk, IfErr, OnOk, OnErr};
-ghost use Rattle.wire_story.specs.Tokens.{End};
-ghost use Rattle.wire_message.specs.Layers.{MessageDiesAt};
-ghost use Rattle.wire_message.specs.Saved.{IsAt, LeadToSaved};
-ghost use Rattle.wire_message.specs.Lengths.{LeadsIn, IsOneOf, least_of, greatest_of};
+ghost use Rattle.wire_story.specs.Format.Tokens.{End};
+ghost use Rattle.wire_message.specs.Format.Layers.{MessageDiesAt};
+ghost use Rattle.wire_message.specs.Format.Saved.{IsAt, LeadToSaved};
+ghost use Rattle.wire_message.specs.Format.Lengths.{LeadsIn, IsOneOf, least_of, greatest_of};
 
 use crate::fault::{MessageCause, MessageFault};
 use crate::head::MessageHead;
@@ -34,14 +34,14 @@ impl Model for MessageReader {
 
     ghost Value = { Option Place };
 
-    ghost use Rattle.wire_message.specs.SoFar.{IsPlace};
+    ghost use Rattle.wire_message.specs.Format.SoFar.{IsPlace};
 
     ghost view = { λ reader. reader.place };
 
     ghost invariant = { λ reader. ForSome reader.place IsPlace };
 }
 
-ghost use Rattle.wire_message.specs.Reading.{StandsAt, LivesOn, Told, ToldFront, Refuses, CountsCause, head_read, trailer_read, is_ended, IsWhole};
+ghost use Rattle.wire_message.specs.Format.Reading.{StandsAt, TakesPiece, RefusesOne, head_read, trailer_read, is_ended, IsWhole};
 
 impl MessageReader {
     /// The reader of an object of which no octet has come.
@@ -107,9 +107,7 @@ impl MessageReader {
 
         // The octets so far, with the piece, are a message so far, and its text is a text so far: both can continue.
         ensures takes_calls { OnOk result (IsSome self.new) }
-        ensures lives { OnOk result (LivesOn self.old piece.now) }
-        ensures told { OnOk result (Told S.goes sink.old self.old piece.now self.new sink.new) }
-        ensures calm { OnOk result (S.failures sink.new ≡ S.failures sink.old) }
+        ensures taken { OnOk result (TakesPiece S.goes S.failures self.old piece.now self.new sink.old sink.new) }
 
         // An empty piece is taken, and changes nothing.
         ensures takes_nothing { length piece.now ≡ 0 → IsOk result }
@@ -117,13 +115,8 @@ impl MessageReader {
 
         // With the refused octet no message can continue from them, or no text, or the sink stopped; before it both could.
         ensures failed { OnErr result (self.new ≡ None) }
-        ensures before { IfErr result (λ fault. fault.taken < length piece.now) }
-        ensures lives_front { IfErr result (λ fault. LivesOn self.old (take fault.taken piece.now)) }
-        ensures refused { IfErr result (Refuses self.old piece.now) }
-        ensures told_front { IfErr result (λ fault.
-            ToldFront S.goes sink.old self.old (take fault.taken piece.now) sink.new) }
-        ensures counted { IfErr result (λ fault.
-            CountsCause (S.failures sink.old) (S.failures sink.new) fault.cause) }
+        ensures refused { IfErr result (λ fault.
+            RefusesOne S.goes S.failures self.old piece.now fault sink.old sink.new) }
     {
         readers_stand_at_living_octets();
         match &mut self.place {

@@ -3,10 +3,12 @@
 ghost use Rattle.std.specs.Prelude.{◌≡◌, ◌≤◌, ◌↔◌, ◌||◌, nat_lt, IsTrue, IsSome, IfSome, IfNone};
 ghost use Rattle.wire_message.specs.declared.place.Place.{Place};
 ghost use Rattle.wire_message.specs.declared.saved.MessagePart.TheVariants as part;
-ghost use Rattle.wire_message.specs.Fields.{IsField, is_digit, is_letter};
-ghost use Rattle.wire_message.specs.Messages.{IsHeader};
-ghost use Rattle.wire_message.specs.SoFar.{IsPlace};
-ghost use Rattle.wire_message.specs.Saved.{saved, head_in, IsOnly};
+ghost use Rattle.wire_message.specs.Format.Fields.{IsField};
+ghost use Rattle.iim_dataset.specs.Format.Octets.{is_digit, is_letter};
+ghost use Rattle.wire_message.specs.Format.Messages.{IsHeader};
+ghost use Rattle.wire_message.specs.Format.SoFar.{IsPlace};
+ghost use Rattle.wire_message.specs.Format.Saved.{saved};
+ghost use Rattle.wire_message.specs.Restoring.{head_in, IsOnly};
 
 use crate::class::Class;
 use crate::field::{is_field, kept};
@@ -42,7 +44,7 @@ fn is_priority(place: &MessagePlace) -> bool
     is_field(Class::Digit, 1, MAX_PRIORITY, &place.priority)
 }
 
-/// Whether STX can still come after so many octets of a gap, an LF among them or not.
+/// Whether STX can still come after `count` octets of a gap, an LF among them or not.
 fn is_gap(count: u8, has_feed: bool) -> bool
     ensures { IsTrue result ↔ (1 ≤ count) × (count ≤ 32) × IsTrue (has_feed || nat_lt count 32) }
 {

@@ -2,8 +2,9 @@
 
 ghost use Rattle.std.specs.Prelude.{◌≡◌, ◌≤◌, [], length};
 ghost use Rattle.wire_message.specs.declared.saved.MessagePart.TheVariants as saved_part;
-ghost use Rattle.wire_message.specs.SoFar.{IsPlace};
-ghost use Rattle.wire_message.specs.Saved.{place_of, place_after, saved, IsAfterWords};
+ghost use Rattle.wire_message.specs.Format.SoFar.{IsPlace};
+ghost use Rattle.wire_message.specs.Format.Saved.{place_of, place_after, saved};
+ghost use Rattle.wire_message.specs.Restoring.{IsAfterWords};
 
 use crate::field::kept;
 use crate::head::MessageHead;

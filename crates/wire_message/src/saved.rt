@@ -1,7 +1,7 @@
 //! The place of a reader, as it is saved.
 
 ghost use Rattle.std.specs.Prelude.{◌≡◌, ◌↔◌, [], IsTrue};
-ghost use Rattle.wire_message.specs.Saved.{place_of};
+ghost use Rattle.wire_message.specs.Format.Saved.{place_of};
 
 use crate::lengths::MAX_SAVED;
 use arrayvec::ArrayVec;

@@ -1,15 +1,15 @@
 //! How many octets lead to a place.
 
 ghost use Rattle.std.specs.Prelude.{◌≡◌, ◌≤◌, ◌+◌, Some, None, length};
-ghost use Rattle.wire_message.specs.Canonical.{packed_info};
-ghost use Rattle.wire_message.specs.SoFar.{IsPlace};
-ghost use Rattle.wire_message.specs.Lengths.{fixed_octets, least_head, least_of, greatest_of};
+ghost use Rattle.wire_message.specs.Format.Canonical.{packed_info};
+ghost use Rattle.wire_message.specs.Format.SoFar.{IsPlace};
+ghost use Rattle.wire_message.specs.Format.Lengths.{fixed_octets, least_head, least_of, greatest_of};
 
 use crate::head::MessageHead;
 use crate::lengths::MAX_FILLER;
 use crate::place::Place;
 
-/// From SOH on so many octets, and filler before them or none.
+/// The least and the greatest number of octets, where `octets` of them stand from SOH on, and filler before them or none.
 fn after_filler(octets: usize) -> (u64, Option<u64>)
     requires { octets ≤ 256 }
     ensures least { result.0 ≡ octets }
@@ -19,7 +19,8 @@ fn after_filler(octets: usize) -> (u64, Option<u64>)
     (octets, Some(u64::from(MAX_FILLER) + octets))
 }
 
-/// From SOH on so many octets at least, a text of any length among them.
+/// The least number of octets, and no greatest, where `octets` of them at least stand from SOH on, a text of any length among
+/// them.
 fn with_text(octets: usize) -> (u64, Option<u64>)
     ensures least { result.0 ≡ octets }
     ensures greatest { result.1 ≡ None }
@@ -53,7 +54,7 @@ fn head_len(head: &MessageHead) -> usize
     fixed_len(head) + info_len(head) + 2
 }
 
-/// The header, and so many octets of the gap.
+/// The header, and `count` octets of the gap.
 fn in_gap(head: &MessageHead, count: u8) -> (u64, Option<u64>)
     requires { count ≤ 32 }
     ensures least { result.0 ≡ fixed_octets head.now + length (packed_info head.now.info) + count }

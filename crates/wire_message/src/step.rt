@@ -1,18 +1,19 @@
 //! The octets that end the parts of the header, and the part that comes after each.
 
 ghost use Rattle.std.specs.Prelude.{◌≡◌, ◌<◌, ◌&&◌, ◌==◌, nat_lt, IfSome, IfNone, length, slice_index};
-ghost use Rattle.wire_message.specs.Fields.{is_digit, is_filler_octet};
-ghost use Rattle.wire_message.specs.SoFar.{IsPlace};
+ghost use Rattle.wire_message.specs.Format.Fields.{is_filler_octet};
+ghost use Rattle.iim_dataset.specs.Format.Octets.{is_digit};
+ghost use Rattle.wire_message.specs.Format.SoFar.{IsPlace};
 ghost use Rattle.wire_message.specs.Parts.{EndsPart};
-ghost use Rattle.wire_message.specs.Reading.{DiesWith, TakesSome};
+ghost use Rattle.wire_message.specs.Steps.{DiesWith, TakesSome};
 
 use crate::class::{Class, is_in};
 use crate::field::part_of_one;
 use crate::head::MessageHead;
 use crate::lengths::{MAX_CATEGORY, MAX_NUMBER, MAX_PRIORITY, MAX_SOURCE, MAX_WORDS};
-use crate::octets::{LF, SOH, SP};
 use crate::place::Place;
 use arrayvec::ArrayVec;
+use iim_dataset::octets::{LF, SOH, SP};
 
 /// Takes SOH, which ends the filler.
 #[inline(never)]

@@ -1,16 +1,16 @@
 //! The octets that end the info, the gap and the trailer, and the part that comes after each.
 
 ghost use Rattle.std.specs.Prelude.{◌≡◌, ◌<◌, ◌&&◌, ◌==◌, IfSome, IfNone, length, slice_index};
-ghost use Rattle.wire_message.specs.SoFar.{IsPlace};
+ghost use Rattle.wire_message.specs.Format.SoFar.{IsPlace};
 ghost use Rattle.wire_message.specs.Parts.{EndsPart};
-ghost use Rattle.wire_message.specs.Reading.{DiesWith, TakesSome};
+ghost use Rattle.wire_message.specs.Steps.{DiesWith, TakesSome};
 
 use crate::class::{Class, is_in};
 use crate::head::MessageHead;
 use crate::lengths::MAX_TRAILER;
-use crate::octets::{EOT, LF, STX};
 use crate::place::Place;
 use arrayvec::ArrayVec;
+use iim_dataset::octets::{EOT, LF, STX};
 use wire_story::TextReader;
 
 /// Takes the first octet of the gap, which ends the info.

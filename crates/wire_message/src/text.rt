@@ -3,12 +3,12 @@
 ghost use Rattle.std.specs.Prelude.{◌≡◌, ◌<◌, ◌≤◌, ℕ, false, true, [], length, take, Some, IfOk, IfErr, OnOk};
 ghost use Rattle.arrayvec.specs.ArrayVec.{ArrayVec};
 ghost use Rattle.wire_message.specs.declared.place.Place.{Place};
-ghost use Rattle.wire_message.specs.SoFar.{IsPlace};
-ghost use Rattle.wire_message.specs.Reading.{cause_of, Takes, Stops};
+ghost use Rattle.wire_message.specs.Format.SoFar.{IsPlace};
+ghost use Rattle.wire_message.specs.Steps.{cause_of, TakesOctets, Stops};
 
 use crate::fault::{MessageCause, MessageFault};
 use crate::head::MessageHead;
-use crate::octets::ETX;
+use iim_dataset::octets::ETX;
 use wire_story::laws::{
     places_are_reached, stories_end_as_texts, stories_live_as_texts_so_far, texts_end_in_no_return,
     texts_so_far_have_one_reading,
@@ -49,10 +49,10 @@ pub(crate) fn in_text<S: StorySink>(
     ensures some { IfOk result (λ front. 0 < front.0) }
     ensures within { IfOk result (λ front. front.0 ≤ length rest.now) }
     ensures takes { IfOk result (λ front. front.1 ≡ false →
-        Takes S.goes S.failures (Place.Text head.now text.old) sink.old (take front.0 rest.now)
+        TakesOctets S.goes S.failures (Place.Text head.now text.old) sink.old (take front.0 rest.now)
         (Place.Text head.now text.new) sink.new) }
     ensures ended { IfOk result (λ front. front.1 ≡ true → (trailer : ArrayVec ℕ) → trailer.items ≡ [] →
-        Takes S.goes S.failures (Place.Text head.now text.old) sink.old (take front.0 rest.now)
+        TakesOctets S.goes S.failures (Place.Text head.now text.old) sink.old (take front.0 rest.now)
         (Place.Trailer head.now trailer) sink.new) }
     ensures stops { IfErr result (
         Stops S.goes S.failures (Place.Text head.now text.old) sink.old rest.now sink.new) }

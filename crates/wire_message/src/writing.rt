@@ -2,15 +2,15 @@
 
 ghost use Rattle.std.specs.Prelude.{◌≡◌, ◌↔◌, ◌+◌, ◌≤◌, ◌∷◌, ◌++◌, length, IsTrue, IsSome, IfSome};
 ghost use Rattle.arrayvec.specs.ArrayVec.{array_vec_len};
-ghost use Rattle.wire_message.specs.Messages.{IsHeader, IsTrailer};
-ghost use Rattle.wire_message.specs.Canonical.{packed_head, packed_info, packed_tail};
+ghost use Rattle.wire_message.specs.Format.Messages.{IsHeader, IsTrailer};
+ghost use Rattle.wire_message.specs.Format.Canonical.{packed_head, packed_info, packed_tail};
 
 use crate::class::Class;
 use crate::field::is_field;
 use crate::head::MessageHead;
 use crate::lengths::MAX_TRAILER;
-use crate::octets::{CR, EOT, ETX, LF, SOH, SP, STX};
 use arrayvec::ArrayVec;
+use iim_dataset::octets::{CR, EOT, ETX, LF, SOH, SP, STX};
 
 /// Appends octets for which there is room.
 fn append<const ROOM: usize>(out: &mut ArrayVec<u8, ROOM>, octets: &[u8])

@@ -3,7 +3,7 @@ use Rattle.std.proofs.Common.{◌≡◌, ℕ, zero, suc, ◌<◌, ◌≤◌, ◌
 use Rattle.std.specs.List.{list_all}
 use Rattle.std.proofs.lemmas.Bool.{and_parts}
 use Rattle.std.proofs.lemmas.Bool.Decides.{eqb_tells}
-use Rattle.wire_story.specs.Texts.{is_line_octet, IsLine}
+use Rattle.wire_story.specs.Format.Texts.{is_line_octet, IsLine}
 
 no_feed : (b : ℕ) → is_line_octet b ≡ true → (b == 10) ≡ false
 no_feed b line = elim (eqb_tells b 10) [

@@ -4,9 +4,10 @@ use Rattle.std.specs.List.{onto_first, list_all, join_with_byte}
 use Rattle.std.proofs.lemmas.Bool.{and_parts, and_from, cases_Bool}
 use Rattle.std.proofs.lemmas.List.Splits.{slice_split-cons_yes, slice_split-cons_no, length-slice_split, join_with_byte-slice_split}
 use Rattle.std.proofs.lemmas.List.Folds.{list_all-append}
-use Rattle.wire_story.specs.Texts.{is_line_octet, IsLine, IsText, MakeText, packed_text}
-use Rattle.wire_story.specs.Delivery.{LineOctet, LineEnd, delivered, events_of_lines}
-use Rattle.wire_story.specs.Collecting.{add_octet, collect, lines_in}
+use Rattle.wire_story.specs.Format.Texts.{is_line_octet, IsLine, IsText, MakeText, packed_text}
+use Rattle.wire_story.specs.Format.Delivery.{LineOctet, LineEnd, delivered, events_of_lines}
+use Rattle.wire_story.specs.Format.Collecting.{add_octet, collect}
+use Rattle.wire_story.specs.Joining.{lines_in}
 use Rattle.wire_story.specs.CollectingLaws.{collect-append}
 use Rattle.wire_story.proofs.Spans.{Are-head, Are-tail, Are-append}
 use Rattle.wire_story.proofs.HeldReturns.{not_at}

@@ -1,7 +1,7 @@
 -- A text so far is read octet by octet: what it leaves is the number of CR held, or nothing where no text begins so.
 use Rattle.std.proofs.Common.{◌≡◌, ℕ, zero, suc, ◌<◌, ◌≤◌, Bool, true, false, ◌&&◌, ◌==◌, nat_lt, List, [], ◌∷◌, ◌++◌, replicate, Option, Some, None, ◌⊎◌, inl, inr, refl, sym, ap, subst, ◌∙◌, arith, append-nil, append_assoc, eqb, option_and_then}
 use Rattle.std.proofs.lemmas.Bool.{both_ways, ne_eqb, eqb-true, ltb-true, and_parts, and_from}
-use Rattle.wire_story.specs.Texts.{is_line_octet, IsLine, line_end, IsTextSoFar, Holds}
+use Rattle.wire_story.specs.Format.Texts.{is_line_octet, IsLine, line_end, IsTextSoFar, Holds}
 use Rattle.wire_story.proofs.Spans.{Are-head, Are-tail, Are-cons}
 
 -- an LF holds none; a CR is held, up to two; another octet of a line may stand where none is held

@@ -1,5 +1,4 @@
 pub mod Spans
-pub mod Rests
 pub mod HeldReturns
 pub mod Lives
 pub mod Told
@@ -12,3 +11,4 @@ pub mod PackedEvents
 pub mod Marked
 pub mod Words
 pub mod Calm
+pub mod Fronts

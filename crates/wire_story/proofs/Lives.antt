@@ -1,8 +1,8 @@
 -- The story layer is alive exactly where the octets are a text so far.
 use Rattle.std.proofs.Common.{◌≡◌, ℕ, zero, suc, ◌<◌, ◌≤◌, List, [], ◌∷◌, ◌++◌, map, replicate, Some, None, refl, sym, ap, subst, ◌∙◌, arith, append-nil, append_assoc, option_and_then}
-use Rattle.iim_dataset.specs.Languages.{IsAlive}
-use Rattle.wire_story.specs.Texts.{IsLine, line_end, IsText, IsTextSoFar, Holds, AreLines}
-use Rattle.wire_story.specs.Tokens.{OctetOrEnd, Octet, End, with_end, StoryLanguage, LivesWith, StoryDiesAt}
+use Rattle.iim_dataset.specs.Format.Languages.{IsAlive}
+use Rattle.wire_story.specs.Format.Texts.{IsLine, line_end, IsText, IsTextSoFar, Holds, AreLines}
+use Rattle.wire_story.specs.Format.Tokens.{OctetOrEnd, Octet, End, with_end, StoryLanguage, LivesWith, StoryDiesAt}
 use Rattle.wire_story.proofs.HeldReturns.{held_after, after_octet, held_is, so_far, and_then_is, some_is}
 
 -- ---- octets and their end
@@ -83,7 +83,7 @@ text_to x lines h = let s = so_far_of x lines h in held_is x s.0 s.1 0 s.2
 
 -- ---- alive and dead
 
--- a text so far holds that many CR exactly where its octets leave that many
+-- a text so far holds k CR exactly where its octets leave k
 pub held_of : (x : List ℕ) (k : ℕ) → Holds x k → held_after 0 x ≡ Some k
 held_of x k h = held_is x h.0 h.1 k h.2
 

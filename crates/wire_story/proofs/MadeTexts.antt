@@ -2,8 +2,8 @@
 use Rattle.std.proofs.Common.{◌≡◌, ℕ, true, List, [], ◌∷◌, ◌++◌, map, refl, ap, ◌∙◌, arith, IsTrue}
 use Rattle.std.specs.List.{list_all, join_with_byte}
 use Rattle.std.proofs.lemmas.Bool.{and_parts, and_from}
-use Rattle.wire_story.specs.Texts.{is_line_octet, IsText, MakeText, packed_text}
-use Rattle.wire_story.specs.Delivery.{Event, LineOctet, LineEnd, events_of_lines, octet_for}
+use Rattle.wire_story.specs.Format.Texts.{is_line_octet, IsText, MakeText, packed_text}
+use Rattle.wire_story.specs.Format.Delivery.{StoryEvent, LineOctet, LineEnd, events_of_lines, octet_for}
 
 pub packed : (lines : List (List ℕ)) → MakeText lines → IsText (packed_text lines) lines
 packed [] h = absurd (omega (arith, h.0))
@@ -25,7 +25,7 @@ pub octets_of_line : (line : List ℕ) → map octet_for (map LineOctet line) �
 octets_of_line [] = refl
 octets_of_line (b ∷ bs) = ap (λ (t : List ℕ). b ∷ t) (octets_of_line bs)
 
-octets_of_more : (line : List ℕ) (es : List Event) → map octet_for (map LineOctet line ++ es) ≡ line ++ map octet_for es
+octets_of_more : (line : List ℕ) (es : List StoryEvent) → map octet_for (map LineOctet line ++ es) ≡ line ++ map octet_for es
 octets_of_more [] es = refl
 octets_of_more (b ∷ bs) es = ap (λ (t : List ℕ). b ∷ t) (octets_of_more bs es)
 

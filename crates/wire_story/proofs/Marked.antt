@@ -10,7 +10,7 @@ use Rattle.std.proofs.lemmas.List.Sums.{prefix_len_passes}
 use Rattle.std.proofs.lemmas.Bool.{and_from}
 use Rattle.std.proofs.lemmas.Bool.Decides.{nat_tests}
 use Rattle.std.proofs.lemmas.List.Folds.{list_all_more}
-use Rattle.wire_story.specs.Texts.{is_line_octet}
+use Rattle.wire_story.specs.Format.Texts.{is_line_octet}
 use Rattle.wire_story.specs.Marking.{is_low}
 
 lowest_half : (b : Bool) (n : ℕ) → (cond b 1 0 + 2 * n) / 2 ≡ n
@@ -92,9 +92,9 @@ front_calm xs fits at many left within few is some front =
     calm_front xs fits at many (count_trailing_zeros 64 left) (omega (arith, within, low.1)) (omega (arith, low.1)) front (omega (arith, low.0))
 
 -- the mask after some of its octets
-pub marks_behind : (xs : List ℕ) (at many left s : ℕ) → at + many ≤ length xs → left ≡ mask_l (map is_low (take many (drop at xs))) → s ≤ many
+pub marks_after : (xs : List ℕ) (at many left s : ℕ) → at + many ≤ length xs → left ≡ mask_l (map is_low (take many (drop at xs))) → s ≤ many
     → left / 2 ^ s ≡ mask_l (map is_low (take (many - s) (drop (at + s) xs)))
-marks_behind xs at many left s within is le =
+marks_after xs at many left s within is le =
     let whole : many ≡ s + (many - s) = omega (arith, le) in
     ap (λ n. n / 2 ^ s) (is ∙ ap (λ n. mask_l (map is_low (take n (drop at xs)))) whole)
     ∙ shifted is_low s (many - s) (drop at xs) (omega (arith, within, le, length-drop at xs))

@@ -3,17 +3,17 @@ use Rattle.std.proofs.Common.{◌≡◌, ℕ, ◌<◌, true, List, [], ◌∷◌
 use Rattle.std.specs.List.{list_all}
 use Rattle.std.proofs.lemmas.Bool.{and_from}
 use Rattle.std.proofs.lemmas.List.Folds.{list_all-append}
-use Rattle.wire_story.specs.Texts.{is_line_octet, line_end, packed_text, MakeText}
-use Rattle.wire_story.specs.Delivery.{Event, LineOctet, LineEnd, events_of_lines}
-use Rattle.wire_story.specs.Collecting.{add_octet, collect}
-use Rattle.wire_story.specs.Packing.{packed_event, packed_events, AreEvents, LinesArePackedAsTheirEvents, EventsArePackedAsLines}
+use Rattle.wire_story.specs.Format.Texts.{is_line_octet, line_end, packed_text, MakeText}
+use Rattle.wire_story.specs.Format.Delivery.{StoryEvent, LineOctet, LineEnd, events_of_lines}
+use Rattle.wire_story.specs.Format.Collecting.{add_octet, collect}
+use Rattle.wire_story.specs.Format.Packing.{packed_event, packed_events, AreEvents, LinesArePackedAsTheirEvents, EventsArePackedAsLines}
 use Rattle.wire_story.proofs.Collected.{octet_made}
 
 line_packed : (line : List ℕ) → packed_events (map LineOctet line) ≡ line
 line_packed [] = refl
 line_packed (b ∷ bs) = ap (λ (t : List ℕ). b ∷ t) (line_packed bs)
 
-events_append : (xs ys : List Event) → packed_events (xs ++ ys) ≡ packed_events xs ++ packed_events ys
+events_append : (xs ys : List StoryEvent) → packed_events (xs ++ ys) ≡ packed_events xs ++ packed_events ys
 events_append [] ys = refl
 events_append (x ∷ xs) ys = ap (λ (t : List ℕ). packed_event x ++ t) (events_append xs ys) ∙ sym (append_assoc (packed_event x) (packed_events xs) (packed_events ys))
 
@@ -46,7 +46,7 @@ octet_some [] b = omega arith
 octet_some (line ∷ []) b = omega arith
 octet_some (line ∷ next ∷ lines) b = omega arith
 
-collected_packed : (lines : List (List ℕ)) (events : List Event) → 0 < length lines → packed_text (collect lines events) ≡ packed_text lines ++ packed_events events
+collected_packed : (lines : List (List ℕ)) (events : List StoryEvent) → 0 < length lines → packed_text (collect lines events) ≡ packed_text lines ++ packed_events events
 collected_packed lines [] some = sym (append-nil (packed_text lines))
 collected_packed lines (LineOctet b ∷ events) some =
     collected_packed (add_octet lines b) events (octet_some lines b)
@@ -55,7 +55,7 @@ collected_packed lines (LineEnd ∷ events) some =
     collected_packed (lines ++ [] ∷ []) events (omega (arith, length-append lines ([] ∷ [])))
     ∙ (ap (λ (t : List ℕ). t ++ packed_events events) (end_packed lines some) ∙ append_assoc (packed_text lines) (line_end 1) (packed_events events))
 
-collected_made : (lines : List (List ℕ)) (events : List Event) → AreEvents events → MakeText lines → MakeText (collect lines events)
+collected_made : (lines : List (List ℕ)) (events : List StoryEvent) → AreEvents events → MakeText lines → MakeText (collect lines events)
 collected_made lines [] h made = made
 collected_made lines (LineOctet b ∷ events) h made = collected_made (add_octet lines b) events h.1 (octet_some lines b, octet_made lines b h.0 made.1)
 collected_made lines (LineEnd ∷ events) h made =

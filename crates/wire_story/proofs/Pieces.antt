@@ -1,44 +1,45 @@
 -- How a piece leads a reader on, and how it is refused.
+use Rattle.std.proofs.Math.Seq.{take-add}
+use Rattle.std.specs.List.{slice_range}
 use Rattle.std.proofs.lemmas.List.{take_rest}
-use Rattle.std.proofs.Common.{◌≡◌, ◌≢◌, ℕ, ◌+◌, ◌<◌, ◌≤◌, Bool, true, false, ◌==◌, nat_lt, ◌&&◌, List, [], ◌∷◌, ◌++◌, take, slice_index, Option, Some, None, refl, sym, ap, subst, ◌∙◌, arith, append-nil, append_assoc, option_and_then, get_or-drop}
+use Rattle.std.proofs.Common.{◌≡◌, ◌≢◌, ℕ, ◌+◌, ◌<◌, ◌≤◌, Bool, true, false, ◌==◌, nat_lt, ◌&&◌, List, [], ◌∷◌, ◌++◌, take, slice_index, Option, Some, None, refl, sym, ap, subst, ◌∙◌, arith, append-nil, append_assoc, option_and_then, get_or-drop, length}
 use Rattle.std.proofs.lemmas.Bool.{true≢false}
 use Rattle.std.proofs.lemmas.Bool.Decides.{nat_tests}
-use Rattle.wire_story.specs.Texts.{is_line_octet, IsLine, Holds}
-use Rattle.wire_story.specs.Tokens.{LivesWith}
-use Rattle.wire_story.specs.Reading.{StandsAt, GoesOn, IsLoneReturn, IsControl, HasCause, Refuses}
+use Rattle.wire_story.specs.Format.Texts.{is_line_octet, IsLine, Holds}
+use Rattle.wire_story.specs.Format.Tokens.{LivesWith}
+use Rattle.wire_story.specs.Format.Reading.{StandsAt, LeadsOn, IsLoneReturn, IsControl, HasCause, Refuses}
 use Rattle.wire_story.specs.declared.fault.TextCause.{TextCause}
 use Rattle.wire_story.specs.declared.fault.TextCause.TheVariants.{LoneReturn, ControlOctet, Sink}
-use Rattle.wire_story.proofs.Rests.{rest_of, take-front}
 use Rattle.wire_story.proofs.HeldReturns.{held_after, after_octet, chosen, some_is, held_line, line_octet_step}
 use Rattle.wire_story.proofs.Lives.{held_joined, held_of, holds, live_of, dies}
 
 -- ---- pieces
 
-pub goes_on : (h : ℕ) (piece : List ℕ) (k : ℕ) → held_after h piece ≡ Some k → GoesOn (Some h) piece (Some k)
-goes_on h piece k e octets w =
+pub leads_on : (h : ℕ) (piece : List ℕ) (k : ℕ) → held_after h piece ≡ Some k → LeadsOn (Some h) piece (Some k)
+leads_on h piece k e octets w =
     let same : w.0 ≡ h = sym (some_is h w.0 w.1) in
     (k, refl, holds (octets ++ piece) k (held_joined 0 octets piece w.0 k (held_of octets w.0 w.2) (ap (λ n. held_after n piece) same ∙ e)))
 
-pub goes_on_in_line : (run : List ℕ) → IsLine run → GoesOn (Some 0) run (Some 0)
-goes_on_in_line run l = goes_on 0 run 0 (ap (held_after 0) (sym (append-nil run)) ∙ held_line run [] l)
+pub leads_on_in_line : (run : List ℕ) → IsLine run → LeadsOn (Some 0) run (Some 0)
+leads_on_in_line run l = leads_on 0 run 0 (ap (held_after 0) (sym (append-nil run)) ∙ held_line run [] l)
 
-pub goes_on_none : (reader : Option ℕ) → GoesOn reader [] reader
-goes_on_none reader octets w = subst (StandsAt reader) (sym (append-nil octets)) w
+pub leads_on_none : (reader : Option ℕ) → LeadsOn reader [] reader
+leads_on_none reader octets w = subst (StandsAt reader) (sym (append-nil octets)) w
 
-pub goes_on_front : (old mid new : Option ℕ) (piece : List ℕ) (i k : ℕ) → GoesOn old (take i piece) mid → GoesOn mid (take k (rest_of piece i)) new → GoesOn old (take (i + k) piece) new
-goes_on_front old mid new piece i k f g octets w =
-    subst (StandsAt new) (append_assoc octets (take i piece) (take k (rest_of piece i)) ∙ ap (λ t. octets ++ t) (sym (take-front piece i k)))
+pub leads_on_front : (old mid new : Option ℕ) (piece : List ℕ) (i k : ℕ) → LeadsOn old (take i piece) mid → LeadsOn mid (take k (slice_range piece i (length piece))) new → LeadsOn old (take (i + k) piece) new
+leads_on_front old mid new piece i k f g octets w =
+    subst (StandsAt new) (append_assoc octets (take i piece) (take k (slice_range piece i (length piece))) ∙ ap (λ t. octets ++ t) (sym (take-add i k piece ∙ ap (λ r. take i piece ++ take k r) (sym (take_rest piece i)))))
     (g (octets ++ take i piece) (f octets w))
 
 -- an octet of what is left is refused in the whole
-pub refuses_front : (old mid : Option ℕ) (piece : List ℕ) (i k : ℕ) (cause : TextCause) → GoesOn old (take i piece) mid
-    → Refuses mid (rest_of piece i) (record { taken = k; cause = cause }) → Refuses old piece (record { taken = i + k; cause = cause })
+pub refuses_front : (old mid : Option ℕ) (piece : List ℕ) (i k : ℕ) (cause : TextCause) → LeadsOn old (take i piece) mid
+    → Refuses mid (slice_range piece i (length piece)) (record { taken = k; cause = cause }) → Refuses old piece (record { taken = i + k; cause = cause })
 refuses_front old mid piece i k cause f g octets w =
-    let front : (octets ++ take i piece) ++ take k (rest_of piece i) ≡ octets ++ take (i + k) piece =
-    append_assoc octets (take i piece) (take k (rest_of piece i)) ∙ ap (λ t. octets ++ t) (sym (take-front piece i k)) in
-    let octet : slice_index (rest_of piece i) k ≡ slice_index piece (i + k) = ap (λ r. slice_index r k) (take_rest piece i) ∙ get_or-drop i piece k 0 in
+    let front : (octets ++ take i piece) ++ take k (slice_range piece i (length piece)) ≡ octets ++ take (i + k) piece =
+    append_assoc octets (take i piece) (take k (slice_range piece i (length piece))) ∙ ap (λ t. octets ++ t) (sym (take-add i k piece ∙ ap (λ r. take i piece ++ take k r) (sym (take_rest piece i)))) in
+    let octet : slice_index (slice_range piece i (length piece)) k ≡ slice_index piece (i + k) = ap (λ r. slice_index r k) (take_rest piece i) ∙ get_or-drop i piece k 0 in
     subst (λ (t : List ℕ). HasCause cause t (slice_index piece (i + k))) front
-    (subst (λ (b : ℕ). HasCause cause ((octets ++ take i piece) ++ take k (rest_of piece i)) b) octet (g (octets ++ take i piece) (f octets w)))
+    (subst (λ (b : ℕ). HasCause cause ((octets ++ take i piece) ++ take k (slice_range piece i (length piece))) b) octet (g (octets ++ take i piece) (f octets w)))
 
 -- ---- what an octet does
 
@@ -86,17 +87,17 @@ control b l n m e = (grind (arith, nat_tests), grind (arith, nat_tests))
 
 -- ---- one octet
 
-one_octet : (held k b : ℕ) → after_octet held b ≡ Some k → GoesOn (Some held) (b ∷ []) (Some k)
-one_octet held k b e = goes_on held (b ∷ []) k (ap (option_and_then (λ n. Some n)) e)
+one_octet : (held k b : ℕ) → after_octet held b ≡ Some k → LeadsOn (Some held) (b ∷ []) (Some k)
+one_octet held k b e = leads_on held (b ∷ []) k (ap (option_and_then (λ n. Some n)) e)
 
 held_by : (held : ℕ) (octets : List ℕ) → StandsAt (Some held) octets → Holds (octets ++ []) held
 held_by held octets w = subst (λ (t : List ℕ). Holds t held) (sym (append-nil octets)) (subst (Holds octets) (sym (some_is held w.0 w.1)) w.2)
 
-pub goes_on_end : (held b : ℕ) → b ≡ 10 → GoesOn (Some held) (b ∷ []) (Some 0)
-goes_on_end held b e = one_octet held 0 b (octet_end held b e)
+pub leads_on_end : (held b : ℕ) → b ≡ 10 → LeadsOn (Some held) (b ∷ []) (Some 0)
+leads_on_end held b e = one_octet held 0 b (octet_end held b e)
 
-pub goes_on_return : (held b : ℕ) → b ≡ 13 → held < 2 → GoesOn (Some held) (b ∷ []) (Some (held + 1))
-goes_on_return held b e l = one_octet held (held + 1) b (octet_return held b e l)
+pub leads_on_return : (held b : ℕ) → b ≡ 13 → held < 2 → LeadsOn (Some held) (b ∷ []) (Some (held + 1))
+leads_on_return held b e l = one_octet held (held + 1) b (octet_return held b e l)
 
 lone : (held b : ℕ) → after_octet held b ≡ None → IsLoneReturn held b → Refuses (Some held) (b ∷ []) (record { taken = 0; cause = LoneReturn })
 lone held b none is octets w =
@@ -117,7 +118,7 @@ refuses_control held b z l n m e octets w =
 -- an octet that may follow, and the sink refuses it
 pub refuses_end : (held b : ℕ) → b ≡ 10 → Refuses (Some held) (b ∷ []) (record { taken = 0; cause = Sink })
 refuses_end held b e octets w =
-    let next = goes_on_end held b e octets w in
+    let next = leads_on_end held b e octets w in
     (subst (λ (t : List ℕ). LivesWith (t ++ b ∷ [])) (sym (append-nil octets)) (live_of (octets ++ b ∷ []) next.0 next.2), omega (arith, e))
 
 not13 : (b : ℕ) → is_line_octet b ≡ true → b ≢ 13
@@ -127,7 +128,7 @@ not13 b t e = absurd (true≢false (sym t ∙ ap is_line_octet e))
 pub refuses_in_line : (piece : List ℕ) (t : ℕ) → IsLine (take t piece) → is_line_octet (slice_index piece t) ≡ true → Refuses (Some 0) piece (record { taken = t; cause = Sink })
 refuses_in_line piece t l o octets w =
     let b = slice_index piece t in
-    let s = goes_on_in_line (take t piece) l octets w in
+    let s = leads_on_in_line (take t piece) l octets w in
     let next = one_octet 0 0 b (line_octet_step b o) (octets ++ take t piece) s in
     (live_of ((octets ++ take t piece) ++ b ∷ []) next.0 next.2, not13 b o)
 

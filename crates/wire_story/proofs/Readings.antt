@@ -1,6 +1,6 @@
 -- Octets are lines in one way at most.
 use Rattle.std.proofs.Common.{◌≡◌, ℕ, zero, suc, false, List, [], ◌∷◌, ◌++◌, replicate, refl, sym, ap, subst, ◌∙◌, append-nil, append_assoc}
-use Rattle.wire_story.specs.Texts.{is_line_octet, IsLine, line_end, IsText, IsTextSoFar}
+use Rattle.wire_story.specs.Format.Texts.{is_line_octet, IsLine, line_end, IsText, IsTextSoFar}
 use Rattle.wire_story.proofs.Spans.{Are, span, no_stop}
 use Rattle.wire_story.proofs.HeldReturns.{held_is, some_is}
 

@@ -1,17 +1,19 @@
 -- What is delivered of a text are its lines, and a longer text delivers more at the end.
-use Rattle.std.proofs.Common.{◌≡◌, ℕ, zero, suc, ◌+◌, true, List, [], ◌∷◌, ◌++◌, map, take, replicate, refl, sym, ap, ◌∙◌, append-nil}
+use Rattle.std.proofs.lemmas.List.{take_rest}
+use Rattle.std.proofs.Math.Seq.{take-add}
+use Rattle.std.specs.List.{slice_range}
+use Rattle.std.proofs.Common.{◌≡◌, ℕ, zero, suc, ◌+◌, true, List, [], ◌∷◌, ◌++◌, map, take, replicate, refl, sym, ap, ◌∙◌, append-nil, length}
 use Rattle.std.proofs.lemmas.List.Concat.{flat_map-append}
-use Rattle.wire_story.specs.Texts.{is_line_octet, IsLine, line_end, IsText, IsTextSoFar}
-use Rattle.wire_story.specs.Delivery.{Event, LineOctet, LineEnd, events_of, delivered, events_of_lines}
+use Rattle.wire_story.specs.Format.Texts.{is_line_octet, IsLine, line_end, IsText, IsTextSoFar}
+use Rattle.wire_story.specs.Format.Delivery.{StoryEvent, LineOctet, LineEnd, events_of, delivered, events_of_lines}
 use Rattle.wire_story.proofs.Spans.{Are-head, Are-tail}
 use Rattle.wire_story.proofs.HeldReturns.{not_at}
-use Rattle.wire_story.proofs.Rests.{rest_of, take-front}
 
 delivered-append : (x y : List ℕ) → delivered (x ++ y) ≡ delivered x ++ delivered y
 delivered-append x y = flat_map-append events_of x y
 
-pub delivered_front : (piece : List ℕ) (i k : ℕ) → delivered (take i piece) ++ delivered (take k (rest_of piece i)) ≡ delivered (take (i + k) piece)
-delivered_front piece i k = sym (ap delivered (take-front piece i k) ∙ delivered-append (take i piece) (take k (rest_of piece i)))
+pub delivered_front : (piece : List ℕ) (i k : ℕ) → delivered (take i piece) ++ delivered (take k (slice_range piece i (length piece))) ≡ delivered (take (i + k) piece)
+delivered_front piece i k = sym (ap delivered (take-add i k piece ∙ ap (λ r. take i piece ++ take k r) (sym (take_rest piece i))) ∙ delivered-append (take i piece) (take k (slice_range piece i (length piece))))
 
 events_line : (b : ℕ) → is_line_octet b ≡ true → events_of b ≡ LineOctet b ∷ []
 events_line b h = rw (not_at b 10 h refl, not_at b 13 h refl) refl
@@ -19,7 +21,7 @@ events_line b h = rw (not_at b 10 h refl, not_at b 13 h refl) refl
 pub delivered_line : (line : List ℕ) → IsLine line → delivered line ≡ map LineOctet line
 delivered_line [] h = refl
 delivered_line (b ∷ bs) h =
-    ap (λ (t : List Event). t ++ delivered bs) (events_line b (Are-head is_line_octet b bs h)) ∙ ap (λ (t : List Event). LineOctet b ∷ t) (delivered_line bs (Are-tail is_line_octet b bs h))
+    ap (λ (t : List StoryEvent). t ++ delivered bs) (events_line b (Are-head is_line_octet b bs h)) ∙ ap (λ (t : List StoryEvent). LineOctet b ∷ t) (delivered_line bs (Are-tail is_line_octet b bs h))
 
 delivered_end : (k : ℕ) → delivered (line_end k) ≡ LineEnd ∷ []
 delivered_end zero = refl
@@ -30,7 +32,7 @@ delivered_lines x [] h = absurd h
 delivered_lines x (line ∷ []) h = ap delivered h.1 ∙ delivered_line line h.0
 delivered_lines x (line ∷ next ∷ lines) h =
     let more = delivered_lines h.3 (next ∷ lines) h.5 in
-    ap delivered h.4 ∙ (delivered-append line (line_end h.1 ++ h.3) ∙ (ap (λ (t : List Event). delivered line ++ t) (delivered-append (line_end h.1) h.3)
+    ap delivered h.4 ∙ (delivered-append line (line_end h.1 ++ h.3) ∙ (ap (λ (t : List StoryEvent). delivered line ++ t) (delivered-append (line_end h.1) h.3)
     ∙ rw (delivered_line line h.0, delivered_end h.1, more) refl))
 
 delivered_returns : (k : ℕ) → delivered (replicate k 13) ≡ []
@@ -40,7 +42,7 @@ delivered_returns (suc k) = delivered_returns k
 delivered_more : (x first : List ℕ) (lines : List (List ℕ)) (line : List ℕ) (held : ℕ) → (h : IsTextSoFar x (first ∷ lines) line held)
     → delivered h.3 ≡ events_of_lines (lines ++ line ∷ []) → delivered x ≡ map LineOctet first ++ (LineEnd ∷ events_of_lines (lines ++ line ∷ []))
 delivered_more x first lines line held h more =
-    ap delivered h.4 ∙ (delivered-append first (line_end h.1 ++ h.3) ∙ (ap (λ (t : List Event). delivered first ++ t) (delivered-append (line_end h.1) h.3)
+    ap delivered h.4 ∙ (delivered-append first (line_end h.1 ++ h.3) ∙ (ap (λ (t : List StoryEvent). delivered first ++ t) (delivered-append (line_end h.1) h.3)
     ∙ rw (delivered_line first h.0, delivered_end h.1, more) refl))
 
 pub delivered_so_far : (x : List ℕ) (lines : List (List ℕ)) (line : List ℕ) (held : ℕ) → IsTextSoFar x lines line held → delivered x ≡ events_of_lines (lines ++ line ∷ [])

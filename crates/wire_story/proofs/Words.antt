@@ -2,9 +2,9 @@
 use Rattle.std.proofs.Common.{◌≡◌, ℕ, ◌+◌, ◌&&◌, cond, Bool, true, false, not, List, [], ◌∷◌, ◌++◌, length, map, inl, inr, refl, sym, ap, subst, ◌∙◌, arith, append-nil}
 use Rattle.std.proofs.lemmas.Bool.{cases_Bool, both_ways}
 use Rattle.std.proofs.lemmas.List.Sums.{sum_by-cons}
-use Rattle.wire_story.specs.Delivery.{Event, LineOctet, LineEnd, delivered, events_of_lines}
-use Rattle.wire_story.specs.Words.{is_word_octet, words_begun, words_of, words, EndsWord, HasWords, capped, words_told}
-use Rattle.wire_story.specs.WordLaws.{WordsAreLongestRuns, TextsAreCountedAsLines}
+use Rattle.wire_story.specs.Format.Delivery.{StoryEvent, LineOctet, LineEnd, delivered, events_of_lines}
+use Rattle.wire_story.specs.Format.Words.{is_word_octet, words_begun, words_of, words, EndsWord, HasWords, capped, words_told}
+use Rattle.wire_story.specs.Format.WordLaws.{WordsAreLongestRuns, TextsAreCountedAsLines}
 use Rattle.wire_story.proofs.Spans.{Are, Are-head, Are-tail, Are-cons, span, no_stop}
 use Rattle.wire_story.proofs.Told.{delivered_lines}
 
@@ -162,7 +162,7 @@ told_last : (inside : Bool) (line : List ℕ) → words_told inside (map LineOct
 told_last inside [] = refl
 told_last inside (b ∷ xs) = let more : words_told (is_word_octet b) (map LineOctet xs) ≡ words_begun (is_word_octet b) xs = told_last (is_word_octet b) xs in omega (arith, more)
 
-told_line : (inside : Bool) (line : List ℕ) (events : List Event) → words_told inside (map LineOctet line ++ (LineEnd ∷ events)) ≡ words_begun inside line + words_told false events
+told_line : (inside : Bool) (line : List ℕ) (events : List StoryEvent) → words_told inside (map LineOctet line ++ (LineEnd ∷ events)) ≡ words_begun inside line + words_told false events
 told_line inside [] events = omega arith
 told_line inside (b ∷ xs) events =
     let more : words_told (is_word_octet b) (map LineOctet xs ++ (LineEnd ∷ events)) ≡ words_begun (is_word_octet b) xs + words_told false events = told_line (is_word_octet b) xs events in

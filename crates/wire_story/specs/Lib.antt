@@ -1,14 +1,8 @@
-pub mod Texts
-pub mod Delivery
-pub mod Tokens
-pub mod Reading
-pub mod Writing
-pub mod Collecting
-pub mod Packing
-pub mod Laws
+-- What the promises cite: a reader has to believe these.
+pub mod Format
+-- What only proofs and private clauses cite.
 pub mod CollectingLaws
 pub mod WritingLaws
 pub mod Marking
-pub mod Words
-pub mod WordLaws
-pub mod Trials
+pub mod Joining
+pub mod CountingLaws

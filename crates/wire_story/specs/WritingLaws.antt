@@ -2,9 +2,9 @@
 use Rattle.std.proofs.Common.{◌≡◌, ℕ, ◌≤◌, inl, inr, List, [], ◌∷◌, ◌++◌, map, Option, Some, None, refl, sym, ap, subst, ◌∙◌, arith, append-nil, append_assoc}
 use Rattle.std.proofs.lemmas.Bool.{cases_lt}
 use Rattle.std.specs.Io.KnownBytes.{Appends}
-use Rattle.iim_dataset.specs.Devices.{Device, RoseAtLeast, max_interruptions}
-use Rattle.wire_story.specs.Delivery.{Event, octet_for}
-use Rattle.wire_story.specs.Writing.{HasBroken, WritesOn}
+use Rattle.iim_dataset.specs.Format.Devices.{Device, RoseAtLeast, max_interruptions}
+use Rattle.wire_story.specs.Format.Delivery.{StoryEvent, octet_for}
+use Rattle.wire_story.specs.Format.Writing.{HasBroken, WritesOn}
 
 appends_nothing : (known : Option (List ℕ)) → Appends known known []
 appends_nothing None = tt
@@ -43,11 +43,11 @@ broken_after : (a b c : Device) → a.failures ≤ b.failures → a.interruption
 broken_after a b c f i (inl h) = inl (rose_after 1 a.failures b.failures c.failures f h)
 broken_after a b c f i (inr h) = inr (rose_after max_interruptions a.interruptions b.interruptions c.interruptions i h)
 
-map-append : (xs ys : List Event) → map octet_for (xs ++ ys) ≡ map octet_for xs ++ map octet_for ys
+map-append : (xs ys : List StoryEvent) → map octet_for (xs ++ ys) ≡ map octet_for xs ++ map octet_for ys
 map-append [] ys = refl
 map-append (x ∷ xs) ys = ap (λ (t : List ℕ). octet_for x ∷ t) (map-append xs ys)
 
-pub writes_joined : (a b c : Device) (i j k : ℕ) (xs ys : List Event) → WritesOn a b i j (map octet_for xs) → WritesOn b c j k (map octet_for ys)
+pub writes_joined : (a b c : Device) (i j k : ℕ) (xs ys : List StoryEvent) → WritesOn a b i j (map octet_for xs) → WritesOn b c j k (map octet_for ys)
     → WritesOn a c i k (map octet_for (xs ++ ys))
 writes_joined a b c i j k xs ys h l = record {
   octets = subst (Appends a.octets c.octets) (sym (map-append xs ys)) (appends_joined a.octets b.octets c.octets (map octet_for xs) (map octet_for ys) h.octets l.octets);

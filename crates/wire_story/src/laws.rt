@@ -1,10 +1,10 @@
 //! What holds of all texts. The functions do nothing: their contracts are the laws.
 
 ghost use Rattle.std.specs.Prelude.{◌≡◌};
-ghost use Rattle.wire_story.specs.Texts.{line_end};
-ghost use Rattle.wire_story.specs.Packing.{LinesArePackedAsTheirEvents, EventsArePackedAsLines};
-ghost use Rattle.wire_story.specs.Laws.{TextsHaveOneReading, TextsSoFarHaveOneReading, TextsAreDeliveredAsLines, TextsSoFarAreDeliveredAsLines, DeliveryMayBeCut, StoriesLiveAsTextsSoFar, StoriesEndAsTexts, TextsEndInNoReturn, PackedLinesAreAText, LinesOfATextMakeOne, LinesAreJoinedByLineFeeds, TextsAreCollectedAsLines, PlacesAreReached, OctetsLeadToOnePlace, OctetsLeadOnAlike};
-ghost use Rattle.wire_story.specs.WordLaws.{WordsAreLongestRuns, TextsAreCountedAsLines};
+ghost use Rattle.wire_story.specs.Format.Texts.{line_end};
+ghost use Rattle.wire_story.specs.Format.Packing.{LinesArePackedAsTheirEvents, EventsArePackedAsLines};
+ghost use Rattle.wire_story.specs.Format.Laws.{TextsHaveOneReading, TextsSoFarHaveOneReading, TextsAreDeliveredAsLines, TextsSoFarAreDeliveredAsLines, DeliveryMayBeCut, StoriesLiveAsTextsSoFar, StoriesEndAsTexts, TextsEndInNoReturn, PackedLinesAreAText, LinesOfATextMakeOne, LinesAreJoinedByLineFeeds, TextsAreCollectedAsLines, PlacesAreReached, OctetsLeadToOnePlace, OctetsLeadOnAlike};
+ghost use Rattle.wire_story.specs.Format.WordLaws.{WordsAreLongestRuns, TextsAreCountedAsLines};
 
 use crate::line::LINE_END;
 

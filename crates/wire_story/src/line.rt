@@ -1,21 +1,10 @@
 //! The octets of lines and line ends.
 
 ghost use Rattle.std.specs.Prelude.{◌≡◌, ◌↔◌, IsTrue};
-ghost use Rattle.wire_story.specs.Texts.{is_line_octet, IsLine};
+ghost use Rattle.wire_story.specs.Format.Texts.{is_line_octet, IsLine};
 
 use crate::marks::Marks;
-
-pub(crate) const SOH: u8 = 0x01;
-
-pub(crate) const STX: u8 = 0x02;
-
-pub(crate) const ETX: u8 = 0x03;
-
-pub(crate) const EOT: u8 = 0x04;
-
-pub(crate) const LF: u8 = 0x0a;
-
-pub(crate) const CR: u8 = 0x0d;
+use iim_dataset::octets::{CR, EOT, ETX, LF, SOH, STX};
 
 /// The line end that a packer writes.
 pub const LINE_END: [u8; 2] = [CR, LF];

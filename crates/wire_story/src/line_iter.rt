@@ -4,10 +4,10 @@ ghost use Rattle.std.specs.Prelude.{◌≡◌, ◌==◌, ℕ, List};
 ghost use Rattle.std.specs.Iterator.{YieldsFirstRef, item_count};
 ghost use Rattle.std.specs.List.{position_or_len};
 ghost use Rattle.std.specs.Option.{option_copied};
-ghost use Rattle.wire_story.specs.Collecting.{lines_in, lines_left};
+ghost use Rattle.wire_story.specs.Joining.{lines_in, lines_left};
 
-use crate::line::LF;
 use crate::marks::Marks;
+use iim_dataset::octets::LF;
 use std::marker::Model;
 
 /// The lines of a text, in order. Contracts see it as the list of those that are left.

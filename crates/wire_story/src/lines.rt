@@ -1,15 +1,16 @@
 //! A sink that collects the lines.
 
 ghost use Rattle.std.specs.Prelude.{◌≡◌, ◌<◌, [], ◌∷◌, length, map, take, refl, IfErr, OnOk, OnErr};
-ghost use Rattle.iim_dataset.specs.Devices.{Rose};
-ghost use Rattle.wire_story.specs.Texts.{IsLine, MakeText};
-ghost use Rattle.wire_story.specs.Delivery.{LineOctet};
-ghost use Rattle.wire_story.specs.Collecting.{Collected, collect, lines_in};
+ghost use Rattle.iim_dataset.specs.Format.Devices.{Rose};
+ghost use Rattle.wire_story.specs.Format.Texts.{IsLine, MakeText};
+ghost use Rattle.wire_story.specs.Format.Delivery.{LineOctet};
+ghost use Rattle.wire_story.specs.Format.Collecting.{Collected, collect};
+ghost use Rattle.wire_story.specs.Joining.{lines_in};
 
-use crate::line::LF;
 use crate::line_iter::LineIter;
 use crate::sink::StorySink;
 use iim_dataset::Stop;
+use iim_dataset::octets::LF;
 use std::alloc::Global;
 use std::marker::Model;
 

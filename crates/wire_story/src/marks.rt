@@ -2,13 +2,13 @@
 
 ghost use Rattle.std.specs.Prelude.{◌≡◌, ◌<◌, ◌≤◌, ◌+◌, false, length, drop, map, slice_index, take};
 ghost use Rattle.std.specs.Simd.Lanes.{mask_l};
-ghost use Rattle.wire_story.specs.Texts.{is_line_octet, IsLine};
+ghost use Rattle.wire_story.specs.Format.Texts.{is_line_octet, IsLine};
 ghost use Rattle.wire_story.specs.Marking.{is_low, AreMarks};
 
 use crate::line::may_stand;
 use std::simd::prelude::*;
 
-/// So many octets are tested at once.
+/// How many octets are tested at once.
 const BLOCK: usize = 16;
 
 /// The marks are below this octet, and so are few other octets.
@@ -19,7 +19,7 @@ const LEAST_CALM: u8 = 14;
 pub(crate) struct Marks {
     // The lowest digit stands for the next octet.
     left: u64,
-    // It tells of so many octets.
+    // How many octets it tells of.
     many: usize,
 }
 
@@ -33,7 +33,7 @@ fn mask_of(block: &[u8]) -> u64
     octets.simd_lt(u8x16::splat(LEAST_CALM)).to_bitmask()
 }
 
-/// The length of the front that lies in one line, after so many octets that do.
+/// The length of the longest front that lies in one line, where the first `from` octets do.
 #[inline(always)]
 fn tail_len(from: usize, octets: &[u8]) -> usize
     requires within { from ≤ length octets.now }
@@ -63,7 +63,7 @@ impl Marks {
 
     /// The marks after the next octet.
     #[inline(always)]
-    pub(crate) fn behind(self, octets: &[u8]) -> Marks
+    pub(crate) fn after(self, octets: &[u8]) -> Marks
         requires marks { AreMarks octets.now self }
         requires some { 0 < length octets.now }
         ensures { AreMarks (drop 1 octets.now) result }

@@ -1,11 +1,10 @@
 //! The reader of a text, for any cut into runs.
 
-ghost use Rattle.std.specs.Prelude.{◌≡◌, ◌<◌, ◌≤◌, [], List, ℕ, Option, is_none, length, take, Some, None, ◌↔◌, IsSome, IfSome, IfErr, OnOk, OnErr};
+ghost use Rattle.std.specs.Prelude.{◌≡◌, ◌≤◌, [], List, ℕ, Option, is_none, Some, None, ◌↔◌, IsSome, IfSome, IfErr, OnOk, OnErr};
 ghost use Rattle.std.specs.Option.{ForSome};
-ghost use Rattle.wire_story.specs.Texts.{AreLines};
-ghost use Rattle.wire_story.specs.Delivery.{delivered};
-ghost use Rattle.wire_story.specs.Tokens.{End, StoryDiesAt};
-ghost use Rattle.wire_story.specs.Reading.{StandsAt, GoesOn, Refuses, CountsCause};
+ghost use Rattle.wire_story.specs.Format.Texts.{AreLines};
+ghost use Rattle.wire_story.specs.Format.Tokens.{End, StoryDiesAt};
+ghost use Rattle.wire_story.specs.Format.Reading.{StandsAt, TakesPiece, RefusesOne};
 
 use crate::fault::{TextCause, TextFault};
 use crate::laws::places_are_reached;
@@ -56,7 +55,7 @@ impl TextReader {
         self.held.unwrap()
     }
 
-    /// The reader that holds so many CR, where some octets lead there: where they are 2 at most.
+    /// The reader that holds `held` CR, where some octets lead there: where they are 2 at most.
     pub fn at(held: u8) -> Option<TextReader>
         ensures place { IfSome result (λ reader. reader ≡ Some held) }
         ensures exactly { IsSome result ↔ ((octets : List ℕ) × StandsAt (Some held) octets) }
@@ -73,20 +72,14 @@ impl TextReader {
     pub fn run<S: StorySink>(&mut self, run: &[u8], sink: &mut S) -> Result<(), TextFault>
         requires { IsSome self.old }
 
-        // The octets so far, with the run, are a text so far.
+        // The octets so far, with the run, are a text so far, and the sink was told what is delivered of the run.
         ensures takes_calls { OnOk result (IsSome self.new) }
-        ensures goes_on { OnOk result (GoesOn self.old run.now self.new) }
-        ensures told { OnOk result (S.goes sink.old (delivered run.now) sink.new) }
-        ensures calm { OnOk result (S.failures sink.new ≡ S.failures sink.old) }
+        ensures taken { OnOk result (TakesPiece S.goes S.failures self.old run.now self.new sink.old sink.new) }
 
         // With the refused octet no text can continue from them, or the sink stopped.
         ensures failed { OnErr result (self.new ≡ None) }
-        ensures before { IfErr result (λ fault. fault.taken < length run.now) }
-        ensures refused { IfErr result (Refuses self.old run.now) }
-        ensures told_front { IfErr result (λ fault.
-            S.goes sink.old (delivered (take fault.taken run.now)) sink.new) }
-        ensures counted { IfErr result (λ fault.
-            CountsCause (S.failures sink.old) (S.failures sink.new) fault.cause) }
+        ensures refused { IfErr result (λ fault.
+            RefusesOne S.goes S.failures self.old run.now fault sink.old sink.new) }
     {
         match take_piece(self.held.unwrap(), run, sink) {
             Ok(held) => {

@@ -1,16 +1,16 @@
 //! Where the text of a story goes.
 
 ghost use Rattle.std.specs.Prelude.{◌≡◌, ◌<◌, ◌++◌, [], ◌∷◌, List, ℕ, length, map, take, IfErr, OnOk, OnErr};
-ghost use Rattle.iim_dataset.specs.Devices.{Rose};
-ghost use Rattle.wire_story.specs.Texts.{IsLine};
-ghost use Rattle.wire_story.specs.Delivery.{Event, LineOctet, LineEnd};
+ghost use Rattle.iim_dataset.specs.Format.Devices.{Rose};
+ghost use Rattle.wire_story.specs.Format.Texts.{IsLine};
+ghost use Rattle.wire_story.specs.Format.Delivery.{StoryEvent, LineOctet, LineEnd};
 
 use iim_dataset::Stop;
 
 /// Where the text of a story goes: octets of lines, and ends of lines. A sink may refuse any of them.
 pub trait StorySink {
     /// From one value to another by these events, told in this order.
-    ghost goes: { Self → List Event → Self → Type 0 };
+    ghost goes: { Self → List StoryEvent → Self → Type 0 };
 
     /// How often a call was refused. A stored count that stands at the greatest number of 64 bits may stay there.
     ghost failures: { Self → ℕ };
@@ -36,5 +36,5 @@ pub trait StorySink {
     ghost nothing: { (sink : Self) → goes sink [] sink };
 
     /// Events and then others lead where all of them joined lead.
-    ghost joined: { (a b c : Self) (xs ys : List Event) → goes a xs b → goes b ys c → goes a (xs ++ ys) c };
+    ghost joined: { (a b c : Self) (xs ys : List StoryEvent) → goes a xs b → goes b ys c → goes a (xs ++ ys) c };
 }

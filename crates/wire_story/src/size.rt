@@ -1,13 +1,12 @@
 //! How long a text is where it is packed.
 
 ghost use Rattle.std.specs.Prelude.{◌≡◌, ◌≤◌, ◌↔◌, ◌==◌, length, count_by, IsSome, IfSome};
-ghost use Rattle.wire_story.specs.Texts.{packed_text, greatest_size};
+ghost use Rattle.wire_story.specs.Format.Texts.{packed_text};
+ghost use Rattle.iim_dataset.specs.Format.Octets.{greatest_size};
 
-use crate::line::LF;
 use crate::lines::Lines;
-
-/// No object is longer.
-const MAX_SIZE: u64 = 4_294_967_295;
+use iim_dataset::GREATEST_SIZE;
+use iim_dataset::octets::LF;
 
 /// How many line ends stand in lines that are joined by LF.
 fn line_ends(octets: &[u8]) -> usize
@@ -23,5 +22,9 @@ pub fn text_len(lines: &Lines) -> Option<u64>
 {
     let octets = lines.octets();
     let len = (octets.len() as u64).checked_add(line_ends(octets) as u64)?;
-    if len <= MAX_SIZE { Some(len) } else { None }
+    if len <= GREATEST_SIZE {
+        Some(len)
+    } else {
+        None
+    }
 }

@@ -1,20 +1,19 @@
-//! How a piece of a text is read after so many held CR: by the longest runs that lie in one line, and else octet by octet.
+//! How a piece of a text is read after some held CR or none: by the longest runs that lie in one line, and else octet by octet.
 
-ghost use Rattle.std.specs.Prelude.{◌≡◌, ◌<◌, ◌≤◌, false, [], ◌∷◌, length, drop, slice_index, take, Some, IfErr, IfOk, OnOk, OnErr};
-ghost use Rattle.wire_story.specs.Texts.{is_line_octet, IsLine};
-ghost use Rattle.wire_story.specs.Delivery.{delivered};
-ghost use Rattle.wire_story.specs.Marking.{AreMarks};
-ghost use Rattle.wire_story.specs.Reading.{GoesOn, Refuses, CountsCause};
+ghost use Rattle.std.specs.Prelude.{◌≡◌, ◌<◌, ◌≤◌, false, [], ◌∷◌, length, drop, slice_index, take, Some, IfErr, IfOk, OnOk};
+ghost use Rattle.wire_story.specs.Format.Texts.{is_line_octet, IsLine};
+ghost use Rattle.wire_story.specs.Format.Reading.{TakesPiece, RefusesOne};
+ghost use Rattle.wire_story.specs.Marking.{AreMarks, IsFront};
 
 use crate::fault::{TextCause, TextFault};
-use crate::line::{CR, LF};
 use crate::marks::Marks;
 use crate::sink::StorySink;
+use iim_dataset::octets::{CR, LF};
 
-/// So many CR may stand before an LF.
+/// The most CR that may stand before an LF.
 const MAX_RETURNS: u8 = 2;
 
-/// The length of the longest front that lies in one line, after so many held CR, and the marks after it.
+/// The length of the longest front that lies in one line, after `held` CR, and the marks after it.
 #[inline(always)]
 fn run_len(held: u8, marks: Marks, octets: &[u8]) -> (usize, Marks)
     requires { AreMarks octets.now marks }
@@ -37,13 +36,10 @@ fn take_mark<S: StorySink>(held: u8, octet: u8, sink: &mut S) -> Result<u8, Text
     requires few { held ≤ 2 }
     requires mark { held ≡ 0 → is_line_octet octet ≡ false }
     ensures few { IfOk result (λ now. now ≤ 2) }
-    ensures goes_on { IfOk result (λ now. GoesOn (Some held) (octet ∷ []) (Some now)) }
-    ensures told { OnOk result (S.goes sink.old (delivered (octet ∷ [])) sink.new) }
-    ensures calm { OnOk result (S.failures sink.new ≡ S.failures sink.old) }
+    ensures taken { IfOk result (λ now.
+        TakesPiece S.goes S.failures (Some held) (octet ∷ []) (Some now) sink.old sink.new) }
     ensures refused { IfErr result (λ cause.
-        Refuses (Some held) (octet ∷ []) (record { taken = 0; cause = cause })) }
-    ensures silent { OnErr result (S.goes sink.old [] sink.new) }
-    ensures counted { IfErr result (CountsCause (S.failures sink.old) (S.failures sink.new)) }
+        RefusesOne S.goes S.failures (Some held) (octet ∷ []) (record { taken = 0; cause = cause }) sink.old sink.new) }
 {
     if octet == LF {
         return match sink.line_end() {
@@ -69,15 +65,10 @@ fn take_run<S: StorySink>(held: u8, run: usize, rest: &[u8], sink: &mut S) -> Re
     requires within { run ≤ length rest.now }
     requires line { IsLine (take run rest.now) }
     requires held { 0 < run → held ≡ 0 }
-    ensures goes_on { OnOk result (GoesOn (Some held) (take run rest.now) (Some held)) }
-    ensures told { OnOk result (S.goes sink.old (delivered (take run rest.now)) sink.new) }
-    ensures calm { OnOk result (S.failures sink.new ≡ S.failures sink.old) }
-    ensures before { IfErr result (λ fault. fault.taken < length rest.now) }
-    ensures refused { IfErr result (Refuses (Some held) rest.now) }
-    ensures told_front { IfErr result (λ fault.
-        S.goes sink.old (delivered (take fault.taken rest.now)) sink.new) }
-    ensures counted { IfErr result (λ fault.
-        CountsCause (S.failures sink.old) (S.failures sink.new) fault.cause) }
+    ensures taken { OnOk result (
+        TakesPiece S.goes S.failures (Some held) (take run rest.now) (Some held) sink.old sink.new) }
+    ensures refused { IfErr result (λ fault.
+        RefusesOne S.goes S.failures (Some held) rest.now fault sink.old sink.new) }
 {
     if run == 0 {
         return Ok(());
@@ -103,21 +94,11 @@ fn take_front<S: StorySink>(
     requires few { held ≤ 2 }
     requires some { 0 < length rest.now }
     requires marks { AreMarks rest.now marks }
-    ensures few { IfOk result (λ front. front.0 ≤ 2) }
-    ensures some { IfOk result (λ front. 0 < front.1) }
-    ensures within { IfOk result (λ front. front.1 ≤ length rest.now) }
-    ensures marks { IfOk result (λ front. AreMarks (drop front.1 rest.now) front.2) }
-    ensures goes_on { IfOk result (λ front.
-        GoesOn (Some held) (take front.1 rest.now) (Some front.0)) }
-    ensures told { IfOk result (λ front.
-        S.goes sink.old (delivered (take front.1 rest.now)) sink.new) }
-    ensures calm { OnOk result (S.failures sink.new ≡ S.failures sink.old) }
-    ensures before { IfErr result (λ fault. fault.taken < length rest.now) }
-    ensures refused { IfErr result (Refuses (Some held) rest.now) }
-    ensures told_front { IfErr result (λ fault.
-        S.goes sink.old (delivered (take fault.taken rest.now)) sink.new) }
-    ensures counted { IfErr result (λ fault.
-        CountsCause (S.failures sink.old) (S.failures sink.new) fault.cause) }
+    ensures front { IfOk result (λ front. IsFront rest.now front.0 front.1 front.2) }
+    ensures taken { IfOk result (λ front.
+        TakesPiece S.goes S.failures (Some held) (take front.1 rest.now) (Some front.0) sink.old sink.new) }
+    ensures refused { IfErr result (λ fault.
+        RefusesOne S.goes S.failures (Some held) rest.now fault sink.old sink.new) }
 {
     let (run, here) = run_len(held, marks, rest);
     match take_run(held, run, rest, sink) {
@@ -126,7 +107,7 @@ fn take_front<S: StorySink>(
                 return Ok((held, run, here));
             }
             match take_mark(held, rest[run], sink) {
-                Ok(now) => Ok((now, run + 1, here.behind(&rest[run..]))),
+                Ok(now) => Ok((now, run + 1, here.after(&rest[run..]))),
                 Err(cause) => Err(TextFault { taken: run, cause }),
             }
         }
@@ -134,7 +115,7 @@ fn take_front<S: StorySink>(
     }
 }
 
-/// Takes a piece after so many held CR, and answers how many are held then.
+/// Takes a piece after `held` CR, and answers how many are held then.
 pub(crate) fn take_piece<S: StorySink>(
     held: u8,
     piece: &[u8],
@@ -142,24 +123,19 @@ pub(crate) fn take_piece<S: StorySink>(
 ) -> Result<u8, TextFault>
     requires { held ≤ 2 }
     ensures few { IfOk result (λ now. now ≤ 2) }
-    ensures goes_on { IfOk result (λ now. GoesOn (Some held) piece.now (Some now)) }
-    ensures told { OnOk result (S.goes sink.old (delivered piece.now) sink.new) }
-    ensures calm { OnOk result (S.failures sink.new ≡ S.failures sink.old) }
-    ensures before { IfErr result (λ fault. fault.taken < length piece.now) }
-    ensures refused { IfErr result (Refuses (Some held) piece.now) }
-    ensures told_front { IfErr result (λ fault.
-        S.goes sink.old (delivered (take fault.taken piece.now)) sink.new) }
-    ensures counted { IfErr result (λ fault.
-        CountsCause (S.failures sink.old) (S.failures sink.new) fault.cause) }
+    ensures taken { IfOk result (λ now.
+        TakesPiece S.goes S.failures (Some held) piece.now (Some now) sink.old sink.new) }
+    ensures refused { IfErr result (λ fault.
+        RefusesOne S.goes S.failures (Some held) piece.now fault sink.old sink.new) }
 {
     let mut now = held;
     let mut at = 0;
     let mut marks = Marks::new();
     while at < piece.len() {
         match take_front(now, &piece[at..], marks, sink) {
-            Ok((next, used, behind)) => {
+            Ok((next, used, after)) => {
                 now = next;
-                marks = behind;
+                marks = after;
                 at += used;
             }
             Err(fault) => {

@@ -1,16 +1,13 @@
 //! A sink that counts words.
 
 ghost use Rattle.std.specs.Prelude.{◌≡◌, ◌∷◌, [], false, map, IsOk};
-ghost use Rattle.wire_story.specs.Delivery.{LineOctet, LineEnd};
-ghost use Rattle.wire_story.specs.Words.{WordsSoFar, is_word_octet, CountsWords};
+ghost use Rattle.wire_story.specs.Format.Delivery.{LineOctet, LineEnd};
+ghost use Rattle.wire_story.specs.Format.Words.{WordsSoFar, is_word_octet, CountsWords};
 
 use crate::sink::StorySink;
 use iim_dataset::Stop;
+use iim_dataset::octets::{SP, TAB};
 use std::marker::Model;
-
-const TAB: u8 = 0x09;
-
-const SP: u8 = 0x20;
 
 /// A count of the words that are told. A word is a longest run, inside one line, of octets other than SP and TAB.
 /// The count stays at the greatest number of 64 bits once there. It takes everything and keeps nothing.
@@ -71,7 +68,7 @@ impl StorySink for WordCount {
 
     ghost failures = { λ sink. 0 };
 
-    ghost use Rattle.wire_story.specs.WordLaws.{counts_nothing, counts_joined};
+    ghost use Rattle.wire_story.specs.CountingLaws.{counts_nothing, counts_joined};
 
     ghost nothing = { counts_nothing };
 

@@ -1,12 +1,12 @@
 //! A sink that writes the lines joined by LF.
 
 ghost use Rattle.std.specs.Prelude.{◌≡◌, ◌<◌, [], ◌∷◌, length, map, take, IfErr, OnOk, OnErr};
-ghost use Rattle.iim_dataset.specs.Devices.{Rose, Wrote, Stopped};
-ghost use Rattle.wire_story.specs.Texts.{IsLine};
-ghost use Rattle.wire_story.specs.Delivery.{LineOctet, LineEnd};
+ghost use Rattle.iim_dataset.specs.Format.Devices.{Rose, Wrote, Stopped};
+ghost use Rattle.wire_story.specs.Format.Texts.{IsLine};
+ghost use Rattle.wire_story.specs.Format.Delivery.{LineOctet, LineEnd};
 
-use crate::line::LF;
 use crate::sink::StorySink;
+use iim_dataset::octets::LF;
 use iim_dataset::{Stop, Target, put};
 
 /// A sink that writes the lines joined by LF to a target. It counts its stops up to the greatest number of 64 bits.
@@ -17,7 +17,7 @@ pub struct LineWriter<W> {
 }
 
 impl<W: Target> LineWriter<W> {
-    ghost use Rattle.wire_story.specs.Writing.{writer_of, device_of, stops_of, WritesOctets};
+    ghost use Rattle.wire_story.specs.Format.Writing.{writer_of, device_of, stops_of, WritesOctets};
 
     /// A sink that writes lines to this target.
     pub fn new(writer: W) -> LineWriter<W>
@@ -57,7 +57,7 @@ impl<W: Target> LineWriter<W> {
 }
 
 impl<W: Target> StorySink for LineWriter<W> {
-    ghost use Rattle.wire_story.specs.Writing.{device_of, stops_of, WritesLines};
+    ghost use Rattle.wire_story.specs.Format.Writing.{device_of, stops_of, WritesLines};
 
     ghost goes = { WritesLines W.state };
 

@@ -2,10 +2,10 @@
 use Rattle.std.specs.Prelude.{ℤ, pos, ◌-ℤ◌, ◌*ℤ◌, ◌≤ℤ◌, Option, List}
 use Rattle.std.specs.Int.{int_div_euclid}
 use Rattle.std.specs.Option.{option_map}
-use Rattle.iim_dataset.specs.Datasets.{Dataset}
-use Rattle.iim_fields.specs.Views.{instant_sent}
+use Rattle.iim_dataset.specs.Format.Datasets.{Dataset}
+use Rattle.iim_fields.specs.Format.Views.{instant_sent}
 
--- the whole seconds in so many nanoseconds, rounded down
+-- the whole seconds in `nanoseconds` nanoseconds, rounded down
 abbrev pub whole_seconds : ℤ → ℤ
 whole_seconds nanoseconds = int_div_euclid nanoseconds (pos 1000000000)
 

@@ -1,17 +1,17 @@
 -- What an audit answers, by the octets that its intake has next in line.
 use Rattle.std.specs.Prelude.{◌≡◌, ℕ, ◌+◌, ◌<◌, ◌≤◌, ◌⊎◌, ℤ, List, [], length}
 use Rattle.std.specs.Io.KnownBytes.{IsAtEnd}
-use Rattle.iim_dataset.specs.Devices.{Device}
-use Rattle.iim_dataset.specs.DeviceLaws.{HasGiven, MissedBehind}
+use Rattle.iim_dataset.specs.Format.Devices.{Device}
+use Rattle.iim_dataset.specs.Format.DeviceLaws.{HasGiven, MissedAfter}
 use Rattle.iim_dataset.specs.declared.device.IoFault.{IoFault}
 use Rattle.iim_dataset.specs.declared.device.IoFault.TheVariants as io
 use Rattle.iim_fields.specs.declared.limits.Limits.{Limits}
 use Rattle.iim_unpack.specs.Format.Listing.{Listed, Divides, max_envelopes, values_of}
 use Rattle.iim_unpack.specs.Format.Open.{IsOpen}
-use Rattle.iim_unpack.specs.Unpacking.{failed_at}
+use Rattle.iim_unpack.specs.Format.Unpacking.{failed_at}
 use Rattle.iim_unpack.specs.declared.refusal.Refusal.{Refusal}
 use Rattle.iim_audit.specs.Format.Rows.{report_of}
-use Rattle.iim_audit.specs.Taking.{IsStopped}
+use Rattle.iim_audit.specs.Format.Taking.{IsStopped}
 use Rattle.iim_audit.specs.declared.fault.AuditCause.{AuditCause}
 use Rattle.iim_audit.specs.declared.fault.AuditCause.TheVariants as causes
 use Rattle.iim_audit.specs.declared.row.AuditRow.{AuditRow}
@@ -44,7 +44,7 @@ pub record IsMissedAt (limits : Limits) (old new : Device) (number : ℕ) (fault
   pub envelopes : List Listed
   pub rest : List ℕ
   pub input : List ℕ
-  pub missed : MissedBehind old new input fault
+  pub missed : MissedAfter old new input fault
   pub divides : Divides limits input envelopes rest
   pub listed : length envelopes ≤ max_envelopes
   pub in_hand : number ≡ length envelopes + 1

@@ -2,9 +2,9 @@
 use Rattle.std.specs.Prelude.{ℕ, ◌+◌, ℤ, if◌then◌else◌, List, [], ◌∷◌, ◌++◌, map, Option, Some, None}
 use Rattle.std.specs.Option.{option_and_then, unwrap_or}
 use Rattle.std.specs.Str.Parse.{digits_value}
-use Rattle.iim_fields.specs.Ids.{Identity, id_eq}
-use Rattle.iim_fields.specs.Views.{first_data}
-use Rattle.wire_story.specs.Words.{words, capped}
+use Rattle.iim_fields.specs.Format.Ids.{Identity, id_eq}
+use Rattle.iim_fields.specs.Format.Views.{first_data}
+use Rattle.wire_story.specs.Format.Words.{words, capped}
 use Rattle.iim_unpack.specs.Format.Admitted.{Value}
 use Rattle.iim_audit.specs.Format.Ages.{age_at}
 use Rattle.iim_audit.specs.declared.row.AuditRow.{AuditRow}

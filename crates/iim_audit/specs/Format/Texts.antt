@@ -2,7 +2,7 @@
 use Rattle.std.specs.Prelude.{ℕ, ◌+◌, ℤ, List, [], ◌∷◌, ◌++◌, length, count_by, codes, decimal, Option, Some, None, is_some}
 use Rattle.std.specs.Fmt.{signed_decimal}
 use Rattle.std.specs.Option.{unwrap_or}
-use Rattle.iim_dataset.specs.Shown.{shown}
+use Rattle.iim_dataset.specs.Format.Shown.{shown}
 use Rattle.iim_audit.specs.declared.row.AuditRow.{AuditRow}
 
 -- a digit, or `-` where there is none

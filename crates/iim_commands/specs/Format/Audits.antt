@@ -1,7 +1,7 @@
 -- What `audit` leaves.
 use Rattle.std.specs.Prelude.{◌≡◌, ℕ, ℤ, ◌⊎◌, List}
-use Rattle.iim_dataset.specs.Devices.{Device, Wrote, Stopped}
-use Rattle.iim_dataset.specs.DeviceLaws.{HasGiven}
+use Rattle.iim_dataset.specs.Format.Devices.{Device, Wrote, Stopped}
+use Rattle.iim_dataset.specs.Format.DeviceLaws.{HasGiven}
 use Rattle.iim_audit.specs.Format.Auditing.{IsAudited, FailsAt}
 use Rattle.iim_audit.specs.Format.Texts.{text_of}
 use Rattle.iim_audit.specs.declared.fault.AuditCause.{AuditCause}
@@ -9,8 +9,8 @@ use Rattle.iim_audit.specs.declared.fault.AuditCause.TheVariants as causes
 use Rattle.iim_audit.specs.declared.row.AuditRow.{AuditRow}
 use Rattle.iim_commands.specs.Format.Lines.{refused_line, too_many_line}
 use Rattle.iim_commands.specs.Format.Listings.{limits}
-use Rattle.iim_commands.specs.declared.fault.Fault.{Fault}
-use Rattle.iim_commands.specs.declared.fault.Fault.TheVariants.{CannotRead, CannotWrite, OutOfMemory}
+use Rattle.iim_commands.specs.declared.fault.CommandFault.{CommandFault}
+use Rattle.iim_commands.specs.declared.fault.CommandFault.TheVariants.{CannotRead, CannotWrite, OutOfMemory}
 
 -- The line tells why there is no report, at the envelope of this number: its octets are refused, or it is one too many.
 abbrev pub TellsWhy : ℕ → AuditCause → List ℕ → Type 0
@@ -21,7 +21,7 @@ TellsWhy number causes.Interrupted words = ⊥
 TellsWhy number causes.OutOfMemory words = ⊥
 
 -- A failed reader is told as that. Memory may be short for any line.
-abbrev pub CannotTell : AuditCause → Fault → Type 0
+abbrev pub CannotTell : AuditCause → CommandFault → Type 0
 CannotTell causes.Read fault = fault ≡ CannotRead
 CannotTell causes.Interrupted fault = fault ≡ CannotRead
 CannotTell cause fault = fault ≡ OutOfMemory
@@ -37,7 +37,7 @@ abbrev pub Audited : ℤ → Device → Device → Device → Device → ℕ →
 Audited now source rest old new status = (words : List ℕ) × IsAnswer now source rest words status × Wrote old new words
 
 -- Why it isn't out. The reader failed, or memory was short: nothing is out. Or the output broke inside it.
-abbrev pub IsUnaudited : ℤ → Device → Device → Device → Device → Fault → Type 0
+abbrev pub IsUnaudited : ℤ → Device → Device → Device → Device → CommandFault → Type 0
 IsUnaudited now source rest old new CannotRead = (number : ℕ) × (FailsAt limits source rest number causes.Read ⊎ FailsAt limits source rest number causes.Interrupted)
     × (new ≡ old)
 IsUnaudited now source rest old new CannotWrite = (words : List ℕ) × (status : ℕ) × (n : ℕ) × IsAnswer now source rest words status × Stopped old new words n

@@ -1,6 +1,6 @@
 -- The devices of a run.
 use Rattle.std.specs.Prelude.{◌≡◌, ⊤, List, ℕ, Option, Some, None}
-use Rattle.iim_dataset.specs.Devices.{Device}
+use Rattle.iim_dataset.specs.Format.Devices.{Device}
 
 -- The octets of a device, where they are known, are these.
 abbrev pub Holds : Option (List ℕ) → List ℕ → Type 0

@@ -2,8 +2,8 @@
 use Rattle.std.specs.Prelude.{ℕ, ◌+◌, length, List, [], ◌∷◌, ◌++◌, codes, decimal}
 use Rattle.iim_unpack.specs.Format.Names.{refusal_text}
 use Rattle.iim_unpack.specs.declared.refusal.Refusal.{Refusal}
-use Rattle.iim_commands.specs.declared.fault.Fault.{Fault}
-use Rattle.iim_commands.specs.declared.fault.Fault.TheVariants.{CannotRead, CannotWrite, OutOfMemory}
+use Rattle.iim_commands.specs.declared.fault.CommandFault.{CommandFault}
+use Rattle.iim_commands.specs.declared.fault.CommandFault.TheVariants.{CannotRead, CannotWrite, OutOfMemory}
 use Rattle.iim_commands.specs.Format.Listings.{Ending, Envelope, Whole, RefusedBy, TooMany, told}
 
 -- the line of an accepted envelope: its number, and how many octets it has
@@ -23,7 +23,7 @@ abbrev pub too_many_line : List ℕ
 too_many_line = codes "too many envelopes\n"
 
 -- the line that tells a fault
-abbrev pub fault_line : Fault → List ℕ
+abbrev pub fault_line : CommandFault → List ℕ
 fault_line CannotRead = codes "cannot read\n"
 fault_line CannotWrite = codes "cannot write\n"
 fault_line OutOfMemory = codes "out of memory\n"
@@ -33,7 +33,7 @@ abbrev pub texts_from : (ℕ → Envelope → List ℕ) → ℕ → List Envelop
 texts_from text n [] = []
 texts_from text n (e ∷ es) = text n e ++ texts_from text (n + 1) es
 
--- the last line, after so many envelopes
+-- the last line, after `count` envelopes
 abbrev pub ending_line : ℕ → Ending → List ℕ
 ending_line count Whole = []
 ending_line count (RefusedBy refusal) = refused_line (count + 1) refusal

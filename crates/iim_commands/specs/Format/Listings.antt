@@ -2,13 +2,13 @@
 use Rattle.std.specs.Prelude.{◌≡◌, ◌≢◌, ℕ, ◌≤◌, ◌⊎◌, List, [], ◌∷◌, ◌++◌, length}
 use Rattle.std.specs.List.{AllByRecursion}
 use Rattle.iim_fields.specs.declared.limits.Limits.{Limits}
-use Rattle.wire_story.specs.Delivery.{Event, delivered}
+use Rattle.wire_story.specs.Format.Delivery.{StoryEvent, delivered}
 use Rattle.iim_unpack.specs.Format.Admitted.{Value, Admits}
 use Rattle.iim_unpack.specs.Format.Framed.{AreWithin}
 pub use Rattle.iim_unpack.specs.Format.Listing.{max_envelopes}
-use Rattle.iim_unpack.specs.Intakes.{IsRefusedOf, IsTruncatedIn}
+use Rattle.iim_unpack.specs.Format.Intakes.{IsRefusedOf, IsTruncatedIn}
 use Rattle.iim_unpack.specs.Format.Open.{IsTextOf}
-use Rattle.iim_unpack.specs.Unpacking.{raised}
+use Rattle.iim_unpack.specs.Format.Unpacking.{raised}
 use Rattle.iim_unpack.specs.declared.refusal.Refusal.{Refusal}
 use Rattle.iim_unpack.specs.declared.refusal.Cause.TheVariants.{Sink}
 
@@ -22,7 +22,7 @@ pub record Envelope : Type 0 where
   pub value : Value
 
 -- Its octets are admitted with its value, within the limits.
-pub record IsEnvelope (e : Envelope) : Type 0 where
+pub record IsListed (e : Envelope) : Type 0 where
   pub admits : Admits e.octets e.value
   pub within : AreWithin limits admits.datasets
 
@@ -33,7 +33,7 @@ joined (e ∷ es) = e.octets ++ joined es
 
 -- The input is these envelopes, joined, and a rest; and they are not too many to be listed.
 pub record Divides (input : List ℕ) (envelopes : List Envelope) (rest : List ℕ) : Type 0 where
-  pub admitted : AllByRecursion IsEnvelope envelopes
+  pub admitted : AllByRecursion IsListed envelopes
   pub parts : input ≡ joined envelopes ++ rest
   pub few : length envelopes ≤ max_envelopes
 
@@ -44,14 +44,14 @@ told n = raised 0 n
 -- Every layer can continue from the first k octets, and no envelope ends with them. The next octet completes the first token with
 -- which a layer can't.
 pub record IsDead (rest : List ℕ) (k : ℕ) (e : Refusal) : Type 0 where
-  pub text : List Event
+  pub text : List StoryEvent
   pub refused : IsRefusedOf limits [] 0 rest text e
   pub before : k ≡ refused.k
   pub by_octets : e.cause ≢ Sink
 
 -- Every layer can continue from the octets, which are some, and which end there.
 pub record IsTruncated (rest : List ℕ) (e : Refusal) : Type 0 where
-  pub text : List Event
+  pub text : List StoryEvent
   pub refused : IsTruncatedIn limits [] 0 rest text e
 
 -- The octets are refused after the first k of them.
@@ -59,7 +59,7 @@ abbrev pub IsRefusedAfter : List ℕ → ℕ → Refusal → Type 0
 IsRefusedAfter rest k e = (IsTruncated rest e × (k ≡ length rest)) ⊎ IsDead rest k e
 
 -- What is delivered of the text in the octets is this.
-abbrev pub IsDelivered : List ℕ → List Event → Type 0
+abbrev pub IsDelivered : List ℕ → List StoryEvent → Type 0
 IsDelivered octets more = (text : List ℕ) × IsTextOf octets text × (more ≡ delivered text)
 
 -- What stands after the envelopes: nothing, octets that are refused, or one envelope too many.
@@ -68,11 +68,11 @@ pub data Ending : Type 0 where
   RefusedBy : Refusal → Ending
   TooMany : Ending
 
--- The octets after so many envelopes are this ending.
+-- The octets after `count` envelopes are this ending.
 abbrev pub EndsBy : ℕ → List ℕ → Ending → Type 0
 EndsBy count rest Whole = rest ≡ []
 EndsBy count rest (RefusedBy refusal) = (k : ℕ) × IsRefusedAfter rest k refusal
-EndsBy count rest TooMany = (count ≡ max_envelopes) × (e : Envelope) × IsEnvelope e × (more : List ℕ) × (rest ≡ e.octets ++ more)
+EndsBy count rest TooMany = (count ≡ max_envelopes) × (e : Envelope) × IsListed e × (more : List ℕ) × (rest ≡ e.octets ++ more)
 
 -- The listing of an input: the envelopes that it begins with, and what stands after them.
 pub record IsListing (input : List ℕ) (envelopes : List Envelope) (ending : Ending) : Type 0 where

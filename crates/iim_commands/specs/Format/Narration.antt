@@ -2,18 +2,18 @@
 use Rattle.std.specs.Prelude.{◌≡◌, ℕ, ◌≤◌, ◌⊎◌, List, [], ◌∷◌, ◌++◌, length, map, take}
 use Rattle.std.specs.Io.KnownBytes.{Appends}
 use Rattle.std.specs.List.{join_with_byte}
-use Rattle.iim_dataset.specs.Devices.{Device, Wrote, Stopped, Unfailed}
-use Rattle.iim_dataset.specs.DeviceLaws.{HasGiven, MissedBehind}
+use Rattle.iim_dataset.specs.Format.Devices.{Device, Wrote, Stopped, Unfailed}
+use Rattle.iim_dataset.specs.Format.DeviceLaws.{HasGiven, MissedAfter}
 use Rattle.iim_dataset.specs.declared.device.IoFault.{IoFault}
-use Rattle.wire_story.specs.Delivery.{Event, events_of_lines, octet_for}
-use Rattle.wire_story.specs.Writing.{HasBroken}
+use Rattle.wire_story.specs.Format.Delivery.{StoryEvent, events_of_lines, octet_for}
+use Rattle.wire_story.specs.Format.Writing.{HasBroken}
 use Rattle.iim_unpack.specs.Format.Admitted.{Value, Admits}
 use Rattle.iim_unpack.specs.Format.Open.{IsOpen}
-use Rattle.iim_commands.specs.declared.fault.Fault.{Fault}
-use Rattle.iim_commands.specs.declared.fault.Fault.TheVariants.{CannotRead, CannotWrite, OutOfMemory}
+use Rattle.iim_commands.specs.declared.fault.CommandFault.{CommandFault}
+use Rattle.iim_commands.specs.declared.fault.CommandFault.TheVariants.{CannotRead, CannotWrite, OutOfMemory}
 use Rattle.iim_commands.specs.Format.Devices.{Holds}
 use Rattle.iim_commands.specs.Format.Lines.{line_of, report, status_of, texts_from}
-use Rattle.iim_commands.specs.Format.Listings.{limits, Divides, Ending, Whole, RefusedBy, TooMany, EndsBy, Envelope, IsDelivered, IsEnvelope, IsListing, IsRefusedAfter}
+use Rattle.iim_commands.specs.Format.Listings.{limits, Divides, Ending, Whole, RefusedBy, TooMany, EndsBy, Envelope, IsDelivered, IsListed, IsListing, IsRefusedAfter}
 
 -- the text of an envelope: its lines, joined by LF
 abbrev pub text_of : Envelope → List ℕ
@@ -29,14 +29,14 @@ stories envelopes = texts_from story_of 1 envelopes
 
 -- The words are what is delivered of the text in the octets, each line end as LF.
 abbrev pub IsTextIn : List ℕ → List ℕ → Type 0
-IsTextIn octets words = (more : List Event) × IsDelivered octets more × (words ≡ map octet_for more)
+IsTextIn octets words = (more : List StoryEvent) × IsDelivered octets more × (words ≡ map octet_for more)
 
 -- What is written of the octets after the envelopes: of refused ones the text before the refused one, and of one envelope too many
 -- its text, without an LF.
 abbrev pub LeavesText : List ℕ → Ending → List ℕ → Type 0
 LeavesText rest Whole words = words ≡ []
 LeavesText rest (RefusedBy refusal) words = (k : ℕ) × IsRefusedAfter rest k refusal × IsTextIn (take k rest) words
-LeavesText rest TooMany words = (e : Envelope) × IsEnvelope e × (more : List ℕ) × (rest ≡ e.octets ++ more) × (words ≡ text_of e)
+LeavesText rest TooMany words = (e : Envelope) × IsListed e × (more : List ℕ) × (rest ≡ e.octets ++ more) × (words ≡ text_of e)
 
 -- The listing of an input, and what is written of the octets after its envelopes.
 pub record IsNarration (input : List ℕ) (envelopes : List Envelope) (ending : Ending) (words : List ℕ) : Type 0 where
@@ -55,7 +55,7 @@ Narrated source rest old new errors_old errors_new status =
 
 -- The octets are an envelope.
 abbrev pub AreEnvelope : List ℕ → Type 0
-AreEnvelope octets = (e : Envelope) × IsEnvelope e × (e.octets ≡ octets)
+AreEnvelope octets = (e : Envelope) × IsListed e × (e.octets ≡ octets)
 
 -- The output broke after these stories, and inside the text of the octets: the words are out, which are the text in the first k. If
 -- that is all of them, then they are an envelope, and the LF after its text was refused.
@@ -75,10 +75,10 @@ BreaksInLines old new errors_old errors_new envelopes rest = (told : List ℕ) �
 -- Why not all is told. A read failed after envelopes and octets that every layer can continue from. Or the output broke inside a story,
 -- or the errors inside their lines. Or memory was short: the stories of some of the envelopes that came are out, and of octets
 -- after them the text in the first k.
-abbrev pub IsUnnarrated : Device → Device → Device → Device → Device → Device → Fault → Type 0
+abbrev pub IsUnnarrated : Device → Device → Device → Device → Device → Device → CommandFault → Type 0
 IsUnnarrated source rest old new errors_old errors_new CannotRead =
     (input : List ℕ) × (envelopes : List Envelope) × (begun : List ℕ) × (fault : IoFault) × (words : List ℕ)
-    × Divides input envelopes begun × IsOpen limits begun × MissedBehind source rest input fault × IsTextIn begun words
+    × Divides input envelopes begun × IsOpen limits begun × MissedAfter source rest input fault × IsTextIn begun words
     × Wrote old new (stories envelopes ++ words) × Wrote errors_old errors_new (texts_from line_of 1 envelopes)
 IsUnnarrated source rest old new errors_old errors_new CannotWrite =
     (input : List ℕ) × (envelopes : List Envelope) × (begun : List ℕ) × Divides input envelopes begun × HasGiven source rest input
@@ -93,4 +93,4 @@ IsUnnarrated source rest old new errors_old errors_new OutOfMemory =
 
 -- What is delivered of the text in an envelope is its lines.
 abbrev pub EnvelopesAreDeliveredAsLines : Type 0
-EnvelopesAreDeliveredAsLines = (octets : List ℕ) (v : Value) (more : List Event) → Admits octets v → IsDelivered octets more → more ≡ events_of_lines v.lines
+EnvelopesAreDeliveredAsLines = (octets : List ℕ) (v : Value) (more : List StoryEvent) → Admits octets v → IsDelivered octets more → more ≡ events_of_lines v.lines

@@ -1,25 +1,25 @@
 -- What `pack` leaves of its input, its output and its errors.
 use Rattle.std.specs.Prelude.{◌≡◌, ◌≢◌, ℕ, ◌+◌, ◌<◌, ◌≤◌, ◌⊎◌, Bool, true, false, List, ◌++◌, length, codes, decimal, Option, Some}
 use Rattle.std.specs.Io.KnownBytes.{IsAtEnd}
-use Rattle.iim_tables.specs.Numbers.{greatest_size}
-use Rattle.iim_dataset.specs.Datasets.{Dataset}
-use Rattle.iim_dataset.specs.Devices.{Device, Wrote}
-use Rattle.iim_dataset.specs.DeviceLaws.{BrokeAfter, HasGiven, MissedBehind}
+use Rattle.iim_dataset.specs.Format.Octets.{greatest_size}
+use Rattle.iim_dataset.specs.Format.Datasets.{Dataset}
+use Rattle.iim_dataset.specs.Format.Devices.{Device, Wrote}
+use Rattle.iim_dataset.specs.Format.DeviceLaws.{BrokeAfter, HasGiven, MissedAfter}
 use Rattle.iim_dataset.specs.declared.device.IoFault.{IoFault}
-use Rattle.iim_object.specs.Writing.{Begins}
+use Rattle.iim_object.specs.Format.Writing.{Begins}
 use Rattle.iim_object.specs.declared.plan.Plan.{Plan}
 use Rattle.iim_object.specs.declared.size.Size.{Size}
 use Rattle.iim_object.specs.declared.size.Size.TheVariants.{Known, Unknown}
-use Rattle.wire_message.specs.Messages.{Header}
-use Rattle.wire_message.specs.Canonical.{canonical}
+use Rattle.wire_message.specs.Format.Messages.{Header}
+use Rattle.wire_message.specs.Format.Canonical.{canonical}
 use Rattle.iim_pack.specs.Format.Packed.{Packed}
 use Rattle.iim_script.specs.Format.Causes.{cause_name, cause_number}
 use Rattle.iim_script.specs.Format.Faults.{IsScriptFault}
 use Rattle.iim_script.specs.Format.Scripts.{IsScript, max_script}
 use Rattle.iim_script.specs.declared.fault.ScriptCause.{ScriptCause}
 use Rattle.iim_script.specs.declared.fault.ScriptCause.TheVariants as script
-use Rattle.iim_commands.specs.declared.fault.Fault.{Fault}
-use Rattle.iim_commands.specs.declared.fault.Fault.TheVariants.{CannotRead, CannotWrite, OutOfMemory}
+use Rattle.iim_commands.specs.declared.fault.CommandFault.{CommandFault}
+use Rattle.iim_commands.specs.declared.fault.CommandFault.TheVariants.{CannotRead, CannotWrite, OutOfMemory}
 use Rattle.iim_commands.specs.Format.Devices.{Devices}
 use Rattle.iim_commands.specs.Format.Listings.{limits}
 use Rattle.iim_commands.specs.Format.Reports.{IsTold}
@@ -106,8 +106,8 @@ abbrev pub IsRead : Device → Device → List ℕ → Type 0
 IsRead old new octets = HasGiven old new octets × ((IsAtEnd new.octets × (length octets ≤ max_script)) ⊎ (length octets ≡ max_script + 1))
 
 -- Why the input was not read: a read failed after no more octets than a script may have; or memory was short.
-abbrev pub IsUnread : Device → Device → Fault → Type 0
-IsUnread old new CannotRead = (octets : List ℕ) × (fault : IoFault) × (length octets ≤ max_script) × MissedBehind old new octets fault
+abbrev pub IsUnread : Device → Device → CommandFault → Type 0
+IsUnread old new CannotRead = (octets : List ℕ) × (fault : IoFault) × (length octets ≤ max_script) × MissedAfter old new octets fault
 IsUnread old new CannotWrite = ⊥
 IsUnread old new OutOfMemory = (octets : List ℕ) × (length octets ≤ max_script + 1) × HasGiven old new octets
 
@@ -133,7 +133,7 @@ Answered a old new status = (octets : List ℕ) × IsRead old.input new.input oc
     ⊎ ((text : List ℕ) × IsRefusal a octets text × (new.output ≡ old.output) × IsTold old.errors new.errors text 1 status))
 
 -- Why there is no answer: the input was not read; or memory was short; or the output broke. Only in the last case anything is written.
-abbrev pub IsUnanswered : Asked → Devices → Devices → Fault → Type 0
+abbrev pub IsUnanswered : Asked → Devices → Devices → CommandFault → Type 0
 IsUnanswered a old new CannotRead = IsUnread old.input new.input CannotRead × (new.output ≡ old.output)
 IsUnanswered a old new CannotWrite = (octets : List ℕ) × IsRead old.input new.input octets × IsBrokenOff a octets old.output new.output
 IsUnanswered a old new OutOfMemory = IsUnread old.input new.input OutOfMemory × (new.output ≡ old.output)

@@ -1,11 +1,11 @@
 -- Reports of inputs: `check` and `show`, each with its text of an envelope.
 use Rattle.std.specs.Prelude.{◌≡◌, ℕ, ◌⊎◌, List, length}
-use Rattle.iim_dataset.specs.Devices.{Device, Wrote, Stopped, Unfailed}
-use Rattle.iim_dataset.specs.DeviceLaws.{HasGiven, MissedBehind}
+use Rattle.iim_dataset.specs.Format.Devices.{Device, Wrote, Stopped, Unfailed}
+use Rattle.iim_dataset.specs.Format.DeviceLaws.{HasGiven, MissedAfter}
 use Rattle.iim_dataset.specs.declared.device.IoFault.{IoFault}
 use Rattle.iim_unpack.specs.Format.Open.{IsOpen}
-use Rattle.iim_commands.specs.declared.fault.Fault.{Fault}
-use Rattle.iim_commands.specs.declared.fault.Fault.TheVariants.{CannotRead, CannotWrite, OutOfMemory}
+use Rattle.iim_commands.specs.declared.fault.CommandFault.{CommandFault}
+use Rattle.iim_commands.specs.declared.fault.CommandFault.TheVariants.{CannotRead, CannotWrite, OutOfMemory}
 use Rattle.iim_commands.specs.Format.Devices.{Holds}
 use Rattle.iim_commands.specs.Format.Listings.{limits, Divides, Ending, EndsBy, Envelope, IsListing}
 use Rattle.iim_commands.specs.Format.Lines.{report, status_of, texts_from}
@@ -22,9 +22,9 @@ IsReport text envelopes rest words = (words ≡ texts_from text 1 envelopes)
 
 -- Why the report isn't out. A read failed after envelopes and octets that every layer can continue from: all these envelopes are
 -- reported. Or the output broke inside the report. Or memory was short: some of the envelopes that came are reported.
-abbrev pub IsUnreported : (ℕ → Envelope → List ℕ) → Device → Device → Device → Device → Fault → Type 0
+abbrev pub IsUnreported : (ℕ → Envelope → List ℕ) → Device → Device → Device → Device → CommandFault → Type 0
 IsUnreported text source rest old new CannotRead = (input : List ℕ) × (envelopes : List Envelope) × (begun : List ℕ) × (fault : IoFault)
-    × Divides input envelopes begun × IsOpen limits begun × MissedBehind source rest input fault × Wrote old new (texts_from text 1 envelopes)
+    × Divides input envelopes begun × IsOpen limits begun × MissedAfter source rest input fault × Wrote old new (texts_from text 1 envelopes)
 IsUnreported text source rest old new CannotWrite = (input : List ℕ) × (envelopes : List Envelope) × (begun : List ℕ) × (words : List ℕ) × (n : ℕ)
     × Divides input envelopes begun × HasGiven source rest input × IsReport text envelopes begun words × Stopped old new words n
 IsUnreported text source rest old new OutOfMemory = (input : List ℕ) × (envelopes : List Envelope) × (begun : List ℕ)
@@ -35,5 +35,5 @@ abbrev pub IsTold : Device → Device → List ℕ → ℕ → ℕ → Type 0
 IsTold old new text want status = (Wrote old new text × (status ≡ want)) ⊎ ((n : ℕ) × Stopped old new text n × (status ≡ 3))
 
 -- The output broke inside the text.
-abbrev pub IsUnsaid : Device → Device → List ℕ → Fault → Type 0
+abbrev pub IsUnsaid : Device → Device → List ℕ → CommandFault → Type 0
 IsUnsaid old new text fault = (fault ≡ CannotWrite) × (n : ℕ) × Stopped old new text n

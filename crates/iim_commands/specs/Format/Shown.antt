@@ -2,7 +2,7 @@
 use Rattle.std.specs.Prelude.{ℕ, if◌then◌else◌, List, [], ◌∷◌}
 use Rattle.std.specs.List.{flat_map}
 use Rattle.std.specs.Char.{is_ascii_control}
-use Rattle.iim_dataset.specs.Shown.{escape}
+use Rattle.iim_dataset.specs.Format.Shown.{escape}
 
 -- a control character as \x and two digits, any other octet as it is
 abbrev pub uncontrolled : ℕ → List ℕ

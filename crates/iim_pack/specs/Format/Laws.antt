@@ -1,17 +1,16 @@
 -- What holds of all packed octets.
 use Rattle.std.specs.Prelude.{◌≡◌, ℕ, ◌^◌, ◌<◌, ◌≤◌, List, ◌++◌, length}
-use Rattle.iim_dataset.specs.Datasets.{Dataset, SpellsStream, count_octets}
-use Rattle.iim_fields.specs.Records.{AreSections}
-use Rattle.iim_fields.specs.Builders.{AreFew}
-use Rattle.iim_fields.specs.Faults.{kept, joined}
-use Rattle.iim_object.specs.Behind.{of_record}
-use Rattle.iim_object.specs.Plans.{max_subfiles}
-use Rattle.iim_object.specs.Records.{HaveSizes}
-use Rattle.iim_object.specs.Packing.{object_datasets, packed_sizes}
+use Rattle.iim_dataset.specs.Format.Datasets.{Dataset, SpellsStream, count_octets, of_record}
+use Rattle.iim_fields.specs.Format.Records.{AreSections}
+use Rattle.iim_fields.specs.Format.Builders.{AreFew}
+use Rattle.iim_fields.specs.Format.Faults.{kept, joined}
+use Rattle.iim_object.specs.Format.Plans.{max_subfiles}
+use Rattle.iim_object.specs.Format.Records.{HaveSizes}
+use Rattle.iim_object.specs.Format.Packing.{object_datasets, packed_sizes}
 use Rattle.iim_object.specs.declared.plan.Plan.{Plan}
 use Rattle.iim_object.specs.declared.size.Sizes.{Sizes}
-use Rattle.wire_message.specs.Messages.{Header}
-use Rattle.wire_message.specs.Canonical.{canonical}
+use Rattle.wire_message.specs.Format.Messages.{Header}
+use Rattle.wire_message.specs.Format.Canonical.{canonical}
 use Rattle.iim_pack.specs.Format.Packed.{Packed}
 
 -- the datasets of a packed form

@@ -1,15 +1,15 @@
 -- Why a packer refuses a call: what each cause says, and the order in which they are asked.
 use Rattle.std.specs.Prelude.{◌≡◌, ℕ, ◌+◌, ◌<◌, IsTrue, List, ◌∷◌, ◌++◌, length, Option, Some, None}
 use Rattle.std.specs.List.{AllByRecursion}
-use Rattle.iim_object.specs.Writing.{most_of, total_of}
+use Rattle.iim_object.specs.Format.Writing.{most_of, total_of}
 use Rattle.iim_object.specs.declared.plan.Plan.{Plan}
 use Rattle.iim_object.specs.declared.size.Size.TheVariants.{Known}
 use Rattle.iim_object.specs.declared.cause.PackCause.{PackCause}
 use Rattle.iim_object.specs.declared.cause.PackCause.TheVariants.{PastAnnounced, ShortOfAnnounced, BadTextOctet, BadTrailer, Failed}
-use Rattle.wire_story.specs.Texts.{IsLine}
-use Rattle.wire_message.specs.Messages.{Header, IsTrailer}
-use Rattle.wire_message.specs.Canonical.{packed_head, canonical}
-use Rattle.iim_pack.specs.Packing.{Packing}
+use Rattle.wire_story.specs.Format.Texts.{IsLine}
+use Rattle.wire_message.specs.Format.Messages.{Header, IsTrailer}
+use Rattle.wire_message.specs.Format.Canonical.{packed_head, canonical}
+use Rattle.iim_pack.specs.Format.Packing.{Packing}
 
 -- The cause is one of the order; what it says holds, and nothing holds that a cause before it says.
 pub record IsFirst (Says : PackCause → Type 0) (order : List PackCause) (cause : PackCause) : Type 0 where
@@ -24,11 +24,11 @@ abbrev pub IsFirstOf : (PackCause → Type 0) → List PackCause → Option Pack
 IsFirstOf Says order (Some cause) = IsFirst Says order cause
 IsFirstOf Says order None = AllByRecursion (λ cause. Says cause → ⊥) order
 
--- An object of so many octets passes the plan's bound.
+-- An object of `octets` octets passes the plan's bound.
 abbrev pub PassesBound : Plan → ℕ → Type 0
 PassesBound plan octets = most_of plan < octets
 
--- An object of so many octets is below a known size.
+-- An object of `octets` octets is below a known size.
 abbrev pub IsBelowKnown : Plan → ℕ → Type 0
 IsBelowKnown plan octets = (n : ℕ) × (plan.size ≡ Known n) × (octets < n)
 

@@ -1,12 +1,12 @@
 -- What is packed: the canonical form of an envelope, a message and a story, by a plan.
 use Rattle.std.specs.Prelude.{◌≡◌, ℕ, List, ◌++◌}
-use Rattle.iim_dataset.specs.Datasets.{Dataset, canonical_stream}
-use Rattle.iim_fields.specs.Builders.{IsEnvelope}
-use Rattle.iim_object.specs.Packing.{IsWritten, Suits}
+use Rattle.iim_dataset.specs.Format.Datasets.{Dataset, canonical_stream}
+use Rattle.iim_fields.specs.Format.Builders.{IsEnvelope}
+use Rattle.iim_object.specs.Format.Packing.{IsWritten, Suits}
 use Rattle.iim_object.specs.declared.plan.Plan.{Plan}
-use Rattle.wire_message.specs.Messages.{Header, IsMessage}
-use Rattle.wire_message.specs.Canonical.{canonical}
-use Rattle.wire_story.specs.Texts.{IsText}
+use Rattle.wire_message.specs.Format.Messages.{Header, IsMessage}
+use Rattle.wire_message.specs.Format.Canonical.{canonical}
+use Rattle.wire_story.specs.Format.Texts.{IsText}
 
 -- What may be packed by the plan: the fields are a good record 1 and a good record 2; the canonical object is a message whose
 -- text has the lines; and the plan has room for it.

@@ -1,22 +1,22 @@
 -- A whole envelope packed in one call.
 use Rattle.std.specs.Prelude.{ℕ, ◌⊎◌, Bool, true, false, List, [], ◌∷◌, ◌++◌, map}
-use Rattle.iim_dataset.specs.Devices.{Device, Wrote}
-use Rattle.iim_dataset.specs.Datasets.{Dataset}
+use Rattle.iim_dataset.specs.Format.Devices.{Device, Wrote}
+use Rattle.iim_dataset.specs.Format.Datasets.{Dataset}
 use Rattle.iim_object.specs.declared.plan.Plan.{Plan}
 use Rattle.iim_object.specs.declared.cause.PackCause.TheVariants as causes
 use Rattle.iim_object.specs.declared.cause.StartFault.{StartFault}
-use Rattle.wire_story.specs.Delivery.{Event, LineOctet, LineEnd}
-use Rattle.wire_message.specs.Messages.{Header}
+use Rattle.wire_story.specs.Format.Delivery.{StoryEvent, LineOctet, LineEnd}
+use Rattle.wire_message.specs.Format.Messages.{Header}
 use Rattle.iim_pack.specs.Format.Packed.{Packed}
-use Rattle.iim_pack.specs.Starting.{IsRefused, Halts}
+use Rattle.iim_pack.specs.Format.Starting.{IsRefused, Halts}
 
 -- the events of a line: before each but the first the last one ends
-abbrev pub line_events : Bool → List ℕ → List Event
+abbrev pub line_events : Bool → List ℕ → List StoryEvent
 line_events true line = map LineOctet line
 line_events false line = LineEnd ∷ map LineOctet line
 
 -- the events of the lines that are left
-abbrev pub events_left : Bool → List (List ℕ) → List Event
+abbrev pub events_left : Bool → List (List ℕ) → List StoryEvent
 events_left is_first [] = []
 events_left is_first (line ∷ lines) = line_events is_first line ++ events_left false lines
 

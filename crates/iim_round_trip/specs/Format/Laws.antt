@@ -1,10 +1,10 @@
 -- What is packed is admitted.
 use Rattle.std.specs.Prelude.{◌≡◌, ℕ, List, ◌++◌}
-use Rattle.iim_dataset.specs.Datasets.{Dataset}
-use Rattle.iim_object.specs.Packing.{packed_sizes}
+use Rattle.iim_dataset.specs.Format.Datasets.{Dataset}
+use Rattle.iim_object.specs.Format.Packing.{packed_sizes}
 use Rattle.iim_object.specs.declared.plan.Plan.{Plan}
-use Rattle.wire_message.specs.Messages.{Header}
-use Rattle.wire_message.specs.Canonical.{canonical}
+use Rattle.wire_message.specs.Format.Messages.{Header}
+use Rattle.wire_message.specs.Format.Canonical.{canonical}
 use Rattle.iim_pack.specs.Format.Packed.{Packed}
 use Rattle.iim_unpack.specs.Format.Admitted.{Value, Admits}
 

@@ -1,12 +1,12 @@
 -- What was packed, unpacked.
 use Rattle.std.specs.Prelude.{◌≡◌, ℕ, List, ◌++◌, length}
-use Rattle.iim_dataset.specs.Datasets.{Dataset}
-use Rattle.iim_fields.specs.Faults.{joined}
-use Rattle.iim_fields.specs.Standing.{IsWithin}
+use Rattle.iim_dataset.specs.Format.Datasets.{Dataset}
+use Rattle.iim_fields.specs.Format.Faults.{joined}
+use Rattle.iim_fields.specs.Format.Standing.{IsWithin}
 use Rattle.iim_fields.specs.declared.limits.Limits.{Limits}
 use Rattle.iim_object.specs.declared.plan.Plan.{Plan}
-use Rattle.wire_story.specs.Delivery as story
-use Rattle.wire_message.specs.Messages.{Header}
+use Rattle.wire_story.specs.Format.Delivery as story
+use Rattle.wire_message.specs.Format.Messages.{Header}
 use Rattle.iim_pack.specs.Format.Packed.{Packed}
 use Rattle.iim_unpack.specs.Format.Admitted.{Value}
 use Rattle.iim_unpack.specs.Format.Value.{HasParts}
@@ -53,13 +53,13 @@ PackedStreamsHaveTheirAnswer = (limits : Limits) (stream : List ℕ) (fields : L
 
 -- The envelope, the header, the trailer and the sizes are those that were packed; just the packed octets were used, and the sink was
 -- told the lines.
-pub record IsGivenBack {S : Type 0} (goes : S → List story.Event → S → Type 0) (value : Value) (octets : List ℕ) (a b : S) (got : Unpacked) (used : ℕ) : Type 0 where
+pub record IsGivenBack {S : Type 0} (goes : S → List story.StoryEvent → S → Type 0) (value : Value) (octets : List ℕ) (a b : S) (got : Unpacked) (used : ℕ) : Type 0 where
   pub used_is : used ≡ length octets
   pub parts : HasParts got value
   pub told : goes a (story.events_of_lines value.lines) b
 
 -- If the stream begins with what was packed, within the limits, then this is given back.
-abbrev pub GivesBack : {S : Type 0} → (S → List story.Event → S → Type 0) → Limits → List ℕ → S → S → Unpacked → ℕ → Type 0
+abbrev pub GivesBack : {S : Type 0} → (S → List story.StoryEvent → S → Type 0) → Limits → List ℕ → S → S → Unpacked → ℕ → Type 0
 GivesBack goes limits stream a b got used = (fields : List Dataset) (head : Header) (lines : List (List ℕ)) (trailer : List ℕ) (plan : Plan)
     → (p : BeginsPacked limits stream fields head lines trailer plan)
     → IsGivenBack goes (packed_value fields head lines trailer plan p.packed.written.parts) p.octets a b got used

@@ -1,9 +1,9 @@
 -- An envelope that comes back with its lines.
 use Rattle.std.specs.Prelude.{◌≡◌, ℕ, List, length}
-use Rattle.iim_dataset.specs.Datasets.{Dataset}
+use Rattle.iim_dataset.specs.Format.Datasets.{Dataset}
 use Rattle.iim_fields.specs.declared.limits.Limits.{Limits}
 use Rattle.iim_object.specs.declared.plan.Plan.{Plan}
-use Rattle.wire_message.specs.Messages.{Header}
+use Rattle.wire_message.specs.Format.Messages.{Header}
 use Rattle.iim_unpack.specs.declared.refusal.Cause.TheVariants.{Sink}
 use Rattle.iim_round_trip.specs.Format.RoundTrip.{BeginsPacked}
 use Rattle.iim_round_trip.specs.declared.unpacking.Story.{Story}

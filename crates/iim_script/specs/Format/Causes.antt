@@ -1,6 +1,6 @@
 -- The numbers and names of causes.
 use Rattle.std.specs.Prelude.{ℕ, List, codes}
-use Rattle.iim_fields.specs.Causes.{number_of_cause}
+use Rattle.iim_fields.specs.Format.Causes.{number_of_cause}
 use Rattle.iim_fields.specs.declared.fault.FieldCause.{FieldCause}
 use Rattle.iim_fields.specs.declared.fault.FieldCause.TheVariants.{RecordOrder, UnknownDataset, Repeated, CountRange, Missing, BadValue, FileFormat, HeaderFull, TooManyFields}
 use Rattle.iim_script.specs.declared.fault.ScriptCause.{ScriptCause}

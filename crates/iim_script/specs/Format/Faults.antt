@@ -1,13 +1,13 @@
 -- Why octets are no script: the first fault by line.
 use Rattle.std.specs.Prelude.{◌≡◌, ℕ, ◌+◌, ◌<◌, ◌≤◌, ◌⊎◌, List, [], ◌∷◌, ◌++◌, length, Some}
 use Rattle.std.specs.List.{AllByRecursion}
-use Rattle.iim_dataset.specs.Datasets.{Dataset}
-use Rattle.iim_fields.specs.Builders.{add_fault, finish_fault}
+use Rattle.iim_dataset.specs.Format.Datasets.{Dataset}
+use Rattle.iim_fields.specs.Format.Builders.{add_fault, finish_fault}
 use Rattle.iim_fields.specs.declared.limits.Limits.{Limits}
 use Rattle.iim_fields.specs.declared.fault.FieldCause.{FieldCause}
 use Rattle.iim_fields.specs.declared.fault.FieldFault.{FieldFault}
-use Rattle.wire_message.specs.Messages.{Header, IsTrailer}
-use Rattle.wire_story.specs.Texts.{IsLine}
+use Rattle.wire_message.specs.Format.Messages.{Header, IsTrailer}
+use Rattle.wire_story.specs.Format.Texts.{IsLine}
 use Rattle.iim_script.specs.Format.Lines.{HasNo, NextLine, EndLines}
 use Rattle.iim_script.specs.Format.Forms.{TellsField, TellsHead, TellsTrailer, text_word}
 use Rattle.iim_script.specs.Format.Scripts.{AreFields, IsFront, max_script}
@@ -29,7 +29,7 @@ HaveCome limits lines (AfterTrailer ds head trailer) =
     (fields : List (List ℕ)) × (message : List ℕ) × (line : List ℕ) × AreFields limits fields ds × TellsHead message head
     × TellsTrailer line trailer × IsTrailer trailer × (lines ≡ fields ++ (message ∷ line ∷ []))
 
--- The octets begin with so many lines, each with its end, after which a script has come this far, and this is left.
+-- The octets begin with `count` lines, each with its end, after which a script has come this far, and this is left.
 pub record Stands (limits : Limits) (octets : List ℕ) (stage : Stage) (rest : List ℕ) (count : ℕ) : Type 0 where
   pub lines : List (List ℕ)
   pub front : List ℕ

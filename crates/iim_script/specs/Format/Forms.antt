@@ -1,13 +1,11 @@
 -- The forms of a script's lines.
-use Rattle.std.specs.Prelude.{◌≡◌, ℕ, ◌+◌, ◌*◌, ◌-◌, ◌≤◌, ◌&&◌, Bool, false, get_or, nat_le, IsTrue, List, [], ◌∷◌, ◌++◌, length}
+use Rattle.std.specs.Prelude.{◌≡◌, ℕ, ◌+◌, ◌*◌, ◌-◌, ◌≤◌, false, get_or, IsTrue, List, [], ◌∷◌, ◌++◌, length}
 use Rattle.std.specs.List.{list_all}
-use Rattle.iim_dataset.specs.Datasets.{Dataset}
-use Rattle.wire_message.specs.Messages.{Header, IsHeader}
+use Rattle.iim_dataset.specs.Format.Octets.{is_digit}
+use Rattle.iim_dataset.specs.Format.Datasets.{Dataset}
+use Rattle.wire_message.specs.Format.Messages.{Header, IsHeader}
 use Rattle.iim_script.specs.Format.Lines.{HasNo}
 use Rattle.iim_script.specs.Format.Shown.{TellsLast}
-
-abbrev pub is_digit : ℕ → Bool
-is_digit b = nat_le 48 b && nat_le b 57
 
 -- three decimal digits
 abbrev pub AreDigits : ℕ → ℕ → ℕ → Type 0

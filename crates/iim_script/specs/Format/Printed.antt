@@ -1,9 +1,9 @@
 -- What is printed of an envelope, as the lines of a script.
 use Rattle.std.specs.Prelude.{◌≡◌, ◌⊎◌, ℕ, List, [], ◌∷◌, ◌++◌, codes}
 use Rattle.std.specs.List.{flat_map, join_with_byte}
-use Rattle.iim_dataset.specs.Datasets.{Dataset}
-use Rattle.iim_dataset.specs.Shown.{shown, dataset_name}
-use Rattle.wire_message.specs.Messages.{Header}
+use Rattle.iim_dataset.specs.Format.Datasets.{Dataset}
+use Rattle.iim_dataset.specs.Format.Shown.{shown, dataset_name}
+use Rattle.wire_message.specs.Format.Messages.{Header}
 
 -- a space and the octets, shown; nothing where there are none
 abbrev pub after_space : List ℕ → List ℕ

@@ -1,13 +1,12 @@
 -- Octets that are an envelope with a message and a story in it, and the value that they have.
 use Rattle.std.specs.Prelude.{◌≡◌, ℕ, List}
-use Rattle.iim_dataset.specs.Datasets.{Dataset, SpellsStream, count_octets}
-use Rattle.iim_fields.specs.Records.{AreSections}
-use Rattle.iim_fields.specs.Faults.{kept, joined}
-use Rattle.iim_object.specs.Behind.{of_record}
-use Rattle.iim_object.specs.Records.{HaveSizes}
+use Rattle.iim_dataset.specs.Format.Datasets.{Dataset, SpellsStream, count_octets, of_record}
+use Rattle.iim_fields.specs.Format.Records.{AreSections}
+use Rattle.iim_fields.specs.Format.Faults.{kept, joined}
+use Rattle.iim_object.specs.Format.Records.{HaveSizes}
 use Rattle.iim_object.specs.declared.size.Sizes.{Sizes}
-use Rattle.wire_message.specs.Messages.{Header, IsMessage}
-use Rattle.wire_story.specs.Texts.{IsText}
+use Rattle.wire_message.specs.Format.Messages.{Header, IsMessage}
+use Rattle.wire_story.specs.Format.Texts.{IsText}
 
 -- What an envelope has: the datasets of records 1 and 2, the header of the message, the lines of the story, the trailer of the
 -- message, and the sizes of the object.

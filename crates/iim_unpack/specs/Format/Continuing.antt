@@ -1,15 +1,15 @@
 -- What follows octets that lead to one place.
 use Rattle.std.specs.Prelude.{◌≡◌, ◌<◌, ◌^◌, ℕ, List, ◌++◌}
 use Rattle.iim_fields.specs.declared.limits.Limits.{Limits}
-use Rattle.wire_story.specs.Delivery as story
+use Rattle.wire_story.specs.Format.Delivery as story
 use Rattle.iim_unpack.specs.Format.Admitted.{Value}
 use Rattle.iim_unpack.specs.Format.Possible.{AreOpenOrWhole}
 use Rattle.iim_unpack.specs.Format.Restored.{IsRestored}
 use Rattle.iim_unpack.specs.Format.Streams.{IsEnvelopeWithin}
 use Rattle.iim_unpack.specs.Format.Tickets.{Place, IsPlaceOf, IsTicketOf}
 use Rattle.iim_unpack.specs.Format.Open.{Adds, IsOpen, RefusesNext}
-use Rattle.iim_unpack.specs.Unpacking.{IsDoneWith, Stands, Unpacking, limits_in}
-use Rattle.iim_unpack.specs.declared.fault.Fault.{Fault}
+use Rattle.iim_unpack.specs.Format.Unpacking.{IsDoneWith, Stands, Unpacking, limits_in}
+use Rattle.iim_unpack.specs.declared.fault.TokenFault.{TokenFault}
 
 -- the same but for the lines
 pub record AreAlike (v w : Value) : Type 0 where
@@ -23,7 +23,7 @@ pub record AreAlike (v w : Value) : Type 0 where
 pub record ContinueAlike (limits : Limits) (p q more : List ℕ) : Type 0 where
   pub are_open : IsOpen limits (p ++ more) → IsOpen limits (q ++ more)
   pub are_whole : (v : Value) → IsEnvelopeWithin limits (p ++ more) v → (w : Value) × IsEnvelopeWithin limits (q ++ more) w × AreAlike v w
-  pub add : (events : List story.Event) → AreOpenOrWhole limits (p ++ more) → Adds p more events → Adds q more events
+  pub add : (events : List story.StoryEvent) → AreOpenOrWhole limits (p ++ more) → Adds p more events → Adds q more events
 
 -- Octets that lead to one place, each open or an envelope, continue alike.
 abbrev pub PlacesContinueAlike : Type 0
@@ -31,7 +31,7 @@ PlacesContinueAlike = (limits : Limits) (p q : List ℕ) (place : Place) → IsP
 
 -- After what follows both, the same octet is refused, for the same fault.
 abbrev pub PlacesRefuseAlike : Type 0
-PlacesRefuseAlike = (limits : Limits) (p q : List ℕ) (place : Place) → IsPlaceOf p place → IsPlaceOf q place → AreOpenOrWhole limits p → AreOpenOrWhole limits q → (more : List ℕ) (next : ℕ) (fault : Fault)
+PlacesRefuseAlike = (limits : Limits) (p q : List ℕ) (place : Place) → IsPlaceOf p place → IsPlaceOf q place → AreOpenOrWhole limits p → AreOpenOrWhole limits q → (more : List ℕ) (next : ℕ) (fault : TokenFault)
     → RefusesNext limits (p ++ more) next fault → RefusesNext limits (q ++ more) next fault
 
 -- Octets that are open or an envelope lead to a place, and to no other.

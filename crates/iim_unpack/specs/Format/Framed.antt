@@ -1,13 +1,13 @@
 -- Octets that are an envelope, as far as its datasets and sizes go.
 use Rattle.std.specs.Prelude.{ℕ, ◌≤◌, List, length}
-use Rattle.iim_dataset.specs.Datasets.{Dataset, SpellsStream, count_octets}
-use Rattle.iim_fields.specs.Records.{AreSections}
-use Rattle.iim_fields.specs.Faults.{kept, kept_octets}
-use Rattle.iim_fields.specs.Standing.{IsWithin}
+use Rattle.iim_dataset.specs.Format.Datasets.{Dataset, SpellsStream, count_octets, of_record}
+use Rattle.iim_fields.specs.Format.Records.{AreSections}
+use Rattle.iim_fields.specs.Format.Faults.{kept, kept_octets}
+use Rattle.iim_fields.specs.Format.Standing.{IsWithin}
 use Rattle.iim_fields.specs.declared.limits.Limits.{Limits}
-use Rattle.iim_object.specs.Plans.{max_subfiles}
-use Rattle.iim_object.specs.Records.{AreSized}
-use Rattle.iim_object.specs.Behind.{of_record}
+use Rattle.iim_object.specs.Format.Plans.{max_subfiles}
+use Rattle.iim_object.specs.Format.Records.{HaveSizes}
+use Rattle.iim_object.specs.declared.size.Sizes.{Sizes}
 
 -- What the records 1 and 2 have is within the limits, and there are not too many subfiles.
 pub record AreWithin (limits : Limits) (ds : List Dataset) : Type 0 where
@@ -20,5 +20,6 @@ pub record Framed (limits : Limits) (octets : List ℕ) : Type 0 where
   pub datasets : List Dataset
   pub spelled : SpellsStream count_octets datasets octets
   pub sections : AreSections datasets
-  pub sized : AreSized datasets
+  pub sizes : Sizes
+  pub agree : HaveSizes (of_record 7 datasets) (of_record 8 datasets) (of_record 9 datasets) sizes
   pub within : AreWithin limits datasets

@@ -5,11 +5,11 @@ use Rattle.iim_unpack.specs.Format.Admitted.{Value}
 use Rattle.iim_unpack.specs.Format.Refusals.{refusal_at}
 use Rattle.iim_unpack.specs.Format.Streams.{IsEnvelopeWithin, Kills}
 use Rattle.iim_unpack.specs.Format.Open.{IsOpen, IsTruncatedAt}
-use Rattle.iim_unpack.specs.Unpacking.{raised}
-use Rattle.iim_unpack.specs.declared.fault.Fault.{Fault}
+use Rattle.iim_unpack.specs.Format.Unpacking.{raised}
+use Rattle.iim_unpack.specs.declared.fault.TokenFault.{TokenFault}
 use Rattle.iim_unpack.specs.declared.refusal.Refusal.{Refusal}
 
--- so many envelopes are listed at most
+-- how many envelopes are listed at most
 abbrev pub max_envelopes : ℕ
 max_envelopes = 1000000
 
@@ -31,7 +31,7 @@ values_of es = map (λ e. e.value) es
 pub record IsRefusedRest (limits : Limits) (rest : List ℕ) (e : Refusal) : Type 0 where
   pub k : ℕ
   pub within : k < length rest
-  pub fault : Fault
+  pub fault : TokenFault
   pub refusal : e ≡ refusal_at (raised 0 k) fault
   pub kills : Kills limits (take k rest) (slice_index rest k) fault
 

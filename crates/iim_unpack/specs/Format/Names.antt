@@ -1,6 +1,6 @@
 -- The numbers and names of layers and causes.
 use Rattle.std.specs.Prelude.{ℕ, List, ◌++◌, codes, decimal}
-use Rattle.iim_dataset.specs.Shown.{dataset_name}
+use Rattle.iim_dataset.specs.Format.Shown.{dataset_name}
 use Rattle.iim_unpack.specs.declared.refusal.Refusal.{Refusal}
 use Rattle.iim_unpack.specs.declared.refusal.Layer.{Layer}
 use Rattle.iim_unpack.specs.declared.refusal.Layer.TheVariants.{Dataset, Record, Limits, Object, Message, Story, Outside}

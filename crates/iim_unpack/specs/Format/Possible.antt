@@ -1,7 +1,7 @@
 -- Places at which an envelope can be, and the limits that they keep.
 use Rattle.std.specs.Prelude.{◌≡◌, ◌↔◌, ℕ, ◌+◌, ◌^◌, ◌-◌, ◌⊎◌, if◌then◌else◌, List, length}
-use Rattle.iim_fields.specs.Faults.{is_kept, joined}
-use Rattle.iim_fields.specs.Standing.{IsWithin}
+use Rattle.iim_fields.specs.Format.Faults.{is_kept, joined}
+use Rattle.iim_fields.specs.Format.Standing.{IsWithin}
 use Rattle.iim_fields.specs.declared.limits.Limits.{Limits}
 use Rattle.iim_unpack.specs.Format.Admitted.{Value}
 use Rattle.iim_unpack.specs.Format.Open.{IsOpen}

@@ -1,20 +1,20 @@
 -- How the faults of the layers are told.
 use Rattle.std.specs.Prelude.{◌≡◌, ℕ, List, [], ◌∷◌, get_or, Option}
-use Rattle.iim_dataset.specs.Splits.{Begun, InTag, InData}
+use Rattle.iim_dataset.specs.Format.Splits.{Begun, InTag, InData}
 use Rattle.iim_dataset.specs.declared.head.HeadCause.{HeadCause}
 use Rattle.iim_dataset.specs.declared.head.HeadCause.TheVariants as heads
 use Rattle.iim_dataset.specs.declared.head.Head.{Head}
 use Rattle.iim_fields.specs.declared.fault.FieldFault.{FieldFault}
 use Rattle.iim_fields.specs.declared.fault.FieldCause.{FieldCause}
 use Rattle.iim_fields.specs.declared.fault.FieldCause.TheVariants as fields
-use Rattle.iim_object.specs.Objects.{ObjectToken}
-use Rattle.iim_object.specs.Reading.{Refuses}
+use Rattle.iim_object.specs.Format.Objects.{ObjectToken}
+use Rattle.iim_object.specs.Format.Reading.{Refuses}
 use Rattle.iim_object.specs.declared.state.State.{State}
 use Rattle.iim_object.specs.declared.fault.SizeCause.{SizeCause}
 use Rattle.iim_object.specs.declared.fault.SizeCause.TheVariants as sizes
 use Rattle.wire_message.specs.declared.fault.MessageCause.{MessageCause}
 use Rattle.wire_message.specs.declared.fault.MessageCause.TheVariants as messages
-use Rattle.iim_unpack.specs.declared.fault.Fault.{Fault}
+use Rattle.iim_unpack.specs.declared.fault.TokenFault.{TokenFault}
 use Rattle.iim_unpack.specs.declared.refusal.Refusal.{Refusal}
 use Rattle.iim_unpack.specs.declared.refusal.Layer.{Layer}
 use Rattle.iim_unpack.specs.declared.refusal.Layer.TheVariants as layers
@@ -53,19 +53,19 @@ cause_of_size sizes.Short = causes.Short
 cause_of_size sizes.ConfirmedWrong = causes.ConfirmedWrong
 
 -- a fault of the record layer or the limits
-abbrev pub of_field : FieldFault → Fault
+abbrev pub of_field : FieldFault → TokenFault
 of_field f = record { layer = layer_of f.cause; rec = f.rec; set = f.set; cause = cause_of f.cause }
 
 -- a fault of the object layer, on the dataset of the head
-abbrev pub size_on : Head → SizeCause → Fault
+abbrev pub size_on : Head → SizeCause → TokenFault
 size_on h cause = record { layer = layers.Object; rec = h.rec; set = h.set; cause = cause_of_size cause }
 
 -- the head of a subfile too many
-abbrev pub too_many_on : Head → Fault
+abbrev pub too_many_on : Head → TokenFault
 too_many_on h = record { layer = layers.Limits; rec = h.rec; set = h.set; cause = causes.TooManySubfiles }
 
 -- the refusal for a fault, at this octet
-abbrev pub refusal_at : ℕ → Fault → Refusal
+abbrev pub refusal_at : ℕ → TokenFault → Refusal
 refusal_at octet fault = record { layer = fault.layer; rec = fault.rec; set = fault.set; octet = octet; cause = fault.cause }
 
 -- the layer that refuses for a cause of the message
@@ -84,7 +84,7 @@ cause_of_message messages.ControlOctet = causes.ControlOctet
 cause_of_message messages.Sink = causes.Sink
 
 -- a fault of the message, the story or the sink, on the dataset of the head
-abbrev pub message_on : Head → MessageCause → Fault
+abbrev pub message_on : Head → MessageCause → TokenFault
 message_on h cause = record { layer = layer_of_message cause; rec = h.rec; set = h.set; cause = cause_of_message cause }
 
 -- ---- begun datasets
@@ -111,5 +111,5 @@ cause_of_tag heads.CountForm = causes.CountForm
 -- ---- the object
 
 -- The object refused the token: the layer dies with it wherever the reader stands, and the fault tells the first cause.
-abbrev pub IsObjectFault : Option State → ObjectToken → Head → Fault → Type 0
+abbrev pub IsObjectFault : Option State → ObjectToken → Head → TokenFault → Type 0
 IsObjectFault old token h fault = (cause : SizeCause) × Refuses old token cause × (fault ≡ size_on h cause)

@@ -1,13 +1,13 @@
 -- What a ticket is restored to, and why one is refused.
 use Rattle.std.specs.Prelude.{◌≡◌, ℕ, ◌+◌, ◌<◌, ◌≤◌, ◌⊎◌, List, length}
-use Rattle.iim_fields.specs.Faults.{joined}
+use Rattle.iim_fields.specs.Format.Faults.{joined}
 use Rattle.iim_fields.specs.declared.limits.Limits.{Limits}
 use Rattle.iim_unpack.specs.Format.Admitted.{Value}
 use Rattle.iim_unpack.specs.Format.Possible.{Possible, AreHeadsWithin, begun_count, begun_fields}
 use Rattle.iim_unpack.specs.Format.Streams.{IsEnvelopeWithin}
 use Rattle.iim_unpack.specs.Format.TicketForm.{Split, SplitsInto, IsFaultOf}
 use Rattle.iim_unpack.specs.Format.Tickets.{Place, IsPlaceOf, ticket_of}
-use Rattle.iim_unpack.specs.Unpacking.{Unpacking, Stands, IsDoneWith, limits_in}
+use Rattle.iim_unpack.specs.Format.Unpacking.{Unpacking, Stands, IsDoneWith, limits_in}
 use Rattle.iim_unpack.specs.Format.Open.{IsOpen}
 use Rattle.iim_unpack.specs.declared.ticket_fault.TicketFault.{TicketFault}
 use Rattle.iim_unpack.specs.declared.ticket_fault.TicketFault.TheVariants.{Form, Version, Impossible, HeaderFull, TooManyFields, OutOfMemory}

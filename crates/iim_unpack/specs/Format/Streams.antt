@@ -5,7 +5,7 @@ use Rattle.iim_unpack.specs.Format.Admitted.{Value, Admits}
 use Rattle.iim_unpack.specs.Format.Framed.{AreWithin}
 use Rattle.iim_unpack.specs.Format.Refusals.{refusal_at}
 use Rattle.iim_unpack.specs.Format.Open.{IsOpen, RefusesNext, IsTruncatedAt}
-use Rattle.iim_unpack.specs.declared.fault.Fault.{Fault}
+use Rattle.iim_unpack.specs.declared.fault.TokenFault.{TokenFault}
 use Rattle.iim_unpack.specs.declared.refusal.Refusal.{Refusal}
 use Rattle.iim_unpack.specs.declared.refusal.Cause.TheVariants.{Sink}
 
@@ -15,17 +15,17 @@ pub record IsEnvelopeWithin (limits : Limits) (octets : List ℕ) (value : Value
   pub within : AreWithin limits admits.datasets
 
 -- It is the octets that are refused, and not the sink that stopped.
-pub record Kills (limits : Limits) (octets : List ℕ) (next : ℕ) (fault : Fault) : Type 0 where
+pub record Kills (limits : Limits) (octets : List ℕ) (next : ℕ) (fault : TokenFault) : Type 0 where
   pub refuses : RefusesNext limits octets next fault
   pub by_octets : fault.cause ≢ Sink
 
--- an envelope of so many octets with this value; a refusal of octets; or octets that end too early
+-- an envelope of `used` octets with this value; a refusal of octets; or octets that end too early
 pub data Answer : Type 0 where
   Finished : (used : ℕ) → (value : Value) → Answer
   Refused : (refusal : Refusal) → Answer
   Truncated : (refusal : Refusal) → Answer
 
--- The stream begins with an envelope of so many octets.
+-- The stream begins with an envelope of `used` octets.
 pub record IsFinished (limits : Limits) (stream : List ℕ) (used : ℕ) (value : Value) : Type 0 where
   pub fits : used ≤ length stream
   pub envelope : IsEnvelopeWithin limits (take used stream) value
@@ -33,7 +33,7 @@ pub record IsFinished (limits : Limits) (stream : List ℕ) (used : ℕ) (value 
 -- Every layer can continue from the octets before the named one, and with that one the named layer is dead.
 pub record IsRefused (limits : Limits) (stream : List ℕ) (e : Refusal) : Type 0 where
   pub fits : e.octet < length stream
-  pub fault : Fault
+  pub fault : TokenFault
   pub refusal : e ≡ refusal_at e.octet fault
   pub kills : Kills limits (take e.octet stream) (slice_index stream e.octet) fault
 
@@ -52,16 +52,16 @@ Answers limits stream (Truncated e) = IsTruncated limits stream e
 
 -- Octets of which the next one is refused are open: every layer can continue from them, and they are no envelope.
 abbrev pub RefusedOctetsWereOpen : Type 0
-RefusedOctetsWereOpen = (limits : Limits) (octets : List ℕ) (next : ℕ) (fault : Fault) → RefusesNext limits octets next fault → IsOpen limits octets
+RefusedOctetsWereOpen = (limits : Limits) (octets : List ℕ) (next : ℕ) (fault : TokenFault) → RefusesNext limits octets next fault → IsOpen limits octets
 
 -- With a refused octet, and whatever follows it, octets are not open and no envelope within the limits.
-abbrev pub NothingGoesOnFromRefusedOctets : Type 0
-NothingGoesOnFromRefusedOctets = (limits : Limits) (octets more : List ℕ) (next : ℕ) (fault : Fault) → Kills limits octets next fault
+abbrev pub NothingContinuesFromRefusedOctets : Type 0
+NothingContinuesFromRefusedOctets = (limits : Limits) (octets more : List ℕ) (next : ℕ) (fault : TokenFault) → Kills limits octets next fault
     → (IsOpen limits (octets ++ next ∷ more) → ⊥) × ((value : Value) → IsEnvelopeWithin limits (octets ++ next ∷ more) value → ⊥)
 
 -- The refusal of an octet after others is determined: its layer, its dataset and its cause.
 abbrev pub RefusalsAreDetermined : Type 0
-RefusalsAreDetermined = (limits : Limits) (octets : List ℕ) (next : ℕ) (fault other : Fault) → RefusesNext limits octets next fault → RefusesNext limits octets next other → fault ≡ other
+RefusalsAreDetermined = (limits : Limits) (octets : List ℕ) (next : ℕ) (fault other : TokenFault) → RefusesNext limits octets next fault → RefusesNext limits octets next other → fault ≡ other
 
 -- A stream has one answer at most.
 abbrev pub StreamsHaveOneAnswer : Type 0

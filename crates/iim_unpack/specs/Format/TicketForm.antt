@@ -1,9 +1,9 @@
 -- The form of a ticket, whether or not some place has it.
 use Rattle.std.specs.Prelude.{◌≡◌, ℕ, ◌-◌, ◌^◌, ◌<◌, ◌≤◌, ◌==◌, if◌then◌else◌, List, [], ◌∷◌, ◌++◌, ◌≢◌, length, codes, Option, ⊤}
 use Rattle.std.specs.List.{flat_map}
-use Rattle.iim_dataset.specs.Datasets.{Dataset}
+use Rattle.iim_dataset.specs.Format.Datasets.{Dataset}
 use Rattle.iim_unpack.specs.Format.Tickets.{Phase, TagBegun, DataBegun, AllEnded, layout, text_octets}
-use Rattle.iim_unpack.specs.Begins.{AreFields, AreNumbers, AreTexts}
+use Rattle.iim_unpack.specs.Format.Begins.{AreFields, AreNumbers, AreTexts}
 use Rattle.iim_unpack.specs.declared.ticket_fault.TicketFault.{TicketFault}
 use Rattle.iim_unpack.specs.declared.ticket_fault.TicketFault.TheVariants.{Form, Version}
 

@@ -2,14 +2,13 @@
 use Rattle.std.specs.Prelude.{◌≡◌, ℕ, ◌+◌, ◌-◌, ◌==◌, if◌then◌else◌, List, [], ◌∷◌, ◌++◌, length, codes, Option, Some, None}
 use Rattle.std.specs.List.{flat_map}
 use Rattle.std.specs.Int.{w32, to_be_bytes}
-use Rattle.iim_dataset.specs.Datasets.{Dataset}
-use Rattle.iim_dataset.specs.Splits.{Begun, InTag, InData, Reads}
-use Rattle.iim_fields.specs.Faults.{kept, present_record}
-use Rattle.iim_fields.specs.Standing as records
-use Rattle.iim_object.specs.Records.{numbers_of}
-use Rattle.iim_object.specs.Behind.{of_record}
-use Rattle.iim_object.specs.Saved.{stated_numbers}
-use Rattle.wire_message.specs.Saved.{LeadToSaved}
+use Rattle.iim_dataset.specs.Format.Datasets.{Dataset, of_record, count_octets}
+use Rattle.iim_dataset.specs.Format.Splits.{Begun, InTag, InData, Reads}
+use Rattle.iim_fields.specs.Format.Faults.{kept, present_record}
+use Rattle.iim_fields.specs.Format.Standing as records
+use Rattle.iim_object.specs.Format.Records.{numbers_of}
+use Rattle.iim_object.specs.Format.Saved.{stated_numbers}
+use Rattle.wire_message.specs.Format.Saved.{LeadToSaved}
 use Rattle.wire_message.specs.declared.saved.MessagePart.{MessagePart}
 use Rattle.wire_message.specs.declared.saved.MessagePart.TheVariants as part
 use Rattle.wire_message.specs.declared.saved.MessagePlace.{MessagePlace}
@@ -60,7 +59,7 @@ place_of whole begun message = record {
 pub record IsPlaceOf (octets : List ℕ) (place : Place) : Type 0 where
   pub whole : List Dataset
   pub begun : Begun
-  pub reads : Reads octets whole begun
+  pub reads : Reads count_octets octets whole begun
   pub text : List ℕ
   pub message : MessagePlace
   pub leads : LeadToSaved (object_so_far whole begun) text message

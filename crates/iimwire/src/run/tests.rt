@@ -286,7 +286,7 @@ fn keeps_the_status_where_it_can_t_complain(rt: HostRuntime) {
     assert_eq!(rt; errors.octets(), b"canno".as_slice());
 }
 
-/// After the first seven datasets, so many of 2:200 with so many octets.
+/// The smallest envelope with `fields` datasets of 2:200 after its first seven, each with this tag and `octets` octets.
 fn with_fields(
     alloc: Global,
     fields: usize,

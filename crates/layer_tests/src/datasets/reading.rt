@@ -1,7 +1,7 @@
 //! Datasets read in one piece, in two, and octet by octet.
 
 ghost use Rattle.std.specs.Prelude.{⊤, OnOk};
-ghost use Rattle.iim_dataset.specs.Reading.{TakesCalls};
+ghost use Rattle.iim_dataset.specs.Format.Reading.{TakesCalls};
 
 use arrayvec::ArrayVec;
 use iim_dataset::{DatasetSink, Fault, FaultCause, Head, HeadReader, Step, Stop};
@@ -28,7 +28,7 @@ struct Recorder {
     record: ArrayVec<u8, 64>,
     runs: usize,
     ended: usize,
-    /// So many events are taken before one is refused.
+    /// How many more events are taken before one is refused.
     patience: usize,
 }
 
@@ -202,7 +202,7 @@ const NO_TAGS: [(&[u8], FaultCause, usize, (u8, u8)); 6] = [
 ];
 
 #[test]
-fn no_tag_goes_on(rt: HostRuntime) {
+fn no_tag_continues(rt: HostRuntime) {
     for (octets, cause, used, named) in NO_TAGS {
         let mut reader = HeadReader::new();
         let mut sink = Recorder::new(11);

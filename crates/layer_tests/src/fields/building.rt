@@ -25,7 +25,7 @@ fn each_mandatory_dataset_is_missed(rt: HostRuntime) -> Result<(), Fail> {
     Ok(())
 }
 
-/// Datasets added after so many of the fields, and why each is refused, if it is.
+/// How many of the fields come first, a dataset that is added after them, and why it is refused, if it is.
 const ADDED: [(usize, u8, u8, &[u8], Option<FieldCause>); 17] = [
     (0, 2, 0, b"\0\x04", Some(FieldCause::RecordOrder)),
     (1, 1, 20, b"\0\x01", Some(FieldCause::FileFormat)),

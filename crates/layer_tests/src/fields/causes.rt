@@ -1,7 +1,7 @@
 //! The causes of heads: the first in their order, where several hold at one head.
 
 ghost use Rattle.std.specs.Prelude.{OnOk};
-ghost use Rattle.iim_fields.specs.Standing.{IsBetween};
+ghost use Rattle.iim_fields.specs.Format.Standing.{IsBetween};
 
 use super::{FIELDS, fault, pass};
 use iim_dataset::Head;
@@ -63,7 +63,7 @@ fn pass_these(fields: &mut Fields, datasets: &[Sent]) -> Result<(), FieldFault>
     Ok(())
 }
 
-/// The fault of a head after these datasets, under limits of so many octets and datasets.
+/// The fault of a head after these datasets, where `limits` are the most octets and the most datasets.
 fn fault_after(
     rt: &impl Abort,
     alloc: Global,

@@ -1,7 +1,7 @@
 //! The record layer alone: it keeps no data, has no limits, and wants no value of a subfile.
 
 ghost use Rattle.std.specs.Prelude.{OnOk};
-ghost use Rattle.iim_fields.specs.Checks.{TakesHead};
+ghost use Rattle.iim_fields.specs.Format.Checks.{TakesHead};
 
 use super::{FIELDS, SIZES, fault};
 use iim_dataset::Head;

@@ -207,15 +207,15 @@ fn writes_that_fail_at_each_call(rt: HostRuntime) {
 
 #[test]
 fn a_million_interruptions_are_a_failure(rt: HostRuntime) {
-    for (interruptions, goes_on) in [(999_999, true), (1_000_000, false)] {
+    for (interruptions, leads_on) in [(999_999, true), (1_000_000, false)] {
         let target: TrialWriter<600> = TrialWriter::new(30, Trouble::Interruptions(interruptions));
         let buffer = buffer(&rt, rt.alloc(), 2, Size::Unknown(Some(5)));
         let Ok(mut writer) = SubfileWriter::start(buffer, target) else {
             panic!(&rt; "start");
         };
         let answer = writer.write(b"abc");
-        assert_eq!(&rt; answer.is_ok(), goes_on);
-        assert_eq!(&rt; writer.written(), if goes_on { 31 } else { 30 });
+        assert_eq!(&rt; answer.is_ok(), leads_on);
+        assert_eq!(&rt; writer.written(), if leads_on { 31 } else { 30 });
     }
 }
 

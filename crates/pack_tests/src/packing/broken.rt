@@ -64,7 +64,7 @@ fn call_by_call<W: Target>(
     }
 }
 
-/// A write failed after so many good calls, of an octet each, and just these octets are out.
+/// A write failed after `good` good calls, of an octet each, and just these octets are out.
 fn assert_front<const N: usize>(
     rt: &impl Abort,
     fault: &StartFault<TrialWriter<N>>,
@@ -79,7 +79,7 @@ fn assert_front<const N: usize>(
     );
 }
 
-/// A target that takes so many octets, one a call, and then fails.
+/// A target that takes `good` octets, one a call, and then fails.
 fn target(good: usize) -> TrialWriter<512> {
     TrialWriter::new(good as u64, Trouble::Failure)
 }

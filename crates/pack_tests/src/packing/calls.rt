@@ -114,7 +114,7 @@ fn the_least_message_fits_its_size(rt: HostRuntime) {
     }
 }
 
-/// The worked story, its text in pieces of so many octets, with an empty piece before each.
+/// The worked story, its text in pieces of `most` octets at most, with an empty piece before each.
 fn in_pieces(
     rt: &impl Abort,
     alloc: Global,

@@ -1,7 +1,7 @@
 //! The calls that a sink gets.
 
 ghost use Rattle.std.specs.Prelude.{ℕ, List};
-ghost use Rattle.wire_story.specs.Delivery.{Event};
+ghost use Rattle.wire_story.specs.Format.Delivery.{StoryEvent};
 
 use super::feeding::text_of;
 use super::rule::refusal;
@@ -11,7 +11,7 @@ use iim_unpack::{Cause, Layer, Progress, Unpacker};
 use std::test::Fail;
 use wire_story::{Lines, StorySink, TrialSink};
 
-/// How many calls came, and what the first four of them were: so many octets of text, or the end of a line (0).
+/// How many calls came, and what the first four of them were: how many octets of text, or 0 for the end of a line.
 #[derive(Clone, Copy, Debug, PartialEq, Eq)]
 struct Calls {
     count: u64,

@@ -68,7 +68,7 @@ fn expect_each_change(rt: &impl Abort, alloc: Global, ticket: &[u8]) -> Result<u
     Ok(count)
 }
 
-/// Expects each change of the tickets after so many octets of the smallest envelope: some are restored.
+/// Expects each change of the tickets after these numbers of octets of the smallest envelope: some are restored.
 fn expect_changes_after(rt: &impl Abort, alloc: Global, counts: &[usize]) -> Result<(), Fail> {
     for count in counts {
         let ticket = ticket_after(alloc, part(&SMALLEST, 0, *count))?;

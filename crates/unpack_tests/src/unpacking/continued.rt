@@ -64,7 +64,7 @@ fn the_story_restored_at_each_octet(rt: HostRuntime) -> Result<(), Fail> {
     Ok(())
 }
 
-/// The datasets of record 8 of so many octets each that hold an object.
+/// The datasets of record 8 that hold an object. Each of `sizes` is how many octets one of them has.
 fn cut_up(alloc: Global, object: &[u8], sizes: &[u8]) -> Result<Vec<u8>, AllocError> {
     let mut octets = Vec::new(alloc);
     let mut at = 0usize;

@@ -47,7 +47,7 @@ pub(crate) fn in_one_piece<S: StorySink>(
     Ok(answer)
 }
 
-/// Feeds pieces of so many octets, with an empty piece before each.
+/// Feeds pieces of `size` octets, with an empty piece before each.
 fn in_pieces<S: StorySink>(
     alloc: Global,
     limits: Limits,
@@ -83,7 +83,7 @@ pub(crate) fn by_octets<S: StorySink>(
 /// The most octets of the pieces that streams are fed in.
 const LONGEST_PIECE: usize = 64;
 
-/// Expects an answer in pieces of so many octets.
+/// Expects an answer in pieces of `size` octets.
 fn expect_in_pieces(
     rt: &impl Abort,
     alloc: Global,

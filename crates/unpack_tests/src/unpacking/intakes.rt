@@ -42,7 +42,7 @@ fn next(
     Ok(told(answer, intake.octets()))
 }
 
-/// What the next envelope is where an unpacker is restored from the ticket of so many octets of the smallest.
+/// What the next envelope is where an unpacker is restored from the ticket of the first `count` octets of the smallest.
 fn next_after(
     alloc: Global,
     count: usize,

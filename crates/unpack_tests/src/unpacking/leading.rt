@@ -30,7 +30,7 @@ const NONE: Untold = Untold {
     text: 0,
 };
 
-/// Adds an octet so many times.
+/// Adds an octet `times` times.
 fn push_times(octets: &mut Vec<u8>, octet: u8, times: usize) -> Result<(), AllocError> {
     for _ in 0..times {
         octets.push(octet)?;
@@ -107,7 +107,7 @@ fn message(alloc: Global, parts: &TicketParts<'_>, untold: Untold) -> Result<Vec
     Ok(octets)
 }
 
-/// The octets of a message that are as many as have come of the object, where there are such.
+/// The octets of a message: `parts.taken` of them, the number that has come of the object, where there are such.
 fn object(alloc: Global, parts: &TicketParts<'_>) -> Result<Vec<u8>, AllocError> {
     let least = message(alloc, parts, NONE)?.len();
     let more = (parts.taken as usize).saturating_sub(least);

@@ -25,7 +25,7 @@ struct InObject<'t> {
 }
 
 impl InObject<'_> {
-    /// What the place's ticket answers after so many octets.
+    /// What the place's ticket answers after `octets` octets.
     fn fault_after(
         self,
         rt: &impl Abort,
@@ -79,7 +79,7 @@ const IN_TEXT: InObject<'static> = InObject {
 
 /// Part, counter and flag of a message and its texts, and the least and the greatest number of octets that lead there. The filler
 /// before SOH is not told, nor a gap that has ended, nor whether an empty info has its SP: 0 to 32 octets, 1 to 32, and none or one.
-/// A text may have any octets, here as many as one subfile.
+/// A text may have any number of octets; here the one subfile has 1,024 at most.
 const MESSAGES: [(&[u8], &[u8], u32, u32); 21] = [
     (b"\x00\x00\x00", &[0; 7], 0, 0),
     (b"\x00\x05\x00", &[0; 7], 5, 5),

@@ -34,7 +34,7 @@ impl Numbers {
         (self.below(256) % 256) as u8
     }
 
-    /// A place in octets, and one after it, at most so many octets on.
+    /// A place in octets, and one after it, at most `longest` octets on.
     fn run_of(&mut self, octets: &[u8], longest: u64) -> (usize, usize) {
         let len = octets.len() as u64;
         let from = self.below(len);

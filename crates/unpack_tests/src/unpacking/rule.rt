@@ -159,8 +159,8 @@ fn tag(octets: &[u8]) -> Result<Option<Tag>, (usize, Cause)> {
 }
 
 /// The first fault of a head after others: the dataset that it names, and the cause.
-fn head_fault(behind: &[(u8, u8)], (rec, set, count, _): Tag) -> Option<((u8, u8), Cause)> {
-    let present = behind.last().map_or(0, |head| head.0);
+fn head_fault(after: &[(u8, u8)], (rec, set, count, _): Tag) -> Option<((u8, u8), Cause)> {
+    let present = after.last().map_or(0, |head| head.0);
     let next = match present {
         0 => 1,
         1 => 2,
@@ -175,7 +175,7 @@ fn head_fault(behind: &[(u8, u8)], (rec, set, count, _): Tag) -> Option<((u8, u8
     let Some((_, _, least, greatest, _, repeats)) = row_of(rec, set) else {
         return Some(((rec, set), Cause::UnknownDataset));
     };
-    if !repeats && behind.contains(&(rec, set)) {
+    if !repeats && after.contains(&(rec, set)) {
         return Some(((rec, set), Cause::Repeated));
     }
     if count < least || count > greatest {
@@ -187,7 +187,7 @@ fn head_fault(behind: &[(u8, u8)], (rec, set, count, _): Tag) -> Option<((u8, u8
     MANDATORY
         .iter()
         .copied()
-        .find(|head| head.0 == present && !behind.contains(head))
+        .find(|head| head.0 == present && !after.contains(head))
         .map(|head| (head, Cause::Missing))
 }
 
@@ -271,7 +271,7 @@ impl Sizes {
 
 /// The one dataset at `at`, after others: its head and where it ends, or what the octets are refused for.
 fn dataset(
-    behind: &[(u8, u8)],
+    after: &[(u8, u8)],
     sizes: &mut Sizes,
     octets: &[u8],
     at: usize,
@@ -291,7 +291,7 @@ fn dataset(
         }
     };
     let data = at.saturating_add(used);
-    if let Some((names, cause)) = head_fault(behind, (rec, set, count, used)) {
+    if let Some((names, cause)) = head_fault(after, (rec, set, count, used)) {
         return Err(refusal(Layer::Record, names, data.saturating_sub(1), cause));
     }
     let names = (rec, set);
@@ -313,7 +313,7 @@ fn dataset(
 
 /// What the rules say of octets that hold at most forty datasets, within the limits.
 pub(crate) fn by_rule(alloc: Global, octets: &[u8]) -> Result<Result<u64, Refusal>, AllocError> {
-    let mut behind = Vec::new(alloc);
+    let mut after = Vec::new(alloc);
     let mut sizes = Sizes {
         mode: None,
         largest: None,
@@ -323,13 +323,13 @@ pub(crate) fn by_rule(alloc: Global, octets: &[u8]) -> Result<Result<u64, Refusa
     };
     let mut at = 0;
     for _ in 0..40 {
-        match dataset(behind.as_slice(), &mut sizes, octets, at) {
+        match dataset(after.as_slice(), &mut sizes, octets, at) {
             Ok((head, end)) => {
                 at = end;
                 if head == (9, 10) {
                     return Ok(Ok(end as u64));
                 }
-                behind.push(head)?;
+                after.push(head)?;
             }
             Err(refusal) => return Ok(Err(refusal)),
         }

@@ -38,7 +38,7 @@ pub(crate) fn ticket_after(alloc: Global, octets: &[u8]) -> Result<Vec<u8>, Fail
     Ok(ticket)
 }
 
-/// Why a ticket is refused; None where it is restored, to an unpacker of just this ticket that counts so many octets.
+/// Why a ticket is refused; None where it is restored, to an unpacker of just this ticket that counts `at` octets.
 pub(crate) fn fault_of(
     rt: &impl Abort,
     alloc: Global,

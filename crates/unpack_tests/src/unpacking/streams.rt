@@ -27,7 +27,7 @@ const MORE_TAGS: [(usize, u8, u8, usize); 14] = [
     (237, 9, 10, 4),
 ];
 
-/// The smallest envelope with this object, of so many octets.
+/// The smallest envelope with this object, of `size` octets.
 pub(crate) fn sized(alloc: Global, size: u8, object: &[&[u8]]) -> Result<Vec<u8>, AllocError> {
     let object = joined(alloc, object)?;
     joined(
@@ -278,7 +278,7 @@ fn nothing_changes_any_more(rt: HostRuntime) -> Result<(), Fail> {
     Ok(())
 }
 
-/// The numbers of the dataset that so many octets have begun, each 0 while it is not read.
+/// The numbers of the dataset that the first `octets` octets have begun, each 0 while it is not read.
 pub(crate) fn begun_at(tags: &[(usize, u8, u8, usize)], octets: usize) -> (u8, u8) {
     let last = tags.iter().rev().find(|tag| tag.0 < octets);
     let Some((offset, rec, set, count)) = last.copied() else {

@@ -24,8 +24,8 @@ pub(crate) const NUMBERS: &[u8] =
 /// Its header, and no trailer.
 pub(crate) const TEXTS: &[u8] = b"\x01X\x011\x014\x01N\x010\x00\x00";
 
-/// So many octets of the smallest envelope; how many of its subfile are then to come, where it is begun; what the ticket tells of
-/// the object and the message; and their texts.
+/// How many octets of the smallest envelope have come; how many of its subfile are then to come, where it is begun; what the
+/// ticket tells of the object and the message; and their texts.
 const MESSAGES: [(usize, &[u8], &[u8], &[u8]); 7] = [
     // Before SOH.
     (
@@ -94,7 +94,7 @@ fn expect_ticket(
     Ok(())
 }
 
-/// Expects a ticket after so many octets of the smallest envelope: of its section and phase, and of its object and message.
+/// Expects a ticket after `count` octets of the smallest envelope: of its section and phase, and of its object and message.
 fn expect_after(
     rt: &impl Abort,
     alloc: Global,

@@ -1,6 +1,6 @@
 use Rattle.std.proofs.Common.{◌≡◌, None, Option, [], length, ap, sym, subst, arith, List, Result, Ok, ◌+◌, IsErrAnd}
-use Rattle.iim_dataset.specs.Devices.{Device}
-use Rattle.iim_unpack.specs.Intakes.{line}
+use Rattle.iim_dataset.specs.Format.Devices.{Device}
+use Rattle.iim_unpack.specs.Format.Intakes.{line}
 use Rattle.iim_audit.specs.Format.Auditing.{IsAudited}
 use Rattle.iim_audit.specs.Taking.{Took}
 use Rattle.iim_audit.specs.declared.row.AuditRow.{AuditRow}
@@ -96,6 +96,6 @@ envelopes-preserved g c =
             c.in-Ok-Some.ensures.lives c.in-Ok.ensures.keeps read (subst P c.in-Ok-Some.field-0-is (c.in-Ok-Some.ensures.took read.lives));
         again = λ octet e. absurd (never c.take_envelope.result _ _ c.in-Ok-Some.is (c.take_envelope.ensures.again octet (before.again octet e).0));
       };
-      leads = g.met.R.Source.goes_on c.args.intake.now.reader c.envelopes.intake.reader c.take_envelope.new.intake.reader
+      leads = g.met.R.Source.leads_on c.args.intake.now.reader c.envelopes.intake.reader c.take_envelope.new.intake.reader
           c.envelopes.invariant.leads c.take_envelope.ensures.leads;
     }

@@ -1,5 +1,5 @@
 use Rattle.std.proofs.Common.{◌+◌, ◌-◌, length}
-use Rattle.iim_unpack.specs.Intakes.{line}
+use Rattle.iim_unpack.specs.Format.Intakes.{line}
 use Rattle.iim_unpack.specs.Format.Listing.{max_envelopes}
 use Rattle.iim_audit.proofs.Reading.{IsAuditing}
 use Rattle.iim_audit.proofs.auditing.audit.Given as goal

@@ -1,6 +1,6 @@
 use Rattle.std.proofs.Common.{Option, sym, subst, refl}
-use Rattle.wire_story.specs.Words.{WordsSoFar, CountsWords}
-use Rattle.iim_unpack.specs.Intakes.{line, Gives}
+use Rattle.wire_story.specs.Format.Words.{WordsSoFar, CountsWords}
+use Rattle.iim_unpack.specs.Format.Intakes.{line, Gives}
 use Rattle.iim_unpack.specs.declared.unpacker.Unpacked.{Unpacked}
 use Rattle.iim_audit.specs.Taking.{TookNone}
 use Rattle.iim_audit.specs.declared.fault.AuditCause.{AuditCause}

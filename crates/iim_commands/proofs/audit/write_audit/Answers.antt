@@ -1,6 +1,6 @@
 use Rattle.std.proofs.Common.{rules, refl, inl, inr}
 use Rattle.iim_audit.specs.Format.Auditing.{FailsAt, IsAudited}
-use Rattle.iim_unpack.specs.Intakes.{line}
+use Rattle.iim_unpack.specs.Format.Intakes.{line}
 use Rattle.iim_commands.specs.Format.Audits.{IsUnaudited}
 use Rattle.iim_commands.specs.Format.Listings.{limits}
 use Rattle.iim_commands.proofs.Audits.{unsaid, untold}

@@ -1,5 +1,5 @@
 use Rattle.std.proofs.Common.{rules, ◌≡◌, ◌≢◌, inl, inr}
-use Rattle.iim_unpack.specs.Intakes.{line}
+use Rattle.iim_unpack.specs.Format.Intakes.{line}
 use Rattle.iim_unpack.specs.declared.refusal.Cause.TheVariants.{Sink}
 use Rattle.iim_commands.proofs.Taken.{calm_of, cut_off_by, given_as, has_come, is_refusal, is_unheard, refused_by}
 use Rattle.iim_commands.proofs.coming.take_next.Goals as goal

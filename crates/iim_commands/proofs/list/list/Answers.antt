@@ -1,9 +1,9 @@
 use Rattle.std.proofs.Common.{rules, ◌≡◌, ◌+◌, [], refl, sym, append-nil}
-use Rattle.iim_unpack.specs.Intakes.{line}
+use Rattle.iim_unpack.specs.Format.Intakes.{line}
 use Rattle.iim_commands.specs.Format.Lines.{refused_line, too_many_line}
 use Rattle.iim_commands.specs.Format.Listings.{max_envelopes, Whole, RefusedBy, TooMany}
 use Rattle.iim_commands.specs.Format.Reports.{IsUnreported}
-use Rattle.iim_commands.specs.declared.fault.Fault.TheVariants.{OutOfMemory}
+use Rattle.iim_commands.specs.declared.fault.CommandFault.TheVariants.{OutOfMemory}
 use Rattle.iim_commands.proofs.Reports.{discards, ends_refused, failed, heard, left_of, never_fails, none_left, reported, reported_more, starved, unended, unsaid_of}
 use Rattle.iim_commands.proofs.Taken.{come_as, end_as, lives_as, refusal_as}
 use Rattle.iim_commands.proofs.Told.{added, handed_on}
@@ -114,7 +114,7 @@ listing-preserved g c =
       reported =
           reported_more c.gifts_join.ensures c.texts_join.ensures text source mid rest old now new c.listing.count c.as_slice.result.now h.envelope r h.is h.came.given
           below words c.in_ok-say-in-Envelope-2.ensures.ok;
-      leads = λ last h. c.listing.invariant.leads last (g.met.R.Source.goes_on c.listing.intake.reader c.take_next.new.intake.reader last c.take_next.ensures.leads h);
+      leads = λ last h. c.listing.invariant.leads last (g.met.R.Source.leads_on c.listing.intake.reader c.take_next.new.intake.reader last c.take_next.ensures.leads h);
     }
 
 pub returns-in-End-clause-ok : goal.returns-in-End-clause-ok

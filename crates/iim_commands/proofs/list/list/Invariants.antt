@@ -1,5 +1,5 @@
 use Rattle.std.proofs.Common.{◌≡◌, ◌-◌, None}
-use Rattle.iim_unpack.specs.Intakes.{line}
+use Rattle.iim_unpack.specs.Format.Intakes.{line}
 use Rattle.iim_commands.proofs.Reports.{AreReported}
 use Rattle.iim_commands.proofs.list.list.Given as goal
 

@@ -1,13 +1,13 @@
 use Rattle.std.proofs.Common.{rules, ◌≡◌, ◌+◌, [], length, map, refl, sym, ap, subst, ◌∙◌, append-nil}
-use Rattle.iim_dataset.specs.Devices.{Wrote}
-use Rattle.iim_unpack.specs.Intakes.{line}
-use Rattle.wire_story.specs.Delivery.{octet_for}
-use Rattle.wire_story.specs.Writing.{WritesLines, device_of, stops_of}
+use Rattle.iim_dataset.specs.Format.Devices.{Wrote}
+use Rattle.iim_unpack.specs.Format.Intakes.{line}
+use Rattle.wire_story.specs.Format.Delivery.{octet_for}
+use Rattle.wire_story.specs.Format.Writing.{WritesLines, device_of, stops_of}
 use Rattle.wire_story.specs.declared.writer.LineWriter.{LineWriter}
 use Rattle.iim_commands.specs.Format.Lines.{accepted_line, refused_line, too_many_line}
 use Rattle.iim_commands.specs.Format.Listings.{max_envelopes, Whole, RefusedBy, TooMany}
 use Rattle.iim_commands.specs.Format.Narration.{IsUnnarrated, text_of}
-use Rattle.iim_commands.specs.declared.fault.Fault.TheVariants.{OutOfMemory}
+use Rattle.iim_commands.specs.declared.fault.CommandFault.TheVariants.{OutOfMemory}
 use Rattle.iim_commands.proofs.Narration.{broke_in_line, broke_in_lines, front_out, narrated, narrated_more, text_out, text_refused, unended_text, unfed, unfed_for_memory}
 use Rattle.iim_commands.proofs.Reports.{ends_refused, left_of, none_left}
 use Rattle.iim_commands.proofs.Taken.{end_as, lives_as}
@@ -264,7 +264,7 @@ telling-preserved g c =
       narrated =
           narrated_more joins texts source mid rest old (state a.writer) (state b.writer) (state d.writer) errors_old errors_now errors_new c.telling.count c.as_slice.result.now e r
           h.come.is h.come.came.given below h.out c.in_ok-end_text-in-Envelope.ensures.ok words c.in_ok-say-in-Envelope-2.ensures.ok;
-      leads = λ last h. c.telling.invariant.leads last (g.met.R.Source.goes_on c.telling.intake.reader c.take_next.new.intake.reader last c.take_next.ensures.leads h);
+      leads = λ last h. c.telling.invariant.leads last (g.met.R.Source.leads_on c.telling.intake.reader c.take_next.new.intake.reader last c.take_next.ensures.leads h);
     }
 
 pub returns-in_err-say-in-Envelope-2-clause-leads : goal.returns-in_err-say-in-Envelope-2-clause-leads

@@ -1,6 +1,6 @@
 use Rattle.std.proofs.Common.{◌≡◌, ◌-◌, None}
-use Rattle.iim_unpack.specs.Intakes.{line}
-use Rattle.wire_story.specs.Writing.{device_of, stops_of}
+use Rattle.iim_unpack.specs.Format.Intakes.{line}
+use Rattle.wire_story.specs.Format.Writing.{device_of, stops_of}
 use Rattle.iim_commands.proofs.Narration.{AreNarrated}
 use Rattle.iim_commands.proofs.story.narrate.Given as goal
 

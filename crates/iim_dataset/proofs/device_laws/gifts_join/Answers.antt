@@ -1,7 +1,7 @@
 use Rattle.std.proofs.Common.{[], List, ℕ, ◌++◌, inl, inr, arith}
 use Rattle.std.proofs.lemmas.List.{append-nil}
-use Rattle.iim_dataset.specs.Devices.{Device, Missed}
-use Rattle.iim_dataset.specs.DeviceLaws.{HasGiven, BrokeBehind, MissedBehind}
+use Rattle.iim_dataset.specs.Format.Devices.{Device, Missed}
+use Rattle.iim_dataset.specs.Format.DeviceLaws.{HasGiven, BrokeAfterReads, MissedAfter}
 use Rattle.iim_dataset.specs.Later.{consumes_consumes, consumes_none}
 use Rattle.iim_dataset.specs.declared.device.IoFault.{IoFault}
 use Rattle.iim_dataset.specs.declared.device.IoFault.TheVariants.{Interrupted, Failed}
@@ -13,22 +13,22 @@ given_more : (a b c : Device) (xs ys : List ℕ) → HasGiven a b xs → HasGive
 given_more a b c xs ys h k =
     (consumes_consumes a.octets b.octets c.octets xs ys h.0 k.0, (omega (arith, h.1.0, k.1.0), omega (arith, h.1.1, k.1.1)))
 
-behind : (a b c : Device) (xs : List ℕ) (fault : IoFault) → HasGiven a b xs → Missed b c fault → BrokeBehind a c xs
-behind a b c xs Failed h k = (
+after : (a b c : Device) (xs : List ℕ) (fault : IoFault) → HasGiven a b xs → Missed b c fault → BrokeAfterReads a c xs
+after a b c xs Failed h k = (
   rw append-nil at (consumes_consumes a.octets b.octets c.octets xs [] h.0 (keeps_consumes b.octets c.octets k.0)),
   broke_later a b c h.1 (inl (k.1, k.2)),
 )
-behind a b c xs Interrupted h k = (
+after a b c xs Interrupted h k = (
   rw append-nil at (consumes_consumes a.octets b.octets c.octets xs [] h.0 (keeps_consumes b.octets c.octets k.0)),
   broke_later a b c h.1 (inr (k.1.0, k.1.1, k.2)),
 )
 
-missed_behind : (a b c : Device) (xs : List ℕ) (fault : IoFault) → HasGiven a b xs → Missed b c fault → MissedBehind a c xs fault
-missed_behind a b c xs Failed h k = (
+missed_after : (a b c : Device) (xs : List ℕ) (fault : IoFault) → HasGiven a b xs → Missed b c fault → MissedAfter a c xs fault
+missed_after a b c xs Failed h k = (
   rw append-nil at (consumes_consumes a.octets b.octets c.octets xs [] h.0 (keeps_consumes b.octets c.octets k.0)),
   broke_for_later a b c Failed h.1 (k.1, k.2),
 )
-missed_behind a b c xs Interrupted h k = (
+missed_after a b c xs Interrupted h k = (
   rw append-nil at (consumes_consumes a.octets b.octets c.octets xs [] h.0 (keeps_consumes b.octets c.octets k.0)),
   broke_for_later a b c Interrupted h.1 (k.1.0, k.1.1, k.2),
 )
@@ -37,6 +37,6 @@ pub returns : goal.returns
 returns c = record {
   none = λ a. (consumes_none a.octets, (omega arith, omega arith));
   more = given_more;
-  fault = behind;
-  missed = missed_behind;
+  fault = after;
+  missed = missed_after;
 }

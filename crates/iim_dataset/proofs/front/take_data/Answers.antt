@@ -1,8 +1,8 @@
 use Rattle.std.proofs.Common.{◌≡◌, ℕ, ◌-◌, ◌<◌, List, [], ◌∷◌, ◌++◌, length, take, slice_index, map, sym, subst, arith}
 use Rattle.std.proofs.lemmas.List.{take-take, length-take-le, get_or-take}
 use Rattle.std.proofs.Math.Seq.{take-length}
-use Rattle.iim_dataset.specs.Events.{DataOctet, DatasetEnd}
-use Rattle.iim_dataset.specs.Places.{Brings}
+use Rattle.iim_dataset.specs.Format.Events.{DataOctet, DatasetEnd}
+use Rattle.iim_dataset.specs.Format.Places.{Brings}
 use Rattle.iim_dataset.specs.declared.place.DatasetPlace.{DatasetPlace}
 use Rattle.iim_dataset.specs.declared.place.DatasetPlace.TheVariants.{Inside}
 use Rattle.iim_dataset.proofs.Fronts.{are_octets, front_are}

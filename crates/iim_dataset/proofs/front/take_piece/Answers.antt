@@ -1,6 +1,6 @@
-use Rattle.std.proofs.Common.{[], inl, inr, arith}
-use Rattle.iim_dataset.proofs.Rests.{length-rest}
-use Rattle.iim_dataset.specs.Reading.{is_of}
+use Rattle.std.proofs.lemmas.List.{take_rest}
+use Rattle.std.proofs.Common.{[], inl, inr, arith, ap, length, length-drop}
+use Rattle.iim_dataset.specs.Format.Reading.{tag_cause_of}
 use Rattle.iim_dataset.proofs.Places.{stays}
 use Rattle.iim_dataset.proofs.Stopping.{tells_front, refuses_front}
 use Rattle.iim_dataset.proofs.front.take_piece.Goals as goal
@@ -16,7 +16,7 @@ loop-at-init g c = record {
 pub returns-in-Last-clause-piece : goal.returns-in-Last-clause-piece
 returns-in-Last-clause-piece g c = record {
   is_place = c.in-Ok.ensures.front.is_place;
-  within = omega (arith, c.in-Ok.ensures.front.within, length-rest c.args.octets.now c.loop-at.at);
+  within = omega (arith, c.in-Ok.ensures.front.within, ap length (take_rest c.args.octets.now c.loop-at.at), length-drop c.loop-at.at c.args.octets.now);
   told =
       tells_front g.D.DatasetSink.goes g.met.D.DatasetSink.joined c.args.place c.loop-at.now c.in-Ok.front.place c.args.octets.now c.loop-at.at c.in-Ok.front.used
       c.args.sink.now c.loop-at.sink c.take_front.new.sink c.loop-at.invariant.told c.in-Ok.ensures.front.told;
@@ -34,7 +34,7 @@ returns-clause-piece g c = record {
 pub loop-at-preserved : goal.loop-at-preserved
 loop-at-preserved g c = record {
   is_place = c.in-Ok.ensures.front.is_place;
-  within = omega (arith, c.in-Ok.ensures.front.within, length-rest c.args.octets.now c.loop-at.at);
+  within = omega (arith, c.in-Ok.ensures.front.within, ap length (take_rest c.args.octets.now c.loop-at.at), length-drop c.loop-at.at c.args.octets.now);
   told =
       tells_front g.D.DatasetSink.goes g.met.D.DatasetSink.joined c.args.place c.loop-at.now c.in-Ok.front.place c.args.octets.now c.loop-at.at c.in-Ok.front.used
       c.args.sink.now c.loop-at.sink c.take_front.new.sink c.loop-at.invariant.told c.in-Ok.ensures.front.told;
@@ -46,9 +46,9 @@ returns-in-Err-clause-refused g c =
     let given = c.in-Err.refused in
     let front = c.in-Err.ensures.refused in record {
       is_place = front.is_place;
-      before = omega (arith, front.before, length-rest c.args.octets.now c.loop-at.at);
+      before = omega (arith, front.before, ap length (take_rest c.args.octets.now c.loop-at.at), length-drop c.loop-at.at c.args.octets.now);
       refused =
-          refuses_front g.D.DatasetSink.goes g.D.DatasetSink.stops g.met.D.DatasetSink.joined g.met.D.DatasetSink.joined_stop (is_of given.fault.cause) c.args.place c.loop-at.now given.place
+          refuses_front g.D.DatasetSink.goes g.D.DatasetSink.stops g.met.D.DatasetSink.joined g.met.D.DatasetSink.joined_stop (tag_cause_of given.fault.cause) c.args.place c.loop-at.now given.place
           c.args.octets.now c.loop-at.at given.fault.used c.args.sink.now c.loop-at.sink c.take_front.new.sink c.loop-at.invariant.told front.refused;
       onward = front.onward;
     }

@@ -1,5 +1,5 @@
 use Rattle.std.proofs.Common.{◌-◌, ◌≤◌, length, take}
-use Rattle.iim_dataset.specs.Places.{IsPlace, Tells, to_come}
+use Rattle.iim_dataset.specs.Format.Places.{IsPlace, TellsSink, to_come}
 use Rattle.iim_dataset.proofs.front.take_piece.Given as goal
 
 -- the octets so far have led here, and the sink was told what they completed
@@ -7,7 +7,7 @@ abbrev pub invariant-loop-at : goal.invariant-loop-at
 invariant-loop-at g l = record {
   is_place : IsPlace l.now;
   within : l.at ≤ length l.octets;
-  told : Tells g.D.DatasetSink.goes l.fn.place (take l.at l.octets) l.now l.initial.sink l.sink;
+  told : TellsSink g.D.DatasetSink.goes l.fn.place (take l.at l.octets) l.now l.initial.sink l.sink;
   stands : g.D.DatasetSink.stands l.sink (to_come l.now);
 }
 

@@ -1,17 +1,17 @@
 use Rattle.std.proofs.Common.{◌≡◌, ℕ, ◌+◌, ◌-◌, ◌<◌, List, [], ◌++◌, length, take, ap, sym, subst, arith, length-append, Option, Some, None}
 use Rattle.std.specs.Prelude.{MatchOption}
 use Rattle.std.proofs.Math.Seq.{take-length}
-use Rattle.iim_dataset.specs.Datasets.{count_octets}
-use Rattle.iim_dataset.specs.Tags.{BeginsTag, Concerns, HasTag, HasNoTag}
-use Rattle.iim_dataset.specs.Places.{Brings, IsPlace}
-use Rattle.iim_dataset.specs.Reading.{RefusesFor, StillStands}
+use Rattle.iim_dataset.specs.Format.Datasets.{count_octets}
+use Rattle.iim_dataset.specs.Format.Tags.{BeginsTag, Concerns, HasTag, HasNoTag}
+use Rattle.iim_dataset.specs.Format.Places.{Brings, IsPlace}
+use Rattle.iim_dataset.specs.Format.Reading.{RefusesFor, StillStands}
 use Rattle.iim_dataset.specs.Completing.{head_events}
 use Rattle.iim_dataset.specs.declared.head.Head.{Head}
 use Rattle.iim_dataset.specs.declared.head.HeadCause.{HeadCause}
 use Rattle.iim_dataset.specs.declared.place.DatasetPlace.{DatasetPlace}
 use Rattle.iim_dataset.specs.declared.place.DatasetPlace.TheVariants.{Tag}
 use Rattle.iim_dataset.proofs.Places.{tag_on, head_leads}
-use Rattle.iim_dataset.proofs.HeldTags.{begun_length, longer, behind_held, refused_at, tag_is}
+use Rattle.iim_dataset.proofs.HeldTags.{begun_length, longer, after_held, refused_at, tag_is}
 use Rattle.iim_dataset.proofs.Stopping.{after_tag, tag_stops, stopped_at}
 use Rattle.iim_dataset.proofs.front.take_tag.Goals as goal
 
@@ -47,7 +47,7 @@ pub overflow_sub-used-in-Err : goal.overflow_sub-used-in-Err
 overflow_sub-used-in-Err g c =
     let held = c.args.held.items in
     let t = subst (λ (ys : List ℕ). HasNoTag (ys ++ c.args.rest.now) c.in-Err.fault) c.as_slice.ensures.value c.in-Err.ensures.fault in
-    omega (arith, behind_held held c.args.rest.now c.in-Err.fault c.requires.held t, c.len-in-Err.ensures.value)
+    omega (arith, after_held held c.args.rest.now c.in-Err.fault c.requires.held t, c.len-in-Err.ensures.value)
 
 pub lengthen-requires-in-Err : goal.lengthen-requires-in-Err
 lengthen-requires-in-Err g c =

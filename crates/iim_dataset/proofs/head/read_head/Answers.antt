@@ -1,7 +1,7 @@
 use Rattle.std.proofs.Common.{◌≡◌, ◌-◌, length, take, drop, get_or, refl, arith, inl, inr, subst, sym, rules, length-drop}
 use Rattle.std.proofs.lemmas.List.{take_all}
 use Rattle.byteorder.specs.Endian.{big_number}
-use Rattle.iim_dataset.specs.Tags.{HasNoTag}
+use Rattle.iim_dataset.specs.Format.Tags.{HasNoTag}
 use Rattle.iim_dataset.specs.declared.head.HeadFault.{HeadFault}
 use Rattle.iim_dataset.proofs.Fronts.{begun, begun_none, begun_three, begun_front, begun_extended, no_marker, no_form, no_length, whole_extended}
 use Rattle.iim_dataset.proofs.head.read_head.Goals as goal

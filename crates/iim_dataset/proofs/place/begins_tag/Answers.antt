@@ -1,6 +1,6 @@
 use Rattle.std.proofs.Common.{[], sym, subst, arith, append-nil, IfErr}
-use Rattle.iim_dataset.specs.Tags.{HasNoTag}
-use Rattle.iim_dataset.proofs.HeldTags.{behind_held}
+use Rattle.iim_dataset.specs.Format.Tags.{HasNoTag}
+use Rattle.iim_dataset.proofs.HeldTags.{after_held}
 use Rattle.iim_dataset.proofs.place.begins_tag.Goals as goal
 
 pub returns-in_default-2 : goal.returns-in_default-2
@@ -9,5 +9,5 @@ returns-in_default-2 c =
     let f = c.in_default.field-0 in
     let none : HasNoTag octets f = subst (λ r. IfErr r (HasNoTag octets)) c.in_default.is c.read_head.ensures.fault in (
       (λ bad. absurd cc),
-      (λ begins. absurd (omega (arith, none.within, behind_held octets [] f begins (subst (λ xs. HasNoTag xs f) (sym (append-nil octets)) none)))),
+      (λ begins. absurd (omega (arith, none.within, after_held octets [] f begins (subst (λ xs. HasNoTag xs f) (sym (append-nil octets)) none)))),
     )

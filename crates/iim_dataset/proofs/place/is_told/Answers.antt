@@ -1,6 +1,6 @@
 use Rattle.std.proofs.Common.{arith}
 use Rattle.std.proofs.lemmas.Bool.{leb-true, le-leb}
-use Rattle.iim_dataset.specs.Datasets.{canonical_tag}
+use Rattle.iim_dataset.specs.Format.Datasets.{canonical_tag}
 use Rattle.iim_dataset.proofs.Canonical.{tag_spells}
 use Rattle.iim_dataset.proofs.Counts.{tag-lt}
 use Rattle.iim_dataset.proofs.place.is_told.Goals as goal

@@ -1,7 +1,7 @@
 use Rattle.std.proofs.Common.{◌≡◌, ℕ, List, ◌++◌, take, subst, ◌∙◌, Option, Some, None, Ok, Err}
 use Rattle.std.specs.Prelude.{MatchOption, IfOk, IfErr, Result}
-use Rattle.iim_dataset.specs.Datasets.{count_octets}
-use Rattle.iim_dataset.specs.Tags.{BeginsTag, HasTag, HasNoTag}
+use Rattle.iim_dataset.specs.Format.Datasets.{count_octets}
+use Rattle.iim_dataset.specs.Format.Tags.{BeginsTag, HasTag, HasNoTag}
 use Rattle.iim_dataset.specs.declared.head.Head.{Head}
 use Rattle.iim_dataset.specs.declared.head.HeadFault.{HeadFault}
 use Rattle.iim_dataset.proofs.HeldTags.{nine_have, nine_begin, nine_refuse}

@@ -1,6 +1,7 @@
 use Rattle.std.proofs.Common.{ℕ, List, Option, None, sym, subst}
 use Rattle.iim_object.specs.declared.state.State.{State}
-use Rattle.iim_object.specs.Saved.{IsAt, Finds}
+use Rattle.iim_object.specs.Format.Saved.{IsAt}
+use Rattle.iim_object.specs.Finding.{Finds}
 use Rattle.iim_object.proofs.Saved.{finds_between}
 use Rattle.iim_object.proofs.place.state_at.Goals as goal
 

@@ -1,9 +1,11 @@
 use Rattle.std.proofs.Common.{◌≡◌, Some, None, IfOk, IfErr, rules, sym, subst}
 use Rattle.iim_object.specs.declared.state.State.{State}
-use Rattle.iim_object.specs.Objects.{SubfileBegun}
-use Rattle.iim_object.specs.States.{IsState, TakesSubfile, state_numbers}
-use Rattle.iim_object.specs.Reading.{GoesOn, Refuses}
-use Rattle.iim_object.specs.Saved.{IsAt, Finds}
+use Rattle.iim_object.specs.Format.Objects.{SubfileBegun}
+use Rattle.iim_object.specs.Format.States.{IsState, state_numbers}
+use Rattle.iim_object.specs.States.{TakesSubfile}
+use Rattle.iim_object.specs.Format.Reading.{LeadsOn, Refuses}
+use Rattle.iim_object.specs.Format.Saved.{IsAt}
+use Rattle.iim_object.specs.Finding.{Finds}
 use Rattle.iim_object.proofs.Saved.{no_state_before, finds_after, state_before, MayHaveBegun}
 use Rattle.iim_object.proofs.place.within.Goals as goal
 
@@ -23,5 +25,5 @@ returns-clause-finds c =
     let takes : TakesSubfile s = subst TakesSubfile same (search rules) in
     subst (Finds (IsAt (state_numbers n) c.args.taken (Some (c.args.count, c.args.left)) c.args.heads)) (sym c.ok.ensures.value)
     (finds_after n c.args.taken c.args.count c.args.left c.args.heads c.take_subfile.result begun is takes
-    (subst (λ (x : State). IfOk c.take_subfile.result (λ new. GoesOn (Some x) (SubfileBegun c.args.count) (Some new))) same c.take_subfile.ensures.goes_on)
+    (subst (λ (x : State). IfOk c.take_subfile.result (λ new. LeadsOn (Some x) (SubfileBegun c.args.count) (Some new))) same c.take_subfile.ensures.leads_on)
     (subst (λ (x : State). IfErr c.take_subfile.result (Refuses (Some x) (SubfileBegun c.args.count))) same c.take_subfile.ensures.refused))

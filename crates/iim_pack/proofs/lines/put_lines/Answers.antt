@@ -2,11 +2,11 @@ use Rattle.std.proofs.Common.{ℕ, Bool, true, false, List, [], ◌++◌, sym, a
 use Rattle.std.specs.Prelude.{IsTrue}
 use Rattle.std.specs.List.{list_all}
 use Rattle.std.proofs.lemmas.Bool.{and_parts}
-use Rattle.wire_story.specs.Texts.{is_line_octet}
-use Rattle.wire_story.specs.Delivery.{Event}
-use Rattle.iim_pack.specs.Packing.{BreaksOff, GoesOnWith}
+use Rattle.wire_story.specs.Format.Texts.{is_line_octet}
+use Rattle.wire_story.specs.Format.Delivery.{StoryEvent}
+use Rattle.iim_pack.specs.Format.Packing.{BreaksOff, ContinuesWith}
 use Rattle.iim_pack.specs.Format.Whole.{line_events, events_left}
-use Rattle.iim_pack.proofs.LinesOut.{goes_nowhere, goes_on, breaks_later, breaks_before, all_left}
+use Rattle.iim_pack.proofs.LinesOut.{goes_nowhere, leads_on, breaks_later, breaks_before, all_left}
 use Rattle.iim_pack.proofs.lines.put_lines.Goals as goal
 
 pub loop-line-init : goal.loop-line-init
@@ -28,7 +28,7 @@ loop-line-preserved g c =
       done = inv.done ++ line_events first line;
       parts = inv.parts ∙ (ap (λ (ls : List (List ℕ)). inv.done ++ events_left first ls) c.in-Some.ensures.steps ∙ sym (append_assoc inv.done (line_events first line) (events_left false rest)));
       lines = (and_parts (list_all is_line_octet line) (list_all (list_all is_line_octet) rest) each).1;
-      lengthened = goes_on g.W.Target.state c.args.packer.now c.loop-line.packer c.put_line.new.packer inv.done (line_events first line) c.texts_join.ensures inv.lengthened c.in-Ok.ensures.ok;
+      lengthened = leads_on g.W.Target.state c.args.packer.now c.loop-line.packer c.put_line.new.packer inv.done (line_events first line) c.texts_join.ensures inv.lengthened c.in-Ok.ensures.ok;
     }
 
 pub returns-in-Err-clause-broke : goal.returns-in-Err-clause-broke
@@ -41,4 +41,4 @@ returns-in-Err-clause-broke g c =
     let now = breaks_later state c.args.packer.now c.loop-line.packer c.put_line.new.packer inv.done (line_events first line) c.texts_join.ensures inv.lengthened c.in-Err.ensures.broke in
     let all = breaks_before state c.args.packer.now c.put_line.new.packer (inv.done ++ line_events first line) (events_left false rest) now in
     let parts = inv.parts ∙ (ap (λ (ls : List (List ℕ)). inv.done ++ events_left first ls) c.in-Some.ensures.steps ∙ sym (append_assoc inv.done (line_events first line) (events_left false rest))) in
-    subst (λ (events : List Event). BreaksOff state (GoesOnWith events) c.args.packer.now c.put_line.new.packer) (sym parts) all
+    subst (λ (events : List StoryEvent). BreaksOff state (ContinuesWith events) c.args.packer.now c.put_line.new.packer) (sym parts) all

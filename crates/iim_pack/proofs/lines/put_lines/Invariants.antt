@@ -1,15 +1,15 @@
 use Rattle.std.proofs.Common.{◌≡◌, List, ◌++◌, length}
 use Rattle.std.specs.Prelude.{IsTrue}
 use Rattle.std.specs.List.{list_all}
-use Rattle.wire_story.specs.Texts.{is_line_octet}
-use Rattle.wire_story.specs.Delivery.{Event, events_of_lines}
-use Rattle.iim_pack.specs.Packing.{Lengthens}
+use Rattle.wire_story.specs.Format.Texts.{is_line_octet}
+use Rattle.wire_story.specs.Format.Delivery.{StoryEvent, events_of_lines}
+use Rattle.iim_pack.specs.Format.Packing.{Lengthens}
 use Rattle.iim_pack.specs.Format.Whole.{events_left}
 use Rattle.iim_pack.proofs.lines.put_lines.Given as goal
 
 abbrev pub invariant-loop-line : goal.invariant-loop-line
 invariant-loop-line g l = record {
-  done : List Event;
+  done : List StoryEvent;
   parts : events_of_lines l.fn.lines.lines ≡ done ++ events_left l.is_first l.left;
   lines : IsTrue (list_all (list_all is_line_octet) l.left);
   lengthened : Lengthens (g.W.Target.state) l.fn.packer l.packer done;

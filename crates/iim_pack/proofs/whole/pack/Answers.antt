@@ -1,5 +1,5 @@
 use Rattle.std.proofs.Common.{List, ℕ, inr, sym, ◌∙◌}
-use Rattle.iim_pack.specs.Packing.{pack_cause, start_cause, finish_cause}
+use Rattle.iim_pack.specs.Format.Packing.{pack_cause, start_cause, finish_cause}
 use Rattle.iim_pack.proofs.Goings.{if_none, of_none}
 use Rattle.iim_pack.proofs.Wholes.{lines_again, packs, lines_broke, finish_broke, not_started, may_pack, may_start, lines_fit, may_finish}
 use Rattle.iim_pack.proofs.Orders.{pack_order}

@@ -1,6 +1,6 @@
 use Rattle.iim_round_trip.proofs.unpacking.unpack_packed.Goals as goal
-use Rattle.iim_unpack.specs.Unpacking.{limits_in}
-use Rattle.iim_unpack.specs.Pieces.{stream_of}
+use Rattle.iim_unpack.specs.Format.Unpacking.{limits_in}
+use Rattle.iim_unpack.specs.Format.Pieces.{stream_of}
 use Rattle.iim_round_trip.proofs.Given.{given_all, by_sink_all}
 
 pub returns-clause-given_back : goal.returns-clause-given_back

@@ -1,5 +1,5 @@
-use Rattle.iim_unpack.specs.Pieces.{stream_of}
-use Rattle.iim_unpack.specs.Unpacking.{limits_in}
+use Rattle.iim_unpack.specs.Format.Pieces.{stream_of}
+use Rattle.iim_unpack.specs.Format.Unpacking.{limits_in}
 use Rattle.iim_round_trip.proofs.Stories.{comes, fails}
 use Rattle.iim_round_trip.proofs.unpacking.unpack_story.Goals as goal
 

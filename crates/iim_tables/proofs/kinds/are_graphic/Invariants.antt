@@ -1,6 +1,6 @@
 use Rattle.std.proofs.Common.{◌≡◌, take}
 use Rattle.std.specs.List.{list_all}
-use Rattle.iim_tables.specs.Octets.{is_graphic}
+use Rattle.iim_tables.specs.Format.Octets.{is_graphic}
 use Rattle.iim_tables.proofs.kinds.are_graphic.Given as goal
 
 abbrev pub invariant-loop-octet : goal.invariant-loop-octet

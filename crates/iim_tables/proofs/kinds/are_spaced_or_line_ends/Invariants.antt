@@ -1,6 +1,6 @@
 use Rattle.std.proofs.Common.{◌≡◌, take}
 use Rattle.std.specs.List.{list_all}
-use Rattle.iim_tables.specs.Octets.{is_spaced_or_line_end}
+use Rattle.iim_tables.specs.Format.Octets.{is_spaced_or_line_end}
 use Rattle.iim_tables.proofs.kinds.are_spaced_or_line_ends.Given as goal
 
 abbrev pub invariant-loop-octet : goal.invariant-loop-octet

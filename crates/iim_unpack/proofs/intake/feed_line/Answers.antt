@@ -1,7 +1,7 @@
 use Rattle.std.proofs.Common.{◌≡◌, ◌<◌, ◌≤◌, ℕ, List, length, refl, ap, sym, subst, ◌∙◌, inl, inr}
-use Rattle.iim_dataset.specs.Devices.{Device}
-use Rattle.iim_unpack.specs.Blocks.{behind}
-use Rattle.iim_unpack.specs.Unpacking.{raised}
+use Rattle.iim_dataset.specs.Format.Devices.{Device}
+use Rattle.iim_unpack.specs.Format.Blocks.{with_held}
+use Rattle.iim_unpack.specs.Format.Unpacking.{raised}
 use Rattle.iim_fields.specs.declared.limits.Limits.{Limits}
 use Rattle.iim_unpack.proofs.Blocks.{line_used, line_front}
 use Rattle.iim_unpack.proofs.Intakes.{begin_on, went_more, went_done, went_refused, went_ended, went_truncated, went_missed, bounded, smaller, somewhere, faulted, told_truncated, not_told, was_fresh, not_fresh, used_within}
@@ -11,7 +11,7 @@ pub feeding-init : goal.feeding-init
 feeding-init g c =
     let st = g.R.Source.state in
     let joins = c.gifts_join.ensures in
-    let old : Device = behind c.args.block.now (st c.args.reader.now) in
+    let old : Device = with_held c.args.block.now (st c.args.reader.now) in
     record {
       went = begin_on g.S.StorySink.goes joins old c.args.unpacker.now c.args.sink.now c.stands_somewhere.ensures.counts (g.met.S.StorySink.nothing c.args.sink.now);
       ready = c.requires.ready;
@@ -23,9 +23,9 @@ pub returns-then-is_fresh-clause-fed : goal.returns-then-is_fresh-clause-fed
 returns-then-is_fresh-clause-fed g c =
     let st = g.R.Source.state in
     let joins = c.gifts_join.ensures in
-    let old : Device = behind c.args.block.now (st c.args.reader.now) in
-    let mid : Device = behind c.feeding.block (st c.feeding.reader) in
-    let nxt : Device = behind c.next_piece.new.block (st c.next_piece.new.reader) in
+    let old : Device = with_held c.args.block.now (st c.args.reader.now) in
+    let mid : Device = with_held c.feeding.block (st c.feeding.reader) in
+    let nxt : Device = with_held c.next_piece.new.block (st c.next_piece.new.reader) in
     let goes = g.S.StorySink.goes in
     let u = c.args.unpacker.now in
     let v = c.feeding.unpacker in
@@ -38,9 +38,9 @@ pub returns-in-Some-clause-faults : goal.returns-in-Some-clause-faults
 returns-in-Some-clause-faults g c =
     let st = g.R.Source.state in
     let joins = c.gifts_join.ensures in
-    let old : Device = behind c.args.block.now (st c.args.reader.now) in
-    let mid : Device = behind c.feeding.block (st c.feeding.reader) in
-    let nxt : Device = behind c.next_piece.new.block (st c.next_piece.new.reader) in
+    let old : Device = with_held c.args.block.now (st c.args.reader.now) in
+    let mid : Device = with_held c.feeding.block (st c.feeding.reader) in
+    let nxt : Device = with_held c.next_piece.new.block (st c.next_piece.new.reader) in
     let goes = g.S.StorySink.goes in
     let failures = g.S.StorySink.failures in
     let u = c.args.unpacker.now in
@@ -64,9 +64,9 @@ pub returns-in-Err-clause-faults : goal.returns-in-Err-clause-faults
 returns-in-Err-clause-faults g c =
     let st = g.R.Source.state in
     let joins = c.gifts_join.ensures in
-    let old : Device = behind c.args.block.now (st c.args.reader.now) in
-    let mid : Device = behind c.feeding.block (st c.feeding.reader) in
-    let nxt : Device = behind c.next_piece.new.block (st c.next_piece.new.reader) in
+    let old : Device = with_held c.args.block.now (st c.args.reader.now) in
+    let mid : Device = with_held c.feeding.block (st c.feeding.reader) in
+    let nxt : Device = with_held c.next_piece.new.block (st c.next_piece.new.reader) in
     let goes = g.S.StorySink.goes in
     let failures = g.S.StorySink.failures in
     let u = c.args.unpacker.now in
@@ -78,8 +78,8 @@ returns-in-Err-clause-faults g c =
 pub feeding-smaller : goal.feeding-smaller
 feeding-smaller g c =
     let st = g.R.Source.state in
-    let old : Device = behind c.args.block.now (st c.args.reader.now) in
-    let mid : Device = behind c.feeding.block (st c.feeding.reader) in
+    let old : Device = with_held c.args.block.now (st c.args.reader.now) in
+    let mid : Device = with_held c.feeding.block (st c.feeding.reader) in
     let goes = g.S.StorySink.goes in
     let u = c.args.unpacker.now in
     let v = c.feeding.unpacker in
@@ -97,9 +97,9 @@ pub feeding-preserved : goal.feeding-preserved
 feeding-preserved g c =
     let st = g.R.Source.state in
     let joins = c.gifts_join.ensures in
-    let old : Device = behind c.args.block.now (st c.args.reader.now) in
-    let mid : Device = behind c.feeding.block (st c.feeding.reader) in
-    let nxt : Device = behind c.next_piece.new.block (st c.next_piece.new.reader) in
+    let old : Device = with_held c.args.block.now (st c.args.reader.now) in
+    let mid : Device = with_held c.feeding.block (st c.feeding.reader) in
+    let nxt : Device = with_held c.next_piece.new.block (st c.next_piece.new.reader) in
     let goes = g.S.StorySink.goes in
     let u = c.args.unpacker.now in
     let v = c.feeding.unpacker in
@@ -107,7 +107,7 @@ feeding-preserved g c =
     let here = somewhere u c.requires.ready c.stands_somewhere.ensures.stood in
     let piece = c.held.result.now in
     let count = length c.held-count.result.now in
-    let new : Device = behind c.pass.new.self (st c.next_piece.new.reader) in
+    let new : Device = with_held c.pass.new.self (st c.next_piece.new.reader) in
     let all : count ≡ length piece = ap length (c.held-count.ensures ∙ sym c.held.ensures) in
     let some : 0 < length piece = subst (λ (xs : List ℕ). 0 < length xs) (sym c.held.ensures) (c.in-Ok-true.ensures.some c.in-Ok-true.field-0-test) in
     let went = went_more goes g.met.S.StorySink.joined joins c.delivery_may_be_cut.ensures old mid nxt new u v c.feed.new.self c.args.sink.now c.feeding.sink c.feed.new.sink c.feeding.used c.raised-used.result piece
@@ -118,16 +118,16 @@ feeding-preserved g c =
       went = went;
       ready = (then_.0.taking, then_.0.unended);
       calm = c.in-Ok-More.ensures.goes.0 ∙ c.feeding.invariant.calm;
-      leads = g.met.R.Source.goes_on c.args.reader.now c.feeding.reader c.next_piece.new.reader c.feeding.invariant.leads c.next_piece.ensures.leads;
+      leads = g.met.R.Source.leads_on c.args.reader.now c.feeding.reader c.next_piece.new.reader c.feeding.invariant.leads c.next_piece.ensures.leads;
     }
 
 pub returns-in-Ok-Done-clause-fed : goal.returns-in-Ok-Done-clause-fed
 returns-in-Ok-Done-clause-fed g c =
     let st = g.R.Source.state in
     let joins = c.gifts_join.ensures in
-    let old : Device = behind c.args.block.now (st c.args.reader.now) in
-    let mid : Device = behind c.feeding.block (st c.feeding.reader) in
-    let nxt : Device = behind c.next_piece.new.block (st c.next_piece.new.reader) in
+    let old : Device = with_held c.args.block.now (st c.args.reader.now) in
+    let mid : Device = with_held c.feeding.block (st c.feeding.reader) in
+    let nxt : Device = with_held c.next_piece.new.block (st c.next_piece.new.reader) in
     let goes = g.S.StorySink.goes in
     let u = c.args.unpacker.now in
     let v = c.feeding.unpacker in
@@ -135,7 +135,7 @@ returns-in-Ok-Done-clause-fed g c =
     let here = somewhere u c.requires.ready c.stands_somewhere.ensures.stood in
     let there = on.stands here.0 here.1 here.2 in
     let piece = c.held.result.now in
-    let new : Device = behind c.pass-in-Ok-Done.new.self (st c.next_piece.new.reader) in
+    let new : Device = with_held c.pass-in-Ok-Done.new.self (st c.next_piece.new.reader) in
     went_done goes g.met.S.StorySink.joined joins c.delivery_may_be_cut.ensures old mid nxt new u v c.feed.new.self c.args.sink.now c.feeding.sink c.feed.new.sink c.feeding.used c.raised.result c.in-Ok-Done.last piece
     on c.in-Ok-true.ensures.given (line_front c.in-Ok-Done.last c.next_piece.new.block c.pass-in-Ok-Done.new.self piece (st c.next_piece.new.reader) c.held.ensures c.pass-in-Ok-Done.ensures)
     (used_within c.feed.new.self piece c.in-Ok-Done.ensures.goes.1.0 c.in-Ok-Done.last c.in-Ok-Done.field-0 _ _ c.in-Ok-Done.field-0-is (c.in-Ok-Done.ensures.goes.1.2 _ _ there.0))
@@ -155,16 +155,16 @@ pub returns-in-Err-feed-clause-faults : goal.returns-in-Err-feed-clause-faults
 returns-in-Err-feed-clause-faults g c =
     let st = g.R.Source.state in
     let joins = c.gifts_join.ensures in
-    let old : Device = behind c.args.block.now (st c.args.reader.now) in
-    let mid : Device = behind c.feeding.block (st c.feeding.reader) in
-    let nxt : Device = behind c.next_piece.new.block (st c.next_piece.new.reader) in
+    let old : Device = with_held c.args.block.now (st c.args.reader.now) in
+    let mid : Device = with_held c.feeding.block (st c.feeding.reader) in
+    let nxt : Device = with_held c.next_piece.new.block (st c.next_piece.new.reader) in
     let goes = g.S.StorySink.goes in
     let failures = g.S.StorySink.failures in
     let u = c.args.unpacker.now in
     let v = c.feeding.unpacker in
     let on = c.feeding.invariant.went in
     let piece = c.held.result.now in
-    let new : Device = behind c.pass-in-Err-feed.new.self (st c.next_piece.new.reader) in (
+    let new : Device = with_held c.pass-in-Err-feed.new.self (st c.next_piece.new.reader) in (
       refl,
       inl (went_refused goes failures g.met.S.StorySink.joined joins c.delivery_may_be_cut.ensures old mid nxt new u v c.args.sink.now c.feeding.sink c.feed.new.sink c.feeding.used piece c.in-Err-feed.refusal
           on c.feeding.invariant.calm c.in-Ok-true.ensures.given (line_used (length c.held-count.result.now) c.next_piece.new.block c.pass-in-Err-feed.new.self piece (st c.next_piece.new.reader) (ap length c.held-count.ensures) c.held.ensures c.pass-in-Err-feed.ensures)

@@ -2,4 +2,4 @@ use Rattle.iim_unpack.proofs.Admitted.{framed_of}
 use Rattle.iim_unpack.proofs.laws.admitted_octets_are_framed.Goals as goal
 
 pub returns : goal.returns
-returns c = framed_of c.records_are_by_number.ensures
+returns c = framed_of

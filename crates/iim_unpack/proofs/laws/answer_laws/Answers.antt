@@ -11,12 +11,12 @@ returns c =
         sections = feed.sections;
         ends = feed.ends;
         objects = c.object_laws.ensures;
-        live = live.behind;
+        live = live.after;
         ended = live.ended;
       };
       way = feed.way;
       tell = feed.tell;
-      stuck = c.no_octets_go_on.ensures;
+      stuck = c.no_octets_continue.ensures;
       living = feed.living;
       numbers = feed.numbers;
       texts = c.texts_so_far_have_one_reading.ensures;

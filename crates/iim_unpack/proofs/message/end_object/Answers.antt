@@ -1,4 +1,4 @@
-use Rattle.iim_object.specs.Places.{head_token}
+use Rattle.iim_object.specs.Format.Places.{head_token}
 use Rattle.iim_unpack.proofs.Results.{err_then}
 use Rattle.iim_unpack.proofs.Ends.{by_fault}
 use Rattle.iim_unpack.proofs.message.end_object.Goals as goal

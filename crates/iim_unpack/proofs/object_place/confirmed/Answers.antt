@@ -1,10 +1,10 @@
 use Rattle.std.proofs.Common.{Option}
-use Rattle.iim_object.specs.Objects.{ObjectToken, Confirmed}
-use Rattle.iim_object.specs.Reading.{RefusesValue}
-use Rattle.iim_object.specs.Behind.{TokensFollow}
-use Rattle.iim_object.specs.Places.{Place, MayFollow, place_after}
-use Rattle.iim_object.specs.Reading.{StandsAt}
-use Rattle.iim_object.specs.Saved.{IsPossible}
+use Rattle.iim_object.specs.Format.Objects.{ObjectToken, Confirmed}
+use Rattle.iim_object.specs.Format.Reading.{RefusesValue}
+use Rattle.iim_object.specs.Format.Numbers.{TokensFollow}
+use Rattle.iim_object.specs.Format.Places.{Place, MayFollow, place_after}
+use Rattle.iim_object.specs.Format.Reading.{StandsAt}
+use Rattle.iim_object.specs.Format.Saved.{IsPossible}
 use Rattle.iim_object.specs.declared.state.State.{State}
 use Rattle.iim_object.specs.declared.fault.ObjectFault.{ObjectFault}
 use Rattle.iim_object.specs.declared.fault.ObjectFault.TheVariants.{Size, Stopped}

@@ -1,6 +1,6 @@
 use Rattle.std.proofs.Common.{refl}
-use Rattle.iim_object.specs.Objects.{ObjectEnded}
-use Rattle.iim_object.specs.Places.{place_after}
+use Rattle.iim_object.specs.Format.Objects.{ObjectEnded}
+use Rattle.iim_object.specs.Format.Places.{place_after}
 use Rattle.iim_unpack.proofs.ObjectPlaces.{before_size}
 use Rattle.iim_unpack.proofs.Results.{if_none}
 use Rattle.iim_unpack.proofs.object_place.confirmed_at.Goals as goal

@@ -1,6 +1,7 @@
 use Rattle.std.proofs.Common.{◌+◌, ℕ, [], List, Bor, get_or, take, drop, refl, sym, subst, ◌∙◌}
-use Rattle.iim_unpack.specs.Pieces.{HasFed, IsTurnedDown, stream_of}
-use Rattle.iim_unpack.specs.Unpacking.{limits_in}
+use Rattle.iim_unpack.specs.Pieces.{HasFed}
+use Rattle.iim_unpack.specs.Format.Pieces.{IsTurnedDown, stream_of}
+use Rattle.iim_unpack.specs.Format.Unpacking.{limits_in}
 use Rattle.iim_unpack.proofs.PieceLemmas.{CountLaws, AreLow, begin_fed, went_on, turned_down, still_taking, stream_step, stream_rest}
 use Rattle.iim_unpack.proofs.Results.{handed_on}
 use Rattle.iim_unpack.proofs.pieces.feed_pieces.Goals as goal

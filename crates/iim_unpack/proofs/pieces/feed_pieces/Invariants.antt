@@ -1,6 +1,7 @@
 use Rattle.std.proofs.Common.{◌≡◌, take}
-use Rattle.iim_unpack.specs.Pieces.{HasFed, stream_of}
-use Rattle.iim_unpack.specs.Unpacking.{limits_in}
+use Rattle.iim_unpack.specs.Pieces.{HasFed}
+use Rattle.iim_unpack.specs.Format.Pieces.{stream_of}
+use Rattle.iim_unpack.specs.Format.Unpacking.{limits_in}
 use Rattle.iim_unpack.proofs.pieces.feed_pieces.Given as goal
 
 abbrev pub invariant-loop-piece : goal.invariant-loop-piece

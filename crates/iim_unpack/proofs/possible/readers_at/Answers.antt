@@ -1,7 +1,7 @@
 use Rattle.std.proofs.Common.{◌≡◌, ◌+◌, List, length, subst, arith}
-use Rattle.iim_dataset.specs.Datasets.{Dataset}
-use Rattle.iim_fields.specs.Faults.{kept_octets, joined}
-use Rattle.iim_fields.specs.Standing.{IsWithin}
+use Rattle.iim_dataset.specs.Format.Datasets.{Dataset}
+use Rattle.iim_fields.specs.Format.Faults.{kept_octets, joined}
+use Rattle.iim_fields.specs.Format.Standing.{IsWithin}
 use Rattle.iim_unpack.specs.ByLayers.{RecordsLive, are_ended}
 use Rattle.iim_unpack.specs.Format.Possible.{begun_count, begun_fields, widest}
 use Rattle.iim_unpack.specs.Taking.{AreKept, told_datasets}

@@ -1,5 +1,5 @@
 use Rattle.std.proofs.Common.{◌≡◌, true, false, sym, subst, ◌∙◌}
-use Rattle.wire_message.specs.Saved.{LeadToSaved}
+use Rattle.wire_message.specs.Format.Saved.{LeadToSaved}
 use Rattle.iim_unpack.proofs.AtPlaces.{same_message, leads_saved}
 use Rattle.iim_unpack.proofs.readers.message_at.Goals as goal
 

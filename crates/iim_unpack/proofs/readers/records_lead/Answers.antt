@@ -1,11 +1,11 @@
 use Rattle.std.proofs.Common.{Bool, true, false, List, [], ap}
-use Rattle.iim_dataset.specs.Datasets.{Dataset}
-use Rattle.iim_fields.specs.Checks.{TakesHead, HasChecked}
+use Rattle.iim_dataset.specs.Format.Datasets.{Dataset}
+use Rattle.iim_fields.specs.Format.Checks.{TakesHead, HasChecked}
 use Rattle.iim_unpack.specs.ByLayers.{are_ended}
 use Rattle.iim_unpack.specs.Format.Possible.{widest}
 use Rattle.iim_unpack.specs.Taking.{TookAll, told_datasets}
 use Rattle.iim_unpack.specs.TicketParts.{phase_told}
-use Rattle.iim_unpack.proofs.AtPlaces.{goes_on_told}
+use Rattle.iim_unpack.proofs.AtPlaces.{leads_on_told}
 use Rattle.iim_unpack.proofs.Taking.{took_as}
 use Rattle.iim_unpack.proofs.readers.records_lead.Goals as goal
 
@@ -31,4 +31,4 @@ returns-else-take_told-clause-dies c no' each within lives =
     let ended : Bool = are_ended (phase_told c.args.phase.now) in
     let none : TookAll TakesHead HasChecked (λ _. widest) c.new-check.result (told ended) c.take_told.new.taker false =
     took_as TakesHead HasChecked (λ _. widest) _ _ _ _ _ _ (ap told c.has_ended.ensures) c.if-take_told.false (c.take_told.ensures.all each) in
-    none [] c.new-check.ensures.stands (goes_on_told c.args.section (phase_told c.args.phase.now) c.args.fields c.args.numbers c.args.some ended c.requires each within lives)
+    none [] c.new-check.ensures.stands (leads_on_told c.args.section (phase_told c.args.phase.now) c.args.fields c.args.numbers c.args.some ended c.requires each within lives)

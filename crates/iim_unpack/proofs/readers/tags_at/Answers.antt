@@ -1,6 +1,6 @@
 use Rattle.std.proofs.Common.{sym, subst}
-use Rattle.iim_dataset.specs.Datasets.{count_octets}
-use Rattle.iim_dataset.specs.Tags.{BeginsTag}
+use Rattle.iim_dataset.specs.Format.Datasets.{count_octets}
+use Rattle.iim_dataset.specs.Format.Tags.{BeginsTag}
 use Rattle.iim_dataset.specs.declared.place.DatasetPlace.TheVariants.{Tag, Inside}
 use Rattle.iim_unpack.specs.ByLayers.{TagsLead, head_at}
 use Rattle.iim_unpack.specs.Format.TicketForm.{IsPhase}

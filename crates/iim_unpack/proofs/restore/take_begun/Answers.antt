@@ -1,5 +1,5 @@
 use Rattle.std.proofs.Common.{ℕ, List, [], sym, subst}
-use Rattle.iim_fields.specs.Standing.{StandsIn}
+use Rattle.iim_fields.specs.Format.Standing.{StandsIn}
 use Rattle.iim_unpack.proofs.restore.take_begun.Goals as goal
 
 pub bytes-requires : goal.bytes-requires

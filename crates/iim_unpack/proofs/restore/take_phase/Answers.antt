@@ -1,5 +1,5 @@
 use Rattle.std.proofs.Common.{◌≡◌, sym, ap, subst}
-use Rattle.iim_fields.specs.Standing.{limits_of}
+use Rattle.iim_fields.specs.Format.Standing.{limits_of}
 use Rattle.iim_unpack.specs.ByLayers.{TagsLead, RecordsLive}
 use Rattle.iim_unpack.specs.Restoring.{AreWithinWith, RecordsStand}
 use Rattle.iim_unpack.specs.Format.Tickets.{Phase, DataBegun}

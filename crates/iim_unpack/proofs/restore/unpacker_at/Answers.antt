@@ -1,12 +1,12 @@
 use Rattle.std.proofs.Common.{List, None, refl, sym, subst}
-use Rattle.iim_dataset.specs.Datasets.{Dataset}
+use Rattle.iim_dataset.specs.Format.Datasets.{Dataset}
 use Rattle.iim_unpack.specs.ByLayers.{are_ended}
 use Rattle.iim_unpack.specs.Restoring.{IsMadeFor, RecordsStand}
 use Rattle.iim_unpack.specs.Format.Restored.{IsRestored}
 use Rattle.iim_unpack.specs.Taking.{told_datasets}
 use Rattle.iim_unpack.specs.Format.TicketForm.{Split, split_octets}
 use Rattle.iim_unpack.specs.TicketParts.{split_told}
-use Rattle.iim_unpack.specs.Unpacking.{Unpacking}
+use Rattle.iim_unpack.specs.Format.Unpacking.{Unpacking}
 use Rattle.iim_unpack.proofs.PlacesTold.{heads_within, made_for, ticket_at}
 use Rattle.iim_unpack.proofs.restore.unpacker_at.Goals as goal
 

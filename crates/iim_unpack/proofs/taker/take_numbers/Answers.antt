@@ -1,6 +1,6 @@
 use Rattle.std.proofs.Common.{◌≡◌, ℕ, false, List, [], ◌∷◌, ◌++◌, length, get_or, Option, None, subst, ◌∙◌, arith, append_assoc}
-use Rattle.iim_dataset.specs.Datasets.{Dataset}
-use Rattle.iim_object.specs.Packing.{number_dataset}
+use Rattle.iim_dataset.specs.Format.Datasets.{Dataset}
+use Rattle.iim_object.specs.Format.Packing.{number_dataset}
 use Rattle.iim_unpack.specs.Plain.{mode_dataset, one_dataset, plain_numbers}
 use Rattle.iim_unpack.specs.Taking.{TookAll, numbers_told}
 use Rattle.iim_unpack.proofs.Taking.{took_then, took_else}

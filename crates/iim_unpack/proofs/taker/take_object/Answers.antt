@@ -1,6 +1,6 @@
 use Rattle.std.proofs.Common.{[], ◌∷◌, List, cond, refl}
-use Rattle.iim_dataset.specs.Datasets.{Dataset}
-use Rattle.iim_unpack.specs.Begins.{dataset}
+use Rattle.iim_dataset.specs.Format.Datasets.{Dataset}
+use Rattle.iim_unpack.specs.Format.Begins.{dataset}
 use Rattle.iim_unpack.specs.Plain.{plain_end}
 use Rattle.iim_unpack.proofs.Taking.{took_else, took_then}
 use Rattle.iim_unpack.proofs.taker.take_object.Goals as goal

@@ -1,9 +1,9 @@
 use Rattle.std.proofs.Common.{◌≡◌, ℕ, Bool, true, false, cond, List, [], ◌∷◌, ◌++◌, refl, ap, sym, subst, ◌∙◌, append_assoc}
 use Rattle.std.proofs.Math.Seq.{take-nil}
 use Rattle.std.specs.Option.{unwrap_or}
-use Rattle.iim_dataset.specs.Datasets.{Dataset}
-use Rattle.iim_object.specs.Packing.{subfile_dataset, subfile_datasets}
-use Rattle.iim_unpack.specs.Begins.{dataset}
+use Rattle.iim_dataset.specs.Format.Datasets.{Dataset}
+use Rattle.iim_object.specs.Format.Packing.{subfile_dataset, subfile_datasets}
+use Rattle.iim_unpack.specs.Format.Begins.{dataset}
 use Rattle.iim_unpack.specs.Plain.{Numbers, filled, plain, plain_end, plain_numbers}
 use Rattle.iim_unpack.specs.Taking.{TookAll, numbers_told}
 use Rattle.iim_unpack.proofs.Taking.{took_else, took_then}

@@ -1,7 +1,7 @@
 use Rattle.std.proofs.Common.{◌≡◌, List, ◌++◌, length}
 use Rattle.std.specs.List.{flat_map}
-use Rattle.iim_dataset.specs.Datasets.{Dataset}
-use Rattle.iim_fields.specs.Walks.{rest_of}
+use Rattle.iim_dataset.specs.Format.Datasets.{Dataset}
+use Rattle.iim_fields.specs.Format.Walks.{rest_of}
 use Rattle.iim_unpack.specs.Format.Tickets.{four, field_octets}
 use Rattle.iim_unpack.proofs.ticket.push_fields.Given as goal
 

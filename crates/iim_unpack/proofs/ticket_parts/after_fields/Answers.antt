@@ -1,4 +1,4 @@
-use Rattle.iim_unpack.specs.Begins.{dataset}
+use Rattle.iim_unpack.specs.Format.Begins.{dataset}
 use Rattle.iim_unpack.proofs.Splitting.{one_more, no_more}
 use Rattle.iim_unpack.proofs.ticket_parts.after_fields.Goals as goal
 

@@ -1,7 +1,7 @@
 use Rattle.std.proofs.Common.{Bool, refl, subst}
 use Rattle.clap.specs.Matches.{found_of}
 use Rattle.clap.specs.Walk.{rows_of}
-use Rattle.iimwire.specs.Requests.{TellsPacking}
+use Rattle.iimwire.specs.Format.Requests.{TellsPacking}
 use Rattle.iimwire.proofs.Requests.{tells_packing}
 use Rattle.iimwire.proofs.request.pack_job.Goals as goal
 

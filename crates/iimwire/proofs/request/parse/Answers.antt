@@ -4,7 +4,7 @@ use Rattle.clap.specs.Simple.{App, subcommand_rows_of}
 use Rattle.clap.specs.Walk.{Text, rows_of}
 use Rattle.clap.specs.Words.{is_simple, is_simple_and_free, fault_of, subcommand_of}
 use Rattle.clap.proofs.WalkLemmas.{first_value-rows}
-use Rattle.iimwire.specs.Requests.{AsksJob, IsFaultOf, program}
+use Rattle.iimwire.specs.Format.Requests.{AsksJob, IsFaultOf, program}
 use Rattle.iimwire.specs.Verbs.{verb_name}
 use Rattle.iimwire.proofs.Requests.{fault_of_job, handed_on, names, names_verb, program_simple, program_free}
 use Rattle.iimwire.proofs.request.parse.Goals as goal

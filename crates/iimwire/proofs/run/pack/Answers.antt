@@ -1,14 +1,14 @@
 use Rattle.std.proofs.Common.{◌≡◌, ℕ, Result, Ok, Err, IfOk, IfErr, OnErr, ap, sym, inl, inr, subst}
-use Rattle.iim_dataset.specs.Devices.{Device}
+use Rattle.iim_dataset.specs.Format.Devices.{Device}
 use Rattle.iim_commands.specs.Format.Devices.{devices}
-use Rattle.iimwire.specs.Outcomes.{Complained, Finishes, Packs}
+use Rattle.iimwire.specs.Format.Outcomes.{Complained, Finishes, Packs}
 use Rattle.iim_commands.specs.Format.Packing.{Answered, Asked, IsUnanswered, asked}
-use Rattle.iim_commands.specs.declared.fault.Fault.{Fault}
-use Rattle.iim_commands.specs.declared.fault.Fault.TheVariants.{CannotRead, CannotWrite, OutOfMemory}
+use Rattle.iim_commands.specs.declared.fault.CommandFault.{CommandFault}
+use Rattle.iim_commands.specs.declared.fault.CommandFault.TheVariants.{CannotRead, CannotWrite, OutOfMemory}
 use Rattle.iimwire.proofs.run.pack.Goals as goal
 
 -- what is told on the errors makes no difference
-unanswered : (a : Asked) (source rest old new errors mid told : Device) (fault : Fault)
+unanswered : (a : Asked) (source rest old new errors mid told : Device) (fault : CommandFault)
     → IsUnanswered a (devices source old errors) (devices rest new mid) fault → IsUnanswered a (devices source old errors) (devices rest new told) fault
 unanswered a source rest old new errors mid told CannotRead h = h
 unanswered a source rest old new errors mid told CannotWrite h = h
@@ -18,7 +18,7 @@ same_state : {T F X Y : Type 0} → (r : Result T F) (f : X → Y) (x y : X) →
 same_state (Ok t) f x y h = tt
 same_state (Err e) f x y h = ap f h
 
-packs : (a : Asked) (source rest old new errors mid told : Device) (answer : Result ℕ Fault) (status : ℕ)
+packs : (a : Asked) (source rest old new errors mid told : Device) (answer : Result ℕ CommandFault) (status : ℕ)
     → IfOk answer (Answered a (devices source old errors) (devices rest new mid)) → IfErr answer (IsUnanswered a (devices source old errors) (devices rest new mid))
     → OnErr answer (mid ≡ errors) → Finishes mid told answer status → Packs a (devices source old errors) (devices rest new told) status
 packs a source rest old new errors mid told (Ok want) status ok err same f =

@@ -1,15 +1,15 @@
 use Rattle.std.proofs.Common.{◌≡◌, ℕ, List, Result, Ok, Err, IfOk, IfErr, ap, sym, ◌∙◌, inl, inr, subst}
-use Rattle.iim_dataset.specs.Devices.{Device}
-use Rattle.iim_unpack.specs.Intakes.{line}
+use Rattle.iim_dataset.specs.Format.Devices.{Device}
+use Rattle.iim_unpack.specs.Format.Intakes.{line}
 use Rattle.iim_commands.specs.Format.Devices.{devices}
 use Rattle.iim_commands.specs.Format.Listings.{Envelope}
-use Rattle.iimwire.specs.Outcomes.{Finishes, Listed}
+use Rattle.iimwire.specs.Format.Outcomes.{Finishes, Listed}
 use Rattle.iim_commands.specs.Format.Reports.{Reported, IsUnreported}
-use Rattle.iim_commands.specs.declared.fault.Fault.{Fault}
-use Rattle.iimwire.proofs.Runs.{behind_none}
+use Rattle.iim_commands.specs.declared.fault.CommandFault.{CommandFault}
+use Rattle.iimwire.proofs.Runs.{with_none_held}
 use Rattle.iimwire.proofs.run.report.Goals as goal
 
-listed : (text : ℕ → Envelope → List ℕ) (source rest old new errors_old errors_new : Device) (answer : Result ℕ Fault) (status : ℕ)
+listed : (text : ℕ → Envelope → List ℕ) (source rest old new errors_old errors_new : Device) (answer : Result ℕ CommandFault) (status : ℕ)
     → IfOk answer (Reported text source rest old new) → IfErr answer (IsUnreported text source rest old new) → Finishes errors_old errors_new answer status
     → Listed text (devices source old errors_old) (devices rest new errors_new) status
 listed text source rest old new errors_old errors_new (Ok want) status ok err f =
@@ -24,7 +24,7 @@ returns g c =
     let old = g.W.Target.state c.args.output in
     let new = g.W.Target.state c.list-answer.new.output in
     let start : line g.R.Source.state c.new-intake.result ≡ g.R.Source.state c.args.reader =
-    behind_none c.new-intake.result.block (g.R.Source.state c.new-intake.result.reader) c.new-intake.ensures.block ∙ ap g.R.Source.state c.new-intake.ensures.reader in (
+    with_none_held c.new-intake.result.block (g.R.Source.state c.new-intake.result.reader) c.new-intake.ensures.block ∙ ap g.R.Source.state c.new-intake.ensures.reader in (
       intake.reader,
       intake.block,
       subst (λ (r : g.row.R.Denot). g.R.Source.leads r intake.reader) c.new-intake.ensures.reader c.list-answer.ensures.leads,

@@ -1,14 +1,14 @@
 use Rattle.std.proofs.Common.{◌≡◌, ℕ, ℤ, Result, Ok, Err, IfOk, IfErr, ap, sym, ◌∙◌, inl, inr, subst}
-use Rattle.iim_dataset.specs.Devices.{Device}
-use Rattle.iim_unpack.specs.Intakes.{line}
+use Rattle.iim_dataset.specs.Format.Devices.{Device}
+use Rattle.iim_unpack.specs.Format.Intakes.{line}
 use Rattle.iim_commands.specs.Format.Audits.{Audited, IsUnaudited}
 use Rattle.iim_commands.specs.Format.Devices.{devices}
-use Rattle.iimwire.specs.Outcomes.{Finishes, Reviewed}
-use Rattle.iim_commands.specs.declared.fault.Fault.{Fault}
-use Rattle.iimwire.proofs.Runs.{behind_none}
+use Rattle.iimwire.specs.Format.Outcomes.{Finishes, Reviewed}
+use Rattle.iim_commands.specs.declared.fault.CommandFault.{CommandFault}
+use Rattle.iimwire.proofs.Runs.{with_none_held}
 use Rattle.iimwire.proofs.run.review.Goals as goal
 
-reviewed : (now same : ℤ) (source rest old new errors_old errors_new : Device) (answer : Result ℕ Fault) (status : ℕ) → same ≡ now
+reviewed : (now same : ℤ) (source rest old new errors_old errors_new : Device) (answer : Result ℕ CommandFault) (status : ℕ) → same ≡ now
     → IfOk answer (Audited same source rest old new) → IfErr answer (IsUnaudited same source rest old new) → Finishes errors_old errors_new answer status
     → Reviewed now (devices source old errors_old) (devices rest new errors_new) status
 reviewed now same source rest old new errors_old errors_new (Ok want) status e ok err f =
@@ -24,7 +24,7 @@ returns g c =
     let new = g.W.Target.state c.write_audit-answer.new.output in
     let now = c.timestamp.result.nanosecond in
     let start : line g.R.Source.state c.new-intake.result ≡ g.R.Source.state c.args.reader =
-    behind_none c.new-intake.result.block (g.R.Source.state c.new-intake.result.reader) c.new-intake.ensures.block ∙ ap g.R.Source.state c.new-intake.ensures.reader in (
+    with_none_held c.new-intake.result.block (g.R.Source.state c.new-intake.result.reader) c.new-intake.ensures.block ∙ ap g.R.Source.state c.new-intake.ensures.reader in (
       intake.reader,
       intake.block,
       subst (λ (r : g.row.R.Denot). g.R.Source.leads r intake.reader) c.new-intake.ensures.reader c.write_audit-answer.ensures.leads,

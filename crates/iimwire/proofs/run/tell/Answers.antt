@@ -1,16 +1,16 @@
 use Rattle.std.proofs.Common.{◌≡◌, ℕ, Result, Ok, Err, IfOk, IfErr, ap, sym, ◌∙◌, inl, inr, subst}
-use Rattle.iim_dataset.specs.Devices.{Device}
-use Rattle.iim_unpack.specs.Intakes.{line}
+use Rattle.iim_dataset.specs.Format.Devices.{Device}
+use Rattle.iim_unpack.specs.Format.Intakes.{line}
 use Rattle.iim_commands.specs.Format.Devices.{devices}
 use Rattle.iim_commands.specs.Format.Narration.{IsUnnarrated, Narrated}
-use Rattle.iimwire.specs.Outcomes.{Finishes, Told}
-use Rattle.iim_commands.specs.declared.fault.Fault.{Fault}
-use Rattle.iimwire.proofs.Runs.{behind_none}
+use Rattle.iimwire.specs.Format.Outcomes.{Finishes, ToldAsStory}
+use Rattle.iim_commands.specs.declared.fault.CommandFault.{CommandFault}
+use Rattle.iimwire.proofs.Runs.{with_none_held}
 use Rattle.iimwire.proofs.run.tell.Goals as goal
 
-told : (source rest old new errors_old errors errors_new : Device) (answer : Result ℕ Fault) (status : ℕ) → IfOk answer (Narrated source rest old new errors_old errors)
+told : (source rest old new errors_old errors errors_new : Device) (answer : Result ℕ CommandFault) (status : ℕ) → IfOk answer (Narrated source rest old new errors_old errors)
     → IfErr answer (IsUnnarrated source rest old new errors_old errors) → Finishes errors errors_new answer status
-    → Told (devices source old errors_old) (devices rest new errors_new) status
+    → ToldAsStory (devices source old errors_old) (devices rest new errors_new) status
 told source rest old new errors_old errors errors_new (Ok want) status ok err f =
     inl (subst (λ (d : Device). Narrated source rest old new errors_old d status) (sym f.1)
     (subst (λ (n : ℕ). Narrated source rest old new errors_old errors n) (sym f.0) ok))
@@ -27,7 +27,7 @@ returns g c =
     let errors = g.E.Target.state c.narrate-answer.new.errors in
     let answer = c.narrate-answer.result in
     let source : line g.R.Source.state c.new-intake.result ≡ g.R.Source.state c.args.reader =
-    behind_none c.new-intake.result.block (g.R.Source.state c.new-intake.result.reader) c.new-intake.ensures.block ∙ ap g.R.Source.state c.new-intake.ensures.reader in
+    with_none_held c.new-intake.result.block (g.R.Source.state c.new-intake.result.reader) c.new-intake.ensures.block ∙ ap g.R.Source.state c.new-intake.ensures.reader in
     let begun : g.W.Target.state c.new-lines.result.writer ≡ old = ap g.W.Target.state c.new-lines.ensures.writer in
     let ended : g.W.Target.state lines.writer ≡ new = ap g.W.Target.state (sym c.into_writer.ensures) in (
       intake.reader,

@@ -2,14 +2,14 @@ use Rattle.std.proofs.Common.{◌<◌, length, take, get_or, sym, ◌∙◌, ari
 use Rattle.std.specs.List.{list_all}
 use Rattle.std.proofs.lemmas.Bool.{and_from}
 use Rattle.std.proofs.lemmas.List.Folds.{list_all_more}
-use Rattle.wire_message.specs.Fields.{is_of}
+use Rattle.wire_message.specs.Classes.{is_in_class}
 use Rattle.wire_message.proofs.field.run_len.Goals as goal
 
 pub loop-at-preserved : goal.loop-at-preserved
 loop-at-preserved c =
     let xs = c.args.octets.now in
     let at = c.loop-at.at in
-    let test = is_of c.args.class in
+    let test = is_in_class c.args.class in
     let within : at < length xs = omega arith in
     list_all_more test xs at 0 within
     ∙ and_from (list_all test (take at xs)) (test (get_or xs at 0)) c.loop-at.invariant (sym c.is_in.ensures ∙ c.if-not-is_in.false)

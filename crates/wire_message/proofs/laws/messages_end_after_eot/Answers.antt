@@ -1,10 +1,10 @@
 use Rattle.std.proofs.Common.{◌≡◌, ℕ, Bool, true, false, IsTrue, List, [], Some, refl, append-nil}
-use Rattle.iim_dataset.specs.Languages.{IsAlive}
-use Rattle.wire_story.specs.Tokens.{with_end}
-use Rattle.wire_message.specs.Layers.{MessageLanguage}
-use Rattle.wire_message.specs.Laws.{MessagesEndAfterEot}
-use Rattle.wire_message.specs.Reading.{is_ended, trailer_read}
-use Rattle.wire_message.specs.SoFar.{LeadTo}
+use Rattle.iim_dataset.specs.Format.Languages.{IsAlive}
+use Rattle.wire_story.specs.Format.Tokens.{with_end}
+use Rattle.wire_message.specs.Format.Layers.{MessageLanguage}
+use Rattle.wire_message.specs.Format.Laws.{MessagesEndAfterEot}
+use Rattle.wire_message.specs.Format.Reading.{is_ended, trailer_read}
+use Rattle.wire_message.specs.Format.SoFar.{LeadTo}
 use Rattle.wire_message.specs.declared.place.Place.{Place}
 use Rattle.wire_message.proofs.Readings.{is_whole, is_unfinished}
 use Rattle.wire_message.proofs.laws.messages_end_after_eot.Goals as goal

@@ -1,10 +1,10 @@
 use Rattle.std.proofs.Common.{slice_index, sym, subst}
 use Rattle.std.specs.Prelude.{IfNone}
-use Rattle.wire_message.specs.Reading.{DiesWith}
+use Rattle.wire_message.specs.Steps.{DiesWith}
 use Rattle.wire_message.specs.declared.place.Place.{Place}
 use Rattle.wire_message.specs.declared.place.Place.TheVariants.{AfterEnd}
 use Rattle.wire_message.specs.Parts.{EndsPart}
-use Rattle.wire_message.specs.SoFar.{IsPlace}
+use Rattle.wire_message.specs.Format.SoFar.{IsPlace}
 use Rattle.wire_message.proofs.Stops.{dies, end_stops}
 use Rattle.wire_message.proofs.next.next_part.Goals as goal
 

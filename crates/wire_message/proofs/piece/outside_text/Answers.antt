@@ -1,5 +1,5 @@
 use Rattle.std.proofs.Common.{◌≡◌, slice_index, subst, arith}
-use Rattle.wire_message.specs.Reading.{DiesWith}
+use Rattle.wire_message.specs.Steps.{DiesWith}
 use Rattle.wire_message.specs.declared.place.Place.{Place}
 use Rattle.wire_message.proofs.piece.outside_text.Goals as goal
 

@@ -1,5 +1,5 @@
 use Rattle.std.proofs.Common.{[], take, refl, sym, subst}
-use Rattle.wire_message.specs.Reading.{Takes, Stops}
+use Rattle.wire_message.specs.Steps.{TakesOctets, Stops}
 use Rattle.wire_message.specs.declared.place.Place.{Place}
 use Rattle.wire_message.specs.declared.place.Place.TheVariants.{Text}
 use Rattle.wire_message.proofs.Machine.{of}
@@ -12,8 +12,8 @@ returns-then-ended-clause-takes g c =
     let goes = g.S.StorySink.goes in
     let failures = g.S.StorySink.failures in
     let sink = c.args.sink.now in
-    subst (λ (p : Place). Takes goes failures p sink front c.begin_trailer.new.place c.in_text.new.sink) (sym c.in-Text.is)
-    (subst (λ (q : Place). Takes goes failures old sink front q c.in_text.new.sink) (sym (c.begin_trailer.ensures _ _ refl))
+    subst (λ (p : Place). TakesOctets goes failures p sink front c.begin_trailer.new.place c.in_text.new.sink) (sym c.in-Text.is)
+    (subst (λ (q : Place). TakesOctets goes failures old sink front q c.in_text.new.sink) (sym (c.begin_trailer.ensures _ _ refl))
     (c.in-Ok.ensures.ended c.if-ended.true (of []) refl))
 
 pub returns-in-Err-clause-stops : goal.returns-in-Err-clause-stops

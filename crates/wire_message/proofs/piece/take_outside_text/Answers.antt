@@ -1,5 +1,5 @@
 use Rattle.std.proofs.Common.{[], take, refl}
-use Rattle.wire_message.proofs.Readings.{goes_on_of, goes_somewhere_of, leads_by, dies_in, stays_at}
+use Rattle.wire_message.proofs.Readings.{leads_on_of, goes_somewhere_of, leads_by, dies_in, stays_at}
 use Rattle.wire_message.proofs.piece.take_outside_text.Goals as goal
 
 pub returns-in-Some-clause-takes : goal.returns-in-Some-clause-takes
@@ -11,7 +11,7 @@ returns-in-Some-clause-takes g c =
     let takes = c.in-Some.ensures.takes in
     record {
       is_place = takes.is_place;
-      told = ([], g.met.S.StorySink.nothing c.args.sink.now, goes_on_of p q (take n rest) [] (leads_by p q rest n takes));
+      told = ([], g.met.S.StorySink.nothing c.args.sink.now, leads_on_of p q (take n rest) [] (leads_by p q rest n takes));
       calm = refl;
     }
 

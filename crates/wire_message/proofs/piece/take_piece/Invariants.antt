@@ -1,6 +1,6 @@
 use Rattle.std.proofs.Common.{◌≡◌, ◌≤◌, ◌-◌, take, length, Some}
-use Rattle.wire_message.specs.SoFar.{IsPlace}
-use Rattle.wire_message.specs.Reading.{Told}
+use Rattle.wire_message.specs.Format.SoFar.{IsPlace}
+use Rattle.wire_message.specs.Format.Reading.{Told}
 use Rattle.wire_message.proofs.piece.take_piece.Given as goal
 
 -- the octets so far have led here, and the sink was told what they deliver

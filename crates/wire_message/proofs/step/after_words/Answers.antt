@@ -1,6 +1,6 @@
 use Rattle.std.proofs.Common.{◌==◌, nat_lt, length, slice_index, sym, ◌∙◌, refl}
 use Rattle.std.proofs.lemmas.Bool.{and_parts}
-use Rattle.wire_message.specs.Fields.{is_filler_octet}
+use Rattle.wire_message.specs.Format.Fields.{is_filler_octet}
 use Rattle.wire_message.specs.declared.place.Place.TheVariants.{Words}
 use Rattle.wire_message.proofs.Goings.{words_to_gap}
 use Rattle.wire_message.proofs.Stops.{dies, words_stops}

@@ -2,9 +2,10 @@ use Rattle.std.proofs.Common.{◌≡◌, List, ◌++◌, ℕ, take, slice_index,
 use Rattle.std.proofs.Math.Seq.{take-length}
 use Rattle.wire_story.specs.declared.fault.TextCause.{TextCause}
 use Rattle.wire_story.specs.declared.fault.TextCause.TheVariants as text_cause
-use Rattle.wire_story.specs.Reading as story
-use Rattle.wire_message.specs.Messages.{IsTrailer}
-use Rattle.wire_message.specs.Reading.{Refuses, GoesOn, CountsCause, cause_of}
+use Rattle.wire_story.specs.Format.Reading as story
+use Rattle.wire_message.specs.Format.Messages.{IsTrailer}
+use Rattle.wire_message.specs.Format.Reading.{Refuses, LeadsOn, CountsCause}
+use Rattle.wire_message.specs.Steps.{cause_of}
 use Rattle.wire_message.specs.declared.fault.MessageCause.{MessageCause}
 use Rattle.wire_message.specs.declared.place.Place.TheVariants.{Text}
 use Rattle.wire_message.proofs.Ended.{all_taken, ends_at, stops_somewhere, refuses_at}
@@ -19,14 +20,14 @@ returns-in-Ok-clause-takes g c = λ on.
     let place = c.requires.place in
     let old = (c.places_are_reached.ensures c.args.text.now).0 place.1 in
     record {
-      is_place = (place.0, (c.places_are_reached.ensures c.run.new.self).1 (old.0 ++ rest, c.in-Ok.ensures.goes_on old.0 old.1));
+      is_place = (place.0, (c.places_are_reached.ensures c.run.new.self).1 (old.0 ++ rest, c.in-Ok.ensures.taken.leads_on old.0 old.1));
       told = (
         rest,
-        c.in-Ok.ensures.told,
-        subst (λ (u : List ℕ). GoesOn (Some (Text h c.args.text.now)) u rest (Some (Text h c.run.new.self))) (sym (take-length rest))
-            (all_taken h c.args.text.now c.run.new.self rest c.in-Ok.ensures.goes_on),
+        c.in-Ok.ensures.taken.told,
+        subst (λ (u : List ℕ). LeadsOn (Some (Text h c.args.text.now)) u rest (Some (Text h c.run.new.self))) (sym (take-length rest))
+            (all_taken h c.args.text.now c.run.new.self rest c.in-Ok.ensures.taken.leads_on),
       );
-      calm = c.in-Ok.ensures.calm;
+      calm = c.in-Ok.ensures.taken.calm;
     }
 
 -- a story that refused a control octet counted no failure
@@ -35,7 +36,7 @@ uncounted cause old new e counted = subst (story.CountsCause old new) e counted
 
 pub returns-then-rest-fault-eq-ETX-clause-ended : goal.returns-then-rest-fault-eq-ETX-clause-ended
 returns-then-rest-fault-eq-ETX-clause-ended g c = λ ended trailer none.
-    let e = c.in-Err.ensures in
+    let e = c.in-Err.ensures.refused in
     let fault = c.in-Err.fault in
     let rest = c.args.rest.now in
     let control = c.is_control.ensures.yes c.if-is_control.true in
@@ -43,7 +44,7 @@ returns-then-rest-fault-eq-ETX-clause-ended g c = λ ended trailer none.
       is_place = (c.requires.place.0, subst IsTrailer (sym none) (refl, omega arith, omega arith));
       told = (
         take fault.taken rest,
-        e.told_front,
+        e.told,
         ends_at c.texts_end_in_no_return.ensures c.stories_live_as_texts_so_far.ensures c.args.head.now c.args.text.now trailer rest fault.taken fault.cause none e.before
             control c.if-rest-fault-eq-ETX.true e.refused,
       );
@@ -58,7 +59,7 @@ counted_as text_cause.Sink old new h = h
 
 pub returns-else-is_control-clause-stops : goal.returns-else-is_control-clause-stops
 returns-else-is_control-clause-stops g c =
-    let e = c.in-Err.ensures in
+    let e = c.in-Err.ensures.refused in
     let fault = c.in-Err.fault in
     let rest = c.args.rest.now in
     let h = c.args.head.now in
@@ -75,7 +76,7 @@ returns-else-is_control-clause-stops g c =
           h c.args.text.now rest fault.taken fault.cause (c.type_inv.rest fault.taken).fits other e.refused);
       told = (
         take fault.taken rest,
-        e.told_front,
+        e.told,
         stops_somewhere c.stories_live_as_texts_so_far.ensures h c.args.text.now (take fault.taken rest) (slice_index rest fault.taken) fault.cause e.refused,
       );
       counted = subst (CountsCause _ _) same (counted_as fault.cause _ _ e.counted);

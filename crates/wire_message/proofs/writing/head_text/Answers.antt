@@ -1,5 +1,5 @@
 use Rattle.std.proofs.Common.{ℕ, List, ◌∷◌, ◌++◌, ap, ◌∙◌}
-use Rattle.wire_message.specs.Canonical.{packed_info}
+use Rattle.wire_message.specs.Format.Canonical.{packed_info}
 use Rattle.wire_message.proofs.Written.{head_joined}
 use Rattle.wire_message.proofs.writing.head_text.Goals as goal
 

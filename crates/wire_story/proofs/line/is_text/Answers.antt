@@ -1,7 +1,7 @@
 use Rattle.std.proofs.Common.{◌≡◌, true, false, length, take, sym, ap, ◌∙◌, subst, arith, inl, inr}
 use Rattle.std.proofs.lemmas.Bool.{eqb-true, eq-eqb, cases_lt}
 use Rattle.std.proofs.lemmas.List.{take_all}
-use Rattle.wire_story.specs.Texts.{IsLine}
+use Rattle.wire_story.specs.Format.Texts.{IsLine}
 use Rattle.wire_story.proofs.Calm.{line_at}
 use Rattle.wire_story.proofs.line.is_text.Goals as goal
 

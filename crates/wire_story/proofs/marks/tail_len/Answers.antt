@@ -2,7 +2,7 @@ use Rattle.std.proofs.Common.{◌<◌, length, take, get_or, sym, ◌∙◌, ari
 use Rattle.std.specs.List.{list_all}
 use Rattle.std.proofs.lemmas.Bool.{and_from}
 use Rattle.std.proofs.lemmas.List.Folds.{list_all_more}
-use Rattle.wire_story.specs.Texts.{is_line_octet}
+use Rattle.wire_story.specs.Format.Texts.{is_line_octet}
 use Rattle.wire_story.proofs.marks.tail_len.Goals as goal
 
 pub loop-at-preserved : goal.loop-at-preserved

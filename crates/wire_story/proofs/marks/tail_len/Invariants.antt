@@ -1,5 +1,5 @@
 use Rattle.std.proofs.Common.{◌≤◌, ◌-◌, length, take}
-use Rattle.wire_story.specs.Texts.{IsLine}
+use Rattle.wire_story.specs.Format.Texts.{IsLine}
 use Rattle.wire_story.proofs.marks.tail_len.Given as goal
 
 abbrev pub invariant-loop-at : goal.invariant-loop-at

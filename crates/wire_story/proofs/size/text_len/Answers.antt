@@ -1,6 +1,6 @@
 use Rattle.std.proofs.Common.{◌≡◌, ℕ, ◌+◌, ◌==◌, List, length, count_by, refl, ap, sym, ◌∙◌, arith}
-use Rattle.wire_story.specs.Texts.{packed_text}
-use Rattle.wire_story.specs.Collecting.{lines_in}
+use Rattle.wire_story.specs.Format.Texts.{packed_text}
+use Rattle.wire_story.specs.Joining.{lines_in}
 use Rattle.wire_story.proofs.Collected.{packed_len}
 use Rattle.wire_story.proofs.size.text_len.Goals as goal
 
@@ -8,17 +8,17 @@ packed : (octets : List ℕ) (lines : List (List ℕ)) (ends : ℕ) → lines_in
 packed octets lines ends e f =
     ap (λ (ls : List (List ℕ)). length (packed_text ls)) (sym e) ∙ (packed_len octets ∙ ap (λ (n : ℕ). length octets + n) (sym f))
 
-pub returns-then-len-le-MAX_SIZE-clause-len : goal.returns-then-len-le-MAX_SIZE-clause-len
-returns-then-len-le-MAX_SIZE-clause-len c =
+pub returns-then-len-le-GREATEST_SIZE-clause-len : goal.returns-then-len-le-GREATEST_SIZE-clause-len
+returns-then-len-le-GREATEST_SIZE-clause-len c =
     let len = packed c.octets-octets.result.now c.args.lines.now.lines c.line_ends.result c.octets-octets.ensures c.line_ends.ensures in
     omega (arith, len, c.in_ok-len.ensures.1)
 
-pub returns-then-len-le-MAX_SIZE-clause-fits : goal.returns-then-len-le-MAX_SIZE-clause-fits
-returns-then-len-le-MAX_SIZE-clause-fits c =
+pub returns-then-len-le-GREATEST_SIZE-clause-fits : goal.returns-then-len-le-GREATEST_SIZE-clause-fits
+returns-then-len-le-GREATEST_SIZE-clause-fits c =
     let len = packed c.octets-octets.result.now c.args.lines.now.lines c.line_ends.result c.octets-octets.ensures c.line_ends.ensures in
     (λ yes. omega (arith, len, c.in_ok-len.ensures.1), λ fits. refl)
 
-pub returns-else-len-le-MAX_SIZE-clause-fits : goal.returns-else-len-le-MAX_SIZE-clause-fits
-returns-else-len-le-MAX_SIZE-clause-fits c =
+pub returns-else-len-le-GREATEST_SIZE-clause-fits : goal.returns-else-len-le-GREATEST_SIZE-clause-fits
+returns-else-len-le-GREATEST_SIZE-clause-fits c =
     let len = packed c.octets-octets.result.now c.args.lines.now.lines c.line_ends.result c.octets-octets.ensures c.line_ends.ensures in
     (λ yes. absurd cc, λ fits. absurd (omega (arith, len, fits, c.in_ok-len.ensures.1)))

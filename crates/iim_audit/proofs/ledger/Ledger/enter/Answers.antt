@@ -1,6 +1,6 @@
 use Rattle.std.proofs.Common.{◌≡◌, ◌+◌, ◌++◌, ◌∷◌, [], ℕ, List, length, Option, None, Some, cond, ap, sym, ◌∙◌, subst}
 use Rattle.std.specs.BTreeMap.{get, is_at}
-use Rattle.iim_fields.specs.Ids.{Identity, id_cmp}
+use Rattle.iim_fields.specs.Format.Ids.{Identity, id_cmp}
 use Rattle.iim_audit.specs.Format.Rows.{id_of, row_of, row_with, report_of}
 use Rattle.iim_audit.specs.declared.row.AuditRow.{AuditRow}
 use Rattle.iim_audit.proofs.Rows.{id_told, firsts_more, length_report, report_of-push}

@@ -1,9 +1,9 @@
 use Rattle.std.proofs.Common.{◌≡◌, ℕ, List, ◌++◌, ap, ◌∙◌, append_assoc}
 use Rattle.std.specs.List.{flat_map}
 use Rattle.std.proofs.lemmas.Result.{on_ok_weaker}
-use Rattle.iim_dataset.specs.Datasets.{Dataset}
+use Rattle.iim_dataset.specs.Format.Datasets.{Dataset}
 use Rattle.iim_object.specs.declared.size.Sizes.{Sizes}
-use Rattle.wire_message.specs.Messages.{Header}
+use Rattle.wire_message.specs.Format.Messages.{Header}
 use Rattle.iim_unpack.specs.Format.Admitted.{Value}
 use Rattle.iim_unpack.specs.Format.Value.{HasParts}
 use Rattle.iim_unpack.specs.declared.unpacker.Unpacked.{Unpacked}

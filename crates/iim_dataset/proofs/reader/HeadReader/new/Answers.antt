@@ -1,8 +1,9 @@
 use Rattle.std.proofs.Common.{[], subst, sym}
-use Rattle.iim_dataset.specs.Places.{LeadsTo}
+use Rattle.iim_dataset.specs.Format.Datasets.{count_octets}
+use Rattle.iim_dataset.specs.Format.Places.{LeadsTo}
 use Rattle.iim_dataset.specs.declared.place.DatasetPlace.{DatasetPlace}
 use Rattle.iim_dataset.proofs.Places.{begins}
 use Rattle.iim_dataset.proofs.reader.HeadReader.new.Goals as goal
 
 pub returns-clause-stands : goal.returns-clause-stands
-returns-clause-stands c = subst (λ (p : DatasetPlace). LeadsTo [] [] p) (sym c.start.ensures.place) begins
+returns-clause-stands c = subst (λ (p : DatasetPlace). LeadsTo count_octets [] [] p) (sym c.start.ensures.place) begins

@@ -1,5 +1,5 @@
 use Rattle.std.proofs.Common.{[], subst, inl}
-use Rattle.iim_fields.specs.Checks.{IsRecordPlace}
+use Rattle.iim_fields.specs.Checking.{IsRecordPlace}
 use Rattle.iim_fields.proofs.Checking.{checked_start, same_place}
 use Rattle.iim_fields.proofs.check.RecordCheck.new.Goals as goal
 

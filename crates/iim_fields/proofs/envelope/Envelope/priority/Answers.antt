@@ -1,6 +1,6 @@
 use Rattle.std.proofs.Common.{◌≡◌, ℕ, [], ◌∷◌, ap, ◌∙◌, Some}
 use Rattle.std.specs.Option.{option_map}
-use Rattle.iim_fields.specs.Views.{first_data}
+use Rattle.iim_fields.specs.Format.Views.{first_data}
 use Rattle.iim_fields.proofs.RowsMet.{priority_is_one, only_octet}
 use Rattle.iim_fields.proofs.envelope.Envelope.priority.Goals as goal
 

@@ -1,9 +1,10 @@
 use Rattle.std.proofs.Common.{◌≡◌, List, ℕ, [], ◌∷◌, ◌++◌, sym, ap, subst, refl, ◌∙◌, None}
-use Rattle.iim_dataset.specs.Datasets.{Dataset}
+use Rattle.iim_dataset.specs.Format.Datasets.{Dataset}
 use Rattle.iim_dataset.specs.declared.head.Head.{Head}
-use Rattle.iim_fields.specs.Values.{data_of, number_told}
-use Rattle.iim_fields.specs.Checks.{HasChecked, IsChecking, IsValueFault}
-use Rattle.iim_fields.specs.Standing.{FieldsPlace, CanClose, StandsBehind, StandsIn, IsOf, place_of}
+use Rattle.iim_fields.specs.Format.Values.{data_of, number_told}
+use Rattle.iim_fields.specs.Format.Checks.{HasChecked, IsChecking, IsValueFault}
+use Rattle.iim_fields.specs.Format.Standing.{FieldsPlace, CanClose, StandsAfter, StandsIn, IsOf}
+use Rattle.iim_fields.specs.Reading.{place_of}
 use Rattle.iim_fields.proofs.Handed.{handed_on}
 use Rattle.iim_fields.proofs.Stand.{ends_within, closed_subfile, closes_in, stands_closed, refused_value, somewhere_closed, kept_in_store, reading_kept, reading_passed, somewhere_subfile, entry_room, in_store_alone}
 use Rattle.iim_fields.proofs.Stand.Kept.{Passed}
@@ -16,7 +17,7 @@ returns-then-head-eq-OBJECT-clause-stands c =
     let place = place_of c.self.inside.check c.self.inside.limits c.self.inside.store c.self.inside.size.items in
     let new = place_of c.end_subfile.new.self c.self.inside.limits c.self.inside.store c.self.inside.size.items in
     let closes = closes_in place c.in-Some.head (subst CanClose (sym c.self.view_is) c.requires) (sym c.begun.ensures ∙ c.in-Some.is) in
-    subst (λ (f : FieldsPlace). (ds : List Dataset) (h : Head) (taken : List ℕ) → StandsIn f ds h taken → (d : Dataset) → IsOf h taken d → StandsBehind new (ds ++ d ∷ []) × (None ≡ number_told d)) c.self.view_is
+    subst (λ (f : FieldsPlace). (ds : List Dataset) (h : Head) (taken : List ℕ) → StandsIn f ds h taken → (d : Dataset) → IsOf h taken d → StandsAfter new (ds ++ d ∷ []) × (None ≡ number_told d)) c.self.view_is
     (closed_subfile place new c.in-Some.head closes.0 c.if-head-eq-OBJECT.true c.end_subfile.ensures.between c.end_subfile.ensures.stands refl refl refl)
 
 pub invariant_of-self : goal.invariant_of-self
@@ -54,7 +55,7 @@ sized c =
     let none = c.self.invariant.in_size c.in-Some.head begun passes in
     let same : c.as_slice.result.now ≡ place.taken = c.as_slice.ensures.value ∙ sym (ap (λ (ys : List ℕ). ys ++ c.self.inside.size.items) none) in
     let nothing : new.taken ≡ [] = λ i. none i ++ c.clear.ensures i in
-    subst (λ (f : FieldsPlace). (ds : List Dataset) (h : Head) (taken : List ℕ) → StandsIn f ds h taken → (d : Dataset) → IsOf h taken d → StandsBehind new (ds ++ d ∷ []) × (c.in_ok-number.number ≡ number_told d)) c.self.view_is
+    subst (λ (f : FieldsPlace). (ds : List Dataset) (h : Head) (taken : List ℕ) → StandsIn f ds h taken → (d : Dataset) → IsOf h taken d → StandsAfter new (ds ++ d ∷ []) × (c.in_ok-number.number ≡ number_told d)) c.self.view_is
     (stands_closed place new c.in-Some.head c.in_ok-number.number closes.0 c.if-head-eq-OBJECT.false c.in_ok-number.ensures.between (closes.1 c.if-head-eq-OBJECT.false) refl nothing (Passed passes refl)
     (subst (λ (xs : List ℕ). (ds : List Dataset) (h : Head) → IsChecking place.check ds h → HasChecked new.check (ds ++ data_of h xs ∷ []) × (c.in_ok-number.number ≡ number_told (data_of h xs))) same c.in_ok-number.ensures.stands))
 
@@ -69,7 +70,7 @@ invariant_of-self-then-not-is_kept c =
     let closes = closes_in place c.in-Some.head (subst CanClose (sym c.self.view_is) c.requires) begun in
     reading_passed c.self.inside.check c.value.new.self c.self.inside.limits c.self.inside.store c.self.inside.size.items c.clear.new.self.items c.self.invariant c.in_ok-number.ensures.between
     (somewhere_closed place new c.in-Some.head c.in_ok-number.number c.self.invariant.stands closes.0 (closes.1 c.if-head-eq-OBJECT.false)
-    (subst (λ (f : FieldsPlace). (ds : List Dataset) (h : Head) (taken : List ℕ) → StandsIn f ds h taken → (d : Dataset) → IsOf h taken d → StandsBehind new (ds ++ d ∷ []) × (c.in_ok-number.number ≡ number_told d))
+    (subst (λ (f : FieldsPlace). (ds : List Dataset) (h : Head) (taken : List ℕ) → StandsIn f ds h taken → (d : Dataset) → IsOf h taken d → StandsAfter new (ds ++ d ∷ []) × (c.in_ok-number.number ≡ number_told d))
     (sym c.self.view_is) (sized c)))
 
 -- ---- a dataset that is kept
@@ -102,7 +103,7 @@ stored c =
     let none = c.self.invariant.in_store c.in-Some.head begun keeps in
     let same : c.begun-2.result.now ≡ place.taken = c.begun-2.ensures ∙ sym (in_store_alone c.self.inside.store c.self.inside.size.items none) in
     let both = kept_in_store c.self.inside.store c.keep.new.self c.self.inside.size.items c.in-Some.head none c.self.invariant.store_is keeps c.keep.ensures.octets c.keep.ensures.entries in
-    subst (λ (f : FieldsPlace). (ds : List Dataset) (h : Head) (taken : List ℕ) → StandsIn f ds h taken → (d : Dataset) → IsOf h taken d → StandsBehind new (ds ++ d ∷ []) × (c.in_ok-number-2.number ≡ number_told d)) c.self.view_is
+    subst (λ (f : FieldsPlace). (ds : List Dataset) (h : Head) (taken : List ℕ) → StandsIn f ds h taken → (d : Dataset) → IsOf h taken d → StandsAfter new (ds ++ d ∷ []) × (c.in_ok-number-2.number ≡ number_told d)) c.self.view_is
     (stands_closed place new c.in-Some.head c.in_ok-number-2.number closes.0 c.if-head-eq-OBJECT.false c.in_ok-number-2.ensures.between (closes.1 c.if-head-eq-OBJECT.false) refl both.1 both.0
     (subst (λ (xs : List ℕ). (ds : List Dataset) (h : Head) → IsChecking place.check ds h → HasChecked new.check (ds ++ data_of h xs ∷ []) × (c.in_ok-number-2.number ≡ number_told (data_of h xs))) same c.in_ok-number-2.ensures.stands))
 
@@ -118,5 +119,5 @@ invariant_of-self-2 c =
     reading_kept c.self.inside.check c.value-2.new.self c.self.inside.limits c.self.inside.store c.keep.new.self c.self.inside.size.items c.in-Some.head c.self.invariant c.in_ok-number-2.ensures.between
     begun (sym c.is_kept.ensures ∙ c.if-not-is_kept.false) c.keep.ensures.octets c.keep.ensures.entries c.keep.ensures.capacity
     (somewhere_closed place new c.in-Some.head c.in_ok-number-2.number c.self.invariant.stands closes.0 (closes.1 c.if-head-eq-OBJECT.false)
-    (subst (λ (f : FieldsPlace). (ds : List Dataset) (h : Head) (taken : List ℕ) → StandsIn f ds h taken → (d : Dataset) → IsOf h taken d → StandsBehind new (ds ++ d ∷ []) × (c.in_ok-number-2.number ≡ number_told d))
+    (subst (λ (f : FieldsPlace). (ds : List Dataset) (h : Head) (taken : List ℕ) → StandsIn f ds h taken → (d : Dataset) → IsOf h taken d → StandsAfter new (ds ++ d ∷ []) × (c.in_ok-number-2.number ≡ number_told d))
     (sym c.self.view_is) (stored c)))

@@ -1,8 +1,9 @@
 use Rattle.std.proofs.Common.{ℕ, true, List, subst, refl}
-use Rattle.iim_dataset.specs.Datasets.{canonical_dataset}
-use Rattle.iim_object.specs.Packing.{number_dataset, subfile_dataset}
+use Rattle.iim_dataset.specs.Format.Datasets.{canonical_dataset}
+use Rattle.iim_object.specs.Format.Packing.{number_dataset, subfile_dataset}
 use Rattle.iim_object.specs.Outputs.{Puts, Cuts}
-use Rattle.iim_object.specs.Writing.{total_of, writing_of, finish_cause}
+use Rattle.iim_object.specs.Format.Writing.{total_of, finish_cause}
+use Rattle.iim_object.specs.Cutting.{writing_of}
 use Rattle.iim_object.proofs.Outputs.{puts_more, cuts_later, cuts_more}
 use Rattle.iim_object.proofs.Writing.{finished, unfinished, if_none}
 use Rattle.iim_object.proofs.cutter.Cutter.finish.Goals as goal

@@ -1,8 +1,9 @@
 use Rattle.std.proofs.Common.{◌≡◌, ℕ, ◌-◌, List, length, take, drop, sym, ap, subst, ◌∙◌, arith, length-drop, take-append-drop}
 use Rattle.std.proofs.Math.Seq.{take-add, take-length}
-use Rattle.iim_object.specs.Writing.{Lengthens, BreaksOff, GoesOnWith, writing_of, write_cause}
+use Rattle.iim_object.specs.Format.Writing.{Lengthens, BreaksOff, ContinuesWith, write_cause}
+use Rattle.iim_object.specs.Cutting.{writing_of}
 use Rattle.iim_object.specs.declared.plan.Plan.{Plan}
-use Rattle.iim_object.proofs.Writing.{goes_nowhere, goes_on, breaks_later, if_none, may_write}
+use Rattle.iim_object.proofs.Writing.{goes_nowhere, leads_on, breaks_later, if_none, may_write}
 use Rattle.iim_object.proofs.cutter.Cutter.write.Goals as goal
 
 rest_whole : (xs : List ℕ) (at : ℕ) → take (length xs - at) (drop at xs) ≡ drop at xs
@@ -27,7 +28,7 @@ loop-at-preserved g c =
       within = omega (arith, ap length (rest_whole xs at), length-drop at xs, c.in-Ok.ensures.within, c.loop-at.invariant.within);
       room = c.take_front.ensures.room;
       lengthened = subst (Lengthens state (writing_of c.args.self.now) (writing_of c.take_front.new.self)) (sym (take-add at n xs))
-          (goes_on state (writing_of c.args.self.now) (writing_of c.loop-at.self) (writing_of c.take_front.new.self) (take at xs) (take n (drop at xs)) c.texts_join.ensures c.loop-at.invariant.lengthened more);
+          (leads_on state (writing_of c.args.self.now) (writing_of c.loop-at.self) (writing_of c.take_front.new.self) (take at xs) (take n (drop at xs)) c.texts_join.ensures c.loop-at.invariant.lengthened more);
     }
 
 pub returns-in-Err-clause-broke : goal.returns-in-Err-clause-broke
@@ -38,10 +39,10 @@ returns-in-Err-clause-broke g c =
     let a = writing_of c.args.self.now in
     let b = writing_of c.loop-at.self in
     let d = writing_of c.take_front.new.self in
-    let here : BreaksOff state (GoesOnWith c.loop-at.self.plan (drop at xs)) b d =
-    subst (λ (t : List ℕ). BreaksOff state (GoesOnWith c.loop-at.self.plan t) b d) (rest_whole xs at) c.in-Err.ensures.err in
-    let now : BreaksOff state (GoesOnWith c.args.self.now.plan (drop at xs)) b d =
-    subst (λ (p : Plan). BreaksOff state (GoesOnWith p (drop at xs)) b d) c.loop-at.invariant.lengthened.plan here in
+    let here : BreaksOff state (ContinuesWith c.loop-at.self.plan (drop at xs)) b d =
+    subst (λ (t : List ℕ). BreaksOff state (ContinuesWith c.loop-at.self.plan t) b d) (rest_whole xs at) c.in-Err.ensures.err in
+    let now : BreaksOff state (ContinuesWith c.args.self.now.plan (drop at xs)) b d =
+    subst (λ (p : Plan). BreaksOff state (ContinuesWith p (drop at xs)) b d) c.loop-at.invariant.lengthened.plan here in
     if_none (write_cause a (length xs)) _
-    (subst (λ (t : List ℕ). BreaksOff state (GoesOnWith c.args.self.now.plan t) a d) (take-append-drop at xs)
+    (subst (λ (t : List ℕ). BreaksOff state (ContinuesWith c.args.self.now.plan t) a d) (take-append-drop at xs)
     (breaks_later state c.args.self.now.plan a b d (take at xs) (drop at xs) c.texts_join.ensures c.loop-at.invariant.lengthened now))

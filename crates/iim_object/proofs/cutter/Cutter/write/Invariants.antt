@@ -1,5 +1,6 @@
 use Rattle.std.proofs.Common.{◌≤◌, ◌-◌, length, take}
-use Rattle.iim_object.specs.Writing.{Lengthens, HasRoom, writing_of}
+use Rattle.iim_object.specs.Format.Writing.{Lengthens}
+use Rattle.iim_object.specs.Cutting.{HasRoom, writing_of}
 use Rattle.iim_object.proofs.cutter.Cutter.write.Given as goal
 
 abbrev pub invariant-loop-at : goal.invariant-loop-at

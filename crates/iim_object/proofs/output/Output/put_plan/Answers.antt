@@ -1,6 +1,6 @@
 use Rattle.std.proofs.Common.{List, ℕ, [], ◌∷◌, ◌++◌, subst}
-use Rattle.iim_dataset.specs.Datasets.{canonical_dataset, canonical_stream}
-use Rattle.iim_object.specs.Packing.{number_dataset, size_datasets}
+use Rattle.iim_dataset.specs.Format.Datasets.{canonical_dataset, canonical_stream}
+use Rattle.iim_object.specs.Format.Packing.{number_dataset, size_datasets}
 use Rattle.iim_object.specs.Outputs.{Puts, Cuts}
 use Rattle.iim_object.proofs.Outputs.{puts_more, cuts_later, cuts_more, on_ok, on_err}
 use Rattle.iim_object.proofs.output.Output.put_plan.Goals as goal

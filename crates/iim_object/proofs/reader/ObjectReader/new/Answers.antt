@@ -1,7 +1,7 @@
 use Rattle.std.proofs.Common.{Some, sym, subst}
 use Rattle.iim_object.specs.declared.state.State.{State}
-use Rattle.iim_object.specs.Places.{place_start}
-use Rattle.iim_object.specs.Reading.{StandsAt}
+use Rattle.iim_object.specs.Format.Places.{place_start}
+use Rattle.iim_object.specs.Format.Reading.{StandsAt}
 use Rattle.iim_object.proofs.Steps.{starts}
 use Rattle.iim_object.proofs.reader.ObjectReader.new.Goals as goal
 

@@ -1,9 +1,9 @@
 use Rattle.std.proofs.Common.{◌≡◌, rules, Option, Some, subst, sym, unwrap_or}
 use Rattle.iim_object.specs.declared.state.State.{State}
-use Rattle.iim_object.specs.Causes.{is_given}
-use Rattle.iim_object.specs.Reading.{StandsAt, IsSizes}
-use Rattle.iim_object.specs.Records.{HaveSizes}
-use Rattle.iim_object.specs.Behind.{place_behind}
+use Rattle.iim_object.specs.Format.Causes.{is_given}
+use Rattle.iim_object.specs.Format.Reading.{StandsAt, IsSizes}
+use Rattle.iim_object.specs.Format.Records.{HaveSizes}
+use Rattle.iim_object.specs.Format.Numbers.{place_after_datasets}
 use Rattle.iim_object.proofs.Steps.{sizes_are}
 use Rattle.iim_object.proofs.Stands.{have_sizes}
 use Rattle.iim_object.proofs.reader.ObjectReader.sizes.Goals as goal
@@ -24,5 +24,5 @@ returns c =
     } in
     record {
       place = λ p n st e. subst (IsSizes p) made (sizes_are s p n (subst (λ (o : Option State). StandsAt o p) (sym same) st) e);
-      records = λ ds r st. subst (HaveSizes r.r7 r.r8 r.r9) made (have_sizes s ds r (subst (λ (o : Option State). StandsAt o (place_behind ds)) (sym same) st));
+      records = λ ds r st. subst (HaveSizes r.r7 r.r8 r.r9) made (have_sizes s ds r (subst (λ (o : Option State). StandsAt o (place_after_datasets ds)) (sym same) st));
     }

@@ -1,10 +1,10 @@
 use Rattle.std.proofs.Common.{List, [], ◌∷◌, sym, subst, ◌∙◌}
 use Rattle.std.specs.Prelude.{OnOk, OnErr}
-use Rattle.iim_object.specs.Writing as object
-use Rattle.iim_object.specs.Writing.{write_cause}
-use Rattle.wire_story.specs.Delivery.{Event, LineEnd}
-use Rattle.wire_story.specs.Packing.{packed_events}
-use Rattle.iim_pack.specs.Packing.{Lengthens, BreaksOff, GoesOnWith, line_end_cause}
+use Rattle.iim_object.specs.Format.Writing as object
+use Rattle.iim_object.specs.Format.Writing.{write_cause}
+use Rattle.wire_story.specs.Format.Delivery.{StoryEvent, LineEnd}
+use Rattle.wire_story.specs.Format.Packing.{packed_events}
+use Rattle.iim_pack.specs.Format.Packing.{Lengthens, BreaksOff, ContinuesWith, line_end_cause}
 use Rattle.iim_pack.proofs.Goings.{on_ok, on_err, if_none, of_none, lengthened, broken, may_write}
 use Rattle.iim_pack.proofs.Beginnings.{begun_on}
 use Rattle.iim_pack.proofs.Orders.{line_end_order}
@@ -13,7 +13,7 @@ use Rattle.iim_pack.proofs.packer.Packer.line_end.Goals as goal
 pub returns-clause-ok : goal.returns-clause-ok
 returns-clause-ok g c =
     let state = g.W.Target.state in
-    let events : List Event = LineEnd ∷ [] in
+    let events : List StoryEvent = LineEnd ∷ [] in
     let old = c.self.inside.object in
     let new = c.write.new.self in
     subst (λ k. OnOk c.write.result (Lengthens state k (record { before = c.self.inside.before; object = new }) events)) c.self.view_is
@@ -22,12 +22,12 @@ returns-clause-ok g c =
 pub returns-clause-broke : goal.returns-clause-broke
 returns-clause-broke g c =
     let state = g.W.Target.state in
-    let events : List Event = LineEnd ∷ [] in
+    let events : List StoryEvent = LineEnd ∷ [] in
     let old = c.self.inside.object in
     let new = c.write.new.self in
     if_none (line_end_cause c.args.self.now) _
-    (subst (λ k. OnErr c.write.result (BreaksOff state (GoesOnWith events) k (record { before = c.self.inside.before; object = new }))) c.self.view_is
-    (on_err c.write.result _ _ (λ (k : object.BreaksOff state (object.GoesOnWith old.plan (packed_events events)) old new).
+    (subst (λ k. OnErr c.write.result (BreaksOff state (ContinuesWith events) k (record { before = c.self.inside.before; object = new }))) c.self.view_is
+    (on_err c.write.result _ _ (λ (k : object.BreaksOff state (object.ContinuesWith old.plan (packed_events events)) old new).
     broken state c.self.inside.before old new events c.lines_are_packed_as_their_events.ensures k)
     (of_none (write_cause old 2) _ (may_write old 2 2 (sym c.is_failed.ensures ∙ c.if-is_failed.false) (rw (c.plan.ensures, c.total.ensures.total) at (sym c.is_past.ensures ∙ c.if-is_past.false)))
     c.write.ensures.broke)))

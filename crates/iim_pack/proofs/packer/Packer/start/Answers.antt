@@ -1,7 +1,8 @@
 use Rattle.std.proofs.Common.{List, ℕ, ◌+◌, inr, refl, subst, ◌∙◌}
 use Rattle.iim_object.specs.declared.plan.Plan.{Plan}
-use Rattle.iim_pack.specs.Starting.{Opens, Halts, BeginsWith}
-use Rattle.iim_pack.specs.Packing.{start_cause}
+use Rattle.iim_pack.specs.Starting.{Opens, BeginsWith}
+use Rattle.iim_pack.specs.Format.Starting.{Halts}
+use Rattle.iim_pack.specs.Format.Packing.{start_cause}
 use Rattle.iim_pack.proofs.Goings.{if_none}
 use Rattle.iim_pack.proofs.Startings.{fields_broke, object_broke, started}
 use Rattle.iim_pack.proofs.Beginnings.{begun_at_start}

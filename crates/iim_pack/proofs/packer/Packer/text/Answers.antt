@@ -1,10 +1,10 @@
 use Rattle.std.proofs.Common.{ℕ, List, length, map, sym, subst, ◌∙◌}
 use Rattle.std.specs.Prelude.{OnOk, OnErr}
-use Rattle.iim_object.specs.Writing as object
-use Rattle.iim_object.specs.Writing.{write_cause}
-use Rattle.wire_story.specs.Delivery.{Event, LineOctet}
-use Rattle.wire_story.specs.Packing.{AreEvents}
-use Rattle.iim_pack.specs.Packing.{Lengthens, BreaksOff, GoesOnWith, text_cause}
+use Rattle.iim_object.specs.Format.Writing as object
+use Rattle.iim_object.specs.Format.Writing.{write_cause}
+use Rattle.wire_story.specs.Format.Delivery.{StoryEvent, LineOctet}
+use Rattle.wire_story.specs.Format.Packing.{AreEvents}
+use Rattle.iim_pack.specs.Format.Packing.{Lengthens, BreaksOff, ContinuesWith, text_cause}
 use Rattle.iim_pack.proofs.Goings.{on_ok, on_err, if_none, of_none, line_packed, line_events, lengthened, broken, may_write}
 use Rattle.iim_pack.proofs.Beginnings.{begun_on}
 use Rattle.iim_pack.proofs.Orders.{text_order}
@@ -14,7 +14,7 @@ pub returns-clause-ok : goal.returns-clause-ok
 returns-clause-ok g c =
     let state = g.W.Target.state in
     let xs : List ℕ = c.args.octets.now in
-    let events : List Event = map LineOctet xs in
+    let events : List StoryEvent = map LineOctet xs in
     let old = c.self.inside.object in
     let new = c.write.new.self in
     let are : AreEvents events = line_events xs (c.is_text.ensures.0 c.if-not-is_text.false) in
@@ -25,13 +25,13 @@ pub returns-clause-broke : goal.returns-clause-broke
 returns-clause-broke g c =
     let state = g.W.Target.state in
     let xs : List ℕ = c.args.octets.now in
-    let events : List Event = map LineOctet xs in
+    let events : List StoryEvent = map LineOctet xs in
     let old = c.self.inside.object in
     let new = c.write.new.self in
     if_none (text_cause c.args.self.now xs) _
-    (subst (λ k. OnErr c.write.result (BreaksOff state (GoesOnWith events) k (record { before = c.self.inside.before; object = new }))) c.self.view_is
-    (on_err c.write.result _ _ (λ (k : object.BreaksOff state (object.GoesOnWith old.plan xs) old new).
-    broken state c.self.inside.before old new events c.lines_are_packed_as_their_events.ensures (subst (λ (t : List ℕ). object.BreaksOff state (object.GoesOnWith old.plan t) old new) (sym (line_packed xs)) k))
+    (subst (λ k. OnErr c.write.result (BreaksOff state (ContinuesWith events) k (record { before = c.self.inside.before; object = new }))) c.self.view_is
+    (on_err c.write.result _ _ (λ (k : object.BreaksOff state (object.ContinuesWith old.plan xs) old new).
+    broken state c.self.inside.before old new events c.lines_are_packed_as_their_events.ensures (subst (λ (t : List ℕ). object.BreaksOff state (object.ContinuesWith old.plan t) old new) (sym (line_packed xs)) k))
     (of_none (write_cause old (length xs)) _ (may_write old (length xs) 2 (sym c.is_failed.ensures ∙ c.if-is_failed.false) (rw (c.plan.ensures, c.total.ensures.total) at (sym c.is_past.ensures ∙ c.if-is_past.false)))
     c.write.ensures.broke)))
 

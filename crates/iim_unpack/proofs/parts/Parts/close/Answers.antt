@@ -9,7 +9,7 @@ returns-in-Ok-Some-clause-closed c =
     on_ok _ _ c.tell_number.result
     (λ goes. closed_number laws c.args.self.now _ c.in-Ok-Some.number c.in-Some.head (sym c.begun_head.ensures.head ∙ c.in-Some.is) c.close.ensures.limits
     (λ ds h taken stands d is. let both = c.in-Ok-Some.ensures.stands ds h taken stands d is in (both.0, sym c.in-Ok-Some.field-0-is ∙ both.1)) goes refl)
-    c.tell_number.ensures.goes_on
+    c.tell_number.ensures.leads_on
 
 pub returns-in-Ok-Some-clause-refused : goal.returns-in-Ok-Some-clause-refused
 returns-in-Ok-Some-clause-refused c =

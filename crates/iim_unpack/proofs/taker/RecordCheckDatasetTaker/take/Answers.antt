@@ -1,6 +1,6 @@
 use Rattle.std.proofs.Common.{Bool, [], ◌∷◌, subst, sym}
-use Rattle.iim_fields.specs.Checks.{TakesHead, HasChecked}
-use Rattle.iim_unpack.specs.Begins.{dataset}
+use Rattle.iim_fields.specs.Format.Checks.{TakesHead, HasChecked}
+use Rattle.iim_unpack.specs.Format.Begins.{dataset}
 use Rattle.iim_unpack.specs.Format.Possible.{widest}
 use Rattle.iim_unpack.specs.Taking.{TookAll}
 use Rattle.iim_unpack.proofs.Taking.{value_took}

@@ -1,6 +1,6 @@
 use Rattle.std.proofs.Common.{List, ◌∷◌, length, ap, sym, ◌∙◌, arith}
-use Rattle.iim_dataset.specs.Datasets.{Dataset}
-use Rattle.iim_unpack.specs.Begins.{dataset}
+use Rattle.iim_dataset.specs.Format.Datasets.{Dataset}
+use Rattle.iim_unpack.specs.Format.Begins.{dataset}
 use Rattle.iim_unpack.proofs.Splitting.{rest_held, first_held, none_held}
 use Rattle.iim_unpack.proofs.ticket_fields.TicketFieldsIterator.next.Goals as goal
 

@@ -1,22 +1,29 @@
-use Rattle.std.proofs.Common.{take, sym, subst, ◌∙◌}
-use Rattle.wire_message.specs.Reading.{LivesOn, Refuses}
+use Rattle.std.proofs.Common.{take, Some, sym, subst, ◌∙◌}
+use Rattle.wire_message.specs.Format.Reading.{LivesOn, Refuses, Told, ToldFront}
 use Rattle.wire_message.proofs.Standing.{lives_on, lives_somewhere}
 use Rattle.wire_message.proofs.reader.MessageReader.feed.Goals as goal
 
-pub returns-in-Ok-clause-lives : goal.returns-in-Ok-clause-lives
-returns-in-Ok-clause-lives g c =
+pub returns-in-Ok-clause-taken : goal.returns-in-Ok-clause-taken
+returns-in-Ok-clause-taken g c =
     let same = sym c.self.view_is ∙ c.in-Some.is in
-    subst (λ reader. LivesOn reader c.args.piece.now) (sym same)
-    (lives_on c.readers_stand_at_living_octets.ensures _ _ c.args.piece.now c.in-Ok.ensures.takes.told.0 c.in-Ok.ensures.takes.told.2)
-
-pub returns-in-Err-clause-lives_front : goal.returns-in-Err-clause-lives_front
-returns-in-Err-clause-lives_front g c =
-    let same = sym c.self.view_is ∙ c.in-Some.is in
-    let front = take c.in-Err.fault.taken c.args.piece.now in
-    subst (λ reader. LivesOn reader front) (sym same)
-    (lives_somewhere c.readers_stand_at_living_octets.ensures _ front c.in-Err.ensures.stops.told.0 c.in-Err.ensures.stops.told.2)
+    let takes = c.in-Ok.ensures.takes in record {
+      lives =
+          subst (λ reader. LivesOn reader c.args.piece.now) (sym same)
+          (lives_on c.readers_stand_at_living_octets.ensures _ _ c.args.piece.now takes.told.0 takes.told.2);
+      told = subst (λ reader. Told g.S.StorySink.goes c.args.sink.now reader c.args.piece.now (Some c.take_piece.new.place) c.take_piece.new.sink) (sym same) takes.told;
+      calm = takes.calm;
+    }
 
 pub returns-in-Err-clause-refused : goal.returns-in-Err-clause-refused
 returns-in-Err-clause-refused g c =
     let same = sym c.self.view_is ∙ c.in-Some.is in
-    subst (λ reader. Refuses reader c.args.piece.now c.in-Err.fault) (sym same) c.in-Err.ensures.stops.refused
+    let front = take c.in-Err.fault.taken c.args.piece.now in
+    let stops = c.in-Err.ensures.stops in record {
+      before = stops.within;
+      lives =
+          subst (λ reader. LivesOn reader front) (sym same)
+          (lives_somewhere c.readers_stand_at_living_octets.ensures _ front stops.told.0 stops.told.2);
+      refused = subst (λ reader. Refuses reader c.args.piece.now c.in-Err.fault) (sym same) stops.refused;
+      told = subst (λ reader. ToldFront g.S.StorySink.goes c.args.sink.now reader front c.take_piece.new.sink) (sym same) stops.told;
+      counted = stops.counted;
+    }

@@ -1,17 +1,16 @@
 use Rattle.std.proofs.lemmas.List.{take_rest}
 use Rattle.std.proofs.Common.{◌≡◌, ℕ, ◌+◌, ◌<◌, ◌≤◌, ◌==◌, false, List, [], ◌∷◌, length, take, drop, Option, Some, Bor, sym, ap, ◌∙◌, arith}
-use Rattle.std.specs.List.{position_or_len}
+use Rattle.std.specs.List.{position_or_len, slice_range}
 use Rattle.std.specs.Option.{option_copied}
 use Rattle.std.proofs.lemmas.List.Splits.{slice_split_first, slice_split_none}
 use Rattle.std.proofs.lemmas.List.Sums.{fails_before_first}
 use Rattle.std.proofs.lemmas.List.Elements.{All-from_get_or}
-use Rattle.wire_story.specs.Collecting.{lines_in, lines_left}
-use Rattle.wire_story.proofs.Rests.{rest_of}
+use Rattle.wire_story.specs.Joining.{lines_in, lines_left}
 use Rattle.wire_story.proofs.line_iter.LineIterIterator.next.Goals as goal
 
 -- the first line, and those that are left after its LF
 first_line : (octets : List ℕ) (end : ℕ) → end ≡ position_or_len (λ b. b == 10) octets → end < length octets
-    → lines_in octets ≡ take end octets ∷ lines_in (rest_of octets (end + 1))
+    → lines_in octets ≡ take end octets ∷ lines_in (slice_range octets (end + 1) (length octets))
 first_line octets end e l =
     slice_split_first (λ b. b == 10) octets 0 (omega (arith, e, l))
     ∙ ap (λ (n : ℕ). take n octets ∷ lines_in (drop (n + 1) octets)) (sym e)
@@ -35,9 +34,9 @@ pub returns-then-end-rest-clause-goes : goal.returns-then-end-rest-clause-goes
 returns-then-end-rest-clause-goes c =
     let rest = c.in_ok-rest.rest in
     let end = c.first_len-end.result in
-    let steps : c.args.self.now ≡ take end rest.now ∷ lines_in (rest_of rest.now (end + 1)) =
+    let steps : c.args.self.now ≡ take end rest.now ∷ lines_in (slice_range rest.now (end + 1) (length rest.now)) =
     seen c.self.inside.rest rest c.args.self.now c.self.view_is c.in_ok-rest.was ∙ first_line rest.now end c.first_len-end.ensures c.if-end-rest.true in
-    let shorter : length (lines_in (rest_of rest.now (end + 1))) < length c.args.self.now = omega (arith, ap length steps) in
+    let shorter : length (lines_in (slice_range rest.now (end + 1) (length rest.now))) < length c.args.self.now = omega (arith, ap length steps) in
     record { on = λ finite. (tt, tt, shorter); keeps = tt; rests = λ finite. tt }
 
 pub returns-else-end-rest-clause-steps : goal.returns-else-end-rest-clause-steps

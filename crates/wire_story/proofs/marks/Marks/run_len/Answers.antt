@@ -5,9 +5,9 @@ use Rattle.std.specs.List.{list_all}
 use Rattle.std.proofs.lemmas.Bool.{and_from}
 use Rattle.std.proofs.lemmas.List.{take_rest}
 use Rattle.std.proofs.lemmas.List.Folds.{list_all_more}
-use Rattle.wire_story.specs.Texts.{is_line_octet}
+use Rattle.wire_story.specs.Format.Texts.{is_line_octet}
 use Rattle.wire_story.specs.Marking.{is_low}
-use Rattle.wire_story.proofs.Marked.{calm_all, lowest_low, front_calm, marks_behind}
+use Rattle.wire_story.proofs.Marked.{calm_all, lowest_low, front_calm, marks_after}
 use Rattle.wire_story.proofs.marks.Marks.run_len.Goals as goal
 use Rattle.wire_story.proofs.marks.Marks.run_len.Goals.{then-left-ne0, else-left-ne0+then-octets-at-ge-BLOCK}
 
@@ -55,7 +55,7 @@ returns-then-not-may_stand-clause-marks c =
     let low = lowest_low xs c.loop-left.at c.loop-left.many c.loop-left.left i.within i.marks.1 i.marks.2 (omega arith) in (
       omega (arith, low.1, i.within, length-drop (c.loop-left.at + s) xs),
       omega (arith, i.marks.1),
-      marks_behind xs c.loop-left.at c.loop-left.many c.loop-left.left s i.within i.marks.2 (omega (arith, low.1)),
+      marks_after xs c.loop-left.at c.loop-left.many c.loop-left.left s i.within i.marks.2 (omega (arith, low.1)),
     )
 
 pub overflow_sub-many-else-left-eq0 : goal.overflow_sub-many-else-left-eq0
@@ -75,7 +75,7 @@ loop-left-preserved c =
     let low = lowest_low xs c.loop-left.at c.loop-left.many c.loop-left.left i.within i.marks.1 i.marks.2 some in
     let within : at < length xs = omega (arith, low.1, i.within) in
     let line = front_calm xs (λ k. (c.type_inv.octets k).fits) c.loop-left.at c.loop-left.many c.loop-left.left i.within i.marks.1 i.marks.2 some i.line in
-    let is = marks_behind xs c.loop-left.at c.loop-left.many c.loop-left.left s i.within i.marks.2 (omega (arith, low.1)) in
+    let is = marks_after xs c.loop-left.at c.loop-left.many c.loop-left.left s i.within i.marks.2 (omega (arith, low.1)) in
     record {
       within = omega (arith, low.1, i.within);
       line =
@@ -84,7 +84,7 @@ loop-left-preserved c =
       marks = (
         omega (arith, low.1, i.within, length-drop (at + 1) xs),
         omega (arith, i.marks.1),
-        marks_behind xs at many _ 1 (omega (arith, low.1, i.within)) is (omega (arith, low.1)),
+        marks_after xs at many _ 1 (omega (arith, low.1, i.within)) is (omega (arith, low.1)),
       );
     }
 

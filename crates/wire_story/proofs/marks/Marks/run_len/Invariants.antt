@@ -1,5 +1,5 @@
 use Rattle.std.proofs.Common.{◌≤◌, ◌+◌, ◌-◌, ◌*◌, length, take, drop}
-use Rattle.wire_story.specs.Texts.{IsLine}
+use Rattle.wire_story.specs.Format.Texts.{IsLine}
 use Rattle.wire_story.specs.Marking.{AreMarks}
 use Rattle.wire_story.proofs.marks.Marks.run_len.Given as goal
 

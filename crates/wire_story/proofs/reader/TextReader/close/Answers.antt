@@ -1,5 +1,5 @@
 use Rattle.std.proofs.Common.{subst, sym, ◌∙◌, arith}
-use Rattle.wire_story.specs.Texts.{Holds}
+use Rattle.wire_story.specs.Format.Texts.{Holds}
 use Rattle.wire_story.proofs.Lives.{dies_at_end, lines_of}
 use Rattle.wire_story.proofs.Pieces.{stood}
 use Rattle.wire_story.proofs.reader.TextReader.close.Goals as goal

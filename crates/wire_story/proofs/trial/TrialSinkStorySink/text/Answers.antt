@@ -1,4 +1,4 @@
-use Rattle.wire_story.specs.Texts.{is_line_octet}
+use Rattle.wire_story.specs.Format.Texts.{is_line_octet}
 use Rattle.wire_story.proofs.Spans.{Are-take}
 use Rattle.wire_story.proofs.trial.TrialSinkStorySink.text.Goals as goal
 

@@ -1,6 +1,6 @@
 use Rattle.std.proofs.Common.{take, map}
-use Rattle.wire_story.specs.Delivery.{LineOctet}
-use Rattle.wire_story.specs.Words.{CountsWords}
+use Rattle.wire_story.specs.Format.Delivery.{LineOctet}
+use Rattle.wire_story.specs.Format.Words.{CountsWords}
 use Rattle.wire_story.proofs.word_count.WordCountStorySink.text.Given as goal
 
 -- the octets so far were counted

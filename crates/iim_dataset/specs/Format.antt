@@ -1,0 +1,14 @@
+pub mod Octets
+pub mod Datasets
+pub mod Splits
+pub mod Events
+pub mod Languages
+pub mod Tags
+pub mod Places
+pub mod Reading
+pub mod Completing
+pub mod Devices
+pub mod DeviceLaws
+pub mod Trials
+pub mod Shown
+pub mod Laws

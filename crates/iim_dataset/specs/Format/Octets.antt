@@ -1,0 +1,35 @@
+-- Octets, the numbers that they spell and the greatest of them, and prefixes.
+use Rattle.std.specs.Prelude.{◌≡◌, ℕ, ◌<◌, List, ◌++◌, length, Bool, ◌&&◌, ◌||◌, nat_le}
+use Rattle.std.specs.List.{AllByRecursion}
+use Rattle.byteorder.specs.Endian.{big_number}
+
+-- an octet is a whole number from 0 to 255
+abbrev pub IsOctet : ℕ → Type 0
+IsOctet b = b < 256
+
+abbrev pub Octets : List ℕ → Type 0
+Octets xs = AllByRecursion IsOctet xs
+
+-- the unsigned binary number that the octets spell, high octet first
+abbrev pub number : List ℕ → ℕ
+number xs = big_number (length xs) xs
+
+-- xs begins ys and is shorter
+abbrev pub IsProperPrefix : List ℕ → List ℕ → Type 0
+IsProperPrefix xs ys = (rest : List ℕ) × (0 < length rest) × (xs ++ rest ≡ ys)
+
+-- the greatest size of an object, in octets, and so the greatest count (the profile's)
+abbrev pub greatest_size : ℕ
+greatest_size = 4_294_967_295
+
+-- b is one of low to high
+abbrev pub within : ℕ → ℕ → ℕ → Bool
+within low high b = nat_le low b && nat_le b high
+
+-- 0 to 9
+abbrev pub is_digit : ℕ → Bool
+is_digit b = within 0x30 0x39 b
+
+-- A to Z, a to z
+abbrev pub is_letter : ℕ → Bool
+is_letter b = within 0x41 0x5a b || within 0x61 0x7a b

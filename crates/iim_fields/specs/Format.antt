@@ -1,0 +1,14 @@
+pub mod Records
+pub mod Alive
+pub mod Faults
+pub mod Causes
+pub mod Orders
+pub mod Values
+pub mod Checks
+pub mod Stores
+pub mod Standing
+pub mod Builders
+pub mod Views
+pub mod Ids
+pub mod Walks
+pub mod Laws

@@ -1,0 +1,28 @@
+-- Views of the datasets of an envelope.
+use Rattle.std.specs.Prelude.{ℕ, ◌-◌, Bool, true, ◌≡◌, ◌&&◌, ◌==◌, if◌then◌else◌, List, [], ◌∷◌, map, Option, Some, None, is_some, ℤ}
+use Rattle.std.specs.List.{filter}
+use Rattle.std.specs.Option.{option_and_then}
+use Rattle.iim_tables.specs.Format.Instants.{instant_in}
+use Rattle.iim_dataset.specs.Format.Datasets.{Dataset}
+use Rattle.iim_fields.specs.Format.Builders.{IsEnvelope}
+
+-- the dataset has the numbers
+abbrev pub has_names : ℕ → ℕ → Dataset → Bool
+has_names rec set d = d.rec == rec && d.set == set
+
+-- the data of each dataset with the numbers, in order
+abbrev pub all_data : ℕ → ℕ → List Dataset → List (List ℕ)
+all_data rec set ds = map (λ d. d.octets) (filter (has_names rec set) ds)
+
+-- the data of the first dataset with the numbers
+abbrev pub first_data : ℕ → ℕ → List Dataset → Option (List ℕ)
+first_data rec set [] = None
+first_data rec set (d ∷ ds) = if has_names rec set d then Some d.octets else first_data rec set ds
+
+-- the instant of 1:70 Date Sent and 1:80 Time Sent, in nanoseconds, where both were sent and name one
+abbrev pub instant_sent : List Dataset → Option ℤ
+instant_sent ds = option_and_then (λ date. option_and_then (λ time. instant_in date time) (first_data 1 80 ds)) (first_data 1 70 ds)
+
+-- Each envelope has a dataset with the numbers.
+abbrev pub IsInEach : ℕ → ℕ → Type 0
+IsInEach rec set = (ds : List Dataset) → IsEnvelope ds → is_some (first_data rec set ds) ≡ true

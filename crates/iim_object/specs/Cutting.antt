@@ -1,0 +1,61 @@
+-- A writer of subfiles from inside: what it holds, fills and sends.
+use Rattle.std.specs.Prelude.{◌≡◌, ℕ, ◌+◌, ◌*◌, ◌^◌, ◌<◌, ◌≤◌, true, false, List, [], ◌++◌, length, Vec, vec_len, vec_capacity}
+use Rattle.iim_dataset.specs.Format.Devices.{Device}
+use Rattle.iim_dataset.specs.Format.Datasets.{canonical_dataset}
+use Rattle.iim_object.specs.Format.Packing.{subfile_dataset}
+use Rattle.iim_object.specs.Outputs.{Puts, Cuts}
+use Rattle.iim_object.specs.declared.plan.Plan.{Plan}
+use Rattle.iim_object.specs.declared.cutter.Cutter.{Cutter}
+use Rattle.iim_object.specs.Format.Writing.{Writing, most_of, room_of, total_of}
+
+-- ---- the cutter
+
+-- the cutter as a writer of subfiles
+abbrev pub writing_of : {W : Type 0} → Cutter W → Writing W
+writing_of c = record { plan = c.plan; held = c.held.items; sent = c.sent; written = c.output.written; failed = c.failed; writer = c.output.writer }
+
+-- It has room for what the plan allows, and its numbers are small.
+pub record HasRoom {W : Type 0} (c : Cutter W) : Type 0 where
+  pub capacity : room_of c.plan ≤ vec_capacity c.held
+  pub within : vec_len c.held ≤ c.plan.subfile
+  pub bound : c.sent + vec_len c.held ≤ most_of c.plan
+  pub count : c.failed ≡ false → c.output.written ≤ 24 + 10 * c.sent
+  pub small : c.output.written < 2 ^ 40
+
+-- It may take these octets: no write failed, there are some, and with them the object is within the bound.
+pub record MayTake {W : Type 0} (c : Cutter W) (octets : List ℕ) : Type 0 where
+  pub unfailed : c.failed ≡ false
+  pub some : 0 < length octets
+  pub within : total_of (writing_of c) + length octets ≤ most_of c.plan
+
+-- It holds these octets too. Nothing else has changed.
+pub record Fills {W : Type 0} (old new : Cutter W) (octets : List ℕ) : Type 0 where
+  pub held : new.held.items ≡ old.held.items ++ octets
+  pub plan : new.plan ≡ old.plan
+  pub sent : new.sent ≡ old.sent
+  pub output : new.output ≡ old.output
+  pub failed : new.failed ≡ old.failed
+
+-- The octets that it held are out as a subfile.
+pub record Flushes {W : Type 0} (state : W → Device) (old new : Cutter W) : Type 0 where
+  pub put : Puts state old.output new.output (canonical_dataset (subfile_dataset old.held.items))
+  pub plan : new.plan ≡ old.plan
+  pub held : new.held.items ≡ []
+  pub sent : new.sent ≡ old.sent + vec_len old.held
+  pub failed : new.failed ≡ false
+
+-- A write of this text failed.
+pub record Halts {W : Type 0} (state : W → Device) (old new : Cutter W) (text : List ℕ) : Type 0 where
+  pub cut : Cuts state old.output new.output text
+  pub plan : new.plan ≡ old.plan
+  pub held : new.held ≡ old.held
+  pub sent : new.sent ≡ old.sent
+  pub failed : new.failed ≡ true
+
+-- ---- buffers
+
+-- nothing is in it, and it has just the room that a plan asks
+pub record IsReserved {A : Type 0} (plan : Plan) (v : Vec ℕ A) : Type 0 where
+  pub empty : v.items ≡ []
+  pub len : vec_len v ≡ 0
+  pub capacity : vec_capacity v ≡ room_of plan

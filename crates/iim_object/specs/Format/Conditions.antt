@@ -1,0 +1,65 @@
+-- Why a token is refused: the causes, each with its number and the condition in which it stands. The lowest number is told.
+use Rattle.std.specs.Prelude.{◌≡◌, ◌↔◌, ◌⊎◌, ℕ, ◌+◌, ◌<◌, ◌≤◌, List, [], ◌∷◌, ◌++◌, sum, Option, Some, None}
+use Rattle.iim_dataset.specs.Format.Languages.{DiesAt}
+use Rattle.iim_dataset.specs.Format.Octets.{greatest_size}
+use Rattle.iim_object.specs.Format.Sizes.{Stated, AreStated, number_at}
+use Rattle.iim_object.specs.Format.Objects.{ObjectToken, NumberRead, SubfileBegun, ObjectEnded, Confirmed, ObjectLanguage}
+use Rattle.iim_object.specs.Format.Places.{Place, MayFollow, tokens_of}
+use Rattle.iim_object.specs.Format.Causes.{cause_at}
+use Rattle.iim_object.specs.Format.Reading.{StandsAt}
+use Rattle.iim_object.specs.declared.state.State.{State}
+use Rattle.iim_object.specs.declared.fault.SizeCause.{SizeCause}
+use Rattle.iim_object.specs.declared.fault.SizeCause.TheVariants.{ModeClash, SizeClash, SubfileTooLong, PastSize, Short, ConfirmedWrong}
+
+abbrev pub number_of : SizeCause → ℕ
+number_of ModeClash = 20
+number_of SizeClash = 21
+number_of SubfileTooLong = 22
+number_of PastSize = 23
+number_of Short = 24
+number_of ConfirmedWrong = 25
+
+-- the numbers of record 7, with the one that the token brings
+abbrev pub stated_with : Place → ℕ → ℕ → List Stated
+stated_with p set n = p.stated ++ record { set = set; number = n } ∷ []
+
+-- The total passes the greatest size, what is announced, or the maximum.
+abbrev pub PassesBound : List Stated → ℕ → Type 0
+PassesBound ps total = (greatest_size < total)
+    ⊎ (((announced : ℕ) × (number_at 90 ps ≡ Some announced) × (announced < total))
+    ⊎ ((most : ℕ) × (number_at 95 ps ≡ Some most) × (most < total)))
+
+-- The condition of a cause, at a token after a place.
+-- 20: mode 0 with an announced size, at the later of the two; or mode 1 without one, at a subfile.
+-- 21: the announced size is above the maximum, at the later of the two.
+-- 22: the subfile is longer than the largest may be.
+-- 23: with the subfile the total passes the bound.
+-- 24: at the end the total is below the announced size.
+-- 25: the confirmed size is not the total.
+abbrev pub HasCause : SizeCause → Place → ObjectToken → Type 0
+HasCause ModeClash p token =
+    ((set : ℕ) × (n : ℕ) × (token ≡ NumberRead set n) × (number_at 10 (stated_with p set n) ≡ Some 0)
+    × ((announced : ℕ) × (number_at 90 (stated_with p set n) ≡ Some announced)))
+    ⊎ ((count : ℕ) × (token ≡ SubfileBegun count) × (number_at 10 p.stated ≡ Some 1) × (number_at 90 p.stated ≡ None))
+HasCause SizeClash p token = (set : ℕ) × (n : ℕ) × (token ≡ NumberRead set n)
+    × ((announced : ℕ) × (most : ℕ) × (number_at 90 (stated_with p set n) ≡ Some announced) × (number_at 95 (stated_with p set n) ≡ Some most) × (most < announced))
+HasCause SubfileTooLong p token = (count : ℕ) × (token ≡ SubfileBegun count) × ((largest : ℕ) × (number_at 20 p.stated ≡ Some largest) × (largest < count))
+HasCause PastSize p token = (count : ℕ) × (token ≡ SubfileBegun count) × PassesBound p.stated (sum p.lengths + count)
+HasCause Short p token = (announced : ℕ) × (token ≡ ObjectEnded) × (number_at 90 p.stated ≡ Some announced) × (sum p.lengths < announced)
+HasCause ConfirmedWrong p token = (n : ℕ) × (token ≡ Confirmed n) × (n ≡ sum p.lengths → ⊥)
+
+-- The cause is the one of the lowest number whose condition holds.
+pub record IsFirstCause (p : Place) (token : ObjectToken) (cause : SizeCause) : Type 0 where
+  pub holds : HasCause cause p token
+  pub lowest : (other : SizeCause) → HasCause other p token → number_of cause ≤ number_of other
+
+-- Of a token that the record layer admits, the cause that is told is this one.
+abbrev pub CausesAreTheFirst : Type 0
+CausesAreTheFirst = (p : Place) (token : ObjectToken) (cause : SizeCause) → AreStated p.stated → MayFollow p token
+    → (cause_at p token ≡ Some cause) ↔ IsFirstCause p token cause
+
+-- Where a reader stands, the object layer dies with a token that the record layer admits exactly where the condition of a cause
+-- holds.
+abbrev pub ObjectsDieForCauses : Type 0
+ObjectsDieForCauses = (reader : Option State) (p : Place) (token : ObjectToken) → StandsAt reader p → MayFollow p token
+    → DiesAt ObjectLanguage (tokens_of p) token ↔ ((cause : SizeCause) × HasCause cause p token)

@@ -1,0 +1,93 @@
+-- What a packer writes of an object by a plan: record 7, the subfiles and record 9.
+use Rattle.std.specs.Prelude.{◌≡◌, ℕ, ◌≤◌, Bool, true, false, IsTrue, List, [], ◌∷◌, ◌++◌, length, map, Option, Some, None}
+use Rattle.byteorder.specs.Endian.{big_bytes}
+use Rattle.iim_dataset.specs.Format.Octets.{Octets}
+use Rattle.iim_dataset.specs.Format.Datasets.{Dataset, canonical_stream}
+use Rattle.iim_tables.specs.Format.Numbers.{size_octets}
+use Rattle.iim_object.specs.Format.Sizes.{mode_number}
+use Rattle.iim_object.specs.Format.Plans.{is_plan, bound_of, max_subfiles}
+use Rattle.iim_object.specs.Format.Records.{HaveSizes}
+use Rattle.iim_object.specs.Format.Cuts.{IsCut}
+use Rattle.iim_object.specs.declared.size.Size.{Size}
+use Rattle.iim_object.specs.declared.size.Size.TheVariants.{Known, Unknown}
+use Rattle.iim_object.specs.declared.size.Sizes.{Sizes}
+
+-- a dataset whose value is this number, in as many octets as a size may have
+abbrev pub number_dataset : ℕ → ℕ → ℕ → Dataset
+number_dataset rec set n = record { rec = rec; set = set; octets = big_bytes size_octets n }
+
+abbrev pub is_known : Size → Bool
+is_known (Known n) = true
+is_known (Unknown most) = false
+
+abbrev pub announced_of : Size → Option ℕ
+announced_of (Known n) = Some n
+announced_of (Unknown most) = None
+
+abbrev pub maximum_of : Size → Option ℕ
+maximum_of (Known n) = None
+maximum_of (Unknown most) = most
+
+-- 7:90 for a known size, 7:95 for a maximum
+abbrev pub size_datasets : Size → List Dataset
+size_datasets (Known n) = number_dataset 7 90 n ∷ []
+size_datasets (Unknown (Some most)) = number_dataset 7 95 most ∷ []
+size_datasets (Unknown None) = []
+
+-- record 7: 7:10, 7:20, and then the size
+abbrev pub plan_datasets : ℕ → Size → List Dataset
+plan_datasets subfile size =
+    record { rec = 7; set = 10; octets = mode_number (is_known size) ∷ [] } ∷ number_dataset 7 20 subfile ∷ size_datasets size
+
+-- record 8: 8:10 for each part
+abbrev pub subfile_dataset : List ℕ → Dataset
+subfile_dataset part = record { rec = 8; set = 10; octets = part }
+
+abbrev pub subfile_datasets : List (List ℕ) → List Dataset
+subfile_datasets parts = map subfile_dataset parts
+
+-- record 9: 9:10, the number of octets of the object
+abbrev pub confirmed_datasets : List ℕ → List Dataset
+confirmed_datasets object = number_dataset 9 10 (length object) ∷ []
+
+-- records 7, 8 and 9 of an object that is cut into these parts
+abbrev pub object_datasets : ℕ → Size → List ℕ → List (List ℕ) → List Dataset
+object_datasets subfile size object parts = plan_datasets subfile size ++ (subfile_datasets parts ++ confirmed_datasets object)
+
+-- The octets are what is written of the object by the plan of this subfile size and this size.
+pub record IsWritten (subfile : ℕ) (size : Size) (object octets : List ℕ) : Type 0 where
+  pub parts : List (List ℕ)
+  pub cut : IsCut subfile object parts
+  pub octets_are : octets ≡ canonical_stream (object_datasets subfile size object parts)
+
+-- The object is as long as a known size says.
+abbrev pub IsAsKnown : Size → List ℕ → Type 0
+IsAsKnown (Known n) object = length object ≡ n
+IsAsKnown (Unknown most) object = Unit {0}
+
+-- The plan has room for the object, which is as long as a known size says.
+pub record Suits (subfile : ℕ) (size : Size) (object : List ℕ) : Type 0 where
+  pub fits : length object ≤ bound_of subfile size
+  pub exact : IsAsKnown size object
+
+-- the sizes of the plan, and of the object and its parts
+abbrev pub packed_sizes : ℕ → Size → List ℕ → List (List ℕ) → Sizes
+packed_sizes subfile size object parts = record {
+  known = is_known size;
+  subfile = subfile;
+  announced = announced_of size;
+  maximum = maximum_of size;
+  subfiles = length parts;
+  total = length object;
+}
+
+-- Records 7, 8 and 9 that are written of an object which suits a plan have the sizes of the plan.
+abbrev pub PackedObjectsHaveSizes : Type 0
+PackedObjectsHaveSizes = (subfile : ℕ) (size : Size) (object : List ℕ) (parts : List (List ℕ)) → IsTrue (is_plan subfile size) → Octets object
+    → IsCut subfile object parts → Suits subfile size object
+    → HaveSizes (plan_datasets subfile size) (subfile_datasets parts) (confirmed_datasets object) (packed_sizes subfile size object parts)
+
+-- An object that a plan has room for is cut into as many subfiles as one envelope may have, or fewer.
+abbrev pub SubfilesAreFew : Type 0
+SubfilesAreFew = (subfile : ℕ) (size : Size) (object : List ℕ) (parts : List (List ℕ)) → IsTrue (is_plan subfile size) → IsCut subfile object parts
+    → length object ≤ bound_of subfile size → length parts ≤ max_subfiles

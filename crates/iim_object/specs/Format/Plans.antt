@@ -1,0 +1,33 @@
+-- Plans of objects.
+use Rattle.std.specs.Prelude.{ℕ, ◌*◌, Bool, true, ◌&&◌, nat_le, min, Some, None}
+use Rattle.iim_dataset.specs.Format.Octets.{greatest_size}
+use Rattle.iim_object.specs.declared.size.Size.{Size}
+use Rattle.iim_object.specs.declared.size.Size.TheVariants.{Known, Unknown}
+
+-- the most subfiles of one envelope
+abbrev pub max_subfiles : ℕ
+max_subfiles = 4294967295
+
+-- the most octets that subfiles of `subfile` octets hold
+abbrev pub most_in : ℕ → ℕ
+most_in subfile = subfile * max_subfiles
+
+-- A size is at most the greatest, and a known one needs no more subfiles than there may be.
+abbrev pub fits : ℕ → Size → Bool
+fits subfile (Known n) = nat_le n greatest_size && nat_le n (most_in subfile)
+fits subfile (Unknown (Some m)) = nat_le m greatest_size
+fits subfile (Unknown None) = true
+
+-- Subfiles have at least one octet, and at most as many as the greatest object.
+abbrev pub is_plan : ℕ → Size → Bool
+is_plan subfile size = nat_le 1 subfile && nat_le subfile greatest_size && fits subfile size
+
+-- what is said of the size: the known one, the maximum, or the greatest
+abbrev pub limit_of : Size → ℕ
+limit_of (Known n) = n
+limit_of (Unknown (Some m)) = m
+limit_of (Unknown None) = greatest_size
+
+-- the most octets of the object: never more than full subfiles hold
+abbrev pub bound_of : ℕ → Size → ℕ
+bound_of subfile size = min (limit_of size) (most_in subfile)

@@ -1,0 +1,66 @@
+-- Dates in eight digits, CCYYMMDD: days of the proleptic Gregorian calendar, of the years 1 to 9999.
+use Rattle.std.specs.Prelude.{◌≡◌, IsTrue, ℕ, ◌+◌, ◌*◌, ◌-◌, ◌/◌, ◌%◌, Bool, ◌&&◌, ◌||◌, ◌==◌, nat_le, List, [], ◌∷◌, ◌++◌, length, slice_index, pos}
+use Rattle.std.specs.List.{list_all}
+use Rattle.jiff.specs.Words.{days_in_month}
+use Rattle.iim_tables.specs.Format.Octets.{digit_zero}
+use Rattle.iim_dataset.specs.Format.Octets.{within, is_digit}
+
+-- the number that the two digits at a place write
+abbrev pub pair_at : List ℕ → ℕ → ℕ
+pair_at xs i = 10 * (slice_index xs i - digit_zero) + (slice_index xs (i + 1) - digit_zero)
+
+-- CCYY
+abbrev pub year_in : List ℕ → ℕ
+year_in xs = 100 * pair_at xs 0 + pair_at xs 2
+
+-- MM
+abbrev pub month_in : List ℕ → ℕ
+month_in xs = pair_at xs 4
+
+-- DD
+abbrev pub day_in : List ℕ → ℕ
+day_in xs = pair_at xs 6
+
+-- 0001 to 9999
+abbrev pub is_year : ℕ → Bool
+is_year y = within 1 9999 y
+
+-- 01 to 12
+abbrev pub is_month : ℕ → Bool
+is_month m = within 1 12 m
+
+-- the calendar has the day
+abbrev pub is_day : ℕ → ℕ → ℕ → Bool
+is_day y m d = is_year y && is_month m && within 1 (days_in_month (pos y) m) d
+
+-- 00 as month, and then 00 to 31 as day; or 00 as day
+abbrev pub lacks_part : ℕ → ℕ → Bool
+lacks_part m d = ((m == 0) && nat_le d 31) || (is_month m && (d == 0))
+
+-- the calendar has the day, or the month, the day or both are missing
+abbrev pub is_part_day : ℕ → ℕ → ℕ → Bool
+is_part_day y m d = is_day y m d || (is_year y && lacks_part m d)
+
+-- eight octets, each a digit
+abbrev pub are_eight_digits : List ℕ → Bool
+are_eight_digits xs = (length xs == 8) && list_all is_digit xs
+
+-- eight digits that name a day
+abbrev pub is_date : List ℕ → Bool
+is_date xs = are_eight_digits xs && is_day (year_in xs) (month_in xs) (day_in xs)
+
+-- eight digits that name a day, or lack the month, the day or both
+abbrev pub is_part_date : List ℕ → Bool
+is_part_date xs = are_eight_digits xs && is_part_day (year_in xs) (month_in xs) (day_in xs)
+
+-- a number below 100 in two digits
+abbrev pub two_digits : ℕ → List ℕ
+two_digits n = (digit_zero + n / 10) ∷ (digit_zero + n % 10) ∷ []
+
+-- century, year, month and day, in two digits each
+abbrev pub date_text : ℕ → ℕ → ℕ → List ℕ
+date_text y m d = two_digits (y / 100) ++ two_digits (y % 100) ++ two_digits m ++ two_digits d
+
+-- the octets are eight digits of this year, month and day
+abbrev pub ReadsDate : List ℕ → ℕ → ℕ → ℕ → Type 0
+ReadsDate xs y m d = IsTrue (are_eight_digits xs) × (year_in xs ≡ y) × (month_in xs ≡ m) × (day_in xs ≡ d)

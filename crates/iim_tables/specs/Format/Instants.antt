@@ -1,0 +1,79 @@
+-- Times of day in eleven octets, HHMMSS, + or -, HHMM, and the instant that a date and a time name.
+use Rattle.std.specs.Prelude.{◌≡◌, ℕ, ◌+◌, ◌*◌, Bool, ◌&&◌, ◌||◌, ◌==◌, nat_lt, if◌then◌else◌, List, length, take, drop, slice_index, ◌∷◌, ◌++◌, Option, Some, None, IsTrue, ℤ, pos, neg_ℤ, ◌+ℤ◌, ◌-ℤ◌, ◌*ℤ◌, int_le}
+use Rattle.std.specs.List.{list_all}
+use Rattle.jiff.specs.Words.{IsTimestampNanos, nanos_of_seconds}
+use Rattle.jiff_core.specs.Calendar.{days_from_civil}
+use Rattle.iim_tables.specs.Format.Octets.{plus, minus}
+use Rattle.iim_dataset.specs.Format.Octets.{is_digit}
+use Rattle.iim_tables.specs.Format.Dates.{pair_at, year_in, month_in, day_in, is_date, two_digits}
+
+-- + where the clock is ahead of universal time, - where it is behind
+abbrev pub is_sign : ℕ → Bool
+is_sign b = b == plus || b == minus
+
+-- six digits, a sign, four digits
+abbrev pub has_time_form : List ℕ → Bool
+has_time_form xs =
+    (length xs == 11) && list_all is_digit (take 6 xs) && is_sign (slice_index xs 6) && list_all is_digit (drop 7 xs)
+
+-- hours 00 to 23, minutes and seconds 00 to 59
+abbrev pub is_clock : ℕ → ℕ → ℕ → Bool
+is_clock hour minute second = nat_lt hour 24 && nat_lt minute 60 && nat_lt second 60
+
+-- a time of day, and how far the clock is from universal time, in hours and minutes
+abbrev pub is_time : List ℕ → Bool
+is_time xs = has_time_form xs && is_clock (pair_at xs 0) (pair_at xs 2) (pair_at xs 4) && is_clock (pair_at xs 7) (pair_at xs 9) 0
+
+-- the octet before the hours and minutes
+abbrev pub sign_of : Bool → ℕ
+sign_of is_behind = if is_behind then minus else plus
+
+-- hour, minute and second, the sign, and hours and minutes, in two digits each
+abbrev pub time_text : ℕ → ℕ → ℕ → Bool → ℕ → ℕ → List ℕ
+time_text hour minute second is_behind hours minutes =
+    two_digits hour ++ two_digits minute ++ two_digits second ++ sign_of is_behind ∷ (two_digits hours ++ two_digits minutes)
+
+-- the octets have the form of a time, with these parts
+abbrev pub ReadsTime : List ℕ → ℕ → ℕ → ℕ → Bool → ℕ → ℕ → Type 0
+ReadsTime xs hour minute second is_behind hours minutes =
+    IsTrue (has_time_form xs) × (pair_at xs 0 ≡ hour) × (pair_at xs 2 ≡ minute) × (pair_at xs 4 ≡ second)
+    × ((slice_index xs 6 == minus) ≡ is_behind) × (pair_at xs 7 ≡ hours) × (pair_at xs 9 ≡ minutes)
+
+-- seconds since midnight
+abbrev pub clock_seconds : ℕ → ℕ → ℕ → ℕ
+clock_seconds hour minute second = hour * 3600 + minute * 60 + second
+
+-- how many seconds the clock is ahead of universal time
+abbrev pub offset_seconds : Bool → ℕ → ℕ → ℤ
+offset_seconds is_behind hour minute =
+    if is_behind then neg_ℤ (pos (clock_seconds hour minute 0)) else pos (clock_seconds hour minute 0)
+
+-- the same of a time: its sign, hours and minutes
+abbrev pub offset_in : List ℕ → ℤ
+offset_in xs = offset_seconds (slice_index xs 6 == minus) (pair_at xs 7) (pair_at xs 9)
+
+-- the day number of a date: days since 1 January 1970
+abbrev pub day_number : List ℕ → ℤ
+day_number xs = days_from_civil (pos (year_in xs)) (month_in xs) (day_in xs)
+
+-- local time less its offset, in seconds since 1970-01-01T00:00:00Z
+abbrev pub instant_seconds : List ℕ → List ℕ → ℤ
+instant_seconds date time =
+    (day_number date *ℤ pos 86_400) +ℤ pos (clock_seconds (pair_at time 0) (pair_at time 2) (pair_at time 4)) -ℤ offset_in time
+
+-- the same in nanoseconds
+abbrev pub instant_nanos : List ℕ → List ℕ → ℤ
+instant_nanos date time = nanos_of_seconds (instant_seconds date time)
+
+-- both texts are admitted, and the instant lies in the library's range
+abbrev pub HasInstant : List ℕ → List ℕ → Type 0
+HasInstant date time = IsTrue (is_date date) × IsTrue (is_time time) × IsTimestampNanos (instant_nanos date time)
+
+-- the library's range of instants, as a test
+abbrev pub is_instant : ℤ → Bool
+is_instant n = int_le (neg_ℤ (pos 377_705_023_201_000_000_000)) n && int_le n (pos 253_402_207_200_999_999_999)
+
+-- the instant that the texts name, if they name one, in nanoseconds
+abbrev pub instant_in : List ℕ → List ℕ → Option ℤ
+instant_in date time =
+    if is_date date && is_time time && is_instant (instant_nanos date time) then Some (instant_nanos date time) else None

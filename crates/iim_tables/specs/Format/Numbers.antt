@@ -1,0 +1,7 @@
+-- How many octets a size may have.
+use Rattle.std.specs.Prelude.{ℕ}
+use Rattle.iim_dataset.specs.Format.Datasets.{count_octets}
+
+-- the most octets of a size: as many as an extended count may have (the profile's)
+abbrev pub size_octets : ℕ
+size_octets = count_octets

@@ -1,0 +1,62 @@
+-- Good records: each dataset as its row says, those that must occur, and those that occur once (IIM version 4, the chapters on
+-- the envelope, application, pre-ObjectData descriptor, ObjectData and post-ObjectData descriptor records).
+use Rattle.std.specs.Prelude.{◌≡◌, ℕ, Bool, true, false, not, ◌&&◌, ◌||◌, ◌==◌, ◌≤◌, List, map, count_by, Option, Some, None, length}
+use Rattle.std.specs.List.{AllByRecursion, list_any, filter}
+use Rattle.iim_dataset.specs.Format.Octets.{IsOctet, Octets, number}
+use Rattle.iim_dataset.specs.Format.Datasets.{Dataset}
+use Rattle.iim_tables.specs.Format.Rows.{Meets, row_of, table}
+use Rattle.iim_tables.specs.declared.shape.Row.{Row}
+use Rattle.iim_tables.specs.declared.shape.Duty.{Duty}
+use Rattle.iim_tables.specs.declared.shape.Duty.TheVariants.{Mandatory, Optional, ByMode}
+
+-- 7:90 has to occur by the mode: that is a matter of sizes
+abbrev pub has_to_occur : Duty → Bool
+has_to_occur Mandatory = true
+has_to_occur Optional = false
+has_to_occur ByMode = false
+
+-- the numbers of the datasets that the record must have, in the order of the table: lowest first
+abbrev pub mandatory : ℕ → List ℕ
+mandatory rec = map (λ e. e.set) (filter (λ e. e.rec == rec && has_to_occur e.row.duty) table)
+
+-- the row does not say that the dataset occurs once at most
+abbrev pub may_repeat : Option Row → Bool
+may_repeat None = true
+may_repeat (Some r) = r.repeats
+
+-- no row says that the dataset occurs once at most
+abbrev pub repeats : ℕ → ℕ → Bool
+repeats rec n = may_repeat (row_of rec n)
+
+-- how many datasets have the number
+abbrev pub occurrences : ℕ → List Dataset → ℕ
+occurrences n ds = count_by (λ d. d.set == n) ds
+
+-- a dataset has the number
+abbrev pub occurs : ℕ → List Dataset → Bool
+occurs n ds = list_any (λ d. d.set == n) ds
+
+-- it is 1:20 File Format
+abbrev pub is_file_format : Dataset → Bool
+is_file_format d = d.rec == 1 && d.set == 20
+
+-- 1:20 File Format has the value 2
+abbrev pub has_file_format : Dataset → Bool
+has_file_format d = not (is_file_format d) || number d.octets == 2
+
+-- The number is an octet, the data are octets as the row of the dataset says, and a file format is 2.
+pub record IsGoodDataset (d : Dataset) : Type 0 where
+  pub numbered : IsOctet d.set
+  pub octets : Octets d.octets
+  pub meets : Meets d.rec d.set d.octets
+  pub file_format : has_file_format d ≡ true
+
+-- Each dataset is good and of this record, the mandatory ones occur, and those that don't repeat occur once at most.
+pub record IsGoodRecord (rec : ℕ) (ds : List Dataset) : Type 0 where
+  pub each : AllByRecursion (λ d. (d.rec ≡ rec) × IsGoodDataset d) ds
+  pub mandatory : AllByRecursion (λ n. occurs n ds ≡ true) (mandatory rec)
+  pub once : (n : ℕ) → repeats rec n ≡ false → occurrences n ds ≤ 1
+
+-- Some octets, n of them, meet the row of the dataset.
+abbrev pub HasValue : ℕ → ℕ → ℕ → Type 0
+HasValue rec set n = (xs : List ℕ) × Octets xs × (length xs ≡ n) × Meets rec set xs

@@ -1,0 +1,54 @@
+-- What a stream that comes in pieces is answered.
+use Rattle.std.specs.Prelude.{◌≡◌, ℕ, ◌<◌, ◌⊎◌, List, [], length, take, slice_index, flat_map, Result, Ok, Err}
+use Rattle.std.specs.Borrow.{Bor}
+use Rattle.iim_fields.specs.declared.limits.Limits.{Limits}
+use Rattle.wire_story.specs.Format.Delivery as story
+use Rattle.iim_unpack.specs.Format.Admitted.{Value}
+use Rattle.iim_unpack.specs.Format.Refusals.{refusal_at}
+use Rattle.iim_unpack.specs.Format.Streams.{Answer, Finished, Refused, Truncated, IsFinished, IsTruncated}
+use Rattle.iim_unpack.specs.Format.Open.{Adds, RefusesNext}
+use Rattle.iim_unpack.specs.Format.Value.{HasParts}
+use Rattle.iim_unpack.specs.declared.fault.TokenFault.{TokenFault}
+use Rattle.iim_unpack.specs.declared.refusal.Refusal.{Refusal}
+use Rattle.iim_unpack.specs.declared.unpacker.Unpacked.{Unpacked}
+
+-- the stream of which these are the pieces
+abbrev pub stream_of : List (Bor (List ℕ)) → List ℕ
+stream_of pieces = flat_map (λ piece. piece.now) pieces
+
+-- From a to b the sink was told exactly what is delivered of the octets.
+abbrev pub IsToldOf : {S : Type 0} → (S → List story.StoryEvent → S → Type 0) → S → List ℕ → S → Type 0
+IsToldOf {S} goes a octets b = (more : List story.StoryEvent) × goes a more b × Adds [] octets more
+
+-- The stream begins with an envelope of `used` octets; its parts are these, and the sink was told its lines.
+pub record IsUnpacked {S : Type 0} (goes : S → List story.StoryEvent → S → Type 0) (limits : Limits) (stream : List ℕ) (a b : S) (got : Unpacked) (used : ℕ) : Type 0 where
+  pub value : Value
+  pub finished : IsFinished limits stream used value
+  pub parts : HasParts got value
+  pub told : goes a (story.events_of_lines value.lines) b
+
+-- The octets before the named one are open, and that one is refused; the sink was told what is delivered of those.
+pub record IsStopped {S : Type 0} (goes : S → List story.StoryEvent → S → Type 0) (limits : Limits) (stream : List ℕ) (a b : S) (e : Refusal) : Type 0 where
+  pub fits : e.octet < length stream
+  pub fault : TokenFault
+  pub refusal : e ≡ refusal_at e.octet fault
+  pub refuses : RefusesNext limits (take e.octet stream) (slice_index stream e.octet) fault
+  pub told : IsToldOf goes a (take e.octet stream) b
+
+-- All octets are open and there are no more; the sink was told what is delivered of them.
+pub record IsCutShort {S : Type 0} (goes : S → List story.StoryEvent → S → Type 0) (limits : Limits) (stream : List ℕ) (a b : S) (e : Refusal) : Type 0 where
+  pub truncated : IsTruncated limits stream e
+  pub told : IsToldOf goes a stream b
+
+-- why a stream has no envelope at its front
+abbrev pub IsTurnedDown : {S : Type 0} → (S → List story.StoryEvent → S → Type 0) → Limits → List ℕ → S → S → Refusal → Type 0
+IsTurnedDown goes limits stream a b e = IsStopped goes limits stream a b e ⊎ IsCutShort goes limits stream a b e
+
+-- The result is the answer.
+abbrev pub IsAnswer : Result (Unpacked × ℕ) Refusal → Answer → Type 0
+IsAnswer (Ok got) (Finished used value) = HasParts got.0 value × (got.1 ≡ used)
+IsAnswer (Ok got) (Refused e) = ⊥
+IsAnswer (Ok got) (Truncated e) = ⊥
+IsAnswer (Err e) (Finished used value) = ⊥
+IsAnswer (Err e) (Refused f) = e ≡ f
+IsAnswer (Err e) (Truncated f) = e ≡ f

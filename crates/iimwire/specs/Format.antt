@@ -1,0 +1,4 @@
+pub mod Outcomes
+pub mod Requests
+pub mod Starts
+pub mod Served

@@ -1,0 +1,50 @@
+-- How many octets lead to a place.
+use Rattle.std.specs.Prelude.{◌≡◌, ℕ, ◌+◌, ◌≤◌, List, length, Option, Some, None, IfSome}
+use Rattle.wire_message.specs.Format.Messages.{Header, fixed_header}
+use Rattle.wire_message.specs.Format.Canonical.{packed_info}
+use Rattle.wire_message.specs.Format.Reading.{StandsAt}
+use Rattle.wire_message.specs.declared.place.Place.{Place}
+use Rattle.wire_message.specs.declared.place.Place.TheVariants.{Filler, Source, Number, Priority, PriorityRead, Category, Words, Info, Gap, Text, Trailer, AfterEnd}
+
+-- Some octets, `count` of them, lead to where the reader stands.
+abbrev pub LeadsIn : Option Place → ℕ → Type 0
+LeadsIn reader count = (octets : List ℕ) × (text : List ℕ) × StandsAt reader octets text × (length octets ≡ count)
+
+-- The number is no less than the least, and no more than the greatest where there is one.
+abbrev pub IsOneOf : ℕ → Option ℕ → ℕ → Type 0
+IsOneOf least greatest count = (least ≤ count) × IfSome greatest (λ most. count ≤ most)
+
+-- SOH and the parts up to the words, with the SP between them
+abbrev pub fixed_octets : Header → ℕ
+fixed_octets h = 1 + length (fixed_header h)
+
+-- SOH to STX at least: an empty info has no SP, and the gap is LF alone
+abbrev pub least_head : Header → ℕ
+least_head h = fixed_octets h + length (packed_info h.info) + 2
+
+-- How many octets lead to a place at least: no filler stands before SOH, an empty info has no SP once the gap has begun, and
+-- once it has ended the gap is LF alone; of the text there are the CR that are held.
+abbrev pub least_of : Place → ℕ
+least_of (Filler count) = count
+least_of (Source s) = 1 + length s.items
+least_of (Number s n) = 1 + length s.items + length n.items
+least_of (Priority s n) = 2 + length s.items + length n.items
+least_of (PriorityRead s n p) = 2 + length s.items + length n.items + length p.items
+least_of (Category s n p c) = 3 + length s.items + length n.items + length p.items + length c.items
+least_of (Words s n p c w) = 4 + length s.items + length n.items + length p.items + length c.items + length w.items
+least_of (Info h) = fixed_octets h + 1 + length h.info
+least_of (Gap h count feed) = fixed_octets h + length (packed_info h.info) + count
+least_of (Text h (Some held)) = least_head h + held
+least_of (Text h None) = least_head h
+least_of (Trailer h t) = least_head h + 1 + length t.items
+least_of (AfterEnd h t count) = least_head h + 2 + length t.items + count
+
+-- How many lead there at most: 32 of filler stand before SOH, and in the gap an empty info has its SP. From STX on the text
+-- may be of any length.
+abbrev pub greatest_of : Place → Option ℕ
+greatest_of (Filler count) = Some count
+greatest_of (Gap h count feed) = Some (32 + (fixed_octets h + 1 + length h.info + count))
+greatest_of (Text h reader) = None
+greatest_of (Trailer h t) = None
+greatest_of (AfterEnd h t count) = None
+greatest_of place = Some (32 + least_of place)

@@ -1,0 +1,74 @@
+-- The words of lines, and a count of words that grows by what a sink is told.
+use Rattle.std.specs.Prelude.{◌≡◌, ℕ, ◌+◌, ◌-◌, ◌^◌, ◌<◌, min, Bool, false, not, ◌&&◌, ◌||◌, ◌==◌, if◌then◌else◌, IsTrue, List, [], ◌∷◌, ◌++◌, length}
+use Rattle.std.specs.List.{list_all, sum_by}
+use Rattle.wire_story.specs.Format.Delivery.{StoryEvent, LineOctet, LineEnd}
+
+-- any octet but SP and TAB
+abbrev pub is_word_octet : ℕ → Bool
+is_word_octet b = not (b == 32 || b == 9)
+
+-- One where a word begins with the octet: it is of a word, and the one before it in its line is not.
+abbrev pub begun_with : Bool → ℕ → ℕ
+begun_with inside b = if is_word_octet b && not inside then 1 else 0
+
+-- how many words begin in octets of a line, where those before them end inside a word or not
+abbrev pub words_begun : Bool → List ℕ → ℕ
+words_begun inside [] = 0
+words_begun inside (b ∷ xs) = begun_with inside b + words_begun (is_word_octet b) xs
+
+-- how many words a line has
+abbrev pub words_of : List ℕ → ℕ
+words_of line = words_begun false line
+
+-- how many words the lines have
+abbrev pub words : List (List ℕ) → ℕ
+words lines = sum_by words_of lines
+
+-- ---- what a word is
+
+-- SP and TAB only
+abbrev pub IsBlank : List ℕ → Type 0
+IsBlank xs = IsTrue (list_all (λ b. not (is_word_octet b)) xs)
+
+-- octets other than SP and TAB, one at least
+abbrev pub IsWord : List ℕ → Type 0
+IsWord xs = (0 < length xs) × IsTrue (list_all is_word_octet xs)
+
+-- Nothing comes next, or SP, or TAB: a word before it is as long as it can be.
+abbrev pub EndsWord : List ℕ → Type 0
+EndsWord [] = Unit {0}
+EndsWord (b ∷ xs) = is_word_octet b ≡ false
+
+-- The line is these words, in order, each as long as it can be, and blanks before, between and after them.
+abbrev pub HasWords : List ℕ → List (List ℕ) → Type 0
+HasWords line [] = IsBlank line
+HasWords line (word ∷ others) = (blank : List ℕ) × IsBlank blank × IsWord word
+    × (rest : List ℕ) × (line ≡ blank ++ (word ++ rest)) × EndsWord rest × HasWords rest others
+
+-- ---- words as they are told
+
+-- a count of words, and whether the present line ends inside a word so far
+pub record WordsSoFar : Type 0 where
+  pub words : ℕ
+  pub inside : Bool
+
+-- the greatest count
+abbrev pub capped : ℕ → ℕ
+capped n = min n (2 ^ 64 - 1)
+
+-- how many words begin in the events, where those before them end inside a word or not
+abbrev pub words_told : Bool → List StoryEvent → ℕ
+words_told inside [] = 0
+words_told inside (LineOctet b ∷ events) = begun_with inside b + words_told (is_word_octet b) events
+words_told inside (LineEnd ∷ events) = words_told false events
+
+-- whether the present line ends inside a word after the events
+abbrev pub inside_after : Bool → List StoryEvent → Bool
+inside_after inside [] = inside
+inside_after inside (LineOctet b ∷ events) = inside_after (is_word_octet b) events
+inside_after inside (LineEnd ∷ events) = inside_after false events
+
+-- The words of the events were counted, in 64 bits.
+pub record CountsWords (old : WordsSoFar) (events : List StoryEvent) (new : WordsSoFar) : Type 0 where
+  pub words : old.words < 2 ^ 64 → new.words ≡ capped (old.words + words_told old.inside events)
+  pub inside : new.inside ≡ inside_after old.inside events
