@@ -14,19 +14,19 @@ use std::test::Fail;
 
 #[test]
 fn writer_at_a_million_interruptions(rt: HostRuntime) {
-    for (running, want) in [(999_999, Ok(())), (1_000_000, Err(2))] {
-        let mut writer: TrialWriter<8> = TrialWriter::new(2, Trouble::Interruptions(running));
-        assert_eq!(rt; put(&mut writer, b"abcde"), want, "at {running}");
+    let rows: [(u64, Trouble, Result<(), usize>, &[u8]); 3] = [
+        (2, Trouble::Interruptions(999_999), Ok(()), b"abcde"),
+        (2, Trouble::Interruptions(1_000_000), Err(2), b"ab"),
+        (4, Trouble::Failure, Err(4), b"abcd"),
+    ];
+    for (good, trouble, want, octets) in rows {
+        let mut writer: TrialWriter<8> = TrialWriter::new(good, trouble);
+        assert_eq!(rt; put(&mut writer, b"abcde"), want, "{trouble:?}");
+        assert_eq!(rt; writer.octets(), octets, "{trouble:?}");
     }
-    let mut writer: TrialWriter<8> = TrialWriter::new(2, Trouble::Interruptions(999_999));
-    assert_eq!(rt; put(&mut writer, b"abcde"), Ok(()));
-    assert_eq!(rt; writer.octets(), b"abcde".as_slice());
     let mut full: TrialWriter<3> = TrialWriter::new(8, Trouble::Failure);
     assert_eq!(rt; put(&mut full, b"abcde"), Err(3));
     assert_eq!(rt; full.octets(), b"abc".as_slice());
-    let mut broken: TrialWriter<8> = TrialWriter::new(4, Trouble::Failure);
-    assert_eq!(rt; put(&mut broken, b"abcde"), Err(4));
-    assert_eq!(rt; broken.octets(), b"abcd".as_slice());
 }
 
 #[test]

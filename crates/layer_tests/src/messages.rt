@@ -268,12 +268,18 @@ fn each_octet_in_place_of_each(rt: HostRuntime) {
 
 /// The header is that of the story of two lines.
 fn expect_rates(rt: &impl Abort, head: &MessageHead) {
-    assert_eq!(rt; head.source(), b"TST".as_slice());
-    assert_eq!(rt; head.number(), b"0007".as_slice());
-    assert_eq!(rt; head.priority(), b"4".as_slice());
-    assert_eq!(rt; head.category(), b"ECO".as_slice());
-    assert_eq!(rt; head.words(), b"5".as_slice());
-    assert_eq!(rt; head.info(), b"rates".as_slice());
+    let parts = [
+        head.source(),
+        head.number(),
+        head.priority(),
+        head.category(),
+        head.words(),
+        head.info(),
+    ];
+    assert_eq!(rt;
+        parts,
+        [b"TST".as_slice(), b"0007", b"4", b"ECO", b"5", b"rates"]
+    );
     assert_eq!(rt;
         head_text(head).as_slice(),
         b"\x01TST0007 4 ECO 5 rates\r\n\x02".as_slice()
@@ -333,8 +339,7 @@ fn makes(source: usize, number: usize, category: usize, words: usize, info: usiz
 
 #[test]
 fn parts_that_make_a_header(rt: HostRuntime) {
-    assert!(rt; makes(1, 1, 1, 1, 0));
-    assert!(rt; makes(8, 8, 8, 6, 64));
+    assert!(rt; makes(1, 1, 1, 1, 0) && makes(8, 8, 8, 6, 64));
     let beyond = [
         (0, 1, 1, 1, 0),
         (9, 1, 1, 1, 0),
@@ -349,8 +354,9 @@ fn parts_that_make_a_header(rt: HostRuntime) {
     for (source, number, category, words, info) in beyond {
         assert!(rt; !makes(source, number, category, words, info));
     }
-    assert!(rt; MessageHead::new(b"X", b"1", b"44", b"N", b"0", EMPTY).is_none());
-    assert!(rt; MessageHead::new(b"X", b"1", EMPTY, b"N", b"0", EMPTY).is_none());
+    for priority in [b"44".as_slice(), EMPTY] {
+        assert!(rt; MessageHead::new(b"X", b"1", priority, b"N", b"0", EMPTY).is_none());
+    }
     match MessageHead::new(b"X", b"1", b"4", b"N", b"0", EMPTY) {
         Some(head) => assert_eq!(rt;
             head_text(&head).as_slice(),
@@ -370,9 +376,13 @@ fn expect_tail(rt: &impl Abort, trailer: &[u8], want: &[u8]) {
 
 #[test]
 fn tails_written(rt: HostRuntime) {
-    assert!(rt; is_trailer(&ZEROS[..64]));
-    assert!(rt; !is_trailer(&ZEROS[..65]));
-    assert!(rt; !is_trailer(b"\x16"));
+    for (trailer, is_one) in [
+        (&ZEROS[..64], true),
+        (&ZEROS[..65], false),
+        (b"\x16", false),
+    ] {
+        assert_eq!(rt; is_trailer(trailer), is_one);
+    }
     assert!(rt; tail_text(&ZEROS[..65]).is_none());
     expect_tail(&rt, EMPTY, b"\x03\x04");
     expect_tail(&rt, b"a\r\n", b"\x03a\r\n\x04");
@@ -416,10 +426,8 @@ fn expect_place(
     match reader_after(octets) {
         Some(reader) => {
             let place = reader.place();
-            assert_eq!(rt; place.part, part);
-            assert_eq!(rt; place.counter, counter);
-            assert_eq!(rt; place.flag, flag);
-            assert_eq!(rt; lengths(&place), lens);
+            let found = (place.part, [place.counter, place.flag], lengths(&place));
+            assert_eq!(rt; found, (part, [counter, flag], lens));
         }
         None => assert!(rt; false),
     }
@@ -554,11 +562,19 @@ fn may_be_after(part: MessagePart, counter: u8, flag: u8) -> bool {
 
 #[test]
 fn places_to_which_octets_lead(rt: HostRuntime) {
-    assert!(rt; may_be_after(MessagePart::Gap, 1, 0));
-    assert!(rt; may_be_after(MessagePart::Gap, 31, 0));
-    assert!(rt; may_be_after(MessagePart::Gap, 32, 1));
-    assert!(rt; may_be_after(MessagePart::Text, 0, 2));
-    assert!(rt; may_be_after(MessagePart::AfterEnd, 32, 0));
+    let rows = [
+        (MessagePart::Gap, 1, 0),
+        (MessagePart::Gap, 31, 0),
+        (MessagePart::Gap, 32, 1),
+        (MessagePart::Text, 0, 2),
+        (MessagePart::AfterEnd, 32, 0),
+    ];
+    for (part, counter, flag) in rows {
+        assert!(rt;
+            may_be_after(part, counter, flag),
+            "{part:?} {counter} {flag}"
+        );
+    }
     assert!(rt;
         may_be_at(
             MessagePart::Info,
@@ -573,20 +589,37 @@ fn places_to_which_octets_lead(rt: HostRuntime) {
 
 #[test]
 fn places_to_which_no_octets_lead(rt: HostRuntime) {
-    assert!(rt; !may_be_after(MessagePart::Gap, 0, 1));
-    assert!(rt; !may_be_after(MessagePart::Gap, 32, 0));
-    assert!(rt; !may_be_after(MessagePart::Gap, 33, 1));
-    assert!(rt; !may_be_after(MessagePart::Gap, 2, 2));
-    assert!(rt; !may_be_after(MessagePart::Text, 0, 3));
-    assert!(rt; !may_be_after(MessagePart::Text, 1, 0));
-    assert!(rt; !may_be_after(MessagePart::Info, 0, 1));
-    assert!(rt; !may_be_after(MessagePart::AfterEnd, 33, 0));
-    assert!(rt; !may_be_after(MessagePart::Words, 1, 0));
-    assert!(rt; !may_be_after(MessagePart::Filler, 0, 0));
-    assert!(rt; !may_be_at(MessagePart::Words, 0, 0, b"X", b"1", b"i"));
-    assert!(rt; !may_be_at(MessagePart::Info, 0, 0, b"ABCDEFGHI", b"1", EMPTY));
-    assert!(rt; !may_be_at(MessagePart::Info, 0, 0, b"X", b"1", b"\n"));
-    assert!(rt; !may_be_at(MessagePart::Number, 0, 0, b"X", EMPTY, EMPTY));
+    let rows = [
+        (MessagePart::Gap, 0, 1),
+        (MessagePart::Gap, 32, 0),
+        (MessagePart::Gap, 33, 1),
+        (MessagePart::Gap, 2, 2),
+        (MessagePart::Text, 0, 3),
+        (MessagePart::Text, 1, 0),
+        (MessagePart::Info, 0, 1),
+        (MessagePart::AfterEnd, 33, 0),
+        (MessagePart::Words, 1, 0),
+        (MessagePart::Filler, 0, 0),
+    ];
+    for (part, counter, flag) in rows {
+        assert!(rt;
+            !may_be_after(part, counter, flag),
+            "{part:?} {counter} {flag}"
+        );
+    }
+}
+
+#[test]
+fn texts_to_which_no_octets_lead(rt: HostRuntime) {
+    let rows: [(MessagePart, &[u8], &[u8], &[u8]); 4] = [
+        (MessagePart::Words, b"X", b"1", b"i"),
+        (MessagePart::Info, b"ABCDEFGHI", b"1", EMPTY),
+        (MessagePart::Info, b"X", b"1", b"\n"),
+        (MessagePart::Number, b"X", EMPTY, EMPTY),
+    ];
+    for (part, source, number, info) in rows {
+        assert!(rt; !may_be_at(part, 0, 0, source, number, info), "{part:?}");
+    }
 }
 
 /// A message of the longest header, gap, trailer and filler after it, its text two empty lines.
@@ -647,30 +680,40 @@ fn expect_lengths(rt: &impl Abort, octets: &[u8], least: u64, greatest: Option<u
 
 #[test]
 fn lengths_of_the_shortest_parts(rt: HostRuntime) {
-    expect_lengths(&rt, EMPTY, 0, Some(0));
-    expect_lengths(&rt, &[0; 32], 32, Some(32));
-    expect_lengths(&rt, b"\x01", 1, Some(33));
-    expect_lengths(&rt, b"\0\n\r\x16\x01", 1, Some(33));
-    expect_lengths(&rt, b"\x01X1", 3, Some(35));
-    expect_lengths(&rt, b"\x01X1 ", 4, Some(36));
-    expect_lengths(&rt, b"\x01X1 4", 5, Some(37));
-    expect_lengths(&rt, b"\x01X1 4 ", 6, Some(38));
-    expect_lengths(&rt, b"\x01X1 4 N ", 8, Some(40));
-    expect_lengths(&rt, b"\x01X1 4 N 0", 9, Some(41));
-    expect_lengths(&rt, b"\x01X1 4 N 0 ", 10, Some(42));
-    expect_lengths(&rt, b"\x01X1 4 N 0 i", 11, Some(43));
+    let rows: [(&[u8], u64, u64); 12] = [
+        (EMPTY, 0, 0),
+        (&[0; 32], 32, 32),
+        (b"\x01", 1, 33),
+        (b"\0\n\r\x16\x01", 1, 33),
+        (b"\x01X1", 3, 35),
+        (b"\x01X1 ", 4, 36),
+        (b"\x01X1 4", 5, 37),
+        (b"\x01X1 4 ", 6, 38),
+        (b"\x01X1 4 N ", 8, 40),
+        (b"\x01X1 4 N 0", 9, 41),
+        (b"\x01X1 4 N 0 ", 10, 42),
+        (b"\x01X1 4 N 0 i", 11, 43),
+    ];
+    for (octets, least, greatest) in rows {
+        expect_lengths(&rt, octets, least, Some(greatest));
+    }
 }
 
 #[test]
 fn lengths_from_the_gap_on(rt: HostRuntime) {
-    expect_lengths(&rt, b"\x01X1 4 N 0\r", 10, Some(43));
-    expect_lengths(&rt, b"\x01X1 4 N 0 \r", 10, Some(43));
-    expect_lengths(&rt, b"\x01X1 4 N 0 i\r", 12, Some(44));
-    expect_lengths(&rt, b"\x01X1 4 N 0 \r\n\x02", 11, None);
-    expect_lengths(&rt, b"\x01X1 4 N 0\r\n\x02A line.\r\n\r", 12, None);
-    expect_lengths(&rt, b"\x01X1 4 N 0 i\r\n\x02", 13, None);
-    expect_lengths(&rt, b"\x01X1 4 N 0\r\n\x02A line.\x03", 12, None);
-    expect_lengths(&rt, b"\x01X1 4 N 0\r\n\x02A line.\x03end", 15, None);
-    expect_lengths(&rt, SMALL, 13, None);
-    expect_lengths(&rt, b"\0\x01X1 4 N 0\r\n\x02\x03\x04\n", 14, None);
+    let rows: [(&[u8], u64, Option<u64>); 10] = [
+        (b"\x01X1 4 N 0\r", 10, Some(43)),
+        (b"\x01X1 4 N 0 \r", 10, Some(43)),
+        (b"\x01X1 4 N 0 i\r", 12, Some(44)),
+        (b"\x01X1 4 N 0 \r\n\x02", 11, None),
+        (b"\x01X1 4 N 0\r\n\x02A line.\r\n\r", 12, None),
+        (b"\x01X1 4 N 0 i\r\n\x02", 13, None),
+        (b"\x01X1 4 N 0\r\n\x02A line.\x03", 12, None),
+        (b"\x01X1 4 N 0\r\n\x02A line.\x03end", 15, None),
+        (SMALL, 13, None),
+        (b"\0\x01X1 4 N 0\r\n\x02\x03\x04\n", 14, None),
+    ];
+    for (octets, least, greatest) in rows {
+        expect_lengths(&rt, octets, least, greatest);
+    }
 }

@@ -144,12 +144,11 @@ fn refused_texts(rt: HostRuntime) {
         (b"a\r\x01".as_slice(), 2, TextCause::LoneReturn),
     ];
     for (text, taken, cause) in texts {
-        let (lines, answer) = read_lines(rt.alloc(), text, Cut::At(0));
-        assert_eq!(rt; answer, Err(TextFault { taken, cause }));
-        assert!(rt; has_lines(&lines, &[b"a".as_slice()]));
-        let (lines, answer) = read_lines(rt.alloc(), text, Cut::EachOctet);
-        assert_eq!(rt; answer, Err(TextFault { taken: 0, cause }));
-        assert!(rt; has_lines(&lines, &[b"a".as_slice()]));
+        for (cut, taken) in [(Cut::At(0), taken), (Cut::EachOctet, 0)] {
+            let (lines, answer) = read_lines(rt.alloc(), text, cut);
+            assert_eq!(rt; answer, Err(TextFault { taken, cause }));
+            assert!(rt; has_lines(&lines, &[b"a".as_slice()]));
+        }
     }
     let mut reader = TextReader::new();
     assert!(rt; !reader.is_failed());
@@ -166,23 +165,17 @@ fn refused_texts(rt: HostRuntime) {
 
 #[test]
 fn lines_filled_and_read(rt: HostRuntime) {
-    let (lines, answer) = read_lines(rt.alloc(), b"", Cut::At(0));
-    assert_eq!(rt; answer, Ok(()));
-    assert!(rt; has_lines(&lines, &[b"".as_slice()]));
-    assert_eq!(rt; text_len(&lines), Some(0));
-    let (lines, answer) = read_lines(rt.alloc(), RATES, Cut::At(0));
-    assert_eq!(rt; answer, Ok(()));
-    assert!(rt;
-        has_lines(
-            &lines,
-            &[b"Rates stay.".as_slice(), b"No change.".as_slice()]
-        )
-    );
-    assert_eq!(rt; text_len(&lines), Some(23));
-    let (lines, answer) = read_lines(rt.alloc(), b"\n\n", Cut::EachOctet);
-    assert_eq!(rt; answer, Ok(()));
-    assert!(rt; has_lines(&lines, &[b"".as_slice(), b"".as_slice(), b"".as_slice()]));
-    assert_eq!(rt; text_len(&lines), Some(4));
+    let rows: [(&[u8], Cut, &[&[u8]], u64); 3] = [
+        (b"", Cut::At(0), &[b""], 0),
+        (RATES, Cut::At(0), &[b"Rates stay.", b"No change."], 23),
+        (b"\n\n", Cut::EachOctet, &[b"", b"", b""], 4),
+    ];
+    for (text, cut, want, octets) in rows {
+        let (lines, answer) = read_lines(rt.alloc(), text, cut);
+        assert_eq!(rt; answer, Ok(()));
+        assert!(rt; has_lines(&lines, want));
+        assert_eq!(rt; text_len(&lines), Some(octets));
+    }
 }
 
 #[test]

@@ -75,6 +75,11 @@ const STORY_REST: &[u8] =
     b"\x1c\x07\x0a\0\x01\x01\x1c\x07\x14\0\x04\0\0\x04\0\x1c\x07\x5a\0\x04\0\0\0\x32\
 \x1c\x08\x0a\0\x32\x01TST0007 4 ECO 5 rates\r\n\x02Rates stay.\r\nNo change.\x03\x04\x1c\x09\x0a\0\x04\0\0\0\x32";
 
+/// Whether these octets are that envelope.
+fn is_the_story(octets: &[u8]) -> bool {
+    octets.len() == 246 && octets.starts_with(STORY_FRONT) && octets.ends_with(STORY_REST)
+}
+
 fn envelope(rt: &impl Abort, alloc: Global, fields: &[(u8, u8, &[u8])]) -> Envelope {
     let Ok(mut builder) = EnvelopeBuilder::new(alloc, LIMITS) else {
         panic!(rt; "memory");

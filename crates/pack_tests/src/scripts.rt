@@ -84,6 +84,20 @@ fn has_fields(script: &Script, want: &[(u8, u8, &[u8])]) -> bool {
     fields.next().is_none()
 }
 
+/// The parts of the message's header, in the order sent, and its trailer.
+fn header_and_trailer(script: &Script) -> [&[u8]; 7] {
+    let head = &script.head;
+    [
+        head.source(),
+        head.number(),
+        head.priority(),
+        head.category(),
+        head.words(),
+        head.info(),
+        &script.trailer,
+    ]
+}
+
 /// Whether these are the lines of the script's story.
 fn has_lines(script: &Script, want: &[&[u8]]) -> bool {
     let mut lines = script.lines.iter();
@@ -103,13 +117,8 @@ fn the_smallest_script(rt: HostRuntime) -> Result<(), Fail> {
         match read_script(rt.alloc(), LIMITS, octets.as_slice()) {
             Ok(script) => {
                 assert!(rt; has_fields(&script, &FIELDS));
-                assert_eq!(rt; script.head.source(), b"X".as_slice());
-                assert_eq!(rt; script.head.number(), b"1".as_slice());
-                assert_eq!(rt; script.head.priority(), b"4".as_slice());
-                assert_eq!(rt; script.head.category(), b"N".as_slice());
-                assert_eq!(rt; script.head.words(), b"0".as_slice());
-                assert_eq!(rt; script.head.info(), b"".as_slice());
-                assert_eq!(rt; script.trailer.as_slice(), b"".as_slice());
+                let want: [&[u8]; 7] = [b"X", b"1", b"4", b"N", b"0", b"", b""];
+                assert_eq!(rt; header_and_trailer(&script), want);
                 assert!(rt; has_lines(&script, &[b""]));
                 assert_eq!(rt; script.text_line, 9u64);
             }

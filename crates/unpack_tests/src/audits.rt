@@ -137,16 +137,12 @@ fn rows_of_a_report(rt: HostRuntime) -> Result<(), Fail> {
             assert_eq!(rt; report.rows().len(), 1);
             match report.rows().first() {
                 Some(row) => {
-                    assert_eq!(rt; row.id.service(), b"TST".as_slice());
-                    assert_eq!(rt; row.id.number(), b"00000001".as_slice());
-                    assert_eq!(rt; row.id.date_sent(), b"20240301".as_slice());
-                    assert_eq!(rt; row.priority, Some(b'5'));
-                    assert_eq!(rt; row.size, 14);
-                    assert_eq!(rt; row.subfiles, 1);
-                    assert_eq!(rt; row.announced, 0);
-                    assert_eq!(rt; row.counted, 0);
-                    assert_eq!(rt; row.age, Some(3600));
-                    assert_eq!(rt; row.first, None);
+                    let id = [row.id.service(), row.id.number(), row.id.date_sent()];
+                    assert_eq!(rt; id, [b"TST".as_slice(), b"00000001", b"20240301"]);
+                    let words = [row.announced, row.counted];
+                    assert_eq!(rt; (row.size, row.subfiles, words), (14, 1, [0, 0]));
+                    let rest = (row.priority, row.age, row.first);
+                    assert_eq!(rt; rest, (Some(b'5'), Some(3600), None));
                 }
                 None => panic!(rt; "no row"),
             }

@@ -137,12 +137,24 @@ fn writer() -> TrialWriter<256> {
     TrialWriter::new(0, Trouble::Interruptions(0))
 }
 
+/// A status, and what is written on the output and on the errors.
+type Outcome<'t> = (u8, &'t str, &'t str);
+
+/// Expects that a run came to this.
+fn expect_outcome<const N: usize, const M: usize>(
+    rt: &impl Abort,
+    came: (u8, TrialWriter<N>, TrialWriter<M>),
+    (status, output, errors): Outcome<'_>,
+) {
+    let (found, told, complained) = came;
+    let want = (status, output.as_bytes(), errors.as_bytes());
+    assert_eq!(rt; (found, told.octets(), complained.octets()), want);
+}
+
 /// Checks that `check` writes the line and nothing else, with the status.
 fn expect(rt: &impl Abort, alloc: Global, octets: &[u8], line: &str, status: u8) {
-    let (found, output, errors) = run(alloc, CHECK, reader(octets), writer(), writer());
-    assert_eq!(rt; output.octets(), line.as_bytes(), "for {line:?}");
-    assert_eq!(rt; found, status, "for {line:?}");
-    assert!(rt; errors.octets().is_empty(), "for {line:?}");
+    let came = run(alloc, CHECK, reader(octets), writer(), writer());
+    expect_outcome(rt, came, (status, line, ""));
 }
 
 #[test]
@@ -198,7 +210,7 @@ fn tells_a_reader_that_fails(rt: HostRuntime) -> Result<(), Fail> {
     add(&mut octets, SMALLEST.as_slice())?;
     for good in 0..230 {
         let source = TrialReader::new(octets.as_slice(), good, Trouble::Failure);
-        let (status, output, errors) = run(rt.alloc(), CHECK, source, writer(), writer());
+        let came = run(rt.alloc(), CHECK, source, writer(), writer());
         let lines = if good < 114 {
             ""
         } else if good < 228 {
@@ -206,14 +218,12 @@ fn tells_a_reader_that_fails(rt: HostRuntime) -> Result<(), Fail> {
         } else {
             "1 accepted 114 octets\n2 accepted 114 octets\n"
         };
-        assert_eq!(rt; output.octets(), lines.as_bytes(), "at {good}");
-        if good < 229 {
-            assert_eq!(rt; status, FAILED, "at {good}");
-            assert_eq!(rt; errors.octets(), b"cannot read\n".as_slice(), "at {good}");
+        let (status, complaint) = if good < 229 {
+            (FAILED, "cannot read\n")
         } else {
-            assert_eq!(rt; status, ACCEPTED, "at {good}");
-            assert!(rt; errors.octets().is_empty(), "at {good}");
-        }
+            (ACCEPTED, "")
+        };
+        expect_outcome(&rt, came, (status, lines, complaint));
     }
     Ok(())
 }
@@ -221,17 +231,14 @@ fn tells_a_reader_that_fails(rt: HostRuntime) -> Result<(), Fail> {
 #[test]
 fn reads_past_interruptions(rt: HostRuntime) -> Result<(), Fail> {
     let octets = joined(rt.alloc(), SMALLEST.as_slice())?;
-    for (running, want) in [(999_999, ACCEPTED), (1_000_000, FAILED)] {
+    let rows = [
+        (999_999, (ACCEPTED, FIRST_LINE, "")),
+        (1_000_000, (FAILED, "", "cannot read\n")),
+    ];
+    for (running, want) in rows {
         let source = TrialReader::new(octets.as_slice(), 50, Trouble::Interruptions(running));
-        let (status, output, errors) = run(rt.alloc(), CHECK, source, writer(), writer());
-        let (line, told) = if want == FAILED {
-            ("", "cannot read\n")
-        } else {
-            (FIRST_LINE, "")
-        };
-        assert_eq!(rt; status, want, "at {running}");
-        assert_eq!(rt; output.octets(), line.as_bytes(), "at {running}");
-        assert_eq!(rt; errors.octets(), told.as_bytes(), "at {running}");
+        let came = run(rt.alloc(), CHECK, source, writer(), writer());
+        expect_outcome(&rt, came, want);
     }
     Ok(())
 }
@@ -242,37 +249,21 @@ fn tells_a_writer_that_fails(rt: HostRuntime) -> Result<(), Fail> {
     for trouble in [Trouble::Failure, Trouble::Interruptions(1_000_000)] {
         for good in [0, 1, 7, 21] {
             let target: TrialWriter<64> = TrialWriter::new(good, trouble);
-            let (status, output, errors) = run(
-                rt.alloc(),
-                CHECK,
-                reader(octets.as_slice()),
-                target,
-                writer(),
-            );
-            assert_eq!(rt; status, FAILED, "at {good}");
-            assert_eq!(rt;
-                Some(output.octets()),
-                FIRST_LINE.as_bytes().get(..good as usize),
-                "at {good}"
-            );
-            assert_eq!(rt; errors.octets(), b"cannot write\n".as_slice(), "at {good}");
+            let source = reader(octets.as_slice());
+            let came = run(rt.alloc(), CHECK, source, target, writer());
+            let front = FIRST_LINE
+                .get(..good as usize)
+                .ok_or("a front of the line")?;
+            expect_outcome(&rt, came, (FAILED, front, "cannot write\n"));
         }
     }
     let full: TrialWriter<3> = TrialWriter::new(0, Trouble::Interruptions(0));
-    let (status, output, errors) = run(
-        rt.alloc(),
-        CHECK,
-        reader(octets.as_slice()),
-        full,
-        writer(),
-    );
-    assert_eq!(rt; status, FAILED);
-    assert_eq!(rt; output.octets(), b"1 a".as_slice());
-    assert_eq!(rt; errors.octets(), b"cannot write\n".as_slice());
+    let source = reader(octets.as_slice());
+    let came = run(rt.alloc(), CHECK, source, full, writer());
+    expect_outcome(&rt, came, (FAILED, "1 a", "cannot write\n"));
     let slow: TrialWriter<64> = TrialWriter::new(4, Trouble::Interruptions(999_999));
-    let (status, output, _) = run(rt.alloc(), CHECK, reader(octets.as_slice()), slow, writer());
-    assert_eq!(rt; status, ACCEPTED);
-    assert_eq!(rt; output.octets(), FIRST_LINE.as_bytes());
+    let came = run(rt.alloc(), CHECK, reader(octets.as_slice()), slow, writer());
+    expect_outcome(&rt, came, (ACCEPTED, FIRST_LINE, ""));
     Ok(())
 }
 
@@ -280,10 +271,8 @@ fn tells_a_writer_that_fails(rt: HostRuntime) -> Result<(), Fail> {
 fn keeps_the_status_where_it_can_t_complain(rt: HostRuntime) {
     let source = TrialReader::new(b"", 0, Trouble::Failure);
     let errors: TrialWriter<64> = TrialWriter::new(5, Trouble::Failure);
-    let (status, output, errors) = run(rt.alloc(), CHECK, source, writer(), errors);
-    assert_eq!(rt; status, FAILED);
-    assert!(rt; output.octets().is_empty());
-    assert_eq!(rt; errors.octets(), b"canno".as_slice());
+    let came = run(rt.alloc(), CHECK, source, writer(), errors);
+    expect_outcome(&rt, came, (FAILED, "", "canno"));
 }
 
 /// The smallest envelope with `fields` datasets of 2:200 after its first seven, each with this tag and `octets` octets.

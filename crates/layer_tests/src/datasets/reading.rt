@@ -125,6 +125,22 @@ fn feed_by_octets(
     Ok(octets.len())
 }
 
+/// Reads octets in one piece, or one by one, and answers the reader, and how many octets were used or the fault.
+fn read(
+    rt: &impl Abort,
+    octets: &[u8],
+    one_by_one: bool,
+    sink: &mut Recorder,
+) -> (HeadReader, Result<usize, Fault>) {
+    let mut reader = HeadReader::new();
+    let answer = if one_by_one {
+        feed_by_octets(rt, &mut reader, octets, sink)
+    } else {
+        reader.feed(octets, sink)
+    };
+    (reader, answer)
+}
+
 #[test]
 fn datasets_in_any_cut(rt: HostRuntime) {
     for cut in 0..LENGTH {
@@ -138,42 +154,45 @@ fn datasets_in_any_cut(rt: HostRuntime) {
             "cut at {cut}"
         );
         assert_eq!(rt; sink.record.as_slice(), RECORD, "cut at {cut}");
-        assert!(rt; !reader.is_failed());
-        assert_eq!(rt; reader.named(), (0, 0));
+        assert_eq!(rt; (reader.is_failed(), reader.named()), (false, (0, 0)));
     }
-    let mut reader = HeadReader::new();
     let mut sink = Recorder::new(11);
-    assert_eq!(rt;
-        feed_by_octets(&rt, &mut reader, STREAM, &mut sink),
-        Ok(LENGTH)
-    );
+    let (_, answer) = read(&rt, STREAM, true, &mut sink);
+    assert_eq!(rt; answer, Ok(LENGTH));
     assert_eq!(rt; sink.record.as_slice(), RECORD);
 }
 
-/// After the last dataset a reader continues where its sink does: what comes then is the next tag, or refused as one.
+/// No tag begins with the octet after these.
+const fn no_tag_after(used: usize) -> Result<usize, Fault> {
+    Err(Fault {
+        cause: FaultCause::Marker,
+        used,
+    })
+}
+
+/// After the last dataset a reader continues where its sink does: what comes then is the next dataset.
 #[test]
-fn octets_after_the_last_dataset(rt: HostRuntime) {
-    let marker = |used| {
-        Err(Fault {
-            cause: FaultCause::Marker,
-            used,
-        })
-    };
+fn a_dataset_after_the_last(rt: HostRuntime) {
     let mut reader = HeadReader::new();
     let mut sink = Recorder::new(16);
     assert_eq!(rt; reader.feed(STREAM, &mut sink), Ok(LENGTH));
     assert_eq!(rt; reader.feed(b"", &mut sink), Ok(0));
     assert_eq!(rt; reader.feed(b"\x1c\x01\x1e\x00\x03TS", &mut sink), Ok(7));
     assert_eq!(rt; reader.named(), (1, 30));
-    assert_eq!(rt; reader.feed(b"Tx", &mut sink), marker(1));
+    assert_eq!(rt; reader.feed(b"Tx", &mut sink), no_tag_after(1));
     assert_eq!(rt;
         sink.record.as_slice(),
         b"<\x01\x1e\x03TST><\x02\x05\x02ab><\x07\x0a\x00><\x01\x1e\x03TST>".as_slice()
     );
+}
+
+/// An octet after the last dataset that begins no tag is refused.
+#[test]
+fn octets_after_the_last_dataset(rt: HostRuntime) {
     let mut reader = HeadReader::new();
     let mut sink = Recorder::new(11);
     assert_eq!(rt; reader.feed(STREAM, &mut sink), Ok(LENGTH));
-    assert_eq!(rt; reader.feed(&STREAM[LENGTH..], &mut sink), marker(0));
+    assert_eq!(rt; reader.feed(&STREAM[LENGTH..], &mut sink), no_tag_after(0));
     assert_eq!(rt; sink.record.as_slice(), RECORD);
     assert!(rt; reader.is_failed());
 }
@@ -204,20 +223,13 @@ const NO_TAGS: [(&[u8], FaultCause, usize, (u8, u8)); 6] = [
 #[test]
 fn no_tag_continues(rt: HostRuntime) {
     for (octets, cause, used, named) in NO_TAGS {
-        let mut reader = HeadReader::new();
-        let mut sink = Recorder::new(11);
-        let fault = Fault { cause, used };
-        assert_eq!(rt; reader.feed(octets, &mut sink), Err(fault), "{octets:?}");
-        assert!(rt; reader.is_failed());
-        assert_eq!(rt; reader.named(), named, "{octets:?}");
-        let mut reader = HeadReader::new();
-        let mut sink = Recorder::new(11);
-        assert_eq!(rt;
-            feed_by_octets(&rt, &mut reader, octets, &mut sink),
-            Err(fault),
-            "{octets:?}"
-        );
-        assert_eq!(rt; reader.named(), named, "{octets:?}");
+        for one_by_one in [false, true] {
+            let mut sink = Recorder::new(11);
+            let (reader, answer) = read(&rt, octets, one_by_one, &mut sink);
+            assert_eq!(rt; answer, Err(Fault { cause, used }), "{octets:?}");
+            let stands = (reader.is_failed(), reader.named());
+            assert_eq!(rt; stands, (true, named), "{octets:?}");
+        }
     }
 }
 
@@ -228,21 +240,13 @@ fn expect_stop(rt: &impl Abort, event: usize, used: usize, recorded: usize) {
         used,
     });
     let (front, _) = RECORD.split_at(recorded.min(RECORD.len()));
-    let mut reader = HeadReader::new();
-    let mut sink = Recorder::new(event);
-    assert_eq!(rt; reader.feed(STREAM, &mut sink), stop, "event {event}");
-    assert_eq!(rt; sink.record.as_slice(), front, "event {event}");
-    assert!(rt; reader.is_failed());
-    assert_eq!(rt; reader.named(), (0, 0));
-    let mut reader = HeadReader::new();
-    let mut sink = Recorder::new(event);
-    assert_eq!(rt;
-        feed_by_octets(rt, &mut reader, STREAM, &mut sink),
-        stop,
-        "event {event}"
-    );
-    assert_eq!(rt; sink.record.as_slice(), front, "event {event}");
-    assert!(rt; reader.is_failed());
+    for one_by_one in [false, true] {
+        let mut sink = Recorder::new(event);
+        let (reader, answer) = read(rt, STREAM, one_by_one, &mut sink);
+        assert_eq!(rt; answer, stop, "event {event}");
+        assert_eq!(rt; sink.record.as_slice(), front, "event {event}");
+        assert_eq!(rt; (reader.is_failed(), reader.named()), (true, (0, 0)));
+    }
 }
 
 #[test]

@@ -25,15 +25,20 @@ fn expect_all(rt: &impl Abort, mut found: DataIter<'_>, want: &[&[u8]]) {
 }
 
 fn expect_header_views(rt: &impl Abort, envelope: &Envelope) {
-    assert_eq!(rt; envelope.service(), b"TST".as_slice());
-    assert_eq!(rt; envelope.number(), b"00000002".as_slice());
-    assert_eq!(rt; envelope.date_sent_text(), b"20240301".as_slice());
+    let id = [
+        envelope.service(),
+        envelope.number(),
+        envelope.date_sent_text(),
+    ];
+    assert_eq!(rt; id, [b"TST".as_slice(), b"00000002", b"20240301"]);
     assert_eq!(rt; Date::new(2024, 3, 1).ok(), Some(envelope.date_sent()));
-    assert_eq!(rt; envelope.model_version(), b"\0\x04".as_slice());
-    assert_eq!(rt; envelope.format_version(), b"\0\x01".as_slice());
-    assert_eq!(rt; envelope.record_version(), b"\0\x04".as_slice());
-    assert!(rt; envelope.time_sent().is_none());
-    assert!(rt; envelope.sent().is_none());
+    let versions = [
+        envelope.model_version(),
+        envelope.format_version(),
+        envelope.record_version(),
+    ];
+    assert_eq!(rt; versions, [b"\0\x04".as_slice(), b"\0\x01", b"\0\x04"]);
+    assert!(rt; envelope.time_sent().is_none() && envelope.sent().is_none());
     assert_eq!(rt; envelope.priority(), None);
 }
 
@@ -162,9 +167,8 @@ fn ids_in_order(rt: HostRuntime) -> Result<(), Fail> {
         let Some(id) = id_of(&rt, rt.alloc(), service, number, date)? else {
             return Ok(());
         };
-        assert_eq!(rt; id.service(), *service);
-        assert_eq!(rt; id.number(), *number);
-        assert_eq!(rt; id.date_sent(), *date);
+        let parts = [id.service(), id.number(), id.date_sent()];
+        assert_eq!(rt; parts, [*service, *number, *date]);
         assert!(rt; id.clone()? == id);
         for (k, (service, number, date)) in ordered.iter().enumerate() {
             let Some(other) = id_of(&rt, rt.alloc(), service, number, date)? else {

@@ -136,9 +136,10 @@ fn causes_and_their_order(rt: HostRuntime) {
         (known.written(), known.total(), known.is_failed()),
         (before, 2, false)
     );
-    assert_eq!(&rt; known.write(b"cd"), Err(PackCause::PastAnnounced));
-    assert_eq!(&rt; known.write(b"c"), Ok(()));
-    assert_eq!(&rt; known.write(b"d"), Err(PackCause::PastAnnounced));
+    let past = Err(PackCause::PastAnnounced);
+    for (piece, answer) in [(b"cd".as_slice(), past), (b"c", Ok(())), (b"d", past)] {
+        assert_eq!(&rt; known.write(piece), answer);
+    }
     assert_eq!(&rt; known.written(), before + 7);
     assert!(&rt; known.finish().is_ok());
 }
@@ -150,8 +151,9 @@ fn expect_failed(
 ) -> (TrialWriter<600>, u64) {
     assert!(rt; writer.is_failed());
     let written = writer.written();
-    assert_eq!(rt; writer.write(b"abcdef"), Err(PackCause::Failed));
-    assert_eq!(rt; writer.write(b""), Err(PackCause::Failed));
+    for piece in [b"abcdef".as_slice(), b""] {
+        assert_eq!(rt; writer.write(piece), Err(PackCause::Failed));
+    }
     let writer = match writer.finish() {
         Ok(_) => panic!(rt; "finished after a failure"),
         Err((writer, cause)) => {

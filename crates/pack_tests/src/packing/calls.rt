@@ -1,7 +1,7 @@
 //! A packer, call by call.
 
 use super::{
-    SMALLEST, STORY, STORY_FRONT, STORY_OBJECT, STORY_REST, envelope, expected, plan,
+    SMALLEST, STORY, STORY_FRONT, STORY_OBJECT, envelope, expected, is_the_story, plan,
     smallest_head, story_head,
 };
 use iim_dataset::FromWrite;
@@ -33,9 +33,12 @@ fn with_lines(
     plan: Plan,
 ) -> Packer<FromWrite<Vec<u8>>> {
     let mut packer = started(rt, alloc, envelope, plan);
-    assert!(rt; packer.text(b"Rates stay.").is_ok());
-    assert!(rt; packer.line_end().is_ok());
-    assert!(rt; packer.text(b"No change.").is_ok());
+    let lines = [
+        packer.text(b"Rates stay."),
+        packer.line_end(),
+        packer.text(b"No change."),
+    ];
+    assert!(rt; lines == [Ok(()); 3]);
     packer
 }
 
@@ -44,9 +47,9 @@ fn refusals_change_nothing(rt: HostRuntime) {
     let alloc = rt.alloc();
     let story = envelope(&rt, alloc, &STORY);
     let mut packer = with_lines(&rt, alloc, &story, plan(&rt, 1024, Size::Known(50)));
-    assert!(rt; packer.text(b"!") == Err(PackCause::PastAnnounced));
-    assert!(rt; packer.text(b"\n") == Err(PackCause::BadTextOctet));
-    assert!(rt; packer.line_end() == Err(PackCause::PastAnnounced));
+    let answers = [packer.text(b"!"), packer.text(b"\n"), packer.line_end()];
+    let past = Err(PackCause::PastAnnounced);
+    assert!(rt; answers == [past, Err(PackCause::BadTextOctet), past]);
     assert_eq!(rt; packer.written(), 182);
     let packer = match packer.finish(&[b'x'; 65]) {
         Err((packer, PackCause::BadTrailer)) => packer,
@@ -57,12 +60,7 @@ fn refusals_change_nothing(rt: HostRuntime) {
         _ => panic!(&rt; "a trailer past the bound"),
     };
     match packer.finish(b"") {
-        Ok(writer) => {
-            let octets = writer.into_inner();
-            assert_eq!(rt; octets.len(), 246);
-            assert!(rt; octets.as_slice().starts_with(STORY_FRONT));
-            assert!(rt; octets.as_slice().ends_with(STORY_REST));
-        }
+        Ok(writer) => assert!(rt; is_the_story(writer.into_inner().as_slice())),
         Err(_) => panic!(&rt; "the whole envelope"),
     }
 }
@@ -124,13 +122,11 @@ fn in_pieces(
 ) -> Vec<u8> {
     let mut packer = started(rt, alloc, envelope, plan);
     for piece in b"Rates stay.".chunks(most.max(1)) {
-        assert!(rt; packer.text(b"").is_ok());
-        assert!(rt; packer.text(piece).is_ok());
+        assert!(rt; packer.text(b"").is_ok() && packer.text(piece).is_ok());
     }
     assert!(rt; packer.line_end().is_ok());
     for piece in b"No change.".chunks(most.max(1)) {
-        assert!(rt; packer.text(b"").is_ok());
-        assert!(rt; packer.text(piece).is_ok());
+        assert!(rt; packer.text(b"").is_ok() && packer.text(piece).is_ok());
     }
     match packer.finish(b"") {
         Ok(writer) => writer.into_inner(),

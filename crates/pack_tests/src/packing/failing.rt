@@ -16,6 +16,11 @@ fn begins_the_story(octets: &[u8]) -> bool {
     }
 }
 
+/// Whether this number of octets is out, and they begin the worked envelope.
+fn holds_front<const N: usize>(writer: &TrialWriter<N>, written: u64) -> bool {
+    writer.octets().len() as u64 == written && begins_the_story(writer.octets())
+}
+
 /// How packing the worked envelope ended, and how many octets are out.
 #[derive(Clone, Copy, PartialEq, Eq)]
 enum End {
@@ -32,18 +37,19 @@ fn pack_story<const N: usize>(rt: &impl Abort, alloc: Global, writer: TrialWrite
         Ok(packer) => packer,
         Err(fault) => {
             assert!(rt; fault.cause == PackCause::Write);
-            assert_eq!(rt; fault.writer.octets().len() as u64, fault.written);
-            assert!(rt; begins_the_story(fault.writer.octets()));
+            assert!(rt; holds_front(&fault.writer, fault.written));
             return End::InStart(fault.written);
         }
     };
-    assert!(rt; packer.text(b"Rates stay.").is_ok());
-    assert!(rt; packer.line_end().is_ok());
-    assert!(rt; packer.text(b"No change.").is_ok());
+    let lines = [
+        packer.text(b"Rates stay."),
+        packer.line_end(),
+        packer.text(b"No change."),
+    ];
+    assert!(rt; lines == [Ok(()); 3]);
     let mut packer = match packer.finish(b"") {
         Ok(writer) => {
-            assert_eq!(rt; writer.octets().len(), 246);
-            assert!(rt; begins_the_story(writer.octets()));
+            assert!(rt; holds_front(&writer, 246));
             return End::Whole;
         }
         Err((packer, cause)) => {
@@ -52,17 +58,14 @@ fn pack_story<const N: usize>(rt: &impl Abort, alloc: Global, writer: TrialWrite
         }
     };
     let written = packer.written();
-    assert!(rt; packer.text(b"") == Err(PackCause::Failed));
-    assert!(rt; packer.text(b"\n") == Err(PackCause::Failed));
-    assert!(rt; packer.line_end() == Err(PackCause::Failed));
+    let answers = [packer.text(b""), packer.text(b"\n"), packer.line_end()];
+    assert!(rt; answers == [Err(PackCause::Failed); 3]);
     let packer = match packer.finish(&[b'x'; 65]) {
         Err((packer, PackCause::Failed)) => packer,
         _ => panic!(rt; "finished after a failed write"),
     };
     assert_eq!(rt; packer.written(), written);
-    let writer = packer.into_writer();
-    assert_eq!(rt; writer.octets().len() as u64, written);
-    assert!(rt; begins_the_story(writer.octets()));
+    assert!(rt; holds_front(&packer.into_writer(), written));
     End::InFinish(written)
 }
 

@@ -94,12 +94,8 @@ fn parts_inside_a_value(rt: HostRuntime) {
     assert_eq!(rt; (set, count, left), (0x1e, 3, 2));
     assert_eq!(rt; taken, b"T".as_slice());
     let fields: [(u8, &[u8]); 3] = [(0, b"\x00\x04"), (20, b"\x00\x02"), (22, b"\x00\x01")];
-    for (want, value) in fields {
-        let Some((rec, set, octets)) = parts.fields.next() else {
-            panic!(rt; "too few");
-        };
-        assert_eq!(rt; (rec, set), (1, want));
-        assert_eq!(rt; octets, value);
+    for (set, value) in fields {
+        assert!(rt; parts.fields.next() == Some((1, set, value)));
     }
     assert!(rt; parts.fields.next().is_none());
 }

@@ -2,8 +2,10 @@
 
 use super::feeding::{Answer, expect, expect_within, refused, text_of};
 use super::rule::refusal;
+use super::saving::header_and_trailer;
 use super::{LIMITS, SMALLEST, TAGS, joined, story};
 use iim_fields::Limits;
+use iim_object::Sizes;
 use iim_unpack::{Cause, Layer, Progress, Unpacker};
 use std::alloc::{AllocError, Global};
 use std::test::Fail;
@@ -39,6 +41,18 @@ pub(crate) fn sized(alloc: Global, size: u8, object: &[&[u8]]) -> Result<Vec<u8>
             &[0x1c, 9, 0x0a, 0, 4, 0, 0, 0, size],
         ],
     )
+}
+
+/// What records 7 to 9 of the worked envelopes say of an object of this number of octets, in one subfile.
+fn of_one_subfile(octets: u64) -> Sizes {
+    Sizes {
+        known: true,
+        subfile: 1024,
+        announced: Some(octets),
+        maximum: None,
+        subfiles: 1,
+        total: octets,
+    }
 }
 
 #[test]
@@ -101,8 +115,7 @@ fn parts_of_the_story(rt: HostRuntime) -> Result<(), Fail> {
     let mut lines = Lines::new(rt.alloc());
     let mut unpacker = Unpacker::new(rt.alloc(), LIMITS)?;
     assert!(rt; unpacker.feed(octets.as_slice(), &mut lines).is_ok());
-    assert!(rt; unpacker.is_done());
-    assert!(rt; !unpacker.is_failed());
+    assert!(rt; unpacker.is_done() && !unpacker.is_failed());
     assert_eq!(rt; unpacker.octets(), 246);
     let Ok(got) = unpacker.into_unpacked() else {
         return Err(Fail::from("not done"));
@@ -119,18 +132,17 @@ fn parts_of_the_story(rt: HostRuntime) -> Result<(), Fail> {
         (2, 25),
         (2, 250),
     ];
-    for ((rec, set, _), name) in got.envelope.fields().skip(7).zip(names) {
-        assert_eq!(rt; (rec, set), name);
-    }
+    let found = got
+        .envelope
+        .fields()
+        .skip(7)
+        .map(|(rec, set, _)| (rec, set));
+    assert!(rt; found.eq(names));
     let kept: &[u8] = b"\x00\xff";
     assert_eq!(rt; got.envelope.first(2, 250), Some(kept));
-    assert_eq!(rt; got.head.source(), b"TST".as_slice());
-    assert_eq!(rt; got.head.number(), b"0007".as_slice());
-    assert_eq!(rt; got.head.category(), b"ECO".as_slice());
-    assert_eq!(rt; got.head.info(), b"rates".as_slice());
-    assert_eq!(rt; got.sizes.announced, Some(50));
-    assert_eq!(rt; got.sizes.total, 50);
-    assert_eq!(rt; got.sizes.subfiles, 1);
+    let parts: [&[u8]; 7] = [b"TST", b"0007", b"4", b"ECO", b"5", b"rates", b""];
+    assert_eq!(rt; header_and_trailer(&got), parts);
+    assert_eq!(rt; got.sizes, of_one_subfile(50));
     Ok(())
 }
 
@@ -342,18 +354,9 @@ fn parts_of_the_smallest(rt: HostRuntime) -> Result<(), Fail> {
         return Err(Fail::from("not done"));
     };
     assert_eq!(rt; got.envelope.fields().count(), 7);
-    assert_eq!(rt; got.head.source(), b"X".as_slice());
-    assert_eq!(rt; got.head.number(), b"1".as_slice());
-    assert_eq!(rt; got.head.category(), b"N".as_slice());
-    assert_eq!(rt; got.head.words(), b"0".as_slice());
-    assert!(rt; got.head.info().is_empty());
-    assert!(rt; got.trailer.is_empty());
-    assert!(rt; got.sizes.known);
-    assert_eq!(rt; got.sizes.subfile, 1024);
-    assert_eq!(rt; got.sizes.announced, Some(14));
-    assert_eq!(rt; got.sizes.maximum, None);
-    assert_eq!(rt; got.sizes.subfiles, 1);
-    assert_eq!(rt; got.sizes.total, 14);
+    let parts: [&[u8]; 7] = [b"X", b"1", b"4", b"N", b"0", b"", b""];
+    assert_eq!(rt; header_and_trailer(&got), parts);
+    assert_eq!(rt; got.sizes, of_one_subfile(14));
     Ok(())
 }
 

@@ -1,6 +1,6 @@
 //! `audit` on envelopes, on what breaks them, and on devices that break.
 
-use super::{SMALLEST, STORY, add, joined, reader, writer};
+use super::{SMALLEST, STORY, add, expect_outcome, joined, reader, writer};
 use crate::instant::Instant;
 use crate::request::{Job, Request};
 use crate::run::run;
@@ -72,19 +72,11 @@ fn tells_devices_that_break(rt: HostRuntime) -> Result<(), Fail> {
     let alloc = rt.alloc();
     let octets = stream(alloc)?;
     let failing = TrialReader::new(octets.as_slice(), 200, Trouble::Failure);
-    let (status, output, errors) = run(alloc, request()?, failing, writer(), writer());
-    assert_eq!(rt; status, FAILED);
-    assert!(rt; output.octets().is_empty());
-    assert_eq!(rt; errors.octets(), b"cannot read\n".as_slice());
-    let (status, output, errors) = run(
-        alloc,
-        request()?,
-        reader(octets.as_slice()),
-        TrialWriter::<256>::new(10, Trouble::Failure),
-        writer(),
-    );
-    assert_eq!(rt; status, FAILED);
-    assert_eq!(rt; output.octets(), b"1 TST 0000".as_slice());
-    assert_eq!(rt; errors.octets(), b"cannot write\n".as_slice());
+    let came = run(alloc, request()?, failing, writer(), writer());
+    expect_outcome(&rt, came, (FAILED, "", "cannot read\n"));
+    let target = TrialWriter::<256>::new(10, Trouble::Failure);
+    let source = reader(octets.as_slice());
+    let came = run(alloc, request()?, source, target, writer());
+    expect_outcome(&rt, came, (FAILED, "1 TST 0000", "cannot write\n"));
     Ok(())
 }

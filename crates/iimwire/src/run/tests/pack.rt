@@ -1,6 +1,6 @@
 //! `pack` as it is run: the script of an envelope, one that is refused, and a device that breaks.
 
-use super::{SMALLEST, joined, reader, writer};
+use super::{SMALLEST, expect_outcome, joined, reader, writer};
 use crate::request::{Job, Request};
 use crate::run::run;
 use iim_commands::packing::PackRequest;
@@ -38,16 +38,10 @@ fn packs_the_envelope_of_a_script(rt: HostRuntime) -> Result<(), Fail> {
 #[test]
 fn tells_what_is_wrong(rt: HostRuntime) {
     let alloc = rt.alloc();
-    let (status, output, errors) = run(alloc, pack(), reader(b"1:30 TST"), writer(), writer());
-    assert_eq!(rt; status, REFUSED);
-    assert!(rt; output.octets().is_empty());
-    assert_eq!(rt;
-        errors.octets(),
-        b"refused: script line 1 cause 91 ScriptLine\n".as_slice()
-    );
+    let came = run(alloc, pack(), reader(b"1:30 TST"), writer(), writer());
+    let complaint = "refused: script line 1 cause 91 ScriptLine\n";
+    expect_outcome(&rt, came, (REFUSED, "", complaint));
     let failing = TrialReader::new(SCRIPT, 20, Trouble::Failure);
-    let (status, output, errors) = run(alloc, pack(), failing, writer(), writer());
-    assert_eq!(rt; status, FAILED);
-    assert!(rt; output.octets().is_empty());
-    assert_eq!(rt; errors.octets(), b"cannot read\n".as_slice());
+    let came = run(alloc, pack(), failing, writer(), writer());
+    expect_outcome(&rt, came, (FAILED, "", "cannot read\n"));
 }

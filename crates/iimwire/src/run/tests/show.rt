@@ -1,6 +1,6 @@
 //! `show` on envelopes, and on what breaks them.
 
-use super::{SMALLEST, STORY, add, joined, reader, writer};
+use super::{SMALLEST, STORY, add, expect_outcome, joined, reader, writer};
 use crate::request::{Job, Request};
 use crate::run::run;
 use iim_commands::status::{ACCEPTED, FAILED, REFUSED};
@@ -131,20 +131,10 @@ fn tells_a_writer_that_fails(rt: HostRuntime) -> Result<(), Fail> {
     let octets = joined(rt.alloc(), SMALLEST.as_slice())?;
     for good in [0, 1, 11, 200] {
         let target: TrialWriter<256> = TrialWriter::new(good, Trouble::Failure);
-        let (status, output, errors) = run(
-            rt.alloc(),
-            SHOW,
-            reader(octets.as_slice()),
-            target,
-            writer(),
-        );
-        assert_eq!(rt; status, FAILED, "at {good}");
-        assert_eq!(rt;
-            Some(output.octets()),
-            SHOWN_SMALLEST.as_bytes().get(..good as usize),
-            "at {good}"
-        );
-        assert_eq!(rt; errors.octets(), b"cannot write\n".as_slice(), "at {good}");
+        let source = reader(octets.as_slice());
+        let came = run(rt.alloc(), SHOW, source, target, writer());
+        let front = SHOWN_SMALLEST.get(..good as usize).ok_or("a front of it")?;
+        expect_outcome(&rt, came, (FAILED, front, "cannot write\n"));
     }
     Ok(())
 }

@@ -1,6 +1,6 @@
 //! `story` on envelopes, on what breaks them, and on devices that break.
 
-use super::{SMALLEST, STORY, add, joined, reader, writer};
+use super::{SMALLEST, STORY, add, expect_outcome, joined, reader, writer};
 use crate::request::{Job, Request};
 use crate::run::run;
 use iim_commands::status::{ACCEPTED, FAILED, REFUSED};
@@ -20,10 +20,8 @@ const TOLD: &str = "1 accepted 246 octets\n";
 
 /// Checks what `story` writes on both outputs, and its status.
 fn expect(rt: &impl Abort, alloc: Global, octets: &[u8], text: &str, lines: &str, status: u8) {
-    let (found, output, errors) = run(alloc, TELL, reader(octets), writer(), writer());
-    assert_eq!(rt; output.octets(), text.as_bytes(), "for {lines:?}");
-    assert_eq!(rt; errors.octets(), lines.as_bytes(), "for {text:?}");
-    assert_eq!(rt; found, status, "for {lines:?}");
+    let came = run(alloc, TELL, reader(octets), writer(), writer());
+    expect_outcome(rt, came, (status, text, lines));
 }
 
 #[test]
@@ -66,7 +64,7 @@ fn leaves_what_came_before_a_refusal(rt: HostRuntime) -> Result<(), Fail> {
         ),
     ];
     for (len, text, lines) in rows {
-        let front = octets.as_slice().get(..len).ok_or("so many octets")?;
+        let front = octets.as_slice().get(..len).ok_or("two envelopes")?;
         expect(&rt, rt.alloc(), front, text, lines, REFUSED);
     }
     Ok(())
@@ -126,15 +124,13 @@ fn leaves_what_came_before_a_failed_read(rt: HostRuntime) -> Result<(), Fail> {
         (246, TEXT),
     ] {
         let source = TrialReader::new(octets.as_slice(), good, Trouble::Failure);
-        let (status, output, errors) = run(rt.alloc(), TELL, source, writer(), writer());
-        assert_eq!(rt; output.octets(), text.as_bytes(), "at {good}");
-        assert_eq!(rt; status, FAILED, "at {good}");
+        let came = run(rt.alloc(), TELL, source, writer(), writer());
         let lines = if good < 246 {
             "cannot read\n"
         } else {
             "1 accepted 246 octets\ncannot read\n"
         };
-        assert_eq!(rt; errors.octets(), lines.as_bytes(), "at {good}");
+        expect_outcome(&rt, came, (FAILED, text, lines));
     }
     Ok(())
 }
@@ -145,27 +141,15 @@ fn leaves_the_text_before_a_failed_write(rt: HostRuntime) -> Result<(), Fail> {
     for trouble in [Trouble::Failure, Trouble::Interruptions(1_000_000)] {
         for good in [0, 1, 11, 12, 21, 22] {
             let target: TrialWriter<64> = TrialWriter::new(good, trouble);
-            let (status, output, errors) = run(
-                rt.alloc(),
-                TELL,
-                reader(octets.as_slice()),
-                target,
-                writer(),
-            );
-            assert_eq!(rt; status, FAILED, "at {good}");
-            assert_eq!(rt;
-                Some(output.octets()),
-                TEXT.as_bytes().get(..good as usize),
-                "at {good}"
-            );
-            assert_eq!(rt; errors.octets(), b"cannot write\n".as_slice(), "at {good}");
+            let source = reader(octets.as_slice());
+            let came = run(rt.alloc(), TELL, source, target, writer());
+            let front = TEXT.get(..good as usize).ok_or("a front of the text")?;
+            expect_outcome(&rt, came, (FAILED, front, "cannot write\n"));
         }
     }
     let slow: TrialWriter<64> = TrialWriter::new(4, Trouble::Interruptions(999_999));
-    let (status, output, errors) = run(rt.alloc(), TELL, reader(octets.as_slice()), slow, writer());
-    assert_eq!(rt; status, ACCEPTED);
-    assert_eq!(rt; output.octets(), TEXT.as_bytes());
-    assert_eq!(rt; errors.octets(), TOLD.as_bytes());
+    let came = run(rt.alloc(), TELL, reader(octets.as_slice()), slow, writer());
+    expect_outcome(&rt, came, (ACCEPTED, TEXT, TOLD));
     Ok(())
 }
 
@@ -174,20 +158,10 @@ fn fails_where_a_line_can_t_be_told(rt: HostRuntime) -> Result<(), Fail> {
     let octets = joined(rt.alloc(), STORY.as_slice())?;
     for good in [0, 5, 21] {
         let errors: TrialWriter<64> = TrialWriter::new(good, Trouble::Failure);
-        let (status, output, errors) = run(
-            rt.alloc(),
-            TELL,
-            reader(octets.as_slice()),
-            writer(),
-            errors,
-        );
-        assert_eq!(rt; status, FAILED, "at {good}");
-        assert_eq!(rt; output.octets(), TEXT.as_bytes(), "at {good}");
-        assert_eq!(rt;
-            Some(errors.octets()),
-            TOLD.as_bytes().get(..good as usize),
-            "at {good}"
-        );
+        let source = reader(octets.as_slice());
+        let came = run(rt.alloc(), TELL, source, writer(), errors);
+        let front = TOLD.get(..good as usize).ok_or("a front of the line")?;
+        expect_outcome(&rt, came, (FAILED, TEXT, front));
     }
     Ok(())
 }
