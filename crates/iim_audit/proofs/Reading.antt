@@ -12,7 +12,7 @@ use Rattle.iim_unpack.specs.Format.Listing.{Listed, Divides, values_of, max_enve
 use Rattle.iim_unpack.specs.Format.Streams.{IsEnvelopeWithin}
 use Rattle.iim_audit.specs.Format.Auditing.{HasCome, IsAudited, FailsAt}
 use Rattle.iim_audit.specs.Ledgers.{Keeps}
-use Rattle.iim_audit.specs.Taking.{IsTaken, Took, TookOne, TookNone}
+use Rattle.iim_audit.specs.Taking.{IsTaken, TookEnvelope, TookOne, TookNone}
 use Rattle.iim_audit.specs.declared.fault.AuditCause.{AuditCause}
 use Rattle.iim_audit.specs.declared.fault.AuditCause.TheVariants as causes
 use Rattle.iim_audit.specs.declared.ledger.Ledger.{Ledger}
@@ -89,7 +89,7 @@ count_of now ledger es keeps =
 
 -- at the end of the input
 pub audited : (limits : Limits) (now : ℤ) (old mid new : Device) (ledger : Ledger) (failed : Option ℕ) → GiftsJoin → length ledger.rows.items ≤ max_envelopes
-    → HasRead limits now old mid ledger failed → Took limits mid new None → IsAudited limits now old new ledger.rows.items
+    → HasRead limits now old mid ledger failed → TookEnvelope limits mid new None → IsAudited limits now old new ledger.rows.items
 audited limits now old mid new ledger failed joins few read took =
     let count : length ledger.rows.items ≡ length read.envelopes = count_of now ledger read.envelopes read.keeps in
     record {

@@ -15,7 +15,7 @@ use Rattle.iim_unpack.specs.declared.refusal.Cause.TheVariants.{Sink}
 use Rattle.iim_unpack.specs.declared.refusal.Refusal.{Refusal}
 use Rattle.iim_unpack.specs.declared.unpacker.Unpacked.{Unpacked}
 use Rattle.iim_audit.specs.Faults.{cause_of}
-use Rattle.iim_audit.specs.Taking.{Took, TookOne, TookNone}
+use Rattle.iim_audit.specs.Taking.{TookEnvelope, TookOne, TookNone}
 use Rattle.iim_audit.proofs.Texts.{TextLaws, words_of_value}
 
 -- what an intake gives to an unpacker that stands on no octets, and to a count of no words
@@ -35,7 +35,7 @@ took_one laws limits old new u a b used got n same stands none outside is gives 
     }
 
 -- what it gives at the end of its input
-pub took_end : (limits : Limits) (old new : Device) (u : Unpacking) (a b : WordsSoFar) (used : ℕ) → Gives CountsWords old new u a b used None → Took limits old new None
+pub took_end : (limits : Limits) (old new : Device) (u : Unpacking) (a b : WordsSoFar) (used : ℕ) → Gives CountsWords old new u a b used None → TookEnvelope limits old new None
 took_end limits old new u a b used gives = (gives.1.given, gives.1.at_end)
 
 -- A sink that counts no failure refused nothing.

@@ -17,7 +17,7 @@ use Rattle.wire_message.specs.Format.Messages.{Header, IsMessage}
 use Rattle.wire_message.specs.declared.place.Place.TheVariants.{AfterEnd}
 use Rattle.iim_unpack.specs.Format.Admitted.{Value, Admits, object_of}
 use Rattle.iim_unpack.specs.Format.Open.{object_so_far}
-use Rattle.iim_unpack.specs.Format.Open.{IsTextOf, Adds}
+use Rattle.iim_unpack.specs.Format.Open.{IsTextOf, Delivers}
 
 pub record TextLaws : Type 0 where
   pub way : OctetsAreHandedOnOneWay
@@ -69,7 +69,7 @@ text_of_value laws octets text v admits (whole, begun, reads, is) =
     subst (λ (t : List ℕ). IsText t v.lines) same admits.lines
 
 -- The words of an envelope are counted, from a count of none on.
-pub words_of_value : TextLaws → (octets : List ℕ) (more : List StoryEvent) (v : Value) (old new : WordsSoFar) → Admits octets v → Adds [] octets more
+pub words_of_value : TextLaws → (octets : List ℕ) (more : List StoryEvent) (v : Value) (old new : WordsSoFar) → Admits octets v → Delivers [] octets more
     → old.words ≡ 0 → old.inside ≡ false → CountsWords old more new → new.words ≡ capped (words v.lines)
 words_of_value laws octets more v old new admits adds none outside counts =
     let (added, is, delivers) = adds [] no_text in

@@ -14,7 +14,7 @@ use Rattle.iim_audit.specs.Format.Rows.{counted_words}
 use Rattle.iim_audit.specs.declared.row.Taken.{Taken}
 use Rattle.iim_audit.specs.declared.fault.AuditCause.{AuditCause}
 use Rattle.iim_audit.specs.declared.fault.AuditCause.TheVariants as causes
-use Rattle.iim_audit.specs.Format.Taking.{IsStopped}
+use Rattle.iim_audit.specs.Format.Taking.{IsRefusedOrTruncated}
 
 -- The parts of the value, and the words of its lines.
 pub record IsTaken (got : Taken) (v : Value) : Type 0 where
@@ -29,13 +29,13 @@ pub record TookOne (limits : Limits) (old new : Device) (got : Taken) : Type 0 w
   pub taken : IsTaken got envelope.value
 
 -- One envelope came, or nothing, since the input ends.
-abbrev pub Took : Limits → Device → Device → Option Taken → Type 0
-Took limits old new (Some got) = TookOne limits old new got
-Took limits old new None = HasGiven old new [] × IsAtEnd new.octets
+abbrev pub TookEnvelope : Limits → Device → Device → Option Taken → Type 0
+TookEnvelope limits old new (Some got) = TookOne limits old new got
+TookEnvelope limits old new None = HasGiven old new [] × IsAtEnd new.octets
 
 -- Why no envelope came, and what came.
 abbrev pub TookNone : Limits → Device → Device → AuditCause → Type 0
-TookNone limits old new (causes.Refused e) = (rest : List ℕ) × HasGiven old new rest × IsStopped limits new rest e
+TookNone limits old new (causes.Refused e) = (rest : List ℕ) × HasGiven old new rest × IsRefusedOrTruncated limits new rest e
 TookNone limits old new causes.Read = (rest : List ℕ) × MissedAfter old new rest io.Failed × IsOpen limits rest
 TookNone limits old new causes.Interrupted = (rest : List ℕ) × MissedAfter old new rest io.Interrupted × IsOpen limits rest
 TookNone limits old new causes.OutOfMemory = HasGiven old new []

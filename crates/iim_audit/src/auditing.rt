@@ -3,7 +3,7 @@
 ghost use Rattle.std.specs.Prelude.{◌≡◌, ℕ, None, Some, IfOk, IfErr, OnOk, IsErrAnd};
 ghost use Rattle.iim_unpack.specs.Format.Intakes.{line};
 ghost use Rattle.iim_audit.specs.Format.Auditing.{IsAudited, FailsAt, IsToldAgain};
-ghost use Rattle.iim_audit.specs.Taking.{Took, TookNone};
+ghost use Rattle.iim_audit.specs.Taking.{TookEnvelope, TookNone};
 ghost use Rattle.iim_audit.specs.Format.Taking.{Leaves};
 
 use crate::fault::{AuditCause, AuditFault, cause_of};
@@ -32,7 +32,7 @@ fn take_envelope<R: Source>(
     intake: &mut Intake<R>,
     limits: Limits,
 ) -> Result<Option<Taken>, AuditCause>
-    ensures took { intake.old.failed ≡ None → IfOk result (Took limits (line R.state intake.old) (line R.state intake.new)) }
+    ensures took { intake.old.failed ≡ None → IfOk result (TookEnvelope limits (line R.state intake.old) (line R.state intake.new)) }
     ensures none { intake.old.failed ≡ None → IfErr result (TookNone limits (line R.state intake.old) (line R.state intake.new)) }
     ensures lives { OnOk result (intake.new.failed ≡ None) }
     ensures leaves { intake.old.failed ≡ None → IfErr result (λ cause. Leaves cause intake.new.failed) }

@@ -1,6 +1,6 @@
 //! Numbers that may be absent, as they are printed.
 
-ghost use Rattle.std.specs.Prelude.{◌≡◌, Some};
+ghost use Rattle.std.specs.Prelude.{Some};
 ghost use Rattle.iim_audit.specs.Format.Texts.{number_or_dash};
 
 use std::fmt;

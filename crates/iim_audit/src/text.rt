@@ -1,7 +1,7 @@
 //! The text of a report.
 
 ghost use Rattle.std.specs.Prelude.{◌≡◌, ◌++◌, OnOk, IfOk, Some, string_bytes};
-ghost use Rattle.iim_audit.specs.Format.Texts.{ages_of, known_by, repeated, row_line, seconds_or_dash, sizes_of, sums_line, text_of};
+ghost use Rattle.iim_audit.specs.Format.Texts.{ages_of, known_by, repeated_rows, row_line, seconds_or_dash, sizes_of, sums_line, printed_report};
 
 use crate::dash::NumberOrDash;
 use crate::report::Report;
@@ -78,7 +78,7 @@ fn push_row(
 
 /// How many rows repeat an earlier one.
 fn repeated(rows: &[AuditRow]) -> usize
-    ensures { result ≡ repeated rows.now }
+    ensures { result ≡ repeated_rows rows.now }
 {
     rows.iter().filter(|row| row.first.is_some()).count()
 }
@@ -96,7 +96,7 @@ fn sums(alloc: Global, rows: &[AuditRow]) -> Result<String, AllocError>
 /// earlier one. Each line is ended by LF. The service is shown: octets from 20 to 7E but the backslash as they are, all others
 /// as `\x` and two hexadecimal digits. A priority, an age or a first envelope that is absent is `-`.
 pub fn report_text(alloc: Global, report: &Report) -> Result<Vec<u8>, AllocError>
-    ensures { IfOk result (λ text. text.items ≡ text_of report.now) }
+    ensures { IfOk result (λ text. text.items ≡ printed_report report.now) }
 {
     let mut text = Vec::new(alloc);
     let rows = report.rows();

@@ -4,13 +4,13 @@ use Rattle.iim_dataset.specs.Format.Devices.{Device}
 use Rattle.iim_audit.specs.Format.Auditing.{FailsAt}
 use Rattle.iim_audit.specs.declared.fault.AuditCause.{AuditCause}
 use Rattle.iim_audit.specs.declared.fault.AuditCause.TheVariants as causes
-use Rattle.iim_commands.specs.Format.Audits.{CannotTell, IsAnswer, IsUnaudited}
+use Rattle.iim_commands.specs.Format.Audits.{CannotTell, IsAuditAnswer, IsUnaudited}
 use Rattle.iim_commands.specs.Format.Listings.{limits}
 use Rattle.iim_commands.specs.Format.Reports.{IsUnsaid}
 use Rattle.iim_commands.specs.declared.fault.CommandFault.{CommandFault}
 
 -- the output broke inside the answer
-pub unsaid : (now : ℤ) (source rest old new : Device) (words : List ℕ) (status : ℕ) (fault : CommandFault) → IsAnswer now source rest words status
+pub unsaid : (now : ℤ) (source rest old new : Device) (words : List ℕ) (status : ℕ) (fault : CommandFault) → IsAuditAnswer now source rest words status
     → IsUnsaid old new words fault → IsUnaudited now source rest old new fault
 unsaid now source rest old new words status fault answer h =
     subst (λ (f : CommandFault). IsUnaudited now source rest old new f) (sym h.0) (words, status, h.1, answer, h.2)

@@ -13,7 +13,7 @@ use Rattle.iim_unpack.specs.Format.Streams.{Answer, Answers, IsEnvelopeWithin, F
 use Rattle.iim_unpack.specs.Format.Open.{IsTruncatedAt, RefusesNext}
 use Rattle.iim_unpack.specs.Format.Unpacking.{raised}
 use Rattle.iim_unpack.specs.declared.refusal.Refusal.{Refusal}
-use Rattle.iim_commands.specs.Format.Listings.{limits, max_envelopes, joined, Envelope, IsListed, Ending, Whole, RefusedBy, TooMany, EndsBy, IsDead, IsTruncated, IsRefusedAfter, InputsHaveOneListing, ListingsAreLongest}
+use Rattle.iim_commands.specs.Format.Listings.{limits, max_envelopes, joined, Envelope, IsListed, InputEnding, Whole, RefusedBy, TooMany, EndsBy, IsDead, IsTruncated, IsRefusedAfter, InputsHaveOneListing, ListingsAreLongest}
 
 -- the laws that one listing rests on
 pub record ListingLaws : Type 0 where
@@ -164,7 +164,7 @@ empty_begins laws rest f more none is at =
     laws.some limits (subst (λ (l : List ℕ). Framed limits l) empty (laws.framed limits f.octets f.value is.admits is.within))
 
 -- after a listing no envelope stands, unless it is one too many
-listed_all : ListingLaws → (count : ℕ) (rest : List ℕ) (x : Ending) (f : Envelope) (more : List ℕ) → EndsBy count rest x → IsListed f → rest ≡ f.octets ++ more → count ≡ max_envelopes
+listed_all : ListingLaws → (count : ℕ) (rest : List ℕ) (x : InputEnding) (f : Envelope) (more : List ℕ) → EndsBy count rest x → IsListed f → rest ≡ f.octets ++ more → count ≡ max_envelopes
 listed_all laws count rest Whole f more none is at = absurd (empty_begins laws rest f more none is at)
 listed_all laws count rest (RefusedBy e) f more (k, after) is at = absurd (refused_begins laws rest k e f more after is at)
 listed_all laws count rest TooMany f more ends is at = ends.0
@@ -190,7 +190,7 @@ some_refused : (rest : List ℕ) (k : ℕ) (e : Refusal) → IsRefusedAfter rest
 some_refused rest k e (inl (t, a)) none = t.refused.some none
 some_refused rest k e (inr d) none = absurd (omega (arith, d.refused.within, ap length none))
 
-same_endings : ListingLaws → (count : ℕ) (rest : List ℕ) (x y : Ending) → EndsBy count rest x → EndsBy count rest y → x ≡ y
+same_endings : ListingLaws → (count : ℕ) (rest : List ℕ) (x y : InputEnding) → EndsBy count rest x → EndsBy count rest y → x ≡ y
 same_endings laws count rest Whole Whole a b = refl
 same_endings laws count rest Whole (RefusedBy f) a (k, after) = absurd (some_refused rest k f after a)
 same_endings laws count rest Whole TooMany a b = absurd (empty_begins laws rest b.1 b.3 a b.2 b.4)

@@ -22,10 +22,10 @@ use Rattle.iim_unpack.specs.Format.Open.{object_so_far}
 use Rattle.iim_unpack.specs.declared.refusal.Refusal.{Refusal}
 use Rattle.iim_unpack.specs.declared.unpacker.Unpacked.{Unpacked}
 use Rattle.iim_unpack.proofs.Answering.{leads_to, reads_envelope}
-use Rattle.iim_commands.specs.Coming.{HasCome, IsCalm, IsNext, IsRefusal}
-use Rattle.iim_commands.specs.Format.Devices.{Holds}
+use Rattle.iim_commands.specs.Coming.{EnvelopeHasCome, IsCalm, IsNext, IsRefusal}
+use Rattle.iim_commands.specs.Format.Devices.{HasOctets}
 use Rattle.iim_commands.specs.Format.Lines.{ending_line, line_of, status_of, texts_from}
-use Rattle.iim_commands.specs.Format.Listings.{joined, max_envelopes, Ending, EndsBy, Envelope, IsDelivered, IsListed, IsRefusedAfter, RefusedBy}
+use Rattle.iim_commands.specs.Format.Listings.{joined, max_envelopes, InputEnding, EndsBy, Envelope, IsDelivered, IsListed, IsRefusedAfter, RefusedBy}
 use Rattle.iim_commands.specs.Format.Narration.{EnvelopesAreDeliveredAsLines, IsTextIn, IsUnnarrated, LeavesText, Narrated, stories, story_of, text_of}
 use Rattle.iim_commands.specs.Narration.{IsUnended}
 use Rattle.iim_commands.specs.Format.Reports.{IsUnsaid}
@@ -119,8 +119,8 @@ narrated_more joins texts source mid rest old now then new errors_old errors_now
 
 -- ---- all is told
 
-pub narrated : GiftsJoin → TextsJoin → (source mid rest old now new errors_old errors_now errors_new : Device) (count status : ℕ) (begun more words line : List ℕ) (ending : Ending)
-    → AreNarrated source mid old now errors_old errors_now count → HasGiven mid rest begun → Holds rest.octets more → EndsBy count (begun ++ more) ending
+pub narrated : GiftsJoin → TextsJoin → (source mid rest old now new errors_old errors_now errors_new : Device) (count status : ℕ) (begun more words line : List ℕ) (ending : InputEnding)
+    → AreNarrated source mid old now errors_old errors_now count → HasGiven mid rest begun → HasOctets rest.octets more → EndsBy count (begun ++ more) ending
     → LeavesText (begun ++ more) ending words → status ≡ status_of ending → Wrote now new words → line ≡ ending_line count ending → Wrote errors_now errors_new line
     → Narrated source rest old new errors_old errors_new status
 narrated joins texts source mid rest old now new errors_old errors_now errors_new count status begun more words line ending r given holds ends leaves is out same told =
@@ -130,7 +130,7 @@ narrated joins texts source mid rest old now new errors_old errors_now errors_ne
       es,
       ending,
       words,
-      subst (Holds source.octets) (append_assoc (joined es) begun more) (consumes_holds source.octets rest.octets (joined es ++ begun) more all.0 holds),
+      subst (HasOctets source.octets) (append_assoc (joined es) begun more) (consumes_holds source.octets rest.octets (joined es ++ begun) more all.0 holds),
       all.1,
       record {
         listing = record {
@@ -200,7 +200,7 @@ broke_in_text joins source mid rest old now new errors_old errors_new i j count 
 
 -- ---- the errors broke
 
-pub broke_in_lines : GiftsJoin → TextsJoin → (source mid rest old now new errors_old errors_now errors_new : Device) (count : ℕ) (begun words line : List ℕ) (ending : Ending) (fault : CommandFault)
+pub broke_in_lines : GiftsJoin → TextsJoin → (source mid rest old now new errors_old errors_now errors_new : Device) (count : ℕ) (begun words line : List ℕ) (ending : InputEnding) (fault : CommandFault)
     → AreNarrated source mid old now errors_old errors_now count → HasGiven mid rest begun → EndsBy count begun ending → LeavesText begun ending words
     → Wrote now new words → line ≡ ending_line count ending → IsUnsaid errors_now errors_new line fault → IsUnnarrated source rest old new errors_old errors_new fault
 broke_in_lines joins texts source mid rest old now new errors_old errors_now errors_new count begun words line ending fault r given ends leaves out same unsaid =
@@ -291,7 +291,7 @@ text_refused state mid rest a b e r more is =
 
 -- An envelope came, its text is out, and the writer of lines has not stopped.
 pub record TextIsOut {W : Type 0} (state : W → Device) (mid rest : Device) (a b : LineWriter W) (got : Unpacked) (octets : ℕ) : Type 0 where
-  pub come : HasCome (WritesLines state) mid rest a b got octets
+  pub come : EnvelopeHasCome (WritesLines state) mid rest a b got octets
   pub out : Wrote (device_of state a) (device_of state b) (text_of come.envelope)
   pub whole : IsTextIn (take (length come.envelope.octets) come.envelope.octets) (text_of come.envelope)
   pub unbroken : stops_of b ≡ 0

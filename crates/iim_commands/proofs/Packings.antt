@@ -17,19 +17,19 @@ use Rattle.iim_object.proofs.PackedSizes.{plan_parts}
 use Rattle.iim_pack.specs.Format.Packing.{pack_cause}
 use Rattle.iim_pack.specs.Format.Orders.{IsBelowKnown, IsFirstOf, AgainstPack}
 use Rattle.iim_pack.specs.Format.Packed.{Packed}
-use Rattle.iim_pack.specs.Format.Starting.{IsRefused, Halts}
+use Rattle.iim_pack.specs.Format.Starting.{StartIsRefused, Halts}
 use Rattle.iim_pack.specs.Format.Whole.{IsPackFault, Packs}
 use Rattle.iim_script.specs.Format.Scripts.{max_script}
 use Rattle.iim_commands.specs.Format.Devices.{devices}
 use Rattle.iim_commands.specs.Format.Reports.{IsTold}
-use Rattle.iim_commands.specs.Format.Packing.{Answered, Asked, HasRoom, IsBrokenOff, IsPast, IsPlanOf, IsRead, IsRefusal, IsUnanswered, IsUnread, Tells, Told, most_asked, object_of, refusal_line, said_size}
-use Rattle.iim_commands.specs.PackSteps.{ComesTo, IsFailedRead, IsUnpacked, PacksTold, UnpacksTold}
+use Rattle.iim_commands.specs.Format.Packing.{Answered, Asked, FitsAsked, IsBrokenOff, IsPast, IsPlanOf, IsRead, IsRefusal, IsUnanswered, IsUnread, IsScriptOf, ScriptContent, most_asked, object_of, refusal_line, said_size}
+use Rattle.iim_commands.specs.PackSteps.{ComesTo, IsFailedRead, IsNotPacked, PacksTold, UnpacksTold}
 use Rattle.iim_commands.specs.declared.fault.CommandFault.{CommandFault}
 use Rattle.iim_commands.specs.declared.fault.CommandFault.TheVariants.{CannotRead, CannotWrite, OutOfMemory}
 use Rattle.iim_commands.specs.declared.packing.PackFault.{PackFault}
 use Rattle.iim_commands.specs.declared.packing.PackFault.TheVariants.{Refused, Around}
 
-pub packs_told : {W : Type 0} (state : W → Device) (a : Asked) (t : Told) (trailer : List ℕ) (plan : Plan) (old new : W) → trailer ≡ t.trailer
+pub packs_told : {W : Type 0} (state : W → Device) (a : Asked) (t : ScriptContent) (trailer : List ℕ) (plan : Plan) (old new : W) → trailer ≡ t.trailer
     → IsPlanOf a (object_of t) plan → Packs state old t.fields t.head t.lines trailer plan new → PacksTold a t (state old) (state new)
 packs_told state a t trailer plan old new is is_plan p = (
   p.out,
@@ -76,7 +76,7 @@ within_by false max subfile object plan within =
 within_by true None subfile object plan within = omega (arith, within)
 within_by true (Some m) subfile object plan within = omega (arith, within)
 
-room_of : (a : Asked) (t : Told) (plan : Plan) → IsPlanOf a (object_of t) plan → (most_of plan < length (object_of t) → ⊥) → HasRoom a t
+room_of : (a : Asked) (t : ScriptContent) (plan : Plan) → IsPlanOf a (object_of t) plan → (most_of plan < length (object_of t) → ⊥) → FitsAsked a t
 room_of a t plan is fits =
     let within : length (object_of t) ≤ most_of plan = omega (arith, fits) in
     within_by a.unknown a.max plan.subfile (object_of t) (subst (λ (s : Size). IsTrue (is_plan plan.subfile s)) is.size_is plan.valid)
@@ -91,40 +91,40 @@ not_below a object plan is h = below_by a.unknown a.max object h.0 (sym is.size_
 
 -- ---- what the causes of a packer come to
 
-for_memory : (a : Asked) (t : Told) (old new : Device) (why : PackFault) → ComesTo causes.OutOfMemory t.text_line why → new ≡ old → UnpacksTold a t old new why
+for_memory : (a : Asked) (t : ScriptContent) (old new : Device) (why : PackFault) → ComesTo causes.OutOfMemory t.text_line why → new ≡ old → UnpacksTold a t old new why
 for_memory a t old new (Refused line number name) h same = absurd h
 for_memory a t old new (Around CannotRead) h same = absurd h
 for_memory a t old new (Around CannotWrite) h same = absurd h
 for_memory a t old new (Around OutOfMemory) h same = same
 
-for_past : (a : Asked) (t : Told) (old new : Device) (why : PackFault) → ComesTo causes.PastAnnounced t.text_line why → new ≡ old → IsPast a t → UnpacksTold a t old new why
+for_past : (a : Asked) (t : ScriptContent) (old new : Device) (why : PackFault) → ComesTo causes.PastAnnounced t.text_line why → new ≡ old → IsPast a t → UnpacksTold a t old new why
 for_past a t old new (Refused line number name) h same past = (same, past, h.0, h.1, h.2)
 for_past a t old new (Around CannotRead) h same past = absurd h
 for_past a t old new (Around CannotWrite) h same past = absurd h
 for_past a t old new (Around OutOfMemory) h same past = absurd h
 
 -- each form of the plan begins with what is out
-pub record IsFront (a : Asked) (t : Told) (old new : Device) : Type 0 where
+pub record IsFront (a : Asked) (t : ScriptContent) (old new : Device) : Type 0 where
   pub plan : Plan
   pub out : List ℕ
-  pub room : HasRoom a t
+  pub room : FitsAsked a t
   pub is_plan : IsPlanOf a (object_of t) plan
   pub broke : BrokeAfter old new out
   pub begins : (form : List ℕ) → Packed t.fields t.head t.lines t.trailer plan form → Begins out form
 
-for_write : (a : Asked) (t : Told) (old new : Device) (why : PackFault) → ComesTo causes.Write t.text_line why → IsFront a t old new → UnpacksTold a t old new why
+for_write : (a : Asked) (t : ScriptContent) (old new : Device) (why : PackFault) → ComesTo causes.Write t.text_line why → IsFront a t old new → UnpacksTold a t old new why
 for_write a t old new (Refused line number name) h front = absurd h
 for_write a t old new (Around CannotRead) h front = absurd h
 for_write a t old new (Around CannotWrite) h front = (front.plan, front.out, front.room, front.is_plan, front.broke, front.begins)
 for_write a t old new (Around OutOfMemory) h front = absurd h
 
-front_of : {W : Type 0} (state : W → Device) (a : Asked) (t : Told) (plan : Plan) (old : W) (fault : StartFault W) → IsPlanOf a (object_of t) plan → HasRoom a t
+front_of : {W : Type 0} (state : W → Device) (a : Asked) (t : ScriptContent) (plan : Plan) (old : W) (fault : StartFault W) → IsPlanOf a (object_of t) plan → FitsAsked a t
     → Halts state (Packed t.fields t.head t.lines t.trailer plan) old fault → IsFront a t (state old) (state fault.writer)
 front_of state a t plan old fault is room h = record { plan = plan; out = h.out; room = room; is_plan = is; broke = (h.appends, h.broke); begins = h.begins }
 
 -- a cause that is refused before anything is written
-refused_as : {W : Type 0} (state : W → Device) (a : Asked) (t : Told) (plan : Plan) (old : W) (fault : StartFault W) (why : PackFault) (cause : PackCause)
-    → IsTrailer t.trailer → IsPlanOf a (object_of t) plan → IsRefused cause old fault → AgainstPack t.head t.lines t.trailer plan cause
+refused_as : {W : Type 0} (state : W → Device) (a : Asked) (t : ScriptContent) (plan : Plan) (old : W) (fault : StartFault W) (why : PackFault) (cause : PackCause)
+    → IsTrailer t.trailer → IsPlanOf a (object_of t) plan → StartIsRefused cause old fault → AgainstPack t.head t.lines t.trailer plan cause
     → ComesTo cause t.text_line why → UnpacksTold a t (state old) (state fault.writer) why
 refused_as state a t plan old fault why causes.OutOfMemory good is r h to = absurd h
 refused_as state a t plan old fault why causes.PastAnnounced good is r h to =
@@ -135,8 +135,8 @@ refused_as state a t plan old fault why causes.BadTrailer good is r h to = absur
 refused_as state a t plan old fault why causes.Write good is r h to = absurd h
 refused_as state a t plan old fault why causes.Failed good is r h to = absurd h
 
-unpacks_for : {W : Type 0} (state : W → Device) (a : Asked) (t : Told) (plan : Plan) (old : W) (fault : StartFault W) (why : PackFault) (cause : Option PackCause)
-    → IsTrailer t.trailer → IsPlanOf a (object_of t) plan → IfSome cause (λ x. IsRefused x old fault)
+unpacks_for : {W : Type 0} (state : W → Device) (a : Asked) (t : ScriptContent) (plan : Plan) (old : W) (fault : StartFault W) (why : PackFault) (cause : Option PackCause)
+    → IsTrailer t.trailer → IsPlanOf a (object_of t) plan → IfSome cause (λ x. StartIsRefused x old fault)
     → IsFirstOf (AgainstPack t.head t.lines t.trailer plan) (causes.BadTrailer ∷ causes.PastAnnounced ∷ causes.ShortOfAnnounced ∷ []) cause
     → IfNone cause (IsPackFault state t.fields t.head t.lines t.trailer plan old fault)
     → ComesTo fault.cause t.text_line why → UnpacksTold a t (state old) (state fault.writer) why
@@ -148,15 +148,15 @@ unpacks_for state a t plan old fault why None good is r first f to =
       | inr h ↦ for_write a t (state old) (state fault.writer) why (subst (λ (c : PackCause). ComesTo c t.text_line why) h.cause_is to) (front_of state a t plan old fault is (room_of a t plan is first.1.0) h)
     ]
 
-pub unpacks_told : {W : Type 0} (state : W → Device) (a : Asked) (t : Told) (trailer : List ℕ) (plan : Plan) (old : W) (fault : StartFault W) (why : PackFault)
+pub unpacks_told : {W : Type 0} (state : W → Device) (a : Asked) (t : ScriptContent) (trailer : List ℕ) (plan : Plan) (old : W) (fault : StartFault W) (why : PackFault)
     → trailer ≡ t.trailer → IsTrailer t.trailer → IsPlanOf a (object_of t) plan
-    → IfSome (pack_cause t.head t.lines trailer plan) (λ x. IsRefused x old fault)
+    → IfSome (pack_cause t.head t.lines trailer plan) (λ x. StartIsRefused x old fault)
     → IsFirstOf (AgainstPack t.head t.lines trailer plan) (causes.BadTrailer ∷ causes.PastAnnounced ∷ causes.ShortOfAnnounced ∷ []) (pack_cause t.head t.lines trailer plan)
     → IfNone (pack_cause t.head t.lines trailer plan) (IsPackFault state t.fields t.head t.lines trailer plan old fault)
     → ComesTo fault.cause t.text_line why → UnpacksTold a t (state old) (state fault.writer) why
 unpacks_told state a t trailer plan old fault why e good is r first f to =
     unpacks_for state a t plan old fault why (pack_cause t.head t.lines t.trailer plan) good is
-    (subst (λ (x : List ℕ). IfSome (pack_cause t.head t.lines x plan) (λ c. IsRefused c old fault)) e r)
+    (subst (λ (x : List ℕ). IfSome (pack_cause t.head t.lines x plan) (λ c. StartIsRefused c old fault)) e r)
     (subst (λ (x : List ℕ). IsFirstOf (AgainstPack t.head t.lines x plan) (causes.BadTrailer ∷ causes.PastAnnounced ∷ causes.ShortOfAnnounced ∷ []) (pack_cause t.head t.lines x plan)) e first)
     (subst (λ (x : List ℕ). IfNone (pack_cause t.head t.lines x plan) (IsPackFault state t.fields t.head t.lines x plan old fault)) e f)
     to
@@ -167,7 +167,7 @@ pub if_err_map : {T E : Type 0} (r : Result T E) (P Q : E → Type 0) → ((e : 
 if_err_map (Ok x) P Q f h = tt
 if_err_map (Err e) P Q f h = f e h
 
-pub unpacked_of : (a : Asked) (octets : List ℕ) (t : Told) (old new : Device) (why : PackFault) → Tells octets t → UnpacksTold a t old new why → IsUnpacked a octets old new why
+pub unpacked_of : (a : Asked) (octets : List ℕ) (t : ScriptContent) (old new : Device) (why : PackFault) → IsScriptOf octets t → UnpacksTold a t old new why → IsNotPacked a octets old new why
 unpacked_of a octets t old new (Refused line number name) tells h =
     (h.0, inr (t, tells, h.1, (λ i. refusal_line (h.2 i) (h.3 i) (h.4 i))))
 unpacked_of a octets t old new (Around CannotRead) tells h = absurd h
@@ -197,7 +197,7 @@ few_read : (old new : Device) (octets : List ℕ) → IsRead old new octets → 
 few_read old new octets read = elim read.1 [ inl h ↦ (let within : length octets ≤ max_script = h.1 in omega (arith, within)) | inr h ↦ omega (arith, h) ]
 
 pub unanswered_as : (a : Asked) (octets slice : List ℕ) (first rest old new errors said : Device) (fault : CommandFault) → slice ≡ octets → IsRead first rest octets
-    → IsUnpacked a slice old new (Around fault) → IsUnanswered a (devices first old errors) (devices rest new said) fault
+    → IsNotPacked a slice old new (Around fault) → IsUnanswered a (devices first old errors) (devices rest new said) fault
 unanswered_as a octets slice first rest old new errors said CannotRead is read h = absurd h
 unanswered_as a octets slice first rest old new errors said CannotWrite is read h = (octets, read, subst (λ (o : List ℕ). IsBrokenOff a o old new) is h)
 unanswered_as a octets slice first rest old new errors said OutOfMemory is read h = ((octets, few_read first rest octets read, read.0), h)

@@ -10,12 +10,12 @@ use Rattle.iim_dataset.specs.declared.device.IoFault.{IoFault}
 use Rattle.iim_dataset.proofs.DeviceLaws.{broke_for_later}
 use Rattle.wire_story.specs.Format.Delivery.{StoryEvent}
 use Rattle.wire_story.specs.declared.discard.Discard.{Discard}
-use Rattle.iim_unpack.specs.Format.Open.{Adds, RefusesNext}
+use Rattle.iim_unpack.specs.Format.Open.{Delivers, RefusesNext}
 use Rattle.iim_unpack.specs.declared.refusal.Refusal.{Refusal}
 use Rattle.iim_commands.specs.Coming.{IsNext, IsRefusal, IsUnheard}
-use Rattle.iim_commands.specs.Format.Devices.{Holds}
+use Rattle.iim_commands.specs.Format.Devices.{HasOctets}
 use Rattle.iim_commands.specs.Format.Lines.{ending_line, status_of, texts_from}
-use Rattle.iim_commands.specs.Format.Listings.{joined, limits, max_envelopes, Divides, Ending, EndsBy, Envelope, IsDead, IsListed, IsRefusedAfter}
+use Rattle.iim_commands.specs.Format.Listings.{joined, limits, max_envelopes, Divides, InputEnding, EndsBy, Envelope, IsDead, IsListed, IsRefusedAfter}
 use Rattle.iim_commands.specs.Format.Reports.{IsUnreported, IsUnsaid, Reported}
 use Rattle.iim_commands.specs.declared.fault.CommandFault.{CommandFault}
 use Rattle.iim_commands.specs.declared.fault.CommandFault.TheVariants.{CannotRead, CannotWrite, OutOfMemory}
@@ -81,17 +81,17 @@ given_then joins source mid rest count es begun t given = joins.more source mid 
 
 -- ---- the whole input, where some of it is left
 
-pub consumes_holds : (old new : Option (List ℕ)) (xs more : List ℕ) → Consumes old new xs → Holds new more → Holds old (xs ++ more)
+pub consumes_holds : (old new : Option (List ℕ)) (xs more : List ℕ) → Consumes old new xs → HasOctets new more → HasOctets old (xs ++ more)
 consumes_holds None new xs more c h = tt
 consumes_holds (Some o) None xs more c h = absurd c
 consumes_holds (Some o) (Some n) xs more c h = c ∙ ap (λ (l : List ℕ). xs ++ l) h
 
 -- what is left, where it is known
-pub left_of : (known : Option (List ℕ)) → (more : List ℕ) × Holds known more
+pub left_of : (known : Option (List ℕ)) → (more : List ℕ) × HasOctets known more
 left_of None = ([], tt)
 left_of (Some xs) = (xs, refl)
 
-pub none_left : (known : Option (List ℕ)) → IsAtEnd known → Holds known []
+pub none_left : (known : Option (List ℕ)) → IsAtEnd known → HasOctets known []
 none_left None end = tt
 none_left (Some xs) end = end
 
@@ -106,7 +106,7 @@ refused_later begun more k e d =
         within = omega (arith, r.within, length-append begun more);
         fault = r.fault;
         refusal = r.refusal;
-        adds = subst (λ (xs : List ℕ). Adds [] xs d.text) (sym same) r.adds;
+        adds = subst (λ (xs : List ℕ). Delivers [] xs d.text) (sym same) r.adds;
         refuses =
             subst (λ (b : ℕ). RefusesNext limits (take r.k (begun ++ more)) b r.fault) (sym (get_or-append begun more 0 r.k r.within))
             (subst (λ (xs : List ℕ). RefusesNext limits xs (slice_index begun r.k) r.fault) (sym same) r.refuses);
@@ -117,10 +117,10 @@ refused_later begun more k e d =
 
 -- a refusal of octets that came is one of all that stands after the envelopes
 pub ends_refused : {S : Type 0} (goes : S → List StoryEvent → S → Type 0) (mid rest : Device) (a b : S) (e : Refusal) (r : IsRefusal goes mid rest a b e)
-    → (more : List ℕ) × Holds rest.octets more × IsRefusedAfter (r.octets ++ more) r.k e
+    → (more : List ℕ) × HasOctets rest.octets more × IsRefusedAfter (r.octets ++ more) r.k e
 ends_refused goes mid rest a b e r = by_kind r.refused
   where
-    by_kind : IsRefusedAfter r.octets r.k e → (more : List ℕ) × Holds rest.octets more × IsRefusedAfter (r.octets ++ more) r.k e
+    by_kind : IsRefusedAfter r.octets r.k e → (more : List ℕ) × HasOctets rest.octets more × IsRefusedAfter (r.octets ++ more) r.k e
     by_kind (inl (t, all)) = (
       [],
       none_left rest.octets (r.at_end all),
@@ -134,8 +134,8 @@ ends_refused goes mid rest a b e r = by_kind r.refused
 
 -- ---- the report is out
 
-pub reported : GiftsJoin → TextsJoin → (text : ℕ → Envelope → List ℕ) (source mid rest old now new : Device) (count status : ℕ) (begun more line : List ℕ) (ending : Ending)
-    → AreReported text source mid old now count → HasGiven mid rest begun → Holds rest.octets more → EndsBy count (begun ++ more) ending
+pub reported : GiftsJoin → TextsJoin → (text : ℕ → Envelope → List ℕ) (source mid rest old now new : Device) (count status : ℕ) (begun more line : List ℕ) (ending : InputEnding)
+    → AreReported text source mid old now count → HasGiven mid rest begun → HasOctets rest.octets more → EndsBy count (begun ++ more) ending
     → status ≡ status_of ending → line ≡ ending_line count ending → Wrote now new line → Reported text source rest old new status
 reported joins texts text source mid rest old now new count status begun more line ending r given holds ends is words out =
     let es = r.envelopes in
@@ -143,7 +143,7 @@ reported joins texts text source mid rest old now new count status begun more li
       joined es ++ (begun ++ more),
       es,
       ending,
-      subst (Holds source.octets) (append_assoc (joined es) begun more) (consumes_holds source.octets rest.octets (joined es ++ begun) more all.0 holds),
+      subst (HasOctets source.octets) (append_assoc (joined es) begun more) (consumes_holds source.octets rest.octets (joined es ++ begun) more all.0 holds),
       all.1,
       record {
         rest = begun ++ more;
@@ -209,7 +209,7 @@ failed goes failures joins text source mid rest old new a b count OutOfMemory r 
     starved joins text source mid rest old new count [] r (subst (λ (d : Device). HasGiven mid d []) (sym c.0) (joins.none mid))
 
 -- the output broke inside the last line
-pub unended : GiftsJoin → TextsJoin → (text : ℕ → Envelope → List ℕ) (source mid rest old now new : Device) (count : ℕ) (begun line : List ℕ) (ending : Ending) (fault : CommandFault)
+pub unended : GiftsJoin → TextsJoin → (text : ℕ → Envelope → List ℕ) (source mid rest old now new : Device) (count : ℕ) (begun line : List ℕ) (ending : InputEnding) (fault : CommandFault)
     → AreReported text source mid old now count → HasGiven mid rest begun → EndsBy count begun ending → line ≡ ending_line count ending → IsUnsaid now new line fault
     → IsUnreported text source rest old new fault
 unended joins texts text source mid rest old now new count begun line ending fault r given ends words unsaid =

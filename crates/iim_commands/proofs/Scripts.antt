@@ -15,7 +15,7 @@ use Rattle.iim_script.specs.Format.Printed.{field_line, message_line, trailer_li
 use Rattle.iim_script.specs.Format.Scripts.{max_script}
 use Rattle.iim_commands.specs.Format.Listings.{Envelope, IsListed, limits}
 use Rattle.iim_commands.specs.Format.Narration.{story_of}
-use Rattle.iim_commands.specs.Format.Packing.{Told, Tells}
+use Rattle.iim_commands.specs.Format.Packing.{ScriptContent, IsScriptOf}
 use Rattle.iim_commands.specs.Format.Scripts.{told_of, TellsJust, ShownEnvelopesAreScripts}
 use Rattle.iim_commands.specs.Format.Texts.{number_line, sizes_line, shown_of}
 
@@ -53,7 +53,7 @@ text_lines text (line ∷ next ∷ lines) (is, returns, few, rest, parts, later)
 
 -- the values of an envelope are those of a script, which is printed with this story
 printed : PrintedValuesAreScripts → (e : Envelope) → IsListed e → (number : ℕ) → length (value_lines e.value.fields e.value.head e.value.trailer ++ (codes "text\n" ++ story_of number e)) ≤ max_script
-    → Tells (value_lines e.value.fields e.value.head e.value.trailer ++ (codes "text\n" ++ story_of number e)) (told_of e.value)
+    → IsScriptOf (value_lines e.value.fields e.value.head e.value.trailer ++ (codes "text\n" ++ story_of number e)) (told_of e.value)
 printed law e is number short =
     let a = is.admits in
     let fields = subst builders.IsEnvelope a.fields (kept_of_sections a.datasets a.sections) in
@@ -61,7 +61,7 @@ printed law e is number short =
     let lines = text_lines a.text e.value.lines a.lines in
     law limits e.value.fields e.value.head e.value.trailer e.value.lines (story_of number e) fields within a.message.is_header a.message.is_trailer lines.0 lines.1 (inl refl) short
 
-same_told : (t other : Told) → IsOneScript t.fields other.fields t.head other.head t.trailer other.trailer t.lines other.lines t.text_line other.text_line → t ≡ other
+same_told : (t other : ScriptContent) → IsOneScript t.fields other.fields t.head other.head t.trailer other.trailer t.lines other.lines t.text_line other.text_line → t ≡ other
 same_told t other one = λ i. record {
   fields = one.same_fields i;
   head = one.same_head i;
@@ -70,7 +70,7 @@ same_told t other one = λ i. record {
   text_line = one.same_text_line i;
 }
 
-tells_just : ScriptsTellOneThing → ScriptsHaveNoFault → (script : List ℕ) (t : Told) → Tells script t → TellsJust script t
+tells_just : ScriptsTellOneThing → ScriptsHaveNoFault → (script : List ℕ) (t : ScriptContent) → IsScriptOf script t → TellsJust script t
 tells_just once sound script t told = record {
   told = told;
   only = λ other h. same_told other t (once limits script other.fields t.fields other.head t.head other.trailer t.trailer other.lines t.lines other.text_line t.text_line h told);

@@ -18,13 +18,13 @@ use Rattle.iim_unpack.specs.declared.intake.IntakeFault.{IntakeFault}
 use Rattle.iim_unpack.specs.declared.intake.IntakeFault.TheVariants.{Refused, Read, Interrupted}
 use Rattle.iim_unpack.specs.Format.Intakes.{Faults, Gives, IsRefusedOf, IsTruncatedIn, WasGiven, WasMissed, WasRefused, WasTruncated}
 use Rattle.iim_unpack.specs.Format.Parts.{CountsFor}
-use Rattle.iim_unpack.specs.Format.Open.{Adds, IsOpen, IsTextOf}
+use Rattle.iim_unpack.specs.Format.Open.{Delivers, IsOpen, IsTextOf}
 use Rattle.iim_unpack.specs.Format.Unpacking.{Stands, Unpacking, limits_in}
 use Rattle.iim_unpack.specs.declared.refusal.Refusal.{Refusal}
 use Rattle.iim_unpack.specs.declared.refusal.Cause.{Cause}
 use Rattle.iim_unpack.specs.declared.refusal.Cause.TheVariants.{Sink, Truncated}
 use Rattle.iim_unpack.specs.declared.unpacker.Unpacked.{Unpacked}
-use Rattle.iim_commands.specs.Coming.{CanAskForMore, HasCome, IsCutOff, IsNext, IsRefusal, IsUnheard}
+use Rattle.iim_commands.specs.Coming.{CanAskForMore, EnvelopeHasCome, IsCutOff, IsNext, IsRefusal, IsUnheard}
 use Rattle.iim_commands.specs.Format.Listings.{limits, IsDelivered}
 
 -- no octets are no datasets, and the beginning of a tag
@@ -52,13 +52,13 @@ reads_none = record {
 pub no_text : IsTextOf [] []
 no_text = ([], InTag [], reads_none, refl)
 
-pub delivered_of : (octets : List ℕ) (more : List StoryEvent) → Adds [] octets more → IsDelivered octets more
+pub delivered_of : (octets : List ℕ) (more : List StoryEvent) → Delivers [] octets more → IsDelivered octets more
 delivered_of octets more adds =
     let added = adds [] no_text in
     (added.0, added.1, added.2)
 
 pub has_come : {S : Type 0} (goes : S → List StoryEvent → S → Type 0) (old new : Device) (u : Unpacking) (a b : S) (used : ℕ) (got : Unpacked)
-    → limits_in u ≡ limits → Stands u [] 0 → WasGiven goes old new u a b used got → HasCome goes old new a b got used
+    → limits_in u ≡ limits → Stands u [] 0 → WasGiven goes old new u a b used got → EnvelopeHasCome goes old new a b got used
 has_come goes old new u a b used got same at w =
     let e = w.envelope [] 0 at in
     record {
@@ -165,7 +165,7 @@ cut_off_by goes failures old new u a b kept fault (inr is) same at f =
 
 -- an envelope came
 pub come_as : {S : Type 0} (goes : S → List StoryEvent → S → Type 0) (failures : S → ℕ) (old new : Device) (a b : S) (x : Next) (got : Unpacked) (octets : ℕ)
-    → x ≡ Envelope got octets → IsNext goes failures old new a b (Ok x) → HasCome goes old new a b got octets
+    → x ≡ Envelope got octets → IsNext goes failures old new a b (Ok x) → EnvelopeHasCome goes old new a b got octets
 come_as goes failures old new a b x got octets is n = subst (λ (y : Next). IsNext goes failures old new a b (Ok y)) is n
 
 pub lives_as : (failed : Option ℕ) (x : Next) (got : Unpacked) (octets : ℕ) → x ≡ Envelope got octets → CanAskForMore failed (Ok x) → failed ≡ None

@@ -17,7 +17,7 @@ use Rattle.iim_commands.specs.declared.coming.Next.{Next}
 use Rattle.iim_commands.specs.declared.coming.Next.TheVariants as next
 
 -- An envelope came, and the sink was told its text.
-pub record HasCome {S : Type 0} (goes : S → List StoryEvent → S → Type 0) (old new : Device) (a b : S) (got : Unpacked) (octets : ℕ) : Type 0 where
+pub record EnvelopeHasCome {S : Type 0} (goes : S → List StoryEvent → S → Type 0) (old new : Device) (a b : S) (got : Unpacked) (octets : ℕ) : Type 0 where
   pub envelope : Envelope
   pub is : IsListed envelope
   pub parts : HasParts got envelope.value
@@ -58,7 +58,7 @@ pub record IsCutOff {S : Type 0} (goes : S → List StoryEvent → S → Type 0)
 
 -- What comes next, or why nothing does. (The input before and after, and the sink.)
 abbrev pub IsNext : {S : Type 0} → (S → List StoryEvent → S → Type 0) → (S → ℕ) → Device → Device → S → S → Result Next CommandFault → Type 0
-IsNext goes failures old new a b (Ok (next.Envelope got octets)) = HasCome goes old new a b got octets
+IsNext goes failures old new a b (Ok (next.Envelope got octets)) = EnvelopeHasCome goes old new a b got octets
 IsNext goes failures old new a b (Ok next.End) = HasGiven old new [] × IsAtEnd new.octets × (b ≡ a)
 IsNext goes failures old new a b (Ok (next.Refused refusal)) = IsRefusal goes old new a b refusal
 IsNext goes failures old new a b (Err CannotRead) = IsCutOff goes old new a b

@@ -17,7 +17,7 @@ use Rattle.iim_commands.specs.declared.fault.CommandFault.{CommandFault}
 use Rattle.iim_commands.specs.declared.fault.CommandFault.TheVariants.{CannotRead, CannotWrite, OutOfMemory}
 use Rattle.iim_commands.specs.declared.packing.PackFault.{PackFault}
 use Rattle.iim_commands.specs.declared.packing.PackFault.TheVariants.{Refused, Around}
-use Rattle.iim_commands.specs.Format.Packing.{Asked, HasRoom, IsBrokenOff, IsFormOf, IsPast, IsPlanOf, IsRefusal, Told, object_of, refusal_line}
+use Rattle.iim_commands.specs.Format.Packing.{Asked, FitsAsked, IsBrokenOff, IsFormOf, IsPast, IsPlanOf, IsRefusal, ScriptContent, object_of, refusal_line}
 
 -- One read, past interruptions, added `count` octets: none only at the end.
 pub record GotSome (old new : Device) (before after : List ℕ) (count : ℕ) : Type 0 where
@@ -34,7 +34,7 @@ IsFailedRead old new room CannotWrite = ⊥
 IsFailedRead old new room OutOfMemory = (more : List ℕ) × (length more ≤ room) × HasGiven old new more
 
 -- what a script was read as
-abbrev pub told_by : Script → Told
+abbrev pub told_by : Script → ScriptContent
 told_by s = record { fields = s.envelope; head = s.head; trailer = s.trailer.items; lines = s.lines.lines; text_line = s.text_line }
 
 -- The fault is told by a line of its own, or is that memory was short.
@@ -58,21 +58,21 @@ ComesTo causes.Write text_line (Around CannotWrite) = Unit {0}
 ComesTo _ text_line _ = ⊥
 
 -- The form that is asked for of what is told is out.
-abbrev pub PacksTold : Asked → Told → Device → Device → Type 0
+abbrev pub PacksTold : Asked → ScriptContent → Device → Device → Type 0
 PacksTold a t old new = (form : List ℕ) × IsFormOf a t form × Wrote old new form
 
 -- Why what is told is not packed.
-abbrev pub UnpacksTold : Asked → Told → Device → Device → PackFault → Type 0
+abbrev pub UnpacksTold : Asked → ScriptContent → Device → Device → PackFault → Type 0
 UnpacksTold a t old new (Refused line number name) =
     (new ≡ old) × IsPast a t × (line ≡ t.text_line) × (number ≡ 80) × (name.now ≡ codes "PastAnnounced")
 UnpacksTold a t old new (Around CannotRead) = ⊥
-UnpacksTold a t old new (Around CannotWrite) = (plan : Plan) × (out : List ℕ) × HasRoom a t × IsPlanOf a (object_of t) plan × BrokeAfter old new out
+UnpacksTold a t old new (Around CannotWrite) = (plan : Plan) × (out : List ℕ) × FitsAsked a t × IsPlanOf a (object_of t) plan × BrokeAfter old new out
     × ((form : List ℕ) → Packed t.fields t.head t.lines t.trailer plan form → Begins out form)
 UnpacksTold a t old new (Around OutOfMemory) = new ≡ old
 
 -- Why octets are not packed.
-abbrev pub IsUnpacked : Asked → List ℕ → Device → Device → PackFault → Type 0
-IsUnpacked a octets old new (Refused line number name) = (new ≡ old) × IsRefusal a octets (refusal_line line number name.now)
-IsUnpacked a octets old new (Around CannotRead) = ⊥
-IsUnpacked a octets old new (Around CannotWrite) = IsBrokenOff a octets old new
-IsUnpacked a octets old new (Around OutOfMemory) = new ≡ old
+abbrev pub IsNotPacked : Asked → List ℕ → Device → Device → PackFault → Type 0
+IsNotPacked a octets old new (Refused line number name) = (new ≡ old) × IsRefusal a octets (refusal_line line number name.now)
+IsNotPacked a octets old new (Around CannotRead) = ⊥
+IsNotPacked a octets old new (Around CannotWrite) = IsBrokenOff a octets old new
+IsNotPacked a octets old new (Around OutOfMemory) = new ≡ old

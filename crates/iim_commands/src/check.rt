@@ -2,7 +2,7 @@
 
 ghost use Rattle.iim_commands.specs.Format.Lines.{line_of};
 
-use crate::list::Report;
+use crate::list::EnvelopeReport;
 use crate::report::push_accepted;
 use iim_unpack::Unpacked;
 use std::alloc::AllocError;
@@ -11,7 +11,7 @@ use std::alloc::AllocError;
 #[derive(Clone, Copy)]
 pub struct Check;
 
-impl Report for Check {
+impl EnvelopeReport for Check {
     ghost written = { line_of };
 
     fn push_text(

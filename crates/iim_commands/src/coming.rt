@@ -1,6 +1,6 @@
 //! What comes next of an input.
 
-ghost use Rattle.std.specs.Prelude.{◌≡◌, [], None, IfOk};
+ghost use Rattle.std.specs.Prelude.{◌≡◌, None};
 ghost use Rattle.iim_unpack.specs.Format.Intakes.{line};
 ghost use Rattle.iim_commands.specs.Coming.{IsNext, IsCalm, CanAskForMore};
 

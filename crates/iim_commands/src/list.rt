@@ -18,7 +18,7 @@ use std::alloc::{AllocError, Global};
 use wire_story::Discard;
 
 /// What a command writes of each envelope.
-pub trait Report {
+pub trait EnvelopeReport {
     /// The text of the envelope with this number.
     ghost written: { ℕ → Envelope → List ℕ };
 
@@ -34,7 +34,7 @@ pub trait Report {
 }
 
 /// Reports an input: each envelope, up to the end, to octets that are refused or to one envelope too many.
-pub fn list<P: Report, R: Source, W: Target>(
+pub fn list<P: EnvelopeReport, R: Source, W: Target>(
     alloc: Global,
     texts: &P,
     intake: &mut Intake<R>,

@@ -9,7 +9,7 @@ use crate::fault::CommandFault;
 use crate::report::tell;
 use crate::status::{ACCEPTED, REFUSED};
 use iim_dataset::device_laws::gifts_join;
-use iim_dataset::{Source, Target, take};
+use iim_dataset::{BLOCK, Source, Target, take};
 use iim_object::{PackCause, Plan, Size};
 use iim_pack::{pack, packed_size};
 use iim_script::{MAX_SCRIPT, Script, ScriptCause, ScriptFault, read_script};
@@ -30,12 +30,9 @@ pub struct PackRequest {
 ghost use Rattle.wire_message.specs.Format.Messages.{IsTrailer};
 ghost use Rattle.iim_commands.specs.Format.Devices.{devices};
 ghost use Rattle.iim_commands.specs.Format.Packing.{Answered, IsPacked, IsPast, IsPlanOf, IsRead, IsUnanswered, IsUnread, asked, object_of, refusal_line};
-ghost use Rattle.iim_commands.specs.PackSteps.{ComesTo, GotSome, IsFailedRead, IsUnpacked, MayComeOf, PacksTold, TellsFault, UnpacksTold, told_by};
+ghost use Rattle.iim_commands.specs.PackSteps.{ComesTo, GotSome, IsFailedRead, IsNotPacked, MayComeOf, PacksTold, TellsFault, UnpacksTold, told_by};
 ghost use Rattle.iim_commands.specs.Format.Reports.{IsTold};
 ghost use Rattle.iim_commands.specs.declared.fault.CommandFault.TheVariants.{OutOfMemory};
-
-/// The most octets that are asked for at once.
-const BLOCK: usize = 4096;
 
 /// What keeps an envelope from being packed.
 enum PackFault {
@@ -171,7 +168,7 @@ fn pack_octets<W: Target>(
     output: W,
 ) -> Result<W, (PackFault, W)>
     ensures packed { IfOk result (λ last. IsPacked (asked request.subfile request.unknown request.max) octets.now (W.state output) (W.state last)) }
-    ensures unpacked { IfErr result (λ left. IsUnpacked (asked request.subfile request.unknown request.max) octets.now (W.state output) (W.state left.1) left.0) }
+    ensures unpacked { IfErr result (λ left. IsNotPacked (asked request.subfile request.unknown request.max) octets.now (W.state output) (W.state left.1) left.0) }
 {
     match read_script(alloc, LIMITS, octets) {
         Ok(told) => pack_told(alloc, request, &told, output),

@@ -2,12 +2,11 @@
 
 ghost use Rattle.std.specs.Prelude.{◌≡◌, ◌++◌, ◌∷◌, OnOk, codes, decimal};
 ghost use Rattle.iim_audit.specs.Format.Texts.{number_or_dash};
-ghost use Rattle.iim_dataset.specs.Format.Datasets.{Dataset};
 ghost use Rattle.iim_script.specs.Format.Printed.{after_space, field_line, message_line, trailer_line};
 ghost use Rattle.iim_commands.specs.Format.Texts.{mode_of, number_line, shown_of, sizes_line};
 ghost use Rattle.std.specs.List.{flat_map};
 
-use crate::list::Report;
+use crate::list::EnvelopeReport;
 use crate::report::push_printed;
 use crate::shown::push_after_space;
 use iim_audit::NumberOrDash;
@@ -22,7 +21,7 @@ use wire_message::MessageHead;
 #[derive(Clone, Copy)]
 pub struct Show;
 
-impl Report for Show {
+impl EnvelopeReport for Show {
     ghost written = { shown_of };
 
     fn push_text(

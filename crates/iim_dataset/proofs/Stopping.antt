@@ -10,7 +10,7 @@ use Rattle.iim_dataset.specs.Format.Octets.{Octets}
 use Rattle.iim_dataset.specs.Format.Datasets.{SpellsTag, count_octets}
 use Rattle.iim_dataset.specs.Format.Events.{DatasetEvent, DataOctet, DatasetEnd}
 use Rattle.iim_dataset.specs.Format.Places.{between, to_come, IsPlace, LeadsTo, Brings, TellsSink}
-use Rattle.iim_dataset.specs.Format.Reading.{tag_cause_of, Answers, TagDies, Completes, Stops, Refuses, RefusesFor, StillStands, RefusesOne}
+use Rattle.iim_dataset.specs.Format.Reading.{tag_cause_of, AfterStep, TagDies, Completes, Stops, Refuses, RefusesFor, StillStands, RefusesOne}
 use Rattle.iim_dataset.specs.Fronts.{TakesOnward}
 use Rattle.iim_dataset.specs.Completing.{StopsAmong, head_events, place_after_head}
 use Rattle.iim_dataset.specs.declared.head.Head.{Head}
@@ -129,6 +129,6 @@ after_tag h tag s = by_count (h.count == 0) refl
     by_count false e = (grind (arith, nat_tests, e), omega arith, tag, s)
 
 -- What a sink answers to the end of a dataset says whether it can continue.
-pub after_end : {D : Type 0} (stands : D → Option ℕ → Type 0) (ends : D → Type 0) (step : Step) (place : DatasetPlace) (a : D) → place ≡ between → Answers stands ends a step → TakesOnward stands ends step place a
+pub after_end : {D : Type 0} (stands : D → Option ℕ → Type 0) (ends : D → Type 0) (step : Step) (place : DatasetPlace) (a : D) → place ≡ between → AfterStep stands ends a step → TakesOnward stands ends step place a
 after_end stands ends More place a none s = subst (λ (p : DatasetPlace). stands a (to_come p)) (sym none) s
 after_end stands ends Last place a none s = (s, none)

@@ -34,7 +34,7 @@ pub use reader::HeadReader;
 pub use shown::{push_escape, push_shown};
 pub use sink::{DatasetSink, Step};
 pub use size::{COUNT_OCTETS, GREATEST_SIZE};
-pub use source::{FromRead, Source, take};
+pub use source::{BLOCK, FromRead, Source, take};
 pub use stop::Stop;
 pub use target::{FromWrite, Target, put};
 pub use trial::{TrialReader, TrialWriter, Trouble};

@@ -2,7 +2,7 @@
 
 ghost use Rattle.std.specs.Prelude.{◌≡◌, ◌-◌, ◌<◌, ◌≤◌, ◌++◌, [], ◌∷◌, List, ℕ, length, map, take, slice_index, Option, Some, None, IfOk, IfErr, OnOk, OnErr};
 ghost use Rattle.iim_dataset.specs.Format.Events.{DatasetEvent, HeadRead, DataOctet, DatasetEnd};
-ghost use Rattle.iim_dataset.specs.Format.Reading.{Answers};
+ghost use Rattle.iim_dataset.specs.Format.Reading.{AfterStep};
 
 use crate::head::Head;
 use crate::stop::Stop;
@@ -51,7 +51,7 @@ pub trait DatasetSink {
     fn close(&mut self) -> Result<Step, Stop>
         requires { stands self.old (Some 0) }
         ensures ok { OnOk result (goes self.old (DatasetEnd ∷ []) self.new) }
-        ensures stands { IfOk result (Answers stands ends self.new) }
+        ensures stands { IfOk result (AfterStep stands ends self.new) }
         ensures refused { IfErr result (λ stop. stop.taken ≡ 0) }
         ensures stopped { OnErr result (stops self.old [] DatasetEnd self.new) };
 

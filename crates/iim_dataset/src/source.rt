@@ -1,10 +1,13 @@
 //! Where octets come from.
 
-ghost use Rattle.std.specs.Prelude.{◌≡◌, ◌<◌, ℕ, length, IfOk, IfErr, OnOk};
+ghost use Rattle.std.specs.Prelude.{◌≡◌, ◌<◌, IfOk, IfErr, OnOk};
 ghost use Rattle.iim_dataset.specs.Format.Devices.{Device, Gave, Calm, Faulted, Took, Missed, WithinInterruptionLimit, LaterThan, unbroken, reader_device};
 
 use crate::device::{Faults, IoFault, MAX_INTERRUPTIONS};
 use std::io::Read;
+
+/// How many octets are asked for at once, at most, where an input is read by blocks.
+pub const BLOCK: usize = 4096;
 
 /// Where octets come from. Contracts see it as a device: the octets that reads will give, where they are known, and
 /// its faults so far.

@@ -7,7 +7,7 @@ use Rattle.iim_dataset.specs.declared.head.Head.{Head}
 use Rattle.iim_fields.specs.Format.Faults.{record_fault, limits_fault, room_fault, value_fault, first_fault, is_kept, kept, joined, fault_on}
 use Rattle.iim_fields.specs.Format.Values.{data_of, number_told}
 use Rattle.iim_fields.specs.Format.Checks.{HasChecked, IsChecking, HasTaken, IsRecordFault, IsValueFault}
-use Rattle.iim_fields.specs.Stores.{Holds, fields_of}
+use Rattle.iim_fields.specs.Stores.{HasStored, fields_of}
 use Rattle.iim_fields.specs.Building.{IsBuilding}
 use Rattle.iim_fields.specs.Format.Builders.{add_fault}
 use Rattle.iim_fields.specs.declared.limits.Limits.{Limits}
@@ -32,7 +32,7 @@ head_fine : (check : Option RecordPlace) (ds : List Dataset) (d : Dataset) → H
 head_fine check ds d taken = head_no_fault ds (head_of d) (taken_alive check ds (head_of d) taken)
 
 limits_are : (check : Option RecordPlace) (limits : Limits) (store : Store) (h : Head) → IsBuilding check limits store → room_fault limits (length store.octets.items) (vec_len store.entries) h ≡ limits_fault limits (fields_of store) h
-limits_are check limits store h b = room_fault_is limits store (fields_of store) h (subst (λ (ks : List Dataset). Holds store ks []) (sym b.all_kept) b.holds)
+limits_are check limits store h b = room_fault_is limits store (fields_of store) h (subst (λ (ks : List Dataset). HasStored store ks []) (sym b.all_kept) b.holds)
 
 -- a limit is passed
 pub added_room_fault : (check after : Option RecordPlace) (limits : Limits) (store : Store) (d : Dataset) (fault : FieldFault) → IsBuilding check limits store → is_kept d.rec ≡ true → HasTaken after (fields_of store) (head_of d)
@@ -78,7 +78,7 @@ pub record Stored (old new : Store) (d : Dataset) : Type 0 where
   pub octets_room : new.octets.room ≡ old.octets.room
   pub entries_room : vec_capacity new.entries ≡ vec_capacity old.entries
 
-stored_holds : (old new : Store) (ds : List Dataset) (d : Dataset) → Stored old new d → Holds old ds [] → Holds new (ds ++ d ∷ []) []
+stored_holds : (old new : Store) (ds : List Dataset) (d : Dataset) → Stored old new d → HasStored old ds [] → HasStored new (ds ++ d ∷ []) []
 stored_holds old new ds d s holds =
     let c = counts old ds [] holds in
     let end : length old.octets.items + length d.octets ≡ 0 + length (joined ds) + length d.octets = omega (arith, c.0) in
@@ -87,7 +87,7 @@ stored_holds old new ds d s holds =
       octets = s.octets ∙ (ap (λ (xs : List ℕ). xs ++ d.octets) (holds.octets ∙ append-nil (joined ds)) ∙ (sym (joined_more ds d) ∙ sym (append-nil (joined (ds ++ d ∷ [])))));
     }
 
-pub fields_more : (old new : Store) (d : Dataset) → Stored old new d → Holds old (fields_of old) [] → fields_of new ≡ fields_of old ++ d ∷ []
+pub fields_more : (old new : Store) (d : Dataset) → Stored old new d → HasStored old (fields_of old) [] → fields_of new ≡ fields_of old ++ d ∷ []
 fields_more old new d s holds = fields_held new (fields_of old ++ d ∷ []) [] (stored_holds old new (fields_of old) d s holds)
 
 pub building_more : (check after last : Option RecordPlace) (limits : Limits) (old new : Store) (d : Dataset) (number : Option ℕ) → IsBuilding check limits old → is_kept d.rec ≡ true
@@ -110,6 +110,6 @@ building_more check after last limits old new d number b is taken none on s =
         octets_in = omega (arith, w.0, c.0, ap (λ (ks : List Dataset). length (joined ks)) more, ap (λ (xs : List ℕ). length xs) (joined_more ds d), length-append (joined ds) d.octets);
         fields_in = omega (arith, w.1, c.1, ap (λ (ks : List Dataset). length ks) more, length-append ds (d ∷ []));
       };
-      holds = subst (λ (ks : List Dataset). Holds new ks []) (sym more) (stored_holds old new ds d s b.holds);
+      holds = subst (λ (ks : List Dataset). HasStored new ks []) (sym more) (stored_holds old new ds d s b.holds);
       all_kept = ap kept more ∙ (kept_more ds d is ∙ (ap (λ (ks : List Dataset). ks ++ d ∷ []) b.all_kept ∙ sym more));
     }

@@ -6,7 +6,7 @@ use Rattle.iim_fields.specs.Format.Faults.{kept, joined, present_record}
 use Rattle.iim_fields.specs.Format.Builders.{IsEnvelope}
 use Rattle.iim_fields.specs.Building.{IsEnvelopeStore}
 use Rattle.iim_fields.specs.Format.Checks.{HasChecked, HasEnded, IsBetween}
-use Rattle.iim_fields.specs.Stores.{Holds, fields_of}
+use Rattle.iim_fields.specs.Stores.{HasStored, fields_of}
 use Rattle.iim_fields.specs.Reading.{IsReading, place_of}
 use Rattle.iim_fields.specs.declared.limits.Limits.{Limits}
 use Rattle.iim_fields.specs.declared.order.Order.{Order}
@@ -42,6 +42,6 @@ ended_store check limits store size r ended =
         datasets = omega (arith, r.room.small_fields, s.within.fields_in, ap (λ (ks : List Dataset). length ks) same);
         octets = omega (arith, r.room.small_octets, s.within.octets_in, ap (λ (ks : List Dataset). length (joined ks)) same);
       };
-      holds = subst (λ (ks : List Dataset). Holds store ks []) same (holds_after check limits store size ds r.store_is s);
+      holds = subst (λ (ks : List Dataset). HasStored store ks []) same (holds_after check limits store size ds r.store_is s);
       envelope = subst IsEnvelope same (kept_of_sections ds (whole_where_ended check ds ended s.checked));
     }

@@ -3,7 +3,7 @@ use Rattle.std.proofs.Common.{◌≡◌, ℕ, ◌+◌, ◌<◌, ◌≤◌, ◌�
 use Rattle.std.specs.List.{AllByRecursion}
 use Rattle.std.proofs.lemmas.List.Folds.{list_any-append}
 use Rattle.std.proofs.lemmas.List.Sums.{sum_by-append}
-use Rattle.std.proofs.lemmas.Bool.{or_parts}
+use Rattle.std.proofs.lemmas.Bool.{or_left, or_parts, or_right}
 use Rattle.std.proofs.lemmas.Bool.Decides.{eqb_tells}
 use Rattle.iim_dataset.specs.Format.Datasets.{Dataset}
 use Rattle.iim_fields.specs.Format.Records.{AreRecords}
@@ -40,14 +40,6 @@ some_counts n [] h = absurd cc
 some_counts n (x ∷ xs) h =
     let sum = occurrences_append n (x ∷ []) xs in
     let more = some_counts_by (nat_eq x.set n) (occurs n xs) (occurrences n xs) (some_counts n xs) h in omega arith
-
-or_left : (a b : Bool) → a ≡ true → (a || b) ≡ true
-or_left true b h = refl
-or_left false b h = absurd cc
-
-or_right : (a b : Bool) → b ≡ true → (a || b) ≡ true
-or_right true b h = refl
-or_right false b h = h
 
 pub occurs_front : (n : ℕ) (xs ys : List Dataset) → occurs n xs ≡ true → occurs n (xs ++ ys) ≡ true
 occurs_front n xs ys h = list_any-append (λ (d : Dataset). nat_eq d.set n) xs ys ∙ or_left (occurs n xs) (occurs n ys) h

@@ -3,7 +3,7 @@ use Rattle.std.proofs.Common.{◌≡◌, ℕ, ◌+◌, ◌-◌, ◌≤◌, true,
 use Rattle.std.proofs.lemmas.Bool.{and_from, le-leb}
 use Rattle.iim_dataset.specs.Format.Datasets.{Dataset}
 use Rattle.iim_fields.specs.Format.Faults.{joined}
-use Rattle.iim_fields.specs.Stores.{Holds, entries_of}
+use Rattle.iim_fields.specs.Stores.{HasStored, entries_of}
 use Rattle.iim_fields.specs.Building.{IsEnvelopeStore}
 use Rattle.iim_fields.specs.Stores.{fields_of}
 use Rattle.iim_fields.specs.Stores.{is_sound}
@@ -18,7 +18,7 @@ sound_by from n (k ∷ ks) fits =
     and_from (nat_le from end) _ (le-leb from end (omega arith)) (and_from (nat_le (end - from) n) _ (le-leb (end - from) n (omega arith)) later)
 
 -- of a store whose entries tell where the octets of their datasets are
-pub sound_holding : (store : Store) (ks : List Dataset) (more : List ℕ) → Holds store ks more → is_sound 0 store.entries.items (length store.octets.items) ≡ true
+pub sound_holding : (store : Store) (ks : List Dataset) (more : List ℕ) → HasStored store ks more → is_sound 0 store.entries.items (length store.octets.items) ≡ true
 sound_holding store ks more holds =
     let long : length store.octets.items ≡ length (joined ks) + length more = ap (λ (xs : List ℕ). length xs) holds.octets ∙ length-append (joined ks) more in
     ap (λ es. is_sound 0 es (length store.octets.items)) holds.entries ∙ sound_by 0 (length store.octets.items) ks (omega (arith, long))

@@ -15,9 +15,9 @@ use Rattle.iim_tables.specs.Format.Records.{occurs}
 use Rattle.iim_fields.specs.Format.Alive.{SectionsLiveAt}
 use Rattle.iim_fields.specs.Format.Faults.{room_fault, limits_fault, first_fault, fault_on, is_kept, kept, kept_octets, joined, present_record, present_run}
 use Rattle.iim_fields.specs.Format.Values.{data_of, number_told, tells_number}
-use Rattle.iim_fields.specs.Format.Checks.{present_at, TakesHead, TakesValue, IsIn, HasChecked, IsChecking, HasTaken, IsRecordFault, IsValueFault, begun_head}
+use Rattle.iim_fields.specs.Format.Checks.{present_at, IsIn, HasChecked, IsChecking, HasTaken, IsRecordFault, IsValueFault, begun_head}
 use Rattle.iim_fields.specs.Format.Checks as checks
-use Rattle.iim_fields.specs.Stores.{Holds, IsStore, entries_of, fields_of, ends_at, begun_octets}
+use Rattle.iim_fields.specs.Stores.{HasStored, IsStore, entries_of, fields_of, ends_at, begun_octets}
 use Rattle.iim_fields.specs.Format.Stores.{fields_from}
 use Rattle.iim_fields.specs.Format.Standing.{FieldsPlace, IsBetween, IsInside, CanTake, CanClose, IsWithin, StandsAfter, StandsIn, IsHeadFault, IsOf, section_of, begun_head_of}
 use Rattle.iim_fields.specs.Reading.{place_of, StandsSomewhere, HasRoom, IsReading}
@@ -80,7 +80,7 @@ fields_back from (k ∷ ks) more =
     ap (fields_from (from + length k.octets) (entries_of (from + length k.octets) ks)) rest ∙ fields_back (from + length k.octets) ks more in
     λ i. record { rec = k.rec; set = k.set; octets = front i } ∷ later i
 
-pub fields_held : (store : Store) (ks : List Dataset) (more : List ℕ) → Holds store ks more → fields_of store ≡ ks
+pub fields_held : (store : Store) (ks : List Dataset) (more : List ℕ) → HasStored store ks more → fields_of store ≡ ks
 fields_held store ks more holds = (λ i. fields_from 0 (holds.entries i) (holds.octets i)) ∙ fields_back 0 ks more
 
 pub entries_append : (from : ℕ) (ks : List Dataset) (d : Dataset)
@@ -110,18 +110,18 @@ ends_of from (k ∷ ks) = ends_of (from + length k.octets) ks ∙ omega (arith, 
 ends_at_length : (ks : List Dataset) → ends_at 0 (entries_of 0 ks) ≡ length (joined ks)
 ends_at_length ks = ends_of 0 ks ∙ omega arith
 
-pub begun_held : (store : Store) (ks : List Dataset) (more : List ℕ) → Holds store ks more → begun_octets store ≡ more
+pub begun_held : (store : Store) (ks : List Dataset) (more : List ℕ) → HasStored store ks more → begun_octets store ≡ more
 begun_held store ks more holds =
     (λ i. drop (ends_at 0 (holds.entries i)) (holds.octets i)) ∙ (ap (λ (n : ℕ). drop n (joined ks ++ more)) (ends_at_length ks) ∙ drop-append_seam (joined ks) more)
 
 -- what a store with these datasets has
-pub store_is : (store : Store) (ks : List Dataset) (more : List ℕ) → Holds store ks more → IsStore store
+pub store_is : (store : Store) (ks : List Dataset) (more : List ℕ) → HasStored store ks more → IsStore store
 store_is store ks more holds = record {
   entries = holds.entries ∙ ap (entries_of 0) (sym (fields_held store ks more holds));
   octets = holds.octets ∙ sym (λ i. joined (fields_held store ks more holds i) ++ begun_held store ks more holds i);
 }
 
-pub counts : (store : Store) (ks : List Dataset) (more : List ℕ) → Holds store ks more → (length store.octets.items ≡ length (joined ks) + length more) × (vec_len store.entries ≡ length ks)
+pub counts : (store : Store) (ks : List Dataset) (more : List ℕ) → HasStored store ks more → (length store.octets.items ≡ length (joined ks) + length more) × (vec_len store.entries ≡ length ks)
 counts store ks more holds = (
   ap (λ (xs : List ℕ). length xs) holds.octets ∙ length-append (joined ks) more,
   store.entries.ok.0 ∙ (ap (λ xs. length xs) holds.entries ∙ length-entries_of 0 ks),
@@ -134,8 +134,8 @@ ends_within store is =
     let e : ends_at 0 store.entries.items ≡ length (joined (fields_of store)) = ap (ends_at 0) is.entries ∙ ends_at_length (fields_of store) in omega (arith, c.0, e)
 
 -- the store of a reader that has kept those
-holds_kept : (store : Store) (ds : List Dataset) → IsStore store → fields_of store ≡ kept ds → Holds store (kept ds) (begun_octets store)
-holds_kept store ds is same = subst (λ (ks : List Dataset). Holds store ks (begun_octets store)) same is
+holds_kept : (store : Store) (ds : List Dataset) → IsStore store → fields_of store ≡ kept ds → HasStored store (kept ds) (begun_octets store)
+holds_kept store ds is same = subst (λ (ks : List Dataset). HasStored store ks (begun_octets store)) same is
 
 nothing_of_two : (xs ys : List ℕ) → xs ++ ys ≡ [] → (xs ≡ []) × (ys ≡ [])
 nothing_of_two [] ys h = (refl, h)
@@ -146,7 +146,7 @@ nothing_of_two (x ∷ xs) ys h = absurd cc
 pub reading_start : (check : Option RecordPlace) (limits : Limits) (store : Store) → checks.IsBetween check → HasChecked check [] → store.octets.items ≡ [] → store.entries.items ≡ [] → HasRoom limits store
     → StandsAfter (place_of check limits store []) [] × IsReading check limits store []
 reading_start check limits store between checked octets entries room =
-    let holds : Holds store [] [] = record { entries = entries; octets = octets } in
+    let holds : HasStored store [] [] = record { entries = entries; octets = octets } in
     let none : begun_octets store ≡ [] = begun_held store [] [] holds in
     let stands : StandsAfter (place_of check limits store []) [] = record {
       between = between;
@@ -215,16 +215,16 @@ fault_of_record limits ds h fault f = record {
 }
 
 -- the fault by what is kept is the fault by the datasets
-pub room_fault_is : (limits : Limits) (store : Store) (ds : List Dataset) (h : Head) → Holds store (kept ds) [] → room_fault limits (length store.octets.items) (vec_len store.entries) h ≡ limits_fault limits ds h
+pub room_fault_is : (limits : Limits) (store : Store) (ds : List Dataset) (h : Head) → HasStored store (kept ds) [] → room_fault limits (length store.octets.items) (vec_len store.entries) h ≡ limits_fault limits ds h
 room_fault_is limits store ds h holds =
     let c = counts store (kept ds) [] holds in
     let first : length store.octets.items ≡ kept_octets ds = omega (arith, c.0) in
     ap (λ (n : ℕ). room_fault limits n (vec_len store.entries) h) first ∙ ap (λ (n : ℕ). room_fault limits (kept_octets ds) n h) c.1
 
 -- the store after datasets
-pub holds_after : (check : Option RecordPlace) (limits : Limits) (store : Store) (size : List ℕ) (ds : List Dataset) → IsStore store → StandsAfter (place_of check limits store size) ds → Holds store (kept ds) []
+pub holds_after : (check : Option RecordPlace) (limits : Limits) (store : Store) (size : List ℕ) (ds : List Dataset) → IsStore store → StandsAfter (place_of check limits store size) ds → HasStored store (kept ds) []
 holds_after check limits store size ds is s =
-    subst (Holds store (kept ds)) (nothing_of_two (begun_octets store) size s.taken_are).0 (holds_kept store ds is s.kept_are)
+    subst (HasStored store (kept ds)) (nothing_of_two (begun_octets store) size s.taken_are).0 (holds_kept store ds is s.kept_are)
 
 pub fault_of_room : (check new : Option RecordPlace) (limits : Limits) (store : Store) (size : List ℕ) (h : Head) (fault : FieldFault) → IsStore store
     → ((ds : List Dataset) → HasChecked check ds → HasTaken new ds h) → room_fault limits (length store.octets.items) (vec_len store.entries) h ≡ Some fault
@@ -324,7 +324,7 @@ inside_more f new xs check_is taken_is t h n i = record {
 }
 
 -- the store has taken octets
-pub holds_more : (old new : Store) (xs : List ℕ) → new.octets.items ≡ old.octets.items ++ xs → new.entries ≡ old.entries → IsStore old → Holds new (fields_of old) (begun_octets old ++ xs)
+pub holds_more : (old new : Store) (xs : List ℕ) → new.octets.items ≡ old.octets.items ++ xs → new.entries ≡ old.entries → IsStore old → HasStored new (fields_of old) (begun_octets old ++ xs)
 holds_more old new xs octets entries is = record {
   entries = ap (λ v. v.items) entries ∙ is.entries;
   octets = octets ∙ (ap (λ (ys : List ℕ). ys ++ xs) is.octets ∙ append_assoc (joined (fields_of old)) (begun_octets old) xs);
@@ -524,7 +524,7 @@ no_head check t h e = let clash = sym e ∙ none_between check t in cc
 
 -- the dataset is kept in the store
 pub holds_kept_more : (old new : Store) (h : Head) → IsStore old → new.octets ≡ old.octets → new.entries.items ≡ old.entries.items ++ record { rec = h.rec; set = h.set; end = length old.octets.items } ∷ []
-    → Holds new (fields_of old ++ data_of h (begun_octets old) ∷ []) []
+    → HasStored new (fields_of old ++ data_of h (begun_octets old) ∷ []) []
 holds_kept_more old new h is octets entries =
     let ks = fields_of old in
     let d = data_of h (begun_octets old) in

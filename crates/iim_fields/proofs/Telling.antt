@@ -3,7 +3,7 @@ use Rattle.std.proofs.Common.{◌≡◌, ◌≢◌, ℕ, ◌+◌, ◌<◌, ◌�
 use Rattle.std.specs.Prelude.{IsSomeAnd, IsTrue}
 use Rattle.std.specs.List.{find, list_any}
 use Rattle.std.specs.Option.{option_or}
-use Rattle.std.proofs.lemmas.Bool.{and_parts, and_from, or_cases, or_parts, eqb-true, leb-true, leb-false}
+use Rattle.std.proofs.lemmas.Bool.{and_parts, and_from, or_cases, or_left, or_parts, or_right, eqb-true, leb-true, leb-false}
 use Rattle.std.proofs.lemmas.Bool.Decides.{eqb_tells}
 use Rattle.iim_dataset.specs.Format.Octets.{number, within}
 use Rattle.iim_dataset.specs.Format.Datasets.{Dataset, head_of}
@@ -13,9 +13,9 @@ use Rattle.iim_tables.specs.declared.shape.Row.{Row}
 use Rattle.iim_fields.specs.Format.Records.{after}
 use Rattle.iim_tables.specs.Format.Records.{mandatory, may_repeat, occurs, is_file_format, has_file_format}
 use Rattle.iim_fields.specs.Format.Faults.{present_record, present_run, is_first, is_in_order, fault_on, row_fault, missing_fault, missing_of, is_kept, kept, kept_octets, limits_fault, first_fault, value_fault, fault_by_row}
-use Rattle.iim_fields.specs.Format.Causes.{Token, IsInPresent, BeginsNext, IsOutOfOrder, HasNoRow, IsRepeated, IsOutOfRange, IsAbsent, EndsTooEarly, IsBad, IsOtherFormat, PassesOctets, PassesFields, number_of_cause, Holds, Names, IsFault, HasNoFault}
+use Rattle.iim_fields.specs.Format.Causes.{Token, IsInPresent, BeginsNext, IsOutOfOrder, HasNoRow, IsRepeated, IsOutOfRange, IsAbsent, EndsTooEarly, IsBad, IsOtherFormat, PassesOctets, PassesFields, number_of_cause, HasCause, Names, IsFault, HasNoFault}
 use Rattle.iim_fields.specs.Format.Causes.Token.{AtHead, AtValue}
-use Rattle.iim_fields.specs.Format.Laws.{TellsFault, HeadsTellTheLowestCause, ValuesTellTheLowestCause}
+use Rattle.iim_fields.specs.Format.Laws.{IsFaultIfAny, HeadsTellTheLowestCause, ValuesTellTheLowestCause}
 use Rattle.iim_fields.specs.declared.limits.Limits.{Limits}
 use Rattle.iim_fields.specs.declared.fault.FieldFault.{FieldFault}
 use Rattle.iim_fields.specs.declared.fault.FieldCause.{FieldCause}
@@ -134,14 +134,6 @@ not_below low m (n ∷ ns) rise h = elim (or_cases (nat_eq n m) (list_any (λ k.
   | inr later ↦ let above = not_below n m ns rise.1 later in let low_n = rise.0 in omega arith
 ]
 
-or_left : (a b : Bool) → a ≡ true → (a || b) ≡ true
-or_left true b h = refl
-or_left false b h = absurd cc
-
-or_right : (a b : Bool) → b ≡ true → (a || b) ≡ true
-or_right true b h = refl
-or_right false b h = h
-
 -- what is found is one of them that did not occur, and none below it is one
 record IsLeast (has : ℕ → Bool) (ns : List ℕ) (n : ℕ) : Type 0 where
   one : list_any (λ m. nat_eq m n) ns ≡ true
@@ -196,7 +188,7 @@ Told limits ds t (Some f) = IsFault limits ds t f
 -- no condition of a cause below k holds
 lower : (limits : Limits) (ds : List Dataset) (h : Head) (k : ℕ) → (10 < k → IsOutOfOrder ds h → ⊥) → (11 < k → HasNoRow h → ⊥) → (12 < k → IsRepeated ds h → ⊥)
     → (13 < k → IsOutOfRange h → ⊥) → (14 < k → EndsTooEarly ds h → ⊥) → (50 < k → PassesOctets limits ds h → ⊥) → (51 < k → PassesFields limits ds h → ⊥)
-    → (c : FieldCause) → number_of_cause c < k → Holds c limits ds (AtHead h) → ⊥
+    → (c : FieldCause) → number_of_cause c < k → HasCause c limits ds (AtHead h) → ⊥
 lower limits ds h k order row again range missing octets fields RecordOrder below holds = order below holds
 lower limits ds h k order row again range missing octets fields UnknownDataset below holds = row below holds
 lower limits ds h k order row again range missing octets fields Repeated below holds = again below holds
@@ -347,7 +339,7 @@ head_told limits ds h = head_by limits ds h (is_in_order (present_record ds) h.r
 -- ---- values
 
 lower_value : (limits : Limits) (ds : List Dataset) (d : Dataset) (k : ℕ) → (15 < k → IsBad d → ⊥) → (16 < k → IsOtherFormat d → ⊥)
-    → (c : FieldCause) → number_of_cause c < k → Holds c limits ds (AtValue d) → ⊥
+    → (c : FieldCause) → number_of_cause c < k → HasCause c limits ds (AtValue d) → ⊥
 lower_value limits ds d k bad format RecordOrder below holds = holds
 lower_value limits ds d k bad format UnknownDataset below holds = holds
 lower_value limits ds d k bad format Repeated below holds = holds
@@ -425,7 +417,7 @@ head_fault_told limits ds h f is = told_some limits ds (AtHead h) (first_fault l
 pub value_fault_told : (limits : Limits) (ds : List Dataset) (d : Dataset) (f : FieldFault) → value_fault d ≡ Some f → IsFault limits ds (AtValue d) f
 value_fault_told limits ds d f is = told_some limits ds (AtValue d) (value_fault d) f (value_told limits ds d) is
 
-tells : (limits : Limits) (ds : List Dataset) (t : Token) (o : Option FieldFault) → Told limits ds t o → TellsFault o limits ds t
+tells : (limits : Limits) (ds : List Dataset) (t : Token) (o : Option FieldFault) → Told limits ds t o → IsFaultIfAny o limits ds t
 tells limits ds t o told = ((λ f. (told_some limits ds t o f told, some_told limits ds t o f told)), (told_none limits ds t o told, none_told limits ds t o told))
 
 pub heads_tell : HeadsTellTheLowestCause

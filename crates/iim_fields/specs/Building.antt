@@ -1,7 +1,7 @@
 -- A builder of envelopes, and an envelope, from inside: their stores.
 use Rattle.std.specs.Prelude.{◌≡◌, length, [], Option}
 use Rattle.iim_fields.specs.Format.Faults.{joined, kept}
-use Rattle.iim_fields.specs.Stores.{Holds, store_room, fields_of}
+use Rattle.iim_fields.specs.Stores.{HasStored, store_room, fields_of}
 use Rattle.iim_fields.specs.Format.Checks.{HasChecked}
 use Rattle.iim_fields.specs.Format.Standing.{IsWithin}
 use Rattle.iim_fields.specs.Reading.{HasRoom}
@@ -19,11 +19,11 @@ pub record IsBuilding (check : Option RecordPlace) (limits : Limits) (store : St
   pub room : HasRoom limits store
   pub checked : HasChecked check (fields_of store)
   pub within : IsWithin limits (length (joined (fields_of store))) (length (fields_of store))
-  pub holds : Holds store (fields_of store) []
+  pub holds : HasStored store (fields_of store) []
   pub all_kept : kept (fields_of store) ≡ fields_of store
 
 -- the store has exactly the datasets of an envelope
 pub record IsEnvelopeStore (store : Store) : Type 0 where
   pub few : AreFew (fields_of store)
-  pub holds : Holds store (fields_of store) []
+  pub holds : HasStored store (fields_of store) []
   pub envelope : IsEnvelope (fields_of store)

@@ -22,7 +22,7 @@ abbrev pub store_room : Store → Room
 store_room store = record { octets = store.octets.room; entries = vec_capacity store.entries }
 
 -- The store has the data of these datasets, joined, and then these octets; and an entry for each dataset.
-pub record Holds (store : Store) (ds : List Dataset) (more : List ℕ) : Type 0 where
+pub record HasStored (store : Store) (ds : List Dataset) (more : List ℕ) : Type 0 where
   pub entries : store.entries.items ≡ entries_of 0 ds
   pub octets : store.octets.items ≡ joined ds ++ more
 
@@ -41,4 +41,4 @@ begun_octets store = drop (ends_at 0 store.entries.items) store.octets.items
 
 -- Each entry tells where the octets of its dataset are.
 abbrev pub IsStore : Store → Type 0
-IsStore store = Holds store (fields_of store) (begun_octets store)
+IsStore store = HasStored store (fields_of store) (begun_octets store)

@@ -1,6 +1,6 @@
 //! The record layer alone: the heads and values of an envelope's datasets, one by one.
 
-ghost use Rattle.std.specs.Prelude.{◌≡◌, ◌≢◌, ℕ, List, [], ◌∷◌, ◌++◌, length, Option, is_none, Some, None, IsSome, IfOk, IfErr, OnOk, OnErr, ◌↔◌, IsTrue};
+ghost use Rattle.std.specs.Prelude.{◌≡◌, ◌≢◌, List, [], ◌∷◌, ◌++◌, length, Option, is_none, Some, None, IsSome, IfOk, IfErr, OnOk, OnErr, ◌↔◌, IsTrue};
 ghost use Rattle.std.specs.Option.{ForSome};
 ghost use Rattle.iim_dataset.specs.Format.Datasets.{Dataset};
 ghost use Rattle.iim_dataset.specs.declared.head.Head.{Head as HeadValue};

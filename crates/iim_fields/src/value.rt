@@ -6,7 +6,7 @@ ghost use Rattle.iim_fields.specs.Format.Faults.{value_fault};
 ghost use Rattle.std.specs.Int.{IsInRange};
 ghost use Rattle.iim_tables.specs.Format.Numbers.{size_octets};
 ghost use Rattle.iim_tables.specs.Format.Records.{has_file_format};
-ghost use Rattle.iim_fields.specs.Format.Values.{data_of, number_told, TellsNumber};
+ghost use Rattle.iim_fields.specs.Format.Values.{data_of, number_told, HasNumberValues};
 
 use crate::fault::{FieldCause, FieldFault};
 use crate::order::fault_on;
@@ -44,7 +44,7 @@ fn value_fault(head: Head, row: &Row, octets: &[u8]) -> Option<FieldFault>
 
 /// The number that a value of record 7 or 9 tells.
 fn number_told(head: Head, octets: &[u8]) -> Option<u64>
-    requires { TellsNumber head.rec → IsInRange 1 size_octets (length octets.now) }
+    requires { HasNumberValues head.rec → IsInRange 1 size_octets (length octets.now) }
     ensures { result ≡ number_told (data_of head octets.now) }
 {
     match head.rec {

@@ -92,6 +92,14 @@ pub record Told (p : Place) (token : ObjectToken) : Type 0 where
   pub first : (c : SizeCause) → cause_at p token ≡ Some c → IsFirstCause p token c
   pub none : cause_at p token ≡ None → (c : SizeCause) → HasCause c p token → ⊥
 
+from_twenty : (other : SizeCause) → number_of ModeClash ≤ number_of other
+from_twenty ModeClash = omega arith
+from_twenty SizeClash = omega arith
+from_twenty SubfileTooLong = omega arith
+from_twenty PastSize = omega arith
+from_twenty Short = omega arith
+from_twenty ConfirmedWrong = omega arith
+
 number_first : (p : Place) (set n : ℕ) (c : SizeCause) → cause_at p (NumberRead set n) ≡ Some c → IsFirstCause p (NumberRead set n) c
 number_first p set n c e = elim (cases_Bool (is_given (number_at 10 (stated_with p set n)) 0 && is_some (number_at 90 (stated_with p set n)))) [
   | inl t ↦
@@ -107,14 +115,6 @@ number_first p set n c e = elim (cases_Bool (is_given (number_at 10 (stated_with
   ]
 ]
   where
-    from_twenty : (other : SizeCause) → number_of ModeClash ≤ number_of other
-    from_twenty ModeClash = omega arith
-    from_twenty SizeClash = omega arith
-    from_twenty SubfileTooLong = omega arith
-    from_twenty PastSize = omega arith
-    from_twenty Short = omega arith
-    from_twenty ConfirmedWrong = omega arith
-
     beyond : (is_given (number_at 10 (stated_with p set n)) 0 && is_some (number_at 90 (stated_with p set n))) ≡ false
         → (other : SizeCause) → HasCause other p (NumberRead set n) → number_of SizeClash ≤ number_of other
     beyond f ModeClash h = absurd (no_mode_at_number p set n f h)
@@ -216,14 +216,6 @@ subfile_first p count both c e = elim (cases_Bool (is_given (number_at 10 p.stat
   ]
 ]
   where
-    from_twenty : (other : SizeCause) → number_of ModeClash ≤ number_of other
-    from_twenty ModeClash = omega arith
-    from_twenty SizeClash = omega arith
-    from_twenty SubfileTooLong = omega arith
-    from_twenty PastSize = omega arith
-    from_twenty Short = omega arith
-    from_twenty ConfirmedWrong = omega arith
-
     from_long : (is_given (number_at 10 p.stated) 1 && not (is_some (number_at 90 p.stated))) ≡ false
         → (other : SizeCause) → HasCause other p (SubfileBegun count) → number_of SubfileTooLong ≤ number_of other
     from_long f ModeClash h = absurd (no_mode_at_subfile p count f h)

@@ -6,7 +6,7 @@ use Rattle.std.proofs.lemmas.List.Sums.{sum_by-append}
 use Rattle.iim_dataset.specs.Format.Languages.{IsAlive}
 use Rattle.iim_object.specs.Format.Records.{SizesAreDetermined}
 use Rattle.iim_object.specs.Format.Sizes.{Stated, Agree, number_at, mode_number, sizes_at}
-use Rattle.iim_object.specs.Format.Living.{HasDuties, Fit, IsWhole, NumbersLiveWithoutClash, SubfilesLiveWhileTheyFit, ObjectsEndWhereTheyAreWhole, TotalsAreConfirmed}
+use Rattle.iim_object.specs.Format.Living.{HasDuties, Fit, MeetsAnnounced, NumbersLiveWithoutClash, SubfilesLiveWhileTheyFit, ObjectsEndWhereTheyAreWhole, TotalsAreConfirmed}
 use Rattle.iim_object.specs.Format.Objects.{ObjectToken, SubfileBegun, ObjectEnded, Confirmed, ObjectLanguage, number_tokens}
 use Rattle.iim_object.proofs.Numbers.{numbers_alive, numbers_live, in_row_at, at_least_one, at_most_size, short_ones, sum-ones}
 
@@ -34,7 +34,7 @@ one_at_least : (known : Bool) (subfile : ℕ) (ps : List Stated) → HasDuties k
 one_at_least known subfile ps d = at_least_one subfile (in_row_at 20 subfile ps d.stated.each d.largest)
 
 -- the sizes agree where the subfiles fit and are whole
-pub agree_of : (known : Bool) (subfile : ℕ) (ps : List Stated) (lengths : List ℕ) → Fit known subfile ps lengths → IsWhole ps lengths → Agree (sizes_at known subfile ps lengths) lengths (sum lengths)
+pub agree_of : (known : Bool) (subfile : ℕ) (ps : List Stated) (lengths : List ℕ) → Fit known subfile ps lengths → MeetsAnnounced ps lengths → Agree (sizes_at known subfile ps lengths) lengths (sum lengths)
 agree_of known subfile ps lengths fit whole = record {
   by_mode = fit.by_mode;
   announced_fits = fits (number_at 90 ps) refl;
@@ -54,7 +54,7 @@ agree_of known subfile ps lengths fit whole = record {
     fits (Some a) e = under a e (number_at 95 ps) refl
 
 -- an object of these lengths and no others
-whole_object : (known : Bool) (subfile : ℕ) (ps : List Stated) (lengths : List ℕ) → HasDuties known subfile ps → 0 < length lengths → Fit known subfile ps lengths → IsWhole ps lengths
+whole_object : (known : Bool) (subfile : ℕ) (ps : List Stated) (lengths : List ℕ) → HasDuties known subfile ps → 0 < length lengths → Fit known subfile ps lengths → MeetsAnnounced ps lengths
     → ObjectLanguage (number_tokens ps ++ (map SubfileBegun lengths ++ ending (sum lengths)))
 whole_object known subfile ps lengths d some fit whole = record {
   stated = ps;
@@ -103,13 +103,13 @@ subfiles_alive known subfile ps lengths d some fit = by_announced (number_at 90 
   where
     by_announced : (o : Option ℕ) → number_at 90 ps ≡ o → IsAlive ObjectLanguage (number_tokens ps ++ map SubfileBegun lengths)
     by_announced None e =
-        let whole : IsWhole ps lengths = subst (λ (o : Option ℕ). IfSome o (λ a. sum lengths ≡ a)) (sym e) tt in
+        let whole : MeetsAnnounced ps lengths = subst (λ (o : Option ℕ). IfSome o (λ a. sum lengths ≡ a)) (sym e) tt in
         (ending (sum lengths), subst ObjectLanguage (sym (append_assoc (number_tokens ps) (map SubfileBegun lengths) (ending (sum lengths)))) (whole_object known subfile ps lengths d some fit whole))
     by_announced (Some a) e =
         let h : sum lengths ≤ a = subst (λ (o : Option ℕ). IfSome o (λ x. sum lengths ≤ x)) e fit.announced in
         let more : List ℕ = fill a lengths in
         let all : List ℕ = lengths ++ more in
-        let whole : IsWhole ps all = subst (λ (o : Option ℕ). IfSome o (λ x. sum all ≡ x)) (sym e) (filled_sum a lengths h) in
+        let whole : MeetsAnnounced ps all = subst (λ (o : Option ℕ). IfSome o (λ x. sum all ≡ x)) (sym e) (filled_sum a lengths h) in
         let long : 0 < length all = omega (arith, length-append lengths more) in
         let object = whole_object known subfile ps all d long (filled_fits known subfile ps lengths a d fit e h) whole in
         let parts : number_tokens ps ++ (map SubfileBegun all ++ ending (sum all)) ≡ (number_tokens ps ++ map SubfileBegun lengths) ++ (map SubfileBegun more ++ ending (sum all)) =
@@ -238,7 +238,7 @@ subfiles_law known subfile ps lengths d some = (subfiles_live known subfile ps l
 -- what an object that ends here, with these tokens after it, has
 ended : (known : Bool) (subfile : ℕ) (ps : List Stated) (lengths : List ℕ) (rest : List ObjectToken) → HasDuties known subfile ps → 0 < length lengths
     → ObjectLanguage (number_tokens ps ++ (map SubfileBegun lengths ++ (ObjectEnded ∷ rest)))
-    → Fit known subfile ps lengths × (IsWhole ps lengths × (rest ≡ Confirmed (sum lengths) ∷ []))
+    → Fit known subfile ps lengths × (MeetsAnnounced ps lengths × (rest ≡ Confirmed (sum lengths) ∷ []))
 ended known subfile ps [] rest d some o = absurd (omega arith)
 ended known subfile ps (l ∷ lengths) rest d some o =
     let b = begins ps l lengths (ObjectEnded ∷ rest) o in

@@ -8,7 +8,7 @@ use Rattle.iim_dataset.specs.Format.Datasets.{Dataset, canonical_dataset, canoni
 use Rattle.iim_object.specs.Format.Cuts.{joined_parts, AreFull, IsCut, ObjectsAreCutOneWay}
 use Rattle.iim_object.specs.Format.Packing.{plan_datasets, subfile_dataset, subfile_datasets, confirmed_datasets, number_dataset, object_datasets, IsWritten}
 use Rattle.iim_object.specs.Outputs.{Puts, Cuts}
-use Rattle.iim_object.specs.Format.Writing.{Writing, total_of, begun_octets, StandsAt, Lengthens, Begins, BreaksOff, ContinuesWith, IsTheWhole, Finishes, write_cause}
+use Rattle.iim_object.specs.Format.Writing.{Writing, total_of, octets_out, StandsAt, Lengthens, Begins, BreaksOff, ContinuesWith, IsTheWhole, Finishes, write_cause}
 use Rattle.iim_object.specs.Cutting.{writing_of, HasRoom, Fills, Flushes, Halts}
 use Rattle.iim_object.specs.declared.plan.Plan.{Plan}
 use Rattle.iim_object.specs.declared.output.Output.{Output}
@@ -26,7 +26,7 @@ pub subfiles_append : (ps qs : List (List ℕ)) → subfile_datasets (ps ++ qs) 
 subfiles_append [] qs = refl
 subfiles_append (p ∷ ps) qs = ap (λ (t : List Dataset). subfile_dataset p ∷ t) (subfiles_append ps qs)
 
-pub begun_more : (plan : Plan) (ps qs : List (List ℕ)) → begun_octets plan (ps ++ qs) ≡ begun_octets plan ps ++ canonical_stream (subfile_datasets qs)
+pub begun_more : (plan : Plan) (ps qs : List (List ℕ)) → octets_out plan (ps ++ qs) ≡ octets_out plan ps ++ canonical_stream (subfile_datasets qs)
 begun_more plan ps qs =
     let ds = plan_datasets plan.subfile plan.size in
     ap (λ (t : List Dataset). canonical_stream (ds ++ t)) (subfiles_append ps qs)
@@ -34,7 +34,7 @@ begun_more plan ps qs =
 
 -- all that is written of an object in these parts
 pub whole_is : (plan : Plan) (object : List ℕ) (ps : List (List ℕ))
-    → canonical_stream (object_datasets plan.subfile plan.size object ps) ≡ begun_octets plan ps ++ canonical_stream (confirmed_datasets object)
+    → canonical_stream (object_datasets plan.subfile plan.size object ps) ≡ octets_out plan ps ++ canonical_stream (confirmed_datasets object)
 whole_is plan object ps =
     let ds = plan_datasets plan.subfile plan.size in
     ap canonical_stream (sym (append_assoc ds (subfile_datasets ps) (confirmed_datasets object))) ∙ stream_append (ds ++ subfile_datasets ps) (confirmed_datasets object)
@@ -125,7 +125,7 @@ filled state old new xs join unfailed some f room =
         some = λ empty. absurd (no_less old.held.items xs some (sym f.held ∙ empty));
         sent = f.sent ∙ s.sent;
         within = omega (arith, room.within, room.bound, held_is new);
-        out_is = append-nil out ∙ (s.out_is ∙ ap (λ (p : Plan). begun_octets p s.parts) (sym f.plan));
+        out_is = append-nil out ∙ (s.out_is ∙ ap (λ (p : Plan). octets_out p s.parts) (sym f.plan));
         written = ap (λ o. o.written) f.output ∙ (s.written ∙ ap length (sym (append-nil out)));
       };
     }
@@ -157,8 +157,8 @@ flushed state old mid new xs join unfailed full some f h room =
         sent = omega (arith, h.sent, f.sent, held_is old, s.sent, ap length (joined_append s.parts old.held.items), length-append (joined_parts s.parts) old.held.items);
         within = omega (arith, room.within, room.bound, held_is new);
         out_is = ap (λ (t : List ℕ). t ++ text) s.out_is
-            ∙ (ap (λ (t : List ℕ). begun_octets old.plan s.parts ++ t) (sym (append-nil text))
-            ∙ (sym (begun_more old.plan s.parts (old.held.items ∷ [])) ∙ ap (λ (p : Plan). begun_octets p (s.parts ++ old.held.items ∷ [])) (sym plans)));
+            ∙ (ap (λ (t : List ℕ). octets_out old.plan s.parts ++ t) (sym (append-nil text))
+            ∙ (sym (begun_more old.plan s.parts (old.held.items ∷ [])) ∙ ap (λ (p : Plan). octets_out p (s.parts ++ old.held.items ∷ [])) (sym plans)));
         written = ap (λ o. o.written) h.output ∙ omega (arith, f.put.counted, s.written, length-append out text);
       };
     }
@@ -171,14 +171,14 @@ front_length n text lt = omega (arith, lt, length-take n text)
 -- the whole after full parts that are out, and one more
 parted : (plan : Plan) (object : List ℕ) (ps others : List (List ℕ)) (p : List ℕ)
     → canonical_stream (object_datasets plan.subfile plan.size object ((ps ++ p ∷ []) ++ others))
-    ≡ begun_octets plan ps ++ (canonical_dataset (subfile_dataset p) ++ (canonical_stream (subfile_datasets others) ++ canonical_stream (confirmed_datasets object)))
+    ≡ octets_out plan ps ++ (canonical_dataset (subfile_dataset p) ++ (canonical_stream (subfile_datasets others) ++ canonical_stream (confirmed_datasets object)))
 parted plan object ps others p =
     let text : List ℕ = canonical_dataset (subfile_dataset p) in
     let tail : List ℕ = canonical_stream (confirmed_datasets object) in
     let more : List ℕ = canonical_stream (subfile_datasets others) in
     whole_is plan object ((ps ++ p ∷ []) ++ others)
-    ∙ (ap (λ (t : List ℕ). t ++ tail) (begun_more plan (ps ++ p ∷ []) others ∙ ap (λ (t : List ℕ). t ++ more) (begun_more plan ps (p ∷ []) ∙ ap (λ (t : List ℕ). begun_octets plan ps ++ t) (append-nil text)))
-    ∙ (append_assoc (begun_octets plan ps ++ text) more tail ∙ append_assoc (begun_octets plan ps) text (more ++ tail)))
+    ∙ (ap (λ (t : List ℕ). t ++ tail) (begun_more plan (ps ++ p ∷ []) others ∙ ap (λ (t : List ℕ). t ++ more) (begun_more plan ps (p ∷ []) ∙ ap (λ (t : List ℕ). octets_out plan ps ++ t) (append-nil text)))
+    ∙ (append_assoc (octets_out plan ps ++ text) more tail ∙ append_assoc (octets_out plan ps) text (more ++ tail)))
 
 regroup : (object joined held octets rest : List ℕ) → object ≡ joined ++ held → (object ++ octets) ++ rest ≡ (joined ++ held) ++ (octets ++ rest)
 regroup object joined held octets rest e = append_assoc object octets rest ∙ ap (λ (t : List ℕ). t ++ (octets ++ rest)) e
@@ -250,7 +250,7 @@ ended w object out s =
     let last : List ℕ = canonical_dataset (number_dataset 9 10 (total_of w)) in
     let number : canonical_stream (confirmed_datasets object) ≡ last = append-nil (canonical_dataset (number_dataset 9 10 (length object))) ∙ ap (λ (n : ℕ). canonical_dataset (number_dataset 9 10 n)) (total_is w object out s) in
     whole_is w.plan object (s.parts ++ w.held ∷ [])
-    ∙ ((λ i. (begun_more w.plan s.parts (w.held ∷ []) ∙ (ap (λ (t : List ℕ). begun_octets w.plan s.parts ++ t) (append-nil text) ∙ ap (λ (t : List ℕ). t ++ text) (sym s.out_is))) i ++ number i)
+    ∙ ((λ i. (begun_more w.plan s.parts (w.held ∷ []) ∙ (ap (λ (t : List ℕ). octets_out w.plan s.parts ++ t) (append-nil text) ∙ ap (λ (t : List ℕ). t ++ text) (sym s.out_is))) i ++ number i)
     ∙ append_assoc out text last)
 
 pub finished : {W : Type 0} (state : W → Device) (old : Cutter W) (last : Output W) → Puts state old.output last (ending_of (writing_of old)) → Finishes state (writing_of old) last.writer

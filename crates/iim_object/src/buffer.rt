@@ -1,6 +1,6 @@
 //! Room for the octets of a subfile.
 
-ghost use Rattle.std.specs.Prelude.{◌≡◌, ◌≤◌, [], IfOk, vec_len, vec_capacity};
+ghost use Rattle.std.specs.Prelude.{◌≡◌, IfOk};
 ghost use Rattle.iim_object.specs.Format.Writing.{room_of};
 
 use crate::plan::Plan;
@@ -34,7 +34,11 @@ impl SubfileBuffer {
         let octets = Vec::with_capacity(alloc, room)?;
         Ok(SubfileBuffer { plan, octets })
     }
-}
 
-#[cfg(test)]
-mod tests;
+    /// How many octets it has room for: the lesser of a subfile and the plan's bound.
+    pub fn room(&self) -> usize
+        ensures { result ≡ room_of self.now }
+    {
+        self.octets.capacity()
+    }
+}

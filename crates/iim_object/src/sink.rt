@@ -1,6 +1,6 @@
 //! Where the octets of an object go.
 
-ghost use Rattle.std.specs.Prelude.{◌≡◌, ◌<◌, ◌++◌, [], ◌∷◌, List, ℕ, length, map, take, slice_index, IfErr, OnOk, OnErr};
+ghost use Rattle.std.specs.Prelude.{◌≡◌, ◌<◌, ◌++◌, [], ◌∷◌, List, length, map, take, slice_index, IfErr, OnOk, OnErr};
 ghost use Rattle.iim_object.specs.Format.Events.{ObjectEvent, ObjectOctet, ObjectEnd};
 
 use iim_dataset::Stop;

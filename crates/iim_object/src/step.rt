@@ -1,6 +1,6 @@
 //! How each token leads on.
 
-ghost use Rattle.std.specs.Prelude.{◌≡◌, Some, IfOk, IfErr, OnOk};
+ghost use Rattle.std.specs.Prelude.{Some, IfOk, IfErr, OnOk};
 ghost use Rattle.iim_object.specs.Format.Objects.{NumberRead, SubfileBegun, ObjectEnded, Confirmed};
 ghost use Rattle.iim_object.specs.Format.Reading.{LeadsOn, LivesWith, Refuses};
 ghost use Rattle.iim_object.specs.Format.States.{IsState};

@@ -14,7 +14,7 @@ use Rattle.iim_object.specs.declared.size.Size.{Size}
 use Rattle.iim_object.specs.declared.size.Size.TheVariants.{Known, Unknown}
 use Rattle.iim_object.specs.declared.cause.StartFault.{StartFault}
 use Rattle.iim_object.specs.declared.cause.PackCause.TheVariants as causes
-use Rattle.iim_pack.specs.Starting.{Opens, BeginsWith}
+use Rattle.iim_pack.specs.Starting.{Opens, IsWrittenFrom}
 use Rattle.iim_pack.specs.Format.Starting.{Halts}
 use Rattle.iim_pack.proofs.FieldsOut.{stream_append}
 
@@ -40,7 +40,7 @@ whole_begins plan xs whole w = w.octets_are ∙ stream_append (plan_datasets pla
 
 -- record 7 could not be written
 pub not_begun : {W : Type 0} (state : W → Device) (writer : W) (plan : Plan) (front : List ℕ) (fault : StartFault W) → fault.cause ≡ causes.Write → Stopped (state writer) (state fault.writer) (plan_octets plan) fault.written
-    → Halts state (BeginsWith plan front) writer fault
+    → Halts state (IsWrittenFrom plan front) writer fault
 not_begun state writer plan front fault cause s = record {
   cause_is = cause;
   out = take fault.written (plan_octets plan);
@@ -64,7 +64,7 @@ opened state writer plan front first new join is_plan s wrote l = record {
 -- the octets of the beginning could not be written
 pub opening_broke : {W : Type 0} (state : W → Device) (writer : W) (plan : Plan) (front : List ℕ) (first new : Writing W) (fault : StartFault W) → TextsJoin → first.plan ≡ plan → StandsAt first [] (plan_octets plan)
     → Wrote (state writer) (state first.writer) (plan_octets plan) → BreaksOff state (ContinuesWith first.plan front) first new → fault.cause ≡ causes.Write → fault.writer ≡ new.writer → fault.written ≡ new.written
-    → Halts state (BeginsWith plan front) writer fault
+    → Halts state (IsWrittenFrom plan front) writer fault
 opening_broke state writer plan front first new fault join is_plan s wrote k cause handed written = record {
   cause_is = cause;
   out = plan_octets plan ++ k.more;

@@ -14,7 +14,7 @@ use Rattle.wire_story.specs.Format.Texts.{packed_text}
 use Rattle.wire_message.specs.Format.Messages.{Header, IsHeader}
 use Rattle.wire_message.specs.Format.Canonical.{packed_head, packed_tail}
 use Rattle.iim_pack.specs.Format.Packing.{FormWith}
-use Rattle.iim_pack.specs.Starting.{Opens, BeginsWith}
+use Rattle.iim_pack.specs.Starting.{Opens, IsWrittenFrom}
 use Rattle.iim_pack.specs.Format.Starting.{Halts, Starts}
 use Rattle.iim_pack.proofs.Goings.{begins_after}
 use Rattle.iim_pack.proofs.Openings.{begins_by}
@@ -33,7 +33,7 @@ fields_broke state writer fields head plan fault cause s = record {
 
 -- the object could not be begun after them
 pub object_broke : {W : Type 0} (state : W → Device) (writer first : W) (fields : List Dataset) (head : Header) (plan : Plan) (before : ℕ) (fault new : StartFault W) → TextsJoin → Wrote (state writer) (state first) (canonical_stream fields)
-    → before ≡ length (canonical_stream fields) → Halts state (BeginsWith plan (packed_head head)) first fault → new.cause ≡ fault.cause → new.writer ≡ fault.writer → new.written ≡ before + fault.written
+    → before ≡ length (canonical_stream fields) → Halts state (IsWrittenFrom plan (packed_head head)) first fault → new.cause ≡ fault.cause → new.writer ≡ fault.writer → new.written ≡ before + fault.written
     → Halts state (FormWith fields head plan []) writer new
 object_broke state writer first fields head plan before fault new join wrote counted h cause handed written = record {
   cause_is = cause ∙ h.cause_is;

@@ -17,5 +17,5 @@ pub record Opens {W : Type 0} (state : W → Device) (writer : W) (plan : Plan) 
   pub total : total_of w ≡ length front
 
 -- what is written of an object that begins so
-abbrev pub BeginsWith : Plan → List ℕ → List ℕ → Type 0
-BeginsWith plan front whole = (rest : List ℕ) × IsWritten plan.subfile plan.size (front ++ rest) whole
+abbrev pub IsWrittenFrom : Plan → List ℕ → List ℕ → Type 0
+IsWrittenFrom plan front whole = (rest : List ℕ) × IsWritten plan.subfile plan.size (front ++ rest) whole

@@ -1,7 +1,7 @@
 //! Why a packer refuses a call, by numbers alone.
 
 ghost use Rattle.std.specs.Prelude.{◌≡◌, ◌+◌, ◌<◌, ◌^◌};
-ghost use Rattle.iim_object.specs.Format.Writing.{is_short, most_of};
+ghost use Rattle.iim_object.specs.Format.Writing.{is_short};
 ghost use Rattle.iim_pack.specs.Format.Packing.{is_past, ending_cause};
 ghost use Rattle.iim_pack.specs.Format.Packing as words;
 

@@ -1,7 +1,6 @@
 //! Records 1 and 2, written.
 
-ghost use Rattle.std.specs.Prelude.{◌≡◌, ◌+◌, ◌<◌, ◌≤◌, ◌^◌, length, IfOk, IfErr, OnOk};
-ghost use Rattle.std.specs.List.{AllByRecursion};
+ghost use Rattle.std.specs.Prelude.{◌≡◌, ◌+◌, ◌<◌, ◌^◌, length, IfOk, IfErr, OnOk};
 ghost use Rattle.iim_dataset.specs.Format.Datasets.{canonical_dataset, canonical_stream, count_octets};
 ghost use Rattle.iim_dataset.specs.Format.Devices.{Wrote, Stopped};
 ghost use Rattle.iim_fields.specs.Format.Builders.{IsEnvelope};

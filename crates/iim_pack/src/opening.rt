@@ -1,8 +1,8 @@
 //! The beginning of an object.
 
-ghost use Rattle.std.specs.Prelude.{◌≡◌, ◌<◌, ◌≤◌, ◌^◌, length, IfOk, IfErr};
+ghost use Rattle.std.specs.Prelude.{◌<◌, ◌≤◌, ◌^◌, length, IfOk, IfErr};
 ghost use Rattle.iim_object.specs.Format.Writing.{most_of};
-ghost use Rattle.iim_pack.specs.Starting.{Opens, BeginsWith};
+ghost use Rattle.iim_pack.specs.Starting.{Opens, IsWrittenFrom};
 ghost use Rattle.iim_pack.specs.Format.Starting.{Halts};
 
 use iim_dataset::Target;
@@ -17,7 +17,7 @@ pub(crate) fn open_object<W: Target>(
 ) -> Result<SubfileWriter<W>, StartFault<W>>
     requires { length front.now ≤ most_of buffer }
     ensures ok { IfOk result (Opens W.state writer buffer front.now) }
-    ensures err { IfErr result (Halts W.state (BeginsWith buffer front.now) writer) }
+    ensures err { IfErr result (Halts W.state (IsWrittenFrom buffer front.now) writer) }
     ensures small { IfErr result (λ fault. fault.written < 2 ^ 40) }
 {
     texts_join();

@@ -1,9 +1,9 @@
 //! The packer.
 
-ghost use Rattle.std.specs.Prelude.{◌≡◌, ◌<◌, ◌^◌, [], ◌∷◌, map, length, IfOk, IfErr, OnOk, OnErr, IfSome, IfNone, MatchResult, Err};
+ghost use Rattle.std.specs.Prelude.{◌≡◌, ◌<◌, ◌^◌, [], ◌∷◌, map, IfOk, IfErr, OnOk, OnErr, IfSome, IfNone, MatchResult, Err};
 ghost use Rattle.wire_story.specs.Format.Delivery.{LineOctet, LineEnd};
 ghost use Rattle.iim_pack.specs.Format.Packing.{Lengthens, BreaksOff, ContinuesWith, EndsIn, Finishes, start_cause, text_cause, line_end_cause, finish_cause, written_of};
-ghost use Rattle.iim_pack.specs.Format.Starting.{Starts, IsRefused, IsStartFault};
+ghost use Rattle.iim_pack.specs.Format.Starting.{Starts, StartIsRefused, IsStartFault};
 ghost use Rattle.iim_pack.specs.Format.Begun.{HasBegun, ContinuesBegun, EndsBegun};
 ghost use Rattle.iim_pack.specs.Format.Orders.{IsFirstOf, AgainstStart, AgainstText, AgainstLineEnd, AgainstFinish};
 ghost use Rattle.iim_object.specs.declared.cause.PackCause.TheVariants as causes;
@@ -64,7 +64,7 @@ impl<W: Target> Packer<W> {
         plan: Plan,
         mut writer: W,
     ) -> Result<Packer<W>, StartFault<W>>
-        ensures refused { IfSome (start_cause head.now plan) (λ cause. MatchResult result (λ _. ⊥) (IsRefused cause writer)) }
+        ensures refused { IfSome (start_cause head.now plan) (λ cause. MatchResult result (λ _. ⊥) (StartIsRefused cause writer)) }
         ensures order { IsFirstOf (AgainstStart head.now plan) (causes.PastAnnounced ∷ []) (start_cause head.now plan) }
         ensures ok { IfOk result (Starts W.state writer envelope.now head.now plan) }
         ensures begun { IfOk result (λ k. HasBegun W.state (W.state writer) k envelope.now head.now [] plan) }

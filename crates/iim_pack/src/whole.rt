@@ -1,12 +1,11 @@
 //! A whole envelope, packed in one call.
 
-ghost use Rattle.std.specs.Prelude.{◌≡◌, [], ◌∷◌, length, IfOk, IfErr, IfSome, IfNone, MatchResult};
-ghost use Rattle.wire_message.specs.Format.Canonical.{canonical};
+ghost use Rattle.std.specs.Prelude.{◌≡◌, [], ◌∷◌, IfOk, IfErr, IfSome, IfNone, MatchResult};
 ghost use Rattle.iim_pack.specs.Format.Packing.{written_of};
 ghost use Rattle.iim_pack.specs.Format.Packing as words;
 ghost use Rattle.iim_object.specs.declared.cause.PackCause.TheVariants as causes;
 ghost use Rattle.iim_pack.specs.Format.Orders.{IsFirstOf, AgainstPack};
-ghost use Rattle.iim_pack.specs.Format.Starting.{IsRefused};
+ghost use Rattle.iim_pack.specs.Format.Starting.{StartIsRefused};
 ghost use Rattle.iim_pack.specs.Format.Whole.{Packs, IsPackFault};
 
 use crate::cause::is_short;
@@ -73,7 +72,7 @@ pub fn pack<W: Target>(
     plan: Plan,
     writer: W,
 ) -> Result<W, StartFault<W>>
-    ensures refused { IfSome (words.pack_cause head.now lines.now.lines trailer.now plan) (λ cause. MatchResult result (λ _. ⊥) (IsRefused cause writer)) }
+    ensures refused { IfSome (words.pack_cause head.now lines.now.lines trailer.now plan) (λ cause. MatchResult result (λ _. ⊥) (StartIsRefused cause writer)) }
     ensures order { IsFirstOf (AgainstPack head.now lines.now.lines trailer.now plan) (causes.BadTrailer ∷ causes.PastAnnounced ∷ causes.ShortOfAnnounced ∷ [])
         (words.pack_cause head.now lines.now.lines trailer.now plan) }
     ensures ok { IfOk result (Packs W.state writer envelope.now head.now lines.now.lines trailer.now plan) }

@@ -9,10 +9,10 @@ use Rattle.wire_message.specs.Format.Messages.{Header, IsTrailer}
 use Rattle.iim_script.specs.Format.Lines.{HasNo, EndsLine, NextLine, EndLines}
 use Rattle.iim_script.specs.Format.Forms.{TellsField, TellsHead, TellsTrailer, text_word}
 use Rattle.iim_dataset.specs.Format.Octets.{is_digit}
-use Rattle.iim_script.specs.Adding.{Adds, RefusesLine}
+use Rattle.iim_script.specs.Adding.{AddsField, RefusesLine}
 use Rattle.iim_script.specs.Format.Scripts.{TellFields, AreTaken, IsFront, max_script}
 use Rattle.iim_script.specs.Format.Faults.{Stage, InFields, AfterMessage, AfterTrailer, HaveCome, Stands, TellsNoField, TellsNoHead, TellsNoTrailer, IsNextWrong, IsFrontFault, IsScriptFault}
-use Rattle.iim_script.specs.Steps.{number_after, NextIs, LacksNext, NextMustBe, RefusesFields, RefusesHead, TakesTrailer, RefusesTrailer, RefusesText, RefusesEnd}
+use Rattle.iim_script.specs.Steps.{number_after, NextIs, LacksNext, NextMustBe, RefusesFields, RefusesHeader, TakesTrailer, RefusesTrailer, RefusesText, RefusesEnvelope}
 use Rattle.iim_script.specs.declared.fault.ScriptCause.{ScriptCause}
 use Rattle.iim_script.specs.declared.fault.ScriptCause.TheVariants.{ScriptLine, ScriptTooLong, Field, BadTrailer, BadTextOctet, OutOfMemory}
 use Rattle.iim_script.proofs.Names.{and_both}
@@ -181,7 +181,7 @@ head_wrong limits ds rest must (inl none) = inl (none, refl)
 head_wrong limits ds rest must (inr (after, (line, n, h))) = inr (line, after, n, (must line after n, h))
 
 pub head_fault : (limits : Limits) (script rest : List ℕ) (ds : List Dataset) (count number : ℕ) (cause : ScriptCause) → length script ≤ max_script
-    → Stands limits script (InFields ds) rest count → NextMustBe TellsNoField rest → RefusesHead rest count number cause → IsScriptFault limits script number cause
+    → Stands limits script (InFields ds) rest count → NextMustBe TellsNoField rest → RefusesHeader rest count number cause → IsScriptFault limits script number cause
 head_fault limits script rest ds count number ScriptLine few s must r =
     (few, wrong_front limits script rest (InFields ds) count number ScriptLine s r.0 (head_wrong limits ds rest must r.1))
 head_fault limits script rest ds count number ScriptTooLong few s must r = absurd r
@@ -221,7 +221,7 @@ text_fault limits script rest ds head trailer count number BadTextOctet few p r 
 text_fault limits script rest ds head trailer count number OutOfMemory few p r = absurd r
 
 pub end_fault : (limits : Limits) (script rest after : List ℕ) (ds : List Dataset) (head : Header) (trailer : List ℕ) (count number : ℕ) (cause : ScriptCause) → length script ≤ max_script
-    → Past limits script ds head trailer rest count → NextLine rest text_word after → RefusesEnd ds count number cause → IsScriptFault limits script number cause
+    → Past limits script ds head trailer rest count → NextLine rest text_word after → RefusesEnvelope ds count number cause → IsScriptFault limits script number cause
 end_fault limits script rest after ds head trailer count number ScriptLine few p n r = absurd r
 end_fault limits script rest after ds head trailer count number ScriptTooLong few p n r = absurd r
 end_fault limits script rest after ds head trailer count number (Field cause) few (inl (s, must, empty)) n (e, fault, missing, is) =
@@ -233,7 +233,7 @@ end_fault limits script rest after ds head trailer count number BadTextOctet few
 end_fault limits script rest after ds head trailer count number OutOfMemory few p n r = absurd r
 
 pub fields_added : (limits : Limits) (script rest line after : List ℕ) (old new : Building) (count : ℕ) → old.limits ≡ limits → Stands limits script (InFields old.fields) rest count
-    → NextLine rest line after → Adds line old new → Stands limits script (InFields new.fields) after (count + 1)
+    → NextLine rest line after → AddsField line old new → Stands limits script (InFields new.fields) after (count + 1)
 fields_added limits script rest line after old new count same s n a =
     subst (λ (ds : List Dataset). Stands limits script (InFields ds) after (count + 1)) (sym a.fields)
     (stands_field limits script rest line after old.fields a.dataset count s n a.told

@@ -13,7 +13,7 @@ use Rattle.wire_message.specs.Format.Fields as message
 use Rattle.wire_message.specs.Format.Messages.{Header, IsHeader}
 use Rattle.wire_story.specs.Format.Texts.{IsLine, is_line_octet}
 use Rattle.iim_script.specs.Format.Lines.{HasNo, EndsLine, EndLines}
-use Rattle.iim_script.specs.Format.Shown.{IsHexDigit, TellsOctet, Tells, TellsLast}
+use Rattle.iim_script.specs.Format.Shown.{IsHexDigit, TellsOctet, TellsOctets, TellsLast}
 use Rattle.iim_script.specs.Format.Forms.{TellsNumber, TellsField, TellsHead, TellsTrailer, decimal_from, message_word, trailer_word, words_of, after_source, after_number, after_priority, after_category}
 use Rattle.iim_dataset.specs.Format.Shown.{hex_digit, escape, is_plain, shown_octet, shown, padding, dataset_name}
 use Rattle.iim_script.specs.Format.Printed.{after_space, field_line, message_line, trailer_line, PrintsStory}
@@ -40,7 +40,7 @@ octet_by octet false e h = inr (
 )
 
 -- shown octets tell the octets
-pub shown_tells : (xs : List ℕ) → Octets xs → Tells (shown xs) xs
+pub shown_tells : (xs : List ℕ) → Octets xs → TellsOctets (shown xs) xs
 shown_tells [] h = refl
 shown_tells (x ∷ xs) h = (shown xs, (shown_octet x, octet_by x (is_plain x) refl h.0, refl), shown_tells xs h.1)
 

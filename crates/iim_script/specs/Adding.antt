@@ -8,7 +8,7 @@ use Rattle.iim_script.specs.declared.fault.ScriptCause.{ScriptCause}
 use Rattle.iim_script.specs.declared.fault.ScriptCause.TheVariants.{ScriptLine, Field, OutOfMemory}
 
 -- The line tells a dataset, which the builder takes.
-pub record Adds (line : List ℕ) (old new : Building) : Type 0 where
+pub record AddsField (line : List ℕ) (old new : Building) : Type 0 where
   pub dataset : Dataset
   pub told : TellsField line dataset
   pub taken : add_fault old.limits old.fields dataset ≡ None

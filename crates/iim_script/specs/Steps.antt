@@ -37,10 +37,10 @@ RefusesFields limits script number OutOfMemory = number ≡ 0
 RefusesFields limits script number _ = ⊥
 
 -- The header's line is missing, or tells none.
-abbrev pub RefusesHead : List ℕ → ℕ → ℕ → ScriptCause → Type 0
-RefusesHead rest count number ScriptLine = (number ≡ count + 1) × LacksNext TellsNoHead rest
-RefusesHead rest count number OutOfMemory = number ≡ 0
-RefusesHead rest count number _ = ⊥
+abbrev pub RefusesHeader : List ℕ → ℕ → ℕ → ScriptCause → Type 0
+RefusesHeader rest count number ScriptLine = (number ≡ count + 1) × LacksNext TellsNoHead rest
+RefusesHeader rest count number OutOfMemory = number ≡ 0
+RefusesHeader rest count number _ = ⊥
 
 -- A trailer of the next line; or none, where that line tells none.
 abbrev pub TakesTrailer : List ℕ → ℕ → List ℕ → List ℕ → ℕ → Type 0
@@ -59,9 +59,9 @@ RefusesText rest count number ScriptLine = (number ≡ count + 1) × LacksNext (
 RefusesText rest count number _ = ⊥
 
 -- The datasets make no envelope.
-abbrev pub RefusesEnd : List Dataset → ℕ → ℕ → ScriptCause → Type 0
-RefusesEnd ds count number (Field cause) = (number ≡ count + 1) × (fault : FieldFault) × (finish_fault ds ≡ Some fault) × (cause ≡ fault.cause)
-RefusesEnd ds count number _ = ⊥
+abbrev pub RefusesEnvelope : List Dataset → ℕ → ℕ → ScriptCause → Type 0
+RefusesEnvelope ds count number (Field cause) = (number ≡ count + 1) × (fault : FieldFault) × (finish_fault ds ≡ Some fault) × (cause ≡ fault.cause)
+RefusesEnvelope ds count number _ = ⊥
 
 -- A line of the story is wrong.
 abbrev pub RefusesStory : List ℕ → ℕ → ℕ → ScriptCause → Type 0

@@ -1,11 +1,10 @@
 //! Lines that tell a dataset.
 
-ghost use Rattle.std.specs.Prelude.{◌≡◌, ◌≢◌, ◌++◌, ◌∷◌, [], not, ℕ, List, IfOk, IfErr, OnOk, OnErr, IfSome, IfNone};
+ghost use Rattle.std.specs.Prelude.{◌≡◌, not, ℕ, List, IfErr, OnOk, OnErr, IfSome, IfNone};
 ghost use Rattle.std.specs.List.{position_or_len};
-ghost use Rattle.iim_dataset.specs.Format.Datasets.{Dataset};
-ghost use Rattle.iim_script.specs.Format.Forms.{TellsField, TellsNames};
+ghost use Rattle.iim_script.specs.Format.Forms.{TellsNames};
 ghost use Rattle.iim_dataset.specs.Format.Octets.{is_digit};
-ghost use Rattle.iim_script.specs.Adding.{Adds, RefusesLine};
+ghost use Rattle.iim_script.specs.Adding.{AddsField, RefusesLine};
 
 use crate::fault::ScriptCause;
 use crate::line::cut_at;
@@ -50,7 +49,7 @@ pub(crate) fn add_line(
     line: &[u8],
     builder: &mut EnvelopeBuilder,
 ) -> Result<(), ScriptCause>
-    ensures added { OnOk result (Adds line.now builder.old builder.new) }
+    ensures added { OnOk result (AddsField line.now builder.old builder.new) }
     ensures refused { IfErr result (RefusesLine line.now builder.old) }
     ensures unchanged { OnErr result (builder.new ≡ builder.old) }
 {

@@ -1,6 +1,6 @@
 //! The lines that tell the message's header and its trailer.
 
-ghost use Rattle.std.specs.Prelude.{◌≡◌, ◌++◌, ◌∷◌, ℕ, List, IfOk, IfSome, IfNone};
+ghost use Rattle.std.specs.Prelude.{ℕ, List, IfOk, IfSome, IfNone};
 ghost use Rattle.wire_message.specs.Format.Messages.{Header};
 ghost use Rattle.iim_script.specs.Format.Forms.{HeadWords, AreWords, TellsHead, TellsTrailer};
 

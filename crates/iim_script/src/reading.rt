@@ -7,7 +7,7 @@ ghost use Rattle.iim_dataset.specs.Format.Octets.{is_digit};
 ghost use Rattle.iim_script.specs.Format.Lines.{NextLine};
 ghost use Rattle.iim_script.specs.Format.Scripts.{IsFront, IsScript};
 ghost use Rattle.iim_script.specs.Format.Faults.{Stands, InFields, TellsNoField, IsScriptFault};
-ghost use Rattle.iim_script.specs.Steps.{NextIs, NextMustBe, RefusesFields, RefusesHead, TakesTrailer, RefusesTrailer, RefusesText, RefusesEnd};
+ghost use Rattle.iim_script.specs.Steps.{NextIs, NextMustBe, RefusesFields, RefusesHeader, TakesTrailer, RefusesTrailer, RefusesText, RefusesEnvelope};
 
 use crate::fault::{ScriptCause, ScriptFault, fault_after};
 use crate::field::add_line;
@@ -83,7 +83,7 @@ fn read_fields<'a>(
 fn read_head<'a>(alloc: Global, rest: Rest<'a>) -> Result<(MessageHead, Rest<'a>), ScriptFault>
     ensures told { IfOk result (λ read. NextIs (λ line. TellsHead line read.0) rest.entry.octets.now read.1.octets.now) }
     ensures counted { IfOk result (λ read. read.1.lines ≡ rest.entry.lines + 1) }
-    ensures fault { IfErr result (λ fault. RefusesHead rest.entry.octets.now rest.entry.lines fault.line fault.cause) }
+    ensures fault { IfErr result (λ fault. RefusesHeader rest.entry.octets.now rest.entry.lines fault.line fault.cause) }
 {
     let Some((line, after)) = next_line(rest.octets) else {
         return Err(fault_after(rest.lines, ScriptCause::ScriptLine));
@@ -149,7 +149,7 @@ fn finish(builder: EnvelopeBuilder, lines: u64) -> Result<Envelope, ScriptFault>
     requires { lines ≤ 16777216 }
     ensures whole { OnOk result (finish_fault builder.fields ≡ None) }
     ensures envelope { IfOk result (λ envelope. envelope ≡ builder.fields) }
-    ensures fault { IfErr result (λ fault. RefusesEnd builder.fields lines fault.line fault.cause) }
+    ensures fault { IfErr result (λ fault. RefusesEnvelope builder.fields lines fault.line fault.cause) }
 {
     match builder.finish() {
         Ok(envelope) => Ok(envelope),

@@ -1,7 +1,7 @@
 //! Octets that are shown as text, read back.
 
-ghost use Rattle.std.specs.Prelude.{◌≡◌, ◌+◌, ◌≤◌, ◌++◌, ◌∷◌, ℕ, List, IfOk, IfSome, IfNone};
-ghost use Rattle.iim_script.specs.Format.Shown.{IsHexDigit, IsOfDigits, BeginsWith, Tells, TellsLast};
+ghost use Rattle.std.specs.Prelude.{◌+◌, ◌≤◌, ◌∷◌, ℕ, List, IfOk, IfSome, IfNone};
+ghost use Rattle.iim_script.specs.Format.Shown.{IsHexDigit, IsOfDigits, BeginsWith, TellsOctets, TellsLast};
 
 use std::alloc::{AllocError, Global};
 
@@ -68,8 +68,8 @@ fn first_octet(shown: &[u8]) -> Option<(u8, &[u8])>
 
 /// The octets that are shown. None where a backslash begins no escape.
 pub(crate) fn unshown(alloc: Global, shown: &[u8]) -> Result<Option<Vec<u8>>, AllocError>
-    ensures some { IfOk result (λ told. IfSome told (λ octets. Tells shown.now octets.items)) }
-    ensures none { IfOk result (λ told. IfNone told ((octets : List ℕ) → Tells shown.now octets → ⊥)) }
+    ensures some { IfOk result (λ told. IfSome told (λ octets. TellsOctets shown.now octets.items)) }
+    ensures none { IfOk result (λ told. IfNone told ((octets : List ℕ) → TellsOctets shown.now octets → ⊥)) }
 {
     let mut octets = Vec::new(alloc);
     let mut rest = shown;

@@ -21,7 +21,7 @@ use Rattle.wire_message.specs.Format.Saved.{IsAt, LeadToSaved}
 use Rattle.wire_message.specs.declared.place.Place.{Place as Message}
 use Rattle.wire_message.specs.declared.saved.MessagePlace.{MessagePlace}
 use Rattle.iim_unpack.specs.Format.Begins.{AreNumbers, IsSize}
-use Rattle.iim_unpack.specs.ByLayers.{RecordsLive, head_at}
+use Rattle.iim_unpack.specs.ByLayers.{RecordsLive, head_of_numbers}
 use Rattle.iim_unpack.specs.Plain.{number_list}
 use Rattle.iim_unpack.specs.Possible.{texts_of}
 use Rattle.iim_unpack.specs.Format.Possible.{widest}
@@ -55,7 +55,7 @@ pub taken_alive : (check : Option RecordPlace) (ds : List Dataset) (h : Head) �
 taken_alive check ds h taken = elim (eqb_tells h.rec 8) [
   | inl eight ↦
       let d : Dataset = record { rec = h.rec; set = h.set; octets = replicate h.count 0 } in
-      let is : head_of d ≡ h = ap (λ (n : ℕ). head_at h.rec h.set n) (length-replicate h.count 0) in
+      let is : head_of d ≡ h = ap (λ (n : ℕ). head_of_numbers h.rec h.set n) (length-replicate h.count 0) in
       (d, is, (taken.subfile eight.1 d is (zeros h.count)).alive)
   | inr other ↦ (taken.checking other.1).alive
 ]
@@ -72,7 +72,7 @@ dies_at old h (Err e) fault no' ds s alive = (fault ds s).dead alive
 
 pub live_alive : (section : ℕ) (phase : Phase) (ds : List Dataset) → RecordsLive section phase ds → SectionsLive ds
 live_alive section (TagBegun held) ds lives = lives.1
-live_alive section (DataBegun set count left taken) ds lives = head_alive ds (head_at section set count) lives
+live_alive section (DataBegun set count left taken) ds lives = head_alive ds (head_of_numbers section set count) lives
 live_alive section AllEnded ds lives = lives.1
 
 pub fits_told : (numbers : List (Option ℕ)) → AreNumbers numbers → AllByRecursion IsSize (number_list (numbers_told numbers))

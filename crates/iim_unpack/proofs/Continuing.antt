@@ -29,7 +29,7 @@ use Rattle.iim_unpack.specs.Format.Open.{AllCanContinue, object_so_far}
 use Rattle.iim_unpack.specs.Format.Streams.{IsEnvelopeWithin}
 use Rattle.iim_unpack.specs.Format.Tokens.{CanContinue}
 use Rattle.iim_unpack.specs.Format.Tickets.{Place, TagBegun, AllEnded, IsPlaceOf, heads_of, phase_of, place_of}
-use Rattle.iim_unpack.specs.Format.Open.{Adds, IsOpen, IsTextOf, OpenOctetsBeginWithNoEnvelope}
+use Rattle.iim_unpack.specs.Format.Open.{Delivers, IsOpen, IsTextOf, OpenOctetsBeginWithNoEnvelope}
 use Rattle.iim_unpack.specs.LowerLaws.{OnwardLaws}
 use Rattle.iim_unpack.proofs.Answering.{Lives, goes_envelope, leads_to, lives_envelope, lives_open, one_reading, reads_envelope}
 use Rattle.iim_unpack.proofs.Following.{alive_of, message_of, story_of, within_of}
@@ -266,7 +266,7 @@ cancel [] x y e = e
 cancel (a ∷ t) x y e = cancel t x y (let tails : t ++ x ≡ t ++ y = cc in tails)
 
 pub adds_as : OnwardLaws → (limits : Limits) (p q more : List ℕ) (ds es : List Dataset) (c d : Begun) → Reads count_octets p ds c → Reads count_octets q es d → SameMessage (object_so_far ds c) (object_so_far es d) → (W : List Dataset) (b : Begun) → Reads count_octets (p ++ more) W b
-    → ReadAlike limits (q ++ more) (object_so_far ds c) (object_so_far es d) W b → (events : List story.StoryEvent) → Adds p more events → Adds q more events
+    → ReadAlike limits (q ++ more) (object_so_far ds c) (object_so_far es d) W b → (events : List story.StoryEvent) → Delivers p more events → Delivers q more events
 adds_as laws limits p q more ds es c d r s m W b w read events adds text is =
     let o = object_so_far ds c in
     let x = object_so_far es d in

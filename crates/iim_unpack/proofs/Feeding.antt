@@ -47,7 +47,7 @@ use Rattle.iim_unpack.specs.Going.{front_in_order}
 use Rattle.iim_unpack.specs.Routing.{Takes, HasEnded}
 use Rattle.iim_unpack.specs.Format.Unpacking.{Unpacking, raised, are_some, limits_in, IsLed, Stands, IsDoneWith, IsRefusedIn}
 use Rattle.iim_unpack.specs.Unpacking.{Advanced, FailsAs, IsOnward, tag_fault, begins, Stood, IsUnpacking}
-use Rattle.iim_unpack.specs.Format.Open.{IsTextOf, Adds, IsOpen, IsBadTagAt, RefusesNext, IsTruncatedAt, truncated_in}
+use Rattle.iim_unpack.specs.Format.Open.{IsTextOf, Delivers, IsOpen, IsBadTagAt, RefusesNext, IsTruncatedAt, truncated_in}
 use Rattle.iim_unpack.specs.declared.parts.Parts.{Parts}
 use Rattle.iim_unpack.specs.declared.fault.TokenFault.{TokenFault}
 use Rattle.iim_unpack.specs.declared.refusal.Refusal.{Refusal}
@@ -166,7 +166,7 @@ went_on goes failures old was p octets place q a b advanced events text leads le
     let next = advanced.brings p events leads in advanced.went.leads events text (handed_in_order (p ++ octets) (events ++ advanced.more) next.begun next.hands) led
 
 pub adds_by : {S : Type 0} (goes : S → List story.StoryEvent → S → Type 0) (failures : S → ℕ) → FeedLaws → (u v : Unpacking) (p octets : List ℕ) (place : Place) (q : Parts) (a b : S)
-    → (advanced : Advanced goes failures u.reader.place octets place u.parts a q b) → IsLed u p → Adds p octets (story.delivered advanced.went.more)
+    → (advanced : Advanced goes failures u.reader.place octets place u.parts a q b) → IsLed u p → Delivers p octets (story.delivered advanced.went.more)
 adds_by goes failures laws u v p octets place q a b advanced led text is =
     let same = one_text laws p text led.text is (text_of laws u.parts p led.events led.text u.reader.place led.leads led.led) in (
       advanced.went.more,
@@ -191,7 +191,7 @@ begun_on u v (x ∷ p) piece was is = rw was at is
 pub goes_more : {S : Type 0} (goes : S → List story.StoryEvent → S → Type 0) (failures : S → ℕ) → FeedLaws → (u v : Unpacking) (piece : List ℕ) (used : ℕ) (a b : S)
     → (advanced : Advanced goes failures u.reader.place (take used piece) v.reader.place u.parts a v.parts b) → IsOnward v.reader.place v.parts (length piece) used
     → v.refused ≡ u.refused → has_ended v.parts ≡ false → v.octets ≡ raised u.octets used → v.begun ≡ begins u.begun piece
-    → (p : List ℕ) (n : ℕ) → Stands u p n → Stands v (p ++ piece) (raised n (length piece)) × Adds p piece (story.delivered advanced.went.more)
+    → (p : List ℕ) (n : ℕ) → Stands u p n → Stands v (p ++ piece) (raised n (length piece)) × Delivers p piece (story.delivered advanced.went.more)
 goes_more goes failures laws u v piece used a b advanced onward same more counts some p n at =
     let all : used ≡ length piece = elim onward [ inl h ↦ h.0 | inr h ↦ absurd (true≢false (sym h.0.last ∙ more)) ] in
     let whole : take used piece ≡ piece = take_all used piece (omega (arith, all)) in
@@ -205,7 +205,7 @@ goes_more goes failures laws u v piece used a b advanced onward same more counts
       is_open = open_by laws v.parts (p ++ take used piece) led.events led.text v.reader.place led.leads led.led more;
     } in (
       subst (λ (xs : List ℕ). Stands v (p ++ xs) (raised n (length piece))) whole (subst (λ (k : ℕ). Stands v (p ++ take used piece) (raised n k)) all there),
-      subst (λ (xs : List ℕ). Adds p xs (story.delivered advanced.went.more)) whole (adds_by goes failures laws u v p (take used piece) v.reader.place v.parts a b advanced at.is_led),
+      subst (λ (xs : List ℕ). Delivers p xs (story.delivered advanced.went.more)) whole (adds_by goes failures laws u v p (take used piece) v.reader.place v.parts a b advanced at.is_led),
     )
 
 -- ---- the end
@@ -321,7 +321,7 @@ pub goes_done : {S : Type 0} (goes : S → List story.StoryEvent → S → Type 
     → v.refused ≡ u.refused → has_ended v.parts ≡ true → v.octets ≡ raised u.octets used → used ≤ length piece
     → ((ds : List Dataset) (r : AreObjectRecords ds) → objects.StandsAt v.parts.object (place_after_datasets ds) → HaveSizes r.r7 r.r8 r.r9 s)
     → (p : List ℕ) (n : ℕ) → Stands u p n
-    → (used ≤ length piece) × IsDoneWith v (p ++ take used piece) (raised n used) × Adds p (take used piece) (story.delivered advanced.went.more)
+    → (used ≤ length piece) × IsDoneWith v (p ++ take used piece) (raised n used) × Delivers p (take used piece) (story.delivered advanced.went.more)
 goes_done goes failures laws u v piece used a b s advanced onward same last counts fits sizes p n at =
     let ended : HasEnded v.parts × (v.reader.place ≡ between) = elim onward [ inl h ↦ absurd (not_taken (to_come' v) h.1) | inr h ↦ h ] in
     let led = led_by goes failures u v p (take used piece) a b advanced at.is_led in (

@@ -24,7 +24,7 @@ use Rattle.iim_unpack.specs.Format.Tokens.{ObjectLives, MayContinue}
 use Rattle.iim_unpack.specs.Format.Tickets.{Place, TagBegun, AllEnded, phase_of, heads_of, place_of, ticket_of, layout, text_octets, texts_octets, part_number}
 use Rattle.iim_unpack.specs.Format.Begins.{IsLongField}
 use Rattle.iim_unpack.specs.Format.Begins.{IsSize, AreNumbers, AreTexts}
-use Rattle.iim_unpack.specs.Format.TicketForm.{IsPhase, HasForm, Split, SplitsInto, split_octets}
+use Rattle.iim_unpack.specs.Format.TicketForm.{IsPhase, HasForm, Split, SplitsTicket, split_octets}
 use Rattle.iim_unpack.specs.Format.Possible.{Possible, TicketsTellOnePlace, widest}
 use Rattle.iim_unpack.specs.Possible.{TicketsOfPlacesAreSplit, texts_of, split_of}
 use Rattle.iim_unpack.proofs.Answering.{Lives, lives_open, lives_envelope, one_reading}
@@ -281,4 +281,4 @@ same_place p q e =
 -- A ticket tells one possible place.
 pub one_told : AnswerLaws → TicketsTellOnePlace
 one_told laws p q is are e =
-    same_place p q (one_split (ticket_of p) (split_of p) (split_of q) (tickets_split laws p is) (subst (λ (xs : List ℕ). SplitsInto xs (split_of q)) (sym e) (tickets_split laws q are)))
+    same_place p q (one_split (ticket_of p) (split_of p) (split_of q) (tickets_split laws p is) (subst (λ (xs : List ℕ). SplitsTicket xs (split_of q)) (sym e) (tickets_split laws q are)))

@@ -31,7 +31,7 @@ use Rattle.wire_message.specs.Format.Reading as wire
 use Rattle.wire_message.specs.declared.place.Place.{Place}
 use Rattle.iim_unpack.specs.Format.Admitted.{object_of}
 use Rattle.iim_unpack.specs.Format.Tokens.{place_at, ObjectLives, IsRefusedHead}
-use Rattle.iim_unpack.specs.Passed.{Passed, HasFewSubfiles, IsFullOfSubfiles, RefusesBySize, RefusesAtEnd, RefusesObject, RefusesSubfile, octets_in, is_ended}
+use Rattle.iim_unpack.specs.Passed.{Passed, HasFewSubfiles, IsFullOfSubfiles, RefusesBySize, RefusesAtEnd, RefusesObject, RefusesSubfile, octets_in, end_is_last}
 use Rattle.iim_unpack.specs.Format.Refusals.{of_field, too_many_on, message_on, cause_of, cause_of_size}
 use Rattle.iim_unpack.specs.Format.Open.{object_so_far, IsUnfinished}
 use Rattle.iim_unpack.specs.Format.Parts.{AreAfter, Within, CountsFor, has_ended}
@@ -155,7 +155,7 @@ pub begins_end : {S : Type 0} (goes : S → List story.StoryEvent → S → Type
 begins_end goes failures laws p a b ds h checker object message nine at inside leads_on passed =
     let leads = end_leads laws.objects ds h inside.alive nine in
     let text = same_text laws.message.texts p.message message h.rec (object_of ds) passed.more passed.stands at.message in
-    let is_end : is_ended false (events_at h.rec) ≡ true = ap (λ n. is_ended false (events_at n)) nine in (
+    let is_end : end_is_last false (events_at h.rec) ≡ true = ap (λ n. end_is_last false (events_at n)) nine in (
       record {
         fields = inside;
         object = subst (objects.StandsAt object) leads.1 (leads_on (place_after_datasets ds) at.object leads.0);

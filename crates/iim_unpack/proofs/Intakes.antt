@@ -15,7 +15,7 @@ use Rattle.iim_unpack.specs.Format.Parts.{CountsFor}
 use Rattle.iim_unpack.specs.Format.Refusals.{refusal_at}
 use Rattle.iim_unpack.specs.Format.Unpacking.{Unpacking, Stands, IsDoneWith, Goes, IsRefusedIn, limits_in, raised}
 use Rattle.iim_unpack.specs.Unpacking.{Stood}
-use Rattle.iim_unpack.specs.Format.Open.{IsOpen, IsTextOf, Adds, IsTruncatedAt, RefusesNext}
+use Rattle.iim_unpack.specs.Format.Open.{IsOpen, IsTextOf, Delivers, IsTruncatedAt, RefusesNext}
 use Rattle.iim_unpack.specs.Intakes.{WentOn, WasDone, FedAs, read_fault}
 use Rattle.iim_unpack.specs.Format.Intakes.{WasEnded, IsRefusedOf, WasRefused, WasTruncated, WasMissed, WasGiven, IsReady, Faults, OpenOctetsAreBounded}
 use Rattle.iim_unpack.specs.declared.intake.IntakeFault.{IntakeFault}
@@ -38,10 +38,10 @@ raised_twice a m n = omega arith
 
 -- ---- what is delivered
 
-pub adds_none : (p : List ℕ) → Adds p [] []
+pub adds_none : (p : List ℕ) → Delivers p [] []
 adds_none p text is = ([], subst (λ (t : List ℕ). IsTextOf (p ++ []) t) (sym (append-nil text)) (subst (λ (q : List ℕ). IsTextOf q text) (sym (append-nil p)) is), refl)
 
-pub adds_more : DeliveryMayBeCut → (p x y : List ℕ) (m n : List story.StoryEvent) → Adds p x m → Adds (p ++ x) y n → Adds p (x ++ y) (m ++ n)
+pub adds_more : DeliveryMayBeCut → (p x y : List ℕ) (m n : List story.StoryEvent) → Delivers p x m → Delivers (p ++ x) y n → Delivers p (x ++ y) (m ++ n)
 adds_more cut p x y m n one two text is =
     let (first, there, told) = one text is in
     let (second, then', told') = two (text ++ first) there in (
@@ -121,7 +121,7 @@ went_done goes joined joins cut old mid then' new u v w a b c used now last piec
           );
     }
 
-refused_on : DeliveryMayBeCut → (limits : Limits) (p : List ℕ) (n : ℕ) (xs piece : List ℕ) (first more : List story.StoryEvent) (e : Refusal) → Adds p xs first
+refused_on : DeliveryMayBeCut → (limits : Limits) (p : List ℕ) (n : ℕ) (xs piece : List ℕ) (first more : List story.StoryEvent) (e : Refusal) → Delivers p xs first
     → IsRefusedIn limits (p ++ xs) (raised n (length xs)) piece more e → IsRefusedOf limits p n (xs ++ piece) (first ++ more) e
 refused_on cut limits p n xs piece first more e adds is =
     let front : take (length xs + is.k) (xs ++ piece) ≡ xs ++ take is.k piece = take-append-add xs piece is.k in
@@ -130,7 +130,7 @@ refused_on cut limits p n xs piece first more e adds is =
       within = omega (arith, is.within, length-append xs piece);
       fault = is.fault;
       refusal = is.refusal ∙ ap (λ (m : ℕ). refusal_at m is.fault) (raised_twice n (length xs) is.k);
-      adds = subst (λ (ys : List ℕ). Adds p ys (first ++ more)) (sym front) (adds_more cut p xs (take is.k piece) first more adds (λ text t. (is.added, is.adds text t, is.delivers)));
+      adds = subst (λ (ys : List ℕ). Delivers p ys (first ++ more)) (sym front) (adds_more cut p xs (take is.k piece) first more adds (λ text t. (is.added, is.adds text t, is.delivers)));
       refuses =
           subst (λ (b : ℕ). RefusesNext limits (p ++ take (length xs + is.k) (xs ++ piece)) b is.fault) (sym (get_or-append-add xs piece is.k 0))
           (subst (λ (ys : List ℕ). RefusesNext limits ys (slice_index piece is.k) is.fault) (append_assoc p xs (take is.k piece) ∙ ap (λ (ys : List ℕ). p ++ ys) (sym front)) is.refuses);

@@ -40,7 +40,7 @@ use Rattle.wire_message.specs.declared.saved.MessagePart.TheVariants as part
 use Rattle.wire_message.specs.declared.saved.MessagePlace.{MessagePlace}
 use Rattle.iim_unpack.specs.Format.Admitted.{object_of}
 use Rattle.iim_unpack.specs.Format.Begins.{IsSize}
-use Rattle.iim_unpack.specs.ByLayers.{LeadsByLayers, record_datasets, one_of_some, head_at}
+use Rattle.iim_unpack.specs.ByLayers.{LeadsByLayers, record_datasets, one_of_some, head_of_numbers}
 use Rattle.iim_unpack.specs.Format.Framed.{AreWithin}
 use Rattle.iim_unpack.specs.Format.Open.{object_so_far, section, AllCanContinue}
 use Rattle.iim_unpack.specs.Plain.{Numbers, number_list, plain_numbers, filled, plain_end, plain, AreSpellable, begun_object, plain_place}
@@ -607,8 +607,8 @@ lead_other laws place numbers p e h left taken o text tag numbers_are keeps same
 -- in a subfile
 lead_subfile : ByLayersLaws → (place : Place) (numbers : Numbers) (p : objects.Place) (set count left : ℕ) (o text tag : List ℕ) → place.numbers ≡ number_list numbers
     → AllByRecursion (λ (d : Dataset). is_kept d.rec ≡ true) place.fields → number_list numbers ≡ stated_numbers p.stated → IsPossible p → p.ending ≡ NotEnded → place.heads ≡ length p.lengths → (last : LastIsBegun p.lengths place.taken count left)
-    → length o ≡ place.taken → LeadToSaved o text place.message → SectionsLiveAt (plain place.fields numbers (one_of_some (place.heads - 1)) [] false) (head_at 8 set count) → place.section ≡ 8
-    → SpellsTag count_octets (head_at 8 set count) tag → place.phase ≡ DataBegun set count left [] → IsWithin widest (length (joined place.fields)) (length place.fields) → Possible place
+    → length o ≡ place.taken → LeadToSaved o text place.message → SectionsLiveAt (plain place.fields numbers (one_of_some (place.heads - 1)) [] false) (head_of_numbers 8 set count) → place.section ≡ 8
+    → SpellsTag count_octets (head_of_numbers 8 set count) tag → place.phase ≡ DataBegun set count left [] → IsWithin widest (length (joined place.fields)) (length place.fields) → Possible place
 lead_subfile laws place numbers p set count left o text tag numbers_are keeps same is end' many last come leads at section_is spells phase within =
     finish laws place numbers heads object false (InData h begun) (tag ++ begun) text (spellable_by fields numbers p base.given heads object base.fits spelled object_octets (let low = base.few in omega (arith, low)))
     (tag, spells, omega (arith, begun_length, more), back_octets cut o octets, refl)
@@ -622,7 +622,7 @@ lead_subfile laws place numbers p set count left o text tag numbers_are keeps sa
     (λ bad. absurd (let no' : false ≡ true = bad in cc)) place_is
   where
     h : Head
-    h = head_at 8 set count
+    h = head_of_numbers 8 set count
 
     fields : List Dataset
     fields = place.fields
@@ -758,7 +758,7 @@ at_others h not8 not9 ds none lives =
 lead_not_eight : ByLayersLaws → (section set count left : ℕ) (given : List ℕ) (fields : List Dataset) (nums : List (Option ℕ)) (taken heads : ℕ) (m : MessagePlace) → nat_eq section 8 ≡ false
     → LeadsByLayers (DataPlace section set count left given fields nums taken heads m) → Possible (DataPlace section set count left given fields nums taken heads m)
 lead_not_eight laws section set count left given fields nums taken heads m not8 l =
-    let h : Head = head_at section set count in
+    let h : Head = head_of_numbers section set count in
     let p = l.object.0 in
     let at : IsAt nums taken None heads p = subst (λ (b : Bool). IsAt nums taken (if b then Some (count, left) else None) heads p) not8 l.object.1 in
     let octets = at.octets in
@@ -780,10 +780,10 @@ lead_not_eight laws section set count left given fields nums taken heads m not8 
     Leads = Possible (DataPlace section set count left given fields nums taken heads m)
 
     by : (c : Bool) → nat_eq section 9 ≡ c → (p : objects.Place)
-        → ((q : objects.Place) (e : Ending) → number_list l.numbers ≡ stated_numbers q.stated → IsPossible q → q.ending ≡ e → heads ≡ length q.lengths → sum q.lengths ≡ length l.message.0 → LivesAt e (head_at section set count) → Leads)
+        → ((q : objects.Place) (e : Ending) → number_list l.numbers ≡ stated_numbers q.stated → IsPossible q → q.ending ≡ e → heads ≡ length q.lengths → sum q.lengths ≡ length l.message.0 → LivesAt e (head_of_numbers section set count) → Leads)
         → number_list l.numbers ≡ stated_numbers p.stated → p.ending ≡ NotEnded → heads ≡ length p.lengths → sum p.lengths ≡ length l.message.0 → IsPossible (if c then place_after p ObjectEnded else p) → Leads
-    by true nine p lead same end' count_is total is = lead (place_after p ObjectEnded) Ended same is refl count_is total (at_nine (head_at section set count) nine)
-    by false other p lead same end' count_is total is = lead p NotEnded same is end' count_is total (at_others (head_at section set count) not8 other)
+    by true nine p lead same end' count_is total is = lead (place_after p ObjectEnded) Ended same is refl count_is total (at_nine (head_of_numbers section set count) nine)
+    by false other p lead same end' count_is total is = lead p NotEnded same is end' count_is total (at_others (head_of_numbers section set count) not8 other)
 
 lead_data : ByLayersLaws → (section set count left : ℕ) (given : List ℕ) (fields : List Dataset) (nums : List (Option ℕ)) (taken heads : ℕ) (m : MessagePlace) → LeadsByLayers (DataPlace section set count left given fields nums taken heads m)
     → Possible (DataPlace section set count left given fields nums taken heads m)

@@ -11,6 +11,7 @@ use Rattle.iim_dataset.specs.declared.head.Head.{Head}
 use Rattle.iim_fields.specs.Format.Alive.{SectionsLive, SectionsLiveAt}
 use Rattle.iim_fields.specs.Format.Faults.{kept, present_record}
 use Rattle.iim_fields.specs.Format.Records.{AreSections}
+use Rattle.iim_fields.specs.declared.limits.Limits.{Limits}
 use Rattle.iim_object.specs.Format.Numbers.{place_after_datasets, place_ended, ending_of}
 use Rattle.iim_object.specs.Format.Objects.{ObjectEnded, SubfileBegun}
 use Rattle.iim_object.specs.Format.Places.{NotEnded, ConfirmedAs, place_after}
@@ -33,7 +34,7 @@ use Rattle.iim_unpack.specs.Format.Open.{object_so_far, section, AllCanContinue}
 use Rattle.iim_unpack.specs.Plain.{plain}
 use Rattle.iim_unpack.specs.Format.Possible.{Possible, widest}
 use Rattle.iim_unpack.specs.Format.Tickets.{Place, Phase, TagBegun, AllEnded, phase_of, place_of}
-use Rattle.iim_unpack.specs.Format.Tokens.{ObjectLives, MayContinue}
+use Rattle.iim_unpack.specs.Format.Tokens.{ObjectLives, CanContinueAt, MayContinue}
 use Rattle.iim_unpack.specs.LowerLaws.{ByLayersLaws, OpenLaws}
 use Rattle.iim_unpack.proofs.Alike.{Fits, alike, present_alike}
 use Rattle.iim_unpack.proofs.Bounds.{object_fits}
@@ -225,6 +226,17 @@ subfile_at ds h taken less =
       not_ended = refl;
     }
 
+pub few_heads : (limits : Limits) (ds : List Dataset) (h : Head) → CanContinueAt limits ds h → length (lengths_of (of_record 8 ds)) ≤ max_subfiles
+few_heads limits ds h goes = let count = count_of (of_record 8 ds) in let few = goes.within.subfiles in omega (arith, count, few)
+
+pub few_with_head : (limits : Limits) (ds : List Dataset) (h : Head) → CanContinueAt limits ds h → nat_eq h.rec 8 ≡ true
+    → length (lengths_of (of_record 8 ds) ++ h.count ∷ []) ≤ max_subfiles
+few_with_head limits ds h goes eight =
+    let count = count_of (of_record 8 ds) in
+    let one = length-append (lengths_of (of_record 8 ds)) (h.count ∷ []) in
+    let room = goes.room.subfiles (eqb-true h.rec 8 eight) in
+    omega (arith, count, one, room)
+
 object_data : OpenLaws → (ds : List Dataset) (h : Head) (taken : List ℕ) (m : MessagePlace) → MayContinue widest ds (InData h taken) → length taken < h.count → ObjectLeads (place_of ds (InData h taken) m)
 object_data laws ds h taken m goes less = by (nat_eq h.rec 8) (nat_eq h.rec 9) refl refl
     (stated_at laws.answer.follow.objects ds h goes.records goes.within.subfiles goes.room.subfiles) goes.object
@@ -241,16 +253,6 @@ object_data laws ds h taken m goes less = by (nat_eq h.rec 8) (nat_eq h.rec 9) r
     at : Bool → Bool → objects.Place
     at b c = if b then place_after (place_after_datasets ds) (SubfileBegun h.count) else if c then place_ended ds else place_after_datasets ds
 
-    few : length (lengths_of (of_record 8 ds)) ≤ max_subfiles
-    few = let count = count_of (of_record 8 ds) in let few = goes.within.subfiles in omega (arith, count, few)
-
-    more : nat_eq h.rec 8 ≡ true → length (lengths_of (of_record 8 ds) ++ h.count ∷ []) ≤ max_subfiles
-    more eight =
-        let count = count_of (of_record 8 ds) in
-        let one = length-append (lengths_of (of_record 8 ds)) (h.count ∷ []) in
-        let room = goes.room.subfiles (eqb-true h.rec 8 eight) in
-        omega (arith, count, one, room)
-
     Leads : Bool → Bool → Type 0
     Leads b c =
         (p : objects.Place)
@@ -263,14 +265,14 @@ object_data laws ds h taken m goes less = by (nat_eq h.rec 8) (nat_eq h.rec 9) r
       place_after (opened ds) (SubfileBegun h.count),
       subfile_at ds h taken less,
       subst (λ (e : objects.Ending). IsPossible (place_after (record (place_after_datasets ds) { ending = e }) (SubfileBegun h.count))) open'
-          (possible_of (place_after (place_after_datasets ds) (SubfileBegun h.count)) stated (more eight) lives),
+          (possible_of (place_after (place_after_datasets ds) (SubfileBegun h.count)) stated (few_with_head widest ds h goes eight) lives),
     )
     by false true eight nine stated lives =
-        (opened ds, whole_at ds (length (object_of ds ++ [])) (length (of_record 8 ds) + 0) (ap length (append-nil (object_of ds))) (omega arith), possible_of (place_ended ds) stated few lives)
+        (opened ds, whole_at ds (length (object_of ds ++ [])) (length (of_record 8 ds) + 0) (ap length (append-nil (object_of ds))) (omega arith), possible_of (place_ended ds) stated (few_heads widest ds h goes) lives)
     by false false eight nine stated lives = (
       opened ds,
       whole_at ds (length (object_of ds ++ [])) (length (of_record 8 ds) + 0) (ap length (append-nil (object_of ds))) (omega arith),
-      subst (λ (e : objects.Ending). IsPossible (record (place_after_datasets ds) { ending = e })) open' (possible_of (place_after_datasets ds) stated few lives),
+      subst (λ (e : objects.Ending). IsPossible (record (place_after_datasets ds) { ending = e })) open' (possible_of (place_after_datasets ds) stated (few_heads widest ds h goes) lives),
     )
 
 object_leads : OpenLaws → (octets : List ℕ) (ds : List Dataset) (b : Begun) (m : MessagePlace) → Reads count_octets octets ds b → MayContinue widest ds b → ObjectLeads (place_of ds b m)

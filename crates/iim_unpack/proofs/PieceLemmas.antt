@@ -19,7 +19,7 @@ use Rattle.iim_unpack.specs.Pieces.{DoneIn, HasFed}
 use Rattle.iim_unpack.specs.Format.Refusals.{refusal_at}
 use Rattle.iim_unpack.specs.Format.Streams.{Answer, Answers, Finished, Refused, Truncated, IsEnvelopeWithin, IsFinished, IsRefused, EnvelopesAreBounded, RefusedOctetsWereOpen, StreamsHaveOneAnswer}
 use Rattle.iim_unpack.specs.Format.Unpacking.{Unpacking, Stands, IsDone, IsDoneWith, Goes, IsRefusedIn, limits_in, raised}
-use Rattle.iim_unpack.specs.Format.Open.{IsOpen, IsTextOf, Adds, IsTruncatedAt, RefusesNext}
+use Rattle.iim_unpack.specs.Format.Open.{IsOpen, IsTextOf, Delivers, IsTruncatedAt, RefusesNext}
 use Rattle.iim_unpack.specs.Format.Value.{HasParts}
 use Rattle.iim_unpack.specs.declared.refusal.Refusal.{Refusal}
 use Rattle.iim_unpack.specs.Format.Parts.{CountsFor}
@@ -62,7 +62,7 @@ on_more laws limits low v o piece same at =
 
 -- or it is done with a front of it
 on_done : (laws : CountLaws) (limits : Limits) → AreLow limits → (v : Unpacking) (o piece : List ℕ) (more next : List story.StoryEvent) (used : ℕ) → limits_in v ≡ limits → used ≤ length piece
-    → IsDoneWith v (o ++ take used piece) (raised (length o) used) → Adds [] o more → Adds o (take used piece) next → DoneIn v (o ++ piece) (more ++ next)
+    → IsDoneWith v (o ++ take used piece) (raised (length o) used) → Delivers [] o more → Delivers o (take used piece) next → DoneIn v (o ++ piece) (more ++ next)
 on_done laws limits low v o piece more next used same fits done before adds =
     let within : IsEnvelopeWithin limits (o ++ take used piece) done.value =
     subst (λ (l : Limits). IsEnvelopeWithin l (o ++ take used piece) done.value) same (record { admits = done.admits; within = done.within }) in
@@ -73,7 +73,7 @@ on_done laws limits low v o piece more next used same fits done before adds =
       used = length o + used;
       fits = omega (arith, fits, length-append o piece);
       done = subst (λ (x : List ℕ). IsDoneWith v x (length o + used)) (sym front) (subst (IsDoneWith v (o ++ take used piece)) (exact (length o) used (omega (arith, less, sum))) done);
-      adds = subst (λ (x : List ℕ). Adds [] x (more ++ next)) (sym front) (adds_more laws.cut [] o (take used piece) more next before adds);
+      adds = subst (λ (x : List ℕ). Delivers [] x (more ++ next)) (sym front) (adds_more laws.cut [] o (take used piece) more next before adds);
     }
 
 pub went_on : {S : Type 0} (goes : S → List story.StoryEvent → S → Type 0) → Joined goes → CountLaws → (limits : Limits) → AreLow limits → (u v : Unpacking) (a b c : S) (o piece : List ℕ) (progress : Progress) → HasFed goes limits u a b o
@@ -81,7 +81,7 @@ pub went_on : {S : Type 0} (goes : S → List story.StoryEvent → S → Type 0)
     → (DoneIn' : (used : ℕ) → used ≤ length o → IsDoneWith u (take used o) used → (v ≡ u) × (c ≡ b)) → HasFed goes limits v a c (o ++ piece)
 went_on {S = S} goes joined laws limits low u v a b c o piece progress fed same step done' = by fed.stood
   where
-    by_progress : (q : Progress) → Stands u o (length o) → Adds [] o fed.more → Goes v o (length o) piece step.0 q → HasFed goes limits v a c (o ++ piece)
+    by_progress : (q : Progress) → Stands u o (length o) → Delivers [] o fed.more → Goes v o (length o) piece step.0 q → HasFed goes limits v a c (o ++ piece)
     by_progress More at adds there = record {
       limits_are = same;
       more = fed.more ++ step.0;
@@ -95,7 +95,7 @@ went_on {S = S} goes joined laws limits low u v a b c o piece progress fed same 
       stood = inr (on_done laws limits low v o piece fed.more step.0 used same there.0 there.1 adds there.2);
     }
 
-    by : (Stands u o (length o) × Adds [] o fed.more) ⊎ DoneIn u o fed.more → HasFed goes limits v a c (o ++ piece)
+    by : (Stands u o (length o) × Delivers [] o fed.more) ⊎ DoneIn u o fed.more → HasFed goes limits v a c (o ++ piece)
     by (inl (at, adds)) = by_progress progress at adds (step.2 o (length o) at)
     by (inr d) =
         let still = done' d.used d.fits d.done in
@@ -108,7 +108,7 @@ went_on {S = S} goes joined laws limits low u v a b c o piece progress fed same 
             used = d.used;
             fits = let fits = d.fits in omega (arith, fits, length-append o piece);
             done = subst (λ (w : Unpacking). IsDoneWith w (take d.used (o ++ piece)) d.used) (sym still.0) (subst (λ (x : List ℕ). IsDoneWith u x d.used) (sym front) d.done);
-            adds = subst (λ (x : List ℕ). Adds [] x fed.more) (sym front) d.adds;
+            adds = subst (λ (x : List ℕ). Delivers [] x fed.more) (sym front) d.adds;
           });
         }
 
@@ -124,7 +124,7 @@ refused_there laws limits low o piece rest next e r =
     ap (λ (x : Refusal). x.octet) r.refusal ∙ exact (length o) r.k (omega (arith, less, sum))
 
 pub was_refused : {S : Type 0} (goes : S → List story.StoryEvent → S → Type 0) → Joined goes → CountLaws → (limits : Limits) → AreLow limits → (a b c : S) (o piece rest : List ℕ) (more next : List story.StoryEvent) (e : Refusal)
-    → goes a more b → goes b next c → Adds [] o more → IsRefusedIn limits o (length o) piece next e → IsTurnedDown goes limits (o ++ (piece ++ rest)) a c e
+    → goes a more b → goes b next c → Delivers [] o more → IsRefusedIn limits o (length o) piece next e → IsTurnedDown goes limits (o ++ (piece ++ rest)) a c e
 was_refused goes joined laws limits low a b c o piece rest more next e told then' adds r =
     let within = r.within in
     let stream : List ℕ = o ++ (piece ++ rest) in
@@ -133,7 +133,7 @@ was_refused goes joined laws limits low a b c o piece rest more next e told then
     ap (λ (n : ℕ). take n stream) at ∙ take-append-add o (piece ++ rest) r.k ∙ ap (λ (x : List ℕ). o ++ x) (take-append-le r.k piece rest (omega (arith, within))) in
     let octet : slice_index stream e.octet ≡ slice_index piece r.k =
     ap (slice_index stream) at ∙ get_or-append-add o (piece ++ rest) r.k 0 ∙ get_or_append_left piece rest 0 r.k within in
-    let delivered : Adds o (take r.k piece) next = λ text is. (r.added, r.adds text is, r.delivers) in
+    let delivered : Delivers o (take r.k piece) next = λ text is. (r.added, r.adds text is, r.delivers) in
     inl (record {
       fits = omega (arith, within, at, length-append o (piece ++ rest), length-append piece rest);
       fault = r.fault;
@@ -142,7 +142,7 @@ was_refused goes joined laws limits low a b c o piece rest more next e told then
       told = (
         more ++ next,
         joined a b c more next told then',
-        subst (λ (x : List ℕ). Adds [] x (more ++ next)) (sym front) (adds_more laws.cut [] o (take r.k piece) more next adds delivered),
+        subst (λ (x : List ℕ). Delivers [] x (more ++ next)) (sym front) (adds_more laws.cut [] o (take r.k piece) more next adds delivered),
       );
     })
 
@@ -152,7 +152,7 @@ no_text : IsTextOf [] []
 no_text = ([], InTag [], record { front = []; rest = []; is_front = refl; is_rest = nothing_held; parts = refl }, refl)
 
 -- what is delivered of an envelope is its lines
-lines_of : FeedLaws → TextsStandBetweenStxAndEtx → TextsAreDeliveredAsLines → (octets : List ℕ) (v : Value) (more : List story.StoryEvent) → Admits octets v → Adds [] octets more → more ≡ story.events_of_lines v.lines
+lines_of : FeedLaws → TextsStandBetweenStxAndEtx → TextsAreDeliveredAsLines → (octets : List ℕ) (v : Value) (more : List story.StoryEvent) → Admits octets v → Delivers [] octets more → more ≡ story.events_of_lines v.lines
 lines_of laws between delivered octets v more a adds =
     let (added, is, told) = adds [] no_text in
     let text : a.text ≡ text_so_far (object_of a.datasets) = between (object_of a.datasets) a.text (AfterEnd v.head (record { items = v.trailer }) (length a.message.after)) (leads_to octets v a) in
@@ -174,7 +174,7 @@ is_unpacked goes laws between delivered limits v a b stream more got used same t
     }
 
 pub cut_short : {S : Type 0} (goes : S → List story.StoryEvent → S → Type 0) → (limits : Limits) (v : Unpacking) (a b : S) (stream : List ℕ) (more : List story.StoryEvent) (e : Refusal) → limits_in v ≡ limits → goes a more b
-    → Stands v stream (length stream) → Adds [] stream more → IsTruncatedAt stream (length stream) e → IsTurnedDown goes limits stream a b e
+    → Stands v stream (length stream) → Delivers [] stream more → IsTruncatedAt stream (length stream) e → IsTurnedDown goes limits stream a b e
 cut_short goes limits v a b stream more e same told at adds truncated =
     inr (record { truncated = record { is_open = subst (λ (l : Limits). IsOpen l stream) same at.is_open; refusal = truncated }; told = (more, told, adds) })
 

@@ -19,7 +19,7 @@ use Rattle.iim_unpack.specs.Format.Possible.{AreHeadsWithin, begun_count, begun_
 use Rattle.iim_unpack.specs.Restoring.{AreAt, IsLimitFault, IsMadeFor, LeadsNowhere, ObjectStands, MessageStands, RecordsStand, has_come, place_told}
 use Rattle.iim_unpack.specs.Format.Restored.{octets_told, IsRestoreFault, IsTicketAt}
 use Rattle.iim_unpack.specs.Taking.{AreKept, IsMessageOf, numbers_told, tag_place, told_datasets}
-use Rattle.iim_unpack.specs.Format.TicketForm.{HasForm, Split, SplitsInto, TicketsHaveOneSplit, split_octets}
+use Rattle.iim_unpack.specs.Format.TicketForm.{HasForm, Split, SplitsTicket, TicketsHaveOneSplit, split_octets}
 use Rattle.iim_unpack.specs.Format.Tickets.{Place, part_number}
 use Rattle.iim_unpack.specs.Format.Unpacking.{Unpacking, limits_in}
 use Rattle.iim_unpack.specs.declared.possible.Readers.{Readers}
@@ -201,16 +201,16 @@ made_for s r at some one limits count u taking counts begun tags object message 
 
 -- ---- the ticket of a place
 
-pub ticket_at : PlacesArePossibleByLayers → (ticket : List ℕ) (s : Split) (place : Place) → SplitsInto ticket s → split_of place ≡ s → LeadsByLayers place → IsTicketAt ticket place
+pub ticket_at : PlacesArePossibleByLayers → (ticket : List ℕ) (s : Split) (place : Place) → SplitsTicket ticket s → split_of place ≡ s → LeadsByLayers place → IsTicketAt ticket place
 ticket_at law ticket s place splits is leads = record {
   possible = (law place).1 leads;
   spelled = splits.spelled ∙ ap split_octets (sym is) ∙ sym (spelled place);
 }
 
 -- Octets whose parts lead nowhere are the ticket of no place.
-pub no_ticket : PlacesArePossibleByLayers → TicketsOfPlacesAreSplit → TicketsHaveOneSplit → (ticket : List ℕ) (s : Split) → SplitsInto ticket s → LeadsNowhere s → (place : Place) → IsTicketAt ticket place → ⊥
+pub no_ticket : PlacesArePossibleByLayers → TicketsOfPlacesAreSplit → TicketsHaveOneSplit → (ticket : List ℕ) (s : Split) → SplitsTicket ticket s → LeadsNowhere s → (place : Place) → IsTicketAt ticket place → ⊥
 no_ticket law split one ticket s splits nowhere place is =
-    let parts : SplitsInto ticket (split_of place) = subst (λ (xs : List ℕ). SplitsInto xs (split_of place)) (sym is.spelled) (split place is.possible) in
+    let parts : SplitsTicket ticket (split_of place) = subst (λ (xs : List ℕ). SplitsTicket xs (split_of place)) (sym is.spelled) (split place is.possible) in
     nowhere place (one ticket (split_of place) s parts splits) ((law place).0 is.possible)
 
 -- A limit that the readers' counts pass is passed by the ticket's place.

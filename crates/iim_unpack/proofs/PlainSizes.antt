@@ -3,7 +3,7 @@ use Rattle.std.proofs.Common.{◌≡◌, ℕ, ◌<◌, ◌≤◌, Bool, List, []
 use Rattle.std.specs.List.{AllByRecursion}
 use Rattle.iim_dataset.specs.Format.Languages.{IsAlive}
 use Rattle.iim_dataset.specs.Format.Octets.{greatest_size}
-use Rattle.iim_object.specs.Format.Living.{NoClash, HasDuties, Fit, IsWhole}
+use Rattle.iim_object.specs.Format.Living.{NoClash, HasDuties, Fit, MeetsAnnounced}
 use Rattle.iim_object.specs.Format.Objects.{SubfileBegun, ObjectLanguage, number_tokens}
 use Rattle.iim_object.specs.Format.Places.{Ending, NotEnded, Ended, ConfirmedAs, HasBoth, ending_tokens}
 use Rattle.iim_object.specs.Format.Sizes.{Stated, AreStated, number_at, mode_number}
@@ -28,7 +28,7 @@ fit_like known size ps qs ls ks same each total fit = record {
   maximum = subst (λ (o : Option ℕ). IfSome o (λ m. sum ks ≤ m)) same.maximum (subst (λ (n : ℕ). IfSome (number_at 95 ps) (λ m. n ≤ m)) total fit.maximum);
 }
 
-whole_like : (ps qs : List Stated) (ls ks : List ℕ) → SameNumbers ps qs → sum ls ≡ sum ks → IsWhole ps ls → IsWhole qs ks
+whole_like : (ps qs : List Stated) (ls ks : List ℕ) → SameNumbers ps qs → sum ls ≡ sum ks → MeetsAnnounced ps ls → MeetsAnnounced qs ks
 whole_like ps qs ls ks same total is =
     subst (λ (o : Option ℕ). IfSome o (λ a. sum ks ≡ a)) same.announced (subst (λ (n : ℕ). IfSome (number_at 90 ps) (λ a. n ≡ a)) total is)
 

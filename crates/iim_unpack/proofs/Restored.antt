@@ -16,7 +16,7 @@ use Rattle.iim_fields.specs.Format.Standing as records
 use Rattle.iim_fields.specs.declared.limits.Limits.{Limits}
 use Rattle.iim_object.specs.Format.Numbers.{place_after_datasets, place_ended, ending_of}
 use Rattle.iim_object.specs.Format.Objects.{ObjectEnded, Confirmed, SubfileBegun}
-use Rattle.iim_object.specs.Format.Places.{NotEnded, ConfirmedAs, place_after}
+use Rattle.iim_object.specs.Format.Places.{NotEnded, place_after}
 use Rattle.iim_object.specs.Format.Places as objects
 use Rattle.iim_object.specs.Format.Plans.{max_subfiles}
 use Rattle.iim_object.specs.Format.Reading as reading
@@ -56,7 +56,7 @@ use Rattle.iim_unpack.proofs.Feeding.{TellsSizes, done_by}
 use Rattle.iim_unpack.proofs.Following.{alive_of}
 use Rattle.iim_unpack.proofs.Lasts.{sections_last}
 use Rattle.iim_unpack.proofs.LayersLead.{same_stated, present_ended, front_alive}
-use Rattle.iim_unpack.proofs.LeadsByLayers.{whole_at, subfile_at, opened_at, confirmed_at, nine_ended, one_same}
+use Rattle.iim_unpack.proofs.LeadsByLayers.{whole_at, subfile_at, opened_at, confirmed_at, few_heads, few_with_head, nine_ended, one_same}
 use Rattle.iim_unpack.proofs.PlainOpens.{fit_in_rows, possible_of}
 use Rattle.iim_unpack.proofs.SamePlace.{opened, fields_after, fields_in, some_read, has_begun, none_present, less_alive}
 use Rattle.iim_unpack.proofs.SameRecords.{IsStated, SameRecords, same_shape, stated_after_all, stated_at}
@@ -222,16 +222,6 @@ object_data laws limits reader ds h xs goes open' less = by (nat_eq h.rec 8) (na
     at : Bool → Bool → objects.Place
     at b c = if b then place_after (place_after_datasets ds) (SubfileBegun h.count) else if c then place_ended ds else place_after_datasets ds
 
-    few : length (lengths_of (of_record 8 ds)) ≤ max_subfiles
-    few = let count = count_of (of_record 8 ds) in let few = goes.within.subfiles in omega (arith, count, few)
-
-    more : nat_eq h.rec 8 ≡ true → length (lengths_of (of_record 8 ds) ++ h.count ∷ []) ≤ max_subfiles
-    more eight =
-        let count = count_of (of_record 8 ds) in
-        let one = length-append (lengths_of (of_record 8 ds)) (h.count ∷ []) in
-        let room = goes.room.subfiles (eqb-true h.rec 8 eight) in
-        omega (arith, count, one, room)
-
     by : (b c : Bool) → nat_eq h.rec 8 ≡ b → nat_eq h.rec 9 ≡ c → IsStated (at b c) → ObjectLives (at b c)
         → ((p : objects.Place) → IsAt (stated_numbers (numbers_of (of_record 7 ds))) (length (object_of ds ++ (if b then xs else []))) (if b then Some (h.count, h.count - length xs) else None) (length (of_record 8 ds) + (if b then 1 else 0)) p
         → IsPossible (if c then place_after p ObjectEnded else p) → reading.StandsAt reader (if c then place_after p ObjectEnded else p))
@@ -241,13 +231,13 @@ object_data laws limits reader ds h xs goes open' less = by (nat_eq h.rec 8) (na
         let is : place_after (record (place_after_datasets ds) { ending = NotEnded }) (SubfileBegun h.count) ≡ place_after (place_after_datasets ds) (SubfileBegun h.count) = ap (λ (p : objects.Place). place_after p (SubfileBegun h.count)) (opened_at ds none) in
         subst (reading.StandsAt reader) is
         (stands (place_after (record (place_after_datasets ds) { ending = NotEnded }) (SubfileBegun h.count)) (subfile_at ds h xs less)
-        (subst IsPossible (sym is) (possible_of (place_after (place_after_datasets ds) (SubfileBegun h.count)) stated (more eight) lives)))
+        (subst IsPossible (sym is) (possible_of (place_after (place_after_datasets ds) (SubfileBegun h.count)) stated (few_with_head limits ds h goes eight) lives)))
     by false true eight nine stated lives stands =
-        stands (record (place_after_datasets ds) { ending = NotEnded }) (whole_at ds (length (object_of ds ++ [])) (length (of_record 8 ds) + 0) (ap length (append-nil (object_of ds))) (omega arith)) (possible_of (place_ended ds) stated few lives)
+        stands (record (place_after_datasets ds) { ending = NotEnded }) (whole_at ds (length (object_of ds ++ [])) (length (of_record 8 ds) + 0) (ap length (append-nil (object_of ds))) (omega arith)) (possible_of (place_ended ds) stated (few_heads limits ds h goes) lives)
     by false false eight nine stated lives stands =
         subst (reading.StandsAt reader) (opened_at ds none)
         (stands (record (place_after_datasets ds) { ending = NotEnded }) (whole_at ds (length (object_of ds ++ [])) (length (of_record 8 ds) + 0) (ap length (append-nil (object_of ds))) (omega arith))
-        (subst IsPossible (sym (opened_at ds none)) (possible_of (place_after_datasets ds) stated few lives)))
+        (subst IsPossible (sym (opened_at ds none)) (possible_of (place_after_datasets ds) stated (few_heads limits ds h goes) lives)))
 
 -- Readers that were made for the place of whole datasets and a begun one stand in it.
 within_data : RestoreLaws → (limits : Limits) (at : ℕ) (u : Unpacking) (ds : List Dataset) (h : Head) (xs : List ℕ) (m : MessagePlace) (text : List ℕ) → AreMadeFor limits at u (place_of ds (InData h xs) m) → CanContinueAt limits ds h

@@ -5,7 +5,7 @@ use Rattle.iim_fields.specs.Format.Faults.{kept, kept_octets, joined}
 use Rattle.iim_fields.specs.Format.Standing.{IsWithin}
 use Rattle.iim_fields.specs.declared.limits.Limits.{Limits}
 use Rattle.iim_unpack.specs.Format.Begins.{AreNumbers}
-use Rattle.iim_unpack.specs.ByLayers.{TagsLead, RecordsLive, head_at}
+use Rattle.iim_unpack.specs.ByLayers.{TagsLead, RecordsLive, head_of_numbers}
 use Rattle.iim_unpack.specs.Format.Possible.{begun_count, begun_fields}
 use Rattle.iim_unpack.specs.Restoring.{HasFew, MayBegin, AreWithinWith}
 use Rattle.iim_unpack.specs.Taking.{AreKept, CanContinueWithin, numbers_told, told_datasets}
@@ -35,7 +35,7 @@ nothing : (xs : List ℕ) → length xs ≡ 0 → xs ≡ []
 nothing [] e = refl
 nothing (x ∷ xs) e = absurd (omega (arith, e))
 
-pub few_in : (section set count left : ℕ) (given : List ℕ) → TagsLead section (DataBegun set count left given) → HasFew (head_at section set count) given
+pub few_in : (section set count left : ℕ) (given : List ℕ) → TagsLead section (DataBegun set count left given) → HasFew (head_of_numbers section set count) given
 few_in section set count left given tags = (
   by (nat_eq section 8) tags.1,
   tags.2,
@@ -47,6 +47,6 @@ few_in section set count left given tags = (
     by false e = omega (arith, e)
 
 pub may_begin : (limits : Limits) (section set count left : ℕ) (given : List ℕ) (ds : List Dataset) → RecordsLive section (DataBegun set count left given) ds → AreWithinWith limits section (DataBegun set count left given) ds
-    → MayBegin limits ds (head_at section set count)
+    → MayBegin limits ds (head_of_numbers section set count)
 may_begin limits section set count left given ds lives within =
     (lives, (λ is. subst (λ (b : Bool). IsWithin limits (kept_octets ds + (if b then count else 0)) (length (kept ds) + (if b then 1 else 0))) is within))

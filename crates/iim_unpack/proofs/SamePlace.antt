@@ -369,7 +369,7 @@ keeps_as (Inside g left) (InData h xs) (InData i ys) same (is, many) =
     let long = same.many in
     (is ∙ same.head, omega (arith, many, count, long))
 
-told_by : (parts : Parts) (ds es : List Dataset) (b c : Begun) → ds ≡ es → begun_data b ≡ begun_data c → StandsFor parts ds b → StandsFor parts es c
+pub told_by : (parts : Parts) (ds es : List Dataset) (b c : Begun) → ds ≡ es → begun_data b ≡ begun_data c → StandsFor parts ds b → StandsFor parts es c
 told_by parts ds es (InTag x) (InTag y) e same at = subst (AreAfter parts) e at
 told_by parts ds es (InTag x) (InData h t) e same at = absurd (let bad : None ≡ Some (h, t) = same in cc)
 told_by parts ds es (InData h t) (InTag x) e same at = absurd (let bad : Some (h, t) ≡ None = same in cc)

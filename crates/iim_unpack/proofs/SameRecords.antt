@@ -5,7 +5,7 @@ use Rattle.std.proofs.lemmas.Bool.{eqb-true}
 use Rattle.std.proofs.lemmas.Bool.Decides.{eqb_tells}
 use Rattle.std.proofs.lemmas.List.Elements.{filter-append}
 use Rattle.std.proofs.lemmas.List.Folds.{list_any-append}
-use Rattle.iim_dataset.specs.Format.Octets.{Octets, number}
+use Rattle.iim_dataset.specs.Format.Octets.{number}
 use Rattle.iim_dataset.specs.Format.Datasets.{Dataset, head_of, of_record}
 use Rattle.iim_dataset.specs.declared.head.Head.{Head}
 use Rattle.iim_tables.specs.Format.Rows.{table, row_of, Meets}

@@ -9,7 +9,7 @@ use Rattle.iim_unpack.specs.TicketFields.{HoldsFields}
 use Rattle.iim_unpack.specs.Begins.{BeginsWithNone, BeginsWithFewer, FieldsBefore, IsFour}
 use Rattle.iim_unpack.specs.Format.Begins.{AreFields, AreNumbers, AreTexts, IsSize, IsShort}
 use Rattle.iim_unpack.specs.FieldLaws.{first_same, rest_same, fronts, one_four, one_field, some_octets, same_fields}
-use Rattle.iim_unpack.specs.Format.TicketForm.{IsPhase, IsFaultOf, HasForm, Split, SplitsInto, TicketsHaveOneSplit, split_octets, came}
+use Rattle.iim_unpack.specs.Format.TicketForm.{IsPhase, IsFaultOf, HasForm, Split, SplitsTicket, TicketsHaveOneSplit, split_octets, came}
 use Rattle.iim_unpack.specs.TicketParts.{AreNoMessage, AreNoBody, body_octets, message_parts}
 use Rattle.iim_unpack.specs.declared.ticket_fault.TicketFault.TheVariants.{Form}
 
@@ -349,7 +349,7 @@ pub one_split : TicketsHaveOneSplit
 one_split ticket s t hs ht = one_body s t hs.form ht.form (one_name _ _ (sym (whole_ticket s) ∙ sym hs.spelled ∙ ht.spelled ∙ whole_ticket t))
 
 -- The name and the version before a body make a ticket.
-pub splits : (ticket body : List ℕ) (s : Split) → ticket ≡ ticket_name ++ body → body ≡ body_octets s → HasForm s → SplitsInto ticket s
+pub splits : (ticket body : List ℕ) (s : Split) → ticket ≡ ticket_name ++ body → body ≡ body_octets s → HasForm s → SplitsTicket ticket s
 splits ticket body s named parts form = record { form = form; spelled = named ∙ ap (λ (xs : List ℕ). ticket_name ++ xs) parts ∙ sym (whole_ticket s) }
 
 -- A ticket whose body has no parts has not the form.

@@ -15,7 +15,7 @@ use Rattle.iim_fields.specs.declared.fault.FieldFault.{FieldFault}
 use Rattle.iim_fields.specs.declared.limits.Limits.{Limits}
 use Rattle.iim_unpack.specs.Plain.{mode_dataset}
 use Rattle.iim_unpack.specs.Format.Possible.{widest}
-use Rattle.iim_unpack.specs.Taking.{CanContinueWithin, TookAll}
+use Rattle.iim_unpack.specs.Taking.{CanContinueWithin, TookDatasets}
 use Rattle.iim_unpack.proofs.Limits.{kept_first, kept_octets_append, kept_length_append}
 use Rattle.iim_unpack.proofs.TicketLengths.{all_join, all_weaker}
 
@@ -36,35 +36,35 @@ front_leads_on limits xs ys goes =
 
 -- ---- takes
 
-pub took_nothing : {T : Type 0} (ready : T → Type 0) (stands : T → List Dataset → Type 0) (limits : T → Limits) (a : T) → ready a → TookAll ready stands limits a [] a true
+pub took_nothing : {T : Type 0} (ready : T → Type 0) (stands : T → List Dataset → Type 0) (limits : T → Limits) (a : T) → ready a → TookDatasets ready stands limits a [] a true
 took_nothing ready stands limits a is = (is, refl, λ ds s. subst (stands a) (sym (append-nil ds)) s)
 
 pub took_more : {T : Type 0} (ready : T → Type 0) (stands : T → List Dataset → Type 0) (limits : T → Limits) (a b c : T) (es fs : List Dataset) (all : Bool)
-    → TookAll ready stands limits a es b true → TookAll ready stands limits b fs c all → TookAll ready stands limits a (es ++ fs) c all
+    → TookDatasets ready stands limits a es b true → TookDatasets ready stands limits b fs c all → TookDatasets ready stands limits a (es ++ fs) c all
 took_more ready stands limits a b c es fs true h k = (k.0, k.1 ∙ h.1, λ ds s. subst (stands c) (append_assoc ds es fs) (k.2 (ds ++ es) (h.2 ds s)))
 took_more ready stands limits a b c es fs false h k = λ ds s goes.
     k (ds ++ es) (h.2 ds s) (subst (λ (l : Limits). CanContinueWithin l ((ds ++ es) ++ fs)) (sym h.1) (subst (CanContinueWithin (limits a)) (sym (append_assoc ds es fs)) goes))
 
 -- where some are not taken, they are not taken with others after them
 pub took_none : {T : Type 0} (ready : T → Type 0) (stands : T → List Dataset → Type 0) (limits : T → Limits) (a b c : T) (es fs : List Dataset)
-    → TookAll ready stands limits a es b false → TookAll ready stands limits a (es ++ fs) c false
+    → TookDatasets ready stands limits a es b false → TookDatasets ready stands limits a (es ++ fs) c false
 took_none ready stands limits a b c es fs h = λ ds s goes. h ds s (front_leads_on (limits a) (ds ++ es) fs (subst (CanContinueWithin (limits a)) (sym (append_assoc ds es fs)) goes))
 
 -- a take after another, and their value
 pub took_then : {T : Type 0} (ready : T → Type 0) (stands : T → List Dataset → Type 0) (limits : T → Limits) (a b c d : T) (es fs : List Dataset) (first last all : Bool)
-    → TookAll ready stands limits a es b first → first ≡ true → TookAll ready stands limits b fs c last → d ≡ c → all ≡ last → TookAll ready stands limits a (es ++ fs) d all
+    → TookDatasets ready stands limits a es b first → first ≡ true → TookDatasets ready stands limits b fs c last → d ≡ c → all ≡ last → TookDatasets ready stands limits a (es ++ fs) d all
 took_then {T} ready stands limits a b c d es fs first last all h one k same is =
-    subst (λ (x : T). TookAll ready stands limits a (es ++ fs) x all) (sym same)
-    (subst (λ (v : Bool). TookAll ready stands limits a (es ++ fs) c v) (sym is) (took_more ready stands limits a b c es fs last (subst (λ (v : Bool). TookAll ready stands limits a es b v) one h) k))
+    subst (λ (x : T). TookDatasets ready stands limits a (es ++ fs) x all) (sym same)
+    (subst (λ (v : Bool). TookDatasets ready stands limits a (es ++ fs) c v) (sym is) (took_more ready stands limits a b c es fs last (subst (λ (v : Bool). TookDatasets ready stands limits a es b v) one h) k))
 
 pub took_else : {T : Type 0} (ready : T → Type 0) (stands : T → List Dataset → Type 0) (limits : T → Limits) (a b c : T) (es fs : List Dataset) (first all : Bool)
-    → TookAll ready stands limits a es b first → first ≡ false → all ≡ false → TookAll ready stands limits a (es ++ fs) c all
+    → TookDatasets ready stands limits a es b first → first ≡ false → all ≡ false → TookDatasets ready stands limits a (es ++ fs) c all
 took_else ready stands limits a b c es fs first all h none is =
-    subst (λ (v : Bool). TookAll ready stands limits a (es ++ fs) c v) (sym is) (took_none ready stands limits a b c es fs (subst (λ (v : Bool). TookAll ready stands limits a es b v) none h))
+    subst (λ (v : Bool). TookDatasets ready stands limits a (es ++ fs) c v) (sym is) (took_none ready stands limits a b c es fs (subst (λ (v : Bool). TookDatasets ready stands limits a es b v) none h))
 
 -- the same of the datasets and the value told otherwise
-pub took_as : {T : Type 0} (ready : T → Type 0) (stands : T → List Dataset → Type 0) (limits : T → Limits) (a b : T) (es fs : List Dataset) (v w : Bool) → es ≡ fs → v ≡ w → TookAll ready stands limits a es b v → TookAll ready stands limits a fs b w
-took_as {T} ready stands limits a b es fs v w same is took = subst (λ (x : Bool). TookAll ready stands limits a fs b x) is (subst (λ (xs : List Dataset). TookAll ready stands limits a xs b v) same took)
+pub took_as : {T : Type 0} (ready : T → Type 0) (stands : T → List Dataset → Type 0) (limits : T → Limits) (a b : T) (es fs : List Dataset) (v w : Bool) → es ≡ fs → v ≡ w → TookDatasets ready stands limits a es b v → TookDatasets ready stands limits a fs b w
+took_as {T} ready stands limits a b es fs v w same is took = subst (λ (x : Bool). TookDatasets ready stands limits a fs b x) is (subst (λ (xs : List Dataset). TookDatasets ready stands limits a xs b v) same took)
 
 -- ---- what no datasets can continue with
 
@@ -97,7 +97,7 @@ no_wide_mode limits ds n wide goes =
 pub value_took : (a b c : Option RecordPlace) (d : Dataset) (r : Result (Option ℕ) FieldFault) → ((ds : List Dataset) → HasChecked a ds → HasTaken b ds (head_of d)) → d.rec ≢ 8
     → OnOk r (TakesHead c) → IfOk r (λ number. (ds : List Dataset) (h : Head) → IsChecking b ds h → HasChecked c (ds ++ data_of h d.octets ∷ []) × (number ≡ number_told (data_of h d.octets)))
     → IfErr r (λ fault. (ds : List Dataset) (h : Head) → IsChecking b ds h → IsValueFault ds (data_of h d.octets) fault)
-    → TookAll TakesHead HasChecked (λ (_ : Option RecordPlace). widest) a (d ∷ []) c (is_ok r)
+    → TookDatasets TakesHead HasChecked (λ (_ : Option RecordPlace). widest) a (d ∷ []) c (is_ok r)
 value_took a b c d (Ok number) taken other takes stands fault = (takes, refl, λ ds s. (stands ds (head_of d) ((taken ds s).checking other)).0)
 value_took a b c d (Err e) taken other takes stands fault = λ ds s goes. (fault ds (head_of d) ((taken ds s).checking other)).dead goes.alive
 
@@ -118,7 +118,7 @@ pub closed_took : (a b c : FieldsPlace) (d : Dataset) (taken : List ℕ) (r : Re
     → OnOk r (IsBetween c) → limits_of c ≡ limits_of a
     → IfOk r (λ number. (ds : List Dataset) (h : Head) (xs : List ℕ) → StandsIn b ds h xs → (e : Dataset) → IsOf h xs e → StandsAfter c (ds ++ e ∷ []) × (number ≡ number_told e))
     → IfErr r (λ fault. (ds : List Dataset) (h : Head) (xs : List ℕ) → StandsIn b ds h xs → IsValueFault ds (data_of h xs) fault)
-    → TookAll IsBetween StandsAfter limits_of a (d ∷ []) c (is_ok r)
+    → TookDatasets IsBetween StandsAfter limits_of a (d ∷ []) c (is_ok r)
 closed_took a b c d taken (Ok number) stands is between same closes fault = (between, same, λ ds s. (closes ds (head_of d) taken (stands ds s) d is).0)
 closed_took a b c d taken (Err e) stands is between same closes fault = λ ds s goes.
     let bad = fault ds (head_of d) taken (stands ds s) in

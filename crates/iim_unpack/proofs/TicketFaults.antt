@@ -4,7 +4,7 @@ use Rattle.iim_fields.specs.declared.limits.Limits.{Limits}
 use Rattle.iim_unpack.specs.Format.Possible.{AreHeadsWithin, TicketsTellOnePlace}
 use Rattle.iim_unpack.specs.Possible.{TicketsOfPlacesAreSplit, split_of}
 use Rattle.iim_unpack.specs.Format.Restored.{IsTicketAt, PossiblePlacesAreTaken, fields_told, octets_told}
-use Rattle.iim_unpack.specs.Format.TicketForm.{HasOtherVersion, SplitsInto}
+use Rattle.iim_unpack.specs.Format.TicketForm.{HasOtherVersion, SplitsTicket}
 use Rattle.iim_unpack.specs.Format.Tickets.{Place, ticket_of}
 use Rattle.iim_unpack.specs.declared.ticket_fault.TicketFault.{TicketFault}
 use Rattle.iim_unpack.specs.declared.ticket_fault.TicketFault.TheVariants.{Form, Version, Impossible, HeaderFull, TooManyFields, OutOfMemory}
@@ -15,8 +15,8 @@ Due limits place fault =
     (limits.octets < octets_told place → fault ≡ HeaderFull) × (octets_told place ≤ limits.octets → limits.fields < fields_told place → fault ≡ TooManyFields)
     × (AreHeadsWithin limits place → fault ≡ OutOfMemory)
 
-parts_of : TicketsOfPlacesAreSplit → (ticket : List ℕ) (place : Place) → IsTicketAt ticket place → SplitsInto ticket (split_of place)
-parts_of split ticket place is = subst (λ (xs : List ℕ). SplitsInto xs (split_of place)) (sym is.spelled) (split place is.possible)
+parts_of : TicketsOfPlacesAreSplit → (ticket : List ℕ) (place : Place) → IsTicketAt ticket place → SplitsTicket ticket (split_of place)
+parts_of split ticket place is = subst (λ (xs : List ℕ). SplitsTicket xs (split_of place)) (sym is.spelled) (split place is.possible)
 
 no_version : (ticket : List ℕ) (place : Place) → IsTicketAt ticket place → HasOtherVersion ticket → ⊥
 no_version ticket place is other =

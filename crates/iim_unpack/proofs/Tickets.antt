@@ -32,6 +32,7 @@ use Rattle.iim_unpack.specs.Format.Tickets.{TagBegun, DataBegun, AllEnded, phase
 use Rattle.iim_unpack.specs.Tickets.{phase_in, IsSpelled}
 use Rattle.iim_unpack.specs.declared.parts.Parts.{Parts}
 use Rattle.iim_unpack.proofs.Ended.{ended_by_record, unended_inside}
+use Rattle.iim_unpack.proofs.SamePlace.{told_by}
 
 -- ---- lengths
 
@@ -86,19 +87,6 @@ message_at reader octets text m (at, is, leads) (place, has, same) =
     let one : at ≡ place = some-same (sym is ∙ has) in (at, leads, ap saved one ∙ same)
   where
     some-same : {x y : Message} → Some x ≡ Some y → x ≡ y
-    some-same e = cc
-
--- ---- begun datasets that are told alike
-
-told_by : (parts : Parts) (ds es : List Dataset) (b c : Begun) → ds ≡ es → begun_data b ≡ begun_data c → StandsFor parts ds b → StandsFor parts es c
-told_by parts ds es (InTag x) (InTag y) e same at = subst (AreAfter parts) e at
-told_by parts ds es (InTag x) (InData h t) e same at = absurd (let bad : None ≡ Some (h, t) = same in cc)
-told_by parts ds es (InData h t) (InTag x) e same at = absurd (let bad : Some (h, t) ≡ None = same in cc)
-told_by parts ds es (InData h t) (InData k v) e same at =
-    let pair : (h, t) ≡ (k, v) = some-same same in
-    subst (λ (x : Head × List ℕ). Within parts es x.0 x.1) pair (subst (λ (x : List Dataset). Within parts x h t) e at)
-  where
-    some-same : {x y : Head × List ℕ} → Some x ≡ Some y → x ≡ y
     some-same e = cc
 
 -- ---- the place

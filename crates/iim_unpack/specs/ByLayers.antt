@@ -22,15 +22,15 @@ use Rattle.iim_unpack.specs.Format.Tickets.{Place, Phase, TagBegun, DataBegun, A
 -- ---- the dataset layer
 
 -- the head of begun data
-abbrev pub head_at : (section set count : ℕ) → Head
-head_at section set count = record { rec = section; set = set; count = count }
+abbrev pub head_of_numbers : (section set count : ℕ) → Head
+head_of_numbers section set count = record { rec = section; set = set; count = count }
 
 -- Octets lead to what is begun: to the held octets of a tag; or to the data of a head, of which those that have come are kept, unless
 -- it is a subfile's.
 abbrev pub TagsLead : ℕ → Phase → Type 0
 TagsLead section (TagBegun held) = BeginsTag count_octets held
 TagsLead section (DataBegun set count left taken) =
-    IsPlace (Inside (head_at section set count) left) × (length taken ≡ came section count left) × Octets taken
+    IsPlace (Inside (head_of_numbers section set count) left) × (length taken ≡ came section count left) × Octets taken
 TagsLead section AllEnded = ⊤
 
 -- ---- the record layer
@@ -60,7 +60,7 @@ record_datasets p numbers = plain p.fields numbers (one_of_some (p.heads - begun
 -- The layer can continue after the whole datasets with what is begun, and the section is the record of the last head.
 abbrev pub RecordsLive : ℕ → Phase → List Dataset → Type 0
 RecordsLive section (TagBegun held) ds = (present_record ds ≡ section) × SectionsLive ds
-RecordsLive section (DataBegun set count left taken) ds = SectionsLiveAt ds (head_at section set count)
+RecordsLive section (DataBegun set count left taken) ds = SectionsLiveAt ds (head_of_numbers section set count)
 RecordsLive section AllEnded ds = (section ≡ 9) × SectionsLive ds
 
 -- ---- the object layer

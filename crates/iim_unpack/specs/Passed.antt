@@ -30,10 +30,10 @@ octets_in (ObjectOctet b ∷ es) = b ∷ octets_in es
 octets_in (ObjectEnd ∷ es) = octets_in es
 
 -- whether the end has come and no octet after it, where it had or had not before the events
-abbrev pub is_ended : Bool → List ObjectEvent → Bool
-is_ended b [] = b
-is_ended b (ObjectOctet x ∷ es) = is_ended false es
-is_ended b (ObjectEnd ∷ es) = is_ended true es
+abbrev pub end_is_last : Bool → List ObjectEvent → Bool
+end_is_last b [] = b
+end_is_last b (ObjectOctet x ∷ es) = end_is_last false es
+end_is_last b (ObjectEnd ∷ es) = end_is_last true es
 
 -- The reader took the events, and the sink was told what is delivered of the text that they add.
 pub record Passed {S : Type 0} (goes : S → List story.StoryEvent → S → Type 0) (failures : S → ℕ) (old : Option Place) (a : S) (events : List ObjectEvent) (new : Option Place) (b : S) : Type 0 where
@@ -42,7 +42,7 @@ pub record Passed {S : Type 0} (goes : S → List story.StoryEvent → S → Typ
   pub told : goes a (story.delivered more) b
   pub calm : failures b ≡ failures a
   pub stands : LeadsOn old (octets_in events) more new
-  pub whole : (before : Bool) → (before ≡ true → IsWhole old) → is_ended before events ≡ true → IsWhole new
+  pub whole : (before : Bool) → (before ≡ true → IsWhole old) → end_is_last before events ≡ true → IsWhole new
 
 -- why the event is refused after these octets
 abbrev pub HasCauseAt : MessageCause → List ℕ → ObjectEvent → Type 0

@@ -11,7 +11,7 @@ use Rattle.wire_message.specs.declared.place.Place.{Place}
 use Rattle.wire_message.specs.declared.fault.MessageCause.{MessageCause}
 use Rattle.wire_message.specs.declared.fault.MessageCause.TheVariants.{Unfinished}
 use Rattle.wire_story.specs.Format.Tokens.{End}
-use Rattle.iim_unpack.specs.Passed.{octets_in, is_ended, Passed, HasCauseAt, Halted}
+use Rattle.iim_unpack.specs.Passed.{octets_in, end_is_last, Passed, HasCauseAt, Halted}
 
 pub octets_in-append : (xs ys : List ObjectEvent) → octets_in (xs ++ ys) ≡ octets_in xs ++ octets_in ys
 octets_in-append [] ys = refl
@@ -22,12 +22,12 @@ pub octets_in-octets : (xs : List ℕ) → octets_in (map ObjectOctet xs) ≡ xs
 octets_in-octets [] = refl
 octets_in-octets (x ∷ xs) = ap (λ zs. x ∷ zs) (octets_in-octets xs)
 
-pub is_ended-append : (b : Bool) (xs ys : List ObjectEvent) → is_ended b (xs ++ ys) ≡ is_ended (is_ended b xs) ys
+pub is_ended-append : (b : Bool) (xs ys : List ObjectEvent) → end_is_last b (xs ++ ys) ≡ end_is_last (end_is_last b xs) ys
 is_ended-append b [] ys = refl
 is_ended-append b (ObjectOctet x ∷ xs) ys = is_ended-append false xs ys
 is_ended-append b (ObjectEnd ∷ xs) ys = is_ended-append true xs ys
 
-not_ended : (xs : List ℕ) → is_ended false (map ObjectOctet xs) ≡ false
+not_ended : (xs : List ℕ) → end_is_last false (map ObjectOctet xs) ≡ false
 not_ended [] = refl
 not_ended (x ∷ xs) = not_ended xs
 
@@ -59,7 +59,7 @@ passed_joined goes failures joined p q r a b c xs ys h k = record {
       let next = k.stands (octets ++ octets_in xs) (text ++ h.more) (h.stands octets text at) in
       subst (λ (t : List ℕ). StandsAt r (octets ++ octets_in (xs ++ ys)) t) (append_assoc text h.more k.more)
       (subst (λ (o : List ℕ). StandsAt r o ((text ++ h.more) ++ k.more)) (append_assoc octets (octets_in xs) (octets_in ys) ∙ ap (λ zs. octets ++ zs) (sym (octets_in-append xs ys))) next);
-  whole = λ before w e. k.whole (is_ended before xs) (λ e'. h.whole before w e') (sym (is_ended-append before xs ys) ∙ e);
+  whole = λ before w e. k.whole (end_is_last before xs) (λ e'. h.whole before w e') (sym (is_ended-append before xs ys) ∙ e);
 }
 
 pub halted_joined : {S : Type 0} (goes : S → List story.StoryEvent → S → Type 0) (failures : S → ℕ)

@@ -1,10 +1,10 @@
 -- The tickets of places, and what an unpacker at a place does.
-use Rattle.std.specs.Prelude.{ℕ, ◌-◌, List, [], ◌∷◌}
+use Rattle.std.specs.Prelude.{ℕ, List, [], ◌∷◌}
 use Rattle.iim_unpack.specs.Format.Unpacking.{Unpacking, Stands, limits_in}
 use Rattle.iim_unpack.specs.Format.Open.{IsOpen}
 use Rattle.wire_message.specs.declared.saved.MessagePlace.{MessagePlace}
 use Rattle.iim_unpack.specs.Format.Tickets.{Place, IsPlaceOf, part_number, ticket_of}
-use Rattle.iim_unpack.specs.Format.TicketForm.{Split, SplitsInto}
+use Rattle.iim_unpack.specs.Format.TicketForm.{Split, SplitsTicket}
 use Rattle.iim_unpack.specs.Format.Possible.{Possible}
 
 -- An unpacker stands by the place alone: on all octets that lead there and are open under its limits, if on some.
@@ -34,4 +34,4 @@ split_of p = record {
 
 -- The ticket of a possible place has the form of a ticket, with the parts of the place.
 abbrev pub TicketsOfPlacesAreSplit : Type 0
-TicketsOfPlacesAreSplit = (place : Place) → Possible place → SplitsInto (ticket_of place) (split_of place)
+TicketsOfPlacesAreSplit = (place : Place) → Possible place → SplitsTicket (ticket_of place) (split_of place)

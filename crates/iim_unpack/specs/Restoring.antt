@@ -16,7 +16,7 @@ use Rattle.wire_message.specs.Format.Reading as wire
 use Rattle.wire_message.specs.Format.Saved.{LeadToSaved}
 use Rattle.wire_message.specs.declared.place.Place.{Place as Message}
 use Rattle.wire_message.specs.declared.saved.MessagePlace.{MessagePlace}
-use Rattle.iim_unpack.specs.ByLayers.{LeadsByLayers, head_at, record_datasets, begun_of_object, object_after}
+use Rattle.iim_unpack.specs.ByLayers.{LeadsByLayers, head_of_numbers, record_datasets, begun_of_object, object_after}
 use Rattle.iim_unpack.specs.Plain.{Numbers}
 use Rattle.iim_unpack.specs.Format.Possible.{AreHeadsWithin, begun_count, begun_fields}
 use Rattle.iim_unpack.specs.Possible.{split_of}
@@ -41,7 +41,7 @@ IsLimitFault limits octets fields _ = ⊥
 -- Where the reader of records stands by whole datasets: after them, or in the begun data after them.
 abbrev pub RecordsStand : FieldsPlace → ℕ → Phase → List Dataset → Type 0
 RecordsStand fields section (TagBegun held) ds = StandsAfter fields ds
-RecordsStand fields section (DataBegun set count left given) ds = StandsIn fields ds (head_at section set count) given
+RecordsStand fields section (DataBegun set count left given) ds = StandsIn fields ds (head_of_numbers section set count) given
 RecordsStand fields section AllEnded ds = StandsAfter fields ds
 
 -- whether an octet has come: there was a head, or a tag is begun

@@ -11,7 +11,7 @@ use Rattle.iim_fields.specs.Format.Standing.{IsWithin}
 use Rattle.iim_fields.specs.Format.Stores.{Room}
 use Rattle.iim_fields.specs.declared.limits.Limits.{Limits}
 use Rattle.wire_message.specs.declared.saved.MessagePlace.{MessagePlace}
-use Rattle.iim_unpack.specs.ByLayers.{head_at}
+use Rattle.iim_unpack.specs.ByLayers.{head_of_numbers}
 use Rattle.iim_unpack.specs.Plain.{Numbers, plain}
 use Rattle.iim_unpack.specs.Possible.{texts_of}
 use Rattle.iim_unpack.specs.Format.Tickets.{Phase, TagBegun, DataBegun, AllEnded, part_number}
@@ -27,9 +27,9 @@ pub record CanContinueWithin (limits : Limits) (ds : List Dataset) : Type 0 wher
 
 -- Whether it took the datasets. If so, it stands after them, wherever it stood. If not, no datasets within the limits can continue with
 -- them, wherever it stood.
-abbrev pub TookAll : {T : Type 0} → (T → Type 0) → (T → List Dataset → Type 0) → (T → Limits) → T → List Dataset → T → Bool → Type 0
-TookAll ready stands limits old es new true = ready new × (limits new ≡ limits old) × ((ds : List Dataset) → stands old ds → stands new (ds ++ es))
-TookAll ready stands limits old es new false = (ds : List Dataset) → stands old ds → CanContinueWithin (limits old) (ds ++ es) → ⊥
+abbrev pub TookDatasets : {T : Type 0} → (T → Type 0) → (T → List Dataset → Type 0) → (T → Limits) → T → List Dataset → T → Bool → Type 0
+TookDatasets ready stands limits old es new true = ready new × (limits new ≡ limits old) × ((ds : List Dataset) → stands old ds → stands new (ds ++ es))
+TookDatasets ready stands limits old es new false = (ds : List Dataset) → stands old ds → CanContinueWithin (limits old) (ds ++ es) → ⊥
 
 -- the room of what keeps nothing
 abbrev pub no_room : Room
@@ -47,7 +47,7 @@ told_datasets fields numbers some ended = plain fields (numbers_told numbers) (c
 -- where the next octet stands
 abbrev pub tag_place : ℕ → Phase → DatasetPlace
 tag_place section (TagBegun held) = Tag (record { items = held })
-tag_place section (DataBegun set count left taken) = Inside (head_at section set count) left
+tag_place section (DataBegun set count left taken) = Inside (head_of_numbers section set count) left
 tag_place section AllEnded = between
 
 -- The place of a message that a ticket tells by its part, counter, flag and texts.

@@ -5,11 +5,8 @@ ghost use Rattle.std.specs.Io.KnownBytes.{IsAtEnd};
 ghost use Rattle.iim_dataset.specs.Format.Devices.{Missed};
 ghost use Rattle.iim_dataset.specs.Format.DeviceLaws.{HasGiven};
 
-use iim_dataset::{IoFault, Source, take};
+use iim_dataset::{BLOCK, IoFault, Source, take};
 use std::marker::Model;
-
-/// How many octets are asked for at once.
-const BLOCK: usize = 4096;
 
 /// Octets that were read and not used yet, in room for a read.
 #[derive(Drop)]

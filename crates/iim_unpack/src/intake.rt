@@ -1,6 +1,6 @@
 //! Envelopes, one after another, from a source.
 
-ghost use Rattle.std.specs.Prelude.{◌≡◌, ◌≢◌, ◌<◌, ◌≤◌, [], ℕ, List, Option, Some, None, Ok, Err, true, false, length, IfOk, IfErr, OnOk, OnErr};
+ghost use Rattle.std.specs.Prelude.{◌≡◌, ◌<◌, [], ℕ, Option, Some, None, Ok, Err, true, false, length, IfOk, IfErr, OnOk, OnErr};
 ghost use Rattle.std.specs.Io.KnownBytes.{IsAtEnd};
 ghost use Rattle.iim_dataset.specs.Format.DeviceLaws.{HasGiven, MissedAfter};
 ghost use Rattle.iim_unpack.specs.Format.Blocks.{with_held};

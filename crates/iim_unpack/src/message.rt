@@ -1,8 +1,8 @@
 //! The way of an object's octets to the message, and of its text to the caller's sink.
 
-ghost use Rattle.std.specs.Prelude.{◌≡◌, ◌<◌, ◌++◌, [], ◌∷◌, List, ℕ, length, map, take, slice_index, Some, IsSome, IfErr, OnOk, OnErr, refl};
+ghost use Rattle.std.specs.Prelude.{◌≡◌, ◌<◌, length, map, take, slice_index, Some, IsSome, IfErr, OnOk, refl};
 ghost use Rattle.std.proofs.Common.{◌∙◌};
-ghost use Rattle.iim_object.specs.Format.Events.{ObjectEvent, ObjectOctet, ObjectEnd};
+ghost use Rattle.iim_object.specs.Format.Events.{ObjectOctet};
 ghost use Rattle.iim_object.specs.Format.Places.{head_token};
 ghost use Rattle.iim_object.specs.Format.Reading.{LeadsOn, events_at};
 ghost use Rattle.iim_unpack.specs.Passed.{Passed, Halted, PassesTo, HaltsAt, RefusesOctet, RefusesEnd, RefusesObject};

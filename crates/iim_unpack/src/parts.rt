@@ -1,9 +1,8 @@
 //! The readers of an unpacker after that of the tags, as one.
 
-ghost use Rattle.std.specs.Prelude.{◌≡◌, ◌<◌, ◌≤◌, ◌-◌, ℕ, List, [], ◌∷◌, ◌++◌, length, map, take, slice_index, Some, IsSome, IfOk, IfErr, OnOk};
-ghost use Rattle.iim_dataset.specs.Format.Datasets.{Dataset};
+ghost use Rattle.std.specs.Prelude.{◌≡◌, ◌<◌, ◌≤◌, ◌-◌, ℕ, [], ◌∷◌, length, map, take, slice_index, Some, IsSome, IfErr, OnOk};
 ghost use Rattle.iim_dataset.specs.Format.Events.{HeadRead, DataOctet};
-ghost use Rattle.iim_fields.specs.Format.Standing.{limits_of, room_of, IsBetween};
+ghost use Rattle.iim_fields.specs.Format.Standing.{room_of, IsBetween};
 ghost use Rattle.iim_object.specs.Format.Places.{head_token, value_token};
 ghost use Rattle.iim_object.specs.Format.Reading.{LeadsOn, events_at};
 ghost use Rattle.iim_unpack.specs.Format.Refusals.{IsObjectFault};

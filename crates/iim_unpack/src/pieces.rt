@@ -1,6 +1,6 @@
 //! A stream in pieces.
 
-ghost use Rattle.std.specs.Prelude.{◌≡◌, ◌≢◌, ℕ, [], IfOk, IfErr, OnOk};
+ghost use Rattle.std.specs.Prelude.{◌≡◌, ◌≢◌, [], IfOk, IfErr, OnOk};
 ghost use Rattle.iim_unpack.specs.Format.Parts.{CountsFor};
 ghost use Rattle.iim_unpack.specs.Pieces.{HasFed};
 ghost use Rattle.iim_unpack.specs.Format.Pieces.{IsAnswer, IsTurnedDown, IsUnpacked, stream_of};

@@ -10,7 +10,7 @@ ghost use Rattle.iim_unpack.specs.Format.Possible.{begun_count, begun_fields};
 ghost use Rattle.iim_unpack.specs.Restoring.{AreAt, RecordsStand, MayBegin, AreWithinWith, HasFew, IsLimitFault, has_come};
 ghost use Rattle.iim_unpack.specs.Format.Restored.{IsRestored, IsRestoreFault};
 ghost use Rattle.iim_unpack.specs.Taking.{AreKept, told_datasets};
-ghost use Rattle.iim_unpack.specs.Format.TicketForm.{HasForm, SplitsInto};
+ghost use Rattle.iim_unpack.specs.Format.TicketForm.{HasForm, SplitsTicket};
 ghost use Rattle.iim_unpack.specs.TicketParts.{phase_told, split_told};
 ghost use Rattle.iim_unpack.specs.Format.Unpacking.{room_in};
 
@@ -133,7 +133,7 @@ fn unpacker_at(
     requires form { HasForm (split_told parts.now) }
     requires readers { AreAt (split_told parts.now) readers }
     requires within { IsWithin limits readers.octets readers.fields }
-    ensures restored { IfOk result (λ u. (ticket : List ℕ) → SplitsInto ticket (split_told parts.now) → IsRestored limits ticket at u) }
+    ensures restored { IfOk result (λ u. (ticket : List ℕ) → SplitsTicket ticket (split_told parts.now) → IsRestored limits ticket at u) }
     ensures room { IfOk result (λ u. room_in u ≡ room_for limits) }
 {
     readers_make_unpackers();

@@ -1,6 +1,6 @@
 //! The way of datasets to the parts of an unpacker.
 
-ghost use Rattle.std.specs.Prelude.{◌≡◌, refl};
+ghost use Rattle.std.specs.Prelude.{refl};
 ghost use Rattle.std.proofs.Common.{◌∙◌};
 ghost use Rattle.iim_unpack.specs.Going.{went_nothing, went_joined, stopped_joined};
 ghost use Rattle.iim_unpack.specs.Routing.{Routes, RefusesRoute, TakesNext, IsOver};

@@ -1,6 +1,6 @@
 //! What takes whole datasets, one after another: a check of records, or a reader that keeps them.
 
-ghost use Rattle.std.specs.Prelude.{◌≡◌, ℕ, [], ◌∷◌, ◌++◌, List, length, IsTrue, true, cond};
+ghost use Rattle.std.specs.Prelude.{◌≡◌, [], ◌∷◌, ◌++◌, List, IsTrue, true, cond};
 ghost use Rattle.iim_dataset.specs.Format.Datasets.{Dataset};
 ghost use Rattle.iim_fields.specs.Format.Checks as checks;
 ghost use Rattle.iim_fields.specs.Format.Faults.{is_kept};
@@ -11,7 +11,7 @@ ghost use Rattle.iim_object.specs.Format.Packing.{number_dataset};
 ghost use Rattle.iim_unpack.specs.Format.Begins.{dataset, AreNumbers, IsSize};
 ghost use Rattle.iim_unpack.specs.Plain.{mode_dataset, one_dataset, plain_end, plain_numbers};
 ghost use Rattle.iim_unpack.specs.Format.Possible.{widest};
-ghost use Rattle.iim_unpack.specs.Taking.{AreKept, TookAll, no_room, numbers_told, told_datasets};
+ghost use Rattle.iim_unpack.specs.Taking.{AreKept, TookDatasets, no_room, numbers_told, told_datasets};
 
 use crate::ticket_fields::TicketFields;
 use iim_dataset::Head;
@@ -38,7 +38,7 @@ pub(crate) trait DatasetTaker {
     /// Takes a dataset, or answers that no datasets within the limits can continue with it. It takes no memory.
     fn take(&mut self, rec: u8, set: u8, octets: &[u8]) -> bool
         requires { ready self.old }
-        ensures took { TookAll ready stands limits self.old (dataset rec set octets.now ∷ []) self.new result }
+        ensures took { TookDatasets ready stands limits self.old (dataset rec set octets.now ∷ []) self.new result }
         ensures room { room self.new ≡ room self.old };
 }
 
@@ -104,7 +104,7 @@ pub(crate) fn is_kept(rec: u8) -> bool
 fn take_fields<T: DatasetTaker>(taker: &mut T, fields: TicketFields<'_>) -> bool
     requires { T.ready taker.old }
     ensures kept { IsTrue result → AreKept fields.entry }
-    ensures all { AreKept fields.entry → TookAll T.ready T.stands T.limits taker.old fields.entry taker.new result }
+    ensures all { AreKept fields.entry → TookDatasets T.ready T.stands T.limits taker.old fields.entry taker.new result }
     ensures room { T.room taker.new ≡ T.room taker.old }
 {
     let mut fields = fields;
@@ -122,7 +122,7 @@ fn take_fields<T: DatasetTaker>(taker: &mut T, fields: TicketFields<'_>) -> bool
 /// Takes the mode, 7:10, where there is one.
 fn take_mode<T: DatasetTaker>(taker: &mut T, mode: Option<u64>) -> bool
     requires { T.ready taker.old }
-    ensures took { TookAll T.ready T.stands T.limits taker.old (one_dataset mode_dataset mode) taker.new result }
+    ensures took { TookDatasets T.ready T.stands T.limits taker.old (one_dataset mode_dataset mode) taker.new result }
     ensures room { T.room taker.new ≡ T.room taker.old }
 {
     match mode {
@@ -136,7 +136,7 @@ fn take_mode<T: DatasetTaker>(taker: &mut T, mode: Option<u64>) -> bool
 fn take_size<T: DatasetTaker>(taker: &mut T, set: u8, size: Option<u64>) -> bool
     requires ready { T.ready taker.old }
     requires fits { IsSize size }
-    ensures took { TookAll T.ready T.stands T.limits taker.old (one_dataset (number_dataset 7 set) size) taker.new result }
+    ensures took { TookDatasets T.ready T.stands T.limits taker.old (one_dataset (number_dataset 7 set) size) taker.new result }
     ensures room { T.room taker.new ≡ T.room taker.old }
 {
     match size {
@@ -149,7 +149,7 @@ fn take_size<T: DatasetTaker>(taker: &mut T, set: u8, size: Option<u64>) -> bool
 fn take_numbers<T: DatasetTaker>(taker: &mut T, numbers: [Option<u64>; 4]) -> bool
     requires ready { T.ready taker.old }
     requires fits { AreNumbers numbers }
-    ensures took { TookAll T.ready T.stands T.limits taker.old (plain_numbers (numbers_told numbers)) taker.new result }
+    ensures took { TookDatasets T.ready T.stands T.limits taker.old (plain_numbers (numbers_told numbers)) taker.new result }
     ensures room { T.room taker.new ≡ T.room taker.old }
 {
     let [mode, largest, announced, maximum] = numbers;
@@ -162,7 +162,7 @@ fn take_numbers<T: DatasetTaker>(taker: &mut T, numbers: [Option<u64>; 4]) -> bo
 /// Takes a subfile without octets, where some have ended.
 fn take_subfile<T: DatasetTaker>(taker: &mut T, some: bool) -> bool
     requires { T.ready taker.old }
-    ensures took { TookAll T.ready T.stands T.limits taker.old (cond some (dataset 8 10 [] ∷ []) []) taker.new result }
+    ensures took { TookDatasets T.ready T.stands T.limits taker.old (cond some (dataset 8 10 [] ∷ []) []) taker.new result }
     ensures room { T.room taker.new ≡ T.room taker.old }
 {
     !some || taker.take(OBJECT, SUBFILE, &[])
@@ -171,7 +171,7 @@ fn take_subfile<T: DatasetTaker>(taker: &mut T, some: bool) -> bool
 /// Takes 9:10 of an object without octets, where it has ended.
 fn take_end<T: DatasetTaker>(taker: &mut T, ended: bool) -> bool
     requires { T.ready taker.old }
-    ensures took { TookAll T.ready T.stands T.limits taker.old (plain_end ended []) taker.new result }
+    ensures took { TookDatasets T.ready T.stands T.limits taker.old (plain_end ended []) taker.new result }
     ensures room { T.room taker.new ≡ T.room taker.old }
 {
     !ended || taker.take(POST_OBJECT, CONFIRMED_SIZE, &[0, 0, 0, 0])
@@ -186,7 +186,7 @@ fn take_records<T: DatasetTaker>(
     requires ready { T.ready taker.old }
     requires fits { AreNumbers numbers }
     ensures kept { IsTrue result → AreKept fields.entry }
-    ensures all { AreKept fields.entry → TookAll T.ready T.stands T.limits taker.old (fields.entry ++ plain_numbers (numbers_told numbers)) taker.new result }
+    ensures all { AreKept fields.entry → TookDatasets T.ready T.stands T.limits taker.old (fields.entry ++ plain_numbers (numbers_told numbers)) taker.new result }
     ensures room { T.room taker.new ≡ T.room taker.old }
 {
     take_fields(taker, fields) && take_numbers(taker, numbers)
@@ -195,7 +195,7 @@ fn take_records<T: DatasetTaker>(
 /// Takes a subfile without octets, where some have ended, and 9:10, where the object has.
 fn take_object<T: DatasetTaker>(taker: &mut T, some: bool, ended: bool) -> bool
     requires { T.ready taker.old }
-    ensures took { TookAll T.ready T.stands T.limits taker.old (cond some (dataset 8 10 [] ∷ []) [] ++ plain_end ended []) taker.new result }
+    ensures took { TookDatasets T.ready T.stands T.limits taker.old (cond some (dataset 8 10 [] ∷ []) [] ++ plain_end ended []) taker.new result }
     ensures room { T.room taker.new ≡ T.room taker.old }
 {
     take_subfile(taker, some) && take_end(taker, ended)
@@ -213,7 +213,7 @@ pub(crate) fn take_told<T: DatasetTaker>(
     requires ready { T.ready taker.old }
     requires fits { AreNumbers numbers }
     ensures kept { IsTrue result → AreKept fields.entry }
-    ensures all { AreKept fields.entry → TookAll T.ready T.stands T.limits taker.old (told_datasets fields.entry numbers some ended) taker.new result }
+    ensures all { AreKept fields.entry → TookDatasets T.ready T.stands T.limits taker.old (told_datasets fields.entry numbers some ended) taker.new result }
     ensures room { T.room taker.new ≡ T.room taker.old }
 {
     take_records(taker, fields, numbers) && take_object(taker, some, ended)

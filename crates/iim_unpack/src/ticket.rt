@@ -1,6 +1,6 @@
 //! The ticket of an unpacker: the place that it stands on, as octets.
 
-ghost use Rattle.std.specs.Prelude.{◌≡◌, ◌^◌, ◌-◌, ◌<◌, ◌++◌, ◌∷◌, [], length, sum, Some, IsSome, IfOk, OnOk};
+ghost use Rattle.std.specs.Prelude.{◌≡◌, ◌^◌, ◌-◌, ◌<◌, ◌++◌, length, sum, Some, IsSome, IfOk, OnOk};
 ghost use Rattle.std.specs.List.{flat_map};
 ghost use Rattle.iim_dataset.specs.Format.Reading.{TakesCalls};
 ghost use Rattle.iim_fields.specs.Format.Standing.{IsFailed};

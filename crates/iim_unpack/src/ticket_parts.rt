@@ -7,7 +7,7 @@ ghost use Rattle.iim_unpack.specs.Format.Begins.{IsLongField};
 ghost use Rattle.iim_unpack.specs.Begins.{BeginsWithNone, BeginsWithFewer, FieldsBefore};
 ghost use Rattle.iim_unpack.specs.Format.Begins.{AreFields, AreNumbers, AreTexts};
 ghost use Rattle.iim_unpack.specs.TicketParts.{IsHeld, IsNameFault, BeginsWithNoData, AreNoMessage, AreNoBody, phase_told, split_told, message_parts, body_octets};
-ghost use Rattle.iim_unpack.specs.Format.TicketForm.{IsPhase, IsFaultOf, HasForm, SplitsInto};
+ghost use Rattle.iim_unpack.specs.Format.TicketForm.{IsPhase, IsFaultOf, HasForm, SplitsTicket};
 
 use crate::front::{take_field, take_front, take_number, take_octet, take_option, take_text};
 use crate::ticket::{ENDED, IN_DATA, IN_TAG};
@@ -254,7 +254,7 @@ fn read_body(octets: &[u8]) -> Option<TicketParts<'_>>
 /// not the form of a ticket by [`TicketFault::Form`]: a part cut short or octets left over; what is begun other than 0, 1 or 2;
 /// more than 8 octets of a tag; more octets of data to come than their count; and a number of record 7 marked other than by 0 or 1.
 pub fn split_ticket(ticket: &[u8]) -> Result<TicketParts<'_>, TicketFault>
-    ensures parts { IfOk result (λ parts. SplitsInto ticket.now (split_told parts)) }
+    ensures parts { IfOk result (λ parts. SplitsTicket ticket.now (split_told parts)) }
     ensures fault { IfErr result (λ fault. IsFaultOf ticket.now fault) }
 {
     let body = after_name(ticket)?;

@@ -1,10 +1,8 @@
 //! The streaming unpacker.
 
-ghost use Rattle.std.specs.Prelude.{◌≡◌, ◌+◌, ◌*◌, ◌^◌, [], is_some, ◌<◌, ◌≤◌, ◌⊎◌, ℕ, List, Option, Some, None, Ok, Err, true, false, length, take, IsTrue, ◌↔◌, IfOk, IfErr, OnOk, OnErr};
-ghost use Rattle.iim_dataset.specs.Format.Places.{to_come, named_by};
+ghost use Rattle.std.specs.Prelude.{◌≡◌, ◌+◌, ◌*◌, ◌^◌, [], is_some, ◌<◌, ◌≤◌, ◌⊎◌, ℕ, List, Option, Some, None, Ok, Err, false, length, IsTrue, ◌↔◌, IfOk, IfErr, OnOk, OnErr};
+ghost use Rattle.iim_dataset.specs.Format.Places.{to_come};
 ghost use Rattle.iim_dataset.specs.Format.Reading.{TakesCalls};
-ghost use Rattle.iim_dataset.specs.declared.head.HeadCause.{HeadCause as HeadCauseValue};
-ghost use Rattle.iim_dataset.specs.declared.place.DatasetPlace.{DatasetPlace as Place};
 ghost use Rattle.iim_fields.specs.Format.Standing.{StandsAfter, limits_of, room_of, room_for};
 ghost use Rattle.wire_story.specs.Format.Delivery as story;
 ghost use Rattle.iim_unpack.specs.Format.Parts.{CountsFor};

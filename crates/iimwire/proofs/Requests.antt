@@ -23,7 +23,7 @@ use Rattle.iimwire.specs.declared.request.Verb.{Verb}
 use Rattle.iimwire.specs.declared.request.Verb.TheVariants.{Check, Show, Story, Pack, Audit}
 use Rattle.iimwire.specs.declared.request.UsageFault.{UsageFault}
 use Rattle.iimwire.specs.declared.request.UsageFault.TheVariants as usage
-use Rattle.iimwire.specs.Format.Requests.{GivesNumber, IsFaultOf, IsFlag, IsInstant, IsNoInstant, IsSubfile, Names, TellsPacking, program, text_given}
+use Rattle.iimwire.specs.Format.Requests.{GivesNumber, IsFaultOf, IsFlag, IsInstant, IsNoInstant, IsSubfile, NamesCommand, TellsPacking, program, text_given}
 use Rattle.iimwire.specs.Verbs.{IsJobFault, verb_name}
 
 pub program_simple : is_simple program ≡ true
@@ -136,7 +136,7 @@ names_verb words m none same =
 -- the words name the command that was found, with its rows
 pub names : (words : List Text) (m : ArgMatches) (f : Found) (name : Text) → fault_of program words ≡ []
     → subcommand_rows_of m ≡ subcommand_of program words → option_map (λ p. p.1) (subcommand_rows_of m) ≡ Some (rows_of f)
-    → subcommand_name_of m ≡ Some name → Names words name (rows_of f)
+    → subcommand_name_of m ≡ Some name → NamesCommand words name (rows_of f)
 names words m f name none same rows named =
     let found = found_verb words m none same in
     let read : Some found.1 ≡ Some (rows_of f) = sym (ap (option_map (λ p. p.1)) (same ∙ found.2)) ∙ rows in
@@ -188,7 +188,7 @@ tells_packing f a b subfile unknown max of_a of_b subfile_is none value other ma
 }
 
 -- the fault of a command's values is one of the words
-pub fault_of_job : (words : List Text) (verb : Verb) (name : Text) (rows : List Row) (fault : UsageFault) → Names words name rows → name ≡ verb_name verb
+pub fault_of_job : (words : List Text) (verb : Verb) (name : Text) (rows : List Row) (fault : UsageFault) → NamesCommand words name rows → name ≡ verb_name verb
     → IsJobFault (verb_name verb) rows fault → IsFaultOf words fault
 fault_of_job words verb name rows (usage.Words error) names is h = absurd h
 fault_of_job words verb name rows usage.MaxNeedsUnknown names is h = (name, rows, names, (is ∙ h.0, h.1))

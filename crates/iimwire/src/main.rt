@@ -15,7 +15,7 @@ mod start;
 use iim_dataset::{FromRead, FromWrite};
 use request::{Request, UsageFault, parse};
 use serve::serve;
-use start::StartFault;
+use start::RunFault;
 use std::fs::File;
 use std::io::{ErrorKind, Read, Stdin};
 use std::process::ExitCode;
@@ -24,11 +24,11 @@ use std::{env, io};
 fn main(rt: HostRuntime) -> ExitCode {
     let words = match words(&rt) {
         Ok(words) => words,
-        Err(error) => return end::<Stdin>(&rt, Err(fault_of(&error, StartFault::NoText))),
+        Err(error) => return end::<Stdin>(&rt, Err(fault_of(&error, RunFault::NoText))),
     };
     match parse(rt.alloc(), words.as_slice()) {
         Ok(request) => begin(&rt, request),
-        Err(fault) => end::<Stdin>(&rt, Err(StartFault::Usage(fault))),
+        Err(fault) => end::<Stdin>(&rt, Err(RunFault::Usage(fault))),
     }
 }
 
@@ -44,14 +44,14 @@ fn begin(rt: &HostRuntime, request: Request<'_>) -> ExitCode {
     };
     match File::open(rt, name) {
         Ok(file) => end(rt, Ok((request, file))),
-        Err(error) => end::<File>(rt, Err(fault_of(&error, StartFault::CannotOpen(name)))),
+        Err(error) => end::<File>(rt, Err(fault_of(&error, RunFault::CannotOpen(name)))),
     }
 }
 
 /// Refused memory is told as that, and any other error as the given fault.
-fn fault_of<'a>(error: &io::Error, other: StartFault<'a>) -> StartFault<'a> {
+fn fault_of<'a>(error: &io::Error, other: RunFault<'a>) -> RunFault<'a> {
     match error.kind() {
-        ErrorKind::OutOfMemory => StartFault::OutOfMemory,
+        ErrorKind::OutOfMemory => RunFault::OutOfMemory,
         _ => other,
     }
 }
@@ -59,7 +59,7 @@ fn fault_of<'a>(error: &io::Error, other: StartFault<'a>) -> StartFault<'a> {
 /// Runs between the reader and the standard streams.
 fn end<R: Read + Drop>(
     rt: &HostRuntime,
-    begun: Result<(Request<'_>, R), StartFault<'_>>,
+    begun: Result<(Request<'_>, R), RunFault<'_>>,
 ) -> ExitCode {
     let begun = begun.map(|(request, reader)| (request, FromRead::new(reader)));
     let output = FromWrite::new(rt.stdout());

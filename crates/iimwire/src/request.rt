@@ -1,7 +1,7 @@
 //! What the arguments ask for.
 
 ghost use Rattle.std.specs.Prelude.{◌≡◌, ◌≤◌, IfOk, IfErr, IfSome, IsNone, IsSome, true, false, map, string_bytes};
-ghost use Rattle.clap.specs.Words.{kind_of, first_of, found_of, one_of, rows_of};
+ghost use Rattle.clap.specs.Words.{found_of, rows_of};
 ghost use Rattle.iim_dataset.specs.Format.Octets.{greatest_size};
 
 use crate::commands::command;
@@ -77,7 +77,7 @@ impl From<Error> for UsageFault {
 }
 
 ghost use Rattle.iimwire.specs.declared.request.Verb.{Verb as VerbValue};
-ghost use Rattle.iimwire.specs.Format.Requests.{AsksFor, AsksJob, GivesNumber, IsFaultOf, IsInstant, IsMaxAlone, IsNoInstant, IsSubfile, TellsPacking, text_given};
+ghost use Rattle.iimwire.specs.Format.Requests.{AsksFor, AsksJob, GivesNumber, IsFaultOf, IsSubfile, text_given};
 ghost use Rattle.iimwire.specs.Verbs.{verb_name, IsJobFault};
 
 /// A command's name.

@@ -2,7 +2,7 @@
 
 ghost use Rattle.std.specs.Prelude.{◌≡◌, ℕ, List};
 ghost use Rattle.iim_unpack.specs.Format.Blocks.{with_held};
-ghost use Rattle.iimwire.specs.Format.Outcomes.{Complained, Finishes, Listed, Packs, Ran, Reviewed, ToldAsStory};
+ghost use Rattle.iimwire.specs.Format.Outcomes.{Complained, EndsRun, EndsReport, EndsPacking, Ran, Reviewed, ToldAsStory};
 ghost use Rattle.iim_commands.specs.Format.Packing.{asked};
 ghost use Rattle.iim_commands.specs.Format.Devices.{devices};
 
@@ -11,7 +11,7 @@ use crate::request::{Job, Request};
 use iim_commands::audit::write_audit;
 use iim_commands::check::Check;
 use iim_commands::fault::CommandFault;
-use iim_commands::list::{Report, list};
+use iim_commands::list::{EnvelopeReport, list};
 use iim_commands::packing::{PackRequest, pack_script};
 use iim_commands::show::Show;
 use iim_commands::status::FAILED;
@@ -32,7 +32,7 @@ fn complain<E: Target>(errors: &mut E, fault: CommandFault) -> u8
 
 /// Ends a run with its answer: the status, after a fault was told.
 fn finish<E: Target>(errors: &mut E, answer: Result<u8, CommandFault>) -> u8
-    ensures { Finishes (E.state errors.old) (E.state errors.new) answer result }
+    ensures { EndsRun (E.state errors.old) (E.state errors.new) answer result }
 {
     match answer {
         Ok(status) => status,
@@ -41,14 +41,14 @@ fn finish<E: Target>(errors: &mut E, answer: Result<u8, CommandFault>) -> u8
 }
 
 /// Reports the envelopes of a reader: the status, and both writers.
-fn report<P: Report, R: Source + Drop, W: Target, E: Target>(
+fn report<P: EnvelopeReport, R: Source + Drop, W: Target, E: Target>(
     alloc: Global,
     texts: &P,
     reader: R,
     output: W,
     errors: E,
 ) -> (u8, W, E)
-    ensures { (last : R) × (held : List ℕ) × R.leads reader last × Listed P.written (devices (R.state reader) (W.state output) (E.state errors)) (devices (with_held held (R.state last)) (W.state result.1) (E.state result.2)) result.0 }
+    ensures { (last : R) × (held : List ℕ) × R.leads reader last × EndsReport P.written (devices (R.state reader) (W.state output) (E.state errors)) (devices (with_held held (R.state last)) (W.state result.1) (E.state result.2)) result.0 }
 {
     let mut intake = Intake::new(reader);
     let mut output = output;
@@ -101,7 +101,7 @@ fn pack<R: Source + Drop, W: Target, E: Target>(
     output: W,
     errors: E,
 ) -> (u8, W, E)
-    ensures { (last : R) × R.leads reader last × Packs (asked request.subfile request.unknown request.max) (devices (R.state reader) (W.state output) (E.state errors)) (devices (R.state last) (W.state result.1) (E.state result.2)) result.0 }
+    ensures { (last : R) × R.leads reader last × EndsPacking (asked request.subfile request.unknown request.max) (devices (R.state reader) (W.state output) (E.state errors)) (devices (R.state last) (W.state result.1) (E.state result.2)) result.0 }
 {
     let mut reader = reader;
     let mut errors = errors;

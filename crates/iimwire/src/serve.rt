@@ -4,14 +4,14 @@ ghost use Rattle.iimwire.specs.Format.Served.{Served};
 
 use crate::request::Request;
 use crate::run::run;
-use crate::start::{StartFault, hinder};
+use crate::start::{RunFault, hinder};
 use iim_dataset::{Source, Target};
 use std::alloc::Global;
 
 /// Carries out a request over its reader, or tells why there is none: the status, and both writers.
 pub fn serve<R: Source + Drop, W: Target, E: Target>(
     alloc: Global,
-    begun: Result<(Request<'_>, R), StartFault<'_>>,
+    begun: Result<(Request<'_>, R), RunFault<'_>>,
     output: W,
     errors: E,
 ) -> (u8, W, E)

@@ -12,7 +12,7 @@ use std::alloc::{AllocError, Global};
 
 /// Why there is nothing to run.
 #[derive(Drop)]
-pub enum StartFault<'a> {
+pub enum RunFault<'a> {
     /// The words ask for nothing.
     Usage(UsageFault),
     /// The arguments are no text.
@@ -23,7 +23,7 @@ pub enum StartFault<'a> {
     OutOfMemory,
 }
 
-ghost use Rattle.iimwire.specs.Format.Starts.{status_of_usage, status_of_start, IsHindered, IsTextOf};
+ghost use Rattle.iimwire.specs.Format.Starts.{status_of_usage, status_of_start, IsHindered, TellsRunFault};
 
 /// The status for a fault of the words.
 fn usage_status(fault: &UsageFault) -> u8
@@ -36,37 +36,37 @@ fn usage_status(fault: &UsageFault) -> u8
 }
 
 /// The status for it.
-fn status(fault: &StartFault<'_>) -> u8
+fn status(fault: &RunFault<'_>) -> u8
     ensures { result ≡ status_of_start fault.now }
 {
     match fault {
-        StartFault::Usage(fault) => usage_status(fault),
-        StartFault::NoText => USAGE,
-        StartFault::CannotOpen(_) | StartFault::OutOfMemory => FAILED,
+        RunFault::Usage(fault) => usage_status(fault),
+        RunFault::NoText => USAGE,
+        RunFault::CannotOpen(_) | RunFault::OutOfMemory => FAILED,
     }
 }
 
 /// The text that tells it.
-fn text(alloc: Global, fault: &StartFault<'_>) -> Result<Vec<u8>, AllocError>
-    ensures { IfOk result (λ text. IsTextOf fault.now text.items) }
+fn text(alloc: Global, fault: &RunFault<'_>) -> Result<Vec<u8>, AllocError>
+    ensures { IfOk result (λ text. TellsRunFault fault.now text.items) }
 {
     let mut text = Vec::new(alloc);
     match fault {
-        StartFault::Usage(UsageFault::Words(error)) => {
+        RunFault::Usage(UsageFault::Words(error)) => {
             let words = format!(in alloc; "{error}")?;
             text.extend_from_slice(words.as_bytes())?;
         }
-        StartFault::Usage(UsageFault::MaxNeedsUnknown) => {
+        RunFault::Usage(UsageFault::MaxNeedsUnknown) => {
             text.extend_from_slice(b"--max needs --unknown\n")?;
         }
-        StartFault::Usage(UsageFault::BadNow) => text.extend_from_slice(b"bad --now\n")?,
-        StartFault::NoText => text.extend_from_slice(b"arguments are no text\n")?,
-        StartFault::CannotOpen(name) => {
+        RunFault::Usage(UsageFault::BadNow) => text.extend_from_slice(b"bad --now\n")?,
+        RunFault::NoText => text.extend_from_slice(b"arguments are no text\n")?,
+        RunFault::CannotOpen(name) => {
             text.extend_from_slice(b"cannot open ")?;
             push_name(&mut text, name)?;
             text.push(b'\n')?;
         }
-        StartFault::Usage(UsageFault::OutOfMemory) | StartFault::OutOfMemory => {
+        RunFault::Usage(UsageFault::OutOfMemory) | RunFault::OutOfMemory => {
             text.extend_from_slice(CommandFault::OutOfMemory.line().as_bytes())?;
         }
     }
@@ -74,7 +74,7 @@ fn text(alloc: Global, fault: &StartFault<'_>) -> Result<Vec<u8>, AllocError>
 }
 
 /// Tells why a run can't begin, and answers the status.
-pub fn hinder<E: Target>(alloc: Global, fault: StartFault<'_>, errors: &mut E) -> u8
+pub fn hinder<E: Target>(alloc: Global, fault: RunFault<'_>, errors: &mut E) -> u8
     ensures { IsHindered fault.entry (E.state errors.old) (E.state errors.new) result }
 {
     match text(alloc, &fault) {

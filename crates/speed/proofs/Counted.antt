@@ -1,11 +1,12 @@
 -- What the octets of a run count.
-use Rattle.std.proofs.Common.{◌≡◌, ℕ, ◌+◌, ◌<◌, ◌^◌, List, [], ◌∷◌, length, map, refl, sym, ap, ◌∙◌, arith}
+use Rattle.std.proofs.Common.{◌≡◌, ℕ, ◌+◌, List, [], ◌∷◌, length, map, refl, arith}
 use Rattle.std.proofs.lemmas.List.Sums.{sum_by-append}
 use Rattle.std.specs.List.{sum_by}
 use Rattle.iim_dataset.specs.Format.Events.{DataOctet}
 use Rattle.wire_story.specs.Format.Delivery.{LineOctet}
 use Rattle.speed.specs.declared.tally.Tally.{Tally}
-use Rattle.speed.specs.Counts.{capped, Grew, octets_of, line_ends_of, CountsText, data_of, ends_of, CountsDatasets}
+use Rattle.wire_story.specs.Format.Words.{capped}
+use Rattle.speed.specs.Counts.{Grew, octets_of, line_ends_of, CountsText, data_count, ends_of, CountsDatasets}
 
 octets_told : (run : List ℕ) → sum_by octets_of (map LineOctet run) ≡ length run
 octets_told [] = refl
@@ -18,11 +19,11 @@ no_ends_told : (run : List ℕ) → sum_by line_ends_of (map LineOctet run) ≡ 
 no_ends_told [] = refl
 no_ends_told (b ∷ run) = no_ends_told run
 
-data_told : (run : List ℕ) → sum_by data_of (map DataOctet run) ≡ length run
+data_told : (run : List ℕ) → sum_by data_count (map DataOctet run) ≡ length run
 data_told [] = refl
 data_told (b ∷ run) =
-    let first : sum_by data_of (map DataOctet (b ∷ run)) ≡ 1 + sum_by data_of (map DataOctet run) = sum_by-append data_of (DataOctet b ∷ []) (map DataOctet run) in
-    let more : sum_by data_of (map DataOctet run) ≡ length run = data_told run in
+    let first : sum_by data_count (map DataOctet (b ∷ run)) ≡ 1 + sum_by data_count (map DataOctet run) = sum_by-append data_count (DataOctet b ∷ []) (map DataOctet run) in
+    let more : sum_by data_count (map DataOctet run) ≡ length run = data_told run in
     omega (arith, first, more)
 
 no_datasets_told : (run : List ℕ) → sum_by ends_of (map DataOctet run) ≡ 0
@@ -44,7 +45,7 @@ text_counted old run n grew = record {
 
 pub datasets_counted : (old : Tally) (run : List ℕ) (n : ℕ) → n ≡ capped (old.octets + length run) → CountsDatasets old (map DataOctet run) (record old { octets = n })
 datasets_counted old run n grew = record {
-  octets = grew_by old.octets (sum_by data_of (map DataOctet run)) (length run) n (data_told run) grew;
+  octets = grew_by old.octets (sum_by data_count (map DataOctet run)) (length run) n (data_told run) grew;
   whole = stayed old.whole (sum_by ends_of (map DataOctet run)) (no_datasets_told run);
   line_ends = refl;
 }

@@ -5,7 +5,8 @@ use Rattle.std.specs.List.{sum_by}
 use Rattle.iim_dataset.specs.Format.Events as datasets
 use Rattle.wire_story.specs.Format.Delivery as story
 use Rattle.speed.specs.declared.tally.Tally.{Tally}
-use Rattle.speed.specs.Counts.{capped, Grew, octets_of, line_ends_of, CountsText, data_of, ends_of, CountsDatasets, NeverStops}
+use Rattle.wire_story.specs.Format.Words.{capped}
+use Rattle.speed.specs.Counts.{Grew, octets_of, line_ends_of, CountsText, data_count, ends_of, CountsDatasets, NeverStops}
 
 grew_nothing : (n : ℕ) → Grew n 0 n
 grew_nothing n few = omega (arith, few)
@@ -45,7 +46,7 @@ datasets_nothing tally = record {
 
 pub datasets_joined : (a b c : Tally) (xs ys : List datasets.DatasetEvent) → CountsDatasets a xs b → CountsDatasets b ys c → CountsDatasets a (xs ++ ys) c
 datasets_joined a b c xs ys first then = record {
-  octets = grew_joined data_of a.octets b.octets c.octets xs ys first.octets then.octets;
+  octets = grew_joined data_count a.octets b.octets c.octets xs ys first.octets then.octets;
   whole = grew_joined ends_of a.whole b.whole c.whole xs ys first.whole then.whole;
   line_ends = then.line_ends ∙ first.line_ends;
 }

@@ -1,13 +1,10 @@
 -- What a tally counts.
-use Rattle.std.specs.Prelude.{◌≡◌, ℕ, ◌+◌, ◌-◌, ◌^◌, ◌<◌, min, List}
+use Rattle.std.specs.Prelude.{◌≡◌, ℕ, ◌+◌, ◌^◌, ◌<◌, List}
 use Rattle.std.specs.List.{sum_by}
 use Rattle.iim_dataset.specs.Format.Events as datasets
 use Rattle.wire_story.specs.Format.Delivery as story
+use Rattle.wire_story.specs.Format.Words.{capped}
 use Rattle.speed.specs.declared.tally.Tally.{Tally}
-
--- the greatest count
-abbrev pub capped : ℕ → ℕ
-capped n = min n (2 ^ 64 - 1)
 
 -- A count of 64 bits grew by n.
 abbrev pub Grew : ℕ → ℕ → ℕ → Type 0
@@ -31,10 +28,10 @@ pub record CountsText (old : Tally) (events : List story.StoryEvent) (new : Tall
 
 -- ---- datasets
 
-abbrev pub data_of : datasets.DatasetEvent → ℕ
-data_of (datasets.HeadRead head) = 0
-data_of (datasets.DataOctet b) = 1
-data_of datasets.DatasetEnd = 0
+abbrev pub data_count : datasets.DatasetEvent → ℕ
+data_count (datasets.HeadRead head) = 0
+data_count (datasets.DataOctet b) = 1
+data_count datasets.DatasetEnd = 0
 
 abbrev pub ends_of : datasets.DatasetEvent → ℕ
 ends_of (datasets.HeadRead head) = 0
@@ -43,7 +40,7 @@ ends_of datasets.DatasetEnd = 1
 
 -- The octets of the data and the datasets that ended were counted, and no ends of lines.
 pub record CountsDatasets (old : Tally) (events : List datasets.DatasetEvent) (new : Tally) : Type 0 where
-  pub octets : Grew old.octets (sum_by data_of events) new.octets
+  pub octets : Grew old.octets (sum_by data_count events) new.octets
   pub whole : Grew old.whole (sum_by ends_of events) new.whole
   pub line_ends : new.line_ends ≡ old.line_ends
 

@@ -3,9 +3,9 @@ use Rattle.std.specs.Prelude.{ℕ, suc, zero, List, [], ◌∷◌, ◌++◌, len
 use Rattle.iim_dataset.specs.Format.Datasets.{canonical_tag}
 
 -- a piece, n times
-abbrev pub repeated : List ℕ → ℕ → List ℕ
-repeated piece zero = []
-repeated piece (suc n) = repeated piece n ++ piece
+abbrev pub piece_times : List ℕ → ℕ → List ℕ
+piece_times piece zero = []
+piece_times piece (suc n) = piece_times piece n ++ piece
 
 -- a dataset with its canonical tag
 abbrev pub written : ℕ → ℕ → List ℕ → List ℕ

@@ -1,14 +1,14 @@
 //! Datasets, as shapes have them.
 
-ghost use Rattle.std.specs.Prelude.{◌≡◌, ◌*◌, ◌++◌, ◌<◌, ◌≤◌, ◌^◌, length, vec_len, IfOk, OnOk};
-ghost use Rattle.speed.specs.Shapes.{repeated, written};
+ghost use Rattle.std.specs.Prelude.{◌≡◌, ◌*◌, ◌++◌, ◌<◌, ◌^◌, length, vec_len, IfOk, OnOk};
+ghost use Rattle.speed.specs.Shapes.{piece_times, written};
 
 use iim_dataset::{Head, head_bytes};
 use std::alloc::{AllocError, Global};
 
 /// A piece, `times` times.
 pub(crate) fn repeated(alloc: Global, piece: &[u8], times: usize) -> Result<Vec<u8>, AllocError>
-    ensures octets { IfOk result (λ all. all.items ≡ repeated piece.now times) }
+    ensures octets { IfOk result (λ all. all.items ≡ piece_times piece.now times) }
     ensures len { IfOk result (λ all. vec_len all ≡ times * length piece.now) }
 {
     let mut all = Vec::new(alloc);

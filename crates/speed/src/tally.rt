@@ -2,7 +2,7 @@
 
 ghost use Rattle.std.specs.Prelude.{◌≡◌, ◌+◌, ⊤};
 ghost use Rattle.iim_dataset.specs.Format.Devices.{unbroken};
-ghost use Rattle.speed.specs.Counts.{capped};
+ghost use Rattle.wire_story.specs.Format.Words.{capped};
 
 use iim_dataset::{DatasetSink, Head, IoFault, Step, Stop, Target};
 use wire_story::StorySink;

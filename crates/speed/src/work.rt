@@ -1,6 +1,6 @@
 //! What is run over a shape.
 
-ghost use Rattle.std.specs.Prelude.{◌≡◌, IfSome};
+ghost use Rattle.std.specs.Prelude.{IfSome};
 ghost use Rattle.wire_story.specs.Format.Delivery.{delivered};
 ghost use Rattle.speed.specs.Counts.{CountsText};
 

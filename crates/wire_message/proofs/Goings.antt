@@ -8,7 +8,7 @@ use Rattle.wire_story.specs.Format.Reading as story
 use Rattle.wire_message.specs.Format.Fields.{Are, is_trailer_octet, is_filler_octet}
 use Rattle.wire_message.specs.Format.Messages.{Header, IsHeader, IsTrailer}
 use Rattle.wire_message.specs.Format.SoFar.{IsPlace, Spells, StoryStands}
-use Rattle.wire_message.specs.Steps.{Adds, TakesSome}
+use Rattle.wire_message.specs.Steps.{AddsNoText, TakesSome}
 use Rattle.wire_message.specs.declared.place.Place.{Place}
 use Rattle.wire_message.specs.declared.place.Place.TheVariants.{Words, Info, Gap, Text, Trailer, AfterEnd}
 use Rattle.wire_message.proofs.Machine.{of, begun, gap_leads_on}
@@ -22,7 +22,7 @@ takes_one p q rest some i adds tells = record {
   some = omega arith;
   within = omega (arith, some);
   is_place = i;
-  adds = subst (λ (xs : List ℕ). Adds p xs q) (sym (take_more rest 0 0 some)) adds;
+  adds = subst (λ (xs : List ℕ). AddsNoText p xs q) (sym (take_more rest 0 0 some)) adds;
   story = tells;
 }
 

@@ -26,7 +26,7 @@ EndsPart (AfterEnd h t count) octet = (is_filler_octet octet && nat_lt count 32)
 EndsPart _ octet = Unit {0}
 
 -- The part that is being read took `used` octets: some, or none and then the first octet ends it.
-pub record Lengthens (old : Place) (rest : List ℕ) (new : Place) (used : ℕ) : Type 0 where
+pub record TakesInPart (old : Place) (rest : List ℕ) (new : Place) (used : ℕ) : Type 0 where
   pub takes : 0 < used → TakesSome old rest new used
   pub same : used ≡ 0 → new ≡ old
   pub ends : used ≡ 0 → EndsPart old (slice_index rest 0)

@@ -27,8 +27,8 @@ IsNoText (Text h reader) = ⊥
 IsNoText _ = Unit {0}
 
 -- What octets add to a place, where they add nothing to the text.
-abbrev pub Adds : Place → List ℕ → Place → Type 0
-Adds old octets new = (before text : List ℕ) → Spells before text old → Spells (before ++ octets) text new
+abbrev pub AddsNoText : Place → List ℕ → Place → Type 0
+AddsNoText old octets new = (before text : List ℕ) → Spells before text old → Spells (before ++ octets) text new
 
 -- With the octet no message can continue.
 abbrev pub DiesWith : Place → ℕ → Type 0
@@ -39,7 +39,7 @@ pub record TakesSome (old : Place) (rest : List ℕ) (new : Place) (used : ℕ) 
   pub some : 0 < used
   pub within : used ≤ length rest
   pub is_place : IsPlace new
-  pub adds : Adds old (take used rest) new
+  pub adds : AddsNoText old (take used rest) new
   pub story : (text : List ℕ) → StoryStands text old → StoryStands text new
 
 -- Octets were taken: they led from one place to the next, the sink was told what they deliver, and it did not stop.
@@ -50,7 +50,7 @@ pub record TakesOctets {S : Type 0} (goes : S → List StoryEvent → S → Type
   pub calm : failures after ≡ failures before
 
 -- An octet of a piece was refused: for its cause, and the sink was told what those before it deliver.
-pub record Stops {S : Type 0} (goes : S → List StoryEvent → S → Type 0) (failures : S → ℕ) (old : Place) (before : S) (piece : List ℕ)
+pub record RefusesInPart {S : Type 0} (goes : S → List StoryEvent → S → Type 0) (failures : S → ℕ) (old : Place) (before : S) (piece : List ℕ)
     (after : S) (fault : MessageFault) : Type 0 where
   pub within : fault.taken < length piece
   pub refused : Refuses (Some old) piece fault

@@ -3,7 +3,7 @@
 ghost use Rattle.std.specs.Prelude.{◌≡◌, ◌<◌, ◌≤◌, ◌+◌, ◌&&◌, ◌||◌, ◌==◌, nat_lt, true, false, length};
 ghost use Rattle.wire_message.specs.Format.Fields.{is_filler_octet};
 ghost use Rattle.wire_message.specs.Format.SoFar.{IsPlace};
-ghost use Rattle.wire_message.specs.Parts.{Lengthens, lengthens_gap};
+ghost use Rattle.wire_message.specs.Parts.{TakesInPart, lengthens_gap};
 
 use crate::class::{Class, is_in};
 use crate::field::take_run;
@@ -65,7 +65,7 @@ fn lengthen_gap(count: &mut u8, feed: &mut bool, octet: u8) -> usize
 pub(crate) fn lengthen(place: &mut Place, rest: &[u8]) -> usize
     requires place { IsPlace place.old }
     requires some { 0 < length rest.now }
-    ensures { Lengthens place.old rest.now place.new result }
+    ensures { TakesInPart place.old rest.now place.new result }
 {
     match place {
         Place::Filler { count } => lengthen_filler(count, rest[0]),

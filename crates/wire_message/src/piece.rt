@@ -2,7 +2,7 @@
 
 ghost use Rattle.std.specs.Prelude.{◌≡◌, ◌<◌, ◌≤◌, length, slice_index, take, IfOk, IfErr, IfSome, IfNone, OnOk};
 ghost use Rattle.wire_message.specs.Format.SoFar.{IsPlace};
-ghost use Rattle.wire_message.specs.Steps.{DiesWith, TakesSome, IsNoText, TakesOctets, Stops};
+ghost use Rattle.wire_message.specs.Steps.{DiesWith, TakesSome, IsNoText, TakesOctets, RefusesInPart};
 
 use crate::fault::{MessageCause, MessageFault};
 use crate::lengthen::lengthen;
@@ -44,7 +44,7 @@ fn take_outside_text<S: StorySink>(
     ensures within { IfOk result (λ used. used ≤ length rest.now) }
     ensures takes { IfOk result (λ used.
         TakesOctets S.goes S.failures place.old sink.old (take used rest.now) place.new sink.new) }
-    ensures stops { IfErr result (Stops S.goes S.failures place.old sink.old rest.now sink.new) }
+    ensures stops { IfErr result (RefusesInPart S.goes S.failures place.old sink.old rest.now sink.new) }
 {
     let _ = sink;
     match outside_text(place, rest) {
@@ -69,7 +69,7 @@ fn take_front<S: StorySink>(
     ensures within { IfOk result (λ used. used ≤ length rest.now) }
     ensures takes { IfOk result (λ used.
         TakesOctets S.goes S.failures place.old sink.old (take used rest.now) place.new sink.new) }
-    ensures stops { IfErr result (Stops S.goes S.failures place.old sink.old rest.now sink.new) }
+    ensures stops { IfErr result (RefusesInPart S.goes S.failures place.old sink.old rest.now sink.new) }
 {
     match place {
         Place::Text { head, text } => match in_text(head, text, rest, sink) {
@@ -94,7 +94,7 @@ pub(crate) fn take_piece<S: StorySink>(
     requires { IsPlace place.old }
     ensures takes { OnOk result (TakesOctets S.goes S.failures place.old sink.old piece.now place.new sink.new) }
     ensures nothing { length piece.now ≡ 0 → (place.new ≡ place.old) × (sink.new ≡ sink.old) }
-    ensures stops { IfErr result (Stops S.goes S.failures place.old sink.old piece.now sink.new) }
+    ensures stops { IfErr result (RefusesInPart S.goes S.failures place.old sink.old piece.now sink.new) }
 {
     let mut at = 0;
     while at < piece.len() {

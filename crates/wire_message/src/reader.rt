@@ -1,6 +1,6 @@
 //! The reader of a message, for any cut into pieces.
 
-ghost use Rattle.std.specs.Prelude.{◌≡◌, ◌↔◌, ◌<◌, [], List, ℕ, Option, is_none, length, take, Some, None, IsSome, IsOk, IfSome, IfOk, IfErr, OnOk, OnErr};
+ghost use Rattle.std.specs.Prelude.{◌≡◌, ◌↔◌, ◌<◌, [], List, ℕ, Option, is_none, length, Some, None, IsSome, IsOk, IfSome, IfErr, OnOk, OnErr};
 ghost use Rattle.wire_story.specs.Format.Tokens.{End};
 ghost use Rattle.wire_message.specs.Format.Layers.{MessageDiesAt};
 ghost use Rattle.wire_message.specs.Format.Saved.{IsAt, LeadToSaved};

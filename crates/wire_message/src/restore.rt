@@ -1,6 +1,6 @@
 //! How a saved place is put back: by the parts that it has, and then by whether it is the place that is saved so.
 
-ghost use Rattle.std.specs.Prelude.{◌≡◌, ◌≤◌, ◌↔◌, ◌||◌, nat_lt, IsTrue, IsSome, IfSome, IfNone};
+ghost use Rattle.std.specs.Prelude.{◌≡◌, ◌≤◌, ◌↔◌, ◌||◌, nat_lt, IsTrue, IsSome, IfSome};
 ghost use Rattle.wire_message.specs.declared.place.Place.{Place};
 ghost use Rattle.wire_message.specs.declared.saved.MessagePart.TheVariants as part;
 ghost use Rattle.wire_message.specs.Format.Fields.{IsField};

@@ -3,7 +3,7 @@
 ghost use Rattle.std.specs.Prelude.{◌≡◌, ◌≤◌, [], length};
 ghost use Rattle.wire_message.specs.declared.saved.MessagePart.TheVariants as saved_part;
 ghost use Rattle.wire_message.specs.Format.SoFar.{IsPlace};
-ghost use Rattle.wire_message.specs.Format.Saved.{place_of, place_after, saved};
+ghost use Rattle.wire_message.specs.Format.Saved.{place_from, place_with_header, saved};
 ghost use Rattle.wire_message.specs.Restoring.{IsAfterWords};
 
 use crate::field::kept;
@@ -25,7 +25,7 @@ fn in_header(
     requires priority { length priority.now ≤ 64 }
     requires category { length category.now ≤ 64 }
     requires words { length words.now ≤ 64 }
-    ensures { result ≡ place_of part 0 0 source.now number.now priority.now category.now words.now [] [] }
+    ensures { result ≡ place_from part 0 0 source.now number.now priority.now category.now words.now [] [] }
 {
     MessagePlace {
         source: kept(source),
@@ -41,14 +41,14 @@ fn in_header(
 fn numbered(part: Part, source: &[u8], number: &[u8]) -> MessagePlace
     requires source { length source.now ≤ 64 }
     requires number { length number.now ≤ 64 }
-    ensures { result ≡ place_of part 0 0 source.now number.now [] [] [] [] [] }
+    ensures { result ≡ place_from part 0 0 source.now number.now [] [] [] [] [] }
 {
     in_header(part, source, number, &[], &[], &[])
 }
 
 /// A place in the filler before SOH.
 fn in_filler(count: u8) -> MessagePlace
-    ensures { result ≡ place_of saved_part.Filler count 0 [] [] [] [] [] [] [] }
+    ensures { result ≡ place_from saved_part.Filler count 0 [] [] [] [] [] [] [] }
 {
     MessagePlace {
         counter: count,
@@ -59,7 +59,7 @@ fn in_filler(count: u8) -> MessagePlace
 /// A place after a header, with what was read of the trailer.
 fn headed(part: Part, counter: u8, flag: u8, head: &MessageHead, trailer: &[u8]) -> MessagePlace
     requires { length trailer.now ≤ 64 }
-    ensures { result ≡ place_after part counter flag head.now trailer.now }
+    ensures { result ≡ place_with_header part counter flag head.now trailer.now }
 {
     MessagePlace {
         part,

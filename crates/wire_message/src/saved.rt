@@ -1,7 +1,7 @@
 //! The place of a reader, as it is saved.
 
 ghost use Rattle.std.specs.Prelude.{◌≡◌, ◌↔◌, [], IsTrue};
-ghost use Rattle.wire_message.specs.Format.Saved.{place_of};
+ghost use Rattle.wire_message.specs.Format.Saved.{place_from};
 
 use crate::lengths::MAX_SAVED;
 use arrayvec::ArrayVec;
@@ -71,7 +71,7 @@ fn is_same(part: &ArrayVec<u8, MAX_SAVED>, other: &ArrayVec<u8, MAX_SAVED>) -> b
 impl MessagePlace {
     /// The place in a part of which, and before which, nothing is known.
     pub(crate) fn bare(part: MessagePart) -> MessagePlace
-        ensures { result ≡ place_of part 0 0 [] [] [] [] [] [] [] }
+        ensures { result ≡ place_from part 0 0 [] [] [] [] [] [] [] }
     {
         MessagePlace {
             part,

@@ -1,10 +1,10 @@
 //! How the text is read: the story takes it, and stops at ETX, which ends it.
 
-ghost use Rattle.std.specs.Prelude.{◌≡◌, ◌<◌, ◌≤◌, ℕ, false, true, [], length, take, Some, IfOk, IfErr, OnOk};
+ghost use Rattle.std.specs.Prelude.{◌≡◌, ◌<◌, ◌≤◌, ℕ, false, true, [], length, take, IfOk, IfErr};
 ghost use Rattle.arrayvec.specs.ArrayVec.{ArrayVec};
 ghost use Rattle.wire_message.specs.declared.place.Place.{Place};
 ghost use Rattle.wire_message.specs.Format.SoFar.{IsPlace};
-ghost use Rattle.wire_message.specs.Steps.{cause_of, TakesOctets, Stops};
+ghost use Rattle.wire_message.specs.Steps.{cause_of, TakesOctets, RefusesInPart};
 
 use crate::fault::{MessageCause, MessageFault};
 use crate::head::MessageHead;
@@ -55,7 +55,7 @@ pub(crate) fn in_text<S: StorySink>(
         TakesOctets S.goes S.failures (Place.Text head.now text.old) sink.old (take front.0 rest.now)
         (Place.Trailer head.now trailer) sink.new) }
     ensures stops { IfErr result (
-        Stops S.goes S.failures (Place.Text head.now text.old) sink.old rest.now sink.new) }
+        RefusesInPart S.goes S.failures (Place.Text head.now text.old) sink.old rest.now sink.new) }
 {
     let _ = head;
     stories_live_as_texts_so_far();

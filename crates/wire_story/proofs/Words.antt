@@ -3,7 +3,7 @@ use Rattle.std.proofs.Common.{◌≡◌, ℕ, ◌+◌, ◌&&◌, cond, Bool, tru
 use Rattle.std.proofs.lemmas.Bool.{cases_Bool, both_ways}
 use Rattle.std.proofs.lemmas.List.Sums.{sum_by-cons}
 use Rattle.wire_story.specs.Format.Delivery.{StoryEvent, LineOctet, LineEnd, delivered, events_of_lines}
-use Rattle.wire_story.specs.Format.Words.{is_word_octet, words_begun, words_of, words, EndsWord, HasWords, capped, words_told}
+use Rattle.wire_story.specs.Format.Words.{is_word_octet, words_begun, words_in, words, EndsWord, HasWords, capped, words_told}
 use Rattle.wire_story.specs.Format.WordLaws.{WordsAreLongestRuns, TextsAreCountedAsLines}
 use Rattle.wire_story.proofs.Spans.{Are, Are-head, Are-tail, Are-cons, span, no_stop}
 use Rattle.wire_story.proofs.Told.{delivered_lines}
@@ -47,7 +47,7 @@ count_after : (rest : List ℕ) → EndsWord rest → words_begun true rest ≡ 
 count_after [] h = refl
 count_after (b ∷ xs) h = blank_first b true xs h ∙ sym (blank_first b false xs h)
 
-count_is : (line : List ℕ) (found : List (List ℕ)) → HasWords line found → words_of line ≡ length found
+count_is : (line : List ℕ) (found : List (List ℕ)) → HasWords line found → words_in line ≡ length found
 count_is line [] h = ap (words_begun false) (sym (append-nil line)) ∙ count_blank line [] h
 count_is line ([] ∷ others) h = absurd (omega (arith, h.2.0))
 count_is line ((b ∷ ws) ∷ others) h =
@@ -175,7 +175,7 @@ told_lines (line ∷ next ∷ lines) =
     let first : words_told false (map LineOctet line ++ (LineEnd ∷ events_of_lines (next ∷ lines))) ≡ words_begun false line + words_told false (events_of_lines (next ∷ lines)) =
     told_line false line (events_of_lines (next ∷ lines)) in
     let more : words_told false (events_of_lines (next ∷ lines)) ≡ words (next ∷ lines) = told_lines (next ∷ lines) in
-    let whole : words (line ∷ next ∷ lines) ≡ words_begun false line + words (next ∷ lines) = sum_by-cons words_of line (next ∷ lines) in
+    let whole : words (line ∷ next ∷ lines) ≡ words_begun false line + words (next ∷ lines) = sum_by-cons words_in line (next ∷ lines) in
     omega (arith, first, more, whole)
 
 pub texts_counted : TextsAreCountedAsLines

@@ -12,7 +12,7 @@ abbrev pub AreMarks : List ℕ → Marks → Type 0
 AreMarks xs m = (m.many ≤ length xs) × (m.many ≤ 16) × (m.left ≡ mask_l (map is_low (take m.many xs)))
 
 -- The first `used` octets are a front, one at least: `held` CR are held after it, and these are the marks of what is left.
-pub record IsFront (rest : List ℕ) (held used : ℕ) (marks : Marks) : Type 0 where
+pub record IsTextFront (rest : List ℕ) (held used : ℕ) (marks : Marks) : Type 0 where
   pub few : held ≤ 2
   pub some : 0 < used
   pub within : used ≤ length rest

@@ -3,7 +3,7 @@
 ghost use Rattle.std.specs.Prelude.{◌≡◌, ◌<◌, ◌≤◌, false, [], ◌∷◌, length, drop, slice_index, take, Some, IfErr, IfOk, OnOk};
 ghost use Rattle.wire_story.specs.Format.Texts.{is_line_octet, IsLine};
 ghost use Rattle.wire_story.specs.Format.Reading.{TakesPiece, RefusesOne};
-ghost use Rattle.wire_story.specs.Marking.{AreMarks, IsFront};
+ghost use Rattle.wire_story.specs.Marking.{AreMarks, IsTextFront};
 
 use crate::fault::{TextCause, TextFault};
 use crate::marks::Marks;
@@ -94,7 +94,7 @@ fn take_front<S: StorySink>(
     requires few { held ≤ 2 }
     requires some { 0 < length rest.now }
     requires marks { AreMarks rest.now marks }
-    ensures front { IfOk result (λ front. IsFront rest.now front.0 front.1 front.2) }
+    ensures front { IfOk result (λ front. IsTextFront rest.now front.0 front.1 front.2) }
     ensures taken { IfOk result (λ front.
         TakesPiece S.goes S.failures (Some held) (take front.1 rest.now) (Some front.0) sink.old sink.new) }
     ensures refused { IfErr result (λ fault.

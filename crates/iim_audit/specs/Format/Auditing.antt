@@ -11,7 +11,7 @@ use Rattle.iim_unpack.specs.Format.Open.{IsOpen}
 use Rattle.iim_unpack.specs.Format.Unpacking.{failed_at}
 use Rattle.iim_unpack.specs.declared.refusal.Refusal.{Refusal}
 use Rattle.iim_audit.specs.Format.Rows.{report_of}
-use Rattle.iim_audit.specs.Format.Taking.{IsStopped}
+use Rattle.iim_audit.specs.Format.Taking.{IsRefusedOrTruncated}
 use Rattle.iim_audit.specs.declared.fault.AuditCause.{AuditCause}
 use Rattle.iim_audit.specs.declared.fault.AuditCause.TheVariants as causes
 use Rattle.iim_audit.specs.declared.row.AuditRow.{AuditRow}
@@ -37,7 +37,7 @@ pub record IsRefusedAt (limits : Limits) (old new : Device) (number : ℕ) (e : 
   pub come : HasCome limits old new envelopes rest
   pub listed : length envelopes ≤ max_envelopes
   pub in_hand : number ≡ length envelopes + 1
-  pub stopped : IsStopped limits new rest e
+  pub stopped : IsRefusedOrTruncated limits new rest e
 
 -- After the envelopes before that of this number come octets on which it can continue, and then this fault of the reader.
 pub record IsMissedAt (limits : Limits) (old new : Device) (number : ℕ) (fault : IoFault) : Type 0 where

@@ -9,8 +9,8 @@ use Rattle.iim_audit.specs.declared.fault.AuditCause.{AuditCause}
 use Rattle.iim_audit.specs.declared.fault.AuditCause.TheVariants as causes
 
 -- Octets came that are refused, or in which the input ends.
-abbrev pub IsStopped : Limits → Device → List ℕ → Refusal → Type 0
-IsStopped limits new rest e = IsRefusedRest limits rest e ⊎ (IsTruncatedRest limits rest e × IsAtEnd new.octets)
+abbrev pub IsRefusedOrTruncated : Limits → Device → List ℕ → Refusal → Type 0
+IsRefusedOrTruncated limits new rest e = IsRefusedRest limits rest e ⊎ (IsTruncatedRest limits rest e × IsAtEnd new.octets)
 
 -- What of an intake is left: after a fault it keeps the octet that is told from then on.
 abbrev pub Leaves : AuditCause → Option ℕ → Type 0

@@ -41,13 +41,13 @@ lines_from n [] = []
 lines_from n (row ∷ rows) = row_line n row ++ lines_from (n + 1) rows
 
 -- how many rows repeat an earlier one
-abbrev pub repeated : List AuditRow → ℕ
-repeated rows = count_by (λ row. is_some row.first) rows
+abbrev pub repeated_rows : List AuditRow → ℕ
+repeated_rows rows = count_by (λ row. is_some row.first) rows
 
 -- the last line
 abbrev pub sums_line : List AuditRow → List ℕ
-sums_line rows = decimal (length rows) ++ (codes " envelopes, " ++ (decimal (repeated rows) ++ codes " repeated\n"))
+sums_line rows = decimal (length rows) ++ (codes " envelopes, " ++ (decimal (repeated_rows rows) ++ codes " repeated\n"))
 
 -- what is printed of a report
-abbrev pub text_of : List AuditRow → List ℕ
-text_of rows = lines_from 1 rows ++ sums_line rows
+abbrev pub printed_report : List AuditRow → List ℕ
+printed_report rows = lines_from 1 rows ++ sums_line rows

@@ -3,7 +3,7 @@ use Rattle.std.specs.Prelude.{◌≡◌, ℕ, ℤ, ◌⊎◌, List}
 use Rattle.iim_dataset.specs.Format.Devices.{Device, Wrote, Stopped}
 use Rattle.iim_dataset.specs.Format.DeviceLaws.{HasGiven}
 use Rattle.iim_audit.specs.Format.Auditing.{IsAudited, FailsAt}
-use Rattle.iim_audit.specs.Format.Texts.{text_of}
+use Rattle.iim_audit.specs.Format.Texts.{printed_report}
 use Rattle.iim_audit.specs.declared.fault.AuditCause.{AuditCause}
 use Rattle.iim_audit.specs.declared.fault.AuditCause.TheVariants as causes
 use Rattle.iim_audit.specs.declared.row.AuditRow.{AuditRow}
@@ -27,18 +27,18 @@ CannotTell causes.Interrupted fault = fault ≡ CannotRead
 CannotTell cause fault = fault ≡ OutOfMemory
 
 -- The report of the input, at this instant; or the line that tells why it has none.
-abbrev pub IsAnswer : ℤ → Device → Device → List ℕ → ℕ → Type 0
-IsAnswer now source rest words status =
-    ((rows : List AuditRow) × IsAudited limits now source rest rows × (words ≡ text_of rows) × (status ≡ 0))
+abbrev pub IsAuditAnswer : ℤ → Device → Device → List ℕ → ℕ → Type 0
+IsAuditAnswer now source rest words status =
+    ((rows : List AuditRow) × IsAudited limits now source rest rows × (words ≡ printed_report rows) × (status ≡ 0))
     ⊎ ((number : ℕ) × (cause : AuditCause) × FailsAt limits source rest number cause × TellsWhy number cause words × (status ≡ 1))
 
 -- That is out, and nothing else. (The input before and after, then the output.)
 abbrev pub Audited : ℤ → Device → Device → Device → Device → ℕ → Type 0
-Audited now source rest old new status = (words : List ℕ) × IsAnswer now source rest words status × Wrote old new words
+Audited now source rest old new status = (words : List ℕ) × IsAuditAnswer now source rest words status × Wrote old new words
 
 -- Why it isn't out. The reader failed, or memory was short: nothing is out. Or the output broke inside it.
 abbrev pub IsUnaudited : ℤ → Device → Device → Device → Device → CommandFault → Type 0
 IsUnaudited now source rest old new CannotRead = (number : ℕ) × (FailsAt limits source rest number causes.Read ⊎ FailsAt limits source rest number causes.Interrupted)
     × (new ≡ old)
-IsUnaudited now source rest old new CannotWrite = (words : List ℕ) × (status : ℕ) × (n : ℕ) × IsAnswer now source rest words status × Stopped old new words n
+IsUnaudited now source rest old new CannotWrite = (words : List ℕ) × (status : ℕ) × (n : ℕ) × IsAuditAnswer now source rest words status × Stopped old new words n
 IsUnaudited now source rest old new OutOfMemory = (input : List ℕ) × HasGiven source rest input × (new ≡ old)

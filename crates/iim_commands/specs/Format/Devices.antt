@@ -3,9 +3,9 @@ use Rattle.std.specs.Prelude.{◌≡◌, ⊤, List, ℕ, Option, Some, None}
 use Rattle.iim_dataset.specs.Format.Devices.{Device}
 
 -- The octets of a device, where they are known, are these.
-abbrev pub Holds : Option (List ℕ) → List ℕ → Type 0
-Holds None octets = ⊤
-Holds (Some known) octets = known ≡ octets
+abbrev pub HasOctets : Option (List ℕ) → List ℕ → Type 0
+HasOctets None octets = ⊤
+HasOctets (Some known) octets = known ≡ octets
 
 -- the three devices of a run
 pub record Devices : Type 0 where

@@ -4,7 +4,7 @@ use Rattle.iim_unpack.specs.Format.Names.{refusal_text}
 use Rattle.iim_unpack.specs.declared.refusal.Refusal.{Refusal}
 use Rattle.iim_commands.specs.declared.fault.CommandFault.{CommandFault}
 use Rattle.iim_commands.specs.declared.fault.CommandFault.TheVariants.{CannotRead, CannotWrite, OutOfMemory}
-use Rattle.iim_commands.specs.Format.Listings.{Ending, Envelope, Whole, RefusedBy, TooMany, told}
+use Rattle.iim_commands.specs.Format.Listings.{InputEnding, Envelope, Whole, RefusedBy, TooMany, told}
 
 -- the line of an accepted envelope: its number, and how many octets it has
 abbrev pub accepted_line : ℕ → ℕ → List ℕ
@@ -34,17 +34,17 @@ texts_from text n [] = []
 texts_from text n (e ∷ es) = text n e ++ texts_from text (n + 1) es
 
 -- the last line, after `count` envelopes
-abbrev pub ending_line : ℕ → Ending → List ℕ
+abbrev pub ending_line : ℕ → InputEnding → List ℕ
 ending_line count Whole = []
 ending_line count (RefusedBy refusal) = refused_line (count + 1) refusal
 ending_line count TooMany = too_many_line
 
 -- what is written of a listing
-abbrev pub report : (ℕ → Envelope → List ℕ) → List Envelope → Ending → List ℕ
+abbrev pub report : (ℕ → Envelope → List ℕ) → List Envelope → InputEnding → List ℕ
 report text envelopes ending = texts_from text 1 envelopes ++ ending_line (length envelopes) ending
 
 -- the status of a listing: 0 where the whole input is accepted, else 1
-abbrev pub status_of : Ending → ℕ
+abbrev pub status_of : InputEnding → ℕ
 status_of Whole = 0
 status_of (RefusedBy refusal) = 1
 status_of TooMany = 1

@@ -63,19 +63,19 @@ abbrev pub IsDelivered : List ℕ → List StoryEvent → Type 0
 IsDelivered octets more = (text : List ℕ) × IsTextOf octets text × (more ≡ delivered text)
 
 -- What stands after the envelopes: nothing, octets that are refused, or one envelope too many.
-pub data Ending : Type 0 where
-  Whole : Ending
-  RefusedBy : Refusal → Ending
-  TooMany : Ending
+pub data InputEnding : Type 0 where
+  Whole : InputEnding
+  RefusedBy : Refusal → InputEnding
+  TooMany : InputEnding
 
 -- The octets after `count` envelopes are this ending.
-abbrev pub EndsBy : ℕ → List ℕ → Ending → Type 0
+abbrev pub EndsBy : ℕ → List ℕ → InputEnding → Type 0
 EndsBy count rest Whole = rest ≡ []
 EndsBy count rest (RefusedBy refusal) = (k : ℕ) × IsRefusedAfter rest k refusal
 EndsBy count rest TooMany = (count ≡ max_envelopes) × (e : Envelope) × IsListed e × (more : List ℕ) × (rest ≡ e.octets ++ more)
 
 -- The listing of an input: the envelopes that it begins with, and what stands after them.
-pub record IsListing (input : List ℕ) (envelopes : List Envelope) (ending : Ending) : Type 0 where
+pub record IsListing (input : List ℕ) (envelopes : List Envelope) (ending : InputEnding) : Type 0 where
   pub rest : List ℕ
   pub divides : Divides input envelopes rest
   pub ends : EndsBy (length envelopes) rest ending
@@ -84,8 +84,8 @@ pub record IsListing (input : List ℕ) (envelopes : List Envelope) (ending : En
 
 -- An input has one listing: its envelopes, and what stands after them.
 abbrev pub InputsHaveOneListing : Type 0
-InputsHaveOneListing = (input : List ℕ) (es fs : List Envelope) (x y : Ending) → IsListing input es x → IsListing input fs y → (es ≡ fs) × (x ≡ y)
+InputsHaveOneListing = (input : List ℕ) (es fs : List Envelope) (x y : InputEnding) → IsListing input es x → IsListing input fs y → (es ≡ fs) × (x ≡ y)
 
 -- No longer list of envelopes that is listed at all begins the input.
 abbrev pub ListingsAreLongest : Type 0
-ListingsAreLongest = (input : List ℕ) (es others : List Envelope) (x : Ending) (rest : List ℕ) → IsListing input es x → Divides input others rest → length others ≤ length es
+ListingsAreLongest = (input : List ℕ) (es others : List Envelope) (x : InputEnding) (rest : List ℕ) → IsListing input es x → Divides input others rest → length others ≤ length es

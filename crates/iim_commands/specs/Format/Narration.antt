@@ -11,9 +11,9 @@ use Rattle.iim_unpack.specs.Format.Admitted.{Value, Admits}
 use Rattle.iim_unpack.specs.Format.Open.{IsOpen}
 use Rattle.iim_commands.specs.declared.fault.CommandFault.{CommandFault}
 use Rattle.iim_commands.specs.declared.fault.CommandFault.TheVariants.{CannotRead, CannotWrite, OutOfMemory}
-use Rattle.iim_commands.specs.Format.Devices.{Holds}
+use Rattle.iim_commands.specs.Format.Devices.{HasOctets}
 use Rattle.iim_commands.specs.Format.Lines.{line_of, report, status_of, texts_from}
-use Rattle.iim_commands.specs.Format.Listings.{limits, Divides, Ending, Whole, RefusedBy, TooMany, EndsBy, Envelope, IsDelivered, IsListed, IsListing, IsRefusedAfter}
+use Rattle.iim_commands.specs.Format.Listings.{limits, Divides, InputEnding, Whole, RefusedBy, TooMany, EndsBy, Envelope, IsDelivered, IsListed, IsListing, IsRefusedAfter}
 
 -- the text of an envelope: its lines, joined by LF
 abbrev pub text_of : Envelope → List ℕ
@@ -33,13 +33,13 @@ IsTextIn octets words = (more : List StoryEvent) × IsDelivered octets more × (
 
 -- What is written of the octets after the envelopes: of refused ones the text before the refused one, and of one envelope too many
 -- its text, without an LF.
-abbrev pub LeavesText : List ℕ → Ending → List ℕ → Type 0
+abbrev pub LeavesText : List ℕ → InputEnding → List ℕ → Type 0
 LeavesText rest Whole words = words ≡ []
 LeavesText rest (RefusedBy refusal) words = (k : ℕ) × IsRefusedAfter rest k refusal × IsTextIn (take k rest) words
 LeavesText rest TooMany words = (e : Envelope) × IsListed e × (more : List ℕ) × (rest ≡ e.octets ++ more) × (words ≡ text_of e)
 
 -- The listing of an input, and what is written of the octets after its envelopes.
-pub record IsNarration (input : List ℕ) (envelopes : List Envelope) (ending : Ending) (words : List ℕ) : Type 0 where
+pub record IsNarration (input : List ℕ) (envelopes : List Envelope) (ending : InputEnding) (words : List ℕ) : Type 0 where
   pub listing : IsListing input envelopes ending
   pub leaves : LeavesText listing.rest ending words
 
@@ -47,7 +47,7 @@ pub record IsNarration (input : List ℕ) (envelopes : List Envelope) (ending : 
 -- output, then the errors.)
 abbrev pub Narrated : Device → Device → Device → Device → Device → Device → ℕ → Type 0
 Narrated source rest old new errors_old errors_new status =
-    (input : List ℕ) × (envelopes : List Envelope) × (ending : Ending) × (words : List ℕ) × Holds source.octets input × Unfailed source rest
+    (input : List ℕ) × (envelopes : List Envelope) × (ending : InputEnding) × (words : List ℕ) × HasOctets source.octets input × Unfailed source rest
     × IsNarration input envelopes ending words × (status ≡ status_of ending) × Wrote old new (stories envelopes ++ words)
     × Wrote errors_old errors_new (report line_of envelopes ending)
 
@@ -66,7 +66,7 @@ BreaksInText old new envelopes octets = (k : ℕ) × (words : List ℕ) × (k �
 -- The errors broke inside these lines, after these words.
 abbrev pub AreToldWith : List Envelope → List ℕ → List ℕ → List ℕ → Type 0
 AreToldWith envelopes rest told words = ((told ≡ texts_from line_of 1 envelopes) × (words ≡ []))
-    ⊎ ((ending : Ending) × EndsBy (length envelopes) rest ending × LeavesText rest ending words × (told ≡ report line_of envelopes ending))
+    ⊎ ((ending : InputEnding) × EndsBy (length envelopes) rest ending × LeavesText rest ending words × (told ≡ report line_of envelopes ending))
 
 abbrev pub BreaksInLines : Device → Device → Device → Device → List Envelope → List ℕ → Type 0
 BreaksInLines old new errors_old errors_new envelopes rest = (told : List ℕ) × (words : List ℕ) × (n : ℕ) × AreToldWith envelopes rest told words

@@ -51,7 +51,7 @@ pub record IsPlanOf (a : Asked) (object : List ℕ) (plan : Plan) : Type 0 where
 
 -- ---- what a script tells
 
-pub record Told : Type 0 where
+pub record ScriptContent : Type 0 where
   pub fields : List Dataset
   pub head : Header
   pub trailer : List ℕ
@@ -59,23 +59,23 @@ pub record Told : Type 0 where
   pub text_line : ℕ
 
 -- the object of it
-abbrev pub object_of : Told → List ℕ
+abbrev pub object_of : ScriptContent → List ℕ
 object_of t = canonical t.head t.lines t.trailer
 
 -- The object has no more octets than are asked for.
-abbrev pub HasRoom : Asked → Told → Type 0
-HasRoom a t = length (object_of t) ≤ most_asked a.unknown a.max
+abbrev pub FitsAsked : Asked → ScriptContent → Type 0
+FitsAsked a t = length (object_of t) ≤ most_asked a.unknown a.max
 
 -- It has more.
-abbrev pub IsPast : Asked → Told → Type 0
+abbrev pub IsPast : Asked → ScriptContent → Type 0
 IsPast a t = most_asked a.unknown a.max < length (object_of t)
 
 -- The octets are a script, within the program's limits, that tells this.
-abbrev pub Tells : List ℕ → Told → Type 0
-Tells octets t = IsScript limits octets t.fields t.head t.trailer t.lines t.text_line
+abbrev pub IsScriptOf : List ℕ → ScriptContent → Type 0
+IsScriptOf octets t = IsScript limits octets t.fields t.head t.trailer t.lines t.text_line
 
 -- The form is the packed one of what is told, as it is asked for.
-pub record IsFormOf (a : Asked) (t : Told) (form : List ℕ) : Type 0 where
+pub record IsFormOf (a : Asked) (t : ScriptContent) (form : List ℕ) : Type 0 where
   pub plan : Plan
   pub is_plan : IsPlanOf a (object_of t) plan
   pub packed : Packed t.fields t.head t.lines t.trailer plan form
@@ -92,7 +92,7 @@ IsFaultLine octets text = (line : ℕ) × (cause : ScriptCause) × IsScriptFault
 
 -- The octets are a script whose object has more octets than are asked for, which is told of the line `text`.
 abbrev pub IsPastLine : Asked → List ℕ → List ℕ → Type 0
-IsPastLine a octets text = (t : Told) × Tells octets t × IsPast a t
+IsPastLine a octets text = (t : ScriptContent) × IsScriptOf octets t × IsPast a t
     × (text ≡ refusal_line t.text_line 80 (codes "PastAnnounced"))
 
 -- Why the octets are not packed, and the line that tells it.
@@ -115,12 +115,12 @@ IsUnread old new OutOfMemory = (octets : List ℕ) × (length octets ≤ max_scr
 
 -- The octets are a script, and the form that is asked for of what it tells is out.
 abbrev pub IsPacked : Asked → List ℕ → Device → Device → Type 0
-IsPacked a octets old new = (t : Told) × (form : List ℕ) × Tells octets t × IsFormOf a t form × Wrote old new form
+IsPacked a octets old new = (t : ScriptContent) × (form : List ℕ) × IsScriptOf octets t × IsFormOf a t form × Wrote old new form
 
 -- The octets are a script whose object has room, and a write failed after octets with which the form begins that is packed of what
 -- the script tells by the plan that is asked for.
 abbrev pub IsBrokenOff : Asked → List ℕ → Device → Device → Type 0
-IsBrokenOff a octets old new = (t : Told) × (plan : Plan) × (out : List ℕ) × Tells octets t × HasRoom a t × IsPlanOf a (object_of t) plan × BrokeAfter old new out
+IsBrokenOff a octets old new = (t : ScriptContent) × (plan : Plan) × (out : List ℕ) × IsScriptOf octets t × FitsAsked a t × IsPlanOf a (object_of t) plan × BrokeAfter old new out
     × ((form : List ℕ) → Packed t.fields t.head t.lines t.trailer plan form → Begins out form)
 
 -- ---- what is left

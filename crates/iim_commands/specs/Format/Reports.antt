@@ -6,19 +6,19 @@ use Rattle.iim_dataset.specs.declared.device.IoFault.{IoFault}
 use Rattle.iim_unpack.specs.Format.Open.{IsOpen}
 use Rattle.iim_commands.specs.declared.fault.CommandFault.{CommandFault}
 use Rattle.iim_commands.specs.declared.fault.CommandFault.TheVariants.{CannotRead, CannotWrite, OutOfMemory}
-use Rattle.iim_commands.specs.Format.Devices.{Holds}
-use Rattle.iim_commands.specs.Format.Listings.{limits, Divides, Ending, EndsBy, Envelope, IsListing}
+use Rattle.iim_commands.specs.Format.Devices.{HasOctets}
+use Rattle.iim_commands.specs.Format.Listings.{limits, Divides, InputEnding, EndsBy, Envelope, IsListing}
 use Rattle.iim_commands.specs.Format.Lines.{report, status_of, texts_from}
 
 -- The listing of the whole input is reported, and the status is the one for it. (The input before and after, then the output.)
 abbrev pub Reported : (ℕ → Envelope → List ℕ) → Device → Device → Device → Device → ℕ → Type 0
-Reported text source rest old new status = (input : List ℕ) × (envelopes : List Envelope) × (ending : Ending) × Holds source.octets input × Unfailed source rest
+Reported text source rest old new status = (input : List ℕ) × (envelopes : List Envelope) × (ending : InputEnding) × HasOctets source.octets input × Unfailed source rest
     × IsListing input envelopes ending × (status ≡ status_of ending) × Wrote old new (report text envelopes ending)
 
 -- The text is what is written of the envelopes, and perhaps the last line too.
 abbrev pub IsReport : (ℕ → Envelope → List ℕ) → List Envelope → List ℕ → List ℕ → Type 0
 IsReport text envelopes rest words = (words ≡ texts_from text 1 envelopes)
-    ⊎ ((ending : Ending) × EndsBy (length envelopes) rest ending × (words ≡ report text envelopes ending))
+    ⊎ ((ending : InputEnding) × EndsBy (length envelopes) rest ending × (words ≡ report text envelopes ending))
 
 -- Why the report isn't out. A read failed after envelopes and octets that every layer can continue from: all these envelopes are
 -- reported. Or the output broke inside the report. Or memory was short: some of the envelopes that came are reported.

@@ -7,17 +7,17 @@ use Rattle.iim_script.specs.declared.fault.ScriptCause.TheVariants.{OutOfMemory}
 use Rattle.iim_unpack.specs.Format.Admitted.{Value}
 use Rattle.iim_commands.specs.Format.Listings.{Envelope, IsListed, limits}
 use Rattle.iim_commands.specs.Format.Narration.{story_of}
-use Rattle.iim_commands.specs.Format.Packing.{Told, Tells}
+use Rattle.iim_commands.specs.Format.Packing.{ScriptContent, IsScriptOf}
 use Rattle.iim_commands.specs.Format.Texts.{number_line, sizes_line, shown_of}
 
 -- what a script tells of these values, where each dataset, the header and the trailer has a line
-abbrev pub told_of : Value → Told
+abbrev pub told_of : Value → ScriptContent
 told_of v = record { fields = v.fields; head = v.head; trailer = v.trailer; lines = v.lines; text_line = length v.fields + 3 }
 
 -- The octets are a script that tells this, and nothing else; it has no fault, but that memory may be refused.
-pub record TellsJust (script : List ℕ) (t : Told) : Type 0 where
-  pub told : Tells script t
-  pub only : (other : Told) → Tells script other → other ≡ t
+pub record TellsJust (script : List ℕ) (t : ScriptContent) : Type 0 where
+  pub told : IsScriptOf script t
+  pub only : (other : ScriptContent) → IsScriptOf script other → other ≡ t
   pub sound : (line : ℕ) (cause : ScriptCause) → IsScriptFault limits script line cause → cause ≡ OutOfMemory
 
 -- What `show` prints of an envelope is its first line, other lines, and the line of its sizes. The other lines, the line `text`, and

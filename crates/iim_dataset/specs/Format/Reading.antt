@@ -67,9 +67,9 @@ StillStands stands (Some cause) place sink = stands sink (to_come place)
 -- ---- sinks
 
 -- After this answer to the end of a dataset the sink takes a head, or it has ended.
-abbrev pub Answers : {D : Type 0} → (D → Option ℕ → Type 0) → (D → Type 0) → D → Step → Type 0
-Answers stands ends sink More = stands sink None
-Answers stands ends sink Last = ends sink
+abbrev pub AfterStep : {D : Type 0} → (D → Option ℕ → Type 0) → (D → Type 0) → D → Step → Type 0
+AfterStep stands ends sink More = stands sink None
+AfterStep stands ends sink Last = ends sink
 
 -- All of the octets were used, or the sink has ended after a whole dataset.
 abbrev pub TookAll : {D : Type 0} → (D → Option ℕ → Type 0) → (D → Type 0) → DatasetPlace → D → ℕ → ℕ → Type 0

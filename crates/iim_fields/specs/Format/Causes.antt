@@ -103,8 +103,8 @@ abbrev pub number_of_cause : FieldCause → ℕ
 number_of_cause cause = (rule_of cause).number
 
 -- The condition of the cause holds.
-abbrev pub Holds : FieldCause → Limits → List Dataset → Token → Type 0
-Holds cause = (rule_of cause).holds
+abbrev pub HasCause : FieldCause → Limits → List Dataset → Token → Type 0
+HasCause cause = (rule_of cause).holds
 
 -- the head of a token
 abbrev pub head_at : Token → Head
@@ -118,10 +118,10 @@ Names _ ds t rec set = (rec ≡ (head_at t).rec) × (set ≡ (head_at t).set)
 
 -- The fault of a token: the condition of its cause holds, and that of no cause of a lower number.
 pub record IsFault (limits : Limits) (ds : List Dataset) (t : Token) (fault : FieldFault) : Type 0 where
-  pub holds : Holds fault.cause limits ds t
-  pub lowest : (cause : FieldCause) → number_of_cause cause < number_of_cause fault.cause → Holds cause limits ds t → ⊥
+  pub holds : HasCause fault.cause limits ds t
+  pub lowest : (cause : FieldCause) → number_of_cause cause < number_of_cause fault.cause → HasCause cause limits ds t → ⊥
   pub names : Names fault.cause ds t fault.rec fault.set
 
 -- The token has no fault: the condition of no cause holds.
 abbrev pub HasNoFault : Limits → List Dataset → Token → Type 0
-HasNoFault limits ds t = (cause : FieldCause) → Holds cause limits ds t → ⊥
+HasNoFault limits ds t = (cause : FieldCause) → HasCause cause limits ds t → ⊥

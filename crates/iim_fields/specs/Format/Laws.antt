@@ -30,16 +30,16 @@ abbrev pub NoSectionsBeginOthers : Type 0
 NoSectionsBeginOthers = (ds more : List Dataset) → AreSections ds → AreSections (ds ++ more) → more ≡ []
 
 -- What stands there is the fault of the token, or nothing where the condition of no cause holds.
-abbrev pub TellsFault : Option FieldFault → Limits → List Dataset → Token → Type 0
-TellsFault o limits ds t = ((fault : FieldFault) → (o ≡ Some fault) ↔ IsFault limits ds t fault) × ((o ≡ None) ↔ HasNoFault limits ds t)
+abbrev pub IsFaultIfAny : Option FieldFault → Limits → List Dataset → Token → Type 0
+IsFaultIfAny o limits ds t = ((fault : FieldFault) → (o ≡ Some fault) ↔ IsFault limits ds t fault) × ((o ≡ None) ↔ HasNoFault limits ds t)
 
 -- The first fault of a head is that of the cause of the lowest number whose condition holds, and there is one exactly where the condition of some cause holds.
 abbrev pub HeadsTellTheLowestCause : Type 0
-HeadsTellTheLowestCause = (limits : Limits) (ds : List Dataset) (h : Head) → TellsFault (first_fault limits ds h) limits ds (AtHead h)
+HeadsTellTheLowestCause = (limits : Limits) (ds : List Dataset) (h : Head) → IsFaultIfAny (first_fault limits ds h) limits ds (AtHead h)
 
 -- So is the first fault of a value.
 abbrev pub ValuesTellTheLowestCause : Type 0
-ValuesTellTheLowestCause = (limits : Limits) (ds : List Dataset) (d : Dataset) → TellsFault (value_fault d) limits ds (AtValue d)
+ValuesTellTheLowestCause = (limits : Limits) (ds : List Dataset) (d : Dataset) → IsFaultIfAny (value_fault d) limits ds (AtValue d)
 
 -- After the same datasets a check stands at one place, and after the same datasets and head too.
 abbrev pub DatasetsLeadToOnePlace : Type 0

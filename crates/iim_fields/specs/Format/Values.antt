@@ -13,8 +13,8 @@ abbrev pub tells_number : ℕ → Bool
 tells_number rec = rec == 7 || rec == 9
 
 -- The record's values tell numbers.
-abbrev pub TellsNumber : ℕ → Type 0
-TellsNumber rec = IsTrue (tells_number rec)
+abbrev pub HasNumberValues : ℕ → Type 0
+HasNumberValues rec = IsTrue (tells_number rec)
 
 -- the number that a value tells
 abbrev pub number_told : Dataset → Option ℕ

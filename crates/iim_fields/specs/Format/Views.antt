@@ -1,5 +1,5 @@
 -- Views of the datasets of an envelope.
-use Rattle.std.specs.Prelude.{ℕ, ◌-◌, Bool, true, ◌≡◌, ◌&&◌, ◌==◌, if◌then◌else◌, List, [], ◌∷◌, map, Option, Some, None, is_some, ℤ}
+use Rattle.std.specs.Prelude.{ℕ, Bool, true, ◌≡◌, ◌&&◌, ◌==◌, if◌then◌else◌, List, [], ◌∷◌, map, Option, Some, None, is_some, ℤ}
 use Rattle.std.specs.List.{filter}
 use Rattle.std.specs.Option.{option_and_then}
 use Rattle.iim_tables.specs.Format.Instants.{instant_in}

@@ -28,8 +28,8 @@ pub record Fit (known : Bool) (subfile : ℕ) (ps : List Stated) (lengths : List
   pub maximum : IfSome (number_at 95 ps) (λ m. sum lengths ≤ m)
 
 -- The total is what was announced, if anything was.
-abbrev pub IsWhole : List Stated → List ℕ → Type 0
-IsWhole ps lengths = IfSome (number_at 90 ps) (λ a. sum lengths ≡ a)
+abbrev pub MeetsAnnounced : List Stated → List ℕ → Type 0
+MeetsAnnounced ps lengths = IfSome (number_at 90 ps) (λ a. sum lengths ≡ a)
 
 -- While record 7 is read the object layer can continue exactly where its numbers don't clash.
 abbrev pub NumbersLiveWithoutClash : Type 0
@@ -43,10 +43,10 @@ SubfilesLiveWhileTheyFit = (known : Bool) (subfile : ℕ) (ps : List Stated) (le
 -- At the end of the object it can continue exactly where the subfiles fit and are whole.
 abbrev pub ObjectsEndWhereTheyAreWhole : Type 0
 ObjectsEndWhereTheyAreWhole = (known : Bool) (subfile : ℕ) (ps : List Stated) (lengths : List ℕ) → HasDuties known subfile ps → 0 < length lengths
-    → IsAlive ObjectLanguage (number_tokens ps ++ (map SubfileBegun lengths ++ ObjectEnded ∷ [])) ↔ (Fit known subfile ps lengths × IsWhole ps lengths)
+    → IsAlive ObjectLanguage (number_tokens ps ++ (map SubfileBegun lengths ++ ObjectEnded ∷ [])) ↔ (Fit known subfile ps lengths × MeetsAnnounced ps lengths)
 
 -- With the confirmed size it can continue exactly where that is the total, too.
 abbrev pub TotalsAreConfirmed : Type 0
 TotalsAreConfirmed = (known : Bool) (subfile : ℕ) (ps : List Stated) (lengths : List ℕ) (n : ℕ) → HasDuties known subfile ps → 0 < length lengths
     → IsAlive ObjectLanguage (number_tokens ps ++ (map SubfileBegun lengths ++ (ObjectEnded ∷ Confirmed n ∷ [])))
-    ↔ (Fit known subfile ps lengths × IsWhole ps lengths × (n ≡ sum lengths))
+    ↔ (Fit known subfile ps lengths × MeetsAnnounced ps lengths × (n ≡ sum lengths))

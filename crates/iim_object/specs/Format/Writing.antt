@@ -39,8 +39,8 @@ abbrev pub plan_octets : Plan → List ℕ
 plan_octets plan = canonical_stream (plan_datasets plan.subfile plan.size)
 
 -- what is out after record 7 and these subfiles
-abbrev pub begun_octets : Plan → List (List ℕ) → List ℕ
-begun_octets plan parts = canonical_stream (plan_datasets plan.subfile plan.size ++ subfile_datasets parts)
+abbrev pub octets_out : Plan → List (List ℕ) → List ℕ
+octets_out plan parts = canonical_stream (plan_datasets plan.subfile plan.size ++ subfile_datasets parts)
 
 -- The writer has taken this object, and `out` is out: record 7 and full subfiles. Their data and the octets that are held are the
 -- object. None are held only of an empty one.
@@ -52,7 +52,7 @@ pub record StandsAt {W : Type 0} (w : Writing W) (object out : List ℕ) : Type 
   pub some : w.held ≡ [] → object ≡ []
   pub sent : w.sent ≡ length (joined_parts parts)
   pub within : length w.held ≤ room_of w.plan
-  pub out_is : out ≡ begun_octets w.plan parts
+  pub out_is : out ≡ octets_out w.plan parts
   pub written : w.written ≡ length out
 
 -- Octets led from one writer to the other, wherever it stood: some more octets are out.

@@ -13,7 +13,7 @@ use Rattle.wire_message.specs.Format.Canonical.{packed_head}
 use Rattle.iim_pack.specs.Format.Packing.{Packing, StandsAt, FormWith, written_of}
 
 -- Nothing was written, and the writer is handed back as it was.
-pub record IsRefused {W : Type 0} (cause : PackCause) (writer : W) (fault : StartFault W) : Type 0 where
+pub record StartIsRefused {W : Type 0} (cause : PackCause) (writer : W) (fault : StartFault W) : Type 0 where
   pub cause_is : fault.cause ≡ cause
   pub writer_is : fault.writer ≡ writer
   pub nothing : fault.written ≡ 0
@@ -37,4 +37,4 @@ pub record Starts {W : Type 0} (state : W → Device) (writer : W) (fields : Lis
 
 -- Memory was refused, and nothing was written; or a write failed.
 abbrev pub IsStartFault : {W : Type 0} → (W → Device) → List Dataset → Header → Plan → W → StartFault W → Type 0
-IsStartFault state fields head plan writer fault = IsRefused causes.OutOfMemory writer fault ⊎ Halts state (FormWith fields head plan []) writer fault
+IsStartFault state fields head plan writer fault = StartIsRefused causes.OutOfMemory writer fault ⊎ Halts state (FormWith fields head plan []) writer fault

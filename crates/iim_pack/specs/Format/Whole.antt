@@ -8,7 +8,7 @@ use Rattle.iim_object.specs.declared.cause.StartFault.{StartFault}
 use Rattle.wire_story.specs.Format.Delivery.{StoryEvent, LineOctet, LineEnd}
 use Rattle.wire_message.specs.Format.Messages.{Header}
 use Rattle.iim_pack.specs.Format.Packed.{Packed}
-use Rattle.iim_pack.specs.Format.Starting.{IsRefused, Halts}
+use Rattle.iim_pack.specs.Format.Starting.{StartIsRefused, Halts}
 
 -- the events of a line: before each but the first the last one ends
 abbrev pub line_events : Bool → List ℕ → List StoryEvent
@@ -28,4 +28,4 @@ pub record Packs {W : Type 0} (state : W → Device) (writer : W) (fields : List
 
 -- Memory was refused, and nothing was written; or a write failed, and what is out begins the form.
 abbrev pub IsPackFault : {W : Type 0} → (W → Device) → List Dataset → Header → List (List ℕ) → List ℕ → Plan → W → StartFault W → Type 0
-IsPackFault state fields head lines trailer plan writer fault = IsRefused causes.OutOfMemory writer fault ⊎ Halts state (Packed fields head lines trailer plan) writer fault
+IsPackFault state fields head lines trailer plan writer fault = StartIsRefused causes.OutOfMemory writer fault ⊎ Halts state (Packed fields head lines trailer plan) writer fault

@@ -10,7 +10,7 @@ use Rattle.wire_message.specs.Format.Messages.{Header, IsTrailer}
 use Rattle.wire_story.specs.Format.Texts.{IsLine}
 use Rattle.iim_script.specs.Format.Lines.{HasNo, NextLine, EndLines}
 use Rattle.iim_script.specs.Format.Forms.{TellsField, TellsHead, TellsTrailer, text_word}
-use Rattle.iim_script.specs.Format.Scripts.{AreFields, IsFront, max_script}
+use Rattle.iim_script.specs.Format.Scripts.{AreFieldLines, IsFront, max_script}
 use Rattle.iim_script.specs.declared.fault.ScriptCause.{ScriptCause}
 use Rattle.iim_script.specs.declared.fault.ScriptCause.TheVariants.{ScriptLine, ScriptTooLong, Field, BadTrailer, BadTextOctet, OutOfMemory}
 
@@ -22,11 +22,11 @@ pub data Stage : Type 0 where
 
 -- The lines are the beginning of a script, which has come this far.
 abbrev pub HaveCome : Limits → List (List ℕ) → Stage → Type 0
-HaveCome limits lines (InFields ds) = AreFields limits lines ds
+HaveCome limits lines (InFields ds) = AreFieldLines limits lines ds
 HaveCome limits lines (AfterMessage ds head) =
-    (fields : List (List ℕ)) × (message : List ℕ) × AreFields limits fields ds × TellsHead message head × (lines ≡ fields ++ message ∷ [])
+    (fields : List (List ℕ)) × (message : List ℕ) × AreFieldLines limits fields ds × TellsHead message head × (lines ≡ fields ++ message ∷ [])
 HaveCome limits lines (AfterTrailer ds head trailer) =
-    (fields : List (List ℕ)) × (message : List ℕ) × (line : List ℕ) × AreFields limits fields ds × TellsHead message head
+    (fields : List (List ℕ)) × (message : List ℕ) × (line : List ℕ) × AreFieldLines limits fields ds × TellsHead message head
     × TellsTrailer line trailer × IsTrailer trailer × (lines ≡ fields ++ (message ∷ line ∷ []))
 
 -- The octets begin with `count` lines, each with its end, after which a script has come this far, and this is left.

@@ -26,7 +26,7 @@ AreTaken limits before [] = Unit {0}
 AreTaken limits before (d ∷ ds) = (add_fault limits before d ≡ None) × AreTaken limits (before ++ d ∷ []) ds
 
 -- The lines tell datasets that a builder takes.
-pub record AreFields (limits : Limits) (lines : List (List ℕ)) (ds : List Dataset) : Type 0 where
+pub record AreFieldLines (limits : Limits) (lines : List (List ℕ)) (ds : List Dataset) : Type 0 where
   pub told : TellFields lines ds
   pub taken : AreTaken limits [] ds
 
@@ -43,7 +43,7 @@ pub record IsFront (limits : Limits) (octets : List ℕ) (fields : List Dataset)
   pub message : List ℕ
   pub trailers : List (List ℕ)
   pub lined : EndLines (field_lines ++ (message ∷ trailers ++ text_word ∷ [])) octets
-  pub are_fields : AreFields limits field_lines fields
+  pub are_fields : AreFieldLines limits field_lines fields
   pub whole : finish_fault fields ≡ None
   pub is_head : TellsHead message head
   pub is_trailer : AreTrailer trailers trailer

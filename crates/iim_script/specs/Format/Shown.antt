@@ -24,11 +24,11 @@ abbrev pub BeginsWith : List ℕ → ℕ → List ℕ → Type 0
 BeginsWith text octet rest = (piece : List ℕ) × TellsOctet piece octet × (text ≡ piece ++ rest)
 
 -- The text tells the octets, one after another.
-abbrev pub Tells : List ℕ → List ℕ → Type 0
-Tells text [] = text ≡ []
-Tells text (octet ∷ octets) = (rest : List ℕ) × BeginsWith text octet rest × Tells rest octets
+abbrev pub TellsOctets : List ℕ → List ℕ → Type 0
+TellsOctets text [] = text ≡ []
+TellsOctets text (octet ∷ octets) = (rest : List ℕ) × BeginsWith text octet rest × TellsOctets rest octets
 
 -- What ends a line: nothing, for no octets; else SP, and a text of at least one octet.
 abbrev pub TellsLast : List ℕ → List ℕ → Type 0
 TellsLast end [] = end ≡ []
-TellsLast end (octet ∷ octets) = (text : List ℕ) × (end ≡ 32 ∷ text) × Tells text (octet ∷ octets)
+TellsLast end (octet ∷ octets) = (text : List ℕ) × (end ≡ 32 ∷ text) × TellsOctets text (octet ∷ octets)

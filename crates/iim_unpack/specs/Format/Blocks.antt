@@ -1,5 +1,5 @@
 -- Octets that come before those of a device.
-use Rattle.std.specs.Prelude.{ℕ, ◌-◌, List, ◌++◌, Option, None, Some}
+use Rattle.std.specs.Prelude.{ℕ, List, ◌++◌, Option, None, Some}
 use Rattle.iim_dataset.specs.Format.Devices.{Device}
 
 -- octets, put before those that are known to come

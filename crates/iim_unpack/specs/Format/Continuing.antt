@@ -7,7 +7,7 @@ use Rattle.iim_unpack.specs.Format.Possible.{AreOpenOrWhole}
 use Rattle.iim_unpack.specs.Format.Restored.{IsRestored}
 use Rattle.iim_unpack.specs.Format.Streams.{IsEnvelopeWithin}
 use Rattle.iim_unpack.specs.Format.Tickets.{Place, IsPlaceOf, IsTicketOf}
-use Rattle.iim_unpack.specs.Format.Open.{Adds, IsOpen, RefusesNext}
+use Rattle.iim_unpack.specs.Format.Open.{Delivers, IsOpen, RefusesNext}
 use Rattle.iim_unpack.specs.Format.Unpacking.{IsDoneWith, Stands, Unpacking, limits_in}
 use Rattle.iim_unpack.specs.declared.fault.TokenFault.{TokenFault}
 
@@ -23,7 +23,7 @@ pub record AreAlike (v w : Value) : Type 0 where
 pub record ContinueAlike (limits : Limits) (p q more : List ℕ) : Type 0 where
   pub are_open : IsOpen limits (p ++ more) → IsOpen limits (q ++ more)
   pub are_whole : (v : Value) → IsEnvelopeWithin limits (p ++ more) v → (w : Value) × IsEnvelopeWithin limits (q ++ more) w × AreAlike v w
-  pub add : (events : List story.StoryEvent) → AreOpenOrWhole limits (p ++ more) → Adds p more events → Adds q more events
+  pub add : (events : List story.StoryEvent) → AreOpenOrWhole limits (p ++ more) → Delivers p more events → Delivers q more events
 
 -- Octets that lead to one place, each open or an envelope, continue alike.
 abbrev pub PlacesContinueAlike : Type 0

@@ -13,7 +13,7 @@ use Rattle.iim_unpack.specs.Format.Framed.{AreWithin}
 use Rattle.iim_unpack.specs.Format.Parts.{CountsFor, has_ended}
 use Rattle.iim_unpack.specs.Format.Refusals.{refusal_at}
 use Rattle.iim_unpack.specs.Format.Unpacking.{Unpacking, Stands, limits_in, raised}
-use Rattle.iim_unpack.specs.Format.Open.{IsOpen, Adds, RefusesNext, IsTruncatedAt}
+use Rattle.iim_unpack.specs.Format.Open.{IsOpen, Delivers, RefusesNext, IsTruncatedAt}
 use Rattle.iim_unpack.specs.Format.Value.{HasParts}
 use Rattle.iim_unpack.specs.declared.fault.TokenFault.{TokenFault}
 use Rattle.iim_unpack.specs.declared.intake.Intake.{Intake}
@@ -48,7 +48,7 @@ pub record IsRefusedOf (limits : Limits) (p : List ℕ) (a : ℕ) (octets : List
   pub within : k < length octets
   pub fault : TokenFault
   pub refusal : e ≡ refusal_at (raised a k) fault
-  pub adds : Adds p (take k octets) more
+  pub adds : Delivers p (take k octets) more
   pub refuses : RefusesNext limits (p ++ take k octets) (slice_index octets k) fault
 
 -- Octets came, of which one is refused.
@@ -63,7 +63,7 @@ pub record WasRefused {S : Type 0} (goes : S → List story.StoryEvent → S →
 pub record IsTruncatedIn (limits : Limits) (p : List ℕ) (a : ℕ) (octets : List ℕ) (more : List story.StoryEvent) (e : Refusal) : Type 0 where
   pub is_open : IsOpen limits (p ++ octets)
   pub some : p ++ octets ≡ [] → ⊥
-  pub adds : Adds p octets more
+  pub adds : Delivers p octets more
   pub truncated : IsTruncatedAt (p ++ octets) (raised a (length octets)) e
 
 -- Octets came, nothing is next in line, and they are truncated.
@@ -82,7 +82,7 @@ pub record WasMissed {S : Type 0} (goes : S → List story.StoryEvent → S → 
   pub missed : MissedAfter old new octets fault
   pub told : goes a more b
   pub calm : failures b ≡ failures a
-  pub is_open : (p : List ℕ) (n : ℕ) → Stands u p n → IsOpen (limits_in u) (p ++ octets) × Adds p octets more × (kept ≡ raised n (length octets))
+  pub is_open : (p : List ℕ) (n : ℕ) → Stands u p n → IsOpen (limits_in u) (p ++ octets) × Delivers p octets more × (kept ≡ raised n (length octets))
 
 -- why an intake gives nothing, and the octet that it keeps for later calls
 abbrev pub Faults : {S : Type 0} → (S → List story.StoryEvent → S → Type 0) → (S → ℕ) → Device → Device → Unpacking → S → S → ℕ → IntakeFault → Type 0
@@ -96,7 +96,7 @@ pub record ComesNext (limits : Limits) (p octets : List ℕ) (more : List story.
   pub admits : Admits (p ++ octets) value
   pub within : AreWithin limits admits.datasets
   pub parts : HasParts got value
-  pub adds : Adds p octets more
+  pub adds : Delivers p octets more
 
 -- Octets came, with which the envelope ends; `used` tells how many.
 pub record WasGiven {S : Type 0} (goes : S → List story.StoryEvent → S → Type 0) (old new : Device) (u : Unpacking) (a b : S) (used : ℕ) (got : Unpacked) : Type 0 where

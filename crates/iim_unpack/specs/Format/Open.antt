@@ -1,8 +1,7 @@
 -- Octets from which every layer can continue, what they say of the text, and the refusal of the next one.
-use Rattle.std.specs.Prelude.{◌≡◌, ℕ, ◌==◌, ◌⊎◌, if◌then◌else◌, List, [], ◌∷◌, ◌++◌, map, ◌+◌, ◌-◌}
+use Rattle.std.specs.Prelude.{◌≡◌, ℕ, ◌==◌, ◌⊎◌, if◌then◌else◌, List, [], ◌∷◌, ◌++◌, map, ◌+◌}
 use Rattle.iim_dataset.specs.Format.Datasets.{Dataset, SpellsTag, count_octets}
 use Rattle.iim_dataset.specs.Format.Splits.{Begun, InTag, InData, Reads}
-use Rattle.iim_dataset.specs.Format.Events.{DatasetEvent}
 use Rattle.iim_dataset.specs.Format.Languages as languages
 use Rattle.iim_dataset.specs.declared.head.Head.{Head}
 use Rattle.iim_fields.specs.Format.Records.{AreSections}
@@ -61,8 +60,8 @@ abbrev pub IsTextOf : List ℕ → List ℕ → Type 0
 IsTextOf octets text = (whole : List Dataset) × (begun : Begun) × Reads count_octets octets whole begun × (text ≡ text_so_far (object_so_far whole begun))
 
 -- Of the octets after those, exactly this is delivered.
-abbrev pub Adds : List ℕ → List ℕ → List story.StoryEvent → Type 0
-Adds p octets more = (text : List ℕ) → IsTextOf p text → (added : List ℕ) × IsTextOf (p ++ octets) (text ++ added) × (more ≡ story.delivered added)
+abbrev pub Delivers : List ℕ → List ℕ → List story.StoryEvent → Type 0
+Delivers p octets more = (text : List ℕ) → IsTextOf p text → (added : List ℕ) × IsTextOf (p ++ octets) (text ++ added) × (more ≡ story.delivered added)
 
 -- Every layer can continue from the octets, within the limits, and they are no envelope.
 pub record IsOpen (limits : Limits) (octets : List ℕ) : Type 0 where

@@ -6,7 +6,7 @@ use Rattle.wire_story.specs.Format.Delivery as story
 use Rattle.iim_unpack.specs.Format.Admitted.{Value}
 use Rattle.iim_unpack.specs.Format.Refusals.{refusal_at}
 use Rattle.iim_unpack.specs.Format.Streams.{Answer, Finished, Refused, Truncated, IsFinished, IsTruncated}
-use Rattle.iim_unpack.specs.Format.Open.{Adds, RefusesNext}
+use Rattle.iim_unpack.specs.Format.Open.{Delivers, RefusesNext}
 use Rattle.iim_unpack.specs.Format.Value.{HasParts}
 use Rattle.iim_unpack.specs.declared.fault.TokenFault.{TokenFault}
 use Rattle.iim_unpack.specs.declared.refusal.Refusal.{Refusal}
@@ -18,7 +18,7 @@ stream_of pieces = flat_map (λ piece. piece.now) pieces
 
 -- From a to b the sink was told exactly what is delivered of the octets.
 abbrev pub IsToldOf : {S : Type 0} → (S → List story.StoryEvent → S → Type 0) → S → List ℕ → S → Type 0
-IsToldOf {S} goes a octets b = (more : List story.StoryEvent) × goes a more b × Adds [] octets more
+IsToldOf {S} goes a octets b = (more : List story.StoryEvent) × goes a more b × Delivers [] octets more
 
 -- The stream begins with an envelope of `used` octets; its parts are these, and the sink was told its lines.
 pub record IsUnpacked {S : Type 0} (goes : S → List story.StoryEvent → S → Type 0) (limits : Limits) (stream : List ℕ) (a b : S) (got : Unpacked) (used : ℕ) : Type 0 where

@@ -5,7 +5,7 @@ use Rattle.iim_fields.specs.declared.limits.Limits.{Limits}
 use Rattle.iim_unpack.specs.Format.Admitted.{Value}
 use Rattle.iim_unpack.specs.Format.Possible.{Possible, AreHeadsWithin, begun_count, begun_fields}
 use Rattle.iim_unpack.specs.Format.Streams.{IsEnvelopeWithin}
-use Rattle.iim_unpack.specs.Format.TicketForm.{Split, SplitsInto, IsFaultOf}
+use Rattle.iim_unpack.specs.Format.TicketForm.{Split, SplitsTicket, IsFaultOf}
 use Rattle.iim_unpack.specs.Format.Tickets.{Place, IsPlaceOf, ticket_of}
 use Rattle.iim_unpack.specs.Format.Unpacking.{Unpacking, Stands, IsDoneWith, limits_in}
 use Rattle.iim_unpack.specs.Format.Open.{IsOpen}
@@ -42,7 +42,7 @@ fields_told p = length p.fields + begun_fields p.section p.phase
 abbrev pub IsRestoreFault : Limits → List ℕ → TicketFault → Type 0
 IsRestoreFault limits ticket Form = IsFaultOf ticket Form
 IsRestoreFault limits ticket Version = IsFaultOf ticket Version
-IsRestoreFault limits ticket Impossible = ((s : Split) × SplitsInto ticket s) × ((place : Place) → IsTicketAt ticket place → ⊥)
+IsRestoreFault limits ticket Impossible = ((s : Split) × SplitsTicket ticket s) × ((place : Place) → IsTicketAt ticket place → ⊥)
 IsRestoreFault limits ticket HeaderFull = (place : Place) × IsTicketAt ticket place × (limits.octets < octets_told place)
 IsRestoreFault limits ticket TooManyFields = (place : Place) × IsTicketAt ticket place × (octets_told place ≤ limits.octets) × (limits.fields < fields_told place)
 IsRestoreFault limits ticket OutOfMemory = (place : Place) × IsTicketAt ticket place × AreHeadsWithin limits place

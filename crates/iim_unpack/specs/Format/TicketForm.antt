@@ -47,7 +47,7 @@ pub record HasForm (s : Split) : Type 0 where
   pub texts : AreTexts s.texts
 
 -- The octets have the form of a ticket, with these parts.
-pub record SplitsInto (ticket : List ℕ) (s : Split) : Type 0 where
+pub record SplitsTicket (ticket : List ℕ) (s : Split) : Type 0 where
   pub form : HasForm s
   pub spelled : ticket ≡ split_octets s
 
@@ -60,10 +60,10 @@ pub record HasOtherVersion (ticket : List ℕ) : Type 0 where
 
 -- A ticket has one split.
 abbrev pub TicketsHaveOneSplit : Type 0
-TicketsHaveOneSplit = (ticket : List ℕ) (s t : Split) → SplitsInto ticket s → SplitsInto ticket t → s ≡ t
+TicketsHaveOneSplit = (ticket : List ℕ) (s t : Split) → SplitsTicket ticket s → SplitsTicket ticket t → s ≡ t
 
 -- The version is told exactly where a ticket's name is followed by another one. The form is told exactly of all else without parts.
 abbrev pub IsFaultOf : List ℕ → TicketFault → Type 0
 IsFaultOf ticket Version = HasOtherVersion ticket
-IsFaultOf ticket Form = (HasOtherVersion ticket → ⊥) × ((s : Split) → SplitsInto ticket s → ⊥)
+IsFaultOf ticket Form = (HasOtherVersion ticket → ⊥) × ((s : Split) → SplitsTicket ticket s → ⊥)
 IsFaultOf ticket _ = ⊥

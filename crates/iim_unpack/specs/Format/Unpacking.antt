@@ -9,7 +9,7 @@ use Rattle.iim_fields.specs.Format.Stores.{Room}
 use Rattle.iim_fields.specs.declared.limits.Limits.{Limits}
 use Rattle.wire_story.specs.Format.Delivery as story
 use Rattle.iim_unpack.specs.Format.Refusals.{refusal_at}
-use Rattle.iim_unpack.specs.Format.Open.{IsTextOf, Adds, IsOpen, RefusesNext}
+use Rattle.iim_unpack.specs.Format.Open.{IsTextOf, Delivers, IsOpen, RefusesNext}
 use Rattle.iim_unpack.specs.Format.Parts.{Led, has_ended}
 use Rattle.iim_unpack.specs.Format.Admitted.{Value, Admits}
 use Rattle.iim_unpack.specs.Format.Framed.{AreWithin}
@@ -78,8 +78,8 @@ IsDone u = (u.refused ≡ None) × (has_ended u.parts ≡ true)
 
 -- What is answered, of octets on which it stood.
 abbrev pub Goes : Unpacking → List ℕ → ℕ → List ℕ → List story.StoryEvent → Progress → Type 0
-Goes v p a piece more More = Stands v (p ++ piece) (raised a (length piece)) × Adds p piece more
-Goes v p a piece more (Done used) = (used ≤ length piece) × IsDoneWith v (p ++ take used piece) (raised a used) × Adds p (take used piece) more
+Goes v p a piece more More = Stands v (p ++ piece) (raised a (length piece)) × Delivers p piece more
+Goes v p a piece more (Done used) = (used ≤ length piece) × IsDoneWith v (p ++ take used piece) (raised a used) × Delivers p (take used piece) more
 
 -- Octet k of the piece is refused, and of the octets before it this is delivered.
 pub record IsRefusedIn (limits : Limits) (p : List ℕ) (a : ℕ) (piece : List ℕ) (more : List story.StoryEvent) (e : Refusal) : Type 0 where

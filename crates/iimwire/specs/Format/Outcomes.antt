@@ -18,13 +18,13 @@ abbrev pub Complained : Device → Device → CommandFault → Type 0
 Complained old new fault = Wrote old new (fault_line fault) ⊎ ((n : ℕ) × Stopped old new (fault_line fault) n)
 
 -- A run ends with its answer: with the status, or with the fault, which is told, and status 3. (The errors before and after.)
-abbrev pub Finishes : Device → Device → Result ℕ CommandFault → ℕ → Type 0
-Finishes old new (Ok want) status = (status ≡ want) × (new ≡ old)
-Finishes old new (Err fault) status = (status ≡ 3) × Complained old new fault
+abbrev pub EndsRun : Device → Device → Result ℕ CommandFault → ℕ → Type 0
+EndsRun old new (Ok want) status = (status ≡ want) × (new ≡ old)
+EndsRun old new (Err fault) status = (status ≡ 3) × Complained old new fault
 
 -- The input was reported, without a word on the errors; or a fault came and was told there, and the status is 3.
-abbrev pub Listed : (ℕ → Envelope → List ℕ) → Devices → Devices → ℕ → Type 0
-Listed text old new status = (Reported text old.input new.input old.output new.output status × (new.errors ≡ old.errors))
+abbrev pub EndsReport : (ℕ → Envelope → List ℕ) → Devices → Devices → ℕ → Type 0
+EndsReport text old new status = (Reported text old.input new.input old.output new.output status × (new.errors ≡ old.errors))
     ⊎ ((fault : CommandFault) × IsUnreported text old.input new.input old.output new.output fault × Complained old.errors new.errors fault × (status ≡ 3))
 
 -- The stories of the input were told, with the lines of `check` on the errors; or a fault came and was told there after them, and the
@@ -40,14 +40,14 @@ Reviewed now old new status = (Audited now old.input new.input old.output new.ou
     ⊎ ((fault : CommandFault) × IsUnaudited now old.input new.input old.output new.output fault × Complained old.errors new.errors fault × (status ≡ 3))
 
 -- The script was answered; or a fault came and was told on the errors, and the status is 3.
-abbrev pub Packs : Asked → Devices → Devices → ℕ → Type 0
-Packs asked old new status = Answered asked old new status
+abbrev pub EndsPacking : Asked → Devices → Devices → ℕ → Type 0
+EndsPacking asked old new status = Answered asked old new status
     ⊎ ((fault : CommandFault) × IsUnanswered asked old new fault × Complained old.errors new.errors fault × (status ≡ 3))
 
 -- What each job leaves.
 abbrev pub Ran : Job → Devices → Devices → ℕ → Type 0
-Ran Check old new status = Listed line_of old new status
-Ran Show old new status = Listed shown_of old new status
+Ran Check old new status = EndsReport line_of old new status
+Ran Show old new status = EndsReport shown_of old new status
 Ran Story old new status = ToldAsStory old new status
-Ran (Pack request) old new status = Packs (asked request.subfile request.unknown request.max) old new status
+Ran (Pack request) old new status = EndsPacking (asked request.subfile request.unknown request.max) old new status
 Ran (Audit now) old new status = Reviewed now.nanosecond old new status

@@ -99,13 +99,13 @@ AsksJob name rows (Pack request) = (name ≡ codes "pack") × TellsPacking rows 
 AsksJob name rows (Audit now) = (name ≡ codes "audit") × IsInstant (first_of (codes "now") rows) now.nanosecond
 
 -- The words have no fault, and name a command, with these values of its arguments.
-pub record Names (words : List Text) (name : Text) (rows : List Row) : Type 0 where
+pub record NamesCommand (words : List Text) (name : Text) (rows : List Row) : Type 0 where
   pub faultless : fault_of program words ≡ []
   pub named : subcommand_of program words ≡ Some (name, rows)
 
 -- The words ask for the job, and name the file.
 abbrev pub AsksFor : List Text → Request → Type 0
-AsksFor words request = (name : Text) × (rows : List Row) × Names words name rows × AsksJob name rows request.job
+AsksFor words request = (name : Text) × (rows : List Row) × NamesCommand words name rows × AsksJob name rows request.job
     × (text_given request.file ≡ first_of (codes "FILE") rows)
 
 -- A maximum is given of a known size.
@@ -115,6 +115,6 @@ IsMaxAlone name rows = (name ≡ codes "pack") × ((subfile : ℕ) × (max : Opt
 -- The fault is one of those that clap finds in the words, or that their command has. Memory may always be short.
 abbrev pub IsFaultOf : List Text → UsageFault → Type 0
 IsFaultOf words (Words error) = IsAmong (kind_of error) (fault_of program words)
-IsFaultOf words MaxNeedsUnknown = (name : Text) × (rows : List Row) × Names words name rows × IsMaxAlone name rows
-IsFaultOf words BadNow = (name : Text) × (rows : List Row) × Names words name rows × (name ≡ codes "audit") × IsNoInstant (first_of (codes "now") rows)
+IsFaultOf words MaxNeedsUnknown = (name : Text) × (rows : List Row) × NamesCommand words name rows × IsMaxAlone name rows
+IsFaultOf words BadNow = (name : Text) × (rows : List Row) × NamesCommand words name rows × (name ≡ codes "audit") × IsNoInstant (first_of (codes "now") rows)
 IsFaultOf words OutOfMemory = ⊤

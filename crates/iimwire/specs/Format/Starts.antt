@@ -3,8 +3,8 @@ use Rattle.std.specs.Prelude.{◌≡◌, ℕ, ◌⊎◌, ⊤, List, ◌++◌, co
 use Rattle.iim_dataset.specs.Format.Devices.{Device}
 use Rattle.iimwire.specs.declared.request.UsageFault.{UsageFault}
 use Rattle.iimwire.specs.declared.request.UsageFault.TheVariants as usage
-use Rattle.iimwire.specs.declared.start.StartFault.{StartFault}
-use Rattle.iimwire.specs.declared.start.StartFault.TheVariants.{Usage, NoText, CannotOpen, OutOfMemory}
+use Rattle.iimwire.specs.declared.start.RunFault.{RunFault}
+use Rattle.iimwire.specs.declared.start.RunFault.TheVariants.{Usage, NoText, CannotOpen, OutOfMemory}
 use Rattle.iim_commands.specs.Format.Reports.{IsTold}
 use Rattle.iim_commands.specs.Format.Shown.{shown_name}
 
@@ -20,11 +20,11 @@ IsUsageText usage.BadNow text = text ≡ codes "bad --now\n"
 IsUsageText usage.OutOfMemory text = text ≡ no_memory_line
 
 -- The text tells why the run can't begin.
-abbrev pub IsTextOf : StartFault → List ℕ → Type 0
-IsTextOf (Usage fault) text = IsUsageText fault text
-IsTextOf NoText text = text ≡ codes "arguments are no text\n"
-IsTextOf (CannotOpen name) text = text ≡ codes "cannot open " ++ (shown_name name.now ++ codes "\n")
-IsTextOf OutOfMemory text = text ≡ no_memory_line
+abbrev pub TellsRunFault : RunFault → List ℕ → Type 0
+TellsRunFault (Usage fault) text = IsUsageText fault text
+TellsRunFault NoText text = text ≡ codes "arguments are no text\n"
+TellsRunFault (CannotOpen name) text = text ≡ codes "cannot open " ++ (shown_name name.now ++ codes "\n")
+TellsRunFault OutOfMemory text = text ≡ no_memory_line
 
 -- the status for it: 2 where the words ask for nothing, else 3
 abbrev pub status_of_usage : UsageFault → ℕ
@@ -33,13 +33,13 @@ status_of_usage usage.MaxNeedsUnknown = 2
 status_of_usage usage.BadNow = 2
 status_of_usage usage.OutOfMemory = 3
 
-abbrev pub status_of_start : StartFault → ℕ
+abbrev pub status_of_start : RunFault → ℕ
 status_of_start (Usage fault) = status_of_usage fault
 status_of_start NoText = 2
 status_of_start (CannotOpen name) = 3
 status_of_start OutOfMemory = 3
 
 -- It was told why the run can't begin, or that there is no memory for that.
-abbrev pub IsHindered : StartFault → Device → Device → ℕ → Type 0
-IsHindered fault old new status = ((text : List ℕ) × IsTextOf fault text × IsTold old new text (status_of_start fault) status)
+abbrev pub IsHindered : RunFault → Device → Device → ℕ → Type 0
+IsHindered fault old new status = ((text : List ℕ) × TellsRunFault fault text × IsTold old new text (status_of_start fault) status)
     ⊎ IsTold old new no_memory_line 3 status

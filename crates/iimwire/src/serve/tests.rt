@@ -2,7 +2,7 @@
 
 use super::serve;
 use crate::request::{Job, Request, UsageFault, parse};
-use crate::start::StartFault;
+use crate::start::RunFault;
 use iim_commands::status::{FAILED, REFUSED, USAGE};
 use iim_dataset::{FromWrite, TrialReader, TrialWriter, Trouble};
 use std::alloc::Global;
@@ -19,7 +19,7 @@ fn writer() -> TrialWriter<128> {
 /// Serves a fault: the status, with errors that were told nothing of the output.
 fn hindered(
     alloc: Global,
-    fault: StartFault<'_>,
+    fault: RunFault<'_>,
     errors: TrialWriter<128>,
 ) -> (u8, TrialWriter<128>, TrialWriter<128>) {
     serve::<TrialReader<'_>, _, _>(alloc, Err(fault), writer(), errors)
@@ -47,16 +47,16 @@ fn carries_a_request_out(rt: HostRuntime) {
 
 #[test]
 fn tells_why_there_is_no_request(rt: HostRuntime) {
-    let rows: [(StartFault<'_>, u8, &str); 4] = [
-        (StartFault::NoText, USAGE, "arguments are no text\n"),
+    let rows: [(RunFault<'_>, u8, &str); 4] = [
+        (RunFault::NoText, USAGE, "arguments are no text\n"),
         (
-            StartFault::CannotOpen("a\n\u{7f}\u{e9}.iim"),
+            RunFault::CannotOpen("a\n\u{7f}\u{e9}.iim"),
             FAILED,
             "cannot open a\\x0A\\x7F\u{e9}.iim\n",
         ),
-        (StartFault::OutOfMemory, FAILED, "out of memory\n"),
+        (RunFault::OutOfMemory, FAILED, "out of memory\n"),
         (
-            StartFault::Usage(UsageFault::OutOfMemory),
+            RunFault::Usage(UsageFault::OutOfMemory),
             FAILED,
             "out of memory\n",
         ),
@@ -80,7 +80,7 @@ fn tells_what_is_wrong_with_words(rt: HostRuntime) -> Result<(), Fail> {
     };
     let (status, output, errors) = serve::<TrialReader<'_>, _, _>(
         alloc,
-        Err(StartFault::Usage(fault)),
+        Err(RunFault::Usage(fault)),
         writer(),
         FromWrite::new(Vec::new(alloc)),
     );
@@ -96,7 +96,7 @@ fn tells_what_is_wrong_with_words(rt: HostRuntime) -> Result<(), Fail> {
 
 #[test]
 fn fails_where_it_can_t_be_told(rt: HostRuntime) {
-    for fault in [StartFault::NoText, StartFault::CannotOpen("a.iim")] {
+    for fault in [RunFault::NoText, RunFault::CannotOpen("a.iim")] {
         let errors = TrialWriter::new(5, Trouble::Failure);
         let (status, _, errors) = hindered(rt.alloc(), fault, errors);
         assert_eq!(rt; status, FAILED);

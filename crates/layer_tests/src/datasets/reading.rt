@@ -1,6 +1,6 @@
 //! Datasets read in one piece, in two, and octet by octet.
 
-ghost use Rattle.std.specs.Prelude.{⊤, OnOk};
+ghost use Rattle.std.specs.Prelude.{⊤};
 ghost use Rattle.iim_dataset.specs.Format.Reading.{TakesCalls};
 
 use arrayvec::ArrayVec;

@@ -94,6 +94,23 @@ fn written(
 }
 
 #[test]
+fn buffers_have_room_for_the_lesser_of_subfile_and_bound(rt: HostRuntime) {
+    let rows = [
+        (1, Size::Known(50), 1),
+        (7, Size::Known(50), 7),
+        (1024, Size::Known(50), 50),
+        (1024, Size::Known(0), 0),
+        (1024, Size::Unknown(Some(20)), 20),
+        (16, Size::Unknown(Some(20)), 16),
+        (1024, Size::Unknown(None), 1024),
+    ];
+    for (subfile, size, room) in rows {
+        let buffer = buffer(&rt, rt.alloc(), subfile, size);
+        assert_eq!(&rt; buffer.room(), room, "{subfile}, {size:?}");
+    }
+}
+
+#[test]
 fn worked_objects_are_written(rt: HostRuntime) {
     let rows = [
         (1024, Size::Known(14), SHORT, SHORT_OUT),

@@ -1,8 +1,5 @@
 //! The calls that a sink gets.
 
-ghost use Rattle.std.specs.Prelude.{ℕ, List};
-ghost use Rattle.wire_story.specs.Format.Delivery.{StoryEvent};
-
 use super::feeding::text_of;
 use super::rule::refusal;
 use super::{LIMITS, SMALLEST, joined, story};

@@ -9,8 +9,8 @@ use Rattle.wire_message.specs.declared.place.Place.{Place}
 use Rattle.wire_message.specs.declared.place.Place.TheVariants.{Filler, Source, Number, Priority, PriorityRead, Category, Words, Info, Gap, Text, Trailer, AfterEnd}
 
 -- a part, its counter and flag, and the octets of source, number, priority, category, words, info and trailer
-abbrev pub place_of : MessagePart → ℕ → ℕ → List ℕ → List ℕ → List ℕ → List ℕ → List ℕ → List ℕ → List ℕ → MessagePlace
-place_of part counter flag source number priority category words info trailer = record {
+abbrev pub place_from : MessagePart → ℕ → ℕ → List ℕ → List ℕ → List ℕ → List ℕ → List ℕ → List ℕ → List ℕ → MessagePlace
+place_from part counter flag source number priority category words info trailer = record {
   part = part;
   counter = counter;
   flag = flag;
@@ -24,24 +24,24 @@ place_of part counter flag source number priority category words info trailer = 
 }
 
 -- the same with the parts of a header
-abbrev pub place_after : MessagePart → ℕ → ℕ → Header → List ℕ → MessagePlace
-place_after part counter flag h trailer = place_of part counter flag h.source h.number h.priority h.category h.words h.info trailer
+abbrev pub place_with_header : MessagePart → ℕ → ℕ → Header → List ℕ → MessagePlace
+place_with_header part counter flag h trailer = place_from part counter flag h.source h.number h.priority h.category h.words h.info trailer
 
 -- A place as it is saved. What comes later than the part that is being read is empty.
 abbrev pub saved : Place → MessagePlace
-saved (Filler count) = place_of part.Filler count 0 [] [] [] [] [] [] []
-saved (Source s) = place_of part.Source 0 0 s.items [] [] [] [] [] []
-saved (Number s n) = place_of part.Number 0 0 s.items n.items [] [] [] [] []
-saved (Priority s n) = place_of part.Priority 0 0 s.items n.items [] [] [] [] []
-saved (PriorityRead s n p) = place_of part.PriorityRead 0 0 s.items n.items p.items [] [] [] []
-saved (Category s n p c) = place_of part.Category 0 0 s.items n.items p.items c.items [] [] []
-saved (Words s n p c w) = place_of part.Words 0 0 s.items n.items p.items c.items w.items [] []
-saved (Info h) = place_after part.Info 0 0 h []
-saved (Gap h count feed) = place_after part.Gap count (if feed then 1 else 0) h []
-saved (Text h (Some held)) = place_after part.Text 0 held h []
-saved (Text h None) = place_after part.Text 0 0 h []
-saved (Trailer h t) = place_after part.Trailer 0 0 h t.items
-saved (AfterEnd h t count) = place_after part.AfterEnd count 0 h t.items
+saved (Filler count) = place_from part.Filler count 0 [] [] [] [] [] [] []
+saved (Source s) = place_from part.Source 0 0 s.items [] [] [] [] [] []
+saved (Number s n) = place_from part.Number 0 0 s.items n.items [] [] [] [] []
+saved (Priority s n) = place_from part.Priority 0 0 s.items n.items [] [] [] [] []
+saved (PriorityRead s n p) = place_from part.PriorityRead 0 0 s.items n.items p.items [] [] [] []
+saved (Category s n p c) = place_from part.Category 0 0 s.items n.items p.items c.items [] [] []
+saved (Words s n p c w) = place_from part.Words 0 0 s.items n.items p.items c.items w.items [] []
+saved (Info h) = place_with_header part.Info 0 0 h []
+saved (Gap h count feed) = place_with_header part.Gap count (if feed then 1 else 0) h []
+saved (Text h (Some held)) = place_with_header part.Text 0 held h []
+saved (Text h None) = place_with_header part.Text 0 0 h []
+saved (Trailer h t) = place_with_header part.Trailer 0 0 h t.items
+saved (AfterEnd h t count) = place_with_header part.AfterEnd count 0 h t.items
 
 -- The octets so far, with this text among them, have led to the place that is saved so.
 abbrev pub LeadToSaved : List ℕ → List ℕ → MessagePlace → Type 0

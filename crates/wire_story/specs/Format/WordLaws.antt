@@ -2,13 +2,13 @@
 use Rattle.std.proofs.Common.{◌≡◌, ℕ, false, List, length}
 use Rattle.wire_story.specs.Format.Texts.{IsText}
 use Rattle.wire_story.specs.Format.Delivery.{delivered}
-use Rattle.wire_story.specs.Format.Words.{words_of, words, HasWords, WordsSoFar, capped, CountsWords}
+use Rattle.wire_story.specs.Format.Words.{words_in, words, HasWords, WordsSoFar, capped, CountsWords}
 
 -- A line has words in one way: there are such words, and no others, and the count is theirs.
 pub record WordsAreCounted (line : List ℕ) : Type 0 where
   pub some : (found : List (List ℕ)) × HasWords line found
   pub one : (found others : List (List ℕ)) → HasWords line found → HasWords line others → found ≡ others
-  pub count : (found : List (List ℕ)) → HasWords line found → words_of line ≡ length found
+  pub count : (found : List (List ℕ)) → HasWords line found → words_in line ≡ length found
 
 abbrev pub WordsAreLongestRuns : Type 0
 WordsAreLongestRuns = (line : List ℕ) → WordsAreCounted line

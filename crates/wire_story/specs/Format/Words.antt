@@ -17,12 +17,12 @@ words_begun inside [] = 0
 words_begun inside (b ∷ xs) = begun_with inside b + words_begun (is_word_octet b) xs
 
 -- how many words a line has
-abbrev pub words_of : List ℕ → ℕ
-words_of line = words_begun false line
+abbrev pub words_in : List ℕ → ℕ
+words_in line = words_begun false line
 
 -- how many words the lines have
 abbrev pub words : List (List ℕ) → ℕ
-words lines = sum_by words_of lines
+words lines = sum_by words_in lines
 
 -- ---- what a word is
 

@@ -2,7 +2,7 @@ use Rattle.std.proofs.Common.{◌≡◌, None, Option, [], length, ap, sym, subs
 use Rattle.iim_dataset.specs.Format.Devices.{Device}
 use Rattle.iim_unpack.specs.Format.Intakes.{line}
 use Rattle.iim_audit.specs.Format.Auditing.{IsAudited}
-use Rattle.iim_audit.specs.Taking.{Took}
+use Rattle.iim_audit.specs.Taking.{TookEnvelope}
 use Rattle.iim_audit.specs.declared.row.AuditRow.{AuditRow}
 use Rattle.iim_audit.specs.declared.row.Taken.{Taken}
 use Rattle.iim_audit.proofs.Reading.{come_none, audited, fails, one_too_many, short_after, read_one}
@@ -39,8 +39,8 @@ returns-in-Ok-None-clause-audited g c = λ alive.
     let old : Device = line st c.args.intake.now in
     let mid : Device = line st c.envelopes.intake in
     let new : Device = line st c.take_envelope.new.intake in
-    let P : Option Taken → Type 0 = λ found. Took c.args.limits mid new found in
-    let took : Took c.args.limits mid new None = subst P c.in-Ok-None.field-0-is (c.in-Ok-None.ensures.took read.lives) in
+    let P : Option Taken → Type 0 = λ found. TookEnvelope c.args.limits mid new found in
+    let took : TookEnvelope c.args.limits mid new None = subst P c.in-Ok-None.field-0-is (c.in-Ok-None.ensures.took read.lives) in
     let Q = λ (rows : List AuditRow). IsAudited c.args.limits now old new rows in
     subst Q (sym c.into_report.ensures)
     (audited c.args.limits now old mid new c.envelopes.ledger c.envelopes.intake.failed c.gifts_join.ensures c.envelopes.invariant.auditing.few read took)
@@ -60,7 +60,7 @@ returns-then-number-gt-MAX_ENVELOPES-clause-fails g c = λ alive.
     let read = c.envelopes.invariant.auditing.reads alive in
     let mid : Device = line st c.envelopes.intake in
     let new : Device = line st c.take_envelope.new.intake in
-    let P : Option Taken → Type 0 = λ found. Took c.args.limits mid new found in
+    let P : Option Taken → Type 0 = λ found. TookEnvelope c.args.limits mid new found in
     one_too_many c.args.limits c.args.now.nanosecond (line st c.args.intake.now) mid new
     c.envelopes.ledger c.envelopes.intake.failed c.next_number-number.result c.in-Ok-Some.got c.gifts_join.ensures
     c.envelopes.invariant.auditing.few c.next_number-number.ensures (omega arith) read
@@ -72,7 +72,7 @@ returns-in_default-clause-fails g c = λ alive.
     let read = c.envelopes.invariant.auditing.reads alive in
     let mid : Device = line st c.envelopes.intake in
     let new : Device = line st c.take_envelope.new.intake in
-    let P : Option Taken → Type 0 = λ found. Took c.args.limits mid new found in
+    let P : Option Taken → Type 0 = λ found. TookEnvelope c.args.limits mid new found in
     short_after c.args.limits c.args.now.nanosecond (line st c.args.intake.now) mid new
     c.envelopes.ledger c.envelopes.intake.failed c.next_number-number.result c.in-Ok-Some.got c.gifts_join.ensures
     (omega arith) c.next_number-number.ensures read
@@ -84,7 +84,7 @@ envelopes-preserved g c =
     let before = c.envelopes.invariant.auditing in
     let mid : Device = line st c.envelopes.intake in
     let new : Device = line st c.take_envelope.new.intake in
-    let P : Option Taken → Type 0 = λ found. Took c.args.limits mid new found in
+    let P : Option Taken → Type 0 = λ found. TookEnvelope c.args.limits mid new found in
     let one : length c.enter.new.self.rows.items ≡ length c.envelopes.ledger.rows.items + 1 = c.in-Ok.ensures.one in
     record {
       auditing = record {

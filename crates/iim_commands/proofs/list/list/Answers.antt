@@ -11,7 +11,7 @@ use Rattle.iim_commands.proofs.list.list.Goals as goal
 
 pub returns-in_err-got-clause-err : goal.returns-in_err-got-clause-err
 returns-in_err-got-clause-err g c =
-    let text = g.P.Report.written in
+    let text = g.P.EnvelopeReport.written in
     let source = line g.R.Source.state c.args.intake.now in
     let mid = line g.R.Source.state c.listing.intake in
     let rest = line g.R.Source.state c.take_next.new.intake in
@@ -25,7 +25,7 @@ returns-in_err-got-clause-err g c =
 
 pub returns-in_err-say-in-Envelope-clause-err : goal.returns-in_err-say-in-Envelope-clause-err
 returns-in_err-say-in-Envelope-clause-err g c =
-    let text = g.P.Report.written in
+    let text = g.P.EnvelopeReport.written in
     let source = line g.R.Source.state c.args.intake.now in
     let mid = line g.R.Source.state c.listing.intake in
     let rest = line g.R.Source.state c.take_next.new.intake in
@@ -44,7 +44,7 @@ returns-in_err-say-in-Envelope-clause-err g c =
 
 pub returns-then-count-eq-MAX_ENVELOPES-clause-ok : goal.returns-then-count-eq-MAX_ENVELOPES-clause-ok
 returns-then-count-eq-MAX_ENVELOPES-clause-ok g c =
-    let text = g.P.Report.written in
+    let text = g.P.EnvelopeReport.written in
     let source = line g.R.Source.state c.args.intake.now in
     let mid = line g.R.Source.state c.listing.intake in
     let rest = line g.R.Source.state c.take_next.new.intake in
@@ -62,7 +62,7 @@ returns-then-count-eq-MAX_ENVELOPES-clause-ok g c =
 
 pub returns-in_err-push_text-in-Envelope-clause-err : goal.returns-in_err-push_text-in-Envelope-clause-err
 returns-in_err-push_text-in-Envelope-clause-err g c =
-    let text = g.P.Report.written in
+    let text = g.P.EnvelopeReport.written in
     let source = line g.R.Source.state c.args.intake.now in
     let mid = line g.R.Source.state c.listing.intake in
     let rest = line g.R.Source.state c.take_next.new.intake in
@@ -76,7 +76,7 @@ returns-in_err-push_text-in-Envelope-clause-err g c =
 
 pub returns-in_err-say-in-Envelope-2-clause-err : goal.returns-in_err-say-in-Envelope-2-clause-err
 returns-in_err-say-in-Envelope-2-clause-err g c =
-    let text = g.P.Report.written in
+    let text = g.P.EnvelopeReport.written in
     let source = line g.R.Source.state c.args.intake.now in
     let mid = line g.R.Source.state c.listing.intake in
     let rest = line g.R.Source.state c.take_next.new.intake in
@@ -96,7 +96,7 @@ returns-in_err-say-in-Envelope-2-clause-err g c =
 
 pub listing-preserved : goal.listing-preserved
 listing-preserved g c =
-    let text = g.P.Report.written in
+    let text = g.P.EnvelopeReport.written in
     let source = line g.R.Source.state c.args.intake.now in
     let mid = line g.R.Source.state c.listing.intake in
     let rest = line g.R.Source.state c.take_next.new.intake in
@@ -119,7 +119,7 @@ listing-preserved g c =
 
 pub returns-in-End-clause-ok : goal.returns-in-End-clause-ok
 returns-in-End-clause-ok g c =
-    let text = g.P.Report.written in
+    let text = g.P.EnvelopeReport.written in
     let source = line g.R.Source.state c.args.intake.now in
     let mid = line g.R.Source.state c.listing.intake in
     let rest = line g.R.Source.state c.take_next.new.intake in
@@ -133,7 +133,7 @@ returns-in-End-clause-ok g c =
 
 pub returns-in_err-push_refused-in-Refused-clause-err : goal.returns-in_err-push_refused-in-Refused-clause-err
 returns-in_err-push_refused-in-Refused-clause-err g c =
-    let text = g.P.Report.written in
+    let text = g.P.EnvelopeReport.written in
     let source = line g.R.Source.state c.args.intake.now in
     let mid = line g.R.Source.state c.listing.intake in
     let rest = line g.R.Source.state c.take_next.new.intake in
@@ -147,7 +147,7 @@ returns-in_err-push_refused-in-Refused-clause-err g c =
 
 pub returns-in_err-say-in-Refused-clause-err : goal.returns-in_err-say-in-Refused-clause-err
 returns-in_err-say-in-Refused-clause-err g c =
-    let text = g.P.Report.written in
+    let text = g.P.EnvelopeReport.written in
     let source = line g.R.Source.state c.args.intake.now in
     let mid = line g.R.Source.state c.listing.intake in
     let rest = line g.R.Source.state c.take_next.new.intake in
@@ -165,7 +165,7 @@ returns-in_err-say-in-Refused-clause-err g c =
 
 pub returns-in-Refused-clause-ok : goal.returns-in-Refused-clause-ok
 returns-in-Refused-clause-ok g c =
-    let text = g.P.Report.written in
+    let text = g.P.EnvelopeReport.written in
     let source = line g.R.Source.state c.args.intake.now in
     let mid = line g.R.Source.state c.listing.intake in
     let rest = line g.R.Source.state c.take_next.new.intake in

@@ -1,5 +1,5 @@
 use Rattle.iim_commands.specs.Format.Packing.{asked}
-use Rattle.iim_commands.specs.PackSteps.{IsUnpacked, UnpacksTold, told_by}
+use Rattle.iim_commands.specs.PackSteps.{IsNotPacked, UnpacksTold, told_by}
 use Rattle.iim_commands.proofs.Packings.{if_err_map, unpacked_of}
 use Rattle.iim_commands.proofs.packing.pack_octets.Goals as goal
 
@@ -8,5 +8,5 @@ returns-in-Ok-clause-unpacked g c =
     let a = asked c.args.request.subfile c.args.request.unknown c.args.request.max in
     let t = told_by c.in-Ok.told in
     let old = g.W.Target.state c.args.output in
-    if_err_map c.pack_told.result (λ left. UnpacksTold a t old (g.W.Target.state left.1) left.0) (λ left. IsUnpacked a c.args.octets.now old (g.W.Target.state left.1) left.0)
+    if_err_map c.pack_told.result (λ left. UnpacksTold a t old (g.W.Target.state left.1) left.0) (λ left. IsNotPacked a c.args.octets.now old (g.W.Target.state left.1) left.0)
     (λ left. unpacked_of a c.args.octets.now t old (g.W.Target.state left.1) left.0 c.in-Ok.ensures.script) c.pack_told.ensures.unpacked

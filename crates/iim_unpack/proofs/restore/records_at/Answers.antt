@@ -4,7 +4,7 @@ use Rattle.iim_fields.specs.Format.Standing.{IsBetween, StandsAfter, limits_of}
 use Rattle.iim_fields.specs.declared.limits.Limits.{Limits}
 use Rattle.iim_unpack.specs.ByLayers.{are_ended}
 use Rattle.iim_unpack.specs.Restoring.{AreWithinWith}
-use Rattle.iim_unpack.specs.Taking.{CanContinueWithin, TookAll, told_datasets}
+use Rattle.iim_unpack.specs.Taking.{CanContinueWithin, TookDatasets, told_datasets}
 use Rattle.iim_unpack.specs.TicketParts.{phase_told}
 use Rattle.iim_unpack.proofs.Restoring.{with_told, goes_told}
 use Rattle.iim_unpack.proofs.Taking.{took_as}
@@ -15,7 +15,7 @@ unreachable-requires c =
     let told : Bool → List Dataset = λ ended. told_datasets c.args.fields c.args.numbers c.args.some ended in
     let phase = phase_told c.args.phase.now in
     let ended : Bool = are_ended phase in
-    let none : TookAll IsBetween StandsAfter limits_of c.in_ok-records.records (told ended) c.take_told.new.taker false =
+    let none : TookDatasets IsBetween StandsAfter limits_of c.in_ok-records.records (told ended) c.take_told.new.taker false =
     took_as IsBetween StandsAfter limits_of _ _ _ _ _ _ (ap told c.has_ended.ensures) c.if-not-take_told.true (c.take_told.ensures.all c.requires.kept) in
     let goes : CanContinueWithin c.args.limits (told ended) =
     goes_told c.args.limits c.args.section phase (told ended) c.requires.lives (with_told c.args.limits c.args.section phase c.args.fields c.args.numbers c.args.some ended c.requires.fits c.requires.kept c.requires.within) in
@@ -26,7 +26,7 @@ take_phase-requires-clause-stands c =
     let told : Bool → List Dataset = λ ended. told_datasets c.args.fields c.args.numbers c.args.some ended in
     let phase = phase_told c.args.phase.now in
     let ended : Bool = are_ended phase in
-    let took : TookAll IsBetween StandsAfter limits_of c.in_ok-records.records (told ended) c.take_told.new.taker true =
+    let took : TookDatasets IsBetween StandsAfter limits_of c.in_ok-records.records (told ended) c.take_told.new.taker true =
     took_as IsBetween StandsAfter limits_of _ _ _ _ _ _ (ap told c.has_ended.ensures) c.if-not-take_told.false (c.take_told.ensures.all c.requires.kept) in
     let within : AreWithinWith c.args.limits c.args.section phase (told ended) =
     with_told c.args.limits c.args.section phase c.args.fields c.args.numbers c.args.some ended c.requires.fits c.requires.kept c.requires.within in
@@ -37,7 +37,7 @@ returns-clause-stands c =
     let told : Bool → List Dataset = λ ended. told_datasets c.args.fields c.args.numbers c.args.some ended in
     let phase = phase_told c.args.phase.now in
     let ended : Bool = are_ended phase in
-    let took : TookAll IsBetween StandsAfter limits_of c.in_ok-records.records (told ended) c.take_told.new.taker true =
+    let took : TookDatasets IsBetween StandsAfter limits_of c.in_ok-records.records (told ended) c.take_told.new.taker true =
     took_as IsBetween StandsAfter limits_of _ _ _ _ _ _ (ap told c.has_ended.ensures) c.if-not-take_told.false (c.take_told.ensures.all c.requires.kept) in
     let within : AreWithinWith c.args.limits c.args.section phase (told ended) =
     with_told c.args.limits c.args.section phase c.args.fields c.args.numbers c.args.some ended c.requires.fits c.requires.kept c.requires.within in

@@ -2,7 +2,7 @@ use Rattle.std.proofs.Common.{◌≡◌, Bool, true, false, List, [], ◌∷◌,
 use Rattle.iim_dataset.specs.Format.Datasets.{Dataset}
 use Rattle.iim_fields.specs.Format.Faults.{is_kept}
 use Rattle.iim_unpack.specs.Format.Begins.{dataset}
-use Rattle.iim_unpack.specs.Taking.{AreKept, CanContinueWithin, TookAll}
+use Rattle.iim_unpack.specs.Taking.{AreKept, CanContinueWithin, TookDatasets}
 use Rattle.iim_unpack.proofs.Taking.{took_more, took_none}
 use Rattle.iim_unpack.proofs.TicketLengths.{all_join}
 use Rattle.iim_unpack.proofs.taker.take_fields.Goals as goal
@@ -30,8 +30,8 @@ returns-then-not-take-clause-all g c all ds s goes =
     let d : Dataset = dataset c.in-Some.rec c.in-Some.set c.in-Some.octets.now in
     let rest : List Dataset = c.next.new.self in
     let parts : c.args.fields ≡ (done ++ d ∷ []) ++ rest = c.loop-rec.invariant.parts ∙ (ap (λ (t : List Dataset). done ++ t) c.in-Some.ensures.steps ∙ sym (append_assoc done (d ∷ []) rest)) in
-    let one : TookAll ready stands limits c.loop-rec.taker (d ∷ []) new false = subst (λ (b : Bool). TookAll ready stands limits c.loop-rec.taker (d ∷ []) new b) c.if-not-take.true c.take.ensures.took in
-    let some : TookAll ready stands limits old (done ++ d ∷ []) new false = took_more ready stands limits old c.loop-rec.taker new done (d ∷ []) false c.loop-rec.invariant.took one in
+    let one : TookDatasets ready stands limits c.loop-rec.taker (d ∷ []) new false = subst (λ (b : Bool). TookDatasets ready stands limits c.loop-rec.taker (d ∷ []) new b) c.if-not-take.true c.take.ensures.took in
+    let some : TookDatasets ready stands limits old (done ++ d ∷ []) new false = took_more ready stands limits old c.loop-rec.taker new done (d ∷ []) false c.loop-rec.invariant.took one in
     took_none ready stands limits old new new (done ++ d ∷ []) rest some ds s (subst (λ (t : List Dataset). CanContinueWithin (limits old) (ds ++ t)) parts goes)
 
 pub loop-rec-preserved : goal.loop-rec-preserved
@@ -42,7 +42,7 @@ loop-rec-preserved g c =
     let new = c.take.new.self in
     let done : List Dataset = c.loop-rec.invariant.done in
     let d : Dataset = dataset c.in-Some.rec c.in-Some.set c.in-Some.octets.now in
-    let one : TookAll ready stands limits c.loop-rec.taker (d ∷ []) new true = subst (λ (b : Bool). TookAll ready stands limits c.loop-rec.taker (d ∷ []) new b) c.if-not-take.false c.take.ensures.took in
+    let one : TookDatasets ready stands limits c.loop-rec.taker (d ∷ []) new true = subst (λ (b : Bool). TookDatasets ready stands limits c.loop-rec.taker (d ∷ []) new b) c.if-not-take.false c.take.ensures.took in
     record {
       done = done ++ d ∷ [];
       parts = c.loop-rec.invariant.parts ∙ (ap (λ (t : List Dataset). done ++ t) c.in-Some.ensures.steps ∙ sym (append_assoc done (d ∷ []) c.next.new.self));

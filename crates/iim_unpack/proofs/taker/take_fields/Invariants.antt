@@ -1,6 +1,6 @@
 use Rattle.std.proofs.Common.{◌≡◌, List, ◌++◌, length, true}
 use Rattle.iim_dataset.specs.Format.Datasets.{Dataset}
-use Rattle.iim_unpack.specs.Taking.{AreKept, TookAll}
+use Rattle.iim_unpack.specs.Taking.{AreKept, TookDatasets}
 use Rattle.iim_unpack.proofs.taker.take_fields.Given as goal
 
 -- some datasets are taken
@@ -9,7 +9,7 @@ invariant-loop-rec g l = record {
   done : List Dataset;
   parts : l.fn.fields ≡ done ++ l.fields;
   each : AreKept done;
-  took : TookAll g.T.DatasetTaker.ready g.T.DatasetTaker.stands g.T.DatasetTaker.limits l.fn.taker done l.taker true;
+  took : TookDatasets g.T.DatasetTaker.ready g.T.DatasetTaker.stands g.T.DatasetTaker.limits l.fn.taker done l.taker true;
   room : g.T.DatasetTaker.room l.taker ≡ g.T.DatasetTaker.room l.fn.taker;
 }
 

@@ -2,7 +2,7 @@ use Rattle.std.proofs.Common.{◌≡◌, ℕ, false, List, [], ◌∷◌, ◌++�
 use Rattle.iim_dataset.specs.Format.Datasets.{Dataset}
 use Rattle.iim_object.specs.Format.Packing.{number_dataset}
 use Rattle.iim_unpack.specs.Plain.{mode_dataset, one_dataset, plain_numbers}
-use Rattle.iim_unpack.specs.Taking.{TookAll, numbers_told}
+use Rattle.iim_unpack.specs.Taking.{TookDatasets, numbers_told}
 use Rattle.iim_unpack.proofs.Taking.{took_then, took_else}
 use Rattle.iim_unpack.proofs.taker.take_numbers.Goals.{then-take_size, else-take_size, then-take_mode, else-take_mode}
 use Rattle.iim_unpack.proofs.taker.take_numbers.Goals as goal
@@ -33,7 +33,7 @@ returns-else-take_size-2-clause-took g c =
     let limits = g.T.DatasetTaker.limits in
     let old = c.args.taker.now in
     let ns : List (Option ℕ) = c.args.numbers in
-    let two : TookAll ready stands limits old (mode_in ns ++ size_in 20 1 ns) c.if-take_mode.taker c.if-take_mode.value =
+    let two : TookDatasets ready stands limits old (mode_in ns ++ size_in 20 1 ns) c.if-take_mode.taker c.if-take_mode.value =
     elim c.if-take_mode.branch [
       | then-take_mode w ↦
           took_then ready stands limits old c.take_mode.new.taker w.take_size.new.taker c.if-take_mode.taker (mode_in ns) (size_in 20 1 ns) c.take_mode.result w.take_size.result c.if-take_mode.value
@@ -42,7 +42,7 @@ returns-else-take_size-2-clause-took g c =
           let none : c.if-take_mode.value ≡ false = cc (w.value-is, w.if-take_mode.false) in
           took_else ready stands limits old c.take_mode.new.taker c.if-take_mode.taker (mode_in ns) (size_in 20 1 ns) c.take_mode.result c.if-take_mode.value c.take_mode.ensures.took w.if-take_mode.false none
     ] in
-    let three : TookAll ready stands limits old ((mode_in ns ++ size_in 20 1 ns) ++ size_in 90 2 ns) c.if-take_size.taker c.if-take_size.value =
+    let three : TookDatasets ready stands limits old ((mode_in ns ++ size_in 20 1 ns) ++ size_in 90 2 ns) c.if-take_size.taker c.if-take_size.value =
     elim c.if-take_size.branch [
       | then-take_size w ↦
           took_then ready stands limits old c.if-take_mode.taker w.take_size-then-take_size.new.taker c.if-take_size.taker (mode_in ns ++ size_in 20 1 ns) (size_in 90 2 ns) c.if-take_mode.value w.take_size-then-take_size.result c.if-take_size.value
@@ -50,5 +50,5 @@ returns-else-take_size-2-clause-took g c =
       | else-take_size w ↦
           took_else ready stands limits old c.if-take_mode.taker c.if-take_size.taker (mode_in ns ++ size_in 20 1 ns) (size_in 90 2 ns) c.if-take_mode.value c.if-take_size.value two w.if-take_size.false c.if-take_size-2.false
     ] in
-    subst (λ (es : List Dataset). TookAll ready stands limits old es c.if-take_size.taker c.if-take_size.value) (four ns c.requires.fits.four)
+    subst (λ (es : List Dataset). TookDatasets ready stands limits old es c.if-take_size.taker c.if-take_size.value) (four ns c.requires.fits.four)
     (took_else ready stands limits old c.if-take_size.taker c.if-take_size.taker ((mode_in ns ++ size_in 20 1 ns) ++ size_in 90 2 ns) (size_in 95 3 ns) c.if-take_size.value c.if-take_size.value three c.if-take_size-2.false c.if-take_size-2.false)

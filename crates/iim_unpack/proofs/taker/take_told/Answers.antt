@@ -5,7 +5,7 @@ use Rattle.iim_dataset.specs.Format.Datasets.{Dataset}
 use Rattle.iim_object.specs.Format.Packing.{subfile_dataset, subfile_datasets}
 use Rattle.iim_unpack.specs.Format.Begins.{dataset}
 use Rattle.iim_unpack.specs.Plain.{Numbers, filled, plain, plain_end, plain_numbers}
-use Rattle.iim_unpack.specs.Taking.{TookAll, numbers_told}
+use Rattle.iim_unpack.specs.Taking.{TookDatasets, numbers_told}
 use Rattle.iim_unpack.proofs.Taking.{took_else, took_then}
 use Rattle.iim_unpack.proofs.taker.take_told.Goals as goal
 
@@ -27,7 +27,7 @@ pub returns-then-take_records-clause-all : goal.returns-then-take_records-clause
 unfolding subfile
 returns-then-take_records-clause-all g c all =
     let numbers : Numbers = numbers_told c.args.numbers in
-    subst (λ (es : List Dataset). TookAll g.T.DatasetTaker.ready g.T.DatasetTaker.stands g.T.DatasetTaker.limits c.args.taker.now es c.take_object.new.taker c.take_object.result) (joined c.args.fields numbers c.args.some c.args.ended)
+    subst (λ (es : List Dataset). TookDatasets g.T.DatasetTaker.ready g.T.DatasetTaker.stands g.T.DatasetTaker.limits c.args.taker.now es c.take_object.new.taker c.take_object.result) (joined c.args.fields numbers c.args.some c.args.ended)
     (took_then g.T.DatasetTaker.ready g.T.DatasetTaker.stands g.T.DatasetTaker.limits c.args.taker.now c.take_records.new.taker c.take_object.new.taker c.take_object.new.taker
     (c.args.fields ++ plain_numbers numbers) (subfile c.args.some ++ plain_end c.args.ended []) c.take_records.result c.take_object.result c.take_object.result
     (c.take_records.ensures.all all) c.if-take_records.true c.take_object.ensures.took refl refl)
@@ -36,7 +36,7 @@ pub returns-else-take_records-clause-all : goal.returns-else-take_records-clause
 unfolding subfile
 returns-else-take_records-clause-all g c all =
     let numbers : Numbers = numbers_told c.args.numbers in
-    subst (λ (es : List Dataset). TookAll g.T.DatasetTaker.ready g.T.DatasetTaker.stands g.T.DatasetTaker.limits c.args.taker.now es c.take_records.new.taker c.take_records.result) (joined c.args.fields numbers c.args.some c.args.ended)
+    subst (λ (es : List Dataset). TookDatasets g.T.DatasetTaker.ready g.T.DatasetTaker.stands g.T.DatasetTaker.limits c.args.taker.now es c.take_records.new.taker c.take_records.result) (joined c.args.fields numbers c.args.some c.args.ended)
     (took_else g.T.DatasetTaker.ready g.T.DatasetTaker.stands g.T.DatasetTaker.limits c.args.taker.now c.take_records.new.taker c.take_records.new.taker
     (c.args.fields ++ plain_numbers numbers) (subfile c.args.some ++ plain_end c.args.ended []) c.take_records.result c.take_records.result
     (c.take_records.ensures.all all) c.if-take_records.false c.if-take_records.false)

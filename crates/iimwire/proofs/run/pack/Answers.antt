@@ -1,7 +1,7 @@
 use Rattle.std.proofs.Common.{◌≡◌, ℕ, Result, Ok, Err, IfOk, IfErr, OnErr, ap, sym, inl, inr, subst}
 use Rattle.iim_dataset.specs.Format.Devices.{Device}
 use Rattle.iim_commands.specs.Format.Devices.{devices}
-use Rattle.iimwire.specs.Format.Outcomes.{Complained, Finishes, Packs}
+use Rattle.iimwire.specs.Format.Outcomes.{Complained, EndsRun, EndsPacking}
 use Rattle.iim_commands.specs.Format.Packing.{Answered, Asked, IsUnanswered, asked}
 use Rattle.iim_commands.specs.declared.fault.CommandFault.{CommandFault}
 use Rattle.iim_commands.specs.declared.fault.CommandFault.TheVariants.{CannotRead, CannotWrite, OutOfMemory}
@@ -20,7 +20,7 @@ same_state (Err e) f x y h = ap f h
 
 packs : (a : Asked) (source rest old new errors mid told : Device) (answer : Result ℕ CommandFault) (status : ℕ)
     → IfOk answer (Answered a (devices source old errors) (devices rest new mid)) → IfErr answer (IsUnanswered a (devices source old errors) (devices rest new mid))
-    → OnErr answer (mid ≡ errors) → Finishes mid told answer status → Packs a (devices source old errors) (devices rest new told) status
+    → OnErr answer (mid ≡ errors) → EndsRun mid told answer status → EndsPacking a (devices source old errors) (devices rest new told) status
 packs a source rest old new errors mid told (Ok want) status ok err same f =
     inl (subst (λ (n : ℕ). Answered a (devices source old errors) (devices rest new told) n) (sym f.0)
     (subst (λ (d : Device). Answered a (devices source old errors) (devices rest new d) want) (sym f.1) ok))

@@ -3,22 +3,22 @@ use Rattle.iim_dataset.specs.Format.Devices.{Device}
 use Rattle.iim_unpack.specs.Format.Intakes.{line}
 use Rattle.iim_commands.specs.Format.Devices.{devices}
 use Rattle.iim_commands.specs.Format.Listings.{Envelope}
-use Rattle.iimwire.specs.Format.Outcomes.{Finishes, Listed}
+use Rattle.iimwire.specs.Format.Outcomes.{EndsRun, EndsReport}
 use Rattle.iim_commands.specs.Format.Reports.{Reported, IsUnreported}
 use Rattle.iim_commands.specs.declared.fault.CommandFault.{CommandFault}
 use Rattle.iimwire.proofs.Runs.{with_none_held}
 use Rattle.iimwire.proofs.run.report.Goals as goal
 
 listed : (text : ℕ → Envelope → List ℕ) (source rest old new errors_old errors_new : Device) (answer : Result ℕ CommandFault) (status : ℕ)
-    → IfOk answer (Reported text source rest old new) → IfErr answer (IsUnreported text source rest old new) → Finishes errors_old errors_new answer status
-    → Listed text (devices source old errors_old) (devices rest new errors_new) status
+    → IfOk answer (Reported text source rest old new) → IfErr answer (IsUnreported text source rest old new) → EndsRun errors_old errors_new answer status
+    → EndsReport text (devices source old errors_old) (devices rest new errors_new) status
 listed text source rest old new errors_old errors_new (Ok want) status ok err f =
     inl (subst (λ (n : ℕ). Reported text source rest old new n) (sym f.0) ok, f.1)
 listed text source rest old new errors_old errors_new (Err fault) status ok err f = inr (fault, err, f.1, f.0)
 
 pub returns : goal.returns
 returns g c =
-    let text = g.P.Report.written in
+    let text = g.P.EnvelopeReport.written in
     let intake = c.list-answer.new.intake in
     let rest = line g.R.Source.state intake in
     let old = g.W.Target.state c.args.output in

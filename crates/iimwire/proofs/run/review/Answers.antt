@@ -3,13 +3,13 @@ use Rattle.iim_dataset.specs.Format.Devices.{Device}
 use Rattle.iim_unpack.specs.Format.Intakes.{line}
 use Rattle.iim_commands.specs.Format.Audits.{Audited, IsUnaudited}
 use Rattle.iim_commands.specs.Format.Devices.{devices}
-use Rattle.iimwire.specs.Format.Outcomes.{Finishes, Reviewed}
+use Rattle.iimwire.specs.Format.Outcomes.{EndsRun, Reviewed}
 use Rattle.iim_commands.specs.declared.fault.CommandFault.{CommandFault}
 use Rattle.iimwire.proofs.Runs.{with_none_held}
 use Rattle.iimwire.proofs.run.review.Goals as goal
 
 reviewed : (now same : ℤ) (source rest old new errors_old errors_new : Device) (answer : Result ℕ CommandFault) (status : ℕ) → same ≡ now
-    → IfOk answer (Audited same source rest old new) → IfErr answer (IsUnaudited same source rest old new) → Finishes errors_old errors_new answer status
+    → IfOk answer (Audited same source rest old new) → IfErr answer (IsUnaudited same source rest old new) → EndsRun errors_old errors_new answer status
     → Reviewed now (devices source old errors_old) (devices rest new errors_new) status
 reviewed now same source rest old new errors_old errors_new (Ok want) status e ok err f =
     inl (subst (λ (n : ℕ). Audited now source rest old new n) (sym f.0) (subst (λ (z : ℤ). Audited z source rest old new want) e ok), f.1)

@@ -3,13 +3,13 @@ use Rattle.iim_dataset.specs.Format.Devices.{Device}
 use Rattle.iim_unpack.specs.Format.Intakes.{line}
 use Rattle.iim_commands.specs.Format.Devices.{devices}
 use Rattle.iim_commands.specs.Format.Narration.{IsUnnarrated, Narrated}
-use Rattle.iimwire.specs.Format.Outcomes.{Finishes, ToldAsStory}
+use Rattle.iimwire.specs.Format.Outcomes.{EndsRun, ToldAsStory}
 use Rattle.iim_commands.specs.declared.fault.CommandFault.{CommandFault}
 use Rattle.iimwire.proofs.Runs.{with_none_held}
 use Rattle.iimwire.proofs.run.tell.Goals as goal
 
 told : (source rest old new errors_old errors errors_new : Device) (answer : Result ℕ CommandFault) (status : ℕ) → IfOk answer (Narrated source rest old new errors_old errors)
-    → IfErr answer (IsUnnarrated source rest old new errors_old errors) → Finishes errors errors_new answer status
+    → IfErr answer (IsUnnarrated source rest old new errors_old errors) → EndsRun errors errors_new answer status
     → ToldAsStory (devices source old errors_old) (devices rest new errors_new) status
 told source rest old new errors_old errors errors_new (Ok want) status ok err f =
     inl (subst (λ (d : Device). Narrated source rest old new errors_old d status) (sym f.1)

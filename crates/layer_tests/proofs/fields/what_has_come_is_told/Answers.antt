@@ -1,4 +1,4 @@
-use Rattle.std.proofs.Common.{◌≡◌, sym, ◌∙◌, None}
+use Rattle.std.proofs.Common.{sym, ◌∙◌}
 use Rattle.layer_tests.proofs.fields.what_has_come_is_told.Goals as goal
 
 pub begun-requires : goal.begun-requires

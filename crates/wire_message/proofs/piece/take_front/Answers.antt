@@ -1,5 +1,5 @@
 use Rattle.std.proofs.Common.{[], take, refl, sym, subst}
-use Rattle.wire_message.specs.Steps.{TakesOctets, Stops}
+use Rattle.wire_message.specs.Steps.{TakesOctets, RefusesInPart}
 use Rattle.wire_message.specs.declared.place.Place.{Place}
 use Rattle.wire_message.specs.declared.place.Place.TheVariants.{Text}
 use Rattle.wire_message.proofs.Machine.{of}
@@ -18,4 +18,4 @@ returns-then-ended-clause-takes g c =
 
 pub returns-in-Err-clause-stops : goal.returns-in-Err-clause-stops
 returns-in-Err-clause-stops g c =
-    subst (λ (p : Place). Stops g.S.StorySink.goes g.S.StorySink.failures p c.args.sink.now c.args.rest.now c.in_text.new.sink c.in-Err.fault) (sym c.in-Text.is) c.in-Err.ensures.stops
+    subst (λ (p : Place). RefusesInPart g.S.StorySink.goes g.S.StorySink.failures p c.args.sink.now c.args.rest.now c.in_text.new.sink c.in-Err.fault) (sym c.in-Text.is) c.in-Err.ensures.stops

@@ -9,7 +9,7 @@ use Rattle.iim_unpack.specs.Format.Value.{HasParts}
 use Rattle.iim_unpack.specs.declared.unpacker.Unpacked.{Unpacked}
 use Rattle.iim_script.specs.Format.Printed.{field_line, message_line, trailer_line}
 use Rattle.iim_commands.specs.Format.Texts.{number_line, sizes_line, shown_text}
-use Rattle.iim_commands.proofs.show.ShowReport.push_text.Goals as goal
+use Rattle.iim_commands.proofs.show.ShowEnvelopeReport.push_text.Goals as goal
 
 -- five parts, one after another
 joined : (o a f m t s v x y z w : List ℕ) → v ≡ o ++ a → x ≡ v ++ f → y ≡ x ++ m → z ≡ y ++ t → w ≡ z ++ s → w ≡ o ++ (a ++ (f ++ (m ++ (t ++ s))))
