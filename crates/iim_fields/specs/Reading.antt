@@ -1,8 +1,8 @@
 -- A reader of records from inside: its check, its limits, its store and the octets of a size.
-use Rattle.std.specs.Prelude.{◌≡◌, ℕ, ◌+◌, ◌≤◌, ◌<◌, ◌^◌, ◌⊎◌, List, [], ◌++◌, false, Option, Some, None, IsTrue, vec_capacity}
+use Rattle.std.specs.Prelude.{◌≡◌, ℕ, ◌≤◌, ◌<◌, ◌^◌, ◌⊎◌, List, [], ◌++◌, false, Option, Some, None, IsTrue, vec_capacity}
 use Rattle.iim_dataset.specs.Format.Datasets.{Dataset}
 use Rattle.iim_dataset.specs.declared.head.Head.{Head}
-use Rattle.iim_fields.specs.Format.Faults.{kept, is_kept}
+use Rattle.iim_fields.specs.Format.Faults.{is_kept}
 use Rattle.iim_fields.specs.Format.Checks.{begun_head}
 use Rattle.iim_fields.specs.Stores.{store_room, fields_of, begun_octets, IsStore}
 use Rattle.iim_fields.specs.declared.limits.Limits.{Limits}

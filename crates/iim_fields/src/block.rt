@@ -68,7 +68,7 @@ fn write(places: &mut Vec<u8>, from: usize, octets: &[u8])
 
 impl Block {
     /// No octets, with room for just `room` octets.
-    pub fn new(alloc: Global, room: usize) -> Result<Block, AllocError>
+    pub(crate) fn new(alloc: Global, room: usize) -> Result<Block, AllocError>
         ensures items { IfOk result (λ block. block.items ≡ []) }
         ensures room { IfOk result (λ block. block.room ≡ room) }
     {
@@ -80,28 +80,28 @@ impl Block {
     }
 
     /// How many octets there is room for.
-    pub fn room(&self) -> usize
+    pub(crate) fn room(&self) -> usize
         ensures { result ≡ self.now.room }
     {
         self.places.capacity()
     }
 
     /// How many octets there are.
-    pub fn len(&self) -> usize
+    pub(crate) fn len(&self) -> usize
         ensures { result ≡ length self.now.items }
     {
         self.used
     }
 
     /// The octets.
-    pub fn as_slice(&self) -> &[u8]
+    pub(crate) fn as_slice(&self) -> &[u8]
         ensures { result.now ≡ self.now.items }
     {
         &self.places[..self.used]
     }
 
     /// Drops the octets, and keeps the room.
-    pub fn clear(&mut self)
+    pub(crate) fn clear(&mut self)
         ensures items { self.new.items ≡ [] }
         ensures room { self.new.room ≡ self.old.room }
     {
@@ -109,7 +109,7 @@ impl Block {
     }
 
     /// Takes octets, for which there is room.
-    pub fn take(&mut self, octets: &[u8])
+    pub(crate) fn take(&mut self, octets: &[u8])
         requires { length self.old.items + length octets.now ≤ self.old.room }
         ensures items { self.new.items ≡ self.old.items ++ octets.now }
         ensures room { self.new.room ≡ self.old.room }

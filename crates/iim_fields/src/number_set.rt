@@ -27,21 +27,21 @@ impl Model for NumberSet {
 
 impl NumberSet {
     /// No number is in it.
-    pub fn new() -> NumberSet
+    pub(crate) fn new() -> NumberSet
         ensures { result ≡ replicate 256 false }
     {
         NumberSet { words: [0; 4] }
     }
 
     /// Another one with the same numbers.
-    pub fn copied(&self) -> NumberSet
+    pub(crate) fn copied(&self) -> NumberSet
         ensures { result ≡ self.now }
     {
         NumberSet { words: self.words }
     }
 
     /// Whether the number is in it.
-    pub fn contains(&self, number: u8) -> bool
+    pub(crate) fn contains(&self, number: u8) -> bool
         ensures { result ≡ slice_index_or self.now number false }
     {
         let word = self.words[usize::from(number / BITS)];
@@ -49,7 +49,7 @@ impl NumberSet {
     }
 
     /// Adds a number.
-    pub fn insert(&mut self, number: u8)
+    pub(crate) fn insert(&mut self, number: u8)
         ensures { self.new ≡ slice_set self.old number true }
     {
         self.words[usize::from(number / BITS)] |= 1 << (number % BITS);

@@ -65,7 +65,7 @@ fn row_fault(again: bool, row: &Row, head: Head) -> Option<FieldFault>
 
 impl Order {
     /// At the beginning of an envelope.
-    pub fn new() -> Order
+    pub(crate) fn new() -> Order
         ensures rec { result.rec ≡ 0 }
         ensures seen { result.seen ≡ nothing }
     {
@@ -76,7 +76,7 @@ impl Order {
     }
 
     /// Another one after the same heads.
-    pub fn copied(&self) -> Order
+    pub(crate) fn copied(&self) -> Order
         ensures { result ≡ self.now }
     {
         Order {
@@ -86,7 +86,7 @@ impl Order {
     }
 
     /// The present record, 0 before the first.
-    pub fn present(&self) -> u8
+    pub(crate) fn present(&self) -> u8
         ensures { result ≡ self.now.rec }
     {
         self.rec
@@ -130,7 +130,7 @@ impl Order {
     }
 
     /// What is missing where the envelope's records 1 and 2 end.
-    pub fn end_fault(&self) -> Option<FieldFault>
+    pub(crate) fn end_fault(&self) -> Option<FieldFault>
         ensures { result ≡ end_fault self.now.rec (has_seen self.now) }
     {
         if self.rec == APPLICATION {
@@ -143,7 +143,7 @@ impl Order {
     }
 
     /// The row of a head that may stand next, or the head's first fault.
-    pub fn check(&self, head: Head) -> Result<Row, FieldFault>
+    pub(crate) fn check(&self, head: Head) -> Result<Row, FieldFault>
         ensures row { IfOk result (λ row. row_of head.rec head.set ≡ Some row) }
         ensures ok { OnOk result (head_fault self.now.rec (has_seen self.now) head ≡ None) }
         ensures fault { IfErr result (λ fault. head_fault self.now.rec (has_seen self.now) head ≡ Some fault) }
@@ -167,7 +167,7 @@ impl Order {
     }
 
     /// Takes a head that may stand next.
-    pub fn take(&mut self, head: Head)
+    pub(crate) fn take(&mut self, head: Head)
         ensures { AddsHead self.old head self.new }
     {
         if head.rec == self.rec {

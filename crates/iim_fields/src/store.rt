@@ -29,7 +29,7 @@ pub(crate) struct Store {
 
 impl Store {
     /// Nothing, with room for just `octets` octets and `entries` entries.
-    pub fn new(alloc: Global, octets: usize, entries: usize) -> Result<Store, AllocError>
+    pub(crate) fn new(alloc: Global, octets: usize, entries: usize) -> Result<Store, AllocError>
         ensures octets { IfOk result (λ store. store.octets.items ≡ []) }
         ensures entries { IfOk result (λ store. store.entries.items ≡ []) }
         ensures octets_room { IfOk result (λ store. store.octets.room ≡ octets) }
@@ -43,7 +43,7 @@ impl Store {
     }
 
     /// The same room with nothing in it, where it is enough for `octets` octets and `entries` entries. Else the store as it was.
-    pub fn emptied(self, octets: usize, entries: usize) -> Result<Store, Store>
+    pub(crate) fn emptied(self, octets: usize, entries: usize) -> Result<Store, Store>
         ensures octets { IfOk result (λ store. store.octets.items ≡ []) }
         ensures entries { IfOk result (λ store. store.entries.items ≡ []) }
         ensures octets_room { IfOk result (λ store. octets ≤ store.octets.room) }
@@ -61,7 +61,7 @@ impl Store {
     }
 
     /// Takes octets of the begun dataset into the room that there is.
-    pub fn take(&mut self, octets: &[u8])
+    pub(crate) fn take(&mut self, octets: &[u8])
         requires { length self.old.octets.items + length octets.now ≤ self.old.octets.room }
         ensures octets { self.new.octets.items ≡ self.old.octets.items ++ octets.now }
         ensures entries { self.new.entries ≡ self.old.entries }
@@ -81,7 +81,7 @@ impl Store {
     }
 
     /// The octets of the begun dataset.
-    pub fn begun(&self) -> &[u8]
+    pub(crate) fn begun(&self) -> &[u8]
         requires { ends_at 0 self.now.entries.items ≤ length self.now.octets.items }
         ensures { result.now ≡ begun_octets self.now }
     {
@@ -89,7 +89,7 @@ impl Store {
     }
 
     /// Keeps the begun dataset, whose octets are all there.
-    pub fn keep(&mut self, rec: u8, set: u8)
+    pub(crate) fn keep(&mut self, rec: u8, set: u8)
         requires { vec_len self.old.entries < vec_capacity self.old.entries }
         ensures octets { self.new.octets ≡ self.old.octets }
         ensures entries { self.new.entries.items ≡ self.old.entries.items ++ record { rec = rec; set = set; end = length self.old.octets.items } ∷ [] }

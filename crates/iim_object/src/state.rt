@@ -74,7 +74,7 @@ fn bound(announced: Option<u64>, maximum: Option<u64>) -> u64
 
 impl State {
     /// Where nothing has been read.
-    pub fn new() -> State
+    pub(crate) fn new() -> State
         ensures { result ≡ state_start }
     {
         State {
@@ -88,7 +88,7 @@ impl State {
     }
 
     /// With these numbers of 7:10, 7:20, 7:90 and 7:95, and no subfile.
-    pub fn of_numbers(numbers: [Option<u64>; 4]) -> State
+    pub(crate) fn of_numbers(numbers: [Option<u64>; 4]) -> State
         ensures { state_numbers result ≡ numbers }
     {
         let [mode, subfile, announced, maximum] = numbers;
@@ -102,7 +102,7 @@ impl State {
     }
 
     /// The numbers of 7:10, 7:20, 7:90 and 7:95.
-    pub fn numbers(&self) -> [Option<u64>; 4]
+    pub(crate) fn numbers(&self) -> [Option<u64>; 4]
         ensures { result ≡ state_numbers self.now }
     {
         [self.mode, self.subfile, self.announced, self.maximum]
@@ -144,7 +144,7 @@ impl State {
     }
 
     /// Whether some tokens lead to it.
-    pub fn is_state(&self) -> bool
+    pub(crate) fn is_state(&self) -> bool
         ensures { IsTrue result ↔ IsState self.now }
     {
         if !self.has_numbers() {
@@ -157,7 +157,7 @@ impl State {
     }
 
     /// With the number of a dataset of record 7.
-    pub fn with_number(self, set: u8, number: u64) -> State
+    pub(crate) fn with_number(self, set: u8, number: u64) -> State
         ensures { result ≡ state_with self set number }
     {
         let mut new = self;
@@ -172,7 +172,7 @@ impl State {
     }
 
     /// With a subfile of `count` octets.
-    pub fn with_subfile(self, count: u64) -> State
+    pub(crate) fn with_subfile(self, count: u64) -> State
         requires subfiles { self.subfiles < 2 ^ 64 - 1 }
         requires total { self.total + count < 2 ^ 64 }
         ensures { result ≡ record self { subfiles = self.subfiles + 1; total = self.total + count } }
@@ -185,7 +185,7 @@ impl State {
     }
 
     /// Whether a number of record 7 may come: no subfile has come, and its row allows the number.
-    pub fn takes_number(&self, set: u8, number: u64) -> bool
+    pub(crate) fn takes_number(&self, set: u8, number: u64) -> bool
         ensures { IsTrue result ↔ TakesNumber self.now set number }
     {
         let in_row = match set {
@@ -198,14 +198,14 @@ impl State {
     }
 
     /// Whether a subfile may come: mode and largest subfile are given, and one more is not too many.
-    pub fn takes_subfile(&self) -> bool
+    pub(crate) fn takes_subfile(&self) -> bool
         ensures { IsTrue result ↔ TakesSubfile self.now }
     {
         self.mode.is_some() && self.subfile.is_some() && self.subfiles < MAX_SUBFILES
     }
 
     /// What is wrong with the numbers of record 7.
-    pub fn number_cause(&self) -> Option<SizeCause>
+    pub(crate) fn number_cause(&self) -> Option<SizeCause>
         ensures { result ≡ number_cause self.now.mode self.now.announced self.now.maximum }
     {
         if is_given(self.mode, UNKNOWN) && self.announced.is_some() {
@@ -229,7 +229,7 @@ impl State {
     }
 
     /// What is wrong with a subfile of `count` octets.
-    pub fn subfile_cause(&self, count: u64) -> Option<SizeCause>
+    pub(crate) fn subfile_cause(&self, count: u64) -> Option<SizeCause>
         ensures { result ≡ subfile_cause self.now.mode self.now.subfile self.now.announced self.now.maximum self.now.total count }
     {
         if is_given(self.mode, KNOWN) && self.announced.is_none() {
@@ -245,7 +245,7 @@ impl State {
     }
 
     /// What is wrong with the end of the object.
-    pub fn end_cause(&self) -> Option<SizeCause>
+    pub(crate) fn end_cause(&self) -> Option<SizeCause>
         ensures { result ≡ end_cause self.now.announced self.now.total }
     {
         if self.total < self.announced.unwrap_or(0) {
@@ -255,7 +255,7 @@ impl State {
     }
 
     /// What is wrong with the confirmed size.
-    pub fn confirmed_cause(&self, number: u64) -> Option<SizeCause>
+    pub(crate) fn confirmed_cause(&self, number: u64) -> Option<SizeCause>
         ensures { result ≡ confirmed_cause self.now.total number }
     {
         if number == self.total {

@@ -5,7 +5,6 @@ use Rattle.iim_object.specs.Format.Packing.{IsWritten}
 use Rattle.iim_object.specs.Format.Writing as object
 use Rattle.iim_object.specs.Format.Writing.{Writing, total_of}
 use Rattle.iim_object.specs.declared.plan.Plan.{Plan}
-use Rattle.iim_pack.specs.Format.Packing.{StandsAt}
 
 -- The object has begun with these octets.
 pub record Opens {W : Type 0} (state : W → Device) (writer : W) (plan : Plan) (front : List ℕ) (w : Writing W) : Type 0 where

@@ -4,14 +4,13 @@ use Rattle.iim_dataset.specs.Format.Datasets.{Dataset}
 use Rattle.iim_dataset.specs.declared.head.Head.{Head}
 use Rattle.iim_dataset.specs.declared.place.DatasetPlace.{DatasetPlace}
 use Rattle.iim_dataset.specs.declared.place.DatasetPlace.TheVariants.{Tag, Inside}
-use Rattle.iim_fields.specs.Format.Faults.{kept, present_record}
+use Rattle.iim_fields.specs.Format.Faults.{present_record}
 use Rattle.iim_fields.specs.Format.Standing as records
 use Rattle.iim_object.specs.Format.Places as object_places
 use Rattle.iim_object.specs.Format.Reading as objects
 use Rattle.iim_object.specs.Format.Saved.{stated_numbers}
 use Rattle.wire_message.specs.Format.Saved.{IsAt}
 use Rattle.wire_message.specs.declared.saved.MessagePlace.{MessagePlace}
-use Rattle.iim_unpack.specs.Format.Open.{section}
 use Rattle.iim_unpack.specs.Format.Parts.{has_ended}
 use Rattle.iim_unpack.specs.declared.parts.Parts.{Parts}
 use Rattle.iim_unpack.specs.Format.Tickets.{Phase, TagBegun, DataBegun, AllEnded, ticket_of}

@@ -1,6 +1,6 @@
 -- An unpacker from inside: how it advances, and how it fails.
-use Rattle.std.specs.Prelude.{◌≡◌, ℕ, ◌+◌, ◌≤◌, ◌⊎◌, true, false, List, ◌++◌, length, take, slice_index, Option, Some, None, Bool}
-use Rattle.iim_dataset.specs.Format.Datasets.{Dataset, count_octets}
+use Rattle.std.specs.Prelude.{◌≡◌, ℕ, ◌≤◌, ◌⊎◌, true, false, List, ◌++◌, length, take, slice_index, Option, Some, None, Bool}
+use Rattle.iim_dataset.specs.Format.Datasets.{count_octets}
 use Rattle.iim_dataset.specs.Format.Events.{DatasetEvent}
 use Rattle.iim_dataset.specs.Format.Places.{LeadsTo, Brings, between, to_come, named_by}
 use Rattle.iim_dataset.specs.Format.Reading.{Reader, Completes, TagDies, TakesCalls}

@@ -29,7 +29,7 @@ impl Model for Block {
 
 impl Block {
     /// A block without octets.
-    pub fn new() -> Block
+    pub(crate) fn new() -> Block
         ensures { result ≡ [] }
     {
         Block {
@@ -40,14 +40,14 @@ impl Block {
     }
 
     /// The octets.
-    pub fn held(&self) -> &[u8]
+    pub(crate) fn held(&self) -> &[u8]
         ensures { result.now ≡ self.now }
     {
         &self.octets[self.from..self.to]
     }
 
     /// Continues after the first `used` of the octets.
-    pub fn pass(&mut self, used: usize)
+    pub(crate) fn pass(&mut self, used: usize)
         requires { used ≤ length self.old }
         ensures { self.new ≡ drop used self.old }
     {
@@ -55,7 +55,7 @@ impl Block {
     }
 
     /// Reads once, past interruptions, in place of the octets; answers how many came: none only at the end.
-    pub fn fill<R: Source>(&mut self, reader: &mut R) -> Result<usize, IoFault>
+    pub(crate) fn fill<R: Source>(&mut self, reader: &mut R) -> Result<usize, IoFault>
         ensures given { IfOk result (λ count. HasGiven (R.state reader.old) (R.state reader.new) self.new) }
         ensures length { IfOk result (λ count. length self.new ≡ count) }
         ensures end { IfOk result (λ count. count ≡ 0 → IsAtEnd (R.state reader.new).octets) }

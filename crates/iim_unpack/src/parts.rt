@@ -79,14 +79,14 @@ fn tell_number(object: &mut ObjectReader, head: Head, number: u64) -> Result<(),
 
 impl Parts {
     /// Whether the last dataset has ended.
-    pub fn has_ended(&self) -> bool
+    pub(crate) fn has_ended(&self) -> bool
         ensures { result ≡ has_ended self.now }
     {
         self.fields.section() == POST_OBJECT && self.fields.begun_head().is_none()
     }
 
     /// Takes the next head, or tells the first fault of it.
-    pub fn head<S: StorySink>(&mut self, head: Head, sink: &mut S) -> Result<(), TokenFault>
+    pub(crate) fn head<S: StorySink>(&mut self, head: Head, sink: &mut S) -> Result<(), TokenFault>
         requires { TakesHead self.old }
         ensures takes { OnOk result (TakesData self.new head.count) }
         ensures went { OnOk result (Went S.goes S.failures self.old sink.old (HeadRead head ∷ []) self.new sink.new) }
@@ -107,7 +107,7 @@ impl Parts {
     }
 
     /// Takes octets of the begun dataset, or only those before the one that is refused.
-    pub fn run<S: StorySink>(&mut self, run: &[u8], sink: &mut S) -> Result<(), Halt>
+    pub(crate) fn run<S: StorySink>(&mut self, run: &[u8], sink: &mut S) -> Result<(), Halt>
         requires { (left : ℕ) × TakesData self.old left × (length run.now ≤ left) }
         ensures takes { OnOk result ((left : ℕ) → TakesData self.old left → TakesData self.new (left - length run.now)) }
         ensures went { OnOk result (Went S.goes S.failures self.old sink.old (map DataOctet run.now) self.new sink.new) }
@@ -133,7 +133,7 @@ impl Parts {
     }
 
     /// Ends the begun dataset, or tells the first fault of its value.
-    pub fn close(&mut self) -> Result<(), TokenFault>
+    pub(crate) fn close(&mut self) -> Result<(), TokenFault>
         requires { TakesData self.old 0 }
         ensures object { OnOk result (IsSome self.new.object) }
         ensures message { OnOk result (IsSome self.new.message) }

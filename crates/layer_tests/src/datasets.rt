@@ -10,7 +10,6 @@ use iim_dataset::{
     FromRead, FromWrite, Head, HeadCause, HeadFault, IoFault, Source, Target, TrialReader,
     TrialWriter, Trouble, head_bytes, put, take,
 };
-use std::test::Fail;
 
 #[test]
 fn writer_at_a_million_interruptions(rt: HostRuntime) {
@@ -24,6 +23,10 @@ fn writer_at_a_million_interruptions(rt: HostRuntime) {
         assert_eq!(rt; put(&mut writer, b"abcde"), want, "{trouble:?}");
         assert_eq!(rt; writer.octets(), octets, "{trouble:?}");
     }
+}
+
+#[test]
+fn a_full_writer_fails(rt: HostRuntime) {
     let mut full: TrialWriter<3> = TrialWriter::new(8, Trouble::Failure);
     assert_eq!(rt; put(&mut full, b"abcde"), Err(3));
     assert_eq!(rt; full.octets(), b"abc".as_slice());
@@ -36,6 +39,10 @@ fn reader_at_a_million_interruptions(rt: HostRuntime) {
         let mut buffer = [0u8; 4];
         assert_eq!(rt; take(&mut reader, &mut buffer), want, "at {running}");
     }
+}
+
+#[test]
+fn a_failing_reader_gives_what_came_before(rt: HostRuntime) {
     let mut reader = TrialReader::new(b"ab", 1, Trouble::Failure);
     let mut buffer = [0u8; 4];
     assert_eq!(rt; take(&mut reader, &mut buffer), Ok(1));
@@ -43,9 +50,9 @@ fn reader_at_a_million_interruptions(rt: HostRuntime) {
     assert_eq!(rt; take(&mut reader, &mut buffer), Err(IoFault::Failed));
 }
 
-/// A slice as a source, and a vector as a target.
+/// A slice as a source.
 #[test]
-fn devices_of_std(rt: HostRuntime) -> Result<(), Fail> {
+fn a_slice_is_a_source(rt: HostRuntime) {
     let mut reader = FromRead::new(b"abc".as_slice());
     let mut buffer = [0u8; 2];
     assert_eq!(rt; take(&mut reader, &mut buffer), Ok(2));
@@ -53,11 +60,15 @@ fn devices_of_std(rt: HostRuntime) -> Result<(), Fail> {
     assert_eq!(rt; reader.read(&mut buffer), Ok(1));
     assert_eq!(rt; buffer[0], b'c');
     assert_eq!(rt; take(&mut reader, &mut buffer), Ok(0));
+}
+
+/// A vector as a target.
+#[test]
+fn a_vector_is_a_target(rt: HostRuntime) {
     let mut writer = FromWrite::new(Vec::new(rt.alloc()));
     assert_eq!(rt; put(&mut writer, b"abc"), Ok(()));
     assert_eq!(rt; writer.write(b"d"), Ok(1));
     assert_eq!(rt; writer.into_inner().as_slice(), b"abcd".as_slice());
-    Ok(())
 }
 
 /// Tags of the smallest envelope, and those at the ends of what each form of a count allows.

@@ -2,6 +2,7 @@
 
 ghost use Rattle.std.specs.Prelude.{◌<◌};
 
+use crate::unpacking::joined;
 use iim_audit::{AuditCause, AuditFault, Report, audit, report_text, whole_seconds_are_floors};
 use iim_dataset::{FromRead, TrialReader, Trouble};
 use iim_fields::Limits;
@@ -54,15 +55,6 @@ const STORY: [&[u8]; 4] = [
 \x1c\x07\x5a\x00\x04\x00\x00\x00\x32\x1c\x08\x0a\x00\x32\x01TST0007 4 ECO 5 rates\r\n\x02Rates stay.\r\nNo change.\x03\x04\
 \x1c\x09\x0a\x00\x04\x00\x00\x00\x32",
 ];
-
-/// The octets of parts, joined.
-fn joined(alloc: Global, parts: &[&[u8]]) -> Result<Vec<u8>, AllocError> {
-    let mut octets = Vec::new(alloc);
-    for part in parts {
-        octets.extend_from_slice(part)?;
-    }
-    Ok(octets)
-}
 
 /// An instant.
 fn instant(rt: &impl Abort, text: &str) -> Timestamp {

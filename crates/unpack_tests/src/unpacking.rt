@@ -74,7 +74,8 @@ const TAGS: [(usize, u8, u8, usize); 12] = [
     (105, 9, 10, 4),
 ];
 
-fn joined(alloc: Global, pieces: &[&[u8]]) -> Result<Vec<u8>, AllocError> {
+/// The pieces, joined.
+pub(crate) fn joined(alloc: Global, pieces: &[&[u8]]) -> Result<Vec<u8>, AllocError> {
     let mut all = Vec::new(alloc);
     for piece in pieces {
         all.extend_from_slice(piece)?;

@@ -1,7 +1,7 @@
 -- The laws of a count of words, handed in by its impl.
 use Rattle.std.proofs.Common.{◌≡◌, ℕ, ◌+◌, ◌<◌, ◌^◌, Bool, false, List, [], ◌∷◌, ◌++◌, refl, sym, ap, ◌∙◌, arith}
 use Rattle.wire_story.specs.Format.Delivery.{StoryEvent, LineOctet, LineEnd}
-use Rattle.wire_story.specs.Format.Words.{words, is_word_octet, WordsSoFar, capped, words_told, inside_after, CountsWords}
+use Rattle.wire_story.specs.Format.Words.{is_word_octet, WordsSoFar, capped, words_told, inside_after, CountsWords}
 
 -- ---- the laws of a sink
 

@@ -1,5 +1,5 @@
 -- Datasets, and how octets spell them (IIM version 4, the chapter on DataSets).
-use Rattle.std.specs.Prelude.{◌≡◌, ℕ, ◌<◌, ◌≤◌, nat_lt, ◌⊎◌, if◌then◌else◌, List, [], ◌∷◌, ◌++◌, length, flat_map, ◌==◌, ◌+◌}
+use Rattle.std.specs.Prelude.{◌≡◌, ℕ, ◌<◌, ◌≤◌, nat_lt, ◌⊎◌, if◌then◌else◌, List, [], ◌∷◌, ◌++◌, length, flat_map, ◌==◌}
 use Rattle.byteorder.specs.Endian.{big_bytes}
 use Rattle.iim_dataset.specs.Format.Octets.{IsOctet, Octets, number}
 use Rattle.iim_dataset.specs.declared.head.Head.{Head}

@@ -5,7 +5,6 @@ use Rattle.std.specs.Int.{w32, to_be_bytes}
 use Rattle.iim_dataset.specs.Format.Datasets.{Dataset, of_record, count_octets}
 use Rattle.iim_dataset.specs.Format.Splits.{Begun, InTag, InData, Reads}
 use Rattle.iim_fields.specs.Format.Faults.{kept, present_record}
-use Rattle.iim_fields.specs.Format.Standing as records
 use Rattle.iim_object.specs.Format.Records.{numbers_of}
 use Rattle.iim_object.specs.Format.Saved.{stated_numbers}
 use Rattle.wire_message.specs.Format.Saved.{LeadToSaved}

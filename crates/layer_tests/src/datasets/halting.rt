@@ -58,12 +58,17 @@ impl Write for Halting {
 
 /// Only the standard's "interrupted" is one; every other error is a failure.
 #[test]
-fn faults_of_std(rt: HostRuntime) {
+fn faults_of_a_reader_of_std(rt: HostRuntime) {
     let mut reader = FromRead::new(Halting::new(1, 1));
     let mut buffer = [0u8; 8];
     assert_eq!(rt; reader.read(&mut buffer), Err(IoFault::Interrupted));
     assert_eq!(rt; reader.read(&mut buffer), Ok(1));
     assert_eq!(rt; take(&mut reader, &mut buffer), Err(IoFault::Failed));
+}
+
+/// The same of a writer. A piece of which nothing was taken breaks at 0.
+#[test]
+fn faults_of_a_writer_of_std(rt: HostRuntime) {
     let mut writer = FromWrite::new(Halting::new(1, 1));
     assert_eq!(rt; writer.write(b"abcdef"), Err(IoFault::Interrupted));
     assert_eq!(rt; writer.write(b"abcdef"), Ok(1));
@@ -78,9 +83,9 @@ fn interruptions_between_octets(rt: HostRuntime) {
     assert_eq!(rt; put(&mut writer, b"d"), Err(0));
 }
 
-/// A long piece goes in one call where the writer takes it, and comes in one where the reader gives it.
+/// A long piece goes in one call where the writer takes it.
 #[test]
-fn long_pieces(rt: HostRuntime) {
+fn a_long_piece_goes_at_once(rt: HostRuntime) {
     let piece = [b'x'; 32_768];
     let mut writer = FromWrite::new(Vec::new(rt.alloc()));
     assert_eq!(rt; writer.write(&piece), Ok(32_768));
@@ -88,10 +93,16 @@ fn long_pieces(rt: HostRuntime) {
     let written = writer.into_inner();
     assert_eq!(rt; written.len(), 65_536);
     assert!(rt; written.iter().all(|octet| *octet == b'x'));
-    let mut reader = FromRead::new(written.as_slice());
+}
+
+/// A long piece comes in one call where the reader gives it.
+#[test]
+fn a_long_piece_comes_at_once(rt: HostRuntime) {
+    let octets = [b'x'; 65_536];
+    let mut reader = FromRead::new(octets.as_slice());
     let mut buffer = [0u8; 32_768];
     assert_eq!(rt; reader.read(&mut buffer), Ok(32_768));
-    assert_eq!(rt; buffer, piece);
+    assert!(rt; buffer.iter().all(|octet| *octet == b'x'));
     assert_eq!(rt; take(&mut reader, &mut buffer), Ok(32_768));
     assert_eq!(rt; take(&mut reader, &mut buffer), Ok(0));
 }
