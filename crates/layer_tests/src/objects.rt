@@ -10,20 +10,11 @@ use iim_dataset::Stop;
 use iim_object::{ObjectFault, ObjectReader, ObjectSink, Plan, Size, SizeCause, Sizes};
 
 /// A sink that counts the octets, and refuses the octet after `room` of them and perhaps the end.
+#[derive(Drop)]
 struct Counter {
     octets: usize,
     room: usize,
     refuses_end: bool,
-}
-
-impl Drop for Counter {
-    fn drop(self) {
-        let Counter {
-            octets: _,
-            room: _,
-            refuses_end: _,
-        } = self;
-    }
 }
 
 impl ObjectSink for Counter {

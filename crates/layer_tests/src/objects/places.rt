@@ -1,9 +1,7 @@
 //! Readers made again for places that are given by numbers.
 
-ghost use Rattle.std.specs.Prelude.{⊤};
-
-use iim_dataset::Stop;
-use iim_object::{ObjectReader, ObjectSink};
+use super::make_counter;
+use iim_object::ObjectReader;
 
 /// The numbers of 7:10, 7:20, 7:90 and 7:95; the octets that have come; the count of a begun subfile and its octets to come; the
 /// heads.
@@ -93,32 +91,6 @@ fn impossible_places(rt: HostRuntime) {
     }
 }
 
-/// A sink that takes everything.
-#[derive(Drop)]
-struct Nowhere;
-
-impl ObjectSink for Nowhere {
-    ghost goes = { λ old events new. ⊤ };
-
-    ghost stops = { λ old events refused new. ⊤ };
-
-    ghost stands = { λ sink. ⊤ };
-
-    ghost nothing = { λ sink. tt };
-
-    ghost joined = { λ a b c xs ys first then. tt };
-
-    ghost joined_stop = { λ a b c xs ys refused first then. tt };
-
-    fn run(&mut self, _run: &[u8]) -> Result<(), Stop> {
-        Ok(())
-    }
-
-    fn close(&mut self) -> Result<(), Stop> {
-        Ok(())
-    }
-}
-
 #[test]
 fn numbers_are_told(rt: HostRuntime) {
     let reader = ObjectReader::new();
@@ -140,7 +112,7 @@ fn a_made_reader_reads_on(rt: HostRuntime) {
     let made = ObjectReader::at(numbers, 9, Some((6, 5)), 2);
     assert!(rt; made.is_some());
     if let Some(mut reader) = made {
-        let mut sink = Nowhere;
+        let mut sink = make_counter(5, false);
         assert_eq!(rt; reader.numbers(), numbers);
         assert_eq!(rt; (reader.subfiles(), reader.total()), (2, 14));
         assert_eq!(rt; reader.run(b"jklmn", &mut sink), Ok(()));
