@@ -1,4 +1,5 @@
 pub mod Ages
+pub mod Copies
 pub mod Auditing
 pub mod Rows
 pub mod Texts

@@ -6,6 +6,7 @@
 
 mod age;
 mod auditing;
+mod copy;
 mod dash;
 mod fault;
 mod ledger;
@@ -15,6 +16,7 @@ mod text;
 
 pub use age::whole_seconds_are_floors;
 pub use auditing::{MAX_ENVELOPES, audit};
+pub use copy::CopyState;
 pub use dash::NumberOrDash;
 pub use fault::{AuditCause, AuditFault};
 pub use report::Report;

@@ -9,6 +9,7 @@ ghost use Rattle.iim_audit.specs.Taking.{IsTaken};
 ghost use Rattle.iim_audit.specs.Format.Rows.{row_with};
 
 use crate::age::seconds_between;
+use crate::copy::{CopyState, copy_at};
 use iim_fields::EnvelopeId;
 use iim_unpack::Unpacked;
 use jiff::Timestamp;
@@ -32,6 +33,8 @@ pub struct AuditRow {
     pub age: Option<i64>,
     /// The number of the first envelope with the same id, where that came before.
     pub first: Option<u64>,
+    /// Whether the copy may be used now.
+    pub copy: CopyState,
 }
 
 /// What was taken of one envelope: its parts, and the words of its lines.
@@ -71,5 +74,6 @@ pub(crate) fn row_of(got: &Taken, now: Timestamp, first: Option<u64>) -> AuditRo
             .sent()
             .map(|sent| seconds_between(sent, now)),
         first,
+        copy: copy_at(&unpacked.envelope, now),
     }
 }

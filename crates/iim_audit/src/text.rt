@@ -1,8 +1,9 @@
 //! The text of a report.
 
 ghost use Rattle.std.specs.Prelude.{◌≡◌, ◌++◌, OnOk, IfOk, Some, string_bytes};
-ghost use Rattle.iim_audit.specs.Format.Texts.{ages_of, known_by, repeated_rows, row_line, seconds_or_dash, sizes_of, sums_line, printed_report};
+ghost use Rattle.iim_audit.specs.Format.Texts.{ages_of, held_rows, is_held, known_by, repeated_rows, row_line, seconds_or_dash, sizes_of, sums_line, printed_report};
 
+use crate::copy::CopyState;
 use crate::dash::NumberOrDash;
 use crate::report::Report;
 use crate::row::AuditRow;
@@ -50,13 +51,14 @@ fn sizes(alloc: Global, row: &AuditRow) -> Result<String, AllocError>
     format!(in alloc; " size {size} subfiles {subfiles} words {announced}/{counted}")
 }
 
-/// The age of a row, and which envelope it repeats.
+/// The age of a row, which envelope it repeats, and whether its copy may be used.
 fn ages(alloc: Global, row: &AuditRow) -> Result<String, AllocError>
     ensures { IfOk result (λ line. string_bytes line ≡ ages_of row.now) }
 {
     let age = SecondsOrDash(row.age);
     let first = NumberOrDash(row.first);
-    format!(in alloc; " age {age} repeats {first}\n")
+    let copy = row.copy;
+    format!(in alloc; " age {age} repeats {first} copy {copy}\n")
 }
 
 /// Adds the line of a row.
@@ -83,17 +85,32 @@ fn repeated(rows: &[AuditRow]) -> usize
     rows.iter().filter(|row| row.first.is_some()).count()
 }
 
+/// Whether the copy of the row is held.
+fn is_held(row: &AuditRow) -> bool
+    ensures { result ≡ is_held row.now.copy }
+{
+    row.copy == CopyState::Held
+}
+
+/// How many rows are of copy that is held.
+fn held(rows: &[AuditRow]) -> usize
+    ensures { result ≡ held_rows rows.now }
+{
+    rows.iter().filter(|row| is_held(row)).count()
+}
+
 /// The last line.
 fn sums(alloc: Global, rows: &[AuditRow]) -> Result<String, AllocError>
     ensures { IfOk result (λ line. string_bytes line ≡ sums_line rows.now) }
 {
     let envelopes = rows.len();
     let repeated = repeated(rows);
-    format!(in alloc; "{envelopes} envelopes, {repeated} repeated\n")
+    let held = held(rows);
+    format!(in alloc; "{envelopes} envelopes, {repeated} repeated, {held} held\n")
 }
 
-/// The text of a report: a line for each row, and one that tells how many rows there are, and how many of them repeat an
-/// earlier one. Each line is ended by LF. The service is shown: octets from 20 to 7E but the backslash as they are, all others
+/// The text of a report: a line for each row, and one that tells how many rows there are, how many of them repeat an earlier one,
+/// and of how many the copy is held. Each line is ended by LF. The service is shown: octets from 20 to 7E but the backslash as they are, all others
 /// as `\x` and two hexadecimal digits. A priority, an age or a first envelope that is absent is `-`.
 pub fn report_text(alloc: Global, report: &Report) -> Result<Vec<u8>, AllocError>
     ensures { IfOk result (λ text. text.items ≡ printed_report report.now) }

@@ -1,5 +1,5 @@
 -- `pack`: what its parts leave comes to what it leaves.
-use Rattle.std.proofs.Common.{◌≡◌, ℕ, ◌+◌, ap, length-append, IfOk, ◌&&◌, nat_le, ◌<◌, ◌≤◌, ◌++◌, List, [], ◌∷◌, length, inl, inr, sym, subst, ◌∙◌, arith, Bool, true, false, Option, Some, None, Result, Ok, Err, IfErr, IfSome, IfNone, IsTrue}
+use Rattle.std.proofs.Common.{◌≡◌, ℕ, ◌+◌, ap, length-append, IfOk, ◌&&◌, min, nat_le, ◌<◌, ◌≤◌, ◌++◌, List, [], ◌∷◌, length, inl, inr, sym, subst, ◌∙◌, arith, Bool, true, false, Option, Some, None, Result, Ok, Err, IfErr, IfSome, IfNone, IsTrue}
 use Rattle.std.proofs.lemmas.Bool.{and_parts, leb-true}
 use Rattle.iim_dataset.specs.Format.Octets.{greatest_size}
 use Rattle.iim_dataset.specs.Format.Devices.{Device}
@@ -22,7 +22,7 @@ use Rattle.iim_pack.specs.Format.Whole.{IsPackFault, Packs}
 use Rattle.iim_script.specs.Format.Scripts.{max_script}
 use Rattle.iim_commands.specs.Format.Devices.{devices}
 use Rattle.iim_commands.specs.Format.Reports.{IsTold}
-use Rattle.iim_commands.specs.Format.Packing.{Answered, Asked, FitsAsked, IsBrokenOff, IsPast, IsPlanOf, IsRead, IsRefusal, IsUnanswered, IsUnread, IsScriptOf, ScriptContent, most_asked, object_of, refusal_line, said_size}
+use Rattle.iim_commands.specs.Format.Packing.{Answered, Asked, FitsAsked, IsBrokenOff, IsPast, IsPlanOf, IsRead, IsRefusal, IsUnanswered, IsUnread, IsScriptOf, ScriptContent, most_asked, most_for, object_of, refusal_line, said_size}
 use Rattle.iim_commands.specs.PackSteps.{ComesTo, IsFailedRead, IsNotPacked, PacksTold, UnpacksTold}
 use Rattle.iim_commands.specs.declared.fault.CommandFault.{CommandFault}
 use Rattle.iim_commands.specs.declared.fault.CommandFault.TheVariants.{CannotRead, CannotWrite, OutOfMemory}
@@ -49,38 +49,33 @@ plan_fits : (subfile : ℕ) (size : Size) → IsTrue (is_plan subfile size) → 
 plan_fits subfile size h = (and_parts (nat_le 1 subfile && nat_le subfile greatest_size) (fits subfile size) h).1
 
 past_by : (unknown : Bool) (max : Option ℕ) (subfile : ℕ) (object : List ℕ) → IsTrue (is_plan subfile (said_size unknown max object))
-    → bound_of subfile (said_size unknown max object) < length object → most_asked unknown max < length object
+    → bound_of subfile (said_size unknown max object) < length object → min (most_asked unknown max) (most_in subfile) < length object
 past_by false max subfile object plan over = absurd (known_fits subfile (length object) (plan_fits subfile (Known (length object)) plan) over)
-past_by true None subfile object plan over =
-    let parts = plan_parts subfile (Unknown None) plan in
-    let least : 1 ≤ subfile = parts.least in
-    omega (arith, least, over)
-past_by true (Some m) subfile object plan over =
-    let parts = plan_parts subfile (Unknown (Some m)) plan in
-    let least : 1 ≤ subfile = parts.least in
-    let limit : m ≤ greatest_size = parts.limit in
-    omega (arith, least, limit, over)
+past_by true None subfile object plan over = over
+past_by true (Some m) subfile object plan over = over
 
-past_of : (a : Asked) (object : List ℕ) (plan : Plan) → IsPlanOf a object plan → most_of plan < length object → most_asked a.unknown a.max < length object
+past_of : (a : Asked) (object : List ℕ) (plan : Plan) → IsPlanOf a object plan → most_of plan < length object → most_for a < length object
 past_of a object plan is over =
-    past_by a.unknown a.max plan.subfile object (subst (λ (s : Size). IsTrue (is_plan plan.subfile s)) is.size_is plan.valid)
-    (subst (λ (s : Size). bound_of plan.subfile s < length object) is.size_is over)
+    subst (λ (n : ℕ). min (most_asked a.unknown a.max) (most_in n) < length object) is.subfile_is
+    (past_by a.unknown a.max plan.subfile object (subst (λ (s : Size). IsTrue (is_plan plan.subfile s)) is.size_is plan.valid)
+        (subst (λ (s : Size). bound_of plan.subfile s < length object) is.size_is over))
 
 -- within the bound of the plan there is no more than is asked for
 within_by : (unknown : Bool) (max : Option ℕ) (subfile : ℕ) (object : List ℕ) → IsTrue (is_plan subfile (said_size unknown max object))
-    → length object ≤ bound_of subfile (said_size unknown max object) → length object ≤ most_asked unknown max
+    → length object ≤ bound_of subfile (said_size unknown max object) → length object ≤ min (most_asked unknown max) (most_in subfile)
 within_by false max subfile object plan within =
     let parts = plan_parts subfile (Known (length object)) plan in
     let limit : length object ≤ greatest_size = parts.limit in
-    limit
-within_by true None subfile object plan within = omega (arith, within)
-within_by true (Some m) subfile object plan within = omega (arith, within)
+    omega (arith, limit, within)
+within_by true None subfile object plan within = within
+within_by true (Some m) subfile object plan within = within
 
 room_of : (a : Asked) (t : ScriptContent) (plan : Plan) → IsPlanOf a (object_of t) plan → (most_of plan < length (object_of t) → ⊥) → FitsAsked a t
 room_of a t plan is fits =
     let within : length (object_of t) ≤ most_of plan = omega (arith, fits) in
-    within_by a.unknown a.max plan.subfile (object_of t) (subst (λ (s : Size). IsTrue (is_plan plan.subfile s)) is.size_is plan.valid)
-    (subst (λ (s : Size). length (object_of t) ≤ bound_of plan.subfile s) is.size_is within)
+    subst (λ (n : ℕ). length (object_of t) ≤ min (most_asked a.unknown a.max) (most_in n)) is.subfile_is
+    (within_by a.unknown a.max plan.subfile (object_of t) (subst (λ (s : Size). IsTrue (is_plan plan.subfile s)) is.size_is plan.valid)
+        (subst (λ (s : Size). length (object_of t) ≤ bound_of plan.subfile s) is.size_is within))
 
 below_by : (unknown : Bool) (max : Option ℕ) (object : List ℕ) (n : ℕ) → said_size unknown max object ≡ Known n → length object < n → ⊥
 below_by false max object n e below = let same : length object ≡ n = cc in omega (arith, same, below)

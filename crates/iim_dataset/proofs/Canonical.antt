@@ -14,7 +14,11 @@ use Rattle.iim_dataset.proofs.Spellings.{one_tag}
 pub count_spells : (n : ℕ) → n < 256 ^ count_octets → SpellsCount count_octets n (canonical_count n)
 count_spells n h = elim (cases_lt n 32768) [
   | inl lt ↦ rw (lt-ltb n 32768 lt) (inl (omega arith, omega arith, refl, big_number-reads_back 2 n [] (omega arith)))
-  | inr ge ↦ rw (le-ltb n 32768 ge) (inr (refl, refl, omega arith, omega arith, (omega arith, (omega arith, (omega arith, (omega arith, tt)))), big_number-reads_back 4 n [] h))
+  | inr ge ↦ elim (cases_lt n (2 ^ 32)) [
+    | inl lt ↦ rw (le-ltb n 32768 ge, lt-ltb n (2 ^ 32) lt) (inr (refl, refl, omega arith, omega arith, (omega arith, (omega arith, (omega arith, (omega arith, tt)))), big_number-reads_back 4 n [] lt))
+    | inr above ↦ rw (le-ltb n 32768 ge, le-ltb n (2 ^ 32) above) (inr (refl, refl, omega arith, omega arith,
+      (omega arith, (omega arith, (omega arith, (omega arith, (omega arith, (omega arith, (omega arith, (omega arith, tt)))))))), big_number-reads_back 8 n [] h))
+  ]
 ]
 
 pub tag_spells : (h : Head) → IsOctet h.rec → IsOctet h.set → h.count < 256 ^ count_octets → SpellsTag count_octets h (canonical_tag h)

@@ -3,7 +3,7 @@ use Rattle.std.proofs.Common.{◌≡◌, ℕ, suc, ◌+◌, ◌-◌, ◌<◌, �
 use Rattle.std.proofs.lemmas.Bool.{cases_lt}
 use Rattle.std.proofs.lemmas.List.{take_all, take-take, take-append-drop, take-append-le, length-take, length-take-le}
 use Rattle.std.proofs.Math.Seq.{take-append-add, take-suc}
-use Rattle.iim_dataset.specs.Format.Datasets.{SpellsCount, SpellsTag, count_octets}
+use Rattle.iim_dataset.specs.Format.Datasets.{SpellsCount, SpellsTag, count_octets, tag_octets}
 use Rattle.iim_dataset.specs.Format.Tags.{BeginsTag, BeginsNoTag, HasTag, HasNoTag}
 use Rattle.iim_dataset.specs.declared.head.Head.{Head}
 use Rattle.iim_dataset.specs.declared.head.HeadFault.{HeadFault}
@@ -11,39 +11,39 @@ use Rattle.iim_dataset.proofs.Spellings.{one_tag}
 
 -- ---- how long a tag is
 
-count_length : (count : ℕ) (xs : List ℕ) → SpellsCount count_octets count xs → length xs ≤ 6
+count_length : (count : ℕ) (xs : List ℕ) → SpellsCount count_octets count xs → length xs ≤ 2 + count_octets
 count_length count [] s = absurd s
 count_length count (high ∷ []) s = absurd s
 count_length count (high ∷ low ∷ more) (inl s) = omega (arith, ap length s.2)
 count_length count (high ∷ low ∷ more) (inr s) = omega (arith, s.1, s.3)
 
-tag_length : (h : Head) (tag : List ℕ) → SpellsTag count_octets h tag → length tag ≤ 9
+tag_length : (h : Head) (tag : List ℕ) → SpellsTag count_octets h tag → length tag ≤ tag_octets
 tag_length h tag s = omega (arith, ap length s.parts, count_length h.count s.count s.is_count)
 
-pub begun_length : (xs : List ℕ) → BeginsTag count_octets xs → length xs ≤ 8
+pub begun_length : (xs : List ℕ) → BeginsTag count_octets xs → length xs < tag_octets
 begun_length xs b = omega (arith, tag_length b.head (xs ++ b.more) b.whole, length-append xs b.more, b.some_more)
 
--- ---- nine octets tell all that octets tell of a tag
+-- ---- as many octets as a tag may have tell all that octets tell of it
 
-pub nine_have : (xs : List ℕ) (h : Head) (n : ℕ) → HasTag (take 9 xs) h n → HasTag xs h n
-nine_have xs h n t =
-    let nine : length (take 9 xs) ≤ 9 = omega (arith, length-take 9 xs) in
+pub first_have : (xs : List ℕ) (h : Head) (n : ℕ) → HasTag (take tag_octets xs) h n → HasTag xs h n
+first_have xs h n t =
+    let few : length (take tag_octets xs) ≤ tag_octets = omega (arith, length-take tag_octets xs) in
     record {
       some = t.some;
-      within = omega (arith, t.within, length-take 9 xs);
-      tag = subst (SpellsTag count_octets h) (take-take n 9 xs (omega (arith, t.within, nine))) t.tag;
+      within = omega (arith, t.within, length-take tag_octets xs);
+      tag = subst (SpellsTag count_octets h) (take-take n tag_octets xs (omega (arith, t.within, few))) t.tag;
     }
 
-pub nine_begin : (xs : List ℕ) → BeginsTag count_octets (take 9 xs) → BeginsTag count_octets xs
-nine_begin xs b = subst (BeginsTag count_octets) (take_all 9 xs (omega (arith, begun_length (take 9 xs) b, length-take 9 xs))) b
+pub first_begin : (xs : List ℕ) → BeginsTag count_octets (take tag_octets xs) → BeginsTag count_octets xs
+first_begin xs b = subst (BeginsTag count_octets) (take_all tag_octets xs (omega (arith, begun_length (take tag_octets xs) b, length-take tag_octets xs))) b
 
-pub nine_refuse : (xs : List ℕ) (f : HeadFault) → HasNoTag (take 9 xs) f → HasNoTag xs f
-nine_refuse xs f t =
-    let nine : length (take 9 xs) ≤ 9 = omega (arith, length-take 9 xs) in
+pub first_refuse : (xs : List ℕ) (f : HeadFault) → HasNoTag (take tag_octets xs) f → HasNoTag xs f
+first_refuse xs f t =
+    let few : length (take tag_octets xs) ≤ tag_octets = omega (arith, length-take tag_octets xs) in
     record {
-      within = omega (arith, t.within, length-take 9 xs);
-      begun = subst (BeginsTag count_octets) (take-take f.at 9 xs (omega (arith, t.within, nine))) t.begun;
-      dead = λ h more s. t.dead h more (subst (λ (u : List ℕ). SpellsTag count_octets h (u ++ more)) (sym (take-take (f.at + 1) 9 xs (omega (arith, t.within, nine)))) s);
+      within = omega (arith, t.within, length-take tag_octets xs);
+      begun = subst (BeginsTag count_octets) (take-take f.at tag_octets xs (omega (arith, t.within, few))) t.begun;
+      dead = λ h more s. t.dead h more (subst (λ (u : List ℕ). SpellsTag count_octets h (u ++ more)) (sym (take-take (f.at + 1) tag_octets xs (omega (arith, t.within, few)))) s);
       cause = t.cause;
     }
 

@@ -1,9 +1,10 @@
 //! The tag of a dataset: a marker, two numbers and a count.
 
-ghost use Rattle.std.specs.Prelude.{◌≡◌, ◌^◌, ◌<◌, IfOk, IfErr, MatchOption};
+ghost use Rattle.std.specs.Prelude.{◌≡◌, IfOk, IfErr, MatchOption};
 ghost use Rattle.iim_dataset.specs.Format.Datasets.{SpellsTag, canonical_tag, count_octets};
 ghost use Rattle.iim_dataset.specs.Format.Tags.{BeginsTag, HasTag, HasNoTag};
 
+use crate::place::lengthen;
 use crate::size::COUNT_OCTETS;
 use arrayvec::ArrayVec;
 use byteorder::{BigEndian, ByteOrder};
@@ -53,10 +54,13 @@ pub const TAG_OCTETS: usize = TAG_LENGTH + COUNT_OCTETS as usize;
 /// The greatest count that has the standard form.
 const MAX_STANDARD: u64 = 32_767;
 
+/// The greatest count that a writer extends by four octets.
+const MAX_FOUR: u64 = 4_294_967_295;
+
 /// Reads the tag at the front: its head and its length in octets. `None` where the octets end inside the tag. An error
 /// tells the first octet with which no tag can continue.
 ///
-/// A count of two octets has its top bit clear. An extended count is 80 hex, how many octets follow (1 to 4), and the
+/// A count of two octets has its top bit clear. An extended count is 80 hex, how many octets follow (1 to 8), and the
 /// count in these, high octet first; leading zeros are accepted, and so is an extended count of few octets.
 pub(crate) fn read_head(octets: &[u8]) -> Result<Option<(Head, usize)>, HeadFault>
     ensures found { IfOk result (λ found. MatchOption found (BeginsTag count_octets octets.now) (λ f. HasTag octets.now f.0 f.1)) }
@@ -88,10 +92,9 @@ fn fault(cause: HeadCause, at: usize) -> HeadFault
     HeadFault { cause, at }
 }
 
-/// The canonical tag of a head: a standard count up to 32,767, above that an extended count of four octets. The count is
-/// at most 4,294,967,295 octets, the greatest size of an object.
+/// The canonical tag of a head: a standard count up to 32,767, above that an extended count of four octets up to
+/// 4,294,967,295, and of eight octets above.
 pub fn head_bytes(head: Head) -> ArrayVec<u8, TAG_OCTETS>
-    requires { head.count < 256 ^ count_octets }
     ensures canonical { result.items ≡ canonical_tag head }
     ensures spells { SpellsTag count_octets head result.items }
 {
@@ -107,14 +110,17 @@ pub fn head_bytes(head: Head) -> ArrayVec<u8, TAG_OCTETS>
         tag.push(low);
         return tag;
     }
-    let mut count = [0; 4];
-    BigEndian::write_u32(&mut count, head.count as u32);
-    let [first, second, third, last] = count;
     tag.push(EXTENDED);
-    tag.push(COUNT_OCTETS);
-    tag.push(first);
-    tag.push(second);
-    tag.push(third);
-    tag.push(last);
+    if head.count <= MAX_FOUR {
+        let mut count = [0; 4];
+        BigEndian::write_u32(&mut count, head.count as u32);
+        tag.push(4);
+        lengthen(&mut tag, &count);
+        return tag;
+    }
+    let mut count = [0; 8];
+    BigEndian::write_u64(&mut count, head.count);
+    tag.push(8);
+    lengthen(&mut tag, &count);
     tag
 }

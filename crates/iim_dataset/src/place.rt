@@ -8,7 +8,6 @@ ghost use Rattle.iim_dataset.specs.Format.Tags.{BeginsTag, HasTag, HasNoTag};
 
 use crate::head::{Head, HeadFault, TAG_OCTETS, read_head};
 use crate::laws::no_tag_begins_another;
-use crate::size::GREATEST_SIZE;
 use arrayvec::ArrayVec;
 
 /// The most octets of a tag that is not whole.
@@ -68,11 +67,11 @@ fn begins_tag(octets: &[u8]) -> bool
     matches!(read_head(octets), Ok(None))
 }
 
-/// Whether a tag can tell `head.count` octets of data.
-fn is_told(head: Head) -> bool
-    ensures { IsTrue result ↔ ((tag : List ℕ) × SpellsTag count_octets head tag) }
+/// Whether some octets of data are to come, no more than a tag counts: each count of 64 bits is one that a tag can tell.
+fn is_inside(head: Head, left: u64) -> bool
+    ensures { IsTrue result ↔ IsPlace (DatasetPlace.Inside head left) }
 {
-    head.count <= GREATEST_SIZE
+    0 < left && left <= head.count
 }
 
 /// Whether some octets lead to the place.
@@ -81,6 +80,6 @@ pub(crate) fn is_place(place: &DatasetPlace) -> bool
 {
     match place {
         DatasetPlace::Tag(held) => begins_tag(held.as_slice()),
-        DatasetPlace::Inside { head, left } => (1..=head.count).contains(left) && is_told(*head),
+        DatasetPlace::Inside { head, left } => is_inside(*head, *left),
     }
 }

@@ -12,7 +12,7 @@ use crate::sink::DatasetSink;
 use std::marker::Model;
 use std::mem;
 
-/// A reader of datasets. It holds the octets of a tag that is not whole, 8 at most, or a head and how many octets of its data
+/// A reader of datasets. It holds the octets of a tag that is not whole, 12 at most, or a head and how many octets of its data
 /// are to come. No call takes memory.
 #[derive(Debug, Drop)]
 pub struct HeadReader {

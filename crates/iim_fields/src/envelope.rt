@@ -35,7 +35,7 @@ impl Envelope {
     ghost use Rattle.iim_tables.specs.Format.Dates.{is_date, year_in, month_in, day_in};
     ghost use Rattle.iim_fields.specs.Format.Walks.{rest_of, data_left};
     ghost use Rattle.iim_fields.specs.Format.Builders.{IsEnvelope, AreFew};
-    ghost use Rattle.iim_fields.specs.Format.Views.{first_data, all_data, instant_sent, IsInEach};
+    ghost use Rattle.iim_fields.specs.Format.Views.{first_data, all_data, instant_sent, instant_of_pair, instant_of_release, instant_of_expiration, IsInEach};
     ghost use Rattle.iim_tables.specs.Format.Rows.{Meets};
 
     /// All datasets, in order: record, number and data of each.
@@ -163,6 +163,35 @@ impl Envelope {
         ensures { option_map (λ digit. digit ∷ []) result ≡ first_data 1 60 self.now }
     {
         self.first(ENVELOPE, 60)?.first().copied()
+    }
+
+    /// The instant of this date and time of record 2. None where no date was sent, or where they name no instant. Where no time was
+    /// sent, `time` stands for it.
+    fn instant(&self, date_set: u8, time_set: u8, time: &[u8]) -> Option<Timestamp>
+        ensures { option_map (λ t. t.nanosecond) result ≡ instant_of_pair date_set time_set time.now self.now }
+    {
+        let date = self.first(APPLICATION, date_set)?;
+        match self.first(APPLICATION, time_set) {
+            Some(sent) => instant_of(date, sent),
+            None => instant_of(date, time),
+        }
+    }
+
+    /// The instant from which on the copy may be used: 2:30 Release Date and 2:35 Release Time, local time less its offset, or the
+    /// beginning of that day in universal time where no time was sent. None where no date was sent, or where `jiff` has no such instant.
+    pub fn release(&self) -> Option<Timestamp>
+        ensures { option_map (λ t. t.nanosecond) result ≡ instant_of_release self.now }
+    {
+        self.instant(30, 35, b"000000+0000")
+    }
+
+    /// The last instant at which the copy may be used: 2:37 Expiration Date and 2:38 Expiration Time, local time less its offset, or
+    /// the last second of that day in universal time where no time was sent. None where no date was sent, or where `jiff` has no such
+    /// instant.
+    pub fn expires(&self) -> Option<Timestamp>
+        ensures { option_map (λ t. t.nanosecond) result ≡ instant_of_expiration self.now }
+    {
+        self.instant(37, 38, b"235959+0000")
     }
 
     /// 1:80 Time Sent, where it was sent.

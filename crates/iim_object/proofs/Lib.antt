@@ -10,9 +10,11 @@ pub mod Stands
 pub mod Cutting
 pub mod PackedSizes
 pub mod Outputs
+pub mod Rooms
 pub mod Writing
 pub mod Reached
 pub mod Staying
 pub mod Saved
 pub mod Leading
 pub mod Alike
+pub mod Within

@@ -1,5 +1,5 @@
 -- Datasets of records 7, 8 and 9 as their rows say, and the numbers that they state.
-use Rattle.std.proofs.Common.{◌≡◌, ℕ, zero, suc, ◌+◌, ◌*◌, ◌/◌, ◌%◌, ◌<◌, ◌≤◌, Bool, true, false, ◌&&◌, ◌||◌, ◌==◌, cond, eqb, nat_le, List, [], ◌∷◌, ◌++◌, length, replicate, Some, None, is_some, refl, sym, ap, subst, ◌∙◌, arith, inl, inr}
+use Rattle.std.proofs.Common.{◌≡◌, ℕ, zero, suc, ◌+◌, ◌<◌, ◌≤◌, Bool, true, false, ◌&&◌, ◌||◌, ◌==◌, cond, eqb, nat_le, List, [], ◌∷◌, ◌++◌, length, replicate, Some, None, is_some, refl, sym, ap, subst, ◌∙◌, arith, inl, inr}
 use Rattle.std.specs.List.{AllByRecursion, list_any, list_all}
 use Rattle.std.proofs.lemmas.List.{length-replicate}
 use Rattle.std.proofs.lemmas.List.Sums.{sum_by-cons}
@@ -7,6 +7,9 @@ use Rattle.std.proofs.lemmas.Bool.{and_parts, and_from, eqb-true, leb-true, le-l
 use Rattle.std.proofs.lemmas.Bool.Decides.{eqb_tells}
 use Rattle.iim_dataset.specs.Format.Octets.{Octets, number, greatest_size, within}
 use Rattle.iim_dataset.specs.Format.Datasets.{Dataset}
+use Rattle.byteorder.specs.Endian.{big_bytes}
+use Rattle.byteorder.specs.Numbers.{big_number-reads_back}
+use Rattle.iim_tables.specs.Format.Numbers.{size_octets}
 use Rattle.iim_tables.specs.Format.Kinds.{is_mode, is_size_from}
 use Rattle.iim_tables.specs.Format.Rows.{table, row_of, Meets}
 use Rattle.iim_tables.specs.Format.Records.{repeats, may_repeat, occurrences, IsGoodDataset, IsGoodRecord}
@@ -57,10 +60,10 @@ mode_low (b ∷ c ∷ xs) h =
     let one : length (b ∷ c ∷ xs) ≡ 1 = eqb-true (length (b ∷ c ∷ xs)) 1 (and_parts (length (b ∷ c ∷ xs) == 1) (list_all (λ x. nat_le x 1) (b ∷ c ∷ xs)) kind).0 in
     absurd (omega arith)
 
-size_within : (least : ℕ) (xs : List ℕ) → (within 1 4 (length xs) && is_size_from least xs) ≡ true → (least ≤ number xs) × (number xs ≤ greatest_size)
+size_within : (least : ℕ) (xs : List ℕ) → (within 1 size_octets (length xs) && is_size_from least xs) ≡ true → (least ≤ number xs) × (number xs ≤ greatest_size)
 size_within least xs h =
-    let kind = (and_parts (within 1 4 (length xs)) (is_size_from least xs) h).1 in
-    let range = (and_parts (within 1 4 (length xs)) (within least greatest_size (number xs)) kind).1 in
+    let kind = (and_parts (within 1 size_octets (length xs)) (is_size_from least xs) h).1 in
+    let range = (and_parts (within 1 size_octets (length xs)) (within least greatest_size (number xs)) kind).1 in
     let ends = and_parts (nat_le least (number xs)) (nat_le (number xs) greatest_size) range in
     (leb-true least (number xs) ends.0, leb-true (number xs) greatest_size ends.1)
 
@@ -243,22 +246,19 @@ one_confirmation (d ∷ e ∷ ds) m =
 
 -- ---- datasets of given numbers and lengths
 
--- four octets of a size
+-- eight octets of a size
 abbrev spelled : ℕ → List ℕ
-spelled n = n / 256 / 256 / 256 ∷ n / 256 / 256 % 256 ∷ n / 256 % 256 ∷ n % 256 ∷ []
+spelled n = big_bytes size_octets n
 
 spelled_octets : (n : ℕ) → n ≤ greatest_size → Octets (spelled n)
-spelled_octets n h = (omega arith, (omega arith, (omega arith, (omega arith, tt))))
+spelled_octets n h = (omega arith, (omega arith, (omega arith, (omega arith, (omega arith, (omega arith, (omega arith, (omega arith, tt))))))))
 
-four_octets : (a b c d : ℕ) → number (a ∷ b ∷ c ∷ d ∷ []) ≡ ((a * 256 + b) * 256 + c) * 256 + d
-four_octets a b c d = omega arith
-
-size_read : (n : ℕ) → number (spelled n) ≡ n
-size_read n = four_octets (n / 256 / 256 / 256) (n / 256 / 256 % 256) (n / 256 % 256) (n % 256) ∙ omega arith
+size_read : (n : ℕ) → n ≤ greatest_size → number (spelled n) ≡ n
+size_read n h = big_number-reads_back size_octets n [] (omega (arith, h))
 
 is_size : (least n : ℕ) → least ≤ n → n ≤ greatest_size → is_size_from least (spelled n) ≡ true
 is_size least n low high =
-    let value : number (spelled n) ≡ n = size_read n in
+    let value : number (spelled n) ≡ n = size_read n high in
     let range : within least greatest_size n ≡ true = and_from (nat_le least n) (nat_le n greatest_size) (le-leb least n low) (le-leb n greatest_size high) in
     rw value range
 
@@ -279,18 +279,18 @@ states p (inl h) = (
 states p (inr (inl h)) = (
   record { rec = 7; set = 20; octets = spelled p.number },
   (refl, record { numbered = omega arith; octets = spelled_octets p.number h.2; meets = is_size 1 p.number h.1 h.2; file_format = refl }),
-  stated_is p 20 (number (spelled p.number)) h.0 (size_read p.number),
+  stated_is p 20 (number (spelled p.number)) h.0 (size_read p.number h.2),
 )
 states p (inr (inr h)) = elim h.0 [
   | inl is ↦ (
     record { rec = 7; set = 90; octets = spelled p.number },
     (refl, record { numbered = omega arith; octets = spelled_octets p.number h.1; meets = is_size 0 p.number (omega arith) h.1; file_format = refl }),
-    stated_is p 90 (number (spelled p.number)) is (size_read p.number),
+    stated_is p 90 (number (spelled p.number)) is (size_read p.number h.1),
   )
   | inr is ↦ (
     record { rec = 7; set = 95; octets = spelled p.number },
     (refl, record { numbered = omega arith; octets = spelled_octets p.number h.1; meets = is_size 0 p.number (omega arith) h.1; file_format = refl }),
-    stated_is p 95 (number (spelled p.number)) is (size_read p.number),
+    stated_is p 95 (number (spelled p.number)) is (size_read p.number h.1),
   )
 ]
 
@@ -323,4 +323,4 @@ subfiles (n ∷ ns) h =
 
 pub confirmation : (n : ℕ) → n ≤ greatest_size → (d : Dataset) × IsMember 9 d × (number d.octets ≡ n)
 unfolding row_of table
-confirmation n h = (record { rec = 9; set = 10; octets = spelled n }, (refl, record { numbered = omega arith; octets = spelled_octets n h; meets = is_size 0 n (omega arith) h; file_format = refl }), size_read n)
+confirmation n h = (record { rec = 9; set = 10; octets = spelled n }, (refl, record { numbered = omega arith; octets = spelled_octets n h; meets = is_size 0 n (omega arith) h; file_format = refl }), size_read n h)

@@ -8,6 +8,7 @@ use Rattle.iim_dataset.specs.Format.Languages.{IsAlive}
 use Rattle.iim_dataset.specs.Format.Octets.{greatest_size}
 use Rattle.iim_object.specs.Format.Sizes.{Stated, InRow, AreOnce, AreStated, Agree, number_at, mode_number, sizes_at}
 use Rattle.iim_object.specs.Format.Living.{NoClash}
+use Rattle.iim_object.specs.Format.Within.{TokensWithin, LanguageWithin}
 use Rattle.iim_object.specs.Format.Objects.{ObjectToken, NumberRead, SubfileBegun, ObjectEnded, Confirmed, ObjectLanguage, number_tokens}
 
 -- ---- what is stated stays stated
@@ -42,6 +43,56 @@ pub each-append : (ps : List Stated) (q : Stated) → AllByRecursion InRow ps �
 each-append [] q h r = (r, tt)
 each-append (p ∷ ps) q h r = (h.0, each-append ps q h.1 r)
 
+-- ---- numbers that are low, and tokens of them
+
+abbrev pub AreLow : ℕ → List Stated → Type 0
+AreLow most ps = AllByRecursion (λ (p : Stated). p.number ≤ most) ps
+
+low_append : (most : ℕ) (ps qs : List Stated) → AreLow most ps → AreLow most qs → AreLow most (ps ++ qs)
+low_append most [] qs a b = b
+low_append most (p ∷ ps) qs a b = (a.0, low_append most ps qs a.1 b)
+
+pub low_at : (most set n : ℕ) (ps : List Stated) → AreLow most ps → number_at set ps ≡ Some n → n ≤ most
+low_at most set n [] low e = absurd cc
+low_at most set n (p ∷ ps) low e = by_test (λ f. low_at most set n ps low.1 f) (p.set == set) e
+  where
+    by_test : (number_at set ps ≡ Some n → n ≤ most) → (t : Bool) → cond t (Some p.number) (number_at set ps) ≡ Some n → n ≤ most
+    by_test more true f = let same : p.number ≡ n = cc in omega (arith, same, low.0)
+    by_test more false f = more f
+
+within_append : (most : ℕ) (xs ys : List ObjectToken) → TokensWithin most xs → TokensWithin most ys → TokensWithin most (xs ++ ys)
+within_append most [] ys a b = b
+within_append most (NumberRead set n ∷ xs) ys a b = (a.0, within_append most xs ys a.1 b)
+within_append most (SubfileBegun n ∷ xs) ys a b = within_append most xs ys a b
+within_append most (ObjectEnded ∷ xs) ys a b = within_append most xs ys a b
+within_append most (Confirmed n ∷ xs) ys a b = (a.0, within_append most xs ys a.1 b)
+
+numbers_within : (most : ℕ) (ps : List Stated) → AreLow most ps → TokensWithin most (number_tokens ps)
+numbers_within most [] all = tt
+numbers_within most (p ∷ ps) all = (all.0, numbers_within most ps all.1)
+
+pub numbers_low : (most : ℕ) (ps : List Stated) (rest : List ObjectToken) → TokensWithin most (number_tokens ps ++ rest) → AreLow most ps
+numbers_low most [] rest all = tt
+numbers_low most (p ∷ ps) rest all = (all.0, numbers_low most ps rest all.1)
+
+begun_within : (most : ℕ) (ls : List ℕ) → TokensWithin most (map SubfileBegun ls)
+begun_within most [] = tt
+begun_within most (l ∷ ls) = begun_within most ls
+
+-- tokens of low numbers, any lengths, and a low size
+pub whole_within : (most : ℕ) (all : List Stated) (lengths : List ℕ) (n : ℕ) → AreLow most all → n ≤ most → TokensWithin most (number_tokens all ++ (map SubfileBegun lengths ++ (ObjectEnded ∷ Confirmed n ∷ [])))
+whole_within most all lengths n low le = within_append most (number_tokens all) _ (numbers_within most all low) (within_append most (map SubfileBegun lengths) _ (begun_within most lengths) (le, tt))
+
+-- what rows allow is at most the greatest size
+row_low : (p : Stated) → InRow p → p.number ≤ greatest_size
+row_low p (inl h) = omega (arith, h.1)
+row_low p (inr (inl h)) = h.2
+row_low p (inr (inr h)) = h.1
+
+pub rows_low : (ps : List Stated) → AllByRecursion InRow ps → AreLow greatest_size ps
+rows_low [] all = tt
+rows_low (p ∷ ps) all = (row_low p all.0, rows_low ps all.1)
+
 -- ---- what is missing is stated
 
 pub record Added (ps : List Stated) (set n : ℕ) : Type 0 where
@@ -51,9 +102,10 @@ pub record Added (ps : List Stated) (set n : ℕ) : Type 0 where
   pub are_stated : AreStated all
   pub here : number_at set all ≡ Some (unwrap_or (number_at set ps) n)
   pub others : (k : ℕ) → (k ≡ set → ⊥) → number_at k all ≡ number_at k ps
+  pub low : (most : ℕ) → n ≤ most → AreLow most ps → AreLow most all
 
 add_by : (ps : List Stated) (set n : ℕ) → AreStated ps → InRow (record { set = set; number = n }) → (o : Option ℕ) → number_at set ps ≡ o → Added ps set n
-add_by ps set n h r (Some m) e = record { all = ps; more = []; parts = sym (append-nil ps); are_stated = h; here = e ∙ ap (λ (o : Option ℕ). Some (unwrap_or o n)) (sym e); others = λ k ne. refl }
+add_by ps set n h r (Some m) e = record { all = ps; more = []; parts = sym (append-nil ps); are_stated = h; here = e ∙ ap (λ (o : Option ℕ). Some (unwrap_or o n)) (sym e); others = λ k ne. refl; low = λ most le low. low }
 add_by ps set n h r None e =
     let q : Stated = record { set = set; number = n } in
     record {
@@ -63,6 +115,7 @@ add_by ps set n h r None e =
       are_stated = record { each = each-append ps q h.each r; once = once-append ps q h.once e };
       here = none-append set ps (q ∷ []) e ∙ (rw (eq-eqb set set refl) refl ∙ ap (λ (o : Option ℕ). Some (unwrap_or o n)) (sym e));
       others = λ k ne. other k ne (number_at k ps) refl;
+      low = λ most le low. low_append most ps (q ∷ []) low (le, tt);
     }
   where
     other : (k : ℕ) → (k ≡ set → ⊥) → (o : Option ℕ) → number_at k ps ≡ o → number_at k (ps ++ (record { set = set; number = n } ∷ [])) ≡ number_at k ps
@@ -91,13 +144,15 @@ pub read-append : (ps qs : List Stated) → number_tokens (ps ++ qs) ≡ number_
 read-append [] qs = refl
 read-append (p ∷ ps) qs = ap (λ (t : List ObjectToken). NumberRead p.set p.number ∷ t) (read-append ps qs)
 
-finish : (ps all more : List Stated) (lengths : List ℕ) (confirmed : ℕ) (known : Bool) (subfile : ℕ) → all ≡ ps ++ more → AreStated all
+finish : (most : ℕ) (ps all more : List Stated) (lengths : List ℕ) (confirmed : ℕ) (known : Bool) (subfile : ℕ) → all ≡ ps ++ more → AreStated all
     → number_at 10 all ≡ Some (mode_number known) → number_at 20 all ≡ Some subfile → 0 < length lengths → Agree (sizes_at known subfile all lengths) lengths confirmed
-    → IsAlive ObjectLanguage (number_tokens ps)
-finish ps all more lengths confirmed known subfile parts st mode largest some agree =
-    let tail : List ObjectToken = map SubfileBegun lengths ++ (ObjectEnded ∷ Confirmed confirmed ∷ []) in (
+    → AreLow most all → confirmed ≤ most → IsAlive (LanguageWithin most) (number_tokens ps)
+finish most ps all more lengths confirmed known subfile parts st mode largest some agree low le =
+    let tail : List ObjectToken = map SubfileBegun lengths ++ (ObjectEnded ∷ Confirmed confirmed ∷ []) in
+    let tokens : number_tokens ps ++ (number_tokens more ++ tail) ≡ number_tokens all ++ tail =
+    sym (ap (λ (t : List Stated). number_tokens t ++ tail) parts ∙ (ap (λ (t : List ObjectToken). t ++ tail) (read-append ps more) ∙ append_assoc (number_tokens ps) (number_tokens more) tail)) in (
       number_tokens more ++ tail,
-      record {
+      (record {
         stated = all;
         lengths = lengths;
         confirmed = confirmed;
@@ -108,8 +163,9 @@ finish ps all more lengths confirmed known subfile parts st mode largest some ag
         largest = largest;
         some = some;
         agree = agree;
-        tokens_are = sym (ap (λ (t : List Stated). number_tokens t ++ tail) parts ∙ (ap (λ (t : List ObjectToken). t ++ tail) (read-append ps more) ∙ append_assoc (number_tokens ps) (number_tokens more) tail));
+        tokens_are = tokens;
       },
+      subst (TokensWithin most) (sym tokens) (whole_within most all lengths confirmed low le)),
     )
 
 pub sum-ones : (n : ℕ) → sum (replicate n 1) ≡ n
@@ -138,10 +194,10 @@ short_subfiles zero subfile h = (omega arith, tt)
 short_subfiles (suc n) subfile h = (h, short_ones n subfile h)
 
 -- with an announced size
-known_run : (ps all more : List Stated) (subfile a : ℕ) → all ≡ ps ++ more → AreStated all → number_at 10 all ≡ Some 1 → number_at 20 all ≡ Some subfile → 1 ≤ subfile
-    → number_at 90 all ≡ Some a → a ≤ greatest_size → ((m : ℕ) → number_at 95 all ≡ Some m → a ≤ m) → IsAlive ObjectLanguage (number_tokens ps)
-known_run ps all more subfile a parts st mode largest one announced size fits =
-    finish ps all more (one_octet_subfiles a) a true subfile parts st mode largest (some_subfile a) (record {
+known_run : (most : ℕ) (ps all more : List Stated) (subfile a : ℕ) → all ≡ ps ++ more → AreStated all → number_at 10 all ≡ Some 1 → number_at 20 all ≡ Some subfile → 1 ≤ subfile
+    → number_at 90 all ≡ Some a → a ≤ greatest_size → ((m : ℕ) → number_at 95 all ≡ Some m → a ≤ m) → AreLow most all → IsAlive (LanguageWithin most) (number_tokens ps)
+known_run most ps all more subfile a parts st mode largest one announced size fits low =
+    finish most ps all more (one_octet_subfiles a) a true subfile parts st mode largest (some_subfile a) (record {
       by_mode = ap (λ (o : Option ℕ). is_some o) announced;
       announced_fits = subst (λ (o : Option ℕ). IfSome o (λ x. IfSome (number_at 95 all) (λ m. x ≤ m))) (sym announced) (within_any (number_at 95 all) a fits);
       each_subfile = short_subfiles a subfile one;
@@ -149,17 +205,17 @@ known_run ps all more subfile a parts st mode largest one announced size fits =
       within_maximum = within_any (number_at 95 all) (sum (one_octet_subfiles a)) (λ m e. omega (arith, sum_subfiles a, fits m e));
       as_announced = subst (λ (o : Option ℕ). IfSome o (λ x. sum (one_octet_subfiles a) ≡ x)) (sym announced) (sum_subfiles a);
       as_confirmed = sym (sum_subfiles a);
-    })
+    }) low (low_at most 90 a all low announced)
   where
     within_any : (o : Option ℕ) (x : ℕ) → ((m : ℕ) → o ≡ Some m → x ≤ m) → IfSome o (λ m. x ≤ m)
     within_any None x f = tt
     within_any (Some m) x f = f m refl
 
 -- with none
-unknown_run : (ps all more : List Stated) (subfile : ℕ) → all ≡ ps ++ more → AreStated all → number_at 10 all ≡ Some 0 → number_at 20 all ≡ Some subfile
-    → number_at 90 all ≡ None → IsAlive ObjectLanguage (number_tokens ps)
-unknown_run ps all more subfile parts st mode largest announced =
-    finish ps all more (0 ∷ []) 0 false subfile parts st mode largest (omega arith) (record {
+unknown_run : (most : ℕ) (ps all more : List Stated) (subfile : ℕ) → all ≡ ps ++ more → AreStated all → number_at 10 all ≡ Some 0 → number_at 20 all ≡ Some subfile
+    → number_at 90 all ≡ None → AreLow most all → IsAlive (LanguageWithin most) (number_tokens ps)
+unknown_run most ps all more subfile parts st mode largest announced low =
+    finish most ps all more (0 ∷ []) 0 false subfile parts st mode largest (omega arith) (record {
       by_mode = ap (λ (o : Option ℕ). is_some o) announced;
       announced_fits = subst (λ (o : Option ℕ). IfSome o (λ x. IfSome (number_at 95 all) (λ m. x ≤ m))) (sym announced) tt;
       each_subfile = (omega arith, tt);
@@ -167,7 +223,7 @@ unknown_run ps all more subfile parts st mode largest announced =
       within_maximum = zero_within (number_at 95 all);
       as_announced = subst (λ (o : Option ℕ). IfSome o (λ x. sum (0 ∷ []) ≡ x)) (sym announced) tt;
       as_confirmed = refl;
-    })
+    }) low (omega arith)
   where
     zero_within : (o : Option ℕ) → IfSome o (λ m. sum (0 ∷ []) ≤ m)
     zero_within None = tt
@@ -192,8 +248,8 @@ ne : (a b : ℕ) → eqb a b ≡ false → a ≡ b → ⊥
 ne a b f e = eqb-false a b f e
 
 -- mode 1, given or to come
-alive_known : (ps : List Stated) → AreStated ps → NoClash ps → unwrap_or (number_at 10 ps) 1 ≡ 1 → IsAlive ObjectLanguage (number_tokens ps)
-alive_known ps st c one =
+alive_known : (most : ℕ) → 1 ≤ most → (ps : List Stated) → AreLow most ps → AreStated ps → NoClash ps → unwrap_or (number_at 10 ps) 1 ≡ 1 → IsAlive (LanguageWithin most) (number_tokens ps)
+alive_known most some ps low st c one =
     let a = add ps 10 1 st (inl (refl, omega arith)) in
     let b = add a.all 20 1 a.are_stated (inr (inl (refl, omega arith, omega arith))) in
     let d = add b.all 90 0 b.are_stated (inr (inr (inl refl, omega arith))) in
@@ -204,19 +260,20 @@ alive_known ps st c one =
     let same90 : number_at 90 b.all ≡ number_at 90 ps = b.others 90 (ne 90 20 refl) ∙ a.others 90 (ne 90 10 refl) in
     let same95 : number_at 95 d.all ≡ number_at 95 ps = d.others 95 (ne 95 90 refl) ∙ (b.others 95 (ne 95 20 refl) ∙ a.others 95 (ne 95 10 refl)) in
     let announced : number_at 90 d.all ≡ Some (unwrap_or (number_at 90 ps) 0) = d.here ∙ ap (λ (o : Option ℕ). Some (unwrap_or o 0)) same90 in
-    known_run ps d.all (a.more ++ (b.more ++ d.more)) (unwrap_or (number_at 20 a.all) 1) (unwrap_or (number_at 90 ps) 0) parts d.are_stated mode largest
+    known_run most ps d.all (a.more ++ (b.more ++ d.more)) (unwrap_or (number_at 20 a.all) 1) (unwrap_or (number_at 90 ps) 0) parts d.are_stated mode largest
     (at_least_one (unwrap_or (number_at 20 a.all) 1) (in_row_at 20 (unwrap_or (number_at 20 a.all) 1) d.all d.are_stated.each largest)) announced
     (at_most_size (unwrap_or (number_at 90 ps) 0) (in_row_at 90 (unwrap_or (number_at 90 ps) 0) d.all d.are_stated.each announced))
     (λ m e. fits (number_at 90 ps) refl m (sym same95 ∙ e))
+    (d.low most (omega arith) (b.low most some (a.low most some low)))
   where
     fits : (o : Option ℕ) → number_at 90 ps ≡ o → (m : ℕ) → number_at 95 ps ≡ Some m → unwrap_or o 0 ≤ m
     fits None f m e = omega arith
     fits (Some k) f m e = c.sizes k m f e
 
-alive_unknown : (ps : List Stated) → AreStated ps → NoClash ps → number_at 10 ps ≡ Some 0 → IsAlive ObjectLanguage (number_tokens ps)
-alive_unknown ps st c e =
+alive_unknown : (most : ℕ) → 1 ≤ most → (ps : List Stated) → AreLow most ps → AreStated ps → NoClash ps → number_at 10 ps ≡ Some 0 → IsAlive (LanguageWithin most) (number_tokens ps)
+alive_unknown most some ps low st c e =
     let b = add ps 20 1 st (inr (inl (refl, omega arith, omega arith))) in
-    unknown_run ps b.all b.more (unwrap_or (number_at 20 ps) 1) b.parts b.are_stated (b.others 10 (ne 10 20 refl) ∙ e) b.here (b.others 90 (ne 90 20 refl) ∙ c.mode e)
+    unknown_run most ps b.all b.more (unwrap_or (number_at 20 ps) 1) b.parts b.are_stated (b.others 10 (ne 10 20 refl) ∙ e) b.here (b.others 90 (ne 90 20 refl) ∙ c.mode e) (b.low most some low)
 
 mode_cases : (P : Type 0) (o : Option ℕ) → (unwrap_or o 1 ≡ 1 → P) → (o ≡ Some 0 → P) → ((n : ℕ) → o ≡ Some n → n ≤ 1) → P
 mode_cases P None f g h = f refl
@@ -224,9 +281,13 @@ mode_cases P (Some zero) f g h = g refl
 mode_cases P (Some (suc zero)) f g h = f refl
 mode_cases P (Some (suc (suc n))) f g h = absurd (omega (arith, h (suc (suc n)) refl))
 
+-- It can continue by each greatest size that the numbers keep to.
+pub numbers_alive_within : (most : ℕ) → 1 ≤ most → (ps : List Stated) → AreLow most ps → AreStated ps → NoClash ps → IsAlive (LanguageWithin most) (number_tokens ps)
+numbers_alive_within most some ps low st c =
+    mode_cases (IsAlive (LanguageWithin most) (number_tokens ps)) (number_at 10 ps) (alive_known most some ps low st c) (alive_unknown most some ps low st c) (λ n e. mode_at_most_one n (in_row_at 10 n ps st.each e))
+
 pub numbers_alive : (ps : List Stated) → AreStated ps → NoClash ps → IsAlive ObjectLanguage (number_tokens ps)
-numbers_alive ps st c =
-    mode_cases (IsAlive ObjectLanguage (number_tokens ps)) (number_at 10 ps) (alive_known ps st c) (alive_unknown ps st c) (λ n e. mode_at_most_one n (in_row_at 10 n ps st.each e))
+numbers_alive ps st c = let alive = numbers_alive_within greatest_size (omega arith) ps (rows_low ps st.each) st c in (alive.0, alive.1.0)
 
 -- ---- and what is alive has no clash
 

@@ -5,10 +5,12 @@ use Rattle.std.proofs.lemmas.List.{map-append}
 use Rattle.std.proofs.lemmas.List.Sums.{sum_by-append}
 use Rattle.iim_dataset.specs.Format.Languages.{IsAlive}
 use Rattle.iim_object.specs.Format.Records.{SizesAreDetermined}
+use Rattle.iim_object.specs.Format.Within.{LanguageWithin}
+use Rattle.iim_dataset.specs.Format.Octets.{greatest_size}
 use Rattle.iim_object.specs.Format.Sizes.{Stated, Agree, number_at, mode_number, sizes_at}
 use Rattle.iim_object.specs.Format.Living.{HasDuties, Fit, MeetsAnnounced, NumbersLiveWithoutClash, SubfilesLiveWhileTheyFit, ObjectsEndWhereTheyAreWhole, TotalsAreConfirmed}
 use Rattle.iim_object.specs.Format.Objects.{ObjectToken, SubfileBegun, ObjectEnded, Confirmed, ObjectLanguage, number_tokens}
-use Rattle.iim_object.proofs.Numbers.{numbers_alive, numbers_live, in_row_at, at_least_one, at_most_size, short_ones, sum-ones}
+use Rattle.iim_object.proofs.Numbers.{AreLow, low_at, rows_low, whole_within, numbers_alive, numbers_live, in_row_at, at_least_one, at_most_size, short_ones, sum-ones}
 
 pub numbers_law : NumbersLiveWithoutClash
 numbers_law ps stated = (numbers_live ps, numbers_alive ps stated)
@@ -96,27 +98,38 @@ filled_fits known subfile ps lengths a d fit e h =
     under None f = tt
     under (Some m) f = omega (arith, filled_sum a lengths h, fit.clash.sizes a m e f)
 
-subfiles_alive : (known : Bool) (subfile : ℕ) (ps : List Stated) (lengths : List ℕ) → HasDuties known subfile ps → 0 < length lengths → Fit known subfile ps lengths
-    → IsAlive ObjectLanguage (number_tokens ps ++ map SubfileBegun lengths)
+-- an object of low numbers and a low total
+whole_object_within : (most : ℕ) (known : Bool) (subfile : ℕ) (ps : List Stated) (lengths : List ℕ) → HasDuties known subfile ps → 0 < length lengths → Fit known subfile ps lengths → MeetsAnnounced ps lengths
+    → AreLow most ps → sum lengths ≤ most → LanguageWithin most (number_tokens ps ++ (map SubfileBegun lengths ++ ending (sum lengths)))
+whole_object_within most known subfile ps lengths d some fit whole low le = (whole_object known subfile ps lengths d some fit whole, whole_within most ps lengths (sum lengths) low le)
+
+-- It can continue by each greatest size that numbers and total keep to.
+pub subfiles_alive_within : (most : ℕ) (known : Bool) (subfile : ℕ) (ps : List Stated) (lengths : List ℕ) → AreLow most ps → sum lengths ≤ most → HasDuties known subfile ps → 0 < length lengths → Fit known subfile ps lengths
+    → IsAlive (LanguageWithin most) (number_tokens ps ++ map SubfileBegun lengths)
 unfolding fill
-subfiles_alive known subfile ps lengths d some fit = by_announced (number_at 90 ps) refl
+subfiles_alive_within most known subfile ps lengths low le d some fit = by_announced (number_at 90 ps) refl
   where
-    by_announced : (o : Option ℕ) → number_at 90 ps ≡ o → IsAlive ObjectLanguage (number_tokens ps ++ map SubfileBegun lengths)
+    by_announced : (o : Option ℕ) → number_at 90 ps ≡ o → IsAlive (LanguageWithin most) (number_tokens ps ++ map SubfileBegun lengths)
     by_announced None e =
         let whole : MeetsAnnounced ps lengths = subst (λ (o : Option ℕ). IfSome o (λ a. sum lengths ≡ a)) (sym e) tt in
-        (ending (sum lengths), subst ObjectLanguage (sym (append_assoc (number_tokens ps) (map SubfileBegun lengths) (ending (sum lengths)))) (whole_object known subfile ps lengths d some fit whole))
+        (ending (sum lengths), subst (LanguageWithin most) (sym (append_assoc (number_tokens ps) (map SubfileBegun lengths) (ending (sum lengths)))) (whole_object_within most known subfile ps lengths d some fit whole low le))
     by_announced (Some a) e =
         let h : sum lengths ≤ a = subst (λ (o : Option ℕ). IfSome o (λ x. sum lengths ≤ x)) e fit.announced in
         let more : List ℕ = fill a lengths in
         let all : List ℕ = lengths ++ more in
         let whole : MeetsAnnounced ps all = subst (λ (o : Option ℕ). IfSome o (λ x. sum all ≡ x)) (sym e) (filled_sum a lengths h) in
         let long : 0 < length all = omega (arith, length-append lengths more) in
-        let object = whole_object known subfile ps all d long (filled_fits known subfile ps lengths a d fit e h) whole in
+        let object = whole_object_within most known subfile ps all d long (filled_fits known subfile ps lengths a d fit e h) whole low (omega (arith, filled_sum a lengths h, low_at most 90 a ps low e)) in
         let parts : number_tokens ps ++ (map SubfileBegun all ++ ending (sum all)) ≡ (number_tokens ps ++ map SubfileBegun lengths) ++ (map SubfileBegun more ++ ending (sum all)) =
         ap (λ (t : List ObjectToken). number_tokens ps ++ (t ++ ending (sum all))) (map-append SubfileBegun lengths more)
         ∙ (ap (λ (t : List ObjectToken). number_tokens ps ++ t) (append_assoc (map SubfileBegun lengths) (map SubfileBegun more) (ending (sum all)))
         ∙ sym (append_assoc (number_tokens ps) (map SubfileBegun lengths) (map SubfileBegun more ++ ending (sum all)))) in
-        (map SubfileBegun more ++ ending (sum all), subst ObjectLanguage parts object)
+        (map SubfileBegun more ++ ending (sum all), subst (LanguageWithin most) parts object)
+
+subfiles_alive : (known : Bool) (subfile : ℕ) (ps : List Stated) (lengths : List ℕ) → HasDuties known subfile ps → 0 < length lengths → Fit known subfile ps lengths
+    → IsAlive ObjectLanguage (number_tokens ps ++ map SubfileBegun lengths)
+subfiles_alive known subfile ps lengths d some fit =
+    let alive = subfiles_alive_within greatest_size known subfile ps lengths (rows_low ps d.stated.each) fit.total d some fit in (alive.0, alive.1.0)
 
 -- ---- and what completes has these parts
 
@@ -274,6 +287,21 @@ confirmed_law known subfile ps lengths n d some = (
     subst ObjectLanguage (sym (append-nil (number_tokens ps ++ (map SubfileBegun lengths ++ (ObjectEnded ∷ Confirmed n ∷ [])))))
         (subst (λ (k : ℕ). ObjectLanguage (number_tokens ps ++ (map SubfileBegun lengths ++ (ObjectEnded ∷ Confirmed k ∷ [])))) (sym h.2) (whole_object known subfile ps lengths d some h.0 h.1)),
   )),
+)
+
+-- ---- by smaller sizes
+
+pub ends_within : (most : ℕ) (known : Bool) (subfile : ℕ) (ps : List Stated) (lengths : List ℕ) → AreLow most ps → sum lengths ≤ most → HasDuties known subfile ps → 0 < length lengths → Fit known subfile ps lengths
+    → MeetsAnnounced ps lengths → IsAlive (LanguageWithin most) (number_tokens ps ++ (map SubfileBegun lengths ++ ObjectEnded ∷ []))
+ends_within most known subfile ps lengths low le d some fit whole =
+    (Confirmed (sum lengths) ∷ [], subst (LanguageWithin most) (sym (end_parts ps lengths (ObjectEnded ∷ []) (Confirmed (sum lengths) ∷ []))) (whole_object_within most known subfile ps lengths d some fit whole low le))
+
+pub confirmed_within : (most : ℕ) (known : Bool) (subfile : ℕ) (ps : List Stated) (lengths : List ℕ) (n : ℕ) → AreLow most ps → sum lengths ≤ most → HasDuties known subfile ps → 0 < length lengths → Fit known subfile ps lengths
+    → MeetsAnnounced ps lengths → n ≡ sum lengths → IsAlive (LanguageWithin most) (number_tokens ps ++ (map SubfileBegun lengths ++ (ObjectEnded ∷ Confirmed n ∷ [])))
+confirmed_within most known subfile ps lengths n low le d some fit whole is = (
+  [],
+  subst (LanguageWithin most) (sym (append-nil (number_tokens ps ++ (map SubfileBegun lengths ++ (ObjectEnded ∷ Confirmed n ∷ [])))))
+      (subst (λ (k : ℕ). LanguageWithin most (number_tokens ps ++ (map SubfileBegun lengths ++ (ObjectEnded ∷ Confirmed k ∷ [])))) (sym is) (whole_object_within most known subfile ps lengths d some fit whole low le)),
 )
 
 -- ---- the sizes

@@ -8,7 +8,7 @@ use Rattle.iim_dataset.specs.Format.Datasets.{Dataset, canonical_dataset, canoni
 use Rattle.iim_object.specs.Format.Cuts.{joined_parts, AreFull, IsCut, ObjectsAreCutOneWay}
 use Rattle.iim_object.specs.Format.Packing.{plan_datasets, subfile_dataset, subfile_datasets, confirmed_datasets, number_dataset, object_datasets, IsWritten}
 use Rattle.iim_object.specs.Outputs.{Puts, Cuts}
-use Rattle.iim_object.specs.Format.Writing.{Writing, total_of, octets_out, StandsAt, Lengthens, Begins, BreaksOff, ContinuesWith, IsTheWhole, Finishes, write_cause}
+use Rattle.iim_object.specs.Format.Writing.{Writing, total_of, octets_out, StandsAt, Lengthens, Begins, BreaksOff, ContinuesWith, IsTheWhole, Finishes, write_cause, finish_cause}
 use Rattle.iim_object.specs.Cutting.{writing_of, HasRoom, Fills, Flushes, Halts}
 use Rattle.iim_object.specs.declared.plan.Plan.{Plan}
 use Rattle.iim_object.specs.declared.output.Output.{Output}
@@ -290,3 +290,6 @@ first_of false a o e = refl
 
 pub may_write : {W : Type 0} (w : Writing W) (n : ℕ) → write_cause w n ≡ None → w.failed ≡ false
 may_write w n e = first_of w.failed _ _ e
+
+pub may_finish : {W : Type 0} (w : Writing W) → finish_cause w ≡ None → w.failed ≡ false
+may_finish w e = first_of w.failed _ _ e

@@ -14,13 +14,16 @@ use Rattle.iim_object.specs.Format.Writing.{Writing, most_of, room_of, total_of}
 abbrev pub writing_of : {W : Type 0} → Cutter W → Writing W
 writing_of c = record { plan = c.plan; held = c.held.items; sent = c.sent; written = c.output.written; failed = c.failed; writer = c.output.writer }
 
--- It has room for what the plan allows, and its numbers are small.
+-- It has room for what the plan allows. Full subfiles are out, `parts` of them, and beside record 7 and their data at most 13 octets for the
+-- tag of each: so its numbers are small.
 pub record HasRoom {W : Type 0} (c : Cutter W) : Type 0 where
   pub capacity : room_of c.plan ≤ vec_capacity c.held
   pub within : vec_len c.held ≤ c.plan.subfile
   pub bound : c.sent + vec_len c.held ≤ most_of c.plan
-  pub count : c.failed ≡ false → c.output.written ≤ 24 + 10 * c.sent
-  pub small : c.output.written < 2 ^ 40
+  pub parts : ℕ
+  pub sent : c.sent ≡ c.plan.subfile * parts
+  pub count : c.failed ≡ false → c.output.written ≤ 32 + c.sent + 13 * parts
+  pub small : c.output.written < 2 ^ 63 + 2 ^ 40
 
 -- It may take these octets: no write failed, there are some, and with them the object is within the bound.
 pub record MayTake {W : Type 0} (c : Cutter W) (octets : List ℕ) : Type 0 where

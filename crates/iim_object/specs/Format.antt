@@ -11,6 +11,7 @@ pub mod States
 pub mod Reading
 pub mod Reached
 pub mod Saved
+pub mod Within
 pub mod Conditions
 pub mod Told
 pub mod Cuts

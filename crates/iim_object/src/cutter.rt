@@ -54,7 +54,7 @@ impl<W: Target> Cutter<W> {
     fn flush(&mut self) -> Result<(), PackCause>
         requires room { HasRoom self.old }
         requires unfailed { self.old.failed ≡ false }
-        requires some { 0 < vec_len self.old.held }
+        requires full { vec_len self.old.held ≡ self.old.plan.subfile }
         ensures ok { OnOk result (Flushes W.state self.old self.new) }
         ensures room { HasRoom self.new }
         ensures err { OnErr result (Halts W.state self.old self.new (canonical_dataset (subfile_dataset self.old.held.items))) }

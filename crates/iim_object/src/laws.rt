@@ -1,6 +1,7 @@
 //! When the object layer can continue, and how its tokens come from datasets. The functions do nothing: their contracts are
 //! the laws.
 
+ghost use Rattle.iim_object.specs.Format.Within.{PlacesLiveWithin};
 ghost use Rattle.iim_object.specs.Format.Living.{NumbersLiveWithoutClash, SubfilesLiveWhileTheyFit, ObjectsEndWhereTheyAreWhole, TotalsAreConfirmed};
 ghost use Rattle.iim_object.specs.Format.Numbers.{TokensAreOfSizedDatasets, DatasetsLiveWithTheirTokens, DatasetsEndWithTheirTokens, TokensFollow, OthersLeadNowhere, NumbersLead, SubfilesLead, EndsLead, RecordsAreByNumber};
 ghost use Rattle.iim_object.specs.Format.Records.{SizesAreDetermined};
@@ -112,4 +113,9 @@ pub fn packed_objects_have_sizes()
 /// An object that a plan has room for has at most 4,294,967,295 subfiles.
 pub fn subfiles_are_few()
     ensures { SubfilesAreFew }
+{}
+
+/// From a possible place the object layer can continue by each smaller greatest size that the place keeps to.
+pub fn places_live_within()
+    ensures { PlacesLiveWithin }
 {}

@@ -26,7 +26,7 @@ fn fits(subfile: u64, size: Size) -> bool
     ensures { result ≡ fits subfile size }
 {
     match size {
-        Size::Known(octets) => octets <= GREATEST_SIZE && octets <= subfile * MAX_SUBFILES,
+        Size::Known(octets) => octets <= GREATEST_SIZE && octets <= subfile.saturating_mul(MAX_SUBFILES),
         Size::Unknown(Some(maximum)) => maximum <= GREATEST_SIZE,
         Size::Unknown(None) => true,
     }
@@ -44,7 +44,7 @@ fn limit_of(size: Size) -> u64
 }
 
 impl Plan {
-    /// The plan. `None` where a subfile has no octet or more than the greatest size of an object (4,294,967,295), where
+    /// The plan. `None` where a subfile has no octet or more than the greatest size of an object ([`GREATEST_SIZE`]), where
     /// a size is above that, or where a known size needs more than 4,294,967,295 subfiles.
     pub fn new(subfile: u64, size: Size) -> Option<Plan>
         ensures exactly { IsSome result ↔ IsTrue (is_plan subfile size) }
@@ -61,6 +61,6 @@ impl Plan {
     pub fn bound(&self) -> u64
         ensures { result ≡ bound_of self.now.subfile self.now.size }
     {
-        limit_of(self.size).min(self.subfile * MAX_SUBFILES)
+        limit_of(self.size).min(self.subfile.saturating_mul(MAX_SUBFILES))
     }
 }

@@ -21,18 +21,21 @@ stopped_more a b xs ys n s =
 
 -- ---- how long datasets are
 
-count_length : (n : ℕ) → length (canonical_count n) ≤ 6
+count_length : (n : ℕ) → length (canonical_count n) ≤ 10
 count_length n = elim (cases_lt n 32768) [
   | inl lt ↦ rw (lt-ltb n 32768 lt) (omega arith)
-  | inr ge ↦ rw (le-ltb n 32768 ge) (omega arith)
+  | inr ge ↦ elim (cases_lt n (2 ^ 32)) [
+    | inl lt ↦ rw (le-ltb n 32768 ge, lt-ltb n (2 ^ 32) lt) (omega arith)
+    | inr above ↦ rw (le-ltb n 32768 ge, le-ltb n (2 ^ 32) above) (omega arith)
+  ]
 ]
 
-dataset_length : (d : Dataset) → length (canonical_dataset d) ≤ 9 + length d.octets
+dataset_length : (d : Dataset) → length (canonical_dataset d) ≤ 13 + length d.octets
 dataset_length d =
     let c = count_length (length d.octets) in
     omega (arith, c, length-append (canonical_count (length d.octets)) d.octets)
 
-pub stream_length : (ds : List Dataset) → length (canonical_stream ds) ≤ 9 * length ds + length (joined ds)
+pub stream_length : (ds : List Dataset) → length (canonical_stream ds) ≤ 13 * length ds + length (joined ds)
 stream_length [] = omega arith
 stream_length (d ∷ ds) =
     let more = stream_length ds in

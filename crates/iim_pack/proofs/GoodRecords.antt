@@ -1,10 +1,10 @@
 -- The records 7, 8 and 9 that are written of an object are good.
-use Rattle.std.proofs.Common.{◌≡◌, ℕ, ◌+◌, ◌<◌, ◌≤◌, Bool, true, false, cond, nat_eq, nat_le, List, [], ◌∷◌, ◌++◌, length, Some, None, refl, sym, subst, ◌∙◌, arith, inl, inr}
+use Rattle.std.proofs.Common.{◌≡◌, ℕ, ◌+◌, ◌^◌, ◌<◌, ◌≤◌, Bool, true, false, ◌&&◌, cond, nat_eq, nat_le, List, [], ◌∷◌, ◌++◌, length, Some, None, refl, sym, subst, ◌∙◌, arith, inl, inr}
 use Rattle.std.specs.List.{AllByRecursion}
-use Rattle.std.proofs.lemmas.Bool.{and_from, le-leb}
+use Rattle.std.proofs.lemmas.Bool.{and_from, le-leb, cases_lt, lt-ltb, le-ltb}
 use Rattle.std.proofs.lemmas.Bool.Decides.{eqb_tells}
 use Rattle.std.proofs.lemmas.List.Sums.{sum_by-cons}
-use Rattle.byteorder.specs.Endian.{big_bytes}
+use Rattle.iim_tables.specs.Format.Kinds.{is_size_from}
 use Rattle.byteorder.specs.Numbers.{big_number-reads_back}
 use Rattle.iim_dataset.specs.Format.Octets.{Octets, greatest_size, number, within}
 use Rattle.iim_dataset.specs.Format.Datasets.{Dataset}
@@ -13,20 +13,38 @@ use Rattle.iim_tables.specs.Format.Rows.{table, row_of, Meets}
 use Rattle.iim_tables.specs.Format.Records.{IsGoodDataset, IsGoodRecord, occurs, occurrences, repeats, mandatory}
 use Rattle.iim_object.specs.Format.Sizes.{mode_number}
 use Rattle.iim_object.specs.Format.Plans.{limit_of}
-use Rattle.iim_object.specs.Format.Packing.{number_dataset, is_known, plan_datasets, subfile_dataset, subfile_datasets, confirmed_datasets}
+use Rattle.iim_object.specs.Format.Packing.{size_text, number_dataset, is_known, plan_datasets, subfile_dataset, subfile_datasets, confirmed_datasets}
 use Rattle.iim_object.specs.declared.size.Size.{Size}
 use Rattle.iim_object.specs.declared.size.Size.TheVariants.{Known, Unknown}
 
 -- ---- numbers
 
-number_back : (n : ℕ) → n ≤ greatest_size → number (big_bytes size_octets n) ≡ n
-number_back n h = big_number-reads_back 4 n [] (omega (arith, h))
+number_back : (n : ℕ) → n ≤ greatest_size → number (size_text n) ≡ n
+number_back n h = elim (cases_lt n (2 ^ 32)) [
+  | inl lt ↦ rw (lt-ltb n (2 ^ 32) lt) (big_number-reads_back 4 n [] lt)
+  | inr ge ↦ rw (le-ltb n (2 ^ 32) ge) (big_number-reads_back 8 n [] (omega (arith, h)))
+]
 
-number_octets : (n : ℕ) → Octets (big_bytes size_octets n)
-number_octets n = (omega arith, (omega arith, (omega arith, (omega arith, tt))))
+number_octets : (n : ℕ) → Octets (size_text n)
+number_octets n = elim (cases_lt n (2 ^ 32)) [
+  | inl lt ↦ rw (lt-ltb n (2 ^ 32) lt) (omega arith, (omega arith, (omega arith, (omega arith, tt))))
+  | inr ge ↦ rw (le-ltb n (2 ^ 32) ge) (omega arith, (omega arith, (omega arith, (omega arith, (omega arith, (omega arith, (omega arith, (omega arith, tt))))))))
+]
 
-size_from : (least n : ℕ) → least ≤ n → n ≤ greatest_size → within least greatest_size (number (big_bytes size_octets n)) ≡ true
-size_from least n one le = subst (λ (k : ℕ). within least greatest_size k ≡ true) (sym (number_back n le)) (and_from (nat_le least n) (nat_le n greatest_size) (le-leb least n one) (le-leb n greatest_size le))
+number_long : (n : ℕ) → within 1 size_octets (length (size_text n)) ≡ true
+number_long n = elim (cases_lt n (2 ^ 32)) [
+  | inl lt ↦ rw (lt-ltb n (2 ^ 32) lt) refl
+  | inr ge ↦ rw (le-ltb n (2 ^ 32) ge) refl
+]
+
+-- it is a size, of a length that the rows allow
+size_from : (least n : ℕ) → least ≤ n → n ≤ greatest_size → (within 1 size_octets (length (size_text n)) && is_size_from least (size_text n)) ≡ true
+size_from least n one le =
+    let long = number_long n in
+    let in_range : within least greatest_size (number (size_text n)) ≡ true =
+    subst (λ (k : ℕ). within least greatest_size k ≡ true) (sym (number_back n le)) (and_from (nat_le least n) (nat_le n greatest_size) (le-leb least n one) (le-leb n greatest_size le)) in
+    and_from (within 1 size_octets (length (size_text n))) (is_size_from least (size_text n)) long
+    (and_from (within 1 size_octets (length (size_text n))) (within least greatest_size (number (size_text n))) long in_range)
 
 -- ---- rows
 
@@ -35,15 +53,15 @@ unfolding row_of table
 mode_meets (Known n) = refl
 mode_meets (Unknown m) = refl
 
-subfile_meets : (n : ℕ) → 1 ≤ n → n ≤ greatest_size → Meets 7 20 (big_bytes size_octets n)
+subfile_meets : (n : ℕ) → 1 ≤ n → n ≤ greatest_size → Meets 7 20 (size_text n)
 unfolding row_of table
 subfile_meets n one le = size_from 1 n one le
 
-announced_meets : (n : ℕ) → n ≤ greatest_size → Meets 7 90 (big_bytes size_octets n)
+announced_meets : (n : ℕ) → n ≤ greatest_size → Meets 7 90 (size_text n)
 unfolding row_of table
 announced_meets n le = size_from 0 n (omega arith) le
 
-maximum_meets : (n : ℕ) → n ≤ greatest_size → Meets 7 95 (big_bytes size_octets n)
+maximum_meets : (n : ℕ) → n ≤ greatest_size → Meets 7 95 (size_text n)
 unfolding row_of table
 maximum_meets n le = size_from 0 n (omega arith) le
 
@@ -51,13 +69,13 @@ part_meets : (xs : List ℕ) → length xs ≤ greatest_size → Meets 8 10 xs
 unfolding row_of table
 part_meets xs le = rw (le-leb (length xs) greatest_size le, le-leb 0 (length xs) (omega arith)) refl
 
-confirmed_meets : (n : ℕ) → n ≤ greatest_size → Meets 9 10 (big_bytes size_octets n)
+confirmed_meets : (n : ℕ) → n ≤ greatest_size → Meets 9 10 (size_text n)
 unfolding row_of table
 confirmed_meets n le = size_from 0 n (omega arith) le
 
 -- ---- record 7
 
-good_number : (rec set n : ℕ) → set < 256 → (nat_eq rec 1 ≡ false) → Meets rec set (big_bytes size_octets n) → IsGoodDataset (number_dataset rec set n)
+good_number : (rec set n : ℕ) → set < 256 → (nat_eq rec 1 ≡ false) → Meets rec set (size_text n) → IsGoodDataset (number_dataset rec set n)
 good_number rec set n small other meets = record { numbered = small; octets = number_octets n; meets = meets; file_format = rw other refl }
 
 abbrev Seven : Dataset → Type 0

@@ -13,11 +13,11 @@ pub(crate) const LEAST_ENDING: u64 = 2;
 
 /// Whether `octets` octets after the first `total` pass the plan's bound.
 pub(crate) fn is_past(plan: Plan, total: u64, octets: u64) -> bool
-    requires total { total < 2 ^ 62 }
+    requires total { total < 2 ^ 63 }
     requires octets { octets < 2 ^ 63 + 4 }
     ensures { result ≡ words.is_past plan total octets }
 {
-    total + octets > plan.bound()
+    total.saturating_add(octets) > plan.bound()
 }
 
 /// Whether an object of `total` octets is below a known size.
@@ -32,7 +32,7 @@ pub(crate) fn is_short(size: Size, total: u64) -> bool
 
 /// Why an object may not end with the trailer after `total` octets.
 pub(crate) fn ending_cause(plan: Plan, total: u64, trailer: &[u8]) -> Option<PackCause>
-    requires total { total < 2 ^ 62 }
+    requires total { total < 2 ^ 63 }
     ensures { result ≡ words.ending_cause plan total trailer.now }
 {
     if !is_trailer(trailer) {

@@ -1,7 +1,7 @@
 //! Records 1 and 2, written.
 
 ghost use Rattle.std.specs.Prelude.{◌≡◌, ◌+◌, ◌<◌, ◌^◌, length, IfOk, IfErr, OnOk};
-ghost use Rattle.iim_dataset.specs.Format.Datasets.{canonical_dataset, canonical_stream, count_octets};
+ghost use Rattle.iim_dataset.specs.Format.Datasets.{canonical_dataset, canonical_stream};
 ghost use Rattle.iim_dataset.specs.Format.Devices.{Wrote, Stopped};
 ghost use Rattle.iim_fields.specs.Format.Builders.{IsEnvelope};
 
@@ -11,7 +11,6 @@ use iim_fields::Envelope;
 
 /// Writes a dataset in its canonical spelling. Both answers tell how many octets are out.
 fn put_dataset<W: Target>(writer: &mut W, rec: u8, set: u8, octets: &[u8]) -> Result<u64, u64>
-    requires few { length octets.now < 256 ^ count_octets }
     ensures ok { OnOk result (Wrote (W.state writer.old) (W.state writer.new) (canonical_dataset record { rec = rec; set = set; octets = octets.now })) }
     ensures all { IfOk result (λ out. out ≡ length (canonical_dataset record { rec = rec; set = set; octets = octets.now })) }
     ensures err { IfErr result (Stopped (W.state writer.old) (W.state writer.new) (canonical_dataset record { rec = rec; set = set; octets = octets.now })) }

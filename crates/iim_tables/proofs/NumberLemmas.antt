@@ -1,11 +1,11 @@
 -- The number that octets spell, octet by octet, and its bounds.
-use Rattle.std.proofs.Common.{◌≡◌, refl, take, get_or, add-one, ℕ, ◌+◌, ◌*◌, ◌^◌, ◌<◌, ◌≤◌, [], ◌∷◌, ◌++◌, List, suc, length, ap, arith, length-append}
+use Rattle.std.proofs.Common.{◌≡◌, refl, take, get_or, add-one, ℕ, ◌+◌, ◌-◌, ◌*◌, ◌^◌, ◌<◌, ◌≤◌, [], ◌∷◌, ◌++◌, List, suc, length, ap, arith, length-append}
 use Rattle.byteorder.specs.Numbers.{big_from-cons}
 use Rattle.std.proofs.Math.Seq.{take-suc}
 use Rattle.std.proofs.Math.Nat.{mul_left_comm, mul-le-mul_right, pow-succ', pow-le-pow_right}
 use Rattle.iim_dataset.specs.Format.Octets.{Octets as AreOctets}
 use Rattle.iim_tables.specs.Format.Numbers.{size_octets}
-use Rattle.iim_dataset.specs.Format.Octets.{number, greatest_size}
+use Rattle.iim_dataset.specs.Format.Octets.{number}
 
 -- the first octet counts by its place
 pub number-cons : (b : ℕ) (bs : List ℕ) → number (b ∷ bs) ≡ b * 256 ^ length bs + number bs
@@ -18,13 +18,6 @@ number-lt (b ∷ bs) h =
     let rest = number-lt bs h.1 in
     let high : b * 256 ^ length bs ≤ 255 * 256 ^ length bs = mul-le-mul_right (256 ^ length bs) (omega (arith, h.0)) in
     rw (number-cons b bs, pow-succ' 256 (length bs)) (omega arith)
-
--- as many octets as a size may have spell no more than the greatest size
-pub number-le_greatest : (xs : List ℕ) → AreOctets xs → length xs ≤ size_octets → number xs ≤ greatest_size
-number-le_greatest xs h k =
-    let fits = number-lt xs h in
-    let most : 256 ^ length xs ≤ 256 ^ size_octets = pow-le-pow_right (omega arith) k in
-    omega arith
 
 -- the last octet counts once, and what stands before it 256 times
 pub number-snoc : (xs : List ℕ) (b : ℕ) → number (xs ++ (b ∷ [])) ≡ 256 * number xs + b
@@ -50,8 +43,8 @@ spells_more xs n value b so_far h is lt = record {
 }
 
 -- another octet of a size fits
-pub fits_more : (xs : List ℕ) (n value : ℕ) → SpellsSoFar xs n value → n < size_octets → value < 256 ^ 3
+pub fits_more : (xs : List ℕ) (n value : ℕ) → SpellsSoFar xs n value → n < size_octets → value < 256 ^ (size_octets - 1)
 fits_more xs n value so_far h =
-    let few : n ≤ 3 = omega (arith, h) in
-    let most : 256 ^ n ≤ 256 ^ 3 = pow-le-pow_right (omega arith) few in
+    let few : n ≤ size_octets - 1 = omega (arith, h) in
+    let most : 256 ^ n ≤ 256 ^ (size_octets - 1) = pow-le-pow_right (omega arith) few in
     omega (arith, so_far.below, most)

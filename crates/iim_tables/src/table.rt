@@ -62,6 +62,10 @@ macro_rules! row_in_table {
             2:20    0 ..= 32             Spaced       Optional   true   // Supplemental Category
             2:22    0 ..= 32             Graphic      Optional   false  // Fixture Identifier
             2:25    0 ..= 64             Spaced       Optional   true   // Keywords
+            2:30    8 ..= 8              Date         Optional   false  // Release Date
+            2:35   11 ..= 11             Time         Optional   false  // Release Time
+            2:37    8 ..= 8              Date         Optional   false  // Expiration Date
+            2:38   11 ..= 11             Time         Optional   false  // Expiration Time
             2:40    0 ..= 256            SpacedLines  Optional   false  // Special Instructions
             2:55    8 ..= 8              PartDate     Optional   false  // Date Created
             2:60   11 ..= 11             Time         Optional   false  // Time Created

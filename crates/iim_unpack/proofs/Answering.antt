@@ -38,7 +38,7 @@ use Rattle.iim_unpack.specs.declared.refusal.Layer.TheVariants as layers
 use Rattle.iim_unpack.specs.declared.refusal.Cause.TheVariants as causes
 use Rattle.iim_unpack.proofs.Carrying.{lives_whole}
 use Rattle.iim_unpack.proofs.Following.{Follows, in_front, follows, alive_of, within_of, head_lives, value_lives, object_lives_after, object_on, message_of, story_of, message_ends, ends_tokens}
-use Rattle.iim_unpack.proofs.Bounds.{front_fits, tag_fits, tag_low}
+use Rattle.iim_unpack.proofs.Bounds.{head_fits, tag_fits}
 use Rattle.iim_unpack.proofs.Frames.{no_sections}
 use Rattle.iim_unpack.proofs.Lasts.{SplitLast, split_last, last_sections}
 use Rattle.iim_unpack.proofs.Places.{lives_after}
@@ -199,9 +199,9 @@ envelope_bounded laws limits octets v low few is = by (split_last is.admits.data
         let goes = (in_front laws.follow limits is.admits.datasets (InTag []) (goes_envelope laws limits octets v is).sizes ds [] d parts).goes_at in
         let unfinished : AreSections ds → ⊥ = λ sections.
         let bad : d ∷ [] ≡ [] = laws.follow.sections ds (d ∷ []) sections (subst AreSections parts is.admits.sections) in absurd cc in
-        let front = front_fits laws.follow.sections laws.follow.ends limits low few ds (InData (head_of d) []) one.front one.is_front goes unfinished in
+        let front = head_fits laws.follow.sections laws.follow.ends limits low few ds (head_of d) one.front one.is_front goes unfinished in
         let s = one.is_last in
-        omega (arith, front, ap length one.parts, length-append one.front one.last, ap length s.parts, length-append s.tag d.octets, tag_fits (head_of d) s.tag s.is_tag, tag_low (head_of d) s.tag s.is_tag)
+        omega (arith, front, ap length one.parts, length-append one.front one.last, ap length s.parts, length-append s.tag d.octets, tag_fits (head_of d) s.tag s.is_tag)
 
 -- ---- refused octets were open
 

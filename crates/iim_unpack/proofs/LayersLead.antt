@@ -347,7 +347,7 @@ record Given (fields : List Dataset) (numbers : Numbers) (p : objects.Place) : T
   stated : AreStated p.stated
 
 spellable_by : (fields : List Dataset) (numbers : Numbers) (p : objects.Place) → Given fields numbers p → (heads : ℕ) (object : List ℕ) → Fits fields numbers heads object → AllByRecursion HasSpellings fields → Octets object
-    → length object < 2 ^ 32 → AreSpellable fields numbers heads object
+    → length object ≤ greatest_size → AreSpellable fields numbers heads object
 spellable_by fields numbers p g heads object fits spelled octets few = record {
   kept = g.kept;
   spelled = spelled;

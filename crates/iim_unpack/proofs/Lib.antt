@@ -54,3 +54,8 @@ pub mod Continuing
 pub mod Refusing
 pub mod Saved
 pub mod TicketFaults
+pub mod SmallTags
+pub mod SmallSections
+pub mod SmallPlaces
+pub mod WerePossible
+pub mod PresentScale

@@ -73,11 +73,11 @@ sound_done place limits at u made object message p done =
 pub readers_make : RestoreLaws → LimitsAreToldByPlace → ReadersTellSizes → ReadersMakeUnpackers
 readers_make laws told sizes place limits at u ticket is within leads made object message =
     let both : AreMadeFor limits at u place = (leads, made) in
-    let octets = is.possible.octets in
-    let led = is.possible.leads in
+    let octets = is.possible.0.octets in
+    let led = is.possible.0.leads in
     let stands = made_stands laws place limits at u both in
     let done = made_done laws place limits at u (sizes u.parts.object).0 both (sizes u.parts.object).1 object message in
-    let comes : AreOpenOrWhole limits octets = (told limits octets place led is.possible.comes).1 within in
+    let comes : AreOpenOrWhole limits octets = (told limits octets place led is.possible.0.comes).1 within in
     let some : (p : List ℕ) × IsPlaceOf p place × (Stands u p at ⊎ IsDoneWith u p at) = elim comes [
       | inl open' ↦ (octets, led, inl (stands octets led open'))
       | inr (v, whole) ↦ (octets, led, inr (done octets v led whole))

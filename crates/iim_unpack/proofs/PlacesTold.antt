@@ -1,5 +1,6 @@
 -- The place that the parts of a ticket tell, and whether an envelope can be there.
-use Rattle.std.proofs.Common.{◌≡◌, ℕ, ◌+◌, ◌-◌, ◌≤◌, ◌<◌, ◌^◌, cond, Bool, List, [], ◌∷◌, length, Option, None, IsSome, refl, ap, sym, subst, ◌∙◌, arith}
+use Rattle.std.proofs.Common.{◌≡◌, ℕ, ◌+◌, ◌-◌, ◌≤◌, ◌<◌, ◌^◌, cond, Bool, List, [], ◌∷◌, length, Option, None, Some, IsSome, refl, ap, sym, subst, ◌∙◌, arith}
+use Rattle.std.specs.List.{AllByRecursion}
 use Rattle.iim_dataset.specs.Format.Reading.{TakesCalls}
 use Rattle.iim_dataset.specs.Format.Datasets.{Dataset}
 use Rattle.iim_fields.specs.Format.Faults.{kept_octets, joined}
@@ -15,10 +16,12 @@ use Rattle.wire_message.specs.declared.saved.MessagePlace.{MessagePlace}
 use Rattle.iim_unpack.specs.ByLayers.{LeadsByLayers, PlacesArePossibleByLayers, TagsLead, RecordsLive, are_ended, begun_of_object, begun_subfiles, object_after, one_of_some, record_datasets}
 use Rattle.iim_unpack.specs.Plain.{Numbers, number_list, plain}
 use Rattle.iim_unpack.specs.Possible.{TicketsOfPlacesAreSplit, split_of}
-use Rattle.iim_unpack.specs.Format.Possible.{AreHeadsWithin, begun_count, begun_fields, widest}
-use Rattle.iim_unpack.specs.Restoring.{AreAt, IsLimitFault, IsMadeFor, LeadsNowhere, ObjectStands, MessageStands, RecordsStand, has_come, place_told}
+use Rattle.iim_unpack.specs.Format.Possible.{IsSmall, IsSmallPhase, IsSmallPlace, greatest_size_before, AreHeadsWithin, begun_count, begun_fields, widest}
+use Rattle.iim_unpack.specs.Format.Scales.{SmallPlacesWerePossible}
+use Rattle.iim_unpack.specs.Restoring.{AreAt, IsLimitFault, IsMadeFor, LeadsNowhere, LeadsNowhereIn, ObjectStands, MessageStands, RecordsStand, has_come, place_told}
 use Rattle.iim_unpack.specs.Format.Restored.{octets_told, IsRestoreFault, IsTicketAt}
 use Rattle.iim_unpack.specs.Taking.{AreKept, IsMessageOf, numbers_told, tag_place, told_datasets}
+use Rattle.iim_unpack.specs.Format.Begins.{IsSizeIn, IsWide}
 use Rattle.iim_unpack.specs.Format.TicketForm.{HasForm, Split, SplitsTicket, TicketsHaveOneSplit, split_octets}
 use Rattle.iim_unpack.specs.Format.Tickets.{Place, part_number}
 use Rattle.iim_unpack.specs.Format.Unpacking.{Unpacking, limits_in}
@@ -45,16 +48,16 @@ datasets_told s some = told_datasets s.fields s.numbers some (are_ended s.phase)
 
 -- ---- the records of a place
 
-told_same : (place : Place) (numbers : Numbers) (some : Bool) → place.numbers ≡ number_list numbers → TellsSome some (split_of place) → datasets_told (split_of place) some ≡ record_datasets place numbers
-told_same place numbers some are one =
+told_same : (version : ℕ) (place : Place) (numbers : Numbers) (some : Bool) → place.numbers ≡ number_list numbers → TellsSome some (split_of version place) → datasets_told (split_of version place) some ≡ record_datasets place numbers
+told_same version place numbers some are one =
     ap (λ (ns : List (Option ℕ)). plain place.fields (numbers_told ns) (cond some 1 0) [] (are_ended place.phase)) are
     ∙ ap (λ (k : ℕ). plain place.fields numbers k [] (are_ended place.phase)) one
 
-pub records_at_place : (s : Split) (place : Place) (some : Bool) → split_of place ≡ s → (l : LeadsByLayers place) → TellsSome some s → datasets_told s some ≡ record_datasets place l.numbers
+pub records_at_place : (s : Split) (place : Place) (some : Bool) → split_of s.version place ≡ s → (l : LeadsByLayers place) → TellsSome some s → datasets_told s some ≡ record_datasets place l.numbers
 records_at_place s place some is l one =
-    subst (λ (t : Split). datasets_told t some ≡ record_datasets place l.numbers) is (told_same place l.numbers some l.numbers_are (subst (TellsSome some) (sym is) one))
+    subst (λ (t : Split). datasets_told t some ≡ record_datasets place l.numbers) is (told_same s.version place l.numbers some l.numbers_are (subst (TellsSome some) (sym is) one))
 
-pub lives_at_place : (s : Split) (place : Place) (some : Bool) → split_of place ≡ s → LeadsByLayers place → TellsSome some s → RecordsLive s.section s.phase (datasets_told s some)
+pub lives_at_place : (s : Split) (place : Place) (some : Bool) → split_of s.version place ≡ s → LeadsByLayers place → TellsSome some s → RecordsLive s.section s.phase (datasets_told s some)
 lives_at_place s place some is l one =
     subst (λ (ds : List Dataset). RecordsLive s.section s.phase ds) (sym (records_at_place s place some is l one))
     (subst (λ (t : Split). RecordsLive t.section t.phase (record_datasets place l.numbers)) is l.records)
@@ -89,7 +92,7 @@ no_object s none place is l =
     none l.object.0 at
 
 -- the message of a place is the one that its parts tell
-message_of : (s : Split) (place : Place) → split_of place ≡ s → IsMessageOf s.part s.counter s.flag s.texts place.message
+message_of : (s : Split) (place : Place) → split_of s.version place ≡ s → IsMessageOf s.part s.counter s.flag s.texts place.message
 message_of s place is = subst (λ (t : Split). IsMessageOf t.part t.counter t.flag t.texts place.message) is (record { part_is = refl; counter_is = refl; flag_is = refl; texts_are = refl })
 
 pub no_message : (s : Split) → ((m : MessagePlace) (octets text : List ℕ) → IsMessageOf s.part s.counter s.flag s.texts m → LeadToSaved octets text m → length octets ≡ s.taken → ⊥) → LeadsNowhere s
@@ -105,8 +108,9 @@ no_end s nine other place is l =
 
 -- ---- where one can be
 
-place_is : (s : Split) (m : MessagePlace) → IsMessageOf s.part s.counter s.flag s.texts m → split_of (place_told s m) ≡ s
+place_is : (s : Split) (m : MessagePlace) → IsMessageOf s.part s.counter s.flag s.texts m → split_of s.version (place_told s m) ≡ s
 place_is s m is = λ i. record {
+  version = s.version;
   section = s.section;
   phase = s.phase;
   fields = s.fields;
@@ -167,7 +171,7 @@ are_at s r some m is =
         numbers_are = four;
         kept = is.kept;
         tags = is.tags;
-        records = subst (λ (ds : List Dataset). RecordsLive s.section s.phase ds) (told_same place numbers some four is.one) is.lives;
+        records = subst (λ (ds : List Dataset). RecordsLive s.section s.phase ds) (told_same s.version place numbers some four is.one) is.lives;
         object = is.object;
         message = (octets, text, leads, count, (λ nine. part_told m.part AfterEnd (is.message_of.part_is ∙ is.ends nine)));
         within = record { octets_in = omega (arith, fit, all); fields_in = omega (arith, few, many) };
@@ -181,6 +185,21 @@ are_at s r some m is =
       octets_are = is.octets_are;
       fields_are = is.fields_are;
     }
+
+-- ---- the sizes of version 1
+
+small_sizes : (ns : List (Option ℕ)) → AllByRecursion (IsSizeIn 1) ns → AllByRecursion IsSmall ns
+small_sizes [] all = tt
+small_sizes (None ∷ ns) all = (tt, small_sizes ns all.1)
+small_sizes (Some n ∷ ns) all = let low = all.0 in (omega (arith, low), small_sizes ns all.1)
+
+-- The place of a ticket of version 1 keeps to the sizes of that time where what is begun does.
+pub small_told : (s : Split) (place : Place) → HasForm s → split_of s.version place ≡ s → s.version ≡ 1 → IsSmallPhase s.section s.taken s.phase → IsSmallPlace place
+small_told s place form is one small = record {
+  numbers = subst (λ (t : Split). AllByRecursion IsSmall t.numbers) (sym is) (small_sizes s.numbers (subst (λ (v : ℕ). AllByRecursion (IsSizeIn v) s.numbers) one form.numbers.each));
+  taken = subst (λ (t : Split). t.taken ≤ greatest_size_before) (sym is) (let low = subst (λ (v : ℕ). IsWide v s.taken) one form.taken in omega (arith, low));
+  begun = subst (λ (t : Split). IsSmallPhase t.section t.taken t.phase) (sym is) small;
+}
 
 -- ---- an unpacker of the readers
 
@@ -201,17 +220,21 @@ made_for s r at some one limits count u taking counts begun tags object message 
 
 -- ---- the ticket of a place
 
-pub ticket_at : PlacesArePossibleByLayers → (ticket : List ℕ) (s : Split) (place : Place) → SplitsTicket ticket s → split_of place ≡ s → LeadsByLayers place → IsTicketAt ticket place
-ticket_at law ticket s place splits is leads = record {
-  possible = (law place).1 leads;
-  spelled = splits.spelled ∙ ap split_octets (sym is) ∙ sym (spelled place);
+pub ticket_at : PlacesArePossibleByLayers → SmallPlacesWerePossible → (ticket : List ℕ) (s : Split) (place : Place) → SplitsTicket ticket s → split_of s.version place ≡ s → LeadsByLayers place → (s.version ≡ 1 → IsSmallPlace place) → IsTicketAt ticket place
+ticket_at law scales ticket s place splits is leads small = record {
+  version = s.version;
+  is_version = splits.form.version;
+  possible = ((law place).1 leads, λ one. (scales place).1 ((law place).1 leads, small one));
+  spelled = splits.spelled ∙ ap split_octets (sym is) ∙ sym (spelled s.version place);
 }
 
 -- Octets whose parts lead nowhere are the ticket of no place.
-pub no_ticket : PlacesArePossibleByLayers → TicketsOfPlacesAreSplit → TicketsHaveOneSplit → (ticket : List ℕ) (s : Split) → SplitsTicket ticket s → LeadsNowhere s → (place : Place) → IsTicketAt ticket place → ⊥
-no_ticket law split one ticket s splits nowhere place is =
-    let parts : SplitsTicket ticket (split_of place) = subst (λ (xs : List ℕ). SplitsTicket xs (split_of place)) (sym is.spelled) (split place is.possible) in
-    nowhere place (one ticket (split_of place) s parts splits) ((law place).0 is.possible)
+pub no_ticket : PlacesArePossibleByLayers → SmallPlacesWerePossible → TicketsOfPlacesAreSplit → TicketsHaveOneSplit → (ticket : List ℕ) (s : Split) → SplitsTicket ticket s → LeadsNowhereIn s → (place : Place) → IsTicketAt ticket place → ⊥
+no_ticket law scales split one ticket s splits nowhere place is =
+    let parts : SplitsTicket ticket (split_of is.version place) = subst (λ (xs : List ℕ). SplitsTicket xs (split_of is.version place)) (sym is.spelled) (split is.version place is.is_version is.possible) in
+    let same : split_of is.version place ≡ s = one ticket (split_of is.version place) s parts splits in
+    let at : is.version ≡ s.version = ap (λ (t : Split). t.version) same in
+    nowhere place (subst (λ (v : ℕ). split_of v place ≡ s) at same) ((law place).0 is.possible.0) (λ first. ((scales place).0 (is.possible.1 (at ∙ first))).1)
 
 -- A limit that the readers' counts pass is passed by the ticket's place.
 pub limit_told : (limits : Limits) (ticket : List ℕ) (s : Split) (r : Readers) (at : AreAt s r) → IsTicketAt ticket at.place → (fault : TicketFault) → IsLimitFault limits r.octets r.fields fault → IsRestoreFault limits ticket fault

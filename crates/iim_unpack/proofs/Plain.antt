@@ -1,18 +1,19 @@
 -- Plain datasets tell their place.
-use Rattle.std.proofs.Common.{◌≡◌, ℕ, zero, suc, ◌+◌, ◌*◌, ◌<◌, ◌≤◌, ◌^◌, nat_eq, cond, Bool, true, false, List, [], ◌∷◌, ◌++◌, length, take, drop, Option, Some, None, refl, ap, sym, ◌∙◌, arith, append-nil, length-drop, subst, IfSome}
+use Rattle.std.proofs.Common.{◌≡◌, ℕ, zero, suc, ◌+◌, ◌*◌, ◌<◌, ◌≤◌, ◌^◌, nat_eq, cond, Bool, true, false, List, [], ◌∷◌, ◌++◌, length, take, drop, Option, Some, None, refl, ap, sym, ◌∙◌, arith, inl, inr, append-nil, length-drop, subst, IfSome}
 use Rattle.std.specs.List.{AllByRecursion, filter}
 use Rattle.std.specs.Option.{unwrap_or}
-use Rattle.std.proofs.lemmas.Bool.{eqb-true}
+use Rattle.std.proofs.lemmas.Bool.{eqb-true, cases_lt, lt-ltb, le-ltb}
 use Rattle.std.proofs.lemmas.List.{take-append-drop, length-take}
 use Rattle.std.proofs.lemmas.List.Elements.{filter-append}
-use Rattle.std.proofs.lemmas.Nat.{from_be_bytes-to_be_bytes_4}
-use Rattle.iim_dataset.specs.Format.Octets.{IsOctet, Octets, number}
+use Rattle.byteorder.specs.Numbers.{big_number-reads_back}
+use Rattle.iim_tables.specs.Format.Numbers.{size_octets}
+use Rattle.iim_dataset.specs.Format.Octets.{IsOctet, Octets, number, greatest_size, within}
 use Rattle.iim_dataset.specs.Format.Datasets.{Dataset, canonical_stream, of_record}
 use Rattle.iim_dataset.specs.Format.Splits.{Begun, InTag, InData}
 use Rattle.iim_dataset.specs.Format.Laws.{HasSpellings, CanonicalStreamsAreSpelled}
 use Rattle.iim_fields.specs.Format.Faults.{kept, is_kept, joined}
 use Rattle.iim_object.specs.Format.Records.{numbers_of}
-use Rattle.iim_object.specs.Format.Packing.{number_dataset, subfile_datasets}
+use Rattle.iim_object.specs.Format.Packing.{size_text, number_dataset, subfile_datasets}
 use Rattle.iim_object.specs.Format.Saved.{stated_numbers}
 use Rattle.iim_object.specs.Format.Sizes.{Stated, number_at}
 use Rattle.wire_message.specs.Format.Saved.{LeadToSaved}
@@ -80,8 +81,29 @@ abbrev pub one_stated : ℕ → Option ℕ → List Stated
 one_stated set None = []
 one_stated set (Some n) = record { set = set; number = n } ∷ []
 
-number_back : (set n : ℕ) → n < 2 ^ 32 → number (number_dataset 7 set n).octets ≡ n
-number_back set n h = let back = from_be_bytes-to_be_bytes_4 n h in omega (arith, back)
+pub number_back : (n : ℕ) → n < 2 ^ 64 → number (size_text n) ≡ n
+number_back n h = elim (cases_lt n (2 ^ 32)) [
+  | inl lt ↦ rw (lt-ltb n (2 ^ 32) lt) (big_number-reads_back 4 n [] lt)
+  | inr ge ↦ rw (le-ltb n (2 ^ 32) ge) (big_number-reads_back 8 n [] h)
+]
+
+pub size_octets_are : (n : ℕ) → Octets (size_text n)
+size_octets_are n = elim (cases_lt n (2 ^ 32)) [
+  | inl lt ↦ rw (lt-ltb n (2 ^ 32) lt) (omega arith, (omega arith, (omega arith, (omega arith, tt))))
+  | inr ge ↦ rw (le-ltb n (2 ^ 32) ge) (omega arith, (omega arith, (omega arith, (omega arith, (omega arith, (omega arith, (omega arith, (omega arith, tt))))))))
+]
+
+pub size_long : (n : ℕ) → within 1 size_octets (length (size_text n)) ≡ true
+size_long n = elim (cases_lt n (2 ^ 32)) [
+  | inl lt ↦ rw (lt-ltb n (2 ^ 32) lt) refl
+  | inr ge ↦ rw (le-ltb n (2 ^ 32) ge) refl
+]
+
+size_few : (n : ℕ) → length (size_text n) ≤ 8
+size_few n = elim (cases_lt n (2 ^ 32)) [
+  | inl lt ↦ rw (lt-ltb n (2 ^ 32) lt) (omega arith)
+  | inr ge ↦ rw (le-ltb n (2 ^ 32) ge) (omega arith)
+]
 
 mode_told : (o : Option ℕ) → numbers_of (one_dataset mode_dataset o) ≡ one_stated 10 o
 mode_told None = refl
@@ -89,7 +111,7 @@ mode_told (Some n) = ap (λ (k : ℕ). record { set = 10; number = k } ∷ []) (
 
 one_told : (set : ℕ) (o : Option ℕ) → IsSize o → numbers_of (one_dataset (number_dataset 7 set) o) ≡ one_stated set o
 one_told set None h = refl
-one_told set (Some n) h = ap (λ (k : ℕ). record { set = set; number = k } ∷ []) (number_back set n h)
+one_told set (Some n) h = ap (λ (k : ℕ). record { set = set; number = k } ∷ []) (number_back n (omega (arith, h)))
 
 abbrev pub all_stated : Numbers → List Stated
 all_stated n = one_stated 10 n.mode ++ (one_stated 20 n.largest ++ (one_stated 90 n.announced ++ one_stated 95 n.maximum))
@@ -205,7 +227,7 @@ plain_told fields numbers heads object ended each fit room =
 
 -- ---- spellings
 
-all_both : (P : Dataset → Type 0) (xs ys : List Dataset) → AllByRecursion P xs → AllByRecursion P ys → AllByRecursion P (xs ++ ys)
+pub all_both : (P : Dataset → Type 0) (xs ys : List Dataset) → AllByRecursion P xs → AllByRecursion P ys → AllByRecursion P (xs ++ ys)
 all_both P [] ys a b = b
 all_both P (x ∷ xs) ys a b = (a.0, all_both P xs ys a.1 b)
 
@@ -214,7 +236,7 @@ mode_spelled None h = tt
 mode_spelled (Some n) h = (record { rec = omega arith; set = omega arith; octets = (h, tt); few = omega arith }, tt)
 
 one_spelled : (rec set n : ℕ) → rec < 256 → set < 256 → HasSpellings (number_dataset rec set n)
-one_spelled rec set n r s = record { rec = r; set = s; octets = (omega arith, (omega arith, (omega arith, (omega arith, tt)))); few = omega arith }
+one_spelled rec set n r s = record { rec = r; set = s; octets = size_octets_are n; few = let few = size_few n in omega (arith, few) }
 
 number_spelled : (set : ℕ) → set < 256 → (o : Option ℕ) → AllByRecursion HasSpellings (one_dataset (number_dataset 7 set) o)
 number_spelled set small None = tt
@@ -239,7 +261,7 @@ back_octets zero xs all = all
 back_octets (suc k) [] all = tt
 back_octets (suc k) (x ∷ xs) all = back_octets k xs all.1
 
-parts_spelled : (size count : ℕ) (xs : List ℕ) → Octets xs → length xs < 2 ^ 32 → AllByRecursion HasSpellings (subfile_datasets (filled size count xs))
+parts_spelled : (size count : ℕ) (xs : List ℕ) → Octets xs → length xs ≤ greatest_size → AllByRecursion HasSpellings (subfile_datasets (filled size count xs))
 parts_spelled size zero xs all few = tt
 parts_spelled size (suc count) xs all few =
     let first = length-take size xs in

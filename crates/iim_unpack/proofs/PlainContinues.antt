@@ -1,5 +1,5 @@
 -- Plain datasets continue as those of their place do.
-use Rattle.std.proofs.Common.{◌≡◌, ℕ, zero, suc, ◌+◌, ◌<◌, ◌≤◌, ◌||◌, nat_eq, nat_le, cond, Bool, true, false, List, [], ◌∷◌, ◌++◌, length, Option, Some, None, IfSome, is_some, refl, ap, sym, subst, ◌∙◌, inl, inr, arith, append-nil, length-drop, take, drop}
+use Rattle.std.proofs.Common.{◌≡◌, ℕ, zero, suc, ◌+◌, ◌<◌, ◌≤◌, ◌||◌, ◌&&◌, nat_eq, nat_le, cond, Bool, true, false, List, [], ◌∷◌, ◌++◌, length, Option, Some, None, IfSome, is_some, refl, ap, sym, subst, ◌∙◌, inl, inr, arith, append-nil, length-drop, take, drop}
 use Rattle.std.proofs.lemmas.List.{length-take}
 use Rattle.std.specs.List.{AllByRecursion}
 use Rattle.std.specs.Option.{unwrap_or}
@@ -8,7 +8,8 @@ use Rattle.std.proofs.lemmas.Bool.Decides.{eqb_tells}
 use Rattle.std.proofs.lemmas.List.Elements.{filter-append}
 use Rattle.std.proofs.lemmas.List.Folds.{list_any-append}
 use Rattle.std.proofs.lemmas.List.Sums.{sum_by-cons, sum_by-append}
-use Rattle.std.proofs.lemmas.Nat.{from_be_bytes-to_be_bytes_4}
+use Rattle.iim_tables.specs.Format.Numbers.{size_octets}
+use Rattle.iim_tables.specs.Format.Kinds.{is_size_from}
 use Rattle.iim_dataset.specs.Format.Octets.{Octets, number, greatest_size, within}
 use Rattle.iim_dataset.specs.Format.Datasets.{Dataset, of_record}
 use Rattle.iim_tables.specs.Format.Rows.{table, row_of, Meets}
@@ -16,7 +17,7 @@ use Rattle.iim_fields.specs.Format.Alive.{SectionsLive}
 use Rattle.iim_fields.specs.Format.Faults.{joined, kept, is_kept, present_record, last_record}
 use Rattle.iim_fields.specs.Format.Records.{AreSections}
 use Rattle.iim_tables.specs.Format.Records.{IsGoodDataset, IsGoodRecord, occurs, occurrences, repeats, mandatory}
-use Rattle.iim_object.specs.Format.Packing.{number_dataset, subfile_datasets}
+use Rattle.iim_object.specs.Format.Packing.{size_text, number_dataset, subfile_datasets}
 use Rattle.iim_object.specs.Format.Records.{numbers_of}
 use Rattle.iim_object.specs.Format.Sizes.{Stated, InRow, number_at}
 use Rattle.iim_object.specs.Format.Saved.{stated_numbers}
@@ -25,7 +26,7 @@ use Rattle.iim_unpack.specs.Format.Begins.{IsSize}
 use Rattle.iim_unpack.specs.LowerLaws.{AnswerLaws}
 use Rattle.iim_unpack.specs.Plain.{Numbers, number_list, mode_dataset, one_dataset, plain_numbers, filled, plain_end, PlainDatasetsContinueAlike}
 use Rattle.iim_unpack.proofs.Bounds.{IsFive, alive_five}
-use Rattle.iim_unpack.proofs.Plain.{AreOf, one_stated, are_told, four_told, filled_count, all_of, none_of, none_in_fields, are_sevens, are_eights, are_nines, front_octets, back_octets}
+use Rattle.iim_unpack.proofs.Plain.{number_back, size_octets_are, size_long, AreOf, one_stated, are_told, four_told, filled_count, all_of, none_of, none_in_fields, are_sevens, are_eights, are_nines, front_octets, back_octets}
 use Rattle.iim_unpack.proofs.PlainPlaces.{IsOrdered, none_below, sections_ordered, front_ordered, all_kept, numbers_in, join_octets, end_length, present_same}
 use Rattle.iim_unpack.proofs.SameRecords.{of_kept, occurs_stated, same_stated, same_numbers, stated_after_all, tens_after, nines}
 
@@ -332,10 +333,15 @@ sections_continue ds more sevens eights nines five like sections =
 -- ---- record 7
 
 pub low_number : (n : ℕ) → n ≤ greatest_size → number (number_dataset 7 20 n).octets ≡ n
-low_number n h = let back = from_be_bytes-to_be_bytes_4 n (omega (arith, h)) in omega (arith, back)
+low_number n h = number_back n (omega (arith, h))
 
-size_from : (least n : ℕ) → least ≤ n → n ≤ greatest_size → within least greatest_size (number (number_dataset 7 20 n).octets) ≡ true
-size_from least n one le = subst (λ (k : ℕ). within least greatest_size k ≡ true) (sym (low_number n le)) (and_from (nat_le least n) (nat_le n greatest_size) (le-leb least n one) (le-leb n greatest_size le))
+size_from : (least n : ℕ) → least ≤ n → n ≤ greatest_size → (within 1 size_octets (length (size_text n)) && is_size_from least (size_text n)) ≡ true
+size_from least n one le =
+    let long = size_long n in
+    let in_range : within least greatest_size (number (size_text n)) ≡ true =
+    subst (λ (k : ℕ). within least greatest_size k ≡ true) (sym (low_number n le)) (and_from (nat_le least n) (nat_le n greatest_size) (le-leb least n one) (le-leb n greatest_size le)) in
+    and_from (within 1 size_octets (length (size_text n))) (is_size_from least (size_text n)) long
+    (and_from (within 1 size_octets (length (size_text n))) (within least greatest_size (number (size_text n))) long in_range)
 
 mode_meets : (n : ℕ) → n ≤ 1 → Meets 7 10 (n ∷ [])
 unfolding row_of table
@@ -364,7 +370,7 @@ unfolding row_of table
 part_meets xs le = rw (le-leb (length xs) greatest_size le, le-leb 0 (length xs) (omega arith)) refl
 
 good_number : (rec set n : ℕ) → set < 256 → nat_eq rec 1 ≡ false → Meets rec set (number_dataset rec set n).octets → IsGoodDataset (number_dataset rec set n)
-good_number rec set n small other meets = record { numbered = small; octets = (omega arith, (omega arith, (omega arith, (omega arith, tt)))); meets = meets; file_format = rw other refl }
+good_number rec set n small other meets = record { numbered = small; octets = size_octets_are n; meets = meets; file_format = rw other refl }
 
 abbrev InRowAt : ℕ → Option ℕ → Type 0
 InRowAt set o = IfSome o (λ n. InRow (record { set = set; number = n }))

@@ -1,6 +1,6 @@
 -- Clauses of results that are handed on.
-use Rattle.std.proofs.Common.{◌≡◌, Result, Ok, Err, IfErr, OnOk, Option, Some, None, IfNone}
-use Rattle.std.specs.Result.{IsErrAnd}
+use Rattle.std.proofs.Common.{◌≡◌, ℕ, List, if◌then◌else◌, Result, Ok, Err, IfErr, OnOk, Option, Some, None, IfNone}
+use Rattle.std.specs.Result.{IsErrAnd, is_ok}
 
 pub if_err : {T E : Type 0} (P Q : E → Type 0) (r : Result T E) → ((e : E) → P e → Q e) → IfErr r P → IfErr r Q
 if_err P Q (Ok x) f h = tt
@@ -30,3 +30,8 @@ handed_on P (Err e) fault is h = rw is h
 pub if_none : {T : Type 0} (P Q : Type 0) (o : Option T) → (P → Q) → IfNone o P → IfNone o Q
 if_none P Q (Some x) f h = tt
 if_none P Q None f h = f h
+
+-- what grows only where all is well
+pub grown : {T E : Type 0} (r : Result T E) (old more new : List ℕ) → new ≡ (if is_ok r then more else old) → OnOk r (new ≡ more)
+grown (Ok x) old more new is = is
+grown (Err e) old more new is = tt

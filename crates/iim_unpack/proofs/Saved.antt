@@ -1,5 +1,5 @@
 -- What a ticket is restored to stands where the saved unpacker stood; and octets have a place.
-use Rattle.std.proofs.Common.{◌≡◌, ℕ, ◌<◌, ◌^◌, List, [], refl, sym, subst, ◌∙◌, inl, inr, arith, append-nil}
+use Rattle.std.proofs.Common.{◌≡◌, ℕ, ◌<◌, ◌^◌, List, [], get_or, ap, refl, sym, subst, ◌∙◌, inl, inr, arith, append-nil}
 use Rattle.iim_dataset.specs.Format.Datasets.{Dataset}
 use Rattle.iim_dataset.specs.Format.Splits.{Begun, InTag, InData}
 use Rattle.iim_fields.specs.Format.Standing.{IsWithin}
@@ -12,9 +12,11 @@ use Rattle.iim_unpack.specs.Format.Continuing.{OctetsHaveOnePlace, RestoredStand
 use Rattle.iim_unpack.specs.Format.Framed.{AreWithin}
 use Rattle.iim_unpack.specs.LowerLaws.{OnwardLaws}
 use Rattle.iim_unpack.specs.Format.Open.{object_so_far}
-use Rattle.iim_unpack.specs.Format.Possible.{AreOpenOrWhole, Possible, TicketsTellOnePlace, widest}
+use Rattle.iim_unpack.specs.Format.Possible.{AreOpenOrWhole, widest}
+use Rattle.iim_unpack.specs.Format.Scales.{IsPossibleIn, TicketsTellOnePlace}
+use Rattle.iim_unpack.specs.Format.Restored.{IsTicketAt}
 use Rattle.iim_unpack.specs.Format.Streams.{IsEnvelopeWithin}
-use Rattle.iim_unpack.specs.Format.Tickets.{Place, IsPlaceOf, place_of, ticket_of}
+use Rattle.iim_unpack.specs.Format.Tickets.{Place, IsPlaceOf, present_version, place_of, ticket_in, ticket_of}
 use Rattle.iim_unpack.specs.Format.Tokens.{MayContinue}
 use Rattle.iim_unpack.specs.Format.Open.{IsOpen}
 use Rattle.iim_unpack.specs.Format.Unpacking.{limits_in}
@@ -77,16 +79,21 @@ whole_wider limits octets v less few whole = record { admits = whole.admits; wit
 -- ---- the restored unpacker
 
 -- the place of octets is the one that their ticket is restored to
-at_restored : TicketsTellOnePlace → (p ticket : List ℕ) (here there : Place) → IsPlaceOf p here → AreOpenOrWhole widest p → ticket ≡ ticket_of here → Possible there → ticket ≡ ticket_of there → IsPlaceOf p there
-at_restored one p ticket here there is comes left possible right = subst (IsPlaceOf p) (one here there (record { octets = p; leads = is; comes = comes }) possible (sym left ∙ right)) is
+at_restored : TicketsTellOnePlace → (p ticket : List ℕ) (here there : Place) → IsPlaceOf p here → AreOpenOrWhole widest p → ticket ≡ ticket_of here → IsTicketAt ticket there → IsPlaceOf p there
+at_restored one p ticket here there is comes left right =
+    let at : right.version ≡ present_version = ap (λ (xs : List ℕ). get_or xs 4 0) (sym right.spelled ∙ left) in
+    let possible : IsPossibleIn present_version there = subst (λ (v : ℕ). IsPossibleIn v there) at right.possible in
+    let same : ticket_in present_version here ≡ ticket_in present_version there = sym left ∙ right.spelled ∙ ap (λ (v : ℕ). ticket_in v there) at in
+    let this : IsPossibleIn present_version here = (record { octets = p; leads = is; comes = comes }, λ e. absurd (omega (arith, e))) in
+    subst (IsPlaceOf p) (one present_version here there (inr refl) this possible same) is
 
 pub restored_stand : TicketsTellOnePlace → RestoredStandAsSaved
 restored_stand one u v p ticket a less few is restored = (
   (λ stands.
-      let place = at_restored one p ticket is.place restored.place is.is_place (inl (open_wider _ p less few stands.is_open)) is.spelled restored.is_ticket.possible restored.is_ticket.spelled in
+      let place = at_restored one p ticket is.place restored.place is.is_place (inl (open_wider _ p less few stands.is_open)) is.spelled restored.is_ticket in
       restored.stands p place stands.is_open),
   (λ done.
       let whole : IsEnvelopeWithin (limits_in u) p done.value = record { admits = done.admits; within = done.within } in
-      let place = at_restored one p ticket is.place restored.place is.is_place (inr (done.value, whole_wider _ p done.value less few whole)) is.spelled restored.is_ticket.possible restored.is_ticket.spelled in
+      let place = at_restored one p ticket is.place restored.place is.is_place (inr (done.value, whole_wider _ p done.value less few whole)) is.spelled restored.is_ticket in
       restored.done p done.value place whole),
 )

@@ -1,16 +1,16 @@
 -- What octets begin with is determined: their layout has one reading.
-use Rattle.std.proofs.Common.{◌≡◌, ℕ, ◌+◌, ◌-◌, ◌<◌, ◌≤◌, ◌^◌, ◌==◌, pred, Bool, true, false, List, [], ◌∷◌, ◌++◌, length, take, drop, Option, Some, None, refl, ap, sym, subst, ◌∙◌, arith, append_assoc, append-nil, length-append}
+use Rattle.std.proofs.Common.{◌≡◌, ℕ, ◌+◌, ◌-◌, ◌<◌, ◌≤◌, ◌^◌, ◌==◌, pred, Bool, true, false, List, [], ◌∷◌, ◌++◌, length, take, drop, Option, Some, None, refl, ap, sym, subst, ◌∙◌, inl, inr, arith, append_assoc, append-nil, length-append}
 use Rattle.std.proofs.lemmas.List.{take-append-drop, length-take}
 use Rattle.std.specs.List.{AllByRecursion, flat_map}
 use Rattle.iim_dataset.specs.Format.Datasets.{Dataset}
-use Rattle.iim_unpack.specs.Format.Tickets.{Phase, TagBegun, DataBegun, AllEnded, ticket_name, four, phase_octets, field_octets, fields_octets, number_octets, text_octets}
+use Rattle.iim_unpack.specs.Format.Tickets.{Phase, TagBegun, DataBegun, AllEnded, ticket_name, present_version, width, four, wide, phase_octets, field_octets, fields_octets, number_octets, text_octets}
 use Rattle.iim_unpack.specs.Format.Begins.{IsLongField}
 use Rattle.iim_unpack.specs.TicketFields.{HoldsFields}
 use Rattle.iim_unpack.specs.Begins.{BeginsWithNone, BeginsWithFewer, FieldsBefore, IsFour}
-use Rattle.iim_unpack.specs.Format.Begins.{AreFields, AreNumbers, AreTexts, IsSize, IsShort}
-use Rattle.iim_unpack.specs.FieldLaws.{first_same, rest_same, fronts, one_four, one_field, some_octets, same_fields}
-use Rattle.iim_unpack.specs.Format.TicketForm.{IsPhase, IsFaultOf, HasForm, Split, SplitsTicket, TicketsHaveOneSplit, split_octets, came}
-use Rattle.iim_unpack.specs.TicketParts.{AreNoMessage, AreNoBody, body_octets, message_parts}
+use Rattle.iim_unpack.specs.Format.Begins.{AreFields, AreNumbersIn, AreTexts, IsSizeIn, IsShort, IsWide}
+use Rattle.iim_unpack.specs.FieldLaws.{first_same, rest_same, fronts, one_four, one_wide, one_field, some_octets, same_fields}
+use Rattle.iim_unpack.specs.Format.TicketForm.{IsVersion, IsPhase, IsFaultOf, HasForm, Split, SplitsTicket, TicketsHaveOneSplit, split_octets, came}
+use Rattle.iim_unpack.specs.TicketParts.{AreNoMessage, AreNoBody, BeginsWithNoData, body_octets, message_parts}
 use Rattle.iim_unpack.specs.declared.ticket_fault.TicketFault.TheVariants.{Form}
 
 -- octets that two spellings begin have one reading
@@ -25,11 +25,11 @@ one_text x y a b e = fronts x y a b (first_same e) (rest_same e)
 pub one_short : HasOne IsShort text_octets
 one_short x y a b hx hy e = one_text x y a b e
 
-pub one_number : HasOne IsSize number_octets
-one_number None None a b hx hy e = (refl, rest_same e)
-one_number None (Some n) a b hx hy e = absurd (let bad = first_same e in omega (arith, bad))
-one_number (Some m) None a b hx hy e = absurd (let bad = first_same e in omega (arith, bad))
-one_number (Some m) (Some n) a b hx hy e = let both = one_four m n a b hx hy (rest_same e) in (ap Some both.0, both.1)
+pub one_number : (version : ℕ) → HasOne (IsSizeIn version) (number_octets version)
+one_number version None None a b hx hy e = (refl, rest_same e)
+one_number version None (Some n) a b hx hy e = absurd (let bad = first_same e in omega (arith, bad))
+one_number version (Some m) None a b hx hy e = absurd (let bad = first_same e in omega (arith, bad))
+one_number version (Some m) (Some n) a b hx hy e = let both = one_wide version m n a b hx hy (rest_same e) in (ap Some both.0, both.1)
 
 -- ---- lists of them
 
@@ -165,47 +165,56 @@ one_fields x y a b hx hy e =
     let count = one_four (length x) (length y) _ _ hx.few hy.few is in
     one_list IsLongField field_octets one_field_of x y a b hx.each hy.each count.0 count.1
 
-one_numbers : HasOne AreNumbers (flat_map number_octets)
-one_numbers x y a b hx hy e = one_list IsSize number_octets one_number x y a b hx.each hy.each (hx.four ∙ sym hy.four) e
+one_numbers : (version : ℕ) → HasOne (AreNumbersIn version) (flat_map (number_octets version))
+one_numbers version x y a b hx hy e = one_list (IsSizeIn version) (number_octets version) (one_number version) x y a b hx.each hy.each (hx.four ∙ sym hy.four) e
 
 one_texts : HasOne AreTexts (flat_map text_octets)
 one_texts x y a b hx hy e = one_list IsShort text_octets one_short x y a b hx.each hy.each (hx.seven ∙ sym hy.seven) e
 
-one_phase : (section : ℕ) → HasOne (IsPhase section) phase_octets
-one_phase section (TagBegun h) (TagBegun k) a b hx hy e = let held = one_text h k a b (rest_same e) in (ap TagBegun held.0, held.1)
-one_phase section (TagBegun h) (DataBegun set count left taken) a b hx hy e = absurd (let bad = first_same e in omega (arith, bad))
-one_phase section (TagBegun h) AllEnded a b hx hy e = absurd (let bad = first_same e in omega (arith, bad))
-one_phase section (DataBegun set count left taken) (TagBegun k) a b hx hy e = absurd (let bad = first_same e in omega (arith, bad))
-one_phase section (DataBegun s m l t) (DataBegun u n k v) a b hx hy e =
+three : (w x y z : List ℕ) → (w ++ (x ++ y)) ++ z ≡ w ++ (x ++ (y ++ z))
+three w x y z = append_assoc w (x ++ y) z ∙ ap (λ (t : List ℕ). w ++ t) (append_assoc x y z)
+
+no_wider : (version m n : ℕ) → m ≤ n → IsWide version n → IsWide version m
+no_wider version m n le h = omega (arith, le, h)
+
+one_phase : (version section : ℕ) → HasOne (IsPhase version section) (phase_octets version)
+one_phase version section (TagBegun h) (TagBegun k) a b hx hy e = let held = one_text h k a b (rest_same e) in (ap TagBegun held.0, held.1)
+one_phase version section (TagBegun h) (DataBegun set count left taken) a b hx hy e = absurd (let bad = first_same e in omega (arith, bad))
+one_phase version section (TagBegun h) AllEnded a b hx hy e = absurd (let bad = first_same e in omega (arith, bad))
+one_phase version section (DataBegun set count left taken) (TagBegun k) a b hx hy e = absurd (let bad = first_same e in omega (arith, bad))
+one_phase version section (DataBegun s m l t) (DataBegun u n k v) a b hx hy e =
     let set : s ≡ u = first_same (rest_same e) in
-    let count = one_four m n (four l ++ (t ++ a)) (four k ++ (v ++ b)) hx.0 hy.0 (rest_same (rest_same e)) in
-    let left = one_four l k (t ++ a) (v ++ b) (omega (arith, hx.0, hx.1)) (omega (arith, hy.0, hy.1)) count.1 in
+    let moved : wide version m ++ (wide version l ++ (t ++ a)) ≡ wide version n ++ (wide version k ++ (v ++ b)) =
+    sym (three (wide version m) (wide version l) t a) ∙ rest_same (rest_same e) ∙ three (wide version n) (wide version k) v b in
+    let count = one_wide version m n (wide version l ++ (t ++ a)) (wide version k ++ (v ++ b)) hx.0 hy.0 moved in
+    let left = one_wide version l k (t ++ a) (v ++ b) (no_wider version l m hx.1 hx.0) (no_wider version k n hy.1 hy.0) count.1 in
     let c = count.0 in
     let d = left.0 in
     let taken = fronts t v a b (hx.2 ∙ (let same : came section m l ≡ came section n k = cc in same) ∙ sym hy.2) left.1 in
     ((λ i. DataBegun (set i) (c i) (d i) (taken.0 i)), taken.1)
-one_phase section (DataBegun set count left taken) AllEnded a b hx hy e = absurd (let bad = first_same e in omega (arith, bad))
-one_phase section AllEnded (TagBegun k) a b hx hy e = absurd (let bad = first_same e in omega (arith, bad))
-one_phase section AllEnded (DataBegun set count left taken) a b hx hy e = absurd (let bad = first_same e in omega (arith, bad))
-one_phase section AllEnded AllEnded a b hx hy e = (refl, rest_same e)
+one_phase version section (DataBegun set count left taken) AllEnded a b hx hy e = absurd (let bad = first_same e in omega (arith, bad))
+one_phase version section AllEnded (TagBegun k) a b hx hy e = absurd (let bad = first_same e in omega (arith, bad))
+one_phase version section AllEnded (DataBegun set count left taken) a b hx hy e = absurd (let bad = first_same e in omega (arith, bad))
+one_phase version section AllEnded AllEnded a b hx hy e = (refl, rest_same e)
 
 pub texts_after : (count : ℕ) (x octets rest : List ℕ) → IsShort x → octets ≡ text_octets x ++ rest → BeginsWithFewer IsShort text_octets count rest → BeginsWithFewer IsShort text_octets (count + 1) octets
 texts_after = fewer_after IsShort text_octets one_short
 
-pub numbers_after : (count : ℕ) (x : Option ℕ) (octets rest : List ℕ) → IsSize x → octets ≡ number_octets x ++ rest → BeginsWithFewer IsSize number_octets count rest → BeginsWithFewer IsSize number_octets (count + 1) octets
-numbers_after = fewer_after IsSize number_octets one_number
+pub numbers_after : (version count : ℕ) (x : Option ℕ) (octets rest : List ℕ) → IsSizeIn version x → octets ≡ number_octets version x ++ rest → BeginsWithFewer (IsSizeIn version) (number_octets version) count rest
+    → BeginsWithFewer (IsSizeIn version) (number_octets version) (count + 1) octets
+numbers_after version = fewer_after (IsSizeIn version) (number_octets version) (one_number version)
 
 pub no_text : (count : ℕ) (octets : List ℕ) → BeginsWithNone IsShort text_octets octets → BeginsWithFewer IsShort text_octets (count + 1) octets
 no_text = no_first IsShort text_octets
 
-pub no_number : (count : ℕ) (octets : List ℕ) → BeginsWithNone IsSize number_octets octets → BeginsWithFewer IsSize number_octets (count + 1) octets
-no_number = no_first IsSize number_octets
+pub no_number : (version count : ℕ) (octets : List ℕ) → BeginsWithNone (IsSizeIn version) (number_octets version) octets → BeginsWithFewer (IsSizeIn version) (number_octets version) (count + 1) octets
+no_number version = no_first (IsSizeIn version) (number_octets version)
 
 pub no_texts : (octets : List ℕ) → BeginsWithFewer IsShort text_octets 7 octets → BeginsWithNone AreTexts (flat_map text_octets) octets
 no_texts octets fewer xs rest are e = fewer xs rest are.each are.seven e
 
-pub no_numbers : (octets : List ℕ) → BeginsWithFewer IsSize number_octets 4 octets → BeginsWithNone AreNumbers (flat_map number_octets) octets
-no_numbers octets fewer xs rest are e = fewer xs rest are.each are.four e
+pub no_numbers : (version : ℕ) (octets : List ℕ) → BeginsWithFewer (IsSizeIn version) (number_octets version) 4 octets → BeginsWithNone (AreNumbersIn version) (flat_map (number_octets version)) octets
+no_numbers version octets fewer xs rest are e = fewer xs rest are.each are.four e
 
 -- ---- what follows the name, part by part
 
@@ -216,71 +225,88 @@ abbrev from_heads : Split → List ℕ
 from_heads s = four s.heads ++ from_message s
 
 abbrev from_taken : Split → List ℕ
-from_taken s = four s.taken ++ from_heads s
+from_taken s = wide s.version s.taken ++ from_heads s
 
 abbrev from_numbers : Split → List ℕ
-from_numbers s = flat_map number_octets s.numbers ++ from_taken s
+from_numbers s = flat_map (number_octets s.version) s.numbers ++ from_taken s
 
 abbrev from_fields : Split → List ℕ
 from_fields s = fields_octets s.fields ++ from_numbers s
 
--- Whatever the octets are split into, the rest is spelled so.
-abbrev pub IsSpelledSo : (octets rest : List ℕ) → (Split → List ℕ) → Type 0
-IsSpelledSo octets rest from = (s : Split) → HasForm s → octets ≡ body_octets s → rest ≡ from s
+-- Whatever the octets are split into in this version, the rest is spelled so.
+abbrev pub IsSpelledSo : (version : ℕ) (octets rest : List ℕ) → (Split → List ℕ) → Type 0
+IsSpelledSo version octets rest from = (s : Split) → s.version ≡ version → HasForm s → octets ≡ body_octets s → rest ≡ from s
 
-past : {X : Type 0} (Is : X → Type 0) (spelled : X → List ℕ) → HasOne Is spelled → (part : Split → X) (more : Split → List ℕ) → ((s : Split) → HasForm s → Is (part s)) → (octets rest after : List ℕ) (x : X)
-    → Is x → rest ≡ spelled x ++ after → IsSpelledSo octets rest (λ s. spelled (part s) ++ more s) → IsSpelledSo octets after more
-past Is spelled one part more has octets rest after x is parts so s form e = (one x (part s) after (more s) is (has s form) (sym parts ∙ so s form e)).1
+past : {X : Type 0} (version : ℕ) (Is : X → Type 0) (spelled : X → List ℕ) → HasOne Is spelled → (part : Split → X) (more : Split → List ℕ) → ((s : Split) → s.version ≡ version → HasForm s → Is (part s)) → (octets rest after : List ℕ) (x : X)
+    → Is x → rest ≡ spelled x ++ after → IsSpelledSo version octets rest (λ s. spelled (part s) ++ more s) → IsSpelledSo version octets after more
+past version Is spelled one part more has octets rest after x is parts so s at form e = (one x (part s) after (more s) is (has s at form) (sym parts ∙ so s at form e)).1
 
-missing : {X : Type 0} (Is : X → Type 0) (spelled : X → List ℕ) (part : Split → X) (more : Split → List ℕ) → ((s : Split) → HasForm s → Is (part s)) → (octets rest : List ℕ)
-    → BeginsWithNone Is spelled rest → IsSpelledSo octets rest (λ s. spelled (part s) ++ more s) → AreNoBody octets
-missing Is spelled part more has octets rest none so s form e = none (part s) (more s) (has s form) (so s form e)
+missing : {X : Type 0} (version : ℕ) (Is : X → Type 0) (spelled : X → List ℕ) (part : Split → X) (more : Split → List ℕ) → ((s : Split) → s.version ≡ version → HasForm s → Is (part s)) → (octets rest : List ℕ)
+    → BeginsWithNone Is spelled rest → IsSpelledSo version octets rest (λ s. spelled (part s) ++ more s) → AreNoBody version octets
+missing version Is spelled part more has octets rest none so s at form e = none (part s) (more s) (has s at form) (so s at form e)
 
 one_of_four : HasOne IsFour four
 one_of_four m n a b hm hn e = one_four m n a b hm hn e
 
-pub past_phase : (octets rest after : List ℕ) (section : ℕ) (phase : Phase) → octets ≡ section ∷ rest → rest ≡ phase_octets phase ++ after → IsPhase section phase → IsSpelledSo octets after from_fields
-past_phase octets rest after section phase first parts is s form e =
+one_of_wide : (version : ℕ) → HasOne (IsWide version) (wide version)
+one_of_wide version m n a b hm hn e = one_wide version m n a b hm hn e
+
+-- in the version that is told, numbers and octets are those of the split
+numbers_in : (version : ℕ) (octets rest : List ℕ) → IsSpelledSo version octets rest from_numbers → IsSpelledSo version octets rest (λ s. flat_map (number_octets version) s.numbers ++ from_taken s)
+numbers_in version octets rest so s at form e = so s at form e ∙ ap (λ (v : ℕ). flat_map (number_octets v) s.numbers ++ from_taken s) at
+
+taken_in : (version : ℕ) (octets rest : List ℕ) → IsSpelledSo version octets rest from_taken → IsSpelledSo version octets rest (λ s. wide version s.taken ++ from_heads s)
+taken_in version octets rest so s at form e = so s at form e ∙ ap (λ (v : ℕ). wide v s.taken ++ from_heads s) at
+
+pub past_phase : (version : ℕ) (octets rest after : List ℕ) (section : ℕ) (phase : Phase) → octets ≡ section ∷ rest → rest ≡ phase_octets version phase ++ after → IsPhase version section phase → IsSpelledSo version octets after from_fields
+past_phase version octets rest after section phase first parts is s at form e =
     let same : section ∷ rest ≡ body_octets s = sym first ∙ e in
-    let at : s.section ≡ section = sym (first_same same) in
-    (one_phase section phase s.phase after (from_fields s) is (subst (λ (n : ℕ). IsPhase n s.phase) at form.phase) (sym parts ∙ rest_same same)).1
+    let here : s.section ≡ section = sym (first_same same) in
+    let phase_is : IsPhase version section s.phase = subst (λ (v : ℕ). IsPhase v section s.phase) at (subst (λ (n : ℕ). IsPhase s.version n s.phase) here form.phase) in
+    let rests : rest ≡ phase_octets version s.phase ++ from_fields s = rest_same same ∙ ap (λ (v : ℕ). phase_octets v s.phase ++ from_fields s) at in
+    (one_phase version section phase s.phase after (from_fields s) is phase_is (sym parts ∙ rests)).1
 
-pub past_fields : (octets rest after : List ℕ) (x : List Dataset) → AreFields x → rest ≡ fields_octets x ++ after → IsSpelledSo octets rest from_fields → IsSpelledSo octets after from_numbers
-past_fields = past AreFields fields_octets one_fields (λ s. s.fields) from_numbers (λ s form. form.fields)
+pub past_fields : (version : ℕ) (octets rest after : List ℕ) (x : List Dataset) → AreFields x → rest ≡ fields_octets x ++ after → IsSpelledSo version octets rest from_fields → IsSpelledSo version octets after from_numbers
+past_fields version = past version AreFields fields_octets one_fields (λ s. s.fields) from_numbers (λ s at form. form.fields)
 
-pub past_numbers : (octets rest after : List ℕ) (x : List (Option ℕ)) → AreNumbers x → rest ≡ flat_map number_octets x ++ after → IsSpelledSo octets rest from_numbers → IsSpelledSo octets after from_taken
-past_numbers = past AreNumbers (flat_map number_octets) one_numbers (λ s. s.numbers) from_taken (λ s form. form.numbers)
+pub past_numbers : (version : ℕ) (octets rest after : List ℕ) (x : List (Option ℕ)) → AreNumbersIn version x → rest ≡ flat_map (number_octets version) x ++ after → IsSpelledSo version octets rest from_numbers → IsSpelledSo version octets after from_taken
+past_numbers version octets rest after x are parts so =
+    past version (AreNumbersIn version) (flat_map (number_octets version)) (one_numbers version) (λ s. s.numbers) from_taken (λ s at form. subst (λ (v : ℕ). AreNumbersIn v s.numbers) at form.numbers)
+    octets rest after x are parts (numbers_in version octets rest so)
 
-pub past_taken : (octets rest after : List ℕ) (x : ℕ) → IsFour x → rest ≡ four x ++ after → IsSpelledSo octets rest from_taken → IsSpelledSo octets after from_heads
-past_taken = past IsFour four one_of_four (λ s. s.taken) from_heads (λ s form. form.taken)
+pub past_taken : (version : ℕ) (octets rest after : List ℕ) (x : ℕ) → IsWide version x → rest ≡ wide version x ++ after → IsSpelledSo version octets rest from_taken → IsSpelledSo version octets after from_heads
+past_taken version octets rest after x are parts so =
+    past version (IsWide version) (wide version) (one_of_wide version) (λ s. s.taken) from_heads (λ s at form. subst (λ (v : ℕ). IsWide v s.taken) at form.taken) octets rest after x are parts (taken_in version octets rest so)
 
-pub past_heads : (octets rest after : List ℕ) (x : ℕ) → IsFour x → rest ≡ four x ++ after → IsSpelledSo octets rest from_heads → IsSpelledSo octets after from_message
-past_heads = past IsFour four one_of_four (λ s. s.heads) from_message (λ s form. form.heads)
+pub past_heads : (version : ℕ) (octets rest after : List ℕ) (x : ℕ) → IsFour x → rest ≡ four x ++ after → IsSpelledSo version octets rest from_heads → IsSpelledSo version octets after from_message
+past_heads version = past version IsFour four one_of_four (λ s. s.heads) from_message (λ s at form. form.heads)
 
-pub no_fields : (octets rest : List ℕ) → BeginsWithNone AreFields fields_octets rest → IsSpelledSo octets rest from_fields → AreNoBody octets
-no_fields = missing AreFields fields_octets (λ s. s.fields) from_numbers (λ s form. form.fields)
+pub no_fields : (version : ℕ) (octets rest : List ℕ) → BeginsWithNone AreFields fields_octets rest → IsSpelledSo version octets rest from_fields → AreNoBody version octets
+no_fields version = missing version AreFields fields_octets (λ s. s.fields) from_numbers (λ s at form. form.fields)
 
-pub no_numbers_follow : (octets rest : List ℕ) → BeginsWithNone AreNumbers (flat_map number_octets) rest → IsSpelledSo octets rest from_numbers → AreNoBody octets
-no_numbers_follow = missing AreNumbers (flat_map number_octets) (λ s. s.numbers) from_taken (λ s form. form.numbers)
+pub no_numbers_follow : (version : ℕ) (octets rest : List ℕ) → BeginsWithNone (AreNumbersIn version) (flat_map (number_octets version)) rest → IsSpelledSo version octets rest from_numbers → AreNoBody version octets
+no_numbers_follow version octets rest none so =
+    missing version (AreNumbersIn version) (flat_map (number_octets version)) (λ s. s.numbers) from_taken (λ s at form. subst (λ (v : ℕ). AreNumbersIn v s.numbers) at form.numbers) octets rest none (numbers_in version octets rest so)
 
-pub no_taken : (octets rest : List ℕ) → BeginsWithNone IsFour four rest → IsSpelledSo octets rest from_taken → AreNoBody octets
-no_taken = missing IsFour four (λ s. s.taken) from_heads (λ s form. form.taken)
+pub no_taken : (version : ℕ) (octets rest : List ℕ) → BeginsWithNone (IsWide version) (wide version) rest → IsSpelledSo version octets rest from_taken → AreNoBody version octets
+no_taken version octets rest none so =
+    missing version (IsWide version) (wide version) (λ s. s.taken) from_heads (λ s at form. subst (λ (v : ℕ). IsWide v s.taken) at form.taken) octets rest none (taken_in version octets rest so)
 
-pub no_heads : (octets rest : List ℕ) → BeginsWithNone IsFour four rest → IsSpelledSo octets rest from_heads → AreNoBody octets
-no_heads = missing IsFour four (λ s. s.heads) from_message (λ s form. form.heads)
+pub no_heads : (version : ℕ) (octets rest : List ℕ) → BeginsWithNone IsFour four rest → IsSpelledSo version octets rest from_heads → AreNoBody version octets
+no_heads version = missing version IsFour four (λ s. s.heads) from_message (λ s at form. form.heads)
 
-pub no_message : (octets rest : List ℕ) → AreNoMessage rest → IsSpelledSo octets rest from_message → AreNoBody octets
-no_message octets rest none so s form e = none s.part s.counter s.flag s.texts form.texts (so s form e)
+pub no_message : (version : ℕ) (octets rest : List ℕ) → AreNoMessage rest → IsSpelledSo version octets rest from_message → AreNoBody version octets
+no_message version octets rest none so s at form e = none s.part s.counter s.flag s.texts form.texts (so s at form e)
 
 -- The parts one after another are the body.
-pub spelled_body : (s : Split) (octets r0 r1 r2 r3 r4 r5 : List ℕ) → octets ≡ s.section ∷ r0 → r0 ≡ phase_octets s.phase ++ r1 → r1 ≡ fields_octets s.fields ++ r2 → r2 ≡ flat_map number_octets s.numbers ++ r3
-    → r3 ≡ four s.taken ++ r4 → r4 ≡ four s.heads ++ r5 → r5 ≡ message_parts s.part s.counter s.flag s.texts → octets ≡ body_octets s
+pub spelled_body : (s : Split) (octets r0 r1 r2 r3 r4 r5 : List ℕ) → octets ≡ s.section ∷ r0 → r0 ≡ phase_octets s.version s.phase ++ r1 → r1 ≡ fields_octets s.fields ++ r2 → r2 ≡ flat_map (number_octets s.version) s.numbers ++ r3
+    → r3 ≡ wide s.version s.taken ++ r4 → r4 ≡ four s.heads ++ r5 → r5 ≡ message_parts s.part s.counter s.flag s.texts → octets ≡ body_octets s
 spelled_body s octets r0 r1 r2 r3 r4 r5 section phase fields numbers taken heads message =
     let from4 : r4 ≡ from_heads s = heads ∙ ap (λ (xs : List ℕ). four s.heads ++ xs) message in
-    let from3 : r3 ≡ from_taken s = taken ∙ ap (λ (xs : List ℕ). four s.taken ++ xs) from4 in
-    let from2 : r2 ≡ from_numbers s = numbers ∙ ap (λ (xs : List ℕ). flat_map number_octets s.numbers ++ xs) from3 in
+    let from3 : r3 ≡ from_taken s = taken ∙ ap (λ (xs : List ℕ). wide s.version s.taken ++ xs) from4 in
+    let from2 : r2 ≡ from_numbers s = numbers ∙ ap (λ (xs : List ℕ). flat_map (number_octets s.version) s.numbers ++ xs) from3 in
     let from1 : r1 ≡ from_fields s = fields ∙ ap (λ (xs : List ℕ). fields_octets s.fields ++ xs) from2 in
-    section ∙ ap (λ (xs : List ℕ). s.section ∷ xs) (phase ∙ ap (λ (xs : List ℕ). phase_octets s.phase ++ xs) from1)
+    section ∙ ap (λ (xs : List ℕ). s.section ∷ xs) (phase ∙ ap (λ (xs : List ℕ). phase_octets s.version s.phase ++ xs) from1)
 
 -- ---- the message
 
@@ -311,17 +337,34 @@ no_message_end octets r1 r2 r3 more p c f texts e1 e2 e3 are parts some q d g ot
 named_body : (n s p f m t h x : List ℕ) → ((((((n ++ s) ++ p) ++ f) ++ m) ++ t) ++ h) ++ x ≡ n ++ (s ++ (p ++ (f ++ (m ++ (t ++ (h ++ x))))))
 named_body n s p f m t h x = simp append_assoc refl
 
-pub whole_ticket : (s : Split) → split_octets s ≡ ticket_name ++ body_octets s
+pub whole_ticket : (s : Split) → split_octets s ≡ ticket_name s.version ++ body_octets s
 whole_ticket s =
-    named_body ticket_name (s.section ∷ []) (phase_octets s.phase) (fields_octets s.fields) (flat_map number_octets s.numbers) (four s.taken) (four s.heads) (message_parts s.part s.counter s.flag s.texts)
+    named_body (ticket_name s.version) (s.section ∷ []) (phase_octets s.version s.phase) (fields_octets s.fields) (flat_map (number_octets s.version) s.numbers) (wide s.version s.taken) (four s.heads)
+    (message_parts s.part s.counter s.flag s.texts)
 
-pub one_body : (s t : Split) → HasForm s → HasForm t → body_octets s ≡ body_octets t → s ≡ t
-one_body s t hs ht e =
+-- the same split, told in another version
+abbrev told_in : ℕ → Split → Split
+told_in version s = record {
+  version = version;
+  section = s.section;
+  phase = s.phase;
+  fields = s.fields;
+  numbers = s.numbers;
+  taken = s.taken;
+  heads = s.heads;
+  part = s.part;
+  counter = s.counter;
+  flag = s.flag;
+  texts = s.texts;
+}
+
+one_body_in : (version : ℕ) (s t : Split) → HasForm (told_in version s) → HasForm (told_in version t) → body_octets (told_in version s) ≡ body_octets (told_in version t) → told_in version s ≡ told_in version t
+one_body_in version s t hs ht e =
     let section : s.section ≡ t.section = first_same e in
-    let phase = one_phase t.section s.phase t.phase _ _ (subst (λ (n : ℕ). IsPhase n s.phase) section hs.phase) ht.phase (rest_same e) in
+    let phase = one_phase version t.section s.phase t.phase _ _ (subst (λ (n : ℕ). IsPhase version n s.phase) section hs.phase) ht.phase (rest_same e) in
     let fields = one_fields s.fields t.fields _ _ hs.fields ht.fields phase.1 in
-    let numbers = one_numbers s.numbers t.numbers _ _ hs.numbers ht.numbers fields.1 in
-    let taken = one_four s.taken t.taken _ _ hs.taken ht.taken numbers.1 in
+    let numbers = one_numbers version s.numbers t.numbers _ _ hs.numbers ht.numbers fields.1 in
+    let taken = one_wide version s.taken t.taken _ _ hs.taken ht.taken numbers.1 in
     let heads = one_four s.heads t.heads _ _ hs.heads ht.heads taken.1 in
     let part : s.part ≡ t.part = first_same heads.1 in
     let counter : s.counter ≡ t.counter = first_same (rest_same heads.1) in
@@ -329,6 +372,7 @@ one_body s t hs ht e =
     let last : flat_map text_octets s.texts ≡ flat_map text_octets t.texts = rest_same (rest_same (rest_same heads.1)) in
     let texts = one_texts s.texts t.texts [] [] hs.texts ht.texts (append-nil (flat_map text_octets s.texts) ∙ last ∙ sym (append-nil (flat_map text_octets t.texts))) in
     λ i. record {
+      version = version;
       section = section i;
       phase = phase.0 i;
       fields = fields.0 i;
@@ -341,20 +385,82 @@ one_body s t hs ht e =
       texts = texts.0 i;
     }
 
-one_name : (a b : List ℕ) → ticket_name ++ a ≡ ticket_name ++ b → a ≡ b
-one_name a b e = rest_same (rest_same (rest_same (rest_same (rest_same e))))
+same_version : (s t : Split) → ticket_name s.version ++ body_octets s ≡ ticket_name t.version ++ body_octets t → s.version ≡ t.version
+same_version s t e = first_same (rest_same (rest_same (rest_same (rest_same e))))
+
+one_name : (m n : ℕ) (a b : List ℕ) → ticket_name m ++ a ≡ ticket_name n ++ b → a ≡ b
+one_name m n a b e = rest_same (rest_same (rest_same (rest_same (rest_same e))))
+
+-- told in the version of the other it is itself
+told_again : (version : ℕ) (s : Split) → s.version ≡ version → told_in version s ≡ s
+told_again version s at = λ i. record {
+  version = sym at i;
+  section = s.section;
+  phase = s.phase;
+  fields = s.fields;
+  numbers = s.numbers;
+  taken = s.taken;
+  heads = s.heads;
+  part = s.part;
+  counter = s.counter;
+  flag = s.flag;
+  texts = s.texts;
+}
 
 -- A ticket has one split.
 pub one_split : TicketsHaveOneSplit
-one_split ticket s t hs ht = one_body s t hs.form ht.form (one_name _ _ (sym (whole_ticket s) ∙ sym hs.spelled ∙ ht.spelled ∙ whole_ticket t))
+one_split ticket s t hs ht =
+    let whole : ticket_name s.version ++ body_octets s ≡ ticket_name t.version ++ body_octets t = sym (whole_ticket s) ∙ sym hs.spelled ∙ ht.spelled ∙ whole_ticket t in
+    let at : s.version ≡ t.version = same_version s t whole in
+    let again : told_in t.version s ≡ s = told_again t.version s at in
+    let body : body_octets s ≡ body_octets t = one_name s.version t.version _ _ whole in
+    sym again ∙ one_body_in t.version s t (subst HasForm (sym again) hs.form) ht.form (ap body_octets again ∙ body)
 
 -- The name and the version before a body make a ticket.
-pub splits : (ticket body : List ℕ) (s : Split) → ticket ≡ ticket_name ++ body → body ≡ body_octets s → HasForm s → SplitsTicket ticket s
-splits ticket body s named parts form = record { form = form; spelled = named ∙ ap (λ (xs : List ℕ). ticket_name ++ xs) parts ∙ sym (whole_ticket s) }
+pub splits : (version : ℕ) (ticket body : List ℕ) (s : Split) → s.version ≡ version → ticket ≡ ticket_name version ++ body → body ≡ body_octets s → HasForm s → SplitsTicket ticket s
+splits version ticket body s at named parts form =
+    record { form = form; spelled = named ∙ ap (λ (v : ℕ). ticket_name v ++ body) (sym at) ∙ ap (λ (xs : List ℕ). ticket_name s.version ++ xs) parts ∙ sym (whole_ticket s) }
 
 -- A ticket whose body has no parts has not the form.
-pub no_splits : (ticket body : List ℕ) → ticket ≡ ticket_name ++ body → AreNoBody body → IsFaultOf ticket Form
-no_splits ticket body named none = (
-  (λ other. other.other (sym (first_same (rest_same (rest_same (rest_same (rest_same (sym named ∙ other.named)))))))),
-  (λ s is. none s is.form (one_name _ _ (sym named ∙ is.spelled ∙ whole_ticket s))),
+pub no_splits : (version : ℕ) (ticket body : List ℕ) → IsVersion version → ticket ≡ ticket_name version ++ body → AreNoBody version body → IsFaultOf ticket Form
+no_splits version ticket body is named none = (
+  (λ other. other.other (subst IsVersion (first_same (rest_same (rest_same (rest_same (rest_same (sym named ∙ other.named)))))) is)),
+  (λ s told.
+      let whole : ticket_name version ++ body ≡ ticket_name s.version ++ body_octets s = sym named ∙ told.spelled ∙ whole_ticket s in
+      none s (sym (first_same (rest_same (rest_same (rest_same (rest_same whole)))))) told.form (one_name version s.version _ _ whole)),
 )
+
+-- ---- what a version has the present one has
+
+wider : (version n : ℕ) → IsVersion version → IsWide version n → IsWide present_version n
+wider version n (inl one) h = let low = subst (λ (v : ℕ). IsWide v n) one h in omega (arith, low)
+wider version n (inr two) h = subst (λ (v : ℕ). IsWide v n) two h
+
+wider_held : (version n : ℕ) → IsVersion version → n < 5 + width version → n < 5 + width present_version
+wider_held version n (inl one) h = let low = subst (λ (v : ℕ). n < 5 + width v) one h in omega (arith, low)
+wider_held version n (inr two) h = subst (λ (v : ℕ). n < 5 + width v) two h
+
+pub wider_phase : (version section : ℕ) (p : Phase) → IsVersion version → IsPhase version section p → IsPhase present_version section p
+wider_phase version section (TagBegun held) is h = wider_held version (length held) is h
+wider_phase version section (DataBegun set count left taken) is h = (wider version count is h.0, h.1, h.2)
+wider_phase version section AllEnded is h = tt
+
+wider_sizes : (version : ℕ) (ns : List (Option ℕ)) → IsVersion version → AllByRecursion (IsSizeIn version) ns → AllByRecursion (IsSizeIn present_version) ns
+wider_sizes version [] is all = tt
+wider_sizes version (None ∷ ns) is all = (tt, wider_sizes version ns is all.1)
+wider_sizes version (Some n ∷ ns) is all = (wider version n is all.0, wider_sizes version ns is all.1)
+
+pub wider_numbers : (version : ℕ) (ns : List (Option ℕ)) → IsVersion version → AreNumbersIn version ns → AreNumbersIn present_version ns
+wider_numbers version ns is are = record { each = wider_sizes version ns is are.each; four = are.four }
+
+-- ---- what is begun is no data
+
+pub no_begun : (version section kind : ℕ) (octets rest : List ℕ) → octets ≡ kind ∷ rest → kind ≡ 1 → BeginsWithNoData version section rest → BeginsWithNone (IsPhase version section) (phase_octets version) octets
+no_begun version section kind octets rest is one none (TagBegun held) more h e = absurd (let bad = first_same (sym is ∙ e) in omega (arith, bad, one))
+no_begun version section kind octets rest is one none (DataBegun set count left taken) more h e =
+    none set count left taken more h (ap (λ (n : ℕ). n ∷ rest) (sym one) ∙ sym is ∙ e)
+no_begun version section kind octets rest is one none AllEnded more h e = absurd (let bad = first_same (sym is ∙ e) in omega (arith, bad, one))
+
+-- four pieces after others
+pub four_pieces : (o a b c d e : List ℕ) → ((((o ++ a) ++ b) ++ c) ++ d) ++ e ≡ o ++ (a ++ (b ++ (c ++ (d ++ e))))
+four_pieces o a b c d e = simp append_assoc refl

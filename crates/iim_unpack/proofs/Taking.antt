@@ -17,7 +17,7 @@ use Rattle.iim_unpack.specs.Plain.{mode_dataset}
 use Rattle.iim_unpack.specs.Format.Possible.{widest}
 use Rattle.iim_unpack.specs.Taking.{CanContinueWithin, TookDatasets}
 use Rattle.iim_unpack.proofs.Limits.{kept_first, kept_octets_append, kept_length_append}
-use Rattle.iim_unpack.proofs.TicketLengths.{all_join, all_weaker}
+use Rattle.iim_unpack.proofs.Bounds.{all_join, all_weaker}
 
 -- ---- datasets that can continue
 

@@ -18,11 +18,12 @@ use Rattle.wire_message.specs.declared.place.Place.{Place as Message}
 use Rattle.wire_message.specs.declared.place.Place.TheVariants as at
 use Rattle.wire_message.specs.declared.saved.MessagePlace.{MessagePlace}
 use Rattle.iim_unpack.specs.Format.Parts.{StandsFor}
-use Rattle.iim_unpack.specs.Format.Tickets.{TagBegun, DataBegun, AllEnded, Place, phase_of, place_of, four, phase_octets, field_octets, fields_octets, number_octets, text_octets, texts_octets, part_number, message_octets, ticket_name, ticket_of}
+use Rattle.iim_unpack.specs.Format.Tickets.{TagBegun, DataBegun, AllEnded, Place, phase_of, place_of, four, wide, present_version, phase_octets, field_octets, fields_octets, number_octets, text_octets, texts_octets, part_number, message_octets, ticket_name, ticket_of}
 use Rattle.iim_dataset.specs.Format.Laws.{EventsTellTheDatasets}
 use Rattle.iim_unpack.specs.Tickets.{IsSpelled}
 use Rattle.iim_unpack.specs.Format.Unpacking.{Unpacking, IsLed, limits_in}
 use Rattle.iim_unpack.specs.Unpacking.{Stood}
+use Rattle.iim_unpack.proofs.Bounds.{is_one}
 use Rattle.iim_unpack.proofs.Tickets.{placed}
 use Rattle.iim_unpack.specs.declared.parts.Parts.{Parts}
 
@@ -59,19 +60,19 @@ fields_length (d ∷ ds) =
     by : (whole first more size both left n k : ℕ) → whole ≡ first + more → first ≡ 6 + size → more ≡ 6 * n + left → both ≡ size + left → k ≡ 1 + n → whole ≡ 6 * k + both
     by whole first more size both left n k a b c d e = omega (arith, a, b, c, d, e)
 
-number_length : (n : Option ℕ) → length (number_octets n) ≤ 5
+number_length : (n : Option ℕ) → length (number_octets present_version n) ≤ 9
 number_length None = omega arith
 number_length (Some n) = omega arith
 
-numbers_length : (a b c d : Option ℕ) → length (flat_map number_octets (a ∷ b ∷ c ∷ d ∷ [])) ≤ 20
+numbers_length : (a b c d : Option ℕ) → length (flat_map (number_octets present_version) (a ∷ b ∷ c ∷ d ∷ [])) ≤ 36
 numbers_length a b c d =
-    let p = length-append (number_octets a) (number_octets b ++ (number_octets c ++ (number_octets d ++ []))) in
-    let q = length-append (number_octets b) (number_octets c ++ (number_octets d ++ [])) in
-    let r = length-append (number_octets c) (number_octets d ++ []) in
-    let s = length-append (number_octets d) [] in
-    by (length (number_octets a)) (length (number_octets b)) (length (number_octets c)) (length (number_octets d)) _ _ _ _ p q r s (number_length a) (number_length b) (number_length c) (number_length d)
+    let p = length-append (number_octets present_version a) (number_octets present_version b ++ (number_octets present_version c ++ (number_octets present_version d ++ []))) in
+    let q = length-append (number_octets present_version b) (number_octets present_version c ++ (number_octets present_version d ++ [])) in
+    let r = length-append (number_octets present_version c) (number_octets present_version d ++ []) in
+    let s = length-append (number_octets present_version d) [] in
+    by (length (number_octets present_version a)) (length (number_octets present_version b)) (length (number_octets present_version c)) (length (number_octets present_version d)) _ _ _ _ p q r s (number_length a) (number_length b) (number_length c) (number_length d)
   where
-    by : (a b c d w x y z : ℕ) → w ≡ a + x → x ≡ b + y → y ≡ c + z → z ≡ d + 0 → a ≤ 5 → b ≤ 5 → c ≤ 5 → d ≤ 5 → w ≤ 20
+    by : (a b c d w x y z : ℕ) → w ≡ a + x → x ≡ b + y → y ≡ c + z → z ≡ d + 0 → a ≤ 9 → b ≤ 9 → c ≤ 9 → d ≤ 9 → w ≤ 36
     by a b c d w x y z p q r s h i j k = omega (arith, p, q, r, s, h, i, j, k)
 
 -- ---- the message
@@ -137,102 +138,41 @@ count_length limit count (x ∷ []) h = absurd h
 count_length limit count (high ∷ low ∷ more) (inl h) = let is = ap length h.2 in omega (arith, is)
 count_length limit count (high ∷ low ∷ more) (inr h) = omega (arith, h.1, h.3)
 
-tag_length : (h : Head) (tag : List ℕ) → SpellsTag count_octets h tag → length tag ≤ 9
-tag_length h tag s = let is = ap length s.parts in let most = count_length count_octets h.count s.count s.is_count in omega (arith, is, most)
+pub tag_length_in : (limit : ℕ) (h : Head) (tag : List ℕ) → SpellsTag limit h tag → length tag ≤ 5 + limit
+tag_length_in limit h tag s = let is = ap length s.parts in let most = count_length limit h.count s.count s.is_count in omega (arith, is, most)
 
-pub held_length : (p : List ℕ) (ds : List Dataset) (held : List ℕ) → Reads count_octets p ds (InTag held) → length held ≤ 8
+tag_length : (h : Head) (tag : List ℕ) → SpellsTag count_octets h tag → length tag ≤ 13
+tag_length h tag s = tag_length_in count_octets h tag s
+
+pub held_length : (p : List ℕ) (ds : List Dataset) (held : List ℕ) → Reads count_octets p ds (InTag held) → length held ≤ 12
 held_length p ds held r =
     let (same, h, tag, spells, (rest, some, is)) = r.is_rest in
     let most = tag_length h tag spells in
     let all = sym (length-append held rest) ∙ ap length is in
     omega (arith, most, all, some)
 
--- A dataset is kept, or a subfile, or short.
-abbrev pub IsOne : Dataset → Type 0
-IsOne d = (is_kept d.rec ≡ true) ⊎ ((d.rec ≡ 8) ⊎ (length d.octets ≤ 4))
-
-most : (low high n : ℕ) (kind : Bool) → (within low high n && kind) ≡ true → n ≤ high
-most low high n kind h = leb-true n high (and_parts (nat_le low n) (nat_le n high) (and_parts (within low high n) kind h).0).1
-
-no_row : (rec set : ℕ) (xs : List ℕ) → row_of rec set ≡ None → Meets rec set xs → ⊥
-no_row rec set xs is h = rw is at h
-
-short_seven : (set : ℕ) (xs : List ℕ) → Meets 7 set xs → length xs ≤ 4
-unfolding row_of table
-short_seven set xs = elim (eqb_tells 10 set) [
-  | inl is ↦ subst (λ (k : ℕ). Meets 7 k xs → length xs ≤ 4) is.1 (λ h. let one = most 1 1 (length xs) _ h in omega (arith, one))
-  | inr not10 ↦ elim (eqb_tells 20 set) [
-    | inl is ↦ subst (λ (k : ℕ). Meets 7 k xs → length xs ≤ 4) is.1 (λ h. most 1 4 (length xs) _ h)
-    | inr not20 ↦ elim (eqb_tells 90 set) [
-      | inl is ↦ subst (λ (k : ℕ). Meets 7 k xs → length xs ≤ 4) is.1 (λ h. most 1 4 (length xs) _ h)
-      | inr not90 ↦ elim (eqb_tells 95 set) [
-        | inl is ↦ subst (λ (k : ℕ). Meets 7 k xs → length xs ≤ 4) is.1 (λ h. most 1 4 (length xs) _ h)
-        | inr not95 ↦ λ h. absurd (no_row 7 set xs (rw (not10.0, not20.0, not90.0, not95.0) refl) h)
-      ]
-    ]
-  ]
-]
-
-short_nine : (set : ℕ) (xs : List ℕ) → Meets 9 set xs → length xs ≤ 4
-unfolding row_of table
-short_nine set xs = elim (eqb_tells 10 set) [
-  | inl is ↦ subst (λ (k : ℕ). Meets 9 k xs → length xs ≤ 4) is.1 (λ h. most 1 4 (length xs) _ h)
-  | inr not10 ↦ λ h. absurd (no_row 9 set xs (rw not10.0 refl) h)
-]
-
-pub all_join : (P : Dataset → Type 0) (xs ys : List Dataset) → AllByRecursion P xs → AllByRecursion P ys → AllByRecursion P (xs ++ ys)
-all_join P [] ys h k = k
-all_join P (x ∷ xs) ys h k = (h.0, all_join P xs ys h.1 k)
-
-pub all_weaker : (P Q : Dataset → Type 0) → ((x : Dataset) → P x → Q x) → (xs : List Dataset) → AllByRecursion P xs → AllByRecursion Q xs
-all_weaker P Q f [] h = tt
-all_weaker P Q f (x ∷ xs) h = (f x h.0, all_weaker P Q f xs h.1)
-
-all_at : (ds : List Dataset) (d : Dataset) (more : List Dataset) → AllByRecursion IsOne ((ds ++ d ∷ []) ++ more) → IsOne d
-all_at [] d more h = h.0
-all_at (x ∷ ds) d more h = all_at ds d more h.1
-
-of_first : (rec : ℕ) → is_kept rec ≡ true → (d : Dataset) → (d.rec ≡ rec) × IsGoodDataset d → IsOne d
-of_first rec yes' d h = inl (ap is_kept h.0 ∙ yes')
-
-of_seven : (d : Dataset) → (d.rec ≡ 7) × IsGoodDataset d → IsOne d
-of_seven d h = inr (inr (short_seven d.set d.octets (subst (λ (r : ℕ). Meets r d.set d.octets) h.0 h.1.meets)))
-
-of_nine : (d : Dataset) → (d.rec ≡ 9) × IsGoodDataset d → IsOne d
-of_nine d h = inr (inr (short_nine d.set d.octets (subst (λ (r : ℕ). Meets r d.set d.octets) h.0 h.1.meets)))
-
-pub all_ones : (ds : List Dataset) → AreSections ds → AllByRecursion IsOne ds
-all_ones ds (r1, from2, one, good1, (r2, from7, two, good2, (r7, from8, seven', good7, (r8, from9, eight, good8, (r9, rest, nine, good9, end))))) =
-    let last : AllByRecursion IsOne rest = subst (AllByRecursion IsOne) (sym end) tt in
-    let a9 : AllByRecursion IsOne from9 = subst (AllByRecursion IsOne) (sym nine) (all_join IsOne r9 rest (all_weaker _ IsOne of_nine r9 good9.each) last) in
-    let a8 : AllByRecursion IsOne from8 = subst (AllByRecursion IsOne) (sym eight) (all_join IsOne r8 from9 (all_weaker _ IsOne (λ d h. inr (inl h.0)) r8 good8.each) a9) in
-    let a7 : AllByRecursion IsOne from7 = subst (AllByRecursion IsOne) (sym seven') (all_join IsOne r7 from8 (all_weaker _ IsOne of_seven r7 good7.each) a8) in
-    let a2 : AllByRecursion IsOne from2 = subst (AllByRecursion IsOne) (sym two) (all_join IsOne r2 from7 (all_weaker _ IsOne (of_first 2 refl) r2 good2.each) a7) in
-    subst (AllByRecursion IsOne) (sym one) (all_join IsOne r1 from2 (all_weaker _ IsOne (of_first 1 refl) r1 good1.each) a2)
-
-is_one : (ds : List Dataset) (h : Head) → SectionsLiveAt ds h → (is_kept h.rec ≡ true) ⊎ ((h.rec ≡ 8) ⊎ (h.count ≤ 4))
-is_one ds h (d, is, alive) =
-    subst (λ (k : Head). (is_kept k.rec ≡ true) ⊎ ((k.rec ≡ 8) ⊎ (k.count ≤ 4))) is (all_at ds d alive.0 (all_ones ((ds ++ d ∷ []) ++ alive.0) alive.1))
-
 -- ---- a ticket
 
 -- all but what is begun and the kept datasets
-rest_length : (p : Place) → length (flat_map number_octets p.numbers) ≤ 20 → length (texts_octets p.message) ≤ 166
-    → length (ticket_of p) ≤ 207 + length (phase_octets p.phase) + (6 * length p.fields + length (joined p.fields))
+rest_length : (p : Place) → length (flat_map (number_octets present_version) p.numbers) ≤ 36 → length (texts_octets p.message) ≤ 166
+    → length (ticket_of p) ≤ 227 + length (phase_octets present_version p.phase) + (6 * length p.fields + length (joined p.fields))
 rest_length p few texts =
-    let all = len8 ticket_name (p.section ∷ []) (phase_octets p.phase) (fields_octets p.fields) (flat_map number_octets p.numbers) (four p.taken) (four p.heads) (message_octets p.message) in
+    let all = len8 (ticket_name present_version) (p.section ∷ []) (phase_octets present_version p.phase) (fields_octets p.fields) (flat_map (number_octets present_version) p.numbers) (wide present_version p.taken) (four p.heads) (message_octets p.message) in
     let message = message_length p.message texts in
     let fields = length-append (four (length p.fields)) (flat_map field_octets p.fields) in
     let each = fields_length p.fields in
-    by _ (length (phase_octets p.phase)) (length (fields_octets p.fields)) (length (flat_map number_octets p.numbers)) (length (message_octets p.message)) _ _ all few message fields each
+    by _ (length (phase_octets present_version p.phase)) (length (fields_octets p.fields)) (length (flat_map (number_octets present_version) p.numbers)) (length (message_octets p.message)) _ _ all few message fields each
   where
-    by : (w phase fields numbers message each kept : ℕ) → w ≡ 5 + 1 + phase + fields + numbers + 4 + 4 + message → numbers ≤ 20 → message ≤ 169 → fields ≡ 4 + each → each ≡ kept → w ≤ 207 + phase + kept
+    by : (w phase fields numbers message each kept : ℕ) → w ≡ 5 + 1 + phase + fields + numbers + 8 + 4 + message → numbers ≤ 36 → message ≤ 169 → fields ≡ 4 + each → each ≡ kept → w ≤ 227 + phase + kept
     by w phase fields numbers message each kept a b c d e = omega (arith, a, b, c, d, e)
 
-data_length : (set count left : ℕ) (taken : List ℕ) → length (phase_octets (DataBegun set count left taken)) ≡ 10 + length taken
-data_length set count left taken = len4 (1 ∷ set ∷ []) (four count) (four left) taken
+data_length : (set count left : ℕ) (taken : List ℕ) → length (phase_octets present_version (DataBegun set count left taken)) ≡ 18 + length taken
+data_length set count left taken =
+    let both = length-append (wide present_version left) taken in
+    let all = length-append (wide present_version count) (wide present_version left ++ taken) in
+    omega (arith, both, all)
 
-tag_begun_length : (b : Bool) (held : List ℕ) → length held ≤ 8 → length (phase_octets (if b then AllEnded else TagBegun held)) ≤ 10
+tag_begun_length : (b : Bool) (held : List ℕ) → length held ≤ 12 → length (phase_octets present_version (if b then AllEnded else TagBegun held)) ≤ 14
 tag_begun_length true held h = omega arith
 tag_begun_length false held h = let is = length-append (0 ∷ length held ∷ []) held in omega (arith, is, h)
 
@@ -245,18 +185,18 @@ none_taken rec taken is = ap (λ (r : ℕ). length (if nat_eq r 8 then [] else t
 
 -- with the kept datasets, what is begun is within the limits and some octets
 begun_length : (parts : Parts) (p : List ℕ) (ds : List Dataset) (b : Begun) → Reads count_octets p ds b → StandsFor parts ds b
-    → length (phase_octets (phase_of ds b)) + (6 * length (kept ds) + length (joined (kept ds))) ≤ 14 + (parts.fields.limits.octets + 6 * parts.fields.limits.fields)
+    → length (phase_octets present_version (phase_of ds b)) + (6 * length (kept ds) + length (joined (kept ds))) ≤ 26 + (parts.fields.limits.octets + 6 * parts.fields.limits.fields)
 begun_length parts p ds (InTag held) reads stands =
     let phase = tag_begun_length (nat_eq (present_record ds) 9) held (held_length p ds held reads) in
-    by (length (phase_octets (phase_of ds (InTag held)))) (length (kept ds)) (length (joined (kept ds))) parts.fields.limits.octets parts.fields.limits.fields phase stands.fields.within.octets_in stands.fields.within.fields_in
+    by (length (phase_octets present_version (phase_of ds (InTag held)))) (length (kept ds)) (length (joined (kept ds))) parts.fields.limits.octets parts.fields.limits.fields phase stands.fields.within.octets_in stands.fields.within.fields_in
   where
-    by : (phase n data_all octets fields : ℕ) → phase ≤ 10 → data_all ≤ octets → n ≤ fields → phase + (6 * n + data_all) ≤ 14 + (octets + 6 * fields)
+    by : (phase n data_all octets fields : ℕ) → phase ≤ 14 → data_all ≤ octets → n ≤ fields → phase + (6 * n + data_all) ≤ 26 + (octets + 6 * fields)
     by phase n data_all octets fields a b c = omega (arith, a, b, c)
 begun_length parts p ds (InData h taken) reads stands =
     let phase = data_length h.set h.count (h.count - length taken) (if nat_eq h.rec 8 then [] else taken) in
     let some = some_taken (nat_eq h.rec 8) taken in
     let less = reads.is_rest.2 in
-    let all = length (phase_octets (phase_of ds (InData h taken))) in
+    let all = length (phase_octets present_version (phase_of ds (InData h taken))) in
     elim (is_one ds h stands.fields.alive) [
       | inl keeps ↦
           let room = stands.fields.within keeps in
@@ -269,10 +209,10 @@ begun_length parts p ds (InData h taken) reads stands =
           stands.fields.others.fields_in
     ]
   where
-    in_kept : (phase some taken count n data_all octets fields : ℕ) → phase ≡ 10 + some → some ≤ taken → taken < count → data_all + count ≤ octets → n + 1 ≤ fields → phase + (6 * n + data_all) ≤ 14 + (octets + 6 * fields)
+    in_kept : (phase some taken count n data_all octets fields : ℕ) → phase ≡ 18 + some → some ≤ taken → taken < count → data_all + count ≤ octets → n + 1 ≤ fields → phase + (6 * n + data_all) ≤ 26 + (octets + 6 * fields)
     in_kept phase some taken count n data_all octets fields a b c d e = omega (arith, a, b, c, d, e)
 
-    in_other : (phase some n data_all octets fields : ℕ) → phase ≡ 10 + some → some ≤ 4 → data_all ≤ octets → n ≤ fields → phase + (6 * n + data_all) ≤ 14 + (octets + 6 * fields)
+    in_other : (phase some n data_all octets fields : ℕ) → phase ≡ 18 + some → some ≤ 8 → data_all ≤ octets → n ≤ fields → phase + (6 * n + data_all) ≤ 26 + (octets + 6 * fields)
     in_other phase some n data_all octets fields a b c d = omega (arith, a, b, c, d)
 
 pub texts_led : (octets text : List ℕ) (m : MessagePlace) → LeadToSaved octets text m → AreShortIn m
@@ -288,9 +228,9 @@ short_led tell u p ticket s led =
     let rest = rest_length (place_of by.whole by.begun by.message) (numbers_length _ _ _ _) (texts_short _ by.text by.message by.leads) in
     let begun = begun_length u.parts p by.whole by.begun by.reads by.stands in
     let is = ap length by.spelled in
-    sums (length ticket) _ (length (phase_octets (phase_of by.whole by.begun))) _ (limits_in u).octets (limits_in u).fields is rest begun
+    sums (length ticket) _ (length (phase_octets present_version (phase_of by.whole by.begun))) _ (limits_in u).octets (limits_in u).fields is rest begun
   where
-    sums : (ticket whole phase kept octets fields : ℕ) → ticket ≡ whole → whole ≤ 207 + phase + kept → phase + kept ≤ 14 + (octets + 6 * fields) → ticket ≤ octets + 6 * fields + 256
+    sums : (ticket whole phase kept octets fields : ℕ) → ticket ≡ whole → whole ≤ 227 + phase + kept → phase + kept ≤ 26 + (octets + 6 * fields) → ticket ≤ octets + 6 * fields + 256
     sums ticket whole phase kept octets fields a b c = omega (arith, a, b, c)
 
 -- Wherever the unpacker stands, its ticket is short.

@@ -11,6 +11,7 @@ pub mod Value
 pub mod Open
 pub mod Tickets
 pub mod Possible
+pub mod Scales
 pub mod TicketForm
 pub mod Restored
 pub mod Blocks

@@ -70,7 +70,7 @@ pub record AreSpellable (fields : List Dataset) (numbers : Numbers) (heads : ℕ
   pub mode : IfSome numbers.mode IsOctet
   pub fit : AllByRecursion IsSize (number_list numbers)
   pub octets : Octets object
-  pub few : length object < 2 ^ 32
+  pub few : length object ≤ greatest_size
   pub room : length object ≤ heads * unwrap_or numbers.largest 0
 
 -- the octets of the object in a begun subfile

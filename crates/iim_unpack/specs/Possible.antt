@@ -3,9 +3,9 @@ use Rattle.std.specs.Prelude.{ℕ, List, [], ◌∷◌}
 use Rattle.iim_unpack.specs.Format.Unpacking.{Unpacking, Stands, limits_in}
 use Rattle.iim_unpack.specs.Format.Open.{IsOpen}
 use Rattle.wire_message.specs.declared.saved.MessagePlace.{MessagePlace}
-use Rattle.iim_unpack.specs.Format.Tickets.{Place, IsPlaceOf, part_number, ticket_of}
-use Rattle.iim_unpack.specs.Format.TicketForm.{Split, SplitsTicket}
-use Rattle.iim_unpack.specs.Format.Possible.{Possible}
+use Rattle.iim_unpack.specs.Format.Tickets.{Place, IsPlaceOf, part_number, ticket_in}
+use Rattle.iim_unpack.specs.Format.TicketForm.{Split, IsVersion, SplitsTicket}
+use Rattle.iim_unpack.specs.Format.Scales.{IsPossibleIn}
 
 -- An unpacker stands by the place alone: on all octets that lead there and are open under its limits, if on some.
 abbrev pub UnpackersStandByPlace : Type 0
@@ -17,9 +17,10 @@ UnpackersStandByPlace = (u : Unpacking) (p q : List ℕ) (a : ℕ) (place : Plac
 abbrev pub texts_of : MessagePlace → List (List ℕ)
 texts_of m = m.source.items ∷ m.number.items ∷ m.priority.items ∷ m.category.items ∷ m.words.items ∷ m.info.items ∷ m.trailer.items ∷ []
 
--- the parts of a place's ticket
-abbrev pub split_of : Place → Split
-split_of p = record {
+-- the parts of a place's ticket in the version
+abbrev pub split_of : ℕ → Place → Split
+split_of version p = record {
+  version = version;
   section = p.section;
   phase = p.phase;
   fields = p.fields;
@@ -32,6 +33,6 @@ split_of p = record {
   texts = texts_of p.message;
 }
 
--- The ticket of a possible place has the form of a ticket, with the parts of the place.
+-- The ticket of a place that is possible in the version has the form of a ticket, with the parts of the place.
 abbrev pub TicketsOfPlacesAreSplit : Type 0
-TicketsOfPlacesAreSplit = (place : Place) → Possible place → SplitsTicket (ticket_of place) (split_of place)
+TicketsOfPlacesAreSplit = (version : ℕ) (place : Place) → IsVersion version → IsPossibleIn version place → SplitsTicket (ticket_in version place) (split_of version place)

@@ -18,7 +18,7 @@ use Rattle.wire_message.specs.declared.place.Place.{Place as Message}
 use Rattle.wire_message.specs.declared.saved.MessagePlace.{MessagePlace}
 use Rattle.iim_unpack.specs.ByLayers.{LeadsByLayers, head_of_numbers, record_datasets, begun_of_object, object_after}
 use Rattle.iim_unpack.specs.Plain.{Numbers}
-use Rattle.iim_unpack.specs.Format.Possible.{AreHeadsWithin, begun_count, begun_fields}
+use Rattle.iim_unpack.specs.Format.Possible.{IsSmallPlace, AreHeadsWithin, begun_count, begun_fields}
 use Rattle.iim_unpack.specs.Possible.{split_of}
 use Rattle.iim_unpack.specs.Taking.{tag_place}
 use Rattle.iim_unpack.specs.Format.TicketForm.{Split}
@@ -84,12 +84,16 @@ place_told s m = record { section = s.section; phase = s.phase; fields = s.field
 
 -- No place of these parts is one where each layer can be.
 abbrev pub LeadsNowhere : Split → Type 0
-LeadsNowhere s = (place : Place) → split_of place ≡ s → LeadsByLayers place → ⊥
+LeadsNowhere s = (place : Place) → split_of s.version place ≡ s → LeadsByLayers place → ⊥
+
+-- None is one where each layer can be by the sizes of the version.
+abbrev pub LeadsNowhereIn : Split → Type 0
+LeadsNowhereIn s = (place : Place) → split_of s.version place ≡ s → LeadsByLayers place → (s.version ≡ 1 → IsSmallPlace place) → ⊥
 
 -- The readers stand where the parts tell, and each layer can be there.
 pub record AreAt (s : Split) (r : Readers) : Type 0 where
   pub place : Place
-  pub parts : split_of place ≡ s
+  pub parts : split_of s.version place ≡ s
   pub leads : LeadsByLayers place
   pub calls : TakesCalls r.tags
   pub tags_are : r.tags.place ≡ tag_place place.section place.phase
@@ -99,6 +103,11 @@ pub record AreAt (s : Split) (r : Readers) : Type 0 where
   pub message_is : MessageStands r.message place
   pub octets_are : r.octets ≡ octets_told place
   pub fields_are : r.fields ≡ fields_told place
+
+-- So they do, by the sizes of the version.
+pub record AreAtIn (s : Split) (r : Readers) : Type 0 where
+  pub at : AreAt s r
+  pub small : s.version ≡ 1 → IsSmallPlace at.place
 
 -- The head may stand after the datasets, within the limits.
 abbrev pub MayBegin : Limits → List Dataset → Head → Type 0

@@ -6,9 +6,10 @@ ghost use Rattle.iim_unpack.specs.ByLayers.{PlacesArePossibleByLayers};
 ghost use Rattle.iim_unpack.specs.Format.Continuing.{OctetsHaveOnePlace, PlacesContinueAlike, PlacesRefuseAlike, RestoredStandAsSaved};
 ghost use Rattle.iim_unpack.specs.LowerLaws.{AnswerLaws, ByLayersLaws, CloseLaws, FeedLaws, HeadLaws, MessageLaws, ObjectLaws, OnwardLaws, OpenLaws, PlaceLaws, SizeLaws};
 ghost use Rattle.iim_unpack.specs.Plain.{ObjectsArePossibleAlike, PlainDatasetsContinueAlike, PlainOctetsAreOpenOrWhole, PlainOctetsLeadToTheirPlace, PossiblePlacesArePlain};
-ghost use Rattle.iim_unpack.specs.Format.Possible.{LimitsAreToldByPlace, TicketsTellOnePlace};
+ghost use Rattle.iim_unpack.specs.Format.Possible.{LimitsAreToldByPlace};
 ghost use Rattle.iim_unpack.specs.Possible.{TicketsOfPlacesAreSplit, UnpackersStandByPlace};
 ghost use Rattle.iim_unpack.specs.Format.Restored.{PossiblePlacesAreTaken};
+ghost use Rattle.iim_unpack.specs.Format.Scales.{PresentScaleSaysNothingMore, SmallPlacesWerePossible, TicketsTellOnePlace};
 ghost use Rattle.iim_unpack.specs.Restoring.{ReadersMakeUnpackers};
 ghost use Rattle.iim_unpack.specs.Format.Streams.{EnvelopesAreBounded, NothingContinuesFromRefusedOctets, RefusalsAreDetermined, RefusedOctetsWereOpen, StreamsHaveOneAnswer};
 ghost use Rattle.iim_unpack.specs.Format.TicketForm.{TicketsHaveOneSplit};
@@ -26,7 +27,7 @@ use iim_fields::laws::{
 };
 use iim_object::laws::{
     datasets_lead_from_place_to_place, datasets_live_with_their_tokens, numbers_live_without_clash,
-    objects_end_where_they_are_whole, readers_tell_sizes, records_are_by_number,
+    objects_end_where_they_are_whole, places_live_within, readers_tell_sizes, records_are_by_number,
     sizes_are_determined, subfiles_live_while_they_fit, totals_are_confirmed,
 };
 use wire_message::MessageReader;
@@ -260,6 +261,7 @@ pub fn tickets_of_places_are_split()
     ensures { TicketsOfPlacesAreSplit }
 {
     answer_laws();
+    small_places_were_possible();
 }
 
 /// A ticket tells one possible place at most.
@@ -267,6 +269,7 @@ pub fn tickets_tell_one_place()
     ensures { TicketsTellOnePlace }
 {
     answer_laws();
+    small_places_were_possible();
 }
 
 /// The ticket of a possible place whose heads are within the limits is refused for memory alone; and of the limits the octets are told
@@ -374,3 +377,17 @@ pub fn unpackers_stand_by_place()
 {
     place_laws();
 }
+
+/// A place was possible by the sizes that were when version 1 was made exactly where it is possible and keeps to these sizes.
+pub fn small_places_were_possible()
+    ensures { SmallPlacesWerePossible }
+{
+    open_laws();
+    places_live_within();
+    limits_are_told_by_place();
+}
+
+/// By the sizes that there are a place is possible exactly where it is possible.
+pub fn the_present_scale_says_nothing_more()
+    ensures { PresentScaleSaysNothingMore }
+{}

@@ -1,11 +1,14 @@
 //! Whether an envelope can be at the place that a ticket tells, and the readers there.
 
-ghost use Rattle.std.specs.Prelude.{◌≡◌, ◌+◌, ◌-◌, cond, length, false, IsTrue, IfSome, IfNone};
+ghost use Rattle.iim_dataset.specs.Format.Tags.{BeginsTag};
+ghost use Rattle.iim_dataset.specs.Format.Datasets.{count_octets};
+ghost use Rattle.iim_fields.specs.Format.Values.{tells_number};
+ghost use Rattle.std.specs.Prelude.{◌≡◌, ◌↔◌, ◌≤◌, true, ◌+◌, ◌-◌, cond, length, false, IsTrue, IfSome, IfNone};
 ghost use Rattle.iim_fields.specs.Format.Faults.{joined};
 ghost use Rattle.iim_fields.specs.Format.Standing.{IsWithin};
-ghost use Rattle.iim_unpack.specs.ByLayers.{begun_subfiles, one_of_some};
-ghost use Rattle.iim_unpack.specs.Format.Possible.{widest, begun_count, begun_fields};
-ghost use Rattle.iim_unpack.specs.Restoring.{AreAt, LeadsNowhere};
+ghost use Rattle.iim_unpack.specs.ByLayers.{begun_subfiles, one_of_some, TagsLead};
+ghost use Rattle.iim_unpack.specs.Format.Possible.{widest, begun_count, begun_fields, count_octets_before, greatest_size_before, IsSmallPhase};
+ghost use Rattle.iim_unpack.specs.Restoring.{AreAt, AreAtIn, LeadsNowhere, LeadsNowhereIn};
 ghost use Rattle.iim_unpack.specs.Format.TicketForm.{HasForm};
 ghost use Rattle.iim_unpack.specs.TicketParts.{phase_told, split_told};
 
@@ -17,7 +20,7 @@ use crate::ticket_fields::TicketFields;
 use crate::ticket_parts::{TicketParts, TicketPhase};
 use iim_dataset::HeadReader;
 use iim_object::ObjectReader;
-use iim_tables::records::{OBJECT, POST_OBJECT};
+use iim_tables::records::{OBJECT, POST_OBJECT, PRE_OBJECT};
 use wire_message::{MessagePart, MessageReader};
 
 /// The readers of a place, but for that of the records, which takes memory.
@@ -85,8 +88,9 @@ fn ends_together(section: u8, part: u8) -> bool
     section != POST_OBJECT || part == part_number(MessagePart::AfterEnd)
 }
 
-/// The readers where the parts of a ticket tell, or None where no octets lead that an envelope can continue from or end with.
-pub(crate) fn readers_at(parts: &TicketParts<'_>) -> Option<Readers>
+/// The readers where the parts of a ticket tell, or None where no octets lead that an envelope can continue from or end with by
+/// the sizes of the present version.
+fn readers_by_layers(parts: &TicketParts<'_>) -> Option<Readers>
     requires { HasForm (split_told parts.now) }
     ensures some { IfSome result (λ r. AreAt (split_told parts.now) r) }
     ensures none { IfNone result (LeadsNowhere (split_told parts.now)) }
@@ -122,4 +126,67 @@ pub(crate) fn readers_at(parts: &TicketParts<'_>) -> Option<Readers>
         octets,
         fields,
     })
+}
+
+/// The most octets of a count or of a size, as they were when version 1 was made.
+const COUNT_OCTETS_BEFORE: u8 = 4;
+
+/// The greatest size of an object at that time.
+const GREATEST_SIZE_BEFORE: u64 = 4_294_967_295;
+
+/// Whether octets that begin a tag begin one whose count has no more octets than counts had.
+fn is_small_tag(held: &[u8]) -> bool
+    requires { BeginsTag count_octets held.now }
+    ensures { IsTrue result ↔ BeginsTag count_octets_before held.now }
+{
+    if held.len() < 5 {
+        return true;
+    }
+    if held[3] != 0x80 {
+        return true;
+    }
+    held[4] <= COUNT_OCTETS_BEFORE
+}
+
+/// Whether begun data of this count, of which `left` octets are to come, were possible by those sizes after `taken` octets of the
+/// object.
+fn is_small_data(section: u8, taken: u64, count: u64, left: u64) -> bool
+    ensures { IsTrue result ↔ ((tells_number section ≡ true → count ≤ count_octets_before)
+        × (section ≡ 8 → (count ≤ greatest_size_before) × (taken + left ≤ greatest_size_before))) }
+{
+    match section {
+        PRE_OBJECT | POST_OBJECT => count <= u64::from(COUNT_OCTETS_BEFORE),
+        OBJECT => {
+            count <= GREATEST_SIZE_BEFORE
+                && left <= GREATEST_SIZE_BEFORE
+                && taken <= GREATEST_SIZE_BEFORE - left
+        }
+        _ => true,
+    }
+}
+
+/// Whether what is begun was possible by those sizes.
+fn is_small(section: u8, taken: u64, phase: &TicketPhase<'_>) -> bool
+    requires { TagsLead section (phase_told phase.now) }
+    ensures { IsTrue result ↔ IsSmallPhase section taken (phase_told phase.now) }
+{
+    match phase {
+        TicketPhase::Tag(held) => is_small_tag(held),
+        TicketPhase::Data { count, left, .. } => is_small_data(section, taken, *count, *left),
+        TicketPhase::Ended => true,
+    }
+}
+
+/// The readers where the parts of a ticket tell, or None where no octets lead that an envelope can continue from or end with by
+/// the sizes of the ticket's version.
+pub(crate) fn readers_at(parts: &TicketParts<'_>) -> Option<Readers>
+    requires { HasForm (split_told parts.now) }
+    ensures some { IfSome result (λ r. AreAtIn (split_told parts.now) r) }
+    ensures none { IfNone result (LeadsNowhereIn (split_told parts.now)) }
+{
+    let readers = readers_by_layers(parts)?;
+    if parts.version == 1 && !is_small(parts.section, parts.taken, &parts.phase) {
+        return None;
+    }
+    Some(readers)
 }

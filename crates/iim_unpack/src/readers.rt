@@ -18,7 +18,7 @@ ghost use Rattle.iim_unpack.specs.Format.Possible.{widest};
 ghost use Rattle.iim_unpack.specs.Taking.{AreKept, IsMessageOf, tag_place, told_datasets};
 ghost use Rattle.iim_unpack.specs.Format.TicketForm.{IsPhase};
 ghost use Rattle.iim_unpack.specs.TicketParts.{phase_told};
-ghost use Rattle.iim_unpack.specs.Format.Tickets.{part_number};
+ghost use Rattle.iim_unpack.specs.Format.Tickets.{part_number, present_version};
 
 use crate::taker::take_told;
 use crate::ticket_fields::TicketFields;
@@ -44,7 +44,7 @@ fn fitted<const ROOM: usize>(octets: &[u8]) -> Option<ArrayVec<u8, ROOM>>
 
 /// The reader of tags where this is begun after a head of the section, or None where no octets lead there.
 pub(crate) fn tags_at(section: u8, phase: &TicketPhase<'_>) -> Option<HeadReader>
-    requires { IsPhase section (phase_told phase.now) }
+    requires { IsPhase present_version section (phase_told phase.now) }
     ensures calls { IfSome result TakesCalls }
     ensures place { IfSome result (λ r. r.place ≡ tag_place section (phase_told phase.now)) }
     ensures leads { IfSome result (λ r. TagsLead section (phase_told phase.now)) }

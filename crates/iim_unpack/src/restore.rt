@@ -7,7 +7,7 @@ ghost use Rattle.iim_fields.specs.Format.Standing.{IsWithin, StandsAfter, Stands
 ghost use Rattle.iim_unpack.specs.Format.Begins.{AreNumbers};
 ghost use Rattle.iim_unpack.specs.ByLayers.{TagsLead, RecordsLive, are_ended};
 ghost use Rattle.iim_unpack.specs.Format.Possible.{begun_count, begun_fields};
-ghost use Rattle.iim_unpack.specs.Restoring.{AreAt, RecordsStand, MayBegin, AreWithinWith, HasFew, IsLimitFault, has_come};
+ghost use Rattle.iim_unpack.specs.Restoring.{AreAtIn, RecordsStand, MayBegin, AreWithinWith, HasFew, IsLimitFault, has_come};
 ghost use Rattle.iim_unpack.specs.Format.Restored.{IsRestored, IsRestoreFault};
 ghost use Rattle.iim_unpack.specs.Taking.{AreKept, told_datasets};
 ghost use Rattle.iim_unpack.specs.Format.TicketForm.{HasForm, SplitsTicket};
@@ -15,8 +15,8 @@ ghost use Rattle.iim_unpack.specs.TicketParts.{phase_told, split_told};
 ghost use Rattle.iim_unpack.specs.Format.Unpacking.{room_in};
 
 use crate::laws::{
-    places_are_possible_by_layers, readers_make_unpackers, tickets_have_one_split,
-    tickets_of_places_are_split,
+    places_are_possible_by_layers, readers_make_unpackers, small_places_were_possible,
+    tickets_have_one_split, tickets_of_places_are_split,
 };
 use crate::parts::Parts;
 use crate::possible::{Readers, readers_at, some_ended};
@@ -131,13 +131,14 @@ fn unpacker_at(
     at: u64,
 ) -> Result<Unpacker, AllocError>
     requires form { HasForm (split_told parts.now) }
-    requires readers { AreAt (split_told parts.now) readers }
+    requires readers { AreAtIn (split_told parts.now) readers }
     requires within { IsWithin limits readers.octets readers.fields }
     ensures restored { IfOk result (λ u. (ticket : List ℕ) → SplitsTicket ticket (split_told parts.now) → IsRestored limits ticket at u) }
     ensures room { IfOk result (λ u. room_in u ≡ room_for limits) }
 {
     readers_make_unpackers();
     places_are_possible_by_layers();
+    small_places_were_possible();
     let fields = records_at(
         alloc,
         limits,
@@ -181,6 +182,7 @@ impl Unpacker {
         ensures fault { IfErr result (IsRestoreFault limits ticket.now) }
     {
         places_are_possible_by_layers();
+        small_places_were_possible();
         tickets_of_places_are_split();
         tickets_have_one_split();
         let parts = split_ticket(ticket)?;

@@ -6,7 +6,7 @@ ghost use Rattle.iim_dataset.specs.Format.Reading.{TakesCalls};
 ghost use Rattle.iim_fields.specs.Format.Standing.{IsFailed};
 ghost use Rattle.iim_object.specs.Format.Places as object_places;
 ghost use Rattle.iim_object.specs.Format.Reading as objects;
-ghost use Rattle.iim_unpack.specs.Format.Tickets.{four, field_octets, fields_octets, number_octets, text_octets, part_number, texts_octets, message_octets, phase_octets, DataBegun, TagBegun};
+ghost use Rattle.iim_unpack.specs.Format.Tickets.{four, wide, present_version, field_octets, fields_octets, number_octets, text_octets, part_number, texts_octets, message_octets, phase_octets, DataBegun, TagBegun};
 ghost use Rattle.iim_unpack.specs.Tickets.{phase_in, left_in, IsSpelled};
 
 use crate::parts::Parts;
@@ -30,7 +30,7 @@ pub enum SaveFault {
 }
 
 /// What each ticket begins with: its name, and the version.
-const NAME: [u8; 5] = [b'I', b'I', b'M', b'T', 1];
+const NAME: [u8; 5] = [b'I', b'I', b'M', b'T', 2];
 
 /// Between datasets, or in a tag.
 pub(crate) const IN_TAG: u8 = 0;
@@ -41,12 +41,19 @@ pub(crate) const IN_DATA: u8 = 1;
 /// The last dataset has ended.
 pub(crate) const ENDED: u8 = 2;
 
-/// Adds a number in four octets, high octet first. No number of a ticket needs more.
+/// Adds a number in four octets, high octet first: none of these needs more.
 fn push_number(ticket: &mut Vec<u8>, number: u64) -> Result<(), AllocError>
     ensures { OnOk result (ticket.new.items ≡ ticket.old.items ++ four number) }
 {
     let octets = number.to_be_bytes();
     ticket.extend_from_slice(&octets[4..])
+}
+
+/// Adds a number in eight octets, high octet first.
+fn push_wide(ticket: &mut Vec<u8>, number: u64) -> Result<(), AllocError>
+    ensures { OnOk result (ticket.new.items ≡ ticket.old.items ++ wide present_version number) }
+{
+    ticket.extend_from_slice(&number.to_be_bytes())
 }
 
 /// Adds a text after its length in one octet.
@@ -61,7 +68,7 @@ fn push_text(ticket: &mut Vec<u8>, text: &[u8]) -> Result<(), AllocError>
 /// Adds the octets of a begun tag.
 fn push_tag(ticket: &mut Vec<u8>, held: &[u8]) -> Result<(), AllocError>
     requires { length held.now < 256 }
-    ensures { OnOk result (ticket.new.items ≡ ticket.old.items ++ phase_octets (TagBegun held.now)) }
+    ensures { OnOk result (ticket.new.items ≡ ticket.old.items ++ phase_octets present_version (TagBegun held.now)) }
 {
     ticket.push(IN_TAG)?;
     push_text(ticket, held)
@@ -69,12 +76,12 @@ fn push_tag(ticket: &mut Vec<u8>, held: &[u8]) -> Result<(), AllocError>
 
 /// Adds begun data: how many octets are to come, and those that came.
 fn push_data(ticket: &mut Vec<u8>, head: Head, left: u64, taken: &[u8]) -> Result<(), AllocError>
-    ensures { OnOk result (ticket.new.items ≡ ticket.old.items ++ phase_octets (DataBegun head.set head.count left taken.now)) }
+    ensures { OnOk result (ticket.new.items ≡ ticket.old.items ++ phase_octets present_version (DataBegun head.set head.count left taken.now)) }
 {
     ticket.push(IN_DATA)?;
     ticket.push(head.set)?;
-    push_number(ticket, head.count)?;
-    push_number(ticket, left)?;
+    push_wide(ticket, head.count)?;
+    push_wide(ticket, left)?;
     ticket.extend_from_slice(taken)
 }
 
@@ -82,7 +89,7 @@ fn push_data(ticket: &mut Vec<u8>, head: Head, left: u64, taken: &[u8]) -> Resul
 fn push_phase(ticket: &mut Vec<u8>, reader: &HeadReader, parts: &Parts) -> Result<(), AllocError>
     requires reader { TakesCalls reader.now }
     requires fields { IsFailed parts.now.fields → ⊥ }
-    ensures { OnOk result (ticket.new.items ≡ ticket.old.items ++ phase_octets (phase_in reader.now.place parts.now)) }
+    ensures { OnOk result (ticket.new.items ≡ ticket.old.items ++ phase_octets present_version (phase_in reader.now.place parts.now)) }
 {
     if parts.has_ended() {
         ticket.push(ENDED)?;
@@ -130,12 +137,12 @@ fn push_fields(ticket: &mut Vec<u8>, fields: &Fields) -> Result<(), AllocError>
 
 /// Adds a number that may be absent.
 fn push_option(ticket: &mut Vec<u8>, number: Option<u64>) -> Result<(), AllocError>
-    ensures { OnOk result (ticket.new.items ≡ ticket.old.items ++ number_octets number) }
+    ensures { OnOk result (ticket.new.items ≡ ticket.old.items ++ number_octets present_version number) }
 {
     match number {
         Some(number) => {
             ticket.push(1)?;
-            push_number(ticket, number)
+            push_wide(ticket, number)
         }
         None => {
             ticket.push(0)?;
@@ -146,7 +153,7 @@ fn push_option(ticket: &mut Vec<u8>, number: Option<u64>) -> Result<(), AllocErr
 
 /// Adds numbers, each of which may be absent.
 fn push_options(ticket: &mut Vec<u8>, numbers: &[Option<u64>]) -> Result<(), AllocError>
-    ensures { OnOk result (ticket.new.items ≡ ticket.old.items ++ flat_map number_octets numbers.now) }
+    ensures { OnOk result (ticket.new.items ≡ ticket.old.items ++ flat_map (number_octets present_version) numbers.now) }
 {
     for number in numbers {
         push_option(ticket, *number)?;
@@ -230,7 +237,7 @@ pub(crate) fn spell_ticket(
     push_phase(&mut ticket, reader, parts)?;
     push_fields(&mut ticket, &parts.fields)?;
     push_options(&mut ticket, &parts.object.numbers())?;
-    push_number(&mut ticket, object_octets(reader, &parts.object))?;
+    push_wide(&mut ticket, object_octets(reader, &parts.object))?;
     push_number(&mut ticket, parts.object.subfiles())?;
     push_message(&mut ticket, &parts.message.place())?;
     Ok(ticket)

@@ -1,15 +1,15 @@
 //! The parts of a ticket, as they stand in it.
 
-ghost use Rattle.std.specs.Prelude.{◌≡◌, ◌++◌, ◌∷◌, map, IfSome, IfNone, IfOk, IfErr};
+ghost use Rattle.std.specs.Prelude.{◌≡◌, ◌+◌, ◌++◌, ◌∷◌, map, IfSome, IfNone, IfOk, IfErr};
 ghost use Rattle.std.specs.List.{flat_map};
-ghost use Rattle.iim_unpack.specs.Format.Tickets.{ticket_name, phase_octets, field_octets, fields_octets, number_octets, text_octets};
+ghost use Rattle.iim_unpack.specs.Format.Tickets.{ticket_name, width, phase_octets, field_octets, fields_octets, number_octets, text_octets};
 ghost use Rattle.iim_unpack.specs.Format.Begins.{IsLongField};
 ghost use Rattle.iim_unpack.specs.Begins.{BeginsWithNone, BeginsWithFewer, FieldsBefore};
-ghost use Rattle.iim_unpack.specs.Format.Begins.{AreFields, AreNumbers, AreTexts};
+ghost use Rattle.iim_unpack.specs.Format.Begins.{AreFields, AreNumbersIn, AreTexts};
 ghost use Rattle.iim_unpack.specs.TicketParts.{IsHeld, IsNameFault, BeginsWithNoData, AreNoMessage, AreNoBody, phase_told, split_told, message_parts, body_octets};
-ghost use Rattle.iim_unpack.specs.Format.TicketForm.{IsPhase, IsFaultOf, HasForm, SplitsTicket};
+ghost use Rattle.iim_unpack.specs.Format.TicketForm.{IsVersion, IsPhase, IsFaultOf, HasForm, SplitsTicket};
 
-use crate::front::{take_field, take_front, take_number, take_octet, take_option, take_text};
+use crate::front::{take_field, take_front, take_number, take_octet, take_option, take_text, take_wide};
 use crate::ticket::{ENDED, IN_DATA, IN_TAG};
 use crate::ticket_fault::TicketFault;
 use crate::ticket_fields::{TicketFields, walk_over};
@@ -17,12 +17,6 @@ use iim_tables::records::OBJECT;
 
 /// What each ticket begins with.
 const NAME: &[u8] = b"IIMT";
-
-/// The version of the tickets that are taken.
-const VERSION: u8 = 1;
-
-/// How many octets of a tag are held at most.
-const MOST_HELD: usize = 8;
 
 /// What is begun where a ticket was made.
 #[derive(Drop)]
@@ -47,6 +41,8 @@ pub enum TicketPhase<'a> {
 /// The parts of a ticket, whether or not some octets lead to such a place.
 #[derive(Drop)]
 pub struct TicketParts<'a> {
+    /// The version.
+    pub version: u8,
     /// The record of the last head.
     pub section: u8,
     /// What is begun.
@@ -78,43 +74,51 @@ struct MessageParts<'a> {
     texts: [&'a [u8]; 7],
 }
 
-/// What follows the name and the version.
-fn after_name(ticket: &[u8]) -> Result<&[u8], TicketFault>
-    ensures named { IfOk result (λ rest. ticket.now ≡ ticket_name ++ rest.now) }
+/// The version, and what follows the name and the version.
+fn after_name(ticket: &[u8]) -> Result<(u8, &[u8]), TicketFault>
+    ensures named { IfOk result (λ r. ticket.now ≡ ticket_name r.0 ++ r.1.now) }
+    ensures version { IfOk result (λ r. IsVersion r.0) }
     ensures fault { IfErr result (λ fault. IsNameFault ticket.now fault) }
 {
     let Some(rest) = ticket.strip_prefix(NAME) else {
         return Err(TicketFault::Form);
     };
     match rest.split_first() {
-        Some((version, rest)) if *version == VERSION => Ok(rest),
+        Some((version, rest)) if *version == 1 || *version == 2 => Ok((*version, rest)),
         Some(_) => Err(TicketFault::Version),
         None => Err(TicketFault::Form),
     }
 }
 
+/// How many octets of a tag are held at most.
+fn most_held(version: u8) -> usize
+    ensures { result + 1 ≡ 5 + width version }
+{
+    if version == 1 { 8 } else { 12 }
+}
+
 /// The octets of a tag that are held, and what follows them.
-fn take_held(octets: &[u8]) -> Option<(&[u8], &[u8])>
+fn take_held(version: u8, octets: &[u8]) -> Option<(&[u8], &[u8])>
     ensures parts { IfSome result (λ r. octets.now ≡ text_octets r.0.now ++ r.1.now) }
-    ensures fits { IfSome result (λ r. IsHeld r.0.now) }
-    ensures none { IfNone result (BeginsWithNone IsHeld text_octets octets.now) }
+    ensures fits { IfSome result (λ r. IsHeld version r.0.now) }
+    ensures none { IfNone result (BeginsWithNone (IsHeld version) text_octets octets.now) }
 {
     let (held, rest) = take_text(octets)?;
-    if held.len() > MOST_HELD {
+    if held.len() > most_held(version) {
         return None;
     }
     Some((held, rest))
 }
 
 /// Begun data, and what follows them.
-fn take_data(section: u8, octets: &[u8]) -> Option<(TicketPhase<'_>, &[u8])>
-    ensures parts { IfSome result (λ r. 1 ∷ octets.now ≡ phase_octets (phase_told r.0) ++ r.1.now) }
-    ensures fits { IfSome result (λ r. IsPhase section (phase_told r.0)) }
-    ensures none { IfNone result (BeginsWithNoData section octets.now) }
+fn take_data(version: u8, section: u8, octets: &[u8]) -> Option<(TicketPhase<'_>, &[u8])>
+    ensures parts { IfSome result (λ r. 1 ∷ octets.now ≡ phase_octets version (phase_told r.0) ++ r.1.now) }
+    ensures fits { IfSome result (λ r. IsPhase version section (phase_told r.0)) }
+    ensures none { IfNone result (BeginsWithNoData version section octets.now) }
 {
     let (set, rest) = take_octet(octets)?;
-    let (count, rest) = take_number(rest)?;
-    let (left, rest) = take_number(rest)?;
+    let (count, rest) = take_wide(version, rest)?;
+    let (left, rest) = take_wide(version, rest)?;
     if left > count {
         return None;
     }
@@ -130,18 +134,18 @@ fn take_data(section: u8, octets: &[u8]) -> Option<(TicketPhase<'_>, &[u8])>
 }
 
 /// What is begun, and what follows it.
-fn take_phase(section: u8, octets: &[u8]) -> Option<(TicketPhase<'_>, &[u8])>
-    ensures parts { IfSome result (λ r. octets.now ≡ phase_octets (phase_told r.0) ++ r.1.now) }
-    ensures fits { IfSome result (λ r. IsPhase section (phase_told r.0)) }
-    ensures none { IfNone result (BeginsWithNone (IsPhase section) phase_octets octets.now) }
+fn take_phase(version: u8, section: u8, octets: &[u8]) -> Option<(TicketPhase<'_>, &[u8])>
+    ensures parts { IfSome result (λ r. octets.now ≡ phase_octets version (phase_told r.0) ++ r.1.now) }
+    ensures fits { IfSome result (λ r. IsPhase version section (phase_told r.0)) }
+    ensures none { IfNone result (BeginsWithNone (IsPhase version section) (phase_octets version) octets.now) }
 {
     let (kind, rest) = take_octet(octets)?;
     match kind {
         IN_TAG => {
-            let (held, rest) = take_held(rest)?;
+            let (held, rest) = take_held(version, rest)?;
             Some((TicketPhase::Tag(held), rest))
         }
-        IN_DATA => take_data(section, rest),
+        IN_DATA => take_data(version, section, rest),
         ENDED => Some((TicketPhase::Ended, rest)),
         _ => None,
     }
@@ -172,15 +176,15 @@ fn take_fields(octets: &[u8]) -> Option<(TicketFields<'_>, &[u8])>
 }
 
 /// The numbers of record 7, and what follows them.
-fn take_numbers(octets: &[u8]) -> Option<([Option<u64>; 4], &[u8])>
-    ensures parts { IfSome result (λ r. octets.now ≡ flat_map number_octets r.0 ++ r.1.now) }
-    ensures fits { IfSome result (λ r. AreNumbers r.0) }
-    ensures none { IfNone result (BeginsWithNone AreNumbers (flat_map number_octets) octets.now) }
+fn take_numbers(version: u8, octets: &[u8]) -> Option<([Option<u64>; 4], &[u8])>
+    ensures parts { IfSome result (λ r. octets.now ≡ flat_map (number_octets version) r.0 ++ r.1.now) }
+    ensures fits { IfSome result (λ r. AreNumbersIn version r.0) }
+    ensures none { IfNone result (BeginsWithNone (AreNumbersIn version) (flat_map (number_octets version)) octets.now) }
 {
-    let (mode, rest) = take_option(octets)?;
-    let (limit, rest) = take_option(rest)?;
-    let (announced, rest) = take_option(rest)?;
-    let (maximum, rest) = take_option(rest)?;
+    let (mode, rest) = take_option(version, octets)?;
+    let (limit, rest) = take_option(version, rest)?;
+    let (announced, rest) = take_option(version, rest)?;
+    let (maximum, rest) = take_option(version, rest)?;
     Some(([mode, limit, announced, maximum], rest))
 }
 
@@ -223,19 +227,22 @@ fn read_message(octets: &[u8]) -> Option<MessageParts<'_>>
 }
 
 /// What follows the name and the version of a ticket.
-fn read_body(octets: &[u8]) -> Option<TicketParts<'_>>
+fn read_body(version: u8, octets: &[u8]) -> Option<TicketParts<'_>>
+    requires { IsVersion version }
+    ensures version { IfSome result (λ parts. (split_told parts).version ≡ version) }
     ensures parts { IfSome result (λ parts. octets.now ≡ body_octets (split_told parts)) }
     ensures fits { IfSome result (λ parts. HasForm (split_told parts)) }
-    ensures none { IfNone result (AreNoBody octets.now) }
+    ensures none { IfNone result (AreNoBody version octets.now) }
 {
     let (section, rest) = take_octet(octets)?;
-    let (phase, rest) = take_phase(section, rest)?;
+    let (phase, rest) = take_phase(version, section, rest)?;
     let (fields, rest) = take_fields(rest)?;
-    let (numbers, rest) = take_numbers(rest)?;
-    let (taken, rest) = take_number(rest)?;
+    let (numbers, rest) = take_numbers(version, rest)?;
+    let (taken, rest) = take_wide(version, rest)?;
     let (heads, rest) = take_number(rest)?;
     let message = read_message(rest)?;
     Some(TicketParts {
+        version,
         section,
         phase,
         fields,
@@ -252,13 +259,13 @@ fn read_body(octets: &[u8]) -> Option<TicketParts<'_>>
 /// Takes a ticket's octets apart. Whether some octets lead to the place that they tell is not asked, and no memory is taken.
 /// Octets that begin with a ticket's name and another version are refused by [`TicketFault::Version`], and all others that have
 /// not the form of a ticket by [`TicketFault::Form`]: a part cut short or octets left over; what is begun other than 0, 1 or 2;
-/// more than 8 octets of a tag; more octets of data to come than their count; and a number of record 7 marked other than by 0 or 1.
+/// more octets of a tag than the version has room for; more octets of data to come than their count; and a number of record 7 marked other than by 0 or 1.
 pub fn split_ticket(ticket: &[u8]) -> Result<TicketParts<'_>, TicketFault>
     ensures parts { IfOk result (λ parts. SplitsTicket ticket.now (split_told parts)) }
     ensures fault { IfErr result (λ fault. IsFaultOf ticket.now fault) }
 {
-    let body = after_name(ticket)?;
-    match read_body(body) {
+    let (version, body) = after_name(ticket)?;
+    match read_body(version, body) {
         Some(parts) => Ok(parts),
         None => Err(TicketFault::Form),
     }

@@ -7,6 +7,7 @@ use Rattle.iim_fields.specs.Format.Views.{first_data}
 use Rattle.wire_story.specs.Format.Words.{words, capped}
 use Rattle.iim_unpack.specs.Format.Admitted.{Value}
 use Rattle.iim_audit.specs.Format.Ages.{age_at}
+use Rattle.iim_audit.specs.Format.Copies.{copy_at}
 use Rattle.iim_audit.specs.declared.row.AuditRow.{AuditRow}
 
 -- what an envelope is known by: 1:30 Service Identifier, 1:40 Envelope Number and 1:70 Date Sent
@@ -46,6 +47,7 @@ row_with now v first = record {
   counted = counted_words v;
   age = age_at now v.fields;
   first = first;
+  copy = copy_at now v.fields;
 }
 
 -- the row of an envelope after those: all of them are looked through for its id

@@ -1,8 +1,10 @@
 -- The text of a report.
-use Rattle.std.specs.Prelude.{ℕ, ◌+◌, ℤ, List, [], ◌∷◌, ◌++◌, length, count_by, codes, decimal, Option, Some, None, is_some}
+use Rattle.std.specs.Prelude.{ℕ, ◌+◌, ℤ, Bool, true, false, List, [], ◌∷◌, ◌++◌, length, count_by, codes, decimal, Option, Some, None, is_some}
 use Rattle.std.specs.Fmt.{signed_decimal}
 use Rattle.std.specs.Option.{unwrap_or}
 use Rattle.iim_dataset.specs.Format.Shown.{shown}
+use Rattle.iim_audit.specs.declared.copy.CopyState.{CopyState}
+use Rattle.iim_audit.specs.declared.copy.CopyState.TheVariants.{Held, Expired, Free}
 use Rattle.iim_audit.specs.declared.row.AuditRow.{AuditRow}
 
 -- a digit, or `-` where there is none
@@ -27,9 +29,15 @@ known_by number row = decimal number ++ (codes " " ++ (shown row.id.service ++ (
 abbrev pub sizes_of : AuditRow → List ℕ
 sizes_of row = codes " size " ++ (decimal row.size ++ (codes " subfiles " ++ (decimal row.subfiles ++ (codes " words " ++ (decimal row.announced ++ (codes "/" ++ decimal row.counted))))))
 
--- the age, and the first envelope with the same id
+abbrev pub copy_word : CopyState → List ℕ
+copy_word Held = codes "held"
+copy_word Expired = codes "expired"
+copy_word Free = codes "free"
+
+-- the age, the first envelope with the same id, and whether the copy may be used
 abbrev pub ages_of : AuditRow → List ℕ
-ages_of row = codes " age " ++ (seconds_or_dash row.age ++ (codes " repeats " ++ (number_or_dash row.first ++ codes "\n")))
+ages_of row =
+    codes " age " ++ (seconds_or_dash row.age ++ (codes " repeats " ++ (number_or_dash row.first ++ (codes " copy " ++ (copy_word row.copy ++ codes "\n")))))
 
 -- the line of a row
 abbrev pub row_line : ℕ → AuditRow → List ℕ
@@ -44,9 +52,18 @@ lines_from n (row ∷ rows) = row_line n row ++ lines_from (n + 1) rows
 abbrev pub repeated_rows : List AuditRow → ℕ
 repeated_rows rows = count_by (λ row. is_some row.first) rows
 
+abbrev pub is_held : CopyState → Bool
+is_held Held = true
+is_held Expired = false
+is_held Free = false
+
+-- how many rows are of copy that is held
+abbrev pub held_rows : List AuditRow → ℕ
+held_rows rows = count_by (λ row. is_held row.copy) rows
+
 -- the last line
 abbrev pub sums_line : List AuditRow → List ℕ
-sums_line rows = decimal (length rows) ++ (codes " envelopes, " ++ (decimal (repeated_rows rows) ++ codes " repeated\n"))
+sums_line rows = decimal (length rows) ++ (codes " envelopes, " ++ (decimal (repeated_rows rows) ++ (codes " repeated, " ++ (decimal (held_rows rows) ++ codes " held\n"))))
 
 -- what is printed of a report
 abbrev pub printed_report : List AuditRow → List ℕ

@@ -1,11 +1,12 @@
 -- What `pack` leaves of its input, its output and its errors.
-use Rattle.std.specs.Prelude.{◌≡◌, ◌≢◌, ℕ, ◌+◌, ◌<◌, ◌≤◌, ◌⊎◌, Bool, true, false, List, ◌++◌, length, codes, decimal, Option, Some}
+use Rattle.std.specs.Prelude.{◌≡◌, ◌≢◌, ℕ, min, ◌+◌, ◌<◌, ◌≤◌, ◌⊎◌, Bool, true, false, List, ◌++◌, length, codes, decimal, Option, Some}
 use Rattle.std.specs.Io.KnownBytes.{IsAtEnd}
 use Rattle.iim_dataset.specs.Format.Octets.{greatest_size}
 use Rattle.iim_dataset.specs.Format.Datasets.{Dataset}
 use Rattle.iim_dataset.specs.Format.Devices.{Device, Wrote}
 use Rattle.iim_dataset.specs.Format.DeviceLaws.{BrokeAfter, HasGiven, MissedAfter}
 use Rattle.iim_dataset.specs.declared.device.IoFault.{IoFault}
+use Rattle.iim_object.specs.Format.Plans.{most_in}
 use Rattle.iim_object.specs.Format.Writing.{Begins}
 use Rattle.iim_object.specs.declared.plan.Plan.{Plan}
 use Rattle.iim_object.specs.declared.size.Size.{Size}
@@ -44,6 +45,10 @@ abbrev pub most_asked : Bool → Option ℕ → ℕ
 most_asked true (Some most) = most
 most_asked unknown max = greatest_size
 
+-- and no more than the subfiles hold that there may be
+abbrev pub most_for : Asked → ℕ
+most_for a = min (most_asked a.unknown a.max) (most_in a.subfile)
+
 -- The plan is the one that is asked for, of this object.
 pub record IsPlanOf (a : Asked) (object : List ℕ) (plan : Plan) : Type 0 where
   pub subfile_is : plan.subfile ≡ a.subfile
@@ -64,11 +69,11 @@ object_of t = canonical t.head t.lines t.trailer
 
 -- The object has no more octets than are asked for.
 abbrev pub FitsAsked : Asked → ScriptContent → Type 0
-FitsAsked a t = length (object_of t) ≤ most_asked a.unknown a.max
+FitsAsked a t = length (object_of t) ≤ most_for a
 
 -- It has more.
 abbrev pub IsPast : Asked → ScriptContent → Type 0
-IsPast a t = most_asked a.unknown a.max < length (object_of t)
+IsPast a t = most_for a < length (object_of t)
 
 -- The octets are a script, within the program's limits, that tells this.
 abbrev pub IsScriptOf : List ℕ → ScriptContent → Type 0

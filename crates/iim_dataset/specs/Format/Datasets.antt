@@ -1,5 +1,5 @@
 -- Datasets, and how octets spell them (IIM version 4, the chapter on DataSets).
-use Rattle.std.specs.Prelude.{◌≡◌, ℕ, ◌<◌, ◌≤◌, nat_lt, ◌⊎◌, if◌then◌else◌, List, [], ◌∷◌, ◌++◌, length, flat_map, ◌==◌}
+use Rattle.std.specs.Prelude.{◌≡◌, ℕ, ◌+◌, ◌^◌, ◌<◌, ◌≤◌, nat_lt, ◌⊎◌, if◌then◌else◌, List, [], ◌∷◌, ◌++◌, length, flat_map, ◌==◌}
 use Rattle.byteorder.specs.Endian.{big_bytes}
 use Rattle.iim_dataset.specs.Format.Octets.{IsOctet, Octets, number}
 use Rattle.iim_dataset.specs.declared.head.Head.{Head}
@@ -17,7 +17,11 @@ head_of d = record { rec = d.rec; set = d.set; count = length d.octets }
 
 -- the most octets of an extended count after its first two (the profile's)
 abbrev pub count_octets : ℕ
-count_octets = 4
+count_octets = 8
+
+-- the most octets of a tag: its first five, and those of an extended count
+abbrev pub tag_octets : ℕ
+tag_octets = 5 + count_octets
 
 -- The standard form of a count: two octets, of which the first is below 80h.
 abbrev pub IsStandardCount : ℕ → ℕ → ℕ → List ℕ → Type 0
@@ -57,9 +61,12 @@ SpellsStream limit (d ∷ ds) xs = (first : List ℕ) × (rest : List ℕ)
 
 -- ---- how a writer spells
 
--- the canonical spelling of a count: two octets up to 32,767, above that an extended count of four
+-- the canonical spelling of a count: two octets up to 32,767, above that an extended count of four up to 4,294,967,295, and of eight above
 abbrev pub canonical_count : ℕ → List ℕ
-canonical_count n = if nat_lt n 32768 then big_bytes 2 n else 128 ∷ 4 ∷ big_bytes 4 n
+canonical_count n =
+    if nat_lt n 32768 then big_bytes 2 n
+    else if nat_lt n (2 ^ 32) then 128 ∷ 4 ∷ big_bytes 4 n
+    else 128 ∷ 8 ∷ big_bytes 8 n
 
 abbrev pub canonical_tag : Head → List ℕ
 canonical_tag h = 28 ∷ h.rec ∷ h.set ∷ canonical_count h.count

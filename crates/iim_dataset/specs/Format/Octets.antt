@@ -20,7 +20,7 @@ IsProperPrefix xs ys = (rest : List ℕ) × (0 < length rest) × (xs ++ rest ≡
 
 -- the greatest size of an object, in octets, and so the greatest count (the profile's)
 abbrev pub greatest_size : ℕ
-greatest_size = 4_294_967_295
+greatest_size = 9_223_372_036_854_775_807
 
 -- b is one of low to high
 abbrev pub within : ℕ → ℕ → ℕ → Bool

@@ -1,9 +1,8 @@
 -- What a packer writes of an object by a plan: record 7, the subfiles and record 9.
-use Rattle.std.specs.Prelude.{◌≡◌, ℕ, ◌≤◌, Bool, true, false, IsTrue, List, [], ◌∷◌, ◌++◌, length, map, Option, Some, None}
+use Rattle.std.specs.Prelude.{◌≡◌, ℕ, ◌^◌, ◌≤◌, nat_lt, if◌then◌else◌, Bool, true, false, IsTrue, List, [], ◌∷◌, ◌++◌, length, map, Option, Some, None}
 use Rattle.byteorder.specs.Endian.{big_bytes}
 use Rattle.iim_dataset.specs.Format.Octets.{Octets}
 use Rattle.iim_dataset.specs.Format.Datasets.{Dataset, canonical_stream}
-use Rattle.iim_tables.specs.Format.Numbers.{size_octets}
 use Rattle.iim_object.specs.Format.Sizes.{mode_number}
 use Rattle.iim_object.specs.Format.Plans.{is_plan, bound_of, max_subfiles}
 use Rattle.iim_object.specs.Format.Records.{HaveSizes}
@@ -12,9 +11,13 @@ use Rattle.iim_object.specs.declared.size.Size.{Size}
 use Rattle.iim_object.specs.declared.size.Size.TheVariants.{Known, Unknown}
 use Rattle.iim_object.specs.declared.size.Sizes.{Sizes}
 
--- a dataset whose value is this number, in as many octets as a size may have
+-- how a writer spells a size: in four octets up to 4,294,967,295, in eight above
+abbrev pub size_text : ℕ → List ℕ
+size_text n = if nat_lt n (2 ^ 32) then big_bytes 4 n else big_bytes 8 n
+
+-- a dataset whose value is this number
 abbrev pub number_dataset : ℕ → ℕ → ℕ → Dataset
-number_dataset rec set n = record { rec = rec; set = set; octets = big_bytes size_octets n }
+number_dataset rec set n = record { rec = rec; set = set; octets = size_text n }
 
 abbrev pub is_known : Size → Bool
 is_known (Known n) = true

@@ -1,5 +1,5 @@
 -- What holds of all packed octets.
-use Rattle.std.specs.Prelude.{◌≡◌, ℕ, ◌^◌, ◌<◌, ◌≤◌, List, ◌++◌, length}
+use Rattle.std.specs.Prelude.{◌≡◌, ℕ, ◌+◌, ◌^◌, ◌<◌, ◌≤◌, List, ◌++◌, length}
 use Rattle.iim_dataset.specs.Format.Datasets.{Dataset, SpellsStream, count_octets, of_record}
 use Rattle.iim_fields.specs.Format.Records.{AreSections}
 use Rattle.iim_fields.specs.Format.Builders.{AreFew}
@@ -42,7 +42,7 @@ abbrev pub PackedSubfilesAreFew : Type 0
 PackedSubfilesAreFew = (fields : List Dataset) (head : Header) (lines : List (List ℕ)) (trailer : List ℕ) (plan : Plan) (octets : List ℕ)
     → (p : Packed fields head lines trailer plan octets) → length p.written.parts ≤ max_subfiles
 
--- A packed form of no more fields than limits can allow has fewer than 2 ^ 40 octets.
+-- A packed form of no more fields than limits can allow has fewer than 2 ^ 63 + 2 ^ 40 octets.
 abbrev pub PackedOctetsAreFew : Type 0
 PackedOctetsAreFew = (fields : List Dataset) (head : Header) (lines : List (List ℕ)) (trailer : List ℕ) (plan : Plan) (octets : List ℕ)
-    → Packed fields head lines trailer plan octets → AreFew fields → length octets < 2 ^ 40
+    → Packed fields head lines trailer plan octets → AreFew fields → length octets < 2 ^ 63 + 2 ^ 40

@@ -45,6 +45,10 @@ table =
     ∷ entry 2 20 0 32 Spaced Optional true  -- Supplemental Category
     ∷ entry 2 22 0 32 Graphic Optional false  -- Fixture Identifier
     ∷ entry 2 25 0 64 Spaced Optional true  -- Keywords
+    ∷ entry 2 30 8 8 Date Optional false  -- Release Date
+    ∷ entry 2 35 11 11 Time Optional false  -- Release Time
+    ∷ entry 2 37 8 8 Date Optional false  -- Expiration Date
+    ∷ entry 2 38 11 11 Time Optional false  -- Expiration Time
     ∷ entry 2 40 0 256 SpacedLines Optional false  -- Special Instructions
     ∷ entry 2 55 8 8 PartDate Optional false  -- Date Created
     ∷ entry 2 60 11 11 Time Optional false  -- Time Created

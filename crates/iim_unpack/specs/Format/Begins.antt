@@ -2,15 +2,24 @@
 use Rattle.std.specs.Prelude.{◌≡◌, ℕ, ◌^◌, ◌<◌, List, length, Option, Some, None, ⊤}
 use Rattle.std.specs.List.{AllByRecursion}
 use Rattle.iim_dataset.specs.Format.Datasets.{Dataset}
+use Rattle.iim_unpack.specs.Format.Tickets.{width, present_version}
 
 -- a dataset whose length four octets tell
 abbrev pub IsLongField : Dataset → Type 0
 IsLongField d = length d.octets < 2 ^ 32
 
+-- a number that the octets of the version tell
+abbrev pub IsWide : ℕ → ℕ → Type 0
+IsWide version n = n < 256 ^ width version
+
 -- one that may be absent
+abbrev pub IsSizeIn : ℕ → Option ℕ → Type 0
+IsSizeIn version None = ⊤
+IsSizeIn version (Some n) = IsWide version n
+
+-- one that the octets of the present version tell
 abbrev pub IsSize : Option ℕ → Type 0
-IsSize None = ⊤
-IsSize (Some n) = n < 2 ^ 32
+IsSize o = IsSizeIn present_version o
 
 -- a text whose length one octet tells
 abbrev pub IsShort : List ℕ → Type 0
@@ -26,9 +35,12 @@ pub record AreFields (ds : List Dataset) : Type 0 where
   pub few : length ds < 2 ^ 32
 
 -- the numbers of 7:10, 7:20, 7:90 and 7:95
-pub record AreNumbers (numbers : List (Option ℕ)) : Type 0 where
-  pub each : AllByRecursion IsSize numbers
+pub record AreNumbersIn (version : ℕ) (numbers : List (Option ℕ)) : Type 0 where
+  pub each : AllByRecursion (IsSizeIn version) numbers
   pub four : length numbers ≡ 4
+
+abbrev pub AreNumbers : List (Option ℕ) → Type 0
+AreNumbers numbers = AreNumbersIn present_version numbers
 
 -- source, number, priority, category, words, info and trailer
 pub record AreTexts (texts : List (List ℕ)) : Type 0 where

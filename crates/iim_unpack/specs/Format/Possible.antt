@@ -1,12 +1,15 @@
 -- Places at which an envelope can be, and the limits that they keep.
-use Rattle.std.specs.Prelude.{◌≡◌, ◌↔◌, ℕ, ◌+◌, ◌^◌, ◌-◌, ◌⊎◌, if◌then◌else◌, List, length}
+use Rattle.std.specs.Prelude.{◌≡◌, ◌↔◌, ℕ, ◌+◌, ◌^◌, ◌-◌, ◌⊎◌, ◌≤◌, true, ⊤, Option, None, Some, if◌then◌else◌, List, length}
 use Rattle.iim_fields.specs.Format.Faults.{is_kept, joined}
 use Rattle.iim_fields.specs.Format.Standing.{IsWithin}
 use Rattle.iim_fields.specs.declared.limits.Limits.{Limits}
 use Rattle.iim_unpack.specs.Format.Admitted.{Value}
 use Rattle.iim_unpack.specs.Format.Open.{IsOpen}
 use Rattle.iim_unpack.specs.Format.Streams.{IsEnvelopeWithin}
-use Rattle.iim_unpack.specs.Format.Tickets.{Place, Phase, TagBegun, DataBegun, AllEnded, IsPlaceOf, ticket_of}
+use Rattle.iim_unpack.specs.Format.Tickets.{Place, Phase, TagBegun, DataBegun, AllEnded, IsPlaceOf}
+use Rattle.iim_dataset.specs.Format.Tags.{BeginsTag}
+use Rattle.iim_fields.specs.Format.Values.{tells_number}
+use Rattle.std.specs.List.{AllByRecursion}
 
 -- the widest limits: 4,294,967,295 octets and as many fields
 abbrev pub widest : Limits
@@ -22,9 +25,30 @@ pub record Possible (place : Place) : Type 0 where
   pub leads : IsPlaceOf octets place
   pub comes : AreOpenOrWhole widest octets
 
--- Possible places with one ticket are one.
-abbrev pub TicketsTellOnePlace : Type 0
-TicketsTellOnePlace = (p q : Place) → Possible p → Possible q → ticket_of p ≡ ticket_of q → p ≡ q
+-- ---- sizes as they were when version 1 was made: counts of at most four octets, and objects of at most 4,294,967,295
+
+abbrev pub count_octets_before : ℕ
+count_octets_before = 4
+
+abbrev pub greatest_size_before : ℕ
+greatest_size_before = 4_294_967_295
+
+abbrev pub IsSmall : Option ℕ → Type 0
+IsSmall None = ⊤
+IsSmall (Some n) = n ≤ greatest_size_before
+
+-- What is begun was possible then: a tag; a value of record 7 or 9, whose row had such a count; a subfile, with which the object was no
+-- larger. The rows of records 1 and 2 were the same.
+abbrev pub IsSmallPhase : (section taken : ℕ) → Phase → Type 0
+IsSmallPhase section taken (TagBegun held) = BeginsTag count_octets_before held
+IsSmallPhase section taken (DataBegun set count left given) = (tells_number section ≡ true → count ≤ count_octets_before) × (section ≡ 8 → (count ≤ greatest_size_before) × (taken + left ≤ greatest_size_before))
+IsSmallPhase section taken AllEnded = ⊤
+
+-- The place keeps to the sizes of that time.
+pub record IsSmallPlace (place : Place) : Type 0 where
+  pub numbers : AllByRecursion IsSmall place.numbers
+  pub taken : place.taken ≤ greatest_size_before
+  pub begun : IsSmallPhase place.section place.taken place.phase
 
 -- ---- limits
 

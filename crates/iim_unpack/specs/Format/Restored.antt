@@ -3,19 +3,22 @@ use Rattle.std.specs.Prelude.{◌≡◌, ℕ, ◌+◌, ◌<◌, ◌≤◌, ◌�
 use Rattle.iim_fields.specs.Format.Faults.{joined}
 use Rattle.iim_fields.specs.declared.limits.Limits.{Limits}
 use Rattle.iim_unpack.specs.Format.Admitted.{Value}
-use Rattle.iim_unpack.specs.Format.Possible.{Possible, AreHeadsWithin, begun_count, begun_fields}
+use Rattle.iim_unpack.specs.Format.Scales.{IsPossibleIn}
+use Rattle.iim_unpack.specs.Format.Possible.{AreHeadsWithin, begun_count, begun_fields}
 use Rattle.iim_unpack.specs.Format.Streams.{IsEnvelopeWithin}
-use Rattle.iim_unpack.specs.Format.TicketForm.{Split, SplitsTicket, IsFaultOf}
-use Rattle.iim_unpack.specs.Format.Tickets.{Place, IsPlaceOf, ticket_of}
+use Rattle.iim_unpack.specs.Format.TicketForm.{Split, IsVersion, SplitsTicket, IsFaultOf}
+use Rattle.iim_unpack.specs.Format.Tickets.{Place, IsPlaceOf, ticket_in}
 use Rattle.iim_unpack.specs.Format.Unpacking.{Unpacking, Stands, IsDoneWith, limits_in}
 use Rattle.iim_unpack.specs.Format.Open.{IsOpen}
 use Rattle.iim_unpack.specs.declared.ticket_fault.TicketFault.{TicketFault}
 use Rattle.iim_unpack.specs.declared.ticket_fault.TicketFault.TheVariants.{Form, Version, Impossible, HeaderFull, TooManyFields, OutOfMemory}
 
--- The octets are the ticket of this place, which is possible.
+-- The octets are the ticket of this place in a version in which it is possible.
 pub record IsTicketAt (ticket : List ℕ) (place : Place) : Type 0 where
-  pub possible : Possible place
-  pub spelled : ticket ≡ ticket_of place
+  pub version : ℕ
+  pub is_version : IsVersion version
+  pub possible : IsPossibleIn version place
+  pub spelled : ticket ≡ ticket_in version place
 
 -- The octets are the ticket of a possible place, whose heads are within the limits. The unpacker reads under these: it stands on all
 -- octets that lead to the place and are open, it is done with all that are an envelope, and there are some of the one or the other. It

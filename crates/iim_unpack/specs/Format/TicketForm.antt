@@ -1,17 +1,18 @@
 -- The form of a ticket, whether or not some place has it.
-use Rattle.std.specs.Prelude.{◌≡◌, ℕ, ◌-◌, ◌^◌, ◌<◌, ◌≤◌, ◌==◌, if◌then◌else◌, List, [], ◌∷◌, ◌++◌, ◌≢◌, length, codes, Option, ⊤}
+use Rattle.std.specs.Prelude.{◌≡◌, ℕ, ◌-◌, ◌^◌, ◌<◌, ◌≤◌, ◌==◌, if◌then◌else◌, List, [], ◌∷◌, ◌++◌, ◌⊎◌, ◌+◌, length, codes, Option, ⊤}
 use Rattle.std.specs.List.{flat_map}
 use Rattle.iim_dataset.specs.Format.Datasets.{Dataset}
-use Rattle.iim_unpack.specs.Format.Tickets.{Phase, TagBegun, DataBegun, AllEnded, layout, text_octets}
-use Rattle.iim_unpack.specs.Format.Begins.{AreFields, AreNumbers, AreTexts}
+use Rattle.iim_unpack.specs.Format.Tickets.{Phase, TagBegun, DataBegun, AllEnded, width, layout, text_octets}
+use Rattle.iim_unpack.specs.Format.Begins.{IsWide, AreFields, AreNumbersIn, AreTexts}
 use Rattle.iim_unpack.specs.declared.ticket_fault.TicketFault.{TicketFault}
 use Rattle.iim_unpack.specs.declared.ticket_fault.TicketFault.TheVariants.{Form, Version}
 
 -- ---- parts
 
--- The section; what is begun; the datasets; the numbers of record 7; how many octets of the object, and how many heads of 8:10, have
+-- The version; the section; what is begun; the datasets; the numbers of record 7; how many octets of the object, and how many heads of 8:10, have
 -- come; of the message the part, the counter, the flag and the texts.
 pub record Split : Type 0 where
+  pub version : ℕ
   pub section : ℕ
   pub phase : Phase
   pub fields : List Dataset
@@ -25,24 +26,30 @@ pub record Split : Type 0 where
 
 -- the octets of these parts
 abbrev pub split_octets : Split → List ℕ
-split_octets s = layout s.section s.phase s.fields s.numbers s.taken s.heads ((s.part ∷ s.counter ∷ s.flag ∷ []) ++ flat_map text_octets s.texts)
+split_octets s = layout s.version s.section s.phase s.fields s.numbers s.taken s.heads ((s.part ∷ s.counter ∷ s.flag ∷ []) ++ flat_map text_octets s.texts)
 
 -- how many octets of begun data stand there
 abbrev pub came : (section count left : ℕ) → ℕ
 came section count left = if section == 8 then 0 else count - left
 
--- Of a tag at most 8 octets are held. Of data no more are to come than its count, and what has come stands there unless it is a subfile's.
-abbrev pub IsPhase : ℕ → Phase → Type 0
-IsPhase section (TagBegun held) = length held ≤ 8
-IsPhase section (DataBegun set count left taken) = (count < 2 ^ 32) × (left ≤ count) × (length taken ≡ came section count left)
-IsPhase section AllEnded = ⊤
+-- 1 and 2 are versions
+abbrev pub IsVersion : ℕ → Type 0
+IsVersion version = (version ≡ 1) ⊎ (version ≡ 2)
+
+-- Of a tag less octets are held than five and those of a number. Of data no more are to come than its count, and what has come stands
+-- there unless it is a subfile's.
+abbrev pub IsPhase : ℕ → ℕ → Phase → Type 0
+IsPhase version section (TagBegun held) = length held < 5 + width version
+IsPhase version section (DataBegun set count left taken) = IsWide version count × (left ≤ count) × (length taken ≡ came section count left)
+IsPhase version section AllEnded = ⊤
 
 -- The parts have the form of a ticket's: each number is one that its octets can tell.
 pub record HasForm (s : Split) : Type 0 where
-  pub phase : IsPhase s.section s.phase
+  pub version : IsVersion s.version
+  pub phase : IsPhase s.version s.section s.phase
   pub fields : AreFields s.fields
-  pub numbers : AreNumbers s.numbers
-  pub taken : s.taken < 2 ^ 32
+  pub numbers : AreNumbersIn s.version s.numbers
+  pub taken : IsWide s.version s.taken
   pub heads : s.heads < 2 ^ 32
   pub texts : AreTexts s.texts
 
@@ -51,12 +58,12 @@ pub record SplitsTicket (ticket : List ℕ) (s : Split) : Type 0 where
   pub form : HasForm s
   pub spelled : ticket ≡ split_octets s
 
--- The octets begin with a ticket's name, and with a version other than 1.
+-- The octets begin with a ticket's name, and with a version other than 1 and 2.
 pub record HasOtherVersion (ticket : List ℕ) : Type 0 where
   pub version : ℕ
   pub rest : List ℕ
   pub named : ticket ≡ codes "IIMT" ++ version ∷ rest
-  pub other : version ≢ 1
+  pub other : IsVersion version → ⊥
 
 -- A ticket has one split.
 abbrev pub TicketsHaveOneSplit : Type 0

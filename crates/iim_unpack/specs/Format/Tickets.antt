@@ -1,7 +1,7 @@
 -- The place that octets lead to, and its ticket.
 use Rattle.std.specs.Prelude.{◌≡◌, ℕ, ◌+◌, ◌-◌, ◌==◌, if◌then◌else◌, List, [], ◌∷◌, ◌++◌, length, codes, Option, Some, None}
 use Rattle.std.specs.List.{flat_map}
-use Rattle.std.specs.Int.{w32, to_be_bytes}
+use Rattle.std.specs.Int.{w32, w64, to_be_bytes}
 use Rattle.iim_dataset.specs.Format.Datasets.{Dataset, of_record, count_octets}
 use Rattle.iim_dataset.specs.Format.Splits.{Begun, InTag, InData, Reads}
 use Rattle.iim_fields.specs.Format.Faults.{kept, present_record}
@@ -66,14 +66,26 @@ pub record IsPlaceOf (octets : List ℕ) (place : Place) : Type 0 where
 
 -- ---- the octets of a place
 
+-- the version of the tickets that are made
+abbrev pub present_version : ℕ
+present_version = 2
+
+-- how many octets a count, a size or a number of octets of the object has in a ticket of the version
+abbrev pub width : ℕ → ℕ
+width version = if version == 1 then 4 else 8
+
 -- a number in four octets, high octet first
 abbrev pub four : ℕ → List ℕ
 four n = to_be_bytes w32 n
 
-abbrev pub phase_octets : Phase → List ℕ
-phase_octets (TagBegun held) = 0 ∷ length held ∷ held
-phase_octets (DataBegun set count left taken) = (1 ∷ set ∷ []) ++ four count ++ four left ++ taken
-phase_octets AllEnded = 2 ∷ []
+-- a number in as many octets as the version has
+abbrev pub wide : ℕ → ℕ → List ℕ
+wide version n = if version == 1 then four n else to_be_bytes w64 n
+
+abbrev pub phase_octets : ℕ → Phase → List ℕ
+phase_octets version (TagBegun held) = 0 ∷ length held ∷ held
+phase_octets version (DataBegun set count left taken) = 1 ∷ set ∷ (wide version count ++ (wide version left ++ taken))
+phase_octets version AllEnded = 2 ∷ []
 
 abbrev pub field_octets : Dataset → List ℕ
 field_octets d = (d.rec ∷ d.set ∷ []) ++ four (length d.octets) ++ d.octets
@@ -81,9 +93,9 @@ field_octets d = (d.rec ∷ d.set ∷ []) ++ four (length d.octets) ++ d.octets
 abbrev pub fields_octets : List Dataset → List ℕ
 fields_octets ds = four (length ds) ++ flat_map field_octets ds
 
-abbrev pub number_octets : Option ℕ → List ℕ
-number_octets None = 0 ∷ []
-number_octets (Some n) = 1 ∷ four n
+abbrev pub number_octets : ℕ → Option ℕ → List ℕ
+number_octets version None = 0 ∷ []
+number_octets version (Some n) = 1 ∷ wide version n
 
 abbrev pub text_octets : List ℕ → List ℕ
 text_octets xs = length xs ∷ xs
@@ -113,18 +125,22 @@ abbrev pub message_octets : MessagePlace → List ℕ
 message_octets m = (part_number m.part ∷ m.counter ∷ m.flag ∷ []) ++ texts_octets m
 
 -- what each ticket begins with: a name, and the version
-abbrev pub ticket_name : List ℕ
-ticket_name = codes "IIMT" ++ 1 ∷ []
+abbrev pub ticket_name : ℕ → List ℕ
+ticket_name version = codes "IIMT" ++ version ∷ []
 
 -- the order of what follows: the section, what is begun, the datasets, the numbers of record 7, the octets and heads of the object,
 -- and the octets of the message
-abbrev pub layout : ℕ → Phase → List Dataset → List (Option ℕ) → ℕ → ℕ → List ℕ → List ℕ
-layout section phase fields numbers taken heads message =
-    ticket_name ++ (section ∷ []) ++ phase_octets phase ++ fields_octets fields ++ flat_map number_octets numbers
-    ++ four taken ++ four heads ++ message
+abbrev pub layout : ℕ → ℕ → Phase → List Dataset → List (Option ℕ) → ℕ → ℕ → List ℕ → List ℕ
+layout version section phase fields numbers taken heads message =
+    ticket_name version ++ (section ∷ []) ++ phase_octets version phase ++ fields_octets fields ++ flat_map (number_octets version) numbers
+    ++ wide version taken ++ four heads ++ message
+
+-- the ticket of the place, in a version
+abbrev pub ticket_in : ℕ → Place → List ℕ
+ticket_in version p = layout version p.section p.phase p.fields p.numbers p.taken p.heads (message_octets p.message)
 
 abbrev pub ticket_of : Place → List ℕ
-ticket_of p = layout p.section p.phase p.fields p.numbers p.taken p.heads (message_octets p.message)
+ticket_of p = ticket_in present_version p
 
 -- The octets of the ticket are those of the place that the octets so far have led to.
 pub record IsTicketOf (octets ticket : List ℕ) : Type 0 where

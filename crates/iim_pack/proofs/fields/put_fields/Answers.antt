@@ -2,14 +2,8 @@ use Rattle.std.proofs.Common.{◌≡◌, ℕ, ◌+◌, List, [], ◌∷◌, ◌+
 use Rattle.iim_dataset.specs.Format.Datasets.{Dataset, canonical_dataset, canonical_stream}
 use Rattle.iim_dataset.specs.Format.Devices.{Wrote, Stopped}
 use Rattle.iim_fields.specs.Format.Walks.{rest_of}
-use Rattle.iim_pack.proofs.FieldsOut.{stream_one, next_few, front_small, part_small, part_stopped}
+use Rattle.iim_pack.proofs.FieldsOut.{stream_one, front_small, part_small, part_stopped}
 use Rattle.iim_pack.proofs.fields.put_fields.Goals as goal
-
-pub put_dataset-requires : goal.put_dataset-requires
-put_dataset-requires g c = record {
-  few = next_few c.args.envelope.now c.loop-rec.invariant.done (rest_of c.next.new.self) (record { rec = c.in-Some.rec; set = c.in-Some.set; octets = c.in-Some.octets.now })
-      c.fields-fields.ensures.envelope (c.loop-rec.invariant.parts ∙ ap (λ (t : List Dataset). c.loop-rec.invariant.done ++ t) c.in-Some.ensures.steps);
-}
 
 pub overflow_add-written : goal.overflow_add-written
 overflow_add-written g c =

@@ -49,3 +49,6 @@ returns-in-Err-put_lines-clause-order g c = pack_order c.args.head.now c.args.li
 
 pub returns-in-Err-finish-clause-order : goal.returns-in-Err-finish-clause-order
 returns-in-Err-finish-clause-order g c = pack_order c.args.head.now c.args.lines.now.lines c.args.trailer.now c.args.plan
+
+pub returns-in-Ok-finish-clause-order : goal.returns-in-Ok-finish-clause-order
+returns-in-Ok-finish-clause-order g c = pack_order c.args.head.now c.args.lines.now.lines c.args.trailer.now c.args.plan

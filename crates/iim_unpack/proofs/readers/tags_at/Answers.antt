@@ -4,6 +4,7 @@ use Rattle.iim_dataset.specs.Format.Tags.{BeginsTag}
 use Rattle.iim_dataset.specs.declared.place.DatasetPlace.TheVariants.{Tag, Inside}
 use Rattle.iim_unpack.specs.ByLayers.{TagsLead, head_of_numbers}
 use Rattle.iim_unpack.specs.Format.TicketForm.{IsPhase}
+use Rattle.iim_unpack.specs.Format.Tickets.{present_version}
 use Rattle.iim_unpack.specs.TicketParts.{phase_told}
 use Rattle.iim_unpack.specs.declared.ticket_parts.TicketPhase.{TicketPhase}
 use Rattle.iim_unpack.proofs.AtPlaces.{some_place, no_place}
@@ -12,7 +13,7 @@ use Rattle.iim_unpack.proofs.readers.tags_at.Goals as goal
 pub returns-in-Data-clause-leads : goal.returns-in-Data-clause-leads
 returns-in-Data-clause-leads c =
     let place = Inside (head_of_numbers c.args.section c.in-Data.set c.in-Data.count) c.in-Data.left in
-    let form = subst (λ (p : TicketPhase). IsPhase c.args.section (phase_told p)) c.in-Data.is c.requires in
+    let form = subst (λ (p : TicketPhase). IsPhase present_version c.args.section (phase_told p)) c.in-Data.is c.requires in
     some_place c.at-in-Data.result place c.at-in-Data.ensures.exactly (c.places_are_reached.ensures place) (TagsLead c.args.section (phase_told c.args.phase.now))
     (λ is. subst (λ (p : TicketPhase). TagsLead c.args.section (phase_told p)) (sym c.in-Data.is) (is, form.2, c.are_octets.ensures))
 

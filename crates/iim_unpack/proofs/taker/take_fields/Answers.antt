@@ -4,7 +4,7 @@ use Rattle.iim_fields.specs.Format.Faults.{is_kept}
 use Rattle.iim_unpack.specs.Format.Begins.{dataset}
 use Rattle.iim_unpack.specs.Taking.{AreKept, CanContinueWithin, TookDatasets}
 use Rattle.iim_unpack.proofs.Taking.{took_more, took_none}
-use Rattle.iim_unpack.proofs.TicketLengths.{all_join}
+use Rattle.iim_unpack.proofs.Bounds.{all_join}
 use Rattle.iim_unpack.proofs.taker.take_fields.Goals as goal
 
 -- one of these is not kept

@@ -8,6 +8,14 @@ use Rattle.iim_object.proofs.output.Output.put_plan.Goals as goal
 abbrev mode_octets : ℕ → List ℕ
 mode_octets mode = canonical_dataset (record { rec = 7; set = 10; octets = mode ∷ [] })
 
+pub returns-in-Err-clause-err : goal.returns-in-Err-clause-err
+returns-in-Err-clause-err g c =
+    let state = g.W.Target.state in
+    let number : List ℕ = canonical_dataset (number_dataset 7 20 c.args.plan.subfile) in
+    let more : List ℕ = canonical_stream (size_datasets c.args.plan.size) in
+    subst (λ (mode : ℕ). Cuts state c.args.self.now c.put_dataset.new.self (mode_octets mode ++ (number ++ more))) c.mode_of.ensures
+    (cuts_more state c.args.self.now c.put_dataset.new.self (mode_octets c.mode_of.result) (number ++ more) c.in-Err.ensures.err)
+
 pub returns-in-Err-put_number-clause-err : goal.returns-in-Err-put_number-clause-err
 returns-in-Err-put_number-clause-err g c =
     let state = g.W.Target.state in

@@ -40,3 +40,6 @@ returns-in-Ok-open_object-clause-begun g c =
 
 pub returns-then-is_past-clause-order : goal.returns-then-is_past-clause-order
 returns-then-is_past-clause-order g c = start_order c.args.head.now c.args.plan
+
+pub returns-in-Ok-open_object-clause-order : goal.returns-in-Ok-open_object-clause-order
+returns-in-Ok-open_object-clause-order g c = start_order c.args.head.now c.args.plan

@@ -1,0 +1,50 @@
+//! Whether copy may be used now.
+
+ghost use Rattle.std.specs.Prelude.{◌≡◌, Some};
+ghost use Rattle.iim_audit.specs.Format.Copies.{copy_at};
+ghost use Rattle.iim_audit.specs.Format.Texts.{copy_word};
+
+use iim_fields::Envelope;
+use jiff::Timestamp;
+use std::fmt;
+use std::fmt::{Display, Formatter};
+
+/// Whether the copy of an envelope may be used.
+#[derive(Clone, Copy, Debug, PartialEq, Eq)]
+pub enum CopyState {
+    /// Its release is still to come.
+    Held,
+    /// Its expiration has passed.
+    Expired,
+    /// Neither.
+    Free,
+}
+
+impl Display for CopyState {
+    ghost output = { λ copy. Some (copy_word copy) };
+
+    fn fmt<W: fmt::Write>(&self, f: &mut Formatter<W>) -> fmt::Result {
+        match self {
+            CopyState::Held => f.write_str("held"),
+            CopyState::Expired => f.write_str("expired"),
+            CopyState::Free => f.write_str("free"),
+        }
+    }
+}
+
+/// Whether the copy of an envelope may be used at an instant.
+pub(crate) fn copy_at(envelope: &Envelope, now: Timestamp) -> CopyState
+    ensures { result ≡ copy_at now.nanosecond envelope.now }
+{
+    if let Some(release) = envelope.release() {
+        if release.as_nanosecond() > now.as_nanosecond() {
+            return CopyState::Held;
+        }
+    }
+    if let Some(expiration) = envelope.expires() {
+        if now.as_nanosecond() > expiration.as_nanosecond() {
+            return CopyState::Expired;
+        }
+    }
+    CopyState::Free
+}

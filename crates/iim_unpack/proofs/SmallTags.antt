@@ -1,0 +1,83 @@
+-- Tags whose counts have fewer octets.
+use Rattle.std.proofs.Common.{◌≡◌, ℕ, zero, suc, ◌+◌, ◌<◌, ◌≤◌, List, [], ◌∷◌, ◌++◌, length, take, drop, get_or, refl, ap, sym, subst, ◌∙◌, inl, inr, arith, length-append}
+use Rattle.std.proofs.lemmas.Bool.{cases_lt}
+use Rattle.std.proofs.lemmas.List.{take-append-drop, length-take, length-drop}
+use Rattle.std.proofs.Math.Seq.{take-append_seam}
+use Rattle.iim_dataset.specs.Format.Datasets.{SpellsCount, SpellsTag, count_octets}
+use Rattle.iim_dataset.specs.Format.Tags.{BeginsTag}
+use Rattle.iim_dataset.specs.declared.head.Head.{Head}
+
+-- a count of fewer octets is one of more
+wider_count : (limit most n : ℕ) (xs : List ℕ) → limit ≤ most → SpellsCount limit n xs → SpellsCount most n xs
+wider_count limit most n [] le is = absurd is
+wider_count limit most n (high ∷ []) le is = absurd is
+wider_count limit most n (high ∷ low ∷ more) le (inl is) = inl is
+wider_count limit most n (high ∷ low ∷ more) le (inr (h, l, some, few, octets, tells)) = inr (h, l, some, omega (arith, few, le), octets, tells)
+
+pub wider_tag : (limit most : ℕ) (h : Head) (tag : List ℕ) → limit ≤ most → SpellsTag limit h tag → SpellsTag most h tag
+wider_tag limit most h tag le s = record { rec = s.rec; set = s.set; count = s.count; is_count = wider_count limit most h.count s.count le s.is_count; parts = s.parts }
+
+pub wider_begun : (limit most : ℕ) (held : List ℕ) → limit ≤ most → BeginsTag limit held → BeginsTag most held
+wider_begun limit most held le b = record { head = b.head; more = b.more; some_more = b.some_more; whole = wider_tag limit most b.head (held ++ b.more) le b.whole }
+
+-- the fourth and fifth octets of a tag
+fourth : (held more count : List ℕ) (r s : ℕ) → 4 < length held → held ++ more ≡ 28 ∷ r ∷ s ∷ count → (get_or held 3 0 ≡ get_or count 0 0) × (get_or held 4 0 ≡ get_or count 1 0)
+fourth [] more count r s long e = absurd (omega (arith, long))
+fourth (a ∷ []) more count r s long e = absurd (omega (arith, long))
+fourth (a ∷ b ∷ []) more count r s long e = absurd (omega (arith, long))
+fourth (a ∷ b ∷ c ∷ []) more count r s long e = absurd (omega (arith, long))
+fourth (a ∷ b ∷ c ∷ d ∷ []) more count r s long e = absurd (omega (arith, long))
+fourth (a ∷ b ∷ c ∷ d ∷ f ∷ held) more count r s long e =
+    let rest : d ∷ f ∷ (held ++ more) ≡ count = cc in
+    (ap (λ (xs : List ℕ). get_or xs 0 0) rest, ap (λ (xs : List ℕ). get_or xs 1 0) rest)
+
+-- four octets of a tag whose count is extended begin one whose count has one octet
+short_begins : (limit r s low : ℕ) (held more rest : List ℕ) → 1 ≤ limit → r < 256 → s < 256 → length held < 5 → held ++ more ≡ 28 ∷ r ∷ s ∷ 128 ∷ low ∷ rest → BeginsTag limit held
+short_begins limit r s low held more rest one small less short e = record {
+  head = record { rec = r; set = s; count = 0 };
+  more = drop (length held) whole;
+  some_more = let left = length-drop (length held) whole in omega (arith, left, short);
+  whole = record { rec = small; set = less; count = 128 ∷ 1 ∷ 0 ∷ []; is_count = inr (refl, refl, omega arith, one, (omega arith, tt), refl); parts = ap (λ (xs : List ℕ). xs ++ drop (length held) whole) front ∙ take-append-drop (length held) whole };
+}
+  where
+    whole : List ℕ
+    whole = 28 ∷ r ∷ s ∷ 128 ∷ 1 ∷ 0 ∷ []
+
+    same : (n : ℕ) → n < 5 → take n (28 ∷ r ∷ s ∷ 128 ∷ low ∷ rest) ≡ take n whole
+    same zero lt = refl
+    same (suc zero) lt = refl
+    same (suc (suc zero)) lt = refl
+    same (suc (suc (suc zero))) lt = refl
+    same (suc (suc (suc (suc zero)))) lt = refl
+    same (suc (suc (suc (suc (suc n))))) lt = absurd (omega (arith, lt))
+
+    front : held ≡ take (length held) whole
+    front = sym (take-append_seam held more) ∙ ap (take (length held)) e ∙ same (length held) short
+
+-- Held octets of a tag begin one of at most four count octets where the fifth does not say more.
+pub small_tag : (held : List ℕ) → BeginsTag count_octets held → (4 < length held → get_or held 3 0 ≡ 128 → get_or held 4 0 ≤ 4) → BeginsTag 4 held
+small_tag held b few = by b.whole.count b.whole.is_count b.whole.parts
+  where
+    by : (count : List ℕ) → SpellsCount count_octets b.head.count count → held ++ b.more ≡ 28 ∷ b.head.rec ∷ b.head.set ∷ count → BeginsTag 4 held
+    by [] is parts = absurd is
+    by (high ∷ []) is parts = absurd is
+    by (high ∷ low ∷ more) (inl is) parts = record { head = b.head; more = b.more; some_more = b.some_more; whole = record { rec = b.whole.rec; set = b.whole.set; count = high ∷ low ∷ more; is_count = inl is; parts = parts } }
+    by (high ∷ low ∷ more) (inr (h, l, some, fits, octets, tells)) parts = elim (cases_lt 4 (length held)) [
+      | inl long ↦
+          let at = fourth held b.more (high ∷ low ∷ more) b.head.rec b.head.set long parts in
+          let fifth = few long (at.0 ∙ h) in
+          record { head = b.head; more = b.more; some_more = b.some_more; whole = record { rec = b.whole.rec; set = b.whole.set; count = high ∷ low ∷ more; is_count = inr (h, l, some, omega (arith, fifth, at.1), octets, tells); parts = parts } }
+      | inr short ↦
+          short_begins 4 b.head.rec b.head.set low held b.more more (omega arith) b.whole.rec b.whole.set (omega (arith, short))
+          (parts ∙ ap (λ (x : ℕ). 28 ∷ b.head.rec ∷ b.head.set ∷ x ∷ low ∷ more) h)
+    ]
+
+-- and where it says more they don't
+pub no_small_tag : (held : List ℕ) → 4 < length held → get_or held 3 0 ≡ 128 → 4 < get_or held 4 0 → BeginsTag 4 held → ⊥
+no_small_tag held long form many b = by b.whole.count b.whole.is_count b.whole.parts
+  where
+    by : (count : List ℕ) → SpellsCount 4 b.head.count count → held ++ b.more ≡ 28 ∷ b.head.rec ∷ b.head.set ∷ count → ⊥
+    by [] is parts = absurd is
+    by (high ∷ []) is parts = absurd is
+    by (high ∷ low ∷ more) (inl is) parts = let at = fourth held b.more (high ∷ low ∷ more) b.head.rec b.head.set long parts in omega (arith, at.0, form, is.0)
+    by (high ∷ low ∷ more) (inr (h, l, some, fits, octets, tells)) parts = let at = fourth held b.more (high ∷ low ∷ more) b.head.rec b.head.set long parts in omega (arith, at.1, many, fits)
