@@ -5,9 +5,16 @@
 //! them with their answers, which are worked out from the format.
 #![tactic(auto)]
 
+mod auditing;
+mod causes;
+mod cuts;
+mod intakes;
 mod octets;
+mod streams;
 mod tables;
+mod tickets;
 mod unpacking;
+mod values;
 
 use anyhow::{Result, bail};
 use octets::{Names, Words};
@@ -18,6 +25,7 @@ use unpacking::Bench;
 /// What the questions so far have made.
 #[derive(Drop)]
 struct Vectors {
+    alloc: Global,
     names: Names,
     bench: Bench,
 }
@@ -25,6 +33,7 @@ struct Vectors {
 impl Vectors {
     fn new(alloc: Global) -> Result<Vectors> {
         Ok(Vectors {
+            alloc,
             names: Names::new(alloc),
             bench: Bench::new(alloc)?,
         })
@@ -39,6 +48,7 @@ impl Vectors {
             _ => {
                 tables::answer(out, &self.names, word, &mut words)?
                     || self.bench.answer(out, &self.names, word, &mut words)?
+                    || auditing::answer(out, self.alloc, &self.names, word, &mut words)?
             }
         };
         if !is_known {
