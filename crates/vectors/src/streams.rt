@@ -1,8 +1,7 @@
 //! A stream and its one answer: in one piece, in pieces, and continued from the tickets of its places.
 
 use crate::cuts::{Cuts, LONGEST, feed_cut};
-use crate::octets::Shown;
-use crate::values::are_same;
+use crate::values::{Line, are_same};
 use anyhow::{Result, bail, ensure};
 use iim_dataset::FromRead;
 use iim_fields::Limits;
@@ -250,12 +249,13 @@ impl Stream<'_> {
             Err(refusal) => writeln!(out, "  {refusal}")?,
         }
         for line in whole.text.strip_suffix(b"\n").unwrap_or(&[]).split(|octet| *octet == b'\n') {
-            let line = Shown(line);
+            let line = Line(line);
             writeln!(out, "  line {line}")?;
         }
         self.check_pieces(&whole)?;
+        let longest = LONGEST;
         let places = self.check_tickets(&whole)?;
-        writeln!(out, "  the same in pieces of 1 to {LONGEST}, and from {places} tickets")?;
+        writeln!(out, "  the same in pieces of 1 to {longest}, and from {places} tickets")?;
         Ok(())
     }
 }

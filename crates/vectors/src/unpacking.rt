@@ -3,10 +3,10 @@
 use crate::causes::{print_causes, print_layers};
 use crate::cuts::{Cuts, feed_cut};
 use crate::intakes::{print_envelopes, print_next};
-use crate::octets::{Names, Shown, Words};
+use crate::octets::{Names, Words};
 use crate::streams::Stream;
 use crate::tickets::{OpenTicket, fault_name, print_parts, print_restored, print_ticket};
-use crate::values::print_value;
+use crate::values::{Line, print_value};
 use anyhow::Result;
 use iim_fields::Limits;
 use iim_unpack::{Progress, Refusal, Unpacked, Unpacker, unpack_pieces};
@@ -53,7 +53,7 @@ fn print_progress<W: Write>(out: &mut W, answer: Result<Progress, Refusal>) -> i
 /// Prints the lines.
 fn print_lines<W: Write>(out: &mut W, lines: &Lines) -> io::Result<()> {
     for line in lines.iter() {
-        let line = Shown(line);
+        let line = Line(line);
         writeln!(out, "  line {line}")?;
     }
     Ok(())
@@ -212,16 +212,22 @@ impl Bench {
 }
 
 impl Bench {
-    /// Prints what the stream of pieces comes to, and its lines.
-    fn pieces<W: Write>(&self, out: &mut W, names: &Names, words: &mut Words) -> Result<()> {
-        let limits = limits_of(words)?;
-        let mut pieces = Vec::new(self.alloc);
+    /// The octets of all arguments that are left.
+    fn all_octets(&self, names: &Names, words: &mut Words) -> Result<Vec<Vec<u8>>> {
+        let mut all = Vec::new(self.alloc);
         for _ in 0..MOST {
             if !words.has_more() {
                 break;
             }
-            pieces.push(words.octets(names)?)?;
+            all.push(words.octets(names)?)?;
         }
+        Ok(all)
+    }
+
+    /// Prints what the stream of pieces comes to, and its lines.
+    fn pieces<W: Write>(&self, out: &mut W, names: &Names, words: &mut Words) -> Result<()> {
+        let limits = limits_of(words)?;
+        let pieces = self.all_octets(names, words)?;
         let mut slices = Vec::new(self.alloc);
         for piece in pieces.iter() {
             slices.push(piece.as_slice())?;

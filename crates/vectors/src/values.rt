@@ -20,6 +20,26 @@ impl Display for OrDash {
     }
 }
 
+/// The most octets of a line that are printed one by one where they are all alike.
+const LONG: usize = 100;
+
+/// A line. A longer one of one octet again and again is printed as in a question, as `("a")*101`.
+#[derive(Clone, Copy)]
+pub struct Line<'l>(pub &'l [u8]);
+
+impl Display for Line<'_> {
+    fn fmt<W: fmt::Write>(&self, f: &mut Formatter<W>) -> fmt::Result {
+        let line = self.0;
+        let first = Shown(line.get(..1).unwrap_or(&[]));
+        let all = Shown(line);
+        let len = line.len();
+        if len > LONG && line.iter().all(|octet| Some(octet) == line.first()) {
+            return write!(f, "({first})*{len}");
+        }
+        write!(f, "{all}")
+    }
+}
+
 /// Prints a dataset.
 pub fn print_field<W: Write>(out: &mut W, rec: u8, set: u8, octets: &[u8]) -> io::Result<()> {
     let name = DatasetName { rec, set };
