@@ -185,7 +185,7 @@ pub(crate) fn readers_at(parts: &TicketParts<'_>) -> Option<Readers>
     ensures none { IfNone result (LeadsNowhereIn (split_told parts.now)) }
 {
     let readers = readers_by_layers(parts)?;
-    if parts.version == 1 && !is_small(parts.section, parts.taken, &parts.phase) {
+    if parts.version == FIRST_VERSION && !is_small(parts.section, parts.taken, &parts.phase) {
         return None;
     }
     Some(readers)
