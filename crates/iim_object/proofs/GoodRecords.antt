@@ -251,6 +251,6 @@ records_good subfile size object parts plan octets cut within =
     record {
       seven = good_seven subfile size p.least p.most p.limit;
       eight = subst (λ (ps : List (List ℕ)). IsGoodRecord 8 (subfile_datasets ps)) (sym cut.parts_are)
-      (good_eight cut.full cut.last (parts_are subfile cut.full cut.last p.most cut.are_full cut.fits (subst Octets cut.joined octets)));
+          (good_eight cut.full cut.last (parts_are subfile cut.full cut.last p.most cut.are_full cut.fits (subst Octets cut.joined octets)));
       nine = good_nine object few;
     }

@@ -124,8 +124,8 @@ low_plain : (fields : List Dataset) (numbers : Numbers) (heads : ℕ) (object : 
 low_plain fields numbers heads object ended kept few small low =
     all_both Low fields _ (low_fields fields kept few)
     (all_both Low (plain_numbers numbers) _
-        (all_both Low _ _ (low_mode numbers.mode) (all_both Low _ _ (low_number 20 numbers.largest small.1.0) (all_both Low _ _ (low_number 90 numbers.announced small.1.1.0) (low_number 95 numbers.maximum small.1.1.1.0))))
-        (all_both Low _ _ (low_parts (unwrap_or numbers.largest 0) heads object (size_low numbers.largest small.1.0)) (low_end ended object low)))
+    (all_both Low _ _ (low_mode numbers.mode) (all_both Low _ _ (low_number 20 numbers.largest small.1.0) (all_both Low _ _ (low_number 90 numbers.announced small.1.1.0) (low_number 95 numbers.maximum small.1.1.1.0))))
+    (all_both Low _ _ (low_parts (unwrap_or numbers.largest 0) heads object (size_low numbers.largest small.1.0)) (low_end ended object low)))
 
 shorts : (ds : List Dataset) → AllByRecursion Low ds → AllByRecursion Short ds
 shorts [] all = tt

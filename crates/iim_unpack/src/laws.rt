@@ -27,8 +27,9 @@ use iim_fields::laws::{
 };
 use iim_object::laws::{
     datasets_lead_from_place_to_place, datasets_live_with_their_tokens, number_datasets_are_good,
-    numbers_live_without_clash, objects_end_where_they_are_whole, places_live_within, readers_tell_sizes, records_are_by_number,
-    sizes_are_determined, subfiles_live_while_they_fit, totals_are_confirmed,
+    numbers_live_without_clash, objects_end_where_they_are_whole, places_live_within,
+    readers_tell_sizes, records_are_by_number, sizes_are_determined, subfiles_live_while_they_fit,
+    totals_are_confirmed,
 };
 use wire_message::MessageReader;
 use wire_message::laws::{

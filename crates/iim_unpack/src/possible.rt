@@ -15,7 +15,7 @@ ghost use Rattle.iim_unpack.specs.TicketParts.{phase_told, split_told};
 use crate::object_place::object_at;
 use crate::readers::{message_at, records_lead, tags_at};
 use crate::taker::is_kept;
-use crate::ticket::part_number;
+use crate::ticket::{FIRST_VERSION, part_number};
 use crate::ticket_fields::TicketFields;
 use crate::ticket_parts::{TicketParts, TicketPhase};
 use iim_dataset::HeadReader;
