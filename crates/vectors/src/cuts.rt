@@ -54,11 +54,15 @@ pub fn feed_cut<S: StorySink>(
     let mut rest = octets;
     for _ in 0..=octets.len() {
         if let Progress::Done { used } = unpacker.feed(&[], sink)? {
-            return Ok(Progress::Done { used: sum.saturating_add(used) });
+            return Ok(Progress::Done {
+                used: sum.saturating_add(used),
+            });
         }
         let (piece, more) = rest.split_at(rest.len().min(cuts.next()));
         if let Progress::Done { used } = unpacker.feed(piece, sink)? {
-            return Ok(Progress::Done { used: sum.saturating_add(used) });
+            return Ok(Progress::Done {
+                used: sum.saturating_add(used),
+            });
         }
         if more.is_empty() {
             break;

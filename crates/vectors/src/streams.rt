@@ -71,7 +71,10 @@ fn check_failed(alloc: Global, unpacker: &mut Unpacker, refusal: Refusal) -> Res
         bail!("octets are taken after a refusal");
     };
     ensure!(again == failed, "after a refusal: {again}");
-    ensure!(unpacker.end_of_input() == Some(failed), "the end of input after a refusal");
+    ensure!(
+        unpacker.end_of_input() == Some(failed),
+        "the end of input after a refusal"
+    );
     ensure!(!unpacker.is_done(), "done after a refusal");
     ensure!(
         matches!(unpacker.save(alloc), Err(SaveFault::Failed)),
@@ -163,7 +166,10 @@ impl Stream<'_> {
     /// That pieces of each size come to the same as the whole.
     fn check_pieces(self, whole: &Told) -> Result<()> {
         for size in 1..=LONGEST {
-            ensure!(self.in_pieces(size)?.is(whole), "in pieces of {size} octets");
+            ensure!(
+                self.in_pieces(size)?.is(whole),
+                "in pieces of {size} octets"
+            );
         }
         Ok(())
     }
@@ -174,8 +180,14 @@ impl Stream<'_> {
         let ticket = saved.save(self.alloc)?;
         let unpacker = Unpacker::restore(self.alloc, self.limits, ticket.as_slice(), at)?;
         let again = unpacker.save(self.alloc)?;
-        ensure!(again.as_slice() == ticket.as_slice(), "another ticket after {at} octets");
-        ensure!(answers(&unpacker) == answers(saved), "other answers after {at} octets");
+        ensure!(
+            again.as_slice() == ticket.as_slice(),
+            "another ticket after {at} octets"
+        );
+        ensure!(
+            answers(&unpacker) == answers(saved),
+            "other answers after {at} octets"
+        );
         Ok(unpacker)
     }
 
@@ -191,7 +203,10 @@ impl Stream<'_> {
         let is_same = match (answer, &whole.answer) {
             (Ok(Some(got)), Ok(used)) => {
                 at.saturating_add(intake.octets()) == *used
-                    && whole.value.as_ref().is_some_and(|value| are_same(&got, value))
+                    && whole
+                        .value
+                        .as_ref()
+                        .is_some_and(|value| are_same(&got, value))
             }
             (Ok(None), Err(refusal)) => refusal.octet == 0 && rest.is_empty(),
             (Err(IntakeFault::Refused(told)), Err(refusal)) => told == *refusal,
@@ -202,13 +217,7 @@ impl Stream<'_> {
     }
 
     /// That the rest of the octets comes to the same as the whole, from the ticket of an unpacker that took those before it.
-    fn check_rest(
-        self,
-        saved: &Unpacker,
-        before: &Lines,
-        rest: &[u8],
-        whole: &Told,
-    ) -> Result<()> {
+    fn check_rest(self, saved: &Unpacker, before: &Lines, rest: &[u8], whole: &Told) -> Result<()> {
         let at = saved.octets();
         let mut unpacker = self.restored(saved)?;
         let mut lines = Lines::new(self.alloc);
@@ -218,7 +227,10 @@ impl Stream<'_> {
             at,
             answer,
         };
-        ensure!(self.told(fed, before, &lines)?.is(whole), "from the ticket after {at} octets");
+        ensure!(
+            self.told(fed, before, &lines)?.is(whole),
+            "from the ticket after {at} octets"
+        );
         self.check_intake(saved, rest, whole)
     }
 
@@ -248,14 +260,22 @@ impl Stream<'_> {
             Ok(used) => writeln!(out, "  done {used}")?,
             Err(refusal) => writeln!(out, "  {refusal}")?,
         }
-        for line in whole.text.strip_suffix(b"\n").unwrap_or(&[]).split(|octet| *octet == b'\n') {
+        for line in whole
+            .text
+            .strip_suffix(b"\n")
+            .unwrap_or(&[])
+            .split(|octet| *octet == b'\n')
+        {
             let line = Line(line);
             writeln!(out, "  line {line}")?;
         }
         self.check_pieces(&whole)?;
         let longest = LONGEST;
         let places = self.check_tickets(&whole)?;
-        writeln!(out, "  the same in pieces of 1 to {longest}, and from {places} tickets")?;
+        writeln!(
+            out,
+            "  the same in pieces of 1 to {longest}, and from {places} tickets"
+        )?;
         Ok(())
     }
 }

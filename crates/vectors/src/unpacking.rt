@@ -143,7 +143,13 @@ impl Bench {
     }
 
     /// Puts a restored unpacker in the place of the present one.
-    fn restore<W: Write>(&mut self, out: &mut W, limits: Limits, at: u64, ticket: &[u8]) -> Result<()> {
+    fn restore<W: Write>(
+        &mut self,
+        out: &mut W,
+        limits: Limits,
+        at: u64,
+        ticket: &[u8],
+    ) -> Result<()> {
         match Unpacker::restore(self.alloc, limits, ticket, at) {
             Ok(unpacker) => {
                 self.unpacker = unpacker;
@@ -269,9 +275,21 @@ impl Bench {
         let ticket = words.octets(names)?;
         if words.has_more() {
             let wanted = words.octets(names)?;
-            return print_restored(out, self.alloc, limits, ticket.as_slice(), wanted.as_slice());
+            return print_restored(
+                out,
+                self.alloc,
+                limits,
+                ticket.as_slice(),
+                wanted.as_slice(),
+            );
         }
-        print_restored(out, self.alloc, limits, ticket.as_slice(), ticket.as_slice())
+        print_restored(
+            out,
+            self.alloc,
+            limits,
+            ticket.as_slice(),
+            ticket.as_slice(),
+        )
     }
 
     /// Answers the words of tickets; false where the word is none of them.
@@ -346,9 +364,11 @@ impl Bench {
         word: &[u8],
         words: &mut Words,
     ) -> Result<bool> {
-        Ok(self.answer_fed(out, names, word, words)?
-            || self.answer_told(out, word)?
-            || self.answer_tickets(out, names, word, words)?
-            || self.answer_streams(out, names, word, words)?)
+        Ok(
+            self.answer_fed(out, names, word, words)?
+                || self.answer_told(out, word)?
+                || self.answer_tickets(out, names, word, words)?
+                || self.answer_streams(out, names, word, words)?,
+        )
     }
 }
