@@ -5,12 +5,18 @@
 //! them with their answers, which are worked out from the format.
 #![tactic(auto)]
 
+mod calls;
 mod octets;
+mod packing;
+mod plans;
+mod scripts;
 mod tables;
 mod unpacking;
+mod writers;
 
 use anyhow::{Result, bail};
 use octets::{Names, Words};
+use packing::Packing;
 use std::alloc::Global;
 use std::io::{self, BufRead, BufReader, BufWriter, Write};
 use unpacking::Bench;
@@ -20,6 +26,7 @@ use unpacking::Bench;
 struct Vectors {
     names: Names,
     bench: Bench,
+    packing: Packing,
 }
 
 impl Vectors {
@@ -27,6 +34,7 @@ impl Vectors {
         Ok(Vectors {
             names: Names::new(alloc),
             bench: Bench::new(alloc)?,
+            packing: Packing::new(alloc),
         })
     }
 
@@ -39,6 +47,7 @@ impl Vectors {
             _ => {
                 tables::answer(out, &self.names, word, &mut words)?
                     || self.bench.answer(out, &self.names, word, &mut words)?
+                    || self.packing.answer(out, &self.names, word, &mut words)?
             }
         };
         if !is_known {
