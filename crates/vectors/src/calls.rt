@@ -173,26 +173,26 @@ impl Calls {
         words: &mut Words,
     ) -> Result<bool> {
         match word {
-            b"text" => {
+            b"pack_text" => {
                 let octets = words.octets(names)?;
                 let begun = self.begun.as_mut().context(NO_PACKER)?;
                 let answer = begun.text(octets.as_slice()).context(NO_PACKER)?;
                 tell_call(out, answer, begun.written())?;
             }
-            b"line_end" => {
+            b"pack_line_end" => {
                 let begun = self.begun.as_mut().context(NO_PACKER)?;
                 let answer = begun.line_end().context(NO_PACKER)?;
                 tell_call(out, answer, begun.written())?;
             }
-            b"finish" => {
+            b"pack_finish" => {
                 let trailer = words.octets(names)?;
                 self.finish(out, trailer.as_slice())?;
             }
-            b"written" => {
+            b"pack_written" => {
                 let written = self.begun.as_ref().context(NO_PACKER)?.written();
                 writeln!(out, "  {written}")?;
             }
-            b"out" => {
+            b"pack_out" => {
                 let octets = self.begun.take().context(NO_PACKER)?.out(self.alloc)?;
                 let octets = Shown(octets.as_slice());
                 writeln!(out, "  {octets}")?;

@@ -45,11 +45,11 @@ impl Packing {
                 let octets = words.octets(names)?;
                 self.told = told(self.alloc, out, octets.as_slice())?;
             }
-            b"with_trailer" => self.set_trailer(names, words)?,
-            b"size" => self.tell_size(out)?,
-            b"plan" => tell_plan(out, words)?,
+            b"pack_trailer" => self.set_trailer(names, words)?,
+            b"pack_size" => self.tell_size(out)?,
+            b"pack_bound" => tell_plan(out, words)?,
             b"pack" => self.pack(out, words)?,
-            b"pieces" => self.pack_in_pieces(out, words)?,
+            b"pack_cut" => self.pack_in_pieces(out, words)?,
             b"packer" => self.start(out, words)?,
             _ => return self.calls.answer(out, names, word, words),
         }

@@ -37,7 +37,7 @@ pub fn tell_plan<W: Write>(out: &mut W, words: &mut Words) -> Result<()> {
     match plan_of(words)? {
         Some(plan) => {
             let bound = plan.bound();
-            writeln!(out, "  bound {bound}")?;
+            writeln!(out, "  {bound}")?;
             Ok(())
         }
         None => tell_no_plan(out),
