@@ -5,14 +5,11 @@
 //! them with their answers, which are worked out from the format.
 #![tactic(auto)]
 
-mod calls;
 mod octets;
 mod packing;
-mod plans;
 mod scripts;
 mod tables;
 mod unpacking;
-mod writers;
 
 use anyhow::{Result, bail};
 use octets::{Names, Words};

@@ -1,18 +1,22 @@
 //! Envelopes packed: the value that a script told, at once and in pieces.
 
-use crate::calls::{Calls, stopped, tell_fault};
+mod calls;
+mod plans;
+mod writers;
+
 use crate::octets::{Names, Shown, Words};
-use crate::plans::{plan_of, tell_no_plan, tell_plan};
 use crate::scripts::told;
-use crate::writers::{Keeps, Memory, trial_of};
 use anyhow::{Context, Result};
+use calls::{Calls, stopped, tell_fault};
 use iim_dataset::{FromWrite, Target};
 use iim_object::{PackCause, Plan, StartFault};
 use iim_pack::{Packer, pack, packed_size};
 use iim_script::Script;
+use plans::{plan_of, tell_no_plan, tell_plan};
 use std::alloc::Global;
 use std::io::Write;
 use wire_story::Lines;
+use writers::{Keeps, Memory, trial_of};
 
 /// The value that is packed, and a packer that is asked call by call.
 #[derive(Drop)]

@@ -1,7 +1,7 @@
 //! A packer, call by call.
 
+use super::writers::{Keeps, Memory, Trial};
 use crate::octets::{Names, Shown, Words};
-use crate::writers::{Keeps, Memory, Trial};
 use anyhow::{Context, Result};
 use iim_dataset::{FromWrite, Target};
 use iim_object::{PackCause, Plan, StartFault};
