@@ -1,0 +1,200 @@
+"""Envelopes for tests: two worked ones, and random ones that are right, or wrong in one place."""
+
+import rules
+from rules import FILLER, GREATEST, LETTERS, DIGITS, ROWS, SPACED, TRAILER, dataset_of
+
+# The mandatory datasets alone, and a story of one empty line.
+SMALLEST_FIELDS = [
+    (1, 0, b"\0\4"),
+    (1, 20, b"\0\2"),
+    (1, 22, b"\0\1"),
+    (1, 30, b"TST"),
+    (1, 40, b"00000001"),
+    (1, 70, b"20240301"),
+    (2, 0, b"\0\4"),
+]
+SMALLEST_HEAD = [b"X", b"1", b"4", b"N", b"0", b""]
+SMALLEST = rules.packed(SMALLEST_FIELDS, rules.object_of(SMALLEST_HEAD, [b""], b""), 1024)
+# By-lines, keywords, and a story of two lines.
+STORY_FIELDS = [
+    *SMALLEST_FIELDS[:4],
+    (1, 40, b"00000002"),
+    *SMALLEST_FIELDS[5:],
+    (2, 105, b"Rates held"),
+    (2, 80, b"A. Moor"),
+    (2, 85, b"Editor"),
+    (2, 80, b"B. Lund"),
+    (2, 85, b"Writer"),
+    (2, 25, b"rates"),
+    (2, 25, b"bank"),
+    (2, 25, b"euro"),
+    (2, 250, b"\x00\xff"),
+]
+STORY_HEAD = [b"TST", b"0007", b"4", b"ECO", b"5", b"rates"]
+STORY_LINES = [b"Rates stay.", b"No change."]
+STORY_OBJECT = rules.object_of(STORY_HEAD, STORY_LINES, b"")
+STORY = rules.packed(STORY_FIELDS, STORY_OBJECT, 1024)
+
+LINE = bytes(octet for octet in range(256) if octet not in b"\1\2\3\4\n\r")
+SETS = {
+    "Graphic": rules.GRAPHIC,
+    "Spaced": SPACED,
+    "SpacedLines": rules.SPACED_LINES,
+    "Letters": LETTERS,
+    "Digits": DIGITS,
+}
+
+
+def some(random, octets, least, most):
+    """So many of the octets: often the fewest, and now and then the most."""
+    few = min(most, least + 12)
+    size = random.choice([least, random.randint(least, few), random.randint(least, few), most if most <= 64 or random.random() < 0.05 else few])
+    return bytes(random.choices(sorted(octets), k=size))
+
+
+def date(random):
+    year = random.choice([1, 4, 100, 400, 1900, 1999, 2000, 2023, 2024, 9999, random.randint(1, 9999)])
+    month = random.choice([1, 2, 2, 12, random.randint(1, 12)])
+    day = random.choice([1, 28, 29, 30, 31])
+    return b"%04d%02d%02d" % (year, month, day if rules.is_day(year, month, day) else 28)
+
+
+def part_date(random):
+    whole = date(random)
+    return random.choice([whole, whole[:6] + b"00", whole[:4] + b"00" + random.choice([b"00", b"01", b"31"]), whole[:4] + b"0000"])
+
+
+def time(random):
+    hour, minute, second = random.choice([0, 23, random.randint(0, 23)]), random.choice([0, 59]), random.choice([0, 59, random.randint(0, 59)])
+    return b"%02d%02d%02d%c%02d%02d" % (hour, minute, second, random.choice(b"+-"), random.choice([0, 1, 23]), random.choice([0, 30, 59]))
+
+
+def value(random, row):
+    """Octets that a row of records 1 and 2 admits."""
+    if row.kind in SETS:
+        return some(random, SETS[row.kind], row.least, row.most)
+    if row.kind in ("Date", "PartDate", "Time"):
+        return {"Date": date, "PartDate": part_date, "Time": time}[row.kind](random)
+    return some(random, range(256), row.least, row.most)
+
+
+def wrong_value(random, record, dataset):
+    """Octets that are wrong, or may be: too few, too many, or with one octet changed."""
+    row = rules.row_of(record, dataset) or rules.OTHER
+    octets = value(random, row._replace(most=min(row.most, 2000)))
+    how = random.randrange(4)
+    if how == 0:
+        return octets + b"0" * (min(row.most, 9000) + 1 - len(octets))
+    if how == 1:
+        return octets[: max(row.least - 1, 0)]
+    at = random.randrange(len(octets)) if octets else 0
+    return octets[:at] + bytes([random.choice([0, 9, 10, 13, 0x20, 0x2F, 0x3A, 0x40, 0x7F, 0x80, 0xFF, random.randrange(256)])]) + octets[at + 1 :]
+
+
+def digits_of(random, number):
+    """A number of 1 to 8 octets: the fewest that hold it, or more."""
+    least = max(1, (number.bit_length() + 7) // 8)
+    return number.to_bytes(random.choice([least, random.randint(least, 8), max(least, 4)]), "big")
+
+
+def fields(random, record, others):
+    """The datasets of record 1 or 2 in any order: the mandatory ones and some others."""
+    known = [key[1] for key in ROWS if key[0] == record]
+    numbers = list(rules.MANDATORY[record])
+    for each in random.sample(known, random.randint(0, 4)):
+        if ROWS[record, each].repeats or each not in numbers:
+            numbers += [each] * (random.randint(1, 3) if ROWS[record, each].repeats else 1)
+    numbers += random.choices([each for each in range(256) if each not in known], k=others)
+    random.shuffle(numbers)
+    made = [(record, each, value(random, rules.row_of(record, each))) for each in numbers]
+    return [(1, 20, b"\0\2") if field[:2] == (1, 20) else field for field in made]
+
+
+def line_end(random):
+    return random.choice([b"\n", b"\r\n", b"\r\n", b"\r\r\n"])
+
+
+def story(random):
+    """The octets of a message."""
+    filler = lambda: some(random, FILLER, 0, 32) if random.random() < 0.3 else b""
+    head = [some(random, LETTERS, 1, 8), some(random, DIGITS, 1, 8), some(random, DIGITS, 1, 1), some(random, LETTERS | DIGITS, 1, 8), some(random, DIGITS, 1, 6)]
+    info = random.choice([b"", b" ", b" " + some(random, SPACED, 0, 64)])
+    gap = random.choice([b"\r\n", b"\n", some(random, FILLER, 0, 31) + b"\n"])
+    lines = [some(random, random.choice([LINE, b"ab \t"]), 0, 30) for _ in range(random.choice([1, 1, 2, 3, 6]))]
+    text = b"".join(line + line_end(random) for line in lines[:-1]) + lines[-1]
+    tail = some(random, TRAILER, 0, 64) if random.random() < 0.4 else b""
+    return filler() + b"\1" + head[0] + b" ".join(head[1:]) + info + gap + b"\2" + text + b"\3" + tail + b"\4" + filler()
+
+
+def subfiles(random, octets, most):
+    """The object in subfiles of any size up to `most`, and a few empty ones."""
+    made, at = [], 0
+    while at < len(octets) or not made:
+        size = random.choice([most, random.randint(1, most), 0]) if most < 40 or random.random() < 0.9 else 0
+        made.append(octets[at : at + size])
+        at += size
+    return made + [b""] * random.choice([0, 0, 0, 1])
+
+
+def datasets(random, octets):
+    """The datasets of a right envelope of this object."""
+    most = random.choice([1, 7, len(octets) or 1, 1024, 2**31, 2**40, GREATEST])
+    numbers = [(20, digits_of(random, most))]
+    is_known = random.random() < 0.6
+    numbers.append((10, bytes([is_known])))
+    if is_known:
+        numbers.append((90, digits_of(random, len(octets))))
+    if random.random() < 0.4:
+        numbers.append((95, digits_of(random, random.choice([len(octets), len(octets) + 1, 2**32, GREATEST]))))
+    random.shuffle(numbers)
+    parts = subfiles(random, octets, max(1, min(most, len(octets))))
+    front = fields(random, 1, random.choice([0, 0, 1])) + fields(random, 2, random.choice([0, 0, 1, 3]))
+    return front + [(7, *each) for each in numbers] + [(8, 10, part) for part in parts] + [(9, 10, digits_of(random, len(octets)))]
+
+
+def spelled(random, each):
+    """A dataset with a count of any form."""
+    record, dataset, data = each
+    if len(data) <= 0x7FFF and random.random() < 0.8:
+        return dataset_of(record, dataset, data)
+    size = random.randint(max(1, (len(data).bit_length() + 7) // 8), 8)
+    return bytes([0x1C, record, dataset, 0x80, size]) + len(data).to_bytes(size, "big") + data
+
+
+def joined(random, made):
+    return b"".join(spelled(random, each) for each in made)
+
+
+def spoiled(random, made):
+    """The datasets with one dropped, doubled, moved, or changed in a way that is wrong, or may be."""
+    made, at = list(made), random.randrange(len(made))
+    if random.random() < 0.4:
+        # (records 7 and 9 have rules of their own)
+        at = random.choice([place for place, each in enumerate(made) if each[0] in (7, 9)])
+    record, dataset, data = made[at]
+    how = random.randrange(6)
+    if how == 0:
+        del made[at]
+    elif how == 1:
+        made.insert(random.choice([at, random.randrange(len(made))]), made[at])
+    elif how == 2:
+        made.insert(random.randrange(len(made)), made.pop(at))
+    elif how == 3:
+        made[at] = random.choice([(random.choice([0, 1, 2, 3, 7, 8, 9, 255]), dataset, data), (record, random.choice([10, 20, 90, 95, random.randrange(256)]), data)])
+    elif how == 4 and record in (7, 9):
+        size = max(0, rules.number(data) + random.choice([-1, 1, -2, 256]))
+        made[at] = record, dataset, random.choice([digits_of(random, min(size, 2**64 - 1)), b"\xff" * random.randint(1, 9), b"\0", b""])
+    else:
+        made[at] = record, dataset, wrong_value(random, record, dataset)
+    return made
+
+
+def damaged(random, octets):
+    """The octets with some changed, cut out, doubled or put in, in one place or two."""
+    for _ in range(random.choice([1, 1, 1, 2])):
+        at = random.randrange(len(octets) + 1)
+        end = min(len(octets), at + random.choice([1, 1, 2, 5, random.randint(1, 60)]))
+        how = random.randrange(4)
+        more = {0: random.randbytes(end - at), 1: b"", 2: octets[at:end] * 2, 3: bytes(random.choices(b"\0\1\2\3\4\n\r \x16\x1c0a\x80\xff", k=1)) + octets[at:end]}
+        octets = octets[:at] + more[how] + octets[end:]
+    return octets
