@@ -114,16 +114,22 @@ def line_end(random):
     return random.choice([b"\n", b"\r\n", b"\r\n", b"\r\r\n"])
 
 
+def head(random):
+    """The parts of a message's header, the info often empty."""
+    texts = (LETTERS, 8), (DIGITS, 8), (DIGITS, 1), (LETTERS | DIGITS, 8), (DIGITS, 6)
+    return [*(some(random, kind, 1, most) for kind, most in texts), random.choice([b"", some(random, SPACED, 0, 64)])]
+
+
 def story(random):
     """The octets of a message."""
     filler = lambda: some(random, FILLER, 0, 32) if random.random() < 0.3 else b""
-    head = [some(random, LETTERS, 1, 8), some(random, DIGITS, 1, 8), some(random, DIGITS, 1, 1), some(random, LETTERS | DIGITS, 1, 8), some(random, DIGITS, 1, 6)]
-    info = random.choice([b"", b" ", b" " + some(random, SPACED, 0, 64)])
+    *texts, info = head(random)
+    info = b" " + info if info or random.random() < 0.3 else b""
     gap = random.choice([b"\r\n", b"\n", some(random, FILLER, 0, 31) + b"\n"])
     lines = [some(random, random.choice([LINE, b"ab \t"]), 0, 30) for _ in range(random.choice([1, 1, 2, 3, 6]))]
     text = b"".join(line + line_end(random) for line in lines[:-1]) + lines[-1]
     tail = some(random, TRAILER, 0, 64) if random.random() < 0.4 else b""
-    return filler() + b"\1" + head[0] + b" ".join(head[1:]) + info + gap + b"\2" + text + b"\3" + tail + b"\4" + filler()
+    return filler() + b"\1" + texts[0] + b" ".join(texts[1:]) + info + gap + b"\2" + text + b"\3" + tail + b"\4" + filler()
 
 
 def subfiles(random, octets, most):
@@ -168,9 +174,10 @@ def joined(random, made):
 def spoiled(random, made):
     """The datasets with one dropped, doubled, moved, or changed in a way that is wrong, or may be."""
     made, at = list(made), random.randrange(len(made))
-    if random.random() < 0.4:
+    sizes = [place for place, each in enumerate(made) if each[0] in (7, 9)]
+    if sizes and random.random() < 0.4:
         # (records 7 and 9 have rules of their own)
-        at = random.choice([place for place, each in enumerate(made) if each[0] in (7, 9)])
+        at = random.choice(sizes)
     record, dataset, data = made[at]
     how = random.randrange(6)
     if how == 0:
@@ -187,6 +194,11 @@ def spoiled(random, made):
     else:
         made[at] = record, dataset, wrong_value(random, record, dataset)
     return made
+
+
+def spoiled_fields(random, made):
+    """Datasets of records 1 and 2 with one dropped, doubled, moved or changed."""
+    return spoiled(random, made) if made else [(1, 0, b"\0\4")]
 
 
 def damaged(random, octets):

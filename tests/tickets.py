@@ -54,6 +54,14 @@ def widened(octets):
     return spelled(place_of(octets)[1])
 
 
+def narrowed(place):
+    """The ticket of version 1 with the parts of a place, or None where they do not fit."""
+    try:
+        return spelled(place, 1)
+    except OverflowError:
+        return None
+
+
 class Unreadable(Exception):
     """Octets that are no ticket, and what is answered to them."""
 
