@@ -35,6 +35,48 @@ STORY_LINES = [b"Rates stay.", b"No change."]
 STORY_OBJECT = rules.object_of(STORY_HEAD, STORY_LINES, b"")
 STORY = rules.packed(STORY_FIELDS, STORY_OBJECT, 1024)
 
+
+def counted(each, size):
+    """A dataset with a count of so many octets behind its tag, or in it where that is 0."""
+    record, dataset, data = each
+    if size == 0:
+        return dataset_of(record, dataset, data)
+    return bytes([0x1C, record, dataset, 0x80, size]) + len(data).to_bytes(size, "big") + data
+
+
+# Values of each kind, counts of each form, sizes that are not announced, subfiles of any size, and a message with all of its parts.
+VARIED_OBJECT = (
+    b"\0\r\n\x16\1Wire0042 5 Eco9 000017 a b\x80\r\0\n\x16\2 one\ttwo\nthree\r\n\r\r\nfour\xff\3end\r\n\4\n\0"
+)
+VARIED_FIELDS = [
+    (1, 40, b"00000003"),
+    (1, 5, b"AB"),
+    (1, 5, b""),
+    (1, 60, b"5"),
+    (1, 20, b"\0\2"),
+    (1, 22, b"\xff\xff"),
+    (1, 30, b""),
+    (1, 70, b"20240229"),
+    (1, 80, b"235959-2359"),
+    (1, 100, b"UNIQUE NAME 14"),
+    (1, 200, b"\x1c\1\0"),
+    (1, 0, b"\0\4"),
+    (2, 30, b"20231231"),
+    (2, 35, b"000000+0000"),
+    (2, 0, b"\0\4"),
+    (2, 55, b"20240012"),
+    (2, 15, b"Eco"),
+    (2, 22, b"\x80x"),
+    (2, 40, b" a\r\nb"),
+    (2, 80, b"A B"),
+    (2, 80, b""),
+    (2, 3, b""),
+]
+VARIED_SIZES = [(7, 95, b"\0\0\0\1\0"), (7, 10, b"\0"), (7, 20, b"\x09")]
+VARIED_PARTS = [VARIED_OBJECT[:9], b"", VARIED_OBJECT[9:10], *(VARIED_OBJECT[at : at + 8] for at in range(10, len(VARIED_OBJECT), 8)), b""]
+VARIED_DATASETS = [*VARIED_FIELDS, *VARIED_SIZES, *((8, 10, part) for part in VARIED_PARTS), (9, 10, bytes([0, len(VARIED_OBJECT)]))]
+VARIED = b"".join(counted(each, (0, 1, 0, 2, 0, 8)[at % 6]) for at, each in enumerate(VARIED_DATASETS))
+
 LINE = bytes(octet for octet in range(256) if octet not in b"\1\2\3\4\n\r")
 SETS = {
     "Graphic": rules.GRAPHIC,
@@ -160,15 +202,22 @@ def datasets(random, octets):
 
 def spelled(random, each):
     """A dataset with a count of any form."""
-    record, dataset, data = each
-    if len(data) <= 0x7FFF and random.random() < 0.8:
-        return dataset_of(record, dataset, data)
-    size = random.randint(max(1, (len(data).bit_length() + 7) // 8), 8)
-    return bytes([0x1C, record, dataset, 0x80, size]) + len(data).to_bytes(size, "big") + data
+    size = len(each[2])
+    if size <= 0x7FFF and random.random() < 0.8:
+        return counted(each, 0)
+    return counted(each, random.randint(max(1, (size.bit_length() + 7) // 8), 8))
 
 
 def joined(random, made):
     return b"".join(spelled(random, each) for each in made)
+
+
+def wrong_size(random, data):
+    """A number near another, or octets of no such number."""
+    if random.random() < 0.3:
+        return random.choice([b"\xff" * random.randint(1, 9), b"\0", b"", b"\0" + data])
+    size = max(0, rules.number(data) + random.choice([-1, 1, -2, 256]))
+    return size.to_bytes(max(len(data), (size.bit_length() + 7) // 8), "big")
 
 
 def spoiled(random, made):
@@ -188,9 +237,8 @@ def spoiled(random, made):
         made.insert(random.randrange(len(made)), made.pop(at))
     elif how == 3:
         made[at] = random.choice([(random.choice([0, 1, 2, 3, 7, 8, 9, 255]), dataset, data), (record, random.choice([10, 20, 90, 95, random.randrange(256)]), data)])
-    elif how == 4 and record in (7, 9):
-        size = max(0, rules.number(data) + random.choice([-1, 1, -2, 256]))
-        made[at] = record, dataset, random.choice([digits_of(random, min(size, 2**64 - 1)), b"\xff" * random.randint(1, 9), b"\0", b""])
+    elif how >= 4 and record in (7, 9):
+        made[at] = record, dataset, wrong_size(random, data)
     else:
         made[at] = record, dataset, wrong_value(random, record, dataset)
     return made
