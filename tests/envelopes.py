@@ -90,7 +90,8 @@ SETS = {
 def some(random, octets, least, most):
     """So many of the octets: often the fewest, and now and then the most."""
     few = min(most, least + 12)
-    size = random.choice([least, random.randint(least, few), random.randint(least, few), most if most <= 64 or random.random() < 0.05 else few])
+    many = most if most <= 64 or random.random() < 0.05 else few
+    size = random.choice([least, random.randint(least, few), random.randint(least, few), many])
     return bytes(random.choices(sorted(octets), k=size))
 
 
@@ -103,12 +104,12 @@ def date(random):
 
 def part_date(random):
     whole = date(random)
-    return random.choice([whole, whole[:6] + b"00", whole[:4] + b"00" + random.choice([b"00", b"01", b"31"]), whole[:4] + b"0000"])
+    return random.choice([whole, whole[:6] + b"00", whole[:4] + b"0000", whole[:4] + b"0001", whole[:4] + b"0031"])
 
 
 def time(random):
-    hour, minute, second = random.choice([0, 23, random.randint(0, 23)]), random.choice([0, 59]), random.choice([0, 59, random.randint(0, 59)])
-    return b"%02d%02d%02d%c%02d%02d" % (hour, minute, second, random.choice(b"+-"), random.choice([0, 1, 23]), random.choice([0, 30, 59]))
+    any_of = lambda most: random.choice([0, most, random.randint(0, most)])
+    return b"%02d%02d%02d%c%02d%02d" % (any_of(23), any_of(59), any_of(59), random.choice(b"+-"), any_of(23), any_of(59))
 
 
 def value(random, row):
@@ -130,7 +131,8 @@ def wrong_value(random, record, dataset):
     if how == 1:
         return octets[: max(row.least - 1, 0)]
     at = random.randrange(len(octets)) if octets else 0
-    return octets[:at] + bytes([random.choice([0, 9, 10, 13, 0x20, 0x2F, 0x3A, 0x40, 0x7F, 0x80, 0xFF, random.randrange(256)])]) + octets[at + 1 :]
+    octet = random.choice([*b"\0\t\n\r /:@[`{\x7f\x80\xff", random.randrange(256)])
+    return octets[:at] + bytes([octet]) + octets[at + 1 :]
 
 
 def digits_of(random, number):
@@ -162,16 +164,58 @@ def head(random):
     return [*(some(random, kind, 1, most) for kind, most in texts), random.choice([b"", some(random, SPACED, 0, 64)])]
 
 
-def story(random):
-    """The octets of a message."""
-    filler = lambda: some(random, FILLER, 0, 32) if random.random() < 0.3 else b""
-    *texts, info = head(random)
+def text(random):
+    """Lines and their ends."""
+    lines = [some(random, random.choice([LINE, b"ab \t"]), 0, 30) for _ in range(random.choice([1, 1, 2, 3, 6]))]
+    return b"".join(line + line_end(random) for line in lines[:-1]) + lines[-1]
+
+
+def parts(random):
+    """The parts of a message in order: filler, header, gap, text, trailer and filler, with the marks between them."""
+    front, back = (some(random, FILLER, 0, 32) if random.random() < 0.3 else b"" for _ in range(2))
+    source, number, priority, category, words, info = head(random)
     info = b" " + info if info or random.random() < 0.3 else b""
     gap = random.choice([b"\r\n", b"\n", some(random, FILLER, 0, 31) + b"\n"])
-    lines = [some(random, random.choice([LINE, b"ab \t"]), 0, 30) for _ in range(random.choice([1, 1, 2, 3, 6]))]
-    text = b"".join(line + line_end(random) for line in lines[:-1]) + lines[-1]
     tail = some(random, TRAILER, 0, 64) if random.random() < 0.4 else b""
-    return filler() + b"\1" + texts[0] + b" ".join(texts[1:]) + info + gap + b"\2" + text + b"\3" + tail + b"\4" + filler()
+    header = [source, number, b" ", priority, b" ", category, b" ", words, info]
+    return [front, b"\1", *header, gap, b"\2", text(random), b"\3", tail, b"\4", back]
+
+
+def story(random):
+    """The octets of a message."""
+    return b"".join(parts(random))
+
+
+FILLERS = [b"\n" * 32, b"\n" * 33, b"\r" * 32, b"\0\x15"]
+MARKS = [b"", b"\0", b"  "]
+# What is put in the place of each part: some of it may stand there.
+OTHERS = [
+    FILLERS,
+    [b"", b"\1\1"],
+    [b"", b"A" * 8, b"A" * 9, b"@", b"a["],
+    [b"", b"1" * 8, b"1" * 9, b"/", b"1:"],
+    MARKS,
+    [b"", b"0", b"12", b"A"],
+    MARKS,
+    [b"", b"aZ9", b"A" * 8, b"A" * 9, b"A-"],
+    MARKS,
+    [b"", b"0" * 6, b"0" * 7, b"1A"],
+    [b"", b" ", b" " * 65, b" " * 66, b" \x7f", b" \x80", b" \t"],
+    [*FILLERS, b"", b"\r", b"\r" * 31 + b"\n", b"\r" * 32 + b"\n", b"\n" + b"\r" * 31],
+    [b"", b"\2\2"],
+    [b"", b"a\r", b"a\r\r", b"a\rb", b"a\r\r\nb", b"a\r\r\r\nb", b"a\r\r\r", b"\1", b"\2", b"a\r\4", b"\4", b"\n", b"\r\n\0"],
+    [b"", b"\3\3"],
+    [b"", b"\r" * 64, b"\n" * 65, b"\x7f", b"\t", b"\x80", b"\0"],
+    [b"", b"\4\4"],
+    FILLERS,
+]
+
+
+def wrong_story(random):
+    """The octets of a message with one part that is wrong, or may be."""
+    made, at = parts(random), random.randrange(len(OTHERS))
+    made[at] = random.choice(OTHERS[at])
+    return b"".join(made)
 
 
 def subfiles(random, octets, most):
@@ -195,9 +239,10 @@ def datasets(random, octets):
     if random.random() < 0.4:
         numbers.append((95, digits_of(random, random.choice([len(octets), len(octets) + 1, 2**32, GREATEST]))))
     random.shuffle(numbers)
-    parts = subfiles(random, octets, max(1, min(most, len(octets))))
-    front = fields(random, 1, random.choice([0, 0, 1])) + fields(random, 2, random.choice([0, 0, 1, 3]))
-    return front + [(7, *each) for each in numbers] + [(8, 10, part) for part in parts] + [(9, 10, digits_of(random, len(octets)))]
+    made = fields(random, 1, random.choice([0, 0, 1])) + fields(random, 2, random.choice([0, 0, 1, 3]))
+    made += [(7, *each) for each in numbers]
+    made += [(8, 10, part) for part in subfiles(random, octets, max(1, min(most, len(octets))))]
+    return [*made, (9, 10, digits_of(random, len(octets)))]
 
 
 def spelled(random, each):
@@ -236,7 +281,8 @@ def spoiled(random, made):
     elif how == 2:
         made.insert(random.randrange(len(made)), made.pop(at))
     elif how == 3:
-        made[at] = random.choice([(random.choice([0, 1, 2, 3, 7, 8, 9, 255]), dataset, data), (record, random.choice([10, 20, 90, 95, random.randrange(256)]), data)])
+        other = random.choice([0, 1, 2, 3, 7, 8, 9, 255]), random.choice([10, 20, 90, 95, random.randrange(256)])
+        made[at] = random.choice([(other[0], dataset, data), (record, other[1], data)])
     elif how >= 4 and record in (7, 9):
         made[at] = record, dataset, wrong_size(random, data)
     else:
@@ -254,7 +300,8 @@ def damaged(random, octets):
     for _ in range(random.choice([1, 1, 1, 2])):
         at = random.randrange(len(octets) + 1)
         end = min(len(octets), at + random.choice([1, 1, 2, 5, random.randint(1, 60)]))
-        how = random.randrange(4)
-        more = {0: random.randbytes(end - at), 1: b"", 2: octets[at:end] * 2, 3: bytes(random.choices(b"\0\1\2\3\4\n\r \x16\x1c0a\x80\xff", k=1)) + octets[at:end]}
-        octets = octets[:at] + more[how] + octets[end:]
+        part = octets[at:end]
+        mark = bytes([random.choice(b"\0\1\2\3\4\n\r \x16\x1c0a\x80\xff")])
+        part = random.choice([random.randbytes(len(part)), b"", part + part, mark + part])
+        octets = octets[:at] + part + octets[end:]
     return octets

@@ -244,7 +244,8 @@ class Message:
 
     def __init__(self):
         self.part, self.counter, self.flag = self.BEFORE, 0, 0
-        self.texts = {part: b"" for part in (self.SOURCE, self.NUMBER, self.PRIORITY, self.CATEGORY, self.WORDS, self.INFO, self.TAIL)}
+        texts = self.SOURCE, self.NUMBER, self.PRIORITY, self.CATEGORY, self.WORDS, self.INFO, self.TAIL
+        self.texts = dict.fromkeys(texts, b"")
         self.lines = [bytearray()]
 
     def copy(self):

@@ -18,8 +18,9 @@ def place(envelope):
         begun = dataset, count, count - len(data), b"" if envelope.section == 8 else data
     phase = 2 if envelope.is_done else 1 if begun else 0
     texts = [message.texts[part] for part in sorted(message.texts)]
+    front = envelope.section, phase, envelope.tag, begun, envelope.fields
     sizes = envelope.numbers, envelope.total, envelope.subfiles
-    return Place(envelope.section, phase, envelope.tag, begun, envelope.fields, *sizes, message.part, message.counter, message.flag, texts)
+    return Place(*front, *sizes, message.part, message.counter, message.flag, texts)
 
 
 def ticket(envelope, version=2):
