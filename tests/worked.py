@@ -1,8 +1,9 @@
 """The rules, held to envelopes and answers that were worked out by hand: `rows` gives what the rules say and what is right."""
 import rules
 import tickets
-from envelopes import SMALLEST, SMALLEST_FIELDS, SMALLEST_HEAD, STORY, STORY_FIELDS, STORY_HEAD, STORY_LINES, STORY_OBJECT
-from rules import Message, dataset_of, object_of, packed, read
+from envelopes import SMALLEST, SMALLEST_FIELDS, SMALLEST_HEAD, VARIED, VARIED_FIELDS, VARIED_OBJECT
+from envelopes import STORY, STORY_FIELDS, STORY_HEAD, STORY_LINES, STORY_OBJECT
+from rules import dataset_of, object_of, packed, read
 
 # Where the datasets of the worked envelopes begin, and their tags.
 TAGS = {
@@ -85,6 +86,11 @@ def whole_envelopes():
     yield envelope.fields, STORY_FIELDS
     yield envelope.message.lines, [b"Rates stay.", b"No change."]
     yield answer(SMALLEST + STORY), "done 114"
+    envelope = read(VARIED)
+    yield (envelope.answer(), envelope.fields), (f"done {len(VARIED)}", VARIED_FIELDS)
+    yield envelope.message.head(), [b"Wire", b"0042", b"5", b"Eco9", b"000017", b"a b\x80"]
+    yield envelope.message.lines, [b" one\ttwo", b"three", b"", b"four\xff"]
+    yield (envelope.numbers, envelope.total), ({95: 256, 10: 0, 20: 9}, len(VARIED_OBJECT))
     for at in range(246):
         yield answer(STORY[:at]), "more"
     for at, name in (0, "0:00"), (64, "2:00"), (200, "8:10"):
@@ -257,5 +263,8 @@ def audits():
     held = of(object_of(SMALLEST_HEAD, [b""], b""), 1024, dated(release, (35, b"120000-0100")))
     yield (len(held), rules.report([read(held)], NOW)), (
         143,
-        ["1 TST 00000001 20240301 priority - size 14 subfiles 1 words 0/0 age - repeats - copy held", "1 envelopes, 0 repeated, 1 held"],
+        [
+            "1 TST 00000001 20240301 priority - size 14 subfiles 1 words 0/0 age - repeats - copy held",
+            "1 envelopes, 0 repeated, 1 held",
+        ],
     )
