@@ -2,6 +2,7 @@
 
 mod broken;
 mod failing;
+mod great;
 
 use iim_fields::{Envelope, EnvelopeBuilder, Limits};
 use iim_object::{Plan, Size};
