@@ -10,6 +10,8 @@ mod causes;
 mod cuts;
 mod intakes;
 mod octets;
+mod packing;
+mod scripts;
 mod streams;
 mod tables;
 mod tickets;
@@ -18,6 +20,7 @@ mod values;
 
 use anyhow::{Result, bail};
 use octets::{Names, Words};
+use packing::Packing;
 use std::alloc::Global;
 use std::io::{self, BufRead, BufReader, BufWriter, Write};
 use unpacking::Bench;
@@ -28,6 +31,7 @@ struct Vectors {
     alloc: Global,
     names: Names,
     bench: Bench,
+    packing: Packing,
 }
 
 impl Vectors {
@@ -36,6 +40,7 @@ impl Vectors {
             alloc,
             names: Names::new(alloc),
             bench: Bench::new(alloc)?,
+            packing: Packing::new(alloc),
         })
     }
 
@@ -49,6 +54,7 @@ impl Vectors {
                 tables::answer(out, &self.names, word, &mut words)?
                     || self.bench.answer(out, &self.names, word, &mut words)?
                     || auditing::answer(out, self.alloc, &self.names, word, &mut words)?
+                    || self.packing.answer(out, &self.names, word, &mut words)?
             }
         };
         if !is_known {
