@@ -18,8 +18,11 @@ const PLACES: usize = 400;
 /// A stream, and the limits that it is taken under.
 #[derive(Clone, Copy)]
 pub struct Stream<'o> {
+    /// Where memory comes from.
     pub alloc: Global,
+    /// What records 1 and 2 may have.
     pub limits: Limits,
+    /// The octets.
     pub octets: &'o [u8],
 }
 

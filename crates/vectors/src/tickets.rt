@@ -75,7 +75,9 @@ pub fn print_restored<W: Write>(
 /// A ticket but for the number of octets of the object that have come.
 #[derive(Clone, Copy)]
 pub struct OpenTicket<'t> {
+    /// What comes before the number.
     pub front: &'t [u8],
+    /// What comes after it.
     pub back: &'t [u8],
 }
 
