@@ -167,7 +167,10 @@ pub fn print_parts<W: Write>(out: &mut W, ticket: &[u8]) -> Result<()> {
     let section = parts.section;
     writeln!(out, "  version {version} section {section}")?;
     print_phase(out, &parts.phase)?;
-    while let Some((rec, set, octets)) = parts.fields.next() {
+    for _ in 0..ticket.len() {
+        let Some((rec, set, octets)) = parts.fields.next() else {
+            break;
+        };
         print_field(out, rec, set, octets)?;
     }
     print_object(out, &parts)?;
