@@ -49,6 +49,20 @@ impl Told {
     }
 }
 
+/// Prints the lines of a text, each of which an LF ends.
+fn print_text<W: Write>(out: &mut W, text: &[u8]) -> Result<()> {
+    let mut rest = text;
+    for _ in 0..text.len() {
+        let Some(end) = rest.iter().position(|octet| *octet == b'\n') else {
+            break;
+        };
+        let line = Line(rest.get(..end).unwrap_or(&[]));
+        writeln!(out, "  line {line}")?;
+        rest = rest.get(end.saturating_add(1)..).unwrap_or(&[]);
+    }
+    Ok(())
+}
+
 /// Adds lines to a text that ends in the midst of one, or is empty, with an LF after each.
 fn push_lines(text: &mut Vec<u8>, lines: &Lines) -> Result<()> {
     if text.last() == Some(&b'\n') {
@@ -263,15 +277,7 @@ impl Stream<'_> {
             Ok(used) => writeln!(out, "  done {used}")?,
             Err(refusal) => writeln!(out, "  {refusal}")?,
         }
-        for line in whole
-            .text
-            .strip_suffix(b"\n")
-            .unwrap_or(&[])
-            .split(|octet| *octet == b'\n')
-        {
-            let line = Line(line);
-            writeln!(out, "  line {line}")?;
-        }
+        print_text(out, whole.text.as_slice())?;
         self.check_pieces(&whole)?;
         let longest = LONGEST;
         let places = self.check_tickets(&whole)?;
