@@ -201,6 +201,3 @@ pub fn parse<'a>(alloc: Global, words: &'a [String]) -> Result<Request<'a>, Usag
         job: job_of(verb, found)?,
     })
 }
-
-#[cfg(test)]
-mod tests;

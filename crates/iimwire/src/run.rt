@@ -129,6 +129,3 @@ pub fn run<R: Source + Drop, W: Target, E: Target>(
         Job::Audit { now } => review(alloc, now, reader, output, errors),
     }
 }
-
-#[cfg(test)]
-mod tests;

@@ -26,6 +26,3 @@ pub fn serve<R: Source + Drop, W: Target, E: Target>(
         }
     }
 }
-
-#[cfg(test)]
-mod tests;

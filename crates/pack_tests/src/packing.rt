@@ -1,14 +1,15 @@
-//! Envelopes packed. What is expected is worked out from the format.
+//! Envelopes packed into writers that fail. What is expected is worked out from the format.
 
 mod broken;
-mod calls;
 mod failing;
-mod plans;
+mod great;
 
-use iim_dataset::FromWrite;
 use iim_fields::{Envelope, EnvelopeBuilder, Limits};
-use iim_object::{PackCause, Plan, Size};
-use iim_pack::pack;
+use iim_object::{Plan, Size};
+use iim_pack::laws::{
+    packed_octets_are_few, packed_octets_are_one, packed_octets_carry_the_value,
+    packed_subfiles_are_few,
+};
 use std::alloc::{AllocError, Global};
 use std::process::Abort;
 use wire_message::MessageHead;
@@ -19,25 +20,6 @@ const LIMITS: Limits = Limits {
     octets: 65_536,
     fields: 512,
 };
-
-/// The fields of the smallest envelope.
-static SMALLEST: [(u8, u8, &[u8]); 7] = [
-    (1, 0, b"\0\x04"),
-    (1, 20, b"\0\x02"),
-    (1, 22, b"\0\x01"),
-    (1, 30, b"TST"),
-    (1, 40, b"00000001"),
-    (1, 70, b"20240301"),
-    (2, 0, b"\0\x04"),
-];
-
-/// The smallest envelope up to its fields' end.
-const SMALLEST_FRONT: &[u8] =
-    b"\x1c\x01\x00\x00\x02\x00\x04\x1c\x01\x14\x00\x02\x00\x02\x1c\x01\x16\x00\x02\x00\x01\
-\x1c\x01\x1e\x00\x03TST\x1c\x01\x28\x00\x0800000001\x1c\x01\x46\x00\x0820240301\x1c\x02\x00\x00\x02\x00\x04";
-
-/// Its object: a story of one empty line.
-const SMALLEST_OBJECT: &[u8] = b"\x01X1 4 N 0\r\n\x02\x03\x04";
 
 /// The fields of an envelope with by-lines and keywords.
 static STORY: [(u8, u8, &[u8]); 16] = [
@@ -75,11 +57,6 @@ const STORY_REST: &[u8] =
     b"\x1c\x07\x0a\0\x01\x01\x1c\x07\x14\0\x04\0\0\x04\0\x1c\x07\x5a\0\x04\0\0\0\x32\
 \x1c\x08\x0a\0\x32\x01TST0007 4 ECO 5 rates\r\n\x02Rates stay.\r\nNo change.\x03\x04\x1c\x09\x0a\0\x04\0\0\0\x32";
 
-/// Whether these octets are that envelope.
-fn is_the_story(octets: &[u8]) -> bool {
-    octets.len() == 246 && octets.starts_with(STORY_FRONT) && octets.ends_with(STORY_REST)
-}
-
 fn envelope(rt: &impl Abort, alloc: Global, fields: &[(u8, u8, &[u8])]) -> Envelope {
     let Ok(mut builder) = EnvelopeBuilder::new(alloc, LIMITS) else {
         panic!(rt; "memory");
@@ -90,13 +67,6 @@ fn envelope(rt: &impl Abort, alloc: Global, fields: &[(u8, u8, &[u8])]) -> Envel
     match builder.finish() {
         Ok(envelope) => envelope,
         Err(_) => panic!(rt; "a dataset is missing"),
-    }
-}
-
-fn smallest_head(rt: &impl Abort) -> MessageHead {
-    match MessageHead::new(b"X", b"1", b"4", b"N", b"0", b"") {
-        Some(head) => head,
-        None => panic!(rt; "head"),
     }
 }
 
@@ -126,26 +96,6 @@ fn plan(rt: &impl Abort, subfile: u64, size: Size) -> Plan {
     match Plan::new(subfile, size) {
         Some(plan) => plan,
         None => panic!(rt; "plan"),
-    }
-}
-
-/// What `pack` writes, or why it doesn't; and then nothing is out.
-fn packed(
-    rt: &impl Abort,
-    alloc: Global,
-    value: (&Envelope, &MessageHead, &Lines),
-    trailer: &[u8],
-    plan: Plan,
-) -> Result<Vec<u8>, PackCause> {
-    let (envelope, head, lines) = value;
-    let writer = FromWrite::new(Vec::new(alloc));
-    match pack(alloc, envelope, head, lines, trailer, plan, writer) {
-        Ok(writer) => Ok(writer.into_inner()),
-        Err(fault) => {
-            assert_eq!(rt; fault.written, 0);
-            assert!(rt; fault.writer.into_inner().is_empty());
-            Err(fault.cause)
-        }
     }
 }
 
@@ -181,4 +131,12 @@ fn expected(alloc: Global, front: &[u8], object: &[u8], plan: Plan) -> Result<Ve
     }
     put_dataset(&mut all, 9, 10, &four_octets(object.len() as u64))?;
     Ok(all)
+}
+
+#[test]
+fn laws_can_be_called() {
+    packed_octets_are_few();
+    packed_octets_are_one();
+    packed_octets_carry_the_value();
+    packed_subfiles_are_few();
 }

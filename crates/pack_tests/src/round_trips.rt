@@ -5,7 +5,7 @@ use iim_fields::Limits;
 use iim_object::{Plan, Size};
 use iim_pack::{pack, packed_size};
 use iim_round_trip::{unpack_packed, unpack_story};
-use iim_unpack::{Cause, Progress, Unpacked, Unpacker};
+use iim_unpack::{Cause, Unpacked, Unpacker};
 use std::alloc::Global;
 use std::process::Abort;
 use std::test::Fail;
@@ -22,13 +22,6 @@ const LIMITS: Limits = Limits {
 const SMALLEST: &[u8] =
     b"\x1c\x01\x00\x00\x02\x00\x04\x1c\x01\x14\x00\x02\x00\x02\x1c\x01\x16\x00\x02\x00\x01\
 \x1c\x01\x1e\x00\x03TST\x1c\x01\x28\x00\x0800000001\x1c\x01\x46\x00\x0820240301\x1c\x02\x00\x00\x02\x00\x04\
-\x1c\x07\x0a\x00\x01\x01\x1c\x07\x14\x00\x04\x00\x00\x04\x00\x1c\x07\x5a\x00\x04\x00\x00\x00\x0e\
-\x1c\x08\x0a\x00\x0e\x01X1 4 N 0\r\n\x02\x03\x04\x1c\x09\x0a\x00\x04\x00\x00\x00\x0e";
-
-/// The same, with an extended count at 1:30.
-const EXTENDED: &[u8] =
-    b"\x1c\x01\x00\x00\x02\x00\x04\x1c\x01\x14\x00\x02\x00\x02\x1c\x01\x16\x00\x02\x00\x01\
-\x1c\x01\x1e\x80\x04\x00\x00\x00\x03TST\x1c\x01\x28\x00\x0800000001\x1c\x01\x46\x00\x0820240301\x1c\x02\x00\x00\x02\x00\x04\
 \x1c\x07\x0a\x00\x01\x01\x1c\x07\x14\x00\x04\x00\x00\x04\x00\x1c\x07\x5a\x00\x04\x00\x00\x00\x0e\
 \x1c\x08\x0a\x00\x0e\x01X1 4 N 0\r\n\x02\x03\x04\x1c\x09\x0a\x00\x04\x00\x00\x00\x0e";
 
@@ -51,27 +44,6 @@ fn unpacked(rt: &impl Abort, alloc: Global, pieces: &[&[u8]]) -> (Unpacked, Line
     match unpack_packed(unpacker, pieces, &mut lines) {
         Ok((got, used)) => (got, lines, used),
         Err(refusal) => panic!(rt; "refused at octet {}", refusal.octet),
-    }
-}
-
-/// The same, fed octet by octet with an empty piece before each.
-fn octet_by_octet(rt: &impl Abort, alloc: Global, octets: &[u8]) -> (Unpacked, Lines, u64) {
-    let mut lines = Lines::new(alloc);
-    let Ok(mut unpacker) = Unpacker::new(alloc, LIMITS) else {
-        panic!(rt; "memory");
-    };
-    let mut used = 0u64;
-    for octet in octets {
-        assert!(rt; matches!(unpacker.feed(&[], &mut lines), Ok(Progress::More)));
-        match unpacker.feed(&[*octet], &mut lines) {
-            Ok(Progress::More) => used = used.saturating_add(1),
-            Ok(Progress::Done { used: last }) => used = used.saturating_add(last as u64),
-            Err(_) => panic!(rt; "refused"),
-        }
-    }
-    match unpacker.into_unpacked() {
-        Ok(got) => (got, lines, used),
-        Err(_) => panic!(rt; "not done"),
     }
 }
 
@@ -139,29 +111,6 @@ fn every_small_plan_comes_back(rt: HostRuntime) {
             }
         }
     }
-}
-
-#[test]
-fn subfiles_of_one_and_of_seven_octet_by_octet(rt: HostRuntime) {
-    let alloc = rt.alloc();
-    let (first, lines, _) = unpacked(&rt, alloc, &[STORY]);
-    for (subfile, length, subfiles) in [(1, 491, 50), (7, 281, 8)] {
-        let octets = packed(&rt, alloc, &first, &lines, subfile, Size::Known(50));
-        assert_eq!(rt; octets.len(), length);
-        let (got, others, used) = octet_by_octet(&rt, alloc, &octets);
-        assert_eq!(rt; used, length as u64);
-        assert_eq!(rt; got.sizes.subfiles, subfiles);
-        assert!(rt; are_same(&got, &others, &first, &lines));
-    }
-}
-
-#[test]
-fn an_extended_count_is_packed_as_a_standard_one(rt: HostRuntime) {
-    let alloc = rt.alloc();
-    let (got, lines, used) = unpacked(&rt, alloc, &[EXTENDED]);
-    assert_eq!(rt; used, 118);
-    let octets = packed(&rt, alloc, &got, &lines, 1024, Size::Known(14));
-    assert_eq!(rt; octets.as_slice(), SMALLEST);
 }
 
 #[test]

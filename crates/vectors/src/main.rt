@@ -6,11 +6,14 @@
 #![tactic(auto)]
 
 mod octets;
+mod packing;
+mod scripts;
 mod tables;
 mod unpacking;
 
 use anyhow::{Result, bail};
 use octets::{Names, Words};
+use packing::Packing;
 use std::alloc::Global;
 use std::io::{self, BufRead, BufReader, BufWriter, Write};
 use unpacking::Bench;
@@ -20,6 +23,7 @@ use unpacking::Bench;
 struct Vectors {
     names: Names,
     bench: Bench,
+    packing: Packing,
 }
 
 impl Vectors {
@@ -27,6 +31,7 @@ impl Vectors {
         Ok(Vectors {
             names: Names::new(alloc),
             bench: Bench::new(alloc)?,
+            packing: Packing::new(alloc),
         })
     }
 
@@ -39,6 +44,7 @@ impl Vectors {
             _ => {
                 tables::answer(out, &self.names, word, &mut words)?
                     || self.bench.answer(out, &self.names, word, &mut words)?
+                    || self.packing.answer(out, &self.names, word, &mut words)?
             }
         };
         if !is_known {

@@ -47,7 +47,7 @@ fn digit(octet: u8) -> Result<u8> {
 }
 
 /// The decimal number that octets spell.
-fn number_of(digits: &[u8]) -> Result<u64> {
+pub fn number_of(digits: &[u8]) -> Result<u64> {
     let mut number = 0u64;
     if digits.is_empty() {
         bail!("a number has no digits");

@@ -86,24 +86,6 @@ fn writes_fail_call_by_call(rt: HostRuntime) {
 }
 
 #[test]
-fn interruptions_are_borne_to_a_million(rt: HostRuntime) {
-    for (good, times, right) in [
-        (0, 999_999, End::Whole),
-        (245, 999_999, End::Whole),
-        (0, 1_000_000, End::InStart(0)),
-        (181, 1_000_000, End::InStart(181)),
-        (182, 1_000_000, End::InFinish(182)),
-        (245, 1_000_000, End::InFinish(245)),
-    ] {
-        let writer: TrialWriter<512> = TrialWriter::new(good, Trouble::Interruptions(times));
-        assert!(rt;
-            pack_story(&rt, rt.alloc(), writer) == right,
-            "{times} after {good}"
-        );
-    }
-}
-
-#[test]
 fn a_full_writer_takes_nothing(rt: HostRuntime) {
     let none: TrialWriter<0> = TrialWriter::new(1000, Trouble::Failure);
     assert!(rt; pack_story(&rt, rt.alloc(), none) == End::InStart(0));

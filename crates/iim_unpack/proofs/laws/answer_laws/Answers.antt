@@ -19,5 +19,6 @@ returns c =
       stuck = c.no_octets_continue.ensures;
       living = feed.living;
       numbers = feed.numbers;
+      rows = c.number_datasets_are_good.ensures;
       texts = c.texts_so_far_have_one_reading.ensures;
     }

@@ -1,0 +1,632 @@
+"""The rules of the format a second time, in plain Python, apart from the crates: what is answered to any octets.
+
+`read` goes through one envelope, as far as its octets go; `packed` is what the packer writes, `report` what the audit prints.
+docs/FORMAT.md tells the same rules in words.
+"""
+import collections
+import copy
+import datetime
+
+# The greatest size of an object, the most octets of an extended count, the most subfiles; the limits of the command.
+GREATEST = 2**63 - 1
+COUNT_OCTETS = 8
+SUBFILES = 2**32 - 1
+LIMITS = 65536, 512
+
+CAUSES = {
+    1: "Marker",
+    2: "CountForm",
+    3: "Truncated",
+    10: "RecordOrder",
+    11: "UnknownDataset",
+    12: "Repeated",
+    13: "CountRange",
+    14: "Missing",
+    15: "BadValue",
+    16: "FileFormat",
+    20: "ModeClash",
+    21: "SizeClash",
+    22: "SubfileTooLong",
+    23: "PastSize",
+    24: "Short",
+    25: "ConfirmedWrong",
+    30: "BadOctet",
+    32: "Unfinished",
+    40: "LoneReturn",
+    41: "ControlOctet",
+    50: "HeaderFull",
+    51: "TooManyFields",
+    52: "TooManySubfiles",
+    61: "Failed",
+}
+
+LETTERS = frozenset(b"ABCDEFGHIJKLMNOPQRSTUVWXYZabcdefghijklmnopqrstuvwxyz")
+DIGITS = frozenset(b"0123456789")
+GRAPHIC = frozenset([*range(0x21, 0x7F), *range(0x80, 0x100)])
+SPACED = GRAPHIC | {0x20}
+SPACED_LINES = SPACED | {0x0A, 0x0D}
+FILLER = frozenset([0x00, 0x0A, 0x0D, 0x16])
+TRAILER = SPACED_LINES
+
+
+# --- Values ---
+
+
+def is_day(year, month, day):
+    try:
+        datetime.date(year, month, day)
+    except ValueError:
+        return False
+    return True
+
+
+def date_parts(octets):
+    """Year, month and day of eight digits, else None."""
+    if len(octets) != 8 or not DIGITS.issuperset(octets):
+        return None
+    return int(octets[:4]), int(octets[4:6]), int(octets[6:])
+
+
+def is_date(octets):
+    parts = date_parts(octets)
+    return parts is not None and is_day(*parts)
+
+
+def is_part_date(octets):
+    """A date whose month, or day, or both are unknown; without a month any day up to 31 is taken."""
+    parts = date_parts(octets)
+    if parts is None or parts[0] == 0:
+        return False
+    year, month, day = parts
+    if month == 0:
+        return day <= 31
+    return month <= 12 if day == 0 else is_day(year, month, day)
+
+
+def is_time(octets):
+    if len(octets) != 11 or octets[6] not in b"+-" or not DIGITS.issuperset(octets[:6] + octets[7:]):
+        return False
+    hour, minute, second = int(octets[:2]), int(octets[2:4]), int(octets[4:6])
+    return hour <= 23 and minute <= 59 and second <= 59 and int(octets[7:9]) <= 23 and int(octets[9:]) <= 59
+
+
+def is_size(octets):
+    return 1 <= len(octets) <= COUNT_OCTETS and number(octets) <= GREATEST
+
+
+KINDS = {
+    "Graphic": GRAPHIC.issuperset,
+    "Spaced": SPACED.issuperset,
+    "SpacedLines": SPACED_LINES.issuperset,
+    "Letters": LETTERS.issuperset,
+    "Digits": DIGITS.issuperset,
+    "Date": is_date,
+    "PartDate": is_part_date,
+    "Time": is_time,
+    "Binary": lambda octets: True,
+    "Octets": lambda octets: True,
+    "Mode": lambda octets: bytes(octets) in (b"\0", b"\1"),
+    "Size": is_size,
+    "SizeFromOne": lambda octets: is_size(octets) and number(octets) > 0,
+}
+
+
+def number(octets):
+    return int.from_bytes(octets, "big")
+
+
+def number_of(octets):
+    """A number of 1 to 8 octets, else None."""
+    return number(octets) if 1 <= len(octets) <= COUNT_OCTETS else None
+
+
+# The seconds of the first and the last instant that there is a form for.
+FIRST_SECOND, LAST_SECOND = -377705023201, 253402207200
+EPOCH = datetime.date(1970, 1, 1).toordinal()
+
+
+def instant_of(date, time):
+    """The seconds from 1970 on of a local time less its offset, or None."""
+    if not is_date(date) or not is_time(time):
+        return None
+    day = datetime.date(*date_parts(date)).toordinal() - EPOCH
+    hour, minute, second = int(time[:2]), int(time[2:4]), int(time[4:6])
+    offset = (int(time[7:9]) * 60 + int(time[9:])) * 60
+    seconds = day * 86400 + (hour * 60 + minute) * 60 + second - (offset if time[6] == ord("+") else -offset)
+    return seconds if FIRST_SECOND <= seconds <= LAST_SECOND else None
+
+
+def instant_text(seconds):
+    """An instant as it is printed."""
+    if seconds is None:
+        return "none"
+    day, second = EPOCH + seconds // 86400, seconds % 86400
+    # (the day before the first that Python has is the last of the year 0)
+    date = datetime.date.fromordinal(day).isoformat() if day > 0 else "0000-12-31"
+    return f"{date}T{second // 3600:02}:{second // 60 % 60:02}:{second % 60:02}Z"
+
+
+# --- Rows ---
+
+Row = collections.namedtuple("Row", "least most kind is_mandatory repeats")
+
+
+def rows(record, text):
+    """Rows written a line each: number, bounds, kind, and the words `mandatory` and `repeats` where they hold."""
+    made = {}
+    for line in text.strip().splitlines():
+        dataset, bounds, kind, *words = line.split()
+        least, _, most = bounds.partition("-")
+        made[record, int(dataset)] = Row(int(least), int(most or least), kind, "mandatory" in words, "repeats" in words)
+    return made
+
+
+ROWS = {
+    **rows(
+        1,
+        """
+        0 2 Binary mandatory
+        5 0-1024 Graphic repeats
+        20 2 Binary mandatory
+        22 2 Binary mandatory
+        30 0-10 Graphic mandatory
+        40 8 Digits mandatory
+        50 0-32 Graphic repeats
+        60 1 Digits
+        70 8 Date mandatory
+        80 11 Time
+        90 0-32 Octets
+        100 14-80 Octets
+        """,
+    ),
+    **rows(
+        2,
+        """
+        0 2 Binary mandatory
+        5 0-64 Spaced
+        7 0-64 Spaced
+        10 1 Digits
+        15 0-3 Letters
+        20 0-32 Spaced repeats
+        22 0-32 Graphic
+        25 0-64 Spaced repeats
+        30 8 Date
+        35 11 Time
+        37 8 Date
+        38 11 Time
+        40 0-256 SpacedLines
+        55 8 PartDate
+        60 11 Time
+        80 0-32 Spaced repeats
+        85 0-32 Spaced repeats
+        90 0-32 Spaced
+        95 0-32 Spaced
+        100 0-3 Letters
+        101 0-64 Spaced
+        103 0-32 Spaced
+        105 0-256 Spaced
+        110 0-32 Spaced
+        115 0-32 Spaced
+        116 0-128 Spaced
+        120 0-2000 SpacedLines
+        122 0-32 Spaced repeats
+        """,
+    ),
+    (7, 10): Row(1, 1, "Mode", True, False),
+    (7, 20): Row(1, COUNT_OCTETS, "SizeFromOne", True, False),
+    (7, 90): Row(1, COUNT_OCTETS, "Size", False, False),
+    (7, 95): Row(1, COUNT_OCTETS, "Size", False, False),
+    (8, 10): Row(0, GREATEST, "Octets", True, True),
+    (9, 10): Row(1, COUNT_OCTETS, "Size", True, False),
+}
+OTHER = Row(0, 8192, "Octets", False, True)
+MANDATORY = {record: [key[1] for key, row in ROWS.items() if key[0] == record and row.is_mandatory] for record in (1, 2, 7, 8, 9)}
+# The record that follows.
+NEXT = {0: 1, 1: 2, 2: 7, 7: 8, 8: 9}
+
+
+def row_of(record, dataset):
+    return ROWS.get((record, dataset), OTHER if record in (1, 2) else None)
+
+
+def admits(row, octets):
+    return row.least <= len(octets) <= row.most and KINDS[row.kind](octets)
+
+
+# --- The message ---
+
+
+class Message:
+    """The message, octet by octet: `take` answers a cause where an octet is refused, else 0."""
+
+    # The parts, and the texts by the part that they stand in.
+    BEFORE, SOURCE, NUMBER, SPACE, PRIORITY, CATEGORY, WORDS, INFO, GAP, TEXT, TAIL, AFTER = range(12)
+
+    def __init__(self):
+        self.part, self.counter, self.flag = self.BEFORE, 0, 0
+        texts = self.SOURCE, self.NUMBER, self.PRIORITY, self.CATEGORY, self.WORDS, self.INFO, self.TAIL
+        self.texts = dict.fromkeys(texts, b"")
+        self.lines = [bytearray()]
+
+    def copy(self):
+        other = copy.copy(self)
+        other.texts, other.lines = dict(self.texts), [line[:] for line in self.lines]
+        return other
+
+    def take(self, octet):
+        if self.part == self.TEXT:
+            return self.text(octet)
+        before = self.part
+        if not self.goes_on(octet):
+            return 30
+        if self.part != before and self.part != self.GAP:
+            self.counter = self.flag = 0
+        return 0
+
+    def goes_on(self, octet):
+        """Takes an octet outside of the text; answers whether it may stand there."""
+        if self.part == self.BEFORE:
+            return self.turns(octet, b"\1", self.SOURCE) or self.fills(octet)
+        if self.part == self.SOURCE:
+            return self.grows(octet, LETTERS, 8) or self.begins(octet, DIGITS, self.NUMBER)
+        if self.part == self.NUMBER:
+            return self.grows(octet, DIGITS, 8) or self.turns(octet, b" ", self.SPACE)
+        if self.part == self.SPACE:
+            return self.turns(octet, DIGITS, self.PRIORITY) and self.grows(octet, DIGITS, 1)
+        if self.part == self.PRIORITY:
+            return self.turns(octet, b" ", self.CATEGORY)
+        if self.part == self.CATEGORY:
+            return self.grows(octet, LETTERS | DIGITS, 8) or self.ends(octet, b" ", self.WORDS)
+        if self.part == self.WORDS:
+            return self.grows(octet, DIGITS, 6) or self.ends(octet, b" ", self.INFO) or self.ends(octet, FILLER, self.GAP)
+        if self.part == self.INFO:
+            return self.grows(octet, SPACED, 64) or self.turns(octet, FILLER, self.GAP)
+        if self.part == self.GAP:
+            return self.gap(octet)
+        if self.part == self.TAIL:
+            return self.turns(octet, b"\4", self.AFTER) or self.grows(octet, TRAILER, 64)
+        return self.fills(octet)
+
+    def fills(self, octet):
+        self.counter += 1
+        return octet in FILLER and self.counter <= 32
+
+    def grows(self, octet, kind, most):
+        """Adds an octet to the text of this part."""
+        text = self.texts[self.part]
+        if octet not in kind or len(text) >= most:
+            return False
+        self.texts[self.part] = text + bytes([octet])
+        return True
+
+    def turns(self, octet, marks, part):
+        """Goes to the next part, where the octet is a mark."""
+        if octet not in marks:
+            return False
+        self.part = part
+        if part == self.GAP:
+            self.counter, self.flag = 1, int(octet == 0x0A)
+        return True
+
+    def ends(self, octet, marks, part):
+        """As `turns`, behind a text that may not be empty."""
+        return len(self.texts[self.part]) > 0 and self.turns(octet, marks, part)
+
+    def begins(self, octet, kind, part):
+        """Goes to the next part with the first octet of its text."""
+        return self.ends(octet, kind, part) and self.grows(octet, kind, 1)
+
+    def gap(self, octet):
+        """The gap has an LF among its 32 octets at most."""
+        if octet == 0x02:
+            return self.flag == 1 and self.turns(octet, b"\2", self.TEXT)
+        self.counter += 1
+        self.flag |= int(octet == 0x0A)
+        return octet in FILLER and self.counter <= (32 if self.flag else 31)
+
+    def text(self, octet):
+        """The flag counts the CRs that are held until it is known whether an LF follows."""
+        if octet == 0x0A:
+            self.flag = 0
+            self.lines.append(bytearray())
+        elif octet == 0x0D and self.flag < 2:
+            self.flag += 1
+        elif self.flag:
+            return 40
+        elif octet == 0x03:
+            self.part = self.TAIL
+        elif octet in (0x01, 0x02, 0x04):
+            return 41
+        else:
+            self.lines[-1].append(octet)
+        return 0
+
+    def head(self):
+        """Source, number, priority, category, words and info."""
+        return [self.texts[part] for part in sorted(self.texts) if part != self.TAIL]
+
+
+# --- An envelope ---
+
+
+class Refused(Exception):
+    """A refusal: its octet, layer, record, dataset and cause."""
+
+    def __init__(self, octet, layer, record, dataset, cause):
+        super().__init__(f"refused at octet {octet} by layer {layer} on {record}:{dataset:02}, cause {cause} {CAUSES[cause]}")
+        self.octet, self.cause = octet, cause
+
+
+class Envelope:
+    """An envelope, as far as its octets have been read."""
+
+    def __init__(self, limits=LIMITS):
+        self.limits = limits
+        self.at = 0
+        # The record of the last head; the octets of a begun tag; the dataset, count and octets so far of begun data.
+        self.section, self.tag, self.begun = 0, b"", None
+        self.is_done, self.refusal = False, None
+        # The datasets of records 1 and 2, the number of each that may stand once, and the octets of all.
+        self.fields, self.seen, self.kept = [], set(), 0
+        # The numbers of record 7, the octets of the object and the heads of subfiles so far.
+        self.numbers, self.total, self.subfiles = {}, 0, 0
+        self.message = Message()
+
+    def copy(self):
+        """An envelope between two datasets, to be read on apart from this one."""
+        other = copy.copy(self)
+        other.fields, other.seen, other.numbers = list(self.fields), set(self.seen), dict(self.numbers)
+        other.message = self.message.copy()
+        return other
+
+    def read(self, octets):
+        """Reads up to the end of the envelope, of the octets, or to the first refusal."""
+        try:
+            while not self.is_done and self.at < len(octets):
+                self.dataset(octets)
+        except Refused as refusal:
+            self.refusal = refusal
+        return self
+
+    def dataset(self, octets):
+        tag = self.tag_of(octets[self.at : self.at + 5 + COUNT_OCTETS])
+        if tag is None:
+            self.tag, self.at = octets[self.at :], len(octets)
+            return
+        record, dataset, extended = tag[1], tag[2], tag[5:]
+        count = number(extended or tag[3:5])
+        self.at += len(tag)
+        self.head(record, dataset, count, self.at - 1)
+        data = octets[self.at : self.at + count]
+        if record == 8:
+            self.run(data)
+        self.at += len(data)
+        if len(data) < count:
+            self.begun = dataset, count, data
+        else:
+            self.value(record, dataset, data, self.at - 1)
+
+    def tag_of(self, octets):
+        """The tag at the front of at most 13 octets, or None where they end inside it."""
+        record, dataset = [*octets[1:3], 0, 0][:2]
+        if octets[0] != 0x1C:
+            raise Refused(self.at, "dataset", 0, 0, 1)
+        if len(octets) > 3 and octets[3] > 0x80:
+            raise Refused(self.at + 3, "dataset", record, dataset, 2)
+        if len(octets) < 5:
+            return None
+        if octets[3] < 0x80:
+            return octets[:5]
+        if not 1 <= octets[4] <= COUNT_OCTETS:
+            raise Refused(self.at + 4, "dataset", record, dataset, 2)
+        size = 5 + octets[4]
+        return octets[:size] if len(octets) >= size else None
+
+    def head(self, record, dataset, count, octet):
+        """A complete tag, at each layer in turn."""
+        self.head_in_record(record, dataset, count, octet)
+        self.section = record
+        if record in (1, 2):
+            self.seen.add((record, dataset))
+            self.head_in_limits(record, dataset, count, octet)
+        elif record == 8:
+            self.head_of_subfile(count, octet)
+        elif record == 9:
+            self.head_of_total(octet)
+
+    def head_in_record(self, record, dataset, count, octet):
+        def refuse(cause, of=dataset, within=record):
+            raise Refused(octet, "record", within, of, cause)
+
+        if record not in (self.section or 1, NEXT.get(self.section)):
+            refuse(10)
+        row = row_of(record, dataset)
+        if row is None:
+            refuse(11)
+        if not row.repeats and self.has(record, dataset):
+            refuse(12)
+        if not row.least <= count <= row.most:
+            refuse(13)
+        if record != self.section and self.section:
+            missing = [each for each in MANDATORY[self.section] if not self.has(self.section, each)]
+            if missing:
+                refuse(14, missing[0], self.section)
+
+    def has(self, record, dataset):
+        if record == 7:
+            return dataset in self.numbers
+        return self.subfiles > 0 if record == 8 else (record, dataset) in self.seen
+
+    def head_in_limits(self, record, dataset, count, octet):
+        if self.kept + count > self.limits[0]:
+            raise Refused(octet, "limits", record, dataset, 50)
+        if len(self.fields) + 1 > self.limits[1]:
+            raise Refused(octet, "limits", record, dataset, 51)
+        self.kept += count
+
+    def bound(self):
+        """The most octets that the object may have."""
+        return min(GREATEST, self.numbers.get(90, GREATEST), self.numbers.get(95, GREATEST))
+
+    def head_of_subfile(self, count, octet):
+        if self.subfiles >= SUBFILES:
+            raise Refused(octet, "limits", 8, 10, 52)
+        for cause, is_wrong in (
+            (20, self.numbers[10] == 1 and 90 not in self.numbers),
+            (22, count > self.numbers[20]),
+            (23, self.total + count > self.bound()),
+        ):
+            if is_wrong:
+                raise Refused(octet, "object", 8, 10, cause)
+        self.subfiles += 1
+
+    def head_of_total(self, octet):
+        if self.total < self.numbers.get(90, 0):
+            raise Refused(octet, "object", 9, 10, 24)
+        if self.message.part != Message.AFTER:
+            raise Refused(octet, "message", 9, 10, 32)
+
+    def run(self, data):
+        """Octets of the object."""
+        for at, octet in enumerate(data):
+            cause = self.message.take(octet)
+            if cause:
+                raise Refused(self.at + at, "message" if cause == 30 else "story", 8, 10, cause)
+        self.total += len(data)
+
+    def value(self, record, dataset, data, octet):
+        """A complete value."""
+        if record == 8:
+            return
+        if not KINDS[row_of(record, dataset).kind](data):
+            raise Refused(octet, "record", record, dataset, 15)
+        if (record, dataset) == (1, 20) and data != b"\0\2":
+            raise Refused(octet, "record", record, dataset, 16)
+        if record in (1, 2):
+            self.fields.append((record, dataset, data))
+        elif record == 7:
+            self.numbers[dataset] = number(data)
+            self.check_numbers(dataset, octet)
+        elif number(data) != self.total:
+            raise Refused(octet, "object", 9, 10, 25)
+        else:
+            self.is_done = True
+
+    def check_numbers(self, dataset, octet):
+        """The mode and the announced size, and the announced and the greatest size, at the later of two."""
+        mode, announced, most = (self.numbers.get(each) for each in (10, 90, 95))
+        if dataset in (10, 90) and mode == 0 and announced is not None:
+            raise Refused(octet, "object", 7, dataset, 20)
+        if dataset in (90, 95) and None not in (announced, most) and announced > most:
+            raise Refused(octet, "object", 7, dataset, 21)
+
+    # What is answered
+
+    def answer(self):
+        """What `feed` answers that has been given all octets in one piece."""
+        if self.refusal:
+            return str(self.refusal)
+        return f"done {self.at}" if self.is_done else "more"
+
+    def end(self):
+        """What is answered where the octets end here, or None."""
+        if self.refusal:
+            return str(Refused(self.refusal.octet, "outside", 0, 0, 61))
+        if self.is_done:
+            return None
+        record, dataset = (self.section, self.begun[0]) if self.begun else [*self.tag[1:3], 0, 0][:2]
+        return str(Refused(self.at, "dataset", record, dataset, 3))
+
+
+def read(octets, limits=LIMITS):
+    return Envelope(limits).read(octets)
+
+
+# --- What the packer writes ---
+
+
+def head_bytes(record, dataset, count):
+    """A tag as the packer writes it."""
+    if count <= 0x7FFF:
+        return bytes([0x1C, record, dataset]) + count.to_bytes(2, "big")
+    size = 4 if count <= 0xFFFFFFFF else 8
+    return bytes([0x1C, record, dataset, 0x80, size]) + count.to_bytes(size, "big")
+
+
+def dataset_of(record, dataset, data):
+    return head_bytes(record, dataset, len(data)) + data
+
+
+def sized(record, dataset, size):
+    """A dataset with a number, of four octets where they hold it."""
+    return dataset_of(record, dataset, size.to_bytes(4 if size <= 0xFFFFFFFF else 8, "big"))
+
+
+def object_of(head, lines, trailer):
+    """The message as the packer writes it; the head is source, number, priority, category, words and info."""
+    source, digits, priority, category, words, info = head
+    front = b"\1" + source + digits + b" " + priority + b" " + category + b" " + words + (b" " + info if info else b"")
+    return front + b"\r\n\2" + b"\r\n".join(lines) + b"\3" + trailer + b"\4"
+
+
+def packed(fields, story, subfile, known=True, most=None):
+    """The envelope of the fields and of an object, in subfiles of this size."""
+    parts = [dataset_of(*field) for field in fields]
+    parts += [dataset_of(7, 10, b"\1" if known else b"\0"), sized(7, 20, subfile)]
+    if known:
+        parts.append(sized(7, 90, len(story)))
+    elif most is not None:
+        parts.append(sized(7, 95, most))
+    parts += [dataset_of(8, 10, story[at : at + subfile]) for at in range(0, len(story), subfile)]
+    return b"".join(parts) + sized(9, 10, len(story))
+
+
+# --- The audit ---
+
+
+def words_of(lines):
+    """How many runs of octets other than a space and a tab there are in the lines."""
+    return sum(len([word for word in bytes(line).replace(b"\t", b" ").split(b" ") if word]) for line in lines)
+
+
+def shown(octets):
+    """Octets as text: printable ones but a backslash as they are, others in hexadecimal."""
+    return "".join(chr(octet) if 0x20 <= octet <= 0x7E and octet != 0x5C else f"\\x{octet:02X}" for octet in octets)
+
+
+def first(fields, record, dataset):
+    """The octets of the first such dataset, or None."""
+    for field in fields:
+        if field[:2] == (record, dataset):
+            return field[2]
+    return None
+
+
+def copy_of(fields, now):
+    """Whether the copy is held, expired or free at the instant `now`, in seconds from 1970 on."""
+    released, expires = first(fields, 2, 30), first(fields, 2, 37)
+    released = instant_of(released, first(fields, 2, 35) or b"000000+0000") if released is not None else None
+    expires = instant_of(expires, first(fields, 2, 38) or b"235959+0000") if expires is not None else None
+    if released is not None and released > now:
+        return "held"
+    return "expired" if expires is not None and now > expires else "free"
+
+
+def report(envelopes, now):
+    """The lines of the audit of whole envelopes at the instant `now`."""
+    made, names = [], {}
+    for at, envelope in enumerate(envelopes, 1):
+        fields = envelope.fields
+        name = tuple(first(fields, 1, dataset) for dataset in (30, 40, 70))
+        priority, time = first(fields, 1, 60), first(fields, 1, 80)
+        sent = instant_of(name[2], time) if time is not None else None
+        announced = int(envelope.message.texts[Message.WORDS])
+        made.append(
+            f"{at} {shown(name[0])} {name[1].decode()} {name[2].decode()} priority {priority.decode() if priority else '-'}"
+            f" size {envelope.total} subfiles {envelope.subfiles} words {announced}/{words_of(envelope.message.lines)}"
+            f" age {'-' if sent is None else now - sent} repeats {names.get(name, '-')} copy {copy_of(fields, now)}"
+        )
+        names.setdefault(name, at)
+    repeated = sum(" repeats - " not in line for line in made)
+    held = sum(line.endswith(" copy held") for line in made)
+    return [*made, f"{len(made)} envelopes, {repeated} repeated, {held} held"]
