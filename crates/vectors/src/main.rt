@@ -5,11 +5,18 @@
 //! them with their answers, which are worked out from the format.
 #![tactic(auto)]
 
+mod auditing;
+mod causes;
+mod cuts;
+mod intakes;
 mod octets;
 mod packing;
 mod scripts;
+mod streams;
 mod tables;
+mod tickets;
 mod unpacking;
+mod values;
 
 use anyhow::{Result, bail};
 use octets::{Names, Words};
@@ -21,6 +28,7 @@ use unpacking::Bench;
 /// What the questions so far have made.
 #[derive(Drop)]
 struct Vectors {
+    alloc: Global,
     names: Names,
     bench: Bench,
     packing: Packing,
@@ -29,6 +37,7 @@ struct Vectors {
 impl Vectors {
     fn new(alloc: Global) -> Result<Vectors> {
         Ok(Vectors {
+            alloc,
             names: Names::new(alloc),
             bench: Bench::new(alloc)?,
             packing: Packing::new(alloc),
@@ -44,6 +53,7 @@ impl Vectors {
             _ => {
                 tables::answer(out, &self.names, word, &mut words)?
                     || self.bench.answer(out, &self.names, word, &mut words)?
+                    || auditing::answer(out, self.alloc, &self.names, word, &mut words)?
                     || self.packing.answer(out, &self.names, word, &mut words)?
             }
         };
