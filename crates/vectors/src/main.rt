@@ -5,12 +5,20 @@
 //! them with their answers, which are worked out from the format.
 #![tactic(auto)]
 
+mod cuts;
+mod datasets;
+mod messages;
+mod objects;
 mod octets;
+mod records;
+mod stories;
 mod tables;
 mod unpacking;
+mod views;
 
 use anyhow::{Result, bail};
 use octets::{Names, Words};
+use records::Envelopes;
 use std::alloc::Global;
 use std::io::{self, BufRead, BufReader, BufWriter, Write};
 use unpacking::Bench;
@@ -19,14 +27,18 @@ use unpacking::Bench;
 #[derive(Drop)]
 struct Vectors {
     names: Names,
+    alloc: Global,
     bench: Bench,
+    records: Envelopes,
 }
 
 impl Vectors {
     fn new(alloc: Global) -> Result<Vectors> {
         Ok(Vectors {
             names: Names::new(alloc),
+            alloc,
             bench: Bench::new(alloc)?,
+            records: Envelopes::new(alloc),
         })
     }
 
@@ -37,7 +49,7 @@ impl Vectors {
         let is_known = match word {
             b"let" => self.names.name(&mut words)?,
             _ => {
-                tables::answer(out, &self.names, word, &mut words)?
+                self.answer_layers(out, word, &mut words)?
                     || self.bench.answer(out, &self.names, word, &mut words)?
             }
         };
@@ -45,6 +57,22 @@ impl Vectors {
             bail!("no such word");
         }
         words.end()
+    }
+
+    /// Answers the words of the layers below the unpacker; false where the word is none of them.
+    fn answer_layers<W: Write>(
+        &mut self,
+        out: &mut W,
+        word: &[u8],
+        words: &mut Words,
+    ) -> Result<bool> {
+        let names = &self.names;
+        Ok(tables::answer(out, self.alloc, names, word, words)?
+            || datasets::answer(out, self.alloc, names, word, words)?
+            || self.records.answer(out, names, word, words)?
+            || objects::answer(out, self.alloc, names, word, words)?
+            || stories::answer(out, self.alloc, names, word, words)?
+            || messages::answer(out, self.alloc, names, word, words)?)
     }
 }
 
