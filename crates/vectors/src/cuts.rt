@@ -100,15 +100,12 @@ pub fn print_class<W: Write, C: Class>(
     let mut first = None;
     let mut is_none = true;
     write!(out, " ")?;
-    for number in 0..=greatest {
-        let is_in = class.has(number);
-        if is_in && first.is_none() {
-            first = Some(number);
-        }
-        let is_last = number == greatest || !class.has(number.saturating_add(1));
+    for number in 0..=greatest.saturating_add(1) {
+        let is_in = number <= greatest && class.has(number);
         match first {
-            Some(from) if is_last => {
-                print_range(out, from, number, digits)?;
+            None if is_in => first = Some(number),
+            Some(from) if !is_in => {
+                print_range(out, from, number.saturating_sub(1), digits)?;
                 first = None;
                 is_none = false;
             }

@@ -2,7 +2,7 @@
 
 ghost use Rattle.std.specs.Prelude.{⊤};
 
-use crate::cuts::{Cut, Reading, print_reading};
+use crate::cuts::{Class, Cut, Digits, Reading, print_class, print_reading};
 use crate::octets::{Names, Shown, Words};
 use anyhow::{Result, bail};
 use arrayvec::ArrayVec;
@@ -19,6 +19,7 @@ struct Record {
     runs: u64,
     /// How many datasets are to come, the last one too; None without an end.
     left: Option<u64>,
+    refused: bool,
 }
 
 /// Writes down a head.
@@ -117,6 +118,7 @@ fn feed_pieces(
         match reader.feed(piece, record) {
             Ok(taken) => used = before.saturating_add(taken),
             Err(fault) => {
+                record.refused = true;
                 let at = before.saturating_add(fault.used);
                 let cause = fault.cause;
                 end_line(&mut record.text)?;
@@ -139,6 +141,7 @@ impl Datasets {
             text: Vec::new(self.alloc),
             runs: 0,
             left: self.last,
+            refused: false,
         };
         feed_pieces(&mut reader, &mut record, octets, cut)?;
         let (rec, set) = reader.named();
@@ -159,6 +162,36 @@ impl Datasets {
 impl Reading for Datasets {
     fn read(&self, octets: &[u8], cut: Cut) -> Result<Vec<u8>> {
         Ok(self.record(octets, cut)?.text)
+    }
+}
+
+/// The octets that may follow some others in datasets.
+#[derive(Drop)]
+struct Next<'o> {
+    alloc: Global,
+    front: &'o [u8],
+}
+
+impl Next<'_> {
+    /// Whether the octet is refused after those before it.
+    fn is_refused(&self, octet: u8) -> Result<bool> {
+        let mut octets = Vec::new(self.alloc);
+        octets.extend_from_slice(self.front)?;
+        octets.push(octet)?;
+        let datasets = Datasets {
+            alloc: self.alloc,
+            last: None,
+        };
+        Ok(datasets.record(octets.as_slice(), Cut::Whole)?.refused)
+    }
+}
+
+impl Class for Next<'_> {
+    fn has(&self, number: u64) -> bool {
+        match u8::try_from(number) {
+            Ok(octet) => matches!(self.is_refused(octet), Ok(false)),
+            Err(_) => false,
+        }
     }
 }
 
@@ -222,6 +255,11 @@ pub fn answer<W: Write>(
             let last = words.number_or_none()?;
             let octets = words.octets(names)?;
             Datasets { alloc, last }.print(out, octets.as_slice())?;
+        }
+        b"next" => {
+            let octets = words.octets(names)?;
+            let front = octets.as_slice();
+            print_class(out, &Next { alloc, front }, 255, Digits::Octets)?;
         }
         b"held_at" => {
             let octets = words.octets(names)?;

@@ -7,10 +7,10 @@ ghost use Rattle.iim_fields.specs.Format.Checks.{TakesHead};
 use crate::cuts::Cut;
 use crate::octets::{Names, Shown, Words};
 use crate::tables::{print_found, print_truth};
-use crate::views::{print_views, print_walk};
+use crate::views::{print_fields, print_views, print_walk};
 use anyhow::{Result, bail};
 use iim_dataset::{DatasetName, Head};
-use iim_fields::{Envelope, EnvelopeBuilder, FieldFault, Fields, Limits, RecordCheck};
+use iim_fields::{Envelope, EnvelopeBuilder, FieldCause, FieldFault, Fields, Limits, RecordCheck};
 use std::alloc::Global;
 use std::io::Write;
 
@@ -270,6 +270,15 @@ fn limits_of(words: &mut Words) -> Result<Limits> {
     Ok(Limits { octets, fields })
 }
 
+/// Prints the limit that is passed, or `none`.
+fn print_passed<W: Write>(out: &mut W, cause: Option<FieldCause>) -> Result<()> {
+    match cause {
+        Some(cause) => writeln!(out, "  {cause:?}")?,
+        None => writeln!(out, "  none")?,
+    }
+    Ok(())
+}
+
 /// Envelopes that are read and built.
 #[derive(Drop)]
 pub struct Envelopes {
@@ -309,12 +318,7 @@ impl Envelopes {
         let Some(fields) = &self.fields else {
             bail!("nothing is read");
         };
-        for (rec, set, octets) in fields.kept() {
-            let name = DatasetName { rec, set };
-            let octets = Shown(octets);
-            writeln!(out, "  {name} {octets}")?;
-        }
-        Ok(())
+        print_fields(out, fields.kept())
     }
 
     /// Takes the envelope of the reader, and prints whether there is one.
@@ -393,8 +397,7 @@ impl Envelopes {
                 let limits = limits_of(words)?;
                 let octets = words.number()?;
                 let fields = words.number()?;
-                let passed = limits.passed(octets, fields);
-                writeln!(out, "  {passed:?}")?;
+                print_passed(out, limits.passed(octets, fields))?;
             }
             _ => return self.answer_built(out, names, word, words),
         }
@@ -427,6 +430,7 @@ impl Envelopes {
     ) -> Result<bool> {
         match word {
             b"views" => print_views(out, self.last()?)?,
+            b"listed" => print_fields(out, self.last()?.fields())?,
             b"first" => {
                 let rec = words.octet()?;
                 let set = words.octet()?;

@@ -2,7 +2,8 @@
 
 use crate::octets::Shown;
 use anyhow::Result;
-use iim_fields::{DataIter, Envelope};
+use iim_dataset::DatasetName;
+use iim_fields::{DataIter, Envelope, FieldIter};
 use jiff::Timestamp;
 use std::io::Write;
 
@@ -94,10 +95,10 @@ pub fn print_views<W: Write>(out: &mut W, envelope: &Envelope) -> Result<()> {
     print_repeated(out, envelope)
 }
 
-/// Prints each dataset of an envelope, in order.
-pub fn print_fields<W: Write>(out: &mut W, envelope: &Envelope) -> Result<()> {
-    for (rec, set, octets) in envelope.fields() {
-        let name = iim_dataset::DatasetName { rec, set };
+/// Prints datasets, in order.
+pub fn print_fields<W: Write>(out: &mut W, fields: FieldIter<'_>) -> Result<()> {
+    for (rec, set, octets) in fields {
+        let name = DatasetName { rec, set };
         let octets = Shown(octets);
         writeln!(out, "  {name} {octets}")?;
     }
