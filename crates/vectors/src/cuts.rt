@@ -3,8 +3,8 @@
 use anyhow::Result;
 use std::io::Write;
 
-/// The longest octets that are also cut in two at each place.
-const MOST_CUT: usize = 300;
+/// The longest octets that are cut in two at each place. Longer ones are cut in the middle.
+const MOST_CUT: usize = 128;
 
 /// How octets are cut into pieces.
 #[derive(Clone, Copy, Debug)]
@@ -44,16 +44,23 @@ pub trait Reading {
     fn read(&self, octets: &[u8], cut: Cut) -> Result<Vec<u8>>;
 }
 
+/// The cut of this number, of those of so many octets but for one piece.
+fn other_cut(len: usize, number: usize) -> Option<Cut> {
+    match number {
+        0 => Some(Cut::Each),
+        1 if len > MOST_CUT => Some(Cut::At(len / 2)),
+        _ if number <= len && len <= MOST_CUT => Some(Cut::At(number)),
+        _ => None,
+    }
+}
+
 /// Prints what the octets are read as in one piece, and what another cut makes of them where that differs.
 pub fn print_reading<W: Write, R: Reading>(out: &mut W, reading: &R, octets: &[u8]) -> Result<()> {
     let whole = reading.read(octets, Cut::Whole)?;
     out.write_all(whole.as_slice())?;
-    let is_short = octets.len() <= MOST_CUT;
-    let last = if is_short { octets.len() + 1 } else { 0 };
-    for number in 0..=last {
-        let cut = match number {
-            0 => Cut::Each,
-            _ => Cut::At(number - 1),
+    for number in 0..=MOST_CUT {
+        let Some(cut) = other_cut(octets.len(), number) else {
+            break;
         };
         let other = reading.read(octets, cut)?;
         if other.as_slice() != whole.as_slice() {

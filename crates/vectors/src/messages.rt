@@ -8,10 +8,34 @@ use arrayvec::ArrayVec;
 use std::alloc::Global;
 use std::io::Write;
 use wire_message::{
-    MessageCause, MessageFault, MessageHead, MessagePart, MessagePlace, MessageReader, head_text,
+    MessageFault, MessageHead, MessagePart, MessagePlace, MessageReader, head_text,
     is_trailer, tail_text,
 };
 use wire_story::{Discard, Lines, StorySink};
+
+/// Feeds a piece, and answers which octet of it is refused and why.
+fn feed<S: StorySink>(
+    reader: &mut MessageReader,
+    piece: &[u8],
+    sink: &mut S,
+) -> Option<MessageFault> {
+    if reader.is_failed() {
+        return None;
+    }
+    reader.feed(piece, sink).err()
+}
+
+/// Makes a reader again of its place.
+fn put_back(reader: &mut MessageReader) -> Result<()> {
+    if reader.is_failed() {
+        return Ok(());
+    }
+    match MessageReader::at(reader.place()) {
+        Some(again) => *reader = again,
+        None => bail!("no octets lead to the place of a reader"),
+    }
+    Ok(())
+}
 
 /// Feeds the pieces, up to a refused octet: which it is and why. The reader is put back at its place before each piece.
 fn feed_pieces<S: StorySink>(
@@ -24,17 +48,8 @@ fn feed_pieces<S: StorySink>(
         let Some((before, piece)) = cut.piece(octets, number) else {
             break;
         };
-        if reader.is_failed() {
-            break;
-        }
-        let Some(again) = MessageReader::at(reader.place()) else {
-            bail!("no octets lead to the place of a reader");
-        };
-        *reader = again;
-        if reader.is_failed() {
-            break;
-        }
-        if let Err(fault) = reader.feed(piece, sink) {
+        put_back(reader)?;
+        if let Some(fault) = feed(reader, piece, sink) {
             let taken = before.saturating_add(fault.taken);
             return Ok(Some(MessageFault { taken, ..fault }));
         }
@@ -42,24 +57,16 @@ fn feed_pieces<S: StorySink>(
     Ok(None)
 }
 
-/// Reads an object to its end, and answers which octet is refused and why.
-fn read_object<S: StorySink>(
-    reader: &mut MessageReader,
-    octets: &[u8],
-    cut: Cut,
-    sink: &mut S,
-) -> Result<Option<MessageFault>> {
-    if let Some(fault) = feed_pieces(reader, octets, cut, sink)? {
-        return Ok(Some(fault));
-    }
+/// Takes the end of an object of so many octets, and answers why it is refused.
+fn close(reader: &mut MessageReader, len: usize) -> Option<MessageFault> {
     if reader.is_failed() {
-        bail!("a reader failed that refused nothing");
+        return None;
     }
     match reader.close() {
-        Ok(()) => Ok(None),
+        Ok(()) => None,
         Err(fault) => {
-            let taken = octets.len().saturating_add(fault.taken);
-            Ok(Some(MessageFault { taken, ..fault }))
+            let taken = len.saturating_add(fault.taken);
+            Some(MessageFault { taken, ..fault })
         }
     }
 }
@@ -108,9 +115,9 @@ impl Reading for Objects {
         let mut text = Vec::new(self.alloc);
         let mut lines = Lines::new(self.alloc);
         let mut reader = MessageReader::new();
-        let fault = read_object(&mut reader, octets, cut, &mut lines)?;
+        let refused = feed_pieces(&mut reader, octets, cut, &mut lines)?;
         tell_lines(&mut text, &lines)?;
-        match fault {
+        match refused.or(close(&mut reader, octets.len())) {
             Some(fault) => tell_fault(&mut text, fault)?,
             None => tell_reader(&mut text, &reader)?,
         }
@@ -226,21 +233,32 @@ fn print_put<W: Write>(out: &mut W, alloc: Global, place: MessagePlace) -> Resul
     Ok(())
 }
 
-/// What an octet between others makes of them: None a message, or which octet is refused and why.
-fn answer_between(
-    alloc: Global,
-    front: &[u8],
-    octet: u8,
-    back: &[u8],
-    cut: Cut,
-) -> Result<Option<(usize, MessageCause)>> {
+/// Reads an object in one piece, and answers which octet is refused and why.
+fn read_whole(octets: &[u8]) -> Option<MessageFault> {
+    let mut reader = MessageReader::new();
+    let refused = feed(&mut reader, octets, &mut Discard);
+    refused.or(close(&mut reader, octets.len()))
+}
+
+/// Reads an object octet by octet, and answers which one is refused and why.
+fn read_each(octets: &[u8]) -> Option<MessageFault> {
+    let mut reader = MessageReader::new();
+    for (at, octet) in octets.iter().enumerate() {
+        if let Some(fault) = feed(&mut reader, &[*octet], &mut Discard) {
+            let taken = at.saturating_add(fault.taken);
+            return Some(MessageFault { taken, ..fault });
+        }
+    }
+    close(&mut reader, octets.len())
+}
+
+/// An octet between others.
+fn joined(alloc: Global, front: &[u8], octet: u8, back: &[u8]) -> Result<Vec<u8>> {
     let mut object = Vec::new(alloc);
     object.extend_from_slice(front)?;
     object.push(octet)?;
     object.extend_from_slice(back)?;
-    let mut reader = MessageReader::new();
-    let fault = read_object(&mut reader, object.as_slice(), cut, &mut Discard)?;
-    Ok(fault.map(|fault| (fault.taken, fault.cause)))
+    Ok(object)
 }
 
 /// Prints the octets from first to last, and what each of them makes of the octets around it.
@@ -248,7 +266,7 @@ fn print_run<W: Write>(
     out: &mut W,
     first: u8,
     last: u8,
-    fault: Option<(usize, MessageCause)>,
+    fault: Option<MessageFault>,
 ) -> Result<()> {
     if first == last {
         write!(out, "  {first:02X}")?;
@@ -257,7 +275,7 @@ fn print_run<W: Write>(
     }
     match fault {
         None => writeln!(out, " message")?,
-        Some((at, cause)) => writeln!(out, " refused at {at} {cause:?}")?,
+        Some(MessageFault { taken, cause }) => writeln!(out, " refused at {taken} {cause:?}")?,
     }
     Ok(())
 }
@@ -265,19 +283,20 @@ fn print_run<W: Write>(
 /// Prints what each octet between others makes of them, in one piece and octet by octet.
 fn print_between<W: Write>(out: &mut W, alloc: Global, front: &[u8], back: &[u8]) -> Result<()> {
     let mut first = 0;
+    let mut before = read_whole(joined(alloc, front, 0, back)?.as_slice());
     for octet in 0..=255u8 {
-        let here = answer_between(alloc, front, octet, back, Cut::Whole)?;
-        if answer_between(alloc, front, octet, back, Cut::Each)? != here {
+        let object = joined(alloc, front, octet, back)?;
+        let here = read_whole(object.as_slice());
+        if read_each(object.as_slice()) != here {
             writeln!(out, "  {octet:02X} differs octet by octet")?;
         }
-        let next = octet.saturating_add(1);
-        if octet < 255 && answer_between(alloc, front, next, back, Cut::Whole)? == here {
-            continue;
+        if here != before {
+            print_run(out, first, octet.saturating_sub(1), before)?;
+            first = octet;
+            before = here;
         }
-        print_run(out, first, octet, here)?;
-        first = next;
     }
-    Ok(())
+    print_run(out, first, 255, before)
 }
 
 /// Parts of a message, each with an octet of its own.
