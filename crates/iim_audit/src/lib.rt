@@ -1,4 +1,5 @@
-//! Audits a stream of envelopes: a row for each, with its id, its sizes, its words, its age, and which of them repeats which.
+//! Audits a stream of envelopes: a row for each, with its id, its sizes, its words, its age, which of them repeats which, and
+//! whether its copy may be used.
 //!
 //! Stands on `iim_unpack`, and on the crates below it for what an envelope's views tell. The crate above uses [`audit`],
 //! whose report is a function of the list of envelopes and of the present instant.

@@ -18,11 +18,11 @@ use std::alloc::Global;
 /// How an envelope is to be packed.
 #[derive(Clone, Copy, Debug, PartialEq, Eq)]
 pub struct PackRequest {
-    /// The octets of a full subfile, from 1 to 4,294,967,295.
+    /// The octets of a full subfile, from 1 to the greatest size of an object.
     pub subfile: u64,
     /// Whether the size of the object is to be left unknown.
     pub unknown: bool,
-    /// The most octets of an object of unknown size, up to 4,294,967,295.
+    /// The most octets of an object of unknown size, up to the greatest.
     pub max: Option<u64>,
     ghost valid: { IsTrue (is_plan subfile (Unknown max)) },
 }
@@ -87,7 +87,8 @@ fn read_input<R: Source>(alloc: Global, reader: &mut R) -> Result<Vec<u8>, Comma
     Ok(script)
 }
 
-/// The plan that is asked for. None where the size of the object is to be known, and is above the greatest.
+/// The plan that is asked for. None where the size of the object is to be known, and is above the greatest or needs more
+/// subfiles than there may be.
 fn plan_of(request: PackRequest, told: &Script) -> Option<Plan>
     requires { IsTrailer told.now.trailer.items }
     ensures plan { IfSome result (IsPlanOf (asked request.subfile request.unknown request.max) (object_of (told_by told.now))) }

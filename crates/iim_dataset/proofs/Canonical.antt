@@ -4,6 +4,7 @@ use Rattle.std.proofs.lemmas.List.{take-append-drop, take-append-le}
 use Rattle.std.proofs.Math.Seq.{take-append_seam, take-append-add}
 use Rattle.std.proofs.lemmas.Bool.{lt-ltb, le-ltb, cases_lt}
 use Rattle.byteorder.specs.Numbers.{big_number-reads_back}
+use Rattle.iim_dataset.specs.WrittenNumbers.{some_octets, few_octets, number_octets, number_back}
 use Rattle.iim_dataset.specs.Format.Octets.{IsOctet}
 use Rattle.iim_dataset.specs.Format.Datasets.{Dataset, SpellsCount, SpellsTag, SpellsDataset, canonical_count, canonical_tag, canonical_dataset, canonical_stream, count_octets, head_of}
 use Rattle.iim_dataset.specs.Format.Tags.{BeginsTag}
@@ -14,11 +15,7 @@ use Rattle.iim_dataset.proofs.Spellings.{one_tag}
 pub count_spells : (n : ℕ) → n < 256 ^ count_octets → SpellsCount count_octets n (canonical_count n)
 count_spells n h = elim (cases_lt n 32768) [
   | inl lt ↦ rw (lt-ltb n 32768 lt) (inl (omega arith, omega arith, refl, big_number-reads_back 2 n [] (omega arith)))
-  | inr ge ↦ elim (cases_lt n (2 ^ 32)) [
-    | inl lt ↦ rw (le-ltb n 32768 ge, lt-ltb n (2 ^ 32) lt) (inr (refl, refl, omega arith, omega arith, (omega arith, (omega arith, (omega arith, (omega arith, tt)))), big_number-reads_back 4 n [] lt))
-    | inr above ↦ rw (le-ltb n 32768 ge, le-ltb n (2 ^ 32) above) (inr (refl, refl, omega arith, omega arith,
-      (omega arith, (omega arith, (omega arith, (omega arith, (omega arith, (omega arith, (omega arith, (omega arith, tt)))))))), big_number-reads_back 8 n [] h))
-  ]
+  | inr ge ↦ rw (le-ltb n 32768 ge) (inr (refl, refl, some_octets n, few_octets n, number_octets n, number_back n h))
 ]
 
 pub tag_spells : (h : Head) → IsOctet h.rec → IsOctet h.set → h.count < 256 ^ count_octets → SpellsTag count_octets h (canonical_tag h)

@@ -4,6 +4,7 @@ ghost use Rattle.std.specs.Prelude.{◌≡◌, IfOk, IfErr, MatchOption};
 ghost use Rattle.iim_dataset.specs.Format.Datasets.{SpellsTag, canonical_tag, count_octets};
 ghost use Rattle.iim_dataset.specs.Format.Tags.{BeginsTag, HasTag, HasNoTag};
 
+use crate::number::number_bytes;
 use crate::place::lengthen;
 use crate::size::COUNT_OCTETS;
 use arrayvec::ArrayVec;
@@ -53,9 +54,6 @@ pub const TAG_OCTETS: usize = TAG_LENGTH + COUNT_OCTETS as usize;
 
 /// The greatest count that has the standard form.
 const MAX_STANDARD: u64 = 32_767;
-
-/// The greatest count that a writer extends by four octets.
-const MAX_FOUR: u64 = 4_294_967_295;
 
 /// Reads the tag at the front: its head and its length in octets. `None` where the octets end inside the tag. An error
 /// tells the first octet with which no tag can continue.
@@ -111,16 +109,8 @@ pub fn head_bytes(head: Head) -> ArrayVec<u8, TAG_OCTETS>
         return tag;
     }
     tag.push(EXTENDED);
-    if head.count <= MAX_FOUR {
-        let mut count = [0; 4];
-        BigEndian::write_u32(&mut count, head.count as u32);
-        tag.push(4);
-        lengthen(&mut tag, &count);
-        return tag;
-    }
-    let mut count = [0; 8];
-    BigEndian::write_u64(&mut count, head.count);
-    tag.push(8);
-    lengthen(&mut tag, &count);
+    let count = number_bytes(head.count);
+    tag.push(count.len() as u8);
+    lengthen(&mut tag, count.as_slice());
     tag
 }

@@ -3,7 +3,8 @@
 //!
 //! Stands on `byteorder` and `arrayvec`. Every crate stands on it, at least for its definitions. The unpacker
 //! feeds [`HeadReader`] with a sink of its own, and relies on the contract of [`HeadReader::feed`] and on
-//! [`laws::what_an_octet_completes`]. Writers of objects and envelopes spell tags by [`head_bytes`]. Sources and targets are reached by
+//! [`laws::what_an_octet_completes`]. Writers of objects and envelopes spell tags by [`head_bytes`], and sizes by
+//! [`number_bytes`]. Sources and targets are reached by
 //! [`take`] and [`put`] alone.
 #![tactic(auto)]
 
@@ -14,6 +15,7 @@ mod front;
 mod head;
 pub mod laws;
 mod name;
+mod number;
 pub mod octets;
 mod place;
 mod reader;
@@ -29,6 +31,7 @@ pub use device::IoFault;
 pub use fault::{Fault, FaultCause};
 pub use head::{Head, HeadCause, HeadFault, TAG_MARKER, TAG_OCTETS, head_bytes};
 pub use name::DatasetName;
+pub use number::{NUMBER_OCTETS, number_bytes};
 pub use place::{DatasetPlace, HELD_OCTETS};
 pub use reader::HeadReader;
 pub use shown::{push_escape, push_shown};

@@ -124,8 +124,7 @@ impl Envelope {
     pub fn sent(&self) -> Option<Timestamp>
         ensures { option_map (λ t. t.nanosecond) result ≡ instant_sent self.now }
     {
-        let time = self.time_sent()?;
-        instant_of(self.date_sent_text(), time)
+        self.instant(ENVELOPE, 70, 80, None)
     }
 
     /// What the envelope is known by: 1:30 Service Identifier, 1:40 Envelope Number and 1:70 Date Sent.
@@ -165,16 +164,20 @@ impl Envelope {
         self.first(ENVELOPE, 60)?.first().copied()
     }
 
-    /// The instant of this date and time of record 2. None where no date was sent, or where they name no instant. Where no time was
-    /// sent, `time` stands for it.
-    fn instant(&self, date_set: u8, time_set: u8, time: &[u8]) -> Option<Timestamp>
-        ensures { option_map (λ t. t.nanosecond) result ≡ instant_of_pair date_set time_set time.now self.now }
+    /// The instant of this date and time of the record. Where no time was sent, `absent` stands for it. None where there is no date or no
+    /// time, or where they name no instant.
+    fn instant(
+        &self,
+        rec: u8,
+        date_set: u8,
+        time_set: u8,
+        absent: Option<&[u8]>,
+    ) -> Option<Timestamp>
+        ensures { option_map (λ t. t.nanosecond) result ≡ instant_of_pair rec date_set time_set (option_map (λ x. x.now) absent.entry) self.now }
     {
-        let date = self.first(APPLICATION, date_set)?;
-        match self.first(APPLICATION, time_set) {
-            Some(sent) => instant_of(date, sent),
-            None => instant_of(date, time),
-        }
+        let date = self.first(rec, date_set)?;
+        let time = self.first(rec, time_set).or(absent)?;
+        instant_of(date, time)
     }
 
     /// The instant from which on the copy may be used: 2:30 Release Date and 2:35 Release Time, local time less its offset, or the
@@ -182,7 +185,8 @@ impl Envelope {
     pub fn release(&self) -> Option<Timestamp>
         ensures { option_map (λ t. t.nanosecond) result ≡ instant_of_release self.now }
     {
-        self.instant(30, 35, b"000000+0000")
+        let first: &[u8] = b"000000+0000";
+        self.instant(APPLICATION, 30, 35, Some(first))
     }
 
     /// The last instant at which the copy may be used: 2:37 Expiration Date and 2:38 Expiration Time, local time less its offset, or
@@ -191,7 +195,8 @@ impl Envelope {
     pub fn expires(&self) -> Option<Timestamp>
         ensures { option_map (λ t. t.nanosecond) result ≡ instant_of_expiration self.now }
     {
-        self.instant(37, 38, b"235959+0000")
+        let last: &[u8] = b"235959+0000";
+        self.instant(APPLICATION, 37, 38, Some(last))
     }
 
     /// 1:80 Time Sent, where it was sent.

@@ -152,20 +152,22 @@ finish most ps all more lengths confirmed known subfile parts st mode largest so
     let tokens : number_tokens ps ++ (number_tokens more ++ tail) ≡ number_tokens all ++ tail =
     sym (ap (λ (t : List Stated). number_tokens t ++ tail) parts ∙ (ap (λ (t : List ObjectToken). t ++ tail) (read-append ps more) ∙ append_assoc (number_tokens ps) (number_tokens more) tail)) in (
       number_tokens more ++ tail,
-      (record {
-        stated = all;
-        lengths = lengths;
-        confirmed = confirmed;
-        known = known;
-        subfile = subfile;
-        are_stated = st;
-        mode = mode;
-        largest = largest;
-        some = some;
-        agree = agree;
-        tokens_are = tokens;
-      },
-      subst (TokensWithin most) (sym tokens) (whole_within most all lengths confirmed low le)),
+      (
+        record {
+          stated = all;
+          lengths = lengths;
+          confirmed = confirmed;
+          known = known;
+          subfile = subfile;
+          are_stated = st;
+          mode = mode;
+          largest = largest;
+          some = some;
+          agree = agree;
+          tokens_are = tokens;
+        },
+        subst (TokensWithin most) (sym tokens) (whole_within most all lengths confirmed low le),
+      ),
     )
 
 pub sum-ones : (n : ℕ) → sum (replicate n 1) ≡ n

@@ -1,25 +1,17 @@
 -- What is written of an object by a plan has the sizes of the plan.
 use Rattle.std.proofs.Common.{◌≡◌, ℕ, ◌+◌, ◌^◌, ◌≤◌, ◌&&◌, true, inl, inr, IsTrue, nat_le, List, [], ◌∷◌, ◌++◌, length, map, sum, Some, None, refl, sym, ap, subst, ◌∙◌, arith, append_assoc, length-append}
 use Rattle.std.specs.List.{AllByRecursion}
-use Rattle.std.proofs.lemmas.Bool.{and_parts, leb-true, cases_lt, lt-ltb, le-ltb}
+use Rattle.std.proofs.lemmas.Bool.{and_parts, leb-true}
 use Rattle.std.proofs.lemmas.List.Sums.{sum_by-cons}
-use Rattle.byteorder.specs.Numbers.{big_number-reads_back}
+use Rattle.iim_dataset.specs.WrittenNumbers.{number_back}
 use Rattle.iim_dataset.specs.Format.Octets.{number, greatest_size}
 use Rattle.iim_object.specs.Format.Sizes.{Agree, number_at, mode_number}
 use Rattle.iim_object.specs.Format.Plans.{is_plan, fits, limit_of, bound_of}
 use Rattle.iim_object.specs.Format.Records.{numbers_of, lengths_of}
 use Rattle.iim_object.specs.Format.Cuts.{joined_parts, AreFull, IsCut}
-use Rattle.iim_object.specs.Format.Packing.{size_text, is_known, announced_of, maximum_of, plan_datasets, subfile_datasets, IsAsKnown, packed_sizes, PackedObjectsHaveSizes}
+use Rattle.iim_object.specs.Format.Packing.{is_known, announced_of, maximum_of, plan_datasets, subfile_datasets, IsAsKnown, packed_sizes, PackedObjectsHaveSizes}
 use Rattle.iim_object.specs.declared.size.Size.{Size}
 use Rattle.iim_object.specs.declared.size.Size.TheVariants.{Known, Unknown}
-
--- ---- numbers
-
-pub number_back : (n : ℕ) → n ≤ greatest_size → number (size_text n) ≡ n
-number_back n h = elim (cases_lt n (2 ^ 32)) [
-  | inl lt ↦ rw (lt-ltb n (2 ^ 32) lt) (big_number-reads_back 4 n [] lt)
-  | inr ge ↦ rw (le-ltb n (2 ^ 32) ge) (big_number-reads_back 8 n [] (omega (arith, h)))
-]
 
 -- ---- plans
 
@@ -91,9 +83,9 @@ mode_of (Known n) = refl
 mode_of (Unknown m) = refl
 
 numbers : (subfile : ℕ) (size : Size) → subfile ≤ greatest_size → limit_of size ≤ greatest_size → Numbers subfile size
-numbers subfile (Known n) le limit = (refl, ap Some (number_back subfile le), ap Some (number_back n limit), refl)
-numbers subfile (Unknown (Some m)) le limit = (refl, ap Some (number_back subfile le), refl, ap Some (number_back m limit))
-numbers subfile (Unknown None) le limit = (refl, ap Some (number_back subfile le), refl, refl)
+numbers subfile (Known n) le limit = (refl, ap Some (number_back subfile (omega (arith, le))), ap Some (number_back n (omega (arith, limit))), refl)
+numbers subfile (Unknown (Some m)) le limit = (refl, ap Some (number_back subfile (omega (arith, le))), refl, ap Some (number_back m (omega (arith, limit))))
+numbers subfile (Unknown None) le limit = (refl, ap Some (number_back subfile (omega (arith, le))), refl, refl)
 
 pub have_sizes : PackedObjectsHaveSizes
 have_sizes subfile size object parts plan octets cut suits =

@@ -3,38 +3,17 @@ use Rattle.std.proofs.Common.{◌≡◌, ℕ, ◌+◌, ◌*◌, ◌^◌, ◌≤�
 use Rattle.std.specs.Prelude.{vec_len, vec_capacity}
 use Rattle.std.proofs.Math.Nat.{mul-le-mul_left}
 use Rattle.std.proofs.lemmas.Bool.{cases_lt, lt-ltb, le-ltb}
-use Rattle.iim_dataset.specs.Format.Datasets.{Dataset, canonical_count, canonical_dataset, canonical_stream}
+use Rattle.iim_dataset.specs.Format.Datasets.{canonical_dataset, tag_octets}
 use Rattle.iim_dataset.specs.Format.Devices.{Device}
 use Rattle.iim_dataset.specs.Format.Octets.{greatest_size}
-use Rattle.iim_object.specs.Format.Packing.{size_text, number_dataset, size_datasets, plan_datasets, subfile_dataset, is_known}
-use Rattle.iim_object.specs.Format.Sizes.{mode_number}
+use Rattle.iim_dataset.specs.WrittenNumbers.{dataset_length}
+use Rattle.iim_object.specs.Format.Packing.{subfile_dataset}
 use Rattle.iim_object.specs.Format.Writing.{room_of, most_of}
 use Rattle.iim_object.specs.Format.Plans.{max_subfiles}
-use Rattle.iim_object.specs.Cutting.{HasRoom, Flushes, Halts}
-use Rattle.iim_object.specs.declared.size.Size.{Size}
-use Rattle.iim_object.specs.declared.size.Size.TheVariants.{Known, Unknown}
+use Rattle.iim_object.specs.Cutting.{most_written, HasRoom, Flushes, Halts}
 use Rattle.iim_object.specs.declared.plan.Plan.{Plan}
 use Rattle.iim_object.specs.declared.cutter.Cutter.{Cutter}
 use Rattle.iim_object.proofs.PackedSizes.{plan_parts}
-
-count_length : (n : ℕ) → length (canonical_count n) ≤ 10
-count_length n = elim (cases_lt n 32768) [
-  | inl lt ↦ rw (lt-ltb n 32768 lt) (omega arith)
-  | inr ge ↦ elim (cases_lt n (2 ^ 32)) [
-    | inl lt ↦ rw (le-ltb n 32768 ge, lt-ltb n (2 ^ 32) lt) (omega arith)
-    | inr above ↦ rw (le-ltb n 32768 ge, le-ltb n (2 ^ 32) above) (omega arith)
-  ]
-]
-
--- a dataset has at most 13 octets beside its data
-pub dataset_length : (d : Dataset) → length (canonical_dataset d) ≤ 13 + length d.octets
-dataset_length d = omega (arith, count_length (length d.octets), length-append (canonical_count (length d.octets)) d.octets)
-
-pub size_length : (n : ℕ) → length (size_text n) ≤ 8
-size_length n = elim (cases_lt n (2 ^ 32)) [
-  | inl lt ↦ rw (lt-ltb n (2 ^ 32) lt) (omega arith)
-  | inr ge ↦ rw (le-ltb n (2 ^ 32) ge) (omega arith)
-]
 
 -- the length of what a cutter holds
 held_is : {W : Type 0} (c : Cutter W) → vec_len c.held ≡ length c.held.items
@@ -48,30 +27,11 @@ few_parts size count most one h = elim (cases_lt most count) [
 ]
 
 -- what is out and what is held, while no write failed
-pub out_fits : {W : Type 0} (c : Cutter W) → HasRoom c → c.failed ≡ false → c.output.written + vec_len c.held ≤ 32 + greatest_size + 13 * max_subfiles
+pub out_fits : {W : Type 0} (c : Cutter W) → HasRoom c → c.failed ≡ false → c.output.written + vec_len c.held ≤ most_written greatest_size max_subfiles
 out_fits c room unfailed =
     let plan = plan_parts c.plan.subfile c.plan.size c.plan.valid in
     let few : room.parts ≤ max_subfiles = few_parts c.plan.subfile room.parts max_subfiles plan.least (omega (arith, room.sent, room.bound)) in
     omega (arith, room.count unfailed, room.bound, plan.limit, few)
-
-pub number_length : (rec set n : ℕ) → length (canonical_dataset (number_dataset rec set n)) ≤ 13
-number_length rec set n = elim (cases_lt n (2 ^ 32)) [
-  | inl lt ↦ rw (lt-ltb n (2 ^ 32) lt) (omega arith)
-  | inr ge ↦ rw (le-ltb n (2 ^ 32) ge) (omega arith)
-]
-
-size_datasets_length : (size : Size) → length (canonical_stream (size_datasets size)) ≤ 13
-size_datasets_length (Known n) = omega (arith, number_length 7 90 n, length-append (canonical_dataset (number_dataset 7 90 n)) [])
-size_datasets_length (Unknown (Some m)) = omega (arith, number_length 7 95 m, length-append (canonical_dataset (number_dataset 7 95 m)) [])
-size_datasets_length (Unknown None) = omega arith
-
--- record 7 has at most 32 octets
-pub plan_length : (subfile : ℕ) (size : Size) → length (canonical_stream (plan_datasets subfile size)) ≤ 32
-plan_length subfile size =
-    let first : List ℕ = canonical_dataset (record { rec = 7; set = 10; octets = mode_number (is_known size) ∷ [] }) in
-    let number : List ℕ = canonical_dataset (number_dataset 7 20 subfile) in
-    let more : List ℕ = canonical_stream (size_datasets size) in
-    omega (arith, length-append first (number ++ more), length-append number more, number_length 7 20 subfile, size_datasets_length size)
 
 -- ---- what stays when a subfile is written, and when a write fails
 
@@ -80,7 +40,7 @@ pub room_flushed : {W : Type 0} (state : W → Device) (old new : Cutter W) → 
 room_flushed state old new room unfailed full f same none =
     let text : List ℕ = canonical_dataset (subfile_dataset old.held.items) in
     let fits = out_fits old room unfailed in
-    let long : length text ≤ 13 + vec_len old.held = omega (arith, dataset_length (subfile_dataset old.held.items), held_is old) in
+    let long : length text ≤ tag_octets + vec_len old.held = omega (arith, dataset_length (subfile_dataset old.held.items), held_is old) in
     let planned : room_of new.plan ≡ room_of old.plan = ap room_of f.plan in
     let most : most_of new.plan ≡ most_of old.plan = ap most_of f.plan in
     let size : new.plan.subfile ≡ old.plan.subfile = ap (λ (p : Plan). p.subfile) f.plan in

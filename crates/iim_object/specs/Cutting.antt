@@ -1,8 +1,9 @@
 -- A writer of subfiles from inside: what it holds, fills and sends.
-use Rattle.std.specs.Prelude.{◌≡◌, ℕ, ◌+◌, ◌*◌, ◌^◌, ◌<◌, ◌≤◌, true, false, List, [], ◌++◌, length, Vec, vec_len, vec_capacity}
+use Rattle.std.specs.Prelude.{◌≡◌, ℕ, ◌+◌, ◌*◌, ◌<◌, ◌≤◌, true, false, List, [], ◌++◌, length, Vec, vec_len, vec_capacity}
 use Rattle.iim_dataset.specs.Format.Devices.{Device}
-use Rattle.iim_dataset.specs.Format.Datasets.{canonical_dataset}
+use Rattle.iim_dataset.specs.Format.Datasets.{canonical_dataset, tag_octets}
 use Rattle.iim_object.specs.Format.Packing.{subfile_dataset}
+use Rattle.iim_object.specs.Format.Plans.{most_out, most_sizes}
 use Rattle.iim_object.specs.Outputs.{Puts, Cuts}
 use Rattle.iim_object.specs.declared.plan.Plan.{Plan}
 use Rattle.iim_object.specs.declared.cutter.Cutter.{Cutter}
@@ -14,16 +15,19 @@ use Rattle.iim_object.specs.Format.Writing.{Writing, most_of, room_of, total_of}
 abbrev pub writing_of : {W : Type 0} → Cutter W → Writing W
 writing_of c = record { plan = c.plan; held = c.held.items; sent = c.sent; written = c.output.written; failed = c.failed; writer = c.output.writer }
 
--- It has room for what the plan allows. Full subfiles are out, `parts` of them, and beside record 7 and their data at most 13 octets for the
--- tag of each: so its numbers are small.
+-- the most octets that are out after `parts` full subfiles, of `sent` octets in all: record 7, and the tag of each subfile
+abbrev pub most_written : ℕ → ℕ → ℕ
+most_written sent parts = most_sizes + sent + tag_octets * parts
+
+-- It has room for what the plan allows. Full subfiles are out, `parts` of them: so its numbers are small.
 pub record HasRoom {W : Type 0} (c : Cutter W) : Type 0 where
   pub capacity : room_of c.plan ≤ vec_capacity c.held
   pub within : vec_len c.held ≤ c.plan.subfile
   pub bound : c.sent + vec_len c.held ≤ most_of c.plan
   pub parts : ℕ
   pub sent : c.sent ≡ c.plan.subfile * parts
-  pub count : c.failed ≡ false → c.output.written ≤ 32 + c.sent + 13 * parts
-  pub small : c.output.written < 2 ^ 63 + 2 ^ 40
+  pub count : c.failed ≡ false → c.output.written ≤ most_written c.sent parts
+  pub small : c.output.written < most_out
 
 -- It may take these octets: no write failed, there are some, and with them the object is within the bound.
 pub record MayTake {W : Type 0} (c : Cutter W) (octets : List ℕ) : Type 0 where

@@ -10,7 +10,7 @@ ghost use Rattle.iim_object.specs.Format.Reached.{PlacesAreReached};
 ghost use Rattle.iim_object.specs.Format.Saved.{PlacesAreLedTo, PlacesHaveOneReader, TokensLeadOnAlike};
 ghost use Rattle.iim_object.specs.Format.Told.{ReadersTellSizes};
 ghost use Rattle.iim_object.specs.Format.Cuts.{ObjectsAreCutOneWay};
-ghost use Rattle.iim_object.specs.Format.Packing.{PackedObjectsHaveSizes, SubfilesAreFew};
+ghost use Rattle.iim_object.specs.Format.Packing.{NumberDatasetsAreGood, PackedObjectsHaveSizes, PackedRecordsAreGood, SubfilesAreFew};
 
 /// While record 7 is read, the object layer can continue exactly where its numbers don't clash.
 pub fn numbers_live_without_clash()
@@ -113,6 +113,16 @@ pub fn packed_objects_have_sizes()
 /// An object that a plan has room for has at most 4,294,967,295 subfiles.
 pub fn subfiles_are_few()
     ensures { SubfilesAreFew }
+{}
+
+/// Each size, as it is written, meets the rows of sizes.
+pub fn number_datasets_are_good()
+    ensures { NumberDatasetsAreGood }
+{}
+
+/// The records 7, 8 and 9 that are written of an object for which a plan has room are good.
+pub fn packed_records_are_good()
+    ensures { PackedRecordsAreGood }
 {}
 
 /// From a possible place the object layer can continue by each smaller greatest size that the place keeps to.

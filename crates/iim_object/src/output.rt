@@ -1,7 +1,7 @@
 //! A target whose octets are counted, and datasets written to it.
 
 ghost use Rattle.std.specs.Prelude.{◌≡◌, ◌+◌, ◌^◌, ◌<◌, ◌≤◌, length, IfErr, OnOk, OnErr};
-ghost use Rattle.iim_dataset.specs.Format.Datasets.{canonical_dataset, canonical_stream};
+ghost use Rattle.iim_dataset.specs.Format.Datasets.{canonical_dataset, canonical_stream, count_octets, tag_octets};
 ghost use Rattle.iim_dataset.specs.Format.Octets.{greatest_size};
 ghost use Rattle.iim_object.specs.Format.Packing.{number_dataset, size_datasets, plan_datasets, is_known};
 ghost use Rattle.iim_object.specs.Format.Plans.{limit_of};
@@ -13,11 +13,8 @@ use crate::cause::PackCause;
 use crate::plan::Plan;
 use crate::size::Size;
 use iim_dataset::device_laws::texts_join;
-use iim_dataset::{Head, Target, head_bytes, put};
+use iim_dataset::{Head, Target, head_bytes, number_bytes, put};
 use iim_tables::records::{ANNOUNCED_SIZE, MAX_SUBFILE_SIZE, MAXIMUM_SIZE, PRE_OBJECT, SIZE_MODE};
-
-/// The greatest number that is written in four octets.
-const MAX_FOUR: u64 = 4_294_967_295;
 
 /// A target, and how many octets are out.
 #[derive(Drop)]
@@ -50,7 +47,7 @@ impl<W: Target> Output<W> {
 
     /// Writes a dataset in its canonical spelling.
     pub(crate) fn put_dataset(&mut self, rec: u8, set: u8, octets: &[u8]) -> Result<(), PackCause>
-        requires room { self.old.written + 13 + length octets.now < 2 ^ 64 }
+        requires room { self.old.written + tag_octets + length octets.now < 2 ^ 64 }
         ensures ok { OnOk result (Puts W.state self.old self.new (canonical_dataset record { rec = rec; set = set; octets = octets.now })) }
         ensures err { OnErr result (Cuts W.state self.old self.new (canonical_dataset record { rec = rec; set = set; octets = octets.now })) }
         ensures cause { IfErr result (λ cause. cause ≡ causes.Write) }
@@ -67,23 +64,19 @@ impl<W: Target> Output<W> {
     /// Writes a dataset whose value is a number.
     pub(crate) fn put_number(&mut self, rec: u8, set: u8, n: u64) -> Result<(), PackCause>
         requires fits { n ≤ greatest_size }
-        requires room { self.old.written + 21 < 2 ^ 64 }
+        requires room { self.old.written + tag_octets + count_octets < 2 ^ 64 }
         ensures ok { OnOk result (Puts W.state self.old self.new (canonical_dataset (number_dataset rec set n))) }
         ensures err { OnErr result (Cuts W.state self.old self.new (canonical_dataset (number_dataset rec set n))) }
         ensures cause { IfErr result (λ cause. cause ≡ causes.Write) }
     {
-        if n <= MAX_FOUR {
-            let octets = (n as u32).to_be_bytes();
-            return self.put_dataset(rec, set, &octets);
-        }
-        let octets = n.to_be_bytes();
-        self.put_dataset(rec, set, &octets)
+        let octets = number_bytes(n);
+        self.put_dataset(rec, set, octets.as_slice())
     }
 
     /// Writes 7:90 for a known size, 7:95 for a maximum.
     fn put_size(&mut self, size: Size) -> Result<(), PackCause>
         requires fits { limit_of size ≤ greatest_size }
-        requires room { self.old.written + 21 < 2 ^ 64 }
+        requires room { self.old.written + tag_octets + count_octets < 2 ^ 64 }
         ensures ok { OnOk result (Puts W.state self.old self.new (canonical_stream (size_datasets size))) }
         ensures err { OnErr result (Cuts W.state self.old self.new (canonical_stream (size_datasets size))) }
         ensures cause { IfErr result (λ cause. cause ≡ causes.Write) }

@@ -26,7 +26,8 @@ fn fits(subfile: u64, size: Size) -> bool
     ensures { result ≡ fits subfile size }
 {
     match size {
-        Size::Known(octets) => octets <= GREATEST_SIZE && octets <= subfile.saturating_mul(MAX_SUBFILES),
+        Size::Known(octets) => octets <= GREATEST_SIZE
+            && octets <= subfile.saturating_mul(MAX_SUBFILES),
         Size::Unknown(Some(maximum)) => maximum <= GREATEST_SIZE,
         Size::Unknown(None) => true,
     }

@@ -2,6 +2,7 @@
 
 ghost use Rattle.std.specs.Prelude.{◌≡◌, ◌+◌, ◌<◌, ◌≤◌, ◌^◌, [], length, IfOk, IfErr, OnOk, OnErr, IfSome, IfNone, Err};
 ghost use Rattle.iim_dataset.specs.Format.Devices.{Wrote, Stopped};
+ghost use Rattle.iim_object.specs.Format.Plans.{most_out};
 ghost use Rattle.iim_object.specs.Format.Writing.{StandsAt, Lengthens, BreaksOff, ContinuesWith, IsTheWhole, Finishes, write_cause, finish_cause, RefusesOctets, RefusesEnd, plan_octets, total_of, most_of, room_of};
 ghost use Rattle.iim_object.specs.declared.cause.PackCause.{PackCause as PackCauseValue};
 ghost use Rattle.iim_object.specs.declared.cause.PackCause.TheVariants as causes;
@@ -134,7 +135,7 @@ impl<W: Target> SubfileWriter<W> {
     /// How many octets are out.
     pub fn written(&self) -> u64
         ensures count { result ≡ self.now.written }
-        ensures small { result < 2 ^ 63 + 2 ^ 40 }
+        ensures small { result < most_out }
     {
         self.cutter.output.written
     }

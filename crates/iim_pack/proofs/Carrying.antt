@@ -11,13 +11,12 @@ use Rattle.iim_fields.specs.Format.Faults.{kept, joined}
 use Rattle.iim_object.specs.Format.Records.{HaveSizes}
 use Rattle.iim_object.specs.Format.Plans.{is_plan, fits, limit_of, bound_of}
 use Rattle.iim_object.specs.Format.Cuts.{AreFull, joined_parts}
-use Rattle.iim_object.specs.Format.Packing.{plan_datasets, subfile_datasets, confirmed_datasets, packed_sizes, PackedObjectsHaveSizes}
+use Rattle.iim_object.specs.Format.Packing.{plan_datasets, subfile_datasets, confirmed_datasets, packed_sizes, PackedObjectsHaveSizes, PackedRecordsAreGood}
 use Rattle.iim_object.specs.declared.size.Size.{Size}
 use Rattle.iim_object.specs.declared.size.Size.TheVariants.{Known, Unknown}
 use Rattle.wire_message.specs.Format.Canonical.{canonical}
 use Rattle.iim_pack.specs.Format.Laws.{PackedOctetsCarryTheValue}
 use Rattle.iim_pack.proofs.Octets.{all_append, message_octets}
-use Rattle.iim_pack.proofs.GoodRecords.{good_seven, good_eight, good_nine}
 use Rattle.iim_pack.proofs.Spelling.{record_spelled}
 use Rattle.iim_pack.proofs.Sorting.{AreInOrder, AreOf, all_map, kept_are, sevens_are, eights_are, nines_are, object_joined}
 
@@ -39,22 +38,7 @@ plan_parts subfile size h =
     let inner = and_parts (nat_le 1 subfile) (nat_le subfile greatest_size) outer.0 in
     record { least = leb-true 1 subfile inner.0; most = leb-true subfile greatest_size inner.1; limit = limit_fits subfile size outer.1 }
 
--- ---- parts
-
-all_front : {X : Type 0} (P : X → Type 0) (xs ys : List X) → AllByRecursion P (xs ++ ys) → AllByRecursion P xs
-all_front P [] ys h = tt
-all_front P (x ∷ xs) ys h = (h.0, all_front P xs ys h.1)
-
-all_back : {X : Type 0} (P : X → Type 0) (xs ys : List X) → AllByRecursion P (xs ++ ys) → AllByRecursion P ys
-all_back P [] ys h = h
-all_back P (x ∷ xs) ys h = all_back P xs ys h.1
-
-parts_are : (size : ℕ) (full : List (List ℕ)) (last : List ℕ) → size ≤ greatest_size → AreFull size full → length last ≤ size → Octets (joined_parts full ++ last)
-    → AllByRecursion (λ p. (length p ≤ greatest_size) × Octets p) (full ++ last ∷ [])
-parts_are size [] last most fulls short o = ((omega (arith, most, short), o), tt)
-parts_are size (f ∷ fs) last most fulls short o =
-    let whole : Octets (f ++ (joined_parts fs ++ last)) = subst Octets (append_assoc f (joined_parts fs) last) o in
-    ((omega (arith, fulls.0, most), all_front IsOctet f (joined_parts fs ++ last) whole), parts_are size fs last most fulls.1 short (all_back IsOctet f (joined_parts fs ++ last) whole))
+-- ---- records
 
 of_good : (rec : ℕ) (ds : List Dataset) → IsGoodRecord rec ds → AreOf rec ds
 of_good rec ds good = all_map (λ (d : Dataset). (d.rec ≡ rec) × IsGoodDataset d) (λ (d : Dataset). d.rec ≡ rec) ds (λ d h. h.0) good.each
@@ -84,8 +68,8 @@ sections r1 r2 r7 r8 r9 g = (
   (r2, r7 ++ (r8 ++ r9), refl, g.two, (r7, r8 ++ r9, refl, g.seven, (r8, r9, refl, g.eight, (r9, [], sym (append-nil r9), g.nine, refl)))),
 )
 
-pub carried : CanonicalStreamsAreSpelled → PackedObjectsHaveSizes → PackedOctetsCarryTheValue
-carried spell have fields head lines trailer plan octets p =
+pub carried : CanonicalStreamsAreSpelled → PackedRecordsAreGood → PackedObjectsHaveSizes → PackedOctetsCarryTheValue
+carried spell good have fields head lines trailer plan octets p =
     let object = canonical head lines trailer in
     let is_plan = plan_parts plan.subfile plan.size plan.valid in
     let fits : length object ≤ bound_of plan.subfile plan.size = p.may.suits.fits in
@@ -97,14 +81,13 @@ carried spell have fields head lines trailer plan octets p =
     let r7 = plan_datasets plan.subfile plan.size in
     let r8 = subfile_datasets p.written.parts in
     let r9 = confirmed_datasets object in
-    let eight : IsGoodRecord 8 r8 = subst (λ (ps : List (List ℕ)). IsGoodRecord 8 (subfile_datasets ps)) (sym cut.parts_are)
-    (good_eight cut.full cut.last (parts_are plan.subfile cut.full cut.last is_plan.most cut.are_full cut.fits (subst Octets cut.joined o))) in
+    let records = good plan.subfile plan.size object p.written.parts plan.valid o p.written.cut fits in
     let g : AreGood r1 r2 r7 r8 r9 = record {
       one = p.may.envelope.envelope;
       two = p.may.envelope.application;
-      seven = good_seven plan.subfile plan.size is_plan.least is_plan.most is_plan.limit;
-      eight = eight;
-      nine = good_nine object size;
+      seven = records.seven;
+      eight = records.eight;
+      nine = records.nine;
     } in
     let order = in_order r1 r2 r7 r8 r9 g in
     let all : (r1 ++ r2) ++ (r7 ++ (r8 ++ r9)) ≡ fields ++ (r7 ++ (r8 ++ r9)) = ap (λ (t : List Dataset). t ++ (r7 ++ (r8 ++ r9))) (sym p.may.envelope.parts) in

@@ -6,7 +6,8 @@ use Rattle.std.proofs.lemmas.Bool.{lt-ltb, le-ltb, cases_lt}
 use Rattle.std.specs.Io.KnownBytes.{Appends}
 use Rattle.iim_dataset.specs.Format.Devices.{Device, Wrote, Stopped}
 use Rattle.iim_dataset.specs.Format.DeviceLaws.{TextsJoin}
-use Rattle.iim_dataset.specs.Format.Datasets.{Dataset, canonical_count, canonical_dataset, canonical_stream, count_octets}
+use Rattle.iim_dataset.specs.Format.Datasets.{Dataset, canonical_dataset, canonical_stream, count_octets, tag_octets}
+use Rattle.iim_dataset.specs.WrittenNumbers.{dataset_length}
 use Rattle.iim_fields.specs.Format.Faults.{joined}
 use Rattle.iim_tables.specs.Format.Records.{IsGoodDataset}
 use Rattle.iim_fields.specs.Format.Builders.{IsEnvelope, AreFew}
@@ -21,21 +22,7 @@ stopped_more a b xs ys n s =
 
 -- ---- how long datasets are
 
-count_length : (n : ℕ) → length (canonical_count n) ≤ 10
-count_length n = elim (cases_lt n 32768) [
-  | inl lt ↦ rw (lt-ltb n 32768 lt) (omega arith)
-  | inr ge ↦ elim (cases_lt n (2 ^ 32)) [
-    | inl lt ↦ rw (le-ltb n 32768 ge, lt-ltb n (2 ^ 32) lt) (omega arith)
-    | inr above ↦ rw (le-ltb n 32768 ge, le-ltb n (2 ^ 32) above) (omega arith)
-  ]
-]
-
-dataset_length : (d : Dataset) → length (canonical_dataset d) ≤ 13 + length d.octets
-dataset_length d =
-    let c = count_length (length d.octets) in
-    omega (arith, c, length-append (canonical_count (length d.octets)) d.octets)
-
-pub stream_length : (ds : List Dataset) → length (canonical_stream ds) ≤ 13 * length ds + length (joined ds)
+pub stream_length : (ds : List Dataset) → length (canonical_stream ds) ≤ tag_octets * length ds + length (joined ds)
 stream_length [] = omega arith
 stream_length (d ∷ ds) =
     let more = stream_length ds in

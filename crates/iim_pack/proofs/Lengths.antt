@@ -1,32 +1,33 @@
 -- How long a packed form is.
 use Rattle.std.proofs.Common.{◌≡◌, ℕ, ◌+◌, ◌*◌, ◌≤◌, List, [], ◌++◌, length, refl, sym, ap, ◌∙◌, arith, length-append}
 use Rattle.std.proofs.lemmas.List.{length-map}
-use Rattle.iim_dataset.specs.Format.Datasets.{canonical_dataset, canonical_stream}
+use Rattle.iim_dataset.specs.Format.Datasets.{canonical_dataset, canonical_stream, tag_octets}
 use Rattle.iim_dataset.specs.Format.Octets.{greatest_size}
 use Rattle.iim_fields.specs.Format.Faults.{joined}
 use Rattle.iim_object.specs.Format.Cuts.{IsCut}
 use Rattle.iim_object.specs.Format.Packing.{number_dataset, plan_datasets, subfile_dataset, subfile_datasets, confirmed_datasets, object_datasets}
 use Rattle.iim_object.specs.Format.Writing.{plan_octets}
+use Rattle.iim_object.specs.PlanLengths.{number_length}
 use Rattle.iim_object.specs.declared.plan.Plan.{Plan}
 use Rattle.wire_message.specs.Format.Canonical.{canonical}
 use Rattle.iim_pack.specs.Format.Laws.{PackedOctetsAreFew}
 use Rattle.iim_pack.proofs.Carrying.{plan_parts}
 use Rattle.iim_pack.proofs.FieldsOut.{stream_append, stream_length}
 use Rattle.iim_pack.proofs.Ones.{few_subfiles}
-use Rattle.iim_pack.proofs.Openings.{number_length, plan_small}
+use Rattle.iim_pack.proofs.Openings.{plan_small}
 use Rattle.iim_pack.proofs.Sorting.{object_joined}
 
-subfiles_length : (size : ℕ) (object : List ℕ) (parts : List (List ℕ)) → (cut : IsCut size object parts) → length (canonical_stream (subfile_datasets parts)) ≤ 13 * length parts + length object
+subfiles_length : (size : ℕ) (object : List ℕ) (parts : List (List ℕ)) → (cut : IsCut size object parts) → length (canonical_stream (subfile_datasets parts)) ≤ tag_octets * length parts + length object
 subfiles_length size object parts cut =
     let is : joined (subfile_datasets parts) ≡ object = ap (λ (ps : List (List ℕ)). joined (subfile_datasets ps)) cut.parts_are ∙ (object_joined cut.full cut.last ∙ sym cut.joined) in
     let long = stream_length (subfile_datasets parts) in
     let many : length (subfile_datasets parts) ≡ length parts = length-map parts subfile_dataset in
     omega (arith, long, many, ap length is)
 
-confirmed_length : (object : List ℕ) → length (canonical_stream (confirmed_datasets object)) ≤ 13
+confirmed_length : (object : List ℕ) → length (canonical_stream (confirmed_datasets object)) ≤ tag_octets
 confirmed_length object = omega (arith, number_length 9 10 (length object), length-append (canonical_dataset (number_dataset 9 10 (length object))) [])
 
-object_length : (plan : Plan) (object : List ℕ) (parts : List (List ℕ)) → IsCut plan.subfile object parts → length (canonical_stream (object_datasets plan.subfile plan.size object parts)) ≤ 45 + (13 * length parts + length object)
+object_length : (plan : Plan) (object : List ℕ) (parts : List (List ℕ)) → IsCut plan.subfile object parts → length (canonical_stream (object_datasets plan.subfile plan.size object parts)) ≤ 6 + 3 * tag_octets + (tag_octets * length parts + length object)
 object_length plan object parts cut =
     let subfiles = subfiles_length plan.subfile object parts cut in
     let begun = plan_small plan in

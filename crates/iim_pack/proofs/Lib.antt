@@ -1,5 +1,4 @@
 pub mod Octets
-pub mod GoodRecords
 pub mod Spelling
 pub mod Sorting
 pub mod Carrying

@@ -5,14 +5,13 @@ use Rattle.std.proofs.lemmas.Bool.{le-leb, cases_lt, lt-ltb, le-ltb}
 use Rattle.std.specs.Io.KnownBytes.{Appends}
 use Rattle.iim_dataset.specs.Format.Devices.{Device, Wrote, Stopped, Broke}
 use Rattle.iim_dataset.specs.Format.DeviceLaws.{TextsJoin}
-use Rattle.iim_dataset.specs.Format.Datasets.{canonical_dataset, canonical_stream}
-use Rattle.iim_object.specs.Format.Packing.{IsWritten, number_dataset, size_datasets, is_known, plan_datasets, subfile_datasets, confirmed_datasets}
-use Rattle.iim_object.specs.Format.Sizes.{mode_number}
+use Rattle.iim_dataset.specs.Format.Datasets.{canonical_stream}
+use Rattle.iim_object.specs.Format.Packing.{IsWritten, plan_datasets, subfile_datasets, confirmed_datasets}
+use Rattle.iim_object.specs.Format.Plans.{most_sizes}
+use Rattle.iim_object.specs.PlanLengths.{plan_length}
 use Rattle.iim_object.specs.Format.Cuts.{joined_parts}
 use Rattle.iim_object.specs.Format.Writing.{Writing, StandsAt, Lengthens, BreaksOff, ContinuesWith, Begins, most_of, total_of, plan_octets, write_cause}
 use Rattle.iim_object.specs.declared.plan.Plan.{Plan}
-use Rattle.iim_object.specs.declared.size.Size.{Size}
-use Rattle.iim_object.specs.declared.size.Size.TheVariants.{Known, Unknown}
 use Rattle.iim_object.specs.declared.cause.StartFault.{StartFault}
 use Rattle.iim_object.specs.declared.cause.PackCause.TheVariants as causes
 use Rattle.iim_pack.specs.Starting.{Opens, IsWrittenFrom}
@@ -26,27 +25,8 @@ pub begins_by : (text rest whole : List ℕ) (n : ℕ) → whole ≡ text ++ res
 begins_by text rest whole n e =
     (drop n text ++ rest, sym (append_assoc (take n text) (drop n text) rest) ∙ (ap (λ (t : List ℕ). t ++ rest) (take-append-drop n text) ∙ sym e))
 
--- a size has at most 13 octets
-pub number_length : (rec set n : ℕ) → length (canonical_dataset (number_dataset rec set n)) ≤ 13
-number_length rec set n = elim (cases_lt n (2 ^ 32)) [
-  | inl lt ↦ rw (lt-ltb n (2 ^ 32) lt) (omega arith)
-  | inr ge ↦ rw (le-ltb n (2 ^ 32) ge) (omega arith)
-]
-
-size_small : (size : Size) → length (canonical_stream (size_datasets size)) ≤ 13
-size_small (Known n) = omega (arith, number_length 7 90 n, length-append (canonical_dataset (number_dataset 7 90 n)) [])
-size_small (Unknown (Some m)) = omega (arith, number_length 7 95 m, length-append (canonical_dataset (number_dataset 7 95 m)) [])
-size_small (Unknown None) = omega arith
-
-plan_small_of : (subfile : ℕ) (size : Size) → length (canonical_stream (plan_datasets subfile size)) ≤ 32
-plan_small_of subfile size =
-    let first : List ℕ = canonical_dataset (record { rec = 7; set = 10; octets = mode_number (is_known size) ∷ [] }) in
-    let number : List ℕ = canonical_dataset (number_dataset 7 20 subfile) in
-    let more : List ℕ = canonical_stream (size_datasets size) in
-    omega (arith, length-append first (number ++ more), length-append number more, number_length 7 20 subfile, size_small size)
-
-pub plan_small : (plan : Plan) → length (plan_octets plan) ≤ 32
-plan_small plan = plan_small_of plan.subfile plan.size
+pub plan_small : (plan : Plan) → length (plan_octets plan) ≤ most_sizes
+plan_small plan = plan_length plan.subfile plan.size
 
 -- what is written begins with record 7
 whole_begins : (plan : Plan) (xs whole : List ℕ) → (w : IsWritten plan.subfile plan.size xs whole)

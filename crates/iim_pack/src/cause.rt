@@ -1,6 +1,7 @@
 //! Why a packer refuses a call, by numbers alone.
 
-ghost use Rattle.std.specs.Prelude.{◌≡◌, ◌+◌, ◌<◌, ◌^◌};
+ghost use Rattle.std.specs.Prelude.{◌≡◌, ◌≤◌};
+ghost use Rattle.iim_dataset.specs.Format.Octets.{greatest_size};
 ghost use Rattle.iim_object.specs.Format.Writing.{is_short};
 ghost use Rattle.iim_pack.specs.Format.Packing.{is_past, ending_cause};
 ghost use Rattle.iim_pack.specs.Format.Packing as words;
@@ -13,8 +14,6 @@ pub(crate) const LEAST_ENDING: u64 = 2;
 
 /// Whether `octets` octets after the first `total` pass the plan's bound.
 pub(crate) fn is_past(plan: Plan, total: u64, octets: u64) -> bool
-    requires total { total < 2 ^ 63 }
-    requires octets { octets < 2 ^ 63 + 4 }
     ensures { result ≡ words.is_past plan total octets }
 {
     total.saturating_add(octets) > plan.bound()
@@ -32,7 +31,7 @@ pub(crate) fn is_short(size: Size, total: u64) -> bool
 
 /// Why an object may not end with the trailer after `total` octets.
 pub(crate) fn ending_cause(plan: Plan, total: u64, trailer: &[u8]) -> Option<PackCause>
-    requires total { total < 2 ^ 63 }
+    requires { total ≤ greatest_size }
     ensures { result ≡ words.ending_cause plan total trailer.now }
 {
     if !is_trailer(trailer) {

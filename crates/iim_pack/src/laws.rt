@@ -3,13 +3,16 @@
 ghost use Rattle.iim_pack.specs.Format.Laws.{PackedOctetsAreFew, PackedOctetsAreOne, PackedOctetsCarryTheValue, PackedSubfilesAreFew};
 
 use iim_dataset::laws::canonical_streams_are_spelled;
-use iim_object::laws::{objects_are_cut_one_way, packed_objects_have_sizes};
+use iim_object::laws::{
+    objects_are_cut_one_way, packed_objects_have_sizes, packed_records_are_good,
+};
 
 /// What is packed carries the fields, the object and the sizes of the plan.
 pub fn packed_octets_carry_the_value()
     ensures { PackedOctetsCarryTheValue }
 {
     canonical_streams_are_spelled();
+    packed_records_are_good();
     packed_objects_have_sizes();
 }
 
@@ -25,7 +28,8 @@ pub fn packed_subfiles_are_few()
     ensures { PackedSubfilesAreFew }
 {}
 
-/// A packed form of no more fields than limits can allow has fewer than 2 to the power of 40 octets.
+/// A packed form of no more fields than limits can allow has fewer octets than the greatest object and
+/// 2 to the power of 40.
 pub fn packed_octets_are_few()
     ensures { PackedOctetsAreFew }
 {}

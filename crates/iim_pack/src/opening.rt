@@ -1,6 +1,7 @@
 //! The beginning of an object.
 
 ghost use Rattle.std.specs.Prelude.{◌+◌, ◌<◌, ◌≤◌, ◌^◌, length, IfOk, IfErr};
+ghost use Rattle.iim_object.specs.Format.Plans.{most_out};
 ghost use Rattle.iim_object.specs.Format.Writing.{most_of};
 ghost use Rattle.iim_pack.specs.Starting.{Opens, IsWrittenFrom};
 ghost use Rattle.iim_pack.specs.Format.Starting.{Halts};
@@ -18,7 +19,7 @@ pub(crate) fn open_object<W: Target>(
     requires { length front.now ≤ most_of buffer }
     ensures ok { IfOk result (Opens W.state writer buffer front.now) }
     ensures err { IfErr result (Halts W.state (IsWrittenFrom buffer front.now) writer) }
-    ensures small { IfErr result (λ fault. fault.written < 2 ^ 63 + 2 ^ 40) }
+    ensures small { IfErr result (λ fault. fault.written < most_out) }
 {
     texts_join();
     match SubfileWriter::start(buffer, writer) {

@@ -10,7 +10,7 @@ use Rattle.iim_tables.specs.Format.Rows.{table, row_of}
 use Rattle.iim_fields.specs.Format.Faults.{is_kept, kept, present_record}
 use Rattle.iim_fields.specs.Format.Records.{AreSections}
 use Rattle.iim_tables.specs.Format.Records.{repeats}
-use Rattle.iim_object.specs.Format.Packing.{subfile_datasets}
+use Rattle.iim_object.specs.Format.Packing.{NumberDatasetsAreGood, subfile_datasets}
 use Rattle.iim_unpack.specs.Format.Begins.{IsSize}
 use Rattle.iim_unpack.specs.ByLayers.{one_of_some}
 use Rattle.iim_unpack.specs.Plain.{Numbers, number_list, plain_numbers, filled, plain_end, plain}
@@ -65,9 +65,9 @@ present_alike fields numbers a b x y ended some =
     ∙ sym (picks_plain fields numbers b y ended)
 
 -- What follows plain datasets to sections follows those with other subfiles, where there are some of both or none, and another end.
-pub alike : (fields : List Dataset) (numbers : Numbers) (a b : ℕ) (x y : List ℕ) (ended : Bool) (more : List Dataset) → Fits fields numbers a x → Fits fields numbers b y → one_of_some a ≡ one_of_some b
+pub alike : NumberDatasetsAreGood → (fields : List Dataset) (numbers : Numbers) (a b : ℕ) (x y : List ℕ) (ended : Bool) (more : List Dataset) → Fits fields numbers a x → Fits fields numbers b y → one_of_some a ≡ one_of_some b
     → Octets y → length y ≤ greatest_size → AreSections (plain fields numbers a x ended ++ more) → AreSections (plain fields numbers b y ended ++ more)
-alike fields numbers a b x y ended more left right some octets few sections =
+alike rows fields numbers a b x y ended more left right some octets few sections =
     let ds = plain fields numbers a x ended in
     let size = unwrap_or numbers.largest 0 in
     let tell = told_by fields numbers a x ended left in
@@ -86,7 +86,7 @@ alike fields numbers a b x y ended more left right some octets few sections =
       eight = subst (λ (xs : List Dataset). MayReplace 8 xs eights) (sym tell.eights_are)
           (replace_eights (subfile_datasets (filled size a x)) eights (part_tens (filled size a x)) (part_tens (filled size b y)) e (good_parts size b y octets few));
       nine = subst (λ (xs : List Dataset). MayReplace 9 xs (plain_end ended y)) (sym tell.nines_are)
-          (replace_tens 9 (plain_end ended x) (plain_end ended y) (end_tens ended x) (end_tens ended y) (end_length ended x ∙ sym (end_length ended y)) (good_end ended y few));
+          (replace_tens 9 (plain_end ended x) (plain_end ended y) (end_tens ended x) (end_tens ended y) (end_length ended x ∙ sym (end_length ended y)) (good_end rows ended y few));
       present = present_alike fields numbers a b x y ended some ∙ sym (ap present_record is);
     })
     sections)

@@ -7,7 +7,7 @@ use Rattle.std.proofs.lemmas.List.Sums.{sum_by-cons, sum_by-append}
 use Rattle.iim_dataset.specs.Format.Octets.{Octets, number, greatest_size, within}
 use Rattle.iim_tables.specs.Format.Numbers.{size_octets}
 use Rattle.iim_tables.specs.Format.Rows.{table, row_of, Meets}
-use Rattle.iim_dataset.specs.Format.Datasets.{Dataset, SpellsCount, SpellsTag, SpellsStream, count_octets, of_record}
+use Rattle.iim_dataset.specs.Format.Datasets.{Dataset, SpellsCount, SpellsTag, SpellsStream, count_octets, of_record, tag_octets}
 use Rattle.iim_dataset.specs.Format.Splits.{Begun, InTag, InData, IsBegun}
 use Rattle.iim_dataset.specs.declared.head.Head.{Head}
 use Rattle.iim_fields.specs.Format.Records.{AreSections}
@@ -29,7 +29,7 @@ use Rattle.iim_unpack.specs.Format.Tokens.{ObjectLives}
 -- how many octets datasets take at most: thirteen for each tag, and the data
 abbrev pub weight : List Dataset → ℕ
 weight [] = 0
-weight (d ∷ ds) = (13 + length d.octets) + weight ds
+weight (d ∷ ds) = (tag_octets + length d.octets) + weight ds
 
 -- ---- tags
 
@@ -39,7 +39,7 @@ count_fits n (high ∷ []) is = absurd is
 count_fits n (high ∷ low ∷ more) (inl (a, b, none, c)) = omega (arith, ap length none)
 count_fits n (high ∷ low ∷ more) (inr (a, len, b, most, fits, c)) = omega (arith, len, most)
 
-pub tag_fits : (h : Head) (tag : List ℕ) → SpellsTag count_octets h tag → length tag ≤ 13
+pub tag_fits : (h : Head) (tag : List ℕ) → SpellsTag count_octets h tag → length tag ≤ tag_octets
 tag_fits h tag is = omega (arith, ap length is.parts, count_fits h.count is.count is.is_count)
 
 pub stream_fits : (ds : List Dataset) (xs : List ℕ) → SpellsStream count_octets ds xs → length xs ≤ weight ds
@@ -53,7 +53,7 @@ abbrev pub IsFive : ℕ → Type 0
 IsFive r = (r ≡ 1) ⊎ ((r ≡ 2) ⊎ ((r ≡ 7) ⊎ ((r ≡ 8) ⊎ (r ≡ 9))))
 
 abbrev Apart : Dataset → List Dataset → List Dataset → List Dataset → List Dataset → ℕ → ℕ → Type 0
-Apart d k s e n all r = (13 + length d.octets) + all
+Apart d k s e n all r = (tag_octets + length d.octets) + all
     ≤ weight (cond (nat_eq r 1 || nat_eq r 2) (d ∷ k) k) + weight (cond (nat_eq r 7) (d ∷ s) s) + weight (cond (nat_eq r 8) (d ∷ e) e) + weight (cond (nat_eq r 9) (d ∷ n) n)
 
 step : (d : Dataset) (k s e n : List Dataset) (all r : ℕ) → all ≤ weight k + weight s + weight e + weight n → IsFive r → Apart d k s e n all r
@@ -95,14 +95,14 @@ alive_five ds alive = front ds alive.0 (sections_five (ds ++ alive.0) alive.1)
 
 -- ---- the kept ones, and the subfiles
 
-pub weight_joined : (ds : List Dataset) → weight ds ≡ 13 * length ds + length (joined ds)
+pub weight_joined : (ds : List Dataset) → weight ds ≡ tag_octets * length ds + length (joined ds)
 weight_joined [] = refl
 weight_joined (d ∷ ds) = omega (arith, weight_joined ds, length-append d.octets (joined ds))
 
 sum_more : (n : ℕ) (ls : List ℕ) → sum (n ∷ ls) ≡ n + sum ls
 sum_more n ls = sum_by-cons (λ n. n) n ls
 
-pub weight_lengths : (ds : List Dataset) → weight ds ≡ 13 * length ds + sum (lengths_of ds)
+pub weight_lengths : (ds : List Dataset) → weight ds ≡ tag_octets * length ds + sum (lengths_of ds)
 weight_lengths [] = refl
 weight_lengths (d ∷ ds) = omega (arith, weight_lengths ds, sum_more (length d.octets) (lengths_of ds))
 
@@ -342,11 +342,11 @@ few_in_seven d seven (inl keeps) = absurd (let bad : false ≡ true = ap is_kept
 few_in_seven d seven (inr (inl eight)) = absurd (omega (arith, seven, eight))
 few_in_seven d seven (inr (inr few)) = few
 
-low_seven : (d : Dataset) (ds : List Dataset) (b : Bool) → nat_eq d.rec 7 ≡ b → IsOne d → weight ds ≤ 21 * length ds → weight (cond b (d ∷ ds) ds) ≤ 21 * length (cond b (d ∷ ds) ds)
+low_seven : (d : Dataset) (ds : List Dataset) (b : Bool) → nat_eq d.rec 7 ≡ b → IsOne d → weight ds ≤ (tag_octets + count_octets) * length ds → weight (cond b (d ∷ ds) ds) ≤ (tag_octets + count_octets) * length (cond b (d ∷ ds) ds)
 low_seven d ds true is few le = let short = few_in_seven d (eqb-true d.rec 7 is) few in omega (arith, short, le)
 low_seven d ds false is few le = le
 
-pub seven_fits : (ds : List Dataset) → AllByRecursion IsOne ds → weight (of_record 7 ds) ≤ 21 * length (of_record 7 ds)
+pub seven_fits : (ds : List Dataset) → AllByRecursion IsOne ds → weight (of_record 7 ds) ≤ (tag_octets + count_octets) * length (of_record 7 ds)
 seven_fits [] all = omega arith
 seven_fits (d ∷ ds) all = low_seven d (of_record 7 ds) (nat_eq d.rec 7) refl all.0 (seven_fits ds all.1)
 

@@ -19,7 +19,7 @@ use Rattle.iim_tables.specs.Format.Records.{IsGoodDataset}
 use Rattle.iim_fields.specs.Format.Standing.{IsWithin}
 use Rattle.iim_object.specs.Format.Numbers.{place_after_datasets, place_ended, ending_of}
 use Rattle.iim_object.specs.Format.Objects.{ObjectEnded, Confirmed, SubfileBegun, ObjectLanguage, number_tokens}
-use Rattle.iim_object.specs.Format.Packing.{number_dataset, subfile_datasets}
+use Rattle.iim_object.specs.Format.Packing.{NumberDatasetsAreGood, number_dataset, subfile_datasets}
 use Rattle.iim_object.specs.Format.Places.{Ending, NotEnded, Ended, ConfirmedAs, ending_tokens, place_after}
 use Rattle.iim_object.specs.Format.Places as objects
 use Rattle.iim_object.specs.Format.Plans.{max_subfiles}
@@ -379,10 +379,10 @@ after_plain laws fields numbers heads object ended p e tell same is stated many 
     (small_in fields numbers heads object ended tell) end').alive
 
 -- alive with plain datasets, as with those that tell the record layer
-alive_with : (fields : List Dataset) (numbers : Numbers) (heads : ℕ) (object : List ℕ) (ended : Bool) → Fits fields numbers heads object → Octets object → length object ≤ greatest_size → (more : List Dataset)
+alive_with : NumberDatasetsAreGood → (fields : List Dataset) (numbers : Numbers) (heads : ℕ) (object : List ℕ) (ended : Bool) → Fits fields numbers heads object → Octets object → length object ≤ greatest_size → (more : List Dataset)
     → AreSections (plain fields numbers (one_of_some heads) [] ended ++ more) → AreSections (plain fields numbers heads object ended ++ more)
-alive_with fields numbers heads object ended fits octets few more sections =
-    alike fields numbers (one_of_some heads) heads [] object ended more (record { kept = fits.kept; fit = fits.fit; room = omega arith }) fits (sym (one_same heads)) octets few sections
+alive_with rows fields numbers heads object ended fits octets few more sections =
+    alike rows fields numbers (one_of_some heads) heads [] object ended more (record { kept = fits.kept; fit = fits.fit; room = omega arith }) fits (sym (one_same heads)) octets few sections
 
 within_plain : (fields : List Dataset) (numbers : Numbers) (heads : ℕ) (object : List ℕ) (ended : Bool) → Tell (plain fields numbers heads object ended) fields numbers heads object ended → IsWithin widest (length (joined fields)) (length fields)
     → heads ≤ max_subfiles → AreWithin widest (plain fields numbers heads object ended)
@@ -454,7 +454,7 @@ lead_whole laws place numbers p ended held o text numbers_are keeps same is end'
     spelled = fields_spelled fields numbers (one_of_some heads) [] ended more keeps sections (let low = within.octets_in in omega (arith, low))
 
     alive : SectionsLive ds
-    alive = (more, alive_with fields numbers heads o ended base.fits octets base.few more sections)
+    alive = (more, alive_with laws.opens.answer.rows fields numbers heads o ended base.fits octets base.few more sections)
 
     inside : AreWithin widest ds
     inside = within_plain fields numbers heads o ended tell within (let most = is.few in omega (arith, many, most))
@@ -527,12 +527,12 @@ room_kept fields ks h same within is =
     (subst (λ (b : Bool). IsWithin widest (length (joined fields) + (if b then h.count else 0)) (length fields + (if b then 1 else 0))) is within)
 
 -- the head that stands after the datasets by which the record layer is told stands after the plain ones
-at_with : (fields : List Dataset) (numbers : Numbers) (heads : ℕ) (object : List ℕ) → Fits fields numbers heads object → Octets object → length object ≤ greatest_size → (h : Head)
+at_with : NumberDatasetsAreGood → (fields : List Dataset) (numbers : Numbers) (heads : ℕ) (object : List ℕ) → Fits fields numbers heads object → Octets object → length object ≤ greatest_size → (h : Head)
     → SectionsLiveAt (plain fields numbers (one_of_some heads) [] false) h → SectionsLiveAt (plain fields numbers heads object false) h
-at_with fields numbers heads object fits octets few h (d, is, (more, sections)) =
+at_with rows fields numbers heads object fits octets few h (d, is, (more, sections)) =
     let base = plain fields numbers (one_of_some heads) [] false in
     let ds = plain fields numbers heads object false in
-    (d, is, (more, subst AreSections (sym (append_assoc ds (d ∷ []) more)) (alive_with fields numbers heads object false fits octets few ((d ∷ []) ++ more) (subst AreSections (append_assoc base (d ∷ []) more) sections))))
+    (d, is, (more, subst AreSections (sym (append_assoc ds (d ∷ []) more)) (alive_with rows fields numbers heads object false fits octets few ((d ∷ []) ++ more) (subst AreSections (append_assoc base (d ∷ []) more) sections))))
 
 pub front_alive : (ds : List Dataset) (h : Head) → SectionsLiveAt ds h → SectionsLive ds
 front_alive ds h (d, is, (more, sections)) = ((d ∷ []) ++ more, subst AreSections (append_assoc ds (d ∷ []) more) sections)
@@ -584,7 +584,7 @@ lead_other laws place numbers p e h left taken o text tag numbers_are keeps same
     spelled = fields_spelled fields numbers (one_of_some heads) [] false base_alive.0 keeps base_alive.1 (let low = within.octets_in in omega (arith, low))
 
     alive_at : SectionsLiveAt ds h
-    alive_at = at_with fields numbers heads o base.fits octets base.few h at
+    alive_at = at_with laws.opens.answer.rows fields numbers heads o base.fits octets base.few h at
 
     inside : AreWithin widest ds
     inside = within_plain fields numbers heads o false tell (within_whole fields _ _ within) (let most = is.few in omega (arith, many, most))
@@ -685,7 +685,7 @@ lead_subfile laws place numbers p set count left o text tag numbers_are keeps sa
     spelled = fields_spelled fields numbers (one_of_some heads) [] false base_alive.0 keeps base_alive.1 (let low = within.octets_in in omega (arith, low))
 
     alive_at : SectionsLiveAt ds h
-    alive_at = at_with fields numbers heads object base.fits object_octets base.few h at
+    alive_at = at_with laws.opens.answer.rows fields numbers heads object base.fits object_octets base.few h at
 
     inside : AreWithin widest ds
     inside = within_plain fields numbers heads object false tell within (let most = is.few in omega (arith, many, most))

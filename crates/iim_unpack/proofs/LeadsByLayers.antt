@@ -110,7 +110,7 @@ fewer laws ds alive few lives =
     record {
       present = present_same laws.answer ds alive stated ∙ present_alike (kept ds) (numbers_in ps) heads (one_of_some heads) object [] ended (one_same heads);
       on = λ more sections.
-          alike (kept ds) (numbers_in ps) heads (one_of_some heads) object [] ended more (fits_of laws ds stated lives) (few_fit ds stated) (one_same heads) tt (omega arith) (plain_on laws.answer ds more sections few fits);
+          alike laws.answer.rows (kept ds) (numbers_in ps) heads (one_of_some heads) object [] ended more (fits_of laws ds stated lives) (few_fit ds stated) (one_same heads) tt (omega arith) (plain_on laws.answer ds more sections few fits);
     }
 
 begun_same : (n : ℕ) (b : Bool) → (n + (if b then 1 else 0)) - (if b then 1 else 0) ≡ n

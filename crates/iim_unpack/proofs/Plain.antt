@@ -2,18 +2,17 @@
 use Rattle.std.proofs.Common.{◌≡◌, ℕ, zero, suc, ◌+◌, ◌*◌, ◌<◌, ◌≤◌, ◌^◌, nat_eq, cond, Bool, true, false, List, [], ◌∷◌, ◌++◌, length, take, drop, Option, Some, None, refl, ap, sym, ◌∙◌, arith, inl, inr, append-nil, length-drop, subst, IfSome}
 use Rattle.std.specs.List.{AllByRecursion, filter}
 use Rattle.std.specs.Option.{unwrap_or}
-use Rattle.std.proofs.lemmas.Bool.{eqb-true, cases_lt, lt-ltb, le-ltb}
+use Rattle.std.proofs.lemmas.Bool.{eqb-true}
 use Rattle.std.proofs.lemmas.List.{take-append-drop, length-take}
 use Rattle.std.proofs.lemmas.List.Elements.{filter-append}
-use Rattle.byteorder.specs.Numbers.{big_number-reads_back}
-use Rattle.iim_tables.specs.Format.Numbers.{size_octets}
+use Rattle.iim_dataset.specs.WrittenNumbers.{few_octets, number_back, number_octets}
 use Rattle.iim_dataset.specs.Format.Octets.{IsOctet, Octets, number, greatest_size, within}
 use Rattle.iim_dataset.specs.Format.Datasets.{Dataset, canonical_stream, of_record}
 use Rattle.iim_dataset.specs.Format.Splits.{Begun, InTag, InData}
 use Rattle.iim_dataset.specs.Format.Laws.{HasSpellings, CanonicalStreamsAreSpelled}
 use Rattle.iim_fields.specs.Format.Faults.{kept, is_kept, joined}
 use Rattle.iim_object.specs.Format.Records.{numbers_of}
-use Rattle.iim_object.specs.Format.Packing.{size_text, number_dataset, subfile_datasets}
+use Rattle.iim_object.specs.Format.Packing.{number_dataset, subfile_datasets}
 use Rattle.iim_object.specs.Format.Saved.{stated_numbers}
 use Rattle.iim_object.specs.Format.Sizes.{Stated, number_at}
 use Rattle.wire_message.specs.Format.Saved.{LeadToSaved}
@@ -80,30 +79,6 @@ are_sevens n =
 abbrev pub one_stated : ℕ → Option ℕ → List Stated
 one_stated set None = []
 one_stated set (Some n) = record { set = set; number = n } ∷ []
-
-pub number_back : (n : ℕ) → n < 2 ^ 64 → number (size_text n) ≡ n
-number_back n h = elim (cases_lt n (2 ^ 32)) [
-  | inl lt ↦ rw (lt-ltb n (2 ^ 32) lt) (big_number-reads_back 4 n [] lt)
-  | inr ge ↦ rw (le-ltb n (2 ^ 32) ge) (big_number-reads_back 8 n [] h)
-]
-
-pub size_octets_are : (n : ℕ) → Octets (size_text n)
-size_octets_are n = elim (cases_lt n (2 ^ 32)) [
-  | inl lt ↦ rw (lt-ltb n (2 ^ 32) lt) (omega arith, (omega arith, (omega arith, (omega arith, tt))))
-  | inr ge ↦ rw (le-ltb n (2 ^ 32) ge) (omega arith, (omega arith, (omega arith, (omega arith, (omega arith, (omega arith, (omega arith, (omega arith, tt))))))))
-]
-
-pub size_long : (n : ℕ) → within 1 size_octets (length (size_text n)) ≡ true
-size_long n = elim (cases_lt n (2 ^ 32)) [
-  | inl lt ↦ rw (lt-ltb n (2 ^ 32) lt) refl
-  | inr ge ↦ rw (le-ltb n (2 ^ 32) ge) refl
-]
-
-size_few : (n : ℕ) → length (size_text n) ≤ 8
-size_few n = elim (cases_lt n (2 ^ 32)) [
-  | inl lt ↦ rw (lt-ltb n (2 ^ 32) lt) (omega arith)
-  | inr ge ↦ rw (le-ltb n (2 ^ 32) ge) (omega arith)
-]
 
 mode_told : (o : Option ℕ) → numbers_of (one_dataset mode_dataset o) ≡ one_stated 10 o
 mode_told None = refl
@@ -236,7 +211,7 @@ mode_spelled None h = tt
 mode_spelled (Some n) h = (record { rec = omega arith; set = omega arith; octets = (h, tt); few = omega arith }, tt)
 
 one_spelled : (rec set n : ℕ) → rec < 256 → set < 256 → HasSpellings (number_dataset rec set n)
-one_spelled rec set n r s = record { rec = r; set = s; octets = size_octets_are n; few = let few = size_few n in omega (arith, few) }
+one_spelled rec set n r s = record { rec = r; set = s; octets = number_octets n; few = let few = few_octets n in omega (arith, few) }
 
 number_spelled : (set : ℕ) → set < 256 → (o : Option ℕ) → AllByRecursion HasSpellings (one_dataset (number_dataset 7 set) o)
 number_spelled set small None = tt

@@ -1,23 +1,22 @@
 -- Plain datasets continue as those of their place do.
-use Rattle.std.proofs.Common.{◌≡◌, ℕ, zero, suc, ◌+◌, ◌<◌, ◌≤◌, ◌||◌, ◌&&◌, nat_eq, nat_le, cond, Bool, true, false, List, [], ◌∷◌, ◌++◌, length, Option, Some, None, IfSome, is_some, refl, ap, sym, subst, ◌∙◌, inl, inr, arith, append-nil, length-drop, take, drop}
+use Rattle.std.proofs.Common.{◌≡◌, ℕ, zero, suc, ◌+◌, ◌<◌, ◌≤◌, ◌||◌, nat_eq, cond, Bool, true, false, List, [], ◌∷◌, ◌++◌, length, Option, Some, None, IfSome, is_some, refl, ap, sym, subst, ◌∙◌, inl, inr, arith, append-nil, length-drop, take, drop}
 use Rattle.std.proofs.lemmas.List.{length-take}
 use Rattle.std.specs.List.{AllByRecursion}
 use Rattle.std.specs.Option.{unwrap_or}
-use Rattle.std.proofs.lemmas.Bool.{eqb-true, and_from, le-leb}
+use Rattle.std.proofs.lemmas.Bool.{eqb-true, le-leb}
 use Rattle.std.proofs.lemmas.Bool.Decides.{eqb_tells}
 use Rattle.std.proofs.lemmas.List.Elements.{filter-append}
 use Rattle.std.proofs.lemmas.List.Folds.{list_any-append}
 use Rattle.std.proofs.lemmas.List.Sums.{sum_by-cons, sum_by-append}
-use Rattle.iim_tables.specs.Format.Numbers.{size_octets}
-use Rattle.iim_tables.specs.Format.Kinds.{is_size_from}
-use Rattle.iim_dataset.specs.Format.Octets.{Octets, number, greatest_size, within}
+use Rattle.iim_dataset.specs.Format.Octets.{Octets, number, greatest_size}
 use Rattle.iim_dataset.specs.Format.Datasets.{Dataset, of_record}
+use Rattle.iim_dataset.specs.WrittenNumbers.{number_back}
 use Rattle.iim_tables.specs.Format.Rows.{table, row_of, Meets}
 use Rattle.iim_fields.specs.Format.Alive.{SectionsLive}
 use Rattle.iim_fields.specs.Format.Faults.{joined, kept, is_kept, present_record, last_record}
 use Rattle.iim_fields.specs.Format.Records.{AreSections}
 use Rattle.iim_tables.specs.Format.Records.{IsGoodDataset, IsGoodRecord, occurs, occurrences, repeats, mandatory}
-use Rattle.iim_object.specs.Format.Packing.{size_text, number_dataset, subfile_datasets}
+use Rattle.iim_object.specs.Format.Packing.{NumberDatasetsAreGood, number_dataset, subfile_datasets}
 use Rattle.iim_object.specs.Format.Records.{numbers_of}
 use Rattle.iim_object.specs.Format.Sizes.{Stated, InRow, number_at}
 use Rattle.iim_object.specs.Format.Saved.{stated_numbers}
@@ -26,7 +25,7 @@ use Rattle.iim_unpack.specs.Format.Begins.{IsSize}
 use Rattle.iim_unpack.specs.LowerLaws.{AnswerLaws}
 use Rattle.iim_unpack.specs.Plain.{Numbers, number_list, mode_dataset, one_dataset, plain_numbers, filled, plain_end, PlainDatasetsContinueAlike}
 use Rattle.iim_unpack.proofs.Bounds.{IsFive, alive_five}
-use Rattle.iim_unpack.proofs.Plain.{number_back, size_octets_are, size_long, AreOf, one_stated, are_told, four_told, filled_count, all_of, none_of, none_in_fields, are_sevens, are_eights, are_nines, front_octets, back_octets}
+use Rattle.iim_unpack.proofs.Plain.{AreOf, one_stated, are_told, four_told, filled_count, all_of, none_of, none_in_fields, are_sevens, are_eights, are_nines, front_octets, back_octets}
 use Rattle.iim_unpack.proofs.PlainPlaces.{IsOrdered, none_below, sections_ordered, front_ordered, all_kept, numbers_in, join_octets, end_length, present_same}
 use Rattle.iim_unpack.proofs.SameRecords.{of_kept, occurs_stated, same_stated, same_numbers, stated_after_all, tens_after, nines}
 
@@ -335,42 +334,15 @@ sections_continue ds more sevens eights nines five like sections =
 pub low_number : (n : ℕ) → n ≤ greatest_size → number (number_dataset 7 20 n).octets ≡ n
 low_number n h = number_back n (omega (arith, h))
 
-size_from : (least n : ℕ) → least ≤ n → n ≤ greatest_size → (within 1 size_octets (length (size_text n)) && is_size_from least (size_text n)) ≡ true
-size_from least n one le =
-    let long = size_long n in
-    let in_range : within least greatest_size (number (size_text n)) ≡ true =
-    subst (λ (k : ℕ). within least greatest_size k ≡ true) (sym (low_number n le)) (and_from (nat_le least n) (nat_le n greatest_size) (le-leb least n one) (le-leb n greatest_size le)) in
-    and_from (within 1 size_octets (length (size_text n))) (is_size_from least (size_text n)) long
-    (and_from (within 1 size_octets (length (size_text n))) (within least greatest_size (number (size_text n))) long in_range)
-
 mode_meets : (n : ℕ) → n ≤ 1 → Meets 7 10 (n ∷ [])
 unfolding row_of table
 mode_meets zero h = refl
 mode_meets (suc zero) h = refl
 mode_meets (suc (suc n)) h = absurd (omega (arith, h))
 
-largest_meets : (n : ℕ) → 1 ≤ n → n ≤ greatest_size → Meets 7 20 (number_dataset 7 20 n).octets
-unfolding row_of table
-largest_meets n one le = size_from 1 n one le
-
-announced_meets : (n : ℕ) → n ≤ greatest_size → Meets 7 90 (number_dataset 7 90 n).octets
-unfolding row_of table
-announced_meets n le = size_from 0 n (omega arith) le
-
-maximum_meets : (n : ℕ) → n ≤ greatest_size → Meets 7 95 (number_dataset 7 95 n).octets
-unfolding row_of table
-maximum_meets n le = size_from 0 n (omega arith) le
-
-confirmed_meets : (n : ℕ) → n ≤ greatest_size → Meets 9 10 (number_dataset 9 10 n).octets
-unfolding row_of table
-confirmed_meets n le = size_from 0 n (omega arith) le
-
 part_meets : (xs : List ℕ) → length xs ≤ greatest_size → Meets 8 10 xs
 unfolding row_of table
 part_meets xs le = rw (le-leb (length xs) greatest_size le, le-leb 0 (length xs) (omega arith)) refl
-
-good_number : (rec set n : ℕ) → set < 256 → nat_eq rec 1 ≡ false → Meets rec set (number_dataset rec set n).octets → IsGoodDataset (number_dataset rec set n)
-good_number rec set n small other meets = record { numbered = small; octets = size_octets_are n; meets = meets; file_format = rw other refl }
 
 abbrev InRowAt : ℕ → Option ℕ → Type 0
 InRowAt set o = IfSome o (λ n. InRow (record { set = set; number = n }))
@@ -392,36 +364,36 @@ good_mode (Some n) h = elim h [
   | inr (inr (inr is, le)) ↦ absurd (omega (arith, is))
 ]
 
-good_largest : (o : Option ℕ) → InRowAt 20 o → AreGood 7 (one_dataset (number_dataset 7 20) o)
-good_largest None h = tt
-good_largest (Some n) h = elim h [
+good_largest : NumberDatasetsAreGood → (o : Option ℕ) → InRowAt 20 o → AreGood 7 (one_dataset (number_dataset 7 20) o)
+good_largest rows None h = tt
+good_largest rows (Some n) h = elim h [
   | inl row ↦ absurd (let bad = row.0 in omega (arith, bad))
-  | inr (inl row) ↦ ((refl, good_number 7 20 n (omega arith) refl (largest_meets n row.1 row.2)), tt)
+  | inr (inl row) ↦ ((refl, rows.largest n row.1 row.2), tt)
   | inr (inr (inl is, le)) ↦ absurd (omega (arith, is))
   | inr (inr (inr is, le)) ↦ absurd (omega (arith, is))
 ]
 
-good_announced : (o : Option ℕ) → InRowAt 90 o → AreGood 7 (one_dataset (number_dataset 7 90) o)
-good_announced None h = tt
-good_announced (Some n) h = elim h [
+good_announced : NumberDatasetsAreGood → (o : Option ℕ) → InRowAt 90 o → AreGood 7 (one_dataset (number_dataset 7 90) o)
+good_announced rows None h = tt
+good_announced rows (Some n) h = elim h [
   | inl row ↦ absurd (let bad = row.0 in omega (arith, bad))
   | inr (inl row) ↦ absurd (let bad = row.0 in omega (arith, bad))
-  | inr (inr (is, le)) ↦ ((refl, good_number 7 90 n (omega arith) refl (announced_meets n le)), tt)
+  | inr (inr (is, le)) ↦ ((refl, rows.announced n le), tt)
 ]
 
-good_maximum : (o : Option ℕ) → InRowAt 95 o → AreGood 7 (one_dataset (number_dataset 7 95) o)
-good_maximum None h = tt
-good_maximum (Some n) h = elim h [
+good_maximum : NumberDatasetsAreGood → (o : Option ℕ) → InRowAt 95 o → AreGood 7 (one_dataset (number_dataset 7 95) o)
+good_maximum rows None h = tt
+good_maximum rows (Some n) h = elim h [
   | inl row ↦ absurd (let bad = row.0 in omega (arith, bad))
   | inr (inl row) ↦ absurd (let bad = row.0 in omega (arith, bad))
-  | inr (inr (is, le)) ↦ ((refl, good_number 7 95 n (omega arith) refl (maximum_meets n le)), tt)
+  | inr (inr (is, le)) ↦ ((refl, rows.maximum n le), tt)
 ]
 
-good_sevens : (ps : List Stated) → AllByRecursion InRow ps → AreGood 7 (plain_numbers (numbers_in ps))
-good_sevens ps all =
+good_sevens : NumberDatasetsAreGood → (ps : List Stated) → AllByRecursion InRow ps → AreGood 7 (plain_numbers (numbers_in ps))
+good_sevens rows ps all =
     good_both 7 _ _ (good_mode (number_at 10 ps) (in_row 10 ps all))
-    (good_both 7 _ _ (good_largest (number_at 20 ps) (in_row 20 ps all))
-    (good_both 7 _ _ (good_announced (number_at 90 ps) (in_row 90 ps all)) (good_maximum (number_at 95 ps) (in_row 95 ps all))))
+    (good_both 7 _ _ (good_largest rows (number_at 20 ps) (in_row 20 ps all))
+    (good_both 7 _ _ (good_announced rows (number_at 90 ps) (in_row 90 ps all)) (good_maximum rows (number_at 95 ps) (in_row 95 ps all))))
 
 -- ---- how often
 
@@ -500,9 +472,9 @@ good_parts size (suc count) xs all few =
       good_parts size count (drop size xs) (back_octets size xs all) (omega (arith, few, rest)),
     )
 
-pub good_end : (ended : Bool) (object : List ℕ) → length object ≤ greatest_size → AreGood 9 (plain_end ended object)
-good_end true object few = ((refl, good_number 9 10 (length object) (omega arith) refl (confirmed_meets (length object) few)), tt)
-good_end false object few = tt
+pub good_end : NumberDatasetsAreGood → (ended : Bool) (object : List ℕ) → length object ≤ greatest_size → AreGood 9 (plain_end ended object)
+good_end rows true object few = ((refl, rows.confirmed (length object) few), tt)
+good_end rows false object few = tt
 
 -- ---- the plain datasets
 
@@ -522,8 +494,8 @@ low_in_row set (Some n) h = elim h [
   | inr (inr (is, le)) ↦ omega (arith, le)
 ]
 
-replace_sevens : (es : List Dataset) → AllByRecursion InRow (numbers_of es) → MayReplace 7 es (plain_numbers (numbers_in (numbers_of es)))
-replace_sevens es all = record { each = good_sevens ps all; seen = seen; fewer = λ n no'. fewer_by n es sevens (seen n) (sevens_once n numbers) }
+replace_sevens : NumberDatasetsAreGood → (es : List Dataset) → AllByRecursion InRow (numbers_of es) → MayReplace 7 es (plain_numbers (numbers_in (numbers_of es)))
+replace_sevens rows es all = record { each = good_sevens rows ps all; seen = seen; fewer = λ n no'. fewer_by n es sevens (seen n) (sevens_once n numbers) }
   where
     ps : List Stated
     ps = numbers_of es
@@ -578,9 +550,9 @@ plain_on laws ds more sections few fits =
       is7 = are_sevens numbers;
       is8 = are_eights (filled size heads object);
       is9 = are_nines ended object;
-      seven = replace_sevens (of_record 7 ds) stated.stated.each;
+      seven = replace_sevens laws.rows (of_record 7 ds) stated.stated.each;
       eight = replace_tens 8 (of_record 8 ds) (subfile_datasets (filled size heads object)) tens.0 (part_tens (filled size heads object)) (sym (filled_count size heads object)) (good_parts size heads object octets fits);
-      nine = replace_tens 9 (of_record 9 ds) (plain_end ended object) tens.1 (end_tens ended object) (nines laws.follow ds alive ∙ sym (end_length ended object)) (good_end ended object fits);
+      nine = replace_tens 9 (of_record 9 ds) (plain_end ended object) tens.1 (end_tens ended object) (nines laws.follow ds alive ∙ sym (end_length ended object)) (good_end laws.rows ended object fits);
       present = present_same laws ds alive stated;
     })
     sections

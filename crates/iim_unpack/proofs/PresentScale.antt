@@ -107,11 +107,10 @@ stated_in (p ∷ ps) all = (in_row p all.0, stated_in ps all.1)
 language_in : (tokens : List ObjectToken) → ObjectLanguage tokens → LanguageWithin greatest_size tokens
 language_in tokens lang =
     let same = lang.agree.as_confirmed in
-    let fits = lang.agree.total_fits in
-    (
+    let fits = lang.agree.total_fits in (
       lang,
       subst (TokensWithin greatest_size) (sym lang.tokens_are)
-      (append_within greatest_size (number_tokens lang.stated) _ (stated_in lang.stated lang.are_stated.each)
+          (append_within greatest_size (number_tokens lang.stated) _ (stated_in lang.stated lang.are_stated.each)
           (append_within greatest_size (map SubfileBegun lang.lengths) _ (subfiles_within greatest_size lang.lengths) (omega (arith, same, fits), tt))),
     )
 
@@ -138,12 +137,12 @@ still place p = record {
   leads = p.leads;
   comes = elim p.comes [
     | inl is ↦ inl (record {
-        whole = is.whole;
-        begun = is.begun;
-        reads = is.reads;
-        leads_on = record { sizes = may_continue present_scale is.whole is.begun is.records is.within is.room is.object; message = is.message; story = is.story };
-        unfinished = λ sections. is.unfinished (sections, rows_of present_scale is.whole is.begun is.records);
-      })
+      whole = is.whole;
+      begun = is.begun;
+      reads = is.reads;
+      leads_on = record { sizes = may_continue present_scale is.whole is.begun is.records is.within is.room is.object; message = is.message; story = is.story };
+      unfinished = λ sections. is.unfinished (sections, rows_of present_scale is.whole is.begun is.records);
+    })
     | inr is ↦ inr (is.value, record { admits = is.admits; within = is.within })
   ];
 }
@@ -154,25 +153,25 @@ was place p = record {
   leads = p.leads;
   comes = elim p.comes [
     | inl is ↦ inl (record {
-        whole = is.whole;
-        begun = is.begun;
-        reads = is.reads;
-        records = records_at is.whole is.begun is.leads_on.sizes;
-        within = within_of widest is.whole is.begun is.leads_on.sizes;
-        room = room_at is.whole is.begun is.leads_on.sizes;
-        object = object_at is.whole is.begun is.leads_on.sizes;
-        message = is.leads_on.message;
-        story = is.leads_on.story;
-        unfinished = λ sections. is.unfinished sections.0;
-      })
+      whole = is.whole;
+      begun = is.begun;
+      reads = is.reads;
+      records = records_at is.whole is.begun is.leads_on.sizes;
+      within = within_of widest is.whole is.begun is.leads_on.sizes;
+      room = room_at is.whole is.begun is.leads_on.sizes;
+      object = object_at is.whole is.begun is.leads_on.sizes;
+      message = is.leads_on.message;
+      story = is.leads_on.story;
+      unfinished = λ sections. is.unfinished sections.0;
+    })
     | inr (v, is) ↦ inr (record {
-        value = v;
-        admits = is.admits;
-        spelled = is.admits.spelled;
-        rows = records_fit records is.admits.datasets is.admits.sections;
-        total = let total = total_of (of_record 8 is.admits.datasets) in let sum_is = is.admits.sizes.total in let fits = is.admits.sizes.agree.total_fits in omega (arith, total, sum_is, fits);
-        within = is.within;
-      })
+      value = v;
+      admits = is.admits;
+      spelled = is.admits.spelled;
+      rows = records_fit records is.admits.datasets is.admits.sections;
+      total = let total = total_of (of_record 8 is.admits.datasets) in let sum_is = is.admits.sizes.total in let fits = is.admits.sizes.agree.total_fits in omega (arith, total, sum_is, fits);
+      within = is.within;
+    })
   ];
 }
 

@@ -3,7 +3,7 @@ use Rattle.std.proofs.Common.{◌≡◌, ℕ, ◌+◌, ◌*◌, ◌-◌, ◌<◌
 use Rattle.std.specs.List.{AllByRecursion, flat_map}
 use Rattle.std.proofs.lemmas.Bool.{and_parts, leb-true}
 use Rattle.std.proofs.lemmas.Bool.Decides.{eqb_tells}
-use Rattle.iim_dataset.specs.Format.Datasets.{Dataset, SpellsTag, SpellsCount, count_octets}
+use Rattle.iim_dataset.specs.Format.Datasets.{Dataset, SpellsTag, SpellsCount, count_octets, tag_octets}
 use Rattle.iim_dataset.specs.Format.Splits.{Begun, InTag, InData, Reads}
 use Rattle.iim_dataset.specs.declared.head.Head.{Head}
 use Rattle.iim_dataset.specs.Format.Octets.{within}
@@ -141,7 +141,7 @@ count_length limit count (high ∷ low ∷ more) (inr h) = omega (arith, h.1, h.
 pub tag_length_in : (limit : ℕ) (h : Head) (tag : List ℕ) → SpellsTag limit h tag → length tag ≤ 5 + limit
 tag_length_in limit h tag s = let is = ap length s.parts in let most = count_length limit h.count s.count s.is_count in omega (arith, is, most)
 
-tag_length : (h : Head) (tag : List ℕ) → SpellsTag count_octets h tag → length tag ≤ 13
+tag_length : (h : Head) (tag : List ℕ) → SpellsTag count_octets h tag → length tag ≤ tag_octets
 tag_length h tag s = tag_length_in count_octets h tag s
 
 pub held_length : (p : List ℕ) (ds : List Dataset) (held : List ℕ) → Reads count_octets p ds (InTag held) → length held ≤ 12

@@ -6,7 +6,7 @@ use Rattle.std.proofs.lemmas.Bool.{eqb-true, eq-eqb, cases_lt, lt-ltb, le-ltb}
 use Rattle.std.proofs.lemmas.List.{length-take}
 use Rattle.byteorder.specs.Numbers.{big_number-reads_back}
 use Rattle.iim_dataset.specs.Format.Octets.{IsOctet}
-use Rattle.iim_dataset.specs.Format.Datasets.{Dataset, SpellsCount, SpellsTag, SpellsStream, canonical_count, canonical_tag, canonical_dataset, canonical_stream, count_octets, head_of, of_record}
+use Rattle.iim_dataset.specs.Format.Datasets.{Dataset, SpellsCount, SpellsTag, SpellsStream, canonical_count, canonical_tag, canonical_dataset, canonical_stream, count_octets, head_of, of_record, written_number}
 use Rattle.iim_dataset.specs.Format.Languages.{IsAlive}
 use Rattle.iim_dataset.specs.Format.Laws.{HasSpellings}
 use Rattle.iim_dataset.specs.Format.Splits.{Begun, InTag, InData, IsBegun, Reads}
@@ -16,7 +16,7 @@ use Rattle.iim_fields.specs.Format.Records.{AreSections}
 use Rattle.iim_fields.specs.Format.Values.{tells_number}
 use Rattle.iim_object.specs.Format.Numbers.{place_after_datasets, place_ended, ending_of}
 use Rattle.iim_object.specs.Format.Objects.{ObjectToken, NumberRead, SubfileBegun, ObjectEnded, Confirmed, number_tokens}
-use Rattle.iim_object.specs.Format.Packing.{size_text, number_dataset, subfile_datasets}
+use Rattle.iim_object.specs.Format.Packing.{number_dataset, subfile_datasets}
 use Rattle.iim_object.specs.Format.Places.{ending_tokens}
 use Rattle.iim_object.specs.Format.Places as objects
 use Rattle.iim_object.specs.Format.Plans.{max_subfiles}
@@ -38,7 +38,8 @@ use Rattle.iim_unpack.proofs.Bounds.{is_one}
 use Rattle.iim_unpack.proofs.Following.{within_of}
 use Rattle.iim_unpack.proofs.Lasts.{last_sections}
 use Rattle.iim_unpack.proofs.LeadsByLayers.{few_heads, few_with_head}
-use Rattle.iim_unpack.proofs.Plain.{Tell, all_both, all_stated, are_told, number_back, one_stated, plain_led, plain_spelled, plain_told, taken_told}
+use Rattle.iim_dataset.specs.WrittenNumbers.{number_back}
+use Rattle.iim_unpack.proofs.Plain.{Tell, all_both, all_stated, are_told, one_stated, plain_led, plain_spelled, plain_told, taken_told}
 use Rattle.iim_unpack.proofs.PlainOpens.{plain_open, possible_of}
 use Rattle.iim_unpack.proofs.SameRecords.{IsStated, stated_after_all, stated_at}
 use Rattle.iim_unpack.proofs.SmallPlaces.{still_possible, wider_rest, wider_stream}
@@ -90,7 +91,7 @@ low_fields : (ds : List Dataset) → AllByRecursion (λ (d : Dataset). is_kept d
 low_fields [] all few = tt
 low_fields (d ∷ ds) all few = let both = length-append d.octets (joined ds) in (low_field d all.0 (omega (arith, both, few)), low_fields ds all.1 (omega (arith, both, few)))
 
-low_text : (n : ℕ) → n ≤ greatest_size_before → length (size_text n) ≡ 4
+low_text : (n : ℕ) → n ≤ greatest_size_before → length (written_number n) ≡ 4
 low_text n low = rw (lt-ltb n (2 ^ 32) (omega (arith, low))) refl
 
 low_one : (rec set n : ℕ) → n ≤ greatest_size_before → Low (number_dataset rec set n)
@@ -123,8 +124,8 @@ low_plain : (fields : List Dataset) (numbers : Numbers) (heads : ℕ) (object : 
 low_plain fields numbers heads object ended kept few small low =
     all_both Low fields _ (low_fields fields kept few)
     (all_both Low (plain_numbers numbers) _
-        (all_both Low _ _ (low_mode numbers.mode) (all_both Low _ _ (low_number 20 numbers.largest small.1.0) (all_both Low _ _ (low_number 90 numbers.announced small.1.1.0) (low_number 95 numbers.maximum small.1.1.1.0))))
-        (all_both Low _ _ (low_parts (unwrap_or numbers.largest 0) heads object (size_low numbers.largest small.1.0)) (low_end ended object low)))
+    (all_both Low _ _ (low_mode numbers.mode) (all_both Low _ _ (low_number 20 numbers.largest small.1.0) (all_both Low _ _ (low_number 90 numbers.announced small.1.1.0) (low_number 95 numbers.maximum small.1.1.1.0))))
+    (all_both Low _ _ (low_parts (unwrap_or numbers.largest 0) heads object (size_low numbers.largest small.1.0)) (low_end ended object low)))
 
 shorts : (ds : List Dataset) → AllByRecursion Low ds → AllByRecursion Short ds
 shorts [] all = tt

@@ -2,6 +2,7 @@
 use Rattle.iim_dataset.specs.Format.Laws.{CanonicalStreamsAreSpelled, NoTagBeginsAnother, NoDatasetBeginsAnother, NoOctetsContinue, OctetsAreHandedOnOneWay, EventsTellTheDatasets, WhatAnOctetCompletes}
 use Rattle.iim_fields.specs.Format.Laws.{EnvelopesEndWithTheLastRecord, HeadsDieWithTheirFault, NoSectionsBeginOthers, ValuesDieWithTheirFault}
 use Rattle.iim_object.specs.Format.Numbers.{TokensFollow, OthersLeadNowhere, NumbersLead, SubfilesLead, EndsLead, DatasetsLiveWithTheirTokens, DatasetsEndWithTheirTokens, RecordsAreByNumber}
+use Rattle.iim_object.specs.Format.Packing.{NumberDatasetsAreGood}
 use Rattle.iim_object.specs.Format.Living.{NumbersLiveWithoutClash, ObjectsEndWhereTheyAreWhole, SubfilesLiveWhileTheyFit, TotalsAreConfirmed}
 use Rattle.wire_story.specs.Format.Laws.{TextsSoFarHaveOneReading}
 use Rattle.wire_message.specs.Format.Laws.{LivingOctetsLeadOn, MessagesEndAfterEot, OctetsAreRefusedAlike, OctetsLeadOnAlike, OctetsLeadToOnePlace, PlacesAreSavedApart, ReadersStandAtLivingOctets, TextsStandBetweenStxAndEtx}
@@ -62,6 +63,7 @@ pub record AnswerLaws : Type 0 where
   pub stuck : NoOctetsContinue
   pub living : ReadersStandAtLivingOctets
   pub numbers : RecordsAreByNumber
+  pub rows : NumberDatasetsAreGood
   pub texts : TextsSoFarHaveOneReading
 
 -- how long the object layer lives

@@ -7,6 +7,8 @@ ghost use Rattle.std.specs.Int.{w64, to_be_bytes};
 ghost use Rattle.iim_unpack.specs.Begins.{BeginsWithNone, IsFour};
 ghost use Rattle.iim_unpack.specs.Format.Begins.{IsSizeIn, IsShort, IsWide, dataset};
 
+use crate::ticket::FIRST_VERSION;
+
 /// The first `count` octets, and those that follow.
 pub(crate) fn take_front(octets: &[u8], count: u64) -> Option<(&[u8], &[u8])>
     ensures parts { IfSome result (λ r. octets.now ≡ r.0.now ++ r.1.now) }
@@ -73,7 +75,7 @@ pub(crate) fn take_wide(version: u8, octets: &[u8]) -> Option<(u64, &[u8])>
     ensures fits { IfSome result (λ r. IsWide version r.0) }
     ensures none { IfNone result (BeginsWithNone (IsWide version) (wide version) octets.now) }
 {
-    if version == 1 {
+    if version == FIRST_VERSION {
         return take_number(octets);
     }
     take_eight(octets)

@@ -26,9 +26,10 @@ use iim_fields::laws::{
     values_die_with_their_fault,
 };
 use iim_object::laws::{
-    datasets_lead_from_place_to_place, datasets_live_with_their_tokens, numbers_live_without_clash,
-    objects_end_where_they_are_whole, places_live_within, readers_tell_sizes, records_are_by_number,
-    sizes_are_determined, subfiles_live_while_they_fit, totals_are_confirmed,
+    datasets_lead_from_place_to_place, datasets_live_with_their_tokens, number_datasets_are_good,
+    numbers_live_without_clash, objects_end_where_they_are_whole, places_live_within,
+    readers_tell_sizes, records_are_by_number, sizes_are_determined, subfiles_live_while_they_fit,
+    totals_are_confirmed,
 };
 use wire_message::MessageReader;
 use wire_message::laws::{
@@ -96,6 +97,7 @@ fn answer_laws()
     no_dataset_begins_another();
     object_laws();
     datasets_live_with_their_tokens();
+    number_datasets_are_good();
     no_octets_continue();
     texts_so_far_have_one_reading();
 }

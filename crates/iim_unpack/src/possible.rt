@@ -15,7 +15,7 @@ ghost use Rattle.iim_unpack.specs.TicketParts.{phase_told, split_told};
 use crate::object_place::object_at;
 use crate::readers::{message_at, records_lead, tags_at};
 use crate::taker::is_kept;
-use crate::ticket::part_number;
+use crate::ticket::{FIRST_VERSION, part_number};
 use crate::ticket_fields::TicketFields;
 use crate::ticket_parts::{TicketParts, TicketPhase};
 use iim_dataset::HeadReader;
@@ -185,7 +185,7 @@ pub(crate) fn readers_at(parts: &TicketParts<'_>) -> Option<Readers>
     ensures none { IfNone result (LeadsNowhereIn (split_told parts.now)) }
 {
     let readers = readers_by_layers(parts)?;
-    if parts.version == 1 && !is_small(parts.section, parts.taken, &parts.phase) {
+    if parts.version == FIRST_VERSION && !is_small(parts.section, parts.taken, &parts.phase) {
         return None;
     }
     Some(readers)

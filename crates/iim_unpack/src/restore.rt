@@ -168,6 +168,9 @@ impl Unpacker {
     /// same limits, if its `octets()` are handed in as `at`: the same answers to all pieces, and the same lines. It has memory
     /// for just what the limits allow, and no later call takes any.
     ///
+    /// A ticket is of version 1 or 2. One of version 1 tells a place where an envelope can be by the sizes that there were when that
+    /// version was made; the unpacker goes on by those that there are.
+    ///
     /// Refused are, in this order: octets that begin with no name of a ticket (`Form`); another version (`Version`); what else has
     /// not the form of a ticket (`Form`); a place where no envelope can be (`Impossible`); one that passes a limit (`HeaderFull`,
     /// else `TooManyFields`); and memory (`OutOfMemory`). Before that no memory is asked for.

@@ -14,15 +14,12 @@ ghost use Rattle.iim_unpack.specs.Format.Possible.{widest};
 ghost use Rattle.iim_unpack.specs.Taking.{AreKept, TookDatasets, no_room, numbers_told, told_datasets};
 
 use crate::ticket_fields::TicketFields;
-use iim_dataset::Head;
+use iim_dataset::{Head, number_bytes};
 use iim_fields::{Fields, RecordCheck};
 use iim_tables::records::{
     ANNOUNCED_SIZE, CONFIRMED_SIZE, MAX_SUBFILE_SIZE, MAXIMUM_SIZE, OBJECT, POST_OBJECT,
     PRE_OBJECT, SIZE_MODE, SUBFILE,
 };
-
-/// The greatest size that is spelled in four octets.
-const MAX_FOUR: u64 = 4_294_967_295;
 
 /// What takes the datasets of an envelope, each with its whole data.
 pub(crate) trait DatasetTaker {
@@ -135,18 +132,6 @@ fn take_mode<T: DatasetTaker>(taker: &mut T, mode: Option<u64>) -> bool
     }
 }
 
-/// Takes the size 7:`set`, as it is written.
-fn take_number<T: DatasetTaker>(taker: &mut T, set: u8, size: u64) -> bool
-    requires { T.ready taker.old }
-    ensures took { TookDatasets T.ready T.stands T.limits taker.old (number_dataset 7 set size ∷ []) taker.new result }
-    ensures room { T.room taker.new ≡ T.room taker.old }
-{
-    if size <= MAX_FOUR {
-        return taker.take(PRE_OBJECT, set, &(size as u32).to_be_bytes());
-    }
-    taker.take(PRE_OBJECT, set, &size.to_be_bytes())
-}
-
 /// Takes the size 7:`set`, where there is one.
 fn take_size<T: DatasetTaker>(taker: &mut T, set: u8, size: Option<u64>) -> bool
     requires ready { T.ready taker.old }
@@ -156,7 +141,7 @@ fn take_size<T: DatasetTaker>(taker: &mut T, set: u8, size: Option<u64>) -> bool
 {
     match size {
         None => true,
-        Some(size) => take_number(taker, set, size),
+        Some(size) => taker.take(PRE_OBJECT, set, number_bytes(size).as_slice()),
     }
 }
 

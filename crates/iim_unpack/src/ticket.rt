@@ -29,8 +29,14 @@ pub enum SaveFault {
     OutOfMemory,
 }
 
+/// The first version of tickets: counts and sizes have four octets.
+pub(crate) const FIRST_VERSION: u8 = 1;
+
+/// The version of the tickets that are made: counts and sizes have eight octets.
+pub(crate) const PRESENT_VERSION: u8 = 2;
+
 /// What each ticket begins with: its name, and the version.
-const NAME: [u8; 5] = [b'I', b'I', b'M', b'T', 2];
+const NAME: [u8; 5] = [b'I', b'I', b'M', b'T', PRESENT_VERSION];
 
 /// Between datasets, or in a tag.
 pub(crate) const IN_TAG: u8 = 0;

@@ -9,8 +9,10 @@ ghost use Rattle.iim_unpack.specs.Format.Begins.{AreFields, AreNumbersIn, AreTex
 ghost use Rattle.iim_unpack.specs.TicketParts.{IsHeld, IsNameFault, BeginsWithNoData, AreNoMessage, AreNoBody, phase_told, split_told, message_parts, body_octets};
 ghost use Rattle.iim_unpack.specs.Format.TicketForm.{IsVersion, IsPhase, IsFaultOf, HasForm, SplitsTicket};
 
-use crate::front::{take_field, take_front, take_number, take_octet, take_option, take_text, take_wide};
-use crate::ticket::{ENDED, IN_DATA, IN_TAG};
+use crate::front::{
+    take_field, take_front, take_number, take_octet, take_option, take_text, take_wide,
+};
+use crate::ticket::{ENDED, FIRST_VERSION, IN_DATA, IN_TAG, PRESENT_VERSION};
 use crate::ticket_fault::TicketFault;
 use crate::ticket_fields::{TicketFields, walk_over};
 use iim_tables::records::OBJECT;
@@ -84,7 +86,9 @@ fn after_name(ticket: &[u8]) -> Result<(u8, &[u8]), TicketFault>
         return Err(TicketFault::Form);
     };
     match rest.split_first() {
-        Some((version, rest)) if *version == 1 || *version == 2 => Ok((*version, rest)),
+        Some((version, rest)) if [FIRST_VERSION, PRESENT_VERSION].contains(version) => Ok((
+            *version, rest,
+        )),
         Some(_) => Err(TicketFault::Version),
         None => Err(TicketFault::Form),
     }
@@ -94,7 +98,7 @@ fn after_name(ticket: &[u8]) -> Result<(u8, &[u8]), TicketFault>
 fn most_held(version: u8) -> usize
     ensures { result + 1 ≡ 5 + width version }
 {
-    if version == 1 { 8 } else { 12 }
+    if version == FIRST_VERSION { 8 } else { 12 }
 }
 
 /// The octets of a tag that are held, and what follows them.

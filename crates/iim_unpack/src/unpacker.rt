@@ -135,7 +135,7 @@ pub struct Unpacked {
 /// An unpacker of one envelope, which is fed its octets in any pieces.
 ///
 /// It holds the data of records 1 and 2, at most `Limits.octets` octets in at most `Limits.fields` entries, and less than 256
-/// octets more: those of a begun tag (8 at most), a begun number of record 7 or 9 (4), and the header and the trailer of the
+/// octets more: those of a begun tag (12 at most), a begun number of record 7 or 9 (8), and the header and the trailer of the
 /// message (159). [`Unpacker::new`] makes room for all of them; no other call takes memory, and the room stays as it was made.
 #[derive(Drop)]
 pub struct Unpacker {

@@ -49,7 +49,9 @@ fn unknown_arg<'a>(alloc: Global) -> Arg<'a>
     Arg::new(alloc, "unknown")
         .long("unknown")
         .action(ArgAction::SetTrue)
-        .help("Announce no size of the object")
+        .help(
+            "Announce no size of the object; takes memory for N octets, or for M where that is less",
+        )
 }
 
 /// The command that packs.
@@ -91,7 +93,7 @@ fn audit<'a>(alloc: Global) -> Result<Command<'a>, AllocError>
     with_file(
         alloc,
         "audit",
-        "Tells id, sizes, words and age of each envelope, and which of them repeat others",
+        "Tells id, sizes, words and age of each envelope, which of them repeat others, and whether their copy is held",
     )?
     .arg(now)
 }

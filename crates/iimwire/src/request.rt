@@ -24,7 +24,7 @@ pub enum Job {
     Story,
     /// Pack the envelope that a script tells.
     Pack(PackRequest),
-    /// Tell id, sizes, words and age of each envelope, and which of them repeat others.
+    /// Tell id, sizes, words and age of each envelope, which of them repeat others, and whether their copy may be used.
     Audit {
         /// The present instant.
         now: Instant,

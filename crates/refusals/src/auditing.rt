@@ -11,10 +11,10 @@ use wire_story::Discard;
 
 /// The report of the stream.
 const REPORT: &[u8] =
-    b"1 TST 00000002 20240301 priority - size 50 subfiles 1 words 5/4 age - repeats -\n\
-2 TST 00000001 20240301 priority - size 14 subfiles 1 words 0/0 age - repeats -\n\
-3 TST 00000002 20240301 priority - size 14 subfiles 1 words 0/0 age - repeats 1\n\
-3 envelopes, 1 repeated\n";
+    b"1 TST 00000002 20240301 priority - size 50 subfiles 1 words 5/4 age - repeats - copy free\n\
+2 TST 00000001 20240301 priority - size 14 subfiles 1 words 0/0 age - repeats - copy free\n\
+3 TST 00000002 20240301 priority - size 14 subfiles 1 words 0/0 age - repeats 1 copy free\n\
+3 envelopes, 1 repeated, 0 held\n";
 
 /// What a fault of an audit comes to: where memory was refused, the reader can still be read from.
 fn trouble_of(alloc: Global, fault: AuditFault, intake: &mut Intake<FromRead<&[u8]>>) -> Trouble {

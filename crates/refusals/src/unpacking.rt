@@ -30,7 +30,7 @@ pub(crate) fn saved(alloc: Global) -> Result<(), Trouble> {
     let ticket = unpacker.save(alloc);
     right(unpacker.feed(rest, &mut Discard) == Ok(Progress::Done { used: 46 }))?;
     match ticket {
-        Ok(ticket) => right(ticket.len() == 238),
+        Ok(ticket) => right(ticket.len() == 262),
         Err(SaveFault::OutOfMemory) => Err(Trouble::OutOfMemory),
         Err(SaveFault::Failed) => Err(Trouble::Wrong),
     }

@@ -68,9 +68,9 @@ pub const STREAM: &[u8] =
 \x1c\x08\x0a\x00\x0e\x01X1 4 N 0\r\n\x02\x03\x04\x1c\x09\x0a\x00\x04\x00\x00\x00\x0e";
 
 /// A ticket of no place: one octet of the object has come, and no subfile.
-pub const IMPOSSIBLE: [u8; 34] = [
-    0x49, 0x49, 0x4d, 0x54, 1, 0, 0, 0, 0, 0, 0, 0, 0, 0, 0, 0, 0, 0, 0, 1, 0, 0, 0, 0, 0, 0, 0, 0,
-    0, 0, 0, 0, 0, 0,
+pub const IMPOSSIBLE: [u8; 38] = [
+    0x49, 0x49, 0x4d, 0x54, 2, 0, 0, 0, 0, 0, 0, 0, 0, 0, 0, 0, 0, 0, 0, 0, 0, 0, 0, 1, 0, 0, 0, 0,
+    0, 0, 0, 0, 0, 0, 0, 0, 0, 0,
 ];
 
 /// The longer envelope's header.

@@ -61,12 +61,13 @@ SpellsStream limit (d ∷ ds) xs = (first : List ℕ) × (rest : List ℕ)
 
 -- ---- how a writer spells
 
--- the canonical spelling of a count: two octets up to 32,767, above that an extended count of four up to 4,294,967,295, and of eight above
+-- a number where its length is told beside it: four octets up to 4,294,967,295, above that eight, high octet first
+abbrev pub written_number : ℕ → List ℕ
+written_number n = if nat_lt n (2 ^ 32) then big_bytes 4 n else big_bytes 8 n
+
+-- the canonical spelling of a count: two octets up to 32,767, above that an extended count, the number as it is written
 abbrev pub canonical_count : ℕ → List ℕ
-canonical_count n =
-    if nat_lt n 32768 then big_bytes 2 n
-    else if nat_lt n (2 ^ 32) then 128 ∷ 4 ∷ big_bytes 4 n
-    else 128 ∷ 8 ∷ big_bytes 8 n
+canonical_count n = if nat_lt n 32768 then big_bytes 2 n else 128 ∷ length (written_number n) ∷ written_number n
 
 abbrev pub canonical_tag : Head → List ℕ
 canonical_tag h = 28 ∷ h.rec ∷ h.set ∷ canonical_count h.count

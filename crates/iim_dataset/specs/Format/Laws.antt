@@ -1,8 +1,8 @@
 -- What holds of all spellings.
-use Rattle.std.specs.Prelude.{◌≡◌, ℕ, ◌^◌, ◌<◌, ◌↔◌, List, [], ◌∷◌, ◌++◌, length}
+use Rattle.std.specs.Prelude.{◌≡◌, ℕ, ◌^◌, ◌<◌, ◌≤◌, ◌↔◌, List, [], ◌∷◌, ◌++◌, length}
 use Rattle.std.specs.List.{AllByRecursion}
-use Rattle.iim_dataset.specs.Format.Octets.{IsOctet, Octets}
-use Rattle.iim_dataset.specs.Format.Datasets.{Dataset, SpellsTag, SpellsDataset, SpellsStream, canonical_tag, canonical_stream, count_octets}
+use Rattle.iim_dataset.specs.Format.Octets.{IsOctet, Octets, number}
+use Rattle.iim_dataset.specs.Format.Datasets.{Dataset, SpellsTag, SpellsDataset, SpellsStream, canonical_tag, canonical_stream, count_octets, written_number}
 use Rattle.iim_dataset.specs.Format.Splits.{Begun, InTag, SplitsInto, IsBegun, Reads}
 use Rattle.iim_dataset.specs.Format.Events.{DatasetEvent, handed_on, begun_data}
 use Rattle.iim_dataset.specs.Format.Places.{HandsOn, IsPlace, LeadsTo}
@@ -14,6 +14,17 @@ use Rattle.iim_dataset.specs.declared.head.Head.{Head}
 use Rattle.iim_dataset.specs.declared.head.HeadFault.{HeadFault}
 use Rattle.iim_dataset.specs.declared.head.HeadCause.{HeadCause}
 use Rattle.iim_dataset.specs.declared.place.DatasetPlace.{DatasetPlace}
+
+-- What is written of a number are octets, one at least and no more than a count may have, and they spell the number.
+pub record IsReadBack (n : ℕ) : Type 0 where
+  pub octets : Octets (written_number n)
+  pub some : 1 ≤ length (written_number n)
+  pub few : length (written_number n) ≤ count_octets
+  pub back : number (written_number n) ≡ n
+
+-- Each number of 64 bits is read back from what is written of it.
+abbrev pub NumbersAreReadBack : Type 0
+NumbersAreReadBack = (n : ℕ) → n < 2 ^ 64 → IsReadBack n
 
 -- Tags that equal lists begin with are equal, and so are their heads and what follows.
 abbrev pub NoTagBeginsAnother : Type 0

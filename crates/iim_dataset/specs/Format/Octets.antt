@@ -18,7 +18,7 @@ number xs = big_number (length xs) xs
 abbrev pub IsProperPrefix : List ℕ → List ℕ → Type 0
 IsProperPrefix xs ys = (rest : List ℕ) × (0 < length rest) × (xs ++ rest ≡ ys)
 
--- the greatest size of an object, in octets, and so the greatest count (the profile's)
+-- the greatest size of an object, in octets, and so the greatest count that a row allows (the profile's)
 abbrev pub greatest_size : ℕ
 greatest_size = 9_223_372_036_854_775_807
 

@@ -1,7 +1,7 @@
 -- Views of the datasets of an envelope.
 use Rattle.std.specs.Prelude.{ℕ, Bool, true, ◌≡◌, ◌&&◌, ◌==◌, if◌then◌else◌, List, [], ◌∷◌, map, codes, Option, Some, None, is_some, ℤ}
 use Rattle.std.specs.List.{filter}
-use Rattle.std.specs.Option.{option_and_then, unwrap_or}
+use Rattle.std.specs.Option.{option_and_then, option_or}
 use Rattle.iim_tables.specs.Format.Instants.{instant_in}
 use Rattle.iim_dataset.specs.Format.Datasets.{Dataset}
 use Rattle.iim_fields.specs.Format.Builders.{IsEnvelope}
@@ -19,22 +19,23 @@ abbrev pub first_data : ℕ → ℕ → List Dataset → Option (List ℕ)
 first_data rec set [] = None
 first_data rec set (d ∷ ds) = if has_names rec set d then Some d.octets else first_data rec set ds
 
+-- the instant of the first datasets of the record with these numbers, a date and a time, in nanoseconds; where there is no time, `absent`
+-- stands for it, if that is a text
+abbrev pub instant_of_pair : (rec date_set time_set : ℕ) → Option (List ℕ) → List Dataset → Option ℤ
+instant_of_pair rec date_set time_set absent ds =
+    option_and_then (λ date. option_and_then (λ time. instant_in date time) (option_or (first_data rec time_set ds) absent)) (first_data rec date_set ds)
+
 -- the instant of 1:70 Date Sent and 1:80 Time Sent, in nanoseconds, where both were sent and name one
 abbrev pub instant_sent : List Dataset → Option ℤ
-instant_sent ds = option_and_then (λ date. option_and_then (λ time. instant_in date time) (first_data 1 80 ds)) (first_data 1 70 ds)
-
--- the instant of the first datasets with these numbers, a date and a time, in nanoseconds; where there is no time, that of the date and
--- this one
-abbrev pub instant_of_pair : ℕ → ℕ → List ℕ → List Dataset → Option ℤ
-instant_of_pair date_set time_set time ds = option_and_then (λ date. instant_in date (unwrap_or (first_data 2 time_set ds) time)) (first_data 2 date_set ds)
+instant_sent ds = instant_of_pair 1 70 80 None ds
 
 -- the instant of 2:30 Release Date and 2:35 Release Time, or of that day's beginning
 abbrev pub instant_of_release : List Dataset → Option ℤ
-instant_of_release ds = instant_of_pair 30 35 (codes "000000+0000") ds
+instant_of_release ds = instant_of_pair 2 30 35 (Some (codes "000000+0000")) ds
 
 -- the instant of 2:37 Expiration Date and 2:38 Expiration Time, or of that day's last second
 abbrev pub instant_of_expiration : List Dataset → Option ℤ
-instant_of_expiration ds = instant_of_pair 37 38 (codes "235959+0000") ds
+instant_of_expiration ds = instant_of_pair 2 37 38 (Some (codes "235959+0000")) ds
 
 -- Each envelope has a dataset with the numbers.
 abbrev pub IsInEach : ℕ → ℕ → Type 0

@@ -1,8 +1,8 @@
 -- What a packer writes of an object by a plan: record 7, the subfiles and record 9.
-use Rattle.std.specs.Prelude.{◌≡◌, ℕ, ◌^◌, ◌≤◌, nat_lt, if◌then◌else◌, Bool, true, false, IsTrue, List, [], ◌∷◌, ◌++◌, length, map, Option, Some, None}
-use Rattle.byteorder.specs.Endian.{big_bytes}
-use Rattle.iim_dataset.specs.Format.Octets.{Octets}
-use Rattle.iim_dataset.specs.Format.Datasets.{Dataset, canonical_stream}
+use Rattle.std.specs.Prelude.{◌≡◌, ℕ, ◌≤◌, Bool, true, false, IsTrue, List, [], ◌∷◌, ◌++◌, length, map, Option, Some, None}
+use Rattle.iim_dataset.specs.Format.Octets.{Octets, greatest_size}
+use Rattle.iim_dataset.specs.Format.Datasets.{Dataset, canonical_stream, written_number}
+use Rattle.iim_tables.specs.Format.Records.{IsGoodDataset, IsGoodRecord}
 use Rattle.iim_object.specs.Format.Sizes.{mode_number}
 use Rattle.iim_object.specs.Format.Plans.{is_plan, bound_of, max_subfiles}
 use Rattle.iim_object.specs.Format.Records.{HaveSizes}
@@ -11,13 +11,9 @@ use Rattle.iim_object.specs.declared.size.Size.{Size}
 use Rattle.iim_object.specs.declared.size.Size.TheVariants.{Known, Unknown}
 use Rattle.iim_object.specs.declared.size.Sizes.{Sizes}
 
--- how a writer spells a size: in four octets up to 4,294,967,295, in eight above
-abbrev pub size_text : ℕ → List ℕ
-size_text n = if nat_lt n (2 ^ 32) then big_bytes 4 n else big_bytes 8 n
-
 -- a dataset whose value is this number
 abbrev pub number_dataset : ℕ → ℕ → ℕ → Dataset
-number_dataset rec set n = record { rec = rec; set = set; octets = size_text n }
+number_dataset rec set n = record { rec = rec; set = set; octets = written_number n }
 
 abbrev pub is_known : Size → Bool
 is_known (Known n) = true
@@ -83,6 +79,24 @@ packed_sizes subfile size object parts = record {
   subfiles = length parts;
   total = length object;
 }
+
+-- Records 7, 8 and 9 that are written of an object are good.
+pub record AreGoodRecords (subfile : ℕ) (size : Size) (object : List ℕ) (parts : List (List ℕ)) : Type 0 where
+  pub seven : IsGoodRecord 7 (plan_datasets subfile size)
+  pub eight : IsGoodRecord 8 (subfile_datasets parts)
+  pub nine : IsGoodRecord 9 (confirmed_datasets object)
+
+-- Those of an object that a plan has room for are.
+abbrev pub PackedRecordsAreGood : Type 0
+PackedRecordsAreGood = (subfile : ℕ) (size : Size) (object : List ℕ) (parts : List (List ℕ)) → IsTrue (is_plan subfile size) → Octets object
+    → IsCut subfile object parts → length object ≤ bound_of subfile size → AreGoodRecords subfile size object parts
+
+-- A size up to the greatest, as it is written, is the good data of 7:90, 7:95 and 9:10, and from one on of 7:20.
+pub record NumberDatasetsAreGood : Type 0 where
+  pub largest : (n : ℕ) → 1 ≤ n → n ≤ greatest_size → IsGoodDataset (number_dataset 7 20 n)
+  pub announced : (n : ℕ) → n ≤ greatest_size → IsGoodDataset (number_dataset 7 90 n)
+  pub maximum : (n : ℕ) → n ≤ greatest_size → IsGoodDataset (number_dataset 7 95 n)
+  pub confirmed : (n : ℕ) → n ≤ greatest_size → IsGoodDataset (number_dataset 9 10 n)
 
 -- Records 7, 8 and 9 that are written of an object which suits a plan have the sizes of the plan.
 abbrev pub PackedObjectsHaveSizes : Type 0

@@ -1,5 +1,6 @@
 -- Plans of objects.
-use Rattle.std.specs.Prelude.{ℕ, ◌*◌, Bool, true, ◌&&◌, nat_le, min, Some, None}
+use Rattle.std.specs.Prelude.{ℕ, ◌+◌, ◌*◌, ◌^◌, Bool, true, ◌&&◌, nat_le, min, Some, None}
+use Rattle.iim_dataset.specs.Format.Datasets.{tag_octets}
 use Rattle.iim_dataset.specs.Format.Octets.{greatest_size}
 use Rattle.iim_object.specs.declared.size.Size.{Size}
 use Rattle.iim_object.specs.declared.size.Size.TheVariants.{Known, Unknown}
@@ -7,6 +8,14 @@ use Rattle.iim_object.specs.declared.size.Size.TheVariants.{Known, Unknown}
 -- the most subfiles of one envelope
 abbrev pub max_subfiles : ℕ
 max_subfiles = 4294967295
+
+-- the most octets of record 7: 7:10, 7:20, and 7:90 or 7:95
+abbrev pub most_sizes : ℕ
+most_sizes = 6 + 2 * tag_octets
+
+-- more octets than are ever out of one envelope: those of the greatest object, of the tag of each of its subfiles, and of all other records
+abbrev pub most_out : ℕ
+most_out = 2 ^ 63 + 2 ^ 40
 
 -- the most octets that subfiles of `subfile` octets hold
 abbrev pub most_in : ℕ → ℕ

@@ -18,6 +18,6 @@ TokensWithin most (Confirmed n ∷ tokens) = (n ≤ most) × TokensWithin most t
 abbrev pub LanguageWithin : ℕ → List ObjectToken → Type 0
 LanguageWithin most tokens = ObjectLanguage tokens × TokensWithin most tokens
 
--- From a possible place the layer can continue by a smaller greatest size exactly where the place keeps to it.
+-- From a possible place the layer can continue by each greatest size, of at least 1, that the place keeps to.
 abbrev pub PlacesLiveWithin : Type 0
 PlacesLiveWithin = (most : ℕ) (p : Place) → 1 ≤ most → IsPossible p → TokensWithin most (tokens_of p) → sum p.lengths ≤ most → IsAlive (LanguageWithin most) (tokens_of p)

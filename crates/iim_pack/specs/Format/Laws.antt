@@ -4,7 +4,7 @@ use Rattle.iim_dataset.specs.Format.Datasets.{Dataset, SpellsStream, count_octet
 use Rattle.iim_fields.specs.Format.Records.{AreSections}
 use Rattle.iim_fields.specs.Format.Builders.{AreFew}
 use Rattle.iim_fields.specs.Format.Faults.{kept, joined}
-use Rattle.iim_object.specs.Format.Plans.{max_subfiles}
+use Rattle.iim_object.specs.Format.Plans.{max_subfiles, most_out}
 use Rattle.iim_object.specs.Format.Records.{HaveSizes}
 use Rattle.iim_object.specs.Format.Packing.{object_datasets, packed_sizes}
 use Rattle.iim_object.specs.declared.plan.Plan.{Plan}
@@ -42,7 +42,7 @@ abbrev pub PackedSubfilesAreFew : Type 0
 PackedSubfilesAreFew = (fields : List Dataset) (head : Header) (lines : List (List ℕ)) (trailer : List ℕ) (plan : Plan) (octets : List ℕ)
     → (p : Packed fields head lines trailer plan octets) → length p.written.parts ≤ max_subfiles
 
--- A packed form of no more fields than limits can allow has fewer than 2 ^ 63 + 2 ^ 40 octets.
+-- A packed form of no more fields than limits can allow has fewer octets than are ever out.
 abbrev pub PackedOctetsAreFew : Type 0
 PackedOctetsAreFew = (fields : List Dataset) (head : Header) (lines : List (List ℕ)) (trailer : List ℕ) (plan : Plan) (octets : List ℕ)
-    → Packed fields head lines trailer plan octets → AreFew fields → length octets < 2 ^ 63 + 2 ^ 40
+    → Packed fields head lines trailer plan octets → AreFew fields → length octets < most_out

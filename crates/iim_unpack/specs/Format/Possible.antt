@@ -38,7 +38,7 @@ IsSmall None = ⊤
 IsSmall (Some n) = n ≤ greatest_size_before
 
 -- What is begun was possible then: a tag; a value of record 7 or 9, whose row had such a count; a subfile, with which the object was no
--- larger. The rows of records 1 and 2 were the same.
+-- larger. The rows of records 1 and 2 are those that there are.
 abbrev pub IsSmallPhase : (section taken : ℕ) → Phase → Type 0
 IsSmallPhase section taken (TagBegun held) = BeginsTag count_octets_before held
 IsSmallPhase section taken (DataBegun set count left given) = (tells_number section ≡ true → count ≤ count_octets_before) × (section ≡ 8 → (count ≤ greatest_size_before) × (taken + left ≤ greatest_size_before))

@@ -18,8 +18,8 @@ use Rattle.wire_message.specs.Format.Layers.{MessageLanguage, StoryLivesIn}
 use Rattle.iim_unpack.specs.Format.Admitted.{Value, Admits, object_of}
 use Rattle.iim_unpack.specs.Format.Framed.{AreWithin}
 use Rattle.iim_unpack.specs.Format.Open.{message_tokens, object_so_far}
-use Rattle.iim_unpack.specs.Format.Possible.{Possible, IsSmallPlace, widest}
-use Rattle.iim_unpack.specs.Format.Tickets.{Place, IsPlaceOf, ticket_in}
+use Rattle.iim_unpack.specs.Format.Possible.{Possible, IsSmallPlace, count_octets_before, greatest_size_before, widest}
+use Rattle.iim_unpack.specs.Format.Tickets.{Place, IsPlaceOf, first_version, ticket_in}
 use Rattle.iim_unpack.specs.Format.TicketForm.{IsVersion}
 use Rattle.iim_unpack.specs.Format.Tokens.{HaveRoom, place_at}
 
@@ -29,7 +29,7 @@ pub record Scale : Type 0 where
 
 -- the sizes that there were when version 1 was made
 abbrev pub first_scale : Scale
-first_scale = record { octets = 4; greatest = 4_294_967_295 }
+first_scale = record { octets = count_octets_before; greatest = greatest_size_before }
 
 -- ---- the record layer
 
@@ -105,7 +105,7 @@ SmallPlacesWerePossible = (place : Place) → PossibleAt first_scale place ↔ (
 
 -- The place is possible in tickets of the version: in version 1 by the first scale.
 abbrev pub IsPossibleIn : ℕ → Place → Type 0
-IsPossibleIn version place = Possible place × (version ≡ 1 → PossibleAt first_scale place)
+IsPossibleIn version place = Possible place × (version ≡ first_version.number → PossibleAt first_scale place)
 
 -- Possible places with one ticket are one.
 abbrev pub TicketsTellOnePlace : Type 0

@@ -2,7 +2,7 @@
 use Rattle.std.specs.Prelude.{◌≡◌, ℕ, ◌-◌, ◌^◌, ◌<◌, ◌≤◌, ◌==◌, if◌then◌else◌, List, [], ◌∷◌, ◌++◌, ◌⊎◌, ◌+◌, length, codes, Option, ⊤}
 use Rattle.std.specs.List.{flat_map}
 use Rattle.iim_dataset.specs.Format.Datasets.{Dataset}
-use Rattle.iim_unpack.specs.Format.Tickets.{Phase, TagBegun, DataBegun, AllEnded, width, layout, text_octets}
+use Rattle.iim_unpack.specs.Format.Tickets.{Phase, TagBegun, DataBegun, AllEnded, first_version, second_version, width, layout, text_octets}
 use Rattle.iim_unpack.specs.Format.Begins.{IsWide, AreFields, AreNumbersIn, AreTexts}
 use Rattle.iim_unpack.specs.declared.ticket_fault.TicketFault.{TicketFault}
 use Rattle.iim_unpack.specs.declared.ticket_fault.TicketFault.TheVariants.{Form, Version}
@@ -32,9 +32,9 @@ split_octets s = layout s.version s.section s.phase s.fields s.numbers s.taken s
 abbrev pub came : (section count left : ℕ) → ℕ
 came section count left = if section == 8 then 0 else count - left
 
--- 1 and 2 are versions
+-- There are two versions.
 abbrev pub IsVersion : ℕ → Type 0
-IsVersion version = (version ≡ 1) ⊎ (version ≡ 2)
+IsVersion version = (version ≡ first_version.number) ⊎ (version ≡ second_version.number)
 
 -- Of a tag less octets are held than five and those of a number. Of data no more are to come than its count, and what has come stands
 -- there unless it is a subfile's.
@@ -58,7 +58,7 @@ pub record SplitsTicket (ticket : List ℕ) (s : Split) : Type 0 where
   pub form : HasForm s
   pub spelled : ticket ≡ split_octets s
 
--- The octets begin with a ticket's name, and with a version other than 1 and 2.
+-- The octets begin with a ticket's name, and with a number that is no version's.
 pub record HasOtherVersion (ticket : List ℕ) : Type 0 where
   pub version : ℕ
   pub rest : List ℕ

@@ -66,13 +66,24 @@ pub record IsPlaceOf (octets : List ℕ) (place : Place) : Type 0 where
 
 -- ---- the octets of a place
 
+-- A version of tickets: its number, and how many octets a count, a size or a number of octets of the object has in its tickets.
+pub record TicketVersion : Type 0 where
+  pub number : ℕ
+  pub width : ℕ
+
+abbrev pub first_version : TicketVersion
+first_version = record { number = 1; width = 4 }
+
+abbrev pub second_version : TicketVersion
+second_version = record { number = 2; width = 8 }
+
 -- the version of the tickets that are made
 abbrev pub present_version : ℕ
-present_version = 2
+present_version = second_version.number
 
--- how many octets a count, a size or a number of octets of the object has in a ticket of the version
+-- the width of a version
 abbrev pub width : ℕ → ℕ
-width version = if version == 1 then 4 else 8
+width version = if version == first_version.number then first_version.width else second_version.width
 
 -- a number in four octets, high octet first
 abbrev pub four : ℕ → List ℕ
@@ -80,7 +91,7 @@ four n = to_be_bytes w32 n
 
 -- a number in as many octets as the version has
 abbrev pub wide : ℕ → ℕ → List ℕ
-wide version n = if version == 1 then four n else to_be_bytes w64 n
+wide version n = if version == first_version.number then four n else to_be_bytes w64 n
 
 abbrev pub phase_octets : ℕ → Phase → List ℕ
 phase_octets version (TagBegun held) = 0 ∷ length held ∷ held

@@ -1,50 +1,37 @@
 -- The records 7, 8 and 9 that are written of an object are good.
-use Rattle.std.proofs.Common.{◌≡◌, ℕ, ◌+◌, ◌^◌, ◌<◌, ◌≤◌, Bool, true, false, ◌&&◌, cond, nat_eq, nat_le, List, [], ◌∷◌, ◌++◌, length, Some, None, refl, sym, subst, ◌∙◌, arith, inl, inr}
+use Rattle.std.proofs.Common.{◌≡◌, ℕ, ◌+◌, ◌^◌, ◌<◌, ◌≤◌, Bool, true, false, ◌&&◌, cond, nat_eq, nat_le, List, [], ◌∷◌, ◌++◌, length, Some, None, refl, sym, subst, ◌∙◌, arith, inl, inr, append_assoc}
 use Rattle.std.specs.List.{AllByRecursion}
-use Rattle.std.proofs.lemmas.Bool.{and_from, le-leb, cases_lt, lt-ltb, le-ltb}
+use Rattle.std.proofs.lemmas.Bool.{and_from, le-leb}
 use Rattle.std.proofs.lemmas.Bool.Decides.{eqb_tells}
 use Rattle.std.proofs.lemmas.List.Sums.{sum_by-cons}
 use Rattle.iim_tables.specs.Format.Kinds.{is_size_from}
-use Rattle.byteorder.specs.Numbers.{big_number-reads_back}
-use Rattle.iim_dataset.specs.Format.Octets.{Octets, greatest_size, number, within}
-use Rattle.iim_dataset.specs.Format.Datasets.{Dataset}
+use Rattle.iim_dataset.specs.WrittenNumbers.{number_back, number_octets, some_octets, few_octets}
+use Rattle.iim_dataset.specs.Format.Octets.{IsOctet, Octets, greatest_size, number, within}
+use Rattle.iim_dataset.specs.Format.Datasets.{Dataset, written_number}
 use Rattle.iim_tables.specs.Format.Numbers.{size_octets}
 use Rattle.iim_tables.specs.Format.Rows.{table, row_of, Meets}
 use Rattle.iim_tables.specs.Format.Records.{IsGoodDataset, IsGoodRecord, occurs, occurrences, repeats, mandatory}
 use Rattle.iim_object.specs.Format.Sizes.{mode_number}
+use Rattle.iim_object.specs.Format.Cuts.{AreFull, joined_parts}
 use Rattle.iim_object.specs.Format.Plans.{limit_of}
-use Rattle.iim_object.specs.Format.Packing.{size_text, number_dataset, is_known, plan_datasets, subfile_dataset, subfile_datasets, confirmed_datasets}
+use Rattle.iim_object.specs.Format.Packing.{number_dataset, is_known, plan_datasets, subfile_dataset, subfile_datasets, confirmed_datasets, NumberDatasetsAreGood, PackedRecordsAreGood}
 use Rattle.iim_object.specs.declared.size.Size.{Size}
 use Rattle.iim_object.specs.declared.size.Size.TheVariants.{Known, Unknown}
+use Rattle.iim_object.proofs.PackedSizes.{plan_parts}
 
 -- ---- numbers
 
-number_back : (n : ℕ) → n ≤ greatest_size → number (size_text n) ≡ n
-number_back n h = elim (cases_lt n (2 ^ 32)) [
-  | inl lt ↦ rw (lt-ltb n (2 ^ 32) lt) (big_number-reads_back 4 n [] lt)
-  | inr ge ↦ rw (le-ltb n (2 ^ 32) ge) (big_number-reads_back 8 n [] (omega (arith, h)))
-]
-
-number_octets : (n : ℕ) → Octets (size_text n)
-number_octets n = elim (cases_lt n (2 ^ 32)) [
-  | inl lt ↦ rw (lt-ltb n (2 ^ 32) lt) (omega arith, (omega arith, (omega arith, (omega arith, tt))))
-  | inr ge ↦ rw (le-ltb n (2 ^ 32) ge) (omega arith, (omega arith, (omega arith, (omega arith, (omega arith, (omega arith, (omega arith, (omega arith, tt))))))))
-]
-
-number_long : (n : ℕ) → within 1 size_octets (length (size_text n)) ≡ true
-number_long n = elim (cases_lt n (2 ^ 32)) [
-  | inl lt ↦ rw (lt-ltb n (2 ^ 32) lt) refl
-  | inr ge ↦ rw (le-ltb n (2 ^ 32) ge) refl
-]
+number_long : (n : ℕ) → within 1 size_octets (length (written_number n)) ≡ true
+number_long n = and_from (nat_le 1 (length (written_number n))) (nat_le (length (written_number n)) size_octets) (le-leb 1 (length (written_number n)) (some_octets n)) (le-leb (length (written_number n)) size_octets (few_octets n))
 
 -- it is a size, of a length that the rows allow
-size_from : (least n : ℕ) → least ≤ n → n ≤ greatest_size → (within 1 size_octets (length (size_text n)) && is_size_from least (size_text n)) ≡ true
+size_from : (least n : ℕ) → least ≤ n → n ≤ greatest_size → (within 1 size_octets (length (written_number n)) && is_size_from least (written_number n)) ≡ true
 size_from least n one le =
     let long = number_long n in
-    let in_range : within least greatest_size (number (size_text n)) ≡ true =
-    subst (λ (k : ℕ). within least greatest_size k ≡ true) (sym (number_back n le)) (and_from (nat_le least n) (nat_le n greatest_size) (le-leb least n one) (le-leb n greatest_size le)) in
-    and_from (within 1 size_octets (length (size_text n))) (is_size_from least (size_text n)) long
-    (and_from (within 1 size_octets (length (size_text n))) (within least greatest_size (number (size_text n))) long in_range)
+    let in_range : within least greatest_size (number (written_number n)) ≡ true =
+    subst (λ (k : ℕ). within least greatest_size k ≡ true) (sym (number_back n (omega (arith, le)))) (and_from (nat_le least n) (nat_le n greatest_size) (le-leb least n one) (le-leb n greatest_size le)) in
+    and_from (within 1 size_octets (length (written_number n))) (is_size_from least (written_number n)) long
+    (and_from (within 1 size_octets (length (written_number n))) (within least greatest_size (number (written_number n))) long in_range)
 
 -- ---- rows
 
@@ -53,15 +40,15 @@ unfolding row_of table
 mode_meets (Known n) = refl
 mode_meets (Unknown m) = refl
 
-subfile_meets : (n : ℕ) → 1 ≤ n → n ≤ greatest_size → Meets 7 20 (size_text n)
+subfile_meets : (n : ℕ) → 1 ≤ n → n ≤ greatest_size → Meets 7 20 (written_number n)
 unfolding row_of table
 subfile_meets n one le = size_from 1 n one le
 
-announced_meets : (n : ℕ) → n ≤ greatest_size → Meets 7 90 (size_text n)
+announced_meets : (n : ℕ) → n ≤ greatest_size → Meets 7 90 (written_number n)
 unfolding row_of table
 announced_meets n le = size_from 0 n (omega arith) le
 
-maximum_meets : (n : ℕ) → n ≤ greatest_size → Meets 7 95 (size_text n)
+maximum_meets : (n : ℕ) → n ≤ greatest_size → Meets 7 95 (written_number n)
 unfolding row_of table
 maximum_meets n le = size_from 0 n (omega arith) le
 
@@ -69,13 +56,13 @@ part_meets : (xs : List ℕ) → length xs ≤ greatest_size → Meets 8 10 xs
 unfolding row_of table
 part_meets xs le = rw (le-leb (length xs) greatest_size le, le-leb 0 (length xs) (omega arith)) refl
 
-confirmed_meets : (n : ℕ) → n ≤ greatest_size → Meets 9 10 (size_text n)
+confirmed_meets : (n : ℕ) → n ≤ greatest_size → Meets 9 10 (written_number n)
 unfolding row_of table
 confirmed_meets n le = size_from 0 n (omega arith) le
 
 -- ---- record 7
 
-good_number : (rec set n : ℕ) → set < 256 → (nat_eq rec 1 ≡ false) → Meets rec set (size_text n) → IsGoodDataset (number_dataset rec set n)
+good_number : (rec set n : ℕ) → set < 256 → (nat_eq rec 1 ≡ false) → Meets rec set (written_number n) → IsGoodDataset (number_dataset rec set n)
 good_number rec set n small other meets = record { numbered = small; octets = number_octets n; meets = meets; file_format = rw other refl }
 
 abbrev Seven : Dataset → Type 0
@@ -229,3 +216,41 @@ good_nine object le = record {
   mandatory = must_nine (length object);
   once = λ n single. once_nine n (length object);
 }
+
+-- ---- parts
+
+all_front : {X : Type 0} (P : X → Type 0) (xs ys : List X) → AllByRecursion P (xs ++ ys) → AllByRecursion P xs
+all_front P [] ys h = tt
+all_front P (x ∷ xs) ys h = (h.0, all_front P xs ys h.1)
+
+all_back : {X : Type 0} (P : X → Type 0) (xs ys : List X) → AllByRecursion P (xs ++ ys) → AllByRecursion P ys
+all_back P [] ys h = h
+all_back P (x ∷ xs) ys h = all_back P xs ys h.1
+
+parts_are : (size : ℕ) (full : List (List ℕ)) (last : List ℕ) → size ≤ greatest_size → AreFull size full → length last ≤ size → Octets (joined_parts full ++ last)
+    → AllByRecursion (λ p. (length p ≤ greatest_size) × Octets p) (full ++ last ∷ [])
+parts_are size [] last most fulls short o = ((omega (arith, most, short), o), tt)
+parts_are size (f ∷ fs) last most fulls short o =
+    let whole : Octets (f ++ (joined_parts fs ++ last)) = subst Octets (append_assoc f (joined_parts fs) last) o in
+    ((omega (arith, fulls.0, most), all_front IsOctet f (joined_parts fs ++ last) whole), parts_are size fs last most fulls.1 short (all_back IsOctet f (joined_parts fs ++ last) whole))
+
+-- ---- the laws
+
+pub numbers_good : NumberDatasetsAreGood
+numbers_good = record {
+  largest = λ n one le. good_number 7 20 n (omega arith) refl (subfile_meets n one le);
+  announced = λ n le. good_number 7 90 n (omega arith) refl (announced_meets n le);
+  maximum = λ n le. good_number 7 95 n (omega arith) refl (maximum_meets n le);
+  confirmed = λ n le. good_number 9 10 n (omega arith) refl (confirmed_meets n le);
+}
+
+pub records_good : PackedRecordsAreGood
+records_good subfile size object parts plan octets cut within =
+    let p = plan_parts subfile size plan in
+    let few : length object ≤ greatest_size = omega (arith, within, p.limit) in
+    record {
+      seven = good_seven subfile size p.least p.most p.limit;
+      eight = subst (λ (ps : List (List ℕ)). IsGoodRecord 8 (subfile_datasets ps)) (sym cut.parts_are)
+          (good_eight cut.full cut.last (parts_are subfile cut.full cut.last p.most cut.are_full cut.fits (subst Octets cut.joined octets)));
+      nine = good_nine object few;
+    }

@@ -1,0 +1,40 @@
+-- Lemmas on numbers as they are written, for the proofs of every crate: nothing here is to be believed.
+use Rattle.std.proofs.Common.{◌≡◌, ℕ, ◌+◌, ◌^◌, ◌<◌, ◌≤◌, List, [], ◌++◌, length, length-append, refl, arith, inl, inr}
+use Rattle.std.proofs.lemmas.Bool.{cases_lt, lt-ltb, le-ltb}
+use Rattle.byteorder.specs.Numbers.{big_number-reads_back}
+use Rattle.iim_dataset.specs.Format.Octets.{Octets, number}
+use Rattle.iim_dataset.specs.Format.Datasets.{Dataset, canonical_count, canonical_dataset, tag_octets, written_number}
+
+pub number_back : (n : ℕ) → n < 2 ^ 64 → number (written_number n) ≡ n
+number_back n h = elim (cases_lt n (2 ^ 32)) [
+  | inl lt ↦ rw (lt-ltb n (2 ^ 32) lt) (big_number-reads_back 4 n [] lt)
+  | inr ge ↦ rw (le-ltb n (2 ^ 32) ge) (big_number-reads_back 8 n [] h)
+]
+
+pub number_octets : (n : ℕ) → Octets (written_number n)
+number_octets n = elim (cases_lt n (2 ^ 32)) [
+  | inl lt ↦ rw (lt-ltb n (2 ^ 32) lt) (omega arith, (omega arith, (omega arith, (omega arith, tt))))
+  | inr ge ↦ rw (le-ltb n (2 ^ 32) ge) (omega arith, (omega arith, (omega arith, (omega arith, (omega arith, (omega arith, (omega arith, (omega arith, tt))))))))
+]
+
+pub some_octets : (n : ℕ) → 1 ≤ length (written_number n)
+some_octets n = elim (cases_lt n (2 ^ 32)) [
+  | inl lt ↦ rw (lt-ltb n (2 ^ 32) lt) (omega arith)
+  | inr ge ↦ rw (le-ltb n (2 ^ 32) ge) (omega arith)
+]
+
+pub few_octets : (n : ℕ) → length (written_number n) ≤ 8
+few_octets n = elim (cases_lt n (2 ^ 32)) [
+  | inl lt ↦ rw (lt-ltb n (2 ^ 32) lt) (omega arith)
+  | inr ge ↦ rw (le-ltb n (2 ^ 32) ge) (omega arith)
+]
+
+pub count_length : (n : ℕ) → length (canonical_count n) ≤ 10
+count_length n = elim (cases_lt n 32768) [
+  | inl lt ↦ rw (lt-ltb n 32768 lt) (omega arith)
+  | inr ge ↦ rw (le-ltb n 32768 ge) (omega (arith, few_octets n))
+]
+
+-- beside its data a dataset has the octets of a tag at most
+pub dataset_length : (d : Dataset) → length (canonical_dataset d) ≤ tag_octets + length d.octets
+dataset_length d = omega (arith, count_length (length d.octets), length-append (canonical_count (length d.octets)) d.octets)

@@ -1,0 +1,30 @@
+-- Lemmas on how long record 7 is, for the proofs of every crate: nothing here is to be believed.
+use Rattle.std.proofs.Common.{◌≡◌, ℕ, ◌+◌, ◌*◌, ◌^◌, ◌≤◌, inl, inr, List, [], ◌∷◌, ◌++◌, length, Some, None, arith, length-append}
+use Rattle.std.proofs.lemmas.Bool.{cases_lt, lt-ltb, le-ltb}
+use Rattle.iim_dataset.specs.Format.Datasets.{canonical_dataset, canonical_stream, tag_octets}
+use Rattle.iim_object.specs.Format.Packing.{number_dataset, size_datasets, plan_datasets, is_known}
+use Rattle.iim_object.specs.Format.Plans.{most_sizes}
+use Rattle.iim_object.specs.Format.Sizes.{mode_number}
+use Rattle.iim_object.specs.declared.size.Size.{Size}
+use Rattle.iim_object.specs.declared.size.Size.TheVariants.{Known, Unknown}
+
+pub number_length : (rec set n : ℕ) → length (canonical_dataset (number_dataset rec set n)) ≤ tag_octets
+number_length rec set n = omega (arith, short rec set n)
+  where
+    short : (rec set n : ℕ) → length (canonical_dataset (number_dataset rec set n)) ≤ 13
+    short rec set n = elim (cases_lt n (2 ^ 32)) [
+      | inl lt ↦ rw (lt-ltb n (2 ^ 32) lt) (omega arith)
+      | inr ge ↦ rw (le-ltb n (2 ^ 32) ge) (omega arith)
+    ]
+
+size_datasets_length : (size : Size) → length (canonical_stream (size_datasets size)) ≤ tag_octets
+size_datasets_length (Known n) = omega (arith, number_length 7 90 n, length-append (canonical_dataset (number_dataset 7 90 n)) [])
+size_datasets_length (Unknown (Some m)) = omega (arith, number_length 7 95 m, length-append (canonical_dataset (number_dataset 7 95 m)) [])
+size_datasets_length (Unknown None) = omega arith
+
+pub plan_length : (subfile : ℕ) (size : Size) → length (canonical_stream (plan_datasets subfile size)) ≤ most_sizes
+plan_length subfile size =
+    let first : List ℕ = canonical_dataset (record { rec = 7; set = 10; octets = mode_number (is_known size) ∷ [] }) in
+    let number : List ℕ = canonical_dataset (number_dataset 7 20 subfile) in
+    let more : List ℕ = canonical_stream (size_datasets size) in
+    omega (arith, length-append first (number ++ more), length-append number more, number_length 7 20 subfile, size_datasets_length size)
