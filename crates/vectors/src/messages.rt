@@ -98,9 +98,12 @@ fn tell_reader(text: &mut Vec<u8>, reader: &MessageReader) -> Result<()> {
 }
 
 /// Writes which octet is refused and why.
-fn tell_fault(text: &mut Vec<u8>, fault: MessageFault) -> Result<()> {
+fn tell_fault(text: &mut Vec<u8>, fault: MessageFault, reader: &MessageReader) -> Result<()> {
     let MessageFault { taken, cause } = fault;
     writeln!(text, "  refused at {taken} {cause:?}")?;
+    if !reader.is_failed() {
+        writeln!(text, "  not failed")?;
+    }
     Ok(())
 }
 
@@ -118,7 +121,7 @@ impl Reading for Objects {
         let refused = feed_pieces(&mut reader, octets, cut, &mut lines)?;
         tell_lines(&mut text, &lines)?;
         match refused.or(close(&mut reader, octets.len())) {
-            Some(fault) => tell_fault(&mut text, fault)?,
+            Some(fault) => tell_fault(&mut text, fault, &reader)?,
             None => tell_reader(&mut text, &reader)?,
         }
         Ok(text)
@@ -168,7 +171,7 @@ impl Reading for Begun {
         let mut text = Vec::new(self.alloc);
         let mut reader = MessageReader::new();
         if let Some(fault) = feed_pieces(&mut reader, octets, cut, &mut Discard)? {
-            tell_fault(&mut text, fault)?;
+            tell_fault(&mut text, fault, &reader)?;
         }
         tell_stand(&mut text, &reader)?;
         tell_reader(&mut text, &reader)?;

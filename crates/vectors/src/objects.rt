@@ -242,6 +242,9 @@ fn written(alloc: Global, plan: Plan, object: &[u8], cut: usize) -> Result<Vec<u
         let rest = object.get(at..).unwrap_or(&[]);
         let piece = rest.get(..cut).unwrap_or(rest);
         let before = writer.written();
+        if writer.write(&[]).is_err() {
+            bail!("no octets are refused");
+        }
         if let Err(cause) = writer.write(piece) {
             let number = cause.number();
             let is_same = writer.written() == before;

@@ -4,7 +4,6 @@ ghost use Rattle.std.specs.Prelude.{◌≢◌, length, OnOk};
 ghost use Rattle.iim_fields.specs.Format.Standing.{IsBetween, IsInside};
 ghost use Rattle.iim_fields.specs.Format.Checks.{TakesHead};
 
-use crate::cuts::Cut;
 use crate::octets::{Names, Shown, Words};
 use crate::tables::{print_found, print_truth};
 use crate::views::{print_fields, print_views, print_walk};
@@ -77,12 +76,12 @@ fn tell_number(text: &mut Vec<u8>, head: Head, number: u64) -> Result<()> {
 }
 
 /// Gives all octets of the begun dataset, in one piece or one by one.
-fn give(fields: &mut Fields, head: Head, octets: &[u8], cut: Cut)
+fn give(fields: &mut Fields, head: Head, octets: &[u8], one_by_one: bool)
     requires inside { IsInside fields.old head (length octets.now) }
     requires value { head.rec ≢ 8 }
     ensures { IsInside fields.new head 0 }
 {
-    if !matches!(cut, Cut::Each) {
+    if !one_by_one {
         fields.bytes(octets);
         return;
     }
@@ -96,7 +95,7 @@ fn pass(
     fields: &mut Fields,
     head: Head,
     data: &[u8],
-    cut: Cut,
+    one_by_one: bool,
 ) -> Result<Option<u64>, FieldFault>
     requires between { IsBetween fields.old }
     ensures { OnOk result (IsBetween fields.new) }
@@ -108,7 +107,7 @@ fn pass(
     let count = data.len() as u64;
     let head = Head { count, ..head };
     fields.begin(head)?;
-    give(fields, head, data, cut);
+    give(fields, head, data, one_by_one);
     fields.close()
 }
 
@@ -128,7 +127,12 @@ fn begin(fields: &mut Fields, head: Head, data: &[u8]) -> Option<FieldFault>
 }
 
 /// Passes the datasets that the octets spell, and writes what they tell, up to the first fault.
-fn pass_datasets(text: &mut Vec<u8>, fields: &mut Fields, octets: &[u8], cut: Cut) -> Result<()>
+fn pass_datasets(
+    text: &mut Vec<u8>,
+    fields: &mut Fields,
+    octets: &[u8],
+    one_by_one: bool,
+) -> Result<()>
     requires { IsBetween fields.old }
 {
     let mut rest = octets;
@@ -147,7 +151,7 @@ fn pass_datasets(text: &mut Vec<u8>, fields: &mut Fields, octets: &[u8], cut: Cu
             data,
             rest: after,
         } = front;
-        match pass(fields, head, data, cut) {
+        match pass(fields, head, data, one_by_one) {
             Ok(Some(number)) => tell_number(text, head, number)?,
             Ok(None) => {}
             Err(fault) => {
@@ -183,11 +187,11 @@ fn read_fields(
     alloc: Global,
     limits: Limits,
     octets: &[u8],
-    cut: Cut,
+    one_by_one: bool,
 ) -> Result<(Vec<u8>, Fields)> {
     let mut text = Vec::new(alloc);
     let mut fields = Fields::new(alloc, limits)?;
-    pass_datasets(&mut text, &mut fields, octets, cut)?;
+    pass_datasets(&mut text, &mut fields, octets, one_by_one)?;
     tell_place(&mut text, &fields)?;
     Ok((text, fields))
 }
@@ -302,8 +306,8 @@ impl Envelopes {
 
     /// Reads datasets in one piece each, and octet by octet, and keeps the reader.
     fn read<W: Write>(&mut self, out: &mut W, limits: Limits, octets: &[u8]) -> Result<()> {
-        let (each, _) = read_fields(self.alloc, limits, octets, Cut::Each)?;
-        let (whole, fields) = read_fields(self.alloc, limits, octets, Cut::Whole)?;
+        let (each, _) = read_fields(self.alloc, limits, octets, true)?;
+        let (whole, fields) = read_fields(self.alloc, limits, octets, false)?;
         out.write_all(whole.as_slice())?;
         if each.as_slice() != whole.as_slice() {
             writeln!(out, "  but octet by octet")?;

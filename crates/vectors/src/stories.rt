@@ -12,9 +12,13 @@ use wire_story::{
     text_len,
 };
 
-/// Reads a text in these pieces, and answers which octet is refused and why.
-fn read_text<S: StorySink>(octets: &[u8], cut: Cut, sink: &mut S) -> Option<TextFault> {
-    let mut reader = TextReader::new();
+/// Reads a text in these pieces, and answers which octet is refused and why. The reader has failed then.
+fn read_text<S: StorySink>(
+    reader: &mut TextReader,
+    octets: &[u8],
+    cut: Cut,
+    sink: &mut S,
+) -> Option<TextFault> {
     for number in 0..Cut::most_pieces(octets) {
         let Some((before, piece)) = cut.piece(octets, number) else {
             break;
@@ -40,9 +44,12 @@ fn read_text<S: StorySink>(octets: &[u8], cut: Cut, sink: &mut S) -> Option<Text
 }
 
 /// Writes which octet is refused and why.
-fn tell_fault(text: &mut Vec<u8>, fault: TextFault) -> Result<()> {
+fn tell_fault(text: &mut Vec<u8>, fault: TextFault, reader: &TextReader) -> Result<()> {
     let TextFault { taken, cause } = fault;
     writeln!(text, "  refused at {taken} {cause:?}")?;
+    if !reader.is_failed() {
+        writeln!(text, "  not failed")?;
+    }
     Ok(())
 }
 
@@ -65,10 +72,11 @@ impl Reading for InLines {
     fn read(&self, octets: &[u8], cut: Cut) -> Result<Vec<u8>> {
         let mut text = Vec::new(self.alloc);
         let mut lines = Lines::new(self.alloc);
-        let fault = read_text(octets, cut, &mut lines);
+        let mut reader = TextReader::new();
+        let fault = read_text(&mut reader, octets, cut, &mut lines);
         tell_lines(&mut text, &lines)?;
         if let Some(fault) = fault {
-            tell_fault(&mut text, fault)?;
+            tell_fault(&mut text, fault, &reader)?;
         }
         if let Some(len) = text_len(&lines) {
             writeln!(text, "  packed {len}")?;
@@ -86,13 +94,14 @@ struct Written {
 impl Reading for Written {
     fn read(&self, octets: &[u8], cut: Cut) -> Result<Vec<u8>> {
         let mut sink = LineWriter::new(FromWrite::new(Vec::new(self.alloc)));
-        let fault = read_text(octets, cut, &mut sink);
+        let mut reader = TextReader::new();
+        let fault = read_text(&mut reader, octets, cut, &mut sink);
         let written = sink.into_writer().into_inner();
         let mut text = Vec::new(self.alloc);
         let written = Shown(written.as_slice());
         writeln!(text, "  {written}")?;
         if let Some(fault) = fault {
-            tell_fault(&mut text, fault)?;
+            tell_fault(&mut text, fault, &reader)?;
         }
         Ok(text)
     }
@@ -108,8 +117,9 @@ impl Reading for Counted {
     fn read(&self, octets: &[u8], cut: Cut) -> Result<Vec<u8>> {
         let mut count = WordCount::new();
         let mut text = Vec::new(self.alloc);
-        if let Some(fault) = read_text(octets, cut, &mut count) {
-            tell_fault(&mut text, fault)?;
+        let mut reader = TextReader::new();
+        if let Some(fault) = read_text(&mut reader, octets, cut, &mut count) {
+            tell_fault(&mut text, fault, &reader)?;
         }
         let words = count.words();
         writeln!(text, "  {words}")?;
@@ -136,10 +146,11 @@ struct AloneText;
 
 impl Class for AloneText {
     fn has(&self, number: u64) -> bool {
-        match u8::try_from(number) {
-            Ok(octet) => read_text(&[octet], Cut::Whole, &mut Discard).is_none(),
-            Err(_) => false,
-        }
+        let Ok(octet) = u8::try_from(number) else {
+            return false;
+        };
+        let mut reader = TextReader::new();
+        read_text(&mut reader, &[octet], Cut::Whole, &mut Discard).is_none()
     }
 }
 
@@ -152,8 +163,10 @@ impl Class for Between {
         let Ok(octet) = u8::try_from(number) else {
             return false;
         };
+        let mut reader = TextReader::new();
         let mut count = WordCount::new();
-        read_text(&[b'a', octet, b'b'], Cut::Whole, &mut count).is_none() && count.words() == 2
+        let text = [b'a', octet, b'b'];
+        read_text(&mut reader, &text, Cut::Whole, &mut count).is_none() && count.words() == 2
     }
 }
 
