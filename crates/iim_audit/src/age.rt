@@ -1,8 +1,9 @@
 //! How old an envelope is.
 
 ghost use Rattle.std.specs.Prelude.{◌≡◌, ◌-ℤ◌};
-ghost use Rattle.iim_audit.specs.Format.Ages.{whole_seconds, WholeSecondsAreFloors};
+ghost use Rattle.iim_audit.specs.Format.Ages.{age_at, whole_seconds, WholeSecondsAreFloors};
 
+use iim_fields::Envelope;
 use jiff::Timestamp;
 
 /// The nanoseconds of a second.
@@ -14,6 +15,13 @@ pub(crate) fn seconds_between(sent: Timestamp, now: Timestamp) -> i64
     ensures { result ≡ whole_seconds (now.nanosecond -ℤ sent.nanosecond) }
 {
     (now.as_nanosecond() - sent.as_nanosecond()).div_euclid(SECOND) as i64
+}
+
+/// How many whole seconds ago an envelope was sent; None where it names no instant.
+pub(crate) fn age_at(envelope: &Envelope, now: Timestamp) -> Option<i64>
+    ensures { result ≡ age_at now.nanosecond envelope.now }
+{
+    envelope.sent().map(|sent| seconds_between(sent, now))
 }
 
 /// Whole seconds are rounded down: they are the greatest whole number that is not above the exact one.

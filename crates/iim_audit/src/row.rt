@@ -8,7 +8,7 @@ ghost use Rattle.iim_unpack.specs.Format.Admitted.{Value};
 ghost use Rattle.iim_audit.specs.Taking.{IsTaken};
 ghost use Rattle.iim_audit.specs.Format.Rows.{row_with};
 
-use crate::age::seconds_between;
+use crate::age::age_at;
 use crate::copy::{CopyState, copy_at};
 use iim_fields::EnvelopeId;
 use iim_unpack::Unpacked;
@@ -69,10 +69,7 @@ pub(crate) fn row_of(got: &Taken, now: Timestamp, first: Option<u64>) -> AuditRo
         subfiles: unpacked.sizes.subfiles,
         announced: number_of(unpacked.head.words()),
         counted: got.words,
-        age: unpacked
-            .envelope
-            .sent()
-            .map(|sent| seconds_between(sent, now)),
+        age: age_at(&unpacked.envelope, now),
         first,
         copy: copy_at(&unpacked.envelope, now),
     }

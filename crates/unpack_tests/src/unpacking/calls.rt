@@ -1,10 +1,9 @@
 //! The calls that a sink gets.
 
-use super::feeding::text_of;
-use super::rule::refusal;
-use super::{LIMITS, SMALLEST, joined, story};
+use super::{LIMITS, SMALLEST, joined, refusal, story};
 use iim_dataset::Stop;
 use iim_unpack::{Cause, Layer, Progress, Unpacker};
+use std::alloc::{AllocError, Global};
 use std::test::Fail;
 use wire_story::{Lines, StorySink, TrialSink};
 
@@ -80,6 +79,16 @@ fn one_long_line(rt: HostRuntime) -> Result<(), Fail> {
     assert_eq!(rt; calls.count, 1);
     assert_eq!(rt; calls.first, [32_754, 0, 0, 0]);
     Ok(())
+}
+
+/// The lines, with an LF after each.
+fn text_of(alloc: Global, lines: &Lines) -> Result<Vec<u8>, AllocError> {
+    let mut text = Vec::new(alloc);
+    for line in lines.iter() {
+        text.extend_from_slice(line)?;
+        text.push(b'\n')?;
+    }
+    Ok(text)
 }
 
 /// At the first octet of the text, within a line, at the end of one, and before and within the next.

@@ -1,0 +1,62 @@
+//! Each layer and each cause, as they are printed.
+
+use iim_unpack::{Cause, Layer};
+use std::io::{self, Write};
+
+const LAYERS: [Layer; 7] = [
+    Layer::Dataset,
+    Layer::Record,
+    Layer::Limits,
+    Layer::Object,
+    Layer::Message,
+    Layer::Story,
+    Layer::Outside,
+];
+
+const CAUSES: [Cause; 26] = [
+    Cause::Marker,
+    Cause::CountForm,
+    Cause::Truncated,
+    Cause::RecordOrder,
+    Cause::UnknownDataset,
+    Cause::Repeated,
+    Cause::CountRange,
+    Cause::Missing,
+    Cause::BadValue,
+    Cause::FileFormat,
+    Cause::ModeClash,
+    Cause::SizeClash,
+    Cause::SubfileTooLong,
+    Cause::PastSize,
+    Cause::Short,
+    Cause::ConfirmedWrong,
+    Cause::BadOctet,
+    Cause::Unfinished,
+    Cause::LoneReturn,
+    Cause::ControlOctet,
+    Cause::HeaderFull,
+    Cause::TooManyFields,
+    Cause::TooManySubfiles,
+    Cause::Sink,
+    Cause::Failed,
+    Cause::OutOfMemory,
+];
+
+/// Prints each layer.
+pub fn print_layers<W: Write>(out: &mut W) -> io::Result<()> {
+    for layer in LAYERS {
+        let name = layer.name();
+        writeln!(out, "  {name}")?;
+    }
+    Ok(())
+}
+
+/// Prints each cause: its number and its name.
+pub fn print_causes<W: Write>(out: &mut W) -> io::Result<()> {
+    for cause in CAUSES {
+        let number = cause.number();
+        let name = cause.name();
+        writeln!(out, "  {number} {name}")?;
+    }
+    Ok(())
+}

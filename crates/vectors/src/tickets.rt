@@ -1,0 +1,176 @@
+//! Tickets of begun envelopes, as they are told.
+
+use crate::octets::Shown;
+use crate::values::{OrDash, print_field};
+use anyhow::Result;
+use iim_fields::Limits;
+use iim_unpack::{SaveFault, TicketFault, TicketParts, TicketPhase, Unpacker, split_ticket};
+use std::alloc::Global;
+use std::io::{self, Write};
+
+/// The number and the name of a fault.
+pub fn fault_name(fault: TicketFault) -> &'static str {
+    match fault {
+        TicketFault::Form => "100 TicketForm",
+        TicketFault::Version => "101 TicketVersion",
+        TicketFault::Impossible => "102 Impossible",
+        TicketFault::HeaderFull => "50 HeaderFull",
+        TicketFault::TooManyFields => "51 TooManyFields",
+        TicketFault::OutOfMemory => "70 OutOfMemory",
+    }
+}
+
+/// Octets in hexadecimal digits.
+fn print_hexadecimal<W: Write>(out: &mut W, octets: &[u8]) -> io::Result<()> {
+    write!(out, "  ")?;
+    for octet in octets {
+        write!(out, "{octet:02X}")?;
+    }
+    writeln!(out)
+}
+
+/// Prints the ticket of an unpacker, or why it has none; only `yes` where it is the one that was wanted.
+pub fn print_ticket<W: Write>(
+    out: &mut W,
+    alloc: Global,
+    unpacker: &Unpacker,
+    wanted: Option<&[u8]>,
+) -> Result<()> {
+    match unpacker.save(alloc) {
+        Ok(ticket) if wanted == Some(ticket.as_slice()) => writeln!(out, "  yes")?,
+        Ok(ticket) => print_hexadecimal(out, ticket.as_slice())?,
+        Err(SaveFault::Failed) => writeln!(out, "  61 Failed")?,
+        Err(SaveFault::OutOfMemory) => writeln!(out, "  70 OutOfMemory")?,
+    }
+    Ok(())
+}
+
+/// Restores a ticket and saves it again. Prints `restored`, and the ticket where it is not the one that was wanted; or the fault.
+pub fn print_restored<W: Write>(
+    out: &mut W,
+    alloc: Global,
+    limits: Limits,
+    ticket: &[u8],
+    wanted: &[u8],
+) -> Result<()> {
+    let unpacker = match Unpacker::restore(alloc, limits, ticket, 0) {
+        Ok(unpacker) => unpacker,
+        Err(fault) => {
+            let name = fault_name(fault);
+            writeln!(out, "  {name}")?;
+            return Ok(());
+        }
+    };
+    writeln!(out, "  restored")?;
+    if unpacker.is_failed() || unpacker.octets() != 0 {
+        writeln!(out, "  at another octet")?;
+    }
+    let again = unpacker.save(alloc)?;
+    if again.as_slice() != wanted {
+        print_hexadecimal(out, again.as_slice())?;
+    }
+    Ok(())
+}
+
+/// A ticket but for the number of octets of the object that have come.
+#[derive(Clone, Copy)]
+pub struct OpenTicket<'t> {
+    /// What comes before the number.
+    pub front: &'t [u8],
+    /// What comes after it.
+    pub back: &'t [u8],
+}
+
+impl OpenTicket<'_> {
+    /// Prints whether the ticket of a number is restored. The number has four octets in version 1, and eight in version 2.
+    pub fn print<W: Write>(
+        self,
+        out: &mut W,
+        alloc: Global,
+        limits: Limits,
+        number: u64,
+    ) -> Result<()> {
+        let octets = number.to_be_bytes();
+        let from = if self.front.get(4) == Some(&1) { 4 } else { 0 };
+        let mut ticket = Vec::new(alloc);
+        ticket.extend_from_slice(self.front)?;
+        ticket.extend_from_slice(octets.get(from..).unwrap_or(&[]))?;
+        ticket.extend_from_slice(self.back)?;
+        match Unpacker::restore(alloc, limits, ticket.as_slice(), 0) {
+            Ok(_) => writeln!(out, "  {number} restored")?,
+            Err(fault) => {
+                let name = fault_name(fault);
+                writeln!(out, "  {number} {name}")?;
+            }
+        }
+        Ok(())
+    }
+}
+
+/// Prints what is begun.
+fn print_phase<W: Write>(out: &mut W, phase: &TicketPhase) -> io::Result<()> {
+    match phase {
+        TicketPhase::Tag(held) => {
+            let held = Shown(held);
+            writeln!(out, "  tag {held}")
+        }
+        TicketPhase::Data {
+            set,
+            count,
+            left,
+            taken,
+        } => {
+            let taken = Shown(taken);
+            writeln!(out, "  data {set} count {count} left {left} taken {taken}")
+        }
+        TicketPhase::Ended => writeln!(out, "  ended"),
+    }
+}
+
+/// Prints the numbers of record 7, and what has come of the object.
+fn print_object<W: Write>(out: &mut W, parts: &TicketParts) -> io::Result<()> {
+    write!(out, "  numbers")?;
+    for number in parts.numbers {
+        let number = OrDash(number);
+        write!(out, " {number}")?;
+    }
+    let taken = parts.taken;
+    let heads = parts.heads;
+    writeln!(out, "\n  object {taken} octets, {heads} heads")
+}
+
+/// Prints what is told of the message.
+fn print_message<W: Write>(out: &mut W, parts: &TicketParts) -> io::Result<()> {
+    let part = parts.part;
+    let counter = parts.counter;
+    let flag = parts.flag;
+    writeln!(out, "  message part {part} counter {counter} flag {flag}")?;
+    write!(out, "  texts")?;
+    for text in parts.texts {
+        let text = Shown(text);
+        write!(out, " {text}")?;
+    }
+    writeln!(out)
+}
+
+/// Prints the parts of a ticket, or why it has none.
+pub fn print_parts<W: Write>(out: &mut W, ticket: &[u8]) -> Result<()> {
+    let mut parts = match split_ticket(ticket) {
+        Ok(parts) => parts,
+        Err(fault) => {
+            let name = fault_name(fault);
+            writeln!(out, "  {name}")?;
+            return Ok(());
+        }
+    };
+    let version = parts.version;
+    let section = parts.section;
+    writeln!(out, "  version {version} section {section}")?;
+    print_phase(out, &parts.phase)?;
+    while let Some((rec, set, octets)) = parts.fields.next() {
+        print_field(out, rec, set, octets)?;
+    }
+    print_object(out, &parts)?;
+    print_message(out, &parts)?;
+    Ok(())
+}
