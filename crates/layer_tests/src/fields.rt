@@ -1,15 +1,10 @@
-//! Records checked, envelopes built and viewed. What is expected is worked out from the format.
-
-mod building;
-mod causes;
-mod checks;
-mod views;
+//! Readers of records over the memory of an envelope, and where nothing is handed over; and the walks over an envelope.
 
 ghost use Rattle.std.specs.Prelude.{◌≢◌, length, OnOk};
 ghost use Rattle.iim_fields.specs.Format.Standing.{IsBetween, IsInside};
 
 use iim_dataset::Head;
-use iim_fields::{Envelope, EnvelopeBuilder, FieldCause, FieldFault, Fields, Limits};
+use iim_fields::{Envelope, EnvelopeBuilder, FieldFault, Fields, Limits};
 use std::process::Abort;
 use std::rt::HostRuntime;
 use std::test::Fail;
@@ -48,10 +43,6 @@ const SIZES: [(u8, u8, &[u8], Option<u64>); 5] = [
     (8, 10, &[b'a'; 50], None),
     (9, 10, b"\0\0\0\x32", Some(50)),
 ];
-
-fn fault(rec: u8, set: u8, cause: FieldCause) -> FieldFault {
-    FieldFault { rec, set, cause }
-}
 
 /// Gives all octets of the begun dataset, in one piece or one by one.
 fn give(fields: &mut Fields, head: Head, octets: &[u8], one_by_one: bool)
@@ -108,17 +99,16 @@ fn pass_fields(fields: &mut Fields, one_by_one: bool) -> Result<(), FieldFault>
     Ok(())
 }
 
-/// Passes the first `count` datasets of records 7, 8 and 9, each of which tells its number, and answers the first fault.
+/// Passes the datasets of records 7, 8 and 9, each of which tells its number, and answers the first fault.
 fn pass_sizes(
     rt: &impl Abort,
     fields: &mut Fields,
-    count: usize,
     one_by_one: bool,
 ) -> Result<(), FieldFault>
     requires { IsBetween fields.old }
     ensures { OnOk result (IsBetween fields.new) }
 {
-    for (rec, set, octets, number) in SIZES.into_iter().take(count) {
+    for (rec, set, octets, number) in SIZES {
         match pass(fields, rec, set, octets, one_by_one) {
             Ok(told) => assert_eq!(rt; told, number),
             Err(fault) => return Err(fault),
@@ -127,18 +117,13 @@ fn pass_sizes(
     Ok(())
 }
 
-/// Passes all datasets of the longer worked envelope but the last `last` of them.
-fn pass_all_but(
-    rt: &impl Abort,
-    fields: &mut Fields,
-    last: usize,
-    one_by_one: bool,
-) -> Result<(), FieldFault>
+/// Passes all datasets of the longer worked envelope.
+fn pass_all(rt: &impl Abort, fields: &mut Fields, one_by_one: bool) -> Result<(), FieldFault>
     requires { IsBetween fields.old }
     ensures { OnOk result (IsBetween fields.new) }
 {
     match pass_fields(fields, one_by_one) {
-        Ok(()) => pass_sizes(rt, fields, 5usize.saturating_sub(last), one_by_one),
+        Ok(()) => pass_sizes(rt, fields, one_by_one),
         Err(fault) => Err(fault),
     }
 }
@@ -155,65 +140,9 @@ fn handed_over(rt: &impl Abort, fields: Fields) -> Option<Envelope> {
 }
 
 #[test]
-fn all_datasets_are_taken(rt: HostRuntime) -> Result<(), Fail> {
-    for one_by_one in [false, true] {
-        let mut fields = Fields::new(rt.alloc(), LIMITS)?;
-        assert_eq!(rt; pass_all_but(&rt, &mut fields, 0, one_by_one), Ok(()));
-        assert!(rt; !fields.is_failed());
-        if let Some(envelope) = handed_over(&rt, fields) {
-            expect_fields(&rt, &envelope);
-        }
-    }
-    Ok(())
-}
-
-#[test]
-fn what_has_come_is_told(rt: HostRuntime) -> Result<(), Fail> {
-    let mut fields = Fields::new(rt.alloc(), LIMITS)?;
-    assert_eq!(rt; fields.section(), 0);
-    assert_eq!(rt; fields.begun_head(), None);
-    if let Err(fault) = pass_fields(&mut fields, false) {
-        assert!(rt; false, "{fault:?}");
-        return Ok(());
-    }
-    assert_eq!(rt; fields.section(), 2);
-    assert_eq!(rt; fields.begun_head(), None);
-    let mut kept = fields.kept();
-    for (rec, set, octets) in FIELDS {
-        assert!(rt; kept.next() == Some((rec, set, octets)));
-    }
-    assert!(rt; kept.next().is_none());
-    let head = Head {
-        rec: 7,
-        set: 20,
-        count: 4,
-    };
-    if let Ok(()) = fields.begin(head) {
-        fields.bytes(b"\x01\x02");
-        assert_eq!(rt; fields.begun(), b"\x01\x02".as_slice());
-        assert_eq!(rt; fields.section(), 7);
-        assert_eq!(rt; fields.begun_head(), Some(head));
-    }
-    Ok(())
-}
-
-#[test]
-fn limits_are_passed_by_one_more(rt: HostRuntime) -> Result<(), Fail> {
-    let rows = [
-        (65_536, 512, None),
-        (65_537, 513, Some(FieldCause::HeaderFull)),
-        (65_536, 513, Some(FieldCause::TooManyFields)),
-    ];
-    for (octets, fields, passed) in rows {
-        assert_eq!(rt; LIMITS.passed(octets, fields), passed);
-    }
-    Ok(())
-}
-
-#[test]
 fn the_memory_of_an_envelope_serves_the_next(rt: HostRuntime) -> Result<(), Fail> {
     let mut fields = Fields::new(rt.alloc(), LIMITS)?;
-    assert_eq!(rt; pass_all_but(&rt, &mut fields, 0, false), Ok(()));
+    assert_eq!(rt; pass_all(&rt, &mut fields, false), Ok(()));
     let Some(envelope) = handed_over(&rt, fields) else {
         return Ok(());
     };
@@ -231,9 +160,10 @@ fn the_memory_of_an_envelope_serves_the_next(rt: HostRuntime) -> Result<(), Fail
         assert!(rt; false, "there is room");
         return Ok(());
     };
-    assert_eq!(rt; pass_all_but(&rt, &mut fields, 0, true), Ok(()));
+    assert_eq!(rt; pass_all(&rt, &mut fields, true), Ok(()));
     if let Some(envelope) = handed_over(&rt, fields) {
         expect_fields(&rt, &envelope);
+        expect_titles(&rt, &envelope);
     }
     Ok(())
 }
@@ -250,97 +180,22 @@ fn the_reader_continues_where_nothing_is_handed_over(rt: HostRuntime) -> Result<
         assert!(rt; false);
         return Ok(());
     };
-    assert_eq!(rt; pass_sizes(&rt, &mut fields, 5, false), Ok(()));
+    assert_eq!(rt; pass_sizes(&rt, &mut fields, false), Ok(()));
     let Some(read) = handed_over(&rt, fields) else {
         return Ok(());
     };
     let mut builder = EnvelopeBuilder::new(rt.alloc(), LIMITS)?;
-    assert_eq!(rt; add_fields(&mut builder, 0, 0), Ok(()));
+    assert_eq!(rt; add_fields(&mut builder), Ok(()));
     if let Some(built) = finished(&rt, builder) {
         assert!(rt; read.same(&built));
     }
     Ok(())
 }
 
-#[test]
-fn nothing_is_handed_over_inside_the_last_dataset(rt: HostRuntime) -> Result<(), Fail> {
-    let mut fields = Fields::new(rt.alloc(), LIMITS)?;
-    if let Err(fault) = pass_all_but(&rt, &mut fields, 1, false) {
-        assert!(rt; false, "{fault:?}");
-        return Ok(());
-    }
-    let head = Head {
-        rec: 9,
-        set: 10,
-        count: 4,
-    };
-    assert_eq!(rt; fields.begin(head), Ok(()));
-    match fields.into_envelope() {
-        Ok(_) => assert!(rt; false),
-        Err(fields) => assert!(rt; !fields.is_failed()),
-    }
-    Ok(())
-}
-
-#[test]
-fn a_failed_reader_hands_nothing_over(rt: HostRuntime) -> Result<(), Fail> {
-    let mut fields = Fields::new(rt.alloc(), LIMITS)?;
-    if let Err(fault) = pass_all_but(&rt, &mut fields, 0, false) {
-        assert!(rt; false, "{fault:?}");
-        return Ok(());
-    }
-    let again = fault(9, 10, FieldCause::Repeated);
-    assert_eq!(rt; pass(&mut fields, 9, 10, b"\0\0\0\x32", false), Err(again));
-    match fields.into_envelope() {
-        Ok(_) => assert!(rt; false),
-        Err(fields) => {
-            assert!(rt; fields.is_failed());
-            assert_eq!(rt; fields.begun_head(), None);
-        }
-    }
-    Ok(())
-}
-
-#[test]
-fn limits_are_exact(rt: HostRuntime) -> Result<(), Fail> {
-    let rows = [
-        (78, 16, Ok(())),
-        (77, 16, Err(fault(2, 250, FieldCause::HeaderFull))),
-        (78, 15, Err(fault(2, 250, FieldCause::TooManyFields))),
-        (77, 15, Err(fault(2, 250, FieldCause::HeaderFull))),
-    ];
-    for (octets, fields, want) in rows {
-        let limits = Limits { octets, fields };
-        for one_by_one in [false, true] {
-            let mut fields = Fields::new(rt.alloc(), limits)?;
-            assert_eq!(rt; pass_fields(&mut fields, one_by_one), want);
-            assert_eq!(rt; fields.is_failed(), want.is_err());
-        }
-        let mut builder = EnvelopeBuilder::new(rt.alloc(), limits)?;
-        assert_eq!(rt; add_fields(&mut builder, 0, 0), want);
-    }
-    Ok(())
-}
-
-/// Adds the first `count` of these fields, or all where they are fewer, and answers the first fault.
-fn add_some(
-    builder: &mut EnvelopeBuilder,
-    fields: &[(u8, u8, &'static [u8])],
-    count: usize,
-) -> Result<(), FieldFault> {
-    for (rec, set, octets) in fields.iter().take(count) {
-        builder.add(*rec, *set, octets)?;
-    }
-    Ok(())
-}
-
-/// Adds the fields but those of this record and number, and answers the first fault.
-fn add_fields(builder: &mut EnvelopeBuilder, rec: u8, set: u8) -> Result<(), FieldFault> {
-    for (field_rec, field_set, octets) in FIELDS {
-        if field_rec == rec && field_set == set {
-            continue;
-        }
-        if let Err(fault) = builder.add(field_rec, field_set, octets) {
+/// Adds the fields, and answers the first fault.
+fn add_fields(builder: &mut EnvelopeBuilder) -> Result<(), FieldFault> {
+    for (rec, set, octets) in FIELDS {
+        if let Err(fault) = builder.add(rec, set, octets) {
             return Err(fault);
         }
     }
@@ -371,4 +226,17 @@ fn expect_fields(rt: &impl Abort, envelope: &Envelope) {
         }
     }
     assert!(rt; fields.next().is_none());
+}
+
+/// The envelope has the titles of the longer worked one, in order.
+fn expect_titles(rt: &impl Abort, envelope: &Envelope) {
+    let mut titles = envelope.byline_titles();
+    for want in [b"Editor", b"Writer"] {
+        match titles.next() {
+            Some(octets) => assert_eq!(rt; octets, want.as_slice()),
+            None => assert!(rt; false),
+        }
+    }
+    assert!(rt; titles.next().is_none());
+    assert!(rt; titles.next().is_none());
 }

@@ -13,5 +13,3 @@ mod messages;
 mod objects;
 #[cfg(test)]
 mod stories;
-#[cfg(test)]
-mod tables;

@@ -1,4 +1,4 @@
-//! Texts read in pieces, collected and written. What is expected is worked out from the format.
+//! Sinks of stories that count calls, stop, and write to devices that fail.
 
 ghost use Rattle.std.specs.Prelude.{◌≡◌, ◌++◌, OnOk};
 ghost use Rattle.wire_story.specs.Format.Texts.{AreLines};
@@ -7,14 +7,9 @@ ghost use Rattle.wire_story.specs.Format.Delivery.{delivered};
 use iim_dataset::{Stop, TrialWriter, Trouble};
 use std::alloc::Global;
 use std::process::Abort;
-use std::test::Fail;
 use wire_story::{
-    Discard, LINE_END, LineWriter, Lines, StorySink, TextCause, TextFault, TextReader, TrialSink,
-    WordCount, is_text, text_len,
+    LineWriter, Lines, StorySink, TextCause, TextFault, TextReader, TrialSink, is_text, text_len,
 };
-
-/// Four lines, with each of the line ends.
-const FOUR: &[u8] = b"a\nb\r\nc\r\r\nd";
 
 /// A story of two lines.
 const RATES: &[u8] = b"Rates stay.\r\nNo change.";
@@ -73,17 +68,10 @@ fn read_by_octets<S: StorySink>(text: &[u8], sink: &mut S) -> Result<(), TextFau
     reader.close()
 }
 
-/// How a text is cut into runs.
-#[derive(Clone, Copy)]
-enum Cut {
-    At(usize),
-    EachOctet,
-}
-
 /// Reads a text into lines. Where a growth is refused it reads once more, so that each test bears a refusal.
-fn read_lines(alloc: Global, text: &[u8], cut: Cut) -> (Lines, Result<(), TextFault>) {
+fn read_lines(alloc: Global, text: &[u8]) -> (Lines, Result<(), TextFault>) {
     let mut lines = Lines::new(alloc);
-    let mut answer = read_cut(text, cut, &mut lines);
+    let mut answer = read_in_two(text, b"", &mut lines);
     if let Err(
         TextFault {
             taken: _,
@@ -92,16 +80,9 @@ fn read_lines(alloc: Global, text: &[u8], cut: Cut) -> (Lines, Result<(), TextFa
     ) = answer
     {
         lines = Lines::new(alloc);
-        answer = read_cut(text, cut, &mut lines);
+        answer = read_in_two(text, b"", &mut lines);
     }
     (lines, answer)
-}
-
-fn read_cut<S: StorySink>(text: &[u8], cut: Cut, sink: &mut S) -> Result<(), TextFault> {
-    match cut {
-        Cut::At(at) if at <= text.len() => read_in_two(&text[..at], &text[at..], sink),
-        _ => read_by_octets(text, sink),
-    }
 }
 
 /// Whether the lines are those.
@@ -114,68 +95,6 @@ fn has_lines(lines: &Lines, want: &[&[u8]]) -> bool {
         }
     }
     left.next().is_none()
-}
-
-#[test]
-fn line_ends_of_each_form(rt: HostRuntime) {
-    let want = [
-        b"a".as_slice(),
-        b"b".as_slice(),
-        b"c".as_slice(),
-        b"d".as_slice(),
-    ];
-    let (lines, answer) = read_lines(rt.alloc(), FOUR, Cut::EachOctet);
-    assert_eq!(rt; answer, Ok(()));
-    assert!(rt; has_lines(&lines, &want));
-    assert_eq!(rt; text_len(&lines), Some(10));
-    for at in 0..=FOUR.len() {
-        let (lines, answer) = read_lines(rt.alloc(), FOUR, Cut::At(at));
-        assert_eq!(rt; answer, Ok(()), "at {at}");
-        assert!(rt; has_lines(&lines, &want), "at {at}");
-    }
-}
-
-#[test]
-fn refused_texts(rt: HostRuntime) {
-    let texts = [
-        (b"a\r\r\r".as_slice(), 3, TextCause::LoneReturn),
-        (b"a\x02".as_slice(), 1, TextCause::ControlOctet),
-        (b"a\r\x03".as_slice(), 2, TextCause::LoneReturn),
-        (b"a\r\x01".as_slice(), 2, TextCause::LoneReturn),
-    ];
-    for (text, taken, cause) in texts {
-        for (cut, taken) in [(Cut::At(0), taken), (Cut::EachOctet, 0)] {
-            let (lines, answer) = read_lines(rt.alloc(), text, cut);
-            assert_eq!(rt; answer, Err(TextFault { taken, cause }));
-            assert!(rt; has_lines(&lines, &[b"a".as_slice()]));
-        }
-    }
-    let mut reader = TextReader::new();
-    assert!(rt; !reader.is_failed());
-    assert_eq!(rt; reader.run(b"a\r", &mut Discard), Ok(()));
-    assert_eq!(rt;
-        reader.close(),
-        Err(TextFault {
-            taken: 0,
-            cause: TextCause::LoneReturn
-        })
-    );
-    assert!(rt; reader.is_failed());
-}
-
-#[test]
-fn lines_filled_and_read(rt: HostRuntime) {
-    let rows: [(&[u8], Cut, &[&[u8]], u64); 3] = [
-        (b"", Cut::At(0), &[b""], 0),
-        (RATES, Cut::At(0), &[b"Rates stay.", b"No change."], 23),
-        (b"\n\n", Cut::EachOctet, &[b"", b"", b""], 4),
-    ];
-    for (text, cut, want, octets) in rows {
-        let (lines, answer) = read_lines(rt.alloc(), text, cut);
-        assert_eq!(rt; answer, Ok(()));
-        assert!(rt; has_lines(&lines, want));
-        assert_eq!(rt; text_len(&lines), Some(octets));
-    }
 }
 
 #[test]
@@ -205,7 +124,7 @@ fn a_long_run_is_passed_on_whole(rt: HostRuntime) {
         calls: _,
         octets: _,
     } = calls;
-    let (lines, answer) = read_lines(rt.alloc(), &line, Cut::At(0));
+    let (lines, answer) = read_lines(rt.alloc(), &line);
     assert_eq!(rt; answer, Ok(()));
     assert!(rt; has_lines(&lines, &[line.as_slice()]));
 }
@@ -242,11 +161,7 @@ fn lines_bear_refused_growths(rt: HostRuntime) {
 }
 
 #[test]
-fn lines_written(rt: HostRuntime) {
-    let target: TrialWriter<16> = TrialWriter::new(100, Trouble::Failure);
-    let mut sink = LineWriter::new(target);
-    assert_eq!(rt; read_in_two(FOUR, b"", &mut sink), Ok(()));
-    assert_eq!(rt; sink.into_writer().octets(), b"a\nb\nc\nd".as_slice());
+fn lines_are_written_past_interruptions(rt: HostRuntime) {
     let target: TrialWriter<32> = TrialWriter::new(5, Trouble::Interruptions(3));
     let mut sink = LineWriter::new(target);
     assert_eq!(rt; read_by_octets(RATES, &mut sink), Ok(()));
@@ -282,53 +197,6 @@ fn writes_that_fail(rt: HostRuntime) {
     assert_eq!(rt; sink.text(b"abcd"), Err(Stop { taken: 3 }));
     assert_eq!(rt; sink.line_end(), Err(Stop { taken: 0 }));
     assert_eq!(rt; sink.into_writer().octets(), b"abc".as_slice());
-}
-
-#[test]
-fn octets_that_may_stand(rt: HostRuntime) -> Result<(), Fail> {
-    for octet in 0..=255 {
-        let octet = u8::try_from(octet)?;
-        let want = ![1, 2, 3, 4, 10, 13].contains(&octet);
-        assert_eq!(rt; is_text(&[octet]), want, "at {octet}");
-    }
-    assert!(rt; is_text(b""));
-    assert!(rt; is_text(b"na\xefve \x00\x7f\xff"));
-    assert!(rt; !is_text(b"two\nlines"));
-    assert_eq!(rt; LINE_END, [13, 10]);
-    Ok(())
-}
-
-/// How many words are counted in a text, or None where it is refused.
-fn words_in(text: &[u8], cut: Cut) -> Option<u64> {
-    let mut count = WordCount::new();
-    match read_cut(text, cut, &mut count) {
-        Ok(()) => Some(count.words()),
-        Err(_) => None,
-    }
-}
-
-#[test]
-fn words_counted(rt: HostRuntime) {
-    let texts = [
-        (b"".as_slice(), 0),
-        (b"word".as_slice(), 1),
-        (RATES, 4),
-        (FOUR, 4),
-        (b"\n\n".as_slice(), 0),
-        (b"a\n\nb".as_slice(), 2),
-        (b" \t two  words\t".as_slice(), 2),
-        (b"tab\tis\tno word".as_slice(), 4),
-        (b"na\xefve\x00\x7f,\x0b-".as_slice(), 1),
-        (b"ends \r\n begins".as_slice(), 2),
-        (b"cut\r\nhere".as_slice(), 2),
-    ];
-    for (text, want) in texts {
-        for at in 0..=text.len() {
-            assert_eq!(rt; words_in(text, Cut::At(at)), Some(want), "at {at}");
-        }
-        assert_eq!(rt; words_in(text, Cut::EachOctet), Some(want));
-    }
-    assert_eq!(rt; words_in(&long_line(), Cut::At(20_000)), Some(1));
 }
 
 #[test]
@@ -373,15 +241,4 @@ fn stops_of_the_other_sink_are_counted(rt: HostRuntime) {
     assert_eq!(rt; sink.line_end(), Err(Stop { taken: 0 }));
     assert_eq!(rt; sink.failures(), 2);
     assert_eq!(rt; sink.into_sink().into_writer().octets(), b"ab".as_slice());
-}
-
-#[test]
-fn a_reader_holds_two_returns_at_most(rt: HostRuntime) -> Result<(), Fail> {
-    for held in [0, 1, 2, 3, 255] {
-        match TextReader::at(held) {
-            Some(reader) => assert_eq!(rt; (reader.held(), held <= 2), (held, true)),
-            None => assert!(rt; held > 2),
-        }
-    }
-    Ok(())
 }

@@ -8,19 +8,27 @@
 mod auditing;
 mod causes;
 mod cuts;
+mod datasets;
 mod intakes;
+mod messages;
+mod objects;
 mod octets;
 mod packing;
+mod readings;
+mod records;
 mod scripts;
+mod stories;
 mod streams;
 mod tables;
 mod tickets;
 mod unpacking;
 mod values;
+mod views;
 
 use anyhow::{Result, bail};
 use octets::{Names, Words};
 use packing::Packing;
+use records::Envelopes;
 use std::alloc::Global;
 use std::io::{self, BufRead, BufReader, BufWriter, Write};
 use unpacking::Bench;
@@ -32,6 +40,7 @@ struct Vectors {
     names: Names,
     bench: Bench,
     packing: Packing,
+    records: Envelopes,
 }
 
 impl Vectors {
@@ -41,6 +50,7 @@ impl Vectors {
             names: Names::new(alloc),
             bench: Bench::new(alloc)?,
             packing: Packing::new(alloc),
+            records: Envelopes::new(alloc),
         })
     }
 
@@ -51,7 +61,7 @@ impl Vectors {
         let is_known = match word {
             b"let" => self.names.name(&mut words)?,
             _ => {
-                tables::answer(out, &self.names, word, &mut words)?
+                self.answer_layers(out, word, &mut words)?
                     || self.bench.answer(out, &self.names, word, &mut words)?
                     || auditing::answer(out, self.alloc, &self.names, word, &mut words)?
                     || self.packing.answer(out, &self.names, word, &mut words)?
@@ -61,6 +71,24 @@ impl Vectors {
             bail!("no such word");
         }
         words.end()
+    }
+
+    /// Answers the words of the layers below the unpacker; false where the word is none of them.
+    fn answer_layers<W: Write>(
+        &mut self,
+        out: &mut W,
+        word: &[u8],
+        words: &mut Words,
+    ) -> Result<bool> {
+        let names = &self.names;
+        Ok(
+            tables::answer(out, self.alloc, names, word, words)?
+                || datasets::answer(out, self.alloc, names, word, words)?
+                || self.records.answer(out, names, word, words)?
+                || objects::answer(out, self.alloc, names, word, words)?
+                || stories::answer(out, self.alloc, names, word, words)?
+                || messages::answer(out, self.alloc, names, word, words)?,
+        )
     }
 }
 

@@ -1,26 +1,268 @@
-//! Rows, kinds, numbers, dates and instants.
+//! Rows, kinds, numbers, dates and instants, and the causes by their numbers.
 
 use crate::octets::{Names, Words};
-use anyhow::Result;
-use iim_tables::number_of;
+use crate::readings::{Class, Digits, print_class};
+use anyhow::{Result, bail};
+use iim_dataset::{DatasetName, push_shown};
+use iim_object::{PackCause, SizeCause};
+use iim_tables::{Duty, Kind, Row, admits, date_of, instant_of, number_of, row};
+use iim_unpack::{Cause, Layer};
+use std::alloc::Global;
+use std::fmt::Display;
 use std::io::Write;
 
-/// Answers the words of the tables; false where the word is none of them.
-pub fn answer<W: Write>(
+/// The greatest number of octets that `lengths` tries.
+const MOST_OCTETS: usize = 10_000;
+
+/// The kind of this name.
+fn kind_of(word: &[u8]) -> Result<Kind> {
+    Ok(match word {
+        b"Graphic" => Kind::Graphic,
+        b"Spaced" => Kind::Spaced,
+        b"SpacedLines" => Kind::SpacedLines,
+        b"Letters" => Kind::Letters,
+        b"Digits" => Kind::Digits,
+        b"Date" => Kind::Date,
+        b"PartDate" => Kind::PartDate,
+        b"Time" => Kind::Time,
+        b"Binary" => Kind::Binary,
+        b"Octets" => Kind::Octets,
+        b"Mode" => Kind::Mode,
+        b"Size" => Kind::Size,
+        b"SizeFromOne" => Kind::SizeFromOne,
+        _ => bail!("no such kind"),
+    })
+}
+
+/// The values of one octet that a kind has.
+#[derive(Drop)]
+struct Alone {
+    row: Row,
+}
+
+impl Class for Alone {
+    fn has(&self, number: u64) -> bool {
+        match u8::try_from(number) {
+            Ok(octet) => admits(&self.row, &[octet]),
+            Err(_) => false,
+        }
+    }
+}
+
+/// Prints the octets that alone are a value of the kind.
+fn print_kind<W: Write>(out: &mut W, kind: Kind) -> Result<()> {
+    let row = Row {
+        min: 1,
+        max: 1,
+        kind,
+        duty: Duty::Optional,
+        repeats: false,
+    };
+    print_class(out, &Alone { row }, 255, Digits::Octets)
+}
+
+/// How many of some octets a row admits, from the first.
+#[derive(Drop)]
+struct Lengths<'o> {
+    row: Row,
+    octets: &'o [u8],
+}
+
+impl Class for Lengths<'_> {
+    fn has(&self, number: u64) -> bool {
+        match self.octets.get(..number as usize) {
+            Some(octets) => admits(&self.row, octets),
+            None => false,
+        }
+    }
+}
+
+/// Prints how many octets of a sample, over and over, the row admits.
+fn print_lengths<W: Write>(out: &mut W, alloc: Global, row: Row, sample: &[u8]) -> Result<()> {
+    let octets: Vec<u8> = sample
+        .iter()
+        .copied()
+        .cycle()
+        .take(MOST_OCTETS)
+        .collect(alloc)?;
+    let class = Lengths {
+        row,
+        octets: octets.as_slice(),
+    };
+    print_class(out, &class, MOST_OCTETS as u64, Digits::Decimal)
+}
+
+/// Prints the rows of a record, those in a row that are the same as one.
+fn print_rows<W: Write>(out: &mut W, rec: u8) -> Result<()> {
+    let mut first = 0;
+    let mut is_none = true;
+    for set in 0..=255u8 {
+        let found = row(rec, set);
+        if set < 255 && row(rec, set.saturating_add(1)) == found {
+            continue;
+        }
+        if let Some(row) = found {
+            print_row(out, rec, first, set, row)?;
+            is_none = false;
+        }
+        first = set.saturating_add(1);
+    }
+    if is_none {
+        writeln!(out, "  none")?;
+    }
+    Ok(())
+}
+
+/// Prints the row of the numbers from first to last.
+fn print_row<W: Write>(out: &mut W, rec: u8, first: u8, last: u8, row: Row) -> Result<()> {
+    let name = DatasetName { rec, set: first };
+    write!(out, "  {name}")?;
+    if first != last {
+        let name = DatasetName { rec, set: last };
+        write!(out, "..{name}")?;
+    }
+    let Row {
+        min,
+        max,
+        kind,
+        duty,
+        repeats,
+    } = row;
+    let repeats = if repeats { "repeats" } else { "once" };
+    writeln!(out, " {min}..{max} {kind:?} {duty:?} {repeats}")?;
+    Ok(())
+}
+
+/// Prints a value, or `none`.
+pub fn print_found<W: Write, T: Display + Drop>(out: &mut W, found: Option<T>) -> Result<()> {
+    match found {
+        Some(value) => writeln!(out, "  {value}")?,
+        None => writeln!(out, "  none")?,
+    }
+    Ok(())
+}
+
+/// Prints whether something holds.
+pub fn print_truth<W: Write>(out: &mut W, holds: bool) -> Result<()> {
+    let word = if holds { "yes" } else { "no" };
+    writeln!(out, "  {word}")?;
+    Ok(())
+}
+
+/// Each cause of the sizes of an object.
+const SIZE_CAUSES: [SizeCause; 6] = [
+    SizeCause::ModeClash,
+    SizeCause::SizeClash,
+    SizeCause::SubfileTooLong,
+    SizeCause::PastSize,
+    SizeCause::Short,
+    SizeCause::ConfirmedWrong,
+];
+
+/// Each cause of a packer.
+const PACK_CAUSES: [PackCause; 7] = [
+    PackCause::OutOfMemory,
+    PackCause::PastAnnounced,
+    PackCause::ShortOfAnnounced,
+    PackCause::BadTextOctet,
+    PackCause::BadTrailer,
+    PackCause::Write,
+    PackCause::Failed,
+];
+
+/// Prints each cause of the sizes of an object with its number.
+fn print_size_causes<W: Write>(out: &mut W) -> Result<()> {
+    for cause in SIZE_CAUSES {
+        let number = cause.number();
+        writeln!(out, "  {number} {cause:?}")?;
+    }
+    Ok(())
+}
+
+/// Prints each cause of a packer with its number.
+fn print_pack_causes<W: Write>(out: &mut W) -> Result<()> {
+    for cause in PACK_CAUSES {
+        let number = cause.number();
+        writeln!(out, "  {number} {cause:?}")?;
+    }
+    Ok(())
+}
+
+/// Prints octets as they are shown.
+fn print_shown<W: Write>(out: &mut W, alloc: Global, octets: &[u8]) -> Result<()> {
+    let mut text = Vec::new(alloc);
+    push_shown(&mut text, octets)?;
+    write!(out, "  ")?;
+    out.write_all(text.as_slice())?;
+    writeln!(out)?;
+    Ok(())
+}
+
+/// The row that the next two words name.
+fn named_row(words: &mut Words) -> Result<Row> {
+    let rec = words.octet()?;
+    let set = words.octet()?;
+    match row(rec, set) {
+        Some(row) => Ok(row),
+        None => bail!("no such row"),
+    }
+}
+
+/// Prints the row that the next two words name.
+fn print_named<W: Write>(out: &mut W, words: &mut Words) -> Result<()> {
+    let rec = words.octet()?;
+    let set = words.octet()?;
+    match row(rec, set) {
+        Some(row) => print_row(out, rec, set, set, row),
+        None => print_found::<W, u8>(out, None),
+    }
+}
+
+/// Answers the words of rows and kinds; false where the word is none of them.
+fn answer_rows<W: Write>(
     out: &mut W,
+    alloc: Global,
     names: &Names,
     word: &[u8],
     words: &mut Words,
 ) -> Result<bool> {
     match word {
-        b"number" => {
-            let octets = words.octets(names)?;
-            match number_of(octets.as_slice()) {
-                Some(number) => writeln!(out, "  {number}")?,
-                None => writeln!(out, "  none")?,
-            }
+        b"row" => print_named(out, words)?,
+        b"rows" => print_rows(out, words.octet()?)?,
+        b"kind" => print_kind(out, kind_of(words.word()?)?)?,
+        b"admits" => {
+            let row = named_row(words)?;
+            print_truth(out, admits(&row, words.octets(names)?.as_slice()))?;
+        }
+        b"lengths" => {
+            let row = named_row(words)?;
+            print_lengths(out, alloc, row, words.octets(names)?.as_slice())?;
         }
         _ => return Ok(false),
+    }
+    Ok(true)
+}
+
+/// Answers the words of the tables; false where the word is none of them.
+pub fn answer<W: Write>(
+    out: &mut W,
+    alloc: Global,
+    names: &Names,
+    word: &[u8],
+    words: &mut Words,
+) -> Result<bool> {
+    match word {
+        b"number" => print_found(out, number_of(words.octets(names)?.as_slice()))?,
+        b"date" => print_found(out, date_of(words.octets(names)?.as_slice()))?,
+        b"instant" => {
+            let date = words.octets(names)?;
+            let time = words.octets(names)?;
+            print_found(out, instant_of(date.as_slice(), time.as_slice()))?;
+        }
+        b"shown" => print_shown(out, alloc, words.octets(names)?.as_slice())?,
+        b"size_causes" => print_size_causes(out)?,
+        b"pack_causes" => print_pack_causes(out)?,
+        _ => return answer_rows(out, alloc, names, word, words),
     }
     Ok(true)
 }

@@ -1,4 +1,4 @@
-//! Datasets read in one piece, in two, and octet by octet.
+//! Sinks of datasets that stop, and octets after the dataset that a sink called the last.
 
 ghost use Rattle.std.specs.Prelude.{⊤};
 ghost use Rattle.iim_dataset.specs.Format.Reading.{TakesCalls};
@@ -141,27 +141,6 @@ fn read(
     (reader, answer)
 }
 
-#[test]
-fn datasets_in_any_cut(rt: HostRuntime) {
-    for cut in 0..LENGTH {
-        let mut reader = HeadReader::new();
-        let mut sink = Recorder::new(11);
-        let (front, rest) = STREAM.split_at(cut);
-        assert_eq!(rt; reader.feed(front, &mut sink), Ok(cut));
-        assert_eq!(rt;
-            reader.feed(rest, &mut sink),
-            Ok(LENGTH - cut),
-            "cut at {cut}"
-        );
-        assert_eq!(rt; sink.record.as_slice(), RECORD, "cut at {cut}");
-        assert_eq!(rt; (reader.is_failed(), reader.named()), (false, (0, 0)));
-    }
-    let mut sink = Recorder::new(11);
-    let (_, answer) = read(&rt, STREAM, true, &mut sink);
-    assert_eq!(rt; answer, Ok(LENGTH));
-    assert_eq!(rt; sink.record.as_slice(), RECORD);
-}
-
 /// No tag begins with the octet after these.
 const fn no_tag_after(used: usize) -> Result<usize, Fault> {
     Err(Fault {
@@ -197,42 +176,6 @@ fn octets_after_the_last_dataset(rt: HostRuntime) {
     assert!(rt; reader.is_failed());
 }
 
-#[test]
-fn longest_runs(rt: HostRuntime) {
-    let mut reader = HeadReader::new();
-    let mut sink = Recorder::new(11);
-    assert_eq!(rt; reader.feed(STREAM, &mut sink), Ok(LENGTH));
-    assert_eq!(rt; sink.runs, 2);
-}
-
-/// Octets with which no tag can continue: the cause, the octet, and the numbers that were read.
-const NO_TAGS: [(&[u8], FaultCause, usize, (u8, u8)); 6] = [
-    (b"\x1d\x01", FaultCause::Marker, 0, (0, 0)),
-    (b"\x1c\x01\x00\x80\x00", FaultCause::CountForm, 4, (1, 0)),
-    (b"\x1c\x01\x00\x80\x05", FaultCause::CountForm, 4, (1, 0)),
-    (b"\x1c\x02\x69\x81\x01", FaultCause::CountForm, 3, (2, 0x69)),
-    (
-        b"\x1c\x01\x1e\x00\x01T\x1c\x02\x05\xff",
-        FaultCause::CountForm,
-        9,
-        (2, 5),
-    ),
-    (b"\x1c\x01\x1e\x00\x01Tx", FaultCause::Marker, 6, (0, 0)),
-];
-
-#[test]
-fn no_tag_continues(rt: HostRuntime) {
-    for (octets, cause, used, named) in NO_TAGS {
-        for one_by_one in [false, true] {
-            let mut sink = Recorder::new(11);
-            let (reader, answer) = read(&rt, octets, one_by_one, &mut sink);
-            assert_eq!(rt; answer, Err(Fault { cause, used }), "{octets:?}");
-            let stands = (reader.is_failed(), reader.named());
-            assert_eq!(rt; stands, (true, named), "{octets:?}");
-        }
-    }
-}
-
 /// The sink stops at this event, which octet `used` completes, after this much of the record.
 fn expect_stop(rt: &impl Abort, event: usize, used: usize, recorded: usize) {
     let stop = Err(Fault {
@@ -253,25 +196,5 @@ fn expect_stop(rt: &impl Abort, event: usize, used: usize, recorded: usize) {
 fn sinks_that_stop(rt: HostRuntime) {
     for (event, (used, recorded)) in COMPLETED_AT.into_iter().zip(RECORDED).enumerate() {
         expect_stop(&rt, event, used, recorded);
-    }
-}
-
-#[test]
-fn numbers_of_the_begun_dataset(rt: HostRuntime) {
-    let rows = [
-        (0, (0, 0)),
-        (1, (0, 0)),
-        (2, (2, 0)),
-        (3, (2, 5)),
-        (6, (2, 5)),
-        (7, (2, 5)),
-        (8, (0, 0)),
-    ];
-    for (fed, named) in rows {
-        let mut reader = HeadReader::new();
-        let mut sink = Recorder::new(11);
-        let (octets, _) = STREAM[8..].split_at(fed);
-        assert_eq!(rt; reader.feed(octets, &mut sink), Ok(fed));
-        assert_eq!(rt; reader.named(), named, "after {fed}");
     }
 }

@@ -5,26 +5,6 @@ use iim_object::{PackCause, Plan, Size, SubfileBuffer, SubfileWriter};
 use std::alloc::Global;
 use std::process::Abort;
 
-/// The object of the worked envelope without a text, 14 octets.
-const SHORT: &[u8] = b"\x01X1 4 N 0\r\n\x02\x03\x04";
-
-/// Records 7, 8 and 9 of it, in subfiles of 1,024 octets at most.
-const SHORT_OUT: &[u8] = b"\x1C\x07\x0A\x00\x01\x01\
-\x1C\x07\x14\x00\x04\x00\x00\x04\x00\
-\x1C\x07\x5A\x00\x04\x00\x00\x00\x0E\
-\x1C\x08\x0A\x00\x0E\x01X1 4 N 0\r\n\x02\x03\x04\
-\x1C\x09\x0A\x00\x04\x00\x00\x00\x0E";
-
-/// The object of the worked envelope with two lines, 50 octets.
-const LONG: &[u8] = b"\x01TST0007 4 ECO 5 rates\r\n\x02Rates stay.\r\nNo change.\x03\x04";
-
-/// Records 7, 8 and 9 of it, in subfiles of 1,024 octets at most.
-const LONG_OUT: &[u8] = b"\x1C\x07\x0A\x00\x01\x01\
-\x1C\x07\x14\x00\x04\x00\x00\x04\x00\
-\x1C\x07\x5A\x00\x04\x00\x00\x00\x32\
-\x1C\x08\x0A\x00\x32\x01TST0007 4 ECO 5 rates\r\n\x02Rates stay.\r\nNo change.\x03\x04\
-\x1C\x09\x0A\x00\x04\x00\x00\x00\x32";
-
 /// Three octets in subfiles of two, where no size is known but a maximum.
 const SMALL_OUT: &[u8] = b"\x1C\x07\x0A\x00\x01\x00\
 \x1C\x07\x14\x00\x04\x00\x00\x00\x02\
@@ -32,12 +12,6 @@ const SMALL_OUT: &[u8] = b"\x1C\x07\x0A\x00\x01\x00\
 \x1C\x08\x0A\x00\x02ab\
 \x1C\x08\x0A\x00\x01c\
 \x1C\x09\x0A\x00\x04\x00\x00\x00\x03";
-
-/// No octets, of which no size is known: one empty subfile.
-const EMPTY_OUT: &[u8] = b"\x1C\x07\x0A\x00\x01\x00\
-\x1C\x07\x14\x00\x04\x00\x00\x00\x02\
-\x1C\x08\x0A\x00\x00\
-\x1C\x09\x0A\x00\x04\x00\x00\x00\x00";
 
 fn plan(rt: &impl Abort, subfile: u64, size: Size) -> Plan {
     match Plan::new(subfile, size) {
@@ -71,28 +45,6 @@ fn started(
     }
 }
 
-/// What is written of an object by a plan, where `cut` octets are handed over at a time.
-fn written(
-    rt: &impl Abort,
-    alloc: Global,
-    subfile: u64,
-    size: Size,
-    object: &[u8],
-    cut: usize,
-) -> TrialWriter<600> {
-    let mut writer = started(rt, alloc, subfile, size);
-    assert!(rt; cut > 0);
-    for piece in object.chunks(cut) {
-        assert!(rt; writer.write(&[]).is_ok());
-        assert!(rt; writer.write(piece).is_ok());
-    }
-    assert_eq!(rt; writer.total(), object.len() as u64);
-    match writer.finish() {
-        Ok(target) => target,
-        Err(_) => panic!(rt; "finish"),
-    }
-}
-
 #[test]
 fn buffers_have_room_for_the_lesser_of_subfile_and_bound(rt: HostRuntime) {
     let rows = [
@@ -107,31 +59,6 @@ fn buffers_have_room_for_the_lesser_of_subfile_and_bound(rt: HostRuntime) {
     for (subfile, size, room) in rows {
         let buffer = buffer(&rt, rt.alloc(), subfile, size);
         assert_eq!(&rt; buffer.room(), room, "{subfile}, {size:?}");
-    }
-}
-
-#[test]
-fn worked_objects_are_written(rt: HostRuntime) {
-    let rows = [
-        (1024, Size::Known(14), SHORT, SHORT_OUT),
-        (1024, Size::Known(50), LONG, LONG_OUT),
-        (2, Size::Unknown(Some(5)), b"abc", SMALL_OUT),
-        (2, Size::Unknown(None), b"", EMPTY_OUT),
-    ];
-    for (subfile, size, object, octets) in rows {
-        for cut in 1..52 {
-            let target = written(&rt, rt.alloc(), subfile, size, object, cut);
-            assert!(&rt; target.octets() == octets, "{octets:?} in pieces of {cut}");
-        }
-    }
-}
-
-#[test]
-fn worked_subfiles(rt: HostRuntime) {
-    // Records 1 and 2 of the worked envelope have 158 octets.
-    for (subfile, octets) in [(1, 491), (7, 281), (1024, 246)] {
-        let target = written(&rt, rt.alloc(), subfile, Size::Known(50), LONG, 50);
-        assert_eq!(&rt; target.octets().len() + 158, octets);
     }
 }
 
@@ -235,21 +162,5 @@ fn a_million_interruptions_are_a_failure(rt: HostRuntime) {
         let answer = writer.write(b"abc");
         assert_eq!(&rt; answer.is_ok(), leads_on);
         assert_eq!(&rt; writer.written(), if leads_on { 31 } else { 30 });
-    }
-}
-
-#[test]
-fn numbers_of_pack_causes(rt: HostRuntime) {
-    let causes = [
-        (PackCause::OutOfMemory, 70),
-        (PackCause::PastAnnounced, 80),
-        (PackCause::ShortOfAnnounced, 81),
-        (PackCause::BadTextOctet, 82),
-        (PackCause::BadTrailer, 83),
-        (PackCause::Write, 84),
-        (PackCause::Failed, 85),
-    ];
-    for (cause, number) in causes {
-        assert_eq!(&rt; cause.number(), number);
     }
 }

@@ -1,0 +1,5 @@
+use Rattle.iim_fields.specs.Format.Standing.{IsBetween}
+use Rattle.vectors.proofs.records.pass_datasets.Given as goal
+
+abbrev pub invariant-loop : goal.invariant-loop
+invariant-loop l = IsBetween l.fields

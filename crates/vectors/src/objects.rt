@@ -1,0 +1,322 @@
+//! Objects read token by token, plans, and objects written.
+
+ghost use Rattle.std.specs.Prelude.{⊤};
+
+use crate::octets::{Names, Shown, Words};
+use crate::tables::print_found;
+use anyhow::{Result, bail};
+use iim_dataset::{FromWrite, Stop};
+use iim_object::{ObjectFault, ObjectReader, ObjectSink, Plan, Size, SubfileBuffer, SubfileWriter};
+use std::alloc::Global;
+use std::io::Write;
+
+/// Collects the octets of an object.
+#[derive(Drop)]
+struct Joined {
+    octets: Vec<u8>,
+    ended: bool,
+}
+
+impl ObjectSink for Joined {
+    ghost goes = { λ old events new. ⊤ };
+
+    ghost stops = { λ old events refused new. ⊤ };
+
+    ghost stands = { λ sink. ⊤ };
+
+    ghost nothing = { λ sink. tt };
+
+    ghost joined = { λ a b c xs ys first then. tt };
+
+    ghost joined_stop = { λ a b c xs ys refused first then. tt };
+
+    fn run(&mut self, run: &[u8]) -> Result<(), Stop> {
+        if run.is_empty() {
+            return Ok(());
+        }
+        match self.octets.extend_from_slice(run) {
+            Ok(()) => Ok(()),
+            Err(_) => Err(Stop { taken: 0 }),
+        }
+    }
+
+    fn close(&mut self) -> Result<(), Stop> {
+        self.ended = true;
+        Ok(())
+    }
+}
+
+/// A token of an object.
+#[derive(Drop)]
+enum Token {
+    /// The number of a dataset of record 7.
+    Number(u8, u64),
+    /// The head of a subfile, and its count.
+    Subfile(u64),
+    /// Octets of the object.
+    Run(Vec<u8>),
+    /// The head of 9:10.
+    End,
+    /// The number of 9:10.
+    Confirmed(u64),
+}
+
+/// The token that the next words tell.
+fn token_of(names: &Names, words: &mut Words) -> Result<Token> {
+    Ok(match words.word()? {
+        b"7:10" => Token::Number(10, words.number()?),
+        b"7:20" => Token::Number(20, words.number()?),
+        b"7:90" => Token::Number(90, words.number()?),
+        b"7:95" => Token::Number(95, words.number()?),
+        b"8:10" => Token::Subfile(words.number()?),
+        b"run" => Token::Run(words.octets(names)?),
+        b"end" => Token::End,
+        b"9:10" => Token::Confirmed(words.number()?),
+        _ => bail!("no such token"),
+    })
+}
+
+/// Takes a token. The reader has not failed, or it stays as it is.
+fn take(reader: &mut ObjectReader, sink: &mut Joined, token: &Token) -> Result<(), ObjectFault> {
+    if reader.is_failed() {
+        return Ok(());
+    }
+    match token {
+        Token::Number(set, number) => reader.value(7, *set, *number),
+        Token::Subfile(count) => reader.head(8, 10, *count, sink),
+        Token::Run(octets) => reader.run(octets.as_slice(), sink),
+        Token::End => reader.head(9, 10, 4, sink),
+        Token::Confirmed(number) => reader.value(9, 10, *number),
+    }
+}
+
+/// Prints a number, or `-`.
+fn print_number<W: Write>(out: &mut W, number: Option<u64>) -> Result<()> {
+    match number {
+        Some(number) => write!(out, " {number}")?,
+        None => write!(out, " -")?,
+    }
+    Ok(())
+}
+
+/// Prints what a reader of objects has.
+fn print_numbers<W: Write>(out: &mut W, reader: &ObjectReader) -> Result<()> {
+    if reader.is_failed() {
+        writeln!(out, "  failed")?;
+        return Ok(());
+    }
+    let [mode, subfile, announced, maximum] = reader.numbers();
+    write!(out, "  numbers")?;
+    print_number(out, mode)?;
+    print_number(out, subfile)?;
+    print_number(out, announced)?;
+    print_number(out, maximum)?;
+    let subfiles = reader.subfiles();
+    let total = reader.total();
+    writeln!(out, ", subfiles {subfiles}, total {total}")?;
+    Ok(())
+}
+
+/// Prints what records 7 to 9 have said of a whole object.
+fn print_sizes<W: Write>(out: &mut W, reader: &ObjectReader) -> Result<()> {
+    if reader.is_failed() {
+        return Ok(());
+    }
+    let sizes = reader.sizes();
+    let known = sizes.known;
+    let subfile = sizes.subfile;
+    write!(out, "  sizes known {known} subfile {subfile} announced")?;
+    print_number(out, sizes.announced)?;
+    write!(out, " maximum")?;
+    print_number(out, sizes.maximum)?;
+    let subfiles = sizes.subfiles;
+    let total = sizes.total;
+    writeln!(out, " subfiles {subfiles} total {total}")?;
+    Ok(())
+}
+
+/// Prints the octets of an object, where some came.
+fn print_joined<W: Write>(out: &mut W, sink: &Joined) -> Result<()> {
+    if sink.octets.is_empty() {
+        return Ok(());
+    }
+    let octets = Shown(sink.octets.as_slice());
+    let ended = if sink.ended { ", ended" } else { "" };
+    writeln!(out, "  object {octets}{ended}")?;
+    Ok(())
+}
+
+/// Prints why a token is refused, after so many.
+fn print_fault<W: Write>(out: &mut W, taken: u64, fault: ObjectFault) -> Result<()> {
+    match fault {
+        ObjectFault::Size { cause } => {
+            let number = cause.number();
+            writeln!(out, "  refused after {taken}: {number} {cause:?}")?;
+        }
+        ObjectFault::Stopped(_) => bail!("the sink stopped"),
+    }
+    Ok(())
+}
+
+/// Reads tokens, and prints the first refusal or what the reader has.
+fn print_tokens<W: Write>(
+    out: &mut W,
+    alloc: Global,
+    names: &Names,
+    words: &mut Words,
+    mut reader: ObjectReader,
+) -> Result<()> {
+    let mut sink = Joined {
+        octets: Vec::new(alloc),
+        ended: false,
+    };
+    let mut is_confirmed = false;
+    for taken in 0..u64::MAX {
+        if !words.has_more() {
+            break;
+        }
+        let token = token_of(names, words)?;
+        is_confirmed = matches!(token, Token::Confirmed(_));
+        if let Err(fault) = take(&mut reader, &mut sink, &token) {
+            print_fault(out, taken, fault)?;
+            break;
+        }
+    }
+    print_numbers(out, &reader)?;
+    if is_confirmed {
+        print_sizes(out, &reader)?;
+    }
+    print_joined(out, &sink)
+}
+
+/// The reader at the place that the next words tell: the numbers of 7:10, 7:20, 7:90 and 7:95, the octets that have come, the
+/// count of a begun subfile and its octets to come, and how many subfiles there are. None where no tokens lead there.
+fn reader_at(words: &mut Words) -> Result<Option<ObjectReader>> {
+    let mode = words.number_or_none()?;
+    let subfile = words.number_or_none()?;
+    let announced = words.number_or_none()?;
+    let maximum = words.number_or_none()?;
+    let taken = words.number()?;
+    let count = words.number_or_none()?;
+    let left = words.number_or_none()?;
+    let heads = words.number()?;
+    let begun = match (count, left) {
+        (Some(count), Some(left)) => Some((count, left)),
+        _ => None,
+    };
+    let numbers = [mode, subfile, announced, maximum];
+    Ok(ObjectReader::at(numbers, taken, begun, heads))
+}
+
+/// The size of a plan that the next two words tell.
+fn size_of(words: &mut Words) -> Result<Size> {
+    let word = words.word()?;
+    let number = words.number_or_none()?;
+    match (word, number) {
+        (b"known", Some(number)) => Ok(Size::Known(number)),
+        (b"unknown", number) => Ok(Size::Unknown(number)),
+        _ => bail!("no such size"),
+    }
+}
+
+/// The plan that the next three words tell.
+fn plan_of(words: &mut Words) -> Result<Option<Plan>> {
+    let subfile = words.number()?;
+    Ok(Plan::new(subfile, size_of(words)?))
+}
+
+/// Writes an object by a plan, of which so many octets are handed over at a time, or what refuses it.
+fn written(alloc: Global, plan: Plan, object: &[u8], cut: usize) -> Result<Vec<u8>> {
+    let buffer = SubfileBuffer::reserve(alloc, plan)?;
+    let target = FromWrite::new(Vec::new(alloc));
+    let Ok(mut writer) = SubfileWriter::start(buffer, target) else {
+        bail!("the target failed");
+    };
+    let mut text = Vec::new(alloc);
+    for at in 0..object.len() {
+        if at % cut.max(1) != 0 {
+            continue;
+        }
+        let rest = object.get(at..).unwrap_or(&[]);
+        let piece = rest.get(..cut).unwrap_or(rest);
+        let before = writer.written();
+        if writer.write(&[]).is_err() {
+            bail!("no octets are refused");
+        }
+        if let Err(cause) = writer.write(piece) {
+            let number = cause.number();
+            let is_same = writer.written() == before;
+            writeln!(
+                text,
+                "  after {at}: {number} {cause:?}, unchanged {is_same}"
+            )?;
+            break;
+        }
+    }
+    tell_end(&mut text, writer)?;
+    Ok(text)
+}
+
+/// Ends an object, and writes its octets, or what refuses the end.
+fn tell_end(text: &mut Vec<u8>, writer: SubfileWriter<FromWrite<Vec<u8>>>) -> Result<()> {
+    let total = writer.total();
+    match writer.finish() {
+        Ok(target) => {
+            let octets = target.into_inner();
+            let len = octets.len();
+            let octets = Shown(octets.as_slice());
+            writeln!(text, "  {octets}")?;
+            writeln!(text, "  total {total}, {len} octets")?;
+        }
+        Err((writer, cause)) => {
+            let number = cause.number();
+            let failed = writer.is_failed();
+            let is_same = writer.total() == total;
+            writeln!(
+                text,
+                "  end: {number} {cause:?}, failed {failed}, unchanged {is_same}"
+            )?;
+        }
+    }
+    Ok(())
+}
+
+/// Prints what is written of an object at once, and what is where it is handed over in pieces, if that differs.
+fn print_written<W: Write>(out: &mut W, alloc: Global, plan: Plan, object: &[u8]) -> Result<()> {
+    let whole = written(alloc, plan, object, usize::MAX)?;
+    out.write_all(whole.as_slice())?;
+    for cut in 1..object.len() {
+        let other = written(alloc, plan, object, cut)?;
+        if other.as_slice() != whole.as_slice() {
+            writeln!(out, "  but in pieces of {cut}")?;
+            out.write_all(other.as_slice())?;
+        }
+    }
+    Ok(())
+}
+
+/// Answers the words of objects; false where the word is none of them.
+pub fn answer<W: Write>(
+    out: &mut W,
+    alloc: Global,
+    names: &Names,
+    word: &[u8],
+    words: &mut Words,
+) -> Result<bool> {
+    match word {
+        b"object" => print_tokens(out, alloc, names, words, ObjectReader::new())?,
+        b"object_at" => match reader_at(words)? {
+            Some(reader) => print_tokens(out, alloc, names, words, reader)?,
+            None => writeln!(out, "  none")?,
+        },
+        b"plan" => print_found(out, plan_of(words)?.map(|plan| plan.bound()))?,
+        b"subfiles" => {
+            let Some(plan) = plan_of(words)? else {
+                bail!("no such plan");
+            };
+            print_written(out, alloc, plan, words.octets(names)?.as_slice())?;
+        }
+        _ => return Ok(false),
+    }
+    Ok(true)
+}
