@@ -58,7 +58,7 @@ past_of : (a : Asked) (object : List ℕ) (plan : Plan) → IsPlanOf a object pl
 past_of a object plan is over =
     subst (λ (n : ℕ). min (most_asked a.unknown a.max) (most_in n) < length object) is.subfile_is
     (past_by a.unknown a.max plan.subfile object (subst (λ (s : Size). IsTrue (is_plan plan.subfile s)) is.size_is plan.valid)
-        (subst (λ (s : Size). bound_of plan.subfile s < length object) is.size_is over))
+    (subst (λ (s : Size). bound_of plan.subfile s < length object) is.size_is over))
 
 -- within the bound of the plan there is no more than is asked for
 within_by : (unknown : Bool) (max : Option ℕ) (subfile : ℕ) (object : List ℕ) → IsTrue (is_plan subfile (said_size unknown max object))
@@ -75,7 +75,7 @@ room_of a t plan is fits =
     let within : length (object_of t) ≤ most_of plan = omega (arith, fits) in
     subst (λ (n : ℕ). length (object_of t) ≤ min (most_asked a.unknown a.max) (most_in n)) is.subfile_is
     (within_by a.unknown a.max plan.subfile (object_of t) (subst (λ (s : Size). IsTrue (is_plan plan.subfile s)) is.size_is plan.valid)
-        (subst (λ (s : Size). length (object_of t) ≤ bound_of plan.subfile s) is.size_is within))
+    (subst (λ (s : Size). length (object_of t) ≤ bound_of plan.subfile s) is.size_is within))
 
 below_by : (unknown : Bool) (max : Option ℕ) (object : List ℕ) (n : ℕ) → said_size unknown max object ≡ Known n → length object < n → ⊥
 below_by false max object n e below = let same : length object ≡ n = cc in omega (arith, same, below)
