@@ -3,9 +3,7 @@
 mod halting;
 mod reading;
 
-use iim_dataset::{
-    FromRead, IoFault, Source, TrialReader, TrialWriter, Trouble, put, take,
-};
+use iim_dataset::{FromRead, IoFault, Source, TrialReader, TrialWriter, Trouble, put, take};
 
 #[test]
 fn writer_at_a_million_interruptions(rt: HostRuntime) {

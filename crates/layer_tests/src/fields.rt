@@ -100,11 +100,7 @@ fn pass_fields(fields: &mut Fields, one_by_one: bool) -> Result<(), FieldFault>
 }
 
 /// Passes the datasets of records 7, 8 and 9, each of which tells its number, and answers the first fault.
-fn pass_sizes(
-    rt: &impl Abort,
-    fields: &mut Fields,
-    one_by_one: bool,
-) -> Result<(), FieldFault>
+fn pass_sizes(rt: &impl Abort, fields: &mut Fields, one_by_one: bool) -> Result<(), FieldFault>
     requires { IsBetween fields.old }
     ensures { OnOk result (IsBetween fields.new) }
 {

@@ -67,12 +67,14 @@ impl Vectors {
         words: &mut Words,
     ) -> Result<bool> {
         let names = &self.names;
-        Ok(tables::answer(out, self.alloc, names, word, words)?
-            || datasets::answer(out, self.alloc, names, word, words)?
-            || self.records.answer(out, names, word, words)?
-            || objects::answer(out, self.alloc, names, word, words)?
-            || stories::answer(out, self.alloc, names, word, words)?
-            || messages::answer(out, self.alloc, names, word, words)?)
+        Ok(
+            tables::answer(out, self.alloc, names, word, words)?
+                || datasets::answer(out, self.alloc, names, word, words)?
+                || self.records.answer(out, names, word, words)?
+                || objects::answer(out, self.alloc, names, word, words)?
+                || stories::answer(out, self.alloc, names, word, words)?
+                || messages::answer(out, self.alloc, names, word, words)?,
+        )
     }
 }
 

@@ -8,8 +8,8 @@ use arrayvec::ArrayVec;
 use std::alloc::Global;
 use std::io::Write;
 use wire_message::{
-    MessageFault, MessageHead, MessagePart, MessagePlace, MessageReader, head_text,
-    is_trailer, tail_text,
+    MessageFault, MessageHead, MessagePart, MessagePlace, MessageReader, head_text, is_trailer,
+    tail_text,
 };
 use wire_story::{Discard, Lines, StorySink};
 

@@ -6,9 +6,7 @@ use crate::octets::{Names, Shown, Words};
 use crate::tables::print_found;
 use anyhow::{Result, bail};
 use iim_dataset::{FromWrite, Stop};
-use iim_object::{
-    ObjectFault, ObjectReader, ObjectSink, Plan, Size, SubfileBuffer, SubfileWriter,
-};
+use iim_object::{ObjectFault, ObjectReader, ObjectSink, Plan, Size, SubfileBuffer, SubfileWriter};
 use std::alloc::Global;
 use std::io::Write;
 
@@ -248,7 +246,10 @@ fn written(alloc: Global, plan: Plan, object: &[u8], cut: usize) -> Result<Vec<u
         if let Err(cause) = writer.write(piece) {
             let number = cause.number();
             let is_same = writer.written() == before;
-            writeln!(text, "  after {at}: {number} {cause:?}, unchanged {is_same}")?;
+            writeln!(
+                text,
+                "  after {at}: {number} {cause:?}, unchanged {is_same}"
+            )?;
             break;
         }
     }
@@ -271,7 +272,10 @@ fn tell_end(text: &mut Vec<u8>, writer: SubfileWriter<FromWrite<Vec<u8>>>) -> Re
             let number = cause.number();
             let failed = writer.is_failed();
             let is_same = writer.total() == total;
-            writeln!(text, "  end: {number} {cause:?}, failed {failed}, unchanged {is_same}")?;
+            writeln!(
+                text,
+                "  end: {number} {cause:?}, failed {failed}, unchanged {is_same}"
+            )?;
         }
     }
     Ok(())

@@ -216,11 +216,14 @@ fn check_datasets(text: &mut Vec<u8>, records: &mut RecordCheck, octets: &[u8]) 
 {
     let mut rest = octets;
     for _ in 0..octets.len() {
-        let Some(Front {
-            head,
-            data,
-            rest: after,
-        }) = split_whole(rest)? else {
+        let Some(
+            Front {
+                head,
+                data,
+                rest: after,
+            },
+        ) = split_whole(rest)?
+        else {
             break;
         };
         match check(records, head, data) {
@@ -252,11 +255,14 @@ fn print_check<W: Write>(out: &mut W, alloc: Global, octets: &[u8]) -> Result<()
 fn add_datasets(text: &mut Vec<u8>, builder: &mut EnvelopeBuilder, octets: &[u8]) -> Result<()> {
     let mut rest = octets;
     for _ in 0..octets.len() {
-        let Some(Front {
-            head,
-            data,
-            rest: after,
-        }) = split_whole(rest)? else {
+        let Some(
+            Front {
+                head,
+                data,
+                rest: after,
+            },
+        ) = split_whole(rest)?
+        else {
             break;
         };
         if let Err(fault) = builder.add(head.rec, head.set, data) {
@@ -438,7 +444,10 @@ impl Envelopes {
             b"first" => {
                 let rec = words.octet()?;
                 let set = words.octet()?;
-                print_found(out, self.last()?.first(rec, set).map(|octets| Shown(octets)))?;
+                print_found(
+                    out,
+                    self.last()?.first(rec, set).map(|octets| Shown(octets)),
+                )?;
             }
             b"all" => {
                 let rec = words.octet()?;
