@@ -186,10 +186,12 @@ fn take_lines<W: Target>(
     lines: &Lines,
     most: u64,
 ) -> Result<(), PackCause> {
-    for (at, line) in lines.iter().enumerate() {
-        if at > 0 {
+    let mut is_first = true;
+    for line in lines.iter() {
+        if !is_first {
             packer.line_end()?;
         }
+        is_first = false;
         take_line(packer, line, most)?;
     }
     Ok(())
