@@ -32,8 +32,8 @@ use wire_story::{LINE_END, is_text};
 /// memory for just those, in one request, and no later call asks for any. All else that it has is of a fixed size, below 256
 /// octets: the plan, four counts, whether a write failed, and what it writes to.
 ///
-/// Contracts see it as how many octets records 1 and 2 have, and the writer of its object. `HasBegun` (`specs/HasBegun.antt`) says what
-/// it has taken and what is out.
+/// Contracts see it as how many octets records 1 and 2 have, and the writer of its object. `HasBegun` (`specs/Format/Begun.antt`)
+/// says what it has taken and what is out.
 #[derive(Drop)]
 pub struct Packer<W> {
     before: u64,
