@@ -1,26 +1,42 @@
--- What a stream that begins with packed octets gives back.
-use Rattle.std.proofs.Common.{◌≡◌, ◌≢◌, ℕ, ◌⊎◌, inl, inr, List, length, refl, subst}
-use Rattle.std.specs.Prelude.{Result, Ok, Err, IfOk, IfErr}
+-- What a stream gives back, or why it gives nothing.
+use Rattle.std.proofs.Common.{◌≡◌, ◌≢◌, ℕ, ◌⊎◌, inl, inr, List, length, refl, sym, subst}
+use Rattle.std.specs.Prelude.{Ok, Err}
 use Rattle.iim_fields.specs.declared.limits.Limits.{Limits}
 use Rattle.wire_story.specs.Format.Delivery as story
 use Rattle.iim_unpack.specs.Format.Admitted.{Value}
-use Rattle.iim_unpack.specs.Format.Pieces.{IsUnpacked, IsAnswer}
+use Rattle.iim_unpack.specs.Format.Parts as parts
+use Rattle.iim_unpack.specs.Format.Pieces as pieces
 use Rattle.iim_unpack.specs.Format.Streams.{Answer, Answers, Finished}
 use Rattle.iim_unpack.specs.declared.refusal.Cause.{Cause}
 use Rattle.iim_unpack.specs.declared.refusal.Cause.TheVariants as causes
 use Rattle.iim_unpack.specs.declared.refusal.Refusal.{Refusal}
 use Rattle.iim_unpack.specs.declared.unpacker.Unpacked.{Unpacked}
 use Rattle.iim_round_trip.specs.Format.Laws.{packed_value}
-use Rattle.iim_round_trip.specs.Format.RoundTrip.{packed_answer, GivesBack, RefusesBySink, PackedStreamsHaveTheirAnswer}
+use Rattle.iim_round_trip.specs.Format.Results.{CountsCause}
+use Rattle.iim_round_trip.specs.Format.RoundTrip.{packed_answer, GivesBack, FailsOutside, PackedStreamsHaveTheirAnswer}
+use Rattle.iim_round_trip.specs.declared.unpacking.UnpackFault.TheVariants.{Refused}
 
-pub given : {S : Type 0} (goes : S → List story.StoryEvent → S → Type 0) (limits : Limits) (stream : List ℕ) (a b : S) (got : Unpacked) (used : ℕ) → PackedStreamsHaveTheirAnswer
-    → ((answer : Answer) → Answers limits stream answer → IsAnswer (Ok (got, used)) answer)
-    → IsUnpacked goes limits stream a b got used → GivesBack goes limits stream a b got used
-given goes limits stream a b got used law only u fields head lines trailer plan p =
+-- whether a cause is the sink's
+sink_or_not : (c : Cause) → (c ≡ causes.Sink) ⊎ (c ≢ causes.Sink)
+sink_or_not causes.Sink = inl refl
+sink_or_not _ = inr (λ e. cc)
+
+-- what a count says by the cause, as two facts
+pub counts : (c : Cause) (old new : ℕ) → parts.CountsFor c old new → CountsCause c old new
+counts causes.Sink old new h = record { stopped = λ e. h; others = λ other. absurd (other refl) }
+counts _ old new h = record { stopped = λ e. absurd cc; others = λ other. h }
+
+-- What is said of the limits of an unpacker is said of those that it was made with.
+pub given : {S : Type 0} (goes : S → List story.StoryEvent → S → Type 0) (found limits : Limits) (stream : List ℕ) (a b : S) (got : Unpacked) (used : ℕ) → found ≡ limits
+    → PackedStreamsHaveTheirAnswer → ((answer : Answer) → Answers found stream answer → pieces.IsAnswer (Ok (got, used)) answer)
+    → pieces.IsUnpacked goes found stream a b got used → GivesBack goes limits stream a b got used
+given goes found limits stream a b got used same law only unpacked fields head lines trailer plan p =
     let value = packed_value fields head lines trailer plan p.packed.written.parts in
     let one = law limits stream fields head lines trailer plan p in
-    let answer = only (packed_answer p) one.answers in
-    let same : Finished used u.value ≡ Finished (length p.octets) value = one.only (Finished used u.value) u.finished in
+    let here = subst (λ (l : Limits). (answer : Answer) → Answers l stream answer → pieces.IsAnswer (Ok (got, used)) answer) same only in
+    let u = subst (λ (l : Limits). pieces.IsUnpacked goes l stream a b got used) same unpacked in
+    let answer = here (packed_answer p) one.answers in
+    let same_value : Finished used u.value ≡ Finished (length p.octets) value = one.only (Finished used u.value) u.finished in
     let is : u.value ≡ value = cc in
     record {
       used_is = answer.1;
@@ -28,52 +44,14 @@ given goes limits stream a b got used law only u fields head lines trailer plan 
       told = subst (λ (v : Value). goes a (story.events_of_lines v.lines) b) is u.told;
     }
 
-sink_or_not : (c : Cause) → (c ≡ causes.Sink) ⊎ (c ≢ causes.Sink)
-sink_or_not causes.Marker = inr (λ e. cc)
-sink_or_not causes.CountForm = inr (λ e. cc)
-sink_or_not causes.Truncated = inr (λ e. cc)
-sink_or_not causes.RecordOrder = inr (λ e. cc)
-sink_or_not causes.UnknownDataset = inr (λ e. cc)
-sink_or_not causes.Repeated = inr (λ e. cc)
-sink_or_not causes.CountRange = inr (λ e. cc)
-sink_or_not causes.Missing = inr (λ e. cc)
-sink_or_not causes.BadValue = inr (λ e. cc)
-sink_or_not causes.FileFormat = inr (λ e. cc)
-sink_or_not causes.ModeClash = inr (λ e. cc)
-sink_or_not causes.SizeClash = inr (λ e. cc)
-sink_or_not causes.SubfileTooLong = inr (λ e. cc)
-sink_or_not causes.PastSize = inr (λ e. cc)
-sink_or_not causes.Short = inr (λ e. cc)
-sink_or_not causes.ConfirmedWrong = inr (λ e. cc)
-sink_or_not causes.BadOctet = inr (λ e. cc)
-sink_or_not causes.Unfinished = inr (λ e. cc)
-sink_or_not causes.LoneReturn = inr (λ e. cc)
-sink_or_not causes.ControlOctet = inr (λ e. cc)
-sink_or_not causes.HeaderFull = inr (λ e. cc)
-sink_or_not causes.TooManyFields = inr (λ e. cc)
-sink_or_not causes.TooManySubfiles = inr (λ e. cc)
-sink_or_not causes.Sink = inl refl
-sink_or_not causes.Failed = inr (λ e. cc)
-sink_or_not causes.OutOfMemory = inr (λ e. cc)
+-- the answer of a stream, of the limits that were handed in
+answered : (found limits : Limits) (stream : List ℕ) (answer : Answer) → found ≡ limits → Answers limits stream answer → Answers found stream answer
+answered found limits stream answer same h = subst (λ (l : Limits). Answers l stream answer) (sym same) h
 
-pub by_sink : (limits : Limits) (stream : List ℕ) (e : Refusal) → PackedStreamsHaveTheirAnswer
-    → ((answer : Answer) → Answers limits stream answer → e.cause ≢ causes.Sink → IsAnswer (Err e) answer)
-    → RefusesBySink limits stream e
-by_sink limits stream e law only fields head lines trailer plan p = elim (sink_or_not e.cause) [
+pub fails : (found limits : Limits) (stream : List ℕ) (e : Refusal) → found ≡ limits → PackedStreamsHaveTheirAnswer
+    → ((answer : Answer) → Answers found stream answer → e.cause ≢ causes.Sink → pieces.IsAnswer (Err e) answer)
+    → FailsOutside limits stream (Refused e)
+fails found limits stream e same law only fields head lines trailer plan p = elim (sink_or_not e.cause) [
   | inl is ↦ is
-  | inr other ↦ absurd (only (packed_answer p) (law limits stream fields head lines trailer plan p).answers other)
+  | inr other ↦ absurd (only (packed_answer p) (answered found limits stream (packed_answer p) same (law limits stream fields head lines trailer plan p).answers) other)
 ]
-
--- ---- of a result
-
-pub given_all : {S : Type 0} (goes : S → List story.StoryEvent → S → Type 0) (limits : Limits) (stream : List ℕ) (a b : S) (r : Result (Unpacked × ℕ) Refusal) → PackedStreamsHaveTheirAnswer
-    → ((answer : Answer) → Answers limits stream answer → IfErr r (λ e. e.cause ≢ causes.Sink) → IsAnswer r answer)
-    → IfOk r (λ got. IsUnpacked goes limits stream a b got.0 got.1) → IfOk r (λ got. GivesBack goes limits stream a b got.0 got.1)
-given_all goes limits stream a b (Ok got) law only u = given goes limits stream a b got.0 got.1 law (λ answer h. only answer h tt) u
-given_all goes limits stream a b (Err e) law only u = tt
-
-pub by_sink_all : (limits : Limits) (stream : List ℕ) (r : Result (Unpacked × ℕ) Refusal) → PackedStreamsHaveTheirAnswer
-    → ((answer : Answer) → Answers limits stream answer → IfErr r (λ e. e.cause ≢ causes.Sink) → IsAnswer r answer)
-    → IfErr r (RefusesBySink limits stream)
-by_sink_all limits stream (Ok got) law only = tt
-by_sink_all limits stream (Err e) law only = by_sink limits stream e law only

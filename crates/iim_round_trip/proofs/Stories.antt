@@ -1,32 +1,68 @@
--- An envelope that comes back with its lines.
-use Rattle.std.proofs.Common.{◌≡◌, ℕ, List, [], ◌∷◌, sym, ap, subst, ◌∙◌}
+-- A story that is collected.
+use Rattle.std.proofs.Common.{◌≡◌, ℕ, List, [], ◌∷◌, inl, inr, refl, sym, ap, subst, ◌∙◌}
+use Rattle.std.specs.Prelude.{Ok, Err}
 use Rattle.iim_fields.specs.declared.limits.Limits.{Limits}
 use Rattle.wire_story.specs.Format.Collecting.{Collected, collect}
 use Rattle.wire_story.specs.Format.Delivery.{StoryEvent, events_of_lines}
 use Rattle.wire_story.specs.Format.Texts.{IsText}
 use Rattle.wire_story.specs.Format.Laws.{TextsAreDeliveredAsLines, TextsAreCollectedAsLines}
-use Rattle.iim_round_trip.specs.Format.RoundTrip.{GivesBack, RefusesBySink}
-use Rattle.iim_round_trip.specs.Format.Stories.{ComesBack, FailsForMemory}
+use Rattle.iim_unpack.specs.Format.Pieces.{IsUnpacked}
+use Rattle.iim_unpack.specs.Format.Streams.{Answer, Answers, Finished, Truncated, StreamsHaveOneAnswer}
+use Rattle.iim_unpack.specs.Format.Streams as answers
+use Rattle.iim_round_trip.specs.Format.Results.{IsAnswer, IsTurnedDown}
+use Rattle.iim_round_trip.specs.Format.RoundTrip.{GivesBack}
+use Rattle.iim_round_trip.specs.Format.Stories.{ComesBack, IsStoryIn, IsStoryAnswer, HasNoStory}
 use Rattle.iim_round_trip.specs.declared.unpacking.Story.{Story}
-use Rattle.iim_round_trip.specs.declared.unpacking.StoryFault.TheVariants.{Refused}
-use Rattle.iim_unpack.specs.declared.refusal.Refusal.{Refusal}
+use Rattle.iim_round_trip.specs.declared.unpacking.UnpackFault.{UnpackFault}
+use Rattle.iim_round_trip.specs.declared.unpacking.UnpackFault.TheVariants.{OutOfMemory, Refused}
 
--- what lines are told collects to them
-collected : TextsAreDeliveredAsLines → TextsAreCollectedAsLines → (text : List ℕ) (lines : List (List ℕ)) → IsText text lines → collect ([] ∷ []) (events_of_lines lines) ≡ lines
-collected deliver gather text lines is = ap (λ (events : List StoryEvent). collect ([] ∷ []) events) (sym (deliver text lines is)) ∙ gather text lines is
+-- lines that are told are collected
+abbrev pub gathers : Collected → List StoryEvent → Collected → Type 0
+gathers a events b = b.lines ≡ collect a.lines events
 
-pub comes : TextsAreDeliveredAsLines → TextsAreCollectedAsLines → (limits found : Limits) (stream : List ℕ) (old : Collected) (got : Story) → found ≡ limits → old.lines ≡ [] ∷ []
-    → GivesBack (λ (a : Collected) events (b : Collected). b.lines ≡ collect a.lines events) found stream old got.lines got.unpacked got.used → ComesBack limits stream got
-comes deliver gather limits found stream old got same empty given fields head lines trailer plan p =
-    let back = subst (λ (l : Limits). GivesBack (λ (a : Collected) events (b : Collected). b.lines ≡ collect a.lines events) l stream old got.lines got.unpacked got.used) same given in
-    let g = back fields head lines trailer plan p in
+-- what the lines of a text are told collects to them, from one empty line on
+collected : TextsAreDeliveredAsLines → TextsAreCollectedAsLines → (text : List ℕ) (lines before after : List (List ℕ)) → IsText text lines → before ≡ [] ∷ []
+    → after ≡ collect before (events_of_lines lines) → after ≡ lines
+collected deliver gather text lines before after is empty told =
+    told ∙ (ap (λ (ls : List (List ℕ)). collect ls (events_of_lines lines)) empty
+    ∙ (ap (λ (events : List StoryEvent). collect ([] ∷ []) events) (sym (deliver text lines is)) ∙ gather text lines is))
+
+pub comes : TextsAreDeliveredAsLines → TextsAreCollectedAsLines → (limits : Limits) (stream : List ℕ) (old : Collected) (got : Story) → old.lines ≡ [] ∷ []
+    → GivesBack gathers limits stream old got.lines got.unpacked got.used → ComesBack limits stream got
+comes deliver gather limits stream old got empty given fields head lines trailer plan p =
+    let g = given fields head lines trailer plan p in
     record {
-      used = g.used_is;
-      fields_are = g.parts.fields;
-      head_is = g.parts.head;
-      lines_are = g.told ∙ (ap (λ (ls : List (List ℕ)). collect ls (events_of_lines lines)) empty ∙ collected deliver gather p.packed.may.text lines p.packed.may.lined);
-      trailer_is = g.parts.trailer;
+      used_is = g.used_is;
+      parts = g.parts;
+      lines_are = collected deliver gather p.packed.may.text lines old.lines got.lines.lines p.packed.may.lined empty g.told;
     }
 
-pub fails : (limits found : Limits) (stream : List ℕ) (e : Refusal) → found ≡ limits → RefusesBySink found stream e → FailsForMemory limits stream (Refused e)
-fails limits found stream e same h = subst (λ (l : Limits). RefusesBySink l stream e) same h
+pub story_in : TextsAreDeliveredAsLines → TextsAreCollectedAsLines → (limits : Limits) (stream : List ℕ) (old : Collected) (got : Story) → old.lines ≡ [] ∷ []
+    → IsUnpacked gathers limits stream old got.lines got.unpacked got.used → IsStoryIn limits stream got
+story_in deliver gather limits stream old got empty u =
+    let admits = u.finished.envelope.admits in
+    record {
+      value = u.value;
+      finished = u.finished;
+      story = record {
+        used_is = refl;
+        parts = u.parts;
+        lines_are = collected deliver gather admits.text u.value.lines old.lines got.lines.lines admits.lines empty u.told;
+      };
+    }
+
+pub one_story : StreamsHaveOneAnswer → (limits : Limits) (stream : List ℕ) (got : Story) → IsStoryIn limits stream got
+    → (answer : Answer) → Answers limits stream answer → IsStoryAnswer (Ok got) answer
+one_story one limits stream got is answer h =
+    subst (λ (a : Answer). IsStoryAnswer (Ok got) a) (one limits stream (Finished got.used is.value) answer is.finished h) is.story
+
+pub no_story : (limits : Limits) (stream : List ℕ) (old new : Collected) (fault : UnpackFault) → IsTurnedDown gathers limits stream old new fault → HasNoStory limits stream fault
+no_story limits stream old new OutOfMemory h = tt
+no_story limits stream old new (Refused e) (inl s) = inl (record { fits = s.fits; fault = s.fault; refusal = s.refusal; refuses = s.refuses })
+no_story limits stream old new (Refused e) (inr s) = inr s.truncated
+
+pub same_fault : (fault : UnpackFault) (answer : Answer) → IsAnswer (Err fault) answer → IsStoryAnswer (Err fault) answer
+same_fault OutOfMemory answer h = absurd h
+same_fault (Refused e) (Finished used value) h = absurd h
+same_fault (Refused e) (answers.Refused f) h = h
+same_fault (Refused e) (Truncated f) h = h

@@ -7,4 +7,4 @@
 pub mod laws;
 mod unpacking;
 
-pub use unpacking::{Story, StoryFault, unpack_packed, unpack_story};
+pub use unpacking::{Story, UnpackFault, unpack_packed, unpack_story};

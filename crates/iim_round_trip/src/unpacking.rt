@@ -1,37 +1,65 @@
-//! What was packed, unpacked again.
+//! A stream in pieces, unpacked: what was packed comes back, and any other stream has its answer.
 
-ghost use Rattle.std.specs.Prelude.{◌≡◌, [], IfOk, IfErr, OnOk};
-ghost use Rattle.iim_unpack.specs.Format.Parts.{CountsFor};
-ghost use Rattle.iim_unpack.specs.Format.Pieces.{stream_of};
-ghost use Rattle.iim_unpack.specs.Format.Unpacking.{Stands, limits_in};
-ghost use Rattle.iim_round_trip.specs.Format.RoundTrip.{GivesBack, RefusesBySink};
-ghost use Rattle.iim_round_trip.specs.Format.Stories.{ComesBack, FailsForMemory};
+ghost use Rattle.std.specs.Prelude.{◌≡◌, IfOk, IfErr, OnOk};
+ghost use Rattle.iim_unpack.specs.Format.Pieces.{IsUnpacked, stream_of};
+ghost use Rattle.iim_unpack.specs.Format.Streams.{Answer, Answers};
+ghost use Rattle.iim_round_trip.specs.Format.RoundTrip.{GivesBack, IsOutside, FailsOutside};
+ghost use Rattle.iim_round_trip.specs.Format.Results.{IsAnswer, IsTurnedDown, CountsFor};
+ghost use Rattle.iim_round_trip.specs.Format.Stories.{ComesBack, IsStoryIn, IsStoryAnswer, HasNoStory};
 
 use crate::laws::packed_streams_have_their_answer;
 use iim_fields::Limits;
+use iim_unpack::laws::streams_have_one_answer;
 use iim_unpack::{Refusal, Unpacked, Unpacker, unpack_pieces};
 use std::alloc::Global;
 use wire_story::laws::{texts_are_collected_as_lines, texts_are_delivered_as_lines};
 use wire_story::{Lines, StorySink};
 
-/// Unpacks the envelope that a stream begins with, whatever pieces it comes in, and answers how many octets it has.
+/// Why nothing is unpacked.
+#[derive(Drop)]
+pub enum UnpackFault {
+    /// Memory was refused for the unpacker.
+    OutOfMemory,
+    /// The stream is refused, or the sink stopped ([`iim_unpack::Cause::Sink`]).
+    Refused(Refusal),
+}
+
+/// Unpacks the envelope that a stream begins with, whatever pieces it comes in, and answers how many octets it has. It takes
+/// memory for just what the limits allow.
 ///
 /// Where the stream begins with what was packed of an envelope, a header, lines and a trailer, by whatever plan and whatever
-/// follows, just the packed octets are used, that envelope, header and trailer come back, and the sink is told the lines: unless
-/// the sink stops.
+/// follows, just the packed octets are used, that envelope, header and trailer come back, and the sink is told the lines.
+///
+/// It finishes exactly where the stream begins with octets that every layer admits, within the limits. Any other stream is
+/// refused at the first octet with which a layer is dead, or at its end, where it is truncated. A stream has one of these
+/// answers, and no other, unless the sink stopped or memory was refused.
 pub fn unpack_packed<S: StorySink>(
-    unpacker: Unpacker,
+    alloc: Global,
+    limits: Limits,
     pieces: &[&[u8]],
     sink: &mut S,
-) -> Result<(Unpacked, u64), Refusal>
-    requires fresh { Stands unpacker [] 0 }
-    ensures given_back { IfOk result (λ got. GivesBack S.goes (limits_in unpacker) (stream_of pieces.now) sink.old sink.new got.0 got.1) }
-    ensures refused { IfErr result (RefusesBySink (limits_in unpacker) (stream_of pieces.now)) }
+) -> Result<(Unpacked, u64), UnpackFault>
+    // What was packed comes back.
+    ensures given_back { IfOk result (λ got. GivesBack S.goes limits (stream_of pieces.now) sink.old sink.new got.0 got.1) }
+    ensures refused { IfErr result (FailsOutside limits (stream_of pieces.now)) }
+
+    // Any stream has its answer.
+    ensures finished { IfOk result (λ got. IsUnpacked S.goes limits (stream_of pieces.now) sink.old sink.new got.0 got.1) }
+    ensures turned_down { IfErr result (IsTurnedDown S.goes limits (stream_of pieces.now) sink.old sink.new) }
+    ensures only { (answer : Answer) → Answers limits (stream_of pieces.now) answer → IfErr result (λ fault. IsOutside fault → ⊥) → IsAnswer result answer }
+
+    // The sink is at fault only where its count of failures rose.
     ensures calm { OnOk result (S.failures sink.new ≡ S.failures sink.old) }
-    ensures counted { IfErr result (λ e. CountsFor e.cause (S.failures sink.old) (S.failures sink.new)) }
+    ensures counted { IfErr result (λ fault. CountsFor fault (S.failures sink.old) (S.failures sink.new)) }
 {
     packed_streams_have_their_answer();
-    unpack_pieces(unpacker, pieces, sink)
+    let Ok(unpacker) = Unpacker::new(alloc, limits) else {
+        return Err(UnpackFault::OutOfMemory);
+    };
+    match unpack_pieces(unpacker, pieces, sink) {
+        Ok(got) => Ok(got),
+        Err(refusal) => Err(UnpackFault::Refused(refusal)),
+    }
 }
 
 /// An envelope with its lines, and how many octets of the stream it has.
@@ -45,35 +73,31 @@ pub struct Story {
     pub used: u64,
 }
 
-/// Why a stream gives no story.
-#[derive(Drop)]
-pub enum StoryFault {
-    /// Memory was refused for the unpacker.
-    OutOfMemory,
-    /// The stream is refused, or memory was refused for the lines ([`iim_unpack::Cause::Sink`]).
-    Refused(Refusal),
-}
-
 /// Unpacks the envelope that a stream begins with, and collects its lines.
 ///
 /// Where the stream begins with what was packed, within the limits, by whatever plan and whatever follows, that envelope, header,
-/// lines and trailer come back, of just the packed octets: unless memory was refused.
-pub fn unpack_story(alloc: Global, limits: Limits, pieces: &[&[u8]]) -> Result<Story, StoryFault>
+/// lines, trailer and the sizes of that plan come back, of just the packed octets. Any other stream has the answer that
+/// [`unpack_packed`] gives: unless memory was refused, for the unpacker or for a line ([`iim_unpack::Cause::Sink`]).
+pub fn unpack_story(alloc: Global, limits: Limits, pieces: &[&[u8]]) -> Result<Story, UnpackFault>
+    // What was packed comes back.
     ensures story { IfOk result (ComesBack limits (stream_of pieces.now)) }
-    ensures fault { IfErr result (FailsForMemory limits (stream_of pieces.now)) }
+    ensures fault { IfErr result (FailsOutside limits (stream_of pieces.now)) }
+
+    // Any stream has its answer.
+    ensures finished { IfOk result (IsStoryIn limits (stream_of pieces.now)) }
+    ensures turned_down { IfErr result (HasNoStory limits (stream_of pieces.now)) }
+    ensures only { (answer : Answer) → Answers limits (stream_of pieces.now) answer → IfErr result (λ fault. IsOutside fault → ⊥) → IsStoryAnswer result answer }
 {
     texts_are_delivered_as_lines();
     texts_are_collected_as_lines();
-    let Ok(unpacker) = Unpacker::new(alloc, limits) else {
-        return Err(StoryFault::OutOfMemory);
-    };
+    streams_have_one_answer();
     let mut lines = Lines::new(alloc);
-    match unpack_packed(unpacker, pieces, &mut lines) {
+    match unpack_packed(alloc, limits, pieces, &mut lines) {
         Ok((unpacked, used)) => Ok(Story {
             unpacked,
             lines,
             used,
         }),
-        Err(refusal) => Err(StoryFault::Refused(refusal)),
+        Err(fault) => Err(fault),
     }
 }

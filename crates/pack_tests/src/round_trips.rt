@@ -4,8 +4,8 @@ use iim_dataset::FromWrite;
 use iim_fields::Limits;
 use iim_object::{Plan, Size};
 use iim_pack::{pack, packed_size};
-use iim_round_trip::{unpack_packed, unpack_story};
-use iim_unpack::{Cause, Unpacked, Unpacker};
+use iim_round_trip::{UnpackFault, unpack_packed, unpack_story};
+use iim_unpack::{Cause, Unpacked};
 use std::alloc::Global;
 use std::process::Abort;
 use std::test::Fail;
@@ -38,12 +38,10 @@ const STORY: &[u8] =
 /// What the stream of these pieces unpacks to, its lines, and how many octets of it were used.
 fn unpacked(rt: &impl Abort, alloc: Global, pieces: &[&[u8]]) -> (Unpacked, Lines, u64) {
     let mut lines = Lines::new(alloc);
-    let Ok(unpacker) = Unpacker::new(alloc, LIMITS) else {
-        panic!(rt; "memory");
-    };
-    match unpack_packed(unpacker, pieces, &mut lines) {
+    match unpack_packed(alloc, LIMITS, pieces, &mut lines) {
         Ok((got, used)) => (got, lines, used),
-        Err(refusal) => panic!(rt; "refused at octet {}", refusal.octet),
+        Err(UnpackFault::Refused(refusal)) => panic!(rt; "refused at octet {}", refusal.octet),
+        Err(UnpackFault::OutOfMemory) => panic!(rt; "memory"),
     }
 }
 
@@ -118,15 +116,12 @@ fn a_packed_front_alone_is_truncated(rt: HostRuntime) {
     let alloc = rt.alloc();
     for length in 0..STORY.len() {
         let mut lines = Lines::new(alloc);
-        let Ok(unpacker) = Unpacker::new(alloc, LIMITS) else {
-            panic!(rt; "memory");
-        };
-        match unpack_packed(unpacker, &[&STORY[..length]], &mut lines) {
-            Ok(_) => panic!(rt; "nothing ends there"),
-            Err(refusal) => {
+        match unpack_packed(alloc, LIMITS, &[&STORY[..length]], &mut lines) {
+            Err(UnpackFault::Refused(refusal)) => {
                 assert!(rt; refusal.cause == Cause::Truncated);
                 assert_eq!(rt; refusal.octet, length as u64);
             }
+            _ => panic!(rt; "nothing ends there"),
         }
     }
 }
@@ -139,10 +134,35 @@ fn a_story_comes_back_before_others(rt: HostRuntime) {
         panic!(rt; "no story");
     };
     assert_eq!(rt; story.used, 246);
+    assert_eq!(rt; story.unpacked.sizes.total, 50);
+    assert_eq!(rt; story.unpacked.sizes.subfiles, 1);
+    assert_eq!(rt; story.unpacked.sizes.subfile, 1024);
+    assert_eq!(rt; story.unpacked.sizes.announced, Some(50));
+    assert_eq!(rt; story.unpacked.sizes.maximum, None);
     assert_eq!(rt; story.unpacked.envelope.service(), b"TST".as_slice());
     let mut lines = Lines::new(alloc);
     assert!(rt; lines.text(b"Rates stay.").is_ok());
     assert!(rt; lines.line_end().is_ok());
     assert!(rt; lines.text(b"No change.").is_ok());
     assert!(rt; story.lines.iter().eq(lines.iter()));
+}
+
+#[test]
+fn a_story_is_refused_at_its_octet(rt: HostRuntime) {
+    let alloc = rt.alloc();
+    // The last octet says 49 in place of 50.
+    match unpack_story(alloc, LIMITS, &[&STORY[..245], b"\x31"]) {
+        Err(UnpackFault::Refused(refusal)) => {
+            assert!(rt; refusal.cause == Cause::ConfirmedWrong);
+            assert_eq!(rt; refusal.octet, 245);
+        }
+        _ => panic!(rt; "another total is confirmed"),
+    }
+    match unpack_story(alloc, LIMITS, &[&STORY[..200]]) {
+        Err(UnpackFault::Refused(refusal)) => {
+            assert!(rt; refusal.cause == Cause::Truncated);
+            assert_eq!(rt; refusal.octet, 200);
+        }
+        _ => panic!(rt; "nothing ends there"),
+    }
 }

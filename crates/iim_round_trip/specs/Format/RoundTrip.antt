@@ -10,11 +10,12 @@ use Rattle.wire_message.specs.Format.Messages.{Header}
 use Rattle.iim_pack.specs.Format.Packed.{Packed}
 use Rattle.iim_unpack.specs.Format.Admitted.{Value}
 use Rattle.iim_unpack.specs.Format.Value.{HasParts}
-use Rattle.iim_unpack.specs.declared.refusal.Refusal.{Refusal}
 use Rattle.iim_unpack.specs.declared.refusal.Cause.TheVariants.{Sink}
 use Rattle.iim_unpack.specs.declared.unpacker.Unpacked.{Unpacked}
 use Rattle.iim_unpack.specs.Format.Streams.{IsEnvelopeWithin, Answer, Answers, Finished}
 use Rattle.iim_round_trip.specs.Format.Laws.{packed_value}
+use Rattle.iim_round_trip.specs.declared.unpacking.UnpackFault.{UnpackFault}
+use Rattle.iim_round_trip.specs.declared.unpacking.UnpackFault.TheVariants.{OutOfMemory, Refused}
 
 -- The fields have no more octets than the limits allow, and are no more.
 abbrev pub FieldsAreWithin : Limits → List Dataset → Type 0
@@ -64,7 +65,12 @@ GivesBack goes limits stream a b got used = (fields : List Dataset) (head : Head
     → (p : BeginsPacked limits stream fields head lines trailer plan)
     → IsGivenBack goes (packed_value fields head lines trailer plan p.packed.written.parts) p.octets a b got used
 
--- If the stream begins with what was packed, within the limits, then the sink refused.
-abbrev pub RefusesBySink : Limits → List ℕ → Refusal → Type 0
-RefusesBySink limits stream e = (fields : List Dataset) (head : Header) (lines : List (List ℕ)) (trailer : List ℕ) (plan : Plan)
-    → BeginsPacked limits stream fields head lines trailer plan → e.cause ≡ Sink
+-- The octets are not at fault: memory was refused for the unpacker, or the sink stopped.
+abbrev pub IsOutside : UnpackFault → Type 0
+IsOutside OutOfMemory = Unit {0}
+IsOutside (Refused e) = e.cause ≡ Sink
+
+-- If the stream begins with what was packed, within the limits, then the octets are not at fault.
+abbrev pub FailsOutside : Limits → List ℕ → UnpackFault → Type 0
+FailsOutside limits stream fault = (fields : List Dataset) (head : Header) (lines : List (List ℕ)) (trailer : List ℕ) (plan : Plan)
+    → BeginsPacked limits stream fields head lines trailer plan → IsOutside fault

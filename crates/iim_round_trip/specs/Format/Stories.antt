@@ -1,32 +1,61 @@
--- An envelope that comes back with its lines.
-use Rattle.std.specs.Prelude.{◌≡◌, ℕ, List, length}
+-- A story that is collected.
+use Rattle.std.specs.Prelude.{◌≡◌, ℕ, ◌<◌, ◌⊎◌, List, length, take, slice_index, Result, Ok, Err}
 use Rattle.iim_dataset.specs.Format.Datasets.{Dataset}
 use Rattle.iim_fields.specs.declared.limits.Limits.{Limits}
 use Rattle.iim_object.specs.declared.plan.Plan.{Plan}
 use Rattle.wire_message.specs.Format.Messages.{Header}
-use Rattle.iim_unpack.specs.declared.refusal.Cause.TheVariants.{Sink}
+use Rattle.iim_unpack.specs.Format.Admitted.{Value}
+use Rattle.iim_unpack.specs.Format.Open.{RefusesNext}
+use Rattle.iim_unpack.specs.Format.Refusals.{refusal_at}
+use Rattle.iim_unpack.specs.Format.Streams.{Answer, Finished, Truncated, IsFinished, IsTruncated}
+use Rattle.iim_unpack.specs.Format.Streams as answers
+use Rattle.iim_unpack.specs.Format.Value.{HasParts}
+use Rattle.iim_unpack.specs.declared.fault.TokenFault.{TokenFault}
+use Rattle.iim_unpack.specs.declared.refusal.Refusal.{Refusal}
+use Rattle.iim_round_trip.specs.Format.Laws.{packed_value}
 use Rattle.iim_round_trip.specs.Format.RoundTrip.{BeginsPacked}
 use Rattle.iim_round_trip.specs.declared.unpacking.Story.{Story}
-use Rattle.iim_round_trip.specs.declared.unpacking.StoryFault.{StoryFault}
-use Rattle.iim_round_trip.specs.declared.unpacking.StoryFault.TheVariants.{OutOfMemory, Refused}
+use Rattle.iim_round_trip.specs.declared.unpacking.UnpackFault.{UnpackFault}
+use Rattle.iim_round_trip.specs.declared.unpacking.UnpackFault.TheVariants.{OutOfMemory, Refused}
+
+-- The story has all parts of the value, the lines and the sizes too, and so many octets.
+pub record IsStory (value : Value) (used : ℕ) (got : Story) : Type 0 where
+  pub used_is : got.used ≡ used
+  pub parts : HasParts got.unpacked value
+  pub lines_are : got.lines.lines ≡ value.lines
 
 -- If the stream begins with what was packed, within the limits, then the story is that, of just the packed octets.
-pub record IsThatStory (octets : List ℕ) (fields : List Dataset) (head : Header) (lines : List (List ℕ)) (trailer : List ℕ) (got : Story) : Type 0 where
-  pub used : got.used ≡ length octets
-  pub fields_are : got.unpacked.envelope ≡ fields
-  pub head_is : got.unpacked.head ≡ head
-  pub lines_are : got.lines.lines ≡ lines
-  pub trailer_is : got.unpacked.trailer.items ≡ trailer
-
 abbrev pub ComesBack : Limits → List ℕ → Story → Type 0
 ComesBack limits stream got = (fields : List Dataset) (head : Header) (lines : List (List ℕ)) (trailer : List ℕ) (plan : Plan)
-    → (p : BeginsPacked limits stream fields head lines trailer plan) → IsThatStory p.octets fields head lines trailer got
+    → (p : BeginsPacked limits stream fields head lines trailer plan)
+    → IsStory (packed_value fields head lines trailer plan p.packed.written.parts) (length p.octets) got
 
--- memory was refused for the unpacker, or for the lines
-abbrev pub IsForMemory : StoryFault → Type 0
-IsForMemory OutOfMemory = Unit {0}
-IsForMemory (Refused e) = e.cause ≡ Sink
+-- ---- any stream
 
-abbrev pub FailsForMemory : Limits → List ℕ → StoryFault → Type 0
-FailsForMemory limits stream fault = (fields : List Dataset) (head : Header) (lines : List (List ℕ)) (trailer : List ℕ) (plan : Plan)
-    → BeginsPacked limits stream fields head lines trailer plan → IsForMemory fault
+-- The stream begins with an envelope, and this is its story.
+pub record IsStoryIn (limits : Limits) (stream : List ℕ) (got : Story) : Type 0 where
+  pub value : Value
+  pub finished : IsFinished limits stream got.used value
+  pub story : IsStory value got.used got
+
+-- The octets before the named one are open, and that one is refused.
+pub record IsStopped (limits : Limits) (stream : List ℕ) (e : Refusal) : Type 0 where
+  pub fits : e.octet < length stream
+  pub fault : TokenFault
+  pub refusal : e ≡ refusal_at e.octet fault
+  pub refuses : RefusesNext limits (take e.octet stream) (slice_index stream e.octet) fault
+
+-- Why there is no story: memory was refused for the unpacker, an octet is refused, or the stream is truncated.
+abbrev pub HasNoStory : Limits → List ℕ → UnpackFault → Type 0
+HasNoStory limits stream OutOfMemory = Unit {0}
+HasNoStory limits stream (Refused e) = IsStopped limits stream e ⊎ IsTruncated limits stream e
+
+-- The result is the answer.
+abbrev pub IsStoryAnswer : Result Story UnpackFault → Answer → Type 0
+IsStoryAnswer (Ok got) (Finished used value) = IsStory value used got
+IsStoryAnswer (Ok got) (answers.Refused e) = ⊥
+IsStoryAnswer (Ok got) (Truncated e) = ⊥
+IsStoryAnswer (Err OutOfMemory) answer = ⊥
+IsStoryAnswer (Err (Refused e)) (Finished used value) = ⊥
+IsStoryAnswer (Err (Refused e)) (answers.Refused f) = e ≡ f
+IsStoryAnswer (Err (Refused e)) (Truncated f) = e ≡ f

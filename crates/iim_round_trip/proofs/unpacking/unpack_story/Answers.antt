@@ -1,13 +1,26 @@
 use Rattle.iim_unpack.specs.Format.Pieces.{stream_of}
-use Rattle.iim_unpack.specs.Format.Unpacking.{limits_in}
-use Rattle.iim_round_trip.proofs.Stories.{comes, fails}
+use Rattle.iim_round_trip.proofs.Stories.{comes, story_in, one_story, no_story, same_fault}
+use Rattle.iim_round_trip.specs.declared.unpacking.Story.{Story}
 use Rattle.iim_round_trip.proofs.unpacking.unpack_story.Goals as goal
 
-pub returns-in-Ok-unpack_packed-clause-story : goal.returns-in-Ok-unpack_packed-clause-story
-returns-in-Ok-unpack_packed-clause-story c =
-    comes c.texts_are_delivered_as_lines.ensures c.texts_are_collected_as_lines.ensures c.args.limits (limits_in c.in-Ok.unpacker) (stream_of c.args.pieces.now) c.new-lines.result
-    (record { unpacked = c.in-Ok-unpack_packed.unpacked; lines = c.unpack_packed.new.sink; used = c.in-Ok-unpack_packed.used })
-    c.in-Ok.ensures.limits c.new-lines.ensures.lines c.in-Ok-unpack_packed.ensures.given_back
+pub returns-in-Ok-clause-story : goal.returns-in-Ok-clause-story
+returns-in-Ok-clause-story c =
+    let got : Story = record { unpacked = c.in-Ok.unpacked; lines = c.unpack_packed.new.sink; used = c.in-Ok.used } in
+    comes c.texts_are_delivered_as_lines.ensures c.texts_are_collected_as_lines.ensures c.args.limits (stream_of c.args.pieces.now) c.new-lines.result got c.new-lines.ensures.lines c.in-Ok.ensures.given_back
 
-pub returns-in-Err-clause-fault : goal.returns-in-Err-clause-fault
-returns-in-Err-clause-fault c = fails c.args.limits (limits_in c.in-Ok.unpacker) (stream_of c.args.pieces.now) c.in-Err.refusal c.in-Ok.ensures.limits c.in-Err.ensures.refused
+pub returns-in-Ok-clause-finished : goal.returns-in-Ok-clause-finished
+returns-in-Ok-clause-finished c =
+    let got : Story = record { unpacked = c.in-Ok.unpacked; lines = c.unpack_packed.new.sink; used = c.in-Ok.used } in
+    story_in c.texts_are_delivered_as_lines.ensures c.texts_are_collected_as_lines.ensures c.args.limits (stream_of c.args.pieces.now) c.new-lines.result got c.new-lines.ensures.lines c.in-Ok.ensures.finished
+
+pub returns-in-Ok-clause-only : goal.returns-in-Ok-clause-only
+returns-in-Ok-clause-only c = λ answer is other.
+    let got : Story = record { unpacked = c.in-Ok.unpacked; lines = c.unpack_packed.new.sink; used = c.in-Ok.used } in
+    let story = story_in c.texts_are_delivered_as_lines.ensures c.texts_are_collected_as_lines.ensures c.args.limits (stream_of c.args.pieces.now) c.new-lines.result got c.new-lines.ensures.lines c.in-Ok.ensures.finished in
+    one_story c.streams_have_one_answer.ensures c.args.limits (stream_of c.args.pieces.now) got story answer is
+
+pub returns-in-Err-clause-turned_down : goal.returns-in-Err-clause-turned_down
+returns-in-Err-clause-turned_down c = no_story c.args.limits (stream_of c.args.pieces.now) c.new-lines.result c.unpack_packed.new.sink c.in-Err.fault c.in-Err.ensures.turned_down
+
+pub returns-in-Err-clause-only : goal.returns-in-Err-clause-only
+returns-in-Err-clause-only c = λ answer is other. same_fault c.in-Err.fault answer (c.in-Err.ensures.only answer is other)

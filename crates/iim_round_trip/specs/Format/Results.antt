@@ -1,0 +1,33 @@
+-- What any stream is answered, of limits and pieces alone.
+use Rattle.std.specs.Prelude.{◌≡◌, ◌≢◌, ℕ, List, Result, Ok, Err}
+use Rattle.iim_dataset.specs.Format.Devices.{Rose}
+use Rattle.iim_fields.specs.declared.limits.Limits.{Limits}
+use Rattle.wire_story.specs.Format.Delivery as story
+use Rattle.iim_unpack.specs.Format.Pieces as pieces
+use Rattle.iim_unpack.specs.Format.Streams.{Answer}
+use Rattle.iim_unpack.specs.declared.refusal.Cause.{Cause}
+use Rattle.iim_unpack.specs.declared.refusal.Cause.TheVariants.{Sink}
+use Rattle.iim_unpack.specs.declared.unpacker.Unpacked.{Unpacked}
+use Rattle.iim_round_trip.specs.declared.unpacking.UnpackFault.{UnpackFault}
+use Rattle.iim_round_trip.specs.declared.unpacking.UnpackFault.TheVariants.{OutOfMemory, Refused}
+
+-- Why there is no envelope. Where memory was refused for the unpacker, the sink was told nothing. Else the stream has none at its
+-- front: a layer is dead, or the stream is truncated, or the sink stopped.
+abbrev pub IsTurnedDown : {S : Type 0} → (S → List story.StoryEvent → S → Type 0) → Limits → List ℕ → S → S → UnpackFault → Type 0
+IsTurnedDown goes limits stream a b OutOfMemory = b ≡ a
+IsTurnedDown goes limits stream a b (Refused e) = pieces.IsTurnedDown goes limits stream a b e
+
+-- The result is the answer.
+abbrev pub IsAnswer : Result (Unpacked × ℕ) UnpackFault → Answer → Type 0
+IsAnswer (Ok got) answer = pieces.IsAnswer (Ok got) answer
+IsAnswer (Err OutOfMemory) answer = ⊥
+IsAnswer (Err (Refused e)) answer = pieces.IsAnswer (Err e) answer
+
+-- The sink's count of failures rose where the sink stopped, and nowhere else.
+pub record CountsCause (cause : Cause) (old new : ℕ) : Type 0 where
+  pub stopped : cause ≡ Sink → Rose old new
+  pub others : cause ≢ Sink → new ≡ old
+
+abbrev pub CountsFor : UnpackFault → ℕ → ℕ → Type 0
+CountsFor OutOfMemory old new = new ≡ old
+CountsFor (Refused e) old new = CountsCause e.cause old new
