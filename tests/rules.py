@@ -13,6 +13,9 @@ COUNT_OCTETS = 8
 SUBFILES = 2**32 - 1
 LIMITS = 65536, 512
 
+LAYERS = ["dataset", "record", "limits", "object", "message", "story", "outside"]
+
+# The causes for which octets are refused, each by its number.
 CAUSES = {
     1: "Marker",
     2: "CountForm",
@@ -39,6 +42,25 @@ CAUSES = {
     52: "TooManySubfiles",
     61: "Failed",
 }
+# The causes that octets alone have not: of a sink, of memory, of a packer, of a script.
+OTHER_CAUSES = {
+    60: "Sink",
+    70: "OutOfMemory",
+    80: "PastAnnounced",
+    81: "ShortOfAnnounced",
+    82: "BadTextOctet",
+    83: "BadTrailer",
+    84: "Write",
+    85: "Failed",
+    91: "ScriptLine",
+    92: "ScriptTooLong",
+}
+
+
+def named_causes(*numbers):
+    """The number and the name of each of these causes."""
+    return [f"{number} {CAUSES.get(number) or OTHER_CAUSES[number]}" for number in numbers]
+
 
 LETTERS = frozenset(b"ABCDEFGHIJKLMNOPQRSTUVWXYZabcdefghijklmnopqrstuvwxyz")
 DIGITS = frozenset(b"0123456789")
