@@ -12,10 +12,7 @@ use std::alloc::Global;
 use wire_story::StorySink;
 
 /// What the records 1 and 2 of an envelope may have.
-pub const LIMITS: Limits = Limits {
-    octets: 65_536,
-    fields: 512,
-};
+pub const LIMITS: Limits = Limits::WIRE;
 
 /// What an input has next.
 #[derive(Drop)]

@@ -11,4 +11,5 @@ pub mod Devices
 pub mod DeviceLaws
 pub mod Trials
 pub mod Shown
+pub mod Reserved
 pub mod Laws

@@ -61,6 +61,9 @@ pub trait DatasetSink {
     /// Events and then others lead where all of them joined lead.
     ghost joined: { (a b c : Self) (xs ys : List DatasetEvent) → goes a xs b → goes b ys c → goes a (xs ++ ys) c };
 
+    /// One that has called a dataset the last one takes nothing: no head, no data and no end.
+    ghost ended: { (sink : Self) (left : Option ℕ) → ends sink → stands sink left → ⊥ };
+
     /// A refusal after events is one after all of them joined.
     ghost joined_stop: { (a b c : Self) (xs ys : List DatasetEvent) (refused : DatasetEvent) → goes a xs b → stops b ys refused c → stops a (xs ++ ys) refused c };
 }

@@ -2,6 +2,8 @@ pub mod Records
 pub mod Alive
 pub mod Faults
 pub mod Causes
+pub mod Names
+pub mod WireLimits
 pub mod Orders
 pub mod Values
 pub mod Checks

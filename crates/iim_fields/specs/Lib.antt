@@ -3,7 +3,6 @@ pub mod Format
 -- What only proofs and private clauses cite.
 pub mod NumberSets
 pub mod Orders
-pub mod Blocks
 pub mod Stores
 pub mod Checking
 pub mod Reading

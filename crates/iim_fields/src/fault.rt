@@ -1,26 +1,71 @@
 //! Why a dataset is refused.
 
-/// What was wrong, in the order in which causes are told: the record layer's before those of the limits.
+ghost use Rattle.std.specs.Prelude.{◌≡◌, Some};
+ghost use Rattle.iim_fields.specs.Format.Causes.{number_of_cause};
+ghost use Rattle.iim_fields.specs.Format.Names.{name_of_cause, text_of_cause};
+
+use std::fmt;
+use std::fmt::{Display, Formatter};
+
+/// What was wrong, each with its number. Of several the one of the lowest number is told: so the record layer's are told before
+/// those of the limits.
 #[derive(Clone, Copy, Debug, PartialEq, Eq)]
 pub enum FieldCause {
     /// The record is neither the present one nor the next.
-    RecordOrder,
+    RecordOrder = 10,
     /// Record 7, 8 or 9 has no dataset of this number.
-    UnknownDataset,
+    UnknownDataset = 11,
     /// The dataset does not repeat, and has occurred.
-    Repeated,
+    Repeated = 12,
     /// The number of octets is outside the bounds of the dataset's row.
-    CountRange,
+    CountRange = 13,
     /// The next record begins, and a mandatory dataset of the present one is absent.
-    Missing,
+    Missing = 14,
     /// The octets are not of the dataset's kind.
-    BadValue,
+    BadValue = 15,
     /// 1:20 File Format is not 2.
-    FileFormat,
+    FileFormat = 16,
     /// The data of records 1 and 2 pass the limit on octets.
-    HeaderFull,
+    HeaderFull = 50,
     /// The datasets of records 1 and 2 pass the limit on their number.
-    TooManyFields,
+    TooManyFields = 51,
+}
+
+impl FieldCause {
+    /// The number, as it is printed.
+    pub fn number(self) -> u8
+        ensures { result ≡ number_of_cause self }
+    {
+        self as u8
+    }
+
+    /// The name, as it is printed.
+    pub fn name(self) -> &'static str
+        ensures { result.now ≡ name_of_cause self }
+    {
+        match self {
+            FieldCause::RecordOrder => "RecordOrder",
+            FieldCause::UnknownDataset => "UnknownDataset",
+            FieldCause::Repeated => "Repeated",
+            FieldCause::CountRange => "CountRange",
+            FieldCause::Missing => "Missing",
+            FieldCause::BadValue => "BadValue",
+            FieldCause::FileFormat => "FileFormat",
+            FieldCause::HeaderFull => "HeaderFull",
+            FieldCause::TooManyFields => "TooManyFields",
+        }
+    }
+}
+
+/// The number and the name, as `14 Missing`.
+impl Display for FieldCause {
+    ghost output = { λ cause. Some (text_of_cause cause) };
+
+    fn fmt<W: fmt::Write>(&self, f: &mut Formatter<W>) -> fmt::Result {
+        let number = self.number();
+        let name = self.name();
+        write!(f, "{number} {name}")
+    }
 }
 
 /// A dataset that is refused, and why. For [`FieldCause::Missing`] it is the missing dataset of the lowest number.

@@ -1,7 +1,10 @@
-//! What holds of all datasets.
+//! What holds of all datasets, and of the limits of wire copy.
 
+ghost use Rattle.std.specs.Prelude.{◌≡◌};
+ghost use Rattle.iim_fields.specs.Format.WireLimits.{wire_limits};
 ghost use Rattle.iim_fields.specs.Format.Laws.{HeadsDieWithTheirFault, ValuesDieWithTheirFault, EnvelopesEndWithTheLastRecord, NoSectionsBeginOthers, HeadsTellTheLowestCause, ValuesTellTheLowestCause, DatasetsLeadToOnePlace};
 
+use crate::limits::Limits;
 use iim_tables::laws::each_row_has_values;
 
 /// The record layer dies at a head exactly where the head has a fault: every head without one can be completed.
@@ -43,4 +46,9 @@ pub fn values_tell_the_lowest_cause()
 /// After the same datasets a [`crate::RecordCheck`] stands at one place, and after the same datasets and head too.
 pub fn datasets_lead_to_one_place()
     ensures { DatasetsLeadToOnePlace }
+{}
+
+/// [`Limits::WIRE`] are 65,536 octets in 512 datasets.
+pub fn wire_limits_are_told()
+    ensures { Limits.WIRE ≡ wire_limits }
 {}

@@ -6,7 +6,6 @@
 //! [`RecordCheck`] is the record layer alone.
 #![tactic(auto)]
 
-mod block;
 mod builder;
 mod check;
 mod envelope;

@@ -15,6 +15,12 @@ pub struct Limits {
 }
 
 impl Limits {
+    /// The limits of those that take wire copy: 65,536 octets in 512 datasets.
+    pub const WIRE: Limits = Limits {
+        octets: 65_536,
+        fields: 512,
+    };
+
     /// The first limit that `octets` octets and `fields` datasets pass, of all that is kept: `HeaderFull`, or else
     /// `TooManyFields`.
     pub fn passed(self, octets: u64, fields: u64) -> Option<FieldCause>

@@ -3,7 +3,7 @@
 ghost use Rattle.std.specs.Prelude.{◌≡◌, ◌+◌, ◌≤◌, ◌<◌, ◌++◌, ◌∷◌, [], IfOk, IfErr, length, vec_len, vec_capacity};
 ghost use Rattle.iim_fields.specs.Stores.{store_room, ends_at, begun_octets};
 
-use crate::block::Block;
+use iim_dataset::ReservedOctets;
 use std::alloc::{AllocError, Global};
 
 /// A kept dataset: the numbers of its record and of itself, and where its octets end in the store. They begin where
@@ -22,7 +22,7 @@ pub(crate) struct Entry {
 #[derive(Drop)]
 pub(crate) struct Store {
     /// The octets of the kept datasets, joined, and then those of a begun one.
-    pub octets: Block,
+    pub octets: ReservedOctets,
     /// An entry for each kept dataset.
     pub entries: Vec<Entry>,
 }
@@ -36,7 +36,7 @@ impl Store {
         ensures entries_room { IfOk result (λ store. vec_capacity store.entries ≡ entries) }
     {
         let store = Store {
-            octets: Block::new(alloc, octets)?,
+            octets: ReservedOctets::new(alloc, octets)?,
             entries: Vec::with_capacity(alloc, entries)?,
         };
         Ok(store)

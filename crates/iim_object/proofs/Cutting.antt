@@ -1,12 +1,9 @@
 -- How an object is cut, and in how many ways.
-use Rattle.std.proofs.Common.{◌≡◌, ℕ, ◌+◌, ◌*◌, ◌≤◌, ◌&&◌, nat_le, inl, inr, subst, IsTrue, List, [], ◌∷◌, ◌++◌, length, refl, sym, ap, ◌∙◌, arith, append_assoc, length-append}
+use Rattle.std.proofs.Common.{◌≡◌, ℕ, ◌+◌, ◌*◌, ◌≤◌, inl, inr, subst, List, [], ◌∷◌, ◌++◌, length, refl, sym, ap, ◌∙◌, arith, append_assoc, length-append}
 use Rattle.std.proofs.Math.Nat.{mul-le-mul_left}
-use Rattle.std.proofs.lemmas.Bool.{and_parts, leb-true, cases_lt}
-use Rattle.iim_object.specs.Format.Cuts.{joined_parts, AreFull, ObjectsAreCutOneWay}
-use Rattle.iim_object.specs.Format.Plans.{is_plan, fits, max_subfiles}
-use Rattle.iim_dataset.specs.Format.Octets.{greatest_size}
-use Rattle.iim_object.specs.Format.Packing.{SubfilesAreFew}
-use Rattle.iim_object.specs.declared.size.Size.{Size}
+use Rattle.std.proofs.lemmas.Bool.{cases_lt}
+use Rattle.iim_object.specs.Format.Cuts.{joined_parts, AreFull, IsCut, ObjectsAreCutOneWay}
+use Rattle.iim_object.specs.Format.Plans.{max_subfiles}
 
 -- lists of one length that lists begin with are equal, and so is what follows
 pub same_front : (xs ys us vs : List ℕ) → length xs ≡ length ys → xs ++ us ≡ ys ++ vs → (xs ≡ ys) × (us ≡ vs)
@@ -75,17 +72,24 @@ few_full size count last most one some h = elim (cases_lt count most) [
   | inr ge ↦ let much = mul-le-mul_left size ge in absurd (omega (arith, h, some, much))
 ]
 
-least_size : (subfile : ℕ) (size : Size) → IsTrue (is_plan subfile size) → 1 ≤ subfile
-least_size subfile size h =
-    let outer = and_parts (nat_le 1 subfile && nat_le subfile greatest_size) (fits subfile size) h in
-    leb-true 1 subfile (and_parts (nat_le 1 subfile) (nat_le subfile greatest_size) outer.0).0
+-- how many parts a cut has
+pub count_is : (subfile : ℕ) (object : List ℕ) (parts : List (List ℕ)) (c : IsCut subfile object parts) → length parts ≡ length c.full + 1
+count_is subfile object parts c = ap length c.parts_are ∙ length-append c.full (c.last ∷ [])
 
-pub few_parts : SubfilesAreFew
-few_parts subfile size object parts plan c within = by_last c.last refl c.full refl
+-- how many octets a cut object has
+cut_length : (subfile : ℕ) (object : List ℕ) (parts : List (List ℕ)) (c : IsCut subfile object parts) → length object ≡ subfile * length c.full + length c.last
+cut_length subfile object parts c = omega (arith, ap length c.joined, length-append (joined_parts c.full) c.last, full_length subfile c.full c.are_full)
+
+-- few parts hold no more than as many full ones
+pub held_in_few : (subfile : ℕ) (object : List ℕ) (parts : List (List ℕ)) → IsCut subfile object parts → length parts ≤ max_subfiles → length object ≤ subfile * max_subfiles
+held_in_few subfile object parts c few =
+    let more : subfile * (length c.full + 1) ≤ subfile * max_subfiles = mul-le-mul_left subfile (omega (arith, few, count_is subfile object parts c)) in
+    omega (arith, more, cut_length subfile object parts c, c.fits)
+
+-- what as many full parts hold is cut into no more
+pub few_parts : (subfile : ℕ) (object : List ℕ) (parts : List (List ℕ)) → 1 ≤ subfile → IsCut subfile object parts → length object ≤ subfile * max_subfiles → length parts ≤ max_subfiles
+few_parts subfile object parts one c within = by_last c.last refl c.full refl
   where
-    one : 1 ≤ subfile
-    one = least_size subfile size plan
-
     many : (full : List (List ℕ)) → c.full ≡ full → length parts ≡ length full + 1
     many full f = ap length (c.parts_are ∙ ap (λ (fs : List (List ℕ)). fs ++ c.last ∷ []) f) ∙ length-append full (c.last ∷ [])
 

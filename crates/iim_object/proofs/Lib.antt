@@ -9,6 +9,7 @@ pub mod Leads
 pub mod Stands
 pub mod Cutting
 pub mod PackedSizes
+pub mod Bounds
 pub mod GoodRecords
 pub mod Outputs
 pub mod Rooms

@@ -1,8 +1,7 @@
 -- How many octets are out of an object that is cut into subfiles.
-use Rattle.std.proofs.Common.{◌≡◌, ℕ, ◌+◌, ◌*◌, ◌^◌, ◌≤◌, true, false, inl, inr, List, [], ◌∷◌, ◌++◌, length, Some, None, sym, ap, ◌∙◌, arith, length-append}
-use Rattle.std.specs.Prelude.{vec_len, vec_capacity}
+use Rattle.std.proofs.Common.{◌≡◌, ℕ, ◌+◌, ◌*◌, ◌≤◌, true, false, inl, inr, List, length, sym, ap, ◌∙◌, arith}
 use Rattle.std.proofs.Math.Nat.{mul-le-mul_left}
-use Rattle.std.proofs.lemmas.Bool.{cases_lt, lt-ltb, le-ltb}
+use Rattle.std.proofs.lemmas.Bool.{cases_lt}
 use Rattle.iim_dataset.specs.Format.Datasets.{canonical_dataset, tag_octets}
 use Rattle.iim_dataset.specs.Format.Devices.{Device}
 use Rattle.iim_dataset.specs.Format.Octets.{greatest_size}
@@ -15,10 +14,6 @@ use Rattle.iim_object.specs.declared.plan.Plan.{Plan}
 use Rattle.iim_object.specs.declared.cutter.Cutter.{Cutter}
 use Rattle.iim_object.proofs.PackedSizes.{plan_parts}
 
--- the length of what a cutter holds
-held_is : {W : Type 0} (c : Cutter W) → vec_len c.held ≡ length c.held.items
-held_is c = c.held.ok.0
-
 -- no more full parts than there may be
 few_parts : (size count most : ℕ) → 1 ≤ size → size * count ≤ size * most → count ≤ most
 few_parts size count most one h = elim (cases_lt most count) [
@@ -27,7 +22,7 @@ few_parts size count most one h = elim (cases_lt most count) [
 ]
 
 -- what is out and what is held, while no write failed
-pub out_fits : {W : Type 0} (c : Cutter W) → HasRoom c → c.failed ≡ false → c.output.written + vec_len c.held ≤ most_written greatest_size max_subfiles
+pub out_fits : {W : Type 0} (c : Cutter W) → HasRoom c → c.failed ≡ false → c.output.written + length c.held.items ≤ most_written greatest_size max_subfiles
 out_fits c room unfailed =
     let plan = plan_parts c.plan.subfile c.plan.size c.plan.valid in
     let few : room.parts ≤ max_subfiles = few_parts c.plan.subfile room.parts max_subfiles plan.least (omega (arith, room.sent, room.bound)) in
@@ -35,17 +30,18 @@ out_fits c room unfailed =
 
 -- ---- what stays when a subfile is written, and when a write fails
 
-pub room_flushed : {W : Type 0} (state : W → Device) (old new : Cutter W) → HasRoom old → old.failed ≡ false → vec_len old.held ≡ old.plan.subfile → Flushes state old new
-    → vec_capacity new.held ≡ vec_capacity old.held → vec_len new.held ≡ 0 → HasRoom new
-room_flushed state old new room unfailed full f same none =
+pub room_flushed : {W : Type 0} (state : W → Device) (old new : Cutter W) → HasRoom old → old.failed ≡ false → length old.held.items ≡ old.plan.subfile → Flushes state old new
+    → HasRoom new
+room_flushed state old new room unfailed full f =
+    let none : length new.held.items ≡ 0 = ap length f.held in
     let text : List ℕ = canonical_dataset (subfile_dataset old.held.items) in
     let fits = out_fits old room unfailed in
-    let long : length text ≤ tag_octets + vec_len old.held = omega (arith, dataset_length (subfile_dataset old.held.items), held_is old) in
+    let long : length text ≤ tag_octets + length old.held.items = omega (arith, dataset_length (subfile_dataset old.held.items)) in
     let planned : room_of new.plan ≡ room_of old.plan = ap room_of f.plan in
     let most : most_of new.plan ≡ most_of old.plan = ap most_of f.plan in
     let size : new.plan.subfile ≡ old.plan.subfile = ap (λ (p : Plan). p.subfile) f.plan in
     record {
-      capacity = omega (arith, room.capacity, same, planned);
+      capacity = omega (arith, room.capacity, f.room, planned);
       within = omega (arith, none);
       bound = omega (arith, room.bound, f.sent, none, most);
       parts = room.parts + 1;
@@ -54,11 +50,11 @@ room_flushed state old new room unfailed full f same none =
       small = omega (arith, f.put.counted, long, fits);
     }
 
-pub room_halted : {W : Type 0} (state : W → Device) (old new : Cutter W) (text : List ℕ) → HasRoom old → old.failed ≡ false → Halts state old new text → length text ≤ 64 + vec_len old.held → HasRoom new
+pub room_halted : {W : Type 0} (state : W → Device) (old new : Cutter W) (text : List ℕ) → HasRoom old → old.failed ≡ false → Halts state old new text → length text ≤ 64 + length old.held.items → HasRoom new
 room_halted state old new text room unfailed h long =
     let fits = out_fits old room unfailed in
-    let held : vec_len new.held ≡ vec_len old.held = ap vec_len h.held in
-    let capacity : vec_capacity new.held ≡ vec_capacity old.held = ap vec_capacity h.held in
+    let held : length new.held.items ≡ length old.held.items = ap (λ o. length o.items) h.held in
+    let capacity : new.held.room ≡ old.held.room = ap (λ o. o.room) h.held in
     let planned : room_of new.plan ≡ room_of old.plan = ap room_of h.plan in
     let most : most_of new.plan ≡ most_of old.plan = ap most_of h.plan in
     let size : new.plan.subfile ≡ old.plan.subfile = ap (λ (p : Plan). p.subfile) h.plan in

@@ -1,12 +1,11 @@
 -- From a possible place the layer can continue by each smaller greatest size that the place keeps to.
-use Rattle.std.proofs.Common.{◌≡◌, ℕ, zero, suc, ◌<◌, ◌≤◌, Bool, true, false, List, [], ◌∷◌, ◌++◌, length, map, sum, Option, Some, None, is_some, refl, sym, ap, subst, ◌∙◌, arith, append-nil, append_assoc}
+use Rattle.std.proofs.Common.{◌≡◌, ℕ, zero, suc, ◌<◌, ◌≤◌, Bool, true, false, List, [], ◌∷◌, ◌++◌, length, map, sum, Option, Some, None, is_some, refl, sym, ap, subst, ◌∙◌, arith, append-nil}
 use Rattle.iim_dataset.specs.Format.Languages.{IsAlive}
 use Rattle.iim_object.specs.Format.Sizes.{Stated, AreStated, number_at, mode_number}
 use Rattle.iim_object.specs.Format.Living.{HasDuties}
-use Rattle.iim_object.specs.Format.Objects.{ObjectToken, SubfileBegun, ObjectEnded, Confirmed, ObjectLanguage, number_tokens}
-use Rattle.iim_object.specs.Format.Places.{Place, Ending, NotEnded, Ended, ConfirmedAs, HasBoth, tokens_of, ending_tokens}
-use Rattle.iim_object.specs.Format.Saved.{IsPossible}
-use Rattle.iim_object.specs.Format.Within.{TokensWithin, LanguageWithin, PlacesLiveWithin}
+use Rattle.iim_object.specs.Format.Objects.{ObjectToken, SubfileBegun, ObjectLanguage, number_tokens}
+use Rattle.iim_object.specs.Format.Places.{Ending, NotEnded, Ended, ConfirmedAs, HasBoth, ending_tokens}
+use Rattle.iim_object.specs.Format.Within.{LanguageWithin, PlacesLiveWithin}
 use Rattle.iim_object.proofs.Numbers.{AreLow, numbers_low, numbers_alive_within, in_row_at, mode_at_most_one}
 use Rattle.iim_object.proofs.Subfiles.{numbers_law, subfiles_law, ends_law, confirmed_law, subfiles_alive_within, ends_within, confirmed_within}
 

@@ -1,6 +1,6 @@
 -- How a writer of subfiles continues, breaks off and finishes.
 use Rattle.std.proofs.Common.{◌≡◌, ℕ, ◌<◌, ◌≤◌, Bool, true, false, cond, Option, Some, None, List, [], ◌∷◌, ◌++◌, length, take, drop, refl, sym, ap, subst, ◌∙◌, arith, append_assoc, append-nil, length-append, length-take}
-use Rattle.std.specs.Prelude.{vec_len, IfNone}
+use Rattle.std.specs.Prelude.{IfNone}
 use Rattle.std.proofs.lemmas.List.{take-append-drop}
 use Rattle.iim_dataset.specs.Format.Devices.{Device, Wrote}
 use Rattle.iim_dataset.specs.Format.DeviceLaws.{TextsJoin}
@@ -102,10 +102,6 @@ leads_on state a b c xs ys join l m = record {
 no_less : (xs ys : List ℕ) → 1 ≤ length ys → xs ++ ys ≡ [] → ⊥
 no_less xs ys some e = omega (arith, some, length-append xs ys, ap length e)
 
--- the length of what a cutter holds
-pub held_is : {W : Type 0} (c : Cutter W) → vec_len c.held ≡ length c.held.items
-held_is c = c.held.ok.0
-
 -- Octets are held.
 pub filled : {W : Type 0} (state : W → Device) (old new : Cutter W) (xs : List ℕ) → TextsJoin → old.failed ≡ false → 1 ≤ length xs → Fills old new xs → HasRoom new → Lengthens state (writing_of old) (writing_of new) xs
 filled state old new xs join unfailed some f room =
@@ -124,14 +120,14 @@ filled state old new xs join unfailed some f room =
         object_is = ap (λ (t : List ℕ). t ++ xs) s.object_is ∙ (append_assoc (joined_parts s.parts) old.held.items xs ∙ ap (λ (t : List ℕ). joined_parts s.parts ++ t) (sym f.held));
         some = λ empty. absurd (no_less old.held.items xs some (sym f.held ∙ empty));
         sent = f.sent ∙ s.sent;
-        within = omega (arith, room.within, room.bound, held_is new);
+        within = omega (arith, room.within, room.bound);
         out_is = append-nil out ∙ (s.out_is ∙ ap (λ (p : Plan). octets_out p s.parts) (sym f.plan));
         written = ap (λ o. o.written) f.output ∙ (s.written ∙ ap length (sym (append-nil out)));
       };
     }
 
 -- A full subfile is written, and octets are held after it.
-pub flushed : {W : Type 0} (state : W → Device) (old mid new : Cutter W) (xs : List ℕ) → TextsJoin → old.failed ≡ false → vec_len old.held ≡ old.plan.subfile → 1 ≤ length xs → Flushes state old mid
+pub flushed : {W : Type 0} (state : W → Device) (old mid new : Cutter W) (xs : List ℕ) → TextsJoin → old.failed ≡ false → length old.held.items ≡ old.plan.subfile → 1 ≤ length xs → Flushes state old mid
     → Fills mid new xs → HasRoom new
     → Lengthens state (writing_of old) (writing_of new) xs
 flushed state old mid new xs join unfailed full some f h room =
@@ -140,22 +136,22 @@ flushed state old mid new xs join unfailed full some f h room =
     let plans : new.plan ≡ old.plan = h.plan ∙ f.plan in
     let now : new.held.items ≡ xs = h.held ∙ ap (λ (t : List ℕ). t ++ xs) f.held in
     let still : new.failed ≡ false = h.failed ∙ f.failed in
-    let length_held : length old.held.items ≡ old.plan.subfile = sym (held_is old) ∙ full in
+    let length_held : length old.held.items ≡ old.plan.subfile = full in
     record {
       more = text;
       wrote = subst (λ w. Wrote (state old.output.writer) (state w) text) (sym same) f.put.wrote;
       plan = plans;
       unfailed = still;
       counted = let o = ap (λ p. p.written) h.output in omega (arith, o, f.put.counted);
-      total = omega (arith, h.sent, f.sent, held_is old, ap length now);
+      total = omega (arith, h.sent, f.sent, ap length now);
       stands = λ object out s. record {
         unfailed = still;
         parts = s.parts ++ old.held.items ∷ [];
         are_full = subst (λ (p : Plan). AreFull p.subfile (s.parts ++ old.held.items ∷ [])) (sym plans) (full_append old.plan.subfile s.parts old.held.items s.are_full length_held);
         object_is = λ i. (s.object_is ∙ sym (joined_append s.parts old.held.items)) i ++ sym now i;
         some = λ empty. absurd (omega (arith, some, ap length (sym now ∙ empty)));
-        sent = omega (arith, h.sent, f.sent, held_is old, s.sent, ap length (joined_append s.parts old.held.items), length-append (joined_parts s.parts) old.held.items);
-        within = omega (arith, room.within, room.bound, held_is new);
+        sent = omega (arith, h.sent, f.sent, s.sent, ap length (joined_append s.parts old.held.items), length-append (joined_parts s.parts) old.held.items);
+        within = omega (arith, room.within, room.bound);
         out_is = ap (λ (t : List ℕ). t ++ text) s.out_is
             ∙ (ap (λ (t : List ℕ). octets_out old.plan s.parts ++ t) (sym (append-nil text))
             ∙ (sym (begun_more old.plan s.parts (old.held.items ∷ [])) ∙ ap (λ (p : Plan). octets_out p (s.parts ++ old.held.items ∷ [])) (sym plans)));
@@ -184,13 +180,13 @@ regroup : (object joined held octets rest : List ℕ) → object ≡ joined ++ h
 regroup object joined held octets rest e = append_assoc object octets rest ∙ ap (λ (t : List ℕ). t ++ (octets ++ rest)) e
 
 -- A full subfile could not be written, and octets were to come after it.
-pub halted : {W : Type 0} (state : W → Device) (old new : Cutter W) (octets : List ℕ) → vec_len old.held ≡ old.plan.subfile → 1 ≤ length octets → Halts state old new (canonical_dataset (subfile_dataset old.held.items))
+pub halted : {W : Type 0} (state : W → Device) (old new : Cutter W) (octets : List ℕ) → length old.held.items ≡ old.plan.subfile → 1 ≤ length octets → Halts state old new (canonical_dataset (subfile_dataset old.held.items))
     → BreaksOff state (ContinuesWith old.plan octets) (writing_of old) (writing_of new)
 halted state old new octets full some h =
     let text : List ℕ = canonical_dataset (subfile_dataset old.held.items) in
     let plan = old.plan in
     let held : List ℕ = old.held.items in
-    let length_held : length held ≡ plan.subfile = sym (held_is old) ∙ full in
+    let length_held : length held ≡ plan.subfile = full in
     record {
       more = take h.cut.out text;
       appends = h.cut.stopped.1;

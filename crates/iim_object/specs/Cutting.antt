@@ -1,7 +1,8 @@
 -- A writer of subfiles from inside: what it holds, fills and sends.
-use Rattle.std.specs.Prelude.{◌≡◌, ℕ, ◌+◌, ◌*◌, ◌<◌, ◌≤◌, true, false, List, [], ◌++◌, length, Vec, vec_len, vec_capacity}
+use Rattle.std.specs.Prelude.{◌≡◌, ℕ, ◌+◌, ◌*◌, ◌<◌, ◌≤◌, true, false, List, [], ◌++◌, length}
 use Rattle.iim_dataset.specs.Format.Devices.{Device}
 use Rattle.iim_dataset.specs.Format.Datasets.{canonical_dataset, tag_octets}
+use Rattle.iim_dataset.specs.Format.Reserved.{Reserved}
 use Rattle.iim_object.specs.Format.Packing.{subfile_dataset}
 use Rattle.iim_object.specs.Format.Plans.{most_out, most_sizes}
 use Rattle.iim_object.specs.Outputs.{Puts, Cuts}
@@ -13,7 +14,7 @@ use Rattle.iim_object.specs.Format.Writing.{Writing, most_of, room_of, total_of}
 
 -- the cutter as a writer of subfiles
 abbrev pub writing_of : {W : Type 0} → Cutter W → Writing W
-writing_of c = record { plan = c.plan; held = c.held.items; sent = c.sent; written = c.output.written; failed = c.failed; writer = c.output.writer }
+writing_of c = record { plan = c.plan; held = c.held.items; room = c.held.room; sent = c.sent; written = c.output.written; failed = c.failed; writer = c.output.writer }
 
 -- the most octets that are out after `parts` full subfiles, of `sent` octets in all: record 7, and the tag of each subfile
 abbrev pub most_written : ℕ → ℕ → ℕ
@@ -21,9 +22,9 @@ most_written sent parts = most_sizes + sent + tag_octets * parts
 
 -- It has room for what the plan allows. Full subfiles are out, `parts` of them: so its numbers are small.
 pub record HasRoom {W : Type 0} (c : Cutter W) : Type 0 where
-  pub capacity : room_of c.plan ≤ vec_capacity c.held
-  pub within : vec_len c.held ≤ c.plan.subfile
-  pub bound : c.sent + vec_len c.held ≤ most_of c.plan
+  pub capacity : room_of c.plan ≤ c.held.room
+  pub within : length c.held.items ≤ c.plan.subfile
+  pub bound : c.sent + length c.held.items ≤ most_of c.plan
   pub parts : ℕ
   pub sent : c.sent ≡ c.plan.subfile * parts
   pub count : c.failed ≡ false → c.output.written ≤ most_written c.sent parts
@@ -38,6 +39,7 @@ pub record MayTake {W : Type 0} (c : Cutter W) (octets : List ℕ) : Type 0 wher
 -- It holds these octets too. Nothing else has changed.
 pub record Fills {W : Type 0} (old new : Cutter W) (octets : List ℕ) : Type 0 where
   pub held : new.held.items ≡ old.held.items ++ octets
+  pub room : new.held.room ≡ old.held.room
   pub plan : new.plan ≡ old.plan
   pub sent : new.sent ≡ old.sent
   pub output : new.output ≡ old.output
@@ -48,7 +50,8 @@ pub record Flushes {W : Type 0} (state : W → Device) (old new : Cutter W) : Ty
   pub put : Puts state old.output new.output (canonical_dataset (subfile_dataset old.held.items))
   pub plan : new.plan ≡ old.plan
   pub held : new.held.items ≡ []
-  pub sent : new.sent ≡ old.sent + vec_len old.held
+  pub room : new.held.room ≡ old.held.room
+  pub sent : new.sent ≡ old.sent + length old.held.items
   pub failed : new.failed ≡ false
 
 -- A write of this text failed.
@@ -62,7 +65,6 @@ pub record Halts {W : Type 0} (state : W → Device) (old new : Cutter W) (text 
 -- ---- buffers
 
 -- nothing is in it, and it has just the room that a plan asks
-pub record IsReserved {A : Type 0} (plan : Plan) (v : Vec ℕ A) : Type 0 where
-  pub empty : v.items ≡ []
-  pub len : vec_len v ≡ 0
-  pub capacity : vec_capacity v ≡ room_of plan
+pub record IsReserved (plan : Plan) (octets : Reserved) : Type 0 where
+  pub empty : octets.items ≡ []
+  pub room : octets.room ≡ room_of plan

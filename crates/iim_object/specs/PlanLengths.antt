@@ -1,5 +1,5 @@
 -- Lemmas on how long record 7 is, for the proofs of every crate: nothing here is to be believed.
-use Rattle.std.proofs.Common.{◌≡◌, ℕ, ◌+◌, ◌*◌, ◌^◌, ◌≤◌, inl, inr, List, [], ◌∷◌, ◌++◌, length, Some, None, arith, length-append}
+use Rattle.std.proofs.Common.{ℕ, ◌^◌, ◌≤◌, inl, inr, List, [], ◌∷◌, ◌++◌, length, Some, None, arith, length-append}
 use Rattle.std.proofs.lemmas.Bool.{cases_lt, lt-ltb, le-ltb}
 use Rattle.iim_dataset.specs.Format.Datasets.{canonical_dataset, canonical_stream, tag_octets}
 use Rattle.iim_object.specs.Format.Packing.{number_dataset, size_datasets, plan_datasets, is_known}

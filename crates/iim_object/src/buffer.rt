@@ -4,6 +4,7 @@ ghost use Rattle.std.specs.Prelude.{◌≡◌, IfOk};
 ghost use Rattle.iim_object.specs.Format.Writing.{room_of};
 
 use crate::plan::Plan;
+use iim_dataset::ReservedOctets;
 use std::alloc::{AllocError, Global};
 use std::marker::Model;
 
@@ -11,7 +12,7 @@ use std::marker::Model;
 #[derive(Drop)]
 pub struct SubfileBuffer {
     pub(crate) plan: Plan,
-    pub(crate) octets: Vec<u8>,
+    pub(crate) octets: ReservedOctets,
 }
 
 impl Model for SubfileBuffer {
@@ -31,7 +32,7 @@ impl SubfileBuffer {
         ensures { IfOk result (λ buffer. buffer ≡ plan) }
     {
         let room = plan.subfile.min(plan.bound()) as usize;
-        let octets = Vec::with_capacity(alloc, room)?;
+        let octets = ReservedOctets::new(alloc, room)?;
         Ok(SubfileBuffer { plan, octets })
     }
 
@@ -39,6 +40,6 @@ impl SubfileBuffer {
     pub fn room(&self) -> usize
         ensures { result ≡ room_of self.now }
     {
-        self.octets.capacity()
+        self.octets.room()
     }
 }

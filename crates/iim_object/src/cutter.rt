@@ -1,6 +1,6 @@
 //! An object, cut into subfiles as it comes.
 
-ghost use Rattle.std.specs.Prelude.{◌≡◌, ◌+◌, ◌-◌, ◌^◌, ◌<◌, ◌≤◌, length, take, true, false, IfOk, IfErr, OnOk, OnErr, IfSome, IfNone, Err, vec_len};
+ghost use Rattle.std.specs.Prelude.{◌≡◌, ◌+◌, ◌-◌, ◌^◌, ◌<◌, ◌≤◌, length, take, true, false, IfOk, IfErr, OnOk, OnErr, IfSome, IfNone, Err};
 ghost use Rattle.iim_dataset.specs.Format.Datasets.{canonical_dataset};
 ghost use Rattle.iim_object.specs.Format.Packing.{subfile_dataset};
 ghost use Rattle.iim_object.specs.Format.Writing.{most_of, total_of, Lengthens, BreaksOff, ContinuesWith, IsTheWhole, Finishes, write_cause, finish_cause, is_short};
@@ -12,8 +12,8 @@ use crate::laws::objects_are_cut_one_way;
 use crate::output::Output;
 use crate::plan::Plan;
 use crate::size::Size;
-use iim_dataset::Target;
 use iim_dataset::device_laws::texts_join;
+use iim_dataset::{ReservedOctets, Target};
 use iim_tables::records::{CONFIRMED_SIZE, OBJECT, POST_OBJECT, SUBFILE};
 
 /// The octets of an object that are not out, and how many are.
@@ -22,7 +22,7 @@ pub(crate) struct Cutter<W> {
     /// How the object is cut.
     pub plan: Plan,
     /// The octets that are not out.
-    pub held: Vec<u8>,
+    pub held: ReservedOctets,
     /// How many octets of the object are out.
     pub sent: u64,
     /// Where the object goes.
@@ -54,13 +54,17 @@ impl<W: Target> Cutter<W> {
     fn flush(&mut self) -> Result<(), PackCause>
         requires room { HasRoom self.old }
         requires unfailed { self.old.failed ≡ false }
-        requires full { vec_len self.old.held ≡ self.old.plan.subfile }
+        requires full { length self.old.held.items ≡ self.old.plan.subfile }
         ensures ok { OnOk result (Flushes W.state self.old self.new) }
         ensures room { HasRoom self.new }
+        ensures same_room { self.new.held.room ≡ self.old.held.room }
         ensures err { OnErr result (Halts W.state self.old self.new (canonical_dataset (subfile_dataset self.old.held.items))) }
         ensures cause { IfErr result (λ cause. cause ≡ causes.Write) }
     {
-        match self.output.put_dataset(OBJECT, SUBFILE, &self.held) {
+        match self
+            .output
+            .put_dataset(OBJECT, SUBFILE, self.held.as_slice())
+        {
             Ok(()) => {
                 self.sent += self.held.len() as u64;
                 self.held.clear();
@@ -77,7 +81,7 @@ impl<W: Target> Cutter<W> {
     fn fill(&mut self, rest: &[u8]) -> usize
         requires room { HasRoom self.old }
         requires fits { total_of (writing_of self.old) + length rest.now ≤ most_of self.old.plan }
-        requires short { vec_len self.old.held < self.old.plan.subfile }
+        requires short { length self.old.held.items < self.old.plan.subfile }
         ensures within { result ≤ length rest.now }
         ensures some { 0 < length rest.now → 0 < result }
         ensures fills { Fills self.old self.new (take result rest.now) }
@@ -85,7 +89,7 @@ impl<W: Target> Cutter<W> {
     {
         let room = (self.plan.subfile - self.held.len() as u64) as usize;
         let taken = room.min(rest.len());
-        self.held.extend_from_slice(&rest[..taken]).unwrap();
+        self.held.take(&rest[..taken]);
         taken
     }
 
@@ -94,6 +98,7 @@ impl<W: Target> Cutter<W> {
         requires room { HasRoom self.old }
         requires may { MayTake self.old rest.now }
         ensures room { HasRoom self.new }
+        ensures same_room { self.new.held.room ≡ self.old.held.room }
         ensures within { IfOk result (λ taken. taken ≤ length rest.now) }
         ensures some { IfOk result (λ taken. 0 < taken) }
         ensures ok { IfOk result (λ taken. Lengthens W.state (writing_of self.old) (writing_of self.new) (take taken rest.now)) }
@@ -143,6 +148,7 @@ impl<W: Target> Cutter<W> {
     pub(crate) fn write(&mut self, octets: &[u8]) -> Result<(), PackCause>
         requires { HasRoom self.old }
         ensures room { HasRoom self.new }
+        ensures same_room { self.new.held.room ≡ self.old.held.room }
         ensures refused { IfSome (write_cause (writing_of self.old) (length octets.now)) (λ cause. (result ≡ Err cause) × (self.new ≡ self.old)) }
         ensures ok { OnOk result (Lengthens W.state (writing_of self.old) (writing_of self.new) octets.now) }
         ensures broke { IfNone (write_cause (writing_of self.old) (length octets.now))
@@ -167,6 +173,7 @@ impl<W: Target> Cutter<W> {
     pub(crate) fn finish(&mut self) -> Result<(), PackCause>
         requires { HasRoom self.old }
         ensures room { OnErr result (HasRoom self.new) }
+        ensures same_room { self.new.held.room ≡ self.old.held.room }
         ensures refused { IfSome (finish_cause (writing_of self.old)) (λ cause. (result ≡ Err cause) × (self.new ≡ self.old)) }
         ensures ok { OnOk result (Finishes W.state (writing_of self.old) self.new.output.writer) }
         ensures broke { IfNone (finish_cause (writing_of self.old))
@@ -179,7 +186,10 @@ impl<W: Target> Cutter<W> {
             return Err(cause);
         }
         let total = self.total();
-        match self.output.put_dataset(OBJECT, SUBFILE, &self.held) {
+        match self
+            .output
+            .put_dataset(OBJECT, SUBFILE, self.held.as_slice())
+        {
             Ok(()) => {}
             Err(cause) => {
                 self.failed = true;

@@ -110,7 +110,8 @@ pub fn packed_objects_have_sizes()
     ensures { PackedObjectsHaveSizes }
 {}
 
-/// An object that a plan has room for has at most 4,294,967,295 subfiles.
+/// A plan's bound leaves room for an object exactly where that is at most the greatest size, at most the known size or the maximum
+/// where one is said, and has at most 4,294,967,295 subfiles.
 pub fn subfiles_are_few()
     ensures { SubfilesAreFew }
 {}

@@ -1,6 +1,6 @@
 //! A writer of an object in subfiles.
 
-ghost use Rattle.std.specs.Prelude.{◌≡◌, ◌+◌, ◌<◌, ◌≤◌, ◌^◌, [], length, IfOk, IfErr, OnOk, OnErr, IfSome, IfNone, Err};
+ghost use Rattle.std.specs.Prelude.{◌≡◌, ◌⊎◌, ◌+◌, ◌<◌, ◌≤◌, ◌^◌, [], length, IfOk, IfErr, OnOk, OnErr, IfSome, IfNone, Err};
 ghost use Rattle.iim_dataset.specs.Format.Devices.{Wrote, Stopped};
 ghost use Rattle.iim_object.specs.Format.Plans.{most_out};
 ghost use Rattle.iim_object.specs.Format.Writing.{StandsAt, Lengthens, BreaksOff, ContinuesWith, IsTheWhole, Finishes, write_cause, finish_cause, RefusesOctets, RefusesEnd, plan_octets, total_of, most_of, room_of};
@@ -19,8 +19,8 @@ use std::marker::Model;
 /// Writes an object by a plan: record 7, subfiles and record 9. It has no store beside its buffer, and holds at most the
 /// lesser of a subfile and the plan's bound, in octets. No call takes memory: the room was made by [`SubfileBuffer::reserve`].
 ///
-/// What its contracts say holds of every object so far. Contracts see it as its plan, the octets that it holds, how many octets
-/// of the object are out, how many octets are out in all, whether a write failed, and what it writes to.
+/// What its contracts say holds of every object so far. Contracts see it as its plan, the octets that it holds, how many it has
+/// room for, how many octets of the object are out, how many octets are out in all, whether a write failed, and what it writes to.
 #[derive(Drop)]
 pub struct SubfileWriter<W> {
     cutter: Cutter<W>,
@@ -42,6 +42,7 @@ impl<W: Target> SubfileWriter<W> {
     /// octets of record 7 out as the fault says.
     pub fn start(buffer: SubfileBuffer, writer: W) -> Result<SubfileWriter<W>, StartFault<W>>
         ensures plan { IfOk result (λ w. w.plan ≡ buffer) }
+        ensures room { IfOk result (λ w. w.room ≡ room_of buffer) }
         ensures stands { IfOk result (λ w. StandsAt w [] (plan_octets buffer)) }
         ensures wrote { IfOk result (λ w. Wrote (W.state writer) (W.state w.writer) (plan_octets buffer)) }
         ensures cause { IfErr result (λ fault. fault.cause ≡ causes.Write) }
@@ -77,6 +78,7 @@ impl<W: Target> SubfileWriter<W> {
     pub fn write(&mut self, octets: &[u8]) -> Result<(), PackCause>
         // A cause is answered exactly where it stands, and then nothing changes.
         ensures causes { (cause : PackCauseValue) → RefusesOctets self.old (length octets.now) cause → (result ≡ Err cause) × (self.new ≡ self.old) }
+        ensures only { IfErr result (λ cause. (cause ≡ causes.Write) ⊎ RefusesOctets self.old (length octets.now) cause) }
         ensures refused { IfSome (write_cause self.old (length octets.now)) (λ cause. (result ≡ Err cause) × (self.new ≡ self.old)) }
 
         // Else the octets are taken, or a write failed.
@@ -84,6 +86,9 @@ impl<W: Target> SubfileWriter<W> {
         ensures cause { IfNone (write_cause self.old (length octets.now)) (IfErr result (λ cause. cause ≡ causes.Write)) }
         ensures broke { IfNone (write_cause self.old (length octets.now))
             (OnErr result (BreaksOff W.state (ContinuesWith self.old.plan octets.now) self.old self.new)) }
+
+        // It asks for no memory.
+        ensures room { self.new.room ≡ self.old.room }
     {
         self.cutter.write(octets)
     }
@@ -94,12 +99,16 @@ impl<W: Target> SubfileWriter<W> {
     pub fn finish(self) -> Result<W, (SubfileWriter<W>, PackCause)>
         // A cause is answered exactly where it stands, and then nothing changes.
         ensures causes { (cause : PackCauseValue) → RefusesEnd self cause → result ≡ Err (self, cause) }
+        ensures only { IfErr result (λ refused. (refused.1 ≡ causes.Write) ⊎ RefusesEnd self refused.1) }
         ensures refused { IfSome (finish_cause self) (λ cause. result ≡ Err (self, cause)) }
 
         // Else the object is out, or a write failed.
         ensures ok { IfOk result (λ writer. Finishes W.state self writer) }
         ensures cause { IfNone (finish_cause self) (IfErr result (λ refused. refused.1 ≡ causes.Write)) }
         ensures broke { IfNone (finish_cause self) (IfErr result (λ refused. BreaksOff W.state (IsTheWhole self.plan) self refused.0)) }
+
+        // It asks for no memory.
+        ensures room { IfErr result (λ refused. refused.0.room ≡ self.room) }
     {
         let mut cutter = self.cutter;
         match cutter.finish() {

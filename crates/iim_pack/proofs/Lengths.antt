@@ -5,7 +5,7 @@ use Rattle.iim_dataset.specs.Format.Datasets.{canonical_dataset, canonical_strea
 use Rattle.iim_dataset.specs.Format.Octets.{greatest_size}
 use Rattle.iim_fields.specs.Format.Faults.{joined}
 use Rattle.iim_object.specs.Format.Cuts.{IsCut}
-use Rattle.iim_object.specs.Format.Packing.{number_dataset, plan_datasets, subfile_dataset, subfile_datasets, confirmed_datasets, object_datasets}
+use Rattle.iim_object.specs.Format.Packing.{number_dataset, plan_datasets, subfile_dataset, subfile_datasets, confirmed_datasets, object_datasets, SubfilesAreFew}
 use Rattle.iim_object.specs.Format.Writing.{plan_octets}
 use Rattle.iim_object.specs.PlanLengths.{number_length}
 use Rattle.iim_object.specs.declared.plan.Plan.{Plan}
@@ -44,12 +44,12 @@ object_length plan object parts cut =
       length-append (canonical_stream (subfile_datasets parts)) (canonical_stream (confirmed_datasets object)),
     )
 
-pub few_octets : PackedOctetsAreFew
-few_octets fields head lines trailer plan octets p few =
+pub few_octets : SubfilesAreFew → PackedOctetsAreFew
+few_octets bounds fields head lines trailer plan octets p few =
     let object : List ℕ = canonical head lines trailer in
     let of_fields = stream_length fields in
     let of_object = object_length plan object p.written.parts p.written.cut in
-    let subfiles = few_subfiles fields head lines trailer plan octets p in
+    let subfiles = few_subfiles bounds fields head lines trailer plan octets p in
     let limit = (plan_parts plan.subfile plan.size plan.valid).limit in
     let fits = p.may.suits.fits in
     let size : length object ≤ greatest_size = omega (arith, fits, limit) in

@@ -20,6 +20,7 @@ pub(crate) fn end_object<W: Target>(
     ensures ok { IfOk result (λ writer. Ends W.state object tail.now writer) }
     ensures cause { IfErr result (λ refused. refused.1 ≡ causes.Write) }
     ensures broke { IfErr result (λ refused. BreaksOff W.state (EndsWithTail object.plan tail.now) object refused.0) }
+    ensures room { IfErr result (λ refused. refused.0.room ≡ object.room) }
 {
     texts_join();
     match object.write(tail) {

@@ -4,7 +4,7 @@ ghost use Rattle.iim_pack.specs.Format.Laws.{PackedOctetsAreFew, PackedOctetsAre
 
 use iim_dataset::laws::canonical_streams_are_spelled;
 use iim_object::laws::{
-    objects_are_cut_one_way, packed_objects_have_sizes, packed_records_are_good,
+    objects_are_cut_one_way, packed_objects_have_sizes, packed_records_are_good, subfiles_are_few,
 };
 
 /// What is packed carries the fields, the object and the sizes of the plan.
@@ -26,10 +26,14 @@ pub fn packed_octets_are_one()
 /// A packed form has at most 4,294,967,295 subfiles, as one envelope may have.
 pub fn packed_subfiles_are_few()
     ensures { PackedSubfilesAreFew }
-{}
+{
+    subfiles_are_few();
+}
 
 /// A packed form of no more fields than limits can allow has fewer octets than the greatest object and
 /// 2 to the power of 40.
 pub fn packed_octets_are_few()
     ensures { PackedOctetsAreFew }
-{}
+{
+    subfiles_are_few();
+}

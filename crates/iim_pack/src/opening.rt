@@ -1,8 +1,8 @@
 //! The beginning of an object.
 
-ghost use Rattle.std.specs.Prelude.{◌+◌, ◌<◌, ◌≤◌, ◌^◌, length, IfOk, IfErr};
+ghost use Rattle.std.specs.Prelude.{◌≡◌, ◌+◌, ◌<◌, ◌≤◌, ◌^◌, length, IfOk, IfErr};
 ghost use Rattle.iim_object.specs.Format.Plans.{most_out};
-ghost use Rattle.iim_object.specs.Format.Writing.{most_of};
+ghost use Rattle.iim_object.specs.Format.Writing.{most_of, room_of};
 ghost use Rattle.iim_pack.specs.Starting.{Opens, IsWrittenFrom};
 ghost use Rattle.iim_pack.specs.Format.Starting.{Halts};
 
@@ -18,6 +18,7 @@ pub(crate) fn open_object<W: Target>(
 ) -> Result<SubfileWriter<W>, StartFault<W>>
     requires { length front.now ≤ most_of buffer }
     ensures ok { IfOk result (Opens W.state writer buffer front.now) }
+    ensures room { IfOk result (λ object. object.room ≡ room_of buffer) }
     ensures err { IfErr result (Halts W.state (IsWrittenFrom buffer front.now) writer) }
     ensures small { IfErr result (λ fault. fault.written < most_out) }
 {

@@ -6,6 +6,7 @@ ghost use Rattle.iim_pack.specs.Format.Packing.{Lengthens, BreaksOff, ContinuesW
 ghost use Rattle.iim_pack.specs.Format.Starting.{Starts, StartIsRefused, IsStartFault};
 ghost use Rattle.iim_pack.specs.Format.Begun.{HasBegun, ContinuesBegun, EndsBegun};
 ghost use Rattle.iim_pack.specs.Format.Orders.{IsFirstOf, AgainstStart, AgainstText, AgainstLineEnd, AgainstFinish};
+ghost use Rattle.iim_object.specs.Format.Writing.{room_of};
 ghost use Rattle.iim_object.specs.declared.cause.PackCause.TheVariants as causes;
 
 use crate::cause::{LEAST_ENDING, ending_cause, is_past};
@@ -69,6 +70,7 @@ impl<W: Target> Packer<W> {
         ensures ok { IfOk result (Starts W.state writer envelope.now head.now plan) }
         ensures begun { IfOk result (λ k. HasBegun W.state (W.state writer) k envelope.now head.now [] plan) }
         ensures fault { IfNone (start_cause head.now plan) (IfErr result (IsStartFault W.state envelope.now head.now plan writer)) }
+        ensures room { IfOk result (λ k. k.object.room ≡ room_of plan) }
     {
         lines_are_packed_as_their_events();
         texts_join();
@@ -124,6 +126,7 @@ impl<W: Target> Packer<W> {
         ensures cause { IfNone (text_cause self.old octets.now) (IfErr result (λ cause. cause ≡ causes.Write)) }
         ensures broke { IfNone (text_cause self.old octets.now)
             (OnErr result (BreaksOff W.state (ContinuesWith (map LineOctet octets.now)) self.old self.new)) }
+        ensures room { self.new.object.room ≡ self.old.object.room }
     {
         texts_join();
         lines_are_packed_as_their_events();
@@ -154,6 +157,7 @@ impl<W: Target> Packer<W> {
         ensures begun { OnOk result (ContinuesBegun W.state self.old self.new (LineEnd ∷ [])) }
         ensures cause { IfNone (line_end_cause self.old) (IfErr result (λ cause. cause ≡ causes.Write)) }
         ensures broke { IfNone (line_end_cause self.old) (OnErr result (BreaksOff W.state (ContinuesWith (LineEnd ∷ [])) self.old self.new)) }
+        ensures room { self.new.object.room ≡ self.old.object.room }
     {
         texts_join();
         lines_are_packed_as_their_events();
@@ -179,6 +183,7 @@ impl<W: Target> Packer<W> {
         ensures begun { IfOk result (EndsBegun W.state self trailer.now) }
         ensures cause { IfNone (finish_cause self trailer.now) (IfErr result (λ refused. refused.1 ≡ causes.Write)) }
         ensures broke { IfNone (finish_cause self trailer.now) (IfErr result (λ refused. BreaksOff W.state (EndsIn trailer.now) self refused.0)) }
+        ensures room { IfErr result (λ refused. refused.0.object.room ≡ self.object.room) }
     {
         texts_join();
         events_are_packed_as_lines();

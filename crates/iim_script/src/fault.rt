@@ -1,8 +1,7 @@
 //! Why a script tells no envelope.
 
 ghost use Rattle.std.specs.Prelude.{◌≡◌, ◌≤◌};
-ghost use Rattle.iim_fields.specs.Format.Causes.{number_of_cause};
-ghost use Rattle.iim_script.specs.Format.Causes.{cause_number, cause_name, field_cause_name};
+ghost use Rattle.iim_script.specs.Format.Causes.{cause_number, cause_name};
 ghost use Rattle.iim_script.specs.Steps.{number_after};
 
 use iim_fields::FieldCause;
@@ -26,40 +25,6 @@ pub enum ScriptCause {
     OutOfMemory,
 }
 
-/// The number of a dataset's cause.
-fn field_number(cause: FieldCause) -> u8
-    ensures { result ≡ number_of_cause cause }
-{
-    match cause {
-        FieldCause::RecordOrder => 10,
-        FieldCause::UnknownDataset => 11,
-        FieldCause::Repeated => 12,
-        FieldCause::CountRange => 13,
-        FieldCause::Missing => 14,
-        FieldCause::BadValue => 15,
-        FieldCause::FileFormat => 16,
-        FieldCause::HeaderFull => 50,
-        FieldCause::TooManyFields => 51,
-    }
-}
-
-/// The name of a dataset's cause.
-fn field_name(cause: FieldCause) -> &'static str
-    ensures { result.now ≡ field_cause_name cause }
-{
-    match cause {
-        FieldCause::RecordOrder => "RecordOrder",
-        FieldCause::UnknownDataset => "UnknownDataset",
-        FieldCause::Repeated => "Repeated",
-        FieldCause::CountRange => "CountRange",
-        FieldCause::Missing => "Missing",
-        FieldCause::BadValue => "BadValue",
-        FieldCause::FileFormat => "FileFormat",
-        FieldCause::HeaderFull => "HeaderFull",
-        FieldCause::TooManyFields => "TooManyFields",
-    }
-}
-
 impl ScriptCause {
     /// The number, as it is printed.
     pub fn number(self) -> u8
@@ -68,7 +33,7 @@ impl ScriptCause {
         match self {
             ScriptCause::ScriptLine => 91,
             ScriptCause::ScriptTooLong => 92,
-            ScriptCause::Field(cause) => field_number(cause),
+            ScriptCause::Field(cause) => cause.number(),
             ScriptCause::BadTrailer => 83,
             ScriptCause::BadTextOctet => 82,
             ScriptCause::OutOfMemory => 70,
@@ -82,7 +47,7 @@ impl ScriptCause {
         match self {
             ScriptCause::ScriptLine => "ScriptLine",
             ScriptCause::ScriptTooLong => "ScriptTooLong",
-            ScriptCause::Field(cause) => field_name(cause),
+            ScriptCause::Field(cause) => cause.name(),
             ScriptCause::BadTrailer => "BadTrailer",
             ScriptCause::BadTextOctet => "BadTextOctet",
             ScriptCause::OutOfMemory => "OutOfMemory",

@@ -1,12 +1,14 @@
 -- What is told one after another is told joined: the laws of the router.
-use Rattle.std.proofs.Common.{◌≡◌, ℕ, List, [], ◌∷◌, ◌++◌, Option, Some, refl, sym, subst, ◌∙◌, append_assoc, append-nil}
+use Rattle.std.proofs.Common.{◌≡◌, ℕ, Bool, true, false, List, [], ◌∷◌, ◌++◌, Option, Some, None, is_some, refl, sym, ap, subst, ◌∙◌, append_assoc, append-nil}
 use Rattle.std.proofs.lemmas.List.Concat.{flat_map-append}
 use Rattle.iim_dataset.specs.Format.Events.{DatasetEvent, DatasetEnd}
 use Rattle.iim_fields.specs.Format.Standing.{limits_of}
+use Rattle.iim_fields.specs.declared.check.RecordPlace.{RecordPlace}
 use Rattle.iim_fields.specs.declared.limits.Limits.{Limits}
 use Rattle.wire_story.specs.Format.Delivery as story
 use Rattle.iim_unpack.specs.Format.Parts.{Led, Refused, CountsFor}
 use Rattle.iim_unpack.specs.Parts.{Went, WasStopped, Closed, NotClosed}
+use Rattle.iim_unpack.specs.Routing.{Takes, HasEnded}
 use Rattle.iim_unpack.specs.Sequence.{AreInOrder}
 use Rattle.iim_unpack.specs.declared.parts.Parts.{Parts}
 use Rattle.iim_unpack.specs.declared.fault.TokenFault.{TokenFault}
@@ -85,3 +87,13 @@ stopped_closed goes failures p a fault g bad = record {
       subst (λ (t : List ℕ). Refused (limits_of p.fields) (before ++ []) t DatasetEnd fault) (sym (append-nil text))
       (subst (λ (es : List DatasetEvent). Refused (limits_of p.fields) es text DatasetEnd fault) (sym (append-nil before)) (bad.why before text in_order led));
 }
+
+-- a dataset is begun
+abbrev is_begun : Option RecordPlace → Bool
+is_begun None = false
+is_begun (Some place) = is_some place.begun
+
+-- parts of which the last dataset has ended take nothing: no head comes after it, and no dataset is begun
+pub ended_takes_nothing : (parts : Parts) (left : Option ℕ) → HasEnded parts → Takes parts left → ⊥
+ended_takes_nothing parts None ended takes = let both : true ≡ false = sym ended.last ∙ takes.more in cc
+ended_takes_nothing parts (Some left) ended takes = let both : false ≡ true = sym (ap is_begun ended.between.between) ∙ ap is_begun takes.fields.head.inside in cc

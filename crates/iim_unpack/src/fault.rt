@@ -2,7 +2,8 @@
 
 ghost use Rattle.std.specs.Prelude.{◌≡◌};
 ghost use Rattle.iim_fields.specs.Format.Causes.{number_of_cause};
-ghost use Rattle.iim_unpack.specs.Format.Names.{cause_number};
+ghost use Rattle.iim_fields.specs.Format.Names.{name_of_cause};
+ghost use Rattle.iim_unpack.specs.Format.Names.{cause_number, cause_name};
 ghost use Rattle.iim_unpack.specs.Format.Refusals.{of_field, size_on, too_many_on, message_on, cause_of, cause_of_size, cause_of_message, layer_of, layer_of_message};
 
 use crate::refusal::{Cause, Layer};
@@ -36,6 +37,7 @@ fn field_layer(cause: FieldCause) -> Layer
 fn field_cause(cause: FieldCause) -> Cause
     ensures named { result ≡ cause_of cause }
     ensures numbered { cause_number result ≡ number_of_cause cause }
+    ensures spelled { cause_name result ≡ name_of_cause cause }
 {
     match cause {
         FieldCause::RecordOrder => Cause::RecordOrder,

@@ -4,6 +4,7 @@ ghost use Rattle.std.specs.Prelude.{◌≡◌, Some};
 ghost use Rattle.iim_unpack.specs.Format.Names.{layer_name, cause_number, cause_name, cause_text, refusal_text};
 
 use iim_dataset::DatasetName;
+use iim_fields::FieldCause;
 use std::fmt;
 use std::fmt::{Display, Formatter};
 
@@ -116,13 +117,13 @@ impl Cause {
             Cause::Marker => "Marker",
             Cause::CountForm => "CountForm",
             Cause::Truncated => "Truncated",
-            Cause::RecordOrder => "RecordOrder",
-            Cause::UnknownDataset => "UnknownDataset",
-            Cause::Repeated => "Repeated",
-            Cause::CountRange => "CountRange",
-            Cause::Missing => "Missing",
-            Cause::BadValue => "BadValue",
-            Cause::FileFormat => "FileFormat",
+            Cause::RecordOrder => FieldCause::RecordOrder.name(),
+            Cause::UnknownDataset => FieldCause::UnknownDataset.name(),
+            Cause::Repeated => FieldCause::Repeated.name(),
+            Cause::CountRange => FieldCause::CountRange.name(),
+            Cause::Missing => FieldCause::Missing.name(),
+            Cause::BadValue => FieldCause::BadValue.name(),
+            Cause::FileFormat => FieldCause::FileFormat.name(),
             Cause::ModeClash => "ModeClash",
             Cause::SizeClash => "SizeClash",
             Cause::SubfileTooLong => "SubfileTooLong",
@@ -135,8 +136,8 @@ impl Cause {
             Cause::ControlOctet => "ControlOctet",
             Cause::Sink => "Sink",
             Cause::Failed => "Failed",
-            Cause::HeaderFull => "HeaderFull",
-            Cause::TooManyFields => "TooManyFields",
+            Cause::HeaderFull => FieldCause::HeaderFull.name(),
+            Cause::TooManyFields => FieldCause::TooManyFields.name(),
             Cause::TooManySubfiles => "TooManySubfiles",
             Cause::OutOfMemory => "OutOfMemory",
         }

@@ -2,7 +2,7 @@
 
 ghost use Rattle.std.specs.Prelude.{refl};
 ghost use Rattle.std.proofs.Common.{◌∙◌};
-ghost use Rattle.iim_unpack.specs.Going.{went_nothing, went_joined, stopped_joined};
+ghost use Rattle.iim_unpack.specs.Going.{went_nothing, went_joined, stopped_joined, ended_takes_nothing};
 ghost use Rattle.iim_unpack.specs.Routing.{Routes, RefusesRoute, TakesNext, IsOver};
 
 use crate::fault::TokenFault;
@@ -33,6 +33,8 @@ impl<'p, 's, S: StorySink> DatasetSink for Router<'p, 's, S> {
     ghost nothing = { λ a. (refl, refl, went_nothing S.goes S.failures a.parts.now a.sink.now (S.nothing a.sink.now), refl) };
 
     ghost joined = { λ a b c xs ys h k. (h.0 ∙ k.0, h.1 ∙ k.1, went_joined S.goes S.failures S.joined a.parts.now b.parts.now c.parts.now a.sink.now b.sink.now c.sink.now xs ys h.2 k.2, k.3 ∙ h.3) };
+
+    ghost ended = { λ a left ended takes. ended_takes_nothing a.parts.now left ended takes };
 
     ghost joined_stop = { λ a b c xs ys event h k. (h.0 ∙ k.0, h.1 ∙ k.1, stopped_joined S.goes S.failures S.joined a.parts.now b.parts.now a.sink.now b.sink.now c.sink.now xs ys event c.refused h.2 k.2, k.3 ∙ h.3) };
 

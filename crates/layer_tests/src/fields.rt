@@ -10,10 +10,7 @@ use std::rt::HostRuntime;
 use std::test::Fail;
 
 /// What the command allows.
-const LIMITS: Limits = Limits {
-    octets: 65536,
-    fields: 512,
-};
+const LIMITS: Limits = Limits::WIRE;
 
 /// The datasets of records 1 and 2 of the longer worked envelope, in the order sent.
 const FIELDS: [(u8, u8, &[u8]); 16] = [

@@ -16,10 +16,7 @@ use wire_message::MessageHead;
 use wire_story::{Lines, StorySink};
 
 /// Those of the program.
-const LIMITS: Limits = Limits {
-    octets: 65_536,
-    fields: 512,
-};
+const LIMITS: Limits = Limits::WIRE;
 
 /// The fields of an envelope with by-lines and keywords.
 static STORY: [(u8, u8, &[u8]); 16] = [

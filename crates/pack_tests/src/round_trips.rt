@@ -13,10 +13,7 @@ use wire_message::MessageHead;
 use wire_story::{Lines, StorySink};
 
 /// Those of the program.
-const LIMITS: Limits = Limits {
-    octets: 65_536,
-    fields: 512,
-};
+const LIMITS: Limits = Limits::WIRE;
 
 /// The mandatory datasets alone, and a story of one empty line.
 const SMALLEST: &[u8] =

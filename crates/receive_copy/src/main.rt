@@ -15,10 +15,7 @@ use std::process::ExitCode;
 use wire_story::Lines;
 
 /// The most that records 1 and 2 of an envelope may have. Memory for just this is taken before the envelope comes.
-const LIMITS: Limits = Limits {
-    octets: 65_536,
-    fields: 512,
-};
+const LIMITS: Limits = Limits::WIRE;
 
 /// The status where all of the input was filed.
 const ACCEPTED: u8 = 0;

@@ -29,7 +29,13 @@ fn main(rt: HostRuntime) -> ExitCode {
 fn calls<R: Print + AllocGlobal>(rt: &R) -> Result<(), End> {
     tell(rt, "Fields::new", || records::fields(rt.alloc()))?;
     tell(rt, "SubfileBuffer::reserve", || {
-        objects::subfiles(rt.alloc())
+        objects::one_subfile(rt.alloc())
+    })?;
+    tell(rt, "SubfileBuffer::reserve of 7", || {
+        objects::subfiles(rt.alloc(), 7, 123)
+    })?;
+    tell(rt, "SubfileBuffer::reserve of 1", || {
+        objects::subfiles(rt.alloc(), 1, 333)
     })?;
     tell(rt, "Lines::text and line_end", || {
         lines::grown(rt.alloc())
@@ -71,6 +77,12 @@ fn writes<R: Print + AllocGlobal>(rt: &R) -> Result<(), End> {
     })?;
     tell(rt, "Packer::start", || {
         packing::call_by_call(rt.alloc(), &envelope)
+    })?;
+    tell(rt, "Packer::start, subfiles of 7", || {
+        packing::in_subfiles(rt.alloc(), &envelope, 7, 281)
+    })?;
+    tell(rt, "Packer::start, subfiles of 1", || {
+        packing::in_subfiles(rt.alloc(), &envelope, 1, 491)
     })?;
     tell(rt, "pack", || {
         packing::at_once(rt.alloc(), &envelope, &text)

@@ -1,7 +1,7 @@
 //! Calls of the object: subfiles written.
 
 use crate::outcome::{Trouble, right};
-use crate::worked::{OBJECT, STORY};
+use crate::worked::{CONFIRMED, OBJECT, STORY};
 use iim_dataset::{TrialWriter, Trouble as DeviceTrouble};
 use iim_object::{Plan, Size, SubfileBuffer, SubfileWriter};
 use std::alloc::Global;
@@ -11,20 +11,33 @@ pub(crate) fn writer() -> TrialWriter<512> {
     TrialWriter::new(u64::MAX, DeviceTrouble::Failure)
 }
 
-/// A known size and one subfile.
-pub(crate) fn plan() -> Result<Plan, Trouble> {
-    Plan::new(1024, Size::Known(50)).ok_or(Trouble::Wrong)
+/// A known size, and subfiles of up to so many octets.
+pub(crate) fn plan(subfile: u64) -> Result<Plan, Trouble> {
+    Plan::new(subfile, Size::Known(50)).ok_or(Trouble::Wrong)
 }
 
-/// Writes the worked object: after `reserve` nothing takes memory.
-pub(crate) fn subfiles(alloc: Global) -> Result<(), Trouble> {
-    let buffer = SubfileBuffer::reserve(alloc, plan()?)?;
+/// The worked object in one subfile: after `reserve` nothing takes memory.
+pub(crate) fn one_subfile(alloc: Global) -> Result<(), Trouble> {
+    let writer = written(alloc, 1024)?;
+    right(writer.octets().len() == 88 && STORY.ends_with(writer.octets()))
+}
+
+/// The worked object in subfiles of up to so many octets, of which all records are so many: each subfile fills the room that
+/// was made for the first.
+pub(crate) fn subfiles(alloc: Global, subfile: u64, octets: usize) -> Result<(), Trouble> {
+    let writer = written(alloc, subfile)?;
+    right(writer.octets().len() == octets && writer.octets().ends_with(CONFIRMED))
+}
+
+/// What the worked object is written to.
+fn written(alloc: Global, subfile: u64) -> Result<TrialWriter<512>, Trouble> {
+    let buffer = SubfileBuffer::reserve(alloc, plan(subfile)?)?;
     let Ok(mut subfiles) = SubfileWriter::start(buffer, writer()) else {
         return Err(Trouble::Wrong);
     };
     right(subfiles.write(OBJECT).is_ok())?;
-    let Ok(writer) = subfiles.finish() else {
-        return Err(Trouble::Wrong);
-    };
-    right(writer.octets().len() == 88 && STORY.ends_with(writer.octets()))
+    match subfiles.finish() {
+        Ok(writer) => Ok(writer),
+        Err(_) => Err(Trouble::Wrong),
+    }
 }

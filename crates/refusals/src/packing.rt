@@ -2,7 +2,7 @@
 
 use crate::objects::{plan, writer};
 use crate::outcome::{Trouble, right};
-use crate::worked::{FIRST_LINE, LAST_LINE, STORY, head};
+use crate::worked::{CONFIRMED, FIRST_LINE, LAST_LINE, STORY, head};
 use iim_dataset::TrialWriter;
 use iim_fields::Envelope;
 use iim_object::{PackCause, StartFault};
@@ -22,22 +22,39 @@ fn trouble_of(fault: &StartFault<TrialWriter<512>>) -> Trouble {
 
 /// Packs the worked envelope call by call: after `start` nothing takes memory.
 pub(crate) fn call_by_call(alloc: Global, envelope: &Envelope) -> Result<(), Trouble> {
-    let mut packer = match Packer::start(alloc, envelope, &head()?, plan()?, writer()) {
+    let writer = packed(alloc, envelope, 1024)?;
+    right(writer.octets() == STORY)
+}
+
+/// Packs it so in subfiles of up to so many octets, into so many octets.
+pub(crate) fn in_subfiles(
+    alloc: Global,
+    envelope: &Envelope,
+    subfile: u64,
+    octets: usize,
+) -> Result<(), Trouble> {
+    let writer = packed(alloc, envelope, subfile)?;
+    right(writer.octets().len() == octets && writer.octets().ends_with(CONFIRMED))
+}
+
+/// What the worked envelope is packed to, call by call.
+fn packed(alloc: Global, envelope: &Envelope, subfile: u64) -> Result<TrialWriter<512>, Trouble> {
+    let mut packer = match Packer::start(alloc, envelope, &head()?, plan(subfile)?, writer()) {
         Ok(packer) => packer,
         Err(fault) => return Err(trouble_of(&fault)),
     };
     right(packer.text(FIRST_LINE).is_ok())?;
     right(packer.line_end().is_ok())?;
     right(packer.text(LAST_LINE).is_ok())?;
-    let Ok(writer) = packer.finish(b"") else {
-        return Err(Trouble::Wrong);
-    };
-    right(writer.octets() == STORY)
+    match packer.finish(b"") {
+        Ok(writer) => Ok(writer),
+        Err(_) => Err(Trouble::Wrong),
+    }
 }
 
 /// Packs the worked envelope in one call.
 pub(crate) fn at_once(alloc: Global, envelope: &Envelope, lines: &Lines) -> Result<(), Trouble> {
-    match pack(alloc, envelope, &head()?, lines, b"", plan()?, writer()) {
+    match pack(alloc, envelope, &head()?, lines, b"", plan(1024)?, writer()) {
         Ok(writer) => right(writer.octets() == STORY),
         Err(fault) => Err(trouble_of(&fault)),
     }

@@ -5,10 +5,7 @@ use iim_fields::Limits;
 use wire_message::MessageHead;
 
 /// Those of the command.
-pub const LIMITS: Limits = Limits {
-    octets: 65_536,
-    fields: 512,
-};
+pub const LIMITS: Limits = Limits::WIRE;
 
 /// The datasets of records 1 and 2 of the longer envelope.
 pub const FIELDS: [(u8, u8, &[u8]); 16] = [
@@ -32,6 +29,9 @@ pub const FIELDS: [(u8, u8, &[u8]); 16] = [
 
 /// Its object: a story of two lines.
 pub const OBJECT: &[u8] = b"\x01TST0007 4 ECO 5 rates\r\n\x02Rates stay.\r\nNo change.\x03\x04";
+
+/// The dataset after it, which confirms its size.
+pub const CONFIRMED: &[u8] = b"\x1c\x09\x0a\x00\x04\x00\x00\x00\x32";
 
 /// Its first line.
 pub const FIRST_LINE: &[u8] = b"Rates stay.";

@@ -14,10 +14,7 @@ use std::{env, fs};
 use wire_story::{LineWriter, StorySink};
 
 /// The most that records 1 and 2 of an envelope may have, the same in each run.
-const LIMITS: Limits = Limits {
-    octets: 65_536,
-    fields: 512,
-};
+const LIMITS: Limits = Limits::WIRE;
 
 /// Receives a part. Where it is refused or something fails, the file stays as it was, and the part can be sent again.
 fn main(rt: HostRuntime) -> Result<ExitCode> {

@@ -88,6 +88,8 @@ impl DatasetSink for Tally {
 
     ghost joined = { datasets_joined };
 
+    ghost ended = { λ sink left ended stands. ended };
+
     ghost joined_stop = { never_stopped };
 
     #[inline(always)]

@@ -15,10 +15,7 @@ use std::process::Abort;
 use std::test::Fail;
 
 /// What the command allows.
-const LIMITS: Limits = Limits {
-    octets: 65_536,
-    fields: 512,
-};
+const LIMITS: Limits = Limits::WIRE;
 
 /// The first four datasets of each envelope here.
 const BEGIN: &[u8] =

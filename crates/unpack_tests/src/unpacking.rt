@@ -28,10 +28,7 @@ const STORY: &[u8] =
 \x1c\x09\x0a\x00\x04\x00\x00\x00\x32";
 
 /// Those of the program.
-const LIMITS: Limits = Limits {
-    octets: 65_536,
-    fields: 512,
-};
+const LIMITS: Limits = Limits::WIRE;
 
 /// The pieces, joined.
 pub(crate) fn joined(alloc: Global, pieces: &[&[u8]]) -> Result<Vec<u8>, AllocError> {

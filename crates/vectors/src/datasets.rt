@@ -1,6 +1,6 @@
 //! Tags written, and datasets read in any cut.
 
-ghost use Rattle.std.specs.Prelude.{⊤};
+ghost use Rattle.std.specs.Prelude.{◌≡◌, ◌≢◌, ⊤, Some};
 
 use crate::octets::{Names, Shown, Words};
 use crate::readings::{Class, Cut, Digits, Reading, print_class, print_reading};
@@ -44,13 +44,15 @@ impl DatasetSink for Record {
 
     ghost stops = { λ a events refused b. ⊤ };
 
-    ghost stands = { λ a left. ⊤ };
+    ghost stands = { λ a left. a.left ≢ Some 0 };
 
-    ghost ends = { λ a. ⊤ };
+    ghost ends = { λ a. a.left ≡ Some 0 };
 
     ghost nothing = { λ a. tt };
 
     ghost joined = { λ a b c xs ys h k. tt };
+
+    ghost ended = { λ a left ended stands. stands ended };
 
     ghost joined_stop = { λ a b c xs ys refused h k. tt };
 

@@ -10,10 +10,7 @@ use wire_message::MessageHead;
 use wire_story::Lines;
 
 /// Those of the program.
-const LIMITS: Limits = Limits {
-    octets: 65_536,
-    fields: 512,
-};
+const LIMITS: Limits = Limits::WIRE;
 
 /// Tells what a script tells, and answers it; or its fault.
 pub fn told<W: Write>(alloc: Global, out: &mut W, octets: &[u8]) -> Result<Option<Script>> {

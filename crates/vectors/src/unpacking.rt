@@ -16,10 +16,7 @@ use std::mem;
 use wire_story::Lines;
 
 /// Those of the program.
-pub const LIMITS: Limits = Limits {
-    octets: 65_536,
-    fields: 512,
-};
+pub const LIMITS: Limits = Limits::WIRE;
 
 /// The most arguments of a question that may have any number of them.
 const MOST: u32 = 1_000;

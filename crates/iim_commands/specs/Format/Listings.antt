@@ -1,6 +1,7 @@
 -- The envelopes that an input begins with, and what stands after them.
 use Rattle.std.specs.Prelude.{◌≡◌, ◌≢◌, ℕ, ◌≤◌, ◌⊎◌, List, [], ◌∷◌, ◌++◌, length}
 use Rattle.std.specs.List.{AllByRecursion}
+use Rattle.iim_fields.specs.Format.WireLimits.{wire_limits}
 use Rattle.iim_fields.specs.declared.limits.Limits.{Limits}
 use Rattle.wire_story.specs.Format.Delivery.{StoryEvent, delivered}
 use Rattle.iim_unpack.specs.Format.Admitted.{Value, Admits}
@@ -12,9 +13,9 @@ use Rattle.iim_unpack.specs.Format.Unpacking.{raised}
 use Rattle.iim_unpack.specs.declared.refusal.Refusal.{Refusal}
 use Rattle.iim_unpack.specs.declared.refusal.Cause.TheVariants.{Sink}
 
--- what the records 1 and 2 of an envelope may have: 65,536 octets in 512 datasets
+-- what the records 1 and 2 of an envelope may have: the limits of wire copy
 abbrev pub limits : Limits
-limits = record { octets = 65536; fields = 512 }
+limits = wire_limits
 
 -- an envelope of an input: its octets, and the value that they have
 pub record Envelope : Type 0 where

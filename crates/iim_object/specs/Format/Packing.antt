@@ -1,5 +1,5 @@
 -- What a packer writes of an object by a plan: record 7, the subfiles and record 9.
-use Rattle.std.specs.Prelude.{◌≡◌, ℕ, ◌≤◌, Bool, true, false, IsTrue, List, [], ◌∷◌, ◌++◌, length, map, Option, Some, None}
+use Rattle.std.specs.Prelude.{◌≡◌, ◌↔◌, ℕ, ◌≤◌, Bool, true, false, IsTrue, IfSome, List, [], ◌∷◌, ◌++◌, length, map, Option, Some, None}
 use Rattle.iim_dataset.specs.Format.Octets.{Octets, greatest_size}
 use Rattle.iim_dataset.specs.Format.Datasets.{Dataset, canonical_stream, written_number}
 use Rattle.iim_tables.specs.Format.Records.{IsGoodDataset, IsGoodRecord}
@@ -104,7 +104,15 @@ PackedObjectsHaveSizes = (subfile : ℕ) (size : Size) (object : List ℕ) (part
     → IsCut subfile object parts → Suits subfile size object
     → HaveSizes (plan_datasets subfile size) (subfile_datasets parts) (confirmed_datasets object) (packed_sizes subfile size object parts)
 
--- An object that a plan has room for is cut into as many subfiles as one envelope may have, or fewer.
+-- What an object in parts may be by a plan, in the words of sizes: it is at most the greatest size, at most the announced size and at
+-- most the maximum where there is one, and there are as many subfiles as one envelope may have, or fewer.
+pub record KeepsToSizes (size : Size) (object : List ℕ) (parts : List (List ℕ)) : Type 0 where
+  pub greatest : length object ≤ greatest_size
+  pub announced : IfSome (announced_of size) (λ n. length object ≤ n)
+  pub maximum : IfSome (maximum_of size) (λ n. length object ≤ n)
+  pub few : length parts ≤ max_subfiles
+
+-- A plan's bound leaves room for an object exactly where the object keeps to all of these: the bound is not above and not below them.
 abbrev pub SubfilesAreFew : Type 0
 SubfilesAreFew = (subfile : ℕ) (size : Size) (object : List ℕ) (parts : List (List ℕ)) → IsTrue (is_plan subfile size) → IsCut subfile object parts
-    → length object ≤ bound_of subfile size → length parts ≤ max_subfiles
+    → (length object ≤ bound_of subfile size) ↔ KeepsToSizes size object parts

@@ -12,11 +12,12 @@ use Rattle.iim_object.specs.declared.size.Size.TheVariants.{Known, Unknown}
 use Rattle.iim_object.specs.declared.cause.PackCause.{PackCause}
 use Rattle.iim_object.specs.declared.cause.PackCause.TheVariants as causes
 
--- A writer of subfiles is seen as its plan, the octets of the object that it holds, how many octets of it are out, how many
--- octets are out in all, whether a write failed, and what it writes to.
+-- A writer of subfiles is seen as its plan, the octets of the object that it holds, how many it has room for, how many octets of
+-- the object are out, how many octets are out in all, whether a write failed, and what it writes to.
 pub record Writing (W : Type 0) : Type 0 where
   pub plan : Plan
   pub held : List ℕ
+  pub room : ℕ
   pub sent : ℕ
   pub written : ℕ
   pub failed : Bool

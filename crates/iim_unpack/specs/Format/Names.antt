@@ -1,6 +1,9 @@
 -- The numbers and names of layers and causes.
 use Rattle.std.specs.Prelude.{ℕ, List, ◌++◌, codes, decimal}
 use Rattle.iim_dataset.specs.Format.Shown.{dataset_name}
+use Rattle.iim_fields.specs.Format.Causes.{number_of_cause}
+use Rattle.iim_fields.specs.Format.Names.{name_of_cause}
+use Rattle.iim_fields.specs.declared.fault.FieldCause.TheVariants as fields
 use Rattle.iim_unpack.specs.declared.refusal.Refusal.{Refusal}
 use Rattle.iim_unpack.specs.declared.refusal.Layer.{Layer}
 use Rattle.iim_unpack.specs.declared.refusal.Layer.TheVariants.{Dataset, Record, Limits, Object, Message, Story, Outside}
@@ -20,13 +23,13 @@ abbrev pub cause_number : Cause → ℕ
 cause_number Marker = 1
 cause_number CountForm = 2
 cause_number Truncated = 3
-cause_number RecordOrder = 10
-cause_number UnknownDataset = 11
-cause_number Repeated = 12
-cause_number CountRange = 13
-cause_number Missing = 14
-cause_number BadValue = 15
-cause_number FileFormat = 16
+cause_number RecordOrder = number_of_cause fields.RecordOrder
+cause_number UnknownDataset = number_of_cause fields.UnknownDataset
+cause_number Repeated = number_of_cause fields.Repeated
+cause_number CountRange = number_of_cause fields.CountRange
+cause_number Missing = number_of_cause fields.Missing
+cause_number BadValue = number_of_cause fields.BadValue
+cause_number FileFormat = number_of_cause fields.FileFormat
 cause_number ModeClash = 20
 cause_number SizeClash = 21
 cause_number SubfileTooLong = 22
@@ -39,8 +42,8 @@ cause_number LoneReturn = 40
 cause_number ControlOctet = 41
 cause_number Sink = 60
 cause_number Failed = 61
-cause_number HeaderFull = 50
-cause_number TooManyFields = 51
+cause_number HeaderFull = number_of_cause fields.HeaderFull
+cause_number TooManyFields = number_of_cause fields.TooManyFields
 cause_number TooManySubfiles = 52
 cause_number OutOfMemory = 70
 
@@ -48,13 +51,13 @@ abbrev pub cause_name : Cause → List ℕ
 cause_name Marker = codes "Marker"
 cause_name CountForm = codes "CountForm"
 cause_name Truncated = codes "Truncated"
-cause_name RecordOrder = codes "RecordOrder"
-cause_name UnknownDataset = codes "UnknownDataset"
-cause_name Repeated = codes "Repeated"
-cause_name CountRange = codes "CountRange"
-cause_name Missing = codes "Missing"
-cause_name BadValue = codes "BadValue"
-cause_name FileFormat = codes "FileFormat"
+cause_name RecordOrder = name_of_cause fields.RecordOrder
+cause_name UnknownDataset = name_of_cause fields.UnknownDataset
+cause_name Repeated = name_of_cause fields.Repeated
+cause_name CountRange = name_of_cause fields.CountRange
+cause_name Missing = name_of_cause fields.Missing
+cause_name BadValue = name_of_cause fields.BadValue
+cause_name FileFormat = name_of_cause fields.FileFormat
 cause_name ModeClash = codes "ModeClash"
 cause_name SizeClash = codes "SizeClash"
 cause_name SubfileTooLong = codes "SubfileTooLong"
@@ -67,8 +70,8 @@ cause_name LoneReturn = codes "LoneReturn"
 cause_name ControlOctet = codes "ControlOctet"
 cause_name Sink = codes "Sink"
 cause_name Failed = codes "Failed"
-cause_name HeaderFull = codes "HeaderFull"
-cause_name TooManyFields = codes "TooManyFields"
+cause_name HeaderFull = name_of_cause fields.HeaderFull
+cause_name TooManyFields = name_of_cause fields.TooManyFields
 cause_name TooManySubfiles = codes "TooManySubfiles"
 cause_name OutOfMemory = codes "OutOfMemory"
 

@@ -1,6 +1,6 @@
 //! Sinks of datasets that stop, and octets after the dataset that a sink called the last.
 
-ghost use Rattle.std.specs.Prelude.{⊤};
+ghost use Rattle.std.specs.Prelude.{◌≡◌, ◌≢◌, ⊤};
 ghost use Rattle.iim_dataset.specs.Format.Reading.{TakesCalls};
 
 use arrayvec::ArrayVec;
@@ -22,7 +22,7 @@ const COMPLETED_AT: [usize; 11] = [4, 5, 6, 7, 7, 13, 14, 15, 15, 20, 20];
 /// How much of the record stands before each event.
 const RECORDED: [usize; 11] = [0, 4, 5, 6, 7, 8, 12, 13, 14, 15, 19];
 
-/// Writes down what it takes. The third dataset is the last one.
+/// Writes down what it takes. The third dataset is the last one, and after it nothing is taken until it goes on.
 #[derive(Drop)]
 struct Recorder {
     record: ArrayVec<u8, 64>,
@@ -33,7 +33,9 @@ struct Recorder {
 }
 
 impl Recorder {
-    fn new(patience: usize) -> Recorder {
+    fn new(patience: usize) -> Recorder
+        ensures { result.ended ≡ 0 }
+    {
         Recorder {
             record: ArrayVec::new(),
             runs: 0,
@@ -42,8 +44,17 @@ impl Recorder {
         }
     }
 
+    /// Counts the ends anew: after the last dataset it takes others.
+    fn go_on(&mut self)
+        ensures { self.new.ended ≡ 0 }
+    {
+        self.ended = 0;
+    }
+
     /// Takes an event, or refuses it.
-    fn takes(&mut self, octets: &[u8]) -> bool {
+    fn takes(&mut self, octets: &[u8]) -> bool
+        ensures { self.new.ended ≡ self.old.ended }
+    {
         if self.patience == 0 {
             return false;
         }
@@ -58,13 +69,15 @@ impl DatasetSink for Recorder {
 
     ghost stops = { λ a events refused b. ⊤ };
 
-    ghost stands = { λ a left. ⊤ };
+    ghost stands = { λ a left. a.ended ≢ 3 };
 
-    ghost ends = { λ a. ⊤ };
+    ghost ends = { λ a. a.ended ≡ 3 };
 
     ghost nothing = { λ a. tt };
 
     ghost joined = { λ a b c xs ys h k. tt };
+
+    ghost ended = { λ a left ended stands. stands ended };
 
     ghost joined_stop = { λ a b c xs ys refused h k. tt };
 
@@ -155,6 +168,7 @@ fn a_dataset_after_the_last(rt: HostRuntime) {
     let mut reader = HeadReader::new();
     let mut sink = Recorder::new(16);
     assert_eq!(rt; reader.feed(STREAM, &mut sink), Ok(LENGTH));
+    sink.go_on();
     assert_eq!(rt; reader.feed(b"", &mut sink), Ok(0));
     assert_eq!(rt; reader.feed(b"\x1c\x01\x1e\x00\x03TS", &mut sink), Ok(7));
     assert_eq!(rt; reader.named(), (1, 30));
@@ -171,6 +185,7 @@ fn octets_after_the_last_dataset(rt: HostRuntime) {
     let mut reader = HeadReader::new();
     let mut sink = Recorder::new(11);
     assert_eq!(rt; reader.feed(STREAM, &mut sink), Ok(LENGTH));
+    sink.go_on();
     assert_eq!(rt; reader.feed(&STREAM[LENGTH..], &mut sink), no_tag_after(0));
     assert_eq!(rt; sink.record.as_slice(), RECORD);
     assert!(rt; reader.is_failed());

@@ -11,10 +11,9 @@ returns-in-Ok-clause-room g c =
     let state = g.W.Target.state in
     let old = c.args.self.now in
     let put : Puts state old.output c.put_dataset.new.self (canonical_dataset (subfile_dataset old.held.items)) =
-    subst (λ (xs : List ℕ). Puts state old.output c.put_dataset.new.self (canonical_dataset (subfile_dataset xs))) c.deref.ensures.value c.in-Ok.ensures.ok in
+    subst (λ (xs : List ℕ). Puts state old.output c.put_dataset.new.self (canonical_dataset (subfile_dataset xs))) c.as_slice.ensures c.in-Ok.ensures.ok in
     room_flushed state old (record { plan = old.plan; held = c.clear.new.self; sent = old.sent + c.len.result; output = c.put_dataset.new.self; failed = old.failed }) c.requires.room c.requires.unfailed c.requires.full
-    (record { put = put; plan = refl; held = c.clear.ensures.items; sent = omega (arith, c.len.ensures); failed = c.requires.unfailed })
-    c.clear.ensures.capacity c.clear.ensures.len
+    (record { put = put; plan = refl; held = c.clear.ensures.items; room = c.clear.ensures.room; sent = omega (arith, c.len.ensures); failed = c.requires.unfailed })
 
 pub returns-in-Err-clause-room : goal.returns-in-Err-clause-room
 returns-in-Err-clause-room g c =
@@ -22,6 +21,6 @@ returns-in-Err-clause-room g c =
     let old = c.args.self.now in
     let text : List ℕ = canonical_dataset (subfile_dataset old.held.items) in
     let cut : Cuts state old.output c.put_dataset.new.self text =
-    subst (λ (xs : List ℕ). Cuts state old.output c.put_dataset.new.self (canonical_dataset (subfile_dataset xs))) c.deref.ensures.value c.in-Err.ensures.err in
+    subst (λ (xs : List ℕ). Cuts state old.output c.put_dataset.new.self (canonical_dataset (subfile_dataset xs))) c.as_slice.ensures c.in-Err.ensures.err in
     room_halted state old (record old { output = c.put_dataset.new.self; failed = true }) text c.requires.room c.requires.unfailed
-    (record { cut = cut; plan = refl; held = refl; sent = refl; failed = refl }) (omega (arith, dataset_length (subfile_dataset old.held.items), old.held.ok.0))
+    (record { cut = cut; plan = refl; held = refl; sent = refl; failed = refl }) (omega (arith, dataset_length (subfile_dataset old.held.items)))

@@ -1,4 +1,4 @@
-use Rattle.std.proofs.Common.{◌≡◌, ℕ, ◌-◌, List, length, take, drop, sym, ap, subst, ◌∙◌, arith, length-drop, take-append-drop}
+use Rattle.std.proofs.Common.{◌≡◌, ℕ, ◌-◌, List, length, take, drop, refl, sym, ap, subst, ◌∙◌, arith, length-drop, take-append-drop}
 use Rattle.std.proofs.Math.Seq.{take-add, take-length}
 use Rattle.iim_object.specs.Format.Writing.{Lengthens, BreaksOff, ContinuesWith, write_cause}
 use Rattle.iim_object.specs.Cutting.{writing_of}
@@ -13,6 +13,7 @@ pub loop-at-init : goal.loop-at-init
 loop-at-init g c = record {
   within = omega arith;
   room = c.requires;
+  same_room = refl;
   lengthened = goes_nowhere g.W.Target.state (writing_of c.args.self.now) c.texts_join.ensures (may_write (writing_of c.args.self.now) (length c.args.octets.now) (sym c.write_cause.ensures ∙ c.in_default.is));
 }
 
@@ -27,6 +28,7 @@ loop-at-preserved g c =
     record {
       within = omega (arith, ap length (rest_whole xs at), length-drop at xs, c.in-Ok.ensures.within, c.loop-at.invariant.within);
       room = c.take_front.ensures.room;
+      same_room = c.take_front.ensures.same_room ∙ c.loop-at.invariant.same_room;
       lengthened = subst (Lengthens state (writing_of c.args.self.now) (writing_of c.take_front.new.self)) (sym (take-add at n xs))
           (leads_on state (writing_of c.args.self.now) (writing_of c.loop-at.self) (writing_of c.take_front.new.self) (take at xs) (take n (drop at xs)) c.texts_join.ensures c.loop-at.invariant.lengthened more);
     }

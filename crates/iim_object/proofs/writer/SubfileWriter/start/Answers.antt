@@ -17,10 +17,11 @@ invariant_of-result g c =
     let plan = c.buffer.inside.plan in
     let puts = c.in-Ok.ensures.ok in
     let long = plan_length plan.subfile plan.size in
+    let none : length c.buffer.inside.octets.items ≡ 0 = ap length c.buffer.invariant.empty in
     record {
-      capacity = omega (arith, c.buffer.invariant.capacity);
-      within = omega (arith, c.buffer.invariant.len);
-      bound = omega (arith, c.buffer.invariant.len);
+      capacity = omega (arith, c.buffer.invariant.room);
+      within = omega (arith, none);
+      bound = omega (arith, none);
       parts = 0;
       sent = omega arith;
       count = λ e. omega (arith, puts.counted, long);
@@ -39,7 +40,7 @@ returns-in-Ok-clause-stands g c =
       object_is = sym c.buffer.invariant.empty;
       some = λ empty. refl;
       sent = refl;
-      within = omega (arith, c.buffer.invariant.len, c.buffer.inside.octets.ok.0);
+      within = omega (arith, ap length c.buffer.invariant.empty);
       out_is = ap plan_octets (sym c.buffer.view_is) ∙ only_plan plan;
       written = count ∙ ap (λ (p : Plan). length (plan_octets p)) c.buffer.view_is;
     }

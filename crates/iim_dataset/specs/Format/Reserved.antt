@@ -2,6 +2,6 @@
 use Rattle.std.specs.Prelude.{ℕ, List}
 
 -- the octets, and how many there is room for
-pub record Written : Type 0 where
+pub record Reserved : Type 0 where
   pub items : List ℕ
   pub room : ℕ

@@ -1,5 +1,5 @@
 use Rattle.std.proofs.Common.{◌≡◌, ◌+◌, ◌++◌, take, vec_len, vec_capacity}
-use Rattle.iim_fields.proofs.block.append.Given as goal
+use Rattle.iim_dataset.proofs.reserved.append.Given as goal
 
 -- the octets so far were written, in the same room
 abbrev pub invariant-loop-octet : goal.invariant-loop-octet

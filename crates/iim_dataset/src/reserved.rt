@@ -5,21 +5,21 @@ ghost use Rattle.std.specs.Prelude.{◌≡◌, ◌+◌, ◌≤◌, ◌++◌, [],
 use std::alloc::{AllocError, Global};
 use std::marker::Model;
 
-/// Octets in memory that is taken once: those that come after it was emptied lie over the earlier ones, and are copied there at
-/// once. Contracts see it as the octets, and how many there is room for.
+/// Octets in memory that is taken once, and never more: those that come after it was emptied lie over the earlier ones, and are
+/// copied there at once. Contracts see it as the octets, and how many there is room for.
 #[derive(Drop)]
-pub(crate) struct Block {
+pub struct ReservedOctets {
     /// The octets, and after them what is left of earlier ones.
     places: Vec<u8>,
     /// How many octets there are.
     used: usize,
 }
 
-impl Model for Block {
+impl Model for ReservedOctets {
     ghost use Rattle.std.specs.Prelude.{◌≤◌, take, vec_len, vec_capacity};
-    ghost use Rattle.iim_fields.specs.Blocks.{Written};
+    ghost use Rattle.iim_dataset.specs.Format.Reserved.{Reserved};
 
-    ghost Value = { Written };
+    ghost Value = { Reserved };
 
     ghost view = { λ b. record { items = take b.used b.places.items; room = vec_capacity b.places } };
 
@@ -66,42 +66,42 @@ fn write(places: &mut Vec<u8>, from: usize, octets: &[u8])
     append(places, after);
 }
 
-impl Block {
-    /// No octets, with room for just `room` octets.
-    pub(crate) fn new(alloc: Global, room: usize) -> Result<Block, AllocError>
-        ensures items { IfOk result (λ block. block.items ≡ []) }
-        ensures room { IfOk result (λ block. block.room ≡ room) }
+impl ReservedOctets {
+    /// No octets, with room for just `room` octets. An error says that memory was refused.
+    pub fn new(alloc: Global, room: usize) -> Result<ReservedOctets, AllocError>
+        ensures items { IfOk result (λ reserved. reserved.items ≡ []) }
+        ensures room { IfOk result (λ reserved. reserved.room ≡ room) }
     {
-        let block = Block {
+        let reserved = ReservedOctets {
             places: Vec::with_capacity(alloc, room)?,
             used: 0,
         };
-        Ok(block)
+        Ok(reserved)
     }
 
     /// How many octets there is room for.
-    pub(crate) fn room(&self) -> usize
+    pub fn room(&self) -> usize
         ensures { result ≡ self.now.room }
     {
         self.places.capacity()
     }
 
     /// How many octets there are.
-    pub(crate) fn len(&self) -> usize
+    pub fn len(&self) -> usize
         ensures { result ≡ length self.now.items }
     {
         self.used
     }
 
     /// The octets.
-    pub(crate) fn as_slice(&self) -> &[u8]
+    pub fn as_slice(&self) -> &[u8]
         ensures { result.now ≡ self.now.items }
     {
         &self.places[..self.used]
     }
 
     /// Drops the octets, and keeps the room.
-    pub(crate) fn clear(&mut self)
+    pub fn clear(&mut self)
         ensures items { self.new.items ≡ [] }
         ensures room { self.new.room ≡ self.old.room }
     {
@@ -109,7 +109,7 @@ impl Block {
     }
 
     /// Takes octets, for which there is room.
-    pub(crate) fn take(&mut self, octets: &[u8])
+    pub fn take(&mut self, octets: &[u8])
         requires { length self.old.items + length octets.now ≤ self.old.room }
         ensures items { self.new.items ≡ self.old.items ++ octets.now }
         ensures room { self.new.room ≡ self.old.room }
