@@ -54,7 +54,6 @@ sink_or_not causes.TooManyFields = inr (λ e. cc)
 sink_or_not causes.TooManySubfiles = inr (λ e. cc)
 sink_or_not causes.Sink = inl refl
 sink_or_not causes.Failed = inr (λ e. cc)
-sink_or_not causes.OutOfMemory = inr (λ e. cc)
 
 pub by_sink : (limits : Limits) (stream : List ℕ) (e : Refusal) → PackedStreamsHaveTheirAnswer
     → ((answer : Answer) → Answers limits stream answer → e.cause ≢ causes.Sink → IsAnswer (Err e) answer)

@@ -5,7 +5,7 @@ use Rattle.iim_unpack.specs.declared.refusal.Refusal.{Refusal}
 use Rattle.iim_unpack.specs.declared.refusal.Layer.{Layer}
 use Rattle.iim_unpack.specs.declared.refusal.Layer.TheVariants.{Dataset, Record, Limits, Object, Message, Story, Outside}
 use Rattle.iim_unpack.specs.declared.refusal.Cause.{Cause}
-use Rattle.iim_unpack.specs.declared.refusal.Cause.TheVariants.{Marker, CountForm, Truncated, RecordOrder, UnknownDataset, Repeated, CountRange, Missing, BadValue, FileFormat, ModeClash, SizeClash, SubfileTooLong, PastSize, Short, ConfirmedWrong, BadOctet, Unfinished, LoneReturn, ControlOctet, HeaderFull, TooManyFields, TooManySubfiles, Sink, Failed, OutOfMemory}
+use Rattle.iim_unpack.specs.declared.refusal.Cause.TheVariants.{Marker, CountForm, Truncated, RecordOrder, UnknownDataset, Repeated, CountRange, Missing, BadValue, FileFormat, ModeClash, SizeClash, SubfileTooLong, PastSize, Short, ConfirmedWrong, BadOctet, Unfinished, LoneReturn, ControlOctet, HeaderFull, TooManyFields, TooManySubfiles, Sink, Failed}
 
 abbrev pub layer_name : Layer → List ℕ
 layer_name Dataset = codes "dataset"
@@ -42,7 +42,6 @@ cause_number Failed = 61
 cause_number HeaderFull = 50
 cause_number TooManyFields = 51
 cause_number TooManySubfiles = 52
-cause_number OutOfMemory = 70
 
 abbrev pub cause_name : Cause → List ℕ
 cause_name Marker = codes "Marker"
@@ -70,7 +69,6 @@ cause_name Failed = codes "Failed"
 cause_name HeaderFull = codes "HeaderFull"
 cause_name TooManyFields = codes "TooManyFields"
 cause_name TooManySubfiles = codes "TooManySubfiles"
-cause_name OutOfMemory = codes "OutOfMemory"
 
 -- ---- as they are printed
 
