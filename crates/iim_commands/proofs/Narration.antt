@@ -22,7 +22,7 @@ use Rattle.iim_unpack.specs.Format.Open.{object_so_far}
 use Rattle.iim_unpack.specs.declared.refusal.Refusal.{Refusal}
 use Rattle.iim_unpack.specs.declared.unpacker.Unpacked.{Unpacked}
 use Rattle.iim_unpack.proofs.Answering.{leads_to, reads_envelope}
-use Rattle.iim_commands.specs.Coming.{EnvelopeHasCome, IsCalm, IsNext, IsRefusal}
+use Rattle.iim_commands.specs.Format.Coming.{EnvelopeHasCome, IsCalm, IsNext, IsRefusal}
 use Rattle.iim_commands.specs.Format.Devices.{HasOctets}
 use Rattle.iim_commands.specs.Format.Lines.{ending_line, line_of, status_of, texts_from}
 use Rattle.iim_commands.specs.Format.Listings.{joined, max_envelopes, InputEnding, EndsBy, Envelope, IsDelivered, IsListed, IsRefusedAfter, RefusedBy}

@@ -12,7 +12,7 @@ use Rattle.wire_story.specs.Format.Delivery.{StoryEvent}
 use Rattle.wire_story.specs.declared.discard.Discard.{Discard}
 use Rattle.iim_unpack.specs.Format.Open.{Delivers, RefusesNext}
 use Rattle.iim_unpack.specs.declared.refusal.Refusal.{Refusal}
-use Rattle.iim_commands.specs.Coming.{IsNext, IsRefusal, IsUnheard}
+use Rattle.iim_commands.specs.Format.Coming.{IsNext, IsRefusal, IsUnheard}
 use Rattle.iim_commands.specs.Format.Devices.{HasOctets}
 use Rattle.iim_commands.specs.Format.Lines.{ending_line, status_of, texts_from}
 use Rattle.iim_commands.specs.Format.Listings.{joined, limits, max_envelopes, Divides, InputEnding, EndsBy, Envelope, IsDead, IsListed, IsRefusedAfter}

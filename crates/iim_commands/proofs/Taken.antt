@@ -24,7 +24,7 @@ use Rattle.iim_unpack.specs.declared.refusal.Refusal.{Refusal}
 use Rattle.iim_unpack.specs.declared.refusal.Cause.{Cause}
 use Rattle.iim_unpack.specs.declared.refusal.Cause.TheVariants.{Sink, Truncated}
 use Rattle.iim_unpack.specs.declared.unpacker.Unpacked.{Unpacked}
-use Rattle.iim_commands.specs.Coming.{CanAskForMore, EnvelopeHasCome, IsCutOff, IsNext, IsRefusal, IsUnheard}
+use Rattle.iim_commands.specs.Format.Coming.{CanAskForMore, EnvelopeHasCome, IsCutOff, IsNext, IsRefusal, IsUnheard}
 use Rattle.iim_commands.specs.Format.Listings.{limits, IsDelivered}
 
 -- no octets are no datasets, and the beginning of a tag

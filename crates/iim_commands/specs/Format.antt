@@ -1,4 +1,5 @@
 pub mod Audits
+pub mod Coming
 pub mod Devices
 pub mod Lines
 pub mod Listings

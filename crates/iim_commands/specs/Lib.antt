@@ -1,6 +1,5 @@
 -- What the promises cite: a reader has to believe these.
 pub mod Format
 -- What only proofs and private clauses cite.
-pub mod Coming
 pub mod Narration
 pub mod PackSteps

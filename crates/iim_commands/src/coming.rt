@@ -2,7 +2,7 @@
 
 ghost use Rattle.std.specs.Prelude.{◌≡◌, None};
 ghost use Rattle.iim_unpack.specs.Format.Intakes.{line};
-ghost use Rattle.iim_commands.specs.Coming.{IsNext, IsCalm, CanAskForMore};
+ghost use Rattle.iim_commands.specs.Format.Coming.{IsNext, IsCalm, CanAskForMore};
 
 use crate::fault::CommandFault;
 use iim_dataset::Source;

@@ -317,7 +317,7 @@ one_head_fault limits whole h f g (inr a) (inr b) = a.is_fault ∙ sym b.is_faul
 
 -- ---- one cause of an octet
 
-not_held : AnswerLaws → {A : Type 0} → (text : List ℕ) (held : ℕ) → 0 < held → Holds text held → Holds text 0 → A
+pub not_held : AnswerLaws → {A : Type 0} → (text : List ℕ) (held : ℕ) → 0 < held → Holds text held → Holds text 0 → A
 not_held laws text held some (lines, line, so_far) (others, other, none) =
     absurd (let same = (laws.texts text lines others line other held 0 so_far none).2 in omega (arith, some, same))
 

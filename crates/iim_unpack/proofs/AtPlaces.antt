@@ -23,7 +23,7 @@ use Rattle.wire_message.specs.declared.saved.MessagePlace.{MessagePlace}
 use Rattle.iim_unpack.specs.Format.Begins.{AreNumbers, IsSize}
 use Rattle.iim_unpack.specs.ByLayers.{RecordsLive, head_of_numbers}
 use Rattle.iim_unpack.specs.Plain.{number_list}
-use Rattle.iim_unpack.specs.Possible.{texts_of}
+use Rattle.iim_unpack.specs.Format.TicketsTold.{texts_of}
 use Rattle.iim_unpack.specs.Format.Possible.{widest}
 use Rattle.iim_unpack.specs.Taking.{AreKept, CanContinueWithin, IsMessageOf, numbers_told, told_datasets}
 use Rattle.iim_unpack.specs.Format.Tickets.{Phase, TagBegun, DataBegun, AllEnded}

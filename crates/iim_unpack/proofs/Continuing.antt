@@ -184,16 +184,16 @@ sizes_as ds es s t same here there =
     let total = sym here.total ∙ total_of (of_record 8 ds) ∙ same.octets ∙ sym (total_of (of_record 8 es)) ∙ there.total in
     λ i. record { known = known i; subfile = subfile i; announced = announced i; maximum = maximum i; subfiles = subfiles i; total = total i }
 
-record Sized (es : List Dataset) : Type 0 where
-  sizes : Sizes
-  have : HaveSizes (of_record 7 es) (of_record 8 es) (of_record 9 es) sizes
+pub record Sized (es : List Dataset) : Type 0 where
+  pub sizes : Sizes
+  pub have : HaveSizes (of_record 7 es) (of_record 8 es) (of_record 9 es) sizes
 
 one_nine : (xs : List Dataset) → length xs ≡ 1 → AreTens xs → (n : ℕ) × (ending_of xs ≡ ConfirmedAs n) × (number_at 10 (numbers_of xs) ≡ Some n)
 one_nine [] one tens = absurd (omega (arith, one))
 one_nine (d ∷ []) one tens = (number d.octets, refl, ap (λ (set : ℕ). cond (nat_eq set 10) (Some (number d.octets)) None) tens.0)
 one_nine (d ∷ x ∷ xs) one tens = absurd (omega (arith, one))
 
-sized : OnwardLaws → (limits : Limits) (es : List Dataset) → CanContinue limits es → present_record es ≡ 9 → Sized es
+pub sized : OnwardLaws → (limits : Limits) (es : List Dataset) → CanContinue limits es → present_record es ≡ 9 → Sized es
 sized laws limits es goes nine =
     let follow = laws.opens.answer.follow in
     let stated = stated_after_all follow.objects es goes.records goes.within.subfiles in

@@ -31,7 +31,7 @@ use Rattle.iim_unpack.specs.Format.Begins.{IsSize, IsSizeIn, IsWide, AreNumbers,
 use Rattle.iim_unpack.specs.Format.TicketForm.{IsVersion, IsPhase, HasForm, Split, SplitsTicket, split_octets}
 use Rattle.iim_unpack.specs.Format.Possible.{Possible, IsSmall, IsSmallPhase, IsSmallPlace, widest}
 use Rattle.iim_unpack.specs.Format.Scales.{SmallPlacesWerePossible, TicketsTellOnePlace}
-use Rattle.iim_unpack.specs.Possible.{TicketsOfPlacesAreSplit, texts_of, split_of}
+use Rattle.iim_unpack.specs.Format.TicketsTold.{TicketsOfPlacesAreSplit, texts_of, split_of}
 use Rattle.iim_unpack.proofs.Answering.{Lives, lives_open, lives_envelope, one_reading}
 use Rattle.iim_unpack.proofs.Bounds.{low, object_fits, tag_low, IsOne, all_ones, is_one, few_in_seven, IsFive, alive_five}
 use Rattle.iim_unpack.proofs.Splitting.{one_split}

@@ -1,5 +1,6 @@
 pub mod Octets
 pub mod Living
+pub mod StoryDies
 pub mod Blocks
 pub mod Bounds
 pub mod Intakes
@@ -10,6 +11,7 @@ pub mod Faults
 pub mod Frames
 pub mod Limits
 pub mod Refused
+pub mod Lowest
 pub mod Results
 pub mod Ends
 pub mod Lasts
@@ -27,6 +29,7 @@ pub mod PieceLemmas
 pub mod Admitted
 pub mod Tickets
 pub mod TicketLengths
+pub mod Held
 pub mod SameRecords
 pub mod SamePlace
 pub mod Splitting
@@ -51,6 +54,7 @@ pub mod PlacesTold
 pub mod Twins
 pub mod Onward
 pub mod Continuing
+pub mod Opening
 pub mod Refusing
 pub mod Saved
 pub mod TicketFaults

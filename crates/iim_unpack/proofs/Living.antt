@@ -43,39 +43,39 @@ place_none p (b ∷ x) none =
 place_found : (p : ℕ → Bool) (x y : List ℕ) → list_any p x ≡ true → position_or_len p (x ++ y) ≡ position_or_len p x
 place_found p x y found = place_on p x y ∙ ap (λ (b : Bool). cond b (position_or_len p x) (length x + position_or_len p y)) found
 
-place_later : (p : ℕ → Bool) (x y : List ℕ) → list_any p x ≡ false → position_or_len p (x ++ y) ≡ length x + position_or_len p y
+pub place_later : (p : ℕ → Bool) (x y : List ℕ) → list_any p x ≡ false → position_or_len p (x ++ y) ≡ length x + position_or_len p y
 place_later p x y none = place_on p x y ∙ ap (λ (b : Bool). cond b (position_or_len p x) (length x + position_or_len p y)) none
 
-after_found : (p : ℕ → Bool) (x y : List ℕ) → list_any p x ≡ true → after_first p (x ++ y) ≡ after_first p x ++ y
+pub after_found : (p : ℕ → Bool) (x y : List ℕ) → list_any p x ≡ true → after_first p (x ++ y) ≡ after_first p x ++ y
 after_found p x y found =
     ap (λ (n : ℕ). drop (n + 1) (x ++ y)) (place_found p x y found)
     ∙ drop-append-le (position_or_len p x + 1) x y (let less = place_below p x found in omega (arith, less))
 
-after_none : (p : ℕ → Bool) (x : List ℕ) → list_any p x ≡ false → after_first p x ≡ []
+pub after_none : (p : ℕ → Bool) (x : List ℕ) → list_any p x ≡ false → after_first p x ≡ []
 after_none p x none =
     ap (λ (n : ℕ). drop (n + 1) x) (place_none p x none) ∙ ap (drop (length x + 1)) (sym (append-nil x)) ∙ drop-append-add x [] 1
 
-before_found : (p : ℕ → Bool) (x y : List ℕ) → list_any p x ≡ true → before_first p (x ++ y) ≡ before_first p x
+pub before_found : (p : ℕ → Bool) (x y : List ℕ) → list_any p x ≡ true → before_first p (x ++ y) ≡ before_first p x
 before_found p x y found =
     ap (λ (n : ℕ). take n (x ++ y)) (place_found p x y found)
     ∙ take-append-le (position_or_len p x) x y (let less = place_below p x found in omega (arith, less))
 
-before_later : (p : ℕ → Bool) (x y : List ℕ) → list_any p x ≡ false → before_first p (x ++ y) ≡ x ++ before_first p y
+pub before_later : (p : ℕ → Bool) (x y : List ℕ) → list_any p x ≡ false → before_first p (x ++ y) ≡ x ++ before_first p y
 before_later p x y none = ap (λ (n : ℕ). take n (x ++ y)) (place_later p x y none) ∙ take-append-add x y (position_or_len p y)
 
-before_all : (p : ℕ → Bool) (x : List ℕ) → list_any p x ≡ false → before_first p x ≡ x
+pub before_all : (p : ℕ → Bool) (x : List ℕ) → list_any p x ≡ false → before_first p x ≡ x
 before_all p x none = ap (λ (n : ℕ). take n x) (place_none p x none) ∙ take-length x
 
 -- ---- the story
 
-abbrev is_etx : ℕ → Bool
+abbrev pub is_etx : ℕ → Bool
 is_etx b = b == 3
 
-abbrev is_stx : ℕ → Bool
+abbrev pub is_stx : ℕ → Bool
 is_stx b = b == 2
 
 -- the story's tokens of what stands after STX
-abbrev tokens_after_stx : List ℕ → List OctetOrEnd
+abbrev pub tokens_after_stx : List ℕ → List OctetOrEnd
 tokens_after_stx x = map Octet (before_first is_etx x) ++ (if list_any is_etx x then End ∷ [] else [])
 
 after_front : (x y : List ℕ) (b : Bool) → list_any is_etx x ≡ b → languages.IsAlive StoryLanguage (tokens_after_stx (x ++ y)) → languages.IsAlive StoryLanguage (tokens_after_stx x)

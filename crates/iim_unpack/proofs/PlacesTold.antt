@@ -15,7 +15,7 @@ use Rattle.wire_message.specs.declared.saved.MessagePart.TheVariants.{AfterEnd}
 use Rattle.wire_message.specs.declared.saved.MessagePlace.{MessagePlace}
 use Rattle.iim_unpack.specs.ByLayers.{LeadsByLayers, PlacesArePossibleByLayers, TagsLead, RecordsLive, are_ended, begun_of_object, begun_subfiles, object_after, one_of_some, record_datasets}
 use Rattle.iim_unpack.specs.Plain.{Numbers, number_list, plain}
-use Rattle.iim_unpack.specs.Possible.{TicketsOfPlacesAreSplit, split_of}
+use Rattle.iim_unpack.specs.Format.TicketsTold.{TicketsOfPlacesAreSplit, split_of}
 use Rattle.iim_unpack.specs.Format.Possible.{IsSmall, IsSmallPhase, IsSmallPlace, greatest_size_before, AreHeadsWithin, begun_count, begun_fields, widest}
 use Rattle.iim_unpack.specs.Format.Scales.{SmallPlacesWerePossible}
 use Rattle.iim_unpack.specs.Restoring.{AreAt, IsLimitFault, IsMadeFor, LeadsNowhere, LeadsNowhereIn, ObjectStands, MessageStands, RecordsStand, has_come, place_told}

@@ -44,7 +44,7 @@ use Rattle.iim_unpack.specs.Format.Parts.{AreAfter, Within, StandsFor}
 use Rattle.iim_unpack.specs.Format.Open.{IsOpen}
 use Rattle.iim_unpack.specs.Format.Unpacking.{limits_in, are_some}
 use Rattle.iim_unpack.specs.Format.Tickets.{Place, Phase, TagBegun, DataBegun, AllEnded, phase_of, heads_of, place_of}
-use Rattle.iim_unpack.specs.Possible.{UnpackersStandByPlace}
+use Rattle.iim_unpack.specs.Format.TicketsTold.{UnpackersStandByPlace}
 use Rattle.iim_unpack.specs.declared.parts.Parts.{Parts}
 use Rattle.iim_unpack.proofs.Following.{alive_of}
 use Rattle.iim_unpack.proofs.Lasts.{SplitLast, split_last, present_last, last_sections}

@@ -3,7 +3,7 @@ use Rattle.std.proofs.Common.{◌≡◌, ℕ, ◌<◌, ◌≤◌, List, ◌∷�
 use Rattle.iim_fields.specs.declared.limits.Limits.{Limits}
 use Rattle.iim_unpack.specs.Format.Possible.{AreHeadsWithin}
 use Rattle.iim_unpack.specs.Format.Scales.{IsPossibleIn, TicketsTellOnePlace}
-use Rattle.iim_unpack.specs.Possible.{TicketsOfPlacesAreSplit, split_of}
+use Rattle.iim_unpack.specs.Format.TicketsTold.{TicketsOfPlacesAreSplit, split_of}
 use Rattle.iim_unpack.specs.Format.Restored.{IsTicketAt, PossiblePlacesAreTaken, fields_told, octets_told}
 use Rattle.iim_unpack.specs.Format.TicketForm.{IsVersion, HasOtherVersion, SplitsTicket}
 use Rattle.iim_unpack.specs.Format.Tickets.{Place, ticket_in}

@@ -1,6 +1,7 @@
 pub mod Admitted
 pub mod Framed
 pub mod Refusals
+pub mod Conditions
 pub mod Names
 pub mod Tokens
 pub mod Listing
@@ -13,10 +14,12 @@ pub mod Tickets
 pub mod Possible
 pub mod Scales
 pub mod TicketForm
+pub mod TicketsTold
 pub mod Restored
 pub mod Blocks
 pub mod Parts
 pub mod Intakes
 pub mod Unpacking
+pub mod Held
 pub mod Pieces
 pub mod Begins

@@ -12,7 +12,6 @@ pub mod Routing
 pub mod Unpacking
 pub mod LowerLaws
 pub mod Tickets
-pub mod Possible
 pub mod Begins
 pub mod TicketFields
 pub mod FieldLaws

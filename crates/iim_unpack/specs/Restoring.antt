@@ -19,7 +19,7 @@ use Rattle.wire_message.specs.declared.saved.MessagePlace.{MessagePlace}
 use Rattle.iim_unpack.specs.ByLayers.{LeadsByLayers, head_of_numbers, record_datasets, begun_of_object, object_after}
 use Rattle.iim_unpack.specs.Plain.{Numbers}
 use Rattle.iim_unpack.specs.Format.Possible.{IsSmallPlace, AreHeadsWithin, begun_count, begun_fields}
-use Rattle.iim_unpack.specs.Possible.{split_of}
+use Rattle.iim_unpack.specs.Format.TicketsTold.{split_of}
 use Rattle.iim_unpack.specs.Taking.{tag_place}
 use Rattle.iim_unpack.specs.Format.TicketForm.{Split}
 use Rattle.iim_unpack.specs.Format.Tickets.{Place, Phase, TagBegun, DataBegun, AllEnded}

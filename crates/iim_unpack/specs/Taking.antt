@@ -13,7 +13,7 @@ use Rattle.iim_fields.specs.declared.limits.Limits.{Limits}
 use Rattle.wire_message.specs.declared.saved.MessagePlace.{MessagePlace}
 use Rattle.iim_unpack.specs.ByLayers.{head_of_numbers}
 use Rattle.iim_unpack.specs.Plain.{Numbers, plain}
-use Rattle.iim_unpack.specs.Possible.{texts_of}
+use Rattle.iim_unpack.specs.Format.TicketsTold.{texts_of}
 use Rattle.iim_unpack.specs.Format.Tickets.{Phase, TagBegun, DataBegun, AllEnded, part_number}
 
 -- all are of records 1 and 2

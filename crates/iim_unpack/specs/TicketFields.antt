@@ -8,7 +8,3 @@ use Rattle.iim_unpack.specs.Format.Begins.{IsLongField}
 -- Octets hold some datasets, and nothing else.
 abbrev pub HoldsFields : List ℕ → Type 0
 HoldsFields octets = (datasets : List Dataset) × (AllByRecursion IsLongField datasets × (octets ≡ flat_map field_octets datasets))
-
--- a walk over datasets is seen as those that are left
-abbrev pub those_left : List Dataset → List Dataset
-those_left ds = ds

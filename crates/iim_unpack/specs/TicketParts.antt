@@ -1,13 +1,10 @@
 -- The parts of a ticket, one by one.
-use Rattle.std.specs.Prelude.{◌≡◌, ℕ, ◌+◌, ◌<◌, List, ◌∷◌, ◌++◌, length, map, codes}
+use Rattle.std.specs.Prelude.{◌≡◌, ℕ, ◌+◌, ◌<◌, List, ◌∷◌, ◌++◌, length, codes}
 use Rattle.std.specs.List.{flat_map}
-use Rattle.iim_unpack.specs.Format.Tickets.{Phase, TagBegun, DataBegun, AllEnded, four, wide, width, phase_octets, fields_octets, number_octets, text_octets}
+use Rattle.iim_unpack.specs.Format.Tickets.{DataBegun, four, wide, width, phase_octets, fields_octets, number_octets, text_octets}
 use Rattle.iim_unpack.specs.Format.Begins.{AreTexts}
 use Rattle.iim_unpack.specs.declared.ticket_fault.TicketFault.{TicketFault}
 use Rattle.iim_unpack.specs.declared.ticket_fault.TicketFault.TheVariants.{Form, Version}
-use Rattle.iim_unpack.specs.declared.ticket_parts.TicketParts.{TicketParts}
-use Rattle.iim_unpack.specs.declared.ticket_parts.TicketPhase.{TicketPhase}
-use Rattle.iim_unpack.specs.declared.ticket_parts.TicketPhase.TheVariants.{Tag, Data, Ended}
 use Rattle.iim_unpack.specs.Format.TicketForm.{Split, IsPhase, HasForm, HasOtherVersion}
 
 -- ---- part by part
@@ -44,25 +41,3 @@ abbrev pub IsNameFault : List ℕ → TicketFault → Type 0
 IsNameFault ticket Version = HasOtherVersion ticket
 IsNameFault ticket Form = (version : ℕ) (rest : List ℕ) → ticket ≡ codes "IIMT" ++ version ∷ rest → ⊥
 IsNameFault ticket _ = ⊥
-
--- ---- what the call tells
-
-abbrev pub phase_told : TicketPhase → Phase
-phase_told (Tag held) = TagBegun held.now
-phase_told (Data set count left taken) = DataBegun set count left taken.now
-phase_told Ended = AllEnded
-
-abbrev pub split_told : TicketParts → Split
-split_told p = record {
-  version = p.version;
-  section = p.section;
-  phase = phase_told p.phase;
-  fields = p.fields;
-  numbers = p.numbers;
-  taken = p.taken;
-  heads = p.heads;
-  part = p.part;
-  counter = p.counter;
-  flag = p.flag;
-  texts = map (λ t. t.now) p.texts;
-}

@@ -3,6 +3,7 @@
 ghost use Rattle.std.specs.Prelude.{◌≡◌};
 ghost use Rattle.iim_fields.specs.Format.Causes.{number_of_cause};
 ghost use Rattle.iim_fields.specs.Format.Names.{name_of_cause};
+ghost use Rattle.iim_object.specs.Format.Conditions.{number_of};
 ghost use Rattle.iim_unpack.specs.Format.Names.{cause_number, cause_name};
 ghost use Rattle.iim_unpack.specs.Format.Refusals.{of_field, size_on, too_many_on, message_on, cause_of, cause_of_size, cause_of_message, layer_of, layer_of_message};
 
@@ -53,7 +54,8 @@ fn field_cause(cause: FieldCause) -> Cause
 }
 
 fn size_cause(cause: SizeCause) -> Cause
-    ensures { result ≡ cause_of_size cause }
+    ensures named { result ≡ cause_of_size cause }
+    ensures numbered { cause_number result ≡ number_of cause }
 {
     match cause {
         SizeCause::ModeClash => Cause::ModeClash,

@@ -1,5 +1,9 @@
 //! What holds of all envelopes.
 
+ghost use Rattle.std.specs.Prelude.{◌≡◌, ℕ, List, None};
+ghost use Rattle.iim_unpack.specs.Format.Held.{HoldsFew};
+ghost use Rattle.iim_unpack.specs.Format.Unpacking.{IsDone, IsDoneWith, Stands};
+ghost use Rattle.iim_unpack.specs.Format.Conditions.{RefusalsTellTheLowestCause};
 ghost use Rattle.iim_unpack.specs.Format.Laws.{AdmittedOctetsAreFramed, AdmittedOctetsHaveOneValue, NoAdmittedOctetsBeginOthers, NoEnvelopeIsEmpty};
 ghost use Rattle.iim_unpack.specs.Format.Intakes.{OpenOctetsAreBounded};
 ghost use Rattle.iim_unpack.specs.ByLayers.{PlacesArePossibleByLayers};
@@ -7,29 +11,30 @@ ghost use Rattle.iim_unpack.specs.Format.Continuing.{OctetsHaveOnePlace, PlacesC
 ghost use Rattle.iim_unpack.specs.LowerLaws.{AnswerLaws, ByLayersLaws, CloseLaws, FeedLaws, HeadLaws, MessageLaws, ObjectLaws, OnwardLaws, OpenLaws, PlaceLaws, SizeLaws};
 ghost use Rattle.iim_unpack.specs.Plain.{ObjectsArePossibleAlike, PlainDatasetsContinueAlike, PlainOctetsAreOpenOrWhole, PlainOctetsLeadToTheirPlace, PossiblePlacesArePlain};
 ghost use Rattle.iim_unpack.specs.Format.Possible.{LimitsAreToldByPlace};
-ghost use Rattle.iim_unpack.specs.Possible.{TicketsOfPlacesAreSplit, UnpackersStandByPlace};
+ghost use Rattle.iim_unpack.specs.Format.TicketsTold.{TicketsOfPlacesAreSplit, UnpackersStandByPlace};
 ghost use Rattle.iim_unpack.specs.Format.Restored.{PossiblePlacesAreTaken};
 ghost use Rattle.iim_unpack.specs.Format.Scales.{PresentScaleSaysNothingMore, SmallPlacesWerePossible, TicketsTellOnePlace};
 ghost use Rattle.iim_unpack.specs.Restoring.{ReadersMakeUnpackers};
 ghost use Rattle.iim_unpack.specs.Format.Streams.{EnvelopesAreBounded, NothingContinuesFromRefusedOctets, RefusalsAreDetermined, RefusedOctetsWereOpen, StreamsHaveOneAnswer};
 ghost use Rattle.iim_unpack.specs.Format.TicketForm.{TicketsHaveOneSplit};
 ghost use Rattle.iim_unpack.specs.Format.Tickets.{OctetsHaveOneTicket};
-ghost use Rattle.iim_unpack.specs.Format.Open.{OpenOctetsBeginWithNoEnvelope};
+ghost use Rattle.iim_unpack.specs.Format.Open.{LivingOctetsAreOpen, OpenOctetsBeginWithNoEnvelope};
 
+use crate::unpacker::Unpacker;
 use iim_dataset::laws::{
     canonical_streams_are_spelled, events_tell_the_datasets, no_dataset_begins_another,
     no_octets_continue, no_tag_begins_another, octets_are_handed_on_one_way,
     what_an_octet_completes,
 };
 use iim_fields::laws::{
-    envelopes_end_with_the_last_record, heads_die_with_their_fault, no_sections_begin_others,
-    values_die_with_their_fault,
+    envelopes_end_with_the_last_record, heads_die_with_their_fault, heads_tell_the_lowest_cause,
+    no_sections_begin_others, values_die_with_their_fault, values_tell_the_lowest_cause,
 };
 use iim_object::laws::{
-    datasets_lead_from_place_to_place, datasets_live_with_their_tokens, number_datasets_are_good,
-    numbers_live_without_clash, objects_end_where_they_are_whole, places_live_within,
-    readers_tell_sizes, records_are_by_number, sizes_are_determined, subfiles_live_while_they_fit,
-    totals_are_confirmed,
+    causes_are_the_first, datasets_lead_from_place_to_place, datasets_live_with_their_tokens,
+    number_datasets_are_good, numbers_live_without_clash, objects_end_where_they_are_whole,
+    places_live_within, readers_tell_sizes, records_are_by_number, sizes_are_determined,
+    subfiles_live_while_they_fit, totals_are_confirmed,
 };
 use wire_message::MessageReader;
 use wire_message::laws::{
@@ -37,7 +42,10 @@ use wire_message::laws::{
     octets_are_refused_alike, octets_lead_on_alike, octets_lead_to_one_place,
     places_are_saved_apart, readers_stand_at_living_octets, texts_stand_between_stx_and_etx,
 };
-use wire_story::laws::{texts_have_one_reading, texts_so_far_have_one_reading};
+use wire_story::laws::{
+    stories_end_as_texts, stories_live_as_texts_so_far, texts_end_in_no_return,
+    texts_have_one_reading, texts_so_far_have_one_reading,
+};
 
 /// The laws by which datasets lead the object from place to place.
 pub(crate) fn object_laws()
@@ -190,6 +198,14 @@ pub fn open_octets_begin_with_no_envelope()
     no_sections_begin_others();
 }
 
+/// Octets from which every layer can continue, within the limits, are open, where no envelope stands at their front.
+pub fn living_octets_are_open()
+    ensures { LivingOctetsAreOpen }
+{
+    onward_laws();
+    let _start = MessageReader::new();
+}
+
 /// Open octets are fewer than a count of 64 bits tells.
 pub fn open_octets_are_bounded()
     ensures { OpenOctetsAreBounded }
@@ -226,6 +242,20 @@ pub fn refusals_are_determined()
     answer_laws();
 }
 
+/// An octet that is refused completes a token, and the cause that is told is the one of the lowest number in its layer whose condition
+/// holds there.
+pub fn refusals_tell_the_lowest_cause()
+    ensures { RefusalsTellTheLowestCause }
+{
+    answer_laws();
+    heads_tell_the_lowest_cause();
+    values_tell_the_lowest_cause();
+    causes_are_the_first();
+    stories_live_as_texts_so_far();
+    stories_end_as_texts();
+    texts_end_in_no_return();
+}
+
 /// A stream has one answer at most: one envelope that it begins with, or one refusal, or one place where it is truncated.
 pub fn streams_have_one_answer()
     ensures { StreamsHaveOneAnswer }
@@ -234,6 +264,17 @@ pub fn streams_have_one_answer()
     admitted_octets_have_one_value();
     no_admitted_octets_begin_others();
     open_octets_begin_with_no_envelope();
+}
+
+/// An unpacker that has refused nothing stands on some octets, or is done with some. And it holds what its limits allow, and 256 octets
+/// at most beside that.
+pub fn unpackers_stand_somewhere(unpacker: &Unpacker)
+    ensures stands { unpacker.now.refused ≡ None → (IsDone unpacker.now → ⊥) → (octets : List ℕ) × (count : ℕ) × Stands unpacker.now octets count }
+    ensures done { IsDone unpacker.now → (octets : List ℕ) × (count : ℕ) × IsDoneWith unpacker.now octets count }
+    ensures held { unpacker.now.refused ≡ None → HoldsFew unpacker.now }
+{
+    feed_laws();
+    unpacker.stands_somewhere();
 }
 
 /// Octets have one ticket: an unpacker's place is determined by what it was fed.
@@ -293,28 +334,28 @@ pub fn restored_unpackers_stand_as_saved()
 
 /// Plain octets lead to their place: records 1 and 2 as they are kept, the numbers of record 7 in their order, subfiles that are
 /// filled one after the other, and what is begun after them.
-pub fn plain_octets_lead_to_their_place()
+pub(crate) fn plain_octets_lead_to_their_place()
     ensures { PlainOctetsLeadToTheirPlace }
 {
     canonical_streams_are_spelled();
 }
 
 /// Places of an object that tell the same are possible alike.
-pub fn objects_are_possible_alike()
+pub(crate) fn objects_are_possible_alike()
     ensures { ObjectsArePossibleAlike }
 {
     size_laws();
 }
 
 /// What follows datasets to the records of an envelope follows their plain ones to such, too.
-pub fn plain_datasets_continue_alike()
+pub(crate) fn plain_datasets_continue_alike()
     ensures { PlainDatasetsContinueAlike }
 {
     answer_laws();
 }
 
 /// Each possible place is led to by plain octets.
-pub fn possible_places_are_plain()
+pub(crate) fn possible_places_are_plain()
     ensures { PossiblePlacesArePlain }
 {
     answer_laws();
@@ -322,14 +363,14 @@ pub fn possible_places_are_plain()
 }
 
 /// Each possible place is led to by plain octets that are open, or an envelope, under the widest limits.
-pub fn plain_octets_are_open_or_whole()
+pub(crate) fn plain_octets_are_open_or_whole()
     ensures { PlainOctetsAreOpenOrWhole }
 {
     open_laws();
 }
 
 /// A place is possible exactly where each layer alone can be there.
-pub fn places_are_possible_by_layers()
+pub(crate) fn places_are_possible_by_layers()
     ensures { PlacesArePossibleByLayers }
 {
     by_layers_laws();

@@ -7,7 +7,7 @@ ghost use Rattle.iim_object.specs.Format.Reading.{StandsAt};
 ghost use Rattle.iim_object.specs.Format.Saved.{IsAt, IsPossible};
 ghost use Rattle.iim_unpack.specs.ByLayers.{begun_of_object, object_after};
 ghost use Rattle.iim_unpack.specs.Nowhere.{goes_nowhere, stops_nowhere, joins_nowhere, joins_stop_nowhere};
-ghost use Rattle.iim_unpack.specs.TicketParts.{phase_told};
+ghost use Rattle.iim_unpack.specs.Format.TicketsTold.{phase_told};
 
 use crate::laws::object_laws;
 use crate::ticket_parts::TicketPhase;

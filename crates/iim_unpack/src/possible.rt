@@ -10,7 +10,7 @@ ghost use Rattle.iim_unpack.specs.ByLayers.{begun_subfiles, one_of_some, TagsLea
 ghost use Rattle.iim_unpack.specs.Format.Possible.{widest, begun_count, begun_fields, count_octets_before, greatest_size_before, IsSmallPhase};
 ghost use Rattle.iim_unpack.specs.Restoring.{AreAt, AreAtIn, LeadsNowhere, LeadsNowhereIn};
 ghost use Rattle.iim_unpack.specs.Format.TicketForm.{HasForm};
-ghost use Rattle.iim_unpack.specs.TicketParts.{phase_told, split_told};
+ghost use Rattle.iim_unpack.specs.Format.TicketsTold.{phase_told, split_told};
 
 use crate::object_place::object_at;
 use crate::readers::{message_at, records_lead, tags_at};

@@ -17,7 +17,7 @@ ghost use Rattle.iim_unpack.specs.ByLayers.{TagsLead, RecordsLive, are_ended};
 ghost use Rattle.iim_unpack.specs.Format.Possible.{widest};
 ghost use Rattle.iim_unpack.specs.Taking.{AreKept, IsMessageOf, tag_place, told_datasets};
 ghost use Rattle.iim_unpack.specs.Format.TicketForm.{IsPhase};
-ghost use Rattle.iim_unpack.specs.TicketParts.{phase_told};
+ghost use Rattle.iim_unpack.specs.Format.TicketsTold.{phase_told};
 ghost use Rattle.iim_unpack.specs.Format.Tickets.{part_number, present_version};
 
 use crate::taker::take_told;

@@ -1,6 +1,7 @@
 //! Why octets are refused.
 
 ghost use Rattle.std.specs.Prelude.{◌≡◌, Some};
+ghost use Rattle.iim_unpack.specs.Format.Conditions.{rule_of};
 ghost use Rattle.iim_unpack.specs.Format.Names.{layer_name, cause_number, cause_name, cause_text, refusal_text};
 
 use iim_dataset::DatasetName;
@@ -97,14 +98,13 @@ pub enum Cause {
     Sink = 60,
     /// Something was refused before.
     Failed = 61,
-    /// Memory was refused.
-    OutOfMemory = 70,
 }
 
 impl Cause {
     /// The number, as it is printed.
     pub fn number(self) -> u8
-        ensures { result ≡ cause_number self }
+        ensures number { result ≡ cause_number self }
+        ensures ruled { result ≡ (rule_of self).number }
     {
         self as u8
     }
@@ -139,7 +139,6 @@ impl Cause {
             Cause::HeaderFull => FieldCause::HeaderFull.name(),
             Cause::TooManyFields => FieldCause::TooManyFields.name(),
             Cause::TooManySubfiles => "TooManySubfiles",
-            Cause::OutOfMemory => "OutOfMemory",
         }
     }
 }
@@ -149,7 +148,6 @@ impl Cause {
 ///
 /// The dataset is the begun one (0 for what is not read of its tag, 0 and 0 between datasets), and for
 /// [`Cause::Missing`] the missing one of the lowest number. For [`Cause::Truncated`] the offset is the number of octets.
-/// [`Cause::OutOfMemory`] names octet 0 and 0:00.
 #[derive(Clone, Copy, Debug, PartialEq, Eq)]
 pub struct Refusal {
     /// The layer that refuses.

@@ -11,7 +11,7 @@ ghost use Rattle.iim_unpack.specs.Restoring.{AreAtIn, RecordsStand, MayBegin, Ar
 ghost use Rattle.iim_unpack.specs.Format.Restored.{IsRestored, IsRestoreFault};
 ghost use Rattle.iim_unpack.specs.Taking.{AreKept, told_datasets};
 ghost use Rattle.iim_unpack.specs.Format.TicketForm.{HasForm, SplitsTicket};
-ghost use Rattle.iim_unpack.specs.TicketParts.{phase_told, split_told};
+ghost use Rattle.iim_unpack.specs.Format.TicketsTold.{phase_told, split_told};
 ghost use Rattle.iim_unpack.specs.Format.Unpacking.{room_in};
 
 use crate::laws::{

@@ -48,7 +48,7 @@ impl<'a> TicketFields<'a> {
 
 impl<'a> Iterator for TicketFields<'a> {
     ghost use Rattle.std.specs.Iterator.{YieldsFirstBy, item_count};
-    ghost use Rattle.iim_unpack.specs.TicketFields.{those_left};
+    ghost use Rattle.iim_unpack.specs.Format.Begins.{those_left};
 
     type Item = (u8, u8, &'a [u8]);
 

@@ -6,7 +6,8 @@ ghost use Rattle.iim_unpack.specs.Format.Tickets.{ticket_name, width, phase_octe
 ghost use Rattle.iim_unpack.specs.Format.Begins.{IsLongField};
 ghost use Rattle.iim_unpack.specs.Begins.{BeginsWithNone, BeginsWithFewer, FieldsBefore};
 ghost use Rattle.iim_unpack.specs.Format.Begins.{AreFields, AreNumbersIn, AreTexts};
-ghost use Rattle.iim_unpack.specs.TicketParts.{IsHeld, IsNameFault, BeginsWithNoData, AreNoMessage, AreNoBody, phase_told, split_told, message_parts, body_octets};
+ghost use Rattle.iim_unpack.specs.TicketParts.{IsHeld, IsNameFault, BeginsWithNoData, AreNoMessage, AreNoBody, message_parts, body_octets};
+ghost use Rattle.iim_unpack.specs.Format.TicketsTold.{phase_told, split_told};
 ghost use Rattle.iim_unpack.specs.Format.TicketForm.{IsVersion, IsPhase, IsFaultOf, HasForm, SplitsTicket};
 
 use crate::front::{

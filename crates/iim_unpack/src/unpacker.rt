@@ -13,6 +13,7 @@ ghost use Rattle.iim_unpack.specs.Format.Unpacking.{raised, failed_at};
 ghost use Rattle.iim_dataset.specs.Format.Reading.{tag_cause_of};
 ghost use Rattle.iim_unpack.specs.Unpacking.{IsUnpacking, Stood};
 ghost use Rattle.iim_unpack.specs.Format.Unpacking.{Stands, IsDoneWith, IsDone, IsRefusedIn, Goes, limits_in, room_in, LeftAs};
+ghost use Rattle.iim_unpack.specs.Format.Held.{HoldsFew};
 ghost use Rattle.iim_unpack.specs.Format.Open.{IsTruncatedAt};
 ghost use Rattle.iim_unpack.specs.Format.Admitted.{Value, Admits};
 ghost use Rattle.iim_unpack.specs.Format.Tickets.{IsTicketOf};
@@ -135,8 +136,8 @@ pub struct Unpacked {
 /// An unpacker of one envelope, which is fed its octets in any pieces.
 ///
 /// It holds the data of records 1 and 2, at most `Limits.octets` octets in at most `Limits.fields` entries, and less than 256
-/// octets more: those of a begun tag (12 at most), a begun number of record 7 or 9 (8), and the header and the trailer of the
-/// message (159). [`Unpacker::new`] makes room for all of them; no other call takes memory, and the room stays as it was made.
+/// octets more: those of a begun tag (12 at most), a begun number of record 7 or 9 (8), the header and the trailer of the message
+/// (159), and CR that no LF has followed yet (2). [`Unpacker::new`] makes room for all of them; no other call takes memory, and the room stays as it was made.
 #[derive(Drop)]
 pub struct Unpacker {
     reader: HeadReader,
@@ -346,17 +347,20 @@ impl Unpacker {
         ensures again { (octet : ℕ) → self.old.refused ≡ Some octet → (result ≡ Err (failed_at octet)) × LeftAs self.old sink.old self.new sink.new }
         ensures limits { self.old.refused ≡ None → OnOk result (limits_in self.new ≡ limits_in self.old) }
 
+        // While nothing is refused, it holds what the limits allow, and 256 octets at most beside that.
+        ensures held { self.new.refused ≡ None → HoldsFew self.new }
+
         // Whatever it answers, the header has the room that it had: no memory is taken.
         ensures room { room_in self.new ≡ room_in self.old }
     {
+        feed_laws();
+        readers_tell_sizes();
         if let Some(octet) = self.refused {
             return Err(failed_at(octet));
         }
         if self.parts.has_ended() {
             return Ok(Progress::Done { used: 0 });
         }
-        feed_laws();
-        readers_tell_sizes();
         match advance(&mut self.reader, &mut self.parts, piece, sink) {
             Ok(used) => {
                 self.octets = raised(self.octets, used);

@@ -13,7 +13,7 @@ const LAYERS: [Layer; 7] = [
     Layer::Outside,
 ];
 
-const CAUSES: [Cause; 26] = [
+const CAUSES: [Cause; 25] = [
     Cause::Marker,
     Cause::CountForm,
     Cause::Truncated,
@@ -39,7 +39,6 @@ const CAUSES: [Cause; 26] = [
     Cause::TooManySubfiles,
     Cause::Sink,
     Cause::Failed,
-    Cause::OutOfMemory,
 ];
 
 /// Prints each layer.

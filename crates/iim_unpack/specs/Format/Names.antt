@@ -8,7 +8,7 @@ use Rattle.iim_unpack.specs.declared.refusal.Refusal.{Refusal}
 use Rattle.iim_unpack.specs.declared.refusal.Layer.{Layer}
 use Rattle.iim_unpack.specs.declared.refusal.Layer.TheVariants.{Dataset, Record, Limits, Object, Message, Story, Outside}
 use Rattle.iim_unpack.specs.declared.refusal.Cause.{Cause}
-use Rattle.iim_unpack.specs.declared.refusal.Cause.TheVariants.{Marker, CountForm, Truncated, RecordOrder, UnknownDataset, Repeated, CountRange, Missing, BadValue, FileFormat, ModeClash, SizeClash, SubfileTooLong, PastSize, Short, ConfirmedWrong, BadOctet, Unfinished, LoneReturn, ControlOctet, HeaderFull, TooManyFields, TooManySubfiles, Sink, Failed, OutOfMemory}
+use Rattle.iim_unpack.specs.declared.refusal.Cause.TheVariants.{Marker, CountForm, Truncated, RecordOrder, UnknownDataset, Repeated, CountRange, Missing, BadValue, FileFormat, ModeClash, SizeClash, SubfileTooLong, PastSize, Short, ConfirmedWrong, BadOctet, Unfinished, LoneReturn, ControlOctet, HeaderFull, TooManyFields, TooManySubfiles, Sink, Failed}
 
 abbrev pub layer_name : Layer → List ℕ
 layer_name Dataset = codes "dataset"
@@ -45,7 +45,6 @@ cause_number Failed = 61
 cause_number HeaderFull = number_of_cause fields.HeaderFull
 cause_number TooManyFields = number_of_cause fields.TooManyFields
 cause_number TooManySubfiles = 52
-cause_number OutOfMemory = 70
 
 abbrev pub cause_name : Cause → List ℕ
 cause_name Marker = codes "Marker"
@@ -73,7 +72,6 @@ cause_name Failed = codes "Failed"
 cause_name HeaderFull = name_of_cause fields.HeaderFull
 cause_name TooManyFields = name_of_cause fields.TooManyFields
 cause_name TooManySubfiles = codes "TooManySubfiles"
-cause_name OutOfMemory = codes "OutOfMemory"
 
 -- ---- as they are printed
 

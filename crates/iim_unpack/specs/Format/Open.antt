@@ -136,3 +136,8 @@ pub record IsTruncatedAt (p : List ℕ) (a : ℕ) (e : Refusal) : Type 0 where
 -- Open octets begin with no admitted ones (the third condition of open octets).
 abbrev pub OpenOctetsBeginWithNoEnvelope : Type 0
 OpenOctetsBeginWithNoEnvelope = (limits : Limits) (octets front rest : List ℕ) (v : Value) → IsOpen limits octets → octets ≡ front ++ rest → Admits front v → ⊥
+
+-- Octets from which every layer can continue, within the limits, are open, where no envelope stands at their front.
+abbrev pub LivingOctetsAreOpen : Type 0
+LivingOctetsAreOpen = (limits : Limits) (octets : List ℕ) (whole : List Dataset) (begun : Begun) → Reads count_octets octets whole begun → AllCanContinue limits whole begun
+    → ((front rest : List ℕ) (v : Value) → octets ≡ front ++ rest → Admits front v → ⊥) → IsOpen limits octets

@@ -1,7 +1,7 @@
 use Rattle.std.proofs.Common.{◌≡◌, true, IsTrue}
 use Rattle.iim_unpack.specs.Restoring.{AreAt, AreAtIn}
 use Rattle.iim_unpack.specs.Format.TicketForm.{Split}
-use Rattle.iim_unpack.specs.TicketParts.{split_told}
+use Rattle.iim_unpack.specs.Format.TicketsTold.{split_told}
 use Rattle.iim_unpack.proofs.PlacesTold.{small_told}
 use Rattle.iim_unpack.proofs.possible.readers_at.Goals.{else-parts-eq-FIRST_VERSION-via-then-parts-eq-FIRST_VERSION+else-not-is_small, else-parts-eq-FIRST_VERSION-via-else-parts-eq-FIRST_VERSION}
 use Rattle.iim_unpack.proofs.possible.readers_at.Goals as goal

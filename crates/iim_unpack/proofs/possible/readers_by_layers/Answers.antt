@@ -6,7 +6,7 @@ use Rattle.iim_unpack.specs.ByLayers.{RecordsLive, are_ended}
 use Rattle.iim_unpack.specs.Format.Possible.{begun_count, begun_fields, widest}
 use Rattle.iim_unpack.specs.Taking.{AreKept, told_datasets}
 use Rattle.iim_unpack.specs.Format.TicketForm.{Split}
-use Rattle.iim_unpack.specs.TicketParts.{split_told}
+use Rattle.iim_unpack.specs.Format.TicketsTold.{split_told}
 use Rattle.iim_unpack.specs.declared.possible.Readers.{Readers}
 use Rattle.iim_unpack.proofs.PlacesTold.{no_records, no_message, are_at}
 use Rattle.iim_unpack.proofs.possible.readers_by_layers.Goals as goal

@@ -1,6 +1,6 @@
 use Rattle.std.proofs.Common.{sym, subst, ◌∙◌}
 use Rattle.iim_unpack.specs.ByLayers.{RecordsLive, head_of_numbers}
-use Rattle.iim_unpack.specs.TicketParts.{phase_told}
+use Rattle.iim_unpack.specs.Format.TicketsTold.{phase_told}
 use Rattle.iim_unpack.specs.declared.ticket_parts.TicketPhase.{TicketPhase}
 use Rattle.iim_unpack.proofs.AtPlaces.{lives_at}
 use Rattle.iim_unpack.proofs.readers.can_continue.Goals as goal

@@ -4,7 +4,7 @@ use Rattle.iim_fields.specs.Format.Checks.{TakesHead, HasChecked}
 use Rattle.iim_unpack.specs.ByLayers.{are_ended}
 use Rattle.iim_unpack.specs.Format.Possible.{widest}
 use Rattle.iim_unpack.specs.Taking.{TookDatasets, told_datasets}
-use Rattle.iim_unpack.specs.TicketParts.{phase_told}
+use Rattle.iim_unpack.specs.Format.TicketsTold.{phase_told}
 use Rattle.iim_unpack.proofs.AtPlaces.{leads_on_told}
 use Rattle.iim_unpack.proofs.Taking.{took_as}
 use Rattle.iim_unpack.proofs.readers.records_lead.Goals as goal

@@ -5,7 +5,7 @@ use Rattle.iim_dataset.specs.declared.place.DatasetPlace.TheVariants.{Tag, Insid
 use Rattle.iim_unpack.specs.ByLayers.{TagsLead, head_of_numbers}
 use Rattle.iim_unpack.specs.Format.TicketForm.{IsPhase}
 use Rattle.iim_unpack.specs.Format.Tickets.{present_version}
-use Rattle.iim_unpack.specs.TicketParts.{phase_told}
+use Rattle.iim_unpack.specs.Format.TicketsTold.{phase_told}
 use Rattle.iim_unpack.specs.declared.ticket_parts.TicketPhase.{TicketPhase}
 use Rattle.iim_unpack.proofs.AtPlaces.{some_place, no_place}
 use Rattle.iim_unpack.proofs.readers.tags_at.Goals as goal

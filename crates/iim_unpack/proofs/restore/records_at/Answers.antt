@@ -5,7 +5,7 @@ use Rattle.iim_fields.specs.declared.limits.Limits.{Limits}
 use Rattle.iim_unpack.specs.ByLayers.{are_ended}
 use Rattle.iim_unpack.specs.Restoring.{AreWithinWith}
 use Rattle.iim_unpack.specs.Taking.{CanContinueWithin, TookDatasets, told_datasets}
-use Rattle.iim_unpack.specs.TicketParts.{phase_told}
+use Rattle.iim_unpack.specs.Format.TicketsTold.{phase_told}
 use Rattle.iim_unpack.proofs.Restoring.{with_told, goes_told}
 use Rattle.iim_unpack.proofs.Taking.{took_as}
 use Rattle.iim_unpack.proofs.restore.records_at.Goals as goal

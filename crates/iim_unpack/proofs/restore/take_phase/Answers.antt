@@ -3,7 +3,7 @@ use Rattle.iim_fields.specs.Format.Standing.{limits_of}
 use Rattle.iim_unpack.specs.ByLayers.{TagsLead, RecordsLive}
 use Rattle.iim_unpack.specs.Restoring.{AreWithinWith, RecordsStand}
 use Rattle.iim_unpack.specs.Format.Tickets.{Phase, DataBegun}
-use Rattle.iim_unpack.specs.TicketParts.{phase_told}
+use Rattle.iim_unpack.specs.Format.TicketsTold.{phase_told}
 use Rattle.iim_unpack.proofs.Restoring.{few_in, may_begin}
 use Rattle.iim_unpack.proofs.restore.take_phase.Goals as goal
 

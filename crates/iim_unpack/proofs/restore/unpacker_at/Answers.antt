@@ -5,7 +5,7 @@ use Rattle.iim_unpack.specs.Restoring.{IsMadeFor, RecordsStand}
 use Rattle.iim_unpack.specs.Format.Restored.{IsRestored}
 use Rattle.iim_unpack.specs.Taking.{told_datasets}
 use Rattle.iim_unpack.specs.Format.TicketForm.{Split, split_octets}
-use Rattle.iim_unpack.specs.TicketParts.{split_told}
+use Rattle.iim_unpack.specs.Format.TicketsTold.{split_told}
 use Rattle.iim_unpack.specs.Format.Unpacking.{Unpacking}
 use Rattle.iim_unpack.proofs.PlacesTold.{heads_within, made_for, ticket_at}
 use Rattle.iim_unpack.proofs.Splitting.{wider_numbers}

@@ -1,5 +1,5 @@
 use Rattle.iim_unpack.proofs.Splitting.{past_phase, past_fields, past_numbers, past_taken, past_heads, no_fields, no_numbers_follow, no_taken, no_heads, no_message, spelled_body}
-use Rattle.iim_unpack.specs.TicketParts.{split_told}
+use Rattle.iim_unpack.specs.Format.TicketsTold.{split_told}
 use Rattle.iim_unpack.proofs.ticket_parts.read_body.Goals as goal
 
 pub returns-in_err-fields-clause-none : goal.returns-in_err-fields-clause-none

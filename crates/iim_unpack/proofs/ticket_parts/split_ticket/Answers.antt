@@ -1,4 +1,4 @@
-use Rattle.iim_unpack.specs.TicketParts.{split_told}
+use Rattle.iim_unpack.specs.Format.TicketsTold.{split_told}
 use Rattle.iim_unpack.proofs.Splitting.{splits, no_splits}
 use Rattle.iim_unpack.proofs.ticket_parts.split_ticket.Goals as goal
 

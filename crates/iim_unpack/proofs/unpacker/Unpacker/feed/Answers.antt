@@ -3,6 +3,8 @@ use Rattle.iim_unpack.specs.Format.Refusals.{refusal_at}
 use Rattle.iim_unpack.specs.Format.Unpacking.{Unpacking, Stands, IsRefusedIn, limits_in}
 use Rattle.iim_unpack.specs.Format.Parts.{has_ended}
 use Rattle.wire_story.specs.Format.Delivery as story
+use Rattle.iim_unpack.specs.Format.Held.{HoldsFew}
+use Rattle.iim_unpack.proofs.Held.{holds_few}
 use Rattle.iim_unpack.proofs.Feeding.{goes_more, goes_done, refused_in, sound_more, sound_done}
 use Rattle.iim_unpack.proofs.unpacker.Unpacker.feed.Goals as goal
 
@@ -85,3 +87,31 @@ invariant_of-self-in-Ok g c =
     let h = c.in-Ok.ensures.taken in
     λ none. sound_more g.S.StorySink.goes g.S.StorySink.failures laws u v c.args.piece.now c.in-Ok.used c.args.sink.now n.sink h.advanced h.onward h.takes_calls refl (sym c.if-has_ended-2.ensures) c.raised-self-inside.ensures c.begins-self-inside.ensures
     (c.self.invariant none) (sym c.if-has_ended.ensures)
+
+pub returns-then-has_ended-clause-held : goal.returns-then-has_ended-clause-held
+returns-then-has_ended-clause-held g c =
+    let i = c.self.inside in
+    let u : Unpacking = record { reader = i.reader; parts = i.parts; octets = i.octets; begun = i.begun; refused = i.refused } in
+    λ none. subst HoldsFew c.self.view_is (holds_few c.feed_laws.ensures.tell u (c.self.invariant (ap (λ (w : Unpacking). w.refused) c.self.view_is ∙ none)).stood)
+
+pub returns-then-has_ended-2-clause-held : goal.returns-then-has_ended-2-clause-held
+returns-then-has_ended-2-clause-held g c =
+    let laws = c.feed_laws.ensures in
+    let i = c.self.inside in
+    let n = c.advance.new in
+    let u : Unpacking = record { reader = i.reader; parts = i.parts; octets = i.octets; begun = i.begun; refused = i.refused } in
+    let v : Unpacking = record { reader = n.reader; parts = n.parts; octets = c.raised-self-inside.result; begun = c.begins-self-inside.result; refused = i.refused } in
+    let h = c.in-Ok.ensures.taken in
+    λ none. holds_few laws.tell v (sound_done g.S.StorySink.goes g.S.StorySink.failures laws u v c.args.piece.now c.in-Ok.used c.args.sink.now n.sink (c.readers_tell_sizes.ensures n.parts.object).0 h.advanced h.onward h.takes_calls refl (sym c.if-has_ended-2.ensures) c.raised-self-inside.ensures h.within (c.readers_tell_sizes.ensures n.parts.object).1
+    (c.self.invariant none) (sym c.if-has_ended.ensures)).stood
+
+pub returns-else-has_ended-2-clause-held : goal.returns-else-has_ended-2-clause-held
+returns-else-has_ended-2-clause-held g c =
+    let laws = c.feed_laws.ensures in
+    let i = c.self.inside in
+    let n = c.advance.new in
+    let u : Unpacking = record { reader = i.reader; parts = i.parts; octets = i.octets; begun = i.begun; refused = i.refused } in
+    let v : Unpacking = record { reader = n.reader; parts = n.parts; octets = c.raised-self-inside.result; begun = c.begins-self-inside.result; refused = i.refused } in
+    let h = c.in-Ok.ensures.taken in
+    λ none. holds_few laws.tell v (sound_more g.S.StorySink.goes g.S.StorySink.failures laws u v c.args.piece.now c.in-Ok.used c.args.sink.now n.sink h.advanced h.onward h.takes_calls refl (sym c.if-has_ended-2.ensures) c.raised-self-inside.ensures c.begins-self-inside.ensures
+    (c.self.invariant none) (sym c.if-has_ended.ensures)).stood

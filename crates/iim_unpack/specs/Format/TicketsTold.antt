@@ -1,9 +1,12 @@
--- The tickets of places, and what an unpacker at a place does.
-use Rattle.std.specs.Prelude.{ℕ, List, [], ◌∷◌}
+-- What the octets of a ticket tell, the tickets of places, and what an unpacker at a place does.
+use Rattle.std.specs.Prelude.{ℕ, List, [], ◌∷◌, map}
 use Rattle.iim_unpack.specs.Format.Unpacking.{Unpacking, Stands, limits_in}
 use Rattle.iim_unpack.specs.Format.Open.{IsOpen}
 use Rattle.wire_message.specs.declared.saved.MessagePlace.{MessagePlace}
-use Rattle.iim_unpack.specs.Format.Tickets.{Place, IsPlaceOf, part_number, ticket_in}
+use Rattle.iim_unpack.specs.Format.Tickets.{Phase, TagBegun, DataBegun, AllEnded, Place, IsPlaceOf, part_number, ticket_in}
+use Rattle.iim_unpack.specs.declared.ticket_parts.TicketParts.{TicketParts}
+use Rattle.iim_unpack.specs.declared.ticket_parts.TicketPhase.{TicketPhase}
+use Rattle.iim_unpack.specs.declared.ticket_parts.TicketPhase.TheVariants.{Tag, Data, Ended}
 use Rattle.iim_unpack.specs.Format.TicketForm.{Split, IsVersion, SplitsTicket}
 use Rattle.iim_unpack.specs.Format.Scales.{IsPossibleIn}
 
@@ -36,3 +39,25 @@ split_of version p = record {
 -- The ticket of a place that is possible in the version has the form of a ticket, with the parts of the place.
 abbrev pub TicketsOfPlacesAreSplit : Type 0
 TicketsOfPlacesAreSplit = (version : ℕ) (place : Place) → IsVersion version → IsPossibleIn version place → SplitsTicket (ticket_in version place) (split_of version place)
+
+-- ---- what is told of octets
+
+abbrev pub phase_told : TicketPhase → Phase
+phase_told (Tag held) = TagBegun held.now
+phase_told (Data set count left taken) = DataBegun set count left taken.now
+phase_told Ended = AllEnded
+
+abbrev pub split_told : TicketParts → Split
+split_told p = record {
+  version = p.version;
+  section = p.section;
+  phase = phase_told p.phase;
+  fields = p.fields;
+  numbers = p.numbers;
+  taken = p.taken;
+  heads = p.heads;
+  part = p.part;
+  counter = p.counter;
+  flag = p.flag;
+  texts = map (λ t. t.now) p.texts;
+}

@@ -1,0 +1,131 @@
+-- An unpacker holds few octets and entries.
+use Rattle.std.proofs.Common.{◌≡◌, ℕ, ◌+◌, ◌<◌, ◌≤◌, ◌⊎◌, Bool, true, false, if◌then◌else◌, nat_eq, List, [], ◌∷◌, length, Option, Some, None, refl, ap, sym, subst, ◌∙◌, inl, inr, arith}
+use Rattle.iim_dataset.specs.Format.Datasets.{Dataset, count_octets}
+use Rattle.iim_dataset.specs.Format.Laws.{EventsTellTheDatasets}
+use Rattle.iim_dataset.specs.Format.Places.{IsKeptAs}
+use Rattle.iim_dataset.specs.Format.Splits.{Begun, InTag, InData, Reads}
+use Rattle.iim_dataset.specs.declared.head.Head.{Head}
+use Rattle.iim_dataset.specs.declared.place.DatasetPlace.{DatasetPlace}
+use Rattle.iim_dataset.specs.declared.place.DatasetPlace.TheVariants as tags
+use Rattle.iim_fields.specs.Format.Checks.{begun_head}
+use Rattle.iim_fields.specs.Format.Faults.{is_kept, joined, kept}
+use Rattle.iim_fields.specs.Format.Standing.{begun_head_of, StandsAfter, StandsIn}
+use Rattle.wire_message.specs.Format.Reading as wire
+use Rattle.wire_message.specs.Format.Saved.{saved}
+use Rattle.wire_message.specs.Format.SoFar.{IsPlace}
+use Rattle.wire_message.specs.declared.place.Place.{Place as Message}
+use Rattle.wire_message.specs.declared.place.Place.TheVariants as at
+use Rattle.iim_unpack.specs.Format.Held.{tag_held, texts_held, returns_held, message_held, begun_entries, held_octets, held_entries, HoldsFew}
+use Rattle.iim_unpack.specs.Format.Parts.{StandsFor}
+use Rattle.iim_unpack.specs.Format.Unpacking.{Unpacking, IsLed, limits_in}
+use Rattle.iim_unpack.specs.Unpacking.{Stood}
+use Rattle.iim_unpack.specs.declared.parts.Parts.{Parts}
+use Rattle.iim_unpack.proofs.Bounds.{is_one}
+use Rattle.iim_unpack.proofs.TicketLengths.{AreShortIn, texts_at, held_length}
+use Rattle.iim_unpack.proofs.SamePlace.{told_by}
+
+-- ---- the message
+
+few_returns : (place : Message) → IsPlace place → returns_held place ≤ 2
+few_returns (at.Filler count) h = omega arith
+few_returns (at.Source s) h = omega arith
+few_returns (at.Number s n) h = omega arith
+few_returns (at.Priority s n) h = omega arith
+few_returns (at.PriorityRead s n p) h = omega arith
+few_returns (at.Category s n p c) h = omega arith
+few_returns (at.Words s n p c w) h = omega arith
+few_returns (at.Info h') h = omega arith
+few_returns (at.Gap h' count feed) h = omega arith
+few_returns (at.Text h' (Some held)) (k, (m, is, few)) = let same : held ≡ m = cc in omega (arith, same, few)
+few_returns (at.Text h' None) h = omega arith
+few_returns (at.Trailer h' t) h = omega arith
+few_returns (at.AfterEnd h' t count) h = omega arith
+
+few_texts : (place : Message) → IsPlace place → texts_held (saved place) ≤ 159
+few_texts place is =
+    let short : AreShortIn (saved place) = texts_at place is in
+    omega (arith, short.source, short.number, short.priority, short.category, short.words, short.info, short.trailer)
+
+few_of_message : (reader : Option Message) (octets text : List ℕ) → wire.StandsAt reader octets text → message_held reader ≤ 161
+few_of_message reader octets text (place, is, leads) =
+    let texts = few_texts place leads.is_place in
+    let returns = few_returns place leads.is_place in
+    let all : message_held (Some place) ≤ 161 = omega (arith, texts, returns) in subst (λ (o : Option Message). message_held o ≤ 161) (sym is) all
+
+-- ---- the tag
+
+few_of_tag : (place : DatasetPlace) (begun : Begun) (p : List ℕ) (ds : List Dataset) → IsKeptAs place begun → Reads count_octets p ds begun → tag_held place ≤ 12
+few_of_tag (tags.Tag held) (InTag octets) p ds keeps reads = let few = held_length p ds octets reads in omega (arith, few, ap length keeps)
+few_of_tag (tags.Tag held) (InData h taken) p ds keeps reads = absurd keeps
+few_of_tag (tags.Inside head left) (InTag octets) p ds keeps reads = omega arith
+few_of_tag (tags.Inside head left) (InData h taken) p ds keeps reads = omega arith
+
+-- ---- the records
+
+-- what the records hold
+record FewFields (parts : Parts) : Type 0 where
+  octets : length (joined parts.fields.kept) + length parts.fields.taken ≤ parts.fields.limits.octets + 8
+  entries : length parts.fields.kept + begun_entries (begun_head_of parts.fields) ≤ parts.fields.limits.fields
+
+none_of_eight : (rec : ℕ) (taken : List ℕ) → rec ≡ 8 → length (if nat_eq rec 8 then [] else taken) ≡ 0
+none_of_eight rec taken is = ap (λ (r : ℕ). length (if nat_eq r 8 then [] else taken)) is
+
+some_of : (b : Bool) (taken : List ℕ) → length (if b then [] else taken) ≤ length taken
+some_of true taken = omega arith
+some_of false taken = omega arith
+
+few_after : (parts : Parts) (ds : List Dataset) → StandsAfter parts.fields ds → FewFields parts
+few_after parts ds at' =
+    let none : begun_entries (begun_head_of parts.fields) ≡ 0 = ap begun_entries (ap begun_head at'.between.between) in
+    let octets = ap (λ (xs : List Dataset). length (joined xs)) at'.kept_are in
+    let entries = ap length at'.kept_are in
+    let nothing = ap length at'.taken_are in
+    record { octets = omega (arith, octets, nothing, at'.within.octets_in); entries = omega (arith, none, entries, at'.within.fields_in) }
+
+-- one entry, or none
+abbrev entries_if : Bool → ℕ
+entries_if b = if b then 1 else 0
+
+few_in : (parts : Parts) (ds : List Dataset) (h : Head) (taken : List ℕ) → StandsIn parts.fields ds h (if nat_eq h.rec 8 then [] else taken) → length taken < h.count → FewFields parts
+few_in parts ds h taken at' less =
+    let some : begun_head_of parts.fields ≡ Some h = ap begun_head at'.inside.1.head.inside in
+    let one : begun_entries (begun_head_of parts.fields) ≡ entries_if (is_kept h.rec) = ap begun_entries some in
+    let octets = ap (λ (xs : List Dataset). length (joined xs)) at'.kept_are in
+    let entries = ap length at'.kept_are in
+    let now = ap length at'.taken_are in
+    let part = some_of (nat_eq h.rec 8) taken in
+    elim (is_one ds h at'.alive) [
+      | inl keeps ↦
+          let room = at'.within keeps in
+          let is : entries_if (is_kept h.rec) ≡ 1 = ap entries_if keeps in
+          record { octets = omega (arith, octets, now, part, less, room.octets_in); entries = omega (arith, one, is, entries, room.fields_in) }
+      | inr (inl eight) ↦
+          let zero' = none_of_eight h.rec taken eight in
+          let is : entries_if (is_kept h.rec) ≡ 0 = ap (λ (r : ℕ). entries_if (is_kept r)) eight in
+          record { octets = omega (arith, octets, now, zero', at'.others.octets_in); entries = omega (arith, one, is, entries, at'.others.fields_in) }
+      | inr (inr few) ↦ record { octets = omega (arith, octets, now, part, less, few, at'.others.octets_in); entries = by (is_kept h.rec) refl one entries }
+    ]
+  where
+    by : (b : Bool) → is_kept h.rec ≡ b → begun_entries (begun_head_of parts.fields) ≡ entries_if (is_kept h.rec) → length parts.fields.kept ≡ length (kept ds)
+        → length parts.fields.kept + begun_entries (begun_head_of parts.fields) ≤ parts.fields.limits.fields
+    by true is one entries = let room = at'.within is in let n : entries_if (is_kept h.rec) ≡ 1 = ap entries_if is in omega (arith, one, n, entries, room.fields_in)
+    by false is one entries = let n : entries_if (is_kept h.rec) ≡ 0 = ap entries_if is in omega (arith, one, n, entries, at'.others.fields_in)
+
+-- ---- all of it
+
+few_led : EventsTellTheDatasets → (u : Unpacking) (p : List ℕ) → IsLed u p → HoldsFew u
+few_led tell u p led =
+    let hands = led.leads.hands in
+    let told = tell led.led.whole hands.whole led.led.begun led.leads.begun (sym led.led.told ∙ hands.handed) in
+    let stands : StandsFor u.parts hands.whole led.leads.begun = told_by u.parts led.led.whole hands.whole led.led.begun led.leads.begun told.0 told.1 led.led.stands in
+    by led.leads.begun hands.reads stands (few_of_tag u.reader.place led.leads.begun p hands.whole led.leads.keeps hands.reads)
+  where
+    sum : FewFields u.parts → tag_held u.reader.place ≤ 12 → message_held u.parts.message ≤ 161 → HoldsFew u
+    sum few tag message = record { octets = (let octets = few.octets in omega (arith, octets, tag, message)); entries = few.entries }
+
+    by : (begun : Begun) → Reads count_octets p led.leads.hands.whole begun → StandsFor u.parts led.leads.hands.whole begun → tag_held u.reader.place ≤ 12 → HoldsFew u
+    by (InTag held) reads stands tag = sum (few_after u.parts led.leads.hands.whole stands.fields) tag (few_of_message u.parts.message _ _ stands.message)
+    by (InData h taken) reads stands tag = sum (few_in u.parts led.leads.hands.whole h taken stands.fields reads.is_rest.2) tag (few_of_message u.parts.message _ _ stands.message)
+
+pub holds_few : EventsTellTheDatasets → (u : Unpacking) → Stood u → HoldsFew u
+holds_few tell u (p, a, stood) = elim stood [ inl at' ↦ few_led tell u p at'.is_led | inr at' ↦ few_led tell u p at'.is_led ]

@@ -1,0 +1,20 @@
+use Rattle.std.proofs.Common.{◌≡◌, ℕ, ◌⊎◌, Bool, true, false, List, None, inl, inr}
+use Rattle.iim_unpack.specs.Format.Parts.{has_ended}
+use Rattle.iim_unpack.specs.Format.Unpacking.{Unpacking, IsDone, IsDoneWith, Stands}
+use Rattle.iim_unpack.specs.Unpacking.{Stood}
+use Rattle.iim_unpack.proofs.Feeding.{stood_done}
+use Rattle.iim_unpack.proofs.Held.{holds_few}
+use Rattle.iim_unpack.proofs.laws.unpackers_stand_somewhere.Goals as goal
+
+stands_by : (u : Unpacking) → (IsDone u → ⊥) → Stood u → (octets : List ℕ) × (count : ℕ) × Stands u octets count
+stands_by u more (octets, count, inl at) = (octets, count, at)
+stands_by u more (octets, count, inr at) = absurd (more (at.taking, at.ended))
+
+pub returns-clause-stands : goal.returns-clause-stands
+returns-clause-stands c = λ none more. stands_by c.args.unpacker.now more (c.stands_somewhere.ensures.stood none)
+
+pub returns-clause-done : goal.returns-clause-done
+returns-clause-done c = λ done. stood_done c.args.unpacker.now done.1 (c.stands_somewhere.ensures.stood done.0)
+
+pub returns-clause-held : goal.returns-clause-held
+returns-clause-held c = λ none. holds_few c.feed_laws.ensures.tell c.args.unpacker.now (c.stands_somewhere.ensures.stood none)
