@@ -2,5 +2,7 @@
 pub mod Format
 -- What only proofs and private clauses cite.
 pub mod Coming
+pub mod Faults
 pub mod Narration
 pub mod PackSteps
+pub mod Verbs
