@@ -1,5 +1,6 @@
 -- Envelopes that come one after another.
 use Rattle.std.proofs.Common.{◌≡◌, ℕ, ◌+◌, ◌≤◌, ℤ, List, [], ◌∷◌, ◌++◌, length, append_assoc, append-nil, ◌<◌, Option, None, Some, ap, sym, ◌∙◌, refl, subst, arith, inl, inr, ⊎_elim, length-append}
+use Rattle.std.specs.List.{AllByRecursion}
 use Rattle.std.proofs.lemmas.List.{length-map, map-append}
 use Rattle.std.proofs.KnownBytes.{Consumes-trans}
 use Rattle.iim_dataset.specs.Format.Devices.{Device, Rose}
@@ -8,49 +9,46 @@ use Rattle.iim_dataset.specs.declared.device.IoFault.{IoFault}
 use Rattle.iim_dataset.specs.declared.device.IoFault.TheVariants as io
 use Rattle.iim_fields.specs.declared.limits.Limits.{Limits}
 use Rattle.iim_unpack.specs.Format.Admitted.{Value}
-use Rattle.iim_unpack.specs.Format.Listing.{Listed, Divides, values_of, max_envelopes}
-use Rattle.iim_unpack.specs.Format.Streams.{IsEnvelopeWithin}
-use Rattle.iim_audit.specs.Format.Auditing.{HasCome, IsAudited, FailsAt}
+use Rattle.iim_unpack.specs.Format.Listing.{Listed, Divides, IsListed, joined, values_of, max_envelopes}
+use Rattle.iim_unpack.specs.Format.Unpacking.{raised}
+use Rattle.iim_unpack.proofs.Listings.{admitted_more, joined_more}
+use Rattle.iim_audit.specs.Format.Auditing.{IsAudited, IsMissedAt, IsToldAgain, FailsLeaving, told_after}
 use Rattle.iim_audit.specs.Ledgers.{Keeps}
-use Rattle.iim_audit.specs.Taking.{IsTaken, TookEnvelope, TookOne, TookNone}
+use Rattle.iim_audit.specs.Taking.{IsCutOff, IsTaken, TookEnvelope, TookOne, TookNone}
 use Rattle.iim_audit.specs.declared.fault.AuditCause.{AuditCause}
 use Rattle.iim_audit.specs.declared.fault.AuditCause.TheVariants as causes
 use Rattle.iim_audit.specs.declared.ledger.Ledger.{Ledger}
 use Rattle.iim_audit.specs.declared.row.Taken.{Taken}
 use Rattle.iim_audit.proofs.Rows.{length_report}
 
-divides-more : (limits : Limits) (input more : List ℕ) (es : List Listed) → Divides limits input es [] → Divides limits (input ++ more) es more
-divides-more limits input more [] e = ap (λ (i : List ℕ). i ++ more) e
-divides-more limits input more (x ∷ es) d =
-    (d.0, d.1 ++ more, ap (λ (i : List ℕ). i ++ more) d.2 ∙ append_assoc x.octets d.1 more, divides-more limits d.1 more es d.3)
-
-divides-push : (limits : Limits) (input rest more : List ℕ) (es : List Listed) (e : Listed) → IsEnvelopeWithin limits e.octets e.value → rest ≡ e.octets ++ more
-    → Divides limits input es rest → Divides limits input (es ++ e ∷ []) more
-divides-push limits input rest more [] e listed is d = (listed, more, d ∙ is, refl)
-divides-push limits input rest more (x ∷ es) e listed is d = (d.0, d.1, d.2, divides-push limits d.1 rest more es e listed is d.3)
+-- Just these envelopes came.
+pub record HasCome (limits : Limits) (old new : Device) (envelopes : List Listed) : Type 0 where
+  pub admitted : AllByRecursion (IsListed limits) envelopes
+  pub given : HasGiven old new (joined envelopes)
 
 -- Nothing came, and no envelope.
-pub come_none : (limits : Limits) (a : Device) → GiftsJoin → HasCome limits a a [] []
-come_none limits a joins = record { input = []; given = joins.none a; divides = refl }
+pub come_none : (limits : Limits) (a : Device) → GiftsJoin → HasCome limits a a []
+come_none limits a joins = record { admitted = tt; given = joins.none a }
 
 -- after envelopes, others octets
-come_rest : (limits : Limits) (a b c : Device) (es : List Listed) (rest : List ℕ) → GiftsJoin → HasCome limits a b es [] → HasGiven b c rest → HasCome limits a c es rest
-come_rest limits a b c es rest joins come given = record {
-  input = come.input ++ rest;
-  given = joins.more a b c come.input rest come.given given;
-  divides = divides-more limits come.input rest es come.divides;
-}
+given_then : (limits : Limits) (a b c : Device) (es : List Listed) (rest : List ℕ) → GiftsJoin → HasCome limits a b es → HasGiven b c rest → HasGiven a c (joined es ++ rest)
+given_then limits a b c es rest joins come given = joins.more a b c (joined es) rest come.given given
 
 -- after envelopes, one more
-come_one : (limits : Limits) (a b c : Device) (es : List Listed) (e : Listed) → GiftsJoin → HasCome limits a b es [] → IsEnvelopeWithin limits e.octets e.value → HasGiven b c e.octets
-    → HasCome limits a c (es ++ e ∷ []) []
-come_one limits a b c es e joins come listed given =
-    let more = come_rest limits a b c es e.octets joins come given in
-    record {
-      input = more.input;
-      given = more.given;
-      divides = divides-push limits more.input e.octets [] es e listed (sym (append-nil e.octets)) more.divides;
-    }
+come_one : (limits : Limits) (a b c : Device) (es : List Listed) (e : Listed) → GiftsJoin → HasCome limits a b es → IsListed limits e → HasGiven b c e.octets
+    → HasCome limits a c (es ++ e ∷ [])
+come_one limits a b c es e joins come listed given = record {
+  admitted = admitted_more limits es e come.admitted listed;
+  given = subst (HasGiven a c) (sym (joined_more es e)) (joins.more a b c (joined es) e.octets come.given given);
+}
+
+divides_then : (limits : Limits) (a b : Device) (es : List Listed) (rest : List ℕ) → HasCome limits a b es → length es ≤ max_envelopes → Divides limits (joined es ++ rest) es rest
+divides_then limits a b es rest come few = record { admitted = come.admitted; parts = refl; few = few }
+
+-- how many octets are told of the last envelope
+told_more : (before : ℕ) (es : List Listed) (e : Listed) → told_after before (es ++ e ∷ []) ≡ raised 0 (length e.octets)
+told_more before [] e = refl
+told_more before (f ∷ es) e = told_more (raised 0 (length f.octets)) es e
 
 broke_later : (a b c : Device) (xs : List ℕ) (fault : IoFault) → HasGiven a b xs → BrokeFor b c fault → BrokeFor a c fault
 broke_later a b c xs io.Failed given broke =
@@ -69,17 +67,18 @@ missed_later a b c xs ys fault given missed =
 
 -- ---- what an audit has read
 
--- Just these envelopes came, and the ledger has their rows; the intake has answered no fault.
-pub record HasRead (limits : Limits) (now : ℤ) (old new : Device) (ledger : Ledger) (failed : Option ℕ) : Type 0 where
+-- Just these envelopes came, and the ledger has their rows; the intake has answered no fault, and tells the octets of the last one.
+pub record HasRead (limits : Limits) (now : ℤ) (old new : Device) (ledger : Ledger) (before : ℕ) (failed : Option ℕ) (told : ℕ) : Type 0 where
   pub envelopes : List Listed
-  pub come : HasCome limits old new envelopes []
+  pub come : HasCome limits old new envelopes
   pub keeps : Keeps now ledger (values_of envelopes)
   pub lives : failed ≡ None
+  pub tells : told ≡ told_after before envelopes
 
-pub record IsAuditing (limits : Limits) (now : ℤ) (first : Option ℕ) (old new : Device) (ledger : Ledger) (failed : Option ℕ) : Type 0 where
+pub record IsAuditing (limits : Limits) (now : ℤ) (first : Option ℕ) (old new : Device) (ledger : Ledger) (before : ℕ) (failed : Option ℕ) (told : ℕ) : Type 0 where
   pub few : length ledger.rows.items ≤ max_envelopes
-  pub reads : first ≡ None → HasRead limits now old new ledger failed
-  pub again : (octet : ℕ) → first ≡ Some octet → (failed ≡ Some octet) × (length ledger.rows.items ≡ 0)
+  pub reads : first ≡ None → HasRead limits now old new ledger before failed told
+  pub again : (octet : ℕ) → first ≡ Some octet → length ledger.rows.items ≡ 0
 
 -- there are as many rows as envelopes
 count_of : (now : ℤ) (ledger : Ledger) (es : List Listed) → Keeps now ledger (values_of es) → length ledger.rows.items ≡ length es
@@ -88,99 +87,128 @@ count_of now ledger es keeps =
     ap length keeps.rows ∙ length_report now (values_of es) ∙ length-map es P
 
 -- at the end of the input
-pub audited : (limits : Limits) (now : ℤ) (old mid new : Device) (ledger : Ledger) (failed : Option ℕ) → GiftsJoin → length ledger.rows.items ≤ max_envelopes
-    → HasRead limits now old mid ledger failed → TookEnvelope limits mid new None → IsAudited limits now old new ledger.rows.items
-audited limits now old mid new ledger failed joins few read took =
-    let count : length ledger.rows.items ≡ length read.envelopes = count_of now ledger read.envelopes read.keeps in
+pub audited : (limits : Limits) (now : ℤ) (old mid new : Device) (ledger : Ledger) (before : ℕ) (failed : Option ℕ) (told used : ℕ) → GiftsJoin → length ledger.rows.items ≤ max_envelopes
+    → HasRead limits now old mid ledger before failed told → TookEnvelope limits mid new used None → IsAudited limits now old new ledger.rows.items
+audited limits now old mid new ledger before failed told used joins few read took =
+    let es = read.envelopes in
+    let count : length ledger.rows.items ≡ length es = count_of now ledger es read.keeps in
     record {
-      envelopes = read.envelopes;
-      come = come_rest limits old mid new read.envelopes [] joins read.come took.0;
+      input = joined es ++ [];
+      given = given_then limits old mid new es [] joins read.come took.0;
       at_end = took.1;
-      listed = omega arith;
+      envelopes = es;
+      listing = record { rest = []; divides = divides_then limits old mid es [] read.come (omega arith); ends = refl };
       report = read.keeps.rows;
     }
 
--- at a fault
-pub fails : (limits : Limits) (now : ℤ) (old mid new : Device) (ledger : Ledger) (failed : Option ℕ) (number : ℕ) (cause : AuditCause) → GiftsJoin
+missed_at : (limits : Limits) (now : ℤ) (old mid new : Device) (ledger : Ledger) (before : ℕ) (failed : Option ℕ) (told number : ℕ) (kept : Option ℕ) (fault : IoFault)
     → length ledger.rows.items ≤ max_envelopes → number ≡ length ledger.rows.items + 1
-    → HasRead limits now old mid ledger failed → TookNone limits mid new cause → FailsAt limits old new number cause
-fails limits now old mid new ledger failed number (causes.Refused e) joins few in_hand read took =
-    let count : length ledger.rows.items ≡ length read.envelopes = count_of now ledger read.envelopes read.keeps in
-    record {
-      envelopes = read.envelopes;
-      rest = took.0;
-      come = come_rest limits old mid new read.envelopes took.0 joins read.come took.1;
-      listed = omega arith;
-      in_hand = omega arith;
-      stopped = took.2;
-    }
-fails limits now old mid new ledger failed number causes.Read joins few in_hand read took =
-    let count : length ledger.rows.items ≡ length read.envelopes = count_of now ledger read.envelopes read.keeps in
-    record {
-      envelopes = read.envelopes;
-      rest = took.0;
-      input = read.come.input ++ took.0;
-      missed = missed_later old mid new read.come.input took.0 io.Failed read.come.given took.1;
-      divides = divides-more limits read.come.input took.0 read.envelopes read.come.divides;
-      listed = omega arith;
-      in_hand = omega arith;
-      is_open = took.2;
-    }
-fails limits now old mid new ledger failed number causes.Interrupted joins few in_hand read took =
-    let count : length ledger.rows.items ≡ length read.envelopes = count_of now ledger read.envelopes read.keeps in
-    record {
-      envelopes = read.envelopes;
-      rest = took.0;
-      input = read.come.input ++ took.0;
-      missed = missed_later old mid new read.come.input took.0 io.Interrupted read.come.given took.1;
-      divides = divides-more limits read.come.input took.0 read.envelopes read.come.divides;
-      listed = omega arith;
-      in_hand = omega arith;
-      is_open = took.2;
-    }
-fails limits now old mid new ledger failed number causes.OutOfMemory joins few in_hand read took =
-    let count : length ledger.rows.items ≡ length read.envelopes = count_of now ledger read.envelopes read.keeps in
-    record {
-      envelopes = read.envelopes;
-      come = come_rest limits old mid new read.envelopes [] joins read.come took;
-      listed = omega arith;
-      in_hand = inl (omega arith);
-    }
-fails limits now old mid new ledger failed number causes.TooManyEnvelopes joins few in_hand read took = absurd took
+    → HasRead limits now old mid ledger before failed told → (took : IsCutOff limits mid new kept fault)
+    → (why : IsMissedAt limits old new number fault) × (kept ≡ Some (raised 0 (length why.rest)))
+missed_at limits now old mid new ledger before failed told number kept fault few in_hand read took =
+    let es = read.envelopes in
+    let count : length ledger.rows.items ≡ length es = count_of now ledger es read.keeps in (
+      record {
+        input = joined es ++ took.rest;
+        missed = missed_later old mid new (joined es) took.rest fault read.come.given took.missed;
+        envelopes = es;
+        rest = took.rest;
+        divides = divides_then limits old mid es took.rest read.come (omega arith);
+        is_open = took.is_open;
+        in_hand = omega arith;
+      },
+      took.keeps,
+    )
+
+-- at a fault
+pub fails : (limits : Limits) (now : ℤ) (old mid new : Device) (ledger : Ledger) (before : ℕ) (failed : Option ℕ) (told number : ℕ) (kept : Option ℕ) (used : ℕ) (cause : AuditCause) → GiftsJoin
+    → length ledger.rows.items ≤ max_envelopes → number ≡ length ledger.rows.items + 1
+    → HasRead limits now old mid ledger before failed told → TookNone limits mid new told kept used cause → FailsLeaving limits old new before kept used number cause
+fails limits now old mid new ledger before failed told number kept used (causes.Refused e) joins few in_hand read took =
+    let es = read.envelopes in
+    let count : length ledger.rows.items ≡ length es = count_of now ledger es read.keeps in (
+      record {
+        input = joined es ++ took.0.rest;
+        given = given_then limits old mid new es took.0.rest joins read.come took.0.given;
+        envelopes = es;
+        listing = record {
+          rest = took.0.rest;
+          divides = divides_then limits old mid es took.0.rest read.come (omega arith);
+          ends = (took.0.k, took.0.refused);
+        };
+        at_end = took.0.at_end;
+        in_hand = omega arith;
+      },
+      (took.1, took.2),
+    )
+fails limits now old mid new ledger before failed told number kept used causes.Read joins few in_hand read took =
+    let missed = missed_at limits now old mid new ledger before failed told number kept io.Failed few in_hand read took.0 in
+    (missed.0, (missed.1, took.1))
+fails limits now old mid new ledger before failed told number kept used causes.Interrupted joins few in_hand read took =
+    let missed = missed_at limits now old mid new ledger before failed told number kept io.Interrupted few in_hand read took.0 in
+    (missed.0, (missed.1, took.1))
+fails limits now old mid new ledger before failed told number kept used causes.OutOfMemory joins few in_hand read took =
+    let es = read.envelopes in
+    let count : length ledger.rows.items ≡ length es = count_of now ledger es read.keeps in (
+      record {
+        input = joined es ++ [];
+        given = given_then limits old mid new es [] joins read.come took.0;
+        envelopes = es;
+        divides = divides_then limits old mid es [] read.come (omega arith);
+        in_hand = inl (omega arith);
+      },
+      (took.1, took.2 ∙ read.tells),
+    )
+fails limits now old mid new ledger before failed told number kept used causes.TooManyEnvelopes joins few in_hand read took = absurd took
 
 -- with one envelope more than are listed
-pub one_too_many : (limits : Limits) (now : ℤ) (old mid new : Device) (ledger : Ledger) (failed : Option ℕ) (number : ℕ) (got : Taken) → GiftsJoin
-    → length ledger.rows.items ≤ max_envelopes → number ≡ length ledger.rows.items + 1 → max_envelopes < number
-    → HasRead limits now old mid ledger failed → TookOne limits mid new got → FailsAt limits old new number causes.TooManyEnvelopes
-one_too_many limits now old mid new ledger failed number got joins few in_hand many read one =
-    let count : length ledger.rows.items ≡ length read.envelopes = count_of now ledger read.envelopes read.keeps in
-    let longer : length (read.envelopes ++ one.envelope ∷ []) ≡ length read.envelopes + 1 = length-append read.envelopes (one.envelope ∷ []) in
-    record {
-      envelopes = read.envelopes ++ one.envelope ∷ [];
-      come = come_one limits old mid new read.envelopes one.envelope joins read.come one.listed one.given;
-      many = omega arith;
-      in_hand = omega arith;
-    }
+pub one_too_many : (limits : Limits) (now : ℤ) (old mid new : Device) (ledger : Ledger) (before : ℕ) (failed : Option ℕ) (told number : ℕ) (left : Option ℕ) (used : ℕ) (got : Taken) → GiftsJoin
+    → length ledger.rows.items ≤ max_envelopes → number ≡ length ledger.rows.items + 1 → max_envelopes < number → left ≡ None
+    → HasRead limits now old mid ledger before failed told → TookOne limits mid new used got → FailsLeaving limits old new before left used number causes.TooManyEnvelopes
+one_too_many limits now old mid new ledger before failed told number left used got joins few in_hand many lives read one =
+    let es = read.envelopes in
+    let e = one.envelope in
+    let count : length ledger.rows.items ≡ length es = count_of now ledger es read.keeps in
+    let full : length es ≡ max_envelopes = omega arith in (
+      record {
+        input = joined es ++ e.octets;
+        given = given_then limits old mid new es e.octets joins read.come one.given;
+        envelopes = es;
+        listing = record {
+          rest = e.octets;
+          divides = divides_then limits old mid es e.octets read.come (omega arith);
+          ends = (full, e, one.listed, [], sym (append-nil e.octets));
+        };
+        nothing_more = refl;
+        in_hand = omega arith;
+      },
+      (lives, one.counts),
+    )
 
 -- without memory for the row of an envelope
-pub short_after : (limits : Limits) (now : ℤ) (old mid new : Device) (ledger : Ledger) (failed : Option ℕ) (number : ℕ) (got : Taken) → GiftsJoin
-    → number ≤ max_envelopes → number ≡ length ledger.rows.items + 1
-    → HasRead limits now old mid ledger failed → TookOne limits mid new got → FailsAt limits old new number causes.OutOfMemory
-short_after limits now old mid new ledger failed number got joins few in_hand read one =
+pub short_after : (limits : Limits) (now : ℤ) (old mid new : Device) (ledger : Ledger) (before : ℕ) (failed : Option ℕ) (told number : ℕ) (left : Option ℕ) (used : ℕ) (got : Taken) → GiftsJoin
+    → number ≤ max_envelopes → number ≡ length ledger.rows.items + 1 → left ≡ None
+    → HasRead limits now old mid ledger before failed told → TookOne limits mid new used got → FailsLeaving limits old new before left used number causes.OutOfMemory
+short_after limits now old mid new ledger before failed told number left used got joins few in_hand lives read one =
+    let es = read.envelopes ++ one.envelope ∷ [] in
     let count : length ledger.rows.items ≡ length read.envelopes = count_of now ledger read.envelopes read.keeps in
-    let longer : length (read.envelopes ++ one.envelope ∷ []) ≡ length read.envelopes + 1 = length-append read.envelopes (one.envelope ∷ []) in
-    record {
-      envelopes = read.envelopes ++ one.envelope ∷ [];
-      come = come_one limits old mid new read.envelopes one.envelope joins read.come one.listed one.given;
-      listed = omega arith;
-      in_hand = inr (omega arith, omega arith);
-    }
+    let longer : length es ≡ length read.envelopes + 1 = length-append read.envelopes (one.envelope ∷ []) in
+    let come = come_one limits old mid new read.envelopes one.envelope joins read.come one.listed one.given in (
+      record {
+        input = joined es ++ [];
+        given = subst (HasGiven old new) (sym (append-nil (joined es))) come.given;
+        envelopes = es;
+        divides = divides_then limits old new es [] come (omega arith);
+        in_hand = inr (omega arith, omega arith);
+      },
+      (lives, one.counts ∙ sym (told_more before read.envelopes one.envelope)),
+    )
 
 -- an envelope more
-pub read_one : (limits : Limits) (now : ℤ) (old mid new : Device) (ledger later : Ledger) (failed left : Option ℕ) (got : Taken) → GiftsJoin
+pub read_one : (limits : Limits) (now : ℤ) (old mid new : Device) (ledger later : Ledger) (before : ℕ) (failed : Option ℕ) (told : ℕ) (left : Option ℕ) (used : ℕ) (got : Taken) → GiftsJoin
     → left ≡ None → ((values : List Value) (v : Value) → Keeps now ledger values → IsTaken got v → Keeps now later (values ++ v ∷ []))
-    → HasRead limits now old mid ledger failed → TookOne limits mid new got → HasRead limits now old new later left
-read_one limits now old mid new ledger later failed left got joins lives enters read one =
+    → HasRead limits now old mid ledger before failed told → TookOne limits mid new used got → HasRead limits now old new later before left used
+read_one limits now old mid new ledger later before failed told left used got joins lives enters read one =
     let P : List Value → Type 0 = λ values. Keeps now later values in
     let f : Listed → Value = λ e. e.value in
     record {
@@ -188,4 +216,15 @@ read_one limits now old mid new ledger later failed left got joins lives enters 
       come = come_one limits old mid new read.envelopes one.envelope joins read.come one.listed one.given;
       keeps = subst P (sym (map-append f read.envelopes (one.envelope ∷ []))) (enters (values_of read.envelopes) one.envelope.value read.keeps one.taken);
       lives = lives;
+      tells = one.counts ∙ sym (told_more before read.envelopes one.envelope);
     }
+
+-- ---- of an intake that had failed
+
+-- it is told again, with the first number
+pub told_again : (octet before mid told rows number : ℕ) (cause : AuditCause) → mid ≡ before → rows ≡ 0 → number ≡ rows + 1
+    → IsToldAgain octet mid told 1 cause → IsToldAgain octet before told number cause
+told_again octet before mid told rows number cause same none is again =
+    let P : ℕ → Type 0 = λ n. IsToldAgain octet n told 1 cause in
+    let first : number ≡ 1 = omega (arith, none, is) in
+    (first, (subst P same again).1)

@@ -1,11 +1,13 @@
 -- From what an intake answers to what an audit takes of it.
-use Rattle.std.proofs.Common.{◌≡◌, ◌≢◌, ℕ, ◌⊎◌, List, [], Some, None, subst, false, ◌∙◌, inl, inr, ⊎_elim, arith, refl, ap}
+use Rattle.std.proofs.Common.{◌≡◌, ◌≢◌, ℕ, ◌⊎◌, List, [], length, Option, Some, None, subst, false, ◌∙◌, inl, inr, ⊎_elim, arith, refl, ap}
 use Rattle.iim_dataset.specs.Format.Devices.{Device}
+use Rattle.iim_dataset.specs.declared.device.IoFault.{IoFault}
+use Rattle.iim_dataset.specs.declared.device.IoFault.TheVariants as io
 use Rattle.iim_fields.specs.declared.limits.Limits.{Limits}
 use Rattle.wire_story.specs.Format.Delivery.{StoryEvent}
 use Rattle.wire_story.specs.Format.Words.{WordsSoFar, CountsWords}
 use Rattle.iim_unpack.specs.Format.Framed.{AreWithin}
-use Rattle.iim_unpack.specs.Format.Intakes.{Gives, Faults, WasRefused, WasTruncated}
+use Rattle.iim_unpack.specs.Format.Intakes.{Gives, Faults, WasMissed, WasRefused, WasTruncated}
 use Rattle.iim_unpack.specs.Format.Parts.{CountsFor}
 use Rattle.iim_unpack.specs.Format.Unpacking.{Unpacking, Stands, limits_in}
 use Rattle.iim_unpack.specs.declared.intake.IntakeFault.{IntakeFault}
@@ -15,19 +17,20 @@ use Rattle.iim_unpack.specs.declared.refusal.Cause.TheVariants.{Sink}
 use Rattle.iim_unpack.specs.declared.refusal.Refusal.{Refusal}
 use Rattle.iim_unpack.specs.declared.unpacker.Unpacked.{Unpacked}
 use Rattle.iim_audit.specs.Faults.{cause_of}
-use Rattle.iim_audit.specs.Taking.{TookEnvelope, TookOne, TookNone}
+use Rattle.iim_audit.specs.Taking.{IsCutOff, IsRefusal, TookEnvelope, TookOne, TookNone}
 use Rattle.iim_audit.proofs.Texts.{TextLaws, words_of_value}
 
 -- what an intake gives to an unpacker that stands on no octets, and to a count of no words
 pub took_one : TextLaws → (limits : Limits) (old new : Device) (u : Unpacking) (a b : WordsSoFar) (used : ℕ) (got : Unpacked) (n : ℕ)
     → limits_in u ≡ limits → Stands u [] 0 → a.words ≡ 0 → a.inside ≡ false → n ≡ b.words → Gives CountsWords old new u a b used (Some got)
-    → TookOne limits old new (record { unpacked = got; words = n })
+    → TookOne limits old new used (record { unpacked = got; words = n })
 took_one laws limits old new u a b used got n same stands none outside is gives =
     let here = gives.envelope [] 0 stands in
     record {
       envelope = record { octets = gives.octets; value = here.value };
       listed = record { admits = here.admits; within = subst (λ (l : Limits). AreWithin l here.admits.datasets) same here.within };
       given = gives.came.given;
+      counts = gives.counts;
       taken = record {
         parts = here.parts;
         words = is ∙ words_of_value laws gives.octets gives.more here.value a b here.admits here.adds none outside gives.came.told;
@@ -35,8 +38,8 @@ took_one laws limits old new u a b used got n same stands none outside is gives 
     }
 
 -- what it gives at the end of its input
-pub took_end : (limits : Limits) (old new : Device) (u : Unpacking) (a b : WordsSoFar) (used : ℕ) → Gives CountsWords old new u a b used None → TookEnvelope limits old new None
-took_end limits old new u a b used gives = (gives.1.given, gives.1.at_end)
+pub took_end : (limits : Limits) (old new : Device) (u : Unpacking) (a b : WordsSoFar) (used : ℕ) → Gives CountsWords old new u a b used None → TookEnvelope limits old new used None
+took_end limits old new u a b used gives = (gives.1.given, gives.1.at_end, gives.0)
 
 -- A sink that counts no failure refused nothing.
 unsunk : (cause : Cause) (n : ℕ) → n ≡ 0 → CountsFor cause n n → cause ≢ Sink
@@ -46,34 +49,56 @@ unsunk cause n zero counts same =
 
 refused_fresh : {S : Type 0} (goes : S → List StoryEvent → S → Type 0) (failures : S → ℕ) (old new : Device) (u : Unpacking) (a b : S) (e : Refusal)
     → failures a ≡ 0 → failures b ≡ 0 → Stands u [] 0 → WasRefused goes failures old new u a b e ⊎ WasTruncated goes failures old new u a b e
-    → TookNone (limits_in u) old new (cause_of (intakes.Refused e))
-refused_fresh goes failures old new u a b e before after stands why =
-    ⊎_elim
-    (λ (was : WasRefused goes failures old new u a b e).
+    → IsRefusal (limits_in u) old new e
+refused_fresh goes failures old new u a b e before after stands (inl was) =
     let of = was.refuses [] 0 stands in
     let P : ℕ → Type 0 = λ n. CountsFor e.cause n (failures b) in
     let Q : ℕ → Type 0 = λ n. CountsFor e.cause 0 n in
     let R : Cause → Type 0 = λ cause. CountsFor cause 0 0 in
     let same : e.cause ≡ of.fault.cause = ap (λ (r : Refusal). r.cause) of.refusal in
     let counts : CountsFor of.fault.cause 0 0 = subst R same (subst Q after (subst P before was.counts)) in
-    (was.octets, was.came.given, inl (record { k = of.k; within = of.within; fault = of.fault; refusal = of.refusal; kills = record { refuses = of.refuses; by_octets = unsunk of.fault.cause 0 refl counts } })))
-    (λ (was : WasTruncated goes failures old new u a b e).
+    record {
+      rest = was.octets;
+      given = was.came.given;
+      k = of.k;
+      refused = inr (record {
+        within = of.within;
+        fault = of.fault;
+        refusal = of.refusal;
+        kills = record { refuses = of.refuses; by_octets = unsunk of.fault.cause 0 refl counts };
+      });
+      at_end = λ all. absurd (omega (arith, all, of.within));
+    }
+refused_fresh goes failures old new u a b e before after stands (inr was) =
     let in_it = was.truncated [] 0 stands in
-    (was.octets, was.came.given, inr (record { some = in_it.some; is_open = in_it.is_open; truncated = in_it.truncated }, was.at_end)))
-    why
+    record {
+      rest = was.octets;
+      given = was.came.given;
+      k = length was.octets;
+      refused = inl (record { some = in_it.some; is_open = in_it.is_open; truncated = in_it.truncated }, refl);
+      at_end = λ all. was.at_end;
+    }
 
-none_fresh : {S : Type 0} (goes : S → List StoryEvent → S → Type 0) (failures : S → ℕ) (old new : Device) (u : Unpacking) (a b : S) (kept : ℕ) (fault : IntakeFault)
-    → failures a ≡ 0 → failures b ≡ 0 → Stands u [] 0 → Faults goes failures old new u a b kept fault → TookNone (limits_in u) old new (cause_of fault)
-none_fresh goes failures old new u a b kept (intakes.Refused e) before after stands faults =
-    refused_fresh goes failures old new u a b e before after stands faults.1
-none_fresh goes failures old new u a b kept intakes.Read before after stands faults =
-    (faults.octets, faults.missed, (faults.is_open [] 0 stands).0)
-none_fresh goes failures old new u a b kept intakes.Interrupted before after stands faults =
-    (faults.octets, faults.missed, (faults.is_open [] 0 stands).0)
+cut_off : {S : Type 0} (goes : S → List StoryEvent → S → Type 0) (failures : S → ℕ) (old new : Device) (u : Unpacking) (a b : S) (octet : ℕ) (kept : Option ℕ) (fault : IoFault)
+    → kept ≡ Some octet → Stands u [] 0 → WasMissed goes failures old new u a b octet fault → IsCutOff (limits_in u) old new kept fault
+cut_off goes failures old new u a b octet kept fault keeps stands was =
+    let here = was.is_open [] 0 stands in
+    record { rest = was.octets; missed = was.missed; is_open = here.0; keeps = keeps ∙ ap Some here.2 }
+
+none_fresh : {S : Type 0} (goes : S → List StoryEvent → S → Type 0) (failures : S → ℕ) (old new : Device) (u : Unpacking) (a b : S) (octet before : ℕ) (kept : Option ℕ) (told : ℕ) (fault : IntakeFault)
+    → failures a ≡ 0 → failures b ≡ 0 → kept ≡ Some octet → told ≡ 0 → Stands u [] 0 → Faults goes failures old new u a b octet fault
+    → TookNone (limits_in u) old new before kept told (cause_of fault)
+none_fresh goes failures old new u a b octet before kept told (intakes.Refused e) at_first at_last keeps none stands faults =
+    (refused_fresh goes failures old new u a b e at_first at_last stands faults.1, keeps ∙ ap Some faults.0, none)
+none_fresh goes failures old new u a b octet before kept told intakes.Read at_first at_last keeps none stands faults =
+    (cut_off goes failures old new u a b octet kept io.Failed keeps stands faults, none)
+none_fresh goes failures old new u a b octet before kept told intakes.Interrupted at_first at_last keeps none stands faults =
+    (cut_off goes failures old new u a b octet kept io.Interrupted keeps stands faults, none)
 
 -- why an intake gives nothing to an unpacker that stands on no octets
-pub none : {S : Type 0} (goes : S → List StoryEvent → S → Type 0) (failures : S → ℕ) (limits : Limits) (old new : Device) (u : Unpacking) (a b : S) (kept : ℕ) (fault : IntakeFault)
-    → failures a ≡ 0 → failures b ≡ 0 → limits_in u ≡ limits → Stands u [] 0 → Faults goes failures old new u a b kept fault → TookNone limits old new (cause_of fault)
-none goes failures limits old new u a b kept fault before after same stands faults =
-    let P : Limits → Type 0 = λ l. TookNone l old new (cause_of fault) in
-    subst P same (none_fresh goes failures old new u a b kept fault before after stands faults)
+pub none : {S : Type 0} (goes : S → List StoryEvent → S → Type 0) (failures : S → ℕ) (limits : Limits) (old new : Device) (u : Unpacking) (a b : S) (octet before : ℕ) (kept : Option ℕ) (told : ℕ) (fault : IntakeFault)
+    → failures a ≡ 0 → failures b ≡ 0 → kept ≡ Some octet → told ≡ 0 → limits_in u ≡ limits → Stands u [] 0 → Faults goes failures old new u a b octet fault
+    → TookNone limits old new before kept told (cause_of fault)
+none goes failures limits old new u a b octet before kept told fault at_first at_last keeps zero same stands faults =
+    let P : Limits → Type 0 = λ l. TookNone l old new before kept told (cause_of fault) in
+    subst P same (none_fresh goes failures old new u a b octet before kept told fault at_first at_last keeps zero stands faults)

@@ -3,4 +3,3 @@ pub mod Copies
 pub mod Auditing
 pub mod Rows
 pub mod Texts
-pub mod Taking

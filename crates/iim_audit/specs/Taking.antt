@@ -1,42 +1,59 @@
 -- What one envelope of an intake's line comes to.
-use Rattle.std.specs.Prelude.{◌≡◌, ℕ, List, [], Option, Some, None}
+use Rattle.std.specs.Prelude.{◌≡◌, ℕ, List, [], length, Option, Some, None}
 use Rattle.std.specs.Io.KnownBytes.{IsAtEnd}
 use Rattle.iim_dataset.specs.Format.Devices.{Device}
 use Rattle.iim_dataset.specs.Format.DeviceLaws.{HasGiven, MissedAfter}
+use Rattle.iim_dataset.specs.declared.device.IoFault.{IoFault}
 use Rattle.iim_dataset.specs.declared.device.IoFault.TheVariants as io
 use Rattle.iim_fields.specs.declared.limits.Limits.{Limits}
 use Rattle.iim_unpack.specs.Format.Admitted.{Value}
-use Rattle.iim_unpack.specs.Format.Listing.{Listed}
-use Rattle.iim_unpack.specs.Format.Streams.{IsEnvelopeWithin}
+use Rattle.iim_unpack.specs.Format.Listing.{Listed, IsListed, IsRefusedAfter}
 use Rattle.iim_unpack.specs.Format.Open.{IsOpen}
+use Rattle.iim_unpack.specs.Format.Unpacking.{raised}
 use Rattle.iim_unpack.specs.Format.Value.{HasParts}
+use Rattle.iim_unpack.specs.declared.refusal.Refusal.{Refusal}
 use Rattle.iim_audit.specs.Format.Rows.{counted_words}
 use Rattle.iim_audit.specs.declared.row.Taken.{Taken}
 use Rattle.iim_audit.specs.declared.fault.AuditCause.{AuditCause}
 use Rattle.iim_audit.specs.declared.fault.AuditCause.TheVariants as causes
-use Rattle.iim_audit.specs.Format.Taking.{IsRefusedOrTruncated}
 
 -- The parts of the value, and the words of its lines.
 pub record IsTaken (got : Taken) (v : Value) : Type 0 where
   pub parts : HasParts got.unpacked v
   pub words : got.words ≡ counted_words v
 
--- Just the octets of one envelope came, and this was taken of it.
-pub record TookOne (limits : Limits) (old new : Device) (got : Taken) : Type 0 where
+-- Just the octets of one envelope came, this was taken of it, and so many octets are told of it.
+pub record TookOne (limits : Limits) (old new : Device) (told : ℕ) (got : Taken) : Type 0 where
   pub envelope : Listed
-  pub listed : IsEnvelopeWithin limits envelope.octets envelope.value
+  pub listed : IsListed limits envelope
   pub given : HasGiven old new envelope.octets
+  pub counts : told ≡ raised 0 (length envelope.octets)
   pub taken : IsTaken got envelope.value
 
 -- One envelope came, or nothing, since the input ends.
-abbrev pub TookEnvelope : Limits → Device → Device → Option Taken → Type 0
-TookEnvelope limits old new (Some got) = TookOne limits old new got
-TookEnvelope limits old new None = HasGiven old new [] × IsAtEnd new.octets
+abbrev pub TookEnvelope : Limits → Device → Device → ℕ → Option Taken → Type 0
+TookEnvelope limits old new told (Some got) = TookOne limits old new told got
+TookEnvelope limits old new told None = HasGiven old new [] × IsAtEnd new.octets × (told ≡ 0)
 
--- Why no envelope came, and what came.
-abbrev pub TookNone : Limits → Device → Device → AuditCause → Type 0
-TookNone limits old new (causes.Refused e) = (rest : List ℕ) × HasGiven old new rest × IsRefusedOrTruncated limits new rest e
-TookNone limits old new causes.Read = (rest : List ℕ) × MissedAfter old new rest io.Failed × IsOpen limits rest
-TookNone limits old new causes.Interrupted = (rest : List ℕ) × MissedAfter old new rest io.Interrupted × IsOpen limits rest
-TookNone limits old new causes.OutOfMemory = HasGiven old new []
-TookNone limits old new causes.TooManyEnvelopes = ⊥
+-- Octets came that are refused. They end the input where no octet of them is the refused one.
+pub record IsRefusal (limits : Limits) (old new : Device) (e : Refusal) : Type 0 where
+  pub rest : List ℕ
+  pub given : HasGiven old new rest
+  pub k : ℕ
+  pub refused : IsRefusedAfter limits rest k e
+  pub at_end : k ≡ length rest → IsAtEnd new.octets
+
+-- Octets came that every layer can continue from, and then this fault of the reader. The count of them is kept.
+pub record IsCutOff (limits : Limits) (old new : Device) (kept : Option ℕ) (fault : IoFault) : Type 0 where
+  pub rest : List ℕ
+  pub missed : MissedAfter old new rest fault
+  pub is_open : IsOpen limits rest
+  pub keeps : kept ≡ Some (raised 0 (length rest))
+
+-- Why no envelope came, and what came. (What the intake told before, then what it keeps and tells.)
+abbrev pub TookNone : Limits → Device → Device → ℕ → Option ℕ → ℕ → AuditCause → Type 0
+TookNone limits old new before kept told (causes.Refused e) = IsRefusal limits old new e × (kept ≡ Some e.octet) × (told ≡ 0)
+TookNone limits old new before kept told causes.Read = IsCutOff limits old new kept io.Failed × (told ≡ 0)
+TookNone limits old new before kept told causes.Interrupted = IsCutOff limits old new kept io.Interrupted × (told ≡ 0)
+TookNone limits old new before kept told causes.OutOfMemory = HasGiven old new [] × (kept ≡ None) × (told ≡ before)
+TookNone limits old new before kept told causes.TooManyEnvelopes = ⊥

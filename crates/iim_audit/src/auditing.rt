@@ -2,9 +2,8 @@
 
 ghost use Rattle.std.specs.Prelude.{◌≡◌, ℕ, None, Some, IfOk, IfErr, OnOk, IsErrAnd};
 ghost use Rattle.iim_unpack.specs.Format.Intakes.{line};
-ghost use Rattle.iim_audit.specs.Format.Auditing.{IsAudited, FailsAt, IsToldAgain};
+ghost use Rattle.iim_audit.specs.Format.Auditing.{IsAudited, FailsLeaving, IsToldAgain};
 ghost use Rattle.iim_audit.specs.Taking.{TookEnvelope, TookNone};
-ghost use Rattle.iim_audit.specs.Format.Taking.{Leaves};
 
 use crate::fault::{AuditCause, AuditFault, cause_of};
 use crate::ledger::Ledger;
@@ -32,11 +31,12 @@ fn take_envelope<R: Source>(
     intake: &mut Intake<R>,
     limits: Limits,
 ) -> Result<Option<Taken>, AuditCause>
-    ensures took { intake.old.failed ≡ None → IfOk result (TookEnvelope limits (line R.state intake.old) (line R.state intake.new)) }
-    ensures none { intake.old.failed ≡ None → IfErr result (TookNone limits (line R.state intake.old) (line R.state intake.new)) }
+    ensures took { intake.old.failed ≡ None → IfOk result (TookEnvelope limits (line R.state intake.old) (line R.state intake.new) intake.new.octets) }
+    ensures none { intake.old.failed ≡ None → IfErr result (TookNone limits (line R.state intake.old) (line R.state intake.new)
+        intake.old.octets intake.new.failed intake.new.octets) }
     ensures lives { OnOk result (intake.new.failed ≡ None) }
-    ensures leaves { intake.old.failed ≡ None → IfErr result (λ cause. Leaves cause intake.new.failed) }
-    ensures again { (octet : ℕ) → intake.old.failed ≡ Some octet → IsErrAnd result (IsToldAgain octet 1) }
+    ensures again { (octet : ℕ) → intake.old.failed ≡ Some octet → IsErrAnd result (IsToldAgain octet intake.old.octets intake.new.octets 1) }
+    ensures as_it_was { (octet : ℕ) → intake.old.failed ≡ Some octet → intake.new ≡ record (intake.old) { octets = intake.new.octets } }
     ensures leads { R.leads intake.old.reader intake.new.reader }
 {
     gifts_join();
@@ -69,12 +69,16 @@ pub fn audit<R: Source>(
     now: Timestamp,
 ) -> Result<Report, AuditFault>
     ensures audited { intake.old.failed ≡ None → IfOk result (IsAudited limits now.nanosecond (line R.state intake.old) (line R.state intake.new)) }
-    ensures fails { intake.old.failed ≡ None → IfErr result (λ fault. FailsAt limits (line R.state intake.old) (line R.state intake.new) fault.envelope fault.cause) }
+    ensures fails { intake.old.failed ≡ None → IfErr result (λ fault. FailsLeaving limits (line R.state intake.old) (line R.state intake.new)
+        intake.old.octets intake.new.failed intake.new.octets fault.envelope fault.cause) }
 
-    // What is left of the intake.
+    // After a report the intake has answered no fault, and tells no octets.
     ensures lives { OnOk result (intake.new.failed ≡ None) }
-    ensures leaves { intake.old.failed ≡ None → IfErr result (λ fault. Leaves fault.cause intake.new.failed) }
-    ensures again { (octet : ℕ) → intake.old.failed ≡ Some octet → IsErrAnd result (λ fault. IsToldAgain octet fault.envelope fault.cause) }
+    ensures none { OnOk result (intake.new.octets ≡ 0) }
+
+    // Where it had answered a fault before, it is left as it was, but for the octets that it tells.
+    ensures again { (octet : ℕ) → intake.old.failed ≡ Some octet → IsErrAnd result (λ fault. IsToldAgain octet intake.old.octets intake.new.octets fault.envelope fault.cause) }
+    ensures as_it_was { (octet : ℕ) → intake.old.failed ≡ Some octet → intake.new ≡ record (intake.old) { octets = intake.new.octets } }
     ensures leads { R.leads intake.old.reader intake.new.reader }
 {
     gifts_join();

@@ -19,11 +19,11 @@ unsaid now source rest old new words status fault answer h =
 pub untold : (now : ℤ) (source rest old : Device) (number : ℕ) (cause : AuditCause) (fault : CommandFault) → FailsAt limits source rest number cause
     → CannotTell cause fault → IsUnaudited now source rest old old fault
 untold now source rest old number (causes.Refused e) fault h is =
-    subst (λ (f : CommandFault). IsUnaudited now source rest old old f) (sym is) (h.come.input, h.come.given, refl)
+    subst (λ (f : CommandFault). IsUnaudited now source rest old old f) (sym is) (h.input, h.given, refl)
 untold now source rest old number causes.Read fault h is = subst (λ (f : CommandFault). IsUnaudited now source rest old old f) (sym is) (number, inl h, refl)
 untold now source rest old number causes.Interrupted fault h is =
     subst (λ (f : CommandFault). IsUnaudited now source rest old old f) (sym is) (number, inr h, refl)
 untold now source rest old number causes.OutOfMemory fault h is =
-    subst (λ (f : CommandFault). IsUnaudited now source rest old old f) (sym is) (h.come.input, h.come.given, refl)
+    subst (λ (f : CommandFault). IsUnaudited now source rest old old f) (sym is) (h.input, h.given, refl)
 untold now source rest old number causes.TooManyEnvelopes fault h is =
-    subst (λ (f : CommandFault). IsUnaudited now source rest old old f) (sym is) (h.come.input, h.come.given, refl)
+    subst (λ (f : CommandFault). IsUnaudited now source rest old old f) (sym is) (h.input, h.given, refl)

@@ -1,8 +1,9 @@
-pub mod Taken
-pub mod Reports
 pub mod Audits
-pub mod Told
-pub mod Listings
 pub mod Narration
 pub mod Packings
+pub mod Reports
+pub mod Requests
+pub mod Runs
 pub mod Scripts
+pub mod Taken
+pub mod Told

@@ -25,7 +25,8 @@ use Rattle.iim_unpack.proofs.Answering.{leads_to, reads_envelope}
 use Rattle.iim_commands.specs.Format.Coming.{EnvelopeHasCome, IsCalm, IsNext, IsRefusal}
 use Rattle.iim_commands.specs.Format.Devices.{HasOctets}
 use Rattle.iim_commands.specs.Format.Lines.{ending_line, line_of, status_of, texts_from}
-use Rattle.iim_commands.specs.Format.Listings.{joined, max_envelopes, InputEnding, EndsBy, Envelope, IsDelivered, IsListed, IsRefusedAfter, RefusedBy}
+use Rattle.iim_commands.specs.Format.Listings.{limits, IsDelivered}
+use Rattle.iim_unpack.specs.Format.Listing.{joined, max_envelopes, InputEnding, EndsBy, Listed, IsListed, IsRefusedAfter, RefusedBy}
 use Rattle.iim_commands.specs.Format.Narration.{EnvelopesAreDeliveredAsLines, IsTextIn, IsUnnarrated, LeavesText, Narrated, stories, story_of, text_of}
 use Rattle.iim_commands.specs.Narration.{IsUnended}
 use Rattle.iim_commands.specs.Format.Reports.{IsUnsaid}
@@ -51,7 +52,7 @@ delivered_lines way tell between lines octets v more a (text, (whole, begun, rea
     told ∙ ap delivered (is ∙ ap text_so_far object ∙ sym found) ∙ lines a.text v.lines a.lines
 
 -- the words that a sink wrote of an envelope
-pub envelope_text : EnvelopesAreDeliveredAsLines → LinesAreJoinedByLineFeeds → (e : Envelope) (more : List StoryEvent) → IsListed e → IsDelivered e.octets more
+pub envelope_text : EnvelopesAreDeliveredAsLines → LinesAreJoinedByLineFeeds → (e : Listed) (more : List StoryEvent) → IsListed limits e → IsDelivered e.octets more
     → map octet_for more ≡ text_of e
 envelope_text law joins e more is d = ap (λ (events : List StoryEvent). map octet_for events) (law e.octets e.value more is.admits d) ∙ joins e.value.lines
 
@@ -90,7 +91,7 @@ broke_on a b c i j xs ys out w none rose = (
 
 -- Some envelopes, `count` of them, came from the input, and nothing else; their stories and their lines are out.
 pub record AreNarrated (source rest old new errors_old errors_new : Device) (count : ℕ) : Type 0 where
-  pub envelopes : List Envelope
+  pub envelopes : List Listed
   pub taken : AreTaken source rest count envelopes
   pub out : Wrote old new (stories envelopes)
   pub told : Wrote errors_old errors_new (texts_from line_of 1 envelopes)
@@ -99,11 +100,11 @@ pub none_narrated : GiftsJoin → TextsJoin → (source old errors : Device) →
 none_narrated joins texts source old errors = record { envelopes = []; taken = none_taken joins source; out = texts.none old; told = texts.none errors }
 
 -- the stories with that of an envelope more
-story_after : (es : List Envelope) (e : Envelope) (count : ℕ) → count ≡ length es → stories es ++ (text_of e ++ (10 ∷ [])) ≡ stories (es ++ e ∷ [])
+story_after : (es : List Listed) (e : Listed) (count : ℕ) → count ≡ length es → stories es ++ (text_of e ++ (10 ∷ [])) ≡ stories (es ++ e ∷ [])
 story_after es e count is = text_after story_of es e count is
 
-pub narrated_more : GiftsJoin → TextsJoin → (source mid rest old now then new errors_old errors_now errors_new : Device) (count : ℕ) (line : List ℕ) (e : Envelope)
-    → AreNarrated source mid old now errors_old errors_now count → IsListed e → HasGiven mid rest e.octets → (count ≡ max_envelopes → ⊥)
+pub narrated_more : GiftsJoin → TextsJoin → (source mid rest old now then new errors_old errors_now errors_new : Device) (count : ℕ) (line : List ℕ) (e : Listed)
+    → AreNarrated source mid old now errors_old errors_now count → IsListed limits e → HasGiven mid rest e.octets → (count ≡ max_envelopes → ⊥)
     → Wrote now then (text_of e) → Wrote then new (10 ∷ []) → line ≡ line_of (count + 1) e → Wrote errors_now errors_new line
     → AreNarrated source rest old new errors_old errors_new (count + 1)
 narrated_more joins texts source mid rest old now then new errors_old errors_now errors_new count line e r is given below out ended words told = record {
@@ -120,7 +121,7 @@ narrated_more joins texts source mid rest old now then new errors_old errors_now
 -- ---- all is told
 
 pub narrated : GiftsJoin → TextsJoin → (source mid rest old now new errors_old errors_now errors_new : Device) (count status : ℕ) (begun more words line : List ℕ) (ending : InputEnding)
-    → AreNarrated source mid old now errors_old errors_now count → HasGiven mid rest begun → HasOctets rest.octets more → EndsBy count (begun ++ more) ending
+    → AreNarrated source mid old now errors_old errors_now count → HasGiven mid rest begun → HasOctets rest.octets more → EndsBy limits count (begun ++ more) ending
     → LeavesText (begun ++ more) ending words → status ≡ status_of ending → Wrote now new words → line ≡ ending_line count ending → Wrote errors_now errors_new line
     → Narrated source rest old new errors_old errors_new status
 narrated joins texts source mid rest old now new errors_old errors_now errors_new count status begun more words line ending r given holds ends leaves is out same told =
@@ -136,7 +137,7 @@ narrated joins texts source mid rest old now new errors_old errors_now errors_ne
         listing = record {
           rest = begun ++ more;
           divides = divides source mid count es (begun ++ more) r.taken;
-          ends = subst (λ (n : ℕ). EndsBy n (begun ++ more) ending) r.taken.counted ends;
+          ends = subst (λ (n : ℕ). EndsBy limits n (begun ++ more) ending) r.taken.counted ends;
         };
         leaves = leaves;
       },
@@ -165,7 +166,7 @@ unfed_for_memory joins texts source mid rest old now new errors_old errors_new c
 )
 
 -- all octets of an envelope have its text
-pub whole_text : EnvelopesAreDeliveredAsLines → LinesAreJoinedByLineFeeds → (e : Envelope) (more : List StoryEvent) → IsListed e → IsDelivered e.octets more
+pub whole_text : EnvelopesAreDeliveredAsLines → LinesAreJoinedByLineFeeds → (e : Listed) (more : List StoryEvent) → IsListed limits e → IsDelivered e.octets more
     → IsTextIn (take (length e.octets) e.octets) (text_of e)
 whole_text law joins e more is d =
     subst (λ (octets : List ℕ). IsTextIn octets (text_of e)) (sym (take-length e.octets)) (more, d, sym (envelope_text law joins e more is d))
@@ -173,7 +174,7 @@ whole_text law joins e more is d =
 -- ---- the output broke
 
 pub broke_in_text : GiftsJoin → (source mid rest old now new errors_old errors_new : Device) (i j count : ℕ) (begun : List ℕ) (k : ℕ) (before words more : List ℕ)
-    → AreNarrated source mid old now errors_old errors_new count → HasGiven mid rest begun → k ≤ length begun → (k ≡ length begun → (e : Envelope) × IsListed e × (e.octets ≡ begun))
+    → AreNarrated source mid old now errors_old errors_new count → HasGiven mid rest begun → k ≤ length begun → (k ≡ length begun → (e : Listed) × IsListed limits e × (e.octets ≡ begun))
     → IsTextIn (take k begun) words → before ++ more ≡ words → (then : Device) → Wrote now then before → TextsJoin → WritesOn then new i j more → i ≡ 0 → Rose i j
     → IsUnnarrated source rest old new errors_old errors_new CannotWrite
 broke_in_text joins source mid rest old now new errors_old errors_new i j count begun k before words more r given within all is same then out texts w none rose =
@@ -201,7 +202,7 @@ broke_in_text joins source mid rest old now new errors_old errors_new i j count 
 -- ---- the errors broke
 
 pub broke_in_lines : GiftsJoin → TextsJoin → (source mid rest old now new errors_old errors_now errors_new : Device) (count : ℕ) (begun words line : List ℕ) (ending : InputEnding) (fault : CommandFault)
-    → AreNarrated source mid old now errors_old errors_now count → HasGiven mid rest begun → EndsBy count begun ending → LeavesText begun ending words
+    → AreNarrated source mid old now errors_old errors_now count → HasGiven mid rest begun → EndsBy limits count begun ending → LeavesText begun ending words
     → Wrote now new words → line ≡ ending_line count ending → IsUnsaid errors_now errors_new line fault → IsUnnarrated source rest old new errors_old errors_new fault
 broke_in_lines joins texts source mid rest old now new errors_old errors_now errors_new count begun words line ending fault r given ends leaves out same unsaid =
     let es = r.envelopes in
@@ -217,15 +218,15 @@ broke_in_lines joins texts source mid rest old now new errors_old errors_now err
         lines ++ line,
         words,
         length lines + unsaid.1,
-        inr (ending, subst (λ (n : ℕ). EndsBy n begun ending) r.taken.counted ends, leaves, ap (λ (w : List ℕ). lines ++ w) is),
+        inr (ending, subst (λ (n : ℕ). EndsBy limits n begun ending) r.taken.counted ends, leaves, ap (λ (w : List ℕ). lines ++ w) is),
         texts.more old now new (stories es) words r.out out,
         texts.stopped errors_old errors_now errors_new lines line unsaid.1 r.told unsaid.2,
       ),
     )
 
 -- inside the line of an envelope whose story is out
-pub broke_in_line : GiftsJoin → TextsJoin → (source mid rest old now then new errors_old errors_now errors_new : Device) (count : ℕ) (line : List ℕ) (e : Envelope) (fault : CommandFault)
-    → AreNarrated source mid old now errors_old errors_now count → IsListed e → HasGiven mid rest e.octets → (count ≡ max_envelopes → ⊥)
+pub broke_in_line : GiftsJoin → TextsJoin → (source mid rest old now then new errors_old errors_now errors_new : Device) (count : ℕ) (line : List ℕ) (e : Listed) (fault : CommandFault)
+    → AreNarrated source mid old now errors_old errors_now count → IsListed limits e → HasGiven mid rest e.octets → (count ≡ max_envelopes → ⊥)
     → Wrote now then (text_of e) → Wrote then new (10 ∷ []) → line ≡ line_of (count + 1) e → IsUnsaid errors_now errors_new line fault
     → IsUnnarrated source rest old new errors_old errors_new fault
 broke_in_line joins texts source mid rest old now then new errors_old errors_now errors_new count line e fault r is given below out ended words unsaid =
@@ -279,13 +280,13 @@ unfed state joins texts source mid rest old errors_old errors_new a b count OutO
 
 -- what is written of refused octets that came, and of all that stands after the envelopes
 pub text_refused : {W : Type 0} (state : W → Device) (mid rest : Device) (a b : LineWriter W) (e : Refusal) (r : IsRefusal (WritesLines state) mid rest a b e) (more : List ℕ)
-    → IsRefusedAfter (r.octets ++ more) r.k e → LeavesText (r.octets ++ more) (RefusedBy e) (map octet_for r.more)
+    → IsRefusedAfter limits (r.octets ++ more) r.k e → LeavesText (r.octets ++ more) (RefusedBy e) (map octet_for r.more)
 text_refused state mid rest a b e r more is =
     (r.k, is, subst (λ (octets : List ℕ). IsTextIn octets (map octet_for r.more)) (sym (take-append-le r.k r.octets more (refused_within r.octets r.k e r.refused))) (r.more, r.delivered, refl))
   where
-    refused_within : (octets : List ℕ) (k : ℕ) (f : Refusal) → IsRefusedAfter octets k f → k ≤ length octets
+    refused_within : (octets : List ℕ) (k : ℕ) (f : Refusal) → IsRefusedAfter limits octets k f → k ≤ length octets
     refused_within octets k f (inl t) = omega (arith, t.1)
-    refused_within octets k f (inr d) = omega (arith, d.before, d.refused.within)
+    refused_within octets k f (inr d) = omega (arith, d.within)
 
 -- ---- what came, and is out
 

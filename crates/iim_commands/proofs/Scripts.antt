@@ -13,7 +13,8 @@ use Rattle.wire_story.specs.Format.Texts.{IsLine, IsText}
 use Rattle.iim_script.specs.Format.Laws.{PrintedValuesAreScripts, ScriptsTellOneThing, ScriptsHaveNoFault, IsOneScript}
 use Rattle.iim_script.specs.Format.Printed.{field_line, message_line, trailer_line, value_lines}
 use Rattle.iim_script.specs.Format.Scripts.{max_script}
-use Rattle.iim_commands.specs.Format.Listings.{Envelope, IsListed, limits}
+use Rattle.iim_commands.specs.Format.Listings.{limits}
+use Rattle.iim_unpack.specs.Format.Listing.{Listed, IsListed}
 use Rattle.iim_commands.specs.Format.Narration.{story_of}
 use Rattle.iim_commands.specs.Format.Packing.{ScriptContent, IsScriptOf}
 use Rattle.iim_commands.specs.Format.Scripts.{told_of, TellsJust, ShownEnvelopesAreScripts}
@@ -52,7 +53,7 @@ text_lines text (line ∷ next ∷ lines) (is, returns, few, rest, parts, later)
 -- ---- the script
 
 -- the values of an envelope are those of a script, which is printed with this story
-printed : PrintedValuesAreScripts → (e : Envelope) → IsListed e → (number : ℕ) → length (value_lines e.value.fields e.value.head e.value.trailer ++ (codes "text\n" ++ story_of number e)) ≤ max_script
+printed : PrintedValuesAreScripts → (e : Listed) → IsListed limits e → (number : ℕ) → length (value_lines e.value.fields e.value.head e.value.trailer ++ (codes "text\n" ++ story_of number e)) ≤ max_script
     → IsScriptOf (value_lines e.value.fields e.value.head e.value.trailer ++ (codes "text\n" ++ story_of number e)) (told_of e.value)
 printed law e is number short =
     let a = is.admits in
@@ -77,7 +78,7 @@ tells_just once sound script t told = record {
   sound = λ line cause fault. sound limits script t.fields t.head t.trailer t.lines t.text_line line cause told fault;
 }
 
-shown_parts : (number : ℕ) (e : Envelope)
+shown_parts : (number : ℕ) (e : Listed)
     → shown_of number e ≡ number_line number ++ (value_lines e.value.fields e.value.head e.value.trailer ++ sizes_line e.value.sizes)
 shown_parts number e =
     let v = e.value in

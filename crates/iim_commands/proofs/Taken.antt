@@ -1,5 +1,5 @@
 -- What an intake gives, of an unpacker that stands on no octets.
-use Rattle.std.proofs.Common.{◌≡◌, ◌≢◌, ◌⊎◌, ℕ, inl, inr, refl, sym, ap, subst, arith, List, [], ◌∷◌, length, take, Option, None, Some, Ok}
+use Rattle.std.proofs.Common.{◌≡◌, ◌≢◌, ◌⊎◌, ℕ, inl, inr, refl, sym, ap, subst, ◌∙◌, arith, List, [], ◌∷◌, length, take, Option, None, Some, Ok}
 use Rattle.std.proofs.Math.Seq.{take-length}
 use Rattle.iim_dataset.specs.Format.Datasets.{count_octets}
 use Rattle.iim_dataset.specs.Format.Devices.{Device}
@@ -85,7 +85,12 @@ is_refusal goes failures old new u a b e same at other (inl w) =
       more = w.more;
       came = w.came;
       k = is.k;
-      refused = inr (record { text = w.more; refused = is; before = refl; by_octets = other });
+      refused = inr (record {
+        within = is.within;
+        fault = is.fault;
+        refusal = is.refusal;
+        kills = record { refuses = is.refuses; by_octets = λ sunk. other (ap (λ (x : Refusal). x.cause) is.refusal ∙ sunk) };
+      });
       at_end = λ all. absurd (omega (arith, all, is.within));
       delivered = delivered_of (take is.k w.octets) w.more is.adds;
     }
@@ -96,7 +101,7 @@ is_refusal goes failures old new u a b e same at other (inr w) =
       more = w.more;
       came = w.came;
       k = length w.octets;
-      refused = inl (record { text = w.more; refused = is }, refl);
+      refused = inl (record { some = is.some; is_open = is.is_open; truncated = is.truncated }, refl);
       at_end = λ all. w.at_end;
       delivered = subst (λ (xs : List ℕ). IsDelivered xs w.more) (sym (take-length w.octets)) (delivered_of w.octets w.more is.adds);
     }

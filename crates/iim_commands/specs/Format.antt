@@ -4,8 +4,10 @@ pub mod Devices
 pub mod Lines
 pub mod Listings
 pub mod Narration
+pub mod Outcomes
 pub mod Packing
 pub mod Reports
+pub mod Requests
 pub mod Scripts
 pub mod Shown
 pub mod Texts

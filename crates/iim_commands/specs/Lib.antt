@@ -1,5 +1,7 @@
 -- What the promises cite: a reader has to believe these.
 pub mod Format
 -- What only proofs and private clauses cite.
+pub mod Faults
 pub mod Narration
 pub mod PackSteps
+pub mod Verbs

@@ -1,32 +1,12 @@
 //! What holds of all inputs.
 
-ghost use Rattle.iim_commands.specs.Format.Listings.{InputsHaveOneListing, ListingsAreLongest};
 ghost use Rattle.iim_commands.specs.Format.Narration.{EnvelopesAreDeliveredAsLines};
 ghost use Rattle.iim_commands.specs.Format.Scripts.{ShownEnvelopesAreScripts};
 
 use iim_dataset::laws::{events_tell_the_datasets, octets_are_handed_on_one_way};
 use iim_script::laws::{printed_values_are_scripts, scripts_have_no_fault, scripts_tell_one_thing};
-use iim_unpack::laws::{
-    admitted_octets_are_framed, admitted_octets_have_one_value, no_admitted_octets_begin_others,
-    no_envelope_is_empty, open_octets_are_bounded, refused_octets_were_open,
-    streams_have_one_answer,
-};
 use wire_message::laws::texts_stand_between_stx_and_etx;
 use wire_story::laws::texts_are_delivered_as_lines;
-
-/// An input has one listing, its envelopes and what stands after them; and no longer list of envelopes begins the input.
-pub fn inputs_have_one_listing()
-    ensures one { InputsHaveOneListing }
-    ensures longest { ListingsAreLongest }
-{
-    admitted_octets_have_one_value();
-    no_admitted_octets_begin_others();
-    admitted_octets_are_framed();
-    no_envelope_is_empty();
-    streams_have_one_answer();
-    refused_octets_were_open();
-    open_octets_are_bounded();
-}
 
 /// What is delivered of the text in an envelope is its lines.
 pub fn envelopes_are_delivered_as_lines()

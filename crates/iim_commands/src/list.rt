@@ -3,7 +3,8 @@
 ghost use Rattle.std.specs.Prelude.{◌≡◌, ◌++◌, ℕ, List, length, None, IfOk, IfErr, OnOk};
 ghost use Rattle.iim_unpack.specs.Format.Intakes.{line};
 ghost use Rattle.iim_unpack.specs.Format.Value.{HasParts};
-ghost use Rattle.iim_commands.specs.Format.Listings.{Envelope, told};
+ghost use Rattle.iim_unpack.specs.Format.Listing.{Listed};
+ghost use Rattle.iim_commands.specs.Format.Listings.{told};
 ghost use Rattle.iim_commands.specs.Format.Reports.{Reported, IsUnreported};
 
 use crate::coming::{Next, take_next};
@@ -20,7 +21,7 @@ use wire_story::Discard;
 /// What a command writes of each envelope.
 pub trait EnvelopeReport {
     /// The text of the envelope with this number.
-    ghost written: { ℕ → Envelope → List ℕ };
+    ghost written: { ℕ → Listed → List ℕ };
 
     /// Adds the text of an envelope with this number, which has `octets` octets.
     fn push_text(
@@ -30,7 +31,7 @@ pub trait EnvelopeReport {
         octets: u64,
         got: &Unpacked,
     ) -> Result<(), AllocError>
-        ensures { (e : Envelope) → octets ≡ told (length e.octets) → HasParts got.now e.value → OnOk result (text.new.items ≡ text.old.items ++ written number e) };
+        ensures { (e : Listed) → octets ≡ told (length e.octets) → HasParts got.now e.value → OnOk result (text.new.items ≡ text.old.items ++ written number e) };
 }
 
 /// Reports an input: each envelope, up to the end, to octets that are refused or to one envelope too many.

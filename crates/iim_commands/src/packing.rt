@@ -4,15 +4,15 @@ ghost use Rattle.std.specs.Prelude.{◌≡◌, ◌<◌, ◌≤◌, length, IfOk,
 ghost use Rattle.iim_object.specs.Format.Plans.{is_plan};
 ghost use Rattle.iim_object.specs.declared.size.Size.TheVariants.{Unknown};
 
-use crate::coming::LIMITS;
 use crate::fault::CommandFault;
 use crate::report::tell;
+use crate::script::read_script;
 use crate::status::{ACCEPTED, REFUSED};
 use iim_dataset::device_laws::gifts_join;
 use iim_dataset::{BLOCK, Source, Target, take};
 use iim_object::{PackCause, Plan, Size};
 use iim_pack::{pack, packed_size};
-use iim_script::{MAX_SCRIPT, Script, ScriptCause, ScriptFault, read_script};
+use iim_script::{MAX_SCRIPT, Script, ScriptCause, ScriptFault};
 use std::alloc::Global;
 
 /// How an envelope is to be packed.
@@ -171,7 +171,7 @@ fn pack_octets<W: Target>(
     ensures packed { IfOk result (λ last. IsPacked (asked request.subfile request.unknown request.max) octets.now (W.state output) (W.state last)) }
     ensures unpacked { IfErr result (λ left. IsNotPacked (asked request.subfile request.unknown request.max) octets.now (W.state output) (W.state left.1) left.0) }
 {
-    match read_script(alloc, LIMITS, octets) {
+    match read_script(alloc, octets) {
         Ok(told) => pack_told(alloc, request, &told, output),
         Err(fault) => Err((fault_of(fault), output)),
     }

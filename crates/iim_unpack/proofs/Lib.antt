@@ -63,3 +63,4 @@ pub mod SmallSections
 pub mod SmallPlaces
 pub mod WerePossible
 pub mod PresentScale
+pub mod Listings

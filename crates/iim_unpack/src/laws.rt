@@ -9,6 +9,7 @@ ghost use Rattle.iim_unpack.specs.Format.Intakes.{OpenOctetsAreBounded};
 ghost use Rattle.iim_unpack.specs.ByLayers.{PlacesArePossibleByLayers};
 ghost use Rattle.iim_unpack.specs.Format.Continuing.{OctetsHaveOnePlace, PlacesContinueAlike, PlacesRefuseAlike, RestoredStandAsSaved};
 ghost use Rattle.iim_unpack.specs.LowerLaws.{AnswerLaws, ByLayersLaws, CloseLaws, FeedLaws, HeadLaws, MessageLaws, ObjectLaws, OnwardLaws, OpenLaws, PlaceLaws, SizeLaws};
+ghost use Rattle.iim_unpack.specs.Format.Listing.{InputsHaveOneListing, ListingsAreLongest};
 ghost use Rattle.iim_unpack.specs.Plain.{ObjectsArePossibleAlike, PlainDatasetsContinueAlike, PlainOctetsAreOpenOrWhole, PlainOctetsLeadToTheirPlace, PossiblePlacesArePlain};
 ghost use Rattle.iim_unpack.specs.Format.Possible.{LimitsAreToldByPlace};
 ghost use Rattle.iim_unpack.specs.Format.TicketsTold.{TicketsOfPlacesAreSplit, UnpackersStandByPlace};
@@ -275,6 +276,20 @@ pub fn unpackers_stand_somewhere(unpacker: &Unpacker)
 {
     feed_laws();
     unpacker.stands_somewhere();
+}
+
+/// An input has one listing, its envelopes and what stands after them; and no longer list of envelopes begins the input.
+pub fn inputs_have_one_listing()
+    ensures one { InputsHaveOneListing }
+    ensures longest { ListingsAreLongest }
+{
+    admitted_octets_have_one_value();
+    no_admitted_octets_begin_others();
+    admitted_octets_are_framed();
+    no_envelope_is_empty();
+    streams_have_one_answer();
+    refused_octets_were_open();
+    open_octets_are_bounded();
 }
 
 /// Octets have one ticket: an unpacker's place is determined by what it was fed.

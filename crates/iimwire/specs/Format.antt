@@ -1,4 +1,3 @@
-pub mod Outcomes
-pub mod Requests
-pub mod Starts
+pub mod Ended
 pub mod Served
+pub mod Starts

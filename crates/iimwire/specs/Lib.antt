@@ -1,5 +1,2 @@
 -- What the promises cite: a reader has to believe these.
 pub mod Format
--- What only proofs and private clauses cite.
-pub mod Faults
-pub mod Verbs

@@ -1,19 +1,21 @@
 //! The command `iimwire`: checks files of envelopes, shows their parts, writes their stories, audits them, and packs scripts.
 //!
-//! Stands on `iim_commands`, which reads and writes, on the crates below it for their types and definitions, on `clap` and `jiff`.
+//! Stands on `iim_commands`, which reads the words and carries out what they ask for, on the crates below it for their types and
+//! definitions, on `clap` and `jiff`.
 //! [`serve::serve`] does the work, over any source and targets of octets; what is here gives it the words, files and streams
 //! of a process.
 #![tactic(auto)]
 
-mod commands;
-mod instant;
-mod request;
-mod run;
 mod serve;
 mod start;
 
+ghost use Rattle.std.specs.Prelude.{◌≡◌, ◌≢◌, ◌⊎◌, IfSome, None};
+ghost use Rattle.std.specs.IoError.{error_kind};
+ghost use Rattle.std.specs.Process.{exit_status};
+ghost use Rattle.iimwire.specs.Format.Ended.{EndsWith, EndsWithout};
+
+use iim_commands::request::{Request, parse};
 use iim_dataset::{FromRead, FromWrite};
-use request::{Request, UsageFault, parse};
 use serve::serve;
 use start::RunFault;
 use std::fs::File;
@@ -24,11 +26,11 @@ use std::{env, io};
 fn main(rt: HostRuntime) -> ExitCode {
     let words = match words(&rt) {
         Ok(words) => words,
-        Err(error) => return end::<Stdin>(&rt, Err(fault_of(&error, RunFault::NoText))),
+        Err(error) => return give_up(&rt, fault_of(&error, RunFault::NoText)),
     };
     match parse(rt.alloc(), words.as_slice()) {
         Ok(request) => begin(&rt, request),
-        Err(fault) => end::<Stdin>(&rt, Err(RunFault::Usage(fault))),
+        Err(fault) => give_up(&rt, RunFault::Usage(fault)),
     }
 }
 
@@ -38,32 +40,48 @@ fn words(rt: &HostRuntime) -> io::Result<Vec<String>> {
 }
 
 /// Opens the file that the request names, or else takes standard input.
-fn begin(rt: &HostRuntime, request: Request<'_>) -> ExitCode {
+fn begin(rt: &HostRuntime, request: Request<'_>) -> ExitCode
+    ensures standard { request.entry.file ≡ None → EndsWith request.entry.job (exit_status result) }
+    ensures named { IfSome request.entry.file (λ name. EndsWith request.entry.job (exit_status result) ⊎ (exit_status result ≡ 3)) }
+{
     let Some(name) = request.file else {
-        return end(rt, Ok((request, rt.stdin())));
+        return carry_out(rt, request, rt.stdin());
     };
     match File::open(rt, name) {
-        Ok(file) => end(rt, Ok((request, file))),
-        Err(error) => end::<File>(rt, Err(fault_of(&error, RunFault::CannotOpen(name)))),
+        Ok(file) => carry_out(rt, request, file),
+        Err(error) => give_up(rt, fault_of(&error, RunFault::CannotOpen(name))),
     }
 }
 
 /// Refused memory is told as that, and any other error as the given fault.
-fn fault_of<'a>(error: &io::Error, other: RunFault<'a>) -> RunFault<'a> {
+fn fault_of<'a>(error: &io::Error, other: RunFault<'a>) -> RunFault<'a>
+    ensures memory { error_kind error.now ≡ ErrorKind.OutOfMemory → result ≡ RunFault.OutOfMemory }
+    ensures other { error_kind error.now ≢ ErrorKind.OutOfMemory → result ≡ other.entry }
+{
     match error.kind() {
         ErrorKind::OutOfMemory => RunFault::OutOfMemory,
         _ => other,
     }
 }
 
-/// Runs between the reader and the standard streams.
-fn end<R: Read + Drop>(
-    rt: &HostRuntime,
-    begun: Result<(Request<'_>, R), RunFault<'_>>,
-) -> ExitCode {
-    let begun = begun.map(|(request, reader)| (request, FromRead::new(reader)));
+/// Carries out a request between a reader and the standard streams.
+fn carry_out<R: Read + Drop>(rt: &HostRuntime, request: Request<'_>, reader: R) -> ExitCode
+    ensures { EndsWith request.entry.job (exit_status result) }
+{
+    let begun = Ok((request, FromRead::new(reader)));
     let output = FromWrite::new(rt.stdout());
     let errors = FromWrite::new(rt.stderr());
+    let (status, _, _) = serve(rt.alloc(), begun, output, errors);
+    ExitCode::from(status)
+}
+
+/// Tells on the standard streams why there is nothing to carry out.
+fn give_up(rt: &HostRuntime, fault: RunFault<'_>) -> ExitCode
+    ensures { EndsWithout fault.entry (exit_status result) }
+{
+    let output = FromWrite::new(rt.stdout());
+    let errors = FromWrite::new(rt.stderr());
+    let begun: Result<(Request<'_>, FromRead<Stdin>), RunFault<'_>> = Err(fault);
     let (status, _, _) = serve(rt.alloc(), begun, output, errors);
     ExitCode::from(status)
 }

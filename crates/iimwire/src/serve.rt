@@ -2,9 +2,9 @@
 
 ghost use Rattle.iimwire.specs.Format.Served.{Served};
 
-use crate::request::Request;
-use crate::run::run;
 use crate::start::{RunFault, hinder};
+use iim_commands::request::Request;
+use iim_commands::run::run;
 use iim_dataset::{Source, Target};
 use std::alloc::Global;
 

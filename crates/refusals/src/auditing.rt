@@ -3,21 +3,25 @@
 use crate::outcome::{Trouble, right};
 use crate::worked::{LIMITS, STREAM};
 use iim_audit::{AuditCause, AuditFault, Report, audit, report_text};
-use iim_dataset::FromRead;
+use iim_dataset::{FromRead, Source};
 use iim_unpack::{Intake, Unpacker};
 use jiff::Timestamp;
 use std::alloc::Global;
+use std::io::Read;
 use wire_story::Discard;
 
-/// The report of the stream.
+/// The report of the stream and of the stream again.
 const REPORT: &[u8] =
     b"1 TST 00000002 20240301 priority - size 50 subfiles 1 words 5/4 age - repeats - copy free\n\
 2 TST 00000001 20240301 priority - size 14 subfiles 1 words 0/0 age - repeats - copy free\n\
 3 TST 00000002 20240301 priority - size 14 subfiles 1 words 0/0 age - repeats 1 copy free\n\
-3 envelopes, 1 repeated, 0 held\n";
+4 TST 00000002 20240301 priority - size 50 subfiles 1 words 5/4 age - repeats 1 copy free\n\
+5 TST 00000001 20240301 priority - size 14 subfiles 1 words 0/0 age - repeats 2 copy free\n\
+6 TST 00000002 20240301 priority - size 14 subfiles 1 words 0/0 age - repeats 1 copy free\n\
+6 envelopes, 4 repeated, 0 held\n";
 
 /// What a fault of an audit comes to: where memory was refused, the reader can still be read from.
-fn trouble_of(alloc: Global, fault: AuditFault, intake: &mut Intake<FromRead<&[u8]>>) -> Trouble {
+fn trouble_of<R: Source>(alloc: Global, fault: AuditFault, intake: &mut Intake<R>) -> Trouble {
     if fault.cause != AuditCause::OutOfMemory {
         return Trouble::Wrong;
     }
@@ -30,19 +34,19 @@ fn trouble_of(alloc: Global, fault: AuditFault, intake: &mut Intake<FromRead<&[u
     }
 }
 
-/// Audits the stream.
+/// Audits the stream and the stream again: the fifth row needs more room than the first has taken.
 pub(crate) fn audited(alloc: Global) -> Result<Report, Trouble> {
-    let mut intake = Intake::new(FromRead::new(STREAM));
+    let mut intake = Intake::new(FromRead::new(STREAM.chain(STREAM)));
     match audit(alloc, &mut intake, LIMITS, Timestamp::UNIX_EPOCH) {
         Ok(report) => {
-            right(report.rows().len() == 3)?;
+            right(report.rows().len() == 6)?;
             Ok(report)
         }
         Err(fault) => Err(trouble_of(alloc, fault, &mut intake)),
     }
 }
 
-/// Writes the report of the stream.
+/// Writes the report of it.
 pub(crate) fn written(alloc: Global, report: &Report) -> Result<(), Trouble> {
     let text = report_text(alloc, report)?;
     right(text.as_slice() == REPORT)

@@ -10,7 +10,8 @@ use Rattle.iim_unpack.specs.Format.Open.{IsOpen}
 use Rattle.iim_unpack.specs.Format.Value.{HasParts}
 use Rattle.iim_unpack.specs.declared.refusal.Refusal.{Refusal}
 use Rattle.iim_unpack.specs.declared.unpacker.Unpacked.{Unpacked}
-use Rattle.iim_commands.specs.Format.Listings.{limits, told, Envelope, IsDelivered, IsListed, IsRefusedAfter}
+use Rattle.iim_commands.specs.Format.Listings.{limits, told, IsDelivered}
+use Rattle.iim_unpack.specs.Format.Listing.{Listed, IsListed, IsRefusedAfter}
 use Rattle.iim_commands.specs.declared.fault.CommandFault.{CommandFault}
 use Rattle.iim_commands.specs.declared.fault.CommandFault.TheVariants.{CannotRead, CannotWrite, OutOfMemory}
 use Rattle.iim_commands.specs.declared.coming.Next.{Next}
@@ -18,8 +19,8 @@ use Rattle.iim_commands.specs.declared.coming.Next.TheVariants as next
 
 -- An envelope came, and the sink was told its text.
 pub record EnvelopeHasCome {S : Type 0} (goes : S → List StoryEvent → S → Type 0) (old new : Device) (a b : S) (got : Unpacked) (octets : ℕ) : Type 0 where
-  pub envelope : Envelope
-  pub is : IsListed envelope
+  pub envelope : Listed
+  pub is : IsListed limits envelope
   pub parts : HasParts got envelope.value
   pub counts : octets ≡ told (length envelope.octets)
   pub more : List StoryEvent
@@ -32,7 +33,7 @@ pub record IsRefusal {S : Type 0} (goes : S → List StoryEvent → S → Type 0
   pub more : List StoryEvent
   pub came : Came goes old new a b octets more
   pub k : ℕ
-  pub refused : IsRefusedAfter octets k e
+  pub refused : IsRefusedAfter limits octets k e
   pub at_end : k ≡ length octets → IsAtEnd new.octets
   pub delivered : IsDelivered (take k octets) more
 

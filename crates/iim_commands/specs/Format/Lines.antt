@@ -4,14 +4,15 @@ use Rattle.iim_unpack.specs.Format.Names.{refusal_text}
 use Rattle.iim_unpack.specs.declared.refusal.Refusal.{Refusal}
 use Rattle.iim_commands.specs.declared.fault.CommandFault.{CommandFault}
 use Rattle.iim_commands.specs.declared.fault.CommandFault.TheVariants.{CannotRead, CannotWrite, OutOfMemory}
-use Rattle.iim_commands.specs.Format.Listings.{InputEnding, Envelope, Whole, RefusedBy, TooMany, told}
+use Rattle.iim_commands.specs.Format.Listings.{told}
+use Rattle.iim_unpack.specs.Format.Listing.{InputEnding, Listed, Whole, RefusedBy, TooMany}
 
 -- the line of an accepted envelope: its number, and how many octets it has
 abbrev pub accepted_line : ℕ → ℕ → List ℕ
 accepted_line number used = decimal number ++ (codes " accepted " ++ (decimal used ++ codes " octets\n"))
 
 -- the line of an envelope with this number
-abbrev pub line_of : ℕ → Envelope → List ℕ
+abbrev pub line_of : ℕ → Listed → List ℕ
 line_of number e = accepted_line number (told (length e.octets))
 
 -- the line of octets that are refused: its number, and the octet, the layer, the dataset and the cause
@@ -29,7 +30,7 @@ fault_line CannotWrite = codes "cannot write\n"
 fault_line OutOfMemory = codes "out of memory\n"
 
 -- what is written of each envelope, in their order, numbered from n
-abbrev pub texts_from : (ℕ → Envelope → List ℕ) → ℕ → List Envelope → List ℕ
+abbrev pub texts_from : (ℕ → Listed → List ℕ) → ℕ → List Listed → List ℕ
 texts_from text n [] = []
 texts_from text n (e ∷ es) = text n e ++ texts_from text (n + 1) es
 
@@ -40,7 +41,7 @@ ending_line count (RefusedBy refusal) = refused_line (count + 1) refusal
 ending_line count TooMany = too_many_line
 
 -- what is written of a listing
-abbrev pub report : (ℕ → Envelope → List ℕ) → List Envelope → InputEnding → List ℕ
+abbrev pub report : (ℕ → Listed → List ℕ) → List Listed → InputEnding → List ℕ
 report text envelopes ending = texts_from text 1 envelopes ++ ending_line (length envelopes) ending
 
 -- the status of a listing: 0 where the whole input is accepted, else 1

@@ -13,18 +13,19 @@ use Rattle.iim_commands.specs.declared.fault.CommandFault.{CommandFault}
 use Rattle.iim_commands.specs.declared.fault.CommandFault.TheVariants.{CannotRead, CannotWrite, OutOfMemory}
 use Rattle.iim_commands.specs.Format.Devices.{HasOctets}
 use Rattle.iim_commands.specs.Format.Lines.{line_of, report, status_of, texts_from}
-use Rattle.iim_commands.specs.Format.Listings.{limits, Divides, InputEnding, Whole, RefusedBy, TooMany, EndsBy, Envelope, IsDelivered, IsListed, IsListing, IsRefusedAfter}
+use Rattle.iim_commands.specs.Format.Listings.{limits, IsDelivered}
+use Rattle.iim_unpack.specs.Format.Listing.{Divides, InputEnding, Whole, RefusedBy, TooMany, EndsBy, Listed, IsListed, IsListing, IsRefusedAfter}
 
 -- the text of an envelope: its lines, joined by LF
-abbrev pub text_of : Envelope → List ℕ
+abbrev pub text_of : Listed → List ℕ
 text_of e = join_with_byte 10 e.value.lines
 
 -- and an LF after it
-abbrev pub story_of : ℕ → Envelope → List ℕ
+abbrev pub story_of : ℕ → Listed → List ℕ
 story_of number e = text_of e ++ (10 ∷ [])
 
 -- the stories of all envelopes, in their order
-abbrev pub stories : List Envelope → List ℕ
+abbrev pub stories : List Listed → List ℕ
 stories envelopes = texts_from story_of 1 envelopes
 
 -- The words are what is delivered of the text in the octets, each line end as LF.
@@ -35,19 +36,19 @@ IsTextIn octets words = (more : List StoryEvent) × IsDelivered octets more × (
 -- its text, without an LF.
 abbrev pub LeavesText : List ℕ → InputEnding → List ℕ → Type 0
 LeavesText rest Whole words = words ≡ []
-LeavesText rest (RefusedBy refusal) words = (k : ℕ) × IsRefusedAfter rest k refusal × IsTextIn (take k rest) words
-LeavesText rest TooMany words = (e : Envelope) × IsListed e × (more : List ℕ) × (rest ≡ e.octets ++ more) × (words ≡ text_of e)
+LeavesText rest (RefusedBy refusal) words = (k : ℕ) × IsRefusedAfter limits rest k refusal × IsTextIn (take k rest) words
+LeavesText rest TooMany words = (e : Listed) × IsListed limits e × (more : List ℕ) × (rest ≡ e.octets ++ more) × (words ≡ text_of e)
 
 -- The listing of an input, and what is written of the octets after its envelopes.
-pub record IsNarration (input : List ℕ) (envelopes : List Envelope) (ending : InputEnding) (words : List ℕ) : Type 0 where
-  pub listing : IsListing input envelopes ending
+pub record IsNarration (input : List ℕ) (envelopes : List Listed) (ending : InputEnding) (words : List ℕ) : Type 0 where
+  pub listing : IsListing limits input envelopes ending
   pub leaves : LeavesText listing.rest ending words
 
 -- The whole input is told: its stories on the output, and the lines of `check` on the errors. (The input before and after, then the
 -- output, then the errors.)
 abbrev pub Narrated : Device → Device → Device → Device → Device → Device → ℕ → Type 0
 Narrated source rest old new errors_old errors_new status =
-    (input : List ℕ) × (envelopes : List Envelope) × (ending : InputEnding) × (words : List ℕ) × HasOctets source.octets input × Unfailed source rest
+    (input : List ℕ) × (envelopes : List Listed) × (ending : InputEnding) × (words : List ℕ) × HasOctets source.octets input × Unfailed source rest
     × IsNarration input envelopes ending words × (status ≡ status_of ending) × Wrote old new (stories envelopes ++ words)
     × Wrote errors_old errors_new (report line_of envelopes ending)
 
@@ -55,20 +56,20 @@ Narrated source rest old new errors_old errors_new status =
 
 -- The octets are an envelope.
 abbrev pub AreEnvelope : List ℕ → Type 0
-AreEnvelope octets = (e : Envelope) × IsListed e × (e.octets ≡ octets)
+AreEnvelope octets = (e : Listed) × IsListed limits e × (e.octets ≡ octets)
 
 -- The output broke after these stories, and inside the text of the octets: the words are out, which are the text in the first k. If
 -- that is all of them, then they are an envelope, and the LF after its text was refused.
-abbrev pub BreaksInText : Device → Device → List Envelope → List ℕ → Type 0
+abbrev pub BreaksInText : Device → Device → List Listed → List ℕ → Type 0
 BreaksInText old new envelopes octets = (k : ℕ) × (words : List ℕ) × (k ≤ length octets) × (k ≡ length octets → AreEnvelope octets)
     × IsTextIn (take k octets) words × Appends old.octets new.octets (stories envelopes ++ words) × HasBroken old new
 
 -- The errors broke inside these lines, after these words.
-abbrev pub AreToldWith : List Envelope → List ℕ → List ℕ → List ℕ → Type 0
+abbrev pub AreToldWith : List Listed → List ℕ → List ℕ → List ℕ → Type 0
 AreToldWith envelopes rest told words = ((told ≡ texts_from line_of 1 envelopes) × (words ≡ []))
-    ⊎ ((ending : InputEnding) × EndsBy (length envelopes) rest ending × LeavesText rest ending words × (told ≡ report line_of envelopes ending))
+    ⊎ ((ending : InputEnding) × EndsBy limits (length envelopes) rest ending × LeavesText rest ending words × (told ≡ report line_of envelopes ending))
 
-abbrev pub BreaksInLines : Device → Device → Device → Device → List Envelope → List ℕ → Type 0
+abbrev pub BreaksInLines : Device → Device → Device → Device → List Listed → List ℕ → Type 0
 BreaksInLines old new errors_old errors_new envelopes rest = (told : List ℕ) × (words : List ℕ) × (n : ℕ) × AreToldWith envelopes rest told words
     × Wrote old new (stories envelopes ++ words) × Stopped errors_old errors_new told n
 
@@ -77,16 +78,16 @@ BreaksInLines old new errors_old errors_new envelopes rest = (told : List ℕ) �
 -- after them the text in the first k.
 abbrev pub IsUnnarrated : Device → Device → Device → Device → Device → Device → CommandFault → Type 0
 IsUnnarrated source rest old new errors_old errors_new CannotRead =
-    (input : List ℕ) × (envelopes : List Envelope) × (begun : List ℕ) × (fault : IoFault) × (words : List ℕ)
-    × Divides input envelopes begun × IsOpen limits begun × MissedAfter source rest input fault × IsTextIn begun words
+    (input : List ℕ) × (envelopes : List Listed) × (begun : List ℕ) × (fault : IoFault) × (words : List ℕ)
+    × Divides limits input envelopes begun × IsOpen limits begun × MissedAfter source rest input fault × IsTextIn begun words
     × Wrote old new (stories envelopes ++ words) × Wrote errors_old errors_new (texts_from line_of 1 envelopes)
 IsUnnarrated source rest old new errors_old errors_new CannotWrite =
-    (input : List ℕ) × (envelopes : List Envelope) × (begun : List ℕ) × Divides input envelopes begun × HasGiven source rest input
+    (input : List ℕ) × (envelopes : List Listed) × (begun : List ℕ) × Divides limits input envelopes begun × HasGiven source rest input
     × ((BreaksInText old new envelopes begun × Wrote errors_old errors_new (texts_from line_of 1 envelopes))
     ⊎ BreaksInLines old new errors_old errors_new envelopes begun)
 IsUnnarrated source rest old new errors_old errors_new OutOfMemory =
-    (input : List ℕ) × (envelopes : List Envelope) × (begun : List ℕ) × (k : ℕ) × (words : List ℕ)
-    × Divides input envelopes begun × HasGiven source rest input × IsTextIn (take k begun) words
+    (input : List ℕ) × (envelopes : List Listed) × (begun : List ℕ) × (k : ℕ) × (words : List ℕ)
+    × Divides limits input envelopes begun × HasGiven source rest input × IsTextIn (take k begun) words
     × Wrote old new (stories envelopes ++ words) × Wrote errors_old errors_new (texts_from line_of 1 envelopes)
 
 -- ---- a law

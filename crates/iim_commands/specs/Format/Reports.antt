@@ -7,28 +7,29 @@ use Rattle.iim_unpack.specs.Format.Open.{IsOpen}
 use Rattle.iim_commands.specs.declared.fault.CommandFault.{CommandFault}
 use Rattle.iim_commands.specs.declared.fault.CommandFault.TheVariants.{CannotRead, CannotWrite, OutOfMemory}
 use Rattle.iim_commands.specs.Format.Devices.{HasOctets}
-use Rattle.iim_commands.specs.Format.Listings.{limits, Divides, InputEnding, EndsBy, Envelope, IsListing}
+use Rattle.iim_commands.specs.Format.Listings.{limits}
+use Rattle.iim_unpack.specs.Format.Listing.{Divides, InputEnding, EndsBy, Listed, IsListing}
 use Rattle.iim_commands.specs.Format.Lines.{report, status_of, texts_from}
 
 -- The listing of the whole input is reported, and the status is the one for it. (The input before and after, then the output.)
-abbrev pub Reported : (ℕ → Envelope → List ℕ) → Device → Device → Device → Device → ℕ → Type 0
-Reported text source rest old new status = (input : List ℕ) × (envelopes : List Envelope) × (ending : InputEnding) × HasOctets source.octets input × Unfailed source rest
-    × IsListing input envelopes ending × (status ≡ status_of ending) × Wrote old new (report text envelopes ending)
+abbrev pub Reported : (ℕ → Listed → List ℕ) → Device → Device → Device → Device → ℕ → Type 0
+Reported text source rest old new status = (input : List ℕ) × (envelopes : List Listed) × (ending : InputEnding) × HasOctets source.octets input × Unfailed source rest
+    × IsListing limits input envelopes ending × (status ≡ status_of ending) × Wrote old new (report text envelopes ending)
 
 -- The text is what is written of the envelopes, and perhaps the last line too.
-abbrev pub IsReport : (ℕ → Envelope → List ℕ) → List Envelope → List ℕ → List ℕ → Type 0
+abbrev pub IsReport : (ℕ → Listed → List ℕ) → List Listed → List ℕ → List ℕ → Type 0
 IsReport text envelopes rest words = (words ≡ texts_from text 1 envelopes)
-    ⊎ ((ending : InputEnding) × EndsBy (length envelopes) rest ending × (words ≡ report text envelopes ending))
+    ⊎ ((ending : InputEnding) × EndsBy limits (length envelopes) rest ending × (words ≡ report text envelopes ending))
 
 -- Why the report isn't out. A read failed after envelopes and octets that every layer can continue from: all these envelopes are
 -- reported. Or the output broke inside the report. Or memory was short: some of the envelopes that came are reported.
-abbrev pub IsUnreported : (ℕ → Envelope → List ℕ) → Device → Device → Device → Device → CommandFault → Type 0
-IsUnreported text source rest old new CannotRead = (input : List ℕ) × (envelopes : List Envelope) × (begun : List ℕ) × (fault : IoFault)
-    × Divides input envelopes begun × IsOpen limits begun × MissedAfter source rest input fault × Wrote old new (texts_from text 1 envelopes)
-IsUnreported text source rest old new CannotWrite = (input : List ℕ) × (envelopes : List Envelope) × (begun : List ℕ) × (words : List ℕ) × (n : ℕ)
-    × Divides input envelopes begun × HasGiven source rest input × IsReport text envelopes begun words × Stopped old new words n
-IsUnreported text source rest old new OutOfMemory = (input : List ℕ) × (envelopes : List Envelope) × (begun : List ℕ)
-    × Divides input envelopes begun × HasGiven source rest input × Wrote old new (texts_from text 1 envelopes)
+abbrev pub IsUnreported : (ℕ → Listed → List ℕ) → Device → Device → Device → Device → CommandFault → Type 0
+IsUnreported text source rest old new CannotRead = (input : List ℕ) × (envelopes : List Listed) × (begun : List ℕ) × (fault : IoFault)
+    × Divides limits input envelopes begun × IsOpen limits begun × MissedAfter source rest input fault × Wrote old new (texts_from text 1 envelopes)
+IsUnreported text source rest old new CannotWrite = (input : List ℕ) × (envelopes : List Listed) × (begun : List ℕ) × (words : List ℕ) × (n : ℕ)
+    × Divides limits input envelopes begun × HasGiven source rest input × IsReport text envelopes begun words × Stopped old new words n
+IsUnreported text source rest old new OutOfMemory = (input : List ℕ) × (envelopes : List Listed) × (begun : List ℕ)
+    × Divides limits input envelopes begun × HasGiven source rest input × Wrote old new (texts_from text 1 envelopes)
 
 -- The text is out, and the status is the wanted one; or the device broke inside it, and the status is 3.
 abbrev pub IsTold : Device → Device → List ℕ → ℕ → ℕ → Type 0

@@ -5,7 +5,8 @@ use Rattle.iim_script.specs.Format.Scripts.{max_script}
 use Rattle.iim_script.specs.declared.fault.ScriptCause.{ScriptCause}
 use Rattle.iim_script.specs.declared.fault.ScriptCause.TheVariants.{OutOfMemory}
 use Rattle.iim_unpack.specs.Format.Admitted.{Value}
-use Rattle.iim_commands.specs.Format.Listings.{Envelope, IsListed, limits}
+use Rattle.iim_commands.specs.Format.Listings.{limits}
+use Rattle.iim_unpack.specs.Format.Listing.{Listed, IsListed}
 use Rattle.iim_commands.specs.Format.Narration.{story_of}
 use Rattle.iim_commands.specs.Format.Packing.{ScriptContent, IsScriptOf}
 use Rattle.iim_commands.specs.Format.Texts.{number_line, sizes_line, shown_of}
@@ -23,5 +24,5 @@ pub record TellsJust (script : List ℕ) (t : ScriptContent) : Type 0 where
 -- What `show` prints of an envelope is its first line, other lines, and the line of its sizes. The other lines, the line `text`, and
 -- what `story` prints of the envelope are a script that tells just its values, where they are not too long for one.
 abbrev pub ShownEnvelopesAreScripts : Type 0
-ShownEnvelopesAreScripts = (number : ℕ) (e : Envelope) → IsListed e → (lines : List ℕ) × (shown_of number e ≡ number_line number ++ (lines ++ sizes_line e.value.sizes))
+ShownEnvelopesAreScripts = (number : ℕ) (e : Listed) → IsListed limits e → (lines : List ℕ) × (shown_of number e ≡ number_line number ++ (lines ++ sizes_line e.value.sizes))
     × (length (lines ++ (codes "text\n" ++ story_of number e)) ≤ max_script → TellsJust (lines ++ (codes "text\n" ++ story_of number e)) (told_of e.value))

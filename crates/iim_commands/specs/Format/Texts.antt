@@ -5,7 +5,7 @@ use Rattle.iim_object.specs.declared.size.Sizes.{Sizes}
 use Rattle.iim_unpack.specs.Format.Admitted.{Value}
 use Rattle.iim_script.specs.Format.Printed.{field_line, message_line, trailer_line}
 use Rattle.iim_audit.specs.Format.Texts.{number_or_dash}
-use Rattle.iim_commands.specs.Format.Listings.{Envelope}
+use Rattle.iim_unpack.specs.Format.Listing.{Listed}
 
 -- the first line
 abbrev pub number_line : ℕ → List ℕ
@@ -27,5 +27,5 @@ abbrev pub shown_text : ℕ → Value → List ℕ
 shown_text number v =
     number_line number ++ (flat_map field_line v.fields ++ (message_line v.head ++ (trailer_line v.trailer ++ sizes_line v.sizes)))
 
-abbrev pub shown_of : ℕ → Envelope → List ℕ
+abbrev pub shown_of : ℕ → Listed → List ℕ
 shown_of number e = shown_text number e.value

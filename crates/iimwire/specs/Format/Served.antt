@@ -1,11 +1,11 @@
 -- What the program leaves.
 use Rattle.std.specs.Prelude.{◌≡◌, ℕ, List, Result, Ok, Err}
 use Rattle.iim_dataset.specs.Format.Devices.{Device}
-use Rattle.iimwire.specs.declared.request.Request.{Request}
+use Rattle.iim_commands.specs.declared.request.Request.{Request}
 use Rattle.iimwire.specs.declared.start.RunFault.{RunFault}
 use Rattle.iim_unpack.specs.Format.Blocks.{with_held}
 use Rattle.iim_commands.specs.Format.Devices.{devices}
-use Rattle.iimwire.specs.Format.Outcomes.{Ran}
+use Rattle.iim_commands.specs.Format.Outcomes.{Ran}
 use Rattle.iimwire.specs.Format.Starts.{IsHindered}
 
 -- The request was carried out, the reader having come to a value to which it leads, of whose octets some were read and not used;

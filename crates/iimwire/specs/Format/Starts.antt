@@ -1,8 +1,8 @@
 -- Why a run can't begin, and what is left of it then.
 use Rattle.std.specs.Prelude.{◌≡◌, ℕ, ◌⊎◌, ⊤, List, ◌++◌, codes}
 use Rattle.iim_dataset.specs.Format.Devices.{Device}
-use Rattle.iimwire.specs.declared.request.UsageFault.{UsageFault}
-use Rattle.iimwire.specs.declared.request.UsageFault.TheVariants as usage
+use Rattle.iim_commands.specs.declared.request.UsageFault.{UsageFault}
+use Rattle.iim_commands.specs.declared.request.UsageFault.TheVariants as usage
 use Rattle.iimwire.specs.declared.start.RunFault.{RunFault}
 use Rattle.iimwire.specs.declared.start.RunFault.TheVariants.{Usage, NoText, CannotOpen, OutOfMemory}
 use Rattle.iim_commands.specs.Format.Reports.{IsTold}

@@ -1,17 +1,25 @@
-use Rattle.std.proofs.Common.{◌≡◌, None, Option, [], length, ap, sym, subst, arith, List, Result, Ok, ◌+◌, IsErrAnd}
+use Rattle.std.proofs.Common.{◌≡◌, ◌∙◌, ℕ, None, Some, Option, [], length, ap, sym, subst, arith, refl, List, Result, Ok, ◌+◌, IsErrAnd}
 use Rattle.iim_dataset.specs.Format.Devices.{Device}
 use Rattle.iim_unpack.specs.Format.Intakes.{line}
+use Rattle.iim_unpack.specs.declared.intake.Intake.{Intake}
 use Rattle.iim_audit.specs.Format.Auditing.{IsAudited}
 use Rattle.iim_audit.specs.Taking.{TookEnvelope}
 use Rattle.iim_audit.specs.declared.row.AuditRow.{AuditRow}
 use Rattle.iim_audit.specs.declared.row.Taken.{Taken}
-use Rattle.iim_audit.proofs.Reading.{come_none, audited, fails, one_too_many, short_after, read_one}
+use Rattle.iim_audit.proofs.Reading.{come_none, audited, fails, one_too_many, short_after, read_one, told_again}
 use Rattle.iim_audit.proofs.auditing.audit.Goals as goal
 
 never : {T E : Type 0} (r : Result T E) (x : T) (P : E → Type 0) → r ≡ Ok x → IsErrAnd r P → ⊥
 never {T} {E} r x P is err =
     let Q : Result T E → Type 0 = λ s. IsErrAnd s P in
     subst Q is err
+
+-- after a fault the intake is what it was
+still : {R : Type 0} (old now : Intake R) (octet : ℕ) → now ≡ old → old.failed ≡ Some octet → now.failed ≡ Some octet
+still old now octet same failed = ap (λ (i : Intake _). i.failed) same ∙ failed
+
+left_as : {R : Type 0} (old now new : Intake R) → now ≡ old → new ≡ record now { octets = new.octets } → new ≡ record old { octets = new.octets }
+left_as old now new same left = subst (λ (i : Intake _). new ≡ record i { octets = new.octets }) same left
 
 pub envelopes-init : goal.envelopes-init
 envelopes-init g c =
@@ -25,9 +33,11 @@ envelopes-init g c =
           come = come_none c.args.limits here c.gifts_join.ensures;
           keeps = c.new-ledger.ensures.keeps c.args.now.nanosecond;
           lives = alive;
+          tells = refl;
         };
-        again = λ octet e. (e, none);
+        again = λ octet e. none;
       };
+      as_it_was = λ octet e. refl;
       leads = g.met.R.Source.stays c.args.intake.now.reader;
     }
 
@@ -39,18 +49,20 @@ returns-in-Ok-None-clause-audited g c = λ alive.
     let old : Device = line st c.args.intake.now in
     let mid : Device = line st c.envelopes.intake in
     let new : Device = line st c.take_envelope.new.intake in
-    let P : Option Taken → Type 0 = λ found. TookEnvelope c.args.limits mid new found in
-    let took : TookEnvelope c.args.limits mid new None = subst P c.in-Ok-None.field-0-is (c.in-Ok-None.ensures.took read.lives) in
+    let used = c.take_envelope.new.intake.octets in
+    let P : Option Taken → Type 0 = λ found. TookEnvelope c.args.limits mid new used found in
+    let took : TookEnvelope c.args.limits mid new used None = subst P c.in-Ok-None.field-0-is (c.in-Ok-None.ensures.took read.lives) in
     let Q = λ (rows : List AuditRow). IsAudited c.args.limits now old new rows in
     subst Q (sym c.into_report.ensures)
-    (audited c.args.limits now old mid new c.envelopes.ledger c.envelopes.intake.failed c.gifts_join.ensures c.envelopes.invariant.auditing.few read took)
+    (audited c.args.limits now old mid new c.envelopes.ledger c.args.intake.now.octets c.envelopes.intake.failed c.envelopes.intake.octets used c.gifts_join.ensures c.envelopes.invariant.auditing.few read took)
 
 pub returns-in-Err-clause-fails : goal.returns-in-Err-clause-fails
 returns-in-Err-clause-fails g c = λ alive.
     let st = g.R.Source.state in
     let read = c.envelopes.invariant.auditing.reads alive in
     fails c.args.limits c.args.now.nanosecond (line st c.args.intake.now) (line st c.envelopes.intake) (line st c.take_envelope.new.intake)
-    c.envelopes.ledger c.envelopes.intake.failed c.next_number-number.result c.in-Err.cause c.gifts_join.ensures
+    c.envelopes.ledger c.args.intake.now.octets c.envelopes.intake.failed c.envelopes.intake.octets c.next_number-number.result
+    c.take_envelope.new.intake.failed c.take_envelope.new.intake.octets c.in-Err.cause c.gifts_join.ensures
     c.envelopes.invariant.auditing.few c.next_number-number.ensures read (c.in-Err.ensures.none read.lives)
 
 pub returns-then-number-gt-MAX_ENVELOPES-clause-fails :
@@ -60,10 +72,12 @@ returns-then-number-gt-MAX_ENVELOPES-clause-fails g c = λ alive.
     let read = c.envelopes.invariant.auditing.reads alive in
     let mid : Device = line st c.envelopes.intake in
     let new : Device = line st c.take_envelope.new.intake in
-    let P : Option Taken → Type 0 = λ found. TookEnvelope c.args.limits mid new found in
+    let used = c.take_envelope.new.intake.octets in
+    let P : Option Taken → Type 0 = λ found. TookEnvelope c.args.limits mid new used found in
     one_too_many c.args.limits c.args.now.nanosecond (line st c.args.intake.now) mid new
-    c.envelopes.ledger c.envelopes.intake.failed c.next_number-number.result c.in-Ok-Some.got c.gifts_join.ensures
-    c.envelopes.invariant.auditing.few c.next_number-number.ensures (omega arith) read
+    c.envelopes.ledger c.args.intake.now.octets c.envelopes.intake.failed c.envelopes.intake.octets c.next_number-number.result
+    c.take_envelope.new.intake.failed used c.in-Ok-Some.got c.gifts_join.ensures
+    c.envelopes.invariant.auditing.few c.next_number-number.ensures (omega arith) c.in-Ok-Some.ensures.lives read
     (subst P c.in-Ok-Some.field-0-is (c.in-Ok-Some.ensures.took read.lives))
 
 pub returns-in_default-clause-fails : goal.returns-in_default-clause-fails
@@ -72,10 +86,12 @@ returns-in_default-clause-fails g c = λ alive.
     let read = c.envelopes.invariant.auditing.reads alive in
     let mid : Device = line st c.envelopes.intake in
     let new : Device = line st c.take_envelope.new.intake in
-    let P : Option Taken → Type 0 = λ found. TookEnvelope c.args.limits mid new found in
+    let used = c.take_envelope.new.intake.octets in
+    let P : Option Taken → Type 0 = λ found. TookEnvelope c.args.limits mid new used found in
     short_after c.args.limits c.args.now.nanosecond (line st c.args.intake.now) mid new
-    c.envelopes.ledger c.envelopes.intake.failed c.next_number-number.result c.in-Ok-Some.got c.gifts_join.ensures
-    (omega arith) c.next_number-number.ensures read
+    c.envelopes.ledger c.args.intake.now.octets c.envelopes.intake.failed c.envelopes.intake.octets c.next_number-number.result
+    c.take_envelope.new.intake.failed used c.in-Ok-Some.got c.gifts_join.ensures
+    (omega arith) c.next_number-number.ensures c.in-Ok-Some.ensures.lives read
     (subst P c.in-Ok-Some.field-0-is (c.in-Ok-Some.ensures.took read.lives))
 
 pub envelopes-preserved : goal.envelopes-preserved
@@ -84,7 +100,11 @@ envelopes-preserved g c =
     let before = c.envelopes.invariant.auditing in
     let mid : Device = line st c.envelopes.intake in
     let new : Device = line st c.take_envelope.new.intake in
-    let P : Option Taken → Type 0 = λ found. TookEnvelope c.args.limits mid new found in
+    let used = c.take_envelope.new.intake.octets in
+    let P : Option Taken → Type 0 = λ found. TookEnvelope c.args.limits mid new used found in
+    let spent : (octet : ℕ) → c.args.intake.now.failed ≡ Some octet → ⊥ =
+    λ octet e. never c.take_envelope.result _ _ c.in-Ok-Some.is
+    (c.take_envelope.ensures.again octet (still c.args.intake.now c.envelopes.intake octet (c.envelopes.invariant.as_it_was octet e) e)) in
     let one : length c.enter.new.self.rows.items ≡ length c.envelopes.ledger.rows.items + 1 = c.in-Ok.ensures.one in
     record {
       auditing = record {
@@ -92,10 +112,54 @@ envelopes-preserved g c =
         reads = λ alive.
             let read = before.reads alive in
             read_one c.args.limits c.args.now.nanosecond (line st c.args.intake.now) mid new c.envelopes.ledger c.enter.new.self
-            c.envelopes.intake.failed c.take_envelope.new.intake.failed c.in-Ok-Some.got c.gifts_join.ensures
+            c.args.intake.now.octets c.envelopes.intake.failed c.envelopes.intake.octets c.take_envelope.new.intake.failed used c.in-Ok-Some.got c.gifts_join.ensures
             c.in-Ok-Some.ensures.lives c.in-Ok.ensures.keeps read (subst P c.in-Ok-Some.field-0-is (c.in-Ok-Some.ensures.took read.lives));
-        again = λ octet e. absurd (never c.take_envelope.result _ _ c.in-Ok-Some.is (c.take_envelope.ensures.again octet (before.again octet e).0));
+        again = λ octet e. absurd (spent octet e);
       };
+      as_it_was = λ octet e. absurd (spent octet e);
       leads = g.met.R.Source.leads_on c.args.intake.now.reader c.envelopes.intake.reader c.take_envelope.new.intake.reader
           c.envelopes.invariant.leads c.take_envelope.ensures.leads;
     }
+
+pub returns-in-Err-clause-again : goal.returns-in-Err-clause-again
+returns-in-Err-clause-again g c = λ octet e.
+    let same = c.envelopes.invariant.as_it_was octet e in
+    told_again octet c.args.intake.now.octets c.envelopes.intake.octets c.take_envelope.new.intake.octets (length c.envelopes.ledger.rows.items)
+    c.next_number-number.result c.in-Err.cause (ap (λ (i : Intake _). i.octets) same) (c.envelopes.invariant.auditing.again octet e)
+    c.next_number-number.ensures (c.in-Err.ensures.again octet (still c.args.intake.now c.envelopes.intake octet same e))
+
+pub returns-in-Err-clause-as_it_was : goal.returns-in-Err-clause-as_it_was
+returns-in-Err-clause-as_it_was g c = λ octet e.
+    let same = c.envelopes.invariant.as_it_was octet e in
+    left_as c.args.intake.now c.envelopes.intake c.take_envelope.new.intake same
+    (c.take_envelope.ensures.as_it_was octet (still c.args.intake.now c.envelopes.intake octet same e))
+
+pub returns-in-Ok-None-clause-again : goal.returns-in-Ok-None-clause-again
+returns-in-Ok-None-clause-again g c = λ octet e.
+    absurd (never c.take_envelope.result _ _ c.in-Ok-None.is
+    (c.take_envelope.ensures.again octet (still c.args.intake.now c.envelopes.intake octet (c.envelopes.invariant.as_it_was octet e) e)))
+
+pub returns-in-Ok-None-clause-as_it_was : goal.returns-in-Ok-None-clause-as_it_was
+returns-in-Ok-None-clause-as_it_was g c = λ octet e.
+    absurd (never c.take_envelope.result _ _ c.in-Ok-None.is
+    (c.take_envelope.ensures.again octet (still c.args.intake.now c.envelopes.intake octet (c.envelopes.invariant.as_it_was octet e) e)))
+
+pub returns-then-number-gt-MAX_ENVELOPES-clause-again : goal.returns-then-number-gt-MAX_ENVELOPES-clause-again
+returns-then-number-gt-MAX_ENVELOPES-clause-again g c = λ octet e.
+    absurd (never c.take_envelope.result _ _ c.in-Ok-Some.is
+    (c.take_envelope.ensures.again octet (still c.args.intake.now c.envelopes.intake octet (c.envelopes.invariant.as_it_was octet e) e)))
+
+pub returns-then-number-gt-MAX_ENVELOPES-clause-as_it_was : goal.returns-then-number-gt-MAX_ENVELOPES-clause-as_it_was
+returns-then-number-gt-MAX_ENVELOPES-clause-as_it_was g c = λ octet e.
+    absurd (never c.take_envelope.result _ _ c.in-Ok-Some.is
+    (c.take_envelope.ensures.again octet (still c.args.intake.now c.envelopes.intake octet (c.envelopes.invariant.as_it_was octet e) e)))
+
+pub returns-in_default-clause-again : goal.returns-in_default-clause-again
+returns-in_default-clause-again g c = λ octet e.
+    absurd (never c.take_envelope.result _ _ c.in-Ok-Some.is
+    (c.take_envelope.ensures.again octet (still c.args.intake.now c.envelopes.intake octet (c.envelopes.invariant.as_it_was octet e) e)))
+
+pub returns-in_default-clause-as_it_was : goal.returns-in_default-clause-as_it_was
+returns-in_default-clause-as_it_was g c = λ octet e.
+    absurd (never c.take_envelope.result _ _ c.in-Ok-Some.is
+    (c.take_envelope.ensures.again octet (still c.args.intake.now c.envelopes.intake octet (c.envelopes.invariant.as_it_was octet e) e)))

@@ -28,7 +28,8 @@ returns-in-Err-clause-none g c = λ alive.
     let old = line g.R.Source.state c.args.intake.now in
     let new = line g.R.Source.state c.next_envelope.new.self in
     let faults = c.in-Err.ensures.faults alive in
-    let P : AuditCause → Type 0 = λ cause. TookNone c.args.limits old new cause in
+    let left = c.next_envelope.new.self in
+    let P : AuditCause → Type 0 = λ cause. TookNone c.args.limits old new c.args.intake.now.octets left.failed left.octets cause in
     subst P (sym c.cause_of.ensures)
-    (none CountsWords (λ (sink : WordsSoFar). 0) c.args.limits old new c.in-Ok.unpacker c.new-count.result c.next_envelope.new.sink faults.0 c.in-Err.fault
-    refl refl c.in-Ok.ensures.limits c.in-Ok.ensures.stands faults.2)
+    (none CountsWords (λ (sink : WordsSoFar). 0) c.args.limits old new c.in-Ok.unpacker c.new-count.result c.next_envelope.new.sink faults.0 c.args.intake.now.octets
+    left.failed left.octets c.in-Err.fault refl refl faults.1 c.in-Err.ensures.none c.in-Ok.ensures.limits c.in-Ok.ensures.stands faults.2)

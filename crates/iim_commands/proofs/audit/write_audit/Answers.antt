@@ -26,7 +26,7 @@ returns-in_err-line-in-Err-clause-err g c =
     let rest = line g.R.Source.state c.audit.new.intake in
     let old = g.W.Target.state c.args.output.now in
     let fault = c.in_err-line-in-Err.field-0.0 in
-    let why : FailsAt limits source rest c.in-Err.fault.envelope c.in-Err.fault.cause = search rules in
+    let why : FailsAt limits source rest c.in-Err.fault.envelope c.in-Err.fault.cause = (c.in-Err.ensures.fails c.requires).0 in
     handed_on (IsUnaudited now source rest old old) c.from_residual-in_err-line-in-Err.result fault c.from_residual-in_err-line-in-Err.ensures.1
     (untold now source rest old c.in-Err.fault.envelope c.in-Err.fault.cause fault why c.in_err-line-in-Err.ensures.other)
 
@@ -38,6 +38,6 @@ returns-in_err-say-in-Err-clause-err g c =
     let old = g.W.Target.state c.args.output.now in
     let new = g.W.Target.state c.say-in-Err.new.output in
     let fault = c.in_err-say-in-Err.field-0.0 in
-    let why : FailsAt limits source rest c.in-Err.fault.envelope c.in-Err.fault.cause = search rules in
+    let why : FailsAt limits source rest c.in-Err.fault.envelope c.in-Err.fault.cause = (c.in-Err.ensures.fails c.requires).0 in
     handed_on (IsUnaudited now source rest old new) c.from_residual-in_err-say-in-Err.result fault c.from_residual-in_err-say-in-Err.ensures.1
     (unsaid now source rest old new c.as_slice-in-Err.result.now 1 fault (inr (c.in-Err.fault.envelope, c.in-Err.fault.cause, why, search rules, refl)) c.in_err-say-in-Err.ensures.err)

@@ -1,7 +1,7 @@
 use Rattle.std.proofs.Common.{rules, ◌≡◌, ◌+◌, [], refl, sym, append-nil}
 use Rattle.iim_unpack.specs.Format.Intakes.{line}
 use Rattle.iim_commands.specs.Format.Lines.{refused_line, too_many_line}
-use Rattle.iim_commands.specs.Format.Listings.{max_envelopes, Whole, RefusedBy, TooMany}
+use Rattle.iim_unpack.specs.Format.Listing.{max_envelopes, Whole, RefusedBy, TooMany}
 use Rattle.iim_commands.specs.Format.Reports.{IsUnreported}
 use Rattle.iim_commands.specs.declared.fault.CommandFault.TheVariants.{OutOfMemory}
 use Rattle.iim_commands.proofs.Reports.{discards, ends_refused, failed, heard, left_of, never_fails, none_left, reported, reported_more, starved, unended, unsaid_of}

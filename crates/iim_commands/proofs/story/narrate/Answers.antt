@@ -5,7 +5,7 @@ use Rattle.wire_story.specs.Format.Delivery.{octet_for}
 use Rattle.wire_story.specs.Format.Writing.{WritesLines, device_of, stops_of}
 use Rattle.wire_story.specs.declared.writer.LineWriter.{LineWriter}
 use Rattle.iim_commands.specs.Format.Lines.{accepted_line, refused_line, too_many_line}
-use Rattle.iim_commands.specs.Format.Listings.{max_envelopes, Whole, RefusedBy, TooMany}
+use Rattle.iim_unpack.specs.Format.Listing.{max_envelopes, Whole, RefusedBy, TooMany}
 use Rattle.iim_commands.specs.Format.Narration.{IsUnnarrated, text_of}
 use Rattle.iim_commands.specs.declared.fault.CommandFault.TheVariants.{OutOfMemory}
 use Rattle.iim_commands.proofs.Narration.{broke_in_line, broke_in_lines, front_out, narrated, narrated_more, text_out, text_refused, unended_text, unfed, unfed_for_memory}

@@ -1,0 +1,36 @@
+use Rattle.std.proofs.Common.{◌≡◌, ℕ, ℤ, Result, Ok, Err, IfOk, IfErr, ap, sym, ◌∙◌, inl, inr, subst}
+use Rattle.iim_dataset.specs.Format.Devices.{Device}
+use Rattle.iim_unpack.specs.Format.Intakes.{line}
+use Rattle.iim_commands.specs.Format.Audits.{Audited, IsUnaudited}
+use Rattle.iim_commands.specs.Format.Devices.{devices}
+use Rattle.iim_commands.specs.Format.Outcomes.{EndsRun, Reviewed}
+use Rattle.iim_commands.specs.declared.fault.CommandFault.{CommandFault}
+use Rattle.iim_commands.proofs.Runs.{with_none_held}
+use Rattle.iim_commands.proofs.run.review.Goals as goal
+
+reviewed : (now same : ℤ) (source rest old new errors_old errors_new : Device) (answer : Result ℕ CommandFault) (status : ℕ) → same ≡ now
+    → IfOk answer (Audited same source rest old new) → IfErr answer (IsUnaudited same source rest old new) → EndsRun errors_old errors_new answer status
+    → Reviewed now (devices source old errors_old) (devices rest new errors_new) status
+reviewed now same source rest old new errors_old errors_new (Ok want) status e ok err f =
+    inl (subst (λ (n : ℕ). Audited now source rest old new n) (sym f.0) (subst (λ (z : ℤ). Audited z source rest old new want) e ok), f.1)
+reviewed now same source rest old new errors_old errors_new (Err fault) status e ok err f =
+    inr (fault, subst (λ (z : ℤ). IsUnaudited z source rest old new fault) e err, f.1, f.0)
+
+pub returns : goal.returns
+returns g c =
+    let intake = c.write_audit-answer.new.intake in
+    let rest = line g.R.Source.state intake in
+    let old = g.W.Target.state c.args.output in
+    let new = g.W.Target.state c.write_audit-answer.new.output in
+    let now = c.timestamp.result.nanosecond in
+    let start : line g.R.Source.state c.new-intake.result ≡ g.R.Source.state c.args.reader =
+    with_none_held c.new-intake.result.block (g.R.Source.state c.new-intake.result.reader) c.new-intake.ensures.block ∙ ap g.R.Source.state c.new-intake.ensures.reader in (
+      intake.reader,
+      intake.block,
+      subst (λ (r : g.row.R.Denot). g.R.Source.leads r intake.reader) c.new-intake.ensures.reader c.write_audit-answer.ensures.leads,
+      reviewed c.args.now.nanosecond now (g.R.Source.state c.args.reader) rest old new (g.E.Target.state c.args.errors) (g.E.Target.state c.finish-status.new.errors) c.write_audit-answer.result c.finish-status.result
+          c.timestamp.ensures
+          (subst (λ (d : Device). IfOk c.write_audit-answer.result (Audited now d rest old new)) start c.write_audit-answer.ensures.ok)
+          (subst (λ (d : Device). IfErr c.write_audit-answer.result (IsUnaudited now d rest old new)) start c.write_audit-answer.ensures.err)
+          c.finish-status.ensures,
+    )

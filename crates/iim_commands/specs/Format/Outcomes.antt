@@ -1,0 +1,53 @@
+-- What a run leaves.
+use Rattle.std.specs.Prelude.{◌≡◌, ℕ, ℤ, ◌⊎◌, List, Result, Ok, Err}
+use Rattle.iim_dataset.specs.Format.Devices.{Device, Wrote, Stopped}
+use Rattle.iim_commands.specs.declared.request.Job.{Job}
+use Rattle.iim_commands.specs.declared.request.Job.TheVariants.{Check, Show, Story, Pack, Audit}
+use Rattle.iim_commands.specs.declared.fault.CommandFault.{CommandFault}
+use Rattle.iim_commands.specs.Format.Audits.{Audited, IsUnaudited}
+use Rattle.iim_commands.specs.Format.Devices.{Devices}
+use Rattle.iim_unpack.specs.Format.Listing.{Listed}
+use Rattle.iim_commands.specs.Format.Lines.{fault_line, line_of}
+use Rattle.iim_commands.specs.Format.Narration.{IsUnnarrated, Narrated}
+use Rattle.iim_commands.specs.Format.Packing.{Answered, Asked, IsUnanswered, asked}
+use Rattle.iim_commands.specs.Format.Reports.{Reported, IsUnreported}
+use Rattle.iim_commands.specs.Format.Texts.{shown_of}
+
+-- The line of the fault is out, or the device broke inside it.
+abbrev pub Complained : Device → Device → CommandFault → Type 0
+Complained old new fault = Wrote old new (fault_line fault) ⊎ ((n : ℕ) × Stopped old new (fault_line fault) n)
+
+-- A run ends with its answer: with the status, or with the fault, which is told, and status 3. (The errors before and after.)
+abbrev pub EndsRun : Device → Device → Result ℕ CommandFault → ℕ → Type 0
+EndsRun old new (Ok want) status = (status ≡ want) × (new ≡ old)
+EndsRun old new (Err fault) status = (status ≡ 3) × Complained old new fault
+
+-- The input was reported, without a word on the errors; or a fault came and was told there, and the status is 3.
+abbrev pub EndsReport : (ℕ → Listed → List ℕ) → Devices → Devices → ℕ → Type 0
+EndsReport text old new status = (Reported text old.input new.input old.output new.output status × (new.errors ≡ old.errors))
+    ⊎ ((fault : CommandFault) × IsUnreported text old.input new.input old.output new.output fault × Complained old.errors new.errors fault × (status ≡ 3))
+
+-- The stories of the input were told, with the lines of `check` on the errors; or a fault came and was told there after them, and the
+-- status is 3.
+abbrev pub ToldAsStory : Devices → Devices → ℕ → Type 0
+ToldAsStory old new status = Narrated old.input new.input old.output new.output old.errors new.errors status
+    ⊎ ((fault : CommandFault) × (errors : Device) × IsUnnarrated old.input new.input old.output new.output old.errors errors fault
+    × Complained errors new.errors fault × (status ≡ 3))
+
+-- The audit of the input was reported, without a word on the errors; or a fault came and was told there, and the status is 3.
+abbrev pub Reviewed : ℤ → Devices → Devices → ℕ → Type 0
+Reviewed now old new status = (Audited now old.input new.input old.output new.output status × (new.errors ≡ old.errors))
+    ⊎ ((fault : CommandFault) × IsUnaudited now old.input new.input old.output new.output fault × Complained old.errors new.errors fault × (status ≡ 3))
+
+-- The script was answered; or a fault came and was told on the errors, and the status is 3.
+abbrev pub EndsPacking : Asked → Devices → Devices → ℕ → Type 0
+EndsPacking asked old new status = Answered asked old new status
+    ⊎ ((fault : CommandFault) × IsUnanswered asked old new fault × Complained old.errors new.errors fault × (status ≡ 3))
+
+-- What each job leaves.
+abbrev pub Ran : Job → Devices → Devices → ℕ → Type 0
+Ran Check old new status = EndsReport line_of old new status
+Ran Show old new status = EndsReport shown_of old new status
+Ran Story old new status = ToldAsStory old new status
+Ran (Pack request) old new status = EndsPacking (asked request.subfile request.unknown request.max) old new status
+Ran (Audit now) old new status = Reviewed now.nanosecond old new status

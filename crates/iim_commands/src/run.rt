@@ -1,0 +1,131 @@
+//! Does what a request asks for.
+
+ghost use Rattle.std.specs.Prelude.{◌≡◌, ℕ, List};
+ghost use Rattle.iim_unpack.specs.Format.Blocks.{with_held};
+ghost use Rattle.iim_commands.specs.Format.Outcomes.{Complained, EndsRun, EndsReport, EndsPacking, Ran, Reviewed, ToldAsStory};
+ghost use Rattle.iim_commands.specs.Format.Packing.{asked};
+ghost use Rattle.iim_commands.specs.Format.Devices.{devices};
+
+use crate::audit::write_audit;
+use crate::check::Check;
+use crate::fault::CommandFault;
+use crate::instant::Instant;
+use crate::list::{EnvelopeReport, list};
+use crate::packing::{PackRequest, pack_script};
+use crate::request::{Job, Request};
+use crate::show::Show;
+use crate::status::FAILED;
+use crate::story::narrate;
+use iim_dataset::{Source, Target, put};
+use iim_unpack::Intake;
+use std::alloc::Global;
+use wire_story::LineWriter;
+
+/// Tells a fault. The status is the same whether the line of it could be written or not.
+fn complain<E: Target>(errors: &mut E, fault: CommandFault) -> u8
+    ensures status { result ≡ 3 }
+    ensures told { Complained (E.state errors.old) (E.state errors.new) fault }
+{
+    let _ = put(errors, fault.line().as_bytes());
+    FAILED
+}
+
+/// Ends a run with its answer: the status, after a fault was told.
+fn finish<E: Target>(errors: &mut E, answer: Result<u8, CommandFault>) -> u8
+    ensures { EndsRun (E.state errors.old) (E.state errors.new) answer result }
+{
+    match answer {
+        Ok(status) => status,
+        Err(fault) => complain(errors, fault),
+    }
+}
+
+/// Reports the envelopes of a reader: the status, and both writers.
+fn report<P: EnvelopeReport, R: Source + Drop, W: Target, E: Target>(
+    alloc: Global,
+    texts: &P,
+    reader: R,
+    output: W,
+    errors: E,
+) -> (u8, W, E)
+    ensures { (last : R) × (held : List ℕ) × R.leads reader last × EndsReport P.written (devices (R.state reader) (W.state output) (E.state errors)) (devices (with_held held (R.state last)) (W.state result.1) (E.state result.2)) result.0 }
+{
+    let mut intake = Intake::new(reader);
+    let mut output = output;
+    let mut errors = errors;
+    let answer = list(alloc, texts, &mut intake, &mut output);
+    let status = finish(&mut errors, answer);
+    (status, output, errors)
+}
+
+/// Tells the stories of a reader: the status, and both writers.
+fn tell<R: Source + Drop, W: Target, E: Target>(
+    alloc: Global,
+    reader: R,
+    output: W,
+    errors: E,
+) -> (u8, W, E)
+    ensures { (last : R) × (held : List ℕ) × R.leads reader last × ToldAsStory (devices (R.state reader) (W.state output) (E.state errors)) (devices (with_held held (R.state last)) (W.state result.1) (E.state result.2)) result.0 }
+{
+    let mut intake = Intake::new(reader);
+    let mut lines = LineWriter::new(output);
+    let mut errors = errors;
+    let answer = narrate(alloc, &mut intake, &mut lines, &mut errors);
+    let status = finish(&mut errors, answer);
+    (status, lines.into_writer(), errors)
+}
+
+/// Reports the audit of a reader: the status, and both writers.
+fn review<R: Source + Drop, W: Target, E: Target>(
+    alloc: Global,
+    now: Instant,
+    reader: R,
+    output: W,
+    errors: E,
+) -> (u8, W, E)
+    ensures { (last : R) × (held : List ℕ) × R.leads reader last × Reviewed now.nanosecond (devices (R.state reader) (W.state output) (E.state errors)) (devices (with_held held (R.state last)) (W.state result.1) (E.state result.2)) result.0 }
+{
+    let mut intake = Intake::new(reader);
+    let mut output = output;
+    let mut errors = errors;
+    let answer = write_audit(alloc, now.timestamp(), &mut intake, &mut output);
+    let status = finish(&mut errors, answer);
+    (status, output, errors)
+}
+
+/// Packs the envelope of a reader's script: the status, and both writers.
+fn pack<R: Source + Drop, W: Target, E: Target>(
+    alloc: Global,
+    request: PackRequest,
+    reader: R,
+    output: W,
+    errors: E,
+) -> (u8, W, E)
+    ensures { (last : R) × R.leads reader last × EndsPacking (asked request.subfile request.unknown request.max) (devices (R.state reader) (W.state output) (E.state errors)) (devices (R.state last) (W.state result.1) (E.state result.2)) result.0 }
+{
+    let mut reader = reader;
+    let mut errors = errors;
+    let (answer, output) = pack_script(alloc, request, &mut reader, output, &mut errors);
+    let status = finish(&mut errors, answer);
+    (status, output, errors)
+}
+
+/// Does what a request asks for: the status, and both writers.
+pub fn run<R: Source + Drop, W: Target, E: Target>(
+    alloc: Global,
+    request: Request<'_>,
+    reader: R,
+    output: W,
+    errors: E,
+) -> (u8, W, E)
+    // The reader came to `last`, of whose octets some were read and not used.
+    ensures { (last : R) × (held : List ℕ) × R.leads reader last × Ran request.entry.job (devices (R.state reader) (W.state output) (E.state errors)) (devices (with_held held (R.state last)) (W.state result.1) (E.state result.2)) result.0 }
+{
+    match request.job {
+        Job::Check => report(alloc, &Check, reader, output, errors),
+        Job::Show => report(alloc, &Show, reader, output, errors),
+        Job::Story => tell(alloc, reader, output, errors),
+        Job::Pack(request) => pack(alloc, request, reader, output, errors),
+        Job::Audit { now } => review(alloc, now, reader, output, errors),
+    }
+}
