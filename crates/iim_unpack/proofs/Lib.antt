@@ -59,3 +59,4 @@ pub mod SmallSections
 pub mod SmallPlaces
 pub mod WerePossible
 pub mod PresentScale
+mod Wholes
