@@ -13,3 +13,4 @@ pub mod Lives
 pub mod OneOctet
 pub mod Reached
 pub mod Counts
+pub mod Wholes

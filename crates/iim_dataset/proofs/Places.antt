@@ -209,6 +209,16 @@ data_end h left ys o all octets events l =
       keeps = refl;
     }
 
+-- a whole dataset
+pub whole_on : (tag xs : List ℕ) (h : Head) → SpellsTag count_octets h tag → Octets xs → h.count ≡ length xs → Brings between (tag ++ xs) (HeadRead h ∷ (map DataOctet xs ++ DatasetEnd ∷ [])) between
+whole_on tag [] h s o all octets events l =
+    subst (λ (zs : List ℕ). LeadsTo count_octets (octets ++ zs) (events ++ (HeadRead h ∷ DatasetEnd ∷ [])) between) (sym (append-nil tag)) (empty_on (record { items = [] }) tag h s all octets events l)
+whole_on tag (x ∷ xs) h s o all octets events l =
+    let m = head_on (record { items = [] }) tag h s (omega (arith, all)) octets events l in
+    let n = data_end h h.count (x ∷ xs) o (sym all) (octets ++ tag) (events ++ HeadRead h ∷ []) m in
+    subst (λ (zs : List ℕ). LeadsTo count_octets zs (events ++ (HeadRead h ∷ (map DataOctet (x ∷ xs) ++ DatasetEnd ∷ []))) between) (append_assoc octets tag (x ∷ xs))
+    (subst (λ (es : List DatasetEvent). LeadsTo count_octets ((octets ++ tag) ++ (x ∷ xs)) es between) (append_assoc events (HeadRead h ∷ []) (map DataOctet (x ∷ xs) ++ DatasetEnd ∷ [])) n)
+
 -- one octet of data, and what it completes
 pub octet_on : (h : Head) (left b : ℕ) → b < 256 → 0 < left → (later : List DatasetEvent) × (next : DatasetPlace) × Brings (Inside h left) (b ∷ []) (DataOctet b ∷ later) next
 octet_on h left b o some = elim (cases_lt 1 left) [

@@ -1,5 +1,8 @@
 -- What a front of octets leads to.
-use Rattle.std.specs.Prelude.{ℕ, ◌<◌, ◌≤◌, List, length, take, Option, ◌≡◌}
+use Rattle.std.specs.Prelude.{ℕ, ◌<◌, ◌≤◌, List, ◌++◌, length, take, Option, ◌≡◌}
+use Rattle.iim_dataset.specs.Format.Octets.{Octets}
+use Rattle.iim_dataset.specs.Format.Datasets.{SpellsTag, count_octets}
+use Rattle.iim_dataset.specs.declared.head.Head.{Head}
 use Rattle.iim_dataset.specs.Format.Events.{DatasetEvent}
 use Rattle.iim_dataset.specs.Format.Places.{IsPlace, TellsSink, between, to_come}
 use Rattle.iim_dataset.specs.declared.front.Front.{Front}
@@ -19,3 +22,13 @@ pub record TakesFront {D : Type 0} (goes : D → List DatasetEvent → D → Typ
   pub within : front.used ≤ length rest
   pub told : TellsSink goes old (take front.used rest) front.place a b
   pub onward : TakesOnward stands ends front.step front.place b
+
+-- The first `used` octets are a tag of this head, and then these data, all of them.
+pub record WholeFront (rest : List ℕ) (h : Head) (xs : List ℕ) (used : ℕ) : Type 0 where
+  pub tag : List ℕ
+  pub spells : SpellsTag count_octets h tag
+  pub octets : Octets xs
+  pub count : h.count ≡ length xs
+  pub some : 0 < used
+  pub within : used ≤ length rest
+  pub parts : take used rest ≡ tag ++ xs

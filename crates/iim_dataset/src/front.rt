@@ -1,16 +1,16 @@
 //! How octets are read from a place on: by whole tags, and by the longest runs that lie in one dataset.
 
-ghost use Rattle.std.specs.Prelude.{◌≡◌, ◌<◌, length, Some, None, IfOk, IfErr, OnOk, OnErr};
+ghost use Rattle.std.specs.Prelude.{◌≡◌, ◌<◌, ◌≤◌, [], length, take, Some, None, IfSome, IfOk, IfErr, OnOk, OnErr};
 ghost use Rattle.iim_dataset.specs.Format.Datasets.{count_octets};
 ghost use Rattle.iim_dataset.specs.Format.Tags.{BeginsTag};
-ghost use Rattle.iim_dataset.specs.Format.Places.{IsPlace, between, to_come};
+ghost use Rattle.iim_dataset.specs.Format.Places.{IsPlace, TellsSink, between, to_come};
 ghost use Rattle.iim_dataset.specs.Fronts.{TakesOnward};
-ghost use Rattle.iim_dataset.specs.Fronts.{TakesFront};
+ghost use Rattle.iim_dataset.specs.Fronts.{TakesFront, WholeFront};
 ghost use Rattle.iim_dataset.specs.Format.Reading.{TakesPiece, RefusesOne};
 ghost use Rattle.iim_dataset.specs.Completing.{StopsAmong, head_events, place_after_head};
 
 use crate::fault::{Fault, FaultCause, tag_fault};
-use crate::head::Head;
+use crate::head::{Head, read_head};
 use crate::place::{DatasetPlace, HELD_OCTETS, lengthen, read_tag};
 use crate::sink::{DatasetSink, Step};
 use crate::stop::Stop;
@@ -150,6 +150,63 @@ fn take_data<D: DatasetSink>(
     }
 }
 
+/// The dataset that lies at the front whole: its head, its data, and how many octets it has.
+#[inline(always)]
+fn whole_dataset(rest: &[u8]) -> Option<(Head, &[u8], usize)>
+    ensures { IfSome result (λ front. WholeFront rest.now front.0 front.1.now front.2) }
+{
+    match read_head(rest) {
+        Ok(Some((head, length))) => {
+            let (tag, after) = rest.split_at(length);
+            if (after.len() as u64) < head.count {
+                return None;
+            }
+            let (data, _) = after.split_at(head.count as usize);
+            Some((head, data, tag.len() + data.len()))
+        }
+        _ => None,
+    }
+}
+
+/// Takes whole datasets at the front, as long as the sink takes them at once, and answers how many octets they have.
+#[inline(always)]
+fn take_wholes<D: DatasetSink>(rest: &[u8], sink: &mut D) -> usize
+    requires stands { D.stands sink.old None }
+    ensures within { result ≤ length rest.now }
+    ensures told { TellsSink D.goes between (take result rest.now) between sink.old sink.new }
+    ensures stands { D.stands sink.new None }
+    ensures none { result ≡ 0 → sink.new ≡ sink.old }
+{
+    let mut at = 0;
+    while let Some((head, data, used)) = whole_dataset(&rest[at..]) {
+        if !sink.whole(head, data) {
+            return at;
+        }
+        at += used;
+    }
+    at
+}
+
+/// Takes whole datasets where no tag is begun, as long as the sink takes them at once, and answers how many octets they have.
+#[inline(always)]
+fn take_wholes_after<D: DatasetSink>(
+    held: &ArrayVec<u8, HELD_OCTETS>,
+    rest: &[u8],
+    sink: &mut D,
+) -> usize
+    requires stands { D.stands sink.old None }
+    ensures within { result ≤ length rest.now }
+    ensures between { 0 < result → held.now.items ≡ [] }
+    ensures told { 0 < result → TellsSink D.goes between (take result rest.now) between sink.old sink.new }
+    ensures stands { D.stands sink.new None }
+    ensures none { result ≡ 0 → sink.new ≡ sink.old }
+{
+    if !held.is_empty() || !sink.wants_whole() {
+        return 0;
+    }
+    take_wholes(rest, sink)
+}
+
 /// Takes a front of the octets that are left, the longest that lies in one tag, or in the data of one dataset.
 fn take_front<D: DatasetSink>(
     place: DatasetPlace,
@@ -163,7 +220,17 @@ fn take_front<D: DatasetSink>(
     ensures refused { IfErr result (λ given. RefusesOne D.goes D.stops D.stands place rest.now given.fault given.place sink.old sink.new) }
 {
     match place {
-        DatasetPlace::Tag(held) => take_tag(held, rest, sink),
+        DatasetPlace::Tag(held) => {
+            let used = take_wholes_after(&held, rest, sink);
+            if used > 0 {
+                return Ok(Front {
+                    place: start(),
+                    step: Step::More,
+                    used,
+                });
+            }
+            take_tag(held, rest, sink)
+        }
         DatasetPlace::Inside { head, left } => take_data(head, left, rest, sink),
     }
 }

@@ -1,6 +1,6 @@
 //! Where datasets go.
 
-ghost use Rattle.std.specs.Prelude.{◌≡◌, ◌-◌, ◌<◌, ◌≤◌, ◌++◌, [], ◌∷◌, List, ℕ, length, map, take, slice_index, Option, Some, None, IfOk, IfErr, OnOk, OnErr};
+ghost use Rattle.std.specs.Prelude.{◌≡◌, false, IsTrue, ◌-◌, ◌<◌, ◌≤◌, ◌++◌, [], ◌∷◌, List, ℕ, length, map, take, slice_index, Option, Some, None, IfOk, IfErr, OnOk, OnErr};
 ghost use Rattle.iim_dataset.specs.Format.Events.{DatasetEvent, HeadRead, DataOctet, DatasetEnd};
 ghost use Rattle.iim_dataset.specs.Format.Reading.{AfterStep};
 
@@ -37,6 +37,24 @@ pub trait DatasetSink {
         ensures stands { OnOk result (stands self.new (Some head.count)) }
         ensures refused { IfErr result (λ stop. stop.taken ≡ 0) }
         ensures stopped { OnErr result (stops self.old [] (HeadRead head) self.new) };
+
+    /// Whether it may take the next dataset whole: a hint.
+    fn wants_whole(&self) -> bool {
+        false
+    }
+
+    /// Takes a whole dataset: its head, its data and its end; or answers that it has taken nothing, as a sink always may.
+    fn whole(&mut self, head: Head, octets: &[u8]) -> bool
+        requires stands { stands self.old None }
+        requires count { head.count ≡ length octets.now }
+        ensures took { IsTrue result → goes self.old (HeadRead head ∷ (map DataOctet octets.now ++ DatasetEnd ∷ [])) self.new }
+        ensures stands { stands self.new None }
+        ensures left { result ≡ false → self.new ≡ self.old }
+    {
+        let _ = head;
+        let _ = octets;
+        false
+    }
 
     /// Takes octets of the data, or only those before the one that it refuses.
     fn run(&mut self, run: &[u8]) -> Result<(), Stop>

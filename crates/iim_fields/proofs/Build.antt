@@ -19,7 +19,7 @@ use Rattle.iim_fields.proofs.Stand.{fields_held, entries_append, joined_more, ke
 use Rattle.iim_fields.proofs.Dies.{head_no_fault, value_no_fault}
 
 -- the fault of a dataset whose record is kept
-add_fault_of : (limits : Limits) (ds : List Dataset) (d : Dataset) → is_kept d.rec ≡ true → add_fault limits ds d ≡ option_or (option_or (record_fault ds (head_of d)) (limits_fault limits ds (head_of d))) (value_fault d)
+pub add_fault_of : (limits : Limits) (ds : List Dataset) (d : Dataset) → is_kept d.rec ≡ true → add_fault limits ds d ≡ option_or (option_or (record_fault ds (head_of d)) (limits_fault limits ds (head_of d))) (value_fault d)
 add_fault_of limits ds d is = ap (λ (b : Bool). cond (not b) (Some (fault_on (head_of d) RecordOrder)) (option_or (first_fault limits ds (head_of d)) (value_fault d))) is
 
 -- a fault of the head in the record layer

@@ -16,3 +16,4 @@ pub mod Build
 pub mod Finish
 pub mod Keeping
 pub mod OnePlace
+pub mod Wholes

@@ -1,6 +1,6 @@
 //! The record layer alone: the heads and values of an envelope's datasets, one by one.
 
-ghost use Rattle.std.specs.Prelude.{◌≡◌, ◌≢◌, List, [], ◌∷◌, ◌++◌, length, Option, is_none, Some, None, IsSome, IfOk, IfErr, OnOk, OnErr, ◌↔◌, IsTrue};
+ghost use Rattle.std.specs.Prelude.{◌≡◌, ◌≢◌, false, List, [], ◌∷◌, ◌++◌, length, Option, is_none, Some, None, IsSome, IfOk, IfErr, OnOk, OnErr, ◌↔◌, IsTrue};
 ghost use Rattle.std.specs.Option.{ForSome};
 ghost use Rattle.iim_dataset.specs.Format.Datasets.{Dataset};
 ghost use Rattle.iim_dataset.specs.declared.head.Head.{Head as HeadValue};
@@ -8,7 +8,7 @@ ghost use Rattle.iim_fields.specs.Format.Faults.{present_record};
 ghost use Rattle.iim_fields.specs.Orders.{AddsHead};
 ghost use Rattle.iim_fields.specs.Format.Values.{number_told, data_of};
 ghost use Rattle.iim_fields.specs.Format.Checks.{begun_head, present_at, TakesHead, TakesValue, IsBetween, IsIn, HasChecked, IsChecking, HasTaken, IsRecordFault, IsValueFault, HasEnded};
-ghost use Rattle.iim_fields.specs.Checking.{missing_at, IsRecordPlace};
+ghost use Rattle.iim_fields.specs.Checking.{missing_at, place_fault, record_layer_fault, IsRecordPlace, TakesWhole, TookWhole};
 ghost use Rattle.iim_fields.specs.declared.check.RecordPlace.{RecordPlace as PlaceValue};
 
 use crate::fault::FieldFault;
@@ -47,6 +47,24 @@ impl RecordPlace {
             order: self.order.copied(),
             begun: self.begun,
         }
+    }
+
+    /// Takes a whole dataset that may stand next, where none is begun; or changes nothing.
+    #[inline(always)]
+    fn whole(&mut self, head: Head, octets: &[u8]) -> bool
+        requires { head.count ≡ length octets.now }
+        ensures exactly { result ≡ is_none (place_fault self.old head octets.now) }
+        ensures took { IsTrue result → TakesWhole self.old head octets.now self.new }
+        ensures left { result ≡ false → self.new ≡ self.old }
+    {
+        let Ok(row) = self.order.check(head) else {
+            return false;
+        };
+        if check_value(head, &row, octets).is_err() {
+            return false;
+        }
+        self.order.take(head);
+        true
     }
 
     /// Takes a head that may stand next, which has this row.
@@ -166,6 +184,26 @@ impl RecordCheck {
                     Err(fault)
                 }
             },
+            None => unreachable!(),
+        }
+    }
+
+    /// Takes a whole dataset, which is no subfile; or changes nothing where it may not come.
+    #[inline(always)]
+    pub(crate) fn whole(&mut self, head: Head, octets: &[u8]) -> bool
+        requires between { IsBetween self.old }
+        requires value { head.rec ≢ 8 }
+        requires count { head.count ≡ length octets.now }
+        ensures exactly { (ds : List Dataset) → HasChecked self.old ds
+            → result ≡ is_none (record_layer_fault ds (data_of head octets.now)) }
+        ensures took { IsTrue result → TookWhole self.old self.new head octets.now }
+        ensures section { IsTrue result → present_at self.new ≡ head.rec }
+        ensures between { IsBetween self.new }
+        ensures left { result ≡ false → self.new ≡ self.old }
+    {
+        each_row_has_values();
+        match &mut self.place {
+            Some(place) => place.whole(head, octets),
             None => unreachable!(),
         }
     }

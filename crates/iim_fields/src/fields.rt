@@ -1,10 +1,10 @@
 //! The records of an envelope, dataset by dataset.
 
-ghost use Rattle.std.specs.Prelude.{◌≡◌, ◌+◌, ◌-◌, ◌≤◌, ◌<◌, ℕ, List, [], ◌∷◌, ◌++◌, length, Some, None, IfOk, IfErr, OnOk, OnErr, ◌↔◌, IsTrue};
+ghost use Rattle.std.specs.Prelude.{◌≡◌, false, ◌+◌, ◌-◌, ◌≤◌, ◌<◌, ℕ, List, [], ◌∷◌, ◌++◌, length, is_none, Some, None, IfOk, IfErr, OnOk, OnErr, ◌↔◌, IsTrue};
 ghost use Rattle.iim_dataset.specs.Format.Datasets.{Dataset};
 ghost use Rattle.iim_dataset.specs.declared.head.Head.{Head as HeadValue};
 ghost use Rattle.iim_fields.specs.Format.Records.{AreSections};
-ghost use Rattle.iim_fields.specs.Format.Faults.{kept, room_fault};
+ghost use Rattle.iim_fields.specs.Format.Faults.{is_kept, kept, room_fault};
 ghost use Rattle.iim_fields.specs.Format.Checks.{IsValueFault};
 ghost use Rattle.iim_fields.specs.Format.Values.{number_told, data_of};
 
@@ -73,6 +73,7 @@ impl Fields {
     ghost use Rattle.iim_fields.specs.Format.Faults.{present_record};
     ghost use Rattle.iim_fields.specs.Format.Walks.{rest_of};
     ghost use Rattle.iim_fields.specs.Format.Standing.{limits_of, room_of, section_of, begun_head_of, room_for, IsEnough, IsFailed, IsBetween, IsInside, CanTake, CanClose, StandsAfter, StandsIn, IsHeadFault, IsOf, IsEnded};
+    ghost use Rattle.iim_fields.specs.Format.Builders.{add_fault};
     ghost use Rattle.iim_fields.specs.Stores.{store_room};
     ghost use Rattle.std.specs.Prelude.{vec_capacity};
 
@@ -194,6 +195,38 @@ impl Fields {
             return Err(fault);
         }
         Ok(())
+    }
+
+    /// Takes a whole dataset of record 1 or 2, its head and all of its data, as `begin`, `bytes` and `close` take it; or changes
+    /// nothing, and answers false: where its record is another, where its head or its value has a fault, or where it passes a
+    /// limit. Then these calls tell the fault.
+    #[inline(always)]
+    pub fn whole(&mut self, head: Head, octets: &[u8]) -> bool
+        requires between { IsBetween self.old }
+        requires count { head.count ≡ length octets.now }
+        ensures exactly { (ds : List Dataset) → StandsAfter self.old ds
+            → result ≡ is_none (add_fault (limits_of self.old) ds (data_of head octets.now)) }
+        ensures kept { IsTrue result → IsTrue (is_kept head.rec) }
+        ensures section { IsTrue result → section_of self.new ≡ head.rec }
+        ensures stands { IsTrue result → (ds : List Dataset) → StandsAfter self.old ds → StandsAfter self.new (ds ++ data_of head octets.now ∷ []) }
+        ensures between { IsBetween self.new }
+        ensures left { result ≡ false → self.new ≡ self.old }
+        ensures limits { limits_of self.new ≡ limits_of self.old }
+        ensures room { room_of self.new ≡ room_of self.old }
+    {
+        if !is_kept(head.rec) {
+            return false;
+        }
+        let kept = self.store.octets.len();
+        if room_fault(self.limits, kept, self.store.entries.len(), head).is_some() {
+            return false;
+        }
+        if !self.check.whole(head, octets) {
+            return false;
+        }
+        self.store.take(octets);
+        self.store.keep(head.rec, head.set);
+        true
     }
 
     /// Adds the next octets of the begun dataset. Call it as often as you like, up to the count of the head. Never for a

@@ -64,3 +64,4 @@ pub mod SmallPlaces
 pub mod WerePossible
 pub mod PresentScale
 pub mod Listings
+mod Wholes

@@ -1,13 +1,14 @@
 -- What is told one after another is told joined: the laws of the router.
-use Rattle.std.proofs.Common.{◌≡◌, ℕ, Bool, true, false, List, [], ◌∷◌, ◌++◌, Option, Some, None, is_some, refl, sym, ap, subst, ◌∙◌, append_assoc, append-nil}
+use Rattle.std.proofs.Common.{◌≡◌, ℕ, Bool, true, false, List, [], ◌∷◌, ◌++◌, map, Option, Some, None, is_some, refl, sym, ap, subst, ◌∙◌, append_assoc, append-nil}
 use Rattle.std.proofs.lemmas.List.Concat.{flat_map-append}
-use Rattle.iim_dataset.specs.Format.Events.{DatasetEvent, DatasetEnd}
+use Rattle.iim_dataset.specs.Format.Events.{DatasetEvent, HeadRead, DataOctet, DatasetEnd}
+use Rattle.iim_dataset.specs.declared.head.Head.{Head}
 use Rattle.iim_fields.specs.Format.Standing.{limits_of}
 use Rattle.iim_fields.specs.declared.check.RecordPlace.{RecordPlace}
 use Rattle.iim_fields.specs.declared.limits.Limits.{Limits}
 use Rattle.wire_story.specs.Format.Delivery as story
 use Rattle.iim_unpack.specs.Format.Parts.{Led, Refused, CountsFor}
-use Rattle.iim_unpack.specs.Parts.{Went, WasStopped, Closed, NotClosed}
+use Rattle.iim_unpack.specs.Parts.{Went, WentWhole, WasStopped, Closed, NotClosed}
 use Rattle.iim_unpack.specs.Routing.{Takes, HasEnded}
 use Rattle.iim_unpack.specs.Sequence.{AreInOrder}
 use Rattle.iim_unpack.specs.declared.parts.Parts.{Parts}
@@ -71,6 +72,17 @@ went_closed goes failures old new a nothing closed = record {
   told = nothing;
   calm = refl;
   leads = λ before text order led. subst (Led new (before ++ DatasetEnd ∷ [])) (sym (append-nil text)) (closed.leads before text order led);
+}
+
+-- a whole dataset, with which nothing is delivered
+pub went_whole : {S : Type 0} (goes : S → List story.StoryEvent → S → Type 0) (failures : S → ℕ) (old new : Parts) (h : Head) (xs : List ℕ) (a : S) → goes a [] a → WentWhole old h xs new
+    → Went goes failures old a (HeadRead h ∷ (map DataOctet xs ++ DatasetEnd ∷ [])) new a
+went_whole goes failures old new h xs a nothing whole = record {
+  limits = whole.limits;
+  more = [];
+  told = nothing;
+  calm = refl;
+  leads = λ before text order led. subst (Led new (before ++ (HeadRead h ∷ (map DataOctet xs ++ DatasetEnd ∷ [])))) (sym (append-nil text)) (whole.leads before text led);
 }
 
 -- the end of a dataset, of which no sink is told

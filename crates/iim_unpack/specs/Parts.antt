@@ -1,6 +1,6 @@
 -- What heads, data and ends of datasets lead the parts of an unpacker to.
-use Rattle.std.specs.Prelude.{◌≡◌, ℕ, false, List, [], ◌∷◌, ◌++◌, Option, Some, IsSome}
-use Rattle.iim_dataset.specs.Format.Events.{DatasetEvent, DatasetEnd}
+use Rattle.std.specs.Prelude.{◌≡◌, ℕ, false, List, [], ◌∷◌, ◌++◌, map, Option, Some, IsSome}
+use Rattle.iim_dataset.specs.Format.Events.{DatasetEvent, HeadRead, DataOctet, DatasetEnd}
 use Rattle.iim_dataset.specs.declared.head.Head.{Head}
 use Rattle.iim_fields.specs.Format.Standing as records
 use Rattle.wire_story.specs.Format.Delivery as story
@@ -30,6 +30,11 @@ pub record Went {S : Type 0} (goes : S → List story.StoryEvent → S → Type 
   pub told : goes a (story.delivered more) b
   pub calm : failures b ≡ failures a
   pub leads : (before : List DatasetEvent) (text : List ℕ) → AreInOrder (before ++ events) → Led old before text → Led new (before ++ events) (text ++ more)
+
+-- They took a whole dataset of this head and these data, which adds nothing to the text.
+pub record WentWhole (old : Parts) (h : Head) (xs : List ℕ) (new : Parts) : Type 0 where
+  pub limits : records.limits_of new.fields ≡ records.limits_of old.fields
+  pub leads : (before : List DatasetEvent) (text : List ℕ) → Led old before text → Led new (before ++ (HeadRead h ∷ (map DataOctet xs ++ DatasetEnd ∷ []))) text
 
 -- They ended the dataset, if its end is next in order, and no sink was told.
 pub record Closed (old new : Parts) : Type 0 where

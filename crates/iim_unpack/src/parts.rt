@@ -1,13 +1,13 @@
 //! The readers of an unpacker after that of the tags, as one.
 
-ghost use Rattle.std.specs.Prelude.{◌≡◌, ◌<◌, ◌≤◌, ◌-◌, ℕ, [], ◌∷◌, length, map, take, slice_index, Some, IsSome, IfErr, OnOk};
+ghost use Rattle.std.specs.Prelude.{◌≡◌, false, IsTrue, ◌<◌, ◌≤◌, ◌-◌, ℕ, [], ◌∷◌, length, map, take, slice_index, Some, IsSome, IfErr, OnOk};
 ghost use Rattle.iim_dataset.specs.Format.Events.{HeadRead, DataOctet};
 ghost use Rattle.iim_fields.specs.Format.Standing.{room_of, IsBetween};
 ghost use Rattle.iim_object.specs.Format.Places.{head_token, value_token};
 ghost use Rattle.iim_object.specs.Format.Reading.{LeadsOn, events_at};
 ghost use Rattle.iim_unpack.specs.Format.Refusals.{IsObjectFault};
 ghost use Rattle.iim_unpack.specs.Passed.{Passed, HasFewSubfiles, RefusesSubfile};
-ghost use Rattle.iim_unpack.specs.Parts.{TakesHead, TakesData, Went, WasStopped, Closed, NotClosed};
+ghost use Rattle.iim_unpack.specs.Parts.{TakesHead, TakesData, Went, WentWhole, WasStopped, Closed, NotClosed};
 ghost use Rattle.iim_unpack.specs.Format.Parts.{has_ended};
 ghost use Rattle.iim_unpack.specs.Format.Refusals.{too_many_on};
 
@@ -17,7 +17,7 @@ use crate::message::{pass_head, pass_octets};
 use iim_dataset::Head;
 use iim_fields::Fields;
 use iim_object::{MAX_SUBFILES, ObjectFault, ObjectReader};
-use iim_tables::records::{OBJECT, POST_OBJECT};
+use iim_tables::records::{OBJECT, POST_OBJECT, PRE_OBJECT};
 use wire_message::MessageReader;
 use wire_story::StorySink;
 
@@ -104,6 +104,26 @@ impl Parts {
             return pass_head(&mut self.object, &mut self.message, head, sink);
         }
         Ok(())
+    }
+
+    /// Whether the next dataset may be one of record 1 or 2.
+    #[inline(always)]
+    pub(crate) fn may_keep_next(&self) -> bool {
+        self.fields.section() < PRE_OBJECT
+    }
+
+    /// Takes a whole dataset of record 1 or 2; or changes nothing.
+    #[inline(always)]
+    pub(crate) fn whole(&mut self, head: Head, octets: &[u8]) -> bool
+        requires takes { TakesHead self.old }
+        requires count { head.count ≡ length octets.now }
+        ensures takes { TakesHead self.new }
+        ensures whole { IsTrue result → WentWhole self.old head octets.now self.new }
+        ensures left { result ≡ false → self.new ≡ self.old }
+        ensures room { room_of self.new.fields ≡ room_of self.old.fields }
+    {
+        close_laws();
+        self.fields.whole(head, octets)
     }
 
     /// Takes octets of the begun dataset, or only those before the one that is refused.

@@ -48,6 +48,16 @@ impl<'p, 's, S: StorySink> DatasetSink for Router<'p, 's, S> {
         }
     }
 
+    #[inline(always)]
+    fn wants_whole(&self) -> bool {
+        self.parts.may_keep_next()
+    }
+
+    #[inline(always)]
+    fn whole(&mut self, head: Head, octets: &[u8]) -> bool {
+        self.parts.whole(head, octets)
+    }
+
     fn run(&mut self, run: &[u8]) -> Result<(), Stop> {
         match self.parts.run(run, &mut *self.sink) {
             Ok(()) => Ok(()),

@@ -22,3 +22,4 @@ pub mod Bounds
 pub mod Ended
 pub mod Headers
 pub mod Saving
+pub mod FrontHeads

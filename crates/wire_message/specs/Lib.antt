@@ -5,3 +5,4 @@ pub mod Parts
 pub mod Classes
 pub mod Steps
 pub mod Restoring
+pub mod Whole

@@ -83,14 +83,29 @@ impl MessageHead {
         if !is_header(source, number, priority, category, words, info) {
             return None;
         }
-        Some(MessageHead {
+        Some(MessageHead::of_parts(source, number, priority, category, words, info))
+    }
+
+    /// The header of these parts, which are those of a header.
+    pub(crate) fn of_parts(
+        source: &[u8],
+        number: &[u8],
+        priority: &[u8],
+        category: &[u8],
+        words: &[u8],
+        info: &[u8],
+    ) -> MessageHead
+        requires { IsHeader (header_of source.now number.now priority.now category.now words.now info.now) }
+        ensures parts { result ≡ header_of source.now number.now priority.now category.now words.now info.now }
+    {
+        MessageHead {
             source: kept(source),
             number: kept(number),
             priority: kept(priority),
             category: kept(category),
             words: kept(words),
             info: kept(info),
-        })
+        }
     }
 
     /// The header of these parts, its info empty so far.

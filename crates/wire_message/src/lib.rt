@@ -24,6 +24,7 @@ mod span;
 mod step;
 mod tail;
 mod text;
+mod whole;
 mod writing;
 
 pub use fault::{MessageCause, MessageFault};

@@ -2,6 +2,7 @@
 
 ghost use Rattle.std.specs.Prelude.{◌≡◌, ◌<◌, ◌≤◌, length, slice_index, take, IfOk, IfErr, IfSome, IfNone, OnOk};
 ghost use Rattle.wire_message.specs.Format.SoFar.{IsPlace};
+ghost use Rattle.wire_message.specs.declared.place.Place.TheVariants.{Filler};
 ghost use Rattle.wire_message.specs.Steps.{DiesWith, TakesSome, IsNoText, TakesOctets, RefusesInPart};
 
 use crate::fault::{MessageCause, MessageFault};
@@ -9,7 +10,19 @@ use crate::lengthen::lengthen;
 use crate::next::{begin_next, begin_trailer};
 use crate::place::Place;
 use crate::text::in_text;
+use crate::whole::whole_head;
 use wire_story::StorySink;
+
+/// How many octets of filler have come, where SOH is to come.
+#[inline(always)]
+fn filler_in(place: &Place) -> Option<u8>
+    ensures { IfSome result (λ count. place.now ≡ Filler count) }
+{
+    match place {
+        Place::Filler { count } => Some(*count),
+        _ => None,
+    }
+}
 
 /// Takes octets outside the text where the place lies, and answers how many, or None where the first dies.
 #[inline(always)]
@@ -20,6 +33,12 @@ fn outside_text(place: &mut Place, rest: &[u8]) -> Option<usize>
     ensures takes { IfSome result (λ used. TakesSome place.old rest.now place.new used) }
     ensures dies { IfNone result (DiesWith place.old (slice_index rest.now 0)) }
 {
+    if let Some(_) = filler_in(place) {
+        if let Some((text, used)) = whole_head(rest) {
+            *place = text;
+            return Some(used);
+        }
+    }
     let used = lengthen(place, rest);
     if used > 0 {
         return Some(used);

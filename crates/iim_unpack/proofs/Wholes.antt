@@ -1,0 +1,112 @@
+-- A whole dataset of record 1 or 2 leads the parts of an unpacker on.
+use Rattle.std.specs.Prelude.{IsSome, is_none}
+use Rattle.std.proofs.Common.{◌≡◌, ℕ, ◌⊎◌, Bool, true, false, ◌==◌, ◌||◌, ◌&&◌, cond, nat_eq, List, [], ◌∷◌, ◌++◌, length, map, flat_map, refl, ap, sym, subst, ◌∙◌, inl, inr, arith, append_assoc, append-nil}
+use Rattle.std.proofs.lemmas.List.Concat.{flat_map-append}
+use Rattle.std.proofs.lemmas.Bool.Decides.{eqb_tells}
+use Rattle.iim_dataset.specs.Format.Datasets.{Dataset, head_of}
+use Rattle.iim_dataset.specs.Format.Splits.{InTag}
+use Rattle.iim_dataset.specs.Format.Events.{DatasetEvent, HeadRead, DataOctet, DatasetEnd, events_of, handed_on}
+use Rattle.iim_dataset.specs.declared.head.Head.{Head}
+use Rattle.iim_fields.specs.Format.Faults.{present_record, is_kept}
+use Rattle.iim_fields.specs.Format.Standing as records
+use Rattle.iim_fields.specs.Format.Standing.{FieldsPlace, IsBetween, section_of, begun_head_of}
+use Rattle.iim_fields.specs.Format.Values.{data_of, tells_number}
+use Rattle.iim_object.specs.Format.Reading as objects
+use Rattle.iim_object.specs.Format.Numbers.{place_after_datasets}
+use Rattle.wire_message.specs.Format.Layers.{text_so_far}
+use Rattle.wire_message.specs.Format.Reading as wire
+use Rattle.iim_unpack.specs.Format.Admitted.{object_of}
+use Rattle.iim_unpack.specs.Format.Tokens.{place_at}
+use Rattle.iim_unpack.specs.Format.Parts.{AreAfter, Led, has_ended}
+use Rattle.iim_unpack.specs.Parts.{TakesHead, WentWhole}
+use Rattle.iim_unpack.specs.LowerLaws.{CloseLaws}
+use Rattle.iim_unpack.specs.declared.parts.Parts.{Parts}
+use Rattle.iim_unpack.proofs.Places.{silent_leads}
+use Rattle.iim_unpack.proofs.Carrying.{after_all}
+use Rattle.iim_unpack.proofs.Closing.{object_of_more, few_more}
+use Rattle.iim_unpack.proofs.Lasts.{present_last}
+
+-- ---- the kept records
+
+-- what holds of a record that is kept
+record Keeps (r : ℕ) : Type 0 where
+  seven : (r ≡ 7 → ⊥)
+  eight : nat_eq r 8 ≡ false
+  nine : nat_eq r 9 ≡ false
+  silent : tells_number r ≡ false
+
+keeps_one : (r s : ℕ) → r ≡ s → Keeps s → Keeps r
+keeps_one r s is k = subst Keeps (sym is) k
+
+keeps : (r : ℕ) → is_kept r ≡ true → Keeps r
+keeps r kept = elim (eqb_tells r 1) [
+  | inl one ↦ keeps_one r 1 one.1 (record { seven = λ is. omega (arith, is); eight = refl; nine = refl; silent = refl })
+  | inr other ↦ elim (eqb_tells r 2) [
+    | inl two ↦ keeps_one r 2 two.1 (record { seven = λ is. omega (arith, is); eight = refl; nine = refl; silent = refl })
+    | inr neither ↦ let bad : false ≡ true = sym (ap (λ (b : Bool). b || nat_eq r 2) other.0 ∙ neither.0) ∙ kept in absurd cc
+  ]
+]
+
+-- ---- the dataset
+
+told_one : (ds : List Dataset) (h : Head) (xs : List ℕ) → h.count ≡ length xs → flat_map events_of ds ++ (HeadRead h ∷ (map DataOctet xs ++ DatasetEnd ∷ [])) ≡ handed_on (ds ++ data_of h xs ∷ []) (InTag [])
+told_one ds h xs count =
+    (λ i. flat_map events_of ds ++ (HeadRead (record { rec = h.rec; set = h.set; count = count i }) ∷ (map DataOctet xs ++ DatasetEnd ∷ [])))
+    ∙ ap (λ (es : List DatasetEvent). flat_map events_of ds ++ es) (sym (append-nil (events_of (data_of h xs))))
+    ∙ sym (flat_map-append events_of ds (data_of h xs ∷ []))
+    ∙ sym (append-nil (flat_map events_of (ds ++ data_of h xs ∷ [])))
+
+after_whole : CloseLaws → (p new : Parts) (ds : List Dataset) (h : Head) (xs : List ℕ) → Keeps h.rec → AreAfter p ds → records.StandsAfter new.fields (ds ++ data_of h xs ∷ []) → new.object ≡ p.object → new.message ≡ p.message
+    → AreAfter new (ds ++ data_of h xs ∷ [])
+after_whole laws p new ds h xs k at fields object message =
+    let d : Dataset = data_of h xs in
+    let not_eight : d.rec ≡ 8 → ⊥ = λ is. (let bad : true ≡ false = sym (ap (λ (r : ℕ). nat_eq r 8) is) ∙ k.eight in cc) in
+    let elsewhere : place_at ds (head_of d) ≡ place_after_datasets ds = rw (k.eight, k.nine) refl in
+    let leads : place_at ds (head_of d) ≡ place_after_datasets (ds ++ d ∷ []) = silent_leads laws.objects ds d fields.alive k.silent (λ is. absurd (not_eight is)) in
+    let same : object_of (ds ++ d ∷ []) ≡ object_of ds = object_of_more ds d ∙ (ap (λ (b : Bool). object_of ds ++ cond b xs []) k.eight ∙ append-nil (object_of ds)) in
+    record {
+      fields = fields;
+      object = subst (objects.StandsAt new.object) (sym elsewhere ∙ leads) (subst (λ o. objects.StandsAt o (place_after_datasets ds)) (sym object) at.object);
+      few = few_more ds d at.few (λ is. absurd (not_eight is));
+      message = subst (λ (o : List ℕ). wire.StandsAt new.message o (text_so_far o)) (sym same) (subst (λ m. wire.StandsAt m (object_of ds) (text_so_far (object_of ds))) (sym message) at.message);
+      ended = λ is. absurd (let bad : true ≡ false = sym (ap (λ (r : ℕ). nat_eq r 9) (sym (present_last 0 ds d) ∙ is)) ∙ k.nine in cc);
+    }
+
+pub whole_went : CloseLaws → (p new : Parts) (h : Head) (xs : List ℕ) → IsBetween p.fields → is_kept h.rec ≡ true → h.count ≡ length xs → records.limits_of new.fields ≡ records.limits_of p.fields
+    → ((ds : List Dataset) → records.StandsAfter p.fields ds → records.StandsAfter new.fields (ds ++ data_of h xs ∷ [])) → new.object ≡ p.object → new.message ≡ p.message → WentWhole p h xs new
+whole_went laws p new h xs between kept count limits stands object message = record {
+  limits = limits;
+  leads = λ before text led.
+      let at = after_all p before text between led in
+      let k = keeps h.rec kept in
+      let d : Dataset = data_of h xs in
+      record {
+        whole = at.ds ++ d ∷ [];
+        begun = InTag [];
+        told = ap (λ (es : List DatasetEvent). es ++ (HeadRead h ∷ (map DataOctet xs ++ DatasetEnd ∷ []))) (at.told ∙ append-nil (flat_map events_of at.ds)) ∙ told_one at.ds h xs count;
+        stands = after_whole laws p new at.ds h xs k at.after (stands at.ds at.after.fields) object message;
+        is_text = at.is_text ∙ ap text_so_far (sym (object_of_more at.ds d ∙ (ap (λ (b : Bool). object_of at.ds ++ cond b xs []) k.eight ∙ append-nil (object_of at.ds))));
+      };
+}
+
+-- ---- what it takes next
+
+still_takes : (p new : Parts) (h : Head) → TakesHead p → is_kept h.rec ≡ true → IsBetween new.fields → section_of new.fields ≡ h.rec → new.object ≡ p.object → new.message ≡ p.message → TakesHead new
+unfolding has_ended
+still_takes p new h t kept between section object message = record {
+  fields = between;
+  object = subst (λ o. IsSome o) (sym object) t.object;
+  message = subst (λ m. IsSome m) (sym message) t.message;
+  more = ap (λ (b : Bool). b && is_none (begun_head_of new.fields)) (ap (λ (r : ℕ). nat_eq r 9) section ∙ (keeps h.rec kept).nine);
+}
+
+pub takes_either : (p new : Parts) (h : Head) (b : Bool) → TakesHead p → (b ≡ true → is_kept h.rec ≡ true) → IsBetween new.fields → (b ≡ true → section_of new.fields ≡ h.rec) → (b ≡ false → new.fields ≡ p.fields)
+    → new.object ≡ p.object → new.message ≡ p.message → TakesHead new
+unfolding has_ended
+takes_either p new h true t kept between section left object message = still_takes p new h t (kept refl) between (section refl) object message
+takes_either p new h false t kept between section left object message = record {
+  fields = between;
+  object = subst (λ o. IsSome o) (sym object) t.object;
+  message = subst (λ m. IsSome m) (sym message) t.message;
+  more = ap (λ (f : FieldsPlace). nat_eq (section_of f) 9 && is_none (begun_head_of f)) (left refl) ∙ t.more;
+}
