@@ -1,17 +1,15 @@
 -- A story that is collected.
-use Rattle.std.specs.Prelude.{◌≡◌, ℕ, ◌<◌, ◌⊎◌, List, length, take, slice_index, Result, Ok, Err}
+use Rattle.std.specs.Prelude.{◌≡◌, ℕ, List, length, Result, Ok, Err}
 use Rattle.iim_dataset.specs.Format.Datasets.{Dataset}
 use Rattle.iim_fields.specs.declared.limits.Limits.{Limits}
 use Rattle.iim_object.specs.declared.plan.Plan.{Plan}
 use Rattle.wire_message.specs.Format.Messages.{Header}
+use Rattle.wire_story.specs.Format.Delivery.{StoryEvent}
 use Rattle.iim_unpack.specs.Format.Admitted.{Value}
-use Rattle.iim_unpack.specs.Format.Open.{RefusesNext}
-use Rattle.iim_unpack.specs.Format.Refusals.{refusal_at}
-use Rattle.iim_unpack.specs.Format.Streams.{Answer, Finished, Truncated, IsFinished, IsTruncated}
+use Rattle.iim_unpack.specs.Format.Pieces.{IsTurnedDown}
+use Rattle.iim_unpack.specs.Format.Streams.{Answer, Finished, Truncated, IsFinished}
 use Rattle.iim_unpack.specs.Format.Streams as answers
 use Rattle.iim_unpack.specs.Format.Value.{HasParts}
-use Rattle.iim_unpack.specs.declared.fault.TokenFault.{TokenFault}
-use Rattle.iim_unpack.specs.declared.refusal.Refusal.{Refusal}
 use Rattle.iim_round_trip.specs.Format.Laws.{packed_value}
 use Rattle.iim_round_trip.specs.Format.RoundTrip.{BeginsPacked}
 use Rattle.iim_round_trip.specs.declared.unpacking.Story.{Story}
@@ -38,17 +36,14 @@ pub record IsStoryIn (limits : Limits) (stream : List ℕ) (got : Story) : Type 
   pub finished : IsFinished limits stream got.used value
   pub story : IsStory value got.used got
 
--- The octets before the named one are open, and that one is refused.
-pub record IsStopped (limits : Limits) (stream : List ℕ) (e : Refusal) : Type 0 where
-  pub fits : e.octet < length stream
-  pub fault : TokenFault
-  pub refusal : e ≡ refusal_at e.octet fault
-  pub refuses : RefusesNext limits (take e.octet stream) (slice_index stream e.octet) fault
+-- nobody is told what is delivered before a refusal: the lines are dropped with it
+abbrev pub untold : Unit {0} → List StoryEvent → Unit {0} → Type 0
+untold before events after = Unit {0}
 
 -- Why there is no story: memory was refused for the unpacker, an octet is refused, or the stream is truncated.
 abbrev pub HasNoStory : Limits → List ℕ → UnpackFault → Type 0
 HasNoStory limits stream OutOfMemory = Unit {0}
-HasNoStory limits stream (Refused e) = IsStopped limits stream e ⊎ IsTruncated limits stream e
+HasNoStory limits stream (Refused e) = IsTurnedDown untold limits stream tt tt e
 
 -- The result is the answer.
 abbrev pub IsStoryAnswer : Result Story UnpackFault → Answer → Type 0
