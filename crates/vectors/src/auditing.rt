@@ -1,5 +1,6 @@
 //! Streams of envelopes, audited.
 
+use crate::answers::Answers;
 use crate::octets::{Names, Words};
 use crate::unpacking::LIMITS;
 use anyhow::{Result, bail};
@@ -8,7 +9,6 @@ use iim_dataset::FromRead;
 use iim_unpack::Intake;
 use jiff::Timestamp;
 use std::alloc::Global;
-use std::io::Write;
 
 /// The instant that a word tells, as jiff reads it.
 fn instant(word: &[u8]) -> Result<Timestamp> {
@@ -22,8 +22,8 @@ fn instant(word: &[u8]) -> Result<Timestamp> {
 }
 
 /// Prints the report of octets, twice from one intake; or the refusal with the number of the envelope, and what is told then.
-fn print_audit<W: Write>(
-    out: &mut W,
+fn print_audit(
+    out: &mut Answers,
     alloc: Global,
     intake: &mut Intake<FromRead<&[u8]>>,
     now: Timestamp,
@@ -35,14 +35,14 @@ fn print_audit<W: Write>(
                 bail!("the report is no text");
             };
             for line in text.lines() {
-                writeln!(out, "  {line}")?;
+                out.tell(&format_args!("{line}"));
             }
         }
         Err(fault) => {
             let envelope = fault.envelope;
             match fault.cause {
-                AuditCause::Refused(refusal) => writeln!(out, "  {envelope} {refusal}")?,
-                cause => writeln!(out, "  {envelope} {cause}")?,
+                AuditCause::Refused(refusal) => out.tell(&format_args!("{envelope} {refusal}")),
+                cause => out.tell(&format_args!("{envelope} {cause}")),
             }
         }
     }
@@ -50,8 +50,8 @@ fn print_audit<W: Write>(
 }
 
 /// Answers the words of audits; false where the word is none of them.
-pub fn answer<W: Write>(
-    out: &mut W,
+pub fn answer(
+    out: &mut Answers,
     alloc: Global,
     names: &Names,
     word: &[u8],
@@ -60,8 +60,8 @@ pub fn answer<W: Write>(
     if !matches!(word, b"audit" | b"audits") {
         return Ok(false);
     }
-    let now = instant(words.word()?)?;
-    let octets = words.octets(names)?;
+    let now = instant(words.word())?;
+    let octets = words.octets(names);
     let mut intake = Intake::new(FromRead::new(octets.as_slice()));
     print_audit(out, alloc, &mut intake, now)?;
     if matches!(word, b"audits") {

@@ -1,7 +1,7 @@
 //! Each layer and each cause, as they are printed.
 
+use crate::answers::Answers;
 use iim_unpack::{Cause, Layer};
-use std::io::{self, Write};
 
 const LAYERS: [Layer; 7] = [
     Layer::Dataset,
@@ -42,20 +42,18 @@ const CAUSES: [Cause; 25] = [
 ];
 
 /// Prints each layer.
-pub fn print_layers<W: Write>(out: &mut W) -> io::Result<()> {
+pub fn print_layers(out: &mut Answers) {
     for layer in LAYERS {
         let name = layer.name();
-        writeln!(out, "  {name}")?;
+        out.tell(&format_args!("{name}"));
     }
-    Ok(())
 }
 
 /// Prints each cause: its number and its name.
-pub fn print_causes<W: Write>(out: &mut W) -> io::Result<()> {
+pub fn print_causes(out: &mut Answers) {
     for cause in CAUSES {
         let number = cause.number();
         let name = cause.name();
-        writeln!(out, "  {number} {name}")?;
+        out.tell(&format_args!("{number} {name}"));
     }
-    Ok(())
 }

@@ -2,41 +2,28 @@
 
 ghost use Rattle.std.specs.Prelude.{◌≡◌, ◌≢◌, ⊤, Some};
 
-use crate::octets::{Names, Shown, Words};
-use crate::readings::{Class, Cut, Digits, Reading, print_class, print_reading};
-use anyhow::{Result, bail};
+use crate::answers::Answers;
+use crate::octets::{Names, Words};
+use crate::readings::{Class, Cut, Digits, Reading, tell_class, tell_reading};
 use arrayvec::ArrayVec;
 use iim_dataset::{
-    DatasetName, DatasetPlace, DatasetSink, Head, HeadReader, Step, Stop, head_bytes,
+    DatasetName, DatasetPlace, DatasetSink, FaultCause, Head, HeadReader, Step, Stop, head_bytes,
 };
 use std::alloc::Global;
-use std::io::Write;
 
 /// Writes down what it is told, and counts the runs.
 #[derive(Drop)]
 struct Record {
-    text: Vec<u8>,
+    answers: Answers,
     runs: u64,
     /// How many datasets are to come, the last one too; None without an end.
     left: Option<u64>,
     refused: bool,
 }
 
-/// Writes down a head.
-fn tell_head(text: &mut Vec<u8>, head: Head) -> Result<()> {
-    let Head { rec, set, count } = head;
-    let name = DatasetName { rec, set };
-    write!(text, "  {name} of {count}")?;
-    Ok(())
-}
-
-/// Writes down octets of data.
-fn tell_octets(text: &mut Vec<u8>, octets: &[u8]) -> Result<()> {
-    for octet in octets {
-        let octet = *octet;
-        write!(text, " {octet:02X}")?;
-    }
-    Ok(())
+/// Tells a number of a dataset.
+fn tell_name(answers: &mut Answers, rec: u8, set: u8) {
+    answers.show(&DatasetName { rec, set });
 }
 
 impl DatasetSink for Record {
@@ -57,32 +44,57 @@ impl DatasetSink for Record {
     ghost joined_stop = { λ a b c xs ys refused h k. tt };
 
     fn head(&mut self, head: Head) -> Result<(), Stop> {
-        match tell_head(&mut self.text, head) {
-            Ok(()) => Ok(()),
-            Err(_) => Err(Stop { taken: 0 }),
-        }
+        self.answers.put("  ");
+        tell_name(&mut self.answers, head.rec, head.set);
+        self.answers.put(" of ");
+        self.answers.show(&head.count);
+        Ok(())
     }
 
     fn run(&mut self, run: &[u8]) -> Result<(), Stop> {
         self.runs = self.runs.saturating_add(1);
-        if run.is_empty() {
-            return Ok(());
+        for octet in run {
+            let octet = *octet;
+            self.answers.show(&format_args!(" {octet:02X}"));
         }
-        match tell_octets(&mut self.text, run) {
-            Ok(()) => Ok(()),
-            Err(_) => Err(Stop { taken: 0 }),
-        }
+        Ok(())
     }
 
     fn close(&mut self) -> Result<Step, Stop> {
-        let Ok(()) = writeln!(self.text, " end") else {
-            return Err(Stop { taken: 0 });
-        };
+        self.answers.put(" end\n");
         self.left = self.left.map(|left| left.saturating_sub(1));
         match self.left {
             Some(0) => Ok(Step::Last),
             _ => Ok(Step::More),
         }
+    }
+}
+
+impl Record {
+    /// Ends a line that was begun.
+    fn end_line(&mut self) {
+        if self.answers.is_begun() {
+            self.answers.end();
+        }
+    }
+
+    /// Tells which octet is refused and why.
+    fn refuse(&mut self, at: usize, cause: FaultCause) {
+        self.refused = true;
+        self.end_line();
+        self.answers.put("  refused at ");
+        self.answers.show(&at);
+        self.answers.put(" ");
+        self.answers.name(&cause);
+        self.answers.end();
+    }
+
+    /// Tells how many octets were used.
+    fn use_up(&mut self, used: usize) {
+        self.end_line();
+        self.answers.put("  used ");
+        self.answers.show(&used);
+        self.answers.end();
     }
 }
 
@@ -93,22 +105,8 @@ struct Datasets {
     last: Option<u64>,
 }
 
-/// Ends a line that was begun.
-fn end_line(text: &mut Vec<u8>) -> Result<()> {
-    match text.last() {
-        None | Some(b'\n') => {}
-        Some(_) => writeln!(text)?,
-    }
-    Ok(())
-}
-
 /// Feeds the pieces up to the end of the last dataset, or to a refused octet, and tells how many octets were used.
-fn feed_pieces(
-    reader: &mut HeadReader,
-    record: &mut Record,
-    octets: &[u8],
-    cut: Cut,
-) -> Result<()> {
+fn feed_pieces(reader: &mut HeadReader, record: &mut Record, octets: &[u8], cut: Cut) {
     let mut used = 0;
     for number in 0..Cut::most_pieces(octets) {
         let Some((before, piece)) = cut.piece(octets, number) else {
@@ -119,51 +117,49 @@ fn feed_pieces(
         }
         match reader.feed(piece, record) {
             Ok(taken) => used = before.saturating_add(taken),
-            Err(fault) => {
-                record.refused = true;
-                let at = before.saturating_add(fault.used);
-                let cause = fault.cause;
-                end_line(&mut record.text)?;
-                writeln!(record.text, "  refused at {at} {cause:?}")?;
-            }
+            Err(fault) => record.refuse(before.saturating_add(fault.used), fault.cause),
         }
     }
     if !reader.is_failed() {
-        end_line(&mut record.text)?;
-        writeln!(record.text, "  used {used}")?;
+        record.use_up(used);
     }
-    Ok(())
+}
+
+/// Tells the number of the dataset that is begun.
+fn tell_named(answers: &mut Answers, reader: &HeadReader) {
+    let (rec, set) = reader.named();
+    answers.put("  named ");
+    tell_name(answers, rec, set);
+    answers.end();
 }
 
 impl Datasets {
     /// Reads the octets in these pieces.
-    fn record(&self, octets: &[u8], cut: Cut) -> Result<Record> {
+    fn record(&self, octets: &[u8], cut: Cut) -> Record {
         let mut reader = HeadReader::new();
         let mut record = Record {
-            text: Vec::new(self.alloc),
+            answers: Answers::new(self.alloc),
             runs: 0,
             left: self.last,
             refused: false,
         };
-        feed_pieces(&mut reader, &mut record, octets, cut)?;
-        let (rec, set) = reader.named();
-        let name = DatasetName { rec, set };
-        writeln!(record.text, "  named {name}")?;
-        Ok(record)
+        feed_pieces(&mut reader, &mut record, octets, cut);
+        tell_named(&mut record.answers, &reader);
+        record
     }
 
-    /// Prints what the octets are read as, and how many runs of data there are in one piece.
-    fn print<W: Write>(&self, out: &mut W, octets: &[u8]) -> Result<()> {
-        print_reading(out, self, octets)?;
-        let runs = self.record(octets, Cut::Whole)?.runs;
-        writeln!(out, "  runs {runs}")?;
-        Ok(())
+    /// Tells what the octets are read as, and how many runs of data there are in one piece.
+    fn tell(&self, answers: &mut Answers, octets: &[u8]) {
+        tell_reading(answers, self, octets);
+        answers.put("  runs ");
+        answers.show(&self.record(octets, Cut::Whole).runs);
+        answers.end();
     }
 }
 
 impl Reading for Datasets {
-    fn read(&self, octets: &[u8], cut: Cut) -> Result<Vec<u8>> {
-        Ok(self.record(octets, cut)?.text)
+    fn read(&self, octets: &[u8], cut: Cut) -> Answers {
+        self.record(octets, cut).answers
     }
 }
 
@@ -174,109 +170,103 @@ struct Next<'o> {
     front: &'o [u8],
 }
 
-impl Next<'_> {
-    /// Whether the octet is refused after those before it.
-    fn is_refused(&self, octet: u8) -> Result<bool> {
+impl Class for Next<'_> {
+    fn has(&self, number: u64) -> bool {
+        let Ok(octet) = u8::try_from(number) else {
+            return false;
+        };
         let mut octets = Vec::new(self.alloc);
-        octets.extend_from_slice(self.front)?;
-        octets.push(octet)?;
+        if octets.extend_from_slice(self.front).is_err() || octets.push(octet).is_err() {
+            return false;
+        }
         let datasets = Datasets {
             alloc: self.alloc,
             last: None,
         };
-        Ok(datasets.record(octets.as_slice(), Cut::Whole)?.refused)
+        !datasets.record(octets.as_slice(), Cut::Whole).refused
     }
 }
 
-impl Class for Next<'_> {
-    fn has(&self, number: u64) -> bool {
-        match u8::try_from(number) {
-            Ok(octet) => matches!(self.is_refused(octet), Ok(false)),
-            Err(_) => false,
-        }
-    }
-}
-
-/// Prints where a reader stands.
-fn print_place<W: Write>(out: &mut W, reader: &HeadReader) -> Result<()> {
+/// Tells where a reader stands.
+fn tell_place(answers: &mut Answers, reader: &HeadReader) {
     match reader.place() {
-        None => writeln!(out, "  failed")?,
+        None => answers.put("  failed"),
         Some(DatasetPlace::Tag(held)) => {
-            let held = Shown(held.as_slice());
-            writeln!(out, "  tag {held}")?;
+            answers.put("  tag ");
+            answers.octets(held.as_slice());
         }
         Some(DatasetPlace::Inside { head, left }) => {
-            let count = head.count;
-            writeln!(out, "  inside {left} of {count}")?;
+            answers.put("  inside ");
+            answers.show(&left);
+            answers.put(" of ");
+            answers.show(&head.count);
         }
     }
-    let (rec, set) = reader.named();
-    let name = DatasetName { rec, set };
-    writeln!(out, "  named {name}")?;
-    Ok(())
+    answers.end();
+    tell_named(answers, reader);
 }
 
-/// Prints where a reader stands that is put at a place, or `none`.
-fn print_put<W: Write>(out: &mut W, place: DatasetPlace) -> Result<()> {
+/// Tells where a reader stands that is put at a place, or `none`.
+fn tell_put(answers: &mut Answers, place: DatasetPlace) {
     match HeadReader::at(place) {
-        Some(reader) => print_place(out, &reader),
-        None => {
-            writeln!(out, "  none")?;
-            Ok(())
-        }
+        Some(reader) => tell_place(answers, &reader),
+        None => answers.line("none"),
     }
 }
 
 /// The head that the next three words tell.
-fn head_of(words: &mut Words) -> Result<Head> {
-    let rec = words.octet()?;
-    let set = words.octet()?;
-    let count = words.number()?;
-    Ok(Head { rec, set, count })
+fn head_of(words: &mut Words) -> Head {
+    let rec = words.octet();
+    let set = words.octet();
+    let count = words.number();
+    Head { rec, set, count }
 }
 
-/// Prints the canonical tag of a head.
-fn print_tag<W: Write>(out: &mut W, head: Head) -> Result<()> {
-    let tag = head_bytes(head);
-    let tag = Shown(tag.as_slice());
-    writeln!(out, "  {tag}")?;
-    Ok(())
+/// Tells the canonical tag of a head.
+fn tell_tag(answers: &mut Answers, head: Head) {
+    answers.put("  ");
+    answers.octets(head_bytes(head).as_slice());
+    answers.end();
+}
+
+/// Tells where a reader stands that holds these octets of a tag, or `none`.
+fn tell_held(answers: &mut Answers, words: &mut Words, octets: &[u8]) {
+    let mut held = ArrayVec::new();
+    if held.try_extend_from_slice(octets).is_err() {
+        words.refuse();
+    }
+    tell_put(answers, DatasetPlace::Tag(held));
 }
 
 /// Answers the words of datasets; false where the word is none of them.
-pub fn answer<W: Write>(
-    out: &mut W,
+pub fn answer(
+    answers: &mut Answers,
     alloc: Global,
     names: &Names,
     word: &[u8],
     words: &mut Words,
-) -> Result<bool> {
+) -> bool {
     match word {
-        b"head" => print_tag(out, head_of(words)?)?,
+        b"head" => tell_tag(answers, head_of(words)),
         b"datasets" => {
-            let last = words.number_or_none()?;
-            let octets = words.octets(names)?;
-            Datasets { alloc, last }.print(out, octets.as_slice())?;
+            let last = words.number_or_none();
+            Datasets { alloc, last }.tell(answers, words.octets(names).as_slice());
         }
         b"follow" => {
-            let octets = words.octets(names)?;
+            let octets = words.octets(names);
             let front = octets.as_slice();
-            print_class(out, &Next { alloc, front }, 255, Digits::Octets)?;
+            tell_class(answers, &Next { alloc, front }, 255, Digits::Octets);
         }
         b"held_at" => {
-            let octets = words.octets(names)?;
-            let mut held = ArrayVec::new();
-            if held.try_extend_from_slice(octets.as_slice()).is_err() {
-                bail!("more octets than a tag holds");
-            }
-            print_put(out, DatasetPlace::Tag(held))?;
+            let octets = words.octets(names);
+            tell_held(answers, words, octets.as_slice());
         }
         b"inside_at" => {
-            let head = head_of(words)?;
-            let left = words.number()?;
-            print_put(out, DatasetPlace::Inside { head, left })?;
+            let head = head_of(words);
+            let left = words.number();
+            tell_put(answers, DatasetPlace::Inside { head, left });
         }
-        _ => return Ok(false),
+        _ => return false,
     }
-    Ok(true)
+    true
 }

@@ -1,34 +1,34 @@
 //! One envelope after another, from octets that an intake reads.
 
+use crate::answers::Answers;
 use anyhow::Result;
 use iim_dataset::FromRead;
 use iim_fields::Limits;
 use iim_unpack::{Intake, IntakeFault, Unpacked, Unpacker};
 use std::alloc::Global;
-use std::io::Write;
 use wire_story::Discard;
 
 /// Prints what an intake answered, and whether it gave an envelope.
-fn print_answer<W: Write>(
-    out: &mut W,
+fn print_answer(
+    out: &mut Answers,
     answer: Result<Option<Unpacked>, IntakeFault>,
     octets: u64,
 ) -> Result<bool> {
     match answer {
         Ok(Some(got)) => {
             let total = got.sizes.total;
-            writeln!(out, "  {octets} octets, {total} total")?;
+            out.tell(&format_args!("{octets} octets, {total} total"));
             return Ok(true);
         }
-        Ok(None) => writeln!(out, "  end")?,
-        Err(fault) => writeln!(out, "  {fault}")?,
+        Ok(None) => out.line("end"),
+        Err(fault) => out.tell(&format_args!("{fault}")),
     }
     Ok(false)
 }
 
 /// Prints all envelopes of the octets, up to their end or to what is refused.
-pub fn print_envelopes<W: Write>(
-    out: &mut W,
+pub fn print_envelopes(
+    out: &mut Answers,
     alloc: Global,
     limits: Limits,
     octets: &[u8],
@@ -45,15 +45,15 @@ pub fn print_envelopes<W: Write>(
 }
 
 /// Prints what an intake over the octets answers to an unpacker that may have taken some, and to two new ones after it.
-pub fn print_next<W: Write>(
-    out: &mut W,
+pub fn print_next(
+    out: &mut Answers,
     alloc: Global,
     limits: Limits,
     unpacker: Unpacker,
     octets: &[u8],
 ) -> Result<()> {
     if unpacker.is_done() || unpacker.is_failed() {
-        writeln!(out, "  none")?;
+        out.line("none");
         return Ok(());
     }
     let mut intake = Intake::new(FromRead::new(octets));

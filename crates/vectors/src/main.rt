@@ -5,6 +5,7 @@
 //! them with their answers, which are worked out from the format.
 #![tactic(auto)]
 
+mod answers;
 mod auditing;
 mod causes;
 mod cuts;
@@ -25,6 +26,7 @@ mod unpacking;
 mod values;
 mod views;
 
+use answers::Answers;
 use anyhow::{Result, bail};
 use octets::{Names, Words};
 use packing::Packing;
@@ -55,39 +57,45 @@ impl Vectors {
     }
 
     /// Answers a question.
-    fn answer<W: Write>(&mut self, out: &mut W, question: &[u8]) -> Result<()> {
+    fn answer(&mut self, answers: &mut Answers, question: &[u8]) -> Result<()> {
         let mut words = Words::new(question);
-        let word = words.word()?;
+        let word = words.word();
         let is_known = match word {
-            b"let" => self.names.name(&mut words)?,
+            b"let" => {
+                self.names.name(&mut words);
+                true
+            }
             _ => {
-                self.answer_layers(out, word, &mut words)?
-                    || self.bench.answer(out, &self.names, word, &mut words)?
-                    || auditing::answer(out, self.alloc, &self.names, word, &mut words)?
-                    || self.packing.answer(out, &self.names, word, &mut words)?
+                self.answer_layers(answers, word, &mut words)?
+                    || self.bench.answer(answers, &self.names, word, &mut words)?
+                    || auditing::answer(answers, self.alloc, &self.names, word, &mut words)?
+                    || self.packing.answer(answers, &self.names, word, &mut words)?
             }
         };
         if !is_known {
             bail!("no such word");
         }
-        words.end()
+        if !words.are_right() {
+            bail!("an argument is missing, has not its form, or is one too many");
+        }
+        Ok(())
     }
 
     /// Answers the words of the layers below the unpacker; false where the word is none of them.
-    fn answer_layers<W: Write>(
+    fn answer_layers(
         &mut self,
-        out: &mut W,
+        answers: &mut Answers,
         word: &[u8],
         words: &mut Words,
     ) -> Result<bool> {
         let names = &self.names;
         Ok(
-            tables::answer(out, self.alloc, names, word, words)?
-                || datasets::answer(out, self.alloc, names, word, words)?
-                || self.records.answer(out, names, word, words)?
-                || objects::answer(out, self.alloc, names, word, words)?
-                || stories::answer(out, self.alloc, names, word, words)?
-                || messages::answer(out, self.alloc, names, word, words)?,
+            tables::answer(answers, self.alloc, names, word, words)?
+                || datasets::answer(answers, self.alloc, names, word, words)
+                || self.records.answer(answers, names, word, words)?
+                || objects::answer(answers, self.alloc, names, word, words)?
+                || stories::answer(answers, self.alloc, names, word, words)
+                || messages::answer(answers, self.alloc, names, word, words)?,
         )
     }
 }
@@ -95,10 +103,17 @@ impl Vectors {
 /// Prints a line, and its answers where it is a question.
 fn pass<W: Write>(vectors: &mut Vectors, out: &mut W, line: &str) -> Result<()> {
     writeln!(out, "{line}")?;
-    match line.as_bytes() {
-        [] | [b'#', ..] => Ok(()),
-        question => vectors.answer(out, question),
+    let question = line.as_bytes();
+    if question.first().is_none_or(|octet| *octet == b'#') {
+        return Ok(());
     }
+    let mut answers = Answers::new(vectors.alloc);
+    vectors.answer(&mut answers, question)?;
+    let Some(text) = answers.text() else {
+        bail!("memory was refused");
+    };
+    out.write_all(text)?;
+    Ok(())
 }
 
 fn main(rt: HostRuntime) -> Result<()> {

@@ -1,12 +1,12 @@
 //! Messages read in any cut, and written.
 
+use crate::answers::Answers;
 use crate::octets::{Names, Shown, Words};
-use crate::readings::{Class, Cut, Digits, Reading, print_class, print_reading};
+use crate::readings::{Class, Cut, Digits, Reading, tell_class, tell_reading};
 use crate::stories::tell_lines;
-use anyhow::{Result, bail};
+use anyhow::Result;
 use arrayvec::ArrayVec;
 use std::alloc::Global;
-use std::io::Write;
 use wire_message::{
     MessageFault, MessageHead, MessagePart, MessagePlace, MessageReader, head_text, is_trailer,
     tail_text,
@@ -25,16 +25,18 @@ fn feed<S: StorySink>(
     reader.feed(piece, sink).err()
 }
 
-/// Makes a reader again of its place.
-fn put_back(reader: &mut MessageReader) -> Result<()> {
+/// Makes a reader again of its place, and answers whether octets lead there.
+fn put_back(reader: &mut MessageReader) -> bool {
     if reader.is_failed() {
-        return Ok(());
+        return true;
     }
     match MessageReader::at(reader.place()) {
-        Some(again) => *reader = again,
-        None => bail!("no octets lead to the place of a reader"),
+        Some(again) => {
+            *reader = again;
+            true
+        }
+        None => false,
     }
-    Ok(())
 }
 
 /// Feeds the pieces, up to a refused octet: which it is and why. The reader is put back at its place before each piece.
@@ -43,18 +45,21 @@ fn feed_pieces<S: StorySink>(
     octets: &[u8],
     cut: Cut,
     sink: &mut S,
-) -> Result<Option<MessageFault>> {
+    answers: &mut Answers,
+) -> Option<MessageFault> {
     for number in 0..Cut::most_pieces(octets) {
         let Some((before, piece)) = cut.piece(octets, number) else {
             break;
         };
-        put_back(reader)?;
+        if !put_back(reader) {
+            answers.line("no octets lead to the place of the reader");
+        }
         if let Some(fault) = feed(reader, piece, sink) {
             let taken = before.saturating_add(fault.taken);
-            return Ok(Some(MessageFault { taken, ..fault }));
+            return Some(MessageFault { taken, ..fault });
         }
     }
-    Ok(None)
+    None
 }
 
 /// Takes the end of an object of so many octets, and answers why it is refused.
@@ -72,39 +77,33 @@ fn close(reader: &mut MessageReader, len: usize) -> Option<MessageFault> {
 }
 
 /// Writes the parts of a header.
-fn tell_header(text: &mut Vec<u8>, head: &MessageHead) -> Result<()> {
+fn tell_header(text: &mut Answers, head: &MessageHead) {
     let source = Shown(head.source());
     let number = Shown(head.number());
     let priority = Shown(head.priority());
     let category = Shown(head.category());
     let words = Shown(head.words());
     let info = Shown(head.info());
-    writeln!(
-        text,
-        "  header {source} {number} {priority} {category} {words} {info}"
-    )?;
-    Ok(())
+    text.tell(&format_args!("header {source} {number} {priority} {category} {words} {info}"));
 }
 
 /// Writes the header and the trailer of a reader, as far as they have come.
-fn tell_reader(text: &mut Vec<u8>, reader: &MessageReader) -> Result<()> {
+fn tell_reader(text: &mut Answers, reader: &MessageReader) {
     match reader.head() {
-        Some(head) => tell_header(text, &head)?,
-        None => writeln!(text, "  header none")?,
+        Some(head) => tell_header(text, &head),
+        None => text.line("header none"),
     }
     let trailer = Shown(reader.trailer());
-    writeln!(text, "  trailer {trailer}")?;
-    Ok(())
+    text.tell(&format_args!("trailer {trailer}"));
 }
 
 /// Writes which octet is refused and why.
-fn tell_fault(text: &mut Vec<u8>, fault: MessageFault, reader: &MessageReader) -> Result<()> {
+fn tell_fault(text: &mut Answers, fault: MessageFault, reader: &MessageReader) {
     let MessageFault { taken, cause } = fault;
-    writeln!(text, "  refused at {taken} {cause:?}")?;
+    text.tell(&format_args!("refused at {taken} {cause:?}"));
     if !reader.is_failed() {
-        writeln!(text, "  not failed")?;
+        text.line("not failed");
     }
-    Ok(())
 }
 
 /// A reading of an object.
@@ -114,26 +113,26 @@ struct Objects {
 }
 
 impl Reading for Objects {
-    fn read(&self, octets: &[u8], cut: Cut) -> Result<Vec<u8>> {
-        let mut text = Vec::new(self.alloc);
+    fn read(&self, octets: &[u8], cut: Cut) -> Answers {
+        let mut text = Answers::new(self.alloc);
         let mut lines = Lines::new(self.alloc);
         let mut reader = MessageReader::new();
-        let refused = feed_pieces(&mut reader, octets, cut, &mut lines)?;
-        tell_lines(&mut text, &lines)?;
+        let refused = feed_pieces(&mut reader, octets, cut, &mut lines, &mut text);
+        tell_lines(&mut text, &lines);
         match refused.or(close(&mut reader, octets.len())) {
-            Some(fault) => tell_fault(&mut text, fault, &reader)?,
-            None => tell_reader(&mut text, &reader)?,
+            Some(fault) => tell_fault(&mut text, fault, &reader),
+            None => tell_reader(&mut text, &reader),
         }
-        Ok(text)
+        text
     }
 }
 
 /// Writes a place: its part, its counter and its flag, and the texts of its header and trailer so far.
-fn tell_place(text: &mut Vec<u8>, place: &MessagePlace) -> Result<()> {
+fn tell_place(text: &mut Answers, place: &MessagePlace) {
     let part = place.part;
     let counter = place.counter;
     let flag = place.flag;
-    write!(text, "  {part:?} {counter} {flag}")?;
+    text.show(&format_args!("  {part:?} {counter} {flag}"));
     let source = Shown(place.source.as_slice());
     let number = Shown(place.number.as_slice());
     let priority = Shown(place.priority.as_slice());
@@ -141,23 +140,21 @@ fn tell_place(text: &mut Vec<u8>, place: &MessagePlace) -> Result<()> {
     let words = Shown(place.words.as_slice());
     let info = Shown(place.info.as_slice());
     let trailer = Shown(place.trailer.as_slice());
-    write!(text, " {source} {number} {priority} {category}")?;
-    writeln!(text, " {words} {info} {trailer}")?;
-    Ok(())
+    text.show(&format_args!(" {source} {number} {priority} {category}"));
+    text.show(&format_args!(" {words} {info} {trailer}\n"));
 }
 
 /// Writes where a reader stands, and how many octets lead there.
-fn tell_stand(text: &mut Vec<u8>, reader: &MessageReader) -> Result<()> {
+fn tell_stand(text: &mut Answers, reader: &MessageReader) {
     if reader.is_failed() {
-        writeln!(text, "  failed")?;
-        return Ok(());
+        text.line("failed");
+        return;
     }
-    tell_place(text, &reader.place())?;
+    tell_place(text, &reader.place());
     match reader.lengths() {
-        (least, Some(greatest)) => writeln!(text, "  after {least}..{greatest} octets")?,
-        (least, None) => writeln!(text, "  after {least} octets or more")?,
+        (least, Some(greatest)) => text.tell(&format_args!("after {least}..{greatest} octets")),
+        (least, None) => text.tell(&format_args!("after {least} octets or more")),
     }
-    Ok(())
 }
 
 /// A reading of octets that begin an object.
@@ -167,21 +164,21 @@ struct Begun {
 }
 
 impl Reading for Begun {
-    fn read(&self, octets: &[u8], cut: Cut) -> Result<Vec<u8>> {
-        let mut text = Vec::new(self.alloc);
+    fn read(&self, octets: &[u8], cut: Cut) -> Answers {
+        let mut text = Answers::new(self.alloc);
         let mut reader = MessageReader::new();
-        if let Some(fault) = feed_pieces(&mut reader, octets, cut, &mut Discard)? {
-            tell_fault(&mut text, fault, &reader)?;
+        if let Some(fault) = feed_pieces(&mut reader, octets, cut, &mut Discard, &mut text) {
+            tell_fault(&mut text, fault, &reader);
         }
-        tell_stand(&mut text, &reader)?;
-        tell_reader(&mut text, &reader)?;
-        Ok(text)
+        tell_stand(&mut text, &reader);
+        tell_reader(&mut text, &reader);
+        text
     }
 }
 
 /// The part of this name.
-fn part_of(word: &[u8]) -> Result<MessagePart> {
-    Ok(match word {
+fn part_of(word: &[u8]) -> Option<MessagePart> {
+    Some(match word {
         b"Filler" => MessagePart::Filler,
         b"Source" => MessagePart::Source,
         b"Number" => MessagePart::Number,
@@ -194,46 +191,47 @@ fn part_of(word: &[u8]) -> Result<MessagePart> {
         b"Text" => MessagePart::Text,
         b"Trailer" => MessagePart::Trailer,
         b"AfterEnd" => MessagePart::AfterEnd,
-        _ => bail!("no such part"),
+        _ => return None,
     })
 }
 
 /// The next word, octets that a place can have.
-fn saved(names: &Names, words: &mut Words) -> Result<ArrayVec<u8, 64>> {
-    let octets = words.octets(names)?;
+fn saved(names: &Names, words: &mut Words) -> ArrayVec<u8, 64> {
+    let octets = words.octets(names);
     let mut kept = ArrayVec::new();
     if kept.try_extend_from_slice(octets.as_slice()).is_err() {
-        bail!("more octets than a place has");
+        words.refuse();
     }
-    Ok(kept)
+    kept
 }
 
 /// The place that the next words tell.
-fn place_of(names: &Names, words: &mut Words) -> Result<MessagePlace> {
-    Ok(MessagePlace {
-        part: part_of(words.word()?)?,
-        counter: words.octet()?,
-        flag: words.octet()?,
-        source: saved(names, words)?,
-        number: saved(names, words)?,
-        priority: saved(names, words)?,
-        category: saved(names, words)?,
-        words: saved(names, words)?,
-        info: saved(names, words)?,
-        trailer: saved(names, words)?,
-    })
+fn place_of(names: &Names, words: &mut Words) -> MessagePlace {
+    let part = part_of(words.word());
+    if part.is_none() {
+        words.refuse();
+    }
+    MessagePlace {
+        part: part.unwrap_or(MessagePart::Filler),
+        counter: words.octet(),
+        flag: words.octet(),
+        source: saved(names, words),
+        number: saved(names, words),
+        priority: saved(names, words),
+        category: saved(names, words),
+        words: saved(names, words),
+        info: saved(names, words),
+        trailer: saved(names, words),
+    }
 }
 
 /// Prints where a reader stands that is put at a place, or `none`.
-fn print_put<W: Write>(out: &mut W, alloc: Global, place: MessagePlace) -> Result<()> {
+fn print_put(out: &mut Answers, place: MessagePlace) {
     let Some(reader) = MessageReader::at(place) else {
-        writeln!(out, "  none")?;
-        return Ok(());
+        out.line("none");
+        return;
     };
-    let mut text = Vec::new(alloc);
-    tell_stand(&mut text, &reader)?;
-    out.write_all(text.as_slice())?;
-    Ok(())
+    tell_stand(out, &reader);
 }
 
 /// Reads an object in one piece, and answers which octet is refused and why.
@@ -265,41 +263,38 @@ fn joined(alloc: Global, front: &[u8], octet: u8, back: &[u8]) -> Result<Vec<u8>
 }
 
 /// Prints the octets from first to last, and what each of them makes of the octets around it.
-fn print_run<W: Write>(
-    out: &mut W,
-    first: u8,
-    last: u8,
-    fault: Option<MessageFault>,
-) -> Result<()> {
+fn print_run(out: &mut Answers, first: u8, last: u8, fault: Option<MessageFault>) {
     if first == last {
-        write!(out, "  {first:02X}")?;
+        out.show(&format_args!("  {first:02X}"));
     } else {
-        write!(out, "  {first:02X}..{last:02X}")?;
+        out.show(&format_args!("  {first:02X}..{last:02X}"));
     }
     match fault {
-        None => writeln!(out, " message")?,
-        Some(MessageFault { taken, cause }) => writeln!(out, " refused at {taken} {cause:?}")?,
+        None => out.put(" message\n"),
+        Some(MessageFault { taken, cause }) => out.show(&format_args!(
+            " refused at {taken} {cause:?}\n"
+        )),
     }
-    Ok(())
 }
 
 /// Prints what each octet between others makes of them, in one piece and octet by octet.
-fn print_between<W: Write>(out: &mut W, alloc: Global, front: &[u8], back: &[u8]) -> Result<()> {
+fn print_between(out: &mut Answers, alloc: Global, front: &[u8], back: &[u8]) -> Result<()> {
     let mut first = 0;
     let mut before = read_whole(joined(alloc, front, 0, back)?.as_slice());
     for octet in 0..=255u8 {
         let object = joined(alloc, front, octet, back)?;
         let here = read_whole(object.as_slice());
         if read_each(object.as_slice()) != here {
-            writeln!(out, "  {octet:02X} differs octet by octet")?;
+            out.tell(&format_args!("{octet:02X} differs octet by octet"));
         }
         if here != before {
-            print_run(out, first, octet.saturating_sub(1), before)?;
+            print_run(out, first, octet.saturating_sub(1), before);
             first = octet;
             before = here;
         }
     }
-    print_run(out, first, 255, before)
+    print_run(out, first, 255, before);
+    Ok(())
 }
 
 /// Parts of a message, each with an octet of its own.
@@ -334,8 +329,8 @@ impl Class for Part {
 }
 
 /// The part of a header of this name, or the trailer.
-fn header_part_of(word: &[u8]) -> Result<Part> {
-    Ok(match word {
+fn header_part_of(word: &[u8]) -> Option<Part> {
+    Some(match word {
         b"source" => Part::Source,
         b"number" => Part::Number,
         b"priority" => Part::Priority,
@@ -343,68 +338,66 @@ fn header_part_of(word: &[u8]) -> Result<Part> {
         b"words" => Part::Words,
         b"info" => Part::Info,
         b"trailer" => Part::Trailer,
-        _ => bail!("no such part"),
+        _ => return None,
     })
 }
 
 /// Prints the octets of a header of the parts that the next words tell, or `none`.
-fn print_header<W: Write>(out: &mut W, names: &Names, words: &mut Words) -> Result<()> {
-    let source = words.octets(names)?;
-    let number = words.octets(names)?;
-    let priority = words.octets(names)?;
-    let category = words.octets(names)?;
-    let count = words.octets(names)?;
-    let info = words.octets(names)?;
+fn print_header(out: &mut Answers, names: &Names, words: &mut Words) {
+    let source = words.octets(names);
+    let number = words.octets(names);
+    let priority = words.octets(names);
+    let category = words.octets(names);
+    let count = words.octets(names);
+    let info = words.octets(names);
     match MessageHead::new(&source, &number, &priority, &category, &count, &info) {
         Some(head) => {
             let octets = head_text(&head);
             let octets = Shown(octets.as_slice());
-            writeln!(out, "  {octets}")?;
+            out.tell(&format_args!("{octets}"));
         }
-        None => writeln!(out, "  none")?,
+        None => out.line("none"),
     }
-    Ok(())
 }
 
 /// Prints the octets of a message from ETX to EOT, or `none`.
-fn print_tail<W: Write>(out: &mut W, trailer: &[u8]) -> Result<()> {
+fn print_tail(out: &mut Answers, trailer: &[u8]) {
     let tail = tail_text(trailer);
     if tail.is_some() != is_trailer(trailer) {
-        writeln!(out, "  differs")?;
+        out.line("differs");
     }
     match tail {
         Some(tail) => {
             let tail = Shown(tail.as_slice());
-            writeln!(out, "  {tail}")?;
+            out.tell(&format_args!("{tail}"));
         }
-        None => writeln!(out, "  none")?,
+        None => out.line("none"),
     }
-    Ok(())
 }
 
 /// Answers the words of messages; false where the word is none of them.
-pub fn answer<W: Write>(
-    out: &mut W,
+pub fn answer(
+    out: &mut Answers,
     alloc: Global,
     names: &Names,
     word: &[u8],
     words: &mut Words,
 ) -> Result<bool> {
     match word {
-        b"message" => print_reading(out, &Objects { alloc }, words.octets(names)?.as_slice())?,
-        b"begun" => print_reading(out, &Begun { alloc }, words.octets(names)?.as_slice())?,
-        b"message_at" => print_put(out, alloc, place_of(names, words)?)?,
+        b"message" => tell_reading(out, &Objects { alloc }, words.octets(names).as_slice()),
+        b"begun" => tell_reading(out, &Begun { alloc }, words.octets(names).as_slice()),
+        b"message_at" => print_put(out, place_of(names, words)),
         b"between" => {
-            let front = words.octets(names)?;
-            let back = words.octets(names)?;
+            let front = words.octets(names);
+            let back = words.octets(names);
             print_between(out, alloc, front.as_slice(), back.as_slice())?;
         }
-        b"part" => {
-            let part = header_part_of(words.word()?)?;
-            print_class(out, &part, 255, Digits::Octets)?;
-        }
-        b"header" => print_header(out, names, words)?,
-        b"tail" => print_tail(out, words.octets(names)?.as_slice())?,
+        b"part" => match header_part_of(words.word()) {
+            Some(part) => tell_class(out, &part, 255, Digits::Octets),
+            None => words.refuse(),
+        },
+        b"header" => print_header(out, names, words),
+        b"tail" => print_tail(out, words.octets(names).as_slice()),
         _ => return Ok(false),
     }
     Ok(true)

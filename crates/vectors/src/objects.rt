@@ -2,13 +2,13 @@
 
 ghost use Rattle.std.specs.Prelude.{⊤};
 
+use crate::answers::Answers;
 use crate::octets::{Names, Shown, Words};
-use crate::tables::print_found;
+use crate::tables::tell_found;
 use anyhow::{Result, bail};
 use iim_dataset::{FromWrite, Stop};
 use iim_object::{ObjectFault, ObjectReader, ObjectSink, Plan, Size, SubfileBuffer, SubfileWriter};
 use std::alloc::Global;
-use std::io::Write;
 
 /// Collects the octets of an object.
 #[derive(Drop)]
@@ -63,15 +63,15 @@ enum Token {
 
 /// The token that the next words tell.
 fn token_of(names: &Names, words: &mut Words) -> Result<Token> {
-    Ok(match words.word()? {
-        b"7:10" => Token::Number(10, words.number()?),
-        b"7:20" => Token::Number(20, words.number()?),
-        b"7:90" => Token::Number(90, words.number()?),
-        b"7:95" => Token::Number(95, words.number()?),
-        b"8:10" => Token::Subfile(words.number()?),
-        b"run" => Token::Run(words.octets(names)?),
+    Ok(match words.word() {
+        b"7:10" => Token::Number(10, words.number()),
+        b"7:20" => Token::Number(20, words.number()),
+        b"7:90" => Token::Number(90, words.number()),
+        b"7:95" => Token::Number(95, words.number()),
+        b"8:10" => Token::Subfile(words.number()),
+        b"run" => Token::Run(words.octets(names)),
         b"end" => Token::End,
-        b"9:10" => Token::Confirmed(words.number()?),
+        b"9:10" => Token::Confirmed(words.number()),
         _ => bail!("no such token"),
     })
 }
@@ -91,67 +91,63 @@ fn take(reader: &mut ObjectReader, sink: &mut Joined, token: &Token) -> Result<(
 }
 
 /// Prints a number, or `-`.
-fn print_number<W: Write>(out: &mut W, number: Option<u64>) -> Result<()> {
+fn print_number(out: &mut Answers, number: Option<u64>) {
     match number {
-        Some(number) => write!(out, " {number}")?,
-        None => write!(out, " -")?,
+        Some(number) => out.show(&format_args!(" {number}")),
+        None => out.put(" -"),
     }
-    Ok(())
 }
 
 /// Prints what a reader of objects has.
-fn print_numbers<W: Write>(out: &mut W, reader: &ObjectReader) -> Result<()> {
+fn print_numbers(out: &mut Answers, reader: &ObjectReader) {
     if reader.is_failed() {
-        writeln!(out, "  failed")?;
-        return Ok(());
+        out.line("failed");
+        return;
     }
     let [mode, subfile, announced, maximum] = reader.numbers();
-    write!(out, "  numbers")?;
-    print_number(out, mode)?;
-    print_number(out, subfile)?;
-    print_number(out, announced)?;
-    print_number(out, maximum)?;
+    out.put("  numbers");
+    print_number(out, mode);
+    print_number(out, subfile);
+    print_number(out, announced);
+    print_number(out, maximum);
     let subfiles = reader.subfiles();
     let total = reader.total();
-    writeln!(out, ", subfiles {subfiles}, total {total}")?;
-    Ok(())
+    out.show(&format_args!(", subfiles {subfiles}, total {total}\n"));
 }
 
 /// Prints what records 7 to 9 have said of a whole object.
-fn print_sizes<W: Write>(out: &mut W, reader: &ObjectReader) -> Result<()> {
+fn print_sizes(out: &mut Answers, reader: &ObjectReader) {
     if reader.is_failed() {
-        return Ok(());
+        return;
     }
     let sizes = reader.sizes();
     let known = sizes.known;
     let subfile = sizes.subfile;
-    write!(out, "  sizes known {known} subfile {subfile} announced")?;
-    print_number(out, sizes.announced)?;
-    write!(out, " maximum")?;
-    print_number(out, sizes.maximum)?;
+    out.show(&format_args!("  sizes known {known} subfile {subfile} announced"));
+    print_number(out, sizes.announced);
+    out.put(" maximum");
+    print_number(out, sizes.maximum);
     let subfiles = sizes.subfiles;
     let total = sizes.total;
-    writeln!(out, " subfiles {subfiles} total {total}")?;
-    Ok(())
+    out.show(&format_args!(" subfiles {subfiles} total {total}\n"));
 }
 
 /// Prints the octets of an object, where some came.
-fn print_joined<W: Write>(out: &mut W, sink: &Joined) -> Result<()> {
+fn print_joined(out: &mut Answers, sink: &Joined) {
     if sink.octets.is_empty() {
-        return Ok(());
+        return;
     }
     let octets = Shown(sink.octets.as_slice());
     let ended = if sink.ended { ", ended" } else { "" };
-    writeln!(out, "  object {octets}{ended}")?;
-    Ok(())
+    out.tell(&format_args!("object {octets}{ended}"));
 }
 
 /// Prints why a token is refused, after so many.
-fn print_fault<W: Write>(out: &mut W, taken: u64, fault: ObjectFault) -> Result<()> {
+fn print_fault(out: &mut Answers, taken: u64, fault: ObjectFault) -> Result<()> {
     match fault {
         ObjectFault::Size { cause } => {
             let number = cause.number();
-            writeln!(out, "  refused after {taken}: {number} {cause:?}")?;
+            out.tell(&format_args!("refused after {taken}: {number} {cause:?}"));
         }
         ObjectFault::Stopped(_) => bail!("the sink stopped"),
     }
@@ -159,8 +155,8 @@ fn print_fault<W: Write>(out: &mut W, taken: u64, fault: ObjectFault) -> Result<
 }
 
 /// Reads tokens, and prints the first refusal or what the reader has.
-fn print_tokens<W: Write>(
-    out: &mut W,
+fn print_tokens(
+    out: &mut Answers,
     alloc: Global,
     names: &Names,
     words: &mut Words,
@@ -182,36 +178,37 @@ fn print_tokens<W: Write>(
             break;
         }
     }
-    print_numbers(out, &reader)?;
+    print_numbers(out, &reader);
     if is_confirmed {
-        print_sizes(out, &reader)?;
+        print_sizes(out, &reader);
     }
-    print_joined(out, &sink)
+    print_joined(out, &sink);
+    Ok(())
 }
 
 /// The reader at the place that the next words tell: the numbers of 7:10, 7:20, 7:90 and 7:95, the octets that have come, the
 /// count of a begun subfile and its octets to come, and how many subfiles there are. None where no tokens lead there.
-fn reader_at(words: &mut Words) -> Result<Option<ObjectReader>> {
-    let mode = words.number_or_none()?;
-    let subfile = words.number_or_none()?;
-    let announced = words.number_or_none()?;
-    let maximum = words.number_or_none()?;
-    let taken = words.number()?;
-    let count = words.number_or_none()?;
-    let left = words.number_or_none()?;
-    let heads = words.number()?;
+fn reader_at(words: &mut Words) -> Option<ObjectReader> {
+    let mode = words.number_or_none();
+    let subfile = words.number_or_none();
+    let announced = words.number_or_none();
+    let maximum = words.number_or_none();
+    let taken = words.number();
+    let count = words.number_or_none();
+    let left = words.number_or_none();
+    let heads = words.number();
     let begun = match (count, left) {
         (Some(count), Some(left)) => Some((count, left)),
         _ => None,
     };
     let numbers = [mode, subfile, announced, maximum];
-    Ok(ObjectReader::at(numbers, taken, begun, heads))
+    ObjectReader::at(numbers, taken, begun, heads)
 }
 
 /// The size of a plan that the next two words tell.
 fn size_of(words: &mut Words) -> Result<Size> {
-    let word = words.word()?;
-    let number = words.number_or_none()?;
+    let word = words.word();
+    let number = words.number_or_none();
     match (word, number) {
         (b"known", Some(number)) => Ok(Size::Known(number)),
         (b"unknown", number) => Ok(Size::Unknown(number)),
@@ -221,18 +218,18 @@ fn size_of(words: &mut Words) -> Result<Size> {
 
 /// The plan that the next three words tell.
 fn plan_of(words: &mut Words) -> Result<Option<Plan>> {
-    let subfile = words.number()?;
+    let subfile = words.number();
     Ok(Plan::new(subfile, size_of(words)?))
 }
 
 /// Writes an object by a plan, of which so many octets are handed over at a time, or what refuses it.
-fn written(alloc: Global, plan: Plan, object: &[u8], cut: usize) -> Result<Vec<u8>> {
+fn written(alloc: Global, plan: Plan, object: &[u8], cut: usize) -> Result<Answers> {
     let buffer = SubfileBuffer::reserve(alloc, plan)?;
     let target = FromWrite::new(Vec::new(alloc));
     let Ok(mut writer) = SubfileWriter::start(buffer, target) else {
         bail!("the target failed");
     };
-    let mut text = Vec::new(alloc);
+    let mut text = Answers::new(alloc);
     for at in 0..object.len() {
         if at % cut.max(1) != 0 {
             continue;
@@ -246,58 +243,53 @@ fn written(alloc: Global, plan: Plan, object: &[u8], cut: usize) -> Result<Vec<u
         if let Err(cause) = writer.write(piece) {
             let number = cause.number();
             let is_same = writer.written() == before;
-            writeln!(
-                text,
-                "  after {at}: {number} {cause:?}, unchanged {is_same}"
-            )?;
+            text.tell(&format_args!("after {at}: {number} {cause:?}, unchanged {is_same}"));
             break;
         }
     }
-    tell_end(&mut text, writer)?;
+    tell_end(&mut text, writer);
     Ok(text)
 }
 
 /// Ends an object, and writes its octets, or what refuses the end.
-fn tell_end(text: &mut Vec<u8>, writer: SubfileWriter<FromWrite<Vec<u8>>>) -> Result<()> {
+fn tell_end(text: &mut Answers, writer: SubfileWriter<FromWrite<Vec<u8>>>) {
     let total = writer.total();
     match writer.finish() {
         Ok(target) => {
             let octets = target.into_inner();
             let len = octets.len();
             let octets = Shown(octets.as_slice());
-            writeln!(text, "  {octets}")?;
-            writeln!(text, "  total {total}, {len} octets")?;
+            text.tell(&format_args!("{octets}"));
+            text.tell(&format_args!("total {total}, {len} octets"));
         }
         Err((writer, cause)) => {
             let number = cause.number();
             let failed = writer.is_failed();
             let is_same = writer.total() == total;
-            writeln!(
-                text,
-                "  end: {number} {cause:?}, failed {failed}, unchanged {is_same}"
-            )?;
+            text.tell(&format_args!(
+                "end: {number} {cause:?}, failed {failed}, unchanged {is_same}"
+            ));
         }
     }
-    Ok(())
 }
 
 /// Prints what is written of an object at once, and what is where it is handed over in pieces, if that differs.
-fn print_written<W: Write>(out: &mut W, alloc: Global, plan: Plan, object: &[u8]) -> Result<()> {
+fn print_written(out: &mut Answers, alloc: Global, plan: Plan, object: &[u8]) -> Result<()> {
     let whole = written(alloc, plan, object, usize::MAX)?;
-    out.write_all(whole.as_slice())?;
+    out.join(&whole);
     for cut in 1..object.len() {
         let other = written(alloc, plan, object, cut)?;
-        if other.as_slice() != whole.as_slice() {
-            writeln!(out, "  but in pieces of {cut}")?;
-            out.write_all(other.as_slice())?;
+        if !other.are(&whole) {
+            out.tell(&format_args!("but in pieces of {cut}"));
+            out.join(&other);
         }
     }
     Ok(())
 }
 
 /// Answers the words of objects; false where the word is none of them.
-pub fn answer<W: Write>(
-    out: &mut W,
+pub fn answer(
+    out: &mut Answers,
     alloc: Global,
     names: &Names,
     word: &[u8],
@@ -305,16 +297,16 @@ pub fn answer<W: Write>(
 ) -> Result<bool> {
     match word {
         b"object" => print_tokens(out, alloc, names, words, ObjectReader::new())?,
-        b"object_at" => match reader_at(words)? {
+        b"object_at" => match reader_at(words) {
             Some(reader) => print_tokens(out, alloc, names, words, reader)?,
-            None => writeln!(out, "  none")?,
+            None => out.line("none"),
         },
-        b"plan" => print_found(out, plan_of(words)?.map(|plan| plan.bound()))?,
+        b"plan" => tell_found(out, plan_of(words)?.map(|plan| plan.bound())),
         b"subfiles" => {
             let Some(plan) = plan_of(words)? else {
                 bail!("no such plan");
             };
-            print_written(out, alloc, plan, words.octets(names)?.as_slice())?;
+            print_written(out, alloc, plan, words.octets(names).as_slice())?;
         }
         _ => return Ok(false),
     }

@@ -1,6 +1,6 @@
 //! The words of a question, and octets as they are written in questions and answers.
 
-use anyhow::{Result, bail};
+use iim_fields::Limits;
 use std::alloc::Global;
 use std::fmt::{self, Display, Formatter};
 
@@ -34,37 +34,34 @@ impl Display for Shown<'_> {
 
 /// Whether an octet stands for itself in quotes.
 fn is_plain(octet: u8) -> bool {
-    (0x20..=0x7e).contains(&octet) && octet != b'"'
+    b' ' <= octet && octet <= b'~' && octet != b'"'
 }
 
 /// The value of a hexadecimal digit of upper case.
-fn digit(octet: u8) -> Result<u8> {
-    match octet {
-        b'0'..=b'9' => Ok(octet - b'0'),
-        b'A'..=b'F' => Ok(octet - b'A' + 10),
-        _ => bail!("no hexadecimal digit of upper case"),
+fn digit(octet: u8) -> Option<u8> {
+    if octet.is_ascii_digit() {
+        return octet.checked_sub(b'0');
     }
+    if b'A' <= octet && octet <= b'F' {
+        return octet.checked_sub(b'A' - 10);
+    }
+    None
 }
 
 /// The decimal number that octets spell.
-pub fn number_of(digits: &[u8]) -> Result<u64> {
-    let mut number = 0u64;
+pub fn number_of(digits: &[u8]) -> Option<u64> {
     if digits.is_empty() {
-        bail!("a number has no digits");
+        return None;
     }
+    let mut number = 0u64;
     for octet in digits {
-        if !octet.is_ascii_digit() {
-            bail!("no decimal digit");
+        let digit = octet.checked_sub(b'0')?;
+        if digit > 9 {
+            return None;
         }
-        let Some(more) = number.checked_mul(10) else {
-            bail!("the number is too great");
-        };
-        let Some(sum) = more.checked_add(u64::from(*octet - b'0')) else {
-            bail!("the number is too great");
-        };
-        number = sum;
+        number = number.checked_mul(10)?.checked_add(u64::from(digit))?;
     }
-    Ok(number)
+    Some(number)
 }
 
 /// The octets before a place, and those from it on.
@@ -90,10 +87,11 @@ fn name_len(octets: &[u8]) -> usize {
     end.unwrap_or(octets.len())
 }
 
-/// The words of a question that have not been read.
+/// The words of a question that have not been read. A word that has not its form is taken for nothing, and told at the end.
 #[derive(Clone, Copy)]
 pub struct Words<'q> {
     rest: &'q [u8],
+    is_wrong: bool,
 }
 
 /// How many octets the first word has: up to a space outside of quotes.
@@ -112,17 +110,18 @@ fn word_len(octets: &[u8]) -> usize {
 impl<'q> Words<'q> {
     /// All words of a question.
     pub fn new(question: &'q [u8]) -> Words<'q> {
-        Words { rest: question }
+        Words {
+            rest: question,
+            is_wrong: false,
+        }
     }
 
     /// The next word.
-    pub fn word(&mut self) -> Result<&'q [u8]> {
+    pub fn word(&mut self) -> &'q [u8] {
         let (word, rest) = parted(self.rest, word_len(self.rest));
-        if word.is_empty() {
-            bail!("an argument is missing");
-        }
+        self.is_wrong |= word.is_empty();
         self.rest = rest.get(1..).unwrap_or(&[]);
-        Ok(word)
+        word
     }
 
     /// Whether there are words left.
@@ -130,53 +129,67 @@ impl<'q> Words<'q> {
         !self.rest.is_empty()
     }
 
+    /// That a word had not its form.
+    pub fn refuse(&mut self) {
+        self.is_wrong = true;
+    }
+
     /// The next word, a decimal number.
-    pub fn number(&mut self) -> Result<u64> {
-        number_of(self.word()?)
+    pub fn number(&mut self) -> u64 {
+        let number = number_of(self.word());
+        self.is_wrong |= number.is_none();
+        number.unwrap_or(0)
     }
 
     /// The next word, a number of one octet.
-    pub fn octet(&mut self) -> Result<u8> {
-        match u8::try_from(self.number()?) {
-            Ok(octet) => Ok(octet),
-            Err(_) => bail!("a number above 255"),
+    pub fn octet(&mut self) -> u8 {
+        match u8::try_from(self.number()) {
+            Ok(octet) => octet,
+            Err(_) => {
+                self.is_wrong = true;
+                0
+            }
         }
     }
 
     /// The next word, a number or `-` for none.
-    pub fn number_or_none(&mut self) -> Result<Option<u64>> {
-        match self.word()? {
-            b"-" => Ok(None),
-            word => Ok(Some(number_of(word)?)),
+    pub fn number_or_none(&mut self) -> Option<u64> {
+        let word = self.word();
+        if matches!(word, b"-") {
+            return None;
         }
+        let number = number_of(word);
+        self.is_wrong |= number.is_none();
+        number
     }
 
-    /// The next word, two numbers of four octets at most with a stroke between them.
-    pub fn pair(&mut self) -> Result<(u32, u32)> {
-        let Some((first, second)) = cut_at(self.word()?, b'/') else {
-            bail!("no stroke between two numbers");
-        };
-        let (Ok(first), Ok(second)) = (
-            u32::try_from(number_of(first)?),
-            u32::try_from(number_of(second)?),
-        ) else {
-            bail!("a number above 4,294,967,295");
-        };
-        Ok((first, second))
+    /// The next word, limits: two numbers of four octets at most with a stroke between them.
+    pub fn limits(&mut self) -> Limits {
+        let pair = pair_of(self.word());
+        self.is_wrong |= pair.is_none();
+        let (octets, fields) = pair.unwrap_or((0, 0));
+        Limits { octets, fields }
     }
 
     /// The next word, octets.
-    pub fn octets(&mut self, names: &Names) -> Result<Vec<u8>> {
-        names.octets_of(self.word()?)
+    pub fn octets(&mut self, names: &Names) -> Vec<u8> {
+        let octets = names.octets_of(self.word());
+        self.is_wrong |= octets.is_none();
+        octets.unwrap_or(Vec::new(names.alloc))
     }
 
-    /// That there is no word left.
-    pub fn end(&self) -> Result<()> {
-        if self.has_more() {
-            bail!("an argument too many");
-        }
-        Ok(())
+    /// Whether each word had its form, and none is left.
+    pub fn are_right(&self) -> bool {
+        !self.is_wrong && self.rest.is_empty()
     }
+}
+
+/// Two numbers with a stroke between them.
+fn pair_of(word: &[u8]) -> Option<(u32, u32)> {
+    let (first, second) = cut_at(word, b'/')?;
+    let first = u32::try_from(number_of(first)?).ok()?;
+    let second = u32::try_from(number_of(second)?).ok()?;
+    Some((first, second))
 }
 
 /// A name, and the octets that it stands for.
@@ -203,33 +216,33 @@ impl Names {
     }
 
     /// Names octets: the name and the octets are the next words.
-    pub fn name(&mut self, words: &mut Words) -> Result<bool> {
-        let word = words.word()?;
-        if name_len(word) != word.len() {
-            bail!("a name is of lower-case letters");
-        }
+    pub fn name(&mut self, words: &mut Words) {
+        let word = words.word();
+        let octets = words.octets(self);
         let mut name = Vec::new(self.alloc);
-        name.extend_from_slice(word)?;
-        let octets = words.octets(self)?;
-        self.named.push(Named { name, octets })?;
-        Ok(true)
+        let is_kept = name.extend_from_slice(word).is_ok()
+            && name_len(word) == word.len()
+            && self.named.push(Named { name, octets }).is_ok();
+        if !is_kept {
+            words.refuse();
+        }
     }
 
     /// What a name stands for: what it was given last.
-    fn find(&self, name: &[u8]) -> Result<&[u8]> {
+    fn find(&self, name: &[u8]) -> Option<&[u8]> {
         for named in self.named.iter().rev() {
             if named.name.as_slice() == name {
-                return Ok(named.octets.as_slice());
+                return Some(named.octets.as_slice());
             }
         }
-        bail!("no such name")
+        None
     }
 
     /// The octets that a word writes.
-    fn octets_of(&self, word: &[u8]) -> Result<Vec<u8>> {
+    fn octets_of(&self, word: &[u8]) -> Option<Vec<u8>> {
         let mut octets = Vec::new(self.alloc);
         if matches!(word, b"-") {
-            return Ok(octets);
+            return Some(octets);
         }
         let mut rest = word;
         for _ in 0..word.len() {
@@ -239,26 +252,26 @@ impl Names {
                 _ => self.push_item(&mut octets, rest)?,
             };
         }
-        Ok(octets)
+        Some(octets)
     }
 
     /// Adds items as often as the number after them says, and answers what follows.
-    fn push_repeated<'w>(&self, octets: &mut Vec<u8>, rest: &'w [u8]) -> Result<&'w [u8]> {
+    fn push_repeated<'w>(&self, octets: &mut Vec<u8>, rest: &'w [u8]) -> Option<&'w [u8]> {
         let Some((items, [b'*', more @ ..])) = cut_at(rest, b')') else {
-            bail!("no number of times after `)`");
+            return None;
         };
         let end = more.iter().position(|octet| !octet.is_ascii_digit());
         let (times, more) = parted(more, end.unwrap_or(more.len()));
         let mut once = Vec::new(self.alloc);
         self.push_items(&mut once, items)?;
         for _ in 0..number_of(times)?.min(MOST) {
-            octets.extend_from_slice(once.as_slice())?;
+            octets.extend_from_slice(once.as_slice()).ok()?;
         }
-        Ok(more)
+        Some(more)
     }
 
     /// Adds items of which none is repeated.
-    fn push_items(&self, octets: &mut Vec<u8>, items: &[u8]) -> Result<()> {
+    fn push_items(&self, octets: &mut Vec<u8>, items: &[u8]) -> Option<()> {
         let mut rest = items;
         for _ in 0..items.len() {
             if rest.is_empty() {
@@ -266,61 +279,52 @@ impl Names {
             }
             rest = self.push_item(octets, rest)?;
         }
-        Ok(())
+        Some(())
     }
 
     /// Adds the first item, and answers what follows.
-    fn push_item<'w>(&self, octets: &mut Vec<u8>, rest: &'w [u8]) -> Result<&'w [u8]> {
+    fn push_item<'w>(&self, octets: &mut Vec<u8>, rest: &'w [u8]) -> Option<&'w [u8]> {
         match rest {
-            [b'.', more @ ..] => Ok(more),
+            [b'.', more @ ..] => Some(more),
             [b'"', more @ ..] => push_text(octets, more),
             [b'$', more @ ..] => self.push_named(octets, more),
             [high, low, more @ ..] => {
-                octets.push((digit(*high)? << 4) | digit(*low)?)?;
-                Ok(more)
+                octets.push((digit(*high)? << 4) | digit(*low)?).ok()?;
+                Some(more)
             }
-            _ => bail!("a hexadecimal digit without another"),
+            _ => None,
         }
     }
 
     /// Adds octets that have a name, all or those between two places, and answers what follows.
-    fn push_named<'w>(&self, octets: &mut Vec<u8>, rest: &'w [u8]) -> Result<&'w [u8]> {
+    fn push_named<'w>(&self, octets: &mut Vec<u8>, rest: &'w [u8]) -> Option<&'w [u8]> {
         let (name, more) = parted(rest, name_len(rest));
         let named = self.find(name)?;
         let [b'[', more @ ..] = more else {
-            octets.extend_from_slice(named)?;
-            return Ok(more);
+            octets.extend_from_slice(named).ok()?;
+            return Some(more);
         };
-        let Some((places, more)) = cut_at(more, b']') else {
-            bail!("no `]` after places");
-        };
-        octets.extend_from_slice(between(named, places)?)?;
-        Ok(more)
+        let (places, more) = cut_at(more, b']')?;
+        octets.extend_from_slice(between(named, places)?).ok()?;
+        Some(more)
     }
 }
 
 /// Adds the octets up to a quote, and answers what follows it.
-fn push_text<'w>(octets: &mut Vec<u8>, rest: &'w [u8]) -> Result<&'w [u8]> {
-    let Some((text, more)) = cut_at(rest, b'"') else {
-        bail!("no quote at the end");
-    };
-    octets.extend_from_slice(text)?;
-    Ok(more)
+fn push_text<'w>(octets: &mut Vec<u8>, rest: &'w [u8]) -> Option<&'w [u8]> {
+    let (text, more) = cut_at(rest, b'"')?;
+    octets.extend_from_slice(text).ok()?;
+    Some(more)
 }
 
 /// The octets between two places, which are written with a colon between them.
-fn between<'n>(named: &'n [u8], places: &[u8]) -> Result<&'n [u8]> {
-    let Some((from, to)) = cut_at(places, b':') else {
-        bail!("no colon between two places");
-    };
+fn between<'n>(named: &'n [u8], places: &[u8]) -> Option<&'n [u8]> {
+    let (from, to) = cut_at(places, b':')?;
     let from = if from.is_empty() { 0 } else { number_of(from)? };
     let to = if to.is_empty() {
         named.len() as u64
     } else {
         number_of(to)?
     };
-    match named.get(from as usize..to as usize) {
-        Some(octets) => Ok(octets),
-        None => bail!("no such places"),
-    }
+    named.get(from as usize..to as usize)
 }

@@ -4,6 +4,7 @@ mod calls;
 mod plans;
 mod writers;
 
+use crate::answers::Answers;
 use crate::octets::{Names, Shown, Words};
 use crate::scripts::told;
 use anyhow::{Context, Result};
@@ -14,7 +15,6 @@ use iim_pack::{Packer, pack, packed_size};
 use iim_script::Script;
 use plans::{plan_of, tell_no_plan, tell_plan};
 use std::alloc::Global;
-use std::io::Write;
 use wire_story::Lines;
 use writers::{Keeps, Memory, trial_of};
 
@@ -37,16 +37,16 @@ impl Packing {
     }
 
     /// Answers the words of scripts and of packing; false where the word is none of them.
-    pub fn answer<W: Write>(
+    pub fn answer(
         &mut self,
-        out: &mut W,
+        out: &mut Answers,
         names: &Names,
         word: &[u8],
         words: &mut Words,
     ) -> Result<bool> {
         match word {
             b"script" => {
-                let octets = words.octets(names)?;
+                let octets = words.octets(names);
                 self.told = told(self.alloc, out, octets.as_slice())?;
             }
             b"pack_trailer" => self.set_trailer(names, words)?,
@@ -62,27 +62,28 @@ impl Packing {
 
     /// Gives the value another trailer, whatever octets that is.
     fn set_trailer(&mut self, names: &Names, words: &mut Words) -> Result<()> {
-        let octets = words.octets(names)?;
+        let octets = words.octets(names);
         let script = self.told.as_mut().context(NO_VALUE)?;
         script.trailer = octets;
         Ok(())
     }
 
     /// Tells how many octets the object has.
-    fn tell_size<W: Write>(&self, out: &mut W) -> Result<()> {
+    fn tell_size(&self, out: &mut Answers) -> Result<()> {
         let script = self.told.as_ref().context(NO_VALUE)?;
         match packed_size(&script.head, &script.lines, script.trailer.as_slice()) {
-            Some(size) => writeln!(out, "  {size}")?,
-            None => writeln!(out, "  none")?,
+            Some(size) => out.tell(&format_args!("{size}")),
+            None => out.line("none"),
         }
         Ok(())
     }
 
     /// Packs the value at once.
-    fn pack<W: Write>(&self, out: &mut W, words: &mut Words) -> Result<()> {
+    fn pack(&self, out: &mut Answers, words: &mut Words) -> Result<()> {
         let script = self.told.as_ref().context(NO_VALUE)?;
         let Some(plan) = plan_of(words)? else {
-            return tell_no_plan(out);
+            tell_no_plan(out);
+            return Ok(());
         };
         match trial_of(words)? {
             Some(trial) => {
@@ -99,23 +100,24 @@ impl Packing {
 
     /// Packs the value with its text in pieces, by pieces of each length up to the one that is given, and tells each result that
     /// is not the one before.
-    fn pack_in_pieces<W: Write>(&self, out: &mut W, words: &mut Words) -> Result<()> {
+    fn pack_in_pieces(&self, out: &mut Answers, words: &mut Words) -> Result<()> {
         let script = self.told.as_ref().context(NO_VALUE)?;
-        let most = words.number()?;
+        let most = words.number();
         let Some(plan) = plan_of(words)? else {
-            return tell_no_plan(out);
+            tell_no_plan(out);
+            return Ok(());
         };
         let mut before = Vec::new(self.alloc);
         for length in 1..most.saturating_add(1) {
             let memory: Memory = FromWrite::new(Vec::new(self.alloc));
             let Ok(writer) = in_pieces(self.alloc, script, plan, memory, length) else {
-                writeln!(out, "  pieces of {length} refused")?;
+                out.tell(&format_args!("pieces of {length} refused"));
                 return Ok(());
             };
             let octets = writer.into_inner();
             if octets.as_slice() != before.as_slice() {
                 let shown = Shown(octets.as_slice());
-                writeln!(out, "  pieces of {length} packed {shown}")?;
+                out.tell(&format_args!("pieces of {length} packed {shown}"));
             }
             before = octets;
         }
@@ -123,10 +125,11 @@ impl Packing {
     }
 
     /// Begins a packer of the value.
-    fn start<W: Write>(&mut self, out: &mut W, words: &mut Words) -> Result<()> {
+    fn start(&mut self, out: &mut Answers, words: &mut Words) -> Result<()> {
         let script = self.told.as_ref().context(NO_VALUE)?;
         let Some(plan) = plan_of(words)? else {
-            return tell_no_plan(out);
+            tell_no_plan(out);
+            return Ok(());
         };
         self.calls.start(out, script, plan, trial_of(words)?)
     }
@@ -155,16 +158,16 @@ fn packed<W: Target>(
 }
 
 /// Tells what was packed, or why it was not.
-fn tell_ended<W: Write, K: Keeps>(
+fn tell_ended<K: Keeps>(
     alloc: Global,
-    out: &mut W,
+    out: &mut Answers,
     ended: Result<K, StartFault<K>>,
 ) -> Result<()> {
     match ended {
         Ok(writer) => {
             let octets = writer.kept(alloc)?;
             let octets = Shown(octets.as_slice());
-            writeln!(out, "  packed {octets}")?;
+            out.tell(&format_args!("packed {octets}"));
             Ok(())
         }
         Err(fault) => tell_fault(alloc, out, fault),

@@ -1,7 +1,6 @@
 //! Octets cut into pieces, in each way that a reader may be given them, and numbers as ranges.
 
-use anyhow::Result;
-use std::io::Write;
+use crate::answers::Answers;
 
 /// The longest octets that are cut in two at each place. Longer ones are cut in the middle.
 const MOST_CUT: usize = 128;
@@ -41,7 +40,7 @@ impl Cut {
 /// A reading of octets, which answers in lines.
 pub trait Reading {
     /// Reads the octets in these pieces.
-    fn read(&self, octets: &[u8], cut: Cut) -> Result<Vec<u8>>;
+    fn read(&self, octets: &[u8], cut: Cut) -> Answers;
 }
 
 /// The cut of this number, of those of so many octets but for one piece.
@@ -54,21 +53,22 @@ fn other_cut(len: usize, number: usize) -> Option<Cut> {
     }
 }
 
-/// Prints what the octets are read as in one piece, and what another cut makes of them where that differs.
-pub fn print_reading<W: Write, R: Reading>(out: &mut W, reading: &R, octets: &[u8]) -> Result<()> {
-    let whole = reading.read(octets, Cut::Whole)?;
-    out.write_all(whole.as_slice())?;
+/// Tells what the octets are read as in one piece, and what another cut makes of them where that differs.
+pub fn tell_reading<R: Reading>(answers: &mut Answers, reading: &R, octets: &[u8]) {
+    let whole = reading.read(octets, Cut::Whole);
+    answers.join(&whole);
     for number in 0..=MOST_CUT {
         let Some(cut) = other_cut(octets.len(), number) else {
             break;
         };
-        let other = reading.read(octets, cut)?;
-        if other.as_slice() != whole.as_slice() {
-            writeln!(out, "  but {cut:?}")?;
-            out.write_all(other.as_slice())?;
+        let other = reading.read(octets, cut);
+        if !other.are(&whole) {
+            answers.put("  but ");
+            answers.name(&cut);
+            answers.end();
+            answers.join(&other);
         }
     }
-    Ok(())
 }
 
 /// Numbers, of which some are in.
@@ -86,40 +86,41 @@ pub enum Digits {
     Decimal,
 }
 
-/// Writes a range of numbers, from first to last.
-fn print_range<W: Write>(out: &mut W, first: u64, last: u64, digits: Digits) -> Result<()> {
+/// Tells a number.
+fn tell_digits(answers: &mut Answers, number: u64, digits: Digits) {
     match digits {
-        Digits::Octets if first == last => write!(out, " {first:02X}")?,
-        Digits::Octets => write!(out, " {first:02X}..{last:02X}")?,
-        Digits::Decimal if first == last => write!(out, " {first}")?,
-        Digits::Decimal => write!(out, " {first}..{last}")?,
+        Digits::Octets => answers.show(&format_args!("{number:02X}")),
+        Digits::Decimal => answers.show(&number),
     }
-    Ok(())
 }
 
-/// Prints the numbers that are in, of those up to the greatest, as ranges in a line.
-pub fn print_class<W: Write, C: Class>(
-    out: &mut W,
-    class: &C,
-    greatest: u64,
-    digits: Digits,
-) -> Result<()> {
+/// Tells a range of numbers, from first to last.
+fn tell_range(answers: &mut Answers, first: u64, last: u64, digits: Digits) {
+    answers.put(" ");
+    tell_digits(answers, first, digits);
+    if first != last {
+        answers.put("..");
+        tell_digits(answers, last, digits);
+    }
+}
+
+/// Tells the numbers that are in, of those up to the greatest, as ranges in a line.
+pub fn tell_class<C: Class>(answers: &mut Answers, class: &C, greatest: u64, digits: Digits) {
     let mut first = None;
     let mut is_none = true;
-    write!(out, " ")?;
+    answers.put(" ");
     for number in 0..=greatest.saturating_add(1) {
         let is_in = number <= greatest && class.has(number);
         match first {
             None if is_in => first = Some(number),
             Some(from) if !is_in => {
-                print_range(out, from, number.saturating_sub(1), digits)?;
+                tell_range(answers, from, number.saturating_sub(1), digits);
                 first = None;
                 is_none = false;
             }
             _ => {}
         }
     }
-    let none = if is_none { " none" } else { "" };
-    writeln!(out, "{none}")?;
-    Ok(())
+    answers.put(if is_none { " none" } else { "" });
+    answers.end();
 }

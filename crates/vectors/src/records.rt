@@ -4,14 +4,14 @@ ghost use Rattle.std.specs.Prelude.{◌≢◌, length, OnOk};
 ghost use Rattle.iim_fields.specs.Format.Standing.{IsBetween, IsInside};
 ghost use Rattle.iim_fields.specs.Format.Checks.{TakesHead};
 
+use crate::answers::Answers;
 use crate::octets::{Names, Shown, Words};
-use crate::tables::{print_found, print_truth};
+use crate::tables::{tell_found, tell_truth};
 use crate::views::{print_fields, print_views, print_walk};
 use anyhow::{Result, bail};
 use iim_dataset::{DatasetName, Head};
 use iim_fields::{Envelope, EnvelopeBuilder, FieldCause, FieldFault, Fields, Limits, RecordCheck};
 use std::alloc::Global;
-use std::io::Write;
 
 /// A dataset at the front of some octets, and those after it. The data may be cut short.
 #[derive(Drop)]
@@ -60,19 +60,17 @@ fn split_whole(octets: &[u8]) -> Result<Option<Front<'_>>> {
 }
 
 /// Writes a fault.
-fn tell_fault(text: &mut Vec<u8>, fault: FieldFault) -> Result<()> {
+fn tell_fault(text: &mut Answers, fault: FieldFault) {
     let FieldFault { rec, set, cause } = fault;
     let name = DatasetName { rec, set };
-    writeln!(text, "  refused {name} {cause:?}")?;
-    Ok(())
+    text.tell(&format_args!("refused {name} {cause:?}"));
 }
 
 /// Writes the number that a dataset tells.
-fn tell_number(text: &mut Vec<u8>, head: Head, number: u64) -> Result<()> {
+fn tell_number(text: &mut Answers, head: Head, number: u64) {
     let Head { rec, set, count: _ } = head;
     let name = DatasetName { rec, set };
-    writeln!(text, "  {name} is {number}")?;
-    Ok(())
+    text.tell(&format_args!("{name} is {number}"));
 }
 
 /// Gives all octets of the begun dataset, in one piece or one by one.
@@ -128,7 +126,7 @@ fn begin(fields: &mut Fields, head: Head, data: &[u8]) -> Option<FieldFault>
 
 /// Passes the datasets that the octets spell, and writes what they tell, up to the first fault.
 fn pass_datasets(
-    text: &mut Vec<u8>,
+    text: &mut Answers,
     fields: &mut Fields,
     octets: &[u8],
     one_by_one: bool,
@@ -142,7 +140,7 @@ fn pass_datasets(
         };
         if !front.is_whole() {
             if let Some(fault) = begin(fields, front.head, front.data) {
-                tell_fault(text, fault)?;
+                tell_fault(text, fault);
             }
             break;
         }
@@ -152,10 +150,10 @@ fn pass_datasets(
             rest: after,
         } = front;
         match pass(fields, head, data, one_by_one) {
-            Ok(Some(number)) => tell_number(text, head, number)?,
+            Ok(Some(number)) => tell_number(text, head, number),
             Ok(None) => {}
             Err(fault) => {
-                tell_fault(text, fault)?;
+                tell_fault(text, fault);
                 break;
             }
         }
@@ -165,21 +163,20 @@ fn pass_datasets(
 }
 
 /// Writes where a reader of records stands.
-fn tell_place(text: &mut Vec<u8>, fields: &Fields) -> Result<()> {
+fn tell_place(text: &mut Answers, fields: &Fields) {
     let section = fields.section();
     if fields.is_failed() {
-        writeln!(text, "  record {section}, failed")?;
-        return Ok(());
+        text.tell(&format_args!("record {section}, failed"));
+        return;
     }
     match fields.begun_head() {
-        None => writeln!(text, "  record {section}")?,
+        None => text.tell(&format_args!("record {section}")),
         Some(Head { rec, set, count }) => {
             let name = DatasetName { rec, set };
             let begun = Shown(fields.begun());
-            writeln!(text, "  record {section}, in {name} of {count} {begun}")?;
+            text.tell(&format_args!("record {section}, in {name} of {count} {begun}"));
         }
     }
-    Ok(())
 }
 
 /// What a reader of records says of these datasets, and the reader.
@@ -188,11 +185,11 @@ fn read_fields(
     limits: Limits,
     octets: &[u8],
     one_by_one: bool,
-) -> Result<(Vec<u8>, Fields)> {
-    let mut text = Vec::new(alloc);
+) -> Result<(Answers, Fields)> {
+    let mut text = Answers::new(alloc);
     let mut fields = Fields::new(alloc, limits)?;
     pass_datasets(&mut text, &mut fields, octets, one_by_one)?;
-    tell_place(&mut text, &fields)?;
+    tell_place(&mut text, &fields);
     Ok((text, fields))
 }
 
@@ -211,7 +208,7 @@ fn check(check: &mut RecordCheck, head: Head, data: &[u8]) -> Result<Option<u64>
 }
 
 /// Checks the datasets that the octets spell, and writes what they tell, up to the first fault.
-fn check_datasets(text: &mut Vec<u8>, records: &mut RecordCheck, octets: &[u8]) -> Result<()>
+fn check_datasets(text: &mut Answers, records: &mut RecordCheck, octets: &[u8]) -> Result<()>
     requires { TakesHead records.old }
 {
     let mut rest = octets;
@@ -227,10 +224,10 @@ fn check_datasets(text: &mut Vec<u8>, records: &mut RecordCheck, octets: &[u8]) 
             break;
         };
         match check(records, head, data) {
-            Ok(Some(number)) => tell_number(text, head, number)?,
+            Ok(Some(number)) => tell_number(text, head, number),
             Ok(None) => {}
             Err(fault) => {
-                tell_fault(text, fault)?;
+                tell_fault(text, fault);
                 break;
             }
         }
@@ -240,19 +237,17 @@ fn check_datasets(text: &mut Vec<u8>, records: &mut RecordCheck, octets: &[u8]) 
 }
 
 /// Prints what a check alone says of these datasets.
-fn print_check<W: Write>(out: &mut W, alloc: Global, octets: &[u8]) -> Result<()> {
-    let mut text = Vec::new(alloc);
+fn print_check(out: &mut Answers, octets: &[u8]) -> Result<()> {
     let mut records = RecordCheck::new();
-    check_datasets(&mut text, &mut records, octets)?;
-    out.write_all(text.as_slice())?;
+    check_datasets(out, &mut records, octets)?;
     let section = records.section();
     let failed = if records.is_failed() { ", failed" } else { "" };
-    writeln!(out, "  record {section}{failed}")?;
+    out.tell(&format_args!("record {section}{failed}"));
     Ok(())
 }
 
 /// Adds the datasets that the octets spell, and writes the first fault.
-fn add_datasets(text: &mut Vec<u8>, builder: &mut EnvelopeBuilder, octets: &[u8]) -> Result<()> {
+fn add_datasets(text: &mut Answers, builder: &mut EnvelopeBuilder, octets: &[u8]) -> Result<()> {
     let mut rest = octets;
     for _ in 0..octets.len() {
         let Some(
@@ -266,27 +261,21 @@ fn add_datasets(text: &mut Vec<u8>, builder: &mut EnvelopeBuilder, octets: &[u8]
             break;
         };
         if let Err(fault) = builder.add(head.rec, head.set, data) {
-            return tell_fault(text, fault);
+            tell_fault(text, fault);
+            return Ok(());
         }
         rest = after;
     }
-    writeln!(text, "  added")?;
+    text.line("added");
     Ok(())
-}
-
-/// The limits that the next word tells.
-fn limits_of(words: &mut Words) -> Result<Limits> {
-    let (octets, fields) = words.pair()?;
-    Ok(Limits { octets, fields })
 }
 
 /// Prints the limit that is passed, or `none`.
-fn print_passed<W: Write>(out: &mut W, cause: Option<FieldCause>) -> Result<()> {
+fn print_passed(out: &mut Answers, cause: Option<FieldCause>) {
     match cause {
-        Some(cause) => writeln!(out, "  {cause:?}")?,
-        None => writeln!(out, "  none")?,
+        Some(cause) => out.tell(&format_args!("{cause:?}")),
+        None => out.line("none"),
     }
-    Ok(())
 }
 
 /// Envelopes that are read and built.
@@ -311,69 +300,66 @@ impl Envelopes {
     }
 
     /// Reads datasets in one piece each, and octet by octet, and keeps the reader.
-    fn read<W: Write>(&mut self, out: &mut W, limits: Limits, octets: &[u8]) -> Result<()> {
+    fn read(&mut self, out: &mut Answers, limits: Limits, octets: &[u8]) -> Result<()> {
         let (each, _) = read_fields(self.alloc, limits, octets, true)?;
         let (whole, fields) = read_fields(self.alloc, limits, octets, false)?;
-        out.write_all(whole.as_slice())?;
-        if each.as_slice() != whole.as_slice() {
-            writeln!(out, "  but octet by octet")?;
-            out.write_all(each.as_slice())?;
+        out.join(&whole);
+        if !each.are(&whole) {
+            out.line("but octet by octet");
+            out.join(&each);
         }
         self.fields = Some(fields);
         Ok(())
     }
 
     /// Prints the datasets that the reader has kept.
-    fn print_kept<W: Write>(&self, out: &mut W) -> Result<()> {
+    fn print_kept(&self, out: &mut Answers) -> Result<()> {
         let Some(fields) = &self.fields else {
             bail!("nothing is read");
         };
-        print_fields(out, fields.kept())
+        print_fields(out, fields.kept());
+        Ok(())
     }
 
     /// Takes the envelope of the reader, and prints whether there is one.
-    fn take_envelope<W: Write>(&mut self, out: &mut W) -> Result<()> {
+    fn take_envelope(&mut self, out: &mut Answers) -> Result<()> {
         let Some(fields) = self.fields.take() else {
             bail!("nothing is read");
         };
         match fields.into_envelope() {
             Ok(envelope) => {
                 self.envelopes.push(envelope)?;
-                print_truth(out, true)
+                tell_truth(out, true);
             }
             Err(fields) => {
                 self.fields = Some(fields);
-                print_truth(out, false)
+                tell_truth(out, false);
             }
         }
-    }
-
-    /// Adds datasets to the builder.
-    fn add<W: Write>(&mut self, out: &mut W, octets: &[u8]) -> Result<()> {
-        let Some(builder) = &mut self.builder else {
-            bail!("nothing is built");
-        };
-        let mut text = Vec::new(self.alloc);
-        add_datasets(&mut text, builder, octets)?;
-        out.write_all(text.as_slice())?;
         Ok(())
     }
 
+    /// Adds datasets to the builder.
+    fn add(&mut self, out: &mut Answers, octets: &[u8]) -> Result<()> {
+        let Some(builder) = &mut self.builder else {
+            bail!("nothing is built");
+        };
+        add_datasets(out, builder, octets)
+    }
+
     /// Takes the envelope of the builder, and prints what is missing where there is none.
-    fn finish<W: Write>(&mut self, out: &mut W) -> Result<()> {
+    fn finish(&mut self, out: &mut Answers) -> Result<()> {
         let Some(builder) = self.builder.take() else {
             bail!("nothing is built");
         };
         match builder.finish() {
             Ok(envelope) => {
                 self.envelopes.push(envelope)?;
-                writeln!(out, "  finished")?;
+                out.line("finished");
             }
             Err((builder, fault)) => {
                 self.builder = Some(builder);
-                let mut text = Vec::new(self.alloc);
-                tell_fault(&mut text, fault)?;
-                out.write_all(text.as_slice())?;
+                tell_fault(out, fault);
             }
         }
         Ok(())
@@ -388,26 +374,26 @@ impl Envelopes {
     }
 
     /// Answers the words of readers; false where the word is none of them.
-    pub fn answer<W: Write>(
+    pub fn answer(
         &mut self,
-        out: &mut W,
+        out: &mut Answers,
         names: &Names,
         word: &[u8],
         words: &mut Words,
     ) -> Result<bool> {
         match word {
             b"fields" => {
-                let limits = limits_of(words)?;
-                self.read(out, limits, words.octets(names)?.as_slice())?;
+                let limits = words.limits();
+                self.read(out, limits, words.octets(names).as_slice())?;
             }
             b"kept" => self.print_kept(out)?,
             b"envelope" => self.take_envelope(out)?,
-            b"check" => print_check(out, self.alloc, words.octets(names)?.as_slice())?,
+            b"check" => print_check(out, words.octets(names).as_slice())?,
             b"passed" => {
-                let limits = limits_of(words)?;
-                let octets = words.number()?;
-                let fields = words.number()?;
-                print_passed(out, limits.passed(octets, fields))?;
+                let limits = words.limits();
+                let octets = words.number();
+                let fields = words.number();
+                print_passed(out, limits.passed(octets, fields));
             }
             _ => return self.answer_built(out, names, word, words),
         }
@@ -415,16 +401,16 @@ impl Envelopes {
     }
 
     /// Answers the words of builders; false where the word is none of them.
-    fn answer_built<W: Write>(
+    fn answer_built(
         &mut self,
-        out: &mut W,
+        out: &mut Answers,
         names: &Names,
         word: &[u8],
         words: &mut Words,
     ) -> Result<bool> {
         match word {
-            b"builder" => self.builder = Some(EnvelopeBuilder::new(self.alloc, limits_of(words)?)?),
-            b"add" => self.add(out, words.octets(names)?.as_slice())?,
+            b"builder" => self.builder = Some(EnvelopeBuilder::new(self.alloc, words.limits())?),
+            b"add" => self.add(out, words.octets(names).as_slice())?,
             b"finish" => self.finish(out)?,
             _ => return self.answer_views(out, word, words),
         }
@@ -432,31 +418,26 @@ impl Envelopes {
     }
 
     /// Answers the words of envelopes; false where the word is none of them.
-    fn answer_views<W: Write>(
-        &mut self,
-        out: &mut W,
-        word: &[u8],
-        words: &mut Words,
-    ) -> Result<bool> {
+    fn answer_views(&mut self, out: &mut Answers, word: &[u8], words: &mut Words) -> Result<bool> {
         match word {
-            b"views" => print_views(out, self.last()?)?,
-            b"listed" => print_fields(out, self.last()?.fields())?,
+            b"views" => print_views(out, self.last()?),
+            b"listed" => print_fields(out, self.last()?.fields()),
             b"first" => {
-                let rec = words.octet()?;
-                let set = words.octet()?;
-                print_found(
+                let rec = words.octet();
+                let set = words.octet();
+                tell_found(
                     out,
                     self.last()?.first(rec, set).map(|octets| Shown(octets)),
-                )?;
+                );
             }
             b"all" => {
-                let rec = words.octet()?;
-                let set = words.octet()?;
-                print_walk(out, "all", self.last()?.all(rec, set))?;
+                let rec = words.octet();
+                let set = words.octet();
+                print_walk(out, "all", self.last()?.all(rec, set));
             }
             b"forget" => self.envelopes = Vec::new(self.alloc),
             b"ids" => print_ids(out, self.envelopes.as_slice())?,
-            b"same" => print_same(out, self.envelopes.as_slice())?,
+            b"same" => print_same(out, self.envelopes.as_slice()),
             _ => return Ok(false),
         }
         Ok(true)
@@ -464,12 +445,12 @@ impl Envelopes {
 }
 
 /// Prints how an id stands to those of the envelopes: before, at the same place, or after.
-fn print_id<W: Write>(out: &mut W, envelope: &Envelope, envelopes: &[Envelope]) -> Result<()> {
+fn print_id(out: &mut Answers, envelope: &Envelope, envelopes: &[Envelope]) -> Result<()> {
     let id = envelope.id().clone()?;
     let service = Shown(id.service());
     let number = Shown(id.number());
     let date_sent = Shown(id.date_sent());
-    write!(out, "  {service} {number} {date_sent} ")?;
+    out.show(&format_args!("  {service} {number} {date_sent} "));
     for other in envelopes {
         let other = other.id();
         let order = id.cmp(&other);
@@ -480,14 +461,14 @@ fn print_id<W: Write>(out: &mut W, envelope: &Envelope, envelopes: &[Envelope]) 
             (true, false, true) => '=',
             (true, false, false) => '>',
         };
-        write!(out, "{sign}")?;
+        out.show(&format_args!("{sign}"));
     }
-    writeln!(out)?;
+    out.end();
     Ok(())
 }
 
 /// Prints the id of each envelope, and how it stands to each.
-fn print_ids<W: Write>(out: &mut W, envelopes: &[Envelope]) -> Result<()> {
+fn print_ids(out: &mut Answers, envelopes: &[Envelope]) -> Result<()> {
     for envelope in envelopes {
         print_id(out, envelope, envelopes)?;
     }
@@ -495,20 +476,18 @@ fn print_ids<W: Write>(out: &mut W, envelopes: &[Envelope]) -> Result<()> {
 }
 
 /// Prints of which envelopes this one is the same.
-fn print_sames<W: Write>(out: &mut W, envelope: &Envelope, envelopes: &[Envelope]) -> Result<()> {
-    write!(out, "  ")?;
+fn print_sames(out: &mut Answers, envelope: &Envelope, envelopes: &[Envelope]) {
+    out.put("  ");
     for other in envelopes {
         let sign = if envelope.same(other) { '=' } else { '.' };
-        write!(out, "{sign}")?;
+        out.show(&format_args!("{sign}"));
     }
-    writeln!(out)?;
-    Ok(())
+    out.end();
 }
 
 /// Prints of each envelope which ones are the same.
-fn print_same<W: Write>(out: &mut W, envelopes: &[Envelope]) -> Result<()> {
+fn print_same(out: &mut Answers, envelopes: &[Envelope]) {
     for envelope in envelopes {
-        print_sames(out, envelope, envelopes)?;
+        print_sames(out, envelope, envelopes);
     }
-    Ok(())
 }

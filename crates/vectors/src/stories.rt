@@ -1,12 +1,11 @@
 //! Texts read in any cut, their lines and their words.
 
-use crate::octets::{Names, Shown, Words};
-use crate::readings::{Class, Cut, Digits, Reading, print_class, print_reading};
-use crate::tables::{print_found, print_truth};
-use anyhow::Result;
+use crate::answers::Answers;
+use crate::octets::{Names, Words};
+use crate::readings::{Class, Cut, Digits, Reading, tell_class, tell_reading};
+use crate::tables::tell_truth;
 use iim_dataset::FromWrite;
 use std::alloc::Global;
-use std::io::Write;
 use wire_story::{
     Discard, LINE_END, LineWriter, Lines, StorySink, TextFault, TextReader, WordCount, is_text,
     text_len,
@@ -43,23 +42,25 @@ fn read_text<S: StorySink>(
     }
 }
 
-/// Writes which octet is refused and why.
-fn tell_fault(text: &mut Vec<u8>, fault: TextFault, reader: &TextReader) -> Result<()> {
-    let TextFault { taken, cause } = fault;
-    writeln!(text, "  refused at {taken} {cause:?}")?;
+/// Tells which octet is refused and why.
+fn tell_fault(answers: &mut Answers, fault: TextFault, reader: &TextReader) {
+    answers.put("  refused at ");
+    answers.show(&fault.taken);
+    answers.put(" ");
+    answers.name(&fault.cause);
+    answers.end();
     if !reader.is_failed() {
-        writeln!(text, "  not failed")?;
+        answers.line("not failed");
     }
-    Ok(())
 }
 
-/// Writes the lines.
-pub fn tell_lines(text: &mut Vec<u8>, lines: &Lines) -> Result<()> {
+/// Tells the lines.
+pub fn tell_lines(answers: &mut Answers, lines: &Lines) {
     for line in lines.iter() {
-        let line = Shown(line);
-        writeln!(text, "  line {line}")?;
+        answers.put("  line ");
+        answers.octets(line);
+        answers.end();
     }
-    Ok(())
 }
 
 /// A reading of a text into lines, and how many octets they have where they are packed.
@@ -69,19 +70,21 @@ struct InLines {
 }
 
 impl Reading for InLines {
-    fn read(&self, octets: &[u8], cut: Cut) -> Result<Vec<u8>> {
-        let mut text = Vec::new(self.alloc);
+    fn read(&self, octets: &[u8], cut: Cut) -> Answers {
+        let mut answers = Answers::new(self.alloc);
         let mut lines = Lines::new(self.alloc);
         let mut reader = TextReader::new();
         let fault = read_text(&mut reader, octets, cut, &mut lines);
-        tell_lines(&mut text, &lines)?;
+        tell_lines(&mut answers, &lines);
         if let Some(fault) = fault {
-            tell_fault(&mut text, fault, &reader)?;
+            tell_fault(&mut answers, fault, &reader);
         }
         if let Some(len) = text_len(&lines) {
-            writeln!(text, "  packed {len}")?;
+            answers.put("  packed ");
+            answers.show(&len);
+            answers.end();
         }
-        Ok(text)
+        answers
     }
 }
 
@@ -92,18 +95,19 @@ struct Written {
 }
 
 impl Reading for Written {
-    fn read(&self, octets: &[u8], cut: Cut) -> Result<Vec<u8>> {
+    fn read(&self, octets: &[u8], cut: Cut) -> Answers {
         let mut sink = LineWriter::new(FromWrite::new(Vec::new(self.alloc)));
         let mut reader = TextReader::new();
         let fault = read_text(&mut reader, octets, cut, &mut sink);
         let written = sink.into_writer().into_inner();
-        let mut text = Vec::new(self.alloc);
-        let written = Shown(written.as_slice());
-        writeln!(text, "  {written}")?;
+        let mut answers = Answers::new(self.alloc);
+        answers.put("  ");
+        answers.octets(written.as_slice());
+        answers.end();
         if let Some(fault) = fault {
-            tell_fault(&mut text, fault, &reader)?;
+            tell_fault(&mut answers, fault, &reader);
         }
-        Ok(text)
+        answers
     }
 }
 
@@ -114,16 +118,17 @@ struct Counted {
 }
 
 impl Reading for Counted {
-    fn read(&self, octets: &[u8], cut: Cut) -> Result<Vec<u8>> {
+    fn read(&self, octets: &[u8], cut: Cut) -> Answers {
         let mut count = WordCount::new();
-        let mut text = Vec::new(self.alloc);
+        let mut answers = Answers::new(self.alloc);
         let mut reader = TextReader::new();
         if let Some(fault) = read_text(&mut reader, octets, cut, &mut count) {
-            tell_fault(&mut text, fault, &reader)?;
+            tell_fault(&mut answers, fault, &reader);
         }
-        let words = count.words();
-        writeln!(text, "  {words}")?;
-        Ok(text)
+        answers.put("  ");
+        answers.show(&count.words());
+        answers.end();
+        answers
     }
 }
 
@@ -170,39 +175,45 @@ impl Class for Between {
     }
 }
 
-/// Prints how many CR a reader holds that is put after so many, or `none`.
-fn print_held<W: Write>(out: &mut W, held: u8) -> Result<()> {
-    let Some(reader) = TextReader::at(held) else {
-        return print_found::<W, u8>(out, None);
-    };
-    if reader.is_failed() {
-        return print_truth(out, false);
+/// Tells how many CR a reader holds that is put after so many, or `none`.
+fn tell_held(answers: &mut Answers, held: u8) {
+    match TextReader::at(held) {
+        None => answers.line("none"),
+        Some(reader) if reader.is_failed() => answers.line("no"),
+        Some(reader) => {
+            answers.put("  ");
+            answers.show(&reader.held());
+            answers.end();
+        }
     }
-    print_found(out, Some(reader.held()))
+}
+
+/// Tells the octets of a line end.
+fn tell_line_end(answers: &mut Answers) {
+    answers.put("  ");
+    answers.octets(&LINE_END);
+    answers.end();
 }
 
 /// Answers the words of texts; false where the word is none of them.
-pub fn answer<W: Write>(
-    out: &mut W,
+pub fn answer(
+    answers: &mut Answers,
     alloc: Global,
     names: &Names,
     word: &[u8],
     words: &mut Words,
-) -> Result<bool> {
+) -> bool {
     match word {
-        b"text" => print_reading(out, &InLines { alloc }, words.octets(names)?.as_slice())?,
-        b"write_text" => print_reading(out, &Written { alloc }, words.octets(names)?.as_slice())?,
-        b"words" => print_reading(out, &Counted { alloc }, words.octets(names)?.as_slice())?,
-        b"is_text" => print_truth(out, is_text(words.octets(names)?.as_slice()))?,
-        b"line_octets" => print_class(out, &InLine, 255, Digits::Octets)?,
-        b"text_octets" => print_class(out, &AloneText, 255, Digits::Octets)?,
-        b"spaces" => print_class(out, &Between, 255, Digits::Octets)?,
-        b"held" => print_held(out, words.octet()?)?,
-        b"line_end" => {
-            let line_end = Shown(&LINE_END);
-            writeln!(out, "  {line_end}")?;
-        }
-        _ => return Ok(false),
+        b"text" => tell_reading(answers, &InLines { alloc }, words.octets(names).as_slice()),
+        b"write_text" => tell_reading(answers, &Written { alloc }, words.octets(names).as_slice()),
+        b"words" => tell_reading(answers, &Counted { alloc }, words.octets(names).as_slice()),
+        b"is_text" => tell_truth(answers, is_text(words.octets(names).as_slice())),
+        b"line_octets" => tell_class(answers, &InLine, 255, Digits::Octets),
+        b"text_octets" => tell_class(answers, &AloneText, 255, Digits::Octets),
+        b"spaces" => tell_class(answers, &Between, 255, Digits::Octets),
+        b"held" => tell_held(answers, words.octet()),
+        b"line_end" => tell_line_end(answers),
+        _ => return false,
     }
-    Ok(true)
+    true
 }

@@ -1,5 +1,6 @@
 //! A stream and its one answer: in one piece, in pieces, and continued from the tickets of its places.
 
+use crate::answers::Answers;
 use crate::cuts::{Cuts, LONGEST, feed_cut};
 use crate::values::{Line, are_same};
 use anyhow::{Result, bail, ensure};
@@ -9,7 +10,6 @@ use iim_unpack::{
     Cause, Intake, IntakeFault, Layer, Progress, Refusal, SaveFault, Unpacked, Unpacker,
 };
 use std::alloc::Global;
-use std::io::Write;
 use wire_story::{Discard, Lines};
 
 /// How many places a stream is saved at, or a few more.
@@ -50,17 +50,16 @@ impl Told {
 }
 
 /// Prints the lines of a text, each of which an LF ends.
-fn print_text<W: Write>(out: &mut W, text: &[u8]) -> Result<()> {
+fn print_text(out: &mut Answers, text: &[u8]) {
     let mut rest = text;
     for _ in 0..text.len() {
         let Some(end) = rest.iter().position(|octet| *octet == b'\n') else {
             break;
         };
         let line = Line(rest.get(..end).unwrap_or(&[]));
-        writeln!(out, "  line {line}")?;
+        out.tell(&format_args!("line {line}"));
         rest = rest.get(end.saturating_add(1)..).unwrap_or(&[]);
     }
-    Ok(())
 }
 
 /// Adds lines to a text that ends in the midst of one, or is empty, with an LF after each.
@@ -271,20 +270,17 @@ impl Stream<'_> {
     }
 
     /// Prints what the octets come to at once. It is an error if they come to something else in pieces, or from a ticket.
-    pub fn print<W: Write>(self, out: &mut W) -> Result<()> {
+    pub fn print(self, out: &mut Answers) -> Result<()> {
         let whole = self.whole()?;
         match &whole.answer {
-            Ok(used) => writeln!(out, "  done {used}")?,
-            Err(refusal) => writeln!(out, "  {refusal}")?,
+            Ok(used) => out.tell(&format_args!("done {used}")),
+            Err(refusal) => out.tell(&format_args!("{refusal}")),
         }
-        print_text(out, whole.text.as_slice())?;
+        print_text(out, whole.text.as_slice());
         self.check_pieces(&whole)?;
         let longest = LONGEST;
         let places = self.check_tickets(&whole)?;
-        writeln!(
-            out,
-            "  the same in pieces of 1 to {longest}, and from {places} tickets"
-        )?;
+        out.tell(&format_args!("the same in pieces of 1 to {longest}, and from {places} tickets"));
         Ok(())
     }
 }

@@ -1,15 +1,14 @@
 //! Rows, kinds, numbers, dates and instants, and the causes by their numbers.
 
+use crate::answers::Answers;
 use crate::octets::{Names, Words};
-use crate::readings::{Class, Digits, print_class};
+use crate::readings::{Class, Digits, tell_class};
 use anyhow::{Result, bail};
 use iim_dataset::{DatasetName, push_shown};
 use iim_object::{PackCause, SizeCause};
 use iim_tables::{Duty, Kind, Row, admits, date_of, instant_of, number_of, row};
-use iim_unpack::{Cause, Layer};
 use std::alloc::Global;
 use std::fmt::Display;
-use std::io::Write;
 
 /// The greatest number of octets that `lengths` tries.
 const MOST_OCTETS: usize = 10_000;
@@ -50,7 +49,7 @@ impl Class for Alone {
 }
 
 /// Prints the octets that alone are a value of the kind.
-fn print_kind<W: Write>(out: &mut W, kind: Kind) -> Result<()> {
+fn print_kind(out: &mut Answers, kind: Kind) {
     let row = Row {
         min: 1,
         max: 1,
@@ -58,7 +57,7 @@ fn print_kind<W: Write>(out: &mut W, kind: Kind) -> Result<()> {
         duty: Duty::Optional,
         repeats: false,
     };
-    print_class(out, &Alone { row }, 255, Digits::Octets)
+    tell_class(out, &Alone { row }, 255, Digits::Octets)
 }
 
 /// How many of some octets a row admits, from the first.
@@ -78,7 +77,7 @@ impl Class for Lengths<'_> {
 }
 
 /// Prints how many octets of a sample, over and over, the row admits.
-fn print_lengths<W: Write>(out: &mut W, alloc: Global, row: Row, sample: &[u8]) -> Result<()> {
+fn print_lengths(out: &mut Answers, alloc: Global, row: Row, sample: &[u8]) -> Result<()> {
     let octets: Vec<u8> = sample
         .iter()
         .copied()
@@ -89,11 +88,12 @@ fn print_lengths<W: Write>(out: &mut W, alloc: Global, row: Row, sample: &[u8]) 
         row,
         octets: octets.as_slice(),
     };
-    print_class(out, &class, MOST_OCTETS as u64, Digits::Decimal)
+    tell_class(out, &class, MOST_OCTETS as u64, Digits::Decimal);
+    Ok(())
 }
 
 /// Prints the rows of a record, those in a row that are the same as one.
-fn print_rows<W: Write>(out: &mut W, rec: u8) -> Result<()> {
+fn print_rows(out: &mut Answers, rec: u8) {
     let mut first = 0;
     let mut is_none = true;
     for set in 0..=255u8 {
@@ -102,24 +102,23 @@ fn print_rows<W: Write>(out: &mut W, rec: u8) -> Result<()> {
             continue;
         }
         if let Some(row) = found {
-            print_row(out, rec, first, set, row)?;
+            print_row(out, rec, first, set, row);
             is_none = false;
         }
         first = set.saturating_add(1);
     }
     if is_none {
-        writeln!(out, "  none")?;
+        out.line("none");
     }
-    Ok(())
 }
 
 /// Prints the row of the numbers from first to last.
-fn print_row<W: Write>(out: &mut W, rec: u8, first: u8, last: u8, row: Row) -> Result<()> {
+fn print_row(out: &mut Answers, rec: u8, first: u8, last: u8, row: Row) {
     let name = DatasetName { rec, set: first };
-    write!(out, "  {name}")?;
+    out.show(&format_args!("  {name}"));
     if first != last {
         let name = DatasetName { rec, set: last };
-        write!(out, "..{name}")?;
+        out.show(&format_args!("..{name}"));
     }
     let Row {
         min,
@@ -129,24 +128,21 @@ fn print_row<W: Write>(out: &mut W, rec: u8, first: u8, last: u8, row: Row) -> R
         repeats,
     } = row;
     let repeats = if repeats { "repeats" } else { "once" };
-    writeln!(out, " {min}..{max} {kind:?} {duty:?} {repeats}")?;
-    Ok(())
+    out.show(&format_args!(" {min}..{max} {kind:?} {duty:?} {repeats}\n"));
 }
 
 /// Prints a value, or `none`.
-pub fn print_found<W: Write, T: Display + Drop>(out: &mut W, found: Option<T>) -> Result<()> {
+pub fn tell_found<T: Display + Drop>(out: &mut Answers, found: Option<T>) {
     match found {
-        Some(value) => writeln!(out, "  {value}")?,
-        None => writeln!(out, "  none")?,
+        Some(value) => out.tell(&format_args!("{value}")),
+        None => out.line("none"),
     }
-    Ok(())
 }
 
 /// Prints whether something holds.
-pub fn print_truth<W: Write>(out: &mut W, holds: bool) -> Result<()> {
+pub fn tell_truth(out: &mut Answers, holds: bool) {
     let word = if holds { "yes" } else { "no" };
-    writeln!(out, "  {word}")?;
-    Ok(())
+    out.tell(&format_args!("{word}"));
 }
 
 /// Each cause of the sizes of an object.
@@ -171,37 +167,35 @@ const PACK_CAUSES: [PackCause; 7] = [
 ];
 
 /// Prints each cause of the sizes of an object with its number.
-fn print_size_causes<W: Write>(out: &mut W) -> Result<()> {
+fn print_size_causes(out: &mut Answers) {
     for cause in SIZE_CAUSES {
         let number = cause.number();
-        writeln!(out, "  {number} {cause:?}")?;
+        out.tell(&format_args!("{number} {cause:?}"));
     }
-    Ok(())
 }
 
 /// Prints each cause of a packer with its number.
-fn print_pack_causes<W: Write>(out: &mut W) -> Result<()> {
+fn print_pack_causes(out: &mut Answers) {
     for cause in PACK_CAUSES {
         let number = cause.number();
-        writeln!(out, "  {number} {cause:?}")?;
+        out.tell(&format_args!("{number} {cause:?}"));
     }
-    Ok(())
 }
 
 /// Prints octets as they are shown.
-fn print_shown<W: Write>(out: &mut W, alloc: Global, octets: &[u8]) -> Result<()> {
+fn print_shown(out: &mut Answers, alloc: Global, octets: &[u8]) -> Result<()> {
     let mut text = Vec::new(alloc);
     push_shown(&mut text, octets)?;
-    write!(out, "  ")?;
-    out.write_all(text.as_slice())?;
-    writeln!(out)?;
+    out.put("  ");
+    out.add(text.as_slice());
+    out.end();
     Ok(())
 }
 
 /// The row that the next two words name.
 fn named_row(words: &mut Words) -> Result<Row> {
-    let rec = words.octet()?;
-    let set = words.octet()?;
+    let rec = words.octet();
+    let set = words.octet();
     match row(rec, set) {
         Some(row) => Ok(row),
         None => bail!("no such row"),
@@ -209,34 +203,34 @@ fn named_row(words: &mut Words) -> Result<Row> {
 }
 
 /// Prints the row that the next two words name.
-fn print_named<W: Write>(out: &mut W, words: &mut Words) -> Result<()> {
-    let rec = words.octet()?;
-    let set = words.octet()?;
+fn print_named(out: &mut Answers, words: &mut Words) {
+    let rec = words.octet();
+    let set = words.octet();
     match row(rec, set) {
         Some(row) => print_row(out, rec, set, set, row),
-        None => print_found::<W, u8>(out, None),
+        None => tell_found::<u8>(out, None),
     }
 }
 
 /// Answers the words of rows and kinds; false where the word is none of them.
-fn answer_rows<W: Write>(
-    out: &mut W,
+fn answer_rows(
+    out: &mut Answers,
     alloc: Global,
     names: &Names,
     word: &[u8],
     words: &mut Words,
 ) -> Result<bool> {
     match word {
-        b"row" => print_named(out, words)?,
-        b"rows" => print_rows(out, words.octet()?)?,
-        b"kind" => print_kind(out, kind_of(words.word()?)?)?,
+        b"row" => print_named(out, words),
+        b"rows" => print_rows(out, words.octet()),
+        b"kind" => print_kind(out, kind_of(words.word())?),
         b"admits" => {
             let row = named_row(words)?;
-            print_truth(out, admits(&row, words.octets(names)?.as_slice()))?;
+            tell_truth(out, admits(&row, words.octets(names).as_slice()));
         }
         b"lengths" => {
             let row = named_row(words)?;
-            print_lengths(out, alloc, row, words.octets(names)?.as_slice())?;
+            print_lengths(out, alloc, row, words.octets(names).as_slice())?;
         }
         _ => return Ok(false),
     }
@@ -244,24 +238,24 @@ fn answer_rows<W: Write>(
 }
 
 /// Answers the words of the tables; false where the word is none of them.
-pub fn answer<W: Write>(
-    out: &mut W,
+pub fn answer(
+    out: &mut Answers,
     alloc: Global,
     names: &Names,
     word: &[u8],
     words: &mut Words,
 ) -> Result<bool> {
     match word {
-        b"number" => print_found(out, number_of(words.octets(names)?.as_slice()))?,
-        b"date" => print_found(out, date_of(words.octets(names)?.as_slice()))?,
+        b"number" => tell_found(out, number_of(words.octets(names).as_slice())),
+        b"date" => tell_found(out, date_of(words.octets(names).as_slice())),
         b"instant" => {
-            let date = words.octets(names)?;
-            let time = words.octets(names)?;
-            print_found(out, instant_of(date.as_slice(), time.as_slice()))?;
+            let date = words.octets(names);
+            let time = words.octets(names);
+            tell_found(out, instant_of(date.as_slice(), time.as_slice()));
         }
-        b"shown" => print_shown(out, alloc, words.octets(names)?.as_slice())?,
-        b"size_causes" => print_size_causes(out)?,
-        b"pack_causes" => print_pack_causes(out)?,
+        b"shown" => print_shown(out, alloc, words.octets(names).as_slice())?,
+        b"size_causes" => print_size_causes(out),
+        b"pack_causes" => print_pack_causes(out),
         _ => return answer_rows(out, alloc, names, word, words),
     }
     Ok(true)

@@ -1,12 +1,12 @@
 //! Tickets of begun envelopes, as they are told.
 
+use crate::answers::Answers;
 use crate::octets::Shown;
 use crate::values::{OrDash, print_field};
 use anyhow::Result;
 use iim_fields::Limits;
 use iim_unpack::{SaveFault, TicketFault, TicketParts, TicketPhase, Unpacker, split_ticket};
 use std::alloc::Global;
-use std::io::{self, Write};
 
 /// The number and the name of a fault.
 pub fn fault_name(fault: TicketFault) -> &'static str {
@@ -21,33 +21,33 @@ pub fn fault_name(fault: TicketFault) -> &'static str {
 }
 
 /// Octets in hexadecimal digits.
-fn print_hexadecimal<W: Write>(out: &mut W, octets: &[u8]) -> io::Result<()> {
-    write!(out, "  ")?;
+fn print_hexadecimal(out: &mut Answers, octets: &[u8]) {
+    out.put("  ");
     for octet in octets {
-        write!(out, "{octet:02X}")?;
+        out.show(&format_args!("{octet:02X}"));
     }
-    writeln!(out)
+    out.end()
 }
 
 /// Prints the ticket of an unpacker, or why it has none; only `yes` where it is the one that was wanted.
-pub fn print_ticket<W: Write>(
-    out: &mut W,
+pub fn print_ticket(
+    out: &mut Answers,
     alloc: Global,
     unpacker: &Unpacker,
     wanted: Option<&[u8]>,
 ) -> Result<()> {
     match unpacker.save(alloc) {
-        Ok(ticket) if wanted == Some(ticket.as_slice()) => writeln!(out, "  yes")?,
-        Ok(ticket) => print_hexadecimal(out, ticket.as_slice())?,
-        Err(SaveFault::Failed) => writeln!(out, "  61 Failed")?,
-        Err(SaveFault::OutOfMemory) => writeln!(out, "  70 OutOfMemory")?,
+        Ok(ticket) if wanted == Some(ticket.as_slice()) => out.line("yes"),
+        Ok(ticket) => print_hexadecimal(out, ticket.as_slice()),
+        Err(SaveFault::Failed) => out.line("61 Failed"),
+        Err(SaveFault::OutOfMemory) => out.line("70 OutOfMemory"),
     }
     Ok(())
 }
 
 /// Restores a ticket and saves it again. Prints `restored`, and the ticket where it is not the one that was wanted; or the fault.
-pub fn print_restored<W: Write>(
-    out: &mut W,
+pub fn print_restored(
+    out: &mut Answers,
     alloc: Global,
     limits: Limits,
     ticket: &[u8],
@@ -57,17 +57,17 @@ pub fn print_restored<W: Write>(
         Ok(unpacker) => unpacker,
         Err(fault) => {
             let name = fault_name(fault);
-            writeln!(out, "  {name}")?;
+            out.tell(&format_args!("{name}"));
             return Ok(());
         }
     };
-    writeln!(out, "  restored")?;
+    out.line("restored");
     if unpacker.is_failed() || unpacker.octets() != 0 {
-        writeln!(out, "  at another octet")?;
+        out.line("at another octet");
     }
     let again = unpacker.save(alloc)?;
     if again.as_slice() != wanted {
-        print_hexadecimal(out, again.as_slice())?;
+        print_hexadecimal(out, again.as_slice());
     }
     Ok(())
 }
@@ -83,9 +83,9 @@ pub struct OpenTicket<'t> {
 
 impl OpenTicket<'_> {
     /// Prints whether the ticket of a number is restored. The number has four octets in version 1, and eight in version 2.
-    pub fn print<W: Write>(
+    pub fn print(
         self,
-        out: &mut W,
+        out: &mut Answers,
         alloc: Global,
         limits: Limits,
         number: u64,
@@ -97,10 +97,10 @@ impl OpenTicket<'_> {
         ticket.extend_from_slice(octets.get(from..).unwrap_or(&[]))?;
         ticket.extend_from_slice(self.back)?;
         match Unpacker::restore(alloc, limits, ticket.as_slice(), 0) {
-            Ok(_) => writeln!(out, "  {number} restored")?,
+            Ok(_) => out.tell(&format_args!("{number} restored")),
             Err(fault) => {
                 let name = fault_name(fault);
-                writeln!(out, "  {number} {name}")?;
+                out.tell(&format_args!("{number} {name}"));
             }
         }
         Ok(())
@@ -108,11 +108,11 @@ impl OpenTicket<'_> {
 }
 
 /// Prints what is begun.
-fn print_phase<W: Write>(out: &mut W, phase: &TicketPhase) -> io::Result<()> {
+fn print_phase(out: &mut Answers, phase: &TicketPhase) {
     match phase {
         TicketPhase::Tag(held) => {
             let held = Shown(held);
-            writeln!(out, "  tag {held}")
+            out.tell(&format_args!("tag {held}"))
         }
         TicketPhase::Data {
             set,
@@ -121,59 +121,59 @@ fn print_phase<W: Write>(out: &mut W, phase: &TicketPhase) -> io::Result<()> {
             taken,
         } => {
             let taken = Shown(taken);
-            writeln!(out, "  data {set} count {count} left {left} taken {taken}")
+            out.tell(&format_args!("data {set} count {count} left {left} taken {taken}"))
         }
-        TicketPhase::Ended => writeln!(out, "  ended"),
+        TicketPhase::Ended => out.line("ended"),
     }
 }
 
 /// Prints the numbers of record 7, and what has come of the object.
-fn print_object<W: Write>(out: &mut W, parts: &TicketParts) -> io::Result<()> {
-    write!(out, "  numbers")?;
+fn print_object(out: &mut Answers, parts: &TicketParts) {
+    out.put("  numbers");
     for number in parts.numbers {
         let number = OrDash(number);
-        write!(out, " {number}")?;
+        out.show(&format_args!(" {number}"));
     }
     let taken = parts.taken;
     let heads = parts.heads;
-    writeln!(out, "\n  object {taken} octets, {heads} heads")
+    out.show(&format_args!("\n  object {taken} octets, {heads} heads\n"))
 }
 
 /// Prints what is told of the message.
-fn print_message<W: Write>(out: &mut W, parts: &TicketParts) -> io::Result<()> {
+fn print_message(out: &mut Answers, parts: &TicketParts) {
     let part = parts.part;
     let counter = parts.counter;
     let flag = parts.flag;
-    writeln!(out, "  message part {part} counter {counter} flag {flag}")?;
-    write!(out, "  texts")?;
+    out.tell(&format_args!("message part {part} counter {counter} flag {flag}"));
+    out.put("  texts");
     for text in parts.texts {
         let text = Shown(text);
-        write!(out, " {text}")?;
+        out.show(&format_args!(" {text}"));
     }
-    writeln!(out)
+    out.end()
 }
 
 /// Prints the parts of a ticket, or why it has none.
-pub fn print_parts<W: Write>(out: &mut W, ticket: &[u8]) -> Result<()> {
+pub fn print_parts(out: &mut Answers, ticket: &[u8]) -> Result<()> {
     let mut parts = match split_ticket(ticket) {
         Ok(parts) => parts,
         Err(fault) => {
             let name = fault_name(fault);
-            writeln!(out, "  {name}")?;
+            out.tell(&format_args!("{name}"));
             return Ok(());
         }
     };
     let version = parts.version;
     let section = parts.section;
-    writeln!(out, "  version {version} section {section}")?;
-    print_phase(out, &parts.phase)?;
+    out.tell(&format_args!("version {version} section {section}"));
+    print_phase(out, &parts.phase);
     for _ in 0..ticket.len() {
         let Some((rec, set, octets)) = parts.fields.next() else {
             break;
         };
-        print_field(out, rec, set, octets)?;
+        print_field(out, rec, set, octets);
     }
-    print_object(out, &parts)?;
-    print_message(out, &parts)?;
+    print_object(out, &parts);
+    print_message(out, &parts);
     Ok(())
 }

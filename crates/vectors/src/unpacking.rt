@@ -1,5 +1,6 @@
 //! An envelope that is taken apart in pieces: what was fed so far, and what is asked of it.
 
+use crate::answers::Answers;
 use crate::causes::{print_causes, print_layers};
 use crate::cuts::{Cuts, feed_cut};
 use crate::intakes::{print_envelopes, print_next};
@@ -11,7 +12,6 @@ use anyhow::Result;
 use iim_fields::Limits;
 use iim_unpack::{Progress, Refusal, Unpacked, Unpacker, unpack_pieces};
 use std::alloc::Global;
-use std::io::{self, Write};
 use std::mem;
 use wire_story::Lines;
 
@@ -32,28 +32,21 @@ pub struct Bench {
     told: Option<Unpacked>,
 }
 
-/// The limits that a word tells.
-fn limits_of(words: &mut Words) -> Result<Limits> {
-    let (octets, fields) = words.pair()?;
-    Ok(Limits { octets, fields })
-}
-
 /// Prints what was answered to octets.
-fn print_progress<W: Write>(out: &mut W, answer: Result<Progress, Refusal>) -> io::Result<()> {
+fn print_progress(out: &mut Answers, answer: Result<Progress, Refusal>) {
     match answer {
-        Ok(Progress::More) => writeln!(out, "  more"),
-        Ok(Progress::Done { used }) => writeln!(out, "  done {used}"),
-        Err(refusal) => writeln!(out, "  {refusal}"),
+        Ok(Progress::More) => out.line("more"),
+        Ok(Progress::Done { used }) => out.tell(&format_args!("done {used}")),
+        Err(refusal) => out.tell(&format_args!("{refusal}")),
     }
 }
 
 /// Prints the lines.
-fn print_lines<W: Write>(out: &mut W, lines: &Lines) -> io::Result<()> {
+fn print_lines(out: &mut Answers, lines: &Lines) {
     for line in lines.iter() {
         let line = Line(line);
-        writeln!(out, "  line {line}")?;
+        out.tell(&format_args!("line {line}"));
     }
-    Ok(())
 }
 
 impl Bench {
@@ -75,14 +68,14 @@ impl Bench {
     }
 
     /// Prints what was answered to octets in pieces.
-    fn cut<W: Write>(&mut self, out: &mut W, octets: &[u8], cuts: Cuts) -> Result<()> {
+    fn cut(&mut self, out: &mut Answers, octets: &[u8], cuts: Cuts) -> Result<()> {
         let answer = feed_cut(&mut self.unpacker, octets, cuts, &mut self.lines);
-        print_progress(out, answer)?;
+        print_progress(out, answer);
         Ok(())
     }
 
     /// Feeds octet by octet, each to an unpacker that is restored from the ticket of the one before it.
-    fn carry<W: Write>(&mut self, out: &mut W, octets: &[u8]) -> Result<()> {
+    fn carry(&mut self, out: &mut Answers, octets: &[u8]) -> Result<()> {
         let mut answer = Ok(Progress::More);
         let mut sum = 0usize;
         for octet in octets {
@@ -98,29 +91,29 @@ impl Bench {
         if let Ok(Progress::Done { used }) = &mut answer {
             *used = sum;
         }
-        print_progress(out, answer)?;
+        print_progress(out, answer);
         Ok(())
     }
 
     /// Prints the value, and keeps it.
-    fn value<W: Write>(&mut self, out: &mut W) -> Result<()> {
+    fn value(&mut self, out: &mut Answers) -> Result<()> {
         match self.take_unpacker()?.into_unpacked() {
             Ok(got) => {
-                print_value(out, &got)?;
+                print_value(out, &got);
                 self.told = Some(got);
             }
             Err(unpacker) => {
                 self.unpacker = unpacker;
-                writeln!(out, "  none")?;
+                out.line("none");
             }
         }
         Ok(())
     }
 
     /// Begins an envelope over the memory of the value that was told last, where there is room for the limits.
-    fn over<W: Write>(&mut self, out: &mut W, limits: Limits) -> Result<()> {
+    fn over(&mut self, out: &mut Answers, limits: Limits) -> Result<()> {
         let Some(got) = self.told.take() else {
-            writeln!(out, "  none")?;
+            out.line("none");
             return Ok(());
         };
         match Unpacker::over(got, limits) {
@@ -128,11 +121,11 @@ impl Bench {
                 self.unpacker = unpacker;
                 self.limits = limits;
                 self.lines = Lines::new(self.alloc);
-                writeln!(out, "  begun")?;
+                out.line("begun");
             }
             Err(got) => {
-                writeln!(out, "  no room")?;
-                print_value(out, &got)?;
+                out.line("no room");
+                print_value(out, &got);
                 self.told = Some(got);
             }
         }
@@ -140,72 +133,66 @@ impl Bench {
     }
 
     /// Puts a restored unpacker in the place of the present one.
-    fn restore<W: Write>(
-        &mut self,
-        out: &mut W,
-        limits: Limits,
-        at: u64,
-        ticket: &[u8],
-    ) -> Result<()> {
+    fn restore(&mut self, out: &mut Answers, limits: Limits, at: u64, ticket: &[u8]) -> Result<()> {
         match Unpacker::restore(self.alloc, limits, ticket, at) {
             Ok(unpacker) => {
                 self.unpacker = unpacker;
                 self.limits = limits;
-                writeln!(out, "  restored")?;
+                out.line("restored");
             }
             Err(fault) => {
                 let name = fault_name(fault);
-                writeln!(out, "  {name}")?;
+                out.tell(&format_args!("{name}"));
             }
         }
         Ok(())
     }
 
     /// Answers the words of octets that are fed; false where the word is none of them.
-    fn answer_fed<W: Write>(
+    fn answer_fed(
         &mut self,
-        out: &mut W,
+        out: &mut Answers,
         names: &Names,
         word: &[u8],
         words: &mut Words,
     ) -> Result<bool> {
         match word {
             b"new" => {
-                self.limits = limits_of(words)?;
+                self.limits = words.limits();
                 self.unpacker = Unpacker::new(self.alloc, self.limits)?;
                 self.lines = Lines::new(self.alloc);
             }
-            b"over" => self.over(out, limits_of(words)?)?,
+            b"over" => self.over(out, words.limits())?,
             b"feed" => {
-                let octets = words.octets(names)?;
+                let octets = words.octets(names);
                 let answer = self.unpacker.feed(octets.as_slice(), &mut self.lines);
-                print_progress(out, answer)?;
+                print_progress(out, answer);
             }
-            b"each" => self.cut(out, words.octets(names)?.as_slice(), Cuts::of(1))?,
+            b"each" => self.cut(out, words.octets(names).as_slice(), Cuts::of(1))?,
             b"cut" => {
-                let cuts = Cuts::random(words.number()?);
-                self.cut(out, words.octets(names)?.as_slice(), cuts)?;
+                let cuts = Cuts::random(words.number());
+                self.cut(out, words.octets(names).as_slice(), cuts)?;
             }
-            b"carry" => self.carry(out, words.octets(names)?.as_slice())?,
+            b"carry" => self.carry(out, words.octets(names).as_slice())?,
             _ => return Ok(false),
         }
         Ok(true)
     }
 
     /// Answers the words of what was fed; false where the word is none of them.
-    fn answer_told<W: Write>(&mut self, out: &mut W, word: &[u8]) -> Result<bool> {
+    fn answer_told(&mut self, out: &mut Answers, word: &[u8]) -> Result<bool> {
         match word {
             b"end" => match self.unpacker.end_of_input() {
-                Some(refusal) => writeln!(out, "  {refusal}")?,
-                None => writeln!(out, "  none")?,
+                Some(refusal) => out.tell(&format_args!("{refusal}")),
+                None => out.line("none"),
             },
-            b"lines" => print_lines(out, &self.lines)?,
+            b"lines" => print_lines(out, &self.lines),
             b"value" => self.value(out)?,
             b"state" => {
                 let octets = self.unpacker.octets();
                 let done = self.unpacker.is_done();
                 let failed = self.unpacker.is_failed();
-                writeln!(out, "  octets {octets} done {done} failed {failed}")?;
+                out.tell(&format_args!("octets {octets} done {done} failed {failed}"));
             }
             b"save" => print_ticket(out, self.alloc, &self.unpacker, None)?,
             _ => return Ok(false),
@@ -222,14 +209,14 @@ impl Bench {
             if !words.has_more() {
                 break;
             }
-            all.push(words.octets(names)?)?;
+            all.push(words.octets(names))?;
         }
         Ok(all)
     }
 
     /// Prints what the stream of pieces comes to, and its lines.
-    fn pieces<W: Write>(&self, out: &mut W, names: &Names, words: &mut Words) -> Result<()> {
-        let limits = limits_of(words)?;
+    fn pieces(&self, out: &mut Answers, names: &Names, words: &mut Words) -> Result<()> {
+        let limits = words.limits();
         let pieces = self.all_octets(names, words)?;
         let mut slices = Vec::new(self.alloc);
         for piece in pieces.iter() {
@@ -239,20 +226,20 @@ impl Bench {
         let unpacker = Unpacker::new(self.alloc, limits)?;
         match unpack_pieces(unpacker, slices.as_slice(), &mut lines) {
             Ok((got, used)) => {
-                writeln!(out, "  done {used}")?;
-                print_value(out, &got)?;
+                out.tell(&format_args!("done {used}"));
+                print_value(out, &got);
             }
-            Err(refusal) => writeln!(out, "  {refusal}")?,
+            Err(refusal) => out.tell(&format_args!("{refusal}")),
         }
-        print_lines(out, &lines)?;
+        print_lines(out, &lines);
         Ok(())
     }
 
     /// Prints which numbers of octets of the object a ticket is restored with.
-    fn counts<W: Write>(&self, out: &mut W, names: &Names, words: &mut Words) -> Result<()> {
-        let limits = limits_of(words)?;
-        let front = words.octets(names)?;
-        let back = words.octets(names)?;
+    fn counts(&self, out: &mut Answers, names: &Names, words: &mut Words) -> Result<()> {
+        let limits = words.limits();
+        let front = words.octets(names);
+        let back = words.octets(names);
         let ticket = OpenTicket {
             front: front.as_slice(),
             back: back.as_slice(),
@@ -261,17 +248,17 @@ impl Bench {
             if !words.has_more() {
                 break;
             }
-            ticket.print(out, self.alloc, limits, words.number()?)?;
+            ticket.print(out, self.alloc, limits, words.number())?;
         }
         Ok(())
     }
 
     /// Restores a ticket, and saves it again: as the next argument, or as itself where there is none.
-    fn ticket<W: Write>(&self, out: &mut W, names: &Names, words: &mut Words) -> Result<()> {
-        let limits = limits_of(words)?;
-        let ticket = words.octets(names)?;
+    fn ticket(&self, out: &mut Answers, names: &Names, words: &mut Words) -> Result<()> {
+        let limits = words.limits();
+        let ticket = words.octets(names);
         if words.has_more() {
-            let wanted = words.octets(names)?;
+            let wanted = words.octets(names);
             return print_restored(
                 out,
                 self.alloc,
@@ -290,44 +277,44 @@ impl Bench {
     }
 
     /// Answers the words of tickets; false where the word is none of them.
-    fn answer_tickets<W: Write>(
+    fn answer_tickets(
         &mut self,
-        out: &mut W,
+        out: &mut Answers,
         names: &Names,
         word: &[u8],
         words: &mut Words,
     ) -> Result<bool> {
         match word {
             b"saves" => {
-                let wanted = words.octets(names)?;
+                let wanted = words.octets(names);
                 print_ticket(out, self.alloc, &self.unpacker, Some(wanted.as_slice()))?;
             }
             b"restore" => {
-                let limits = limits_of(words)?;
-                let at = words.number()?;
-                let ticket = words.octets(names)?;
+                let limits = words.limits();
+                let at = words.number();
+                let ticket = words.octets(names);
                 self.restore(out, limits, at, ticket.as_slice())?;
             }
             b"ticket" => self.ticket(out, names, words)?,
             b"counts" => self.counts(out, names, words)?,
-            b"parts" => print_parts(out, words.octets(names)?.as_slice())?,
+            b"parts" => print_parts(out, words.octets(names).as_slice())?,
             _ => return Ok(false),
         }
         Ok(true)
     }
 
     /// Answers the words of whole streams; false where the word is none of them.
-    fn answer_streams<W: Write>(
+    fn answer_streams(
         &mut self,
-        out: &mut W,
+        out: &mut Answers,
         names: &Names,
         word: &[u8],
         words: &mut Words,
     ) -> Result<bool> {
         match word {
             b"stream" => {
-                let limits = limits_of(words)?;
-                let octets = words.octets(names)?;
+                let limits = words.limits();
+                let octets = words.octets(names);
                 let stream = Stream {
                     alloc: self.alloc,
                     limits,
@@ -337,26 +324,26 @@ impl Bench {
             }
             b"pieces" => self.pieces(out, names, words)?,
             b"intake" => {
-                let limits = limits_of(words)?;
-                let octets = words.octets(names)?;
+                let limits = words.limits();
+                let octets = words.octets(names);
                 print_envelopes(out, self.alloc, limits, octets.as_slice())?;
             }
             b"next" => {
-                let octets = words.octets(names)?;
+                let octets = words.octets(names);
                 let unpacker = self.take_unpacker()?;
                 print_next(out, self.alloc, self.limits, unpacker, octets.as_slice())?;
             }
-            b"layers" => print_layers(out)?,
-            b"causes" => print_causes(out)?,
+            b"layers" => print_layers(out),
+            b"causes" => print_causes(out),
             _ => return Ok(false),
         }
         Ok(true)
     }
 
     /// Answers the words of unpacking; false where the word is none of them.
-    pub fn answer<W: Write>(
+    pub fn answer(
         &mut self,
-        out: &mut W,
+        out: &mut Answers,
         names: &Names,
         word: &[u8],
         words: &mut Words,

@@ -1,11 +1,11 @@
 //! The value of an envelope, as it is printed.
 
+use crate::answers::Answers;
 use crate::octets::Shown;
 use iim_dataset::DatasetName;
 use iim_object::Sizes;
 use iim_unpack::Unpacked;
 use std::fmt::{self, Display, Formatter};
-use std::io::{self, Write};
 
 /// A number, or `-` where there is none.
 #[derive(Clone, Copy)]
@@ -41,24 +41,23 @@ impl Display for Line<'_> {
 }
 
 /// Prints a dataset.
-pub fn print_field<W: Write>(out: &mut W, rec: u8, set: u8, octets: &[u8]) -> io::Result<()> {
+pub fn print_field(out: &mut Answers, rec: u8, set: u8, octets: &[u8]) {
     let name = DatasetName { rec, set };
     let shown = Shown(octets);
-    writeln!(out, "  field {name} {shown}")
+    out.tell(&format_args!("field {name} {shown}"))
 }
 
 /// Prints what records 7 to 9 say.
-fn print_sizes<W: Write>(out: &mut W, sizes: &Sizes) -> io::Result<()> {
+fn print_sizes(out: &mut Answers, sizes: &Sizes) {
     let known = sizes.known;
     let subfile = sizes.subfile;
     let announced = OrDash(sizes.announced);
     let maximum = OrDash(sizes.maximum);
     let subfiles = sizes.subfiles;
     let total = sizes.total;
-    writeln!(
-        out,
-        "  sizes known {known} subfile {subfile} announced {announced} maximum {maximum} subfiles {subfiles} total {total}"
-    )
+    out.tell(&format_args!(
+        "sizes known {known} subfile {subfile} announced {announced} maximum {maximum} subfiles {subfiles} total {total}"
+    ))
 }
 
 /// The parts of the message's header, in the order sent.
@@ -75,17 +74,17 @@ pub fn header(got: &Unpacked) -> [&[u8]; 6] {
 }
 
 /// Prints the datasets, the message's header and trailer, and the sizes of the object.
-pub fn print_value<W: Write>(out: &mut W, got: &Unpacked) -> io::Result<()> {
+pub fn print_value(out: &mut Answers, got: &Unpacked) {
     for (rec, set, octets) in got.envelope.fields() {
-        print_field(out, rec, set, octets)?;
+        print_field(out, rec, set, octets);
     }
-    write!(out, "  message")?;
+    out.put("  message");
     for part in header(got) {
         let shown = Shown(part);
-        write!(out, " {shown}")?;
+        out.show(&format_args!(" {shown}"));
     }
     let trailer = Shown(got.trailer.as_slice());
-    writeln!(out, "\n  trailer {trailer}")?;
+    out.show(&format_args!("\n  trailer {trailer}\n"));
     print_sizes(out, &got.sizes)
 }
 

@@ -1,6 +1,7 @@
 //! A packer, call by call.
 
 use super::writers::{Keeps, Memory, Trial};
+use crate::answers::Answers;
 use crate::octets::{Names, Shown, Words};
 use anyhow::{Context, Result};
 use iim_dataset::{FromWrite, Target};
@@ -8,7 +9,6 @@ use iim_object::{PackCause, Plan, StartFault};
 use iim_pack::Packer;
 use iim_script::Script;
 use std::alloc::Global;
-use std::io::Write;
 
 /// A packer, or what is out once it has ended.
 #[derive(Drop)]
@@ -39,11 +39,7 @@ pub fn stopped<W: Target>(packer: Packer<W>, cause: PackCause) -> StartFault<W> 
 }
 
 /// Tells why nothing was packed, and what is out.
-pub fn tell_fault<W: Write, K: Keeps>(
-    alloc: Global,
-    out: &mut W,
-    fault: StartFault<K>,
-) -> Result<()> {
+pub fn tell_fault<K: Keeps>(alloc: Global, out: &mut Answers, fault: StartFault<K>) -> Result<()> {
     let StartFault {
         cause,
         writer,
@@ -52,17 +48,17 @@ pub fn tell_fault<W: Write, K: Keeps>(
     let number = cause.number();
     let octets = writer.kept(alloc)?;
     let octets = Shown(octets.as_slice());
-    writeln!(out, "  {number} {cause:?} written {written} out {octets}")?;
+    out.tell(&format_args!("{number} {cause:?} written {written} out {octets}"));
     Ok(())
 }
 
 /// Tells what a call of a packer answered, and how many octets are out where it was refused.
-fn tell_call<W: Write>(out: &mut W, answer: Result<(), PackCause>, written: u64) -> Result<()> {
+fn tell_call(out: &mut Answers, answer: Result<(), PackCause>, written: u64) -> Result<()> {
     match answer {
-        Ok(()) => writeln!(out, "  ok")?,
+        Ok(()) => out.line("ok"),
         Err(cause) => {
             let number = cause.number();
-            writeln!(out, "  {number} {cause:?} written {written}")?;
+            out.tell(&format_args!("{number} {cause:?} written {written}"));
         }
     }
     Ok(())
@@ -137,9 +133,9 @@ impl Calls {
     }
 
     /// Begins a packer, over memory where no other writer is given.
-    pub fn start<W: Write>(
+    pub fn start(
         &mut self,
-        out: &mut W,
+        out: &mut Answers,
         script: &Script,
         plan: Plan,
         trial: Option<Trial>,
@@ -160,21 +156,21 @@ impl Calls {
                 }
             }
         }
-        writeln!(out, "  ok")?;
+        out.line("ok");
         Ok(())
     }
 
     /// Answers the words of a packer's calls; false where the word is none of them.
-    pub fn answer<W: Write>(
+    pub fn answer(
         &mut self,
-        out: &mut W,
+        out: &mut Answers,
         names: &Names,
         word: &[u8],
         words: &mut Words,
     ) -> Result<bool> {
         match word {
             b"pack_text" => {
-                let octets = words.octets(names)?;
+                let octets = words.octets(names);
                 let begun = self.begun.as_mut().context(NO_PACKER)?;
                 let answer = begun.text(octets.as_slice()).context(NO_PACKER)?;
                 tell_call(out, answer, begun.written())?;
@@ -185,17 +181,17 @@ impl Calls {
                 tell_call(out, answer, begun.written())?;
             }
             b"pack_finish" => {
-                let trailer = words.octets(names)?;
+                let trailer = words.octets(names);
                 self.finish(out, trailer.as_slice())?;
             }
             b"pack_written" => {
                 let written = self.begun.as_ref().context(NO_PACKER)?.written();
-                writeln!(out, "  {written}")?;
+                out.tell(&format_args!("{written}"));
             }
             b"pack_out" => {
                 let octets = self.begun.take().context(NO_PACKER)?.out(self.alloc)?;
                 let octets = Shown(octets.as_slice());
-                writeln!(out, "  {octets}")?;
+                out.tell(&format_args!("{octets}"));
             }
             _ => return Ok(false),
         }
@@ -203,7 +199,7 @@ impl Calls {
     }
 
     /// Ends the packer, where it lets itself be ended.
-    fn finish<W: Write>(&mut self, out: &mut W, trailer: &[u8]) -> Result<()> {
+    fn finish(&mut self, out: &mut Answers, trailer: &[u8]) -> Result<()> {
         let begun = self.begun.take().context(NO_PACKER)?;
         let (begun, answer) = begun.finish(self.alloc, trailer)?;
         let written = begun.written();

@@ -1,17 +1,20 @@
 //! Plans of objects.
 
+use crate::answers::Answers;
 use crate::octets::{Words, number_of};
-use anyhow::{Result, bail};
+use anyhow::{Context, Result, bail};
 use iim_object::{Plan, Size};
-use std::io::Write;
+
+/// What is said of digits that are no number.
+const NO_NUMBER: &str = "a size is no number";
 
 /// What a word says of a size: `known:N`, `unknown` or `unknown:M`.
 fn size_of(word: &[u8]) -> Result<Size> {
     if let Some(digits) = word.strip_prefix(b"known:") {
-        return Ok(Size::Known(number_of(digits)?));
+        return Ok(Size::Known(number_of(digits).context(NO_NUMBER)?));
     }
     if let Some(digits) = word.strip_prefix(b"unknown:") {
-        return Ok(Size::Unknown(Some(number_of(digits)?)));
+        return Ok(Size::Unknown(Some(number_of(digits).context(NO_NUMBER)?)));
     }
     match word {
         b"unknown" => Ok(Size::Unknown(None)),
@@ -21,25 +24,24 @@ fn size_of(word: &[u8]) -> Result<Size> {
 
 /// The plan that the next two words tell, the octets of a full subfile and what is said of the size. None where it is no plan.
 pub fn plan_of(words: &mut Words) -> Result<Option<Plan>> {
-    let subfile = words.number()?;
-    let size = size_of(words.word()?)?;
+    let subfile = words.number();
+    let size = size_of(words.word())?;
     Ok(Plan::new(subfile, size))
 }
 
 /// Tells that there is no such plan.
-pub fn tell_no_plan<W: Write>(out: &mut W) -> Result<()> {
-    writeln!(out, "  no plan")?;
-    Ok(())
+pub fn tell_no_plan(out: &mut Answers) {
+    out.line("no plan");
 }
 
 /// Tells the bound of a plan.
-pub fn tell_plan<W: Write>(out: &mut W, words: &mut Words) -> Result<()> {
+pub fn tell_plan(out: &mut Answers, words: &mut Words) -> Result<()> {
     match plan_of(words)? {
         Some(plan) => {
             let bound = plan.bound();
-            writeln!(out, "  {bound}")?;
-            Ok(())
+            out.tell(&format_args!("{bound}"));
         }
         None => tell_no_plan(out),
     }
+    Ok(())
 }

@@ -37,11 +37,11 @@ pub fn trial_of(words: &mut Words) -> Result<Option<Trial>> {
     if !words.has_more() {
         return Ok(None);
     }
-    match words.word()? {
-        b"failing" => Ok(Some(TrialWriter::new(words.number()?, Trouble::Failure))),
+    match words.word() {
+        b"failing" => Ok(Some(TrialWriter::new(words.number(), Trouble::Failure))),
         b"interrupted" => {
-            let good = words.number()?;
-            let Ok(times) = u32::try_from(words.number()?) else {
+            let good = words.number();
+            let Ok(times) = u32::try_from(words.number()) else {
                 bail!("too many interruptions");
             };
             Ok(Some(TrialWriter::new(good, Trouble::Interruptions(times))))
