@@ -26,6 +26,14 @@ fn tell_name(answers: &mut Answers, rec: u8, set: u8) {
     answers.show(&DatasetName { rec, set });
 }
 
+/// Tells octets of data.
+fn tell_data(answers: &mut Answers, data: &[u8]) {
+    for octet in data {
+        let octet = *octet;
+        answers.show(&format_args!(" {octet:02X}"));
+    }
+}
+
 impl DatasetSink for Record {
     ghost goes = { λ a events b. ⊤ };
 
@@ -53,10 +61,7 @@ impl DatasetSink for Record {
 
     fn run(&mut self, run: &[u8]) -> Result<(), Stop> {
         self.runs = self.runs.saturating_add(1);
-        for octet in run {
-            let octet = *octet;
-            self.answers.show(&format_args!(" {octet:02X}"));
-        }
+        tell_data(&mut self.answers, run);
         Ok(())
     }
 

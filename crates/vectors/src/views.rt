@@ -38,8 +38,10 @@ pub fn print_walk(out: &mut Answers, name: &str, walk: DataIter<'_>) {
         out.show(&format_args!(" {octets}"));
         is_none = false;
     }
-    let none = if is_none { " none" } else { "" };
-    out.show(&format_args!("{none}\n"));
+    if is_none {
+        out.put(" none");
+    }
+    out.end();
 }
 
 /// Prints what is always there.
