@@ -91,10 +91,11 @@ impl DatasetSink for Recorder {
 
     fn run(&mut self, run: &[u8]) -> Result<(), Stop> {
         self.runs = self.runs.saturating_add(1);
-        for (taken, octet) in run.iter().enumerate() {
-            if !self.takes(&[*octet]) {
-                return Err(Stop { taken });
-            }
+        let taken = run.len().min(self.patience);
+        self.patience -= taken;
+        let _ = self.record.try_extend_from_slice(&run[..taken]);
+        if taken < run.len() {
+            return Err(Stop { taken });
         }
         Ok(())
     }
@@ -144,7 +145,9 @@ fn read(
     octets: &[u8],
     one_by_one: bool,
     sink: &mut Recorder,
-) -> (HeadReader, Result<usize, Fault>) {
+) -> (HeadReader, Result<usize, Fault>)
+    requires { sink.old.ended ≡ 0 }
+{
     let mut reader = HeadReader::new();
     let answer = if one_by_one {
         feed_by_octets(rt, &mut reader, octets, sink)
@@ -170,6 +173,7 @@ fn a_dataset_after_the_last(rt: HostRuntime) {
     assert_eq!(rt; reader.feed(STREAM, &mut sink), Ok(LENGTH));
     sink.go_on();
     assert_eq!(rt; reader.feed(b"", &mut sink), Ok(0));
+    sink.go_on();
     assert_eq!(rt; reader.feed(b"\x1c\x01\x1e\x00\x03TS", &mut sink), Ok(7));
     assert_eq!(rt; reader.named(), (1, 30));
     assert_eq!(rt; reader.feed(b"Tx", &mut sink), no_tag_after(1));
