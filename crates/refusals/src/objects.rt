@@ -36,8 +36,8 @@ fn written(alloc: Global, subfile: u64) -> Result<TrialWriter<512>, Trouble> {
         return Err(Trouble::Wrong);
     };
     right(subfiles.write(OBJECT).is_ok())?;
-    match subfiles.finish() {
-        Ok(writer) => Ok(writer),
-        Err(_) => Err(Trouble::Wrong),
-    }
+    let Ok(writer) = subfiles.finish() else {
+        return Err(Trouble::Wrong);
+    };
+    Ok(writer)
 }

@@ -46,10 +46,10 @@ fn packed(alloc: Global, envelope: &Envelope, subfile: u64) -> Result<TrialWrite
     right(packer.text(FIRST_LINE).is_ok())?;
     right(packer.line_end().is_ok())?;
     right(packer.text(LAST_LINE).is_ok())?;
-    match packer.finish(b"") {
-        Ok(writer) => Ok(writer),
-        Err(_) => Err(Trouble::Wrong),
-    }
+    let Ok(writer) = packer.finish(b"") else {
+        return Err(Trouble::Wrong);
+    };
+    Ok(writer)
 }
 
 /// Packs the worked envelope in one call.
