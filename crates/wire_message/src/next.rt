@@ -1,6 +1,6 @@
 //! The step from one part of a message to the next.
 
-ghost use Rattle.std.specs.Prelude.{◌<◌, ◌≤◌, ◌≡◌, true, false, length, slice_index, IfSome, IfNone, IsTrue};
+ghost use Rattle.std.specs.Prelude.{◌<◌, ◌≤◌, ◌≡◌, true, false, length, slice_index, IfSome, IfNone};
 ghost use Rattle.wire_message.specs.Format.SoFar.{IsPlace};
 ghost use Rattle.wire_message.specs.Parts.{EndsPart, BeginsTrailer, EndsTrailer};
 ghost use Rattle.wire_message.specs.Steps.{DiesWith, TakesSome, IsNoText};
@@ -11,18 +11,10 @@ use crate::step::{
     in_priority,
 };
 use crate::tail::{after_gap, after_info, after_trailer};
+use crate::whole::after;
 use arrayvec::ArrayVec;
 use iim_dataset::octets::EOT;
 use std::mem;
-
-/// Whether the octet stands first.
-#[inline(always)]
-fn begins_with(octet: u8, octets: &[u8]) -> bool
-    ensures some { IsTrue result → 0 < length octets.now }
-    ensures first { IsTrue result → slice_index octets.now 0 ≡ octet }
-{
-    octets.len() > 0 && octets[0] == octet
-}
 
 /// The place after an octet that does not lengthen the part that is being read, or None where it dies.
 fn next_part(place: Place, rest: &[u8]) -> Option<Place>
@@ -100,7 +92,7 @@ pub(crate) fn end_text(place: &mut Place, rest: &[u8]) -> usize
     let old = mem::replace(place, Place::Filler { count: 0 });
     if let Place::Text { head, .. } = old {
         let trailer = ArrayVec::new();
-        if begins_with(EOT, rest) {
+        if let Some(_) = after(EOT, rest) {
             *place = Place::AfterEnd {
                 head,
                 trailer,
