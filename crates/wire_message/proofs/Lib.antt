@@ -23,3 +23,4 @@ pub mod Ended
 pub mod Headers
 pub mod Saving
 pub mod FrontHeads
+pub mod Tails

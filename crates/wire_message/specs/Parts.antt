@@ -34,3 +34,7 @@ pub record TakesInPart (old : Place) (rest : List ℕ) (new : Place) (used : ℕ
 -- After the text of a header there is its trailer, of which no octet has come.
 abbrev pub BeginsTrailer : Place → Place → Type 0
 BeginsTrailer old new = (head : Header) (text : TextReader) → old ≡ Text head text → new ≡ Trailer head (record { items = [] })
+
+-- After the text of a header there is its empty trailer, and EOT.
+abbrev pub EndsTrailer : Place → Place → Type 0
+EndsTrailer old new = (head : Header) (text : TextReader) → old ≡ Text head text → new ≡ AfterEnd head (record { items = [] }) 0

@@ -1,8 +1,8 @@
 //! The step from one part of a message to the next.
 
-ghost use Rattle.std.specs.Prelude.{◌<◌, ◌≡◌, true, false, length, slice_index, IfSome, IfNone};
+ghost use Rattle.std.specs.Prelude.{◌<◌, ◌≤◌, ◌≡◌, true, false, length, slice_index, IfSome, IfNone};
 ghost use Rattle.wire_message.specs.Format.SoFar.{IsPlace};
-ghost use Rattle.wire_message.specs.Parts.{EndsPart, BeginsTrailer};
+ghost use Rattle.wire_message.specs.Parts.{EndsPart, BeginsTrailer, EndsTrailer};
 ghost use Rattle.wire_message.specs.Steps.{DiesWith, TakesSome, IsNoText};
 
 use crate::place::Place;
@@ -11,7 +11,9 @@ use crate::step::{
     in_priority,
 };
 use crate::tail::{after_gap, after_info, after_trailer};
+use crate::whole::after;
 use arrayvec::ArrayVec;
+use iim_dataset::octets::EOT;
 use std::mem;
 
 /// The place after an octet that does not lengthen the part that is being read, or None where it dies.
@@ -78,16 +80,27 @@ pub(crate) fn begin_next(place: &mut Place, rest: &[u8]) -> bool
     }
 }
 
-/// Ends the text, and begins the trailer.
+/// Ends the text, and begins the trailer, which an EOT that stands next ends at once. Answers how many octets it took.
 #[inline(never)]
-pub(crate) fn begin_trailer(place: &mut Place)
-    ensures { BeginsTrailer place.old place.new }
+pub(crate) fn end_text(place: &mut Place, rest: &[u8]) -> usize
+    ensures few { result ≤ 1 }
+    ensures within { result ≤ length rest.now }
+    ensures begins { result ≡ 0 → BeginsTrailer place.old place.new }
+    ensures first { result ≡ 1 → slice_index rest.now 0 ≡ 4 }
+    ensures ends { result ≡ 1 → EndsTrailer place.old place.new }
 {
     let old = mem::replace(place, Place::Filler { count: 0 });
     if let Place::Text { head, .. } = old {
-        *place = Place::Trailer {
-            head,
-            trailer: ArrayVec::new(),
-        };
+        let trailer = ArrayVec::new();
+        if let Some(_) = after(EOT, rest) {
+            *place = Place::AfterEnd {
+                head,
+                trailer,
+                count: 0,
+            };
+            return 1;
+        }
+        *place = Place::Trailer { head, trailer };
     }
+    0
 }

@@ -7,7 +7,7 @@ ghost use Rattle.wire_message.specs.Steps.{DiesWith, TakesSome, IsNoText, TakesO
 
 use crate::fault::{MessageCause, MessageFault};
 use crate::lengthen::lengthen;
-use crate::next::{begin_next, begin_trailer};
+use crate::next::{begin_next, end_text};
 use crate::place::Place;
 use crate::text::in_text;
 use crate::whole::whole_head;
@@ -94,7 +94,7 @@ fn take_front<S: StorySink>(
         Place::Text { head, text } => match in_text(head, text, rest, sink) {
             Ok((used, ended)) => {
                 if ended {
-                    begin_trailer(place);
+                    return Ok(used + end_text(place, &rest[used..]));
                 }
                 Ok(used)
             }

@@ -31,7 +31,7 @@ fn part(class: Class, most: usize, octets: &[u8]) -> (&[u8], &[u8])
 
 /// What follows the octet, where it stands first.
 #[inline(always)]
-fn after(octet: u8, octets: &[u8]) -> Option<&[u8]>
+pub(crate) fn after(octet: u8, octets: &[u8]) -> Option<&[u8]>
     ensures { IfSome result (λ rest. octets.now ≡ octet ∷ rest.now) }
 {
     match octets {

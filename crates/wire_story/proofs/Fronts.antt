@@ -1,10 +1,11 @@
 -- Fronts of a piece that are taken one after the other.
-use Rattle.std.proofs.Common.{ℕ, ◌+◌, List, ◌++◌, length, take, Option, subst, ap, ◌∙◌, arith, length-drop}
-use Rattle.std.proofs.lemmas.List.{take_rest}
+use Rattle.std.proofs.Common.{ℕ, ◌+◌, ◌<◌, List, [], ◌∷◌, ◌++◌, length, take, slice_index, Option, subst, sym, ap, ◌∙◌, arith, length-drop}
+use Rattle.std.proofs.lemmas.List.{take_rest, take_more}
 use Rattle.std.specs.List.{slice_range}
 use Rattle.wire_story.specs.Format.Delivery.{StoryEvent, delivered}
 use Rattle.wire_story.specs.Format.Reading.{CountsCause, TakesPiece, RefusesOne}
 use Rattle.wire_story.specs.declared.fault.TextFault.{TextFault}
+use Rattle.wire_story.specs.declared.fault.TextCause.{TextCause}
 use Rattle.wire_story.proofs.Pieces.{leads_on_front, refuses_front}
 use Rattle.wire_story.proofs.Told.{delivered_front}
 
@@ -30,4 +31,20 @@ refuses_later goes failures joined old mid piece i fault a b c first then = reco
   refused = refuses_front old mid piece i fault.taken fault.cause first.leads_on then.refused;
   told = subst (λ (es : List StoryEvent). goes a es c) (delivered_front piece i fault.taken) (joined a b c (delivered (take i piece)) (delivered (take fault.taken (slice_range piece i (length piece)))) first.told then.told);
   counted = subst (λ (n : ℕ). CountsCause n (failures c) fault.cause) first.calm then.counted;
+}
+
+-- the first octet was taken
+pub takes_first : {S : Type 0} (goes : S → List StoryEvent → S → Type 0) (failures : S → ℕ) (old new : Option ℕ) (rest : List ℕ) (a b : S) → 0 < length rest
+    → TakesPiece goes failures old (slice_index rest 0 ∷ []) new a b → TakesPiece goes failures old (take 1 rest) new a b
+takes_first goes failures old new rest a b some first =
+    subst (λ (xs : List ℕ). TakesPiece goes failures old xs new a b) (sym (take_more rest 0 0 some)) first
+
+-- the first octet was refused
+pub refuses_first : {S : Type 0} (goes : S → List StoryEvent → S → Type 0) (failures : S → ℕ) (old : Option ℕ) (rest : List ℕ) (cause : TextCause) (a b : S) → 0 < length rest
+    → RefusesOne goes failures old (slice_index rest 0 ∷ []) (record { taken = 0; cause = cause }) a b → RefusesOne goes failures old rest (record { taken = 0; cause = cause }) a b
+refuses_first goes failures old rest cause a b some first = record {
+  before = some;
+  refused = first.refused;
+  told = first.told;
+  counted = first.counted;
 }

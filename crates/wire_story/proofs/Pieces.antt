@@ -132,6 +132,22 @@ refuses_in_line piece t l o octets w =
     let next = one_octet 0 0 b (line_octet_step b o) (octets ++ take t piece) s in
     (live_of ((octets ++ take t piece) ++ b ∷ []) next.0 next.2, not13 b o)
 
+-- ---- CR LF
+
+pub starts_line_end : (rest : List ℕ) → 2 ≤ length rest → slice_index rest 0 ≡ 13 → slice_index rest 1 ≡ 10 → (more : List ℕ) × (rest ≡ 13 ∷ (10 ∷ more))
+starts_line_end [] two first second = absurd (omega (arith, two))
+starts_line_end (x ∷ []) two first second = absurd (omega (arith, two))
+starts_line_end (x ∷ y ∷ more) two first second = let a : x ≡ 13 = first in let b : y ≡ 10 = second in (more, cc)
+
+pub leads_on_line_end : LeadsOn (Some 0) (13 ∷ (10 ∷ [])) (Some 0)
+leads_on_line_end = leads_on 0 (13 ∷ (10 ∷ [])) 0 refl
+
+pub refuses_line_feed : (more : List ℕ) → Refuses (Some 0) (13 ∷ (10 ∷ more)) (record { taken = 1; cause = Sink })
+refuses_line_feed more octets w =
+    let s = leads_on_return 0 13 refl (omega arith) octets w in
+    let next = leads_on_end 1 10 refl (octets ++ 13 ∷ []) s in
+    (live_of ((octets ++ 13 ∷ []) ++ 10 ∷ []) next.0 next.2, λ e. omega (arith, e))
+
 -- ---- a reader
 
 -- what a reader that stands somewhere holds

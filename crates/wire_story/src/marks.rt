@@ -61,20 +61,20 @@ impl Marks {
         Marks { left: 0, many: 0 }
     }
 
-    /// The marks after the next octet.
+    /// The marks after the next octets, `used` of them.
     #[inline(always)]
-    pub(crate) fn after(self, octets: &[u8]) -> Marks
+    pub(crate) fn after(self, used: usize, octets: &[u8]) -> Marks
         requires marks { AreMarks octets.now self }
-        requires some { 0 < length octets.now }
-        ensures { AreMarks (drop 1 octets.now) result }
+        requires within { used ≤ length octets.now }
+        ensures { AreMarks (drop used octets.now) result }
     {
         let _ = octets;
-        if self.many == 0 {
+        if self.many <= used {
             return Marks { left: 0, many: 0 };
         }
         Marks {
-            left: self.left >> 1,
-            many: self.many - 1,
+            left: self.left >> used,
+            many: self.many - used,
         }
     }
 

@@ -1,6 +1,6 @@
 //! How a piece of a text is read after some held CR or none: by the longest runs that lie in one line, and else octet by octet.
 
-ghost use Rattle.std.specs.Prelude.{◌≡◌, ◌<◌, ◌≤◌, false, [], ◌∷◌, length, drop, slice_index, take, Some, IfErr, IfOk, OnOk};
+ghost use Rattle.std.specs.Prelude.{◌≡◌, ◌<◌, ◌≤◌, false, length, drop, slice_index, take, Some, IfErr, IfOk, IsTrue, OnOk};
 ghost use Rattle.wire_story.specs.Format.Texts.{is_line_octet, IsLine};
 ghost use Rattle.wire_story.specs.Format.Reading.{TakesPiece, RefusesOne};
 ghost use Rattle.wire_story.specs.Marking.{AreMarks, IsTextFront};
@@ -30,33 +30,88 @@ fn run_len(held: u8, marks: Marks, octets: &[u8]) -> (usize, Marks)
     marks.run_len(octets)
 }
 
-/// Takes an octet that is none of a line, or stands after held CR, and answers how many are held then.
+/// Whether CR LF stands first, and no CR is held.
 #[inline(always)]
-fn take_mark<S: StorySink>(held: u8, octet: u8, sink: &mut S) -> Result<u8, TextCause>
-    requires few { held ≤ 2 }
-    requires mark { held ≡ 0 → is_line_octet octet ≡ false }
-    ensures few { IfOk result (λ now. now ≤ 2) }
-    ensures taken { IfOk result (λ now.
-        TakesPiece S.goes S.failures (Some held) (octet ∷ []) (Some now) sink.old sink.new) }
-    ensures refused { IfErr result (λ cause.
-        RefusesOne S.goes S.failures (Some held) (octet ∷ []) (record { taken = 0; cause = cause }) sink.old sink.new) }
+fn has_line_end(held: u8, octets: &[u8]) -> bool
+    ensures none { IsTrue result → held ≡ 0 }
+    ensures two { IsTrue result → 2 ≤ length octets.now }
+    ensures first { IsTrue result → slice_index octets.now 0 ≡ 13 }
+    ensures second { IsTrue result → slice_index octets.now 1 ≡ 10 }
 {
+    held == 0 && octets.len() >= 2 && octets[0] == CR && octets[1] == LF
+}
+
+/// Takes the CR that stands first, or CR LF at once where no CR is held, and answers how many are held then and how many
+/// octets it took.
+#[inline(always)]
+fn take_return<S: StorySink>(held: u8, rest: &[u8], sink: &mut S) -> Result<(u8, usize), TextFault>
+    requires few { held ≤ 2 }
+    requires some { 0 < length rest.now }
+    requires first { slice_index rest.now 0 ≡ 13 }
+    ensures few { IfOk result (λ front. front.0 ≤ 2) }
+    ensures some { IfOk result (λ front. 0 < front.1) }
+    ensures within { IfOk result (λ front. front.1 ≤ length rest.now) }
+    ensures taken { IfOk result (λ front.
+        TakesPiece S.goes S.failures (Some held) (take front.1 rest.now) (Some front.0) sink.old sink.new) }
+    ensures refused { IfErr result (λ fault.
+        RefusesOne S.goes S.failures (Some held) rest.now fault sink.old sink.new) }
+{
+    if has_line_end(held, rest) {
+        return match sink.line_end() {
+            Ok(()) => Ok((0, 2)),
+            Err(_) => Err(TextFault {
+                taken: 1,
+                cause: TextCause::Sink,
+            }),
+        };
+    }
+    if held < MAX_RETURNS {
+        return Ok((held + 1, 1));
+    }
+    Err(TextFault {
+        taken: 0,
+        cause: TextCause::LoneReturn,
+    })
+}
+
+/// Takes what stands first, which is none of a line or stands after held CR, and answers how many are held then and how
+/// many octets it took.
+#[inline(always)]
+fn take_mark<S: StorySink>(held: u8, rest: &[u8], sink: &mut S) -> Result<(u8, usize), TextFault>
+    requires few { held ≤ 2 }
+    requires some { 0 < length rest.now }
+    requires mark { held ≡ 0 → is_line_octet (slice_index rest.now 0) ≡ false }
+    ensures few { IfOk result (λ front. front.0 ≤ 2) }
+    ensures some { IfOk result (λ front. 0 < front.1) }
+    ensures within { IfOk result (λ front. front.1 ≤ length rest.now) }
+    ensures taken { IfOk result (λ front.
+        TakesPiece S.goes S.failures (Some held) (take front.1 rest.now) (Some front.0) sink.old sink.new) }
+    ensures refused { IfErr result (λ fault.
+        RefusesOne S.goes S.failures (Some held) rest.now fault sink.old sink.new) }
+{
+    let octet = rest[0];
     if octet == LF {
         return match sink.line_end() {
-            Ok(()) => Ok(0),
-            Err(_) => Err(TextCause::Sink),
+            Ok(()) => Ok((0, 1)),
+            Err(_) => Err(TextFault {
+                taken: 0,
+                cause: TextCause::Sink,
+            }),
         };
     }
     if octet == CR {
-        if held < MAX_RETURNS {
-            return Ok(held + 1);
-        }
-        return Err(TextCause::LoneReturn);
+        return take_return(held, rest, sink);
     }
     if held > 0 {
-        return Err(TextCause::LoneReturn);
+        return Err(TextFault {
+            taken: 0,
+            cause: TextCause::LoneReturn,
+        });
     }
-    Err(TextCause::ControlOctet)
+    Err(TextFault {
+        taken: 0,
+        cause: TextCause::ControlOctet,
+    })
 }
 
 /// Tells a run of a line at the front of the octets that are left, where there is one.
@@ -106,9 +161,12 @@ fn take_front<S: StorySink>(
             if run == rest.len() {
                 return Ok((held, run, here));
             }
-            match take_mark(held, rest[run], sink) {
-                Ok(now) => Ok((now, run + 1, here.after(&rest[run..]))),
-                Err(cause) => Err(TextFault { taken: run, cause }),
+            match take_mark(held, &rest[run..], sink) {
+                Ok((now, used)) => Ok((now, run + used, here.after(used, &rest[run..]))),
+                Err(fault) => Err(TextFault {
+                    taken: run + fault.taken,
+                    cause: fault.cause,
+                }),
             }
         }
         Err(fault) => Err(fault),
