@@ -1,12 +1,14 @@
 -- A whole dataset, taken at once.
-use Rattle.std.proofs.Common.{◌≡◌, ◌≢◌, ℕ, ◌+◌, ◌<◌, ◌≤◌, List, [], ◌∷◌, ◌++◌, length, get_or, refl, ap, sym, subst, ◌∙◌, inl, inr, arith, Bool, true, false, Option, Some, None}
+use Rattle.std.proofs.Common.{◌≡◌, ◌≢◌, ℕ, ◌+◌, ◌<◌, ◌≤◌, List, [], ◌∷◌, ◌++◌, length, get_or, refl, ap, sym, subst, ◌∙◌, inl, inr, arith, Bool, true, false, not, if◌then◌else◌, nat_le, Option, Some, None}
 use Rattle.std.specs.Prelude.{vec_len, vec_capacity, is_some, is_none}
 use Rattle.std.specs.Option.{option_or}
 use Rattle.iim_dataset.specs.Format.Datasets.{Dataset, head_of}
 use Rattle.iim_dataset.specs.declared.head.Head.{Head}
 use Rattle.iim_tables.specs.Format.Rows.{row_of}
 use Rattle.iim_tables.specs.declared.shape.Row.{Row}
-use Rattle.iim_fields.specs.Format.Faults.{head_fault, record_fault, limits_fault, value_fault, room_fault, is_kept}
+use Rattle.iim_fields.specs.Format.Faults.{head_fault, record_fault, limits_fault, first_fault, value_fault, room_fault, fault_on, is_kept, kept_octets}
+use Rattle.iim_fields.specs.Format.Faults as faults
+use Rattle.iim_fields.specs.declared.fault.FieldCause.TheVariants.{HeaderFull, TooManyFields}
 use Rattle.iim_fields.specs.Format.Builders.{add_fault}
 use Rattle.iim_fields.specs.Format.Orders.{has_seen, IsOrderOf}
 use Rattle.iim_fields.specs.Orders.{AddsHead}
@@ -26,11 +28,29 @@ use Rattle.iim_fields.specs.declared.check.RecordPlace.{RecordPlace}
 use Rattle.iim_fields.proofs.Table.{EachRowHasValues}
 use Rattle.iim_fields.proofs.Checking.{taken_by, checked_value, not_both, octets_of, same_place, order_at, record_fault_is}
 use Rattle.iim_fields.proofs.Build.{add_fault_of}
-use Rattle.iim_fields.proofs.Stand.{holds_after, room_fault_is, between_after, stands_in, reading_begun, head_in, store_room_for, reading_stored, entry_room, taken_in_store, stands_more, kept_in_store, kept_not_object, stands_closed, reading_kept}
+use Rattle.iim_fields.proofs.Stand.Kept.{Passed}
+use Rattle.iim_fields.proofs.Stand.{taken_in_size, reading_passed, holds_after, room_fault_is, between_after, stands_in, reading_begun, head_in, store_room_for, reading_stored, entry_room, taken_in_store, stands_more, kept_in_store, kept_not_object, stands_closed, reading_kept}
 
 pub no_some : {X : Type 0} (o : Option X) → is_some o ≡ false → o ≡ None
 no_some None e = refl
 no_some (Some x) e = absurd cc
+
+pub none_where : {X : Type 0} (o : Option X) → is_none o ≡ true → o ≡ None
+none_where None e = refl
+none_where (Some x) e = absurd cc
+
+-- of two faults, whether none is told
+pub first_fails : (a b : Option FieldFault) → is_none a ≡ false → false ≡ is_none (option_or a b)
+first_fails None b e = absurd cc
+first_fails (Some f) b e = refl
+
+pub second_fails : (a b : Option FieldFault) → is_none b ≡ false → false ≡ is_none (option_or a b)
+second_fails None b e = sym e
+second_fails (Some f) b e = refl
+
+pub neither_fails : (a b : Option FieldFault) → is_none a ≡ true → is_none b ≡ true → true ≡ is_none (option_or a b)
+neither_fails None b e f = sym f
+neither_fails (Some x) b e f = absurd cc
 
 -- ---- the check
 
@@ -183,3 +203,47 @@ whole_reading check new limits store taken kept size h xs w octets entries room 
     let (ds, s) = between_after (place_of check limits store size) w.reading.stands w.between in
     reading_kept w.took.mid new limits taken kept size h (mid_stored check new limits store taken size h xs w octets entries room) w.next (head_in w.took.mid h w.took.inside) w.keeps kept_octets kept_entries capacity
     (inl (ds ++ data_of h xs ∷ [], whole_stands check new limits store taken kept size h xs w octets entries room kept_octets kept_entries ds s))
+
+-- ---- a number
+
+no_limit : (limits : Limits) (octets fields : ℕ) (h : Head) → is_kept h.rec ≡ false → room_fault limits octets fields h ≡ None
+no_limit limits octets fields h passes = by_kept (is_kept h.rec) (nat_le (octets + h.count) limits.octets) (nat_le (fields + 1) limits.fields) (fault_on h HeaderFull) (fault_on h TooManyFields) passes
+  where
+    by_kept : (k a b : Bool) (f g : FieldFault) → k ≡ false → (if not k then None else if not a then Some f else if not b then Some g else None) ≡ None
+    by_kept true a b f g is = absurd cc
+    by_kept false a b f g is = refl
+
+-- the fault is that of the head, or else of the value
+pub number_exactly : (check : Option RecordPlace) (limits : Limits) (store : Store) (size : List ℕ) (h : Head) (xs : List ℕ) (b : Bool) → h.rec ≡ 7 → h.count ≡ length xs
+    → ((ds : List Dataset) → HasChecked check ds → b ≡ is_none (record_layer_fault ds (data_of h xs)))
+    → (ds : List Dataset) → StandsAfter (place_of check limits store size) ds → b ≡ is_none (option_or (first_fault limits ds h) (value_fault (data_of h xs)))
+number_exactly check limits store size h xs b seven count exactly ds s =
+    exactly ds s.checked
+    ∙ (ap (λ (k : Head). is_none (option_or (record_fault ds k) (value_fault (data_of h xs)))) (sym (same_head h xs count))
+    ∙ without (record_fault ds h) (limits_fault limits ds h) (value_fault (data_of h xs)) (no_limit limits (kept_octets ds) (length (faults.kept ds)) h (ap is_kept seven)))
+
+pub number_stands : (check new : Option RecordPlace) (limits : Limits) (store : Store) (size : List ℕ) (h : Head) (xs : List ℕ) → IsReading check limits store size → (took : TookWhole check new h xs) → checks.IsBetween new
+    → h.rec ≡ 7 → h.count ≡ length xs → ((i : ℕ) → get_or xs i 0 < 256)
+    → (ds : List Dataset) → StandsAfter (place_of check limits store size) ds → StandsAfter (place_of new limits store size) (ds ++ data_of h xs ∷ [])
+number_stands check new limits store size h xs r took next seven count small ds s =
+    let passes : is_kept h.rec ≡ false = ap is_kept seven in
+    let other : h.rec ≢ 8 = λ eight. omega (arith, seven, eight) in
+    let mid = took.mid in
+    let begun : StandsIn (place_of mid limits store size) ds h [] = stands_in check mid limits store size h r.store_is took.inside took.taken (no_limit limits (length store.octets.items) (vec_len store.entries) h passes) ds s in
+    let takes : CanTake (place_of mid limits store size) (length xs) =
+    (h, h.count, record { head = took.inside; to_come = λ _. omega (arith, ap (λ (ys : List ℕ). length ys) s.taken_are) }, other, omega (arith, count)) in
+    let inside : StandsIn (place_of mid limits store (size ++ xs)) ds h xs =
+    stands_more (place_of mid limits store size) (place_of mid limits store (size ++ xs)) xs refl refl refl (taken_in_size store size (size ++ xs) xs refl) takes small ds h [] begun in
+    let is : begun_octets store ++ (size ++ xs) ≡ xs = inside.taken_are in
+    (stands_closed (place_of mid limits store (size ++ xs)) (place_of new limits store size) h took.number took.inside other next
+    (ap (λ (ys : List ℕ). length ys) is ∙ sym count) refl s.taken_are (Passed passes refl)
+    (subst (λ (ys : List ℕ). (es : List Dataset) (g : Head) → IsChecking mid es g → HasChecked new (es ++ data_of g ys ∷ []) × (took.number ≡ number_told (data_of g ys))) (sym is) took.closed)
+    ds h xs inside (data_of h xs)
+    (record { head = (λ i. record { rec = h.rec; set = h.set; count = (sym count) i }); octets = octets_of xs small; given = λ _. refl })).0
+
+pub number_reading : (check new : Option RecordPlace) (limits : Limits) (store : Store) (size : List ℕ) (h : Head) (xs : List ℕ) (b : Bool) → IsReading check limits store size → checks.IsBetween check → (b ≡ true → TookWhole check new h xs)
+    → (b ≡ false → new ≡ check) → checks.IsBetween new → h.rec ≡ 7 → h.count ≡ length xs → ((i : ℕ) → get_or xs i 0 < 256) → IsReading new limits store size
+number_reading check new limits store size h xs true r between took left next seven count small =
+    let (ds, s) = between_after (place_of check limits store size) r.stands between in
+    reading_passed check new limits store size size r next (inl (ds ++ data_of h xs ∷ [], number_stands check new limits store size h xs r (took refl) next seven count small ds s))
+number_reading check new limits store size h xs false r between took left next seven count small = subst (λ (k : Option RecordPlace). IsReading k limits store size) (sym (left refl)) r

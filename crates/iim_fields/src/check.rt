@@ -13,11 +13,11 @@ ghost use Rattle.iim_fields.specs.declared.check.RecordPlace.{RecordPlace as Pla
 
 use crate::fault::FieldFault;
 use crate::order::Order;
-use crate::value::check_value;
+use crate::value::{check_value, is_value};
 use iim_dataset::Head;
-use iim_tables::Row;
 use iim_tables::laws::each_row_has_values;
 use iim_tables::records::POST_OBJECT;
+use iim_tables::{Row, row};
 use std::marker::Model;
 
 /// A begun dataset.
@@ -57,10 +57,13 @@ impl RecordPlace {
         ensures took { IsTrue result → TakesWhole self.old head octets.now self.new }
         ensures left { result ≡ false → self.new ≡ self.old }
     {
-        let Ok(row) = self.order.check(head) else {
+        let Some(row) = row(head.rec, head.set) else {
             return false;
         };
-        if check_value(head, &row, octets).is_err() {
+        if !self.order.admits(head, &row) {
+            return false;
+        }
+        if !is_value(head, &row, octets) {
             return false;
         }
         self.order.take(head);
@@ -68,6 +71,7 @@ impl RecordPlace {
     }
 
     /// Takes a head that may stand next, which has this row.
+    #[inline(always)]
     fn enter(&mut self, head: Head, row: Row)
         ensures order { AddsHead self.old.order head self.new.order }
         ensures begun { self.new.begun ≡ Some (record { head = head; row = row }) }
@@ -135,6 +139,7 @@ impl RecordCheck {
     }
 
     /// The record of the last head, 0 at the beginning and after a refusal.
+    #[inline(always)]
     pub fn section(&self) -> u8
         ensures seen { result ≡ present_at self.now }
         ensures stands { (ds : List Dataset) → HasChecked self.now ds → result ≡ present_record ds }
@@ -146,6 +151,7 @@ impl RecordCheck {
     }
 
     /// The head of the begun dataset.
+    #[inline(always)]
     pub(crate) fn begun(&self) -> Option<Head>
         ensures { result ≡ begun_head self.now }
     {
@@ -210,6 +216,7 @@ impl RecordCheck {
 
     /// Takes the complete value of the begun dataset: answers the number that it tells if its record is 7 or 9, or the first
     /// fault of the value, and then has failed: the record layer dies with the value.
+    #[inline(always)]
     pub fn value(&mut self, octets: &[u8]) -> Result<Option<u64>, FieldFault>
         requires { TakesValue self.old (length octets.now) }
         ensures takes_head { OnOk result (TakesHead self.new) }

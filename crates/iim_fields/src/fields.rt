@@ -4,7 +4,8 @@ ghost use Rattle.std.specs.Prelude.{◌≡◌, false, ◌+◌, ◌-◌, ◌≤�
 ghost use Rattle.iim_dataset.specs.Format.Datasets.{Dataset};
 ghost use Rattle.iim_dataset.specs.declared.head.Head.{Head as HeadValue};
 ghost use Rattle.iim_fields.specs.Format.Records.{AreSections};
-ghost use Rattle.iim_fields.specs.Format.Faults.{is_kept, kept, room_fault};
+ghost use Rattle.std.specs.Option.{option_or};
+ghost use Rattle.iim_fields.specs.Format.Faults.{first_fault, is_kept, kept, room_fault, value_fault};
 ghost use Rattle.iim_fields.specs.Format.Checks.{IsValueFault};
 ghost use Rattle.iim_fields.specs.Format.Values.{number_told, data_of};
 
@@ -25,6 +26,7 @@ use std::alloc::{AllocError, Global};
 use std::marker::Model;
 
 /// The first limit that a head passes, after `octets` kept octets and `fields` kept datasets.
+#[inline(always)]
 pub(crate) fn room_fault(
     limits: Limits,
     octets: usize,
@@ -123,6 +125,18 @@ impl Fields {
         }
     }
 
+    /// Begins again, on the same memory and within the same limits: whatever was read or refused before, it is at the beginning of an
+    /// envelope. It takes no memory.
+    pub fn again(&mut self)
+        ensures stands { StandsAfter self.new [] }
+        ensures limits { limits_of self.new ≡ limits_of self.old }
+        ensures room { room_of self.new ≡ room_of self.old }
+    {
+        self.store.empty();
+        self.size.clear();
+        self.check = RecordCheck::new();
+    }
+
     /// The limits under which it reads.
     pub fn limits(&self) -> Limits
         ensures { result ≡ limits_of self.now }
@@ -138,6 +152,7 @@ impl Fields {
     }
 
     /// The record of the last head, which is the present one; 0 at the beginning of an envelope, and after a refusal.
+    #[inline(always)]
     pub fn section(&self) -> u8
         ensures section { result ≡ section_of self.now }
         ensures after { (ds : List Dataset) → StandsAfter self.now ds → result ≡ present_record ds }
@@ -147,6 +162,7 @@ impl Fields {
     }
 
     /// The head of the begun dataset; `None` between datasets, at the beginning of an envelope, and after a refusal.
+    #[inline(always)]
     pub fn begun_head(&self) -> Option<Head>
         ensures head { result ≡ begun_head_of self.now }
         ensures after { (ds : List Dataset) → StandsAfter self.now ds → result ≡ None }
@@ -179,6 +195,7 @@ impl Fields {
 
     /// Takes the next head, or answers its first fault and has failed: the record layer dies with the head, or a limit
     /// is passed.
+    #[inline(always)]
     pub fn begin(&mut self, head: Head) -> Result<(), FieldFault>
         requires { IsBetween self.old }
         ensures inside { OnOk result (IsInside self.new head head.count) }
@@ -229,8 +246,28 @@ impl Fields {
         true
     }
 
+    /// Takes a whole dataset of record 7, its head and all of its data, as `begin`, `bytes` and `close` take it; or changes nothing,
+    /// and answers false, where its head or its value has a fault. Then these calls tell the fault.
+    #[inline(always)]
+    pub fn whole_number(&mut self, head: Head, octets: &[u8]) -> bool
+        requires between { IsBetween self.old }
+        requires number { head.rec ≡ 7 }
+        requires count { head.count ≡ length octets.now }
+        ensures exactly { (ds : List Dataset) → StandsAfter self.old ds
+            → result ≡ is_none (option_or (first_fault (limits_of self.old) ds head) (value_fault (data_of head octets.now))) }
+        ensures section { IsTrue result → section_of self.new ≡ head.rec }
+        ensures stands { IsTrue result → (ds : List Dataset) → StandsAfter self.old ds → StandsAfter self.new (ds ++ data_of head octets.now ∷ []) }
+        ensures between { IsBetween self.new }
+        ensures left { result ≡ false → self.new ≡ self.old }
+        ensures limits { limits_of self.new ≡ limits_of self.old }
+        ensures room { room_of self.new ≡ room_of self.old }
+    {
+        self.check.whole(head, octets)
+    }
+
     /// Adds the next octets of the begun dataset. Call it as often as you like, up to the count of the head. Never for a
     /// subfile, 8:10, whose data belong to the object.
+    #[inline(always)]
     pub fn bytes(&mut self, octets: &[u8])
         requires { CanTake self.old (length octets.now) }
         ensures inside { (h : HeadValue) (n : ℕ) → IsInside self.old h n → IsInside self.new h (n - length octets.now) }
@@ -251,6 +288,7 @@ impl Fields {
 
     /// Ends the begun dataset: answers the number that it tells if its record is 7 or 9, or the first fault of its value,
     /// and then has failed: the record layer dies with the value.
+    #[inline(always)]
     pub fn close(&mut self) -> Result<Option<u64>, FieldFault>
         requires { CanClose self.old }
         ensures between { OnOk result (IsBetween self.new) }

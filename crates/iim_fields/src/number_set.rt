@@ -27,6 +27,7 @@ impl Model for NumberSet {
 
 impl NumberSet {
     /// No number is in it.
+    #[inline(always)]
     pub(crate) fn new() -> NumberSet
         ensures { result ≡ replicate 256 false }
     {
@@ -41,6 +42,7 @@ impl NumberSet {
     }
 
     /// Whether the number is in it.
+    #[inline(always)]
     pub(crate) fn contains(&self, number: u8) -> bool
         ensures { result ≡ slice_index_or self.now number false }
     {
@@ -49,6 +51,7 @@ impl NumberSet {
     }
 
     /// Adds a number.
+    #[inline(always)]
     pub(crate) fn insert(&mut self, number: u8)
         ensures { self.new ≡ slice_set self.old number true }
     {

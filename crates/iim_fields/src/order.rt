@@ -1,6 +1,6 @@
 //! Where a head may stand: the order of the records, and the rows of their datasets.
 
-ghost use Rattle.std.specs.Prelude.{◌≡◌, Some, None, IfOk, IfErr, OnOk};
+ghost use Rattle.std.specs.Prelude.{◌≡◌, is_none, Some, None, IfOk, IfErr, OnOk};
 ghost use Rattle.iim_tables.specs.Format.Rows.{row_of};
 ghost use Rattle.iim_fields.specs.Format.Faults.{head_fault, row_fault, missing_of, missing_fault, is_in_order, is_first};
 ghost use Rattle.iim_fields.specs.Format.Records.{after};
@@ -22,6 +22,7 @@ pub(crate) struct Order {
 }
 
 /// A fault on the dataset of a head.
+#[inline(always)]
 pub(crate) fn fault_on(head: Head, cause: FieldCause) -> FieldFault
     ensures { result ≡ record { rec = head.rec; set = head.set; cause = cause } }
 {
@@ -51,6 +52,7 @@ fn no_application() -> Option<FieldFault>
 }
 
 /// The first fault of a head by its row.
+#[inline(always)]
 fn row_fault(again: bool, row: &Row, head: Head) -> Option<FieldFault>
     ensures { result ≡ row_fault again (Some row.now) head }
 {
@@ -103,6 +105,7 @@ impl Order {
     }
 
     /// Whether the record follows the present one.
+    #[inline(always)]
     fn begins(&self, rec: u8) -> bool
         ensures { result ≡ is_first rec (after self.now.rec) }
     {
@@ -113,6 +116,7 @@ impl Order {
     }
 
     /// Whether the record is the present one, or the next.
+    #[inline(always)]
     fn is_in_order(&self, rec: u8) -> bool
         ensures { result ≡ is_in_order self.now.rec rec }
     {
@@ -120,6 +124,7 @@ impl Order {
     }
 
     /// The fault of a record that ends too early.
+    #[inline(always)]
     fn missing_fault(&self, rec: u8) -> Option<FieldFault>
         ensures { result ≡ missing_fault rec (missing_of rec (has_seen self.now)) }
     {
@@ -143,6 +148,7 @@ impl Order {
     }
 
     /// The row of a head that may stand next, or the head's first fault.
+    #[inline(always)]
     pub(crate) fn check(&self, head: Head) -> Result<Row, FieldFault>
         ensures row { IfOk result (λ row. row_of head.rec head.set ≡ Some row) }
         ensures ok { OnOk result (head_fault self.now.rec (has_seen self.now) head ≡ None) }
@@ -166,7 +172,24 @@ impl Order {
         Ok(row)
     }
 
+    /// Whether a head may stand next, which has this row: it has no fault for `check` to tell.
+    #[inline(always)]
+    pub(crate) fn admits(&self, head: Head, row: &Row) -> bool
+        requires { row_of head.rec head.set ≡ Some row.now }
+        ensures { result ≡ is_none (head_fault self.now.rec (has_seen self.now) head) }
+    {
+        if !self.is_in_order(head.rec) {
+            return false;
+        }
+        let again = head.rec == self.rec && self.seen.contains(head.set);
+        if row_fault(again, row, head).is_some() {
+            return false;
+        }
+        !self.begins(head.rec) || self.missing(self.rec).is_none()
+    }
+
     /// Takes a head that may stand next.
+    #[inline(always)]
     pub(crate) fn take(&mut self, head: Head)
         ensures { AddsHead self.old head self.new }
     {

@@ -22,6 +22,7 @@ pub(crate) fn mandatory(rec: u8) -> &'static [u8]
 }
 
 /// The record that follows. An envelope begins with record 1, which follows 0.
+#[inline(always)]
 pub(crate) fn next_record(rec: u8) -> Option<u8>
     ensures { MatchOption result (after rec ≡ []) (λ next. after rec ≡ next ∷ after next) }
 {
@@ -36,6 +37,7 @@ pub(crate) fn next_record(rec: u8) -> Option<u8>
 }
 
 /// Whether the record is kept.
+#[inline(always)]
 pub(crate) fn is_kept(rec: u8) -> bool
     ensures { result ≡ is_kept rec }
 {

@@ -55,12 +55,23 @@ impl Store {
             return Err(self);
         }
         let mut store = self;
-        store.octets.clear();
-        store.entries.clear();
+        store.empty();
         Ok(store)
     }
 
+    /// Empties it: the room stays.
+    pub(crate) fn empty(&mut self)
+        ensures octets { self.new.octets.items ≡ [] }
+        ensures entries { self.new.entries.items ≡ [] }
+        ensures octets_room { self.new.octets.room ≡ self.old.octets.room }
+        ensures entries_room { vec_capacity self.new.entries ≡ vec_capacity self.old.entries }
+    {
+        self.octets.clear();
+        self.entries.clear();
+    }
+
     /// Takes octets of the begun dataset into the room that there is.
+    #[inline(always)]
     pub(crate) fn take(&mut self, octets: &[u8])
         requires { length self.old.octets.items + length octets.now ≤ self.old.octets.room }
         ensures octets { self.new.octets.items ≡ self.old.octets.items ++ octets.now }
@@ -71,6 +82,7 @@ impl Store {
     }
 
     /// Where the octets of the kept datasets end, and those of the begun one begin.
+    #[inline(always)]
     fn end(&self) -> usize
         ensures { result ≡ ends_at 0 self.now.entries.items }
     {
@@ -81,6 +93,7 @@ impl Store {
     }
 
     /// The octets of the begun dataset.
+    #[inline(always)]
     pub(crate) fn begun(&self) -> &[u8]
         requires { ends_at 0 self.now.entries.items ≤ length self.now.octets.items }
         ensures { result.now ≡ begun_octets self.now }
@@ -89,6 +102,7 @@ impl Store {
     }
 
     /// Keeps the begun dataset, whose octets are all there.
+    #[inline(always)]
     pub(crate) fn keep(&mut self, rec: u8, set: u8)
         requires { vec_len self.old.entries < vec_capacity self.old.entries }
         ensures octets { self.new.octets ≡ self.old.octets }

@@ -1,6 +1,6 @@
 //! What a complete value has to be.
 
-ghost use Rattle.std.specs.Prelude.{◌≡◌, Some, None, length, IfOk, IfErr, OnOk};
+ghost use Rattle.std.specs.Prelude.{◌≡◌, is_none, Some, None, length, IfOk, IfErr, OnOk};
 ghost use Rattle.iim_tables.specs.Format.Rows.{row_of};
 ghost use Rattle.iim_fields.specs.Format.Faults.{value_fault};
 ghost use Rattle.std.specs.Int.{IsInRange};
@@ -18,6 +18,7 @@ use iim_tables::{Row, admits, number_of};
 const WIRE_FORMAT: u64 = 2;
 
 /// Whether the octets may be those of the head, as far as the value of a file format goes.
+#[inline(always)]
 fn has_file_format(head: Head, octets: &[u8]) -> bool
     requires { head.rec ≡ 1 → head.set ≡ 20 → length octets.now ≡ 2 }
     ensures { result ≡ has_file_format (data_of head octets.now) }
@@ -29,6 +30,7 @@ fn has_file_format(head: Head, octets: &[u8]) -> bool
 }
 
 /// The first fault of a value.
+#[inline(always)]
 fn value_fault(head: Head, row: &Row, octets: &[u8]) -> Option<FieldFault>
     requires { row_of head.rec head.set ≡ Some row.now }
     ensures { result ≡ value_fault (data_of head octets.now) }
@@ -42,7 +44,17 @@ fn value_fault(head: Head, row: &Row, octets: &[u8]) -> Option<FieldFault>
     None
 }
 
+/// Whether a value has no fault for `value_fault` to tell.
+#[inline(always)]
+pub(crate) fn is_value(head: Head, row: &Row, octets: &[u8]) -> bool
+    requires { row_of head.rec head.set ≡ Some row.now }
+    ensures { result ≡ is_none (value_fault (data_of head octets.now)) }
+{
+    admits(row, octets) && has_file_format(head, octets)
+}
+
 /// The number that a value of record 7 or 9 tells.
+#[inline(always)]
 fn number_told(head: Head, octets: &[u8]) -> Option<u64>
     requires { HasNumberValues head.rec → IsInRange 1 size_octets (length octets.now) }
     ensures { result ≡ number_told (data_of head octets.now) }
@@ -54,6 +66,7 @@ fn number_told(head: Head, octets: &[u8]) -> Option<u64>
 }
 
 /// The number that a complete value tells, or the first fault of the value.
+#[inline(always)]
 pub(crate) fn check_value(head: Head, row: &Row, octets: &[u8]) -> Result<Option<u64>, FieldFault>
     requires { row_of head.rec head.set ≡ Some row.now }
     ensures number { IfOk result (λ number. number ≡ number_told (data_of head octets.now)) }

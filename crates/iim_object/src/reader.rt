@@ -1,17 +1,18 @@
 //! The reader of an object.
 
-ghost use Rattle.std.specs.Prelude.{◌≡◌, ◌↔◌, [], ◌∷◌, ℕ, List, Option, is_none, length, map, sum, Some, None, IsSome, IfSome, IfErr, OnOk, OnErr};
+ghost use Rattle.std.specs.Prelude.{◌≡◌, ◌↔◌, [], ◌∷◌, ℕ, List, Option, is_none, length, map, sum, Some, None, IsSome, IfSome, IfNone, IfErr, OnOk, OnErr};
 ghost use Rattle.std.specs.Option.{ForSome};
 ghost use Rattle.iim_dataset.specs.Format.Datasets.{Dataset};
 ghost use Rattle.iim_object.specs.declared.state.State.{State};
 ghost use Rattle.iim_object.specs.Format.States.{IsState, state_numbers};
 ghost use Rattle.iim_object.specs.Format.Events.{ObjectOctet, ObjectEnd};
-ghost use Rattle.iim_object.specs.Format.Objects.{ObjectEnded};
+ghost use Rattle.iim_object.specs.Format.Objects.{NumberRead, ObjectEnded};
 ghost use Rattle.iim_object.specs.Format.Places.{Place, ConfirmedAs, place_start, value_token, head_token};
 ghost use Rattle.iim_object.specs.Format.Records.{AreObjectRecords, HaveSizes};
 ghost use Rattle.iim_object.specs.Format.Numbers.{place_after_datasets};
 ghost use Rattle.iim_object.specs.Format.Saved.{IsAt, IsPossible, stated_numbers};
-ghost use Rattle.iim_object.specs.Format.Reading.{StandsAt, LeadsOn, RefusesValue, RefusesHead, RefusesRun, IsSizes, events_at};
+ghost use Rattle.iim_object.specs.declared.fault.SizeCause.{SizeCause};
+ghost use Rattle.iim_object.specs.Format.Reading.{StandsAt, LeadsOn, Refuses, RefusesValue, RefusesHead, RefusesRun, IsSizes, events_at};
 
 use crate::fault::ObjectFault;
 use crate::place::state_at;
@@ -89,6 +90,7 @@ impl ObjectReader {
 
     /// Takes the number of a complete value: of dataset 7:`set`, or of 9:10, the confirmed size. The reader has not
     /// failed; after a refusal it has.
+    #[inline(always)]
     pub fn value(&mut self, rec: u8, set: u8, number: u64) -> Result<(), ObjectFault>
         requires { IsSome self.old }
         ensures takes_calls { OnOk result (IsSome self.new) }
@@ -106,8 +108,24 @@ impl ObjectReader {
         Ok(())
     }
 
+    /// The reader that a number of dataset 7:`set` leads to, or None where the object layer dies with it. This one has not failed, and
+    /// stays what it is.
+    #[inline(always)]
+    pub fn with_number(&self, set: u8, number: u64) -> Option<ObjectReader>
+        requires { IsSome self.now }
+        ensures takes_calls { IfSome result IsSome }
+        ensures leads_on { IfSome result (λ reader. LeadsOn self.now (NumberRead set number) reader) }
+        ensures refused { IfNone result ((cause : SizeCause) × Refuses self.now (NumberRead set number) cause) }
+    {
+        match take_number(self.state.unwrap(), set, number) {
+            Ok(state) => Some(ObjectReader { state: Some(state) }),
+            Err(_cause) => None,
+        }
+    }
+
     /// Takes a complete head: of a subfile, 8:10, with `count` octets; or of 9:10, where the object ends and the sink is
     /// told so. The reader has not failed, and the sink takes calls; after a refusal the reader has failed.
+    #[inline(always)]
     pub fn head<S: ObjectSink>(
         &mut self,
         rec: u8,
@@ -127,12 +145,23 @@ impl ObjectReader {
         if rec == POST_OBJECT {
             return self.end(sink);
         }
-        let state = self.take_state();
-        self.state = Some(take_subfile(state, count)?);
-        Ok(())
+        match &mut self.state {
+            Some(state) => match take_subfile(*state, count) {
+                Ok(next) => {
+                    *state = next;
+                    Ok(())
+                }
+                Err(cause) => {
+                    self.state = None;
+                    Err(ObjectFault::Size { cause })
+                }
+            },
+            None => unreachable!(),
+        }
     }
 
     /// Takes the end of the object.
+    #[inline(always)]
     fn end<S: ObjectSink>(&mut self, sink: &mut S) -> Result<(), ObjectFault>
         requires takes_calls { IsSome self.old }
         requires stands { S.stands sink.old }
@@ -151,6 +180,7 @@ impl ObjectReader {
 
     /// Hands octets of the object on to the sink. They are those after the heads of subfiles, in any cut.
     /// The reader has not failed, and the sink takes calls, afterwards too; after a refusal the reader has failed.
+    #[inline(always)]
     pub fn run<S: ObjectSink>(&mut self, run: &[u8], sink: &mut S) -> Result<(), ObjectFault>
         requires takes_calls { IsSome self.old }
         requires stands { S.stands sink.old }
@@ -160,10 +190,13 @@ impl ObjectReader {
         ensures failed { OnErr result (self.new ≡ None) }
         ensures refused { IfErr result (RefusesRun S.stops run.now sink.old sink.new) }
     {
-        let state = self.take_state();
-        sink.run(run)?;
-        self.state = Some(state);
-        Ok(())
+        match sink.run(run) {
+            Ok(()) => Ok(()),
+            Err(stop) => {
+                self.state = None;
+                Err(ObjectFault::Stopped(stop))
+            }
+        }
     }
 
     /// How many octets the subfiles so far count together. The reader has not failed.

@@ -35,6 +35,7 @@ pub(crate) struct State {
 }
 
 /// Whether a number is given, and is this one.
+#[inline(always)]
 pub(crate) fn is_given(number: Option<u64>, wanted: u64) -> bool
     ensures { result ≡ is_given number wanted }
 {
@@ -54,6 +55,7 @@ fn is_within(number: Option<u64>, least: u64, most: u64) -> bool
     }
 }
 
+#[inline(always)]
 fn is_above(announced: Option<u64>, maximum: Option<u64>) -> bool
     ensures { result ≡ is_above announced maximum }
 {
@@ -64,6 +66,7 @@ fn is_above(announced: Option<u64>, maximum: Option<u64>) -> bool
 }
 
 /// The most octets that the object may have.
+#[inline(always)]
 fn bound(announced: Option<u64>, maximum: Option<u64>) -> u64
     ensures { result ≡ bound announced maximum }
 {
@@ -157,6 +160,7 @@ impl State {
     }
 
     /// With the number of a dataset of record 7.
+    #[inline(always)]
     pub(crate) fn with_number(self, set: u8, number: u64) -> State
         ensures { result ≡ state_with self set number }
     {
@@ -172,6 +176,7 @@ impl State {
     }
 
     /// With a subfile of `count` octets.
+    #[inline(always)]
     pub(crate) fn with_subfile(self, count: u64) -> State
         requires subfiles { self.subfiles < 2 ^ 64 - 1 }
         requires total { self.total + count < 2 ^ 64 }
@@ -185,6 +190,7 @@ impl State {
     }
 
     /// Whether a number of record 7 may come: no subfile has come, and its row allows the number.
+    #[inline(always)]
     pub(crate) fn takes_number(&self, set: u8, number: u64) -> bool
         ensures { IsTrue result ↔ TakesNumber self.now set number }
     {
@@ -198,6 +204,7 @@ impl State {
     }
 
     /// Whether a subfile may come: mode and largest subfile are given, and one more is not too many.
+    #[inline(always)]
     pub(crate) fn takes_subfile(&self) -> bool
         ensures { IsTrue result ↔ TakesSubfile self.now }
     {
@@ -205,6 +212,7 @@ impl State {
     }
 
     /// What is wrong with the numbers of record 7.
+    #[inline(always)]
     pub(crate) fn number_cause(&self) -> Option<SizeCause>
         ensures { result ≡ number_cause self.now.mode self.now.announced self.now.maximum }
     {
@@ -218,6 +226,7 @@ impl State {
     }
 
     /// Whether the object has more octets than it may, with `count` more.
+    #[inline(always)]
     fn is_past(&self, count: u64) -> bool
         ensures { result ≡ is_past (bound self.now.announced self.now.maximum) self.now.total count }
     {
@@ -229,6 +238,7 @@ impl State {
     }
 
     /// What is wrong with a subfile of `count` octets.
+    #[inline(always)]
     pub(crate) fn subfile_cause(&self, count: u64) -> Option<SizeCause>
         ensures { result ≡ subfile_cause self.now.mode self.now.subfile self.now.announced self.now.maximum self.now.total count }
     {
@@ -245,6 +255,7 @@ impl State {
     }
 
     /// What is wrong with the end of the object.
+    #[inline(always)]
     pub(crate) fn end_cause(&self) -> Option<SizeCause>
         ensures { result ≡ end_cause self.now.announced self.now.total }
     {
@@ -255,6 +266,7 @@ impl State {
     }
 
     /// What is wrong with the confirmed size.
+    #[inline(always)]
     pub(crate) fn confirmed_cause(&self, number: u64) -> Option<SizeCause>
         ensures { result ≡ confirmed_cause self.now.total number }
     {

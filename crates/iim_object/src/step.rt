@@ -9,6 +9,7 @@ use crate::fault::SizeCause;
 use crate::state::State;
 
 /// Takes a number of record 7. Where it may not come, it changes nothing.
+#[inline(always)]
 pub(crate) fn take_number(state: State, set: u8, number: u64) -> Result<State, SizeCause>
     requires { IsState state }
     ensures is_state { IfOk result IsState }
@@ -26,6 +27,7 @@ pub(crate) fn take_number(state: State, set: u8, number: u64) -> Result<State, S
 }
 
 /// Takes the head of a subfile of `count` octets. Where none may come, it changes nothing.
+#[inline(always)]
 pub(crate) fn take_subfile(state: State, count: u64) -> Result<State, SizeCause>
     requires { IsState state }
     ensures is_state { IfOk result IsState }
@@ -56,6 +58,7 @@ pub(crate) fn take_end(state: State) -> Result<State, SizeCause>
 }
 
 /// Takes the confirmed size.
+#[inline(always)]
 pub(crate) fn take_confirmed(state: State, number: u64) -> Result<State, SizeCause>
     requires { IsState state }
     ensures is_state { IfOk result IsState }

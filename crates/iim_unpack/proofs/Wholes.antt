@@ -1,4 +1,4 @@
--- A whole dataset of record 1 or 2 leads the parts of an unpacker on.
+-- A whole dataset of record 1, 2 or 7 leads the parts of an unpacker on.
 use Rattle.std.specs.Prelude.{IsSome, is_none}
 use Rattle.std.proofs.Common.{◌≡◌, ℕ, ◌⊎◌, Bool, true, false, ◌==◌, ◌||◌, ◌&&◌, cond, nat_eq, List, [], ◌∷◌, ◌++◌, length, map, flat_map, refl, ap, sym, subst, ◌∙◌, inl, inr, arith, append_assoc, append-nil}
 use Rattle.std.proofs.lemmas.List.Concat.{flat_map-append}
@@ -11,6 +11,8 @@ use Rattle.iim_fields.specs.Format.Faults.{present_record, is_kept}
 use Rattle.iim_fields.specs.Format.Standing as records
 use Rattle.iim_fields.specs.Format.Standing.{FieldsPlace, IsBetween, section_of, begun_head_of}
 use Rattle.iim_fields.specs.Format.Values.{data_of, tells_number}
+use Rattle.iim_dataset.specs.Format.Octets.{number}
+use Rattle.iim_object.specs.Format.Objects.{NumberRead}
 use Rattle.iim_object.specs.Format.Reading as objects
 use Rattle.iim_object.specs.Format.Numbers.{place_after_datasets}
 use Rattle.wire_message.specs.Format.Layers.{text_so_far}
@@ -21,6 +23,7 @@ use Rattle.iim_unpack.specs.Format.Parts.{AreAfter, Led, has_ended}
 use Rattle.iim_unpack.specs.Parts.{TakesHead, WentWhole}
 use Rattle.iim_unpack.specs.LowerLaws.{CloseLaws}
 use Rattle.iim_unpack.specs.declared.parts.Parts.{Parts}
+use Rattle.iim_unpack.proofs.Objects.{records_alive}
 use Rattle.iim_unpack.proofs.Places.{silent_leads}
 use Rattle.iim_unpack.proofs.Carrying.{after_all}
 use Rattle.iim_unpack.proofs.Closing.{object_of_more, few_more}
@@ -56,6 +59,21 @@ told_one ds h xs count =
     ∙ sym (flat_map-append events_of ds (data_of h xs ∷ []))
     ∙ sym (append-nil (flat_map events_of (ds ++ data_of h xs ∷ [])))
 
+-- the dataset is of no record after 7, and leads the object to its place
+after_one : (p new : Parts) (ds : List Dataset) (h : Head) (xs : List ℕ) → nat_eq h.rec 8 ≡ false → nat_eq h.rec 9 ≡ false → AreAfter p ds → records.StandsAfter new.fields (ds ++ data_of h xs ∷ [])
+    → objects.StandsAt new.object (place_after_datasets (ds ++ data_of h xs ∷ [])) → new.message ≡ p.message → AreAfter new (ds ++ data_of h xs ∷ [])
+after_one p new ds h xs eight nine at fields object message =
+    let d : Dataset = data_of h xs in
+    let not_eight : d.rec ≡ 8 → ⊥ = λ is. (let bad : true ≡ false = sym (ap (λ (r : ℕ). nat_eq r 8) is) ∙ eight in cc) in
+    let same : object_of (ds ++ d ∷ []) ≡ object_of ds = object_of_more ds d ∙ (ap (λ (b : Bool). object_of ds ++ cond b xs []) eight ∙ append-nil (object_of ds)) in
+    record {
+      fields = fields;
+      object = object;
+      few = few_more ds d at.few (λ is. absurd (not_eight is));
+      message = subst (λ (o : List ℕ). wire.StandsAt new.message o (text_so_far o)) (sym same) (subst (λ m. wire.StandsAt m (object_of ds) (text_so_far (object_of ds))) (sym message) at.message);
+      ended = λ is. absurd (let bad : true ≡ false = sym (ap (λ (r : ℕ). nat_eq r 9) (sym (present_last 0 ds d) ∙ is)) ∙ nine in cc);
+    }
+
 after_whole : CloseLaws → (p new : Parts) (ds : List Dataset) (h : Head) (xs : List ℕ) → Keeps h.rec → AreAfter p ds → records.StandsAfter new.fields (ds ++ data_of h xs ∷ []) → new.object ≡ p.object → new.message ≡ p.message
     → AreAfter new (ds ++ data_of h xs ∷ [])
 after_whole laws p new ds h xs k at fields object message =
@@ -63,42 +81,60 @@ after_whole laws p new ds h xs k at fields object message =
     let not_eight : d.rec ≡ 8 → ⊥ = λ is. (let bad : true ≡ false = sym (ap (λ (r : ℕ). nat_eq r 8) is) ∙ k.eight in cc) in
     let elsewhere : place_at ds (head_of d) ≡ place_after_datasets ds = rw (k.eight, k.nine) refl in
     let leads : place_at ds (head_of d) ≡ place_after_datasets (ds ++ d ∷ []) = silent_leads laws.objects ds d fields.alive k.silent (λ is. absurd (not_eight is)) in
-    let same : object_of (ds ++ d ∷ []) ≡ object_of ds = object_of_more ds d ∙ (ap (λ (b : Bool). object_of ds ++ cond b xs []) k.eight ∙ append-nil (object_of ds)) in
-    record {
-      fields = fields;
-      object = subst (objects.StandsAt new.object) (sym elsewhere ∙ leads) (subst (λ o. objects.StandsAt o (place_after_datasets ds)) (sym object) at.object);
-      few = few_more ds d at.few (λ is. absurd (not_eight is));
-      message = subst (λ (o : List ℕ). wire.StandsAt new.message o (text_so_far o)) (sym same) (subst (λ m. wire.StandsAt m (object_of ds) (text_so_far (object_of ds))) (sym message) at.message);
-      ended = λ is. absurd (let bad : true ≡ false = sym (ap (λ (r : ℕ). nat_eq r 9) (sym (present_last 0 ds d) ∙ is)) ∙ k.nine in cc);
-    }
+    after_one p new ds h xs k.eight k.nine at fields
+    (subst (objects.StandsAt new.object) (sym elsewhere ∙ leads) (subst (λ o. objects.StandsAt o (place_after_datasets ds)) (sym object) at.object)) message
 
-pub whole_went : CloseLaws → (p new : Parts) (h : Head) (xs : List ℕ) → IsBetween p.fields → is_kept h.rec ≡ true → h.count ≡ length xs → records.limits_of new.fields ≡ records.limits_of p.fields
-    → ((ds : List Dataset) → records.StandsAfter p.fields ds → records.StandsAfter new.fields (ds ++ data_of h xs ∷ [])) → new.object ≡ p.object → new.message ≡ p.message → WentWhole p h xs new
-whole_went laws p new h xs between kept count limits stands object message = record {
+after_number : CloseLaws → (p new : Parts) (ds : List Dataset) (h : Head) (xs : List ℕ) → h.rec ≡ 7 → AreAfter p ds → records.StandsAfter new.fields (ds ++ data_of h xs ∷ []) → objects.LeadsOn p.object (NumberRead h.set (number xs)) new.object
+    → new.message ≡ p.message → AreAfter new (ds ++ data_of h xs ∷ [])
+after_number laws p new ds h xs seven at fields leads message =
+    let d : Dataset = data_of h xs in
+    let next = laws.objects.numbers ds d (records_alive (ds ++ d ∷ []) fields.alive) seven in
+    after_one p new ds h xs (ap (λ (r : ℕ). nat_eq r 8) seven) (ap (λ (r : ℕ). nat_eq r 9) seven) at fields
+    (subst (objects.StandsAt new.object) next.1 (leads (place_after_datasets ds) at.object next.0)) message
+
+went_one : (p new : Parts) (h : Head) (xs : List ℕ) → IsBetween p.fields → nat_eq h.rec 8 ≡ false → h.count ≡ length xs → records.limits_of new.fields ≡ records.limits_of p.fields
+    → ((ds : List Dataset) → AreAfter p ds → AreAfter new (ds ++ data_of h xs ∷ [])) → WentWhole p h xs new
+went_one p new h xs between eight count limits after = record {
   limits = limits;
   leads = λ before text led.
       let at = after_all p before text between led in
-      let k = keeps h.rec kept in
       let d : Dataset = data_of h xs in
       record {
         whole = at.ds ++ d ∷ [];
         begun = InTag [];
         told = ap (λ (es : List DatasetEvent). es ++ (HeadRead h ∷ (map DataOctet xs ++ DatasetEnd ∷ []))) (at.told ∙ append-nil (flat_map events_of at.ds)) ∙ told_one at.ds h xs count;
-        stands = after_whole laws p new at.ds h xs k at.after (stands at.ds at.after.fields) object message;
-        is_text = at.is_text ∙ ap text_so_far (sym (object_of_more at.ds d ∙ (ap (λ (b : Bool). object_of at.ds ++ cond b xs []) k.eight ∙ append-nil (object_of at.ds))));
+        stands = after at.ds at.after;
+        is_text = at.is_text ∙ ap text_so_far (sym (object_of_more at.ds d ∙ (ap (λ (b : Bool). object_of at.ds ++ cond b xs []) eight ∙ append-nil (object_of at.ds))));
       };
 }
 
+pub whole_went : CloseLaws → (p new : Parts) (h : Head) (xs : List ℕ) → IsBetween p.fields → is_kept h.rec ≡ true → h.count ≡ length xs → records.limits_of new.fields ≡ records.limits_of p.fields
+    → ((ds : List Dataset) → records.StandsAfter p.fields ds → records.StandsAfter new.fields (ds ++ data_of h xs ∷ [])) → new.object ≡ p.object → new.message ≡ p.message → WentWhole p h xs new
+whole_went laws p new h xs between kept count limits stands object message =
+    let k = keeps h.rec kept in
+    went_one p new h xs between k.eight count limits (λ ds at. after_whole laws p new ds h xs k at (stands ds at.fields) object message)
+
+pub number_went : CloseLaws → (p new : Parts) (h : Head) (xs : List ℕ) → IsBetween p.fields → h.rec ≡ 7 → h.count ≡ length xs → records.limits_of new.fields ≡ records.limits_of p.fields
+    → ((ds : List Dataset) → records.StandsAfter p.fields ds → records.StandsAfter new.fields (ds ++ data_of h xs ∷ [])) → objects.LeadsOn p.object (NumberRead h.set (number xs)) new.object → new.message ≡ p.message → WentWhole p h xs new
+number_went laws p new h xs between seven count limits stands leads message =
+    went_one p new h xs between (ap (λ (r : ℕ). nat_eq r 8) seven) count limits (λ ds at. after_number laws p new ds h xs seven at (stands ds at.fields) leads message)
+
 -- ---- what it takes next
 
-still_takes : (p new : Parts) (h : Head) → TakesHead p → is_kept h.rec ≡ true → IsBetween new.fields → section_of new.fields ≡ h.rec → new.object ≡ p.object → new.message ≡ p.message → TakesHead new
+section_takes : (p new : Parts) (h : Head) → TakesHead p → nat_eq h.rec 9 ≡ false → IsBetween new.fields → section_of new.fields ≡ h.rec → IsSome new.object → new.message ≡ p.message → TakesHead new
 unfolding has_ended
-still_takes p new h t kept between section object message = record {
+section_takes p new h t nine between section object message = record {
   fields = between;
-  object = subst (λ o. IsSome o) (sym object) t.object;
+  object = object;
   message = subst (λ m. IsSome m) (sym message) t.message;
-  more = ap (λ (b : Bool). b && is_none (begun_head_of new.fields)) (ap (λ (r : ℕ). nat_eq r 9) section ∙ (keeps h.rec kept).nine);
+  more = ap (λ (b : Bool). b && is_none (begun_head_of new.fields)) (ap (λ (r : ℕ). nat_eq r 9) section ∙ nine);
 }
+
+pub number_takes : (p new : Parts) (h : Head) → TakesHead p → h.rec ≡ 7 → IsBetween new.fields → section_of new.fields ≡ h.rec → IsSome new.object → new.message ≡ p.message → TakesHead new
+number_takes p new h t seven between section object message = section_takes p new h t (ap (λ (r : ℕ). nat_eq r 9) seven) between section object message
+
+still_takes : (p new : Parts) (h : Head) → TakesHead p → is_kept h.rec ≡ true → IsBetween new.fields → section_of new.fields ≡ h.rec → new.object ≡ p.object → new.message ≡ p.message → TakesHead new
+still_takes p new h t kept between section object message = section_takes p new h t (keeps h.rec kept).nine between section (subst (λ o. IsSome o) (sym object) t.object) message
 
 pub takes_either : (p new : Parts) (h : Head) (b : Bool) → TakesHead p → (b ≡ true → is_kept h.rec ≡ true) → IsBetween new.fields → (b ≡ true → section_of new.fields ≡ h.rec) → (b ≡ false → new.fields ≡ p.fields)
     → new.object ≡ p.object → new.message ≡ p.message → TakesHead new

@@ -17,6 +17,7 @@ use crate::message::{pass_head, pass_octets};
 use iim_dataset::Head;
 use iim_fields::Fields;
 use iim_object::{MAX_SUBFILES, ObjectFault, ObjectReader};
+use iim_tables::number_of;
 use iim_tables::records::{OBJECT, POST_OBJECT, PRE_OBJECT};
 use wire_message::MessageReader;
 use wire_story::StorySink;
@@ -43,6 +44,7 @@ pub(crate) struct Halt {
 }
 
 /// Takes the head of a subfile.
+#[inline(always)]
 fn subfile<S: StorySink>(
     object: &mut ObjectReader,
     message: &mut MessageReader,
@@ -64,6 +66,7 @@ fn subfile<S: StorySink>(
 }
 
 /// Hands the number of a value to the object.
+#[inline(always)]
 fn tell_number(object: &mut ObjectReader, head: Head, number: u64) -> Result<(), TokenFault>
     requires { IsSome object.old }
     ensures takes_calls { OnOk result (IsSome object.new) }
@@ -79,6 +82,7 @@ fn tell_number(object: &mut ObjectReader, head: Head, number: u64) -> Result<(),
 
 impl Parts {
     /// Whether the last dataset has ended.
+    #[inline(always)]
     pub(crate) fn has_ended(&self) -> bool
         ensures { result ≡ has_ended self.now }
     {
@@ -106,13 +110,37 @@ impl Parts {
         Ok(())
     }
 
-    /// Whether the next dataset may be one of record 1 or 2.
+    /// Whether the next dataset may be one of record 1, 2 or 7.
     #[inline(always)]
-    pub(crate) fn may_keep_next(&self) -> bool {
-        self.fields.section() < PRE_OBJECT
+    pub(crate) fn may_take_whole(&self) -> bool {
+        self.fields.section() <= PRE_OBJECT
     }
 
-    /// Takes a whole dataset of record 1 or 2; or changes nothing.
+    /// Takes a whole dataset of record 7; or changes nothing.
+    fn whole_number(&mut self, head: Head, octets: &[u8]) -> bool
+        requires takes { TakesHead self.old }
+        requires number { head.rec ≡ 7 }
+        requires count { head.count ≡ length octets.now }
+        ensures takes { TakesHead self.new }
+        ensures whole { IsTrue result → WentWhole self.old head octets.now self.new }
+        ensures left { result ≡ false → self.new ≡ self.old }
+        ensures room { room_of self.new.fields ≡ room_of self.old.fields }
+    {
+        close_laws();
+        let Some(number) = number_of(octets) else {
+            return false;
+        };
+        let Some(object) = self.object.with_number(head.set, number) else {
+            return false;
+        };
+        if !self.fields.whole_number(head, octets) {
+            return false;
+        }
+        self.object = object;
+        true
+    }
+
+    /// Takes a whole dataset of record 1, 2 or 7; or changes nothing.
     #[inline(always)]
     pub(crate) fn whole(&mut self, head: Head, octets: &[u8]) -> bool
         requires takes { TakesHead self.old }
@@ -123,6 +151,9 @@ impl Parts {
         ensures room { room_of self.new.fields ≡ room_of self.old.fields }
     {
         close_laws();
+        if head.rec == PRE_OBJECT {
+            return self.whole_number(head, octets);
+        }
         self.fields.whole(head, octets)
     }
 

@@ -50,7 +50,7 @@ impl<'p, 's, S: StorySink> DatasetSink for Router<'p, 's, S> {
 
     #[inline(always)]
     fn wants_whole(&self) -> bool {
-        self.parts.may_keep_next()
+        self.parts.may_take_whole()
     }
 
     #[inline(always)]

@@ -272,6 +272,23 @@ impl Unpacker {
         }
     }
 
+    /// Begins again, on the same memory and within the same limits: whatever was fed before, it stands on no octets. It takes no
+    /// memory.
+    pub fn again(&mut self)
+        ensures stands { Stands self.new [] 0 }
+        ensures limits { limits_in self.new ≡ limits_in self.old }
+        ensures room { room_in self.new ≡ room_in self.old }
+    {
+        feed_laws();
+        self.reader = HeadReader::new();
+        self.parts.fields.again();
+        self.parts.object = ObjectReader::new();
+        self.parts.message = MessageReader::new();
+        self.octets = 0;
+        self.begun = false;
+        self.refused = None;
+    }
+
     /// An unpacker of these readers, which has taken `octets` octets; `begun` tells whether an octet has come.
     pub(crate) fn at_place(reader: HeadReader, parts: Parts, octets: u64, begun: bool) -> Unpacker
         requires { IsUnpacking (record { reader = reader; parts = parts; octets = octets; begun = begun; refused = None }) }
