@@ -51,12 +51,22 @@ fn sizes(alloc: Global, row: &AuditRow) -> Result<String, AllocError>
     format!(in alloc; " size {size} subfiles {subfiles} words {announced}/{counted}")
 }
 
+/// The number of the first envelope with the id of a row, as it is printed.
+fn first_of(row: &AuditRow) -> NumberOrDash
+    ensures { result.0 ≡ row.now.first }
+{
+    match row.first {
+        None => NumberOrDash(None),
+        Some(number) => NumberOrDash(Some(u64::from(number))),
+    }
+}
+
 /// The age of a row, which envelope it repeats, and whether its copy may be used.
 fn ages(alloc: Global, row: &AuditRow) -> Result<String, AllocError>
     ensures { IfOk result (λ line. string_bytes line ≡ ages_of row.now) }
 {
     let age = SecondsOrDash(row.age);
-    let first = NumberOrDash(row.first);
+    let first = first_of(row);
     let copy = row.copy;
     format!(in alloc; " age {age} repeats {first} copy {copy}\n")
 }
