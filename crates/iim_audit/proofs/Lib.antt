@@ -1,4 +1,6 @@
 pub mod Digits
+pub mod Filling
+pub mod Firsts
 pub mod Lines
 pub mod Reading
 pub mod Rows

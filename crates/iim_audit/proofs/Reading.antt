@@ -1,5 +1,5 @@
 -- Envelopes that come one after another.
-use Rattle.std.proofs.Common.{◌≡◌, ℕ, ◌+◌, ◌≤◌, ℤ, List, [], ◌∷◌, ◌++◌, length, append_assoc, append-nil, ◌<◌, Option, None, Some, ap, sym, ◌∙◌, refl, subst, arith, inl, inr, ⊎_elim, length-append}
+use Rattle.std.proofs.Common.{◌≡◌, ℕ, ◌+◌, ◌≤◌, ℤ, List, [], ◌∷◌, ◌++◌, length, append-nil, ◌<◌, Option, None, Some, ap, sym, ◌∙◌, refl, subst, arith, inl, inr, ⊎_elim, length-append}
 use Rattle.std.specs.List.{AllByRecursion}
 use Rattle.std.proofs.lemmas.List.{length-map, map-append}
 use Rattle.std.proofs.KnownBytes.{Consumes-trans}
@@ -19,7 +19,9 @@ use Rattle.iim_audit.specs.declared.fault.AuditCause.{AuditCause}
 use Rattle.iim_audit.specs.declared.fault.AuditCause.TheVariants as causes
 use Rattle.iim_audit.specs.declared.ledger.Ledger.{Ledger}
 use Rattle.iim_audit.specs.declared.row.Taken.{Taken}
-use Rattle.iim_audit.proofs.Rows.{length_report}
+use Rattle.iim_audit.specs.Format.Rows.{report_of}
+use Rattle.iim_audit.specs.declared.row.AuditRow.{AuditRow}
+use Rattle.iim_audit.proofs.Rows.{length_bare_rows}
 
 -- Just these envelopes came.
 pub record HasCome (limits : Limits) (old new : Device) (envelopes : List Listed) : Type 0 where
@@ -84,12 +86,13 @@ pub record IsAuditing (limits : Limits) (now : ℤ) (first : Option ℕ) (old ne
 count_of : (now : ℤ) (ledger : Ledger) (es : List Listed) → Keeps now ledger (values_of es) → length ledger.rows.items ≡ length es
 count_of now ledger es keeps =
     let P : Listed → Value = λ e. e.value in
-    ap length keeps.rows ∙ length_report now (values_of es) ∙ length-map es P
+    ap length keeps.rows ∙ length_bare_rows now (values_of es) ∙ length-map es P
 
 -- at the end of the input
-pub audited : (limits : Limits) (now : ℤ) (old mid new : Device) (ledger : Ledger) (before : ℕ) (failed : Option ℕ) (told used : ℕ) → GiftsJoin → length ledger.rows.items ≤ max_envelopes
-    → HasRead limits now old mid ledger before failed told → TookEnvelope limits mid new used None → IsAudited limits now old new ledger.rows.items
-audited limits now old mid new ledger before failed told used joins few read took =
+pub audited : (limits : Limits) (now : ℤ) (old mid new : Device) (ledger : Ledger) (before : ℕ) (failed : Option ℕ) (told used : ℕ) (rows : List AuditRow) → GiftsJoin → length ledger.rows.items ≤ max_envelopes
+    → HasRead limits now old mid ledger before failed told → TookEnvelope limits mid new used None → ((values : List Value) → Keeps now ledger values → rows ≡ report_of now values)
+    → IsAudited limits now old new rows
+audited limits now old mid new ledger before failed told used rows joins few read took reports =
     let es = read.envelopes in
     let count : length ledger.rows.items ≡ length es = count_of now ledger es read.keeps in
     record {
@@ -98,7 +101,7 @@ audited limits now old mid new ledger before failed told used joins few read too
       at_end = took.1;
       envelopes = es;
       listing = record { rest = []; divides = divides_then limits old mid es [] read.come (omega arith); ends = refl };
-      report = read.keeps.rows;
+      report = reports (values_of es) read.keeps;
     }
 
 missed_at : (limits : Limits) (now : ℤ) (old mid new : Device) (ledger : Ledger) (before : ℕ) (failed : Option ℕ) (told number : ℕ) (kept : Option ℕ) (fault : IoFault)

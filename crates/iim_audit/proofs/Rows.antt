@@ -1,103 +1,104 @@
--- The rows of one envelope more.
-use Rattle.std.proofs.Common.{◌≡◌, ℕ, ◌+◌, ℤ, ◌⊎◌, List, [], ◌∷◌, ◌++◌, length, append_assoc, append-nil, Option, Some, None, Bool, true, false, cond, if◌then◌else◌, map, IsSome, ap, sym, ◌∙◌, refl, arith, add-zero, suc, ⊎_elim, inl, inr}
-use Rattle.std.proofs.lemmas.List.{length-map, map-append}
-use Rattle.std.specs.BTreeMap.{is_at}
+-- The rows of envelopes, without and with their first ones.
+use Rattle.std.proofs.Common.{◌≡◌, ℕ, zero, suc, ◌+◌, ◌<◌, ℤ, List, [], ◌∷◌, ◌++◌, length, append_assoc, append-nil, None, Some, map, take, get_or, ap, sym, ◌∙◌, refl, arith, subst, ⊎_elim}
+use Rattle.std.specs.List.{All, Contains}
+use Rattle.std.specs.List.Sorted.{IsPermutation, IsSortedBy}
+use Rattle.std.specs.Ordering.{is_lt}
 use Rattle.std.specs.Option.{unwrap_or}
+use Rattle.std.proofs.lemmas.List.{length-map, map-append, same_lists}
+use Rattle.std.proofs.lemmas.List.Elements.{All-push, Contains-push, Contains-append_left}
+use Rattle.std.proofs.lemmas.List.Sorted.{All-permutation, Contains-permutation}
 use Rattle.iim_dataset.specs.Format.Datasets.{Dataset}
-use Rattle.iim_fields.specs.Format.Ids.{Identity, id_eq, id_cmp}
-use Rattle.iim_fields.specs.IdLaws.{id_equivalence, id_ties}
+use Rattle.iim_fields.specs.Format.Ids.{Identity}
 use Rattle.iim_fields.specs.Format.Views.{first_data}
 use Rattle.iim_unpack.specs.Format.Admitted.{Value}
-use Rattle.iim_audit.specs.Format.Rows.{id_of, first_same, row_of, rows_after, report_of}
+use Rattle.iim_audit.specs.Format.Rows.{id_of, first_same, row_with, rows_after, report_of}
+use Rattle.iim_audit.specs.Repeats.{AreFilled, AreFresh, IsOrder, ids_of, place_cmp}
 use Rattle.iim_audit.specs.declared.row.AuditRow.{AuditRow}
+use Rattle.iim_audit.proofs.Firsts.{below_or_not}
 
-rows_after-push : (now : ℤ) (earlier vs : List Value) (v : Value)
-    → rows_after now earlier (vs ++ v ∷ []) ≡ rows_after now earlier vs ++ row_of now (earlier ++ vs) v ∷ []
-rows_after-push now earlier [] v = ap (λ (before : List Value). row_of now before v ∷ []) (sym (append-nil earlier))
-rows_after-push now earlier (x ∷ vs) v =
-    ap (λ (rows : List AuditRow). row_of now earlier x ∷ rows)
-    (rows_after-push now (earlier ++ x ∷ []) vs v
-    ∙ ap (λ (before : List Value). rows_after now (earlier ++ x ∷ []) vs ++ row_of now before v ∷ []) (append_assoc earlier (x ∷ []) vs))
-
-pub report_of-push : (now : ℤ) (values : List Value) (v : Value) → report_of now (values ++ v ∷ []) ≡ report_of now values ++ row_of now values v ∷ []
-report_of-push now values v = rows_after-push now [] values v
+-- the rows of envelopes, none with its first one
+abbrev pub bare_rows : ℤ → List Value → List AuditRow
+bare_rows now values = map (λ v. row_with now v None) values
 
 length_rows : (now : ℤ) (earlier vs : List Value) → length (rows_after now earlier vs) ≡ length vs
 length_rows now earlier [] = refl
 length_rows now earlier (x ∷ vs) = ap (λ n. suc n) (length_rows now (earlier ++ x ∷ []) vs)
 
+length_bare : (now : ℤ) (vs : List Value) → length (bare_rows now vs) ≡ length vs
+length_bare now [] = refl
+length_bare now (v ∷ vs) = ap (λ n. suc n) (length_bare now vs)
+
 -- a row for each envelope
-pub length_report : (now : ℤ) (values : List Value) → length (report_of now values) ≡ length values
-length_report now values = length_rows now [] values
+pub length_bare_rows : (now : ℤ) (values : List Value) → length (bare_rows now values) ≡ length values
+length_bare_rows now values = length_bare now values
 
--- ---- repeats
+pub bare_push : (now : ℤ) (values : List Value) (v : Value) → bare_rows now (values ++ v ∷ []) ≡ bare_rows now values ++ row_with now v None ∷ []
+bare_push now [] v = refl
+bare_push now (x ∷ values) v = ap (λ (rows : List AuditRow). row_with now x None ∷ rows) (bare_push now values v)
 
-kept_at : (b : Bool) (n m : ℕ) (old new : Option ℕ) → (old ≡ Some m → new ≡ Some m) → (if b then Some n else old) ≡ Some m → (if b then Some n else new) ≡ Some m
-kept_at true n m old new keeps e = e
-kept_at false n m old new keeps e = keeps e
+ids_bare : (now : ℤ) (vs : List Value) → ids_of (bare_rows now vs) ≡ map id_of vs
+ids_bare now [] = refl
+ids_bare now (v ∷ vs) = ap (λ (ids : List Identity). id_of v ∷ ids) (ids_bare now vs)
 
--- an id that is repeated already has the same first one still
-pub first_kept : (n : ℕ) (id : Identity) (ids : List Identity) (k : Identity) (m : ℕ) → first_same n id ids ≡ Some m → first_same n id (ids ++ k ∷ []) ≡ Some m
-first_kept n id [] k m e = cc
-first_kept n id (x ∷ ids) k m e =
-    kept_at (id_eq id x) n m (first_same (n + 1) id ids) (first_same (n + 1) id (ids ++ k ∷ [])) (first_kept (n + 1) id ids k m) e
+pub fresh_bare : (now : ℤ) (vs : List Value) → AreFresh (bare_rows now vs)
+fresh_bare now [] k d there = absurd (omega arith)
+fresh_bare now (v ∷ vs) zero d there = refl
+fresh_bare now (v ∷ vs) (suc k) d there = fresh_bare now vs k d (omega arith)
 
-new_at : (b : Bool) (n : ℕ) (old new last : Option ℕ) → (old ≡ None → new ≡ last) → (if b then Some n else old) ≡ None → (if b then Some n else new) ≡ last
-new_at true n old new last fresh e = cc
-new_at false n old new last fresh e = fresh e
+-- a row with the number of the first of these ids
+abbrev with_first : List Identity → AuditRow → AuditRow
+with_first ids row = record row { first = first_same 1 row.id ids }
 
--- an id that was not there is the last one or none
-pub first_new : (n : ℕ) (id : Identity) (ids : List Identity) (k : Identity) → first_same n id ids ≡ None
-    → first_same n id (ids ++ k ∷ []) ≡ (if id_eq id k then Some (n + length ids) else None)
-first_new n id [] k e = ap (λ (m : ℕ). if id_eq id k then Some m else None) (sym (add-zero n))
-first_new n id (x ∷ ids) k e =
-    let counted : n + 1 + length ids ≡ n + suc (length ids) = omega arith in
-    new_at (id_eq id x) n (first_same (n + 1) id ids) (first_same (n + 1) id (ids ++ k ∷ [])) (if id_eq id k then Some (n + suc (length ids)) else None)
-    (λ none. first_new (n + 1) id ids k none ∙ ap (λ (m : ℕ). if id_eq id k then Some m else None) counted) e
+row_at : (now : ℤ) (earlier vs : List Value) (i : ℕ) (d : AuditRow) → i < length vs
+    → get_or (rows_after now earlier vs) i d ≡ with_first (map id_of earlier ++ take i (map id_of vs)) (get_or (bare_rows now vs) i d)
+row_at now earlier [] i d there = absurd (omega arith)
+row_at now earlier (v ∷ vs) zero d there =
+    ap (λ (ids : List Identity). with_first ids (row_with now v None)) (sym (append-nil (map id_of earlier)))
+row_at now earlier (v ∷ vs) (suc i) d there =
+    let ids = take i (map id_of vs) in
+    let one : map id_of (earlier ++ v ∷ []) ++ ids ≡ map id_of earlier ++ (id_of v ∷ ids) =
+    ap (λ (before : List Identity). before ++ ids) (map-append id_of earlier (v ∷ [])) ∙ append_assoc (map id_of earlier) (id_of v ∷ []) ids in
+    row_at now (earlier ++ v ∷ []) vs i d (omega arith) ∙ ap (λ (before : List Identity). with_first before (get_or (bare_rows now vs) i d)) one
 
-if_same : (b c : Bool) (n : ℕ) (old new : Option ℕ) → b ≡ c → old ≡ new → (if b then Some n else old) ≡ (if c then Some n else new)
-if_same b c n old new tests rest = ap (λ (t : Bool). if t then Some n else old) tests ∙ ap (λ (o : Option ℕ). if c then Some n else o) rest
+-- rows that are told their first ones are the report
+pub told_report : (now : ℤ) (values : List Value) (new : List AuditRow) → AreFilled (bare_rows now values) new → new ≡ report_of now values
+told_report now values new are =
+    let counted : length (bare_rows now values) ≡ length values = length_bare now values in
+    let report : length (report_of now values) ≡ length values = length_rows now [] values in
+    same_lists new (report_of now values) (are.len ∙ counted ∙ sym report)
+    (λ i d there.
+    let here : i < length values = omega (arith, are.len) in
+    let row = get_or (bare_rows now values) i d in
+    are.rows i d (omega arith) ∙ ap (λ (ids : List Identity). with_first (take i ids) row) (ids_bare now values) ∙ sym (row_at now [] values i d here))
 
--- ids that are the same have the same first one
-first_congr : (n : ℕ) (q k : Identity) (ids : List Identity) → id_eq q k ≡ true → first_same n q ids ≡ first_same n k ids
-first_congr n q k [] same = refl
-first_congr n q k (x ∷ ids) same =
-    if_same (id_eq q x) (id_eq k x) n (first_same (n + 1) q ids) (first_same (n + 1) k ids) (id_equivalence.congr q k x same) (first_congr (n + 1) q k ids same)
+-- indices of all rows, once they are sorted
+pub order_of : (old : List AuditRow) (order sorted : List ℕ) → All (λ i. i < length old) order → ((i : ℕ) → i < length old → Contains order i) → IsPermutation order sorted
+    → IsSortedBy (λ a b. is_lt (place_cmp (ids_of old) a b)) sorted → IsOrder (ids_of old) sorted
+order_of old order sorted below each moved in_order =
+    let id : AuditRow → Identity = λ row. row.id in
+    let counted : length (ids_of old) ≡ length old = length-map old id in
+    let all : All (λ i. i < length old) sorted = All-permutation (λ i. i < length old) order sorted moved below in
+    record {
+      below = λ k d there. subst (λ (n : ℕ). get_or sorted k d < n) (sym counted) (all k d there);
+      each = λ i there. Contains-permutation order sorted i moved (each i (omega arith));
+      sorted = in_order;
+    }
 
-both : (b : Bool) → (b ≡ true) ⊎ (b ≡ false)
-both true = inl refl
-both false = inr refl
+-- the report of the rows so far
+pub report_told : (now : ℤ) (values : List Value) (old new : List AuditRow) → old ≡ bare_rows now values → AreFilled old new → new ≡ report_of now values
+report_told now values old new same are = told_report now values new (subst (λ (rows : List AuditRow). AreFilled rows new) same are)
 
--- an id keeps its first one, where another is added
-first_apart : (q k : Identity) (ids : List Identity) (o : Option ℕ) → id_eq q k ≡ false → first_same 1 q ids ≡ o → first_same 1 q (ids ++ k ∷ []) ≡ o
-first_apart q k ids None apart e = first_new 1 q ids k e ∙ ap (λ (t : Bool). if t then Some (1 + length ids) else None) apart
-first_apart q k ids (Some m) apart e = first_kept 1 q ids k m e
+-- one index more
+pub each_more : (order : List ℕ) (n m : ℕ) → m ≡ n + 1 → ((i : ℕ) → i < n → Contains order i) → (i : ℕ) → i < m → Contains (order ++ n ∷ []) i
+each_more order n m one each i there =
+    ⊎_elim (λ earlier. Contains-append_left order (n ∷ []) i (each i earlier))
+    (λ late.
+    let last : n ≡ i = omega (arith, one) in
+    subst (λ (k : ℕ). Contains (order ++ n ∷ []) k) last (Contains-push order n)) (below_or_not i n)
 
--- where an id was there already, adding it again changes no first one
-pub firsts_stay : (ids : List Identity) (k q : Identity) (m : ℕ) → first_same 1 k ids ≡ Some m → first_same 1 q (ids ++ k ∷ []) ≡ first_same 1 q ids
-firsts_stay ids k q m there =
-    ⊎_elim
-    (λ same.
-    let e : first_same 1 q ids ≡ Some m = first_congr 1 q k ids same ∙ there in
-    first_kept 1 q ids k m e ∙ sym e)
-    (λ apart. first_apart q k ids (first_same 1 q ids) apart refl)
-    (both (id_eq q k))
-
-is_at_id : (k q : Identity) → is_at (id_cmp k) q ≡ id_eq q k
-is_at_id k q = sym (id_ties k q) ∙ id_equivalence.symm k q
-
--- where an id is new, it is its own first one
-pub firsts_grow : (ids : List Identity) (k q : Identity) (number : ℕ) (old : Option ℕ) → first_same 1 k ids ≡ None → number ≡ 1 + length ids → old ≡ first_same 1 q ids
-    → first_same 1 q (ids ++ k ∷ []) ≡ cond (is_at (id_cmp k) q) (Some number) old
-firsts_grow ids k q number old fresh counted kept =
-    ⊎_elim
-    (λ same.
-    let none : first_same 1 q ids ≡ None = first_congr 1 q k ids same ∙ fresh in
-    let new : first_same 1 q (ids ++ k ∷ []) ≡ Some (1 + length ids) =
-    first_new 1 q ids k none ∙ ap (λ (t : Bool). if t then Some (1 + length ids) else None) same in
-    new ∙ ap (λ (n : ℕ). Some n) (sym counted) ∙ sym (ap (λ (t : Bool). cond t (Some number) old) (is_at_id k q ∙ same)))
-    (λ apart. first_apart q k ids (first_same 1 q ids) apart refl ∙ sym kept ∙ sym (ap (λ (t : Bool). cond t (Some number) old) (is_at_id k q ∙ apart)))
-    (both (id_eq q k))
+pub below_more : (order : List ℕ) (n m : ℕ) → m ≡ n + 1 → All (λ i. i < n) order → All (λ i. i < m) (order ++ n ∷ [])
+below_more order n m one below =
+    All-push (λ i. i < m) order n (λ k d there. omega (arith, one, below k d there)) (omega (arith, one))
 
 -- the id that these data tell
 pub id_told : (fields : List Dataset) (id : Identity) (v : Value) → first_data 1 30 fields ≡ Some id.service → first_data 1 40 fields ≡ Some id.number
@@ -109,20 +110,3 @@ id_told fields id v service number date same =
     let d : id.date_sent ≡ unwrap_or (first_data 1 70 v.fields) [] = ap (λ o. unwrap_or o []) (sym date ∙ ap (first_data 1 70) same) in
     ap (λ (x : List ℕ). of x id.number id.date_sent) a ∙ ap (λ (x : List ℕ). of (unwrap_or (first_data 1 30 v.fields) []) x id.date_sent) b
     ∙ ap (λ (x : List ℕ). of (unwrap_or (first_data 1 30 v.fields) []) (unwrap_or (first_data 1 40 v.fields) []) x) d
-
--- the first ones, with an envelope more
-pub firsts_more : (values : List Value) (v : Value) (old new : Identity → Option ℕ) (first : Option ℕ) (number : ℕ)
-    → ((q : Identity) → old q ≡ first_same 1 q (map id_of values)) → first ≡ old (id_of v) → number ≡ length values + 1
-    → (IsSome first → (q : Identity) → new q ≡ old q)
-    → (first ≡ None → (q : Identity) → new q ≡ cond (is_at (id_cmp (id_of v)) q) (Some number) (old q))
-    → (q : Identity) → new q ≡ first_same 1 q (map id_of (values ++ v ∷ []))
-firsts_more values v old new None number kept found counted there fresh q =
-    let ids = map id_of values in
-    let here : first_same 1 (id_of v) ids ≡ None = sym (kept (id_of v)) ∙ sym found in
-    let same : length ids ≡ length values = length-map values id_of in
-    let count : number ≡ 1 + length ids = omega arith in
-    fresh refl q ∙ sym (firsts_grow ids (id_of v) q number (old q) here count (kept q)) ∙ ap (first_same 1 q) (sym (map-append id_of values (v ∷ [])))
-firsts_more values v old new (Some m) number kept found counted there fresh q =
-    let ids = map id_of values in
-    let here : first_same 1 (id_of v) ids ≡ Some m = sym (kept (id_of v)) ∙ sym found in
-    there refl q ∙ kept q ∙ sym (firsts_stay ids (id_of v) q m here) ∙ ap (first_same 1 q) (sym (map-append id_of values (v ∷ [])))

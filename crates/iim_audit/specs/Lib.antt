@@ -3,4 +3,5 @@ pub mod Format
 -- What only proofs and private clauses cite.
 pub mod Faults
 pub mod Ledgers
+pub mod Repeats
 pub mod Taking

@@ -11,6 +11,7 @@ mod copy;
 mod dash;
 mod fault;
 mod ledger;
+mod repeats;
 mod report;
 mod row;
 mod text;

@@ -1,6 +1,6 @@
 //! Rows of a report.
 
-ghost use Rattle.std.specs.Prelude.{◌≡◌, ◌<◌};
+ghost use Rattle.std.specs.Prelude.{◌≡◌, ◌<◌, None};
 ghost use Rattle.std.specs.Str.Parse.{digits_value};
 ghost use Rattle.wire_message.specs.Format.Fields.{IsField};
 ghost use Rattle.iim_dataset.specs.Format.Octets.{is_digit};
@@ -19,20 +19,20 @@ use jiff::Timestamp;
 pub struct AuditRow {
     /// What it is known by: service, number and date sent.
     pub id: EnvelopeId,
-    /// The digit of 1:60 Envelope Priority, as an octet, where it was sent.
-    pub priority: Option<u8>,
     /// The octets of its object.
     pub size: u64,
     /// The subfiles of its object.
     pub subfiles: u64,
-    /// The words that its message announces.
-    pub announced: u64,
     /// The words of its story: the longest runs, inside one line, of octets other than SP and TAB.
     pub counted: u64,
     /// How many whole seconds ago it was sent, below zero for the future; None where it names no instant.
     pub age: Option<i64>,
+    /// The words that its message announces.
+    pub announced: u64,
     /// The number of the first envelope with the same id, where that came before.
     pub first: Option<u64>,
+    /// The digit of 1:60 Envelope Priority, as an octet, where it was sent.
+    pub priority: Option<u8>,
     /// Whether the copy may be used now.
     pub copy: CopyState,
 }
@@ -57,20 +57,20 @@ fn number_of(digits: &[u8]) -> u64
     number
 }
 
-/// The row of an envelope, with the number of the first one with its id, where that came before.
-pub(crate) fn row_of(got: &Taken, now: Timestamp, first: Option<u64>) -> AuditRow
-    ensures { (v : Value) → IsTaken got.now v → result ≡ row_with now.nanosecond v first }
+/// The row of an envelope that repeats none.
+pub(crate) fn row_of(got: &Taken, now: Timestamp) -> AuditRow
+    ensures { (v : Value) → IsTaken got.now v → result ≡ row_with now.nanosecond v None }
 {
     let unpacked = &got.unpacked;
     AuditRow {
         id: unpacked.envelope.id(),
-        priority: unpacked.envelope.priority(),
         size: unpacked.sizes.total,
         subfiles: unpacked.sizes.subfiles,
-        announced: number_of(unpacked.head.words()),
         counted: got.words,
         age: age_at(&unpacked.envelope, now),
-        first,
+        announced: number_of(unpacked.head.words()),
+        first: None,
+        priority: unpacked.envelope.priority(),
         copy: copy_at(&unpacked.envelope, now),
     }
 }

@@ -5,18 +5,14 @@ ghost use Rattle.std.specs.List.{position_or_len};
 ghost use Rattle.iim_script.specs.Format.Lines.{HasNo, NextLine};
 
 use iim_dataset::octets::{CR, LF};
+use memchr::memchr;
 
 /// How many octets stand before the first of this one.
 pub(crate) fn before_first(octets: &[u8], octet: u8) -> usize
     ensures place { result ≡ position_or_len (λ b. b == octet) octets.now }
     ensures within { result ≤ length octets.now }
 {
-    for (at, other) in octets.iter().enumerate() {
-        if *other == octet {
-            return at;
-        }
-    }
-    octets.len()
+    memchr(octet, octets).unwrap_or(octets.len())
 }
 
 /// What stands before the first of this octet, and what after it. None where there is none.

@@ -1,10 +1,8 @@
-use Rattle.std.proofs.Common.{◌≡◌, ◌∙◌, ℕ, None, Some, Option, [], length, ap, sym, subst, arith, refl, List, Result, Ok, ◌+◌, IsErrAnd}
+use Rattle.std.proofs.Common.{◌≡◌, ◌∙◌, ℕ, None, Some, Option, [], length, ap, subst, arith, refl, Result, Ok, ◌+◌, IsErrAnd}
 use Rattle.iim_dataset.specs.Format.Devices.{Device}
 use Rattle.iim_unpack.specs.Format.Intakes.{line}
 use Rattle.iim_unpack.specs.declared.intake.Intake.{Intake}
-use Rattle.iim_audit.specs.Format.Auditing.{IsAudited}
 use Rattle.iim_audit.specs.Taking.{TookEnvelope}
-use Rattle.iim_audit.specs.declared.row.AuditRow.{AuditRow}
 use Rattle.iim_audit.specs.declared.row.Taken.{Taken}
 use Rattle.iim_audit.proofs.Reading.{come_none, audited, fails, one_too_many, short_after, read_one, told_again}
 use Rattle.iim_audit.proofs.auditing.audit.Goals as goal
@@ -37,6 +35,7 @@ envelopes-init g c =
         };
         again = λ octet e. none;
       };
+      below = λ k d there. absurd (omega (arith, ap length c.new-ledger.ensures.none, there));
       as_it_was = λ octet e. refl;
       leads = g.met.R.Source.stays c.args.intake.now.reader;
     }
@@ -52,9 +51,8 @@ returns-in-Ok-None-clause-audited g c = λ alive.
     let used = c.take_envelope.new.intake.octets in
     let P : Option Taken → Type 0 = λ found. TookEnvelope c.args.limits mid new used found in
     let took : TookEnvelope c.args.limits mid new used None = subst P c.in-Ok-None.field-0-is (c.in-Ok-None.ensures.took read.lives) in
-    let Q = λ (rows : List AuditRow). IsAudited c.args.limits now old new rows in
-    subst Q (sym c.into_report.ensures)
-    (audited c.args.limits now old mid new c.envelopes.ledger c.args.intake.now.octets c.envelopes.intake.failed c.envelopes.intake.octets used c.gifts_join.ensures c.envelopes.invariant.auditing.few read took)
+    audited c.args.limits now old mid new c.envelopes.ledger c.args.intake.now.octets c.envelopes.intake.failed c.envelopes.intake.octets used c.into_report.result
+    c.gifts_join.ensures c.envelopes.invariant.auditing.few read took (c.into_report.ensures now)
 
 pub returns-in-Err-clause-fails : goal.returns-in-Err-clause-fails
 returns-in-Err-clause-fails g c = λ alive.
@@ -116,6 +114,7 @@ envelopes-preserved g c =
             c.in-Ok-Some.ensures.lives c.in-Ok.ensures.keeps read (subst P c.in-Ok-Some.field-0-is (c.in-Ok-Some.ensures.took read.lives));
         again = λ octet e. absurd (spent octet e);
       };
+      below = c.in-Ok.ensures.below;
       as_it_was = λ octet e. absurd (spent octet e);
       leads = g.met.R.Source.leads_on c.args.intake.now.reader c.envelopes.intake.reader c.take_envelope.new.intake.reader
           c.envelopes.invariant.leads c.take_envelope.ensures.leads;

@@ -1,0 +1,235 @@
+-- The first row with each id, by the order of the ids.
+use Rattle.std.proofs.Common.{◌≡◌, ℕ, zero, suc, ◌+◌, ◌-◌, ◌<◌, ◌≤◌, ◌⊎◌, inl, inr, ⊎_elim, Bool, true, false, List, [], ◌∷◌, Option, Some, None, if◌then◌else◌, take, length, get_or, ap, sym, ◌∙◌, refl, subst, arith}
+use Rattle.std.specs.Option.{option_cmp}
+use Rattle.std.specs.List.{slice_get}
+use Rattle.std.specs.Ordering.{is_lt, is_eq, nat_cmp, ordering_then, ordering_reverse}
+use Rattle.std.specs.Cmp.{IsTotalOrder, IsStrictWeakOrder, then_total, on_total, nat_cmp_total}
+use Rattle.std.specs.Cmp.Lexicographic.{options_total}
+use Rattle.std.specs.declared.cmp.Ordering.{Ordering}
+use Rattle.std.specs.declared.cmp.Ordering.TheVariants.{Less, Equal, Greater}
+use Rattle.std.proofs.lemmas.List.{get_or_default}
+use Rattle.std.proofs.lemmas.Bool.{true≢false}
+use Rattle.std.proofs.lemmas.Bool.Decides.{leb_tells}
+use Rattle.std.proofs.lemmas.List.Sorted.{ranks_by, sorted_far}
+use Rattle.std.proofs.lemmas.Cmp.{tied_itself, tied_back}
+use Rattle.iim_fields.specs.Format.Ids.{Identity, id_eq, id_cmp}
+use Rattle.iim_fields.specs.IdLaws.{id_total, id_ties}
+use Rattle.iim_audit.specs.Format.Rows.{first_same}
+use Rattle.iim_audit.specs.Repeats.{IsOrder, by_id, place_cmp}
+
+pub below_or_not : (a b : ℕ) → (a < b) ⊎ (b ≤ a)
+below_or_not a b = ⊎_elim (λ from. inr from.1) (λ less. inl less.1) (leb_tells b a)
+
+-- ---- the order
+
+pub ids_total : IsTotalOrder (option_cmp id_cmp)
+ids_total = options_total id_total
+
+pub places_total : (ids : List Identity) → IsTotalOrder (place_cmp ids)
+places_total ids = then_total (on_total (slice_get ids) ids_total) nat_cmp_total
+
+pub places_rank : (ids : List Identity) → IsStrictWeakOrder (λ a b. is_lt (place_cmp ids a b))
+places_rank ids = ranks_by (places_total ids) (λ (i : ℕ). i)
+
+-- the ids at two indices are the same
+abbrev pub AreSame : List Identity → ℕ → ℕ → Type 0
+AreSame ids a b = by_id ids a b ≡ Equal
+
+same_itself : (ids : List Identity) (a : ℕ) → AreSame ids a a
+same_itself ids a = tied_itself ids_total (slice_get ids a)
+
+same_back : (ids : List Identity) (a b : ℕ) → AreSame ids a b → AreSame ids b a
+same_back ids a b same = tied_back ids_total (slice_get ids a) (slice_get ids b) same
+
+same_on : (ids : List Identity) (a b c : ℕ) → AreSame ids a b → AreSame ids b c → AreSame ids a c
+same_on ids a b c one more = ids_total.congr (slice_get ids a) (slice_get ids b) (slice_get ids c) one ∙ more
+
+same_or_not : (o : Ordering) → (o ≡ Equal) ⊎ (o ≡ Equal → ⊥)
+same_or_not Equal = inl refl
+same_or_not Less = inr (λ e. absurd (true≢false (sym (ap is_eq e))))
+same_or_not Greater = inr (λ e. absurd (true≢false (sym (ap is_eq e))))
+
+-- where neither comes before the other
+neither : (o p : Ordering) → o ≡ ordering_reverse p → (is_lt o ≡ true → ⊥) → (is_lt p ≡ true → ⊥) → o ≡ Equal
+neither Equal p flips up down = refl
+neither Less p flips up down = absurd (up refl)
+neither Greater Less flips up down = absurd (down refl)
+neither Greater Equal flips up down = flips
+neither Greater Greater flips up down = absurd (true≢false (ap is_lt (sym flips)))
+
+less_first : (o p : Ordering) → is_lt (ordering_then o p) ≡ false → is_lt o ≡ true → ⊥
+less_first Less p none less = true≢false none
+less_first Equal p none less = true≢false (sym less)
+less_first Greater p none less = true≢false (sym less)
+
+less_second : (o p : Ordering) → o ≡ Equal → is_lt (ordering_then o p) ≡ false → is_lt p ≡ false
+less_second Equal p same none = none
+less_second Less p same none = absurd (true≢false (sym (ap is_eq same)))
+less_second Greater p same none = absurd (true≢false (sym (ap is_eq same)))
+
+not_less : (a b : ℕ) → is_lt (nat_cmp a b) ≡ false → b ≤ a
+not_less a b none = grind arith
+
+-- ---- a run of the same ids, in the order
+
+-- From the place m on up to k, the ids are that of the index `group`, which stands at m; and before m stands none of them.
+pub record IsRun (ids : List Identity) (order : List ℕ) (k group : ℕ) : Type 0 where
+  pub m : ℕ
+  pub within : m < length order
+  pub begins : group ≡ get_or order m 0
+  pub upto : m ≤ k
+  pub some : (m < k) ⊎ (k ≡ 0)
+  pub inside : (j : ℕ) → m ≤ j → j < k → AreSame ids (get_or order j 0) group
+  pub apart : (j : ℕ) → j + 1 ≡ m → AreSame ids (get_or order j 0) group → ⊥
+
+-- no index before the first one of a run has its id
+pub least : (ids : List Identity) (order : List ℕ) (k group i : ℕ) → IsOrder ids order → IsRun ids order k group → i < length ids → AreSame ids i group → group ≤ i
+least ids order k group i is run there same =
+    let (p, p_within, p_is) = is.each i there in
+    let at : get_or order p 0 ≡ i = get_or_default order p 0 i p_within ∙ p_is in
+    let lt : ℕ → ℕ → Bool = λ a b. is_lt (place_cmp ids a b) in
+    let P : ℕ → ℕ → Type 0 = λ a b. lt a b ≡ false in
+    ⊎_elim
+    (λ before.
+    let q = run.m - 1 in
+    let x = get_or order q 0 in
+    let far : lt x (get_or order p 0) ≡ false = sorted_far lt (places_rank ids) order is.sorted p q 0 (omega arith) (omega (arith, run.within)) in
+    let near : lt (get_or order (q + 1) 0) x ≡ false = is.sorted q 0 (omega arith) (omega (arith, run.within)) in
+    let one : q + 1 ≡ run.m = omega arith in
+    let far_i : P x i = subst (λ (a : ℕ). P x a) at far in
+    let near_group : P group x = subst (λ (a : ℕ). P a x) (ap (λ (n : ℕ). get_or order n 0) one ∙ sym run.begins) near in
+    let flips : by_id ids x i ≡ ordering_reverse (by_id ids i x) = ids_total.antisymm (slice_get ids x) (slice_get ids i) in
+    let like : by_id ids i x ≡ by_id ids group x = ids_total.congr (slice_get ids i) (slice_get ids group) (slice_get ids x) same in
+    let none : is_lt (by_id ids i x) ≡ true → ⊥ = λ less. less_first (by_id ids group x) (nat_cmp group x) near_group (ap is_lt (sym like) ∙ less) in
+    let tied : AreSame ids x i = neither (by_id ids x i) (by_id ids i x) flips (less_first (by_id ids x i) (nat_cmp x i) far_i) none in
+    absurd (run.apart q one (same_on ids x i group tied same)))
+    (λ after.
+    let far : lt (get_or order p 0) (get_or order run.m 0) ≡ false = sorted_far lt (places_rank ids) order is.sorted run.m p 0 after p_within in
+    let here : P i group = subst (λ (a : ℕ). P i a) (sym run.begins) (subst (λ (a : ℕ). P a (get_or order run.m 0)) at far) in
+    not_less i group (less_second (by_id ids i group) (nat_cmp i group) same here))
+    (below_or_not p run.m)
+
+-- a run of one place more: it is the same run, or begins there
+pub run_more : (ids : List Identity) (order : List ℕ) (k group now : ℕ) → k < length order → IsRun ids order k group
+    → (AreSame ids (get_or order k 0) group → now ≡ group) → ((AreSame ids (get_or order k 0) group → ⊥) → now ≡ get_or order k 0)
+    → IsRun ids order (k + 1) now × AreSame ids (get_or order k 0) now
+run_more ids order k group now there run keeps begins =
+    let at = get_or order k 0 in
+    let Q : ℕ → Type 0 = λ g. IsRun ids order (k + 1) g × AreSame ids at g in
+    ⊎_elim
+    (λ same.
+    let more : (j : ℕ) → run.m ≤ j → j < k + 1 → AreSame ids (get_or order j 0) group = λ j from below.
+    ⊎_elim (λ earlier. run.inside j from earlier) (λ late.
+    let last : k ≡ j = omega arith in
+    subst (λ (n : ℕ). AreSame ids (get_or order n 0) group) last same) (below_or_not j k) in
+    let longer : IsRun ids order (k + 1) group = record {
+      m = run.m;
+      within = run.within;
+      begins = run.begins;
+      upto = omega (arith, run.upto);
+      some = inl (omega (arith, run.upto));
+      inside = more;
+      apart = run.apart;
+    } in
+    subst Q (sym (keeps same)) (longer, same))
+    (λ differs.
+    let some : (run.m < k) ⊎ (k ≡ 0) = run.some in
+    let earlier : run.m < k = ⊎_elim (λ less. less) (λ none.
+    let m_is : run.m ≡ k = omega (arith, run.upto, none) in
+    absurd (differs (subst (λ (g : ℕ). AreSame ids at g) (ap (λ (n : ℕ). get_or order n 0) (sym m_is) ∙ sym run.begins) (same_itself ids at)))) some in
+    let inside : (j : ℕ) → k ≤ j → j < k + 1 → AreSame ids (get_or order j 0) at = λ j from below.
+    let is : j ≡ k = omega arith in
+    subst (λ (n : ℕ). AreSame ids (get_or order n 0) at) (sym is) (same_itself ids at) in
+    let apart : (j : ℕ) → j + 1 ≡ k → AreSame ids (get_or order j 0) at → ⊥ = λ j next same.
+    let back : AreSame ids (get_or order j 0) group = run.inside j (omega (arith, earlier)) (omega arith) in
+    differs (same_on ids at (get_or order j 0) group (same_back ids (get_or order j 0) at same) back) in
+    let begun : IsRun ids order (k + 1) at = record {
+      m = k;
+      within = there;
+      begins = refl;
+      upto = omega arith;
+      some = inl (omega arith);
+      inside = inside;
+      apart = apart;
+    } in
+    subst Q (sym (begins differs)) (begun, same_itself ids at))
+    (same_or_not (by_id ids at group))
+
+pub run_none : (ids : List Identity) (order : List ℕ) (group : ℕ) → 0 < length order → group ≡ get_or order 0 0 → IsRun ids order 0 group
+run_none ids order group some begins = record {
+  m = 0;
+  within = some;
+  begins = begins;
+  upto = omega arith;
+  some = inr refl;
+  inside = λ j from below. absurd (omega arith);
+  apart = λ j next same. absurd (omega arith);
+}
+
+-- ---- the first one with an id
+
+pub eq_same : (x y : Identity) → id_cmp x y ≡ Equal → id_eq x y ≡ true
+eq_same x y same = id_ties x y ∙ ap is_eq same
+
+not_equal : (o : Ordering) → (o ≡ Equal → ⊥) → is_eq o ≡ false
+not_equal Equal apart = absurd (apart refl)
+not_equal Less apart = refl
+not_equal Greater apart = refl
+
+pub eq_apart : (x y : Identity) → (id_cmp x y ≡ Equal → ⊥) → id_eq x y ≡ false
+eq_apart x y apart = id_ties x y ∙ not_equal (id_cmp x y) apart
+
+first_at : (b : Bool) (n : ℕ) (rest : Option ℕ) → b ≡ true → (if b then Some n else rest) ≡ Some n
+first_at true n rest e = refl
+first_at false n rest e = absurd (true≢false (sym e))
+
+first_later : (b : Bool) (n : ℕ) (rest : Option ℕ) → b ≡ false → (if b then Some n else rest) ≡ rest
+first_later false n rest e = refl
+first_later true n rest e = absurd (true≢false e)
+
+-- the id at an index is not there before it
+found : (n : ℕ) (id : Identity) (ids : List Identity) (at g : ℕ) → g < at → at ≤ length ids → option_cmp id_cmp (Some id) (slice_get ids g) ≡ Equal
+    → ((i : ℕ) → i < g → option_cmp id_cmp (Some id) (slice_get ids i) ≡ Equal → ⊥) → first_same n id (take at ids) ≡ Some (n + g)
+found n id [] at g before fits same apart = absurd (omega arith)
+found n id (x ∷ ids) zero g before fits same apart = absurd (omega arith)
+found n id (x ∷ ids) (suc at) zero before fits same apart =
+    first_at (id_eq id x) n (first_same (n + 1) id (take at ids)) (eq_same id x same) ∙ ap Some (omega arith)
+found n id (x ∷ ids) (suc at) (suc g) before fits same apart =
+    first_later (id_eq id x) n (first_same (n + 1) id (take at ids)) (eq_apart id x (apart 0 (omega arith)))
+    ∙ found (n + 1) id ids at g (omega arith) (omega arith) same (λ i less. apart (suc i) (omega arith)) ∙ ap Some (omega arith)
+
+pub missing : (n : ℕ) (id : Identity) (ids : List Identity) (at : ℕ) → at ≤ length ids
+    → ((i : ℕ) → i < at → option_cmp id_cmp (Some id) (slice_get ids i) ≡ Equal → ⊥) → first_same n id (take at ids) ≡ None
+missing n id [] zero fits apart = refl
+missing n id [] (suc at) fits apart = absurd (omega arith)
+missing n id (x ∷ ids) zero fits apart = refl
+missing n id (x ∷ ids) (suc at) fits apart =
+    first_later (id_eq id x) n (first_same (n + 1) id (take at ids)) (eq_apart id x (apart 0 (omega arith)))
+    ∙ missing (n + 1) id ids at (omega arith) (λ i less. apart (suc i) (omega arith))
+
+pub get_some : {X : Type 0} (xs : List X) (i : ℕ) (d : X) → i < length xs → slice_get xs i ≡ Some (get_or xs i d)
+get_some [] i d there = absurd (omega arith)
+get_some (x ∷ xs) zero d there = refl
+get_some (x ∷ xs) (suc i) d there = get_some xs i d (omega arith)
+
+pub get_none : {X : Type 0} (xs : List X) (i : ℕ) → length xs ≤ i → slice_get xs i ≡ None
+get_none [] i past = refl
+get_none (x ∷ xs) zero past = absurd (omega arith)
+get_none (x ∷ xs) (suc i) past = get_none xs i (omega arith)
+
+not_below : (a b : ℕ) → (a < b → ⊥) → b ≤ a
+not_below a b none = ⊎_elim (λ less. absurd (none less)) (λ from. from) (below_or_not a b)
+
+-- what the first index of a run tells a row with its id
+pub first_of_run : (ids : List Identity) (order : List ℕ) (k group at : ℕ) (id : Identity) → IsOrder ids order → IsRun ids order k group → group < length ids → at < length ids
+    → slice_get ids at ≡ Some id → AreSame ids at group → (group < at → first_same 1 id (take at ids) ≡ Some (group + 1)) × ((group < at → ⊥) → first_same 1 id (take at ids) ≡ None)
+first_of_run ids order k group at id is run within there here same =
+    let R : Option Identity → ℕ → Ordering = λ x i. option_cmp id_cmp x (slice_get ids i) in
+    let at_group : R (Some id) group ≡ Equal = subst (λ (x : Option Identity). R x group ≡ Equal) here same in
+    let earlier : (i : ℕ) → i < group → R (Some id) i ≡ Equal → ⊥ = λ i less tied.
+    let with_at : AreSame ids at i = subst (λ (x : Option Identity). R x i ≡ Equal) (sym here) tied in
+    let low : group ≤ i = least ids order k group i is run (omega arith) (same_on ids i at group (same_back ids at i with_at) same) in
+    omega arith in (
+      λ less. found 1 id ids at group less (omega arith) at_group earlier ∙ ap Some (omega arith),
+      λ none. missing 1 id ids at (omega arith) (λ i less. earlier i (omega (arith, not_below group at none))),
+    )
