@@ -27,7 +27,7 @@ use Rattle.iim_unpack.specs.Format.Open.{object_so_far, section, AllCanContinue}
 use Rattle.iim_unpack.specs.Format.Tokens.{ObjectLives, MayContinue}
 use Rattle.iim_unpack.specs.Format.Tickets.{Place, Phase, TagBegun, DataBegun, AllEnded, present_version, phase_of, heads_of, place_of, ticket_in, layout, text_octets, texts_octets, part_number}
 use Rattle.iim_unpack.specs.Format.Begins.{IsLongField}
-use Rattle.iim_unpack.specs.Format.Begins.{IsSize, IsSizeIn, IsWide, AreNumbers, AreTexts}
+use Rattle.iim_unpack.specs.Format.Begins.{IsSize, IsSizeIn, AreNumbers, AreTexts}
 use Rattle.iim_unpack.specs.Format.TicketForm.{IsVersion, IsPhase, HasForm, Split, SplitsTicket, split_octets}
 use Rattle.iim_unpack.specs.Format.Possible.{Possible, IsSmall, IsSmallPhase, IsSmallPlace, widest}
 use Rattle.iim_unpack.specs.Format.Scales.{SmallPlacesWerePossible, TicketsTellOnePlace}

@@ -1,5 +1,5 @@
 -- An unpacker holds few octets and entries.
-use Rattle.std.proofs.Common.{◌≡◌, ℕ, ◌+◌, ◌<◌, ◌≤◌, ◌⊎◌, Bool, true, false, if◌then◌else◌, nat_eq, List, [], ◌∷◌, length, Option, Some, None, refl, ap, sym, subst, ◌∙◌, inl, inr, arith}
+use Rattle.std.proofs.Common.{◌≡◌, ℕ, ◌+◌, ◌<◌, ◌≤◌, Bool, true, false, if◌then◌else◌, nat_eq, List, [], length, Option, Some, None, refl, ap, sym, subst, ◌∙◌, inl, inr, arith}
 use Rattle.iim_dataset.specs.Format.Datasets.{Dataset, count_octets}
 use Rattle.iim_dataset.specs.Format.Laws.{EventsTellTheDatasets}
 use Rattle.iim_dataset.specs.Format.Places.{IsKeptAs}
@@ -15,9 +15,9 @@ use Rattle.wire_message.specs.Format.Saved.{saved}
 use Rattle.wire_message.specs.Format.SoFar.{IsPlace}
 use Rattle.wire_message.specs.declared.place.Place.{Place as Message}
 use Rattle.wire_message.specs.declared.place.Place.TheVariants as at
-use Rattle.iim_unpack.specs.Format.Held.{tag_held, texts_held, returns_held, message_held, begun_entries, held_octets, held_entries, HoldsFew}
+use Rattle.iim_unpack.specs.Format.Held.{tag_held, texts_held, returns_held, message_held, begun_entries, HoldsFew}
 use Rattle.iim_unpack.specs.Format.Parts.{StandsFor}
-use Rattle.iim_unpack.specs.Format.Unpacking.{Unpacking, IsLed, limits_in}
+use Rattle.iim_unpack.specs.Format.Unpacking.{Unpacking, IsLed}
 use Rattle.iim_unpack.specs.Unpacking.{Stood}
 use Rattle.iim_unpack.specs.declared.parts.Parts.{Parts}
 use Rattle.iim_unpack.proofs.Bounds.{is_one}

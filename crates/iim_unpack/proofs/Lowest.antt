@@ -1,15 +1,15 @@
 -- The cause of a refusal is the one of the lowest number in its layer whose condition holds.
-use Rattle.std.proofs.Common.{◌≡◌, ◌≢◌, ℕ, zero, suc, ◌+◌, ◌<◌, ◌≤◌, ◌⊎◌, Bool, true, false, not, ◌&&◌, ◌||◌, nat_eq, nat_lt, if◌then◌else◌, List, [], ◌∷◌, ◌++◌, length, replicate, Option, Some, None, refl, ap, sym, subst, ◌∙◌, inl, inr, arith, append_assoc, length-append}
+use Rattle.std.proofs.Common.{◌≡◌, ◌≢◌, ℕ, zero, suc, ◌<◌, ◌≤◌, ◌⊎◌, Bool, true, false, not, ◌&&◌, ◌||◌, nat_eq, nat_lt, if◌then◌else◌, List, [], ◌∷◌, ◌++◌, length, replicate, Option, Some, None, refl, ap, sym, subst, ◌∙◌, inl, inr, arith, length-append}
 use Rattle.std.specs.Option.{option_or, option_map}
 use Rattle.std.proofs.lemmas.Bool.{cases_lt, eqb-true, lt-ltb, or_cases}
 use Rattle.std.proofs.lemmas.List.{length-replicate}
 use Rattle.iim_dataset.specs.Format.Octets.{IsOctet, Octets, IsProperPrefix, number}
 use Rattle.iim_dataset.specs.Format.Datasets.{Dataset, SpellsTag, SpellsCount, head_of, of_record, count_octets}
-use Rattle.iim_dataset.specs.Format.Splits.{InTag, InData}
+use Rattle.iim_dataset.specs.Format.Splits.{InTag}
 use Rattle.iim_dataset.specs.Format.Tags.{BeginsNoTag}
 use Rattle.iim_dataset.specs.declared.head.Head.{Head}
 use Rattle.iim_fields.specs.Format.Alive.{SectionsLive, SectionsLiveAt}
-use Rattle.iim_fields.specs.Format.Causes.{number_of_cause, IsFault, HasNoFault}
+use Rattle.iim_fields.specs.Format.Causes.{number_of_cause}
 use Rattle.iim_fields.specs.Format.Faults.{first_fault, value_fault}
 use Rattle.iim_fields.specs.Format.Laws.{HeadsTellTheLowestCause, ValuesTellTheLowestCause}
 use Rattle.iim_fields.specs.Format.Values.{data_of, tells_number}
@@ -31,9 +31,9 @@ use Rattle.wire_message.specs.Format.Reading.{HasCause}
 use Rattle.wire_message.specs.declared.fault.MessageCause.{MessageCause}
 use Rattle.wire_message.specs.declared.fault.MessageCause.TheVariants as messages
 use Rattle.iim_unpack.specs.Format.Admitted.{object_of}
-use Rattle.iim_unpack.specs.Format.Conditions.{Token, TagOctet, AtHead, AtValue, SubfileOctet, CompletesToken, IsNoCount, OfField, OfSize, rule_of, TellsTheLowest, RefusalsTellTheLowestCause}
+use Rattle.iim_unpack.specs.Format.Conditions.{Token, TagOctet, AtHead, AtValue, SubfileOctet, IsNoCount, OfField, OfSize, rule_of, TellsTheLowest, RefusalsTellTheLowestCause}
 use Rattle.iim_unpack.specs.Format.Framed.{AreWithin}
-use Rattle.iim_unpack.specs.Format.Open.{IsBadTagAt, IsBadHeadAt, IsBadOctetAt, IsBadValueAt, IsUnfinished}
+use Rattle.iim_unpack.specs.Format.Open.{IsUnfinished}
 use Rattle.iim_unpack.specs.Format.Refusals.{cause_of, layer_of, cause_of_size, of_field, size_on, too_many_on, message_on, tag_cause, begun_record, begun_number}
 use Rattle.iim_unpack.specs.Format.Tokens.{DiesAtHead, DiesAtValue, IsRefusedHead, IsRefusedValue, place_at, subfile_fault, object_fault, number_fault}
 use Rattle.iim_unpack.specs.LowerLaws.{AnswerLaws}

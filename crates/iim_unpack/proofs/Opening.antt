@@ -1,11 +1,10 @@
 -- Octets from which every layer can continue are open, where no envelope stands at their front.
 use Rattle.std.proofs.Common.{◌≡◌, ℕ, true, false, nat_eq, if◌then◌else◌, IsTrue, List, [], ◌∷◌, ◌++◌, Some, map, refl, subst}
-use Rattle.iim_dataset.specs.Format.Datasets.{Dataset, count_octets}
+use Rattle.iim_dataset.specs.Format.Datasets.{count_octets}
 use Rattle.iim_dataset.specs.Format.Splits.{Begun, InTag, InData, Reads}
 use Rattle.iim_dataset.specs.Format.Languages as languages
 use Rattle.iim_fields.specs.Format.Faults.{kept}
 use Rattle.iim_fields.specs.Format.Records.{AreSections}
-use Rattle.iim_fields.specs.declared.limits.Limits.{Limits}
 use Rattle.wire_story.specs.Format.Texts.{AreLines}
 use Rattle.wire_story.specs.Format.Tokens.{Octet, End, with_end}
 use Rattle.wire_message.specs.Format.Layers.{MessageLanguage, MessageLivesWith}
@@ -14,8 +13,8 @@ use Rattle.wire_message.specs.Format.Reading.{is_ended}
 use Rattle.wire_message.specs.Format.SoFar.{LeadTo}
 use Rattle.wire_message.specs.declared.place.Place.{Place}
 use Rattle.wire_message.specs.declared.place.Place.TheVariants as at
-use Rattle.iim_unpack.specs.Format.Admitted.{Value, Admits, object_of}
-use Rattle.iim_unpack.specs.Format.Open.{AllCanContinue, IsOpen, LivingOctetsAreOpen}
+use Rattle.iim_unpack.specs.Format.Admitted.{object_of}
+use Rattle.iim_unpack.specs.Format.Open.{AllCanContinue, LivingOctetsAreOpen}
 use Rattle.iim_unpack.specs.LowerLaws.{OnwardLaws}
 use Rattle.iim_unpack.proofs.Continuing.{sized}
 use Rattle.iim_unpack.proofs.Lasts.{not_all, sections_last}

@@ -1,12 +1,12 @@
 -- Plain datasets tell their place.
-use Rattle.std.proofs.Common.{◌≡◌, ℕ, zero, suc, ◌+◌, ◌*◌, ◌<◌, ◌≤◌, ◌^◌, nat_eq, cond, Bool, true, false, List, [], ◌∷◌, ◌++◌, length, take, drop, Option, Some, None, refl, ap, sym, ◌∙◌, arith, inl, inr, append-nil, length-drop, subst, IfSome}
+use Rattle.std.proofs.Common.{◌≡◌, ℕ, zero, suc, ◌+◌, ◌*◌, ◌<◌, ◌≤◌, nat_eq, cond, Bool, true, false, List, [], ◌∷◌, ◌++◌, length, take, drop, Option, Some, None, refl, ap, sym, ◌∙◌, arith, append-nil, length-drop, subst, IfSome}
 use Rattle.std.specs.List.{AllByRecursion, filter}
 use Rattle.std.specs.Option.{unwrap_or}
 use Rattle.std.proofs.lemmas.Bool.{eqb-true}
 use Rattle.std.proofs.lemmas.List.{take-append-drop, length-take}
 use Rattle.std.proofs.lemmas.List.Elements.{filter-append}
 use Rattle.iim_dataset.specs.WrittenNumbers.{few_octets, number_back, number_octets}
-use Rattle.iim_dataset.specs.Format.Octets.{IsOctet, Octets, number, greatest_size, within}
+use Rattle.iim_dataset.specs.Format.Octets.{IsOctet, Octets, number, greatest_size}
 use Rattle.iim_dataset.specs.Format.Datasets.{Dataset, canonical_stream, of_record}
 use Rattle.iim_dataset.specs.Format.Splits.{Begun, InTag, InData}
 use Rattle.iim_dataset.specs.Format.Laws.{HasSpellings, CanonicalStreamsAreSpelled}

@@ -1,5 +1,5 @@
 -- Places that were possible by the first sizes are possible, and keep to these sizes.
-use Rattle.std.proofs.Common.{◌≡◌, ℕ, ◌+◌, ◌-◌, ◌<◌, ◌≤◌, ◌⊎◌, nat_eq, cond, if◌then◌else◌, Bool, true, false, List, [], ◌∷◌, ◌++◌, length, map, sum, Option, Some, None, refl, ap, sym, subst, ◌∙◌, inl, inr, arith, append_assoc, append-nil, length-append}
+use Rattle.std.proofs.Common.{◌≡◌, ℕ, ◌+◌, ◌-◌, ◌<◌, ◌≤◌, nat_eq, cond, if◌then◌else◌, Bool, true, false, List, [], ◌∷◌, ◌++◌, length, map, sum, Some, refl, ap, sym, subst, ◌∙◌, inl, inr, arith, append-nil, length-append}
 use Rattle.std.specs.List.{AllByRecursion}
 use Rattle.std.proofs.lemmas.Bool.{eqb-true, eq-eqb}
 use Rattle.iim_dataset.specs.Format.Octets.{number}
@@ -9,25 +9,22 @@ use Rattle.iim_dataset.specs.Format.Splits.{Begun, InTag, InData, IsBegun, Reads
 use Rattle.iim_dataset.specs.Format.Tags.{BeginsTag}
 use Rattle.iim_dataset.specs.declared.head.Head.{Head}
 use Rattle.iim_fields.specs.Format.Faults.{present_record}
-use Rattle.iim_fields.specs.Format.Records.{AreSections}
 use Rattle.iim_fields.specs.Format.Values.{tells_number}
-use Rattle.iim_fields.specs.declared.limits.Limits.{Limits}
 use Rattle.iim_object.specs.Format.Numbers.{place_after_datasets, place_ended}
-use Rattle.iim_object.specs.Format.Objects.{ObjectToken, NumberRead, SubfileBegun, ObjectEnded, Confirmed, ObjectLanguage, number_tokens}
+use Rattle.iim_object.specs.Format.Objects.{SubfileBegun, ObjectEnded, Confirmed, number_tokens}
 use Rattle.iim_object.specs.Format.Places as objects
 use Rattle.iim_object.specs.Format.Records.{lengths_of, numbers_of}
 use Rattle.iim_object.specs.Format.Saved.{stated_numbers}
 use Rattle.iim_object.specs.Format.Sizes.{Stated, number_at}
 use Rattle.iim_object.specs.Format.Within.{TokensWithin, LanguageWithin}
 use Rattle.iim_unpack.specs.LowerLaws.{AnswerLaws, OpenLaws}
-use Rattle.iim_unpack.specs.Format.Admitted.{Admits, object_of}
+use Rattle.iim_unpack.specs.Format.Admitted.{object_of}
 use Rattle.iim_unpack.specs.Format.Framed.{AreWithin}
 use Rattle.iim_unpack.specs.Format.Open.{IsOpen, object_so_far, section}
 use Rattle.iim_unpack.specs.Format.Possible.{Possible, IsSmall, IsSmallPhase, IsSmallPlace, greatest_size_before, widest}
-use Rattle.iim_unpack.specs.Format.Scales.{Scale, FitsRow, SectionsIn, SectionsLiveIn, HaveRoomIn, IsOpenIn, IsWholeIn, PossibleAt, place_in, first_scale}
-use Rattle.iim_unpack.specs.Format.Streams.{IsEnvelopeWithin}
-use Rattle.iim_unpack.specs.Format.Tickets.{Place, IsPlaceOf, Phase, TagBegun, AllEnded, phase_of, place_of}
-use Rattle.iim_unpack.specs.Format.Tokens.{MayContinue, ObjectLives}
+use Rattle.iim_unpack.specs.Format.Scales.{Scale, FitsRow, SectionsLiveIn, HaveRoomIn, IsOpenIn, IsWholeIn, PossibleAt, place_in, first_scale}
+use Rattle.iim_unpack.specs.Format.Tickets.{Place, IsPlaceOf, TagBegun, AllEnded, phase_of, place_of}
+use Rattle.iim_unpack.specs.Format.Tokens.{MayContinue}
 use Rattle.iim_unpack.proofs.Answering.{one_reading, reads_envelope}
 use Rattle.iim_unpack.proofs.Bounds.{object_total}
 use Rattle.iim_unpack.proofs.SmallTags.{wider_tag}

@@ -1,14 +1,14 @@
 -- What the record layer can continue with by smaller sizes.
-use Rattle.std.proofs.Common.{◌≡◌, ℕ, ◌+◌, ◌<◌, ◌≤◌, ◌⊎◌, ◌&&◌, ◌||◌, ◌==◌, nat_eq, nat_le, not, cond, if◌then◌else◌, Bool, true, false, List, [], ◌∷◌, ◌++◌, length, map, Some, None, refl, ap, sym, subst, ◌∙◌, inl, inr, arith}
+use Rattle.std.proofs.Common.{◌≡◌, ℕ, ◌+◌, ◌<◌, ◌≤◌, ◌⊎◌, ◌&&◌, ◌||◌, ◌==◌, nat_eq, nat_le, not, cond, if◌then◌else◌, Bool, true, false, List, [], ◌∷◌, ◌++◌, length, map, None, refl, ap, sym, subst, ◌∙◌, inl, inr, arith}
 use Rattle.std.specs.List.{AllByRecursion, fold}
-use Rattle.std.proofs.lemmas.Bool.{both_ways, or_cases, eqb-true, eq-eqb, leb-true, le-ltb, lt-ltb, and_parts, and_from, le-leb}
+use Rattle.std.proofs.lemmas.Bool.{or_cases, eqb-true, eq-eqb, leb-true, and_parts, le-leb}
 use Rattle.std.proofs.lemmas.Bool.Decides.{eqb_tells, nat_tests}
 use Rattle.std.proofs.lemmas.List.{map-append}
 use Rattle.iim_dataset.specs.Format.Octets.{Octets, IsOctet, number, within}
 use Rattle.iim_dataset.specs.Format.Datasets.{Dataset}
 use Rattle.iim_dataset.specs.Format.Languages.{IsAlive}
 use Rattle.iim_tables.specs.Format.Rows.{table, row_of, Meets}
-use Rattle.iim_tables.specs.Format.Records.{IsGoodDataset, IsGoodRecord, occurs, occurrences, mandatory, repeats}
+use Rattle.iim_tables.specs.Format.Records.{IsGoodDataset, IsGoodRecord, occurs, occurrences, mandatory}
 use Rattle.iim_fields.specs.Format.Records.{AreRecords, AreSections, records}
 use Rattle.iim_fields.specs.Format.Values.{tells_number}
 use Rattle.iim_unpack.specs.Format.Scales.{FitsRow, SectionsIn, first_scale}

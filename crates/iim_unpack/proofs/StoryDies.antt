@@ -1,6 +1,6 @@
 -- With which octets the story of an object dies.
-use Rattle.std.proofs.Common.{◌≡◌, ◌≢◌, ℕ, zero, suc, ◌+◌, ◌<◌, ◌≤◌, ◌⊎◌, Bool, true, false, not, ◌||◌, ◌&&◌, nat_eq, nat_lt, cond, if◌then◌else◌, IsTrue, List, [], ◌∷◌, ◌++◌, length, drop, map, replicate, refl, ap, sym, subst, ◌∙◌, inl, inr, arith, append-nil, append_assoc}
-use Rattle.std.specs.List.{list_any, list_all, position_or_len, before_first, after_first}
+use Rattle.std.proofs.Common.{◌≡◌, ℕ, zero, suc, ◌+◌, ◌<◌, ◌≤◌, ◌⊎◌, Bool, true, false, not, ◌||◌, ◌&&◌, nat_eq, nat_lt, cond, if◌then◌else◌, List, [], ◌∷◌, ◌++◌, length, drop, map, replicate, refl, ap, sym, subst, ◌∙◌, inl, inr, arith, append-nil, append_assoc}
+use Rattle.std.specs.List.{list_any, position_or_len, before_first, after_first}
 use Rattle.std.proofs.lemmas.Bool.{cases_Bool, cases_lt, lt-ltb}
 use Rattle.std.proofs.lemmas.Bool.Decides.{eqb_tells}
 use Rattle.std.proofs.lemmas.List.Folds.{list_any-append, list_all-append}
@@ -9,7 +9,7 @@ use Rattle.iim_dataset.specs.Format.Languages as languages
 use Rattle.iim_dataset.specs.Format.Octets.{IsOctet}
 use Rattle.wire_story.specs.Format.Laws.{StoriesLiveAsTextsSoFar, StoriesEndAsTexts, TextsEndInNoReturn}
 use Rattle.wire_story.specs.Format.Reading.{IsLoneReturn}
-use Rattle.wire_story.specs.Format.Texts.{IsLine, IsTextSoFar, Holds, is_line_octet, line_end}
+use Rattle.wire_story.specs.Format.Texts.{IsTextSoFar, Holds, is_line_octet, line_end}
 use Rattle.wire_story.specs.Format.Tokens.{OctetOrEnd, Octet, End, StoryLanguage}
 use Rattle.wire_message.specs.Format.Layers.{StoryLivesIn, after_stx, text_so_far}
 use Rattle.wire_message.specs.Format.Reading.{StoryDiesWith}

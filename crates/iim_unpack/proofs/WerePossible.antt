@@ -1,8 +1,8 @@
 -- Possible places that keep to the first sizes were possible by them.
-use Rattle.std.proofs.Common.{◌≡◌, ℕ, zero, suc, ◌+◌, ◌-◌, ◌^◌, ◌<◌, ◌≤◌, ◌⊎◌, nat_eq, if◌then◌else◌, Bool, true, false, List, [], ◌∷◌, ◌++◌, length, drop, map, sum, Option, Some, None, refl, ap, sym, subst, ◌∙◌, inl, inr, arith, append-nil, length-append}
+use Rattle.std.proofs.Common.{◌≡◌, ℕ, zero, suc, ◌+◌, ◌-◌, ◌^◌, ◌<◌, ◌≤◌, nat_eq, if◌then◌else◌, Bool, true, false, List, [], ◌∷◌, ◌++◌, length, drop, map, sum, Option, Some, None, refl, ap, sym, subst, ◌∙◌, inl, inr, arith, append-nil, length-append}
 use Rattle.std.specs.List.{AllByRecursion}
 use Rattle.std.specs.Option.{unwrap_or}
-use Rattle.std.proofs.lemmas.Bool.{eqb-true, eq-eqb, cases_lt, lt-ltb, le-ltb}
+use Rattle.std.proofs.lemmas.Bool.{eqb-true, cases_lt, lt-ltb, le-ltb}
 use Rattle.std.proofs.lemmas.List.{length-take}
 use Rattle.byteorder.specs.Numbers.{big_number-reads_back}
 use Rattle.iim_dataset.specs.Format.Octets.{IsOctet}
@@ -19,18 +19,16 @@ use Rattle.iim_object.specs.Format.Objects.{ObjectToken, NumberRead, SubfileBegu
 use Rattle.iim_object.specs.Format.Packing.{number_dataset, subfile_datasets}
 use Rattle.iim_object.specs.Format.Places.{ending_tokens}
 use Rattle.iim_object.specs.Format.Places as objects
-use Rattle.iim_object.specs.Format.Plans.{max_subfiles}
 use Rattle.iim_object.specs.Format.Records.{lengths_of, numbers_of}
 use Rattle.iim_object.specs.Format.Saved.{IsPossible}
 use Rattle.iim_object.specs.Format.Sizes.{Stated}
 use Rattle.iim_object.specs.Format.Within.{TokensWithin, LanguageWithin, PlacesLiveWithin}
 use Rattle.iim_unpack.specs.LowerLaws.{OpenLaws}
-use Rattle.iim_unpack.specs.Format.Admitted.{Value, object_of}
+use Rattle.iim_unpack.specs.Format.Admitted.{object_of}
 use Rattle.iim_unpack.specs.Format.Open.{AllCanContinue, object_so_far, section}
 use Rattle.iim_unpack.specs.Format.Possible.{Possible, AreOpenOrWhole, IsSmall, IsSmallPhase, IsSmallPlace, LimitsAreToldByPlace, AreHeadsWithin, greatest_size_before, widest}
-use Rattle.iim_unpack.specs.Format.Scales.{FitsRow, SectionsIn, SectionsLiveIn, HaveRoomIn, IsOpenIn, PossibleAt, SmallPlacesWerePossible, place_in, first_scale}
-use Rattle.iim_unpack.specs.Format.Streams.{IsEnvelopeWithin}
-use Rattle.iim_unpack.specs.Format.Tickets.{Place, IsPlaceOf, Phase, TagBegun, AllEnded, phase_of}
+use Rattle.iim_unpack.specs.Format.Scales.{FitsRow, SectionsLiveIn, HaveRoomIn, PossibleAt, SmallPlacesWerePossible, place_in, first_scale}
+use Rattle.iim_unpack.specs.Format.Tickets.{Place, IsPlaceOf, TagBegun, AllEnded, phase_of}
 use Rattle.iim_unpack.specs.Format.Tokens.{CanContinueAt, MayContinue, ObjectLives, place_at}
 use Rattle.iim_unpack.specs.Plain.{Numbers, number_list, mode_dataset, one_dataset, plain_numbers, filled, plain_end, plain, plain_place, plain_octets, IsPlain, begun_object}
 use Rattle.iim_unpack.proofs.Answering.{one_reading, reads_envelope}

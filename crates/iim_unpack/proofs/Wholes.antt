@@ -1,13 +1,13 @@
 -- A whole dataset of record 1, 2 or 7 leads the parts of an unpacker on.
 use Rattle.std.specs.Prelude.{IsSome, is_none}
-use Rattle.std.proofs.Common.{◌≡◌, ℕ, ◌⊎◌, Bool, true, false, ◌==◌, ◌||◌, ◌&&◌, cond, nat_eq, List, [], ◌∷◌, ◌++◌, length, map, flat_map, refl, ap, sym, subst, ◌∙◌, inl, inr, arith, append_assoc, append-nil}
+use Rattle.std.proofs.Common.{◌≡◌, ℕ, Bool, true, false, ◌||◌, ◌&&◌, cond, nat_eq, List, [], ◌∷◌, ◌++◌, length, map, flat_map, refl, ap, sym, subst, ◌∙◌, inl, inr, arith, append-nil}
 use Rattle.std.proofs.lemmas.List.Concat.{flat_map-append}
 use Rattle.std.proofs.lemmas.Bool.Decides.{eqb_tells}
 use Rattle.iim_dataset.specs.Format.Datasets.{Dataset, head_of}
 use Rattle.iim_dataset.specs.Format.Splits.{InTag}
 use Rattle.iim_dataset.specs.Format.Events.{DatasetEvent, HeadRead, DataOctet, DatasetEnd, events_of, handed_on}
 use Rattle.iim_dataset.specs.declared.head.Head.{Head}
-use Rattle.iim_fields.specs.Format.Faults.{present_record, is_kept}
+use Rattle.iim_fields.specs.Format.Faults.{is_kept}
 use Rattle.iim_fields.specs.Format.Standing as records
 use Rattle.iim_fields.specs.Format.Standing.{FieldsPlace, IsBetween, section_of, begun_head_of}
 use Rattle.iim_fields.specs.Format.Values.{data_of, tells_number}
@@ -19,7 +19,7 @@ use Rattle.wire_message.specs.Format.Layers.{text_so_far}
 use Rattle.wire_message.specs.Format.Reading as wire
 use Rattle.iim_unpack.specs.Format.Admitted.{object_of}
 use Rattle.iim_unpack.specs.Format.Tokens.{place_at}
-use Rattle.iim_unpack.specs.Format.Parts.{AreAfter, Led, has_ended}
+use Rattle.iim_unpack.specs.Format.Parts.{AreAfter, has_ended}
 use Rattle.iim_unpack.specs.Parts.{TakesHead, WentWhole}
 use Rattle.iim_unpack.specs.LowerLaws.{CloseLaws}
 use Rattle.iim_unpack.specs.declared.parts.Parts.{Parts}

@@ -15,8 +15,8 @@ mod work;
 
 use row::Table;
 use shapes::{
-    keywords, long_text, message_of, numbered_envelopes, prose, short_lines, single_subfiles,
-    small_envelopes, stories, story_envelopes,
+    keywords, long_keywords, long_text, message_of, numbered_envelopes, prose, script, short_lines,
+    shortest_lines, single_subfiles, small_envelopes, stories, story_envelopes,
 };
 use std::process::ExitCode;
 use std::time::CpuClock;
@@ -28,10 +28,12 @@ use work::{Reading, Work};
 const TURNS: u32 = 20;
 
 /// What reads a stream of envelopes.
-const STREAM: [Work<'static>; 3] = [
+const STREAM: [Work<'static>; 5] = [
     Work::Read(Reading::Heads),
     Work::Read(Reading::Unpack),
     Work::Read(Reading::Check),
+    Work::Read(Reading::Show),
+    Work::Read(Reading::Story),
 ];
 
 fn main(rt: HostRuntime) -> io::Result<ExitCode> {
@@ -73,7 +75,9 @@ fn print_streams<R: Print + CpuClock>(table: &Table<'_, R>) -> io::Result<()> {
     let octets = stories(alloc)?;
     table.print("stories of 4 KB, 22 datasets", &octets, &STREAM)?;
     let octets = keywords(alloc)?;
-    table.print("400 keywords in a header", &octets, &STREAM)?;
+    table.print("400 keywords of 8 octets", &octets, &STREAM)?;
+    let octets = long_keywords(alloc)?;
+    table.print("400 keywords of 64 octets", &octets, &STREAM)?;
     let octets = numbered_envelopes(alloc)?;
     table.print("numbered envelopes", &octets, &[Work::Read(Reading::Audit)])
 }
@@ -84,7 +88,9 @@ fn print_long_texts<R: Print + CpuClock>(table: &Table<'_, R>) -> io::Result<()>
     let octets = long_text(alloc, &prose(alloc)?)?;
     table.print("long text, subfiles of 32 KB", &octets, &STREAM)?;
     let octets = long_text(alloc, &short_lines(alloc)?)?;
-    table.print("lines of one octet", &octets, &STREAM)?;
+    table.print("lines of one octet, CR LF", &octets, &STREAM)?;
+    let octets = long_text(alloc, &shortest_lines(alloc)?)?;
+    table.print("lines of one octet, LF", &octets, &STREAM)?;
     let octets = single_subfiles(alloc)?;
     table.print("subfiles of one octet", &octets, &STREAM)
 }
@@ -131,5 +137,7 @@ fn print_packing<R: Print + CpuClock>(table: &Table<'_, R>) -> io::Result<()> {
             subfile: 32_768,
         },
     ];
-    table.print("prose", &text, &works)
+    table.print("prose", &text, &works)?;
+    let octets = script(alloc)?;
+    table.print("a script of prose", &octets, &[Work::Read(Reading::Script)])
 }

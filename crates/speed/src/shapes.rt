@@ -22,8 +22,12 @@ const PLACES: &[u8; 68] =
     b"\x1c\x02\x05\x00\x05Rates\x1c\x02\x0f\x00\x03ECO\x1c\x02\x5a\x00\x09Frankfurt\x1c\x02\x65\x00\x07Germany\
 \x1c\x02\x6e\x00\x03TST\x1c\x02\x78\x00\x0bRates stay.";
 
-/// A keyword: a dataset of 13 octets.
+/// A keyword of 8 octets: a dataset of 13.
 const KEYWORD: &[u8; 13] = b"\x1c\x02\x19\x00\x08interest";
+
+/// A keyword of 64 octets: a dataset of 69.
+const LONG_KEYWORD: &[u8; 69] =
+    b"\x1c\x02\x19\x00\x40the interest rates of the European Central Bank and of all banks";
 
 /// A message of 14 octets, whose text is one empty line.
 const LEAST_MESSAGE: &[u8; 14] = b"\x01X1 4 N 0\r\n\x02\x03\x04";
@@ -37,8 +41,19 @@ const ENDING: &[u8; 2] = b"\x03\x04";
 /// A line of prose with its line end: 64 octets.
 const LINE: &[u8; 64] = b"The bank kept its rates where they were, as it had said it may\r\n";
 
-/// A line of one octet with its line end.
+/// A line of one octet, ended by CR LF.
 const SHORT_LINE: &[u8; 3] = b"x\r\n";
+
+/// A line of one octet, ended by LF.
+const SHORTEST_LINE: &[u8; 2] = b"x\n";
+
+/// The lines of a script before its story: the smallest envelope's.
+const SCRIPT: &[u8; 116] =
+    b"1:00 \\x00\\x04\n1:20 \\x00\\x02\n1:22 \\x00\\x01\n1:30 TST\n1:40 00000001\n1:70 20240301\n2:00 \\x00\\x04\n\
+message X 1 4 N 0\ntext\n";
+
+/// A line of a script's story: the line of prose, ended by LF.
+const SCRIPT_LINE: &[u8; 63] = b"The bank kept its rates where they were, as it had said it may\n";
 
 /// The octets of a subfile where an object is cut into long ones.
 const SUBFILE: u32 = 32_768;
@@ -50,11 +65,25 @@ pub(crate) fn prose(alloc: Global) -> Result<Vec<u8>, AllocError>
     repeated(alloc, LINE, 16_384)
 }
 
-/// 340,000 lines of one octet, and an empty last one.
+/// 340,000 lines of one octet, ended by CR LF, and an empty last one.
 pub(crate) fn short_lines(alloc: Global) -> Result<Vec<u8>, AllocError>
     ensures { IfOk result (λ text. vec_len text ≡ 1020000) }
 {
     repeated(alloc, SHORT_LINE, 340_000)
+}
+
+/// 340,000 lines of one octet, ended by LF, and an empty last one.
+pub(crate) fn shortest_lines(alloc: Global) -> Result<Vec<u8>, AllocError>
+    ensures { IfOk result (λ text. vec_len text ≡ 680000) }
+{
+    repeated(alloc, SHORTEST_LINE, 340_000)
+}
+
+/// The script of the smallest envelope, but with 16,384 lines of prose.
+pub(crate) fn script(alloc: Global) -> Result<Vec<u8>, AllocError> {
+    let mut script = Vec::from_slice(alloc, SCRIPT)?;
+    script.extend_from_slice(&repeated(alloc, SCRIPT_LINE, 16_384)?)?;
+    Ok(script)
 }
 
 /// A message with this text.
@@ -115,12 +144,23 @@ pub(crate) fn stories(alloc: Global) -> Result<Vec<u8>, AllocError> {
     repeated(alloc, &one, 240)
 }
 
-/// 190 envelopes of 5,314 octets: a header of 407 datasets, 400 of them keywords, and a story of one empty line.
-pub(crate) fn keywords(alloc: Global) -> Result<Vec<u8>, AllocError> {
+/// An envelope with 407 datasets in its records 1 and 2, of which 400 are this keyword, and a story of one empty line.
+fn with_keywords(alloc: Global, keyword: &[u8]) -> Result<Vec<u8>, AllocError>
+    requires { length keyword.now < 2 ^ 16 }
+{
     let mut records = Vec::from_slice(alloc, SMALLEST)?;
-    records.extend_from_slice(&repeated(alloc, KEYWORD, 400)?)?;
-    let one = envelope(alloc, &records, LEAST_MESSAGE, 1024)?;
-    repeated(alloc, &one, 190)
+    records.extend_from_slice(&repeated(alloc, keyword, 400)?)?;
+    envelope(alloc, &records, LEAST_MESSAGE, 1024)
+}
+
+/// 190 envelopes of 5,314 octets, each with 400 keywords of 8 octets.
+pub(crate) fn keywords(alloc: Global) -> Result<Vec<u8>, AllocError> {
+    repeated(alloc, &with_keywords(alloc, KEYWORD)?, 190)
+}
+
+/// 38 envelopes of 27,714 octets, each with 400 keywords of 64 octets.
+pub(crate) fn long_keywords(alloc: Global) -> Result<Vec<u8>, AllocError> {
+    repeated(alloc, &with_keywords(alloc, LONG_KEYWORD)?, 38)
 }
 
 /// One envelope with this text, in subfiles of 32,768 octets.

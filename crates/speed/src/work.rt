@@ -9,7 +9,10 @@ use crate::tally::Tally;
 use iim_audit::audit;
 use iim_commands::check::Check;
 use iim_commands::coming::{LIMITS, Next, take_next};
-use iim_commands::list::list;
+use iim_commands::list::{EnvelopeReport, list};
+use iim_commands::packing::{PackRequest, pack_script};
+use iim_commands::show::Show;
+use iim_commands::story::narrate;
 use iim_dataset::{FromRead, HeadReader};
 use iim_object::{Plan, Size};
 use iim_pack::pack;
@@ -17,7 +20,7 @@ use iim_unpack::{Intake, Progress, Unpacked, Unpacker};
 use jiff::Timestamp;
 use std::alloc::Global;
 use wire_message::MessageReader;
-use wire_story::TextReader;
+use wire_story::{LineWriter, TextReader};
 
 /// A reader of octets.
 #[derive(Clone, Copy, Debug, PartialEq, Eq)]
@@ -30,6 +33,10 @@ pub enum Reading {
     UnpackOctets,
     /// The lines of `check`.
     Check,
+    /// The lines of `show`.
+    Show,
+    /// The text of `story`.
+    Story,
     /// The rows of `audit`.
     Audit,
     /// A text, by `TextReader`.
@@ -38,6 +45,8 @@ pub enum Reading {
     Message,
     /// A message, by `MessageReader`, one octet a call.
     MessageOctets,
+    /// A script, by `pack`.
+    Script,
 }
 
 /// What is measured.
@@ -57,10 +66,13 @@ impl Work<'_> {
             Work::Read(Reading::Unpack) => "unpack",
             Work::Read(Reading::UnpackOctets) => "unpack, octet by octet",
             Work::Read(Reading::Check) => "check",
+            Work::Read(Reading::Show) => "show",
+            Work::Read(Reading::Story) => "story",
             Work::Read(Reading::Audit) => "audit",
             Work::Read(Reading::Text) => "text",
             Work::Read(Reading::Message) => "message",
             Work::Read(Reading::MessageOctets) => "message, octet by octet",
+            Work::Read(Reading::Script) => "pack by 1,024",
             Work::Pack { subfile: 1024, .. } => "pack by 1,024",
             Work::Pack { .. } => "pack by 32,768",
         }
@@ -72,11 +84,14 @@ impl Work<'_> {
             Work::Read(Reading::Heads) => heads(octets),
             Work::Read(Reading::Unpack) => unpack(alloc, octets),
             Work::Read(Reading::UnpackOctets) => unpack_octets(alloc, octets),
-            Work::Read(Reading::Check) => check(alloc, octets),
+            Work::Read(Reading::Check) => listed(alloc, &Check, octets),
+            Work::Read(Reading::Show) => listed(alloc, &Show, octets),
+            Work::Read(Reading::Story) => narrated(alloc, octets),
             Work::Read(Reading::Audit) => audited(alloc, octets),
             Work::Read(Reading::Text) => text(octets),
             Work::Read(Reading::Message) => message(octets),
             Work::Read(Reading::MessageOctets) => message_octets(octets),
+            Work::Read(Reading::Script) => script(alloc, octets),
             Work::Pack { story, subfile } => packed(alloc, story, subfile),
         }
     }
@@ -130,11 +145,33 @@ fn unpack_octets(alloc: Global, octets: &[u8]) -> Option<Tally> {
 }
 
 /// Lists envelopes as the command does: counts the octets of the list.
-fn check(alloc: Global, octets: &[u8]) -> Option<Tally> {
+fn listed<P: EnvelopeReport>(alloc: Global, texts: &P, octets: &[u8]) -> Option<Tally> {
     let mut intake = Intake::new(FromRead::new(octets));
     let mut tally = Tally::new();
-    let status = list(alloc, &Check, &mut intake, &mut tally).ok()?;
+    let status = list(alloc, texts, &mut intake, &mut tally).ok()?;
     (status == 0).then_some(tally)
+}
+
+/// Tells stories as the command does: counts the octets of their texts.
+fn narrated(alloc: Global, octets: &[u8]) -> Option<Tally> {
+    let mut intake = Intake::new(FromRead::new(octets));
+    let mut lines = LineWriter::new(Tally::new());
+    let mut errors = Tally::new();
+    let status = narrate(alloc, &mut intake, &mut lines, &mut errors).ok()?;
+    (status == 0).then_some(lines.into_writer())
+}
+
+/// Packs what a script tells, as the command does: counts the octets that are written.
+fn script(alloc: Global, octets: &[u8]) -> Option<Tally> {
+    let request = PackRequest {
+        subfile: 1024,
+        unknown: false,
+        max: None,
+    };
+    let mut reader = FromRead::new(octets);
+    let mut errors = Tally::new();
+    let (status, tally) = pack_script(alloc, request, &mut reader, Tally::new(), &mut errors);
+    (status.ok()? == 0).then_some(tally)
 }
 
 /// Audits envelopes: counts them and the octets of their objects.

@@ -4,7 +4,7 @@ use Rattle.iim_dataset.specs.declared.place.DatasetPlace.{DatasetPlace}
 use Rattle.iim_dataset.specs.declared.place.DatasetPlace.TheVariants as tags
 use Rattle.iim_dataset.specs.declared.head.Head.{Head}
 use Rattle.iim_fields.specs.Format.Faults.{is_kept, joined}
-use Rattle.iim_fields.specs.Format.Standing.{FieldsPlace, begun_head_of}
+use Rattle.iim_fields.specs.Format.Standing.{begun_head_of}
 use Rattle.wire_message.specs.Format.Saved.{saved}
 use Rattle.wire_message.specs.declared.place.Place.{Place}
 use Rattle.wire_message.specs.declared.place.Place.TheVariants.{Text}

@@ -1,12 +1,11 @@
 -- Places that were possible by smaller sizes: with at most `octets` octets in an extended count and in a size, and objects of at most
 -- `greatest` octets. The languages of the layers are those of today, without what is larger.
-use Rattle.std.specs.Prelude.{◌≡◌, ◌↔◌, ℕ, ◌≤◌, ◌⊎◌, true, if◌then◌else◌, ◌==◌, List, [], ◌∷◌, ◌++◌, length}
+use Rattle.std.specs.Prelude.{◌≡◌, ◌↔◌, ℕ, ◌≤◌, ◌⊎◌, true, List, [], ◌∷◌, ◌++◌, length}
 use Rattle.std.specs.List.{AllByRecursion}
 use Rattle.iim_dataset.specs.Format.Octets.{number, greatest_size}
-use Rattle.iim_dataset.specs.Format.Datasets.{Dataset, SpellsStream, count_octets, head_of, of_record}
+use Rattle.iim_dataset.specs.Format.Datasets.{Dataset, SpellsStream, count_octets, head_of}
 use Rattle.iim_dataset.specs.Format.Languages.{IsAlive}
 use Rattle.iim_dataset.specs.Format.Splits.{Begun, InTag, InData, Reads}
-use Rattle.iim_dataset.specs.declared.head.Head.{Head}
 use Rattle.iim_fields.specs.Format.Records.{AreSections}
 use Rattle.iim_fields.specs.Format.Values.{tells_number}
 use Rattle.iim_fields.specs.declared.limits.Limits.{Limits}

@@ -1,6 +1,5 @@
-use Rattle.std.proofs.Common.{◌≡◌, ℕ, ◌⊎◌, Bool, true, false, List, None, inl, inr}
-use Rattle.iim_unpack.specs.Format.Parts.{has_ended}
-use Rattle.iim_unpack.specs.Format.Unpacking.{Unpacking, IsDone, IsDoneWith, Stands}
+use Rattle.std.proofs.Common.{ℕ, List, inl, inr}
+use Rattle.iim_unpack.specs.Format.Unpacking.{Unpacking, IsDone, Stands}
 use Rattle.iim_unpack.specs.Unpacking.{Stood}
 use Rattle.iim_unpack.proofs.Feeding.{stood_done}
 use Rattle.iim_unpack.proofs.Held.{holds_few}

@@ -1,5 +1,4 @@
-use Rattle.std.proofs.Common.{◌≡◌, true, IsTrue}
-use Rattle.iim_unpack.specs.Restoring.{AreAt, AreAtIn}
+use Rattle.iim_unpack.specs.Restoring.{AreAt}
 use Rattle.iim_unpack.specs.Format.TicketForm.{Split}
 use Rattle.iim_unpack.specs.Format.TicketsTold.{split_told}
 use Rattle.iim_unpack.proofs.PlacesTold.{small_told}

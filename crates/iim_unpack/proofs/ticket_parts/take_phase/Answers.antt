@@ -1,4 +1,3 @@
-use Rattle.std.proofs.Common.{arith}
 use Rattle.iim_unpack.proofs.Results.{if_none}
 use Rattle.iim_unpack.proofs.Splitting.{no_begun}
 use Rattle.iim_unpack.proofs.ticket_parts.take_phase.Goals as goal
