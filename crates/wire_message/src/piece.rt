@@ -24,6 +24,18 @@ fn filler_in(place: &Place) -> Option<u8>
     }
 }
 
+/// Takes a whole header where the place lies, in filler, and answers how many octets it has.
+#[inline(always)]
+fn take_head(place: &mut Place, rest: &[u8]) -> Option<usize>
+    ensures takes { IfSome result (λ used. TakesSome place.old rest.now place.new used) }
+    ensures same { IfNone result (place.new ≡ place.old) }
+{
+    let Some(_) = filler_in(place) else {
+        return None;
+    };
+    whole_head(place, rest)
+}
+
 /// Takes octets outside the text where the place lies, and answers how many, or None where the first dies.
 #[inline(always)]
 fn outside_text(place: &mut Place, rest: &[u8]) -> Option<usize>
@@ -33,11 +45,8 @@ fn outside_text(place: &mut Place, rest: &[u8]) -> Option<usize>
     ensures takes { IfSome result (λ used. TakesSome place.old rest.now place.new used) }
     ensures dies { IfNone result (DiesWith place.old (slice_index rest.now 0)) }
 {
-    if let Some(_) = filler_in(place) {
-        if let Some((text, used)) = whole_head(rest) {
-            *place = text;
-            return Some(used);
-        }
+    if let Some(used) = take_head(place, rest) {
+        return Some(used);
     }
     let used = lengthen(place, rest);
     if used > 0 {

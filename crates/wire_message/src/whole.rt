@@ -1,6 +1,6 @@
 //! A header that stands whole in a piece, read at once.
 
-ghost use Rattle.std.specs.Prelude.{ℕ, ◌≡◌, ◌≤◌, ◌<◌, ◌∷◌, ◌++◌, length, take, IsTrue, IfSome};
+ghost use Rattle.std.specs.Prelude.{ℕ, ◌≡◌, ◌≤◌, ◌<◌, ◌∷◌, ◌++◌, length, take, IsTrue, IfSome, IfNone};
 ghost use Rattle.wire_message.specs.Classes.{is_in_class};
 ghost use Rattle.wire_message.specs.Format.Fields.{Are, IsField, is_info_octet};
 ghost use Rattle.wire_message.specs.Format.Messages.{has_feed};
@@ -111,13 +111,14 @@ fn front_head(octets: &[u8]) -> Option<(MessageHead, &[u8])>
     Some((head, rest))
 }
 
-/// The text, where a header stands whole at the front after any octets of filler, and how many octets the header has.
+/// Takes a header that stands whole at the front, after any octets of filler, and answers how many octets it has.
 #[inline(never)]
-pub(crate) fn whole_head(octets: &[u8]) -> Option<(Place, usize)>
-    ensures { IfSome result (λ front. (count : ℕ) → TakesSome (Filler count) octets.now front.0 front.1) }
+pub(crate) fn whole_head(place: &mut Place, octets: &[u8]) -> Option<usize>
+    ensures takes { IfSome result (λ used. (count : ℕ) → TakesSome (Filler count) octets.now place.new used) }
+    ensures same { IfNone result (place.new ≡ place.old) }
 {
     let (head, rest) = front_head(octets)?;
-    let used = octets.len() - rest.len();
     let text = TextReader::new();
-    Some((Place::Text { head, text }, used))
+    *place = Place::Text { head, text };
+    Some(octets.len() - rest.len())
 }

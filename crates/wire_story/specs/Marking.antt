@@ -1,5 +1,5 @@
 -- Masks of octets: which of those that come next may be marks.
-use Rattle.std.specs.Prelude.{◌≡◌, ℕ, ◌<◌, ◌≤◌, Bool, nat_lt, List, length, take, drop, map}
+use Rattle.std.specs.Prelude.{◌≡◌, ℕ, ◌+◌, ◌^◌, ◌<◌, ◌≤◌, Bool, nat_lt, List, length, take, drop, map}
 use Rattle.std.specs.Simd.Lanes.{mask_l}
 use Rattle.wire_story.specs.declared.marks.Marks.{Marks}
 
@@ -7,9 +7,12 @@ use Rattle.wire_story.specs.declared.marks.Marks.{Marks}
 abbrev pub is_low : ℕ → Bool
 is_low b = nat_lt b 14
 
--- The marks tell of the next octets, `m.many` of them.
-abbrev pub AreMarks : List ℕ → Marks → Type 0
-AreMarks xs m = (m.many ≤ length xs) × (m.many ≤ 16) × (m.left ≡ mask_l (map is_low (take m.many xs)))
+-- The marks tell of the next octets, `many` of them: a digit for each, and one that is set after those.
+pub record AreMarks (xs : List ℕ) (m : Marks) : Type 0 where
+  pub many : ℕ
+  pub within : many ≤ length xs
+  pub few : many ≤ 16
+  pub is : m.left ≡ mask_l (map is_low (take many xs)) + 2 ^ many
 
 -- The first `used` octets are a front, one at least: `held` CR are held after it, and these are the marks of what is left.
 pub record IsTextFront (rest : List ℕ) (held used : ℕ) (marks : Marks) : Type 0 where

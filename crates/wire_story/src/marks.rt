@@ -1,6 +1,7 @@
 //! Where the next mark of a text stands: sixteen octets give one mask, and each mark of it is taken before the next is made.
 
-ghost use Rattle.std.specs.Prelude.{◌≡◌, ◌<◌, ◌≤◌, ◌+◌, false, length, drop, map, slice_index, take};
+ghost use Rattle.std.specs.Prelude.{◌≡◌, ◌<◌, ◌≤◌, ◌+◌, ◌/◌, ◌^◌, false, length, drop, map, slice_index, take};
+ghost use Rattle.std.specs.Int.Count.{count_trailing_zeros};
 ghost use Rattle.std.specs.Simd.Lanes.{mask_l};
 ghost use Rattle.wire_story.specs.Format.Texts.{is_line_octet, IsLine};
 ghost use Rattle.wire_story.specs.Marking.{is_low, AreMarks};
@@ -14,13 +15,14 @@ const BLOCK: usize = 16;
 /// The marks are below this octet, and so are few other octets.
 const LEAST_CALM: u8 = 14;
 
+/// A digit after those of a mask.
+const END: u64 = 1 << 16;
+
 /// Which of the octets that come next are below the least calm one.
 #[derive(Clone, Copy, Debug)]
 pub(crate) struct Marks {
-    // The lowest digit stands for the next octet.
+    // The lowest digit stands for the next octet; the highest one that is set for the octet after those that it tells of.
     left: u64,
-    // How many octets it tells of.
-    many: usize,
 }
 
 /// The mask of the octets below the least calm one.
@@ -52,13 +54,45 @@ fn tail_len(from: usize, octets: &[u8]) -> usize
     at
 }
 
+/// How many octets stand before the lowest digit that is set, and the digits from that one on.
+#[inline(always)]
+fn calm_before(left: u64) -> (usize, u64)
+    requires { 0 < left }
+    ensures count { result.0 ≡ count_trailing_zeros 64 left }
+    ensures digits { result.1 ≡ left / 2 ^ count_trailing_zeros 64 left }
+{
+    let calm = left.trailing_zeros() as usize;
+    (calm, left >> calm)
+}
+
+/// Where the first mark stands after the first `from` octets, and the digits from it on, or where the last whole block ends.
+#[inline(always)]
+fn next_marks(from: usize, octets: &[u8]) -> (usize, u64)
+    requires room { from + 16 ≤ length octets.now }
+    requires line { IsLine (take from octets.now) }
+    ensures within { result.0 ≤ length octets.now }
+    ensures line { IsLine (take result.0 octets.now) }
+    ensures marks { AreMarks (drop result.0 octets.now) (record { left = result.1 }) }
+    ensures later { from ≤ result.0 }
+    ensures more { result.0 ≡ from → 2 ≤ result.1 }
+{
+    let mut at = from;
+    let mut mask = mask_of(&octets[at..]);
+    while mask == 0 && octets.len() - at >= 2 * BLOCK {
+        at += BLOCK;
+        mask = mask_of(&octets[at..]);
+    }
+    let (calm, left) = calm_before(mask + END);
+    (at + calm, left)
+}
+
 impl Marks {
     /// Nothing is known of the octets that come next.
     #[inline(always)]
     pub(crate) fn new() -> Marks
-        ensures { result ≡ record { left = 0; many = 0 } }
+        ensures { result ≡ record { left = 1 } }
     {
-        Marks { left: 0, many: 0 }
+        Marks { left: 1 }
     }
 
     /// The marks after the next octets, `used` of them.
@@ -66,16 +100,15 @@ impl Marks {
     pub(crate) fn after(self, used: usize, octets: &[u8]) -> Marks
         requires marks { AreMarks octets.now self }
         requires within { used ≤ length octets.now }
+        requires short { used ≤ 2 }
         ensures { AreMarks (drop used octets.now) result }
     {
         let _ = octets;
-        if self.many <= used {
-            return Marks { left: 0, many: 0 };
+        let left = self.left >> used;
+        if left == 0 {
+            return Marks { left: 1 };
         }
-        Marks {
-            left: self.left >> used,
-            many: self.many - used,
-        }
+        Marks { left }
     }
 
     /// The length of the longest front that lies in one line, and the marks after it.
@@ -87,27 +120,23 @@ impl Marks {
         ensures longest { result.0 < length octets.now → is_line_octet (slice_index octets.now result.0) ≡ false }
         ensures marks { AreMarks (drop result.0 octets.now) result.1 }
     {
-        let mut at = 0;
-        let mut left = self.left;
-        let mut many = self.many;
-        while left != 0 || octets.len() - at - many >= BLOCK {
-            if left == 0 {
-                at += many;
-                left = mask_of(&octets[at..]);
-                many = BLOCK;
+        let first = calm_before(self.left);
+        let mut at = first.0;
+        let mut left = first.1;
+        while left != 1 || octets.len() - at >= BLOCK {
+            if left == 1 {
+                let next = next_marks(at, octets);
+                at = next.0;
+                left = next.1;
             } else {
-                let calm = left.trailing_zeros() as usize;
-                at += calm;
-                left >>= calm;
-                many -= calm;
                 if !may_stand(octets[at]) {
-                    return (at, Marks { left, many });
+                    return (at, Marks { left });
                 }
-                at += 1;
-                left >>= 1;
-                many -= 1;
+                let next = calm_before(left >> 1);
+                at += 1 + next.0;
+                left = next.1;
             }
         }
-        (tail_len(at + many, octets), Marks { left: 0, many: 0 })
+        (tail_len(at, octets), Marks { left: 1 })
     }
 }

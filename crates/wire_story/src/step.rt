@@ -51,6 +51,7 @@ fn take_return<S: StorySink>(held: u8, rest: &[u8], sink: &mut S) -> Result<(u8,
     ensures few { IfOk result (λ front. front.0 ≤ 2) }
     ensures some { IfOk result (λ front. 0 < front.1) }
     ensures within { IfOk result (λ front. front.1 ≤ length rest.now) }
+    ensures short { IfOk result (λ front. front.1 ≤ 2) }
     ensures taken { IfOk result (λ front.
         TakesPiece S.goes S.failures (Some held) (take front.1 rest.now) (Some front.0) sink.old sink.new) }
     ensures refused { IfErr result (λ fault.
@@ -84,6 +85,7 @@ fn take_mark<S: StorySink>(held: u8, rest: &[u8], sink: &mut S) -> Result<(u8, u
     ensures few { IfOk result (λ front. front.0 ≤ 2) }
     ensures some { IfOk result (λ front. 0 < front.1) }
     ensures within { IfOk result (λ front. front.1 ≤ length rest.now) }
+    ensures short { IfOk result (λ front. front.1 ≤ 2) }
     ensures taken { IfOk result (λ front.
         TakesPiece S.goes S.failures (Some held) (take front.1 rest.now) (Some front.0) sink.old sink.new) }
     ensures refused { IfErr result (λ fault.

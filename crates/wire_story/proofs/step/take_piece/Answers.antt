@@ -3,6 +3,7 @@ use Rattle.std.proofs.lemmas.List.{take_all, take_rest, drop-drop}
 use Rattle.wire_story.specs.Marking.{AreMarks}
 use Rattle.wire_story.specs.Format.Reading.{TakesPiece}
 use Rattle.wire_story.proofs.Pieces.{leads_on_none}
+use Rattle.wire_story.proofs.Marked.{no_marks}
 use Rattle.wire_story.proofs.Fronts.{takes_both, refuses_later}
 use Rattle.wire_story.proofs.step.take_piece.Goals as goal
 
@@ -10,7 +11,7 @@ pub loop-at-init : goal.loop-at-init
 loop-at-init g c = record {
   few = c.requires;
   within = omega arith;
-  marks = subst (AreMarks c.args.piece.now) (sym c.new-marks.ensures) (omega arith, omega arith, refl);
+  marks = subst (AreMarks c.args.piece.now) (sym c.new-marks.ensures) (no_marks c.args.piece.now);
   taken = record { leads_on = leads_on_none (Some c.args.held); told = g.met.S.StorySink.nothing c.args.sink.now; calm = refl };
 }
 

@@ -5,10 +5,10 @@ use Rattle.wire_story.proofs.marks.Marks.run_len.Given as goal
 
 abbrev pub invariant-loop-left : goal.invariant-loop-left
 invariant-loop-left l = record {
-  within : l.at + l.many ≤ length l.octets;
+  within : l.at ≤ length l.octets;
   line : IsLine (take l.at l.octets);
-  marks : AreMarks (drop l.at l.octets) (record { left = l.left; many = l.many });
+  marks : AreMarks (drop l.at l.octets) (record { left = l.left });
 }
 
 abbrev pub decreases-loop-left : goal.decreases-loop-left
-decreases-loop-left l = 2 * (length l.octets - l.at) + (1 - l.many)
+decreases-loop-left l = 2 * (length l.octets - l.at) + (2 - l.left)
