@@ -48,6 +48,7 @@ fn main(rt: HostRuntime) -> io::Result<ExitCode> {
     print_long_texts(&table)?;
     print_texts(&table)?;
     print_packing(&table)?;
+    print_script(&table)?;
     Ok(ExitCode::from(0))
 }
 
@@ -137,7 +138,11 @@ fn print_packing<R: Print + CpuClock>(table: &Table<'_, R>) -> io::Result<()> {
             subfile: 32_768,
         },
     ];
-    table.print("prose", &text, &works)?;
-    let octets = script(alloc)?;
+    table.print("prose", &text, &works)
+}
+
+/// A script that is packed.
+fn print_script<R: Print + CpuClock>(table: &Table<'_, R>) -> io::Result<()> {
+    let octets = script(table.alloc())?;
     table.print("a script of prose", &octets, &[Work::Read(Reading::Script)])
 }
