@@ -1,4 +1,7 @@
 pub mod Audits
+pub mod Feeding
+pub mod HeldOctets
+pub mod Holding
 pub mod Narration
 pub mod Packings
 pub mod Reports

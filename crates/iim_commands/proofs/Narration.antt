@@ -1,5 +1,5 @@
 -- What `story` writes.
-use Rattle.std.proofs.Common.{◌≡◌, ℕ, ◌+◌, ◌<◌, ◌≤◌, inl, inr, refl, sym, ap, subst, ◌∙◌, arith, List, [], ◌∷◌, ◌++◌, length, map, take, append-nil, append_assoc, Option, None, Some, Ok, Err}
+use Rattle.std.proofs.Common.{◌≡◌, ℕ, ◌+◌, ◌<◌, ◌≤◌, inl, inr, refl, sym, ap, subst, ◌∙◌, arith, List, [], ◌∷◌, ◌++◌, length, map, take, append-nil, append_assoc, Option, None, Some, Result, Ok, Err, IfErr, OnOk, is_err, false}
 use Rattle.std.proofs.Math.Seq.{take-length}
 use Rattle.std.proofs.lemmas.List.{take-append-le}
 use Rattle.std.specs.Io.KnownBytes.{Appends}
@@ -15,8 +15,11 @@ use Rattle.wire_message.specs.Format.Layers.{text_so_far}
 use Rattle.wire_message.specs.declared.place.Place.TheVariants.{AfterEnd}
 use Rattle.wire_story.specs.Format.Delivery.{StoryEvent, delivered, octet_for}
 use Rattle.wire_story.specs.Format.Laws.{LinesAreJoinedByLineFeeds, TextsAreDeliveredAsLines}
-use Rattle.wire_story.specs.Format.Writing.{HasBroken, WritesLines, WritesOn, device_of, stops_of}
-use Rattle.wire_story.specs.declared.writer.LineWriter.{LineWriter}
+use Rattle.wire_story.specs.Format.Writing.{HasBroken}
+use Rattle.iim_commands.specs.Format.Holding.{HoldsNothing, PutsLines, PutsOn, StaysStuck, device_of, held_of, stops_of}
+use Rattle.iim_commands.specs.HoldingLaws.{puts_on}
+use Rattle.iim_commands.proofs.Holding.{puts_of_stuck}
+use Rattle.iim_commands.specs.declared.block_writer.BlockWriter.{BlockWriter}
 use Rattle.iim_unpack.specs.Format.Admitted.{object_of}
 use Rattle.iim_unpack.specs.Format.Open.{object_so_far}
 use Rattle.iim_unpack.specs.declared.refusal.Refusal.{Refusal}
@@ -28,14 +31,14 @@ use Rattle.iim_commands.specs.Format.Lines.{ending_line, line_of, status_of, tex
 use Rattle.iim_commands.specs.Format.Listings.{limits, IsDelivered}
 use Rattle.iim_unpack.specs.Format.Listing.{joined, max_envelopes, InputEnding, EndsBy, Listed, IsListed, IsRefusedAfter, RefusedBy}
 use Rattle.iim_commands.specs.Format.Narration.{EnvelopesAreDeliveredAsLines, IsTextIn, IsUnnarrated, LeavesText, Narrated, stories, story_of, text_of}
-use Rattle.iim_commands.specs.Narration.{IsUnended}
+use Rattle.iim_commands.specs.Narration.{IsHeldBack, IsUnended}
 use Rattle.iim_commands.specs.Format.Reports.{IsUnsaid}
 use Rattle.iim_commands.specs.declared.coming.Next.{Next}
 use Rattle.iim_commands.specs.declared.coming.Next.TheVariants as next
 use Rattle.iim_commands.specs.declared.fault.CommandFault.{CommandFault}
 use Rattle.iim_commands.specs.declared.fault.CommandFault.TheVariants.{CannotRead, CannotWrite, OutOfMemory}
 use Rattle.iim_commands.proofs.Reports.{AreTaken, consumes_holds, divides, given_then, missed_then, none_taken, taken_more, text_after}
-use Rattle.iim_commands.proofs.Taken.{come_as, no_text, refusal_as}
+use Rattle.iim_commands.proofs.Taken.{come_as, no_text}
 
 -- ---- what is delivered of an envelope
 
@@ -58,9 +61,16 @@ envelope_text law joins e more is d = ap (λ (events : List StoryEvent). map oct
 
 -- ---- what a writer of lines leaves
 
-pub wrote_by : {W : Type 0} (state : W → Device) (a b : LineWriter W) (more : List StoryEvent) → stops_of a ≡ 0 → stops_of b ≡ stops_of a → WritesLines state a more b
-    → Wrote (device_of state a) (device_of state b) (map octet_for more)
-wrote_by state a b more none same w = (w.octets, (w.unbroken same (omega (arith, none, same)), w.interruptions))
+-- nothing was held before nor is after, so the text is out
+pub wrote_by : {W : Type 0} (state : W → Device) (a d : BlockWriter W) (text : List ℕ) → HoldsNothing a → HoldsNothing d → stops_of a ≡ 0 → stops_of d ≡ stops_of a → PutsOn state a d text
+    → Wrote (device_of state a) (device_of state d) text
+wrote_by state a d text before after none same w =
+    let is : text ≡ w.out = sym (ap (λ (t : List ℕ). t ++ text) before) ∙ w.parts ∙ ap (λ (t : List ℕ). w.out ++ t) after ∙ append-nil w.out in
+    subst (Wrote (device_of state a) (device_of state d)) (sym is) (w.writes.octets, (w.writes.unbroken same (omega (arith, none, same)), w.writes.interruptions))
+
+-- nothing was held before: a front of the text is out
+pub front_of : {W : Type 0} (state : W → Device) (a d : BlockWriter W) (text : List ℕ) → HoldsNothing a → (w : PutsOn state a d text) → text ≡ w.out ++ held_of d
+front_of state a d text before w = sym (ap (λ (t : List ℕ). t ++ text) before) ∙ w.parts
 
 appends_on : (a b c : Option (List ℕ)) (xs ys : List ℕ) → Appends a b xs → Appends b c ys → Appends a c (xs ++ ys)
 appends_on None b c xs ys h k = tt
@@ -81,10 +91,11 @@ broken_after a b c f i (inl h) = inl (rose_after 1 a.failures b.failures c.failu
 broken_after a b c f i (inr h) = inr (rose_after max_interruptions a.interruptions b.interruptions c.interruptions i h)
 
 -- more is out, and then the device has broken
-broke_on : (a b c : Device) (i j : ℕ) (xs ys : List ℕ) → Wrote a b xs → WritesOn b c i j ys → i ≡ 0 → Rose i j → Appends a.octets c.octets (xs ++ ys) × HasBroken a c
-broke_on a b c i j xs ys out w none rose = (
-  appends_on a.octets b.octets c.octets xs ys out.0 w.octets,
-  broken_after a b c (omega (arith, out.1.0)) (omega (arith, out.1.1)) (w.broken (rises i j none rose)),
+broke_on : {W : Type 0} (state : W → Device) (old : Device) (a d : BlockWriter W) (xs text : List ℕ) → Wrote old (device_of state a) xs → (w : PutsOn state a d text) → stops_of a ≡ 0 → Rose (stops_of a) (stops_of d)
+    → Appends old.octets (device_of state d).octets (xs ++ w.out) × HasBroken old (device_of state d)
+broke_on state old a d xs text out w none rose = (
+  appends_on old.octets (device_of state a).octets (device_of state d).octets xs w.out out.0 w.writes.octets,
+  broken_after old (device_of state a) (device_of state d) (omega (arith, out.1.0)) (omega (arith, out.1.1)) (w.writes.broken (rises (stops_of a) (stops_of d) none rose)),
 )
 
 -- ---- the envelopes so far
@@ -103,16 +114,16 @@ none_narrated joins texts source old errors = record { envelopes = []; taken = n
 story_after : (es : List Listed) (e : Listed) (count : ℕ) → count ≡ length es → stories es ++ (text_of e ++ (10 ∷ [])) ≡ stories (es ++ e ∷ [])
 story_after es e count is = text_after story_of es e count is
 
-pub narrated_more : GiftsJoin → TextsJoin → (source mid rest old now then new errors_old errors_now errors_new : Device) (count : ℕ) (line : List ℕ) (e : Listed)
+pub narrated_more : GiftsJoin → TextsJoin → (source mid rest old now new errors_old errors_now errors_new : Device) (count : ℕ) (line : List ℕ) (e : Listed)
     → AreNarrated source mid old now errors_old errors_now count → IsListed limits e → HasGiven mid rest e.octets → (count ≡ max_envelopes → ⊥)
-    → Wrote now then (text_of e) → Wrote then new (10 ∷ []) → line ≡ line_of (count + 1) e → Wrote errors_now errors_new line
+    → Wrote now new (text_of e ++ (10 ∷ [])) → line ≡ line_of (count + 1) e → Wrote errors_now errors_new line
     → AreNarrated source rest old new errors_old errors_new (count + 1)
-narrated_more joins texts source mid rest old now then new errors_old errors_now errors_new count line e r is given below out ended words told = record {
+narrated_more joins texts source mid rest old now new errors_old errors_now errors_new count line e r is given below out words told = record {
   envelopes = r.envelopes ++ e ∷ [];
   taken = taken_more joins source mid rest count r.envelopes e r.taken is given below;
   out =
       subst (Wrote old new) (story_after r.envelopes e count r.taken.counted)
-      (texts.more old now new (stories r.envelopes) (text_of e ++ (10 ∷ [])) r.out (texts.more now then new (text_of e) (10 ∷ []) out ended));
+      (texts.more old now new (stories r.envelopes) (text_of e ++ (10 ∷ [])) r.out out);
   told =
       subst (Wrote errors_old errors_new) (ap (λ (w : List ℕ). texts_from line_of 1 r.envelopes ++ w) words ∙ text_after line_of r.envelopes e count r.taken.counted)
       (texts.more errors_old errors_now errors_new (texts_from line_of 1 r.envelopes) line r.told told);
@@ -173,13 +184,13 @@ whole_text law joins e more is d =
 
 -- ---- the output broke
 
-pub broke_in_text : GiftsJoin → (source mid rest old now new errors_old errors_new : Device) (i j count : ℕ) (begun : List ℕ) (k : ℕ) (before words more : List ℕ)
-    → AreNarrated source mid old now errors_old errors_new count → HasGiven mid rest begun → k ≤ length begun → (k ≡ length begun → (e : Listed) × IsListed limits e × (e.octets ≡ begun))
-    → IsTextIn (take k begun) words → before ++ more ≡ words → (then : Device) → Wrote now then before → TextsJoin → WritesOn then new i j more → i ≡ 0 → Rose i j
-    → IsUnnarrated source rest old new errors_old errors_new CannotWrite
-broke_in_text joins source mid rest old now new errors_old errors_new i j count begun k before words more r given within all is same then out texts w none rose =
+pub broke_in_text : {W : Type 0} (state : W → Device) → GiftsJoin → (source mid rest old errors_old errors_new : Device) (a d : BlockWriter W) (count : ℕ) (begun : List ℕ) (k : ℕ) (text more left : List ℕ)
+    → AreNarrated source mid old (device_of state a) errors_old errors_new count → HasGiven mid rest begun → k ≤ length begun → (k ≡ length begun → left ≡ [] → (e : Listed) × IsListed limits e × (e.octets ≡ begun))
+    → IsTextIn (take k begun) text → (w : PutsOn state a d more) → text ≡ w.out ++ left → stops_of a ≡ 0 → Rose (stops_of a) (stops_of d)
+    → IsUnnarrated source rest old (device_of state d) errors_old errors_new CannotWrite
+broke_in_text state joins source mid rest old errors_old errors_new a d count begun k text more left r given within all is w parts none rose =
     let es = r.envelopes in
-    let broke = broke_on old then new i j (stories es ++ before) more (texts.more old now then (stories es) before r.out out) w none rose in (
+    let broke = broke_on state old a d (stories es) more r.out w none rose in (
       joined es ++ begun,
       es,
       begun,
@@ -188,16 +199,42 @@ broke_in_text joins source mid rest old now new errors_old errors_new i j count 
       inl (
         (
           k,
-          words,
+          w.out,
+          left,
           within,
           all,
-          is,
-          subst (Appends old.octets new.octets) (append_assoc (stories es) before more ∙ ap (λ (w : List ℕ). stories es ++ w) same) broke.0,
+          subst (IsTextIn (take k begun)) parts is,
+          broke.0,
           broke.1,
         ),
         r.told,
       ),
     )
+
+no_more : (xs : List ℕ) → 0 < length xs → xs ≡ [] → ⊥
+no_more [] some none = absurd (omega (arith, some))
+no_more (x ∷ xs) some none = absurd cc
+
+rose_from : (i j k : ℕ) → j ≡ i → Rose j k → Rose i k
+rose_from i j k same rose = subst (λ (n : ℕ). Rose n k) same rose
+
+-- an LF was taken, and could not be let out
+pub unended_by : {W T : Type 0} (state : W → Device) (a b d : BlockWriter W) (r : Result T CommandFault) → PutsOn state a b (10 ∷ []) → stops_of b ≡ stops_of a → IfErr r (IsHeldBack state b d) → IfErr r (IsUnended state a d)
+unended_by state a b d (Ok x) puts same err = tt
+unended_by state a b d (Err fault) puts same (is, stuck) = (
+  is,
+  rose_from (stops_of a) (stops_of b) (stops_of d) same stuck.2,
+  inr (puts_on state a b d (10 ∷ []) [] puts (puts_of_stuck state b d [] stuck.0 stuck.2), stuck.1),
+)
+
+-- what was held of a text could not be let out
+pub held_back : {W : Type 0} (state : W → Device) → GiftsJoin → (source mid rest old errors_old errors_new : Device) (a b d : BlockWriter W) (count : ℕ) (begun : List ℕ) (k : ℕ) (text : List ℕ)
+    → AreNarrated source mid old (device_of state a) errors_old errors_new count → HasGiven mid rest begun → k ≤ length begun → IsTextIn (take k begun) text
+    → HoldsNothing a → stops_of a ≡ 0 → stops_of b ≡ stops_of a → PutsOn state a b text → StaysStuck state b d → IsUnnarrated source rest old (device_of state d) errors_old errors_new CannotWrite
+held_back state joins source mid rest old errors_old errors_new a b d count begun k text r given within is empty none same w stuck =
+    let all : PutsOn state a d text = subst (PutsOn state a d) (append-nil text) (puts_on state a b d text [] w (puts_of_stuck state b d [] stuck.0 stuck.2)) in
+    broke_in_text state joins source mid rest old errors_old errors_new a d count begun k text text (held_of d) r given within (λ whole nothing. absurd (no_more (held_of d) stuck.1 nothing)) is all
+    (front_of state a d text empty all) none (rose_from (stops_of a) (stops_of b) (stops_of d) same stuck.2)
 
 -- ---- the errors broke
 
@@ -225,15 +262,15 @@ broke_in_lines joins texts source mid rest old now new errors_old errors_now err
     )
 
 -- inside the line of an envelope whose story is out
-pub broke_in_line : GiftsJoin → TextsJoin → (source mid rest old now then new errors_old errors_now errors_new : Device) (count : ℕ) (line : List ℕ) (e : Listed) (fault : CommandFault)
+pub broke_in_line : GiftsJoin → TextsJoin → (source mid rest old now new errors_old errors_now errors_new : Device) (count : ℕ) (line : List ℕ) (e : Listed) (fault : CommandFault)
     → AreNarrated source mid old now errors_old errors_now count → IsListed limits e → HasGiven mid rest e.octets → (count ≡ max_envelopes → ⊥)
-    → Wrote now then (text_of e) → Wrote then new (10 ∷ []) → line ≡ line_of (count + 1) e → IsUnsaid errors_now errors_new line fault
+    → Wrote now new (text_of e ++ (10 ∷ [])) → line ≡ line_of (count + 1) e → IsUnsaid errors_now errors_new line fault
     → IsUnnarrated source rest old new errors_old errors_new fault
-broke_in_line joins texts source mid rest old now then new errors_old errors_now errors_new count line e fault r is given below out ended words unsaid =
+broke_in_line joins texts source mid rest old now new errors_old errors_now errors_new count line e fault r is given below out words unsaid =
     let es = r.envelopes ++ e ∷ [] in
     let lines = texts_from line_of 1 r.envelopes in
     let t = taken_more joins source mid rest count r.envelopes e r.taken is given below in
-    let all = texts.more old now new (stories r.envelopes) (text_of e ++ (10 ∷ [])) r.out (texts.more now then new (text_of e) (10 ∷ []) out ended) in
+    let all = texts.more old now new (stories r.envelopes) (text_of e ++ (10 ∷ [])) r.out out in
     rw unsaid.0 (
       joined es ++ [],
       es,
@@ -252,10 +289,10 @@ broke_in_line joins texts source mid rest old now then new errors_old errors_now
 
 -- ---- nothing comes next
 
-pub unfed : {W : Type 0} (state : W → Device) → GiftsJoin → TextsJoin → (source mid rest old errors_old errors_new : Device) (a b : LineWriter W) (count : ℕ) (fault : CommandFault)
-    → AreNarrated source mid old (device_of state a) errors_old errors_new count → stops_of a ≡ 0 → IsCalm (stops_of a) (stops_of b) (Err fault)
-    → IsNext (WritesLines state) stops_of mid rest a b (Err fault) → IsUnnarrated source rest old (device_of state b) errors_old errors_new fault
-unfed state joins texts source mid rest old errors_old errors_new a b count CannotRead r none calm c = (
+pub unfed : {W : Type 0} (state : W → Device) → GiftsJoin → TextsJoin → (source mid rest old errors_old errors_new : Device) (a b : BlockWriter W) (count : ℕ) (fault : CommandFault)
+    → AreNarrated source mid old (device_of state a) errors_old errors_new count → HoldsNothing a → stops_of a ≡ 0 → IsCalm (stops_of a) (stops_of b) (Err fault)
+    → IsNext (PutsLines state) stops_of HoldsNothing (StaysStuck state) mid rest a b (Err fault) → IsUnnarrated source rest old (device_of state b) errors_old errors_new fault
+unfed state joins texts source mid rest old errors_old errors_new a b count CannotRead r empty none calm (c, settled) = (
   joined r.envelopes ++ c.octets,
   r.envelopes,
   c.octets,
@@ -265,66 +302,116 @@ unfed state joins texts source mid rest old errors_old errors_new a b count Cann
   c.is_open,
   missed_then source mid rest (joined r.envelopes) c.octets c.fault r.taken.given c.missed,
   (c.more, c.delivered, refl),
-  texts.more old (device_of state a) (device_of state b) (stories r.envelopes) (map octet_for c.more) r.out (wrote_by state a b c.more none calm c.told),
+  texts.more old (device_of state a) (device_of state b) (stories r.envelopes) (map octet_for c.more) r.out (wrote_by state a b (map octet_for c.more) empty settled none calm c.told),
   r.told,
 )
-unfed state joins texts source mid rest old errors_old errors_new a b count CannotWrite r none calm u =
-    broke_in_text joins source mid rest old (device_of state a) (device_of state b) errors_old errors_new (stops_of a) (stops_of b) count u.octets u.k [] (map octet_for u.more) (map octet_for u.more)
-    r u.came.given (omega (arith, u.within)) (λ all. absurd (omega (arith, all, u.within))) (u.more, u.delivered, refl) refl (device_of state a) (texts.none (device_of state a)) texts u.came.told none u.rose
-unfed state joins texts source mid rest old errors_old errors_new a b count OutOfMemory r none calm c =
+unfed state joins texts source mid rest old errors_old errors_new a b count CannotWrite r empty none calm (inl u) =
+    broke_in_text state joins source mid rest old errors_old errors_new a b count u.octets u.k (map octet_for u.more) (map octet_for u.more) (held_of b)
+    r u.came.given (omega (arith, u.within)) (λ all nothing. absurd (omega (arith, all, u.within))) (u.more, u.delivered, refl) u.came.told (front_of state a b (map octet_for u.more) empty u.came.told) none u.rose
+unfed state joins texts source mid rest old errors_old errors_new a b count CannotWrite r empty none calm (inr u) =
+    let w : PutsOn state a b (map octet_for u.more) =
+    subst (PutsOn state a b) (append-nil (map octet_for u.more)) (puts_on state a u.told b (map octet_for u.more) [] u.came.told (puts_of_stuck state u.told b [] u.holds_back.0 u.holds_back.2)) in
+    broke_in_text state joins source mid rest old errors_old errors_new a b count u.octets (length u.octets) (map octet_for u.more) (map octet_for u.more) (held_of b)
+    r u.came.given (omega arith) (λ all nothing. absurd (no_more (held_of b) u.holds_back.1 nothing))
+    (subst (λ (octets : List ℕ). IsTextIn octets (map octet_for u.more)) (sym (take-length u.octets)) (u.more, u.delivered, refl)) w (front_of state a b (map octet_for u.more) empty w) none
+    (rose_from (stops_of a) (stops_of u.told) (stops_of b) u.calm u.holds_back.2)
+unfed state joins texts source mid rest old errors_old errors_new a b count OutOfMemory r empty none calm c =
     unfed_for_memory joins texts source mid rest old (device_of state a) (device_of state b) errors_old errors_new count [] 0 [] r
     (subst (λ (d : Device). HasGiven mid d []) (sym c.0) (joins.none mid)) ([], ([], no_text, refl), refl)
-    (subst (λ (w : LineWriter _). Wrote (device_of state a) (device_of state w) []) (sym c.1) (texts.none (device_of state a)))
+    (subst (λ (w : BlockWriter _). Wrote (device_of state a) (device_of state w) []) (sym c.1) (texts.none (device_of state a)))
 
 -- ---- refused octets
 
+pub refused_within : (octets : List ℕ) (k : ℕ) (f : Refusal) → IsRefusedAfter limits octets k f → k ≤ length octets
+refused_within octets k f (inl t) = omega (arith, t.1)
+refused_within octets k f (inr d) = omega (arith, d.within)
+
 -- what is written of refused octets that came, and of all that stands after the envelopes
-pub text_refused : {W : Type 0} (state : W → Device) (mid rest : Device) (a b : LineWriter W) (e : Refusal) (r : IsRefusal (WritesLines state) mid rest a b e) (more : List ℕ)
+pub text_refused : {W : Type 0} (state : W → Device) (mid rest : Device) (a b : BlockWriter W) (e : Refusal) (r : IsRefusal (PutsLines state) mid rest a b e) (more : List ℕ)
     → IsRefusedAfter limits (r.octets ++ more) r.k e → LeavesText (r.octets ++ more) (RefusedBy e) (map octet_for r.more)
 text_refused state mid rest a b e r more is =
     (r.k, is, subst (λ (octets : List ℕ). IsTextIn octets (map octet_for r.more)) (sym (take-append-le r.k r.octets more (refused_within r.octets r.k e r.refused))) (r.more, r.delivered, refl))
-  where
-    refused_within : (octets : List ℕ) (k : ℕ) (f : Refusal) → IsRefusedAfter limits octets k f → k ≤ length octets
-    refused_within octets k f (inl t) = omega (arith, t.1)
-    refused_within octets k f (inr d) = omega (arith, d.within)
 
--- ---- what came, and is out
+-- ---- what came, and is taken
 
--- An envelope came, its text is out, and the writer of lines has not stopped.
-pub record TextIsOut {W : Type 0} (state : W → Device) (mid rest : Device) (a b : LineWriter W) (got : Unpacked) (octets : ℕ) : Type 0 where
-  pub come : EnvelopeHasCome (WritesLines state) mid rest a b got octets
-  pub out : Wrote (device_of state a) (device_of state b) (text_of come.envelope)
+-- An envelope came, its text is taken, and the writer has not stopped.
+pub record TextIsTaken {W : Type 0} (state : W → Device) (mid rest : Device) (a b : BlockWriter W) (got : Unpacked) (octets : ℕ) : Type 0 where
+  pub come : EnvelopeHasCome (PutsLines state) mid rest a b got octets
+  pub text : PutsOn state a b (text_of come.envelope)
   pub whole : IsTextIn (take (length come.envelope.octets) come.envelope.octets) (text_of come.envelope)
-  pub unbroken : stops_of b ≡ 0
 
-pub text_out : {W : Type 0} (state : W → Device) → EnvelopesAreDeliveredAsLines → LinesAreJoinedByLineFeeds → (mid rest : Device) (a b : LineWriter W) (x : Next) (got : Unpacked) (octets : ℕ)
-    → x ≡ next.Envelope got octets → stops_of a ≡ 0 → IsCalm (stops_of a) (stops_of b) (Ok x) → IsNext (WritesLines state) stops_of mid rest a b (Ok x)
-    → TextIsOut state mid rest a b got octets
-text_out state law joins mid rest a b x got octets is none calm n =
-    let h = come_as (WritesLines state) stops_of mid rest a b x got octets is n in
+pub text_taken : {W : Type 0} (state : W → Device) → EnvelopesAreDeliveredAsLines → LinesAreJoinedByLineFeeds → (mid rest : Device) (a b : BlockWriter W) (x : Next) (got : Unpacked) (octets : ℕ)
+    → x ≡ next.Envelope got octets → IsNext (PutsLines state) stops_of HoldsNothing (StaysStuck state) mid rest a b (Ok x) → TextIsTaken state mid rest a b got octets
+text_taken state law joins mid rest a b x got octets is n =
+    let h = come_as (PutsLines state) stops_of HoldsNothing (StaysStuck state) mid rest a b x got octets is n in
     record {
       come = h;
-      out = subst (Wrote (device_of state a) (device_of state b)) (envelope_text law joins h.envelope h.more h.is h.delivered) (wrote_by state a b h.more none calm h.came.told);
+      text = subst (PutsOn state a b) (envelope_text law joins h.envelope h.more h.is h.delivered) h.came.told;
       whole = whole_text law joins h.envelope h.more h.is h.delivered;
-      unbroken = calm ∙ none;
     }
 
--- Octets came that are refused, and what is delivered of those before the refused one is out.
-pub record FrontIsOut {W : Type 0} (state : W → Device) (mid rest : Device) (a b : LineWriter W) (e : Refusal) : Type 0 where
-  pub refused : IsRefusal (WritesLines state) mid rest a b e
-  pub out : Wrote (device_of state a) (device_of state b) (map octet_for refused.more)
+-- and then all that was held is let out
+pub text_out : {W : Type 0} (state : W → Device) (a b d : BlockWriter W) (text : List ℕ) → HoldsNothing a → stops_of a ≡ 0 → stops_of b ≡ stops_of a → PutsOn state a b text
+    → PutsOn state b d [] → HoldsNothing d → stops_of d ≡ stops_of b → Wrote (device_of state a) (device_of state d) text
+text_out state a b d text empty none calm w out nothing same =
+    wrote_by state a d text empty nothing none (same ∙ calm) (subst (PutsOn state a d) (append-nil text) (puts_on state a b d text [] w out))
 
-pub front_out : {W : Type 0} (state : W → Device) (mid rest : Device) (a b : LineWriter W) (x : Next) (e : Refusal) → x ≡ next.Refused e → stops_of a ≡ 0
-    → IsCalm (stops_of a) (stops_of b) (Ok x) → IsNext (WritesLines state) stops_of mid rest a b (Ok x) → FrontIsOut state mid rest a b e
-front_out state mid rest a b x e is none calm n =
-    let h = refusal_as (WritesLines state) stops_of mid rest a b x e is n in
-    record { refused = h; out = wrote_by state a b h.more none calm h.came.told }
+-- with an LF after it
+pub story_out : {W : Type 0} (state : W → Device) (a b d : BlockWriter W) (text : List ℕ) → HoldsNothing a → stops_of a ≡ 0 → stops_of b ≡ stops_of a → PutsOn state a b text
+    → PutsOn state b d (10 ∷ []) → HoldsNothing d → stops_of d ≡ stops_of b → Wrote (device_of state a) (device_of state d) (text ++ (10 ∷ []))
+story_out state a b d text empty none calm w out nothing same =
+    wrote_by state a d (text ++ (10 ∷ [])) empty nothing none (same ∙ calm) (puts_on state a b d text (10 ∷ []) w out)
 
--- the LF after the text of an envelope was refused
-pub unended_text : {W : Type 0} (state : W → Device) → GiftsJoin → TextsJoin → (source mid rest old errors_old errors_new : Device) (a b d : LineWriter W) (count : ℕ) (got : Unpacked) (octets : ℕ) (fault : CommandFault)
-    → AreNarrated source mid old (device_of state a) errors_old errors_new count → TextIsOut state mid rest a b got octets → IsUnended state b d fault
+-- all of a list but its last, where some is left
+but_last : (xs out rest : List ℕ) (x : ℕ) → xs ++ (x ∷ []) ≡ out ++ rest → 0 < length rest → (left : List ℕ) × (xs ≡ out ++ left)
+but_last xs [] rest x is some = (xs, refl)
+but_last [] (o ∷ []) [] x is some = absurd (omega (arith, some))
+but_last [] (o ∷ []) (r ∷ rest) x is some = absurd cc
+but_last [] (o ∷ p ∷ out) rest x is some = absurd cc
+but_last (y ∷ xs) (o ∷ out) rest x is some =
+    let tail : xs ++ (x ∷ []) ≡ out ++ rest = cc in
+    let less = but_last xs out rest x tail some in
+    (less.0, (let head : y ≡ o = cc in ap (λ (z : ℕ). z ∷ xs) head ∙ ap (λ (t : List ℕ). o ∷ t) less.1))
+
+-- the LF after the text of an envelope is not out
+pub unended_text : {W : Type 0} (state : W → Device) → GiftsJoin → (source mid rest old errors_old errors_new : Device) (a b d : BlockWriter W) (count : ℕ) (got : Unpacked) (octets : ℕ) (fault : CommandFault)
+    → AreNarrated source mid old (device_of state a) errors_old errors_new count → HoldsNothing a → stops_of a ≡ 0 → stops_of b ≡ stops_of a → TextIsTaken state mid rest a b got octets → IsUnended state b d fault
     → IsUnnarrated source rest old (device_of state d) errors_old errors_new fault
-unended_text state joins texts source mid rest old errors_old errors_new a b d count got octets fault r t u =
+unended_text state joins source mid rest old errors_old errors_new a b d count got octets fault r empty none calm t (is, rose, inl u) =
     let e = t.come.envelope in
-    rw u.0 (broke_in_text joins source mid rest old (device_of state a) (device_of state d) errors_old errors_new (stops_of b) (stops_of d) count e.octets (length e.octets) (text_of e) (text_of e) []
-    r t.come.came.given (omega arith) (λ all. (e, t.come.is, refl)) t.whole (append-nil (text_of e)) (device_of state b) t.out texts u.1 t.unbroken u.2)
+    let w : PutsOn state a d (text_of e) = subst (PutsOn state a d) (append-nil (text_of e)) (puts_on state a b d (text_of e) [] t.text u) in
+    rw is (broke_in_text state joins source mid rest old errors_old errors_new a d count e.octets (length e.octets) (text_of e) (text_of e) (held_of d)
+    r t.come.came.given (omega arith) (λ all nothing. (e, t.come.is, refl)) t.whole w (front_of state a d (text_of e) empty w) none (rose_from (stops_of a) (stops_of b) (stops_of d) calm rose))
+unended_text state joins source mid rest old errors_old errors_new a b d count got octets fault r empty none calm t (is, rose, inr u) =
+    let e = t.come.envelope in
+    let w : PutsOn state a d (text_of e ++ (10 ∷ [])) = puts_on state a b d (text_of e) (10 ∷ []) t.text u.0 in
+    let less = but_last (text_of e) w.out (held_of d) 10 (front_of state a d (text_of e ++ (10 ∷ [])) empty w) u.1 in
+    rw is (broke_in_text state joins source mid rest old errors_old errors_new a d count e.octets (length e.octets) (text_of e) (text_of e ++ (10 ∷ [])) less.0
+    r t.come.came.given (omega arith) (λ all nothing. (e, t.come.is, refl)) t.whole w less.1 none (rose_from (stops_of a) (stops_of b) (stops_of d) calm rose))
+
+-- what was added where memory was not refused
+pub pushed : {E : Type 0} (r : Result (Unit {0}) E) (P : Type 0) → is_err r ≡ false → OnOk r P → P
+pushed (Ok x) P fine is = is
+pushed (Err e) P fine is = absurd cc
+
+-- memory was short before anything was read
+pub nothing_told : GiftsJoin → TextsJoin → (source old new errors : Device) → new ≡ old → IsUnnarrated source source old new errors errors OutOfMemory
+nothing_told joins texts source old new errors same = (
+  [],
+  [],
+  [],
+  0,
+  [],
+  record { admitted = tt; parts = refl; few = omega arith },
+  joins.none source,
+  ([], ([], no_text, refl), refl),
+  subst (λ (d : Device). Wrote old d []) (sym same) (texts.none old),
+  texts.none errors,
+)
+
+-- what was held could not be let out, as it is answered
+pub held_back_as : {W : Type 0} (state : W → Device) → GiftsJoin → (source mid rest old errors_old errors_new : Device) (a b d : BlockWriter W) (count : ℕ) (begun : List ℕ) (k : ℕ) (text : List ℕ) (fault : CommandFault)
+    → AreNarrated source mid old (device_of state a) errors_old errors_new count → HasGiven mid rest begun → k ≤ length begun → IsTextIn (take k begun) text
+    → HoldsNothing a → stops_of a ≡ 0 → stops_of b ≡ stops_of a → PutsOn state a b text → IsHeldBack state b d fault → IsUnnarrated source rest old (device_of state d) errors_old errors_new fault
+held_back_as state joins source mid rest old errors_old errors_new a b d count begun k text fault r given within is empty none same w back =
+    rw back.0 (held_back state joins source mid rest old errors_old errors_new a b d count begun k text r given within is empty none same w back.1)

@@ -1,5 +1,5 @@
 -- Reports of inputs.
-use Rattle.std.proofs.Common.{◌≡◌, ℕ, ◌+◌, ◌≤◌, inl, inr, refl, sym, ap, subst, ◌∙◌, arith, List, [], ◌∷◌, ◌++◌, length, take, slice_index, length-append, append_assoc, Option, None, Some, Err}
+use Rattle.std.proofs.Common.{◌≡◌, ℕ, ◌+◌, ◌≤◌, inl, inr, refl, sym, ap, subst, ◌∙◌, arith, List, [], ◌∷◌, ◌++◌, length, take, slice_index, length-append, append_assoc, Option, None, Some, Result, Ok, Err, IfOk, IfErr}
 use Rattle.std.specs.List.{AllByRecursion}
 use Rattle.std.proofs.Math.ListN.{get_or-append}
 use Rattle.std.proofs.lemmas.List.{append-nil, take-append-le}
@@ -9,16 +9,22 @@ use Rattle.iim_dataset.specs.Format.DeviceLaws.{GiftsJoin, HasGiven, MissedAfter
 use Rattle.iim_dataset.specs.declared.device.IoFault.{IoFault}
 use Rattle.iim_dataset.proofs.DeviceLaws.{broke_for_later}
 use Rattle.wire_story.specs.Format.Delivery.{StoryEvent}
-use Rattle.wire_story.specs.declared.discard.Discard.{Discard}
 use Rattle.iim_unpack.specs.Format.Streams.{Kills}
 use Rattle.iim_unpack.proofs.Listings.{admitted_more, joined_more}
 use Rattle.iim_unpack.specs.declared.refusal.Refusal.{Refusal}
-use Rattle.iim_commands.specs.Format.Coming.{IsNext, IsRefusal, IsUnheard}
+use Rattle.iim_commands.specs.Format.Coming.{IsNext, IsRefusal}
+use Rattle.iim_commands.specs.Format.Holding.{HasPut, HoldsNothing, device_of}
+use Rattle.iim_commands.specs.Format.Silence.{IsSettled, IsStuck, PassesOver, refuses_never}
+use Rattle.iim_commands.specs.HoldingLaws.{put_nothing, put_on}
+use Rattle.iim_commands.specs.Listing.{IsUnadded, IsUnlisted, Settles}
+use Rattle.iim_commands.specs.declared.block_writer.BlockWriter.{BlockWriter}
+use Rattle.iim_commands.specs.declared.silent.Silent.{Silent}
+use Rattle.iim_commands.proofs.Holding.{all_out, cut_by_stuck, cut_on, stopped_in}
 use Rattle.iim_commands.specs.Format.Devices.{HasOctets}
 use Rattle.iim_commands.specs.Format.Lines.{ending_line, status_of, texts_from}
 use Rattle.iim_commands.specs.Format.Listings.{limits}
 use Rattle.iim_unpack.specs.Format.Listing.{joined, max_envelopes, Divides, InputEnding, EndsBy, Listed, IsDeadAfter, IsListed, IsRefusedAfter}
-use Rattle.iim_commands.specs.Format.Reports.{IsUnreported, IsUnsaid, Reported}
+use Rattle.iim_commands.specs.Format.Reports.{IsUnreported, Reported}
 use Rattle.iim_commands.specs.declared.fault.CommandFault.{CommandFault}
 use Rattle.iim_commands.specs.declared.fault.CommandFault.TheVariants.{CannotRead, CannotWrite, OutOfMemory}
 
@@ -45,17 +51,26 @@ pub record AreTaken (source rest : Device) (count : ℕ) (envelopes : List Liste
   pub counted : count ≡ length envelopes
   pub few : count ≤ max_envelopes
 
--- and this text of each of them is out
-pub record AreReported (text : ℕ → Listed → List ℕ) (source rest old new : Device) (count : ℕ) : Type 0 where
+-- and this text of each of them was taken
+pub record AreReported {W : Type 0} (state : W → Device) (text : ℕ → Listed → List ℕ) (source rest : Device) (old new : BlockWriter W) (count : ℕ) : Type 0 where
   pub envelopes : List Listed
   pub taken : AreTaken source rest count envelopes
-  pub out : Wrote old new (texts_from text 1 envelopes)
+  pub put : HasPut state old new (texts_from text 1 envelopes)
 
 pub none_taken : GiftsJoin → (source : Device) → AreTaken source source 0 []
 none_taken joins source = record { admitted = tt; given = joins.none source; counted = refl; few = omega arith }
 
-pub none_reported : GiftsJoin → TextsJoin → (text : ℕ → Listed → List ℕ) (source old : Device) → AreReported text source source old old 0
-none_reported joins texts text source old = record { envelopes = []; taken = none_taken joins source; out = texts.none old }
+pub none_reported : {W : Type 0} (state : W → Device) → GiftsJoin → (text : ℕ → Listed → List ℕ) (source : Device) (old : BlockWriter W) → AreReported state text source source old old 0
+none_reported state joins text source old = record { envelopes = []; taken = none_taken joins source; put = put_nothing state old }
+
+-- some of it was let out
+pub reported_out : {W : Type 0} (state : W → Device) (text : ℕ → Listed → List ℕ) (source rest : Device) (old now new : BlockWriter W) (count : ℕ) → AreReported state text source rest old now count → HasPut state now new []
+    → AreReported state text source rest old new count
+reported_out state text source rest old now new count r out = record {
+  envelopes = r.envelopes;
+  taken = r.taken;
+  put = subst (HasPut state old new) (append-nil (texts_from text 1 r.envelopes)) (put_on state old now new (texts_from text 1 r.envelopes) [] r.put out);
+}
 
 pub taken_more : GiftsJoin → (source mid rest : Device) (count : ℕ) (es : List Listed) (e : Listed) → AreTaken source mid count es → IsListed limits e
     → HasGiven mid rest e.octets → (count ≡ max_envelopes → ⊥) → AreTaken source rest (count + 1) (es ++ e ∷ [])
@@ -120,10 +135,10 @@ ends_refused goes mid rest a b e r = by_kind r.refused
 
 -- ---- the report is out
 
-pub reported : GiftsJoin → TextsJoin → (text : ℕ → Listed → List ℕ) (source mid rest old now new : Device) (count status : ℕ) (begun more line : List ℕ) (ending : InputEnding)
-    → AreReported text source mid old now count → HasGiven mid rest begun → HasOctets rest.octets more → EndsBy limits count (begun ++ more) ending
-    → status ≡ status_of ending → line ≡ ending_line count ending → Wrote now new line → Reported text source rest old new status
-reported joins texts text source mid rest old now new count status begun more line ending r given holds ends is words out =
+pub reported : {W : Type 0} (state : W → Device) → GiftsJoin → (text : ℕ → Listed → List ℕ) (source mid rest : Device) (old now new : BlockWriter W) (count status : ℕ) (begun more line : List ℕ) (ending : InputEnding)
+    → AreReported state text source mid old now count → HasGiven mid rest begun → HasOctets rest.octets more → EndsBy limits count (begun ++ more) ending
+    → status ≡ status_of ending → line ≡ ending_line count ending → HoldsNothing old → HasPut state now new line → HoldsNothing new → Reported text source rest (device_of state old) (device_of state new) status
+reported state joins text source mid rest old now new count status begun more line ending r given holds ends is words before put after =
     let es = r.envelopes in
     let all = given_then joins source mid rest count es begun r.taken given in (
       joined es ++ (begun ++ more),
@@ -137,20 +152,20 @@ reported joins texts text source mid rest old now new count status begun more li
         ends = subst (λ (n : ℕ). EndsBy limits n (begun ++ more) ending) r.taken.counted ends;
       },
       is,
-      subst (λ (w : List ℕ). Wrote old new (texts_from text 1 es ++ w)) (words ∙ ap (λ (n : ℕ). ending_line n ending) r.taken.counted)
-          (texts.more old now new (texts_from text 1 es) line r.out out),
+      subst (λ (w : List ℕ). Wrote (device_of state old) (device_of state new) (texts_from text 1 es ++ w)) (words ∙ ap (λ (n : ℕ). ending_line n ending) r.taken.counted)
+          (all_out state old new (texts_from text 1 es ++ line) before after (put_on state old now new (texts_from text 1 es) line r.put put)),
     )
 
--- an envelope more is out
-pub reported_more : GiftsJoin → TextsJoin → (text : ℕ → Listed → List ℕ) (source mid rest old now new : Device) (count : ℕ) (line : List ℕ) (e : Listed)
-    → AreReported text source mid old now count → IsListed limits e → HasGiven mid rest e.octets → (count ≡ max_envelopes → ⊥) → line ≡ text (count + 1) e
-    → Wrote now new line → AreReported text source rest old new (count + 1)
-reported_more joins texts text source mid rest old now new count line e r is given below words out = record {
+-- an envelope more is reported
+pub reported_more : {W : Type 0} (state : W → Device) → GiftsJoin → (text : ℕ → Listed → List ℕ) (source mid rest : Device) (old now new : BlockWriter W) (count : ℕ) (line : List ℕ) (e : Listed)
+    → AreReported state text source mid old now count → IsListed limits e → HasGiven mid rest e.octets → (count ≡ max_envelopes → ⊥) → line ≡ text (count + 1) e
+    → HasPut state now new line → AreReported state text source rest old new (count + 1)
+reported_more state joins text source mid rest old now new count line e r is given below words put = record {
   envelopes = r.envelopes ++ e ∷ [];
   taken = taken_more joins source mid rest count r.envelopes e r.taken is given below;
-  out =
-      subst (Wrote old new) (ap (λ (w : List ℕ). texts_from text 1 r.envelopes ++ w) words ∙ text_after text r.envelopes e count r.taken.counted)
-      (texts.more old now new (texts_from text 1 r.envelopes) line r.out out);
+  put =
+      subst (HasPut state old new) (ap (λ (w : List ℕ). texts_from text 1 r.envelopes ++ w) words ∙ text_after text r.envelopes e count r.taken.counted)
+      (put_on state old now new (texts_from text 1 r.envelopes) line r.put put);
 }
 
 -- ---- the report isn't out
@@ -165,84 +180,123 @@ pub missed_then : (a b c : Device) (xs ys : List ℕ) (fault : IoFault) → HasG
 missed_then a b c xs ys fault given missed =
     (consumes_on a.octets b.octets c.octets xs ys given.0 missed.0, broke_for_later a b c fault given.1 missed.1)
 
-pub starved : GiftsJoin → (text : ℕ → Listed → List ℕ) (source mid rest old new : Device) (count : ℕ) (begun : List ℕ)
-    → AreReported text source mid old new count → HasGiven mid rest begun → IsUnreported text source rest old new OutOfMemory
-starved joins text source mid rest old new count begun r given = (
+pub starved : {W : Type 0} (state : W → Device) → GiftsJoin → (text : ℕ → Listed → List ℕ) (source mid rest : Device) (old new : BlockWriter W) (count : ℕ) (begun : List ℕ)
+    → AreReported state text source mid old new count → HasGiven mid rest begun → IsUnlisted state text source rest old new OutOfMemory
+starved state joins text source mid rest old new count begun r given = (
   joined r.envelopes ++ begun,
   r.envelopes,
   begun,
   divides source mid count r.envelopes begun r.taken,
   given_then joins source mid rest count r.envelopes begun r.taken given,
-  r.out,
+  r.put,
 )
+
+rises : Rose 0 0 → ⊥
+rises (inl e) = omega (arith, e)
+rises (inr h) = omega (arith, h.0)
 
 -- nothing comes next
-pub failed : {S : Type 0} (goes : S → List StoryEvent → S → Type 0) (failures : S → ℕ) → GiftsJoin → (text : ℕ → Listed → List ℕ) (source mid rest old new : Device) (a b : S) (count : ℕ) (fault : CommandFault)
-    → AreReported text source mid old new count → (IsUnheard goes failures mid rest a b → ⊥) → IsNext goes failures mid rest a b (Err fault)
-    → IsUnreported text source rest old new fault
-failed goes failures joins text source mid rest old new a b count CannotRead r heard c = (
-  joined r.envelopes ++ c.octets,
-  r.envelopes,
-  c.octets,
-  c.fault,
-  divides source mid count r.envelopes c.octets r.taken,
-  c.is_open,
-  missed_then source mid rest (joined r.envelopes) c.octets c.fault r.taken.given c.missed,
-  r.out,
-)
-failed goes failures joins text source mid rest old new a b count CannotWrite r heard c = absurd (heard c)
-failed goes failures joins text source mid rest old new a b count OutOfMemory r heard c =
-    starved joins text source mid rest old new count [] r (subst (λ (d : Device). HasGiven mid d []) (sym c.0) (joins.none mid))
+pub failed : {W : Type 0} (state : W → Device) → GiftsJoin → TextsJoin → (text : ℕ → Listed → List ℕ) (source mid rest : Device) (old : BlockWriter W) (a b : Silent W) (count : ℕ) (fault : CommandFault)
+    → AreReported state text source mid old a.output count → HoldsNothing old → IsNext (PassesOver state) refuses_never IsSettled (IsStuck state) mid rest a b (Err fault)
+    → IsUnlisted state text source rest old b.output fault
+failed state joins texts text source mid rest old a b count CannotRead r empty (c, settled) =
+    let out = reported_out state text source mid old a.output b.output count r c.told in (
+      joined r.envelopes ++ c.octets,
+      r.envelopes,
+      c.octets,
+      c.fault,
+      divides source mid count r.envelopes c.octets r.taken,
+      c.is_open,
+      missed_then source mid rest (joined r.envelopes) c.octets c.fault r.taken.given c.missed,
+      all_out state old b.output (texts_from text 1 r.envelopes) empty settled
+          (subst (HasPut state old b.output) (append-nil (texts_from text 1 r.envelopes)) (put_on state old a.output b.output (texts_from text 1 r.envelopes) [] r.put c.told)),
+    )
+failed state joins texts text source mid rest old a b count CannotWrite r empty (inl u) = absurd (rises u.rose)
+failed state joins texts text source mid rest old a b count CannotWrite r empty (inr u) =
+    let words = texts_from text 1 r.envelopes in
+    let told : HasPut state old u.told.output words = subst (HasPut state old u.told.output) (append-nil words) (put_on state old a.output u.told.output words [] r.put u.came.told) in
+    let cut = cut_by_stuck state texts old u.told.output b.output words told u.holds_back in (
+      joined r.envelopes ++ u.octets,
+      r.envelopes,
+      u.octets,
+      words,
+      length cut.out,
+      divides source mid count r.envelopes u.octets r.taken,
+      given_then joins source mid rest count r.envelopes u.octets r.taken u.came.given,
+      inl refl,
+      stopped_in state old b.output words empty cut,
+    )
+failed state joins texts text source mid rest old a b count OutOfMemory r empty c =
+    subst (λ (w : Silent _). IsUnlisted state text source rest old w.output OutOfMemory) (sym c.1)
+    (starved state joins text source mid rest old a.output count [] r (subst (λ (d : Device). HasGiven mid d []) (sym c.0) (joins.none mid)))
 
 -- the output broke inside the last line
-pub unended : GiftsJoin → TextsJoin → (text : ℕ → Listed → List ℕ) (source mid rest old now new : Device) (count : ℕ) (begun line : List ℕ) (ending : InputEnding) (fault : CommandFault)
-    → AreReported text source mid old now count → HasGiven mid rest begun → EndsBy limits count begun ending → line ≡ ending_line count ending → IsUnsaid now new line fault
-    → IsUnreported text source rest old new fault
-unended joins texts text source mid rest old now new count begun line ending fault r given ends words unsaid =
+pub unended : {W : Type 0} (state : W → Device) → GiftsJoin → TextsJoin → (text : ℕ → Listed → List ℕ) (source mid rest : Device) (old now new : BlockWriter W) (count : ℕ) (begun line : List ℕ) (ending : InputEnding) (fault : CommandFault)
+    → AreReported state text source mid old now count → HoldsNothing old → HasGiven mid rest begun → EndsBy limits count begun ending → line ≡ ending_line count ending → IsUnadded state now new line fault
+    → IsUnlisted state text source rest old new fault
+unended state joins texts text source mid rest old now new count begun line ending fault r empty given ends words unsaid =
     let es = r.envelopes in
     let is : line ≡ ending_line (length es) ending = words ∙ ap (λ (n : ℕ). ending_line n ending) r.taken.counted in
+    let cut = cut_on state texts old now new (texts_from text 1 es) line r.put unsaid.1 in
     rw unsaid.0 (
       joined es ++ begun,
       es,
       begun,
       texts_from text 1 es ++ line,
-      length (texts_from text 1 es) + unsaid.1,
+      length cut.out,
       divides source mid count es begun r.taken,
       given_then joins source mid rest count es begun r.taken given,
       inr (ending, subst (λ (n : ℕ). EndsBy limits n begun ending) r.taken.counted ends, ap (λ (w : List ℕ). texts_from text 1 es ++ w) is),
-      texts.stopped old now new (texts_from text 1 es) line unsaid.1 r.out unsaid.2,
+      stopped_in state old new (texts_from text 1 es ++ line) empty cut,
     )
 
 -- the output broke inside the text of an envelope
-pub unsaid_of : GiftsJoin → TextsJoin → (text : ℕ → Listed → List ℕ) (source mid rest old now new : Device) (count : ℕ) (line : List ℕ) (e : Listed) (fault : CommandFault)
-    → AreReported text source mid old now count → IsListed limits e → HasGiven mid rest e.octets → (count ≡ max_envelopes → ⊥) → line ≡ text (count + 1) e
-    → IsUnsaid now new line fault → IsUnreported text source rest old new fault
-unsaid_of joins texts text source mid rest old now new count line e fault r is given below words unsaid =
+pub unsaid_of : {W : Type 0} (state : W → Device) → GiftsJoin → TextsJoin → (text : ℕ → Listed → List ℕ) (source mid rest : Device) (old now new : BlockWriter W) (count : ℕ) (line : List ℕ) (e : Listed) (fault : CommandFault)
+    → AreReported state text source mid old now count → HoldsNothing old → IsListed limits e → HasGiven mid rest e.octets → (count ≡ max_envelopes → ⊥) → line ≡ text (count + 1) e
+    → IsUnadded state now new line fault → IsUnlisted state text source rest old new fault
+unsaid_of state joins texts text source mid rest old now new count line e fault r empty is given below words unsaid =
     let es = r.envelopes ++ e ∷ [] in
     let t = taken_more joins source mid rest count r.envelopes e r.taken is given below in
+    let cut = cut_on state texts old now new (texts_from text 1 r.envelopes) line r.put unsaid.1 in
     rw unsaid.0 (
       joined es ++ [],
       es,
       [],
       texts_from text 1 r.envelopes ++ line,
-      length (texts_from text 1 r.envelopes) + unsaid.1,
+      length cut.out,
       divides source rest (count + 1) es [] t,
       subst (HasGiven source rest) (sym (append-nil (joined es))) t.given,
       inl (ap (λ (w : List ℕ). texts_from text 1 r.envelopes ++ w) words ∙ text_after text r.envelopes e count r.taken.counted),
-      texts.stopped old now new (texts_from text 1 r.envelopes) line unsaid.1 r.out unsaid.2,
+      stopped_in state old new (texts_from text 1 r.envelopes ++ line) empty cut,
     )
 
--- a sink that can't fail heard all
-rises : Rose 0 0 → ⊥
-rises (inl e) = omega (arith, e)
-rises (inr h) = omega (arith, h.0)
+-- ---- what was held is let out at the end
 
--- ---- what `Discard` tells
-abbrev pub discards : Discard → List StoryEvent → Discard → Type 0
-discards = λ old events new. new ≡ old
+pub settled_starved : {W : Type 0} (state : W → Device) → TextsJoin → (text : ℕ → Listed → List ℕ) (source rest : Device) (a b c : BlockWriter W) (answer result : Result ℕ CommandFault) → HoldsNothing a
+    → IfErr answer (IsUnlisted state text source rest a b) → Settles state b c answer result → IfErr result (IsUnreported text source rest (device_of state a) (device_of state c))
+settled_starved state texts text source rest a b c (Ok x) result empty err s = rw s.0 tt
+settled_starved state texts text source rest a b c (Err CannotRead) result empty err s =
+    rw s.0 (subst (λ (w : BlockWriter _). IsUnreported text source rest (device_of state a) (device_of state w) CannotRead) (sym s.1) err)
+settled_starved state texts text source rest a b c (Err CannotWrite) result empty err s =
+    rw s.0 (subst (λ (w : BlockWriter _). IsUnreported text source rest (device_of state a) (device_of state w) CannotWrite) (sym s.1) err)
+settled_starved state texts text source rest a b c (Err OutOfMemory) result empty (input, es, begun, divided, given, put) (inl s) =
+    let words = texts_from text 1 es in
+    rw s.0 (input, es, begun, divided, given, all_out state a c words empty s.2 (subst (HasPut state a c) (append-nil words) (put_on state a b c words [] put s.1)))
+settled_starved state texts text source rest a b c (Err OutOfMemory) result empty (input, es, begun, divided, given, put) (inr s) =
+    let words = texts_from text 1 es in
+    let cut = cut_by_stuck state texts a b c words put s.1 in
+    rw s.0 (input, es, begun, words, length cut.out, divided, given, inl refl, stopped_in state a c words empty cut)
 
-abbrev pub never_fails : Discard → ℕ
-never_fails = λ sink. 0
+pub settled_ok : {W : Type 0} (state : W → Device) (text : ℕ → Listed → List ℕ) (source rest : Device) (a b c : BlockWriter W) (answer result : Result ℕ CommandFault)
+    → IfOk answer (Reported text source rest (device_of state a) (device_of state b)) → Settles state b c answer result → IfOk result (Reported text source rest (device_of state a) (device_of state c))
+settled_ok state text source rest a b c (Ok x) result ok s =
+    rw s.0 (subst (λ (w : BlockWriter _). Reported text source rest (device_of state a) (device_of state w) x) (sym s.1) ok)
+settled_ok state text source rest a b c (Err CannotRead) result ok s = rw s.0 tt
+settled_ok state text source rest a b c (Err CannotWrite) result ok s = rw s.0 tt
+settled_ok state text source rest a b c (Err OutOfMemory) result ok (inl s) = rw s.0 tt
+settled_ok state text source rest a b c (Err OutOfMemory) result ok (inr s) = rw s.0 tt
 
-pub heard : (mid rest : Device) (a b : Discard) → IsUnheard discards never_fails mid rest a b → ⊥
-heard mid rest a b u = rises u.rose
+-- memory was short before anything was read
+pub nothing_listed : GiftsJoin → TextsJoin → (text : ℕ → Listed → List ℕ) (source old new : Device) → new ≡ old → IsUnreported text source source old new OutOfMemory
+nothing_listed joins texts text source old new same =
+    ([], [], [], record { admitted = tt; parts = refl; few = omega arith }, joins.none source, subst (λ (d : Device). Wrote old d []) (sym same) (texts.none old))

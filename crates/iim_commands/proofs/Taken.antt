@@ -1,5 +1,5 @@
 -- What an intake gives, of an unpacker that stands on no octets.
-use Rattle.std.proofs.Common.{◌≡◌, ◌≢◌, ◌⊎◌, ℕ, inl, inr, refl, sym, ap, subst, ◌∙◌, arith, List, [], ◌∷◌, length, take, Option, None, Some, Ok}
+use Rattle.std.proofs.Common.{◌≡◌, ◌≢◌, ◌⊎◌, ℕ, inl, inr, refl, sym, ap, subst, ◌∙◌, arith, Bool, true, false, List, [], ◌∷◌, length, take, Option, None, Some, Result, Ok, Err}
 use Rattle.std.proofs.Math.Seq.{take-length}
 use Rattle.iim_dataset.specs.Format.Datasets.{count_octets}
 use Rattle.iim_dataset.specs.Format.Devices.{Device}
@@ -16,15 +16,23 @@ use Rattle.wire_story.specs.Format.Delivery.{StoryEvent}
 use Rattle.iim_unpack.specs.Format.Framed.{AreWithin}
 use Rattle.iim_unpack.specs.declared.intake.IntakeFault.{IntakeFault}
 use Rattle.iim_unpack.specs.declared.intake.IntakeFault.TheVariants.{Refused, Read, Interrupted}
-use Rattle.iim_unpack.specs.Format.Intakes.{Faults, Gives, IsRefusedOf, IsTruncatedIn, WasGiven, WasMissed, WasRefused, WasTruncated}
+use Rattle.iim_unpack.specs.Format.Admitted.{Value, Admits}
+use Rattle.iim_unpack.specs.Format.Intakes.{Faults, HasFed, IsOfReader, IsRefusedOf, IsTruncatedIn, WasGiven, WasMissed, WasRefused, WasTruncated}
+use Rattle.iim_unpack.specs.Format.Value.{HasParts}
+use Rattle.iim_unpack.proofs.Intakes.{given_by}
 use Rattle.iim_unpack.specs.Format.Parts.{CountsFor}
 use Rattle.iim_unpack.specs.Format.Open.{Delivers, IsOpen, IsTextOf}
-use Rattle.iim_unpack.specs.Format.Unpacking.{Stands, Unpacking, limits_in}
+use Rattle.iim_unpack.specs.Format.Unpacking.{IsDoneWith, Stands, Unpacking, limits_in, raised}
 use Rattle.iim_unpack.specs.declared.refusal.Refusal.{Refusal}
 use Rattle.iim_unpack.specs.declared.refusal.Cause.{Cause}
 use Rattle.iim_unpack.specs.declared.refusal.Cause.TheVariants.{Sink, Truncated}
 use Rattle.iim_unpack.specs.declared.unpacker.Unpacked.{Unpacked}
-use Rattle.iim_commands.specs.Format.Coming.{CanAskForMore, EnvelopeHasCome, IsCutOff, IsNext, IsRefusal, IsUnheard}
+use Rattle.iim_commands.specs.Feeding.{FedAsWhole, HaltsBy, IsOfFault, IsOfHalt}
+use Rattle.iim_commands.specs.declared.fault.CommandFault.{CommandFault}
+use Rattle.iim_commands.specs.declared.fault.CommandFault.TheVariants.{CannotWrite}
+use Rattle.iim_commands.specs.Format.Coming.{CanAskForMore, EnvelopeHasCome, IsCalm, IsCutOff, IsHeldUp, IsNext, IsRefusal, IsUnheard}
+use Rattle.iim_commands.specs.declared.coming.Halt.{Halt}
+use Rattle.iim_commands.specs.declared.coming.Halt.TheVariants as halt
 use Rattle.iim_commands.specs.Format.Listings.{limits, IsDelivered}
 
 -- no octets are no datasets, and the beginning of a tag
@@ -150,11 +158,6 @@ pub refused_by : {S : Type 0} (goes : S → List StoryEvent → S → Type 0) (f
     → fault ≡ Refused e → Faults goes failures old new u a b kept fault → WasRefused goes failures old new u a b e ⊎ WasTruncated goes failures old new u a b e
 refused_by goes failures old new u a b kept fault e is f = (subst (λ (x : IntakeFault). Faults goes failures old new u a b kept x) is f).1
 
-pub given_as : {S : Type 0} (goes : S → List StoryEvent → S → Type 0) (old new : Device) (u : Unpacking) (a b : S) (used told : ℕ) (answer : Option Unpacked) (got : Unpacked)
-    → answer ≡ Some got → told ≡ used → Gives goes old new u a b used answer → WasGiven goes old new u a b told got
-given_as goes old new u a b used told answer got is same g =
-    subst (λ (n : ℕ). WasGiven goes old new u a b n got) (sym same) (subst (λ (x : Option Unpacked). Gives goes old new u a b used x) is g)
-
 -- the count of a sink that refused nothing
 pub calm_of : {S : Type 0} (goes : S → List StoryEvent → S → Type 0) (failures : S → ℕ) (old new : Device) (u : Unpacking) (a b : S) (e : Refusal)
     → e.cause ≢ Sink → WasRefused goes failures old new u a b e ⊎ WasTruncated goes failures old new u a b e → failures b ≡ failures a
@@ -169,17 +172,99 @@ cut_off_by goes failures old new u a b kept fault (inr is) same at f =
     is_cut_off goes failures old new u a b kept io.Interrupted same at (subst (λ (x : IntakeFault). Faults goes failures old new u a b kept x) is f)
 
 -- an envelope came
-pub come_as : {S : Type 0} (goes : S → List StoryEvent → S → Type 0) (failures : S → ℕ) (old new : Device) (a b : S) (x : Next) (got : Unpacked) (octets : ℕ)
-    → x ≡ Envelope got octets → IsNext goes failures old new a b (Ok x) → EnvelopeHasCome goes old new a b got octets
-come_as goes failures old new a b x got octets is n = subst (λ (y : Next). IsNext goes failures old new a b (Ok y)) is n
+pub come_as : {S : Type 0} (goes : S → List StoryEvent → S → Type 0) (failures : S → ℕ) (settled : S → Type 0) (stuck : S → S → Type 0) (old new : Device) (a b : S) (x : Next) (got : Unpacked) (octets : ℕ)
+    → x ≡ Envelope got octets → IsNext goes failures settled stuck old new a b (Ok x) → EnvelopeHasCome goes old new a b got octets
+come_as goes failures settled stuck old new a b x got octets is n = subst (λ (y : Next). IsNext goes failures settled stuck old new a b (Ok y)) is n
 
 pub lives_as : (failed : Option ℕ) (x : Next) (got : Unpacked) (octets : ℕ) → x ≡ Envelope got octets → CanAskForMore failed (Ok x) → failed ≡ None
 lives_as failed x got octets is n = subst (λ (y : Next). CanAskForMore failed (Ok y)) is n
 
-pub refusal_as : {S : Type 0} (goes : S → List StoryEvent → S → Type 0) (failures : S → ℕ) (old new : Device) (a b : S) (x : Next) (e : Refusal)
-    → x ≡ next.Refused e → IsNext goes failures old new a b (Ok x) → IsRefusal goes old new a b e
-refusal_as goes failures old new a b x e is n = subst (λ (y : Next). IsNext goes failures old new a b (Ok y)) is n
+pub refusal_as : {S : Type 0} (goes : S → List StoryEvent → S → Type 0) (failures : S → ℕ) (settled : S → Type 0) (stuck : S → S → Type 0) (old new : Device) (a b : S) (x : Next) (e : Refusal)
+    → x ≡ next.Refused e → IsNext goes failures settled stuck old new a b (Ok x) → IsRefusal goes old new a b e
+refusal_as goes failures settled stuck old new a b x e is n = subst (λ (y : Next). IsNext goes failures settled stuck old new a b (Ok y)) is n
 
-pub end_as : {S : Type 0} (goes : S → List StoryEvent → S → Type 0) (failures : S → ℕ) (old new : Device) (a b : S) (x : Next)
-    → x ≡ next.End → IsNext goes failures old new a b (Ok x) → HasGiven old new [] × IsAtEnd new.octets × (b ≡ a)
-end_as goes failures old new a b x is n = subst (λ (y : Next). IsNext goes failures old new a b (Ok y)) is n
+pub end_as : {S : Type 0} (goes : S → List StoryEvent → S → Type 0) (failures : S → ℕ) (settled : S → Type 0) (stuck : S → S → Type 0) (old new : Device) (a b : S) (x : Next)
+    → x ≡ next.End → IsNext goes failures settled stuck old new a b (Ok x) → HasGiven old new [] × IsAtEnd new.octets × goes a [] b × settled b
+end_as goes failures settled stuck old new a b x is n = subst (λ (y : Next). IsNext goes failures settled stuck old new a b (Ok y)) is n
+
+-- ---- of an unpacker that was fed
+
+-- an unpacker is done
+pub come_whole : {S : Type 0} (goes : S → List StoryEvent → S → Type 0) (settled : S → Type 0) (old new : Device) (u v : Unpacking) (a b : S) (whole : Bool) (octets : ℕ) (got : Unpacked) → whole ≡ true
+    → limits_in u ≡ limits → Stands u [] 0 → FedAsWhole goes settled old new u v a b whole → octets ≡ v.octets
+    → ((p : List ℕ) (n : ℕ) → IsDoneWith v p n → (w : Value) → Admits p w → HasParts got w) → EnvelopeHasCome goes old new a b got octets
+come_whole goes settled old new u v a b whole octets got yes_ same at fed counts parts =
+    let f = subst (λ (x : Bool). FedAsWhole goes settled old new u v a b x) yes_ fed in
+    let told : octets ≡ f.0 = counts ∙ (f.1.done [] 0 at).0.counts ∙ sym f.1.counts in
+    has_come goes old new u a b octets got same at
+    (subst (λ (n : ℕ). WasGiven goes old new u a b n got) (sym told) (given_by goes old new u v a b f.0 got f.1 parts))
+
+pub done_whole : {S : Type 0} (goes : S → List StoryEvent → S → Type 0) (settled : S → Type 0) (old new : Device) (u v : Unpacking) (a b : S) (whole : Bool) → whole ≡ true → Stands u [] 0 → FedAsWhole goes settled old new u v a b whole
+    → (p : List ℕ) × (n : ℕ) × IsDoneWith v p n
+done_whole goes settled old new u v a b whole yes_ at fed =
+    let f = subst (λ (x : Bool). FedAsWhole goes settled old new u v a b x) yes_ fed in
+    (f.1.octets, raised 0 (length f.1.octets), (f.1.done [] 0 at).0)
+
+pub ended_whole : {S : Type 0} (goes : S → List StoryEvent → S → Type 0) (settled : S → Type 0) (old new : Device) (u v : Unpacking) (a b : S) (whole : Bool) → whole ≡ false → FedAsWhole goes settled old new u v a b whole
+    → HasGiven old new [] × IsAtEnd new.octets × goes a [] b × settled b
+ended_whole goes settled old new u v a b whole is fed = subst (λ (x : Bool). FedAsWhole goes settled old new u v a b x) is fed
+
+-- the sink was held up
+pub held_up : {S : Type 0} (goes : S → List StoryEvent → S → Type 0) (failures : S → ℕ) (stuck : S → S → Type 0) (old new : Device) (u v : Unpacking) (a b : S) → limits_in u ≡ limits → Stands u [] 0
+    → ((c : S) × (used : ℕ) × HasFed goes old new u v a c used × (failures c ≡ failures a) × stuck c b) → IsHeldUp goes failures stuck old new a b
+held_up goes failures stuck old new u v a b same at (c, used, fed, calm, is) =
+    let (there, adds) = fed.stands [] 0 at in
+    record {
+      octets = fed.octets;
+      more = fed.more;
+      told = c;
+      came = fed.came;
+      calm = calm;
+      is_open = subst (λ (l : Limits). IsOpen l fed.octets) (fed.limits ∙ same) there.is_open;
+      delivered = delivered_of fed.octets fed.more adds;
+      holds_back = is;
+    }
+
+-- ---- of faults
+
+pub fault_next : {S : Type 0} (goes : S → List StoryEvent → S → Type 0) (failures : S → ℕ) (settled : S → Type 0) (stuck : S → S → Type 0) (old new : Device) (u : Unpacking) (a b : S) (fault : IntakeFault) (result : Result Next CommandFault) → limits_in u ≡ limits → Stands u [] 0
+    → ((kept : ℕ) × Faults goes failures old new u a b kept fault) × (IsOfReader fault → settled b) → IsOfFault fault result → IsNext goes failures settled stuck old new a b result
+fault_next goes failures settled stuck old new u a b (Refused e) result same at ((kept, f), rests) (inl (sink, is)) =
+    subst (IsNext goes failures settled stuck old new a b) (sym is) (inl (is_unheard goes failures old new u a b e at sink f.1))
+fault_next goes failures settled stuck old new u a b (Refused e) result same at ((kept, f), rests) (inr (other, is)) =
+    subst (IsNext goes failures settled stuck old new a b) (sym is) (is_refusal goes failures old new u a b e same at other f.1)
+fault_next goes failures settled stuck old new u a b Read result same at ((kept, f), rests) is =
+    subst (IsNext goes failures settled stuck old new a b) (sym is) (is_cut_off goes failures old new u a b kept io.Failed same at f, rests tt)
+fault_next goes failures settled stuck old new u a b Interrupted result same at ((kept, f), rests) is =
+    subst (IsNext goes failures settled stuck old new a b) (sym is) (is_cut_off goes failures old new u a b kept io.Interrupted same at f, rests tt)
+
+pub fault_calm : {S : Type 0} (goes : S → List StoryEvent → S → Type 0) (failures : S → ℕ) (settled : S → Type 0) (stuck : S → S → Type 0) (old new : Device) (u : Unpacking) (a b : S) (fault : IntakeFault) (result : Result Next CommandFault)
+    → ((kept : ℕ) × Faults goes failures old new u a b kept fault) × (IsOfReader fault → settled b) → IsOfFault fault result → IsCalm (failures a) (failures b) result
+fault_calm goes failures settled stuck old new u a b (Refused e) result ((kept, f), rests) (inl (sink, is)) = subst (IsCalm (failures a) (failures b)) (sym is) tt
+fault_calm goes failures settled stuck old new u a b (Refused e) result ((kept, f), rests) (inr (other, is)) =
+    subst (IsCalm (failures a) (failures b)) (sym is) (calm_of goes failures old new u a b e other f.1)
+fault_calm goes failures settled stuck old new u a b Read result ((kept, f), rests) is = subst (IsCalm (failures a) (failures b)) (sym is) f.calm
+fault_calm goes failures settled stuck old new u a b Interrupted result ((kept, f), rests) is = subst (IsCalm (failures a) (failures b)) (sym is) f.calm
+
+pub fault_lives : (failed : Option ℕ) (fault : IntakeFault) (result : Result Next CommandFault) → IsOfFault fault result → CanAskForMore failed result
+fault_lives failed (Refused e) result (inl (sink, is)) = subst (CanAskForMore failed) (sym is) tt
+fault_lives failed (Refused e) result (inr (other, is)) = subst (CanAskForMore failed) (sym is) tt
+fault_lives failed Read result is = subst (CanAskForMore failed) (sym is) tt
+fault_lives failed Interrupted result is = subst (CanAskForMore failed) (sym is) tt
+
+-- ---- of what halted it
+
+pub halt_next : {S : Type 0} (goes : S → List StoryEvent → S → Type 0) (failures : S → ℕ) (settled : S → Type 0) (stuck : S → S → Type 0) (old new : Device) (u v : Unpacking) (a b : S) (x : Halt) (result : Result Next CommandFault) → limits_in u ≡ limits → Stands u [] 0
+    → HaltsBy goes failures settled stuck old new u v a b x → IsOfHalt x result → IsNext goes failures settled stuck old new a b result
+halt_next goes failures settled stuck old new u v a b halt.Outlet result same at h is =
+    subst (IsNext goes failures settled stuck old new a b) (sym is) (inr (held_up goes failures stuck old new u v a b same at h))
+halt_next goes failures settled stuck old new u v a b (halt.Intake fault) result same at h is = fault_next goes failures settled stuck old new u a b fault result same at h is
+
+pub halt_calm : {S : Type 0} (goes : S → List StoryEvent → S → Type 0) (failures : S → ℕ) (settled : S → Type 0) (stuck : S → S → Type 0) (old new : Device) (u v : Unpacking) (a b : S) (x : Halt) (result : Result Next CommandFault)
+    → HaltsBy goes failures settled stuck old new u v a b x → IsOfHalt x result → IsCalm (failures a) (failures b) result
+halt_calm goes failures settled stuck old new u v a b halt.Outlet result h is = subst (IsCalm (failures a) (failures b)) (sym is) tt
+halt_calm goes failures settled stuck old new u v a b (halt.Intake fault) result h is = fault_calm goes failures settled stuck old new u a b fault result h is
+
+pub halt_lives : (failed : Option ℕ) (x : Halt) (result : Result Next CommandFault) → IsOfHalt x result → CanAskForMore failed result
+halt_lives failed halt.Outlet result is = subst (CanAskForMore failed) (sym is) tt
+halt_lives failed (halt.Intake fault) result is = fault_lives failed fault result is

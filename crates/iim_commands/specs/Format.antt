@@ -1,6 +1,8 @@
 pub mod Audits
 pub mod Coming
 pub mod Devices
+pub mod Held
+pub mod Holding
 pub mod Lines
 pub mod Listings
 pub mod Narration
@@ -10,4 +12,5 @@ pub mod Reports
 pub mod Requests
 pub mod Scripts
 pub mod Shown
+pub mod Silence
 pub mod Texts

@@ -2,6 +2,9 @@
 pub mod Format
 -- What only proofs and private clauses cite.
 pub mod Faults
+pub mod Feeding
+pub mod HoldingLaws
+pub mod Listing
 pub mod Narration
 pub mod PackSteps
 pub mod Verbs

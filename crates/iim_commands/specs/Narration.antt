@@ -1,11 +1,16 @@
--- How the writer of a story's lines ends.
-use Rattle.std.specs.Prelude.{◌≡◌, []}
+-- How a writer of stories ends.
+use Rattle.std.specs.Prelude.{◌≡◌, ◌<◌, ◌⊎◌, ℕ, List, [], ◌∷◌, length}
 use Rattle.iim_dataset.specs.Format.Devices.{Device, Rose}
-use Rattle.wire_story.specs.Format.Writing.{WritesLines, stops_of}
-use Rattle.wire_story.specs.declared.writer.LineWriter.{LineWriter}
+use Rattle.iim_commands.specs.Format.Holding.{PutsOn, StaysStuck, held_of, stops_of}
+use Rattle.iim_commands.specs.declared.block_writer.BlockWriter.{BlockWriter}
 use Rattle.iim_commands.specs.declared.fault.CommandFault.{CommandFault}
 use Rattle.iim_commands.specs.declared.fault.CommandFault.TheVariants.{CannotWrite}
 
--- An LF after a text was refused. (The writer of lines before and after.)
-abbrev pub IsUnended : {W : Type 0} → (W → Device) → LineWriter W → LineWriter W → CommandFault → Type 0
-IsUnended state old new fault = (fault ≡ CannotWrite) × WritesLines state old [] new × Rose (stops_of old) (stops_of new)
+-- What was held could not be let out. (The writer before and after.)
+abbrev pub IsHeldBack : {W : Type 0} → (W → Device) → BlockWriter W → BlockWriter W → CommandFault → Type 0
+IsHeldBack state old new fault = (fault ≡ CannotWrite) × StaysStuck state old new
+
+-- An LF after a text was not taken, or it was and could not be let out.
+abbrev pub IsUnended : {W : Type 0} → (W → Device) → BlockWriter W → BlockWriter W → CommandFault → Type 0
+IsUnended state old new fault = (fault ≡ CannotWrite) × Rose (stops_of old) (stops_of new)
+    × (PutsOn state old new [] ⊎ (PutsOn state old new (10 ∷ []) × (0 < length (held_of new))))

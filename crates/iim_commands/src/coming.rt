@@ -1,15 +1,18 @@
 //! What comes next of an input.
 
-ghost use Rattle.std.specs.Prelude.{◌≡◌, None};
+ghost use Rattle.std.specs.Prelude.{◌≡◌, [], None, IfOk, IfErr, OnOk, OnErr};
 ghost use Rattle.iim_unpack.specs.Format.Intakes.{line};
 ghost use Rattle.iim_commands.specs.Format.Coming.{IsNext, IsCalm, CanAskForMore};
 
 use crate::fault::CommandFault;
-use iim_dataset::Source;
+use crate::outlet::Outlet;
+use iim_dataset::device_laws::gifts_join;
+use iim_dataset::{Source, Stop};
 use iim_fields::Limits;
-use iim_unpack::{Cause, Intake, IntakeFault, Refusal, Unpacked, Unpacker};
+use iim_unpack::laws::open_octets_are_bounded;
+use iim_unpack::{Cause, Fed, Intake, IntakeFault, Refusal, Unpacked, Unpacker};
 use std::alloc::Global;
-use wire_story::StorySink;
+use wire_story::laws::delivery_may_be_cut;
 
 /// What the records 1 and 2 of an envelope may have.
 pub const LIMITS: Limits = Limits::WIRE;
@@ -25,31 +28,119 @@ pub enum Next {
     Refused(Refusal),
 }
 
+/// What stopped an unpacker from being fed.
+enum Halt {
+    /// The sink could not let out what it held.
+    Outlet,
+    /// The intake gave nothing.
+    Intake(IntakeFault),
+}
+
+ghost use Rattle.iim_unpack.specs.Format.Unpacking.{Stands, limits_in};
+ghost use Rattle.iim_commands.specs.Feeding.{FedAsWhole, HaltsBy, IsOfFault, IsOfHalt, IsOfRefusal};
+ghost use Rattle.iim_commands.specs.Format.Listings.{limits};
+
+/// Lets out what the sink holds, where the intake holds no octets and so has to read.
+fn let_out_before_read<R: Source, S: Outlet>(intake: &Intake<R>, sink: &mut S) -> Result<(), Stop>
+    ensures told { OnOk result (S.goes sink.old [] sink.new) }
+    ensures calm { OnOk result (S.failures sink.new ≡ S.failures sink.old) }
+    ensures settled { OnOk result (intake.now.block ≡ [] → S.settled sink.new) }
+    ensures stuck { OnErr result (S.stuck sink.old sink.new) }
+{
+    if intake.holds_octets() {
+        return Ok(());
+    }
+    sink.let_out()
+}
+
+/// Feeds an unpacker up to the end of an envelope: answers whether there was one. Before the intake reads, the sink lets out what it
+/// holds.
+fn feed_envelope<R: Source, S: Outlet>(
+    intake: &mut Intake<R>,
+    unpacker: &mut Unpacker,
+    sink: &mut S,
+) -> Result<bool, Halt>
+    requires alive { intake.old.failed ≡ None }
+    requires fresh { Stands unpacker.old [] 0 }
+    requires limits { limits_in unpacker.old ≡ limits }
+    ensures fed { IfOk result (FedAsWhole S.goes S.settled (line R.state intake.old) (line R.state intake.new) unpacker.old unpacker.new sink.old sink.new) }
+    ensures calm { OnOk result (S.failures sink.new ≡ S.failures sink.old) }
+    ensures halts { IfErr result (HaltsBy S.goes S.failures S.settled S.stuck (line R.state intake.old) (line R.state intake.new) unpacker.old unpacker.new sink.old sink.new) }
+    ensures lives { OnOk result (intake.new.failed ≡ None) }
+    ensures leads { R.leads intake.old.reader intake.new.reader }
+{
+    gifts_join();
+    delivery_may_be_cut();
+    open_octets_are_bounded();
+    'feeding: loop {
+        match let_out_before_read(intake, sink) {
+            Ok(()) => {}
+            Err(_) => return Err(Halt::Outlet),
+        }
+        match intake.next_piece(unpacker, sink) {
+            Ok(Fed::More(_)) => {}
+            Ok(Fed::Done(_)) => return Ok(true),
+            Ok(Fed::End) => return Ok(false),
+            Err(fault) => return Err(Halt::Intake(fault)),
+        }
+    }
+}
+
+/// What octets that are refused come to, which may be a fault of the sink.
+fn next_of_refusal(refusal: Refusal) -> Result<Next, CommandFault>
+    ensures { IsOfRefusal refusal result }
+{
+    if refusal.cause == Cause::Sink {
+        return Err(CommandFault::CannotWrite);
+    }
+    Ok(Next::Refused(refusal))
+}
+
+/// What a fault of an intake comes to.
+fn next_of_fault(fault: IntakeFault) -> Result<Next, CommandFault>
+    ensures { IsOfFault fault result }
+{
+    match fault {
+        IntakeFault::Refused(refusal) => next_of_refusal(refusal),
+        IntakeFault::Read => Err(CommandFault::CannotRead),
+        IntakeFault::Interrupted => Err(CommandFault::CannotRead),
+    }
+}
+
+/// What it comes to that an unpacker stopped being fed.
+fn next_of_halt(halt: Halt) -> Result<Next, CommandFault>
+    ensures { IsOfHalt halt result }
+{
+    match halt {
+        Halt::Outlet => Err(CommandFault::CannotWrite),
+        Halt::Intake(fault) => next_of_fault(fault),
+    }
+}
+
 /// Takes what comes next, and tells the sink the text of it. The memory of an envelope that is no longer wanted, if there is one,
-/// serves the next.
-pub fn take_next<R: Source, S: StorySink>(
+/// serves the next. Before the input is read, the sink lets out what it holds.
+pub fn take_next<R: Source, S: Outlet>(
     alloc: Global,
     spare: Option<Unpacked>,
     intake: &mut Intake<R>,
     sink: &mut S,
 ) -> Result<Next, CommandFault>
     requires { intake.old.failed ≡ None }
-    ensures next { IsNext S.goes S.failures (line R.state intake.old) (line R.state intake.new) sink.old sink.new result }
+    ensures next { IsNext S.goes S.failures S.settled S.stuck (line R.state intake.old) (line R.state intake.new) sink.old sink.new result }
     ensures calm { IsCalm (S.failures sink.old) (S.failures sink.new) result }
     ensures lives { CanAskForMore intake.new.failed result }
     ensures leads { R.leads intake.old.reader intake.new.reader }
 {
-    let unpacker = Unpacker::reusing(alloc, spare, LIMITS)?;
-    match intake.next_envelope(unpacker, sink) {
-        Ok(Some(got)) => Ok(Next::Envelope(got, intake.octets())),
-        Ok(None) => Ok(Next::End),
-        Err(IntakeFault::Refused(refusal)) => {
-            if refusal.cause == Cause::Sink {
-                return Err(CommandFault::CannotWrite);
+    let mut unpacker = Unpacker::reusing(alloc, spare, LIMITS)?;
+    match feed_envelope(intake, &mut unpacker, sink) {
+        Ok(true) => {
+            let octets = unpacker.octets();
+            match unpacker.into_unpacked() {
+                Ok(got) => Ok(Next::Envelope(got, octets)),
+                Err(_) => unreachable!(),
             }
-            Ok(Next::Refused(refusal))
         }
-        Err(IntakeFault::Read) => Err(CommandFault::CannotRead),
-        Err(IntakeFault::Interrupted) => Err(CommandFault::CannotRead),
+        Ok(false) => Ok(Next::End),
+        Err(halt) => next_of_halt(halt),
     }
 }

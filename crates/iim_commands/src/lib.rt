@@ -7,13 +7,16 @@
 #![tactic(auto)]
 
 pub mod audit;
+pub mod block_writer;
 pub mod check;
 pub mod coming;
 pub mod commands;
 pub mod fault;
+mod held;
 pub mod instant;
 pub mod laws;
 pub mod list;
+pub mod outlet;
 pub mod packing;
 pub mod report;
 pub mod request;
@@ -21,5 +24,6 @@ pub mod run;
 pub mod script;
 pub mod show;
 pub mod shown;
+pub mod silent;
 pub mod status;
 pub mod story;

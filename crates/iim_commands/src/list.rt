@@ -6,17 +6,105 @@ ghost use Rattle.iim_unpack.specs.Format.Value.{HasParts};
 ghost use Rattle.iim_unpack.specs.Format.Listing.{Listed};
 ghost use Rattle.iim_commands.specs.Format.Listings.{told};
 ghost use Rattle.iim_commands.specs.Format.Reports.{Reported, IsUnreported};
+ghost use Rattle.iim_commands.specs.Format.Holding.{HoldsNothing, device_of};
+ghost use Rattle.iim_commands.specs.Listing.{IsUnlisted, Settles};
 
+use crate::block_writer::BlockWriter;
 use crate::coming::{Next, take_next};
 use crate::fault::CommandFault;
-use crate::report::{TOO_MANY, push_refused, say};
+use crate::report::{TOO_MANY, add, add_last, push_refused};
+use crate::silent::Silent;
 use crate::status::{ACCEPTED, REFUSED};
 use iim_audit::MAX_ENVELOPES;
 use iim_dataset::device_laws::{gifts_join, texts_join};
 use iim_dataset::{Source, Target};
 use iim_unpack::{Intake, Unpacked};
 use std::alloc::{AllocError, Global};
-use wire_story::Discard;
+
+/// Reports the envelopes of an input. Where memory is short, some of the report may be held.
+fn list_texts<P: EnvelopeReport, R: Source, W: Target>(
+    alloc: Global,
+    texts: &P,
+    intake: &mut Intake<R>,
+    silent: &mut Silent<W>,
+) -> Result<u8, CommandFault>
+    requires alive { intake.old.failed ≡ None }
+    requires held { HoldsNothing silent.old.output }
+    ensures ok { IfOk result (Reported P.written (line R.state intake.old) (line R.state intake.new) (device_of W.state silent.old.output) (device_of W.state silent.new.output)) }
+    ensures err { IfErr result (IsUnlisted W.state P.written (line R.state intake.old) (line R.state intake.new) silent.old.output silent.new.output) }
+    ensures leads { R.leads intake.old.reader intake.new.reader }
+{
+    gifts_join();
+    texts_join();
+    let mut count = 0;
+    let mut spare = None;
+    let mut text = Vec::new(alloc);
+    'listing: loop {
+        text.clear();
+        match take_next(alloc, spare.take(), intake, silent)? {
+            Next::Envelope(got, octets) => {
+                if count == MAX_ENVELOPES {
+                    add_last(&mut silent.output, TOO_MANY.as_bytes())?;
+                    return Ok(REFUSED);
+                }
+                texts.push_text(&mut text, count + 1, octets, &got)?;
+                add(&mut silent.output, text.as_slice())?;
+                count += 1;
+                spare = Some(got);
+            }
+            Next::End => return Ok(ACCEPTED),
+            Next::Refused(refusal) => {
+                push_refused(&mut text, count + 1, refusal)?;
+                add_last(&mut silent.output, text.as_slice())?;
+                return Ok(REFUSED);
+            }
+        }
+    }
+}
+
+/// Lets out what is held where memory was short, and hands on the answer.
+fn settle<W: Target>(
+    output: &mut BlockWriter<W>,
+    answer: Result<u8, CommandFault>,
+) -> Result<u8, CommandFault>
+    ensures { Settles W.state output.old output.new answer result }
+{
+    match answer {
+        Err(CommandFault::OutOfMemory) => match output.flush() {
+            Ok(()) => Err(CommandFault::OutOfMemory),
+            Err(_) => Err(CommandFault::CannotWrite),
+        },
+        answer => answer,
+    }
+}
+
+/// Reports an input: each envelope, up to the end, to octets that are refused or to one envelope too many. Answers the status, and hands
+/// back the output. The texts of the envelopes that came are out before the input is read again. At a fault that is not of the output
+/// they are out too; where a write fails, those of them that are not out are lost.
+pub fn list<P: EnvelopeReport, R: Source, W: Target>(
+    alloc: Global,
+    texts: &P,
+    intake: &mut Intake<R>,
+    output: W,
+) -> (Result<u8, CommandFault>, W)
+    requires { intake.old.failed ≡ None }
+    ensures ok { IfOk result.0 (Reported P.written (line R.state intake.old) (line R.state intake.new) (W.state output) (W.state result.1)) }
+    ensures err { IfErr result.0 (IsUnreported P.written (line R.state intake.old) (line R.state intake.new) (W.state output) (W.state result.1)) }
+    ensures leads { R.leads intake.old.reader intake.new.reader }
+{
+    gifts_join();
+    texts_join();
+    match BlockWriter::new(alloc, output) {
+        Ok(made) => {
+            let mut silent = Silent { output: made };
+            let answer = list_texts(alloc, texts, intake, &mut silent);
+            let Silent { mut output } = silent;
+            let answer = settle(&mut output, answer);
+            (answer, output.into_writer())
+        }
+        Err(output) => (Err(CommandFault::OutOfMemory), output),
+    }
+}
 
 /// What a command writes of each envelope.
 pub trait EnvelopeReport {
@@ -32,44 +120,4 @@ pub trait EnvelopeReport {
         got: &Unpacked,
     ) -> Result<(), AllocError>
         ensures { (e : Listed) → octets ≡ told (length e.octets) → HasParts got.now e.value → OnOk result (text.new.items ≡ text.old.items ++ written number e) };
-}
-
-/// Reports an input: each envelope, up to the end, to octets that are refused or to one envelope too many.
-pub fn list<P: EnvelopeReport, R: Source, W: Target>(
-    alloc: Global,
-    texts: &P,
-    intake: &mut Intake<R>,
-    output: &mut W,
-) -> Result<u8, CommandFault>
-    requires { intake.old.failed ≡ None }
-    ensures ok { IfOk result (Reported P.written (line R.state intake.old) (line R.state intake.new) (W.state output.old) (W.state output.new)) }
-    ensures err { IfErr result (IsUnreported P.written (line R.state intake.old) (line R.state intake.new) (W.state output.old) (W.state output.new)) }
-    ensures leads { R.leads intake.old.reader intake.new.reader }
-{
-    gifts_join();
-    texts_join();
-    let mut count = 0;
-    let mut spare = None;
-    let mut text = Vec::new(alloc);
-    'listing: loop {
-        text.clear();
-        match take_next(alloc, spare.take(), intake, &mut Discard)? {
-            Next::Envelope(got, octets) => {
-                if count == MAX_ENVELOPES {
-                    say(output, TOO_MANY.as_bytes())?;
-                    return Ok(REFUSED);
-                }
-                texts.push_text(&mut text, count + 1, octets, &got)?;
-                say(output, text.as_slice())?;
-                count += 1;
-                spare = Some(got);
-            }
-            Next::End => return Ok(ACCEPTED),
-            Next::Refused(refusal) => {
-                push_refused(&mut text, count + 1, refusal)?;
-                say(output, text.as_slice())?;
-                return Ok(REFUSED);
-            }
-        }
-    }
 }

@@ -3,10 +3,14 @@
 ghost use Rattle.std.specs.Prelude.{◌≡◌, ◌++◌, IfErr, IfSome, OnOk};
 ghost use Rattle.iim_dataset.specs.Format.Devices.{Wrote};
 ghost use Rattle.iim_commands.specs.Format.Reports.{IsTold, IsUnsaid};
+ghost use Rattle.iim_commands.specs.Format.Holding.{HasPut, HoldsNothing};
+ghost use Rattle.iim_commands.specs.Listing.{IsUnadded};
 ghost use Rattle.iim_commands.specs.Format.Lines.{accepted_line, refused_line};
 
+use crate::block_writer::BlockWriter;
 use crate::fault::CommandFault;
 use crate::status::FAILED;
+use iim_dataset::device_laws::texts_join;
 use iim_dataset::{Target, put};
 use iim_unpack::Refusal;
 use std::alloc::AllocError;
@@ -22,6 +26,34 @@ pub fn say<W: Target>(output: &mut W, text: &[u8]) -> Result<(), CommandFault>
     ensures err { IfErr result (IsUnsaid (W.state output.old) (W.state output.new) text.now) }
 {
     match put(output, text) {
+        Ok(()) => Ok(()),
+        Err(_) => Err(CommandFault::CannotWrite),
+    }
+}
+
+/// Adds a text to what is written in blocks.
+pub(crate) fn add<W: Target>(output: &mut BlockWriter<W>, text: &[u8]) -> Result<(), CommandFault>
+    ensures ok { OnOk result (HasPut W.state output.old output.new text.now) }
+    ensures err { IfErr result (IsUnadded W.state output.old output.new text.now) }
+{
+    match output.put(text) {
+        Ok(()) => Ok(()),
+        Err(_) => Err(CommandFault::CannotWrite),
+    }
+}
+
+/// Adds a text to what is written in blocks, and lets out all.
+pub(crate) fn add_last<W: Target>(
+    output: &mut BlockWriter<W>,
+    text: &[u8],
+) -> Result<(), CommandFault>
+    ensures ok { OnOk result (HasPut W.state output.old output.new text.now) }
+    ensures held { OnOk result (HoldsNothing output.new) }
+    ensures err { IfErr result (IsUnadded W.state output.old output.new text.now) }
+{
+    texts_join();
+    add(output, text)?;
+    match output.flush() {
         Ok(()) => Ok(()),
         Err(_) => Err(CommandFault::CannotWrite),
     }

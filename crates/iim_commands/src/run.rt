@@ -19,7 +19,6 @@ use crate::story::narrate;
 use iim_dataset::{Source, Target, put};
 use iim_unpack::Intake;
 use std::alloc::Global;
-use wire_story::LineWriter;
 
 /// Tells a fault. The status is the same whether the line of it could be written or not.
 fn complain<E: Target>(errors: &mut E, fault: CommandFault) -> u8
@@ -51,9 +50,8 @@ fn report<P: EnvelopeReport, R: Source + Drop, W: Target, E: Target>(
     ensures { (last : R) × (held : List ℕ) × R.leads reader last × EndsReport P.written (devices (R.state reader) (W.state output) (E.state errors)) (devices (with_held held (R.state last)) (W.state result.1) (E.state result.2)) result.0 }
 {
     let mut intake = Intake::new(reader);
-    let mut output = output;
     let mut errors = errors;
-    let answer = list(alloc, texts, &mut intake, &mut output);
+    let (answer, output) = list(alloc, texts, &mut intake, output);
     let status = finish(&mut errors, answer);
     (status, output, errors)
 }
@@ -68,11 +66,10 @@ fn tell<R: Source + Drop, W: Target, E: Target>(
     ensures { (last : R) × (held : List ℕ) × R.leads reader last × ToldAsStory (devices (R.state reader) (W.state output) (E.state errors)) (devices (with_held held (R.state last)) (W.state result.1) (E.state result.2)) result.0 }
 {
     let mut intake = Intake::new(reader);
-    let mut lines = LineWriter::new(output);
     let mut errors = errors;
-    let answer = narrate(alloc, &mut intake, &mut lines, &mut errors);
+    let (answer, output) = narrate(alloc, &mut intake, output, &mut errors);
     let status = finish(&mut errors, answer);
-    (status, lines.into_writer(), errors)
+    (status, output, errors)
 }
 
 /// Reports the audit of a reader: the status, and both writers.

@@ -16,9 +16,12 @@ use Rattle.iim_unpack.specs.Format.Refusals.{refusal_at}
 use Rattle.iim_unpack.specs.Format.Unpacking.{Unpacking, Stands, IsDoneWith, Goes, IsRefusedIn, limits_in, raised}
 use Rattle.iim_unpack.specs.Unpacking.{Stood}
 use Rattle.iim_unpack.specs.Format.Open.{IsOpen, IsTextOf, Delivers, IsTruncatedAt, RefusesNext}
-use Rattle.iim_unpack.specs.Intakes.{WentOn, WasDone, FedAs, read_fault}
-use Rattle.iim_unpack.specs.Format.Intakes.{WasEnded, IsRefusedOf, WasRefused, WasTruncated, WasMissed, WasGiven, IsReady, Faults, OpenOctetsAreBounded}
+use Rattle.iim_unpack.specs.Intakes.{WentOn, FedAs, read_fault}
+use Rattle.iim_unpack.specs.Format.Intakes.{FedPiece, HasFed, WasDone, WasEnded, IsRefusedOf, IsTruncatedIn, WasRefused, WasTruncated, WasMissed, WasGiven, IsReady, Faults, OpenOctetsAreBounded}
+use Rattle.iim_unpack.specs.declared.intake.Fed.{Fed}
+use Rattle.iim_unpack.specs.declared.intake.Fed.TheVariants as piece
 use Rattle.iim_unpack.specs.declared.intake.IntakeFault.{IntakeFault}
+use Rattle.iim_unpack.specs.declared.intake.IntakeFault.TheVariants.{Refused, Read, Interrupted}
 use Rattle.iim_unpack.proofs.Feeding.{stood_stands}
 use Rattle.iim_unpack.specs.declared.refusal.Refusal.{Refusal}
 use Rattle.iim_unpack.specs.Format.Admitted.{Value, Admits}
@@ -280,3 +283,181 @@ given_by goes old new u v a b used got done' parts = record {
         adds = adds;
       };
 }
+
+-- ---- pieces, one after another
+
+pub fed_of : {S : Type 0} (goes : S → List story.StoryEvent → S → Type 0) (old new : Device) (u v : Unpacking) (a b : S) (used : ℕ) → WentOn goes old new u v a b used → HasFed goes old new u v a b used
+fed_of goes old new u v a b used on = record { octets = on.octets; more = on.more; came = on.came; counts = on.counts; limits = on.limits; stands = on.stands }
+
+pub fed_none : {S : Type 0} (goes : S → List story.StoryEvent → S → Type 0) → GiftsJoin → (d : Device) (u : Unpacking) (a : S) → u.octets < 2 ^ 64 → goes a [] a → HasFed goes d d u u a a 0
+fed_none goes joins d u a low nothing = fed_of goes d d u u a a 0 (begin_on goes joins d u a low nothing)
+
+-- the sink was told nothing in between
+pub fed_on : {S : Type 0} (goes : S → List story.StoryEvent → S → Type 0) → Joined goes → (old new : Device) (u v : Unpacking) (a b c : S) (used : ℕ) → HasFed goes old new u v a b used → goes b [] c → HasFed goes old new u v a c used
+fed_on goes joined old new u v a b c used fed still = record {
+  octets = fed.octets;
+  more = fed.more;
+  came = record { given = fed.came.given; told = subst (λ (es : List story.StoryEvent). goes a es c) (append-nil fed.more) (joined a b c fed.more [] fed.came.told still) };
+  counts = fed.counts;
+  limits = fed.limits;
+  stands = fed.stands;
+}
+
+counts_then : (used k now : ℕ) (xs ys : List ℕ) → used ≡ raised 0 (length xs) → k ≡ raised 0 (length ys) → now ≡ raised used k → now ≡ raised 0 (length (xs ++ ys))
+counts_then used k now xs ys was more is = omega (arith, was, more, is, length-append xs ys)
+
+pub fed_then : {S : Type 0} (goes : S → List story.StoryEvent → S → Type 0) → Joined goes → GiftsJoin → DeliveryMayBeCut → (old mid new : Device) (u v w : Unpacking) (a b c : S) (used k now : ℕ)
+    → HasFed goes old mid u v a b used → HasFed goes mid new v w b c k → now ≡ raised used k → HasFed goes old new u w a c now
+fed_then goes joined joins cut old mid new u v w a b c used k now one two is = record {
+  octets = one.octets ++ two.octets;
+  more = one.more ++ two.more;
+  came = record { given = joins.more old mid new one.octets two.octets one.came.given two.came.given; told = joined a b c one.more two.more one.came.told two.came.told };
+  counts = counts_then used k now one.octets two.octets one.counts two.counts is;
+  limits = two.limits ∙ one.limits;
+  stands = λ p n at.
+      let (there, adds) = one.stands p n at in
+      let (then_, adds') = two.stands (p ++ one.octets) (raised n (length one.octets)) there in
+      (on_all one.octets two.octets p n (λ q k. Stands w q k) then_, adds_more cut p one.octets two.octets one.more two.more adds adds');
+}
+
+pub fed_and_done : {S : Type 0} (goes : S → List story.StoryEvent → S → Type 0) → Joined goes → GiftsJoin → DeliveryMayBeCut → (old mid new : Device) (u v w : Unpacking) (a b c : S) (used k now : ℕ)
+    → HasFed goes old mid u v a b used → WasDone goes mid new v w b c k → now ≡ raised used k → WasDone goes old new u w a c now
+fed_and_done goes joined joins cut old mid new u v w a b c used k now one two is = record {
+  octets = one.octets ++ two.octets;
+  more = one.more ++ two.more;
+  came = record { given = joins.more old mid new one.octets two.octets one.came.given two.came.given; told = joined a b c one.more two.more one.came.told two.came.told };
+  limits = two.limits ∙ one.limits;
+  counts = counts_then used k now one.octets two.octets one.counts two.counts is;
+  done = λ p n at.
+      let (there, adds) = one.stands p n at in
+      let (then_, adds') = two.done (p ++ one.octets) (raised n (length one.octets)) there in
+      (on_all one.octets two.octets p n (λ q k. IsDoneWith w q k) then_, adds_more cut p one.octets two.octets one.more two.more adds adds');
+}
+
+-- the unpacker stands on no octets, so none came
+pub fed_nothing : {S : Type 0} (goes : S → List story.StoryEvent → S → Type 0) (old mid new : Device) (u v : Unpacking) (a b c : S) (used : ℕ) (fed : HasFed goes old mid u v a b used) (p : List ℕ) (n : ℕ) → Stands u p n
+    → WasEnded mid new v b c → fed.octets ≡ []
+fed_nothing goes old mid new u v a b c used fed p n at ended =
+    (no_front p fed.octets (ended.none (p ++ fed.octets) (raised n (length fed.octets)) (fed.stands p n at).0)).1
+
+pub fed_and_ended : {S : Type 0} (goes : S → List story.StoryEvent → S → Type 0) → GiftsJoin → (old mid new : Device) (u v : Unpacking) (a b c : S) (used : ℕ) → (one : HasFed goes old mid u v a b used)
+    → (one.octets ≡ [] → b ≡ a) → WasEnded mid new v b c → (p : List ℕ) (n : ℕ) → Stands u p n → WasEnded old new u a c
+fed_and_ended goes joins old mid new u v a b c used one same ended p n at =
+    let empty : one.octets ≡ [] = fed_nothing goes old mid new u v a b c used one p n at ended in
+    record {
+      given = subst (λ (ys : List ℕ). HasGiven old new ys) empty (given_none joins old mid new one.octets one.came.given ended.given);
+      at_end = ended.at_end;
+      still = ended.still ∙ same empty;
+      none = λ q k is. (no_front q one.octets (ended.none (q ++ one.octets) (raised k (length one.octets)) (one.stands q k is).0)).0;
+    }
+
+refused_then : DeliveryMayBeCut → (limits : Limits) (p : List ℕ) (n : ℕ) (xs ys : List ℕ) (first more : List story.StoryEvent) (e : Refusal) → Delivers p xs first
+    → IsRefusedOf limits (p ++ xs) (raised n (length xs)) ys more e → IsRefusedOf limits p n (xs ++ ys) (first ++ more) e
+refused_then cut limits p n xs ys first more e adds is =
+    let front : take (length xs + is.k) (xs ++ ys) ≡ xs ++ take is.k ys = take-append-add xs ys is.k in
+    record {
+      k = length xs + is.k;
+      within = omega (arith, is.within, length-append xs ys);
+      fault = is.fault;
+      refusal = is.refusal ∙ ap (λ (m : ℕ). refusal_at m is.fault) (raised_twice n (length xs) is.k);
+      adds = subst (λ (zs : List ℕ). Delivers p zs (first ++ more)) (sym front) (adds_more cut p xs (take is.k ys) first more adds is.adds);
+      refuses =
+          subst (λ (b : ℕ). RefusesNext limits (p ++ take (length xs + is.k) (xs ++ ys)) b is.fault) (sym (get_or-append-add xs ys is.k 0))
+          (subst (λ (zs : List ℕ). RefusesNext limits zs (slice_index ys is.k) is.fault) (append_assoc p xs (take is.k ys) ∙ ap (λ (zs : List ℕ). p ++ zs) (sym front)) is.refuses);
+    }
+
+truncated_then : DeliveryMayBeCut → (limits : Limits) (p : List ℕ) (n : ℕ) (xs ys : List ℕ) (first more : List story.StoryEvent) (e : Refusal) → Delivers p xs first
+    → IsTruncatedIn limits (p ++ xs) (raised n (length xs)) ys more e → IsTruncatedIn limits p n (xs ++ ys) (first ++ more) e
+truncated_then cut limits p n xs ys first more e adds is = record {
+  is_open = subst (IsOpen limits) (append_assoc p xs ys) is.is_open;
+  some = λ none. is.some (append_assoc p xs ys ∙ none);
+  adds = adds_more cut p xs ys first more adds is.adds;
+  truncated = on_all xs ys p n (λ q k. IsTruncatedAt q k e) is.truncated;
+}
+
+consumed_then : (a b c : Option (List ℕ)) (xs ys : List ℕ) → Consumes a b xs → Consumes b c ys → Consumes a c (xs ++ ys)
+consumed_then None b c xs ys h k = tt
+consumed_then (Some x) None c xs ys h k = absurd h
+consumed_then (Some x) (Some y) None xs ys h k = absurd k
+consumed_then (Some x) (Some y) (Some z) xs ys h k = h ∙ (ap (λ w. xs ++ w) k ∙ sym (append_assoc xs ys z))
+
+missed_then : {S : Type 0} (goes : S → List story.StoryEvent → S → Type 0) (failures : S → ℕ) → Joined goes → DeliveryMayBeCut → (old mid new : Device) (u v : Unpacking) (a b c : S) (used kept : ℕ) (fault : IoFault)
+    → HasFed goes old mid u v a b used → failures b ≡ failures a → WasMissed goes failures mid new v b c kept fault → WasMissed goes failures old new u a c kept fault
+missed_then goes failures joined cut old mid new u v a b c used kept fault one calm was = record {
+  octets = one.octets ++ was.octets;
+  more = one.more ++ was.more;
+  missed = (
+    consumed_then old.octets mid.octets new.octets one.octets was.octets one.came.given.0 was.missed.0,
+    broke_on old mid new fault one.came.given.1 was.missed.1,
+  );
+  told = joined a b c one.more was.more one.came.told was.told;
+  calm = was.calm ∙ calm;
+  is_open = λ p n at.
+      let (there, adds) = one.stands p n at in
+      let (is, adds', counts) = was.is_open (p ++ one.octets) (raised n (length one.octets)) there in (
+        subst (λ (l : Limits). IsOpen l (p ++ (one.octets ++ was.octets))) one.limits (subst (IsOpen (limits_in v)) (append_assoc p one.octets was.octets) is),
+        adds_more cut p one.octets was.octets one.more was.more adds adds',
+        counts ∙ raised_twice n (length one.octets) (length was.octets) ∙ ap (raised n) (sym (length-append one.octets was.octets)),
+      );
+}
+
+pub fed_and_faults : {S : Type 0} (goes : S → List story.StoryEvent → S → Type 0) (failures : S → ℕ) → Joined goes → GiftsJoin → DeliveryMayBeCut → (old mid new : Device) (u v : Unpacking) (a b c : S) (used kept : ℕ) (fault : IntakeFault)
+    → HasFed goes old mid u v a b used → failures b ≡ failures a → Faults goes failures mid new v b c kept fault → Faults goes failures old new u a c kept fault
+fed_and_faults goes failures joined joins cut old mid new u v a b c used kept (Refused e) one calm (is, inl was) = (
+  is,
+  inl (record {
+    octets = one.octets ++ was.octets;
+    more = one.more ++ was.more;
+    came = record { given = joins.more old mid new one.octets was.octets one.came.given was.came.given; told = joined a b c one.more was.more one.came.told was.came.told };
+    counts = subst (λ k. CountsFor e.cause k (failures c)) calm was.counts;
+    refuses = λ p n at.
+        let (there, adds) = one.stands p n at in
+        subst (λ (l : Limits). IsRefusedOf l p n (one.octets ++ was.octets) (one.more ++ was.more) e) one.limits
+        (refused_then cut (limits_in v) p n one.octets was.octets one.more was.more e adds (was.refuses (p ++ one.octets) (raised n (length one.octets)) there));
+  }),
+)
+fed_and_faults goes failures joined joins cut old mid new u v a b c used kept (Refused e) one calm (is, inr was) = (
+  is,
+  inr (record {
+    octets = one.octets ++ was.octets;
+    more = one.more ++ was.more;
+    came = record { given = joins.more old mid new one.octets was.octets one.came.given was.came.given; told = joined a b c one.more was.more one.came.told was.came.told };
+    at_end = was.at_end;
+    calm = was.calm ∙ calm;
+    truncated = λ p n at.
+        let (there, adds) = one.stands p n at in
+        subst (λ (l : Limits). IsTruncatedIn l p n (one.octets ++ was.octets) (one.more ++ was.more) e) one.limits
+        (truncated_then cut (limits_in v) p n one.octets was.octets one.more was.more e adds (was.truncated (p ++ one.octets) (raised n (length one.octets)) there));
+  }),
+)
+fed_and_faults goes failures joined joins cut old mid new u v a b c used kept Read one calm was =
+    missed_then goes failures joined cut old mid new u v a b c used kept io.Failed one calm was
+fed_and_faults goes failures joined joins cut old mid new u v a b c used kept Interrupted one calm was =
+    missed_then goes failures joined cut old mid new u v a b c used kept io.Interrupted one calm was
+
+-- some octets came
+pub some_came : {S : Type 0} (goes : S → List story.StoryEvent → S → Type 0) (old new : Device) (u v : Unpacking) (a b : S) (used : ℕ) → 0 < used → (fed : HasFed goes old new u v a b used) → fed.octets ≡ [] → ⊥
+some_came goes old new u v a b used some fed none = absurd (omega (arith, some, fed.counts, ap length none))
+
+pub fed_few : {S : Type 0} (goes : S → List story.StoryEvent → S → Type 0) → OpenOctetsAreBounded → (old mid : Device) (u v : Unpacking) (a b : S) (used : ℕ) → HasFed goes old mid u v a b used
+    → (limits_in v).octets < 2 ^ 32 → (limits_in v).fields < 2 ^ 32 → (p : List ℕ) (n : ℕ) → Stands u p n → used < 2 ^ 64 - 1
+fed_few goes law old mid u v a b used fed low few p n at =
+    omega (arith, fed.counts, length-append p fed.octets, law (limits_in v) (p ++ fed.octets) low few (fed.stands p n at).0.is_open)
+
+-- what the answer of a piece says
+pub more_of : {S : Type 0} (goes : S → List story.StoryEvent → S → Type 0) (old new : Device) (u v : Unpacking) (a b : S) (used : ℕ) (fed : Fed) → fed ≡ piece.More used → FedPiece goes old new u v a b fed
+    → (0 < used) × IsReady v × HasFed goes old new u v a b used
+more_of goes old new u v a b used fed is f = subst (λ (x : Fed). FedPiece goes old new u v a b x) is f
+
+pub done_of : {S : Type 0} (goes : S → List story.StoryEvent → S → Type 0) (old new : Device) (u v : Unpacking) (a b : S) (used : ℕ) (fed : Fed) → fed ≡ piece.Done used → FedPiece goes old new u v a b fed
+    → WasDone goes old new u v a b used
+done_of goes old new u v a b used fed is f = subst (λ (x : Fed). FedPiece goes old new u v a b x) is f
+
+pub end_of : {S : Type 0} (goes : S → List story.StoryEvent → S → Type 0) (old new : Device) (u v : Unpacking) (a b : S) (fed : Fed) → fed ≡ piece.End → FedPiece goes old new u v a b fed → WasEnded old new u a b
+end_of goes old new u v a b fed is f = subst (λ (x : Fed). FedPiece goes old new u v a b x) is f
+
+pub raised_some : (now k : ℕ) → now ≡ raised 0 k → 0 < k → 0 < now
+raised_some now k is some = omega (arith, is, some)
+
+pub raised_on : (used k now : ℕ) → 0 < k → now ≡ raised used k → 0 < now
+raised_on used k now some is = omega (arith, some, is)

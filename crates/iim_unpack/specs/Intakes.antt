@@ -1,18 +1,13 @@
 -- How an intake feeds an unpacker from its line.
-use Rattle.std.specs.Prelude.{◌≡◌, ℕ, List, [], ◌++◌, length, Option, None, Some}
+use Rattle.std.specs.Prelude.{◌≡◌, ℕ, List, [], length, Option, None, Some}
 use Rattle.iim_dataset.specs.Format.Devices.{Device}
 use Rattle.iim_dataset.specs.declared.device.IoFault.{IoFault}
 use Rattle.iim_dataset.specs.declared.device.IoFault.TheVariants as io
 use Rattle.wire_story.specs.Format.Delivery as story
-use Rattle.iim_unpack.specs.Format.Unpacking.{Unpacking, Stands, IsDoneWith, limits_in, raised}
-use Rattle.iim_unpack.specs.Format.Open.{Delivers}
+use Rattle.iim_unpack.specs.Format.Unpacking.{Unpacking, limits_in, raised}
 use Rattle.iim_unpack.specs.declared.intake.IntakeFault.{IntakeFault}
 use Rattle.iim_unpack.specs.declared.intake.IntakeFault.TheVariants.{Read, Interrupted}
-use Rattle.iim_unpack.specs.Format.Intakes.{Came, WasEnded}
-
--- The unpacker stands on what it stood on and these octets, of which this is delivered.
-abbrev pub StandsOn : Unpacking → Unpacking → List ℕ → List story.StoryEvent → Type 0
-StandsOn u v octets more = (p : List ℕ) (a : ℕ) → Stands u p a → Stands v (p ++ octets) (raised a (length octets)) × Delivers p octets more
+use Rattle.iim_unpack.specs.Format.Intakes.{Came, StandsOn, WasDone, WasEnded}
 
 -- Octets came, on which the unpacker stands now; `used` tells how many.
 pub record WentOn {S : Type 0} (goes : S → List story.StoryEvent → S → Type 0) (old new : Device) (u v : Unpacking) (a b : S) (used : ℕ) : Type 0 where
@@ -23,15 +18,6 @@ pub record WentOn {S : Type 0} (goes : S → List story.StoryEvent → S → Typ
   pub limits : limits_in v ≡ limits_in u
   pub stands : StandsOn u v octets more
   pub still : octets ≡ [] → b ≡ a
-
--- Octets came, with which the unpacker is done; `used` tells how many.
-pub record WasDone {S : Type 0} (goes : S → List story.StoryEvent → S → Type 0) (old new : Device) (u v : Unpacking) (a b : S) (used : ℕ) : Type 0 where
-  pub octets : List ℕ
-  pub more : List story.StoryEvent
-  pub came : Came goes old new a b octets more
-  pub limits : limits_in v ≡ limits_in u
-  pub counts : used ≡ raised 0 (length octets)
-  pub done : (p : List ℕ) (n : ℕ) → Stands u p n → IsDoneWith v (p ++ octets) (raised n (length octets)) × Delivers p octets more
 
 -- the fault of an intake whose reader had this one
 abbrev pub read_fault : IoFault → IntakeFault

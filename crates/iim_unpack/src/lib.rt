@@ -29,7 +29,7 @@ mod ticket_fields;
 mod ticket_parts;
 mod unpacker;
 
-pub use intake::{Intake, IntakeFault};
+pub use intake::{Fed, Intake, IntakeFault};
 pub use pieces::unpack_pieces;
 pub use refusal::{Cause, Layer, Refusal};
 pub use ticket::SaveFault;

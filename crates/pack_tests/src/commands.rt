@@ -10,7 +10,6 @@ use iim_dataset::{TrialReader, TrialWriter, Trouble};
 use iim_unpack::Intake;
 use std::alloc::Global;
 use std::test::Fail;
-use wire_story::LineWriter;
 
 /// The script of the smallest envelope, which has 114 octets.
 const SCRIPT: &[u8] =
@@ -48,9 +47,7 @@ fn checked(
     source: TrialReader<'_>,
     output: TrialWriter<256>,
 ) -> (Result<u8, CommandFault>, TrialWriter<256>) {
-    let mut output = output;
-    let answer = list(alloc, &Check, &mut Intake::new(source), &mut output);
-    (answer, output)
+    list(alloc, &Check, &mut Intake::new(source), output)
 }
 
 /// What `story` of the envelope answers, and what it writes on both outputs.
@@ -59,15 +56,14 @@ fn told(
     output: TrialWriter<256>,
     errors: TrialWriter<256>,
 ) -> (Result<u8, CommandFault>, TrialWriter<256>, TrialWriter<256>) {
-    let mut lines = LineWriter::new(output);
     let mut errors = errors;
-    let answer = narrate(
+    let (answer, output) = narrate(
         alloc,
         &mut Intake::new(reader(STORY)),
-        &mut lines,
+        output,
         &mut errors,
     );
-    (answer, lines.into_writer(), errors)
+    (answer, output, errors)
 }
 
 #[test]
@@ -127,9 +123,9 @@ fn writes_past_interruptions(rt: HostRuntime) -> Result<(), Fail> {
 
 #[test]
 fn a_full_output_takes_nothing(rt: HostRuntime) {
-    let mut output: TrialWriter<3> = TrialWriter::new(0, Trouble::Interruptions(0));
+    let output: TrialWriter<3> = TrialWriter::new(0, Trouble::Interruptions(0));
     let mut intake = Intake::new(reader(STORY));
-    let answer = list(rt.alloc(), &Check, &mut intake, &mut output);
+    let (answer, output) = list(rt.alloc(), &Check, &mut intake, output);
     assert_eq!(rt; answer, Err(CommandFault::CannotWrite));
     assert_eq!(rt; output.octets(), b"1 a".as_slice());
 }

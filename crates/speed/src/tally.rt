@@ -4,6 +4,7 @@ ghost use Rattle.std.specs.Prelude.{◌≡◌, ◌+◌, ⊤};
 ghost use Rattle.iim_dataset.specs.Format.Devices.{unbroken};
 ghost use Rattle.wire_story.specs.Format.Words.{capped};
 
+use iim_commands::outlet::Outlet;
 use iim_dataset::{DatasetSink, Head, IoFault, Step, Stop, Target};
 use wire_story::StorySink;
 
@@ -68,6 +69,17 @@ impl StorySink for Tally {
     #[inline(always)]
     fn line_end(&mut self) -> Result<(), Stop> {
         self.line_ends = raised(self.line_ends, 1);
+        Ok(())
+    }
+}
+
+impl Outlet for Tally {
+    ghost settled = { λ tally. ⊤ };
+
+    ghost stuck = { λ old new. ⊥ };
+
+    #[inline(always)]
+    fn let_out(&mut self) -> Result<(), Stop> {
         Ok(())
     }
 }

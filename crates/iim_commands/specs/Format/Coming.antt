@@ -1,5 +1,5 @@
 -- What comes next of an input.
-use Rattle.std.specs.Prelude.{◌≡◌, ℕ, ◌<◌, ⊤, List, [], length, take, Option, None, Result, Ok, Err}
+use Rattle.std.specs.Prelude.{◌≡◌, ℕ, ◌<◌, ◌⊎◌, ⊤, List, [], length, take, Option, None, Result, Ok, Err}
 use Rattle.std.specs.Io.KnownBytes.{IsAtEnd}
 use Rattle.iim_dataset.specs.Format.Devices.{Device, Rose}
 use Rattle.iim_dataset.specs.Format.DeviceLaws.{HasGiven, MissedAfter}
@@ -57,14 +57,26 @@ pub record IsCutOff {S : Type 0} (goes : S → List StoryEvent → S → Type 0)
   pub is_open : IsOpen limits octets
   pub delivered : IsDelivered octets more
 
--- What comes next, or why nothing does. (The input before and after, and the sink.)
-abbrev pub IsNext : {S : Type 0} → (S → List StoryEvent → S → Type 0) → (S → ℕ) → Device → Device → S → S → Result Next CommandFault → Type 0
-IsNext goes failures old new a b (Ok (next.Envelope got octets)) = EnvelopeHasCome goes old new a b got octets
-IsNext goes failures old new a b (Ok next.End) = HasGiven old new [] × IsAtEnd new.octets × (b ≡ a)
-IsNext goes failures old new a b (Ok (next.Refused refusal)) = IsRefusal goes old new a b refusal
-IsNext goes failures old new a b (Err CannotRead) = IsCutOff goes old new a b
-IsNext goes failures old new a b (Err CannotWrite) = IsUnheard goes failures old new a b
-IsNext goes failures old new a b (Err OutOfMemory) = (new ≡ old) × (b ≡ a)
+-- Octets came that every layer can continue from, and the sink was told their text; then it could not let out what it held.
+pub record IsHeldUp {S : Type 0} (goes : S → List StoryEvent → S → Type 0) (failures : S → ℕ) (stuck : S → S → Type 0) (old new : Device) (a b : S) : Type 0 where
+  pub octets : List ℕ
+  pub more : List StoryEvent
+  pub told : S
+  pub came : Came goes old new a told octets more
+  pub calm : failures told ≡ failures a
+  pub is_open : IsOpen limits octets
+  pub delivered : IsDelivered octets more
+  pub holds_back : stuck told b
+
+-- What comes next, or why nothing does. (What it is for a sink to hold nothing, and to fail to let out what it holds; the input before
+-- and after, and the sink.)
+abbrev pub IsNext : {S : Type 0} → (S → List StoryEvent → S → Type 0) → (S → ℕ) → (S → Type 0) → (S → S → Type 0) → Device → Device → S → S → Result Next CommandFault → Type 0
+IsNext goes failures settled stuck old new a b (Ok (next.Envelope got octets)) = EnvelopeHasCome goes old new a b got octets
+IsNext goes failures settled stuck old new a b (Ok next.End) = HasGiven old new [] × IsAtEnd new.octets × goes a [] b × settled b
+IsNext goes failures settled stuck old new a b (Ok (next.Refused refusal)) = IsRefusal goes old new a b refusal
+IsNext goes failures settled stuck old new a b (Err CannotRead) = IsCutOff goes old new a b × settled b
+IsNext goes failures settled stuck old new a b (Err CannotWrite) = IsUnheard goes failures old new a b ⊎ IsHeldUp goes failures stuck old new a b
+IsNext goes failures settled stuck old new a b (Err OutOfMemory) = (new ≡ old) × (b ≡ a)
 
 -- The sink counted a failure only where it refused.
 abbrev pub IsCalm : ℕ → ℕ → Result Next CommandFault → Type 0

@@ -58,11 +58,11 @@ Narrated source rest old new errors_old errors_new status =
 abbrev pub AreEnvelope : List ℕ → Type 0
 AreEnvelope octets = (e : Listed) × IsListed limits e × (e.octets ≡ octets)
 
--- The output broke after these stories, and inside the text of the octets: the words are out, which are the text in the first k. If
--- that is all of them, then they are an envelope, and the LF after its text was refused.
+-- The output broke after these stories, and inside the text of the octets: the words are out, with which the text in the first k
+-- begins. If that is all of them, and all of their text is out, then they are an envelope, and the LF after its text was refused.
 abbrev pub BreaksInText : Device → Device → List Listed → List ℕ → Type 0
-BreaksInText old new envelopes octets = (k : ℕ) × (words : List ℕ) × (k ≤ length octets) × (k ≡ length octets → AreEnvelope octets)
-    × IsTextIn (take k octets) words × Appends old.octets new.octets (stories envelopes ++ words) × HasBroken old new
+BreaksInText old new envelopes octets = (k : ℕ) × (words : List ℕ) × (rest : List ℕ) × (k ≤ length octets) × (k ≡ length octets → rest ≡ [] → AreEnvelope octets)
+    × IsTextIn (take k octets) (words ++ rest) × Appends old.octets new.octets (stories envelopes ++ words) × HasBroken old new
 
 -- The errors broke inside these lines, after these words.
 abbrev pub AreToldWith : List Listed → List ℕ → List ℕ → List ℕ → Type 0

@@ -1,5 +1,5 @@
 -- What an intake has next in line.
-use Rattle.std.specs.Prelude.{◌≡◌, ℕ, ◌-◌, ◌^◌, ◌<◌, ◌⊎◌, false, List, [], ◌++◌, length, take, slice_index, Option, None, Some}
+use Rattle.std.specs.Prelude.{◌≡◌, ℕ, ◌-◌, ◌^◌, ◌<◌, ◌⊎◌, ⊤, false, List, [], ◌++◌, length, take, slice_index, Option, None, Some}
 use Rattle.std.specs.Io.KnownBytes.{IsAtEnd}
 use Rattle.iim_dataset.specs.Format.Devices.{Device}
 use Rattle.iim_dataset.specs.Format.DeviceLaws.{HasGiven, MissedAfter}
@@ -12,10 +12,12 @@ use Rattle.iim_unpack.specs.Format.Blocks.{with_held}
 use Rattle.iim_unpack.specs.Format.Framed.{AreWithin}
 use Rattle.iim_unpack.specs.Format.Parts.{CountsFor, has_ended}
 use Rattle.iim_unpack.specs.Format.Refusals.{refusal_at}
-use Rattle.iim_unpack.specs.Format.Unpacking.{Unpacking, Stands, limits_in, raised}
+use Rattle.iim_unpack.specs.Format.Unpacking.{Unpacking, Stands, IsDoneWith, limits_in, raised}
 use Rattle.iim_unpack.specs.Format.Open.{IsOpen, Delivers, RefusesNext, IsTruncatedAt}
 use Rattle.iim_unpack.specs.Format.Value.{HasParts}
 use Rattle.iim_unpack.specs.declared.fault.TokenFault.{TokenFault}
+use Rattle.iim_unpack.specs.declared.intake.Fed.{Fed}
+use Rattle.iim_unpack.specs.declared.intake.Fed.TheVariants as piece
 use Rattle.iim_unpack.specs.declared.intake.Intake.{Intake}
 use Rattle.iim_unpack.specs.declared.intake.IntakeFault.{IntakeFault}
 use Rattle.iim_unpack.specs.declared.intake.IntakeFault.TheVariants.{Refused, Read, Interrupted}
@@ -41,6 +43,35 @@ pub record WasEnded {S : Type 0} (old new : Device) (u : Unpacking) (a b : S) : 
   pub at_end : IsAtEnd new.octets
   pub still : b ≡ a
   pub none : (p : List ℕ) (n : ℕ) → Stands u p n → p ≡ []
+
+-- The unpacker stands on what it stood on and these octets, of which this is delivered.
+abbrev pub StandsOn : Unpacking → Unpacking → List ℕ → List story.StoryEvent → Type 0
+StandsOn u v octets more = (p : List ℕ) (a : ℕ) → Stands u p a → Stands v (p ++ octets) (raised a (length octets)) × Delivers p octets more
+
+-- Octets came, on which the unpacker stands now; `used` tells how many.
+pub record HasFed {S : Type 0} (goes : S → List story.StoryEvent → S → Type 0) (old new : Device) (u v : Unpacking) (a b : S) (used : ℕ) : Type 0 where
+  pub octets : List ℕ
+  pub more : List story.StoryEvent
+  pub came : Came goes old new a b octets more
+  pub counts : used ≡ raised 0 (length octets)
+  pub limits : limits_in v ≡ limits_in u
+  pub stands : StandsOn u v octets more
+
+-- Octets came, with which the unpacker is done; `used` tells how many.
+pub record WasDone {S : Type 0} (goes : S → List story.StoryEvent → S → Type 0) (old new : Device) (u v : Unpacking) (a b : S) (used : ℕ) : Type 0 where
+  pub octets : List ℕ
+  pub more : List story.StoryEvent
+  pub came : Came goes old new a b octets more
+  pub limits : limits_in v ≡ limits_in u
+  pub counts : used ≡ raised 0 (length octets)
+  pub done : (p : List ℕ) (n : ℕ) → Stands u p n → IsDoneWith v (p ++ octets) (raised n (length octets)) × Delivers p octets more
+
+-- What one piece came to: octets came, some, and the unpacker takes more; or it is done with them; or there are none, and it stands
+-- on none.
+abbrev pub FedPiece : {S : Type 0} → (S → List story.StoryEvent → S → Type 0) → Device → Device → Unpacking → Unpacking → S → S → Fed → Type 0
+FedPiece goes old new u v a b (piece.More used) = (0 < used) × IsReady v × HasFed goes old new u v a b used
+FedPiece goes old new u v a b (piece.Done used) = WasDone goes old new u v a b used
+FedPiece goes old new u v a b piece.End = WasEnded old new u a b
 
 -- Octet k of those that came is refused, and of the octets before it this is delivered.
 pub record IsRefusedOf (limits : Limits) (p : List ℕ) (a : ℕ) (octets : List ℕ) (more : List story.StoryEvent) (e : Refusal) : Type 0 where
@@ -89,6 +120,12 @@ abbrev pub Faults : {S : Type 0} → (S → List story.StoryEvent → S → Type
 Faults goes failures old new u a b kept (Refused e) = (kept ≡ e.octet) × (WasRefused goes failures old new u a b e ⊎ WasTruncated goes failures old new u a b e)
 Faults goes failures old new u a b kept Read = WasMissed goes failures old new u a b kept io.Failed
 Faults goes failures old new u a b kept Interrupted = WasMissed goes failures old new u a b kept io.Interrupted
+
+-- It is a fault of the reader.
+abbrev pub IsOfReader : IntakeFault → Type 0
+IsOfReader (Refused e) = ⊥
+IsOfReader Read = ⊤
+IsOfReader Interrupted = ⊤
 
 -- The octets, after those on which an unpacker stood, are an envelope with this value.
 pub record ComesNext (limits : Limits) (p octets : List ℕ) (more : List story.StoryEvent) (got : Unpacked) : Type 0 where

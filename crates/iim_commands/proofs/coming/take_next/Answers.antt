@@ -1,60 +1,88 @@
-use Rattle.std.proofs.Common.{rules, ◌≡◌, ◌≢◌, inl, inr}
 use Rattle.iim_unpack.specs.Format.Intakes.{line}
-use Rattle.iim_unpack.specs.declared.refusal.Cause.TheVariants.{Sink}
-use Rattle.iim_commands.proofs.Taken.{calm_of, cut_off_by, given_as, has_come, is_refusal, is_unheard, refused_by}
+use Rattle.iim_commands.proofs.Taken.{come_whole, done_whole, ended_whole, halt_calm, halt_lives, halt_next}
 use Rattle.iim_commands.proofs.coming.take_next.Goals as goal
 
-pub returns-then-eq-clause-next : goal.returns-then-eq-clause-next
-returns-then-eq-clause-next g c =
-    let old = line g.R.Source.state c.args.intake.now in
-    let new = line g.R.Source.state c.next_envelope.new.self in
-    let f = c.in-Err-Refused.ensures.faults c.requires in
-    let sink : c.in-Err-Refused.refusal.cause ≡ Sink = search rules in
-    is_unheard g.S.StorySink.goes g.S.StorySink.failures old new c.in_ok-unpacker.unpacker c.args.sink.now c.next_envelope.new.sink c.in-Err-Refused.refusal
-    c.in_ok-unpacker.ensures.stands sink
-    (refused_by g.S.StorySink.goes g.S.StorySink.failures old new c.in_ok-unpacker.unpacker c.args.sink.now c.next_envelope.new.sink f.0 c.in-Err-Refused.field-0
-    c.in-Err-Refused.refusal c.in-Err-Refused.field-0-is f.2)
+pub unreachable-requires : goal.unreachable-requires
+unreachable-requires g c =
+    let st = g.R.Source.state in
+    let goes = g.S.StorySink.goes in
+    let failures = g.S.StorySink.failures in
+    let settled = g.S.Outlet.settled in
+    let stuck = g.S.Outlet.stuck in
+    let old = line st c.args.intake.now in
+    let new = line st c.feed_envelope.new.intake in
+    let u = c.in_ok-unpacker.unpacker in
+    let v = c.feed_envelope.new.unpacker in
+    let a = c.args.sink.now in
+    let b = c.feed_envelope.new.sink in
+    let same = c.in_ok-unpacker.ensures.limits in
+    let at = c.in_ok-unpacker.ensures.stands in
+    let done = done_whole goes settled old new u v a b c.in-Ok-true.field-0 c.in-Ok-true.field-0-test at c.in-Ok-true.ensures.fed in
+    c.in-Err-into_unpacked.ensures.not_done (done.2.taking, done.2.ended)
 
-pub returns-in-Ok-Some-clause-next : goal.returns-in-Ok-Some-clause-next
-returns-in-Ok-Some-clause-next g c =
-    let old = line g.R.Source.state c.args.intake.now in
-    let new = line g.R.Source.state c.next_envelope.new.self in
-    has_come g.S.StorySink.goes old new c.in_ok-unpacker.unpacker c.args.sink.now c.next_envelope.new.sink c.octets.result c.in-Ok-Some.got
-    c.in_ok-unpacker.ensures.limits c.in_ok-unpacker.ensures.stands
-    (given_as g.S.StorySink.goes old new c.in_ok-unpacker.unpacker c.args.sink.now c.next_envelope.new.sink c.next_envelope.new.self.octets c.octets.result
-    c.in-Ok-Some.field-0 c.in-Ok-Some.got c.in-Ok-Some.field-0-is c.octets.ensures (c.in-Ok-Some.ensures.gives c.requires))
+pub returns-in-Ok-clause-next : goal.returns-in-Ok-clause-next
+returns-in-Ok-clause-next g c =
+    let st = g.R.Source.state in
+    let goes = g.S.StorySink.goes in
+    let failures = g.S.StorySink.failures in
+    let settled = g.S.Outlet.settled in
+    let stuck = g.S.Outlet.stuck in
+    let old = line st c.args.intake.now in
+    let new = line st c.feed_envelope.new.intake in
+    let u = c.in_ok-unpacker.unpacker in
+    let v = c.feed_envelope.new.unpacker in
+    let a = c.args.sink.now in
+    let b = c.feed_envelope.new.sink in
+    let same = c.in_ok-unpacker.ensures.limits in
+    let at = c.in_ok-unpacker.ensures.stands in
+    come_whole goes settled old new u v a b c.in-Ok-true.field-0 c.octets-octets.result c.in-Ok.got c.in-Ok-true.field-0-test same at c.in-Ok-true.ensures.fed c.octets-octets.ensures c.in-Ok.ensures.value
 
-pub returns-else-eq-clause-next : goal.returns-else-eq-clause-next
-returns-else-eq-clause-next g c =
-    let old = line g.R.Source.state c.args.intake.now in
-    let new = line g.R.Source.state c.next_envelope.new.self in
-    let f = c.in-Err-Refused.ensures.faults c.requires in
-    let other : c.in-Err-Refused.refusal.cause ≢ Sink = search rules in
-    is_refusal g.S.StorySink.goes g.S.StorySink.failures old new c.in_ok-unpacker.unpacker c.args.sink.now c.next_envelope.new.sink c.in-Err-Refused.refusal
-    c.in_ok-unpacker.ensures.limits c.in_ok-unpacker.ensures.stands other
-    (refused_by g.S.StorySink.goes g.S.StorySink.failures old new c.in_ok-unpacker.unpacker c.args.sink.now c.next_envelope.new.sink f.0 c.in-Err-Refused.field-0
-    c.in-Err-Refused.refusal c.in-Err-Refused.field-0-is f.2)
+pub returns-in-Ok-false-clause-next : goal.returns-in-Ok-false-clause-next
+returns-in-Ok-false-clause-next g c =
+    let st = g.R.Source.state in
+    let goes = g.S.StorySink.goes in
+    let failures = g.S.StorySink.failures in
+    let settled = g.S.Outlet.settled in
+    let stuck = g.S.Outlet.stuck in
+    let old = line st c.args.intake.now in
+    let new = line st c.feed_envelope.new.intake in
+    let u = c.in_ok-unpacker.unpacker in
+    let v = c.feed_envelope.new.unpacker in
+    let a = c.args.sink.now in
+    let b = c.feed_envelope.new.sink in
+    let same = c.in_ok-unpacker.ensures.limits in
+    let at = c.in_ok-unpacker.ensures.stands in
+    ended_whole goes settled old new u v a b c.in-Ok-false.field-0 c.in-Ok-false.field-0-test c.in-Ok-false.ensures.fed
 
-pub returns-else-eq-clause-calm : goal.returns-else-eq-clause-calm
-returns-else-eq-clause-calm g c =
-    let old = line g.R.Source.state c.args.intake.now in
-    let new = line g.R.Source.state c.next_envelope.new.self in
-    let f = c.in-Err-Refused.ensures.faults c.requires in
-    let other : c.in-Err-Refused.refusal.cause ≢ Sink = search rules in
-    calm_of g.S.StorySink.goes g.S.StorySink.failures old new c.in_ok-unpacker.unpacker c.args.sink.now c.next_envelope.new.sink c.in-Err-Refused.refusal other
-    (refused_by g.S.StorySink.goes g.S.StorySink.failures old new c.in_ok-unpacker.unpacker c.args.sink.now c.next_envelope.new.sink f.0 c.in-Err-Refused.field-0
-    c.in-Err-Refused.refusal c.in-Err-Refused.field-0-is f.2)
+pub returns-in-Err-clause-next : goal.returns-in-Err-clause-next
+returns-in-Err-clause-next g c =
+    let st = g.R.Source.state in
+    let goes = g.S.StorySink.goes in
+    let failures = g.S.StorySink.failures in
+    let settled = g.S.Outlet.settled in
+    let stuck = g.S.Outlet.stuck in
+    let old = line st c.args.intake.now in
+    let new = line st c.feed_envelope.new.intake in
+    let u = c.in_ok-unpacker.unpacker in
+    let v = c.feed_envelope.new.unpacker in
+    let a = c.args.sink.now in
+    let b = c.feed_envelope.new.sink in
+    halt_next goes failures settled stuck old new u v a b c.in-Err.halt c.next_of_halt.result c.in_ok-unpacker.ensures.limits c.in_ok-unpacker.ensures.stands c.in-Err.ensures.halts c.next_of_halt.ensures
 
-pub returns-in-Err-Read-clause-next : goal.returns-in-Err-Read-clause-next
-returns-in-Err-Read-clause-next g c =
-    let f = c.in-Err-Read.ensures.faults c.requires in
-    cut_off_by g.S.StorySink.goes g.S.StorySink.failures (line g.R.Source.state c.args.intake.now) (line g.R.Source.state c.next_envelope.new.self)
-    c.in_ok-unpacker.unpacker c.args.sink.now c.next_envelope.new.sink f.0 c.in-Err-Read.field-0 (inl c.in-Err-Read.field-0-is)
-    c.in_ok-unpacker.ensures.limits c.in_ok-unpacker.ensures.stands f.2
+pub returns-in-Err-clause-calm : goal.returns-in-Err-clause-calm
+returns-in-Err-clause-calm g c =
+    let st = g.R.Source.state in
+    let goes = g.S.StorySink.goes in
+    let failures = g.S.StorySink.failures in
+    let settled = g.S.Outlet.settled in
+    let stuck = g.S.Outlet.stuck in
+    let old = line st c.args.intake.now in
+    let new = line st c.feed_envelope.new.intake in
+    let u = c.in_ok-unpacker.unpacker in
+    let v = c.feed_envelope.new.unpacker in
+    let a = c.args.sink.now in
+    let b = c.feed_envelope.new.sink in
+    halt_calm goes failures settled stuck old new u v a b c.in-Err.halt c.next_of_halt.result c.in-Err.ensures.halts c.next_of_halt.ensures
 
-pub returns-in-Err-Interrupted-clause-next : goal.returns-in-Err-Interrupted-clause-next
-returns-in-Err-Interrupted-clause-next g c =
-    let f = c.in-Err-Interrupted.ensures.faults c.requires in
-    cut_off_by g.S.StorySink.goes g.S.StorySink.failures (line g.R.Source.state c.args.intake.now) (line g.R.Source.state c.next_envelope.new.self)
-    c.in_ok-unpacker.unpacker c.args.sink.now c.next_envelope.new.sink f.0 c.in-Err-Interrupted.field-0 (inr c.in-Err-Interrupted.field-0-is)
-    c.in_ok-unpacker.ensures.limits c.in_ok-unpacker.ensures.stands f.2
+pub returns-in-Err-clause-lives : goal.returns-in-Err-clause-lives
+returns-in-Err-clause-lives g c = halt_lives c.feed_envelope.new.intake.failed c.in-Err.halt c.next_of_halt.result c.next_of_halt.ensures

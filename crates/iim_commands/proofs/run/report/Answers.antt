@@ -22,14 +22,14 @@ returns g c =
     let intake = c.list-answer.new.intake in
     let rest = line g.R.Source.state intake in
     let old = g.W.Target.state c.args.output in
-    let new = g.W.Target.state c.list-answer.new.output in
+    let new = g.W.Target.state c.list-answer.result.1 in
     let start : line g.R.Source.state c.new-intake.result ≡ g.R.Source.state c.args.reader =
     with_none_held c.new-intake.result.block (g.R.Source.state c.new-intake.result.reader) c.new-intake.ensures.block ∙ ap g.R.Source.state c.new-intake.ensures.reader in (
       intake.reader,
       intake.block,
       subst (λ (r : g.row.R.Denot). g.R.Source.leads r intake.reader) c.new-intake.ensures.reader c.list-answer.ensures.leads,
-      listed text (g.R.Source.state c.args.reader) rest old new (g.E.Target.state c.args.errors) (g.E.Target.state c.finish-status.new.errors) c.list-answer.result c.finish-status.result
-          (subst (λ (d : Device). IfOk c.list-answer.result (Reported text d rest old new)) start c.list-answer.ensures.ok)
-          (subst (λ (d : Device). IfErr c.list-answer.result (IsUnreported text d rest old new)) start c.list-answer.ensures.err)
+      listed text (g.R.Source.state c.args.reader) rest old new (g.E.Target.state c.args.errors) (g.E.Target.state c.finish-status.new.errors) c.list-answer.result.0 c.finish-status.result
+          (subst (λ (d : Device). IfOk c.list-answer.result.0 (Reported text d rest old new)) start c.list-answer.ensures.ok)
+          (subst (λ (d : Device). IfErr c.list-answer.result.0 (IsUnreported text d rest old new)) start c.list-answer.ensures.err)
           c.finish-status.ensures,
     )

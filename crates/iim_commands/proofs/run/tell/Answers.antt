@@ -21,24 +21,17 @@ returns g c =
     let intake = c.narrate-answer.new.intake in
     let rest = line g.R.Source.state intake in
     let old = g.W.Target.state c.args.output in
-    let lines = c.narrate-answer.new.output in
-    let new = g.W.Target.state c.into_writer.result in
+    let new = g.W.Target.state c.narrate-answer.result.1 in
     let errors_old = g.E.Target.state c.args.errors in
     let errors = g.E.Target.state c.narrate-answer.new.errors in
-    let answer = c.narrate-answer.result in
+    let answer = c.narrate-answer.result.0 in
     let source : line g.R.Source.state c.new-intake.result ≡ g.R.Source.state c.args.reader =
-    with_none_held c.new-intake.result.block (g.R.Source.state c.new-intake.result.reader) c.new-intake.ensures.block ∙ ap g.R.Source.state c.new-intake.ensures.reader in
-    let begun : g.W.Target.state c.new-lines.result.writer ≡ old = ap g.W.Target.state c.new-lines.ensures.writer in
-    let ended : g.W.Target.state lines.writer ≡ new = ap g.W.Target.state (sym c.into_writer.ensures) in (
+    with_none_held c.new-intake.result.block (g.R.Source.state c.new-intake.result.reader) c.new-intake.ensures.block ∙ ap g.R.Source.state c.new-intake.ensures.reader in (
       intake.reader,
       intake.block,
       subst (λ (r : g.row.R.Denot). g.R.Source.leads r intake.reader) c.new-intake.ensures.reader c.narrate-answer.ensures.leads,
       told (g.R.Source.state c.args.reader) rest old new errors_old errors (g.E.Target.state c.finish-status.new.errors) answer c.finish-status.result
-          (subst (λ (d : Device). IfOk answer (Narrated d rest old new errors_old errors)) source
-          (subst (λ (d : Device). IfOk answer (Narrated (line g.R.Source.state c.new-intake.result) rest d new errors_old errors)) begun
-          (subst (λ (d : Device). IfOk answer (Narrated (line g.R.Source.state c.new-intake.result) rest (g.W.Target.state c.new-lines.result.writer) d errors_old errors)) ended c.narrate-answer.ensures.ok)))
-          (subst (λ (d : Device). IfErr answer (IsUnnarrated d rest old new errors_old errors)) source
-          (subst (λ (d : Device). IfErr answer (IsUnnarrated (line g.R.Source.state c.new-intake.result) rest d new errors_old errors)) begun
-          (subst (λ (d : Device). IfErr answer (IsUnnarrated (line g.R.Source.state c.new-intake.result) rest (g.W.Target.state c.new-lines.result.writer) d errors_old errors)) ended c.narrate-answer.ensures.err)))
+          (subst (λ (d : Device). IfOk answer (Narrated d rest old new errors_old errors)) source c.narrate-answer.ensures.ok)
+          (subst (λ (d : Device). IfErr answer (IsUnnarrated d rest old new errors_old errors)) source c.narrate-answer.ensures.err)
           c.finish-status.ensures,
     )

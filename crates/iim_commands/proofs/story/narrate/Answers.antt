@@ -1,298 +1,34 @@
-use Rattle.std.proofs.Common.{rules, ◌≡◌, ◌+◌, [], length, map, refl, sym, ap, subst, ◌∙◌, append-nil}
-use Rattle.iim_dataset.specs.Format.Devices.{Wrote}
+use Rattle.std.proofs.Common.{◌≡◌, IfOk, IfErr, ap}
+use Rattle.iim_dataset.specs.Format.Devices.{Device}
 use Rattle.iim_unpack.specs.Format.Intakes.{line}
-use Rattle.wire_story.specs.Format.Delivery.{octet_for}
-use Rattle.wire_story.specs.Format.Writing.{WritesLines, device_of, stops_of}
-use Rattle.wire_story.specs.declared.writer.LineWriter.{LineWriter}
-use Rattle.iim_commands.specs.Format.Lines.{accepted_line, refused_line, too_many_line}
-use Rattle.iim_unpack.specs.Format.Listing.{max_envelopes, Whole, RefusedBy, TooMany}
-use Rattle.iim_commands.specs.Format.Narration.{IsUnnarrated, text_of}
-use Rattle.iim_commands.specs.declared.fault.CommandFault.TheVariants.{OutOfMemory}
-use Rattle.iim_commands.proofs.Narration.{broke_in_line, broke_in_lines, front_out, narrated, narrated_more, text_out, text_refused, unended_text, unfed, unfed_for_memory}
-use Rattle.iim_commands.proofs.Reports.{ends_refused, left_of, none_left}
-use Rattle.iim_commands.proofs.Taken.{end_as, lives_as}
-use Rattle.iim_commands.proofs.Told.{added, handed_on}
+use Rattle.iim_commands.specs.Format.Narration.{IsUnnarrated, Narrated}
+use Rattle.iim_commands.proofs.Holding.{between}
+use Rattle.iim_commands.proofs.Narration.{nothing_told}
 use Rattle.iim_commands.proofs.story.narrate.Goals as goal
 
-pub returns-in_err-got-clause-err : goal.returns-in_err-got-clause-err
-returns-in_err-got-clause-err g c =
-    let source = line g.R.Source.state c.args.intake.now in
-    let mid = line g.R.Source.state c.telling.intake in
-    let rest = line g.R.Source.state c.take_next.new.intake in
+pub returns-in-Err-clause-err : goal.returns-in-Err-clause-err
+returns-in-Err-clause-err g c =
+    nothing_told c.gifts_join.ensures c.texts_join.ensures (line g.R.Source.state c.args.intake.now) (g.W.Target.state c.args.output) (g.W.Target.state c.in-Err.output) (g.E.Target.state c.args.errors.now)
+    (ap g.W.Target.state c.in-Err.ensures.handed_back)
+
+pub returns-in-Ok-clause-ok : goal.returns-in-Ok-clause-ok
+returns-in-Ok-clause-ok g c =
     let state = g.W.Target.state in
-    let a = c.telling.output in
-    let b = c.take_next.new.sink in
-    let old = state c.args.output.now.writer in
-    let errors_old = g.E.Target.state c.args.errors.now in
-    let errors_now = g.E.Target.state c.telling.errors in
-    let r = c.telling.invariant.narrated in
-    let joins = c.gifts_join.ensures in
-    let texts = c.texts_join.ensures in
-    let fault = c.in_err-got.field-0.0 in
-    handed_on (IsUnnarrated source rest old (state b.writer) errors_old errors_now) c.from_residual.result fault c.from_residual.ensures.1
-    (unfed state joins texts source mid rest old errors_old errors_now a b c.telling.count fault r c.telling.invariant.unbroken c.in_err-got.ensures.calm c.in_err-got.ensures.next)
-
-pub returns-in_err-say-in-Envelope-clause-err : goal.returns-in_err-say-in-Envelope-clause-err
-returns-in_err-say-in-Envelope-clause-err g c =
     let source = line g.R.Source.state c.args.intake.now in
-    let mid = line g.R.Source.state c.telling.intake in
-    let rest = line g.R.Source.state c.take_next.new.intake in
-    let state = g.W.Target.state in
-    let a = c.telling.output in
-    let b = c.take_next.new.sink in
-    let old = state c.args.output.now.writer in
+    let rest = line g.R.Source.state c.tell_stories-answer.new.intake in
     let errors_old = g.E.Target.state c.args.errors.now in
-    let errors_now = g.E.Target.state c.telling.errors in
-    let r = c.telling.invariant.narrated in
-    let joins = c.gifts_join.ensures in
-    let texts = c.texts_join.ensures in
-    let h = text_out state c.envelopes_are_delivered_as_lines.ensures c.lines_are_joined_by_line_feeds.ensures mid rest a b c.in_ok-got.field-0 c.in-Envelope.got c.in-Envelope.octets
-    c.in-Envelope.is c.telling.invariant.unbroken c.in_ok-got.ensures.calm c.in_ok-got.ensures.next in
-    let e = h.come.envelope in
-    let full : c.telling.count ≡ max_envelopes = search rules in
-    let errors_new = g.E.Target.state c.say.new.output in
-    let fault = c.in_err-say-in-Envelope.field-0.0 in
-    let same : c.as_bytes.result.now ≡ too_many_line = search rules in
-    handed_on (IsUnnarrated source rest old (state b.writer) errors_old errors_new) c.from_residual-in_err-say-in-Envelope.result fault c.from_residual-in_err-say-in-Envelope.ensures.1
-    (broke_in_lines joins texts source mid rest old (state a.writer) (state b.writer) errors_old errors_now errors_new c.telling.count e.octets (text_of e) c.as_bytes.result.now TooMany fault r
-    h.come.came.given (full, e, h.come.is, [], sym (append-nil e.octets)) (e, h.come.is, [], sym (append-nil e.octets), refl) h.out same c.in_err-say-in-Envelope.ensures.err)
+    let errors_new = g.E.Target.state c.tell_stories-answer.new.errors in
+    let answer = c.tell_stories-answer.result in
+    between state (λ (d e : Device). IfOk answer (Narrated source rest d e errors_old errors_new)) c.in-Ok.made c.tell_stories-answer.new.output c.args.output c.into_writer.result c.in-Ok.ensures.writer
+    c.into_writer.ensures c.tell_stories-answer.ensures.ok
 
-pub returns-then-count-eq-MAX_ENVELOPES-clause-ok : goal.returns-then-count-eq-MAX_ENVELOPES-clause-ok
-returns-then-count-eq-MAX_ENVELOPES-clause-ok g c =
+pub returns-in-Ok-clause-err : goal.returns-in-Ok-clause-err
+returns-in-Ok-clause-err g c =
+    let state = g.W.Target.state in
     let source = line g.R.Source.state c.args.intake.now in
-    let mid = line g.R.Source.state c.telling.intake in
-    let rest = line g.R.Source.state c.take_next.new.intake in
-    let state = g.W.Target.state in
-    let a = c.telling.output in
-    let b = c.take_next.new.sink in
-    let old = state c.args.output.now.writer in
+    let rest = line g.R.Source.state c.tell_stories-answer.new.intake in
     let errors_old = g.E.Target.state c.args.errors.now in
-    let errors_now = g.E.Target.state c.telling.errors in
-    let r = c.telling.invariant.narrated in
-    let joins = c.gifts_join.ensures in
-    let texts = c.texts_join.ensures in
-    let h = text_out state c.envelopes_are_delivered_as_lines.ensures c.lines_are_joined_by_line_feeds.ensures mid rest a b c.in_ok-got.field-0 c.in-Envelope.got c.in-Envelope.octets
-    c.in-Envelope.is c.telling.invariant.unbroken c.in_ok-got.ensures.calm c.in_ok-got.ensures.next in
-    let e = h.come.envelope in
-    let full : c.telling.count ≡ max_envelopes = search rules in
-    let errors_new = g.E.Target.state c.say.new.output in
-    let same : c.as_bytes.result.now ≡ too_many_line = search rules in
-    let more = left_of rest.octets in
-    narrated joins texts source mid rest old (state a.writer) (state b.writer) errors_old errors_now errors_new c.telling.count 1 e.octets more.0 (text_of e) c.as_bytes.result.now TooMany r
-    h.come.came.given more.1 (full, e, h.come.is, more.0, refl) (e, h.come.is, more.0, refl, refl) refl h.out same c.in_ok-say-in-Envelope.ensures.ok
-
-pub returns-in_err-push_accepted-in-Envelope-clause-err : goal.returns-in_err-push_accepted-in-Envelope-clause-err
-returns-in_err-push_accepted-in-Envelope-clause-err g c =
-    let source = line g.R.Source.state c.args.intake.now in
-    let mid = line g.R.Source.state c.telling.intake in
-    let rest = line g.R.Source.state c.take_next.new.intake in
-    let state = g.W.Target.state in
-    let a = c.telling.output in
-    let b = c.take_next.new.sink in
-    let old = state c.args.output.now.writer in
-    let errors_old = g.E.Target.state c.args.errors.now in
-    let errors_now = g.E.Target.state c.telling.errors in
-    let r = c.telling.invariant.narrated in
-    let joins = c.gifts_join.ensures in
-    let texts = c.texts_join.ensures in
-    let h = text_out state c.envelopes_are_delivered_as_lines.ensures c.lines_are_joined_by_line_feeds.ensures mid rest a b c.in_ok-got.field-0 c.in-Envelope.got c.in-Envelope.octets
-    c.in-Envelope.is c.telling.invariant.unbroken c.in_ok-got.ensures.calm c.in_ok-got.ensures.next in
-    let e = h.come.envelope in
-    handed_on (IsUnnarrated source rest old (state b.writer) errors_old errors_now) c.from_residual-in_err-push_accepted-in-Envelope.result OutOfMemory c.from_residual-in_err-push_accepted-in-Envelope.ensures.1
-    (unfed_for_memory joins texts source mid rest old (state a.writer) (state b.writer) errors_old errors_now c.telling.count e.octets (length e.octets) (text_of e) r h.come.came.given h.whole h.out)
-
-pub returns-in_err-end_text-in-Envelope-clause-err : goal.returns-in_err-end_text-in-Envelope-clause-err
-returns-in_err-end_text-in-Envelope-clause-err g c =
-    let source = line g.R.Source.state c.args.intake.now in
-    let mid = line g.R.Source.state c.telling.intake in
-    let rest = line g.R.Source.state c.take_next.new.intake in
-    let state = g.W.Target.state in
-    let a = c.telling.output in
-    let b = c.take_next.new.sink in
-    let old = state c.args.output.now.writer in
-    let errors_old = g.E.Target.state c.args.errors.now in
-    let errors_now = g.E.Target.state c.telling.errors in
-    let r = c.telling.invariant.narrated in
-    let joins = c.gifts_join.ensures in
-    let texts = c.texts_join.ensures in
-    let h = text_out state c.envelopes_are_delivered_as_lines.ensures c.lines_are_joined_by_line_feeds.ensures mid rest a b c.in_ok-got.field-0 c.in-Envelope.got c.in-Envelope.octets
-    c.in-Envelope.is c.telling.invariant.unbroken c.in_ok-got.ensures.calm c.in_ok-got.ensures.next in
-    let e = h.come.envelope in
-    let d = c.end_text.new.output in
-    let fault = c.in_err-end_text-in-Envelope.field-0.0 in
-    handed_on (IsUnnarrated source rest old (state d.writer) errors_old errors_now) c.from_residual-in_err-end_text-in-Envelope.result fault c.from_residual-in_err-end_text-in-Envelope.ensures.1
-    (unended_text state joins texts source mid rest old errors_old errors_now a b d c.telling.count c.in-Envelope.got c.in-Envelope.octets fault r h c.in_err-end_text-in-Envelope.ensures.err)
-
-pub returns-in_err-say-in-Envelope-2-clause-err : goal.returns-in_err-say-in-Envelope-2-clause-err
-returns-in_err-say-in-Envelope-2-clause-err g c =
-    let source = line g.R.Source.state c.args.intake.now in
-    let mid = line g.R.Source.state c.telling.intake in
-    let rest = line g.R.Source.state c.take_next.new.intake in
-    let state = g.W.Target.state in
-    let a = c.telling.output in
-    let b = c.take_next.new.sink in
-    let old = state c.args.output.now.writer in
-    let errors_old = g.E.Target.state c.args.errors.now in
-    let errors_now = g.E.Target.state c.telling.errors in
-    let r = c.telling.invariant.narrated in
-    let joins = c.gifts_join.ensures in
-    let texts = c.texts_join.ensures in
-    let h = text_out state c.envelopes_are_delivered_as_lines.ensures c.lines_are_joined_by_line_feeds.ensures mid rest a b c.in_ok-got.field-0 c.in-Envelope.got c.in-Envelope.octets
-    c.in-Envelope.is c.telling.invariant.unbroken c.in_ok-got.ensures.calm c.in_ok-got.ensures.next in
-    let e = h.come.envelope in
-    let words = added c.clear.new.self.items c.push_accepted.new.text.items (accepted_line (c.telling.count + 1) c.in-Envelope.octets) c.as_slice.result.now c.clear.ensures.items
-    c.in_ok-push_accepted-in-Envelope.ensures c.as_slice.ensures.value ∙ ap (accepted_line (c.telling.count + 1)) h.come.counts in
-    let below : c.telling.count ≡ max_envelopes → ⊥ = search rules in
-    let d = c.end_text.new.output in
-    let errors_new = g.E.Target.state c.say-in-Envelope.new.output in
-    let fault = c.in_err-say-in-Envelope-2.field-0.0 in
-    handed_on (IsUnnarrated source rest old (state d.writer) errors_old errors_new) c.from_residual-in_err-say-in-Envelope-2.result fault c.from_residual-in_err-say-in-Envelope-2.ensures.1
-    (broke_in_line joins texts source mid rest old (state a.writer) (state b.writer) (state d.writer) errors_old errors_now errors_new c.telling.count c.as_slice.result.now e fault r
-    h.come.is h.come.came.given below h.out c.in_ok-end_text-in-Envelope.ensures.ok words c.in_err-say-in-Envelope-2.ensures.err)
-
-pub returns-in-End-clause-ok : goal.returns-in-End-clause-ok
-returns-in-End-clause-ok g c =
-    let source = line g.R.Source.state c.args.intake.now in
-    let mid = line g.R.Source.state c.telling.intake in
-    let rest = line g.R.Source.state c.take_next.new.intake in
-    let state = g.W.Target.state in
-    let a = c.telling.output in
-    let b = c.take_next.new.sink in
-    let old = state c.args.output.now.writer in
-    let errors_old = g.E.Target.state c.args.errors.now in
-    let errors_now = g.E.Target.state c.telling.errors in
-    let r = c.telling.invariant.narrated in
-    let joins = c.gifts_join.ensures in
-    let texts = c.texts_join.ensures in
-    let h = end_as (WritesLines state) stops_of mid rest a b c.in_ok-got.field-0 c.in-End.is c.in_ok-got.ensures.next in
-    let still : Wrote (state a.writer) (state b.writer) [] = subst (λ (w : LineWriter _). Wrote (device_of state a) (device_of state w) []) (sym h.2) (texts.none (device_of state a)) in
-    narrated joins texts source mid rest old (state a.writer) (state b.writer) errors_old errors_now errors_now c.telling.count 0 [] [] [] [] Whole r h.0 (none_left rest.octets h.1) refl refl refl
-    still refl (texts.none errors_now)
-
-pub returns-in_err-push_refused-in-Refused-clause-err : goal.returns-in_err-push_refused-in-Refused-clause-err
-returns-in_err-push_refused-in-Refused-clause-err g c =
-    let source = line g.R.Source.state c.args.intake.now in
-    let mid = line g.R.Source.state c.telling.intake in
-    let rest = line g.R.Source.state c.take_next.new.intake in
-    let state = g.W.Target.state in
-    let a = c.telling.output in
-    let b = c.take_next.new.sink in
-    let old = state c.args.output.now.writer in
-    let errors_old = g.E.Target.state c.args.errors.now in
-    let errors_now = g.E.Target.state c.telling.errors in
-    let r = c.telling.invariant.narrated in
-    let joins = c.gifts_join.ensures in
-    let texts = c.texts_join.ensures in
-    let h = front_out state mid rest a b c.in_ok-got.field-0 c.in-Refused.refusal c.in-Refused.is c.telling.invariant.unbroken c.in_ok-got.ensures.calm c.in_ok-got.ensures.next in
-    let f = h.refused in
-    let words = map octet_for f.more in
-    handed_on (IsUnnarrated source rest old (state b.writer) errors_old errors_now) c.from_residual-in_err-push_refused-in-Refused.result OutOfMemory c.from_residual-in_err-push_refused-in-Refused.ensures.1
-    (unfed_for_memory joins texts source mid rest old (state a.writer) (state b.writer) errors_old errors_now c.telling.count f.octets f.k words r f.came.given (f.more, f.delivered, refl) h.out)
-
-pub returns-in_err-say-in-Refused-clause-err : goal.returns-in_err-say-in-Refused-clause-err
-returns-in_err-say-in-Refused-clause-err g c =
-    let source = line g.R.Source.state c.args.intake.now in
-    let mid = line g.R.Source.state c.telling.intake in
-    let rest = line g.R.Source.state c.take_next.new.intake in
-    let state = g.W.Target.state in
-    let a = c.telling.output in
-    let b = c.take_next.new.sink in
-    let old = state c.args.output.now.writer in
-    let errors_old = g.E.Target.state c.args.errors.now in
-    let errors_now = g.E.Target.state c.telling.errors in
-    let r = c.telling.invariant.narrated in
-    let joins = c.gifts_join.ensures in
-    let texts = c.texts_join.ensures in
-    let h = front_out state mid rest a b c.in_ok-got.field-0 c.in-Refused.refusal c.in-Refused.is c.telling.invariant.unbroken c.in_ok-got.ensures.calm c.in_ok-got.ensures.next in
-    let f = h.refused in
-    let words = map octet_for f.more in
-    let errors_new = g.E.Target.state c.say-in-Refused.new.output in
-    let same : c.as_slice-in-Refused.result.now ≡ refused_line (c.telling.count + 1) c.in-Refused.refusal = search rules in
-    let fault = c.in_err-say-in-Refused.field-0.0 in
-    handed_on (IsUnnarrated source rest old (state b.writer) errors_old errors_new) c.from_residual-in_err-say-in-Refused.result fault c.from_residual-in_err-say-in-Refused.ensures.1
-    (broke_in_lines joins texts source mid rest old (state a.writer) (state b.writer) errors_old errors_now errors_new c.telling.count f.octets words c.as_slice-in-Refused.result.now
-    (RefusedBy c.in-Refused.refusal) fault r f.came.given (f.k, f.refused) (f.k, f.refused, (f.more, f.delivered, refl)) h.out same c.in_err-say-in-Refused.ensures.err)
-
-pub returns-in-Refused-clause-ok : goal.returns-in-Refused-clause-ok
-returns-in-Refused-clause-ok g c =
-    let source = line g.R.Source.state c.args.intake.now in
-    let mid = line g.R.Source.state c.telling.intake in
-    let rest = line g.R.Source.state c.take_next.new.intake in
-    let state = g.W.Target.state in
-    let a = c.telling.output in
-    let b = c.take_next.new.sink in
-    let old = state c.args.output.now.writer in
-    let errors_old = g.E.Target.state c.args.errors.now in
-    let errors_now = g.E.Target.state c.telling.errors in
-    let r = c.telling.invariant.narrated in
-    let joins = c.gifts_join.ensures in
-    let texts = c.texts_join.ensures in
-    let h = front_out state mid rest a b c.in_ok-got.field-0 c.in-Refused.refusal c.in-Refused.is c.telling.invariant.unbroken c.in_ok-got.ensures.calm c.in_ok-got.ensures.next in
-    let f = h.refused in
-    let words = map octet_for f.more in
-    let errors_new = g.E.Target.state c.say-in-Refused.new.output in
-    let same : c.as_slice-in-Refused.result.now ≡ refused_line (c.telling.count + 1) c.in-Refused.refusal = search rules in
-    let more = ends_refused (WritesLines state) mid rest a b c.in-Refused.refusal f in
-    narrated joins texts source mid rest old (state a.writer) (state b.writer) errors_old errors_now errors_new c.telling.count 1 f.octets more.0 words c.as_slice-in-Refused.result.now
-    (RefusedBy c.in-Refused.refusal) r f.came.given more.1 (f.k, more.2) (text_refused state mid rest a b c.in-Refused.refusal f more.0 more.2) refl h.out same c.in_ok-say-in-Refused.ensures.ok
-
-pub telling-preserved : goal.telling-preserved
-telling-preserved g c =
-    let source = line g.R.Source.state c.args.intake.now in
-    let mid = line g.R.Source.state c.telling.intake in
-    let rest = line g.R.Source.state c.take_next.new.intake in
-    let state = g.W.Target.state in
-    let a = c.telling.output in
-    let b = c.take_next.new.sink in
-    let old = state c.args.output.now.writer in
-    let errors_old = g.E.Target.state c.args.errors.now in
-    let errors_now = g.E.Target.state c.telling.errors in
-    let r = c.telling.invariant.narrated in
-    let joins = c.gifts_join.ensures in
-    let texts = c.texts_join.ensures in
-    let h = text_out state c.envelopes_are_delivered_as_lines.ensures c.lines_are_joined_by_line_feeds.ensures mid rest a b c.in_ok-got.field-0 c.in-Envelope.got c.in-Envelope.octets
-    c.in-Envelope.is c.telling.invariant.unbroken c.in_ok-got.ensures.calm c.in_ok-got.ensures.next in
-    let e = h.come.envelope in
-    let words = added c.clear.new.self.items c.push_accepted.new.text.items (accepted_line (c.telling.count + 1) c.in-Envelope.octets) c.as_slice.result.now c.clear.ensures.items
-    c.in_ok-push_accepted-in-Envelope.ensures c.as_slice.ensures.value ∙ ap (accepted_line (c.telling.count + 1)) h.come.counts in
-    let below : c.telling.count ≡ max_envelopes → ⊥ = search rules in
-    let d = c.end_text.new.output in
-    let errors_new = g.E.Target.state c.say-in-Envelope.new.output in
-    record {
-      alive = lives_as c.take_next.new.intake.failed c.in_ok-got.field-0 c.in-Envelope.got c.in-Envelope.octets c.in-Envelope.is c.in_ok-got.ensures.lives;
-      unbroken = c.in_ok-end_text-in-Envelope.ensures.calm ∙ h.unbroken;
-      narrated =
-          narrated_more joins texts source mid rest old (state a.writer) (state b.writer) (state d.writer) errors_old errors_now errors_new c.telling.count c.as_slice.result.now e r
-          h.come.is h.come.came.given below h.out c.in_ok-end_text-in-Envelope.ensures.ok words c.in_ok-say-in-Envelope-2.ensures.ok;
-      leads = λ last h. c.telling.invariant.leads last (g.met.R.Source.leads_on c.telling.intake.reader c.take_next.new.intake.reader last c.take_next.ensures.leads h);
-    }
-
-pub returns-in_err-say-in-Envelope-2-clause-leads : goal.returns-in_err-say-in-Envelope-2-clause-leads
-returns-in_err-say-in-Envelope-2-clause-leads g c = c.telling.invariant.leads c.take_next.new.intake.reader c.take_next.ensures.leads
-
-pub returns-in_err-got-clause-leads : goal.returns-in_err-got-clause-leads
-returns-in_err-got-clause-leads g c = c.telling.invariant.leads c.take_next.new.intake.reader c.take_next.ensures.leads
-
-pub returns-in_err-say-in-Envelope-clause-leads : goal.returns-in_err-say-in-Envelope-clause-leads
-returns-in_err-say-in-Envelope-clause-leads g c = c.telling.invariant.leads c.take_next.new.intake.reader c.take_next.ensures.leads
-
-pub returns-then-count-eq-MAX_ENVELOPES-clause-leads : goal.returns-then-count-eq-MAX_ENVELOPES-clause-leads
-returns-then-count-eq-MAX_ENVELOPES-clause-leads g c = c.telling.invariant.leads c.take_next.new.intake.reader c.take_next.ensures.leads
-
-pub returns-in_err-push_accepted-in-Envelope-clause-leads : goal.returns-in_err-push_accepted-in-Envelope-clause-leads
-returns-in_err-push_accepted-in-Envelope-clause-leads g c = c.telling.invariant.leads c.take_next.new.intake.reader c.take_next.ensures.leads
-
-pub returns-in_err-end_text-in-Envelope-clause-leads : goal.returns-in_err-end_text-in-Envelope-clause-leads
-returns-in_err-end_text-in-Envelope-clause-leads g c = c.telling.invariant.leads c.take_next.new.intake.reader c.take_next.ensures.leads
-
-pub returns-in-End-clause-leads : goal.returns-in-End-clause-leads
-returns-in-End-clause-leads g c = c.telling.invariant.leads c.take_next.new.intake.reader c.take_next.ensures.leads
-
-pub returns-in_err-push_refused-in-Refused-clause-leads : goal.returns-in_err-push_refused-in-Refused-clause-leads
-returns-in_err-push_refused-in-Refused-clause-leads g c = c.telling.invariant.leads c.take_next.new.intake.reader c.take_next.ensures.leads
-
-pub returns-in_err-say-in-Refused-clause-leads : goal.returns-in_err-say-in-Refused-clause-leads
-returns-in_err-say-in-Refused-clause-leads g c = c.telling.invariant.leads c.take_next.new.intake.reader c.take_next.ensures.leads
-
-pub returns-in-Refused-clause-leads : goal.returns-in-Refused-clause-leads
-returns-in-Refused-clause-leads g c = c.telling.invariant.leads c.take_next.new.intake.reader c.take_next.ensures.leads
+    let errors_new = g.E.Target.state c.tell_stories-answer.new.errors in
+    let answer = c.tell_stories-answer.result in
+    between state (λ (d e : Device). IfErr answer (IsUnnarrated source rest d e errors_old errors_new)) c.in-Ok.made c.tell_stories-answer.new.output c.args.output c.into_writer.result c.in-Ok.ensures.writer
+    c.into_writer.ensures c.tell_stories-answer.ensures.err

@@ -1,172 +1,135 @@
-use Rattle.std.proofs.Common.{◌≡◌, ◌<◌, ◌≤◌, ℕ, List, length, refl, ap, sym, subst, ◌∙◌, inl, inr}
+use Rattle.std.proofs.Common.{◌≡◌, ◌<◌, ◌∙◌, [], ℕ, List, length, ap, refl, subst, sym, arith}
 use Rattle.iim_dataset.specs.Format.Devices.{Device}
+use Rattle.iim_fields.specs.declared.limits.Limits.{Limits}
 use Rattle.iim_unpack.specs.Format.Blocks.{with_held}
 use Rattle.iim_unpack.specs.Format.Unpacking.{raised}
-use Rattle.iim_fields.specs.declared.limits.Limits.{Limits}
-use Rattle.iim_unpack.proofs.Blocks.{line_used, line_front}
-use Rattle.iim_unpack.proofs.Intakes.{begin_on, went_more, went_done, went_refused, went_ended, went_truncated, went_missed, bounded, smaller, somewhere, faulted, told_truncated, not_told, was_fresh, not_fresh, used_within}
+use Rattle.iim_unpack.proofs.Intakes.{fed_none, fed_then, fed_and_done, fed_and_ended, fed_and_faults, fed_few, raised_on, some_came, more_of, done_of, end_of, somewhere, smaller}
 use Rattle.iim_unpack.proofs.intake.feed_line.Goals as goal
 
 pub feeding-init : goal.feeding-init
 feeding-init g c =
     let st = g.R.Source.state in
-    let joins = c.gifts_join.ensures in
     let old : Device = with_held c.args.block.now (st c.args.reader.now) in
     record {
-      went = begin_on g.S.StorySink.goes joins old c.args.unpacker.now c.args.sink.now c.stands_somewhere.ensures.counts (g.met.S.StorySink.nothing c.args.sink.now);
+      fed = (fed_none g.S.StorySink.goes c.gifts_join.ensures old c.args.unpacker.now c.args.sink.now c.stands_somewhere.ensures.counts (g.met.S.StorySink.nothing c.args.sink.now), λ none. refl);
       ready = c.requires.ready;
       calm = refl;
       leads = g.met.R.Source.stays c.args.reader.now;
     }
 
-pub returns-then-is_fresh-clause-fed : goal.returns-then-is_fresh-clause-fed
-returns-then-is_fresh-clause-fed g c =
-    let st = g.R.Source.state in
-    let joins = c.gifts_join.ensures in
-    let old : Device = with_held c.args.block.now (st c.args.reader.now) in
-    let mid : Device = with_held c.feeding.block (st c.feeding.reader) in
-    let nxt : Device = with_held c.next_piece.new.block (st c.next_piece.new.reader) in
-    let goes = g.S.StorySink.goes in
-    let u = c.args.unpacker.now in
-    let v = c.feeding.unpacker in
-    let on = c.feeding.invariant.went in
-    let here = somewhere u c.requires.ready c.stands_somewhere.ensures.stood in
-    went_ended goes joins old mid nxt u v c.args.sink.now c.feeding.sink c.feeding.used on c.in-Ok-false.ensures.given (c.in-Ok-false.ensures.end c.in-Ok-false.field-0-test)
-    here.0 here.1 here.2 (λ q k is. was_fresh c.is_fresh.result q c.if-is_fresh.true (c.is_fresh.ensures q k is))
-
-pub returns-in-Some-clause-faults : goal.returns-in-Some-clause-faults
-returns-in-Some-clause-faults g c =
-    let st = g.R.Source.state in
-    let joins = c.gifts_join.ensures in
-    let old : Device = with_held c.args.block.now (st c.args.reader.now) in
-    let mid : Device = with_held c.feeding.block (st c.feeding.reader) in
-    let nxt : Device = with_held c.next_piece.new.block (st c.next_piece.new.reader) in
-    let goes = g.S.StorySink.goes in
-    let failures = g.S.StorySink.failures in
-    let u = c.args.unpacker.now in
-    let v = c.feeding.unpacker in
-    let on = c.feeding.invariant.went in (
-      refl,
-      inr (went_truncated goes failures joins old mid nxt u v c.args.sink.now c.feeding.sink c.feeding.used c.in-Some.refusal on c.feeding.invariant.calm c.in-Ok-false.ensures.given
-          (c.in-Ok-false.ensures.end c.in-Ok-false.field-0-test) (λ q k is. not_fresh c.is_fresh.result q c.if-is_fresh.false (c.is_fresh.ensures q k is))
-          (λ q k is. told_truncated q k c.end_of_input.result c.in-Some.refusal c.in-Some.is (c.end_of_input.ensures.truncated q k is))),
-    )
-
-pub unreachable-requires : goal.unreachable-requires
-unreachable-requires g c =
-    let u = c.args.unpacker.now in
-    let on = c.feeding.invariant.went in
-    let here = somewhere u c.requires.ready c.stands_somewhere.ensures.stood in
-    let there = on.stands here.0 here.1 here.2 in
-    not_told c.end_of_input.result _ _ c.in-None.is (c.end_of_input.ensures.truncated _ _ there.0)
-
-pub returns-in-Err-clause-faults : goal.returns-in-Err-clause-faults
-returns-in-Err-clause-faults g c =
-    let st = g.R.Source.state in
-    let joins = c.gifts_join.ensures in
-    let old : Device = with_held c.args.block.now (st c.args.reader.now) in
-    let mid : Device = with_held c.feeding.block (st c.feeding.reader) in
-    let nxt : Device = with_held c.next_piece.new.block (st c.next_piece.new.reader) in
-    let goes = g.S.StorySink.goes in
-    let failures = g.S.StorySink.failures in
-    let u = c.args.unpacker.now in
-    let v = c.feeding.unpacker in
-    let on = c.feeding.invariant.went in
-    faulted goes failures old nxt u c.args.sink.now c.feeding.sink c.octets.result c.in-Err.fault c.read_fault.result c.read_fault.ensures
-    (went_missed goes failures joins old mid nxt u v c.args.sink.now c.feeding.sink c.feeding.used c.octets.result c.in-Err.fault on c.feeding.invariant.calm c.in-Err.ensures.missed c.octets.ensures)
-
 pub feeding-smaller : goal.feeding-smaller
 feeding-smaller g c =
     let st = g.R.Source.state in
+    let joins = c.gifts_join.ensures in
+    let cut = c.delivery_may_be_cut.ensures in
+    let joined = g.met.S.StorySink.joined in
     let old : Device = with_held c.args.block.now (st c.args.reader.now) in
     let mid : Device = with_held c.feeding.block (st c.feeding.reader) in
+    let new : Device = with_held c.feed_piece.new.block (st c.feed_piece.new.reader) in
     let goes = g.S.StorySink.goes in
+    let failures = g.S.StorySink.failures in
     let u = c.args.unpacker.now in
     let v = c.feeding.unpacker in
-    let on = c.feeding.invariant.went in
+    let w = c.feed_piece.new.unpacker in
+    let a = c.args.sink.now in
+    let b = c.feeding.sink in
+    let d = c.feed_piece.new.sink in
+    let on = c.feeding.invariant.fed.0 in
     let here = somewhere u c.requires.ready c.stands_somewhere.ensures.stood in
-    let piece = c.held.result.now in
-    let count = length c.held-count.result.now in
-    let all : count ≡ length piece = ap length (c.held-count.ensures ∙ sym c.held.ensures) in
-    let some : 0 < length piece = subst (λ (xs : List ℕ). 0 < length xs) (sym c.held.ensures) (c.in-Ok-true.ensures.some c.in-Ok-true.field-0-test) in
-    smaller c.feeding.used c.raised-used.result count c.raised-used.ensures (subst (λ n. 0 < n) (sym all) some)
-    (bounded goes c.open_octets_are_bounded.ensures old mid u v c.args.sink.now c.feeding.sink c.feeding.used on
+    let more = more_of goes mid new v w b d c.in-Ok-More.more c.in-Ok-More.field-0 c.in-Ok-More.field-0-is c.in-Ok-More.ensures.fed in
+    smaller c.feeding.used c.summed-used.result c.in-Ok-More.more c.summed-used.ensures more.0
+    (fed_few goes c.open_octets_are_bounded.ensures old mid u v a b c.feeding.used on
     (subst (λ (l : Limits). l.octets < 4294967296) (sym on.limits) c.stands_somewhere.ensures.octets) (subst (λ (l : Limits). l.fields < 4294967296) (sym on.limits) c.stands_somewhere.ensures.fields) here.0 here.1 here.2)
 
 pub feeding-preserved : goal.feeding-preserved
 feeding-preserved g c =
     let st = g.R.Source.state in
     let joins = c.gifts_join.ensures in
+    let cut = c.delivery_may_be_cut.ensures in
+    let joined = g.met.S.StorySink.joined in
     let old : Device = with_held c.args.block.now (st c.args.reader.now) in
     let mid : Device = with_held c.feeding.block (st c.feeding.reader) in
-    let nxt : Device = with_held c.next_piece.new.block (st c.next_piece.new.reader) in
+    let new : Device = with_held c.feed_piece.new.block (st c.feed_piece.new.reader) in
     let goes = g.S.StorySink.goes in
+    let failures = g.S.StorySink.failures in
     let u = c.args.unpacker.now in
     let v = c.feeding.unpacker in
-    let on = c.feeding.invariant.went in
+    let w = c.feed_piece.new.unpacker in
+    let a = c.args.sink.now in
+    let b = c.feeding.sink in
+    let d = c.feed_piece.new.sink in
+    let on = c.feeding.invariant.fed.0 in
     let here = somewhere u c.requires.ready c.stands_somewhere.ensures.stood in
-    let piece = c.held.result.now in
-    let count = length c.held-count.result.now in
-    let new : Device = with_held c.pass.new.self (st c.next_piece.new.reader) in
-    let all : count ≡ length piece = ap length (c.held-count.ensures ∙ sym c.held.ensures) in
-    let some : 0 < length piece = subst (λ (xs : List ℕ). 0 < length xs) (sym c.held.ensures) (c.in-Ok-true.ensures.some c.in-Ok-true.field-0-test) in
-    let went = went_more goes g.met.S.StorySink.joined joins c.delivery_may_be_cut.ensures old mid nxt new u v c.feed.new.self c.args.sink.now c.feeding.sink c.feed.new.sink c.feeding.used c.raised-used.result piece
-    on c.in-Ok-true.ensures.given (line_used count c.next_piece.new.block c.pass.new.self piece (st c.next_piece.new.reader) (ap length c.held-count.ensures) c.held.ensures c.pass.ensures) some
-    (c.raised-used.ensures ∙ ap (raised c.feeding.used) all) (c.in-Ok-More.ensures.limits c.feeding.invariant.ready.0) c.in-Ok-More.field-0 c.in-Ok-More.field-0-is c.in-Ok-More.ensures.goes.1 in
-    let then_ = went.stands here.0 here.1 here.2 in
+    let more = more_of goes mid new v w b d c.in-Ok-More.more c.in-Ok-More.field-0 c.in-Ok-More.field-0-is c.in-Ok-More.ensures.fed in
+    let fed = fed_then goes joined joins cut old mid new u v w a b d c.feeding.used c.in-Ok-More.more c.summed-used.result on more.2 c.summed-used.ensures in
+    let some : 0 < c.summed-used.result = raised_on c.feeding.used c.in-Ok-More.more c.summed-used.result more.0 c.summed-used.ensures in
     record {
-      went = went;
-      ready = (then_.0.taking, then_.0.unended);
-      calm = c.in-Ok-More.ensures.goes.0 ∙ c.feeding.invariant.calm;
-      leads = g.met.R.Source.leads_on c.args.reader.now c.feeding.reader c.next_piece.new.reader c.feeding.invariant.leads c.next_piece.ensures.leads;
+      fed = (fed, λ none. absurd (some_came goes old new u w a d c.summed-used.result some fed none));
+      ready = more.1;
+      calm = c.in-Ok-More.ensures.calm ∙ c.feeding.invariant.calm;
+      leads = g.met.R.Source.leads_on c.args.reader.now c.feeding.reader c.feed_piece.new.reader c.feeding.invariant.leads c.feed_piece.ensures.leads;
     }
 
 pub returns-in-Ok-Done-clause-fed : goal.returns-in-Ok-Done-clause-fed
 returns-in-Ok-Done-clause-fed g c =
     let st = g.R.Source.state in
     let joins = c.gifts_join.ensures in
+    let cut = c.delivery_may_be_cut.ensures in
+    let joined = g.met.S.StorySink.joined in
     let old : Device = with_held c.args.block.now (st c.args.reader.now) in
     let mid : Device = with_held c.feeding.block (st c.feeding.reader) in
-    let nxt : Device = with_held c.next_piece.new.block (st c.next_piece.new.reader) in
-    let goes = g.S.StorySink.goes in
-    let u = c.args.unpacker.now in
-    let v = c.feeding.unpacker in
-    let on = c.feeding.invariant.went in
-    let here = somewhere u c.requires.ready c.stands_somewhere.ensures.stood in
-    let there = on.stands here.0 here.1 here.2 in
-    let piece = c.held.result.now in
-    let new : Device = with_held c.pass-in-Ok-Done.new.self (st c.next_piece.new.reader) in
-    went_done goes g.met.S.StorySink.joined joins c.delivery_may_be_cut.ensures old mid nxt new u v c.feed.new.self c.args.sink.now c.feeding.sink c.feed.new.sink c.feeding.used c.raised.result c.in-Ok-Done.last piece
-    on c.in-Ok-true.ensures.given (line_front c.in-Ok-Done.last c.next_piece.new.block c.pass-in-Ok-Done.new.self piece (st c.next_piece.new.reader) c.held.ensures c.pass-in-Ok-Done.ensures)
-    (used_within c.feed.new.self piece c.in-Ok-Done.ensures.goes.1.0 c.in-Ok-Done.last c.in-Ok-Done.field-0 _ _ c.in-Ok-Done.field-0-is (c.in-Ok-Done.ensures.goes.1.2 _ _ there.0))
-    c.raised.ensures (c.in-Ok-Done.ensures.limits c.feeding.invariant.ready.0) c.in-Ok-Done.field-0 c.in-Ok-Done.field-0-is c.in-Ok-Done.ensures.goes.1
-
-pub pass-requires-in-Ok-Done : goal.pass-requires-in-Ok-Done
-pass-requires-in-Ok-Done g c =
-    let u = c.args.unpacker.now in
-    let on = c.feeding.invariant.went in
-    let here = somewhere u c.requires.ready c.stands_somewhere.ensures.stood in
-    let there = on.stands here.0 here.1 here.2 in
-    let piece = c.held.result.now in
-    subst (λ (xs : List ℕ). c.in-Ok-Done.last ≤ length xs) c.held.ensures
-    (used_within c.feed.new.self piece c.in-Ok-Done.ensures.goes.1.0 c.in-Ok-Done.last c.in-Ok-Done.field-0 _ _ c.in-Ok-Done.field-0-is (c.in-Ok-Done.ensures.goes.1.2 _ _ there.0))
-
-pub returns-in-Err-feed-clause-faults : goal.returns-in-Err-feed-clause-faults
-returns-in-Err-feed-clause-faults g c =
-    let st = g.R.Source.state in
-    let joins = c.gifts_join.ensures in
-    let old : Device = with_held c.args.block.now (st c.args.reader.now) in
-    let mid : Device = with_held c.feeding.block (st c.feeding.reader) in
-    let nxt : Device = with_held c.next_piece.new.block (st c.next_piece.new.reader) in
+    let new : Device = with_held c.feed_piece.new.block (st c.feed_piece.new.reader) in
     let goes = g.S.StorySink.goes in
     let failures = g.S.StorySink.failures in
     let u = c.args.unpacker.now in
     let v = c.feeding.unpacker in
-    let on = c.feeding.invariant.went in
-    let piece = c.held.result.now in
-    let new : Device = with_held c.pass-in-Err-feed.new.self (st c.next_piece.new.reader) in (
-      refl,
-      inl (went_refused goes failures g.met.S.StorySink.joined joins c.delivery_may_be_cut.ensures old mid nxt new u v c.args.sink.now c.feeding.sink c.feed.new.sink c.feeding.used piece c.in-Err-feed.refusal
-          on c.feeding.invariant.calm c.in-Ok-true.ensures.given (line_used (length c.held-count.result.now) c.next_piece.new.block c.pass-in-Err-feed.new.self piece (st c.next_piece.new.reader) (ap length c.held-count.ensures) c.held.ensures c.pass-in-Err-feed.ensures)
-          c.in-Err-feed.ensures.counted c.in-Err-feed.ensures.refused),
-    )
+    let w = c.feed_piece.new.unpacker in
+    let a = c.args.sink.now in
+    let b = c.feeding.sink in
+    let d = c.feed_piece.new.sink in
+    let on = c.feeding.invariant.fed.0 in
+    let here = somewhere u c.requires.ready c.stands_somewhere.ensures.stood in
+    fed_and_done goes joined joins cut old mid new u v w a b d c.feeding.used c.in-Ok-Done.last c.summed.result on
+    (done_of goes mid new v w b d c.in-Ok-Done.last c.in-Ok-Done.field-0 c.in-Ok-Done.field-0-is c.in-Ok-Done.ensures.fed) c.summed.ensures
+
+pub returns-in-Ok-End-clause-fed : goal.returns-in-Ok-End-clause-fed
+returns-in-Ok-End-clause-fed g c =
+    let st = g.R.Source.state in
+    let joins = c.gifts_join.ensures in
+    let cut = c.delivery_may_be_cut.ensures in
+    let joined = g.met.S.StorySink.joined in
+    let old : Device = with_held c.args.block.now (st c.args.reader.now) in
+    let mid : Device = with_held c.feeding.block (st c.feeding.reader) in
+    let new : Device = with_held c.feed_piece.new.block (st c.feed_piece.new.reader) in
+    let goes = g.S.StorySink.goes in
+    let failures = g.S.StorySink.failures in
+    let u = c.args.unpacker.now in
+    let v = c.feeding.unpacker in
+    let w = c.feed_piece.new.unpacker in
+    let a = c.args.sink.now in
+    let b = c.feeding.sink in
+    let d = c.feed_piece.new.sink in
+    let on = c.feeding.invariant.fed.0 in
+    let here = somewhere u c.requires.ready c.stands_somewhere.ensures.stood in
+    fed_and_ended goes joins old mid new u v a b d c.feeding.used on c.feeding.invariant.fed.1 (end_of goes mid new v w b d c.in-Ok-End.field-0 c.in-Ok-End.field-0-is c.in-Ok-End.ensures.fed) here.0 here.1 here.2
+
+pub returns-in-Err-clause-faults : goal.returns-in-Err-clause-faults
+returns-in-Err-clause-faults g c =
+    let st = g.R.Source.state in
+    let joins = c.gifts_join.ensures in
+    let cut = c.delivery_may_be_cut.ensures in
+    let joined = g.met.S.StorySink.joined in
+    let old : Device = with_held c.args.block.now (st c.args.reader.now) in
+    let mid : Device = with_held c.feeding.block (st c.feeding.reader) in
+    let new : Device = with_held c.feed_piece.new.block (st c.feed_piece.new.reader) in
+    let goes = g.S.StorySink.goes in
+    let failures = g.S.StorySink.failures in
+    let u = c.args.unpacker.now in
+    let v = c.feeding.unpacker in
+    let w = c.feed_piece.new.unpacker in
+    let a = c.args.sink.now in
+    let b = c.feeding.sink in
+    let d = c.feed_piece.new.sink in
+    let on = c.feeding.invariant.fed.0 in
+    let here = somewhere u c.requires.ready c.stands_somewhere.ensures.stood in
+    fed_and_faults goes failures joined joins cut old mid new u v a b d c.feeding.used c.in-Err.halt.1 c.in-Err.halt.0 on c.feeding.invariant.calm c.in-Err.ensures.faults

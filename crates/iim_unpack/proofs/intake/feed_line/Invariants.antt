@@ -1,12 +1,13 @@
-use Rattle.std.proofs.Common.{◌≡◌, ◌-◌, ◌^◌}
+use Rattle.std.proofs.Common.{◌≡◌, ◌-◌, ◌^◌, []}
 use Rattle.iim_unpack.specs.Format.Blocks.{with_held}
-use Rattle.iim_unpack.specs.Format.Intakes.{IsReady}
-use Rattle.iim_unpack.specs.Intakes.{WentOn}
+use Rattle.iim_unpack.specs.Format.Intakes.{HasFed, IsReady}
 use Rattle.iim_unpack.proofs.intake.feed_line.Given as goal
 
 abbrev pub invariant-feeding : goal.invariant-feeding
 invariant-feeding g l = record {
-  went : WentOn g.S.StorySink.goes (with_held l.fn.block (g.R.Source.state l.fn.reader)) (with_held l.block (g.R.Source.state l.reader)) l.fn.unpacker l.unpacker l.fn.sink l.sink l.used;
+  fed :
+      (fed : HasFed g.S.StorySink.goes (with_held l.fn.block (g.R.Source.state l.fn.reader)) (with_held l.block (g.R.Source.state l.reader)) l.fn.unpacker l.unpacker l.fn.sink l.sink l.used)
+      × (fed.octets ≡ [] → l.sink ≡ l.fn.sink);
   ready : IsReady l.unpacker;
   calm : g.S.StorySink.failures l.sink ≡ g.S.StorySink.failures l.fn.sink;
   leads : g.R.Source.leads l.fn.reader l.reader;

@@ -1,12 +1,13 @@
 use Rattle.std.proofs.Common.{◌≡◌, ◌-◌, None}
 use Rattle.iim_unpack.specs.Format.Intakes.{line}
-use Rattle.wire_story.specs.Format.Writing.{device_of, stops_of}
+use Rattle.iim_commands.specs.Format.Holding.{HoldsNothing, device_of, stops_of}
 use Rattle.iim_commands.proofs.Narration.{AreNarrated}
-use Rattle.iim_commands.proofs.story.narrate.Given as goal
+use Rattle.iim_commands.proofs.story.tell_stories.Given as goal
 
 abbrev pub invariant-telling : goal.invariant-telling
 invariant-telling g l = record {
   alive : l.intake.failed ≡ None;
+  held : HoldsNothing l.output;
   unbroken : stops_of l.output ≡ 0;
   narrated : AreNarrated (line g.R.Source.state l.fn.intake) (line g.R.Source.state l.intake) (device_of g.W.Target.state l.fn.output) (device_of g.W.Target.state l.output) (g.E.Target.state l.fn.errors) (g.E.Target.state l.errors) l.count;
   leads : (last : _) → g.R.Source.leads l.intake.reader last → g.R.Source.leads l.fn.intake.reader last;

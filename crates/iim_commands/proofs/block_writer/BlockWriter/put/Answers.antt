@@ -1,0 +1,30 @@
+use Rattle.std.proofs.Common.{rules, ◌≡◌, [], take, map, refl, sym, subst}
+use Rattle.iim_dataset.specs.Format.Devices.{Rose}
+use Rattle.iim_commands.specs.Format.Holding.{HasPut, HasStuck, PutsOn, PutsLines, StaysStuck}
+use Rattle.iim_commands.specs.HoldingLaws.{put_on, puts_on}
+use Rattle.iim_commands.proofs.Holding.{if_err, on_ok, stuck_on}
+use Rattle.iim_commands.proofs.block_writer.BlockWriter.put.Goals as goal
+
+pub returns-in-Ok-clause-put : goal.returns-in-Ok-clause-put
+returns-in-Ok-clause-put g c = on_ok c.put_first.result _ _ (λ put. put_on g.W.Target.state c.args.self.now c.flush.new.self c.put_first.new.self [] c.args.text.now c.in-Ok.ensures.put put) c.put_first.ensures.put
+
+pub returns-in-Ok-clause-puts : goal.returns-in-Ok-clause-puts
+returns-in-Ok-clause-puts g c = on_ok c.put_first.result _ _ (λ puts. puts_on g.W.Target.state c.args.self.now c.flush.new.self c.put_first.new.self [] c.args.text.now c.in-Ok.ensures.puts puts) c.put_first.ensures.puts
+
+pub returns-in-Ok-clause-stuck : goal.returns-in-Ok-clause-stuck
+returns-in-Ok-clause-stuck g c =
+    if_err c.put_first.result _ _
+    (λ stop stuck. stuck_on g.W.Target.state c.texts_join.ensures c.args.self.now c.flush.new.self c.put_first.new.self [] (take stop.taken c.args.text.now) c.in-Ok.ensures.put stuck) c.put_first.ensures.stuck
+
+pub returns-in-Ok-clause-front : goal.returns-in-Ok-clause-front
+returns-in-Ok-clause-front g c =
+    if_err c.put_first.result _ _
+    (λ stop puts. puts_on g.W.Target.state c.args.self.now c.flush.new.self c.put_first.new.self [] (take stop.taken c.args.text.now) c.in-Ok.ensures.puts puts) c.put_first.ensures.front
+
+pub returns-in-Err-clause-stuck : goal.returns-in-Err-clause-stuck
+returns-in-Err-clause-stuck g c =
+    subst (λ n. HasStuck g.W.Target.state c.args.self.now c.flush.new.self (take n c.args.text.now)) (sym c.in-Err.ensures.none) c.in-Err.ensures.stuck.0
+
+pub returns-in-Err-clause-front : goal.returns-in-Err-clause-front
+returns-in-Err-clause-front g c =
+    subst (λ n. PutsOn g.W.Target.state c.args.self.now c.flush.new.self (take n c.args.text.now)) (sym c.in-Err.ensures.none) c.in-Err.ensures.front

@@ -1,0 +1,12 @@
+use Rattle.std.proofs.Common.{rules, ◌≡◌, [], take, map, refl, sym, subst}
+use Rattle.iim_dataset.specs.Format.Devices.{Rose}
+use Rattle.iim_commands.specs.Format.Holding.{HasPut, HasStuck, PutsOn, PutsLines, StaysStuck}
+use Rattle.iim_commands.specs.HoldingLaws.{put_on, puts_on}
+use Rattle.iim_commands.proofs.Holding.{none_of_one, taken_none}
+use Rattle.iim_commands.proofs.block_writer.BlockWriterStorySink.line_end.Goals as goal
+
+pub returns-clause-refused : goal.returns-clause-refused
+returns-clause-refused g c = taken_none c.put.result c.put.ensures.refused
+
+pub returns-clause-front : goal.returns-clause-front
+returns-clause-front g c = none_of_one c.put.result 10 (PutsOn g.W.Target.state c.args.self.now c.put.new.self) c.put.ensures.refused c.put.ensures.front

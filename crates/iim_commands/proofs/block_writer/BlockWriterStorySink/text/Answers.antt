@@ -1,0 +1,13 @@
+use Rattle.std.proofs.Common.{rules, ◌≡◌, [], take, map, refl, sym, subst}
+use Rattle.iim_dataset.specs.Format.Devices.{Rose}
+use Rattle.iim_commands.specs.Format.Holding.{HasPut, HasStuck, PutsOn, PutsLines, StaysStuck}
+use Rattle.iim_commands.specs.HoldingLaws.{put_on, puts_on}
+use Rattle.iim_commands.proofs.Holding.{if_err, on_ok, told_line}
+use Rattle.iim_commands.proofs.block_writer.BlockWriterStorySink.text.Goals as goal
+
+pub returns-clause-ok : goal.returns-clause-ok
+returns-clause-ok g c = on_ok c.put.result _ _ (λ puts. told_line g.W.Target.state c.args.self.now c.put.new.self c.args.run.now puts) c.put.ensures.puts
+
+pub returns-clause-front : goal.returns-clause-front
+returns-clause-front g c =
+    if_err c.put.result _ _ (λ stop puts. told_line g.W.Target.state c.args.self.now c.put.new.self (take stop.taken c.args.run.now) puts) c.put.ensures.front

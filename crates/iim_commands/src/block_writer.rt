@@ -1,0 +1,170 @@
+//! Output in blocks.
+
+ghost use Rattle.std.specs.Prelude.{◌≡◌, ◌<◌, ◌≤◌, [], ◌∷◌, length, map, take, IfOk, IfErr, OnOk, OnErr};
+ghost use Rattle.iim_dataset.specs.Format.Devices.{Rose};
+ghost use Rattle.wire_story.specs.Format.Texts.{IsLine};
+ghost use Rattle.wire_story.specs.Format.Delivery.{LineOctet, LineEnd};
+
+use crate::held::Held;
+use crate::outlet::Outlet;
+use iim_dataset::device_laws::texts_join;
+use iim_dataset::octets::LF;
+use iim_dataset::{Stop, Target, put};
+use std::alloc::Global;
+use wire_story::StorySink;
+
+/// Writes to a target in blocks: holds octets until a block of them is full, or until it is told to let them out. What it took is out,
+/// or held; a failed write loses none of it. It counts its stops up to the greatest number of 64 bits.
+#[derive(Drop)]
+pub struct BlockWriter<W> {
+    writer: W,
+    held: Held,
+    stops: u64,
+}
+
+impl<W: Target> BlockWriter<W> {
+    ghost use Rattle.iim_commands.specs.Format.Holding.{HasPut, HasStuck, PutsOn, StaysStuck, HoldsNothing, writer_of, held_of, stops_of};
+
+    /// A writer that holds nothing. Where memory is refused, the target is handed back.
+    pub fn new(alloc: Global, writer: W) -> Result<BlockWriter<W>, W>
+        ensures writer { IfOk result (λ made. writer_of made ≡ writer) }
+        ensures held { IfOk result HoldsNothing }
+        ensures stops { IfOk result (λ made. stops_of made ≡ 0) }
+        ensures handed_back { IfErr result (λ same. same ≡ writer) }
+    {
+        match Held::new(alloc) {
+            Ok(held) => Ok(BlockWriter {
+                writer,
+                held,
+                stops: 0,
+            }),
+            Err(_) => Err(writer),
+        }
+    }
+
+    /// The target. What is still held is lost.
+    pub fn into_writer(self) -> W
+        ensures { result ≡ writer_of self }
+    {
+        let BlockWriter {
+            writer,
+            held: _,
+            stops: _,
+        } = self;
+        writer
+    }
+
+    /// Lets out what is held. Where a write fails, the rest stays held.
+    pub fn flush(&mut self) -> Result<(), Stop>
+        ensures put { OnOk result (HasPut W.state self.old self.new []) }
+        ensures puts { OnOk result (PutsOn W.state self.old self.new []) }
+        ensures held { OnOk result (HoldsNothing self.new) }
+        ensures calm { OnOk result (stops_of self.new ≡ stops_of self.old) }
+        ensures stuck { OnErr result (StaysStuck W.state self.old self.new) }
+        ensures front { OnErr result (PutsOn W.state self.old self.new []) }
+        ensures none { IfErr result (λ stop. stop.taken ≡ 0) }
+        ensures counted { OnErr result (Rose (stops_of self.old) (stops_of self.new)) }
+    {
+        match put(&mut self.writer, self.held.octets()) {
+            Ok(()) => {
+                self.held.clear();
+                Ok(())
+            }
+            Err(out) => {
+                self.held.pass(out);
+                self.stops = self.stops.saturating_add(1);
+                Err(Stop { taken: 0 })
+            }
+        }
+    }
+
+    /// Takes a text whole, or only the octets before the one at which a write failed.
+    pub fn put(&mut self, text: &[u8]) -> Result<(), Stop>
+        ensures put { OnOk result (HasPut W.state self.old self.new text.now) }
+        ensures puts { OnOk result (PutsOn W.state self.old self.new text.now) }
+        ensures calm { OnOk result (stops_of self.new ≡ stops_of self.old) }
+        ensures refused { IfErr result (λ stop. stop.taken < length text.now) }
+        ensures stuck { IfErr result (λ stop. HasStuck W.state self.old self.new (take stop.taken text.now)) }
+        ensures front { IfErr result (λ stop. PutsOn W.state self.old self.new (take stop.taken text.now)) }
+        ensures counted { OnErr result (Rose (stops_of self.old) (stops_of self.new)) }
+    {
+        texts_join();
+        if text.len() <= self.held.room() {
+            self.hold(text);
+            return Ok(());
+        }
+        match self.flush() {
+            Ok(()) => self.put_first(text),
+            Err(stop) => Err(stop),
+        }
+    }
+
+    /// Takes a text where nothing is held: holds it, or where it is longer than a block writes it at once.
+    fn put_first(&mut self, text: &[u8]) -> Result<(), Stop>
+        requires { HoldsNothing self.old }
+        ensures put { OnOk result (HasPut W.state self.old self.new text.now) }
+        ensures puts { OnOk result (PutsOn W.state self.old self.new text.now) }
+        ensures calm { OnOk result (stops_of self.new ≡ stops_of self.old) }
+        ensures refused { IfErr result (λ stop. stop.taken < length text.now) }
+        ensures stuck { IfErr result (λ stop. HasStuck W.state self.old self.new (take stop.taken text.now)) }
+        ensures front { IfErr result (λ stop. PutsOn W.state self.old self.new (take stop.taken text.now)) }
+        ensures counted { OnErr result (Rose (stops_of self.old) (stops_of self.new)) }
+    {
+        if text.len() <= self.held.room() {
+            self.hold(text);
+            return Ok(());
+        }
+        match put(&mut self.writer, text) {
+            Ok(()) => Ok(()),
+            Err(taken) => {
+                self.stops = self.stops.saturating_add(1);
+                Err(Stop { taken })
+            }
+        }
+    }
+
+    /// Holds a text for which there is room.
+    fn hold(&mut self, text: &[u8])
+        requires { length text.now ≤ self.old.held.room }
+        ensures put { HasPut W.state self.old self.new text.now }
+        ensures puts { PutsOn W.state self.old self.new text.now }
+        ensures calm { stops_of self.new ≡ stops_of self.old }
+    {
+        texts_join();
+        self.held.take(text);
+    }
+}
+
+impl<W: Target> StorySink for BlockWriter<W> {
+    ghost use Rattle.iim_commands.specs.Format.Holding.{PutsLines, stops_of};
+
+    ghost goes = { PutsLines W.state };
+
+    ghost failures = { stops_of };
+
+    ghost use Rattle.iim_commands.specs.HoldingLaws.{puts_nothing, puts_joined};
+
+    ghost nothing = { λ sink. puts_nothing W.state sink };
+
+    ghost joined = { λ a b c xs ys first then. puts_joined W.state a b c xs ys first then };
+
+    fn text(&mut self, run: &[u8]) -> Result<(), Stop> {
+        self.put(run)
+    }
+
+    fn line_end(&mut self) -> Result<(), Stop> {
+        self.put(&[LF])
+    }
+}
+
+impl<W: Target> Outlet for BlockWriter<W> {
+    ghost use Rattle.iim_commands.specs.Format.Holding.{HoldsNothing, StaysStuck};
+
+    ghost settled = { HoldsNothing };
+
+    ghost stuck = { StaysStuck W.state };
+
+    fn let_out(&mut self) -> Result<(), Stop> {
+        self.flush()
+    }
+}
