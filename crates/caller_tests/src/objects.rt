@@ -10,7 +10,7 @@ use iim_object::{PackCause, Plan, SubfileBuffer, SubfileWriter};
 use std::alloc::Global;
 
 /// Writes records 7, 8 and 9 of an object, cut by a plan, and hands back what was written to.
-pub fn write_object<W: Target>(
+pub fn write_object<W: Target + Drop>(
     alloc: Global,
     plan: Plan,
     object: &[u8],

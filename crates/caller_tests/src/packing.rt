@@ -14,7 +14,7 @@ use std::alloc::Global;
 use wire_message::MessageHead;
 
 /// Packs an envelope whose story has one line, without a trailer, and hands back what was written to.
-pub fn pack_line<W: Target>(
+pub fn pack_line<W: Target + Drop>(
     alloc: Global,
     envelope: &Envelope,
     head: &MessageHead,
