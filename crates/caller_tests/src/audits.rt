@@ -1,0 +1,33 @@
+//! A caller of `iim_audit`.
+
+ghost use Rattle.std.specs.Prelude.{◌≡◌, List, None, IfOk};
+ghost use Rattle.iim_audit.specs.Format.Auditing.{IsAudited};
+ghost use Rattle.iim_audit.specs.Format.Texts.{printed_report};
+ghost use Rattle.iim_audit.specs.declared.row.AuditRow.{AuditRow};
+ghost use Rattle.iim_unpack.specs.Format.Intakes.{line};
+
+use iim_audit::{AuditCause, audit, report_text};
+use iim_dataset::Source;
+use iim_fields::Limits;
+use iim_unpack::Intake;
+use jiff::Timestamp;
+use std::alloc::Global;
+
+/// The text of the report of an input's envelopes, at the instant `now`.
+pub fn report_of<R: Source>(
+    alloc: Global,
+    intake: &mut Intake<R>,
+    limits: Limits,
+    now: Timestamp,
+) -> Result<Vec<u8>, AuditCause>
+    requires { intake.old.failed ≡ None }
+    ensures { IfOk result (λ text. (rows : List AuditRow) × IsAudited limits now.nanosecond (line R.state intake.old) (line R.state intake.new) rows × (text.items ≡ printed_report rows)) }
+{
+    match audit(alloc, intake, limits, now) {
+        Ok(report) => match report_text(alloc, &report) {
+            Ok(text) => Ok(text),
+            Err(_) => Err(AuditCause::OutOfMemory),
+        },
+        Err(fault) => Err(fault.cause),
+    }
+}

@@ -1,0 +1,33 @@
+//! A caller of `iim_pack`.
+
+ghost use Rattle.std.specs.Prelude.{ℕ, List, [], map, IfOk};
+ghost use Rattle.iim_dataset.specs.Format.Devices.{Wrote};
+ghost use Rattle.iim_pack.specs.Format.Packed.{Packed};
+ghost use Rattle.wire_story.specs.Format.Delivery.{LineOctet};
+ghost use Rattle.wire_story.specs.Format.Packing.{lines_of};
+
+use iim_dataset::Target;
+use iim_fields::Envelope;
+use iim_object::{PackCause, Plan};
+use iim_pack::Packer;
+use std::alloc::Global;
+use wire_message::MessageHead;
+
+/// Packs an envelope whose story has one line, without a trailer, and hands back what was written to.
+pub fn pack_line<W: Target + Drop>(
+    alloc: Global,
+    envelope: &Envelope,
+    head: &MessageHead,
+    line: &[u8],
+    plan: Plan,
+    writer: W,
+) -> Result<W, PackCause>
+    ensures { IfOk result (λ out. (form : List ℕ) × Packed envelope.now head.now (lines_of (map LineOctet line.now)) [] plan form × Wrote (W.state writer) (W.state out) form) }
+{
+    let mut packer = match Packer::start(alloc, envelope, head, plan, writer) {
+        Ok(packer) => packer,
+        Err(fault) => return Err(fault.cause),
+    };
+    packer.text(line)?;
+    packer.finish(b"").map_err(|(_, cause)| cause)
+}

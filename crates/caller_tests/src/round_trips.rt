@@ -1,0 +1,16 @@
+//! A caller of `iim_round_trip`.
+
+ghost use Rattle.std.specs.Prelude.{IfSome};
+ghost use Rattle.iim_round_trip.specs.Format.Stories.{ComesBack};
+ghost use Rattle.iim_unpack.specs.Format.Pieces.{stream_of};
+
+use iim_fields::Limits;
+use iim_round_trip::{Story, unpack_story};
+use std::alloc::Global;
+
+/// What was packed, if the pieces begin with that: its envelope, lines and sizes, and how many octets it has.
+pub fn unpacked(alloc: Global, limits: Limits, pieces: &[&[u8]]) -> Option<Story>
+    ensures { IfSome result (ComesBack limits (stream_of pieces.now)) }
+{
+    unpack_story(alloc, limits, pieces).ok()
+}
