@@ -29,5 +29,8 @@ pub fn pack_line<W: Target + Drop>(
         Err(fault) => return Err(fault.cause),
     };
     packer.text(line)?;
-    packer.finish(b"").map_err(|(_, cause)| cause)
+    match packer.finish(b"") {
+        Ok(writer) => Ok(writer),
+        Err((_, cause)) => Err(cause),
+    }
 }

@@ -12,5 +12,8 @@ use std::alloc::Global;
 pub fn unpacked(alloc: Global, limits: Limits, pieces: &[&[u8]]) -> Option<Story>
     ensures { IfSome result (ComesBack limits (stream_of pieces.now)) }
 {
-    unpack_story(alloc, limits, pieces).ok()
+    match unpack_story(alloc, limits, pieces) {
+        Ok(story) => Some(story),
+        Err(_) => None,
+    }
 }

@@ -14,8 +14,11 @@ pub fn count_words(text: &[u8]) -> Option<u64>
     texts_are_counted_as_lines();
     let mut count = WordCount::new();
     let mut reader = TextReader::new();
-    if reader.run(text, &mut count).is_err() || reader.close().is_err() {
+    let Ok(()) = reader.run(text, &mut count) else {
         return None;
-    }
+    };
+    let Ok(()) = reader.close() else {
+        return None;
+    };
     Some(count.words())
 }
