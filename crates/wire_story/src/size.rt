@@ -1,6 +1,7 @@
 //! How long a text is where it is packed.
 
 ghost use Rattle.std.specs.Prelude.{◌≡◌, ◌≤◌, ◌↔◌, ◌==◌, length, count_by, IsSome, IfSome};
+ghost use Rattle.iim_dataset.specs.Format.Characters.{lf};
 ghost use Rattle.wire_story.specs.Format.Texts.{packed_text};
 ghost use Rattle.iim_dataset.specs.Format.Octets.{greatest_size};
 
@@ -10,7 +11,7 @@ use iim_dataset::octets::LF;
 
 /// How many line ends stand in lines that are joined by LF.
 fn line_ends(octets: &[u8]) -> usize
-    ensures { result ≡ count_by (λ b. b == 10) octets.now }
+    ensures { result ≡ count_by (λ b. b == lf) octets.now }
 {
     octets.iter().filter(|octet| **octet == LF).count()
 }
