@@ -2,7 +2,7 @@
 
 ghost use Rattle.std.specs.Prelude.{◌≡◌, ◌<◌, None};
 ghost use Rattle.std.specs.Str.Parse.{digits_value};
-ghost use Rattle.wire_message.specs.Format.Fields.{IsField};
+ghost use Rattle.wire_message.specs.Format.Fields.{IsField, max_words};
 ghost use Rattle.iim_dataset.specs.Format.Octets.{is_digit};
 ghost use Rattle.iim_unpack.specs.Format.Admitted.{Value};
 ghost use Rattle.iim_audit.specs.Taking.{IsTaken};
@@ -46,7 +46,7 @@ pub(crate) struct Taken {
 
 /// The number that up to six digits write.
 fn number_of(digits: &[u8]) -> u64
-    requires { IsField is_digit 1 6 digits.now }
+    requires { IsField is_digit 1 max_words digits.now }
     ensures value { result ≡ digits_value 10 digits.now }
     ensures small { result < 1000000 }
 {

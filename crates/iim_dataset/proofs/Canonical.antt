@@ -4,7 +4,7 @@ use Rattle.std.proofs.lemmas.List.{take-append-drop, take-append-le}
 use Rattle.std.proofs.Math.Seq.{take-append_seam, take-append-add}
 use Rattle.std.proofs.lemmas.Bool.{lt-ltb, le-ltb, cases_lt}
 use Rattle.byteorder.specs.Numbers.{big_number-reads_back}
-use Rattle.iim_dataset.specs.WrittenNumbers.{some_octets, few_octets, number_octets, number_back}
+use Rattle.iim_dataset.proofs.WrittenNumbers.{some_octets, few_octets, number_octets, number_back}
 use Rattle.iim_dataset.specs.Format.Octets.{IsOctet}
 use Rattle.iim_dataset.specs.Format.Datasets.{Dataset, SpellsCount, SpellsTag, SpellsDataset, canonical_count, canonical_tag, canonical_dataset, canonical_stream, count_octets, head_of}
 use Rattle.iim_dataset.specs.Format.Tags.{BeginsTag}

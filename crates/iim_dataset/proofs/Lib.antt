@@ -14,3 +14,5 @@ pub mod OneOctet
 pub mod Reached
 pub mod Counts
 pub mod Wholes
+-- What proofs of other crates cite.
+pub mod WrittenNumbers

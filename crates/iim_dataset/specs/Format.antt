@@ -1,4 +1,5 @@
 pub mod Octets
+pub mod Characters
 pub mod Datasets
 pub mod Splits
 pub mod Events

@@ -6,5 +6,3 @@ pub mod Completing
 pub mod Later
 pub mod TrialLaws
 pub mod Calls
--- What proofs of other crates cite.
-pub mod WrittenNumbers

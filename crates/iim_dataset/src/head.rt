@@ -44,7 +44,7 @@ pub struct HeadFault {
 pub const TAG_MARKER: u8 = 0x1c;
 
 /// The first octet of an extended count: its top bit is set, and no count has more than 255 octets.
-const EXTENDED: u8 = 0x80;
+pub const EXTENDED: u8 = 0x80;
 
 /// The octets of a tag up to the end of a standard count.
 const TAG_LENGTH: usize = 5;

@@ -30,7 +30,7 @@ mod trial;
 
 pub use device::IoFault;
 pub use fault::{Fault, FaultCause};
-pub use head::{Head, HeadCause, HeadFault, TAG_MARKER, TAG_OCTETS, head_bytes};
+pub use head::{EXTENDED, Head, HeadCause, HeadFault, TAG_MARKER, TAG_OCTETS, head_bytes};
 pub use name::DatasetName;
 pub use number::{NUMBER_OCTETS, number_bytes};
 pub use place::{DatasetPlace, HELD_OCTETS};

@@ -5,7 +5,7 @@ use Rattle.std.proofs.lemmas.Bool.{and_from, le-leb}
 use Rattle.std.proofs.lemmas.Bool.Decides.{eqb_tells}
 use Rattle.std.proofs.lemmas.List.Sums.{sum_by-cons}
 use Rattle.iim_tables.specs.Format.Kinds.{is_size_from}
-use Rattle.iim_dataset.specs.WrittenNumbers.{number_back, number_octets, some_octets, few_octets}
+use Rattle.iim_dataset.proofs.WrittenNumbers.{number_back, number_octets, some_octets, few_octets}
 use Rattle.iim_dataset.specs.Format.Octets.{IsOctet, Octets, greatest_size, number, within}
 use Rattle.iim_dataset.specs.Format.Datasets.{Dataset, written_number}
 use Rattle.iim_tables.specs.Format.Numbers.{size_octets}

@@ -20,3 +20,5 @@ pub mod Saved
 pub mod Leading
 pub mod Alike
 pub mod Within
+-- What proofs of other crates cite.
+pub mod PlanLengths

@@ -3,7 +3,7 @@ use Rattle.std.proofs.Common.{◌≡◌, ℕ, ◌+◌, ◌≤◌, ◌&&◌, true
 use Rattle.std.specs.List.{AllByRecursion}
 use Rattle.std.proofs.lemmas.Bool.{and_parts, leb-true}
 use Rattle.std.proofs.lemmas.List.Sums.{sum_by-cons}
-use Rattle.iim_dataset.specs.WrittenNumbers.{number_back}
+use Rattle.iim_dataset.proofs.WrittenNumbers.{number_back}
 use Rattle.iim_dataset.specs.Format.Octets.{number, greatest_size}
 use Rattle.iim_object.specs.Format.Sizes.{Agree, number_at, mode_number}
 use Rattle.iim_object.specs.Format.Plans.{is_plan, fits, limit_of, bound_of}

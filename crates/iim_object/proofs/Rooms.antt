@@ -5,7 +5,7 @@ use Rattle.std.proofs.lemmas.Bool.{cases_lt}
 use Rattle.iim_dataset.specs.Format.Datasets.{canonical_dataset, tag_octets}
 use Rattle.iim_dataset.specs.Format.Devices.{Device}
 use Rattle.iim_dataset.specs.Format.Octets.{greatest_size}
-use Rattle.iim_dataset.specs.WrittenNumbers.{dataset_length}
+use Rattle.iim_dataset.proofs.WrittenNumbers.{dataset_length}
 use Rattle.iim_object.specs.Format.Packing.{subfile_dataset}
 use Rattle.iim_object.specs.Format.Writing.{room_of, most_of}
 use Rattle.iim_object.specs.Format.Plans.{max_subfiles}

@@ -5,5 +5,3 @@ pub mod States
 pub mod Outputs
 pub mod Finding
 pub mod Cutting
--- What proofs of other crates cite.
-pub mod PlanLengths

@@ -1,6 +1,7 @@
 //! What records 7 to 9 have told of an object so far.
 
-ghost use Rattle.std.specs.Prelude.{◌≡◌, ◌↔◌, ◌+◌, ◌-◌, ◌^◌, ◌<◌, ◌≤◌, IsTrue, IfSome, is_some};
+ghost use Rattle.std.specs.Prelude.{◌≡◌, ◌↔◌, ◌+◌, ◌^◌, ◌<◌, ◌≤◌, IsTrue, IfSome, is_some};
+ghost use Rattle.iim_dataset.specs.Format.Octets.{greatest_u64};
 ghost use Rattle.iim_object.specs.Format.Sizes.{mode_number};
 ghost use Rattle.iim_object.specs.Format.States.{HasNumbers, HasSubfiles, IsState, state_numbers};
 ghost use Rattle.iim_object.specs.States.{TakesNumber, TakesSubfile, state_start, state_with};
@@ -178,7 +179,7 @@ impl State {
     /// With a subfile of `count` octets.
     #[inline(always)]
     pub(crate) fn with_subfile(self, count: u64) -> State
-        requires subfiles { self.subfiles < 2 ^ 64 - 1 }
+        requires subfiles { self.subfiles < greatest_u64 }
         requires total { self.total + count < 2 ^ 64 }
         ensures { result ≡ record self { subfiles = self.subfiles + 1; total = self.total + count } }
     {

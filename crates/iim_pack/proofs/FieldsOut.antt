@@ -7,7 +7,7 @@ use Rattle.std.specs.Io.KnownBytes.{Appends}
 use Rattle.iim_dataset.specs.Format.Devices.{Device, Wrote, Stopped}
 use Rattle.iim_dataset.specs.Format.DeviceLaws.{TextsJoin}
 use Rattle.iim_dataset.specs.Format.Datasets.{Dataset, canonical_dataset, canonical_stream, count_octets, tag_octets}
-use Rattle.iim_dataset.specs.WrittenNumbers.{dataset_length}
+use Rattle.iim_dataset.proofs.WrittenNumbers.{dataset_length}
 use Rattle.iim_fields.specs.Format.Faults.{joined}
 use Rattle.iim_tables.specs.Format.Records.{IsGoodDataset}
 use Rattle.iim_fields.specs.Format.Builders.{IsEnvelope, AreFew}

@@ -7,7 +7,7 @@ use Rattle.iim_fields.specs.Format.Faults.{joined}
 use Rattle.iim_object.specs.Format.Cuts.{IsCut}
 use Rattle.iim_object.specs.Format.Packing.{number_dataset, plan_datasets, subfile_dataset, subfile_datasets, confirmed_datasets, object_datasets, SubfilesAreFew}
 use Rattle.iim_object.specs.Format.Writing.{plan_octets}
-use Rattle.iim_object.specs.PlanLengths.{number_length}
+use Rattle.iim_object.proofs.PlanLengths.{number_length}
 use Rattle.iim_object.specs.declared.plan.Plan.{Plan}
 use Rattle.wire_message.specs.Format.Canonical.{canonical}
 use Rattle.iim_pack.specs.Format.Laws.{PackedOctetsAreFew}

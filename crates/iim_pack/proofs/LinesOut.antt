@@ -1,5 +1,5 @@
 -- Lines packed one after another.
-use Rattle.std.proofs.Common.{◌≡◌, ℕ, ◌+◌, ◌≤◌, true, false, None, List, [], ◌∷◌, ◌++◌, length, map, refl, sym, ap, subst, ◌∙◌, arith, append_assoc, append-nil, length-append}
+use Rattle.std.proofs.Common.{◌≡◌, ℕ, ◌+◌, ◌≤◌, Bool, true, false, None, List, [], ◌∷◌, ◌++◌, length, map, refl, sym, ap, subst, ◌∙◌, arith, append_assoc, append-nil, length-append}
 use Rattle.std.proofs.lemmas.Bool.{le-leb}
 use Rattle.iim_dataset.specs.Format.Devices.{Device}
 use Rattle.iim_dataset.specs.Format.DeviceLaws.{TextsJoin}
@@ -8,7 +8,7 @@ use Rattle.wire_story.specs.Format.Texts.{IsLine}
 use Rattle.wire_story.specs.Format.Delivery.{StoryEvent, LineOctet, LineEnd, events_of_lines}
 use Rattle.wire_story.specs.Format.Packing.{packed_events}
 use Rattle.iim_pack.specs.Format.Packing.{Packing, StandsAt, Lengthens, BreaksOff, ContinuesWith, FormWith, text_cause, line_end_cause}
-use Rattle.iim_pack.specs.Format.Whole.{events_left}
+use Rattle.iim_pack.specs.Format.Whole.{line_events}
 use Rattle.iim_pack.proofs.Goings.{events_append}
 
 pub goes_nowhere : {W : Type 0} (state : W → Device) (k : Packing W) → TextsJoin → k.object.failed ≡ false → Lengthens state k k []
@@ -70,6 +70,11 @@ may_text k line is unfailed fits = rw (unfailed, is, le-leb (total_of k.object +
 
 pub may_end_line : {W : Type 0} (k : Packing W) → k.object.failed ≡ false → total_of k.object + 4 ≤ most_of k.object.plan → line_end_cause k ≡ None
 may_end_line k unfailed fits = rw (unfailed, le-leb (total_of k.object + 4) (most_of k.object.plan) fits) refl
+
+-- the events of the lines that are left
+abbrev pub events_left : Bool → List (List ℕ) → List StoryEvent
+events_left is_first [] = []
+events_left is_first (line ∷ lines) = line_events is_first line ++ events_left false lines
 
 first_left : (line : List ℕ) (lines : List (List ℕ)) → events_of_lines (line ∷ lines) ≡ map LineOctet line ++ events_left false lines
 first_left line [] = sym (append-nil (map LineOctet line))

@@ -8,7 +8,7 @@ use Rattle.iim_dataset.specs.Format.DeviceLaws.{TextsJoin}
 use Rattle.iim_dataset.specs.Format.Datasets.{canonical_stream}
 use Rattle.iim_object.specs.Format.Packing.{IsWritten, plan_datasets, subfile_datasets, confirmed_datasets}
 use Rattle.iim_object.specs.Format.Plans.{most_sizes}
-use Rattle.iim_object.specs.PlanLengths.{plan_length}
+use Rattle.iim_object.proofs.PlanLengths.{plan_length}
 use Rattle.iim_object.specs.Format.Cuts.{joined_parts}
 use Rattle.iim_object.specs.Format.Writing.{Writing, StandsAt, Lengthens, BreaksOff, ContinuesWith, Begins, most_of, total_of, plan_octets, write_cause}
 use Rattle.iim_object.specs.declared.plan.Plan.{Plan}

@@ -1,5 +1,6 @@
 -- What the parts of the reader answer, each of what is left after the lines before it.
 use Rattle.std.specs.Prelude.{◌≡◌, ℕ, ◌+◌, ◌⊎◌, List, [], Some}
+use Rattle.iim_dataset.specs.Format.Characters.{lf}
 use Rattle.iim_dataset.specs.Format.Datasets.{Dataset}
 use Rattle.iim_fields.specs.Format.Builders.{finish_fault}
 use Rattle.iim_fields.specs.declared.limits.Limits.{Limits}
@@ -23,7 +24,7 @@ NextIs said rest after = (line : List ℕ) × NextLine rest line after × said l
 
 -- No LF ends the next line, or it is as said.
 abbrev pub LacksNext : (List ℕ → Type 0) → List ℕ → Type 0
-LacksNext said rest = HasNo 10 rest ⊎ ((after : List ℕ) × NextIs said rest after)
+LacksNext said rest = HasNo lf rest ⊎ ((after : List ℕ) × NextIs said rest after)
 
 -- The next line, where an LF ends it, is as said.
 abbrev pub NextMustBe : (List ℕ → Type 0) → List ℕ → Type 0
@@ -77,4 +78,4 @@ RefusesStoryLine line _ = ⊥
 
 -- The line is the last of a story: with its end, or without one.
 abbrev pub IsLastLine : List ℕ → List ℕ → Type 0
-IsLastLine story line = NextLine story line [] ⊎ (HasNo 10 story × (line ≡ story))
+IsLastLine story line = NextLine story line [] ⊎ (HasNo lf story × (line ≡ story))

@@ -3,6 +3,7 @@
 ghost use Rattle.std.specs.Prelude.{◌≡◌, ◌≤◌};
 ghost use Rattle.iim_script.specs.Format.Causes.{cause_number, cause_name};
 ghost use Rattle.iim_script.specs.Steps.{number_after};
+ghost use Rattle.iim_script.specs.Format.Scripts.{max_script};
 
 use iim_fields::FieldCause;
 use std::alloc::AllocError;
@@ -67,7 +68,7 @@ pub struct ScriptFault {
 
 /// A fault of the line after the first `lines` lines. That memory was refused is told of line 0.
 pub(crate) fn fault_after(lines: u64, cause: ScriptCause) -> ScriptFault
-    requires { lines ≤ 16777216 }
+    requires { lines ≤ max_script }
     ensures line { result.line ≡ number_after lines cause }
     ensures cause { result.cause ≡ cause }
 {

@@ -1,6 +1,7 @@
 //! Numbers of records and datasets.
 
 ghost use Rattle.std.specs.Prelude.{◌≡◌, ◌+◌, ◌≤◌, ◌<◌, ◌-◌, ◌*◌, ℕ, false, IsTrue, IfSome, IfNone};
+ghost use Rattle.iim_dataset.specs.Format.Characters.{digit_zero};
 ghost use Rattle.iim_script.specs.Format.Forms.{TellsNumber, AreDigits, value_of};
 ghost use Rattle.iim_dataset.specs.Format.Octets.{is_digit};
 
@@ -13,7 +14,7 @@ pub(crate) fn is_decimal(octet: u8) -> bool
 
 /// The value of a decimal digit.
 fn digit_value(octet: u8) -> Option<u16>
-    ensures some { IfSome result (λ value. IsTrue (is_digit octet) × (octet ≡ value + 48) × (value ≤ 9)) }
+    ensures some { IfSome result (λ value. IsTrue (is_digit octet) × (octet ≡ value + digit_zero) × (value ≤ 9)) }
     ensures none { IfNone result (is_digit octet ≡ false) }
 {
     if octet < b'0' || octet > b'9' {

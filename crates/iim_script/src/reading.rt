@@ -5,7 +5,7 @@ ghost use Rattle.iim_fields.specs.Format.Builders.{finish_fault};
 ghost use Rattle.iim_script.specs.Format.Forms.{TellsHead, text_word};
 ghost use Rattle.iim_dataset.specs.Format.Octets.{is_digit};
 ghost use Rattle.iim_script.specs.Format.Lines.{NextLine};
-ghost use Rattle.iim_script.specs.Format.Scripts.{IsFront, IsScript};
+ghost use Rattle.iim_script.specs.Format.Scripts.{IsFront, IsScript, max_script};
 ghost use Rattle.iim_script.specs.Format.Faults.{Stands, InFields, TellsNoField, IsScriptFault};
 ghost use Rattle.iim_script.specs.Steps.{NextIs, NextMustBe, RefusesFields, RefusesHeader, TakesTrailer, RefusesTrailer, RefusesText, RefusesEnvelope};
 
@@ -53,7 +53,7 @@ fn read_fields<'a>(
     builder: &mut EnvelopeBuilder,
 ) -> Result<Rest<'a>, ScriptFault>
     requires none { builder.old.fields ≡ [] }
-    requires short { length script.now ≤ 16777216 }
+    requires short { length script.now ≤ max_script }
     ensures stands { IfOk result (λ rest. Stands builder.old.limits script.now (InFields builder.new.fields) rest.octets.now rest.lines) }
     ensures all { IfOk result (λ rest. NextMustBe TellsNoField rest.octets.now) }
     ensures fault { IfErr result (λ fault. RefusesFields builder.old.limits script.now fault.line fault.cause) }
@@ -146,7 +146,7 @@ fn read_text<'a>(rest: Rest<'a>) -> Result<Rest<'a>, ScriptFault>
 
 /// The envelope that a builder has, at the line `text`, before which `lines` lines stand.
 fn finish(builder: EnvelopeBuilder, lines: u64) -> Result<Envelope, ScriptFault>
-    requires { lines ≤ 16777216 }
+    requires { lines ≤ max_script }
     ensures whole { OnOk result (finish_fault builder.fields ≡ None) }
     ensures envelope { IfOk result (λ envelope. envelope ≡ builder.fields) }
     ensures fault { IfErr result (λ fault. RefusesEnvelope builder.fields lines fault.line fault.cause) }
@@ -159,7 +159,7 @@ fn finish(builder: EnvelopeBuilder, lines: u64) -> Result<Envelope, ScriptFault>
 
 /// What stands before the story, and what is left for it.
 fn read_front<'a>(alloc: Global, limits: Limits, script: &'a [u8]) -> Result<Front<'a>, ScriptFault>
-    requires { length script.now ≤ 16777216 }
+    requires { length script.now ≤ max_script }
     ensures front { IfOk result (λ front. (octets : List ℕ) × (script.now ≡ octets ++ front.story.octets.now)
         × IsFront limits octets front.envelope front.head front.trailer.items front.story.lines) }
     ensures fault { IfErr result (λ fault. IsScriptFault limits script.now fault.line fault.cause) }

@@ -1,6 +1,7 @@
 //! What is left of a script.
 
 ghost use Rattle.std.specs.Prelude.{◌+◌, ◌≤◌, length};
+ghost use Rattle.iim_script.specs.Format.Scripts.{max_script};
 
 /// What is left of a script, after its first `lines` lines.
 #[derive(Clone, Copy)]
@@ -9,5 +10,5 @@ pub(crate) struct Rest<'a> {
     pub(crate) lines: u64,
 
     // Each line has an octet at least.
-    ghost short: { lines + length octets.now ≤ 16777216 },
+    ghost short: { lines + length octets.now ≤ max_script },
 }

@@ -1,6 +1,7 @@
 //! Octets that are shown as text, read back.
 
 ghost use Rattle.std.specs.Prelude.{◌+◌, ◌≤◌, ◌∷◌, ℕ, List, IfOk, IfSome, IfNone};
+ghost use Rattle.iim_dataset.specs.Format.Characters.{sp, backslash};
 ghost use Rattle.iim_script.specs.Format.Shown.{IsHexDigit, IsOfDigits, BeginsWith, TellsOctets, TellsLast};
 
 use std::alloc::{AllocError, Global};
@@ -37,8 +38,8 @@ fn escaped(high: u8, low: u8) -> Option<u8>
 
 /// The octet of the escape whose backslash stands before these octets, and what follows. None where it begins no escape.
 fn escape(after: &[u8]) -> Option<(u8, &[u8])>
-    ensures some { IfSome result (λ first. BeginsWith (92 ∷ after.now) first.0 first.1.now) }
-    ensures none { IfNone result ((octet : ℕ) (rest : List ℕ) → BeginsWith (92 ∷ after.now) octet rest → ⊥) }
+    ensures some { IfSome result (λ first. BeginsWith (backslash ∷ after.now) first.0 first.1.now) }
+    ensures none { IfNone result ((octet : ℕ) (rest : List ℕ) → BeginsWith (backslash ∷ after.now) octet rest → ⊥) }
 {
     if after.len() < 3 {
         return None;
@@ -85,8 +86,8 @@ pub(crate) fn unshown(alloc: Global, shown: &[u8]) -> Result<Option<Vec<u8>>, Al
 
 /// The octets that are shown, one at least. None where a backslash begins no escape, and where nothing is shown.
 fn read_some(alloc: Global, shown: &[u8]) -> Result<Option<Vec<u8>>, AllocError>
-    ensures some { IfOk result (λ told. IfSome told (λ octets. TellsLast (32 ∷ shown.now) octets.items)) }
-    ensures none { IfOk result (λ told. IfNone told ((octets : List ℕ) → TellsLast (32 ∷ shown.now) octets → ⊥)) }
+    ensures some { IfOk result (λ told. IfSome told (λ octets. TellsLast (sp ∷ shown.now) octets.items)) }
+    ensures none { IfOk result (λ told. IfNone told ((octets : List ℕ) → TellsLast (sp ∷ shown.now) octets → ⊥)) }
 {
     if shown.is_empty() {
         return Ok(None);

@@ -4,7 +4,7 @@ use Rattle.std.specs.Prelude.{slice_index}
 use Rattle.std.specs.List.{list_all}
 use Rattle.std.proofs.lemmas.Bool.{and_parts, eqb-true}
 use Rattle.std.proofs.lemmas.Bool.Decides.{nat_tests}
-use Rattle.iim_tables.specs.Format.Octets.{minus}
+use Rattle.iim_dataset.specs.Format.Characters.{minus}
 use Rattle.iim_dataset.specs.Format.Octets.{is_digit}
 use Rattle.iim_tables.specs.Format.Dates.{pair_at, two_digits}
 use Rattle.iim_tables.specs.Format.Instants.{is_sign, has_time_form, sign_of, time_text}

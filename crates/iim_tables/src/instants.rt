@@ -3,7 +3,7 @@
 ghost use Rattle.std.specs.Prelude.{◌≡◌, ◌↔◌, ◌*◌, ◌<◌, IsTrue, IsSome, IfSome};
 ghost use Rattle.std.specs.Option.{option_map};
 ghost use Rattle.jiff.specs.Words.{IsOffsetSeconds, time_nanos};
-ghost use Rattle.iim_tables.specs.Format.Instants.{has_time_form, is_clock, is_time, clock_seconds, offset_seconds, instant_nanos, instant_in, HasInstant};
+ghost use Rattle.iim_tables.specs.Format.Instants.{has_time_form, is_clock, is_time, clock_seconds, offset_seconds, instant_nanos, instant_in, HasInstant, nanoseconds_in_second};
 
 use crate::dates::{date_of, pair_at};
 use crate::kinds::are_digits;
@@ -39,7 +39,7 @@ pub(crate) fn is_time(octets: &[u8]) -> bool
 /// The time that the clock shows.
 fn clock_of(hour: u16, minute: u16, second: u16) -> Time
     requires { IsTrue (is_clock hour minute second) }
-    ensures { time_nanos result ≡ clock_seconds hour minute second * 1_000_000_000 }
+    ensures { time_nanos result ≡ clock_seconds hour minute second * nanoseconds_in_second }
 {
     time(hour as i8, minute as i8, second as i8, 0)
 }

@@ -18,7 +18,7 @@ use Rattle.iim_unpack.specs.Plain.{Numbers, number_list, plain}
 use Rattle.iim_unpack.specs.Format.TicketsTold.{TicketsOfPlacesAreSplit, split_of}
 use Rattle.iim_unpack.specs.Format.Possible.{IsSmall, IsSmallPhase, IsSmallPlace, greatest_size_before, AreHeadsWithin, begun_count, begun_fields, widest}
 use Rattle.iim_unpack.specs.Format.Scales.{SmallPlacesWerePossible}
-use Rattle.iim_unpack.specs.Restoring.{AreAt, IsLimitFault, IsMadeFor, LeadsNowhere, LeadsNowhereIn, ObjectStands, MessageStands, RecordsStand, has_come, place_told}
+use Rattle.iim_unpack.specs.Restoring.{AreAt, IsLimitFault, IsMadeFor, LeadsNowhere, LeadsNowhereIn, ObjectStands, MessageStands, RecordsStand, has_come}
 use Rattle.iim_unpack.specs.Format.Restored.{octets_told, IsRestoreFault, IsTicketAt}
 use Rattle.iim_unpack.specs.Taking.{AreKept, IsMessageOf, numbers_told, tag_place, told_datasets}
 use Rattle.iim_unpack.specs.Format.Begins.{IsSizeIn, IsWide}
@@ -107,6 +107,10 @@ no_end s nine other place is l =
     other (sym (ap (λ (t : Split). t.part) is) ∙ ap part_number last)
 
 -- ---- where one can be
+
+-- the place of these parts, and of a message's place
+abbrev place_told : Split → MessagePlace → Place
+place_told s m = record { section = s.section; phase = s.phase; fields = s.fields; numbers = s.numbers; taken = s.taken; heads = s.heads; message = m }
 
 place_is : (s : Split) (m : MessagePlace) → IsMessageOf s.part s.counter s.flag s.texts m → split_of s.version (place_told s m) ≡ s
 place_is s m is = λ i. record {

@@ -5,7 +5,7 @@ use Rattle.std.specs.Option.{unwrap_or}
 use Rattle.std.proofs.lemmas.Bool.{eqb-true}
 use Rattle.std.proofs.lemmas.List.{take-append-drop, length-take}
 use Rattle.std.proofs.lemmas.List.Elements.{filter-append}
-use Rattle.iim_dataset.specs.WrittenNumbers.{few_octets, number_back, number_octets}
+use Rattle.iim_dataset.proofs.WrittenNumbers.{few_octets, number_back, number_octets}
 use Rattle.iim_dataset.specs.Format.Octets.{IsOctet, Octets, number, greatest_size}
 use Rattle.iim_dataset.specs.Format.Datasets.{Dataset, canonical_stream, of_record}
 use Rattle.iim_dataset.specs.Format.Splits.{Begun, InTag, InData}

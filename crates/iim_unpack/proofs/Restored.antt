@@ -37,7 +37,7 @@ use Rattle.wire_message.specs.declared.saved.MessagePlace.{MessagePlace}
 use Rattle.iim_unpack.specs.Format.Admitted.{Value, object_of}
 use Rattle.iim_unpack.specs.Format.Begins.{IsSize}
 use Rattle.iim_unpack.specs.ByLayers.{LeadsByLayers, RecordsLive, record_datasets, begun_of_object, object_after, one_of_some, are_ended, begun_subfiles}
-use Rattle.iim_unpack.specs.LowerLaws.{RestoreLaws}
+use Rattle.iim_unpack.specs.LowerLaws.{ByLayersLaws, PlaceLaws, FeedLaws}
 use Rattle.iim_unpack.specs.Format.Open.{object_so_far, section}
 use Rattle.iim_unpack.specs.Format.Parts.{AreAfter, Within, StandsFor, has_ended}
 use Rattle.iim_unpack.specs.Plain.{Numbers, number_list, plain}
@@ -61,6 +61,12 @@ use Rattle.iim_unpack.proofs.PlainOpens.{fit_in_rows, possible_of}
 use Rattle.iim_unpack.proofs.SamePlace.{opened, fields_after, fields_in, some_read, has_begun, none_present, less_alive}
 use Rattle.iim_unpack.proofs.SameRecords.{IsStated, SameRecords, same_shape, stated_after_all, stated_at}
 use Rattle.iim_unpack.proofs.Tickets.{count_of}
+
+-- by which an unpacker is made of readers
+pub record RestoreLaws : Type 0 where
+  pub layers : ByLayersLaws
+  pub places : PlaceLaws
+  pub feed : FeedLaws
 
 -- ---- the records
 

@@ -1,14 +1,16 @@
 -- What octets begin with is determined: their layout has one reading.
-use Rattle.std.proofs.Common.{◌≡◌, ℕ, ◌+◌, ◌-◌, ◌<◌, ◌≤◌, ◌^◌, ◌==◌, pred, Bool, true, false, List, [], ◌∷◌, ◌++◌, length, take, drop, Option, Some, None, refl, ap, sym, subst, ◌∙◌, inl, inr, arith, append_assoc, append-nil, length-append}
+use Rattle.std.proofs.Common.{◌≡◌, ℕ, ◌+◌, ◌-◌, ◌<◌, ◌≤◌, ◌^◌, ◌==◌, nat_eq, if◌then◌else◌, pred, Bool, true, false, List, [], ◌∷◌, ◌++◌, length, take, drop, Option, Some, None, refl, ap, sym, subst, ◌∙◌, inl, inr, arith, append_assoc, append-nil, length-append}
 use Rattle.std.proofs.lemmas.List.{take-append-drop, length-take}
+use Rattle.std.specs.Int.{w64, from_be_bytes, to_be_bytes}
 use Rattle.std.specs.List.{AllByRecursion, flat_map}
+use Rattle.std.proofs.lemmas.Nat.{from_be_bytes-to_be_bytes_8}
 use Rattle.iim_dataset.specs.Format.Datasets.{Dataset}
 use Rattle.iim_unpack.specs.Format.Tickets.{Phase, TagBegun, DataBegun, AllEnded, ticket_name, present_version, width, four, wide, phase_octets, field_octets, fields_octets, number_octets, text_octets}
 use Rattle.iim_unpack.specs.Format.Begins.{IsLongField}
 use Rattle.iim_unpack.specs.TicketFields.{HoldsFields}
 use Rattle.iim_unpack.specs.Begins.{BeginsWithNone, BeginsWithFewer, FieldsBefore, IsFour}
 use Rattle.iim_unpack.specs.Format.Begins.{AreFields, AreNumbersIn, AreTexts, IsSizeIn, IsShort, IsWide}
-use Rattle.iim_unpack.specs.FieldLaws.{first_same, rest_same, fronts, one_four, one_wide, one_field, some_octets, same_fields}
+use Rattle.iim_unpack.specs.FieldLaws.{first_same, rest_same, fronts, one_four, one_field, some_octets, same_fields}
 use Rattle.iim_unpack.specs.Format.TicketForm.{IsVersion, IsPhase, IsFaultOf, HasForm, Split, SplitsTicket, TicketsHaveOneSplit, split_octets, came}
 use Rattle.iim_unpack.specs.TicketParts.{AreNoMessage, AreNoBody, BeginsWithNoData, body_octets, message_parts}
 use Rattle.iim_unpack.specs.declared.ticket_fault.TicketFault.TheVariants.{Form}
@@ -18,6 +20,19 @@ abbrev pub HasOne : {X : Type 0} → (X → Type 0) → (X → List ℕ) → Typ
 HasOne Is spelled = (x y : _) (a b : List ℕ) → Is x → Is y → spelled x ++ a ≡ spelled y ++ b → (x ≡ y) × (a ≡ b)
 
 -- ---- numbers and texts
+
+one_eight : (m n : ℕ) (a b : List ℕ) → m < 2 ^ 64 → n < 2 ^ 64 → to_be_bytes w64 m ++ a ≡ to_be_bytes w64 n ++ b → (m ≡ n) × (a ≡ b)
+one_eight m n a b hm hn e =
+    let both = fronts (to_be_bytes w64 m) (to_be_bytes w64 n) a b refl e in
+    (sym (from_be_bytes-to_be_bytes_8 m hm) ∙ ap (from_be_bytes w64) both.0 ∙ from_be_bytes-to_be_bytes_8 n hn, both.1)
+
+-- a number as wide as the version has it
+one_wide : (version m n : ℕ) (a b : List ℕ) → IsWide version m → IsWide version n → wide version m ++ a ≡ wide version n ++ b → (m ≡ n) × (a ≡ b)
+one_wide version m n a b = by (nat_eq version 1)
+  where
+    by : (is : Bool) → m < 256 ^ (if is then 4 else 8) → n < 256 ^ (if is then 4 else 8) → (if is then four m else to_be_bytes w64 m) ++ a ≡ (if is then four n else to_be_bytes w64 n) ++ b → (m ≡ n) × (a ≡ b)
+    by true hm hn e = one_four m n a b (omega (arith, hm)) (omega (arith, hn)) e
+    by false hm hn e = one_eight m n a b (omega (arith, hm)) (omega (arith, hn)) e
 
 pub one_text : (x y a b : List ℕ) → text_octets x ++ a ≡ text_octets y ++ b → (x ≡ y) × (a ≡ b)
 one_text x y a b e = fronts x y a b (first_same e) (rest_same e)

@@ -36,7 +36,7 @@ use Rattle.iim_unpack.proofs.Bounds.{is_one}
 use Rattle.iim_unpack.proofs.Following.{within_of}
 use Rattle.iim_unpack.proofs.Lasts.{last_sections}
 use Rattle.iim_unpack.proofs.LeadsByLayers.{few_heads, few_with_head}
-use Rattle.iim_dataset.specs.WrittenNumbers.{number_back}
+use Rattle.iim_dataset.proofs.WrittenNumbers.{number_back}
 use Rattle.iim_unpack.proofs.Plain.{Tell, all_both, all_stated, are_told, one_stated, plain_led, plain_spelled, plain_told, taken_told}
 use Rattle.iim_unpack.proofs.PlainOpens.{plain_open, possible_of}
 use Rattle.iim_unpack.proofs.SameRecords.{IsStated, stated_after_all, stated_at}

@@ -1,12 +1,12 @@
 -- Octets hold one list of datasets.
-use Rattle.std.proofs.Common.{◌≡◌, ℕ, ◌<◌, ◌^◌, nat_eq, if◌then◌else◌, Bool, true, false, pred, List, [], ◌∷◌, ◌++◌, length, refl, ap, sym, ◌∙◌, arith, append_assoc}
+use Rattle.std.proofs.Common.{◌≡◌, ℕ, ◌<◌, ◌^◌, pred, List, [], ◌∷◌, ◌++◌, length, refl, ap, sym, ◌∙◌, arith, append_assoc}
 use Rattle.std.proofs.Props.{props}
-use Rattle.std.specs.Int.{w32, w64, from_be_bytes, to_be_bytes}
+use Rattle.std.specs.Int.{w32, from_be_bytes}
 use Rattle.std.specs.List.{AllByRecursion, flat_map}
-use Rattle.std.proofs.lemmas.Nat.{from_be_bytes-to_be_bytes_4, from_be_bytes-to_be_bytes_8}
+use Rattle.std.proofs.lemmas.Nat.{from_be_bytes-to_be_bytes_4}
 use Rattle.iim_dataset.specs.Format.Datasets.{Dataset}
-use Rattle.iim_unpack.specs.Format.Tickets.{four, wide, field_octets}
-use Rattle.iim_unpack.specs.Format.Begins.{IsLongField, IsWide}
+use Rattle.iim_unpack.specs.Format.Tickets.{four, field_octets}
+use Rattle.iim_unpack.specs.Format.Begins.{IsLongField}
 use Rattle.iim_unpack.specs.TicketFields.{HoldsFields}
 use mathlib.Core.HLevel.{Σ_prop_path}
 
@@ -32,19 +32,6 @@ pub one_four : (m n : ℕ) (a b : List ℕ) → m < 2 ^ 32 → n < 2 ^ 32 → fo
 one_four m n a b hm hn e =
     let both = fronts (four m) (four n) a b refl e in
     (sym (from_be_bytes-to_be_bytes_4 m hm) ∙ ap (from_be_bytes w32) both.0 ∙ from_be_bytes-to_be_bytes_4 n hn, both.1)
-
-pub one_eight : (m n : ℕ) (a b : List ℕ) → m < 2 ^ 64 → n < 2 ^ 64 → to_be_bytes w64 m ++ a ≡ to_be_bytes w64 n ++ b → (m ≡ n) × (a ≡ b)
-one_eight m n a b hm hn e =
-    let both = fronts (to_be_bytes w64 m) (to_be_bytes w64 n) a b refl e in
-    (sym (from_be_bytes-to_be_bytes_8 m hm) ∙ ap (from_be_bytes w64) both.0 ∙ from_be_bytes-to_be_bytes_8 n hn, both.1)
-
--- a number as wide as the version has it
-pub one_wide : (version m n : ℕ) (a b : List ℕ) → IsWide version m → IsWide version n → wide version m ++ a ≡ wide version n ++ b → (m ≡ n) × (a ≡ b)
-one_wide version m n a b = by (nat_eq version 1)
-  where
-    by : (is : Bool) → m < 256 ^ (if is then 4 else 8) → n < 256 ^ (if is then 4 else 8) → (if is then four m else to_be_bytes w64 m) ++ a ≡ (if is then four n else to_be_bytes w64 n) ++ b → (m ≡ n) × (a ≡ b)
-    by true hm hn e = one_four m n a b (omega (arith, hm)) (omega (arith, hn)) e
-    by false hm hn e = one_eight m n a b (omega (arith, hm)) (omega (arith, hn)) e
 
 -- ---- datasets
 

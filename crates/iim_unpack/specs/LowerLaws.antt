@@ -92,12 +92,6 @@ pub record ByLayersLaws : Type 0 where
   pub opens : OpenLaws
   pub ends : MessagesEndAfterEot
 
--- by which an unpacker is made of readers
-pub record RestoreLaws : Type 0 where
-  pub layers : ByLayersLaws
-  pub places : PlaceLaws
-  pub feed : FeedLaws
-
 -- by which octets of one place continue alike
 pub record OnwardLaws : Type 0 where
   pub opens : OpenLaws

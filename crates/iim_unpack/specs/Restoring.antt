@@ -15,7 +15,6 @@ use Rattle.iim_object.specs.declared.state.State.{State}
 use Rattle.wire_message.specs.Format.Reading as wire
 use Rattle.wire_message.specs.Format.Saved.{LeadToSaved}
 use Rattle.wire_message.specs.declared.place.Place.{Place as Message}
-use Rattle.wire_message.specs.declared.saved.MessagePlace.{MessagePlace}
 use Rattle.iim_unpack.specs.ByLayers.{LeadsByLayers, head_of_numbers, record_datasets, begun_of_object, object_after}
 use Rattle.iim_unpack.specs.Plain.{Numbers}
 use Rattle.iim_unpack.specs.Format.Possible.{IsSmallPlace, AreHeadsWithin, begun_count, begun_fields}
@@ -77,10 +76,6 @@ ReadersMakeUnpackers = (place : Place) (limits : Limits) (at : ℕ) (u : Unpacki
     → IsSome u.parts.object → IsSome u.parts.message → IsUnpacking u × IsRestored limits ticket at u
 
 -- ---- what a ticket's parts tell
-
--- the place of these parts, and of a message's place
-abbrev pub place_told : Split → MessagePlace → Place
-place_told s m = record { section = s.section; phase = s.phase; fields = s.fields; numbers = s.numbers; taken = s.taken; heads = s.heads; message = m }
 
 -- No place of these parts is one where each layer can be.
 abbrev pub LeadsNowhere : Split → Type 0

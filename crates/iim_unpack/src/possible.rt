@@ -18,7 +18,7 @@ use crate::taker::is_kept;
 use crate::ticket::{FIRST_VERSION, part_number};
 use crate::ticket_fields::TicketFields;
 use crate::ticket_parts::{TicketParts, TicketPhase};
-use iim_dataset::HeadReader;
+use iim_dataset::{EXTENDED, HeadReader};
 use iim_object::ObjectReader;
 use iim_tables::records::{OBJECT, POST_OBJECT, PRE_OBJECT};
 use wire_message::{MessagePart, MessageReader};
@@ -142,7 +142,7 @@ fn is_small_tag(held: &[u8]) -> bool
     if held.len() < 5 {
         return true;
     }
-    if held[3] != 0x80 {
+    if held[3] != EXTENDED {
         return true;
     }
     held[4] <= COUNT_OCTETS_BEFORE

@@ -7,7 +7,7 @@ use Rattle.wire_story.specs.Format.Texts.{AreLines, Holds}
 use Rattle.wire_story.specs.Format.Reading as story
 use Rattle.wire_story.specs.Format.Laws as stories
 use Rattle.wire_story.specs.declared.reader.TextReader.{TextReader}
-use Rattle.wire_message.specs.Format.Fields.{IsField, is_alphanumeric, is_info_octet, is_trailer_octet, is_filler_octet, is_text_octet}
+use Rattle.wire_message.specs.Format.Fields.{IsField, is_alphanumeric, is_info_octet, is_trailer_octet, is_filler_octet, is_text_octet, max_filler, max_source, max_number, max_category, max_words, max_info, max_trailer}
 use Rattle.iim_dataset.specs.Format.Octets.{is_digit, is_letter}
 use Rattle.wire_message.specs.Format.Messages.{Header, IsHeader}
 use Rattle.wire_message.specs.Format.SoFar.{IsPlace, Spells, StoryStands, LeadTo}
@@ -74,25 +74,25 @@ some_of x test most xs t h =
 from_filler : (k b : ℕ) (q : Place) → next (Filler k) b ≡ Some q → Continues (Filler k) (b ∷ []) q
 from_filler k b q e = chosen (Continues (Filler k) (b ∷ [])) _ _ _ q e
     (λ t.
-    let fill = and_parts (is_filler_octet b) (nat_lt k 32) t in
-    let lt : k < 32 = ltb-true k 32 fill.1 in
+    let fill = and_parts (is_filler_octet b) (nat_lt k max_filler) t in
+    let lt : k < max_filler = ltb-true k max_filler fill.1 in
     quiet (Filler k) (Filler (k + 1)) (b ∷ []) (λ xs text s. record {
       bare = omega (arith, lt);
       spelled = filler_more xs text (b ∷ []) k (one_is is_filler_octet b fill.0) (omega (arith, lt)) s.spelled;
     }))
     (λ e. chosen (Continues (Filler k) (b ∷ [])) _ _ _ q e
-    (λ t. quiet_at (Filler k) (Source (of [])) b 1 t (λ xs text s. record { bare = field_none is_letter 8; spelled = filler_soh xs text k s.spelled }))
+    (λ t. quiet_at (Filler k) (Source (of [])) b 1 t (λ xs text s. record { bare = field_none is_letter max_source; spelled = filler_soh xs text k s.spelled }))
     (no_place (Continues (Filler k) (b ∷ [])) q))
 
 from_source : (s : ArrayVec ℕ) (b : ℕ) (q : Place) → next (Source s) b ≡ Some q → Continues (Source s) (b ∷ []) q
 from_source s b q e = chosen (Continues (Source s) (b ∷ [])) _ _ _ q e
     (λ t. quiet (Source s) (Source (of (s.items ++ (b ∷ [])))) (b ∷ []) (λ xs text at. record {
-      bare = one_more is_letter 0 0 8 s.items b at.bare t (omega arith);
+      bare = one_more is_letter 0 0 max_source s.items b at.bare t (omega arith);
       spelled = source_more xs text (b ∷ []) s at.spelled;
     }))
     (λ e. chosen (Continues (Source s) (b ∷ [])) _ _ _ q e
     (λ t. quiet (Source s) (Number s (of (b ∷ []))) (b ∷ []) (λ xs text at. record {
-      bare = (some_of (is_digit b) is_letter 8 s.items t at.bare, field_one is_digit 8 b (and_parts (is_digit b) (nat_lt 0 (length s.items)) t).0 (omega arith));
+      bare = (some_of (is_digit b) is_letter max_source s.items t at.bare, field_one is_digit max_number b (and_parts (is_digit b) (nat_lt 0 (length s.items)) t).0 (omega arith));
       spelled = source_number xs text s b at.spelled;
     }))
     (no_place (Continues (Source s) (b ∷ [])) q))
@@ -100,7 +100,7 @@ from_source s b q e = chosen (Continues (Source s) (b ∷ [])) _ _ _ q e
 from_number : (s n : ArrayVec ℕ) (b : ℕ) (q : Place) → next (Number s n) b ≡ Some q → Continues (Number s n) (b ∷ []) q
 from_number s n b q e = chosen (Continues (Number s n) (b ∷ [])) _ _ _ q e
     (λ t. quiet (Number s n) (Number s (of (n.items ++ (b ∷ [])))) (b ∷ []) (λ xs text at. record {
-      bare = (at.bare.0, one_more is_digit 1 1 8 n.items b at.bare.1 t (omega arith));
+      bare = (at.bare.0, one_more is_digit 1 1 max_number n.items b at.bare.1 t (omega arith));
       spelled = number_more xs text (b ∷ []) s n at.spelled;
     }))
     (λ e. chosen (Continues (Number s n) (b ∷ [])) _ _ _ q e
@@ -118,7 +118,7 @@ from_priority s n b q e = chosen (Continues (Priority s n) (b ∷ [])) _ _ _ q e
 from_read : (s n p : ArrayVec ℕ) (b : ℕ) (q : Place) → next (PriorityRead s n p) b ≡ Some q → Continues (PriorityRead s n p) (b ∷ []) q
 from_read s n p b q e = chosen (Continues (PriorityRead s n p) (b ∷ [])) _ _ _ q e
     (λ t. quiet_at (PriorityRead s n p) (Category s n p (of [])) b 32 t (λ xs text at. record {
-      bare = (at.bare.0, at.bare.1, at.bare.2, field_none is_alphanumeric 8);
+      bare = (at.bare.0, at.bare.1, at.bare.2, field_none is_alphanumeric max_category);
       spelled = priority_space xs text s n p at.spelled;
     }))
     (no_place (Continues (PriorityRead s n p) (b ∷ [])) q)
@@ -126,24 +126,24 @@ from_read s n p b q e = chosen (Continues (PriorityRead s n p) (b ∷ [])) _ _ _
 from_category : (s n p c : ArrayVec ℕ) (b : ℕ) (q : Place) → next (Category s n p c) b ≡ Some q → Continues (Category s n p c) (b ∷ []) q
 from_category s n p c b q e = chosen (Continues (Category s n p c) (b ∷ [])) _ _ _ q e
     (λ t. quiet (Category s n p c) (Category s n p (of (c.items ++ (b ∷ [])))) (b ∷ []) (λ xs text at. record {
-      bare = (at.bare.0, at.bare.1, at.bare.2, one_more is_alphanumeric 0 0 8 c.items b at.bare.3 t (omega arith));
+      bare = (at.bare.0, at.bare.1, at.bare.2, one_more is_alphanumeric 0 0 max_category c.items b at.bare.3 t (omega arith));
       spelled = category_more xs text (b ∷ []) s n p c at.spelled;
     }))
     (λ e. chosen (Continues (Category s n p c) (b ∷ [])) _ _ _ q e
     (λ t. quiet_at (Category s n p c) (Words s n p c (of [])) b 32 (and_parts (b == 32) (nat_lt 0 (length c.items)) t).0 (λ xs text at. record {
-      bare = (at.bare.0, at.bare.1, at.bare.2, some_of (b == 32) is_alphanumeric 8 c.items t at.bare.3, field_none is_digit 6);
+      bare = (at.bare.0, at.bare.1, at.bare.2, some_of (b == 32) is_alphanumeric max_category c.items t at.bare.3, field_none is_digit max_words);
       spelled = category_space xs text s n p c at.spelled;
     }))
     (no_place (Continues (Category s n p c) (b ∷ [])) q))
 
 -- words and then the header that they end
 with_words : (x : Bool) (s n p c w : ArrayVec ℕ) → (x && nat_lt 0 (length w.items)) ≡ true → IsPlace (Words s n p c w) → IsHeader (begun s n p c w)
-with_words x s n p c w t i = begun_header s n p c w i (some_of x is_digit 6 w.items t i.4)
+with_words x s n p c w t i = begun_header s n p c w i (some_of x is_digit max_words w.items t i.4)
 
 from_words : (s n p c w : ArrayVec ℕ) (b : ℕ) (q : Place) → next (Words s n p c w) b ≡ Some q → Continues (Words s n p c w) (b ∷ []) q
 from_words s n p c w b q e = chosen (Continues (Words s n p c w) (b ∷ [])) _ _ _ q e
     (λ t. quiet (Words s n p c w) (Words s n p c (of (w.items ++ (b ∷ [])))) (b ∷ []) (λ xs text at. record {
-      bare = (at.bare.0, at.bare.1, at.bare.2, at.bare.3, one_more is_digit 0 0 6 w.items b at.bare.4 t (omega arith));
+      bare = (at.bare.0, at.bare.1, at.bare.2, at.bare.3, one_more is_digit 0 0 max_words w.items b at.bare.4 t (omega arith));
       spelled = words_more xs text (b ∷ []) s n p c w at.spelled;
     }))
     (λ e. chosen (Continues (Words s n p c w) (b ∷ [])) _ _ _ q e
@@ -158,14 +158,14 @@ from_words s n p c w b q e = chosen (Continues (Words s n p c w) (b ∷ [])) _ _
     }))
     (no_place (Continues (Words s n p c w) (b ∷ [])) q)))
 
-longer_info : (h : Header) (b : ℕ) → IsHeader h → (is_info_octet b && nat_lt (length h.info) 64) ≡ true → IsHeader (more_info h b)
+longer_info : (h : Header) (b : ℕ) → IsHeader h → (is_info_octet b && nat_lt (length h.info) max_info) ≡ true → IsHeader (more_info h b)
 longer_info h b i t = record {
   source = i.source;
   number = i.number;
   priority = i.priority;
   category = i.category;
   words = i.words;
-  info = one_more is_info_octet 0 0 64 h.info b i.info t (omega arith);
+  info = one_more is_info_octet 0 0 max_info h.info b i.info t (omega arith);
 }
 
 from_info : (h : Header) (b : ℕ) (q : Place) → next (Info h) b ≡ Some q → Continues (Info h) (b ∷ []) q
@@ -184,9 +184,9 @@ from_info h b q e = chosen (Continues (Info h) (b ∷ [])) _ _ _ q e
 from_gap : (h : Header) (k : ℕ) (feed : Bool) (b : ℕ) (q : Place) → next (Gap h k feed) b ≡ Some q → Continues (Gap h k feed) (b ∷ []) q
 from_gap h k feed b q e = chosen (Continues (Gap h k feed) (b ∷ [])) _ _ _ q e
     (λ t.
-    let parts = and_parts (is_filler_octet b && nat_lt k 32) (feed || b == 10 || nat_lt (k + 1) 32) t in
-    let fill = and_parts (is_filler_octet b) (nat_lt k 32) parts.0 in
-    let lt : k < 32 = ltb-true k 32 fill.1 in
+    let parts = and_parts (is_filler_octet b && nat_lt k max_filler) (feed || b == 10 || nat_lt (k + 1) max_filler) t in
+    let fill = and_parts (is_filler_octet b) (nat_lt k max_filler) parts.0 in
+    let lt : k < max_filler = ltb-true k max_filler fill.1 in
     quiet (Gap h k feed) (Gap h (k + 1) (feed || b == 10)) (b ∷ []) (λ xs text at. record {
       bare = (at.bare.0, omega arith, omega (arith, lt), parts.1);
       spelled = gap_more xs text h k feed b fill.0 at.spelled;
@@ -205,7 +205,7 @@ from_text h reader b q e = chosen (Continues (Text h reader) (b ∷ [])) _ _ _ q
     (λ t. (b ∷ [], λ xs text at. record { bare = at.bare; spelled = text_more xs text (b ∷ []) h reader None (one_is is_text_octet b t) at.spelled }))
     (λ e. chosen (Continues (Text h reader) (b ∷ [])) _ _ _ q e
     (λ t. quiet_at (Text h reader) (Trailer h (of [])) b 3 t (λ xs text at. record {
-      bare = (at.bare, field_none is_trailer_octet 64);
+      bare = (at.bare, field_none is_trailer_octet max_trailer);
       spelled = text_etx xs text h reader at.spelled;
     }))
     (no_place (Continues (Text h reader) (b ∷ [])) q))
@@ -213,7 +213,7 @@ from_text h reader b q e = chosen (Continues (Text h reader) (b ∷ [])) _ _ _ q
 from_trailer : (h : Header) (v : ArrayVec ℕ) (b : ℕ) (q : Place) → next (Trailer h v) b ≡ Some q → Continues (Trailer h v) (b ∷ []) q
 from_trailer h v b q e = chosen (Continues (Trailer h v) (b ∷ [])) _ _ _ q e
     (λ t. quiet (Trailer h v) (Trailer h (of (v.items ++ (b ∷ [])))) (b ∷ []) (λ xs text at. record {
-      bare = (at.bare.0, one_more is_trailer_octet 0 0 64 v.items b at.bare.1 t (omega arith));
+      bare = (at.bare.0, one_more is_trailer_octet 0 0 max_trailer v.items b at.bare.1 t (omega arith));
       spelled = trailer_more xs text (b ∷ []) h v at.spelled;
     }))
     (λ e. chosen (Continues (Trailer h v) (b ∷ [])) _ _ _ q e
@@ -226,8 +226,8 @@ from_trailer h v b q e = chosen (Continues (Trailer h v) (b ∷ [])) _ _ _ q e
 from_end : (h : Header) (v : ArrayVec ℕ) (k b : ℕ) (q : Place) → next (AfterEnd h v k) b ≡ Some q → Continues (AfterEnd h v k) (b ∷ []) q
 from_end h v k b q e = chosen (Continues (AfterEnd h v k) (b ∷ [])) _ _ _ q e
     (λ t.
-    let fill = and_parts (is_filler_octet b) (nat_lt k 32) t in
-    let lt : k < 32 = ltb-true k 32 fill.1 in
+    let fill = and_parts (is_filler_octet b) (nat_lt k max_filler) t in
+    let lt : k < max_filler = ltb-true k max_filler fill.1 in
     quiet (AfterEnd h v k) (AfterEnd h v (k + 1)) (b ∷ []) (λ xs text at. record {
       bare = (at.bare.0, at.bare.1, omega (arith, lt));
       spelled = end_more xs text (b ∷ []) h v k (one_is is_filler_octet b fill.0) (omega (arith, lt)) at.spelled;

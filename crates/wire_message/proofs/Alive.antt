@@ -4,7 +4,7 @@ use Rattle.std.proofs.lemmas.Bool.{ltb-true}
 use Rattle.arrayvec.specs.ArrayVec.{ArrayVec}
 use Rattle.iim_dataset.specs.Format.Languages.{IsAlive}
 use Rattle.wire_story.specs.Format.Tokens.{OctetOrEnd, Octet, End, with_end}
-use Rattle.wire_message.specs.Format.Fields.{IsField, is_alphanumeric, is_trailer_octet}
+use Rattle.wire_message.specs.Format.Fields.{IsField, is_alphanumeric, is_trailer_octet, max_filler, max_source, max_number, max_category, max_words, max_trailer}
 use Rattle.iim_dataset.specs.Format.Octets.{is_digit, is_letter}
 use Rattle.wire_message.specs.Format.Messages.{Header, IsHeader, IsMessage, IsTrailer}
 use Rattle.wire_message.specs.Format.Layers.{MessageLanguage, MessageLivesWith, MessageDiesAt}
@@ -49,9 +49,9 @@ completes_trailer : (xs text : List ℕ) (h : Header) (t : ArrayVec ℕ) → IsH
 completes_trailer xs text h t i it l = then xs 4 (completes_end (xs ++ (4 ∷ [])) text h t 0 (trailer_eot xs text h t i it l))
 
 completes_text : (xs text : List ℕ) (h : Header) → IsHeader h → Spells xs text (Text h None) → Completes xs
-completes_text xs text h i l = then xs 3 (completes_trailer (xs ++ (3 ∷ [])) text h (of []) i (field_none is_trailer_octet 64) (text_etx xs text h None l))
+completes_text xs text h i l = then xs 3 (completes_trailer (xs ++ (3 ∷ [])) text h (of []) i (field_none is_trailer_octet max_trailer) (text_etx xs text h None l))
 
-fed : (xs text : List ℕ) (h : Header) (k : ℕ) → IsHeader h → 1 ≤ k → k ≤ 32 → Spells xs text (Gap h k true) → Completes xs
+fed : (xs text : List ℕ) (h : Header) (k : ℕ) → IsHeader h → 1 ≤ k → k ≤ max_filler → Spells xs text (Gap h k true) → Completes xs
 fed xs text h k i low high l = then xs 2 (completes_text (xs ++ (2 ∷ [])) text h i (gap_stx xs text h k None low high l))
 
 or_true : (x : Bool) → (x || true) ≡ true
@@ -61,43 +61,43 @@ or_true false = refl
 feed_comes : (xs text : List ℕ) (h : Header) (k : ℕ) (feed : Bool) → Spells xs text (Gap h k feed) → Spells (xs ++ (10 ∷ [])) text (Gap h (k + 1) true)
 feed_comes xs text h k feed l = subst (λ (f : Bool). Spells (xs ++ (10 ∷ [])) text (Gap h (k + 1) f)) (or_true feed) (gap_more xs text h k feed 10 refl l)
 
-completes_gap : (xs text : List ℕ) (h : Header) (k : ℕ) (feed : Bool) → IsHeader h → 1 ≤ k → k ≤ 32 → (feed || nat_lt k 32) ≡ true → Spells xs text (Gap h k feed) → Completes xs
+completes_gap : (xs text : List ℕ) (h : Header) (k : ℕ) (feed : Bool) → IsHeader h → 1 ≤ k → k ≤ max_filler → (feed || nat_lt k max_filler) ≡ true → Spells xs text (Gap h k feed) → Completes xs
 completes_gap xs text h k true i low high on l = fed xs text h k i low high l
 completes_gap xs text h k false i low high on l =
-    let lt : k < 32 = ltb-true k 32 on in
+    let lt : k < max_filler = ltb-true k max_filler on in
     then xs 10 (fed (xs ++ (10 ∷ [])) text h (k + 1) i (omega arith) (omega (arith, lt)) (feed_comes xs text h k false l))
 
 completes_info : (xs text : List ℕ) (h : Header) → IsHeader h → Spells xs text (Info h) → Completes xs
 completes_info xs text h i l = then xs 10 (fed (xs ++ (10 ∷ [])) text h 1 i (omega arith) (omega arith) (info_gap xs text h 10 refl l))
 
-pub begun_header : (s n p c w : ArrayVec ℕ) → IsPlace (Words s n p c w) → IsField is_digit 1 6 w.items → IsHeader (begun s n p c w)
+pub begun_header : (s n p c w : ArrayVec ℕ) → IsPlace (Words s n p c w) → IsField is_digit 1 max_words w.items → IsHeader (begun s n p c w)
 begun_header s n p c w i k = record { source = i.0; number = i.1; priority = i.2; category = i.3; words = k; info = (refl, omega arith, omega arith) }
 
 -- the words have an octet
-completes_counted : (xs text : List ℕ) (s n p c w : ArrayVec ℕ) → IsPlace (Words s n p c w) → IsField is_digit 1 6 w.items → Spells xs text (Words s n p c w) → Completes xs
+completes_counted : (xs text : List ℕ) (s n p c w : ArrayVec ℕ) → IsPlace (Words s n p c w) → IsField is_digit 1 max_words w.items → Spells xs text (Words s n p c w) → Completes xs
 completes_counted xs text s n p c w i k l =
     then xs 10 (fed (xs ++ (10 ∷ [])) text (begun s n p c w) 1 (begun_header s n p c w i k) (omega arith) (omega arith) (words_gap xs text s n p c w 10 refl l))
 
 completes_words : (xs text : List ℕ) (s n p c : ArrayVec ℕ) (w : List ℕ) → IsPlace (Words s n p c (of w)) → Spells xs text (Words s n p c (of w)) → Completes xs
 completes_words xs text s n p c [] i l =
-    let one : IsField is_digit 1 6 (49 ∷ []) = field_one is_digit 6 49 refl (omega arith) in
+    let one : IsField is_digit 1 max_words (49 ∷ []) = field_one is_digit max_words 49 refl (omega arith) in
     then xs 49 (completes_counted (xs ++ (49 ∷ [])) text s n p c (of (49 ∷ [])) (i.0, i.1, i.2, i.3, (one.0, omega arith, one.2)) one (words_more xs text (49 ∷ []) s n p c (of []) l))
 completes_words xs text s n p c (b ∷ w) i l = completes_counted xs text s n p c (of (b ∷ w)) i (i.4.0, omega arith, i.4.2) l
 
 -- the category has an octet
-completes_named : (xs text : List ℕ) (s n p c : ArrayVec ℕ) → IsField is_letter 1 8 s.items → IsField is_digit 1 8 n.items → IsField is_digit 1 1 p.items → IsField is_alphanumeric 1 8 c.items
+completes_named : (xs text : List ℕ) (s n p c : ArrayVec ℕ) → IsField is_letter 1 max_source s.items → IsField is_digit 1 max_number n.items → IsField is_digit 1 1 p.items → IsField is_alphanumeric 1 max_category c.items
     → Spells xs text (Category s n p c) → Completes xs
 completes_named xs text s n p c is' in' ip ic l =
-    then xs 32 (completes_words (xs ++ (32 ∷ [])) text s n p c [] (is', in', ip, ic, field_none is_digit 6) (category_space xs text s n p c l))
+    then xs 32 (completes_words (xs ++ (32 ∷ [])) text s n p c [] (is', in', ip, ic, field_none is_digit max_words) (category_space xs text s n p c l))
 
 completes_category : (xs text : List ℕ) (s n p : ArrayVec ℕ) (c : List ℕ) → IsPlace (Category s n p (of c)) → Spells xs text (Category s n p (of c)) → Completes xs
 completes_category xs text s n p [] i l =
-    then xs 65 (completes_named (xs ++ (65 ∷ [])) text s n p (of (65 ∷ [])) i.0 i.1 i.2 (field_one is_alphanumeric 8 65 refl (omega arith)) (category_more xs text (65 ∷ []) s n p (of []) l))
+    then xs 65 (completes_named (xs ++ (65 ∷ [])) text s n p (of (65 ∷ [])) i.0 i.1 i.2 (field_one is_alphanumeric max_category 65 refl (omega arith)) (category_more xs text (65 ∷ []) s n p (of []) l))
 completes_category xs text s n p (b ∷ c) i l = completes_named xs text s n p (of (b ∷ c)) i.0 i.1 i.2 (i.3.0, omega arith, i.3.2) l
 
 completes_read : (xs text : List ℕ) (s n p : ArrayVec ℕ) → IsPlace (PriorityRead s n p) → Spells xs text (PriorityRead s n p) → Completes xs
 completes_read xs text s n p i l =
-    then xs 32 (completes_category (xs ++ (32 ∷ [])) text s n p [] (i.0, i.1, i.2, field_none is_alphanumeric 8) (priority_space xs text s n p l))
+    then xs 32 (completes_category (xs ++ (32 ∷ [])) text s n p [] (i.0, i.1, i.2, field_none is_alphanumeric max_category) (priority_space xs text s n p l))
 
 completes_priority : (xs text : List ℕ) (s n : ArrayVec ℕ) → IsPlace (Priority s n) → Spells xs text (Priority s n) → Completes xs
 completes_priority xs text s n i l =
@@ -106,16 +106,16 @@ completes_priority xs text s n i l =
 completes_number : (xs text : List ℕ) (s n : ArrayVec ℕ) → IsPlace (Number s n) → Spells xs text (Number s n) → Completes xs
 completes_number xs text s n i l = then xs 32 (completes_priority (xs ++ (32 ∷ [])) text s n i (number_space xs text s n l))
 
-completes_sent : (xs text : List ℕ) (s : ArrayVec ℕ) → IsField is_letter 1 8 s.items → Spells xs text (Source s) → Completes xs
+completes_sent : (xs text : List ℕ) (s : ArrayVec ℕ) → IsField is_letter 1 max_source s.items → Spells xs text (Source s) → Completes xs
 completes_sent xs text s i l =
-    then xs 49 (completes_number (xs ++ (49 ∷ [])) text s (of (49 ∷ [])) (i, field_one is_digit 8 49 refl (omega arith)) (source_number xs text s 49 l))
+    then xs 49 (completes_number (xs ++ (49 ∷ [])) text s (of (49 ∷ [])) (i, field_one is_digit max_number 49 refl (omega arith)) (source_number xs text s 49 l))
 
 completes_source : (xs text : List ℕ) (s : List ℕ) → IsPlace (Source (of s)) → Spells xs text (Source (of s)) → Completes xs
-completes_source xs text [] i l = then xs 65 (completes_sent (xs ++ (65 ∷ [])) text (of (65 ∷ [])) (field_one is_letter 8 65 refl (omega arith)) (source_more xs text (65 ∷ []) (of []) l))
+completes_source xs text [] i l = then xs 65 (completes_sent (xs ++ (65 ∷ [])) text (of (65 ∷ [])) (field_one is_letter max_source 65 refl (omega arith)) (source_more xs text (65 ∷ []) (of []) l))
 completes_source xs text (b ∷ s) i l = completes_sent xs text (of (b ∷ s)) (i.0, omega arith, i.2) l
 
 pub completes : (xs text : List ℕ) (p : Place) → IsPlace p → Spells xs text p → Completes xs
-completes xs text (Filler k) i l = then xs 1 (completes_source (xs ++ (1 ∷ [])) text [] (field_none is_letter 8) (filler_soh xs text k l))
+completes xs text (Filler k) i l = then xs 1 (completes_source (xs ++ (1 ∷ [])) text [] (field_none is_letter max_source) (filler_soh xs text k l))
 completes xs text (Source s) i l = completes_source xs text s.items i l
 completes xs text (Number s n) i l = completes_number xs text s n i l
 completes xs text (Priority s n) i l = completes_priority xs text s n i l

@@ -1,6 +1,7 @@
 -- The numbers of octets that lead to a place are those from the least on, up to the greatest where there is one.
 use Rattle.std.proofs.Common.{◌≡◌, ℕ, ◌+◌, ◌≤◌, ◌↔◌, List, [], ◌∷◌, ◌++◌, length, replicate, Option, Some, None, refl, sym, ap, subst, ◌∙◌, arith, length-append, ⊎_elim}
 use Rattle.std.proofs.lemmas.List.{length-replicate}
+use Rattle.wire_message.specs.Format.Fields.{max_filler}
 use Rattle.wire_story.specs.Format.Texts.{IsTextSoFar, line_end}
 use Rattle.wire_message.specs.Format.Messages.{IsFiller, SpellsInfo, fixed_header}
 use Rattle.wire_message.specs.Format.Canonical.{packed_info}
@@ -34,7 +35,7 @@ object_length before fixed info rest = omega (arith, length-append before (1 ∷
 -- ---- the places
 
 -- filler, and then `least` octets
-filler_within : (octets before rest : List ℕ) (least : ℕ) → IsFiller before → octets ≡ before ++ rest → length rest ≡ least → IsOneOf least (Some (32 + least)) (length octets)
+filler_within : (octets before rest : List ℕ) (least : ℕ) → IsFiller before → octets ≡ before ++ rest → length rest ≡ least → IsOneOf least (Some (max_filler + least)) (length octets)
 filler_within octets before rest least fill e long =
     let sum : length octets ≡ length before + length rest = ap length e ∙ length-append before rest in
     (omega (arith, sum, long), omega (arith, sum, long, fill.2))

@@ -5,7 +5,7 @@ use Rattle.std.proofs.lemmas.List.{take_more, length-take-le}
 use Rattle.arrayvec.specs.ArrayVec.{ArrayVec}
 use Rattle.wire_story.specs.declared.reader.TextReader.{TextReader}
 use Rattle.wire_story.specs.Format.Reading as story
-use Rattle.wire_message.specs.Format.Fields.{Are, is_trailer_octet, is_filler_octet}
+use Rattle.wire_message.specs.Format.Fields.{Are, is_trailer_octet, is_filler_octet, max_filler, max_trailer}
 use Rattle.wire_message.specs.Format.Messages.{Header, IsHeader, IsTrailer}
 use Rattle.wire_message.specs.Format.SoFar.{IsPlace, Spells, StoryStands}
 use Rattle.wire_message.specs.Steps.{AddsNoText, TakesSome}
@@ -53,10 +53,10 @@ pub gap_on : (h : Header) (k : ℕ) (feed now : Bool) (rest : List ℕ) → 0 < 
     → now ≡ (feed || slice_index rest 0 == 10) → TakesSome (Gap h k feed) rest (Gap h (k + 1) now) 1
 gap_on h k feed now rest some i on e =
     let b = slice_index rest 0 in
-    let parts = and_parts (is_filler_octet b && nat_lt k 32) (feed || b == 10 || nat_lt (k + 1) 32) on in
-    let fill = and_parts (is_filler_octet b) (nat_lt k 32) parts.0 in
-    let lt : k < 32 = ltb-true k 32 fill.1 in
-    takes_one (Gap h k feed) (Gap h (k + 1) now) rest some (i.0, omega arith, omega (arith, lt), subst (λ (f : Bool). (f || nat_lt (k + 1) 32) ≡ true) (sym e) parts.1)
+    let parts = and_parts (is_filler_octet b && nat_lt k max_filler) (feed || b == 10 || nat_lt (k + 1) max_filler) on in
+    let fill = and_parts (is_filler_octet b) (nat_lt k max_filler) parts.0 in
+    let lt : k < max_filler = ltb-true k max_filler fill.1 in
+    takes_one (Gap h k feed) (Gap h (k + 1) now) rest some (i.0, omega arith, omega (arith, lt), subst (λ (f : Bool). (f || nat_lt (k + 1) max_filler) ≡ true) (sym e) parts.1)
     (λ before text l. subst (λ (f : Bool). Spells (before ++ (b ∷ [])) text (Gap h (k + 1) f)) (sym e) (gap_more before text h k feed b fill.0 l))
     (λ text l. l)
 
@@ -72,13 +72,13 @@ gap_ends h k feed reader rest some i j stands on =
     (λ text none. subst (story.StandsAt reader) (sym none) stands)
 
 pub trailer_on : (h : Header) (t v : ArrayVec ℕ) (rest : List ℕ) (n : ℕ) → 0 < n → n ≤ length rest → IsPlace (Trailer h t) → Are is_trailer_octet (take n rest)
-    → v.items ≡ t.items ++ take n rest → length t.items + n ≤ 64 → TakesSome (Trailer h t) rest (Trailer h v) n
+    → v.items ≡ t.items ++ take n rest → length t.items + n ≤ max_trailer → TakesSome (Trailer h t) rest (Trailer h v) n
 trailer_on h t v rest n some within i are items fits =
     let same : v ≡ of (t.items ++ take n rest) = ap of items in
     record {
       some = some;
       within = within;
-      is_place = (i.0, subst IsTrailer (sym items) (field_more is_trailer_octet 0 0 64 t.items (take n rest) i.1 are (omega (arith, fits, length-take-le n rest within)) (omega arith)));
+      is_place = (i.0, subst IsTrailer (sym items) (field_more is_trailer_octet 0 0 max_trailer t.items (take n rest) i.1 are (omega (arith, fits, length-take-le n rest within)) (omega arith)));
       adds = λ before text l. subst (λ (u : ArrayVec ℕ). Spells (before ++ take n rest) text (Trailer h u)) (sym same) (trailer_more before text (take n rest) h t l);
       story = λ text l. l;
     }
@@ -91,11 +91,11 @@ trailer_ends h t v rest some i same eot =
     (subst (λ (u : ArrayVec ℕ). Spells (before ++ (4 ∷ [])) text (AfterEnd h u 0)) (sym same) (trailer_eot before text h t i.0 i.1 l)))
     (λ text l. l)
 
-pub end_on : (h : Header) (t : ArrayVec ℕ) (k : ℕ) (rest : List ℕ) → 0 < length rest → IsPlace (AfterEnd h t k) → (is_filler_octet (slice_index rest 0) && nat_lt k 32) ≡ true → TakesSome (AfterEnd h t k) rest (AfterEnd h t (k + 1)) 1
+pub end_on : (h : Header) (t : ArrayVec ℕ) (k : ℕ) (rest : List ℕ) → 0 < length rest → IsPlace (AfterEnd h t k) → (is_filler_octet (slice_index rest 0) && nat_lt k max_filler) ≡ true → TakesSome (AfterEnd h t k) rest (AfterEnd h t (k + 1)) 1
 end_on h t k rest some i on =
     let b = slice_index rest 0 in
-    let fill = and_parts (is_filler_octet b) (nat_lt k 32) on in
-    let lt : k < 32 = ltb-true k 32 fill.1 in
+    let fill = and_parts (is_filler_octet b) (nat_lt k max_filler) on in
+    let lt : k < max_filler = ltb-true k max_filler fill.1 in
     takes_one (AfterEnd h t k) (AfterEnd h t (k + 1)) rest some (i.0, i.1, omega (arith, lt))
     (λ before text l. end_more before text (b ∷ []) h t k (one_is is_filler_octet b fill.0) (omega (arith, lt)) l)
     (λ text l. l)

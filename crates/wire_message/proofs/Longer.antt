@@ -1,7 +1,7 @@
 -- An octet of filler lengthens a part where the octets are counted, or it ends it.
 use Rattle.std.proofs.Common.{◌≡◌, ℕ, ◌+◌, ◌<◌, ◌≤◌, Bool, true, false, ◌&&◌, ◌||◌, ◌==◌, nat_lt, length, slice_index, List, sym, ap, subst, arith}
 use Rattle.arrayvec.specs.ArrayVec.{ArrayVec}
-use Rattle.wire_message.specs.Format.Fields.{is_filler_octet}
+use Rattle.wire_message.specs.Format.Fields.{is_filler_octet, max_filler}
 use Rattle.wire_message.specs.Format.Messages.{Header}
 use Rattle.wire_message.specs.Format.SoFar.{IsPlace}
 use Rattle.wire_message.specs.Steps.{TakesSome}
@@ -22,7 +22,7 @@ counted : (mk : ℕ → Place) (C : Place → Type 0) (k m n j : ℕ) → m ≡ 
 counted mk C k m n j e one f = let same : m ≡ k + j = omega arith in subst (λ (i : ℕ). C (mk i)) (sym same) f
 
 pub end_longer : (h : Header) (t : ArrayVec ℕ) (k m : ℕ) (rest : List ℕ) (n : ℕ) → 0 < length rest → IsPlace (AfterEnd h t k) → n ≤ 1
-    → (n ≡ 1 → (is_filler_octet (slice_index rest 0) && nat_lt k 32) ≡ true) → (n ≡ 0 → (is_filler_octet (slice_index rest 0) && nat_lt k 32) ≡ false) → m ≡ k + n
+    → (n ≡ 1 → (is_filler_octet (slice_index rest 0) && nat_lt k max_filler) ≡ true) → (n ≡ 0 → (is_filler_octet (slice_index rest 0) && nat_lt k max_filler) ≡ false) → m ≡ k + n
     → TakesInPart (AfterEnd h t k) rest (AfterEnd h t m) n
 end_longer h t k m rest n some i one fills ends e =
     one_longer (AfterEnd h t k) (AfterEnd h t m) rest n one (λ p. counted (λ j. AfterEnd h t j) (λ q. TakesSome (AfterEnd h t k) rest q 1) k m n 1 e p (end_on h t k rest some i (fills p)))

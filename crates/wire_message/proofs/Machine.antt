@@ -2,7 +2,7 @@
 use Rattle.std.proofs.Common.{◌≡◌, ℕ, ◌+◌, ◌<◌, ◌≤◌, Bool, true, false, ◌&&◌, ◌||◌, ◌==◌, nat_lt, cond, List, [], ◌∷◌, ◌++◌, length, Option, Some, None, refl, sym, ap, ◌∙◌, arith, append_assoc, append-nil, length-append, option_and_then}
 use Rattle.std.proofs.lemmas.Bool.{and_from, lt-ltb, and_left}
 use Rattle.arrayvec.specs.ArrayVec.{ArrayVec}
-use Rattle.wire_message.specs.Format.Fields.{Are, IsField, is_alphanumeric, is_info_octet, is_trailer_octet, is_filler_octet, is_text_octet}
+use Rattle.wire_message.specs.Format.Fields.{Are, IsField, is_alphanumeric, is_info_octet, is_trailer_octet, is_filler_octet, is_text_octet, max_filler, max_source, max_number, max_category, max_words, max_info, max_trailer}
 use Rattle.iim_dataset.specs.Format.Octets.{is_digit, is_letter}
 use Rattle.wire_message.specs.Format.Messages.{Header, header_of, IsFiller}
 use Rattle.wire_message.specs.declared.place.Place.{Place}
@@ -26,26 +26,26 @@ abbrev pub may : (ℕ → Bool) → ℕ → ArrayVec ℕ → ℕ → Bool
 may test room xs b = test b && nat_lt (length xs.items) room
 
 abbrev pub gap_leads_on : ℕ → Bool → ℕ → Bool
-gap_leads_on count feed b = is_filler_octet b && nat_lt count 32 && (feed || b == 10 || nat_lt (count + 1) 32)
+gap_leads_on count feed b = is_filler_octet b && nat_lt count max_filler && (feed || b == 10 || nat_lt (count + 1) max_filler)
 
 abbrev pub guarded : Bool → Place → Option Place → Option Place
 guarded b p o = cond b (Some p) o
 
 -- the place after the octet
 abbrev pub next : Place → ℕ → Option Place
-next (Filler k) b = guarded (is_filler_octet b && nat_lt k 32) (Filler (k + 1)) (guarded (b == 1) (Source (of [])) None)
-next (Source s) b = guarded (may is_letter 8 s b) (Source (push s b)) (guarded (is_digit b && nat_lt 0 (length s.items)) (Number s (of (b ∷ []))) None)
-next (Number s n) b = guarded (may is_digit 8 n b) (Number s (push n b)) (guarded (b == 32) (Priority s n) None)
+next (Filler k) b = guarded (is_filler_octet b && nat_lt k max_filler) (Filler (k + 1)) (guarded (b == 1) (Source (of [])) None)
+next (Source s) b = guarded (may is_letter max_source s b) (Source (push s b)) (guarded (is_digit b && nat_lt 0 (length s.items)) (Number s (of (b ∷ []))) None)
+next (Number s n) b = guarded (may is_digit max_number n b) (Number s (push n b)) (guarded (b == 32) (Priority s n) None)
 next (Priority s n) b = guarded (is_digit b) (PriorityRead s n (of (b ∷ []))) None
 next (PriorityRead s n p) b = guarded (b == 32) (Category s n p (of [])) None
-next (Category s n p c) b = guarded (may is_alphanumeric 8 c b) (Category s n p (push c b)) (guarded (b == 32 && nat_lt 0 (length c.items)) (Words s n p c (of [])) None)
-next (Words s n p c w) b = guarded (may is_digit 6 w b) (Words s n p c (push w b))
+next (Category s n p c) b = guarded (may is_alphanumeric max_category c b) (Category s n p (push c b)) (guarded (b == 32 && nat_lt 0 (length c.items)) (Words s n p c (of [])) None)
+next (Words s n p c w) b = guarded (may is_digit max_words w b) (Words s n p c (push w b))
     (guarded (b == 32 && nat_lt 0 (length w.items)) (Info (begun s n p c w)) (guarded (is_filler_octet b && nat_lt 0 (length w.items)) (Gap (begun s n p c w) 1 (b == 10)) None))
-next (Info h) b = guarded (is_info_octet b && nat_lt (length h.info) 64) (Info (more_info h b)) (guarded (is_filler_octet b) (Gap h 1 (b == 10)) None)
+next (Info h) b = guarded (is_info_octet b && nat_lt (length h.info) max_info) (Info (more_info h b)) (guarded (is_filler_octet b) (Gap h 1 (b == 10)) None)
 next (Gap h k feed) b = guarded (gap_leads_on k feed b) (Gap h (k + 1) (feed || b == 10)) (guarded (b == 2 && feed) (Text h None) None)
 next (Text h r) b = guarded (is_text_octet b) (Text h None) (guarded (b == 3) (Trailer h (of [])) None)
-next (Trailer h t) b = guarded (may is_trailer_octet 64 t b) (Trailer h (push t b)) (guarded (b == 4) (AfterEnd h t 0) None)
-next (AfterEnd h t k) b = guarded (is_filler_octet b && nat_lt k 32) (AfterEnd h t (k + 1)) None
+next (Trailer h t) b = guarded (may is_trailer_octet max_trailer t b) (Trailer h (push t b)) (guarded (b == 4) (AfterEnd h t 0) None)
+next (AfterEnd h t k) b = guarded (is_filler_octet b && nat_lt k max_filler) (AfterEnd h t (k + 1)) None
 
 abbrev pub run : Place → List ℕ → Option Place
 run s [] = Some s
@@ -92,8 +92,8 @@ field_run mk test most step (b ∷ xs) ys rest h le =
 pub extends : (test : ℕ → Bool) (most : ℕ) (ys : List ℕ) (b : ℕ) → test b ≡ true → length ys < most → (test b && nat_lt (length ys) most) ≡ true
 extends test most ys b t lt = and_from (test b) (nat_lt (length ys) most) t (lt-ltb (length ys) most lt)
 
-pub count_run : (mk : ℕ → Place) → ((k b : ℕ) → is_filler_octet b ≡ true → k < 32 → next (mk k) b ≡ Some (mk (k + 1)))
-    → (xs rest : List ℕ) (k : ℕ) → Are is_filler_octet xs → k + length xs ≤ 32 → run (mk k) (xs ++ rest) ≡ run (mk (k + length xs)) rest
+pub count_run : (mk : ℕ → Place) → ((k b : ℕ) → is_filler_octet b ≡ true → k < max_filler → next (mk k) b ≡ Some (mk (k + 1)))
+    → (xs rest : List ℕ) (k : ℕ) → Are is_filler_octet xs → k + length xs ≤ max_filler → run (mk k) (xs ++ rest) ≡ run (mk (k + length xs)) rest
 count_run mk step [] rest k h le = ap (λ (n : ℕ). run (mk n) rest) (let e : k ≡ k + 0 = omega arith in e)
 count_run mk step (b ∷ xs) rest k h le =
     let e : (k + 1) + length xs ≡ k + length (b ∷ xs) = omega arith in
@@ -101,37 +101,37 @@ count_run mk step (b ∷ xs) rest k h le =
     ∙ (count_run mk step xs rest (k + 1) (Are-tail is_filler_octet b xs h) (omega arith)
     ∙ ap (λ (n : ℕ). run (mk n) rest) e)
 
-pub fill : (k b : ℕ) → is_filler_octet b ≡ true → k < 32 → (is_filler_octet b && nat_lt k 32) ≡ true
-fill k b t lt = and_from (is_filler_octet b) (nat_lt k 32) t (lt-ltb k 32 lt)
+pub fill : (k b : ℕ) → is_filler_octet b ≡ true → k < max_filler → (is_filler_octet b && nat_lt k max_filler) ≡ true
+fill k b t lt = and_from (is_filler_octet b) (nat_lt k max_filler) t (lt-ltb k max_filler lt)
 
 pub reads_filler : (f rest : List ℕ) → IsFiller f → run (Filler 0) (f ++ rest) ≡ run (Filler (length f)) rest
 reads_filler f rest h = count_run (λ k. Filler k) (λ k b t lt. guard_yes _ _ _ (fill k b t lt)) f rest 0 h.0 (omega (arith, h.2)) ∙ ap (λ (n : ℕ). run (Filler n) rest) (let e : 0 + length f ≡ length f = omega arith in e)
 
-pub reads_soh : (f s rest : List ℕ) → IsFiller f → IsField is_letter 0 8 s → run (Filler 0) (f ++ (1 ∷ (s ++ rest))) ≡ run (Source (of s)) rest
+pub reads_soh : (f s rest : List ℕ) → IsFiller f → IsField is_letter 0 max_source s → run (Filler 0) (f ++ (1 ∷ (s ++ rest))) ≡ run (Source (of s)) rest
 reads_soh f s rest h k =
     reads_filler f (1 ∷ (s ++ rest)) h
-    ∙ field_run (λ ys. Source (of ys)) is_letter 8 (λ ys c t lt. guard_yes _ _ _ (extends is_letter 8 ys c t lt)) s [] rest k.0 (omega (arith, k.2))
+    ∙ field_run (λ ys. Source (of ys)) is_letter max_source (λ ys c t lt. guard_yes _ _ _ (extends is_letter max_source ys c t lt)) s [] rest k.0 (omega (arith, k.2))
 
-pub reads_number : (s n rest : List ℕ) → IsField is_letter 1 8 s → IsField is_digit 1 8 n → run (Source (of s)) (n ++ rest) ≡ run (Number (of s) (of n)) rest
+pub reads_number : (s n rest : List ℕ) → IsField is_letter 1 max_source s → IsField is_digit 1 max_number n → run (Source (of s)) (n ++ rest) ≡ run (Number (of s) (of n)) rest
 reads_number s [] rest h k = absurd (omega (arith, k.1))
 reads_number s (b ∷ n) rest h k =
     let digit : is_digit b ≡ true = Are-head is_digit b n k.0 in
-    step_to (Source (of s)) (Number (of s) (of (b ∷ []))) b (n ++ rest) (guard_no _ _ _ (and_left (is_letter b) (nat_lt (length s) 8) (digit_no_letter b digit)) ∙ guard_yes _ _ _ (and_from (is_digit b) (nat_lt 0 (length s)) digit (lt-ltb 0 (length s) h.1)))
-    ∙ field_run (λ ys. Number (of s) (of ys)) is_digit 8 (λ ys c t lt. guard_yes _ _ _ (extends is_digit 8 ys c t lt)) n (b ∷ []) rest (Are-tail is_digit b n k.0) (omega (arith, k.2))
+    step_to (Source (of s)) (Number (of s) (of (b ∷ []))) b (n ++ rest) (guard_no _ _ _ (and_left (is_letter b) (nat_lt (length s) max_source) (digit_no_letter b digit)) ∙ guard_yes _ _ _ (and_from (is_digit b) (nat_lt 0 (length s)) digit (lt-ltb 0 (length s) h.1)))
+    ∙ field_run (λ ys. Number (of s) (of ys)) is_digit max_number (λ ys c t lt. guard_yes _ _ _ (extends is_digit max_number ys c t lt)) n (b ∷ []) rest (Are-tail is_digit b n k.0) (omega (arith, k.2))
 
 pub reads_priority : (s n p rest : List ℕ) → IsField is_digit 1 1 p → run (Priority (of s) (of n)) (p ++ rest) ≡ run (PriorityRead (of s) (of n) (of p)) rest
 reads_priority s n [] rest h = absurd (omega (arith, h.1))
 reads_priority s n (b ∷ []) rest h = step_to (Priority (of s) (of n)) (PriorityRead (of s) (of n) (of (b ∷ []))) b rest (guard_yes _ _ _ (Are-head is_digit b [] h.0))
 reads_priority s n (b ∷ c ∷ p) rest h = absurd (omega (arith, h.2))
 
-pub reads_category : (s n p c rest : List ℕ) → IsField is_alphanumeric 0 8 c → run (Category (of s) (of n) (of p) (of [])) (c ++ rest) ≡ run (Category (of s) (of n) (of p) (of c)) rest
+pub reads_category : (s n p c rest : List ℕ) → IsField is_alphanumeric 0 max_category c → run (Category (of s) (of n) (of p) (of [])) (c ++ rest) ≡ run (Category (of s) (of n) (of p) (of c)) rest
 reads_category s n p c rest h =
-    field_run (λ ys. Category (of s) (of n) (of p) (of ys)) is_alphanumeric 8 (λ ys b t lt. guard_yes _ _ _ (extends is_alphanumeric 8 ys b t lt)) c [] rest h.0 (omega (arith, h.2))
+    field_run (λ ys. Category (of s) (of n) (of p) (of ys)) is_alphanumeric max_category (λ ys b t lt. guard_yes _ _ _ (extends is_alphanumeric max_category ys b t lt)) c [] rest h.0 (omega (arith, h.2))
 
-pub category_ends : (s n p c rest : List ℕ) → IsField is_alphanumeric 1 8 c → run (Category (of s) (of n) (of p) (of c)) (32 ∷ rest) ≡ run (Words (of s) (of n) (of p) (of c) (of [])) rest
+pub category_ends : (s n p c rest : List ℕ) → IsField is_alphanumeric 1 max_category c → run (Category (of s) (of n) (of p) (of c)) (32 ∷ rest) ≡ run (Words (of s) (of n) (of p) (of c) (of [])) rest
 category_ends s n p c rest h =
     step_to (Category (of s) (of n) (of p) (of c)) (Words (of s) (of n) (of p) (of c) (of [])) 32 rest (guard_yes _ _ _ (lt-ltb 0 (length c) h.1))
 
-pub reads_words : (s n p c w rest : List ℕ) → IsField is_digit 0 6 w → run (Words (of s) (of n) (of p) (of c) (of [])) (w ++ rest) ≡ run (Words (of s) (of n) (of p) (of c) (of w)) rest
+pub reads_words : (s n p c w rest : List ℕ) → IsField is_digit 0 max_words w → run (Words (of s) (of n) (of p) (of c) (of [])) (w ++ rest) ≡ run (Words (of s) (of n) (of p) (of c) (of w)) rest
 reads_words s n p c w rest h =
-    field_run (λ ys. Words (of s) (of n) (of p) (of c) (of ys)) is_digit 6 (λ ys b t lt. guard_yes _ _ _ (extends is_digit 6 ys b t lt)) w [] rest h.0 (omega (arith, h.2))
+    field_run (λ ys. Words (of s) (of n) (of p) (of c) (of ys)) is_digit max_words (λ ys b t lt. guard_yes _ _ _ (extends is_digit max_words ys b t lt)) w [] rest h.0 (omega (arith, h.2))

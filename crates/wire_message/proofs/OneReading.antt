@@ -1,7 +1,7 @@
 -- An object is a message in one way at most.
 use Rattle.std.proofs.Common.{◌≡◌, ℕ, ◌≤◌, Bool, true, false, ◌||◌, ◌==◌, List, [], ◌∷◌, ◌++◌, refl, sym, ap, subst, ◌∙◌, arith, inl, inr, append_assoc, nat_le}
 use Rattle.std.proofs.lemmas.Bool.{and_parts, or_cases, both_ways, eqb-true, leb-true, lt-leb}
-use Rattle.wire_message.specs.Format.Fields.{Are, IsField, is_alphanumeric, is_info_octet, is_trailer_octet, is_filler_octet, is_text_octet}
+use Rattle.wire_message.specs.Format.Fields.{Are, IsField, is_alphanumeric, is_info_octet, is_trailer_octet, is_filler_octet, is_text_octet, max_filler, max_number}
 use Rattle.iim_dataset.specs.Format.Octets.{is_digit, is_letter}
 use Rattle.wire_message.specs.Format.Messages.{Header, IsHeader, IsMessage, BeginsWithHeader, IsGap, SpellsInfo, fixed_header}
 use Rattle.wire_message.proofs.Spans.{span_by, Are-head}
@@ -36,7 +36,7 @@ first_of_field test high (c ∷ tail) h = (c, tail, refl, Are-head test c tail h
 pub after_words : (info spelled gap rest : List ℕ) → SpellsInfo info spelled → IsGap gap
     → (c : ℕ) × (tail : List ℕ) × (spelled ++ (gap ++ rest) ≡ c ∷ tail) × (is_digit c ≡ false)
 after_words info spelled gap rest (inl h) g =
-    let f = first_of_field is_filler_octet 32 gap g.0 in (
+    let f = first_of_field is_filler_octet max_filler gap g.0 in (
       f.0,
       f.1 ++ rest,
       ap (λ (t : List ℕ). t ++ (gap ++ rest)) h.1 ∙ ap (λ (t : List ℕ). t ++ rest) f.2,
@@ -50,20 +50,20 @@ pub one_info : (info info' spelled spelled' gap gap' rest rest' : List ℕ) → 
 one_info info info' spelled spelled' gap gap' rest rest' (inl h) (inl k) pi pi' g g' e =
     (h.0 ∙ sym k.0, ap (λ (t : List ℕ). t ++ (gap ++ (2 ∷ rest))) (sym h.1) ∙ (e ∙ ap (λ (t : List ℕ). t ++ (gap' ++ (2 ∷ rest'))) k.1))
 one_info info info' spelled spelled' gap gap' rest rest' (inl h) (inr k) pi pi' g g' e =
-    let f = first_of_field is_filler_octet 32 gap g.0 in
+    let f = first_of_field is_filler_octet max_filler gap g.0 in
     let both : f.0 ∷ (f.1 ++ (2 ∷ rest)) ≡ 32 ∷ (info' ++ (gap' ++ (2 ∷ rest'))) =
     ap (λ (t : List ℕ). t ++ (2 ∷ rest)) (sym f.2) ∙ (ap (λ (t : List ℕ). t ++ (gap ++ (2 ∷ rest))) (sym h.1) ∙ (e ∙ ap (λ (t : List ℕ). t ++ (gap' ++ (2 ∷ rest'))) k)) in
     let same : f.0 ≡ 32 = cc in
     absurd (both_ways (is_filler_octet 32) refl (ap is_filler_octet (sym same) ∙ f.3))
 one_info info info' spelled spelled' gap gap' rest rest' (inr h) (inl k) pi pi' g g' e =
-    let f = first_of_field is_filler_octet 32 gap' g'.0 in
+    let f = first_of_field is_filler_octet max_filler gap' g'.0 in
     let both : f.0 ∷ (f.1 ++ (2 ∷ rest')) ≡ 32 ∷ (info ++ (gap ++ (2 ∷ rest))) =
     ap (λ (t : List ℕ). t ++ (2 ∷ rest')) (sym f.2) ∙ (ap (λ (t : List ℕ). t ++ (gap' ++ (2 ∷ rest'))) (sym k.1) ∙ (sym e ∙ ap (λ (t : List ℕ). t ++ (gap ++ (2 ∷ rest))) h)) in
     let same : f.0 ≡ 32 = cc in
     absurd (both_ways (is_filler_octet 32) refl (ap is_filler_octet (sym same) ∙ f.3))
 one_info info info' spelled spelled' gap gap' rest rest' (inr h) (inr k) pi pi' g g' e =
-    let f = first_of_field is_filler_octet 32 gap g.0 in
-    let f' = first_of_field is_filler_octet 32 gap' g'.0 in
+    let f = first_of_field is_filler_octet max_filler gap g.0 in
+    let f' = first_of_field is_filler_octet max_filler gap' g'.0 in
     let whole : 32 ∷ (info ++ (gap ++ (2 ∷ rest))) ≡ 32 ∷ (info' ++ (gap' ++ (2 ∷ rest'))) =
     ap (λ (t : List ℕ). t ++ (gap ++ (2 ∷ rest))) (sym h) ∙ (e ∙ ap (λ (t : List ℕ). t ++ (gap' ++ (2 ∷ rest'))) k) in
     let tails : info ++ (gap ++ (2 ∷ rest)) ≡ info' ++ (gap' ++ (2 ∷ rest')) = cc in
@@ -87,8 +87,8 @@ pub one_fixed_header : (h k : Header) (x y : List ℕ) → IsHeader h → IsHead
     → fixed_header h ++ x ≡ fixed_header k ++ y
     → (h.source ≡ k.source) × (h.number ≡ k.number) × (h.priority ≡ k.priority) × (h.category ≡ k.category) × (h.words ≡ k.words) × (x ≡ y)
 one_fixed_header h k x y p q c tail xc nc d tail' yd nd e =
-    let n = first_of_field is_digit 8 h.number p.number in
-    let m = first_of_field is_digit 8 k.number q.number in
+    let n = first_of_field is_digit max_number h.number p.number in
+    let m = first_of_field is_digit max_number k.number q.number in
     let R : List ℕ = 32 ∷ (h.priority ++ (32 ∷ (h.category ++ (32 ∷ (h.words ++ x))))) in
     let R' : List ℕ = 32 ∷ (k.priority ++ (32 ∷ (k.category ++ (32 ∷ (k.words ++ y))))) in
     let e1 : h.source ++ (n.0 ∷ (n.1 ++ R)) ≡ k.source ++ (m.0 ∷ (m.1 ++ R')) =

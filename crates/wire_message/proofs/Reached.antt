@@ -5,7 +5,7 @@ use Rattle.std.proofs.lemmas.Bool.{cases_lt}
 use Rattle.std.proofs.lemmas.List.{length-replicate}
 use Rattle.arrayvec.specs.ArrayVec.{ArrayVec}
 use Rattle.wire_story.specs.Format.Texts.{IsLine, is_line_octet}
-use Rattle.wire_message.specs.Format.Fields.{Are, is_filler_octet, is_text_octet}
+use Rattle.wire_message.specs.Format.Fields.{Are, is_filler_octet, is_text_octet, max_filler}
 use Rattle.wire_message.specs.Format.Messages.{Header, IsFiller, IsGap, IsMessage, SpellsInfo, fixed_header, has_feed}
 use Rattle.wire_message.specs.Format.Canonical.{packed_info}
 use Rattle.wire_message.specs.Format.SoFar.{IsPlace, Spells, StoryStands, LeadTo}
@@ -36,11 +36,11 @@ zeros_feed (suc k) = zeros_feed k
 zeros_many : (k : ℕ) → length (zeros k) ≡ k
 zeros_many k = length-replicate {A = ℕ} k 0
 
-is_filler : (k : ℕ) → k ≤ 32 → IsFiller (zeros k)
+is_filler : (k : ℕ) → k ≤ max_filler → IsFiller (zeros k)
 is_filler k le = (zeros_fill k, omega arith, omega (arith, le, zeros_many k))
 
 nothing : IsFiller []
-nothing = field_none is_filler_octet 32
+nothing = field_none is_filler_octet max_filler
 
 -- LF alone is a gap
 feed_alone : IsGap (10 ∷ [])
@@ -65,7 +65,7 @@ letters_many k = length-replicate {A = ℕ} k 97
 
 filled : (p : Place) (rest : List ℕ) (least : ℕ) → IsPlace p → StoryStands [] p → length rest ≡ least
     → ((before : List ℕ) → IsFiller before → Spells (before ++ rest) [] p)
-    → (count : ℕ) → least ≤ count → count ≤ 32 + least → IsReached p count
+    → (count : ℕ) → least ≤ count → count ≤ max_filler + least → IsReached p count
 filled p rest least i story long spells count above below =
     let k : ℕ = count - least in
     let before : List ℕ = zeros k in (
@@ -107,7 +107,7 @@ pub joined_length : (a b c : List ℕ) → length (1 ∷ (a ++ (b ++ c))) ≡ 1 
 joined_length a b c = omega (arith, length-append a (b ++ c), length-append b c)
 
 gap_filled : (h : Header) (k : ℕ) (feed : Bool) (info : List ℕ) → IsPlace (Gap h k feed) → SpellsInfo h.info info
-    → (count : ℕ) → fixed_octets h + length info + k ≤ count → count ≤ 32 + (fixed_octets h + length info + k) → IsReached (Gap h k feed) count
+    → (count : ℕ) → fixed_octets h + length info + k ≤ count → count ≤ max_filler + (fixed_octets h + length info + k) → IsReached (Gap h k feed) count
 gap_filled h k feed info i spelled count above below =
     let gap : List ℕ = gap_of k feed in
     filled (Gap h k feed) (1 ∷ (fixed_header h ++ (info ++ gap))) (fixed_octets h + length info + k) i refl
@@ -119,7 +119,7 @@ gap_reached : (h : Header) (k : ℕ) (feed : Bool) → IsPlace (Gap h k feed)
 gap_reached h k feed i count one =
     let least : ℕ = fixed_octets h + length (packed_info h.info) + k in
     ⊎_elim (λ more. gap_filled h k feed (32 ∷ h.info) i (inr refl) count (omega (arith, more, (packed_within h.info).0)) (omega (arith, one.1)))
-    (λ few. gap_filled h k feed (packed_info h.info) i (packed_spells h.info) count one.0 few) (cases_lt (32 + least) count)
+    (λ few. gap_filled h k feed (packed_info h.info) i (packed_spells h.info) count one.0 few) (cases_lt (max_filler + least) count)
 
 -- ---- from STX on the text makes up the length
 

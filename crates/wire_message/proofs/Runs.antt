@@ -1,7 +1,7 @@
 -- Octets that spell a place run to it, and a message runs to its end.
 use Rattle.std.proofs.Common.{◌≡◌, ℕ, ◌+◌, ◌≤◌, Bool, true, false, ◌&&◌, ◌||◌, ◌==◌, nat_lt, List, [], ◌∷◌, ◌++◌, length, Some, None, refl, sym, ap, ◌∙◌, arith, inl, inr, append-nil}
 use Rattle.std.proofs.lemmas.Bool.{and_from, or_right, lt-ltb, and_left}
-use Rattle.wire_message.specs.Format.Fields.{Are, IsField, is_alphanumeric, is_info_octet, is_trailer_octet, is_filler_octet, is_text_octet}
+use Rattle.wire_message.specs.Format.Fields.{Are, IsField, is_alphanumeric, is_info_octet, is_trailer_octet, is_filler_octet, is_text_octet, max_filler, max_source, max_number, max_category, max_words, max_info, max_trailer}
 use Rattle.iim_dataset.specs.Format.Octets.{is_digit, is_letter}
 use Rattle.wire_message.specs.Format.Messages.{Header, header_of, IsHeader, IsMessage, IsFiller, IsGap, IsTrailer, SpellsInfo, fixed_header, has_feed}
 use Rattle.wire_message.specs.Format.SoFar.{IsPlace, Spells}
@@ -13,18 +13,18 @@ use Rattle.wire_message.proofs.Machine.{of, gap_leads_on, run, guard_yes, guard_
 
 -- ---- the header
 
-pub to_number : (f s n rest : List ℕ) → IsFiller f → IsField is_letter 1 8 s → IsField is_digit 1 8 n → run (Filler 0) (f ++ (1 ∷ (s ++ (n ++ rest)))) ≡ run (Number (of s) (of n)) rest
+pub to_number : (f s n rest : List ℕ) → IsFiller f → IsField is_letter 1 max_source s → IsField is_digit 1 max_number n → run (Filler 0) (f ++ (1 ∷ (s ++ (n ++ rest)))) ≡ run (Number (of s) (of n)) rest
 to_number f s n rest hf hs hn = reads_soh f s (n ++ rest) hf (hs.0, omega arith, hs.2) ∙ reads_number s n rest hs hn
 
-pub to_read : (f s n p rest : List ℕ) → IsFiller f → IsField is_letter 1 8 s → IsField is_digit 1 8 n → IsField is_digit 1 1 p
+pub to_read : (f s n p rest : List ℕ) → IsFiller f → IsField is_letter 1 max_source s → IsField is_digit 1 max_number n → IsField is_digit 1 1 p
     → run (Filler 0) (f ++ (1 ∷ (s ++ (n ++ (32 ∷ (p ++ rest)))))) ≡ run (PriorityRead (of s) (of n) (of p)) rest
 to_read f s n p rest hf hs hn hp = to_number f s n (32 ∷ (p ++ rest)) hf hs hn ∙ reads_priority s n p rest hp
 
-pub to_category : (f s n p c rest : List ℕ) → IsFiller f → IsField is_letter 1 8 s → IsField is_digit 1 8 n → IsField is_digit 1 1 p → IsField is_alphanumeric 0 8 c
+pub to_category : (f s n p c rest : List ℕ) → IsFiller f → IsField is_letter 1 max_source s → IsField is_digit 1 max_number n → IsField is_digit 1 1 p → IsField is_alphanumeric 0 max_category c
     → run (Filler 0) (f ++ (1 ∷ (s ++ (n ++ (32 ∷ (p ++ (32 ∷ (c ++ rest)))))))) ≡ run (Category (of s) (of n) (of p) (of c)) rest
 to_category f s n p c rest hf hs hn hp hc = to_read f s n p (32 ∷ (c ++ rest)) hf hs hn hp ∙ reads_category s n p c rest hc
 
-pub to_words : (f s n p c w rest : List ℕ) → IsFiller f → IsField is_letter 1 8 s → IsField is_digit 1 8 n → IsField is_digit 1 1 p → IsField is_alphanumeric 1 8 c → IsField is_digit 0 6 w
+pub to_words : (f s n p c w rest : List ℕ) → IsFiller f → IsField is_letter 1 max_source s → IsField is_digit 1 max_number n → IsField is_digit 1 1 p → IsField is_alphanumeric 1 max_category c → IsField is_digit 0 max_words w
     → run (Filler 0) (f ++ (1 ∷ (s ++ (n ++ (32 ∷ (p ++ (32 ∷ (c ++ (32 ∷ (w ++ rest)))))))))) ≡ run (Words (of s) (of n) (of p) (of c) (of w)) rest
 to_words f s n p c w rest hf hs hn hp hc hw =
     to_category f s n p c (32 ∷ (w ++ rest)) hf hs hn hp (hc.0, omega arith, hc.2) ∙ (category_ends s n p c (w ++ rest) hc ∙ reads_words s n p c w rest hw)
@@ -45,10 +45,10 @@ bare h = header_of h.source h.number h.priority h.category h.words []
 abbrev with_info : Header → List ℕ → Header
 with_info h i = header_of h.source h.number h.priority h.category h.words i
 
-pub reads_info : (h : Header) (i rest : List ℕ) → IsField is_digit 1 6 h.words → IsField is_info_octet 0 64 i → run (words_of h) (32 ∷ (i ++ rest)) ≡ run (Info (with_info h i)) rest
+pub reads_info : (h : Header) (i rest : List ℕ) → IsField is_digit 1 max_words h.words → IsField is_info_octet 0 max_info i → run (words_of h) (32 ∷ (i ++ rest)) ≡ run (Info (with_info h i)) rest
 reads_info h i rest hw hi =
     step_to (words_of h) (Info (bare h)) 32 (i ++ rest) (guard_yes _ _ _ (lt-ltb 0 (length h.words) hw.1))
-    ∙ field_run (λ ys. Info (with_info h ys)) is_info_octet 64 (λ ys d t lt. guard_yes _ _ _ (extends is_info_octet 64 ys d t lt)) i [] rest hi.0 (omega (arith, hi.2))
+    ∙ field_run (λ ys. Info (with_info h ys)) is_info_octet max_info (λ ys d t lt. guard_yes _ _ _ (extends is_info_octet max_info ys d t lt)) i [] rest hi.0 (omega (arith, hi.2))
 
 same_gap : (h : Header) (k j : ℕ) (f g : Bool) (rest : List ℕ) → k ≡ j → f ≡ g → run (Gap h k f) rest ≡ run (Gap h j g) rest
 same_gap h k j f g rest e d = rw (e, d) refl
@@ -67,13 +67,13 @@ last_feed false true z h = refl
 last_feed false false z h = h
 
 -- a gap octet may come where the gap can continue after the last one
-gap_octet : (b : ℕ) (xs : List ℕ) (k : ℕ) (feed : Bool) → is_filler_octet b ≡ true → k + length (b ∷ xs) ≤ 32
-    → ((feed || has_feed (b ∷ xs)) || nat_lt (k + length (b ∷ xs)) 32) ≡ true → gap_leads_on k feed b ≡ true
-gap_octet b [] k feed t le on = and_from (is_filler_octet b && nat_lt k 32) (feed || b == 10 || nat_lt (k + 1) 32) (fill k b t (omega arith)) (last_feed feed (b == 10) (nat_lt (k + 1) 32) on)
+gap_octet : (b : ℕ) (xs : List ℕ) (k : ℕ) (feed : Bool) → is_filler_octet b ≡ true → k + length (b ∷ xs) ≤ max_filler
+    → ((feed || has_feed (b ∷ xs)) || nat_lt (k + length (b ∷ xs)) max_filler) ≡ true → gap_leads_on k feed b ≡ true
+gap_octet b [] k feed t le on = and_from (is_filler_octet b && nat_lt k max_filler) (feed || b == 10 || nat_lt (k + 1) max_filler) (fill k b t (omega arith)) (last_feed feed (b == 10) (nat_lt (k + 1) max_filler) on)
 gap_octet b (c ∷ xs) k feed t le on =
-    and_from (is_filler_octet b && nat_lt k 32) (feed || b == 10 || nat_lt (k + 1) 32) (fill k b t (omega arith)) (or_right (feed || b == 10) (nat_lt (k + 1) 32) (lt-ltb (k + 1) 32 (omega arith)))
+    and_from (is_filler_octet b && nat_lt k max_filler) (feed || b == 10 || nat_lt (k + 1) max_filler) (fill k b t (omega arith)) (or_right (feed || b == 10) (nat_lt (k + 1) max_filler) (lt-ltb (k + 1) max_filler (omega arith)))
 
-pub reads_gap : (h : Header) (xs : List ℕ) (k : ℕ) (feed : Bool) (rest : List ℕ) → Are is_filler_octet xs → k + length xs ≤ 32 → ((feed || has_feed xs) || nat_lt (k + length xs) 32) ≡ true
+pub reads_gap : (h : Header) (xs : List ℕ) (k : ℕ) (feed : Bool) (rest : List ℕ) → Are is_filler_octet xs → k + length xs ≤ max_filler → ((feed || has_feed xs) || nat_lt (k + length xs) max_filler) ≡ true
     → run (Gap h k feed) (xs ++ rest) ≡ run (Gap h (k + length xs) (feed || has_feed xs)) rest
 reads_gap h [] k feed rest t le on = same_gap h k (k + 0) feed (feed || false) rest (omega arith) (or_nothing feed)
 reads_gap h (b ∷ xs) k feed rest t le on =
@@ -85,9 +85,9 @@ reads_gap h (b ∷ xs) k feed rest t le on =
 
 -- what may stand at the end of a gap so far
 abbrev pub GapContinues : List ℕ → Type 0
-GapContinues gap = (has_feed gap || nat_lt (length gap) 32) ≡ true
+GapContinues gap = (has_feed gap || nat_lt (length gap) max_filler) ≡ true
 
-first_gap : (h : Header) (b : ℕ) (gap rest : List ℕ) → IsField is_filler_octet 1 32 (b ∷ gap) → GapContinues (b ∷ gap)
+first_gap : (h : Header) (b : ℕ) (gap rest : List ℕ) → IsField is_filler_octet 1 max_filler (b ∷ gap) → GapContinues (b ∷ gap)
     → run (Gap h 1 (b == 10)) (gap ++ rest) ≡ run (Gap h (length (b ∷ gap)) (has_feed (b ∷ gap))) rest
 first_gap h b gap rest g on =
     let count : 1 + length gap ≡ length (b ∷ gap) = omega arith in
@@ -103,25 +103,25 @@ no_space b fills = filler_cases (λ k. (k == 32) ≡ false) b fills refl refl re
 no_info : (b : ℕ) → is_filler_octet b ≡ true → is_info_octet b ≡ false
 no_info b fills = filler_cases (λ k. is_info_octet k ≡ false) b fills refl refl refl refl
 
-gap_after_words : (h : Header) (gap rest : List ℕ) → h.info ≡ [] → IsField is_digit 1 6 h.words → IsField is_filler_octet 1 32 gap → GapContinues gap
+gap_after_words : (h : Header) (gap rest : List ℕ) → h.info ≡ [] → IsField is_digit 1 max_words h.words → IsField is_filler_octet 1 max_filler gap → GapContinues gap
     → run (words_of h) (gap ++ rest) ≡ run (Gap h (length gap) (has_feed gap)) rest
 gap_after_words h [] rest none hw g on = absurd (omega (arith, g.1))
 gap_after_words h (b ∷ gap) rest none hw g on =
     let fills : is_filler_octet b ≡ true = Are-head is_filler_octet b gap g.0 in
-    step_to (words_of h) (Gap (bare h) 1 (b == 10)) b (gap ++ rest) (guard_no _ _ _ (and_left (is_digit b) (nat_lt (length h.words) 6) (no_digit b fills))
+    step_to (words_of h) (Gap (bare h) 1 (b == 10)) b (gap ++ rest) (guard_no _ _ _ (and_left (is_digit b) (nat_lt (length h.words) max_words) (no_digit b fills))
     ∙ (guard_no _ _ _ (and_left (b == 32) (nat_lt 0 (length h.words)) (no_space b fills)) ∙ guard_yes _ _ _ (and_from (is_filler_octet b) (nat_lt 0 (length h.words)) fills (lt-ltb 0 (length h.words) hw.1))))
     ∙ (first_gap (bare h) b gap rest g on
     ∙ ap (λ (u : List ℕ). run (Gap (with_info h u) (length (b ∷ gap)) (has_feed (b ∷ gap))) rest) (sym none))
 
-gap_after_info : (h : Header) (gap rest : List ℕ) → IsField is_filler_octet 1 32 gap → GapContinues gap
+gap_after_info : (h : Header) (gap rest : List ℕ) → IsField is_filler_octet 1 max_filler gap → GapContinues gap
     → run (Info h) (gap ++ rest) ≡ run (Gap h (length gap) (has_feed gap)) rest
 gap_after_info h [] rest g on = absurd (omega (arith, g.1))
 gap_after_info h (b ∷ gap) rest g on =
     let fills : is_filler_octet b ≡ true = Are-head is_filler_octet b gap g.0 in
-    step_to (Info h) (Gap h 1 (b == 10)) b (gap ++ rest) (guard_no _ _ _ (and_left (is_info_octet b) (nat_lt (length h.info) 64) (no_info b fills)) ∙ guard_yes _ _ _ fills)
+    step_to (Info h) (Gap h 1 (b == 10)) b (gap ++ rest) (guard_no _ _ _ (and_left (is_info_octet b) (nat_lt (length h.info) max_info) (no_info b fills)) ∙ guard_yes _ _ _ fills)
     ∙ first_gap h b gap rest g on
 
-pub to_gap : (h : Header) (spelled gap rest : List ℕ) → IsHeader h → SpellsInfo h.info spelled → IsField is_filler_octet 1 32 gap → GapContinues gap
+pub to_gap : (h : Header) (spelled gap rest : List ℕ) → IsHeader h → SpellsInfo h.info spelled → IsField is_filler_octet 1 max_filler gap → GapContinues gap
     → run (words_of h) (spelled ++ (gap ++ rest)) ≡ run (Gap h (length gap) (has_feed gap)) rest
 to_gap h spelled gap rest p (inl sp) g on = ap (λ (u : List ℕ). run (words_of h) (u ++ (gap ++ rest))) sp.1 ∙ gap_after_words h gap rest sp.0 p.words g on
 to_gap h spelled gap rest p (inr sp) g on =
@@ -131,7 +131,7 @@ to_gap h spelled gap rest p (inr sp) g on =
 -- ---- the text and what follows
 
 whole_gap : (gap : List ℕ) → IsGap gap → GapContinues gap
-whole_gap gap g = ap (λ (t : Bool). t || nat_lt (length gap) 32) g.1
+whole_gap gap g = ap (λ (t : Bool). t || nat_lt (length gap) max_filler) g.1
 
 pub to_text : (h : Header) (spelled gap text rest : List ℕ) → IsHeader h → SpellsInfo h.info spelled → IsGap gap → Are is_text_octet text
     → run (words_of h) (spelled ++ (gap ++ (2 ∷ (text ++ rest)))) ≡ run (Text h None) rest
@@ -144,7 +144,7 @@ pub to_trailer : (h : Header) (spelled gap text trailer rest : List ℕ) → IsH
     → run (words_of h) (spelled ++ (gap ++ (2 ∷ (text ++ (3 ∷ (trailer ++ rest)))))) ≡ run (Trailer h (of trailer)) rest
 to_trailer h spelled gap text trailer rest p sp g x t =
     to_text h spelled gap text (3 ∷ (trailer ++ rest)) p sp g x
-    ∙ field_run (λ ys. Trailer h (of ys)) is_trailer_octet 64 (λ ys b q lt. guard_yes _ _ _ (extends is_trailer_octet 64 ys b q lt)) trailer [] rest t.0 (omega (arith, t.2))
+    ∙ field_run (λ ys. Trailer h (of ys)) is_trailer_octet max_trailer (λ ys b q lt. guard_yes _ _ _ (extends is_trailer_octet max_trailer ys b q lt)) trailer [] rest t.0 (omega (arith, t.2))
 
 pub message_runs : (object : List ℕ) (h : Header) (x t : List ℕ) → (m : IsMessage object h x t) → run (Filler 0) object ≡ Some (AfterEnd h (of t) (length m.after))
 message_runs object h x t m =
@@ -197,7 +197,7 @@ spelled_runs octets text (Info h) i l =
     ∙ reads_info h h.info [] i.words i.info))
 spelled_runs octets text (Gap h k feed) i l =
     let gap : List ℕ = l.2 in
-    let is_gap : IsField is_filler_octet 1 32 gap = (l.5, omega (arith, i.1, l.6), omega (arith, i.2, l.6)) in
+    let is_gap : IsField is_filler_octet 1 max_filler gap = (l.5, omega (arith, i.1, l.6), omega (arith, i.2, l.6)) in
     let on : GapContinues gap = rw (l.6, l.7) i.3 in
     ap (run (Filler 0)) l.8 ∙ (to_header l.0 h (l.1 ++ gap) l.3 i.0 ∙ (ap (λ (u : List ℕ). run (words_of h) (l.1 ++ u)) (sym (append-nil gap))
     ∙ (to_gap h l.1 gap [] i.0 l.4 is_gap on ∙ same_gap h (length gap) k (has_feed gap) feed [] l.6 l.7)))

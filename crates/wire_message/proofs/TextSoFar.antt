@@ -6,7 +6,7 @@ use Rattle.std.proofs.lemmas.Bool.Decides.{nat_tests}
 use Rattle.std.proofs.Math.Seq.{drop-append-add, take-append_seam, take-length}
 use Rattle.wire_story.specs.Format.Tokens.{Octet, End}
 use Rattle.wire_story.specs.declared.reader.TextReader.{TextReader}
-use Rattle.wire_message.specs.Format.Fields.{Are, IsField, is_alphanumeric, is_info_octet, is_filler_octet, is_text_octet}
+use Rattle.wire_message.specs.Format.Fields.{Are, IsField, is_alphanumeric, is_info_octet, is_filler_octet, is_text_octet, max_info}
 use Rattle.iim_dataset.specs.Format.Octets.{is_digit, is_letter}
 use Rattle.wire_message.specs.Format.Messages.{Header, IsHeader, IsFiller, SpellsInfo, fixed_header}
 use Rattle.wire_message.specs.Format.Layers.{after_stx, text_so_far, story_tokens_of}
@@ -90,7 +90,7 @@ fixed_not h i =
     (Are-append (is_not 2) (32 ∷ h.priority) (32 ∷ h.category ++ (32 ∷ h.words)) (each is_digit (is_not 2) h.priority digit_not i.priority.0)
     (Are-append (is_not 2) (32 ∷ h.category) (32 ∷ h.words) (each is_alphanumeric (is_not 2) h.category alphanumeric_not i.category.0) (each is_digit (is_not 2) h.words digit_not i.words.0))))
 
-info_spelled_not : (info spelled : List ℕ) → IsField is_info_octet 0 64 info → SpellsInfo info spelled → Are (is_not 2) spelled
+info_spelled_not : (info spelled : List ℕ) → IsField is_info_octet 0 max_info info → SpellsInfo info spelled → Are (is_not 2) spelled
 info_spelled_not info spelled i (inl h) = subst (Are (is_not 2)) (sym h.1) refl
 info_spelled_not info spelled i (inr h) = subst (Are (is_not 2)) (sym h) (each is_info_octet (is_not 2) info info_not i.0)
 

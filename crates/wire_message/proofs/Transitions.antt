@@ -2,7 +2,7 @@
 use Rattle.std.proofs.Common.{◌≡◌, ℕ, ◌+◌, ◌≤◌, Bool, true, false, ◌||◌, ◌==◌, List, [], ◌∷◌, ◌++◌, length, refl, sym, ap, subst, ◌∙◌, arith, inl, inr, append_assoc, length-append}
 use Rattle.std.proofs.lemmas.Bool.{and_from}
 use Rattle.arrayvec.specs.ArrayVec.{ArrayVec}
-use Rattle.wire_message.specs.Format.Fields.{Are, IsField, is_filler_octet, is_text_octet}
+use Rattle.wire_message.specs.Format.Fields.{Are, IsField, is_filler_octet, is_text_octet, max_filler}
 use Rattle.wire_message.specs.Format.Messages.{Header, IsHeader, IsTrailer, fixed_header, has_feed}
 use Rattle.wire_message.specs.Format.SoFar.{Spells}
 use Rattle.wire_message.specs.declared.place.Place.TheVariants.{Filler, Source, Number, Priority, PriorityRead, Category, Words, Info, Gap, Text, Trailer, AfterEnd}
@@ -47,8 +47,8 @@ join4 a f i g x t ys = join3 a f i g (x ++ (3 ∷ t)) ys ∙ ap (λ (u : List �
 
 -- ---- from each place
 
-pub filler_more : (xs text ys : List ℕ) (k : ℕ) → Are is_filler_octet ys → k + length ys ≤ 32 → Spells xs text (Filler k) → Spells (xs ++ ys) text (Filler (k + length ys))
-filler_more xs text ys k t le l = (field_more is_filler_octet 0 0 32 xs ys l.0 t (omega (arith, l.1, le)) (omega arith), omega (arith, length-append xs ys, l.1), l.2)
+pub filler_more : (xs text ys : List ℕ) (k : ℕ) → Are is_filler_octet ys → k + length ys ≤ max_filler → Spells xs text (Filler k) → Spells (xs ++ ys) text (Filler (k + length ys))
+filler_more xs text ys k t le l = (field_more is_filler_octet 0 0 max_filler xs ys l.0 t (omega (arith, l.1, le)) (omega arith), omega (arith, length-append xs ys, l.1), l.2)
 
 pub filler_soh : (xs text : List ℕ) (k : ℕ) → Spells xs text (Filler k) → Spells (xs ++ (1 ∷ [])) text (Source (of []))
 filler_soh xs text k l = (xs, l.0, refl, l.2)
@@ -131,7 +131,7 @@ gap_more xs text h k feed b t l = (
   l.9,
 )
 
-pub gap_stx : (xs text : List ℕ) (h : Header) (k : ℕ) (reader : TextReader) → 1 ≤ k → k ≤ 32 → Spells xs text (Gap h k true) → Spells (xs ++ (2 ∷ [])) text (Text h reader)
+pub gap_stx : (xs text : List ℕ) (h : Header) (k : ℕ) (reader : TextReader) → 1 ≤ k → k ≤ max_filler → Spells xs text (Gap h k true) → Spells (xs ++ (2 ∷ [])) text (Text h reader)
 gap_stx xs text h k reader low high l = (
   l.0,
   l.1,
@@ -168,7 +168,7 @@ trailer_eot xs text h t i it l = (
     is_gap = l.5;
     is_text = l.6;
     is_trailer = it;
-    is_after = field_none is_filler_octet 32;
+    is_after = field_none is_filler_octet max_filler;
     parts = ap (λ (u : List ℕ). u ++ (4 ∷ [])) l.7 ∙ join4 l.0 (fixed_header h) l.1 l.2 text t.items (4 ∷ []);
   },
   refl,
@@ -177,7 +177,7 @@ trailer_eot xs text h t i it l = (
 join5 : (a f i g x t y ys : List ℕ) → (a ++ (1 ∷ (f ++ (i ++ (g ++ (2 ∷ (x ++ (3 ∷ (t ++ (4 ∷ y)))))))))) ++ ys ≡ a ++ (1 ∷ (f ++ (i ++ (g ++ (2 ∷ (x ++ (3 ∷ (t ++ (4 ∷ (y ++ ys))))))))))
 join5 a f i g x t y ys = join4 a f i g x (t ++ (4 ∷ y)) ys ∙ ap (λ (u : List ℕ). a ++ (1 ∷ (f ++ (i ++ (g ++ (2 ∷ (x ++ (3 ∷ u)))))))) (append_assoc t (4 ∷ y) ys)
 
-pub end_more : (xs text ys : List ℕ) (h : Header) (t : ArrayVec ℕ) (k : ℕ) → Are is_filler_octet ys → k + length ys ≤ 32 → Spells xs text (AfterEnd h t k) → Spells (xs ++ ys) text (AfterEnd h t (k + length ys))
+pub end_more : (xs text ys : List ℕ) (h : Header) (t : ArrayVec ℕ) (k : ℕ) → Are is_filler_octet ys → k + length ys ≤ max_filler → Spells xs text (AfterEnd h t k) → Spells (xs ++ ys) text (AfterEnd h t (k + length ys))
 end_more xs text ys h t k f le l =
     let m = l.0 in (
       record {
@@ -191,7 +191,7 @@ end_more xs text ys h t k f le l =
         is_gap = m.is_gap;
         is_text = m.is_text;
         is_trailer = m.is_trailer;
-        is_after = field_more is_filler_octet 0 0 32 m.after ys m.is_after f (omega (arith, l.1, le)) (omega arith);
+        is_after = field_more is_filler_octet 0 0 max_filler m.after ys m.is_after f (omega (arith, l.1, le)) (omega arith);
         parts = ap (λ (u : List ℕ). u ++ ys) m.parts ∙ join5 m.before (fixed_header h) m.info m.gap text t.items m.after ys;
       },
       length-append m.after ys ∙ ap (λ (n : ℕ). n + length ys) l.1,

@@ -1,7 +1,8 @@
 -- How the part that is being read gets longer, and what ends it.
 use Rattle.std.specs.Prelude.{◌≡◌, ℕ, ◌+◌, ◌<◌, ◌&&◌, ◌||◌, ◌==◌, nat_lt, Bool, false, List, [], length, slice_index}
+use Rattle.iim_dataset.specs.Format.Characters.{lf}
 use Rattle.wire_story.specs.declared.reader.TextReader.{TextReader}
-use Rattle.wire_message.specs.Format.Fields.{is_alphanumeric, is_info_octet, is_trailer_octet, is_filler_octet}
+use Rattle.wire_message.specs.Format.Fields.{is_alphanumeric, is_info_octet, is_trailer_octet, is_filler_octet, max_filler, max_source, max_number, max_category, max_words, max_info, max_trailer}
 use Rattle.iim_dataset.specs.Format.Octets.{is_digit, is_letter}
 use Rattle.wire_message.specs.Format.Messages.{Header}
 use Rattle.wire_message.specs.Steps.{TakesSome}
@@ -10,19 +11,19 @@ use Rattle.wire_message.specs.declared.place.Place.TheVariants.{Filler, Source, 
 
 -- The octet lengthens a gap of `count` octets, an LF among them or not, so that STX can still come.
 abbrev pub lengthens_gap : ℕ → Bool → ℕ → Bool
-lengthens_gap count feed octet = is_filler_octet octet && nat_lt count 32 && (feed || octet == 10 || nat_lt (count + 1) 32)
+lengthens_gap count feed octet = is_filler_octet octet && nat_lt count max_filler && (feed || octet == lf || nat_lt (count + 1) max_filler)
 
 -- The octet does not lengthen the part that is being read: it is none of that part's octets, or the part is full.
 abbrev pub EndsPart : Place → ℕ → Type 0
-EndsPart (Filler count) octet = (is_filler_octet octet && nat_lt count 32) ≡ false
-EndsPart (Source s) octet = length s.items < 8 → is_letter octet ≡ false
-EndsPart (Number s n) octet = length n.items < 8 → is_digit octet ≡ false
-EndsPart (Category s n p c) octet = length c.items < 8 → is_alphanumeric octet ≡ false
-EndsPart (Words s n p c w) octet = length w.items < 6 → is_digit octet ≡ false
-EndsPart (Info h) octet = length h.info < 64 → is_info_octet octet ≡ false
+EndsPart (Filler count) octet = (is_filler_octet octet && nat_lt count max_filler) ≡ false
+EndsPart (Source s) octet = length s.items < max_source → is_letter octet ≡ false
+EndsPart (Number s n) octet = length n.items < max_number → is_digit octet ≡ false
+EndsPart (Category s n p c) octet = length c.items < max_category → is_alphanumeric octet ≡ false
+EndsPart (Words s n p c w) octet = length w.items < max_words → is_digit octet ≡ false
+EndsPart (Info h) octet = length h.info < max_info → is_info_octet octet ≡ false
 EndsPart (Gap h count feed) octet = lengthens_gap count feed octet ≡ false
-EndsPart (Trailer h t) octet = length t.items < 64 → is_trailer_octet octet ≡ false
-EndsPart (AfterEnd h t count) octet = (is_filler_octet octet && nat_lt count 32) ≡ false
+EndsPart (Trailer h t) octet = length t.items < max_trailer → is_trailer_octet octet ≡ false
+EndsPart (AfterEnd h t count) octet = (is_filler_octet octet && nat_lt count max_filler) ≡ false
 EndsPart _ octet = Unit {0}
 
 -- The part that is being read took `used` octets: some, or none and then the first octet ends it.

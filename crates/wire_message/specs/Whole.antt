@@ -1,5 +1,6 @@
 -- A header that stands whole at the front of some octets.
 use Rattle.std.specs.Prelude.{◌≡◌, ℕ, List, ◌∷◌, ◌++◌}
+use Rattle.iim_dataset.specs.Format.Characters.{soh, stx}
 use Rattle.wire_message.specs.Format.Messages.{Header, IsHeader, IsGap, SpellsInfo, fixed_header}
 
 -- The octets are the info as a header spells it, and then the rest.
@@ -12,7 +13,7 @@ pub record FrontInfo (octets info rest : List ℕ) : Type 0 where
 pub record FrontGap (octets rest : List ℕ) : Type 0 where
   pub gap : List ℕ
   pub is_gap : IsGap gap
-  pub parts : octets ≡ gap ++ (2 ∷ rest)
+  pub parts : octets ≡ gap ++ (stx ∷ rest)
 
 -- The octets are the header from SOH to STX, and then the rest.
 pub record FrontHead (octets : List ℕ) (head : Header) (rest : List ℕ) : Type 0 where
@@ -21,4 +22,4 @@ pub record FrontHead (octets : List ℕ) (head : Header) (rest : List ℕ) : Typ
   pub is_header : IsHeader head
   pub is_info : SpellsInfo head.info info
   pub is_gap : IsGap gap
-  pub parts : octets ≡ 1 ∷ (fixed_header head ++ (info ++ (gap ++ (2 ∷ rest))))
+  pub parts : octets ≡ soh ∷ (fixed_header head ++ (info ++ (gap ++ (stx ∷ rest))))

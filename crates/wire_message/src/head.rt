@@ -33,7 +33,7 @@ impl Model for MessageHead {
 }
 
 ghost use Rattle.wire_message.specs.Format.Messages.{header_of, IsHeader};
-ghost use Rattle.wire_message.specs.Format.Fields.{is_alphanumeric, is_info_octet, Are, IsField};
+ghost use Rattle.wire_message.specs.Format.Fields.{is_alphanumeric, is_info_octet, Are, IsField, max_source, max_number, max_priority, max_category, max_words, max_info};
 ghost use Rattle.iim_dataset.specs.Format.Octets.{is_letter, is_digit};
 
 /// Whether the parts are those of a header.
@@ -135,9 +135,9 @@ impl MessageHead {
         ensures within { result ≤ length octets.now }
         ensures class { Are is_info_octet (take result octets.now) }
         ensures lengthened { self.new ≡ record self.old { info = self.old.info ++ take result octets.now } }
-        ensures fits { length self.old.info + result ≤ 64 }
+        ensures fits { length self.old.info + result ≤ max_info }
         ensures is_header { IsHeader self.new }
-        ensures longest { result ≡ 0 → 0 < length octets.now → length self.old.info < 64 →
+        ensures longest { result ≡ 0 → 0 < length octets.now → length self.old.info < max_info →
             is_info_octet (slice_index octets.now 0) ≡ false }
     {
         take_run(&mut self.info, Class::Info, octets)
@@ -160,7 +160,7 @@ impl MessageHead {
     /// The source: 1 to 8 letters.
     pub fn source(&self) -> &[u8]
         ensures part { result.now ≡ self.now.source }
-        ensures letters { IsField is_letter 1 8 result.now }
+        ensures letters { IsField is_letter 1 max_source result.now }
     {
         &self.source
     }
@@ -168,7 +168,7 @@ impl MessageHead {
     /// The number: 1 to 8 digits.
     pub fn number(&self) -> &[u8]
         ensures part { result.now ≡ self.now.number }
-        ensures digits { IsField is_digit 1 8 result.now }
+        ensures digits { IsField is_digit 1 max_number result.now }
     {
         &self.number
     }
@@ -176,7 +176,7 @@ impl MessageHead {
     /// The priority: one digit.
     pub fn priority(&self) -> &[u8]
         ensures part { result.now ≡ self.now.priority }
-        ensures digit { IsField is_digit 1 1 result.now }
+        ensures digit { IsField is_digit 1 max_priority result.now }
     {
         &self.priority
     }
@@ -184,7 +184,7 @@ impl MessageHead {
     /// The category: 1 to 8 letters or digits.
     pub fn category(&self) -> &[u8]
         ensures part { result.now ≡ self.now.category }
-        ensures octets { IsField is_alphanumeric 1 8 result.now }
+        ensures octets { IsField is_alphanumeric 1 max_category result.now }
     {
         &self.category
     }
@@ -192,7 +192,7 @@ impl MessageHead {
     /// The announced number of words: 1 to 6 digits.
     pub fn words(&self) -> &[u8]
         ensures part { result.now ≡ self.now.words }
-        ensures digits { IsField is_digit 1 6 result.now }
+        ensures digits { IsField is_digit 1 max_words result.now }
     {
         &self.words
     }
@@ -200,7 +200,7 @@ impl MessageHead {
     /// The info: up to 64 octets.
     pub fn info(&self) -> &[u8]
         ensures part { result.now ≡ self.now.info }
-        ensures octets { IsField is_info_octet 0 64 result.now }
+        ensures octets { IsField is_info_octet 0 max_info result.now }
     {
         &self.info
     }

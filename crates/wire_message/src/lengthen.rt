@@ -1,7 +1,8 @@
 //! How a part gets longer where it lies: by its longest run, or by one octet of filler.
 
 ghost use Rattle.std.specs.Prelude.{◌≡◌, ◌<◌, ◌≤◌, ◌+◌, ◌&&◌, ◌||◌, ◌==◌, nat_lt, true, false, length};
-ghost use Rattle.wire_message.specs.Format.Fields.{is_filler_octet};
+ghost use Rattle.iim_dataset.specs.Format.Characters.{lf};
+ghost use Rattle.wire_message.specs.Format.Fields.{is_filler_octet, max_filler};
 ghost use Rattle.wire_message.specs.Format.SoFar.{IsPlace};
 ghost use Rattle.wire_message.specs.Parts.{TakesInPart, lengthens_gap};
 
@@ -14,7 +15,7 @@ use iim_dataset::octets::LF;
 /// Whether an octet lengthens filler of `count` octets.
 #[inline(always)]
 fn fills(count: u8, octet: u8) -> bool
-    ensures { result ≡ (is_filler_octet octet && nat_lt count 32) }
+    ensures { result ≡ (is_filler_octet octet && nat_lt count max_filler) }
 {
     is_in(Class::Filler, octet) && count < MAX_FILLER
 }
@@ -23,8 +24,8 @@ fn fills(count: u8, octet: u8) -> bool
 #[inline(always)]
 fn lengthen_filler(count: &mut u8, octet: u8) -> usize
     ensures one { result ≤ 1 }
-    ensures some { result ≡ 1 → (is_filler_octet octet && nat_lt count.old 32) ≡ true }
-    ensures none { result ≡ 0 → (is_filler_octet octet && nat_lt count.old 32) ≡ false }
+    ensures some { result ≡ 1 → (is_filler_octet octet && nat_lt count.old max_filler) ≡ true }
+    ensures none { result ≡ 0 → (is_filler_octet octet && nat_lt count.old max_filler) ≡ false }
     ensures counted { count.new ≡ count.old + result }
 {
     if !fills(*count, octet) {
@@ -49,7 +50,7 @@ fn lengthen_gap(count: &mut u8, feed: &mut bool, octet: u8) -> usize
     ensures some { result ≡ 1 → lengthens_gap count.old feed.old octet ≡ true }
     ensures none { result ≡ 0 → lengthens_gap count.old feed.old octet ≡ false }
     ensures counted { count.new ≡ count.old + result }
-    ensures feed { result ≡ 1 → feed.new ≡ (feed.old || octet == 10) }
+    ensures feed { result ≡ 1 → feed.new ≡ (feed.old || octet == lf) }
     ensures same { result ≡ 0 → feed.new ≡ feed.old }
 {
     if !gap_leads_on(*count, *feed, octet) {

@@ -1,6 +1,7 @@
 //! The step from one part of a message to the next.
 
 ghost use Rattle.std.specs.Prelude.{◌<◌, ◌≤◌, ◌≡◌, true, false, length, slice_index, IfSome, IfNone};
+ghost use Rattle.iim_dataset.specs.Format.Characters.{eot};
 ghost use Rattle.wire_message.specs.Format.SoFar.{IsPlace};
 ghost use Rattle.wire_message.specs.Parts.{EndsPart, BeginsTrailer, EndsTrailer};
 ghost use Rattle.wire_message.specs.Steps.{DiesWith, TakesSome, IsNoText};
@@ -86,7 +87,7 @@ pub(crate) fn end_text(place: &mut Place, rest: &[u8]) -> usize
     ensures few { result ≤ 1 }
     ensures within { result ≤ length rest.now }
     ensures begins { result ≡ 0 → BeginsTrailer place.old place.new }
-    ensures first { result ≡ 1 → slice_index rest.now 0 ≡ 4 }
+    ensures first { result ≡ 1 → slice_index rest.now 0 ≡ eot }
     ensures ends { result ≡ 1 → EndsTrailer place.old place.new }
 {
     let old = mem::replace(place, Place::Filler { count: 0 });

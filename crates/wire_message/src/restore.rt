@@ -3,7 +3,7 @@
 ghost use Rattle.std.specs.Prelude.{◌≡◌, ◌≤◌, ◌↔◌, ◌||◌, nat_lt, IsTrue, IsSome, IfSome};
 ghost use Rattle.wire_message.specs.declared.place.Place.{Place};
 ghost use Rattle.wire_message.specs.declared.saved.MessagePart.TheVariants as part;
-ghost use Rattle.wire_message.specs.Format.Fields.{IsField};
+ghost use Rattle.wire_message.specs.Format.Fields.{IsField, max_filler, max_source, max_number, max_priority};
 ghost use Rattle.iim_dataset.specs.Format.Octets.{is_digit, is_letter};
 ghost use Rattle.wire_message.specs.Format.Messages.{IsHeader};
 ghost use Rattle.wire_message.specs.Format.SoFar.{IsPlace};
@@ -23,7 +23,7 @@ use wire_story::laws::places_are_reached;
 
 /// Whether there may be such filler.
 fn is_filler(count: u8) -> bool
-    ensures { IsTrue result ↔ (count ≤ 32) }
+    ensures { IsTrue result ↔ (count ≤ max_filler) }
 {
     count <= MAX_FILLER
 }
@@ -31,7 +31,7 @@ fn is_filler(count: u8) -> bool
 /// Whether there may be such a source and number.
 fn is_numbered(place: &MessagePlace) -> bool
     ensures { IsTrue result ↔
-        IsField is_letter 1 8 place.now.source.items × IsField is_digit 1 8 place.now.number.items }
+        IsField is_letter 1 max_source place.now.source.items × IsField is_digit 1 max_number place.now.number.items }
 {
     is_field(Class::Letter, 1, MAX_SOURCE, &place.source)
         && is_field(Class::Digit, 1, MAX_NUMBER, &place.number)
@@ -39,14 +39,14 @@ fn is_numbered(place: &MessagePlace) -> bool
 
 /// Whether there may be such a priority.
 fn is_priority(place: &MessagePlace) -> bool
-    ensures { IsTrue result ↔ IsField is_digit 1 1 place.now.priority.items }
+    ensures { IsTrue result ↔ IsField is_digit 1 max_priority place.now.priority.items }
 {
     is_field(Class::Digit, 1, MAX_PRIORITY, &place.priority)
 }
 
 /// Whether STX can still come after `count` octets of a gap, an LF among them or not.
 fn is_gap(count: u8, has_feed: bool) -> bool
-    ensures { IsTrue result ↔ (1 ≤ count) × (count ≤ 32) × IsTrue (has_feed || nat_lt count 32) }
+    ensures { IsTrue result ↔ (1 ≤ count) × (count ≤ max_filler) × IsTrue (has_feed || nat_lt count max_filler) }
 {
     1 <= count && count <= MAX_FILLER && (has_feed || count < MAX_FILLER)
 }

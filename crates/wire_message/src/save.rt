@@ -8,6 +8,7 @@ ghost use Rattle.wire_message.specs.Restoring.{IsAfterWords};
 
 use crate::field::kept;
 use crate::head::MessageHead;
+use crate::lengths::MAX_SAVED;
 use crate::place::Place;
 use crate::saved::{MessagePart as Part, MessagePlace};
 
@@ -20,11 +21,11 @@ fn in_header(
     category: &[u8],
     words: &[u8],
 ) -> MessagePlace
-    requires source { length source.now ≤ 64 }
-    requires number { length number.now ≤ 64 }
-    requires priority { length priority.now ≤ 64 }
-    requires category { length category.now ≤ 64 }
-    requires words { length words.now ≤ 64 }
+    requires source { length source.now ≤ MAX_SAVED }
+    requires number { length number.now ≤ MAX_SAVED }
+    requires priority { length priority.now ≤ MAX_SAVED }
+    requires category { length category.now ≤ MAX_SAVED }
+    requires words { length words.now ≤ MAX_SAVED }
     ensures { result ≡ place_from part 0 0 source.now number.now priority.now category.now words.now [] [] }
 {
     MessagePlace {
@@ -39,8 +40,8 @@ fn in_header(
 
 /// A place in the source or the number, or after them.
 fn numbered(part: Part, source: &[u8], number: &[u8]) -> MessagePlace
-    requires source { length source.now ≤ 64 }
-    requires number { length number.now ≤ 64 }
+    requires source { length source.now ≤ MAX_SAVED }
+    requires number { length number.now ≤ MAX_SAVED }
     ensures { result ≡ place_from part 0 0 source.now number.now [] [] [] [] [] }
 {
     in_header(part, source, number, &[], &[], &[])
@@ -58,7 +59,7 @@ fn in_filler(count: u8) -> MessagePlace
 
 /// A place after a header, with what was read of the trailer.
 fn headed(part: Part, counter: u8, flag: u8, head: &MessageHead, trailer: &[u8]) -> MessagePlace
-    requires { length trailer.now ≤ 64 }
+    requires { length trailer.now ≤ MAX_SAVED }
     ensures { result ≡ place_with_header part counter flag head.now trailer.now }
 {
     MessagePlace {

@@ -1,6 +1,7 @@
 //! How many octets lead to a place.
 
 ghost use Rattle.std.specs.Prelude.{◌≡◌, ◌≤◌, ◌+◌, Some, None, length};
+ghost use Rattle.wire_message.specs.Format.Fields.{max_filler, max_source, max_number, max_priority, max_category, max_words, max_info};
 ghost use Rattle.wire_message.specs.Format.Canonical.{packed_info};
 ghost use Rattle.wire_message.specs.Format.SoFar.{IsPlace};
 ghost use Rattle.wire_message.specs.Format.Lengths.{fixed_octets, least_head, least_of, greatest_of};
@@ -13,7 +14,7 @@ use crate::place::Place;
 fn after_filler(octets: usize) -> (u64, Option<u64>)
     requires { octets ≤ 256 }
     ensures least { result.0 ≡ octets }
-    ensures greatest { result.1 ≡ Some (32 + octets) }
+    ensures greatest { result.1 ≡ Some (max_filler + octets) }
 {
     let octets = octets as u64;
     (octets, Some(u64::from(MAX_FILLER) + octets))
@@ -31,7 +32,7 @@ fn with_text(octets: usize) -> (u64, Option<u64>)
 /// SOH and the parts up to the words, with the SP between them.
 fn fixed_len(head: &MessageHead) -> usize
     ensures sum { result ≡ fixed_octets head.now }
-    ensures within { result ≤ 35 }
+    ensures within { result ≤ 4 + max_source + max_number + max_priority + max_category + max_words }
 {
     let numbered = head.source().len() + head.number().len();
     4 + numbered + head.priority().len() + head.category().len() + head.words().len()
@@ -40,7 +41,7 @@ fn fixed_len(head: &MessageHead) -> usize
 /// The SP and the info, or nothing for an empty info.
 fn info_len(head: &MessageHead) -> usize
     ensures least { result ≡ length (packed_info head.now.info) }
-    ensures within { result ≤ 65 }
+    ensures within { result ≤ 1 + max_info }
 {
     let info = head.info();
     if info.is_empty() { 0 } else { 1 + info.len() }
@@ -49,16 +50,16 @@ fn info_len(head: &MessageHead) -> usize
 /// SOH to STX, with LF alone as the gap.
 fn head_len(head: &MessageHead) -> usize
     ensures least { result ≡ least_head head.now }
-    ensures within { result ≤ 102 }
+    ensures within { result ≤ 7 + max_source + max_number + max_priority + max_category + max_words + max_info }
 {
     fixed_len(head) + info_len(head) + 2
 }
 
 /// The header, and `count` octets of the gap.
 fn in_gap(head: &MessageHead, count: u8) -> (u64, Option<u64>)
-    requires { count ≤ 32 }
+    requires { count ≤ max_filler }
     ensures least { result.0 ≡ fixed_octets head.now + length (packed_info head.now.info) + count }
-    ensures greatest { result.1 ≡ Some (32 + (fixed_octets head.now + 1 + length head.now.info + count)) }
+    ensures greatest { result.1 ≡ Some (max_filler + (fixed_octets head.now + 1 + length head.now.info + count)) }
 {
     let others = fixed_len(head) + usize::from(count);
     let (least, _) = after_filler(others + info_len(head));

@@ -1,6 +1,7 @@
 //! The octets that end the parts of the header, and the part that comes after each.
 
 ghost use Rattle.std.specs.Prelude.{◌≡◌, ◌<◌, ◌&&◌, ◌==◌, nat_lt, IfSome, IfNone, length, slice_index};
+ghost use Rattle.iim_dataset.specs.Format.Characters.{sp};
 ghost use Rattle.wire_message.specs.Format.Fields.{is_filler_octet};
 ghost use Rattle.iim_dataset.specs.Format.Octets.{is_digit};
 ghost use Rattle.wire_message.specs.Format.SoFar.{IsPlace};
@@ -60,7 +61,7 @@ pub(crate) fn after_source(source: ArrayVec<u8, MAX_SOURCE>, rest: &[u8]) -> Opt
 /// Whether an octet is SP, and the part before it has an octet.
 #[inline(always)]
 fn ends_part<const ROOM: usize>(part: &ArrayVec<u8, ROOM>, octet: u8) -> bool
-    ensures { result ≡ (octet == 32 && nat_lt 0 (length part.now.items)) }
+    ensures { result ≡ (octet == sp && nat_lt 0 (length part.now.items)) }
 {
     octet == SP && !part.is_empty()
 }

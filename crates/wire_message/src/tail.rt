@@ -1,6 +1,7 @@
 //! The octets that end the info, the gap and the trailer, and the part that comes after each.
 
 ghost use Rattle.std.specs.Prelude.{◌≡◌, ◌<◌, ◌&&◌, ◌==◌, IfSome, IfNone, length, slice_index};
+ghost use Rattle.iim_dataset.specs.Format.Characters.{stx};
 ghost use Rattle.wire_message.specs.Format.SoFar.{IsPlace};
 ghost use Rattle.wire_message.specs.Parts.{EndsPart};
 ghost use Rattle.wire_message.specs.Steps.{DiesWith, TakesSome};
@@ -36,7 +37,7 @@ pub(crate) fn after_info(head: MessageHead, rest: &[u8]) -> Option<Place>
 /// Whether an octet ends a gap in which an LF has come or not.
 #[inline(always)]
 fn ends_gap(feed: bool, octet: u8) -> bool
-    ensures { result ≡ (octet == 2 && feed) }
+    ensures { result ≡ (octet == stx && feed) }
 {
     octet == STX && feed
 }

@@ -2,7 +2,7 @@
 
 ghost use Rattle.std.specs.Prelude.{ℕ, ◌≡◌, ◌≤◌, ◌<◌, ◌∷◌, ◌++◌, length, take, IsTrue, IfSome, IfNone};
 ghost use Rattle.wire_message.specs.Classes.{is_in_class};
-ghost use Rattle.wire_message.specs.Format.Fields.{Are, IsField, is_info_octet};
+ghost use Rattle.wire_message.specs.Format.Fields.{Are, IsField, is_info_octet, max_info};
 ghost use Rattle.wire_message.specs.Format.Messages.{has_feed};
 ghost use Rattle.wire_message.specs.declared.place.Place.TheVariants.{Filler};
 ghost use Rattle.wire_message.specs.Steps.{TakesSome};
@@ -44,7 +44,7 @@ pub(crate) fn after(octet: u8, octets: &[u8]) -> Option<&[u8]>
 #[inline(always)]
 fn info_part(octets: &[u8]) -> (&[u8], &[u8])
     ensures front { FrontInfo octets.now result.0.now result.1.now }
-    ensures info { IsField is_info_octet 0 64 result.0.now }
+    ensures info { IsField is_info_octet 0 max_info result.0.now }
 {
     match after(SP, octets) {
         Some(rest) => part(Class::Info, MAX_INFO, rest),

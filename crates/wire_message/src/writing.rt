@@ -2,6 +2,7 @@
 
 ghost use Rattle.std.specs.Prelude.{◌≡◌, ◌↔◌, ◌+◌, ◌≤◌, ◌∷◌, ◌++◌, length, IsTrue, IsSome, IfSome};
 ghost use Rattle.arrayvec.specs.ArrayVec.{array_vec_len};
+ghost use Rattle.iim_dataset.specs.Format.Characters.{sp};
 ghost use Rattle.wire_message.specs.Format.Messages.{IsHeader, IsTrailer};
 ghost use Rattle.wire_message.specs.Format.Canonical.{packed_head, packed_info, packed_tail};
 
@@ -24,7 +25,7 @@ fn append<const ROOM: usize>(out: &mut ArrayVec<u8, ROOM>, octets: &[u8])
 /// Appends SP and a part.
 fn append_part<const ROOM: usize>(out: &mut ArrayVec<u8, ROOM>, part: &[u8])
     requires { array_vec_len out.old + 1 + length part.now ≤ ROOM }
-    ensures items { out.new.items ≡ out.old.items ++ (32 ∷ part.now) }
+    ensures items { out.new.items ≡ out.old.items ++ (sp ∷ part.now) }
     ensures len { array_vec_len out.new ≡ array_vec_len out.old + 1 + length part.now }
 {
     append(out, &[SP]);

@@ -2,6 +2,7 @@
 use Rattle.std.specs.Prelude.{◌≡◌, ℕ, ◌+◌, ◌^◌, ◌<◌, ◌≤◌, Bool, nat_lt, List, length, take, drop, map}
 use Rattle.std.specs.Simd.Lanes.{mask_l}
 use Rattle.wire_story.specs.declared.marks.Marks.{Marks}
+use Rattle.wire_story.specs.Format.Texts.{max_returns}
 
 -- It is below the octets that are surely no marks.
 abbrev pub is_low : ℕ → Bool
@@ -16,7 +17,7 @@ pub record AreMarks (xs : List ℕ) (m : Marks) : Type 0 where
 
 -- The first `used` octets are a front, one at least: `held` CR are held after it, and these are the marks of what is left.
 pub record IsTextFront (rest : List ℕ) (held used : ℕ) (marks : Marks) : Type 0 where
-  pub few : held ≤ 2
+  pub few : held ≤ max_returns
   pub some : 0 < used
   pub within : used ≤ length rest
   pub next : AreMarks (drop used rest) marks

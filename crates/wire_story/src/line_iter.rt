@@ -4,6 +4,7 @@ ghost use Rattle.std.specs.Prelude.{◌≡◌, ◌==◌, ℕ, List};
 ghost use Rattle.std.specs.Iterator.{YieldsFirstRef, item_count};
 ghost use Rattle.std.specs.List.{position_or_len};
 ghost use Rattle.std.specs.Option.{option_copied};
+ghost use Rattle.iim_dataset.specs.Format.Characters.{lf};
 ghost use Rattle.wire_story.specs.Joining.{lines_in, lines_left};
 
 use crate::marks::Marks;
@@ -34,7 +35,7 @@ impl<'a> LineIter<'a> {
 
 /// The length of the first line.
 fn first_len(octets: &[u8]) -> usize
-    ensures { result ≡ position_or_len (λ b. b == 10) octets.now }
+    ensures { result ≡ position_or_len (λ b. b == lf) octets.now }
 {
     let mut at = Marks::new().run_len(octets).0;
     while at < octets.len() {

@@ -2,7 +2,7 @@
 
 ghost use Rattle.std.specs.Prelude.{◌≡◌, ◌≤◌, [], List, ℕ, Option, is_none, Some, None, ◌↔◌, IsSome, IfSome, IfErr, OnOk, OnErr};
 ghost use Rattle.std.specs.Option.{ForSome};
-ghost use Rattle.wire_story.specs.Format.Texts.{AreLines};
+ghost use Rattle.wire_story.specs.Format.Texts.{AreLines, max_returns};
 ghost use Rattle.wire_story.specs.Format.Tokens.{End, StoryDiesAt};
 ghost use Rattle.wire_story.specs.Format.Reading.{StandsAt, TakesPiece, RefusesOne};
 
@@ -28,7 +28,7 @@ impl Model for TextReader {
 
     ghost view = { λ reader. reader.held };
 
-    ghost invariant = { λ reader. ForSome reader.held (λ held. held ≤ 2) };
+    ghost invariant = { λ reader. ForSome reader.held (λ held. held ≤ max_returns) };
 }
 
 impl TextReader {

@@ -1,6 +1,7 @@
 //! How long a text is where it is packed.
 
 ghost use Rattle.std.specs.Prelude.{◌≡◌, ◌≤◌, ◌↔◌, ◌==◌, length, count_by, take, IsSome, IfSome};
+ghost use Rattle.iim_dataset.specs.Format.Characters.{lf};
 ghost use Rattle.wire_story.specs.Format.Texts.{packed_text};
 ghost use Rattle.iim_dataset.specs.Format.Octets.{greatest_size};
 
@@ -16,7 +17,7 @@ const BLOCK: usize = 16;
 #[inline(always)]
 fn feeds_in_block(block: &[u8]) -> usize
     requires { 16 ≤ length block.now }
-    ensures { result ≡ count_by (λ b. b == 10) (take 16 block.now) }
+    ensures { result ≡ count_by (λ b. b == lf) (take 16 block.now) }
 {
     let octets = u8x16::from_slice(block);
     octets.simd_eq(u8x16::splat(LF)).to_bitmask().count_ones() as usize
@@ -24,14 +25,14 @@ fn feeds_in_block(block: &[u8]) -> usize
 
 /// How many octets are LF, tested one after another.
 fn feeds_in_rest(octets: &[u8]) -> usize
-    ensures { result ≡ count_by (λ b. b == 10) octets.now }
+    ensures { result ≡ count_by (λ b. b == lf) octets.now }
 {
     octets.iter().filter(|octet| **octet == LF).count()
 }
 
 /// How many line ends stand in lines that are joined by LF.
 fn line_ends(octets: &[u8]) -> usize
-    ensures { result ≡ count_by (λ b. b == 10) octets.now }
+    ensures { result ≡ count_by (λ b. b == lf) octets.now }
 {
     let mut at = 0;
     let mut count = 0;

@@ -1,7 +1,8 @@
 //! How a piece of a text is read after some held CR or none: by the longest runs that lie in one line, and else octet by octet.
 
 ghost use Rattle.std.specs.Prelude.{◌≡◌, ◌<◌, ◌≤◌, false, length, drop, slice_index, take, Some, IfErr, IfOk, IsTrue, OnOk};
-ghost use Rattle.wire_story.specs.Format.Texts.{is_line_octet, IsLine};
+ghost use Rattle.iim_dataset.specs.Format.Characters.{lf, cr};
+ghost use Rattle.wire_story.specs.Format.Texts.{is_line_octet, IsLine, max_returns};
 ghost use Rattle.wire_story.specs.Format.Reading.{TakesPiece, RefusesOne};
 ghost use Rattle.wire_story.specs.Marking.{AreMarks, IsTextFront};
 
@@ -35,8 +36,8 @@ fn run_len(held: u8, marks: Marks, octets: &[u8]) -> (usize, Marks)
 fn has_line_end(held: u8, octets: &[u8]) -> bool
     ensures none { IsTrue result → held ≡ 0 }
     ensures two { IsTrue result → 2 ≤ length octets.now }
-    ensures first { IsTrue result → slice_index octets.now 0 ≡ 13 }
-    ensures second { IsTrue result → slice_index octets.now 1 ≡ 10 }
+    ensures first { IsTrue result → slice_index octets.now 0 ≡ cr }
+    ensures second { IsTrue result → slice_index octets.now 1 ≡ lf }
 {
     held == 0 && octets.len() >= 2 && octets[0] == CR && octets[1] == LF
 }
@@ -45,10 +46,10 @@ fn has_line_end(held: u8, octets: &[u8]) -> bool
 /// octets it took.
 #[inline(always)]
 fn take_return<S: StorySink>(held: u8, rest: &[u8], sink: &mut S) -> Result<(u8, usize), TextFault>
-    requires few { held ≤ 2 }
+    requires few { held ≤ max_returns }
     requires some { 0 < length rest.now }
-    requires first { slice_index rest.now 0 ≡ 13 }
-    ensures few { IfOk result (λ front. front.0 ≤ 2) }
+    requires first { slice_index rest.now 0 ≡ cr }
+    ensures few { IfOk result (λ front. front.0 ≤ max_returns) }
     ensures some { IfOk result (λ front. 0 < front.1) }
     ensures within { IfOk result (λ front. front.1 ≤ length rest.now) }
     ensures short { IfOk result (λ front. front.1 ≤ 2) }
@@ -79,10 +80,10 @@ fn take_return<S: StorySink>(held: u8, rest: &[u8], sink: &mut S) -> Result<(u8,
 /// many octets it took.
 #[inline(always)]
 fn take_mark<S: StorySink>(held: u8, rest: &[u8], sink: &mut S) -> Result<(u8, usize), TextFault>
-    requires few { held ≤ 2 }
+    requires few { held ≤ max_returns }
     requires some { 0 < length rest.now }
     requires mark { held ≡ 0 → is_line_octet (slice_index rest.now 0) ≡ false }
-    ensures few { IfOk result (λ front. front.0 ≤ 2) }
+    ensures few { IfOk result (λ front. front.0 ≤ max_returns) }
     ensures some { IfOk result (λ front. 0 < front.1) }
     ensures within { IfOk result (λ front. front.1 ≤ length rest.now) }
     ensures short { IfOk result (λ front. front.1 ≤ 2) }
@@ -148,7 +149,7 @@ fn take_front<S: StorySink>(
     marks: Marks,
     sink: &mut S,
 ) -> Result<(u8, usize, Marks), TextFault>
-    requires few { held ≤ 2 }
+    requires few { held ≤ max_returns }
     requires some { 0 < length rest.now }
     requires marks { AreMarks rest.now marks }
     ensures front { IfOk result (λ front. IsTextFront rest.now front.0 front.1 front.2) }
@@ -181,8 +182,8 @@ pub(crate) fn take_piece<S: StorySink>(
     piece: &[u8],
     sink: &mut S,
 ) -> Result<u8, TextFault>
-    requires { held ≤ 2 }
-    ensures few { IfOk result (λ now. now ≤ 2) }
+    requires { held ≤ max_returns }
+    ensures few { IfOk result (λ now. now ≤ max_returns) }
     ensures taken { IfOk result (λ now.
         TakesPiece S.goes S.failures (Some held) piece.now (Some now) sink.old sink.new) }
     ensures refused { IfErr result (λ fault.

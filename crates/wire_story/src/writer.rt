@@ -1,6 +1,7 @@
 //! A sink that writes the lines joined by LF.
 
 ghost use Rattle.std.specs.Prelude.{◌≡◌, ◌<◌, [], ◌∷◌, length, map, take, IfErr, OnOk, OnErr};
+ghost use Rattle.iim_dataset.specs.Format.Characters.{lf};
 ghost use Rattle.iim_dataset.specs.Format.Devices.{Rose, Wrote, Stopped};
 ghost use Rattle.wire_story.specs.Format.Texts.{IsLine};
 ghost use Rattle.wire_story.specs.Format.Delivery.{LineOctet, LineEnd};
@@ -96,8 +97,8 @@ impl<W: Target> StorySink for LineWriter<W> {
         ensures counted { OnErr result (Rose (stops_of self.old) (stops_of self.new)) }
 
         // The same of the LF.
-        ensures wrote { OnOk result (Wrote (device_of W.state self.old) (device_of W.state self.new) (10 ∷ [])) }
-        ensures stopped { OnErr result (Stopped (device_of W.state self.old) (device_of W.state self.new) (10 ∷ []) 0) }
+        ensures wrote { OnOk result (Wrote (device_of W.state self.old) (device_of W.state self.new) (lf ∷ [])) }
+        ensures stopped { OnErr result (Stopped (device_of W.state self.old) (device_of W.state self.new) (lf ∷ []) 0) }
     {
         self.write(&[LF])
     }

@@ -3,11 +3,12 @@ use Rattle.std.specs.Prelude.{ℤ, pos, ◌-ℤ◌, ◌*ℤ◌, ◌≤ℤ◌, Op
 use Rattle.std.specs.Int.{int_div_euclid}
 use Rattle.std.specs.Option.{option_map}
 use Rattle.iim_dataset.specs.Format.Datasets.{Dataset}
+use Rattle.iim_tables.specs.Format.Instants.{nanoseconds_in_second}
 use Rattle.iim_fields.specs.Format.Views.{instant_sent}
 
 -- the whole seconds in `nanoseconds` nanoseconds, rounded down
 abbrev pub whole_seconds : ℤ → ℤ
-whole_seconds nanoseconds = int_div_euclid nanoseconds (pos 1000000000)
+whole_seconds nanoseconds = int_div_euclid nanoseconds (pos nanoseconds_in_second)
 
 -- the whole seconds from the instant sent to now, where these data name one
 abbrev pub age_at : ℤ → List Dataset → Option ℤ
@@ -15,8 +16,8 @@ age_at now fields = option_map (λ sent. whole_seconds (now -ℤ sent)) (instant
 
 -- The seconds are the greatest whole number of them that is not above the nanoseconds.
 pub record IsFloor (nanoseconds seconds : ℤ) : Type 0 where
-  pub below : (seconds *ℤ pos 1000000000) ≤ℤ nanoseconds
-  pub greatest : (others : ℤ) → (others *ℤ pos 1000000000) ≤ℤ nanoseconds → others ≤ℤ seconds
+  pub below : (seconds *ℤ pos nanoseconds_in_second) ≤ℤ nanoseconds
+  pub greatest : (others : ℤ) → (others *ℤ pos nanoseconds_in_second) ≤ℤ nanoseconds → others ≤ℤ seconds
 
 -- Whole seconds are rounded down, below zero too.
 abbrev pub WholeSecondsAreFloors : Type 0

@@ -2,6 +2,7 @@
 use Rattle.std.specs.Prelude.{ℕ, ◌+◌, ℤ, Bool, true, false, List, [], ◌∷◌, ◌++◌, length, count_by, codes, decimal, Option, Some, None, is_some}
 use Rattle.std.specs.Fmt.{signed_decimal}
 use Rattle.std.specs.Option.{unwrap_or}
+use Rattle.iim_dataset.specs.Format.Characters.{minus}
 use Rattle.iim_dataset.specs.Format.Shown.{shown}
 use Rattle.iim_audit.specs.declared.copy.CopyState.{CopyState}
 use Rattle.iim_audit.specs.declared.copy.CopyState.TheVariants.{Held, Expired, Free}
@@ -9,7 +10,7 @@ use Rattle.iim_audit.specs.declared.row.AuditRow.{AuditRow}
 
 -- a digit, or `-` where there is none
 abbrev pub digit_or_dash : Option ℕ → ℕ
-digit_or_dash digit = unwrap_or digit 45
+digit_or_dash digit = unwrap_or digit minus
 
 -- a number, or `-` where there is none
 abbrev pub number_or_dash : Option ℕ → List ℕ

@@ -23,14 +23,22 @@ count_octets = 8
 abbrev pub tag_octets : ℕ
 tag_octets = 5 + count_octets
 
+-- the tag marker, which each tag begins with
+abbrev pub tag_marker : ℕ
+tag_marker = 0x1c
+
+-- the first octet of an extended count
+abbrev pub extended : ℕ
+extended = 0x80
+
 -- The standard form of a count: two octets, of which the first is below 80h.
 abbrev pub IsStandardCount : ℕ → ℕ → ℕ → List ℕ → Type 0
-IsStandardCount count high low more = (high < 128) × IsOctet low × (more ≡ []) × (number (high ∷ low ∷ []) ≡ count)
+IsStandardCount count high low more = (high < extended) × IsOctet low × (more ≡ []) × (number (high ∷ low ∷ []) ≡ count)
 
 -- The extended form: the first two octets hold 8000h and how many octets follow, at most `limit`, and those hold the count.
 abbrev pub IsExtendedCount : ℕ → ℕ → ℕ → ℕ → List ℕ → Type 0
 IsExtendedCount limit count high low more =
-    (high ≡ 128) × (low ≡ length more) × (1 ≤ low) × (low ≤ limit) × Octets more × (number more ≡ count)
+    (high ≡ extended) × (low ≡ length more) × (1 ≤ low) × (low ≤ limit) × Octets more × (number more ≡ count)
 
 -- The octets spell the count of a tag.
 abbrev pub SpellsCount : ℕ → ℕ → List ℕ → Type 0
@@ -44,7 +52,7 @@ pub record SpellsTag (limit : ℕ) (h : Head) (tag : List ℕ) : Type 0 where
   pub set : IsOctet h.set
   pub count : List ℕ
   pub is_count : SpellsCount limit h.count count
-  pub parts : tag ≡ 28 ∷ h.rec ∷ h.set ∷ count
+  pub parts : tag ≡ tag_marker ∷ h.rec ∷ h.set ∷ count
 
 -- A dataset: its tag, and then as many octets of data as the tag counts.
 pub record SpellsDataset (limit : ℕ) (d : Dataset) (xs : List ℕ) : Type 0 where
@@ -67,10 +75,10 @@ written_number n = if nat_lt n (2 ^ 32) then big_bytes 4 n else big_bytes 8 n
 
 -- the canonical spelling of a count: two octets up to 32,767, above that an extended count, the number as it is written
 abbrev pub canonical_count : ℕ → List ℕ
-canonical_count n = if nat_lt n 32768 then big_bytes 2 n else 128 ∷ length (written_number n) ∷ written_number n
+canonical_count n = if nat_lt n 32768 then big_bytes 2 n else extended ∷ length (written_number n) ∷ written_number n
 
 abbrev pub canonical_tag : Head → List ℕ
-canonical_tag h = 28 ∷ h.rec ∷ h.set ∷ canonical_count h.count
+canonical_tag h = tag_marker ∷ h.rec ∷ h.set ∷ canonical_count h.count
 
 -- the canonical spelling of a dataset: its canonical tag, and its data
 abbrev pub canonical_dataset : Dataset → List ℕ

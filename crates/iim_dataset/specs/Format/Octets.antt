@@ -1,5 +1,5 @@
 -- Octets, the numbers that they spell and the greatest of them, and prefixes.
-use Rattle.std.specs.Prelude.{◌≡◌, ℕ, ◌<◌, List, ◌++◌, length, Bool, ◌&&◌, ◌||◌, nat_le}
+use Rattle.std.specs.Prelude.{◌≡◌, ℕ, ◌-◌, ◌^◌, ◌<◌, List, ◌++◌, length, Bool, ◌&&◌, ◌||◌, nat_le}
 use Rattle.std.specs.List.{AllByRecursion}
 use Rattle.byteorder.specs.Endian.{big_number}
 
@@ -21,6 +21,14 @@ IsProperPrefix xs ys = (rest : List ℕ) × (0 < length rest) × (xs ++ rest ≡
 -- the greatest size of an object, in octets, and so the greatest count that a row allows (the profile's)
 abbrev pub greatest_size : ℕ
 greatest_size = 9_223_372_036_854_775_807
+
+-- the greatest number of 32 bits
+abbrev pub greatest_u32 : ℕ
+greatest_u32 = 4_294_967_295
+
+-- the greatest number of 64 bits, at which a stored count stays
+abbrev pub greatest_u64 : ℕ
+greatest_u64 = 2 ^ 64 - 1
 
 -- b is one of low to high
 abbrev pub within : ℕ → ℕ → ℕ → Bool

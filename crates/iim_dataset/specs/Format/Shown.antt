@@ -1,18 +1,19 @@
 -- Octets and names of datasets as text that can be printed.
-use Rattle.std.specs.Prelude.{ℕ, ◌+◌, ◌/◌, ◌%◌, ◌==◌, ◌&&◌, not, Bool, if◌then◌else◌, nat_le, nat_lt, List, [], ◌∷◌, ◌++◌, codes, decimal}
+use Rattle.std.specs.Prelude.{ℕ, ◌+◌, ◌-◌, ◌/◌, ◌%◌, ◌==◌, ◌&&◌, not, Bool, if◌then◌else◌, nat_le, nat_lt, List, [], ◌∷◌, ◌++◌, codes, decimal}
 use Rattle.std.specs.List.{flat_map}
+use Rattle.iim_dataset.specs.Format.Characters.{sp, digit_zero, capital_a, backslash, small_x}
 
 -- the digit of a number below 16: 0 to 9, A to F
 abbrev pub hex_digit : ℕ → ℕ
-hex_digit n = if nat_lt n 10 then 48 + n else 55 + n
+hex_digit n = if nat_lt n 10 then digit_zero + n else capital_a - 10 + n
 
 -- \x and the two digits of an octet
 abbrev pub escape : ℕ → List ℕ
-escape octet = 92 ∷ 120 ∷ hex_digit (octet / 16) ∷ hex_digit (octet % 16) ∷ []
+escape octet = backslash ∷ small_x ∷ hex_digit (octet / 16) ∷ hex_digit (octet % 16) ∷ []
 
 -- Octets from 20 to 7E stand for themselves, but for the backslash.
 abbrev pub is_plain : ℕ → Bool
-is_plain octet = nat_le 32 octet && nat_le octet 126 && not (octet == 92)
+is_plain octet = nat_le sp octet && nat_le octet 0x7e && not (octet == backslash)
 
 -- an octet as itself, or as \x and two digits
 abbrev pub shown_octet : ℕ → List ℕ

@@ -1,13 +1,13 @@
 -- Plans of objects.
 use Rattle.std.specs.Prelude.{ℕ, ◌+◌, ◌*◌, ◌^◌, Bool, true, ◌&&◌, nat_le, min, Some, None}
 use Rattle.iim_dataset.specs.Format.Datasets.{tag_octets}
-use Rattle.iim_dataset.specs.Format.Octets.{greatest_size}
+use Rattle.iim_dataset.specs.Format.Octets.{greatest_size, greatest_u32}
 use Rattle.iim_object.specs.declared.size.Size.{Size}
 use Rattle.iim_object.specs.declared.size.Size.TheVariants.{Known, Unknown}
 
 -- the most subfiles of one envelope
 abbrev pub max_subfiles : ℕ
-max_subfiles = 4294967295
+max_subfiles = greatest_u32
 
 -- the most octets of record 7: 7:10, 7:20, and 7:90 or 7:95
 abbrev pub most_sizes : ℕ

@@ -9,7 +9,7 @@ use Rattle.iim_object.specs.declared.cause.PackCause.TheVariants.{PastAnnounced,
 use Rattle.wire_story.specs.Format.Texts.{IsLine}
 use Rattle.wire_message.specs.Format.Messages.{Header, IsTrailer}
 use Rattle.wire_message.specs.Format.Canonical.{packed_head, canonical}
-use Rattle.iim_pack.specs.Format.Packing.{Packing}
+use Rattle.iim_pack.specs.Format.Packing.{Packing, least_ending}
 
 -- The cause is one of the order; what it says holds, and nothing holds that a cause before it says.
 pub record IsFirst (Says : PackCause → Type 0) (order : List PackCause) (cause : PackCause) : Type 0 where
@@ -34,28 +34,28 @@ IsBelowKnown plan octets = (n : ℕ) × (plan.size ≡ Known n) × (octets < n)
 
 -- what the causes say of `start`: of the header, the two octets ETX and EOT follow at least
 abbrev pub AgainstStart : Header → Plan → PackCause → Type 0
-AgainstStart head plan PastAnnounced = PassesBound plan (length (packed_head head) + 2)
+AgainstStart head plan PastAnnounced = PassesBound plan (length (packed_head head) + least_ending)
 AgainstStart head plan _ = ⊥
 
 -- of `text`
 abbrev pub AgainstText : {W : Type 0} → Packing W → List ℕ → PackCause → Type 0
 AgainstText k octets Failed = IsTrue k.object.failed
 AgainstText k octets BadTextOctet = IsLine octets → ⊥
-AgainstText k octets PastAnnounced = PassesBound k.object.plan (total_of k.object + (length octets + 2))
+AgainstText k octets PastAnnounced = PassesBound k.object.plan (total_of k.object + (length octets + least_ending))
 AgainstText k octets _ = ⊥
 
 -- of `line_end`, which adds CR and LF
 abbrev pub AgainstLineEnd : {W : Type 0} → Packing W → PackCause → Type 0
 AgainstLineEnd k Failed = IsTrue k.object.failed
-AgainstLineEnd k PastAnnounced = PassesBound k.object.plan (total_of k.object + (2 + 2))
+AgainstLineEnd k PastAnnounced = PassesBound k.object.plan (total_of k.object + (2 + least_ending))
 AgainstLineEnd k _ = ⊥
 
 -- of `finish`, which adds ETX, the trailer and EOT
 abbrev pub AgainstFinish : {W : Type 0} → Packing W → List ℕ → PackCause → Type 0
 AgainstFinish k trailer Failed = IsTrue k.object.failed
 AgainstFinish k trailer BadTrailer = IsTrailer trailer → ⊥
-AgainstFinish k trailer PastAnnounced = PassesBound k.object.plan (total_of k.object + (length trailer + 2))
-AgainstFinish k trailer ShortOfAnnounced = IsBelowKnown k.object.plan (total_of k.object + (length trailer + 2))
+AgainstFinish k trailer PastAnnounced = PassesBound k.object.plan (total_of k.object + (length trailer + least_ending))
+AgainstFinish k trailer ShortOfAnnounced = IsBelowKnown k.object.plan (total_of k.object + (length trailer + least_ending))
 AgainstFinish k trailer _ = ⊥
 
 -- of `pack`

@@ -13,7 +13,7 @@ use Rattle.iim_object.specs.declared.cause.PackCause.TheVariants as causes
 use Rattle.wire_story.specs.Format.Texts.{is_line_octet}
 use Rattle.wire_story.specs.Format.Delivery.{StoryEvent, events_of_lines}
 use Rattle.wire_story.specs.Format.Packing.{packed_events, AreEvents, lines_of}
-use Rattle.wire_message.specs.Format.Fields.{is_trailer_octet}
+use Rattle.wire_message.specs.Format.Fields.{is_trailer_octet, max_trailer}
 use Rattle.wire_message.specs.Format.Messages.{Header, IsHeader}
 use Rattle.wire_message.specs.Format.Canonical.{packed_head, packed_tail, canonical}
 use Rattle.iim_pack.specs.Format.Packed.{Packed}
@@ -111,7 +111,7 @@ line_end_cause k =
     else None
 
 abbrev pub is_trailer : List ℕ → Bool
-is_trailer trailer = list_all is_trailer_octet trailer && nat_le (length trailer) 64
+is_trailer trailer = list_all is_trailer_octet trailer && nat_le (length trailer) max_trailer
 
 -- the first cause against an ending with the trailer, after `total` octets of the object
 abbrev pub ending_cause : Plan → ℕ → List ℕ → Option PackCause

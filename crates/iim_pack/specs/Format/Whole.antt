@@ -1,5 +1,5 @@
 -- A whole envelope packed in one call.
-use Rattle.std.specs.Prelude.{ℕ, ◌⊎◌, Bool, true, false, List, [], ◌∷◌, ◌++◌, map}
+use Rattle.std.specs.Prelude.{ℕ, ◌⊎◌, Bool, true, false, List, ◌∷◌, map}
 use Rattle.iim_dataset.specs.Format.Devices.{Device, Wrote}
 use Rattle.iim_dataset.specs.Format.Datasets.{Dataset}
 use Rattle.iim_object.specs.declared.plan.Plan.{Plan}
@@ -14,11 +14,6 @@ use Rattle.iim_pack.specs.Format.Starting.{StartIsRefused, Halts}
 abbrev pub line_events : Bool → List ℕ → List StoryEvent
 line_events true line = map LineOctet line
 line_events false line = LineEnd ∷ map LineOctet line
-
--- the events of the lines that are left
-abbrev pub events_left : Bool → List (List ℕ) → List StoryEvent
-events_left is_first [] = []
-events_left is_first (line ∷ lines) = line_events is_first line ++ events_left false lines
 
 -- The packed form is out.
 pub record Packs {W : Type 0} (state : W → Device) (writer : W) (fields : List Dataset) (head : Header) (lines : List (List ℕ)) (trailer : List ℕ) (plan : Plan) (last : W) : Type 0 where

@@ -1,6 +1,7 @@
 -- Why octets are no script: the first fault by line.
 use Rattle.std.specs.Prelude.{◌≡◌, ℕ, ◌+◌, ◌<◌, ◌≤◌, ◌⊎◌, List, [], ◌∷◌, ◌++◌, length, Some}
 use Rattle.std.specs.List.{AllByRecursion}
+use Rattle.iim_dataset.specs.Format.Characters.{lf}
 use Rattle.iim_dataset.specs.Format.Datasets.{Dataset}
 use Rattle.iim_fields.specs.Format.Builders.{add_fault, finish_fault}
 use Rattle.iim_fields.specs.declared.limits.Limits.{Limits}
@@ -80,7 +81,7 @@ IsWrong limits stage line cause = ⊥
 -- The next line before the story is wrong; or no LF ends it, as where the octets end, for 91 ScriptLine.
 abbrev pub IsNextWrong : Limits → Stage → List ℕ → ScriptCause → Type 0
 IsNextWrong limits stage rest cause =
-    (HasNo 10 rest × (cause ≡ ScriptLine)) ⊎ ((line : List ℕ) × (after : List ℕ) × NextLine rest line after × IsWrong limits stage line cause)
+    (HasNo lf rest × (cause ≡ ScriptLine)) ⊎ ((line : List ℕ) × (after : List ℕ) × NextLine rest line after × IsWrong limits stage line cause)
 
 -- The line with this number, before the story, is the first that is wrong.
 pub record IsFrontFault (limits : Limits) (octets : List ℕ) (number : ℕ) (cause : ScriptCause) : Type 0 where
@@ -97,7 +98,7 @@ pub record HasLine (story : List ℕ) (before : List (List ℕ)) (line : List �
   pub rest : List ℕ
   pub lined : EndLines before front
   pub parts : story ≡ front ++ rest
-  pub is_next : ((after : List ℕ) × NextLine rest line after) ⊎ (HasNo 10 rest × (line ≡ rest))
+  pub is_next : ((after : List ℕ) × NextLine rest line after) ⊎ (HasNo lf rest × (line ≡ rest))
 
 -- A line of the story has an octet that may stand in no line, and none before it has. The line `text` has that number.
 pub record IsBadStory (story : List ℕ) (text_line number : ℕ) : Type 0 where

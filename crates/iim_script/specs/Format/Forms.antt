@@ -1,6 +1,7 @@
 -- The forms of a script's lines.
-use Rattle.std.specs.Prelude.{◌≡◌, ℕ, ◌+◌, ◌*◌, ◌-◌, ◌≤◌, false, get_or, IsTrue, List, [], ◌∷◌, ◌++◌, length}
+use Rattle.std.specs.Prelude.{◌≡◌, ℕ, ◌+◌, ◌*◌, ◌-◌, ◌≤◌, false, get_or, IsTrue, List, [], ◌∷◌, ◌++◌, length, codes}
 use Rattle.std.specs.List.{list_all}
+use Rattle.iim_dataset.specs.Format.Characters.{sp, colon, digit_zero}
 use Rattle.iim_dataset.specs.Format.Octets.{is_digit}
 use Rattle.iim_dataset.specs.Format.Datasets.{Dataset}
 use Rattle.wire_message.specs.Format.Messages.{Header, IsHeader}
@@ -13,12 +14,12 @@ AreDigits hundreds tens ones = IsTrue (is_digit hundreds) × IsTrue (is_digit te
 
 -- the number that they spell
 abbrev pub value_of : ℕ → ℕ → ℕ → ℕ
-value_of hundreds tens ones = (hundreds - 48) * 100 + (tens - 48) * 10 + (ones - 48)
+value_of hundreds tens ones = (hundreds - digit_zero) * 100 + (tens - digit_zero) * 10 + (ones - digit_zero)
 
 -- the number of decimal digits, after those that have told this number
 abbrev pub decimal_from : ℕ → List ℕ → ℕ
 decimal_from n [] = n
-decimal_from n (digit ∷ digits) = decimal_from (n * 10 + (digit - 48)) digits
+decimal_from n (digit ∷ digits) = decimal_from (n * 10 + (digit - digit_zero)) digits
 
 -- The number of a record or a dataset: 1 to 3 decimal digits, of a value up to 255.
 pub record TellsNumber (digits : List ℕ) (n : ℕ) : Type 0 where
@@ -35,7 +36,7 @@ pub record TellsNames (line : List ℕ) (rec set : ℕ) (end : List ℕ) : Type 
   pub is_rec : TellsNumber rec_digits rec
   pub is_set : TellsNumber set_digits set
   pub undigited : is_digit (get_or end 0 0) ≡ false
-  pub line_is : line ≡ rec_digits ++ (58 ∷ set_digits ++ end)
+  pub line_is : line ≡ rec_digits ++ (colon ∷ set_digits ++ end)
 
 -- A line `R:D`, and SP and the octets as text where there are some.
 pub record TellsField (line : List ℕ) (d : Dataset) : Type 0 where
@@ -45,15 +46,15 @@ pub record TellsField (line : List ℕ) (d : Dataset) : Type 0 where
 
 -- `message` and SP
 abbrev pub message_word : List ℕ
-message_word = 109 ∷ 101 ∷ 115 ∷ 115 ∷ 97 ∷ 103 ∷ 101 ∷ 32 ∷ []
+message_word = codes "message "
 
 -- `trailer`
 abbrev pub trailer_word : List ℕ
-trailer_word = 116 ∷ 114 ∷ 97 ∷ 105 ∷ 108 ∷ 101 ∷ 114 ∷ []
+trailer_word = codes "trailer"
 
 -- `text`
 abbrev pub text_word : List ℕ
-text_word = 116 ∷ 101 ∷ 120 ∷ 116 ∷ []
+text_word = codes "text"
 
 -- the words of a header's line after `message`
 pub record HeadWords : Type 0 where
@@ -68,23 +69,23 @@ abbrev pub after_category : HeadWords → List ℕ → List ℕ
 after_category w end = w.words ++ end
 
 abbrev pub after_priority : HeadWords → List ℕ → List ℕ
-after_priority w end = w.category ++ (32 ∷ after_category w end)
+after_priority w end = w.category ++ (sp ∷ after_category w end)
 
 abbrev pub after_number : HeadWords → List ℕ → List ℕ
-after_number w end = w.priority ++ (32 ∷ after_priority w end)
+after_number w end = w.priority ++ (sp ∷ after_priority w end)
 
 abbrev pub after_source : HeadWords → List ℕ → List ℕ
-after_source w end = w.number ++ (32 ∷ after_number w end)
+after_source w end = w.number ++ (sp ∷ after_number w end)
 
 -- The octets are these words, with one SP between each two, and what ends the line: nothing, or SP and more.
 pub record AreWords (octets : List ℕ) (w : HeadWords) (end : List ℕ) : Type 0 where
-  pub source : HasNo 32 w.source
-  pub number : HasNo 32 w.number
-  pub priority : HasNo 32 w.priority
-  pub category : HasNo 32 w.category
-  pub words : HasNo 32 w.words
-  pub ends : get_or end 0 32 ≡ 32
-  pub octets_are : octets ≡ w.source ++ (32 ∷ after_source w end)
+  pub source : HasNo sp w.source
+  pub number : HasNo sp w.number
+  pub priority : HasNo sp w.priority
+  pub category : HasNo sp w.category
+  pub words : HasNo sp w.words
+  pub ends : get_or end 0 sp ≡ sp
+  pub octets_are : octets ≡ w.source ++ (sp ∷ after_source w end)
 
 -- the words of a header
 abbrev pub words_of : Header → HeadWords
@@ -95,7 +96,7 @@ pub record TellsHead (line : List ℕ) (head : Header) : Type 0 where
   pub end : List ℕ
   pub is_header : IsHeader head
   pub is_end : TellsLast end head.info
-  pub line_is : line ≡ message_word ++ (head.source ++ (32 ∷ after_source (words_of head) end))
+  pub line_is : line ≡ message_word ++ (head.source ++ (sp ∷ after_source (words_of head) end))
 
 -- A line `trailer`, and SP and the octets as text where there are some.
 pub record TellsTrailer (line octets : List ℕ) : Type 0 where

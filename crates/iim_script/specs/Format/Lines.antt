@@ -1,5 +1,6 @@
 -- The lines of a script.
 use Rattle.std.specs.Prelude.{◌≡◌, ℕ, ◌==◌, false, ◌⊎◌, List, [], ◌∷◌, ◌++◌}
+use Rattle.iim_dataset.specs.Format.Characters.{lf, cr}
 
 -- None of the octets is this one.
 abbrev pub HasNo : ℕ → List ℕ → Type 0
@@ -8,11 +9,11 @@ HasNo b (x ∷ xs) = ((x == b) ≡ false) × HasNo b xs
 
 -- The last octet is CR.
 abbrev pub EndsInReturn : List ℕ → Type 0
-EndsInReturn line = (front : List ℕ) × (line ≡ front ++ 13 ∷ [])
+EndsInReturn line = (front : List ℕ) × (line ≡ front ++ cr ∷ [])
 
 -- The octets are the line with its end: LF, and the one CR right before it that there may be.
 abbrev pub EndsLine : List ℕ → List ℕ → Type 0
-EndsLine line octets = HasNo 10 line × ((octets ≡ line ++ 13 ∷ 10 ∷ []) ⊎ ((octets ≡ line ++ 10 ∷ []) × (EndsInReturn line → ⊥)))
+EndsLine line octets = HasNo lf line × ((octets ≡ line ++ cr ∷ lf ∷ []) ⊎ ((octets ≡ line ++ lf ∷ []) × (EndsInReturn line → ⊥)))
 
 -- The octets begin with the line and its end, and this follows.
 pub record NextLine (octets line after : List ℕ) : Type 0 where

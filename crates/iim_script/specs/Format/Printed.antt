@@ -1,6 +1,7 @@
 -- What is printed of an envelope, as the lines of a script.
 use Rattle.std.specs.Prelude.{◌≡◌, ◌⊎◌, ℕ, List, [], ◌∷◌, ◌++◌, codes}
 use Rattle.std.specs.List.{flat_map, join_with_byte}
+use Rattle.iim_dataset.specs.Format.Characters.{lf, sp}
 use Rattle.iim_dataset.specs.Format.Datasets.{Dataset}
 use Rattle.iim_dataset.specs.Format.Shown.{shown, dataset_name}
 use Rattle.wire_message.specs.Format.Messages.{Header}
@@ -8,7 +9,7 @@ use Rattle.wire_message.specs.Format.Messages.{Header}
 -- a space and the octets, shown; nothing where there are none
 abbrev pub after_space : List ℕ → List ℕ
 after_space [] = []
-after_space (x ∷ xs) = 32 ∷ shown (x ∷ xs)
+after_space (x ∷ xs) = sp ∷ shown (x ∷ xs)
 
 -- a dataset: its name and its octets
 abbrev pub field_line : Dataset → List ℕ
@@ -30,7 +31,7 @@ value_lines fields head trailer = flat_map field_line fields ++ (message_line he
 -- The octets are the lines of a story, joined by LF, and an LF; which may be missing, unless the last of several lines is empty.
 abbrev pub PrintsStory : List ℕ → List (List ℕ) → Type 0
 PrintsStory octets lines =
-    (octets ≡ join_with_byte 10 lines ++ 10 ∷ []) ⊎ ((octets ≡ join_with_byte 10 lines) × ((before : List (List ℕ)) → lines ≡ before ++ [] ∷ [] → before ≡ []))
+    (octets ≡ join_with_byte lf lines ++ lf ∷ []) ⊎ ((octets ≡ join_with_byte lf lines) × ((before : List (List ℕ)) → lines ≡ before ++ [] ∷ [] → before ≡ []))
 
 -- the lines of the values, the line `text`, and a story
 abbrev pub script_of : List Dataset → Header → List ℕ → List ℕ → List ℕ

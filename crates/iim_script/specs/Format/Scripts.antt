@@ -1,6 +1,7 @@
 -- What a script is, and what it tells.
 use Rattle.std.specs.Prelude.{◌≡◌, ℕ, ◌+◌, ◌<◌, ◌≤◌, ◌⊎◌, List, [], ◌∷◌, ◌++◌, length, None}
 use Rattle.std.specs.List.{AllByRecursion}
+use Rattle.iim_dataset.specs.Format.Characters.{lf}
 use Rattle.iim_dataset.specs.Format.Datasets.{Dataset}
 use Rattle.iim_fields.specs.Format.Builders.{add_fault, finish_fault}
 use Rattle.iim_fields.specs.declared.limits.Limits.{Limits}
@@ -54,7 +55,7 @@ pub record IsFront (limits : Limits) (octets : List ℕ) (fields : List Dataset)
 abbrev pub IsStory : List ℕ → List (List ℕ) → Type 0
 IsStory octets lines = (0 < length lines) × (EndLines lines octets
     ⊎ ((before : List (List ℕ)) × (last : List ℕ) × (ended : List ℕ) × (lines ≡ before ++ last ∷ []) × EndLines before ended
-    × (octets ≡ ended ++ last) × HasNo 10 last × (last ≡ [] → before ≡ [])))
+    × (octets ≡ ended ++ last) × HasNo lf last × (last ≡ [] → before ≡ [])))
 
 -- A script tells datasets of records 1 and 2, a header, a trailer, and the lines of a story; the line `text` has this number.
 pub record IsScript (limits : Limits) (octets : List ℕ) (fields : List Dataset) (head : Header) (trailer : List ℕ) (lines : List (List ℕ)) (text_line : ℕ) : Type 0 where

@@ -1,5 +1,6 @@
 -- Octets as text: printable ones as they are, and the others by escapes.
 use Rattle.std.specs.Prelude.{◌≡◌, ◌≢◌, ℕ, ◌+◌, ◌*◌, ◌≤◌, ◌⊎◌, List, [], ◌∷◌, ◌++◌}
+use Rattle.iim_dataset.specs.Format.Characters.{sp, backslash, small_x}
 
 -- The digit has this value in hexadecimal, in either case.
 abbrev pub IsHexDigit : ℕ → ℕ → Type 0
@@ -13,11 +14,11 @@ IsOfDigits high low octet = (h : ℕ) × (l : ℕ) × IsHexDigit high h × IsHex
 
 -- `\x` and two hexadecimal digits
 abbrev pub IsEscape : List ℕ → ℕ → Type 0
-IsEscape piece octet = (high : ℕ) × (low : ℕ) × (piece ≡ 92 ∷ 120 ∷ high ∷ low ∷ []) × IsOfDigits high low octet
+IsEscape piece octet = (high : ℕ) × (low : ℕ) × (piece ≡ backslash ∷ small_x ∷ high ∷ low ∷ []) × IsOfDigits high low octet
 
 -- The piece tells the octet: it is an escape, or the octet itself, which is no backslash.
 abbrev pub TellsOctet : List ℕ → ℕ → Type 0
-TellsOctet piece octet = ((octet ≢ 92) × (piece ≡ octet ∷ [])) ⊎ IsEscape piece octet
+TellsOctet piece octet = ((octet ≢ backslash) × (piece ≡ octet ∷ [])) ⊎ IsEscape piece octet
 
 -- The text begins with a piece that tells the octet, and continues with the rest.
 abbrev pub BeginsWith : List ℕ → ℕ → List ℕ → Type 0
@@ -31,4 +32,4 @@ TellsOctets text (octet ∷ octets) = (rest : List ℕ) × BeginsWith text octet
 -- What ends a line: nothing, for no octets; else SP, and a text of at least one octet.
 abbrev pub TellsLast : List ℕ → List ℕ → Type 0
 TellsLast end [] = end ≡ []
-TellsLast end (octet ∷ octets) = (text : List ℕ) × (end ≡ 32 ∷ text) × TellsOctets text (octet ∷ octets)
+TellsLast end (octet ∷ octets) = (text : List ℕ) × (end ≡ sp ∷ text) × TellsOctets text (octet ∷ octets)

@@ -2,7 +2,7 @@
 use Rattle.std.specs.Prelude.{◌≡◌, IsTrue, ℕ, ◌+◌, ◌*◌, ◌-◌, ◌/◌, ◌%◌, Bool, ◌&&◌, ◌||◌, ◌==◌, nat_le, List, [], ◌∷◌, ◌++◌, length, slice_index, pos}
 use Rattle.std.specs.List.{list_all}
 use Rattle.jiff.specs.Words.{days_in_month}
-use Rattle.iim_tables.specs.Format.Octets.{digit_zero}
+use Rattle.iim_dataset.specs.Format.Characters.{digit_zero}
 use Rattle.iim_dataset.specs.Format.Octets.{within, is_digit}
 
 -- the number that the two digits at a place write

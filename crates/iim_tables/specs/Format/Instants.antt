@@ -3,7 +3,7 @@ use Rattle.std.specs.Prelude.{◌≡◌, ℕ, ◌+◌, ◌*◌, Bool, ◌&&◌, 
 use Rattle.std.specs.List.{list_all}
 use Rattle.jiff.specs.Words.{IsTimestampNanos, nanos_of_seconds}
 use Rattle.jiff_core.specs.Calendar.{days_from_civil}
-use Rattle.iim_tables.specs.Format.Octets.{plus, minus}
+use Rattle.iim_dataset.specs.Format.Characters.{plus, minus}
 use Rattle.iim_dataset.specs.Format.Octets.{is_digit}
 use Rattle.iim_tables.specs.Format.Dates.{pair_at, year_in, month_in, day_in, is_date, two_digits}
 
@@ -38,6 +38,10 @@ abbrev pub ReadsTime : List ℕ → ℕ → ℕ → ℕ → Bool → ℕ → ℕ
 ReadsTime xs hour minute second is_behind hours minutes =
     IsTrue (has_time_form xs) × (pair_at xs 0 ≡ hour) × (pair_at xs 2 ≡ minute) × (pair_at xs 4 ≡ second)
     × ((slice_index xs 6 == minus) ≡ is_behind) × (pair_at xs 7 ≡ hours) × (pair_at xs 9 ≡ minutes)
+
+-- how many nanoseconds a second has
+abbrev pub nanoseconds_in_second : ℕ
+nanoseconds_in_second = 1_000_000_000
 
 -- seconds since midnight
 abbrev pub clock_seconds : ℕ → ℕ → ℕ → ℕ

@@ -2,8 +2,9 @@
 -- layer the one of the lowest number is told.
 use Rattle.std.specs.Prelude.{◌≡◌, ◌≢◌, ℕ, ◌<◌, ◌≤◌, ◌⊎◌, ◌==◌, false, List, [], ◌∷◌, ◌++◌, length, get_or, IsTrue}
 use Rattle.std.specs.List.{list_any}
+use Rattle.iim_dataset.specs.Format.Characters.{soh, stx, etx, eot}
 use Rattle.iim_dataset.specs.Format.Octets.{IsOctet, number}
-use Rattle.iim_dataset.specs.Format.Datasets.{Dataset, SpellsTag, head_of, of_record, count_octets}
+use Rattle.iim_dataset.specs.Format.Datasets.{Dataset, SpellsTag, head_of, of_record, count_octets, tag_marker, extended}
 use Rattle.iim_dataset.specs.Format.Splits.{InTag, InData, Reads}
 use Rattle.iim_dataset.specs.Format.Completing.{CompletesData}
 use Rattle.iim_dataset.specs.declared.head.Head.{Head}
@@ -62,12 +63,12 @@ OfTag P _ = ⊥
 
 -- 1: the first octet of a tag is not the marker, 1C.
 abbrev pub IsNoMarker : List ℕ → ℕ → Type 0
-IsNoMarker held octet = (held ≡ []) × (octet ≢ 0x1c)
+IsNoMarker held octet = (held ≡ []) × (octet ≢ tag_marker)
 
 -- 2: the fourth octet is above 80; or it is 80, and the fifth is not one of 1 to 8.
 abbrev pub IsNoCount : List ℕ → ℕ → Type 0
-IsNoCount held octet = ((length held ≡ 3) × (0x80 < octet))
-    ⊎ ((length held ≡ 4) × (get_or held 3 0 ≡ 0x80) × ((octet ≡ 0) ⊎ (count_octets < octet)))
+IsNoCount held octet = ((length held ≡ 3) × (extended < octet))
+    ⊎ ((length held ≡ 4) × (get_or held 3 0 ≡ extended) × ((octet ≡ 0) ⊎ (count_octets < octet)))
 
 -- 10 to 16, 50 and 51: as the record layer and the limits have it.
 abbrev pub OfField : FieldCause → Limits → List Dataset → Token → Type 0
@@ -102,7 +103,7 @@ IsNoEnd ds _ = ⊥
 
 -- STX has come, and ETX has not.
 abbrev pub IsInText : List ℕ → Type 0
-IsInText before = IsTrue (list_any (λ b. b == 2) before) × (list_any (λ b. b == 3) (after_stx before) ≡ false)
+IsInText before = IsTrue (list_any (λ b. b == stx) before) × (list_any (λ b. b == etx) (after_stx before) ≡ false)
 
 -- 40: after held CR comes an octet of the text, or ETX, that is neither LF nor the second CR.
 abbrev pub IsAfterReturns : List ℕ → ℕ → Type 0
@@ -110,7 +111,7 @@ IsAfterReturns before octet = IsInText before × ((held : ℕ) × Holds (text_so
 
 -- 41: SOH, STX or EOT stands in the text.
 abbrev pub IsControlInText : List ℕ → ℕ → Type 0
-IsControlInText before octet = IsInText before × ((octet ≡ 1) ⊎ ((octet ≡ 2) ⊎ (octet ≡ 4)))
+IsControlInText before octet = IsInText before × ((octet ≡ soh) ⊎ ((octet ≡ stx) ⊎ (octet ≡ eot)))
 
 -- 60: the sink is told of the octet: message and story can continue with it, and it is one of the text, but no CR.
 abbrev pub IsTold : List ℕ → ℕ → Type 0

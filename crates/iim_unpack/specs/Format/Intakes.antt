@@ -1,6 +1,7 @@
 -- What an intake has next in line.
-use Rattle.std.specs.Prelude.{◌≡◌, ℕ, ◌-◌, ◌^◌, ◌<◌, ◌⊎◌, ⊤, false, List, [], ◌++◌, length, take, slice_index, Option, None, Some}
+use Rattle.std.specs.Prelude.{◌≡◌, ℕ, ◌^◌, ◌<◌, ◌⊎◌, ⊤, false, List, [], ◌++◌, length, take, slice_index, Option, None, Some}
 use Rattle.std.specs.Io.KnownBytes.{IsAtEnd}
+use Rattle.iim_dataset.specs.Format.Octets.{greatest_u64}
 use Rattle.iim_dataset.specs.Format.Devices.{Device}
 use Rattle.iim_dataset.specs.Format.DeviceLaws.{HasGiven, MissedAfter}
 use Rattle.iim_dataset.specs.declared.device.IoFault.{IoFault}
@@ -150,4 +151,4 @@ Gives goes old new u a b used None = (used ≡ 0) × WasEnded old new u a b
 
 -- Open octets are fewer than a count of 64 bits tells.
 abbrev pub OpenOctetsAreBounded : Type 0
-OpenOctetsAreBounded = (limits : Limits) (octets : List ℕ) → limits.octets < 2 ^ 32 → limits.fields < 2 ^ 32 → IsOpen limits octets → length octets < 2 ^ 64 - 1
+OpenOctetsAreBounded = (limits : Limits) (octets : List ℕ) → limits.octets < 2 ^ 32 → limits.fields < 2 ^ 32 → IsOpen limits octets → length octets < greatest_u64

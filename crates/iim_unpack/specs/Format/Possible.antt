@@ -1,5 +1,5 @@
 -- Places at which an envelope can be, and the limits that they keep.
-use Rattle.std.specs.Prelude.{◌≡◌, ◌↔◌, ℕ, ◌+◌, ◌^◌, ◌-◌, ◌⊎◌, ◌≤◌, true, ⊤, Option, None, Some, if◌then◌else◌, List, length}
+use Rattle.std.specs.Prelude.{◌≡◌, ◌↔◌, ℕ, ◌+◌, ◌⊎◌, ◌≤◌, true, ⊤, Option, None, Some, if◌then◌else◌, List, length}
 use Rattle.iim_fields.specs.Format.Faults.{is_kept, joined}
 use Rattle.iim_fields.specs.Format.Standing.{IsWithin}
 use Rattle.iim_fields.specs.declared.limits.Limits.{Limits}
@@ -7,13 +7,14 @@ use Rattle.iim_unpack.specs.Format.Admitted.{Value}
 use Rattle.iim_unpack.specs.Format.Open.{IsOpen}
 use Rattle.iim_unpack.specs.Format.Streams.{IsEnvelopeWithin}
 use Rattle.iim_unpack.specs.Format.Tickets.{Place, Phase, TagBegun, DataBegun, AllEnded, IsPlaceOf}
+use Rattle.iim_dataset.specs.Format.Octets.{greatest_u32}
 use Rattle.iim_dataset.specs.Format.Tags.{BeginsTag}
 use Rattle.iim_fields.specs.Format.Values.{tells_number}
 use Rattle.std.specs.List.{AllByRecursion}
 
 -- the widest limits: 4,294,967,295 octets and as many fields
 abbrev pub widest : Limits
-widest = record { octets = 2 ^ 32 - 1; fields = 2 ^ 32 - 1 }
+widest = record { octets = greatest_u32; fields = greatest_u32 }
 
 -- The octets are open under the limits, or an envelope within them.
 abbrev pub AreOpenOrWhole : Limits → List ℕ → Type 0
@@ -31,7 +32,7 @@ abbrev pub count_octets_before : ℕ
 count_octets_before = 4
 
 abbrev pub greatest_size_before : ℕ
-greatest_size_before = 4_294_967_295
+greatest_size_before = greatest_u32
 
 abbrev pub IsSmall : Option ℕ → Type 0
 IsSmall None = ⊤

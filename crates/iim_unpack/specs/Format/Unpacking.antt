@@ -1,5 +1,6 @@
 -- Where an unpacker stands, and what it answers.
-use Rattle.std.specs.Prelude.{◌≡◌, ℕ, ◌+◌, ◌^◌, ◌-◌, ◌<◌, ◌≤◌, min, true, false, List, [], ◌∷◌, ◌++◌, length, take, slice_index, Option, None, Bool}
+use Rattle.std.specs.Prelude.{◌≡◌, ℕ, ◌+◌, ◌<◌, ◌≤◌, min, true, false, List, [], ◌∷◌, ◌++◌, length, take, slice_index, Option, None, Bool}
+use Rattle.iim_dataset.specs.Format.Octets.{greatest_u64}
 use Rattle.iim_dataset.specs.Format.Datasets.{count_octets}
 use Rattle.iim_dataset.specs.Format.Events.{DatasetEvent}
 use Rattle.iim_dataset.specs.Format.Places.{LeadsTo, between}
@@ -32,7 +33,7 @@ pub record Unpacking : Type 0 where
 
 -- a count, raised by n; it stays at the greatest number of 64 bits
 abbrev pub raised : ℕ → ℕ → ℕ
-raised a n = min (a + n) (2 ^ 64 - 1)
+raised a n = min (a + n) greatest_u64
 
 -- there is an octet
 abbrev pub are_some : List ℕ → Bool

@@ -1,6 +1,7 @@
 -- The classes of octets that the parts of a message are made of, and parts of bounded length.
 use Rattle.std.specs.Prelude.{ℕ, ◌≤◌, Bool, ◌&&◌, ◌||◌, ◌==◌, not, nat_lt, IsTrue, List, length}
 use Rattle.std.specs.List.{list_all}
+use Rattle.iim_dataset.specs.Format.Characters.{nul, etx, lf, cr, syn, sp}
 use Rattle.iim_dataset.specs.Format.Octets.{within, is_digit, is_letter}
 
 abbrev pub is_alphanumeric : ℕ → Bool
@@ -8,19 +9,19 @@ is_alphanumeric b = is_letter b || is_digit b
 
 -- 20 to 7E and 80 to FF
 abbrev pub is_info_octet : ℕ → Bool
-is_info_octet b = within 32 126 b || within 128 255 b
+is_info_octet b = within sp 0x7e b || within 0x80 0xff b
 
 -- the same, LF and CR
 abbrev pub is_trailer_octet : ℕ → Bool
-is_trailer_octet b = is_info_octet b || b == 10 || b == 13
+is_trailer_octet b = is_info_octet b || b == lf || b == cr
 
 -- NUL, LF, CR and SYN
 abbrev pub is_filler_octet : ℕ → Bool
-is_filler_octet b = b == 0 || b == 10 || b == 13 || b == 22
+is_filler_octet b = b == nul || b == lf || b == cr || b == syn
 
 -- To the message the text is any octets but ETX.
 abbrev pub is_text_octet : ℕ → Bool
-is_text_octet b = nat_lt b 256 && not (b == 3)
+is_text_octet b = nat_lt b 256 && not (b == etx)
 
 -- Each octet passes the test.
 abbrev pub Are : (ℕ → Bool) → List ℕ → Type 0
@@ -29,3 +30,30 @@ Are test xs = IsTrue (list_all test xs)
 -- least to most octets that pass the test
 abbrev pub IsField : (ℕ → Bool) → ℕ → ℕ → List ℕ → Type 0
 IsField test least most xs = Are test xs × (least ≤ length xs) × (length xs ≤ most)
+
+-- ---- how many octets the parts have at most
+
+-- filler before SOH and after EOT, and the gap
+abbrev pub max_filler : ℕ
+max_filler = 32
+
+abbrev pub max_source : ℕ
+max_source = 8
+
+abbrev pub max_number : ℕ
+max_number = 8
+
+abbrev pub max_priority : ℕ
+max_priority = 1
+
+abbrev pub max_category : ℕ
+max_category = 8
+
+abbrev pub max_words : ℕ
+max_words = 6
+
+abbrev pub max_info : ℕ
+max_info = 64
+
+abbrev pub max_trailer : ℕ
+max_trailer = 64

@@ -1,6 +1,7 @@
 -- What holds of all messages, and where a reader of messages stands.
 use Rattle.std.specs.Prelude.{◌≡◌, ◌↔◌, ℕ, ◌==◌, IsTrue, List, ◌++◌, Option, Some, IsSome}
 use Rattle.std.specs.List.{list_any}
+use Rattle.iim_dataset.specs.Format.Characters.{stx}
 use Rattle.wire_story.specs.Format.Texts.{packed_text, IsText, MakeText}
 use Rattle.wire_message.specs.Format.Messages.{Header, IsHeader, IsTrailer, IsMessage, BeginsWithHeader}
 use Rattle.wire_message.specs.Format.Canonical.{canonical}
@@ -59,7 +60,7 @@ OctetsAreRefusedAlike = (octets others text other : List ℕ) (place : Place) (c
 
 -- A header is told where STX has come, and nowhere else; and it is the one with which the octets begin.
 pub record TellsHeaderOf (reader : Option Place) (octets : List ℕ) : Type 0 where
-  pub told : IsSome (head_read reader) ↔ IsTrue (list_any (λ b. b == 2) octets)
+  pub told : IsSome (head_read reader) ↔ IsTrue (list_any (λ b. b == stx) octets)
   pub parts : (head : Header) → (head_read reader ≡ Some head) ↔ BeginsWithHeader octets head
 
 -- A reader that stands at octets tells their header.

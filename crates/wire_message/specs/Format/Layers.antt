@@ -1,6 +1,7 @@
 -- The message layer and the story layer of an object: their languages, and with which octets they can continue.
 use Rattle.std.specs.Prelude.{◌≡◌, ℕ, ◌==◌, if◌then◌else◌, List, [], ◌∷◌, ◌++◌, map}
 use Rattle.std.specs.List.{before_first, after_first, list_any}
+use Rattle.iim_dataset.specs.Format.Characters.{stx, etx, eot}
 use Rattle.iim_dataset.specs.Format.Languages.{IsAlive, DiesAt}
 use Rattle.wire_story.specs.Format.Tokens.{OctetOrEnd, Octet, End, with_end, StoryLanguage}
 use Rattle.wire_message.specs.Format.Messages.{Header, IsMessage}
@@ -24,20 +25,20 @@ MessageDiesAt octets token = DiesAt MessageLanguage (map Octet octets) token
 
 -- what stands after STX
 abbrev pub after_stx : List ℕ → List ℕ
-after_stx octets = after_first (λ b. b == 2) octets
+after_stx octets = after_first (λ b. b == stx) octets
 
 -- the text so far: what stands after STX and before ETX
 abbrev pub text_so_far : List ℕ → List ℕ
-text_so_far octets = before_first (λ b. b == 3) (after_stx octets)
+text_so_far octets = before_first (λ b. b == etx) (after_stx octets)
 
 -- the trailer so far: what stands after ETX, which ends the text, and before EOT
 abbrev pub trailer_so_far : List ℕ → List ℕ
-trailer_so_far octets = before_first (λ b. b == 4) (after_first (λ b. b == 3) (after_stx octets))
+trailer_so_far octets = before_first (λ b. b == eot) (after_first (λ b. b == etx) (after_stx octets))
 
 -- the story's tokens of the octets so far: the text has ended where an ETX stands after STX
 abbrev pub story_tokens_of : List ℕ → List OctetOrEnd
 story_tokens_of octets = map Octet (text_so_far octets)
-    ++ (if list_any (λ b. b == 3) (after_stx octets) then End ∷ [] else [])
+    ++ (if list_any (λ b. b == etx) (after_stx octets) then End ∷ [] else [])
 
 -- The story of the object can continue from the octets.
 abbrev pub StoryLivesIn : List ℕ → Type 0

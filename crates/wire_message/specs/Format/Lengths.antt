@@ -1,5 +1,6 @@
 -- How many octets lead to a place.
 use Rattle.std.specs.Prelude.{◌≡◌, ℕ, ◌+◌, ◌≤◌, List, length, Option, Some, None, IfSome}
+use Rattle.wire_message.specs.Format.Fields.{max_filler}
 use Rattle.wire_message.specs.Format.Messages.{Header, fixed_header}
 use Rattle.wire_message.specs.Format.Canonical.{packed_info}
 use Rattle.wire_message.specs.Format.Reading.{StandsAt}
@@ -43,8 +44,8 @@ least_of (AfterEnd h t count) = least_head h + 2 + length t.items + count
 -- may be of any length.
 abbrev pub greatest_of : Place → Option ℕ
 greatest_of (Filler count) = Some count
-greatest_of (Gap h count feed) = Some (32 + (fixed_octets h + 1 + length h.info + count))
+greatest_of (Gap h count feed) = Some (max_filler + (fixed_octets h + 1 + length h.info + count))
 greatest_of (Text h reader) = None
 greatest_of (Trailer h t) = None
 greatest_of (AfterEnd h t count) = None
-greatest_of place = Some (32 + least_of place)
+greatest_of place = Some (max_filler + least_of place)

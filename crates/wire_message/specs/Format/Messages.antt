@@ -1,7 +1,8 @@
 -- The message: filler, SOH, header, gap, STX, text, ETX, trailer, EOT, filler.
 use Rattle.std.specs.Prelude.{◌≡◌, ℕ, Bool, ◌==◌, ◌⊎◌, IsTrue, List, [], ◌∷◌, ◌++◌}
 use Rattle.std.specs.List.{list_any}
-use Rattle.wire_message.specs.Format.Fields.{Are, IsField, is_alphanumeric, is_info_octet, is_trailer_octet, is_filler_octet, is_text_octet}
+use Rattle.iim_dataset.specs.Format.Characters.{soh, stx, etx, eot, lf, sp}
+use Rattle.wire_message.specs.Format.Fields.{Are, IsField, is_alphanumeric, is_info_octet, is_trailer_octet, is_filler_octet, is_text_octet, max_filler, max_source, max_number, max_priority, max_category, max_words, max_info, max_trailer}
 use Rattle.iim_dataset.specs.Format.Octets.{is_digit, is_letter}
 
 -- what a header says
@@ -20,36 +21,36 @@ header_of source number priority category words info =
 
 -- A header: each part has one of its lengths and is made of its octets.
 pub record IsHeader (head : Header) : Type 0 where
-  pub source : IsField is_letter 1 8 head.source
-  pub number : IsField is_digit 1 8 head.number
-  pub priority : IsField is_digit 1 1 head.priority
-  pub category : IsField is_alphanumeric 1 8 head.category
-  pub words : IsField is_digit 1 6 head.words
-  pub info : IsField is_info_octet 0 64 head.info
+  pub source : IsField is_letter 1 max_source head.source
+  pub number : IsField is_digit 1 max_number head.number
+  pub priority : IsField is_digit 1 max_priority head.priority
+  pub category : IsField is_alphanumeric 1 max_category head.category
+  pub words : IsField is_digit 1 max_words head.words
+  pub info : IsField is_info_octet 0 max_info head.info
 
 -- A trailer: up to 64 octets, line ends among them.
 abbrev pub IsTrailer : List ℕ → Type 0
-IsTrailer xs = IsField is_trailer_octet 0 64 xs
+IsTrailer xs = IsField is_trailer_octet 0 max_trailer xs
 
 -- Filler: up to 32 octets that mean nothing.
 abbrev pub IsFiller : List ℕ → Type 0
-IsFiller xs = IsField is_filler_octet 0 32 xs
+IsFiller xs = IsField is_filler_octet 0 max_filler xs
 
 -- One of the octets is LF.
 abbrev pub has_feed : List ℕ → Bool
-has_feed xs = list_any (λ b. b == 10) xs
+has_feed xs = list_any (λ b. b == lf) xs
 
 -- A gap: filler octets, at least one of them LF.
 abbrev pub IsGap : List ℕ → Type 0
-IsGap xs = IsField is_filler_octet 1 32 xs × IsTrue (has_feed xs)
+IsGap xs = IsField is_filler_octet 1 max_filler xs × IsTrue (has_feed xs)
 
 -- nothing for an empty info, or SP and the info
 abbrev pub SpellsInfo : List ℕ → List ℕ → Type 0
-SpellsInfo info xs = ((info ≡ []) × (xs ≡ [])) ⊎ (xs ≡ 32 ∷ info)
+SpellsInfo info xs = ((info ≡ []) × (xs ≡ [])) ⊎ (xs ≡ sp ∷ info)
 
 -- source, number, SP, priority, SP, category, SP, words
 abbrev pub fixed_header : Header → List ℕ
-fixed_header head = head.source ++ (head.number ++ (32 ∷ head.priority ++ (32 ∷ head.category ++ (32 ∷ head.words))))
+fixed_header head = head.source ++ (head.number ++ (sp ∷ head.priority ++ (sp ∷ head.category ++ (sp ∷ head.words))))
 
 -- The object is a message with this header, text and trailer.
 pub record IsMessage (object : List ℕ) (head : Header) (text trailer : List ℕ) : Type 0 where
@@ -64,7 +65,7 @@ pub record IsMessage (object : List ℕ) (head : Header) (text trailer : List �
   pub is_text : Are is_text_octet text
   pub is_trailer : IsTrailer trailer
   pub is_after : IsFiller after
-  pub parts : object ≡ before ++ (1 ∷ fixed_header head ++ (info ++ (gap ++ (2 ∷ text ++ (3 ∷ trailer ++ (4 ∷ after))))))
+  pub parts : object ≡ before ++ (soh ∷ fixed_header head ++ (info ++ (gap ++ (stx ∷ text ++ (etx ∷ trailer ++ (eot ∷ after))))))
 
 -- The octets are a message with this header up to STX, and then any octets.
 pub record BeginsWithHeader (octets : List ℕ) (head : Header) : Type 0 where
@@ -76,4 +77,4 @@ pub record BeginsWithHeader (octets : List ℕ) (head : Header) : Type 0 where
   pub is_header : IsHeader head
   pub is_info : SpellsInfo head.info info
   pub is_gap : IsGap gap
-  pub parts : octets ≡ before ++ (1 ∷ fixed_header head ++ (info ++ (gap ++ (2 ∷ rest))))
+  pub parts : octets ≡ before ++ (soh ∷ fixed_header head ++ (info ++ (gap ++ (stx ∷ rest))))

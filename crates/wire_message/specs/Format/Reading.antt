@@ -1,5 +1,6 @@
 -- Where a reader of messages stands, and why it refuses an octet.
 use Rattle.std.specs.Prelude.{◌≡◌, ◌≢◌, ℕ, ◌<◌, List, [], ◌∷◌, ◌++◌, length, take, slice_index, Bool, true, false, Option, Some, None}
+use Rattle.iim_dataset.specs.Format.Characters.{cr}
 use Rattle.iim_dataset.specs.Format.Devices.{Rose}
 use Rattle.wire_story.specs.Format.Texts.{AreLines, Holds}
 use Rattle.wire_story.specs.Format.Delivery.{StoryEvent, delivered}
@@ -52,7 +53,7 @@ HasCause LoneReturn octets octet = MessageLivesWith (octets ++ octet ∷ []) × 
 HasCause ControlOctet octets octet = MessageLivesWith (octets ++ octet ∷ []) × StoryDiesWith octets octet
     × Holds (text_so_far octets) 0
 HasCause Sink octets octet = MessageLivesWith (octets ++ octet ∷ []) × StoryLivesIn (octets ++ octet ∷ [])
-    × (text_so_far (octets ++ octet ∷ []) ≡ text_so_far octets ++ octet ∷ []) × (octet ≢ 13)
+    × (text_so_far (octets ++ octet ∷ []) ≡ text_so_far octets ++ octet ∷ []) × (octet ≢ cr)
 
 -- For all octets so far, the octet of the piece after the first `taken` is refused for that cause.
 abbrev pub Refuses : Option Place → List ℕ → MessageFault → Type 0

@@ -1,5 +1,6 @@
 -- What a sink is told of a text.
 use Rattle.std.specs.Prelude.{ℕ, ◌==◌, if◌then◌else◌, List, [], ◌∷◌, ◌++◌, map, flat_map}
+use Rattle.iim_dataset.specs.Format.Characters.{lf, cr}
 
 -- an octet of a line, or the end of a line
 pub data StoryEvent : Type 0 where
@@ -8,7 +9,7 @@ pub data StoryEvent : Type 0 where
 
 -- An LF ends a line. Of a CR nothing is told: it belongs to the line end that follows, or no LF has come yet.
 abbrev pub events_of : ℕ → List StoryEvent
-events_of b = if b == 10 then LineEnd ∷ [] else if b == 13 then [] else LineOctet b ∷ []
+events_of b = if b == lf then LineEnd ∷ [] else if b == cr then [] else LineOctet b ∷ []
 
 -- what is delivered of octets of a text, whole or not
 abbrev pub delivered : List ℕ → List StoryEvent
@@ -23,4 +24,4 @@ events_of_lines (line ∷ next ∷ lines) = map LineOctet line ++ (LineEnd ∷ e
 -- the octet that stands for an event where lines are joined by LF
 abbrev pub octet_for : StoryEvent → ℕ
 octet_for (LineOctet b) = b
-octet_for LineEnd = 10
+octet_for LineEnd = lf

@@ -1,6 +1,7 @@
 -- What holds of all texts.
 use Rattle.std.specs.Prelude.{◌≡◌, ◌↔◌, ℕ, List, [], ◌∷◌, ◌++◌, map, Option}
 use Rattle.std.specs.List.{join_with_byte}
+use Rattle.iim_dataset.specs.Format.Characters.{lf}
 use Rattle.iim_dataset.specs.Format.Languages.{IsAlive}
 use Rattle.wire_story.specs.Format.Texts.{IsText, IsTextSoFar, Holds, AreLines, MakeText, packed_text}
 use Rattle.wire_story.specs.Format.Delivery.{delivered, events_of_lines, octet_for}
@@ -52,7 +53,7 @@ LinesOfATextMakeOne = (x : List ℕ) (lines : List (List ℕ)) → IsText x line
 
 -- The octets for lines, as they are delivered, are the lines joined by LF.
 abbrev pub LinesAreJoinedByLineFeeds : Type 0
-LinesAreJoinedByLineFeeds = (lines : List (List ℕ)) → map octet_for (events_of_lines lines) ≡ join_with_byte 10 lines
+LinesAreJoinedByLineFeeds = (lines : List (List ℕ)) → map octet_for (events_of_lines lines) ≡ join_with_byte lf lines
 
 -- Collected from one empty line on, what is delivered of a text are its lines.
 abbrev pub TextsAreCollectedAsLines : Type 0

@@ -1,7 +1,8 @@
 -- Where a reader of a text stands, and why it refuses an octet.
 use Rattle.std.specs.Prelude.{◌≡◌, ◌≢◌, ℕ, ◌<◌, ◌≤◌, List, [], ◌∷◌, ◌++◌, length, take, slice_index, Option, Some}
+use Rattle.iim_dataset.specs.Format.Characters.{soh, eot, lf, cr}
 use Rattle.iim_dataset.specs.Format.Devices.{Rose}
-use Rattle.wire_story.specs.Format.Texts.{Holds}
+use Rattle.wire_story.specs.Format.Texts.{Holds, max_returns}
 use Rattle.wire_story.specs.Format.Delivery.{StoryEvent, delivered}
 use Rattle.wire_story.specs.Format.Tokens.{Octet, LivesWith, StoryDiesAt}
 use Rattle.wire_story.specs.declared.fault.TextCause.{TextCause}
@@ -14,7 +15,7 @@ StandsAt reader octets = (held : ℕ) × (reader ≡ Some held) × Holds octets 
 
 -- The reader takes calls, and holds two CR at most.
 abbrev pub IsPlace : Option ℕ → Type 0
-IsPlace reader = (held : ℕ) × (reader ≡ Some held) × (held ≤ 2)
+IsPlace reader = (held : ℕ) × (reader ≡ Some held) × (held ≤ max_returns)
 
 -- A piece leads a reader on: for all octets so far at which it stood, it then stands at these and the piece.
 abbrev pub LeadsOn : Option ℕ → List ℕ → Option ℕ → Type 0
@@ -22,17 +23,17 @@ LeadsOn old piece new = (octets : List ℕ) → StandsAt old octets → StandsAt
 
 -- after `held` CR an octet that is neither LF nor one of the first two CR
 abbrev pub IsLoneReturn : ℕ → ℕ → Type 0
-IsLoneReturn held octet = (0 < held) × (octet ≢ 10) × (octet ≡ 13 → held ≡ 2)
+IsLoneReturn held octet = (0 < held) × (octet ≢ lf) × (octet ≡ cr → held ≡ max_returns)
 
 -- SOH, STX, ETX or EOT
 abbrev pub IsControl : ℕ → Type 0
-IsControl octet = (1 ≤ octet) × (octet ≤ 4)
+IsControl octet = (soh ≤ octet) × (octet ≤ eot)
 
 -- Why an octet is refused after others: the story dies with it, or it lives and the sink refuses what it is told.
 abbrev pub HasCause : TextCause → List ℕ → ℕ → Type 0
 HasCause LoneReturn octets octet = StoryDiesAt octets (Octet octet) × ((held : ℕ) × Holds octets held × IsLoneReturn held octet)
 HasCause ControlOctet octets octet = StoryDiesAt octets (Octet octet) × Holds octets 0 × IsControl octet
-HasCause Sink octets octet = LivesWith (octets ++ octet ∷ []) × (octet ≢ 13)
+HasCause Sink octets octet = LivesWith (octets ++ octet ∷ []) × (octet ≢ cr)
 
 -- For all octets so far at which the reader stood, the octet after the first `taken` of the piece is refused for that cause.
 abbrev pub Refuses : Option ℕ → List ℕ → TextFault → Type 0

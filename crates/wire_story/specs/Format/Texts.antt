@@ -1,25 +1,30 @@
 -- The text of a story: its lines, and the ends of lines.
 use Rattle.std.specs.Prelude.{◌≡◌, ℕ, ◌<◌, ◌≤◌, Bool, not, ◌&&◌, ◌||◌, nat_lt, ◌==◌, IsTrue, List, [], ◌∷◌, ◌++◌, length, replicate}
 use Rattle.std.specs.List.{list_all}
+use Rattle.iim_dataset.specs.Format.Characters.{soh, stx, etx, eot, lf, cr}
 
 -- any octet but SOH, STX, ETX, EOT, LF and CR
 abbrev pub is_line_octet : ℕ → Bool
-is_line_octet b = nat_lt b 256 && not (b == 1 || b == 2 || b == 3 || b == 4 || b == 10 || b == 13)
+is_line_octet b = nat_lt b 256 && not (b == soh || b == stx || b == etx || b == eot || b == lf || b == cr)
 
 -- Each of the octets may stand in a line.
 abbrev pub IsLine : List ℕ → Type 0
 IsLine xs = IsTrue (list_all is_line_octet xs)
 
+-- the most CR of a line end
+abbrev pub max_returns : ℕ
+max_returns = 2
+
 -- a line end: LF with `returns` CR before it
 abbrev pub line_end : ℕ → List ℕ
-line_end returns = replicate returns 13 ++ 10 ∷ []
+line_end returns = replicate returns cr ++ lf ∷ []
 
 -- A text is its lines, one at least, with a line end of up to two CR between each two.
 abbrev pub IsText : List ℕ → List (List ℕ) → Type 0
 IsText x [] = ⊥
 IsText x (line ∷ []) = IsLine line × (x ≡ line)
 IsText x (line ∷ next ∷ lines) = IsLine line
-    × (returns : ℕ) × (returns ≤ 2)
+    × (returns : ℕ) × (returns ≤ max_returns)
     × (rest : List ℕ) × (x ≡ line ++ (line_end returns ++ rest))
     × IsText rest (next ∷ lines)
 
@@ -29,9 +34,9 @@ AreLines x = (lines : List (List ℕ)) × IsText x lines
 
 -- A text so far is whole lines with their ends, the begun line, and up to two CR that no LF has followed yet.
 abbrev pub IsTextSoFar : List ℕ → List (List ℕ) → List ℕ → ℕ → Type 0
-IsTextSoFar x [] line held = IsLine line × (held ≤ 2) × (x ≡ line ++ replicate held 13)
+IsTextSoFar x [] line held = IsLine line × (held ≤ max_returns) × (x ≡ line ++ replicate held cr)
 IsTextSoFar x (first ∷ lines) line held = IsLine first
-    × (returns : ℕ) × (returns ≤ 2)
+    × (returns : ℕ) × (returns ≤ max_returns)
     × (rest : List ℕ) × (x ≡ first ++ (line_end returns ++ rest))
     × IsTextSoFar rest lines line held
 

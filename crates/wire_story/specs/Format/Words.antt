@@ -1,11 +1,13 @@
 -- The words of lines, and a count of words that grows by what a sink is told.
-use Rattle.std.specs.Prelude.{◌≡◌, ℕ, ◌+◌, ◌-◌, ◌^◌, ◌<◌, min, Bool, false, not, ◌&&◌, ◌||◌, ◌==◌, if◌then◌else◌, IsTrue, List, [], ◌∷◌, ◌++◌, length}
+use Rattle.std.specs.Prelude.{◌≡◌, ℕ, ◌+◌, ◌^◌, ◌<◌, min, Bool, false, not, ◌&&◌, ◌||◌, ◌==◌, if◌then◌else◌, IsTrue, List, [], ◌∷◌, ◌++◌, length}
 use Rattle.std.specs.List.{list_all, sum_by}
+use Rattle.iim_dataset.specs.Format.Octets.{greatest_u64}
+use Rattle.iim_dataset.specs.Format.Characters.{tab, sp}
 use Rattle.wire_story.specs.Format.Delivery.{StoryEvent, LineOctet, LineEnd}
 
 -- any octet but SP and TAB
 abbrev pub is_word_octet : ℕ → Bool
-is_word_octet b = not (b == 32 || b == 9)
+is_word_octet b = not (b == sp || b == tab)
 
 -- One where a word begins with the octet: it is of a word, and the one before it in its line is not.
 abbrev pub begun_with : Bool → ℕ → ℕ
@@ -54,7 +56,7 @@ pub record WordsSoFar : Type 0 where
 
 -- the greatest count
 abbrev pub capped : ℕ → ℕ
-capped n = min n (2 ^ 64 - 1)
+capped n = min n greatest_u64
 
 -- how many words begin in the events, where those before them end inside a word or not
 abbrev pub words_told : Bool → List StoryEvent → ℕ

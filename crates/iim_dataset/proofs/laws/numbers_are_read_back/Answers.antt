@@ -1,4 +1,4 @@
-use Rattle.iim_dataset.specs.WrittenNumbers.{number_octets, some_octets, few_octets, number_back}
+use Rattle.iim_dataset.proofs.WrittenNumbers.{number_octets, some_octets, few_octets, number_back}
 use Rattle.iim_dataset.proofs.laws.numbers_are_read_back.Goals as goal
 
 pub returns : goal.returns

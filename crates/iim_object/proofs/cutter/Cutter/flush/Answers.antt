@@ -2,7 +2,7 @@ use Rattle.std.proofs.Common.{ℕ, List, ◌+◌, true, refl, subst, arith}
 use Rattle.iim_dataset.specs.Format.Datasets.{canonical_dataset}
 use Rattle.iim_object.specs.Format.Packing.{subfile_dataset}
 use Rattle.iim_object.specs.Outputs.{Puts, Cuts}
-use Rattle.iim_dataset.specs.WrittenNumbers.{dataset_length}
+use Rattle.iim_dataset.proofs.WrittenNumbers.{dataset_length}
 use Rattle.iim_object.proofs.Rooms.{room_flushed, room_halted}
 use Rattle.iim_object.proofs.cutter.Cutter.flush.Goals as goal
 

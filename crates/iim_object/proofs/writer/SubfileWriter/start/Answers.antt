@@ -5,7 +5,7 @@ use Rattle.iim_object.specs.Format.Packing.{plan_datasets}
 use Rattle.iim_object.specs.Format.Writing.{plan_octets, octets_out}
 use Rattle.iim_object.specs.Outputs.{Cuts}
 use Rattle.iim_object.specs.declared.plan.Plan.{Plan}
-use Rattle.iim_object.specs.PlanLengths.{plan_length}
+use Rattle.iim_object.proofs.PlanLengths.{plan_length}
 use Rattle.iim_object.proofs.writer.SubfileWriter.start.Goals as goal
 
 -- nothing but record 7 is out

@@ -1,0 +1,70 @@
+-- Octets by their names in ISO 646, and those of a few of its other characters.
+use Rattle.std.specs.Prelude.{ℕ}
+
+-- NUL, null
+abbrev pub nul : ℕ
+nul = 0x00
+
+-- SOH, start of heading
+abbrev pub soh : ℕ
+soh = 0x01
+
+-- STX, start of text
+abbrev pub stx : ℕ
+stx = 0x02
+
+-- ETX, end of text
+abbrev pub etx : ℕ
+etx = 0x03
+
+-- EOT, end of transmission
+abbrev pub eot : ℕ
+eot = 0x04
+
+-- HT, horizontal tabulation
+abbrev pub tab : ℕ
+tab = 0x09
+
+-- LF, line feed
+abbrev pub lf : ℕ
+lf = 0x0a
+
+-- CR, carriage return
+abbrev pub cr : ℕ
+cr = 0x0d
+
+-- SYN, synchronous idle
+abbrev pub syn : ℕ
+syn = 0x16
+
+-- SP, space
+abbrev pub sp : ℕ
+sp = 0x20
+
+-- +
+abbrev pub plus : ℕ
+plus = 0x2b
+
+-- -
+abbrev pub minus : ℕ
+minus = 0x2d
+
+-- 0
+abbrev pub digit_zero : ℕ
+digit_zero = 0x30
+
+-- :
+abbrev pub colon : ℕ
+colon = 0x3a
+
+-- A
+abbrev pub capital_a : ℕ
+capital_a = 0x41
+
+-- the reverse solidus, \
+abbrev pub backslash : ℕ
+backslash = 0x5c
+
+-- x
+abbrev pub small_x : ℕ
+small_x = 0x78
