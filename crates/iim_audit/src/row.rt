@@ -5,6 +5,7 @@ ghost use Rattle.std.specs.Str.Parse.{digits_value};
 ghost use Rattle.wire_message.specs.Format.Fields.{IsField};
 ghost use Rattle.iim_dataset.specs.Format.Octets.{is_digit};
 ghost use Rattle.iim_unpack.specs.Format.Admitted.{Value};
+ghost use Rattle.iim_audit.specs.Lines.{IsShort};
 ghost use Rattle.iim_audit.specs.Taking.{IsTaken};
 ghost use Rattle.iim_audit.specs.Format.Rows.{row_with};
 
@@ -28,9 +29,9 @@ pub struct AuditRow {
     /// How many whole seconds ago it was sent, below zero for the future; None where it names no instant.
     pub age: Option<i64>,
     /// The words that its message announces.
-    pub announced: u64,
+    pub announced: u32,
     /// The number of the first envelope with the same id, where that came before.
-    pub first: Option<u64>,
+    pub first: Option<u32>,
     /// The digit of 1:60 Envelope Priority, as an octet, where it was sent.
     pub priority: Option<u8>,
     /// Whether the copy may be used now.
@@ -45,21 +46,22 @@ pub(crate) struct Taken {
 }
 
 /// The number that up to six digits write.
-fn number_of(digits: &[u8]) -> u64
+fn number_of(digits: &[u8]) -> u32
     requires { IsField is_digit 1 6 digits.now }
     ensures value { result ≡ digits_value 10 digits.now }
     ensures small { result < 1000000 }
 {
     let mut number = 0;
     for digit in digits {
-        number = 10 * number + u64::from(*digit - b'0');
+        number = 10 * number + u32::from(*digit - b'0');
     }
     number
 }
 
 /// The row of an envelope that repeats none.
 pub(crate) fn row_of(got: &Taken, now: Timestamp) -> AuditRow
-    ensures { (v : Value) → IsTaken got.now v → result ≡ row_with now.nanosecond v None }
+    ensures row { (v : Value) → IsTaken got.now v → result ≡ row_with now.nanosecond v None }
+    ensures short { IsShort result.id }
 {
     let unpacked = &got.unpacked;
     AuditRow {

@@ -119,7 +119,7 @@ impl Ord for EnvelopeId {
     fn cmp(&self, other: &EnvelopeId) -> Ordering {
         self.service()
             .cmp(&other.service())
-            .then(self.number().cmp(&other.number()))
-            .then(self.date_sent().cmp(&other.date_sent()))
+            .then_with(|| self.number().cmp(&other.number()))
+            .then_with(|| self.date_sent().cmp(&other.date_sent()))
     }
 }
