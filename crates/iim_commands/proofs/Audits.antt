@@ -1,5 +1,5 @@
 -- What stops an audit's report.
-use Rattle.std.proofs.Common.{◌≡◌, ℕ, ◌+◌, ◌<◌, ◌≤◌, ℤ, inl, inr, refl, sym, ap, subst, ◌∙◌, List, [], ◌∷◌, ◌++◌, length, take, drop, append_assoc, arith, Result, Ok, Err, OnOk, IfErr}
+use Rattle.std.proofs.Common.{◌≡◌, ℕ, ◌+◌, ◌<◌, ℤ, inl, inr, refl, sym, ap, subst, ◌∙◌, List, [], ◌∷◌, ◌++◌, length, take, drop, append_assoc, arith, Result, Ok, Err, OnOk, IfErr}
 use Rattle.std.proofs.lemmas.List.{take-append-drop}
 use Rattle.iim_dataset.specs.Format.Devices.{Device}
 use Rattle.iim_dataset.specs.Format.DeviceLaws.{TextsJoin}
