@@ -60,7 +60,7 @@ fn tell_first(row: &mut AuditRow, group: u32, at: u32)
     ensures id { row.new.id ≡ row.old.id }
 {
     if group < at {
-        row.first = Some(group + 1);
+        row.first = Some(u64::from(group) + 1);
     }
 }
 

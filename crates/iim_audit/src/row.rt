@@ -29,9 +29,9 @@ pub struct AuditRow {
     /// How many whole seconds ago it was sent, below zero for the future; None where it names no instant.
     pub age: Option<i64>,
     /// The words that its message announces.
-    pub announced: u32,
+    pub announced: u64,
     /// The number of the first envelope with the same id, where that came before.
-    pub first: Option<u32>,
+    pub first: Option<u64>,
     /// The digit of 1:60 Envelope Priority, as an octet, where it was sent.
     pub priority: Option<u8>,
     /// Whether the copy may be used now.
@@ -46,14 +46,14 @@ pub(crate) struct Taken {
 }
 
 /// The number that up to six digits write.
-fn number_of(digits: &[u8]) -> u32
+fn number_of(digits: &[u8]) -> u64
     requires { IsField is_digit 1 6 digits.now }
     ensures value { result ≡ digits_value 10 digits.now }
     ensures small { result < 1000000 }
 {
     let mut number = 0;
     for digit in digits {
-        number = 10 * number + u32::from(*digit - b'0');
+        number = 10 * number + u64::from(*digit - b'0');
     }
     number
 }

@@ -23,10 +23,10 @@ fn push_seconds(line: &mut ReportLine, seconds: Option<i64>)
 }
 
 /// Adds a number, or `-` where there is none.
-fn push_number_or_dash(line: &mut ReportLine, number: Option<u32>)
-    requires { length line.old + 10 ≤ 272 }
+fn push_number_or_dash(line: &mut ReportLine, number: Option<u64>)
+    requires { length line.old + 20 ≤ 272 }
     ensures octets { line.new ≡ line.old ++ number_or_dash number }
-    ensures len { length line.new ≤ length line.old + 10 }
+    ensures len { length line.new ≤ length line.old + 20 }
 {
     match number {
         None => line.push(b"-"),
