@@ -4,5 +4,6 @@ pub mod Firsts
 pub mod Lines
 pub mod Reading
 pub mod Rows
+pub mod ShortIds
 pub mod Taking
 pub mod Texts

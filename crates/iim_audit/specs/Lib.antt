@@ -3,5 +3,6 @@ pub mod Format
 -- What only proofs and private clauses cite.
 pub mod Faults
 pub mod Ledgers
+pub mod Lines
 pub mod Repeats
 pub mod Taking

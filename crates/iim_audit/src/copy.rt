@@ -1,6 +1,6 @@
 //! Whether copy may be used now.
 
-ghost use Rattle.std.specs.Prelude.{◌≡◌, Some};
+ghost use Rattle.std.specs.Prelude.{◌≡◌, ◌≤◌, length, Some};
 ghost use Rattle.iim_audit.specs.Format.Copies.{copy_at};
 ghost use Rattle.iim_audit.specs.Format.Texts.{copy_word};
 
@@ -24,10 +24,20 @@ impl Display for CopyState {
     ghost output = { λ copy. Some (copy_word copy) };
 
     fn fmt<W: fmt::Write>(&self, f: &mut Formatter<W>) -> fmt::Result {
+        f.write_str(self.word())
+    }
+}
+
+impl CopyState {
+    /// What it is printed as.
+    pub(crate) fn word(self) -> &'static str
+        ensures word { result.now ≡ copy_word self }
+        ensures short { length result.now ≤ 7 }
+    {
         match self {
-            CopyState::Held => f.write_str("held"),
-            CopyState::Expired => f.write_str("expired"),
-            CopyState::Free => f.write_str("free"),
+            CopyState::Held => "held",
+            CopyState::Expired => "expired",
+            CopyState::Free => "free",
         }
     }
 }

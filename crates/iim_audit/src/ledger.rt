@@ -22,6 +22,7 @@ pub(crate) struct Ledger {
 
 impl Ledger {
     ghost use Rattle.iim_audit.specs.Ledgers.{Keeps};
+    ghost use Rattle.iim_audit.specs.Lines.{HaveShortIds};
 
     /// A ledger of no envelopes.
     pub(crate) fn new(alloc: Global) -> Ledger
@@ -46,9 +47,11 @@ impl Ledger {
     pub(crate) fn enter(&mut self, got: &Taken, now: Timestamp) -> Result<(), AllocError>
         requires few { length self.old.rows.items < 2 ^ 32 }
         requires below { All (λ i. i < length self.old.rows.items) self.old.order.items }
+        requires short { HaveShortIds self.old.rows.items }
         ensures keeps { OnOk result ((values : List Value) (v : Value) → Keeps now.nanosecond self.old values → IsTaken got.now v → Keeps now.nanosecond self.new (values ++ v ∷ [])) }
         ensures one { OnOk result (length self.new.rows.items ≡ length self.old.rows.items + 1) }
         ensures below { OnOk result (All (λ i. i < length self.new.rows.items) self.new.order.items) }
+        ensures short { OnOk result (HaveShortIds self.new.rows.items) }
     {
         let index = self.rows.len() as u32;
         self.rows.push(row_of(got, now))?;
@@ -58,7 +61,8 @@ impl Ledger {
 
     /// The report of the rows, each with its first envelope. It takes no memory.
     pub(crate) fn into_report(self) -> Report
-        requires { All (λ i. i < length self.rows.items) self.order.items }
+        requires below { All (λ i. i < length self.rows.items) self.order.items }
+        requires short { HaveShortIds self.rows.items }
         ensures { (now : ℤ) (values : List Value) → Keeps now self values → result ≡ report_of now values }
     {
         let Ledger {

@@ -57,6 +57,7 @@ fn group_of(rows: &[AuditRow], group: u32, at: u32) -> u32
 fn tell_first(row: &mut AuditRow, group: u32, at: u32)
     ensures told { group < at → row.new ≡ record (row.old) { first = Some (group + 1) } }
     ensures untold { (group < at → ⊥) → row.new ≡ row.old }
+    ensures id { row.new.id ≡ row.old.id }
 {
     if group < at {
         row.first = Some(u64::from(group) + 1);
@@ -66,7 +67,8 @@ fn tell_first(row: &mut AuditRow, group: u32, at: u32)
 /// Tells each row the number of the first one with its id, where that came before. The indices stand in the order of the ids.
 fn fill_firsts(rows: &mut [AuditRow], order: &[u32])
     requires { All (λ i. i < length rows.old) order.now }
-    ensures { IsOrder (ids_of rows.old) order.now → AreFresh rows.old → AreFilled rows.old rows.new }
+    ensures filled { IsOrder (ids_of rows.old) order.now → AreFresh rows.old → AreFilled rows.old rows.new }
+    ensures ids { ids_of rows.new ≡ ids_of rows.old }
 {
     let Some(first) = order.first() else {
         return;
@@ -82,7 +84,8 @@ fn fill_firsts(rows: &mut [AuditRow], order: &[u32])
 /// order. It takes no memory.
 pub(crate) fn tell_repeats(rows: &mut [AuditRow], order: &mut [u32])
     requires { All (λ i. i < length rows.old) order.old }
-    ensures { ((i : ℕ) → i < length rows.old → Contains order.old i) → AreFresh rows.old → AreFilled rows.old rows.new }
+    ensures filled { ((i : ℕ) → i < length rows.old → Contains order.old i) → AreFresh rows.old → AreFilled rows.old rows.new }
+    ensures ids { ids_of rows.new ≡ ids_of rows.old }
 {
     sort_by_id(rows, order);
     fill_firsts(rows, order);

@@ -18,6 +18,10 @@ impl Model for Report {
     ghost Value = { List Row };
 
     ghost view = { λ report. report.rows.items };
+
+    ghost use Rattle.iim_audit.specs.Lines.{HaveShortIds};
+
+    ghost invariant = { λ report. HaveShortIds report.rows.items };
 }
 
 impl Report {

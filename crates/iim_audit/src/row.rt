@@ -5,6 +5,7 @@ ghost use Rattle.std.specs.Str.Parse.{digits_value};
 ghost use Rattle.wire_message.specs.Format.Fields.{IsField, max_words};
 ghost use Rattle.iim_dataset.specs.Format.Octets.{is_digit};
 ghost use Rattle.iim_unpack.specs.Format.Admitted.{Value};
+ghost use Rattle.iim_audit.specs.Lines.{IsShort};
 ghost use Rattle.iim_audit.specs.Taking.{IsTaken};
 ghost use Rattle.iim_audit.specs.Format.Rows.{row_with};
 
@@ -59,7 +60,8 @@ fn number_of(digits: &[u8]) -> u64
 
 /// The row of an envelope that repeats none.
 pub(crate) fn row_of(got: &Taken, now: Timestamp) -> AuditRow
-    ensures { (v : Value) → IsTaken got.now v → result ≡ row_with now.nanosecond v None }
+    ensures row { (v : Value) → IsTaken got.now v → result ≡ row_with now.nanosecond v None }
+    ensures short { IsShort result.id }
 {
     let unpacked = &got.unpacked;
     AuditRow {

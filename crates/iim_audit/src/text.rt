@@ -1,81 +1,97 @@
 //! The text of a report.
 
-ghost use Rattle.std.specs.Prelude.{◌≡◌, ◌++◌, OnOk, IfOk, Some, string_bytes};
-ghost use Rattle.iim_audit.specs.Format.Texts.{ages_of, held_rows, is_held, known_by, repeated_rows, row_line, seconds_or_dash, sizes_of, sums_line, printed_report};
+ghost use Rattle.std.specs.Prelude.{◌≡◌, ◌+◌, ◌≤◌, [], ◌++◌, length, IfOk};
+ghost use Rattle.iim_audit.specs.Format.Texts.{ages_of, held_rows, is_held, known_by, number_or_dash, repeated_rows, row_line, seconds_or_dash, sizes_of, sums_line, printed_report};
+ghost use Rattle.iim_audit.specs.Lines.{IsShort};
 
 use crate::copy::CopyState;
-use crate::dash::NumberOrDash;
+use crate::line::ReportLine;
 use crate::report::Report;
 use crate::row::AuditRow;
-use iim_dataset::push_shown;
 use std::alloc::{AllocError, Global};
-use std::fmt;
-use std::fmt::{Display, Formatter};
 
-/// A number of seconds, or `-` where there is none.
-#[derive(Clone, Copy)]
-struct SecondsOrDash(Option<i64>);
+/// Adds a number of seconds, or `-` where there is none.
+fn push_seconds(line: &mut ReportLine, seconds: Option<i64>)
+    requires { length line.old + 20 ≤ 272 }
+    ensures octets { line.new ≡ line.old ++ seconds_or_dash seconds }
+    ensures len { length line.new ≤ length line.old + 20 }
+{
+    match seconds {
+        None => line.push(b"-"),
+        Some(seconds) => line.push_number(seconds),
+    }
+}
 
-impl Display for SecondsOrDash {
-    ghost output = { λ n. Some (seconds_or_dash n.0) };
-
-    fn fmt<W: fmt::Write>(&self, f: &mut Formatter<W>) -> fmt::Result {
-        match self.0 {
-            None => f.write_str("-"),
-            Some(seconds) => write!(f, "{seconds}"),
-        }
+/// Adds a number, or `-` where there is none.
+fn push_number_or_dash(line: &mut ReportLine, number: Option<u64>)
+    requires { length line.old + 20 ≤ 272 }
+    ensures octets { line.new ≡ line.old ++ number_or_dash number }
+    ensures len { length line.new ≤ length line.old + 20 }
+{
+    match number {
+        None => line.push(b"-"),
+        Some(number) => line.push_number(number),
     }
 }
 
 /// Adds a row's number, and what its envelope is known by.
-fn push_id(alloc: Global, text: &mut Vec<u8>, number: u64, row: &AuditRow) -> Result<(), AllocError>
-    ensures { OnOk result (text.new.items ≡ text.old.items ++ known_by number row.now) }
+fn push_id(line: &mut ReportLine, number: u64, row: &AuditRow)
+    requires short { IsShort row.now.id }
+    requires empty { length line.old ≤ 0 }
+    ensures octets { line.new ≡ line.old ++ known_by number row.now }
+    ensures len { length line.new ≤ 79 }
 {
-    text.extend_from_slice(format!(in alloc; "{number} ")?.as_bytes())?;
-    push_shown(text, row.id.service())?;
-    text.push(b' ')?;
-    text.extend_from_slice(row.id.number())?;
-    text.push(b' ')?;
-    text.extend_from_slice(row.id.date_sent())?;
-    Ok(())
+    line.push_number(number);
+    line.push(b" ");
+    line.push_shown(row.id.service());
+    line.push(b" ");
+    line.push(row.id.number());
+    line.push(b" ");
+    line.push(row.id.date_sent());
 }
 
-/// The sizes of a row, and its words.
-fn sizes(alloc: Global, row: &AuditRow) -> Result<String, AllocError>
-    ensures { IfOk result (λ line. string_bytes line ≡ sizes_of row.now) }
+/// Adds the sizes of a row, and its words.
+fn push_sizes(line: &mut ReportLine, row: &AuditRow)
+    requires { length line.old ≤ 90 }
+    ensures octets { line.new ≡ line.old ++ sizes_of row.now }
+    ensures len { length line.new ≤ 200 }
 {
-    let size = row.size;
-    let subfiles = row.subfiles;
-    let announced = row.announced;
-    let counted = row.counted;
-    format!(in alloc; " size {size} subfiles {subfiles} words {announced}/{counted}")
+    line.push(b" size ");
+    line.push_number(row.size);
+    line.push(b" subfiles ");
+    line.push_number(row.subfiles);
+    line.push(b" words ");
+    line.push_number(row.announced);
+    line.push(b"/");
+    line.push_number(row.counted);
 }
 
-/// The age of a row, which envelope it repeats, and whether its copy may be used.
-fn ages(alloc: Global, row: &AuditRow) -> Result<String, AllocError>
-    ensures { IfOk result (λ line. string_bytes line ≡ ages_of row.now) }
+/// Adds the age of a row, which envelope it repeats, and whether its copy may be used.
+fn push_ages(line: &mut ReportLine, row: &AuditRow)
+    requires { length line.old ≤ 200 }
+    ensures { line.new ≡ line.old ++ ages_of row.now }
 {
-    let age = SecondsOrDash(row.age);
-    let first = NumberOrDash(row.first);
-    let copy = row.copy;
-    format!(in alloc; " age {age} repeats {first} copy {copy}\n")
+    line.push(b" age ");
+    push_seconds(line, row.age);
+    line.push(b" repeats ");
+    push_number_or_dash(line, row.first);
+    line.push(b" copy ");
+    line.push(row.copy.word().as_bytes());
+    line.push(b"\n");
 }
 
-/// Adds the line of a row.
-fn push_row(
-    alloc: Global,
-    text: &mut Vec<u8>,
-    number: u64,
-    row: &AuditRow,
-) -> Result<(), AllocError>
-    ensures { OnOk result (text.new.items ≡ text.old.items ++ row_line number row.now) }
+/// The line of a row.
+fn line_of(number: u64, row: &AuditRow) -> ReportLine
+    requires { IsShort row.now.id }
+    ensures { result ≡ row_line number row.now }
 {
-    push_id(alloc, text, number, row)?;
-    text.extend_from_slice(b" priority ")?;
-    text.push(row.priority.unwrap_or(b'-'))?;
-    text.extend_from_slice(sizes(alloc, row)?.as_bytes())?;
-    text.extend_from_slice(ages(alloc, row)?.as_bytes())?;
-    Ok(())
+    let mut line = ReportLine::new();
+    push_id(&mut line, number, row);
+    line.push(b" priority ");
+    line.push(&[row.priority.unwrap_or(b'-')]);
+    push_sizes(&mut line, row);
+    push_ages(&mut line, row);
+    line
 }
 
 /// How many rows repeat an earlier one.
@@ -99,27 +115,45 @@ fn held(rows: &[AuditRow]) -> usize
     rows.iter().filter(|row| is_held(row)).count()
 }
 
-/// The last line.
-fn sums(alloc: Global, rows: &[AuditRow]) -> Result<String, AllocError>
-    ensures { IfOk result (λ line. string_bytes line ≡ sums_line rows.now) }
-{
-    let envelopes = rows.len();
-    let repeated = repeated(rows);
-    let held = held(rows);
-    format!(in alloc; "{envelopes} envelopes, {repeated} repeated, {held} held\n")
+impl Report {
+    ghost use Rattle.std.specs.Prelude.{◌≡◌, ◌+◌, ◌<◌, length, slice_index_or};
+    ghost use Rattle.iim_audit.specs.Format.Texts.{row_line, sums_line};
+    ghost use Rattle.iim_audit.specs.declared.row.AuditRow.{AuditRow as Row};
+
+    /// The line of the row at an index. A service is shown: octets from 20 to 7E but the backslash as they are, all others as `\x` and
+    /// two hexadecimal digits. A priority, an age or a first envelope that is absent is `-`. LF ends the line.
+    pub fn line(&self, index: usize) -> ReportLine
+        requires { index < length self.now }
+        ensures { (row : Row) → result ≡ row_line (index + 1) (slice_index_or self.now index row) }
+    {
+        let row = &self.rows[index];
+        line_of(index as u64 + 1, row)
+    }
+
+    /// The line after those of the rows: how many rows there are, how many of them repeat an earlier one, and of how many the copy is held.
+    pub fn last_line(&self) -> ReportLine
+        ensures { result ≡ sums_line self.now }
+    {
+        let rows = self.rows();
+        let mut line = ReportLine::new();
+        line.push_number(rows.len());
+        line.push(b" envelopes, ");
+        line.push_number(repeated(rows));
+        line.push(b" repeated, ");
+        line.push_number(held(rows));
+        line.push(b" held\n");
+        line
+    }
 }
 
-/// The text of a report: a line for each row, and one that tells how many rows there are, how many of them repeat an earlier one,
-/// and of how many the copy is held. Each line is ended by LF. The service is shown: octets from 20 to 7E but the backslash as they are, all others
-/// as `\x` and two hexadecimal digits. A priority, an age or a first envelope that is absent is `-`.
+/// The text of a report: a line for each row, and the last one.
 pub fn report_text(alloc: Global, report: &Report) -> Result<Vec<u8>, AllocError>
     ensures { IfOk result (λ text. text.items ≡ printed_report report.now) }
 {
     let mut text = Vec::new(alloc);
-    let rows = report.rows();
-    'rows: for (index, row) in rows.iter().enumerate() {
-        push_row(alloc, &mut text, index as u64 + 1, row)?;
+    'rows: for index in 0..report.rows().len() {
+        text.extend_from_slice(report.line(index).as_slice())?;
     }
-    text.extend_from_slice(sums(alloc, rows)?.as_bytes())?;
+    text.extend_from_slice(report.last_line().as_slice())?;
     Ok(text)
 }

@@ -1,14 +1,19 @@
 //! `audit`: the report of an input.
 
-ghost use Rattle.std.specs.Prelude.{◌≡◌, None, IfOk, IfErr};
+ghost use Rattle.std.specs.Prelude.{◌≡◌, None, IfOk, IfErr, OnOk};
+ghost use Rattle.iim_audit.specs.Format.Texts.{printed_report};
 ghost use Rattle.iim_unpack.specs.Format.Intakes.{line};
 ghost use Rattle.iim_commands.specs.Format.Audits.{Audited, IsUnaudited, TellsWhy, CannotTell};
+ghost use Rattle.iim_commands.specs.Format.Holding.{HasPut, HoldsNothing, device_of};
+ghost use Rattle.iim_commands.specs.Listing.{IsUnadded};
 
+use crate::block_writer::BlockWriter;
 use crate::coming::LIMITS;
 use crate::fault::CommandFault;
-use crate::report::{TOO_MANY, push_refused, say};
+use crate::report::{TOO_MANY, add, add_last, push_refused};
 use crate::status::{ACCEPTED, REFUSED};
-use iim_audit::{AuditCause, AuditFault, audit, report_text};
+use iim_audit::{AuditCause, AuditFault, Report, audit};
+use iim_dataset::device_laws::{gifts_join, texts_join};
 use iim_dataset::{Source, Target};
 use iim_unpack::Intake;
 use jiff::Timestamp;
@@ -31,28 +36,69 @@ fn reason(alloc: Global, fault: AuditFault) -> Result<Vec<u8>, CommandFault>
     }
 }
 
-/// Writes the report of an input at the instant `now`, or the line that tells why there is none.
-pub fn write_audit<R: Source, W: Target>(
+/// Writes the lines of a report, and lets out all. It takes no memory.
+fn add_report<W: Target>(
+    output: &mut BlockWriter<W>,
+    report: &Report,
+) -> Result<(), CommandFault>
+    ensures ok { OnOk result (HasPut W.state output.old output.new (printed_report report.now)) }
+    ensures held { OnOk result (HoldsNothing output.new) }
+    ensures err { IfErr result (IsUnadded W.state output.old output.new (printed_report report.now)) }
+{
+    texts_join();
+    'rows: for index in 0..report.rows().len() {
+        add(output, report.line(index).as_slice())?;
+    }
+    add_last(output, report.last_line().as_slice())
+}
+
+/// Writes the report of an input, or the line that tells why there is none, where nothing is held before. Nothing is held afterwards,
+/// but where a write failed.
+fn report_input<R: Source, W: Target>(
     alloc: Global,
     now: Timestamp,
     intake: &mut Intake<R>,
-    output: &mut W,
+    output: &mut BlockWriter<W>,
 ) -> Result<u8, CommandFault>
-    requires { intake.old.failed ≡ None }
-    ensures ok { IfOk result (Audited now.nanosecond (line R.state intake.old) (line R.state intake.new) (W.state output.old) (W.state output.new)) }
-    ensures err { IfErr result (IsUnaudited now.nanosecond (line R.state intake.old) (line R.state intake.new) (W.state output.old) (W.state output.new)) }
+    requires alive { intake.old.failed ≡ None }
+    requires held { HoldsNothing output.old }
+    ensures ok { IfOk result (Audited now.nanosecond (line R.state intake.old) (line R.state intake.new) (device_of W.state output.old) (device_of W.state output.new)) }
+    ensures err { IfErr result (IsUnaudited now.nanosecond (line R.state intake.old) (line R.state intake.new) (device_of W.state output.old) (device_of W.state output.new)) }
     ensures leads { R.leads intake.old.reader intake.new.reader }
 {
     match audit(alloc, intake, LIMITS, now) {
         Ok(report) => {
-            let text = report_text(alloc, &report)?;
-            say(output, text.as_slice())?;
+            add_report(output, &report)?;
             Ok(ACCEPTED)
         }
         Err(fault) => {
             let line = reason(alloc, fault)?;
-            say(output, line.as_slice())?;
+            add_last(output, line.as_slice())?;
             Ok(REFUSED)
         }
+    }
+}
+
+/// Writes the report of an input at the instant `now`, or the line that tells why there is none. Answers the status, and hands back the
+/// output. Memory is asked for before anything is written; where a write fails, what of the text is not out is lost.
+pub fn write_audit<R: Source, W: Target>(
+    alloc: Global,
+    now: Timestamp,
+    intake: &mut Intake<R>,
+    output: W,
+) -> (Result<u8, CommandFault>, W)
+    requires { intake.old.failed ≡ None }
+    ensures ok { IfOk result.0 (Audited now.nanosecond (line R.state intake.old) (line R.state intake.new) (W.state output) (W.state result.1)) }
+    ensures err { IfErr result.0 (IsUnaudited now.nanosecond (line R.state intake.old) (line R.state intake.new) (W.state output) (W.state result.1)) }
+    ensures leads { R.leads intake.old.reader intake.new.reader }
+{
+    gifts_join();
+    match BlockWriter::new(alloc, output) {
+        Ok(made) => {
+            let mut blocks = made;
+            let answer = report_input(alloc, now, intake, &mut blocks);
+            (answer, blocks.into_writer())
+        }
+        Err(output) => (Err(CommandFault::OutOfMemory), output),
     }
 }

@@ -83,9 +83,8 @@ fn review<R: Source + Drop, W: Target, E: Target>(
     ensures { (last : R) × (held : List ℕ) × R.leads reader last × Reviewed now.nanosecond (devices (R.state reader) (W.state output) (E.state errors)) (devices (with_held held (R.state last)) (W.state result.1) (E.state result.2)) result.0 }
 {
     let mut intake = Intake::new(reader);
-    let mut output = output;
     let mut errors = errors;
-    let answer = write_audit(alloc, now.timestamp(), &mut intake, &mut output);
+    let (answer, output) = write_audit(alloc, now.timestamp(), &mut intake, output);
     let status = finish(&mut errors, answer);
     (status, output, errors)
 }

@@ -1,13 +1,15 @@
 //! What envelopes are known by.
 
-ghost use Rattle.std.specs.Prelude.{◌≡◌, ◌≤◌, ◌↔◌, length, IsTrue, refl};
+ghost use Rattle.std.specs.Prelude.{◌≡◌, ◌≤◌, ◌↔◌, length, take, IsTrue, refl};
 ghost use Rattle.std.specs.Ordering.{as_partial_cmp};
 ghost use Rattle.iim_fields.specs.Format.Ids.{id_eq, id_cmp};
 ghost use Rattle.iim_fields.specs.IdLaws.{id_equivalence, id_partial_equivalence, id_total, id_ties, id_order};
 
-use arrayvec::ArrayVec;
 use std::cmp::Ordering;
 use std::marker::Model;
+
+/// The most octets of a service.
+const MAX_SERVICE: usize = 10;
 
 /// What an envelope is known by: the service that sent it, its number, and the date on which it was sent. By the standard
 /// a number is unique for the other two. It takes no memory.
@@ -18,41 +20,47 @@ use std::marker::Model;
 /// Contracts see it as the three texts.
 #[derive(Clone, Debug, Drop)]
 pub struct EnvelopeId {
-    service: ArrayVec<u8, 10>,
-    number: ArrayVec<u8, 8>,
-    date_sent: ArrayVec<u8, 8>,
+    number: [u8; 8],
+    date_sent: [u8; 8],
+    // The service, and zeros after it.
+    service: [u8; MAX_SERVICE],
+    service_len: u8,
 }
 
 impl Model for EnvelopeId {
+    ghost use Rattle.std.specs.Prelude.{◌≤◌, take};
     ghost use Rattle.iim_fields.specs.Format.Ids.{Identity};
 
     ghost Value = { Identity };
 
-    ghost view = { λ id. record { service = id.service.items; number = id.number.items; date_sent = id.date_sent.items } };
+    ghost view = { λ id. record { service = take id.service_len id.service; number = id.number; date_sent = id.date_sent } };
+
+    ghost invariant = { λ id. id.service_len ≤ 10 };
 }
 
-/// The octets in a fixed room.
-fn kept<const ROOM: usize>(octets: &[u8]) -> ArrayVec<u8, ROOM>
+/// The octets, and zeros after them.
+fn filled<const ROOM: usize>(octets: &[u8]) -> [u8; ROOM]
     requires { length octets.now ≤ ROOM }
-    ensures { result.items ≡ octets.now }
+    ensures { take (length octets.now) result ≡ octets.now }
 {
-    let mut kept = ArrayVec::new();
-    kept.try_extend_from_slice(octets).unwrap();
-    kept
+    let mut filled = [0; ROOM];
+    filled[..octets.len()].copy_from_slice(octets);
+    filled
 }
 
 impl EnvelopeId {
-    /// The id of these data, which are as long at most as their rows allow.
+    /// The id of these data, which are as long as their rows allow.
     pub(crate) fn new(service: &[u8], number: &[u8], date_sent: &[u8]) -> EnvelopeId
         requires service { length service.now ≤ 10 }
-        requires number { length number.now ≤ 8 }
-        requires date_sent { length date_sent.now ≤ 8 }
+        requires number { length number.now ≡ 8 }
+        requires date_sent { length date_sent.now ≡ 8 }
         ensures { result ≡ record { service = service.now; number = number.now; date_sent = date_sent.now } }
     {
         EnvelopeId {
-            service: kept(service),
-            number: kept(number),
-            date_sent: kept(date_sent),
+            number: filled(number),
+            date_sent: filled(date_sent),
+            service: filled(service),
+            service_len: service.len() as u8,
         }
     }
 
@@ -60,7 +68,7 @@ impl EnvelopeId {
     pub fn service(&self) -> &[u8]
         ensures { result.now ≡ self.now.service }
     {
-        &self.service
+        &self.service[..usize::from(self.service_len)]
     }
 
     /// 1:40 Envelope Number: eight digits.
@@ -119,7 +127,7 @@ impl Ord for EnvelopeId {
     fn cmp(&self, other: &EnvelopeId) -> Ordering {
         self.service()
             .cmp(&other.service())
-            .then(self.number().cmp(&other.number()))
-            .then(self.date_sent().cmp(&other.date_sent()))
+            .then_with(|| self.number().cmp(&other.number()))
+            .then_with(|| self.date_sent().cmp(&other.date_sent()))
     }
 }

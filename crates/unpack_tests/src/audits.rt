@@ -65,7 +65,7 @@ fn rows_of_a_report(rt: HostRuntime) -> Result<(), Fail> {
                 Some(row) => {
                     let id = [row.id.service(), row.id.number(), row.id.date_sent()];
                     assert_eq!(rt; id, [b"TST".as_slice(), b"00000001", b"20240301"]);
-                    let words = [row.announced, row.counted];
+                    let words = [u64::from(row.announced), row.counted];
                     assert_eq!(rt; (row.size, row.subfiles, words), (14, 1, [0, 0]));
                     let rest = (row.priority, row.age, row.first);
                     assert_eq!(rt; rest, (Some(b'5'), Some(3600), None));

@@ -1,8 +1,10 @@
-use Rattle.std.proofs.Common.{◌≡◌, ◌∙◌, ℕ, None, Some, Option, [], length, ap, subst, arith, refl, Result, Ok, ◌+◌, IsErrAnd}
+use Rattle.std.proofs.Common.{◌≡◌, ◌∙◌, ℕ, None, Some, Option, List, [], length, ap, subst, arith, refl, Result, Ok, ◌+◌, IsErrAnd}
 use Rattle.iim_dataset.specs.Format.Devices.{Device}
 use Rattle.iim_unpack.specs.Format.Intakes.{line}
 use Rattle.iim_unpack.specs.declared.intake.Intake.{Intake}
 use Rattle.iim_audit.specs.Taking.{TookEnvelope}
+use Rattle.iim_audit.specs.Repeats.{ids_of}
+use Rattle.iim_audit.specs.declared.row.AuditRow.{AuditRow}
 use Rattle.iim_audit.specs.declared.row.Taken.{Taken}
 use Rattle.iim_audit.proofs.Reading.{come_none, audited, fails, one_too_many, short_after, read_one, told_again}
 use Rattle.iim_audit.proofs.auditing.audit.Goals as goal
@@ -36,6 +38,7 @@ envelopes-init g c =
         again = λ octet e. none;
       };
       below = λ k d there. absurd (omega (arith, ap length c.new-ledger.ensures.none, there));
+      short = λ k d there. absurd (omega (arith, ap (λ (rows : List AuditRow). length (ids_of rows)) c.new-ledger.ensures.empty, there));
       as_it_was = λ octet e. refl;
       leads = g.met.R.Source.stays c.args.intake.now.reader;
     }
@@ -115,6 +118,7 @@ envelopes-preserved g c =
         again = λ octet e. absurd (spent octet e);
       };
       below = c.in-Ok.ensures.below;
+      short = c.in-Ok.ensures.short;
       as_it_was = λ octet e. absurd (spent octet e);
       leads = g.met.R.Source.leads_on c.args.intake.now.reader c.envelopes.intake.reader c.take_envelope.new.intake.reader
           c.envelopes.invariant.leads c.take_envelope.ensures.leads;

@@ -2,6 +2,7 @@ use Rattle.std.proofs.Common.{◌≡◌, ◌+◌, ◌-◌, ◌<◌, ℕ, length,
 use Rattle.std.specs.List.{All}
 use Rattle.iim_unpack.specs.Format.Intakes.{line}
 use Rattle.iim_unpack.specs.Format.Listing.{max_envelopes}
+use Rattle.iim_audit.specs.Lines.{HaveShortIds}
 use Rattle.iim_audit.proofs.Reading.{IsAuditing}
 use Rattle.iim_audit.proofs.auditing.audit.Given as goal
 
@@ -9,6 +10,7 @@ abbrev pub invariant-envelopes : goal.invariant-envelopes
 invariant-envelopes g l = record {
   auditing : IsAuditing l.limits l.now.nanosecond l.fn.intake.failed (line g.R.Source.state l.fn.intake) (line g.R.Source.state l.intake) l.ledger l.fn.intake.octets l.intake.failed l.intake.octets;
   below : All (λ i. i < length l.ledger.rows.items) l.ledger.order.items;
+  short : HaveShortIds l.ledger.rows.items;
   as_it_was : (octet : ℕ) → l.fn.intake.failed ≡ Some octet → l.intake ≡ l.fn.intake;
   leads : g.R.Source.leads l.fn.intake.reader l.intake.reader;
 }

@@ -7,6 +7,6 @@ pub fill_firsts-requires : goal.fill_firsts-requires
 fill_firsts-requires c =
     All-permutation (λ i. i < length c.args.rows.now) c.args.order.now c.sort_by_id.new.order c.sort_by_id.ensures.permutation c.requires
 
-pub returns : goal.returns
-returns c = λ each fresh.
-    c.fill_firsts.ensures (order_of c.args.rows.now c.args.order.now c.sort_by_id.new.order c.requires each c.sort_by_id.ensures.permutation c.sort_by_id.ensures.sorted) fresh
+pub returns-clause-filled : goal.returns-clause-filled
+returns-clause-filled c = λ each fresh.
+    c.fill_firsts.ensures.filled (order_of c.args.rows.now c.args.order.now c.sort_by_id.new.order c.requires each c.sort_by_id.ensures.permutation c.sort_by_id.ensures.sorted) fresh
