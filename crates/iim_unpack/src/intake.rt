@@ -225,8 +225,8 @@ impl<R: Source> Intake<R> {
         }
         match feed_piece(&mut self.block, &mut self.reader, unpacker, sink) {
             Ok(fed) => Ok(fed),
-            Err((fault, octet)) => {
-                self.failed = Some(octet);
+            Err((fault, kept)) => {
+                self.failed = Some(kept);
                 Err(fault)
             }
         }

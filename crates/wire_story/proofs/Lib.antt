@@ -12,3 +12,4 @@ pub mod Marked
 pub mod Words
 pub mod Calm
 pub mod Fronts
+pub mod Counted

@@ -1,18 +1,45 @@
 //! How long a text is where it is packed.
 
-ghost use Rattle.std.specs.Prelude.{◌≡◌, ◌≤◌, ◌↔◌, ◌==◌, length, count_by, IsSome, IfSome};
+ghost use Rattle.std.specs.Prelude.{◌≡◌, ◌≤◌, ◌↔◌, ◌==◌, length, count_by, take, IsSome, IfSome};
 ghost use Rattle.wire_story.specs.Format.Texts.{packed_text};
 ghost use Rattle.iim_dataset.specs.Format.Octets.{greatest_size};
 
 use crate::lines::Lines;
 use iim_dataset::GREATEST_SIZE;
 use iim_dataset::octets::LF;
+use std::simd::prelude::*;
+
+/// How many octets are tested at once.
+const BLOCK: usize = 16;
+
+/// How many of the first sixteen octets are LF.
+#[inline(always)]
+fn feeds_in_block(block: &[u8]) -> usize
+    requires { 16 ≤ length block.now }
+    ensures { result ≡ count_by (λ b. b == 10) (take 16 block.now) }
+{
+    let octets = u8x16::from_slice(block);
+    octets.simd_eq(u8x16::splat(LF)).to_bitmask().count_ones() as usize
+}
+
+/// How many octets are LF, tested one after another.
+fn feeds_in_rest(octets: &[u8]) -> usize
+    ensures { result ≡ count_by (λ b. b == 10) octets.now }
+{
+    octets.iter().filter(|octet| **octet == LF).count()
+}
 
 /// How many line ends stand in lines that are joined by LF.
 fn line_ends(octets: &[u8]) -> usize
     ensures { result ≡ count_by (λ b. b == 10) octets.now }
 {
-    octets.iter().filter(|octet| **octet == LF).count()
+    let mut at = 0;
+    let mut count = 0;
+    while octets.len() - at >= BLOCK {
+        count += feeds_in_block(&octets[at..]);
+        at += BLOCK;
+    }
+    count + feeds_in_rest(&octets[at..])
 }
 
 /// The number of octets of the lines joined by CR LF, or None above the greatest size of an object.
