@@ -13,4 +13,5 @@ pub mod Requests
 pub mod Scripts
 pub mod Shown
 pub mod Silence
+pub mod Statuses
 pub mod Texts

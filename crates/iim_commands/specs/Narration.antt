@@ -1,5 +1,6 @@
 -- How a writer of stories ends.
 use Rattle.std.specs.Prelude.{◌≡◌, ◌<◌, ◌⊎◌, [], ◌∷◌, length}
+use Rattle.iim_dataset.specs.Format.Characters.{lf}
 use Rattle.iim_dataset.specs.Format.Devices.{Device, Rose}
 use Rattle.iim_commands.specs.Format.Holding.{PutsOn, StaysStuck, held_of, stops_of}
 use Rattle.iim_commands.specs.declared.block_writer.BlockWriter.{BlockWriter}
@@ -13,4 +14,4 @@ IsHeldBack state old new fault = (fault ≡ CannotWrite) × StaysStuck state old
 -- An LF after a text was not taken, or it was and could not be let out.
 abbrev pub IsUnended : {W : Type 0} → (W → Device) → BlockWriter W → BlockWriter W → CommandFault → Type 0
 IsUnended state old new fault = (fault ≡ CannotWrite) × Rose (stops_of old) (stops_of new)
-    × (PutsOn state old new [] ⊎ (PutsOn state old new (10 ∷ []) × (0 < length (held_of new))))
+    × (PutsOn state old new [] ⊎ (PutsOn state old new (lf ∷ []) × (0 < length (held_of new))))

@@ -4,6 +4,7 @@ use Rattle.std.specs.Io.KnownBytes.{IsAtEnd}
 use Rattle.iim_dataset.specs.Format.Devices.{Device, Missed, Wrote}
 use Rattle.iim_dataset.specs.Format.DeviceLaws.{BrokeAfter, HasGiven}
 use Rattle.iim_dataset.specs.declared.device.IoFault.{IoFault}
+use Rattle.iim_object.specs.Format.PackCauses.{pack_number}
 use Rattle.iim_object.specs.Format.Writing.{Begins}
 use Rattle.iim_object.specs.declared.cause.PackCause.{PackCause}
 use Rattle.iim_object.specs.declared.cause.PackCause.TheVariants as causes
@@ -52,7 +53,7 @@ MayComeOf _ = ⊥
 
 -- The cause comes to this, of a script whose line `text` has that number.
 abbrev pub ComesTo : PackCause → ℕ → PackFault → Type 0
-ComesTo causes.PastAnnounced text_line (Refused line number name) = (line ≡ text_line) × (number ≡ 80) × (name.now ≡ codes "PastAnnounced")
+ComesTo causes.PastAnnounced text_line (Refused line number name) = (line ≡ text_line) × (number ≡ pack_number causes.PastAnnounced) × (name.now ≡ codes "PastAnnounced")
 ComesTo causes.OutOfMemory text_line (Around OutOfMemory) = Unit {0}
 ComesTo causes.Write text_line (Around CannotWrite) = Unit {0}
 ComesTo _ text_line _ = ⊥
@@ -64,7 +65,7 @@ PacksTold a t old new = (form : List ℕ) × IsFormOf a t form × Wrote old new 
 -- Why what is told is not packed.
 abbrev pub UnpacksTold : Asked → ScriptContent → Device → Device → PackFault → Type 0
 UnpacksTold a t old new (Refused line number name) =
-    (new ≡ old) × IsPast a t × (line ≡ t.text_line) × (number ≡ 80) × (name.now ≡ codes "PastAnnounced")
+    (new ≡ old) × IsPast a t × (line ≡ t.text_line) × (number ≡ pack_number causes.PastAnnounced) × (name.now ≡ codes "PastAnnounced")
 UnpacksTold a t old new (Around CannotRead) = ⊥
 UnpacksTold a t old new (Around CannotWrite) = (plan : Plan) × (out : List ℕ) × FitsAsked a t × IsPlanOf a (object_of t) plan × BrokeAfter old new out
     × ((form : List ℕ) → Packed t.fields t.head t.lines t.trailer plan form → Begins out form)

@@ -33,6 +33,7 @@ ghost use Rattle.iim_commands.specs.Format.Packing.{Answered, IsPacked, IsPast, 
 ghost use Rattle.iim_commands.specs.PackSteps.{ComesTo, GotSome, IsFailedRead, IsNotPacked, MayComeOf, PacksTold, TellsFault, UnpacksTold, told_by};
 ghost use Rattle.iim_commands.specs.Format.Reports.{IsTold};
 ghost use Rattle.iim_commands.specs.declared.fault.CommandFault.TheVariants.{OutOfMemory};
+ghost use Rattle.iim_commands.specs.Format.Statuses.{status_refused};
 
 /// What keeps an envelope from being packed.
 enum PackFault {
@@ -185,7 +186,7 @@ fn tell_refusal<E: Target>(
     number: u8,
     name: &str,
 ) -> Result<u8, CommandFault>
-    ensures told { IfOk result (IsTold (E.state errors.old) (E.state errors.new) (refusal_line line number name.now) 1) }
+    ensures told { IfOk result (IsTold (E.state errors.old) (E.state errors.new) (refusal_line line number name.now) status_refused) }
     ensures memory { IfErr result (λ fault. fault ≡ OutOfMemory) }
     ensures nothing { OnErr result (errors.new ≡ errors.old) }
 {

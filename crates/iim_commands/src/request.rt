@@ -13,6 +13,9 @@ use iim_dataset::GREATEST_SIZE;
 use jiff::Timestamp;
 use std::alloc::{AllocError, Global};
 
+/// The most octets of a subfile where no number is given.
+const DEFAULT_SUBFILE: u64 = 1_024;
+
 /// What is to be done.
 #[derive(Clone, Copy, Debug, PartialEq, Eq)]
 pub enum Job {
@@ -124,7 +127,7 @@ fn subfile_given(text: Option<&str>) -> u64
 {
     match number_given(text, 1) {
         Some(number) => number,
-        None => 1024,
+        None => DEFAULT_SUBFILE,
     }
 }
 

@@ -5,6 +5,7 @@ ghost use Rattle.iim_unpack.specs.Format.Blocks.{with_held};
 ghost use Rattle.iim_commands.specs.Format.Outcomes.{Complained, EndsRun, EndsReport, EndsPacking, Ran, Reviewed, ToldAsStory};
 ghost use Rattle.iim_commands.specs.Format.Packing.{asked};
 ghost use Rattle.iim_commands.specs.Format.Devices.{devices};
+ghost use Rattle.iim_commands.specs.Format.Statuses.{status_failed};
 
 use crate::audit::write_audit;
 use crate::check::Check;
@@ -22,7 +23,7 @@ use std::alloc::Global;
 
 /// Tells a fault. The status is the same whether the line of it could be written or not.
 fn complain<E: Target>(errors: &mut E, fault: CommandFault) -> u8
-    ensures status { result ≡ 3 }
+    ensures status { result ≡ status_failed }
     ensures told { Complained (E.state errors.old) (E.state errors.new) fault }
 {
     let _ = put(errors, fault.line().as_bytes());

@@ -5,6 +5,7 @@ ghost use Rattle.iim_audit.specs.Format.Texts.{number_or_dash};
 ghost use Rattle.iim_script.specs.Format.Printed.{after_space, field_line, message_line, trailer_line};
 ghost use Rattle.iim_commands.specs.Format.Texts.{mode_of, number_line, shown_of, sizes_line};
 ghost use Rattle.std.specs.List.{flat_map};
+ghost use Rattle.iim_dataset.specs.Format.Characters.{sp};
 
 use crate::list::EnvelopeReport;
 use crate::report::push_printed;
@@ -69,7 +70,7 @@ fn push_fields(text: &mut Vec<u8>, envelope: &Envelope) -> Result<(), AllocError
 
 /// Adds a space and a word of the header.
 fn push_word(text: &mut Vec<u8>, word: &[u8]) -> Result<(), AllocError>
-    ensures { OnOk result (text.new.items ≡ text.old.items ++ 32 ∷ word.now) }
+    ensures { OnOk result (text.new.items ≡ text.old.items ++ sp ∷ word.now) }
 {
     text.push(b' ')?;
     text.extend_from_slice(word)
@@ -77,7 +78,7 @@ fn push_word(text: &mut Vec<u8>, word: &[u8]) -> Result<(), AllocError>
 
 /// Adds the first words of the message's header.
 fn push_first_words(text: &mut Vec<u8>, head: &MessageHead) -> Result<(), AllocError>
-    ensures { OnOk result (text.new.items ≡ text.old.items ++ (codes "message" ++ (32 ∷ head.now.source ++ (32 ∷ head.now.number ++ 32 ∷ head.now.priority)))) }
+    ensures { OnOk result (text.new.items ≡ text.old.items ++ (codes "message" ++ (sp ∷ head.now.source ++ (sp ∷ head.now.number ++ sp ∷ head.now.priority)))) }
 {
     text.extend_from_slice(b"message")?;
     push_word(text, head.source())?;
@@ -87,7 +88,7 @@ fn push_first_words(text: &mut Vec<u8>, head: &MessageHead) -> Result<(), AllocE
 
 /// Adds the last words of the message's header, its info, and the end of the line.
 fn push_last_words(text: &mut Vec<u8>, head: &MessageHead) -> Result<(), AllocError>
-    ensures { OnOk result (text.new.items ≡ text.old.items ++ (32 ∷ head.now.category ++ (32 ∷ head.now.words ++ (after_space head.now.info ++ codes "\n")))) }
+    ensures { OnOk result (text.new.items ≡ text.old.items ++ (sp ∷ head.now.category ++ (sp ∷ head.now.words ++ (after_space head.now.info ++ codes "\n")))) }
 {
     push_word(text, head.category())?;
     push_word(text, head.words())?;

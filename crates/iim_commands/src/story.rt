@@ -1,6 +1,7 @@
 //! `story`: the text of each envelope, as it comes.
 
 ghost use Rattle.std.specs.Prelude.{◌≡◌, [], ◌∷◌, None, IfOk, IfErr, OnOk};
+ghost use Rattle.iim_dataset.specs.Format.Characters.{lf};
 ghost use Rattle.iim_unpack.specs.Format.Intakes.{line};
 ghost use Rattle.iim_commands.specs.Narration.{IsHeldBack, IsUnended};
 ghost use Rattle.iim_commands.specs.Format.Holding.{HoldsNothing, PutsOn, device_of, stops_of};
@@ -35,7 +36,7 @@ fn let_out<W: Target>(output: &mut BlockWriter<W>) -> Result<(), CommandFault>
 
 /// Takes an LF after the text of an envelope, and lets out what is held.
 fn end_story<W: Target>(output: &mut BlockWriter<W>) -> Result<(), CommandFault>
-    ensures ok { OnOk result (PutsOn W.state output.old output.new (10 ∷ [])) }
+    ensures ok { OnOk result (PutsOn W.state output.old output.new (lf ∷ [])) }
     ensures held { OnOk result (HoldsNothing output.new) }
     ensures calm { OnOk result (stops_of output.new ≡ stops_of output.old) }
     ensures err { IfErr result (IsUnended W.state output.old output.new) }

@@ -12,6 +12,7 @@ mod start;
 ghost use Rattle.std.specs.Prelude.{◌≡◌, ◌≢◌, ◌⊎◌, IfSome, None};
 ghost use Rattle.std.specs.IoError.{error_kind};
 ghost use Rattle.std.specs.Process.{exit_status};
+ghost use Rattle.iim_commands.specs.Format.Statuses.{status_failed};
 ghost use Rattle.iimwire.specs.Format.Ended.{EndsWith, EndsWithout};
 
 use iim_commands::request::{Request, parse};
@@ -42,7 +43,7 @@ fn words(rt: &HostRuntime) -> io::Result<Vec<String>> {
 /// Opens the file that the request names, or else takes standard input.
 fn begin(rt: &HostRuntime, request: Request<'_>) -> ExitCode
     ensures standard { request.entry.file ≡ None → EndsWith request.entry.job (exit_status result) }
-    ensures named { IfSome request.entry.file (λ name. EndsWith request.entry.job (exit_status result) ⊎ (exit_status result ≡ 3)) }
+    ensures named { IfSome request.entry.file (λ name. EndsWith request.entry.job (exit_status result) ⊎ (exit_status result ≡ status_failed)) }
 {
     let Some(name) = request.file else {
         return carry_out(rt, request, rt.stdin());

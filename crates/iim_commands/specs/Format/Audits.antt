@@ -11,6 +11,7 @@ use Rattle.iim_commands.specs.Format.Lines.{refused_line, too_many_line}
 use Rattle.iim_commands.specs.Format.Listings.{limits}
 use Rattle.iim_commands.specs.declared.fault.CommandFault.{CommandFault}
 use Rattle.iim_commands.specs.declared.fault.CommandFault.TheVariants.{CannotRead, CannotWrite, OutOfMemory}
+use Rattle.iim_commands.specs.Format.Statuses.{status_accepted, status_refused}
 
 -- The line tells why there is no report, at the envelope of this number: its octets are refused, or it is one too many.
 abbrev pub TellsWhy : ℕ → AuditCause → List ℕ → Type 0
@@ -29,8 +30,8 @@ CannotTell cause fault = fault ≡ OutOfMemory
 -- The report of the input, at this instant; or the line that tells why it has none.
 abbrev pub IsAuditAnswer : ℤ → Device → Device → List ℕ → ℕ → Type 0
 IsAuditAnswer now source rest words status =
-    ((rows : List AuditRow) × IsAudited limits now source rest rows × (words ≡ printed_report rows) × (status ≡ 0))
-    ⊎ ((number : ℕ) × (cause : AuditCause) × FailsAt limits source rest number cause × TellsWhy number cause words × (status ≡ 1))
+    ((rows : List AuditRow) × IsAudited limits now source rest rows × (words ≡ printed_report rows) × (status ≡ status_accepted))
+    ⊎ ((number : ℕ) × (cause : AuditCause) × FailsAt limits source rest number cause × TellsWhy number cause words × (status ≡ status_refused))
 
 -- That is out, and nothing else. (The input before and after, then the output.)
 abbrev pub Audited : ℤ → Device → Device → Device → Device → ℕ → Type 0

@@ -5,6 +5,7 @@ use Rattle.iim_unpack.specs.declared.refusal.Refusal.{Refusal}
 use Rattle.iim_commands.specs.declared.fault.CommandFault.{CommandFault}
 use Rattle.iim_commands.specs.declared.fault.CommandFault.TheVariants.{CannotRead, CannotWrite, OutOfMemory}
 use Rattle.iim_commands.specs.Format.Listings.{told}
+use Rattle.iim_commands.specs.Format.Statuses.{status_accepted, status_refused}
 use Rattle.iim_unpack.specs.Format.Listing.{InputEnding, Listed, Whole, RefusedBy, TooMany}
 
 -- the line of an accepted envelope: its number, and how many octets it has
@@ -46,6 +47,6 @@ report text envelopes ending = texts_from text 1 envelopes ++ ending_line (lengt
 
 -- the status of a listing: 0 where the whole input is accepted, else 1
 abbrev pub status_of : InputEnding → ℕ
-status_of Whole = 0
-status_of (RefusedBy refusal) = 1
-status_of TooMany = 1
+status_of Whole = status_accepted
+status_of (RefusedBy refusal) = status_refused
+status_of TooMany = status_refused

@@ -2,6 +2,7 @@
 use Rattle.std.specs.Prelude.{◌≡◌, ℕ, ◌≤◌, ◌⊎◌, List, [], ◌∷◌, ◌++◌, length, map, take}
 use Rattle.std.specs.Io.KnownBytes.{Appends}
 use Rattle.std.specs.List.{join_with_byte}
+use Rattle.iim_dataset.specs.Format.Characters.{lf}
 use Rattle.iim_dataset.specs.Format.Devices.{Device, Wrote, Stopped, Unfailed}
 use Rattle.iim_dataset.specs.Format.DeviceLaws.{HasGiven, MissedAfter}
 use Rattle.iim_dataset.specs.declared.device.IoFault.{IoFault}
@@ -18,11 +19,11 @@ use Rattle.iim_unpack.specs.Format.Listing.{Divides, InputEnding, Whole, Refused
 
 -- the text of an envelope: its lines, joined by LF
 abbrev pub text_of : Listed → List ℕ
-text_of e = join_with_byte 10 e.value.lines
+text_of e = join_with_byte lf e.value.lines
 
 -- and an LF after it
 abbrev pub story_of : ℕ → Listed → List ℕ
-story_of number e = text_of e ++ (10 ∷ [])
+story_of number e = text_of e ++ (lf ∷ [])
 
 -- the stories of all envelopes, in their order
 abbrev pub stories : List Listed → List ℕ

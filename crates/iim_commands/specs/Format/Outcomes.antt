@@ -12,6 +12,7 @@ use Rattle.iim_commands.specs.Format.Narration.{IsUnnarrated, Narrated}
 use Rattle.iim_commands.specs.Format.Packing.{Answered, Asked, IsUnanswered, asked}
 use Rattle.iim_commands.specs.Format.Reports.{Reported, IsUnreported}
 use Rattle.iim_commands.specs.Format.Texts.{shown_of}
+use Rattle.iim_commands.specs.Format.Statuses.{status_failed}
 
 -- The line of the fault is out, or the device broke inside it.
 abbrev pub Complained : Device → Device → CommandFault → Type 0
@@ -20,29 +21,29 @@ Complained old new fault = Wrote old new (fault_line fault) ⊎ ((n : ℕ) × St
 -- A run ends with its answer: with the status, or with the fault, which is told, and status 3. (The errors before and after.)
 abbrev pub EndsRun : Device → Device → Result ℕ CommandFault → ℕ → Type 0
 EndsRun old new (Ok want) status = (status ≡ want) × (new ≡ old)
-EndsRun old new (Err fault) status = (status ≡ 3) × Complained old new fault
+EndsRun old new (Err fault) status = (status ≡ status_failed) × Complained old new fault
 
 -- The input was reported, without a word on the errors; or a fault came and was told there, and the status is 3.
 abbrev pub EndsReport : (ℕ → Listed → List ℕ) → Devices → Devices → ℕ → Type 0
 EndsReport text old new status = (Reported text old.input new.input old.output new.output status × (new.errors ≡ old.errors))
-    ⊎ ((fault : CommandFault) × IsUnreported text old.input new.input old.output new.output fault × Complained old.errors new.errors fault × (status ≡ 3))
+    ⊎ ((fault : CommandFault) × IsUnreported text old.input new.input old.output new.output fault × Complained old.errors new.errors fault × (status ≡ status_failed))
 
 -- The stories of the input were told, with the lines of `check` on the errors; or a fault came and was told there after them, and the
 -- status is 3.
 abbrev pub ToldAsStory : Devices → Devices → ℕ → Type 0
 ToldAsStory old new status = Narrated old.input new.input old.output new.output old.errors new.errors status
     ⊎ ((fault : CommandFault) × (errors : Device) × IsUnnarrated old.input new.input old.output new.output old.errors errors fault
-    × Complained errors new.errors fault × (status ≡ 3))
+    × Complained errors new.errors fault × (status ≡ status_failed))
 
 -- The audit of the input was reported, without a word on the errors; or a fault came and was told there, and the status is 3.
 abbrev pub Reviewed : ℤ → Devices → Devices → ℕ → Type 0
 Reviewed now old new status = (Audited now old.input new.input old.output new.output status × (new.errors ≡ old.errors))
-    ⊎ ((fault : CommandFault) × IsUnaudited now old.input new.input old.output new.output fault × Complained old.errors new.errors fault × (status ≡ 3))
+    ⊎ ((fault : CommandFault) × IsUnaudited now old.input new.input old.output new.output fault × Complained old.errors new.errors fault × (status ≡ status_failed))
 
 -- The script was answered; or a fault came and was told on the errors, and the status is 3.
 abbrev pub EndsPacking : Asked → Devices → Devices → ℕ → Type 0
 EndsPacking asked old new status = Answered asked old new status
-    ⊎ ((fault : CommandFault) × IsUnanswered asked old new fault × Complained old.errors new.errors fault × (status ≡ 3))
+    ⊎ ((fault : CommandFault) × IsUnanswered asked old new fault × Complained old.errors new.errors fault × (status ≡ status_failed))
 
 -- What each job leaves.
 abbrev pub Ran : Job → Devices → Devices → ℕ → Type 0

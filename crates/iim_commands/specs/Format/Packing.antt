@@ -7,7 +7,9 @@ use Rattle.iim_dataset.specs.Format.Devices.{Device, Wrote}
 use Rattle.iim_dataset.specs.Format.DeviceLaws.{BrokeAfter, HasGiven, MissedAfter}
 use Rattle.iim_dataset.specs.declared.device.IoFault.{IoFault}
 use Rattle.iim_object.specs.Format.Plans.{most_in}
+use Rattle.iim_object.specs.Format.PackCauses.{pack_number}
 use Rattle.iim_object.specs.Format.Writing.{Begins}
+use Rattle.iim_object.specs.declared.cause.PackCause.TheVariants as causes
 use Rattle.iim_object.specs.declared.plan.Plan.{Plan}
 use Rattle.iim_object.specs.declared.size.Size.{Size}
 use Rattle.iim_object.specs.declared.size.Size.TheVariants.{Known, Unknown}
@@ -24,6 +26,7 @@ use Rattle.iim_commands.specs.declared.fault.CommandFault.TheVariants.{CannotRea
 use Rattle.iim_commands.specs.Format.Devices.{Devices}
 use Rattle.iim_commands.specs.Format.Listings.{limits}
 use Rattle.iim_commands.specs.Format.Reports.{IsTold}
+use Rattle.iim_commands.specs.Format.Statuses.{status_accepted, status_refused}
 
 -- how an envelope is to be packed: the octets of a full subfile; whether the size is to be left unknown, and then the most octets of
 -- the object
@@ -98,7 +101,7 @@ IsFaultLine octets text = (line : ℕ) × (cause : ScriptCause) × IsScriptFault
 -- The octets are a script whose object has more octets than are asked for, which is told of the line `text`.
 abbrev pub IsPastLine : Asked → List ℕ → List ℕ → Type 0
 IsPastLine a octets text = (t : ScriptContent) × IsScriptOf octets t × IsPast a t
-    × (text ≡ refusal_line t.text_line 80 (codes "PastAnnounced"))
+    × (text ≡ refusal_line t.text_line (pack_number causes.PastAnnounced) (codes "PastAnnounced"))
 
 -- Why the octets are not packed, and the line that tells it.
 abbrev pub IsRefusal : Asked → List ℕ → List ℕ → Type 0
@@ -134,8 +137,8 @@ IsBrokenOff a octets old new = (t : ScriptContent) × (plan : Plan) × (out : Li
 -- errors tell it.
 abbrev pub Answered : Asked → Devices → Devices → ℕ → Type 0
 Answered a old new status = (octets : List ℕ) × IsRead old.input new.input octets
-    × ((IsPacked a octets old.output new.output × (new.errors ≡ old.errors) × (status ≡ 0))
-    ⊎ ((text : List ℕ) × IsRefusal a octets text × (new.output ≡ old.output) × IsTold old.errors new.errors text 1 status))
+    × ((IsPacked a octets old.output new.output × (new.errors ≡ old.errors) × (status ≡ status_accepted))
+    ⊎ ((text : List ℕ) × IsRefusal a octets text × (new.output ≡ old.output) × IsTold old.errors new.errors text status_refused status))
 
 -- Why there is no answer: the input was not read; or memory was short; or the output broke. Only in the last case anything is written.
 abbrev pub IsUnanswered : Asked → Devices → Devices → CommandFault → Type 0

@@ -10,6 +10,7 @@ use Rattle.iim_commands.specs.Format.Devices.{HasOctets}
 use Rattle.iim_commands.specs.Format.Listings.{limits}
 use Rattle.iim_unpack.specs.Format.Listing.{Divides, InputEnding, EndsBy, Listed, IsListing}
 use Rattle.iim_commands.specs.Format.Lines.{report, status_of, texts_from}
+use Rattle.iim_commands.specs.Format.Statuses.{status_failed}
 
 -- The listing of the whole input is reported, and the status is the one for it. (The input before and after, then the output.)
 abbrev pub Reported : (ℕ → Listed → List ℕ) → Device → Device → Device → Device → ℕ → Type 0
@@ -33,7 +34,7 @@ IsUnreported text source rest old new OutOfMemory = (input : List ℕ) × (envel
 
 -- The text is out, and the status is the wanted one; or the device broke inside it, and the status is 3.
 abbrev pub IsTold : Device → Device → List ℕ → ℕ → ℕ → Type 0
-IsTold old new text want status = (Wrote old new text × (status ≡ want)) ⊎ ((n : ℕ) × Stopped old new text n × (status ≡ 3))
+IsTold old new text want status = (Wrote old new text × (status ≡ want)) ⊎ ((n : ℕ) × Stopped old new text n × (status ≡ status_failed))
 
 -- The output broke inside the text.
 abbrev pub IsUnsaid : Device → Device → List ℕ → CommandFault → Type 0

@@ -67,9 +67,13 @@ abbrev pub IsFlag : Option Text → Bool → Type 0
 IsFlag None flag = flag ≡ false
 IsFlag (Some text) flag = (text ≡ codes "true" → flag ≡ true) × (text ≡ codes "false" → flag ≡ false)
 
+-- the most octets of a subfile where no number is given
+abbrev pub default_subfile : ℕ
+default_subfile = 1024
+
 -- The octets of a subfile: the number that was given, or 1,024.
 abbrev pub IsSubfile : Option Text → ℕ → Type 0
-IsSubfile given subfile = (number : Option ℕ) × GivesNumber 1 given number × (subfile ≡ unwrap_or number 1024)
+IsSubfile given subfile = (number : Option ℕ) × GivesNumber 1 given number × (subfile ≡ unwrap_or number default_subfile)
 
 -- The text is this instant, by the rules of jiff.
 abbrev pub IsInstant : Option Text → ℤ → Type 0

@@ -3,6 +3,7 @@ use Rattle.std.specs.Prelude.{◌≡◌, ℕ, ◌⊎◌}
 use Rattle.iim_commands.specs.Format.Devices.{Devices}
 use Rattle.iim_commands.specs.Format.Outcomes.{Ran}
 use Rattle.iim_commands.specs.declared.request.Job.{Job}
+use Rattle.iim_commands.specs.Format.Statuses.{status_failed}
 use Rattle.iimwire.specs.declared.start.RunFault.{RunFault}
 use Rattle.iimwire.specs.Format.Starts.{status_of_start}
 
@@ -12,4 +13,4 @@ EndsWith job status = (old : Devices) × (new : Devices) × Ran job old new stat
 
 -- The status is the one for the fault, or that of a line that can't be written.
 abbrev pub EndsWithout : RunFault → ℕ → Type 0
-EndsWithout fault status = (status ≡ status_of_start fault) ⊎ (status ≡ 3)
+EndsWithout fault status = (status ≡ status_of_start fault) ⊎ (status ≡ status_failed)

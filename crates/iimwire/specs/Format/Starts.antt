@@ -7,6 +7,7 @@ use Rattle.iimwire.specs.declared.start.RunFault.{RunFault}
 use Rattle.iimwire.specs.declared.start.RunFault.TheVariants.{Usage, NoText, CannotOpen, OutOfMemory}
 use Rattle.iim_commands.specs.Format.Reports.{IsTold}
 use Rattle.iim_commands.specs.Format.Shown.{shown_name}
+use Rattle.iim_commands.specs.Format.Statuses.{status_usage, status_failed}
 
 -- the line that tells that memory was refused
 abbrev pub no_memory_line : List ℕ
@@ -28,18 +29,18 @@ TellsRunFault OutOfMemory text = text ≡ no_memory_line
 
 -- the status for it: 2 where the words ask for nothing, else 3
 abbrev pub status_of_usage : UsageFault → ℕ
-status_of_usage (usage.Words error) = 2
-status_of_usage usage.MaxNeedsUnknown = 2
-status_of_usage usage.BadNow = 2
-status_of_usage usage.OutOfMemory = 3
+status_of_usage (usage.Words error) = status_usage
+status_of_usage usage.MaxNeedsUnknown = status_usage
+status_of_usage usage.BadNow = status_usage
+status_of_usage usage.OutOfMemory = status_failed
 
 abbrev pub status_of_start : RunFault → ℕ
 status_of_start (Usage fault) = status_of_usage fault
-status_of_start NoText = 2
-status_of_start (CannotOpen name) = 3
-status_of_start OutOfMemory = 3
+status_of_start NoText = status_usage
+status_of_start (CannotOpen name) = status_failed
+status_of_start OutOfMemory = status_failed
 
 -- It was told why the run can't begin, or that there is no memory for that.
 abbrev pub IsHindered : RunFault → Device → Device → ℕ → Type 0
 IsHindered fault old new status = ((text : List ℕ) × TellsRunFault fault text × IsTold old new text (status_of_start fault) status)
-    ⊎ IsTold old new no_memory_line 3 status
+    ⊎ IsTold old new no_memory_line status_failed status
