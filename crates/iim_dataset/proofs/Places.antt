@@ -144,7 +144,7 @@ tag_on held then_held ys b e octets events l =
     }
 
 -- the end of a tag
-head_on : (held : ArrayVec ℕ) (ys : List ℕ) (h : Head) → SpellsTag count_octets h (held.items ++ ys) → 0 < h.count → Brings (Tag held) ys (HeadRead h ∷ []) (Inside h h.count)
+pub head_on : (held : ArrayVec ℕ) (ys : List ℕ) (h : Head) → SpellsTag count_octets h (held.items ++ ys) → 0 < h.count → Brings (Tag held) ys (HeadRead h ∷ []) (Inside h h.count)
 head_on held ys h s some octets events l =
     let t = tag_held held octets events l.begun l.hands l.keeps in record {
       begun = InData h [];

@@ -26,7 +26,7 @@ use Rattle.iim_dataset.proofs.Fronts.{begun_none, front_are}
 use Rattle.iim_dataset.proofs.Places.{tag_on, head_leads, data_on, data_end, octet_on, stops_at}
 use Rattle.iim_dataset.proofs.HeldTags.{one_more, unfinished}
 
-octet_at : (xs : List ℕ) (k : ℕ) → Octets xs → k < length xs → slice_index xs k < 256
+pub octet_at : (xs : List ℕ) (k : ℕ) → Octets xs → k < length xs → slice_index xs k < 256
 octet_at [] k o lt = absurd (omega (arith, lt))
 octet_at (x ∷ xs) zero o lt = o.0
 octet_at (x ∷ xs) (suc k) o lt = octet_at xs k o.1 (omega (arith, lt))

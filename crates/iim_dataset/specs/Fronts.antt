@@ -23,6 +23,13 @@ pub record TakesFront {D : Type 0} (goes : D → List DatasetEvent → D → Typ
   pub told : TellsSink goes old (take front.used rest) front.place a b
   pub onward : TakesOnward stands ends front.step front.place b
 
+-- Whole datasets were taken, or none: the sink was told of them, and takes what comes next or has ended.
+pub record TakesWholes {D : Type 0} (goes : D → List DatasetEvent → D → Type 0) (stands : D → Option ℕ → Type 0) (ends : D → Type 0) (rest : List ℕ) (step : Step) (used : ℕ) (a b : D) : Type 0 where
+  pub within : used ≤ length rest
+  pub told : TellsSink goes between (take used rest) between a b
+  pub onward : TakesOnward stands ends step between b
+  pub none : used ≡ 0 → b ≡ a
+
 -- The first `used` octets are a tag of this head, and then these data, all of them.
 pub record WholeFront (rest : List ℕ) (h : Head) (xs : List ℕ) (used : ℕ) : Type 0 where
   pub tag : List ℕ

@@ -3,10 +3,10 @@
 ghost use Rattle.std.specs.Prelude.{◌≡◌, ◌<◌, ◌≤◌, [], length, take, Some, None, IfSome, IfOk, IfErr, OnOk, OnErr};
 ghost use Rattle.iim_dataset.specs.Format.Datasets.{count_octets};
 ghost use Rattle.iim_dataset.specs.Format.Tags.{BeginsTag};
-ghost use Rattle.iim_dataset.specs.Format.Places.{IsPlace, TellsSink, between, to_come};
+ghost use Rattle.iim_dataset.specs.Format.Places.{IsPlace, between, to_come};
 ghost use Rattle.iim_dataset.specs.Fronts.{TakesOnward};
-ghost use Rattle.iim_dataset.specs.Fronts.{TakesFront, WholeFront};
-ghost use Rattle.iim_dataset.specs.Format.Reading.{TakesPiece, RefusesOne};
+ghost use Rattle.iim_dataset.specs.Fronts.{TakesFront, TakesWholes, WholeFront};
+ghost use Rattle.iim_dataset.specs.Format.Reading.{TakesPiece, RefusesOne, Stops};
 ghost use Rattle.iim_dataset.specs.Completing.{StopsAmong, head_events, place_after_head};
 
 use crate::fault::{Fault, FaultCause, tag_fault};
@@ -168,46 +168,47 @@ fn whole_dataset(rest: &[u8]) -> Option<(Head, &[u8], usize)>
     }
 }
 
-/// Takes whole datasets at the front, as long as the sink takes them at once, and answers how many octets they have.
+/// Takes whole datasets at the front, as long as the sink takes them at once: up to the one that it called the last, and answers
+/// its last answer and how many octets they have; or up to the octet that it refuses.
 #[inline(always)]
-fn take_wholes<D: DatasetSink>(rest: &[u8], sink: &mut D) -> usize
+fn take_wholes<D: DatasetSink>(rest: &[u8], sink: &mut D) -> Result<(Step, usize), usize>
     requires stands { D.stands sink.old None }
-    ensures within { result ≤ length rest.now }
-    ensures told { TellsSink D.goes between (take result rest.now) between sink.old sink.new }
-    ensures stands { D.stands sink.new None }
-    ensures none { result ≡ 0 → sink.new ≡ sink.old }
+    ensures wholes { IfOk result (λ front. TakesWholes D.goes D.stands D.ends rest.now front.0 front.1 sink.old sink.new) }
+    ensures before { IfErr result (λ used. used < length rest.now) }
+    ensures stopped { IfErr result (λ used. Stops D.stops between rest.now used sink.old sink.new) }
 {
     let mut at = 0;
     while let Some((head, data, used)) = whole_dataset(&rest[at..]) {
-        if !sink.whole(head, data) {
-            return at;
+        match sink.whole(head, data) {
+            Ok(None) => return Ok((Step::More, at)),
+            Ok(Some(Step::More)) => at += used,
+            Ok(Some(Step::Last)) => return Ok((Step::Last, at + used)),
+            Err(stop) => return Err(at + (used - data.len()) + stop.taken),
         }
-        at += used;
     }
-    at
+    Ok((Step::More, at))
 }
 
-/// Takes whole datasets where no tag is begun, as long as the sink takes them at once, and answers how many octets they have.
+/// Takes whole datasets where no tag is begun, as long as the sink takes them at once.
 #[inline(always)]
 fn take_wholes_after<D: DatasetSink>(
     held: &ArrayVec<u8, HELD_OCTETS>,
     rest: &[u8],
     sink: &mut D,
-) -> usize
+) -> Result<(Step, usize), usize>
     requires stands { D.stands sink.old None }
-    ensures within { result ≤ length rest.now }
-    ensures between { 0 < result → held.now.items ≡ [] }
-    ensures told { 0 < result → TellsSink D.goes between (take result rest.now) between sink.old sink.new }
-    ensures stands { D.stands sink.new None }
-    ensures none { result ≡ 0 → sink.new ≡ sink.old }
+    ensures wholes { IfOk result (λ front. TakesWholes D.goes D.stands D.ends rest.now front.0 front.1 sink.old sink.new) }
+    ensures between { IfOk result (λ front. 0 < front.1 → held.now.items ≡ []) }
+    ensures before { IfErr result (λ used. used < length rest.now) }
+    ensures stopped { IfErr result (λ used. (held.now.items ≡ []) × Stops D.stops between rest.now used sink.old sink.new) }
 {
     if !held.is_empty() || !sink.wants_whole() {
-        return 0;
+        return Ok((Step::More, 0));
     }
     take_wholes(rest, sink)
 }
 
-/// Takes a front of the octets that are left, the longest that lies in one tag, or in the data of one dataset.
+/// Takes a front of the octets that are left: whole datasets, or else the longest that lies in one tag, or in the data of one dataset.
 fn take_front<D: DatasetSink>(
     place: DatasetPlace,
     rest: &[u8],
@@ -220,17 +221,19 @@ fn take_front<D: DatasetSink>(
     ensures refused { IfErr result (λ given. RefusesOne D.goes D.stops D.stands place rest.now given.fault given.place sink.old sink.new) }
 {
     match place {
-        DatasetPlace::Tag(held) => {
-            let used = take_wholes_after(&held, rest, sink);
-            if used > 0 {
-                return Ok(Front {
-                    place: start(),
-                    step: Step::More,
-                    used,
-                });
+        DatasetPlace::Tag(held) => match take_wholes_after(&held, rest, sink) {
+            Ok((step, used)) => {
+                if used > 0 {
+                    return Ok(Front {
+                        place: start(),
+                        step,
+                        used,
+                    });
+                }
+                take_tag(held, rest, sink)
             }
-            take_tag(held, rest, sink)
-        }
+            Err(used) => Err(stopped(used)),
+        },
         DatasetPlace::Inside { head, left } => take_data(head, left, rest, sink),
     }
 }

@@ -1,6 +1,6 @@
 //! Where datasets go.
 
-ghost use Rattle.std.specs.Prelude.{◌≡◌, false, IsTrue, ◌-◌, ◌<◌, ◌≤◌, ◌++◌, [], ◌∷◌, List, ℕ, length, map, take, slice_index, Option, Some, None, IfOk, IfErr, OnOk, OnErr};
+ghost use Rattle.std.specs.Prelude.{◌≡◌, ◌-◌, ◌<◌, ◌≤◌, ◌++◌, [], ◌∷◌, List, ℕ, length, map, take, slice_index, Option, Some, None, MatchOption, IfSome, IfOk, IfErr, OnOk, OnErr};
 ghost use Rattle.iim_dataset.specs.Format.Events.{DatasetEvent, HeadRead, DataOctet, DatasetEnd};
 ghost use Rattle.iim_dataset.specs.Format.Reading.{AfterStep};
 
@@ -43,17 +43,21 @@ pub trait DatasetSink {
         false
     }
 
-    /// Takes a whole dataset: its head, its data and its end; or answers that it has taken nothing, as a sink always may.
-    fn whole(&mut self, head: Head, octets: &[u8]) -> bool
+    /// Takes a whole dataset: its head, its data and its end. It takes all of it, or the head and the octets before the one that it
+    /// refuses; or it answers None and has taken nothing, as a sink always may.
+    fn whole(&mut self, head: Head, octets: &[u8]) -> Result<Option<Step>, Stop>
         requires stands { stands self.old None }
         requires count { head.count ≡ length octets.now }
-        ensures took { IsTrue result → goes self.old (HeadRead head ∷ (map DataOctet octets.now ++ DatasetEnd ∷ [])) self.new }
-        ensures stands { stands self.new None }
-        ensures left { result ≡ false → self.new ≡ self.old }
+        ensures taken { IfOk result (λ step. MatchOption step (self.new ≡ self.old) (λ _.
+            goes self.old (HeadRead head ∷ (map DataOctet octets.now ++ DatasetEnd ∷ [])) self.new)) }
+        ensures stands { IfOk result (λ step. IfSome step (AfterStep stands ends self.new)) }
+        ensures refused { IfErr result (λ stop. stop.taken < length octets.now) }
+        ensures stopped { IfErr result (λ stop.
+            stops self.old (HeadRead head ∷ map DataOctet (take stop.taken octets.now)) (DataOctet (slice_index octets.now stop.taken)) self.new) }
     {
         let _ = head;
         let _ = octets;
-        false
+        Ok(None)
     }
 
     /// Takes octets of the data, or only those before the one that it refuses.

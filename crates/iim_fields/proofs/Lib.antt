@@ -17,3 +17,4 @@ pub mod Finish
 pub mod Keeping
 pub mod OnePlace
 pub mod Wholes
+pub mod Subfiles

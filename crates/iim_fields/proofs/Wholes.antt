@@ -1,5 +1,5 @@
 -- A whole dataset, taken at once.
-use Rattle.std.proofs.Common.{◌≡◌, ◌≢◌, ℕ, ◌+◌, ◌<◌, ◌≤◌, List, [], ◌∷◌, ◌++◌, length, get_or, refl, ap, sym, subst, ◌∙◌, inl, inr, arith, Bool, true, false, not, if◌then◌else◌, nat_le, Option, Some, None}
+use Rattle.std.proofs.Common.{◌≡◌, ◌≢◌, ℕ, ◌+◌, ◌<◌, ◌≤◌, List, [], ◌∷◌, ◌++◌, length, get_or, ◌⊎◌, refl, ap, sym, subst, ◌∙◌, inl, inr, arith, Bool, true, false, not, if◌then◌else◌, nat_le, Option, Some, None}
 use Rattle.std.specs.Prelude.{vec_len, vec_capacity, is_some, is_none}
 use Rattle.std.specs.Option.{option_or}
 use Rattle.iim_dataset.specs.Format.Datasets.{Dataset, head_of}
@@ -206,28 +206,37 @@ whole_reading check new limits store taken kept size h xs w octets entries room 
 
 -- ---- a number
 
-no_limit : (limits : Limits) (octets fields : ℕ) (h : Head) → is_kept h.rec ≡ false → room_fault limits octets fields h ≡ None
+pub no_limit : (limits : Limits) (octets fields : ℕ) (h : Head) → is_kept h.rec ≡ false → room_fault limits octets fields h ≡ None
 no_limit limits octets fields h passes = by_kept (is_kept h.rec) (nat_le (octets + h.count) limits.octets) (nat_le (fields + 1) limits.fields) (fault_on h HeaderFull) (fault_on h TooManyFields) passes
   where
     by_kept : (k a b : Bool) (f g : FieldFault) → k ≡ false → (if not k then None else if not a then Some f else if not b then Some g else None) ≡ None
     by_kept true a b f g is = absurd cc
     by_kept false a b f g is = refl
 
+-- neither 7 nor 9 is kept, and neither is 8
+number_passes : (r : ℕ) → (r ≡ 7) ⊎ (r ≡ 9) → is_kept r ≡ false
+number_passes r (inl seven) = ap is_kept seven
+number_passes r (inr nine) = ap is_kept nine
+
+pub no_subfile : (r : ℕ) → (r ≡ 7) ⊎ (r ≡ 9) → r ≢ 8
+no_subfile r (inl seven) eight = omega (arith, seven, eight)
+no_subfile r (inr nine) eight = omega (arith, nine, eight)
+
 -- the fault is that of the head, or else of the value
-pub number_exactly : (check : Option RecordPlace) (limits : Limits) (store : Store) (size : List ℕ) (h : Head) (xs : List ℕ) (b : Bool) → h.rec ≡ 7 → h.count ≡ length xs
+pub number_exactly : (check : Option RecordPlace) (limits : Limits) (store : Store) (size : List ℕ) (h : Head) (xs : List ℕ) (b : Bool) → (h.rec ≡ 7) ⊎ (h.rec ≡ 9) → h.count ≡ length xs
     → ((ds : List Dataset) → HasChecked check ds → b ≡ is_none (record_layer_fault ds (data_of h xs)))
     → (ds : List Dataset) → StandsAfter (place_of check limits store size) ds → b ≡ is_none (option_or (first_fault limits ds h) (value_fault (data_of h xs)))
-number_exactly check limits store size h xs b seven count exactly ds s =
+number_exactly check limits store size h xs b number count exactly ds s =
     exactly ds s.checked
     ∙ (ap (λ (k : Head). is_none (option_or (record_fault ds k) (value_fault (data_of h xs)))) (sym (same_head h xs count))
-    ∙ without (record_fault ds h) (limits_fault limits ds h) (value_fault (data_of h xs)) (no_limit limits (kept_octets ds) (length (faults.kept ds)) h (ap is_kept seven)))
+    ∙ without (record_fault ds h) (limits_fault limits ds h) (value_fault (data_of h xs)) (no_limit limits (kept_octets ds) (length (faults.kept ds)) h (number_passes h.rec number)))
 
 pub number_stands : (check new : Option RecordPlace) (limits : Limits) (store : Store) (size : List ℕ) (h : Head) (xs : List ℕ) → IsReading check limits store size → (took : TookWhole check new h xs) → checks.IsBetween new
-    → h.rec ≡ 7 → h.count ≡ length xs → ((i : ℕ) → get_or xs i 0 < 256)
+    → (h.rec ≡ 7) ⊎ (h.rec ≡ 9) → h.count ≡ length xs → ((i : ℕ) → get_or xs i 0 < 256)
     → (ds : List Dataset) → StandsAfter (place_of check limits store size) ds → StandsAfter (place_of new limits store size) (ds ++ data_of h xs ∷ [])
-number_stands check new limits store size h xs r took next seven count small ds s =
-    let passes : is_kept h.rec ≡ false = ap is_kept seven in
-    let other : h.rec ≢ 8 = λ eight. omega (arith, seven, eight) in
+number_stands check new limits store size h xs r took next number count small ds s =
+    let passes : is_kept h.rec ≡ false = number_passes h.rec number in
+    let other : h.rec ≢ 8 = no_subfile h.rec number in
     let mid = took.mid in
     let begun : StandsIn (place_of mid limits store size) ds h [] = stands_in check mid limits store size h r.store_is took.inside took.taken (no_limit limits (length store.octets.items) (vec_len store.entries) h passes) ds s in
     let takes : CanTake (place_of mid limits store size) (length xs) =
@@ -242,8 +251,8 @@ number_stands check new limits store size h xs r took next seven count small ds 
     (record { head = (λ i. record { rec = h.rec; set = h.set; count = (sym count) i }); octets = octets_of xs small; given = λ _. refl })).0
 
 pub number_reading : (check new : Option RecordPlace) (limits : Limits) (store : Store) (size : List ℕ) (h : Head) (xs : List ℕ) (b : Bool) → IsReading check limits store size → checks.IsBetween check → (b ≡ true → TookWhole check new h xs)
-    → (b ≡ false → new ≡ check) → checks.IsBetween new → h.rec ≡ 7 → h.count ≡ length xs → ((i : ℕ) → get_or xs i 0 < 256) → IsReading new limits store size
-number_reading check new limits store size h xs true r between took left next seven count small =
+    → (b ≡ false → new ≡ check) → checks.IsBetween new → (h.rec ≡ 7) ⊎ (h.rec ≡ 9) → h.count ≡ length xs → ((i : ℕ) → get_or xs i 0 < 256) → IsReading new limits store size
+number_reading check new limits store size h xs true r between took left next number count small =
     let (ds, s) = between_after (place_of check limits store size) r.stands between in
-    reading_passed check new limits store size size r next (inl (ds ++ data_of h xs ∷ [], number_stands check new limits store size h xs r (took refl) next seven count small ds s))
-number_reading check new limits store size h xs false r between took left next seven count small = subst (λ (k : Option RecordPlace). IsReading k limits store size) (sym (left refl)) r
+    reading_passed check new limits store size size r next (inl (ds ++ data_of h xs ∷ [], number_stands check new limits store size h xs r (took refl) next number count small ds s))
+number_reading check new limits store size h xs false r between took left next number count small = subst (λ (k : Option RecordPlace). IsReading k limits store size) (sym (left refl)) r

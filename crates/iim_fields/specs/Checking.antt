@@ -47,3 +47,18 @@ pub record TakesWhole (old : RecordPlace) (h : Head) (xs : List ℕ) (new : Reco
   pub adds : AddsHead old.order h new.order
   pub begun : new.begun ≡ old.begun
   pub fine : value_fault (data_of h xs) ≡ None
+
+-- The head of a subfile, without a fault, led from place to place.
+pub record TakesSubfile (old : RecordPlace) (h : Head) (new : RecordPlace) : Type 0 where
+  pub row : Row
+  pub known : row_of h.rec h.set ≡ Some row
+  pub no_fault : head_fault old.order.rec (has_seen old.order) h ≡ None
+  pub adds : AddsHead old.order h new.order
+  pub begun : new.begun ≡ old.begun
+
+-- A subfile of this head led from one to the other: by the place in it.
+pub record TookSubfile (old new : Option RecordPlace) (h : Head) : Type 0 where
+  pub mid : Option RecordPlace
+  pub inside : IsIn mid h
+  pub taken : (ds : List Dataset) → HasChecked old ds → HasTaken mid ds h
+  pub closed : (ds : List Dataset) → HasChecked mid ds → HasChecked new ds

@@ -4,11 +4,12 @@ ghost use Rattle.std.specs.Prelude.{◌≡◌, ◌≢◌, false, List, [], ◌�
 ghost use Rattle.std.specs.Option.{ForSome};
 ghost use Rattle.iim_dataset.specs.Format.Datasets.{Dataset};
 ghost use Rattle.iim_dataset.specs.declared.head.Head.{Head as HeadValue};
-ghost use Rattle.iim_fields.specs.Format.Faults.{present_record};
+ghost use Rattle.iim_fields.specs.Format.Faults.{head_fault, present_record, record_fault};
+ghost use Rattle.iim_fields.specs.Format.Orders.{has_seen};
 ghost use Rattle.iim_fields.specs.Orders.{AddsHead};
 ghost use Rattle.iim_fields.specs.Format.Values.{number_told, data_of};
 ghost use Rattle.iim_fields.specs.Format.Checks.{begun_head, present_at, TakesHead, TakesValue, IsBetween, IsIn, HasChecked, IsChecking, HasTaken, IsRecordFault, IsValueFault, HasEnded};
-ghost use Rattle.iim_fields.specs.Checking.{missing_at, place_fault, record_layer_fault, IsRecordPlace, TakesWhole, TookWhole};
+ghost use Rattle.iim_fields.specs.Checking.{missing_at, place_fault, record_layer_fault, IsRecordPlace, TakesSubfile, TakesWhole, TookSubfile, TookWhole};
 ghost use Rattle.iim_fields.specs.declared.check.RecordPlace.{RecordPlace as PlaceValue};
 
 use crate::fault::FieldFault;
@@ -64,6 +65,21 @@ impl RecordPlace {
             return false;
         }
         if !is_value(head, &row, octets) {
+            return false;
+        }
+        self.order.take(head);
+        true
+    }
+
+    /// Takes a whole subfile whose head may stand next; or changes nothing.
+    #[inline(always)]
+    fn whole_subfile(&mut self, head: Head) -> bool
+        requires subfile { head.rec ≡ 8 }
+        ensures exactly { result ≡ is_none (head_fault self.old.order.rec (has_seen self.old.order) head) }
+        ensures took { IsTrue result → TakesSubfile self.old head self.new }
+        ensures left { result ≡ false → self.new ≡ self.old }
+    {
+        if !self.order.admits_subfile(head) {
             return false;
         }
         self.order.take(head);
@@ -210,6 +226,24 @@ impl RecordCheck {
         each_row_has_values();
         match &mut self.place {
             Some(place) => place.whole(head, octets),
+            None => unreachable!(),
+        }
+    }
+
+    /// Takes a whole subfile, whatever it has; or changes nothing where its head may not come.
+    #[inline(always)]
+    pub(crate) fn whole_subfile(&mut self, head: Head) -> bool
+        requires between { IsBetween self.old }
+        requires subfile { head.rec ≡ 8 }
+        ensures exactly { (ds : List Dataset) → HasChecked self.old ds → result ≡ is_none (record_fault ds head) }
+        ensures took { IsTrue result → TookSubfile self.old self.new head }
+        ensures section { IsTrue result → present_at self.new ≡ head.rec }
+        ensures between { IsBetween self.new }
+        ensures left { result ≡ false → self.new ≡ self.old }
+    {
+        each_row_has_values();
+        match &mut self.place {
+            Some(place) => place.whole_subfile(head),
             None => unreachable!(),
         }
     }

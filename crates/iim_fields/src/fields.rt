@@ -1,6 +1,6 @@
 //! The records of an envelope, dataset by dataset.
 
-ghost use Rattle.std.specs.Prelude.{◌≡◌, false, ◌+◌, ◌-◌, ◌≤◌, ◌<◌, ℕ, List, [], ◌∷◌, ◌++◌, length, is_none, Some, None, IfOk, IfErr, OnOk, OnErr, ◌↔◌, IsTrue};
+ghost use Rattle.std.specs.Prelude.{◌≡◌, ◌⊎◌, false, ◌+◌, ◌-◌, ◌≤◌, ◌<◌, ℕ, List, [], ◌∷◌, ◌++◌, length, is_none, Some, None, IfOk, IfErr, OnOk, OnErr, ◌↔◌, IsTrue};
 ghost use Rattle.iim_dataset.specs.Format.Datasets.{Dataset};
 ghost use Rattle.iim_dataset.specs.declared.head.Head.{Head as HeadValue};
 ghost use Rattle.iim_fields.specs.Format.Records.{AreSections};
@@ -74,7 +74,7 @@ impl Model for Fields {
 impl Fields {
     ghost use Rattle.iim_fields.specs.Format.Faults.{present_record};
     ghost use Rattle.iim_fields.specs.Format.Walks.{rest_of};
-    ghost use Rattle.iim_fields.specs.Format.Standing.{limits_of, room_of, section_of, begun_head_of, room_for, IsEnough, IsFailed, IsBetween, IsInside, CanTake, CanClose, StandsAfter, StandsIn, IsHeadFault, IsOf, IsEnded};
+    ghost use Rattle.iim_fields.specs.Format.Standing.{limits_of, room_of, section_of, begun_head_of, room_for, IsEnough, IsFailed, IsBetween, IsInside, CanTake, CanClose, StandsAfter, StandsIn, PassesSubfile, IsHeadFault, IsOf, IsEnded};
     ghost use Rattle.iim_fields.specs.Format.Builders.{add_fault};
     ghost use Rattle.iim_fields.specs.Stores.{store_room};
     ghost use Rattle.std.specs.Prelude.{vec_capacity};
@@ -246,12 +246,12 @@ impl Fields {
         true
     }
 
-    /// Takes a whole dataset of record 7, its head and all of its data, as `begin`, `bytes` and `close` take it; or changes nothing,
-    /// and answers false, where its head or its value has a fault. Then these calls tell the fault.
+    /// Takes a whole dataset of record 7 or 9, its head and all of its data, as `begin`, `bytes` and `close` take it; or changes
+    /// nothing, and answers false, where its head or its value has a fault. Then these calls tell the fault.
     #[inline(always)]
     pub fn whole_number(&mut self, head: Head, octets: &[u8]) -> bool
         requires between { IsBetween self.old }
-        requires number { head.rec ≡ 7 }
+        requires number { (head.rec ≡ 7) ⊎ (head.rec ≡ 9) }
         requires count { head.count ≡ length octets.now }
         ensures exactly { (ds : List Dataset) → StandsAfter self.old ds
             → result ≡ is_none (option_or (first_fault (limits_of self.old) ds head) (value_fault (data_of head octets.now))) }
@@ -263,6 +263,23 @@ impl Fields {
         ensures room { room_of self.new ≡ room_of self.old }
     {
         self.check.whole(head, octets)
+    }
+
+    /// Takes a whole subfile, its head and its end, as `begin` and `close` take it, whatever it has; or changes nothing, and answers
+    /// false, where its head has a fault. Then `begin` tells the fault.
+    #[inline(always)]
+    pub fn whole_subfile(&mut self, head: Head) -> bool
+        requires between { IsBetween self.old }
+        requires subfile { head.rec ≡ 8 }
+        ensures exactly { (ds : List Dataset) → StandsAfter self.old ds → result ≡ is_none (first_fault (limits_of self.old) ds head) }
+        ensures section { IsTrue result → section_of self.new ≡ head.rec }
+        ensures passes { IsTrue result → PassesSubfile self.old head self.new }
+        ensures between { IsBetween self.new }
+        ensures left { result ≡ false → self.new ≡ self.old }
+        ensures limits { limits_of self.new ≡ limits_of self.old }
+        ensures room { room_of self.new ≡ room_of self.old }
+    {
+        self.check.whole_subfile(head)
     }
 
     /// Adds the next octets of the begun dataset. Call it as often as you like, up to the count of the head. Never for a

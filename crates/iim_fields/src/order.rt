@@ -5,13 +5,13 @@ ghost use Rattle.iim_tables.specs.Format.Rows.{row_of};
 ghost use Rattle.iim_fields.specs.Format.Faults.{head_fault, row_fault, missing_of, missing_fault, is_in_order, is_first};
 ghost use Rattle.iim_fields.specs.Format.Records.{after};
 ghost use Rattle.iim_fields.specs.Format.Orders.{has_seen, nothing};
-ghost use Rattle.iim_fields.specs.Orders.{AddsHead, end_fault, no_application};
+ghost use Rattle.iim_fields.specs.Orders.{AddsHead, end_fault, is_subfile_head, no_application, takes_subfile};
 
 use crate::fault::{FieldCause, FieldFault};
 use crate::number_set::NumberSet;
 use crate::records::{mandatory, next_record};
-use iim_dataset::Head;
-use iim_tables::records::{APPLICATION, ENVELOPE};
+use iim_dataset::{GREATEST_SIZE, Head};
+use iim_tables::records::{APPLICATION, ENVELOPE, OBJECT, PRE_OBJECT, SUBFILE};
 use iim_tables::{Row, row};
 
 /// What the heads so far leave open: the present record, 0 before the first, and the numbers that occurred in it.
@@ -63,6 +63,14 @@ fn row_fault(again: bool, row: &Row, head: Head) -> Option<FieldFault>
         return Some(fault_on(head, FieldCause::CountRange));
     }
     None
+}
+
+/// Whether the number of a head is that of a subfile, and its count one that a size can be: what the row of 8:10 asks.
+#[inline(always)]
+fn is_subfile(head: Head) -> bool
+    ensures { result ≡ is_subfile_head head.set head.count }
+{
+    head.set == SUBFILE && head.count <= GREATEST_SIZE
 }
 
 impl Order {
@@ -186,6 +194,27 @@ impl Order {
             return false;
         }
         !self.begins(head.rec) || self.missing(self.rec).is_none()
+    }
+
+    /// Whether a subfile may come next.
+    #[inline(always)]
+    fn takes_subfile(&self) -> bool
+        ensures { result ≡ takes_subfile self.now.rec (has_seen self.now) }
+    {
+        match self.rec {
+            OBJECT => true,
+            PRE_OBJECT => self.missing(PRE_OBJECT).is_none(),
+            _ => false,
+        }
+    }
+
+    /// Whether the head of a subfile may stand next, as `admits` tells by its row.
+    #[inline(always)]
+    pub(crate) fn admits_subfile(&self, head: Head) -> bool
+        requires { head.rec ≡ 8 }
+        ensures { result ≡ is_none (head_fault self.now.rec (has_seen self.now) head) }
+    {
+        is_subfile(head) && self.takes_subfile()
     }
 
     /// Takes a head that may stand next.

@@ -6,13 +6,13 @@ ghost use Rattle.iim_dataset.specs.Format.Datasets.{Dataset};
 ghost use Rattle.iim_object.specs.declared.state.State.{State};
 ghost use Rattle.iim_object.specs.Format.States.{IsState, state_numbers};
 ghost use Rattle.iim_object.specs.Format.Events.{ObjectOctet, ObjectEnd};
-ghost use Rattle.iim_object.specs.Format.Objects.{NumberRead, ObjectEnded};
+ghost use Rattle.iim_object.specs.Format.Objects.{NumberRead, SubfileBegun, ObjectEnded};
 ghost use Rattle.iim_object.specs.Format.Places.{Place, ConfirmedAs, place_start, value_token, head_token};
 ghost use Rattle.iim_object.specs.Format.Records.{AreObjectRecords, HaveSizes};
 ghost use Rattle.iim_object.specs.Format.Numbers.{place_after_datasets};
 ghost use Rattle.iim_object.specs.Format.Saved.{IsAt, IsPossible, stated_numbers};
 ghost use Rattle.iim_object.specs.declared.fault.SizeCause.{SizeCause};
-ghost use Rattle.iim_object.specs.Format.Reading.{StandsAt, LeadsOn, Refuses, RefusesValue, RefusesHead, RefusesRun, IsSizes, events_at};
+ghost use Rattle.iim_object.specs.Format.Reading.{StandsAt, LeadsOn, Refuses, EndsAs, RefusesToEnd, RefusesValue, RefusesHead, RefusesRun, IsSizes, events_at};
 
 use crate::fault::ObjectFault;
 use crate::place::state_at;
@@ -118,6 +118,38 @@ impl ObjectReader {
         ensures refused { IfNone result ((cause : SizeCause) × Refuses self.now (NumberRead set number) cause) }
     {
         match take_number(self.state.unwrap(), set, number) {
+            Ok(state) => Some(ObjectReader { state: Some(state) }),
+            Err(_cause) => None,
+        }
+    }
+
+    /// The reader that the head of a subfile of `count` octets leads to, or None where the object layer dies with it. This one has
+    /// not failed, and stays what it is.
+    #[inline(always)]
+    pub fn with_subfile(&self, count: u64) -> Option<ObjectReader>
+        requires { IsSome self.now }
+        ensures takes_calls { IfSome result IsSome }
+        ensures leads_on { IfSome result (λ reader. LeadsOn self.now (SubfileBegun count) reader) }
+        ensures refused { IfNone result ((cause : SizeCause) × Refuses self.now (SubfileBegun count) cause) }
+    {
+        match take_subfile(self.state.unwrap(), count) {
+            Ok(state) => Some(ObjectReader { state: Some(state) }),
+            Err(_cause) => None,
+        }
+    }
+
+    /// The reader that the end of the object leads to, and this number of 9:10 after it, the confirmed size; or None where the
+    /// object layer dies with one of them. This one has not failed, and stays what it is.
+    pub fn with_end(&self, number: u64) -> Option<ObjectReader>
+        requires { IsSome self.now }
+        ensures takes_calls { IfSome result IsSome }
+        ensures leads_on { IfSome result (λ reader. EndsAs self.now number reader) }
+        ensures refused { IfNone result (RefusesToEnd self.now number) }
+    {
+        let Ok(ended) = take_end(self.state.unwrap()) else {
+            return None;
+        };
+        match take_confirmed(ended, number) {
             Ok(state) => Some(ObjectReader { state: Some(state) }),
             Err(_cause) => None,
         }

@@ -65,3 +65,4 @@ pub mod WerePossible
 pub mod PresentScale
 pub mod Listings
 mod Wholes
+mod WholeSubfiles

@@ -1,4 +1,4 @@
--- A whole dataset of record 1, 2 or 7 leads the parts of an unpacker on.
+-- A whole dataset of record 1, 2, 7 or 9 leads the parts of an unpacker on.
 use Rattle.std.specs.Prelude.{IsSome, is_none}
 use Rattle.std.proofs.Common.{◌≡◌, ℕ, Bool, true, false, ◌||◌, ◌&&◌, cond, nat_eq, List, [], ◌∷◌, ◌++◌, length, map, flat_map, refl, ap, sym, subst, ◌∙◌, inl, inr, arith, append-nil}
 use Rattle.std.proofs.lemmas.List.Concat.{flat_map-append}
@@ -8,19 +8,21 @@ use Rattle.iim_dataset.specs.Format.Splits.{InTag}
 use Rattle.iim_dataset.specs.Format.Events.{DatasetEvent, HeadRead, DataOctet, DatasetEnd, events_of, handed_on}
 use Rattle.iim_dataset.specs.declared.head.Head.{Head}
 use Rattle.iim_fields.specs.Format.Faults.{is_kept}
+use Rattle.iim_fields.specs.Format.Checks.{begun_head}
 use Rattle.iim_fields.specs.Format.Standing as records
 use Rattle.iim_fields.specs.Format.Standing.{FieldsPlace, IsBetween, section_of, begun_head_of}
 use Rattle.iim_fields.specs.Format.Values.{data_of, tells_number}
 use Rattle.iim_dataset.specs.Format.Octets.{number}
 use Rattle.iim_object.specs.Format.Objects.{NumberRead}
 use Rattle.iim_object.specs.Format.Reading as objects
-use Rattle.iim_object.specs.Format.Numbers.{place_after_datasets}
+use Rattle.iim_object.specs.Format.Numbers.{place_after_datasets, place_ended}
 use Rattle.wire_message.specs.Format.Layers.{text_so_far}
 use Rattle.wire_message.specs.Format.Reading as wire
 use Rattle.iim_unpack.specs.Format.Admitted.{object_of}
 use Rattle.iim_unpack.specs.Format.Tokens.{place_at}
 use Rattle.iim_unpack.specs.Format.Parts.{AreAfter, has_ended}
 use Rattle.iim_unpack.specs.Parts.{TakesHead, WentWhole}
+use Rattle.iim_unpack.specs.Routing.{HasEnded}
 use Rattle.iim_unpack.specs.LowerLaws.{CloseLaws}
 use Rattle.iim_unpack.specs.declared.parts.Parts.{Parts}
 use Rattle.iim_unpack.proofs.Objects.{records_alive}
@@ -92,6 +94,23 @@ after_number laws p new ds h xs seven at fields leads message =
     after_one p new ds h xs (ap (λ (r : ℕ). nat_eq r 8) seven) (ap (λ (r : ℕ). nat_eq r 9) seven) at fields
     (subst (objects.StandsAt new.object) next.1 (leads (place_after_datasets ds) at.object next.0)) message
 
+-- the object ends, and its size is confirmed
+after_end : CloseLaws → (p new : Parts) (ds : List Dataset) (h : Head) (xs : List ℕ) → h.rec ≡ 9 → AreAfter p ds → records.StandsAfter new.fields (ds ++ data_of h xs ∷ []) → objects.EndsAs p.object (number xs) new.object
+    → wire.IsWhole p.message → new.message ≡ p.message → AreAfter new (ds ++ data_of h xs ∷ [])
+after_end laws p new ds h xs nine at fields leads whole message =
+    let d : Dataset = data_of h xs in
+    let next = laws.objects.ends ds d (records_alive (ds ++ d ∷ []) fields.alive) nine in
+    let other : nat_eq h.rec 8 ≡ false = ap (λ (r : ℕ). nat_eq r 8) nine in
+    let same : object_of (ds ++ d ∷ []) ≡ object_of ds = object_of_more ds d ∙ (ap (λ (b : Bool). object_of ds ++ cond b xs []) other ∙ append-nil (object_of ds)) in
+    let ended = subst (objects.StandsAt leads.ended) next.0.1 (leads.at_end (place_after_datasets ds) at.object next.0.0) in
+    record {
+      fields = fields;
+      object = subst (objects.StandsAt new.object) next.1.1 (leads.at_number (place_ended ds) ended next.1.0);
+      few = few_more ds d at.few (λ is. absurd (let bad : true ≡ false = sym (ap (λ (r : ℕ). nat_eq r 8) is) ∙ other in cc));
+      message = subst (λ (o : List ℕ). wire.StandsAt new.message o (text_so_far o)) (sym same) (subst (λ m. wire.StandsAt m (object_of ds) (text_so_far (object_of ds))) (sym message) at.message);
+      ended = λ _. subst wire.IsWhole (sym message) whole;
+    }
+
 went_one : (p new : Parts) (h : Head) (xs : List ℕ) → IsBetween p.fields → nat_eq h.rec 8 ≡ false → h.count ≡ length xs → records.limits_of new.fields ≡ records.limits_of p.fields
     → ((ds : List Dataset) → AreAfter p ds → AreAfter new (ds ++ data_of h xs ∷ [])) → WentWhole p h xs new
 went_one p new h xs between eight count limits after = record {
@@ -119,7 +138,23 @@ pub number_went : CloseLaws → (p new : Parts) (h : Head) (xs : List ℕ) → I
 number_went laws p new h xs between seven count limits stands leads message =
     went_one p new h xs between (ap (λ (r : ℕ). nat_eq r 8) seven) count limits (λ ds at. after_number laws p new ds h xs seven at (stands ds at.fields) leads message)
 
+pub end_went : CloseLaws → (p new : Parts) (h : Head) (xs : List ℕ) → IsBetween p.fields → h.rec ≡ 9 → h.count ≡ length xs → records.limits_of new.fields ≡ records.limits_of p.fields
+    → ((ds : List Dataset) → records.StandsAfter p.fields ds → records.StandsAfter new.fields (ds ++ data_of h xs ∷ [])) → objects.EndsAs p.object (number xs) new.object → wire.IsWhole p.message → new.message ≡ p.message
+    → WentWhole p h xs new
+end_went laws p new h xs between nine count limits stands leads whole message =
+    went_one p new h xs between (ap (λ (r : ℕ). nat_eq r 8) nine) count limits (λ ds at. after_end laws p new ds h xs nine at (stands ds at.fields) leads whole message)
+
 -- ---- what it takes next
+
+-- the envelope has ended
+pub end_ends : (p new : Parts) (h : Head) → TakesHead p → h.rec ≡ 9 → IsBetween new.fields → section_of new.fields ≡ h.rec → IsSome new.object → new.message ≡ p.message → HasEnded new
+unfolding has_ended
+end_ends p new h t nine between section object message = record {
+  last = ap (λ (n : ℕ). nat_eq n 9 && is_none (begun_head_of new.fields)) (section ∙ nine) ∙ ap (λ k. is_none (begun_head k)) between.between;
+  between = between;
+  object = object;
+  message = subst (λ m. IsSome m) (sym message) t.message;
+}
 
 section_takes : (p new : Parts) (h : Head) → TakesHead p → nat_eq h.rec 9 ≡ false → IsBetween new.fields → section_of new.fields ≡ h.rec → IsSome new.object → new.message ≡ p.message → TakesHead new
 unfolding has_ended

@@ -1,7 +1,10 @@
 -- What a router of datasets does: its parts go by the events, its references stay what they are, and the header has the room
 -- that it had.
-use Rattle.std.specs.Prelude.{◌≡◌, ℕ, List, Option, Some, None, IsSome, true}
-use Rattle.iim_dataset.specs.Format.Events.{DatasetEvent}
+use Rattle.std.specs.Prelude.{◌≡◌, ℕ, List, [], ◌∷◌, ◌++◌, map, Option, Some, None, IsSome, true}
+use Rattle.iim_dataset.specs.Format.Events.{DatasetEvent, HeadRead, DataOctet, DatasetEnd}
+use Rattle.iim_dataset.specs.Format.Reading.{AfterStep}
+use Rattle.iim_dataset.specs.declared.head.Head.{Head}
+use Rattle.iim_dataset.specs.declared.sink.Step.{Step}
 use Rattle.iim_fields.specs.Format.Standing.{IsBetween, room_of}
 use Rattle.wire_story.specs.Format.Delivery as story
 use Rattle.iim_unpack.specs.Parts.{TakesHead, TakesData, Went, WasStopped}
@@ -28,6 +31,11 @@ pub record HasEnded (parts : Parts) : Type 0 where
   pub between : IsBetween parts.fields
   pub object : IsSome parts.object
   pub message : IsSome parts.message
+
+-- The parts took a whole dataset, and take a head or have ended after it; or nothing was taken.
+abbrev pub TookWhole : {S : Type 0} → (S → List story.StoryEvent → S → Type 0) → (S → ℕ) → Parts → S → Head → List ℕ → Parts → S → Option Step → Type 0
+TookWhole goes failures old a h xs new b None = (new ≡ old) × (b ≡ a)
+TookWhole goes failures old a h xs new b (Some step) = Went goes failures old a (HeadRead h ∷ (map DataOctet xs ++ DatasetEnd ∷ [])) new b × AfterStep Takes HasEnded new step
 
 abbrev pub TakesNext : {S : Type 0} → Router S → Option ℕ → Type 0
 TakesNext router left = Takes router.parts.now left

@@ -1,6 +1,6 @@
 //! The readers of an unpacker after that of the tags, as one.
 
-ghost use Rattle.std.specs.Prelude.{◌≡◌, false, IsTrue, ◌<◌, ◌≤◌, ◌-◌, ℕ, [], ◌∷◌, length, map, take, slice_index, Some, IsSome, IfErr, OnOk};
+ghost use Rattle.std.specs.Prelude.{◌≡◌, true, false, IsTrue, ◌<◌, ◌≤◌, ◌-◌, ℕ, [], ◌∷◌, length, map, take, slice_index, Some, None, IsSome, IfOk, IfErr, OnOk};
 ghost use Rattle.iim_dataset.specs.Format.Events.{HeadRead, DataOctet};
 ghost use Rattle.iim_fields.specs.Format.Standing.{room_of, IsBetween};
 ghost use Rattle.iim_object.specs.Format.Places.{head_token, value_token};
@@ -9,17 +9,18 @@ ghost use Rattle.iim_unpack.specs.Format.Refusals.{IsObjectFault};
 ghost use Rattle.iim_unpack.specs.Passed.{Passed, HasFewSubfiles, RefusesSubfile};
 ghost use Rattle.iim_unpack.specs.Parts.{TakesHead, TakesData, Went, WentWhole, WasStopped, Closed, NotClosed};
 ghost use Rattle.iim_unpack.specs.Format.Parts.{has_ended};
-ghost use Rattle.iim_unpack.specs.Format.Refusals.{too_many_on};
+ghost use Rattle.iim_unpack.specs.Routing.{HasEnded, TookWhole};
+ghost use Rattle.iim_unpack.specs.Format.Refusals.{message_on, too_many_on};
 
 use crate::fault::{TokenFault, message_on, of_field, size_on, too_many_on};
 use crate::laws::{close_laws, head_laws, message_laws};
 use crate::message::{pass_head, pass_octets};
-use iim_dataset::Head;
+use iim_dataset::{Head, Step};
 use iim_fields::Fields;
 use iim_object::{MAX_SUBFILES, ObjectFault, ObjectReader};
 use iim_tables::number_of;
 use iim_tables::records::{OBJECT, POST_OBJECT, PRE_OBJECT};
-use wire_message::MessageReader;
+use wire_message::{MessageFault, MessageReader};
 use wire_story::StorySink;
 
 /// What an unpacker has taken of an envelope: its records, its object and its message. What is begun, and how much of it is to
@@ -41,6 +42,16 @@ pub(crate) struct Halt {
     pub taken: usize,
     /// What is refused.
     pub fault: TokenFault,
+}
+
+/// The refusal of an octet of a subfile.
+fn halt_on(head: Head, fault: MessageFault) -> Halt
+    ensures { result ≡ record { taken = fault.taken; fault = message_on head fault.cause } }
+{
+    Halt {
+        taken: fault.taken,
+        fault: message_on(head, fault.cause),
+    }
 }
 
 /// Takes the head of a subfile.
@@ -80,6 +91,15 @@ fn tell_number(object: &mut ObjectReader, head: Head, number: u64) -> Result<(),
     }
 }
 
+/// The answer to a whole dataset that was taken, or not.
+#[inline(always)]
+fn answer(taken: bool, step: Step) -> Option<Step>
+    ensures took { taken ≡ true → result ≡ Some step }
+    ensures left { taken ≡ false → result ≡ None }
+{
+    if taken { Some(step) } else { None }
+}
+
 impl Parts {
     /// Whether the last dataset has ended.
     #[inline(always)]
@@ -110,12 +130,6 @@ impl Parts {
         Ok(())
     }
 
-    /// Whether the next dataset may be one of record 1, 2 or 7.
-    #[inline(always)]
-    pub(crate) fn may_take_whole(&self) -> bool {
-        self.fields.section() <= PRE_OBJECT
-    }
-
     /// Takes a whole dataset of record 7; or changes nothing.
     fn whole_number(&mut self, head: Head, octets: &[u8]) -> bool
         requires takes { TakesHead self.old }
@@ -140,9 +154,36 @@ impl Parts {
         true
     }
 
-    /// Takes a whole dataset of record 1, 2 or 7; or changes nothing.
+    /// Takes a whole 9:10, with which the envelope ends; or changes nothing.
+    fn whole_end(&mut self, head: Head, octets: &[u8]) -> bool
+        requires takes { TakesHead self.old }
+        requires number { head.rec ≡ 9 }
+        requires count { head.count ≡ length octets.now }
+        ensures ended { IsTrue result → HasEnded self.new }
+        ensures whole { IsTrue result → WentWhole self.old head octets.now self.new }
+        ensures left { result ≡ false → self.new ≡ self.old }
+        ensures room { room_of self.new.fields ≡ room_of self.old.fields }
+    {
+        close_laws();
+        if !self.message.is_whole() {
+            return false;
+        }
+        let Some(number) = number_of(octets) else {
+            return false;
+        };
+        let Some(object) = self.object.with_end(number) else {
+            return false;
+        };
+        if !self.fields.whole_number(head, octets) {
+            return false;
+        }
+        self.object = object;
+        true
+    }
+
+    /// Takes a whole dataset of record 1 or 2; or changes nothing.
     #[inline(always)]
-    pub(crate) fn whole(&mut self, head: Head, octets: &[u8]) -> bool
+    fn whole_field(&mut self, head: Head, octets: &[u8]) -> bool
         requires takes { TakesHead self.old }
         requires count { head.count ≡ length octets.now }
         ensures takes { TakesHead self.new }
@@ -151,10 +192,65 @@ impl Parts {
         ensures room { room_of self.new.fields ≡ room_of self.old.fields }
     {
         close_laws();
-        if head.rec == PRE_OBJECT {
-            return self.whole_number(head, octets);
-        }
         self.fields.whole(head, octets)
+    }
+
+    /// Takes a whole subfile, or only its head and the octets before the one that is refused; or answers false and changes nothing.
+    #[inline(always)]
+    fn whole_subfile<S: StorySink>(
+        &mut self,
+        head: Head,
+        octets: &[u8],
+        sink: &mut S,
+    ) -> Result<Option<Step>, Halt>
+        requires takes { TakesHead self.old }
+        requires subfile { head.rec ≡ 8 }
+        ensures taken { IfOk result (TookWhole S.goes S.failures self.old sink.old head octets.now self.new sink.new) }
+        ensures before { IfErr result (λ halt. halt.taken < length octets.now) }
+        ensures stopped { IfErr result (λ halt. WasStopped S.goes S.failures self.old sink.old (HeadRead head ∷ map DataOctet (take halt.taken octets.now)) (DataOctet (slice_index octets.now halt.taken)) (Some halt.fault) sink.new) }
+        ensures room { room_of self.new.fields ≡ room_of self.old.fields }
+    {
+        head_laws();
+        message_laws();
+        close_laws();
+        if self.object.subfiles() >= MAX_SUBFILES {
+            return Ok(None);
+        }
+        let Some(object) = self.object.with_subfile(head.count) else {
+            return Ok(None);
+        };
+        if !self.fields.whole_subfile(head) {
+            return Ok(None);
+        }
+        self.object = object;
+        match pass_octets(&mut self.object, &mut self.message, octets, sink) {
+            Ok(()) => Ok(Some(Step::More)),
+            Err(fault) => Err(halt_on(head, fault)),
+        }
+    }
+
+    /// Takes a whole dataset, or of a subfile only its head and the octets before the one that is refused; or answers None and
+    /// changes nothing.
+    #[inline(always)]
+    pub(crate) fn whole<S: StorySink>(
+        &mut self,
+        head: Head,
+        octets: &[u8],
+        sink: &mut S,
+    ) -> Result<Option<Step>, Halt>
+        requires takes { TakesHead self.old }
+        requires count { head.count ≡ length octets.now }
+        ensures taken { IfOk result (TookWhole S.goes S.failures self.old sink.old head octets.now self.new sink.new) }
+        ensures before { IfErr result (λ halt. halt.taken < length octets.now) }
+        ensures stopped { IfErr result (λ halt. WasStopped S.goes S.failures self.old sink.old (HeadRead head ∷ map DataOctet (take halt.taken octets.now)) (DataOctet (slice_index octets.now halt.taken)) (Some halt.fault) sink.new) }
+        ensures room { room_of self.new.fields ≡ room_of self.old.fields }
+    {
+        match head.rec {
+            OBJECT => self.whole_subfile(head, octets, sink),
+            POST_OBJECT => Ok(answer(self.whole_end(head, octets), Step::Last)),
+            PRE_OBJECT => Ok(answer(self.whole_number(head, octets), Step::More)),
+            _ => Ok(answer(self.whole_field(head, octets), Step::More)),
+        }
     }
 
     /// Takes octets of the begun dataset, or only those before the one that is refused.
@@ -176,10 +272,7 @@ impl Parts {
         }
         match pass_octets(&mut self.object, &mut self.message, run, sink) {
             Ok(()) => Ok(()),
-            Err(fault) => Err(Halt {
-                taken: fault.taken,
-                fault: message_on(head, fault.cause),
-            }),
+            Err(fault) => Err(halt_on(head, fault)),
         }
     }
 

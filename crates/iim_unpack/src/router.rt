@@ -50,12 +50,18 @@ impl<'p, 's, S: StorySink> DatasetSink for Router<'p, 's, S> {
 
     #[inline(always)]
     fn wants_whole(&self) -> bool {
-        self.parts.may_take_whole()
+        true
     }
 
     #[inline(always)]
-    fn whole(&mut self, head: Head, octets: &[u8]) -> bool {
-        self.parts.whole(head, octets)
+    fn whole(&mut self, head: Head, octets: &[u8]) -> Result<Option<Step>, Stop> {
+        match self.parts.whole(head, octets, &mut *self.sink) {
+            Ok(step) => Ok(step),
+            Err(halt) => {
+                self.refused = Some(halt.fault);
+                Err(Stop { taken: halt.taken })
+            }
+        }
     }
 
     fn run(&mut self, run: &[u8]) -> Result<(), Stop> {

@@ -1,6 +1,6 @@
 //! The reader of a message, for any cut into pieces.
 
-ghost use Rattle.std.specs.Prelude.{◌≡◌, ◌↔◌, ◌<◌, [], List, ℕ, Option, is_none, length, Some, None, IsSome, IsOk, IfSome, IfErr, OnOk, OnErr};
+ghost use Rattle.std.specs.Prelude.{◌≡◌, ◌↔◌, ◌<◌, [], List, ℕ, Option, false, is_none, length, Some, None, IsTrue, IsSome, IsOk, IfSome, IfErr, OnOk, OnErr};
 ghost use Rattle.wire_story.specs.Format.Tokens.{End};
 ghost use Rattle.wire_message.specs.Format.Layers.{MessageDiesAt};
 ghost use Rattle.wire_message.specs.Format.Saved.{IsAt, LeadToSaved};
@@ -129,6 +129,15 @@ impl MessageReader {
             },
             None => unreachable!(),
         }
+    }
+
+    /// Whether the octets so far are a message: whether the object may end here.
+    #[inline(always)]
+    pub fn is_whole(&self) -> bool
+        ensures whole { IsTrue result → IsWhole self.now }
+        ensures unfinished { result ≡ false → (octets text : List ℕ) → StandsAt self.now octets text → MessageDiesAt octets End }
+    {
+        has_ended(&self.place)
     }
 
     /// Takes the end of the object. Refused as Unfinished, with `taken` 0, before EOT. The reader has failed then.

@@ -1,5 +1,5 @@
 -- What a reader of records stands at.
-use Rattle.std.specs.Prelude.{◌≡◌, ◌≢◌, ℕ, ◌+◌, ◌≤◌, ◌⊎◌, List, [], length, Option, Some, None, IsTrue}
+use Rattle.std.specs.Prelude.{◌≡◌, ◌≢◌, ℕ, ◌+◌, ◌≤◌, ◌⊎◌, List, [], ◌∷◌, ◌++◌, length, Option, Some, None, IsTrue}
 use Rattle.iim_dataset.specs.Format.Octets.{Octets}
 use Rattle.iim_dataset.specs.Format.Datasets.{Dataset, head_of}
 use Rattle.iim_dataset.specs.declared.head.Head.{Head}
@@ -10,6 +10,7 @@ use Rattle.iim_fields.specs.Format.Causes.Token.{AtHead}
 use Rattle.iim_fields.specs.Format.Checks.{IsIn, HasChecked, HasTaken, HasEnded, begun_head, present_at}
 use Rattle.iim_fields.specs.Format.Checks as checks
 use Rattle.iim_fields.specs.Format.Stores.{Room}
+use Rattle.iim_fields.specs.Format.Values.{number_told}
 use Rattle.iim_fields.specs.declared.limits.Limits.{Limits}
 use Rattle.iim_fields.specs.declared.fault.FieldFault.{FieldFault}
 use Rattle.iim_fields.specs.declared.check.RecordPlace.{RecordPlace}
@@ -109,3 +110,12 @@ pub record IsOf (h : Head) (taken : List ℕ) (d : Dataset) : Type 0 where
   pub head : head_of d ≡ h
   pub octets : Octets d.octets
   pub given : h.rec ≢ 8 → d.octets ≡ taken
+
+-- From one to the other by a whole subfile of this head: by a reader that stands in it, whatever data the subfile has.
+pub record PassesSubfile (old : FieldsPlace) (h : Head) (new : FieldsPlace) : Type 0 where
+  pub inside : FieldsPlace
+  pub head : begun_head_of inside ≡ Some h
+  pub limits : limits_of inside ≡ limits_of old
+  pub begins : (ds : List Dataset) → StandsAfter old ds → StandsIn inside ds h []
+  pub closes : (ds : List Dataset) (g : Head) (taken : List ℕ) → StandsIn inside ds g taken → (d : Dataset) → IsOf g taken d
+      → StandsAfter new (ds ++ d ∷ []) × (None ≡ number_told d)

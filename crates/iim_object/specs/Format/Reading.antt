@@ -1,8 +1,8 @@
 -- Where a reader of objects stands, and why it refuses a token.
-use Rattle.std.specs.Prelude.{◌≡◌, ℕ, ◌<◌, Bool, ◌==◌, if◌then◌else◌, List, [], ◌∷◌, ◌++◌, length, map, sum, take, slice_index, Option, Some}
+use Rattle.std.specs.Prelude.{◌≡◌, ℕ, ◌<◌, ◌⊎◌, Bool, ◌==◌, if◌then◌else◌, List, [], ◌∷◌, ◌++◌, length, map, sum, take, slice_index, Option, Some}
 use Rattle.iim_dataset.specs.Format.Languages.{IsAlive, DiesAt}
 use Rattle.iim_object.specs.Format.Sizes.{AreStated, number_at, mode_number, sizes_at}
-use Rattle.iim_object.specs.Format.Objects.{ObjectToken, ObjectEnded, ObjectLanguage}
+use Rattle.iim_object.specs.Format.Objects.{ObjectToken, ObjectEnded, Confirmed, ObjectLanguage}
 use Rattle.iim_object.specs.Format.Places.{Place, NotEnded, MayFollow, HasBoth, place_after, tokens_of}
 use Rattle.iim_object.specs.Format.Causes.{cause_at}
 use Rattle.iim_object.specs.declared.state.State.{State}
@@ -44,6 +44,17 @@ Refuses old token cause = (p : Place) → StandsAt old p → MayFollow p token
 -- Wherever the reader stands, the object layer can continue with the token.
 abbrev pub LivesWith : Option State → ObjectToken → Type 0
 LivesWith old token = (p : Place) → StandsAt old p → MayFollow p token → IsAlive ObjectLanguage (tokens_of p ++ token ∷ [])
+
+-- Wherever the reader stands, the end of the object leads it on, and then this number of 9:10.
+pub record EndsAs (old : Option State) (number : ℕ) (new : Option State) : Type 0 where
+  pub ended : Option State
+  pub at_end : LeadsOn old ObjectEnded ended
+  pub at_number : LeadsOn ended (Confirmed number) new
+
+-- The object layer dies with the end; or the end leads on, and it dies with the number.
+abbrev pub RefusesToEnd : Option State → ℕ → Type 0
+RefusesToEnd old number = ((cause : SizeCause) × Refuses old ObjectEnded cause)
+    ⊎ ((ended : Option State) × LeadsOn old ObjectEnded ended × ((cause : SizeCause) × Refuses ended (Confirmed number) cause))
 
 -- A value is refused for its cause; no sink is asked.
 abbrev pub RefusesValue : Option State → ObjectToken → ObjectFault → Type 0

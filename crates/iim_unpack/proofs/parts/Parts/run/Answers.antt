@@ -24,5 +24,5 @@ returns-in-Err-clause-stopped g c =
     let run = c.args.run.now in
     let f = c.in-Err.fault in
     let laws = c.message_laws.ensures in
-    rw c.message_on.ensures (stopped_object g.S.StorySink.goes g.S.StorySink.failures c.args.self.now c.args.sink.now c.pass_octets.new.sink (take f.taken run) (slice_index run f.taken) f.cause laws
+    rw c.halt_on.ensures (stopped_object g.S.StorySink.goes g.S.StorySink.failures c.args.self.now c.args.sink.now c.pass_octets.new.sink (take f.taken run) (slice_index run f.taken) f.cause laws
     c.in-Some.head (sym c.begun_head.ensures.head ∙ c.in-Some.is) c.if-head-ne-OBJECT.false c.in-Err.ensures.refused)

@@ -1,16 +1,18 @@
-use Rattle.std.proofs.Common.{ap, refl}
-use Rattle.iim_fields.specs.Format.Standing.{FieldsPlace}
-use Rattle.iim_unpack.specs.declared.parts.Parts.{Parts}
-use Rattle.iim_unpack.proofs.Wholes.{whole_went, takes_either}
+use Rattle.iim_dataset.specs.declared.sink.Step.TheVariants.{More, Last}
+use Rattle.iim_unpack.proofs.WholeSubfiles.{answered}
 use Rattle.iim_unpack.proofs.parts.Parts.whole.Goals as goal
 
-pub returns-clause-takes : goal.returns-clause-takes
-returns-clause-takes c =
-    takes_either c.args.self.now _ c.args.head c.whole.result c.requires.takes c.whole.ensures.kept c.whole.ensures.between c.whole.ensures.section c.whole.ensures.left refl refl
+pub returns-in-9-clause-taken : goal.returns-in-9-clause-taken
+returns-in-9-clause-taken g c =
+    answered g.S.StorySink.goes g.S.StorySink.failures g.met.S.StorySink.nothing c.args.self.now c.whole_end.new.self c.args.sink.now c.args.head c.args.octets.now c.whole_end.result Last c.answer.result
+    c.answer.ensures.took c.answer.ensures.left c.whole_end.ensures.whole c.whole_end.ensures.left c.whole_end.ensures.ended
 
-pub returns-clause-whole : goal.returns-clause-whole
-returns-clause-whole c is =
-    whole_went c.close_laws.ensures c.args.self.now _ c.args.head c.args.octets.now c.requires.takes.fields (c.whole.ensures.kept is) c.requires.count c.whole.ensures.limits (c.whole.ensures.stands is) refl refl
+pub returns-in-7-clause-taken : goal.returns-in-7-clause-taken
+returns-in-7-clause-taken g c =
+    answered g.S.StorySink.goes g.S.StorySink.failures g.met.S.StorySink.nothing c.args.self.now c.whole_number.new.self c.args.sink.now c.args.head c.args.octets.now c.whole_number.result More c.answer-in-7.result
+    c.answer-in-7.ensures.took c.answer-in-7.ensures.left c.whole_number.ensures.whole c.whole_number.ensures.left (λ _. c.whole_number.ensures.takes)
 
-pub returns-clause-left : goal.returns-clause-left
-returns-clause-left c is = ap (λ (f : FieldsPlace). let p : Parts = record c.args.self.now { fields = f } in p) (c.whole.ensures.left is)
+pub returns-in_default-clause-taken : goal.returns-in_default-clause-taken
+returns-in_default-clause-taken g c =
+    answered g.S.StorySink.goes g.S.StorySink.failures g.met.S.StorySink.nothing c.args.self.now c.whole_field.new.self c.args.sink.now c.args.head c.args.octets.now c.whole_field.result More c.answer-in_default.result
+    c.answer-in_default.ensures.took c.answer-in_default.ensures.left c.whole_field.ensures.whole c.whole_field.ensures.left (λ _. c.whole_field.ensures.takes)

@@ -1,0 +1,16 @@
+use Rattle.std.proofs.Common.{ap, refl}
+use Rattle.iim_fields.specs.Format.Standing.{FieldsPlace}
+use Rattle.iim_unpack.specs.declared.parts.Parts.{Parts}
+use Rattle.iim_unpack.proofs.Wholes.{whole_went, takes_either}
+use Rattle.iim_unpack.proofs.parts.Parts.whole_field.Goals as goal
+
+pub returns-clause-takes : goal.returns-clause-takes
+returns-clause-takes c =
+    takes_either c.args.self.now _ c.args.head c.whole.result c.requires.takes c.whole.ensures.kept c.whole.ensures.between c.whole.ensures.section c.whole.ensures.left refl refl
+
+pub returns-clause-whole : goal.returns-clause-whole
+returns-clause-whole c is =
+    whole_went c.close_laws.ensures c.args.self.now _ c.args.head c.args.octets.now c.requires.takes.fields (c.whole.ensures.kept is) c.requires.count c.whole.ensures.limits (c.whole.ensures.stands is) refl refl
+
+pub returns-clause-left : goal.returns-clause-left
+returns-clause-left c is = ap (λ (f : FieldsPlace). let p : Parts = record c.args.self.now { fields = f } in p) (c.whole.ensures.left is)

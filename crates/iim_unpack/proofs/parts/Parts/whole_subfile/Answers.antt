@@ -1,0 +1,35 @@
+use Rattle.std.proofs.Common.{Option, take, slice_index, sym, subst, arith}
+use Rattle.std.specs.Prelude.{IsSome}
+use Rattle.iim_object.specs.declared.state.State.{State}
+use Rattle.iim_unpack.proofs.Octets.{are_octets}
+use Rattle.iim_unpack.proofs.WholeSubfiles.{subfile_went, subfile_stopped, subfile_takes}
+use Rattle.iim_unpack.proofs.parts.Parts.whole_subfile.Goals as goal
+
+pub returns-in-Ok-clause-taken : goal.returns-in-Ok-clause-taken
+returns-in-Ok-clause-taken g c =
+    let run = c.args.octets.now in
+    let p = c.args.self.now in
+    let some : IsSome c.pass_octets.new.object = subst (λ (o : Option State). IsSome o) (sym c.in-Ok.ensures.same) c.in-Some.ensures.takes_calls in (
+      rw c.in-Ok.ensures.same (subfile_went g.S.StorySink.goes g.S.StorySink.failures g.met.S.StorySink.nothing g.met.S.StorySink.joined c.head_laws.ensures c.message_laws.ensures c.close_laws.ensures p c.args.sink.now c.pass_octets.new.sink
+          c.args.head run c.whole_subfile.new.self c.in-Some.object c.pass_octets.new.message (record {
+            eight = c.requires.subfile;
+            takes = c.requires.takes;
+            passes = c.whole_subfile.ensures.passes c.if-not-whole_subfile.false;
+            leads = c.in-Some.ensures.leads_on;
+            few = λ q at. omega (arith, c.subfiles.ensures.place q at, c.if-subfiles-ge-MAX_SUBFILES.false);
+          }) (are_octets run (λ i. omega (arith, c.type_inv.octets i))) c.whole_subfile.ensures.limits c.in-Ok.ensures.told),
+      subfile_takes p _ c.args.head c.requires.takes c.requires.subfile c.whole_subfile.ensures.between (c.whole_subfile.ensures.section c.if-not-whole_subfile.false) some c.in-Ok.ensures.told.takes_calls,
+    )
+
+pub returns-in-Err-clause-stopped : goal.returns-in-Err-clause-stopped
+returns-in-Err-clause-stopped g c =
+    let run = c.args.octets.now in
+    let f = c.in-Err.fault in
+    rw c.halt_on.ensures (subfile_stopped g.S.StorySink.goes g.S.StorySink.failures g.met.S.StorySink.nothing g.met.S.StorySink.joined c.head_laws.ensures c.message_laws.ensures c.args.self.now c.args.sink.now c.pass_octets.new.sink
+    c.args.head (take f.taken run) (slice_index run f.taken) f.cause c.whole_subfile.new.self c.in-Some.object (record {
+      eight = c.requires.subfile;
+      takes = c.requires.takes;
+      passes = c.whole_subfile.ensures.passes c.if-not-whole_subfile.false;
+      leads = c.in-Some.ensures.leads_on;
+      few = λ q at. omega (arith, c.subfiles.ensures.place q at, c.if-subfiles-ge-MAX_SUBFILES.false);
+    }) c.in-Err.ensures.refused)
