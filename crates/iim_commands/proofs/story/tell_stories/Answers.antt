@@ -9,11 +9,19 @@ use Rattle.iim_commands.specs.Format.Lines.{accepted_line, refused_line, too_man
 use Rattle.iim_unpack.specs.Format.Listing.{max_envelopes, Whole, RefusedBy, TooMany}
 use Rattle.iim_commands.specs.Format.Narration.{IsUnnarrated, text_of}
 use Rattle.iim_commands.specs.declared.fault.CommandFault.TheVariants.{OutOfMemory}
-use Rattle.iim_commands.proofs.Narration.{broke_in_line, broke_in_lines, held_back_as, narrated, narrated_more, pushed, refused_within, story_out, text_out, text_refused, text_taken, unended_text, unfed, unfed_for_memory, wrote_by}
+use Rattle.iim_commands.proofs.Narration.{broke_in_line, broke_in_lines, held_back_as, narrated, narrated_more, pushed, refused_within, story_out, text_out, text_refused, text_taken, unended_text, nothing_told, unfed, unfed_for_memory, wrote_by}
 use Rattle.iim_commands.proofs.Reports.{ends_refused, left_of, none_left}
 use Rattle.iim_commands.proofs.Taken.{end_as, lives_as, refusal_as}
 use Rattle.iim_commands.proofs.Told.{added, handed_on}
 use Rattle.iim_commands.proofs.story.tell_stories.Goals as goal
+
+pub returns-in_err-unpacker-clause-err : goal.returns-in_err-unpacker-clause-err
+returns-in_err-unpacker-clause-err g c =
+    let source = line g.R.Source.state c.args.intake.now in
+    let old = g.W.Target.state c.args.output.now.writer in
+    let errors_old = g.E.Target.state c.args.errors.now in
+    handed_on (IsUnnarrated source source old old errors_old errors_old) c.from_residual.result OutOfMemory c.from_residual.ensures.1
+    (nothing_told c.gifts_join.ensures c.texts_join.ensures source old old errors_old refl)
 
 pub returns-in_err-got-clause-err : goal.returns-in_err-got-clause-err
 returns-in_err-got-clause-err g c =
@@ -33,7 +41,7 @@ returns-in_err-got-clause-err g c =
     let none = c.telling.invariant.unbroken in
     let fault = c.in_err-got.field-0.0 in
     handed_on (IsUnnarrated source rest old (state b.writer) errors_old errors_now) c.from_residual.result fault c.from_residual.ensures.1
-    (unfed state joins texts source mid rest old errors_old errors_now a b c.telling.count fault r empty none c.in_err-got.ensures.calm c.in_err-got.ensures.next)
+    (unfed state joins texts source mid rest old errors_old errors_now c.take_next.new.unpacker a b c.telling.count fault r empty none c.in_err-got.ensures.calm c.in_err-got.ensures.next)
 
 pub returns-in_err-say-in-Envelope-clause-err : goal.returns-in_err-say-in-Envelope-clause-err
 returns-in_err-say-in-Envelope-clause-err g c =
@@ -51,7 +59,7 @@ returns-in_err-say-in-Envelope-clause-err g c =
     let texts = c.texts_join.ensures in
     let empty = c.telling.invariant.held in
     let none = c.telling.invariant.unbroken in
-    let h = text_taken state c.envelopes_are_delivered_as_lines.ensures c.lines_are_joined_by_line_feeds.ensures mid rest a b c.in_ok-got.field-0 c.in-Envelope.got c.in-Envelope.octets
+    let h = text_taken state c.envelopes_are_delivered_as_lines.ensures c.lines_are_joined_by_line_feeds.ensures mid rest c.take_next.new.unpacker a b c.in_ok-got.field-0 c.in-Envelope.octets
     c.in-Envelope.is c.in_ok-got.ensures.next in
     let e = h.come.envelope in
     let d = c.let_out.new.output in
@@ -80,7 +88,7 @@ returns-then-count-eq-MAX_ENVELOPES-clause-ok g c =
     let texts = c.texts_join.ensures in
     let empty = c.telling.invariant.held in
     let none = c.telling.invariant.unbroken in
-    let h = text_taken state c.envelopes_are_delivered_as_lines.ensures c.lines_are_joined_by_line_feeds.ensures mid rest a b c.in_ok-got.field-0 c.in-Envelope.got c.in-Envelope.octets
+    let h = text_taken state c.envelopes_are_delivered_as_lines.ensures c.lines_are_joined_by_line_feeds.ensures mid rest c.take_next.new.unpacker a b c.in_ok-got.field-0 c.in-Envelope.octets
     c.in-Envelope.is c.in_ok-got.ensures.next in
     let e = h.come.envelope in
     let d = c.let_out.new.output in
@@ -108,7 +116,7 @@ returns-then-is_err-clause-err g c =
     let texts = c.texts_join.ensures in
     let empty = c.telling.invariant.held in
     let none = c.telling.invariant.unbroken in
-    let h = text_taken state c.envelopes_are_delivered_as_lines.ensures c.lines_are_joined_by_line_feeds.ensures mid rest a b c.in_ok-got.field-0 c.in-Envelope.got c.in-Envelope.octets
+    let h = text_taken state c.envelopes_are_delivered_as_lines.ensures c.lines_are_joined_by_line_feeds.ensures mid rest c.take_next.new.unpacker a b c.in_ok-got.field-0 c.in-Envelope.octets
     c.in-Envelope.is c.in_ok-got.ensures.next in
     let e = h.come.envelope in
     let d = c.let_out-then-is_err.new.output in
@@ -131,13 +139,13 @@ returns-in_err-end_story-in-Envelope-clause-err g c =
     let texts = c.texts_join.ensures in
     let empty = c.telling.invariant.held in
     let none = c.telling.invariant.unbroken in
-    let h = text_taken state c.envelopes_are_delivered_as_lines.ensures c.lines_are_joined_by_line_feeds.ensures mid rest a b c.in_ok-got.field-0 c.in-Envelope.got c.in-Envelope.octets
+    let h = text_taken state c.envelopes_are_delivered_as_lines.ensures c.lines_are_joined_by_line_feeds.ensures mid rest c.take_next.new.unpacker a b c.in_ok-got.field-0 c.in-Envelope.octets
     c.in-Envelope.is c.in_ok-got.ensures.next in
     let e = h.come.envelope in
     let d = c.end_story.new.output in
     let fault = c.in_err-end_story-in-Envelope.field-0.0 in
     handed_on (IsUnnarrated source rest old (state d.writer) errors_old errors_now) c.from_residual-in_err-end_story-in-Envelope.result fault c.from_residual-in_err-end_story-in-Envelope.ensures.1
-    (unended_text state joins source mid rest old errors_old errors_now a b d c.telling.count c.in-Envelope.got c.in-Envelope.octets fault r empty none c.in_ok-got.ensures.calm h c.in_err-end_story-in-Envelope.ensures.err)
+    (unended_text state joins source mid rest old errors_old errors_now c.take_next.new.unpacker a b d c.telling.count c.in-Envelope.octets fault r empty none c.in_ok-got.ensures.calm h c.in_err-end_story-in-Envelope.ensures.err)
 
 pub returns-in_err-say-in-Envelope-2-clause-err : goal.returns-in_err-say-in-Envelope-2-clause-err
 returns-in_err-say-in-Envelope-2-clause-err g c =
@@ -155,7 +163,7 @@ returns-in_err-say-in-Envelope-2-clause-err g c =
     let texts = c.texts_join.ensures in
     let empty = c.telling.invariant.held in
     let none = c.telling.invariant.unbroken in
-    let h = text_taken state c.envelopes_are_delivered_as_lines.ensures c.lines_are_joined_by_line_feeds.ensures mid rest a b c.in_ok-got.field-0 c.in-Envelope.got c.in-Envelope.octets
+    let h = text_taken state c.envelopes_are_delivered_as_lines.ensures c.lines_are_joined_by_line_feeds.ensures mid rest c.take_next.new.unpacker a b c.in_ok-got.field-0 c.in-Envelope.octets
     c.in-Envelope.is c.in_ok-got.ensures.next in
     let e = h.come.envelope in
     let words = added c.clear.new.self.items c.push_accepted.new.text.items (accepted_line (c.telling.count + 1) c.in-Envelope.octets) c.as_slice.result.now c.clear.ensures.items
@@ -185,7 +193,7 @@ returns-in-End-clause-ok g c =
     let texts = c.texts_join.ensures in
     let empty = c.telling.invariant.held in
     let none = c.telling.invariant.unbroken in
-    let h = end_as (PutsLines state) stops_of HoldsNothing (StaysStuck state) mid rest a b c.in_ok-got.field-0 c.in-End.is c.in_ok-got.ensures.next in
+    let h = end_as (PutsLines state) stops_of HoldsNothing (StaysStuck state) mid rest c.take_next.new.unpacker a b c.in_ok-got.field-0 c.in-End.is c.in_ok-got.ensures.next in
     let still : Wrote (state a.writer) (state b.writer) [] = wrote_by state a b [] empty h.3 none c.in_ok-got.ensures.calm h.2 in
     narrated joins texts source mid rest old (state a.writer) (state b.writer) errors_old errors_now errors_now c.telling.count 0 [] [] [] [] Whole r h.0 (none_left rest.octets h.1) refl refl refl
     still refl (texts.none errors_now)
@@ -206,7 +214,7 @@ returns-in_err-push_refused-in-Refused-clause-err g c =
     let texts = c.texts_join.ensures in
     let empty = c.telling.invariant.held in
     let none = c.telling.invariant.unbroken in
-    let f = refusal_as (PutsLines state) stops_of HoldsNothing (StaysStuck state) mid rest a b c.in_ok-got.field-0 c.in-Refused.refusal c.in-Refused.is c.in_ok-got.ensures.next in
+    let f = refusal_as (PutsLines state) stops_of HoldsNothing (StaysStuck state) mid rest c.take_next.new.unpacker a b c.in_ok-got.field-0 c.in-Refused.refusal c.in-Refused.is c.in_ok-got.ensures.next in
     let d = c.let_out-in-Refused.new.output in
     let out = text_out state a b d (map octet_for f.more) empty none c.in_ok-got.ensures.calm f.came.told c.in_ok-let_out-in-Refused.ensures.ok c.in_ok-let_out-in-Refused.ensures.held c.in_ok-let_out-in-Refused.ensures.calm in
     let words = map octet_for f.more in
@@ -229,7 +237,7 @@ returns-in_err-say-in-Refused-clause-err g c =
     let texts = c.texts_join.ensures in
     let empty = c.telling.invariant.held in
     let none = c.telling.invariant.unbroken in
-    let f = refusal_as (PutsLines state) stops_of HoldsNothing (StaysStuck state) mid rest a b c.in_ok-got.field-0 c.in-Refused.refusal c.in-Refused.is c.in_ok-got.ensures.next in
+    let f = refusal_as (PutsLines state) stops_of HoldsNothing (StaysStuck state) mid rest c.take_next.new.unpacker a b c.in_ok-got.field-0 c.in-Refused.refusal c.in-Refused.is c.in_ok-got.ensures.next in
     let d = c.let_out-in-Refused.new.output in
     let out = text_out state a b d (map octet_for f.more) empty none c.in_ok-got.ensures.calm f.came.told c.in_ok-let_out-in-Refused.ensures.ok c.in_ok-let_out-in-Refused.ensures.held c.in_ok-let_out-in-Refused.ensures.calm in
     let words = map octet_for f.more in
@@ -256,7 +264,7 @@ returns-in-Refused-clause-ok g c =
     let texts = c.texts_join.ensures in
     let empty = c.telling.invariant.held in
     let none = c.telling.invariant.unbroken in
-    let f = refusal_as (PutsLines state) stops_of HoldsNothing (StaysStuck state) mid rest a b c.in_ok-got.field-0 c.in-Refused.refusal c.in-Refused.is c.in_ok-got.ensures.next in
+    let f = refusal_as (PutsLines state) stops_of HoldsNothing (StaysStuck state) mid rest c.take_next.new.unpacker a b c.in_ok-got.field-0 c.in-Refused.refusal c.in-Refused.is c.in_ok-got.ensures.next in
     let d = c.let_out-in-Refused.new.output in
     let out = text_out state a b d (map octet_for f.more) empty none c.in_ok-got.ensures.calm f.came.told c.in_ok-let_out-in-Refused.ensures.ok c.in_ok-let_out-in-Refused.ensures.held c.in_ok-let_out-in-Refused.ensures.calm in
     let words = map octet_for f.more in
@@ -282,7 +290,7 @@ telling-preserved g c =
     let texts = c.texts_join.ensures in
     let empty = c.telling.invariant.held in
     let none = c.telling.invariant.unbroken in
-    let h = text_taken state c.envelopes_are_delivered_as_lines.ensures c.lines_are_joined_by_line_feeds.ensures mid rest a b c.in_ok-got.field-0 c.in-Envelope.got c.in-Envelope.octets
+    let h = text_taken state c.envelopes_are_delivered_as_lines.ensures c.lines_are_joined_by_line_feeds.ensures mid rest c.take_next.new.unpacker a b c.in_ok-got.field-0 c.in-Envelope.octets
     c.in-Envelope.is c.in_ok-got.ensures.next in
     let e = h.come.envelope in
     let words = added c.clear.new.self.items c.push_accepted.new.text.items (accepted_line (c.telling.count + 1) c.in-Envelope.octets) c.as_slice.result.now c.clear.ensures.items
@@ -292,7 +300,8 @@ telling-preserved g c =
     let out = story_out state a b d (text_of e) empty none c.in_ok-got.ensures.calm h.text c.in_ok-end_story-in-Envelope.ensures.ok c.in_ok-end_story-in-Envelope.ensures.held c.in_ok-end_story-in-Envelope.ensures.calm in
     let errors_new = g.E.Target.state c.say-in-Envelope.new.output in
     record {
-      alive = lives_as c.take_next.new.intake.failed c.in_ok-got.field-0 c.in-Envelope.got c.in-Envelope.octets c.in-Envelope.is c.in_ok-got.ensures.lives;
+      alive = lives_as c.take_next.new.intake.failed c.in_ok-got.field-0 c.in-Envelope.octets c.in-Envelope.is c.in_ok-got.ensures.lives;
+      same = h.come.same;
       held = c.in_ok-end_story-in-Envelope.ensures.held;
       unbroken = c.in_ok-end_story-in-Envelope.ensures.calm ∙ c.in_ok-got.ensures.calm ∙ none;
       narrated =
@@ -346,7 +355,7 @@ returns-in_err-let_out-in-Envelope-clause-err g c =
     let joins = c.gifts_join.ensures in
     let empty = c.telling.invariant.held in
     let none = c.telling.invariant.unbroken in
-    let h = text_taken state c.envelopes_are_delivered_as_lines.ensures c.lines_are_joined_by_line_feeds.ensures mid rest a b c.in_ok-got.field-0 c.in-Envelope.got c.in-Envelope.octets
+    let h = text_taken state c.envelopes_are_delivered_as_lines.ensures c.lines_are_joined_by_line_feeds.ensures mid rest c.take_next.new.unpacker a b c.in_ok-got.field-0 c.in-Envelope.octets
     c.in-Envelope.is c.in_ok-got.ensures.next in
     let e = h.come.envelope in
     let d = c.let_out.new.output in
@@ -369,7 +378,7 @@ returns-in_err-let_out-in-Envelope-2-clause-err g c =
     let joins = c.gifts_join.ensures in
     let empty = c.telling.invariant.held in
     let none = c.telling.invariant.unbroken in
-    let h = text_taken state c.envelopes_are_delivered_as_lines.ensures c.lines_are_joined_by_line_feeds.ensures mid rest a b c.in_ok-got.field-0 c.in-Envelope.got c.in-Envelope.octets
+    let h = text_taken state c.envelopes_are_delivered_as_lines.ensures c.lines_are_joined_by_line_feeds.ensures mid rest c.take_next.new.unpacker a b c.in_ok-got.field-0 c.in-Envelope.octets
     c.in-Envelope.is c.in_ok-got.ensures.next in
     let e = h.come.envelope in
     let d = c.let_out-then-is_err.new.output in
@@ -392,7 +401,7 @@ returns-in_err-let_out-in-Refused-clause-err g c =
     let joins = c.gifts_join.ensures in
     let empty = c.telling.invariant.held in
     let none = c.telling.invariant.unbroken in
-    let f = refusal_as (PutsLines state) stops_of HoldsNothing (StaysStuck state) mid rest a b c.in_ok-got.field-0 c.in-Refused.refusal c.in-Refused.is c.in_ok-got.ensures.next in
+    let f = refusal_as (PutsLines state) stops_of HoldsNothing (StaysStuck state) mid rest c.take_next.new.unpacker a b c.in_ok-got.field-0 c.in-Refused.refusal c.in-Refused.is c.in_ok-got.ensures.next in
     let d = c.let_out-in-Refused.new.output in
     let fault = c.in_err-let_out-in-Refused.field-0.0 in
     handed_on (IsUnnarrated source rest old (state d.writer) errors_old errors_now) c.from_residual-in_err-let_out-in-Refused.result fault c.from_residual-in_err-let_out-in-Refused.ensures.1

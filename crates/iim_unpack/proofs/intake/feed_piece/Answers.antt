@@ -1,4 +1,4 @@
-use Rattle.std.proofs.Common.{◌≡◌, ◌<◌, ◌≤◌, ℕ, List, length, refl, ap, sym, subst, ◌∙◌, inl, inr, arith}
+use Rattle.std.proofs.Common.{◌≡◌, ◌<◌, ◌≤◌, ℕ, List, length, refl, ap, sym, subst, ◌∙◌, inl, inr}
 use Rattle.iim_dataset.specs.Format.Devices.{Device}
 use Rattle.iim_unpack.specs.Format.Blocks.{with_held}
 use Rattle.iim_unpack.specs.Format.Unpacking.{raised}
