@@ -6,7 +6,7 @@ ghost use Rattle.iim_unpack.specs.Format.Unpacking.{limits_in};
 ghost use Rattle.iim_audit.specs.Format.Auditing.{IsAudited, FailsLeaving, IsToldAgain};
 ghost use Rattle.iim_audit.specs.Taking.{TookEnvelope, TookNone};
 
-use crate::fault::{AuditCause, AuditFault, cause_of};
+use crate::fault::{AuditCause, AuditFault, cause_of, fault_at};
 use crate::ledger::Ledger;
 use crate::report::Report;
 use crate::row::Taken;
@@ -77,10 +77,7 @@ pub fn audit<R: Source>(
 {
     gifts_join();
     let Ok(made) = Unpacker::new(alloc, limits) else {
-        return Err(AuditFault {
-            envelope: 1,
-            cause: AuditCause::OutOfMemory,
-        });
+        return Err(fault_at(1, AuditCause::OutOfMemory));
     };
     let mut unpacker = made;
     let mut ledger = Ledger::new(alloc);
@@ -89,27 +86,16 @@ pub fn audit<R: Source>(
         let words = match take_envelope(intake, &mut unpacker) {
             Ok(Some(words)) => words,
             Ok(None) => return Ok(ledger.into_report()),
-            Err(cause) => {
-                return Err(AuditFault {
-                    envelope: number,
-                    cause,
-                });
-            }
+            Err(cause) => return Err(fault_at(number, cause)),
         };
         if number > MAX_ENVELOPES {
-            return Err(AuditFault {
-                envelope: number,
-                cause: AuditCause::TooManyEnvelopes,
-            });
+            return Err(fault_at(number, AuditCause::TooManyEnvelopes));
         }
         let Some(unpacked) = unpacker.unpacked() else {
             unreachable!()
         };
         let Ok(()) = ledger.enter(&Taken { unpacked, words }, now) else {
-            return Err(AuditFault {
-                envelope: number,
-                cause: AuditCause::OutOfMemory,
-            });
+            return Err(fault_at(number, AuditCause::OutOfMemory));
         };
     }
 }

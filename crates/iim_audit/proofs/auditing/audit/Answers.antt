@@ -1,7 +1,11 @@
-use Rattle.std.proofs.Common.{◌≡◌, ◌∙◌, ℕ, None, Some, Option, [], length, ap, subst, arith, refl, Result, Ok, ◌+◌, IsErrAnd, IsSome}
+use Rattle.std.proofs.Common.{◌≡◌, ◌∙◌, ℕ, None, Some, Option, [], length, ap, sym, subst, arith, refl, Result, Ok, ◌+◌, IsErrAnd, IsSome}
 use Rattle.iim_dataset.specs.Format.Devices.{Device}
 use Rattle.iim_unpack.specs.Format.Intakes.{line}
 use Rattle.iim_unpack.specs.declared.intake.Intake.{Intake}
+use Rattle.iim_audit.specs.Format.Auditing.{FailsLeaving, IsToldAgain}
+use Rattle.iim_audit.specs.declared.fault.AuditCause.{AuditCause}
+use Rattle.iim_audit.specs.declared.fault.AuditCause.TheVariants as causes
+use Rattle.iim_audit.specs.declared.fault.AuditFault.{AuditFault}
 use Rattle.iim_audit.specs.Taking.{TookEnvelope}
 use Rattle.iim_audit.proofs.Reading.{come_none, audited, fails, none_within, one_too_many, short_after, short_first, read_one, taken_of, told_again, took_within}
 use Rattle.iim_audit.proofs.auditing.audit.Goals as goal
@@ -10,6 +14,10 @@ never : {T E : Type 0} (r : Result T E) (x : T) (P : E → Type 0) → r ≡ Ok 
 never {T} {E} r x P is err =
     let Q : Result T E → Type 0 = λ s. IsErrAnd s P in
     subst Q is err
+
+-- what holds of a number and a cause holds of the fault that has them
+of_fault : (P : ℕ → AuditCause → Type 0) (fault : AuditFault) (number : ℕ) (cause : AuditCause) → fault ≡ record { envelope = number; cause = cause } → P number cause → P fault.envelope fault.cause
+of_fault P fault number cause is h = subst (λ (f : AuditFault). P f.envelope f.cause) (sym is) h
 
 none_is_none : {A : Type 0} (r : Option A) → r ≡ None → IsSome r → ⊥
 none_is_none (Some x) none some = absurd cc
@@ -63,10 +71,11 @@ pub returns-in-Err-clause-fails : goal.returns-in-Err-clause-fails
 returns-in-Err-clause-fails g c = λ alive.
     let st = g.R.Source.state in
     let read = c.envelopes.invariant.auditing.reads alive in
-    fails c.args.limits c.args.now.nanosecond (line st c.args.intake.now) (line st c.envelopes.intake) (line st c.take_envelope.new.intake)
+    of_fault (λ n cause. FailsLeaving c.args.limits (line g.R.Source.state c.args.intake.now) (line g.R.Source.state c.take_envelope.new.intake) c.args.intake.now.octets c.take_envelope.new.intake.failed c.take_envelope.new.intake.octets n cause) c.fault_at-in-Err.result c.next_number-number.result c.in-Err.cause c.fault_at-in-Err.ensures
+    (fails c.args.limits c.args.now.nanosecond (line st c.args.intake.now) (line st c.envelopes.intake) (line st c.take_envelope.new.intake)
     c.envelopes.ledger c.args.intake.now.octets c.envelopes.intake.failed c.envelopes.intake.octets c.next_number-number.result
     c.take_envelope.new.intake.failed c.take_envelope.new.intake.octets c.in-Err.cause c.gifts_join.ensures
-    c.envelopes.invariant.auditing.few c.next_number-number.ensures read (none_within c.args.limits (line st c.envelopes.intake) (line st c.take_envelope.new.intake) c.envelopes.unpacker c.envelopes.intake.octets c.take_envelope.new.intake.failed c.take_envelope.new.intake.octets c.in-Err.cause c.envelopes.invariant.same (c.in-Err.ensures.none read.lives))
+    c.envelopes.invariant.auditing.few c.next_number-number.ensures read (none_within c.args.limits (line st c.envelopes.intake) (line st c.take_envelope.new.intake) c.envelopes.unpacker c.envelopes.intake.octets c.take_envelope.new.intake.failed c.take_envelope.new.intake.octets c.in-Err.cause c.envelopes.invariant.same (c.in-Err.ensures.none read.lives)))
 
 pub returns-then-number-gt-MAX_ENVELOPES-clause-fails :
     goal.returns-then-number-gt-MAX_ENVELOPES-clause-fails
@@ -78,11 +87,12 @@ returns-then-number-gt-MAX_ENVELOPES-clause-fails g c = λ alive.
     let used = c.take_envelope.new.intake.octets in
     let u = c.envelopes.unpacker in
     let v = c.take_envelope.new.unpacker in
-    one_too_many c.args.limits c.args.now.nanosecond (line st c.args.intake.now) mid new
+    of_fault (λ n cause. FailsLeaving c.args.limits (line g.R.Source.state c.args.intake.now) (line g.R.Source.state c.take_envelope.new.intake) c.args.intake.now.octets c.take_envelope.new.intake.failed c.take_envelope.new.intake.octets n cause) c.fault_at-then-number-gt-MAX_ENVELOPES.result c.next_number-number.result causes.TooManyEnvelopes c.fault_at-then-number-gt-MAX_ENVELOPES.ensures
+    (one_too_many c.args.limits c.args.now.nanosecond (line st c.args.intake.now) mid new
     c.envelopes.ledger c.args.intake.now.octets c.envelopes.intake.failed c.envelopes.intake.octets c.next_number-number.result
     c.take_envelope.new.intake.failed used v c.in-Ok-Some.words c.gifts_join.ensures
     c.envelopes.invariant.auditing.few c.next_number-number.ensures (omega arith) c.in-Ok-Some.ensures.lives read
-    (took_within c.args.limits mid new u v used c.in-Ok-Some.field-0 (Some c.in-Ok-Some.words) c.in-Ok-Some.field-0-is c.envelopes.invariant.same c.in-Ok-Some.ensures.took)
+    (took_within c.args.limits mid new u v used c.in-Ok-Some.field-0 (Some c.in-Ok-Some.words) c.in-Ok-Some.field-0-is c.envelopes.invariant.same c.in-Ok-Some.ensures.took))
 
 pub returns-in_default-enter-clause-fails : goal.returns-in_default-enter-clause-fails
 returns-in_default-enter-clause-fails g c = λ alive.
@@ -93,11 +103,12 @@ returns-in_default-enter-clause-fails g c = λ alive.
     let used = c.take_envelope.new.intake.octets in
     let u = c.envelopes.unpacker in
     let v = c.take_envelope.new.unpacker in
-    short_after c.args.limits c.args.now.nanosecond (line st c.args.intake.now) mid new
+    of_fault (λ n cause. FailsLeaving c.args.limits (line g.R.Source.state c.args.intake.now) (line g.R.Source.state c.take_envelope.new.intake) c.args.intake.now.octets c.take_envelope.new.intake.failed c.take_envelope.new.intake.octets n cause) c.fault_at-in_default-enter.result c.next_number-number.result causes.OutOfMemory c.fault_at-in_default-enter.ensures
+    (short_after c.args.limits c.args.now.nanosecond (line st c.args.intake.now) mid new
     c.envelopes.ledger c.args.intake.now.octets c.envelopes.intake.failed c.envelopes.intake.octets c.next_number-number.result
     c.take_envelope.new.intake.failed used v c.in-Ok-Some.words c.gifts_join.ensures
     (omega arith) c.next_number-number.ensures c.in-Ok-Some.ensures.lives read
-    (took_within c.args.limits mid new u v used c.in-Ok-Some.field-0 (Some c.in-Ok-Some.words) c.in-Ok-Some.field-0-is c.envelopes.invariant.same c.in-Ok-Some.ensures.took)
+    (took_within c.args.limits mid new u v used c.in-Ok-Some.field-0 (Some c.in-Ok-Some.words) c.in-Ok-Some.field-0-is c.envelopes.invariant.same c.in-Ok-Some.ensures.took))
 
 pub envelopes-preserved : goal.envelopes-preserved
 envelopes-preserved g c =
@@ -133,9 +144,10 @@ envelopes-preserved g c =
 pub returns-in-Err-clause-again : goal.returns-in-Err-clause-again
 returns-in-Err-clause-again g c = λ octet e.
     let same = c.envelopes.invariant.as_it_was octet e in
-    told_again octet c.args.intake.now.octets c.envelopes.intake.octets c.take_envelope.new.intake.octets (length c.envelopes.ledger.rows.items)
+    of_fault (λ n cause. IsToldAgain octet c.args.intake.now.octets c.take_envelope.new.intake.octets n cause) c.fault_at-in-Err.result c.next_number-number.result c.in-Err.cause c.fault_at-in-Err.ensures
+    (told_again octet c.args.intake.now.octets c.envelopes.intake.octets c.take_envelope.new.intake.octets (length c.envelopes.ledger.rows.items)
     c.next_number-number.result c.in-Err.cause (ap (λ (i : Intake _). i.octets) same) (c.envelopes.invariant.auditing.again octet e)
-    c.next_number-number.ensures (c.in-Err.ensures.again octet (still c.args.intake.now c.envelopes.intake octet same e))
+    c.next_number-number.ensures (c.in-Err.ensures.again octet (still c.args.intake.now c.envelopes.intake octet same e)))
 
 pub returns-in-Err-clause-as_it_was : goal.returns-in-Err-clause-as_it_was
 returns-in-Err-clause-as_it_was g c = λ octet e.
@@ -174,7 +186,8 @@ returns-in_default-enter-clause-as_it_was g c = λ octet e.
     (c.take_envelope.ensures.again octet (still c.args.intake.now c.envelopes.intake octet (c.envelopes.invariant.as_it_was octet e) e)))
 
 pub returns-in_default-clause-fails : goal.returns-in_default-clause-fails
-returns-in_default-clause-fails g c = λ alive. short_first c.args.limits (line g.R.Source.state c.args.intake.now) c.args.intake.now.octets c.args.intake.now.failed c.gifts_join.ensures alive
+returns-in_default-clause-fails g c = λ alive. of_fault (λ n cause. FailsLeaving c.args.limits (line g.R.Source.state c.args.intake.now) (line g.R.Source.state c.args.intake.now) c.args.intake.now.octets c.args.intake.now.failed c.args.intake.now.octets n cause) c.fault_at.result 1 causes.OutOfMemory c.fault_at.ensures
+    (short_first c.args.limits (line g.R.Source.state c.args.intake.now) c.args.intake.now.octets c.args.intake.now.failed c.gifts_join.ensures alive)
 
 pub unreachable-requires : goal.unreachable-requires
 unreachable-requires g c =

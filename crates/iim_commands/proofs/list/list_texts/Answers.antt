@@ -11,6 +11,14 @@ use Rattle.iim_commands.proofs.Taken.{come_as, end_as, lives_as, refusal_as}
 use Rattle.iim_commands.proofs.Told.{added, handed_on}
 use Rattle.iim_commands.proofs.list.list_texts.Goals as goal
 
+pub listing-init : goal.listing-init
+listing-init g c = record {
+  alive = c.requires.alive;
+  same = c.in_ok-unpacker.ensures.limits;
+  reported = none_reported g.W.Target.state c.gifts_join.ensures g.P.EnvelopeReport.written (line g.R.Source.state c.args.intake.now) c.args.silent.now.output;
+  leads = λ last h. h;
+}
+
 pub returns-in_err-unpacker-clause-err : goal.returns-in_err-unpacker-clause-err
 returns-in_err-unpacker-clause-err g c =
     let text = g.P.EnvelopeReport.written in
@@ -20,8 +28,8 @@ returns-in_err-unpacker-clause-err g c =
     handed_on (IsUnlisted state text source source old old) c.from_residual.result OutOfMemory c.from_residual.ensures.1
     (starved state c.gifts_join.ensures text source source source old old 0 [] (none_reported state c.gifts_join.ensures text source old) (c.gifts_join.ensures.none source))
 
-pub returns-in_err-got-clause-err : goal.returns-in_err-got-clause-err
-returns-in_err-got-clause-err g c =
+pub returns-in_err-octets-clause-err : goal.returns-in_err-octets-clause-err
+returns-in_err-octets-clause-err g c =
     let text = g.P.EnvelopeReport.written in
     let source = line g.R.Source.state c.args.intake.now in
     let mid = line g.R.Source.state c.listing.intake in
@@ -32,9 +40,9 @@ returns-in_err-got-clause-err g c =
     let b = c.take_next.new.sink in
     let now = b.output in
     let empty = c.requires.held in
-    let fault = c.in_err-got.field-0.0 in
-    handed_on (IsUnlisted state text source rest old now) c.from_residual.result fault c.from_residual.ensures.1
-    (failed state c.gifts_join.ensures c.texts_join.ensures text source mid rest old c.take_next.new.unpacker a b c.listing.count fault c.listing.invariant.reported empty c.in_err-got.ensures.next)
+    let fault = c.in_err-octets.field-0.0 in
+    handed_on (IsUnlisted state text source rest old now) c.from_residual-in_err-octets.result fault c.from_residual-in_err-octets.ensures.1
+    (failed state c.gifts_join.ensures c.texts_join.ensures text source mid rest old c.take_next.new.unpacker a b c.listing.count fault c.listing.invariant.reported empty c.in_err-octets.ensures.next)
 
 pub returns-in_err-add_last-in-Envelope-clause-err : goal.returns-in_err-add_last-in-Envelope-clause-err
 returns-in_err-add_last-in-Envelope-clause-err g c =
@@ -48,7 +56,7 @@ returns-in_err-add_last-in-Envelope-clause-err g c =
     let b = c.take_next.new.sink in
     let now = b.output in
     let empty = c.requires.held in
-    let h = come_as (PassesOver state) refuses_never IsSettled (IsStuck state) mid rest c.take_next.new.unpacker a b c.in_ok-got.field-0 c.in-Envelope.octets c.in-Envelope.is c.in_ok-got.ensures.next in
+    let h = come_as (PassesOver state) refuses_never IsSettled (IsStuck state) mid rest c.take_next.new.unpacker a b c.in_ok-octets.field-0 c.in-Envelope.octets c.in-Envelope.is c.in_ok-octets.ensures.next in
     let r = reported_out state text source mid old a.output now c.listing.count c.listing.invariant.reported h.came.told in
     let full : c.listing.count ≡ max_envelopes = search rules in
     let new = c.add_last.new.output in
@@ -70,7 +78,7 @@ returns-then-count-eq-MAX_ENVELOPES-clause-ok g c =
     let b = c.take_next.new.sink in
     let now = b.output in
     let empty = c.requires.held in
-    let h = come_as (PassesOver state) refuses_never IsSettled (IsStuck state) mid rest c.take_next.new.unpacker a b c.in_ok-got.field-0 c.in-Envelope.octets c.in-Envelope.is c.in_ok-got.ensures.next in
+    let h = come_as (PassesOver state) refuses_never IsSettled (IsStuck state) mid rest c.take_next.new.unpacker a b c.in_ok-octets.field-0 c.in-Envelope.octets c.in-Envelope.is c.in_ok-octets.ensures.next in
     let r = reported_out state text source mid old a.output now c.listing.count c.listing.invariant.reported h.came.told in
     let full : c.listing.count ≡ max_envelopes = search rules in
     let new = c.add_last.new.output in
@@ -91,7 +99,7 @@ returns-in_err-push_text-in-Envelope-clause-err g c =
     let b = c.take_next.new.sink in
     let now = b.output in
     let empty = c.requires.held in
-    let h = come_as (PassesOver state) refuses_never IsSettled (IsStuck state) mid rest c.take_next.new.unpacker a b c.in_ok-got.field-0 c.in-Envelope.octets c.in-Envelope.is c.in_ok-got.ensures.next in
+    let h = come_as (PassesOver state) refuses_never IsSettled (IsStuck state) mid rest c.take_next.new.unpacker a b c.in_ok-octets.field-0 c.in-Envelope.octets c.in-Envelope.is c.in_ok-octets.ensures.next in
     let r = reported_out state text source mid old a.output now c.listing.count c.listing.invariant.reported h.came.told in
     handed_on (IsUnlisted state text source rest old now) c.from_residual-in_err-push_text-in-Envelope.result OutOfMemory c.from_residual-in_err-push_text-in-Envelope.ensures.1
     (starved state c.gifts_join.ensures text source mid rest old now c.listing.count h.envelope.octets r h.came.given)
@@ -108,7 +116,7 @@ returns-in_err-add-in-Envelope-clause-err g c =
     let b = c.take_next.new.sink in
     let now = b.output in
     let empty = c.requires.held in
-    let h = come_as (PassesOver state) refuses_never IsSettled (IsStuck state) mid rest c.take_next.new.unpacker a b c.in_ok-got.field-0 c.in-Envelope.octets c.in-Envelope.is c.in_ok-got.ensures.next in
+    let h = come_as (PassesOver state) refuses_never IsSettled (IsStuck state) mid rest c.take_next.new.unpacker a b c.in_ok-octets.field-0 c.in-Envelope.octets c.in-Envelope.is c.in_ok-octets.ensures.next in
     let r = reported_out state text source mid old a.output now c.listing.count c.listing.invariant.reported h.came.told in
     let words = added c.clear.new.self.items c.push_text.new.text.items (text (c.listing.count + 1) h.envelope) c.as_slice.result.now c.clear.ensures.items
     (c.in_ok-push_text-in-Envelope.ensures h.envelope h.counts (c.in-Some.ensures.value h.envelope.octets c.in-Envelope.octets h.done h.envelope.value h.is.admits)) c.as_slice.ensures.value in
@@ -131,14 +139,14 @@ listing-preserved g c =
     let b = c.take_next.new.sink in
     let now = b.output in
     let empty = c.requires.held in
-    let h = come_as (PassesOver state) refuses_never IsSettled (IsStuck state) mid rest c.take_next.new.unpacker a b c.in_ok-got.field-0 c.in-Envelope.octets c.in-Envelope.is c.in_ok-got.ensures.next in
+    let h = come_as (PassesOver state) refuses_never IsSettled (IsStuck state) mid rest c.take_next.new.unpacker a b c.in_ok-octets.field-0 c.in-Envelope.octets c.in-Envelope.is c.in_ok-octets.ensures.next in
     let r = reported_out state text source mid old a.output now c.listing.count c.listing.invariant.reported h.came.told in
     let words = added c.clear.new.self.items c.push_text.new.text.items (text (c.listing.count + 1) h.envelope) c.as_slice.result.now c.clear.ensures.items
     (c.in_ok-push_text-in-Envelope.ensures h.envelope h.counts (c.in-Some.ensures.value h.envelope.octets c.in-Envelope.octets h.done h.envelope.value h.is.admits)) c.as_slice.ensures.value in
     let below : c.listing.count ≡ max_envelopes → ⊥ = search rules in
     let new = c.add.new.output in
     record {
-      alive = lives_as c.take_next.new.intake.failed c.in_ok-got.field-0 c.in-Envelope.octets c.in-Envelope.is c.in_ok-got.ensures.lives;
+      alive = lives_as c.take_next.new.intake.failed c.in_ok-octets.field-0 c.in-Envelope.octets c.in-Envelope.is c.in_ok-octets.ensures.lives;
       same = h.same;
       reported =
           reported_more state c.gifts_join.ensures text source mid rest old now new c.listing.count c.as_slice.result.now h.envelope r h.is h.came.given
@@ -158,7 +166,7 @@ returns-in-End-clause-ok g c =
     let b = c.take_next.new.sink in
     let now = b.output in
     let empty = c.requires.held in
-    let h = end_as (PassesOver state) refuses_never IsSettled (IsStuck state) mid rest c.take_next.new.unpacker a b c.in_ok-got.field-0 c.in-End.is c.in_ok-got.ensures.next in
+    let h = end_as (PassesOver state) refuses_never IsSettled (IsStuck state) mid rest c.take_next.new.unpacker a b c.in_ok-octets.field-0 c.in-End.is c.in_ok-octets.ensures.next in
     let r = reported_out state text source mid old a.output now c.listing.count c.listing.invariant.reported h.2 in
     reported state c.gifts_join.ensures text source mid rest old now now c.listing.count 0 [] [] [] Whole r h.0 (none_left rest.octets h.1) refl refl refl
     empty (put_nothing state now) h.3
@@ -175,7 +183,7 @@ returns-in_err-push_refused-in-Refused-clause-err g c =
     let b = c.take_next.new.sink in
     let now = b.output in
     let empty = c.requires.held in
-    let h = refusal_as (PassesOver state) refuses_never IsSettled (IsStuck state) mid rest c.take_next.new.unpacker a b c.in_ok-got.field-0 c.in-Refused.refusal c.in-Refused.is c.in_ok-got.ensures.next in
+    let h = refusal_as (PassesOver state) refuses_never IsSettled (IsStuck state) mid rest c.take_next.new.unpacker a b c.in_ok-octets.field-0 c.in-Refused.refusal c.in-Refused.is c.in_ok-octets.ensures.next in
     let r = reported_out state text source mid old a.output now c.listing.count c.listing.invariant.reported h.came.told in
     handed_on (IsUnlisted state text source rest old now) c.from_residual-in_err-push_refused-in-Refused.result OutOfMemory c.from_residual-in_err-push_refused-in-Refused.ensures.1
     (starved state c.gifts_join.ensures text source mid rest old now c.listing.count h.octets r h.came.given)
@@ -192,7 +200,7 @@ returns-in_err-add_last-in-Refused-clause-err g c =
     let b = c.take_next.new.sink in
     let now = b.output in
     let empty = c.requires.held in
-    let h = refusal_as (PassesOver state) refuses_never IsSettled (IsStuck state) mid rest c.take_next.new.unpacker a b c.in_ok-got.field-0 c.in-Refused.refusal c.in-Refused.is c.in_ok-got.ensures.next in
+    let h = refusal_as (PassesOver state) refuses_never IsSettled (IsStuck state) mid rest c.take_next.new.unpacker a b c.in_ok-octets.field-0 c.in-Refused.refusal c.in-Refused.is c.in_ok-octets.ensures.next in
     let r = reported_out state text source mid old a.output now c.listing.count c.listing.invariant.reported h.came.told in
     let new = c.add_last-in-Refused.new.output in
     let words : c.as_slice-in-Refused.result.now ≡ refused_line (c.listing.count + 1) c.in-Refused.refusal = search rules in
@@ -213,7 +221,7 @@ returns-in-Refused-clause-ok g c =
     let b = c.take_next.new.sink in
     let now = b.output in
     let empty = c.requires.held in
-    let h = refusal_as (PassesOver state) refuses_never IsSettled (IsStuck state) mid rest c.take_next.new.unpacker a b c.in_ok-got.field-0 c.in-Refused.refusal c.in-Refused.is c.in_ok-got.ensures.next in
+    let h = refusal_as (PassesOver state) refuses_never IsSettled (IsStuck state) mid rest c.take_next.new.unpacker a b c.in_ok-octets.field-0 c.in-Refused.refusal c.in-Refused.is c.in_ok-octets.ensures.next in
     let r = reported_out state text source mid old a.output now c.listing.count c.listing.invariant.reported h.came.told in
     let new = c.add_last-in-Refused.new.output in
     let words : c.as_slice-in-Refused.result.now ≡ refused_line (c.listing.count + 1) c.in-Refused.refusal = search rules in
@@ -221,8 +229,8 @@ returns-in-Refused-clause-ok g c =
     reported state c.gifts_join.ensures text source mid rest old now new c.listing.count 1 h.octets more.0 c.as_slice-in-Refused.result.now (RefusedBy c.in-Refused.refusal) r
     h.came.given more.1 (h.k, more.2) refl words empty c.in_ok-add_last-in-Refused.ensures.ok c.in_ok-add_last-in-Refused.ensures.held
 
-pub returns-in_err-got-clause-leads : goal.returns-in_err-got-clause-leads
-returns-in_err-got-clause-leads g c = c.listing.invariant.leads c.take_next.new.intake.reader c.take_next.ensures.leads
+pub returns-in_err-octets-clause-leads : goal.returns-in_err-octets-clause-leads
+returns-in_err-octets-clause-leads g c = c.listing.invariant.leads c.take_next.new.intake.reader c.take_next.ensures.leads
 
 pub returns-in_err-add_last-in-Envelope-clause-leads : goal.returns-in_err-add_last-in-Envelope-clause-leads
 returns-in_err-add_last-in-Envelope-clause-leads g c = c.listing.invariant.leads c.take_next.new.intake.reader c.take_next.ensures.leads
@@ -259,5 +267,5 @@ unreachable-requires g c =
     let state = g.W.Target.state in
     let a = c.listing.silent in
     let b = c.take_next.new.sink in
-    let h = come_as (PassesOver state) refuses_never IsSettled (IsStuck state) mid rest c.take_next.new.unpacker a b c.in_ok-got.field-0 c.in-Envelope.octets c.in-Envelope.is c.in_ok-got.ensures.next in
+    let h = come_as (PassesOver state) refuses_never IsSettled (IsStuck state) mid rest c.take_next.new.unpacker a b c.in_ok-octets.field-0 c.in-Envelope.octets c.in-Envelope.is c.in_ok-octets.ensures.next in
     none_is_none c.unpacked.result c.in_default.is (c.unpacked.ensures.done.1 (h.done.taking, h.done.ended))
