@@ -11,7 +11,7 @@ use Rattle.iim_object.specs.declared.cause.PackCause.TheVariants as causes
 use Rattle.iim_object.specs.declared.cause.StartFault.{StartFault}
 use Rattle.iim_object.specs.declared.plan.Plan.{Plan}
 use Rattle.iim_object.specs.declared.size.Size.{Size}
-use Rattle.iim_object.specs.declared.size.Size.TheVariants.{Known, Unknown}
+use Rattle.iim_object.specs.declared.size.Size.TheVariants.{Known}
 use Rattle.wire_message.specs.Format.Messages.{IsTrailer}
 use Rattle.iim_object.proofs.PackedSizes.{plan_parts}
 use Rattle.iim_pack.specs.Format.Packing.{pack_cause}

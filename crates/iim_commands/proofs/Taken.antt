@@ -1,5 +1,5 @@
 -- What an intake gives, of an unpacker that stands on no octets.
-use Rattle.std.proofs.Common.{◌≡◌, ◌≢◌, ◌⊎◌, ℕ, inl, inr, refl, sym, ap, subst, ◌∙◌, arith, Bool, true, false, List, [], ◌∷◌, length, take, Option, None, Some, Result, Ok, Err}
+use Rattle.std.proofs.Common.{◌≡◌, ◌≢◌, ◌⊎◌, ℕ, inl, inr, refl, sym, ap, subst, ◌∙◌, arith, Bool, true, false, List, [], ◌∷◌, length, take, Option, None, Result, Ok}
 use Rattle.std.proofs.Math.Seq.{take-length}
 use Rattle.iim_dataset.specs.Format.Datasets.{count_octets}
 use Rattle.iim_dataset.specs.Format.Devices.{Device}
@@ -25,7 +25,6 @@ use Rattle.iim_unpack.specs.declared.refusal.Cause.{Cause}
 use Rattle.iim_unpack.specs.declared.refusal.Cause.TheVariants.{Sink, Truncated}
 use Rattle.iim_commands.specs.Feeding.{FedAsWhole, HaltsBy, IsOfFault, IsOfHalt}
 use Rattle.iim_commands.specs.declared.fault.CommandFault.{CommandFault}
-use Rattle.iim_commands.specs.declared.fault.CommandFault.TheVariants.{CannotWrite}
 use Rattle.iim_commands.specs.Format.Coming.{CanAskForMore, EnvelopeHasCome, IsCalm, IsCutOff, IsHeldUp, IsNext, IsRefusal, IsUnheard}
 use Rattle.iim_commands.specs.declared.coming.Halt.{Halt}
 use Rattle.iim_commands.specs.declared.coming.Halt.TheVariants as halt

@@ -1,7 +1,7 @@
 -- The laws of writers of blocks, handed in by their impls.
 use Rattle.std.proofs.Common.{◌≡◌, ℕ, List, [], ◌∷◌, ◌++◌, map, refl, sym, ap, subst, ◌∙◌, append-nil, append_assoc, Option, None, Some, arith}
 use Rattle.std.specs.Io.KnownBytes.{Appends}
-use Rattle.iim_dataset.specs.Format.Devices.{Device, Wrote}
+use Rattle.iim_dataset.specs.Format.Devices.{Device}
 use Rattle.wire_story.specs.Format.Delivery.{StoryEvent, octet_for, LineOctet}
 use Rattle.wire_story.specs.Format.Writing.{WritesOn}
 use Rattle.wire_story.specs.WritingLaws.{writes_nothing, writes_joined}

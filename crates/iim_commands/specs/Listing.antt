@@ -1,5 +1,5 @@
 -- How a report is held and let out.
-use Rattle.std.specs.Prelude.{◌≡◌, ◌⊎◌, ℕ, List, [], Result, Ok, Err}
+use Rattle.std.specs.Prelude.{◌≡◌, ◌⊎◌, ℕ, List, [], Result, Err}
 use Rattle.iim_dataset.specs.Format.Devices.{Device}
 use Rattle.iim_dataset.specs.Format.DeviceLaws.{HasGiven}
 use Rattle.iim_unpack.specs.Format.Listing.{Divides, Listed}
@@ -9,7 +9,7 @@ use Rattle.iim_commands.specs.Format.Listings.{limits}
 use Rattle.iim_commands.specs.Format.Reports.{IsUnreported}
 use Rattle.iim_commands.specs.declared.block_writer.BlockWriter.{BlockWriter}
 use Rattle.iim_commands.specs.declared.fault.CommandFault.{CommandFault}
-use Rattle.iim_commands.specs.declared.fault.CommandFault.TheVariants.{CannotRead, CannotWrite, OutOfMemory}
+use Rattle.iim_commands.specs.declared.fault.CommandFault.TheVariants.{CannotWrite, OutOfMemory}
 
 -- The output broke inside the text.
 abbrev pub IsUnadded : {W : Type 0} → (W → Device) → BlockWriter W → BlockWriter W → List ℕ → CommandFault → Type 0

@@ -1,5 +1,5 @@
 -- How a writer of stories ends.
-use Rattle.std.specs.Prelude.{◌≡◌, ◌<◌, ◌⊎◌, ℕ, List, [], ◌∷◌, length}
+use Rattle.std.specs.Prelude.{◌≡◌, ◌<◌, ◌⊎◌, [], ◌∷◌, length}
 use Rattle.iim_dataset.specs.Format.Devices.{Device, Rose}
 use Rattle.iim_commands.specs.Format.Holding.{PutsOn, StaysStuck, held_of, stops_of}
 use Rattle.iim_commands.specs.declared.block_writer.BlockWriter.{BlockWriter}

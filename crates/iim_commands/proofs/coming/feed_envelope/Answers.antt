@@ -1,5 +1,4 @@
-use Rattle.std.proofs.Common.{◌≡◌, ◌<◌, ◌∙◌, [], ℕ, List, length, ap, refl, subst, sym, arith}
-use Rattle.iim_fields.specs.declared.limits.Limits.{Limits}
+use Rattle.std.proofs.Common.{◌∙◌, [], refl, arith}
 use Rattle.iim_unpack.specs.Format.Intakes.{line}
 use Rattle.iim_unpack.specs.Format.Unpacking.{raised}
 use Rattle.iim_unpack.proofs.Intakes.{fed_none, fed_and_done, fed_and_faults, more_of, done_of, end_of}

@@ -1,4 +1,4 @@
-use Rattle.std.proofs.Common.{◌≡◌, IfOk, IfErr, ap}
+use Rattle.std.proofs.Common.{IfOk, IfErr, ap}
 use Rattle.iim_dataset.specs.Format.Devices.{Device}
 use Rattle.iim_unpack.specs.Format.Intakes.{line}
 use Rattle.iim_commands.specs.Format.Narration.{IsUnnarrated, Narrated}

@@ -1,10 +1,8 @@
-use Rattle.std.proofs.Common.{rules, ◌≡◌, ◌+◌, [], length, map, refl, sym, ap, subst, ◌∙◌, append-nil, arith}
+use Rattle.std.proofs.Common.{rules, ◌≡◌, ◌+◌, [], length, map, refl, sym, ap, ◌∙◌, append-nil, arith}
 use Rattle.iim_dataset.specs.Format.Devices.{Wrote}
 use Rattle.iim_unpack.specs.Format.Intakes.{line}
 use Rattle.wire_story.specs.Format.Delivery.{octet_for}
-use Rattle.iim_commands.specs.Format.Holding.{HoldsNothing, PutsLines, PutsOn, StaysStuck, device_of, stops_of}
-use Rattle.iim_commands.specs.HoldingLaws.{puts_on}
-use Rattle.iim_commands.specs.declared.block_writer.BlockWriter.{BlockWriter}
+use Rattle.iim_commands.specs.Format.Holding.{HoldsNothing, PutsLines, StaysStuck, stops_of}
 use Rattle.iim_commands.specs.Format.Lines.{accepted_line, refused_line, too_many_line}
 use Rattle.iim_unpack.specs.Format.Listing.{max_envelopes, Whole, RefusedBy, TooMany}
 use Rattle.iim_commands.specs.Format.Narration.{IsUnnarrated, text_of}

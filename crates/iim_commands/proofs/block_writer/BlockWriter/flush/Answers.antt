@@ -1,7 +1,5 @@
-use Rattle.std.proofs.Common.{rules, ◌≡◌, [], take, map, refl, sym, subst}
+use Rattle.std.proofs.Common.{rules, [], refl}
 use Rattle.iim_dataset.specs.Format.Devices.{Rose}
-use Rattle.iim_commands.specs.Format.Holding.{HasPut, HasStuck, PutsOn, PutsLines, StaysStuck}
-use Rattle.iim_commands.specs.HoldingLaws.{put_on, puts_on}
 use Rattle.iim_commands.proofs.Holding.{lets_out, puts_of_put, puts_of_stuck, stays_stuck}
 use Rattle.iim_commands.proofs.block_writer.BlockWriter.flush.Goals as goal
 

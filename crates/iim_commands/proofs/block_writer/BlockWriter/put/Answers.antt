@@ -1,6 +1,5 @@
-use Rattle.std.proofs.Common.{rules, ◌≡◌, [], take, map, refl, sym, subst}
-use Rattle.iim_dataset.specs.Format.Devices.{Rose}
-use Rattle.iim_commands.specs.Format.Holding.{HasPut, HasStuck, PutsOn, PutsLines, StaysStuck}
+use Rattle.std.proofs.Common.{[], take, sym, subst}
+use Rattle.iim_commands.specs.Format.Holding.{HasStuck, PutsOn}
 use Rattle.iim_commands.specs.HoldingLaws.{put_on, puts_on}
 use Rattle.iim_commands.proofs.Holding.{if_err, on_ok, stuck_on}
 use Rattle.iim_commands.proofs.block_writer.BlockWriter.put.Goals as goal

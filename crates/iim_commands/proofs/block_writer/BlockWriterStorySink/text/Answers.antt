@@ -1,7 +1,4 @@
-use Rattle.std.proofs.Common.{rules, ◌≡◌, [], take, map, refl, sym, subst}
-use Rattle.iim_dataset.specs.Format.Devices.{Rose}
-use Rattle.iim_commands.specs.Format.Holding.{HasPut, HasStuck, PutsOn, PutsLines, StaysStuck}
-use Rattle.iim_commands.specs.HoldingLaws.{put_on, puts_on}
+use Rattle.std.proofs.Common.{take}
 use Rattle.iim_commands.proofs.Holding.{if_err, on_ok, told_line}
 use Rattle.iim_commands.proofs.block_writer.BlockWriterStorySink.text.Goals as goal
 
