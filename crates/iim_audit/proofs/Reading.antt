@@ -8,9 +8,11 @@ use Rattle.iim_dataset.specs.Format.DeviceLaws.{HasGiven, MissedAfter, BrokeFor,
 use Rattle.iim_dataset.specs.declared.device.IoFault.{IoFault}
 use Rattle.iim_dataset.specs.declared.device.IoFault.TheVariants as io
 use Rattle.iim_fields.specs.declared.limits.Limits.{Limits}
-use Rattle.iim_unpack.specs.Format.Admitted.{Value}
+use Rattle.iim_unpack.specs.Format.Admitted.{Value, Admits}
 use Rattle.iim_unpack.specs.Format.Listing.{Listed, Divides, IsListed, joined, values_of, max_envelopes}
-use Rattle.iim_unpack.specs.Format.Unpacking.{raised}
+use Rattle.iim_unpack.specs.Format.Unpacking.{Unpacking, IsDoneWith, limits_in, raised}
+use Rattle.iim_unpack.specs.Format.Value.{ShowsParts}
+use Rattle.iim_unpack.specs.declared.unpacker.UnpackedRef.{UnpackedRef}
 use Rattle.iim_unpack.proofs.Listings.{admitted_more, joined_more}
 use Rattle.iim_audit.specs.Format.Auditing.{IsAudited, IsMissedAt, IsToldAgain, FailsLeaving, told_after}
 use Rattle.iim_audit.specs.Ledgers.{Keeps}
@@ -89,10 +91,10 @@ count_of now ledger es keeps =
     ap length keeps.rows ∙ length_bare_rows now (values_of es) ∙ length-map es P
 
 -- at the end of the input
-pub audited : (limits : Limits) (now : ℤ) (old mid new : Device) (ledger : Ledger) (before : ℕ) (failed : Option ℕ) (told used : ℕ) (rows : List AuditRow) → GiftsJoin → length ledger.rows.items ≤ max_envelopes
-    → HasRead limits now old mid ledger before failed told → TookEnvelope limits mid new used None → ((values : List Value) → Keeps now ledger values → rows ≡ report_of now values)
+pub audited : (limits : Limits) (now : ℤ) (old mid new : Device) (ledger : Ledger) (before : ℕ) (failed : Option ℕ) (told used : ℕ) (u : Unpacking) (rows : List AuditRow) → GiftsJoin → length ledger.rows.items ≤ max_envelopes
+    → HasRead limits now old mid ledger before failed told → TookEnvelope limits mid new u used None → ((values : List Value) → Keeps now ledger values → rows ≡ report_of now values)
     → IsAudited limits now old new rows
-audited limits now old mid new ledger before failed told used rows joins few read took reports =
+audited limits now old mid new ledger before failed told used u rows joins few read took reports =
     let es = read.envelopes in
     let count : length ledger.rows.items ≡ length es = count_of now ledger es read.keeps in
     record {
@@ -150,25 +152,14 @@ fails limits now old mid new ledger before failed told number kept used causes.R
 fails limits now old mid new ledger before failed told number kept used causes.Interrupted joins few in_hand read took =
     let missed = missed_at limits now old mid new ledger before failed told number kept io.Interrupted few in_hand read took.0 in
     (missed.0, (missed.1, took.1))
-fails limits now old mid new ledger before failed told number kept used causes.OutOfMemory joins few in_hand read took =
-    let es = read.envelopes in
-    let count : length ledger.rows.items ≡ length es = count_of now ledger es read.keeps in (
-      record {
-        input = joined es ++ [];
-        given = given_then limits old mid new es [] joins read.come took.0;
-        envelopes = es;
-        divides = divides_then limits old mid es [] read.come (omega arith);
-        in_hand = inl (omega arith);
-      },
-      (took.1, took.2 ∙ read.tells),
-    )
+fails limits now old mid new ledger before failed told number kept used causes.OutOfMemory joins few in_hand read took = absurd took
 fails limits now old mid new ledger before failed told number kept used causes.TooManyEnvelopes joins few in_hand read took = absurd took
 
 -- with one envelope more than are listed
-pub one_too_many : (limits : Limits) (now : ℤ) (old mid new : Device) (ledger : Ledger) (before : ℕ) (failed : Option ℕ) (told number : ℕ) (left : Option ℕ) (used : ℕ) (got : Taken) → GiftsJoin
+pub one_too_many : (limits : Limits) (now : ℤ) (old mid new : Device) (ledger : Ledger) (before : ℕ) (failed : Option ℕ) (told number : ℕ) (left : Option ℕ) (used : ℕ) (u : Unpacking) (words : ℕ) → GiftsJoin
     → length ledger.rows.items ≤ max_envelopes → number ≡ length ledger.rows.items + 1 → max_envelopes < number → left ≡ None
-    → HasRead limits now old mid ledger before failed told → TookOne limits mid new used got → FailsLeaving limits old new before left used number causes.TooManyEnvelopes
-one_too_many limits now old mid new ledger before failed told number left used got joins few in_hand many lives read one =
+    → HasRead limits now old mid ledger before failed told → TookOne limits mid new u used words → FailsLeaving limits old new before left used number causes.TooManyEnvelopes
+one_too_many limits now old mid new ledger before failed told number left used u words joins few in_hand many lives read one =
     let es = read.envelopes in
     let e = one.envelope in
     let count : length ledger.rows.items ≡ length es = count_of now ledger es read.keeps in
@@ -189,10 +180,10 @@ one_too_many limits now old mid new ledger before failed told number left used g
     )
 
 -- without memory for the row of an envelope
-pub short_after : (limits : Limits) (now : ℤ) (old mid new : Device) (ledger : Ledger) (before : ℕ) (failed : Option ℕ) (told number : ℕ) (left : Option ℕ) (used : ℕ) (got : Taken) → GiftsJoin
+pub short_after : (limits : Limits) (now : ℤ) (old mid new : Device) (ledger : Ledger) (before : ℕ) (failed : Option ℕ) (told number : ℕ) (left : Option ℕ) (used : ℕ) (u : Unpacking) (words : ℕ) → GiftsJoin
     → number ≤ max_envelopes → number ≡ length ledger.rows.items + 1 → left ≡ None
-    → HasRead limits now old mid ledger before failed told → TookOne limits mid new used got → FailsLeaving limits old new before left used number causes.OutOfMemory
-short_after limits now old mid new ledger before failed told number left used got joins few in_hand lives read one =
+    → HasRead limits now old mid ledger before failed told → TookOne limits mid new u used words → FailsLeaving limits old new before left used number causes.OutOfMemory
+short_after limits now old mid new ledger before failed told number left used u words joins few in_hand lives read one =
     let es = read.envelopes ++ one.envelope ∷ [] in
     let count : length ledger.rows.items ≡ length read.envelopes = count_of now ledger read.envelopes read.keeps in
     let longer : length es ≡ length read.envelopes + 1 = length-append read.envelopes (one.envelope ∷ []) in
@@ -207,17 +198,49 @@ short_after limits now old mid new ledger before failed told number left used go
       (lives, one.counts ∙ sym (told_more before read.envelopes one.envelope)),
     )
 
+-- without memory for the unpacker
+pub short_first : (limits : Limits) (old : Device) (before : ℕ) (left : Option ℕ) → GiftsJoin → left ≡ None → FailsLeaving limits old old before left before 1 causes.OutOfMemory
+short_first limits old before left joins lives = (
+  record {
+    input = [];
+    given = joins.none old;
+    envelopes = [];
+    divides = record { admitted = tt; parts = refl; few = omega arith };
+    in_hand = inl refl;
+  },
+  (lives, refl),
+)
+
+-- what was taken of an envelope with which an unpacker is done
+pub taken_of : (limits : Limits) (old new : Device) (u : Unpacking) (told words : ℕ) (got : UnpackedRef) (one : TookOne limits old new u told words)
+    → ((p : List ℕ) (a : ℕ) → IsDoneWith u p a → (v : Value) → Admits p v → ShowsParts got v) → IsTaken (record { unpacked = got; words = words }) one.envelope.value
+taken_of limits old new u told words got one shows = record {
+  parts = shows one.envelope.octets told one.done one.envelope.value one.listed.admits;
+  words = one.counted;
+}
+
+-- what was taken, within the limits of the audit
+pub took_within : (limits : Limits) (old new : Device) (u v : Unpacking) (told : ℕ) (found end : Option ℕ) → found ≡ end → limits_in u ≡ limits → TookEnvelope (limits_in u) old new v told found
+    → TookEnvelope limits old new v told end
+took_within limits old new u v told found end is same took =
+    subst (λ (x : Option ℕ). TookEnvelope limits old new v told x) is (subst (λ (l : Limits). TookEnvelope l old new v told found) same took)
+
+-- why nothing was, within the limits of the audit
+pub none_within : (limits : Limits) (old new : Device) (u : Unpacking) (before : ℕ) (kept : Option ℕ) (told : ℕ) (cause : AuditCause) → limits_in u ≡ limits → TookNone (limits_in u) old new before kept told cause
+    → TookNone limits old new before kept told cause
+none_within limits old new u before kept told cause same took = subst (λ (l : Limits). TookNone l old new before kept told cause) same took
+
 -- an envelope more
-pub read_one : (limits : Limits) (now : ℤ) (old mid new : Device) (ledger later : Ledger) (before : ℕ) (failed : Option ℕ) (told : ℕ) (left : Option ℕ) (used : ℕ) (got : Taken) → GiftsJoin
+pub read_one : (limits : Limits) (now : ℤ) (old mid new : Device) (ledger later : Ledger) (before : ℕ) (failed : Option ℕ) (told : ℕ) (left : Option ℕ) (used : ℕ) (u : Unpacking) (words : ℕ) (got : Taken) → GiftsJoin
     → left ≡ None → ((values : List Value) (v : Value) → Keeps now ledger values → IsTaken got v → Keeps now later (values ++ v ∷ []))
-    → HasRead limits now old mid ledger before failed told → TookOne limits mid new used got → HasRead limits now old new later before left used
-read_one limits now old mid new ledger later before failed told left used got joins lives enters read one =
+    → HasRead limits now old mid ledger before failed told → (one : TookOne limits mid new u used words) → IsTaken got one.envelope.value → HasRead limits now old new later before left used
+read_one limits now old mid new ledger later before failed told left used u words got joins lives enters read one taken =
     let P : List Value → Type 0 = λ values. Keeps now later values in
     let f : Listed → Value = λ e. e.value in
     record {
       envelopes = read.envelopes ++ one.envelope ∷ [];
       come = come_one limits old mid new read.envelopes one.envelope joins read.come one.listed one.given;
-      keeps = subst P (sym (map-append f read.envelopes (one.envelope ∷ []))) (enters (values_of read.envelopes) one.envelope.value read.keeps one.taken);
+      keeps = subst P (sym (map-append f read.envelopes (one.envelope ∷ []))) (enters (values_of read.envelopes) one.envelope.value read.keeps taken);
       lives = lives;
       tells = one.counts ∙ sym (told_more before read.envelopes one.envelope);
     }

@@ -1,5 +1,5 @@
 -- From what an intake answers to what an audit takes of it.
-use Rattle.std.proofs.Common.{◌≡◌, ◌≢◌, ℕ, ◌⊎◌, List, [], length, Option, Some, None, subst, false, ◌∙◌, inl, inr, ⊎_elim, arith, refl, ap}
+use Rattle.std.proofs.Common.{◌≡◌, ◌≢◌, ℕ, ◌⊎◌, List, [], length, Option, Some, None, subst, sym, Bool, true, false, ◌∙◌, inl, inr, ⊎_elim, arith, refl, ap}
 use Rattle.iim_dataset.specs.Format.Devices.{Device}
 use Rattle.iim_dataset.specs.declared.device.IoFault.{IoFault}
 use Rattle.iim_dataset.specs.declared.device.IoFault.TheVariants as io
@@ -7,39 +7,42 @@ use Rattle.iim_fields.specs.declared.limits.Limits.{Limits}
 use Rattle.wire_story.specs.Format.Delivery.{StoryEvent}
 use Rattle.wire_story.specs.Format.Words.{WordsSoFar, CountsWords}
 use Rattle.iim_unpack.specs.Format.Framed.{AreWithin}
-use Rattle.iim_unpack.specs.Format.Intakes.{Gives, Faults, WasMissed, WasRefused, WasTruncated}
+use Rattle.iim_unpack.specs.Format.Intakes.{FedEnvelope, Faults, WasMissed, WasRefused, WasTruncated}
 use Rattle.iim_unpack.specs.Format.Parts.{CountsFor}
-use Rattle.iim_unpack.specs.Format.Unpacking.{Unpacking, Stands, limits_in}
+use Rattle.iim_unpack.specs.Format.Unpacking.{Unpacking, IsDoneWith, Stands, limits_in}
 use Rattle.iim_unpack.specs.declared.intake.IntakeFault.{IntakeFault}
 use Rattle.iim_unpack.specs.declared.intake.IntakeFault.TheVariants as intakes
 use Rattle.iim_unpack.specs.declared.refusal.Cause.{Cause}
 use Rattle.iim_unpack.specs.declared.refusal.Cause.TheVariants.{Sink}
 use Rattle.iim_unpack.specs.declared.refusal.Refusal.{Refusal}
-use Rattle.iim_unpack.specs.declared.unpacker.Unpacked.{Unpacked}
 use Rattle.iim_audit.specs.Faults.{cause_of}
 use Rattle.iim_audit.specs.Taking.{IsCutOff, IsRefusal, TookEnvelope, TookOne, TookNone}
 use Rattle.iim_audit.proofs.Texts.{TextLaws, words_of_value}
 
--- what an intake gives to an unpacker that stands on no octets, and to a count of no words
-pub took_one : TextLaws → (limits : Limits) (old new : Device) (u : Unpacking) (a b : WordsSoFar) (used : ℕ) (got : Unpacked) (n : ℕ)
-    → limits_in u ≡ limits → Stands u [] 0 → a.words ≡ 0 → a.inside ≡ false → n ≡ b.words → Gives CountsWords old new u a b used (Some got)
-    → TookOne limits old new used (record { unpacked = got; words = n })
-took_one laws limits old new u a b used got n same stands none outside is gives =
-    let here = gives.envelope [] 0 stands in
+-- an unpacker that stood on no octets was fed an envelope, and a count of no words its lines
+pub took_one : TextLaws → (limits : Limits) (old new : Device) (u v : Unpacking) (a b : WordsSoFar) (used n : ℕ) (whole : Bool) → whole ≡ true
+    → limits_in u ≡ limits → Stands u [] 0 → a.words ≡ 0 → a.inside ≡ false → n ≡ b.words → FedEnvelope CountsWords old new u v a b used whole
+    → TookOne limits old new v used n
+took_one laws limits old new u v a b used n whole is_whole same stands none outside is fed =
+    let was = subst (λ (x : Bool). FedEnvelope CountsWords old new u v a b used x) is_whole fed in
+    let (end, adds) = was.done [] 0 stands in
+    let within : limits_in v ≡ limits = was.limits ∙ same in
     record {
-      envelope = record { octets = gives.octets; value = here.value };
-      listed = record { admits = here.admits; within = subst (λ (l : Limits). AreWithin l here.admits.datasets) same here.within };
-      given = gives.came.given;
-      counts = gives.counts;
-      taken = record {
-        parts = here.parts;
-        words = is ∙ words_of_value laws gives.octets gives.more here.value a b here.admits here.adds none outside gives.came.told;
-      };
+      envelope = record { octets = was.octets; value = end.value };
+      listed = record { admits = end.admits; within = subst (λ (l : Limits). AreWithin l end.admits.datasets) within end.within };
+      given = was.came.given;
+      counts = was.counts;
+      done = subst (IsDoneWith v was.octets) (sym was.counts) end;
+      same = within;
+      counted = is ∙ words_of_value laws was.octets was.more end.value a b end.admits adds none outside was.came.told;
     }
 
--- what it gives at the end of its input
-pub took_end : (limits : Limits) (old new : Device) (u : Unpacking) (a b : WordsSoFar) (used : ℕ) → Gives CountsWords old new u a b used None → TookEnvelope limits old new used None
-took_end limits old new u a b used gives = (gives.1.given, gives.1.at_end, gives.0)
+-- the input has ended
+pub took_end : (limits : Limits) (old new : Device) (u v : Unpacking) (a b : WordsSoFar) (used : ℕ) (whole : Bool) → whole ≡ false → FedEnvelope CountsWords old new u v a b used whole
+    → TookEnvelope limits old new v used None
+took_end limits old new u v a b used whole is fed =
+    let (none, was) = subst (λ (x : Bool). FedEnvelope CountsWords old new u v a b used x) is fed in
+    (was.given, was.at_end, none)
 
 -- A sink that counts no failure refused nothing.
 unsunk : (cause : Cause) (n : ℕ) → n ≡ 0 → CountsFor cause n n → cause ≢ Sink

@@ -9,8 +9,8 @@ use Rattle.iim_fields.specs.declared.limits.Limits.{Limits}
 use Rattle.iim_unpack.specs.Format.Admitted.{Value}
 use Rattle.iim_unpack.specs.Format.Listing.{Listed, IsListed, IsRefusedAfter}
 use Rattle.iim_unpack.specs.Format.Open.{IsOpen}
-use Rattle.iim_unpack.specs.Format.Unpacking.{raised}
-use Rattle.iim_unpack.specs.Format.Value.{HasParts}
+use Rattle.iim_unpack.specs.Format.Unpacking.{Unpacking, IsDoneWith, limits_in, raised}
+use Rattle.iim_unpack.specs.Format.Value.{ShowsParts}
 use Rattle.iim_unpack.specs.declared.refusal.Refusal.{Refusal}
 use Rattle.iim_audit.specs.Format.Rows.{counted_words}
 use Rattle.iim_audit.specs.declared.row.Taken.{Taken}
@@ -19,21 +19,23 @@ use Rattle.iim_audit.specs.declared.fault.AuditCause.TheVariants as causes
 
 -- The parts of the value, and the words of its lines.
 pub record IsTaken (got : Taken) (v : Value) : Type 0 where
-  pub parts : HasParts got.unpacked v
+  pub parts : ShowsParts got.unpacked v
   pub words : got.words ≡ counted_words v
 
--- Just the octets of one envelope came, this was taken of it, and so many octets are told of it.
-pub record TookOne (limits : Limits) (old new : Device) (told : ℕ) (got : Taken) : Type 0 where
+-- Just the octets of one envelope came, the unpacker is done with them, its lines have so many words, and so many octets are told of it.
+pub record TookOne (limits : Limits) (old new : Device) (u : Unpacking) (told words : ℕ) : Type 0 where
   pub envelope : Listed
   pub listed : IsListed limits envelope
   pub given : HasGiven old new envelope.octets
   pub counts : told ≡ raised 0 (length envelope.octets)
-  pub taken : IsTaken got envelope.value
+  pub done : IsDoneWith u envelope.octets told
+  pub same : limits_in u ≡ limits
+  pub counted : words ≡ counted_words envelope.value
 
 -- One envelope came, or nothing, since the input ends.
-abbrev pub TookEnvelope : Limits → Device → Device → ℕ → Option Taken → Type 0
-TookEnvelope limits old new told (Some got) = TookOne limits old new told got
-TookEnvelope limits old new told None = HasGiven old new [] × IsAtEnd new.octets × (told ≡ 0)
+abbrev pub TookEnvelope : Limits → Device → Device → Unpacking → ℕ → Option ℕ → Type 0
+TookEnvelope limits old new u told (Some words) = TookOne limits old new u told words
+TookEnvelope limits old new u told None = HasGiven old new [] × IsAtEnd new.octets × (told ≡ 0)
 
 -- Octets came that are refused. They end the input where no octet of them is the refused one.
 pub record IsRefusal (limits : Limits) (old new : Device) (e : Refusal) : Type 0 where
@@ -55,5 +57,5 @@ abbrev pub TookNone : Limits → Device → Device → ℕ → Option ℕ → �
 TookNone limits old new before kept told (causes.Refused e) = IsRefusal limits old new e × (kept ≡ Some e.octet) × (told ≡ 0)
 TookNone limits old new before kept told causes.Read = IsCutOff limits old new kept io.Failed × (told ≡ 0)
 TookNone limits old new before kept told causes.Interrupted = IsCutOff limits old new kept io.Interrupted × (told ≡ 0)
-TookNone limits old new before kept told causes.OutOfMemory = HasGiven old new [] × (kept ≡ None) × (told ≡ before)
+TookNone limits old new before kept told causes.OutOfMemory = ⊥
 TookNone limits old new before kept told causes.TooManyEnvelopes = ⊥

@@ -3,7 +3,7 @@
 ghost use Rattle.std.specs.Prelude.{◌≡◌, ◌-ℤ◌};
 ghost use Rattle.iim_audit.specs.Format.Ages.{age_at, whole_seconds, WholeSecondsAreFloors};
 
-use iim_fields::Envelope;
+use iim_fields::EnvelopeRef;
 use jiff::Timestamp;
 
 /// The nanoseconds of a second.
@@ -18,7 +18,7 @@ pub(crate) fn seconds_between(sent: Timestamp, now: Timestamp) -> i64
 }
 
 /// How many whole seconds ago an envelope was sent; None where it names no instant.
-pub(crate) fn age_at(envelope: &Envelope, now: Timestamp) -> Option<i64>
+pub(crate) fn age_at(envelope: &EnvelopeRef<'_>, now: Timestamp) -> Option<i64>
     ensures { result ≡ age_at now.nanosecond envelope.now }
 {
     envelope.sent().map(|sent| seconds_between(sent, now))

@@ -2,10 +2,11 @@
 
 ghost use Rattle.std.specs.Prelude.{◌≡◌, ℕ, None, Some, IfOk, IfErr, OnOk, IsErrAnd};
 ghost use Rattle.iim_unpack.specs.Format.Intakes.{line};
+ghost use Rattle.iim_unpack.specs.Format.Unpacking.{limits_in};
 ghost use Rattle.iim_audit.specs.Format.Auditing.{IsAudited, FailsLeaving, IsToldAgain};
 ghost use Rattle.iim_audit.specs.Taking.{TookEnvelope, TookNone};
 
-use crate::fault::{AuditCause, AuditFault, cause_of};
+use crate::fault::{AuditCause, AuditFault, cause_of, fault_at};
 use crate::ledger::Ledger;
 use crate::report::Report;
 use crate::row::Taken;
@@ -13,7 +14,7 @@ use iim_dataset::Source;
 use iim_dataset::device_laws::gifts_join;
 use iim_dataset::laws::{events_tell_the_datasets, octets_are_handed_on_one_way};
 use iim_fields::Limits;
-use iim_unpack::{Intake, Unpacked, Unpacker};
+use iim_unpack::{Intake, Unpacker};
 use jiff::Timestamp;
 use std::alloc::Global;
 use wire_message::laws::texts_stand_between_stx_and_etx;
@@ -23,16 +24,14 @@ use wire_story::laws::texts_are_counted_as_lines;
 /// The most envelopes that one audit lists.
 pub const MAX_ENVELOPES: u64 = 1_000_000;
 
-/// The next envelope of an intake, or None at the end of its input. The memory of an envelope that is no longer wanted, if there is
-/// one, serves the next.
+/// Begins an unpacker again and feeds it the next envelope of an intake: answers how many words its lines have, or None at the end of
+/// the input.
 fn take_envelope<R: Source>(
-    alloc: Global,
-    spare: Option<Unpacked>,
     intake: &mut Intake<R>,
-    limits: Limits,
-) -> Result<Option<Taken>, AuditCause>
-    ensures took { intake.old.failed ≡ None → IfOk result (TookEnvelope limits (line R.state intake.old) (line R.state intake.new) intake.new.octets) }
-    ensures none { intake.old.failed ≡ None → IfErr result (TookNone limits (line R.state intake.old) (line R.state intake.new)
+    unpacker: &mut Unpacker,
+) -> Result<Option<u64>, AuditCause>
+    ensures took { IfOk result (TookEnvelope (limits_in unpacker.old) (line R.state intake.old) (line R.state intake.new) unpacker.new intake.new.octets) }
+    ensures none { intake.old.failed ≡ None → IfErr result (TookNone (limits_in unpacker.old) (line R.state intake.old) (line R.state intake.new)
         intake.old.octets intake.new.failed intake.new.octets) }
     ensures lives { OnOk result (intake.new.failed ≡ None) }
     ensures again { (octet : ℕ) → intake.old.failed ≡ Some octet → IsErrAnd result (IsToldAgain octet intake.old.octets intake.new.octets 1) }
@@ -44,16 +43,11 @@ fn take_envelope<R: Source>(
     events_tell_the_datasets();
     texts_stand_between_stx_and_etx();
     texts_are_counted_as_lines();
-    let Ok(unpacker) = Unpacker::reusing(alloc, spare, limits) else {
-        return Err(AuditCause::OutOfMemory);
-    };
+    unpacker.again();
     let mut count = WordCount::new();
-    match intake.next_envelope(unpacker, &mut count) {
-        Ok(Some(unpacked)) => Ok(Some(Taken {
-            unpacked,
-            words: count.words(),
-        })),
-        Ok(None) => Ok(None),
+    match intake.feed_envelope(unpacker, &mut count) {
+        Ok(true) => Ok(Some(count.words())),
+        Ok(false) => Ok(None),
         Err(fault) => Err(cause_of(fault)),
     }
 }
@@ -82,32 +76,26 @@ pub fn audit<R: Source>(
     ensures leads { R.leads intake.old.reader intake.new.reader }
 {
     gifts_join();
+    let Ok(made) = Unpacker::new(alloc, limits) else {
+        return Err(fault_at(1, AuditCause::OutOfMemory));
+    };
+    let mut unpacker = made;
     let mut ledger = Ledger::new(alloc);
-    let mut spare = None;
     'envelopes: loop {
         let number = ledger.next_number();
-        let got = match take_envelope(alloc, spare.take(), intake, limits) {
-            Ok(Some(got)) => got,
+        let words = match take_envelope(intake, &mut unpacker) {
+            Ok(Some(words)) => words,
             Ok(None) => return Ok(ledger.into_report()),
-            Err(cause) => {
-                return Err(AuditFault {
-                    envelope: number,
-                    cause,
-                });
-            }
+            Err(cause) => return Err(fault_at(number, cause)),
         };
         if number > MAX_ENVELOPES {
-            return Err(AuditFault {
-                envelope: number,
-                cause: AuditCause::TooManyEnvelopes,
-            });
+            return Err(fault_at(number, AuditCause::TooManyEnvelopes));
         }
-        let Ok(()) = ledger.enter(&got, now) else {
-            return Err(AuditFault {
-                envelope: number,
-                cause: AuditCause::OutOfMemory,
-            });
+        let Some(unpacked) = unpacker.unpacked() else {
+            unreachable!()
         };
-        spare = Some(got.unpacked);
+        let Ok(()) = ledger.enter(&Taken { unpacked, words }, now) else {
+            return Err(fault_at(number, AuditCause::OutOfMemory));
+        };
     }
 }

@@ -4,7 +4,7 @@ ghost use Rattle.std.specs.Prelude.{◌≡◌, ◌≤◌, length, Some};
 ghost use Rattle.iim_audit.specs.Format.Copies.{copy_at};
 ghost use Rattle.iim_audit.specs.Format.Texts.{copy_word};
 
-use iim_fields::Envelope;
+use iim_fields::EnvelopeRef;
 use jiff::Timestamp;
 use std::fmt;
 use std::fmt::{Display, Formatter};
@@ -43,7 +43,7 @@ impl CopyState {
 }
 
 /// Whether the copy of an envelope may be used at an instant.
-pub(crate) fn copy_at(envelope: &Envelope, now: Timestamp) -> CopyState
+pub(crate) fn copy_at(envelope: &EnvelopeRef<'_>, now: Timestamp) -> CopyState
     ensures { result ≡ copy_at now.nanosecond envelope.now }
 {
     if let Some(release) = envelope.release() {

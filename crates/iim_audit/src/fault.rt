@@ -33,6 +33,13 @@ pub struct AuditFault {
     pub cause: AuditCause,
 }
 
+/// A fault at the envelope with this number.
+pub(crate) fn fault_at(envelope: u64, cause: AuditCause) -> AuditFault
+    ensures { result ≡ record { envelope = envelope; cause = cause } }
+{
+    AuditFault { envelope, cause }
+}
+
 ghost use Rattle.std.specs.Prelude.{◌≡◌};
 ghost use Rattle.iim_audit.specs.Faults.{cause_of};
 

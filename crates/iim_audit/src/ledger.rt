@@ -44,7 +44,7 @@ impl Ledger {
     }
 
     /// Adds the row of the next envelope.
-    pub(crate) fn enter(&mut self, got: &Taken, now: Timestamp) -> Result<(), AllocError>
+    pub(crate) fn enter(&mut self, got: &Taken<'_>, now: Timestamp) -> Result<(), AllocError>
         requires few { length self.old.rows.items < 2 ^ 32 }
         requires below { All (λ i. i < length self.old.rows.items) self.old.order.items }
         requires short { HaveShortIds self.old.rows.items }

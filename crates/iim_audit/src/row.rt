@@ -12,7 +12,7 @@ ghost use Rattle.iim_audit.specs.Format.Rows.{row_with};
 use crate::age::age_at;
 use crate::copy::{CopyState, copy_at};
 use iim_fields::EnvelopeId;
-use iim_unpack::Unpacked;
+use iim_unpack::UnpackedRef;
 use jiff::Timestamp;
 
 /// What is told of one envelope.
@@ -38,10 +38,10 @@ pub struct AuditRow {
     pub copy: CopyState,
 }
 
-/// What was taken of one envelope: its parts, and the words of its lines.
+/// What was taken of one envelope: its parts, where they lie, and the words of its lines.
 #[derive(Drop)]
-pub(crate) struct Taken {
-    pub(crate) unpacked: Unpacked,
+pub(crate) struct Taken<'u> {
+    pub(crate) unpacked: UnpackedRef<'u>,
     pub(crate) words: u64,
 }
 
@@ -59,7 +59,7 @@ fn number_of(digits: &[u8]) -> u64
 }
 
 /// The row of an envelope that repeats none.
-pub(crate) fn row_of(got: &Taken, now: Timestamp) -> AuditRow
+pub(crate) fn row_of(got: &Taken<'_>, now: Timestamp) -> AuditRow
     ensures row { (v : Value) → IsTaken got.now v → result ≡ row_with now.nanosecond v None }
     ensures short { IsShort result.id }
 {

@@ -23,7 +23,7 @@ use Rattle.iim_commands.specs.declared.block_writer.BlockWriter.{BlockWriter}
 use Rattle.iim_unpack.specs.Format.Admitted.{object_of}
 use Rattle.iim_unpack.specs.Format.Open.{object_so_far}
 use Rattle.iim_unpack.specs.declared.refusal.Refusal.{Refusal}
-use Rattle.iim_unpack.specs.declared.unpacker.Unpacked.{Unpacked}
+use Rattle.iim_unpack.specs.Format.Unpacking.{Unpacking}
 use Rattle.iim_unpack.proofs.Answering.{leads_to, reads_envelope}
 use Rattle.iim_commands.specs.Format.Coming.{EnvelopeHasCome, IsCalm, IsNext, IsRefusal}
 use Rattle.iim_commands.specs.Format.Devices.{HasOctets}
@@ -289,10 +289,10 @@ broke_in_line joins texts source mid rest old now new errors_old errors_now erro
 
 -- ---- nothing comes next
 
-pub unfed : {W : Type 0} (state : W → Device) → GiftsJoin → TextsJoin → (source mid rest old errors_old errors_new : Device) (a b : BlockWriter W) (count : ℕ) (fault : CommandFault)
+pub unfed : {W : Type 0} (state : W → Device) → GiftsJoin → TextsJoin → (source mid rest old errors_old errors_new : Device) (v : Unpacking) (a b : BlockWriter W) (count : ℕ) (fault : CommandFault)
     → AreNarrated source mid old (device_of state a) errors_old errors_new count → HoldsNothing a → stops_of a ≡ 0 → IsCalm (stops_of a) (stops_of b) (Err fault)
-    → IsNext (PutsLines state) stops_of HoldsNothing (StaysStuck state) mid rest a b (Err fault) → IsUnnarrated source rest old (device_of state b) errors_old errors_new fault
-unfed state joins texts source mid rest old errors_old errors_new a b count CannotRead r empty none calm (c, settled) = (
+    → IsNext (PutsLines state) stops_of HoldsNothing (StaysStuck state) mid rest v a b (Err fault) → IsUnnarrated source rest old (device_of state b) errors_old errors_new fault
+unfed state joins texts source mid rest old errors_old errors_new v a b count CannotRead r empty none calm (c, settled) = (
   joined r.envelopes ++ c.octets,
   r.envelopes,
   c.octets,
@@ -305,20 +305,17 @@ unfed state joins texts source mid rest old errors_old errors_new a b count Cann
   texts.more old (device_of state a) (device_of state b) (stories r.envelopes) (map octet_for c.more) r.out (wrote_by state a b (map octet_for c.more) empty settled none calm c.told),
   r.told,
 )
-unfed state joins texts source mid rest old errors_old errors_new a b count CannotWrite r empty none calm (inl u) =
+unfed state joins texts source mid rest old errors_old errors_new v a b count CannotWrite r empty none calm (inl u) =
     broke_in_text state joins source mid rest old errors_old errors_new a b count u.octets u.k (map octet_for u.more) (map octet_for u.more) (held_of b)
     r u.came.given (omega (arith, u.within)) (λ all nothing. absurd (omega (arith, all, u.within))) (u.more, u.delivered, refl) u.came.told (front_of state a b (map octet_for u.more) empty u.came.told) none u.rose
-unfed state joins texts source mid rest old errors_old errors_new a b count CannotWrite r empty none calm (inr u) =
+unfed state joins texts source mid rest old errors_old errors_new v a b count CannotWrite r empty none calm (inr u) =
     let w : PutsOn state a b (map octet_for u.more) =
     subst (PutsOn state a b) (append-nil (map octet_for u.more)) (puts_on state a u.told b (map octet_for u.more) [] u.came.told (puts_of_stuck state u.told b [] u.holds_back.0 u.holds_back.2)) in
     broke_in_text state joins source mid rest old errors_old errors_new a b count u.octets (length u.octets) (map octet_for u.more) (map octet_for u.more) (held_of b)
     r u.came.given (omega arith) (λ all nothing. absurd (no_more (held_of b) u.holds_back.1 nothing))
     (subst (λ (octets : List ℕ). IsTextIn octets (map octet_for u.more)) (sym (take-length u.octets)) (u.more, u.delivered, refl)) w (front_of state a b (map octet_for u.more) empty w) none
     (rose_from (stops_of a) (stops_of u.told) (stops_of b) u.calm u.holds_back.2)
-unfed state joins texts source mid rest old errors_old errors_new a b count OutOfMemory r empty none calm c =
-    unfed_for_memory joins texts source mid rest old (device_of state a) (device_of state b) errors_old errors_new count [] 0 [] r
-    (subst (λ (d : Device). HasGiven mid d []) (sym c.0) (joins.none mid)) ([], ([], no_text, refl), refl)
-    (subst (λ (w : BlockWriter _). Wrote (device_of state a) (device_of state w) []) (sym c.1) (texts.none (device_of state a)))
+unfed state joins texts source mid rest old errors_old errors_new v a b count OutOfMemory r empty none calm c = absurd c
 
 -- ---- refused octets
 
@@ -335,15 +332,15 @@ text_refused state mid rest a b e r more is =
 -- ---- what came, and is taken
 
 -- An envelope came, its text is taken, and the writer has not stopped.
-pub record TextIsTaken {W : Type 0} (state : W → Device) (mid rest : Device) (a b : BlockWriter W) (got : Unpacked) (octets : ℕ) : Type 0 where
-  pub come : EnvelopeHasCome (PutsLines state) mid rest a b got octets
+pub record TextIsTaken {W : Type 0} (state : W → Device) (mid rest : Device) (v : Unpacking) (a b : BlockWriter W) (octets : ℕ) : Type 0 where
+  pub come : EnvelopeHasCome (PutsLines state) mid rest v a b octets
   pub text : PutsOn state a b (text_of come.envelope)
   pub whole : IsTextIn (take (length come.envelope.octets) come.envelope.octets) (text_of come.envelope)
 
-pub text_taken : {W : Type 0} (state : W → Device) → EnvelopesAreDeliveredAsLines → LinesAreJoinedByLineFeeds → (mid rest : Device) (a b : BlockWriter W) (x : Next) (got : Unpacked) (octets : ℕ)
-    → x ≡ next.Envelope got octets → IsNext (PutsLines state) stops_of HoldsNothing (StaysStuck state) mid rest a b (Ok x) → TextIsTaken state mid rest a b got octets
-text_taken state law joins mid rest a b x got octets is n =
-    let h = come_as (PutsLines state) stops_of HoldsNothing (StaysStuck state) mid rest a b x got octets is n in
+pub text_taken : {W : Type 0} (state : W → Device) → EnvelopesAreDeliveredAsLines → LinesAreJoinedByLineFeeds → (mid rest : Device) (v : Unpacking) (a b : BlockWriter W) (x : Next) (octets : ℕ)
+    → x ≡ next.Envelope octets → IsNext (PutsLines state) stops_of HoldsNothing (StaysStuck state) mid rest v a b (Ok x) → TextIsTaken state mid rest v a b octets
+text_taken state law joins mid rest v a b x octets is n =
+    let h = come_as (PutsLines state) stops_of HoldsNothing (StaysStuck state) mid rest v a b x octets is n in
     record {
       come = h;
       text = subst (PutsOn state a b) (envelope_text law joins h.envelope h.more h.is h.delivered) h.came.told;
@@ -374,15 +371,15 @@ but_last (y ∷ xs) (o ∷ out) rest x is some =
     (less.0, (let head : y ≡ o = cc in ap (λ (z : ℕ). z ∷ xs) head ∙ ap (λ (t : List ℕ). o ∷ t) less.1))
 
 -- the LF after the text of an envelope is not out
-pub unended_text : {W : Type 0} (state : W → Device) → GiftsJoin → (source mid rest old errors_old errors_new : Device) (a b d : BlockWriter W) (count : ℕ) (got : Unpacked) (octets : ℕ) (fault : CommandFault)
-    → AreNarrated source mid old (device_of state a) errors_old errors_new count → HoldsNothing a → stops_of a ≡ 0 → stops_of b ≡ stops_of a → TextIsTaken state mid rest a b got octets → IsUnended state b d fault
+pub unended_text : {W : Type 0} (state : W → Device) → GiftsJoin → (source mid rest old errors_old errors_new : Device) (v : Unpacking) (a b d : BlockWriter W) (count octets : ℕ) (fault : CommandFault)
+    → AreNarrated source mid old (device_of state a) errors_old errors_new count → HoldsNothing a → stops_of a ≡ 0 → stops_of b ≡ stops_of a → TextIsTaken state mid rest v a b octets → IsUnended state b d fault
     → IsUnnarrated source rest old (device_of state d) errors_old errors_new fault
-unended_text state joins source mid rest old errors_old errors_new a b d count got octets fault r empty none calm t (is, rose, inl u) =
+unended_text state joins source mid rest old errors_old errors_new v a b d count octets fault r empty none calm t (is, rose, inl u) =
     let e = t.come.envelope in
     let w : PutsOn state a d (text_of e) = subst (PutsOn state a d) (append-nil (text_of e)) (puts_on state a b d (text_of e) [] t.text u) in
     rw is (broke_in_text state joins source mid rest old errors_old errors_new a d count e.octets (length e.octets) (text_of e) (text_of e) (held_of d)
     r t.come.came.given (omega arith) (λ all nothing. (e, t.come.is, refl)) t.whole w (front_of state a d (text_of e) empty w) none (rose_from (stops_of a) (stops_of b) (stops_of d) calm rose))
-unended_text state joins source mid rest old errors_old errors_new a b d count got octets fault r empty none calm t (is, rose, inr u) =
+unended_text state joins source mid rest old errors_old errors_new v a b d count octets fault r empty none calm t (is, rose, inr u) =
     let e = t.come.envelope in
     let w : PutsOn state a d (text_of e ++ (10 ∷ [])) = puts_on state a b d (text_of e) (10 ∷ []) t.text u.0 in
     let less = but_last (text_of e) w.out (held_of d) 10 (front_of state a d (text_of e ++ (10 ∷ [])) empty w) u.1 in

@@ -11,6 +11,7 @@ use Rattle.iim_dataset.proofs.DeviceLaws.{broke_for_later}
 use Rattle.wire_story.specs.Format.Delivery.{StoryEvent}
 use Rattle.iim_unpack.specs.Format.Streams.{Kills}
 use Rattle.iim_unpack.proofs.Listings.{admitted_more, joined_more}
+use Rattle.iim_unpack.specs.Format.Unpacking.{Unpacking}
 use Rattle.iim_unpack.specs.declared.refusal.Refusal.{Refusal}
 use Rattle.iim_commands.specs.Format.Coming.{IsNext, IsRefusal}
 use Rattle.iim_commands.specs.Format.Holding.{HasPut, HoldsNothing, device_of}
@@ -196,10 +197,10 @@ rises (inl e) = omega (arith, e)
 rises (inr h) = omega (arith, h.0)
 
 -- nothing comes next
-pub failed : {W : Type 0} (state : W → Device) → GiftsJoin → TextsJoin → (text : ℕ → Listed → List ℕ) (source mid rest : Device) (old : BlockWriter W) (a b : Silent W) (count : ℕ) (fault : CommandFault)
-    → AreReported state text source mid old a.output count → HoldsNothing old → IsNext (PassesOver state) refuses_never IsSettled (IsStuck state) mid rest a b (Err fault)
+pub failed : {W : Type 0} (state : W → Device) → GiftsJoin → TextsJoin → (text : ℕ → Listed → List ℕ) (source mid rest : Device) (old : BlockWriter W) (v : Unpacking) (a b : Silent W) (count : ℕ) (fault : CommandFault)
+    → AreReported state text source mid old a.output count → HoldsNothing old → IsNext (PassesOver state) refuses_never IsSettled (IsStuck state) mid rest v a b (Err fault)
     → IsUnlisted state text source rest old b.output fault
-failed state joins texts text source mid rest old a b count CannotRead r empty (c, settled) =
+failed state joins texts text source mid rest old v a b count CannotRead r empty (c, settled) =
     let out = reported_out state text source mid old a.output b.output count r c.told in (
       joined r.envelopes ++ c.octets,
       r.envelopes,
@@ -211,8 +212,8 @@ failed state joins texts text source mid rest old a b count CannotRead r empty (
       all_out state old b.output (texts_from text 1 r.envelopes) empty settled
           (subst (HasPut state old b.output) (append-nil (texts_from text 1 r.envelopes)) (put_on state old a.output b.output (texts_from text 1 r.envelopes) [] r.put c.told)),
     )
-failed state joins texts text source mid rest old a b count CannotWrite r empty (inl u) = absurd (rises u.rose)
-failed state joins texts text source mid rest old a b count CannotWrite r empty (inr u) =
+failed state joins texts text source mid rest old v a b count CannotWrite r empty (inl u) = absurd (rises u.rose)
+failed state joins texts text source mid rest old v a b count CannotWrite r empty (inr u) =
     let words = texts_from text 1 r.envelopes in
     let told : HasPut state old u.told.output words = subst (HasPut state old u.told.output) (append-nil words) (put_on state old a.output u.told.output words [] r.put u.came.told) in
     let cut = cut_by_stuck state texts old u.told.output b.output words told u.holds_back in (
@@ -226,9 +227,7 @@ failed state joins texts text source mid rest old a b count CannotWrite r empty 
       inl refl,
       stopped_in state old b.output words empty cut,
     )
-failed state joins texts text source mid rest old a b count OutOfMemory r empty c =
-    subst (λ (w : Silent _). IsUnlisted state text source rest old w.output OutOfMemory) (sym c.1)
-    (starved state joins text source mid rest old a.output count [] r (subst (λ (d : Device). HasGiven mid d []) (sym c.0) (joins.none mid)))
+failed state joins texts text source mid rest old v a b count OutOfMemory r empty c = absurd c
 
 -- the output broke inside the last line
 pub unended : {W : Type 0} (state : W → Device) → GiftsJoin → TextsJoin → (text : ℕ → Listed → List ℕ) (source mid rest : Device) (old now new : BlockWriter W) (count : ℕ) (begun line : List ℕ) (ending : InputEnding) (fault : CommandFault)

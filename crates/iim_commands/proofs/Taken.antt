@@ -16,17 +16,13 @@ use Rattle.wire_story.specs.Format.Delivery.{StoryEvent}
 use Rattle.iim_unpack.specs.Format.Framed.{AreWithin}
 use Rattle.iim_unpack.specs.declared.intake.IntakeFault.{IntakeFault}
 use Rattle.iim_unpack.specs.declared.intake.IntakeFault.TheVariants.{Refused, Read, Interrupted}
-use Rattle.iim_unpack.specs.Format.Admitted.{Value, Admits}
-use Rattle.iim_unpack.specs.Format.Intakes.{Faults, HasFed, IsOfReader, IsRefusedOf, IsTruncatedIn, WasGiven, WasMissed, WasRefused, WasTruncated}
-use Rattle.iim_unpack.specs.Format.Value.{HasParts}
-use Rattle.iim_unpack.proofs.Intakes.{given_by}
+use Rattle.iim_unpack.specs.Format.Intakes.{Faults, HasFed, IsOfReader, IsRefusedOf, IsTruncatedIn, WasDone, WasMissed, WasRefused, WasTruncated}
 use Rattle.iim_unpack.specs.Format.Parts.{CountsFor}
 use Rattle.iim_unpack.specs.Format.Open.{Delivers, IsOpen, IsTextOf}
-use Rattle.iim_unpack.specs.Format.Unpacking.{IsDoneWith, Stands, Unpacking, limits_in, raised}
+use Rattle.iim_unpack.specs.Format.Unpacking.{IsDoneWith, Stands, Unpacking, limits_in}
 use Rattle.iim_unpack.specs.declared.refusal.Refusal.{Refusal}
 use Rattle.iim_unpack.specs.declared.refusal.Cause.{Cause}
 use Rattle.iim_unpack.specs.declared.refusal.Cause.TheVariants.{Sink, Truncated}
-use Rattle.iim_unpack.specs.declared.unpacker.Unpacked.{Unpacked}
 use Rattle.iim_commands.specs.Feeding.{FedAsWhole, HaltsBy, IsOfFault, IsOfHalt}
 use Rattle.iim_commands.specs.declared.fault.CommandFault.{CommandFault}
 use Rattle.iim_commands.specs.Format.Coming.{CanAskForMore, EnvelopeHasCome, IsCalm, IsCutOff, IsHeldUp, IsNext, IsRefusal, IsUnheard}
@@ -64,18 +60,20 @@ delivered_of octets more adds =
     let added = adds [] no_text in
     (added.0, added.1, added.2)
 
-pub has_come : {S : Type 0} (goes : S → List StoryEvent → S → Type 0) (old new : Device) (u : Unpacking) (a b : S) (used : ℕ) (got : Unpacked)
-    → limits_in u ≡ limits → Stands u [] 0 → WasGiven goes old new u a b used got → EnvelopeHasCome goes old new a b got used
-has_come goes old new u a b used got same at w =
-    let e = w.envelope [] 0 at in
+pub has_come : {S : Type 0} (goes : S → List StoryEvent → S → Type 0) (old new : Device) (u v : Unpacking) (a b : S) (used : ℕ)
+    → limits_in u ≡ limits → Stands u [] 0 → WasDone goes old new u v a b used → EnvelopeHasCome goes old new v a b used
+has_come goes old new u v a b used same at w =
+    let (end, adds) = w.done [] 0 at in
+    let within : limits_in v ≡ limits = w.limits ∙ same in
     record {
-      envelope = record { octets = w.octets; value = e.value };
-      is = record { admits = e.admits; within = subst (λ (l : Limits). AreWithin l e.admits.datasets) same e.within };
-      parts = e.parts;
+      envelope = record { octets = w.octets; value = end.value };
+      is = record { admits = end.admits; within = subst (λ (l : Limits). AreWithin l end.admits.datasets) within end.within };
+      done = subst (IsDoneWith v w.octets) (sym w.counts) end;
+      same = within;
       counts = w.counts;
       more = w.more;
       came = w.came;
-      delivered = delivered_of w.octets w.more e.adds;
+      delivered = delivered_of w.octets w.more adds;
     }
 
 refused_here : (u : Unpacking) (octets : List ℕ) (more : List StoryEvent) (e : Refusal) → limits_in u ≡ limits → IsRefusedOf (limits_in u) [] 0 octets more e
@@ -171,38 +169,30 @@ cut_off_by goes failures old new u a b kept fault (inr is) same at f =
     is_cut_off goes failures old new u a b kept io.Interrupted same at (subst (λ (x : IntakeFault). Faults goes failures old new u a b kept x) is f)
 
 -- an envelope came
-pub come_as : {S : Type 0} (goes : S → List StoryEvent → S → Type 0) (failures : S → ℕ) (settled : S → Type 0) (stuck : S → S → Type 0) (old new : Device) (a b : S) (x : Next) (got : Unpacked) (octets : ℕ)
-    → x ≡ Envelope got octets → IsNext goes failures settled stuck old new a b (Ok x) → EnvelopeHasCome goes old new a b got octets
-come_as goes failures settled stuck old new a b x got octets is n = subst (λ (y : Next). IsNext goes failures settled stuck old new a b (Ok y)) is n
+pub come_as : {S : Type 0} (goes : S → List StoryEvent → S → Type 0) (failures : S → ℕ) (settled : S → Type 0) (stuck : S → S → Type 0) (old new : Device) (u : Unpacking) (a b : S) (x : Next) (octets : ℕ)
+    → x ≡ Envelope octets → IsNext goes failures settled stuck old new u a b (Ok x) → EnvelopeHasCome goes old new u a b octets
+come_as goes failures settled stuck old new u a b x octets is n = subst (λ (y : Next). IsNext goes failures settled stuck old new u a b (Ok y)) is n
 
-pub lives_as : (failed : Option ℕ) (x : Next) (got : Unpacked) (octets : ℕ) → x ≡ Envelope got octets → CanAskForMore failed (Ok x) → failed ≡ None
-lives_as failed x got octets is n = subst (λ (y : Next). CanAskForMore failed (Ok y)) is n
+pub lives_as : (failed : Option ℕ) (x : Next) (octets : ℕ) → x ≡ Envelope octets → CanAskForMore failed (Ok x) → failed ≡ None
+lives_as failed x octets is n = subst (λ (y : Next). CanAskForMore failed (Ok y)) is n
 
-pub refusal_as : {S : Type 0} (goes : S → List StoryEvent → S → Type 0) (failures : S → ℕ) (settled : S → Type 0) (stuck : S → S → Type 0) (old new : Device) (a b : S) (x : Next) (e : Refusal)
-    → x ≡ next.Refused e → IsNext goes failures settled stuck old new a b (Ok x) → IsRefusal goes old new a b e
-refusal_as goes failures settled stuck old new a b x e is n = subst (λ (y : Next). IsNext goes failures settled stuck old new a b (Ok y)) is n
+pub refusal_as : {S : Type 0} (goes : S → List StoryEvent → S → Type 0) (failures : S → ℕ) (settled : S → Type 0) (stuck : S → S → Type 0) (old new : Device) (u : Unpacking) (a b : S) (x : Next) (e : Refusal)
+    → x ≡ next.Refused e → IsNext goes failures settled stuck old new u a b (Ok x) → IsRefusal goes old new a b e
+refusal_as goes failures settled stuck old new u a b x e is n = subst (λ (y : Next). IsNext goes failures settled stuck old new u a b (Ok y)) is n
 
-pub end_as : {S : Type 0} (goes : S → List StoryEvent → S → Type 0) (failures : S → ℕ) (settled : S → Type 0) (stuck : S → S → Type 0) (old new : Device) (a b : S) (x : Next)
-    → x ≡ next.End → IsNext goes failures settled stuck old new a b (Ok x) → HasGiven old new [] × IsAtEnd new.octets × goes a [] b × settled b
-end_as goes failures settled stuck old new a b x is n = subst (λ (y : Next). IsNext goes failures settled stuck old new a b (Ok y)) is n
+pub end_as : {S : Type 0} (goes : S → List StoryEvent → S → Type 0) (failures : S → ℕ) (settled : S → Type 0) (stuck : S → S → Type 0) (old new : Device) (u : Unpacking) (a b : S) (x : Next)
+    → x ≡ next.End → IsNext goes failures settled stuck old new u a b (Ok x) → HasGiven old new [] × IsAtEnd new.octets × goes a [] b × settled b
+end_as goes failures settled stuck old new u a b x is n = subst (λ (y : Next). IsNext goes failures settled stuck old new u a b (Ok y)) is n
 
 -- ---- of an unpacker that was fed
 
 -- an unpacker is done
-pub come_whole : {S : Type 0} (goes : S → List StoryEvent → S → Type 0) (settled : S → Type 0) (old new : Device) (u v : Unpacking) (a b : S) (whole : Bool) (octets : ℕ) (got : Unpacked) → whole ≡ true
-    → limits_in u ≡ limits → Stands u [] 0 → FedAsWhole goes settled old new u v a b whole → octets ≡ v.octets
-    → ((p : List ℕ) (n : ℕ) → IsDoneWith v p n → (w : Value) → Admits p w → HasParts got w) → EnvelopeHasCome goes old new a b got octets
-come_whole goes settled old new u v a b whole octets got yes_ same at fed counts parts =
+pub come_whole : {S : Type 0} (goes : S → List StoryEvent → S → Type 0) (settled : S → Type 0) (old new : Device) (u v : Unpacking) (a b : S) (whole : Bool) (octets : ℕ) → whole ≡ true
+    → limits_in u ≡ limits → Stands u [] 0 → FedAsWhole goes settled old new u v a b whole → octets ≡ v.octets → EnvelopeHasCome goes old new v a b octets
+come_whole goes settled old new u v a b whole octets yes_ same at fed counts =
     let f = subst (λ (x : Bool). FedAsWhole goes settled old new u v a b x) yes_ fed in
     let told : octets ≡ f.0 = counts ∙ (f.1.done [] 0 at).0.counts ∙ sym f.1.counts in
-    has_come goes old new u a b octets got same at
-    (subst (λ (n : ℕ). WasGiven goes old new u a b n got) (sym told) (given_by goes old new u v a b f.0 got f.1 parts))
-
-pub done_whole : {S : Type 0} (goes : S → List StoryEvent → S → Type 0) (settled : S → Type 0) (old new : Device) (u v : Unpacking) (a b : S) (whole : Bool) → whole ≡ true → Stands u [] 0 → FedAsWhole goes settled old new u v a b whole
-    → (p : List ℕ) × (n : ℕ) × IsDoneWith v p n
-done_whole goes settled old new u v a b whole yes_ at fed =
-    let f = subst (λ (x : Bool). FedAsWhole goes settled old new u v a b x) yes_ fed in
-    (f.1.octets, raised 0 (length f.1.octets), (f.1.done [] 0 at).0)
+    subst (EnvelopeHasCome goes old new v a b) (sym told) (has_come goes old new u v a b f.0 same at f.1)
 
 pub ended_whole : {S : Type 0} (goes : S → List StoryEvent → S → Type 0) (settled : S → Type 0) (old new : Device) (u v : Unpacking) (a b : S) (whole : Bool) → whole ≡ false → FedAsWhole goes settled old new u v a b whole
     → HasGiven old new [] × IsAtEnd new.octets × goes a [] b × settled b
@@ -226,16 +216,16 @@ held_up goes failures stuck old new u v a b same at (c, used, fed, calm, is) =
 
 -- ---- of faults
 
-pub fault_next : {S : Type 0} (goes : S → List StoryEvent → S → Type 0) (failures : S → ℕ) (settled : S → Type 0) (stuck : S → S → Type 0) (old new : Device) (u : Unpacking) (a b : S) (fault : IntakeFault) (result : Result Next CommandFault) → limits_in u ≡ limits → Stands u [] 0
-    → ((kept : ℕ) × Faults goes failures old new u a b kept fault) × (IsOfReader fault → settled b) → IsOfFault fault result → IsNext goes failures settled stuck old new a b result
-fault_next goes failures settled stuck old new u a b (Refused e) result same at ((kept, f), rests) (inl (sink, is)) =
-    subst (IsNext goes failures settled stuck old new a b) (sym is) (inl (is_unheard goes failures old new u a b e at sink f.1))
-fault_next goes failures settled stuck old new u a b (Refused e) result same at ((kept, f), rests) (inr (other, is)) =
-    subst (IsNext goes failures settled stuck old new a b) (sym is) (is_refusal goes failures old new u a b e same at other f.1)
-fault_next goes failures settled stuck old new u a b Read result same at ((kept, f), rests) is =
-    subst (IsNext goes failures settled stuck old new a b) (sym is) (is_cut_off goes failures old new u a b kept io.Failed same at f, rests tt)
-fault_next goes failures settled stuck old new u a b Interrupted result same at ((kept, f), rests) is =
-    subst (IsNext goes failures settled stuck old new a b) (sym is) (is_cut_off goes failures old new u a b kept io.Interrupted same at f, rests tt)
+pub fault_next : {S : Type 0} (goes : S → List StoryEvent → S → Type 0) (failures : S → ℕ) (settled : S → Type 0) (stuck : S → S → Type 0) (old new : Device) (u v : Unpacking) (a b : S) (fault : IntakeFault) (result : Result Next CommandFault) → limits_in u ≡ limits → Stands u [] 0
+    → ((kept : ℕ) × Faults goes failures old new u a b kept fault) × (IsOfReader fault → settled b) → IsOfFault fault result → IsNext goes failures settled stuck old new v a b result
+fault_next goes failures settled stuck old new u v a b (Refused e) result same at ((kept, f), rests) (inl (sink, is)) =
+    subst (IsNext goes failures settled stuck old new v a b) (sym is) (inl (is_unheard goes failures old new u a b e at sink f.1))
+fault_next goes failures settled stuck old new u v a b (Refused e) result same at ((kept, f), rests) (inr (other, is)) =
+    subst (IsNext goes failures settled stuck old new v a b) (sym is) (is_refusal goes failures old new u a b e same at other f.1)
+fault_next goes failures settled stuck old new u v a b Read result same at ((kept, f), rests) is =
+    subst (IsNext goes failures settled stuck old new v a b) (sym is) (is_cut_off goes failures old new u a b kept io.Failed same at f, rests tt)
+fault_next goes failures settled stuck old new u v a b Interrupted result same at ((kept, f), rests) is =
+    subst (IsNext goes failures settled stuck old new v a b) (sym is) (is_cut_off goes failures old new u a b kept io.Interrupted same at f, rests tt)
 
 pub fault_calm : {S : Type 0} (goes : S → List StoryEvent → S → Type 0) (failures : S → ℕ) (settled : S → Type 0) (stuck : S → S → Type 0) (old new : Device) (u : Unpacking) (a b : S) (fault : IntakeFault) (result : Result Next CommandFault)
     → ((kept : ℕ) × Faults goes failures old new u a b kept fault) × (IsOfReader fault → settled b) → IsOfFault fault result → IsCalm (failures a) (failures b) result
@@ -254,10 +244,10 @@ fault_lives failed Interrupted result is = subst (CanAskForMore failed) (sym is)
 -- ---- of what halted it
 
 pub halt_next : {S : Type 0} (goes : S → List StoryEvent → S → Type 0) (failures : S → ℕ) (settled : S → Type 0) (stuck : S → S → Type 0) (old new : Device) (u v : Unpacking) (a b : S) (x : Halt) (result : Result Next CommandFault) → limits_in u ≡ limits → Stands u [] 0
-    → HaltsBy goes failures settled stuck old new u v a b x → IsOfHalt x result → IsNext goes failures settled stuck old new a b result
+    → HaltsBy goes failures settled stuck old new u v a b x → IsOfHalt x result → IsNext goes failures settled stuck old new v a b result
 halt_next goes failures settled stuck old new u v a b halt.Outlet result same at h is =
-    subst (IsNext goes failures settled stuck old new a b) (sym is) (inr (held_up goes failures stuck old new u v a b same at h))
-halt_next goes failures settled stuck old new u v a b (halt.Intake fault) result same at h is = fault_next goes failures settled stuck old new u a b fault result same at h is
+    subst (IsNext goes failures settled stuck old new v a b) (sym is) (inr (held_up goes failures stuck old new u v a b same at h))
+halt_next goes failures settled stuck old new u v a b (halt.Intake fault) result same at h is = fault_next goes failures settled stuck old new u v a b fault result same at h is
 
 pub halt_calm : {S : Type 0} (goes : S → List StoryEvent → S → Type 0) (failures : S → ℕ) (settled : S → Type 0) (stuck : S → S → Type 0) (old new : Device) (u v : Unpacking) (a b : S) (x : Halt) (result : Result Next CommandFault)
     → HaltsBy goes failures settled stuck old new u v a b x → IsOfHalt x result → IsCalm (failures a) (failures b) result

@@ -4,7 +4,7 @@ ghost use Rattle.iim_commands.specs.Format.Lines.{line_of};
 
 use crate::list::EnvelopeReport;
 use crate::report::push_accepted;
-use iim_unpack::Unpacked;
+use iim_unpack::UnpackedRef;
 use std::alloc::AllocError;
 
 /// Tells how many octets each envelope has.
@@ -19,7 +19,7 @@ impl EnvelopeReport for Check {
         text: &mut Vec<u8>,
         number: u64,
         octets: u64,
-        _got: &Unpacked,
+        _got: &UnpackedRef<'_>,
     ) -> Result<(), AllocError> {
         push_accepted(text, number, octets)
     }

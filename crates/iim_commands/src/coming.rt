@@ -10,18 +10,17 @@ use iim_dataset::device_laws::gifts_join;
 use iim_dataset::{Source, Stop};
 use iim_fields::Limits;
 use iim_unpack::laws::open_octets_are_bounded;
-use iim_unpack::{Cause, Fed, Intake, IntakeFault, Refusal, Unpacked, Unpacker};
-use std::alloc::Global;
+use iim_unpack::{Cause, Fed, Intake, IntakeFault, Refusal, Unpacker};
 use wire_story::laws::delivery_may_be_cut;
 
 /// What the records 1 and 2 of an envelope may have.
 pub const LIMITS: Limits = Limits::WIRE;
 
 /// What an input has next.
-#[derive(Drop)]
+#[derive(Clone, Copy, Debug, PartialEq, Eq)]
 pub enum Next {
-    /// An envelope, and how many octets it has.
-    Envelope(Unpacked, u64),
+    /// An envelope of so many octets, with which the unpacker is done.
+    Envelope(u64),
     /// Nothing.
     End,
     /// Octets that are refused.
@@ -117,29 +116,23 @@ fn next_of_halt(halt: Halt) -> Result<Next, CommandFault>
     }
 }
 
-/// Takes what comes next, and tells the sink the text of it. The memory of an envelope that is no longer wanted, if there is one,
-/// serves the next. Before the input is read, the sink lets out what it holds.
+/// Begins an unpacker again, feeds it what comes next, and tells the sink the text of it. Before the input is read, the sink lets out
+/// what it holds.
 pub fn take_next<R: Source, S: Outlet>(
-    alloc: Global,
-    spare: Option<Unpacked>,
     intake: &mut Intake<R>,
+    unpacker: &mut Unpacker,
     sink: &mut S,
 ) -> Result<Next, CommandFault>
-    requires { intake.old.failed ≡ None }
-    ensures next { IsNext S.goes S.failures S.settled S.stuck (line R.state intake.old) (line R.state intake.new) sink.old sink.new result }
+    requires alive { intake.old.failed ≡ None }
+    requires limits { limits_in unpacker.old ≡ limits }
+    ensures next { IsNext S.goes S.failures S.settled S.stuck (line R.state intake.old) (line R.state intake.new) unpacker.new sink.old sink.new result }
     ensures calm { IsCalm (S.failures sink.old) (S.failures sink.new) result }
     ensures lives { CanAskForMore intake.new.failed result }
     ensures leads { R.leads intake.old.reader intake.new.reader }
 {
-    let mut unpacker = Unpacker::reusing(alloc, spare, LIMITS)?;
-    match feed_envelope(intake, &mut unpacker, sink) {
-        Ok(true) => {
-            let octets = unpacker.octets();
-            match unpacker.into_unpacked() {
-                Ok(got) => Ok(Next::Envelope(got, octets)),
-                Err(_) => unreachable!(),
-            }
-        }
+    unpacker.again();
+    match feed_envelope(intake, unpacker, sink) {
+        Ok(true) => Ok(Next::Envelope(unpacker.octets())),
         Ok(false) => Ok(Next::End),
         Err(halt) => next_of_halt(halt),
     }

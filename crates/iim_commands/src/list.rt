@@ -2,7 +2,7 @@
 
 ghost use Rattle.std.specs.Prelude.{◌≡◌, ◌++◌, ℕ, List, length, None, IfOk, IfErr, OnOk};
 ghost use Rattle.iim_unpack.specs.Format.Intakes.{line};
-ghost use Rattle.iim_unpack.specs.Format.Value.{HasParts};
+ghost use Rattle.iim_unpack.specs.Format.Value.{ShowsParts};
 ghost use Rattle.iim_unpack.specs.Format.Listing.{Listed};
 ghost use Rattle.iim_commands.specs.Format.Listings.{told};
 ghost use Rattle.iim_commands.specs.Format.Reports.{Reported, IsUnreported};
@@ -10,7 +10,7 @@ ghost use Rattle.iim_commands.specs.Format.Holding.{HoldsNothing, device_of};
 ghost use Rattle.iim_commands.specs.Listing.{IsUnlisted, Settles};
 
 use crate::block_writer::BlockWriter;
-use crate::coming::{Next, take_next};
+use crate::coming::{LIMITS, Next, take_next};
 use crate::fault::CommandFault;
 use crate::report::{TOO_MANY, add, add_last, push_refused};
 use crate::silent::Silent;
@@ -18,7 +18,7 @@ use crate::status::{ACCEPTED, REFUSED};
 use iim_audit::MAX_ENVELOPES;
 use iim_dataset::device_laws::{gifts_join, texts_join};
 use iim_dataset::{Source, Target};
-use iim_unpack::{Intake, Unpacked};
+use iim_unpack::{Intake, UnpackedRef, Unpacker};
 use std::alloc::{AllocError, Global};
 
 /// Reports the envelopes of an input. Where memory is short, some of the report may be held.
@@ -37,20 +37,22 @@ fn list_texts<P: EnvelopeReport, R: Source, W: Target>(
     gifts_join();
     texts_join();
     let mut count = 0;
-    let mut spare = None;
+    let mut unpacker = Unpacker::new(alloc, LIMITS)?;
     let mut text = Vec::new(alloc);
     'listing: loop {
         text.clear();
-        match take_next(alloc, spare.take(), intake, silent)? {
-            Next::Envelope(got, octets) => {
+        match take_next(intake, &mut unpacker, silent)? {
+            Next::Envelope(octets) => {
                 if count == MAX_ENVELOPES {
                     add_last(&mut silent.output, TOO_MANY.as_bytes())?;
                     return Ok(REFUSED);
                 }
+                let Some(got) = unpacker.unpacked() else {
+                    unreachable!()
+                };
                 texts.push_text(&mut text, count + 1, octets, &got)?;
                 add(&mut silent.output, text.as_slice())?;
                 count += 1;
-                spare = Some(got);
             }
             Next::End => return Ok(ACCEPTED),
             Next::Refused(refusal) => {
@@ -117,7 +119,7 @@ pub trait EnvelopeReport {
         text: &mut Vec<u8>,
         number: u64,
         octets: u64,
-        got: &Unpacked,
+        got: &UnpackedRef<'_>,
     ) -> Result<(), AllocError>
-        ensures { (e : Listed) → octets ≡ told (length e.octets) → HasParts got.now e.value → OnOk result (text.new.items ≡ text.old.items ++ written number e) };
+        ensures { (e : Listed) → octets ≡ told (length e.octets) → ShowsParts got.now e.value → OnOk result (text.new.items ≡ text.old.items ++ written number e) };
 }

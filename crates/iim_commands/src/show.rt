@@ -12,9 +12,9 @@ use crate::report::push_printed;
 use crate::shown::push_after_space;
 use iim_audit::NumberOrDash;
 use iim_dataset::DatasetName;
-use iim_fields::Envelope;
+use iim_fields::EnvelopeRef;
 use iim_object::Sizes;
-use iim_unpack::Unpacked;
+use iim_unpack::UnpackedRef;
 use std::alloc::AllocError;
 use wire_message::MessageHead;
 
@@ -30,12 +30,12 @@ impl EnvelopeReport for Show {
         text: &mut Vec<u8>,
         number: u64,
         _octets: u64,
-        got: &Unpacked,
+        got: &UnpackedRef<'_>,
     ) -> Result<(), AllocError> {
         push_number(text, number)?;
         push_fields(text, &got.envelope)?;
-        push_message(text, &got.head)?;
-        push_trailer(text, got.trailer.as_slice())?;
+        push_message(text, got.head)?;
+        push_trailer(text, got.trailer)?;
         push_sizes(text, got.sizes)
     }
 }
@@ -58,7 +58,7 @@ fn push_field(text: &mut Vec<u8>, name: DatasetName, octets: &[u8]) -> Result<()
 }
 
 /// Adds the lines of all datasets.
-fn push_fields(text: &mut Vec<u8>, envelope: &Envelope) -> Result<(), AllocError>
+fn push_fields(text: &mut Vec<u8>, envelope: &EnvelopeRef<'_>) -> Result<(), AllocError>
     ensures { OnOk result (text.new.items ≡ text.old.items ++ flat_map field_line envelope.now) }
 {
     let mut fields = envelope.fields();

@@ -8,7 +8,7 @@ ghost use Rattle.iim_commands.specs.Format.Holding.{HoldsNothing, PutsOn, device
 ghost use Rattle.iim_commands.specs.Format.Narration.{IsUnnarrated, Narrated};
 
 use crate::block_writer::BlockWriter;
-use crate::coming::{Next, take_next};
+use crate::coming::{LIMITS, Next, take_next};
 use crate::fault::CommandFault;
 use crate::laws::envelopes_are_delivered_as_lines;
 use crate::report::{TOO_MANY, push_accepted, push_refused, say};
@@ -17,7 +17,7 @@ use iim_audit::MAX_ENVELOPES;
 use iim_dataset::device_laws::{gifts_join, texts_join};
 use iim_dataset::octets::LF;
 use iim_dataset::{Source, Target};
-use iim_unpack::Intake;
+use iim_unpack::{Intake, Unpacker};
 use std::alloc::Global;
 use wire_story::laws::lines_are_joined_by_line_feeds;
 
@@ -66,12 +66,12 @@ fn tell_stories<R: Source, W: Target, E: Target>(
     envelopes_are_delivered_as_lines();
     lines_are_joined_by_line_feeds();
     let mut count = 0;
-    let mut spare = None;
+    let mut unpacker = Unpacker::new(alloc, LIMITS)?;
     let mut line = Vec::new(alloc);
     'telling: loop {
         line.clear();
-        match take_next(alloc, spare.take(), intake, output)? {
-            Next::Envelope(got, octets) => {
+        match take_next(intake, &mut unpacker, output)? {
+            Next::Envelope(octets) => {
                 if count == MAX_ENVELOPES {
                     let_out(output)?;
                     say(errors, TOO_MANY.as_bytes())?;
@@ -84,7 +84,6 @@ fn tell_stories<R: Source, W: Target, E: Target>(
                 end_story(output)?;
                 say(errors, line.as_slice())?;
                 count += 1;
-                spare = Some(got);
             }
             Next::End => return Ok(ACCEPTED),
             Next::Refused(refusal) => {

@@ -1,10 +1,11 @@
 //! Envelopes: the datasets of records 1 and 2, and the views of them.
 
+use crate::envelope_ref::EnvelopeRef;
 use crate::id::EnvelopeId;
 use crate::store::Store;
 use crate::walk::{DataIter, FieldIter};
 use iim_tables::records::{APPLICATION, ENVELOPE};
-use iim_tables::{date_of, instant_of};
+use iim_tables::date_of;
 use jiff::Timestamp;
 use jiff::civil::Date;
 use std::marker::Model;
@@ -38,17 +39,20 @@ impl Envelope {
     ghost use Rattle.iim_fields.specs.Format.Views.{first_data, all_data, instant_sent, instant_of_pair, instant_of_release, instant_of_expiration, IsInEach};
     ghost use Rattle.iim_tables.specs.Format.Rows.{Meets};
 
+    /// The envelope where it lies.
+    pub fn borrowed(&self) -> EnvelopeRef<'_>
+        ensures { result ≡ self.now }
+    {
+        EnvelopeRef { store: &self.store }
+    }
+
     /// All datasets, in order: record, number and data of each.
     pub fn fields(&self) -> FieldIter<'_>
         ensures fields { rest_of result ≡ self.now }
         ensures envelope { IsEnvelope self.now }
         ensures few { AreFew self.now }
     {
-        FieldIter {
-            from: 0,
-            entries: &self.store.entries,
-            octets: self.store.octets.as_slice(),
-        }
+        self.borrowed().fields()
     }
 
     /// The data of the first dataset with these numbers, of any record and number. They are as its row says.
@@ -56,13 +60,7 @@ impl Envelope {
         ensures data { option_map (λ x. x.now) result ≡ first_data rec set self.now }
         ensures meets { IfSome result (λ x. Meets rec set x.now) }
     {
-        let mut fields = self.fields();
-        while let Some((field_rec, field_set, octets)) = fields.next() {
-            if field_rec == rec && field_set == set {
-                return Some(octets);
-            }
-        }
-        None
+        self.borrowed().first(rec, set)
     }
 
     /// The data of each dataset with these numbers, in order.
@@ -82,9 +80,7 @@ impl Envelope {
         ensures data { first_data rec set self.now ≡ Some result.now }
         ensures meets { Meets rec set result.now }
     {
-        // Where a field is read, it is known that the type's invariant holds.
-        let _ = &self.store;
-        self.first(rec, set).unwrap()
+        self.borrowed().mandatory(rec, set)
     }
 
     /// 1:30 Service Identifier, of the Envelope Record.
@@ -92,7 +88,7 @@ impl Envelope {
         ensures data { first_data 1 30 self.now ≡ Some result.now }
         ensures fits { length result.now ≤ 10 }
     {
-        self.mandatory(ENVELOPE, 30)
+        self.borrowed().service()
     }
 
     /// 1:40 Envelope Number: eight digits.
@@ -100,7 +96,7 @@ impl Envelope {
         ensures data { first_data 1 40 self.now ≡ Some result.now }
         ensures fits { length result.now ≡ 8 }
     {
-        self.mandatory(ENVELOPE, 40)
+        self.borrowed().number()
     }
 
     /// 1:70 Date Sent, as eight digits, CCYYMMDD.
@@ -109,7 +105,7 @@ impl Envelope {
         ensures fits { length result.now ≡ 8 }
         ensures date { IsTrue (is_date result.now) }
     {
-        self.mandatory(ENVELOPE, 70)
+        self.borrowed().date_sent_text()
     }
 
     /// The day of 1:70 Date Sent.
@@ -124,7 +120,7 @@ impl Envelope {
     pub fn sent(&self) -> Option<Timestamp>
         ensures { option_map (λ t. t.nanosecond) result ≡ instant_sent self.now }
     {
-        self.instant(ENVELOPE, 70, 80, None)
+        self.borrowed().sent()
     }
 
     /// What the envelope is known by: 1:30 Service Identifier, 1:40 Envelope Number and 1:70 Date Sent.
@@ -133,7 +129,7 @@ impl Envelope {
         ensures number { first_data 1 40 self.now ≡ Some result.number }
         ensures date_sent { first_data 1 70 self.now ≡ Some result.date_sent }
     {
-        EnvelopeId::new(self.service(), self.number(), self.date_sent_text())
+        self.borrowed().id()
     }
 
     /// 1:00 Model Version.
@@ -161,23 +157,7 @@ impl Envelope {
     pub fn priority(&self) -> Option<u8>
         ensures { option_map (λ digit. digit ∷ []) result ≡ first_data 1 60 self.now }
     {
-        self.first(ENVELOPE, 60)?.first().copied()
-    }
-
-    /// The instant of this date and time of the record. Where no time was sent, `absent` stands for it. None where there is no date or no
-    /// time, or where they name no instant.
-    fn instant(
-        &self,
-        rec: u8,
-        date_set: u8,
-        time_set: u8,
-        absent: Option<&[u8]>,
-    ) -> Option<Timestamp>
-        ensures { option_map (λ t. t.nanosecond) result ≡ instant_of_pair rec date_set time_set (option_map (λ x. x.now) absent.entry) self.now }
-    {
-        let date = self.first(rec, date_set)?;
-        let time = self.first(rec, time_set).or(absent)?;
-        instant_of(date, time)
+        self.borrowed().priority()
     }
 
     /// The instant from which on the copy may be used: 2:30 Release Date and 2:35 Release Time, local time less its offset, or the
@@ -185,8 +165,7 @@ impl Envelope {
     pub fn release(&self) -> Option<Timestamp>
         ensures { option_map (λ t. t.nanosecond) result ≡ instant_of_release self.now }
     {
-        let first: &[u8] = b"000000+0000";
-        self.instant(APPLICATION, 30, 35, Some(first))
+        self.borrowed().release()
     }
 
     /// The last instant at which the copy may be used: 2:37 Expiration Date and 2:38 Expiration Time, local time less its offset, or
@@ -195,8 +174,7 @@ impl Envelope {
     pub fn expires(&self) -> Option<Timestamp>
         ensures { option_map (λ t. t.nanosecond) result ≡ instant_of_expiration self.now }
     {
-        let last: &[u8] = b"235959+0000";
-        self.instant(APPLICATION, 37, 38, Some(last))
+        self.borrowed().expires()
     }
 
     /// 1:80 Time Sent, where it was sent.

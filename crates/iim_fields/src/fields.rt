@@ -1,6 +1,6 @@
 //! The records of an envelope, dataset by dataset.
 
-ghost use Rattle.std.specs.Prelude.{◌≡◌, ◌⊎◌, false, ◌+◌, ◌-◌, ◌≤◌, ◌<◌, ℕ, List, [], ◌∷◌, ◌++◌, length, is_none, Some, None, IfOk, IfErr, OnOk, OnErr, ◌↔◌, IsTrue};
+ghost use Rattle.std.specs.Prelude.{◌≡◌, ◌⊎◌, false, ◌+◌, ◌-◌, ◌≤◌, ◌<◌, ℕ, List, [], ◌∷◌, ◌++◌, length, is_none, Some, None, IfOk, IfErr, OnOk, OnErr, ◌↔◌, IsTrue, IsSome, IfSome};
 ghost use Rattle.iim_dataset.specs.Format.Datasets.{Dataset};
 ghost use Rattle.iim_dataset.specs.declared.head.Head.{Head as HeadValue};
 ghost use Rattle.iim_fields.specs.Format.Records.{AreSections};
@@ -11,6 +11,7 @@ ghost use Rattle.iim_fields.specs.Format.Values.{number_told, data_of};
 
 use crate::check::RecordCheck;
 use crate::envelope::Envelope;
+use crate::envelope_ref::EnvelopeRef;
 use crate::fault::{FieldCause, FieldFault};
 use crate::limits::Limits;
 use crate::order::fault_on;
@@ -332,6 +333,18 @@ impl Fields {
         let number = self.check.value(self.store.begun())?;
         self.store.keep(head.rec, head.set);
         Ok(number)
+    }
+
+    /// The envelope that was kept where it lies, where 9:10 has ended and nothing was refused.
+    pub fn envelope(&self) -> Option<EnvelopeRef<'_>>
+        ensures ended { IsSome result ↔ IsEnded self.now }
+        ensures whole { (ds : List Dataset) → StandsAfter self.now ds → IsSome result ↔ AreSections ds }
+        ensures envelope { IfSome result (λ envelope. (ds : List Dataset) → StandsAfter self.now ds → envelope ≡ kept ds) }
+    {
+        if !self.check.is_ended() {
+            return None;
+        }
+        Some(EnvelopeRef { store: &self.store })
     }
 
     /// The envelope that was kept, where 9:10 has ended and nothing was refused. Else the reader is handed back as it was.

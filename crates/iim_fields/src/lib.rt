@@ -9,6 +9,7 @@
 mod builder;
 mod check;
 mod envelope;
+mod envelope_ref;
 mod fault;
 mod fields;
 mod id;
@@ -24,6 +25,7 @@ mod walk;
 pub use builder::EnvelopeBuilder;
 pub use check::RecordCheck;
 pub use envelope::Envelope;
+pub use envelope_ref::EnvelopeRef;
 pub use fault::{FieldCause, FieldFault};
 pub use fields::Fields;
 pub use id::EnvelopeId;

@@ -32,8 +32,9 @@ use Rattle.wire_story.specs.Format.Texts.{IsText}
 use Rattle.wire_message.specs.Format.Messages.{Header, IsMessage}
 use Rattle.iim_fields.specs.Format.Standing.{StandsAfter}
 use Rattle.iim_unpack.specs.Format.Laws.{AdmittedOctetsHaveOneValue}
-use Rattle.iim_unpack.specs.Format.Value.{HasParts}
+use Rattle.iim_unpack.specs.Format.Value.{HasParts, ShowsParts}
 use Rattle.iim_unpack.specs.declared.unpacker.Unpacked.{Unpacked}
+use Rattle.iim_unpack.specs.declared.unpacker.UnpackedRef.{UnpackedRef}
 use Rattle.iim_unpack.specs.Format.Admitted.{Value, Admits, object_of}
 use Rattle.iim_unpack.specs.Format.Refusals.{begun_record, begun_number, tag_cause}
 use Rattle.iim_unpack.specs.Format.Refusals.{refusal_at, message_on}
@@ -295,22 +296,35 @@ done_by laws v p n s taking ended place counts led sizes =
     }
 
 -- the value is handed over
+pub tells_value : FeedLaws → AdmittedOctetsHaveOneValue → (u : Unpacking) (p : List ℕ) (n : ℕ) (fields : List Dataset) (head : Header) (trailer : List ℕ) (sizes : Sizes) → IsDoneWith u p n
+    → wire.head_read u.parts.message ≡ Some head → trailer ≡ wire.trailer_read u.parts.message → TellsSizes u sizes → ((ds : List Dataset) → StandsAfter u.parts.fields ds → fields ≡ kept_of ds)
+    → (v : Value) → Admits p v → (fields ≡ v.fields) × (head ≡ v.head) × (trailer ≡ v.trailer) × (sizes ≡ v.sizes)
+tells_value laws one u p n fields head trailer sizes at head_is trailer_is sizes_are envelope v admits =
+    let w = whole_parts laws u p at.ended at.place at.is_led in
+    let mine : Value = record { fields = kept_of w.ds; head = w.head; lines = w.lines; trailer = wire.trailer_read u.parts.message; sizes = sizes } in
+    let same : mine ≡ v = one p mine v (admits_by laws u p sizes w sizes_are) admits in (
+      envelope w.ds w.after.fields ∙ ap (λ (x : Value). x.fields) same,
+      some-same (sym head_is ∙ w.head_is) ∙ ap (λ (x : Value). x.head) same,
+      trailer_is ∙ ap (λ (x : Value). x.trailer) same,
+      ap (λ (x : Value). x.sizes) same,
+    )
+  where
+    some-same : {x y : Header} → Some x ≡ Some y → x ≡ y
+    some-same h = cc
+
 pub hands_over : FeedLaws → AdmittedOctetsHaveOneValue → (u : Unpacking) (p : List ℕ) (n : ℕ) (got : Unpacked) → IsDoneWith u p n → wire.head_read u.parts.message ≡ Some got.head
     → got.trailer.items ≡ wire.trailer_read u.parts.message → TellsSizes u got.sizes → ((ds : List Dataset) → StandsAfter u.parts.fields ds → got.envelope ≡ kept_of ds)
     → (v : Value) → Admits p v → HasParts got v
 hands_over laws one u p n got at head trailer sizes envelope v admits =
-    let w = whole_parts laws u p at.ended at.place at.is_led in
-    let mine : Value = record { fields = kept_of w.ds; head = w.head; lines = w.lines; trailer = wire.trailer_read u.parts.message; sizes = got.sizes } in
-    let same : mine ≡ v = one p mine v (admits_by laws u p got.sizes w sizes) admits in
-    record {
-      fields = envelope w.ds w.after.fields ∙ ap (λ (x : Value). x.fields) same;
-      head = some-same (sym head ∙ w.head_is) ∙ ap (λ (x : Value). x.head) same;
-      trailer = trailer ∙ ap (λ (x : Value). x.trailer) same;
-      sizes = ap (λ (x : Value). x.sizes) same;
-    }
-  where
-    some-same : {x y : Header} → Some x ≡ Some y → x ≡ y
-    some-same h = cc
+    let told = tells_value laws one u p n got.envelope got.head got.trailer.items got.sizes at head trailer sizes envelope v admits in
+    record { fields = told.0; head = told.1; trailer = told.2; sizes = told.3 }
+
+pub shows : FeedLaws → AdmittedOctetsHaveOneValue → (u : Unpacking) (p : List ℕ) (n : ℕ) (got : UnpackedRef) → IsDoneWith u p n → wire.head_read u.parts.message ≡ Some got.head.now
+    → got.trailer.now ≡ wire.trailer_read u.parts.message → TellsSizes u got.sizes → ((ds : List Dataset) → StandsAfter u.parts.fields ds → got.envelope ≡ kept_of ds)
+    → (v : Value) → Admits p v → ShowsParts got v
+shows laws one u p n got at head trailer sizes envelope v admits =
+    let told = tells_value laws one u p n got.envelope got.head.now got.trailer.now got.sizes at head trailer sizes envelope v admits in
+    record { fields = told.0; head = told.1; trailer = told.2; sizes = told.3 }
 
 -- there is a header
 pub has_head : FeedLaws → (u : Unpacking) (p : List ℕ) (n : ℕ) → IsDoneWith u p n → wire.head_read u.parts.message ≡ None → ⊥

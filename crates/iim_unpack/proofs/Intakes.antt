@@ -17,7 +17,7 @@ use Rattle.iim_unpack.specs.Format.Unpacking.{Unpacking, Stands, IsDoneWith, Goe
 use Rattle.iim_unpack.specs.Unpacking.{Stood}
 use Rattle.iim_unpack.specs.Format.Open.{IsOpen, IsTextOf, Delivers, IsTruncatedAt, RefusesNext}
 use Rattle.iim_unpack.specs.Intakes.{WentOn, FedAs, read_fault}
-use Rattle.iim_unpack.specs.Format.Intakes.{FedPiece, HasFed, WasDone, WasEnded, IsRefusedOf, IsTruncatedIn, WasRefused, WasTruncated, WasMissed, WasGiven, IsReady, Faults, OpenOctetsAreBounded}
+use Rattle.iim_unpack.specs.Format.Intakes.{FedEnvelope, FedPiece, HasFed, WasDone, WasEnded, IsRefusedOf, IsTruncatedIn, WasRefused, WasTruncated, WasMissed, WasGiven, IsReady, Faults, OpenOctetsAreBounded}
 use Rattle.iim_unpack.specs.declared.intake.Fed.{Fed}
 use Rattle.iim_unpack.specs.declared.intake.Fed.TheVariants as piece
 use Rattle.iim_unpack.specs.declared.intake.IntakeFault.{IntakeFault}
@@ -265,6 +265,10 @@ not_fresh false q is both none = let bad : false ≡ true = both.1 none in cc
 
 pub fed_done : {S : Type 0} (goes : S → List story.StoryEvent → S → Type 0) (old new : Device) (u v : Unpacking) (a b : S) (used : ℕ) (end : Option ℕ) → end ≡ Some used → FedAs goes old new u v a b end → WasDone goes old new u v a b used
 fed_done goes old new u v a b used end is fed = subst (λ (x : Option ℕ). FedAs goes old new u v a b x) is fed
+
+pub fed_envelope : {S : Type 0} (goes : S → List story.StoryEvent → S → Type 0) (old new : Device) (u v : Unpacking) (a b : S) (used : ℕ) (whole : Bool) → whole ≡ true → FedEnvelope goes old new u v a b used whole
+    → WasDone goes old new u v a b used
+fed_envelope goes old new u v a b used whole is fed = subst (λ (x : Bool). FedEnvelope goes old new u v a b used x) is fed
 
 pub given_by : {S : Type 0} (goes : S → List story.StoryEvent → S → Type 0) (old new : Device) (u v : Unpacking) (a b : S) (used : ℕ) (got : Unpacked) → WasDone goes old new u v a b used
     → ((p : List ℕ) (n : ℕ) → IsDoneWith v p n → (w : Value) → Admits p w → HasParts got w) → WasGiven goes old new u a b used got

@@ -4,7 +4,7 @@ ghost use Rattle.std.specs.Prelude.{◌≡◌, ◌<◌, [], ℕ, Option, Some, N
 ghost use Rattle.std.specs.Io.KnownBytes.{IsAtEnd};
 ghost use Rattle.iim_dataset.specs.Format.DeviceLaws.{HasGiven, MissedAfter};
 ghost use Rattle.iim_unpack.specs.Format.Blocks.{with_held};
-ghost use Rattle.iim_unpack.specs.Format.Intakes.{line, IsReady, IsOfReader, Faults, FedPiece, Gives};
+ghost use Rattle.iim_unpack.specs.Format.Intakes.{line, IsReady, IsOfReader, Faults, FedEnvelope, FedPiece, Gives};
 ghost use Rattle.iim_unpack.specs.Intakes.{FedAs, read_fault};
 ghost use Rattle.iim_unpack.specs.Format.Unpacking.{failed_at, raised};
 ghost use Rattle.iim_unpack.specs.declared.intake.IntakeFault.TheVariants.{Refused as RefusedFault};
@@ -232,6 +232,39 @@ impl<R: Source> Intake<R> {
         }
     }
 
+    /// Feeds an unpacker up to the end of the next envelope, whose first octets it may have been fed: answers whether there was one,
+    /// false where the input ends and the unpacker stands on no octets. The octets after the envelope stay next in line.
+    pub fn feed_envelope<S: StorySink>(
+        &mut self,
+        unpacker: &mut Unpacker,
+        sink: &mut S,
+    ) -> Result<bool, IntakeFault>
+        requires ready { IsReady unpacker.old }
+        ensures fed { IfOk result (FedEnvelope S.goes (line R.state self.old) (line R.state self.new) unpacker.old unpacker.new sink.old sink.new self.new.octets) }
+        ensures calm { OnOk result (S.failures sink.new ≡ S.failures sink.old) }
+        ensures faults { self.old.failed ≡ None → IfErr result (λ fault. (kept : ℕ) × (self.new.failed ≡ Some kept) × Faults S.goes S.failures (line R.state self.old) (line R.state self.new) unpacker.old sink.old sink.new kept fault) }
+        ensures none { OnErr result (self.new.octets ≡ 0) }
+        ensures lives { OnOk result (self.new.failed ≡ None) }
+        ensures again { (octet : ℕ) → self.old.failed ≡ Some octet → (result ≡ Err (RefusedFault (failed_at octet))) × (unpacker.new ≡ unpacker.old) × (sink.new ≡ sink.old) × (self.new ≡ record (self.old) { octets = 0 }) }
+        ensures leads { R.leads self.old.reader self.new.reader }
+    {
+        self.octets = 0;
+        if let Some(octet) = self.failed {
+            return Err(IntakeFault::Refused(failed_at(octet)));
+        }
+        match feed_line(&mut self.block, &mut self.reader, unpacker, sink) {
+            Ok(Some(used)) => {
+                self.octets = used;
+                Ok(true)
+            }
+            Ok(None) => Ok(false),
+            Err((fault, octet)) => {
+                self.failed = Some(octet);
+                Err(fault)
+            }
+        }
+    }
+
     /// The next envelope, whose first octets the unpacker may have been fed; None where the input ends and the unpacker
     /// stands on no octets. The octets after the envelope stay next in line.
     pub fn next_envelope<S: StorySink>(
@@ -248,25 +281,15 @@ impl<R: Source> Intake<R> {
         ensures again { (octet : ℕ) → self.old.failed ≡ Some octet → (result ≡ Err (RefusedFault (failed_at octet))) × (sink.new ≡ sink.old) × (self.new ≡ record (self.old) { octets = 0 }) }
         ensures leads { R.leads self.old.reader self.new.reader }
     {
-        self.octets = 0;
-        if let Some(octet) = self.failed {
-            return Err(IntakeFault::Refused(failed_at(octet)));
-        }
         let mut unpacker = unpacker;
         unpacker.stands_somewhere();
-        match feed_line(&mut self.block, &mut self.reader, &mut unpacker, sink) {
-            Ok(Some(used)) => match unpacker.into_unpacked() {
-                Ok(got) => {
-                    self.octets = used;
-                    Ok(Some(got))
-                }
+        match self.feed_envelope(&mut unpacker, sink) {
+            Ok(true) => match unpacker.into_unpacked() {
+                Ok(got) => Ok(Some(got)),
                 Err(_) => unreachable!(),
             },
-            Ok(None) => Ok(None),
-            Err((fault, octet)) => {
-                self.failed = Some(octet);
-                Err(fault)
-            }
+            Ok(false) => Ok(None),
+            Err(fault) => Err(fault),
         }
     }
 }

@@ -36,4 +36,4 @@ pub use ticket::SaveFault;
 pub use ticket_fault::TicketFault;
 pub use ticket_fields::TicketFields;
 pub use ticket_parts::{TicketParts, TicketPhase, split_ticket};
-pub use unpacker::{Progress, Unpacked, Unpacker};
+pub use unpacker::{Progress, Unpacked, UnpackedRef, Unpacker};

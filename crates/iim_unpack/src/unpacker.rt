@@ -1,6 +1,6 @@
 //! The streaming unpacker.
 
-ghost use Rattle.std.specs.Prelude.{◌≡◌, ◌+◌, ◌*◌, ◌^◌, [], is_some, ◌<◌, ◌≤◌, ◌⊎◌, ℕ, List, Option, Some, None, Ok, Err, false, length, IsTrue, ◌↔◌, IfOk, IfErr, OnOk, OnErr};
+ghost use Rattle.std.specs.Prelude.{◌≡◌, ◌+◌, ◌*◌, ◌^◌, [], is_some, ◌<◌, ◌≤◌, ◌⊎◌, ℕ, List, Option, Some, None, Ok, Err, false, length, IsTrue, ◌↔◌, IsSome, IfSome, IfOk, IfErr, OnOk, OnErr};
 ghost use Rattle.iim_dataset.specs.Format.Places.{to_come};
 ghost use Rattle.iim_dataset.specs.Format.Reading.{TakesCalls};
 ghost use Rattle.iim_fields.specs.Format.Standing.{StandsAfter, limits_of, room_of, room_for};
@@ -17,7 +17,7 @@ ghost use Rattle.iim_unpack.specs.Format.Held.{HoldsFew};
 ghost use Rattle.iim_unpack.specs.Format.Open.{IsTruncatedAt};
 ghost use Rattle.iim_unpack.specs.Format.Admitted.{Value, Admits};
 ghost use Rattle.iim_unpack.specs.Format.Tickets.{IsTicketOf};
-ghost use Rattle.iim_unpack.specs.Format.Value.{HasParts};
+ghost use Rattle.iim_unpack.specs.Format.Value.{HasParts, ShowsParts};
 ghost use Rattle.iim_unpack.specs.declared.refusal.Refusal.{Refusal as RefusalValue};
 
 use crate::fault::TokenFault;
@@ -29,7 +29,7 @@ use crate::router::Router;
 use crate::ticket::{SaveFault, spell_ticket};
 use arrayvec::ArrayVec;
 use iim_dataset::{Fault as TagFault, FaultCause, HeadReader};
-use iim_fields::{Envelope, Fields, Limits};
+use iim_fields::{Envelope, EnvelopeRef, Fields, Limits};
 use iim_object::laws::readers_tell_sizes;
 use iim_object::{ObjectReader, Sizes};
 use std::alloc::{AllocError, Global};
@@ -129,6 +129,19 @@ pub struct Unpacked {
     pub head: MessageHead,
     /// What stands between ETX and EOT, 64 octets at most.
     pub trailer: ArrayVec<u8, 64>,
+    /// What records 7 to 9 say of the object's size.
+    pub sizes: Sizes,
+}
+
+/// What an envelope has, but for its lines, where it lies in its unpacker.
+#[derive(Drop)]
+pub struct UnpackedRef<'u> {
+    /// Its datasets of records 1 and 2.
+    pub envelope: EnvelopeRef<'u>,
+    /// The header of its message.
+    pub head: &'u MessageHead,
+    /// What stands between ETX and EOT.
+    pub trailer: &'u [u8],
     /// What records 7 to 9 say of the object's size.
     pub sizes: Sizes,
 }
@@ -434,6 +447,30 @@ impl Unpacker {
         }
     }
 
+    /// The value of the envelope where it lies, where one has ended. It stays there until the unpacker begins again.
+    pub fn unpacked(&self) -> Option<UnpackedRef<'_>>
+        ensures done { IsSome result ↔ IsDone self.now }
+        ensures value { IfSome result (λ got. (p : List ℕ) (a : ℕ) → IsDoneWith self.now p a → (v : Value) → Admits p v → ShowsParts got v) }
+    {
+        feed_laws();
+        admitted_octets_have_one_value();
+        if !self.is_done() {
+            return None;
+        }
+        let Some(head) = self.parts.message.head() else {
+            unreachable!()
+        };
+        let Some(envelope) = self.parts.fields.envelope() else {
+            unreachable!()
+        };
+        Some(UnpackedRef {
+            envelope,
+            head,
+            trailer: self.parts.message.trailer(),
+            sizes: self.parts.object.sizes(),
+        })
+    }
+
     /// The value of the envelope, where one has ended. Else the unpacker is handed back as it was.
     pub fn into_unpacked(self) -> Result<Unpacked, Unpacker>
         ensures done { OnOk result (IsDone self) }
@@ -449,6 +486,7 @@ impl Unpacker {
         let Some(head) = self.parts.message.head() else {
             unreachable!()
         };
+        let head = head.copied();
         let mut trailer = ArrayVec::new();
         let Ok(()) = trailer.try_extend_from_slice(self.parts.message.trailer()) else {
             unreachable!()

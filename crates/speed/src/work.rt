@@ -8,7 +8,7 @@ use crate::story::Story;
 use crate::tally::Tally;
 use iim_audit::audit;
 use iim_commands::check::Check;
-use iim_commands::coming::{LIMITS, Next, take_next};
+use iim_commands::coming::LIMITS;
 use iim_commands::list::{EnvelopeReport, list};
 use iim_commands::packing::{PackRequest, pack_script};
 use iim_commands::show::Show;
@@ -16,7 +16,7 @@ use iim_commands::story::narrate;
 use iim_dataset::{FromRead, HeadReader};
 use iim_object::{Plan, Size};
 use iim_pack::pack;
-use iim_unpack::{Intake, Progress, Unpacked, Unpacker};
+use iim_unpack::{Intake, Progress, Unpacker};
 use jiff::Timestamp;
 use std::alloc::Global;
 use wire_message::MessageReader;
@@ -107,28 +107,17 @@ fn heads(octets: &[u8]) -> Option<Tally> {
 /// Reads envelopes: counts them, the octets of their lines and the ends of these.
 fn unpack(alloc: Global, octets: &[u8]) -> Option<Tally> {
     let mut intake = Intake::new(FromRead::new(octets));
+    let mut unpacker = Unpacker::new(alloc, LIMITS).ok()?;
     let mut tally = Tally::new();
-    let mut spare = None;
-    'envelopes: for _ in 0..=octets.len() {
-        match take_next(alloc, spare.take(), &mut intake, &mut tally) {
-            Ok(Next::Envelope(got, _)) => {
-                tally.count_whole();
-                spare = Some(got);
-            }
-            Ok(Next::End) => return Some(tally),
-            _ => return None,
+    for _ in 0..=octets.len() {
+        unpacker.again();
+        match intake.feed_envelope(&mut unpacker, &mut tally) {
+            Ok(true) => tally.count_whole(),
+            Ok(false) => return Some(tally),
+            Err(_) => return None,
         }
     }
     None
-}
-
-/// An unpacker of the next envelope, with the memory of the last one.
-fn next_unpacker(alloc: Global, last: Unpacker) -> Option<Unpacker> {
-    let unpacked = last.into_unpacked().ok()?;
-    match Unpacker::over(unpacked, LIMITS) {
-        Ok(unpacker) => Some(unpacker),
-        Err(_) => Unpacker::new(alloc, LIMITS).ok(),
-    }
 }
 
 /// Reads envelopes, one octet a call: counts as `unpack` does.
@@ -138,7 +127,7 @@ fn unpack_octets(alloc: Global, octets: &[u8]) -> Option<Tally> {
     for octet in octets.chunks(1) {
         if let Progress::Done { .. } = unpacker.feed(octet, &mut tally).ok()? {
             tally.count_whole();
-            unpacker = next_unpacker(alloc, unpacker)?;
+            unpacker.again();
         }
     }
     Some(tally)

@@ -90,7 +90,7 @@ fn tell_header(text: &mut Answers, head: &MessageHead) {
 /// Writes the header and the trailer of a reader, as far as they have come.
 fn tell_reader(text: &mut Answers, reader: &MessageReader) {
     match reader.head() {
-        Some(head) => tell_header(text, &head),
+        Some(head) => tell_header(text, head),
         None => text.line("header none"),
     }
     let trailer = Shown(reader.trailer());

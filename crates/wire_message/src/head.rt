@@ -144,7 +144,7 @@ impl MessageHead {
     }
 
     /// The same header once more.
-    pub(crate) fn copied(&self) -> MessageHead
+    pub fn copied(&self) -> MessageHead
         ensures { result ≡ self.now }
     {
         MessageHead {

@@ -1,6 +1,7 @@
 //! The reader of a message, for any cut into pieces.
 
 ghost use Rattle.std.specs.Prelude.{◌≡◌, ◌↔◌, ◌<◌, [], List, ℕ, Option, false, is_none, length, Some, None, IsTrue, IsSome, IsOk, IfSome, IfErr, OnOk, OnErr};
+ghost use Rattle.std.specs.Option.{option_map};
 ghost use Rattle.wire_story.specs.Format.Tokens.{End};
 ghost use Rattle.wire_message.specs.Format.Layers.{MessageDiesAt};
 ghost use Rattle.wire_message.specs.Format.Saved.{IsAt, LeadToSaved};
@@ -164,13 +165,13 @@ impl MessageReader {
     }
 
     /// The header, from STX on.
-    pub fn head(&self) -> Option<MessageHead>
-        ensures { result ≡ head_read self.now }
+    pub fn head(&self) -> Option<&MessageHead>
+        ensures { option_map (λ head. head.now) result ≡ head_read self.now }
     {
         match &self.place {
-            Some(Place::Text { head, .. }) => Some(head.copied()),
-            Some(Place::Trailer { head, .. }) => Some(head.copied()),
-            Some(Place::AfterEnd { head, .. }) => Some(head.copied()),
+            Some(Place::Text { head, .. }) => Some(head),
+            Some(Place::Trailer { head, .. }) => Some(head),
+            Some(Place::AfterEnd { head, .. }) => Some(head),
             _ => None,
         }
     }

@@ -7,9 +7,8 @@ use Rattle.iim_dataset.specs.declared.device.IoFault.{IoFault}
 use Rattle.wire_story.specs.Format.Delivery.{StoryEvent}
 use Rattle.iim_unpack.specs.Format.Intakes.{Came}
 use Rattle.iim_unpack.specs.Format.Open.{IsOpen}
-use Rattle.iim_unpack.specs.Format.Value.{HasParts}
+use Rattle.iim_unpack.specs.Format.Unpacking.{Unpacking, IsDoneWith, limits_in}
 use Rattle.iim_unpack.specs.declared.refusal.Refusal.{Refusal}
-use Rattle.iim_unpack.specs.declared.unpacker.Unpacked.{Unpacked}
 use Rattle.iim_commands.specs.Format.Listings.{limits, told, IsDelivered}
 use Rattle.iim_unpack.specs.Format.Listing.{Listed, IsListed, IsRefusedAfter}
 use Rattle.iim_commands.specs.declared.fault.CommandFault.{CommandFault}
@@ -17,11 +16,12 @@ use Rattle.iim_commands.specs.declared.fault.CommandFault.TheVariants.{CannotRea
 use Rattle.iim_commands.specs.declared.coming.Next.{Next}
 use Rattle.iim_commands.specs.declared.coming.Next.TheVariants as next
 
--- An envelope came, and the sink was told its text.
-pub record EnvelopeHasCome {S : Type 0} (goes : S → List StoryEvent → S → Type 0) (old new : Device) (a b : S) (got : Unpacked) (octets : ℕ) : Type 0 where
+-- An envelope came, the unpacker is done with it, and the sink was told its text.
+pub record EnvelopeHasCome {S : Type 0} (goes : S → List StoryEvent → S → Type 0) (old new : Device) (u : Unpacking) (a b : S) (octets : ℕ) : Type 0 where
   pub envelope : Listed
   pub is : IsListed limits envelope
-  pub parts : HasParts got envelope.value
+  pub done : IsDoneWith u envelope.octets octets
+  pub same : limits_in u ≡ limits
   pub counts : octets ≡ told (length envelope.octets)
   pub more : List StoryEvent
   pub came : Came goes old new a b envelope.octets more
@@ -68,15 +68,15 @@ pub record IsHeldUp {S : Type 0} (goes : S → List StoryEvent → S → Type 0)
   pub delivered : IsDelivered octets more
   pub holds_back : stuck told b
 
--- What comes next, or why nothing does. (What it is for a sink to hold nothing, and to fail to let out what it holds; the input before
--- and after, and the sink.)
-abbrev pub IsNext : {S : Type 0} → (S → List StoryEvent → S → Type 0) → (S → ℕ) → (S → Type 0) → (S → S → Type 0) → Device → Device → S → S → Result Next CommandFault → Type 0
-IsNext goes failures settled stuck old new a b (Ok (next.Envelope got octets)) = EnvelopeHasCome goes old new a b got octets
-IsNext goes failures settled stuck old new a b (Ok next.End) = HasGiven old new [] × IsAtEnd new.octets × goes a [] b × settled b
-IsNext goes failures settled stuck old new a b (Ok (next.Refused refusal)) = IsRefusal goes old new a b refusal
-IsNext goes failures settled stuck old new a b (Err CannotRead) = IsCutOff goes old new a b × settled b
-IsNext goes failures settled stuck old new a b (Err CannotWrite) = IsUnheard goes failures old new a b ⊎ IsHeldUp goes failures stuck old new a b
-IsNext goes failures settled stuck old new a b (Err OutOfMemory) = (new ≡ old) × (b ≡ a)
+-- What comes next, or why nothing does; it takes no memory. (What it is for a sink to hold nothing, and to fail to let out what it
+-- holds; the input before and after, the unpacker after, and the sink.)
+abbrev pub IsNext : {S : Type 0} → (S → List StoryEvent → S → Type 0) → (S → ℕ) → (S → Type 0) → (S → S → Type 0) → Device → Device → Unpacking → S → S → Result Next CommandFault → Type 0
+IsNext goes failures settled stuck old new u a b (Ok (next.Envelope octets)) = EnvelopeHasCome goes old new u a b octets
+IsNext goes failures settled stuck old new u a b (Ok next.End) = HasGiven old new [] × IsAtEnd new.octets × goes a [] b × settled b
+IsNext goes failures settled stuck old new u a b (Ok (next.Refused refusal)) = IsRefusal goes old new a b refusal
+IsNext goes failures settled stuck old new u a b (Err CannotRead) = IsCutOff goes old new a b × settled b
+IsNext goes failures settled stuck old new u a b (Err CannotWrite) = IsUnheard goes failures old new a b ⊎ IsHeldUp goes failures stuck old new a b
+IsNext goes failures settled stuck old new u a b (Err OutOfMemory) = ⊥
 
 -- The sink counted a failure only where it refused.
 abbrev pub IsCalm : ℕ → ℕ → Result Next CommandFault → Type 0
@@ -85,5 +85,5 @@ IsCalm before now _ = now ≡ before
 
 -- After an envelope more can be asked for. (The octet that a failed intake keeps.)
 abbrev pub CanAskForMore : Option ℕ → Result Next CommandFault → Type 0
-CanAskForMore failed (Ok (next.Envelope got octets)) = failed ≡ None
+CanAskForMore failed (Ok (next.Envelope octets)) = failed ≡ None
 CanAskForMore failed _ = ⊤

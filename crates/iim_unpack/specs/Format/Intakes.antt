@@ -1,5 +1,5 @@
 -- What an intake has next in line.
-use Rattle.std.specs.Prelude.{◌≡◌, ℕ, ◌^◌, ◌<◌, ◌⊎◌, ⊤, false, List, [], ◌++◌, length, take, slice_index, Option, None, Some}
+use Rattle.std.specs.Prelude.{◌≡◌, ℕ, ◌^◌, ◌<◌, ◌⊎◌, ⊤, false, List, [], ◌++◌, length, take, slice_index, Option, None, Some, ◌-◌, Bool, true}
 use Rattle.std.specs.Io.KnownBytes.{IsAtEnd}
 use Rattle.iim_dataset.specs.Format.Octets.{greatest_u64}
 use Rattle.iim_dataset.specs.Format.Devices.{Device}
@@ -73,6 +73,12 @@ abbrev pub FedPiece : {S : Type 0} → (S → List story.StoryEvent → S → Ty
 FedPiece goes old new u v a b (piece.More used) = (0 < used) × IsReady v × HasFed goes old new u v a b used
 FedPiece goes old new u v a b (piece.Done used) = WasDone goes old new u v a b used
 FedPiece goes old new u v a b piece.End = WasEnded old new u a b
+
+-- What feeding up to the end of an envelope came to: the unpacker is done with the octets that came, or there are none, and it stands
+-- on none. (At the end, how many octets were used.)
+abbrev pub FedEnvelope : {S : Type 0} → (S → List story.StoryEvent → S → Type 0) → Device → Device → Unpacking → Unpacking → S → S → ℕ → Bool → Type 0
+FedEnvelope goes old new u v a b used true = WasDone goes old new u v a b used
+FedEnvelope goes old new u v a b used false = (used ≡ 0) × WasEnded old new u a b
 
 -- Octet k of those that came is refused, and of the octets before it this is delivered.
 pub record IsRefusedOf (limits : Limits) (p : List ℕ) (a : ℕ) (octets : List ℕ) (more : List story.StoryEvent) (e : Refusal) : Type 0 where

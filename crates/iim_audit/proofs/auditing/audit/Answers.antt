@@ -1,18 +1,30 @@
-use Rattle.std.proofs.Common.{◌≡◌, ◌∙◌, ℕ, None, Some, Option, List, [], length, ap, subst, arith, refl, Result, Ok, ◌+◌, IsErrAnd}
+use Rattle.std.proofs.Common.{◌≡◌, ◌∙◌, ℕ, None, Some, Option, List, [], length, ap, subst, arith, refl, Result, Ok, ◌+◌, IsErrAnd, sym, IsSome}
 use Rattle.iim_dataset.specs.Format.Devices.{Device}
 use Rattle.iim_unpack.specs.Format.Intakes.{line}
 use Rattle.iim_unpack.specs.declared.intake.Intake.{Intake}
+use Rattle.iim_audit.specs.Format.Auditing.{FailsLeaving, IsToldAgain}
+use Rattle.iim_audit.specs.declared.fault.AuditCause.{AuditCause}
+use Rattle.iim_audit.specs.declared.fault.AuditCause.TheVariants as causes
+use Rattle.iim_audit.specs.declared.fault.AuditFault.{AuditFault}
 use Rattle.iim_audit.specs.Taking.{TookEnvelope}
 use Rattle.iim_audit.specs.Repeats.{ids_of}
 use Rattle.iim_audit.specs.declared.row.AuditRow.{AuditRow}
 use Rattle.iim_audit.specs.declared.row.Taken.{Taken}
-use Rattle.iim_audit.proofs.Reading.{come_none, audited, fails, one_too_many, short_after, read_one, told_again}
+use Rattle.iim_audit.proofs.Reading.{come_none, audited, fails, one_too_many, short_after, read_one, told_again, none_within, short_first, taken_of, took_within}
 use Rattle.iim_audit.proofs.auditing.audit.Goals as goal
 
 never : {T E : Type 0} (r : Result T E) (x : T) (P : E → Type 0) → r ≡ Ok x → IsErrAnd r P → ⊥
 never {T} {E} r x P is err =
     let Q : Result T E → Type 0 = λ s. IsErrAnd s P in
     subst Q is err
+
+-- what holds of a number and a cause holds of the fault that has them
+of_fault : (P : ℕ → AuditCause → Type 0) (fault : AuditFault) (number : ℕ) (cause : AuditCause) → fault ≡ record { envelope = number; cause = cause } → P number cause → P fault.envelope fault.cause
+of_fault P fault number cause is h = subst (λ (f : AuditFault). P f.envelope f.cause) (sym is) h
+
+none_is_none : {A : Type 0} (r : Option A) → r ≡ None → IsSome r → ⊥
+none_is_none (Some x) none some = absurd cc
+none_is_none None none some = absurd cc
 
 -- after a fault the intake is what it was
 still : {R : Type 0} (old now : Intake R) (octet : ℕ) → now ≡ old → old.failed ≡ Some octet → now.failed ≡ Some octet
@@ -37,6 +49,7 @@ envelopes-init g c =
         };
         again = λ octet e. none;
       };
+      same = c.in-Ok.ensures.limits;
       below = λ k d there. absurd (omega (arith, ap length c.new-ledger.ensures.none, there));
       short = λ k d there. absurd (omega (arith, ap (λ (rows : List AuditRow). length (ids_of rows)) c.new-ledger.ensures.empty, there));
       as_it_was = λ octet e. refl;
@@ -52,19 +65,21 @@ returns-in-Ok-None-clause-audited g c = λ alive.
     let mid : Device = line st c.envelopes.intake in
     let new : Device = line st c.take_envelope.new.intake in
     let used = c.take_envelope.new.intake.octets in
-    let P : Option Taken → Type 0 = λ found. TookEnvelope c.args.limits mid new used found in
-    let took : TookEnvelope c.args.limits mid new used None = subst P c.in-Ok-None.field-0-is (c.in-Ok-None.ensures.took read.lives) in
-    audited c.args.limits now old mid new c.envelopes.ledger c.args.intake.now.octets c.envelopes.intake.failed c.envelopes.intake.octets used c.into_report.result
+    let u = c.envelopes.unpacker in
+    let v = c.take_envelope.new.unpacker in
+    let took : TookEnvelope c.args.limits mid new v used None = took_within c.args.limits mid new u v used c.in-Ok-None.field-0 None c.in-Ok-None.field-0-is c.envelopes.invariant.same c.in-Ok-None.ensures.took in
+    audited c.args.limits now old mid new c.envelopes.ledger c.args.intake.now.octets c.envelopes.intake.failed c.envelopes.intake.octets used v c.into_report.result
     c.gifts_join.ensures c.envelopes.invariant.auditing.few read took (c.into_report.ensures now)
 
 pub returns-in-Err-clause-fails : goal.returns-in-Err-clause-fails
 returns-in-Err-clause-fails g c = λ alive.
     let st = g.R.Source.state in
     let read = c.envelopes.invariant.auditing.reads alive in
-    fails c.args.limits c.args.now.nanosecond (line st c.args.intake.now) (line st c.envelopes.intake) (line st c.take_envelope.new.intake)
+    of_fault (λ n cause. FailsLeaving c.args.limits (line g.R.Source.state c.args.intake.now) (line g.R.Source.state c.take_envelope.new.intake) c.args.intake.now.octets c.take_envelope.new.intake.failed c.take_envelope.new.intake.octets n cause) c.fault_at-in-Err.result c.next_number-number.result c.in-Err.cause c.fault_at-in-Err.ensures
+    (fails c.args.limits c.args.now.nanosecond (line st c.args.intake.now) (line st c.envelopes.intake) (line st c.take_envelope.new.intake)
     c.envelopes.ledger c.args.intake.now.octets c.envelopes.intake.failed c.envelopes.intake.octets c.next_number-number.result
     c.take_envelope.new.intake.failed c.take_envelope.new.intake.octets c.in-Err.cause c.gifts_join.ensures
-    c.envelopes.invariant.auditing.few c.next_number-number.ensures read (c.in-Err.ensures.none read.lives)
+    c.envelopes.invariant.auditing.few c.next_number-number.ensures read (none_within c.args.limits (line st c.envelopes.intake) (line st c.take_envelope.new.intake) c.envelopes.unpacker c.envelopes.intake.octets c.take_envelope.new.intake.failed c.take_envelope.new.intake.octets c.in-Err.cause c.envelopes.invariant.same (c.in-Err.ensures.none read.lives)))
 
 pub returns-then-number-gt-MAX_ENVELOPES-clause-fails :
     goal.returns-then-number-gt-MAX_ENVELOPES-clause-fails
@@ -74,26 +89,30 @@ returns-then-number-gt-MAX_ENVELOPES-clause-fails g c = λ alive.
     let mid : Device = line st c.envelopes.intake in
     let new : Device = line st c.take_envelope.new.intake in
     let used = c.take_envelope.new.intake.octets in
-    let P : Option Taken → Type 0 = λ found. TookEnvelope c.args.limits mid new used found in
-    one_too_many c.args.limits c.args.now.nanosecond (line st c.args.intake.now) mid new
+    let u = c.envelopes.unpacker in
+    let v = c.take_envelope.new.unpacker in
+    of_fault (λ n cause. FailsLeaving c.args.limits (line g.R.Source.state c.args.intake.now) (line g.R.Source.state c.take_envelope.new.intake) c.args.intake.now.octets c.take_envelope.new.intake.failed c.take_envelope.new.intake.octets n cause) c.fault_at-then-number-gt-MAX_ENVELOPES.result c.next_number-number.result causes.TooManyEnvelopes c.fault_at-then-number-gt-MAX_ENVELOPES.ensures
+    (one_too_many c.args.limits c.args.now.nanosecond (line st c.args.intake.now) mid new
     c.envelopes.ledger c.args.intake.now.octets c.envelopes.intake.failed c.envelopes.intake.octets c.next_number-number.result
-    c.take_envelope.new.intake.failed used c.in-Ok-Some.got c.gifts_join.ensures
+    c.take_envelope.new.intake.failed used v c.in-Ok-Some.words c.gifts_join.ensures
     c.envelopes.invariant.auditing.few c.next_number-number.ensures (omega arith) c.in-Ok-Some.ensures.lives read
-    (subst P c.in-Ok-Some.field-0-is (c.in-Ok-Some.ensures.took read.lives))
+    (took_within c.args.limits mid new u v used c.in-Ok-Some.field-0 (Some c.in-Ok-Some.words) c.in-Ok-Some.field-0-is c.envelopes.invariant.same c.in-Ok-Some.ensures.took))
 
-pub returns-in_default-clause-fails : goal.returns-in_default-clause-fails
-returns-in_default-clause-fails g c = λ alive.
+pub returns-in_default-enter-clause-fails : goal.returns-in_default-enter-clause-fails
+returns-in_default-enter-clause-fails g c = λ alive.
     let st = g.R.Source.state in
     let read = c.envelopes.invariant.auditing.reads alive in
     let mid : Device = line st c.envelopes.intake in
     let new : Device = line st c.take_envelope.new.intake in
     let used = c.take_envelope.new.intake.octets in
-    let P : Option Taken → Type 0 = λ found. TookEnvelope c.args.limits mid new used found in
-    short_after c.args.limits c.args.now.nanosecond (line st c.args.intake.now) mid new
+    let u = c.envelopes.unpacker in
+    let v = c.take_envelope.new.unpacker in
+    of_fault (λ n cause. FailsLeaving c.args.limits (line g.R.Source.state c.args.intake.now) (line g.R.Source.state c.take_envelope.new.intake) c.args.intake.now.octets c.take_envelope.new.intake.failed c.take_envelope.new.intake.octets n cause) c.fault_at-in_default-enter.result c.next_number-number.result causes.OutOfMemory c.fault_at-in_default-enter.ensures
+    (short_after c.args.limits c.args.now.nanosecond (line st c.args.intake.now) mid new
     c.envelopes.ledger c.args.intake.now.octets c.envelopes.intake.failed c.envelopes.intake.octets c.next_number-number.result
-    c.take_envelope.new.intake.failed used c.in-Ok-Some.got c.gifts_join.ensures
+    c.take_envelope.new.intake.failed used v c.in-Ok-Some.words c.gifts_join.ensures
     (omega arith) c.next_number-number.ensures c.in-Ok-Some.ensures.lives read
-    (subst P c.in-Ok-Some.field-0-is (c.in-Ok-Some.ensures.took read.lives))
+    (took_within c.args.limits mid new u v used c.in-Ok-Some.field-0 (Some c.in-Ok-Some.words) c.in-Ok-Some.field-0-is c.envelopes.invariant.same c.in-Ok-Some.ensures.took))
 
 pub envelopes-preserved : goal.envelopes-preserved
 envelopes-preserved g c =
@@ -102,23 +121,26 @@ envelopes-preserved g c =
     let mid : Device = line st c.envelopes.intake in
     let new : Device = line st c.take_envelope.new.intake in
     let used = c.take_envelope.new.intake.octets in
-    let P : Option Taken → Type 0 = λ found. TookEnvelope c.args.limits mid new used found in
+    let u = c.envelopes.unpacker in
+    let v = c.take_envelope.new.unpacker in
+    let one = took_within c.args.limits mid new u v used c.in-Ok-Some.field-0 (Some c.in-Ok-Some.words) c.in-Ok-Some.field-0-is c.envelopes.invariant.same c.in-Ok-Some.ensures.took in
     let spent : (octet : ℕ) → c.args.intake.now.failed ≡ Some octet → ⊥ =
     λ octet e. never c.take_envelope.result _ _ c.in-Ok-Some.is
     (c.take_envelope.ensures.again octet (still c.args.intake.now c.envelopes.intake octet (c.envelopes.invariant.as_it_was octet e) e)) in
-    let one : length c.enter.new.self.rows.items ≡ length c.envelopes.ledger.rows.items + 1 = c.in-Ok.ensures.one in
+    let longer : length c.enter.new.self.rows.items ≡ length c.envelopes.ledger.rows.items + 1 = c.in-Ok-enter.ensures.one in
     record {
       auditing = record {
         few = omega arith;
         reads = λ alive.
             let read = before.reads alive in
             read_one c.args.limits c.args.now.nanosecond (line st c.args.intake.now) mid new c.envelopes.ledger c.enter.new.self
-            c.args.intake.now.octets c.envelopes.intake.failed c.envelopes.intake.octets c.take_envelope.new.intake.failed used c.in-Ok-Some.got c.gifts_join.ensures
-            c.in-Ok-Some.ensures.lives c.in-Ok.ensures.keeps read (subst P c.in-Ok-Some.field-0-is (c.in-Ok-Some.ensures.took read.lives));
+            c.args.intake.now.octets c.envelopes.intake.failed c.envelopes.intake.octets c.take_envelope.new.intake.failed used v c.in-Ok-Some.words (record { unpacked = c.in-Some.unpacked; words = c.in-Ok-Some.words }) c.gifts_join.ensures
+            c.in-Ok-Some.ensures.lives c.in-Ok-enter.ensures.keeps read one (taken_of c.args.limits mid new v used c.in-Ok-Some.words c.in-Some.unpacked one c.in-Some.ensures.value);
         again = λ octet e. absurd (spent octet e);
       };
-      below = c.in-Ok.ensures.below;
-      short = c.in-Ok.ensures.short;
+      same = one.same;
+      below = c.in-Ok-enter.ensures.below;
+      short = c.in-Ok-enter.ensures.short;
       as_it_was = λ octet e. absurd (spent octet e);
       leads = g.met.R.Source.leads_on c.args.intake.now.reader c.envelopes.intake.reader c.take_envelope.new.intake.reader
           c.envelopes.invariant.leads c.take_envelope.ensures.leads;
@@ -127,9 +149,10 @@ envelopes-preserved g c =
 pub returns-in-Err-clause-again : goal.returns-in-Err-clause-again
 returns-in-Err-clause-again g c = λ octet e.
     let same = c.envelopes.invariant.as_it_was octet e in
-    told_again octet c.args.intake.now.octets c.envelopes.intake.octets c.take_envelope.new.intake.octets (length c.envelopes.ledger.rows.items)
+    of_fault (λ n cause. IsToldAgain octet c.args.intake.now.octets c.take_envelope.new.intake.octets n cause) c.fault_at-in-Err.result c.next_number-number.result c.in-Err.cause c.fault_at-in-Err.ensures
+    (told_again octet c.args.intake.now.octets c.envelopes.intake.octets c.take_envelope.new.intake.octets (length c.envelopes.ledger.rows.items)
     c.next_number-number.result c.in-Err.cause (ap (λ (i : Intake _). i.octets) same) (c.envelopes.invariant.auditing.again octet e)
-    c.next_number-number.ensures (c.in-Err.ensures.again octet (still c.args.intake.now c.envelopes.intake octet same e))
+    c.next_number-number.ensures (c.in-Err.ensures.again octet (still c.args.intake.now c.envelopes.intake octet same e)))
 
 pub returns-in-Err-clause-as_it_was : goal.returns-in-Err-clause-as_it_was
 returns-in-Err-clause-as_it_was g c = λ octet e.
@@ -157,12 +180,40 @@ returns-then-number-gt-MAX_ENVELOPES-clause-as_it_was g c = λ octet e.
     absurd (never c.take_envelope.result _ _ c.in-Ok-Some.is
     (c.take_envelope.ensures.again octet (still c.args.intake.now c.envelopes.intake octet (c.envelopes.invariant.as_it_was octet e) e)))
 
-pub returns-in_default-clause-again : goal.returns-in_default-clause-again
-returns-in_default-clause-again g c = λ octet e.
+pub returns-in_default-enter-clause-again : goal.returns-in_default-enter-clause-again
+returns-in_default-enter-clause-again g c = λ octet e.
     absurd (never c.take_envelope.result _ _ c.in-Ok-Some.is
     (c.take_envelope.ensures.again octet (still c.args.intake.now c.envelopes.intake octet (c.envelopes.invariant.as_it_was octet e) e)))
 
-pub returns-in_default-clause-as_it_was : goal.returns-in_default-clause-as_it_was
-returns-in_default-clause-as_it_was g c = λ octet e.
+pub returns-in_default-enter-clause-as_it_was : goal.returns-in_default-enter-clause-as_it_was
+returns-in_default-enter-clause-as_it_was g c = λ octet e.
     absurd (never c.take_envelope.result _ _ c.in-Ok-Some.is
     (c.take_envelope.ensures.again octet (still c.args.intake.now c.envelopes.intake octet (c.envelopes.invariant.as_it_was octet e) e)))
+
+pub returns-in_default-clause-fails : goal.returns-in_default-clause-fails
+returns-in_default-clause-fails g c = λ alive. of_fault (λ n cause. FailsLeaving c.args.limits (line g.R.Source.state c.args.intake.now) (line g.R.Source.state c.args.intake.now) c.args.intake.now.octets c.args.intake.now.failed c.args.intake.now.octets n cause) c.fault_at.result 1 causes.OutOfMemory c.fault_at.ensures
+    (short_first c.args.limits (line g.R.Source.state c.args.intake.now) c.args.intake.now.octets c.args.intake.now.failed c.gifts_join.ensures alive)
+
+pub unreachable-requires : goal.unreachable-requires
+unreachable-requires g c =
+    let st = g.R.Source.state in
+    let mid : Device = line st c.envelopes.intake in
+    let new : Device = line st c.take_envelope.new.intake in
+    let one = took_within c.args.limits mid new c.envelopes.unpacker c.take_envelope.new.unpacker c.take_envelope.new.intake.octets c.in-Ok-Some.field-0 (Some c.in-Ok-Some.words) c.in-Ok-Some.field-0-is c.envelopes.invariant.same c.in-Ok-Some.ensures.took in
+    none_is_none c.unpacked.result c.in_default-unpacked.is (c.unpacked.ensures.done.1 (one.done.taking, one.done.ended))
+
+pub returns-in-Ok-None-clause-leads : goal.returns-in-Ok-None-clause-leads
+returns-in-Ok-None-clause-leads g c =
+    g.met.R.Source.leads_on c.args.intake.now.reader c.envelopes.intake.reader c.take_envelope.new.intake.reader c.envelopes.invariant.leads c.take_envelope.ensures.leads
+
+pub returns-in-Err-clause-leads : goal.returns-in-Err-clause-leads
+returns-in-Err-clause-leads g c =
+    g.met.R.Source.leads_on c.args.intake.now.reader c.envelopes.intake.reader c.take_envelope.new.intake.reader c.envelopes.invariant.leads c.take_envelope.ensures.leads
+
+pub returns-then-number-gt-MAX_ENVELOPES-clause-leads : goal.returns-then-number-gt-MAX_ENVELOPES-clause-leads
+returns-then-number-gt-MAX_ENVELOPES-clause-leads g c =
+    g.met.R.Source.leads_on c.args.intake.now.reader c.envelopes.intake.reader c.take_envelope.new.intake.reader c.envelopes.invariant.leads c.take_envelope.ensures.leads
+
+pub returns-in_default-enter-clause-leads : goal.returns-in_default-enter-clause-leads
+returns-in_default-enter-clause-leads g c =
+    g.met.R.Source.leads_on c.args.intake.now.reader c.envelopes.intake.reader c.take_envelope.new.intake.reader c.envelopes.invariant.leads c.take_envelope.ensures.leads

@@ -1,18 +1,35 @@
-use Rattle.std.proofs.Common.{rules, ◌≡◌, ◌+◌, [], refl, sym, append-nil}
+use Rattle.std.proofs.Common.{rules, ◌≡◌, ◌+◌, Option, None, Some, IsSome, [], refl, sym, append-nil}
 use Rattle.iim_unpack.specs.Format.Intakes.{line}
 use Rattle.iim_commands.specs.Format.Lines.{refused_line, too_many_line}
 use Rattle.iim_unpack.specs.Format.Listing.{max_envelopes, Whole, RefusedBy, TooMany}
 use Rattle.iim_commands.specs.Format.Silence.{IsSettled, IsStuck, PassesOver, refuses_never}
 use Rattle.iim_commands.specs.Listing.{IsUnlisted}
 use Rattle.iim_commands.specs.declared.fault.CommandFault.TheVariants.{OutOfMemory}
-use Rattle.iim_commands.proofs.Reports.{ends_refused, failed, left_of, none_left, reported, reported_more, reported_out, starved, unended, unsaid_of}
+use Rattle.iim_commands.proofs.Reports.{ends_refused, failed, left_of, none_left, none_reported, reported, reported_more, reported_out, starved, unended, unsaid_of}
 use Rattle.iim_commands.specs.HoldingLaws.{put_nothing}
 use Rattle.iim_commands.proofs.Taken.{come_as, end_as, lives_as, refusal_as}
 use Rattle.iim_commands.proofs.Told.{added, handed_on}
 use Rattle.iim_commands.proofs.list.list_texts.Goals as goal
 
-pub returns-in_err-got-clause-err : goal.returns-in_err-got-clause-err
-returns-in_err-got-clause-err g c =
+pub listing-init : goal.listing-init
+listing-init g c = record {
+  alive = c.requires.alive;
+  same = c.in_ok-unpacker.ensures.limits;
+  reported = none_reported g.W.Target.state c.gifts_join.ensures g.P.EnvelopeReport.written (line g.R.Source.state c.args.intake.now) c.args.silent.now.output;
+  leads = λ last h. h;
+}
+
+pub returns-in_err-unpacker-clause-err : goal.returns-in_err-unpacker-clause-err
+returns-in_err-unpacker-clause-err g c =
+    let text = g.P.EnvelopeReport.written in
+    let source = line g.R.Source.state c.args.intake.now in
+    let state = g.W.Target.state in
+    let old = c.args.silent.now.output in
+    handed_on (IsUnlisted state text source source old old) c.from_residual.result OutOfMemory c.from_residual.ensures.1
+    (starved state c.gifts_join.ensures text source source source old old 0 [] (none_reported state c.gifts_join.ensures text source old) (c.gifts_join.ensures.none source))
+
+pub returns-in_err-octets-clause-err : goal.returns-in_err-octets-clause-err
+returns-in_err-octets-clause-err g c =
     let text = g.P.EnvelopeReport.written in
     let source = line g.R.Source.state c.args.intake.now in
     let mid = line g.R.Source.state c.listing.intake in
@@ -23,9 +40,9 @@ returns-in_err-got-clause-err g c =
     let b = c.take_next.new.sink in
     let now = b.output in
     let empty = c.requires.held in
-    let fault = c.in_err-got.field-0.0 in
-    handed_on (IsUnlisted state text source rest old now) c.from_residual.result fault c.from_residual.ensures.1
-    (failed state c.gifts_join.ensures c.texts_join.ensures text source mid rest old a b c.listing.count fault c.listing.invariant.reported empty c.in_err-got.ensures.next)
+    let fault = c.in_err-octets.field-0.0 in
+    handed_on (IsUnlisted state text source rest old now) c.from_residual-in_err-octets.result fault c.from_residual-in_err-octets.ensures.1
+    (failed state c.gifts_join.ensures c.texts_join.ensures text source mid rest old c.take_next.new.unpacker a b c.listing.count fault c.listing.invariant.reported empty c.in_err-octets.ensures.next)
 
 pub returns-in_err-add_last-in-Envelope-clause-err : goal.returns-in_err-add_last-in-Envelope-clause-err
 returns-in_err-add_last-in-Envelope-clause-err g c =
@@ -39,7 +56,7 @@ returns-in_err-add_last-in-Envelope-clause-err g c =
     let b = c.take_next.new.sink in
     let now = b.output in
     let empty = c.requires.held in
-    let h = come_as (PassesOver state) refuses_never IsSettled (IsStuck state) mid rest a b c.in_ok-got.field-0 c.in-Envelope.got c.in-Envelope.octets c.in-Envelope.is c.in_ok-got.ensures.next in
+    let h = come_as (PassesOver state) refuses_never IsSettled (IsStuck state) mid rest c.take_next.new.unpacker a b c.in_ok-octets.field-0 c.in-Envelope.octets c.in-Envelope.is c.in_ok-octets.ensures.next in
     let r = reported_out state text source mid old a.output now c.listing.count c.listing.invariant.reported h.came.told in
     let full : c.listing.count ≡ max_envelopes = search rules in
     let new = c.add_last.new.output in
@@ -61,7 +78,7 @@ returns-then-count-eq-MAX_ENVELOPES-clause-ok g c =
     let b = c.take_next.new.sink in
     let now = b.output in
     let empty = c.requires.held in
-    let h = come_as (PassesOver state) refuses_never IsSettled (IsStuck state) mid rest a b c.in_ok-got.field-0 c.in-Envelope.got c.in-Envelope.octets c.in-Envelope.is c.in_ok-got.ensures.next in
+    let h = come_as (PassesOver state) refuses_never IsSettled (IsStuck state) mid rest c.take_next.new.unpacker a b c.in_ok-octets.field-0 c.in-Envelope.octets c.in-Envelope.is c.in_ok-octets.ensures.next in
     let r = reported_out state text source mid old a.output now c.listing.count c.listing.invariant.reported h.came.told in
     let full : c.listing.count ≡ max_envelopes = search rules in
     let new = c.add_last.new.output in
@@ -82,7 +99,7 @@ returns-in_err-push_text-in-Envelope-clause-err g c =
     let b = c.take_next.new.sink in
     let now = b.output in
     let empty = c.requires.held in
-    let h = come_as (PassesOver state) refuses_never IsSettled (IsStuck state) mid rest a b c.in_ok-got.field-0 c.in-Envelope.got c.in-Envelope.octets c.in-Envelope.is c.in_ok-got.ensures.next in
+    let h = come_as (PassesOver state) refuses_never IsSettled (IsStuck state) mid rest c.take_next.new.unpacker a b c.in_ok-octets.field-0 c.in-Envelope.octets c.in-Envelope.is c.in_ok-octets.ensures.next in
     let r = reported_out state text source mid old a.output now c.listing.count c.listing.invariant.reported h.came.told in
     handed_on (IsUnlisted state text source rest old now) c.from_residual-in_err-push_text-in-Envelope.result OutOfMemory c.from_residual-in_err-push_text-in-Envelope.ensures.1
     (starved state c.gifts_join.ensures text source mid rest old now c.listing.count h.envelope.octets r h.came.given)
@@ -99,10 +116,10 @@ returns-in_err-add-in-Envelope-clause-err g c =
     let b = c.take_next.new.sink in
     let now = b.output in
     let empty = c.requires.held in
-    let h = come_as (PassesOver state) refuses_never IsSettled (IsStuck state) mid rest a b c.in_ok-got.field-0 c.in-Envelope.got c.in-Envelope.octets c.in-Envelope.is c.in_ok-got.ensures.next in
+    let h = come_as (PassesOver state) refuses_never IsSettled (IsStuck state) mid rest c.take_next.new.unpacker a b c.in_ok-octets.field-0 c.in-Envelope.octets c.in-Envelope.is c.in_ok-octets.ensures.next in
     let r = reported_out state text source mid old a.output now c.listing.count c.listing.invariant.reported h.came.told in
     let words = added c.clear.new.self.items c.push_text.new.text.items (text (c.listing.count + 1) h.envelope) c.as_slice.result.now c.clear.ensures.items
-    (c.in_ok-push_text-in-Envelope.ensures h.envelope h.counts h.parts) c.as_slice.ensures.value in
+    (c.in_ok-push_text-in-Envelope.ensures h.envelope h.counts (c.in-Some.ensures.value h.envelope.octets c.in-Envelope.octets h.done h.envelope.value h.is.admits)) c.as_slice.ensures.value in
     let below : c.listing.count ≡ max_envelopes → ⊥ = search rules in
     let new = c.add.new.output in
     let fault = c.in_err-add-in-Envelope.field-0.0 in
@@ -122,14 +139,15 @@ listing-preserved g c =
     let b = c.take_next.new.sink in
     let now = b.output in
     let empty = c.requires.held in
-    let h = come_as (PassesOver state) refuses_never IsSettled (IsStuck state) mid rest a b c.in_ok-got.field-0 c.in-Envelope.got c.in-Envelope.octets c.in-Envelope.is c.in_ok-got.ensures.next in
+    let h = come_as (PassesOver state) refuses_never IsSettled (IsStuck state) mid rest c.take_next.new.unpacker a b c.in_ok-octets.field-0 c.in-Envelope.octets c.in-Envelope.is c.in_ok-octets.ensures.next in
     let r = reported_out state text source mid old a.output now c.listing.count c.listing.invariant.reported h.came.told in
     let words = added c.clear.new.self.items c.push_text.new.text.items (text (c.listing.count + 1) h.envelope) c.as_slice.result.now c.clear.ensures.items
-    (c.in_ok-push_text-in-Envelope.ensures h.envelope h.counts h.parts) c.as_slice.ensures.value in
+    (c.in_ok-push_text-in-Envelope.ensures h.envelope h.counts (c.in-Some.ensures.value h.envelope.octets c.in-Envelope.octets h.done h.envelope.value h.is.admits)) c.as_slice.ensures.value in
     let below : c.listing.count ≡ max_envelopes → ⊥ = search rules in
     let new = c.add.new.output in
     record {
-      alive = lives_as c.take_next.new.intake.failed c.in_ok-got.field-0 c.in-Envelope.got c.in-Envelope.octets c.in-Envelope.is c.in_ok-got.ensures.lives;
+      alive = lives_as c.take_next.new.intake.failed c.in_ok-octets.field-0 c.in-Envelope.octets c.in-Envelope.is c.in_ok-octets.ensures.lives;
+      same = h.same;
       reported =
           reported_more state c.gifts_join.ensures text source mid rest old now new c.listing.count c.as_slice.result.now h.envelope r h.is h.came.given
           below words c.in_ok-add-in-Envelope.ensures.ok;
@@ -148,7 +166,7 @@ returns-in-End-clause-ok g c =
     let b = c.take_next.new.sink in
     let now = b.output in
     let empty = c.requires.held in
-    let h = end_as (PassesOver state) refuses_never IsSettled (IsStuck state) mid rest a b c.in_ok-got.field-0 c.in-End.is c.in_ok-got.ensures.next in
+    let h = end_as (PassesOver state) refuses_never IsSettled (IsStuck state) mid rest c.take_next.new.unpacker a b c.in_ok-octets.field-0 c.in-End.is c.in_ok-octets.ensures.next in
     let r = reported_out state text source mid old a.output now c.listing.count c.listing.invariant.reported h.2 in
     reported state c.gifts_join.ensures text source mid rest old now now c.listing.count 0 [] [] [] Whole r h.0 (none_left rest.octets h.1) refl refl refl
     empty (put_nothing state now) h.3
@@ -165,7 +183,7 @@ returns-in_err-push_refused-in-Refused-clause-err g c =
     let b = c.take_next.new.sink in
     let now = b.output in
     let empty = c.requires.held in
-    let h = refusal_as (PassesOver state) refuses_never IsSettled (IsStuck state) mid rest a b c.in_ok-got.field-0 c.in-Refused.refusal c.in-Refused.is c.in_ok-got.ensures.next in
+    let h = refusal_as (PassesOver state) refuses_never IsSettled (IsStuck state) mid rest c.take_next.new.unpacker a b c.in_ok-octets.field-0 c.in-Refused.refusal c.in-Refused.is c.in_ok-octets.ensures.next in
     let r = reported_out state text source mid old a.output now c.listing.count c.listing.invariant.reported h.came.told in
     handed_on (IsUnlisted state text source rest old now) c.from_residual-in_err-push_refused-in-Refused.result OutOfMemory c.from_residual-in_err-push_refused-in-Refused.ensures.1
     (starved state c.gifts_join.ensures text source mid rest old now c.listing.count h.octets r h.came.given)
@@ -182,7 +200,7 @@ returns-in_err-add_last-in-Refused-clause-err g c =
     let b = c.take_next.new.sink in
     let now = b.output in
     let empty = c.requires.held in
-    let h = refusal_as (PassesOver state) refuses_never IsSettled (IsStuck state) mid rest a b c.in_ok-got.field-0 c.in-Refused.refusal c.in-Refused.is c.in_ok-got.ensures.next in
+    let h = refusal_as (PassesOver state) refuses_never IsSettled (IsStuck state) mid rest c.take_next.new.unpacker a b c.in_ok-octets.field-0 c.in-Refused.refusal c.in-Refused.is c.in_ok-octets.ensures.next in
     let r = reported_out state text source mid old a.output now c.listing.count c.listing.invariant.reported h.came.told in
     let new = c.add_last-in-Refused.new.output in
     let words : c.as_slice-in-Refused.result.now ≡ refused_line (c.listing.count + 1) c.in-Refused.refusal = search rules in
@@ -203,7 +221,7 @@ returns-in-Refused-clause-ok g c =
     let b = c.take_next.new.sink in
     let now = b.output in
     let empty = c.requires.held in
-    let h = refusal_as (PassesOver state) refuses_never IsSettled (IsStuck state) mid rest a b c.in_ok-got.field-0 c.in-Refused.refusal c.in-Refused.is c.in_ok-got.ensures.next in
+    let h = refusal_as (PassesOver state) refuses_never IsSettled (IsStuck state) mid rest c.take_next.new.unpacker a b c.in_ok-octets.field-0 c.in-Refused.refusal c.in-Refused.is c.in_ok-octets.ensures.next in
     let r = reported_out state text source mid old a.output now c.listing.count c.listing.invariant.reported h.came.told in
     let new = c.add_last-in-Refused.new.output in
     let words : c.as_slice-in-Refused.result.now ≡ refused_line (c.listing.count + 1) c.in-Refused.refusal = search rules in
@@ -211,8 +229,8 @@ returns-in-Refused-clause-ok g c =
     reported state c.gifts_join.ensures text source mid rest old now new c.listing.count 1 h.octets more.0 c.as_slice-in-Refused.result.now (RefusedBy c.in-Refused.refusal) r
     h.came.given more.1 (h.k, more.2) refl words empty c.in_ok-add_last-in-Refused.ensures.ok c.in_ok-add_last-in-Refused.ensures.held
 
-pub returns-in_err-got-clause-leads : goal.returns-in_err-got-clause-leads
-returns-in_err-got-clause-leads g c = c.listing.invariant.leads c.take_next.new.intake.reader c.take_next.ensures.leads
+pub returns-in_err-octets-clause-leads : goal.returns-in_err-octets-clause-leads
+returns-in_err-octets-clause-leads g c = c.listing.invariant.leads c.take_next.new.intake.reader c.take_next.ensures.leads
 
 pub returns-in_err-add_last-in-Envelope-clause-leads : goal.returns-in_err-add_last-in-Envelope-clause-leads
 returns-in_err-add_last-in-Envelope-clause-leads g c = c.listing.invariant.leads c.take_next.new.intake.reader c.take_next.ensures.leads
@@ -237,3 +255,17 @@ returns-in_err-add_last-in-Refused-clause-leads g c = c.listing.invariant.leads 
 
 pub returns-in-Refused-clause-leads : goal.returns-in-Refused-clause-leads
 returns-in-Refused-clause-leads g c = c.listing.invariant.leads c.take_next.new.intake.reader c.take_next.ensures.leads
+
+none_is_none : {A : Type 0} (r : Option A) → r ≡ None → IsSome r → ⊥
+none_is_none (Some x) none some = absurd cc
+none_is_none None none some = absurd cc
+
+pub unreachable-requires : goal.unreachable-requires
+unreachable-requires g c =
+    let mid = line g.R.Source.state c.listing.intake in
+    let rest = line g.R.Source.state c.take_next.new.intake in
+    let state = g.W.Target.state in
+    let a = c.listing.silent in
+    let b = c.take_next.new.sink in
+    let h = come_as (PassesOver state) refuses_never IsSettled (IsStuck state) mid rest c.take_next.new.unpacker a b c.in_ok-octets.field-0 c.in-Envelope.octets c.in-Envelope.is c.in_ok-octets.ensures.next in
+    none_is_none c.unpacked.result c.in_default.is (c.unpacked.ensures.done.1 (h.done.taking, h.done.ended))

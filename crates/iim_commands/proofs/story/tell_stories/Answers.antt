@@ -7,14 +7,34 @@ use Rattle.iim_commands.specs.Format.Lines.{accepted_line, refused_line, too_man
 use Rattle.iim_unpack.specs.Format.Listing.{max_envelopes, Whole, RefusedBy, TooMany}
 use Rattle.iim_commands.specs.Format.Narration.{IsUnnarrated, text_of}
 use Rattle.iim_commands.specs.declared.fault.CommandFault.TheVariants.{OutOfMemory}
-use Rattle.iim_commands.proofs.Narration.{broke_in_line, broke_in_lines, held_back_as, narrated, narrated_more, pushed, refused_within, story_out, text_out, text_refused, text_taken, unended_text, unfed, unfed_for_memory, wrote_by}
+use Rattle.iim_commands.proofs.Narration.{broke_in_line, broke_in_lines, held_back_as, narrated, narrated_more, pushed, refused_within, story_out, text_out, text_refused, text_taken, unended_text, none_narrated, nothing_told, unfed, unfed_for_memory, wrote_by}
 use Rattle.iim_commands.proofs.Reports.{ends_refused, left_of, none_left}
 use Rattle.iim_commands.proofs.Taken.{end_as, lives_as, refusal_as}
 use Rattle.iim_commands.proofs.Told.{added, handed_on}
 use Rattle.iim_commands.proofs.story.tell_stories.Goals as goal
 
-pub returns-in_err-got-clause-err : goal.returns-in_err-got-clause-err
-returns-in_err-got-clause-err g c =
+pub telling-init : goal.telling-init
+telling-init g c = record {
+  alive = c.requires.alive;
+  same = c.in_ok-unpacker.ensures.limits;
+  held = c.requires.held;
+  unbroken = c.requires.unbroken;
+  narrated =
+      none_narrated c.gifts_join.ensures c.texts_join.ensures (line g.R.Source.state c.args.intake.now) (g.W.Target.state c.args.output.now.writer)
+      (g.E.Target.state c.args.errors.now);
+  leads = λ last h. h;
+}
+
+pub returns-in_err-unpacker-clause-err : goal.returns-in_err-unpacker-clause-err
+returns-in_err-unpacker-clause-err g c =
+    let source = line g.R.Source.state c.args.intake.now in
+    let old = g.W.Target.state c.args.output.now.writer in
+    let errors_old = g.E.Target.state c.args.errors.now in
+    handed_on (IsUnnarrated source source old old errors_old errors_old) c.from_residual.result OutOfMemory c.from_residual.ensures.1
+    (nothing_told c.gifts_join.ensures c.texts_join.ensures source old old errors_old refl)
+
+pub returns-in_err-octets-clause-err : goal.returns-in_err-octets-clause-err
+returns-in_err-octets-clause-err g c =
     let source = line g.R.Source.state c.args.intake.now in
     let mid = line g.R.Source.state c.telling.intake in
     let rest = line g.R.Source.state c.take_next.new.intake in
@@ -29,9 +49,9 @@ returns-in_err-got-clause-err g c =
     let texts = c.texts_join.ensures in
     let empty = c.telling.invariant.held in
     let none = c.telling.invariant.unbroken in
-    let fault = c.in_err-got.field-0.0 in
-    handed_on (IsUnnarrated source rest old (state b.writer) errors_old errors_now) c.from_residual.result fault c.from_residual.ensures.1
-    (unfed state joins texts source mid rest old errors_old errors_now a b c.telling.count fault r empty none c.in_err-got.ensures.calm c.in_err-got.ensures.next)
+    let fault = c.in_err-octets.field-0.0 in
+    handed_on (IsUnnarrated source rest old (state b.writer) errors_old errors_now) c.from_residual-in_err-octets.result fault c.from_residual-in_err-octets.ensures.1
+    (unfed state joins texts source mid rest old errors_old errors_now c.take_next.new.unpacker a b c.telling.count fault r empty none c.in_err-octets.ensures.calm c.in_err-octets.ensures.next)
 
 pub returns-in_err-say-in-Envelope-clause-err : goal.returns-in_err-say-in-Envelope-clause-err
 returns-in_err-say-in-Envelope-clause-err g c =
@@ -49,11 +69,11 @@ returns-in_err-say-in-Envelope-clause-err g c =
     let texts = c.texts_join.ensures in
     let empty = c.telling.invariant.held in
     let none = c.telling.invariant.unbroken in
-    let h = text_taken state c.envelopes_are_delivered_as_lines.ensures c.lines_are_joined_by_line_feeds.ensures mid rest a b c.in_ok-got.field-0 c.in-Envelope.got c.in-Envelope.octets
-    c.in-Envelope.is c.in_ok-got.ensures.next in
+    let h = text_taken state c.envelopes_are_delivered_as_lines.ensures c.lines_are_joined_by_line_feeds.ensures mid rest c.take_next.new.unpacker a b c.in_ok-octets.field-0 c.in-Envelope.octets
+    c.in-Envelope.is c.in_ok-octets.ensures.next in
     let e = h.come.envelope in
     let d = c.let_out.new.output in
-    let out = text_out state a b d (text_of e) empty none c.in_ok-got.ensures.calm h.text c.in_ok-let_out-in-Envelope.ensures.ok c.in_ok-let_out-in-Envelope.ensures.held c.in_ok-let_out-in-Envelope.ensures.calm in
+    let out = text_out state a b d (text_of e) empty none c.in_ok-octets.ensures.calm h.text c.in_ok-let_out-in-Envelope.ensures.ok c.in_ok-let_out-in-Envelope.ensures.held c.in_ok-let_out-in-Envelope.ensures.calm in
     let full : c.telling.count ≡ max_envelopes = search rules in
     let errors_new = g.E.Target.state c.say.new.output in
     let fault = c.in_err-say-in-Envelope.field-0.0 in
@@ -78,11 +98,11 @@ returns-then-count-eq-MAX_ENVELOPES-clause-ok g c =
     let texts = c.texts_join.ensures in
     let empty = c.telling.invariant.held in
     let none = c.telling.invariant.unbroken in
-    let h = text_taken state c.envelopes_are_delivered_as_lines.ensures c.lines_are_joined_by_line_feeds.ensures mid rest a b c.in_ok-got.field-0 c.in-Envelope.got c.in-Envelope.octets
-    c.in-Envelope.is c.in_ok-got.ensures.next in
+    let h = text_taken state c.envelopes_are_delivered_as_lines.ensures c.lines_are_joined_by_line_feeds.ensures mid rest c.take_next.new.unpacker a b c.in_ok-octets.field-0 c.in-Envelope.octets
+    c.in-Envelope.is c.in_ok-octets.ensures.next in
     let e = h.come.envelope in
     let d = c.let_out.new.output in
-    let out = text_out state a b d (text_of e) empty none c.in_ok-got.ensures.calm h.text c.in_ok-let_out-in-Envelope.ensures.ok c.in_ok-let_out-in-Envelope.ensures.held c.in_ok-let_out-in-Envelope.ensures.calm in
+    let out = text_out state a b d (text_of e) empty none c.in_ok-octets.ensures.calm h.text c.in_ok-let_out-in-Envelope.ensures.ok c.in_ok-let_out-in-Envelope.ensures.held c.in_ok-let_out-in-Envelope.ensures.calm in
     let full : c.telling.count ≡ max_envelopes = search rules in
     let errors_new = g.E.Target.state c.say.new.output in
     let same : c.as_bytes.result.now ≡ too_many_line = search rules in
@@ -106,11 +126,11 @@ returns-then-is_err-clause-err g c =
     let texts = c.texts_join.ensures in
     let empty = c.telling.invariant.held in
     let none = c.telling.invariant.unbroken in
-    let h = text_taken state c.envelopes_are_delivered_as_lines.ensures c.lines_are_joined_by_line_feeds.ensures mid rest a b c.in_ok-got.field-0 c.in-Envelope.got c.in-Envelope.octets
-    c.in-Envelope.is c.in_ok-got.ensures.next in
+    let h = text_taken state c.envelopes_are_delivered_as_lines.ensures c.lines_are_joined_by_line_feeds.ensures mid rest c.take_next.new.unpacker a b c.in_ok-octets.field-0 c.in-Envelope.octets
+    c.in-Envelope.is c.in_ok-octets.ensures.next in
     let e = h.come.envelope in
     let d = c.let_out-then-is_err.new.output in
-    let out = text_out state a b d (text_of e) empty none c.in_ok-got.ensures.calm h.text c.in_ok-let_out-in-Envelope-2.ensures.ok c.in_ok-let_out-in-Envelope-2.ensures.held c.in_ok-let_out-in-Envelope-2.ensures.calm in
+    let out = text_out state a b d (text_of e) empty none c.in_ok-octets.ensures.calm h.text c.in_ok-let_out-in-Envelope-2.ensures.ok c.in_ok-let_out-in-Envelope-2.ensures.held c.in_ok-let_out-in-Envelope-2.ensures.calm in
     unfed_for_memory joins texts source mid rest old (state a.writer) (state d.writer) errors_old errors_now c.telling.count e.octets (length e.octets) (text_of e) r h.come.came.given h.whole out
 
 pub returns-in_err-end_story-in-Envelope-clause-err : goal.returns-in_err-end_story-in-Envelope-clause-err
@@ -129,13 +149,13 @@ returns-in_err-end_story-in-Envelope-clause-err g c =
     let texts = c.texts_join.ensures in
     let empty = c.telling.invariant.held in
     let none = c.telling.invariant.unbroken in
-    let h = text_taken state c.envelopes_are_delivered_as_lines.ensures c.lines_are_joined_by_line_feeds.ensures mid rest a b c.in_ok-got.field-0 c.in-Envelope.got c.in-Envelope.octets
-    c.in-Envelope.is c.in_ok-got.ensures.next in
+    let h = text_taken state c.envelopes_are_delivered_as_lines.ensures c.lines_are_joined_by_line_feeds.ensures mid rest c.take_next.new.unpacker a b c.in_ok-octets.field-0 c.in-Envelope.octets
+    c.in-Envelope.is c.in_ok-octets.ensures.next in
     let e = h.come.envelope in
     let d = c.end_story.new.output in
     let fault = c.in_err-end_story-in-Envelope.field-0.0 in
     handed_on (IsUnnarrated source rest old (state d.writer) errors_old errors_now) c.from_residual-in_err-end_story-in-Envelope.result fault c.from_residual-in_err-end_story-in-Envelope.ensures.1
-    (unended_text state joins source mid rest old errors_old errors_now a b d c.telling.count c.in-Envelope.got c.in-Envelope.octets fault r empty none c.in_ok-got.ensures.calm h c.in_err-end_story-in-Envelope.ensures.err)
+    (unended_text state joins source mid rest old errors_old errors_now c.take_next.new.unpacker a b d c.telling.count c.in-Envelope.octets fault r empty none c.in_ok-octets.ensures.calm h c.in_err-end_story-in-Envelope.ensures.err)
 
 pub returns-in_err-say-in-Envelope-2-clause-err : goal.returns-in_err-say-in-Envelope-2-clause-err
 returns-in_err-say-in-Envelope-2-clause-err g c =
@@ -153,14 +173,14 @@ returns-in_err-say-in-Envelope-2-clause-err g c =
     let texts = c.texts_join.ensures in
     let empty = c.telling.invariant.held in
     let none = c.telling.invariant.unbroken in
-    let h = text_taken state c.envelopes_are_delivered_as_lines.ensures c.lines_are_joined_by_line_feeds.ensures mid rest a b c.in_ok-got.field-0 c.in-Envelope.got c.in-Envelope.octets
-    c.in-Envelope.is c.in_ok-got.ensures.next in
+    let h = text_taken state c.envelopes_are_delivered_as_lines.ensures c.lines_are_joined_by_line_feeds.ensures mid rest c.take_next.new.unpacker a b c.in_ok-octets.field-0 c.in-Envelope.octets
+    c.in-Envelope.is c.in_ok-octets.ensures.next in
     let e = h.come.envelope in
     let words = added c.clear.new.self.items c.push_accepted.new.text.items (accepted_line (c.telling.count + 1) c.in-Envelope.octets) c.as_slice.result.now c.clear.ensures.items
     (pushed c.push_accepted.result _ (sym c.is_err.ensures.value ∙ c.if-is_err.false) c.push_accepted.ensures) c.as_slice.ensures.value ∙ ap (accepted_line (c.telling.count + 1)) h.come.counts in
     let below : c.telling.count ≡ max_envelopes → ⊥ = search rules in
     let d = c.end_story.new.output in
-    let out = story_out state a b d (text_of e) empty none c.in_ok-got.ensures.calm h.text c.in_ok-end_story-in-Envelope.ensures.ok c.in_ok-end_story-in-Envelope.ensures.held c.in_ok-end_story-in-Envelope.ensures.calm in
+    let out = story_out state a b d (text_of e) empty none c.in_ok-octets.ensures.calm h.text c.in_ok-end_story-in-Envelope.ensures.ok c.in_ok-end_story-in-Envelope.ensures.held c.in_ok-end_story-in-Envelope.ensures.calm in
     let errors_new = g.E.Target.state c.say-in-Envelope.new.output in
     let fault = c.in_err-say-in-Envelope-2.field-0.0 in
     handed_on (IsUnnarrated source rest old (state d.writer) errors_old errors_new) c.from_residual-in_err-say-in-Envelope-2.result fault c.from_residual-in_err-say-in-Envelope-2.ensures.1
@@ -183,8 +203,8 @@ returns-in-End-clause-ok g c =
     let texts = c.texts_join.ensures in
     let empty = c.telling.invariant.held in
     let none = c.telling.invariant.unbroken in
-    let h = end_as (PutsLines state) stops_of HoldsNothing (StaysStuck state) mid rest a b c.in_ok-got.field-0 c.in-End.is c.in_ok-got.ensures.next in
-    let still : Wrote (state a.writer) (state b.writer) [] = wrote_by state a b [] empty h.3 none c.in_ok-got.ensures.calm h.2 in
+    let h = end_as (PutsLines state) stops_of HoldsNothing (StaysStuck state) mid rest c.take_next.new.unpacker a b c.in_ok-octets.field-0 c.in-End.is c.in_ok-octets.ensures.next in
+    let still : Wrote (state a.writer) (state b.writer) [] = wrote_by state a b [] empty h.3 none c.in_ok-octets.ensures.calm h.2 in
     narrated joins texts source mid rest old (state a.writer) (state b.writer) errors_old errors_now errors_now c.telling.count 0 [] [] [] [] Whole r h.0 (none_left rest.octets h.1) refl refl refl
     still refl (texts.none errors_now)
 
@@ -204,9 +224,9 @@ returns-in_err-push_refused-in-Refused-clause-err g c =
     let texts = c.texts_join.ensures in
     let empty = c.telling.invariant.held in
     let none = c.telling.invariant.unbroken in
-    let f = refusal_as (PutsLines state) stops_of HoldsNothing (StaysStuck state) mid rest a b c.in_ok-got.field-0 c.in-Refused.refusal c.in-Refused.is c.in_ok-got.ensures.next in
+    let f = refusal_as (PutsLines state) stops_of HoldsNothing (StaysStuck state) mid rest c.take_next.new.unpacker a b c.in_ok-octets.field-0 c.in-Refused.refusal c.in-Refused.is c.in_ok-octets.ensures.next in
     let d = c.let_out-in-Refused.new.output in
-    let out = text_out state a b d (map octet_for f.more) empty none c.in_ok-got.ensures.calm f.came.told c.in_ok-let_out-in-Refused.ensures.ok c.in_ok-let_out-in-Refused.ensures.held c.in_ok-let_out-in-Refused.ensures.calm in
+    let out = text_out state a b d (map octet_for f.more) empty none c.in_ok-octets.ensures.calm f.came.told c.in_ok-let_out-in-Refused.ensures.ok c.in_ok-let_out-in-Refused.ensures.held c.in_ok-let_out-in-Refused.ensures.calm in
     let words = map octet_for f.more in
     handed_on (IsUnnarrated source rest old (state d.writer) errors_old errors_now) c.from_residual-in_err-push_refused-in-Refused.result OutOfMemory c.from_residual-in_err-push_refused-in-Refused.ensures.1
     (unfed_for_memory joins texts source mid rest old (state a.writer) (state d.writer) errors_old errors_now c.telling.count f.octets f.k words r f.came.given (f.more, f.delivered, refl) out)
@@ -227,9 +247,9 @@ returns-in_err-say-in-Refused-clause-err g c =
     let texts = c.texts_join.ensures in
     let empty = c.telling.invariant.held in
     let none = c.telling.invariant.unbroken in
-    let f = refusal_as (PutsLines state) stops_of HoldsNothing (StaysStuck state) mid rest a b c.in_ok-got.field-0 c.in-Refused.refusal c.in-Refused.is c.in_ok-got.ensures.next in
+    let f = refusal_as (PutsLines state) stops_of HoldsNothing (StaysStuck state) mid rest c.take_next.new.unpacker a b c.in_ok-octets.field-0 c.in-Refused.refusal c.in-Refused.is c.in_ok-octets.ensures.next in
     let d = c.let_out-in-Refused.new.output in
-    let out = text_out state a b d (map octet_for f.more) empty none c.in_ok-got.ensures.calm f.came.told c.in_ok-let_out-in-Refused.ensures.ok c.in_ok-let_out-in-Refused.ensures.held c.in_ok-let_out-in-Refused.ensures.calm in
+    let out = text_out state a b d (map octet_for f.more) empty none c.in_ok-octets.ensures.calm f.came.told c.in_ok-let_out-in-Refused.ensures.ok c.in_ok-let_out-in-Refused.ensures.held c.in_ok-let_out-in-Refused.ensures.calm in
     let words = map octet_for f.more in
     let errors_new = g.E.Target.state c.say-in-Refused.new.output in
     let same : c.as_slice-in-Refused.result.now ≡ refused_line (c.telling.count + 1) c.in-Refused.refusal = search rules in
@@ -254,9 +274,9 @@ returns-in-Refused-clause-ok g c =
     let texts = c.texts_join.ensures in
     let empty = c.telling.invariant.held in
     let none = c.telling.invariant.unbroken in
-    let f = refusal_as (PutsLines state) stops_of HoldsNothing (StaysStuck state) mid rest a b c.in_ok-got.field-0 c.in-Refused.refusal c.in-Refused.is c.in_ok-got.ensures.next in
+    let f = refusal_as (PutsLines state) stops_of HoldsNothing (StaysStuck state) mid rest c.take_next.new.unpacker a b c.in_ok-octets.field-0 c.in-Refused.refusal c.in-Refused.is c.in_ok-octets.ensures.next in
     let d = c.let_out-in-Refused.new.output in
-    let out = text_out state a b d (map octet_for f.more) empty none c.in_ok-got.ensures.calm f.came.told c.in_ok-let_out-in-Refused.ensures.ok c.in_ok-let_out-in-Refused.ensures.held c.in_ok-let_out-in-Refused.ensures.calm in
+    let out = text_out state a b d (map octet_for f.more) empty none c.in_ok-octets.ensures.calm f.came.told c.in_ok-let_out-in-Refused.ensures.ok c.in_ok-let_out-in-Refused.ensures.held c.in_ok-let_out-in-Refused.ensures.calm in
     let words = map octet_for f.more in
     let errors_new = g.E.Target.state c.say-in-Refused.new.output in
     let same : c.as_slice-in-Refused.result.now ≡ refused_line (c.telling.count + 1) c.in-Refused.refusal = search rules in
@@ -280,19 +300,20 @@ telling-preserved g c =
     let texts = c.texts_join.ensures in
     let empty = c.telling.invariant.held in
     let none = c.telling.invariant.unbroken in
-    let h = text_taken state c.envelopes_are_delivered_as_lines.ensures c.lines_are_joined_by_line_feeds.ensures mid rest a b c.in_ok-got.field-0 c.in-Envelope.got c.in-Envelope.octets
-    c.in-Envelope.is c.in_ok-got.ensures.next in
+    let h = text_taken state c.envelopes_are_delivered_as_lines.ensures c.lines_are_joined_by_line_feeds.ensures mid rest c.take_next.new.unpacker a b c.in_ok-octets.field-0 c.in-Envelope.octets
+    c.in-Envelope.is c.in_ok-octets.ensures.next in
     let e = h.come.envelope in
     let words = added c.clear.new.self.items c.push_accepted.new.text.items (accepted_line (c.telling.count + 1) c.in-Envelope.octets) c.as_slice.result.now c.clear.ensures.items
     (pushed c.push_accepted.result _ (sym c.is_err.ensures.value ∙ c.if-is_err.false) c.push_accepted.ensures) c.as_slice.ensures.value ∙ ap (accepted_line (c.telling.count + 1)) h.come.counts in
     let below : c.telling.count ≡ max_envelopes → ⊥ = search rules in
     let d = c.end_story.new.output in
-    let out = story_out state a b d (text_of e) empty none c.in_ok-got.ensures.calm h.text c.in_ok-end_story-in-Envelope.ensures.ok c.in_ok-end_story-in-Envelope.ensures.held c.in_ok-end_story-in-Envelope.ensures.calm in
+    let out = story_out state a b d (text_of e) empty none c.in_ok-octets.ensures.calm h.text c.in_ok-end_story-in-Envelope.ensures.ok c.in_ok-end_story-in-Envelope.ensures.held c.in_ok-end_story-in-Envelope.ensures.calm in
     let errors_new = g.E.Target.state c.say-in-Envelope.new.output in
     record {
-      alive = lives_as c.take_next.new.intake.failed c.in_ok-got.field-0 c.in-Envelope.got c.in-Envelope.octets c.in-Envelope.is c.in_ok-got.ensures.lives;
+      alive = lives_as c.take_next.new.intake.failed c.in_ok-octets.field-0 c.in-Envelope.octets c.in-Envelope.is c.in_ok-octets.ensures.lives;
+      same = h.come.same;
       held = c.in_ok-end_story-in-Envelope.ensures.held;
-      unbroken = c.in_ok-end_story-in-Envelope.ensures.calm ∙ c.in_ok-got.ensures.calm ∙ none;
+      unbroken = c.in_ok-end_story-in-Envelope.ensures.calm ∙ c.in_ok-octets.ensures.calm ∙ none;
       narrated =
           narrated_more joins texts source mid rest old (state a.writer) (state d.writer) errors_old errors_now errors_new c.telling.count c.as_slice.result.now e r
           h.come.is h.come.came.given below out words c.in_ok-say-in-Envelope-2.ensures.ok;
@@ -302,8 +323,8 @@ telling-preserved g c =
 pub returns-in_err-say-in-Envelope-2-clause-leads : goal.returns-in_err-say-in-Envelope-2-clause-leads
 returns-in_err-say-in-Envelope-2-clause-leads g c = c.telling.invariant.leads c.take_next.new.intake.reader c.take_next.ensures.leads
 
-pub returns-in_err-got-clause-leads : goal.returns-in_err-got-clause-leads
-returns-in_err-got-clause-leads g c = c.telling.invariant.leads c.take_next.new.intake.reader c.take_next.ensures.leads
+pub returns-in_err-octets-clause-leads : goal.returns-in_err-octets-clause-leads
+returns-in_err-octets-clause-leads g c = c.telling.invariant.leads c.take_next.new.intake.reader c.take_next.ensures.leads
 
 pub returns-in_err-say-in-Envelope-clause-leads : goal.returns-in_err-say-in-Envelope-clause-leads
 returns-in_err-say-in-Envelope-clause-leads g c = c.telling.invariant.leads c.take_next.new.intake.reader c.take_next.ensures.leads
@@ -344,13 +365,13 @@ returns-in_err-let_out-in-Envelope-clause-err g c =
     let joins = c.gifts_join.ensures in
     let empty = c.telling.invariant.held in
     let none = c.telling.invariant.unbroken in
-    let h = text_taken state c.envelopes_are_delivered_as_lines.ensures c.lines_are_joined_by_line_feeds.ensures mid rest a b c.in_ok-got.field-0 c.in-Envelope.got c.in-Envelope.octets
-    c.in-Envelope.is c.in_ok-got.ensures.next in
+    let h = text_taken state c.envelopes_are_delivered_as_lines.ensures c.lines_are_joined_by_line_feeds.ensures mid rest c.take_next.new.unpacker a b c.in_ok-octets.field-0 c.in-Envelope.octets
+    c.in-Envelope.is c.in_ok-octets.ensures.next in
     let e = h.come.envelope in
     let d = c.let_out.new.output in
     let fault = c.in_err-let_out-in-Envelope.field-0.0 in
     handed_on (IsUnnarrated source rest old (state d.writer) errors_old errors_now) c.from_residual-in_err-let_out-in-Envelope.result fault c.from_residual-in_err-let_out-in-Envelope.ensures.1
-    (held_back_as state joins source mid rest old errors_old errors_now a b d c.telling.count e.octets (length e.octets) (text_of e) fault r h.come.came.given (omega arith) h.whole empty none c.in_ok-got.ensures.calm h.text c.in_err-let_out-in-Envelope.ensures.err)
+    (held_back_as state joins source mid rest old errors_old errors_now a b d c.telling.count e.octets (length e.octets) (text_of e) fault r h.come.came.given (omega arith) h.whole empty none c.in_ok-octets.ensures.calm h.text c.in_err-let_out-in-Envelope.ensures.err)
 
 pub returns-in_err-let_out-in-Envelope-2-clause-err : goal.returns-in_err-let_out-in-Envelope-2-clause-err
 returns-in_err-let_out-in-Envelope-2-clause-err g c =
@@ -367,13 +388,13 @@ returns-in_err-let_out-in-Envelope-2-clause-err g c =
     let joins = c.gifts_join.ensures in
     let empty = c.telling.invariant.held in
     let none = c.telling.invariant.unbroken in
-    let h = text_taken state c.envelopes_are_delivered_as_lines.ensures c.lines_are_joined_by_line_feeds.ensures mid rest a b c.in_ok-got.field-0 c.in-Envelope.got c.in-Envelope.octets
-    c.in-Envelope.is c.in_ok-got.ensures.next in
+    let h = text_taken state c.envelopes_are_delivered_as_lines.ensures c.lines_are_joined_by_line_feeds.ensures mid rest c.take_next.new.unpacker a b c.in_ok-octets.field-0 c.in-Envelope.octets
+    c.in-Envelope.is c.in_ok-octets.ensures.next in
     let e = h.come.envelope in
     let d = c.let_out-then-is_err.new.output in
     let fault = c.in_err-let_out-in-Envelope-2.field-0.0 in
     handed_on (IsUnnarrated source rest old (state d.writer) errors_old errors_now) c.from_residual-in_err-let_out-in-Envelope-2.result fault c.from_residual-in_err-let_out-in-Envelope-2.ensures.1
-    (held_back_as state joins source mid rest old errors_old errors_now a b d c.telling.count e.octets (length e.octets) (text_of e) fault r h.come.came.given (omega arith) h.whole empty none c.in_ok-got.ensures.calm h.text c.in_err-let_out-in-Envelope-2.ensures.err)
+    (held_back_as state joins source mid rest old errors_old errors_now a b d c.telling.count e.octets (length e.octets) (text_of e) fault r h.come.came.given (omega arith) h.whole empty none c.in_ok-octets.ensures.calm h.text c.in_err-let_out-in-Envelope-2.ensures.err)
 
 pub returns-in_err-let_out-in-Refused-clause-err : goal.returns-in_err-let_out-in-Refused-clause-err
 returns-in_err-let_out-in-Refused-clause-err g c =
@@ -390,11 +411,11 @@ returns-in_err-let_out-in-Refused-clause-err g c =
     let joins = c.gifts_join.ensures in
     let empty = c.telling.invariant.held in
     let none = c.telling.invariant.unbroken in
-    let f = refusal_as (PutsLines state) stops_of HoldsNothing (StaysStuck state) mid rest a b c.in_ok-got.field-0 c.in-Refused.refusal c.in-Refused.is c.in_ok-got.ensures.next in
+    let f = refusal_as (PutsLines state) stops_of HoldsNothing (StaysStuck state) mid rest c.take_next.new.unpacker a b c.in_ok-octets.field-0 c.in-Refused.refusal c.in-Refused.is c.in_ok-octets.ensures.next in
     let d = c.let_out-in-Refused.new.output in
     let fault = c.in_err-let_out-in-Refused.field-0.0 in
     handed_on (IsUnnarrated source rest old (state d.writer) errors_old errors_now) c.from_residual-in_err-let_out-in-Refused.result fault c.from_residual-in_err-let_out-in-Refused.ensures.1
-    (held_back_as state joins source mid rest old errors_old errors_now a b d c.telling.count f.octets f.k (map octet_for f.more) fault r f.came.given (refused_within f.octets f.k c.in-Refused.refusal f.refused) (f.more, f.delivered, refl) empty none c.in_ok-got.ensures.calm f.came.told c.in_err-let_out-in-Refused.ensures.err)
+    (held_back_as state joins source mid rest old errors_old errors_now a b d c.telling.count f.octets f.k (map octet_for f.more) fault r f.came.given (refused_within f.octets f.k c.in-Refused.refusal f.refused) (f.more, f.delivered, refl) empty none c.in_ok-octets.ensures.calm f.came.told c.in_err-let_out-in-Refused.ensures.err)
 
 pub returns-in_err-let_out-in-Envelope-clause-leads : goal.returns-in_err-let_out-in-Envelope-clause-leads
 returns-in_err-let_out-in-Envelope-clause-leads g c = c.telling.invariant.leads c.take_next.new.intake.reader c.take_next.ensures.leads

@@ -1,5 +1,7 @@
 use Rattle.std.proofs.Common.{◌≡◌, ◌-◌, None}
 use Rattle.iim_unpack.specs.Format.Intakes.{line}
+use Rattle.iim_unpack.specs.Format.Unpacking.{limits_in}
+use Rattle.iim_commands.specs.Format.Listings.{limits}
 use Rattle.iim_commands.specs.Format.Holding.{HoldsNothing, device_of, stops_of}
 use Rattle.iim_commands.proofs.Narration.{AreNarrated}
 use Rattle.iim_commands.proofs.story.tell_stories.Given as goal
@@ -7,6 +9,7 @@ use Rattle.iim_commands.proofs.story.tell_stories.Given as goal
 abbrev pub invariant-telling : goal.invariant-telling
 invariant-telling g l = record {
   alive : l.intake.failed ≡ None;
+  same : limits_in l.unpacker ≡ limits;
   held : HoldsNothing l.output;
   unbroken : stops_of l.output ≡ 0;
   narrated : AreNarrated (line g.R.Source.state l.fn.intake) (line g.R.Source.state l.intake) (device_of g.W.Target.state l.fn.output) (device_of g.W.Target.state l.output) (g.E.Target.state l.fn.errors) (g.E.Target.state l.errors) l.count;

@@ -1,6 +1,6 @@
 use Rattle.iim_fields.proofs.Mandatory.{first_of_one}
 use Rattle.iim_fields.proofs.RowsMet.{number_fits}
-use Rattle.iim_fields.proofs.envelope.Envelope.number.Goals as goal
+use Rattle.iim_fields.proofs.envelope_ref.EnvelopeRef.number.Goals as goal
 
 pub mandatory-requires : goal.mandatory-requires
 mandatory-requires c = λ ds e. (first_of_one ds e).1.1.1.1.0

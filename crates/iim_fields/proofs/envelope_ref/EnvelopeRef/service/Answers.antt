@@ -1,6 +1,6 @@
 use Rattle.iim_fields.proofs.Mandatory.{first_of_one}
 use Rattle.iim_fields.proofs.RowsMet.{service_fits}
-use Rattle.iim_fields.proofs.envelope.Envelope.service.Goals as goal
+use Rattle.iim_fields.proofs.envelope_ref.EnvelopeRef.service.Goals as goal
 
 pub mandatory-requires : goal.mandatory-requires
 mandatory-requires c = λ ds e. (first_of_one ds e).1.1.1.0

@@ -1,6 +1,6 @@
 use Rattle.std.proofs.Common.{rules, sym}
 use Rattle.iim_fields.proofs.RowsMet.{data_meet}
-use Rattle.iim_fields.proofs.envelope.Envelope.first.Goals as goal
+use Rattle.iim_fields.proofs.envelope_ref.EnvelopeRef.first.Goals as goal
 
 pub returns-then-field_set-set-clause-data : goal.returns-then-field_set-set-clause-data
 returns-then-field_set-set-clause-data c = search rules

@@ -2,7 +2,7 @@ use Rattle.std.proofs.Common.{◌≡◌, ℕ, [], ◌∷◌, ap, ◌∙◌, Some
 use Rattle.std.specs.Option.{option_map}
 use Rattle.iim_fields.specs.Format.Views.{first_data}
 use Rattle.iim_fields.proofs.RowsMet.{priority_is_one, only_octet}
-use Rattle.iim_fields.proofs.envelope.Envelope.priority.Goals as goal
+use Rattle.iim_fields.proofs.envelope_ref.EnvelopeRef.priority.Goals as goal
 
 pub returns : goal.returns
 returns c =

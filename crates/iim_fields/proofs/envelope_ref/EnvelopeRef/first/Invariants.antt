@@ -1,7 +1,7 @@
 use Rattle.std.proofs.Common.{◌≡◌}
 use Rattle.iim_fields.specs.Format.Views.{first_data}
 use Rattle.iim_fields.specs.Format.Walks.{rest_of}
-use Rattle.iim_fields.proofs.envelope.Envelope.first.Given as goal
+use Rattle.iim_fields.proofs.envelope_ref.EnvelopeRef.first.Given as goal
 
 abbrev pub invariant-loop-field_rec : goal.invariant-loop-field_rec
 invariant-loop-field_rec l = first_data l.rec l.set (rest_of l.fields) ≡ first_data l.rec l.set l.self

@@ -1,0 +1,162 @@
+//! Envelopes where they lie.
+
+use crate::id::EnvelopeId;
+use crate::store::Store;
+use crate::walk::FieldIter;
+use iim_tables::instant_of;
+use iim_tables::records::{APPLICATION, ENVELOPE};
+use jiff::Timestamp;
+use std::marker::Model;
+
+/// The datasets of a whole record 1 and a whole record 2, each good, where they lie: in an [`Envelope`](crate::Envelope), or in a
+/// reader with which an envelope has ended. It is seen as the list of them, in order. What else an `Envelope` tells, `first` and
+/// `fields` tell of it.
+#[derive(Drop)]
+pub struct EnvelopeRef<'a> {
+    pub(crate) store: &'a Store,
+}
+
+impl<'a> Model for EnvelopeRef<'a> {
+    ghost use Rattle.std.specs.Prelude.{List};
+    ghost use Rattle.iim_dataset.specs.Format.Datasets.{Dataset};
+    ghost use Rattle.iim_fields.specs.Building.{IsEnvelopeStore};
+    ghost use Rattle.iim_fields.specs.Stores.{fields_of};
+
+    ghost Value = { List Dataset };
+
+    ghost view = { λ e. fields_of e.store.now };
+
+    ghost invariant = { λ e. IsEnvelopeStore e.store.now };
+}
+
+impl<'a> EnvelopeRef<'a> {
+    ghost use Rattle.std.specs.Prelude.{◌≡◌, ◌≤◌, [], ◌∷◌, length, Some, IsTrue, IfSome};
+    ghost use Rattle.std.specs.Option.{option_map};
+    ghost use Rattle.iim_tables.specs.Format.Dates.{is_date};
+    ghost use Rattle.iim_fields.specs.Format.Walks.{rest_of};
+    ghost use Rattle.iim_fields.specs.Format.Builders.{IsEnvelope, AreFew};
+    ghost use Rattle.iim_fields.specs.Format.Views.{first_data, instant_sent, instant_of_pair, instant_of_release, instant_of_expiration, IsInEach};
+    ghost use Rattle.iim_tables.specs.Format.Rows.{Meets};
+
+    /// All datasets, in order: record, number and data of each.
+    pub fn fields(&self) -> FieldIter<'a>
+        ensures fields { rest_of result ≡ self.now }
+        ensures envelope { IsEnvelope self.now }
+        ensures few { AreFew self.now }
+    {
+        FieldIter {
+            from: 0,
+            entries: &self.store.entries,
+            octets: self.store.octets.as_slice(),
+        }
+    }
+
+    /// The data of the first dataset with these numbers, of any record and number. They are as its row says.
+    pub fn first(&self, rec: u8, set: u8) -> Option<&'a [u8]>
+        ensures data { option_map (λ x. x.now) result ≡ first_data rec set self.now }
+        ensures meets { IfSome result (λ x. Meets rec set x.now) }
+    {
+        let mut fields = self.fields();
+        while let Some((field_rec, field_set, octets)) = fields.next() {
+            if field_rec == rec && field_set == set {
+                return Some(octets);
+            }
+        }
+        None
+    }
+
+    /// The data of the first dataset with these numbers, one that each envelope has.
+    pub(crate) fn mandatory(&self, rec: u8, set: u8) -> &'a [u8]
+        requires { IsInEach rec set }
+        ensures data { first_data rec set self.now ≡ Some result.now }
+        ensures meets { Meets rec set result.now }
+    {
+        // Where a field is read, it is known that the type's invariant holds.
+        let _ = &self.store;
+        self.first(rec, set).unwrap()
+    }
+
+    /// 1:30 Service Identifier, of the Envelope Record.
+    pub fn service(&self) -> &'a [u8]
+        ensures data { first_data 1 30 self.now ≡ Some result.now }
+        ensures fits { length result.now ≤ 10 }
+    {
+        self.mandatory(ENVELOPE, 30)
+    }
+
+    /// 1:40 Envelope Number: eight digits.
+    pub fn number(&self) -> &'a [u8]
+        ensures data { first_data 1 40 self.now ≡ Some result.now }
+        ensures fits { length result.now ≡ 8 }
+    {
+        self.mandatory(ENVELOPE, 40)
+    }
+
+    /// 1:70 Date Sent, as eight digits, CCYYMMDD.
+    pub fn date_sent_text(&self) -> &'a [u8]
+        ensures data { first_data 1 70 self.now ≡ Some result.now }
+        ensures fits { length result.now ≡ 8 }
+        ensures date { IsTrue (is_date result.now) }
+    {
+        self.mandatory(ENVELOPE, 70)
+    }
+
+    /// The instant of 1:70 Date Sent and 1:80 Time Sent: local time less its offset. None where no time was sent, or where
+    /// `jiff` has no such instant: its last is 9999-12-30T22:00:00.999999999Z.
+    pub fn sent(&self) -> Option<Timestamp>
+        ensures { option_map (λ t. t.nanosecond) result ≡ instant_sent self.now }
+    {
+        self.instant(ENVELOPE, 70, 80, None)
+    }
+
+    /// What the envelope is known by: 1:30 Service Identifier, 1:40 Envelope Number and 1:70 Date Sent.
+    pub fn id(&self) -> EnvelopeId
+        ensures service { first_data 1 30 self.now ≡ Some result.service }
+        ensures number { first_data 1 40 self.now ≡ Some result.number }
+        ensures date_sent { first_data 1 70 self.now ≡ Some result.date_sent }
+    {
+        EnvelopeId::new(self.service(), self.number(), self.date_sent_text())
+    }
+
+    /// The digit of 1:60 Envelope Priority, where it was sent: `1` is most urgent, `5` normal, `8` least urgent.
+    pub fn priority(&self) -> Option<u8>
+        ensures { option_map (λ digit. digit ∷ []) result ≡ first_data 1 60 self.now }
+    {
+        self.first(ENVELOPE, 60)?.first().copied()
+    }
+
+    /// The instant of this date and time of the record. Where no time was sent, `absent` stands for it. None where there is no date or no
+    /// time, or where they name no instant.
+    fn instant(
+        &self,
+        rec: u8,
+        date_set: u8,
+        time_set: u8,
+        absent: Option<&[u8]>,
+    ) -> Option<Timestamp>
+        ensures { option_map (λ t. t.nanosecond) result ≡ instant_of_pair rec date_set time_set (option_map (λ x. x.now) absent.entry) self.now }
+    {
+        let date = self.first(rec, date_set)?;
+        let time = self.first(rec, time_set).or(absent)?;
+        instant_of(date, time)
+    }
+
+    /// The instant from which on the copy may be used: 2:30 Release Date and 2:35 Release Time, local time less its offset, or the
+    /// beginning of that day in universal time where no time was sent. None where no date was sent, or where `jiff` has no such instant.
+    pub fn release(&self) -> Option<Timestamp>
+        ensures { option_map (λ t. t.nanosecond) result ≡ instant_of_release self.now }
+    {
+        let first: &[u8] = b"000000+0000";
+        self.instant(APPLICATION, 30, 35, Some(first))
+    }
+
+    /// The last instant at which the copy may be used: 2:37 Expiration Date and 2:38 Expiration Time, local time less its offset, or
+    /// the last second of that day in universal time where no time was sent. None where no date was sent, or where `jiff` has no such
+    /// instant.
+    pub fn expires(&self) -> Option<Timestamp>
+        ensures { option_map (λ t. t.nanosecond) result ≡ instant_of_expiration self.now }
+    {
+        let last: &[u8] = b"235959+0000";
+        self.instant(APPLICATION, 37, 38, Some(last))
+    }
+}
