@@ -1,5 +1,6 @@
 -- What the shapes are made of.
-use Rattle.std.specs.Prelude.{ℕ, suc, zero, List, [], ◌∷◌, ◌++◌, length}
+use Rattle.std.specs.Prelude.{ℕ, suc, zero, List, [], ◌∷◌, ◌++◌, length, codes}
+use Rattle.iim_dataset.specs.Format.Characters.{soh, stx, etx, eot, lf, cr}
 use Rattle.iim_dataset.specs.Format.Datasets.{canonical_tag}
 
 -- a piece, n times
@@ -13,8 +14,8 @@ written rec set octets = canonical_tag (record { rec = rec; set = set; count = l
 
 -- SOH, a header, CR LF and STX
 abbrev pub opening : List ℕ
-opening = 1 ∷ 84 ∷ 83 ∷ 84 ∷ 48 ∷ 48 ∷ 48 ∷ 55 ∷ 32 ∷ 52 ∷ 32 ∷ 69 ∷ 67 ∷ 79 ∷ 32 ∷ 53 ∷ 32 ∷ 114 ∷ 97 ∷ 116 ∷ 101 ∷ 115 ∷ 13 ∷ 10 ∷ 2 ∷ []
+opening = soh ∷ codes "TST0007 4 ECO 5 rates" ++ cr ∷ lf ∷ stx ∷ []
 
 -- the text between the opening and ETX EOT
 abbrev pub message_of : List ℕ → List ℕ
-message_of text = opening ++ text ++ 3 ∷ 4 ∷ []
+message_of text = opening ++ text ++ etx ∷ eot ∷ []

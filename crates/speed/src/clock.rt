@@ -1,6 +1,7 @@
 //! Times of runs.
 
 ghost use Rattle.std.specs.Prelude.{◌≡◌, ◌*◌, ◌/◌, ◌-◌, ◌↔◌, min, length, IsNone, IfSome};
+ghost use Rattle.iim_dataset.specs.Format.Octets.{greatest_u64};
 
 use crate::tally::Tally;
 use crate::work::Work;
@@ -20,7 +21,7 @@ pub struct Times {
 impl Times {
     /// No times so far.
     fn new() -> Times
-        ensures { result ≡ record { copy = 18446744073709551615; work = 18446744073709551615 } }
+        ensures { result ≡ record { copy = greatest_u64; work = greatest_u64 } }
     {
         Times {
             copy: u64::MAX,
