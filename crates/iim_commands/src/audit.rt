@@ -37,10 +37,7 @@ fn reason(alloc: Global, fault: AuditFault) -> Result<Vec<u8>, CommandFault>
 }
 
 /// Writes the lines of a report, and lets out all. It takes no memory.
-fn add_report<W: Target>(
-    output: &mut BlockWriter<W>,
-    report: &Report,
-) -> Result<(), CommandFault>
+fn add_report<W: Target>(output: &mut BlockWriter<W>, report: &Report) -> Result<(), CommandFault>
     ensures ok { OnOk result (HasPut W.state output.old output.new (printed_report report.now)) }
     ensures held { OnOk result (HoldsNothing output.new) }
     ensures err { IfErr result (IsUnadded W.state output.old output.new (printed_report report.now)) }

@@ -57,12 +57,7 @@ fn told(
     errors: TrialWriter<256>,
 ) -> (Result<u8, CommandFault>, TrialWriter<256>, TrialWriter<256>) {
     let mut errors = errors;
-    let (answer, output) = narrate(
-        alloc,
-        &mut Intake::new(reader(STORY)),
-        output,
-        &mut errors,
-    );
+    let (answer, output) = narrate(alloc, &mut Intake::new(reader(STORY)), output, &mut errors);
     (answer, output, errors)
 }
 
