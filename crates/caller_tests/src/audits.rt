@@ -4,7 +4,7 @@ ghost use Rattle.std.specs.Prelude.{◌≡◌, List, None, IfOk};
 ghost use Rattle.iim_audit.specs.Format.Auditing.{IsAudited};
 ghost use Rattle.iim_audit.specs.Format.Texts.{printed_report};
 ghost use Rattle.iim_audit.specs.declared.row.AuditRow.{AuditRow};
-ghost use Rattle.iim_unpack.specs.Format.Intakes.{line};
+ghost use Rattle.iim_unpack.specs.States.Intakes.{in_line};
 
 use iim_audit::{AuditCause, audit, report_text};
 use iim_dataset::Source;
@@ -21,7 +21,9 @@ pub fn report_of<R: Source>(
     now: Timestamp,
 ) -> Result<Vec<u8>, AuditCause>
     requires { intake.old.failed ≡ None }
-    ensures { IfOk result (λ text. (rows : List AuditRow) × IsAudited limits now.nanosecond (line R.state intake.old) (line R.state intake.new) rows × (text.items ≡ printed_report rows)) }
+    ensures { IfOk result (λ text. (rows : List AuditRow)
+        × IsAudited limits now.nanosecond (in_line R.state intake.old) (in_line R.state intake.new) rows
+        × (text.items ≡ printed_report rows)) }
 {
     match audit(alloc, intake, limits, now) {
         Ok(report) => match report_text(alloc, &report) {

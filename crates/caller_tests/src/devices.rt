@@ -8,7 +8,8 @@ use iim_dataset::{BLOCK, IoFault, Source, Target, put, take};
 /// Passes on what one read gives, a block at most, and answers how many octets.
 pub fn pass_on<R: Source, W: Target>(from: &mut R, to: &mut W) -> Result<usize, IoFault>
     ensures { IfOk result (λ count. (octets : List ℕ) × (length octets ≡ count)
-        × Consumes (R.state from.old).octets (R.state from.new).octets octets × Appends (W.state to.old).octets (W.state to.new).octets octets) }
+        × Consumes (R.state from.old).octets (R.state from.new).octets octets
+        × Appends (W.state to.old).octets (W.state to.new).octets octets) }
 {
     let mut block = [0; BLOCK];
     let count = take(from, &mut block)?;

@@ -9,7 +9,8 @@ use wire_message::{MessageHead, head_text};
 
 /// The octets from SOH to STX of an urgent message, or None where the source or the number is none.
 pub fn urgent_head(source: &[u8], number: &[u8]) -> Option<ArrayVec<u8, 128>>
-    ensures { IfSome result (λ octets. (head : Header) × IsHeader head × (head.source ≡ source.now) × (head.number ≡ number.now) × (octets.items ≡ packed_head head)) }
+    ensures { IfSome result (λ octets. (head : Header) × IsHeader head × (head.source ≡ source.now)
+        × (head.number ≡ number.now) × (octets.items ≡ packed_head head)) }
 {
     // Source, number, priority, category, announced words and info.
     let head = MessageHead::new(source, number, b"1", b"ECO", b"0", b"")?;

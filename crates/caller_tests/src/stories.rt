@@ -9,7 +9,8 @@ use wire_story::{TextReader, WordCount};
 
 /// How many words the lines of a text have, or None where the octets are no text.
 pub fn count_words(text: &[u8]) -> Option<u64>
-    ensures { IfSome result (λ count. (lines : List (List ℕ)) × IsText text.now lines × (count ≡ capped (words lines))) }
+    ensures { IfSome result (λ count. (lines : List (List ℕ)) × IsText text.now lines
+        × (count ≡ capped (words lines))) }
 {
     texts_are_counted_as_lines();
     let mut count = WordCount::new();

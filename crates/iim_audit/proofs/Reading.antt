@@ -3,14 +3,15 @@ use Rattle.std.proofs.Common.{◌≡◌, ℕ, ◌+◌, ◌≤◌, ℤ, List, [],
 use Rattle.std.specs.List.{AllByRecursion}
 use Rattle.std.proofs.lemmas.List.{length-map, map-append}
 use Rattle.std.proofs.KnownBytes.{Consumes-trans}
-use Rattle.iim_dataset.specs.Format.Devices.{Device, Rose}
-use Rattle.iim_dataset.specs.Format.DeviceLaws.{HasGiven, MissedAfter, BrokeFor, GiftsJoin}
+use Rattle.iim_dataset.specs.States.Devices.{Device, HasGiven, MissedAfter, BrokeFor}
+use Rattle.iim_dataset.specs.Format.Counts.{Rose}
+use Rattle.iim_dataset.specs.Laws.Devices.{GiftsJoin}
 use Rattle.iim_dataset.specs.declared.device.IoFault.{IoFault}
 use Rattle.iim_dataset.specs.declared.device.IoFault.TheVariants as io
 use Rattle.iim_fields.specs.declared.limits.Limits.{Limits}
 use Rattle.iim_unpack.specs.Format.Admitted.{Value, Admits}
 use Rattle.iim_unpack.specs.Format.Listing.{Listed, Divides, IsListed, joined, values_of, max_envelopes}
-use Rattle.iim_unpack.specs.Format.Unpacking.{Unpacking, IsDoneWith, limits_in, raised}
+use Rattle.iim_unpack.specs.States.Unpacking.{Unpacking, IsDoneWith, limits_in, raised}
 use Rattle.iim_unpack.specs.Format.Value.{ShowsParts}
 use Rattle.iim_unpack.specs.declared.unpacker.UnpackedRef.{UnpackedRef}
 use Rattle.iim_unpack.proofs.Listings.{admitted_more, joined_more}

@@ -1,15 +1,15 @@
 -- From what an intake answers to what an audit takes of it.
 use Rattle.std.proofs.Common.{◌≡◌, ◌≢◌, ℕ, ◌⊎◌, List, [], length, Option, Some, None, subst, sym, Bool, true, false, ◌∙◌, inl, inr, ⊎_elim, arith, refl, ap}
-use Rattle.iim_dataset.specs.Format.Devices.{Device}
+use Rattle.iim_dataset.specs.States.Devices.{Device}
 use Rattle.iim_dataset.specs.declared.device.IoFault.{IoFault}
 use Rattle.iim_dataset.specs.declared.device.IoFault.TheVariants as io
 use Rattle.iim_fields.specs.declared.limits.Limits.{Limits}
 use Rattle.wire_story.specs.Format.Delivery.{StoryEvent}
 use Rattle.wire_story.specs.Format.Words.{WordsSoFar, CountsWords}
 use Rattle.iim_unpack.specs.Format.Framed.{AreWithin}
-use Rattle.iim_unpack.specs.Format.Intakes.{FedEnvelope, Faults, WasMissed, WasRefused, WasTruncated}
-use Rattle.iim_unpack.specs.Format.Parts.{CountsFor}
-use Rattle.iim_unpack.specs.Format.Unpacking.{Unpacking, IsDoneWith, Stands, limits_in}
+use Rattle.iim_unpack.specs.States.Intakes.{FedEnvelope, Faults, WasMissed, WasRefused, WasTruncated}
+use Rattle.iim_unpack.specs.States.Parts.{CountsFor}
+use Rattle.iim_unpack.specs.States.Unpacking.{Unpacking, IsDoneWith, Stands, limits_in}
 use Rattle.iim_unpack.specs.declared.intake.IntakeFault.{IntakeFault}
 use Rattle.iim_unpack.specs.declared.intake.IntakeFault.TheVariants as intakes
 use Rattle.iim_unpack.specs.declared.refusal.Cause.{Cause}

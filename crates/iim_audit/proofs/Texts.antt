@@ -3,21 +3,20 @@ use Rattle.std.proofs.Common.{◌≡◌, ℕ, List, [], ◌∷◌, length, refl,
 use Rattle.iim_dataset.specs.Format.Octets.{number}
 use Rattle.iim_dataset.specs.Format.Datasets.{Dataset, SpellsTag, SpellsStream, count_octets}
 use Rattle.iim_dataset.specs.Format.Splits.{InTag, IsBegun, Reads}
-use Rattle.iim_dataset.specs.Format.Events.{handed_on}
-use Rattle.iim_dataset.specs.Format.Places.{HandsOn}
-use Rattle.iim_dataset.specs.Format.Laws.{OctetsAreHandedOnOneWay, EventsTellTheDatasets}
+use Rattle.iim_dataset.specs.States.Events.{handed_on}
+use Rattle.iim_dataset.specs.States.Places.{HandsOn}
+use Rattle.iim_dataset.specs.Laws.Datasets.{OctetsAreHandedOnOneWay, EventsTellTheDatasets}
 use Rattle.iim_dataset.specs.declared.head.Head.{Head}
 use Rattle.wire_story.specs.Format.Delivery.{StoryEvent}
 use Rattle.wire_story.specs.Format.Texts.{IsText}
-use Rattle.wire_story.specs.Format.WordLaws.{TextsAreCountedAsLines}
+use Rattle.wire_story.specs.Laws.Words.{TextsAreCountedAsLines}
 use Rattle.wire_story.specs.Format.Words.{WordsSoFar, CountsWords, capped, words}
-use Rattle.wire_message.specs.Format.Laws.{TextsStandBetweenStxAndEtx}
+use Rattle.wire_message.specs.Laws.Messages.{TextsStandBetweenStxAndEtx}
 use Rattle.wire_message.specs.Format.Layers.{text_so_far}
 use Rattle.wire_message.specs.Format.Messages.{Header, IsMessage}
 use Rattle.wire_message.specs.declared.place.Place.TheVariants.{AfterEnd}
 use Rattle.iim_unpack.specs.Format.Admitted.{Value, Admits, object_of}
-use Rattle.iim_unpack.specs.Format.Open.{object_so_far}
-use Rattle.iim_unpack.specs.Format.Open.{IsTextOf, Delivers}
+use Rattle.iim_unpack.specs.Format.Open.{object_so_far, IsTextOf, Delivers}
 
 pub record TextLaws : Type 0 where
   pub way : OctetsAreHandedOnOneWay

@@ -1,4 +1,4 @@
--- What the promises cite: a reader has to believe these.
+-- What octets are, and what is said of them.
 pub mod Format
 -- What only proofs and private clauses cite.
 pub mod Faults

@@ -1,8 +1,8 @@
 //! Audits the envelopes of an intake.
 
 ghost use Rattle.std.specs.Prelude.{◌≡◌, ℕ, None, Some, IfOk, IfErr, OnOk, IsErrAnd};
-ghost use Rattle.iim_unpack.specs.Format.Intakes.{line};
-ghost use Rattle.iim_unpack.specs.Format.Unpacking.{limits_in};
+ghost use Rattle.iim_unpack.specs.States.Intakes.{in_line};
+ghost use Rattle.iim_unpack.specs.States.Unpacking.{limits_in};
 ghost use Rattle.iim_audit.specs.Format.Auditing.{IsAudited, FailsLeaving, IsToldAgain};
 ghost use Rattle.iim_audit.specs.Taking.{TookEnvelope, TookNone};
 
@@ -30,12 +30,16 @@ fn take_envelope<R: Source>(
     intake: &mut Intake<R>,
     unpacker: &mut Unpacker,
 ) -> Result<Option<u64>, AuditCause>
-    ensures took { IfOk result (TookEnvelope (limits_in unpacker.old) (line R.state intake.old) (line R.state intake.new) unpacker.new intake.new.octets) }
-    ensures none { intake.old.failed ≡ None → IfErr result (TookNone (limits_in unpacker.old) (line R.state intake.old) (line R.state intake.new)
+    ensures took { IfOk result (TookEnvelope (limits_in unpacker.old) (in_line R.state intake.old)
+        (in_line R.state intake.new) unpacker.new intake.new.octets) }
+    ensures none { intake.old.failed ≡ None
+        → IfErr result (TookNone (limits_in unpacker.old) (in_line R.state intake.old) (in_line R.state intake.new)
         intake.old.octets intake.new.failed intake.new.octets) }
     ensures lives { OnOk result (intake.new.failed ≡ None) }
-    ensures again { (octet : ℕ) → intake.old.failed ≡ Some octet → IsErrAnd result (IsToldAgain octet intake.old.octets intake.new.octets 1) }
-    ensures as_it_was { (octet : ℕ) → intake.old.failed ≡ Some octet → intake.new ≡ record (intake.old) { octets = intake.new.octets } }
+    ensures again { (octet : ℕ) → intake.old.failed ≡ Some octet
+        → IsErrAnd result (IsToldAgain octet intake.old.octets intake.new.octets 1) }
+    ensures as_it_was { (octet : ℕ) → intake.old.failed ≡ Some octet → intake.new
+        ≡ record (intake.old) { octets = intake.new.octets } }
     ensures leads { R.leads intake.old.reader intake.new.reader }
 {
     gifts_join();
@@ -62,8 +66,10 @@ pub fn audit<R: Source>(
     limits: Limits,
     now: Timestamp,
 ) -> Result<Report, AuditFault>
-    ensures audited { intake.old.failed ≡ None → IfOk result (IsAudited limits now.nanosecond (line R.state intake.old) (line R.state intake.new)) }
-    ensures fails { intake.old.failed ≡ None → IfErr result (λ fault. FailsLeaving limits (line R.state intake.old) (line R.state intake.new)
+    ensures audited { intake.old.failed ≡ None
+        → IfOk result (IsAudited limits now.nanosecond (in_line R.state intake.old) (in_line R.state intake.new)) }
+    ensures fails { intake.old.failed ≡ None
+        → IfErr result (λ fault. FailsLeaving limits (in_line R.state intake.old) (in_line R.state intake.new)
         intake.old.octets intake.new.failed intake.new.octets fault.envelope fault.cause) }
 
     // After a report the intake has answered no fault, and tells no octets.
@@ -71,8 +77,10 @@ pub fn audit<R: Source>(
     ensures none { OnOk result (intake.new.octets ≡ 0) }
 
     // Where it had answered a fault before, it is left as it was, but for the octets that it tells.
-    ensures again { (octet : ℕ) → intake.old.failed ≡ Some octet → IsErrAnd result (λ fault. IsToldAgain octet intake.old.octets intake.new.octets fault.envelope fault.cause) }
-    ensures as_it_was { (octet : ℕ) → intake.old.failed ≡ Some octet → intake.new ≡ record (intake.old) { octets = intake.new.octets } }
+    ensures again { (octet : ℕ) → intake.old.failed ≡ Some octet
+        → IsErrAnd result (λ fault. IsToldAgain octet intake.old.octets intake.new.octets fault.envelope fault.cause) }
+    ensures as_it_was { (octet : ℕ) → intake.old.failed ≡ Some octet → intake.new
+        ≡ record (intake.old) { octets = intake.new.octets } }
     ensures leads { R.leads intake.old.reader intake.new.reader }
 {
     gifts_join();

@@ -48,7 +48,8 @@ impl Ledger {
         requires few { length self.old.rows.items < 2 ^ 32 }
         requires below { All (λ i. i < length self.old.rows.items) self.old.order.items }
         requires short { HaveShortIds self.old.rows.items }
-        ensures keeps { OnOk result ((values : List Value) (v : Value) → Keeps now.nanosecond self.old values → IsTaken got.now v → Keeps now.nanosecond self.new (values ++ v ∷ [])) }
+        ensures keeps { OnOk result ((values : List Value) (v : Value) → Keeps now.nanosecond self.old values
+            → IsTaken got.now v → Keeps now.nanosecond self.new (values ++ v ∷ [])) }
         ensures one { OnOk result (length self.new.rows.items ≡ length self.old.rows.items + 1) }
         ensures below { OnOk result (All (λ i. i < length self.new.rows.items) self.new.order.items) }
         ensures short { OnOk result (HaveShortIds self.new.rows.items) }

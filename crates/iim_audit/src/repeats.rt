@@ -43,8 +43,10 @@ fn group_of(rows: &[AuditRow], group: u32, at: u32) -> u32
     requires group { group < length rows.now }
     requires at { at < length rows.now }
     ensures within { result < length rows.now }
-    ensures same { (d : Row) → id_eq (slice_index_or rows.now at d).id (slice_index_or rows.now group d).id ≡ true → result ≡ group }
-    ensures other { (d : Row) → id_eq (slice_index_or rows.now at d).id (slice_index_or rows.now group d).id ≡ false → result ≡ at }
+    ensures same { (d : Row) → id_eq (slice_index_or rows.now at d).id (slice_index_or rows.now group d).id ≡ true
+        → result ≡ group }
+    ensures other { (d : Row) → id_eq (slice_index_or rows.now at d).id (slice_index_or rows.now group d).id ≡ false
+        → result ≡ at }
 {
     if rows[at as usize].id == rows[group as usize].id {
         group
@@ -84,7 +86,8 @@ fn fill_firsts(rows: &mut [AuditRow], order: &[u32])
 /// order. It takes no memory.
 pub(crate) fn tell_repeats(rows: &mut [AuditRow], order: &mut [u32])
     requires { All (λ i. i < length rows.old) order.old }
-    ensures filled { ((i : ℕ) → i < length rows.old → Contains order.old i) → AreFresh rows.old → AreFilled rows.old rows.new }
+    ensures filled { ((i : ℕ) → i < length rows.old → Contains order.old i) → AreFresh rows.old
+        → AreFilled rows.old rows.new }
     ensures ids { ids_of rows.new ≡ ids_of rows.old }
 {
     sort_by_id(rows, order);

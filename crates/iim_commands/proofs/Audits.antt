@@ -1,19 +1,19 @@
 -- What stops an audit's report.
 use Rattle.std.proofs.Common.{◌≡◌, ℕ, ◌+◌, ◌<◌, ℤ, inl, inr, refl, sym, ap, subst, ◌∙◌, List, [], ◌∷◌, ◌++◌, length, take, drop, append_assoc, arith, Result, Ok, Err, OnOk, IfErr}
 use Rattle.std.proofs.lemmas.List.{take-append-drop}
-use Rattle.iim_dataset.specs.Format.Devices.{Device}
-use Rattle.iim_dataset.specs.Format.DeviceLaws.{TextsJoin}
+use Rattle.iim_dataset.specs.States.Devices.{Device}
+use Rattle.iim_dataset.specs.Laws.Devices.{TextsJoin}
 use Rattle.iim_audit.specs.Format.Auditing.{FailsAt}
 use Rattle.iim_audit.specs.declared.fault.AuditCause.{AuditCause}
 use Rattle.iim_audit.specs.declared.fault.AuditCause.TheVariants as causes
 use Rattle.iim_audit.specs.Format.Texts.{lines_from, printed_report, row_line, sums_line}
 use Rattle.iim_audit.specs.declared.row.AuditRow.{AuditRow}
 use Rattle.iim_commands.specs.Format.Audits.{CannotTell, IsAuditAnswer, IsUnaudited}
-use Rattle.iim_commands.specs.Format.Holding.{HasPut, HoldsNothing, IsCutShort, device_of}
+use Rattle.iim_commands.specs.States.Holding.{HasPut, HoldsNothing, device_of}
+use Rattle.iim_commands.specs.Listing.{IsCutShort, IsUnadded}
 use Rattle.iim_commands.specs.Format.Listings.{limits}
-use Rattle.iim_commands.specs.Format.Reports.{IsUnsaid}
+use Rattle.iim_commands.specs.Format.WrittenListings.{IsUnsaid}
 use Rattle.iim_commands.specs.HoldingLaws.{put_on}
-use Rattle.iim_commands.specs.Listing.{IsUnadded}
 use Rattle.iim_commands.specs.declared.block_writer.BlockWriter.{BlockWriter}
 use Rattle.iim_commands.proofs.Holding.{cut_on, stopped_in}
 use Rattle.iim_commands.specs.declared.fault.CommandFault.{CommandFault}

@@ -1,13 +1,14 @@
 -- How an unpacker is fed up to the end of an envelope.
 use Rattle.std.proofs.Common.{◌≡◌, ℕ, ◌-◌, ◌^◌, ◌<◌, List, [], ◌∷◌, length, length-append, refl, sym, ap, subst, ◌∙◌, append-nil, arith}
 use Rattle.std.specs.Io.KnownBytes.{IsAtEnd}
-use Rattle.iim_dataset.specs.Format.Devices.{Device}
-use Rattle.iim_dataset.specs.Format.DeviceLaws.{GiftsJoin, HasGiven}
+use Rattle.iim_dataset.specs.States.Devices.{Device, HasGiven}
+use Rattle.iim_dataset.specs.Laws.Devices.{GiftsJoin}
 use Rattle.iim_fields.specs.declared.limits.Limits.{Limits}
 use Rattle.wire_story.specs.Format.Delivery.{StoryEvent}
-use Rattle.wire_story.specs.Format.Laws.{DeliveryMayBeCut}
-use Rattle.iim_unpack.specs.Format.Intakes.{HasFed, OpenOctetsAreBounded, WasEnded}
-use Rattle.iim_unpack.specs.Format.Unpacking.{Stands, Unpacking, limits_in, raised}
+use Rattle.wire_story.specs.Laws.Texts.{DeliveryMayBeCut}
+use Rattle.iim_unpack.specs.States.Intakes.{HasFed, WasEnded}
+use Rattle.iim_unpack.specs.Laws.Streams.{OpenOctetsAreBounded}
+use Rattle.iim_unpack.specs.States.Unpacking.{Stands, Unpacking, limits_in, raised}
 use Rattle.iim_unpack.proofs.Intakes.{Joined, fed_few, fed_nothing, fed_on, fed_then, raised_on, some_came}
 use Rattle.iim_commands.specs.Format.Listings.{limits}
 

@@ -2,11 +2,13 @@
 use Rattle.std.proofs.Common.{◌≡◌, ℕ, zero, suc, ◌+◌, ◌^◌, ◌<◌, ◌≤◌, inl, inr, List, [], ◌∷◌, ◌++◌, length, take, drop, map, refl, sym, ap, subst, ◌∙◌, append-nil, append_assoc, arith, Result, Ok, Err, IfErr, OnOk, OnErr}
 use Rattle.std.proofs.lemmas.List.{take-append-drop}
 use Rattle.std.specs.Io.KnownBytes.{Appends}
-use Rattle.iim_dataset.specs.Format.Devices.{Device, Broke, Rose, RoseAtLeast, Stopped, Wrote}
-use Rattle.iim_dataset.specs.Format.DeviceLaws.{TextsJoin}
+use Rattle.iim_dataset.specs.States.Devices.{Device, Broke, RoseAtLeast, Stopped, Wrote}
+use Rattle.iim_dataset.specs.Format.Counts.{Rose}
+use Rattle.iim_dataset.specs.Laws.Devices.{TextsJoin}
 use Rattle.wire_story.specs.Format.Delivery.{octet_for, LineOctet}
-use Rattle.wire_story.specs.Format.Writing.{HasBroken}
-use Rattle.iim_commands.specs.Format.Holding.{HasPut, HasStuck, HoldsNothing, IsCutShort, PutsOn, PutsLines, StaysStuck, device_of, held_of, stops_of, writer_of}
+use Rattle.wire_story.specs.States.Writing.{HasBroken}
+use Rattle.iim_commands.specs.States.Holding.{HasPut, HasStuck, HoldsNothing, PutsOn, PutsLines, StaysStuck, device_of, held_of, stops_of, writer_of}
+use Rattle.iim_commands.specs.Listing.{IsCutShort}
 use Rattle.iim_commands.specs.HoldingLaws.{parts_on}
 use Rattle.iim_dataset.specs.declared.stop.Stop.{Stop}
 use Rattle.iim_commands.specs.declared.block_writer.BlockWriter.{BlockWriter}

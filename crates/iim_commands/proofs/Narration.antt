@@ -3,36 +3,38 @@ use Rattle.std.proofs.Common.{◌≡◌, ℕ, ◌+◌, ◌<◌, ◌≤◌, inl, 
 use Rattle.std.proofs.Math.Seq.{take-length}
 use Rattle.std.proofs.lemmas.List.{take-append-le}
 use Rattle.std.specs.Io.KnownBytes.{Appends}
-use Rattle.iim_dataset.specs.Format.Devices.{Device, Rose, RoseAtLeast, Wrote, max_interruptions}
-use Rattle.iim_dataset.specs.Format.DeviceLaws.{GiftsJoin, HasGiven, TextsJoin}
-use Rattle.iim_dataset.specs.Format.Events.{handed_on}
+use Rattle.iim_dataset.specs.States.Devices.{Device, RoseAtLeast, Wrote, max_interruptions, HasGiven}
+use Rattle.iim_dataset.specs.Format.Counts.{Rose}
+use Rattle.iim_dataset.specs.Laws.Devices.{GiftsJoin, TextsJoin}
+use Rattle.iim_dataset.specs.States.Events.{handed_on}
 use Rattle.iim_dataset.specs.Format.Datasets.{Dataset, count_octets}
-use Rattle.iim_dataset.specs.Format.Laws.{OctetsAreHandedOnOneWay, EventsTellTheDatasets}
-use Rattle.iim_dataset.specs.Format.Places.{HandsOn}
+use Rattle.iim_dataset.specs.Laws.Datasets.{OctetsAreHandedOnOneWay, EventsTellTheDatasets}
+use Rattle.iim_dataset.specs.States.Places.{HandsOn}
 use Rattle.iim_dataset.specs.Format.Splits.{InTag}
-use Rattle.wire_message.specs.Format.Laws.{TextsStandBetweenStxAndEtx}
+use Rattle.wire_message.specs.Laws.Messages.{TextsStandBetweenStxAndEtx}
 use Rattle.wire_message.specs.Format.Layers.{text_so_far}
 use Rattle.wire_message.specs.declared.place.Place.TheVariants.{AfterEnd}
 use Rattle.wire_story.specs.Format.Delivery.{StoryEvent, delivered, octet_for}
-use Rattle.wire_story.specs.Format.Laws.{LinesAreJoinedByLineFeeds, TextsAreDeliveredAsLines}
-use Rattle.wire_story.specs.Format.Writing.{HasBroken}
-use Rattle.iim_commands.specs.Format.Holding.{HoldsNothing, PutsLines, PutsOn, StaysStuck, device_of, held_of, stops_of}
+use Rattle.wire_story.specs.Laws.Texts.{LinesAreJoinedByLineFeeds, TextsAreDeliveredAsLines}
+use Rattle.wire_story.specs.States.Writing.{HasBroken}
+use Rattle.iim_commands.specs.States.Holding.{HoldsNothing, PutsLines, PutsOn, StaysStuck, device_of, held_of, stops_of}
 use Rattle.iim_commands.specs.HoldingLaws.{puts_on}
 use Rattle.iim_commands.proofs.Holding.{puts_of_stuck}
 use Rattle.iim_commands.specs.declared.block_writer.BlockWriter.{BlockWriter}
 use Rattle.iim_unpack.specs.Format.Admitted.{object_of}
 use Rattle.iim_unpack.specs.Format.Open.{object_so_far}
 use Rattle.iim_unpack.specs.declared.refusal.Refusal.{Refusal}
-use Rattle.iim_unpack.specs.Format.Unpacking.{Unpacking}
+use Rattle.iim_unpack.specs.States.Unpacking.{Unpacking}
 use Rattle.iim_unpack.proofs.Answering.{leads_to, reads_envelope}
-use Rattle.iim_commands.specs.Format.Coming.{EnvelopeHasCome, IsCalm, IsNext, IsRefusal}
-use Rattle.iim_commands.specs.Format.Devices.{HasOctets}
+use Rattle.iim_commands.specs.States.Coming.{EnvelopeHasCome, IsCalm, IsNext, IsRefusal}
+use Rattle.iim_commands.specs.States.Devices.{HasOctets}
 use Rattle.iim_commands.specs.Format.Lines.{ending_line, line_of, status_of, texts_from}
 use Rattle.iim_commands.specs.Format.Listings.{limits, IsDelivered}
 use Rattle.iim_unpack.specs.Format.Listing.{joined, max_envelopes, InputEnding, EndsBy, Listed, IsListed, IsRefusedAfter, RefusedBy}
-use Rattle.iim_commands.specs.Format.Narration.{EnvelopesAreDeliveredAsLines, IsTextIn, IsUnnarrated, LeavesText, Narrated, stories, story_of, text_of}
-use Rattle.iim_commands.specs.Narration.{IsHeldBack, IsUnended}
-use Rattle.iim_commands.specs.Format.Reports.{IsUnsaid}
+use Rattle.iim_commands.specs.Laws.Narration.{EnvelopesAreDeliveredAsLines}
+use Rattle.iim_commands.specs.Format.Narration.{IsTextIn, IsUnnarrated, LeavesText, Narrated, stories, story_of, text_of}
+use Rattle.iim_commands.specs.NarrationEnds.{IsHeldBack, IsUnended}
+use Rattle.iim_commands.specs.Format.WrittenListings.{IsUnsaid}
 use Rattle.iim_commands.specs.declared.coming.Next.{Next}
 use Rattle.iim_commands.specs.declared.coming.Next.TheVariants as next
 use Rattle.iim_commands.specs.declared.fault.CommandFault.{CommandFault}

@@ -2,27 +2,27 @@
 use Rattle.std.proofs.Common.{◌≡◌, ℕ, ◌+◌, ap, length-append, IfOk, ◌&&◌, min, nat_le, ◌<◌, ◌≤◌, ◌++◌, List, [], ◌∷◌, length, inl, inr, sym, subst, ◌∙◌, arith, Bool, true, false, Option, Some, None, Result, Ok, Err, IfErr, IfSome, IfNone, IsTrue}
 use Rattle.std.proofs.lemmas.Bool.{and_parts, leb-true}
 use Rattle.iim_dataset.specs.Format.Octets.{greatest_size}
-use Rattle.iim_dataset.specs.Format.Devices.{Device}
-use Rattle.iim_dataset.specs.Format.DeviceLaws.{BrokeAfter, GiftsJoin, HasGiven}
+use Rattle.iim_dataset.specs.States.Devices.{Device, BrokeAfter, HasGiven}
+use Rattle.iim_dataset.specs.Laws.Devices.{GiftsJoin}
 use Rattle.iim_object.specs.Format.Plans.{bound_of, fits, is_plan, most_in}
-use Rattle.iim_object.specs.Format.Writing.{Begins, most_of}
-use Rattle.iim_object.specs.declared.cause.PackCause.{PackCause}
-use Rattle.iim_object.specs.declared.cause.PackCause.TheVariants as causes
-use Rattle.iim_object.specs.declared.cause.StartFault.{StartFault}
+use Rattle.iim_object.specs.States.Writing.{Begins, most_of}
+use Rattle.iim_object.specs.declared.writing.cause.PackCause.{PackCause}
+use Rattle.iim_object.specs.declared.writing.cause.PackCause.TheVariants as causes
+use Rattle.iim_object.specs.declared.writing.cause.StartFault.{StartFault}
 use Rattle.iim_object.specs.declared.plan.Plan.{Plan}
 use Rattle.iim_object.specs.declared.size.Size.{Size}
 use Rattle.iim_object.specs.declared.size.Size.TheVariants.{Known}
 use Rattle.wire_message.specs.Format.Messages.{IsTrailer}
 use Rattle.iim_object.proofs.PackedSizes.{plan_parts}
-use Rattle.iim_pack.specs.Format.Packing.{pack_cause}
+use Rattle.iim_pack.specs.States.Packing.{pack_cause}
 use Rattle.iim_pack.specs.Format.Orders.{IsBelowKnown, IsFirstOf, AgainstPack}
 use Rattle.iim_pack.specs.Format.Packed.{Packed}
-use Rattle.iim_pack.specs.Format.Starting.{StartIsRefused, Halts}
-use Rattle.iim_pack.specs.Format.Whole.{IsPackFault, Packs}
+use Rattle.iim_pack.specs.States.Starting.{StartIsRefused, StartBreaksOff}
+use Rattle.iim_pack.specs.States.Whole.{IsPackFault, Packs}
 use Rattle.iim_script.specs.Format.Scripts.{max_script}
-use Rattle.iim_commands.specs.Format.Devices.{devices}
-use Rattle.iim_commands.specs.Format.Reports.{IsTold}
-use Rattle.iim_commands.specs.Format.Packing.{Answered, Asked, FitsAsked, IsBrokenOff, IsPast, IsPlanOf, IsRead, IsRefusal, IsUnanswered, IsUnread, IsScriptOf, ScriptContent, most_asked, most_for, object_of, refusal_line, said_size}
+use Rattle.iim_commands.specs.States.Devices.{devices}
+use Rattle.iim_commands.specs.Format.WrittenListings.{IsSaid}
+use Rattle.iim_commands.specs.Format.Packing.{Answered, Asked, FitsAsked, IsBrokenOff, IsPast, IsPlanOf, IsRead, IsScriptRefusal, IsUnanswered, IsUnread, IsScriptOf, ScriptContent, most_asked, most_for, object_of, refusal_line, said_size}
 use Rattle.iim_commands.specs.PackSteps.{ComesTo, IsFailedRead, IsNotPacked, PacksTold, UnpacksTold}
 use Rattle.iim_commands.specs.declared.fault.CommandFault.{CommandFault}
 use Rattle.iim_commands.specs.declared.fault.CommandFault.TheVariants.{CannotRead, CannotWrite, OutOfMemory}
@@ -114,7 +114,7 @@ for_write a t old new (Around CannotWrite) h front = (front.plan, front.out, fro
 for_write a t old new (Around OutOfMemory) h front = absurd h
 
 front_of : {W : Type 0} (state : W → Device) (a : Asked) (t : ScriptContent) (plan : Plan) (old : W) (fault : StartFault W) → IsPlanOf a (object_of t) plan → FitsAsked a t
-    → Halts state (Packed t.fields t.head t.lines t.trailer plan) old fault → IsFront a t (state old) (state fault.writer)
+    → StartBreaksOff state (Packed t.fields t.head t.lines t.trailer plan) old fault → IsFront a t (state old) (state fault.writer)
 front_of state a t plan old fault is room h = record { plan = plan; out = h.out; room = room; is_plan = is; broke = (h.appends, h.broke); begins = h.begins }
 
 -- a cause that is refused before anything is written
@@ -183,9 +183,9 @@ unread joins first mid new script room OutOfMemory few fits given h =
 -- ---- answers
 
 pub told_refused : (a : Asked) (octets slice text : List ℕ) (first rest old new errors said : Device) (result : Result ℕ CommandFault) → slice ≡ octets → IsRead first rest octets
-    → new ≡ old → IsRefusal a slice text → IfOk result (IsTold errors said text 1) → IfOk result (Answered a (devices first old errors) (devices rest new said))
+    → new ≡ old → IsScriptRefusal a slice text → IfOk result (IsSaid errors said text 1) → IfOk result (Answered a (devices first old errors) (devices rest new said))
 told_refused a octets slice text first rest old new errors said (Ok status) is read same refusal told =
-    (octets, read, inr (text, subst (λ (o : List ℕ). IsRefusal a o text) is refusal, same, told))
+    (octets, read, inr (text, subst (λ (o : List ℕ). IsScriptRefusal a o text) is refusal, same, told))
 told_refused a octets slice text first rest old new errors said (Err e) is read same refusal told = tt
 
 few_read : (old new : Device) (octets : List ℕ) → IsRead old new octets → length octets ≤ max_script + 1

@@ -4,28 +4,29 @@ use Rattle.std.specs.List.{AllByRecursion}
 use Rattle.std.proofs.Math.ListN.{get_or-append}
 use Rattle.std.proofs.lemmas.List.{append-nil, take-append-le}
 use Rattle.std.specs.Io.KnownBytes.{Consumes, IsAtEnd}
-use Rattle.iim_dataset.specs.Format.Devices.{Device, Rose, Wrote}
-use Rattle.iim_dataset.specs.Format.DeviceLaws.{GiftsJoin, HasGiven, MissedAfter, TextsJoin}
+use Rattle.iim_dataset.specs.States.Devices.{Device, Wrote, HasGiven, MissedAfter}
+use Rattle.iim_dataset.specs.Format.Counts.{Rose}
+use Rattle.iim_dataset.specs.Laws.Devices.{GiftsJoin, TextsJoin}
 use Rattle.iim_dataset.specs.declared.device.IoFault.{IoFault}
 use Rattle.iim_dataset.proofs.DeviceLaws.{broke_for_later}
 use Rattle.wire_story.specs.Format.Delivery.{StoryEvent}
 use Rattle.iim_unpack.specs.Format.Streams.{Kills}
 use Rattle.iim_unpack.proofs.Listings.{admitted_more, joined_more}
-use Rattle.iim_unpack.specs.Format.Unpacking.{Unpacking}
+use Rattle.iim_unpack.specs.States.Unpacking.{Unpacking}
 use Rattle.iim_unpack.specs.declared.refusal.Refusal.{Refusal}
-use Rattle.iim_commands.specs.Format.Coming.{IsNext, IsRefusal}
-use Rattle.iim_commands.specs.Format.Holding.{HasPut, HoldsNothing, device_of}
-use Rattle.iim_commands.specs.Format.Silence.{IsSettled, IsStuck, PassesOver, refuses_never}
+use Rattle.iim_commands.specs.States.Coming.{IsNext, IsRefusal}
+use Rattle.iim_commands.specs.States.Holding.{HasPut, HoldsNothing, device_of}
+use Rattle.iim_commands.specs.States.Silence.{IsSettled, IsStuck, PassesOver, refuses_never}
 use Rattle.iim_commands.specs.HoldingLaws.{put_nothing, put_on}
 use Rattle.iim_commands.specs.Listing.{IsUnadded, IsUnlisted, Settles}
 use Rattle.iim_commands.specs.declared.block_writer.BlockWriter.{BlockWriter}
 use Rattle.iim_commands.specs.declared.silent.Silent.{Silent}
 use Rattle.iim_commands.proofs.Holding.{all_out, cut_by_stuck, cut_on, stopped_in}
-use Rattle.iim_commands.specs.Format.Devices.{HasOctets}
+use Rattle.iim_commands.specs.States.Devices.{HasOctets}
 use Rattle.iim_commands.specs.Format.Lines.{ending_line, status_of, texts_from}
 use Rattle.iim_commands.specs.Format.Listings.{limits}
 use Rattle.iim_unpack.specs.Format.Listing.{joined, max_envelopes, Divides, InputEnding, EndsBy, Listed, IsDeadAfter, IsListed, IsRefusedAfter}
-use Rattle.iim_commands.specs.Format.Reports.{IsUnreported, Reported}
+use Rattle.iim_commands.specs.Format.WrittenListings.{FailsListing, WritesListing}
 use Rattle.iim_commands.specs.declared.fault.CommandFault.{CommandFault}
 use Rattle.iim_commands.specs.declared.fault.CommandFault.TheVariants.{CannotRead, CannotWrite, OutOfMemory}
 
@@ -138,7 +139,7 @@ ends_refused goes mid rest a b e r = by_kind r.refused
 
 pub reported : {W : Type 0} (state : W → Device) → GiftsJoin → (text : ℕ → Listed → List ℕ) (source mid rest : Device) (old now new : BlockWriter W) (count status : ℕ) (begun more line : List ℕ) (ending : InputEnding)
     → AreReported state text source mid old now count → HasGiven mid rest begun → HasOctets rest.octets more → EndsBy limits count (begun ++ more) ending
-    → status ≡ status_of ending → line ≡ ending_line count ending → HoldsNothing old → HasPut state now new line → HoldsNothing new → Reported text source rest (device_of state old) (device_of state new) status
+    → status ≡ status_of ending → line ≡ ending_line count ending → HoldsNothing old → HasPut state now new line → HoldsNothing new → WritesListing text source rest (device_of state old) (device_of state new) status
 reported state joins text source mid rest old now new count status begun more line ending r given holds ends is words before put after =
     let es = r.envelopes in
     let all = given_then joins source mid rest count es begun r.taken given in (
@@ -272,12 +273,12 @@ unsaid_of state joins texts text source mid rest old now new count line e fault 
 -- ---- what was held is let out at the end
 
 pub settled_starved : {W : Type 0} (state : W → Device) → TextsJoin → (text : ℕ → Listed → List ℕ) (source rest : Device) (a b c : BlockWriter W) (answer result : Result ℕ CommandFault) → HoldsNothing a
-    → IfErr answer (IsUnlisted state text source rest a b) → Settles state b c answer result → IfErr result (IsUnreported text source rest (device_of state a) (device_of state c))
+    → IfErr answer (IsUnlisted state text source rest a b) → Settles state b c answer result → IfErr result (FailsListing text source rest (device_of state a) (device_of state c))
 settled_starved state texts text source rest a b c (Ok x) result empty err s = rw s.0 tt
 settled_starved state texts text source rest a b c (Err CannotRead) result empty err s =
-    rw s.0 (subst (λ (w : BlockWriter _). IsUnreported text source rest (device_of state a) (device_of state w) CannotRead) (sym s.1) err)
+    rw s.0 (subst (λ (w : BlockWriter _). FailsListing text source rest (device_of state a) (device_of state w) CannotRead) (sym s.1) err)
 settled_starved state texts text source rest a b c (Err CannotWrite) result empty err s =
-    rw s.0 (subst (λ (w : BlockWriter _). IsUnreported text source rest (device_of state a) (device_of state w) CannotWrite) (sym s.1) err)
+    rw s.0 (subst (λ (w : BlockWriter _). FailsListing text source rest (device_of state a) (device_of state w) CannotWrite) (sym s.1) err)
 settled_starved state texts text source rest a b c (Err OutOfMemory) result empty (input, es, begun, divided, given, put) (inl s) =
     let words = texts_from text 1 es in
     rw s.0 (input, es, begun, divided, given, all_out state a c words empty s.2 (subst (HasPut state a c) (append-nil words) (put_on state a b c words [] put s.1)))
@@ -287,15 +288,15 @@ settled_starved state texts text source rest a b c (Err OutOfMemory) result empt
     rw s.0 (input, es, begun, words, length cut.out, divided, given, inl refl, stopped_in state a c words empty cut)
 
 pub settled_ok : {W : Type 0} (state : W → Device) (text : ℕ → Listed → List ℕ) (source rest : Device) (a b c : BlockWriter W) (answer result : Result ℕ CommandFault)
-    → IfOk answer (Reported text source rest (device_of state a) (device_of state b)) → Settles state b c answer result → IfOk result (Reported text source rest (device_of state a) (device_of state c))
+    → IfOk answer (WritesListing text source rest (device_of state a) (device_of state b)) → Settles state b c answer result → IfOk result (WritesListing text source rest (device_of state a) (device_of state c))
 settled_ok state text source rest a b c (Ok x) result ok s =
-    rw s.0 (subst (λ (w : BlockWriter _). Reported text source rest (device_of state a) (device_of state w) x) (sym s.1) ok)
+    rw s.0 (subst (λ (w : BlockWriter _). WritesListing text source rest (device_of state a) (device_of state w) x) (sym s.1) ok)
 settled_ok state text source rest a b c (Err CannotRead) result ok s = rw s.0 tt
 settled_ok state text source rest a b c (Err CannotWrite) result ok s = rw s.0 tt
 settled_ok state text source rest a b c (Err OutOfMemory) result ok (inl s) = rw s.0 tt
 settled_ok state text source rest a b c (Err OutOfMemory) result ok (inr s) = rw s.0 tt
 
 -- memory was short before anything was read
-pub nothing_listed : GiftsJoin → TextsJoin → (text : ℕ → Listed → List ℕ) (source old new : Device) → new ≡ old → IsUnreported text source source old new OutOfMemory
+pub nothing_listed : GiftsJoin → TextsJoin → (text : ℕ → Listed → List ℕ) (source old new : Device) → new ≡ old → FailsListing text source source old new OutOfMemory
 nothing_listed joins texts text source old new same =
     ([], [], [], record { admitted = tt; parts = refl; few = omega arith }, joins.none source, subst (λ (d : Device). Wrote old d []) (sym same) (texts.none old))

@@ -1,7 +1,7 @@
 -- The device of a reader, and that of an intake that holds nothing.
 use Rattle.std.proofs.Common.{◌≡◌, ℕ, List, [], Option, None, Some, refl}
-use Rattle.iim_dataset.specs.Format.Devices.{Device}
-use Rattle.iim_unpack.specs.Format.Blocks.{with_held, put_before}
+use Rattle.iim_dataset.specs.States.Devices.{Device}
+use Rattle.iim_unpack.specs.States.Blocks.{with_held, put_before}
 
 pub none_before : (known : Option (List ℕ)) → put_before [] known ≡ known
 none_before None = refl

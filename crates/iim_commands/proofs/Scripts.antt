@@ -4,20 +4,20 @@ use Rattle.std.specs.Prelude.{codes}
 use Rattle.std.specs.List.{AllByRecursion, flat_map}
 use Rattle.std.proofs.lemmas.List.Elements.{filter-append}
 use Rattle.iim_dataset.specs.Format.Datasets.{Dataset}
-use Rattle.iim_fields.specs.Format.Builders as builders
+use Rattle.iim_fields.specs.Format.Envelopes as builders
 use Rattle.iim_fields.specs.Format.Faults.{is_kept, joined, kept}
 use Rattle.iim_fields.specs.Format.Records.{AreRecords, AreSections}
 use Rattle.iim_tables.specs.Format.Records.{IsGoodDataset}
-use Rattle.iim_fields.specs.Format.Standing.{IsWithin}
+use Rattle.iim_fields.specs.Format.Bounds.{IsWithin}
 use Rattle.wire_story.specs.Format.Texts.{IsLine, IsText}
-use Rattle.iim_script.specs.Format.Laws.{PrintedValuesAreScripts, ScriptsTellOneThing, ScriptsHaveNoFault, IsOneScript}
+use Rattle.iim_script.specs.Laws.Scripts.{PrintedValuesAreScripts, ScriptsTellOneThing, ScriptsHaveNoFault, IsOneScript}
 use Rattle.iim_script.specs.Format.Printed.{field_line, message_line, trailer_line, value_lines}
 use Rattle.iim_script.specs.Format.Scripts.{max_script}
 use Rattle.iim_commands.specs.Format.Listings.{limits}
 use Rattle.iim_unpack.specs.Format.Listing.{Listed, IsListed}
 use Rattle.iim_commands.specs.Format.Narration.{story_of}
 use Rattle.iim_commands.specs.Format.Packing.{ScriptContent, IsScriptOf}
-use Rattle.iim_commands.specs.Format.Scripts.{told_of, TellsJust, ShownEnvelopesAreScripts}
+use Rattle.iim_commands.specs.Laws.Scripts.{told_of, TellsJust, ShownEnvelopesAreScripts}
 use Rattle.iim_commands.specs.Format.Texts.{number_line, sizes_line, shown_of}
 
 -- ---- the datasets that are kept

@@ -1,11 +1,10 @@
 -- How an unpacker is fed up to the end of an envelope.
 use Rattle.std.specs.Prelude.{◌≡◌, ◌⊎◌, ℕ, Bool, true, false, List, [], Result, Ok, Err}
 use Rattle.std.specs.Io.KnownBytes.{IsAtEnd}
-use Rattle.iim_dataset.specs.Format.Devices.{Device}
-use Rattle.iim_dataset.specs.Format.DeviceLaws.{HasGiven}
+use Rattle.iim_dataset.specs.States.Devices.{Device, HasGiven}
 use Rattle.wire_story.specs.Format.Delivery.{StoryEvent}
-use Rattle.iim_unpack.specs.Format.Intakes.{Faults, HasFed, IsOfReader, WasDone}
-use Rattle.iim_unpack.specs.Format.Unpacking.{Unpacking}
+use Rattle.iim_unpack.specs.States.Intakes.{Faults, HasFed, IsOfReader, WasDone}
+use Rattle.iim_unpack.specs.States.Unpacking.{Unpacking}
 use Rattle.iim_unpack.specs.declared.intake.IntakeFault.{IntakeFault}
 use Rattle.iim_unpack.specs.declared.intake.IntakeFault.TheVariants.{Refused, Read, Interrupted}
 use Rattle.iim_unpack.specs.declared.refusal.Refusal.{Refusal}

@@ -1,11 +1,11 @@
 -- The laws of writers of blocks, handed in by their impls.
 use Rattle.std.proofs.Common.{◌≡◌, ℕ, List, [], ◌∷◌, ◌++◌, map, refl, sym, ap, subst, ◌∙◌, append-nil, append_assoc, Option, None, Some, arith}
 use Rattle.std.specs.Io.KnownBytes.{Appends}
-use Rattle.iim_dataset.specs.Format.Devices.{Device}
+use Rattle.iim_dataset.specs.States.Devices.{Device}
 use Rattle.wire_story.specs.Format.Delivery.{StoryEvent, octet_for, LineOctet}
-use Rattle.wire_story.specs.Format.Writing.{WritesOn}
+use Rattle.wire_story.specs.States.Writing.{WritesOn}
 use Rattle.wire_story.specs.WritingLaws.{writes_nothing, writes_joined}
-use Rattle.iim_commands.specs.Format.Holding.{HasPut, PutsOn, PutsLines, device_of, held_of, stops_of}
+use Rattle.iim_commands.specs.States.Holding.{HasPut, PutsOn, PutsLines, device_of, held_of, stops_of}
 use Rattle.iim_commands.specs.declared.block_writer.BlockWriter.{BlockWriter}
 
 same_octets : (xs : List ℕ) → map octet_for (map LineOctet xs) ≡ xs

@@ -1,10 +1,14 @@
--- What the promises cite: a reader has to believe these.
+-- What octets are, and what is said of them.
 pub mod Format
+-- Where readers and writers stand.
+pub mod States
+-- What holds of these: statements, each the contract of a law.
+pub mod Laws
 -- What only proofs and private clauses cite.
+pub mod Listing
 pub mod Faults
 pub mod Feeding
 pub mod HoldingLaws
-pub mod Listing
-pub mod Narration
+pub mod NarrationEnds
 pub mod PackSteps
 pub mod Verbs

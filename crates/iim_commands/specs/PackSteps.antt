@@ -1,13 +1,12 @@
 -- What the parts of `pack` leave.
 use Rattle.std.specs.Prelude.{◌≡◌, ◌≢◌, ℕ, ◌≤◌, List, ◌++◌, length, codes}
 use Rattle.std.specs.Io.KnownBytes.{IsAtEnd}
-use Rattle.iim_dataset.specs.Format.Devices.{Device, Missed, Wrote}
-use Rattle.iim_dataset.specs.Format.DeviceLaws.{BrokeAfter, HasGiven}
+use Rattle.iim_dataset.specs.States.Devices.{Device, Missed, Wrote, BrokeAfter, HasGiven}
 use Rattle.iim_dataset.specs.declared.device.IoFault.{IoFault}
 use Rattle.iim_object.specs.Format.PackCauses.{pack_number}
-use Rattle.iim_object.specs.Format.Writing.{Begins}
-use Rattle.iim_object.specs.declared.cause.PackCause.{PackCause}
-use Rattle.iim_object.specs.declared.cause.PackCause.TheVariants as causes
+use Rattle.iim_object.specs.States.Writing.{Begins}
+use Rattle.iim_object.specs.declared.writing.cause.PackCause.{PackCause}
+use Rattle.iim_object.specs.declared.writing.cause.PackCause.TheVariants as causes
 use Rattle.iim_object.specs.declared.plan.Plan.{Plan}
 use Rattle.iim_pack.specs.Format.Packed.{Packed}
 use Rattle.iim_script.specs.Format.Causes.{cause_name, cause_number}
@@ -18,7 +17,7 @@ use Rattle.iim_commands.specs.declared.fault.CommandFault.{CommandFault}
 use Rattle.iim_commands.specs.declared.fault.CommandFault.TheVariants.{CannotRead, CannotWrite, OutOfMemory}
 use Rattle.iim_commands.specs.declared.packing.PackFault.{PackFault}
 use Rattle.iim_commands.specs.declared.packing.PackFault.TheVariants.{Refused, Around}
-use Rattle.iim_commands.specs.Format.Packing.{Asked, FitsAsked, IsBrokenOff, IsFormOf, IsPast, IsPlanOf, IsRefusal, ScriptContent, object_of, refusal_line}
+use Rattle.iim_commands.specs.Format.Packing.{Asked, FitsAsked, IsBrokenOff, IsFormOf, IsPast, IsPlanOf, IsScriptRefusal, ScriptContent, object_of, refusal_line}
 
 -- One read, past interruptions, added `count` octets: none only at the end.
 pub record GotSome (old new : Device) (before after : List ℕ) (count : ℕ) : Type 0 where
@@ -73,7 +72,7 @@ UnpacksTold a t old new (Around OutOfMemory) = new ≡ old
 
 -- Why octets are not packed.
 abbrev pub IsNotPacked : Asked → List ℕ → Device → Device → PackFault → Type 0
-IsNotPacked a octets old new (Refused line number name) = (new ≡ old) × IsRefusal a octets (refusal_line line number name.now)
+IsNotPacked a octets old new (Refused line number name) = (new ≡ old) × IsScriptRefusal a octets (refusal_line line number name.now)
 IsNotPacked a octets old new (Around CannotRead) = ⊥
 IsNotPacked a octets old new (Around CannotWrite) = IsBrokenOff a octets old new
 IsNotPacked a octets old new (Around OutOfMemory) = new ≡ old

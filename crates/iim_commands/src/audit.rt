@@ -2,15 +2,15 @@
 
 ghost use Rattle.std.specs.Prelude.{◌≡◌, None, IfOk, IfErr, OnOk};
 ghost use Rattle.iim_audit.specs.Format.Texts.{printed_report};
-ghost use Rattle.iim_unpack.specs.Format.Intakes.{line};
+ghost use Rattle.iim_unpack.specs.States.Intakes.{in_line};
 ghost use Rattle.iim_commands.specs.Format.Audits.{Audited, IsUnaudited, TellsWhy, CannotTell};
-ghost use Rattle.iim_commands.specs.Format.Holding.{HasPut, HoldsNothing, device_of};
+ghost use Rattle.iim_commands.specs.States.Holding.{HasPut, HoldsNothing, device_of};
 ghost use Rattle.iim_commands.specs.Listing.{IsUnadded};
 
 use crate::block_writer::BlockWriter;
 use crate::coming::LIMITS;
 use crate::fault::CommandFault;
-use crate::report::{TOO_MANY, add, add_last, push_refused};
+use crate::lines::{TOO_MANY, add, add_last, push_refused};
 use crate::status::{ACCEPTED, REFUSED};
 use iim_audit::{AuditCause, AuditFault, Report, audit};
 use iim_dataset::device_laws::{gifts_join, texts_join};
@@ -59,8 +59,10 @@ fn report_input<R: Source, W: Target>(
 ) -> Result<u8, CommandFault>
     requires alive { intake.old.failed ≡ None }
     requires held { HoldsNothing output.old }
-    ensures ok { IfOk result (Audited now.nanosecond (line R.state intake.old) (line R.state intake.new) (device_of W.state output.old) (device_of W.state output.new)) }
-    ensures err { IfErr result (IsUnaudited now.nanosecond (line R.state intake.old) (line R.state intake.new) (device_of W.state output.old) (device_of W.state output.new)) }
+    ensures ok { IfOk result (Audited now.nanosecond (in_line R.state intake.old) (in_line R.state intake.new)
+        (device_of W.state output.old) (device_of W.state output.new)) }
+    ensures err { IfErr result (IsUnaudited now.nanosecond (in_line R.state intake.old) (in_line R.state intake.new)
+        (device_of W.state output.old) (device_of W.state output.new)) }
     ensures leads { R.leads intake.old.reader intake.new.reader }
 {
     match audit(alloc, intake, LIMITS, now) {
@@ -85,8 +87,12 @@ pub fn write_audit<R: Source, W: Target>(
     output: W,
 ) -> (Result<u8, CommandFault>, W)
     requires { intake.old.failed ≡ None }
-    ensures ok { IfOk result.0 (Audited now.nanosecond (line R.state intake.old) (line R.state intake.new) (W.state output) (W.state result.1)) }
-    ensures err { IfErr result.0 (IsUnaudited now.nanosecond (line R.state intake.old) (line R.state intake.new) (W.state output) (W.state result.1)) }
+    ensures ok { IfOk result.0
+        (Audited now.nanosecond (in_line R.state intake.old) (in_line R.state intake.new) (W.state output)
+        (W.state result.1)) }
+    ensures err { IfErr result.0
+        (IsUnaudited now.nanosecond (in_line R.state intake.old) (in_line R.state intake.new) (W.state output)
+        (W.state result.1)) }
     ensures leads { R.leads intake.old.reader intake.new.reader }
 {
     gifts_join();

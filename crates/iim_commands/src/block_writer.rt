@@ -1,7 +1,7 @@
 //! Output in blocks.
 
 ghost use Rattle.std.specs.Prelude.{◌≡◌, ◌<◌, ◌≤◌, [], ◌∷◌, length, map, take, IfOk, IfErr, OnOk, OnErr};
-ghost use Rattle.iim_dataset.specs.Format.Devices.{Rose};
+ghost use Rattle.iim_dataset.specs.Format.Counts.{Rose};
 ghost use Rattle.wire_story.specs.Format.Texts.{IsLine};
 ghost use Rattle.wire_story.specs.Format.Delivery.{LineOctet, LineEnd};
 
@@ -23,7 +23,7 @@ pub struct BlockWriter<W> {
 }
 
 impl<W: Target> BlockWriter<W> {
-    ghost use Rattle.iim_commands.specs.Format.Holding.{HasPut, HasStuck, PutsOn, StaysStuck, HoldsNothing, writer_of, held_of, stops_of};
+    ghost use Rattle.iim_commands.specs.States.Holding.{HasPut, HasStuck, PutsOn, StaysStuck, HoldsNothing, writer_of, held_of, stops_of};
 
     /// A writer that holds nothing. Where memory is refused, the target is handed back.
     pub fn new(alloc: Global, writer: W) -> Result<BlockWriter<W>, W>
@@ -136,7 +136,7 @@ impl<W: Target> BlockWriter<W> {
 }
 
 impl<W: Target> StorySink for BlockWriter<W> {
-    ghost use Rattle.iim_commands.specs.Format.Holding.{PutsLines, stops_of};
+    ghost use Rattle.iim_commands.specs.States.Holding.{PutsLines, stops_of};
 
     ghost goes = { PutsLines W.state };
 
@@ -158,7 +158,7 @@ impl<W: Target> StorySink for BlockWriter<W> {
 }
 
 impl<W: Target> Outlet for BlockWriter<W> {
-    ghost use Rattle.iim_commands.specs.Format.Holding.{HoldsNothing, StaysStuck};
+    ghost use Rattle.iim_commands.specs.States.Holding.{HoldsNothing, StaysStuck};
 
     ghost settled = { HoldsNothing };
 

@@ -2,8 +2,8 @@
 
 ghost use Rattle.iim_commands.specs.Format.Lines.{line_of};
 
-use crate::list::EnvelopeReport;
-use crate::report::push_accepted;
+use crate::lines::push_accepted;
+use crate::list::EnvelopeLines;
 use iim_unpack::UnpackedRef;
 use std::alloc::AllocError;
 
@@ -11,7 +11,7 @@ use std::alloc::AllocError;
 #[derive(Clone, Copy)]
 pub struct Check;
 
-impl EnvelopeReport for Check {
+impl EnvelopeLines for Check {
     ghost written = { line_of };
 
     fn push_text(

@@ -1,8 +1,8 @@
 //! What comes next of an input.
 
 ghost use Rattle.std.specs.Prelude.{◌≡◌, [], None, IfOk, IfErr, OnOk, OnErr};
-ghost use Rattle.iim_unpack.specs.Format.Intakes.{line};
-ghost use Rattle.iim_commands.specs.Format.Coming.{IsNext, IsCalm, CanAskForMore};
+ghost use Rattle.iim_unpack.specs.States.Intakes.{in_line};
+ghost use Rattle.iim_commands.specs.States.Coming.{IsNext, IsCalm, CanAskForMore};
 
 use crate::fault::CommandFault;
 use crate::outlet::Outlet;
@@ -35,7 +35,7 @@ enum Halt {
     Intake(IntakeFault),
 }
 
-ghost use Rattle.iim_unpack.specs.Format.Unpacking.{Stands, limits_in};
+ghost use Rattle.iim_unpack.specs.States.Unpacking.{Stands, limits_in};
 ghost use Rattle.iim_commands.specs.Feeding.{FedAsWhole, HaltsBy, IsOfFault, IsOfHalt, IsOfRefusal};
 ghost use Rattle.iim_commands.specs.Format.Listings.{limits};
 
@@ -62,9 +62,11 @@ fn feed_envelope<R: Source, S: Outlet>(
     requires alive { intake.old.failed ≡ None }
     requires fresh { Stands unpacker.old [] 0 }
     requires limits { limits_in unpacker.old ≡ limits }
-    ensures fed { IfOk result (FedAsWhole S.goes S.settled (line R.state intake.old) (line R.state intake.new) unpacker.old unpacker.new sink.old sink.new) }
+    ensures fed { IfOk result (FedAsWhole S.goes S.settled (in_line R.state intake.old) (in_line R.state intake.new)
+        unpacker.old unpacker.new sink.old sink.new) }
     ensures calm { OnOk result (S.failures sink.new ≡ S.failures sink.old) }
-    ensures halts { IfErr result (HaltsBy S.goes S.failures S.settled S.stuck (line R.state intake.old) (line R.state intake.new) unpacker.old unpacker.new sink.old sink.new) }
+    ensures halts { IfErr result (HaltsBy S.goes S.failures S.settled S.stuck (in_line R.state intake.old)
+        (in_line R.state intake.new) unpacker.old unpacker.new sink.old sink.new) }
     ensures lives { OnOk result (intake.new.failed ≡ None) }
     ensures leads { R.leads intake.old.reader intake.new.reader }
 {
@@ -125,7 +127,8 @@ pub fn take_next<R: Source, S: Outlet>(
 ) -> Result<Next, CommandFault>
     requires alive { intake.old.failed ≡ None }
     requires limits { limits_in unpacker.old ≡ limits }
-    ensures next { IsNext S.goes S.failures S.settled S.stuck (line R.state intake.old) (line R.state intake.new) unpacker.new sink.old sink.new result }
+    ensures next { IsNext S.goes S.failures S.settled S.stuck (in_line R.state intake.old) (in_line R.state intake.new)
+        unpacker.new sink.old sink.new result }
     ensures calm { IsCalm (S.failures sink.old) (S.failures sink.new) result }
     ensures lives { CanAskForMore intake.new.failed result }
     ensures leads { R.leads intake.old.reader intake.new.reader }

@@ -18,13 +18,14 @@ pub(crate) struct Held {
 
 impl Model for Held {
     ghost use Rattle.std.specs.Prelude.{◌≡◌, ◌≤◌, ◌-◌, drop, length};
-    ghost use Rattle.iim_commands.specs.Format.Held.{Holding};
+    ghost use Rattle.iim_commands.specs.States.Held.{Holding};
 
     ghost Value = { Holding };
 
     ghost view = { λ h. record { octets = drop h.out h.block.items; room = h.block.room - length h.block.items } };
 
-    ghost invariant = { λ h. (h.out ≤ length h.block.items) × (length h.block.items ≤ h.block.room) × (h.block.room ≡ 4096) };
+    ghost invariant = { λ h. (h.out ≤ length h.block.items) × (length h.block.items ≤ h.block.room)
+        × (h.block.room ≡ 4096) };
 }
 
 impl Held {

@@ -1,7 +1,7 @@
 //! What holds of all inputs.
 
-ghost use Rattle.iim_commands.specs.Format.Narration.{EnvelopesAreDeliveredAsLines};
-ghost use Rattle.iim_commands.specs.Format.Scripts.{ShownEnvelopesAreScripts};
+ghost use Rattle.iim_commands.specs.Laws.Narration.{EnvelopesAreDeliveredAsLines};
+ghost use Rattle.iim_commands.specs.Laws.Scripts.{ShownEnvelopesAreScripts};
 
 use iim_dataset::laws::{events_tell_the_datasets, octets_are_handed_on_one_way};
 use iim_script::laws::{printed_values_are_scripts, scripts_have_no_fault, scripts_tell_one_thing};

@@ -1,18 +1,18 @@
 //! Reports of inputs: a text for each envelope, and a last line.
 
 ghost use Rattle.std.specs.Prelude.{◌≡◌, ◌++◌, ℕ, List, length, None, IfOk, IfErr, OnOk};
-ghost use Rattle.iim_unpack.specs.Format.Intakes.{line};
+ghost use Rattle.iim_unpack.specs.States.Intakes.{in_line};
 ghost use Rattle.iim_unpack.specs.Format.Value.{ShowsParts};
 ghost use Rattle.iim_unpack.specs.Format.Listing.{Listed};
 ghost use Rattle.iim_commands.specs.Format.Listings.{told};
-ghost use Rattle.iim_commands.specs.Format.Reports.{Reported, IsUnreported};
-ghost use Rattle.iim_commands.specs.Format.Holding.{HoldsNothing, device_of};
+ghost use Rattle.iim_commands.specs.Format.WrittenListings.{WritesListing, FailsListing};
+ghost use Rattle.iim_commands.specs.States.Holding.{HoldsNothing, device_of};
 ghost use Rattle.iim_commands.specs.Listing.{IsUnlisted, Settles};
 
 use crate::block_writer::BlockWriter;
 use crate::coming::{LIMITS, Next, take_next};
 use crate::fault::CommandFault;
-use crate::report::{TOO_MANY, add, add_last, push_refused};
+use crate::lines::{TOO_MANY, add, add_last, push_refused};
 use crate::silent::Silent;
 use crate::status::{ACCEPTED, REFUSED};
 use iim_audit::MAX_ENVELOPES;
@@ -22,7 +22,7 @@ use iim_unpack::{Intake, UnpackedRef, Unpacker};
 use std::alloc::{AllocError, Global};
 
 /// Reports the envelopes of an input. Where memory is short, some of the report may be held.
-fn list_texts<P: EnvelopeReport, R: Source, W: Target>(
+fn list_texts<P: EnvelopeLines, R: Source, W: Target>(
     alloc: Global,
     texts: &P,
     intake: &mut Intake<R>,
@@ -30,8 +30,10 @@ fn list_texts<P: EnvelopeReport, R: Source, W: Target>(
 ) -> Result<u8, CommandFault>
     requires alive { intake.old.failed ≡ None }
     requires held { HoldsNothing silent.old.output }
-    ensures ok { IfOk result (Reported P.written (line R.state intake.old) (line R.state intake.new) (device_of W.state silent.old.output) (device_of W.state silent.new.output)) }
-    ensures err { IfErr result (IsUnlisted W.state P.written (line R.state intake.old) (line R.state intake.new) silent.old.output silent.new.output) }
+    ensures ok { IfOk result (WritesListing P.written (in_line R.state intake.old) (in_line R.state intake.new)
+        (device_of W.state silent.old.output) (device_of W.state silent.new.output)) }
+    ensures err { IfErr result (IsUnlisted W.state P.written (in_line R.state intake.old) (in_line R.state intake.new)
+        silent.old.output silent.new.output) }
     ensures leads { R.leads intake.old.reader intake.new.reader }
 {
     gifts_join();
@@ -83,15 +85,19 @@ fn settle<W: Target>(
 /// Reports an input: each envelope, up to the end, to octets that are refused or to one envelope too many. Answers the status, and hands
 /// back the output. The texts of the envelopes that came are out before the input is read again. At a fault that is not of the output
 /// they are out too; where a write fails, those of them that are not out are lost.
-pub fn list<P: EnvelopeReport, R: Source, W: Target>(
+pub fn list<P: EnvelopeLines, R: Source, W: Target>(
     alloc: Global,
     texts: &P,
     intake: &mut Intake<R>,
     output: W,
 ) -> (Result<u8, CommandFault>, W)
     requires { intake.old.failed ≡ None }
-    ensures ok { IfOk result.0 (Reported P.written (line R.state intake.old) (line R.state intake.new) (W.state output) (W.state result.1)) }
-    ensures err { IfErr result.0 (IsUnreported P.written (line R.state intake.old) (line R.state intake.new) (W.state output) (W.state result.1)) }
+    ensures ok { IfOk result.0
+        (WritesListing P.written (in_line R.state intake.old) (in_line R.state intake.new) (W.state output)
+        (W.state result.1)) }
+    ensures err { IfErr result.0
+        (FailsListing P.written (in_line R.state intake.old) (in_line R.state intake.new) (W.state output)
+        (W.state result.1)) }
     ensures leads { R.leads intake.old.reader intake.new.reader }
 {
     gifts_join();
@@ -109,7 +115,7 @@ pub fn list<P: EnvelopeReport, R: Source, W: Target>(
 }
 
 /// What a command writes of each envelope.
-pub trait EnvelopeReport {
+pub trait EnvelopeLines {
     /// The text of the envelope with this number.
     ghost written: { ℕ → Listed → List ℕ };
 
@@ -121,5 +127,6 @@ pub trait EnvelopeReport {
         octets: u64,
         got: &UnpackedRef<'_>,
     ) -> Result<(), AllocError>
-        ensures { (e : Listed) → octets ≡ told (length e.octets) → ShowsParts got.now e.value → OnOk result (text.new.items ≡ text.old.items ++ written number e) };
+        ensures { (e : Listed) → octets ≡ told (length e.octets) → ShowsParts got.now e.value
+            → OnOk result (text.new.items ≡ text.old.items ++ written number e) };
 }

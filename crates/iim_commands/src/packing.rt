@@ -5,7 +5,7 @@ ghost use Rattle.iim_object.specs.Format.Plans.{is_plan};
 ghost use Rattle.iim_object.specs.declared.size.Size.TheVariants.{Unknown};
 
 use crate::fault::CommandFault;
-use crate::report::tell;
+use crate::lines::tell;
 use crate::script::read_script;
 use crate::status::{ACCEPTED, REFUSED};
 use iim_dataset::device_laws::gifts_join;
@@ -28,10 +28,10 @@ pub struct PackRequest {
 }
 
 ghost use Rattle.wire_message.specs.Format.Messages.{IsTrailer};
-ghost use Rattle.iim_commands.specs.Format.Devices.{devices};
+ghost use Rattle.iim_commands.specs.States.Devices.{devices};
 ghost use Rattle.iim_commands.specs.Format.Packing.{Answered, IsPacked, IsPast, IsPlanOf, IsRead, IsUnanswered, IsUnread, asked, object_of, refusal_line};
 ghost use Rattle.iim_commands.specs.PackSteps.{ComesTo, GotSome, IsFailedRead, IsNotPacked, MayComeOf, PacksTold, TellsFault, UnpacksTold, told_by};
-ghost use Rattle.iim_commands.specs.Format.Reports.{IsTold};
+ghost use Rattle.iim_commands.specs.Format.WrittenListings.{IsSaid};
 ghost use Rattle.iim_commands.specs.declared.fault.CommandFault.TheVariants.{OutOfMemory};
 ghost use Rattle.iim_commands.specs.Format.Statuses.{status_refused};
 
@@ -92,7 +92,8 @@ fn read_input<R: Source>(alloc: Global, reader: &mut R) -> Result<Vec<u8>, Comma
 /// subfiles than there may be.
 fn plan_of(request: PackRequest, told: &Script) -> Option<Plan>
     requires { IsTrailer told.now.trailer.items }
-    ensures plan { IfSome result (IsPlanOf (asked request.subfile request.unknown request.max) (object_of (told_by told.now))) }
+    ensures plan { IfSome result (IsPlanOf (asked request.subfile request.unknown request.max)
+        (object_of (told_by told.now))) }
     ensures past { IfNone result (IsPast (asked request.subfile request.unknown request.max) (told_by told.now)) }
 {
     let size = if request.unknown {
@@ -128,8 +129,12 @@ fn pack_told<W: Target>(
     output: W,
 ) -> Result<W, (PackFault, W)>
     requires { IsTrailer told.now.trailer.items }
-    ensures packed { IfOk result (λ last. PacksTold (asked request.subfile request.unknown request.max) (told_by told.now) (W.state output) (W.state last)) }
-    ensures unpacked { IfErr result (λ left. UnpacksTold (asked request.subfile request.unknown request.max) (told_by told.now) (W.state output) (W.state left.1) left.0) }
+    ensures packed { IfOk result (λ last.
+        PacksTold (asked request.subfile request.unknown request.max) (told_by told.now) (W.state output)
+        (W.state last)) }
+    ensures unpacked { IfErr result (λ left.
+        UnpacksTold (asked request.subfile request.unknown request.max) (told_by told.now) (W.state output)
+        (W.state left.1) left.0) }
 {
     let Some(plan) = plan_of(request, told) else {
         return Err((fault_for(PackCause::PastAnnounced, told.text_line), output));
@@ -169,8 +174,11 @@ fn pack_octets<W: Target>(
     octets: &[u8],
     output: W,
 ) -> Result<W, (PackFault, W)>
-    ensures packed { IfOk result (λ last. IsPacked (asked request.subfile request.unknown request.max) octets.now (W.state output) (W.state last)) }
-    ensures unpacked { IfErr result (λ left. IsNotPacked (asked request.subfile request.unknown request.max) octets.now (W.state output) (W.state left.1) left.0) }
+    ensures packed { IfOk result (λ last.
+        IsPacked (asked request.subfile request.unknown request.max) octets.now (W.state output) (W.state last)) }
+    ensures unpacked { IfErr result (λ left.
+        IsNotPacked (asked request.subfile request.unknown request.max) octets.now (W.state output) (W.state left.1)
+        left.0) }
 {
     match read_script(alloc, octets) {
         Ok(told) => pack_told(alloc, request, &told, output),
@@ -186,7 +194,8 @@ fn tell_refusal<E: Target>(
     number: u8,
     name: &str,
 ) -> Result<u8, CommandFault>
-    ensures told { IfOk result (IsTold (E.state errors.old) (E.state errors.new) (refusal_line line number name.now) status_refused) }
+    ensures told { IfOk result (IsSaid (E.state errors.old) (E.state errors.new) (refusal_line line number name.now)
+        status_refused) }
     ensures memory { IfErr result (λ fault. fault ≡ OutOfMemory) }
     ensures nothing { OnErr result (errors.new ≡ errors.old) }
 {
@@ -212,9 +221,11 @@ pub fn pack_script<R: Source, W: Target, E: Target>(
     errors: &mut E,
 ) -> (Result<u8, CommandFault>, W)
     ensures answered { IfOk result.0 (Answered (asked request.subfile request.unknown request.max)
-        (devices (R.state reader.old) (W.state output) (E.state errors.old)) (devices (R.state reader.new) (W.state result.1) (E.state errors.new))) }
+        (devices (R.state reader.old) (W.state output) (E.state errors.old))
+        (devices (R.state reader.new) (W.state result.1) (E.state errors.new))) }
     ensures unanswered { IfErr result.0 (IsUnanswered (asked request.subfile request.unknown request.max)
-        (devices (R.state reader.old) (W.state output) (E.state errors.old)) (devices (R.state reader.new) (W.state result.1) (E.state errors.new))) }
+        (devices (R.state reader.old) (W.state output) (E.state errors.old))
+        (devices (R.state reader.new) (W.state result.1) (E.state errors.new))) }
     ensures untold { OnErr result.0 (errors.new ≡ errors.old) }
     ensures leads { R.leads reader.old reader.new }
 {

@@ -1,17 +1,17 @@
 //! Does what a request asks for.
 
 ghost use Rattle.std.specs.Prelude.{◌≡◌, ℕ, List};
-ghost use Rattle.iim_unpack.specs.Format.Blocks.{with_held};
-ghost use Rattle.iim_commands.specs.Format.Outcomes.{Complained, EndsRun, EndsReport, EndsPacking, Ran, Reviewed, ToldAsStory};
+ghost use Rattle.iim_unpack.specs.States.Blocks.{with_held};
+ghost use Rattle.iim_commands.specs.Format.Outcomes.{Complained, EndsRun, EndsListing, EndsPacking, Ran, Reviewed, ToldAsStory};
 ghost use Rattle.iim_commands.specs.Format.Packing.{asked};
-ghost use Rattle.iim_commands.specs.Format.Devices.{devices};
+ghost use Rattle.iim_commands.specs.States.Devices.{devices};
 ghost use Rattle.iim_commands.specs.Format.Statuses.{status_failed};
 
 use crate::audit::write_audit;
 use crate::check::Check;
 use crate::fault::CommandFault;
 use crate::instant::Instant;
-use crate::list::{EnvelopeReport, list};
+use crate::list::{EnvelopeLines, list};
 use crate::packing::{PackRequest, pack_script};
 use crate::request::{Job, Request};
 use crate::show::Show;
@@ -41,14 +41,16 @@ fn finish<E: Target>(errors: &mut E, answer: Result<u8, CommandFault>) -> u8
 }
 
 /// Reports the envelopes of a reader: the status, and both writers.
-fn report<P: EnvelopeReport, R: Source + Drop, W: Target, E: Target>(
+fn write_listing<P: EnvelopeLines, R: Source + Drop, W: Target, E: Target>(
     alloc: Global,
     texts: &P,
     reader: R,
     output: W,
     errors: E,
 ) -> (u8, W, E)
-    ensures { (last : R) × (held : List ℕ) × R.leads reader last × EndsReport P.written (devices (R.state reader) (W.state output) (E.state errors)) (devices (with_held held (R.state last)) (W.state result.1) (E.state result.2)) result.0 }
+    ensures { (last : R) × (held : List ℕ) × R.leads reader last
+        × EndsListing P.written (devices (R.state reader) (W.state output) (E.state errors))
+        (devices (with_held held (R.state last)) (W.state result.1) (E.state result.2)) result.0 }
 {
     let mut intake = Intake::new(reader);
     let mut errors = errors;
@@ -64,7 +66,9 @@ fn tell<R: Source + Drop, W: Target, E: Target>(
     output: W,
     errors: E,
 ) -> (u8, W, E)
-    ensures { (last : R) × (held : List ℕ) × R.leads reader last × ToldAsStory (devices (R.state reader) (W.state output) (E.state errors)) (devices (with_held held (R.state last)) (W.state result.1) (E.state result.2)) result.0 }
+    ensures { (last : R) × (held : List ℕ) × R.leads reader last
+        × ToldAsStory (devices (R.state reader) (W.state output) (E.state errors))
+        (devices (with_held held (R.state last)) (W.state result.1) (E.state result.2)) result.0 }
 {
     let mut intake = Intake::new(reader);
     let mut errors = errors;
@@ -81,7 +85,9 @@ fn review<R: Source + Drop, W: Target, E: Target>(
     output: W,
     errors: E,
 ) -> (u8, W, E)
-    ensures { (last : R) × (held : List ℕ) × R.leads reader last × Reviewed now.nanosecond (devices (R.state reader) (W.state output) (E.state errors)) (devices (with_held held (R.state last)) (W.state result.1) (E.state result.2)) result.0 }
+    ensures { (last : R) × (held : List ℕ) × R.leads reader last
+        × Reviewed now.nanosecond (devices (R.state reader) (W.state output) (E.state errors))
+        (devices (with_held held (R.state last)) (W.state result.1) (E.state result.2)) result.0 }
 {
     let mut intake = Intake::new(reader);
     let mut errors = errors;
@@ -98,7 +104,10 @@ fn pack<R: Source + Drop, W: Target, E: Target>(
     output: W,
     errors: E,
 ) -> (u8, W, E)
-    ensures { (last : R) × R.leads reader last × EndsPacking (asked request.subfile request.unknown request.max) (devices (R.state reader) (W.state output) (E.state errors)) (devices (R.state last) (W.state result.1) (E.state result.2)) result.0 }
+    ensures { (last : R) × R.leads reader last
+        × EndsPacking (asked request.subfile request.unknown request.max)
+        (devices (R.state reader) (W.state output) (E.state errors))
+        (devices (R.state last) (W.state result.1) (E.state result.2)) result.0 }
 {
     let mut reader = reader;
     let mut errors = errors;
@@ -116,11 +125,13 @@ pub fn run<R: Source + Drop, W: Target, E: Target>(
     errors: E,
 ) -> (u8, W, E)
     // The reader came to `last`, of whose octets some were read and not used.
-    ensures { (last : R) × (held : List ℕ) × R.leads reader last × Ran request.entry.job (devices (R.state reader) (W.state output) (E.state errors)) (devices (with_held held (R.state last)) (W.state result.1) (E.state result.2)) result.0 }
+    ensures { (last : R) × (held : List ℕ) × R.leads reader last
+        × Ran request.entry.job (devices (R.state reader) (W.state output) (E.state errors))
+        (devices (with_held held (R.state last)) (W.state result.1) (E.state result.2)) result.0 }
 {
     match request.job {
-        Job::Check => report(alloc, &Check, reader, output, errors),
-        Job::Show => report(alloc, &Show, reader, output, errors),
+        Job::Check => write_listing(alloc, &Check, reader, output, errors),
+        Job::Show => write_listing(alloc, &Show, reader, output, errors),
         Job::Story => tell(alloc, reader, output, errors),
         Job::Pack(request) => pack(alloc, request, reader, output, errors),
         Job::Audit { now } => review(alloc, now, reader, output, errors),

@@ -11,7 +11,8 @@ use std::alloc::Global;
 
 /// What a script tells, its datasets within [`LIMITS`]; or its first fault by line.
 pub fn read_script(alloc: Global, octets: &[u8]) -> Result<Script, ScriptFault>
-    ensures script { IfOk result (λ told. IsScript limits octets.now told.envelope told.head told.trailer.items told.lines.lines told.text_line) }
+    ensures script { IfOk result (λ told.
+        IsScript limits octets.now told.envelope told.head told.trailer.items told.lines.lines told.text_line) }
     ensures fault { IfErr result (λ fault. IsScriptFault limits octets.now fault.line fault.cause) }
 {
     iim_script::read_script(alloc, LIMITS, octets)

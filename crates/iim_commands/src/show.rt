@@ -7,8 +7,8 @@ ghost use Rattle.iim_commands.specs.Format.Texts.{mode_of, number_line, shown_of
 ghost use Rattle.std.specs.List.{flat_map};
 ghost use Rattle.iim_dataset.specs.Format.Characters.{sp};
 
-use crate::list::EnvelopeReport;
-use crate::report::push_printed;
+use crate::lines::push_printed;
+use crate::list::EnvelopeLines;
 use crate::shown::push_after_space;
 use iim_audit::NumberOrDash;
 use iim_dataset::DatasetName;
@@ -22,7 +22,7 @@ use wire_message::MessageHead;
 #[derive(Clone, Copy)]
 pub struct Show;
 
-impl EnvelopeReport for Show {
+impl EnvelopeLines for Show {
     ghost written = { shown_of };
 
     fn push_text(
@@ -49,7 +49,8 @@ fn push_number(text: &mut Vec<u8>, number: u64) -> Result<(), AllocError>
 
 /// Adds the line of a dataset.
 fn push_field(text: &mut Vec<u8>, name: DatasetName, octets: &[u8]) -> Result<(), AllocError>
-    ensures { OnOk result (text.new.items ≡ text.old.items ++ field_line (record { rec = name.rec; set = name.set; octets = octets.now })) }
+    ensures { OnOk result (text.new.items ≡ text.old.items
+        ++ field_line (record { rec = name.rec; set = name.set; octets = octets.now })) }
 {
     push_printed(text, name)?;
     push_after_space(text, octets)?;
@@ -78,7 +79,8 @@ fn push_word(text: &mut Vec<u8>, word: &[u8]) -> Result<(), AllocError>
 
 /// Adds the first words of the message's header.
 fn push_first_words(text: &mut Vec<u8>, head: &MessageHead) -> Result<(), AllocError>
-    ensures { OnOk result (text.new.items ≡ text.old.items ++ (codes "message" ++ (sp ∷ head.now.source ++ (sp ∷ head.now.number ++ sp ∷ head.now.priority)))) }
+    ensures { OnOk result (text.new.items ≡ text.old.items
+        ++ (codes "message" ++ (sp ∷ head.now.source ++ (sp ∷ head.now.number ++ sp ∷ head.now.priority)))) }
 {
     text.extend_from_slice(b"message")?;
     push_word(text, head.source())?;
@@ -88,7 +90,8 @@ fn push_first_words(text: &mut Vec<u8>, head: &MessageHead) -> Result<(), AllocE
 
 /// Adds the last words of the message's header, its info, and the end of the line.
 fn push_last_words(text: &mut Vec<u8>, head: &MessageHead) -> Result<(), AllocError>
-    ensures { OnOk result (text.new.items ≡ text.old.items ++ (sp ∷ head.now.category ++ (sp ∷ head.now.words ++ (after_space head.now.info ++ codes "\n")))) }
+    ensures { OnOk result (text.new.items ≡ text.old.items
+        ++ (sp ∷ head.now.category ++ (sp ∷ head.now.words ++ (after_space head.now.info ++ codes "\n")))) }
 {
     push_word(text, head.category())?;
     push_word(text, head.words())?;
@@ -124,7 +127,10 @@ fn mode(known: bool) -> u8
 
 /// Adds the first half of the line of sizes.
 fn push_counts(text: &mut Vec<u8>, sizes: Sizes) -> Result<(), AllocError>
-    ensures { OnOk result (text.new.items ≡ text.old.items ++ (codes "object " ++ (decimal sizes.total ++ (codes " octets, " ++ (decimal sizes.subfiles ++ (codes " subfiles, mode " ++ decimal (mode_of sizes.known))))))) }
+    ensures { OnOk result (text.new.items ≡ text.old.items
+        ++ (codes "object " ++ (decimal sizes.total
+        ++ (codes " octets, " ++ (decimal sizes.subfiles
+        ++ (codes " subfiles, mode " ++ decimal (mode_of sizes.known))))))) }
 {
     let total = sizes.total;
     let subfiles = sizes.subfiles;
@@ -137,7 +143,10 @@ fn push_counts(text: &mut Vec<u8>, sizes: Sizes) -> Result<(), AllocError>
 
 /// Adds the second half of it.
 fn push_bounds(text: &mut Vec<u8>, sizes: Sizes) -> Result<(), AllocError>
-    ensures { OnOk result (text.new.items ≡ text.old.items ++ (codes ", limit " ++ (decimal sizes.subfile ++ (codes ", announced " ++ (number_or_dash sizes.announced ++ (codes ", maximum " ++ (number_or_dash sizes.maximum ++ codes "\n"))))))) }
+    ensures { OnOk result (text.new.items ≡ text.old.items
+        ++ (codes ", limit " ++ (decimal sizes.subfile
+        ++ (codes ", announced " ++ (number_or_dash sizes.announced
+        ++ (codes ", maximum " ++ (number_or_dash sizes.maximum ++ codes "\n"))))))) }
 {
     let limit = sizes.subfile;
     let announced = NumberOrDash(sizes.announced);

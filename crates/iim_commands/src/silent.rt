@@ -15,7 +15,7 @@ pub struct Silent<W> {
 }
 
 impl<W: Target> StorySink for Silent<W> {
-    ghost use Rattle.iim_commands.specs.Format.Silence.{PassesOver, refuses_never};
+    ghost use Rattle.iim_commands.specs.States.Silence.{PassesOver, refuses_never};
 
     ghost goes = { PassesOver W.state };
 
@@ -37,7 +37,7 @@ impl<W: Target> StorySink for Silent<W> {
 }
 
 impl<W: Target> Outlet for Silent<W> {
-    ghost use Rattle.iim_commands.specs.Format.Silence.{IsSettled, IsStuck};
+    ghost use Rattle.iim_commands.specs.States.Silence.{IsSettled, IsStuck};
 
     ghost settled = { IsSettled };
 

@@ -2,16 +2,16 @@
 
 ghost use Rattle.std.specs.Prelude.{◌≡◌, [], ◌∷◌, None, IfOk, IfErr, OnOk};
 ghost use Rattle.iim_dataset.specs.Format.Characters.{lf};
-ghost use Rattle.iim_unpack.specs.Format.Intakes.{line};
-ghost use Rattle.iim_commands.specs.Narration.{IsHeldBack, IsUnended};
-ghost use Rattle.iim_commands.specs.Format.Holding.{HoldsNothing, PutsOn, device_of, stops_of};
+ghost use Rattle.iim_unpack.specs.States.Intakes.{in_line};
+ghost use Rattle.iim_commands.specs.NarrationEnds.{IsHeldBack, IsUnended};
+ghost use Rattle.iim_commands.specs.States.Holding.{HoldsNothing, PutsOn, device_of, stops_of};
 ghost use Rattle.iim_commands.specs.Format.Narration.{IsUnnarrated, Narrated};
 
 use crate::block_writer::BlockWriter;
 use crate::coming::{LIMITS, Next, take_next};
 use crate::fault::CommandFault;
 use crate::laws::envelopes_are_delivered_as_lines;
-use crate::report::{TOO_MANY, push_accepted, push_refused, say};
+use crate::lines::{TOO_MANY, push_accepted, push_refused, say};
 use crate::status::{ACCEPTED, REFUSED};
 use iim_audit::MAX_ENVELOPES;
 use iim_dataset::device_laws::{gifts_join, texts_join};
@@ -57,8 +57,10 @@ fn tell_stories<R: Source, W: Target, E: Target>(
     requires alive { intake.old.failed ≡ None }
     requires held { HoldsNothing output.old }
     requires unbroken { stops_of output.old ≡ 0 }
-    ensures ok { IfOk result (Narrated (line R.state intake.old) (line R.state intake.new) (device_of W.state output.old) (device_of W.state output.new) (E.state errors.old) (E.state errors.new)) }
-    ensures err { IfErr result (IsUnnarrated (line R.state intake.old) (line R.state intake.new) (device_of W.state output.old) (device_of W.state output.new) (E.state errors.old) (E.state errors.new)) }
+    ensures ok { IfOk result (Narrated (in_line R.state intake.old) (in_line R.state intake.new)
+        (device_of W.state output.old) (device_of W.state output.new) (E.state errors.old) (E.state errors.new)) }
+    ensures err { IfErr result (IsUnnarrated (in_line R.state intake.old) (in_line R.state intake.new)
+        (device_of W.state output.old) (device_of W.state output.new) (E.state errors.old) (E.state errors.new)) }
     ensures leads { R.leads intake.old.reader intake.new.reader }
 {
     gifts_join();
@@ -107,8 +109,12 @@ pub fn narrate<R: Source, W: Target, E: Target>(
     errors: &mut E,
 ) -> (Result<u8, CommandFault>, W)
     requires { intake.old.failed ≡ None }
-    ensures ok { IfOk result.0 (Narrated (line R.state intake.old) (line R.state intake.new) (W.state output) (W.state result.1) (E.state errors.old) (E.state errors.new)) }
-    ensures err { IfErr result.0 (IsUnnarrated (line R.state intake.old) (line R.state intake.new) (W.state output) (W.state result.1) (E.state errors.old) (E.state errors.new)) }
+    ensures ok { IfOk result.0
+        (Narrated (in_line R.state intake.old) (in_line R.state intake.new) (W.state output) (W.state result.1)
+        (E.state errors.old) (E.state errors.new)) }
+    ensures err { IfErr result.0
+        (IsUnnarrated (in_line R.state intake.old) (in_line R.state intake.new) (W.state output) (W.state result.1)
+        (E.state errors.old) (E.state errors.new)) }
     ensures leads { R.leads intake.old.reader intake.new.reader }
 {
     gifts_join();

@@ -3,7 +3,7 @@ use Rattle.std.proofs.Common.{◌≡◌, ℕ, ◌⊎◌, List, [], ◌∷◌, �
 use Rattle.iim_dataset.specs.Format.Datasets.{Dataset, SpellsTag, SpellsStream, count_octets}
 use Rattle.iim_dataset.specs.Format.Splits.{Begun, InTag, InData, IsBegun}
 use Rattle.iim_dataset.specs.Format.Tags.{BeginsNoTag}
-use Rattle.iim_dataset.specs.Format.Laws.{NoOctetsContinue}
+use Rattle.iim_dataset.specs.Laws.Datasets.{NoOctetsContinue}
 use Rattle.iim_dataset.specs.declared.head.Head.{Head}
 use Rattle.iim_dataset.proofs.Spellings.{one_tag, one_dataset, no_whole}
 use Rattle.iim_dataset.proofs.OneHanding.{ends}

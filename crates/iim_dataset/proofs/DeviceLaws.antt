@@ -1,9 +1,8 @@
 -- Faults after calls that went well.
 use Rattle.std.proofs.Common.{ℕ, ◌≤◌, inl, inr, arith, ◌∙◌}
-use Rattle.iim_dataset.specs.Format.DeviceLaws.{BrokeFor}
+use Rattle.iim_dataset.specs.States.Devices.{BrokeFor, Device, Unfailed, Broke, RoseAtLeast, max_interruptions}
 use Rattle.iim_dataset.specs.declared.device.IoFault.{IoFault}
 use Rattle.iim_dataset.specs.declared.device.IoFault.TheVariants.{Interrupted, Failed}
-use Rattle.iim_dataset.specs.Format.Devices.{Device, Unfailed, Broke, RoseAtLeast, max_interruptions}
 
 higher : (m n o : ℕ) → m ≤ n → RoseAtLeast max_interruptions n o → RoseAtLeast max_interruptions m o
 higher m n o le (inl some) = inl (omega (arith, some, le))

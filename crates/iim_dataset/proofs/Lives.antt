@@ -3,12 +3,12 @@ use Rattle.std.proofs.Common.{◌≡◌, ℕ, List, [], ◌∷◌, ◌++◌, rep
 use Rattle.std.proofs.lemmas.List.{length-replicate}
 use Rattle.iim_dataset.specs.Format.Datasets.{Dataset, SpellsTag, SpellsStream, count_octets}
 use Rattle.iim_dataset.specs.Format.Splits.{Begun, InTag, Reads}
-use Rattle.iim_dataset.specs.Format.Events.{DatasetEvent}
-use Rattle.iim_dataset.specs.Format.Places.{HandsOn, LeadsTo, IsKeptAs}
-use Rattle.iim_dataset.specs.Format.Reading.{TagDies}
+use Rattle.iim_dataset.specs.States.Events.{DatasetEvent}
+use Rattle.iim_dataset.specs.States.Places.{HandsOn, LeadsTo, IsKeptAs}
+use Rattle.iim_dataset.specs.States.Reading.{TagDies}
 use Rattle.iim_dataset.specs.Format.Tags.{BeginsNoTag}
 use Rattle.iim_dataset.specs.Format.Languages.{IsAlive, DiesAt}
-use Rattle.iim_dataset.specs.Format.Laws.{AreDatasets, ReadOctetsContinue, ReadOctetsSplit, OctetsDieInTheirTag, ReadersDieExactly}
+use Rattle.iim_dataset.specs.Laws.Datasets.{AreDatasets, ReadOctetsContinue, ReadOctetsSplit, OctetsDieInTheirTag, ReadersDieExactly}
 use Rattle.iim_dataset.specs.declared.head.Head.{Head}
 use Rattle.iim_dataset.specs.declared.head.HeadCause.{HeadCause}
 use Rattle.iim_dataset.specs.declared.place.DatasetPlace.{DatasetPlace}

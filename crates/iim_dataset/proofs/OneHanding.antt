@@ -4,8 +4,8 @@ use Rattle.std.proofs.lemmas.List.{length-replicate}
 use Rattle.iim_dataset.specs.Format.Octets.{Octets}
 use Rattle.iim_dataset.specs.Format.Datasets.{Dataset, SpellsTag, SpellsDataset, count_octets}
 use Rattle.iim_dataset.specs.Format.Splits.{Begun, InTag, InData, IsBegun}
-use Rattle.iim_dataset.specs.Format.Events.{DatasetEvent, handed_on}
-use Rattle.iim_dataset.specs.Format.Places.{HandsOn}
+use Rattle.iim_dataset.specs.States.Events.{DatasetEvent, handed_on}
+use Rattle.iim_dataset.specs.States.Places.{HandsOn}
 use Rattle.iim_dataset.specs.declared.head.Head.{Head}
 use Rattle.iim_dataset.proofs.Fronts.{zeros_are, both_are}
 use Rattle.iim_dataset.proofs.Spellings.{one_tag, one_splitting}

@@ -3,9 +3,9 @@ use Rattle.std.proofs.Common.{◌≡◌, ℕ, ◌<◌, ◌⊎◌, List, [], ◌�
 use Rattle.std.proofs.lemmas.List.Concat.{flat_map-append}
 use Rattle.iim_dataset.specs.Format.Datasets.{Dataset, SpellsTag, SpellsDataset, SpellsStream, head_of, count_octets}
 use Rattle.iim_dataset.specs.Format.Splits.{Begun, InTag, InData, IsBegun, Reads}
-use Rattle.iim_dataset.specs.Format.Events.{DatasetEvent, HeadRead, DataOctet, DatasetEnd, events_of, handed_on}
-use Rattle.iim_dataset.specs.Format.Completing.{CompletesNow}
-use Rattle.iim_dataset.specs.Format.Laws.{WhatAnOctetCompletes}
+use Rattle.iim_dataset.specs.States.Events.{DatasetEvent, HeadRead, DataOctet, DatasetEnd, events_of, handed_on}
+use Rattle.iim_dataset.specs.Laws.Completing.{CompletesNow}
+use Rattle.iim_dataset.specs.Laws.Datasets.{WhatAnOctetCompletes}
 use Rattle.iim_dataset.specs.declared.head.Head.{Head}
 use Rattle.iim_dataset.proofs.Spellings.{one_tag, one_dataset}
 

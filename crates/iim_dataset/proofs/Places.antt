@@ -9,10 +9,10 @@ use Rattle.iim_dataset.specs.Format.Octets.{Octets}
 use Rattle.iim_dataset.specs.Format.Datasets.{Dataset, SpellsTag, SpellsDataset, SpellsStream, count_octets}
 use Rattle.iim_dataset.specs.Format.Splits.{Begun, InTag, InData, Reads}
 use Rattle.iim_dataset.specs.Format.Tags.{BeginsTag}
-use Rattle.iim_dataset.specs.Format.Events.{DatasetEvent, HeadRead, DataOctet, DatasetEnd, events_of, handed_on}
-use Rattle.iim_dataset.specs.Format.Places.{LeadsTo, HandsOn, IsKeptAs, Brings, between}
-use Rattle.iim_dataset.specs.Format.Reading.{Stops}
-use Rattle.iim_dataset.specs.Completing.{head_events, place_after_head}
+use Rattle.iim_dataset.specs.States.Events.{DatasetEvent, HeadRead, DataOctet, DatasetEnd, events_of, handed_on}
+use Rattle.iim_dataset.specs.States.Places.{LeadsTo, HandsOn, IsKeptAs, Brings, between}
+use Rattle.iim_dataset.specs.States.Reading.{Stops}
+use Rattle.iim_dataset.specs.TagEnds.{head_events, place_after_head}
 use Rattle.iim_dataset.specs.declared.head.Head.{Head}
 use Rattle.iim_dataset.specs.declared.place.DatasetPlace.{DatasetPlace}
 use Rattle.iim_dataset.specs.declared.place.DatasetPlace.TheVariants.{Tag, Inside}

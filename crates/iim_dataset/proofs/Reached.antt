@@ -4,9 +4,9 @@ use Rattle.std.proofs.lemmas.List.{length-replicate}
 use Rattle.arrayvec.specs.ArrayVec.{ArrayVec}
 use Rattle.iim_dataset.specs.Format.Datasets.{SpellsTag, count_octets}
 use Rattle.iim_dataset.specs.Format.Splits.{Begun, InTag, InData}
-use Rattle.iim_dataset.specs.Format.Events.{DatasetEvent, handed_on}
-use Rattle.iim_dataset.specs.Format.Places.{IsPlace, IsKeptAs, LeadsTo}
-use Rattle.iim_dataset.specs.Format.Laws.{PlacesAreReached, OctetsLeadToOnePlace}
+use Rattle.iim_dataset.specs.States.Events.{DatasetEvent, handed_on}
+use Rattle.iim_dataset.specs.States.Places.{IsPlace, IsKeptAs, LeadsTo}
+use Rattle.iim_dataset.specs.Laws.Datasets.{PlacesAreReached, OctetsLeadToOnePlace}
 use Rattle.iim_dataset.specs.declared.place.DatasetPlace.{DatasetPlace}
 use Rattle.iim_dataset.specs.declared.place.DatasetPlace.TheVariants.{Tag, Inside}
 use Rattle.iim_dataset.proofs.Fronts.{zeros_are}

@@ -8,16 +8,16 @@ use Rattle.std.proofs.Math.Seq.{take-suc, take-add}
 use Rattle.arrayvec.specs.ArrayVec.{ArrayVec}
 use Rattle.iim_dataset.specs.Format.Octets.{Octets}
 use Rattle.iim_dataset.specs.Format.Datasets.{SpellsTag, count_octets}
-use Rattle.iim_dataset.specs.Format.Events.{DatasetEvent, DataOctet, DatasetEnd}
-use Rattle.iim_dataset.specs.Format.Places.{between, to_come, IsPlace, LeadsTo, Brings, TellsSink}
-use Rattle.iim_dataset.specs.Format.Reading.{tag_cause_of, AfterStep, TagDies, Completes, Stops, Refuses, RefusesFor, StillStands, RefusesOne}
+use Rattle.iim_dataset.specs.States.Events.{DatasetEvent, DataOctet, DatasetEnd}
+use Rattle.iim_dataset.specs.States.Places.{between, to_come, IsPlace, LeadsTo, Brings, TellsSink}
+use Rattle.iim_dataset.specs.States.Reading.{tag_cause_of, AfterStep, TagDies, Completes, Stops, Refuses, RefusesFor, StillStands, RefusesOne}
 use Rattle.iim_dataset.specs.Fronts.{TakesOnward}
-use Rattle.iim_dataset.specs.Completing.{StopsAmong, head_events, place_after_head}
+use Rattle.iim_dataset.specs.TagEnds.{StopsAmong, head_events, place_after_head}
 use Rattle.iim_dataset.specs.declared.head.Head.{Head}
 use Rattle.iim_dataset.specs.declared.head.HeadCause.{HeadCause}
 use Rattle.iim_dataset.specs.declared.fault.Fault.{Fault}
 use Rattle.iim_dataset.specs.declared.fault.FaultCause.TheVariants.{Stopped}
-use Rattle.iim_dataset.specs.declared.front.Refused.{Refused}
+use Rattle.iim_dataset.specs.declared.piece.Refused.{Refused}
 use Rattle.iim_dataset.specs.declared.sink.Step.{Step}
 use Rattle.iim_dataset.specs.declared.sink.Step.TheVariants.{More, Last}
 use Rattle.iim_dataset.specs.declared.place.DatasetPlace.{DatasetPlace}

@@ -5,10 +5,10 @@ use Rattle.std.proofs.Math.Seq.{take-add, take-append-add}
 use Rattle.std.proofs.lemmas.List.{take-take, length-take-le, get_or-take, get_or-append-add}
 use Rattle.iim_dataset.specs.Format.Octets.{Octets}
 use Rattle.iim_dataset.specs.Format.Datasets.{SpellsTag, count_octets}
-use Rattle.iim_dataset.specs.Format.Events.{DatasetEvent, HeadRead, DataOctet, DatasetEnd}
+use Rattle.iim_dataset.specs.States.Events.{DatasetEvent, HeadRead, DataOctet, DatasetEnd}
 use Rattle.iim_dataset.specs.Format.Tags.{BeginsTag, HasTag}
-use Rattle.iim_dataset.specs.Format.Places.{Brings, LeadsTo, TellsSink, between}
-use Rattle.iim_dataset.specs.Format.Reading.{AfterStep, Stops}
+use Rattle.iim_dataset.specs.States.Places.{Brings, LeadsTo, TellsSink, between}
+use Rattle.iim_dataset.specs.States.Reading.{AfterStep, Stops}
 use Rattle.iim_dataset.specs.Fronts.{WholeFront}
 use Rattle.iim_dataset.specs.declared.head.Head.{Head}
 use Rattle.iim_dataset.specs.declared.sink.Step.{Step}

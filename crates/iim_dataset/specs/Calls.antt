@@ -2,7 +2,8 @@
 use Rattle.std.specs.Prelude.{◌≡◌, ℕ, ◌<◌, ◌≤◌, ◌⊎◌, List, length, take, None}
 use Rattle.std.specs.Io.KnownBytes.{Appends}
 use Rattle.iim_dataset.specs.declared.device.Faults.{Faults}
-use Rattle.iim_dataset.specs.Format.Devices.{Device, faulty, Rose}
+use Rattle.iim_dataset.specs.States.Devices.{Device, faulty}
+use Rattle.iim_dataset.specs.Format.Counts.{Rose}
 
 abbrev pub no_faults : Faults
 no_faults = record { failures = 0; interruptions = 0 }

@@ -2,15 +2,8 @@ pub mod Octets
 pub mod Characters
 pub mod Datasets
 pub mod Splits
-pub mod Events
 pub mod Languages
 pub mod Tags
-pub mod Places
-pub mod Reading
 pub mod Completing
-pub mod Devices
-pub mod DeviceLaws
-pub mod Trials
+pub mod Counts
 pub mod Shown
-pub mod Reserved
-pub mod Laws

@@ -3,9 +3,9 @@ use Rattle.std.specs.Prelude.{ℕ, ◌<◌, ◌≤◌, List, ◌++◌, length, t
 use Rattle.iim_dataset.specs.Format.Octets.{Octets}
 use Rattle.iim_dataset.specs.Format.Datasets.{SpellsTag, count_octets}
 use Rattle.iim_dataset.specs.declared.head.Head.{Head}
-use Rattle.iim_dataset.specs.Format.Events.{DatasetEvent}
-use Rattle.iim_dataset.specs.Format.Places.{IsPlace, TellsSink, between, to_come}
-use Rattle.iim_dataset.specs.declared.front.Front.{Front}
+use Rattle.iim_dataset.specs.States.Events.{DatasetEvent}
+use Rattle.iim_dataset.specs.States.Places.{IsPlace, TellsSink, between, to_come}
+use Rattle.iim_dataset.specs.declared.piece.Front.{Front}
 use Rattle.iim_dataset.specs.declared.place.DatasetPlace.{DatasetPlace}
 use Rattle.iim_dataset.specs.declared.sink.Step.{Step}
 use Rattle.iim_dataset.specs.declared.sink.Step.TheVariants.{More, Last}

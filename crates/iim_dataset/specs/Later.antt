@@ -1,7 +1,7 @@
 -- Later devices continue: the laws of the sources, handed in by their impls.
 use Rattle.std.proofs.Common.{[], ℕ, List, ◌++◌, None, Some, Option, refl, ap, sym, ◌∙◌, arith, append_assoc}
 use Rattle.std.specs.Io.KnownBytes.{Consumes}
-use Rattle.iim_dataset.specs.Format.Devices.{Device, LaterThan}
+use Rattle.iim_dataset.specs.States.Devices.{Device, LaterThan}
 
 pub consumes_consumes : (a b c : Option (List ℕ)) (xs ys : List ℕ) → Consumes a b xs → Consumes b c ys → Consumes a c (xs ++ ys)
 consumes_consumes None b c xs ys h k = tt

@@ -1,8 +1,12 @@
--- What the promises cite: a reader has to believe these.
+-- What octets are, and what is said of them.
 pub mod Format
+-- Where readers and writers stand.
+pub mod States
+-- What holds of these: statements, each the contract of a law.
+pub mod Laws
 -- What only proofs and private clauses cite.
 pub mod Fronts
-pub mod Completing
+pub mod TagEnds
 pub mod Later
 pub mod TrialLaws
 pub mod Calls

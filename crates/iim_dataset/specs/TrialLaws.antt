@@ -4,8 +4,8 @@ use Rattle.iim_dataset.specs.declared.trial.Plan.{Plan}
 use Rattle.iim_dataset.specs.declared.trial.Trouble.{Trouble}
 use Rattle.iim_dataset.specs.declared.trial.Trouble.TheVariants.{Failure, Interruptions}
 use Rattle.iim_dataset.specs.declared.trial.TrialReader.{TrialReader}
-use Rattle.iim_dataset.specs.Format.Devices.{Calm}
-use Rattle.iim_dataset.specs.Format.Trials.{planned, SameTrouble, KeepsFailures, GoesByPlan, ReadsOn, trial_device}
+use Rattle.iim_dataset.specs.States.Devices.{Calm}
+use Rattle.iim_dataset.specs.States.Trials.{planned, SameTrouble, KeepsFailures, GoesByPlan, ReadsOn, trial_device}
 use Rattle.iim_dataset.specs.Later.{later_stays, later_leads_on}
 
 same_stays : (t : Trouble) → SameTrouble t t

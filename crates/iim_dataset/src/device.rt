@@ -2,7 +2,7 @@
 
 ghost use Rattle.std.specs.Prelude.{◌≡◌, ◌≢◌, ◌↔◌};
 ghost use Rattle.std.specs.IoError.{error_kind};
-ghost use Rattle.iim_dataset.specs.Format.Devices.{CountedFailure, Faulted};
+ghost use Rattle.iim_dataset.specs.States.Devices.{CountedFailure, Faulted};
 ghost use Rattle.iim_dataset.specs.Calls.{counted, no_faults};
 
 use std::io::{Error, ErrorKind};

@@ -1,7 +1,7 @@
 //! Why octets are refused.
 
 ghost use Rattle.std.specs.Prelude.{◌≡◌, Some};
-ghost use Rattle.iim_dataset.specs.Format.Reading.{tag_cause_of};
+ghost use Rattle.iim_dataset.specs.States.Reading.{tag_cause_of};
 
 use crate::head::HeadCause;
 

@@ -1,6 +1,6 @@
 //! What holds of all spellings, whatever form the counts have.
 
-ghost use Rattle.iim_dataset.specs.Format.Laws.{CanonicalStreamsAreSpelled, CanonicalTagsReadBack, EventsTellTheDatasets, NoDatasetBeginsAnother, NoOctetsContinue, NoTagBeginsAnother, NumbersAreReadBack, OctetsAreHandedOnOneWay, OctetsDieInTheirTag, OctetsLeadToOnePlace, OctetsSplitOneWay, PlacesAreReached, ReadOctetsContinue, ReadOctetsSplit, ReadersDieExactly, WhatAnOctetCompletes};
+ghost use Rattle.iim_dataset.specs.Laws.Datasets.{CanonicalStreamsAreSpelled, CanonicalTagsReadBack, EventsTellTheDatasets, NoDatasetBeginsAnother, NoOctetsContinue, NoTagBeginsAnother, NumbersAreReadBack, OctetsAreHandedOnOneWay, OctetsDieInTheirTag, OctetsLeadToOnePlace, OctetsSplitOneWay, PlacesAreReached, ReadOctetsContinue, ReadOctetsSplit, ReadersDieExactly, WhatAnOctetCompletes};
 
 /// What [`crate::number_bytes`] writes of a number are as many octets as a count or a size may have, and spell that number.
 pub fn numbers_are_read_back()

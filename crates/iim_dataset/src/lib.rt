@@ -11,12 +11,12 @@
 mod device;
 pub mod device_laws;
 mod fault;
-mod front;
 mod head;
 pub mod laws;
 mod name;
 mod number;
 pub mod octets;
+mod piece;
 mod place;
 mod reader;
 mod reserved;

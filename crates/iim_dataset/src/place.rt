@@ -3,7 +3,7 @@
 ghost use Rattle.std.specs.Prelude.{◌≡◌, ◌↔◌, ◌+◌, ◌≤◌, ◌++◌, ℕ, List, length, take, IsTrue, IfOk, IfErr, MatchOption};
 ghost use Rattle.arrayvec.specs.ArrayVec.{array_vec_len};
 ghost use Rattle.iim_dataset.specs.Format.Datasets.{SpellsTag, count_octets};
-ghost use Rattle.iim_dataset.specs.Format.Places.{IsPlace};
+ghost use Rattle.iim_dataset.specs.States.Places.{IsPlace};
 ghost use Rattle.iim_dataset.specs.Format.Tags.{BeginsTag, HasTag, HasNoTag};
 
 use crate::head::{Head, HeadFault, TAG_OCTETS, read_head};
@@ -50,7 +50,9 @@ fn tag_room(held: &[u8], next: &[u8]) -> ArrayVec<u8, TAG_OCTETS>
 /// Reads the tag that begins with the held octets and continues with the next ones, as [`read_head`] does.
 pub(crate) fn read_tag(held: &[u8], next: &[u8]) -> Result<Option<(Head, usize)>, HeadFault>
     requires { length held.now ≤ HELD_OCTETS }
-    ensures found { IfOk result (λ found. MatchOption found (BeginsTag count_octets (held.now ++ next.now)) (λ f. HasTag (held.now ++ next.now) f.0 f.1)) }
+    ensures found { IfOk result (λ found.
+        MatchOption found (BeginsTag count_octets (held.now ++ next.now))
+        (λ f. HasTag (held.now ++ next.now) f.0 f.1)) }
     ensures fault { IfErr result (HasNoTag (held.now ++ next.now)) }
 {
     if held.is_empty() {

@@ -2,11 +2,11 @@
 
 ghost use Rattle.std.specs.Prelude.{◌≡◌, ℕ, List, [], IsTrue, IsSome, IfSome, MatchOption, ◌↔◌, IfOk, IfErr, OnOk, OnErr};
 ghost use Rattle.iim_dataset.specs.Format.Datasets.{count_octets};
-ghost use Rattle.iim_dataset.specs.Format.Events.{DatasetEvent};
+ghost use Rattle.iim_dataset.specs.States.Events.{DatasetEvent};
 
 use crate::fault::Fault;
-use crate::front::{start, take_piece};
 use crate::laws::places_are_reached;
+use crate::piece::{start, take_piece};
 use crate::place::{DatasetPlace, is_place};
 use crate::sink::DatasetSink;
 use std::marker::Model;
@@ -21,8 +21,8 @@ pub struct HeadReader {
 }
 
 impl Model for HeadReader {
-    ghost use Rattle.iim_dataset.specs.Format.Places.{IsPlace};
-    ghost use Rattle.iim_dataset.specs.Format.Reading.{Reader};
+    ghost use Rattle.iim_dataset.specs.States.Places.{IsPlace};
+    ghost use Rattle.iim_dataset.specs.States.Reading.{Reader};
 
     ghost Value = { Reader };
 
@@ -31,8 +31,8 @@ impl Model for HeadReader {
     ghost invariant = { λ reader. IsPlace reader.place };
 }
 
-ghost use Rattle.iim_dataset.specs.Format.Places.{LeadsTo, between, named_by, to_come};
-ghost use Rattle.iim_dataset.specs.Format.Reading.{StandsAt, TakesCalls, IsFailed, TakesPiece, RefusesOne};
+ghost use Rattle.iim_dataset.specs.States.Places.{LeadsTo, between, named_by, to_come};
+ghost use Rattle.iim_dataset.specs.States.Reading.{StandsAt, TakesCalls, IsFailed, TakesPiece, RefusesOne};
 
 impl HeadReader {
     /// The reader of a stream of which no octet has come.
@@ -68,7 +68,8 @@ impl HeadReader {
     /// data that a tag can count.
     pub fn at(place: DatasetPlace) -> Option<HeadReader>
         ensures place { IfSome result (λ reader. (reader.place ≡ place) × TakesCalls reader) }
-        ensures exactly { IsSome result ↔ ((octets : List ℕ) × (events : List DatasetEvent) × LeadsTo count_octets octets events place) }
+        ensures exactly { IsSome result ↔ ((octets : List ℕ) × (events : List DatasetEvent)
+            × LeadsTo count_octets octets events place) }
     {
         places_are_reached();
         if !is_place(&place) {

@@ -17,7 +17,7 @@ pub struct ReservedOctets {
 
 impl Model for ReservedOctets {
     ghost use Rattle.std.specs.Prelude.{◌≤◌, take, vec_len, vec_capacity};
-    ghost use Rattle.iim_dataset.specs.Format.Reserved.{Reserved};
+    ghost use Rattle.iim_dataset.specs.States.Reserved.{Reserved};
 
     ghost Value = { Reserved };
 

@@ -1,8 +1,8 @@
 //! Where datasets go.
 
 ghost use Rattle.std.specs.Prelude.{◌≡◌, ◌-◌, ◌<◌, ◌≤◌, ◌++◌, [], ◌∷◌, List, ℕ, length, map, take, slice_index, Option, Some, None, MatchOption, IfSome, IfOk, IfErr, OnOk, OnErr};
-ghost use Rattle.iim_dataset.specs.Format.Events.{DatasetEvent, HeadRead, DataOctet, DatasetEnd};
-ghost use Rattle.iim_dataset.specs.Format.Reading.{AfterStep};
+ghost use Rattle.iim_dataset.specs.States.Events.{DatasetEvent, HeadRead, DataOctet, DatasetEnd};
+ghost use Rattle.iim_dataset.specs.States.Reading.{AfterStep};
 
 use crate::head::Head;
 use crate::stop::Stop;
@@ -53,7 +53,8 @@ pub trait DatasetSink {
         ensures stands { IfOk result (λ step. IfSome step (AfterStep stands ends self.new)) }
         ensures refused { IfErr result (λ stop. stop.taken < length octets.now) }
         ensures stopped { IfErr result (λ stop.
-            stops self.old (HeadRead head ∷ map DataOctet (take stop.taken octets.now)) (DataOctet (slice_index octets.now stop.taken)) self.new) }
+            stops self.old (HeadRead head ∷ map DataOctet (take stop.taken octets.now))
+            (DataOctet (slice_index octets.now stop.taken)) self.new) }
     {
         let _ = head;
         let _ = octets;
@@ -64,10 +65,12 @@ pub trait DatasetSink {
     fn run(&mut self, run: &[u8]) -> Result<(), Stop>
         requires { (left : ℕ) × stands self.old (Some left) × (length run.now ≤ left) }
         ensures ok { OnOk result (goes self.old (map DataOctet run.now) self.new) }
-        ensures stands { OnOk result ((left : ℕ) → stands self.old (Some left) → stands self.new (Some (left - length run.now))) }
+        ensures stands { OnOk result ((left : ℕ) → stands self.old (Some left)
+            → stands self.new (Some (left - length run.now))) }
         ensures refused { IfErr result (λ stop. stop.taken < length run.now) }
         ensures stopped { IfErr result (λ stop.
-            stops self.old (map DataOctet (take stop.taken run.now)) (DataOctet (slice_index run.now stop.taken)) self.new) };
+            stops self.old (map DataOctet (take stop.taken run.now)) (DataOctet (slice_index run.now stop.taken))
+            self.new) };
 
     /// Takes the end of a dataset, of which all octets have come, or refuses it: its stop has taken nothing.
     fn close(&mut self) -> Result<Step, Stop>
@@ -87,5 +90,6 @@ pub trait DatasetSink {
     ghost ended: { (sink : Self) (left : Option ℕ) → ends sink → stands sink left → ⊥ };
 
     /// A refusal after events is one after all of them joined.
-    ghost joined_stop: { (a b c : Self) (xs ys : List DatasetEvent) (refused : DatasetEvent) → goes a xs b → stops b ys refused c → stops a (xs ++ ys) refused c };
+    ghost joined_stop: { (a b c : Self) (xs ys : List DatasetEvent) (refused : DatasetEvent) → goes a xs b
+        → stops b ys refused c → stops a (xs ++ ys) refused c };
 }

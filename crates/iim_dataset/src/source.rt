@@ -1,7 +1,7 @@
 //! Where octets come from.
 
 ghost use Rattle.std.specs.Prelude.{◌≡◌, ◌<◌, IfOk, IfErr, OnOk};
-ghost use Rattle.iim_dataset.specs.Format.Devices.{Device, Gave, Calm, Faulted, Took, Missed, WithinInterruptionLimit, LaterThan, unbroken, reader_device};
+ghost use Rattle.iim_dataset.specs.States.Devices.{Device, Gave, Calm, Faulted, Took, Missed, WithinInterruptionLimit, LaterThan, unbroken, reader_device};
 
 use crate::device::{Faults, IoFault, MAX_INTERRUPTIONS};
 use std::io::Read;
@@ -77,7 +77,8 @@ impl<R: Read> Source for FromRead<R> {
 
     ghost stays = { λ a. later_stays (reader_device R.remaining a) };
 
-    ghost leads_on = { λ a b c. later_leads_on (reader_device R.remaining a) (reader_device R.remaining b) (reader_device R.remaining c) };
+    ghost leads_on = { λ a b c.
+        later_leads_on (reader_device R.remaining a) (reader_device R.remaining b) (reader_device R.remaining c) };
 
     fn read(&mut self, buffer: &mut [u8]) -> Result<usize, IoFault> {
         match self.reader.read(buffer) {

@@ -1,7 +1,7 @@
 //! Where octets go.
 
 ghost use Rattle.std.specs.Prelude.{◌≡◌, ◌<◌, length, IfOk, IfErr, OnOk, OnErr};
-ghost use Rattle.iim_dataset.specs.Format.Devices.{Device, Accepted, Faulted, Wrote, Stopped, WithinInterruptionLimit, unbroken, writer_device};
+ghost use Rattle.iim_dataset.specs.States.Devices.{Device, Accepted, Faulted, Wrote, Stopped, WithinInterruptionLimit, unbroken, writer_device};
 ghost use Rattle.iim_dataset.specs.Calls.{Sent};
 
 use crate::device::{Faults, IoFault, MAX_INTERRUPTIONS};

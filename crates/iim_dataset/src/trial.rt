@@ -1,8 +1,8 @@
 //! A reader and a writer that fail at a chosen call, for tests.
 
 ghost use Rattle.std.specs.Prelude.{◌≡◌, ◌≤◌, [], Some, None, IfOk, IfErr, OnOk};
-ghost use Rattle.iim_dataset.specs.Format.Devices.{Gave, Accepted, Calm, Faulted, CountedFailure, unbroken};
-ghost use Rattle.iim_dataset.specs.Format.Trials.{planned, new_plan, trial_device, reader_plan, writer_plan, taken_octets, trial_target, TakesOne, WentWell, MetTrouble, GoesByPlan, ReadsOn};
+ghost use Rattle.iim_dataset.specs.States.Devices.{Gave, Accepted, Calm, Faulted, CountedFailure, unbroken};
+ghost use Rattle.iim_dataset.specs.States.Trials.{planned, new_plan, trial_device, reader_plan, writer_plan, taken_octets, trial_target, TakesOne, WentWell, MetTrouble, GoesByPlan, ReadsOn};
 
 use crate::device::IoFault;
 use crate::source::Source;

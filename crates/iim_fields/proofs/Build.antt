@@ -6,10 +6,10 @@ use Rattle.iim_dataset.specs.Format.Datasets.{Dataset, head_of}
 use Rattle.iim_dataset.specs.declared.head.Head.{Head}
 use Rattle.iim_fields.specs.Format.Faults.{record_fault, limits_fault, room_fault, value_fault, first_fault, is_kept, kept, joined, fault_on}
 use Rattle.iim_fields.specs.Format.Values.{data_of, number_told}
-use Rattle.iim_fields.specs.Format.Checks.{HasChecked, IsChecking, HasTaken, IsRecordFault, IsValueFault}
-use Rattle.iim_fields.specs.Stores.{HasStored, fields_of}
+use Rattle.iim_fields.specs.States.Checks.{HasChecked, IsChecking, HasTaken, IsRecordFault, IsValueFault}
+use Rattle.iim_fields.specs.StoreLayout.{HasStored, fields_of}
 use Rattle.iim_fields.specs.Building.{IsBuilding}
-use Rattle.iim_fields.specs.Format.Builders.{add_fault}
+use Rattle.iim_fields.specs.States.Builders.{add_fault}
 use Rattle.iim_fields.specs.declared.limits.Limits.{Limits}
 use Rattle.iim_fields.specs.declared.store.Store.{Store}
 use Rattle.iim_fields.specs.declared.fault.FieldFault.{FieldFault}

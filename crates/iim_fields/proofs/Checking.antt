@@ -17,11 +17,11 @@ use Rattle.iim_tables.specs.declared.shape.Kind.TheVariants as kinds
 use Rattle.iim_fields.specs.Format.Records.{records, after}
 use Rattle.iim_tables.specs.Format.Records.{occurs, is_file_format}
 use Rattle.iim_fields.specs.Format.Alive.{SectionsLive, SectionsLiveAt}
-use Rattle.iim_fields.specs.Format.Faults.{head_fault, record_fault, value_fault, fault_by_row, limits_fault, present_record, present_run}
-use Rattle.iim_fields.specs.Format.Orders.{nothing, has_seen, IsOrderOf}
-use Rattle.iim_fields.specs.Orders.{AddsHead}
+use Rattle.iim_fields.specs.Format.Faults.{head_fault, record_fault, value_fault, fault_by_row, limits_fault, section_after, section_run}
+use Rattle.iim_fields.specs.States.Orders.{nothing, has_seen, IsOrderOf}
+use Rattle.iim_fields.specs.OrderChanges.{AddsHead}
 use Rattle.iim_fields.specs.Format.Values.{data_of, number_told}
-use Rattle.iim_fields.specs.Format.Checks.{TakesHead, AwaitsNone, IsIn, HasChecked, IsChecking, HasTaken, IsRecordFault, IsValueFault}
+use Rattle.iim_fields.specs.States.Checks.{TakesHead, AwaitsNone, IsIn, HasChecked, IsChecking, HasTaken, IsRecordFault, IsValueFault}
 use Rattle.iim_fields.specs.Checking.{IsRecordPlace}
 use Rattle.iim_fields.specs.declared.order.Order.{Order}
 use Rattle.iim_fields.specs.declared.check.Begun.{Begun}
@@ -54,10 +54,10 @@ tells_start o first none = record {
   seen = λ n. ap (λ (xs : List Bool). get_or xs n false) none ∙ nothing_seen 256 n;
 }
 
-occurs_more : (n : ℕ) (ds : List Dataset) (d : Dataset) → occurs n (present_run (ds ++ d ∷ [])) ≡ (occurs n (of_record d.rec ds) || (nat_eq d.set n || false))
+occurs_more : (n : ℕ) (ds : List Dataset) (d : Dataset) → occurs n (section_run (ds ++ d ∷ [])) ≡ (occurs n (of_record d.rec ds) || (nat_eq d.set n || false))
 occurs_more n ds d = ap (occurs n) (run_more ds d) ∙ list_any-append (λ (x : Dataset). nat_eq x.set n) (of_record d.rec ds) (d ∷ [])
 
-tells_same : (o new : Order) (ds : List Dataset) (d : Dataset) → d.set < 256 → d.rec ≡ present_record ds → AddsHead o (head_of d) new → IsOrderOf o ds → IsOrderOf new (ds ++ d ∷ [])
+tells_same : (o new : Order) (ds : List Dataset) (d : Dataset) → d.set < 256 → d.rec ≡ section_after ds → AddsHead o (head_of d) new → IsOrderOf o ds → IsOrderOf new (ds ++ d ∷ [])
 tells_same o new ds d fits same takes tells =
     let seen = takes.same (same ∙ sym tells.present) in
     let room : d.set < length o.seen = omega (arith, tells.places) in
@@ -65,10 +65,10 @@ tells_same o new ds d fits same takes tells =
       places = ap (λ (xs : List Bool). length xs) seen ∙ (length-set o.seen d.set true ∙ tells.places);
       present = takes.rec ∙ sym (present_more ds d);
       seen = λ n. ap (λ (xs : List Bool). get_or xs n false) seen ∙ (seen_more o.seen d.set n room ∙ (ap (λ b. nat_eq d.set n || b) (tells.seen n)
-          ∙ (or_swap (nat_eq d.set n) (occurs n (present_run ds)) ∙ (ap (λ (r : ℕ). occurs n (of_record r ds) || (nat_eq d.set n || false)) (sym same) ∙ sym (occurs_more n ds d)))));
+          ∙ (or_swap (nat_eq d.set n) (occurs n (section_run ds)) ∙ (ap (λ (r : ℕ). occurs n (of_record r ds) || (nat_eq d.set n || false)) (sym same) ∙ sym (occurs_more n ds d)))));
     }
 
-tells_next : (o new : Order) (ds : List Dataset) (d : Dataset) → d.set < 256 → (d.rec ≡ present_record ds → ⊥) → of_record d.rec ds ≡ [] → AddsHead o (head_of d) new → IsOrderOf o ds → IsOrderOf new (ds ++ d ∷ [])
+tells_next : (o new : Order) (ds : List Dataset) (d : Dataset) → d.set < 256 → (d.rec ≡ section_after ds → ⊥) → of_record d.rec ds ≡ [] → AddsHead o (head_of d) new → IsOrderOf o ds → IsOrderOf new (ds ++ d ∷ [])
 tells_next o new ds d fits differ fresh takes tells =
     let seen = takes.next (λ e. differ (e ∙ tells.present)) in
     let room : d.set < length nothing = omega arith in
@@ -79,11 +79,11 @@ tells_next o new ds d fits differ fresh takes tells =
           ∙ (ap (λ (xs : List Dataset). occurs n xs || (nat_eq d.set n || false)) (sym fresh) ∙ sym (occurs_more n ds d))));
     }
 
-pub tells_more : (o new : Order) (ds : List Dataset) (d : Dataset) → Follows ds → d.set < 256 → HasNoFault (present_record ds) (λ n. occurs n (present_run ds)) (head_of d)
+pub tells_more : (o new : Order) (ds : List Dataset) (d : Dataset) → Follows ds → d.set < 256 → HasNoFault (section_after ds) (λ n. occurs n (section_run ds)) (head_of d)
     → AddsHead o (head_of d) new → IsOrderOf o ds → IsOrderOf new (ds ++ d ∷ [])
-tells_more o new ds d follows fits f takes tells = elim (in_order_cases (present_record ds) d.rec f.order) [
+tells_more o new ds d follows fits f takes tells = elim (in_order_cases (section_after ds) d.rec f.order) [
   | inl same ↦ tells_same o new ds d fits same takes tells
-  | inr next ↦ tells_next o new ds d fits (λ same. not_after_itself (present_record ds) d.rec (after d.rec) next (sym same))
+  | inr next ↦ tells_next o new ds d fits (λ same. not_after_itself (section_after ds) d.rec (after d.rec) next (sym same))
       (follows.fresh d.rec (ap (list_any (λ x. nat_eq x d.rec)) next ∙ ap (λ b. b || list_any (λ x. nat_eq x d.rec) (after d.rec)) (eq_itself d.rec))) takes tells
 ]
 
@@ -123,7 +123,7 @@ subfile_fine row d kind fits other =
 
 subfile_value : (ds : List Dataset) (d : Dataset) → SectionsLiveAt ds (head_of d) → d.rec ≡ 8 → value_fault d ≡ None
 subfile_value ds d at eight =
-    let f = no_fault_parts (present_record ds) (λ n. occurs n (present_run ds)) (head_of d) (head_no_fault ds (head_of d) at) in
+    let f = no_fault_parts (section_after ds) (λ n. occurs n (section_run ds)) (head_of d) (head_no_fault ds (head_of d) at) in
     let known : row_of 8 d.set ≡ Some f.row = subst (λ (r : ℕ). row_of r d.set ≡ Some f.row) eight f.known in
     let other : is_file_format d ≡ false = ap (λ (r : ℕ). nat_eq r 1 && nat_eq d.set 20) eight in
     ap (λ (o : Option Row). fault_by_row o d) f.known ∙ subfile_fine f.row d (object_kind d.set f.row known) f.fits other
@@ -185,11 +185,11 @@ taken_by values old new h row small takes begun known none ds s =
     let told : IsOrderOf old.order ds = subst (λ (o : Order). IsOrderOf o ds) (sym order_is) s.tells in
     let follows = alive_follows ds s.alive in
     let ok : record_fault ds h ≡ None = sym (record_fault_is old.order ds h told) ∙ none in
-    let f = no_fault_parts (present_record ds) (λ n. occurs n (present_run ds)) h ok in
+    let f = no_fault_parts (section_after ds) (λ n. occurs n (section_run ds)) h ok in
     let at : SectionsLiveAt ds h = head_alive values ds h s.alive small ok in
     let more : (d : Dataset) → head_of d ≡ h → IsOrderOf new.order (ds ++ d ∷ []) =
     λ d is. tells_more old.order new.order ds d follows (omega (arith, ap (λ (k : Head). k.set) is))
-    (subst (λ (k : Head). HasNoFault (present_record ds) (λ n. occurs n (present_run ds)) k) (sym is) f)
+    (subst (λ (k : Head). HasNoFault (section_after ds) (λ n. occurs n (section_run ds)) k) (sym is) f)
     (subst (λ (k : Head). AddsHead old.order k new.order) (sym is) takes) told in
     record {
       checking = λ other. record {

@@ -14,7 +14,7 @@ use Rattle.iim_tables.specs.declared.shape.Row.{Row}
 use Rattle.iim_fields.specs.Format.Records.{after, AreSections}
 use Rattle.iim_tables.specs.Format.Records.{mandatory, repeats, may_repeat, occurs, occurrences, has_file_format, IsGoodDataset, IsGoodRecord}
 use Rattle.iim_fields.specs.Format.Alive.{SectionsLive, SectionsLiveAt}
-use Rattle.iim_fields.specs.Format.Faults.{present_record, present_run, is_first, is_in_order, fault_on, row_fault, missing_fault, missing_of, head_fault, record_fault, fault_by_row, value_fault}
+use Rattle.iim_fields.specs.Format.Faults.{section_after, section_run, is_first, is_in_order, fault_on, row_fault, missing_fault, missing_of, head_fault, record_fault, fault_by_row, value_fault}
 use Rattle.iim_fields.specs.declared.fault.FieldFault.{FieldFault}
 use Rattle.iim_fields.specs.declared.fault.FieldCause.TheVariants.{RecordOrder, BadValue, FileFormat}
 use Rattle.iim_fields.proofs.Table.{EachRowHasValues, after_tail, not_after_itself, no_row, value_for}
@@ -183,31 +183,31 @@ each_of r (x ∷ xs) d ys h = each_of r xs d ys h.1
 
 pub good_next : (ds : List Dataset) (d : Dataset) (more : List Dataset) → From ds (d ∷ more) → IsGoodDataset d
 good_next ds d more from = elim (from_cons ds d more from) [
-  | inl s ↦ each_of (present_record ds) (present_run ds) d s.run s.good.each
+  | inl s ↦ each_of (section_after ds) (section_run ds) d s.run s.good.each
   | inr n ↦ n.good.each.0.1
 ]
 
-same_no_fault : (ds : List Dataset) (d : Dataset) (more : List Dataset) → IsSame ds d more → IsGoodDataset d → HasNoFault (present_record ds) (λ n. occurs n (present_run ds)) (head_of d)
+same_no_fault : (ds : List Dataset) (d : Dataset) (more : List Dataset) → IsSame ds d more → IsGoodDataset d → HasNoFault (section_after ds) (λ n. occurs n (section_run ds)) (head_of d)
 same_no_fault ds d more s good =
     let m = meets_row (row_of d.rec d.set) d.octets good.meets in
-    let present : ℕ = present_record ds in
+    let present : ℕ = section_after ds in
     let is : nat_eq d.rec present ≡ true = subst (λ (q : ℕ). nat_eq d.rec q ≡ true) s.same (eq_itself d.rec) in
     record {
       order = or_first (nat_eq d.rec present && not (nat_eq d.rec 0)) (is_first d.rec (after present))
           (and_from (nat_eq d.rec present) (not (nat_eq d.rec 0)) is (ap not (zero_has_none d m.0 m.1)));
       row = m.0;
       known = m.1;
-      once = and_not (nat_eq d.rec present && occurs d.set (present_run ds)) m.0.repeats (λ single.
+      once = and_not (nat_eq d.rec present && occurs d.set (section_run ds)) m.0.repeats (λ single.
           let alone : repeats present d.set ≡ false = ap (λ (q : ℕ). repeats q d.set) (sym s.same) ∙ (ap may_repeat m.1 ∙ single) in
-          and_right (nat_eq d.rec present) (occurs d.set (present_run ds)) (not_before present (present_run ds) d s.run s.good alone));
+          and_right (nat_eq d.rec present) (occurs d.set (section_run ds)) (not_before present (section_run ds) d s.run s.good alone));
       fits = m.2;
       whole = λ first. absurd (not_after_itself present d.rec (after d.rec) (next_is present d.rec first) (sym s.same));
     }
 
-next_no_fault : (ds : List Dataset) (d : Dataset) (more : List Dataset) → IsNext ds d more → IsGoodDataset d → HasNoFault (present_record ds) (λ n. occurs n (present_run ds)) (head_of d)
+next_no_fault : (ds : List Dataset) (d : Dataset) (more : List Dataset) → IsNext ds d more → IsGoodDataset d → HasNoFault (section_after ds) (λ n. occurs n (section_run ds)) (head_of d)
 next_no_fault ds d more n good =
     let m = meets_row (row_of d.rec d.set) d.octets good.meets in
-    let present : ℕ = present_record ds in
+    let present : ℕ = section_after ds in
     let differ : nat_eq d.rec present ≡ false = elim (eqb_tells d.rec present) [
       | inl same ↦ absurd (not_after_itself present d.rec (after d.rec) n.next (sym same.1))
       | inr other ↦ other.0
@@ -216,24 +216,24 @@ next_no_fault ds d more n good =
       order = or_last (nat_eq d.rec present && not (nat_eq d.rec 0)) (is_first d.rec (after present)) (is_first_of present d.rec n.next);
       row = m.0;
       known = m.1;
-      once = and_left (nat_eq d.rec present && occurs d.set (present_run ds)) (not m.0.repeats) (and_left (nat_eq d.rec present) (occurs d.set (present_run ds)) differ);
+      once = and_left (nat_eq d.rec present && occurs d.set (section_run ds)) (not m.0.repeats) (and_left (nat_eq d.rec present) (occurs d.set (section_run ds)) differ);
       fits = m.2;
-      whole = λ first. all_there (λ k. occurs k (present_run ds)) (mandatory present) n.done.mandatory;
+      whole = λ first. all_there (λ k. occurs k (section_run ds)) (mandatory present) n.done.mandatory;
     }
 
 -- what can follow has no fault
 pub from_no_fault : (ds : List Dataset) (d : Dataset) (more : List Dataset) → From ds (d ∷ more) → record_fault ds (head_of d) ≡ None
 from_no_fault ds d more from =
     let good = good_next ds d more from in
-    no_fault_built (present_record ds) (λ n. occurs n (present_run ds)) (head_of d) (elim (from_cons ds d more from) [
+    no_fault_built (section_after ds) (λ n. occurs n (section_run ds)) (head_of d) (elim (from_cons ds d more from) [
       | inl s ↦ same_no_fault ds d more s good
       | inr n ↦ next_no_fault ds d more n good
     ])
 
 -- ---- alive where there is no fault
 
-part_so_far : (ds : List Dataset) (more : List Dataset) → From ds more → IsPart (present_record ds) (present_run ds)
-part_so_far ds more (run, rest, parts, good, later) = part_front (present_record ds) (present_run ds) run (part_of (present_record ds) (present_run ds ++ run) good)
+part_so_far : (ds : List Dataset) (more : List Dataset) → From ds more → IsPart (section_after ds) (section_run ds)
+part_so_far ds more (run, rest, parts, good, later) = part_front (section_after ds) (section_run ds) run (part_of (section_after ds) (section_run ds ++ run) good)
 
 may_come : (r : ℕ) (xs : List Dataset) (d : Dataset) (a b : Bool) → repeats r d.set ≡ b → occurs d.set xs ≡ a → (a && not b) ≡ false → MayCome r xs d
 may_come r xs d a true rep occ h = inl rep
@@ -246,31 +246,31 @@ may_repeat_of r n row e = ap may_repeat e
 alive_from : (ds : List Dataset) (d : Dataset) (more : List Dataset) → Follows ds → From ds (d ∷ more) → SectionsLive (ds ++ d ∷ [])
 alive_from ds d more follows from = (more, subst AreSections (sym (append_assoc ds (d ∷ []) more)) (follows.comes (d ∷ more) from))
 
-same_alive : EachRowHasValues → (ds : List Dataset) (d : Dataset) → Follows ds → IsPart (present_record ds) (present_run ds) → IsGoodDataset d
-    → HasNoFault (present_record ds) (λ n. occurs n (present_run ds)) (head_of d) → d.rec ≡ present_record ds → SectionsLive (ds ++ d ∷ [])
+same_alive : EachRowHasValues → (ds : List Dataset) (d : Dataset) → Follows ds → IsPart (section_after ds) (section_run ds) → IsGoodDataset d
+    → HasNoFault (section_after ds) (λ n. occurs n (section_run ds)) (head_of d) → d.rec ≡ section_after ds → SectionsLive (ds ++ d ∷ [])
 same_alive values ds d follows part good f same =
-    let present : ℕ = present_record ds in
+    let present : ℕ = section_after ds in
     let is : nat_eq d.rec present ≡ true = subst (λ (q : ℕ). nat_eq d.rec q ≡ true) same (eq_itself d.rec) in
-    let once : (occurs d.set (present_run ds) && not f.row.repeats) ≡ false =
-    sym (ap (λ (b : Bool). (b && occurs d.set (present_run ds)) && not f.row.repeats) is) ∙ f.once in
+    let once : (occurs d.set (section_run ds) && not f.row.repeats) ≡ false =
+    sym (ap (λ (b : Bool). (b && occurs d.set (section_run ds)) && not f.row.repeats) is) ∙ f.once in
     let known : row_of present d.set ≡ Some f.row = subst (λ (q : ℕ). row_of q d.set ≡ Some f.row) same f.known in
-    let may = may_come present (present_run ds) d (occurs d.set (present_run ds)) f.row.repeats (may_repeat_of present d.set f.row known) refl once in
-    let done = part_completes values present (present_run ds ++ d ∷ []) (part_more present (present_run ds) d part same good may) in
+    let may = may_come present (section_run ds) d (occurs d.set (section_run ds)) f.row.repeats (may_repeat_of present d.set f.row known) refl once in
+    let done = part_completes values present (section_run ds ++ d ∷ []) (part_more present (section_run ds) d part same good may) in
     let later = records_to_come values (after present) in
     alive_from ds d (done.0 ++ later.0) follows (same_from ds d (done.0 ++ later.0) (record {
       same = same;
       run = done.0;
       rest = later.0;
       parts = refl;
-      good = subst (IsGoodRecord present) (append_assoc (present_run ds) (d ∷ []) done.0) done.1;
+      good = subst (IsGoodRecord present) (append_assoc (section_run ds) (d ∷ []) done.0) done.1;
       later = later.1;
     }))
 
-next_alive : EachRowHasValues → (ds : List Dataset) (d : Dataset) → Follows ds → IsPart (present_record ds) (present_run ds) → IsGoodDataset d
-    → HasNoFault (present_record ds) (λ n. occurs n (present_run ds)) (head_of d) → after (present_record ds) ≡ d.rec ∷ after d.rec → SectionsLive (ds ++ d ∷ [])
+next_alive : EachRowHasValues → (ds : List Dataset) (d : Dataset) → Follows ds → IsPart (section_after ds) (section_run ds) → IsGoodDataset d
+    → HasNoFault (section_after ds) (λ n. occurs n (section_run ds)) (head_of d) → after (section_after ds) ≡ d.rec ∷ after d.rec → SectionsLive (ds ++ d ∷ [])
 next_alive values ds d follows part good f next =
-    let present : ℕ = present_record ds in
-    let whole = none_missing (λ k. occurs k (present_run ds)) (mandatory present) (f.whole (is_first_of present d.rec next)) in
+    let present : ℕ = section_after ds in
+    let whole = none_missing (λ k. occurs k (section_run ds)) (mandatory present) (f.whole (is_first_of present d.rec next)) in
     let done = part_completes values d.rec (d ∷ []) (part_more d.rec [] d (no_part d.rec) refl good (inr refl)) in
     let later = records_to_come values (after d.rec) in
     alive_from ds d (done.0 ++ later.0) follows (next_from ds d (done.0 ++ later.0) (record {
@@ -288,8 +288,8 @@ pub alive_next : EachRowHasValues → (ds : List Dataset) (d : Dataset) → Sect
 alive_next values ds d alive none good =
     let follows = alive_follows ds alive in
     let part = part_so_far ds alive.0 (follows.goes alive.0 alive.1) in
-    let f = no_fault_parts (present_record ds) (λ n. occurs n (present_run ds)) (head_of d) none in
-    elim (in_order_cases (present_record ds) d.rec f.order) [
+    let f = no_fault_parts (section_after ds) (λ n. occurs n (section_run ds)) (head_of d) none in
+    elim (in_order_cases (section_after ds) d.rec f.order) [
       | inl same ↦ same_alive values ds d follows part good f same
       | inr next ↦ next_alive values ds d follows part good f next
     ]
@@ -304,7 +304,7 @@ from_alive ds d alive = (alive_follows ds (alive_before ds d alive)).goes (d ∷
 
 pub head_alive : EachRowHasValues → (ds : List Dataset) (h : Head) → SectionsLive ds → IsOctet h.set → record_fault ds h ≡ None → SectionsLiveAt ds h
 head_alive values ds h alive small none =
-    let f = no_fault_parts (present_record ds) (λ n. occurs n (present_run ds)) h none in
+    let f = no_fault_parts (section_after ds) (λ n. occurs n (section_run ds)) h none in
     let d = value_for values h f.row small f.known f.fits in
     (d.0, d.1, alive_next values ds d.0 alive (subst (λ (k : Head). record_fault ds k ≡ None) (sym d.1) none) d.2)
 

@@ -9,8 +9,8 @@ use Rattle.iim_tables.specs.declared.shape.Row.{Row}
 use Rattle.iim_fields.specs.Format.Alive.{SectionsLive}
 use Rattle.iim_fields.specs.Format.Records.{after, AreRecords, AreSections}
 use Rattle.iim_tables.specs.Format.Records.{repeats, occurrences, IsGoodDataset, IsGoodRecord}
-use Rattle.iim_fields.specs.Format.Faults.{last_record, present_record}
-use Rattle.iim_fields.specs.Format.Laws.{EnvelopesEndWithTheLastRecord, NoSectionsBeginOthers}
+use Rattle.iim_fields.specs.Format.Faults.{last_record, section_after}
+use Rattle.iim_fields.specs.Laws.Records.{EnvelopesEndWithTheLastRecord, NoSectionsBeginOthers}
 use Rattle.iim_fields.proofs.Table.{mandatory_is}
 use Rattle.iim_fields.proofs.Runs.{not_empty, occurrences_append}
 use Rattle.iim_fields.proofs.Follows.{Follows, alive_follows, present_more, run_more}
@@ -69,12 +69,12 @@ ends_with_nine [] r ds (run, rest, parts, good, none) =
 ends_with_nine (s ∷ rs) r ds (run, rest, parts, good, later) =
     ap (last_record r) parts ∙ last_of_joined r run rest ∙ ends_with_nine rs (last_record r run) rest later
 
-pub sections_end : (ds : List Dataset) → AreSections ds → present_record ds ≡ 9
+pub sections_end : (ds : List Dataset) → AreSections ds → section_after ds ≡ 9
 sections_end ds sections = ends_with_nine (1 ∷ 2 ∷ 7 ∷ 8 ∷ []) 0 ds sections
 
 -- ---- nothing follows
 
-nothing_more : (ds more : List Dataset) → Follows ds → present_record ds ≡ 9 → 0 < length (of_record 9 ds) → AreSections (ds ++ more) → more ≡ []
+nothing_more : (ds more : List Dataset) → Follows ds → section_after ds ≡ 9 → 0 < length (of_record 9 ds) → AreSections (ds ++ more) → more ≡ []
 nothing_more ds more follows last some sections =
     let (run, rest, parts, good, later) = follows.goes more sections in
     let none : rest ≡ [] = subst (λ (r : ℕ). AreRecords (after r) rest) last later in
@@ -120,8 +120,8 @@ split_last d [] = ([], d, refl)
 split_last d (e ∷ ds) = let (front, last, is) = split_last e ds in (d ∷ front, last, ap (λ (xs : List Dataset). d ∷ xs) is)
 
 -- datasets that are alive, and whose last is of record 9, are whole
-pub whole_after_nine : (ds : List Dataset) → SectionsLive ds → present_record ds ≡ 9 → AreSections ds
+pub whole_after_nine : (ds : List Dataset) → SectionsLive ds → section_after ds ≡ 9 → AreSections ds
 whole_after_nine [] alive nine = absurd cc
 whole_after_nine (d ∷ ds) alive nine =
     let (front, last, is) = split_last d ds in
-    subst AreSections (sym is) ((envelopes_end front last (subst SectionsLive is alive)).0 (sym (present_more front last) ∙ (ap present_record (sym is) ∙ nine)))
+    subst AreSections (sym is) ((envelopes_end front last (subst SectionsLive is alive)).0 (sym (present_more front last) ∙ (ap section_after (sym is) ∙ nine)))

@@ -1,7 +1,7 @@
 -- Where the octets of kept datasets end.
 use Rattle.std.proofs.Common.{◌≡◌, ℕ, ◌-◌, List, [], ◌∷◌, length, ap, sym, ◌∙◌, arith, Some}
 use Rattle.std.specs.Prelude.{slice_get}
-use Rattle.iim_fields.specs.Stores.{ends_at}
+use Rattle.iim_fields.specs.StoreLayout.{ends_at}
 use Rattle.iim_fields.specs.declared.store.Entry.{Entry}
 
 ends_with : (from : ℕ) (e : Entry) (es : List Entry) (x : Entry) → slice_get (e ∷ es) (length es) ≡ Some x → x.end ≡ ends_at from (e ∷ es)

@@ -8,13 +8,14 @@ use Rattle.iim_dataset.specs.Format.Datasets.{Dataset, of_record}
 use Rattle.iim_fields.specs.Format.Records.{after, AreRecords, AreSections}
 use Rattle.iim_tables.specs.Format.Records.{mandatory, occurs, IsGoodDataset, IsGoodRecord}
 use Rattle.iim_fields.specs.Format.Alive.{SectionsLive}
-use Rattle.iim_fields.specs.Format.Faults.{last_record, present_record, present_run, is_kept, kept, missing_fault, missing_of}
-use Rattle.iim_fields.specs.Format.Orders.{has_seen, IsOrderOf}
-use Rattle.iim_fields.specs.Orders.{end_fault, no_application}
-use Rattle.iim_fields.specs.Format.Builders.{IsEnvelope, absent, finish_fault}
+use Rattle.iim_fields.specs.Format.Faults.{last_record, section_after, section_run, is_kept, kept, missing_fault, missing_of}
+use Rattle.iim_fields.specs.States.Orders.{has_seen, IsOrderOf}
+use Rattle.iim_fields.specs.OrderChanges.{end_fault, no_application}
+use Rattle.iim_fields.specs.Format.Envelopes.{IsEnvelope}
+use Rattle.iim_fields.specs.States.Builders.{absent, finish_fault}
 use Rattle.iim_fields.specs.Building.{IsEnvelopeStore, IsBuilding}
 use Rattle.iim_fields.specs.Checking.{missing_at}
-use Rattle.iim_fields.specs.Stores.{fields_of}
+use Rattle.iim_fields.specs.StoreLayout.{fields_of}
 use Rattle.iim_fields.specs.declared.limits.Limits.{Limits}
 use Rattle.iim_fields.specs.declared.store.Store.{Store}
 use Rattle.iim_fields.specs.declared.check.RecordPlace.{RecordPlace}
@@ -45,16 +46,16 @@ records_lack p (r ∷ rs) ds (run, rest, parts, good, later) h =
 
 -- ---- after record 2
 
-after_two : (ds : List Dataset) (rest : List Dataset) → present_record ds ≡ 2 → AreRecords (after (present_record ds)) rest → AreRecords (7 ∷ 8 ∷ 9 ∷ []) rest
+after_two : (ds : List Dataset) (rest : List Dataset) → section_after ds ≡ 2 → AreRecords (after (section_after ds)) rest → AreRecords (7 ∷ 8 ∷ 9 ∷ []) rest
 after_two ds rest two recs = subst (λ (r : ℕ). AreRecords (after r) rest) two recs
 
 -- record 1 is whole
-first_whole : (ds : List Dataset) → SectionsLive ds → present_record ds ≡ 2 → IsGoodRecord 1 (of_record 1 ds)
+first_whole : (ds : List Dataset) → SectionsLive ds → section_after ds ≡ 2 → IsGoodRecord 1 (of_record 1 ds)
 first_whole ds alive two =
     let (run, rest, parts, good, later) = (alive_follows ds alive).goes alive.0 alive.1 in
     let (r1, rest1, parts1, good1, later1) = alive.1 in
     let p : ℕ → Bool = λ r. nat_eq r 1 in
-    let run_all : AllByRecursion (λ d. (d.rec ≡ 2) × IsGoodDataset d) run = each_back 2 (present_run ds) run (subst (λ (r : ℕ). IsGoodRecord r (present_run ds ++ run)) two good).each in
+    let run_all : AllByRecursion (λ d. (d.rec ≡ 2) × IsGoodDataset d) run = each_back 2 (section_run ds) run (subst (λ (r : ℕ). IsGoodRecord r (section_run ds ++ run)) two good).each in
     let more_none : those p alive.0 ≡ [] = ap (those p) parts ∙ (filter-append (λ (d : Dataset). p d.rec) run rest
     ∙ (λ i. run_lacks p 2 run run_all refl i ++ records_lack p (7 ∷ 8 ∷ 9 ∷ []) rest (after_two ds rest two later) (refl, (refl, (refl, tt))) i)) in
     let left : those p (ds ++ alive.0) ≡ of_record 1 ds = filter-append (λ (d : Dataset). p d.rec) ds alive.0 ∙ (ap (λ (xs : List Dataset). of_record 1 ds ++ xs) more_none ∙ append-nil (of_record 1 ds)) in
@@ -72,7 +73,7 @@ missing_nothing : (r : ℕ) (o : Option ℕ) → o ≡ None → missing_fault r 
 missing_nothing r None h = refl
 missing_nothing r (Some n) h = absurd cc
 
-two_case : (ds : List Dataset) (o : Order) → SectionsLive ds → IsOrderOf o ds → present_record ds ≡ 2 → end_fault 2 (has_seen o) ≡ finish_fault ds
+two_case : (ds : List Dataset) (o : Order) → SectionsLive ds → IsOrderOf o ds → section_after ds ≡ 2 → end_fault 2 (has_seen o) ≡ finish_fault ds
 two_case ds o alive tells two =
     let whole = all_there (λ n. occurs n (of_record 1 ds)) (mandatory 1) (first_whole ds alive two).mandatory in
     let first : absent 1 ds ≡ None = missing_nothing 1 (missing_of 1 (λ n. occurs n (of_record 1 ds))) whole in
@@ -99,25 +100,25 @@ all_kept ds same = subst (AllByRecursion (λ (d : Dataset). is_kept d.rec ≡ tr
     (recursion_from_All (λ (d : Dataset). is_kept d.rec ≡ true) (kept ds) (filter_passes (λ (d : Dataset). is_kept d.rec) ds))
 
 -- the present record of kept datasets
-present_cases : (ds : List Dataset) → kept ds ≡ ds → (present_record ds ≡ 0) ⊎ ((present_record ds ≡ 1) ⊎ (present_record ds ≡ 2))
+present_cases : (ds : List Dataset) → kept ds ≡ ds → (section_after ds ≡ 0) ⊎ ((section_after ds ≡ 1) ⊎ (section_after ds ≡ 2))
 present_cases ds same = elim (last_kept 0 ds (all_kept ds same)) [
   | inl none ↦ inl none
-  | inr is ↦ elim (or_cases (nat_eq (present_record ds) 1) (nat_eq (present_record ds) 2) is) [
-    | inl one ↦ inr (inl (eqb-true (present_record ds) 1 one))
-    | inr two ↦ inr (inr (eqb-true (present_record ds) 2 two))
+  | inr is ↦ elim (or_cases (nat_eq (section_after ds) 1) (nat_eq (section_after ds) 2) is) [
+    | inl one ↦ inr (inl (eqb-true (section_after ds) 1 one))
+    | inr two ↦ inr (inr (eqb-true (section_after ds) 2 two))
   ]
 ]
 
-coming_none : (ds : List Dataset) (r q : ℕ) → Follows ds → present_record ds ≡ q → list_any (λ x. nat_eq x r) (after q) ≡ true → of_record r ds ≡ []
+coming_none : (ds : List Dataset) (r q : ℕ) → Follows ds → section_after ds ≡ q → list_any (λ x. nat_eq x r) (after q) ≡ true → of_record r ds ≡ []
 coming_none ds r q follows is coming = follows.fresh r (ap (λ (m : ℕ). list_any (λ x. nat_eq x r) (after m)) is ∙ coming)
 
-nothing_of_zero : (d : Dataset) (ds : List Dataset) → kept (d ∷ ds) ≡ d ∷ ds → present_record (d ∷ ds) ≡ 0 → ⊥
+nothing_of_zero : (d : Dataset) (ds : List Dataset) → kept (d ∷ ds) ≡ d ∷ ds → section_after (d ∷ ds) ≡ 0 → ⊥
 nothing_of_zero d ds same zero = elim (last_kept d.rec ds (all_kept (d ∷ ds) same).1) [
   | inl last ↦ let bad : is_kept 0 ≡ true = ap is_kept (sym zero ∙ last) ∙ (all_kept (d ∷ ds) same).0 in cc
   | inr is ↦ let bad : is_kept 0 ≡ true = ap is_kept (sym zero) ∙ is in cc
 ]
 
-zero_case : (ds : List Dataset) (o : Order) → kept ds ≡ ds → IsOrderOf o ds → present_record ds ≡ 0 → (n : ℕ) → has_seen o n ≡ occurs n (of_record 1 ds)
+zero_case : (ds : List Dataset) (o : Order) → kept ds ≡ ds → IsOrderOf o ds → section_after ds ≡ 0 → (n : ℕ) → has_seen o n ≡ occurs n (of_record 1 ds)
 zero_case [] o same tells zero n = tells.seen n
 zero_case (d ∷ ds) o same tells zero n = absurd (nothing_of_zero d ds same zero)
 
@@ -153,14 +154,14 @@ nothing_missing false present has is none =
     sym (ap (λ (b : Bool). cond b (missing_fault 2 (missing_of 2 has)) (option_or (missing_fault 1 (missing_of 1 has)) no_application)) is) ∙ none in
     absurd (second_not_none (missing_fault 1 (missing_of 1 has)) here)
 
-present_good : (ds : List Dataset) (o : Order) → SectionsLive ds → IsOrderOf o ds → present_record ds ≡ 2 → missing_of 2 (has_seen o) ≡ None → IsGoodRecord 2 (present_run ds)
+present_good : (ds : List Dataset) (o : Order) → SectionsLive ds → IsOrderOf o ds → section_after ds ≡ 2 → missing_of 2 (has_seen o) ≡ None → IsGoodRecord 2 (section_run ds)
 present_good ds o alive tells two none =
     let (run, rest, parts, good, later) = (alive_follows ds alive).goes alive.0 alive.1 in
-    let part = part_front (present_record ds) (present_run ds) run (part_of (present_record ds) (present_run ds ++ run) good) in
-    let part_two : IsPart 2 (present_run ds) = subst (λ (r : ℕ). IsPart r (present_run ds)) two part in
-    let seen : missing_of 2 (has_seen o) ≡ missing_of 2 (λ n. occurs n (present_run ds)) = λ i. missing_of 2 (λ n. tells.seen n i) in
-    let here : missing_of 2 (λ n. occurs n (present_run ds)) ≡ None = sym seen ∙ none in
-    record { each = part_two.each; mandatory = none_missing (λ n. occurs n (present_run ds)) (mandatory 2) here; once = part_two.once }
+    let part = part_front (section_after ds) (section_run ds) run (part_of (section_after ds) (section_run ds ++ run) good) in
+    let part_two : IsPart 2 (section_run ds) = subst (λ (r : ℕ). IsPart r (section_run ds)) two part in
+    let seen : missing_of 2 (has_seen o) ≡ missing_of 2 (λ n. occurs n (section_run ds)) = λ i. missing_of 2 (λ n. tells.seen n i) in
+    let here : missing_of 2 (λ n. occurs n (section_run ds)) ≡ None = sym seen ∙ none in
+    record { each = part_two.each; mandatory = none_missing (λ n. occurs n (section_run ds)) (mandatory 2) here; once = part_two.once }
 
 -- good records 1 and 2 are what is kept of whole sections
 pub kept_of_sections : (ds : List Dataset) → AreSections ds → IsEnvelope (kept ds)
@@ -178,12 +179,12 @@ split_kept ds rest same later sections =
 pub finished : EachRowHasValues → (ds : List Dataset) (o : Order) → SectionsLive ds → kept ds ≡ ds → IsOrderOf o ds → end_fault o.rec (has_seen o) ≡ None → IsEnvelope ds
 finished values ds o alive same tells none =
     let m = nothing_missing (nat_eq o.rec 2) o.rec (has_seen o) refl none in
-    let two : present_record ds ≡ 2 = sym tells.present ∙ m.0 in
+    let two : section_after ds ≡ 2 = sym tells.present ∙ m.0 in
     let good = present_good ds o alive tells two m.1 in
     let rest = records_to_come values (7 ∷ 8 ∷ 9 ∷ []) in
-    let good_present : IsGoodRecord (present_record ds) (present_run ds) = subst (λ (r : ℕ). IsGoodRecord r (present_run ds)) (sym two) good in
-    let later : AreRecords (after (present_record ds)) rest.0 = subst (λ (r : ℕ). AreRecords (after r) rest.0) (sym two) rest.1 in
-    let from : From ds rest.0 = ([], rest.0, refl, subst (IsGoodRecord (present_record ds)) (sym (append-nil (present_run ds))) good_present, later) in
+    let good_present : IsGoodRecord (section_after ds) (section_run ds) = subst (λ (r : ℕ). IsGoodRecord r (section_run ds)) (sym two) good in
+    let later : AreRecords (after (section_after ds)) rest.0 = subst (λ (r : ℕ). AreRecords (after r) rest.0) (sym two) rest.1 in
+    let from : From ds rest.0 = ([], rest.0, refl, subst (IsGoodRecord (section_after ds)) (sym (append-nil (section_run ds))) good_present, later) in
     split_kept ds rest.0 same rest.1 ((alive_follows ds alive).comes rest.0 from)
 
 -- ---- the builder

@@ -10,7 +10,7 @@ use Rattle.iim_tables.specs.declared.shape.Row.{Row}
 use Rattle.iim_fields.specs.Format.Records.{after, records, AreRecords, AreSections}
 use Rattle.iim_tables.specs.Format.Records.{IsGoodDataset, IsGoodRecord}
 use Rattle.iim_fields.specs.Format.Alive.{SectionsLive}
-use Rattle.iim_fields.specs.Format.Faults.{last_record, present_record, present_run}
+use Rattle.iim_fields.specs.Format.Faults.{last_record, section_after, section_run}
 use Rattle.iim_fields.proofs.Table.{after_tail, no_row}
 use Rattle.iim_fields.proofs.Runs.{not_empty, eq_itself}
 
@@ -19,7 +19,7 @@ abbrev pub FromRun : ℕ → List Dataset → List Dataset → Type 0
 FromRun r own more = (run rest : List Dataset) × (more ≡ run ++ rest) × IsGoodRecord r (own ++ run) × AreRecords (after r) rest
 
 abbrev pub From : List Dataset → List Dataset → Type 0
-From ds more = FromRun (present_record ds) (present_run ds) more
+From ds more = FromRun (section_after ds) (section_run ds) more
 
 -- the record is one of those to come
 abbrev pub is_coming : ℕ → ℕ → Bool
@@ -29,21 +29,21 @@ is_coming present r = list_any (λ x. nat_eq x r) (after present)
 pub record Follows (ds : List Dataset) : Type 0 where
   pub goes : (more : List Dataset) → AreSections (ds ++ more) → From ds more
   pub comes : (more : List Dataset) → From ds more → AreSections (ds ++ more)
-  pub fresh : (r : ℕ) → is_coming (present_record ds) r ≡ true → of_record r ds ≡ []
+  pub fresh : (r : ℕ) → is_coming (section_after ds) r ≡ true → of_record r ds ≡ []
 
 -- ---- one more dataset, of the present record or of the next
 
 pub record IsSame (ds : List Dataset) (d : Dataset) (more : List Dataset) : Type 0 where
-  pub same : d.rec ≡ present_record ds
+  pub same : d.rec ≡ section_after ds
   pub run : List Dataset
   pub rest : List Dataset
   pub parts : more ≡ run ++ rest
-  pub good : IsGoodRecord (present_record ds) (present_run ds ++ (d ∷ run))
-  pub later : AreRecords (after (present_record ds)) rest
+  pub good : IsGoodRecord (section_after ds) (section_run ds ++ (d ∷ run))
+  pub later : AreRecords (after (section_after ds)) rest
 
 pub record IsNext (ds : List Dataset) (d : Dataset) (more : List Dataset) : Type 0 where
-  pub next : after (present_record ds) ≡ d.rec ∷ after d.rec
-  pub done : IsGoodRecord (present_record ds) (present_run ds)
+  pub next : after (section_after ds) ≡ d.rec ∷ after d.rec
+  pub done : IsGoodRecord (section_after ds) (section_run ds)
   pub run : List Dataset
   pub rest : List Dataset
   pub parts : more ≡ run ++ rest
@@ -54,16 +54,16 @@ each_of : (r : ℕ) (xs : List Dataset) (d : Dataset) (ys : List Dataset) → Al
 each_of r [] d ys h = h.0
 each_of r (x ∷ xs) d ys h = each_of r xs d ys h.1
 
-next_run : (ds : List Dataset) (d : Dataset) (more : List Dataset) (rs : List ℕ) → after (present_record ds) ≡ rs → IsGoodRecord (present_record ds) (present_run ds)
+next_run : (ds : List Dataset) (d : Dataset) (more : List Dataset) (rs : List ℕ) → after (section_after ds) ≡ rs → IsGoodRecord (section_after ds) (section_run ds)
     → AreRecords rs (d ∷ more) → IsNext ds d more
 next_run ds d more [] e done recs = absurd cc
-next_run ds d more (r ∷ rs) e done ([], rest, parts, good, later) = absurd (not_empty r (after_tail (present_record ds) r rs e).1 good)
+next_run ds d more (r ∷ rs) e done ([], rest, parts, good, later) = absurd (not_empty r (after_tail (section_after ds) r rs e).1 good)
 next_run ds d more (r ∷ rs) e done (x ∷ run, rest, parts, good, later) =
     let first : d ≡ x = cc in
     let tail : more ≡ run ++ rest = cc in
     let good_d : IsGoodRecord r (d ∷ run) = subst (λ (y : Dataset). IsGoodRecord r (y ∷ run)) (sym first) good in
     let of : d.rec ≡ r = good_d.each.0.0 in
-    let known : rs ≡ after r = (after_tail (present_record ds) r rs e).0 in
+    let known : rs ≡ after r = (after_tail (section_after ds) r rs e).0 in
     record {
       next = e ∙ (ap (λ (qs : List ℕ). r ∷ qs) known ∙ ap (λ (q : ℕ). q ∷ after q) (sym of));
       done = done;
@@ -76,13 +76,13 @@ next_run ds d more (r ∷ rs) e done (x ∷ run, rest, parts, good, later) =
 
 pub from_cons : (ds : List Dataset) (d : Dataset) (more : List Dataset) → From ds (d ∷ more) → IsSame ds d more ⊎ IsNext ds d more
 from_cons ds d more ([], rest, parts, good, later) =
-    inr (next_run ds d more (after (present_record ds)) refl (subst (IsGoodRecord (present_record ds)) (append-nil (present_run ds)) good)
-    (subst (AreRecords (after (present_record ds))) (sym parts) later))
+    inr (next_run ds d more (after (section_after ds)) refl (subst (IsGoodRecord (section_after ds)) (append-nil (section_run ds)) good)
+    (subst (AreRecords (after (section_after ds))) (sym parts) later))
 from_cons ds d more (x ∷ run, rest, parts, good, later) =
     let first : d ≡ x = cc in
     let tail : more ≡ run ++ rest = cc in
-    let good_d : IsGoodRecord (present_record ds) (present_run ds ++ d ∷ run) = subst (λ (y : Dataset). IsGoodRecord (present_record ds) (present_run ds ++ y ∷ run)) (sym first) good in
-    inl (record { same = (each_of (present_record ds) (present_run ds) d run good_d.each).0; run = run; rest = rest; parts = tail; good = good_d; later = later })
+    let good_d : IsGoodRecord (section_after ds) (section_run ds ++ d ∷ run) = subst (λ (y : Dataset). IsGoodRecord (section_after ds) (section_run ds ++ y ∷ run)) (sym first) good in
+    inl (record { same = (each_of (section_after ds) (section_run ds) d run good_d.each).0; run = run; rest = rest; parts = tail; good = good_d; later = later })
 
 pub same_from : (ds : List Dataset) (d : Dataset) (more : List Dataset) → IsSame ds d more → From ds (d ∷ more)
 same_from ds d more s = (d ∷ s.run, s.rest, ap (λ (xs : List Dataset). d ∷ xs) s.parts, s.good, s.later)
@@ -92,7 +92,7 @@ next_from ds d more n = (
   [],
   d ∷ more,
   refl,
-  subst (IsGoodRecord (present_record ds)) (sym (append-nil (present_run ds))) n.done,
+  subst (IsGoodRecord (section_after ds)) (sym (append-nil (section_run ds))) n.done,
   subst (λ (rs : List ℕ). AreRecords rs (d ∷ more)) (sym n.next) (d ∷ n.run, n.rest, ap (λ (xs : List Dataset). d ∷ xs) n.parts, n.good, n.later),
 )
 
@@ -102,25 +102,25 @@ last_more : (r : ℕ) (ds : List Dataset) (d : Dataset) → last_record r (ds ++
 last_more r [] d = refl
 last_more r (x ∷ ds) d = last_more x.rec ds d
 
-pub present_more : (ds : List Dataset) (d : Dataset) → present_record (ds ++ d ∷ []) ≡ d.rec
+pub present_more : (ds : List Dataset) (d : Dataset) → section_after (ds ++ d ∷ []) ≡ d.rec
 present_more ds d = last_more 0 ds d
 
 own_of : (d : Dataset) → of_record d.rec (d ∷ []) ≡ d ∷ []
 own_of d = ap (λ (b : Bool). cond b (d ∷ []) []) (eq_itself d.rec)
 
-pub run_more : (ds : List Dataset) (d : Dataset) → present_run (ds ++ d ∷ []) ≡ of_record d.rec ds ++ d ∷ []
+pub run_more : (ds : List Dataset) (d : Dataset) → section_run (ds ++ d ∷ []) ≡ of_record d.rec ds ++ d ∷ []
 run_more ds d =
     ap (λ (r : ℕ). of_record r (ds ++ d ∷ [])) (present_more ds d)
     ∙ (filter-append (λ (x : Dataset). nat_eq x.rec d.rec) ds (d ∷ []) ∙ ap (λ (xs : List Dataset). of_record d.rec ds ++ xs) (own_of d))
 
 from_more : (ds : List Dataset) (d : Dataset) (more : List Dataset) → FromRun d.rec (of_record d.rec ds ++ d ∷ []) more → From (ds ++ d ∷ []) more
-from_more ds d more f = subst (λ (r : ℕ). FromRun r (present_run (ds ++ d ∷ [])) more) (sym (present_more ds d)) (subst (λ (own : List Dataset). FromRun d.rec own more) (sym (run_more ds d)) f)
+from_more ds d more f = subst (λ (r : ℕ). FromRun r (section_run (ds ++ d ∷ [])) more) (sym (present_more ds d)) (subst (λ (own : List Dataset). FromRun d.rec own more) (sym (run_more ds d)) f)
 
 from_less : (ds : List Dataset) (d : Dataset) (more : List Dataset) → From (ds ++ d ∷ []) more → FromRun d.rec (of_record d.rec ds ++ d ∷ []) more
-from_less ds d more f = subst (λ (own : List Dataset). FromRun d.rec own more) (run_more ds d) (subst (λ (r : ℕ). FromRun r (present_run (ds ++ d ∷ [])) more) (present_more ds d) f)
+from_less ds d more f = subst (λ (own : List Dataset). FromRun d.rec own more) (run_more ds d) (subst (λ (r : ℕ). FromRun r (section_run (ds ++ d ∷ [])) more) (present_more ds d) f)
 
 -- the next record has not occurred
-fresh_next : (ds : List Dataset) (d : Dataset) → Follows ds → after (present_record ds) ≡ d.rec ∷ after d.rec → of_record d.rec ds ≡ []
+fresh_next : (ds : List Dataset) (d : Dataset) → Follows ds → after (section_after ds) ≡ d.rec ∷ after d.rec → of_record d.rec ds ≡ []
 fresh_next ds d follows next =
     follows.fresh d.rec (ap (list_any (λ x. nat_eq x d.rec)) next ∙ ap (λ b. b || list_any (λ x. nat_eq x d.rec) (after d.rec)) (eq_itself d.rec))
 
@@ -194,7 +194,7 @@ or_true true = refl
 or_true false = refl
 
 -- a record that comes after the dataset came before it
-still_coming : (ds : List Dataset) (d : Dataset) (more : List Dataset) (r : ℕ) → IsSame ds d more ⊎ IsNext ds d more → is_coming d.rec r ≡ true → is_coming (present_record ds) r ≡ true
+still_coming : (ds : List Dataset) (d : Dataset) (more : List Dataset) (r : ℕ) → IsSame ds d more ⊎ IsNext ds d more → is_coming d.rec r ≡ true → is_coming (section_after ds) r ≡ true
 still_coming ds d more r (inl s) coming = ap (λ (m : ℕ). is_coming m r) (sym s.same) ∙ coming
 still_coming ds d more r (inr n) coming = ap (list_any (λ x. nat_eq x r)) n.next ∙ (ap (λ b. nat_eq d.rec r || b) coming ∙ or_true (nat_eq d.rec r))
 

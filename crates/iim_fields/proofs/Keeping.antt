@@ -2,11 +2,11 @@
 use Rattle.std.proofs.Common.{◌≡◌, ℕ, List, [], length, ap, sym, ◌∙◌, arith, subst, Option, Some, None}
 use Rattle.iim_dataset.specs.Format.Datasets.{Dataset}
 use Rattle.iim_fields.specs.Format.Records.{AreSections}
-use Rattle.iim_fields.specs.Format.Faults.{kept, joined, present_record}
-use Rattle.iim_fields.specs.Format.Builders.{IsEnvelope}
+use Rattle.iim_fields.specs.Format.Faults.{kept, joined, section_after}
+use Rattle.iim_fields.specs.Format.Envelopes.{IsEnvelope}
 use Rattle.iim_fields.specs.Building.{IsEnvelopeStore}
-use Rattle.iim_fields.specs.Format.Checks.{HasChecked, HasEnded, IsBetween}
-use Rattle.iim_fields.specs.Stores.{HasStored, fields_of}
+use Rattle.iim_fields.specs.States.Checks.{HasChecked, HasEnded, AwaitsHead}
+use Rattle.iim_fields.specs.StoreLayout.{HasStored, fields_of}
 use Rattle.iim_fields.specs.Reading.{IsReading, place_of}
 use Rattle.iim_fields.specs.declared.limits.Limits.{Limits}
 use Rattle.iim_fields.specs.declared.order.Order.{Order}
@@ -23,10 +23,10 @@ same_order check o p a b e f = ap (λ (p : RecordPlace). p.order) (same_place (r
 
 pub whole_where_ended : (check : Option RecordPlace) (ds : List Dataset) → HasEnded check → HasChecked check ds → AreSections ds
 whole_where_ended check ds ended s =
-    let last : present_record ds ≡ 9 = sym s.tells.present ∙ (ap (λ (o : Order). o.rec) (same_order check s.order ended.order s.begun None s.at ended.between) ∙ ended.last) in
+    let last : section_after ds ≡ 9 = sym s.tells.present ∙ (ap (λ (o : Order). o.rec) (same_order check s.order ended.order s.begun None s.at ended.between) ∙ ended.last) in
     whole_after_nine ds s.alive last
 
-pub ended_where_whole : (check : Option RecordPlace) (ds : List Dataset) → IsBetween check → HasChecked check ds → AreSections ds → HasEnded check
+pub ended_where_whole : (check : Option RecordPlace) (ds : List Dataset) → AwaitsHead check → HasChecked check ds → AreSections ds → HasEnded check
 ended_where_whole check ds t s sections = record {
   order = t.order;
   between = t.between;

@@ -9,7 +9,7 @@ use Rattle.iim_dataset.specs.Format.Octets.{within, is_digit}
 use Rattle.iim_tables.specs.Format.Dates.{is_date}
 use Rattle.iim_tables.specs.Format.Rows.{table, row_of, Meets}
 use Rattle.iim_tables.specs.Format.Records.{IsGoodDataset}
-use Rattle.iim_fields.specs.Format.Builders.{IsEnvelope}
+use Rattle.iim_fields.specs.Format.Envelopes.{IsEnvelope}
 use Rattle.iim_fields.specs.Format.Views.{has_names, first_data}
 use Rattle.iim_fields.proofs.Runs.{all_append}
 

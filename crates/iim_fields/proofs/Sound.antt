@@ -3,10 +3,8 @@ use Rattle.std.proofs.Common.{◌≡◌, ℕ, ◌+◌, ◌-◌, ◌≤◌, true,
 use Rattle.std.proofs.lemmas.Bool.{and_from, le-leb}
 use Rattle.iim_dataset.specs.Format.Datasets.{Dataset}
 use Rattle.iim_fields.specs.Format.Faults.{joined}
-use Rattle.iim_fields.specs.Stores.{HasStored, entries_of}
+use Rattle.iim_fields.specs.StoreLayout.{HasStored, entries_of, fields_of, is_sound}
 use Rattle.iim_fields.specs.Building.{IsEnvelopeStore}
-use Rattle.iim_fields.specs.Stores.{fields_of}
-use Rattle.iim_fields.specs.Stores.{is_sound}
 use Rattle.iim_fields.specs.declared.store.Store.{Store}
 
 sound_by : (from n : ℕ) (ks : List Dataset) → length (joined ks) ≤ n → is_sound from (entries_of from ks) n ≡ true

@@ -13,13 +13,14 @@ use Rattle.iim_dataset.specs.declared.head.Head.{Head}
 use Rattle.iim_tables.specs.Format.Numbers.{size_octets}
 use Rattle.iim_tables.specs.Format.Records.{occurs}
 use Rattle.iim_fields.specs.Format.Alive.{SectionsLiveAt}
-use Rattle.iim_fields.specs.Format.Faults.{room_fault, limits_fault, first_fault, fault_on, is_kept, kept, kept_octets, joined, present_record, present_run}
+use Rattle.iim_fields.specs.Format.Faults.{room_fault, limits_fault, first_fault, fault_on, is_kept, kept, kept_octets, joined, section_after, section_run}
 use Rattle.iim_fields.specs.Format.Values.{data_of, number_told, tells_number}
-use Rattle.iim_fields.specs.Format.Checks.{present_at, IsIn, HasChecked, IsChecking, HasTaken, IsRecordFault, IsValueFault, begun_head}
-use Rattle.iim_fields.specs.Format.Checks as checks
-use Rattle.iim_fields.specs.Stores.{HasStored, IsStore, entries_of, fields_of, ends_at, begun_octets}
-use Rattle.iim_fields.specs.Format.Stores.{fields_from}
-use Rattle.iim_fields.specs.Format.Standing.{FieldsPlace, IsBetween, IsInside, CanTake, CanClose, IsWithin, StandsAfter, StandsIn, IsHeadFault, IsOf, section_of, begun_head_of}
+use Rattle.iim_fields.specs.States.Checks.{section_at, IsIn, HasChecked, IsChecking, HasTaken, IsRecordFault, IsValueFault, begun_head}
+use Rattle.iim_fields.specs.States.Checks as checks
+use Rattle.iim_fields.specs.StoreLayout.{HasStored, IsStore, entries_of, fields_of, ends_at, begun_octets}
+use Rattle.iim_fields.specs.States.Stores.{fields_from}
+use Rattle.iim_fields.specs.States.Standing.{FieldsPlace, IsBetween, IsInside, CanTake, CanClose, StandsAfter, StandsIn, IsHeadFault, IsOf, section_of, begun_head_of}
+use Rattle.iim_fields.specs.Format.Bounds.{IsWithin}
 use Rattle.iim_fields.specs.Reading.{place_of, StandsSomewhere, HasRoom, IsReading}
 use Rattle.iim_fields.specs.declared.limits.Limits.{Limits}
 use Rattle.iim_fields.specs.declared.store.Store.{Store}
@@ -143,7 +144,7 @@ nothing_of_two (x ∷ xs) ys h = absurd cc
 
 -- ---- the start
 
-pub reading_start : (check : Option RecordPlace) (limits : Limits) (store : Store) → checks.IsBetween check → HasChecked check [] → store.octets.items ≡ [] → store.entries.items ≡ [] → HasRoom limits store
+pub reading_start : (check : Option RecordPlace) (limits : Limits) (store : Store) → checks.AwaitsHead check → HasChecked check [] → store.octets.items ≡ [] → store.entries.items ≡ [] → HasRoom limits store
     → StandsAfter (place_of check limits store []) [] × IsReading check limits store []
 reading_start check limits store between checked octets entries room =
     let holds : HasStored store [] [] = record { entries = entries; octets = octets } in
@@ -196,7 +197,7 @@ head_checking check ds h a = ap begun_head a.inside
 same_head : (g h : Head) (o : Option Head) → o ≡ Some g → o ≡ Some h → g ≡ h
 same_head g h o e f = let both = sym e ∙ f in cc
 
-pub none_between : (check : Option RecordPlace) → checks.IsBetween check → begun_head check ≡ None
+pub none_between : (check : Option RecordPlace) → checks.AwaitsHead check → begun_head check ≡ None
 none_between check t = ap begun_head t.between
 
 -- ---- a head
@@ -273,7 +274,7 @@ stands_subfile f new ds h taken d eight between on limits_are kept_same taken_sa
       taken_are = taken_same ∙ (s.taken_are ∙ s.nothing eight);
     }
 
-pub reading_begun : (check new : Option RecordPlace) (limits : Limits) (store : Store) (size : List ℕ) (h : Head) → IsReading check limits store size → checks.IsBetween check
+pub reading_begun : (check new : Option RecordPlace) (limits : Limits) (store : Store) (size : List ℕ) (h : Head) → IsReading check limits store size → checks.AwaitsHead check
     → ((ds : List Dataset) → StandsAfter (place_of check limits store size) ds → StandsIn (place_of new limits store size) ds h []) → IsReading new limits store size
 reading_begun check new limits store size h r t on =
     let (ds, s) = between_after (place_of check limits store size) r.stands t in
@@ -394,7 +395,7 @@ size_room values check limits store size k head r t is not_kept =
     let g_is = in_begun (place_of check limits store size) h a ds g taken s in
     let h_not_kept : is_kept h.rec ≡ false = ap (λ (k : Head). is_kept k.rec) same ∙ not_kept in
     let none = head_no_fault ds h (subst (SectionsLiveAt ds) g_is s.alive) in
-    let high = count_fits (present_record ds) (λ n. occurs n (present_run ds)) h a.row none a.known in
+    let high = count_fits (section_after ds) (λ n. occurs n (section_run ds)) h a.row none a.known in
     let bound = size_row h.rec h.set a.row (kept_or_tells h.rec h.set a.row a.known other h_not_kept) a.known in
     let all = inside.to_come other in
     let size_is : begun_octets store ++ size ≡ size = ap (λ (ys : List ℕ). ys ++ size) (r.in_size head is not_kept) in
@@ -519,7 +520,7 @@ somewhere_closed f new g number stands a all on =
     inl (ds ++ data_of h taken ∷ [], (on ds h taken s (data_of h taken) (record { head = (λ i. record { rec = h.rec; set = h.set; count = long i }); octets = s.octets; given = λ _. refl })).0)
 
 -- nothing is begun
-no_head : (check : Option RecordPlace) → checks.IsBetween check → (h : Head) → begun_head check ≡ Some h → ⊥
+no_head : (check : Option RecordPlace) → checks.AwaitsHead check → (h : Head) → begun_head check ≡ Some h → ⊥
 no_head check t h e = let clash = sym e ∙ none_between check t in cc
 
 -- the dataset is kept in the store
@@ -544,7 +545,7 @@ kept_in_store old new size h none is keeps octets entries =
       in_store_alone new size none ∙ begun_held new _ [] holds,
     )
 
-pub reading_kept : (check after : Option RecordPlace) (limits : Limits) (old new : Store) (size : List ℕ) (h : Head) → IsReading check limits old size → checks.IsBetween after → begun_head check ≡ Some h → is_kept h.rec ≡ true
+pub reading_kept : (check after : Option RecordPlace) (limits : Limits) (old new : Store) (size : List ℕ) (h : Head) → IsReading check limits old size → checks.AwaitsHead after → begun_head check ≡ Some h → is_kept h.rec ≡ true
     → new.octets ≡ old.octets → new.entries.items ≡ old.entries.items ++ record { rec = h.rec; set = h.set; end = length old.octets.items } ∷ [] → vec_capacity new.entries ≡ vec_capacity old.entries
     → StandsSomewhere (place_of after limits new size) → IsReading after limits new size
 reading_kept check after limits old new size h r t is keeps octets entries capacity somewhere = record {
@@ -560,7 +561,7 @@ reading_kept check after limits old new size h r t is keeps octets entries capac
   in_size = λ g e _. absurd (no_head after t g e);
 }
 
-pub reading_passed : (check after : Option RecordPlace) (limits : Limits) (store : Store) (old new : List ℕ) → IsReading check limits store old → checks.IsBetween after → StandsSomewhere (place_of after limits store new) → IsReading after limits store new
+pub reading_passed : (check after : Option RecordPlace) (limits : Limits) (store : Store) (old new : List ℕ) → IsReading check limits store old → checks.AwaitsHead after → StandsSomewhere (place_of after limits store new) → IsReading after limits store new
 reading_passed check after limits store old new r t somewhere = record {
   room = r.room;
   store_is = r.store_is;
@@ -589,10 +590,10 @@ section_in f ds h taken s =
       | inl eight ↦
           let (e, e_is, octets) = some_data h in
           let c = s.checked.subfile eight.1 e e_is octets in
-          ap present_at c.at ∙ (c.tells.present ∙ (present_more ds e ∙ ap (λ (k : Head). k.rec) e_is))
+          ap section_at c.at ∙ (c.tells.present ∙ (present_more ds e ∙ ap (λ (k : Head). k.rec) e_is))
       | inr other ↦
           let c = s.checked.checking other.1 in
-          ap present_at c.inside ∙ ((c.tells d is).present ∙ (present_more ds d ∙ ap (λ (k : Head). k.rec) is))
+          ap section_at c.inside ∙ ((c.tells d is).present ∙ (present_more ds d ∙ ap (λ (k : Head). k.rec) is))
     ]
 
 -- ---- the begun head

@@ -14,11 +14,11 @@ use Rattle.iim_tables.specs.declared.shape.Duty.TheVariants as duties
 use Rattle.iim_fields.specs.Format.Records.{after}
 use Rattle.iim_fields.specs.Format.Faults.{head_fault, record_fault, limits_fault, first_fault, row_fault, missing_fault, missing_of, is_in_order, is_first, fault_on, is_kept, kept_octets}
 use Rattle.iim_fields.specs.Format.Faults as faults
-use Rattle.iim_fields.specs.Format.Orders.{has_seen, IsOrderOf}
-use Rattle.iim_fields.specs.Format.Checks.{IsIn, HasChecked, begun_head}
-use Rattle.iim_fields.specs.Format.Checks as checks
-use Rattle.iim_fields.specs.Format.Standing.{StandsAfter, PassesSubfile}
-use Rattle.iim_fields.specs.Orders.{AddsHead, is_subfile_head, takes_subfile}
+use Rattle.iim_fields.specs.States.Orders.{has_seen, IsOrderOf}
+use Rattle.iim_fields.specs.States.Checks.{IsIn, HasChecked, begun_head}
+use Rattle.iim_fields.specs.States.Checks as checks
+use Rattle.iim_fields.specs.States.Standing.{StandsAfter, PassesSubfile}
+use Rattle.iim_fields.specs.OrderChanges.{AddsHead, is_subfile_head, takes_subfile}
 use Rattle.iim_fields.specs.Checking.{IsRecordPlace, TakesSubfile, TookSubfile}
 use Rattle.iim_fields.specs.Reading.{place_of, IsReading}
 use Rattle.iim_fields.specs.declared.limits.Limits.{Limits}
@@ -131,7 +131,7 @@ subfile_admitted p has h eight = admitted_at p has h.set h.count ∙ (λ i. is_n
 -- ---- the check
 
 -- nothing is begun
-none_in : (place : RecordPlace) → checks.IsBetween (Some place) → place.begun ≡ None
+none_in : (place : RecordPlace) → checks.AwaitsHead (Some place) → place.begun ≡ None
 none_in place b = ap (λ (p : RecordPlace). p.begun) (same_place place (record { order = b.order; begun = None }) b.between)
 
 pub takes_subfile_by : (old new : RecordPlace) (h : Head) → is_none (head_fault old.order.rec (has_seen old.order) h) ≡ true → AddsHead old.order h new.order → new.begun ≡ old.begun → TakesSubfile old h new
@@ -140,7 +140,7 @@ takes_subfile_by old new h fine adds begun =
     let parts = no_fault_parts old.order.rec (has_seen old.order) h none in
     record { row = parts.row; known = parts.known; no_fault = none; adds = adds; begun = begun }
 
-pub subfile_took : EachRowHasValues → (old new : RecordPlace) (h : Head) → h.set < 256 → checks.IsBetween (Some old) → TakesSubfile old h new → TookSubfile (Some old) (Some new) h
+pub subfile_took : EachRowHasValues → (old new : RecordPlace) (h : Head) → h.set < 256 → checks.AwaitsHead (Some old) → TakesSubfile old h new → TookSubfile (Some old) (Some new) h
 subfile_took values old new h small between t =
     let begun : Begun = record { head = h; row = t.row } in
     let mid : RecordPlace = record { order = new.order; begun = Some begun } in
@@ -154,7 +154,7 @@ subfile_took values old new h small between t =
           record { order = s.order; begun = None; at = (λ i. Some (record { order = order i; begun = none i })); none = tt; alive = s.alive; tells = s.tells };
     }
 
-pub between_subfile : (old new : RecordPlace) (h : Head) → checks.IsBetween (Some old) → TakesSubfile old h new → checks.IsBetween (Some new)
+pub between_subfile : (old new : RecordPlace) (h : Head) → checks.AwaitsHead (Some old) → TakesSubfile old h new → checks.AwaitsHead (Some new)
 between_subfile old new h b t =
     let none : new.begun ≡ None = t.begun ∙ none_in old b in
     record { order = new.order; between = λ i. Some (record { order = new.order; begun = none i }) }
@@ -164,12 +164,12 @@ subfile_exactly old h b is ds s =
     let told : IsOrderOf old.order ds = subst (λ (o : Order). IsOrderOf o ds) (sym (order_at old s.order s.begun s.at)) s.tells in
     is ∙ ap is_none (record_fault_is old.order ds h told)
 
-place_subfile : (old new : RecordPlace) (h : Head) → checks.IsBetween (Some old) → h.rec ≡ 8 → IsRecordPlace old → TookSubfile (Some old) (Some new) h → IsRecordPlace new
+place_subfile : (old new : RecordPlace) (h : Head) → checks.AwaitsHead (Some old) → h.rec ≡ 8 → IsRecordPlace old → TookSubfile (Some old) (Some new) h → IsRecordPlace new
 place_subfile old new h between eight (inl (ds, s)) t =
     let (d, is, octets) = some_data h in inl (ds ++ d ∷ [], t.closed (ds ++ d ∷ []) ((t.taken ds s).subfile eight d is octets))
 place_subfile old new h between eight (inr (ds, g, s)) t = absurd (not_both (Some old) between.order s.order None (record { head = g; row = s.row }) between.between tt s.inside s.value)
 
-pub place_subfile_either : (old new : RecordPlace) (h : Head) (b : Bool) → checks.IsBetween (Some old) → h.rec ≡ 8 → IsRecordPlace old → (b ≡ true → TookSubfile (Some old) (Some new) h) → (b ≡ false → new ≡ old) → IsRecordPlace new
+pub place_subfile_either : (old new : RecordPlace) (h : Head) (b : Bool) → checks.AwaitsHead (Some old) → h.rec ≡ 8 → IsRecordPlace old → (b ≡ true → TookSubfile (Some old) (Some new) h) → (b ≡ false → new ≡ old) → IsRecordPlace new
 place_subfile_either old new h true between eight is took left = place_subfile old new h between eight is (took refl)
 place_subfile_either old new h false between eight is took left = subst IsRecordPlace (sym (left refl)) is
 
@@ -184,7 +184,7 @@ pub fields_exactly : (check : Option RecordPlace) (limits : Limits) (store : Sto
 fields_exactly check limits store size h b eight exactly ds s =
     exactly ds s.checked ∙ no_limit_passed (record_fault ds h) (limits_fault limits ds h) (no_limit limits (kept_octets ds) (length (faults.kept ds)) h (ap is_kept eight))
 
-pub fields_pass : (check new : Option RecordPlace) (limits : Limits) (store : Store) (size : List ℕ) (h : Head) → IsReading check limits store size → TookSubfile check new h → checks.IsBetween new → h.rec ≡ 8
+pub fields_pass : (check new : Option RecordPlace) (limits : Limits) (store : Store) (size : List ℕ) (h : Head) → IsReading check limits store size → TookSubfile check new h → checks.AwaitsHead new → h.rec ≡ 8
     → PassesSubfile (place_of check limits store size) h (place_of new limits store size)
 fields_pass check new limits store size h r took next eight = record {
   inside = place_of took.mid limits store size;
@@ -194,8 +194,8 @@ fields_pass check new limits store size h r took next eight = record {
   closes = closed_subfile (place_of took.mid limits store size) (place_of new limits store size) h took.inside eight next took.closed refl refl refl;
 }
 
-pub fields_reading : (check new : Option RecordPlace) (limits : Limits) (store : Store) (size : List ℕ) (h : Head) (b : Bool) → IsReading check limits store size → checks.IsBetween check → (b ≡ true → TookSubfile check new h)
-    → (b ≡ false → new ≡ check) → checks.IsBetween new → h.rec ≡ 8 → IsReading new limits store size
+pub fields_reading : (check new : Option RecordPlace) (limits : Limits) (store : Store) (size : List ℕ) (h : Head) (b : Bool) → IsReading check limits store size → checks.AwaitsHead check → (b ≡ true → TookSubfile check new h)
+    → (b ≡ false → new ≡ check) → checks.AwaitsHead new → h.rec ≡ 8 → IsReading new limits store size
 fields_reading check new limits store size h true r between took left next eight =
     let (ds, s) = between_after (place_of check limits store size) r.stands between in
     let (d, is, octets) = some_data h in

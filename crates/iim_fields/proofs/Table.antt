@@ -3,7 +3,7 @@ use Rattle.std.proofs.Common.{◌≡◌, ◌≢◌, ℕ, ◌<◌, ◌≤◌, ◌
 use Rattle.std.specs.List.{AllByRecursion, list_all, filter, find}
 use Rattle.std.specs.Option.{option_or, option_map}
 use Rattle.iim_fields.specs.Format.Faults.{is_kept, value_fault, fault_by_row, missing_fault}
-use Rattle.iim_fields.specs.Orders.{no_application}
+use Rattle.iim_fields.specs.OrderChanges.{no_application}
 use Rattle.iim_fields.specs.declared.fault.FieldCause.TheVariants as causes
 use Rattle.iim_fields.specs.declared.fault.FieldFault.{FieldFault}
 use Rattle.iim_tables.specs.declared.shape.Kind.TheVariants as kinds

@@ -12,10 +12,10 @@ use Rattle.iim_tables.specs.Format.Rows.{row_of, is_admitted}
 use Rattle.iim_tables.specs.declared.shape.Row.{Row}
 use Rattle.iim_fields.specs.Format.Records.{after}
 use Rattle.iim_tables.specs.Format.Records.{mandatory, may_repeat, occurs, is_file_format, has_file_format}
-use Rattle.iim_fields.specs.Format.Faults.{present_record, present_run, is_first, is_in_order, fault_on, row_fault, missing_fault, missing_of, is_kept, kept, kept_octets, limits_fault, first_fault, value_fault, fault_by_row}
+use Rattle.iim_fields.specs.Format.Faults.{section_after, section_run, is_first, is_in_order, fault_on, row_fault, missing_fault, missing_of, is_kept, kept, kept_octets, limits_fault, first_fault, value_fault, fault_by_row}
 use Rattle.iim_fields.specs.Format.Causes.{Token, IsInPresent, BeginsNext, IsOutOfOrder, HasNoRow, IsRepeated, IsOutOfRange, IsAbsent, EndsTooEarly, IsBad, IsOtherFormat, PassesOctets, PassesFields, number_of_cause, HasCause, Names, IsFault, HasNoFault}
 use Rattle.iim_fields.specs.Format.Causes.Token.{AtHead, AtValue}
-use Rattle.iim_fields.specs.Format.Laws.{IsFaultIfAny, HeadsTellTheLowestCause, ValuesTellTheLowestCause}
+use Rattle.iim_fields.specs.Laws.Records.{IsFaultIfAny, HeadsTellTheLowestCause, ValuesTellTheLowestCause}
 use Rattle.iim_fields.specs.declared.limits.Limits.{Limits}
 use Rattle.iim_fields.specs.declared.fault.FieldFault.{FieldFault}
 use Rattle.iim_fields.specs.declared.fault.FieldCause.{FieldCause}
@@ -86,24 +86,24 @@ not_zero r h e = let bad : not (nat_eq r 0) ≡ false = ap (λ (n : ℕ). not (n
 is_not_zero : (r : ℕ) → r ≢ 0 → not (nat_eq r 0) ≡ true
 is_not_zero r h = elim (eqb_tells r 0) [ inl zero_is ↦ absurd (h zero_is.1) | inr other ↦ ap not other.0 ]
 
-in_order : (ds : List Dataset) (h : Head) → is_in_order (present_record ds) h.rec ≡ true → IsInPresent ds h ⊎ BeginsNext ds h
-in_order ds h is = elim (or_cases (nat_eq h.rec (present_record ds) && not (nat_eq h.rec 0)) (is_first h.rec (after (present_record ds))) is) [
+in_order : (ds : List Dataset) (h : Head) → is_in_order (section_after ds) h.rec ≡ true → IsInPresent ds h ⊎ BeginsNext ds h
+in_order ds h is = elim (or_cases (nat_eq h.rec (section_after ds) && not (nat_eq h.rec 0)) (is_first h.rec (after (section_after ds))) is) [
   | inl same ↦
-      let parts = and_parts (nat_eq h.rec (present_record ds)) (not (nat_eq h.rec 0)) same in
-      inl (not_zero h.rec parts.1, eqb-true h.rec (present_record ds) parts.0)
-  | inr first ↦ inr (after h.rec, next_is (present_record ds) h.rec first)
+      let parts = and_parts (nat_eq h.rec (section_after ds)) (not (nat_eq h.rec 0)) same in
+      inl (not_zero h.rec parts.1, eqb-true h.rec (section_after ds) parts.0)
+  | inr first ↦ inr (after h.rec, next_is (section_after ds) h.rec first)
 ]
 
-begins : (ds : List Dataset) (h : Head) → BeginsNext ds h → is_first h.rec (after (present_record ds)) ≡ true
+begins : (ds : List Dataset) (h : Head) → BeginsNext ds h → is_first h.rec (after (section_after ds)) ≡ true
 begins ds h (later, is) = ap (is_first h.rec) is ∙ eq_itself h.rec
 
-out_of_order : (ds : List Dataset) (h : Head) → is_in_order (present_record ds) h.rec ≡ false → IsOutOfOrder ds h
+out_of_order : (ds : List Dataset) (h : Head) → is_in_order (section_after ds) h.rec ≡ false → IsOutOfOrder ds h
 out_of_order ds h is =
-    let parts = or_parts (nat_eq h.rec (present_record ds) && not (nat_eq h.rec 0)) (is_first h.rec (after (present_record ds))) is in
+    let parts = or_parts (nat_eq h.rec (section_after ds) && not (nat_eq h.rec 0)) (is_first h.rec (after (section_after ds))) is in
     λ may. elim may [
       | inl present ↦
-          let same : nat_eq h.rec (present_record ds) ≡ true = ap (nat_eq h.rec) (sym present.1) ∙ eq_itself h.rec in
-          let bad = and_from (nat_eq h.rec (present_record ds)) (not (nat_eq h.rec 0)) same (is_not_zero h.rec present.0) in
+          let same : nat_eq h.rec (section_after ds) ≡ true = ap (nat_eq h.rec) (sym present.1) ∙ eq_itself h.rec in
+          let bad = and_from (nat_eq h.rec (section_after ds)) (not (nat_eq h.rec 0)) same (is_not_zero h.rec present.0) in
           let no = parts.0 in cc (bad, no)
       | inr next ↦ let bad = begins ds h next in let no = parts.1 in cc (bad, no)
     ]
@@ -233,11 +233,11 @@ room_told limits ds h clear = room_by limits ds h (is_kept h.rec) (nat_le (kept_
 
 -- the present record has no dataset of the number
 abbrev has_come : List Dataset → ℕ → Bool
-has_come ds n = occurs n (present_run ds)
+has_come ds n = occurs n (section_run ds)
 
 missing_by : (limits : Limits) (ds : List Dataset) (h : Head) (c : Bool) (m : Option ℕ) → (IsOutOfOrder ds h → ⊥) → (HasNoRow h → ⊥) → (IsRepeated ds h → ⊥) → (IsOutOfRange h → ⊥)
-    → is_first h.rec (after (present_record ds)) ≡ c → missing_of (present_record ds) (has_come ds) ≡ m
-    → Told limits ds (AtHead h) (option_or (cond c (missing_fault (present_record ds) m) None) (limits_fault limits ds h))
+    → is_first h.rec (after (section_after ds)) ≡ c → missing_of (section_after ds) (has_come ds) ≡ m
+    → Told limits ds (AtHead h) (option_or (cond c (missing_fault (section_after ds) m) None) (limits_fault limits ds h))
 missing_by limits ds h false m order row again range first found = room_told limits ds h record {
   order = order;
   row = row;
@@ -250,32 +250,32 @@ missing_by limits ds h true None order row again range first found = room_told l
   row = row;
   again = again;
   range = range;
-  missing = λ ends. let yes = none_absent (has_come ds) (mandatory (present_record ds)) ends.1.0 found ends.1.1.mandatory in let no = ends.1.1.absent in cc (yes, no);
+  missing = λ ends. let yes = none_absent (has_come ds) (mandatory (section_after ds)) ends.1.0 found ends.1.1.mandatory in let no = ends.1.1.absent in cc (yes, no);
 }
 missing_by limits ds h true (Some n) order row again range first found =
-    let least = least_found (has_come ds) 0 (mandatory (present_record ds)) n (mandatory_rise (present_record ds)) found in
+    let least = least_found (has_come ds) 0 (mandatory (section_after ds)) n (mandatory_rise (section_after ds)) found in
     let absent : IsAbsent ds n = record { mandatory = least.one; absent = least.absent } in
     record {
-      holds = ((after h.rec, next_is (present_record ds) h.rec first), (n, absent));
+      holds = ((after h.rec, next_is (section_after ds) h.rec first), (n, absent));
       lowest = lower limits ds h 14 (λ _. order) (λ _. row) (λ _. again) (λ _. range) (λ below. absurd (omega arith)) (λ below. absurd (omega arith)) (λ below. absurd (omega arith));
       names = (refl, absent, λ m is. least.least m is.mandatory is.absent);
     }
 
-is_repeated : (ds : List Dataset) (h : Head) (row : Row) → row_of h.rec h.set ≡ Some row → ((nat_eq h.rec (present_record ds) && has_come ds h.set) && not row.repeats) ≡ true → IsRepeated ds h
+is_repeated : (ds : List Dataset) (h : Head) (row : Row) → row_of h.rec h.set ≡ Some row → ((nat_eq h.rec (section_after ds) && has_come ds h.set) && not row.repeats) ≡ true → IsRepeated ds h
 is_repeated ds h row known t =
-    let parts = and_parts (nat_eq h.rec (present_record ds) && has_come ds h.set) (not row.repeats) t in
-    let came = and_parts (nat_eq h.rec (present_record ds)) (has_come ds h.set) parts.0 in
-    (ap may_repeat known ∙ not_true row.repeats parts.1, eqb-true h.rec (present_record ds) came.0, came.1)
+    let parts = and_parts (nat_eq h.rec (section_after ds) && has_come ds h.set) (not row.repeats) t in
+    let came = and_parts (nat_eq h.rec (section_after ds)) (has_come ds h.set) parts.0 in
+    (ap may_repeat known ∙ not_true row.repeats parts.1, eqb-true h.rec (section_after ds) came.0, came.1)
   where
     not_true : (b : Bool) → not b ≡ true → b ≡ false
     not_true true h = absurd cc
     not_true false h = refl
 
-not_repeated : (ds : List Dataset) (h : Head) (row : Row) → row_of h.rec h.set ≡ Some row → ((nat_eq h.rec (present_record ds) && has_come ds h.set) && not row.repeats) ≡ false → IsRepeated ds h → ⊥
+not_repeated : (ds : List Dataset) (h : Head) (row : Row) → row_of h.rec h.set ≡ Some row → ((nat_eq h.rec (section_after ds) && has_come ds h.set) && not row.repeats) ≡ false → IsRepeated ds h → ⊥
 not_repeated ds h row known t is =
-    let same : nat_eq h.rec (present_record ds) ≡ true = ap (nat_eq h.rec) (sym is.1) ∙ eq_itself h.rec in
+    let same : nat_eq h.rec (section_after ds) ≡ true = ap (nat_eq h.rec) (sym is.1) ∙ eq_itself h.rec in
     let once : not row.repeats ≡ true = ap not (sym (ap may_repeat known) ∙ is.0) in
-    let bad = and_from (nat_eq h.rec (present_record ds) && has_come ds h.set) (not row.repeats) (and_from (nat_eq h.rec (present_record ds)) (has_come ds h.set) same is.2) once in
+    let bad = and_from (nat_eq h.rec (section_after ds) && has_come ds h.set) (not row.repeats) (and_from (nat_eq h.rec (section_after ds)) (has_come ds h.set) same is.2) once in
     cc (bad, t)
 
 either_false : (a b : Bool) → (a && b) ≡ false → (a ≡ false) ⊎ (b ≡ false)
@@ -301,9 +301,9 @@ in_range h row known s is =
     ]
 
 row_by : (limits : Limits) (ds : List Dataset) (h : Head) (row : Row) (t s : Bool) → (IsOutOfOrder ds h → ⊥) → row_of h.rec h.set ≡ Some row
-    → ((nat_eq h.rec (present_record ds) && has_come ds h.set) && not row.repeats) ≡ t → within row.min row.max h.count ≡ s
+    → ((nat_eq h.rec (section_after ds) && has_come ds h.set) && not row.repeats) ≡ t → within row.min row.max h.count ≡ s
     → Told limits ds (AtHead h) (option_or (option_or (cond t (Some (fault_on h Repeated)) (cond (not s) (Some (fault_on h CountRange)) None))
-    (cond (is_first h.rec (after (present_record ds))) (missing_fault (present_record ds) (missing_of (present_record ds) (has_come ds))) None)) (limits_fault limits ds h))
+    (cond (is_first h.rec (after (section_after ds))) (missing_fault (section_after ds) (missing_of (section_after ds) (has_come ds))) None)) (limits_fault limits ds h))
 row_by limits ds h row true s order known again range = record {
   holds = is_repeated ds h row known again;
   lowest = lower limits ds h 12 (λ _. order) (λ _ none. cc (known, none)) (λ below. absurd (omega arith)) (λ below. absurd (omega arith)) (λ below. absurd (omega arith)) (λ below. absurd (omega arith)) (λ below. absurd (omega arith));
@@ -315,11 +315,11 @@ row_by limits ds h row false false order known again range = record {
   names = (refl, refl);
 }
 row_by limits ds h row false true order known again range =
-    missing_by limits ds h (is_first h.rec (after (present_record ds))) (missing_of (present_record ds) (has_come ds)) order (λ none. cc (known, none)) (not_repeated ds h row known again) (in_range h row known range) refl refl
+    missing_by limits ds h (is_first h.rec (after (section_after ds))) (missing_of (section_after ds) (has_come ds)) order (λ none. cc (known, none)) (not_repeated ds h row known again) (in_range h row known range) refl refl
 
-head_by : (limits : Limits) (ds : List Dataset) (h : Head) (a : Bool) (o : Option Row) → is_in_order (present_record ds) h.rec ≡ a → row_of h.rec h.set ≡ o
-    → Told limits ds (AtHead h) (option_or (cond (not a) (Some (fault_on h RecordOrder)) (option_or (row_fault (nat_eq h.rec (present_record ds) && has_come ds h.set) o h)
-    (cond (is_first h.rec (after (present_record ds))) (missing_fault (present_record ds) (missing_of (present_record ds) (has_come ds))) None))) (limits_fault limits ds h))
+head_by : (limits : Limits) (ds : List Dataset) (h : Head) (a : Bool) (o : Option Row) → is_in_order (section_after ds) h.rec ≡ a → row_of h.rec h.set ≡ o
+    → Told limits ds (AtHead h) (option_or (cond (not a) (Some (fault_on h RecordOrder)) (option_or (row_fault (nat_eq h.rec (section_after ds) && has_come ds h.set) o h)
+    (cond (is_first h.rec (after (section_after ds))) (missing_fault (section_after ds) (missing_of (section_after ds) (has_come ds))) None))) (limits_fault limits ds h))
 head_by limits ds h false o order known = record {
   holds = out_of_order ds h order;
   lowest = lower limits ds h 10 (λ below. absurd (omega arith)) (λ below. absurd (omega arith)) (λ below. absurd (omega arith)) (λ below. absurd (omega arith)) (λ below. absurd (omega arith)) (λ below. absurd (omega arith)) (λ below. absurd (omega arith));
@@ -331,10 +331,10 @@ head_by limits ds h true None order known = record {
   names = (refl, refl);
 }
 head_by limits ds h true (Some row) order known =
-    row_by limits ds h row ((nat_eq h.rec (present_record ds) && has_come ds h.set) && not row.repeats) (within row.min row.max h.count) (λ out. out (in_order ds h order)) known refl refl
+    row_by limits ds h row ((nat_eq h.rec (section_after ds) && has_come ds h.set) && not row.repeats) (within row.min row.max h.count) (λ out. out (in_order ds h order)) known refl refl
 
 head_told : (limits : Limits) (ds : List Dataset) (h : Head) → Told limits ds (AtHead h) (first_fault limits ds h)
-head_told limits ds h = head_by limits ds h (is_in_order (present_record ds) h.rec) (row_of h.rec h.set) refl refl
+head_told limits ds h = head_by limits ds h (is_in_order (section_after ds) h.rec) (row_of h.rec h.set) refl refl
 
 -- ---- values
 

@@ -9,15 +9,15 @@ use Rattle.iim_tables.specs.declared.shape.Row.{Row}
 use Rattle.iim_fields.specs.Format.Faults.{head_fault, record_fault, limits_fault, first_fault, value_fault, room_fault, fault_on, is_kept, kept_octets}
 use Rattle.iim_fields.specs.Format.Faults as faults
 use Rattle.iim_fields.specs.declared.fault.FieldCause.TheVariants.{HeaderFull, TooManyFields}
-use Rattle.iim_fields.specs.Format.Builders.{add_fault}
-use Rattle.iim_fields.specs.Format.Orders.{has_seen, IsOrderOf}
-use Rattle.iim_fields.specs.Orders.{AddsHead}
+use Rattle.iim_fields.specs.States.Builders.{add_fault}
+use Rattle.iim_fields.specs.States.Orders.{has_seen, IsOrderOf}
+use Rattle.iim_fields.specs.OrderChanges.{AddsHead}
 use Rattle.iim_fields.specs.Format.Values.{data_of, number_told}
-use Rattle.iim_fields.specs.Format.Checks.{IsIn, HasChecked, IsChecking, begun_head}
-use Rattle.iim_fields.specs.Format.Checks as checks
-use Rattle.iim_fields.specs.Format.Standing.{CanTake, StandsAfter, StandsIn}
+use Rattle.iim_fields.specs.States.Checks.{IsIn, HasChecked, IsChecking, begun_head}
+use Rattle.iim_fields.specs.States.Checks as checks
+use Rattle.iim_fields.specs.States.Standing.{CanTake, StandsAfter, StandsIn}
 use Rattle.iim_fields.specs.Checking.{place_fault, record_layer_fault, IsRecordPlace, TakesWhole, TookWhole}
-use Rattle.iim_fields.specs.Stores.{begun_octets, IsStore}
+use Rattle.iim_fields.specs.StoreLayout.{begun_octets, IsStore}
 use Rattle.iim_fields.specs.Reading.{place_of, IsReading}
 use Rattle.iim_fields.specs.declared.limits.Limits.{Limits}
 use Rattle.iim_fields.specs.declared.fault.FieldFault.{FieldFault}
@@ -67,25 +67,25 @@ took_whole values old new h row xs small takes none known ok count octets fine =
       closed = checked_value values mid new begun xs (number_told (data_of h xs)) refl refl none count octets fine refl;
     }
 
-pub place_whole : (old new : RecordPlace) (h : Head) (xs : List ℕ) → checks.IsBetween (Some old) → h.rec ≢ 8 → IsRecordPlace old → TookWhole (Some old) (Some new) h xs → IsRecordPlace new
+pub place_whole : (old new : RecordPlace) (h : Head) (xs : List ℕ) → checks.AwaitsHead (Some old) → h.rec ≢ 8 → IsRecordPlace old → TookWhole (Some old) (Some new) h xs → IsRecordPlace new
 place_whole old new h xs between other (inl (ds, s)) t = inl (ds ++ data_of h xs ∷ [], (t.closed ds h ((t.taken ds s).checking other)).0)
 place_whole old new h xs between other (inr (ds, g, s)) t = absurd (not_both (Some old) between.order s.order None (record { head = g; row = s.row }) between.between tt s.inside s.value)
 
 -- the place took it, and the check did
-pub took_by : EachRowHasValues → (old new : RecordPlace) (h : Head) (xs : List ℕ) → h.set < 256 → checks.IsBetween (Some old) → h.count ≡ length xs → ((i : ℕ) → get_or xs i 0 < 256) → TakesWhole old h xs new
+pub took_by : EachRowHasValues → (old new : RecordPlace) (h : Head) (xs : List ℕ) → h.set < 256 → checks.AwaitsHead (Some old) → h.count ≡ length xs → ((i : ℕ) → get_or xs i 0 < 256) → TakesWhole old h xs new
     → TookWhole (Some old) (Some new) h xs
 took_by values old new h xs small between count octets t =
     took_whole values old new h t.row xs small t.adds (t.begun ∙ none_in old between) t.known t.no_fault count octets t.fine
   where
-    none_in : (place : RecordPlace) → checks.IsBetween (Some place) → place.begun ≡ None
+    none_in : (place : RecordPlace) → checks.AwaitsHead (Some place) → place.begun ≡ None
     none_in place b = ap (λ (p : RecordPlace). p.begun) (same_place place (record { order = b.order; begun = None }) b.between)
 
-pub between_by : (old new : RecordPlace) (h : Head) (xs : List ℕ) → checks.IsBetween (Some old) → TakesWhole old h xs new → checks.IsBetween (Some new)
+pub between_by : (old new : RecordPlace) (h : Head) (xs : List ℕ) → checks.AwaitsHead (Some old) → TakesWhole old h xs new → checks.AwaitsHead (Some new)
 between_by old new h xs b t =
     let none : new.begun ≡ None = t.begun ∙ ap (λ (p : RecordPlace). p.begun) (same_place old (record { order = b.order; begun = None }) b.between) in
     record { order = new.order; between = λ i. Some (record { order = new.order; begun = none i }) }
 
-pub place_either : (old new : RecordPlace) (h : Head) (xs : List ℕ) (b : Bool) → checks.IsBetween (Some old) → h.rec ≢ 8 → IsRecordPlace old → (b ≡ true → TookWhole (Some old) (Some new) h xs) → (b ≡ false → new ≡ old)
+pub place_either : (old new : RecordPlace) (h : Head) (xs : List ℕ) (b : Bool) → checks.AwaitsHead (Some old) → h.rec ≢ 8 → IsRecordPlace old → (b ≡ true → TookWhole (Some old) (Some new) h xs) → (b ≡ false → new ≡ old)
     → IsRecordPlace new
 place_either old new h xs true between other is took left = place_whole old new h xs between other is (took refl)
 place_either old new h xs false between other is took left = subst IsRecordPlace (sym (left refl)) is
@@ -137,9 +137,9 @@ whole_within check limits store size h xs b is count keeps none exactly ds s =
 -- The check took the dataset, which is one that is kept and within the limits.
 pub record Whole (check new : Option RecordPlace) (limits : Limits) (store : Store) (size : List ℕ) (h : Head) (xs : List ℕ) : Type 0 where
   pub reading : IsReading check limits store size
-  pub between : checks.IsBetween check
+  pub between : checks.AwaitsHead check
   pub took : TookWhole check new h xs
-  pub next : checks.IsBetween new
+  pub next : checks.AwaitsHead new
   pub keeps : is_kept h.rec ≡ true
   pub fits : room_fault limits (length store.octets.items) (vec_len store.entries) h ≡ None
   pub count : h.count ≡ length xs
@@ -231,7 +231,7 @@ number_exactly check limits store size h xs b number count exactly ds s =
     ∙ (ap (λ (k : Head). is_none (option_or (record_fault ds k) (value_fault (data_of h xs)))) (sym (same_head h xs count))
     ∙ without (record_fault ds h) (limits_fault limits ds h) (value_fault (data_of h xs)) (no_limit limits (kept_octets ds) (length (faults.kept ds)) h (number_passes h.rec number)))
 
-pub number_stands : (check new : Option RecordPlace) (limits : Limits) (store : Store) (size : List ℕ) (h : Head) (xs : List ℕ) → IsReading check limits store size → (took : TookWhole check new h xs) → checks.IsBetween new
+pub number_stands : (check new : Option RecordPlace) (limits : Limits) (store : Store) (size : List ℕ) (h : Head) (xs : List ℕ) → IsReading check limits store size → (took : TookWhole check new h xs) → checks.AwaitsHead new
     → (h.rec ≡ 7) ⊎ (h.rec ≡ 9) → h.count ≡ length xs → ((i : ℕ) → get_or xs i 0 < 256)
     → (ds : List Dataset) → StandsAfter (place_of check limits store size) ds → StandsAfter (place_of new limits store size) (ds ++ data_of h xs ∷ [])
 number_stands check new limits store size h xs r took next number count small ds s =
@@ -250,8 +250,8 @@ number_stands check new limits store size h xs r took next number count small ds
     ds h xs inside (data_of h xs)
     (record { head = (λ i. record { rec = h.rec; set = h.set; count = (sym count) i }); octets = octets_of xs small; given = λ _. refl })).0
 
-pub number_reading : (check new : Option RecordPlace) (limits : Limits) (store : Store) (size : List ℕ) (h : Head) (xs : List ℕ) (b : Bool) → IsReading check limits store size → checks.IsBetween check → (b ≡ true → TookWhole check new h xs)
-    → (b ≡ false → new ≡ check) → checks.IsBetween new → (h.rec ≡ 7) ⊎ (h.rec ≡ 9) → h.count ≡ length xs → ((i : ℕ) → get_or xs i 0 < 256) → IsReading new limits store size
+pub number_reading : (check new : Option RecordPlace) (limits : Limits) (store : Store) (size : List ℕ) (h : Head) (xs : List ℕ) (b : Bool) → IsReading check limits store size → checks.AwaitsHead check → (b ≡ true → TookWhole check new h xs)
+    → (b ≡ false → new ≡ check) → checks.AwaitsHead new → (h.rec ≡ 7) ⊎ (h.rec ≡ 9) → h.count ≡ length xs → ((i : ℕ) → get_or xs i 0 < 256) → IsReading new limits store size
 number_reading check new limits store size h xs true r between took left next number count small =
     let (ds, s) = between_after (place_of check limits store size) r.stands between in
     reading_passed check new limits store size size r next (inl (ds ++ data_of h xs ∷ [], number_stands check new limits store size h xs r (took refl) next number count small ds s))

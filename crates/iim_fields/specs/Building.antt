@@ -1,14 +1,15 @@
 -- A builder of envelopes, and an envelope, from inside: their stores.
 use Rattle.std.specs.Prelude.{◌≡◌, length, [], Option}
 use Rattle.iim_fields.specs.Format.Faults.{joined, kept}
-use Rattle.iim_fields.specs.Stores.{HasStored, store_room, fields_of}
-use Rattle.iim_fields.specs.Format.Checks.{HasChecked}
-use Rattle.iim_fields.specs.Format.Standing.{IsWithin}
+use Rattle.iim_fields.specs.StoreLayout.{HasStored, store_room, fields_of}
+use Rattle.iim_fields.specs.States.Checks.{HasChecked}
+use Rattle.iim_fields.specs.Format.Bounds.{IsWithin}
 use Rattle.iim_fields.specs.Reading.{HasRoom}
 use Rattle.iim_fields.specs.declared.limits.Limits.{Limits}
 use Rattle.iim_fields.specs.declared.store.Store.{Store}
 use Rattle.iim_fields.specs.declared.check.RecordPlace.{RecordPlace}
-use Rattle.iim_fields.specs.Format.Builders.{Building, IsEnvelope, AreFew}
+use Rattle.iim_fields.specs.States.Builders.{Building, AreFew}
+use Rattle.iim_fields.specs.Format.Envelopes.{IsEnvelope}
 
 -- what a builder has with these limits and this store
 abbrev pub building_of : Limits → Store → Building

@@ -4,13 +4,8 @@ pub mod Faults
 pub mod Causes
 pub mod Names
 pub mod WireLimits
-pub mod Orders
 pub mod Values
-pub mod Checks
-pub mod Stores
-pub mod Standing
-pub mod Builders
+pub mod Bounds
+pub mod Envelopes
 pub mod Views
 pub mod Ids
-pub mod Walks
-pub mod Laws

@@ -1,9 +1,13 @@
--- What the promises cite: a reader has to believe these.
+-- What octets are, and what is said of them.
 pub mod Format
+-- Where readers and writers stand.
+pub mod States
+-- What holds of these: statements, each the contract of a law.
+pub mod Laws
 -- What only proofs and private clauses cite.
 pub mod NumberSets
-pub mod Orders
-pub mod Stores
+pub mod OrderChanges
+pub mod StoreLayout
 pub mod Checking
 pub mod Reading
 pub mod Building

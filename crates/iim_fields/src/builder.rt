@@ -1,8 +1,8 @@
 //! Envelopes, built dataset by dataset.
 
 ghost use Rattle.std.specs.Prelude.{◌≡◌, [], ◌∷◌, ◌++◌, Some, None, IfOk, IfErr, OnOk, OnErr};
-ghost use Rattle.iim_fields.specs.Format.Builders.{add_fault, finish_fault};
-ghost use Rattle.iim_fields.specs.Format.Standing.{room_for};
+ghost use Rattle.iim_fields.specs.States.Builders.{add_fault, finish_fault};
+ghost use Rattle.iim_fields.specs.States.Standing.{room_for};
 
 use crate::check::RecordCheck;
 use crate::envelope::Envelope;
@@ -27,7 +27,7 @@ pub struct EnvelopeBuilder {
 }
 
 impl Model for EnvelopeBuilder {
-    ghost use Rattle.iim_fields.specs.Format.Builders.{Building};
+    ghost use Rattle.iim_fields.specs.States.Builders.{Building};
     ghost use Rattle.iim_fields.specs.Building.{building_of, IsBuilding};
 
     ghost Value = { Building };
@@ -40,7 +40,8 @@ impl Model for EnvelopeBuilder {
 impl EnvelopeBuilder {
     /// No datasets, with memory for just what the limits allow: no later call takes any. An error says that memory was refused.
     pub fn new(alloc: Global, limits: Limits) -> Result<EnvelopeBuilder, AllocError>
-        ensures empty { IfOk result (λ builder. builder ≡ record { limits = limits; fields = []; room = room_for limits }) }
+        ensures empty { IfOk result (λ builder. builder
+            ≡ record { limits = limits; fields = []; room = room_for limits }) }
     {
         let store = Store::new(alloc, limits.octets as usize, limits.fields as usize)?;
         Ok(EnvelopeBuilder {
@@ -53,9 +54,16 @@ impl EnvelopeBuilder {
     /// Adds a dataset, or answers its first fault and changes nothing: that of its head after the datasets so far, or
     /// else that of its value. Records other than 1 and 2 are out of order here.
     pub fn add(&mut self, rec: u8, set: u8, octets: &[u8]) -> Result<(), FieldFault>
-        ensures admitted { OnOk result (add_fault self.old.limits self.old.fields record { rec = rec; set = set; octets = octets.now } ≡ None) }
-        ensures added { OnOk result (self.new ≡ record self.old { fields = self.old.fields ++ record { rec = rec; set = set; octets = octets.now } ∷ [] }) }
-        ensures fault { IfErr result (λ fault. add_fault self.old.limits self.old.fields record { rec = rec; set = set; octets = octets.now } ≡ Some fault) }
+        ensures admitted { OnOk result (add_fault self.old.limits self.old.fields record
+            { rec = rec; set = set; octets = octets.now } ≡ None) }
+        ensures added { OnOk result (self.new
+            ≡ record self.old {
+              fields = self.old.fields ++ record { rec = rec; set = set; octets = octets.now }
+                  ∷ [];
+            }) }
+        ensures fault { IfErr result (λ fault.
+            add_fault self.old.limits self.old.fields record { rec = rec; set = set; octets = octets.now }
+            ≡ Some fault) }
         ensures unchanged { OnErr result (self.new ≡ self.old) }
     {
         let head = Head {

@@ -4,11 +4,11 @@ ghost use Rattle.std.specs.Prelude.{◌≡◌, ◌≢◌, false, List, [], ◌�
 ghost use Rattle.std.specs.Option.{ForSome};
 ghost use Rattle.iim_dataset.specs.Format.Datasets.{Dataset};
 ghost use Rattle.iim_dataset.specs.declared.head.Head.{Head as HeadValue};
-ghost use Rattle.iim_fields.specs.Format.Faults.{head_fault, present_record, record_fault};
-ghost use Rattle.iim_fields.specs.Format.Orders.{has_seen};
-ghost use Rattle.iim_fields.specs.Orders.{AddsHead};
+ghost use Rattle.iim_fields.specs.Format.Faults.{head_fault, section_after, record_fault};
+ghost use Rattle.iim_fields.specs.States.Orders.{has_seen};
+ghost use Rattle.iim_fields.specs.OrderChanges.{AddsHead};
 ghost use Rattle.iim_fields.specs.Format.Values.{number_told, data_of};
-ghost use Rattle.iim_fields.specs.Format.Checks.{begun_head, present_at, TakesHead, TakesValue, IsBetween, IsIn, HasChecked, IsChecking, HasTaken, IsRecordFault, IsValueFault, HasEnded};
+ghost use Rattle.iim_fields.specs.States.Checks.{begun_head, section_at, TakesHead, TakesValue, AwaitsHead, IsIn, HasChecked, IsChecking, HasTaken, IsRecordFault, IsValueFault, HasEnded};
 ghost use Rattle.iim_fields.specs.Checking.{missing_at, place_fault, record_layer_fault, IsRecordPlace, TakesSubfile, TakesWhole, TookSubfile, TookWhole};
 ghost use Rattle.iim_fields.specs.declared.check.RecordPlace.{RecordPlace as PlaceValue};
 
@@ -118,7 +118,7 @@ impl RecordCheck {
     /// At the beginning of an envelope.
     pub fn new() -> RecordCheck
         ensures takes_head { TakesHead result }
-        ensures between { IsBetween result }
+        ensures between { AwaitsHead result }
         ensures stands { HasChecked result [] }
     {
         each_row_has_values();
@@ -157,8 +157,8 @@ impl RecordCheck {
     /// The record of the last head, 0 at the beginning and after a refusal.
     #[inline(always)]
     pub fn section(&self) -> u8
-        ensures seen { result ≡ present_at self.now }
-        ensures stands { (ds : List Dataset) → HasChecked self.now ds → result ≡ present_record ds }
+        ensures seen { result ≡ section_at self.now }
+        ensures stands { (ds : List Dataset) → HasChecked self.now ds → result ≡ section_after ds }
     {
         match &self.place {
             Some(place) => place.order.present(),
@@ -192,7 +192,8 @@ impl RecordCheck {
         ensures inside { OnOk result (IsIn self.new head) }
         ensures stands { OnOk result ((ds : List Dataset) → HasChecked self.old ds → HasTaken self.new ds head) }
         ensures failed { OnErr result (self.new ≡ None) }
-        ensures fault { IfErr result (λ fault. (ds : List Dataset) → HasChecked self.old ds → IsRecordFault ds head fault) }
+        ensures fault { IfErr result (λ fault. (ds : List Dataset) → HasChecked self.old ds
+            → IsRecordFault ds head fault) }
     {
         each_row_has_values();
         match &mut self.place {
@@ -213,14 +214,14 @@ impl RecordCheck {
     /// Takes a whole dataset, which is no subfile; or changes nothing where it may not come.
     #[inline(always)]
     pub(crate) fn whole(&mut self, head: Head, octets: &[u8]) -> bool
-        requires between { IsBetween self.old }
+        requires between { AwaitsHead self.old }
         requires value { head.rec ≢ 8 }
         requires count { head.count ≡ length octets.now }
         ensures exactly { (ds : List Dataset) → HasChecked self.old ds
             → result ≡ is_none (record_layer_fault ds (data_of head octets.now)) }
         ensures took { IsTrue result → TookWhole self.old self.new head octets.now }
-        ensures section { IsTrue result → present_at self.new ≡ head.rec }
-        ensures between { IsBetween self.new }
+        ensures section { IsTrue result → section_at self.new ≡ head.rec }
+        ensures between { AwaitsHead self.new }
         ensures left { result ≡ false → self.new ≡ self.old }
     {
         each_row_has_values();
@@ -233,12 +234,12 @@ impl RecordCheck {
     /// Takes a whole subfile, whatever it has; or changes nothing where its head may not come.
     #[inline(always)]
     pub(crate) fn whole_subfile(&mut self, head: Head) -> bool
-        requires between { IsBetween self.old }
+        requires between { AwaitsHead self.old }
         requires subfile { head.rec ≡ 8 }
         ensures exactly { (ds : List Dataset) → HasChecked self.old ds → result ≡ is_none (record_fault ds head) }
         ensures took { IsTrue result → TookSubfile self.old self.new head }
-        ensures section { IsTrue result → present_at self.new ≡ head.rec }
-        ensures between { IsBetween self.new }
+        ensures section { IsTrue result → section_at self.new ≡ head.rec }
+        ensures between { AwaitsHead self.new }
         ensures left { result ≡ false → self.new ≡ self.old }
     {
         each_row_has_values();
@@ -254,7 +255,7 @@ impl RecordCheck {
     pub fn value(&mut self, octets: &[u8]) -> Result<Option<u64>, FieldFault>
         requires { TakesValue self.old (length octets.now) }
         ensures takes_head { OnOk result (TakesHead self.new) }
-        ensures between { OnOk result (IsBetween self.new) }
+        ensures between { OnOk result (AwaitsHead self.new) }
         ensures stands { IfOk result (λ number. (ds : List Dataset) (h : HeadValue) → IsChecking self.old ds h
             → HasChecked self.new (ds ++ data_of h octets.now ∷ []) × (number ≡ number_told (data_of h octets.now))) }
         ensures failed { OnErr result (self.new ≡ None) }
@@ -283,7 +284,7 @@ impl RecordCheck {
     /// Ends a subfile.
     pub(crate) fn end_subfile(&mut self)
         requires { TakesHead self.old }
-        ensures between { IsBetween self.new }
+        ensures between { AwaitsHead self.new }
         ensures stands { (ds : List Dataset) → HasChecked self.old ds → HasChecked self.new ds }
     {
         if let Some(place) = &mut self.place {

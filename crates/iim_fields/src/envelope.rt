@@ -20,7 +20,7 @@ impl Model for Envelope {
     ghost use Rattle.std.specs.Prelude.{List};
     ghost use Rattle.iim_dataset.specs.Format.Datasets.{Dataset};
     ghost use Rattle.iim_fields.specs.Building.{IsEnvelopeStore};
-    ghost use Rattle.iim_fields.specs.Stores.{fields_of};
+    ghost use Rattle.iim_fields.specs.StoreLayout.{fields_of};
 
     ghost Value = { List Dataset };
 
@@ -34,8 +34,9 @@ impl Envelope {
     ghost use Rattle.std.specs.Option.{option_map};
     ghost use Rattle.jiff.specs.Words.{IsYmd};
     ghost use Rattle.iim_tables.specs.Format.Dates.{is_date, year_in, month_in, day_in};
-    ghost use Rattle.iim_fields.specs.Format.Walks.{rest_of, data_left};
-    ghost use Rattle.iim_fields.specs.Format.Builders.{IsEnvelope, AreFew};
+    ghost use Rattle.iim_fields.specs.States.Walks.{rest_of, data_left};
+    ghost use Rattle.iim_fields.specs.Format.Envelopes.{IsEnvelope};
+    ghost use Rattle.iim_fields.specs.States.Builders.{AreFew};
     ghost use Rattle.iim_fields.specs.Format.Views.{first_data, all_data, instant_sent, instant_of_pair, instant_of_release, instant_of_expiration, IsInEach};
     ghost use Rattle.iim_tables.specs.Format.Rows.{Meets};
 
@@ -110,7 +111,8 @@ impl Envelope {
 
     /// The day of 1:70 Date Sent.
     pub fn date_sent(&self) -> Date
-        ensures { IsSomeAnd (first_data 1 70 self.now) (λ date. IsYmd (pos (year_in date)) (pos (month_in date)) (pos (day_in date)) result) }
+        ensures { IsSomeAnd (first_data 1 70 self.now)
+            (λ date. IsYmd (pos (year_in date)) (pos (month_in date)) (pos (day_in date)) result) }
     {
         date_of(self.date_sent_text()).unwrap()
     }

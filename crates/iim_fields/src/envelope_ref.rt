@@ -20,7 +20,7 @@ impl<'a> Model for EnvelopeRef<'a> {
     ghost use Rattle.std.specs.Prelude.{List};
     ghost use Rattle.iim_dataset.specs.Format.Datasets.{Dataset};
     ghost use Rattle.iim_fields.specs.Building.{IsEnvelopeStore};
-    ghost use Rattle.iim_fields.specs.Stores.{fields_of};
+    ghost use Rattle.iim_fields.specs.StoreLayout.{fields_of};
 
     ghost Value = { List Dataset };
 
@@ -33,8 +33,9 @@ impl<'a> EnvelopeRef<'a> {
     ghost use Rattle.std.specs.Prelude.{◌≡◌, ◌≤◌, [], ◌∷◌, length, Some, IsTrue, IfSome};
     ghost use Rattle.std.specs.Option.{option_map};
     ghost use Rattle.iim_tables.specs.Format.Dates.{is_date};
-    ghost use Rattle.iim_fields.specs.Format.Walks.{rest_of};
-    ghost use Rattle.iim_fields.specs.Format.Builders.{IsEnvelope, AreFew};
+    ghost use Rattle.iim_fields.specs.States.Walks.{rest_of};
+    ghost use Rattle.iim_fields.specs.Format.Envelopes.{IsEnvelope};
+    ghost use Rattle.iim_fields.specs.States.Builders.{AreFew};
     ghost use Rattle.iim_fields.specs.Format.Views.{first_data, instant_sent, instant_of_pair, instant_of_release, instant_of_expiration, IsInEach};
     ghost use Rattle.iim_tables.specs.Format.Rows.{Meets};
 
@@ -134,7 +135,8 @@ impl<'a> EnvelopeRef<'a> {
         time_set: u8,
         absent: Option<&[u8]>,
     ) -> Option<Timestamp>
-        ensures { option_map (λ t. t.nanosecond) result ≡ instant_of_pair rec date_set time_set (option_map (λ x. x.now) absent.entry) self.now }
+        ensures { option_map (λ t. t.nanosecond) result ≡ instant_of_pair rec date_set time_set
+            (option_map (λ x. x.now) absent.entry) self.now }
     {
         let date = self.first(rec, date_set)?;
         let time = self.first(rec, time_set).or(absent)?;

@@ -6,7 +6,7 @@ ghost use Rattle.iim_dataset.specs.declared.head.Head.{Head as HeadValue};
 ghost use Rattle.iim_fields.specs.Format.Records.{AreSections};
 ghost use Rattle.std.specs.Option.{option_or};
 ghost use Rattle.iim_fields.specs.Format.Faults.{first_fault, is_kept, kept, room_fault, value_fault};
-ghost use Rattle.iim_fields.specs.Format.Checks.{IsValueFault};
+ghost use Rattle.iim_fields.specs.States.Checks.{IsValueFault};
 ghost use Rattle.iim_fields.specs.Format.Values.{number_told, data_of};
 
 use crate::check::RecordCheck;
@@ -62,7 +62,7 @@ pub struct Fields {
 }
 
 impl Model for Fields {
-    ghost use Rattle.iim_fields.specs.Format.Standing.{FieldsPlace};
+    ghost use Rattle.iim_fields.specs.States.Standing.{FieldsPlace};
     ghost use Rattle.iim_fields.specs.Reading.{place_of, IsReading};
 
     ghost Value = { FieldsPlace };
@@ -73,11 +73,11 @@ impl Model for Fields {
 }
 
 impl Fields {
-    ghost use Rattle.iim_fields.specs.Format.Faults.{present_record};
-    ghost use Rattle.iim_fields.specs.Format.Walks.{rest_of};
-    ghost use Rattle.iim_fields.specs.Format.Standing.{limits_of, room_of, section_of, begun_head_of, room_for, IsEnough, IsFailed, IsBetween, IsInside, CanTake, CanClose, StandsAfter, StandsIn, PassesSubfile, IsHeadFault, IsOf, IsEnded};
-    ghost use Rattle.iim_fields.specs.Format.Builders.{add_fault};
-    ghost use Rattle.iim_fields.specs.Stores.{store_room};
+    ghost use Rattle.iim_fields.specs.Format.Faults.{section_after};
+    ghost use Rattle.iim_fields.specs.States.Walks.{rest_of};
+    ghost use Rattle.iim_fields.specs.States.Standing.{limits_of, room_of, section_of, begun_head_of, room_for, IsEnough, IsFailed, IsBetween, IsInside, CanTake, CanClose, StandsAfter, StandsIn, PassesSubfile, IsHeadFault, IsOf, IsEnded};
+    ghost use Rattle.iim_fields.specs.States.Builders.{add_fault};
+    ghost use Rattle.iim_fields.specs.StoreLayout.{store_room};
     ghost use Rattle.std.specs.Prelude.{vec_capacity};
 
     /// At the beginning of an envelope, with memory for just what the limits allow: no later call takes any. An error says that
@@ -156,8 +156,9 @@ impl Fields {
     #[inline(always)]
     pub fn section(&self) -> u8
         ensures section { result ≡ section_of self.now }
-        ensures after { (ds : List Dataset) → StandsAfter self.now ds → result ≡ present_record ds }
-        ensures inside { (ds : List Dataset) (h : HeadValue) (taken : List ℕ) → StandsIn self.now ds h taken → result ≡ h.rec }
+        ensures after { (ds : List Dataset) → StandsAfter self.now ds → result ≡ section_after ds }
+        ensures inside { (ds : List Dataset) (h : HeadValue) (taken : List ℕ) → StandsIn self.now ds h taken
+            → result ≡ h.rec }
     {
         self.check.section()
     }
@@ -167,7 +168,8 @@ impl Fields {
     pub fn begun_head(&self) -> Option<Head>
         ensures head { result ≡ begun_head_of self.now }
         ensures after { (ds : List Dataset) → StandsAfter self.now ds → result ≡ None }
-        ensures inside { (ds : List Dataset) (h : HeadValue) (taken : List ℕ) → StandsIn self.now ds h taken → result ≡ Some h }
+        ensures inside { (ds : List Dataset) (h : HeadValue) (taken : List ℕ) → StandsIn self.now ds h taken
+            → result ≡ Some h }
     {
         self.check.begun()
     }
@@ -202,7 +204,8 @@ impl Fields {
         ensures inside { OnOk result (IsInside self.new head head.count) }
         ensures stands { OnOk result ((ds : List Dataset) → StandsAfter self.old ds → StandsIn self.new ds head []) }
         ensures failed { OnErr result (IsFailed self.new) }
-        ensures fault { IfErr result (λ fault. (ds : List Dataset) → StandsAfter self.old ds → IsHeadFault (limits_of self.old) ds head fault) }
+        ensures fault { IfErr result (λ fault. (ds : List Dataset) → StandsAfter self.old ds
+            → IsHeadFault (limits_of self.old) ds head fault) }
         ensures limits { limits_of self.new ≡ limits_of self.old }
         ensures room { room_of self.new ≡ room_of self.old }
     {
@@ -226,7 +229,8 @@ impl Fields {
             → result ≡ is_none (add_fault (limits_of self.old) ds (data_of head octets.now)) }
         ensures kept { IsTrue result → IsTrue (is_kept head.rec) }
         ensures section { IsTrue result → section_of self.new ≡ head.rec }
-        ensures stands { IsTrue result → (ds : List Dataset) → StandsAfter self.old ds → StandsAfter self.new (ds ++ data_of head octets.now ∷ []) }
+        ensures stands { IsTrue result → (ds : List Dataset) → StandsAfter self.old ds
+            → StandsAfter self.new (ds ++ data_of head octets.now ∷ []) }
         ensures between { IsBetween self.new }
         ensures left { result ≡ false → self.new ≡ self.old }
         ensures limits { limits_of self.new ≡ limits_of self.old }
@@ -255,9 +259,11 @@ impl Fields {
         requires number { (head.rec ≡ 7) ⊎ (head.rec ≡ 9) }
         requires count { head.count ≡ length octets.now }
         ensures exactly { (ds : List Dataset) → StandsAfter self.old ds
-            → result ≡ is_none (option_or (first_fault (limits_of self.old) ds head) (value_fault (data_of head octets.now))) }
+            → result ≡ is_none (option_or (first_fault (limits_of self.old) ds head)
+            (value_fault (data_of head octets.now))) }
         ensures section { IsTrue result → section_of self.new ≡ head.rec }
-        ensures stands { IsTrue result → (ds : List Dataset) → StandsAfter self.old ds → StandsAfter self.new (ds ++ data_of head octets.now ∷ []) }
+        ensures stands { IsTrue result → (ds : List Dataset) → StandsAfter self.old ds
+            → StandsAfter self.new (ds ++ data_of head octets.now ∷ []) }
         ensures between { IsBetween self.new }
         ensures left { result ≡ false → self.new ≡ self.old }
         ensures limits { limits_of self.new ≡ limits_of self.old }
@@ -272,7 +278,8 @@ impl Fields {
     pub fn whole_subfile(&mut self, head: Head) -> bool
         requires between { IsBetween self.old }
         requires subfile { head.rec ≡ 8 }
-        ensures exactly { (ds : List Dataset) → StandsAfter self.old ds → result ≡ is_none (first_fault (limits_of self.old) ds head) }
+        ensures exactly { (ds : List Dataset) → StandsAfter self.old ds
+            → result ≡ is_none (first_fault (limits_of self.old) ds head) }
         ensures section { IsTrue result → section_of self.new ≡ head.rec }
         ensures passes { IsTrue result → PassesSubfile self.old head self.new }
         ensures between { IsBetween self.new }
@@ -289,7 +296,8 @@ impl Fields {
     pub fn bytes(&mut self, octets: &[u8])
         requires { CanTake self.old (length octets.now) }
         ensures inside { (h : HeadValue) (n : ℕ) → IsInside self.old h n → IsInside self.new h (n - length octets.now) }
-        ensures stands { (ds : List Dataset) (h : HeadValue) (taken : List ℕ) → StandsIn self.old ds h taken → StandsIn self.new ds h (taken ++ octets.now) }
+        ensures stands { (ds : List Dataset) (h : HeadValue) (taken : List ℕ) → StandsIn self.old ds h taken
+            → StandsIn self.new ds h (taken ++ octets.now) }
         ensures limits { limits_of self.new ≡ limits_of self.old }
         ensures room { room_of self.new ≡ room_of self.old }
     {
@@ -310,10 +318,12 @@ impl Fields {
     pub fn close(&mut self) -> Result<Option<u64>, FieldFault>
         requires { CanClose self.old }
         ensures between { OnOk result (IsBetween self.new) }
-        ensures stands { IfOk result (λ number. (ds : List Dataset) (h : HeadValue) (taken : List ℕ) → StandsIn self.old ds h taken
+        ensures stands { IfOk result (λ number. (ds : List Dataset) (h : HeadValue) (taken : List ℕ)
+            → StandsIn self.old ds h taken
             → (d : Dataset) → IsOf h taken d → StandsAfter self.new (ds ++ d ∷ []) × (number ≡ number_told d)) }
         ensures failed { OnErr result (IsFailed self.new) }
-        ensures fault { IfErr result (λ fault. (ds : List Dataset) (h : HeadValue) (taken : List ℕ) → StandsIn self.old ds h taken
+        ensures fault { IfErr result (λ fault. (ds : List Dataset) (h : HeadValue) (taken : List ℕ)
+            → StandsIn self.old ds h taken
             → IsValueFault ds (data_of h taken) fault) }
         ensures limits { limits_of self.new ≡ limits_of self.old }
         ensures room { room_of self.new ≡ room_of self.old }
@@ -339,7 +349,8 @@ impl Fields {
     pub fn envelope(&self) -> Option<EnvelopeRef<'_>>
         ensures ended { IsSome result ↔ IsEnded self.now }
         ensures whole { (ds : List Dataset) → StandsAfter self.now ds → IsSome result ↔ AreSections ds }
-        ensures envelope { IfSome result (λ envelope. (ds : List Dataset) → StandsAfter self.now ds → envelope ≡ kept ds) }
+        ensures envelope { IfSome result (λ envelope. (ds : List Dataset) → StandsAfter self.now ds → envelope
+            ≡ kept ds) }
     {
         if !self.check.is_ended() {
             return None;

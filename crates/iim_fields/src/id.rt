@@ -33,7 +33,8 @@ impl Model for EnvelopeId {
 
     ghost Value = { Identity };
 
-    ghost view = { λ id. record { service = take id.service_len id.service; number = id.number; date_sent = id.date_sent } };
+    ghost view = { λ id. record
+        { service = take id.service_len id.service; number = id.number; date_sent = id.date_sent } };
 
     ghost invariant = { λ id. id.service_len ≤ 10 };
 }

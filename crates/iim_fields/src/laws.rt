@@ -2,7 +2,7 @@
 
 ghost use Rattle.std.specs.Prelude.{◌≡◌};
 ghost use Rattle.iim_fields.specs.Format.WireLimits.{wire_limits};
-ghost use Rattle.iim_fields.specs.Format.Laws.{HeadsDieWithTheirFault, ValuesDieWithTheirFault, EnvelopesEndWithTheLastRecord, NoSectionsBeginOthers, HeadsTellTheLowestCause, ValuesTellTheLowestCause, DatasetsLeadToOnePlace};
+ghost use Rattle.iim_fields.specs.Laws.Records.{HeadsDieWithTheirFault, ValuesDieWithTheirFault, EnvelopesEndWithTheLastRecord, NoSectionsBeginOthers, HeadsTellTheLowestCause, ValuesTellTheLowestCause, DatasetsLeadToOnePlace};
 
 use crate::limits::Limits;
 use iim_tables::laws::each_row_has_values;

@@ -1,7 +1,7 @@
 //! The kept datasets: their octets in one store, and an entry for each.
 
 ghost use Rattle.std.specs.Prelude.{◌≡◌, ◌+◌, ◌≤◌, ◌<◌, ◌++◌, ◌∷◌, [], IfOk, IfErr, length, vec_len, vec_capacity};
-ghost use Rattle.iim_fields.specs.Stores.{store_room, ends_at, begun_octets};
+ghost use Rattle.iim_fields.specs.StoreLayout.{store_room, ends_at, begun_octets};
 
 use iim_dataset::ReservedOctets;
 use std::alloc::{AllocError, Global};
@@ -106,7 +106,8 @@ impl Store {
     pub(crate) fn keep(&mut self, rec: u8, set: u8)
         requires { vec_len self.old.entries < vec_capacity self.old.entries }
         ensures octets { self.new.octets ≡ self.old.octets }
-        ensures entries { self.new.entries.items ≡ self.old.entries.items ++ record { rec = rec; set = set; end = length self.old.octets.items } ∷ [] }
+        ensures entries { self.new.entries.items ≡ self.old.entries.items
+            ++ record { rec = rec; set = set; end = length self.old.octets.items } ∷ [] }
         ensures len { vec_len self.new.entries ≡ vec_len self.old.entries + 1 }
         ensures capacity { vec_capacity self.new.entries ≡ vec_capacity self.old.entries }
     {

@@ -1,15 +1,15 @@
 -- From places at which one reader stands the same tokens lead on alike.
 use Rattle.std.proofs.Common.{◌≡◌, ℕ, ◌+◌, ◌⊎◌, List, [], ◌∷◌, ◌++◌, length, Option, Some, None, is_some, refl, sym, ap, subst, ◌∙◌, arith, inl, inr}
 use Rattle.iim_dataset.specs.Format.Languages.{IsAlive}
-use Rattle.iim_object.specs.declared.state.State.{State}
-use Rattle.iim_object.specs.declared.fault.SizeCause.{SizeCause}
+use Rattle.iim_object.specs.declared.reading.state.State.{State}
+use Rattle.iim_object.specs.declared.reading.fault.SizeCause.{SizeCause}
 use Rattle.iim_object.specs.Format.Sizes.{Stated, InRow, number_at}
 use Rattle.iim_object.specs.Format.Objects.{ObjectToken, NumberRead, SubfileBegun, ObjectEnded, Confirmed, ObjectLanguage}
 use Rattle.iim_object.specs.Format.Places.{Place, MayFollow, place_after, tokens_of}
 use Rattle.iim_object.specs.Format.Causes.{number_cause, subfile_cause, end_cause, confirmed_cause}
-use Rattle.iim_object.specs.States.{state_with}
-use Rattle.iim_object.specs.Format.Reading.{IsStateAt, StandsAt, LeadsOn, Refuses}
-use Rattle.iim_object.specs.Format.Saved.{TokensLead, TokensLeadOnAlike}
+use Rattle.iim_object.specs.StateChanges.{state_with}
+use Rattle.iim_object.specs.States.Reading.{IsStateAt, StandsAt, LeadsOn, Refuses}
+use Rattle.iim_object.specs.Laws.Places.{TokensLead, TokensLeadOnAlike}
 use Rattle.iim_object.proofs.Numbers.{each-append, once-append}
 use Rattle.iim_object.proofs.Steps.{tells_of, once_last, number_leads_on, number_refused, subfile_leads_on, subfile_refused, end_leads_on, end_refused, confirmed_leads_on, confirmed_refused, tokens_follow}
 use Rattle.iim_object.proofs.Reached.{front_lives, no_lengths}

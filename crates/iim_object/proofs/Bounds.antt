@@ -2,7 +2,8 @@
 use Rattle.std.proofs.Common.{ℕ, ◌≤◌, length, Some, None, IfSome, arith}
 use Rattle.iim_dataset.specs.Format.Octets.{greatest_size}
 use Rattle.iim_object.specs.Format.Plans.{limit_of}
-use Rattle.iim_object.specs.Format.Packing.{announced_of, maximum_of, SubfilesAreFew}
+use Rattle.iim_object.specs.Format.Packing.{announced_of, maximum_of}
+use Rattle.iim_object.specs.Laws.Packing.{SubfilesAreFew}
 use Rattle.iim_object.specs.declared.size.Size.{Size}
 use Rattle.iim_object.specs.declared.size.Size.TheVariants.{Known, Unknown}
 use Rattle.iim_object.proofs.Cutting.{few_parts, held_in_few}

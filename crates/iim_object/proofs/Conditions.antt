@@ -3,15 +3,16 @@ use Rattle.std.proofs.Common.{◌≡◌, ℕ, ◌+◌, ◌<◌, ◌≤◌, ◌==
 use Rattle.std.proofs.lemmas.Bool.{cases_Bool, cases_lt, eqb-true, eq-eqb, lt-ltb}
 use Rattle.iim_dataset.specs.Format.Languages.{IsAlive, DiesAt}
 use Rattle.iim_dataset.specs.Format.Octets.{greatest_size}
-use Rattle.iim_object.specs.declared.state.State.{State}
-use Rattle.iim_object.specs.declared.fault.SizeCause.{SizeCause}
-use Rattle.iim_object.specs.declared.fault.SizeCause.TheVariants.{ModeClash, SizeClash, SubfileTooLong, PastSize, Short, ConfirmedWrong}
+use Rattle.iim_object.specs.declared.reading.state.State.{State}
+use Rattle.iim_object.specs.declared.reading.fault.SizeCause.{SizeCause}
+use Rattle.iim_object.specs.declared.reading.fault.SizeCause.TheVariants.{ModeClash, SizeClash, SubfileTooLong, PastSize, Short, ConfirmedWrong}
 use Rattle.iim_object.specs.Format.Sizes.{Stated, AreStated, number_at}
 use Rattle.iim_object.specs.Format.Objects.{ObjectToken, NumberRead, SubfileBegun, ObjectEnded, Confirmed, ObjectLanguage}
 use Rattle.iim_object.specs.Format.Places.{Place, MayFollow, HasBoth, tokens_of, place_after}
 use Rattle.iim_object.specs.Format.Causes.{is_given, is_above, bound, is_past, cause_at}
-use Rattle.iim_object.specs.Format.Conditions.{number_of, stated_with, PassesBound, HasCause, IsFirstCause, CausesAreTheFirst, ObjectsDieForCauses}
-use Rattle.iim_object.specs.Format.Reading.{StandsAt}
+use Rattle.iim_object.specs.Format.Conditions.{number_of, stated_with, PassesBound, HasCause}
+use Rattle.iim_object.specs.Laws.Conditions.{IsFirstCause, CausesAreTheFirst, ObjectsDieForCauses}
+use Rattle.iim_object.specs.States.Reading.{StandsAt}
 use Rattle.iim_object.proofs.Steps.{tells_of, number_tells, number_cause_is, number_leads_on, number_refused, subfile_cause_is, subfile_leads_on, subfile_refused, end_cause_is, end_leads_on, end_refused, confirmed_cause_is, confirmed_leads_on, confirmed_refused, tokens_follow, given_is, is_given_by, none_of, both_true, given, not_below, is_below, announced_small, not_true}
 
 -- ---- numbers of causes

@@ -7,7 +7,8 @@ use Rattle.iim_dataset.specs.Format.Datasets.{Dataset, of_record}
 use Rattle.iim_object.specs.Format.Places.{Place}
 use Rattle.iim_object.specs.Format.Records.{AreObjectRecords, numbers_of, lengths_of}
 use Rattle.iim_tables.specs.Format.Records.{IsGoodRecord}
-use Rattle.iim_object.specs.Format.Numbers.{ending_of, place_after_datasets, RecordsAreByNumber}
+use Rattle.iim_object.specs.Format.Numbers.{ending_of, place_after_datasets}
+use Rattle.iim_object.specs.Laws.Numbers.{RecordsAreByNumber}
 use Rattle.iim_object.proofs.Members.{IsMember, all_front, all_back, all_map, one_confirmation, some_subfile}
 
 -- ---- the datasets of a record

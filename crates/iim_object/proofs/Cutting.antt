@@ -2,7 +2,8 @@
 use Rattle.std.proofs.Common.{◌≡◌, ℕ, ◌+◌, ◌*◌, ◌≤◌, inl, inr, subst, List, [], ◌∷◌, ◌++◌, length, refl, sym, ap, ◌∙◌, arith, append_assoc, length-append}
 use Rattle.std.proofs.Math.Nat.{mul-le-mul_left}
 use Rattle.std.proofs.lemmas.Bool.{cases_lt}
-use Rattle.iim_object.specs.Format.Cuts.{joined_parts, AreFull, IsCut, ObjectsAreCutOneWay}
+use Rattle.iim_object.specs.Format.Cuts.{joined_parts, AreFull, IsCut}
+use Rattle.iim_object.specs.Laws.Cuts.{ObjectsAreCutOneWay}
 use Rattle.iim_object.specs.Format.Plans.{max_subfiles}
 
 -- lists of one length that lists begin with are equal, and so is what follows

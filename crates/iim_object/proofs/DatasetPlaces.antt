@@ -10,8 +10,10 @@ use Rattle.iim_object.specs.declared.size.Sizes.{Sizes}
 use Rattle.iim_object.specs.Format.Sizes.{Stated, InRow, AreOnce, Agree, number_at, mode_number, sizes_at}
 use Rattle.iim_object.specs.Format.Objects.{ObjectToken, SubfileBegun, ObjectEnded, Confirmed, ObjectLanguage, number_tokens}
 use Rattle.iim_object.specs.Format.Places.{Place, Ended, ending_tokens, tokens_of}
-use Rattle.iim_object.specs.Format.Records.{AreObjectRecords, AreSized, numbers_of, lengths_of}
-use Rattle.iim_object.specs.Format.Numbers.{ending_of, place_after_datasets, place_ended, object_tokens, TokensAreOfSizedDatasets, DatasetsLiveWithTheirTokens, DatasetsEndWithTheirTokens}
+use Rattle.iim_object.specs.Format.Records.{AreObjectRecords, numbers_of, lengths_of}
+use Rattle.iim_object.specs.Laws.Records.{AreSized}
+use Rattle.iim_object.specs.Format.Numbers.{ending_of, place_after_datasets, place_ended}
+use Rattle.iim_object.specs.Laws.Numbers.{object_tokens, TokensAreOfSizedDatasets, DatasetsLiveWithTheirTokens, DatasetsEndWithTheirTokens}
 use Rattle.iim_object.proofs.Numbers.{read-append, read_front, in_row_at}
 use Rattle.iim_object.proofs.Subfiles.{numbers_end, subfiles_front, subfiles_end}
 use Rattle.iim_object.proofs.Members.{IsMember, all_append, all_front, all_back, all_map, are_stated, descriptor_of, object_of, confirmation_of, one_confirmation, some_subfile, ten_of, stating, subfiles, confirmation}

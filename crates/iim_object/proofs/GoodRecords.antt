@@ -14,7 +14,8 @@ use Rattle.iim_tables.specs.Format.Records.{IsGoodDataset, IsGoodRecord, occurs,
 use Rattle.iim_object.specs.Format.Sizes.{mode_number}
 use Rattle.iim_object.specs.Format.Cuts.{AreFull, joined_parts}
 use Rattle.iim_object.specs.Format.Plans.{limit_of}
-use Rattle.iim_object.specs.Format.Packing.{number_dataset, is_known, plan_datasets, subfile_dataset, subfile_datasets, confirmed_datasets, NumberDatasetsAreGood, PackedRecordsAreGood}
+use Rattle.iim_object.specs.Format.Packing.{number_dataset, is_known, plan_datasets, subfile_dataset, subfile_datasets, confirmed_datasets}
+use Rattle.iim_object.specs.Laws.Packing.{NumberDatasetsAreGood, PackedRecordsAreGood}
 use Rattle.iim_object.specs.declared.size.Size.{Size}
 use Rattle.iim_object.specs.declared.size.Size.TheVariants.{Known, Unknown}
 use Rattle.iim_object.proofs.PackedSizes.{plan_parts}

@@ -5,7 +5,8 @@ use Rattle.iim_object.specs.Format.Plans.{max_subfiles}
 use Rattle.iim_object.specs.Format.Sizes.{Stated, AreStated}
 use Rattle.iim_object.specs.Format.Objects.{ObjectToken, NumberRead, SubfileBegun, ObjectEnded, Confirmed, ObjectLanguage, number_tokens}
 use Rattle.iim_object.specs.Format.Places.{Place, Ending, NotEnded, Ended, ConfirmedAs, HasBoth, MayFollow, ending_tokens, place_start, place_after, tokens_of}
-use Rattle.iim_object.specs.Format.Saved.{IsPossible, TokensLead, PlacesAreLedTo}
+use Rattle.iim_object.specs.States.Saved.{IsPossible}
+use Rattle.iim_object.specs.Laws.Places.{TokensLead, PlacesAreLedTo}
 use Rattle.iim_object.proofs.Leads.{stated_front}
 use Rattle.iim_object.proofs.Steps.{tokens_follow}
 

@@ -8,7 +8,8 @@ use Rattle.iim_object.specs.Format.Sizes.{Stated, InRow, AreOnce, AreStated, num
 use Rattle.iim_object.specs.Format.Objects.{NumberRead, ObjectEnded}
 use Rattle.iim_object.specs.Format.Places.{Place, MayFollow, HasBoth}
 use Rattle.iim_object.specs.Format.Records.{AreObjectRecords, numbers_of, lengths_of}
-use Rattle.iim_object.specs.Format.Numbers.{ending_of, place_after_datasets, OthersLeadNowhere, NumbersLead, SubfilesLead, EndsLead}
+use Rattle.iim_object.specs.Format.Numbers.{ending_of, place_after_datasets}
+use Rattle.iim_object.specs.Laws.Numbers.{OthersLeadNowhere, NumbersLead, SubfilesLead, EndsLead}
 use Rattle.iim_object.proofs.Numbers.{at-append}
 use Rattle.iim_object.proofs.Members.{all_front, are_stated, have_both, some_subfile, stated_of}
 use Rattle.iim_object.proofs.Cuts.{AreSorted, more_of, same_of, place_is, place_with, nines_in, next_number, next_subfile, next_end, sorted}

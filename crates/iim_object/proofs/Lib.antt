@@ -13,7 +13,7 @@ pub mod Bounds
 pub mod GoodRecords
 pub mod Outputs
 pub mod Rooms
-pub mod Writing
+pub mod Written
 pub mod Reached
 pub mod Staying
 pub mod Saved

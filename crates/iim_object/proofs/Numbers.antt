@@ -7,7 +7,7 @@ use Rattle.std.proofs.lemmas.List.Sums.{sum_by-cons}
 use Rattle.iim_dataset.specs.Format.Languages.{IsAlive}
 use Rattle.iim_dataset.specs.Format.Octets.{greatest_size}
 use Rattle.iim_object.specs.Format.Sizes.{Stated, InRow, AreOnce, AreStated, Agree, number_at, mode_number, sizes_at}
-use Rattle.iim_object.specs.Format.Living.{NoClash}
+use Rattle.iim_object.specs.Laws.Living.{NoClash}
 use Rattle.iim_object.specs.Format.Within.{TokensWithin, LanguageWithin}
 use Rattle.iim_object.specs.Format.Objects.{ObjectToken, NumberRead, SubfileBegun, ObjectEnded, Confirmed, ObjectLanguage, number_tokens}
 

@@ -3,10 +3,10 @@ use Rattle.std.proofs.Common.{◌≡◌, ℕ, ◌+◌, List, [], ◌++◌, lengt
 use Rattle.std.specs.Prelude.{Result, Ok, Err, OnOk, OnErr}
 use Rattle.std.proofs.lemmas.List.{take-append-le}
 use Rattle.std.specs.Io.KnownBytes.{Appends}
-use Rattle.iim_dataset.specs.Format.Devices.{Device}
-use Rattle.iim_dataset.specs.Format.DeviceLaws.{TextsJoin}
+use Rattle.iim_dataset.specs.States.Devices.{Device}
+use Rattle.iim_dataset.specs.Laws.Devices.{TextsJoin}
 use Rattle.iim_object.specs.Outputs.{Puts, Cuts}
-use Rattle.iim_object.specs.declared.output.Output.{Output}
+use Rattle.iim_object.specs.declared.writing.output.Output.{Output}
 
 pub puts_nothing : {W : Type 0} (state : W → Device) (a : Output W) → TextsJoin → Puts state a a []
 puts_nothing state a join = record { wrote = join.none (state a.writer); counted = omega arith }

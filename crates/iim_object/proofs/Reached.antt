@@ -6,15 +6,15 @@ use Rattle.std.proofs.lemmas.List.Sums.{sum_by-cons}
 use Rattle.std.proofs.Math.Nat.{suc-mul}
 use Rattle.iim_dataset.specs.Format.Languages.{IsAlive}
 use Rattle.iim_dataset.specs.Format.Octets.{greatest_size}
-use Rattle.iim_object.specs.declared.state.State.{State}
+use Rattle.iim_object.specs.declared.reading.state.State.{State}
 use Rattle.iim_object.specs.Format.Plans.{max_subfiles}
 use Rattle.iim_object.specs.Format.Sizes.{Stated, InRow, AreOnce, AreStated, number_at}
 use Rattle.iim_object.specs.Format.Objects.{ObjectToken, SubfileBegun, ObjectLanguage, number_tokens}
-use Rattle.iim_object.specs.Format.Living.{NoClash, HasDuties, Fit}
+use Rattle.iim_object.specs.Laws.Living.{NoClash, HasDuties, Fit}
 use Rattle.iim_object.specs.Format.Places.{Place, NotEnded, HasBoth, ending_tokens, tokens_of}
-use Rattle.iim_object.specs.Format.States.{HasNumbers, HasSubfiles, IsState}
-use Rattle.iim_object.specs.Format.Reading.{IsStateAt, StandsAt}
-use Rattle.iim_object.specs.Format.Reached.{PlacesAreReached}
+use Rattle.iim_object.specs.States.KeptNumbers.{HasNumbers, HasSubfiles, IsState}
+use Rattle.iim_object.specs.States.Reading.{IsStateAt, StandsAt}
+use Rattle.iim_object.specs.Laws.Places.{PlacesAreReached}
 use Rattle.iim_object.proofs.Numbers.{in_row_at, mode_at_most_one, at_least_one, at_most_size}
 use Rattle.iim_object.proofs.Subfiles.{numbers_law, subfiles_law}
 use Rattle.iim_object.proofs.Steps.{tells_of, both_of, not_ended_tokens, number_before}

@@ -3,15 +3,15 @@ use Rattle.std.proofs.Common.{◌≡◌, ℕ, ◌+◌, ◌*◌, ◌≤◌, true,
 use Rattle.std.proofs.Math.Nat.{mul-le-mul_left}
 use Rattle.std.proofs.lemmas.Bool.{cases_lt}
 use Rattle.iim_dataset.specs.Format.Datasets.{canonical_dataset, tag_octets}
-use Rattle.iim_dataset.specs.Format.Devices.{Device}
+use Rattle.iim_dataset.specs.States.Devices.{Device}
 use Rattle.iim_dataset.specs.Format.Octets.{greatest_size}
 use Rattle.iim_dataset.proofs.WrittenNumbers.{dataset_length}
 use Rattle.iim_object.specs.Format.Packing.{subfile_dataset}
-use Rattle.iim_object.specs.Format.Writing.{room_of, most_of}
+use Rattle.iim_object.specs.States.Writing.{room_of, most_of}
 use Rattle.iim_object.specs.Format.Plans.{max_subfiles}
 use Rattle.iim_object.specs.Cutting.{most_written, HasRoom, Flushes, Halts}
 use Rattle.iim_object.specs.declared.plan.Plan.{Plan}
-use Rattle.iim_object.specs.declared.cutter.Cutter.{Cutter}
+use Rattle.iim_object.specs.declared.writing.cutter.Cutter.{Cutter}
 use Rattle.iim_object.proofs.PackedSizes.{plan_parts}
 
 -- no more full parts than there may be

@@ -3,17 +3,18 @@ use Rattle.std.proofs.Common.{◌≡◌, ℕ, ◌+◌, ◌-◌, ◌*◌, ◌≤�
 use Rattle.std.specs.Result.{result_ok}
 use Rattle.iim_dataset.specs.Format.Languages.{IsAlive}
 use Rattle.iim_dataset.specs.Format.Octets.{greatest_size}
-use Rattle.iim_object.specs.declared.state.State.{State}
-use Rattle.iim_object.specs.declared.fault.SizeCause.{SizeCause}
+use Rattle.iim_object.specs.declared.reading.state.State.{State}
+use Rattle.iim_object.specs.declared.reading.fault.SizeCause.{SizeCause}
 use Rattle.iim_object.specs.Format.Plans.{max_subfiles}
 use Rattle.iim_object.specs.Format.Sizes.{mode_number}
 use Rattle.iim_object.specs.Format.Objects.{ObjectToken, SubfileBegun, ObjectLanguage}
 use Rattle.iim_object.specs.Format.Places.{Place, HasBoth, MayFollow, place_after, tokens_of}
 use Rattle.iim_object.specs.Format.Causes.{is_given, bound}
-use Rattle.iim_object.specs.Format.States.{HasNumbers, HasSubfiles, IsState, state_numbers}
-use Rattle.iim_object.specs.States.{TakesSubfile}
-use Rattle.iim_object.specs.Format.Reading.{IsStateAt, StandsAt, LeadsOn, Refuses}
-use Rattle.iim_object.specs.Format.Saved.{IsAt, LastIsBegun, IsPossible, PlacesHaveOneReader, stated_numbers}
+use Rattle.iim_object.specs.States.KeptNumbers.{HasNumbers, HasSubfiles, IsState, state_numbers}
+use Rattle.iim_object.specs.StateChanges.{TakesSubfile}
+use Rattle.iim_object.specs.States.Reading.{IsStateAt, StandsAt, LeadsOn, Refuses}
+use Rattle.iim_object.specs.States.Saved.{IsAt, LastIsBegun, IsPossible, stated_numbers}
+use Rattle.iim_object.specs.Laws.Places.{PlacesHaveOneReader}
 use Rattle.iim_object.specs.Finding.{Finds}
 use Rattle.iim_object.proofs.Steps.{given_is, or_less, or_less_right, under_both, sum_more, tokens_follow}
 use Rattle.iim_object.proofs.Reached.{front_lives, place_in, tells_in, stands_in, few_in, state_of}

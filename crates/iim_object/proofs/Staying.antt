@@ -3,15 +3,15 @@ use Rattle.std.proofs.Common.{◌≡◌, ℕ, ◌+◌, ◌≤◌, ◌==◌, List
 use Rattle.std.specs.List.{AllByRecursion}
 use Rattle.std.proofs.lemmas.Bool.{cases_Bool, eqb-true}
 use Rattle.iim_dataset.specs.Format.Octets.{greatest_size}
-use Rattle.iim_object.specs.declared.state.State.{State}
+use Rattle.iim_object.specs.declared.reading.state.State.{State}
 use Rattle.iim_object.specs.Format.Sizes.{Stated, InRow, number_at}
 use Rattle.iim_object.specs.Format.Objects.{NumberRead, SubfileBegun}
 use Rattle.iim_object.specs.Format.Places.{Place, MayFollow, place_after}
-use Rattle.iim_object.specs.Format.Living.{NoClash}
+use Rattle.iim_object.specs.Laws.Living.{NoClash}
 use Rattle.iim_object.specs.Format.Causes.{number_cause, subfile_cause, bound}
-use Rattle.iim_object.specs.Format.States.{IsState}
-use Rattle.iim_object.specs.States.{TakesNumber, TakesSubfile, set_where, state_with}
-use Rattle.iim_object.specs.Format.Reading.{StandsAt, LeadsOn}
+use Rattle.iim_object.specs.States.KeptNumbers.{IsState}
+use Rattle.iim_object.specs.StateChanges.{TakesNumber, TakesSubfile, set_where, state_with}
+use Rattle.iim_object.specs.States.Reading.{StandsAt, LeadsOn}
 use Rattle.iim_object.proofs.Numbers.{mode_at_most_one, at_least_one, at_most_size}
 use Rattle.iim_object.proofs.Steps.{tells_of, clear_numbers, clear_of, announced_small, not_below, subfile_leads_on}
 use Rattle.iim_object.proofs.Reached.{numbers_in, mode_in, largest_in, announced_in, maximum_in, are_stated, largest_at_most, maximum_at_most, place_in, tells_in, stands_in, state_of}

@@ -5,17 +5,17 @@ use Rattle.std.proofs.lemmas.List.{map-append}
 use Rattle.std.proofs.lemmas.Bool.{cases_Bool, cases_lt, eqb-true, eq-eqb, lt-ltb, le-ltb}
 use Rattle.iim_dataset.specs.Format.Languages.{IsAlive}
 use Rattle.iim_dataset.specs.Format.Octets.{greatest_size}
-use Rattle.iim_object.specs.declared.state.State.{State}
-use Rattle.iim_object.specs.declared.fault.SizeCause.{SizeCause}
-use Rattle.iim_object.specs.declared.fault.SizeCause.TheVariants.{ModeClash, SizeClash, SubfileTooLong, PastSize, Short, ConfirmedWrong}
+use Rattle.iim_object.specs.declared.reading.state.State.{State}
+use Rattle.iim_object.specs.declared.reading.fault.SizeCause.{SizeCause}
+use Rattle.iim_object.specs.declared.reading.fault.SizeCause.TheVariants.{ModeClash, SizeClash, SubfileTooLong, PastSize, Short, ConfirmedWrong}
 use Rattle.iim_object.specs.Format.Sizes.{Stated, AreOnce, AreStated, number_at, mode_number}
 use Rattle.iim_object.specs.Format.Objects.{ObjectToken, NumberRead, SubfileBegun, ObjectEnded, Confirmed, ObjectLanguage, number_tokens}
-use Rattle.iim_object.specs.Format.Living.{NoClash, HasDuties, Fit}
+use Rattle.iim_object.specs.Laws.Living.{NoClash, HasDuties, Fit}
 use Rattle.iim_object.specs.Format.Places.{Place, Ending, NotEnded, Ended, ConfirmedAs, ending_tokens, tokens_of, place_after, place_start, HasBoth}
-use Rattle.iim_object.specs.Format.Numbers.{TokensFollow}
+use Rattle.iim_object.specs.Laws.Numbers.{TokensFollow}
 use Rattle.iim_object.specs.Format.Causes.{is_given, is_above, number_cause, bound, is_past, subfile_cause, end_cause, confirmed_cause, cause_at}
-use Rattle.iim_object.specs.Format.Reading.{IsStateAt, StandsAt, LeadsOn, LivesWith, Refuses, IsSizes}
-use Rattle.iim_object.specs.States.{set_where, state_start, state_with}
+use Rattle.iim_object.specs.States.Reading.{IsStateAt, StandsAt, LeadsOn, LivesWith, Refuses, IsSizes}
+use Rattle.iim_object.specs.StateChanges.{set_where, state_start, state_with}
 use Rattle.iim_object.proofs.Numbers.{at-append, at_most_size, in_row_at, mode_at_most_one, none-append, read-append}
 use Rattle.iim_object.proofs.Subfiles.{numbers_law, subfiles_law, ends_law, confirmed_law, each_append, sum_append}
 

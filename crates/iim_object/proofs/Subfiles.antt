@@ -4,11 +4,11 @@ use Rattle.std.specs.List.{AllByRecursion}
 use Rattle.std.proofs.lemmas.List.{map-append}
 use Rattle.std.proofs.lemmas.List.Sums.{sum_by-append}
 use Rattle.iim_dataset.specs.Format.Languages.{IsAlive}
-use Rattle.iim_object.specs.Format.Records.{SizesAreDetermined}
+use Rattle.iim_object.specs.Laws.Records.{SizesAreDetermined}
 use Rattle.iim_object.specs.Format.Within.{LanguageWithin}
 use Rattle.iim_dataset.specs.Format.Octets.{greatest_size}
 use Rattle.iim_object.specs.Format.Sizes.{Stated, Agree, number_at, mode_number, sizes_at}
-use Rattle.iim_object.specs.Format.Living.{HasDuties, Fit, MeetsAnnounced, NumbersLiveWithoutClash, SubfilesLiveWhileTheyFit, ObjectsEndWhereTheyAreWhole, TotalsAreConfirmed}
+use Rattle.iim_object.specs.Laws.Living.{HasDuties, Fit, MeetsAnnounced, NumbersLiveWithoutClash, SubfilesLiveWhileTheyFit, ObjectsEndWhereTheyAreWhole, TotalsAreConfirmed}
 use Rattle.iim_object.specs.Format.Objects.{ObjectToken, SubfileBegun, ObjectEnded, Confirmed, ObjectLanguage, number_tokens}
 use Rattle.iim_object.proofs.Numbers.{AreLow, low_at, rows_low, whole_within, numbers_alive, numbers_live, in_row_at, at_least_one, at_most_size, short_ones, sum-ones}
 

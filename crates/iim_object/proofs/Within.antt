@@ -2,10 +2,11 @@
 use Rattle.std.proofs.Common.{◌≡◌, ℕ, zero, suc, ◌<◌, ◌≤◌, Bool, true, false, List, [], ◌∷◌, ◌++◌, length, map, sum, Option, Some, None, is_some, refl, sym, ap, subst, ◌∙◌, arith, append-nil}
 use Rattle.iim_dataset.specs.Format.Languages.{IsAlive}
 use Rattle.iim_object.specs.Format.Sizes.{Stated, AreStated, number_at, mode_number}
-use Rattle.iim_object.specs.Format.Living.{HasDuties}
+use Rattle.iim_object.specs.Laws.Living.{HasDuties}
 use Rattle.iim_object.specs.Format.Objects.{ObjectToken, SubfileBegun, ObjectLanguage, number_tokens}
 use Rattle.iim_object.specs.Format.Places.{Ending, NotEnded, Ended, ConfirmedAs, HasBoth, ending_tokens}
-use Rattle.iim_object.specs.Format.Within.{LanguageWithin, PlacesLiveWithin}
+use Rattle.iim_object.specs.Format.Within.{LanguageWithin}
+use Rattle.iim_object.specs.Laws.Within.{PlacesLiveWithin}
 use Rattle.iim_object.proofs.Numbers.{AreLow, numbers_low, numbers_alive_within, in_row_at, mode_at_most_one}
 use Rattle.iim_object.proofs.Subfiles.{numbers_law, subfiles_law, ends_law, confirmed_law, subfiles_alive_within, ends_within, confirmed_within}
 

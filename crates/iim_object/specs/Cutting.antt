@@ -1,14 +1,14 @@
 -- A writer of subfiles from inside: what it holds, fills and sends.
 use Rattle.std.specs.Prelude.{◌≡◌, ℕ, ◌+◌, ◌*◌, ◌<◌, ◌≤◌, true, false, List, [], ◌++◌, length}
-use Rattle.iim_dataset.specs.Format.Devices.{Device}
+use Rattle.iim_dataset.specs.States.Devices.{Device}
 use Rattle.iim_dataset.specs.Format.Datasets.{canonical_dataset, tag_octets}
-use Rattle.iim_dataset.specs.Format.Reserved.{Reserved}
+use Rattle.iim_dataset.specs.States.Reserved.{Reserved}
 use Rattle.iim_object.specs.Format.Packing.{subfile_dataset}
 use Rattle.iim_object.specs.Format.Plans.{most_out, most_sizes}
 use Rattle.iim_object.specs.Outputs.{Puts, Cuts}
 use Rattle.iim_object.specs.declared.plan.Plan.{Plan}
-use Rattle.iim_object.specs.declared.cutter.Cutter.{Cutter}
-use Rattle.iim_object.specs.Format.Writing.{Writing, most_of, room_of, total_of}
+use Rattle.iim_object.specs.declared.writing.cutter.Cutter.{Cutter}
+use Rattle.iim_object.specs.States.Writing.{Writing, most_of, room_of, total_of}
 
 -- ---- the cutter
 

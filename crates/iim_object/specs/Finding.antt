@@ -1,9 +1,9 @@
 -- A state that is found for saved numbers.
 use Rattle.std.specs.Prelude.{◌≡◌, ◌↔◌, Option, Some, IsSome}
 use Rattle.iim_object.specs.Format.Places.{Place}
-use Rattle.iim_object.specs.Format.Reading.{StandsAt}
-use Rattle.iim_object.specs.declared.state.State.{State}
-use Rattle.iim_object.specs.Format.Saved.{IsPossible}
+use Rattle.iim_object.specs.States.Reading.{StandsAt}
+use Rattle.iim_object.specs.declared.reading.state.State.{State}
+use Rattle.iim_object.specs.States.Saved.{IsPossible}
 
 -- A state is found exactly where one of these places is possible, and then it stands at each of them that is.
 pub record Finds (IsOne : Place → Type 0) (found : Option State) : Type 0 where

@@ -1,7 +1,11 @@
--- What the promises cite: a reader has to believe these.
+-- What octets are, and what is said of them.
 pub mod Format
--- What only proofs and private clauses cite.
+-- Where readers and writers stand.
 pub mod States
+-- What holds of these: statements, each the contract of a law.
+pub mod Laws
+-- What only proofs and private clauses cite.
+pub mod StateChanges
 pub mod Outputs
 pub mod Finding
 pub mod Cutting

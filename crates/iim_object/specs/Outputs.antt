@@ -1,7 +1,7 @@
 -- What is written to a target whose octets are counted.
 use Rattle.std.specs.Prelude.{◌≡◌, ℕ, ◌+◌, List, length}
-use Rattle.iim_dataset.specs.Format.Devices.{Device, Wrote, Stopped}
-use Rattle.iim_object.specs.declared.output.Output.{Output}
+use Rattle.iim_dataset.specs.States.Devices.{Device, Wrote, Stopped}
+use Rattle.iim_object.specs.declared.writing.output.Output.{Output}
 
 -- The text is out, and was counted.
 pub record Puts {W : Type 0} (state : W → Device) (old new : Output W) (text : List ℕ) : Type 0 where

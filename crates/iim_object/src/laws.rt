@@ -1,16 +1,15 @@
 //! When the object layer can continue, and how its tokens come from datasets. The functions do nothing: their contracts are
 //! the laws.
 
-ghost use Rattle.iim_object.specs.Format.Within.{PlacesLiveWithin};
-ghost use Rattle.iim_object.specs.Format.Living.{NumbersLiveWithoutClash, SubfilesLiveWhileTheyFit, ObjectsEndWhereTheyAreWhole, TotalsAreConfirmed};
-ghost use Rattle.iim_object.specs.Format.Numbers.{TokensAreOfSizedDatasets, DatasetsLiveWithTheirTokens, DatasetsEndWithTheirTokens, TokensFollow, OthersLeadNowhere, NumbersLead, SubfilesLead, EndsLead, RecordsAreByNumber};
-ghost use Rattle.iim_object.specs.Format.Records.{SizesAreDetermined};
-ghost use Rattle.iim_object.specs.Format.Conditions.{CausesAreTheFirst, ObjectsDieForCauses};
-ghost use Rattle.iim_object.specs.Format.Reached.{PlacesAreReached};
-ghost use Rattle.iim_object.specs.Format.Saved.{PlacesAreLedTo, PlacesHaveOneReader, TokensLeadOnAlike};
-ghost use Rattle.iim_object.specs.Format.Told.{ReadersTellSizes};
-ghost use Rattle.iim_object.specs.Format.Cuts.{ObjectsAreCutOneWay};
-ghost use Rattle.iim_object.specs.Format.Packing.{NumberDatasetsAreGood, PackedObjectsHaveSizes, PackedRecordsAreGood, SubfilesAreFew};
+ghost use Rattle.iim_object.specs.Laws.Within.{PlacesLiveWithin};
+ghost use Rattle.iim_object.specs.Laws.Living.{NumbersLiveWithoutClash, SubfilesLiveWhileTheyFit, ObjectsEndWhereTheyAreWhole, TotalsAreConfirmed};
+ghost use Rattle.iim_object.specs.Laws.Numbers.{TokensAreOfSizedDatasets, DatasetsLiveWithTheirTokens, DatasetsEndWithTheirTokens, TokensFollow, OthersLeadNowhere, NumbersLead, SubfilesLead, EndsLead, RecordsAreByNumber};
+ghost use Rattle.iim_object.specs.Laws.Records.{SizesAreDetermined};
+ghost use Rattle.iim_object.specs.Laws.Conditions.{CausesAreTheFirst, ObjectsDieForCauses};
+ghost use Rattle.iim_object.specs.Laws.Places.{PlacesAreReached, PlacesAreLedTo, PlacesHaveOneReader, TokensLeadOnAlike};
+ghost use Rattle.iim_object.specs.Laws.Reading.{ReadersTellSizes};
+ghost use Rattle.iim_object.specs.Laws.Cuts.{ObjectsAreCutOneWay};
+ghost use Rattle.iim_object.specs.Laws.Packing.{NumberDatasetsAreGood, PackedObjectsHaveSizes, PackedRecordsAreGood, SubfilesAreFew};
 
 /// While record 7 is read, the object layer can continue exactly where its numbers don't clash.
 pub fn numbers_live_without_clash()

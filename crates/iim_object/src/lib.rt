@@ -4,26 +4,18 @@
 //! dies with it and the fault is the first cause.
 #![tactic(auto)]
 
-mod buffer;
-mod cause;
-mod cutter;
-mod fault;
 pub mod laws;
-mod output;
-mod place;
 mod plan;
-mod reader;
+mod reading;
 mod sink;
 mod size;
-mod state;
-mod step;
-mod writer;
+mod writing;
 
-pub use buffer::SubfileBuffer;
-pub use cause::{PackCause, StartFault};
-pub use fault::{ObjectFault, SizeCause};
 pub use plan::{MAX_SUBFILES, Plan};
-pub use reader::ObjectReader;
+pub use reading::fault::{ObjectFault, SizeCause};
+pub use reading::reader::ObjectReader;
 pub use sink::ObjectSink;
 pub use size::{Size, Sizes};
-pub use writer::SubfileWriter;
+pub use writing::buffer::SubfileBuffer;
+pub use writing::cause::{PackCause, StartFault};
+pub use writing::writer::SubfileWriter;

@@ -23,7 +23,8 @@ pub trait ObjectSink {
         ensures stands { OnOk result (stands self.new) }
         ensures refused { IfErr result (λ stop. stop.taken < length run.now) }
         ensures stopped { IfErr result (λ stop.
-            stops self.old (map ObjectOctet (take stop.taken run.now)) (ObjectOctet (slice_index run.now stop.taken)) self.new) };
+            stops self.old (map ObjectOctet (take stop.taken run.now)) (ObjectOctet (slice_index run.now stop.taken))
+            self.new) };
 
     /// Takes the end of the object, or refuses it: its stop has taken nothing.
     fn close(&mut self) -> Result<(), Stop>
@@ -39,5 +40,6 @@ pub trait ObjectSink {
     ghost joined: { (a b c : Self) (xs ys : List ObjectEvent) → goes a xs b → goes b ys c → goes a (xs ++ ys) c };
 
     /// A refusal after events is one after all of them joined.
-    ghost joined_stop: { (a b c : Self) (xs ys : List ObjectEvent) (refused : ObjectEvent) → goes a xs b → stops b ys refused c → stops a (xs ++ ys) refused c };
+    ghost joined_stop: { (a b c : Self) (xs ys : List ObjectEvent) (refused : ObjectEvent) → goes a xs b
+        → stops b ys refused c → stops a (xs ++ ys) refused c };
 }

@@ -1,14 +1,14 @@
 -- What a packer has begun with, call by call.
 use Rattle.std.proofs.Common.{ℕ, List, [], ◌++◌, arith, length-append}
-use Rattle.iim_dataset.specs.Format.Devices.{Device}
-use Rattle.iim_dataset.specs.Format.DeviceLaws.{TextsJoin}
+use Rattle.iim_dataset.specs.States.Devices.{Device}
+use Rattle.iim_dataset.specs.Laws.Devices.{TextsJoin}
 use Rattle.iim_dataset.specs.Format.Datasets.{Dataset}
 use Rattle.iim_object.specs.declared.plan.Plan.{Plan}
 use Rattle.wire_story.specs.Format.Delivery.{StoryEvent}
 use Rattle.wire_message.specs.Format.Messages.{Header}
-use Rattle.iim_pack.specs.Format.Packing.{Packing, Lengthens, Finishes}
-use Rattle.iim_pack.specs.Format.Starting.{Starts}
-use Rattle.iim_pack.specs.Format.Begun.{HasBegun, ContinuesBegun, EndsBegun}
+use Rattle.iim_pack.specs.States.Packing.{Packing, Lengthens, Finishes}
+use Rattle.iim_pack.specs.States.Starting.{Starts}
+use Rattle.iim_pack.specs.States.Begun.{HasBegun, ContinuesBegun, EndsBegun}
 
 pub begun_at_start : {W : Type 0} (state : W → Device) (writer : W) (fields : List Dataset) (head : Header) (plan : Plan) (k : Packing W) → Starts state writer fields head plan k → HasBegun state (state writer) k fields head [] plan
 begun_at_start state writer fields head plan k s = record { out = s.out; wrote = s.wrote; counted = s.counted; stands = s.stands }

@@ -2,10 +2,10 @@
 use Rattle.std.proofs.Common.{◌≡◌, ℕ, ◌+◌, ◌≤◌, false, None, List, [], ◌++◌, length, refl, sym, subst, ◌∙◌, arith, append_assoc, append-nil, length-append}
 use Rattle.std.specs.Prelude.{Result, Ok, Err, IfOk, IfErr}
 use Rattle.std.proofs.lemmas.Bool.{le-leb}
-use Rattle.iim_dataset.specs.Format.Devices.{Device}
-use Rattle.iim_dataset.specs.Format.DeviceLaws.{TextsJoin}
+use Rattle.iim_dataset.specs.States.Devices.{Device}
+use Rattle.iim_dataset.specs.Laws.Devices.{TextsJoin}
 use Rattle.iim_object.specs.Format.Packing.{IsWritten}
-use Rattle.iim_object.specs.Format.Writing.{Writing, Lengthens, BreaksOff, ContinuesWith, IsTheWhole, Finishes, Begins, most_of, total_of, write_cause, finish_cause, is_short}
+use Rattle.iim_object.specs.States.Writing.{Writing, Lengthens, BreaksOff, ContinuesWith, IsTheWhole, Finishes, Begins, most_of, total_of, write_cause, finish_cause, is_short}
 use Rattle.iim_object.specs.declared.plan.Plan.{Plan}
 use Rattle.iim_pack.specs.Ending.{Ends, EndsWithTail}
 

@@ -4,13 +4,14 @@ use Rattle.std.specs.List.{AllByRecursion}
 use Rattle.std.proofs.lemmas.List.{take-append-le}
 use Rattle.std.proofs.lemmas.Bool.{lt-ltb, le-ltb, cases_lt}
 use Rattle.std.specs.Io.KnownBytes.{Appends}
-use Rattle.iim_dataset.specs.Format.Devices.{Device, Wrote, Stopped}
-use Rattle.iim_dataset.specs.Format.DeviceLaws.{TextsJoin}
+use Rattle.iim_dataset.specs.States.Devices.{Device, Wrote, Stopped}
+use Rattle.iim_dataset.specs.Laws.Devices.{TextsJoin}
 use Rattle.iim_dataset.specs.Format.Datasets.{Dataset, canonical_dataset, canonical_stream, count_octets, tag_octets}
 use Rattle.iim_dataset.proofs.WrittenNumbers.{dataset_length}
 use Rattle.iim_fields.specs.Format.Faults.{joined}
 use Rattle.iim_tables.specs.Format.Records.{IsGoodDataset}
-use Rattle.iim_fields.specs.Format.Builders.{IsEnvelope, AreFew}
+use Rattle.iim_fields.specs.Format.Envelopes.{IsEnvelope}
+use Rattle.iim_fields.specs.States.Builders.{AreFew}
 use Rattle.iim_pack.proofs.Octets.{all_append}
 use Rattle.iim_pack.proofs.Spelling.{few}
 

@@ -2,24 +2,25 @@
 use Rattle.std.proofs.Common.{◌≡◌, ℕ, ◌+◌, ◌≤◌, Bool, true, false, not, nat_le, cond, Option, Some, None, List, ◌++◌, length, refl, sym, ap, subst, ◌∙◌, arith, append_assoc, length-append}
 use Rattle.std.specs.List.{list_all}
 use Rattle.std.proofs.lemmas.Bool.{and_parts, leb-true, ltb-false}
-use Rattle.iim_dataset.specs.Format.Devices.{Device}
+use Rattle.iim_dataset.specs.States.Devices.{Device}
 use Rattle.iim_dataset.specs.Format.Datasets.{canonical_stream}
 use Rattle.iim_object.specs.Format.Plans.{bound_of}
 use Rattle.iim_object.specs.Format.Packing.{IsWritten, IsAsKnown}
 use Rattle.iim_object.specs.Format.Cuts.{joined_parts}
-use Rattle.iim_object.specs.Format.Writing as object
-use Rattle.iim_object.specs.Format.Writing.{Writing, most_of, total_of, is_short, Begins}
+use Rattle.iim_object.specs.States.Writing as object
+use Rattle.iim_object.specs.States.Writing.{Writing, most_of, total_of, is_short, Begins}
 use Rattle.iim_object.specs.declared.plan.Plan.{Plan}
 use Rattle.iim_object.specs.declared.size.Size.{Size}
 use Rattle.iim_object.specs.declared.size.Size.TheVariants.{Known, Unknown}
 use Rattle.wire_story.specs.Format.Texts.{packed_text}
 use Rattle.wire_story.specs.Format.Delivery.{StoryEvent}
-use Rattle.wire_story.specs.Format.Packing.{packed_events, lines_of, EventsArePackedAsLines}
+use Rattle.wire_story.specs.Format.Packing.{packed_events, lines_of}
+use Rattle.wire_story.specs.Laws.Packing.{EventsArePackedAsLines}
 use Rattle.wire_message.specs.Format.Fields.{is_trailer_octet}
 use Rattle.wire_message.specs.Format.Messages.{Header, IsTrailer}
 use Rattle.wire_message.specs.Format.Canonical.{packed_head, packed_tail, canonical}
-use Rattle.wire_message.specs.Format.Laws.{CanonicalObjectsAreMessages}
-use Rattle.iim_pack.specs.Format.Packing.{BreaksOff, EndsIn, Finishes, is_trailer, is_past, ending_cause}
+use Rattle.wire_message.specs.Laws.Messages.{CanonicalObjectsAreMessages}
+use Rattle.iim_pack.specs.States.Packing.{BreaksOff, EndsIn, Finishes, is_trailer, is_past, ending_cause}
 use Rattle.iim_pack.specs.Ending.{Ends, EndsWithTail}
 use Rattle.iim_pack.proofs.Goings.{begins_after}
 
@@ -56,7 +57,7 @@ as_known : (subfile : ℕ) (size : Size) (object : List ℕ) → length object �
 as_known subfile (Known n) object fits whole = let least : n ≤ length object = ltb-false (length object) n whole in omega (arith, fits, least)
 as_known subfile (Unknown m) object fits whole = tt
 
-pub total_is : {W : Type 0} (w : Writing W) (xs out : List ℕ) → object.StandsAt w xs out → length xs ≡ total_of w
+pub total_is : {W : Type 0} (w : Writing W) (xs out : List ℕ) → object.HasWritten w xs out → length xs ≡ total_of w
 total_is w xs out s = omega (arith, ap length s.object_is, s.sent, length-append (joined_parts s.parts) w.held)
 
 -- the canonical object of the lines of a text is what has come of it, and its end

@@ -3,18 +3,19 @@ use Rattle.std.proofs.Common.{◌≡◌, ℕ, ◌+◌, ◌≤◌, Bool, true, fa
 use Rattle.std.specs.Prelude.{Result, Ok, Err, OnOk, OnErr, IfNone}
 use Rattle.std.proofs.lemmas.Bool.{and_parts, le-leb, leb-true}
 use Rattle.std.specs.List.{list_all}
-use Rattle.iim_dataset.specs.Format.Devices.{Device}
+use Rattle.iim_dataset.specs.States.Devices.{Device}
 use Rattle.iim_dataset.specs.Format.Datasets.{canonical_stream}
 use Rattle.iim_object.specs.Format.Packing.{IsWritten}
-use Rattle.iim_object.specs.Format.Writing as object
-use Rattle.iim_object.specs.Format.Writing.{Writing, most_of, total_of, write_cause, Begins}
+use Rattle.iim_object.specs.States.Writing as object
+use Rattle.iim_object.specs.States.Writing.{Writing, most_of, total_of, write_cause, Begins}
 use Rattle.iim_object.specs.declared.plan.Plan.{Plan}
 use Rattle.wire_story.specs.Format.Texts.{is_line_octet, IsLine, packed_text}
 use Rattle.wire_story.specs.Format.Delivery.{StoryEvent, LineOctet, events_of_lines}
-use Rattle.wire_story.specs.Format.Packing.{packed_event, packed_events, AreEvents, LinesArePackedAsTheirEvents}
+use Rattle.wire_story.specs.Format.Packing.{packed_event, packed_events, AreEvents}
+use Rattle.wire_story.specs.Laws.Packing.{LinesArePackedAsTheirEvents}
 use Rattle.wire_message.specs.Format.Messages.{Header}
 use Rattle.wire_message.specs.Format.Canonical.{packed_head, packed_tail, canonical}
-use Rattle.iim_pack.specs.Format.Packing.{Lengthens, BreaksOff, ContinuesWith}
+use Rattle.iim_pack.specs.States.Packing.{Lengthens, BreaksOff, ContinuesWith}
 use Rattle.iim_pack.proofs.Octets.{all_append}
 
 -- ---- results
@@ -73,7 +74,7 @@ lengthened state before old new events are l = record {
     stands =
         let joined : (packed_head head ++ packed_events evs) ++ packed_events events ≡ packed_head head ++ packed_events (evs ++ events) =
         append_assoc (packed_head head) (packed_events evs) (packed_events events) ∙ ap (λ (t : List ℕ). packed_head head ++ t) (sym (events_append evs events)) in
-        subst (λ (t : List ℕ). object.StandsAt new t (s.object_out ++ l.more)) joined (l.stands (packed_head head ++ packed_events evs) s.object_out s.stands);
+        subst (λ (t : List ℕ). object.HasWritten new t (s.object_out ++ l.more)) joined (l.stands (packed_head head ++ packed_events evs) s.object_out s.stands);
     out_is = ap (λ (t : List ℕ). t ++ l.more) s.out_is ∙ append_assoc (canonical_stream fields) s.object_out l.more;
   };
 }

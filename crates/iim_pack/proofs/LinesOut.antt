@@ -1,14 +1,14 @@
 -- Lines packed one after another.
 use Rattle.std.proofs.Common.{◌≡◌, ℕ, ◌+◌, ◌≤◌, Bool, true, false, None, List, [], ◌∷◌, ◌++◌, length, map, refl, sym, ap, subst, ◌∙◌, arith, append_assoc, append-nil, length-append}
 use Rattle.std.proofs.lemmas.Bool.{le-leb}
-use Rattle.iim_dataset.specs.Format.Devices.{Device}
-use Rattle.iim_dataset.specs.Format.DeviceLaws.{TextsJoin}
-use Rattle.iim_object.specs.Format.Writing.{most_of, total_of, Begins}
+use Rattle.iim_dataset.specs.States.Devices.{Device}
+use Rattle.iim_dataset.specs.Laws.Devices.{TextsJoin}
+use Rattle.iim_object.specs.States.Writing.{most_of, total_of, Begins}
 use Rattle.wire_story.specs.Format.Texts.{IsLine}
 use Rattle.wire_story.specs.Format.Delivery.{StoryEvent, LineOctet, LineEnd, events_of_lines}
 use Rattle.wire_story.specs.Format.Packing.{packed_events}
-use Rattle.iim_pack.specs.Format.Packing.{Packing, StandsAt, Lengthens, BreaksOff, ContinuesWith, FormWith, text_cause, line_end_cause}
-use Rattle.iim_pack.specs.Format.Whole.{line_events}
+use Rattle.iim_pack.specs.States.Packing.{Packing, HasPacked, Lengthens, BreaksOff, ContinuesWith, FormWith, text_cause, line_end_cause}
+use Rattle.iim_pack.specs.States.Whole.{line_events}
 use Rattle.iim_pack.proofs.Goings.{events_append}
 
 pub goes_nowhere : {W : Type 0} (state : W → Device) (k : Packing W) → TextsJoin → k.object.failed ≡ false → Lengthens state k k []
@@ -19,7 +19,7 @@ goes_nowhere state k join unfailed = record {
   total = omega arith;
   unfailed = unfailed;
   plan = refl;
-  stands = λ fields head evs plan out s. subst (λ (e : List StoryEvent). StandsAt k fields head e plan (out ++ [])) (sym (append-nil evs)) (subst (StandsAt k fields head evs plan) (sym (append-nil out)) s);
+  stands = λ fields head evs plan out s. subst (λ (e : List StoryEvent). HasPacked k fields head e plan (out ++ [])) (sym (append-nil evs)) (subst (HasPacked k fields head evs plan) (sym (append-nil out)) s);
 }
 
 pub leads_on : {W : Type 0} (state : W → Device) (a b c : Packing W) (xs ys : List StoryEvent) → TextsJoin → Lengthens state a b xs → Lengthens state b c ys → Lengthens state a c (xs ++ ys)
@@ -31,8 +31,8 @@ leads_on state a b c xs ys join l m = record {
   unfailed = m.unfailed;
   plan = m.plan ∙ l.plan;
   stands = λ fields head evs plan out s.
-      subst (λ (e : List StoryEvent). StandsAt c fields head e plan (out ++ (l.more ++ m.more))) (append_assoc evs xs ys)
-      (subst (StandsAt c fields head ((evs ++ xs) ++ ys) plan) (append_assoc out l.more m.more) (m.stands fields head (evs ++ xs) plan (out ++ l.more) (l.stands fields head evs plan out s)));
+      subst (λ (e : List StoryEvent). HasPacked c fields head e plan (out ++ (l.more ++ m.more))) (append_assoc evs xs ys)
+      (subst (HasPacked c fields head ((evs ++ xs) ++ ys) plan) (append_assoc out l.more m.more) (m.stands fields head (evs ++ xs) plan (out ++ l.more) (l.stands fields head evs plan out s)));
 }
 
 pub breaks_later : {W : Type 0} (state : W → Device) (a b c : Packing W) (xs ys : List StoryEvent) → TextsJoin → Lengthens state a b xs → BreaksOff state (ContinuesWith ys) b c → BreaksOff state (ContinuesWith (xs ++ ys)) a c

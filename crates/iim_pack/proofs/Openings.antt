@@ -3,19 +3,19 @@ use Rattle.std.proofs.Common.{◌≡◌, ℕ, ◌+◌, ◌^◌, ◌<◌, ◌≤�
 use Rattle.std.proofs.lemmas.List.{take-append-drop}
 use Rattle.std.proofs.lemmas.Bool.{le-leb, cases_lt, lt-ltb, le-ltb}
 use Rattle.std.specs.Io.KnownBytes.{Appends}
-use Rattle.iim_dataset.specs.Format.Devices.{Device, Wrote, Stopped, Broke}
-use Rattle.iim_dataset.specs.Format.DeviceLaws.{TextsJoin}
+use Rattle.iim_dataset.specs.States.Devices.{Device, Wrote, Stopped, Broke}
+use Rattle.iim_dataset.specs.Laws.Devices.{TextsJoin}
 use Rattle.iim_dataset.specs.Format.Datasets.{canonical_stream}
 use Rattle.iim_object.specs.Format.Packing.{IsWritten, plan_datasets, subfile_datasets, confirmed_datasets}
 use Rattle.iim_object.specs.Format.Plans.{most_sizes}
 use Rattle.iim_object.proofs.PlanLengths.{plan_length}
 use Rattle.iim_object.specs.Format.Cuts.{joined_parts}
-use Rattle.iim_object.specs.Format.Writing.{Writing, StandsAt, Lengthens, BreaksOff, ContinuesWith, Begins, most_of, total_of, plan_octets, write_cause}
+use Rattle.iim_object.specs.States.Writing.{Writing, HasWritten, Lengthens, BreaksOff, ContinuesWith, Begins, most_of, total_of, plan_octets, write_cause}
 use Rattle.iim_object.specs.declared.plan.Plan.{Plan}
-use Rattle.iim_object.specs.declared.cause.StartFault.{StartFault}
-use Rattle.iim_object.specs.declared.cause.PackCause.TheVariants as causes
-use Rattle.iim_pack.specs.Starting.{Opens, IsWrittenFrom}
-use Rattle.iim_pack.specs.Format.Starting.{Halts}
+use Rattle.iim_object.specs.declared.writing.cause.StartFault.{StartFault}
+use Rattle.iim_object.specs.declared.writing.cause.PackCause.TheVariants as causes
+use Rattle.iim_pack.specs.Opening.{Opens, IsWrittenFrom}
+use Rattle.iim_pack.specs.States.Starting.{StartBreaksOff}
 use Rattle.iim_pack.proofs.FieldsOut.{stream_append}
 
 front_length : (n : ℕ) (text : List ℕ) → n < length text → length (take n text) ≡ n
@@ -35,7 +35,7 @@ whole_begins plan xs whole w = w.octets_are ∙ stream_append (plan_datasets pla
 
 -- record 7 could not be written
 pub not_begun : {W : Type 0} (state : W → Device) (writer : W) (plan : Plan) (front : List ℕ) (fault : StartFault W) → fault.cause ≡ causes.Write → Stopped (state writer) (state fault.writer) (plan_octets plan) fault.written
-    → Halts state (IsWrittenFrom plan front) writer fault
+    → StartBreaksOff state (IsWrittenFrom plan front) writer fault
 not_begun state writer plan front fault cause s = record {
   cause_is = cause;
   out = take fault.written (plan_octets plan);
@@ -45,7 +45,7 @@ not_begun state writer plan front fault cause s = record {
   begins = λ whole w. begins_by (plan_octets plan) (canonical_stream (subfile_datasets w.1.parts ++ confirmed_datasets (front ++ w.0))) whole fault.written (whole_begins plan (front ++ w.0) whole w.1);
 }
 
-pub opened : {W : Type 0} (state : W → Device) (writer : W) (plan : Plan) (front : List ℕ) (first new : Writing W) → TextsJoin → first.plan ≡ plan → StandsAt first [] (plan_octets plan) → Wrote (state writer) (state first.writer) (plan_octets plan)
+pub opened : {W : Type 0} (state : W → Device) (writer : W) (plan : Plan) (front : List ℕ) (first new : Writing W) → TextsJoin → first.plan ≡ plan → HasWritten first [] (plan_octets plan) → Wrote (state writer) (state first.writer) (plan_octets plan)
     → Lengthens state first new front → Opens state writer plan front new
 opened state writer plan front first new join is_plan s wrote l = record {
   out = plan_octets plan ++ l.more;
@@ -57,9 +57,9 @@ opened state writer plan front first new join is_plan s wrote l = record {
 }
 
 -- the octets of the beginning could not be written
-pub opening_broke : {W : Type 0} (state : W → Device) (writer : W) (plan : Plan) (front : List ℕ) (first new : Writing W) (fault : StartFault W) → TextsJoin → first.plan ≡ plan → StandsAt first [] (plan_octets plan)
+pub opening_broke : {W : Type 0} (state : W → Device) (writer : W) (plan : Plan) (front : List ℕ) (first new : Writing W) (fault : StartFault W) → TextsJoin → first.plan ≡ plan → HasWritten first [] (plan_octets plan)
     → Wrote (state writer) (state first.writer) (plan_octets plan) → BreaksOff state (ContinuesWith first.plan front) first new → fault.cause ≡ causes.Write → fault.writer ≡ new.writer → fault.written ≡ new.written
-    → Halts state (IsWrittenFrom plan front) writer fault
+    → StartBreaksOff state (IsWrittenFrom plan front) writer fault
 opening_broke state writer plan front first new fault join is_plan s wrote k cause handed written = record {
   cause_is = cause;
   out = plan_octets plan ++ k.more;
@@ -70,7 +70,7 @@ opening_broke state writer plan front first new fault join is_plan s wrote k cau
   begins = λ whole w. k.begins [] (plan_octets plan) whole s (w.0, subst (λ (p : Plan). IsWritten p.subfile p.size (front ++ w.0) whole) (sym is_plan) w.1);
 }
 
-pub may_open : {W : Type 0} (w : Writing W) (plan : Plan) (front : List ℕ) → w.plan ≡ plan → StandsAt w [] (plan_octets plan) → length front ≤ most_of plan → write_cause w (length front) ≡ None
+pub may_open : {W : Type 0} (w : Writing W) (plan : Plan) (front : List ℕ) → w.plan ≡ plan → HasWritten w [] (plan_octets plan) → length front ≤ most_of plan → write_cause w (length front) ≡ None
 may_open w plan front is_plan s fits =
     let nothing : total_of w ≡ 0 = omega (arith, s.sent, ap length s.object_is, length-append (joined_parts s.parts) w.held) in
     let le : total_of w + length front ≤ most_of w.plan = subst (λ (p : Plan). total_of w + length front ≤ most_of p) (sym is_plan) (omega (arith, nothing, fits)) in

@@ -1,27 +1,27 @@
 -- How a packer begins.
 use Rattle.std.proofs.Common.{◌≡◌, ℕ, ◌+◌, List, [], ◌++◌, length, take, refl, sym, subst, ◌∙◌, arith, append-nil, length-append, length-take}
-use Rattle.iim_dataset.specs.Format.Devices.{Device, Wrote, Stopped, Broke}
+use Rattle.iim_dataset.specs.States.Devices.{Device, Wrote, Stopped, Broke}
 use Rattle.std.specs.Io.KnownBytes.{Appends}
-use Rattle.iim_dataset.specs.Format.DeviceLaws.{TextsJoin}
+use Rattle.iim_dataset.specs.Laws.Devices.{TextsJoin}
 use Rattle.iim_dataset.specs.Format.Datasets.{Dataset, canonical_stream}
-use Rattle.iim_fields.specs.Format.Builders.{IsEnvelope}
-use Rattle.iim_object.specs.Format.Writing as object
-use Rattle.iim_object.specs.Format.Writing.{Writing, Begins}
+use Rattle.iim_fields.specs.Format.Envelopes.{IsEnvelope}
+use Rattle.iim_object.specs.States.Writing as object
+use Rattle.iim_object.specs.States.Writing.{Writing, Begins}
 use Rattle.iim_object.specs.declared.plan.Plan.{Plan}
-use Rattle.iim_object.specs.declared.cause.StartFault.{StartFault}
-use Rattle.iim_object.specs.declared.cause.PackCause.TheVariants as causes
+use Rattle.iim_object.specs.declared.writing.cause.StartFault.{StartFault}
+use Rattle.iim_object.specs.declared.writing.cause.PackCause.TheVariants as causes
 use Rattle.wire_story.specs.Format.Texts.{packed_text}
 use Rattle.wire_message.specs.Format.Messages.{Header, IsHeader}
 use Rattle.wire_message.specs.Format.Canonical.{packed_head, packed_tail}
-use Rattle.iim_pack.specs.Format.Packing.{FormWith}
-use Rattle.iim_pack.specs.Starting.{Opens, IsWrittenFrom}
-use Rattle.iim_pack.specs.Format.Starting.{Halts, Starts}
+use Rattle.iim_pack.specs.States.Packing.{FormWith}
+use Rattle.iim_pack.specs.Opening.{Opens, IsWrittenFrom}
+use Rattle.iim_pack.specs.States.Starting.{StartBreaksOff, Starts}
 use Rattle.iim_pack.proofs.Goings.{begins_after}
 use Rattle.iim_pack.proofs.Openings.{begins_by}
 
 -- records 1 and 2 could not be written
 pub fields_broke : {W : Type 0} (state : W → Device) (writer : W) (fields : List Dataset) (head : Header) (plan : Plan) (fault : StartFault W) → fault.cause ≡ causes.Write
-    → Stopped (state writer) (state fault.writer) (canonical_stream fields) fault.written → Halts state (FormWith fields head plan []) writer fault
+    → Stopped (state writer) (state fault.writer) (canonical_stream fields) fault.written → StartBreaksOff state (FormWith fields head plan []) writer fault
 fields_broke state writer fields head plan fault cause s = record {
   cause_is = cause;
   out = take fault.written (canonical_stream fields);
@@ -33,8 +33,8 @@ fields_broke state writer fields head plan fault cause s = record {
 
 -- the object could not be begun after them
 pub object_broke : {W : Type 0} (state : W → Device) (writer first : W) (fields : List Dataset) (head : Header) (plan : Plan) (before : ℕ) (fault new : StartFault W) → TextsJoin → Wrote (state writer) (state first) (canonical_stream fields)
-    → before ≡ length (canonical_stream fields) → Halts state (IsWrittenFrom plan (packed_head head)) first fault → new.cause ≡ fault.cause → new.writer ≡ fault.writer → new.written ≡ before + fault.written
-    → Halts state (FormWith fields head plan []) writer new
+    → before ≡ length (canonical_stream fields) → StartBreaksOff state (IsWrittenFrom plan (packed_head head)) first fault → new.cause ≡ fault.cause → new.writer ≡ fault.writer → new.written ≡ before + fault.written
+    → StartBreaksOff state (FormWith fields head plan []) writer new
 object_broke state writer first fields head plan before fault new join wrote counted h cause handed written = record {
   cause_is = cause ∙ h.cause_is;
   out = canonical_stream fields ++ h.out;
@@ -62,7 +62,7 @@ started state writer first fields head plan before new join envelope header wrot
     is_plan = o.is_plan;
     before = counted;
     object_out = o.out;
-    stands = subst (λ (t : List ℕ). object.StandsAt new t o.out) (sym (append-nil (packed_head head))) o.stands;
+    stands = subst (λ (t : List ℕ). object.HasWritten new t o.out) (sym (append-nil (packed_head head))) o.stands;
     out_is = refl;
   };
 }

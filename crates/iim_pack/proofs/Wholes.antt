@@ -1,24 +1,25 @@
 -- A whole envelope packed in one call.
 use Rattle.std.proofs.Common.{◌≡◌, ℕ, ◌+◌, ◌≤◌, true, false, not, nat_le, None, inl, inr, List, [], ◌∷◌, ◌++◌, length, refl, sym, ap, subst, ◌∙◌, arith, append-nil, length-append}
 use Rattle.std.proofs.lemmas.Bool.{leb-true, le-leb}
-use Rattle.iim_dataset.specs.Format.Devices.{Device, Wrote}
-use Rattle.iim_dataset.specs.Format.DeviceLaws.{TextsJoin, BrokeAfter}
+use Rattle.iim_dataset.specs.States.Devices.{Device, Wrote, BrokeAfter}
+use Rattle.iim_dataset.specs.Laws.Devices.{TextsJoin}
 use Rattle.iim_dataset.specs.Format.Datasets.{Dataset}
-use Rattle.iim_object.specs.Format.Writing.{Begins, most_of, total_of, is_short}
+use Rattle.iim_object.specs.States.Writing.{Begins, most_of, total_of, is_short}
 use Rattle.iim_object.specs.declared.plan.Plan.{Plan}
-use Rattle.iim_object.specs.declared.cause.StartFault.{StartFault}
-use Rattle.iim_object.specs.declared.cause.PackCause.TheVariants as causes
+use Rattle.iim_object.specs.declared.writing.cause.StartFault.{StartFault}
+use Rattle.iim_object.specs.declared.writing.cause.PackCause.TheVariants as causes
 use Rattle.wire_story.specs.Format.Texts.{packed_text, MakeText}
 use Rattle.wire_story.specs.Format.Delivery.{StoryEvent, events_of_lines}
-use Rattle.wire_story.specs.Format.Collecting.{collect}
-use Rattle.wire_story.specs.Format.Laws.{PackedLinesAreAText, TextsAreDeliveredAsLines, TextsAreCollectedAsLines}
-use Rattle.wire_story.specs.Format.Packing.{packed_events, lines_of, LinesArePackedAsTheirEvents}
+use Rattle.wire_story.specs.States.Collecting.{collect}
+use Rattle.wire_story.specs.Laws.Texts.{PackedLinesAreAText, TextsAreDeliveredAsLines, TextsAreCollectedAsLines}
+use Rattle.wire_story.specs.Format.Packing.{packed_events, lines_of}
+use Rattle.wire_story.specs.Laws.Packing.{LinesArePackedAsTheirEvents}
 use Rattle.wire_message.specs.Format.Messages.{Header}
 use Rattle.wire_message.specs.Format.Canonical.{packed_head, packed_tail, canonical}
 use Rattle.iim_pack.specs.Format.Packed.{Packed}
-use Rattle.iim_pack.specs.Format.Packing.{Packing, Lengthens, BreaksOff, ContinuesWith, EndsIn, Finishes, is_trailer, is_past, pack_cause, start_cause, finish_cause, least_ending, written_of}
-use Rattle.iim_pack.specs.Format.Starting.{Starts, Halts, IsStartFault}
-use Rattle.iim_pack.specs.Format.Whole.{Packs, IsPackFault}
+use Rattle.iim_pack.specs.States.Packing.{Packing, Lengthens, BreaksOff, ContinuesWith, EndsIn, Finishes, is_trailer, is_past, pack_cause, start_cause, finish_cause, least_ending, written_of}
+use Rattle.iim_pack.specs.States.Starting.{Starts, StartBreaksOff, IsStartFault}
+use Rattle.iim_pack.specs.States.Whole.{Packs, IsPackFault}
 use Rattle.iim_pack.proofs.Finishings.{first_none, not_false}
 
 -- the lines of the events of lines are these
@@ -39,7 +40,7 @@ packs state writer last fields head lines trailer plan a b join again s l f = re
 -- a write failed after a beginning
 pub halts_after : {W : Type 0} (state : W → Device) (Form : List ℕ → Type 0) (writer middle : W) (fault : StartFault W) (out more : List ℕ) (before : ℕ) → TextsJoin → Wrote (state writer) (state middle) out
     → BrokeAfter (state middle) (state fault.writer) more → fault.cause ≡ causes.Write → fault.written ≡ before + length more → before ≡ length out
-    → ((whole : List ℕ) → Form whole → Begins (out ++ more) whole) → Halts state Form writer fault
+    → ((whole : List ℕ) → Form whole → Begins (out ++ more) whole) → StartBreaksOff state Form writer fault
 halts_after state Form writer middle fault out more before join wrote broke cause written counted begins = record {
   cause_is = cause;
   out = out ++ more;
@@ -51,7 +52,7 @@ halts_after state Form writer middle fault out more before join wrote broke caus
 
 pub lines_broke : {W : Type 0} (state : W → Device) (writer : W) (fields : List Dataset) (head : Header) (lines : List (List ℕ)) (trailer : List ℕ) (plan : Plan) (a b : Packing W) (fault : StartFault W) → TextsJoin
     → Starts state writer fields head plan a → BreaksOff state (ContinuesWith (events_of_lines lines)) a b → fault.cause ≡ causes.Write → fault.writer ≡ b.object.writer → fault.written ≡ written_of b
-    → Halts state (Packed fields head lines trailer plan) writer fault
+    → StartBreaksOff state (Packed fields head lines trailer plan) writer fault
 lines_broke state writer fields head lines trailer plan a b fault join s k cause handed written =
     halts_after state (Packed fields head lines trailer plan) writer a.object.writer fault s.out k.more (written_of a) join s.wrote
     (subst (λ w. BrokeAfter (state a.object.writer) (state w) k.more) (sym handed) (k.appends, k.broke)) cause (written ∙ k.counted) s.counted
@@ -59,7 +60,7 @@ lines_broke state writer fields head lines trailer plan a b fault join s k cause
 
 pub finish_broke : {W : Type 0} (state : W → Device) (writer : W) (fields : List Dataset) (head : Header) (lines : List (List ℕ)) (trailer : List ℕ) (plan : Plan) (a b d : Packing W) (fault : StartFault W) → TextsJoin → lines_of (events_of_lines lines) ≡ lines
     → Starts state writer fields head plan a → Lengthens state a b (events_of_lines lines) → BreaksOff state (EndsIn trailer) b d → fault.cause ≡ causes.Write → fault.writer ≡ d.object.writer → fault.written ≡ written_of d
-    → Halts state (Packed fields head lines trailer plan) writer fault
+    → StartBreaksOff state (Packed fields head lines trailer plan) writer fault
 finish_broke state writer fields head lines trailer plan a b d fault join again s l k cause handed written =
     let wrote = join.more (state writer) (state a.object.writer) (state b.object.writer) s.out l.more s.wrote l.wrote in
     halts_after state (Packed fields head lines trailer plan) writer b.object.writer fault (s.out ++ l.more) k.more (written_of b) join wrote

@@ -1,8 +1,8 @@
 -- The end of an object: its last octets, and what follows them.
 use Rattle.std.specs.Prelude.{ℕ, List, ◌++◌}
-use Rattle.iim_dataset.specs.Format.Devices.{Device, Wrote}
+use Rattle.iim_dataset.specs.States.Devices.{Device, Wrote}
 use Rattle.iim_object.specs.Format.Packing.{IsWritten}
-use Rattle.iim_object.specs.Format.Writing.{Writing, StandsAt}
+use Rattle.iim_object.specs.States.Writing.{Writing, HasWritten}
 use Rattle.iim_object.specs.declared.plan.Plan.{Plan}
 
 -- what is written of the object with its last octets
@@ -13,4 +13,4 @@ EndsWithTail plan tail object whole = IsWritten plan.subfile plan.size (object +
 pub record Ends {W : Type 0} (state : W → Device) (old : Writing W) (tail : List ℕ) (writer : W) : Type 0 where
   pub more : List ℕ
   pub wrote : Wrote (state old.writer) (state writer) more
-  pub whole : (object out : List ℕ) → StandsAt old object out → IsWritten old.plan.subfile old.plan.size (object ++ tail) (out ++ more)
+  pub whole : (object out : List ℕ) → HasWritten old object out → IsWritten old.plan.subfile old.plan.size (object ++ tail) (out ++ more)

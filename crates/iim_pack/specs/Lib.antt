@@ -1,5 +1,9 @@
--- What the promises cite: a reader has to believe these.
+-- What octets are, and what is said of them.
 pub mod Format
+-- Where readers and writers stand.
+pub mod States
+-- What holds of these: statements, each the contract of a law.
+pub mod Laws
 -- What only proofs and private clauses cite.
 pub mod Ending
-pub mod Starting
+pub mod Opening

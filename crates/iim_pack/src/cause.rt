@@ -2,9 +2,9 @@
 
 ghost use Rattle.std.specs.Prelude.{◌≡◌, ◌≤◌};
 ghost use Rattle.iim_dataset.specs.Format.Octets.{greatest_size};
-ghost use Rattle.iim_object.specs.Format.Writing.{is_short};
-ghost use Rattle.iim_pack.specs.Format.Packing.{is_past, ending_cause};
-ghost use Rattle.iim_pack.specs.Format.Packing as words;
+ghost use Rattle.iim_object.specs.States.Writing.{is_short};
+ghost use Rattle.iim_pack.specs.States.Packing.{is_past, ending_cause};
+ghost use Rattle.iim_pack.specs.States.Packing as words;
 
 use iim_object::{PackCause, Plan, Size};
 use wire_message::is_trailer;

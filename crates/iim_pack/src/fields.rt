@@ -2,8 +2,8 @@
 
 ghost use Rattle.std.specs.Prelude.{◌≡◌, ◌+◌, ◌<◌, ◌^◌, length, IfOk, IfErr, OnOk};
 ghost use Rattle.iim_dataset.specs.Format.Datasets.{canonical_dataset, canonical_stream};
-ghost use Rattle.iim_dataset.specs.Format.Devices.{Wrote, Stopped};
-ghost use Rattle.iim_fields.specs.Format.Builders.{IsEnvelope};
+ghost use Rattle.iim_dataset.specs.States.Devices.{Wrote, Stopped};
+ghost use Rattle.iim_fields.specs.Format.Envelopes.{IsEnvelope};
 
 use iim_dataset::device_laws::texts_join;
 use iim_dataset::{Head, Target, head_bytes, put};
@@ -11,9 +11,12 @@ use iim_fields::Envelope;
 
 /// Writes a dataset in its canonical spelling. Both answers tell how many octets are out.
 fn put_dataset<W: Target>(writer: &mut W, rec: u8, set: u8, octets: &[u8]) -> Result<u64, u64>
-    ensures ok { OnOk result (Wrote (W.state writer.old) (W.state writer.new) (canonical_dataset record { rec = rec; set = set; octets = octets.now })) }
-    ensures all { IfOk result (λ out. out ≡ length (canonical_dataset record { rec = rec; set = set; octets = octets.now })) }
-    ensures err { IfErr result (Stopped (W.state writer.old) (W.state writer.new) (canonical_dataset record { rec = rec; set = set; octets = octets.now })) }
+    ensures ok { OnOk result (Wrote (W.state writer.old) (W.state writer.new)
+        (canonical_dataset record { rec = rec; set = set; octets = octets.now })) }
+    ensures all { IfOk result (λ out. out
+        ≡ length (canonical_dataset record { rec = rec; set = set; octets = octets.now })) }
+    ensures err { IfErr result (Stopped (W.state writer.old) (W.state writer.new)
+        (canonical_dataset record { rec = rec; set = set; octets = octets.now })) }
 {
     texts_join();
     let count = octets.len() as u64;

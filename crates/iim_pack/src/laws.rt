@@ -1,6 +1,6 @@
 //! What holds of all packed octets. The functions do nothing: their contracts are the laws.
 
-ghost use Rattle.iim_pack.specs.Format.Laws.{PackedOctetsAreFew, PackedOctetsAreOne, PackedOctetsCarryTheValue, PackedSubfilesAreFew};
+ghost use Rattle.iim_pack.specs.Laws.Packed.{PackedOctetsAreFew, PackedOctetsAreOne, PackedOctetsCarryTheValue, PackedSubfilesAreFew};
 
 use iim_dataset::laws::canonical_streams_are_spelled;
 use iim_object::laws::{

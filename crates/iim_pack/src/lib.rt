@@ -15,9 +15,9 @@ pub mod laws;
 mod lines;
 mod opening;
 mod packer;
+mod packing;
 mod size;
-mod whole;
 
 pub use packer::Packer;
+pub use packing::pack;
 pub use size::packed_size;
-pub use whole::pack;

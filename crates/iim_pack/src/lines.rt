@@ -1,13 +1,13 @@
 //! Lines, packed one after another.
 
 ghost use Rattle.std.specs.Prelude.{◌≡◌, ◌+◌, ◌≤◌, false, length, OnOk, OnErr, IfErr};
-ghost use Rattle.iim_object.specs.Format.Writing.{most_of, total_of};
-ghost use Rattle.iim_object.specs.declared.cause.PackCause.TheVariants as causes;
+ghost use Rattle.iim_object.specs.States.Writing.{most_of, total_of};
+ghost use Rattle.iim_object.specs.declared.writing.cause.PackCause.TheVariants as causes;
 ghost use Rattle.wire_story.specs.Format.Texts.{IsLine, MakeText};
 ghost use Rattle.wire_story.specs.Format.Packing.{packed_events};
 ghost use Rattle.wire_story.specs.Format.Delivery.{events_of_lines};
-ghost use Rattle.iim_pack.specs.Format.Packing.{Lengthens, BreaksOff, ContinuesWith, least_ending};
-ghost use Rattle.iim_pack.specs.Format.Whole.{line_events};
+ghost use Rattle.iim_pack.specs.States.Packing.{Lengthens, BreaksOff, ContinuesWith, least_ending};
+ghost use Rattle.iim_pack.specs.States.Whole.{line_events};
 
 use crate::packer::Packer;
 use iim_dataset::Target;
@@ -19,10 +19,12 @@ use wire_story::Lines;
 fn put_line<W: Target>(packer: &mut Packer<W>, line: &[u8], is_first: bool) -> Result<(), PackCause>
     requires line { IsLine line.now }
     requires unfailed { packer.old.object.failed ≡ false }
-    requires fits { total_of packer.old.object + (length (packed_events (line_events is_first line.now)) + least_ending) ≤ most_of packer.old.object.plan }
+    requires fits { total_of packer.old.object + (length (packed_events (line_events is_first line.now)) + least_ending)
+        ≤ most_of packer.old.object.plan }
     ensures ok { OnOk result (Lengthens W.state packer.old packer.new (line_events is_first line.now)) }
     ensures cause { IfErr result (λ cause. cause ≡ causes.Write) }
-    ensures broke { OnErr result (BreaksOff W.state (ContinuesWith (line_events is_first line.now)) packer.old packer.new) }
+    ensures broke { OnErr result (BreaksOff W.state (ContinuesWith (line_events is_first line.now)) packer.old
+        packer.new) }
 {
     texts_join();
     if is_first {
@@ -37,10 +39,12 @@ fn put_line<W: Target>(packer: &mut Packer<W>, line: &[u8], is_first: bool) -> R
 /// Packs all lines.
 pub(crate) fn put_lines<W: Target>(packer: &mut Packer<W>, lines: &Lines) -> Result<(), PackCause>
     requires unfailed { packer.old.object.failed ≡ false }
-    requires fits { total_of packer.old.object + (length (packed_events (events_of_lines lines.now.lines)) + least_ending) ≤ most_of packer.old.object.plan }
+    requires fits { total_of packer.old.object
+        + (length (packed_events (events_of_lines lines.now.lines)) + least_ending) ≤ most_of packer.old.object.plan }
     ensures ok { OnOk result (Lengthens W.state packer.old packer.new (events_of_lines lines.now.lines)) }
     ensures cause { IfErr result (λ cause. cause ≡ causes.Write) }
-    ensures broke { OnErr result (BreaksOff W.state (ContinuesWith (events_of_lines lines.now.lines)) packer.old packer.new) }
+    ensures broke { OnErr result (BreaksOff W.state (ContinuesWith (events_of_lines lines.now.lines)) packer.old
+        packer.new) }
     ensures made { MakeText lines.now.lines }
 {
     texts_join();

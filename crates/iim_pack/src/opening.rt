@@ -2,9 +2,9 @@
 
 ghost use Rattle.std.specs.Prelude.{◌≡◌, ◌+◌, ◌<◌, ◌≤◌, ◌^◌, length, IfOk, IfErr};
 ghost use Rattle.iim_object.specs.Format.Plans.{most_out};
-ghost use Rattle.iim_object.specs.Format.Writing.{most_of, room_of};
-ghost use Rattle.iim_pack.specs.Starting.{Opens, IsWrittenFrom};
-ghost use Rattle.iim_pack.specs.Format.Starting.{Halts};
+ghost use Rattle.iim_object.specs.States.Writing.{most_of, room_of};
+ghost use Rattle.iim_pack.specs.Opening.{Opens, IsWrittenFrom};
+ghost use Rattle.iim_pack.specs.States.Starting.{StartBreaksOff};
 
 use iim_dataset::Target;
 use iim_dataset::device_laws::texts_join;
@@ -19,7 +19,7 @@ pub(crate) fn open_object<W: Target>(
     requires { length front.now ≤ most_of buffer }
     ensures ok { IfOk result (Opens W.state writer buffer front.now) }
     ensures room { IfOk result (λ object. object.room ≡ room_of buffer) }
-    ensures err { IfErr result (Halts W.state (IsWrittenFrom buffer front.now) writer) }
+    ensures err { IfErr result (StartBreaksOff W.state (IsWrittenFrom buffer front.now) writer) }
     ensures small { IfErr result (λ fault. fault.written < most_out) }
 {
     texts_join();

@@ -2,12 +2,12 @@
 
 ghost use Rattle.std.specs.Prelude.{◌≡◌, ◌<◌, ◌^◌, [], ◌∷◌, map, IfOk, IfErr, OnOk, OnErr, IfSome, IfNone, MatchResult, Err};
 ghost use Rattle.wire_story.specs.Format.Delivery.{LineOctet, LineEnd};
-ghost use Rattle.iim_pack.specs.Format.Packing.{Lengthens, BreaksOff, ContinuesWith, EndsIn, Finishes, start_cause, text_cause, line_end_cause, finish_cause, written_of};
-ghost use Rattle.iim_pack.specs.Format.Starting.{Starts, StartIsRefused, IsStartFault};
-ghost use Rattle.iim_pack.specs.Format.Begun.{HasBegun, ContinuesBegun, EndsBegun};
+ghost use Rattle.iim_pack.specs.States.Packing.{Lengthens, BreaksOff, ContinuesWith, EndsIn, Finishes, start_cause, text_cause, line_end_cause, finish_cause, written_of};
+ghost use Rattle.iim_pack.specs.States.Starting.{Starts, StartIsRefused, IsStartFault};
+ghost use Rattle.iim_pack.specs.States.Begun.{HasBegun, ContinuesBegun, EndsBegun};
 ghost use Rattle.iim_pack.specs.Format.Orders.{IsFirstOf, AgainstStart, AgainstText, AgainstLineEnd, AgainstFinish};
-ghost use Rattle.iim_object.specs.Format.Writing.{room_of};
-ghost use Rattle.iim_object.specs.declared.cause.PackCause.TheVariants as causes;
+ghost use Rattle.iim_object.specs.States.Writing.{room_of};
+ghost use Rattle.iim_object.specs.declared.writing.cause.PackCause.TheVariants as causes;
 
 use crate::cause::{LEAST_ENDING, ending_cause, is_past};
 use crate::ending::end_object;
@@ -33,7 +33,7 @@ use wire_story::{LINE_END, is_text};
 /// memory for just those, in one request, and no later call asks for any. All else that it has is of a fixed size, below 256
 /// octets: the plan, four counts, whether a write failed, and what it writes to.
 ///
-/// Contracts see it as how many octets records 1 and 2 have, and the writer of its object. `HasBegun` (`specs/Format/Begun.antt`)
+/// Contracts see it as how many octets records 1 and 2 have, and the writer of its object. `HasBegun` (`specs/States/Begun.antt`)
 /// says what it has taken and what is out.
 #[derive(Drop)]
 pub struct Packer<W> {
@@ -43,7 +43,7 @@ pub struct Packer<W> {
 
 impl<W> Model for Packer<W> {
     ghost use Rattle.std.specs.Prelude.{◌<◌, ◌^◌};
-    ghost use Rattle.iim_pack.specs.Format.Packing.{Packing};
+    ghost use Rattle.iim_pack.specs.States.Packing.{Packing};
 
     ghost Value = { Packing W };
 
@@ -65,11 +65,13 @@ impl<W: Target> Packer<W> {
         plan: Plan,
         mut writer: W,
     ) -> Result<Packer<W>, StartFault<W>>
-        ensures refused { IfSome (start_cause head.now plan) (λ cause. MatchResult result (λ _. ⊥) (StartIsRefused cause writer)) }
+        ensures refused { IfSome (start_cause head.now plan)
+            (λ cause. MatchResult result (λ _. ⊥) (StartIsRefused cause writer)) }
         ensures order { IsFirstOf (AgainstStart head.now plan) (causes.PastAnnounced ∷ []) (start_cause head.now plan) }
         ensures ok { IfOk result (Starts W.state writer envelope.now head.now plan) }
         ensures begun { IfOk result (λ k. HasBegun W.state (W.state writer) k envelope.now head.now [] plan) }
-        ensures fault { IfNone (start_cause head.now plan) (IfErr result (IsStartFault W.state envelope.now head.now plan writer)) }
+        ensures fault { IfNone (start_cause head.now plan)
+            (IfErr result (IsStartFault W.state envelope.now head.now plan writer)) }
         ensures room { IfOk result (λ k. k.object.room ≡ room_of plan) }
     {
         lines_are_packed_as_their_events();
@@ -119,8 +121,10 @@ impl<W: Target> Packer<W> {
     /// not: `line_end` writes them); `PastAnnounced` where the object so far, these octets and the least ending pass the plan's
     /// bound; `Write` where a write failed. But for the last, nothing is written and nothing changes.
     pub fn text(&mut self, octets: &[u8]) -> Result<(), PackCause>
-        ensures refused { IfSome (text_cause self.old octets.now) (λ cause. (result ≡ Err cause) × (self.new ≡ self.old)) }
-        ensures order { IsFirstOf (AgainstText self.old octets.now) (causes.Failed ∷ causes.BadTextOctet ∷ causes.PastAnnounced ∷ []) (text_cause self.old octets.now) }
+        ensures refused { IfSome (text_cause self.old octets.now)
+            (λ cause. (result ≡ Err cause) × (self.new ≡ self.old)) }
+        ensures order { IsFirstOf (AgainstText self.old octets.now)
+            (causes.Failed ∷ causes.BadTextOctet ∷ causes.PastAnnounced ∷ []) (text_cause self.old octets.now) }
         ensures ok { OnOk result (Lengthens W.state self.old self.new (map LineOctet octets.now)) }
         ensures begun { OnOk result (ContinuesBegun W.state self.old self.new (map LineOctet octets.now)) }
         ensures cause { IfNone (text_cause self.old octets.now) (IfErr result (λ cause. cause ≡ causes.Write)) }
@@ -152,11 +156,13 @@ impl<W: Target> Packer<W> {
     /// ending pass the plan's bound; `Write` where a write failed. But for the last, nothing is written and nothing changes.
     pub fn line_end(&mut self) -> Result<(), PackCause>
         ensures refused { IfSome (line_end_cause self.old) (λ cause. (result ≡ Err cause) × (self.new ≡ self.old)) }
-        ensures order { IsFirstOf (AgainstLineEnd self.old) (causes.Failed ∷ causes.PastAnnounced ∷ []) (line_end_cause self.old) }
+        ensures order { IsFirstOf (AgainstLineEnd self.old) (causes.Failed ∷ causes.PastAnnounced ∷ [])
+            (line_end_cause self.old) }
         ensures ok { OnOk result (Lengthens W.state self.old self.new (LineEnd ∷ [])) }
         ensures begun { OnOk result (ContinuesBegun W.state self.old self.new (LineEnd ∷ [])) }
         ensures cause { IfNone (line_end_cause self.old) (IfErr result (λ cause. cause ≡ causes.Write)) }
-        ensures broke { IfNone (line_end_cause self.old) (OnErr result (BreaksOff W.state (ContinuesWith (LineEnd ∷ [])) self.old self.new)) }
+        ensures broke { IfNone (line_end_cause self.old)
+            (OnErr result (BreaksOff W.state (ContinuesWith (LineEnd ∷ [])) self.old self.new)) }
         ensures room { self.new.object.room ≡ self.old.object.room }
     {
         texts_join();
@@ -178,11 +184,14 @@ impl<W: Target> Packer<W> {
     /// size; `Write` where a write failed. The packer is handed back, and but for the last nothing is written and nothing changes.
     pub fn finish(self, trailer: &[u8]) -> Result<W, (Packer<W>, PackCause)>
         ensures refused { IfSome (finish_cause self trailer.now) (λ cause. result ≡ Err (self, cause)) }
-        ensures order { IsFirstOf (AgainstFinish self trailer.now) (causes.Failed ∷ causes.BadTrailer ∷ causes.PastAnnounced ∷ causes.ShortOfAnnounced ∷ []) (finish_cause self trailer.now) }
+        ensures order { IsFirstOf (AgainstFinish self trailer.now)
+            (causes.Failed ∷ causes.BadTrailer ∷ causes.PastAnnounced ∷ causes.ShortOfAnnounced ∷ [])
+            (finish_cause self trailer.now) }
         ensures ok { IfOk result (λ writer. Finishes W.state self trailer.now writer) }
         ensures begun { IfOk result (EndsBegun W.state self trailer.now) }
         ensures cause { IfNone (finish_cause self trailer.now) (IfErr result (λ refused. refused.1 ≡ causes.Write)) }
-        ensures broke { IfNone (finish_cause self trailer.now) (IfErr result (λ refused. BreaksOff W.state (EndsIn trailer.now) self refused.0)) }
+        ensures broke { IfNone (finish_cause self trailer.now)
+            (IfErr result (λ refused. BreaksOff W.state (EndsIn trailer.now) self refused.0)) }
         ensures room { IfErr result (λ refused. refused.0.object.room ≡ self.object.room) }
     {
         texts_join();

@@ -14,7 +14,8 @@ use wire_story::{Lines, text_len};
 /// it would be above the greatest size of an object.
 pub fn packed_size(head: &MessageHead, lines: &Lines, trailer: &[u8]) -> Option<u64>
     ensures size { IfSome result (λ size. size ≡ length (canonical head.now lines.now.lines trailer.now)) }
-    ensures exactly { IsSome result ↔ (IsTrailer trailer.now × (length (canonical head.now lines.now.lines trailer.now) ≤ greatest_size)) }
+    ensures exactly { IsSome result ↔ (IsTrailer trailer.now
+        × (length (canonical head.now lines.now.lines trailer.now) ≤ greatest_size)) }
 {
     if !is_trailer(trailer) {
         return None;

@@ -1,4 +1,3 @@
-pub mod Laws
-pub mod Results
 pub mod RoundTrip
+pub mod Results
 pub mod Stories

@@ -1,2 +1,4 @@
--- What the promises cite: a reader has to believe these.
+-- What octets are, and what is said of them.
 pub mod Format
+-- What holds of these: statements, each the contract of a law.
+pub mod Laws

@@ -40,13 +40,16 @@ pub fn unpack_packed<S: StorySink>(
     sink: &mut S,
 ) -> Result<(Unpacked, u64), UnpackFault>
     // What was packed comes back.
-    ensures given_back { IfOk result (λ got. GivesBack S.goes limits (stream_of pieces.now) sink.old sink.new got.0 got.1) }
+    ensures given_back { IfOk result (λ got.
+        GivesBack S.goes limits (stream_of pieces.now) sink.old sink.new got.0 got.1) }
     ensures refused { IfErr result (FailsOutside limits (stream_of pieces.now)) }
 
     // Any stream has its answer.
-    ensures finished { IfOk result (λ got. IsUnpacked S.goes limits (stream_of pieces.now) sink.old sink.new got.0 got.1) }
+    ensures finished { IfOk result (λ got.
+        IsUnpacked S.goes limits (stream_of pieces.now) sink.old sink.new got.0 got.1) }
     ensures turned_down { IfErr result (IsTurnedDown S.goes limits (stream_of pieces.now) sink.old sink.new) }
-    ensures only { (answer : Answer) → Answers limits (stream_of pieces.now) answer → IfErr result (λ fault. IsOutside fault → ⊥) → IsAnswer result answer }
+    ensures only { (answer : Answer) → Answers limits (stream_of pieces.now) answer
+        → IfErr result (λ fault. IsOutside fault → ⊥) → IsAnswer result answer }
 
     // The sink is at fault only where its count of failures rose.
     ensures calm { OnOk result (S.failures sink.new ≡ S.failures sink.old) }
@@ -86,7 +89,8 @@ pub fn unpack_story(alloc: Global, limits: Limits, pieces: &[&[u8]]) -> Result<S
     // Any stream has its answer.
     ensures finished { IfOk result (IsStoryIn limits (stream_of pieces.now)) }
     ensures turned_down { IfErr result (HasNoStory limits (stream_of pieces.now)) }
-    ensures only { (answer : Answer) → Answers limits (stream_of pieces.now) answer → IfErr result (λ fault. IsOutside fault → ⊥) → IsStoryAnswer result answer }
+    ensures only { (answer : Answer) → Answers limits (stream_of pieces.now) answer
+        → IfErr result (λ fault. IsOutside fault → ⊥) → IsStoryAnswer result answer }
 {
     texts_are_delivered_as_lines();
     texts_are_collected_as_lines();

@@ -1,7 +1,7 @@
 -- Scripts line by line: what each line leads to, and that lines lead to one thing.
 use Rattle.std.proofs.Common.{◌≡◌, ◌⊎◌, inl, inr, ℕ, ◌+◌, true, List, [], ◌∷◌, ◌++◌, append_assoc, append-nil, length, length-append, get_or, refl, ap, sym, ◌∙◌, subst, arith, Option, Some, None}
 use Rattle.iim_dataset.specs.Format.Datasets.{Dataset}
-use Rattle.iim_fields.specs.Format.Builders.{add_fault, finish_fault}
+use Rattle.iim_fields.specs.States.Builders.{add_fault, finish_fault}
 use Rattle.iim_fields.specs.declared.limits.Limits.{Limits}
 use Rattle.iim_fields.specs.declared.fault.FieldFault.{FieldFault}
 use Rattle.iim_fields.specs.declared.fault.FieldCause.{FieldCause}

@@ -3,7 +3,7 @@ use Rattle.std.proofs.Common.{◌≡◌, ◌⊎◌, inl, inr, ℕ, ◌+◌, ◌<
 use Rattle.std.specs.List.{AllByRecursion}
 use Rattle.wire_story.specs.Format.Texts.{IsLine}
 use Rattle.wire_story.specs.Format.Delivery.{LineOctet, LineEnd}
-use Rattle.wire_story.specs.Format.Collecting.{collect, add_octet}
+use Rattle.wire_story.specs.States.Collecting.{collect, add_octet}
 use Rattle.iim_script.specs.Format.Lines.{HasNo, EndsLine, NextLine, EndLines}
 use Rattle.iim_script.specs.Format.Scripts.{IsStory}
 use Rattle.iim_script.specs.Steps.{number_after, IsLastLine, RefusesStory, RefusesStoryLine}

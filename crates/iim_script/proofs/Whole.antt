@@ -3,10 +3,10 @@ use Rattle.std.proofs.Common.{◌≡◌, ℕ, ◌+◌, List, [], ◌∷◌, ◌+
 use Rattle.std.specs.Prelude.{codes}
 use Rattle.std.specs.List.{flat_map}
 use Rattle.iim_dataset.specs.Format.Datasets.{Dataset}
-use Rattle.iim_fields.specs.Format.Laws.{HeadsDieWithTheirFault, ValuesDieWithTheirFault}
+use Rattle.iim_fields.specs.Laws.Records.{HeadsDieWithTheirFault, ValuesDieWithTheirFault}
 use Rattle.wire_message.specs.Format.Messages.{Header, IsHeader}
 use Rattle.iim_script.specs.Format.Forms.{text_word}
-use Rattle.iim_script.specs.Format.Laws.{PrintedValuesAreScripts}
+use Rattle.iim_script.specs.Laws.Scripts.{PrintedValuesAreScripts}
 use Rattle.iim_script.specs.Format.Lines.{EndLines}
 use Rattle.iim_script.specs.Format.Printed.{field_line, message_line, trailer_line, script_of}
 use Rattle.iim_script.proofs.Printing.{ended, field_words, fields_end, fields_told, message_words, message_ends, head_told, trailer_words, trailer_ends, trailer_told, story_printed}

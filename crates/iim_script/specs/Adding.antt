@@ -1,7 +1,7 @@
 -- What a line does to a builder of envelopes.
 use Rattle.std.specs.Prelude.{◌≡◌, ℕ, List, [], ◌∷◌, ◌++◌, Some, None}
 use Rattle.iim_dataset.specs.Format.Datasets.{Dataset}
-use Rattle.iim_fields.specs.Format.Builders.{Building, add_fault}
+use Rattle.iim_fields.specs.States.Builders.{Building, add_fault}
 use Rattle.iim_fields.specs.declared.fault.FieldFault.{FieldFault}
 use Rattle.iim_script.specs.Format.Forms.{TellsField}
 use Rattle.iim_script.specs.declared.fault.ScriptCause.{ScriptCause}

@@ -1,7 +1,6 @@
 pub mod Causes
 pub mod Faults
 pub mod Forms
-pub mod Laws
 pub mod Lines
 pub mod Printed
 pub mod Scripts

@@ -2,7 +2,7 @@
 use Rattle.std.specs.Prelude.{◌≡◌, ℕ, ◌+◌, ◌⊎◌, List, [], Some}
 use Rattle.iim_dataset.specs.Format.Characters.{lf}
 use Rattle.iim_dataset.specs.Format.Datasets.{Dataset}
-use Rattle.iim_fields.specs.Format.Builders.{finish_fault}
+use Rattle.iim_fields.specs.States.Builders.{finish_fault}
 use Rattle.iim_fields.specs.declared.limits.Limits.{Limits}
 use Rattle.iim_fields.specs.declared.fault.FieldFault.{FieldFault}
 use Rattle.wire_message.specs.Format.Messages.{IsTrailer}

@@ -1,6 +1,6 @@
 //! What holds of all lines of scripts, and of all scripts. The functions do nothing: their contracts are the laws.
 
-ghost use Rattle.iim_script.specs.Format.Laws.{OctetsHaveOneNextLine, LinesTellOneThing, FormsExcludeOneAnother, ScriptsTellOneThing, ScriptsHaveNoFault, OctetsHaveOneFault, PrintedValuesAreScripts};
+ghost use Rattle.iim_script.specs.Laws.Scripts.{OctetsHaveOneNextLine, LinesTellOneThing, FormsExcludeOneAnother, ScriptsTellOneThing, ScriptsHaveNoFault, OctetsHaveOneFault, PrintedValuesAreScripts};
 
 use iim_fields::laws::{heads_die_with_their_fault, values_die_with_their_fault};
 

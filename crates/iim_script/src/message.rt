@@ -28,7 +28,15 @@ struct Words<'a> {
 
 /// The words, with one SP between each two. None where there are fewer than five.
 fn cut_words(octets: &[u8]) -> Option<Words<'_>>
-    ensures some { IfSome result (λ w. AreWords octets.now record { source = w.source.now; number = w.number.now; priority = w.priority.now; category = w.category.now; words = w.words.now } w.end.now) }
+    ensures some { IfSome result (λ w.
+        AreWords octets.now record {
+          source = w.source.now;
+          number = w.number.now;
+          priority = w.priority.now;
+          category = w.category.now;
+          words =
+              w.words.now;
+        } w.end.now) }
     ensures none { IfNone result ((w : HeadWords) (end : List ℕ) → AreWords octets.now w end → ⊥) }
 {
     let Some((source, after_source)) = cut_at(octets, b' ') else {

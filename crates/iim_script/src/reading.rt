@@ -1,7 +1,7 @@
 //! Reads a script.
 
 ghost use Rattle.std.specs.Prelude.{◌≡◌, ◌≤◌, ◌+◌, ◌++◌, [], ℕ, List, length, slice_index, IfOk, IfErr, OnOk, None};
-ghost use Rattle.iim_fields.specs.Format.Builders.{finish_fault};
+ghost use Rattle.iim_fields.specs.States.Builders.{finish_fault};
 ghost use Rattle.iim_script.specs.Format.Forms.{TellsHead, text_word};
 ghost use Rattle.iim_dataset.specs.Format.Octets.{is_digit};
 ghost use Rattle.iim_script.specs.Format.Lines.{NextLine};
@@ -54,7 +54,8 @@ fn read_fields<'a>(
 ) -> Result<Rest<'a>, ScriptFault>
     requires none { builder.old.fields ≡ [] }
     requires short { length script.now ≤ max_script }
-    ensures stands { IfOk result (λ rest. Stands builder.old.limits script.now (InFields builder.new.fields) rest.octets.now rest.lines) }
+    ensures stands { IfOk result (λ rest.
+        Stands builder.old.limits script.now (InFields builder.new.fields) rest.octets.now rest.lines) }
     ensures all { IfOk result (λ rest. NextMustBe TellsNoField rest.octets.now) }
     ensures fault { IfErr result (λ fault. RefusesFields builder.old.limits script.now fault.line fault.cause) }
 {
@@ -81,9 +82,11 @@ fn read_fields<'a>(
 
 /// The header that the next line tells, and what follows it.
 fn read_head<'a>(alloc: Global, rest: Rest<'a>) -> Result<(MessageHead, Rest<'a>), ScriptFault>
-    ensures told { IfOk result (λ read. NextIs (λ line. TellsHead line read.0) rest.entry.octets.now read.1.octets.now) }
+    ensures told { IfOk result (λ read.
+        NextIs (λ line. TellsHead line read.0) rest.entry.octets.now read.1.octets.now) }
     ensures counted { IfOk result (λ read. read.1.lines ≡ rest.entry.lines + 1) }
-    ensures fault { IfErr result (λ fault. RefusesHeader rest.entry.octets.now rest.entry.lines fault.line fault.cause) }
+    ensures fault { IfErr result (λ fault.
+        RefusesHeader rest.entry.octets.now rest.entry.lines fault.line fault.cause) }
 {
     let Some((line, after)) = next_line(rest.octets) else {
         return Err(fault_after(rest.lines, ScriptCause::ScriptLine));
@@ -103,8 +106,10 @@ fn read_head<'a>(alloc: Global, rest: Rest<'a>) -> Result<(MessageHead, Rest<'a>
 
 /// The trailer that the next line tells, and what follows it; or no octets, where that line tells none.
 fn read_trailer<'a>(alloc: Global, rest: Rest<'a>) -> Result<(Vec<u8>, Rest<'a>), ScriptFault>
-    ensures taken { IfOk result (λ read. TakesTrailer rest.entry.octets.now rest.entry.lines read.0.items read.1.octets.now read.1.lines) }
-    ensures fault { IfErr result (λ fault. RefusesTrailer rest.entry.octets.now rest.entry.lines fault.line fault.cause) }
+    ensures taken { IfOk result (λ read.
+        TakesTrailer rest.entry.octets.now rest.entry.lines read.0.items read.1.octets.now read.1.lines) }
+    ensures fault { IfErr result (λ fault.
+        RefusesTrailer rest.entry.octets.now rest.entry.lines fault.line fault.cause) }
 {
     let Some((line, after)) = next_line(rest.octets) else {
         return Ok((Vec::new(alloc), rest));
@@ -182,7 +187,8 @@ fn read_front<'a>(alloc: Global, limits: Limits, script: &'a [u8]) -> Result<Fro
 
 /// What a script tells, its datasets within the limits; or its first fault by line.
 pub fn read_script(alloc: Global, limits: Limits, script: &[u8]) -> Result<Script, ScriptFault>
-    ensures script { IfOk result (λ told. IsScript limits script.now told.envelope told.head told.trailer.items told.lines.lines told.text_line) }
+    ensures script { IfOk result (λ told.
+        IsScript limits script.now told.envelope told.head told.trailer.items told.lines.lines told.text_line) }
     ensures fault { IfErr result (λ fault. IsScriptFault limits script.now fault.line fault.cause) }
 {
     if script.len() > MAX_SCRIPT {

@@ -4,7 +4,7 @@ ghost use Rattle.std.specs.Prelude.{◌≡◌, ◌<◌, length, map, IfOk, IfErr
 ghost use Rattle.std.specs.List.{AllByRecursion};
 ghost use Rattle.wire_story.specs.Format.Texts.{IsLine};
 ghost use Rattle.wire_story.specs.Format.Delivery.{LineOctet};
-ghost use Rattle.wire_story.specs.Format.Collecting.{collect};
+ghost use Rattle.wire_story.specs.States.Collecting.{collect};
 ghost use Rattle.iim_script.specs.Format.Lines.{NextLine};
 ghost use Rattle.iim_script.specs.Format.Scripts.{IsStory};
 ghost use Rattle.iim_script.specs.Steps.{IsLastLine, RefusesStory, RefusesStoryLine};
@@ -53,7 +53,8 @@ fn add_text(lines: &mut Lines, line: &[u8]) -> Result<(), ScriptCause>
 pub(crate) fn read_story(alloc: Global, story: Rest<'_>) -> Result<Lines, ScriptFault>
     ensures story { IfOk result (λ lines. IsStory story.entry.octets.now lines.lines) }
     ensures texts { IfOk result (λ lines. AllByRecursion IsLine lines.lines) }
-    ensures fault { IfErr result (λ fault. RefusesStory story.entry.octets.now story.entry.lines fault.line fault.cause) }
+    ensures fault { IfErr result (λ fault.
+        RefusesStory story.entry.octets.now story.entry.lines fault.line fault.cause) }
 {
     let mut lines = Lines::new(alloc);
     let mut rest = story;

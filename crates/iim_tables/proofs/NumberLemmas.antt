@@ -3,9 +3,8 @@ use Rattle.std.proofs.Common.{◌≡◌, refl, take, get_or, add-one, ℕ, ◌+�
 use Rattle.byteorder.specs.Numbers.{big_from-cons}
 use Rattle.std.proofs.Math.Seq.{take-suc}
 use Rattle.std.proofs.Math.Nat.{mul_left_comm, mul-le-mul_right, pow-succ', pow-le-pow_right}
-use Rattle.iim_dataset.specs.Format.Octets.{Octets as AreOctets}
+use Rattle.iim_dataset.specs.Format.Octets.{Octets as AreOctets, number}
 use Rattle.iim_tables.specs.Format.Numbers.{size_octets}
-use Rattle.iim_dataset.specs.Format.Octets.{number}
 
 -- the first octet counts by its place
 pub number-cons : (b : ℕ) (bs : List ℕ) → number (b ∷ bs) ≡ b * 256 ^ length bs + number bs

@@ -1,2 +1,2 @@
--- What the promises cite: a reader has to believe these.
+-- What octets are, and what is said of them.
 pub mod Format

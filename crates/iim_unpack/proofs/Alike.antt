@@ -7,11 +7,12 @@ use Rattle.std.proofs.lemmas.List.Elements.{filter-append}
 use Rattle.iim_dataset.specs.Format.Octets.{Octets, greatest_size}
 use Rattle.iim_dataset.specs.Format.Datasets.{Dataset, of_record}
 use Rattle.iim_tables.specs.Format.Rows.{table, row_of}
-use Rattle.iim_fields.specs.Format.Faults.{is_kept, kept, present_record}
+use Rattle.iim_fields.specs.Format.Faults.{is_kept, kept, section_after}
 use Rattle.iim_fields.specs.Format.Records.{AreSections}
 use Rattle.iim_tables.specs.Format.Records.{repeats}
-use Rattle.iim_object.specs.Format.Packing.{NumberDatasetsAreGood, subfile_datasets}
-use Rattle.iim_unpack.specs.Format.Begins.{IsSize}
+use Rattle.iim_object.specs.Laws.Packing.{NumberDatasetsAreGood}
+use Rattle.iim_object.specs.Format.Packing.{subfile_datasets}
+use Rattle.iim_unpack.specs.States.Begins.{IsSize}
 use Rattle.iim_unpack.specs.ByLayers.{one_of_some}
 use Rattle.iim_unpack.specs.Plain.{Numbers, number_list, plain_numbers, filled, plain_end, plain}
 use Rattle.iim_unpack.proofs.Bounds.{alive_five}
@@ -53,7 +54,7 @@ pub record Fits (fields : List Dataset) (numbers : Numbers) (heads : ℕ) (objec
 pub told_by : (fields : List Dataset) (numbers : Numbers) (heads : ℕ) (object : List ℕ) (ended : Bool) → Fits fields numbers heads object → Tell (plain fields numbers heads object ended) fields numbers heads object ended
 told_by fields numbers heads object ended fits = plain_told fields numbers heads object ended fits.kept fits.fit fits.room
 
-pub present_alike : (fields : List Dataset) (numbers : Numbers) (a b : ℕ) (x y : List ℕ) (ended : Bool) → one_of_some a ≡ one_of_some b → present_record (plain fields numbers a x ended) ≡ present_record (plain fields numbers b y ended)
+pub present_alike : (fields : List Dataset) (numbers : Numbers) (a b : ℕ) (x y : List ℕ) (ended : Bool) → one_of_some a ≡ one_of_some b → section_after (plain fields numbers a x ended) ≡ section_after (plain fields numbers b y ended)
 present_alike fields numbers a b x y ended some =
     let size = unwrap_or numbers.largest 0 in
     let left = subfile_datasets (filled size a x) in
@@ -87,6 +88,6 @@ alike rows fields numbers a b x y ended more left right some octets few sections
           (replace_eights (subfile_datasets (filled size a x)) eights (part_tens (filled size a x)) (part_tens (filled size b y)) e (good_parts size b y octets few));
       nine = subst (λ (xs : List Dataset). MayReplace 9 xs (plain_end ended y)) (sym tell.nines_are)
           (replace_tens 9 (plain_end ended x) (plain_end ended y) (end_tens ended x) (end_tens ended y) (end_length ended x ∙ sym (end_length ended y)) (good_end rows ended y few));
-      present = present_alike fields numbers a b x y ended some ∙ sym (ap present_record is);
+      present = present_alike fields numbers a b x y ended some ∙ sym (ap section_after is);
     })
     sections)

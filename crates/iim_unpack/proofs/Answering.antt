@@ -7,32 +7,31 @@ use Rattle.iim_dataset.specs.Format.Datasets.{Dataset, SpellsTag, SpellsDataset,
 use Rattle.iim_dataset.specs.Format.Splits.{Begun, InTag, InData, IsBegun, Reads}
 use Rattle.iim_dataset.specs.Format.Tags.{BeginsNoTag}
 use Rattle.iim_dataset.specs.Format.Completing.{CompletesData}
-use Rattle.iim_dataset.specs.Format.Events.{handed_on}
+use Rattle.iim_dataset.specs.States.Events.{handed_on}
 use Rattle.iim_dataset.specs.Format.Languages as languages
 use Rattle.iim_dataset.specs.declared.head.Head.{Head}
 use Rattle.iim_fields.specs.Format.Records.{AreSections}
 use Rattle.iim_fields.specs.Format.Alive.{SectionsLive}
-use Rattle.iim_fields.specs.Format.Faults.{present_record}
+use Rattle.iim_fields.specs.Format.Faults.{section_after}
 use Rattle.iim_fields.specs.Format.Values.{data_of}
 use Rattle.iim_fields.specs.declared.limits.Limits.{Limits}
-use Rattle.iim_object.specs.Format.Records.{AreSized}
+use Rattle.iim_object.specs.Laws.Records.{AreSized}
 use Rattle.wire_story.specs.Format.Texts.{Holds}
 use Rattle.wire_story.specs.Format.Tokens.{Octet, End}
 use Rattle.wire_message.specs.Format.Layers.{MessageLanguage, MessageLivesWith, MessageDiesAt, StoryLivesIn, text_so_far}
-use Rattle.wire_message.specs.Format.Reading.{HasCause}
-use Rattle.wire_message.specs.Format.SoFar.{LeadTo}
+use Rattle.wire_message.specs.Format.Causes.{HasCause}
+use Rattle.wire_message.specs.States.SoFar.{LeadsTo}
 use Rattle.wire_message.specs.declared.place.Place.TheVariants.{AfterEnd}
 use Rattle.wire_message.specs.declared.fault.MessageCause.{MessageCause}
 use Rattle.wire_message.specs.declared.fault.MessageCause.TheVariants as messages
 use Rattle.iim_unpack.specs.Format.Admitted.{Value, Admits, object_of}
-use Rattle.iim_unpack.specs.Format.Refusals.{begun_record, begun_number, tag_cause}
-use Rattle.iim_unpack.specs.Format.Laws.{AdmittedOctetsHaveOneValue, NoAdmittedOctetsBeginOthers}
-use Rattle.iim_unpack.specs.Format.Open.{object_so_far, AllCanContinue, IsUnfinished}
-use Rattle.iim_unpack.specs.Format.Refusals.{refusal_at, message_on}
+use Rattle.iim_unpack.specs.Format.Refusals.{begun_record, begun_number, tag_cause, refusal_at, message_on}
+use Rattle.iim_unpack.specs.Laws.Admitted.{AdmittedOctetsHaveOneValue, NoAdmittedOctetsBeginOthers}
+use Rattle.iim_unpack.specs.Format.Open.{object_so_far, AllCanContinue, IsUnfinished, IsOpen, IsBadTagAt, IsBadHeadAt, IsBadOctetAt, IsBadValueAt, RefusesNext, truncated_in}
 use Rattle.iim_unpack.specs.Format.Tokens.{IsRefusedHead, IsRefusedValue}
-use Rattle.iim_unpack.specs.Format.Open.{IsOpen, IsBadTagAt, IsBadHeadAt, IsBadOctetAt, IsBadValueAt, RefusesNext, truncated_in, OpenOctetsBeginWithNoEnvelope}
-use Rattle.iim_unpack.specs.Format.Streams.{IsEnvelopeWithin, Finished, Refused, Truncated, IsFinished, IsRefused, IsTruncated, EnvelopesAreBounded, RefusedOctetsWereOpen, NothingContinuesFromRefusedOctets, RefusalsAreDetermined, StreamsHaveOneAnswer}
-use Rattle.iim_unpack.specs.declared.fault.TokenFault.{TokenFault}
+use Rattle.iim_unpack.specs.Laws.Streams.{OpenOctetsBeginWithNoEnvelope, EnvelopesAreBounded, RefusedOctetsWereOpen, NothingContinuesFromRefusedOctets, RefusalsAreDetermined, StreamsHaveOneAnswer}
+use Rattle.iim_unpack.specs.Format.Streams.{IsEnvelopeWithin, Finished, Refused, Truncated, IsFinished, IsRefused, IsTruncated}
+use Rattle.iim_unpack.specs.declared.parts.fault.TokenFault.{TokenFault}
 use Rattle.iim_unpack.specs.declared.refusal.Refusal.{Refusal}
 use Rattle.iim_unpack.specs.declared.refusal.Layer.TheVariants as layers
 use Rattle.iim_unpack.specs.declared.refusal.Cause.TheVariants as causes
@@ -59,7 +58,7 @@ pub lives_open : (limits : Limits) (octets : List ℕ) → IsOpen limits octets 
 lives_open limits octets is = record { whole = is.whole; begun = is.begun; reads = is.reads; leads_on = is.leads_on }
 
 -- an envelope's object leads to the end of its message
-pub leads_to : (octets : List ℕ) (v : Value) → (a : Admits octets v) → LeadTo (object_of a.datasets) a.text (AfterEnd v.head (record { items = v.trailer }) (length a.message.after))
+pub leads_to : (octets : List ℕ) (v : Value) → (a : Admits octets v) → LeadsTo (object_of a.datasets) a.text (AfterEnd v.head (record { items = v.trailer }) (length a.message.after))
 leads_to octets v a = record { is_place = (a.message.is_header, a.message.is_trailer, a.message.is_after.2); spelled = (a.message, refl); story = (v.lines, a.lines) }
 
 pub nothing_held : IsBegun count_octets (InTag []) []
@@ -83,7 +82,7 @@ goes_envelope laws limits octets v is =
     let both = laws.living o a.text (AfterEnd v.head (record { items = v.trailer }) (length m.after)) (leads_to octets v a) in
     record {
       sizes = record { records = alive; within = is.within; object = lives_after laws.follow.live ds alive sized };
-      message = lives_whole o (nat_eq (present_record ds) 9) both.0 (λ is'. record { object = o; head = v.head; text = a.text; trailer = v.trailer; message = m; tokens_are = refl });
+      message = lives_whole o (nat_eq (section_after ds) 9) both.0 (λ is'. record { object = o; head = v.head; text = a.text; trailer = v.trailer; message = m; tokens_are = refl });
       story = both.1;
     }
 
@@ -224,8 +223,8 @@ pub before_it : AnswerLaws → (limits : Limits) (ds : List Dataset) (h : Head) 
 before_it laws limits ds h held other unfinished all =
     let alive = alive_of limits ds (InData h []) all.sizes in
     let object : object_so_far ds (InData h []) ≡ object_of ds = ap (λ (b : Bool). object_of ds ++ (if b then [] else [])) (not_eight h.rec other) ∙ append-nil (object_of ds) in
-    let not_nine : nat_eq (present_record ds) 9 ≡ false =
-    elim (eqb_tells (present_record ds) 9) [ inl same ↦ absurd (unfinished (last_sections laws.follow.ends ds alive same.1)) | inr apart ↦ apart.0 ] in
+    let not_nine : nat_eq (section_after ds) 9 ≡ false =
+    elim (eqb_tells (section_after ds) 9) [ inl same ↦ absurd (unfinished (last_sections laws.follow.ends ds alive same.1)) | inr apart ↦ apart.0 ] in
     let message : MessageLivesWith (object_of ds) = message_of limits ds (InData h []) all (object_of ds) [] (object ∙ sym (append-nil (object_of ds))) in
     record {
       sizes = record { records = alive; within = within_of limits ds (InData h []) all.sizes; object = object_lives_after laws.follow.objects limits ds (InData h []) all.sizes };

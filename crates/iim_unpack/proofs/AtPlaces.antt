@@ -5,26 +5,26 @@ use Rattle.std.proofs.lemmas.List.{length-replicate}
 use Rattle.std.specs.List.{AllByRecursion}
 use Rattle.iim_dataset.specs.Format.Octets.{Octets}
 use Rattle.iim_dataset.specs.Format.Datasets.{Dataset, head_of, count_octets}
-use Rattle.iim_dataset.specs.Format.Events.{DatasetEvent}
-use Rattle.iim_dataset.specs.Format.Places.{IsPlace, LeadsTo}
+use Rattle.iim_dataset.specs.States.Events.{DatasetEvent}
+use Rattle.iim_dataset.specs.States.Places.{IsPlace, LeadsTo}
 use Rattle.iim_dataset.specs.declared.head.Head.{Head}
 use Rattle.iim_dataset.specs.declared.place.DatasetPlace.{DatasetPlace}
 use Rattle.iim_fields.specs.Format.Alive.{SectionsLive, SectionsLiveAt}
-use Rattle.iim_fields.specs.Format.Checks.{HasChecked, HasTaken, IsRecordFault}
+use Rattle.iim_fields.specs.States.Checks.{HasChecked, HasTaken, IsRecordFault}
 use Rattle.iim_fields.specs.Format.Faults.{joined, kept, kept_octets}
-use Rattle.iim_fields.specs.Format.Standing.{IsWithin}
+use Rattle.iim_fields.specs.Format.Bounds.{IsWithin}
 use Rattle.iim_fields.specs.declared.check.RecordPlace.{RecordPlace}
 use Rattle.iim_fields.specs.declared.fault.FieldFault.{FieldFault}
-use Rattle.wire_message.specs.Format.Reading.{StandsAt}
-use Rattle.wire_message.specs.Format.SoFar.{LeadTo}
-use Rattle.wire_message.specs.Format.Saved.{IsAt, LeadToSaved}
+use Rattle.wire_message.specs.States.Reading.{StandsAt}
+use Rattle.wire_message.specs.States.SoFar.{LeadsTo as LeadTo}
+use Rattle.wire_message.specs.States.Saved.{IsAt, LeadsToSaved}
 use Rattle.wire_message.specs.declared.place.Place.{Place as Message}
 use Rattle.wire_message.specs.declared.saved.MessagePlace.{MessagePlace}
-use Rattle.iim_unpack.specs.Format.Begins.{AreNumbers, IsSize}
+use Rattle.iim_unpack.specs.States.Begins.{AreNumbers, IsSize}
 use Rattle.iim_unpack.specs.ByLayers.{RecordsLive, head_of_numbers}
 use Rattle.iim_unpack.specs.Plain.{number_list}
-use Rattle.iim_unpack.specs.Format.TicketsTold.{texts_of}
-use Rattle.iim_unpack.specs.Format.Possible.{widest}
+use Rattle.iim_unpack.specs.Laws.Tickets.{texts_of}
+use Rattle.iim_unpack.specs.States.Possible.{widest}
 use Rattle.iim_unpack.specs.Taking.{AreKept, CanContinueWithin, IsMessageOf, numbers_told, told_datasets}
 use Rattle.iim_unpack.specs.Format.Tickets.{Phase, TagBegun, DataBegun, AllEnded}
 use Rattle.iim_unpack.proofs.Fitting.{part_told}
@@ -145,5 +145,5 @@ some_same : {X : Type 0} {x y : X} → Some x ≡ Some y → x ≡ y
 some_same e = cc
 
 -- Octets that lead to where the reader stands lead to its place as it is saved.
-pub leads_saved : (reader : Option Message) (octets text : List ℕ) (m : MessagePlace) → IsAt reader m → StandsAt reader octets text → LeadToSaved octets text m
+pub leads_saved : (reader : Option Message) (octets text : List ℕ) (m : MessagePlace) → IsAt reader m → StandsAt reader octets text → LeadsToSaved octets text m
 leads_saved reader octets text m at stands = (at.0, subst (LeadTo octets text) (some_same (sym stands.1 ∙ at.1)) stands.2, at.2)

@@ -2,10 +2,9 @@
 use Rattle.std.proofs.Common.{◌≡◌, ℕ, zero, suc, ◌+◌, ◌-◌, ◌≤◌, List, [], ◌∷◌, ◌++◌, length, take, drop, Option, None, Some, ap, sym, subst, ◌∙◌, arith, append_assoc}
 use Rattle.std.proofs.lemmas.List.{drop-take, drop-drop, take-append-drop, take_all}
 use Rattle.std.specs.Io.KnownBytes.{Consumes}
-use Rattle.iim_dataset.specs.Format.Devices.{Device}
-use Rattle.iim_dataset.specs.Format.DeviceLaws.{HasGiven}
-use Rattle.iim_unpack.specs.Blocks.{held_in}
-use Rattle.iim_unpack.specs.Format.Blocks.{put_before, with_held}
+use Rattle.iim_dataset.specs.States.Devices.{Device, HasGiven}
+use Rattle.iim_unpack.specs.HeldOctets.{held_in}
+use Rattle.iim_unpack.specs.States.Blocks.{put_before, with_held}
 
 -- after some of the octets of a block
 pub passes : (octets : List ℕ) (from to used : ℕ) (held : List ℕ) → held_in octets from to ≡ held → from + used ≤ to → held_in octets (from + used) to ≡ drop used held

@@ -14,17 +14,16 @@ use Rattle.iim_fields.specs.Format.Records.{AreSections}
 use Rattle.iim_tables.specs.Format.Records.{IsGoodDataset}
 use Rattle.iim_fields.specs.Format.Alive.{SectionsLive, SectionsLiveAt}
 use Rattle.iim_fields.specs.Format.Faults.{kept, joined, is_kept}
-use Rattle.iim_fields.specs.Format.Laws.{NoSectionsBeginOthers, EnvelopesEndWithTheLastRecord}
+use Rattle.iim_fields.specs.Laws.Records.{NoSectionsBeginOthers, EnvelopesEndWithTheLastRecord}
 use Rattle.iim_fields.specs.declared.limits.Limits.{Limits}
 use Rattle.iim_object.specs.Format.Objects.{ObjectToken, NumberRead, SubfileBegun, ObjectEnded, Confirmed, number_tokens}
 use Rattle.iim_object.specs.Format.Places.{Place, ending_tokens, tokens_of, place_after}
 use Rattle.iim_object.specs.Format.Numbers.{place_after_datasets, place_ended}
 use Rattle.iim_object.specs.Format.Records.{lengths_of, numbers_of}
 use Rattle.iim_object.specs.Format.Sizes.{Stated, AreStated, AreOnce, InRow, number_at}
-use Rattle.iim_unpack.specs.Format.Tokens.{MayContinue, CanContinueAt}
-use Rattle.iim_unpack.specs.Format.Intakes.{OpenOctetsAreBounded}
+use Rattle.iim_unpack.specs.Format.Tokens.{MayContinue, CanContinueAt, ObjectLives}
+use Rattle.iim_unpack.specs.Laws.Streams.{OpenOctetsAreBounded}
 use Rattle.iim_unpack.specs.Format.Framed.{AreWithin}
-use Rattle.iim_unpack.specs.Format.Tokens.{ObjectLives}
 
 -- how many octets datasets take at most: thirteen for each tag, and the data
 abbrev pub weight : List Dataset → ℕ

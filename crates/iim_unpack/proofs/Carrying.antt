@@ -5,33 +5,32 @@ use Rattle.std.proofs.lemmas.Bool.Decides.{eqb_tells}
 use Rattle.iim_dataset.specs.Format.Octets.{Octets}
 use Rattle.iim_dataset.specs.Format.Datasets.{Dataset}
 use Rattle.iim_dataset.specs.Format.Splits.{Begun, InTag, InData}
-use Rattle.iim_dataset.specs.Format.Events.{DatasetEvent, DataOctet, handed_on}
+use Rattle.iim_dataset.specs.States.Events.{DatasetEvent, DataOctet, handed_on}
 use Rattle.iim_dataset.specs.Format.Languages as languages
 use Rattle.iim_dataset.specs.declared.head.Head.{Head}
-use Rattle.iim_fields.specs.Format.Checks.{begun_head}
-use Rattle.iim_fields.specs.Format.Standing as records
-use Rattle.iim_fields.specs.Format.Standing.{IsBetween, begun_head_of, limits_of}
+use Rattle.iim_fields.specs.States.Checks.{begun_head}
+use Rattle.iim_fields.specs.States.Standing as records
+use Rattle.iim_fields.specs.States.Standing.{IsBetween, begun_head_of, limits_of, FieldsPlace}
 use Rattle.iim_fields.specs.declared.limits.Limits.{Limits}
-use Rattle.iim_fields.specs.Format.Standing.{FieldsPlace}
 use Rattle.iim_object.specs.Format.Events as object_events
 use Rattle.wire_story.specs.Format.Delivery as story
 use Rattle.wire_story.specs.Format.Tokens.{End, Octet, with_end}
 use Rattle.wire_message.specs.Format.Layers.{MessageLanguage, MessageLivesWith, StoryLivesIn, text_so_far}
-use Rattle.wire_message.specs.Format.Laws.{TextsStandBetweenStxAndEtx, ReadersStandAtLivingOctets}
-use Rattle.wire_message.specs.Format.Reading as wire
-use Rattle.wire_message.specs.Format.SoFar.{LeadTo}
+use Rattle.wire_message.specs.Laws.Messages.{TextsStandBetweenStxAndEtx, ReadersStandAtLivingOctets}
+use Rattle.wire_message.specs.States.Reading as wire
+use Rattle.wire_message.specs.Format.Causes as wire_format
+use Rattle.wire_message.specs.States.SoFar.{LeadsTo}
 use Rattle.wire_message.specs.declared.place.Place.{Place}
 use Rattle.wire_message.specs.declared.fault.MessageCause.{MessageCause}
 use Rattle.wire_message.specs.declared.fault.MessageCause.TheVariants as messages
 use Rattle.iim_unpack.specs.Format.Admitted.{object_of}
-use Rattle.iim_unpack.specs.Format.Tokens.{MayContinue}
-use Rattle.iim_unpack.specs.Format.Tokens.{CanContinue, CanContinueAt}
-use Rattle.iim_unpack.specs.Passed.{Passed, Halted}
+use Rattle.iim_unpack.specs.Format.Tokens.{MayContinue, CanContinue, CanContinueAt}
+use Rattle.iim_unpack.specs.Passed.{TellsMessage, MessageRefuses}
 use Rattle.iim_unpack.specs.Passing.{octets_in-octets}
 use Rattle.iim_unpack.specs.Format.Refusals.{message_on, cause_of_message}
 use Rattle.iim_unpack.specs.Format.Open.{object_so_far, section, AllCanContinue}
-use Rattle.iim_unpack.specs.Format.Parts.{AreAfter, Within, StandsFor, Led, CountsFor}
-use Rattle.iim_unpack.specs.Parts.{Went, WasStopped}
+use Rattle.iim_unpack.specs.States.Parts.{AreAfter, Within, StandsFor, AreLed, CountsFor}
+use Rattle.iim_unpack.specs.PartSteps.{TellsParts, PartsRefuse}
 use Rattle.iim_unpack.specs.declared.parts.Parts.{Parts}
 use Rattle.iim_unpack.specs.LowerLaws.{MessageLaws}
 use Rattle.iim_unpack.proofs.Lasts.{not_all}
@@ -76,14 +75,14 @@ HasBegun p h = begun_head_of p.fields ≡ Some h
 not_both : (p : Parts) (h : Head) → IsBetween p.fields → HasBegun p h → ⊥
 not_both p h between begun = let bad : None ≡ Some h = sym (ap begun_head between.between) ∙ begun in cc
 
-pub in_one : (p : Parts) (h : Head) (events : List DatasetEvent) (text : List ℕ) → HasBegun p h → Led p events text → InOne p events text
+pub in_one : (p : Parts) (h : Head) (events : List DatasetEvent) (text : List ℕ) → HasBegun p h → AreLed p events text → InOne p events text
 in_one p k events text begun led = by_begun led.begun led.stands led.told led.is_text
   where
     by_begun : (b : Begun) → StandsFor p led.whole b → events ≡ handed_on led.whole b → text ≡ text_so_far (object_so_far led.whole b) → InOne p events text
     by_begun (InTag held) stands told is = absurd (not_both p k stands.fields.between begun)
     by_begun (InData h taken) stands told is = record { ds = led.whole; h = h; taken = taken; within = stands; told = told; is_text = is }
 
-pub after_all : (p : Parts) (events : List DatasetEvent) (text : List ℕ) → IsBetween p.fields → Led p events text → AreAfterAll p events text
+pub after_all : (p : Parts) (events : List DatasetEvent) (text : List ℕ) → IsBetween p.fields → AreLed p events text → AreAfterAll p events text
 after_all p events text between led = by_begun led.begun led.stands led.told led.is_text
   where
     by_begun : (b : Begun) → StandsFor p led.whole b → events ≡ handed_on led.whole b → text ≡ text_so_far (object_so_far led.whole b) → AreAfterAll p events text
@@ -164,11 +163,11 @@ within_other p ds h taken run checker at other octets stands =
       ended = at.ended;
     }
 
-pub went_other : {S : Type 0} (goes : S → List story.StoryEvent → S → Type 0) (failures : S → ℕ) (p : Parts) (a : S) (run : List ℕ) (checker : FieldsPlace) (k : Head) → HasBegun p k → (k.rec ≡ 8 → ⊥)
+pub tells_parts_other : {S : Type 0} (goes : S → List story.StoryEvent → S → Type 0) (failures : S → ℕ) (p : Parts) (a : S) (run : List ℕ) (checker : FieldsPlace) (k : Head) → HasBegun p k → (k.rec ≡ 8 → ⊥)
     → Octets run → goes a [] a → limits_of checker ≡ limits_of p.fields
     → ((ds : List Dataset) (h : Head) (taken : List ℕ) → records.StandsIn p.fields ds h taken → records.StandsIn checker ds h (taken ++ run))
-    → Went goes failures p a (map DataOctet run) (record p { fields = checker }) a
-went_other goes failures p a run checker k begun other octets g same stands = record {
+    → TellsParts goes failures p a (map DataOctet run) (record p { fields = checker }) a
+tells_parts_other goes failures p a run checker k begun other octets g same stands = record {
   limits = same;
   more = [];
   told = g;
@@ -199,10 +198,10 @@ object_more ds h taken run eight =
     let yes : nat_eq h.rec 8 ≡ true = is_eight h.rec eight in
     ap (λ (b : Bool). (object_of ds ++ cond b taken []) ++ run) yes ∙ append_assoc (object_of ds) taken run ∙ sym (ap (λ (b : Bool). object_of ds ++ cond b (taken ++ run) []) yes)
 
-pub went_object : {S : Type 0} (goes : S → List story.StoryEvent → S → Type 0) (failures : S → ℕ) (p : Parts) (a b : S) (run : List ℕ) (message : Option Place) → MessageLaws → (k : Head) → HasBegun p k → k.rec ≡ 8
-    → Octets run → Passed goes failures p.message a (map object_events.ObjectOctet run) message b
-    → Went goes failures p a (map DataOctet run) (record p { message = message }) b
-went_object goes failures p a b run message laws k begun eight octets passed = record {
+pub tells_parts_object : {S : Type 0} (goes : S → List story.StoryEvent → S → Type 0) (failures : S → ℕ) (p : Parts) (a b : S) (run : List ℕ) (message : Option Place) → MessageLaws → (k : Head) → HasBegun p k → k.rec ≡ 8
+    → Octets run → TellsMessage goes failures p.message a (map object_events.ObjectOctet run) message b
+    → TellsParts goes failures p a (map DataOctet run) (record p { message = message }) b
+tells_parts_object goes failures p a b run message laws k begun eight octets passed = record {
   limits = refl;
   more = passed.more;
   told = passed.told;
@@ -241,8 +240,8 @@ counts_for messages.ControlOctet m n h = h
 counts_for messages.Sink m n h = h
 
 pub stopped_object : {S : Type 0} (goes : S → List story.StoryEvent → S → Type 0) (failures : S → ℕ) (p : Parts) (a b : S) (front : List ℕ) (octet : ℕ) (cause : MessageCause) → MessageLaws → (k : Head) → HasBegun p k → k.rec ≡ 8
-    → Halted goes failures p.message a (map object_events.ObjectOctet front) (object_events.ObjectOctet octet) (Some cause) b
-    → WasStopped goes failures p a (map DataOctet front) (DataOctet octet) (Some (message_on k cause)) b
+    → MessageRefuses goes failures p.message a (map object_events.ObjectOctet front) (object_events.ObjectOctet octet) (Some cause) b
+    → PartsRefuse goes failures p a (map DataOctet front) (DataOctet octet) (Some (message_on k cause)) b
 stopped_object goes failures p a b front octet cause laws k begun eight halted =
     let same : halted.why ≡ cause = sym (some-same halted.is_cause) in
     record {
@@ -260,9 +259,9 @@ stopped_object goes failures p a b front octet cause laws k begun eight halted =
           let longer = object_more one.ds one.h one.taken front is in
           let t : List ℕ = text_so_far o in
           let next = halted.leads o t at.message in
-          let led_to : LeadTo (o ++ front) (t ++ halted.more) next.0 = subst (λ (xs : List ℕ). LeadTo (o ++ xs) (t ++ halted.more) next.0) (octets_in-octets front) next.1 in
+          let led_to : LeadsTo (o ++ front) (t ++ halted.more) next.0 = subst (λ (xs : List ℕ). LeadsTo (o ++ xs) (t ++ halted.more) next.0) (octets_in-octets front) next.1 in
           let both = laws.living (o ++ front) (t ++ halted.more) next.0 led_to in
-          let has : wire.HasCause halted.why (o ++ front) octet = subst (λ (xs : List ℕ). wire.HasCause halted.why (o ++ xs) octet) (octets_in-octets front) (halted.has_cause o t at.message) in
+          let has : wire_format.HasCause halted.why (o ++ front) octet = subst (λ (xs : List ℕ). wire_format.HasCause halted.why (o ++ xs) octet) (octets_in-octets front) (halted.has_cause o t at.message) in
           let yes : nat_eq one.h.rec 8 ≡ true = is_eight one.h.rec is in
           let in_full : object_so_far one.ds (InData one.h (one.taken ++ front)) ≡ object_of one.ds ++ (one.taken ++ front) = ap (λ (b : Bool). object_of one.ds ++ cond b (one.taken ++ front) []) yes in
           let not_nine : nat_eq one.h.rec 9 ≡ false = ap (λ n. nat_eq n 9) is in
@@ -281,7 +280,7 @@ stopped_object goes failures p a b front octet cause laws k begun eight halted =
               is,
               (
                 cause,
-                subst (λ (c : MessageCause). wire.HasCause c (object_of one.ds ++ (one.taken ++ front)) octet) same (subst (λ (x : List ℕ). wire.HasCause halted.why x octet) (longer ∙ in_full) has),
+                subst (λ (c : MessageCause). wire_format.HasCause c (object_of one.ds ++ (one.taken ++ front)) octet) same (subst (λ (x : List ℕ). wire_format.HasCause halted.why x octet) (longer ∙ in_full) has),
                 ap (λ (x : Head). message_on x cause) same_begun,
               ),
             );

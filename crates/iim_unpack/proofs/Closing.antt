@@ -6,39 +6,37 @@ use Rattle.std.proofs.lemmas.Bool.Decides.{eqb_tells}
 use Rattle.iim_dataset.specs.Format.Octets.{number}
 use Rattle.iim_dataset.specs.Format.Datasets.{Dataset, head_of, of_record}
 use Rattle.iim_dataset.specs.Format.Splits.{InTag, InData}
-use Rattle.iim_dataset.specs.Format.Events.{DatasetEvent, DatasetEnd}
+use Rattle.iim_dataset.specs.States.Events.{DatasetEvent, DatasetEnd}
 use Rattle.iim_dataset.specs.declared.head.Head.{Head}
 use Rattle.iim_fields.specs.Format.Alive.{SectionsLiveAt}
-use Rattle.iim_fields.specs.Format.Faults.{present_record, joined}
-use Rattle.iim_fields.specs.Format.Standing as records
-use Rattle.iim_fields.specs.Format.Checks.{IsValueFault}
-use Rattle.iim_fields.specs.Format.Standing.{IsOf, limits_of}
+use Rattle.iim_fields.specs.Format.Faults.{section_after, joined}
+use Rattle.iim_fields.specs.States.Standing as records
+use Rattle.iim_fields.specs.States.Checks.{IsValueFault}
+use Rattle.iim_fields.specs.States.Standing.{IsOf, limits_of, FieldsPlace}
 use Rattle.iim_fields.specs.Format.Values.{data_of, tells_number, number_told}
-use Rattle.iim_fields.specs.Format.Laws.{NoSectionsBeginOthers}
-use Rattle.iim_fields.specs.Format.Standing.{FieldsPlace}
+use Rattle.iim_fields.specs.Laws.Records.{NoSectionsBeginOthers}
 use Rattle.iim_fields.specs.declared.fault.FieldFault.{FieldFault}
 use Rattle.iim_object.specs.Format.Plans.{max_subfiles}
 use Rattle.iim_object.specs.Format.Places.{value_token}
-use Rattle.iim_object.specs.Format.Reading as objects
+use Rattle.iim_object.specs.States.Reading as objects
 use Rattle.iim_object.specs.Format.Numbers.{place_after_datasets}
 use Rattle.wire_message.specs.Format.Layers.{text_so_far}
-use Rattle.wire_message.specs.Format.Laws.{ReadersStandAtLivingOctets}
-use Rattle.wire_message.specs.Format.Reading as wire
+use Rattle.wire_message.specs.Laws.Messages.{ReadersStandAtLivingOctets}
+use Rattle.wire_message.specs.States.Reading as wire
 use Rattle.iim_unpack.specs.Format.Admitted.{object_of}
 use Rattle.iim_unpack.specs.Format.Tokens.{place_at, IsRefusedValue}
 use Rattle.iim_unpack.specs.Format.Refusals.{of_field, IsObjectFault}
 use Rattle.iim_unpack.specs.Format.Open.{object_so_far}
-use Rattle.iim_unpack.specs.Format.Parts.{AreAfter, Within, CountsFor}
-use Rattle.iim_unpack.specs.Parts.{Closed, NotClosed}
+use Rattle.iim_unpack.specs.States.Parts.{AreAfter, Within, CountsFor}
+use Rattle.iim_unpack.specs.PartSteps.{Closed, NotClosed}
 use Rattle.iim_unpack.specs.declared.parts.Parts.{Parts}
-use Rattle.iim_unpack.specs.declared.fault.TokenFault.{TokenFault}
+use Rattle.iim_unpack.specs.declared.parts.fault.TokenFault.{TokenFault}
 use Rattle.iim_unpack.proofs.Faults.{field_value, object_value}
 use Rattle.iim_unpack.proofs.Places.{number_leads, silent_leads, one_more}
 use Rattle.iim_unpack.proofs.Carrying.{HasBegun, in_one, same_head, all_within}
 use Rattle.iim_unpack.proofs.Sequences.{end_told, all_came}
 use Rattle.iim_unpack.proofs.Heading.{quiet_field, counts_size}
 use Rattle.iim_unpack.proofs.Lasts.{present_last, not_all}
-use Rattle.iim_fields.specs.Format.Laws.{NoSectionsBeginOthers}
 use Rattle.iim_unpack.specs.LowerLaws.{CloseLaws}
 
 -- ---- lists
@@ -82,7 +80,7 @@ pub record Ends (new : Parts) (ds : List Dataset) (d : Dataset) : Type 0 where
 after_data : (p new : Parts) (ds : List Dataset) (h : Head) (taken : List ℕ) → Within p ds h taken → length taken ≡ h.count → Ends new ds (data_of h taken) → new.message ≡ p.message → AreAfter new (ds ++ data_of h taken ∷ [])
 after_data p new ds h taken at whole ends message =
     let d : Dataset = data_of h taken in
-    let present : present_record (ds ++ d ∷ []) ≡ h.rec = present_last 0 ds d in
+    let present : section_after (ds ++ d ∷ []) ≡ h.rec = present_last 0 ds d in
     let object : object_so_far ds (InData h taken) ≡ object_of (ds ++ d ∷ []) = sym (object_of_more ds d) in
     record {
       fields = ends.fields;

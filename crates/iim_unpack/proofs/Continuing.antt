@@ -6,7 +6,7 @@ use Rattle.iim_dataset.specs.Format.Datasets.{Dataset, SpellsStream, count_octet
 use Rattle.iim_dataset.specs.Format.Splits.{Begun, InTag, InData, Reads}
 use Rattle.iim_dataset.specs.declared.head.Head.{Head}
 use Rattle.iim_fields.specs.Format.Alive.{SectionsLive, SectionsLiveAt}
-use Rattle.iim_fields.specs.Format.Faults.{kept, present_record}
+use Rattle.iim_fields.specs.Format.Faults.{kept, section_after}
 use Rattle.iim_fields.specs.Format.Records.{AreSections}
 use Rattle.iim_fields.specs.declared.limits.Limits.{Limits}
 use Rattle.iim_object.specs.Format.Numbers.{ending_of}
@@ -17,19 +17,19 @@ use Rattle.iim_object.specs.Format.Sizes.{mode_number, number_at}
 use Rattle.iim_object.specs.declared.size.Sizes.{Sizes}
 use Rattle.wire_story.specs.Format.Delivery as story
 use Rattle.wire_message.specs.Format.Layers.{text_so_far}
-use Rattle.wire_message.specs.Format.Saved.{LeadToSaved}
-use Rattle.wire_message.specs.Format.SoFar.{LeadTo}
+use Rattle.wire_message.specs.States.Saved.{LeadsToSaved}
+use Rattle.wire_message.specs.States.SoFar.{LeadsTo}
 use Rattle.wire_message.specs.declared.saved.MessagePlace.{MessagePlace}
 use Rattle.wire_message.specs.declared.place.Place.TheVariants as at_message
 use Rattle.iim_unpack.specs.Format.Admitted.{Value, Admits, object_of}
 use Rattle.iim_unpack.specs.ByLayers.{are_ended}
-use Rattle.iim_unpack.specs.Format.Continuing.{AreAlike, ContinueAlike, PlacesContinueAlike}
-use Rattle.iim_unpack.specs.Format.Laws.{NoAdmittedOctetsBeginOthers}
-use Rattle.iim_unpack.specs.Format.Open.{AllCanContinue, object_so_far}
+use Rattle.iim_unpack.specs.Laws.Places.{AreAlike, ContinueAlike, PlacesContinueAlike}
+use Rattle.iim_unpack.specs.Laws.Admitted.{NoAdmittedOctetsBeginOthers}
+use Rattle.iim_unpack.specs.Format.Open.{AllCanContinue, object_so_far, Delivers, IsOpen, IsTextOf}
 use Rattle.iim_unpack.specs.Format.Streams.{IsEnvelopeWithin}
 use Rattle.iim_unpack.specs.Format.Tokens.{CanContinue}
 use Rattle.iim_unpack.specs.Format.Tickets.{Place, TagBegun, AllEnded, IsPlaceOf, heads_of, phase_of, place_of}
-use Rattle.iim_unpack.specs.Format.Open.{Delivers, IsOpen, IsTextOf, OpenOctetsBeginWithNoEnvelope}
+use Rattle.iim_unpack.specs.Laws.Streams.{OpenOctetsBeginWithNoEnvelope}
 use Rattle.iim_unpack.specs.LowerLaws.{OnwardLaws}
 use Rattle.iim_unpack.proofs.Answering.{Lives, goes_envelope, leads_to, lives_envelope, lives_open, one_reading, reads_envelope}
 use Rattle.iim_unpack.proofs.Following.{alive_of, message_of, story_of, within_of}
@@ -47,7 +47,7 @@ none_left : (xs : List Dataset) → length xs ≡ 0 → xs ≡ []
 none_left [] e = refl
 none_left (x ∷ xs) e = absurd (omega (arith, e))
 
-no_nine : OnwardLaws → (ds : List Dataset) → SectionsLive ds → nat_eq (present_record ds) 9 ≡ false → of_record 9 ds ≡ []
+no_nine : OnwardLaws → (ds : List Dataset) → SectionsLive ds → nat_eq (section_after ds) 9 ≡ false → of_record 9 ds ≡ []
 no_nine laws ds alive open' = none_left (of_record 9 ds) (nines laws.opens.answer.follow ds alive ∙ ap (λ (b : Bool). cond b 1 0) open')
 
 heads_as : (ds es : List Dataset) (c d : Begun) → SameBegun c d → heads_of ds c ≡ heads_of es d → length (of_record 8 ds) ≡ length (of_record 8 es)
@@ -193,7 +193,7 @@ one_nine [] one tens = absurd (omega (arith, one))
 one_nine (d ∷ []) one tens = (number d.octets, refl, ap (λ (set : ℕ). cond (nat_eq set 10) (Some (number d.octets)) None) tens.0)
 one_nine (d ∷ x ∷ xs) one tens = absurd (omega (arith, one))
 
-pub sized : OnwardLaws → (limits : Limits) (es : List Dataset) → CanContinue limits es → present_record es ≡ 9 → Sized es
+pub sized : OnwardLaws → (limits : Limits) (es : List Dataset) → CanContinue limits es → section_after es ≡ 9 → Sized es
 sized laws limits es goes nine =
     let follow = laws.opens.answer.follow in
     let stated = stated_after_all follow.objects es goes.records goes.within.subfiles in
@@ -204,12 +204,12 @@ sized laws limits es goes nine =
     record { sizes = s; have = have }
 
 -- the message of an envelope, led to the same end
-ended_at : OnwardLaws → (octets : List ℕ) (v : Value) (a : Admits octets v) (r : List ℕ) (m : SameMessage (object_of a.datasets) r) → LeadTo r m.other (at_message.AfterEnd v.head (record { items = v.trailer }) (length a.message.after))
+ended_at : OnwardLaws → (octets : List ℕ) (v : Value) (a : Admits octets v) (r : List ℕ) (m : SameMessage (object_of a.datasets) r) → LeadsTo r m.other (at_message.AfterEnd v.head (record { items = v.trailer }) (length a.message.after))
 ended_at laws octets v a r m =
     let same : m.at ≡ at_message.AfterEnd v.head (record { items = v.trailer }) (length a.message.after) = (laws.places.one_place (object_of a.datasets) m.text a.text m.at _ m.here (leads_to octets v a)).1 in
-    subst (LeadTo r m.other) same m.there
+    subst (LeadsTo r m.other) same m.there
 
-pub whole_as : OnwardLaws → (limits : Limits) (octets others : List ℕ) (v : Value) (a : Admits octets v) (es : List Dataset) → Reads count_octets others es (InTag []) → SameEnvelope a.datasets es → CanContinue limits es → present_record es ≡ 9
+pub whole_as : OnwardLaws → (limits : Limits) (octets others : List ℕ) (v : Value) (a : Admits octets v) (es : List Dataset) → Reads count_octets others es (InTag []) → SameEnvelope a.datasets es → CanContinue limits es → section_after es ≡ 9
     → (w : Value) × IsEnvelopeWithin limits others w × AreAlike v w
 whole_as laws limits octets others v a es reads same goes nine =
     let led = ended_at laws octets v a (object_of es) same.message in
@@ -307,7 +307,7 @@ both_open laws limits p q place is are opens goes more =
 record AtEnvelope (place : Place) (ds : List Dataset) : Type 0 where
   text : List ℕ
   message : MessagePlace
-  leads : LeadToSaved (object_of ds) text message
+  leads : LeadsToSaved (object_of ds) text message
   is_place : place ≡ place_of ds (InTag []) message
 
 at_envelope : OnwardLaws → (limits : Limits) (p : List ℕ) (v : Value) (place : Place) → IsPlaceOf p place → (whole : IsEnvelopeWithin limits p v) → AtEnvelope place whole.admits.datasets
@@ -317,11 +317,11 @@ at_envelope laws limits p v place is whole =
     record {
       text = is.text;
       message = is.message;
-      leads = subst (λ (b : Begun). LeadToSaved (object_so_far ds b) is.text is.message) same.begun_is (subst (λ (es : List Dataset). LeadToSaved (object_so_far es is.begun) is.text is.message) same.whole_is is.leads);
+      leads = subst (λ (b : Begun). LeadsToSaved (object_so_far ds b) is.text is.message) same.begun_is (subst (λ (es : List Dataset). LeadsToSaved (object_so_far es is.begun) is.text is.message) same.whole_is is.leads);
       is_place = is.is_place ∙ ap (λ (es : List Dataset). place_of es is.begun is.message) same.whole_is ∙ ap (λ (b : Begun). place_of ds b is.message) same.begun_is;
     }
 
-nine_at : OnwardLaws → (limits : Limits) (p : List ℕ) (v : Value) (whole : IsEnvelopeWithin limits p v) → present_record whole.admits.datasets ≡ 9
+nine_at : OnwardLaws → (limits : Limits) (p : List ℕ) (v : Value) (whole : IsEnvelopeWithin limits p v) → section_after whole.admits.datasets ≡ 9
 nine_at laws limits p v whole =
     sections_last laws.opens.answer.follow.ends whole.admits.datasets (goes_envelope laws.opens.answer limits p v whole).sizes.records whole.admits.sections
 
@@ -329,8 +329,8 @@ ended_phase : (b : Bool) (held : List ℕ) → are_ended (if b then AllEnded els
 ended_phase true held = refl
 ended_phase false held = refl
 
-phase_ended : (ds : List Dataset) (c : Begun) → nat_eq (present_record ds) 9 ≡ false → are_ended (phase_of ds c) ≡ false
-phase_ended ds (InTag held) open' = ended_phase (nat_eq (present_record ds) 9) held ∙ open'
+phase_ended : (ds : List Dataset) (c : Begun) → nat_eq (section_after ds) 9 ≡ false → are_ended (phase_of ds c) ≡ false
+phase_ended ds (InTag held) open' = ended_phase (nat_eq (section_after ds) 9) held ∙ open'
 phase_ended ds (InData h taken) open' = refl
 
 -- No place is that of open octets and that of an envelope.
@@ -338,7 +338,7 @@ pub not_both : OnwardLaws → (limits : Limits) (p q : List ℕ) (place : Place)
 not_both laws limits p q place is are opens v whole =
     let was = opened laws.places limits p is.whole is.begun is.reads opens in
     let there = at_envelope laws limits q v place are whole in
-    let ended : are_ended place.phase ≡ true = ap (λ (x : Place). are_ended x.phase) there.is_place ∙ ended_phase (nat_eq (present_record whole.admits.datasets) 9) [] ∙ ap (λ (n : ℕ). nat_eq n 9) (nine_at laws limits q v whole) in
+    let ended : are_ended place.phase ≡ true = ap (λ (x : Place). are_ended x.phase) there.is_place ∙ ended_phase (nat_eq (section_after whole.admits.datasets) 9) [] ∙ ap (λ (n : ℕ). nat_eq n 9) (nine_at laws limits q v whole) in
     let more : are_ended place.phase ≡ false = ap (λ (x : Place). are_ended x.phase) is.is_place ∙ phase_ended is.whole is.begun was.ended in
     let bad : false ≡ true = sym more ∙ ended in
     cc

@@ -3,10 +3,10 @@ use Rattle.std.proofs.Common.{◌≡◌, ℕ, ◌&&◌, Bool, true, false, not, 
 use Rattle.std.proofs.lemmas.Bool.Decides.{eqb_tells}
 use Rattle.iim_dataset.specs.Format.Datasets.{Dataset}
 use Rattle.iim_dataset.specs.declared.head.Head.{Head}
-use Rattle.iim_fields.specs.Format.Checks.{begun_head, present_at}
-use Rattle.iim_fields.specs.Format.Faults.{present_record}
-use Rattle.iim_fields.specs.Format.Standing.{IsInside, StandsAfter, begun_head_of, section_of}
-use Rattle.iim_unpack.specs.Format.Parts.{has_ended}
+use Rattle.iim_fields.specs.States.Checks.{begun_head, section_at}
+use Rattle.iim_fields.specs.Format.Faults.{section_after}
+use Rattle.iim_fields.specs.States.Standing.{IsInside, StandsAfter, begun_head_of, section_of}
+use Rattle.iim_unpack.specs.States.Parts.{has_ended}
 use Rattle.iim_unpack.specs.declared.parts.Parts.{Parts}
 
 and_true : (b : Bool) → (b && true) ≡ b
@@ -17,11 +17,11 @@ and_false : (b : Bool) → (b && false) ≡ false
 and_false true = refl
 and_false false = refl
 
-pub ended_by_record : (p : Parts) (ds : List Dataset) → StandsAfter p.fields ds → has_ended p ≡ nat_eq (present_record ds) 9
+pub ended_by_record : (p : Parts) (ds : List Dataset) → StandsAfter p.fields ds → has_ended p ≡ nat_eq (section_after ds) 9
 unfolding has_ended
 ended_by_record p ds at =
     let none : begun_head_of p.fields ≡ None = ap begun_head at.between.between in
-    let present : section_of p.fields ≡ present_record ds = ap present_at at.checked.at ∙ at.checked.tells.present in
+    let present : section_of p.fields ≡ section_after ds = ap section_at at.checked.at ∙ at.checked.tells.present in
     ap (λ (h : Option Head). nat_eq (section_of p.fields) 9 && is_none h) none ∙ and_true (nat_eq (section_of p.fields) 9) ∙ ap (λ n. nat_eq n 9) present
 
 pub unended_inside : (p : Parts) (h : Head) (n : ℕ) → IsInside p.fields h n → has_ended p ≡ false

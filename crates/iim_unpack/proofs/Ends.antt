@@ -1,13 +1,13 @@
 -- What the object's refusal of a head says of the message after it.
 use Rattle.std.proofs.Common.{ℕ, List, Option, IsSome}
 use Rattle.iim_object.specs.Format.Objects.{ObjectToken}
-use Rattle.iim_object.specs.Format.Reading.{RefusesHead}
-use Rattle.iim_object.specs.declared.state.State.{State}
-use Rattle.iim_object.specs.declared.fault.ObjectFault.{ObjectFault}
-use Rattle.iim_object.specs.declared.fault.ObjectFault.TheVariants.{Size, Stopped}
+use Rattle.iim_object.specs.States.Reading.{RefusesHead}
+use Rattle.iim_object.specs.declared.reading.state.State.{State}
+use Rattle.iim_object.specs.declared.reading.fault.ObjectFault.{ObjectFault}
+use Rattle.iim_object.specs.declared.reading.fault.ObjectFault.TheVariants.{Size, Stopped}
 use Rattle.wire_story.specs.Format.Delivery as story
 use Rattle.iim_unpack.specs.Passed.{PassesTo, HaltsAt, RefusesEnd}
-use Rattle.iim_unpack.specs.declared.message.ToMessage.{ToMessage}
+use Rattle.iim_unpack.specs.declared.parts.message.ToMessage.{ToMessage}
 
 pub by_fault : {S : Type 0} (goes : S → List story.StoryEvent → S → Type 0) (failures : S → ℕ)
     (object : Option State) (token : ObjectToken) (a b : ToMessage S) → IsSome a.message.now

@@ -12,10 +12,10 @@ use Rattle.iim_fields.specs.Format.Records.{after}
 use Rattle.iim_tables.specs.Format.Records.{occurs, has_file_format}
 use Rattle.iim_fields.specs.Format.Alive.{SectionsLive, SectionsLiveAt}
 use Rattle.iim_fields.specs.Format.Values.{tells_number}
-use Rattle.iim_fields.specs.Format.Faults.{kept, kept_octets, is_kept, is_first, is_in_order, fault_on, row_fault, missing_fault, missing_of, head_fault, record_fault, room_fault, limits_fault, first_fault, value_fault, fault_by_row, present_record, present_run}
-use Rattle.iim_fields.specs.Format.Checks.{IsValueFault}
-use Rattle.iim_fields.specs.Format.Standing.{IsHeadFault}
-use Rattle.iim_fields.specs.Format.Laws.{HeadsDieWithTheirFault, ValuesDieWithTheirFault}
+use Rattle.iim_fields.specs.Format.Faults.{kept, kept_octets, is_kept, is_first, is_in_order, fault_on, row_fault, missing_fault, missing_of, head_fault, record_fault, room_fault, limits_fault, first_fault, value_fault, fault_by_row, section_after, section_run}
+use Rattle.iim_fields.specs.States.Checks.{IsValueFault}
+use Rattle.iim_fields.specs.States.Standing.{IsHeadFault}
+use Rattle.iim_fields.specs.Laws.Records.{HeadsDieWithTheirFault, ValuesDieWithTheirFault}
 use Rattle.iim_fields.specs.declared.limits.Limits.{Limits}
 use Rattle.iim_fields.specs.declared.fault.FieldFault.{FieldFault}
 use Rattle.iim_fields.specs.declared.fault.FieldCause.TheVariants.{RecordOrder, Repeated, CountRange, BadValue, FileFormat, HeaderFull, TooManyFields}
@@ -23,14 +23,14 @@ use Rattle.iim_object.specs.Format.Plans.{max_subfiles}
 use Rattle.iim_object.specs.Format.Objects.{ObjectToken, ObjectLanguage}
 use Rattle.iim_object.specs.Format.Places.{Place, MayFollow, place_after, head_token, value_token}
 use Rattle.iim_object.specs.Format.Causes.{cause_at}
-use Rattle.iim_object.specs.Format.Reading.{StandsAt, Refuses}
-use Rattle.iim_object.specs.Format.Numbers.{place_after_datasets, TokensFollow}
-use Rattle.iim_object.specs.declared.state.State.{State}
-use Rattle.iim_object.specs.declared.fault.SizeCause.{SizeCause}
-use Rattle.iim_unpack.specs.Format.Refusals.{layer_of, of_field, size_on, too_many_on}
+use Rattle.iim_object.specs.States.Reading.{StandsAt, Refuses}
+use Rattle.iim_object.specs.Format.Numbers.{place_after_datasets}
+use Rattle.iim_object.specs.Laws.Numbers.{TokensFollow}
+use Rattle.iim_object.specs.declared.reading.state.State.{State}
+use Rattle.iim_object.specs.declared.reading.fault.SizeCause.{SizeCause}
+use Rattle.iim_unpack.specs.Format.Refusals.{layer_of, of_field, size_on, too_many_on, IsObjectFault}
 use Rattle.iim_unpack.specs.Format.Tokens.{HaveRoom, ObjectLives, place_at, DiesAtHead, DiesAtValue, subfile_fault, object_fault, number_fault, IsRefusedHead, IsRefusedValue}
-use Rattle.iim_unpack.specs.Format.Refusals.{IsObjectFault}
-use Rattle.iim_unpack.specs.declared.fault.TokenFault.{TokenFault}
+use Rattle.iim_unpack.specs.declared.parts.fault.TokenFault.{TokenFault}
 use Rattle.iim_unpack.specs.declared.refusal.Layer.{Layer}
 use Rattle.iim_unpack.specs.declared.refusal.Layer.TheVariants as layers
 use Rattle.iim_unpack.proofs.Places.{HeadLeads, ValueLeads}
@@ -104,7 +104,7 @@ field_head dies limits ds h f small alive is =
     let both = dies ds h alive in
     record {
       first = ap (λ (o : Option FieldFault). option_or (option_map of_field o) (option_or (subfile_fault ds h) (object_fault ds h))) is.first;
-      dead = dies_by limits ds h f (record_fault ds h) (limits_fault limits ds h) (head_records (present_record ds) (λ n. occurs n (present_run ds)) h)
+      dead = dies_by limits ds h f (record_fault ds h) (limits_fault limits ds h) (head_records (section_after ds) (λ n. occurs n (section_run ds)) h)
           (room_limits limits (kept_octets ds) (length (kept ds)) h) (λ none. both.0 (none, small)) (λ at. (both.1 at).0) is.first (λ at room. is.dead at room.kept);
     }
 

@@ -6,51 +6,48 @@ use Rattle.std.proofs.lemmas.Bool.Decides.{eqb_tells}
 use Rattle.iim_dataset.specs.Format.Datasets.{Dataset, SpellsStream, count_octets, of_record}
 use Rattle.iim_dataset.specs.Format.Splits.{Begun, InTag, InData, Reads}
 use Rattle.iim_dataset.specs.Format.Tags.{Concerns}
-use Rattle.iim_dataset.specs.Format.Events.{DatasetEvent, HeadRead, DataOctet, DatasetEnd, handed_on, begun_data}
-use Rattle.iim_dataset.specs.Format.Places.{LeadsTo, HandsOn, IsKeptAs, between, named_by, to_come}
-use Rattle.iim_dataset.specs.Format.Reading.{Completes, TagDies, TakesCalls}
-use Rattle.iim_dataset.specs.Format.Completing.{CompletesData, CompletesHead, CompletesOctet, CompletesEnd, CompletesNow}
+use Rattle.iim_dataset.specs.States.Events.{DatasetEvent, HeadRead, DataOctet, DatasetEnd, handed_on, begun_data}
+use Rattle.iim_dataset.specs.States.Places.{LeadsTo, HandsOn, IsKeptAs, between, named_by, to_come}
+use Rattle.iim_dataset.specs.States.Reading.{Completes, TagDies, TakesCalls}
+use Rattle.iim_dataset.specs.Format.Completing.{CompletesData}
+use Rattle.iim_dataset.specs.Laws.Completing.{CompletesHead, CompletesOctet, CompletesEnd, CompletesNow}
 use Rattle.iim_dataset.specs.declared.head.Head.{Head}
 use Rattle.iim_dataset.specs.declared.head.HeadCause.{HeadCause}
 use Rattle.iim_dataset.specs.declared.head.HeadCause.TheVariants.{Marker, CountForm}
 use Rattle.iim_dataset.specs.declared.place.DatasetPlace.{DatasetPlace as Place}
 use Rattle.iim_dataset.specs.declared.place.DatasetPlace.TheVariants.{Tag, Inside}
 use Rattle.iim_fields.specs.Format.Records.{AreSections}
-use Rattle.iim_fields.specs.Format.Faults.{present_record, kept as kept_of}
-use Rattle.iim_fields.specs.Format.Faults.{kept as kept_of}
-use Rattle.iim_fields.specs.Format.Standing.{limits_of, StandsAfter}
+use Rattle.iim_fields.specs.Format.Faults.{section_after, kept as kept_of}
+use Rattle.iim_fields.specs.States.Standing.{limits_of, StandsAfter}
 use Rattle.iim_fields.specs.declared.limits.Limits.{Limits}
-use Rattle.iim_object.specs.Format.Reading as objects
+use Rattle.iim_object.specs.States.Reading as objects
 use Rattle.iim_object.specs.Format.Numbers.{place_after_datasets}
 use Rattle.iim_object.specs.Format.Records.{AreObjectRecords, HaveSizes}
 use Rattle.iim_object.specs.declared.size.Sizes.{Sizes}
 use Rattle.wire_story.specs.Format.Delivery as story
 use Rattle.wire_message.specs.Format.Layers.{text_so_far}
-use Rattle.wire_message.specs.Format.Laws.{ReadersStandAtLivingOctets}
-use Rattle.wire_message.specs.Format.Reading as wire
+use Rattle.wire_message.specs.Laws.Messages.{ReadersStandAtLivingOctets}
+use Rattle.wire_message.specs.States.Reading as wire
+use Rattle.wire_message.specs.Format.Causes as wire_format
 use Rattle.wire_story.specs.Format.Texts.{IsText}
 use Rattle.wire_message.specs.Format.Messages.{Header, IsMessage}
-use Rattle.iim_fields.specs.Format.Standing.{StandsAfter}
-use Rattle.iim_unpack.specs.Format.Laws.{AdmittedOctetsHaveOneValue}
+use Rattle.iim_unpack.specs.Laws.Admitted.{AdmittedOctetsHaveOneValue}
 use Rattle.iim_unpack.specs.Format.Value.{HasParts, ShowsParts}
 use Rattle.iim_unpack.specs.declared.unpacker.Unpacked.{Unpacked}
 use Rattle.iim_unpack.specs.declared.unpacker.UnpackedRef.{UnpackedRef}
 use Rattle.iim_unpack.specs.Format.Admitted.{Value, Admits, object_of}
-use Rattle.iim_unpack.specs.Format.Refusals.{begun_record, begun_number, tag_cause}
-use Rattle.iim_unpack.specs.Format.Refusals.{refusal_at, message_on}
+use Rattle.iim_unpack.specs.Format.Refusals.{begun_record, begun_number, tag_cause, refusal_at, message_on}
 use Rattle.iim_unpack.specs.Format.Tokens.{IsRefusedHead, IsRefusedValue}
 use Rattle.iim_fields.specs.Format.Values.{data_of}
-use Rattle.iim_unpack.specs.Format.Refusals.{cause_of_tag}
-use Rattle.iim_unpack.specs.Format.Open.{object_so_far, AllCanContinue, IsUnfinished}
-use Rattle.iim_unpack.specs.Format.Parts.{AreAfter, StandsFor, Led, Refused, RefusesAt, has_ended}
+use Rattle.iim_unpack.specs.UnpackerInside.{cause_of_tag, Advanced, FailsAs, IsOnward, tag_fault, begins, Stood, IsUnpacking}
+use Rattle.iim_unpack.specs.Format.Open.{object_so_far, AllCanContinue, IsUnfinished, IsTextOf, Delivers, IsOpen, IsBadTagAt, RefusesNext, IsTruncatedAt, truncated_in}
+use Rattle.iim_unpack.specs.States.Parts.{AreAfter, StandsFor, AreLed, Refused, RefusesAt, has_ended}
 use Rattle.iim_unpack.specs.Sequence.{AreInOrder}
 use Rattle.iim_unpack.specs.Going.{front_in_order}
 use Rattle.iim_unpack.specs.Routing.{Takes, HasEnded}
-use Rattle.iim_unpack.specs.Format.Unpacking.{Unpacking, raised, are_some, limits_in, IsLed, Stands, IsDoneWith, IsRefusedIn}
-use Rattle.iim_unpack.specs.Unpacking.{Advanced, FailsAs, IsOnward, tag_fault, begins, Stood, IsUnpacking}
-use Rattle.iim_unpack.specs.Format.Open.{IsTextOf, Delivers, IsOpen, IsBadTagAt, RefusesNext, IsTruncatedAt, truncated_in}
+use Rattle.iim_unpack.specs.States.Unpacking.{Unpacking, raised, are_some, limits_in, IsLed, Stands, IsDoneWith, IsRefusedIn}
 use Rattle.iim_unpack.specs.declared.parts.Parts.{Parts}
-use Rattle.iim_unpack.specs.declared.fault.TokenFault.{TokenFault}
+use Rattle.iim_unpack.specs.declared.parts.fault.TokenFault.{TokenFault}
 use Rattle.iim_unpack.specs.declared.refusal.Refusal.{Refusal}
 use Rattle.iim_unpack.specs.declared.refusal.Cause.{Cause}
 use Rattle.iim_unpack.specs.declared.refusal.Layer.TheVariants as layers
@@ -103,7 +100,7 @@ all_for : ReadersStandAtLivingOctets → (parts : Parts) (ds : List Dataset) (b 
 all_for living parts ds (InTag held) at = all_after living parts ds held at
 all_for living parts ds (InData h taken) at = all_within living parts ds h taken at
 
-pub both : FeedLaws → (parts : Parts) (p : List ℕ) (events : List DatasetEvent) (text : List ℕ) (place : Place) → (leads : LeadsTo count_octets p events place) → Led parts events text
+pub both : FeedLaws → (parts : Parts) (p : List ℕ) (events : List DatasetEvent) (text : List ℕ) (place : Place) → (leads : LeadsTo count_octets p events place) → AreLed parts events text
     → Both (limits_of parts.fields) p leads.begun text parts
 both laws parts p events text place leads led =
     let told = laws.tell leads.hands.whole led.whole leads.begun led.begun (sym leads.hands.handed ∙ led.told) in
@@ -120,7 +117,7 @@ both laws parts p events text place leads led =
       same = told.0;
     }
 
-pub text_of : FeedLaws → (parts : Parts) (p : List ℕ) (events : List DatasetEvent) (text : List ℕ) (place : Place) → LeadsTo count_octets p events place → Led parts events text → IsTextOf p text
+pub text_of : FeedLaws → (parts : Parts) (p : List ℕ) (events : List DatasetEvent) (text : List ℕ) (place : Place) → LeadsTo count_octets p events place → AreLed parts events text → IsTextOf p text
 text_of laws parts p events text place leads led = let b = both laws parts p events text place leads led in (b.whole, leads.begun, b.reads, b.text_is)
 
 -- octets have one text
@@ -139,7 +136,7 @@ unfinished laws parts ds (InTag held) at more sections =
     true≢false (sym (ap (λ n. nat_eq n 9) nine) ∙ sym (ended_by_record parts ds at.fields) ∙ more)
 unfinished laws parts ds (InData h taken) at more sections = not_all laws.sections ds h at.fields.alive sections
 
-pub open_by : FeedLaws → (parts : Parts) (p : List ℕ) (events : List DatasetEvent) (text : List ℕ) (place : Place) → LeadsTo count_octets p events place → Led parts events text → has_ended parts ≡ false → IsOpen (limits_of parts.fields) p
+pub open_by : FeedLaws → (parts : Parts) (p : List ℕ) (events : List DatasetEvent) (text : List ℕ) (place : Place) → LeadsTo count_octets p events place → AreLed parts events text → has_ended parts ≡ false → IsOpen (limits_of parts.fields) p
 open_by laws parts p events text place leads led more =
     let b = both laws parts p events text place leads led in
     record {
@@ -160,10 +157,10 @@ raised_on : (m n a k : ℕ) → m ≡ a → n ≡ raised m k → n ≡ raised a 
 raised_on m n a k same is = is ∙ ap (λ x. raised x k) same
 
 -- by octets, the parts went on from where events had led them
-went_on : {S : Type 0} (goes : S → List story.StoryEvent → S → Type 0) (failures : S → ℕ) (old : Place) (was : Parts) (p octets : List ℕ) (place : Place) (q : Parts) (a b : S)
-    → (advanced : Advanced goes failures old octets place was a q b) → (events : List DatasetEvent) (text : List ℕ) → LeadsTo count_octets p events old → Led was events text
-    → Led q (events ++ advanced.more) (text ++ advanced.went.more)
-went_on goes failures old was p octets place q a b advanced events text leads led =
+tells_parts_on : {S : Type 0} (goes : S → List story.StoryEvent → S → Type 0) (failures : S → ℕ) (old : Place) (was : Parts) (p octets : List ℕ) (place : Place) (q : Parts) (a b : S)
+    → (advanced : Advanced goes failures old octets place was a q b) → (events : List DatasetEvent) (text : List ℕ) → LeadsTo count_octets p events old → AreLed was events text
+    → AreLed q (events ++ advanced.more) (text ++ advanced.went.more)
+tells_parts_on goes failures old was p octets place q a b advanced events text leads led =
     let next = advanced.brings p events leads in advanced.went.leads events text (handed_in_order (p ++ octets) (events ++ advanced.more) next.begun next.hands) led
 
 pub adds_by : {S : Type 0} (goes : S → List story.StoryEvent → S → Type 0) (failures : S → ℕ) → FeedLaws → (u v : Unpacking) (p octets : List ℕ) (place : Place) (q : Parts) (a b : S)
@@ -172,7 +169,7 @@ adds_by goes failures laws u v p octets place q a b advanced led text is =
     let same = one_text laws p text led.text is (text_of laws u.parts p led.events led.text u.reader.place led.leads led.led) in (
       advanced.went.more,
       subst (λ (t : List ℕ). IsTextOf (p ++ octets) (t ++ advanced.went.more)) (sym same)
-          (text_of laws q (p ++ octets) (led.events ++ advanced.more) (led.text ++ advanced.went.more) place (advanced.brings p led.events led.leads) (went_on goes failures u.reader.place u.parts p octets place q a b advanced led.events led.text led.leads led.led)),
+          (text_of laws q (p ++ octets) (led.events ++ advanced.more) (led.text ++ advanced.went.more) place (advanced.brings p led.events led.leads) (tells_parts_on goes failures u.reader.place u.parts p octets place q a b advanced led.events led.text led.leads led.led)),
       refl,
     )
 
@@ -182,7 +179,7 @@ led_by goes failures u v p octets a b advanced led = record {
   events = led.events ++ advanced.more;
   text = led.text ++ advanced.went.more;
   leads = advanced.brings p led.events led.leads;
-  led = went_on goes failures u.reader.place u.parts p octets v.reader.place v.parts a b advanced led.events led.text led.leads led.led;
+  led = tells_parts_on goes failures u.reader.place u.parts p octets v.reader.place v.parts a b advanced led.events led.text led.leads led.led;
 }
 
 begun_on : (u v : Bool) (p piece : List ℕ) → u ≡ are_some p → v ≡ begins u piece → v ≡ are_some (p ++ piece)
@@ -237,7 +234,7 @@ record AtEnd (v : Unpacking) (events : List DatasetEvent) : Type 0 where
   pub after : AreAfter v.parts ds
   pub told : events ≡ handed_on ds (InTag held)
 
-at_end : (v : Unpacking) (events : List DatasetEvent) (text : List ℕ) → has_ended v.parts ≡ true → Led v.parts events text → AtEnd v events
+at_end : (v : Unpacking) (events : List DatasetEvent) (text : List ℕ) → has_ended v.parts ≡ true → AreLed v.parts events text → AtEnd v events
 at_end v events text last led = by led.begun led.stands led.told
   where
     by : (b : Begun) → StandsFor v.parts led.whole b → events ≡ handed_on led.whole b → AtEnd v events
@@ -249,7 +246,7 @@ whole_parts laws v p last place led =
     let at = at_end v led.events led.text last led.led in
     let same = (laws.tell at.ds led.leads.hands.whole (InTag at.held) led.leads.begun (sym at.told ∙ led.leads.hands.handed)).0 in
     let after = at.after in
-    let nine : present_record at.ds ≡ 9 = eqb-true (present_record at.ds) 9 (sym (ended_by_record v.parts at.ds after.fields) ∙ last) in
+    let nine : section_after at.ds ≡ 9 = eqb-true (section_after at.ds) 9 (sym (ended_by_record v.parts at.ds after.fields) ∙ last) in
     let (head, is, message, (lines, lined)) = after.ended nine (object_of at.ds) (text_so_far (object_of at.ds)) after.message in
     record {
       ds = at.ds;
@@ -363,7 +360,7 @@ kept_tag held (InTag octets) keeps = ap InTag (sym keeps)
 kept_tag held (InData h taken) keeps = absurd keeps
 
 bad_tag : FeedLaws → (limits : Limits) (parts : Parts) (p : List ℕ) (events : List DatasetEvent) (text : List ℕ) (place : Place) (next : ℕ) (cause : HeadCause) (fault : TokenFault) → limits_of parts.fields ≡ limits
-    → LeadsTo count_octets p events place → Led parts events text → has_ended parts ≡ false → TagDies place next cause → fault ≡ tag_fault (named_by place) cause → IsBadTagAt limits p next fault
+    → LeadsTo count_octets p events place → AreLed parts events text → has_ended parts ≡ false → TagDies place next cause → fault ≡ tag_fault (named_by place) cause → IsBadTagAt limits p next fault
 bad_tag laws limits parts p events text place next cause fault same leads led more dies is =
     let b = both laws parts p events text place leads led in
     let begun : leads.begun ≡ InTag dies.held = kept_tag dies.held leads.begun (subst (λ (x : Place). IsKeptAs x leads.begun) dies.tag leads.keeps) in
@@ -432,7 +429,7 @@ octet_refused laws limits octets next events text fault c r = by r.begun r.refus
             unfinished = subst (λ (ds : List Dataset). AreSections ds → ⊥) told.0 r.unfinished;
             subfile = sym (ap (λ (x : Head). x.rec) head) ∙ eight;
             cause = cause;
-            has_cause = subst (λ (ds : List Dataset). wire.HasCause cause (object_of ds ++ c.taken) next) told.0 (subst (λ (xs : List ℕ). wire.HasCause cause (object_of r.whole ++ xs) next) given has);
+            has_cause = subst (λ (ds : List Dataset). wire_format.HasCause cause (object_of ds ++ c.taken) next) told.0 (subst (λ (xs : List ℕ). wire_format.HasCause cause (object_of r.whole ++ xs) next) given has);
             is_fault = is_fault ∙ ap (λ (x : Head). message_on x cause) head;
           })));
         }
@@ -502,7 +499,7 @@ refused_in goes failures laws u piece k fault a b e within is (inl (cause, new, 
       λ p n at.
           let led = at.is_led in
           let leads = stuck.advanced.brings p led.events led.leads in
-          let then_led = went_on goes failures u.reader.place u.parts p (take k piece) new stuck.parts a b stuck.advanced led.events led.text led.leads led.led in
+          let then_led = tells_parts_on goes failures u.reader.place u.parts p (take k piece) new stuck.parts a b stuck.advanced led.events led.text led.leads led.led in
           record {
             k = k;
             within = within;
@@ -568,7 +565,7 @@ truncated_by u p a at =
 pub stands_new : FeedLaws → (u : Unpacking) → u.refused ≡ None → u.octets ≡ 0 → u.begun ≡ false → LeadsTo count_octets [] [] u.reader.place → AreAfter u.parts [] → Stands u [] 0
 stands_new laws u taking counts none leads after =
     let more : has_ended u.parts ≡ false = ended_by_record u.parts [] after.fields in
-    let led : Led u.parts [] [] = record { whole = []; begun = InTag []; told = refl; stands = after; is_text = refl } in
+    let led : AreLed u.parts [] [] = record { whole = []; begun = InTag []; told = refl; stands = after; is_text = refl } in
     record {
       taking = taking;
       unended = more;

@@ -6,7 +6,7 @@ use Rattle.iim_dataset.specs.Format.Octets.{Octets, greatest_size}
 use Rattle.iim_dataset.specs.Format.Datasets.{Dataset, SpellsStream, count_octets, of_record}
 use Rattle.iim_dataset.specs.Format.Splits.{Begun, InTag, InData, Reads}
 use Rattle.iim_fields.specs.Format.Records.{AreSections}
-use Rattle.iim_fields.specs.Format.Faults.{kept, kept_octets, joined, is_kept, present_record}
+use Rattle.iim_fields.specs.Format.Faults.{kept, kept_octets, joined, is_kept, section_after}
 use Rattle.iim_fields.specs.Format.Values.{tells_number}
 use Rattle.iim_fields.specs.Format.Alive.{SectionsLiveAt}
 use Rattle.iim_dataset.specs.declared.head.Head.{Head}
@@ -15,9 +15,9 @@ use Rattle.iim_object.specs.Format.Objects.{SubfileBegun}
 use Rattle.iim_object.specs.Format.Places.{place_after}
 use Rattle.iim_object.specs.Format.Numbers.{place_after_datasets, place_ended}
 use Rattle.iim_object.specs.Format.Records.{lengths_of, numbers_of}
-use Rattle.iim_object.specs.Format.Saved.{stated_numbers}
+use Rattle.iim_object.specs.States.Saved.{stated_numbers}
 use Rattle.iim_object.specs.Format.Sizes.{Stated, number_at}
-use Rattle.wire_message.specs.Format.Saved.{LeadToSaved}
+use Rattle.wire_message.specs.States.Saved.{LeadsToSaved}
 use Rattle.wire_message.specs.declared.saved.MessagePart.{MessagePart}
 use Rattle.wire_message.specs.declared.saved.MessagePart.TheVariants as part
 use Rattle.wire_message.specs.declared.saved.MessagePlace.{MessagePlace}
@@ -26,12 +26,11 @@ use Rattle.iim_unpack.specs.LowerLaws.{AnswerLaws}
 use Rattle.iim_unpack.specs.Format.Open.{object_so_far, section, AllCanContinue}
 use Rattle.iim_unpack.specs.Format.Tokens.{ObjectLives, MayContinue}
 use Rattle.iim_unpack.specs.Format.Tickets.{Place, Phase, TagBegun, DataBegun, AllEnded, present_version, phase_of, heads_of, place_of, ticket_in, layout, text_octets, texts_octets, part_number}
-use Rattle.iim_unpack.specs.Format.Begins.{IsLongField}
-use Rattle.iim_unpack.specs.Format.Begins.{IsSize, IsSizeIn, AreNumbers, AreTexts}
+use Rattle.iim_unpack.specs.States.Begins.{IsLongField, IsSize, IsSizeIn, AreNumbers, AreTexts}
 use Rattle.iim_unpack.specs.Format.TicketForm.{IsVersion, IsPhase, HasForm, Split, SplitsTicket, split_octets}
-use Rattle.iim_unpack.specs.Format.Possible.{Possible, IsSmall, IsSmallPhase, IsSmallPlace, widest}
-use Rattle.iim_unpack.specs.Format.Scales.{SmallPlacesWerePossible, TicketsTellOnePlace}
-use Rattle.iim_unpack.specs.Format.TicketsTold.{TicketsOfPlacesAreSplit, texts_of, split_of}
+use Rattle.iim_unpack.specs.States.Possible.{Possible, IsSmall, IsSmallPhase, IsSmallPlace, widest}
+use Rattle.iim_unpack.specs.Laws.Places.{SmallPlacesWerePossible, TicketsTellOnePlace}
+use Rattle.iim_unpack.specs.Laws.Tickets.{TicketsOfPlacesAreSplit, texts_of, split_of}
 use Rattle.iim_unpack.proofs.Answering.{Lives, lives_open, lives_envelope, one_reading}
 use Rattle.iim_unpack.proofs.Bounds.{low, object_fits, tag_low, IsOne, all_ones, is_one, few_in_seven, IsFive, alive_five}
 use Rattle.iim_unpack.proofs.Splitting.{one_split}
@@ -49,7 +48,7 @@ pub record Lived (place : Place) : Type 0 where
   pub leads_on : AllCanContinue widest whole begun
   pub text : List ℕ
   pub message : MessagePlace
-  pub leads : LeadToSaved (object_so_far whole begun) text message
+  pub leads : LeadsToSaved (object_so_far whole begun) text message
   pub is_place : place ≡ place_of whole begun message
 
 pub lived : AnswerLaws → (place : Place) → Possible place → Lived place
@@ -151,9 +150,9 @@ few_kept ds (InData h taken) goes = let few = goes.within.kept.fields_in in omeg
 -- ---- what is begun
 
 phase_fits : (octets : List ℕ) (ds : List Dataset) (b : Begun) → Reads count_octets octets ds b → IsPhase present_version (section ds b) (phase_of ds b)
-phase_fits octets ds (InTag held) reads = by (nat_eq (present_record ds) 9)
+phase_fits octets ds (InTag held) reads = by (nat_eq (section_after ds) 9)
   where
-    by : (b : Bool) → IsPhase present_version (present_record ds) (if b then AllEnded else TagBegun held)
+    by : (b : Bool) → IsPhase present_version (section_after ds) (if b then AllEnded else TagBegun held)
     by true = tt
     by false = omega (arith, held_length octets ds held reads)
 phase_fits octets ds (InData h taken) reads = (omega (arith, tag_low h reads.is_rest.0 reads.is_rest.1), omega arith, by (nat_eq h.rec 8))
@@ -216,9 +215,9 @@ five_of : (ds : List Dataset) (h : Head) → SectionsLiveAt ds h → IsFive h.re
 five_of ds h (d, head, alive) = subst IsFive (ap (λ (k : Head). k.rec) head) (last_of (λ (x : Dataset). IsFive x.rec) ds d (alive_five (ds ++ d ∷ []) alive))
 
 low_head : (ds : List Dataset) (b : Begun) → MayContinue widest ds b → LowHead (section ds b) (phase_of ds b)
-low_head ds (InTag held) goes = by (nat_eq (present_record ds) 9)
+low_head ds (InTag held) goes = by (nat_eq (section_after ds) 9)
   where
-    by : (b : Bool) → LowHead (present_record ds) (if b then AllEnded else TagBegun held)
+    by : (b : Bool) → LowHead (section_after ds) (if b then AllEnded else TagBegun held)
     by true = tt
     by false = tt
 low_head ds (InData h taken) goes = (

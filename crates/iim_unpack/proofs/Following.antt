@@ -4,25 +4,24 @@ use Rattle.std.proofs.lemmas.List.Concat.{flat_map-append}
 use Rattle.std.proofs.lemmas.List.Elements.{filter-append}
 use Rattle.iim_dataset.specs.Format.Datasets.{Dataset, SpellsTag, SpellsStream, head_of, count_octets, of_record}
 use Rattle.iim_dataset.specs.Format.Splits.{Begun, InTag, InData, IsBegun, Reads}
-use Rattle.iim_dataset.specs.Format.Laws.{NoTagBeginsAnother}
+use Rattle.iim_dataset.specs.Laws.Datasets.{NoTagBeginsAnother}
 use Rattle.iim_dataset.specs.Format.Languages as languages
 use Rattle.iim_dataset.specs.declared.head.Head.{Head}
 use Rattle.iim_fields.specs.Format.Records.{AreSections}
 use Rattle.iim_fields.specs.Format.Alive.{SectionsLive}
-use Rattle.iim_fields.specs.Format.Faults.{present_record, joined}
+use Rattle.iim_fields.specs.Format.Faults.{section_after, joined}
 use Rattle.iim_fields.specs.Format.Values.{data_of}
 use Rattle.iim_fields.specs.declared.limits.Limits.{Limits}
 use Rattle.iim_object.specs.Format.Objects.{ObjectLanguage}
 use Rattle.iim_object.specs.Format.Places.{place_after, head_token, tokens_of}
-use Rattle.iim_object.specs.Format.Records.{AreSized}
+use Rattle.iim_object.specs.Laws.Records.{AreSized}
 use Rattle.iim_object.specs.Format.Numbers.{place_after_datasets}
 use Rattle.wire_story.specs.Format.Tokens.{Octet, End}
 use Rattle.wire_message.specs.Format.Layers.{MessageLanguage, MessageLivesWith, StoryLivesIn}
 use Rattle.iim_unpack.specs.Format.Admitted.{object_of}
-use Rattle.iim_unpack.specs.Format.Tokens.{MayContinue}
+use Rattle.iim_unpack.specs.Format.Tokens.{MayContinue, CanContinueAt, ObjectLives, place_at}
 use Rattle.iim_unpack.specs.Format.Framed.{AreWithin}
 use Rattle.iim_unpack.specs.Format.Open.{object_so_far, section, message_tokens, AllCanContinue}
-use Rattle.iim_unpack.specs.Format.Tokens.{CanContinueAt, ObjectLives, place_at}
 use Rattle.iim_unpack.proofs.Frames.{compare}
 use Rattle.iim_unpack.proofs.Fronts.{no_longer, begun_none}
 use Rattle.iim_unpack.proofs.Lasts.{present_last, not_all}
@@ -232,11 +231,11 @@ ends_tokens ds h taken nine =
     ap (λ (r : ℕ). map Octet (object_of ds ++ (if nat_eq r 8 then taken else [])) ++ (if nat_eq r 9 then End ∷ [] else [])) nine
     ∙ ap (λ (o : List ℕ). map Octet o ++ End ∷ []) (append-nil (object_of ds))
 
-after_last : (ds : List Dataset) (d : Dataset) → d.rec ≡ 9 → map Octet (object_of (ds ++ d ∷ [])) ++ (if nat_eq (present_record (ds ++ d ∷ [])) 9 then End ∷ [] else []) ≡ map Octet (object_of ds) ++ End ∷ []
+after_last : (ds : List Dataset) (d : Dataset) → d.rec ≡ 9 → map Octet (object_of (ds ++ d ∷ [])) ++ (if nat_eq (section_after (ds ++ d ∷ [])) 9 then End ∷ [] else []) ≡ map Octet (object_of ds) ++ End ∷ []
 after_last ds d nine =
     let none : object_of (d ∷ []) ≡ [] = ap (λ (r : ℕ). joined (cond (nat_eq r 8) (d ∷ []) [])) nine in
     let object : object_of (ds ++ d ∷ []) ≡ object_of ds = objects_append ds (d ∷ []) ∙ ap (λ (xs : List ℕ). object_of ds ++ xs) none ∙ append-nil (object_of ds) in
-    ap (λ (o : List ℕ). map Octet o ++ (if nat_eq (present_record (ds ++ d ∷ [])) 9 then End ∷ [] else [])) object
+    ap (λ (o : List ℕ). map Octet o ++ (if nat_eq (section_after (ds ++ d ∷ [])) 9 then End ∷ [] else [])) object
     ∙ ap (λ (r : ℕ). map Octet (object_of ds) ++ (if nat_eq r 9 then End ∷ [] else [])) (present_last 0 ds d ∙ nine)
 
 -- Where the head of 9:10 has come, a message can end with the octets of the object.

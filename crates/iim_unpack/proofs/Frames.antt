@@ -2,11 +2,11 @@
 use Rattle.std.proofs.Common.{◌≡◌, ℕ, ◌⊎◌, true, false, List, [], ◌∷◌, ◌++◌, refl, ap, sym, subst, ◌∙◌, inl, inr, append_assoc}
 use Rattle.std.proofs.lemmas.List.{append-nil}
 use Rattle.iim_dataset.specs.Format.Datasets.{Dataset, SpellsDataset, SpellsStream, count_octets}
-use Rattle.iim_dataset.specs.Format.Laws.{NoDatasetBeginsAnother}
+use Rattle.iim_dataset.specs.Laws.Datasets.{NoDatasetBeginsAnother}
 use Rattle.iim_tables.specs.Format.Rows.{table}
 use Rattle.iim_fields.specs.Format.Records.{AreSections}
-use Rattle.iim_fields.specs.Format.Laws.{NoSectionsBeginOthers}
-use Rattle.iim_unpack.specs.Format.Laws.{NoEnvelopeIsEmpty}
+use Rattle.iim_fields.specs.Laws.Records.{NoSectionsBeginOthers}
+use Rattle.iim_unpack.specs.Laws.Admitted.{NoEnvelopeIsEmpty}
 
 -- ---- two streams that agree
 

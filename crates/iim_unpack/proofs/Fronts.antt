@@ -3,7 +3,7 @@ use Rattle.std.proofs.Common.{◌≡◌, ℕ, ◌<◌, List, [], ◌++◌, lengt
 use Rattle.std.proofs.lemmas.List.{append-nil}
 use Rattle.iim_dataset.specs.Format.Datasets.{Dataset, SpellsTag, SpellsDataset, head_of, count_octets}
 use Rattle.iim_dataset.specs.Format.Splits.{Begun, InTag, InData, IsBegun}
-use Rattle.iim_dataset.specs.Format.Laws.{NoTagBeginsAnother}
+use Rattle.iim_dataset.specs.Laws.Datasets.{NoTagBeginsAnother}
 use Rattle.iim_dataset.specs.declared.head.Head.{Head}
 
 -- a tag is no longer tag

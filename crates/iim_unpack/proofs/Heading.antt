@@ -3,13 +3,12 @@ use Rattle.std.proofs.Common.{◌≡◌, ℕ, ◌<◌, ◌≤◌, ◌⊎◌, Boo
 use Rattle.std.proofs.lemmas.Bool.Decides.{eqb_tells}
 use Rattle.iim_dataset.specs.Format.Datasets.{Dataset, of_record}
 use Rattle.iim_dataset.specs.Format.Splits.{InTag, InData}
-use Rattle.iim_dataset.specs.Format.Events.{DatasetEvent, HeadRead, events_of}
+use Rattle.iim_dataset.specs.States.Events.{DatasetEvent, HeadRead, events_of}
 use Rattle.iim_dataset.specs.Format.Languages as languages
 use Rattle.iim_dataset.specs.declared.head.Head.{Head}
 use Rattle.iim_fields.specs.Format.Alive.{SectionsLiveAt}
-use Rattle.iim_fields.specs.Format.Standing as records
-use Rattle.iim_fields.specs.Format.Standing.{IsBetween, IsHeadFault, limits_of}
-use Rattle.iim_fields.specs.Format.Standing.{FieldsPlace}
+use Rattle.iim_fields.specs.States.Standing as records
+use Rattle.iim_fields.specs.States.Standing.{IsBetween, IsHeadFault, limits_of, FieldsPlace}
 use Rattle.iim_fields.specs.declared.fault.FieldFault.{FieldFault}
 use Rattle.iim_fields.specs.declared.fault.FieldCause.{FieldCause}
 use Rattle.iim_fields.specs.declared.fault.FieldCause.TheVariants as fields
@@ -17,27 +16,27 @@ use Rattle.iim_object.specs.Format.Events.{ObjectEnd}
 use Rattle.iim_object.specs.Format.Plans.{max_subfiles}
 use Rattle.iim_object.specs.Format.Objects.{ObjectLanguage, ObjectEnded, SubfileBegun}
 use Rattle.iim_object.specs.Format.Places.{head_token}
-use Rattle.iim_object.specs.Format.Reading as objects
-use Rattle.iim_object.specs.Format.Reading.{events_at}
+use Rattle.iim_object.specs.States.Reading as objects
+use Rattle.iim_object.specs.States.Reading.{events_at}
 use Rattle.iim_object.specs.Format.Numbers.{place_after_datasets}
-use Rattle.iim_object.specs.declared.state.State.{State}
-use Rattle.iim_object.specs.declared.fault.SizeCause.{SizeCause}
-use Rattle.iim_object.specs.declared.fault.SizeCause.TheVariants as sizes
+use Rattle.iim_object.specs.declared.reading.state.State.{State}
+use Rattle.iim_object.specs.declared.reading.fault.SizeCause.{SizeCause}
+use Rattle.iim_object.specs.declared.reading.fault.SizeCause.TheVariants as sizes
 use Rattle.wire_story.specs.Format.Delivery as story
 use Rattle.wire_story.specs.Format.Tokens.{End}
 use Rattle.wire_message.specs.Format.Layers.{text_so_far, MessageDiesAt}
-use Rattle.wire_message.specs.Format.Laws.{TextsStandBetweenStxAndEtx}
-use Rattle.wire_message.specs.Format.Reading as wire
+use Rattle.wire_message.specs.Laws.Messages.{TextsStandBetweenStxAndEtx}
+use Rattle.wire_message.specs.States.Reading as wire
 use Rattle.wire_message.specs.declared.place.Place.{Place}
 use Rattle.iim_unpack.specs.Format.Admitted.{object_of}
 use Rattle.iim_unpack.specs.Format.Tokens.{place_at, ObjectLives, IsRefusedHead}
-use Rattle.iim_unpack.specs.Passed.{Passed, HasFewSubfiles, IsFullOfSubfiles, RefusesBySize, RefusesAtEnd, RefusesObject, RefusesSubfile, octets_in, end_is_last}
+use Rattle.iim_unpack.specs.Passed.{TellsMessage, HasFewSubfiles, IsFullOfSubfiles, RefusesBySize, RefusesAtEnd, RefusesObject, RefusesSubfile, octets_in, end_is_last}
 use Rattle.iim_unpack.specs.Format.Refusals.{of_field, too_many_on, message_on, cause_of, cause_of_size}
 use Rattle.iim_unpack.specs.Format.Open.{object_so_far, IsUnfinished}
-use Rattle.iim_unpack.specs.Format.Parts.{AreAfter, Within, CountsFor, has_ended}
-use Rattle.iim_unpack.specs.Parts.{Went, WasStopped}
+use Rattle.iim_unpack.specs.States.Parts.{AreAfter, Within, CountsFor, has_ended}
+use Rattle.iim_unpack.specs.PartSteps.{TellsParts, PartsRefuse}
 use Rattle.iim_unpack.specs.declared.parts.Parts.{Parts}
-use Rattle.iim_unpack.specs.declared.fault.TokenFault.{TokenFault}
+use Rattle.iim_unpack.specs.declared.parts.fault.TokenFault.{TokenFault}
 use Rattle.wire_message.specs.declared.fault.MessageCause.{MessageCause}
 use Rattle.iim_unpack.proofs.Places.{HeadLeads, subfile_leads, end_leads}
 use Rattle.iim_unpack.proofs.Faults.{field_head, too_many_head, object_head, have_room}
@@ -76,11 +75,11 @@ within_begun new ds h b = record {
 }
 
 -- a head, from after whole datasets
-pub went_head : {S : Type 0} (goes : S → List story.StoryEvent → S → Type 0) (failures : S → ℕ) (p new : Parts) (a b : S) (h : Head) (more : List ℕ) → IsBetween p.fields
+pub tells_parts_head : {S : Type 0} (goes : S → List story.StoryEvent → S → Type 0) (failures : S → ℕ) (p new : Parts) (a b : S) (h : Head) (more : List ℕ) → IsBetween p.fields
     → limits_of new.fields ≡ limits_of p.fields → goes a (story.delivered more) b → failures b ≡ failures a
     → ((ds : List Dataset) → AreAfter p ds → Begins new ds h × (text_so_far (object_of ds) ++ more ≡ text_so_far (object_of ds)))
-    → Went goes failures p a (HeadRead h ∷ []) new b
-went_head goes failures p new a b h more between same told calm begins = record {
+    → TellsParts goes failures p a (HeadRead h ∷ []) new b
+tells_parts_head goes failures p new a b h more between same told calm begins = record {
   limits = same;
   more = more;
   told = told;
@@ -129,7 +128,7 @@ few_of p ds at few = let n = few (place_after_datasets ds) at.object in omega (a
 
 pub begins_subfile : {S : Type 0} (goes : S → List story.StoryEvent → S → Type 0) (failures : S → ℕ) → HeadLaws → (p : Parts) (a b : S) (ds : List Dataset) (h : Head) (checker : FieldsPlace) (object : Option State) (message : Option Place)
     → h.rec ≡ 8 → AreAfter p ds → records.StandsIn checker ds h [] → objects.LeadsOn p.object (head_token h.rec h.count) object
-    → (passed : Passed goes failures p.message a (events_at h.rec) message b) → HasFewSubfiles p.object
+    → (passed : TellsMessage goes failures p.message a (events_at h.rec) message b) → HasFewSubfiles p.object
     → Begins (record { fields = checker; object = object; message = message }) ds h
     × (text_so_far (object_of ds) ++ passed.more ≡ text_so_far (object_of ds))
 begins_subfile goes failures laws p a b ds h checker object message eight at inside leads_on passed few =
@@ -149,7 +148,7 @@ begins_subfile goes failures laws p a b ds h checker object message eight at ins
 
 pub begins_end : {S : Type 0} (goes : S → List story.StoryEvent → S → Type 0) (failures : S → ℕ) → HeadLaws → (p : Parts) (a b : S) (ds : List Dataset) (h : Head) (checker : FieldsPlace) (object : Option State) (message : Option Place)
     → h.rec ≡ 9 → AreAfter p ds → records.StandsIn checker ds h [] → objects.LeadsOn p.object (head_token h.rec h.count) object
-    → (passed : Passed goes failures p.message a (events_at h.rec) message b)
+    → (passed : TellsMessage goes failures p.message a (events_at h.rec) message b)
     → Begins (record { fields = checker; object = object; message = message }) ds h
     × (text_so_far (object_of ds) ++ passed.more ≡ text_so_far (object_of ds))
 begins_end goes failures laws p a b ds h checker object message nine at inside leads_on passed =
@@ -210,7 +209,7 @@ counts_size sizes.ConfirmedWrong m n e = e
 stopped_head : {S : Type 0} (goes : S → List story.StoryEvent → S → Type 0) (failures : S → ℕ) (p : Parts) (a b : S) (h : Head) (fault : TokenFault) (more : List ℕ) → HeadLaws → has_ended p ≡ false → IsBetween p.fields
     → goes a (story.delivered more) b → CountsFor fault.cause (failures a) (failures b)
     → ((ds : List Dataset) → AreAfter p ds → (IsRefusedHead (limits_of p.fields) ds h fault ⊎ IsUnfinished (limits_of p.fields) ds h fault) × (text_so_far (object_of ds) ++ more ≡ text_so_far (object_of ds)))
-    → WasStopped goes failures p a [] (HeadRead h) (Some fault) b
+    → PartsRefuse goes failures p a [] (HeadRead h) (Some fault) b
 stopped_head goes failures p a b h fault more laws last between told counts refuses = record {
   fault = fault;
   is_fault = refl;
@@ -232,14 +231,14 @@ stopped_head goes failures p a b h fault more laws last between told counts refu
 }
 
 pub stopped_field : {S : Type 0} (goes : S → List story.StoryEvent → S → Type 0) (failures : S → ℕ) (p : Parts) (a : S) (h : Head) (f : FieldFault) → h.set < 256 → HeadLaws → has_ended p ≡ false → IsBetween p.fields → goes a [] a
-    → ((ds : List Dataset) → records.StandsAfter p.fields ds → IsHeadFault (limits_of p.fields) ds h f) → WasStopped goes failures p a [] (HeadRead h) (Some (of_field f)) a
+    → ((ds : List Dataset) → records.StandsAfter p.fields ds → IsHeadFault (limits_of p.fields) ds h f) → PartsRefuse goes failures p a [] (HeadRead h) (Some (of_field f)) a
 stopped_field goes failures p a h f small laws last between g is =
     stopped_head goes failures p a a h (of_field f) [] laws last between g (quiet_field f.cause (failures a))
     (λ ds at. (inl (field_head laws.heads (limits_of p.fields) ds h f small at.fields.alive (is ds at.fields)), append-nil (text_so_far (object_of ds))))
 
 pub stopped_many : {S : Type 0} (goes : S → List story.StoryEvent → S → Type 0) (failures : S → ℕ) (p : Parts) (a : S) (h : Head) (checker : FieldsPlace) → HeadLaws → has_ended p ≡ false → IsBetween p.fields → goes a [] a
     → ((ds : List Dataset) → records.StandsAfter p.fields ds → records.StandsIn checker ds h []) → h.rec ≡ 8 → IsFullOfSubfiles p.object
-    → WasStopped goes failures p a [] (HeadRead h) (Some (too_many_on h)) a
+    → PartsRefuse goes failures p a [] (HeadRead h) (Some (too_many_on h)) a
 stopped_many goes failures p a h checker laws last between g inside eight many =
     stopped_head goes failures p a a h (too_many_on h) [] laws last between g refl
     (λ ds at.
@@ -248,7 +247,7 @@ stopped_many goes failures p a h checker laws last between g inside eight many =
 
 pub stopped_size : {S : Type 0} (goes : S → List story.StoryEvent → S → Type 0) (failures : S → ℕ) (p : Parts) (a b : S) (h : Head) (checker : FieldsPlace) (fault : TokenFault) → HeadLaws → has_ended p ≡ false → IsBetween p.fields
     → ((ds : List Dataset) → records.StandsAfter p.fields ds → records.StandsIn checker ds h []) → (h.rec ≡ 8) ⊎ (h.rec ≡ 9) → (h.rec ≡ 8 → HasFewSubfiles p.object)
-    → RefusesBySize goes failures p.object p.message h a b fault → WasStopped goes failures p a [] (HeadRead h) (Some fault) b
+    → RefusesBySize goes failures p.object p.message h a b fault → PartsRefuse goes failures p a [] (HeadRead h) (Some fault) b
 stopped_size goes failures p a b h checker fault laws last between inside is few r =
     stopped_head goes failures p a b h fault r.more laws last between r.told
     (subst (λ (f : TokenFault). CountsFor f.cause (failures a) (failures b)) (sym r.is_fault) (counts_size r.cause (failures a) (failures b) r.calm))
@@ -265,7 +264,7 @@ stopped_size goes failures p a b h checker fault laws last between inside is few
 
 pub stopped_end : {S : Type 0} (goes : S → List story.StoryEvent → S → Type 0) (failures : S → ℕ) (p : Parts) (a b : S) (h : Head) (checker : FieldsPlace) (fault : TokenFault) → HeadLaws → has_ended p ≡ false → IsBetween p.fields
     → ((ds : List Dataset) → records.StandsAfter p.fields ds → records.StandsIn checker ds h []) → h.rec ≡ 9
-    → RefusesAtEnd goes failures p.object p.message h a b fault → WasStopped goes failures p a [] (HeadRead h) (Some fault) b
+    → RefusesAtEnd goes failures p.object p.message h a b fault → PartsRefuse goes failures p a [] (HeadRead h) (Some fault) b
 stopped_end goes failures p a b h checker fault laws last between inside nine r =
     let same : r.halted.why ≡ r.cause = sym (some-same r.halted.is_cause) in
     stopped_head goes failures p a b h fault r.halted.more laws last between r.halted.told
@@ -297,10 +296,10 @@ stopped_end goes failures p a b h checker fault laws last between inside nine r 
 pub stopped_subfile : {S : Type 0} (goes : S → List story.StoryEvent → S → Type 0) (failures : S → ℕ) (p : Parts) (a b : S) (h : Head) (checker : FieldsPlace) → HeadLaws → has_ended p ≡ false → IsBetween p.fields → goes a [] a
     → ((ds : List Dataset) → records.StandsAfter p.fields ds → records.StandsIn checker ds h []) → h.rec ≡ 8 → (fault : TokenFault)
     → RefusesSubfile goes failures p.object p.message h a b fault
-    → WasStopped goes failures p a [] (HeadRead h) (Some fault) b
+    → PartsRefuse goes failures p a [] (HeadRead h) (Some fault) b
 stopped_subfile goes failures p a b h checker laws last between g inside eight fault (inl (many, is, same)) =
-    subst (λ (s : _). WasStopped goes failures p a [] (HeadRead h) (Some fault) s) (sym same)
-    (subst (λ (f : TokenFault). WasStopped goes failures p a [] (HeadRead h) (Some f) a) (sym is) (stopped_many goes failures p a h checker laws last between g inside eight many))
+    subst (λ (s : _). PartsRefuse goes failures p a [] (HeadRead h) (Some fault) s) (sym same)
+    (subst (λ (f : TokenFault). PartsRefuse goes failures p a [] (HeadRead h) (Some f) a) (sym is) (stopped_many goes failures p a h checker laws last between g inside eight many))
 stopped_subfile goes failures p a b h checker laws last between g inside eight fault (inr (few, inl r)) =
     stopped_size goes failures p a b h checker fault laws last between inside (inl eight) (λ is. few) r
 stopped_subfile goes failures p a b h checker laws last between g inside eight fault (inr (few, inr r)) =
@@ -308,7 +307,7 @@ stopped_subfile goes failures p a b h checker laws last between g inside eight f
 
 pub stopped_last : {S : Type 0} (goes : S → List story.StoryEvent → S → Type 0) (failures : S → ℕ) (p : Parts) (a b : S) (h : Head) (checker : FieldsPlace) → HeadLaws → has_ended p ≡ false → IsBetween p.fields
     → ((ds : List Dataset) → records.StandsAfter p.fields ds → records.StandsIn checker ds h []) → h.rec ≡ 9 → (fault : TokenFault)
-    → RefusesObject goes failures p.object p.message h a b fault → WasStopped goes failures p a [] (HeadRead h) (Some fault) b
+    → RefusesObject goes failures p.object p.message h a b fault → PartsRefuse goes failures p a [] (HeadRead h) (Some fault) b
 stopped_last goes failures p a b h checker laws last between inside nine fault (inl r) =
     stopped_size goes failures p a b h checker fault laws last between inside (inr nine) (λ eight. absurd (let bad : 8 ≡ 9 = sym eight ∙ nine in omega (arith, bad))) r
 stopped_last goes failures p a b h checker laws last between inside nine fault (inr r) = stopped_end goes failures p a b h checker fault laws last between inside nine r

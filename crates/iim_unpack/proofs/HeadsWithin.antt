@@ -2,15 +2,16 @@
 use Rattle.std.proofs.Common.{◌≡◌, ℕ, ◌+◌, nat_eq, if◌then◌else◌, Bool, true, false, List, [], length, refl, sym, subst, inl, inr, arith}
 use Rattle.iim_dataset.specs.Format.Datasets.{Dataset, count_octets}
 use Rattle.iim_dataset.specs.Format.Splits.{Begun, InTag, InData, Reads}
-use Rattle.iim_fields.specs.Format.Faults.{kept, kept_octets, is_kept, present_record}
-use Rattle.iim_fields.specs.Format.Standing.{IsWithin}
+use Rattle.iim_fields.specs.Format.Faults.{kept, kept_octets, is_kept, section_after}
+use Rattle.iim_fields.specs.Format.Bounds.{IsWithin}
 use Rattle.iim_fields.specs.declared.limits.Limits.{Limits}
 use Rattle.wire_message.specs.declared.saved.MessagePlace.{MessagePlace}
 use Rattle.iim_unpack.specs.LowerLaws.{AnswerLaws}
 use Rattle.iim_unpack.specs.Format.Open.{AllCanContinue}
 use Rattle.iim_unpack.specs.Format.Tokens.{MayContinue}
 use Rattle.iim_unpack.specs.Format.Tickets.{Place, AllEnded, TagBegun, IsPlaceOf, place_of}
-use Rattle.iim_unpack.specs.Format.Possible.{widest, AreOpenOrWhole, AreHeadsWithin, begun_count, begun_fields, LimitsAreToldByPlace}
+use Rattle.iim_unpack.specs.States.Possible.{widest, AreOpenOrWhole, AreHeadsWithin, begun_count, begun_fields}
+use Rattle.iim_unpack.specs.Laws.Places.{LimitsAreToldByPlace}
 use Rattle.iim_unpack.proofs.Answering.{Lives, lives_open, lives_envelope, one_reading, reads_envelope}
 
 -- ---- a begun dataset
@@ -27,8 +28,8 @@ none_begun section false held = refl
 
 pub told_by : (limits : Limits) (ds : List Dataset) (b : Begun) (m : MessagePlace) → MayContinue limits ds b → AreHeadsWithin limits (place_of ds b m)
 told_by limits ds (InTag held) m goes =
-    let count = none_counted (present_record ds) (nat_eq (present_record ds) 9) held in
-    let begun = none_begun (present_record ds) (nat_eq (present_record ds) 9) held in
+    let count = none_counted (section_after ds) (nat_eq (section_after ds) 9) held in
+    let begun = none_begun (section_after ds) (nat_eq (section_after ds) 9) held in
     let kept = goes.within.kept in
     record { octets_in = omega (arith, count, kept.octets_in); fields_in = omega (arith, begun, kept.fields_in) }
 told_by limits ds (InData h taken) m goes = by (is_kept h.rec) refl

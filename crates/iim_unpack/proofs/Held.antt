@@ -1,24 +1,24 @@
 -- An unpacker holds few octets and entries.
 use Rattle.std.proofs.Common.{◌≡◌, ℕ, ◌+◌, ◌<◌, ◌≤◌, Bool, true, false, if◌then◌else◌, nat_eq, List, [], length, Option, Some, None, refl, ap, sym, subst, ◌∙◌, inl, inr, arith}
 use Rattle.iim_dataset.specs.Format.Datasets.{Dataset, count_octets}
-use Rattle.iim_dataset.specs.Format.Laws.{EventsTellTheDatasets}
-use Rattle.iim_dataset.specs.Format.Places.{IsKeptAs}
+use Rattle.iim_dataset.specs.Laws.Datasets.{EventsTellTheDatasets}
+use Rattle.iim_dataset.specs.States.Places.{IsKeptAs}
 use Rattle.iim_dataset.specs.Format.Splits.{Begun, InTag, InData, Reads}
 use Rattle.iim_dataset.specs.declared.head.Head.{Head}
 use Rattle.iim_dataset.specs.declared.place.DatasetPlace.{DatasetPlace}
 use Rattle.iim_dataset.specs.declared.place.DatasetPlace.TheVariants as tags
-use Rattle.iim_fields.specs.Format.Checks.{begun_head}
+use Rattle.iim_fields.specs.States.Checks.{begun_head}
 use Rattle.iim_fields.specs.Format.Faults.{is_kept, joined, kept}
-use Rattle.iim_fields.specs.Format.Standing.{begun_head_of, StandsAfter, StandsIn}
-use Rattle.wire_message.specs.Format.Reading as wire
-use Rattle.wire_message.specs.Format.Saved.{saved}
-use Rattle.wire_message.specs.Format.SoFar.{IsPlace}
+use Rattle.iim_fields.specs.States.Standing.{begun_head_of, StandsAfter, StandsIn}
+use Rattle.wire_message.specs.States.Reading as wire
+use Rattle.wire_message.specs.States.Saved.{saved}
+use Rattle.wire_message.specs.States.SoFar.{IsPlace}
 use Rattle.wire_message.specs.declared.place.Place.{Place as Message}
 use Rattle.wire_message.specs.declared.place.Place.TheVariants as at
-use Rattle.iim_unpack.specs.Format.Held.{tag_held, texts_held, returns_held, message_held, begun_entries, HoldsFew}
-use Rattle.iim_unpack.specs.Format.Parts.{StandsFor}
-use Rattle.iim_unpack.specs.Format.Unpacking.{Unpacking, IsLed}
-use Rattle.iim_unpack.specs.Unpacking.{Stood}
+use Rattle.iim_unpack.specs.States.Held.{tag_held, texts_held, returns_held, message_held, begun_entries, HoldsFew}
+use Rattle.iim_unpack.specs.States.Parts.{StandsFor}
+use Rattle.iim_unpack.specs.States.Unpacking.{Unpacking, IsLed}
+use Rattle.iim_unpack.specs.UnpackerInside.{Stood}
 use Rattle.iim_unpack.specs.declared.parts.Parts.{Parts}
 use Rattle.iim_unpack.proofs.Bounds.{is_one}
 use Rattle.iim_unpack.proofs.TicketLengths.{AreShortIn, texts_at, held_length}

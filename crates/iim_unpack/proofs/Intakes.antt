@@ -4,20 +4,21 @@ use Rattle.std.specs.Prelude.{IsTrue, ◌↔◌}
 use Rattle.std.proofs.lemmas.List.{get_or-append-add, length-take-le}
 use Rattle.std.proofs.Math.Seq.{take-append-add}
 use Rattle.std.specs.Io.KnownBytes.{IsAtEnd, Consumes}
-use Rattle.iim_dataset.specs.Format.Devices.{Device, Unfailed, RoseAtLeast, max_interruptions}
-use Rattle.iim_dataset.specs.Format.DeviceLaws.{HasGiven, GiftsJoin, MissedAfter, BrokeFor}
+use Rattle.iim_dataset.specs.States.Devices.{Device, Unfailed, RoseAtLeast, max_interruptions, HasGiven, MissedAfter, BrokeFor}
+use Rattle.iim_dataset.specs.Laws.Devices.{GiftsJoin}
 use Rattle.iim_dataset.specs.declared.device.IoFault.{IoFault}
 use Rattle.iim_dataset.specs.declared.device.IoFault.TheVariants as io
 use Rattle.iim_fields.specs.declared.limits.Limits.{Limits}
 use Rattle.wire_story.specs.Format.Delivery as story
-use Rattle.wire_story.specs.Format.Laws.{DeliveryMayBeCut}
-use Rattle.iim_unpack.specs.Format.Parts.{CountsFor}
+use Rattle.wire_story.specs.Laws.Texts.{DeliveryMayBeCut}
+use Rattle.iim_unpack.specs.States.Parts.{CountsFor}
 use Rattle.iim_unpack.specs.Format.Refusals.{refusal_at}
-use Rattle.iim_unpack.specs.Format.Unpacking.{Unpacking, Stands, IsDoneWith, Goes, IsRefusedIn, limits_in, raised}
-use Rattle.iim_unpack.specs.Unpacking.{Stood}
+use Rattle.iim_unpack.specs.States.Unpacking.{Unpacking, Stands, IsDoneWith, Goes, IsRefusedIn, limits_in, raised}
+use Rattle.iim_unpack.specs.UnpackerInside.{Stood}
 use Rattle.iim_unpack.specs.Format.Open.{IsOpen, IsTextOf, Delivers, IsTruncatedAt, RefusesNext}
-use Rattle.iim_unpack.specs.Intakes.{WentOn, FedAs, read_fault}
-use Rattle.iim_unpack.specs.Format.Intakes.{FedEnvelope, FedPiece, HasFed, WasDone, WasEnded, IsRefusedOf, IsTruncatedIn, WasRefused, WasTruncated, WasMissed, WasGiven, IsReady, Faults, OpenOctetsAreBounded}
+use Rattle.iim_unpack.specs.IntakeSteps.{WentOn, FedAs, read_fault}
+use Rattle.iim_unpack.specs.States.Intakes.{FedEnvelope, FedPiece, HasFed, WasDone, WasEnded, IsRefusedOf, IsTruncatedIn, WasRefused, WasTruncated, WasMissed, WasGiven, IsReady, Faults}
+use Rattle.iim_unpack.specs.Laws.Streams.{OpenOctetsAreBounded}
 use Rattle.iim_unpack.specs.declared.intake.Fed.{Fed}
 use Rattle.iim_unpack.specs.declared.intake.Fed.TheVariants as piece
 use Rattle.iim_unpack.specs.declared.intake.IntakeFault.{IntakeFault}
@@ -89,10 +90,10 @@ not_empty xs [] some none = absurd (omega (arith, some))
 not_empty [] (y ∷ ys) some none = absurd cc
 not_empty (x ∷ xs) (y ∷ ys) some none = absurd cc
 
-pub went_more : {S : Type 0} (goes : S → List story.StoryEvent → S → Type 0) → Joined goes → GiftsJoin → DeliveryMayBeCut → (old mid then' new : Device) (u v w : Unpacking) (a b c : S) (used now : ℕ) (piece : List ℕ)
+pub tells_parts_more : {S : Type 0} (goes : S → List story.StoryEvent → S → Type 0) → Joined goes → GiftsJoin → DeliveryMayBeCut → (old mid then' new : Device) (u v w : Unpacking) (a b c : S) (used now : ℕ) (piece : List ℕ)
     → WentOn goes old mid u v a b used → HasGiven mid then' [] → HasGiven then' new piece → 0 < length piece → now ≡ raised used (length piece) → limits_in w ≡ limits_in v → (progress : Progress) → progress ≡ More
     → ((more : List story.StoryEvent) × goes b more c × ((p : List ℕ) (n : ℕ) → Stands v p n → Goes w p n piece more progress)) → WentOn goes old new u w a c now
-went_more goes joined joins cut old mid then' new u v w a b c used now piece on none given some count same progress onward (more, told, is) = record {
+tells_parts_more goes joined joins cut old mid then' new u v w a b c used now piece on none given some count same progress onward (more, told, is) = record {
   octets = on.octets ++ piece;
   more = on.more ++ more;
   came = record { given = given_on joins old mid then' new on.octets piece on.came.given none given; told = joined a b c on.more more on.came.told told };
@@ -105,10 +106,10 @@ went_more goes joined joins cut old mid then' new u v w a b c used now piece on 
   still = λ empty. absurd (not_empty on.octets piece some empty);
 }
 
-pub went_done : {S : Type 0} (goes : S → List story.StoryEvent → S → Type 0) → Joined goes → GiftsJoin → DeliveryMayBeCut → (old mid then' new : Device) (u v w : Unpacking) (a b c : S) (used now last : ℕ) (piece : List ℕ)
+pub tells_parts_done : {S : Type 0} (goes : S → List story.StoryEvent → S → Type 0) → Joined goes → GiftsJoin → DeliveryMayBeCut → (old mid then' new : Device) (u v w : Unpacking) (a b c : S) (used now last : ℕ) (piece : List ℕ)
     → WentOn goes old mid u v a b used → HasGiven mid then' [] → HasGiven then' new (take last piece) → last ≤ length piece → now ≡ raised used last → limits_in w ≡ limits_in v → (progress : Progress) → progress ≡ Done last
     → ((more : List story.StoryEvent) × goes b more c × ((p : List ℕ) (n : ℕ) → Stands v p n → Goes w p n piece more progress)) → WasDone goes old new u w a c now
-went_done goes joined joins cut old mid then' new u v w a b c used now last piece on none given fit count same progress ended (more, told, is) =
+tells_parts_done goes joined joins cut old mid then' new u v w a b c used now last piece on none given fit count same progress ended (more, told, is) =
     let len : length (take last piece) ≡ last = length-take-le last piece fit in
     record {
       octets = on.octets ++ take last piece;
@@ -139,10 +140,10 @@ refused_on cut limits p n xs piece first more e adds is =
           (subst (λ (ys : List ℕ). RefusesNext limits ys (slice_index piece is.k) is.fault) (append_assoc p xs (take is.k piece) ∙ ap (λ (ys : List ℕ). p ++ ys) (sym front)) is.refuses);
     }
 
-pub went_refused : {S : Type 0} (goes : S → List story.StoryEvent → S → Type 0) (failures : S → ℕ) → Joined goes → GiftsJoin → DeliveryMayBeCut → (old mid then' new : Device) (u v : Unpacking) (a b c : S) (used : ℕ) (piece : List ℕ) (e : Refusal)
+pub tells_parts_refused : {S : Type 0} (goes : S → List story.StoryEvent → S → Type 0) (failures : S → ℕ) → Joined goes → GiftsJoin → DeliveryMayBeCut → (old mid then' new : Device) (u v : Unpacking) (a b c : S) (used : ℕ) (piece : List ℕ) (e : Refusal)
     → WentOn goes old mid u v a b used → failures b ≡ failures a → HasGiven mid then' [] → HasGiven then' new piece → CountsFor e.cause (failures b) (failures c)
     → ((more : List story.StoryEvent) × goes b more c × ((p : List ℕ) (n : ℕ) → Stands v p n → IsRefusedIn (limits_in v) p n piece more e)) → WasRefused goes failures old new u a c e
-went_refused goes failures joined joins cut old mid then' new u v a b c used piece e on calm none given counts (more, told, is) = record {
+tells_parts_refused goes failures joined joins cut old mid then' new u v a b c used piece e on calm none given counts (more, told, is) = record {
   octets = on.octets ++ piece;
   more = on.more ++ more;
   came = record { given = given_on joins old mid then' new on.octets piece on.came.given none given; told = joined a b c on.more more on.came.told told };
@@ -163,9 +164,9 @@ no_front [] ys e = (refl, e)
 no_front (x ∷ xs) ys e = absurd cc
 
 -- it stands on no octets
-pub went_ended : {S : Type 0} (goes : S → List story.StoryEvent → S → Type 0) → GiftsJoin → (old mid new : Device) (u v : Unpacking) (a b : S) (used : ℕ)
+pub tells_parts_ended : {S : Type 0} (goes : S → List story.StoryEvent → S → Type 0) → GiftsJoin → (old mid new : Device) (u v : Unpacking) (a b : S) (used : ℕ)
     → WentOn goes old mid u v a b used → HasGiven mid new [] → IsAtEnd new.octets → (p : List ℕ) (n : ℕ) → Stands u p n → ((q : List ℕ) (k : ℕ) → Stands v q k → q ≡ []) → WasEnded old new u a b
-went_ended goes joins old mid new u v a b used on none end p n at fresh =
+tells_parts_ended goes joins old mid new u v a b used on none end p n at fresh =
     let empty : on.octets ≡ [] = (no_front p on.octets (fresh (p ++ on.octets) (raised n (length on.octets)) (on.stands p n at).0)).1 in
     record {
       given = subst (λ (ys : List ℕ). HasGiven old new ys) empty (given_none joins old mid new on.octets on.came.given none);
@@ -174,10 +175,10 @@ went_ended goes joins old mid new u v a b used on none end p n at fresh =
       none = λ q k is. (no_front q on.octets (fresh (q ++ on.octets) (raised k (length on.octets)) (on.stands q k is).0)).0;
     }
 
-pub went_truncated : {S : Type 0} (goes : S → List story.StoryEvent → S → Type 0) (failures : S → ℕ) → GiftsJoin → (old mid new : Device) (u v : Unpacking) (a b : S) (used : ℕ) (e : Refusal)
+pub tells_parts_truncated : {S : Type 0} (goes : S → List story.StoryEvent → S → Type 0) (failures : S → ℕ) → GiftsJoin → (old mid new : Device) (u v : Unpacking) (a b : S) (used : ℕ) (e : Refusal)
     → WentOn goes old mid u v a b used → failures b ≡ failures a → HasGiven mid new [] → IsAtEnd new.octets → ((q : List ℕ) (k : ℕ) → Stands v q k → q ≡ [] → ⊥)
     → ((q : List ℕ) (k : ℕ) → Stands v q k → IsTruncatedAt q k e) → WasTruncated goes failures old new u a b e
-went_truncated goes failures joins old mid new u v a b used e on calm none end some is = record {
+tells_parts_truncated goes failures joins old mid new u v a b used e on calm none end some is = record {
   octets = on.octets;
   more = on.more;
   came = record { given = given_none joins old mid new on.octets on.came.given none; told = on.came.told };
@@ -210,9 +211,9 @@ broke_on a b c io.Interrupted h i = (i.0 ∙ h.0, omega (arith, h.1, i.1), highe
 missed_on : GiftsJoin → (a b c : Device) (xs : List ℕ) (fault : IoFault) → HasGiven a b xs → MissedAfter b c [] fault → MissedAfter a c xs fault
 missed_on joins a b c xs fault given missed = (consumed_on a.octets b.octets c.octets xs given.0 missed.0, broke_on a b c fault given.1 missed.1)
 
-pub went_missed : {S : Type 0} (goes : S → List story.StoryEvent → S → Type 0) (failures : S → ℕ) → GiftsJoin → (old mid new : Device) (u v : Unpacking) (a b : S) (used kept : ℕ) (fault : IoFault)
+pub tells_parts_missed : {S : Type 0} (goes : S → List story.StoryEvent → S → Type 0) (failures : S → ℕ) → GiftsJoin → (old mid new : Device) (u v : Unpacking) (a b : S) (used kept : ℕ) (fault : IoFault)
     → WentOn goes old mid u v a b used → failures b ≡ failures a → MissedAfter mid new [] fault → kept ≡ v.octets → WasMissed goes failures old new u a b kept fault
-went_missed goes failures joins old mid new u v a b used kept fault on calm missed is = record {
+tells_parts_missed goes failures joins old mid new u v a b used kept fault on calm missed is = record {
   octets = on.octets;
   more = on.more;
   missed = missed_on joins old mid new on.octets fault on.came.given missed;

@@ -8,43 +8,44 @@ use Rattle.std.proofs.lemmas.List.{length-take, take-append-drop}
 use Rattle.iim_dataset.specs.Format.Octets.{IsOctet, Octets, number, greatest_size}
 use Rattle.iim_dataset.specs.Format.Datasets.{Dataset, SpellsTag, SpellsStream, canonical_stream, count_octets, of_record}
 use Rattle.iim_dataset.specs.Format.Languages as languages
-use Rattle.iim_dataset.specs.Format.Laws.{HasSpellings}
+use Rattle.iim_dataset.specs.Laws.Datasets.{HasSpellings}
 use Rattle.iim_dataset.specs.Format.Splits.{Begun, InTag, InData, IsBegun}
 use Rattle.iim_dataset.specs.Format.Tags.{BeginsTag}
 use Rattle.iim_dataset.specs.declared.head.Head.{Head}
 use Rattle.iim_fields.specs.Format.Alive.{SectionsLive, SectionsLiveAt}
-use Rattle.iim_fields.specs.Format.Faults.{is_kept, kept, joined, present_record, last_record}
+use Rattle.iim_fields.specs.Format.Faults.{is_kept, kept, joined, section_after, last_record}
 use Rattle.iim_fields.specs.Format.Records.{AreSections, AreRecords, records}
 use Rattle.iim_tables.specs.Format.Records.{IsGoodDataset}
-use Rattle.iim_fields.specs.Format.Standing.{IsWithin}
+use Rattle.iim_fields.specs.Format.Bounds.{IsWithin}
 use Rattle.iim_object.specs.Format.Numbers.{place_after_datasets, place_ended, ending_of}
 use Rattle.iim_object.specs.Format.Objects.{ObjectEnded, Confirmed, SubfileBegun, ObjectLanguage, number_tokens}
-use Rattle.iim_object.specs.Format.Packing.{NumberDatasetsAreGood, number_dataset, subfile_datasets}
+use Rattle.iim_object.specs.Laws.Packing.{NumberDatasetsAreGood}
+use Rattle.iim_object.specs.Format.Packing.{number_dataset, subfile_datasets}
 use Rattle.iim_object.specs.Format.Places.{Ending, NotEnded, Ended, ConfirmedAs, ending_tokens, place_after}
 use Rattle.iim_object.specs.Format.Places as objects
 use Rattle.iim_object.specs.Format.Plans.{max_subfiles}
 use Rattle.iim_object.specs.Format.Records.{HaveSizes, lengths_of, numbers_of}
-use Rattle.iim_object.specs.Format.Saved.{IsAt, IsPossible, LastIsBegun, stated_numbers}
+use Rattle.iim_object.specs.States.Saved.{IsAt, IsPossible, LastIsBegun, stated_numbers}
 use Rattle.iim_object.specs.Format.Sizes.{Stated, AreStated, number_at}
 use Rattle.iim_object.specs.declared.size.Sizes.{Sizes}
 use Rattle.wire_story.specs.Format.Texts.{IsText}
 use Rattle.wire_story.specs.Format.Tokens.{Octet, End}
 use Rattle.wire_message.specs.Format.Layers.{MessageLanguage}
 use Rattle.wire_message.specs.Format.Messages.{Header, IsMessage}
-use Rattle.wire_message.specs.Format.Reading.{is_ended}
-use Rattle.wire_message.specs.Format.Saved.{LeadToSaved, saved}
-use Rattle.wire_message.specs.Format.SoFar.{LeadTo}
+use Rattle.wire_message.specs.States.Reading.{is_ended}
+use Rattle.wire_message.specs.States.Saved.{LeadsToSaved, saved}
+use Rattle.wire_message.specs.States.SoFar.{LeadsTo}
 use Rattle.wire_message.specs.declared.place.Place.{Place as Message}
 use Rattle.wire_message.specs.declared.place.Place.TheVariants as at_message
 use Rattle.wire_message.specs.declared.saved.MessagePart.TheVariants as part
 use Rattle.wire_message.specs.declared.saved.MessagePlace.{MessagePlace}
 use Rattle.iim_unpack.specs.Format.Admitted.{object_of}
-use Rattle.iim_unpack.specs.Format.Begins.{IsSize}
+use Rattle.iim_unpack.specs.States.Begins.{IsSize}
 use Rattle.iim_unpack.specs.ByLayers.{LeadsByLayers, record_datasets, one_of_some, head_of_numbers}
 use Rattle.iim_unpack.specs.Format.Framed.{AreWithin}
 use Rattle.iim_unpack.specs.Format.Open.{object_so_far, section, AllCanContinue}
 use Rattle.iim_unpack.specs.Plain.{Numbers, number_list, plain_numbers, filled, plain_end, plain, AreSpellable, begun_object, plain_place}
-use Rattle.iim_unpack.specs.Format.Possible.{Possible, AreOpenOrWhole, widest}
+use Rattle.iim_unpack.specs.States.Possible.{Possible, AreOpenOrWhole, widest}
 use Rattle.iim_unpack.specs.Format.Tickets.{Place, Phase, TagBegun, DataBegun, AllEnded, IsPlaceOf}
 use Rattle.iim_unpack.specs.Format.Tokens.{place_at, ObjectLives, MayContinue, CanContinue}
 use Rattle.iim_unpack.specs.LowerLaws.{ByLayersLaws, SizeLaws}
@@ -90,7 +91,7 @@ record WholeMessage (o : List ℕ) : Type 0 where
   lines : List (List ℕ)
   lined : IsText text lines
 
-whole_message : (o text : List ℕ) (at : Message) → LeadTo o text at → (saved at).part ≡ part.AfterEnd → WholeMessage o
+whole_message : (o text : List ℕ) (at : Message) → LeadsTo o text at → (saved at).part ≡ part.AfterEnd → WholeMessage o
 whole_message o text (at_message.AfterEnd h t count) leads e = record { head = h; text = text; trailer = t.items; message = leads.spelled.0; lines = leads.story.0; lined = leads.story.1 }
 whole_message o text (at_message.Filler count) leads e = absurd cc
 whole_message o text (at_message.Source s) leads e = absurd cc
@@ -105,10 +106,10 @@ whole_message o text (at_message.Text h (Some held)) leads e = absurd cc
 whole_message o text (at_message.Text h None) leads e = absurd cc
 whole_message o text (at_message.Trailer h t) leads e = absurd cc
 
-whole_saved : (o text : List ℕ) (m : MessagePlace) → LeadToSaved o text m → m.part ≡ part.AfterEnd → WholeMessage o
+whole_saved : (o text : List ℕ) (m : MessagePlace) → LeadsToSaved o text m → m.part ≡ part.AfterEnd → WholeMessage o
 whole_saved o text m (at, leads, saves) e = whole_message o text at leads (ap (λ (x : MessagePlace). x.part) saves ∙ e)
 
-message_lives : ByLayersLaws → (o text : List ℕ) (m : MessagePlace) → LeadToSaved o text m → (s : ℕ) → (s ≡ 9 → m.part ≡ part.AfterEnd)
+message_lives : ByLayersLaws → (o text : List ℕ) (m : MessagePlace) → LeadsToSaved o text m → (s : ℕ) → (s ≡ 9 → m.part ≡ part.AfterEnd)
     → languages.IsAlive MessageLanguage (map Octet o ++ (if nat_eq s 9 then End ∷ [] else []))
 message_lives laws o text m (at, leads, saves) s last = by (nat_eq s 9) refl
   where
@@ -129,7 +130,7 @@ not_nine n le = elim (eqb_tells n 9) [
 ]
 
 pub present_ended : (fields : List Dataset) (numbers : Numbers) (heads : ℕ) (object : List ℕ) (ended : Bool) → AllByRecursion (λ (d : Dataset). is_kept d.rec ≡ true) fields
-    → nat_eq (present_record (plain fields numbers heads object ended)) 9 ≡ ended
+    → nat_eq (section_after (plain fields numbers heads object ended)) 9 ≡ ended
 present_ended fields numbers heads object true keeps = ap (λ (n : ℕ). nat_eq n 9) (picks_plain fields numbers heads object true)
 present_ended fields numbers heads object false keeps =
     let low = fields_low 0 fields (omega arith) keeps in
@@ -180,7 +181,7 @@ sizes_of laws ps r7 (r ∷ r8) r9 n is are both none lives last =
 
 -- Plain octets from which each layer can continue, or with which the envelope ends, make their place possible.
 finish : ByLayersLaws → (place : Place) (numbers : Numbers) (heads : ℕ) (object : List ℕ) (ended : Bool) (begun : Begun) (rest text : List ℕ) → AreSpellable place.fields numbers heads object → IsBegun count_octets begun rest
-    → LeadToSaved (object ++ begun_object begun) text place.message → (place.section ≡ 9 → place.message.part ≡ part.AfterEnd) → MayContinue widest (plain place.fields numbers heads object ended) begun
+    → LeadsToSaved (object ++ begun_object begun) text place.message → (place.section ≡ 9 → place.message.part ≡ part.AfterEnd) → MayContinue widest (plain place.fields numbers heads object ended) begun
     → (ended ≡ true → (begun ≡ InTag []) × (rest ≡ [])) → place ≡ plain_place place.fields numbers heads object ended begun place.message → Possible place
 finish laws place numbers heads object ended begun rest text spellable is_begun leads last goes nothing same = record {
   octets = canonical_stream ds ++ rest;
@@ -200,8 +201,8 @@ finish laws place numbers heads object ended begun rest text spellable is_begun 
     so_far : object_so_far ds begun ≡ object ++ begun_object begun
     so_far = taken_told ds object begun tell.object_is
 
-    here : LeadToSaved (object_so_far ds begun) text place.message
-    here = subst (λ (o : List ℕ). LeadToSaved o text place.message) (sym so_far) leads
+    here : LeadsToSaved (object_so_far ds begun) text place.message
+    here = subst (λ (o : List ℕ). LeadsToSaved o text place.message) (sym so_far) leads
 
     section_is : place.section ≡ section ds begun
     section_is = ap (λ (x : Place). x.section) same
@@ -234,10 +235,10 @@ finish laws place numbers heads object ended begun rest text spellable is_begun 
     whole : ended ≡ true → AreOpenOrWhole widest (canonical_stream ds ++ rest)
     whole is =
         let no_more = nothing is in
-        let nine = eqb-true (present_record ds) 9 (present_ended place.fields numbers heads object ended spellable.kept ∙ is) in
+        let nine = eqb-true (section_after ds) 9 (present_ended place.fields numbers heads object ended spellable.kept ∙ is) in
         let section9 : place.section ≡ 9 = section_is ∙ ap (section ds) no_more.0 ∙ nine in
         let o_is : object_so_far ds begun ≡ object_of ds = ap (object_so_far ds) no_more.0 in
-        let m = whole_saved (object_of ds) text place.message (subst (λ (o : List ℕ). LeadToSaved o text place.message) o_is here) (last section9) in
+        let m = whole_saved (object_of ds) text place.message (subst (λ (o : List ℕ). LeadsToSaved o text place.message) o_is here) (last section9) in
         let tag : CanContinue widest ds = subst (MayContinue widest ds) no_more.0 goes in
         let stated = stated_after_all laws.opens.answer.follow.objects ds alive tag.within.subfiles in
         let ends : of_record 9 ds ≡ plain_end true object = tell.nines_are ∙ ap (λ (b : Bool). plain_end b object) is in
@@ -423,12 +424,12 @@ ending_plain false o few = refl
 
 lead_whole : ByLayersLaws → (place : Place) (numbers : Numbers) (p : objects.Place) (ended : Bool) (held o text : List ℕ) → place.numbers ≡ number_list numbers → AllByRecursion (λ (d : Dataset). is_kept d.rec ≡ true) place.fields
     → number_list numbers ≡ stated_numbers p.stated → IsPossible p → p.ending ≡ (if ended then ConfirmedAs (length o) else NotEnded) → place.heads ≡ length p.lengths → sum p.lengths ≡ length o → length o ≡ place.taken
-    → LeadToSaved o text place.message → (place.section ≡ 9 → place.message.part ≡ part.AfterEnd) → SectionsLive (plain place.fields numbers (one_of_some place.heads) [] ended)
-    → present_record (plain place.fields numbers (one_of_some place.heads) [] ended) ≡ place.section → IsBegun count_octets (InTag held) held → (ended ≡ true → held ≡ []) → place.phase ≡ (if ended then AllEnded else TagBegun held)
+    → LeadsToSaved o text place.message → (place.section ≡ 9 → place.message.part ≡ part.AfterEnd) → SectionsLive (plain place.fields numbers (one_of_some place.heads) [] ended)
+    → section_after (plain place.fields numbers (one_of_some place.heads) [] ended) ≡ place.section → IsBegun count_octets (InTag held) held → (ended ≡ true → held ≡ []) → place.phase ≡ (if ended then AllEnded else TagBegun held)
     → IsWithin widest (length (joined place.fields)) (length place.fields) → Possible place
 lead_whole laws place numbers p ended held o text numbers_are keeps same is end' many total taken leads last (more, sections) present is_begun none phase within =
     finish laws place numbers heads o ended (InTag held) held text (spellable_by fields numbers p base.given heads o base.fits spelled octets (let low = base.few in omega (arith, low)))
-    is_begun (subst (λ (x : List ℕ). LeadToSaved x text place.message) (sym (append-nil o)) leads) last
+    is_begun (subst (λ (x : List ℕ). LeadsToSaved x text place.message) (sym (append-nil o)) leads) last
     (record { records = alive; within = inside; object = subst (λ (e : Ending). ObjectLives (record (place_after_datasets ds) { ending = e })) (ending_plain ended o base.few ∙ sym (ap ending_of tell.nines_are)) lives })
     (λ e. let nil = none e in (ap InTag nil, nil)) place_is
   where
@@ -462,13 +463,13 @@ lead_whole laws place numbers p ended held o text numbers_are keeps same is end'
     lives : ObjectLives (record (place_after_datasets ds) { ending = if ended then ConfirmedAs (length o) else NotEnded })
     lives = after_plain laws.opens.sizes fields numbers heads o ended p (if ended then ConfirmedAs (length o) else NotEnded) tell same is (stated_after_all laws.opens.answer.follow.objects ds alive inside.subfiles).stated many total end'
 
-    present_is : place.section ≡ present_record ds
+    present_is : place.section ≡ section_after ds
     present_is = sym present ∙ present_alike fields numbers (one_of_some heads) heads [] o ended (sym (one_same heads))
 
     place_is : place ≡ plain_place fields numbers heads o ended (InTag held) place.message
     place_is =
         let ended_is = present_ended fields numbers heads o ended keeps in
-        let phase_is : place.phase ≡ (if nat_eq (present_record ds) 9 then AllEnded else TagBegun held) = phase ∙ sym (ap (λ (b : Bool). if b then AllEnded else TagBegun held) ended_is) in
+        let phase_is : place.phase ≡ (if nat_eq (section_after ds) 9 then AllEnded else TagBegun held) = phase ∙ sym (ap (λ (b : Bool). if b then AllEnded else TagBegun held) ended_is) in
         let taken_is : place.taken ≡ length (o ++ []) = sym taken ∙ sym (ap length (append-nil o)) in
         let heads_are : place.heads ≡ heads + 0 = omega arith in
         λ i. record { section = present_is i; phase = phase_is i; fields = fields; numbers = numbers_are i; taken = taken_is i; heads = heads_are i; message = place.message }
@@ -491,7 +492,7 @@ lead_tag laws section held fields nums taken heads m l =
     λ i. plain fields l.numbers (one_of_some (less_none heads i)) [] false in
     let within = l.within in
     lead_whole laws (record { section = section; phase = TagBegun held; fields = fields; numbers = nums; taken = taken; heads = heads; message = m }) l.numbers l.object.0 false held o text l.numbers_are l.kept
-    (sym l.numbers_are ∙ at.numbers_are) l.object.2 at.not_ended at.subfiles (octets ∙ sym many) many leads last (subst SectionsLive is l.records.1) (ap present_record (sym is) ∙ l.records.0)
+    (sym l.numbers_are ∙ at.numbers_are) l.object.2 at.not_ended at.subfiles (octets ∙ sym many) many leads last (subst SectionsLive is l.records.1) (ap section_after (sym is) ∙ l.records.0)
     (held_begun held l.tags) (λ bad. absurd (let no' : false ≡ true = bad in cc)) refl
     (record { octets_in = let low = within.octets_in in omega (arith, low); fields_in = let low = within.fields_in in omega (arith, low) })
 
@@ -507,7 +508,7 @@ lead_ended laws section fields nums taken heads m l =
     let is : record_datasets (record { section = section; phase = AllEnded; fields = fields; numbers = nums; taken = taken; heads = heads; message = m }) l.numbers ≡ base =
     λ i. plain fields l.numbers (one_of_some (less_none heads i)) [] true in
     let within = l.within in
-    let nine : present_record base ≡ 9 = eqb-true (present_record base) 9 (present_ended fields l.numbers (one_of_some heads) [] true l.kept) in
+    let nine : section_after base ≡ 9 = eqb-true (section_after base) 9 (present_ended fields l.numbers (one_of_some heads) [] true l.kept) in
     lead_whole laws (record { section = section; phase = AllEnded; fields = fields; numbers = nums; taken = taken; heads = heads; message = m }) l.numbers
     (place_after (place_after p ObjectEnded) (Confirmed taken)) true [] o text l.numbers_are l.kept
     (sym l.numbers_are ∙ at.numbers_are) l.object.2 (ap ConfirmedAs (sym many)) at.subfiles (octets ∙ sym many) many leads last (subst SectionsLive is l.records.1) (nine ∙ sym l.records.0)
@@ -540,14 +541,14 @@ front_alive ds h (d, is, (more, sections)) = ((d ∷ []) ++ more, subst AreSecti
 -- in data that are no subfile's
 lead_other : ByLayersLaws → (place : Place) (numbers : Numbers) (p : objects.Place) (e : Ending) (h : Head) (left : ℕ) (taken o text tag : List ℕ) → place.numbers ≡ number_list numbers
     → AllByRecursion (λ (d : Dataset). is_kept d.rec ≡ true) place.fields → number_list numbers ≡ stated_numbers p.stated → IsPossible p → p.ending ≡ e → place.heads ≡ length p.lengths → sum p.lengths ≡ length o → length o ≡ place.taken
-    → LeadToSaved o text place.message → (place.section ≡ 9 → place.message.part ≡ part.AfterEnd) → SectionsLiveAt (plain place.fields numbers (one_of_some place.heads) [] false) h → place.section ≡ h.rec → nat_eq h.rec 8 ≡ false
+    → LeadsToSaved o text place.message → (place.section ≡ 9 → place.message.part ≡ part.AfterEnd) → SectionsLiveAt (plain place.fields numbers (one_of_some place.heads) [] false) h → place.section ≡ h.rec → nat_eq h.rec 8 ≡ false
     → SpellsTag count_octets h tag → Octets taken → length taken + left ≡ h.count → 0 < left → place.phase ≡ DataBegun h.set h.count left taken
     → ((ds : List Dataset) → ending_of (of_record 9 ds) ≡ NotEnded → ObjectLives (record (place_after_datasets ds) { ending = e }) → ObjectLives (place_at ds h))
     → IsWithin widest (length (joined place.fields) + (if is_kept h.rec then h.count else 0)) (length place.fields + (if is_kept h.rec then 1 else 0)) → Possible place
 lead_other laws place numbers p e h left taken o text tag numbers_are keeps same is end' many total come leads last at section_is not8 spells data_octets counts some phase lives_at within =
     finish laws place numbers heads o false (InData h taken) (tag ++ taken) text (spellable_by fields numbers p base.given heads o base.fits spelled octets (let low = base.few in omega (arith, low)))
     (tag, spells, omega (arith, counts, some), data_octets, refl)
-    (subst (λ (x : List ℕ). LeadToSaved x text place.message) (sym (append-nil o) ∙ ap (λ (b : Bool). o ++ (if b then taken else [])) (sym not8)) leads) last
+    (subst (λ (x : List ℕ). LeadsToSaved x text place.message) (sym (append-nil o) ∙ ap (λ (b : Bool). o ++ (if b then taken else [])) (sym not8)) leads) last
     (record {
       records = alive_at;
       within = inside;
@@ -607,12 +608,12 @@ lead_other laws place numbers p e h left taken o text tag numbers_are keeps same
 -- in a subfile
 lead_subfile : ByLayersLaws → (place : Place) (numbers : Numbers) (p : objects.Place) (set count left : ℕ) (o text tag : List ℕ) → place.numbers ≡ number_list numbers
     → AllByRecursion (λ (d : Dataset). is_kept d.rec ≡ true) place.fields → number_list numbers ≡ stated_numbers p.stated → IsPossible p → p.ending ≡ NotEnded → place.heads ≡ length p.lengths → (last : LastIsBegun p.lengths place.taken count left)
-    → length o ≡ place.taken → LeadToSaved o text place.message → SectionsLiveAt (plain place.fields numbers (one_of_some (place.heads - 1)) [] false) (head_of_numbers 8 set count) → place.section ≡ 8
+    → length o ≡ place.taken → LeadsToSaved o text place.message → SectionsLiveAt (plain place.fields numbers (one_of_some (place.heads - 1)) [] false) (head_of_numbers 8 set count) → place.section ≡ 8
     → SpellsTag count_octets (head_of_numbers 8 set count) tag → place.phase ≡ DataBegun set count left [] → IsWithin widest (length (joined place.fields)) (length place.fields) → Possible place
 lead_subfile laws place numbers p set count left o text tag numbers_are keeps same is end' many last come leads at section_is spells phase within =
     finish laws place numbers heads object false (InData h begun) (tag ++ begun) text (spellable_by fields numbers p base.given heads object base.fits spelled object_octets (let low = base.few in omega (arith, low)))
     (tag, spells, omega (arith, begun_length, more), back_octets cut o octets, refl)
-    (subst (λ (x : List ℕ). LeadToSaved x text place.message) (sym (take-append-drop cut o)) leads) (λ nine. absurd (omega (arith, nine, section_is)))
+    (subst (λ (x : List ℕ). LeadsToSaved x text place.message) (sym (take-append-drop cut o)) leads) (λ nine. absurd (omega (arith, nine, section_is)))
     (record {
       records = alive_at;
       within = inside;

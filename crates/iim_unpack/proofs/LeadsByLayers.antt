@@ -9,7 +9,7 @@ use Rattle.iim_dataset.specs.Format.Splits.{Begun, InTag, InData, Reads}
 use Rattle.iim_dataset.specs.Format.Tags.{BeginsTag}
 use Rattle.iim_dataset.specs.declared.head.Head.{Head}
 use Rattle.iim_fields.specs.Format.Alive.{SectionsLive, SectionsLiveAt}
-use Rattle.iim_fields.specs.Format.Faults.{kept, present_record}
+use Rattle.iim_fields.specs.Format.Faults.{kept, section_after}
 use Rattle.iim_fields.specs.Format.Records.{AreSections}
 use Rattle.iim_fields.specs.declared.limits.Limits.{Limits}
 use Rattle.iim_object.specs.Format.Numbers.{place_after_datasets, place_ended, ending_of}
@@ -18,12 +18,12 @@ use Rattle.iim_object.specs.Format.Places.{NotEnded, ConfirmedAs, place_after}
 use Rattle.iim_object.specs.Format.Places as objects
 use Rattle.iim_object.specs.Format.Plans.{max_subfiles}
 use Rattle.iim_object.specs.Format.Records.{lengths_of, numbers_of}
-use Rattle.iim_object.specs.Format.Saved.{IsAt, IsPossible, stated_numbers}
+use Rattle.iim_object.specs.States.Saved.{IsAt, IsPossible, stated_numbers}
 use Rattle.wire_story.specs.Format.Tokens.{OctetOrEnd, Octet, End, with_end}
 use Rattle.wire_message.specs.Format.Layers.{MessageLanguage}
-use Rattle.wire_message.specs.Format.Laws.{MessagesEndAfterEot}
-use Rattle.wire_message.specs.Format.Reading.{is_ended}
-use Rattle.wire_message.specs.Format.Saved.{LeadToSaved, saved}
+use Rattle.wire_message.specs.Laws.Messages.{MessagesEndAfterEot}
+use Rattle.wire_message.specs.States.Reading.{is_ended}
+use Rattle.wire_message.specs.States.Saved.{LeadsToSaved, saved}
 use Rattle.wire_message.specs.declared.place.Place.{Place as Message}
 use Rattle.wire_message.specs.declared.place.Place.TheVariants as at_message
 use Rattle.wire_message.specs.declared.saved.MessagePart.TheVariants as part
@@ -32,7 +32,7 @@ use Rattle.iim_unpack.specs.Format.Admitted.{object_of}
 use Rattle.iim_unpack.specs.ByLayers.{LeadsByLayers, TagsLead, RecordsLive, ObjectLeads, MessageLeads, record_datasets, begun_subfiles, begun_of_object, object_after, one_of_some, are_ended}
 use Rattle.iim_unpack.specs.Format.Open.{object_so_far, section, AllCanContinue}
 use Rattle.iim_unpack.specs.Plain.{plain}
-use Rattle.iim_unpack.specs.Format.Possible.{Possible, widest}
+use Rattle.iim_unpack.specs.States.Possible.{Possible, widest}
 use Rattle.iim_unpack.specs.Format.Tickets.{Place, Phase, TagBegun, AllEnded, phase_of, place_of}
 use Rattle.iim_unpack.specs.Format.Tokens.{ObjectLives, CanContinueAt, MayContinue}
 use Rattle.iim_unpack.specs.LowerLaws.{ByLayersLaws, OpenLaws}
@@ -56,9 +56,9 @@ tags_tag octets ds held reads =
     record { head = reads.is_rest.1; more = part.0; some_more = part.1; whole = subst (SpellsTag count_octets reads.is_rest.1) (sym part.2) reads.is_rest.3 }
 
 tags_lead : (octets : List ℕ) (ds : List Dataset) (b : Begun) → Reads count_octets octets ds b → TagsLead (section ds b) (phase_of ds b)
-tags_lead octets ds (InTag held) reads = by (nat_eq (present_record ds) 9)
+tags_lead octets ds (InTag held) reads = by (nat_eq (section_after ds) 9)
   where
-    by : (b : Bool) → TagsLead (present_record ds) (if b then AllEnded else TagBegun held)
+    by : (b : Bool) → TagsLead (section_after ds) (if b then AllEnded else TagBegun held)
     by true = tt
     by false = tags_tag octets ds held reads
 tags_lead octets ds (InData h taken) reads =
@@ -94,16 +94,16 @@ few_fit ds stated = record { kept = all_kept ds; fit = fit_in_rows (numbers_of (
 
 -- What the layer says after datasets it says after these.
 record FewOf (ds : List Dataset) (ended : Bool) : Type 0 where
-  present : present_record ds ≡ present_record (few_of ds ended)
+  present : section_after ds ≡ section_after (few_of ds ended)
   on : (more : List Dataset) → AreSections (ds ++ more) → AreSections (few_of ds ended ++ more)
 
-fewer : OpenLaws → (ds : List Dataset) → SectionsLive ds → length (of_record 8 ds) ≤ max_subfiles → ObjectLives (place_after_datasets ds) → FewOf ds (nat_eq (present_record ds) 9)
+fewer : OpenLaws → (ds : List Dataset) → SectionsLive ds → length (of_record 8 ds) ≤ max_subfiles → ObjectLives (place_after_datasets ds) → FewOf ds (nat_eq (section_after ds) 9)
 fewer laws ds alive few lives =
     let stated = stated_after_all laws.answer.follow.objects ds alive few in
     let ps = numbers_of (of_record 7 ds) in
     let heads = length (of_record 8 ds) in
     let object = object_of ds in
-    let ended = nat_eq (present_record ds) 9 in
+    let ended = nat_eq (section_after ds) 9 in
     let total = total_of (of_record 8 ds) in
     let most = object_fits (place_after_datasets ds) lives in
     let fits : length object ≤ greatest_size = omega (arith, total, most) in
@@ -128,11 +128,11 @@ ended_by : (b : Bool) (held : List ℕ) → are_ended (TagPhase b held) ≡ b
 ended_by true held = refl
 ended_by false held = refl
 
-records_tag : (ds es : List Dataset) (held : List ℕ) → present_record ds ≡ present_record es → SectionsLive es → RecordsLive (present_record ds) (TagPhase (nat_eq (present_record ds) 9) held) es
-records_tag ds es held present alive = by (nat_eq (present_record ds) 9) refl
+records_tag : (ds es : List Dataset) (held : List ℕ) → section_after ds ≡ section_after es → SectionsLive es → RecordsLive (section_after ds) (TagPhase (nat_eq (section_after ds) 9) held) es
+records_tag ds es held present alive = by (nat_eq (section_after ds) 9) refl
   where
-    by : (b : Bool) → nat_eq (present_record ds) 9 ≡ b → RecordsLive (present_record ds) (TagPhase b held) es
-    by true is = (eqb-true (present_record ds) 9 is, alive)
+    by : (b : Bool) → nat_eq (section_after ds) 9 ≡ b → RecordsLive (section_after ds) (TagPhase b held) es
+    by true is = (eqb-true (section_after ds) 9 is, alive)
     by false is = (sym present, alive)
 
 records_lead : OpenLaws → (ds : List Dataset) (b : Begun) (m : MessagePlace) → MayContinue widest ds b
@@ -140,23 +140,23 @@ records_lead : OpenLaws → (ds : List Dataset) (b : Begun) (m : MessagePlace) �
 records_lead laws ds (InTag held) m goes =
     let f = fewer laws ds goes.records goes.within.subfiles goes.object in
     let (more, are) = goes.records in
-    let ended = nat_eq (present_record ds) 9 in
-    let none : length (of_record 8 ds) - begun_subfiles (present_record ds) (TagPhase ended held) ≡ length (of_record 8 ds) = let none = none_begun (present_record ds) ended held in omega (arith, none) in
+    let ended = nat_eq (section_after ds) 9 in
+    let none : length (of_record 8 ds) - begun_subfiles (section_after ds) (TagPhase ended held) ≡ length (of_record 8 ds) = let none = none_begun (section_after ds) ended held in omega (arith, none) in
     let is : few_of ds ended ≡ record_datasets (place_of ds (InTag held) m) (numbers_in (numbers_of (of_record 7 ds))) =
     λ i. plain (kept ds) (numbers_in (numbers_of (of_record 7 ds))) (one_of_some (sym none i)) [] (sym (ended_by ended held) i) in
-    subst (RecordsLive (present_record ds) (TagPhase ended held)) is (records_tag ds (few_of ds ended) held f.present (more, f.on more are))
+    subst (RecordsLive (section_after ds) (TagPhase ended held)) is (records_tag ds (few_of ds ended) held f.present (more, f.on more are))
 records_lead laws ds (InData h taken) m goes =
     let alive = alive_of widest ds (InData h taken) goes in
     let (d, head, (more, are)) = goes.records in
     let f = fewer laws ds alive goes.within.subfiles (object_lives_after laws.answer.follow.objects widest ds (InData h taken) goes) in
-    let open' : nat_eq (present_record ds) 9 ≡ false = elim (eqb_tells (present_record ds) 9) [
+    let open' : nat_eq (section_after ds) 9 ≡ false = elim (eqb_tells (section_after ds) 9) [
       | inl nine ↦ absurd (not_all laws.answer.follow.sections ds h goes.records (last_sections laws.answer.follow.ends ds alive nine.1))
       | inr other ↦ other.0
     ] in
-    let is : few_of ds (nat_eq (present_record ds) 9) ≡ record_datasets (place_of ds (InData h taken) m) (numbers_in (numbers_of (of_record 7 ds))) =
+    let is : few_of ds (nat_eq (section_after ds) 9) ≡ record_datasets (place_of ds (InData h taken) m) (numbers_in (numbers_of (of_record 7 ds))) =
     λ i. plain (kept ds) (numbers_in (numbers_of (of_record 7 ds))) (one_of_some (sym (begun_same (length (of_record 8 ds)) (nat_eq h.rec 8)) i)) [] (open' i) in
     subst (λ (es : List Dataset). SectionsLiveAt es h) is
-    (d, head, (more, subst AreSections (sym (append_assoc (few_of ds (nat_eq (present_record ds) 9)) (d ∷ []) more)) (f.on ((d ∷ []) ++ more) (subst AreSections (append_assoc ds (d ∷ []) more) are))))
+    (d, head, (more, subst AreSections (sym (append_assoc (few_of ds (nat_eq (section_after ds) 9)) (d ∷ []) more)) (f.on ((d ∷ []) ++ more) (subst AreSections (append_assoc ds (d ∷ []) more) are))))
 
 -- ---- the object layer
 
@@ -168,7 +168,7 @@ none_ended : (rs : List Dataset) → length rs ≡ 0 → ending_of rs ≡ NotEnd
 none_ended [] e = refl
 none_ended (r ∷ rs) e = absurd (omega (arith, e))
 
-pub nine_ended : OpenLaws → (ds : List Dataset) → SectionsLive ds → nat_eq (present_record ds) 9 ≡ false → ending_of (of_record 9 ds) ≡ NotEnded
+pub nine_ended : OpenLaws → (ds : List Dataset) → SectionsLive ds → nat_eq (section_after ds) 9 ≡ false → ending_of (of_record 9 ds) ≡ NotEnded
 nine_ended laws ds alive open' = none_ended (of_record 9 ds) (nines laws.answer.follow ds alive ∙ ap (λ (b : Bool). cond b 1 0) open')
 
 pub opened_at : (ds : List Dataset) → ending_of (of_record 9 ds) ≡ NotEnded → record (place_after_datasets ds) { ending = NotEnded } ≡ place_after_datasets ds
@@ -179,7 +179,7 @@ pub whole_at : (ds : List Dataset) (taken heads : ℕ) → taken ≡ length (obj
 whole_at ds taken heads octets many = record { numbers_are = refl; octets = total_of (of_record 8 ds) ∙ sym octets; subfiles = many ∙ sym (count_of (of_record 8 ds)); not_ended = refl }
 
 -- at the end the size of the object is confirmed
-pub confirmed_at : OpenLaws → (ds : List Dataset) → SectionsLive ds → length (of_record 8 ds) ≤ max_subfiles → ObjectLives (place_after_datasets ds) → nat_eq (present_record ds) 9 ≡ true → ending_of (of_record 9 ds) ≡ ConfirmedAs (length (object_of ds))
+pub confirmed_at : OpenLaws → (ds : List Dataset) → SectionsLive ds → length (of_record 8 ds) ≤ max_subfiles → ObjectLives (place_after_datasets ds) → nat_eq (section_after ds) 9 ≡ true → ending_of (of_record 9 ds) ≡ ConfirmedAs (length (object_of ds))
 confirmed_at laws ds alive few lives ended =
     let stated = stated_after_all laws.answer.follow.objects ds alive few in
     let total = total_of (of_record 8 ds) in
@@ -189,7 +189,7 @@ confirmed_at laws ds alive few lives ended =
     ∙ ap ConfirmedAs (low_number (length (object_of ds)) (omega (arith, total, most)))
 
 object_tag : OpenLaws → (ds : List Dataset) (held : List ℕ) (m : MessagePlace) → MayContinue widest ds (InTag held) → ObjectLeads (place_of ds (InTag held) m)
-object_tag laws ds held m goes = by (nat_eq (present_record ds) 9) refl
+object_tag laws ds held m goes = by (nat_eq (section_after ds) 9) refl
   where
     stated : IsStated (place_after_datasets ds)
     stated = stated_after_all laws.answer.follow.objects ds goes.records goes.within.subfiles
@@ -200,9 +200,9 @@ object_tag laws ds held m goes = by (nat_eq (present_record ds) 9) refl
     taken : ℕ
     taken = length (object_of ds)
 
-    by : (b : Bool) → nat_eq (present_record ds) 9 ≡ b
-        → (p : objects.Place) × IsAt (stated_numbers (numbers_of (of_record 7 ds))) taken (begun_of_object (present_record ds) (TagPhase b held)) (length (of_record 8 ds)) p
-        × IsPossible (object_after (present_record ds) (TagPhase b held) taken p)
+    by : (b : Bool) → nat_eq (section_after ds) 9 ≡ b
+        → (p : objects.Place) × IsAt (stated_numbers (numbers_of (of_record 7 ds))) taken (begun_of_object (section_after ds) (TagPhase b held)) (length (of_record 8 ds)) p
+        × IsPossible (object_after (section_after ds) (TagPhase b held) taken p)
     by true ended =
         (opened ds, whole_at ds taken (length (of_record 8 ds)) refl refl, subst (λ (e : objects.Ending). IsPossible (record (place_after_datasets ds) { ending = e })) (confirmed_at laws ds goes.records goes.within.subfiles goes.object ended) possible)
     by false open' =
@@ -245,7 +245,7 @@ object_data laws ds h taken m goes less = by (nat_eq h.rec 8) (nat_eq h.rec 9) r
     alive = alive_of widest ds (InData h taken) goes
 
     open' : ending_of (of_record 9 ds) ≡ NotEnded
-    open' = elim (eqb_tells (present_record ds) 9) [
+    open' = elim (eqb_tells (section_after ds) 9) [
       | inl nine ↦ absurd (not_all laws.answer.follow.sections ds h goes.records (last_sections laws.answer.follow.ends ds alive nine.1))
       | inr other ↦ nine_ended laws ds alive other.0
     ]
@@ -306,10 +306,10 @@ after_end (at_message.Gap h count feed) e = absurd cc
 after_end (at_message.Text h r) e = absurd cc
 after_end (at_message.Trailer h t) e = absurd cc
 
-ended_message : MessagesEndAfterEot → (o text : List ℕ) (m : MessagePlace) → LeadToSaved o text m → languages.IsAlive MessageLanguage (map Octet o ++ End ∷ []) → m.part ≡ part.AfterEnd
+ended_message : MessagesEndAfterEot → (o text : List ℕ) (m : MessagePlace) → LeadsToSaved o text m → languages.IsAlive MessageLanguage (map Octet o ++ End ∷ []) → m.part ≡ part.AfterEnd
 ended_message law o text m (at, leads, saves) alive = sym (ap (λ (x : MessagePlace). x.part) saves) ∙ after_end at ((law o text at leads).0 alive)
 
-message_leads : ByLayersLaws → (ds : List Dataset) (b : Begun) (text : List ℕ) (m : MessagePlace) → AllCanContinue widest ds b → LeadToSaved (object_so_far ds b) text m → MessageLeads (place_of ds b m)
+message_leads : ByLayersLaws → (ds : List Dataset) (b : Begun) (text : List ℕ) (m : MessagePlace) → AllCanContinue widest ds b → LeadsToSaved (object_so_far ds b) text m → MessageLeads (place_of ds b m)
 message_leads laws ds b text m goes leads = (
   object_so_far ds b,
   text,

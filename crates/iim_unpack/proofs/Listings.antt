@@ -7,14 +7,15 @@ use Rattle.std.proofs.Math.Seq.{take-append_seam}
 use Rattle.iim_fields.specs.declared.limits.Limits.{Limits}
 use Rattle.iim_unpack.specs.Format.Admitted.{Value, Admits}
 use Rattle.iim_unpack.specs.Format.Framed.{Framed}
-use Rattle.iim_unpack.specs.Format.Intakes.{OpenOctetsAreBounded}
-use Rattle.iim_unpack.specs.Format.Laws.{AdmittedOctetsAreFramed, AdmittedOctetsHaveOneValue, NoAdmittedOctetsBeginOthers, NoEnvelopeIsEmpty}
+use Rattle.iim_unpack.specs.Laws.Streams.{OpenOctetsAreBounded, StreamsHaveOneAnswer, RefusedOctetsWereOpen}
+use Rattle.iim_unpack.specs.Laws.Admitted.{AdmittedOctetsAreFramed, AdmittedOctetsHaveOneValue, NoAdmittedOctetsBeginOthers, NoEnvelopeIsEmpty}
 use Rattle.iim_unpack.specs.Format.Refusals.{refusal_at}
-use Rattle.iim_unpack.specs.Format.Streams.{Answer, Answers, IsEnvelopeWithin, Kills, Finished, Refused, Truncated, StreamsHaveOneAnswer, RefusedOctetsWereOpen}
+use Rattle.iim_unpack.specs.Format.Streams.{Answer, Answers, IsEnvelopeWithin, Kills, Finished, Refused, Truncated}
 use Rattle.iim_unpack.specs.Format.Open.{IsTruncatedAt}
-use Rattle.iim_unpack.specs.Format.Unpacking.{raised}
+use Rattle.iim_unpack.specs.States.Unpacking.{raised}
 use Rattle.iim_unpack.specs.declared.refusal.Refusal.{Refusal}
-use Rattle.iim_unpack.specs.Format.Listing.{max_envelopes, joined, Listed, IsListed, InputEnding, Whole, RefusedBy, TooMany, EndsBy, IsDeadAfter, IsTruncated, IsRefusedAfter, Divides, IsListing, InputsHaveOneListing, ListingsAreLongest}
+use Rattle.iim_unpack.specs.Format.Listing.{max_envelopes, joined, Listed, IsListed, InputEnding, Whole, RefusedBy, TooMany, EndsBy, IsDeadAfter, EndsTruncated, IsRefusedAfter, Divides, IsListing}
+use Rattle.iim_unpack.specs.Laws.Listing.{InputsHaveOneListing, ListingsAreLongest}
 
 -- the laws that one listing rests on, under limits of 32 bits
 pub record ListingLaws (limits : Limits) : Type 0 where
@@ -122,7 +123,7 @@ refused_answer {limits} laws rest k e d =
       kills = subst (λ (n : ℕ). Kills limits (take n rest) (slice_index rest n) d.fault) (sym octet) d.kills;
     }
 
-truncated_answer : {limits : Limits} → ListingLaws limits → (rest : List ℕ) (e : Refusal) → IsTruncated limits rest e → Answers limits rest (Truncated e)
+truncated_answer : {limits : Limits} → ListingLaws limits → (rest : List ℕ) (e : Refusal) → EndsTruncated limits rest e → Answers limits rest (Truncated e)
 truncated_answer {limits} laws rest e t =
     let short : length rest < 2 ^ 64 - 1 = laws.bounded limits rest laws.octets laws.fields t.is_open in
     record {

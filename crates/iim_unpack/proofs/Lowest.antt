@@ -11,33 +11,35 @@ use Rattle.iim_dataset.specs.declared.head.Head.{Head}
 use Rattle.iim_fields.specs.Format.Alive.{SectionsLive, SectionsLiveAt}
 use Rattle.iim_fields.specs.Format.Causes.{number_of_cause}
 use Rattle.iim_fields.specs.Format.Faults.{first_fault, value_fault}
-use Rattle.iim_fields.specs.Format.Laws.{HeadsTellTheLowestCause, ValuesTellTheLowestCause}
+use Rattle.iim_fields.specs.Laws.Records.{HeadsTellTheLowestCause, ValuesTellTheLowestCause}
 use Rattle.iim_fields.specs.Format.Values.{data_of, tells_number}
 use Rattle.iim_fields.specs.declared.limits.Limits.{Limits}
 use Rattle.iim_fields.specs.declared.fault.FieldFault.{FieldFault}
 use Rattle.iim_fields.specs.declared.fault.FieldCause.{FieldCause}
 use Rattle.iim_fields.specs.declared.fault.FieldCause.TheVariants as fields
-use Rattle.iim_object.specs.Format.Conditions as objects
+use Rattle.iim_object.specs.Laws.Conditions as objects
+use Rattle.iim_object.specs.Format.Conditions as objects_format
 use Rattle.iim_object.specs.Format.Causes.{cause_at}
 use Rattle.iim_object.specs.Format.Numbers.{place_after_datasets}
 use Rattle.iim_object.specs.Format.Objects.{ObjectToken}
 use Rattle.iim_object.specs.Format.Places.{Place, head_token, value_token}
 use Rattle.iim_object.specs.Format.Plans.{max_subfiles}
-use Rattle.iim_object.specs.declared.fault.SizeCause.{SizeCause}
-use Rattle.iim_object.specs.declared.fault.SizeCause.TheVariants as sizes
+use Rattle.iim_object.specs.declared.reading.fault.SizeCause.{SizeCause}
+use Rattle.iim_object.specs.declared.reading.fault.SizeCause.TheVariants as sizes
 use Rattle.wire_story.specs.Format.Texts.{Holds}
 use Rattle.wire_message.specs.Format.Layers.{text_so_far}
-use Rattle.wire_message.specs.Format.Reading.{HasCause}
+use Rattle.wire_message.specs.Format.Causes.{HasCause}
 use Rattle.wire_message.specs.declared.fault.MessageCause.{MessageCause}
 use Rattle.wire_message.specs.declared.fault.MessageCause.TheVariants as messages
 use Rattle.iim_unpack.specs.Format.Admitted.{object_of}
-use Rattle.iim_unpack.specs.Format.Conditions.{Token, TagOctet, AtHead, AtValue, SubfileOctet, IsNoCount, OfField, OfSize, rule_of, TellsTheLowest, RefusalsTellTheLowestCause}
+use Rattle.iim_unpack.specs.Format.Conditions.{Token, TagOctet, AtHead, AtValue, SubfileOctet, IsNoCount, OfField, OfSize, rule_of}
+use Rattle.iim_unpack.specs.Laws.Conditions.{TellsTheLowest, RefusalsTellTheLowestCause}
 use Rattle.iim_unpack.specs.Format.Framed.{AreWithin}
 use Rattle.iim_unpack.specs.Format.Open.{IsUnfinished}
 use Rattle.iim_unpack.specs.Format.Refusals.{cause_of, layer_of, cause_of_size, of_field, size_on, too_many_on, message_on, tag_cause, begun_record, begun_number}
 use Rattle.iim_unpack.specs.Format.Tokens.{DiesAtHead, DiesAtValue, IsRefusedHead, IsRefusedValue, place_at, subfile_fault, object_fault, number_fault}
 use Rattle.iim_unpack.specs.LowerLaws.{AnswerLaws}
-use Rattle.iim_unpack.specs.declared.fault.TokenFault.{TokenFault}
+use Rattle.iim_unpack.specs.declared.parts.fault.TokenFault.{TokenFault}
 use Rattle.iim_unpack.specs.declared.refusal.Layer.{Layer}
 use Rattle.iim_unpack.specs.declared.refusal.Layer.TheVariants as layers
 use Rattle.iim_unpack.specs.declared.refusal.Cause.{Cause}
@@ -180,7 +182,7 @@ size_layer sizes.PastSize = refl
 size_layer sizes.Short = refl
 size_layer sizes.ConfirmedWrong = refl
 
-size_number : (s : SizeCause) → (rule_of (cause_of_size s)).number ≡ objects.number_of s
+size_number : (s : SizeCause) → (rule_of (cause_of_size s)).number ≡ objects_format.number_of s
 size_number sizes.ModeClash = refl
 size_number sizes.SizeClash = refl
 size_number sizes.SubfileTooLong = refl
@@ -197,7 +199,7 @@ size_holds sizes.Short limits ds token = (λ h. h, λ h. h)
 size_holds sizes.ConfirmedWrong limits ds token = (λ h. h, λ h. h)
 
 size_lowest : (limits : Limits) (ds : List Dataset) (token : Token) (h : Head) (p : Place) (t : ObjectToken) (s : SizeCause) → objects.IsFirstCause p t s
-    → OfSize s ds token → ((r : SizeCause) → OfSize r ds token → objects.HasCause r p t) → TellsTheLowest limits ds token (size_on h s)
+    → OfSize s ds token → ((r : SizeCause) → OfSize r ds token → objects_format.HasCause r p t) → TellsTheLowest limits ds token (size_on h s)
 size_lowest limits ds token h p t s first holds back = record {
   layer = size_layer s;
   holds = (size_holds s limits ds token).1 holds;

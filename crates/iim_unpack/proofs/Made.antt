@@ -2,19 +2,20 @@
 use Rattle.std.proofs.Common.{◌≡◌, ℕ, ◌⊎◌, nat_eq, if◌then◌else◌, Bool, true, false, List, [], length, IsSome, ap, sym, ◌∙◌, inl, inr, arith}
 use Rattle.std.proofs.lemmas.Bool.Decides.{eqb_tells}
 use Rattle.iim_dataset.specs.Format.Datasets.{Dataset}
-use Rattle.iim_dataset.specs.Format.Places.{IsKeptAs, to_come}
+use Rattle.iim_dataset.specs.States.Places.{IsKeptAs, to_come}
 use Rattle.iim_dataset.specs.Format.Splits.{Begun, InTag, InData}
 use Rattle.iim_dataset.specs.declared.place.DatasetPlace.{DatasetPlace}
 use Rattle.iim_dataset.specs.declared.place.DatasetPlace.TheVariants.{Tag, Inside}
 use Rattle.iim_fields.specs.declared.limits.Limits.{Limits}
-use Rattle.iim_object.specs.Format.Told.{ReadersTellSizes}
-use Rattle.iim_unpack.specs.Format.Parts.{StandsFor, has_ended}
-use Rattle.iim_unpack.specs.Format.Possible.{AreOpenOrWhole, LimitsAreToldByPlace}
+use Rattle.iim_object.specs.Laws.Reading.{ReadersTellSizes}
+use Rattle.iim_unpack.specs.States.Parts.{StandsFor, has_ended}
+use Rattle.iim_unpack.specs.States.Possible.{AreOpenOrWhole}
+use Rattle.iim_unpack.specs.Laws.Places.{LimitsAreToldByPlace}
 use Rattle.iim_unpack.specs.Restoring.{ReadersMakeUnpackers}
 use Rattle.iim_unpack.specs.Routing.{Takes, HasEnded}
 use Rattle.iim_unpack.specs.Format.Tickets.{Place, IsPlaceOf}
-use Rattle.iim_unpack.specs.Format.Unpacking.{Unpacking, Stands, IsDoneWith}
-use Rattle.iim_unpack.specs.Unpacking.{IsUnpacking}
+use Rattle.iim_unpack.specs.States.Unpacking.{Unpacking, Stands, IsDoneWith}
+use Rattle.iim_unpack.specs.UnpackerInside.{IsUnpacking}
 use Rattle.iim_unpack.specs.Format.Open.{IsOpen}
 use Rattle.iim_unpack.specs.declared.parts.Parts.{Parts}
 use Rattle.iim_unpack.proofs.Ended.{unended_inside}

@@ -10,8 +10,8 @@ use Rattle.iim_dataset.specs.declared.head.Head.{Head}
 use Rattle.iim_tables.specs.Format.Rows.{table, row_of}
 use Rattle.iim_tables.specs.declared.shape.Row.{Row}
 use Rattle.iim_fields.specs.Format.Alive.{SectionsLive, SectionsLiveAt}
-use Rattle.iim_fields.specs.Format.Faults.{fault_by_row, present_record, value_fault}
-use Rattle.iim_fields.specs.Format.Laws.{ValuesDieWithTheirFault}
+use Rattle.iim_fields.specs.Format.Faults.{fault_by_row, section_after, value_fault}
+use Rattle.iim_fields.specs.Laws.Records.{ValuesDieWithTheirFault}
 use Rattle.iim_fields.specs.Format.Records.{AreSections}
 use Rattle.iim_tables.specs.Format.Records.{occurs}
 use Rattle.iim_fields.specs.Format.Values.{data_of}
@@ -95,7 +95,7 @@ stream_both (d ∷ ds) es x y (first, rest, spelled, later, parts) t = (first, r
 
 -- whole datasets that tell the same, and can continue
 pub record Before (ds es : List Dataset) : Type 0 where
-  pub present : present_record ds ≡ present_record es
+  pub present : section_after ds ≡ section_after es
   pub twins : Twins ds es
   pub alive : SectionsLive es
   pub message : SameMessage (object_of ds) (object_of es)
@@ -104,7 +104,7 @@ same_begun : (c : Begun) → SameBegun c c
 same_begun (InTag held) = refl
 same_begun (InData h taken) = record { head = refl; many = refl; given = refl }
 
-section_on : (ds es xs : List Dataset) (c : Begun) → present_record ds ≡ present_record es → section (ds ++ xs) c ≡ section (es ++ xs) c
+section_on : (ds es xs : List Dataset) (c : Begun) → section_after ds ≡ section_after es → section (ds ++ xs) c ≡ section (es ++ xs) c
 section_on ds es xs (InTag held) same = present_on ds es xs same
 section_on ds es xs (InData h taken) same = refl
 

@@ -9,12 +9,13 @@ use Rattle.wire_story.specs.Format.Texts.{AreLines}
 use Rattle.wire_story.specs.Format.Tokens.{Octet, End, with_end}
 use Rattle.wire_message.specs.Format.Layers.{MessageLanguage, MessageLivesWith}
 use Rattle.wire_message.specs.Format.Messages.{Header, IsMessage}
-use Rattle.wire_message.specs.Format.Reading.{is_ended}
-use Rattle.wire_message.specs.Format.SoFar.{LeadTo}
+use Rattle.wire_message.specs.States.Reading.{is_ended}
+use Rattle.wire_message.specs.States.SoFar.{LeadsTo}
 use Rattle.wire_message.specs.declared.place.Place.{Place}
 use Rattle.wire_message.specs.declared.place.Place.TheVariants as at
 use Rattle.iim_unpack.specs.Format.Admitted.{object_of}
-use Rattle.iim_unpack.specs.Format.Open.{AllCanContinue, LivingOctetsAreOpen}
+use Rattle.iim_unpack.specs.Format.Open.{AllCanContinue}
+use Rattle.iim_unpack.specs.Laws.Streams.{LivingOctetsAreOpen}
 use Rattle.iim_unpack.specs.LowerLaws.{OnwardLaws}
 use Rattle.iim_unpack.proofs.Continuing.{sized}
 use Rattle.iim_unpack.proofs.Lasts.{not_all, sections_last}
@@ -32,7 +33,7 @@ not_ended : {A : Type 0} → false ≡ true → A
 not_ended e = absurd cc
 
 -- after EOT the octets are a message
-ended_at : (octets text : List ℕ) (place : Place) → LeadTo octets text place → IsTrue (is_ended (Some place)) → Ended octets
+ended_at : (octets text : List ℕ) (place : Place) → LeadsTo octets text place → IsTrue (is_ended (Some place)) → Ended octets
 ended_at octets text (at.Filler count) leads e = not_ended e
 ended_at octets text (at.Source s) leads e = not_ended e
 ended_at octets text (at.Number s n) leads e = not_ended e
@@ -46,7 +47,7 @@ ended_at octets text (at.Text h reader) leads e = not_ended e
 ended_at octets text (at.Trailer h t) leads e = not_ended e
 ended_at octets text (at.AfterEnd h t count) leads e = record { head = h; text = text; trailer = t.items; message = leads.spelled.0; lined = leads.story }
 
-pub open_where_none : OnwardLaws → (start : Place) → LeadTo [] [] start → LivingOctetsAreOpen
+pub open_where_none : OnwardLaws → (start : Place) → LeadsTo [] [] start → LivingOctetsAreOpen
 open_where_none laws start begins limits octets whole begun reads all none =
     record { whole = whole; begun = begun; reads = reads; leads_on = all; unfinished = by begun reads all }
   where

@@ -2,12 +2,12 @@
 use Rattle.std.proofs.Common.{◌≡◌, List, [], ◌∷◌, ◌++◌, refl, ap, sym, subst, ◌∙◌, inl, inr, append-nil, append_assoc}
 use Rattle.iim_dataset.specs.Format.Datasets.{Dataset}
 use Rattle.iim_dataset.specs.Format.Splits.{Begun, InTag, InData}
-use Rattle.iim_dataset.specs.Format.Laws.{NoTagBeginsAnother, NoDatasetBeginsAnother}
+use Rattle.iim_dataset.specs.Laws.Datasets.{NoTagBeginsAnother, NoDatasetBeginsAnother}
 use Rattle.iim_fields.specs.Format.Records.{AreSections}
-use Rattle.iim_fields.specs.Format.Laws.{NoSectionsBeginOthers}
+use Rattle.iim_fields.specs.Laws.Records.{NoSectionsBeginOthers}
 use Rattle.iim_fields.specs.declared.limits.Limits.{Limits}
 use Rattle.iim_unpack.specs.Format.Tokens.{MayContinue}
-use Rattle.iim_unpack.specs.Format.Open.{OpenOctetsBeginWithNoEnvelope}
+use Rattle.iim_unpack.specs.Laws.Streams.{OpenOctetsBeginWithNoEnvelope}
 use Rattle.iim_unpack.proofs.Frames.{compare}
 use Rattle.iim_unpack.proofs.Fronts.{begun_none}
 

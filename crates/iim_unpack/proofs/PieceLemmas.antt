@@ -7,22 +7,22 @@ use Rattle.std.specs.Result.{IsErrAnd}
 use Rattle.iim_dataset.specs.Format.Splits.{InTag}
 use Rattle.iim_fields.specs.declared.limits.Limits.{Limits}
 use Rattle.wire_story.specs.Format.Delivery as story
-use Rattle.wire_story.specs.Format.Laws.{DeliveryMayBeCut, TextsAreDeliveredAsLines}
+use Rattle.wire_story.specs.Laws.Texts.{DeliveryMayBeCut, TextsAreDeliveredAsLines}
 use Rattle.wire_message.specs.Format.Layers.{text_so_far}
-use Rattle.wire_message.specs.Format.Laws.{TextsStandBetweenStxAndEtx}
+use Rattle.wire_message.specs.Laws.Messages.{TextsStandBetweenStxAndEtx}
 use Rattle.wire_message.specs.declared.place.Place.TheVariants.{AfterEnd}
 use Rattle.iim_unpack.specs.Format.Admitted.{Value, Admits, object_of}
-use Rattle.iim_unpack.specs.Format.Intakes.{OpenOctetsAreBounded}
+use Rattle.iim_unpack.specs.Laws.Streams.{OpenOctetsAreBounded, EnvelopesAreBounded, RefusedOctetsWereOpen, StreamsHaveOneAnswer}
 use Rattle.iim_unpack.specs.LowerLaws.{FeedLaws}
 use Rattle.iim_unpack.specs.Format.Pieces.{stream_of, IsUnpacked, IsTurnedDown, IsAnswer}
-use Rattle.iim_unpack.specs.Pieces.{DoneIn, HasFed}
+use Rattle.iim_unpack.specs.PiecesSoFar.{DoneIn, HasFedPieces}
 use Rattle.iim_unpack.specs.Format.Refusals.{refusal_at}
-use Rattle.iim_unpack.specs.Format.Streams.{Answer, Answers, Finished, Refused, Truncated, IsEnvelopeWithin, IsFinished, IsRefused, EnvelopesAreBounded, RefusedOctetsWereOpen, StreamsHaveOneAnswer}
-use Rattle.iim_unpack.specs.Format.Unpacking.{Unpacking, Stands, IsDone, IsDoneWith, Goes, IsRefusedIn, limits_in, raised}
+use Rattle.iim_unpack.specs.Format.Streams.{Answer, Answers, Finished, Refused, Truncated, IsEnvelopeWithin, IsFinished, IsRefused}
+use Rattle.iim_unpack.specs.States.Unpacking.{Unpacking, Stands, IsDone, IsDoneWith, Goes, IsRefusedIn, limits_in, raised}
 use Rattle.iim_unpack.specs.Format.Open.{IsOpen, IsTextOf, Delivers, IsTruncatedAt, RefusesNext}
 use Rattle.iim_unpack.specs.Format.Value.{HasParts}
 use Rattle.iim_unpack.specs.declared.refusal.Refusal.{Refusal}
-use Rattle.iim_unpack.specs.Format.Parts.{CountsFor}
+use Rattle.iim_unpack.specs.States.Parts.{CountsFor}
 use Rattle.iim_unpack.specs.declared.refusal.Cause.{Cause}
 use Rattle.iim_unpack.specs.declared.refusal.Cause.TheVariants.{Sink}
 use Rattle.iim_unpack.specs.declared.unpacker.Progress.{Progress}
@@ -47,7 +47,7 @@ pub record AreLow (limits : Limits) : Type 0 where
 exact : (n k : ℕ) → n + k < 2 ^ 64 - 1 → raised n k ≡ n + k
 exact n k less = omega (arith, less)
 
-pub begin_fed : {S : Type 0} (goes : S → List story.StoryEvent → S → Type 0) → (u : Unpacking) (a : S) → Stands u [] 0 → goes a [] a → HasFed goes (limits_in u) u a a []
+pub begin_fed : {S : Type 0} (goes : S → List story.StoryEvent → S → Type 0) → (u : Unpacking) (a : S) → Stands u [] 0 → goes a [] a → HasFedPieces goes (limits_in u) u a a []
 begin_fed goes u a at nothing = record { limits_are = refl; more = []; told = nothing; stood = inl (at, adds_none []) }
 
 -- ---- a piece that was taken
@@ -76,12 +76,12 @@ on_done laws limits low v o piece more next used same fits done before adds =
       adds = subst (λ (x : List ℕ). Delivers [] x (more ++ next)) (sym front) (adds_more laws.cut [] o (take used piece) more next before adds);
     }
 
-pub went_on : {S : Type 0} (goes : S → List story.StoryEvent → S → Type 0) → Joined goes → CountLaws → (limits : Limits) → AreLow limits → (u v : Unpacking) (a b c : S) (o piece : List ℕ) (progress : Progress) → HasFed goes limits u a b o
+pub tells_parts_on : {S : Type 0} (goes : S → List story.StoryEvent → S → Type 0) → Joined goes → CountLaws → (limits : Limits) → AreLow limits → (u v : Unpacking) (a b c : S) (o piece : List ℕ) (progress : Progress) → HasFedPieces goes limits u a b o
     → limits_in v ≡ limits → ((more : List story.StoryEvent) × goes b more c × ((p : List ℕ) (n : ℕ) → Stands u p n → Goes v p n piece more progress))
-    → (DoneIn' : (used : ℕ) → used ≤ length o → IsDoneWith u (take used o) used → (v ≡ u) × (c ≡ b)) → HasFed goes limits v a c (o ++ piece)
-went_on {S = S} goes joined laws limits low u v a b c o piece progress fed same step done' = by fed.stood
+    → (DoneIn' : (used : ℕ) → used ≤ length o → IsDoneWith u (take used o) used → (v ≡ u) × (c ≡ b)) → HasFedPieces goes limits v a c (o ++ piece)
+tells_parts_on {S = S} goes joined laws limits low u v a b c o piece progress fed same step done' = by fed.stood
   where
-    by_progress : (q : Progress) → Stands u o (length o) → Delivers [] o fed.more → Goes v o (length o) piece step.0 q → HasFed goes limits v a c (o ++ piece)
+    by_progress : (q : Progress) → Stands u o (length o) → Delivers [] o fed.more → Goes v o (length o) piece step.0 q → HasFedPieces goes limits v a c (o ++ piece)
     by_progress More at adds there = record {
       limits_are = same;
       more = fed.more ++ step.0;
@@ -95,7 +95,7 @@ went_on {S = S} goes joined laws limits low u v a b c o piece progress fed same 
       stood = inr (on_done laws limits low v o piece fed.more step.0 used same there.0 there.1 adds there.2);
     }
 
-    by : (Stands u o (length o) × Delivers [] o fed.more) ⊎ DoneIn u o fed.more → HasFed goes limits v a c (o ++ piece)
+    by : (Stands u o (length o) × Delivers [] o fed.more) ⊎ DoneIn u o fed.more → HasFedPieces goes limits v a c (o ++ piece)
     by (inl (at, adds)) = by_progress progress at adds (step.2 o (length o) at)
     by (inr d) =
         let still = done' d.used d.fits d.done in
@@ -189,12 +189,12 @@ stream_rest ps k d less =
     ap stream_of (sym (take-append-drop (k + 1) ps)) ∙ flat_map-append (λ (p : Bor (List ℕ)). p.now) (take (k + 1) ps) (drop (k + 1) ps)
     ∙ ap (λ (x : List ℕ). x ++ stream_of (drop (k + 1) ps)) (stream_step ps k d less) ∙ append_assoc (stream_of (take k ps)) (get_or ps k d).now (stream_of (drop (k + 1) ps))
 
-pub still_taking : {S : Type 0} (goes : S → List story.StoryEvent → S → Type 0) (limits : Limits) (u : Unpacking) (a b : S) (o : List ℕ) → HasFed goes limits u a b o → u.refused ≡ None
+pub still_taking : {S : Type 0} (goes : S → List story.StoryEvent → S → Type 0) (limits : Limits) (u : Unpacking) (a b : S) (o : List ℕ) → HasFedPieces goes limits u a b o → u.refused ≡ None
 still_taking goes limits u a b o fed = elim fed.stood [ inl at ↦ at.0.taking | inr d ↦ d.done.taking ]
 
 -- the answer of feeding a piece of which an octet is refused
 pub turned_down : {S : Type 0} (goes : S → List story.StoryEvent → S → Type 0) → Joined goes → CountLaws → (limits : Limits) → AreLow limits → (u : Unpacking) (a b c : S) (o piece rest : List ℕ) (answer : Result Progress Refusal) (e : Refusal)
-    → HasFed goes limits u a b o → answer ≡ Err e → ((more : List story.StoryEvent) × goes b more c × ((p : List ℕ) (n : ℕ) → Stands u p n → IsRefusedIn (limits_in u) p n piece more e))
+    → HasFedPieces goes limits u a b o → answer ≡ Err e → ((more : List story.StoryEvent) × goes b more c × ((p : List ℕ) (n : ℕ) → Stands u p n → IsRefusedIn (limits_in u) p n piece more e))
     → (IsDone u → answer ≡ Ok (Done 0)) → IsTurnedDown goes limits (o ++ (piece ++ rest)) a c e
 turned_down goes joined laws limits low u a b c o piece rest answer e fed is step done' =
     elim fed.stood [
@@ -228,7 +228,7 @@ only_on limits stream (Ok got) e is only answer answers other = absurd is
 only_on limits stream (Err f) e is only answer answers other =
     subst (λ (x : Refusal). IsAnswer (Err x) answer) (sym is) (only answer answers (subst (λ (x : Refusal). x.cause ≡ Sink → ⊥) is other))
 
-pub ends_short : {S : Type 0} (goes : S → List story.StoryEvent → S → Type 0) → (limits : Limits) (v : Unpacking) (a b : S) (stream : List ℕ) (answer : Option Refusal) (e : Refusal) → HasFed goes limits v a b stream → answer ≡ Some e
+pub ends_short : {S : Type 0} (goes : S → List story.StoryEvent → S → Type 0) → (limits : Limits) (v : Unpacking) (a b : S) (stream : List ℕ) (answer : Option Refusal) (e : Refusal) → HasFedPieces goes limits v a b stream → answer ≡ Some e
     → ((p : List ℕ) (n : ℕ) → Stands v p n → (f : Refusal) × (answer ≡ Some f) × IsTruncatedAt p n f) → (IsDone v → answer ≡ None) → IsTurnedDown goes limits stream a b e
 ends_short goes limits v a b stream answer e fed is truncated done' = elim fed.stood [
   | inl (at, adds) ↦
@@ -242,14 +242,14 @@ pub record Finishes {S : Type 0} (goes : S → List story.StoryEvent → S → T
   pub told : goes a more b
   pub done : DoneIn v stream more
 
-pub ends_done : {S : Type 0} (goes : S → List story.StoryEvent → S → Type 0) → (limits : Limits) (v : Unpacking) (a b : S) (stream : List ℕ) (answer : Option Refusal) → HasFed goes limits v a b stream → answer ≡ None
+pub ends_done : {S : Type 0} (goes : S → List story.StoryEvent → S → Type 0) → (limits : Limits) (v : Unpacking) (a b : S) (stream : List ℕ) (answer : Option Refusal) → HasFedPieces goes limits v a b stream → answer ≡ None
     → ((p : List ℕ) (n : ℕ) → Stands v p n → (f : Refusal) × (answer ≡ Some f) × IsTruncatedAt p n f) → Finishes goes v a b stream
 ends_done goes limits v a b stream answer fed is truncated = elim fed.stood [
   | inl (at, adds) ↦ absurd (not_told answer stream (length stream) is (truncated stream (length stream) at))
   | inr d ↦ record { more = fed.more; told = fed.told; done = d }
 ]
 
-pub short_counts : {S : Type 0} (goes : S → List story.StoryEvent → S → Type 0) → (limits : Limits) (v : Unpacking) (a b : S) (stream : List ℕ) (answer : Option Refusal) (e : Refusal) (old new : ℕ) → HasFed goes limits v a b stream → answer ≡ Some e
+pub short_counts : {S : Type 0} (goes : S → List story.StoryEvent → S → Type 0) → (limits : Limits) (v : Unpacking) (a b : S) (stream : List ℕ) (answer : Option Refusal) (e : Refusal) (old new : ℕ) → HasFedPieces goes limits v a b stream → answer ≡ Some e
     → ((p : List ℕ) (n : ℕ) → Stands v p n → (f : Refusal) × (answer ≡ Some f) × IsTruncatedAt p n f) → (IsDone v → answer ≡ None) → new ≡ old → CountsFor e.cause old new
 short_counts goes limits v a b stream answer e old new fed is truncated done' calm = elim fed.stood [
   | inl (at, adds) ↦

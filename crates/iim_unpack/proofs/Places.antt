@@ -13,8 +13,10 @@ use Rattle.iim_fields.specs.Format.Values.{tells_number}
 use Rattle.iim_object.specs.Format.Plans.{max_subfiles}
 use Rattle.iim_object.specs.Format.Objects.{ObjectToken, NumberRead, SubfileBegun, ObjectEnded, Confirmed}
 use Rattle.iim_object.specs.Format.Places.{Place, MayFollow, place_after, head_token, value_token}
-use Rattle.iim_object.specs.Format.Records.{AreObjectRecords, AreSized}
-use Rattle.iim_object.specs.Format.Numbers.{place_after_datasets, place_ended, DatasetsLiveWithTheirTokens, DatasetsEndWithTheirTokens}
+use Rattle.iim_object.specs.Format.Records.{AreObjectRecords}
+use Rattle.iim_object.specs.Laws.Records.{AreSized}
+use Rattle.iim_object.specs.Format.Numbers.{place_after_datasets, place_ended}
+use Rattle.iim_object.specs.Laws.Numbers.{DatasetsLiveWithTheirTokens, DatasetsEndWithTheirTokens}
 use Rattle.iim_unpack.specs.Format.Tokens.{place_at, ObjectLives}
 use Rattle.iim_unpack.proofs.Objects.{records_alive}
 use Rattle.iim_unpack.specs.LowerLaws.{ObjectLaws}

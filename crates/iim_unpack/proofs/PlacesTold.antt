@@ -1,33 +1,33 @@
 -- The place that the parts of a ticket tell, and whether an envelope can be there.
 use Rattle.std.proofs.Common.{◌≡◌, ℕ, ◌+◌, ◌-◌, ◌≤◌, ◌<◌, ◌^◌, cond, Bool, List, [], ◌∷◌, length, Option, None, Some, IsSome, refl, ap, sym, subst, ◌∙◌, arith}
 use Rattle.std.specs.List.{AllByRecursion}
-use Rattle.iim_dataset.specs.Format.Reading.{TakesCalls}
+use Rattle.iim_dataset.specs.States.Reading.{TakesCalls}
 use Rattle.iim_dataset.specs.Format.Datasets.{Dataset}
 use Rattle.iim_fields.specs.Format.Faults.{kept_octets, joined}
-use Rattle.iim_fields.specs.Format.Standing.{IsWithin}
+use Rattle.iim_fields.specs.Format.Bounds.{IsWithin}
 use Rattle.iim_fields.specs.declared.limits.Limits.{Limits}
 use Rattle.iim_object.specs.Format.Places as objects
-use Rattle.iim_object.specs.Format.Reading as reading
-use Rattle.iim_object.specs.Format.Saved.{IsAt, IsPossible}
-use Rattle.wire_message.specs.Format.Reading as wire
-use Rattle.wire_message.specs.Format.Saved.{LeadToSaved}
+use Rattle.iim_object.specs.States.Reading as reading
+use Rattle.iim_object.specs.States.Saved.{IsAt, IsPossible}
+use Rattle.wire_message.specs.States.Reading as wire
+use Rattle.wire_message.specs.States.Saved.{LeadsToSaved}
 use Rattle.wire_message.specs.declared.saved.MessagePart.TheVariants.{AfterEnd}
 use Rattle.wire_message.specs.declared.saved.MessagePlace.{MessagePlace}
 use Rattle.iim_unpack.specs.ByLayers.{LeadsByLayers, PlacesArePossibleByLayers, TagsLead, RecordsLive, are_ended, begun_of_object, begun_subfiles, object_after, one_of_some, record_datasets}
 use Rattle.iim_unpack.specs.Plain.{Numbers, number_list, plain}
-use Rattle.iim_unpack.specs.Format.TicketsTold.{TicketsOfPlacesAreSplit, split_of}
-use Rattle.iim_unpack.specs.Format.Possible.{IsSmall, IsSmallPhase, IsSmallPlace, greatest_size_before, AreHeadsWithin, begun_count, begun_fields, widest}
-use Rattle.iim_unpack.specs.Format.Scales.{SmallPlacesWerePossible}
+use Rattle.iim_unpack.specs.Laws.Tickets.{TicketsOfPlacesAreSplit, split_of, TicketsHaveOneSplit}
+use Rattle.iim_unpack.specs.States.Possible.{IsSmall, IsSmallPhase, IsSmallPlace, greatest_size_before, AreHeadsWithin, begun_count, begun_fields, widest}
+use Rattle.iim_unpack.specs.Laws.Places.{SmallPlacesWerePossible}
 use Rattle.iim_unpack.specs.Restoring.{AreAt, IsLimitFault, IsMadeFor, LeadsNowhere, LeadsNowhereIn, ObjectStands, MessageStands, RecordsStand, has_come}
-use Rattle.iim_unpack.specs.Format.Restored.{octets_told, IsRestoreFault, IsTicketAt}
+use Rattle.iim_unpack.specs.States.Restored.{octets_told, IsRestoreFault, IsTicketAt}
 use Rattle.iim_unpack.specs.Taking.{AreKept, IsMessageOf, numbers_told, tag_place, told_datasets}
-use Rattle.iim_unpack.specs.Format.Begins.{IsSizeIn, IsWide}
-use Rattle.iim_unpack.specs.Format.TicketForm.{HasForm, Split, SplitsTicket, TicketsHaveOneSplit, split_octets}
+use Rattle.iim_unpack.specs.States.Begins.{IsSizeIn, IsWide}
+use Rattle.iim_unpack.specs.Format.TicketForm.{HasForm, Split, SplitsTicket, split_octets}
 use Rattle.iim_unpack.specs.Format.Tickets.{Place, part_number}
-use Rattle.iim_unpack.specs.Format.Unpacking.{Unpacking, limits_in}
-use Rattle.iim_unpack.specs.declared.possible.Readers.{Readers}
-use Rattle.iim_unpack.specs.declared.ticket_fault.TicketFault.{TicketFault}
-use Rattle.iim_unpack.specs.declared.ticket_fault.TicketFault.TheVariants.{Form, Version, Impossible, HeaderFull, TooManyFields, OutOfMemory}
+use Rattle.iim_unpack.specs.States.Unpacking.{Unpacking, limits_in}
+use Rattle.iim_unpack.specs.declared.ticket.possible.Readers.{Readers}
+use Rattle.iim_unpack.specs.declared.ticket.fault.TicketFault.{TicketFault}
+use Rattle.iim_unpack.specs.declared.ticket.fault.TicketFault.TheVariants.{Form, Version, Impossible, HeaderFull, TooManyFields, OutOfMemory}
 use Rattle.iim_unpack.proofs.Fitting.{part_told, spelled}
 use Rattle.iim_unpack.proofs.Plain.{kept_fields}
 
@@ -95,7 +95,7 @@ no_object s none place is l =
 message_of : (s : Split) (place : Place) → split_of s.version place ≡ s → IsMessageOf s.part s.counter s.flag s.texts place.message
 message_of s place is = subst (λ (t : Split). IsMessageOf t.part t.counter t.flag t.texts place.message) is (record { part_is = refl; counter_is = refl; flag_is = refl; texts_are = refl })
 
-pub no_message : (s : Split) → ((m : MessagePlace) (octets text : List ℕ) → IsMessageOf s.part s.counter s.flag s.texts m → LeadToSaved octets text m → length octets ≡ s.taken → ⊥) → LeadsNowhere s
+pub no_message : (s : Split) → ((m : MessagePlace) (octets text : List ℕ) → IsMessageOf s.part s.counter s.flag s.texts m → LeadsToSaved octets text m → length octets ≡ s.taken → ⊥) → LeadsNowhere s
 no_message s none place is l =
     let (octets, text, leads, count, ended) = l.message in
     none place.message octets text (message_of s place is) leads (subst (λ (t : Split). length octets ≡ t.taken) is count)
@@ -149,8 +149,8 @@ pub record Reached (s : Split) (r : Readers) (some : Bool) (m : MessagePlace) : 
   pub object_is : (p : objects.Place) → IsAt s.numbers s.taken (begun_of_object s.section s.phase) s.heads p → IsPossible (object_after s.section s.phase s.taken p) → reading.StandsAt r.object (object_after s.section s.phase s.taken p)
   pub some_message : IsSome r.message
   pub message_of : IsMessageOf s.part s.counter s.flag s.texts m
-  pub message : (octets : List ℕ) × (text : List ℕ) × LeadToSaved octets text m × (length octets ≡ s.taken)
-  pub message_is : (octets text : List ℕ) → LeadToSaved octets text m → wire.StandsAt r.message octets text
+  pub message : (octets : List ℕ) × (text : List ℕ) × LeadsToSaved octets text m × (length octets ≡ s.taken)
+  pub message_is : (octets text : List ℕ) → LeadsToSaved octets text m → wire.StandsAt r.message octets text
   pub ends : s.section ≡ 9 → s.part ≡ 11
   pub octets_are : r.octets ≡ OctetsIn s
   pub fields_are : r.fields ≡ FieldsIn s

@@ -9,15 +9,15 @@ use Rattle.iim_dataset.proofs.WrittenNumbers.{few_octets, number_back, number_oc
 use Rattle.iim_dataset.specs.Format.Octets.{IsOctet, Octets, number, greatest_size}
 use Rattle.iim_dataset.specs.Format.Datasets.{Dataset, canonical_stream, of_record}
 use Rattle.iim_dataset.specs.Format.Splits.{Begun, InTag, InData}
-use Rattle.iim_dataset.specs.Format.Laws.{HasSpellings, CanonicalStreamsAreSpelled}
+use Rattle.iim_dataset.specs.Laws.Datasets.{HasSpellings, CanonicalStreamsAreSpelled}
 use Rattle.iim_fields.specs.Format.Faults.{kept, is_kept, joined}
 use Rattle.iim_object.specs.Format.Records.{numbers_of}
 use Rattle.iim_object.specs.Format.Packing.{number_dataset, subfile_datasets}
-use Rattle.iim_object.specs.Format.Saved.{stated_numbers}
+use Rattle.iim_object.specs.States.Saved.{stated_numbers}
 use Rattle.iim_object.specs.Format.Sizes.{Stated, number_at}
-use Rattle.wire_message.specs.Format.Saved.{LeadToSaved}
+use Rattle.wire_message.specs.States.Saved.{LeadsToSaved}
 use Rattle.iim_unpack.specs.Format.Admitted.{object_of}
-use Rattle.iim_unpack.specs.Format.Begins.{IsSize}
+use Rattle.iim_unpack.specs.States.Begins.{IsSize}
 use Rattle.iim_unpack.specs.Format.Open.{object_so_far, section}
 use Rattle.iim_unpack.specs.Format.Tickets.{phase_of, heads_of}
 use Rattle.iim_unpack.specs.Plain.{Numbers, number_list, mode_dataset, one_dataset, plain_numbers, filled, plain_end, plain, AreSpellable, begun_object, begun_heads, PlainOctetsLeadToTheirPlace}
@@ -271,7 +271,7 @@ plain_led law fields numbers heads object ended begun rest text message are is l
       reads = record { front = canonical_stream ds; rest = rest; is_front = law ds (plain_spelled fields numbers heads object ended are); is_rest = is; parts = refl };
       text = text;
       message = message;
-      leads = subst (λ (xs : List ℕ). LeadToSaved xs text message) (sym taken) leads;
+      leads = subst (λ (xs : List ℕ). LeadsToSaved xs text message) (sym taken) leads;
       is_place = λ i. record {
         section = section ds begun;
         phase = phase_of ds begun;

@@ -13,15 +13,16 @@ use Rattle.iim_dataset.specs.Format.Datasets.{Dataset, of_record}
 use Rattle.iim_dataset.proofs.WrittenNumbers.{number_back}
 use Rattle.iim_tables.specs.Format.Rows.{table, row_of, Meets}
 use Rattle.iim_fields.specs.Format.Alive.{SectionsLive}
-use Rattle.iim_fields.specs.Format.Faults.{joined, kept, is_kept, present_record, last_record}
+use Rattle.iim_fields.specs.Format.Faults.{joined, kept, is_kept, section_after, last_record}
 use Rattle.iim_fields.specs.Format.Records.{AreSections}
 use Rattle.iim_tables.specs.Format.Records.{IsGoodDataset, IsGoodRecord, occurs, occurrences, repeats, mandatory}
-use Rattle.iim_object.specs.Format.Packing.{NumberDatasetsAreGood, number_dataset, subfile_datasets}
+use Rattle.iim_object.specs.Laws.Packing.{NumberDatasetsAreGood}
+use Rattle.iim_object.specs.Format.Packing.{number_dataset, subfile_datasets}
 use Rattle.iim_object.specs.Format.Records.{numbers_of}
 use Rattle.iim_object.specs.Format.Sizes.{Stated, InRow, number_at}
-use Rattle.iim_object.specs.Format.Saved.{stated_numbers}
+use Rattle.iim_object.specs.States.Saved.{stated_numbers}
 use Rattle.iim_unpack.specs.Format.Admitted.{object_of}
-use Rattle.iim_unpack.specs.Format.Begins.{IsSize}
+use Rattle.iim_unpack.specs.States.Begins.{IsSize}
 use Rattle.iim_unpack.specs.LowerLaws.{AnswerLaws}
 use Rattle.iim_unpack.specs.Plain.{Numbers, number_list, mode_dataset, one_dataset, plain_numbers, filled, plain_end, PlainDatasetsContinueAlike}
 use Rattle.iim_unpack.proofs.Bounds.{IsFive, alive_five}
@@ -287,7 +288,7 @@ pub record AreLike (ds sevens eights nines : List Dataset) : Type 0 where
   pub seven : MayReplace 7 (of_record 7 ds) sevens
   pub eight : MayReplace 8 (of_record 8 ds) eights
   pub nine : MayReplace 9 (of_record 9 ds) nines
-  pub present : present_record ds ≡ present_record (kept ds ++ (sevens ++ (eights ++ nines)))
+  pub present : section_after ds ≡ section_after (kept ds ++ (sevens ++ (eights ++ nines)))
 
 pub sections_continue : (ds more sevens eights nines : List Dataset) → AllByRecursion (λ d. IsFive d.rec) (ds ++ more) → AreLike ds sevens eights nines → AreSections (ds ++ more) → AreSections ((kept ds ++ (sevens ++ (eights ++ nines))) ++ more)
 sections_continue ds more sevens eights nines five like sections =
@@ -540,7 +541,7 @@ plain_on laws ds more sections few fits =
     let numbers = numbers_in ps in
     let heads = length (of_record 8 ds) in
     let object = object_of ds in
-    let ended = nat_eq (present_record ds) 9 in
+    let ended = nat_eq (section_after ds) 9 in
     let size = unwrap_or numbers.largest 0 in
     let tens = tens_after laws.numbers ds alive in
     let good = all_good (ds ++ more) sections in

@@ -10,9 +10,9 @@ use Rattle.iim_dataset.specs.Format.Languages as languages
 use Rattle.iim_dataset.specs.Format.Splits.{Begun, InTag, InData, Reads}
 use Rattle.iim_dataset.specs.declared.head.Head.{Head}
 use Rattle.iim_fields.specs.Format.Alive.{SectionsLive, SectionsLiveAt}
-use Rattle.iim_fields.specs.Format.Faults.{kept, joined, present_record}
+use Rattle.iim_fields.specs.Format.Faults.{kept, joined, section_after}
 use Rattle.iim_fields.specs.Format.Records.{AreSections}
-use Rattle.iim_fields.specs.Format.Standing.{IsWithin}
+use Rattle.iim_fields.specs.Format.Bounds.{IsWithin}
 use Rattle.iim_fields.specs.declared.limits.Limits.{Limits}
 use Rattle.iim_object.specs.Format.Numbers.{place_after_datasets, place_ended, ending_of}
 use Rattle.iim_object.specs.Format.Objects.{SubfileBegun, ObjectLanguage, number_tokens}
@@ -21,20 +21,20 @@ use Rattle.iim_object.specs.Format.Places.{Ending, NotEnded, ConfirmedAs, HasBot
 use Rattle.iim_object.specs.Format.Places as objects
 use Rattle.iim_object.specs.Format.Plans.{max_subfiles}
 use Rattle.iim_object.specs.Format.Records.{HaveSizes, lengths_of, numbers_of}
-use Rattle.iim_object.specs.Format.Saved.{IsPossible, stated_numbers}
+use Rattle.iim_object.specs.States.Saved.{IsPossible, stated_numbers}
 use Rattle.iim_object.specs.declared.size.Sizes.{Sizes}
 use Rattle.iim_object.specs.Format.Sizes.{Stated, InRow, AreStated, number_at}
 use Rattle.wire_story.specs.Format.Tokens.{Octet, End}
 use Rattle.wire_message.specs.Format.Layers.{MessageLanguage, StoryLivesIn}
 use Rattle.wire_message.specs.Format.Messages.{IsMessage}
-use Rattle.wire_message.specs.Format.Saved.{LeadToSaved}
+use Rattle.wire_message.specs.States.Saved.{LeadsToSaved}
 use Rattle.wire_message.specs.declared.saved.MessagePlace.{MessagePlace}
 use Rattle.iim_unpack.specs.Format.Admitted.{Value, object_of}
-use Rattle.iim_unpack.specs.Format.Begins.{IsSize}
+use Rattle.iim_unpack.specs.States.Begins.{IsSize}
 use Rattle.iim_unpack.specs.Format.Framed.{AreWithin}
 use Rattle.iim_unpack.specs.Format.Open.{object_so_far, section, AllCanContinue}
 use Rattle.iim_unpack.specs.Plain.{number_list, filled, plain_end, plain_of, plain_octets, IsPlain, PlainOctetsAreOpenOrWhole}
-use Rattle.iim_unpack.specs.Format.Possible.{AreOpenOrWhole, widest}
+use Rattle.iim_unpack.specs.States.Possible.{AreOpenOrWhole, widest}
 use Rattle.iim_unpack.specs.Format.Streams.{IsEnvelopeWithin}
 use Rattle.iim_unpack.specs.Format.Tickets.{Place, IsPlaceOf, place_of}
 use Rattle.iim_unpack.specs.Format.Tokens.{place_at, ObjectLives, MayContinue}
@@ -61,8 +61,8 @@ record Told (ds es : List Dataset) : Type 0 where
   heads : length (of_record 8 ds) ≡ length (of_record 8 es)
   each : (size : ℕ) → number_at 20 (numbers_of (of_record 7 es)) ≡ Some size → AllByRecursion (λ n. n ≤ size) (lengths_of (of_record 8 es))
   ending : ending_of (of_record 9 ds) ≡ ending_of (of_record 9 es)
-  nines_are : of_record 9 es ≡ plain_end (nat_eq (present_record ds) 9) (object_of ds)
-  present : present_record ds ≡ present_record es
+  nines_are : of_record 9 es ≡ plain_end (nat_eq (section_after ds) 9) (object_of ds)
+  present : section_after ds ≡ section_after es
   records : (more : List Dataset) → AreSections (ds ++ more) → AreSections (es ++ more)
 
 pub part_small : (size count : ℕ) (xs : List ℕ) → AllByRecursion (λ n. n ≤ size) (lengths_of (subfile_datasets (filled size count xs)))
@@ -98,7 +98,7 @@ told laws ds alive few lives =
     let numbers = numbers_in ps in
     let heads = length (of_record 8 ds) in
     let object = object_of ds in
-    let ended = nat_eq (present_record ds) 9 in
+    let ended = nat_eq (section_after ds) 9 in
     let total = total_of (of_record 8 ds) in
     let most = object_fits (place_after_datasets ds) lives in
     let fits : length object ≤ greatest_size = omega (arith, total, most) in
@@ -244,7 +244,7 @@ leads_on laws limits ds es b t goes = record {
 
 -- ---- an envelope
 
-sizes_on : (ds es : List Dataset) (s : Sizes) → Told ds es → nat_eq (present_record ds) 9 ≡ true → HaveSizes (of_record 7 ds) (of_record 8 ds) (of_record 9 ds) s → HaveSizes (of_record 7 es) (of_record 8 es) (of_record 9 es) s
+sizes_on : (ds es : List Dataset) (s : Sizes) → Told ds es → nat_eq (section_after ds) 9 ≡ true → HaveSizes (of_record 7 ds) (of_record 8 ds) (of_record 9 ds) s → HaveSizes (of_record 7 es) (of_record 8 es) (of_record 9 es) s
 sizes_on ds es s t ended have =
     let same = same_numbers (numbers_of (of_record 7 ds)) (numbers_of (of_record 7 es)) t.numbers in
     let total = total_of (of_record 8 ds) in
@@ -301,7 +301,7 @@ envelope_on laws limits octets v is es front t spelled =
 record Coming (place : Place) (whole : List Dataset) (begun : Begun) : Type 0 where
   text : List ℕ
   message : MessagePlace
-  leads : LeadToSaved (object_so_far whole begun) text message
+  leads : LeadsToSaved (object_so_far whole begun) text message
   is_place : place ≡ place_of whole begun message
 
 coming : AnswerLaws → (place : Place) (octets : List ℕ) → IsPlaceOf octets place → (whole : List Dataset) (begun : Begun) → Reads count_octets octets whole begun → Coming place whole begun
@@ -311,8 +311,8 @@ coming laws place octets is whole begun reads =
       text = is.text;
       message = is.message;
       leads =
-          subst (λ (b : Begun). LeadToSaved (object_so_far whole b) is.text is.message) same.begun_is
-          (subst (λ (ds : List Dataset). LeadToSaved (object_so_far ds is.begun) is.text is.message) same.whole_is is.leads);
+          subst (λ (b : Begun). LeadsToSaved (object_so_far whole b) is.text is.message) same.begun_is
+          (subst (λ (ds : List Dataset). LeadsToSaved (object_so_far ds is.begun) is.text is.message) same.whole_is is.leads);
       is_place = is.is_place ∙ ap (λ (ds : List Dataset). place_of ds is.begun is.message) same.whole_is ∙ ap (λ (b : Begun). place_of whole b is.message) same.begun_is;
     }
 
@@ -330,7 +330,7 @@ unfolding plain_by
 spelled_of laws place l =
     let ds = l.whole in
     let p = plain_by (record { answer = laws.answer; fit = laws.sizes.fit }) place l in
-    laws.spelled (plain_of ds) (plain_spelled (kept ds) (numbers_in (numbers_of (of_record 7 ds))) (length (of_record 8 ds)) (object_of ds) (nat_eq (present_record ds) 9) p.spellable)
+    laws.spelled (plain_of ds) (plain_spelled (kept ds) (numbers_in (numbers_of (of_record 7 ds))) (length (of_record 8 ds)) (object_of ds) (nat_eq (section_after ds) 9) p.spellable)
 
 from_open : OpenLaws → (place : Place) (l : Lived place) → (AreSections l.whole → ⊥) → Opens (place_of l.whole l.begun l.message)
 unfolding plain_by
@@ -350,7 +350,7 @@ from_open laws place l unfinished =
       }),
     )
 
-from_whole : OpenLaws → (octets : List ℕ) (v : Value) (is : IsEnvelopeWithin widest octets v) (text : List ℕ) (message : MessagePlace) → LeadToSaved (object_so_far is.admits.datasets (InTag [])) text message
+from_whole : OpenLaws → (octets : List ℕ) (v : Value) (is : IsEnvelopeWithin widest octets v) (text : List ℕ) (message : MessagePlace) → LeadsToSaved (object_so_far is.admits.datasets (InTag [])) text message
     → Opens (place_of is.admits.datasets (InTag []) message)
 unfolding plain_by
 from_whole laws octets v is text message leads =

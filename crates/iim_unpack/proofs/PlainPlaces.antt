@@ -7,10 +7,10 @@ use Rattle.std.proofs.lemmas.List.Sums.{sum_by-cons}
 use Rattle.iim_dataset.specs.Format.Octets.{IsOctet, Octets}
 use Rattle.iim_dataset.specs.Format.Datasets.{Dataset, SpellsStream, count_octets, of_record}
 use Rattle.iim_dataset.specs.Format.Languages as languages
-use Rattle.iim_dataset.specs.Format.Laws.{HasSpellings}
+use Rattle.iim_dataset.specs.Laws.Datasets.{HasSpellings}
 use Rattle.iim_dataset.specs.Format.Splits.{Begun, InTag, InData}
 use Rattle.iim_fields.specs.Format.Alive.{SectionsLive}
-use Rattle.iim_fields.specs.Format.Faults.{kept, is_kept, joined, present_record, last_record}
+use Rattle.iim_fields.specs.Format.Faults.{kept, is_kept, joined, section_after, last_record}
 use Rattle.iim_fields.specs.Format.Records.{AreSections}
 use Rattle.iim_tables.specs.Format.Records.{IsGoodDataset}
 use Rattle.iim_object.specs.Format.Objects.{ObjectToken, SubfileBegun, ObjectLanguage, number_tokens}
@@ -18,16 +18,16 @@ use Rattle.iim_object.specs.Format.Places.{ending_tokens}
 use Rattle.iim_object.specs.Format.Numbers.{place_after_datasets}
 use Rattle.iim_object.specs.Format.Records.{lengths_of, numbers_of}
 use Rattle.iim_object.specs.Format.Sizes.{Stated, InRow, number_at, mode_number}
-use Rattle.iim_object.specs.Format.Living.{SubfilesLiveWhileTheyFit}
+use Rattle.iim_object.specs.Laws.Living.{SubfilesLiveWhileTheyFit}
 use Rattle.iim_object.specs.Format.Packing.{number_dataset, subfile_datasets}
 use Rattle.iim_unpack.specs.Format.Admitted.{object_of}
 use Rattle.iim_unpack.specs.LowerLaws.{AnswerLaws}
-use Rattle.wire_message.specs.Format.Saved.{LeadToSaved}
+use Rattle.wire_message.specs.States.Saved.{LeadsToSaved}
 use Rattle.wire_message.specs.declared.saved.MessagePlace.{MessagePlace}
 use Rattle.iim_unpack.specs.Format.Open.{section, object_so_far}
 use Rattle.iim_unpack.specs.Format.Tickets.{Place, AllEnded, TagBegun, phase_of, heads_of, place_of}
 use Rattle.iim_unpack.specs.Format.Tokens.{ObjectLives}
-use Rattle.iim_unpack.specs.Format.Possible.{widest}
+use Rattle.iim_unpack.specs.States.Possible.{widest}
 use Rattle.iim_unpack.specs.Plain.{Numbers, plain_numbers, filled, number_list, mode_dataset, one_dataset, plain_end, plain, begun_object, begun_heads, IsPlain, PossiblePlacesArePlain}
 use Rattle.iim_unpack.proofs.Bounds.{IsFive, alive_five, tag_low}
 use Rattle.iim_unpack.proofs.Fitting.{Lived, lived, each_octets, each_low, numbers_fit, ones_in, taken_fits}
@@ -148,7 +148,7 @@ picks_alive : (ds : List Dataset) → SectionsLive ds → Picks 0 ds
 picks_alive ds alive = picks 0 ds (front_ordered 0 ds alive.0 (sections_ordered (ds ++ alive.0) alive.1)) (alive_five ds alive)
 
 pub picks_plain : (fields : List Dataset) (numbers : Numbers) (heads : ℕ) (object : List ℕ) (ended : Bool)
-    → present_record (plain fields numbers heads object ended)
+    → section_after (plain fields numbers heads object ended)
     ≡ pick (plain_end ended object) 9 (pick (subfile_datasets (filled (unwrap_or numbers.largest 0) heads object)) 8 (pick (plain_numbers numbers) 7 (last_record 0 fields)))
 picks_plain fields numbers heads object ended =
     let parts = filled (unwrap_or numbers.largest 0) heads object in
@@ -303,13 +303,13 @@ end_length false object = refl
 
 -- the present record is that of the plain datasets
 pub present_same : AnswerLaws → (ds : List Dataset) → SectionsLive ds → IsStated (place_after_datasets ds)
-    → present_record ds ≡ present_record (plain (kept ds) (numbers_in (numbers_of (of_record 7 ds))) (length (of_record 8 ds)) (object_of ds) (nat_eq (present_record ds) 9))
+    → section_after ds ≡ section_after (plain (kept ds) (numbers_in (numbers_of (of_record 7 ds))) (length (of_record 8 ds)) (object_of ds) (nat_eq (section_after ds) 9))
 present_same laws ds alive stated =
     let ps = numbers_of (of_record 7 ds) in
     let numbers = numbers_in ps in
     let heads = length (of_record 8 ds) in
     let object = object_of ds in
-    let ended = nat_eq (present_record ds) 9 in
+    let ended = nat_eq (section_after ds) 9 in
     let size = unwrap_or numbers.largest 0 in
     picks_alive ds alive
     ∙ pick_by (of_record 9 ds) (plain_end ended object) 9 (nines laws.follow ds alive ∙ sym (end_length ended object))
@@ -338,7 +338,7 @@ plain_by laws place l =
     let numbers = numbers_in ps in
     let heads = length (of_record 8 ds) in
     let object = object_of ds in
-    let ended = nat_eq (present_record ds) 9 in
+    let ended = nat_eq (section_after ds) 9 in
     let octets = each_octets ds l.reads.front l.reads.is_front in
     let taken = taken_fits l.octets ds l.begun l.reads goes in
     let more = taken_told ds object l.begun refl in
@@ -364,12 +364,12 @@ plain_by laws place l =
         room = room_for laws.fit ds stated lives;
       };
       is_begun = l.reads.is_rest;
-      leads = subst (λ (xs : List ℕ). LeadToSaved xs l.text l.message) more l.leads;
+      leads = subst (λ (xs : List ℕ). LeadsToSaved xs l.text l.message) more l.leads;
       is_place = same_place ds (plain (kept ds) numbers heads object ended) l.begun l.message object heads more (heads_told ds heads l.begun refl) present;
     }
   where
     same_place : (ds es : List Dataset) (begun : Begun) (message : MessagePlace) (object : List ℕ) (heads : ℕ) → object_so_far ds begun ≡ object ++ begun_object begun → heads_of ds begun ≡ heads + begun_heads begun
-        → present_record ds ≡ present_record es
+        → section_after ds ≡ section_after es
         → place_of ds begun message ≡ record {
           section = section es begun;
           phase = phase_of es begun;

@@ -16,8 +16,9 @@ use Rattle.iim_object.specs.Format.Objects.{ObjectToken, SubfileBegun, ObjectLan
 use Rattle.iim_object.specs.Format.Places as objects
 use Rattle.iim_object.specs.Format.Sizes.{Stated, InRow}
 use Rattle.iim_object.specs.Format.Within.{TokensWithin, LanguageWithin}
-use Rattle.iim_unpack.specs.Format.Possible.{Possible, widest}
-use Rattle.iim_unpack.specs.Format.Scales.{FitsRow, SectionsIn, SectionsLiveIn, HaveRoomIn, PossibleAt, PresentScaleSaysNothingMore, place_in, present_scale}
+use Rattle.iim_unpack.specs.States.Possible.{Possible, widest}
+use Rattle.iim_unpack.specs.States.Scales.{FitsRow, SectionsIn, SectionsLiveIn, HaveRoomIn, PossibleAt, place_in}
+use Rattle.iim_unpack.specs.Laws.Places.{PresentScaleSaysNothingMore, present_scale}
 use Rattle.iim_unpack.specs.Format.Tickets.{Place}
 use Rattle.iim_unpack.specs.Format.Tokens.{MayContinue}
 use Rattle.iim_unpack.proofs.Following.{within_of}

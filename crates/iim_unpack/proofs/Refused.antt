@@ -5,8 +5,8 @@ use Rattle.iim_dataset.specs.Format.Languages as languages
 use Rattle.iim_dataset.specs.declared.head.Head.{Head}
 use Rattle.iim_fields.specs.Format.Alive.{SectionsLive}
 use Rattle.iim_fields.specs.declared.limits.Limits.{Limits}
-use Rattle.iim_object.specs.Format.Records.{AreSized}
-use Rattle.iim_object.specs.Format.Numbers.{DatasetsLiveWithTheirTokens}
+use Rattle.iim_object.specs.Laws.Records.{AreSized}
+use Rattle.iim_object.specs.Laws.Numbers.{DatasetsLiveWithTheirTokens}
 use Rattle.iim_unpack.specs.Format.Tokens.{CanContinueAt, DiesAtHead, DiesAtValue}
 use Rattle.iim_unpack.specs.declared.refusal.Layer.{Layer}
 use Rattle.iim_unpack.specs.declared.refusal.Layer.TheVariants as layers

@@ -8,7 +8,7 @@ use Rattle.iim_dataset.specs.Format.Datasets.{Dataset, head_of, of_record as of_
 use Rattle.iim_dataset.specs.Format.Splits.{Begun, InTag, InData, Reads}
 use Rattle.iim_dataset.specs.declared.head.Head.{Head}
 use Rattle.iim_fields.specs.Format.Alive.{SectionsLive, SectionsLiveAt}
-use Rattle.iim_fields.specs.Format.Faults.{head_fault, joined, kept, present_record, room_fault, value_fault}
+use Rattle.iim_fields.specs.Format.Faults.{head_fault, joined, kept, section_after, room_fault, value_fault}
 use Rattle.iim_fields.specs.Format.Records.{AreSections}
 use Rattle.iim_tables.specs.Format.Records.{occurs}
 use Rattle.iim_fields.specs.Format.Values.{data_of, tells_number}
@@ -18,18 +18,17 @@ use Rattle.iim_object.specs.Format.Causes.{cause_at, confirmed_cause, end_cause,
 use Rattle.iim_object.specs.Format.Objects.{Confirmed, NumberRead, ObjectEnded, ObjectToken, SubfileBegun}
 use Rattle.iim_object.specs.Format.Places.{Place, head_token, place_after, value_token}
 use Rattle.iim_object.specs.Format.Plans.{max_subfiles}
-use Rattle.iim_object.specs.declared.fault.SizeCause.{SizeCause}
+use Rattle.iim_object.specs.declared.reading.fault.SizeCause.{SizeCause}
 use Rattle.wire_message.specs.Format.Layers.{MessageDiesAt}
-use Rattle.wire_message.specs.Format.Reading.{HasCause}
+use Rattle.wire_message.specs.Format.Causes.{HasCause}
 use Rattle.wire_story.specs.Format.Tokens.{End}
 use Rattle.iim_unpack.specs.Format.Admitted.{object_of}
-use Rattle.iim_unpack.specs.Format.Continuing.{PlacesRefuseAlike}
-use Rattle.iim_unpack.specs.Format.Open.{AllCanContinue, IsUnfinished, object_so_far}
+use Rattle.iim_unpack.specs.Laws.Places.{PlacesRefuseAlike}
+use Rattle.iim_unpack.specs.Format.Open.{AllCanContinue, IsUnfinished, object_so_far, IsBadHeadAt, IsBadOctetAt, IsBadTagAt, IsBadValueAt, RefusesNext}
 use Rattle.iim_unpack.specs.Format.Refusals.{of_field, size_on, too_many_on}
-use Rattle.iim_unpack.specs.Format.Streams.{RefusedOctetsWereOpen}
+use Rattle.iim_unpack.specs.Laws.Streams.{RefusedOctetsWereOpen, OpenOctetsBeginWithNoEnvelope}
 use Rattle.iim_unpack.specs.Format.Tokens.{DiesAtHead, DiesAtValue, CanContinueAt, HaveRoom, IsRefusedHead, IsRefusedValue, ObjectLives, fault_at_head, fault_at_value, place_at}
-use Rattle.iim_unpack.specs.Format.Open.{IsBadHeadAt, IsBadOctetAt, IsBadTagAt, IsBadValueAt, OpenOctetsBeginWithNoEnvelope, RefusesNext}
-use Rattle.iim_unpack.specs.declared.fault.TokenFault.{TokenFault}
+use Rattle.iim_unpack.specs.declared.parts.fault.TokenFault.{TokenFault}
 use Rattle.iim_unpack.specs.declared.refusal.Layer.{Layer}
 use Rattle.iim_unpack.specs.declared.refusal.Layer.TheVariants as layers
 use Rattle.iim_unpack.specs.LowerLaws.{OnwardLaws}
@@ -85,26 +84,26 @@ fault_told limits h present has fields heads cause =
     (option_or (if (nat_eq h.rec 8) && not (nat_lt heads max_subfiles) then Some (too_many_on h) else None)
     (if (nat_eq h.rec 8) || (nat_eq h.rec 9) then option_map (size_on h) cause else None))
 
-head_fault_as : (limits : Limits) (ds es : List Dataset) (h : Head) → present_record ds ≡ present_record es → Twins ds es → fault_at_head limits ds h ≡ fault_at_head limits es h
+head_fault_as : (limits : Limits) (ds es : List Dataset) (h : Head) → section_after ds ≡ section_after es → Twins ds es → fault_at_head limits ds h ≡ fault_at_head limits es h
 unfolding fault_told
 head_fault_as limits ds es h present twins =
-    let left : fault_at_head limits ds h ≡ fault_told limits h (present_record ds) (λ n. occurs n (of_fields (present_record ds) ds)) (kept ds) (length (of_record 8 ds)) (cause_at (place_after_datasets ds) (head_token h.rec h.count)) = refl in
-    let right : fault_at_head limits es h ≡ fault_told limits h (present_record es) (λ n. occurs n (of_fields (present_record es) es)) (kept es) (length (of_record 8 es)) (cause_at (place_after_datasets es) (head_token h.rec h.count)) = refl in
-    let seen : (n : ℕ) → occurs n (of_fields (present_record ds) ds) ≡ occurs n (of_fields (present_record es) es) =
-    λ n. twins.seen.seen (present_record ds) n ∙ ap (λ (r : ℕ). occurs n (of_fields r es)) present in
+    let left : fault_at_head limits ds h ≡ fault_told limits h (section_after ds) (λ n. occurs n (of_fields (section_after ds) ds)) (kept ds) (length (of_record 8 ds)) (cause_at (place_after_datasets ds) (head_token h.rec h.count)) = refl in
+    let right : fault_at_head limits es h ≡ fault_told limits h (section_after es) (λ n. occurs n (of_fields (section_after es) es)) (kept es) (length (of_record 8 es)) (cause_at (place_after_datasets es) (head_token h.rec h.count)) = refl in
+    let seen : (n : ℕ) → occurs n (of_fields (section_after ds) ds) ≡ occurs n (of_fields (section_after es) es) =
+    λ n. twins.seen.seen (section_after ds) n ∙ ap (λ (r : ℕ). occurs n (of_fields r es)) present in
     let heads = heads_of_twins ds es twins in
     let cause = cause_as (place_after_datasets ds) (place_after_datasets es) twins.numbers twins.octets (head_token h.rec h.count) in
     left ∙ (λ i. fault_told limits h (present i) (λ n. seen n i) (twins.fields i) (heads i) (cause i)) ∙ sym right
 
 -- ---- where a head is refused
 
-at_alive : (ds es : List Dataset) (h : Head) → SectionsLive es → present_record ds ≡ present_record es → Twins ds es → SectionsLiveAt ds h → SectionsLiveAt es h
+at_alive : (ds es : List Dataset) (h : Head) → SectionsLive es → section_after ds ≡ section_after es → Twins ds es → SectionsLiveAt ds h → SectionsLiveAt es h
 at_alive ds es h alive present twins (d, is, (later, sections)) =
     (d, is, (later, subst AreSections (sym (append_assoc es (d ∷ []) later)) (follows_as ds es alive present twins.seen ((d ∷ []) ++ later) (subst AreSections (append_assoc ds (d ∷ []) later) sections))))
 
 -- what holds in a tag after both
 record Tagged (limits : Limits) (ds es : List Dataset) : Type 0 where
-  present : present_record ds ≡ present_record es
+  present : section_after ds ≡ section_after es
   twins : Twins ds es
   back : Twins es ds
   few : length (of_record 8 ds) ≤ max_subfiles

@@ -6,48 +6,47 @@ use Rattle.std.proofs.lemmas.Bool.Decides.{eqb_tells}
 use Rattle.iim_dataset.specs.Format.Octets.{Octets}
 use Rattle.iim_dataset.specs.Format.Datasets.{Dataset, of_record, count_octets}
 use Rattle.iim_dataset.specs.Format.Splits.{Begun, InTag, InData, Reads}
-use Rattle.iim_dataset.specs.Format.Events.{handed_on}
-use Rattle.iim_dataset.specs.Format.Places.{IsKeptAs, between}
+use Rattle.iim_dataset.specs.States.Events.{handed_on}
+use Rattle.iim_dataset.specs.States.Places.{IsKeptAs, between}
 use Rattle.iim_dataset.specs.declared.head.Head.{Head}
 use Rattle.iim_dataset.specs.declared.place.DatasetPlace.{DatasetPlace}
 use Rattle.iim_fields.specs.Format.Alive.{SectionsLive, SectionsLiveAt}
-use Rattle.iim_fields.specs.Format.Faults.{is_kept, kept, present_record}
-use Rattle.iim_fields.specs.Format.Standing as records
+use Rattle.iim_fields.specs.Format.Faults.{is_kept, kept, section_after}
+use Rattle.iim_fields.specs.States.Standing as records
 use Rattle.iim_fields.specs.declared.limits.Limits.{Limits}
 use Rattle.iim_object.specs.Format.Numbers.{place_after_datasets, place_ended, ending_of}
 use Rattle.iim_object.specs.Format.Objects.{ObjectEnded, Confirmed, SubfileBegun}
 use Rattle.iim_object.specs.Format.Places.{NotEnded, place_after}
 use Rattle.iim_object.specs.Format.Places as objects
 use Rattle.iim_object.specs.Format.Plans.{max_subfiles}
-use Rattle.iim_object.specs.Format.Reading as reading
+use Rattle.iim_object.specs.States.Reading as reading
 use Rattle.iim_object.specs.Format.Records.{lengths_of, numbers_of}
-use Rattle.iim_object.specs.Format.Saved.{IsAt, IsPossible, stated_numbers}
-use Rattle.iim_object.specs.declared.state.State.{State}
+use Rattle.iim_object.specs.States.Saved.{IsAt, IsPossible, stated_numbers}
+use Rattle.iim_object.specs.declared.reading.state.State.{State}
 use Rattle.iim_object.specs.declared.size.Sizes.{Sizes}
 use Rattle.wire_story.specs.Format.Texts.{AreLines}
 use Rattle.wire_message.specs.Format.Layers.{text_so_far}
 use Rattle.wire_message.specs.Format.Messages.{Header, IsMessage}
-use Rattle.wire_message.specs.Format.Reading as wire
-use Rattle.wire_message.specs.Format.Saved.{LeadToSaved, saved}
-use Rattle.wire_message.specs.Format.SoFar.{LeadTo}
+use Rattle.wire_message.specs.States.Reading as wire
+use Rattle.wire_message.specs.States.Saved.{LeadsToSaved, saved}
+use Rattle.wire_message.specs.States.SoFar.{LeadsTo}
 use Rattle.wire_message.specs.declared.place.Place.{Place as Message}
 use Rattle.wire_message.specs.declared.place.Place.TheVariants as at_message
 use Rattle.wire_message.specs.declared.saved.MessagePart.TheVariants as part
 use Rattle.wire_message.specs.declared.saved.MessagePlace.{MessagePlace}
 use Rattle.iim_unpack.specs.Format.Admitted.{Value, object_of}
-use Rattle.iim_unpack.specs.Format.Begins.{IsSize}
+use Rattle.iim_unpack.specs.States.Begins.{IsSize}
 use Rattle.iim_unpack.specs.ByLayers.{LeadsByLayers, RecordsLive, record_datasets, begun_of_object, object_after, one_of_some, are_ended, begun_subfiles}
 use Rattle.iim_unpack.specs.LowerLaws.{ByLayersLaws, PlaceLaws, FeedLaws}
-use Rattle.iim_unpack.specs.Format.Open.{object_so_far, section}
-use Rattle.iim_unpack.specs.Format.Parts.{AreAfter, Within, StandsFor, has_ended}
+use Rattle.iim_unpack.specs.Format.Open.{object_so_far, section, IsOpen}
+use Rattle.iim_unpack.specs.States.Parts.{AreAfter, Within, StandsFor, has_ended}
 use Rattle.iim_unpack.specs.Plain.{Numbers, number_list, plain}
 use Rattle.iim_unpack.specs.Restoring.{IsMadeFor, RecordsStand, MessageStands, has_come}
 use Rattle.iim_unpack.specs.Format.Streams.{IsEnvelopeWithin}
 use Rattle.iim_unpack.specs.Taking.{tag_place}
 use Rattle.iim_unpack.specs.Format.Tickets.{Place, Phase, TagBegun, AllEnded, IsPlaceOf, phase_of, place_of}
 use Rattle.iim_unpack.specs.Format.Tokens.{place_at, ObjectLives, CanContinue, CanContinueAt, MayContinue}
-use Rattle.iim_unpack.specs.Format.Unpacking.{Unpacking, Stands, IsDoneWith, are_some}
-use Rattle.iim_unpack.specs.Format.Open.{IsOpen}
+use Rattle.iim_unpack.specs.States.Unpacking.{Unpacking, Stands, IsDoneWith, are_some}
 use Rattle.iim_unpack.specs.declared.parts.Parts.{Parts}
 use Rattle.iim_unpack.proofs.Alike.{Fits, told_by}
 use Rattle.iim_unpack.proofs.Answering.{one_reading, reads_envelope, goes_envelope}
@@ -81,7 +80,7 @@ few_subfiles (suc n) = omega arith
 
 like : RestoreLaws → (fields : List Dataset) (numbers : Numbers) (some : ℕ) (ended : Bool) (ds : List Dataset) → AllByRecursion (λ (d : Dataset). is_kept d.rec ≡ true) fields
     → number_list numbers ≡ stated_numbers (numbers_of (of_record 7 ds)) → SectionsLive (plain fields numbers (one_of_some some) [] ended) → SectionsLive ds → length (of_record 8 ds) ≤ max_subfiles → fields ≡ kept ds
-    → some ≡ length (of_record 8 ds) → nat_eq (present_record ds) 9 ≡ ended → Like (plain fields numbers (one_of_some some) [] ended) ds
+    → some ≡ length (of_record 8 ds) → nat_eq (section_after ds) 9 ≡ ended → Like (plain fields numbers (one_of_some some) [] ended) ds
 like laws fields numbers some ended ds keeps same alive there few fields_are some_are ended_is =
     let es = plain fields numbers (one_of_some some) [] ended in
     let ps = numbers_of (of_record 7 ds) in
@@ -110,9 +109,9 @@ IsWholeAt h trailer octets text = (head : Header) × (Some h ≡ Some head) × I
 some_place : {x y : Message} → Some x ≡ Some y → x ≡ y
 some_place e = cc
 
-whole_led : (h : Header) (t : _) (count : ℕ) (octets text : List ℕ) (p : Message) → Some (at_message.AfterEnd h t count) ≡ Some p → LeadTo octets text p → IsWholeAt h t.items octets text
+whole_led : (h : Header) (t : _) (count : ℕ) (octets text : List ℕ) (p : Message) → Some (at_message.AfterEnd h t count) ≡ Some p → LeadsTo octets text p → IsWholeAt h t.items octets text
 whole_led h t count octets text p same leads =
-    let here : LeadTo octets text (at_message.AfterEnd h t count) = subst (LeadTo octets text) (sym (some_place same)) leads in
+    let here : LeadsTo octets text (at_message.AfterEnd h t count) = subst (LeadsTo octets text) (sym (some_place same)) leads in
     (h, refl, here.spelled.0, here.story)
 
 whole_place : (reader : Option Message) (at : Message) → reader ≡ Some at → (saved at).part ≡ part.AfterEnd → wire.IsWhole reader
@@ -130,13 +129,13 @@ whole_place reader (at_message.Text h (Some held)) is e = absurd cc
 whole_place reader (at_message.Text h None) is e = absurd cc
 whole_place reader (at_message.Trailer h t) is e = absurd cc
 
-ended_reader : RestoreLaws → (reader : Option Message) (place : Place) (o text : List ℕ) → MessageStands reader place → LeadToSaved o text place.message → place.message.part ≡ part.AfterEnd → wire.IsWhole reader
+ended_reader : RestoreLaws → (reader : Option Message) (place : Place) (o text : List ℕ) → MessageStands reader place → LeadsToSaved o text place.message → place.message.part ≡ part.AfterEnd → wire.IsWhole reader
 ended_reader laws reader place o text stands leads last =
     let (at, is, here) = stands o text leads in
     let one = (laws.places.one_place o text text at leads.0 here leads.1).1 in
     whole_place reader at is (ap (λ (m : Message). (saved m).part) one ∙ ap (λ (m : MessagePlace). m.part) leads.2 ∙ last)
 
-text_led : RestoreLaws → (reader : Option Message) (place : Place) (o text : List ℕ) → MessageStands reader place → LeadToSaved o text place.message → wire.StandsAt reader o (text_so_far o)
+text_led : RestoreLaws → (reader : Option Message) (place : Place) (o text : List ℕ) → MessageStands reader place → LeadsToSaved o text place.message → wire.StandsAt reader o (text_so_far o)
 text_led laws reader place o text stands leads =
     let is = laws.places.texts o text leads.0 leads.1 in
     subst (wire.StandsAt reader o) is (stands o text leads)
@@ -167,8 +166,8 @@ stand_tag : (b : Bool) (fields : records.FieldsPlace) (section : ℕ) (held : Li
 stand_tag true fields section held ds stand = stand
 stand_tag false fields section held ds stand = stand
 
-present_tag : (b : Bool) (section : ℕ) (held : List ℕ) (ds : List Dataset) → nat_eq (present_record ds) 9 ≡ b → RecordsLive section (TagPhase b held) ds → present_record ds ≡ section
-present_tag true section held ds ended live = eqb-true (present_record ds) 9 ended ∙ sym live.0
+present_tag : (b : Bool) (section : ℕ) (held : List ℕ) (ds : List Dataset) → nat_eq (section_after ds) 9 ≡ b → RecordsLive section (TagPhase b held) ds → section_after ds ≡ section
+present_tag true section held ds ended live = eqb-true (section_after ds) 9 ended ∙ sym live.0
 present_tag false section held ds ended live = live.0
 
 object_tag : (b : Bool) (reader : Option State) (numbers : List (Option ℕ)) (section taken heads : ℕ) (held : List ℕ) (p q : objects.Place)
@@ -177,7 +176,7 @@ object_tag : (b : Bool) (reader : Option State) (numbers : List (Option ℕ)) (s
 object_tag true reader numbers section taken heads held p q stands at is possible = subst (reading.StandsAt reader) is (stands p at (subst IsPossible (sym is) possible))
 object_tag false reader numbers section taken heads held p q stands at is possible = subst (reading.StandsAt reader) is (stands p at (subst IsPossible (sym is) possible))
 
-ending_tag : RestoreLaws → (limits : Limits) (ds : List Dataset) → CanContinue limits ds → (b : Bool) → nat_eq (present_record ds) 9 ≡ b
+ending_tag : RestoreLaws → (limits : Limits) (ds : List Dataset) → CanContinue limits ds → (b : Bool) → nat_eq (section_after ds) 9 ≡ b
     → (if b then place_after (place_after (record (place_after_datasets ds) { ending = NotEnded }) ObjectEnded) (Confirmed (length (object_of ds))) else record (place_after_datasets ds) { ending = NotEnded }) ≡ place_after_datasets ds
 ending_tag laws limits ds goes true is =
     let end' = confirmed_at laws.layers.opens ds goes.records goes.within.subfiles goes.object is in
@@ -186,23 +185,23 @@ ending_tag laws limits ds goes false is = opened_at ds (nine_ended laws.layers.o
 
 -- Readers that were made for the place of whole datasets, and perhaps a tag, stand after them.
 after_datasets : RestoreLaws → (limits : Limits) (at : ℕ) (u : Unpacking) (ds : List Dataset) (held : List ℕ) (m : MessagePlace) (text : List ℕ) → AreMadeFor limits at u (place_of ds (InTag held) m) → CanContinue limits ds
-    → LeadToSaved (object_of ds) text m → AreAfter u.parts ds
+    → LeadsToSaved (object_of ds) text m → AreAfter u.parts ds
 after_datasets laws limits at u ds held m text (l, made) goes leads =
-    let ended = nat_eq (present_record ds) 9 in
+    let ended = nat_eq (section_after ds) 9 in
     let heads = length (of_record 8 ds) in
     let base = plain (kept ds) l.numbers (one_of_some heads) [] ended in
-    let is : record_datasets (place_of ds (InTag held) m) l.numbers ≡ base = base_tag ended (present_record ds) heads held (kept ds) l.numbers in
-    let live : RecordsLive (present_record ds) (TagPhase ended held) base = subst (RecordsLive (present_record ds) (TagPhase ended held)) is l.records in
-    let alive = live_tag ended (present_record ds) held base live in
+    let is : record_datasets (place_of ds (InTag held) m) l.numbers ≡ base = base_tag ended (section_after ds) heads held (kept ds) l.numbers in
+    let live : RecordsLive (section_after ds) (TagPhase ended held) base = subst (RecordsLive (section_after ds) (TagPhase ended held)) is l.records in
+    let alive = live_tag ended (section_after ds) held base live in
     let alike = like laws (kept ds) l.numbers heads ended ds l.kept (sym l.numbers_are) alive goes.records goes.within.subfiles refl refl refl in
-    let stand = stand_tag ended u.parts.fields (present_record ds) held base (subst (RecordsStand u.parts.fields (present_record ds) (TagPhase ended held)) is made.records) in
+    let stand = stand_tag ended u.parts.fields (section_after ds) held base (subst (RecordsStand u.parts.fields (section_after ds) (TagPhase ended held)) is made.records) in
     let stated = stated_after_all laws.layers.opens.answer.follow.objects ds goes.records goes.within.subfiles in
     let few = goes.within.subfiles in
     let count = count_of (of_record 8 ds) in
-    let begun = present_tag ended (present_record ds) held base (present_ended (kept ds) l.numbers (one_of_some heads) [] ended l.kept) live in
+    let begun = present_tag ended (section_after ds) held base (present_ended (kept ds) l.numbers (one_of_some heads) [] ended l.kept) live in
     record {
       fields = fields_after u.parts.fields base ds stand goes.records begun alike.kept_are alike.same;
-      object = object_tag ended u.parts.object (stated_numbers (numbers_of (of_record 7 ds))) (present_record ds) (length (object_of ds)) heads held (record (place_after_datasets ds) { ending = NotEnded }) (place_after_datasets ds) made.object
+      object = object_tag ended u.parts.object (stated_numbers (numbers_of (of_record 7 ds))) (section_after ds) (length (object_of ds)) heads held (record (place_after_datasets ds) { ending = NotEnded }) (place_after_datasets ds) made.object
           (whole_at ds (length (object_of ds)) heads refl refl) (ending_tag laws limits ds goes ended refl) (possible_of (place_after_datasets ds) stated (omega (arith, count, few)) goes.object);
       few = goes.within.subfiles;
       message = text_led laws u.parts.message (place_of ds (InTag held) m) (object_of ds) text made.message leads;
@@ -215,7 +214,7 @@ same_heads : (n : ℕ) (b : Bool) → (n + (if b then 1 else 0)) - (if b then 1 
 same_heads n true = omega arith
 same_heads n false = omega arith
 
-object_data : RestoreLaws → (limits : Limits) (reader : Option State) (ds : List Dataset) (h : Head) (xs : List ℕ) → CanContinueAt limits ds h → nat_eq (present_record ds) 9 ≡ false → length xs < h.count
+object_data : RestoreLaws → (limits : Limits) (reader : Option State) (ds : List Dataset) (h : Head) (xs : List ℕ) → CanContinueAt limits ds h → nat_eq (section_after ds) 9 ≡ false → length xs < h.count
     → ((p : objects.Place) → IsAt (stated_numbers (numbers_of (of_record 7 ds))) (length (object_of ds ++ (if nat_eq h.rec 8 then xs else []))) (if nat_eq h.rec 8 then Some (h.count, h.count - length xs) else None)
     (length (of_record 8 ds) + (if nat_eq h.rec 8 then 1 else 0)) p → IsPossible (if nat_eq h.rec 9 then place_after p ObjectEnded else p) → reading.StandsAt reader (if nat_eq h.rec 9 then place_after p ObjectEnded else p))
     → reading.StandsAt reader (place_at ds h)
@@ -247,7 +246,7 @@ object_data laws limits reader ds h xs goes open' less = by (nat_eq h.rec 8) (na
 
 -- Readers that were made for the place of whole datasets and a begun one stand in it.
 within_data : RestoreLaws → (limits : Limits) (at : ℕ) (u : Unpacking) (ds : List Dataset) (h : Head) (xs : List ℕ) (m : MessagePlace) (text : List ℕ) → AreMadeFor limits at u (place_of ds (InData h xs) m) → CanContinueAt limits ds h
-    → nat_eq (present_record ds) 9 ≡ false → Octets xs → length xs < h.count → LeadToSaved (object_so_far ds (InData h xs)) text m → Within u.parts ds h xs
+    → nat_eq (section_after ds) 9 ≡ false → Octets xs → length xs < h.count → LeadsToSaved (object_so_far ds (InData h xs)) text m → Within u.parts ds h xs
 within_data laws limits at u ds h xs m text (l, made) goes open' octets less leads =
     let heads = length (of_record 8 ds) in
     let base = plain (kept ds) l.numbers (one_of_some heads) [] false in
@@ -272,33 +271,33 @@ keeps_tag : (b : Bool) (place : DatasetPlace) (section : ℕ) (held : List ℕ) 
 keeps_tag true place section held e is = absurd cc
 keeps_tag false place section held e is = subst (λ (x : DatasetPlace). IsKeptAs x (InTag held)) (sym is) refl
 
-keeps : (place : DatasetPlace) (p : List ℕ) (ds : List Dataset) (b : Begun) → Reads count_octets p ds b → nat_eq (present_record ds) 9 ≡ false → place ≡ tag_place (section ds b) (phase_of ds b) → IsKeptAs place b
-keeps place p ds (InTag held) reads open' is = keeps_tag (nat_eq (present_record ds) 9) place (present_record ds) held open' is
+keeps : (place : DatasetPlace) (p : List ℕ) (ds : List Dataset) (b : Begun) → Reads count_octets p ds b → nat_eq (section_after ds) 9 ≡ false → place ≡ tag_place (section ds b) (phase_of ds b) → IsKeptAs place b
+keeps place p ds (InTag held) reads open' is = keeps_tag (nat_eq (section_after ds) 9) place (section_after ds) held open' is
 keeps place p ds (InData h xs) reads open' is = subst (λ (x : DatasetPlace). IsKeptAs x (InData h xs)) (sym is) (refl, (let less = reads.is_rest.2 in omega (arith, less)))
 
 -- ---- whether an octet has come
 
-come_tag : (b : Bool) (ds : List Dataset) (held : List ℕ) → b ≡ false → SectionsLive ds → has_come (present_record ds) (TagPhase b held) ≡ has_begun ds (InTag held)
+come_tag : (b : Bool) (ds : List Dataset) (held : List ℕ) → b ≡ false → SectionsLive ds → has_come (section_after ds) (TagPhase b held) ≡ has_begun ds (InTag held)
 come_tag true ds held e alive = absurd cc
 come_tag false [] held e alive = refl
-come_tag false (d ∷ ds) held e alive = elim (eqb_tells (present_record (d ∷ ds)) 0) [
+come_tag false (d ∷ ds) held e alive = elim (eqb_tells (section_after (d ∷ ds)) 0) [
   | inl zero' ↦ absurd (let bad : d ∷ ds ≡ [] = none_present (d ∷ ds) alive zero'.1 in cc)
   | inr other ↦ ap (λ (c : Bool). if c then are_some held else true) other.0
 ]
 
-come : (p : List ℕ) (ds : List Dataset) (b : Begun) → Reads count_octets p ds b → nat_eq (present_record ds) 9 ≡ false → SectionsLive ds → has_come (section ds b) (phase_of ds b) ≡ has_begun ds b
-come p ds (InTag held) reads open' alive = come_tag (nat_eq (present_record ds) 9) ds held open' alive
+come : (p : List ℕ) (ds : List Dataset) (b : Begun) → Reads count_octets p ds b → nat_eq (section_after ds) 9 ≡ false → SectionsLive ds → has_come (section ds b) (phase_of ds b) ≡ has_begun ds b
+come p ds (InTag held) reads open' alive = come_tag (nat_eq (section_after ds) 9) ds held open' alive
 come p [] (InData h xs) reads open' alive = refl
 come p (d ∷ ds) (InData h xs) reads open' alive = refl
 
 -- ---- open octets
 
 stands_for : RestoreLaws → (limits : Limits) (at : ℕ) (u : Unpacking) (p : List ℕ) (ds : List Dataset) (b : Begun) (m : MessagePlace) (text : List ℕ) → AreMadeFor limits at u (place_of ds b m) → Reads count_octets p ds b → MayContinue limits ds b
-    → nat_eq (present_record ds) 9 ≡ false → LeadToSaved (object_so_far ds b) text m → StandsFor u.parts ds b
+    → nat_eq (section_after ds) 9 ≡ false → LeadsToSaved (object_so_far ds b) text m → StandsFor u.parts ds b
 stands_for laws limits at u p ds (InTag held) m text made reads goes open' leads = after_datasets laws limits at u ds held m text made goes leads
 stands_for laws limits at u p ds (InData h xs) m text made reads goes open' leads = within_data laws limits at u ds h xs m text made goes open' reads.is_rest.3 reads.is_rest.2 leads
 
-ended_for : (parts : Parts) (ds : List Dataset) (b : Begun) → nat_eq (present_record ds) 9 ≡ false → StandsFor parts ds b → has_ended parts ≡ false
+ended_for : (parts : Parts) (ds : List Dataset) (b : Begun) → nat_eq (section_after ds) 9 ≡ false → StandsFor parts ds b → has_ended parts ≡ false
 ended_for parts ds (InTag held) open' stand = ended_by_record parts ds stand.fields ∙ open'
 ended_for parts ds (InData h xs) open' stand = unended_inside parts h stand.fields.inside.0 stand.fields.inside.1
 
@@ -354,14 +353,14 @@ made_done laws place limits at u s made sizes object message p v is whole =
     let reads = reads_envelope p v whole.admits in
     let same = one_reading laws.layers.opens.answer p is.whole ds is.begun (InTag []) is.reads reads in
     let is_place : place ≡ place_of ds (InTag []) is.message = is.is_place ∙ ap (λ (es : List Dataset). place_of es is.begun is.message) same.whole_is ∙ ap (λ (b : Begun). place_of ds b is.message) same.begun_is in
-    let leads : LeadToSaved (object_of ds) is.text is.message =
-    subst (λ (b : Begun). LeadToSaved (object_so_far ds b) is.text is.message) same.begun_is (subst (λ (es : List Dataset). LeadToSaved (object_so_far es is.begun) is.text is.message) same.whole_is is.leads) in
+    let leads : LeadsToSaved (object_of ds) is.text is.message =
+    subst (λ (b : Begun). LeadsToSaved (object_so_far ds b) is.text is.message) same.begun_is (subst (λ (es : List Dataset). LeadsToSaved (object_so_far es is.begun) is.text is.message) same.whole_is is.leads) in
     let here : AreMadeFor limits at u (place_of ds (InTag []) is.message) = subst (AreMadeFor limits at u) is_place made in
     let goes = (goes_envelope laws.layers.opens.answer limits p v whole).sizes in
     let stand = after_datasets laws limits at u ds [] is.message is.text here goes leads in
-    let nine : present_record ds ≡ 9 = sections_last laws.layers.opens.answer.follow.ends ds goes.records whole.admits.sections in
-    let ended : nat_eq (present_record ds) 9 ≡ true = ap (λ (n : ℕ). nat_eq n 9) nine in
-    let tags : u.reader.place ≡ between = between_tag (nat_eq (present_record ds) 9) u.reader.place (present_record ds) ended here.1.tags in
+    let nine : section_after ds ≡ 9 = sections_last laws.layers.opens.answer.follow.ends ds goes.records whole.admits.sections in
+    let ended : nat_eq (section_after ds) 9 ≡ true = ap (λ (n : ℕ). nat_eq n 9) nine in
+    let tags : u.reader.place ≡ between = between_tag (nat_eq (section_after ds) 9) u.reader.place (section_after ds) ended here.1.tags in
     done_by laws.feed u p at s here.1.taking (record { last = ended_by_record u.parts ds stand.fields ∙ ended; between = stand.fields.between; object = object; message = message }) tags here.1.counts
     (record {
       events = handed_on ds (InTag []);

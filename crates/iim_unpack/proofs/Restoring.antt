@@ -2,11 +2,11 @@
 use Rattle.std.proofs.Common.{◌≡◌, ℕ, ◌+◌, ◌-◌, ◌≤◌, nat_eq, cond, if◌then◌else◌, Bool, true, false, List, [], ◌∷◌, length, Option, refl, ap, sym, subst, arith}
 use Rattle.iim_dataset.specs.Format.Datasets.{Dataset}
 use Rattle.iim_fields.specs.Format.Faults.{kept, kept_octets, joined}
-use Rattle.iim_fields.specs.Format.Standing.{IsWithin}
+use Rattle.iim_fields.specs.Format.Bounds.{IsWithin}
 use Rattle.iim_fields.specs.declared.limits.Limits.{Limits}
-use Rattle.iim_unpack.specs.Format.Begins.{AreNumbers}
+use Rattle.iim_unpack.specs.States.Begins.{AreNumbers}
 use Rattle.iim_unpack.specs.ByLayers.{TagsLead, RecordsLive, head_of_numbers}
-use Rattle.iim_unpack.specs.Format.Possible.{begun_count, begun_fields}
+use Rattle.iim_unpack.specs.States.Possible.{begun_count, begun_fields}
 use Rattle.iim_unpack.specs.Restoring.{HasFew, MayBegin, AreWithinWith}
 use Rattle.iim_unpack.specs.Taking.{AreKept, CanContinueWithin, numbers_told, told_datasets}
 use Rattle.iim_unpack.specs.Format.Tickets.{Phase, DataBegun}

@@ -1,15 +1,15 @@
 -- What a refusal of the reader of tags says of the parts.
 use Rattle.std.proofs.Common.{◌≡◌, ℕ, List, Option, Some, None, Ok, Err}
 use Rattle.std.specs.Prelude.{Result, IfOk, IfErr, OnOk}
-use Rattle.iim_dataset.specs.Format.Reading.{Reader, RefusesFor, RefusesOne, StillStands, TakesCalls, TakesPiece, tag_cause_of}
+use Rattle.iim_dataset.specs.States.Reading.{Reader, RefusesFor, RefusesOne, StillStands, TakesCalls, TakesPiece, tag_cause_of}
 use Rattle.iim_dataset.specs.declared.fault.Fault.{Fault}
 use Rattle.iim_dataset.specs.declared.head.HeadCause.{HeadCause}
 use Rattle.iim_dataset.specs.declared.place.DatasetPlace.{DatasetPlace as Place}
-use Rattle.iim_fields.specs.Format.Standing.{room_of}
+use Rattle.iim_fields.specs.States.Standing.{room_of}
 use Rattle.wire_story.specs.Format.Delivery as story
 use Rattle.iim_unpack.specs.Routing.{IsOver, Routes, RefusesRoute, TakesNext}
-use Rattle.iim_unpack.specs.Unpacking.{FailsFor, HasAdvanced}
-use Rattle.iim_unpack.specs.declared.router.Router.{Router}
+use Rattle.iim_unpack.specs.UnpackerInside.{FailsFor, HasAdvanced}
+use Rattle.iim_unpack.specs.declared.parts.router.Router.{Router}
 
 pub fails_for : {S : Type 0} (goes : S → List story.StoryEvent → S → Type 0) (failures : S → ℕ) (cause : Option HeadCause) (old : Place) (octets : List ℕ) (k : ℕ) (new : Place) (a b : Router S)
     → RefusesFor (Routes goes failures) (RefusesRoute goes failures) cause old octets k new a b → StillStands TakesNext cause new b → FailsFor goes failures cause old octets k new a.parts.now a.sink.now b.refused b.sink.now

@@ -7,44 +7,44 @@ use Rattle.iim_dataset.specs.Format.Octets.{Octets}
 use Rattle.std.proofs.lemmas.List.Elements.{filter-append}
 use Rattle.iim_dataset.specs.Format.Datasets.{Dataset, head_of, of_record, count_octets}
 use Rattle.iim_dataset.specs.Format.Splits.{Begun, InTag, InData, Reads}
-use Rattle.iim_dataset.specs.Format.Events.{handed_on, begun_data}
-use Rattle.iim_dataset.specs.Format.Places.{IsKeptAs}
+use Rattle.iim_dataset.specs.States.Events.{handed_on, begun_data}
+use Rattle.iim_dataset.specs.States.Places.{IsKeptAs}
 use Rattle.iim_dataset.specs.declared.head.Head.{Head}
 use Rattle.iim_dataset.specs.declared.place.DatasetPlace.{DatasetPlace}
 use Rattle.iim_dataset.specs.declared.place.DatasetPlace.TheVariants.{Tag, Inside}
 use Rattle.iim_fields.specs.Format.Records.{AreSections}
 use Rattle.iim_tables.specs.Format.Records.{occurs}
-use Rattle.iim_fields.specs.Format.Orders as orders
-use Rattle.iim_fields.specs.Format.Checks.{HasChecked, HasTaken}
-use Rattle.iim_fields.specs.Format.Faults.{kept, joined, present_record}
+use Rattle.iim_fields.specs.States.Orders as orders
+use Rattle.iim_fields.specs.States.Checks.{HasChecked, HasTaken}
+use Rattle.iim_fields.specs.Format.Faults.{kept, joined, section_after}
 use Rattle.iim_fields.specs.Format.Alive.{SectionsLive, SectionsLiveAt}
-use Rattle.iim_fields.specs.Format.Laws.{ValuesDieWithTheirFault}
-use Rattle.iim_fields.specs.Format.Standing as records
+use Rattle.iim_fields.specs.Laws.Records.{ValuesDieWithTheirFault}
+use Rattle.iim_fields.specs.States.Standing as records
+use Rattle.iim_fields.specs.Format.Bounds as records_format
 use Rattle.iim_fields.specs.declared.limits.Limits.{Limits}
 use Rattle.iim_fields.specs.declared.order.Order.{Order}
 use Rattle.iim_fields.specs.declared.check.RecordPlace.{RecordPlace}
 use Rattle.iim_object.specs.Format.Objects.{SubfileBegun}
 use Rattle.iim_object.specs.Format.Places as objects
-use Rattle.iim_object.specs.Format.Reading as reading
+use Rattle.iim_object.specs.States.Reading as reading
 use Rattle.iim_object.specs.Format.Records.{lengths_of, numbers_of}
 use Rattle.iim_object.specs.Format.Numbers.{place_after_datasets, place_ended}
-use Rattle.iim_object.specs.declared.state.State.{State}
-use Rattle.iim_object.specs.Format.Saved.{stated_numbers}
+use Rattle.iim_object.specs.declared.reading.state.State.{State}
+use Rattle.iim_object.specs.States.Saved.{stated_numbers}
 use Rattle.wire_message.specs.Format.Layers.{text_so_far}
-use Rattle.wire_message.specs.Format.Reading as wire
-use Rattle.wire_message.specs.Format.SoFar.{LeadTo}
-use Rattle.wire_message.specs.Format.Saved.{LeadToSaved}
+use Rattle.wire_message.specs.States.Reading as wire
+use Rattle.wire_message.specs.States.SoFar.{LeadsTo}
+use Rattle.wire_message.specs.States.Saved.{LeadsToSaved}
 use Rattle.wire_message.specs.declared.place.Place.{Place as Message}
 use Rattle.wire_message.specs.declared.saved.MessagePlace.{MessagePlace}
 use Rattle.iim_unpack.specs.Format.Admitted.{object_of}
 use Rattle.iim_unpack.specs.LowerLaws.{PlaceLaws}
 use Rattle.iim_unpack.specs.Format.Tokens.{place_at, ObjectLives, CanContinue, CanContinueAt}
-use Rattle.iim_unpack.specs.Format.Open.{object_so_far, section, AllCanContinue}
-use Rattle.iim_unpack.specs.Format.Parts.{AreAfter, Within, StandsFor}
-use Rattle.iim_unpack.specs.Format.Open.{IsOpen}
-use Rattle.iim_unpack.specs.Format.Unpacking.{limits_in, are_some}
+use Rattle.iim_unpack.specs.Format.Open.{object_so_far, section, AllCanContinue, IsOpen}
+use Rattle.iim_unpack.specs.States.Parts.{AreAfter, Within, StandsFor}
+use Rattle.iim_unpack.specs.States.Unpacking.{limits_in, are_some}
 use Rattle.iim_unpack.specs.Format.Tickets.{Place, Phase, TagBegun, DataBegun, AllEnded, phase_of, heads_of, place_of}
-use Rattle.iim_unpack.specs.Format.TicketsTold.{UnpackersStandByPlace}
+use Rattle.iim_unpack.specs.Laws.Tickets.{UnpackersStandByPlace}
 use Rattle.iim_unpack.specs.declared.parts.Parts.{Parts}
 use Rattle.iim_unpack.proofs.Following.{alive_of}
 use Rattle.iim_unpack.proofs.Lasts.{SplitLast, split_last, present_last, last_sections}
@@ -69,7 +69,7 @@ tag_phase b held = if b then AllEnded else TagBegun held
 
 -- the octets of a tag, where no dataset has ended the envelope
 abbrev pub HeldAlike : List Dataset → Begun → Begun → Type 0
-HeldAlike ds (InTag x) (InTag y) = nat_eq (present_record ds) 9 ≡ true → x ≡ y
+HeldAlike ds (InTag x) (InTag y) = nat_eq (section_after ds) 9 ≡ true → x ≡ y
 HeldAlike ds b c = Unit {0}
 
 same_tag : (b c : Bool) (x y : List ℕ) → b ≡ c → tag_phase b x ≡ tag_phase c y → (b ≡ true → x ≡ y) → x ≡ y
@@ -90,21 +90,21 @@ same_data h k xs ys rec less few e =
     record { head = λ i. record { rec = rec i; set = set i; count = count i }; many = omega (arith, count, left, less, few); given = cc e }
 
 pub same_begun : (p q : List ℕ) (ds es : List Dataset) (c d : Begun) → Reads count_octets p ds c → Reads count_octets q es d → section ds c ≡ section es d → phase_of ds c ≡ phase_of es d → HeldAlike ds c d → SameBegun c d
-same_begun p q ds es (InTag x) (InTag y) r s sec e held = same_tag (nat_eq (present_record ds) 9) (nat_eq (present_record es) 9) x y (ap (λ n. nat_eq n 9) sec) e held
-same_begun p q ds es (InTag x) (InData k ys) r s sec e held = no_data (nat_eq (present_record ds) 9) x k.set k.count (k.count - length ys) (if k.rec == 8 then [] else ys) e
-same_begun p q ds es (InData h xs) (InTag y) r s sec e held = no_data (nat_eq (present_record es) 9) y h.set h.count (h.count - length xs) (if h.rec == 8 then [] else xs) (sym e)
+same_begun p q ds es (InTag x) (InTag y) r s sec e held = same_tag (nat_eq (section_after ds) 9) (nat_eq (section_after es) 9) x y (ap (λ n. nat_eq n 9) sec) e held
+same_begun p q ds es (InTag x) (InData k ys) r s sec e held = no_data (nat_eq (section_after ds) 9) x k.set k.count (k.count - length ys) (if k.rec == 8 then [] else ys) e
+same_begun p q ds es (InData h xs) (InTag y) r s sec e held = no_data (nat_eq (section_after es) 9) y h.set h.count (h.count - length xs) (if h.rec == 8 then [] else xs) (sym e)
 same_begun p q ds es (InData h xs) (InData k ys) r s sec e held = same_data h k xs ys sec r.is_rest.2 s.is_rest.2 e
 
 -- ---- the records
 
-same_tells : (o : Order) (ds es : List Dataset) → orders.IsOrderOf o ds → present_record ds ≡ present_record es → SameRecords ds es → orders.IsOrderOf o es
+same_tells : (o : Order) (ds es : List Dataset) → orders.IsOrderOf o ds → section_after ds ≡ section_after es → SameRecords ds es → orders.IsOrderOf o es
 same_tells o ds es t is s =
-    record { places = t.places; present = t.present ∙ is; seen = λ n. t.seen n ∙ (s.seen (present_record ds) n ∙ ap (λ (r : ℕ). occurs n (of_record r es)) is) }
+    record { places = t.places; present = t.present ∙ is; seen = λ n. t.seen n ∙ (s.seen (section_after ds) n ∙ ap (λ (r : ℕ). occurs n (of_record r es)) is) }
 
-last_same : (ds es : List Dataset) (d : Dataset) → present_record (ds ++ d ∷ []) ≡ present_record (es ++ d ∷ [])
+last_same : (ds es : List Dataset) (d : Dataset) → section_after (ds ++ d ∷ []) ≡ section_after (es ++ d ∷ [])
 last_same ds es d = present_last 0 ds d ∙ sym (present_last 0 es d)
 
-checked_as : (check : Option RecordPlace) (ds es : List Dataset) → HasChecked check ds → SectionsLive es → present_record ds ≡ present_record es → SameRecords ds es → HasChecked check es
+checked_as : (check : Option RecordPlace) (ds es : List Dataset) → HasChecked check ds → SectionsLive es → section_after ds ≡ section_after es → SameRecords ds es → HasChecked check es
 checked_as check ds es at alive present same =
     record { order = at.order; begun = at.begun; at = at.at; none = at.none; alive = alive; tells = same_tells at.order ds es at.tells present same }
 
@@ -129,12 +129,12 @@ taken_as law check ds es h at alive same = record {
       checked_as check (ds ++ d ∷ []) (es ++ d ∷ []) was (value_as law ds es d octets was.alive (subst (SectionsLiveAt es) (sym is) alive)) (last_same ds es d) (same_more ds es d d refl same);
 }
 
-pub fields_after : (fields : records.FieldsPlace) (ds es : List Dataset) → records.StandsAfter fields ds → SectionsLive es → present_record ds ≡ present_record es → kept ds ≡ kept es → SameRecords ds es → records.StandsAfter fields es
+pub fields_after : (fields : records.FieldsPlace) (ds es : List Dataset) → records.StandsAfter fields ds → SectionsLive es → section_after ds ≡ section_after es → kept ds ≡ kept es → SameRecords ds es → records.StandsAfter fields es
 fields_after fields ds es at alive present keeps same = record {
   between = at.between;
   checked = checked_as fields.check ds es at.checked alive present same;
   alive = alive;
-  within = subst (λ (ks : List Dataset). records.IsWithin fields.limits (length (joined ks)) (length ks)) keeps at.within;
+  within = subst (λ (ks : List Dataset). records_format.IsWithin fields.limits (length (joined ks)) (length ks)) keeps at.within;
   kept_are = at.kept_are ∙ keeps;
   taken_are = at.taken_are;
 }
@@ -145,8 +145,8 @@ fields_in law fields ds es h taken at alive keeps same = record {
   inside = at.inside;
   checked = taken_as law fields.check ds es h at.checked alive same;
   alive = alive;
-  within = λ is. subst (λ (ks : List Dataset). records.IsWithin fields.limits (length (joined ks) + h.count) (length ks + 1)) keeps (at.within is);
-  others = subst (λ (ks : List Dataset). records.IsWithin fields.limits (length (joined ks)) (length ks)) keeps at.others;
+  within = λ is. subst (λ (ks : List Dataset). records_format.IsWithin fields.limits (length (joined ks) + h.count) (length ks + 1)) keeps (at.within is);
+  others = subst (λ (ks : List Dataset). records_format.IsWithin fields.limits (length (joined ks)) (length ks)) keeps at.others;
   kept_are = at.kept_are ∙ keeps;
   taken_are = at.taken_are;
   octets = at.octets;
@@ -227,27 +227,27 @@ object_at_as ds es h same = by (nat_eq h.rec 8) (nat_eq h.rec 9)
 
 -- ---- the message
 
-message_as : PlaceLaws → (reader : Option Message) (o r t v : List ℕ) (m : Message) → wire.StandsAt reader o (text_so_far o) → LeadTo o t m → LeadTo r v m → wire.StandsAt reader r (text_so_far r)
+message_as : PlaceLaws → (reader : Option Message) (o r t v : List ℕ) (m : Message) → wire.StandsAt reader o (text_so_far o) → LeadsTo o t m → LeadsTo r v m → wire.StandsAt reader r (text_so_far r)
 message_as laws reader o r t v m at here there =
     let same : at.0 ≡ m = (laws.one_place o (text_so_far o) t at.0 m at.2 here).1 in
-    (m, at.1 ∙ ap Some same, subst (λ (x : List ℕ). LeadTo r x m) (laws.texts r v m there) there)
+    (m, at.1 ∙ ap Some same, subst (λ (x : List ℕ). LeadsTo r x m) (laws.texts r v m there) there)
 
 -- Both have led the message to one place.
 pub record SameMessage (o r : List ℕ) : Type 0 where
   pub text : List ℕ
   pub other : List ℕ
   pub at : Message
-  pub here : LeadTo o text at
-  pub there : LeadTo r other at
+  pub here : LeadsTo o text at
+  pub there : LeadsTo r other at
 
-pub same_message : PlaceLaws → (o r t v : List ℕ) (m n : MessagePlace) → m ≡ n → LeadToSaved o t m → LeadToSaved r v n → SameMessage o r
+pub same_message : PlaceLaws → (o r t v : List ℕ) (m n : MessagePlace) → m ≡ n → LeadsToSaved o t m → LeadsToSaved r v n → SameMessage o r
 same_message laws o r t v m n is (at, leads, saves) (other, goes, keeps) =
     let one : at ≡ other = laws.apart at other leads.is_place goes.is_place (saves ∙ is ∙ sym keeps) in
-    record { text = t; other = v; at = at; here = leads; there = subst (λ (x : Message). LeadTo r v x) (sym one) goes }
+    record { text = t; other = v; at = at; here = leads; there = subst (λ (x : Message). LeadsTo r v x) (sym one) goes }
 
 -- ---- the parts
 
-after_as : PlaceLaws → (limits : Limits) (parts : Parts) (ds es : List Dataset) → AreAfter parts ds → CanContinue limits es → present_record ds ≡ present_record es → SameWhole ds es → SameMessage (object_of ds) (object_of es)
+after_as : PlaceLaws → (limits : Limits) (parts : Parts) (ds es : List Dataset) → AreAfter parts ds → CanContinue limits es → section_after ds ≡ section_after es → SameWhole ds es → SameMessage (object_of ds) (object_of es)
     → AreAfter parts es
 after_as laws limits parts ds es at goes present same m =
     let recs = same_records laws.answer.follow laws.answer.numbers ds es at.fields.alive goes.records at.few goes.within.subfiles same.fields in record {
@@ -278,13 +278,13 @@ within_as laws limits parts ds es h xs ys at goes octets given same m =
 
 -- ---- whether an octet has come
 
-pub none_present : (es : List Dataset) → SectionsLive es → present_record es ≡ 0 → es ≡ []
+pub none_present : (es : List Dataset) → SectionsLive es → section_after es ≡ 0 → es ≡ []
 none_present es alive zero = by (split_last es)
   where
     by : SplitLast es → es ≡ []
     by (inl none) = none
     by (inr (front, l, is)) =
-        let rec : l.rec ≡ 0 = sym (present_last 0 front l) ∙ sym (ap present_record is) ∙ zero in
+        let rec : l.rec ≡ 0 = sym (present_last 0 front l) ∙ sym (ap section_after is) ∙ zero in
         let none : of_record 0 (front ++ l ∷ []) ≡ [] = none_other 0 (refl, (refl, (refl, (refl, (refl, tt))))) (front ++ l ∷ []) (subst SectionsLive is alive) in
         let few = ap length (sym (filter-append (λ (x : Dataset). nat_eq x.rec 0) front (l ∷ [])) ∙ none) in
         let one : length (of_record 0 (l ∷ [])) ≡ 1 = ap (λ (r : ℕ). length (cond (nat_eq r 0) (l ∷ []) [])) rec in
@@ -303,7 +303,7 @@ some_read p (d ∷ ds) c r =
     let (first, rest, spelled, later, parts) = r.is_front in
     ap are_some (r.parts ∙ ap (λ (l : List ℕ). l ++ r.rest) (parts ∙ ap (λ (l : List ℕ). l ++ rest) (spelled.parts ∙ ap (λ (l : List ℕ). l ++ d.octets) spelled.is_tag.parts)))
 
-same_some : (ds es : List Dataset) (x y : List ℕ) → SectionsLive ds → SectionsLive es → present_record ds ≡ present_record es → x ≡ y → has_begun ds (InTag x) ≡ has_begun es (InTag y)
+same_some : (ds es : List Dataset) (x y : List ℕ) → SectionsLive ds → SectionsLive es → section_after ds ≡ section_after es → x ≡ y → has_begun ds (InTag x) ≡ has_begun es (InTag y)
 same_some [] [] x y a b present is = ap are_some is
 same_some [] (e ∷ es) x y a b present is = absurd (let bad : e ∷ es ≡ [] = none_present (e ∷ es) b (sym present) in cc)
 same_some (d ∷ ds) [] x y a b present is = absurd (let bad : d ∷ ds ≡ [] = none_present (d ∷ ds) a present in cc)
@@ -331,7 +331,7 @@ total_as false o r xs ys many e = sym (ap length (append-nil o)) ∙ e ∙ ap le
 pub count_as : (x y one : ℕ) → x + one ≡ y + one → x ≡ y
 count_as x y one e = omega (arith, e)
 
-data_by : PlaceLaws → (limits : Limits) (parts : Parts) (ds es : List Dataset) (h : Head) (xs ys : List ℕ) → length xs ≡ length ys → nat_eq (present_record ds) 9 ≡ nat_eq (present_record es) 9 → Octets ys
+data_by : PlaceLaws → (limits : Limits) (parts : Parts) (ds es : List Dataset) (h : Head) (xs ys : List ℕ) → length xs ≡ length ys → nat_eq (section_after ds) 9 ≡ nat_eq (section_after es) 9 → Octets ys
     → Within parts ds h xs → (if h.rec == 8 then [] else xs) ≡ (if h.rec == 8 then [] else ys) → SameAll ds es (InData h xs) (InData h ys) → AllCanContinue limits es (InData h ys) → Within parts es h ys
 data_by laws limits parts ds es h xs ys many ended octets at given all goes =
     within_as laws limits parts ds es h xs ys at goes.sizes octets given
@@ -340,7 +340,7 @@ data_by laws limits parts ds es h xs ys many ended octets at given all goes =
       octets = total_as (h.rec == 8) (object_of ds) (object_of es) xs ys many all.taken;
     }) all.message
 
-data_as : PlaceLaws → (limits : Limits) (parts : Parts) (ds es : List Dataset) (h k : Head) (xs ys : List ℕ) → SameData h xs k ys → nat_eq (present_record ds) 9 ≡ nat_eq (present_record es) 9 → Octets ys
+data_as : PlaceLaws → (limits : Limits) (parts : Parts) (ds es : List Dataset) (h k : Head) (xs ys : List ℕ) → SameData h xs k ys → nat_eq (section_after ds) 9 ≡ nat_eq (section_after es) 9 → Octets ys
     → Within parts ds h xs → SameAll ds es (InData h xs) (InData k ys) → AllCanContinue limits es (InData k ys) → Within parts es k ys
 data_as laws limits parts ds es h k xs ys same ended octets at all goes =
     subst (λ (g : Head). (if h.rec == 8 then [] else xs) ≡ (if g.rec == 8 then [] else ys) → SameAll ds es (InData h xs) (InData g ys) → AllCanContinue limits es (InData g ys) → Within parts es g ys) same.head
@@ -349,7 +349,7 @@ data_as laws limits parts ds es h k xs ys same ended octets at all goes =
 pub octets_of : (q : List ℕ) (es : List Dataset) (h : Head) (ys : List ℕ) → Reads count_octets q es (InData h ys) → Octets ys
 octets_of q es h ys r = r.is_rest.3
 
-parts_as : PlaceLaws → (limits : Limits) (parts : Parts) (q : List ℕ) (ds es : List Dataset) (c d : Begun) → SameBegun c d → nat_eq (present_record ds) 9 ≡ nat_eq (present_record es) 9 → Reads count_octets q es d
+parts_as : PlaceLaws → (limits : Limits) (parts : Parts) (q : List ℕ) (ds es : List Dataset) (c d : Begun) → SameBegun c d → nat_eq (section_after ds) 9 ≡ nat_eq (section_after es) 9 → Reads count_octets q es d
     → StandsFor parts ds c → SameAll ds es c d → AllCanContinue limits es d → StandsFor parts es d
 parts_as laws limits parts q ds es (InTag x) (InTag y) same ended reads at all goes =
     after_as laws limits parts ds es at goes.sizes all.section
@@ -383,7 +383,7 @@ told_by parts ds es (InData h t) (InData k v) e same at =
 -- what octets read is open
 pub record Opened (limits : Limits) (ds : List Dataset) (c : Begun) : Type 0 where
   pub goes : AllCanContinue limits ds c
-  pub ended : nat_eq (present_record ds) 9 ≡ false
+  pub ended : nat_eq (section_after ds) 9 ≡ false
 
 pub opened : PlaceLaws → (limits : Limits) (p : List ℕ) (ds : List Dataset) (c : Begun) → Reads count_octets p ds c → IsOpen limits p → Opened limits ds c
 opened laws limits p ds c r is =
@@ -392,13 +392,13 @@ opened laws limits p ds c r is =
     let goes : AllCanContinue limits ds c = subst (AllCanContinue limits ds) same.1 (subst (λ (es : List Dataset). AllCanContinue limits es is.begun) told is.leads_on) in
     record {
       goes = goes;
-      ended = elim (eqb_tells (present_record ds) 9) [
+      ended = elim (eqb_tells (section_after ds) 9) [
         | inl nine ↦ absurd (is.unfinished (subst AreSections (sym told) (last_sections laws.answer.follow.ends ds (alive_of limits ds c goes.sizes) nine.1)))
         | inr apart ↦ apart.0
       ];
     }
 
-pub held_open : (ds : List Dataset) (c d : Begun) → nat_eq (present_record ds) 9 ≡ false → HeldAlike ds c d
+pub held_open : (ds : List Dataset) (c d : Begun) → nat_eq (section_after ds) 9 ≡ false → HeldAlike ds c d
 held_open ds (InTag x) (InTag y) none = λ nine. absurd (let bad : false ≡ true = sym none ∙ nine in cc)
 held_open ds (InTag x) (InData k ys) none = tt
 held_open ds (InData h xs) (InTag y) none = tt

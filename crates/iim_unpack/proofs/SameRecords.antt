@@ -12,14 +12,15 @@ use Rattle.iim_tables.specs.Format.Rows.{table, row_of, Meets}
 use Rattle.iim_fields.specs.Format.Records.{AreSections, AreRecords, records}
 use Rattle.iim_tables.specs.Format.Records.{IsGoodDataset, occurs}
 use Rattle.iim_fields.specs.Format.Alive.{SectionsLive, SectionsLiveAt}
-use Rattle.iim_fields.specs.Format.Faults.{present_record, kept, is_kept}
+use Rattle.iim_fields.specs.Format.Faults.{section_after, kept, is_kept}
 use Rattle.iim_object.specs.Format.Plans.{max_subfiles}
 use Rattle.iim_object.specs.Format.Sizes.{Stated, InRow, AreStated, number_at}
 use Rattle.iim_object.specs.Format.Records.{numbers_of}
 use Rattle.iim_object.specs.Format.Objects.{ObjectToken, NumberRead, SubfileBegun, ObjectEnded, Confirmed}
 use Rattle.iim_object.specs.Format.Places.{Place, NotEnded, Ended, HasBoth, MayFollow, place_after, head_token}
-use Rattle.iim_object.specs.Format.Numbers.{place_after_datasets, place_ended, RecordsAreByNumber}
-use Rattle.iim_object.specs.Format.Saved.{stated_numbers}
+use Rattle.iim_object.specs.Format.Numbers.{place_after_datasets, place_ended}
+use Rattle.iim_object.specs.Laws.Numbers.{RecordsAreByNumber}
+use Rattle.iim_object.specs.States.Saved.{stated_numbers}
 use Rattle.iim_unpack.specs.ByLayers.{one_of_some}
 use Rattle.iim_unpack.specs.Format.Tokens.{place_at}
 use Rattle.iim_unpack.specs.LowerLaws.{ObjectLaws, FollowLaws}
@@ -267,7 +268,7 @@ length_one true d = refl
 length_one false d = refl
 
 abbrev pub CountsNines : List Dataset → Type 0
-CountsNines ds = length (of_record 9 ds) ≡ cond (nat_eq (present_record ds) 9) 1 0
+CountsNines ds = length (of_record 9 ds) ≡ cond (nat_eq (section_after ds) 9) 1 0
 
 pub nines : FollowLaws → (ds : List Dataset) → SectionsLive ds → CountsNines ds
 nines laws ds alive = by (split_last ds)
@@ -306,14 +307,14 @@ none_other r apart ds alive =
 
 -- what the place says of the datasets
 pub record SameFields (ds es : List Dataset) : Type 0 where
-  pub ended : nat_eq (present_record ds) 9 ≡ nat_eq (present_record es) 9
+  pub ended : nat_eq (section_after ds) 9 ≡ nat_eq (section_after es) 9
   pub fields : kept ds ≡ kept es
   pub numbers : stated_numbers (numbers_of (of_record 7 ds)) ≡ stated_numbers (numbers_of (of_record 7 es))
   pub heads : length (of_record 8 ds) ≡ length (of_record 8 es)
 
 -- the same, but that of the subfiles it says no more than whether some have ended
 pub record SameShape (ds es : List Dataset) : Type 0 where
-  pub ended : nat_eq (present_record ds) 9 ≡ nat_eq (present_record es) 9
+  pub ended : nat_eq (section_after ds) 9 ≡ nat_eq (section_after es) 9
   pub fields : kept ds ≡ kept es
   pub numbers : stated_numbers (numbers_of (of_record 7 ds)) ≡ stated_numbers (numbers_of (of_record 7 es))
   pub some : one_of_some (length (of_record 8 ds)) ≡ one_of_some (length (of_record 8 es))

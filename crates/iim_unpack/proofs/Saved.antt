@@ -2,24 +2,23 @@
 use Rattle.std.proofs.Common.{◌≡◌, ℕ, ◌<◌, ◌^◌, List, [], get_or, ap, refl, sym, subst, ◌∙◌, inl, inr, arith, append-nil}
 use Rattle.iim_dataset.specs.Format.Datasets.{Dataset}
 use Rattle.iim_dataset.specs.Format.Splits.{Begun, InTag, InData}
-use Rattle.iim_fields.specs.Format.Standing.{IsWithin}
+use Rattle.iim_fields.specs.Format.Bounds.{IsWithin}
 use Rattle.iim_fields.specs.declared.limits.Limits.{Limits}
-use Rattle.wire_message.specs.Format.Saved.{saved}
-use Rattle.wire_message.specs.Format.SoFar.{LeadTo}
+use Rattle.wire_message.specs.States.Saved.{saved}
+use Rattle.wire_message.specs.States.SoFar.{LeadsTo}
 use Rattle.wire_message.specs.declared.place.Place.{Place as Message}
 use Rattle.iim_unpack.specs.Format.Admitted.{Value}
-use Rattle.iim_unpack.specs.Format.Continuing.{OctetsHaveOnePlace, RestoredStandAsSaved}
+use Rattle.iim_unpack.specs.Laws.Places.{OctetsHaveOnePlace, RestoredStandAsSaved, TicketsTellOnePlace}
 use Rattle.iim_unpack.specs.Format.Framed.{AreWithin}
 use Rattle.iim_unpack.specs.LowerLaws.{OnwardLaws}
-use Rattle.iim_unpack.specs.Format.Open.{object_so_far}
-use Rattle.iim_unpack.specs.Format.Possible.{AreOpenOrWhole, widest}
-use Rattle.iim_unpack.specs.Format.Scales.{IsPossibleIn, TicketsTellOnePlace}
-use Rattle.iim_unpack.specs.Format.Restored.{IsTicketAt}
+use Rattle.iim_unpack.specs.Format.Open.{object_so_far, IsOpen}
+use Rattle.iim_unpack.specs.States.Possible.{AreOpenOrWhole, widest}
+use Rattle.iim_unpack.specs.States.Scales.{IsPossibleIn}
+use Rattle.iim_unpack.specs.States.Restored.{IsTicketAt}
 use Rattle.iim_unpack.specs.Format.Streams.{IsEnvelopeWithin}
 use Rattle.iim_unpack.specs.Format.Tickets.{Place, IsPlaceOf, present_version, place_of, ticket_in, ticket_of}
 use Rattle.iim_unpack.specs.Format.Tokens.{MayContinue}
-use Rattle.iim_unpack.specs.Format.Open.{IsOpen}
-use Rattle.iim_unpack.specs.Format.Unpacking.{limits_in}
+use Rattle.iim_unpack.specs.States.Unpacking.{limits_in}
 use Rattle.iim_unpack.proofs.Answering.{Lives, lives_envelope, lives_open, one_reading}
 use Rattle.iim_unpack.proofs.Following.{message_of, story_of}
 use Rattle.iim_unpack.proofs.Tickets.{same_place}
@@ -30,7 +29,7 @@ lives_as : OnwardLaws → (limits : Limits) (octets : List ℕ) → AreOpenOrWho
 lives_as laws limits octets (inl opens) = lives_open limits octets opens
 lives_as laws limits octets (inr (v, whole)) = lives_envelope laws.opens.answer limits octets v whole
 
-pub one_place : OnwardLaws → (start : Message) → LeadTo [] [] start → OctetsHaveOnePlace
+pub one_place : OnwardLaws → (start : Message) → LeadsTo [] [] start → OctetsHaveOnePlace
 one_place laws start begins limits octets comes =
     let lives = lives_as laws limits octets comes in
     let ds = lives.whole in

@@ -8,21 +8,21 @@ use Rattle.iim_dataset.specs.Format.Languages.{IsAlive}
 use Rattle.iim_dataset.specs.Format.Splits.{Begun, InTag, InData, IsBegun, Reads}
 use Rattle.iim_dataset.specs.Format.Tags.{BeginsTag}
 use Rattle.iim_dataset.specs.declared.head.Head.{Head}
-use Rattle.iim_fields.specs.Format.Faults.{present_record}
+use Rattle.iim_fields.specs.Format.Faults.{section_after}
 use Rattle.iim_fields.specs.Format.Values.{tells_number}
 use Rattle.iim_object.specs.Format.Numbers.{place_after_datasets, place_ended}
 use Rattle.iim_object.specs.Format.Objects.{SubfileBegun, ObjectEnded, Confirmed, number_tokens}
 use Rattle.iim_object.specs.Format.Places as objects
 use Rattle.iim_object.specs.Format.Records.{lengths_of, numbers_of}
-use Rattle.iim_object.specs.Format.Saved.{stated_numbers}
+use Rattle.iim_object.specs.States.Saved.{stated_numbers}
 use Rattle.iim_object.specs.Format.Sizes.{Stated, number_at}
 use Rattle.iim_object.specs.Format.Within.{TokensWithin, LanguageWithin}
 use Rattle.iim_unpack.specs.LowerLaws.{AnswerLaws, OpenLaws}
 use Rattle.iim_unpack.specs.Format.Admitted.{object_of}
 use Rattle.iim_unpack.specs.Format.Framed.{AreWithin}
 use Rattle.iim_unpack.specs.Format.Open.{IsOpen, object_so_far, section}
-use Rattle.iim_unpack.specs.Format.Possible.{Possible, IsSmall, IsSmallPhase, IsSmallPlace, greatest_size_before, widest}
-use Rattle.iim_unpack.specs.Format.Scales.{Scale, FitsRow, SectionsLiveIn, HaveRoomIn, IsOpenIn, IsWholeIn, PossibleAt, place_in, first_scale}
+use Rattle.iim_unpack.specs.States.Possible.{Possible, IsSmall, IsSmallPhase, IsSmallPlace, greatest_size_before, widest}
+use Rattle.iim_unpack.specs.States.Scales.{Scale, FitsRow, SectionsLiveIn, HaveRoomIn, IsOpenIn, IsWholeIn, PossibleAt, place_in, first_scale}
 use Rattle.iim_unpack.specs.Format.Tickets.{Place, IsPlaceOf, TagBegun, AllEnded, phase_of, place_of}
 use Rattle.iim_unpack.specs.Format.Tokens.{MayContinue}
 use Rattle.iim_unpack.proofs.Answering.{one_reading, reads_envelope}
@@ -141,9 +141,9 @@ tag_begins octets ds held reads =
 
 small_phase : (octets : List ℕ) (ds : List Dataset) (b : Begun) → Reads 4 octets ds b → SectionsLiveIn first_scale ds b → sum (place_in ds b).lengths ≤ greatest_size_before
     → IsSmallPhase (section ds b) (length (object_so_far ds b)) (phase_of ds b)
-small_phase octets ds (InTag held) reads alive low = by (nat_eq (present_record ds) 9)
+small_phase octets ds (InTag held) reads alive low = by (nat_eq (section_after ds) 9)
   where
-    by : (b : Bool) → IsSmallPhase (present_record ds) (length (object_of ds)) (if b then AllEnded else TagBegun held)
+    by : (b : Bool) → IsSmallPhase (section_after ds) (length (object_of ds)) (if b then AllEnded else TagBegun held)
     by true = tt
     by false = tag_begins octets ds held reads
 small_phase octets ds (InData h taken) reads (d, head, alive) low =
@@ -174,9 +174,9 @@ keeps_open octets is =
     }
 
 keeps_whole : (octets : List ℕ) → (is : IsWholeIn first_scale widest octets) → Keeps is.admits.datasets (InTag [])
-keeps_whole octets is = record { numbers = small_numbers is.admits.datasets is.rows; taken = is.total; begun = by (nat_eq (present_record is.admits.datasets) 9) }
+keeps_whole octets is = record { numbers = small_numbers is.admits.datasets is.rows; taken = is.total; begun = by (nat_eq (section_after is.admits.datasets) 9) }
   where
-    by : (b : Bool) → IsSmallPhase (present_record is.admits.datasets) (length (object_of is.admits.datasets)) (if b then AllEnded else TagBegun [])
+    by : (b : Bool) → IsSmallPhase (section_after is.admits.datasets) (length (object_of is.admits.datasets)) (if b then AllEnded else TagBegun [])
     by true = tt
     by false = record {
       head = record { rec = 0; set = 0; count = 0 };

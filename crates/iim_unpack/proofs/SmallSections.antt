@@ -11,7 +11,7 @@ use Rattle.iim_tables.specs.Format.Rows.{table, row_of, Meets}
 use Rattle.iim_tables.specs.Format.Records.{IsGoodDataset, IsGoodRecord, occurs, occurrences, mandatory}
 use Rattle.iim_fields.specs.Format.Records.{AreRecords, AreSections, records}
 use Rattle.iim_fields.specs.Format.Values.{tells_number}
-use Rattle.iim_unpack.specs.Format.Scales.{FitsRow, SectionsIn, first_scale}
+use Rattle.iim_unpack.specs.States.Scales.{FitsRow, SectionsIn, first_scale}
 
 -- ---- data that are too long, replaced by short ones
 

@@ -6,14 +6,14 @@ use Rattle.std.specs.List.{AllByRecursion, flat_map}
 use Rattle.std.proofs.lemmas.Nat.{from_be_bytes-to_be_bytes_8}
 use Rattle.iim_dataset.specs.Format.Datasets.{Dataset}
 use Rattle.iim_unpack.specs.Format.Tickets.{Phase, TagBegun, DataBegun, AllEnded, ticket_name, present_version, width, four, wide, phase_octets, field_octets, fields_octets, number_octets, text_octets}
-use Rattle.iim_unpack.specs.Format.Begins.{IsLongField}
+use Rattle.iim_unpack.specs.States.Begins.{IsLongField, AreFields, AreNumbersIn, AreTexts, IsSizeIn, IsShort, IsWide}
 use Rattle.iim_unpack.specs.TicketFields.{HoldsFields}
-use Rattle.iim_unpack.specs.Begins.{BeginsWithNone, BeginsWithFewer, FieldsBefore, IsFour}
-use Rattle.iim_unpack.specs.Format.Begins.{AreFields, AreNumbersIn, AreTexts, IsSizeIn, IsShort, IsWide}
+use Rattle.iim_unpack.specs.Shortfalls.{BeginsWithNone, BeginsWithFewer, FieldsBefore, IsFour}
 use Rattle.iim_unpack.specs.FieldLaws.{first_same, rest_same, fronts, one_four, one_field, some_octets, same_fields}
-use Rattle.iim_unpack.specs.Format.TicketForm.{IsVersion, IsPhase, IsFaultOf, HasForm, Split, SplitsTicket, TicketsHaveOneSplit, split_octets, came}
+use Rattle.iim_unpack.specs.Format.TicketForm.{IsVersion, IsPhase, IsFaultOf, HasForm, Split, SplitsTicket, split_octets, came}
+use Rattle.iim_unpack.specs.Laws.Tickets.{TicketsHaveOneSplit}
 use Rattle.iim_unpack.specs.TicketParts.{AreNoMessage, AreNoBody, BeginsWithNoData, body_octets, message_parts}
-use Rattle.iim_unpack.specs.declared.ticket_fault.TicketFault.TheVariants.{Form}
+use Rattle.iim_unpack.specs.declared.ticket.fault.TicketFault.TheVariants.{Form}
 
 -- octets that two spellings begin have one reading
 abbrev pub HasOne : {X : Type 0} → (X → Type 0) → (X → List ℕ) → Type 0

@@ -7,12 +7,12 @@ use Rattle.std.proofs.lemmas.List.Folds.{list_any-append, list_all-append}
 use Rattle.std.proofs.Math.Seq.{drop-append-add}
 use Rattle.iim_dataset.specs.Format.Languages as languages
 use Rattle.iim_dataset.specs.Format.Octets.{IsOctet}
-use Rattle.wire_story.specs.Format.Laws.{StoriesLiveAsTextsSoFar, StoriesEndAsTexts, TextsEndInNoReturn}
-use Rattle.wire_story.specs.Format.Reading.{IsLoneReturn}
+use Rattle.wire_story.specs.Laws.Texts.{StoriesLiveAsTextsSoFar, StoriesEndAsTexts, TextsEndInNoReturn}
+use Rattle.wire_story.specs.States.Reading.{IsLoneReturn}
 use Rattle.wire_story.specs.Format.Texts.{IsTextSoFar, Holds, is_line_octet, line_end}
 use Rattle.wire_story.specs.Format.Tokens.{OctetOrEnd, Octet, End, StoryLanguage}
 use Rattle.wire_message.specs.Format.Layers.{StoryLivesIn, after_stx, text_so_far}
-use Rattle.wire_message.specs.Format.Reading.{StoryDiesWith}
+use Rattle.wire_message.specs.Format.Causes.{StoryDiesWith}
 use Rattle.iim_unpack.specs.Format.Conditions.{IsInText}
 use Rattle.iim_unpack.proofs.Living.{after_found, after_none, before_found, before_later, before_all, place_later, is_etx, is_stx, tokens_after_stx}
 

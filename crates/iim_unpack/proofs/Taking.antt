@@ -3,18 +3,18 @@ use Rattle.std.proofs.Common.{◌≡◌, ℕ, ◌<◌, ◌≤◌, ◌≢◌, Boo
 use Rattle.std.specs.List.{AllByRecursion}
 use Rattle.iim_dataset.specs.Format.Datasets.{Dataset, head_of}
 use Rattle.iim_dataset.specs.declared.head.Head.{Head}
-use Rattle.iim_fields.specs.Format.Checks.{TakesHead, HasChecked, HasTaken, IsChecking, IsValueFault}
+use Rattle.iim_fields.specs.States.Checks.{TakesHead, HasChecked, HasTaken, IsChecking, IsValueFault}
 use Rattle.iim_fields.specs.Format.Alive.{SectionsLive, SectionsLiveAt}
 use Rattle.iim_fields.specs.Format.Faults.{is_kept}
 use Rattle.iim_fields.specs.Format.Records.{AreSections}
 use Rattle.iim_tables.specs.Format.Records.{IsGoodDataset}
-use Rattle.iim_fields.specs.Format.Standing.{FieldsPlace, IsBetween, IsHeadFault, IsOf, StandsAfter, StandsIn, limits_of}
+use Rattle.iim_fields.specs.States.Standing.{FieldsPlace, IsBetween, IsHeadFault, IsOf, StandsAfter, StandsIn, limits_of}
 use Rattle.iim_fields.specs.Format.Values.{data_of, number_told}
 use Rattle.iim_fields.specs.declared.check.RecordPlace.{RecordPlace}
 use Rattle.iim_fields.specs.declared.fault.FieldFault.{FieldFault}
 use Rattle.iim_fields.specs.declared.limits.Limits.{Limits}
 use Rattle.iim_unpack.specs.Plain.{mode_dataset}
-use Rattle.iim_unpack.specs.Format.Possible.{widest}
+use Rattle.iim_unpack.specs.States.Possible.{widest}
 use Rattle.iim_unpack.specs.Taking.{CanContinueWithin, TookDatasets}
 use Rattle.iim_unpack.proofs.Limits.{kept_first, kept_octets_append, kept_length_append}
 use Rattle.iim_unpack.proofs.Bounds.{all_join, all_weaker}

@@ -1,14 +1,15 @@
 -- Why the ticket of a possible place is refused.
 use Rattle.std.proofs.Common.{◌≡◌, ℕ, ◌<◌, ◌≤◌, List, ◌∷◌, ◌++◌, codes, get_or, refl, ap, sym, subst, ◌∙◌, arith}
 use Rattle.iim_fields.specs.declared.limits.Limits.{Limits}
-use Rattle.iim_unpack.specs.Format.Possible.{AreHeadsWithin}
-use Rattle.iim_unpack.specs.Format.Scales.{IsPossibleIn, TicketsTellOnePlace}
-use Rattle.iim_unpack.specs.Format.TicketsTold.{TicketsOfPlacesAreSplit, split_of}
-use Rattle.iim_unpack.specs.Format.Restored.{IsTicketAt, PossiblePlacesAreTaken, fields_told, octets_told}
+use Rattle.iim_unpack.specs.States.Possible.{AreHeadsWithin}
+use Rattle.iim_unpack.specs.States.Scales.{IsPossibleIn}
+use Rattle.iim_unpack.specs.Laws.Places.{TicketsTellOnePlace, PossiblePlacesAreTaken}
+use Rattle.iim_unpack.specs.Laws.Tickets.{TicketsOfPlacesAreSplit, split_of}
+use Rattle.iim_unpack.specs.States.Restored.{IsTicketAt, fields_told, octets_told}
 use Rattle.iim_unpack.specs.Format.TicketForm.{IsVersion, HasOtherVersion, SplitsTicket}
 use Rattle.iim_unpack.specs.Format.Tickets.{Place, ticket_in}
-use Rattle.iim_unpack.specs.declared.ticket_fault.TicketFault.{TicketFault}
-use Rattle.iim_unpack.specs.declared.ticket_fault.TicketFault.TheVariants.{Form, Version, Impossible, HeaderFull, TooManyFields, OutOfMemory}
+use Rattle.iim_unpack.specs.declared.ticket.fault.TicketFault.{TicketFault}
+use Rattle.iim_unpack.specs.declared.ticket.fault.TicketFault.TheVariants.{Form, Version, Impossible, HeaderFull, TooManyFields, OutOfMemory}
 
 -- what a fault may be, by the place
 abbrev Due : Limits → Place → TicketFault → Type 0

@@ -4,18 +4,18 @@ use Rattle.std.specs.List.{flat_map}
 use Rattle.iim_dataset.specs.Format.Datasets.{Dataset, SpellsTag, SpellsCount, count_octets, tag_octets}
 use Rattle.iim_dataset.specs.Format.Splits.{Begun, InTag, InData, Reads}
 use Rattle.iim_dataset.specs.declared.head.Head.{Head}
-use Rattle.iim_fields.specs.Format.Faults.{joined, kept, present_record}
-use Rattle.wire_message.specs.Format.Saved.{saved, LeadToSaved}
-use Rattle.wire_message.specs.Format.SoFar.{IsPlace}
+use Rattle.iim_fields.specs.Format.Faults.{joined, kept, section_after}
+use Rattle.wire_message.specs.States.Saved.{saved, LeadsToSaved}
+use Rattle.wire_message.specs.States.SoFar.{IsPlace}
 use Rattle.wire_message.specs.declared.place.Place.{Place as Message}
 use Rattle.wire_message.specs.declared.place.Place.TheVariants as at
 use Rattle.wire_message.specs.declared.saved.MessagePlace.{MessagePlace}
-use Rattle.iim_unpack.specs.Format.Parts.{StandsFor}
+use Rattle.iim_unpack.specs.States.Parts.{StandsFor}
 use Rattle.iim_unpack.specs.Format.Tickets.{TagBegun, DataBegun, AllEnded, Place, phase_of, place_of, four, wide, present_version, phase_octets, field_octets, fields_octets, number_octets, text_octets, texts_octets, part_number, message_octets, ticket_name, ticket_of}
-use Rattle.iim_dataset.specs.Format.Laws.{EventsTellTheDatasets}
-use Rattle.iim_unpack.specs.Tickets.{IsSpelled}
-use Rattle.iim_unpack.specs.Format.Unpacking.{Unpacking, IsLed, limits_in}
-use Rattle.iim_unpack.specs.Unpacking.{Stood}
+use Rattle.iim_dataset.specs.Laws.Datasets.{EventsTellTheDatasets}
+use Rattle.iim_unpack.specs.TicketReading.{IsSpelled}
+use Rattle.iim_unpack.specs.States.Unpacking.{Unpacking, IsLed, limits_in}
+use Rattle.iim_unpack.specs.UnpackerInside.{Stood}
 use Rattle.iim_unpack.proofs.Bounds.{is_one}
 use Rattle.iim_unpack.proofs.Tickets.{placed}
 use Rattle.iim_unpack.specs.declared.parts.Parts.{Parts}
@@ -180,7 +180,7 @@ none_taken rec taken is = ap (λ (r : ℕ). length (if nat_eq r 8 then [] else t
 begun_length : (parts : Parts) (p : List ℕ) (ds : List Dataset) (b : Begun) → Reads count_octets p ds b → StandsFor parts ds b
     → length (phase_octets present_version (phase_of ds b)) + (6 * length (kept ds) + length (joined (kept ds))) ≤ 26 + (parts.fields.limits.octets + 6 * parts.fields.limits.fields)
 begun_length parts p ds (InTag held) reads stands =
-    let phase = tag_begun_length (nat_eq (present_record ds) 9) held (held_length p ds held reads) in
+    let phase = tag_begun_length (nat_eq (section_after ds) 9) held (held_length p ds held reads) in
     by (length (phase_octets present_version (phase_of ds (InTag held)))) (length (kept ds)) (length (joined (kept ds))) parts.fields.limits.octets parts.fields.limits.fields phase stands.fields.within.octets_in stands.fields.within.fields_in
   where
     by : (phase n data_all octets fields : ℕ) → phase ≤ 14 → data_all ≤ octets → n ≤ fields → phase + (6 * n + data_all) ≤ 26 + (octets + 6 * fields)
@@ -208,10 +208,10 @@ begun_length parts p ds (InData h taken) reads stands =
     in_other : (phase some n data_all octets fields : ℕ) → phase ≡ 18 + some → some ≤ 8 → data_all ≤ octets → n ≤ fields → phase + (6 * n + data_all) ≤ 26 + (octets + 6 * fields)
     in_other phase some n data_all octets fields a b c d = omega (arith, a, b, c, d)
 
-pub texts_led : (octets text : List ℕ) (m : MessagePlace) → LeadToSaved octets text m → AreShortIn m
+pub texts_led : (octets text : List ℕ) (m : MessagePlace) → LeadsToSaved octets text m → AreShortIn m
 texts_led octets text m (place, leads, is) = subst AreShortIn is (texts_at place leads.is_place)
 
-texts_short : (octets text : List ℕ) (m : MessagePlace) → LeadToSaved octets text m → length (texts_octets m) ≤ 166
+texts_short : (octets text : List ℕ) (m : MessagePlace) → LeadsToSaved octets text m → length (texts_octets m) ≤ 166
 texts_short octets text m leads =
     seven_length m.source.items m.number.items m.priority.items m.category.items m.words.items m.info.items m.trailer.items (texts_led octets text m leads)
 

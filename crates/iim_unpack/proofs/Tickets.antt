@@ -4,32 +4,33 @@ use Rattle.std.proofs.lemmas.List.Sums.{sum_by-cons}
 use Rattle.std.proofs.lemmas.List.{length-map}
 use Rattle.iim_dataset.specs.Format.Datasets.{Dataset, of_record, count_octets}
 use Rattle.iim_dataset.specs.Format.Splits.{Begun, InTag, InData, Reads}
-use Rattle.iim_dataset.specs.Format.Events.{handed_on}
-use Rattle.iim_dataset.specs.Format.Places.{IsKeptAs}
-use Rattle.iim_dataset.specs.Format.Laws.{OctetsAreHandedOnOneWay, EventsTellTheDatasets}
+use Rattle.iim_dataset.specs.States.Events.{handed_on}
+use Rattle.iim_dataset.specs.States.Places.{IsKeptAs}
+use Rattle.iim_dataset.specs.Laws.Datasets.{OctetsAreHandedOnOneWay, EventsTellTheDatasets}
 use Rattle.iim_dataset.specs.declared.head.Head.{Head}
 use Rattle.iim_dataset.specs.declared.place.DatasetPlace.{DatasetPlace}
 use Rattle.iim_dataset.specs.declared.place.DatasetPlace.TheVariants.{Tag, Inside}
-use Rattle.iim_fields.specs.Format.Faults.{joined, kept, present_record}
+use Rattle.iim_fields.specs.Format.Faults.{joined, kept, section_after}
 use Rattle.iim_object.specs.Format.Objects.{SubfileBegun}
 use Rattle.iim_object.specs.Format.Places as objects
 use Rattle.iim_object.specs.Format.Records.{lengths_of, numbers_of}
 use Rattle.iim_object.specs.Format.Numbers.{place_after_datasets, place_ended}
-use Rattle.iim_object.specs.Format.Saved.{stated_numbers}
-use Rattle.wire_message.specs.Format.Laws.{OctetsLeadToOnePlace}
-use Rattle.wire_message.specs.Format.Reading as wire
-use Rattle.wire_message.specs.Format.SoFar.{LeadTo}
-use Rattle.wire_message.specs.Format.Saved.{saved, IsAt, LeadToSaved}
+use Rattle.iim_object.specs.States.Saved.{stated_numbers}
+use Rattle.wire_message.specs.Laws.Messages.{OctetsLeadToOnePlace}
+use Rattle.wire_message.specs.States.Reading as wire
+use Rattle.wire_message.specs.States.SoFar.{LeadsTo}
+use Rattle.wire_message.specs.States.Saved.{saved, IsAt, LeadsToSaved}
 use Rattle.wire_message.specs.declared.place.Place.{Place as Message}
 use Rattle.wire_message.specs.declared.saved.MessagePlace.{MessagePlace}
 use Rattle.iim_unpack.specs.Format.Admitted.{object_of}
 use Rattle.iim_unpack.specs.Format.Tokens.{place_at}
 use Rattle.iim_unpack.specs.Format.Open.{object_so_far, section}
-use Rattle.iim_unpack.specs.Format.Parts.{AreAfter, Within, StandsFor, has_ended}
-use Rattle.iim_unpack.specs.Format.Unpacking.{Unpacking, IsLed, Stands, IsDoneWith, limits_in}
-use Rattle.iim_unpack.specs.Unpacking.{Stood}
-use Rattle.iim_unpack.specs.Format.Tickets.{TagBegun, DataBegun, AllEnded, phase_of, heads_of, place_of, ticket_of, IsTicketOf, OctetsHaveOneTicket}
-use Rattle.iim_unpack.specs.Tickets.{phase_in, IsSpelled}
+use Rattle.iim_unpack.specs.States.Parts.{AreAfter, Within, StandsFor, has_ended}
+use Rattle.iim_unpack.specs.States.Unpacking.{Unpacking, IsLed, Stands, IsDoneWith, limits_in}
+use Rattle.iim_unpack.specs.UnpackerInside.{Stood}
+use Rattle.iim_unpack.specs.Format.Tickets.{TagBegun, DataBegun, AllEnded, phase_of, heads_of, place_of, ticket_of, IsTicketOf}
+use Rattle.iim_unpack.specs.Laws.Tickets.{OctetsHaveOneTicket}
+use Rattle.iim_unpack.specs.TicketReading.{phase_in, IsSpelled}
 use Rattle.iim_unpack.specs.declared.parts.Parts.{Parts}
 use Rattle.iim_unpack.proofs.Ended.{ended_by_record, unended_inside}
 use Rattle.iim_unpack.proofs.SamePlace.{told_by}
@@ -82,7 +83,7 @@ taken_by false false ds taken count left e = let total = total_of (of_record 8 d
 
 -- ---- the message
 
-message_at : (reader : Option Message) (octets text : List ℕ) (m : MessagePlace) → wire.StandsAt reader octets text → IsAt reader m → LeadToSaved octets text m
+message_at : (reader : Option Message) (octets text : List ℕ) (m : MessagePlace) → wire.StandsAt reader octets text → IsAt reader m → LeadsToSaved octets text m
 message_at reader octets text m (at, is, leads) (place, has, same) =
     let one : at ≡ place = some-same (sym is ∙ has) in (at, leads, ap saved one ∙ same)
   where
@@ -100,14 +101,14 @@ record Parted (place : DatasetPlace) (parts : Parts) (ticket : List ℕ) (s : Is
   pub taken : s.taken ≡ length (object_so_far whole begun)
   pub heads : s.heads ≡ heads_of whole begun
   pub text : List ℕ
-  pub leads : LeadToSaved (object_so_far whole begun) text s.message
+  pub leads : LeadsToSaved (object_so_far whole begun) text s.message
 
 parted_after : (parts : Parts) (ticket : List ℕ) (ds : List Dataset) (held : List ℕ) (place : DatasetPlace) (s : IsSpelled place parts ticket) → IsKeptAs place (InTag held) → AreAfter parts ds
     → Parted place parts ticket s ds (InTag held)
 parted_after parts ticket ds held (Inside g left) s keeps at = absurd keeps
 parted_after parts ticket ds held (Tag octets) s keeps at = record {
   section = s.after ds at.fields;
-  phase = ap (λ (b : Bool). if b then AllEnded else TagBegun octets.items) (ended_by_record parts ds at.fields) ∙ ap (λ (xs : List ℕ). if nat_eq (present_record ds) 9 then AllEnded else TagBegun xs) keeps;
+  phase = ap (λ (b : Bool). if b then AllEnded else TagBegun octets.items) (ended_by_record parts ds at.fields) ∙ ap (λ (xs : List ℕ). if nat_eq (section_after ds) 9 then AllEnded else TagBegun xs) keeps;
   fields = at.fields.kept_are;
   numbers = s.numbers_are (place_after_datasets ds) at.object;
   taken = let is = s.taken_is (place_after_datasets ds) at.object in let total = total_of (of_record 8 ds) in omega (arith, is, total);
@@ -151,7 +152,7 @@ pub record Placed (u : Unpacking) (p ticket : List ℕ) : Type 0 where
   pub stands : StandsFor u.parts whole begun
   pub text : List ℕ
   pub message : MessagePlace
-  pub leads : LeadToSaved (object_so_far whole begun) text message
+  pub leads : LeadsToSaved (object_so_far whole begun) text message
   pub spelled : ticket ≡ ticket_of (place_of whole begun message)
 
 pub placed : EventsTellTheDatasets → (u : Unpacking) (p ticket : List ℕ) → IsSpelled u.reader.place u.parts ticket → IsLed u p → Placed u p ticket
@@ -200,10 +201,10 @@ few_kept u (p, a, stood) = elim stood [ inl at ↦ few_led at.is_led | inr at �
 -- ---- one ticket
 
 pub same_place : OctetsLeadToOnePlace → (whole es : List Dataset) (b c : Begun) (m n : MessagePlace) (t v : List ℕ) → whole ≡ es → b ≡ c
-    → LeadToSaved (object_so_far whole b) t m → LeadToSaved (object_so_far es c) v n → place_of whole b m ≡ place_of es c n
+    → LeadsToSaved (object_so_far whole b) t m → LeadsToSaved (object_so_far es c) v n → place_of whole b m ≡ place_of es c n
 same_place one whole es b c m n t v is same (at, leads, saves) (other, goes, keeps) =
     let octets : object_so_far es c ≡ object_so_far whole b = ap (λ (ds : List Dataset). object_so_far ds c) (sym is) ∙ ap (object_so_far whole) (sym same) in
-    let met : at ≡ other = (one (object_so_far whole b) t v at other leads (subst (λ (xs : List ℕ). LeadTo xs v other) octets goes)).1 in
+    let met : at ≡ other = (one (object_so_far whole b) t v at other leads (subst (λ (xs : List ℕ). LeadsTo xs v other) octets goes)).1 in
     let message : m ≡ n = sym saves ∙ ap saved met ∙ keeps in
     ap (λ (ds : List Dataset). place_of ds b m) is ∙ ap (λ (x : Begun). place_of es x m) same ∙ ap (place_of es c) message
 

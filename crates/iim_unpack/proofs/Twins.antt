@@ -8,17 +8,17 @@ use Rattle.std.proofs.lemmas.Bool.{eqb-true}
 use Rattle.iim_dataset.specs.Format.Datasets.{Dataset, of_record}
 use Rattle.iim_dataset.specs.declared.head.Head.{Head}
 use Rattle.iim_fields.specs.Format.Alive.{SectionsLive, SectionsLiveAt}
-use Rattle.iim_fields.specs.Format.Faults.{is_kept, joined, kept, last_record, present_record}
+use Rattle.iim_fields.specs.Format.Faults.{is_kept, joined, kept, last_record, section_after}
 use Rattle.iim_fields.specs.Format.Records.{AreSections}
 use Rattle.iim_tables.specs.Format.Records.{IsGoodRecord, occurs}
-use Rattle.iim_fields.specs.Format.Standing.{IsWithin}
+use Rattle.iim_fields.specs.Format.Bounds.{IsWithin}
 use Rattle.iim_fields.specs.declared.limits.Limits.{Limits}
 use Rattle.iim_object.specs.Format.Numbers.{ending_of, place_after_datasets, place_ended}
 use Rattle.iim_object.specs.Format.Objects.{SubfileBegun}
 use Rattle.iim_object.specs.Format.Places as objects
 use Rattle.iim_object.specs.Format.Plans.{max_subfiles}
 use Rattle.iim_object.specs.Format.Records.{lengths_of, numbers_of}
-use Rattle.iim_object.specs.Format.Saved.{IsPossible, stated_numbers}
+use Rattle.iim_object.specs.States.Saved.{IsPossible, stated_numbers}
 use Rattle.iim_object.specs.Format.Sizes.{Stated, number_at}
 use Rattle.iim_unpack.specs.Format.Framed.{AreWithin}
 use Rattle.iim_unpack.specs.LowerLaws.{ObjectLaws, OpenLaws, SizeLaws}
@@ -56,7 +56,7 @@ replaced r ds es later more same there here =
     (good_with r (of_record r ds) (of_record r es) (of_record r more) (may_replace r (of_record r ds) (of_record r es) (of_record r later) (same.seen r) (subst (IsGoodRecord r) (of_both r es later) there))
     (subst (IsGoodRecord r) (of_both r ds more) here))
 
-pub follows_as : (ds es : List Dataset) → SectionsLive es → present_record ds ≡ present_record es → SameRecords ds es → (more : List Dataset) → AreSections (ds ++ more) → AreSections (es ++ more)
+pub follows_as : (ds es : List Dataset) → SectionsLive es → section_after ds ≡ section_after es → SameRecords ds es → (more : List Dataset) → AreSections (ds ++ more) → AreSections (es ++ more)
 follows_as ds es (later, alive) present same more sections =
     let here = all_good (ds ++ more) sections in
     let there = all_good (es ++ later) alive in
@@ -213,7 +213,7 @@ twins_on ds es xs ys twins tail bounded = record {
       (subst (λ (ps : List Stated). AreBounded ps (eights ds ++ eights xs)) (sevens_both ds xs) (subst (AreBounded (sevens (ds ++ xs))) (eights_both ds xs) bounded))))));
 }
 
-pub present_on : (ds es xs : List Dataset) → present_record ds ≡ present_record es → present_record (ds ++ xs) ≡ present_record (es ++ xs)
+pub present_on : (ds es xs : List Dataset) → section_after ds ≡ section_after es → section_after (ds ++ xs) ≡ section_after (es ++ xs)
 present_on ds es xs same = last_on 0 ds xs ∙ ap (λ (r : ℕ). last_record r xs) same ∙ sym (last_on 0 es xs)
 
 -- ---- the object, after them

@@ -8,10 +8,10 @@ use Rattle.byteorder.specs.Numbers.{big_number-reads_back}
 use Rattle.iim_dataset.specs.Format.Octets.{IsOctet}
 use Rattle.iim_dataset.specs.Format.Datasets.{Dataset, SpellsCount, SpellsTag, SpellsStream, canonical_count, canonical_tag, canonical_dataset, canonical_stream, count_octets, head_of, of_record, written_number}
 use Rattle.iim_dataset.specs.Format.Languages.{IsAlive}
-use Rattle.iim_dataset.specs.Format.Laws.{HasSpellings}
+use Rattle.iim_dataset.specs.Laws.Datasets.{HasSpellings}
 use Rattle.iim_dataset.specs.Format.Splits.{Begun, InTag, InData, IsBegun, Reads}
 use Rattle.iim_dataset.specs.declared.head.Head.{Head}
-use Rattle.iim_fields.specs.Format.Faults.{is_kept, joined, present_record}
+use Rattle.iim_fields.specs.Format.Faults.{is_kept, joined, section_after}
 use Rattle.iim_fields.specs.Format.Records.{AreSections}
 use Rattle.iim_fields.specs.Format.Values.{tells_number}
 use Rattle.iim_object.specs.Format.Numbers.{place_after_datasets, place_ended, ending_of}
@@ -20,14 +20,16 @@ use Rattle.iim_object.specs.Format.Packing.{number_dataset, subfile_datasets}
 use Rattle.iim_object.specs.Format.Places.{ending_tokens}
 use Rattle.iim_object.specs.Format.Places as objects
 use Rattle.iim_object.specs.Format.Records.{lengths_of, numbers_of}
-use Rattle.iim_object.specs.Format.Saved.{IsPossible}
+use Rattle.iim_object.specs.States.Saved.{IsPossible}
 use Rattle.iim_object.specs.Format.Sizes.{Stated}
-use Rattle.iim_object.specs.Format.Within.{TokensWithin, LanguageWithin, PlacesLiveWithin}
+use Rattle.iim_object.specs.Format.Within.{TokensWithin, LanguageWithin}
+use Rattle.iim_object.specs.Laws.Within.{PlacesLiveWithin}
 use Rattle.iim_unpack.specs.LowerLaws.{OpenLaws}
 use Rattle.iim_unpack.specs.Format.Admitted.{object_of}
 use Rattle.iim_unpack.specs.Format.Open.{AllCanContinue, object_so_far, section}
-use Rattle.iim_unpack.specs.Format.Possible.{Possible, AreOpenOrWhole, IsSmall, IsSmallPhase, IsSmallPlace, LimitsAreToldByPlace, AreHeadsWithin, greatest_size_before, widest}
-use Rattle.iim_unpack.specs.Format.Scales.{FitsRow, SectionsLiveIn, HaveRoomIn, PossibleAt, SmallPlacesWerePossible, place_in, first_scale}
+use Rattle.iim_unpack.specs.States.Possible.{Possible, AreOpenOrWhole, IsSmall, IsSmallPhase, IsSmallPlace, AreHeadsWithin, greatest_size_before, widest}
+use Rattle.iim_unpack.specs.Laws.Places.{LimitsAreToldByPlace, SmallPlacesWerePossible}
+use Rattle.iim_unpack.specs.States.Scales.{FitsRow, SectionsLiveIn, HaveRoomIn, PossibleAt, place_in, first_scale}
 use Rattle.iim_unpack.specs.Format.Tickets.{Place, IsPlaceOf, TagBegun, AllEnded, phase_of}
 use Rattle.iim_unpack.specs.Format.Tokens.{CanContinueAt, MayContinue, ObjectLives, place_at}
 use Rattle.iim_unpack.specs.Plain.{Numbers, number_list, mode_dataset, one_dataset, plain_numbers, filled, plain_end, plain, plain_place, plain_octets, IsPlain, begun_object}
@@ -214,10 +216,10 @@ sum_in ds (InData h got) rest is low small = sum_low ds h.count got (nat_eq h.re
 
 -- some octets that spell it with few count octets
 small_begun : OpenLaws → (ds : List Dataset) (b : Begun) (rest : List ℕ) → IsBegun count_octets b rest → MayContinue widest ds b → (AreSections ds → ⊥) → IsSmallPhase (section ds b) (length (object_so_far ds b)) (phase_of ds b) → (r : List ℕ) × IsBegun 4 b r
-small_begun laws ds (InTag held) rest is goes unfinished small = by (nat_eq (present_record ds) 9) refl small
+small_begun laws ds (InTag held) rest is goes unfinished small = by (nat_eq (section_after ds) 9) refl small
   where
-    by : (c : Bool) → nat_eq (present_record ds) 9 ≡ c → IsSmallPhase (present_record ds) (length (object_of ds)) (if c then AllEnded else TagBegun held) → (r : List ℕ) × IsBegun 4 (InTag held) r
-    by true nine s = absurd (unfinished (last_sections laws.answer.follow.ends ds goes.records (eqb-true (present_record ds) 9 nine)))
+    by : (c : Bool) → nat_eq (section_after ds) 9 ≡ c → IsSmallPhase (section_after ds) (length (object_of ds)) (if c then AllEnded else TagBegun held) → (r : List ℕ) × IsBegun 4 (InTag held) r
+    by true nine s = absurd (unfinished (last_sections laws.answer.follow.ends ds goes.records (eqb-true (section_after ds) 9 nine)))
     by false other s = (held, (refl, s.head, held ++ s.more, s.whole, (s.more, s.some_more, refl)))
 small_begun laws ds (InData h got) rest (tag, spelled, less, octets, parts) goes unfinished small = (canonical_tag h ++ got, (canonical_tag h, few_tag h spelled.rec spelled.set few, less, octets, refl))
   where

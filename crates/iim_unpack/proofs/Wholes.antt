@@ -5,23 +5,23 @@ use Rattle.std.proofs.lemmas.List.Concat.{flat_map-append}
 use Rattle.std.proofs.lemmas.Bool.Decides.{eqb_tells}
 use Rattle.iim_dataset.specs.Format.Datasets.{Dataset, head_of}
 use Rattle.iim_dataset.specs.Format.Splits.{InTag}
-use Rattle.iim_dataset.specs.Format.Events.{DatasetEvent, HeadRead, DataOctet, DatasetEnd, events_of, handed_on}
+use Rattle.iim_dataset.specs.States.Events.{DatasetEvent, HeadRead, DataOctet, DatasetEnd, events_of, handed_on}
 use Rattle.iim_dataset.specs.declared.head.Head.{Head}
 use Rattle.iim_fields.specs.Format.Faults.{is_kept}
-use Rattle.iim_fields.specs.Format.Checks.{begun_head}
-use Rattle.iim_fields.specs.Format.Standing as records
-use Rattle.iim_fields.specs.Format.Standing.{FieldsPlace, IsBetween, section_of, begun_head_of}
+use Rattle.iim_fields.specs.States.Checks.{begun_head}
+use Rattle.iim_fields.specs.States.Standing as records
+use Rattle.iim_fields.specs.States.Standing.{FieldsPlace, IsBetween, section_of, begun_head_of}
 use Rattle.iim_fields.specs.Format.Values.{data_of, tells_number}
 use Rattle.iim_dataset.specs.Format.Octets.{number}
 use Rattle.iim_object.specs.Format.Objects.{NumberRead}
-use Rattle.iim_object.specs.Format.Reading as objects
+use Rattle.iim_object.specs.States.Reading as objects
 use Rattle.iim_object.specs.Format.Numbers.{place_after_datasets, place_ended}
 use Rattle.wire_message.specs.Format.Layers.{text_so_far}
-use Rattle.wire_message.specs.Format.Reading as wire
+use Rattle.wire_message.specs.States.Reading as wire
 use Rattle.iim_unpack.specs.Format.Admitted.{object_of}
 use Rattle.iim_unpack.specs.Format.Tokens.{place_at}
-use Rattle.iim_unpack.specs.Format.Parts.{AreAfter, has_ended}
-use Rattle.iim_unpack.specs.Parts.{TakesHead, WentWhole}
+use Rattle.iim_unpack.specs.States.Parts.{AreAfter, has_ended}
+use Rattle.iim_unpack.specs.PartSteps.{TakesHead, TellsWhole}
 use Rattle.iim_unpack.specs.Routing.{HasEnded}
 use Rattle.iim_unpack.specs.LowerLaws.{CloseLaws}
 use Rattle.iim_unpack.specs.declared.parts.Parts.{Parts}
@@ -111,9 +111,9 @@ after_end laws p new ds h xs nine at fields leads whole message =
       ended = λ _. subst wire.IsWhole (sym message) whole;
     }
 
-went_one : (p new : Parts) (h : Head) (xs : List ℕ) → IsBetween p.fields → nat_eq h.rec 8 ≡ false → h.count ≡ length xs → records.limits_of new.fields ≡ records.limits_of p.fields
-    → ((ds : List Dataset) → AreAfter p ds → AreAfter new (ds ++ data_of h xs ∷ [])) → WentWhole p h xs new
-went_one p new h xs between eight count limits after = record {
+tells_parts_one : (p new : Parts) (h : Head) (xs : List ℕ) → IsBetween p.fields → nat_eq h.rec 8 ≡ false → h.count ≡ length xs → records.limits_of new.fields ≡ records.limits_of p.fields
+    → ((ds : List Dataset) → AreAfter p ds → AreAfter new (ds ++ data_of h xs ∷ [])) → TellsWhole p h xs new
+tells_parts_one p new h xs between eight count limits after = record {
   limits = limits;
   leads = λ before text led.
       let at = after_all p before text between led in
@@ -128,21 +128,21 @@ went_one p new h xs between eight count limits after = record {
 }
 
 pub whole_went : CloseLaws → (p new : Parts) (h : Head) (xs : List ℕ) → IsBetween p.fields → is_kept h.rec ≡ true → h.count ≡ length xs → records.limits_of new.fields ≡ records.limits_of p.fields
-    → ((ds : List Dataset) → records.StandsAfter p.fields ds → records.StandsAfter new.fields (ds ++ data_of h xs ∷ [])) → new.object ≡ p.object → new.message ≡ p.message → WentWhole p h xs new
+    → ((ds : List Dataset) → records.StandsAfter p.fields ds → records.StandsAfter new.fields (ds ++ data_of h xs ∷ [])) → new.object ≡ p.object → new.message ≡ p.message → TellsWhole p h xs new
 whole_went laws p new h xs between kept count limits stands object message =
     let k = keeps h.rec kept in
-    went_one p new h xs between k.eight count limits (λ ds at. after_whole laws p new ds h xs k at (stands ds at.fields) object message)
+    tells_parts_one p new h xs between k.eight count limits (λ ds at. after_whole laws p new ds h xs k at (stands ds at.fields) object message)
 
 pub number_went : CloseLaws → (p new : Parts) (h : Head) (xs : List ℕ) → IsBetween p.fields → h.rec ≡ 7 → h.count ≡ length xs → records.limits_of new.fields ≡ records.limits_of p.fields
-    → ((ds : List Dataset) → records.StandsAfter p.fields ds → records.StandsAfter new.fields (ds ++ data_of h xs ∷ [])) → objects.LeadsOn p.object (NumberRead h.set (number xs)) new.object → new.message ≡ p.message → WentWhole p h xs new
+    → ((ds : List Dataset) → records.StandsAfter p.fields ds → records.StandsAfter new.fields (ds ++ data_of h xs ∷ [])) → objects.LeadsOn p.object (NumberRead h.set (number xs)) new.object → new.message ≡ p.message → TellsWhole p h xs new
 number_went laws p new h xs between seven count limits stands leads message =
-    went_one p new h xs between (ap (λ (r : ℕ). nat_eq r 8) seven) count limits (λ ds at. after_number laws p new ds h xs seven at (stands ds at.fields) leads message)
+    tells_parts_one p new h xs between (ap (λ (r : ℕ). nat_eq r 8) seven) count limits (λ ds at. after_number laws p new ds h xs seven at (stands ds at.fields) leads message)
 
 pub end_went : CloseLaws → (p new : Parts) (h : Head) (xs : List ℕ) → IsBetween p.fields → h.rec ≡ 9 → h.count ≡ length xs → records.limits_of new.fields ≡ records.limits_of p.fields
     → ((ds : List Dataset) → records.StandsAfter p.fields ds → records.StandsAfter new.fields (ds ++ data_of h xs ∷ [])) → objects.EndsAs p.object (number xs) new.object → wire.IsWhole p.message → new.message ≡ p.message
-    → WentWhole p h xs new
+    → TellsWhole p h xs new
 end_went laws p new h xs between nine count limits stands leads whole message =
-    went_one p new h xs between (ap (λ (r : ℕ). nat_eq r 8) nine) count limits (λ ds at. after_end laws p new ds h xs nine at (stands ds at.fields) leads whole message)
+    tells_parts_one p new h xs between (ap (λ (r : ℕ). nat_eq r 8) nine) count limits (λ ds at. after_end laws p new ds h xs nine at (stands ds at.fields) leads whole message)
 
 -- ---- what it takes next
 

@@ -3,19 +3,19 @@ use Rattle.std.specs.Prelude.{◌≡◌, ◌↔◌, ℕ, zero, suc, ◌-◌, ◌
 use Rattle.std.specs.List.{AllByRecursion}
 use Rattle.iim_dataset.specs.Format.Octets.{Octets}
 use Rattle.iim_dataset.specs.Format.Datasets.{Dataset, count_octets}
-use Rattle.iim_dataset.specs.Format.Places.{IsPlace}
+use Rattle.iim_dataset.specs.States.Places.{IsPlace}
 use Rattle.iim_dataset.specs.Format.Tags.{BeginsTag}
 use Rattle.iim_dataset.specs.declared.head.Head.{Head}
 use Rattle.iim_dataset.specs.declared.place.DatasetPlace.TheVariants.{Inside}
 use Rattle.iim_fields.specs.Format.Alive.{SectionsLive, SectionsLiveAt}
-use Rattle.iim_fields.specs.Format.Faults.{is_kept, present_record}
+use Rattle.iim_fields.specs.Format.Faults.{is_kept, section_after}
 use Rattle.iim_object.specs.Format.Objects.{ObjectEnded, Confirmed}
 use Rattle.iim_object.specs.Format.Places as objects
-use Rattle.iim_object.specs.Format.Saved.{IsAt, IsPossible}
-use Rattle.wire_message.specs.Format.Saved.{LeadToSaved}
+use Rattle.iim_object.specs.States.Saved.{IsAt, IsPossible}
+use Rattle.wire_message.specs.States.Saved.{LeadsToSaved}
 use Rattle.wire_message.specs.declared.saved.MessagePart.TheVariants.{AfterEnd}
 use Rattle.iim_unpack.specs.Plain.{Numbers, number_list, plain}
-use Rattle.iim_unpack.specs.Format.Possible.{Possible, widest, AreHeadsWithin}
+use Rattle.iim_unpack.specs.States.Possible.{Possible, widest, AreHeadsWithin}
 use Rattle.iim_unpack.specs.Format.TicketForm.{came}
 use Rattle.iim_unpack.specs.Format.Tickets.{Place, Phase, TagBegun, DataBegun, AllEnded}
 
@@ -59,7 +59,7 @@ record_datasets p numbers = plain p.fields numbers (one_of_some (p.heads - begun
 
 -- The layer can continue after the whole datasets with what is begun, and the section is the record of the last head.
 abbrev pub RecordsLive : ℕ → Phase → List Dataset → Type 0
-RecordsLive section (TagBegun held) ds = (present_record ds ≡ section) × SectionsLive ds
+RecordsLive section (TagBegun held) ds = (section_after ds ≡ section) × SectionsLive ds
 RecordsLive section (DataBegun set count left taken) ds = SectionsLiveAt ds (head_of_numbers section set count)
 RecordsLive section AllEnded ds = (section ≡ 9) × SectionsLive ds
 
@@ -86,7 +86,7 @@ ObjectLeads place = (p : objects.Place) × IsAt place.numbers place.taken (begun
 
 -- Some octets, `place.taken` of them, lead to the message's place, and where the object has ended, so has the message.
 abbrev pub MessageLeads : Place → Type 0
-MessageLeads place = (octets : List ℕ) × (text : List ℕ) × LeadToSaved octets text place.message × (length octets ≡ place.taken)
+MessageLeads place = (octets : List ℕ) × (text : List ℕ) × LeadsToSaved octets text place.message × (length octets ≡ place.taken)
     × (place.section ≡ 9 → place.message.part ≡ AfterEnd)
 
 -- ---- all of them

@@ -6,7 +6,7 @@ use Rattle.std.specs.List.{AllByRecursion, flat_map}
 use Rattle.std.proofs.lemmas.Nat.{from_be_bytes-to_be_bytes_4}
 use Rattle.iim_dataset.specs.Format.Datasets.{Dataset}
 use Rattle.iim_unpack.specs.Format.Tickets.{four, field_octets}
-use Rattle.iim_unpack.specs.Format.Begins.{IsLongField}
+use Rattle.iim_unpack.specs.States.Begins.{IsLongField}
 use Rattle.iim_unpack.specs.TicketFields.{HoldsFields}
 use mathlib.Core.HLevel.{Σ_prop_path}
 

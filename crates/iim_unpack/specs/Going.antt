@@ -1,18 +1,18 @@
 -- What is told one after another is told joined: the laws of the router.
 use Rattle.std.proofs.Common.{◌≡◌, ℕ, Bool, true, false, List, [], ◌∷◌, ◌++◌, map, Option, Some, None, is_some, refl, sym, ap, subst, ◌∙◌, append_assoc, append-nil}
 use Rattle.std.proofs.lemmas.List.Concat.{flat_map-append}
-use Rattle.iim_dataset.specs.Format.Events.{DatasetEvent, HeadRead, DataOctet, DatasetEnd}
+use Rattle.iim_dataset.specs.States.Events.{DatasetEvent, HeadRead, DataOctet, DatasetEnd}
 use Rattle.iim_dataset.specs.declared.head.Head.{Head}
-use Rattle.iim_fields.specs.Format.Standing.{limits_of}
+use Rattle.iim_fields.specs.States.Standing.{limits_of}
 use Rattle.iim_fields.specs.declared.check.RecordPlace.{RecordPlace}
 use Rattle.iim_fields.specs.declared.limits.Limits.{Limits}
 use Rattle.wire_story.specs.Format.Delivery as story
-use Rattle.iim_unpack.specs.Format.Parts.{Led, Refused, CountsFor}
-use Rattle.iim_unpack.specs.Parts.{Went, WentWhole, WasStopped, Closed, NotClosed}
+use Rattle.iim_unpack.specs.States.Parts.{AreLed, Refused, CountsFor}
+use Rattle.iim_unpack.specs.PartSteps.{TellsParts, TellsWhole, PartsRefuse, Closed, NotClosed}
 use Rattle.iim_unpack.specs.Routing.{Takes, HasEnded}
 use Rattle.iim_unpack.specs.Sequence.{AreInOrder}
 use Rattle.iim_unpack.specs.declared.parts.Parts.{Parts}
-use Rattle.iim_unpack.specs.declared.fault.TokenFault.{TokenFault}
+use Rattle.iim_unpack.specs.declared.parts.fault.TokenFault.{TokenFault}
 
 delivered-append : (x y : List ℕ) → story.delivered (x ++ y) ≡ story.delivered x ++ story.delivered y
 delivered-append x y = flat_map-append story.events_of x y
@@ -21,35 +21,35 @@ delivered-append x y = flat_map-append story.events_of x y
 pub front_in_order : (xs ys : List DatasetEvent) → AreInOrder (xs ++ ys) → AreInOrder xs
 front_in_order xs ys order = record { later = ys ++ order.later; whole = order.whole; are = sym (append_assoc xs ys order.later) ∙ order.are }
 
-pub went_nothing : {S : Type 0} (goes : S → List story.StoryEvent → S → Type 0) (failures : S → ℕ) (old : Parts) (a : S) → goes a [] a → Went goes failures old a [] old a
-went_nothing goes failures old a g = record {
+pub tells_parts_nothing : {S : Type 0} (goes : S → List story.StoryEvent → S → Type 0) (failures : S → ℕ) (old : Parts) (a : S) → goes a [] a → TellsParts goes failures old a [] old a
+tells_parts_nothing goes failures old a g = record {
   limits = refl;
   more = [];
   told = g;
   calm = refl;
   leads = λ before text order led.
-      subst (λ (t : List ℕ). Led old (before ++ []) t) (sym (append-nil text)) (subst (λ (es : List DatasetEvent). Led old es text) (sym (append-nil before)) led);
+      subst (λ (t : List ℕ). AreLed old (before ++ []) t) (sym (append-nil text)) (subst (λ (es : List DatasetEvent). AreLed old es text) (sym (append-nil before)) led);
 }
 
-pub went_joined : {S : Type 0} (goes : S → List story.StoryEvent → S → Type 0) (failures : S → ℕ)
+pub tells_parts_joined : {S : Type 0} (goes : S → List story.StoryEvent → S → Type 0) (failures : S → ℕ)
     → ((a b c : S) (xs ys : List story.StoryEvent) → goes a xs b → goes b ys c → goes a (xs ++ ys) c)
-    → (p q r : Parts) (a b c : S) (xs ys : List DatasetEvent) → Went goes failures p a xs q b → Went goes failures q b ys r c → Went goes failures p a (xs ++ ys) r c
-went_joined goes failures joined p q r a b c xs ys h k = record {
+    → (p q r : Parts) (a b c : S) (xs ys : List DatasetEvent) → TellsParts goes failures p a xs q b → TellsParts goes failures q b ys r c → TellsParts goes failures p a (xs ++ ys) r c
+tells_parts_joined goes failures joined p q r a b c xs ys h k = record {
   limits = k.limits ∙ h.limits;
   more = h.more ++ k.more;
   told = subst (λ (es : List story.StoryEvent). goes a es c) (sym (delivered-append h.more k.more)) (joined a b c (story.delivered h.more) (story.delivered k.more) h.told k.told);
   calm = k.calm ∙ h.calm;
   leads = λ before text order led.
       let in_order : AreInOrder ((before ++ xs) ++ ys) = subst AreInOrder (sym (append_assoc before xs ys)) order in
-      subst (λ (t : List ℕ). Led r (before ++ (xs ++ ys)) t) (append_assoc text h.more k.more)
-      (subst (λ (es : List DatasetEvent). Led r es ((text ++ h.more) ++ k.more)) (append_assoc before xs ys)
+      subst (λ (t : List ℕ). AreLed r (before ++ (xs ++ ys)) t) (append_assoc text h.more k.more)
+      (subst (λ (es : List DatasetEvent). AreLed r es ((text ++ h.more) ++ k.more)) (append_assoc before xs ys)
       (k.leads (before ++ xs) (text ++ h.more) in_order (h.leads before text (front_in_order (before ++ xs) ys in_order) led)));
 }
 
 pub stopped_joined : {S : Type 0} (goes : S → List story.StoryEvent → S → Type 0) (failures : S → ℕ)
     → ((a b c : S) (xs ys : List story.StoryEvent) → goes a xs b → goes b ys c → goes a (xs ++ ys) c)
-    → (p q : Parts) (a b c : S) (xs ys : List DatasetEvent) (event : DatasetEvent) (refused : Option TokenFault) → Went goes failures p a xs q b → WasStopped goes failures q b ys event refused c
-    → WasStopped goes failures p a (xs ++ ys) event refused c
+    → (p q : Parts) (a b c : S) (xs ys : List DatasetEvent) (event : DatasetEvent) (refused : Option TokenFault) → TellsParts goes failures p a xs q b → PartsRefuse goes failures q b ys event refused c
+    → PartsRefuse goes failures p a (xs ++ ys) event refused c
 stopped_joined goes failures joined p q a b c xs ys event refused h k = record {
   fault = k.fault;
   is_fault = k.is_fault;
@@ -65,29 +65,29 @@ stopped_joined goes failures joined p q a b c xs ys event refused h k = record {
 }
 
 -- the end of a dataset, with which nothing is delivered
-pub went_closed : {S : Type 0} (goes : S → List story.StoryEvent → S → Type 0) (failures : S → ℕ) (old new : Parts) (a : S) → goes a [] a → Closed old new → Went goes failures old a (DatasetEnd ∷ []) new a
-went_closed goes failures old new a nothing closed = record {
+pub tells_parts_closed : {S : Type 0} (goes : S → List story.StoryEvent → S → Type 0) (failures : S → ℕ) (old new : Parts) (a : S) → goes a [] a → Closed old new → TellsParts goes failures old a (DatasetEnd ∷ []) new a
+tells_parts_closed goes failures old new a nothing closed = record {
   limits = closed.limits;
   more = [];
   told = nothing;
   calm = refl;
-  leads = λ before text order led. subst (Led new (before ++ DatasetEnd ∷ [])) (sym (append-nil text)) (closed.leads before text order led);
+  leads = λ before text order led. subst (AreLed new (before ++ DatasetEnd ∷ [])) (sym (append-nil text)) (closed.leads before text order led);
 }
 
 -- a whole dataset, with which nothing is delivered
-pub went_whole : {S : Type 0} (goes : S → List story.StoryEvent → S → Type 0) (failures : S → ℕ) (old new : Parts) (h : Head) (xs : List ℕ) (a : S) → goes a [] a → WentWhole old h xs new
-    → Went goes failures old a (HeadRead h ∷ (map DataOctet xs ++ DatasetEnd ∷ [])) new a
-went_whole goes failures old new h xs a nothing whole = record {
+pub tells_parts_whole : {S : Type 0} (goes : S → List story.StoryEvent → S → Type 0) (failures : S → ℕ) (old new : Parts) (h : Head) (xs : List ℕ) (a : S) → goes a [] a → TellsWhole old h xs new
+    → TellsParts goes failures old a (HeadRead h ∷ (map DataOctet xs ++ DatasetEnd ∷ [])) new a
+tells_parts_whole goes failures old new h xs a nothing whole = record {
   limits = whole.limits;
   more = [];
   told = nothing;
   calm = refl;
-  leads = λ before text order led. subst (Led new (before ++ (HeadRead h ∷ (map DataOctet xs ++ DatasetEnd ∷ [])))) (sym (append-nil text)) (whole.leads before text led);
+  leads = λ before text order led. subst (AreLed new (before ++ (HeadRead h ∷ (map DataOctet xs ++ DatasetEnd ∷ [])))) (sym (append-nil text)) (whole.leads before text led);
 }
 
 -- the end of a dataset, of which no sink is told
 pub stopped_closed : {S : Type 0} (goes : S → List story.StoryEvent → S → Type 0) (failures : S → ℕ) (p : Parts) (a : S) (fault : TokenFault) → goes a [] a → NotClosed p fault
-    → WasStopped goes failures p a [] DatasetEnd (Some fault) a
+    → PartsRefuse goes failures p a [] DatasetEnd (Some fault) a
 stopped_closed goes failures p a fault g bad = record {
   fault = fault;
   is_fault = refl;

@@ -1,18 +1,22 @@
--- What the promises cite: a reader has to believe these.
+-- What octets are, and what is said of them.
 pub mod Format
+-- Where readers and writers stand.
+pub mod States
+-- What holds of these: statements, each the contract of a law.
+pub mod Laws
 -- What only proofs and private clauses cite.
-pub mod Blocks
-pub mod Intakes
+pub mod UnpackerInside
+pub mod HeldOctets
+pub mod IntakeSteps
 pub mod Passed
 pub mod Passing
 pub mod Sequence
-pub mod Parts
+pub mod PartSteps
 pub mod Going
 pub mod Routing
-pub mod Unpacking
 pub mod LowerLaws
-pub mod Tickets
-pub mod Begins
+pub mod TicketReading
+pub mod Shortfalls
 pub mod TicketFields
 pub mod FieldLaws
 pub mod TicketParts
@@ -21,4 +25,4 @@ pub mod ByLayers
 pub mod Taking
 pub mod Restoring
 pub mod Nowhere
-pub mod Pieces
+pub mod PiecesSoFar

@@ -1,7 +1,7 @@
 -- A sink of objects that takes all, and keeps nothing.
 use Rattle.std.specs.Prelude.{List, ◌++◌, ⊤}
 use Rattle.iim_object.specs.Format.Events.{ObjectEvent}
-use Rattle.iim_unpack.specs.declared.object_place.Nowhere.{Nowhere}
+use Rattle.iim_unpack.specs.declared.ticket.object.Nowhere.{Nowhere}
 
 abbrev pub goes_nowhere : Nowhere → List ObjectEvent → Nowhere → Type 0
 goes_nowhere a events b = ⊤

@@ -3,22 +3,22 @@ use Rattle.std.specs.Prelude.{◌≡◌, ℕ, Bool, true, false, List, [], ◌�
 use Rattle.iim_object.specs.Format.Events.{ObjectEvent, ObjectOctet, ObjectEnd}
 use Rattle.iim_dataset.specs.declared.head.Head.{Head}
 use Rattle.iim_object.specs.Format.Objects.{ObjectToken, ObjectEnded}
-use Rattle.iim_object.specs.Format.Places.{head_token}
-use Rattle.iim_object.specs.Format.Places.{Place as ObjectPlace}
+use Rattle.iim_object.specs.Format.Places.{head_token, Place as ObjectPlace}
 use Rattle.iim_object.specs.Format.Plans.{max_subfiles}
-use Rattle.iim_object.specs.Format.Reading as objects
-use Rattle.iim_object.specs.Format.Reading.{Refuses, LivesWith}
-use Rattle.iim_object.specs.declared.state.State.{State}
-use Rattle.iim_object.specs.declared.fault.SizeCause.{SizeCause}
-use Rattle.iim_object.specs.declared.fault.ObjectFault.{ObjectFault}
-use Rattle.iim_object.specs.declared.fault.ObjectFault.TheVariants.{Size, Stopped}
+use Rattle.iim_object.specs.States.Reading as objects
+use Rattle.iim_object.specs.States.Reading.{Refuses, LivesWith}
+use Rattle.iim_object.specs.declared.reading.state.State.{State}
+use Rattle.iim_object.specs.declared.reading.fault.SizeCause.{SizeCause}
+use Rattle.iim_object.specs.declared.reading.fault.ObjectFault.{ObjectFault}
+use Rattle.iim_object.specs.declared.reading.fault.ObjectFault.TheVariants.{Size, Stopped}
 use Rattle.iim_unpack.specs.Format.Refusals.{size_on, message_on, too_many_on}
-use Rattle.iim_unpack.specs.declared.fault.TokenFault.{TokenFault}
-use Rattle.iim_unpack.specs.declared.message.ToMessage.{ToMessage}
+use Rattle.iim_unpack.specs.declared.parts.fault.TokenFault.{TokenFault}
+use Rattle.iim_unpack.specs.declared.parts.message.ToMessage.{ToMessage}
 use Rattle.wire_story.specs.Format.Delivery as story
 use Rattle.wire_story.specs.Format.Tokens.{End}
 use Rattle.wire_message.specs.Format.Layers.{MessageDiesAt}
-use Rattle.wire_message.specs.Format.Reading.{StandsAt, LeadsOn, GoesSomewhere, HasCause, CountsCause, IsWhole}
+use Rattle.wire_message.specs.States.Reading.{StandsAt, LeadsOn, GoesSomewhere, CountsCause, IsWhole}
+use Rattle.wire_message.specs.Format.Causes.{HasCause}
 use Rattle.wire_message.specs.declared.place.Place.{Place}
 use Rattle.wire_message.specs.declared.fault.MessageCause.{MessageCause}
 use Rattle.wire_message.specs.declared.fault.MessageCause.TheVariants.{Unfinished}
@@ -36,7 +36,7 @@ end_is_last b (ObjectOctet x ∷ es) = end_is_last false es
 end_is_last b (ObjectEnd ∷ es) = end_is_last true es
 
 -- The reader took the events, and the sink was told what is delivered of the text that they add.
-pub record Passed {S : Type 0} (goes : S → List story.StoryEvent → S → Type 0) (failures : S → ℕ) (old : Option Place) (a : S) (events : List ObjectEvent) (new : Option Place) (b : S) : Type 0 where
+pub record TellsMessage {S : Type 0} (goes : S → List story.StoryEvent → S → Type 0) (failures : S → ℕ) (old : Option Place) (a : S) (events : List ObjectEvent) (new : Option Place) (b : S) : Type 0 where
   pub takes_calls : IsSome new
   pub more : List ℕ
   pub told : goes a (story.delivered more) b
@@ -50,7 +50,7 @@ HasCauseAt cause octets (ObjectOctet b) = HasCause cause octets b
 HasCauseAt cause octets ObjectEnd = (cause ≡ Unfinished) × MessageDiesAt octets End
 
 -- The reader took the events and refused the next one for this cause; the sink was told what is delivered of those.
-pub record Halted {S : Type 0} (goes : S → List story.StoryEvent → S → Type 0) (failures : S → ℕ) (old : Option Place) (a : S) (events : List ObjectEvent) (refused : ObjectEvent) (cause : Option MessageCause) (b : S) : Type 0 where
+pub record MessageRefuses {S : Type 0} (goes : S → List story.StoryEvent → S → Type 0) (failures : S → ℕ) (old : Option Place) (a : S) (events : List ObjectEvent) (refused : ObjectEvent) (cause : Option MessageCause) (b : S) : Type 0 where
   pub why : MessageCause
   pub is_cause : cause ≡ Some why
   pub more : List ℕ
@@ -63,12 +63,12 @@ pub record Halted {S : Type 0} (goes : S → List story.StoryEvent → S → Typ
 abbrev pub RefusesOctet : {S : Type 0} → (S → List story.StoryEvent → S → Type 0) → (S → ℕ) → Option Place → S → List ℕ → Option MessageCause → S → ObjectFault → Type 0
 RefusesOctet goes failures old a run cause b (Size why) = ⊥
 RefusesOctet goes failures old a run cause b (Stopped stop) = (stop.taken < length run)
-    × Halted goes failures old a (map ObjectOctet (take stop.taken run)) (ObjectOctet (slice_index run stop.taken)) cause b
+    × MessageRefuses goes failures old a (map ObjectOctet (take stop.taken run)) (ObjectOctet (slice_index run stop.taken)) cause b
 
 -- The object refused a token of a head; or it took the end, and the message refused it.
 abbrev pub RefusesEnd : {S : Type 0} → (S → List story.StoryEvent → S → Type 0) → (S → ℕ) → Option State → ObjectToken → Option Place → S → Option MessageCause → S → ObjectFault → Type 0
 RefusesEnd goes failures object token old a cause b (Size why) = Refuses object token why × ((more : List ℕ) × goes a (story.delivered more) b × (failures b ≡ failures a) × GoesSomewhere old [] more)
-RefusesEnd goes failures object token old a cause b (Stopped stop) = (token ≡ ObjectEnded) × LivesWith object token × Halted goes failures old a [] ObjectEnd cause b
+RefusesEnd goes failures object token old a cause b (Stopped stop) = (token ≡ ObjectEnded) × LivesWith object token × MessageRefuses goes failures old a [] ObjectEnd cause b
 
 -- The fault is the object's, and the sink was told nothing; or it is the message's at the end of the object.
 pub record RefusesBySize {S : Type 0} (goes : S → List story.StoryEvent → S → Type 0) (failures : S → ℕ) (object : Option State) (message : Option Place) (h : Head) (a b : S) (fault : TokenFault) : Type 0 where
@@ -84,7 +84,7 @@ pub record RefusesAtEnd {S : Type 0} (goes : S → List story.StoryEvent → S �
   pub token : head_token h.rec h.count ≡ ObjectEnded
   pub lives : LivesWith object (head_token h.rec h.count)
   pub cause : MessageCause
-  pub halted : Halted goes failures message a [] ObjectEnd (Some cause) b
+  pub halted : MessageRefuses goes failures message a [] ObjectEnd (Some cause) b
   pub is_fault : fault ≡ message_on h cause
 
 abbrev pub RefusesObject : {S : Type 0} → (S → List story.StoryEvent → S → Type 0) → (S → ℕ) → Option State → Option Place → Head → S → S → TokenFault → Type 0
@@ -106,8 +106,8 @@ RefusesSubfile goes failures object message h a b fault =
 -- the same of the sink that holds a reader and a sink: its references stay what they are
 abbrev pub PassesTo : {S : Type 0} → (S → List story.StoryEvent → S → Type 0) → (S → ℕ) → ToMessage S → List ObjectEvent → ToMessage S → Type 0
 PassesTo goes failures a events b = (a.message.ghost_name ≡ b.message.ghost_name) × (a.sink.ghost_name ≡ b.sink.ghost_name)
-    × (IsSome a.message.now → Passed goes failures a.message.now a.sink.now events b.message.now b.sink.now)
+    × (IsSome a.message.now → TellsMessage goes failures a.message.now a.sink.now events b.message.now b.sink.now)
 
 abbrev pub HaltsAt : {S : Type 0} → (S → List story.StoryEvent → S → Type 0) → (S → ℕ) → ToMessage S → List ObjectEvent → ObjectEvent → ToMessage S → Type 0
 HaltsAt goes failures a events refused b = (a.message.ghost_name ≡ b.message.ghost_name) × (a.sink.ghost_name ≡ b.sink.ghost_name)
-    × (IsSome a.message.now → Halted goes failures a.message.now a.sink.now events refused b.cause b.sink.now)
+    × (IsSome a.message.now → MessageRefuses goes failures a.message.now a.sink.now events refused b.cause b.sink.now)

@@ -5,13 +5,14 @@ use Rattle.std.proofs.lemmas.Bool.{eqb-true}
 use Rattle.iim_object.specs.Format.Events.{ObjectEvent, ObjectOctet, ObjectEnd}
 use Rattle.wire_story.specs.Format.Delivery as story
 use Rattle.wire_message.specs.Format.Layers.{MessageDiesAt}
-use Rattle.wire_message.specs.Format.Reading.{StandsAt, LeadsOn, GoesSomewhere, HasCause, CountsCause, IsWhole}
-use Rattle.wire_message.specs.Format.SoFar.{LeadTo}
+use Rattle.wire_message.specs.States.Reading.{StandsAt, LeadsOn, GoesSomewhere, CountsCause, IsWhole}
+use Rattle.wire_message.specs.Format.Causes.{HasCause}
+use Rattle.wire_message.specs.States.SoFar.{LeadsTo}
 use Rattle.wire_message.specs.declared.place.Place.{Place}
 use Rattle.wire_message.specs.declared.fault.MessageCause.{MessageCause}
 use Rattle.wire_message.specs.declared.fault.MessageCause.TheVariants.{Unfinished}
 use Rattle.wire_story.specs.Format.Tokens.{End}
-use Rattle.iim_unpack.specs.Passed.{octets_in, end_is_last, Passed, HasCauseAt, Halted}
+use Rattle.iim_unpack.specs.Passed.{octets_in, end_is_last, TellsMessage, HasCauseAt, MessageRefuses}
 
 pub octets_in-append : (xs ys : List ObjectEvent) → octets_in (xs ++ ys) ≡ octets_in xs ++ octets_in ys
 octets_in-append [] ys = refl
@@ -37,8 +38,8 @@ delivered-append x y = flat_map-append story.events_of x y
 goes_nowhere : (old : Option Place) → LeadsOn old [] [] old
 goes_nowhere old octets text at = subst (λ (t : List ℕ). StandsAt old (octets ++ []) t) (sym (append-nil text)) (subst (λ (o : List ℕ). StandsAt old o text) (sym (append-nil octets)) at)
 
-pub passed_nothing : {S : Type 0} (goes : S → List story.StoryEvent → S → Type 0) (failures : S → ℕ) (old : Option Place) (a : S) → IsSome old → goes a [] a → Passed goes failures old a [] old a
-passed_nothing goes failures old a some g = record {
+pub tells_message_nothing : {S : Type 0} (goes : S → List story.StoryEvent → S → Type 0) (failures : S → ℕ) (old : Option Place) (a : S) → IsSome old → goes a [] a → TellsMessage goes failures old a [] old a
+tells_message_nothing goes failures old a some g = record {
   takes_calls = some;
   more = [];
   told = g;
@@ -47,10 +48,10 @@ passed_nothing goes failures old a some g = record {
   whole = λ before w e. w e;
 }
 
-pub passed_joined : {S : Type 0} (goes : S → List story.StoryEvent → S → Type 0) (failures : S → ℕ)
+pub tells_message_joined : {S : Type 0} (goes : S → List story.StoryEvent → S → Type 0) (failures : S → ℕ)
     → ((a b c : S) (xs ys : List story.StoryEvent) → goes a xs b → goes b ys c → goes a (xs ++ ys) c)
-    → (p q r : Option Place) (a b c : S) (xs ys : List ObjectEvent) → Passed goes failures p a xs q b → Passed goes failures q b ys r c → Passed goes failures p a (xs ++ ys) r c
-passed_joined goes failures joined p q r a b c xs ys h k = record {
+    → (p q r : Option Place) (a b c : S) (xs ys : List ObjectEvent) → TellsMessage goes failures p a xs q b → TellsMessage goes failures q b ys r c → TellsMessage goes failures p a (xs ++ ys) r c
+tells_message_joined goes failures joined p q r a b c xs ys h k = record {
   takes_calls = k.takes_calls;
   more = h.more ++ k.more;
   told = subst (λ (es : List story.StoryEvent). goes a es c) (sym (delivered-append h.more k.more)) (joined a b c (story.delivered h.more) (story.delivered k.more) h.told k.told);
@@ -62,11 +63,11 @@ passed_joined goes failures joined p q r a b c xs ys h k = record {
   whole = λ before w e. k.whole (end_is_last before xs) (λ e'. h.whole before w e') (sym (is_ended-append before xs ys) ∙ e);
 }
 
-pub halted_joined : {S : Type 0} (goes : S → List story.StoryEvent → S → Type 0) (failures : S → ℕ)
+pub message_refuses_joined : {S : Type 0} (goes : S → List story.StoryEvent → S → Type 0) (failures : S → ℕ)
     → ((a b c : S) (xs ys : List story.StoryEvent) → goes a xs b → goes b ys c → goes a (xs ++ ys) c)
-    → (p q : Option Place) (a b c : S) (xs ys : List ObjectEvent) (refused : ObjectEvent) (cause : Option MessageCause) → Passed goes failures p a xs q b → Halted goes failures q b ys refused cause c
-    → Halted goes failures p a (xs ++ ys) refused cause c
-halted_joined goes failures joined p q a b c xs ys refused cause h k = record {
+    → (p q : Option Place) (a b c : S) (xs ys : List ObjectEvent) (refused : ObjectEvent) (cause : Option MessageCause) → TellsMessage goes failures p a xs q b → MessageRefuses goes failures q b ys refused cause c
+    → MessageRefuses goes failures p a (xs ++ ys) refused cause c
+message_refuses_joined goes failures joined p q a b c xs ys refused cause h k = record {
   why = k.why;
   is_cause = k.is_cause;
   more = h.more ++ k.more;
@@ -75,8 +76,8 @@ halted_joined goes failures joined p q a b c xs ys refused cause h k = record {
   leads = λ octets text at.
       let next = k.leads (octets ++ octets_in xs) (text ++ h.more) (h.stands octets text at) in (
         next.0,
-        subst (λ (t : List ℕ). LeadTo (octets ++ octets_in (xs ++ ys)) t next.0) (append_assoc text h.more k.more)
-            (subst (λ (o : List ℕ). LeadTo o ((text ++ h.more) ++ k.more) next.0) (append_assoc octets (octets_in xs) (octets_in ys) ∙ ap (λ zs. octets ++ zs) (sym (octets_in-append xs ys))) next.1),
+        subst (λ (t : List ℕ). LeadsTo (octets ++ octets_in (xs ++ ys)) t next.0) (append_assoc text h.more k.more)
+            (subst (λ (o : List ℕ). LeadsTo o ((text ++ h.more) ++ k.more) next.0) (append_assoc octets (octets_in xs) (octets_in ys) ∙ ap (λ zs. octets ++ zs) (sym (octets_in-append xs ys))) next.1),
       );
   has_cause = λ octets text at.
       subst (λ (o : List ℕ). HasCauseAt k.why o refused) (append_assoc octets (octets_in xs) (octets_in ys) ∙ ap (λ zs. octets ++ zs) (sym (octets_in-append xs ys)))
@@ -84,10 +85,10 @@ halted_joined goes failures joined p q a b c xs ys refused cause h k = record {
 }
 
 -- one run of octets, at least one
-pub passed_octets : {S : Type 0} (goes : S → List story.StoryEvent → S → Type 0) (failures : S → ℕ) (old new : Option Place) (a b : S) (run : List ℕ) (more : List ℕ)
-    → (run ≡ [] → ⊥) → IsSome new → goes a (story.delivered more) b → failures b ≡ failures a → LeadsOn old run more new → Passed goes failures old a (map ObjectOctet run) new b
-passed_octets goes failures old new a b [] more some takes told calm stands = absurd (some refl)
-passed_octets goes failures old new a b (x ∷ xs) more some takes told calm stands = record {
+pub tells_message_octets : {S : Type 0} (goes : S → List story.StoryEvent → S → Type 0) (failures : S → ℕ) (old new : Option Place) (a b : S) (run : List ℕ) (more : List ℕ)
+    → (run ≡ [] → ⊥) → IsSome new → goes a (story.delivered more) b → failures b ≡ failures a → LeadsOn old run more new → TellsMessage goes failures old a (map ObjectOctet run) new b
+tells_message_octets goes failures old new a b [] more some takes told calm stands = absurd (some refl)
+tells_message_octets goes failures old new a b (x ∷ xs) more some takes told calm stands = record {
   takes_calls = takes;
   more = more;
   told = told;
@@ -96,9 +97,9 @@ passed_octets goes failures old new a b (x ∷ xs) more some takes told calm sta
   whole = λ before w e. let bad : true ≡ false = sym e ∙ not_ended xs in cc;
 }
 
-pub passed_end : {S : Type 0} (goes : S → List story.StoryEvent → S → Type 0) (failures : S → ℕ) (old : Option Place) (a : S) → IsSome old → goes a [] a → IsWhole old
-    → Passed goes failures old a (ObjectEnd ∷ []) old a
-passed_end goes failures old a some g whole = record {
+pub tells_message_end : {S : Type 0} (goes : S → List story.StoryEvent → S → Type 0) (failures : S → ℕ) (old : Option Place) (a : S) → IsSome old → goes a [] a → IsWhole old
+    → TellsMessage goes failures old a (ObjectEnd ∷ []) old a
+tells_message_end goes failures old a some g whole = record {
   takes_calls = some;
   more = [];
   told = g;
@@ -107,10 +108,10 @@ passed_end goes failures old a some g whole = record {
   whole = λ before w e. whole;
 }
 
-pub halted_octet : {S : Type 0} (goes : S → List story.StoryEvent → S → Type 0) (failures : S → ℕ) (old : Option Place) (a b : S) (front : List ℕ) (octet : ℕ) (why : MessageCause) (more : List ℕ)
+pub message_refuses_octet : {S : Type 0} (goes : S → List story.StoryEvent → S → Type 0) (failures : S → ℕ) (old : Option Place) (a b : S) (front : List ℕ) (octet : ℕ) (why : MessageCause) (more : List ℕ)
     → goes a (story.delivered more) b → CountsCause (failures a) (failures b) why → GoesSomewhere old front more
-    → ((octets text : List ℕ) → StandsAt old octets text → HasCause why (octets ++ front) octet) → Halted goes failures old a (map ObjectOctet front) (ObjectOctet octet) (Some why) b
-halted_octet goes failures old a b front octet why more told counts leads has = record {
+    → ((octets text : List ℕ) → StandsAt old octets text → HasCause why (octets ++ front) octet) → MessageRefuses goes failures old a (map ObjectOctet front) (ObjectOctet octet) (Some why) b
+message_refuses_octet goes failures old a b front octet why more told counts leads has = record {
   why = why;
   is_cause = refl;
   more = more;
@@ -123,11 +124,11 @@ halted_octet goes failures old a b front octet why more told counts leads has = 
 -- a reader that takes calls stands somewhere: its octets so far lead there
 leads_nowhere : (old : Option Place) → GoesSomewhere old [] []
 leads_nowhere old octets text (place, is, leads) =
-    (place, subst (λ (t : List ℕ). LeadTo (octets ++ []) t place) (sym (append-nil text)) (subst (λ (o : List ℕ). LeadTo o text place) (sym (append-nil octets)) leads))
+    (place, subst (λ (t : List ℕ). LeadsTo (octets ++ []) t place) (sym (append-nil text)) (subst (λ (o : List ℕ). LeadsTo o text place) (sym (append-nil octets)) leads))
 
-pub halted_end : {S : Type 0} (goes : S → List story.StoryEvent → S → Type 0) (failures : S → ℕ) (old : Option Place) (a : S) (why : MessageCause) → IsSome old → why ≡ Unfinished → goes a [] a
-    → ((octets text : List ℕ) → StandsAt old octets text → MessageDiesAt octets End) → Halted goes failures old a [] ObjectEnd (Some why) a
-halted_end goes failures old a why some is g dies = record {
+pub message_refuses_end : {S : Type 0} (goes : S → List story.StoryEvent → S → Type 0) (failures : S → ℕ) (old : Option Place) (a : S) (why : MessageCause) → IsSome old → why ≡ Unfinished → goes a [] a
+    → ((octets text : List ℕ) → StandsAt old octets text → MessageDiesAt octets End) → MessageRefuses goes failures old a [] ObjectEnd (Some why) a
+message_refuses_end goes failures old a why some is g dies = record {
   why = why;
   is_cause = refl;
   more = [];
@@ -138,7 +139,7 @@ halted_end goes failures old a why some is g dies = record {
 }
 
 -- an empty run
-pub passed_empty : {S : Type 0} (goes : S → List story.StoryEvent → S → Type 0) (failures : S → ℕ) (old : Option Place) (a : S) (run : List ℕ) → true ≡ (length run == 0) → IsSome old → goes a [] a
-    → Passed goes failures old a (map ObjectOctet run) old a
-passed_empty goes failures old a [] none some g = passed_nothing goes failures old a some g
-passed_empty goes failures old a (x ∷ xs) none some g = absurd (let is = eqb-true (length (x ∷ xs)) 0 (sym none) in omega (arith, is))
+pub tells_message_empty : {S : Type 0} (goes : S → List story.StoryEvent → S → Type 0) (failures : S → ℕ) (old : Option Place) (a : S) (run : List ℕ) → true ≡ (length run == 0) → IsSome old → goes a [] a
+    → TellsMessage goes failures old a (map ObjectOctet run) old a
+tells_message_empty goes failures old a [] none some g = tells_message_nothing goes failures old a some g
+tells_message_empty goes failures old a (x ∷ xs) none some g = absurd (let is = eqb-true (length (x ∷ xs)) 0 (sym none) in omega (arith, is))

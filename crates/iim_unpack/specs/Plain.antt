@@ -5,21 +5,21 @@ use Rattle.std.specs.Option.{unwrap_or}
 use Rattle.iim_dataset.specs.Format.Octets.{IsOctet, Octets, greatest_size}
 use Rattle.iim_dataset.specs.Format.Datasets.{Dataset, canonical_stream, count_octets, of_record}
 use Rattle.iim_dataset.specs.Format.Splits.{Begun, InTag, InData, IsBegun}
-use Rattle.iim_dataset.specs.Format.Laws.{HasSpellings}
-use Rattle.iim_fields.specs.Format.Faults.{is_kept, kept, present_record}
+use Rattle.iim_dataset.specs.Laws.Datasets.{HasSpellings}
+use Rattle.iim_fields.specs.Format.Faults.{is_kept, kept, section_after}
 use Rattle.iim_fields.specs.Format.Records.{AreSections}
 use Rattle.iim_object.specs.Format.Plans.{max_subfiles}
 use Rattle.iim_object.specs.Format.Records.{numbers_of}
 use Rattle.iim_object.specs.Format.Places as objects
-use Rattle.iim_object.specs.Format.Saved.{IsPossible, stated_numbers}
+use Rattle.iim_object.specs.States.Saved.{IsPossible, stated_numbers}
 use Rattle.iim_object.specs.Format.Sizes.{AreStated, number_at}
 use Rattle.iim_unpack.specs.Format.Admitted.{object_of}
 use Rattle.iim_object.specs.Format.Packing.{number_dataset, subfile_datasets, confirmed_datasets}
-use Rattle.wire_message.specs.Format.Saved.{LeadToSaved}
+use Rattle.wire_message.specs.States.Saved.{LeadsToSaved}
 use Rattle.wire_message.specs.declared.saved.MessagePlace.{MessagePlace}
-use Rattle.iim_unpack.specs.Format.Begins.{IsSize}
+use Rattle.iim_unpack.specs.States.Begins.{IsSize}
 use Rattle.iim_unpack.specs.Format.Open.{section}
-use Rattle.iim_unpack.specs.Format.Possible.{Possible, AreOpenOrWhole, widest}
+use Rattle.iim_unpack.specs.States.Possible.{Possible, AreOpenOrWhole, widest}
 use Rattle.iim_unpack.specs.Format.Tickets.{Place, phase_of, IsPlaceOf}
 
 -- what a ticket tells of record 7: the numbers of 7:10, 7:20, 7:90 and 7:95
@@ -98,7 +98,7 @@ plain_place fields numbers heads object ended begun message = record {
 -- The plain datasets, spelled canonically, and what is begun after them lead to the place that they tell.
 abbrev pub PlainOctetsLeadToTheirPlace : Type 0
 PlainOctetsLeadToTheirPlace = (fields : List Dataset) (numbers : Numbers) (heads : ℕ) (object : List ℕ) (ended : Bool) (begun : Begun) (rest text : List ℕ) (message : MessagePlace)
-    → AreSpellable fields numbers heads object → IsBegun count_octets begun rest → LeadToSaved (object ++ begun_object begun) text message
+    → AreSpellable fields numbers heads object → IsBegun count_octets begun rest → LeadsToSaved (object ++ begun_object begun) text message
     → IsPlaceOf (canonical_stream (plain fields numbers heads object ended) ++ rest) (plain_place fields numbers heads object ended begun message)
 
 -- The place is led to by plain octets.
@@ -113,7 +113,7 @@ pub record IsPlain (place : Place) : Type 0 where
   pub message : MessagePlace
   pub spellable : AreSpellable place.fields numbers heads object
   pub is_begun : IsBegun count_octets begun rest
-  pub leads : LeadToSaved (object ++ begun_object begun) text message
+  pub leads : LeadsToSaved (object ++ begun_object begun) text message
   pub is_place : place ≡ plain_place place.fields numbers heads object ended begun message
 
 -- Each possible place is led to by plain octets.
@@ -138,7 +138,7 @@ plain_of ds =
       announced = number_at 90 (numbers_of (of_record 7 ds));
       maximum = number_at 95 (numbers_of (of_record 7 ds));
     })
-    (length (of_record 8 ds)) (object_of ds) (present_record ds == 9)
+    (length (of_record 8 ds)) (object_of ds) (section_after ds == 9)
 
 -- What follows datasets to the sections of an envelope follows their plain ones to such too.
 abbrev pub PlainDatasetsContinueAlike : Type 0

@@ -3,31 +3,32 @@ use Rattle.std.specs.Prelude.{◌≡◌, ℕ, ◌+◌, ◌<◌, ◌≤◌, ◌==
 use Rattle.iim_dataset.specs.Format.Datasets.{Dataset}
 use Rattle.iim_dataset.specs.Format.Octets.{Octets}
 use Rattle.iim_dataset.specs.declared.head.Head.{Head}
-use Rattle.iim_dataset.specs.Format.Reading.{TakesCalls}
+use Rattle.iim_dataset.specs.States.Reading.{TakesCalls}
 use Rattle.iim_fields.specs.Format.Alive.{SectionsLiveAt}
 use Rattle.iim_fields.specs.Format.Faults.{is_kept, kept, kept_octets}
-use Rattle.iim_fields.specs.Format.Standing.{FieldsPlace, StandsAfter, StandsIn, IsWithin}
+use Rattle.iim_fields.specs.States.Standing.{FieldsPlace, StandsAfter, StandsIn}
+use Rattle.iim_fields.specs.Format.Bounds.{IsWithin}
 use Rattle.iim_fields.specs.declared.limits.Limits.{Limits}
 use Rattle.iim_object.specs.Format.Places as objects
-use Rattle.iim_object.specs.Format.Reading as reading
-use Rattle.iim_object.specs.Format.Saved.{IsAt, IsPossible}
-use Rattle.iim_object.specs.declared.state.State.{State}
-use Rattle.wire_message.specs.Format.Reading as wire
-use Rattle.wire_message.specs.Format.Saved.{LeadToSaved}
+use Rattle.iim_object.specs.States.Reading as reading
+use Rattle.iim_object.specs.States.Saved.{IsAt, IsPossible}
+use Rattle.iim_object.specs.declared.reading.state.State.{State}
+use Rattle.wire_message.specs.States.Reading as wire
+use Rattle.wire_message.specs.States.Saved.{LeadsToSaved}
 use Rattle.wire_message.specs.declared.place.Place.{Place as Message}
 use Rattle.iim_unpack.specs.ByLayers.{LeadsByLayers, head_of_numbers, record_datasets, begun_of_object, object_after}
 use Rattle.iim_unpack.specs.Plain.{Numbers}
-use Rattle.iim_unpack.specs.Format.Possible.{IsSmallPlace, AreHeadsWithin, begun_count, begun_fields}
-use Rattle.iim_unpack.specs.Format.TicketsTold.{split_of}
+use Rattle.iim_unpack.specs.States.Possible.{IsSmallPlace, AreHeadsWithin, begun_count, begun_fields}
+use Rattle.iim_unpack.specs.Laws.Tickets.{split_of}
 use Rattle.iim_unpack.specs.Taking.{tag_place}
 use Rattle.iim_unpack.specs.Format.TicketForm.{Split}
 use Rattle.iim_unpack.specs.Format.Tickets.{Place, Phase, TagBegun, DataBegun, AllEnded}
-use Rattle.iim_unpack.specs.Format.Unpacking.{Unpacking, limits_in, are_some}
-use Rattle.iim_unpack.specs.Unpacking.{IsUnpacking}
-use Rattle.iim_unpack.specs.declared.possible.Readers.{Readers}
-use Rattle.iim_unpack.specs.declared.ticket_fault.TicketFault.{TicketFault}
-use Rattle.iim_unpack.specs.declared.ticket_fault.TicketFault.TheVariants.{HeaderFull, TooManyFields}
-use Rattle.iim_unpack.specs.Format.Restored.{IsTicketAt, IsRestored, octets_told, fields_told}
+use Rattle.iim_unpack.specs.States.Unpacking.{Unpacking, limits_in, are_some}
+use Rattle.iim_unpack.specs.UnpackerInside.{IsUnpacking}
+use Rattle.iim_unpack.specs.declared.ticket.possible.Readers.{Readers}
+use Rattle.iim_unpack.specs.declared.ticket.fault.TicketFault.{TicketFault}
+use Rattle.iim_unpack.specs.declared.ticket.fault.TicketFault.TheVariants.{HeaderFull, TooManyFields}
+use Rattle.iim_unpack.specs.States.Restored.{IsTicketAt, IsRestored, octets_told, fields_told}
 
 -- which limit `octets` octets and `fields` datasets pass
 abbrev pub IsLimitFault : Limits → (octets fields : ℕ) → TicketFault → Type 0
@@ -56,7 +57,7 @@ ObjectStands reader place = (p : objects.Place) → IsAt place.numbers place.tak
 
 -- The message's reader stands at all octets that lead to the place.
 abbrev pub MessageStands : Option Message → Place → Type 0
-MessageStands reader place = (octets text : List ℕ) → LeadToSaved octets text place.message → wire.StandsAt reader octets text
+MessageStands reader place = (octets text : List ℕ) → LeadsToSaved octets text place.message → wire.StandsAt reader octets text
 
 -- The unpacker was made of the readers of the place, and counts `at` octets.
 pub record IsMadeFor (place : Place) (numbers : Numbers) (limits : Limits) (at : ℕ) (u : Unpacking) : Type 0 where

@@ -2,18 +2,18 @@
 use Rattle.std.specs.Prelude.{◌≡◌, ℕ, Bool, true, false, List, [], ◌∷◌, ◌++◌, length, Option, None, cond}
 use Rattle.std.specs.List.{AllByRecursion}
 use Rattle.iim_dataset.specs.Format.Datasets.{Dataset}
-use Rattle.iim_dataset.specs.Format.Places.{between}
+use Rattle.iim_dataset.specs.States.Places.{between}
 use Rattle.iim_dataset.specs.declared.place.DatasetPlace.{DatasetPlace}
 use Rattle.iim_dataset.specs.declared.place.DatasetPlace.TheVariants.{Tag, Inside}
 use Rattle.iim_fields.specs.Format.Alive.{SectionsLive}
 use Rattle.iim_fields.specs.Format.Faults.{is_kept, kept, kept_octets}
-use Rattle.iim_fields.specs.Format.Standing.{IsWithin}
-use Rattle.iim_fields.specs.Format.Stores.{Room}
+use Rattle.iim_fields.specs.Format.Bounds.{IsWithin}
+use Rattle.iim_fields.specs.States.Stores.{Room}
 use Rattle.iim_fields.specs.declared.limits.Limits.{Limits}
 use Rattle.wire_message.specs.declared.saved.MessagePlace.{MessagePlace}
 use Rattle.iim_unpack.specs.ByLayers.{head_of_numbers}
 use Rattle.iim_unpack.specs.Plain.{Numbers, plain}
-use Rattle.iim_unpack.specs.Format.TicketsTold.{texts_of}
+use Rattle.iim_unpack.specs.Laws.Tickets.{texts_of}
 use Rattle.iim_unpack.specs.Format.Tickets.{Phase, TagBegun, DataBegun, AllEnded, part_number}
 
 -- all are of records 1 and 2

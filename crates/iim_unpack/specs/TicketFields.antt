@@ -3,7 +3,7 @@ use Rattle.std.specs.Prelude.{◌≡◌, ℕ, List}
 use Rattle.std.specs.List.{AllByRecursion, flat_map}
 use Rattle.iim_dataset.specs.Format.Datasets.{Dataset}
 use Rattle.iim_unpack.specs.Format.Tickets.{field_octets}
-use Rattle.iim_unpack.specs.Format.Begins.{IsLongField}
+use Rattle.iim_unpack.specs.States.Begins.{IsLongField}
 
 -- Octets hold some datasets, and nothing else.
 abbrev pub HoldsFields : List ℕ → Type 0

@@ -2,9 +2,9 @@
 use Rattle.std.specs.Prelude.{◌≡◌, ℕ, ◌+◌, ◌<◌, List, ◌∷◌, ◌++◌, length, codes}
 use Rattle.std.specs.List.{flat_map}
 use Rattle.iim_unpack.specs.Format.Tickets.{DataBegun, four, wide, width, phase_octets, fields_octets, number_octets, text_octets}
-use Rattle.iim_unpack.specs.Format.Begins.{AreTexts}
-use Rattle.iim_unpack.specs.declared.ticket_fault.TicketFault.{TicketFault}
-use Rattle.iim_unpack.specs.declared.ticket_fault.TicketFault.TheVariants.{Form, Version}
+use Rattle.iim_unpack.specs.States.Begins.{AreTexts}
+use Rattle.iim_unpack.specs.declared.ticket.fault.TicketFault.{TicketFault}
+use Rattle.iim_unpack.specs.declared.ticket.fault.TicketFault.TheVariants.{Form, Version}
 use Rattle.iim_unpack.specs.Format.TicketForm.{Split, IsPhase, HasForm, HasOtherVersion}
 
 -- ---- part by part

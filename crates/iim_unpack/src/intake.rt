@@ -2,14 +2,16 @@
 
 ghost use Rattle.std.specs.Prelude.{◌≡◌, ◌<◌, [], ℕ, Option, Some, None, Ok, Err, true, false, length, IfOk, IfErr, IsTrue, OnOk, OnErr, ◌↔◌};
 ghost use Rattle.std.specs.Io.KnownBytes.{IsAtEnd};
-ghost use Rattle.iim_dataset.specs.Format.DeviceLaws.{HasGiven, MissedAfter};
-ghost use Rattle.iim_unpack.specs.Format.Blocks.{with_held};
-ghost use Rattle.iim_unpack.specs.Format.Intakes.{line, IsReady, IsOfReader, Faults, FedEnvelope, FedPiece, Gives};
-ghost use Rattle.iim_unpack.specs.Intakes.{FedAs, read_fault};
-ghost use Rattle.iim_unpack.specs.Format.Unpacking.{failed_at, raised};
+ghost use Rattle.iim_dataset.specs.States.Devices.{HasGiven, MissedAfter};
+ghost use Rattle.iim_unpack.specs.States.Blocks.{with_held};
+ghost use Rattle.iim_unpack.specs.States.Intakes.{in_line, IsReady, IsOfReader, Faults, FedEnvelope, FedPiece, Gives};
+ghost use Rattle.iim_unpack.specs.IntakeSteps.{FedAs, read_fault};
+ghost use Rattle.iim_unpack.specs.States.Unpacking.{failed_at, raised};
 ghost use Rattle.iim_unpack.specs.declared.intake.IntakeFault.TheVariants.{Refused as RefusedFault};
 
-use crate::block::Block;
+pub(crate) mod block;
+
+use crate::intake::block::Block;
 use crate::laws::open_octets_are_bounded;
 use crate::refusal::Refusal;
 use crate::unpacker::{Progress, Unpacked, Unpacker, failed_at, raised};
@@ -35,10 +37,12 @@ pub enum IntakeFault {
 
 /// Sees to it that a block has octets: reads once where it has none. Answers false at the end of the source.
 fn next_piece<R: Source>(block: &mut Block, reader: &mut R) -> Result<bool, IoFault>
-    ensures given { OnOk result (HasGiven (with_held block.old (R.state reader.old)) (with_held block.new (R.state reader.new)) []) }
+    ensures given { OnOk result (HasGiven (with_held block.old (R.state reader.old))
+        (with_held block.new (R.state reader.new)) []) }
     ensures some { IfOk result (λ more. more ≡ true → 0 < length block.new) }
     ensures end { IfOk result (λ more. more ≡ false → IsAtEnd (with_held block.new (R.state reader.new)).octets) }
-    ensures missed { IfErr result (MissedAfter (with_held block.old (R.state reader.old)) (with_held block.new (R.state reader.new)) []) }
+    ensures missed { IfErr result (MissedAfter (with_held block.old (R.state reader.old))
+        (with_held block.new (R.state reader.new)) []) }
     ensures ended { IfOk result (λ more. more ≡ false → block.old ≡ []) }
     ensures empty { OnErr result (block.old ≡ []) }
     ensures held { 0 < length block.old → reader.new ≡ reader.old }
@@ -83,9 +87,12 @@ fn feed_piece<R: Source, S: StorySink>(
     sink: &mut S,
 ) -> Result<Fed, (IntakeFault, u64)>
     requires ready { IsReady unpacker.old }
-    ensures fed { IfOk result (FedPiece S.goes (with_held block.old (R.state reader.old)) (with_held block.new (R.state reader.new)) unpacker.old unpacker.new sink.old sink.new) }
+    ensures fed { IfOk result (FedPiece S.goes (with_held block.old (R.state reader.old))
+        (with_held block.new (R.state reader.new)) unpacker.old unpacker.new sink.old sink.new) }
     ensures calm { OnOk result (S.failures sink.new ≡ S.failures sink.old) }
-    ensures faults { IfErr result (λ halt. Faults S.goes S.failures (with_held block.old (R.state reader.old)) (with_held block.new (R.state reader.new)) unpacker.old sink.old sink.new halt.1 halt.0) }
+    ensures faults { IfErr result (λ halt.
+        Faults S.goes S.failures (with_held block.old (R.state reader.old)) (with_held block.new (R.state reader.new))
+        unpacker.old sink.old sink.new halt.1 halt.0) }
     ensures unread { IfErr result (λ halt. IsOfReader halt.0 → (sink.new ≡ sink.old) × (block.old ≡ [])) }
     ensures ended { IfOk result (λ fed. fed ≡ Fed.End → block.old ≡ []) }
     ensures held { 0 < length block.old → reader.new ≡ reader.old }
@@ -141,9 +148,12 @@ fn feed_line<R: Source, S: StorySink>(
     sink: &mut S,
 ) -> Result<Option<u64>, (IntakeFault, u64)>
     requires ready { IsReady unpacker.old }
-    ensures fed { IfOk result (FedAs S.goes (with_held block.old (R.state reader.old)) (with_held block.new (R.state reader.new)) unpacker.old unpacker.new sink.old sink.new) }
+    ensures fed { IfOk result (FedAs S.goes (with_held block.old (R.state reader.old))
+        (with_held block.new (R.state reader.new)) unpacker.old unpacker.new sink.old sink.new) }
     ensures calm { OnOk result (S.failures sink.new ≡ S.failures sink.old) }
-    ensures faults { IfErr result (λ halt. Faults S.goes S.failures (with_held block.old (R.state reader.old)) (with_held block.new (R.state reader.new)) unpacker.old sink.old sink.new halt.1 halt.0) }
+    ensures faults { IfErr result (λ halt.
+        Faults S.goes S.failures (with_held block.old (R.state reader.old)) (with_held block.new (R.state reader.new))
+        unpacker.old sink.old sink.new halt.1 halt.0) }
     ensures leads { R.leads reader.old reader.new }
 {
     gifts_join();
@@ -208,16 +218,23 @@ impl<R: Source> Intake<R> {
         sink: &mut S,
     ) -> Result<Fed, IntakeFault>
         requires ready { IsReady unpacker.old }
-        ensures fed { self.old.failed ≡ None → IfOk result (FedPiece S.goes (line R.state self.old) (line R.state self.new) unpacker.old unpacker.new sink.old sink.new) }
+        ensures fed { self.old.failed ≡ None
+            → IfOk result (FedPiece S.goes (in_line R.state self.old) (in_line R.state self.new) unpacker.old
+            unpacker.new sink.old sink.new) }
         ensures calm { OnOk result (S.failures sink.new ≡ S.failures sink.old) }
-        ensures faults { self.old.failed ≡ None → IfErr result (λ fault. (kept : ℕ) × (self.new.failed ≡ Some kept) × Faults S.goes S.failures (line R.state self.old) (line R.state self.new) unpacker.old sink.old sink.new kept fault) }
+        ensures faults { self.old.failed ≡ None
+            → IfErr result (λ fault. (kept : ℕ) × (self.new.failed ≡ Some kept)
+            × Faults S.goes S.failures (in_line R.state self.old) (in_line R.state self.new) unpacker.old sink.old
+            sink.new kept fault) }
         // Where octets were held, nothing is read: so no fault of the reader comes, and no end. A fault of the reader tells the sink nothing.
-        ensures unread { self.old.failed ≡ None → IfErr result (λ fault. IsOfReader fault → (sink.new ≡ sink.old) × (self.old.block ≡ [])) }
+        ensures unread { self.old.failed ≡ None
+            → IfErr result (λ fault. IsOfReader fault → (sink.new ≡ sink.old) × (self.old.block ≡ [])) }
         ensures ended { self.old.failed ≡ None → IfOk result (λ fed. fed ≡ Fed.End → self.old.block ≡ []) }
         ensures held { 0 < length self.old.block → self.new.reader ≡ self.old.reader }
         ensures octets { self.new.octets ≡ self.old.octets }
         ensures lives { OnOk result (self.new.failed ≡ None) }
-        ensures again { (octet : ℕ) → self.old.failed ≡ Some octet → (result ≡ Err (RefusedFault (failed_at octet))) × (unpacker.new ≡ unpacker.old) × (sink.new ≡ sink.old) × (self.new ≡ self.old) }
+        ensures again { (octet : ℕ) → self.old.failed ≡ Some octet → (result ≡ Err (RefusedFault (failed_at octet)))
+            × (unpacker.new ≡ unpacker.old) × (sink.new ≡ sink.old) × (self.new ≡ self.old) }
         ensures leads { R.leads self.old.reader self.new.reader }
     {
         if let Some(octet) = self.failed {
@@ -240,12 +257,17 @@ impl<R: Source> Intake<R> {
         sink: &mut S,
     ) -> Result<bool, IntakeFault>
         requires ready { IsReady unpacker.old }
-        ensures fed { IfOk result (FedEnvelope S.goes (line R.state self.old) (line R.state self.new) unpacker.old unpacker.new sink.old sink.new self.new.octets) }
+        ensures fed { IfOk result (FedEnvelope S.goes (in_line R.state self.old) (in_line R.state self.new) unpacker.old
+            unpacker.new sink.old sink.new self.new.octets) }
         ensures calm { OnOk result (S.failures sink.new ≡ S.failures sink.old) }
-        ensures faults { self.old.failed ≡ None → IfErr result (λ fault. (kept : ℕ) × (self.new.failed ≡ Some kept) × Faults S.goes S.failures (line R.state self.old) (line R.state self.new) unpacker.old sink.old sink.new kept fault) }
+        ensures faults { self.old.failed ≡ None
+            → IfErr result (λ fault. (kept : ℕ) × (self.new.failed ≡ Some kept)
+            × Faults S.goes S.failures (in_line R.state self.old) (in_line R.state self.new) unpacker.old sink.old
+            sink.new kept fault) }
         ensures none { OnErr result (self.new.octets ≡ 0) }
         ensures lives { OnOk result (self.new.failed ≡ None) }
-        ensures again { (octet : ℕ) → self.old.failed ≡ Some octet → (result ≡ Err (RefusedFault (failed_at octet))) × (unpacker.new ≡ unpacker.old) × (sink.new ≡ sink.old) × (self.new ≡ record (self.old) { octets = 0 }) }
+        ensures again { (octet : ℕ) → self.old.failed ≡ Some octet → (result ≡ Err (RefusedFault (failed_at octet)))
+            × (unpacker.new ≡ unpacker.old) × (sink.new ≡ sink.old) × (self.new ≡ record (self.old) { octets = 0 }) }
         ensures leads { R.leads self.old.reader self.new.reader }
     {
         self.octets = 0;
@@ -273,12 +295,18 @@ impl<R: Source> Intake<R> {
         sink: &mut S,
     ) -> Result<Option<Unpacked>, IntakeFault>
         requires ready { IsReady unpacker }
-        ensures gives { self.old.failed ≡ None → IfOk result (Gives S.goes (line R.state self.old) (line R.state self.new) unpacker sink.old sink.new self.new.octets) }
+        ensures gives { self.old.failed ≡ None
+            → IfOk result (Gives S.goes (in_line R.state self.old) (in_line R.state self.new) unpacker sink.old sink.new
+            self.new.octets) }
         ensures calm { OnOk result (S.failures sink.new ≡ S.failures sink.old) }
-        ensures faults { self.old.failed ≡ None → IfErr result (λ fault. (kept : ℕ) × (self.new.failed ≡ Some kept) × Faults S.goes S.failures (line R.state self.old) (line R.state self.new) unpacker sink.old sink.new kept fault) }
+        ensures faults { self.old.failed ≡ None
+            → IfErr result (λ fault. (kept : ℕ) × (self.new.failed ≡ Some kept)
+            × Faults S.goes S.failures (in_line R.state self.old) (in_line R.state self.new) unpacker sink.old sink.new
+            kept fault) }
         ensures none { OnErr result (self.new.octets ≡ 0) }
         ensures lives { OnOk result (self.new.failed ≡ None) }
-        ensures again { (octet : ℕ) → self.old.failed ≡ Some octet → (result ≡ Err (RefusedFault (failed_at octet))) × (sink.new ≡ sink.old) × (self.new ≡ record (self.old) { octets = 0 }) }
+        ensures again { (octet : ℕ) → self.old.failed ≡ Some octet → (result ≡ Err (RefusedFault (failed_at octet)))
+            × (sink.new ≡ sink.old) × (self.new ≡ record (self.old) { octets = 0 }) }
         ensures leads { R.leads self.old.reader self.new.reader }
     {
         let mut unpacker = unpacker;

@@ -1,25 +1,18 @@
 //! What holds of all envelopes.
 
 ghost use Rattle.std.specs.Prelude.{◌≡◌, ℕ, List, None};
-ghost use Rattle.iim_unpack.specs.Format.Held.{HoldsFew};
-ghost use Rattle.iim_unpack.specs.Format.Unpacking.{IsDone, IsDoneWith, Stands};
-ghost use Rattle.iim_unpack.specs.Format.Conditions.{RefusalsTellTheLowestCause};
-ghost use Rattle.iim_unpack.specs.Format.Laws.{AdmittedOctetsAreFramed, AdmittedOctetsHaveOneValue, NoAdmittedOctetsBeginOthers, NoEnvelopeIsEmpty};
-ghost use Rattle.iim_unpack.specs.Format.Intakes.{OpenOctetsAreBounded};
+ghost use Rattle.iim_unpack.specs.States.Held.{HoldsFew};
+ghost use Rattle.iim_unpack.specs.States.Unpacking.{IsDone, IsDoneWith, Stands};
+ghost use Rattle.iim_unpack.specs.Laws.Conditions.{RefusalsTellTheLowestCause};
+ghost use Rattle.iim_unpack.specs.Laws.Admitted.{AdmittedOctetsAreFramed, AdmittedOctetsHaveOneValue, NoAdmittedOctetsBeginOthers, NoEnvelopeIsEmpty};
+ghost use Rattle.iim_unpack.specs.Laws.Streams.{OpenOctetsAreBounded, EnvelopesAreBounded, NothingContinuesFromRefusedOctets, RefusalsAreDetermined, RefusedOctetsWereOpen, StreamsHaveOneAnswer, LivingOctetsAreOpen, OpenOctetsBeginWithNoEnvelope};
 ghost use Rattle.iim_unpack.specs.ByLayers.{PlacesArePossibleByLayers};
-ghost use Rattle.iim_unpack.specs.Format.Continuing.{OctetsHaveOnePlace, PlacesContinueAlike, PlacesRefuseAlike, RestoredStandAsSaved};
+ghost use Rattle.iim_unpack.specs.Laws.Places.{OctetsHaveOnePlace, PlacesContinueAlike, PlacesRefuseAlike, RestoredStandAsSaved, LimitsAreToldByPlace, PossiblePlacesAreTaken, PresentScaleSaysNothingMore, SmallPlacesWerePossible, TicketsTellOnePlace};
 ghost use Rattle.iim_unpack.specs.LowerLaws.{AnswerLaws, ByLayersLaws, CloseLaws, FeedLaws, HeadLaws, MessageLaws, ObjectLaws, OnwardLaws, OpenLaws, PlaceLaws, SizeLaws};
-ghost use Rattle.iim_unpack.specs.Format.Listing.{InputsHaveOneListing, ListingsAreLongest};
+ghost use Rattle.iim_unpack.specs.Laws.Listing.{InputsHaveOneListing, ListingsAreLongest};
 ghost use Rattle.iim_unpack.specs.Plain.{ObjectsArePossibleAlike, PlainDatasetsContinueAlike, PlainOctetsAreOpenOrWhole, PlainOctetsLeadToTheirPlace, PossiblePlacesArePlain};
-ghost use Rattle.iim_unpack.specs.Format.Possible.{LimitsAreToldByPlace};
-ghost use Rattle.iim_unpack.specs.Format.TicketsTold.{TicketsOfPlacesAreSplit, UnpackersStandByPlace};
-ghost use Rattle.iim_unpack.specs.Format.Restored.{PossiblePlacesAreTaken};
-ghost use Rattle.iim_unpack.specs.Format.Scales.{PresentScaleSaysNothingMore, SmallPlacesWerePossible, TicketsTellOnePlace};
+ghost use Rattle.iim_unpack.specs.Laws.Tickets.{TicketsOfPlacesAreSplit, UnpackersStandByPlace, TicketsHaveOneSplit, OctetsHaveOneTicket};
 ghost use Rattle.iim_unpack.specs.Restoring.{ReadersMakeUnpackers};
-ghost use Rattle.iim_unpack.specs.Format.Streams.{EnvelopesAreBounded, NothingContinuesFromRefusedOctets, RefusalsAreDetermined, RefusedOctetsWereOpen, StreamsHaveOneAnswer};
-ghost use Rattle.iim_unpack.specs.Format.TicketForm.{TicketsHaveOneSplit};
-ghost use Rattle.iim_unpack.specs.Format.Tickets.{OctetsHaveOneTicket};
-ghost use Rattle.iim_unpack.specs.Format.Open.{LivingOctetsAreOpen, OpenOctetsBeginWithNoEnvelope};
 
 use crate::unpacker::Unpacker;
 use iim_dataset::laws::{
@@ -270,7 +263,8 @@ pub fn streams_have_one_answer()
 /// An unpacker that has refused nothing stands on some octets, or is done with some. And it holds what its limits allow, and 256 octets
 /// at most beside that.
 pub fn unpackers_stand_somewhere(unpacker: &Unpacker)
-    ensures stands { unpacker.now.refused ≡ None → (IsDone unpacker.now → ⊥) → (octets : List ℕ) × (count : ℕ) × Stands unpacker.now octets count }
+    ensures stands { unpacker.now.refused ≡ None → (IsDone unpacker.now → ⊥) → (octets : List ℕ) × (count : ℕ)
+        × Stands unpacker.now octets count }
     ensures done { IsDone unpacker.now → (octets : List ℕ) × (count : ℕ) × IsDoneWith unpacker.now octets count }
     ensures held { unpacker.now.refused ≡ None → HoldsFew unpacker.now }
 {

@@ -8,32 +8,19 @@
 //! ([`laws::places_continue_alike`]).
 #![tactic(auto)]
 
-mod block;
-mod fault;
-mod front;
 mod intake;
 pub mod laws;
-mod message;
-mod object_place;
 mod parts;
 mod pieces;
-mod possible;
-mod readers;
 mod refusal;
-mod restore;
-mod router;
-mod taker;
 mod ticket;
-mod ticket_fault;
-mod ticket_fields;
-mod ticket_parts;
 mod unpacker;
 
 pub use intake::{Fed, Intake, IntakeFault};
 pub use pieces::unpack_pieces;
 pub use refusal::{Cause, Layer, Refusal};
-pub use ticket::SaveFault;
-pub use ticket_fault::TicketFault;
-pub use ticket_fields::TicketFields;
-pub use ticket_parts::{TicketParts, TicketPhase, split_ticket};
+pub use ticket::fault::TicketFault;
+pub use ticket::fields::TicketFields;
+pub use ticket::spelling::SaveFault;
+pub use ticket::split::{TicketParts, TicketPhase, split_ticket};
 pub use unpacker::{Progress, Unpacked, UnpackedRef, Unpacker};

@@ -1,20 +1,23 @@
 //! The readers of an unpacker after that of the tags, as one.
 
 ghost use Rattle.std.specs.Prelude.{◌≡◌, true, false, IsTrue, ◌<◌, ◌≤◌, ◌-◌, ℕ, [], ◌∷◌, length, map, take, slice_index, Some, None, IsSome, IfOk, IfErr, OnOk};
-ghost use Rattle.iim_dataset.specs.Format.Events.{HeadRead, DataOctet};
-ghost use Rattle.iim_fields.specs.Format.Standing.{room_of, IsBetween};
+ghost use Rattle.iim_dataset.specs.States.Events.{HeadRead, DataOctet};
+ghost use Rattle.iim_fields.specs.States.Standing.{room_of, IsBetween};
 ghost use Rattle.iim_object.specs.Format.Places.{head_token, value_token};
-ghost use Rattle.iim_object.specs.Format.Reading.{LeadsOn, events_at};
-ghost use Rattle.iim_unpack.specs.Format.Refusals.{IsObjectFault};
-ghost use Rattle.iim_unpack.specs.Passed.{Passed, HasFewSubfiles, RefusesSubfile};
-ghost use Rattle.iim_unpack.specs.Parts.{TakesHead, TakesData, Went, WentWhole, WasStopped, Closed, NotClosed};
-ghost use Rattle.iim_unpack.specs.Format.Parts.{has_ended};
+ghost use Rattle.iim_object.specs.States.Reading.{LeadsOn, events_at};
+ghost use Rattle.iim_unpack.specs.Format.Refusals.{IsObjectFault, message_on, too_many_on};
+ghost use Rattle.iim_unpack.specs.Passed.{TellsMessage, HasFewSubfiles, RefusesSubfile};
+ghost use Rattle.iim_unpack.specs.PartSteps.{TakesHead, TakesData, TellsParts, TellsWhole, PartsRefuse, Closed, NotClosed};
+ghost use Rattle.iim_unpack.specs.States.Parts.{has_ended};
 ghost use Rattle.iim_unpack.specs.Routing.{HasEnded, TookWhole};
-ghost use Rattle.iim_unpack.specs.Format.Refusals.{message_on, too_many_on};
 
-use crate::fault::{TokenFault, message_on, of_field, size_on, too_many_on};
+pub(crate) mod fault;
+pub(crate) mod message;
+pub(crate) mod router;
+
 use crate::laws::{close_laws, head_laws, message_laws};
-use crate::message::{pass_head, pass_octets};
+use crate::parts::fault::{TokenFault, message_on, of_field, size_on, too_many_on};
+use crate::parts::message::{pass_head, pass_octets};
 use iim_dataset::{Head, Step};
 use iim_fields::Fields;
 use iim_object::{MAX_SUBFILES, ObjectFault, ObjectReader};
@@ -66,7 +69,8 @@ fn subfile<S: StorySink>(
     requires message { IsSome message.old }
     ensures takes_calls { OnOk result (IsSome object.new) }
     ensures leads_on { OnOk result (LeadsOn object.old (head_token head.rec head.count) object.new) }
-    ensures told { OnOk result (Passed S.goes S.failures message.old sink.old (events_at head.rec) message.new sink.new) }
+    ensures told { OnOk result (TellsMessage S.goes S.failures message.old sink.old (events_at head.rec) message.new
+        sink.new) }
     ensures few { OnOk result (HasFewSubfiles object.old) }
     ensures refused { IfErr result (RefusesSubfile S.goes S.failures object.old message.old head sink.old sink.new) }
 {
@@ -113,8 +117,10 @@ impl Parts {
     pub(crate) fn head<S: StorySink>(&mut self, head: Head, sink: &mut S) -> Result<(), TokenFault>
         requires { TakesHead self.old }
         ensures takes { OnOk result (TakesData self.new head.count) }
-        ensures went { OnOk result (Went S.goes S.failures self.old sink.old (HeadRead head ∷ []) self.new sink.new) }
-        ensures stopped { IfErr result (λ fault. WasStopped S.goes S.failures self.old sink.old [] (HeadRead head) (Some fault) sink.new) }
+        ensures went { OnOk result (TellsParts S.goes S.failures self.old sink.old (HeadRead head ∷ []) self.new
+            sink.new) }
+        ensures stopped { IfErr result (λ fault.
+            PartsRefuse S.goes S.failures self.old sink.old [] (HeadRead head) (Some fault) sink.new) }
         ensures room { room_of self.new.fields ≡ room_of self.old.fields }
     {
         head_laws();
@@ -136,7 +142,7 @@ impl Parts {
         requires number { head.rec ≡ 7 }
         requires count { head.count ≡ length octets.now }
         ensures takes { TakesHead self.new }
-        ensures whole { IsTrue result → WentWhole self.old head octets.now self.new }
+        ensures whole { IsTrue result → TellsWhole self.old head octets.now self.new }
         ensures left { result ≡ false → self.new ≡ self.old }
         ensures room { room_of self.new.fields ≡ room_of self.old.fields }
     {
@@ -160,7 +166,7 @@ impl Parts {
         requires number { head.rec ≡ 9 }
         requires count { head.count ≡ length octets.now }
         ensures ended { IsTrue result → HasEnded self.new }
-        ensures whole { IsTrue result → WentWhole self.old head octets.now self.new }
+        ensures whole { IsTrue result → TellsWhole self.old head octets.now self.new }
         ensures left { result ≡ false → self.new ≡ self.old }
         ensures room { room_of self.new.fields ≡ room_of self.old.fields }
     {
@@ -187,7 +193,7 @@ impl Parts {
         requires takes { TakesHead self.old }
         requires count { head.count ≡ length octets.now }
         ensures takes { TakesHead self.new }
-        ensures whole { IsTrue result → WentWhole self.old head octets.now self.new }
+        ensures whole { IsTrue result → TellsWhole self.old head octets.now self.new }
         ensures left { result ≡ false → self.new ≡ self.old }
         ensures room { room_of self.new.fields ≡ room_of self.old.fields }
     {
@@ -207,7 +213,9 @@ impl Parts {
         requires subfile { head.rec ≡ 8 }
         ensures taken { IfOk result (TookWhole S.goes S.failures self.old sink.old head octets.now self.new sink.new) }
         ensures before { IfErr result (λ halt. halt.taken < length octets.now) }
-        ensures stopped { IfErr result (λ halt. WasStopped S.goes S.failures self.old sink.old (HeadRead head ∷ map DataOctet (take halt.taken octets.now)) (DataOctet (slice_index octets.now halt.taken)) (Some halt.fault) sink.new) }
+        ensures stopped { IfErr result (λ halt.
+            PartsRefuse S.goes S.failures self.old sink.old (HeadRead head ∷ map DataOctet (take halt.taken octets.now))
+            (DataOctet (slice_index octets.now halt.taken)) (Some halt.fault) sink.new) }
         ensures room { room_of self.new.fields ≡ room_of self.old.fields }
     {
         head_laws();
@@ -242,7 +250,9 @@ impl Parts {
         requires count { head.count ≡ length octets.now }
         ensures taken { IfOk result (TookWhole S.goes S.failures self.old sink.old head octets.now self.new sink.new) }
         ensures before { IfErr result (λ halt. halt.taken < length octets.now) }
-        ensures stopped { IfErr result (λ halt. WasStopped S.goes S.failures self.old sink.old (HeadRead head ∷ map DataOctet (take halt.taken octets.now)) (DataOctet (slice_index octets.now halt.taken)) (Some halt.fault) sink.new) }
+        ensures stopped { IfErr result (λ halt.
+            PartsRefuse S.goes S.failures self.old sink.old (HeadRead head ∷ map DataOctet (take halt.taken octets.now))
+            (DataOctet (slice_index octets.now halt.taken)) (Some halt.fault) sink.new) }
         ensures room { room_of self.new.fields ≡ room_of self.old.fields }
     {
         match head.rec {
@@ -256,10 +266,14 @@ impl Parts {
     /// Takes octets of the begun dataset, or only those before the one that is refused.
     pub(crate) fn run<S: StorySink>(&mut self, run: &[u8], sink: &mut S) -> Result<(), Halt>
         requires { (left : ℕ) × TakesData self.old left × (length run.now ≤ left) }
-        ensures takes { OnOk result ((left : ℕ) → TakesData self.old left → TakesData self.new (left - length run.now)) }
-        ensures went { OnOk result (Went S.goes S.failures self.old sink.old (map DataOctet run.now) self.new sink.new) }
+        ensures takes { OnOk result ((left : ℕ) → TakesData self.old left
+            → TakesData self.new (left - length run.now)) }
+        ensures went { OnOk result (TellsParts S.goes S.failures self.old sink.old (map DataOctet run.now) self.new
+            sink.new) }
         ensures before { IfErr result (λ halt. halt.taken < length run.now) }
-        ensures stopped { IfErr result (λ halt. WasStopped S.goes S.failures self.old sink.old (map DataOctet (take halt.taken run.now)) (DataOctet (slice_index run.now halt.taken)) (Some halt.fault) sink.new) }
+        ensures stopped { IfErr result (λ halt.
+            PartsRefuse S.goes S.failures self.old sink.old (map DataOctet (take halt.taken run.now))
+            (DataOctet (slice_index run.now halt.taken)) (Some halt.fault) sink.new) }
         ensures room { room_of self.new.fields ≡ room_of self.old.fields }
     {
         message_laws();

@@ -1,11 +1,11 @@
 //! A stream in pieces.
 
 ghost use Rattle.std.specs.Prelude.{◌≡◌, ◌≢◌, [], IfOk, IfErr, OnOk};
-ghost use Rattle.iim_unpack.specs.Format.Parts.{CountsFor};
-ghost use Rattle.iim_unpack.specs.Pieces.{HasFed};
+ghost use Rattle.iim_unpack.specs.States.Parts.{CountsFor};
+ghost use Rattle.iim_unpack.specs.PiecesSoFar.{HasFedPieces};
 ghost use Rattle.iim_unpack.specs.Format.Pieces.{IsAnswer, IsTurnedDown, IsUnpacked, stream_of};
 ghost use Rattle.iim_unpack.specs.Format.Streams.{Answer, Answers};
-ghost use Rattle.iim_unpack.specs.Format.Unpacking.{Stands, limits_in};
+ghost use Rattle.iim_unpack.specs.States.Unpacking.{Stands, limits_in};
 ghost use Rattle.iim_unpack.specs.declared.refusal.Cause.TheVariants.{Sink};
 
 use crate::laws::{
@@ -25,9 +25,11 @@ fn feed_pieces<S: StorySink>(
     sink: &mut S,
 ) -> Result<(), Refusal>
     requires fresh { Stands unpacker.old [] 0 }
-    ensures fed { OnOk result (HasFed S.goes (limits_in unpacker.old) unpacker.new sink.old sink.new (stream_of pieces.now)) }
+    ensures fed { OnOk result (HasFedPieces S.goes (limits_in unpacker.old) unpacker.new sink.old sink.new
+        (stream_of pieces.now)) }
     ensures calm { OnOk result (S.failures sink.new ≡ S.failures sink.old) }
-    ensures refused { IfErr result (IsTurnedDown S.goes (limits_in unpacker.old) (stream_of pieces.now) sink.old sink.new) }
+    ensures refused { IfErr result (IsTurnedDown S.goes (limits_in unpacker.old) (stream_of pieces.now) sink.old
+        sink.new) }
     ensures counted { IfErr result (λ e. CountsFor e.cause (S.failures sink.old) (S.failures sink.new)) }
 {
     feed_laws();
@@ -53,11 +55,13 @@ pub fn unpack_pieces<S: StorySink>(
     sink: &mut S,
 ) -> Result<(Unpacked, u64), Refusal>
     requires fresh { Stands unpacker [] 0 }
-    ensures finished { IfOk result (λ got. IsUnpacked S.goes (limits_in unpacker) (stream_of pieces.now) sink.old sink.new got.0 got.1) }
+    ensures finished { IfOk result (λ got.
+        IsUnpacked S.goes (limits_in unpacker) (stream_of pieces.now) sink.old sink.new got.0 got.1) }
     ensures refused { IfErr result (IsTurnedDown S.goes (limits_in unpacker) (stream_of pieces.now) sink.old sink.new) }
 
     // What the stream is answered is the result, unless the sink stopped.
-    ensures only { (answer : Answer) → Answers (limits_in unpacker) (stream_of pieces.now) answer → IfErr result (λ e. e.cause ≢ Sink) → IsAnswer result answer }
+    ensures only { (answer : Answer) → Answers (limits_in unpacker) (stream_of pieces.now) answer
+        → IfErr result (λ e. e.cause ≢ Sink) → IsAnswer result answer }
     ensures calm { OnOk result (S.failures sink.new ≡ S.failures sink.old) }
     ensures counted { IfErr result (λ e. CountsFor e.cause (S.failures sink.old) (S.failures sink.new)) }
 {

@@ -1,32 +1,29 @@
 //! The streaming unpacker.
 
 ghost use Rattle.std.specs.Prelude.{◌≡◌, ◌+◌, ◌*◌, ◌^◌, [], is_some, ◌<◌, ◌≤◌, ◌⊎◌, ℕ, List, Option, Some, None, Ok, Err, false, length, IsTrue, ◌↔◌, IsSome, IfSome, IfOk, IfErr, OnOk, OnErr};
-ghost use Rattle.iim_dataset.specs.Format.Places.{to_come};
-ghost use Rattle.iim_dataset.specs.Format.Reading.{TakesCalls};
-ghost use Rattle.iim_fields.specs.Format.Standing.{StandsAfter, limits_of, room_of, room_for};
+ghost use Rattle.iim_dataset.specs.States.Places.{to_come};
+ghost use Rattle.iim_dataset.specs.States.Reading.{TakesCalls, tag_cause_of};
+ghost use Rattle.iim_fields.specs.States.Standing.{StandsAfter, limits_of, room_of, room_for};
 ghost use Rattle.wire_story.specs.Format.Delivery as story;
-ghost use Rattle.iim_unpack.specs.Format.Parts.{CountsFor};
+ghost use Rattle.iim_unpack.specs.States.Parts.{CountsFor};
 ghost use Rattle.iim_unpack.specs.Format.Refusals.{refusal_at};
 ghost use Rattle.iim_unpack.specs.Routing.{Takes};
-ghost use Rattle.iim_unpack.specs.Unpacking.{HasAdvanced, FailsFor, FailsAs, tag_fault, begins};
-ghost use Rattle.iim_unpack.specs.Format.Unpacking.{raised, failed_at};
-ghost use Rattle.iim_dataset.specs.Format.Reading.{tag_cause_of};
-ghost use Rattle.iim_unpack.specs.Unpacking.{IsUnpacking, Stood};
-ghost use Rattle.iim_unpack.specs.Format.Unpacking.{Stands, IsDoneWith, IsDone, IsRefusedIn, Goes, limits_in, room_in, LeftAs};
-ghost use Rattle.iim_unpack.specs.Format.Held.{HoldsFew};
+ghost use Rattle.iim_unpack.specs.UnpackerInside.{HasAdvanced, FailsFor, FailsAs, tag_fault, begins, IsUnpacking, Stood};
+ghost use Rattle.iim_unpack.specs.States.Unpacking.{raised, failed_at, Stands, IsDoneWith, IsDone, IsRefusedIn, Goes, limits_in, room_in, LeftAs};
+ghost use Rattle.iim_unpack.specs.States.Held.{HoldsFew};
 ghost use Rattle.iim_unpack.specs.Format.Open.{IsTruncatedAt};
 ghost use Rattle.iim_unpack.specs.Format.Admitted.{Value, Admits};
 ghost use Rattle.iim_unpack.specs.Format.Tickets.{IsTicketOf};
 ghost use Rattle.iim_unpack.specs.Format.Value.{HasParts, ShowsParts};
 ghost use Rattle.iim_unpack.specs.declared.refusal.Refusal.{Refusal as RefusalValue};
 
-use crate::fault::TokenFault;
 use crate::laws::{admitted_octets_have_one_value, feed_laws};
-use crate::message::give_back;
+use crate::parts::fault::TokenFault;
+use crate::parts::message::give_back;
+use crate::parts::router::Router;
 use crate::parts::{Halt, Parts};
 use crate::refusal::{Cause, Layer, Refusal};
-use crate::router::Router;
-use crate::ticket::{SaveFault, spell_ticket};
+use crate::ticket::spelling::{SaveFault, spell_ticket};
 use arrayvec::ArrayVec;
 use iim_dataset::{Fault as TagFault, FaultCause, HeadReader};
 use iim_fields::{Envelope, EnvelopeRef, Fields, Limits};
@@ -56,9 +53,12 @@ fn feed_router<'p, 's, S: StorySink>(
     requires stands { Takes router.old.parts.now (to_come reader.old.place) }
     ensures parts { router.new.parts.ghost_name ≡ router.old.parts.ghost_name }
     ensures sink { router.new.sink.ghost_name ≡ router.old.sink.ghost_name }
-    ensures taken { IfOk result (HasAdvanced S.goes S.failures reader.old.place piece.now router.old.parts.now router.old.sink.now reader.new router.new.parts.now router.new.sink.now) }
+    ensures taken { IfOk result (HasAdvanced S.goes S.failures reader.old.place piece.now router.old.parts.now
+        router.old.sink.now reader.new router.new.parts.now router.new.sink.now) }
     ensures before { IfErr result (λ fault. fault.used < length piece.now) }
-    ensures fails { IfErr result (λ fault. FailsFor S.goes S.failures (tag_cause_of fault.cause) reader.old.place piece.now fault.used reader.new.place router.old.parts.now router.old.sink.now router.new.refused router.new.sink.now) }
+    ensures fails { IfErr result (λ fault.
+        FailsFor S.goes S.failures (tag_cause_of fault.cause) reader.old.place piece.now fault.used reader.new.place
+        router.old.parts.now router.old.sink.now router.new.refused router.new.sink.now) }
     ensures room { room_of router.new.parts.now.fields ≡ room_of router.old.parts.now.fields }
 {
     reader.feed(piece, router)
@@ -84,9 +84,11 @@ fn advance<S: StorySink>(
 ) -> Result<usize, Halt>
     requires takes_calls { TakesCalls reader.old }
     requires stands { Takes parts.old (to_come reader.old.place) }
-    ensures taken { IfOk result (HasAdvanced S.goes S.failures reader.old.place piece.now parts.old sink.old reader.new parts.new sink.new) }
+    ensures taken { IfOk result (HasAdvanced S.goes S.failures reader.old.place piece.now parts.old sink.old reader.new
+        parts.new sink.new) }
     ensures before { IfErr result (λ halt. halt.taken < length piece.now) }
-    ensures fails { IfErr result (λ halt. FailsAs S.goes S.failures reader.old.place piece.now halt.taken halt.fault parts.old sink.old sink.new) }
+    ensures fails { IfErr result (λ halt.
+        FailsAs S.goes S.failures reader.old.place piece.now halt.taken halt.fault parts.old sink.old sink.new) }
     ensures room { room_of parts.new.fields ≡ room_of parts.old.fields }
 {
     let mut router = Router {
@@ -161,14 +163,16 @@ pub struct Unpacker {
 }
 
 impl Model for Unpacker {
-    ghost use Rattle.iim_unpack.specs.Format.Unpacking.{Unpacking};
-    ghost use Rattle.iim_unpack.specs.Unpacking.{IsSound};
+    ghost use Rattle.iim_unpack.specs.States.Unpacking.{Unpacking};
+    ghost use Rattle.iim_unpack.specs.UnpackerInside.{IsSound};
 
     ghost Value = { Unpacking };
 
-    ghost view = { λ u. record { reader = u.reader; parts = u.parts; octets = u.octets; begun = u.begun; refused = u.refused } };
+    ghost view = { λ u. record
+        { reader = u.reader; parts = u.parts; octets = u.octets; begun = u.begun; refused = u.refused } };
 
-    ghost invariant = { λ u. IsSound (record { reader = u.reader; parts = u.parts; octets = u.octets; begun = u.begun; refused = u.refused }) };
+    ghost invariant = { λ u. IsSound
+        (record { reader = u.reader; parts = u.parts; octets = u.octets; begun = u.begun; refused = u.refused }) };
 }
 
 /// The refusal for a fault, at this octet.
@@ -304,7 +308,8 @@ impl Unpacker {
 
     /// An unpacker of these readers, which has taken `octets` octets; `begun` tells whether an octet has come.
     pub(crate) fn at_place(reader: HeadReader, parts: Parts, octets: u64, begun: bool) -> Unpacker
-        requires { IsUnpacking (record { reader = reader; parts = parts; octets = octets; begun = begun; refused = None }) }
+        requires { IsUnpacking (record
+            { reader = reader; parts = parts; octets = octets; begun = begun; refused = None }) }
         ensures { result ≡ record { reader = reader; parts = parts; octets = octets; begun = begun; refused = None } }
     {
         Unpacker {
@@ -363,7 +368,8 @@ impl Unpacker {
     /// ([`Cause::Sink`]); later calls answer [`Cause::Failed`]. No call takes memory.
     pub fn feed<S: StorySink>(&mut self, piece: &[u8], sink: &mut S) -> Result<Progress, Refusal>
         // It stands on the octets so far, or an envelope ends with them; and the sink was told what they add, and did not fail.
-        ensures goes { IfOk result (λ progress. (S.failures sink.new ≡ S.failures sink.old) × ((more : List story.StoryEvent) × S.goes sink.old more sink.new
+        ensures goes { IfOk result (λ progress. (S.failures sink.new ≡ S.failures sink.old)
+            × ((more : List story.StoryEvent) × S.goes sink.old more sink.new
             × ((p : List ℕ) (a : ℕ) → Stands self.old p a → Goes self.new p a piece.now more progress))) }
 
         // The first dead token is one that octet k completes; the sink was told what the octets before it add.
@@ -374,7 +380,8 @@ impl Unpacker {
 
         // After an envelope, and after a refusal, nothing changes any more.
         ensures done { IsDone self.old → (result ≡ Ok (Progress.Done 0)) × LeftAs self.old sink.old self.new sink.new }
-        ensures again { (octet : ℕ) → self.old.refused ≡ Some octet → (result ≡ Err (failed_at octet)) × LeftAs self.old sink.old self.new sink.new }
+        ensures again { (octet : ℕ) → self.old.refused ≡ Some octet → (result ≡ Err (failed_at octet))
+            × LeftAs self.old sink.old self.new sink.new }
         ensures limits { self.old.refused ≡ None → OnOk result (limits_in self.new ≡ limits_in self.old) }
 
         // It holds what the limits allow, and 256 octets at most beside that; and whatever it answers, it takes no memory.
@@ -410,7 +417,8 @@ impl Unpacker {
     pub fn end_of_input(&self) -> Option<Refusal>
         ensures done { IsDone self.now → result ≡ None }
         ensures failed { (octet : ℕ) → self.now.refused ≡ Some octet → result ≡ Some (failed_at octet) }
-        ensures truncated { (p : List ℕ) (a : ℕ) → Stands self.now p a → (e : RefusalValue) × (result ≡ Some e) × IsTruncatedAt p a e }
+        ensures truncated { (p : List ℕ) (a : ℕ) → Stands self.now p a → (e : RefusalValue) × (result ≡ Some e)
+            × IsTruncatedAt p a e }
     {
         if let Some(octet) = self.refused {
             return Some(failed_at(octet));
@@ -433,8 +441,10 @@ impl Unpacker {
     pub fn save(&self, alloc: Global) -> Result<Vec<u8>, SaveFault>
         ensures failed { (octet : ℕ) → self.now.refused ≡ Some octet → result ≡ Err SaveFault.Failed }
         ensures memory { self.now.refused ≡ None → IfErr result (λ fault. fault ≡ SaveFault.OutOfMemory) }
-        ensures ticket { IfOk result (λ ticket. (p : List ℕ) (a : ℕ) → Stands self.now p a ⊎ IsDoneWith self.now p a → IsTicketOf p ticket.items) }
-        ensures short { IfOk result (λ ticket. length ticket.items ≤ (limits_in self.now).octets + 6 * (limits_in self.now).fields + 256) }
+        ensures ticket { IfOk result (λ ticket. (p : List ℕ) (a : ℕ) → Stands self.now p a ⊎ IsDoneWith self.now p a
+            → IsTicketOf p ticket.items) }
+        ensures short { IfOk result (λ ticket. length ticket.items ≤ (limits_in self.now).octets
+            + 6 * (limits_in self.now).fields + 256) }
     {
         if self.refused.is_some() {
             return Err(SaveFault::Failed);
@@ -450,7 +460,8 @@ impl Unpacker {
     /// The value of the envelope where it lies, where one has ended. It stays there until the unpacker begins again.
     pub fn unpacked(&self) -> Option<UnpackedRef<'_>>
         ensures done { IsSome result ↔ IsDone self.now }
-        ensures value { IfSome result (λ got. (p : List ℕ) (a : ℕ) → IsDoneWith self.now p a → (v : Value) → Admits p v → ShowsParts got v) }
+        ensures value { IfSome result (λ got. (p : List ℕ) (a : ℕ) → IsDoneWith self.now p a → (v : Value) → Admits p v
+            → ShowsParts got v) }
     {
         feed_laws();
         admitted_octets_have_one_value();
@@ -474,7 +485,8 @@ impl Unpacker {
     /// The value of the envelope, where one has ended. Else the unpacker is handed back as it was.
     pub fn into_unpacked(self) -> Result<Unpacked, Unpacker>
         ensures done { OnOk result (IsDone self) }
-        ensures value { IfOk result (λ got. (p : List ℕ) (a : ℕ) → IsDoneWith self p a → (v : Value) → Admits p v → HasParts got v) }
+        ensures value { IfOk result (λ got. (p : List ℕ) (a : ℕ) → IsDoneWith self p a → (v : Value) → Admits p v
+            → HasParts got v) }
         ensures not_done { OnErr result (IsDone self → ⊥) }
         ensures handed_back { IfErr result (λ u. u ≡ self) }
     {

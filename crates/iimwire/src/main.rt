@@ -43,7 +43,8 @@ fn words(rt: &HostRuntime) -> io::Result<Vec<String>> {
 /// Opens the file that the request names, or else takes standard input.
 fn begin(rt: &HostRuntime, request: Request<'_>) -> ExitCode
     ensures standard { request.entry.file ≡ None → EndsWith request.entry.job (exit_status result) }
-    ensures named { IfSome request.entry.file (λ name. EndsWith request.entry.job (exit_status result) ⊎ (exit_status result ≡ status_failed)) }
+    ensures named { IfSome request.entry.file
+        (λ name. EndsWith request.entry.job (exit_status result) ⊎ (exit_status result ≡ status_failed)) }
 {
     let Some(name) = request.file else {
         return carry_out(rt, request, rt.stdin());

@@ -3,7 +3,7 @@
 ghost use Rattle.std.specs.Prelude.{◌≡◌, IfOk};
 
 use iim_commands::fault::CommandFault;
-use iim_commands::report::tell;
+use iim_commands::lines::tell;
 use iim_commands::request::UsageFault;
 use iim_commands::shown::push_name;
 use iim_commands::status::{FAILED, USAGE};

@@ -1,7 +1,7 @@
 //! Readers of records over the memory of an envelope, and where nothing is handed over; and the walks over an envelope.
 
 ghost use Rattle.std.specs.Prelude.{◌≢◌, length, OnOk};
-ghost use Rattle.iim_fields.specs.Format.Standing.{IsBetween, IsInside};
+ghost use Rattle.iim_fields.specs.States.Standing.{IsBetween, IsInside};
 
 use iim_dataset::Head;
 use iim_fields::{Envelope, EnvelopeBuilder, FieldFault, Fields, Limits};

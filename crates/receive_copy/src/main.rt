@@ -3,7 +3,7 @@
 
 ghost use Rattle.std.specs.Prelude.{◌≡◌, None, IfOk};
 ghost use Rattle.std.specs.Io.KnownBytes.{IsAtEnd};
-ghost use Rattle.iim_unpack.specs.Format.Intakes.{line};
+ghost use Rattle.iim_unpack.specs.States.Intakes.{in_line};
 
 use anyhow::{Result, bail};
 use iim_dataset::{FromRead, Source};
@@ -41,7 +41,8 @@ fn main(rt: HostRuntime) -> ExitCode {
 fn receive<R: Source, W: Write>(alloc: Global, intake: &mut Intake<R>, output: &mut W) -> Result<u8>
     requires { intake.old.failed ≡ None }
     // It is accepted only at the end of the input, and where nothing of it was refused.
-    ensures { IfOk result (λ status. status ≡ ACCEPTED → IsAtEnd (line R.state intake.new).octets × (intake.new.failed ≡ None)) }
+    ensures { IfOk result (λ status. status ≡ ACCEPTED → IsAtEnd (in_line R.state intake.new).octets
+        × (intake.new.failed ≡ None)) }
 {
     'receiving: for number in 1..u64::MAX {
         // One unpacker for each envelope; its lines go to the sink as they come.

@@ -1,7 +1,7 @@
 //! Calls of the records: checked, and built.
 
 ghost use Rattle.std.specs.Prelude.{◌≢◌, length, OnOk};
-ghost use Rattle.iim_fields.specs.Format.Standing.{IsBetween, IsInside};
+ghost use Rattle.iim_fields.specs.States.Standing.{IsBetween, IsInside};
 
 use crate::outcome::{Trouble, right};
 use crate::worked::{FIELDS, LIMITS};

@@ -2,7 +2,7 @@
 #![tactic(auto)]
 
 ghost use Rattle.std.specs.Prelude.{◌↔◌, IsTrue, IfOk};
-ghost use Rattle.iim_unpack.specs.Format.Unpacking.{IsDone};
+ghost use Rattle.iim_unpack.specs.States.Unpacking.{IsDone};
 
 use anyhow::{Result, bail, ensure};
 use byteorder::{BigEndian, ByteOrder};

@@ -2,7 +2,7 @@
 use Rattle.std.proofs.Common.{◌≡◌, ℕ, ◌+◌, List, [], ◌∷◌, length, map, refl, arith}
 use Rattle.std.proofs.lemmas.List.Sums.{sum_by-append}
 use Rattle.std.specs.List.{sum_by}
-use Rattle.iim_dataset.specs.Format.Events.{DataOctet}
+use Rattle.iim_dataset.specs.States.Events.{DataOctet}
 use Rattle.wire_story.specs.Format.Delivery.{LineOctet}
 use Rattle.speed.specs.declared.tally.Tally.{Tally}
 use Rattle.wire_story.specs.Format.Words.{capped}

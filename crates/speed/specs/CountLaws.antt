@@ -2,7 +2,7 @@
 use Rattle.std.proofs.Common.{◌≡◌, ℕ, ◌+◌, ◌<◌, ◌^◌, List, [], ◌++◌, refl, sym, ap, ◌∙◌, arith}
 use Rattle.std.proofs.lemmas.List.Sums.{sum_by-append}
 use Rattle.std.specs.List.{sum_by}
-use Rattle.iim_dataset.specs.Format.Events as datasets
+use Rattle.iim_dataset.specs.States.Events as datasets
 use Rattle.wire_story.specs.Format.Delivery as story
 use Rattle.speed.specs.declared.tally.Tally.{Tally}
 use Rattle.wire_story.specs.Format.Words.{capped}

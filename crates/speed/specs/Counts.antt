@@ -1,7 +1,7 @@
 -- What a tally counts.
 use Rattle.std.specs.Prelude.{◌≡◌, ℕ, ◌+◌, ◌^◌, ◌<◌, List}
 use Rattle.std.specs.List.{sum_by}
-use Rattle.iim_dataset.specs.Format.Events as datasets
+use Rattle.iim_dataset.specs.States.Events as datasets
 use Rattle.wire_story.specs.Format.Delivery as story
 use Rattle.wire_story.specs.Format.Words.{capped}
 use Rattle.speed.specs.declared.tally.Tally.{Tally}

@@ -1,7 +1,7 @@
 //! A sink and target that counts.
 
 ghost use Rattle.std.specs.Prelude.{◌≡◌, ◌+◌, ⊤};
-ghost use Rattle.iim_dataset.specs.Format.Devices.{unbroken};
+ghost use Rattle.iim_dataset.specs.States.Devices.{unbroken};
 ghost use Rattle.wire_story.specs.Format.Words.{capped};
 
 use iim_commands::outlet::Outlet;

@@ -9,7 +9,7 @@ use crate::tally::Tally;
 use iim_audit::audit;
 use iim_commands::check::Check;
 use iim_commands::coming::LIMITS;
-use iim_commands::list::{EnvelopeReport, list};
+use iim_commands::list::{EnvelopeLines, list};
 use iim_commands::packing::{PackRequest, pack_script};
 use iim_commands::show::Show;
 use iim_commands::story::narrate;
@@ -134,7 +134,7 @@ fn unpack_octets(alloc: Global, octets: &[u8]) -> Option<Tally> {
 }
 
 /// Lists envelopes as the command does: counts the octets of the list.
-fn listed<P: EnvelopeReport>(alloc: Global, texts: &P, octets: &[u8]) -> Option<Tally> {
+fn listed<P: EnvelopeLines>(alloc: Global, texts: &P, octets: &[u8]) -> Option<Tally> {
     let mut intake = Intake::new(FromRead::new(octets));
     let (answer, tally) = list(alloc, texts, &mut intake, Tally::new());
     (answer.ok()? == 0).then_some(tally)
@@ -175,7 +175,8 @@ fn audited(alloc: Global, octets: &[u8]) -> Option<Tally> {
 
 /// Reads a text: counts the octets of its lines and the ends of these.
 fn text(octets: &[u8]) -> Option<Tally>
-    ensures { IfSome result (λ tally. CountsText (record { whole = 0; line_ends = 0; octets = 0 }) (delivered octets.now) tally) }
+    ensures { IfSome result (λ tally.
+        CountsText (record { whole = 0; line_ends = 0; octets = 0 }) (delivered octets.now) tally) }
 {
     let mut tally = Tally::new();
     TextReader::new().run(octets, &mut tally).ok()?;

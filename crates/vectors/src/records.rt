@@ -1,8 +1,8 @@
 //! Records checked, envelopes read and built.
 
 ghost use Rattle.std.specs.Prelude.{◌≢◌, length, OnOk};
-ghost use Rattle.iim_fields.specs.Format.Standing.{IsBetween, IsInside};
-ghost use Rattle.iim_fields.specs.Format.Checks.{TakesHead};
+ghost use Rattle.iim_fields.specs.States.Standing.{IsBetween, IsInside};
+ghost use Rattle.iim_fields.specs.States.Checks.{TakesHead};
 
 use crate::answers::Answers;
 use crate::octets::{Names, Shown, Words};

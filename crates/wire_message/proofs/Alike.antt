@@ -4,14 +4,14 @@ use Rattle.std.proofs.lemmas.Bool.{and_parts, or_right, eqb-true, ltb-true}
 use Rattle.std.proofs.lemmas.List.{append_cancel_left}
 use Rattle.arrayvec.specs.ArrayVec.{ArrayVec}
 use Rattle.wire_story.specs.Format.Texts.{AreLines, Holds}
-use Rattle.wire_story.specs.Format.Reading as story
-use Rattle.wire_story.specs.Format.Laws as stories
+use Rattle.wire_story.specs.States.Reading as story
+use Rattle.wire_story.specs.Laws.Texts as stories
 use Rattle.wire_story.specs.declared.reader.TextReader.{TextReader}
 use Rattle.wire_message.specs.Format.Fields.{IsField, is_alphanumeric, is_info_octet, is_trailer_octet, is_filler_octet, is_text_octet, max_filler, max_source, max_number, max_category, max_words, max_info, max_trailer}
 use Rattle.iim_dataset.specs.Format.Octets.{is_digit, is_letter}
 use Rattle.wire_message.specs.Format.Messages.{Header, IsHeader}
-use Rattle.wire_message.specs.Format.SoFar.{IsPlace, Spells, StoryStands, LeadTo}
-use Rattle.wire_message.specs.Format.Laws.{OctetsLeadOnAlike}
+use Rattle.wire_message.specs.States.SoFar.{IsPlace, Spells, StoryStands, LeadsTo}
+use Rattle.wire_message.specs.Laws.Messages.{OctetsLeadOnAlike}
 use Rattle.wire_message.specs.declared.place.Place.{Place}
 use Rattle.wire_message.specs.declared.place.Place.TheVariants.{Filler, Source, Number, Priority, PriorityRead, Category, Words, Info, Gap, Text, Trailer, AfterEnd}
 use Rattle.wire_message.proofs.Machine.{of, begun, more_info, guarded, next, run, run_parts, and_then_place}
@@ -31,7 +31,7 @@ pub record Stands (xs text : List ℕ) (p : Place) : Type 0 where
   pub bare : IsBare p
   pub spelled : Spells xs text p
 
-pub stands_bare : (xs text : List ℕ) (p : Place) → LeadTo xs text p → Stands xs text (unread p)
+pub stands_bare : (xs text : List ℕ) (p : Place) → LeadsTo xs text p → Stands xs text (unread p)
 stands_bare xs text (Text h reader) l = record { bare = l.is_place.0; spelled = l.spelled }
 stands_bare xs text p l = record { bare = l.is_place; spelled = l.spelled }
 

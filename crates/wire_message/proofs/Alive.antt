@@ -8,7 +8,7 @@ use Rattle.wire_message.specs.Format.Fields.{IsField, is_alphanumeric, is_traile
 use Rattle.iim_dataset.specs.Format.Octets.{is_digit, is_letter}
 use Rattle.wire_message.specs.Format.Messages.{Header, IsHeader, IsMessage, IsTrailer}
 use Rattle.wire_message.specs.Format.Layers.{MessageLanguage, MessageLivesWith, MessageDiesAt}
-use Rattle.wire_message.specs.Format.SoFar.{IsPlace, Spells}
+use Rattle.wire_message.specs.States.SoFar.{IsPlace, Spells}
 use Rattle.wire_message.specs.declared.place.Place.{Place}
 use Rattle.wire_message.specs.declared.place.Place.TheVariants.{Filler, Source, Number, Priority, PriorityRead, Category, Words, Info, Gap, Text, Trailer, AfterEnd}
 use Rattle.wire_message.proofs.Machine.{of, begun, next, run, run_parts, first_step}

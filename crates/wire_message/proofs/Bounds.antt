@@ -5,7 +5,7 @@ use Rattle.wire_message.specs.Format.Fields.{max_filler}
 use Rattle.wire_story.specs.Format.Texts.{IsTextSoFar, line_end}
 use Rattle.wire_message.specs.Format.Messages.{IsFiller, SpellsInfo, fixed_header}
 use Rattle.wire_message.specs.Format.Canonical.{packed_info}
-use Rattle.wire_message.specs.Format.SoFar.{IsPlace, LeadTo}
+use Rattle.wire_message.specs.States.SoFar.{IsPlace, LeadsTo}
 use Rattle.wire_message.specs.Format.Lengths.{LeadsIn, IsOneOf, least_of, greatest_of}
 use Rattle.wire_message.specs.declared.place.Place.{Place}
 use Rattle.wire_message.specs.declared.place.Place.TheVariants.{Filler, Gap, Text, Trailer, AfterEnd}
@@ -40,7 +40,7 @@ filler_within octets before rest least fill e long =
     let sum : length octets ≡ length before + length rest = ap length e ∙ length-append before rest in
     (omega (arith, sum, long), omega (arith, sum, long, fill.2))
 
-within : (p : Place) (octets text : List ℕ) → LeadTo octets text p → IsOneOf (least_of p) (greatest_of p) (length octets)
+within : (p : Place) (octets text : List ℕ) → LeadsTo octets text p → IsOneOf (least_of p) (greatest_of p) (length octets)
 within (Filler k) octets text l = (omega (arith, l.spelled.1), omega (arith, l.spelled.1))
 within (Gap h k feed) octets text l =
     let spelled = l.spelled in
@@ -70,7 +70,7 @@ within p octets text l = filler_within octets l.spelled.0 (from_soh p) (least_of
 pub lengths_are : (p : Place) → IsPlace p → (count : ℕ) → LeadsIn (Some p) count ↔ IsOneOf (least_of p) (greatest_of p) count
 lengths_are p i count = (
   λ led.
-      let there = subst (LeadTo led.0 led.1) (sym (some_same led.2.1)) led.2.2 in
+      let there = subst (LeadsTo led.0 led.1) (sym (some_same led.2.1)) led.2.2 in
       subst (IsOneOf (least_of p) (greatest_of p)) led.3 (within p led.0 led.1 there),
   λ one. let led = leads p i count one in (led.0, led.1, (p, refl, led.2), led.3),
 )

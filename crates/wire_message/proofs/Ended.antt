@@ -5,16 +5,17 @@ use Rattle.std.proofs.lemmas.Bool.{eqb-true}
 use Rattle.std.proofs.lemmas.Bool.Decides.{nat_tests}
 use Rattle.wire_story.specs.Format.Texts.{Holds, IsTextSoFar, is_line_octet, line_end}
 use Rattle.wire_story.specs.Format.Tokens.{End, StoryDiesAt}
-use Rattle.wire_story.specs.Format.Laws.{StoriesLiveAsTextsSoFar, StoriesEndAsTexts, TextsEndInNoReturn, TextsSoFarHaveOneReading}
-use Rattle.wire_story.specs.Format.Reading as story
+use Rattle.wire_story.specs.Laws.Texts.{StoriesLiveAsTextsSoFar, StoriesEndAsTexts, TextsEndInNoReturn, TextsSoFarHaveOneReading}
+use Rattle.wire_story.specs.States.Reading as story
 use Rattle.wire_story.specs.declared.reader.TextReader.{TextReader}
 use Rattle.wire_story.specs.declared.fault.TextCause.{TextCause}
 use Rattle.wire_story.specs.declared.fault.TextCause.TheVariants as text_cause
 use Rattle.arrayvec.specs.ArrayVec.{ArrayVec}
 use Rattle.wire_message.specs.Format.Fields.{Are, is_text_octet}
 use Rattle.wire_message.specs.Format.Messages.{Header}
-use Rattle.wire_message.specs.Format.SoFar.{LeadTo}
-use Rattle.wire_message.specs.Format.Reading.{LeadsOn, GoesSomewhere, Refuses, HasCause}
+use Rattle.wire_message.specs.States.SoFar.{LeadsTo}
+use Rattle.wire_message.specs.States.Reading.{LeadsOn, GoesSomewhere, Refuses}
+use Rattle.wire_message.specs.Format.Causes.{HasCause}
 use Rattle.wire_message.specs.Steps.{cause_of}
 use Rattle.wire_message.specs.declared.fault.MessageCause.TheVariants.{LoneReturn}
 use Rattle.wire_message.specs.declared.place.Place.TheVariants.{Text, Trailer}
@@ -81,7 +82,7 @@ ends_at ends law h old t rest taken cause none before control etx refuses =
     (λ octets text l.
     let has : story.HasCause text_cause.ControlOctet (text ++ ys) (slice_index rest taken) = subst (λ (c : TextCause). story.HasCause c (text ++ ys) (slice_index rest taken)) control (refuses text l.story) in
     let reader : TextReader = Some 0 in
-    let lead : LeadTo (octets ++ ys) (text ++ ys) (Text h reader) = record {
+    let lead : LeadsTo (octets ++ ys) (text ++ ys) (Text h reader) = record {
       is_place = (l.is_place.0, holds_none);
       spelled = text_more octets text ys h old reader (front_text law text_cause.ControlOctet text ys (slice_index rest taken) has) l.spelled;
       story = (0, refl, has.1);
@@ -89,9 +90,9 @@ ends_at ends law h old t rest taken cause none before control etx refuses =
     let whole = etx_leads h reader (λ x s. (ends x).1 (subst (Holds x) (sym (same_held 0 s.0 s.1)) s.2)) (octets ++ ys) (text ++ ys) lead in
     let front : (octets ++ ys) ++ (3 ∷ []) ≡ octets ++ take (taken + 1) rest =
     append_assoc octets ys (3 ∷ []) ∙ ap (λ (u : List ℕ). octets ++ u) (ap (λ (b : ℕ). ys ++ (b ∷ [])) (sym etx) ∙ sym (take_more rest taken 0 before)) in
-    subst (λ (v : ArrayVec ℕ). LeadTo (octets ++ take (taken + 1) rest) (text ++ ys) (Trailer h v)) (ap of (sym none))
-    (subst (λ (u : List ℕ). LeadTo u (text ++ ys) (Trailer h (of []))) front
-    (subst (λ (u : List ℕ). LeadTo ((octets ++ ys) ++ (3 ∷ [])) u (Trailer h (of []))) (append-nil (text ++ ys)) whole)))
+    subst (λ (v : ArrayVec ℕ). LeadsTo (octets ++ take (taken + 1) rest) (text ++ ys) (Trailer h v)) (ap of (sym none))
+    (subst (λ (u : List ℕ). LeadsTo u (text ++ ys) (Trailer h (of []))) front
+    (subst (λ (u : List ℕ). LeadsTo ((octets ++ ys) ++ (3 ∷ [])) u (Trailer h (of []))) (append-nil (text ++ ys)) whole)))
   where
     same_held : (a b : ℕ) → ◌≡◌ {A = Option ℕ} (Some a) (Some b) → a ≡ b
     same_held a b e = cc
@@ -114,7 +115,7 @@ no_three : (b : ℕ) → b < 256 → (b == 3) ≡ false → is_text_octet b ≡ 
 no_three b fits other = grind (arith, nat_tests)
 
 dies_at : StoriesLiveAsTextsSoFar → StoriesEndAsTexts → TextsEndInNoReturn → TextsSoFarHaveOneReading → (cause : TextCause) (octets text ys : List ℕ) (b : ℕ) (h : Header) (old : TextReader)
-    → b < 256 → (cause ≡ text_cause.ControlOctet → b ≡ 3 → ⊥) → story.HasCause cause (text ++ ys) b → LeadTo octets text (Text h old) → HasCause (cause_of cause) (octets ++ ys) b
+    → b < 256 → (cause ≡ text_cause.ControlOctet → b ≡ 3 → ⊥) → story.HasCause cause (text ++ ys) b → LeadsTo octets text (Text h old) → HasCause (cause_of cause) (octets ++ ys) b
 dies_at live ends bare one text_cause.Sink octets text ys b h old fits other has l =
     let alive = (live ((text ++ ys) ++ (b ∷ []))).0 has.0 in
     let are = back_text (text ++ ys) (b ∷ []) (holds_text ((text ++ ys) ++ (b ∷ [])) alive.0 alive.1) in

@@ -4,10 +4,10 @@ use Rattle.std.proofs.lemmas.Bool.{and_parts, or_right, eqb-true, ltb-true}
 use Rattle.std.proofs.lemmas.List.{take_more, length-take-le}
 use Rattle.arrayvec.specs.ArrayVec.{ArrayVec}
 use Rattle.wire_story.specs.declared.reader.TextReader.{TextReader}
-use Rattle.wire_story.specs.Format.Reading as story
+use Rattle.wire_story.specs.States.Reading as story
 use Rattle.wire_message.specs.Format.Fields.{Are, is_trailer_octet, is_filler_octet, max_filler, max_trailer}
 use Rattle.wire_message.specs.Format.Messages.{Header, IsHeader, IsTrailer}
-use Rattle.wire_message.specs.Format.SoFar.{IsPlace, Spells, StoryStands}
+use Rattle.wire_message.specs.States.SoFar.{IsPlace, Spells, StoryStands}
 use Rattle.wire_message.specs.Steps.{AddsNoText, TakesSome}
 use Rattle.wire_message.specs.declared.place.Place.{Place}
 use Rattle.wire_message.specs.declared.place.Place.TheVariants.{Words, Info, Gap, Text, Trailer, AfterEnd}

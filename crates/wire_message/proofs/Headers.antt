@@ -6,9 +6,9 @@ use Rattle.std.proofs.lemmas.Bool.Decides.{nat_tests}
 use Rattle.wire_message.specs.Format.Fields.{Are, is_trailer_octet}
 use Rattle.wire_message.specs.Format.Messages.{Header, IsTrailer, BeginsWithHeader, fixed_header}
 use Rattle.wire_message.specs.Format.Layers.{after_stx, trailer_so_far}
-use Rattle.wire_message.specs.Format.SoFar.{LeadTo}
-use Rattle.wire_message.specs.Format.Reading.{head_read, trailer_read}
-use Rattle.wire_message.specs.Format.Laws.{TellsHeaderOf, HeadersAreToldFromStx, TrailersAreToldFromEtx, MessagesKeepTheirHeader, TrailersStandBetweenEtxAndEot}
+use Rattle.wire_message.specs.States.SoFar.{LeadsTo}
+use Rattle.wire_message.specs.States.Reading.{head_read, trailer_read}
+use Rattle.wire_message.specs.Laws.Messages.{TellsHeaderOf, HeadersAreToldFromStx, TrailersAreToldFromEtx, MessagesKeepTheirHeader, TrailersStandBetweenEtxAndEot}
 use Rattle.wire_message.specs.declared.place.Place.{Place}
 use Rattle.wire_message.specs.declared.place.Place.TheVariants.{Filler, Source, Number, Priority, PriorityRead, Category, Words, Info, Gap, Text, Trailer, AfterEnd}
 use Rattle.wire_message.proofs.OneReading.{one_head, message_begins}
@@ -62,10 +62,10 @@ not_told reader octets e quiet =
       parts = λ head. (λ same. absurd cc, λ b. absurd (both_ways (list_any (λ b. b == 2) octets) none (begins_has_stx octets head b)));
     }
 
-before_stx : (octets text : List ℕ) (p : Place) → LeadTo octets text p → head_read (Some p) ≡ None → TellsHeaderOf (Some p) octets
+before_stx : (octets text : List ℕ) (p : Place) → LeadsTo octets text p → head_read (Some p) ≡ None → TellsHeaderOf (Some p) octets
 before_stx octets text p l e = not_told (Some p) octets e (no_stx octets text p l.is_place l.spelled e)
 
-header_at : (octets text : List ℕ) (p : Place) → LeadTo octets text p → TellsHeaderOf (Some p) octets
+header_at : (octets text : List ℕ) (p : Place) → LeadsTo octets text p → TellsHeaderOf (Some p) octets
 header_at octets text (Filler k) l = before_stx octets text (Filler k) l refl
 header_at octets text (Source s) l = before_stx octets text (Source s) l refl
 header_at octets text (Number s n) l = before_stx octets text (Number s n) l refl
@@ -128,10 +128,10 @@ trailer_of_message object text trailer head m =
 no_trailer : (octets rest : List ℕ) → after_stx octets ≡ rest → Are (is_not 3) rest → [] ≡ trailer_so_far octets
 no_trailer octets rest e are = sym (ap trailer_in e ∙ ap (before_first (λ b. b == 4)) (none_after 3 rest are))
 
-no_trailer_yet : (octets text : List ℕ) (p : Place) → LeadTo octets text p → head_read (Some p) ≡ None → [] ≡ trailer_so_far octets
+no_trailer_yet : (octets text : List ℕ) (p : Place) → LeadsTo octets text p → head_read (Some p) ≡ None → [] ≡ trailer_so_far octets
 no_trailer_yet octets text p l e = no_trailer octets [] (none_after 2 octets (no_stx octets text p l.is_place l.spelled e)) refl
 
-trailer_at : (octets text : List ℕ) (p : Place) → LeadTo octets text p → trailer_read (Some p) ≡ trailer_so_far octets
+trailer_at : (octets text : List ℕ) (p : Place) → LeadsTo octets text p → trailer_read (Some p) ≡ trailer_so_far octets
 trailer_at octets text (Filler k) l = no_trailer_yet octets text (Filler k) l refl
 trailer_at octets text (Source s) l = no_trailer_yet octets text (Source s) l refl
 trailer_at octets text (Number s n) l = no_trailer_yet octets text (Number s n) l refl

@@ -1,7 +1,7 @@
 -- How many CR a reader of the text holds.
 use Rattle.std.proofs.Common.{ℕ, ◌≤◌, List, [], ◌∷◌, Some, refl, arith}
 use Rattle.wire_story.specs.Format.Texts.{IsTextSoFar, Holds}
-use Rattle.wire_story.specs.Format.Reading as story
+use Rattle.wire_story.specs.States.Reading as story
 use Rattle.wire_story.specs.declared.reader.TextReader.{TextReader}
 
 so_far_two : (x : List ℕ) (lines : List (List ℕ)) (line : List ℕ) (held : ℕ) → IsTextSoFar x lines line held → held ≤ 2

@@ -3,10 +3,10 @@ use Rattle.std.proofs.Common.{◌≡◌, ℕ, Bool, true, cond, Some, List, [], 
 use Rattle.iim_dataset.specs.Format.Languages.{IsAlive}
 use Rattle.wire_story.specs.Format.Texts.{AreLines}
 use Rattle.wire_story.specs.Format.Tokens.{Octet, End, StoryLanguage}
-use Rattle.wire_story.specs.Format.Laws.{StoriesLiveAsTextsSoFar, StoriesEndAsTexts}
+use Rattle.wire_story.specs.Laws.Texts.{StoriesLiveAsTextsSoFar, StoriesEndAsTexts}
 use Rattle.wire_message.specs.Format.Layers.{MessageLivesWith, StoryLivesIn}
-use Rattle.wire_message.specs.Format.SoFar.{IsPlace, Spells, LeadTo}
-use Rattle.wire_message.specs.Format.Laws.{LivingOctetsLeadOn}
+use Rattle.wire_message.specs.States.SoFar.{IsPlace, Spells, LeadsTo}
+use Rattle.wire_message.specs.Laws.Messages.{LivingOctetsLeadOn}
 use Rattle.wire_message.specs.declared.place.Place.{Place}
 use Rattle.wire_message.specs.declared.place.Place.TheVariants.{Filler, Text, Trailer, AfterEnd}
 use Rattle.wire_message.proofs.Machine.{run, run_parts}
@@ -24,7 +24,7 @@ whole ends octets text p i l ended lives =
     (subst (IsAlive StoryLanguage) (tokens_of octets text (text_ended p) (text_at octets text p i l)) lives))
 
 -- In the text the reader of it holds as many CR as the text so far ends in.
-story_leads : StoriesLiveAsTextsSoFar → StoriesEndAsTexts → (octets text : List ℕ) (p : Place) → Stands octets text p → StoryLivesIn octets → (place : Place) × LeadTo octets text place
+story_leads : StoriesLiveAsTextsSoFar → StoriesEndAsTexts → (octets text : List ℕ) (p : Place) → Stands octets text p → StoryLivesIn octets → (place : Place) × LeadsTo octets text place
 story_leads live ends octets text (Text h reader) at lives =
     let so_far = (live text).0 (subst (IsAlive StoryLanguage) (tokens_are octets text h reader at.bare at.spelled) lives) in
     let held : ℕ = so_far.0 in (
@@ -38,7 +38,7 @@ story_leads live ends octets text (AfterEnd h t k) at lives =
 story_leads live ends octets text p at lives = (p, record { is_place = at.bare; spelled = at.spelled; story = none_yet octets text p at.spelled refl })
 
 -- A message that can continue with the octets runs on from the place.
-pub message_leads : (octets more text : List ℕ) (place : Place) → LeadTo octets text place → MessageLivesWith (octets ++ more) → (new : Place) × Continues (unread place) more new
+pub message_leads : (octets more text : List ℕ) (place : Place) → LeadsTo octets text place → MessageLivesWith (octets ++ more) → (new : Place) × Continues (unread place) more new
 message_leads octets more text place led message =
     let ran = live_runs (octets ++ more) message in
     let parts = run_parts (Filler 0) octets more ran.0 ran.1 in

@@ -3,7 +3,7 @@ use Rattle.std.proofs.Common.{◌≡◌, ℕ, ◌+◌, ◌<◌, ◌≤◌, Bool,
 use Rattle.arrayvec.specs.ArrayVec.{ArrayVec}
 use Rattle.wire_message.specs.Format.Fields.{is_filler_octet, max_filler}
 use Rattle.wire_message.specs.Format.Messages.{Header}
-use Rattle.wire_message.specs.Format.SoFar.{IsPlace}
+use Rattle.wire_message.specs.States.SoFar.{IsPlace}
 use Rattle.wire_message.specs.Steps.{TakesSome}
 use Rattle.wire_message.specs.Parts.{EndsPart, TakesInPart, lengthens_gap}
 use Rattle.wire_message.specs.declared.place.Place.{Place}

@@ -1,9 +1,9 @@
 -- Octets lead to one place at most, with one text.
 use Rattle.std.proofs.Common.{◌≡◌, ℕ, Bool, true, false, List, Option, Some, None, refl, sym, ap, subst, ◌∙◌}
 use Rattle.wire_story.specs.Format.Texts.{Holds}
-use Rattle.wire_story.specs.Format.Laws.{TextsSoFarHaveOneReading}
-use Rattle.wire_message.specs.Format.SoFar.{StoryStands}
-use Rattle.wire_message.specs.Format.Laws.{OctetsLeadToOnePlace}
+use Rattle.wire_story.specs.Laws.Texts.{TextsSoFarHaveOneReading}
+use Rattle.wire_message.specs.States.SoFar.{StoryStands}
+use Rattle.wire_message.specs.Laws.Messages.{OctetsLeadToOnePlace}
 use Rattle.wire_message.specs.declared.place.Place.{Place}
 use Rattle.wire_message.specs.declared.place.Place.TheVariants.{Text}
 use Rattle.wire_message.proofs.Runs.{unread, spelled_runs}

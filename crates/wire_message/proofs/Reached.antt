@@ -8,9 +8,9 @@ use Rattle.wire_story.specs.Format.Texts.{IsLine, is_line_octet}
 use Rattle.wire_message.specs.Format.Fields.{Are, is_filler_octet, is_text_octet, max_filler}
 use Rattle.wire_message.specs.Format.Messages.{Header, IsFiller, IsGap, IsMessage, SpellsInfo, fixed_header, has_feed}
 use Rattle.wire_message.specs.Format.Canonical.{packed_info}
-use Rattle.wire_message.specs.Format.SoFar.{IsPlace, Spells, StoryStands, LeadTo}
+use Rattle.wire_message.specs.States.SoFar.{IsPlace, Spells, StoryStands, LeadsTo}
 use Rattle.wire_message.specs.Format.Lengths.{IsOneOf, fixed_octets, least_head, least_of, greatest_of}
-use Rattle.wire_message.specs.Format.Laws.{PlacesAreReached}
+use Rattle.wire_message.specs.Laws.Messages.{PlacesAreReached}
 use Rattle.wire_message.specs.declared.place.Place.{Place}
 use Rattle.wire_message.specs.declared.place.Place.TheVariants.{Filler, Source, Number, Priority, PriorityRead, Category, Words, Info, Gap, Text, Trailer, AfterEnd}
 use Rattle.wire_message.proofs.Spans.{Are-cons, Are-append}
@@ -19,7 +19,7 @@ use Rattle.wire_message.proofs.Ended.{returns_text}
 
 -- octets of that length lead to the place
 abbrev IsReached : Place → ℕ → Type 0
-IsReached place count = (octets : List ℕ) × (text : List ℕ) × LeadTo octets text place × (length octets ≡ count)
+IsReached place count = (octets : List ℕ) × (text : List ℕ) × LeadsTo octets text place × (length octets ≡ count)
 
 -- NUL, k times
 abbrev zeros : ℕ → List ℕ

@@ -9,16 +9,17 @@ use Rattle.iim_dataset.specs.Format.Languages.{IsAlive}
 use Rattle.wire_story.specs.Format.Texts.{AreLines, Holds}
 use Rattle.wire_story.specs.Format.Delivery.{delivered, events_of}
 use Rattle.wire_story.specs.Format.Tokens.{OctetOrEnd, Octet, End, StoryLanguage, LivesWith, StoryDiesAt}
-use Rattle.wire_story.specs.Format.Laws.{StoriesLiveAsTextsSoFar, TextsEndInNoReturn, StoriesEndAsTexts}
-use Rattle.wire_story.specs.Format.Reading as story
+use Rattle.wire_story.specs.Laws.Texts.{StoriesLiveAsTextsSoFar, TextsEndInNoReturn, StoriesEndAsTexts}
+use Rattle.wire_story.specs.States.Reading as story
 use Rattle.wire_story.specs.declared.reader.TextReader.{TextReader}
 use Rattle.wire_story.specs.declared.fault.TextCause.{TextCause}
 use Rattle.wire_story.specs.declared.fault.TextCause.TheVariants as text_cause
 use Rattle.wire_message.specs.Format.Fields.{Are, is_text_octet}
 use Rattle.wire_message.specs.Format.Messages.{Header, IsHeader, IsMessage}
 use Rattle.wire_message.specs.Format.Layers.{MessageDiesAt}
-use Rattle.wire_message.specs.Format.SoFar.{Spells, LeadTo}
-use Rattle.wire_message.specs.Format.Reading.{StandsAt, LeadsOn, GoesSomewhere, Refuses, HasCause, StoryDiesWith, IsWhole, is_ended, head_read, trailer_read}
+use Rattle.wire_message.specs.States.SoFar.{Spells, LeadsTo}
+use Rattle.wire_message.specs.States.Reading.{StandsAt, LeadsOn, GoesSomewhere, Refuses, IsWhole, is_ended, head_read, trailer_read}
+use Rattle.wire_message.specs.Format.Causes.{HasCause, StoryDiesWith}
 use Rattle.wire_message.specs.Steps.{cause_of, TakesSome, DiesWith}
 use Rattle.wire_message.specs.declared.fault.MessageCause.{MessageCause}
 use Rattle.wire_message.specs.declared.fault.MessageCause.TheVariants.{BadOctet, LoneReturn}
@@ -37,33 +38,33 @@ use Rattle.std.proofs.lemmas.List.{get_or-drop}
 same_place : (p q : Place) → ◌≡◌ {A = Option Place} (Some p) (Some q) → q ≡ p
 same_place p q e = cc
 
-pub leads_on_of : (p q : Place) (piece more : List ℕ) → ((octets text : List ℕ) → LeadTo octets text p → LeadTo (octets ++ piece) (text ++ more) q) → LeadsOn (Some p) piece more (Some q)
-leads_on_of p q piece more f octets text s = (q, refl, f octets text (subst (LeadTo octets text) (same_place p s.0 s.1) s.2))
+pub leads_on_of : (p q : Place) (piece more : List ℕ) → ((octets text : List ℕ) → LeadsTo octets text p → LeadsTo (octets ++ piece) (text ++ more) q) → LeadsOn (Some p) piece more (Some q)
+leads_on_of p q piece more f octets text s = (q, refl, f octets text (subst (LeadsTo octets text) (same_place p s.0 s.1) s.2))
 
-pub goes_somewhere_of : (p : Place) (piece more : List ℕ) → ((octets text : List ℕ) → LeadTo octets text p → (q : Place) × LeadTo (octets ++ piece) (text ++ more) q) → GoesSomewhere (Some p) piece more
-goes_somewhere_of p piece more f octets text s = f octets text (subst (LeadTo octets text) (same_place p s.0 s.1) s.2)
+pub goes_somewhere_of : (p : Place) (piece more : List ℕ) → ((octets text : List ℕ) → LeadsTo octets text p → (q : Place) × LeadsTo (octets ++ piece) (text ++ more) q) → GoesSomewhere (Some p) piece more
+goes_somewhere_of p piece more f octets text s = f octets text (subst (LeadsTo octets text) (same_place p s.0 s.1) s.2)
 
-pub refuses_of : (p : Place) (rest : List ℕ) (taken : ℕ) (cause : MessageCause) → ((octets text : List ℕ) → LeadTo octets text p → HasCause cause (octets ++ take taken rest) (slice_index rest taken))
+pub refuses_of : (p : Place) (rest : List ℕ) (taken : ℕ) (cause : MessageCause) → ((octets text : List ℕ) → LeadsTo octets text p → HasCause cause (octets ++ take taken rest) (slice_index rest taken))
     → Refuses (Some p) rest (record { taken = taken; cause = cause })
-refuses_of p rest taken cause f octets text s = f octets text (subst (LeadTo octets text) (same_place p s.0 s.1) s.2)
+refuses_of p rest taken cause f octets text s = f octets text (subst (LeadsTo octets text) (same_place p s.0 s.1) s.2)
 
 -- ---- where nothing is added to the text
 
-pub leads_by : (p q : Place) (rest : List ℕ) (n : ℕ) → TakesSome p rest q n → (octets text : List ℕ) → LeadTo octets text p → LeadTo (octets ++ take n rest) (text ++ []) q
+pub leads_by : (p q : Place) (rest : List ℕ) (n : ℕ) → TakesSome p rest q n → (octets text : List ℕ) → LeadsTo octets text p → LeadsTo (octets ++ take n rest) (text ++ []) q
 leads_by p q rest n w octets text l =
-    subst (λ (t : List ℕ). LeadTo (octets ++ take n rest) t q) (sym (append-nil text))
+    subst (λ (t : List ℕ). LeadsTo (octets ++ take n rest) t q) (sym (append-nil text))
     (record { is_place = w.is_place; spelled = w.adds octets text l.spelled; story = w.story text l.story })
 
 pub dies_in : (p : Place) (rest : List ℕ) → DiesWith p (slice_index rest 0) → Refuses (Some p) rest (record { taken = 0; cause = BadOctet })
 dies_in p rest d = refuses_of p rest 0 BadOctet (λ octets text l. subst (λ (u : List ℕ). HasCause BadOctet u (slice_index rest 0)) (sym (append-nil octets)) (d octets text l.spelled))
 
-pub stays_at : (p : Place) (octets text : List ℕ) → LeadTo octets text p → LeadTo (octets ++ []) (text ++ []) p
-stays_at p octets text l = subst (λ (u : List ℕ). LeadTo u (text ++ []) p) (sym (append-nil octets)) (subst (λ (t : List ℕ). LeadTo octets t p) (sym (append-nil text)) l)
+pub stays_at : (p : Place) (octets text : List ℕ) → LeadsTo octets text p → LeadsTo (octets ++ []) (text ++ []) p
+stays_at p octets text l = subst (λ (u : List ℕ). LeadsTo u (text ++ []) p) (sym (append-nil octets)) (subst (λ (t : List ℕ). LeadsTo octets t p) (sym (append-nil text)) l)
 
 -- ---- the text
 
 pub text_leads : (h : Header) (old new : TextReader) (ys : List ℕ) → story.LeadsOn old ys new → Are is_text_octet ys
-    → (octets text : List ℕ) → LeadTo octets text (Text h old) → LeadTo (octets ++ ys) (text ++ ys) (Text h new)
+    → (octets text : List ℕ) → LeadsTo octets text (Text h old) → LeadsTo (octets ++ ys) (text ++ ys) (Text h new)
 text_leads h old new ys goes are octets text l =
     let after = goes text l.story in
     record { is_place = (l.is_place.0, stands_two new (text ++ ys) after); spelled = text_more octets text ys h old new are l.spelled; story = after }
@@ -79,7 +80,7 @@ stood_before law text_cause.Sink x b h = (law x).0 (alive_before x b h.0)
 
 pub text_stops : StoriesLiveAsTextsSoFar → (h : Header) (old : TextReader) (ys : List ℕ) (b : ℕ) (cause : TextCause) → Are is_text_octet ys
     → ((x : List ℕ) → story.StandsAt old x → story.HasCause cause (x ++ ys) b)
-    → (octets text : List ℕ) → LeadTo octets text (Text h old) → (q : Place) × LeadTo (octets ++ ys) (text ++ ys) q
+    → (octets text : List ℕ) → LeadsTo octets text (Text h old) → (q : Place) × LeadsTo (octets ++ ys) (text ++ ys) q
 text_stops law h old ys b cause are refuses octets text l =
     let stood = stood_before law cause (text ++ ys) b (refuses text l.story) in
     let reader : TextReader = Some stood.0 in
@@ -120,9 +121,9 @@ pub etx_is : (b : ℕ) → b < 256 → is_text_octet b ≡ false → b ≡ 3
 etx_is b lt h = grind (arith, nat_tests)
 
 pub etx_leads : (h : Header) (old : TextReader) → ((x : List ℕ) → story.StandsAt old x → AreLines x)
-    → (octets text : List ℕ) → LeadTo octets text (Text h old) → LeadTo (octets ++ (3 ∷ [])) (text ++ []) (Trailer h (of []))
+    → (octets text : List ℕ) → LeadsTo octets text (Text h old) → LeadsTo (octets ++ (3 ∷ [])) (text ++ []) (Trailer h (of []))
 etx_leads h old lines octets text l =
-    subst (λ (t : List ℕ). LeadTo (octets ++ (3 ∷ [])) t (Trailer h (of []))) (sym (append-nil text))
+    subst (λ (t : List ℕ). LeadsTo (octets ++ (3 ∷ [])) t (Trailer h (of []))) (sym (append-nil text))
     (record { is_place = (l.is_place.0, (refl, omega arith, omega arith)); spelled = text_etx octets text h old l.spelled; story = lines text l.story })
 
 held_some : TextsEndInNoReturn → StoriesEndAsTexts → (x : List ℕ) (held : ℕ) → Holds x held → StoryDiesAt x End → 0 < held
@@ -130,7 +131,7 @@ held_some law ends x zero h d = absurd (d.1 ((ends x).1 ((law x).1 h)))
 held_some law ends x (suc held) h d = omega arith
 
 pub etx_refuses : TextsEndInNoReturn → StoriesEndAsTexts → (h : Header) (old : TextReader) → ((x : List ℕ) → story.StandsAt old x → StoryDiesAt x End)
-    → (octets text : List ℕ) → LeadTo octets text (Text h old) → HasCause LoneReturn octets 3
+    → (octets text : List ℕ) → LeadsTo octets text (Text h old) → HasCause LoneReturn octets 3
 etx_refuses law ends h old dies octets text l =
     let i = l.is_place.0 in
     let d = dies text l.story in
@@ -151,8 +152,8 @@ pub somewhere_front : (a b : Option Place) (piece : List ℕ) (at k : ℕ) (m n 
 somewhere_front a b piece at k m n f g octets text s =
     let there = g (octets ++ take at piece) (text ++ m) (f octets text s) in (
       there.0,
-      subst (λ (u : List ℕ). LeadTo u (text ++ (m ++ n)) there.0) (append_assoc octets (take at piece) (take k (slice_range piece at (length piece))) ∙ ap (λ (u : List ℕ). octets ++ u) (sym (take-add at k piece ∙ ap (λ r. take at piece ++ take k r) (sym (take_rest piece at)))))
-          (subst (λ (t : List ℕ). LeadTo ((octets ++ take at piece) ++ take k (slice_range piece at (length piece))) t there.0) (append_assoc text m n) there.1),
+      subst (λ (u : List ℕ). LeadsTo u (text ++ (m ++ n)) there.0) (append_assoc octets (take at piece) (take k (slice_range piece at (length piece))) ∙ ap (λ (u : List ℕ). octets ++ u) (sym (take-add at k piece ∙ ap (λ r. take at piece ++ take k r) (sym (take_rest piece at)))))
+          (subst (λ (t : List ℕ). LeadsTo ((octets ++ take at piece) ++ take k (slice_range piece at (length piece))) t there.0) (append_assoc text m n) there.1),
     )
 
 pub delivered_both : (m n : List ℕ) → delivered m ++ delivered n ≡ delivered (m ++ n)
@@ -174,14 +175,14 @@ pub stays_standing : (p : Option Place) (piece : List ℕ) → LeadsOn p (take 0
 stays_standing p piece octets text s =
     subst (λ (u : List ℕ). StandsAt p u (text ++ [])) (sym (append-nil octets)) (subst (λ (t : List ℕ). StandsAt p octets t) (sym (append-nil text)) s)
 
-ended_whole : (p : Place) → is_ended (Some p) ≡ true → (octets text : List ℕ) → LeadTo octets text p
+ended_whole : (p : Place) → is_ended (Some p) ≡ true → (octets text : List ℕ) → LeadsTo octets text p
     → (head : Header) × (head_read (Some p) ≡ Some head) × IsMessage octets head text (trailer_read (Some p)) × AreLines text
 ended_whole (AfterEnd h t k) e octets text l = (h, refl, l.spelled.0, l.story)
 ended_whole p e octets text l = absurd cc
 
 pub is_whole : (reader : Option Place) → is_ended reader ≡ true → IsWhole reader
 is_whole None e octets text s = absurd cc
-is_whole (Some p) e octets text s = ended_whole p e octets text (subst (LeadTo octets text) (same_place p s.0 s.1) s.2)
+is_whole (Some p) e octets text s = ended_whole p e octets text (subst (LeadsTo octets text) (same_place p s.0 s.1) s.2)
 
 not_after_end : (p : Place) → is_ended (Some p) ≡ false → IsAfterEnd (unread p) → ⊥
 not_after_end (AfterEnd h t k) e h' = absurd cc

@@ -3,11 +3,11 @@ use Rattle.std.proofs.Common.{◌≡◌, ℕ, Some, List, [], ◌∷◌, ◌++�
 use Rattle.std.proofs.lemmas.List.{append_cancel_left}
 use Rattle.iim_dataset.specs.Format.Languages.{IsAlive}
 use Rattle.wire_story.specs.Format.Texts.{Holds}
-use Rattle.wire_story.specs.Format.Laws.{TextsSoFarHaveOneReading, TextsEndInNoReturn}
+use Rattle.wire_story.specs.Laws.Texts.{TextsSoFarHaveOneReading, TextsEndInNoReturn}
 use Rattle.wire_message.specs.Format.Layers.{MessageLanguage, MessageLivesWith, text_so_far, StoryLivesIn}
-use Rattle.wire_message.specs.Format.SoFar.{LeadTo}
-use Rattle.wire_message.specs.Format.Reading.{StoryDiesWith, HasCause}
-use Rattle.wire_message.specs.Format.Laws.{ReadersStandAtLivingOctets, LivingOctetsLeadOn, OctetsLeadOnAlike, OctetsAreRefusedAlike}
+use Rattle.wire_message.specs.States.SoFar.{LeadsTo}
+use Rattle.wire_message.specs.Format.Causes.{StoryDiesWith, HasCause}
+use Rattle.wire_message.specs.Laws.Messages.{ReadersStandAtLivingOctets, LivingOctetsLeadOn, OctetsLeadOnAlike, OctetsAreRefusedAlike}
 use Rattle.wire_message.specs.declared.place.Place.{Place}
 use Rattle.wire_message.specs.declared.place.Place.TheVariants.{Text}
 use Rattle.wire_message.specs.declared.fault.MessageCause.{MessageCause}
@@ -29,8 +29,8 @@ pub record Laws : Type 0 where
 
 -- Both octets have led to one place.
 record LedAlike (octets others text other : List ℕ) (place : Place) : Type 0 where
-  here : LeadTo octets text place
-  there : LeadTo others other place
+  here : LeadsTo octets text place
+  there : LeadsTo others other place
 
 turned : (a b t u : List ℕ) (p : Place) → LedAlike a b t u p → LedAlike b a u t p
 turned a b t u p both = record { here = both.there; there = both.here }
@@ -60,8 +60,8 @@ message_dies laws a b t u p next both dies = (
 record LeadOn (a b x t u : List ℕ) : Type 0 where
   added : List ℕ
   new : Place
-  here : LeadTo (a ++ x) (t ++ added) new
-  there : LeadTo (b ++ x) (u ++ added) new
+  here : LeadsTo (a ++ x) (t ++ added) new
+  there : LeadsTo (b ++ x) (u ++ added) new
 
 lead_on : Laws → (a b x t u : List ℕ) (p : Place) → LedAlike a b t u p → MessageLivesWith (a ++ x) → StoryLivesIn (a ++ x) → LeadOn a b x t u
 lead_on laws a b x t u p both message story =

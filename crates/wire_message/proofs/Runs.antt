@@ -4,7 +4,7 @@ use Rattle.std.proofs.lemmas.Bool.{and_from, or_right, lt-ltb, and_left}
 use Rattle.wire_message.specs.Format.Fields.{Are, IsField, is_alphanumeric, is_info_octet, is_trailer_octet, is_filler_octet, is_text_octet, max_filler, max_source, max_number, max_category, max_words, max_info, max_trailer}
 use Rattle.iim_dataset.specs.Format.Octets.{is_digit, is_letter}
 use Rattle.wire_message.specs.Format.Messages.{Header, header_of, IsHeader, IsMessage, IsFiller, IsGap, IsTrailer, SpellsInfo, fixed_header, has_feed}
-use Rattle.wire_message.specs.Format.SoFar.{IsPlace, Spells}
+use Rattle.wire_message.specs.States.SoFar.{IsPlace, Spells}
 use Rattle.wire_message.specs.declared.place.Place.{Place}
 use Rattle.wire_message.specs.declared.place.Place.TheVariants.{Filler, Source, Number, Priority, PriorityRead, Category, Words, Info, Gap, Text, Trailer, AfterEnd}
 use Rattle.wire_message.proofs.Spans.{Are-head, Are-tail}

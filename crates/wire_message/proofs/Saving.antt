@@ -1,9 +1,9 @@
 -- A place is known by how it is saved.
 use Rattle.std.proofs.Common.{◌≡◌, ◌==◌, true, false, Some, None, refl, sym, ap, ◌∙◌}
-use Rattle.wire_message.specs.Format.Laws.{PlacesAreSavedApart}
-use Rattle.wire_message.specs.Format.Saved.{saved}
+use Rattle.wire_message.specs.Laws.Messages.{PlacesAreSavedApart}
+use Rattle.wire_message.specs.States.Saved.{saved}
 use Rattle.wire_message.specs.Restoring.{head_in}
-use Rattle.wire_message.specs.Format.SoFar.{IsPlace}
+use Rattle.wire_message.specs.States.SoFar.{IsPlace}
 use Rattle.wire_message.specs.declared.saved.MessagePart.{MessagePart}
 use Rattle.wire_message.specs.declared.saved.MessagePart.TheVariants as part
 use Rattle.wire_message.specs.declared.saved.MessagePlace.{MessagePlace}

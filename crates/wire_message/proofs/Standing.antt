@@ -3,10 +3,10 @@ use Rattle.std.proofs.Common.{◌≡◌, ℕ, Bool, false, cond, Option, List, [
 use Rattle.iim_dataset.specs.Format.Languages.{IsAlive}
 use Rattle.wire_story.specs.Format.Texts.{Holds}
 use Rattle.wire_story.specs.Format.Tokens.{OctetOrEnd, Octet, End, StoryLanguage}
-use Rattle.wire_story.specs.Format.Laws.{StoriesLiveAsTextsSoFar, StoriesEndAsTexts}
-use Rattle.wire_message.specs.Format.SoFar.{StoryStands}
-use Rattle.wire_message.specs.Format.Reading.{LeadsOn, GoesSomewhere, LivesOn}
-use Rattle.wire_message.specs.Format.Laws.{TextsStandBetweenStxAndEtx, ReadersStandAtLivingOctets}
+use Rattle.wire_story.specs.Laws.Texts.{StoriesLiveAsTextsSoFar, StoriesEndAsTexts}
+use Rattle.wire_message.specs.States.SoFar.{StoryStands}
+use Rattle.wire_message.specs.States.Reading.{LeadsOn, GoesSomewhere, LivesOn}
+use Rattle.wire_message.specs.Laws.Messages.{TextsStandBetweenStxAndEtx, ReadersStandAtLivingOctets}
 use Rattle.wire_message.specs.declared.place.Place.{Place}
 use Rattle.wire_message.specs.declared.place.Place.TheVariants.{Text, Trailer, AfterEnd}
 use Rattle.wire_message.proofs.Alive.{message_lives}

@@ -6,7 +6,7 @@ use Rattle.arrayvec.specs.ArrayVec.{ArrayVec}
 use Rattle.wire_message.specs.Format.Fields.{is_alphanumeric, is_info_octet, is_trailer_octet, is_filler_octet, max_filler, max_source, max_number, max_category, max_words, max_info, max_trailer}
 use Rattle.iim_dataset.specs.Format.Octets.{is_digit, is_letter}
 use Rattle.wire_message.specs.Format.Messages.{Header}
-use Rattle.wire_message.specs.Format.SoFar.{IsPlace}
+use Rattle.wire_message.specs.States.SoFar.{IsPlace}
 use Rattle.wire_message.specs.Steps.{DiesWith}
 use Rattle.wire_message.specs.declared.place.Place.{Place}
 use Rattle.wire_message.specs.declared.place.Place.TheVariants.{Filler, Source, Number, Priority, PriorityRead, Category, Words, Info, Gap, Trailer, AfterEnd}

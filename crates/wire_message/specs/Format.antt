@@ -1,9 +1,6 @@
 pub mod Canonical
 pub mod Fields
-pub mod Laws
 pub mod Layers
 pub mod Lengths
 pub mod Messages
-pub mod SoFar
-pub mod Reading
-pub mod Saved
+pub mod Causes

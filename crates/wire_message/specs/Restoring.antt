@@ -1,11 +1,11 @@
 -- A place that is made again from a saved one.
 use Rattle.std.specs.Prelude.{◌≡◌, Option, Some}
 use Rattle.wire_message.specs.Format.Messages.{Header, header_of}
-use Rattle.wire_message.specs.Format.SoFar.{IsPlace}
+use Rattle.wire_message.specs.States.SoFar.{IsPlace}
 use Rattle.wire_message.specs.declared.saved.MessagePlace.{MessagePlace}
 use Rattle.wire_message.specs.declared.place.Place.{Place}
 use Rattle.wire_message.specs.declared.place.Place.TheVariants.{Info, Gap, Text, Trailer, AfterEnd}
-use Rattle.wire_message.specs.Format.Saved.{saved}
+use Rattle.wire_message.specs.States.Saved.{saved}
 
 -- The words have ended.
 abbrev pub IsAfterWords : Place → Type 0

@@ -5,13 +5,13 @@ use Rattle.wire_story.specs.Format.Tokens.{Octet}
 use Rattle.wire_story.specs.declared.fault.TextCause.{TextCause}
 use Rattle.wire_story.specs.declared.fault.TextCause.TheVariants as text_cause
 use Rattle.wire_message.specs.Format.Layers.{MessageDiesAt}
-use Rattle.wire_message.specs.Format.SoFar.{IsPlace, Spells, StoryStands}
+use Rattle.wire_message.specs.States.SoFar.{IsPlace, Spells, StoryStands}
 use Rattle.wire_message.specs.declared.place.Place.{Place}
 use Rattle.wire_message.specs.declared.place.Place.TheVariants.{Text}
 use Rattle.wire_message.specs.declared.fault.MessageCause.{MessageCause}
 use Rattle.wire_message.specs.declared.fault.MessageCause.TheVariants.{LoneReturn, ControlOctet, Sink}
 use Rattle.wire_message.specs.declared.fault.MessageFault.{MessageFault}
-use Rattle.wire_message.specs.Format.Reading.{Told, ToldFront, Refuses, CountsCause}
+use Rattle.wire_message.specs.States.Reading.{TellsStory, TellsFront, Refuses, CountsCause}
 
 -- the cause of a message for a cause of its text
 abbrev pub cause_of : TextCause → MessageCause
@@ -46,7 +46,7 @@ pub record TakesSome (old : Place) (rest : List ℕ) (new : Place) (used : ℕ) 
 pub record TakesOctets {S : Type 0} (goes : S → List StoryEvent → S → Type 0) (failures : S → ℕ) (old : Place) (before : S) (octets : List ℕ)
     (new : Place) (after : S) : Type 0 where
   pub is_place : IsPlace new
-  pub told : Told goes before (Some old) octets (Some new) after
+  pub told : TellsStory goes before (Some old) octets (Some new) after
   pub calm : failures after ≡ failures before
 
 -- An octet of a piece was refused: for its cause, and the sink was told what those before it deliver.
@@ -54,5 +54,5 @@ pub record RefusesInPart {S : Type 0} (goes : S → List StoryEvent → S → Ty
     (after : S) (fault : MessageFault) : Type 0 where
   pub within : fault.taken < length piece
   pub refused : Refuses (Some old) piece fault
-  pub told : ToldFront goes before (Some old) (take fault.taken piece) after
+  pub told : TellsFront goes before (Some old) (take fault.taken piece) after
   pub counted : CountsCause (failures before) (failures after) fault.cause

@@ -27,9 +27,12 @@ impl Model for MessageHead {
 
     ghost Value = { Header };
 
-    ghost view = { λ head. header_of head.source.items head.number.items head.priority.items head.category.items head.words.items head.info.items };
+    ghost view = { λ head. header_of head.source.items head.number.items head.priority.items head.category.items
+        head.words.items head.info.items };
 
-    ghost invariant = { λ head. IsHeader (header_of head.source.items head.number.items head.priority.items head.category.items head.words.items head.info.items) };
+    ghost invariant = { λ head.
+        IsHeader (header_of head.source.items head.number.items head.priority.items head.category.items head.words.items
+        head.info.items) };
 }
 
 ghost use Rattle.wire_message.specs.Format.Messages.{header_of, IsHeader};

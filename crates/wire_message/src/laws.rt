@@ -1,6 +1,6 @@
 //! What holds of all messages, and where a reader of messages stands. The functions do nothing: their contracts are the laws.
 
-ghost use Rattle.wire_message.specs.Format.Laws.{MessagesHaveOneReading, CanonicalObjectsAreMessages, TextsStandBetweenStxAndEtx, ReadersStandAtLivingOctets, LivingOctetsLeadOn, HeadersAreToldFromStx, TrailersAreToldFromEtx, MessagesKeepTheirHeader, TrailersStandBetweenEtxAndEot, MessagesEndAfterEot, PlacesAreReached, OctetsLeadToOnePlace, OctetsLeadOnAlike, OctetsAreRefusedAlike, PlacesAreSavedApart};
+ghost use Rattle.wire_message.specs.Laws.Messages.{MessagesHaveOneReading, CanonicalObjectsAreMessages, TextsStandBetweenStxAndEtx, ReadersStandAtLivingOctets, LivingOctetsLeadOn, HeadersAreToldFromStx, TrailersAreToldFromEtx, MessagesKeepTheirHeader, TrailersStandBetweenEtxAndEot, MessagesEndAfterEot, PlacesAreReached, OctetsLeadToOnePlace, OctetsLeadOnAlike, OctetsAreRefusedAlike, PlacesAreSavedApart};
 
 use wire_story::laws::{
     packed_lines_are_a_text, stories_end_as_texts, stories_live_as_texts_so_far,

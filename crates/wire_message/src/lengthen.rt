@@ -3,7 +3,7 @@
 ghost use Rattle.std.specs.Prelude.{◌≡◌, ◌<◌, ◌≤◌, ◌+◌, ◌&&◌, ◌||◌, ◌==◌, nat_lt, true, false, length};
 ghost use Rattle.iim_dataset.specs.Format.Characters.{lf};
 ghost use Rattle.wire_message.specs.Format.Fields.{is_filler_octet, max_filler};
-ghost use Rattle.wire_message.specs.Format.SoFar.{IsPlace};
+ghost use Rattle.wire_message.specs.States.SoFar.{IsPlace};
 ghost use Rattle.wire_message.specs.Parts.{TakesInPart, lengthens_gap};
 
 use crate::class::{Class, is_in};

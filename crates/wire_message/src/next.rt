@@ -2,7 +2,7 @@
 
 ghost use Rattle.std.specs.Prelude.{◌<◌, ◌≤◌, ◌≡◌, true, false, length, slice_index, IfSome, IfNone};
 ghost use Rattle.iim_dataset.specs.Format.Characters.{eot};
-ghost use Rattle.wire_message.specs.Format.SoFar.{IsPlace};
+ghost use Rattle.wire_message.specs.States.SoFar.{IsPlace};
 ghost use Rattle.wire_message.specs.Parts.{EndsPart, BeginsTrailer, EndsTrailer};
 ghost use Rattle.wire_message.specs.Steps.{DiesWith, TakesSome, IsNoText};
 

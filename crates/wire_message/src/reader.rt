@@ -4,7 +4,7 @@ ghost use Rattle.std.specs.Prelude.{◌≡◌, ◌↔◌, ◌<◌, [], List, ℕ
 ghost use Rattle.std.specs.Option.{option_map};
 ghost use Rattle.wire_story.specs.Format.Tokens.{End};
 ghost use Rattle.wire_message.specs.Format.Layers.{MessageDiesAt};
-ghost use Rattle.wire_message.specs.Format.Saved.{IsAt, LeadToSaved};
+ghost use Rattle.wire_message.specs.States.Saved.{IsAt, LeadsToSaved};
 ghost use Rattle.wire_message.specs.Format.Lengths.{LeadsIn, IsOneOf, least_of, greatest_of};
 
 use crate::fault::{MessageCause, MessageFault};
@@ -35,14 +35,14 @@ impl Model for MessageReader {
 
     ghost Value = { Option Place };
 
-    ghost use Rattle.wire_message.specs.Format.SoFar.{IsPlace};
+    ghost use Rattle.wire_message.specs.States.SoFar.{IsPlace};
 
     ghost view = { λ reader. reader.place };
 
     ghost invariant = { λ reader. ForSome reader.place IsPlace };
 }
 
-ghost use Rattle.wire_message.specs.Format.Reading.{StandsAt, TakesPiece, RefusesOne, head_read, trailer_read, is_ended, IsWhole};
+ghost use Rattle.wire_message.specs.States.Reading.{StandsAt, TakesPiece, RefusesOne, head_read, trailer_read, is_ended, IsWhole};
 
 impl MessageReader {
     /// The reader of an object of which no octet has come.
@@ -77,8 +77,8 @@ impl MessageReader {
     pub fn at(place: MessagePlace) -> Option<MessageReader>
         ensures place { IfSome result (λ reader. IsAt reader place) }
         ensures stands { IfSome result (λ reader.
-            (octets text : List ℕ) → LeadToSaved octets text place → StandsAt reader octets text) }
-        ensures exactly { IsSome result ↔ ((octets : List ℕ) × (text : List ℕ) × LeadToSaved octets text place) }
+            (octets text : List ℕ) → LeadsToSaved octets text place → StandsAt reader octets text) }
+        ensures exactly { IsSome result ↔ ((octets : List ℕ) × (text : List ℕ) × LeadsToSaved octets text place) }
     {
         places_are_reached();
         places_are_saved_apart();
@@ -136,7 +136,8 @@ impl MessageReader {
     #[inline(always)]
     pub fn is_whole(&self) -> bool
         ensures whole { IsTrue result → IsWhole self.now }
-        ensures unfinished { result ≡ false → (octets text : List ℕ) → StandsAt self.now octets text → MessageDiesAt octets End }
+        ensures unfinished { result ≡ false → (octets text : List ℕ) → StandsAt self.now octets text
+            → MessageDiesAt octets End }
     {
         has_ended(&self.place)
     }
@@ -152,7 +153,8 @@ impl MessageReader {
         // No message ends here.
         ensures failed { OnErr result (self.new ≡ None) }
         ensures fault { IfErr result (λ fault. (fault.taken ≡ 0) × (fault.cause ≡ MessageCause.Unfinished)) }
-        ensures refused { OnErr result ((octets text : List ℕ) → StandsAt self.old octets text → MessageDiesAt octets End) }
+        ensures refused { OnErr result ((octets text : List ℕ) → StandsAt self.old octets text
+            → MessageDiesAt octets End) }
     {
         if has_ended(&self.place) {
             return Ok(());

@@ -6,8 +6,8 @@ ghost use Rattle.wire_message.specs.declared.saved.MessagePart.TheVariants as pa
 ghost use Rattle.wire_message.specs.Format.Fields.{IsField, max_filler, max_source, max_number, max_priority};
 ghost use Rattle.iim_dataset.specs.Format.Octets.{is_digit, is_letter};
 ghost use Rattle.wire_message.specs.Format.Messages.{IsHeader};
-ghost use Rattle.wire_message.specs.Format.SoFar.{IsPlace};
-ghost use Rattle.wire_message.specs.Format.Saved.{saved};
+ghost use Rattle.wire_message.specs.States.SoFar.{IsPlace};
+ghost use Rattle.wire_message.specs.States.Saved.{saved};
 ghost use Rattle.wire_message.specs.Restoring.{head_in, IsOnly};
 
 use crate::class::Class;

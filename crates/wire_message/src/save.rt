@@ -2,8 +2,8 @@
 
 ghost use Rattle.std.specs.Prelude.{◌≡◌, ◌≤◌, [], length};
 ghost use Rattle.wire_message.specs.declared.saved.MessagePart.TheVariants as saved_part;
-ghost use Rattle.wire_message.specs.Format.SoFar.{IsPlace};
-ghost use Rattle.wire_message.specs.Format.Saved.{place_from, place_with_header, saved};
+ghost use Rattle.wire_message.specs.States.SoFar.{IsPlace};
+ghost use Rattle.wire_message.specs.States.Saved.{place_from, place_with_header, saved};
 ghost use Rattle.wire_message.specs.Restoring.{IsAfterWords};
 
 use crate::field::kept;

@@ -1,7 +1,7 @@
 //! The place of a reader, as it is saved.
 
 ghost use Rattle.std.specs.Prelude.{◌≡◌, ◌↔◌, [], IsTrue};
-ghost use Rattle.wire_message.specs.Format.Saved.{place_from};
+ghost use Rattle.wire_message.specs.States.Saved.{place_from};
 
 use crate::lengths::MAX_SAVED;
 use arrayvec::ArrayVec;
@@ -90,7 +90,8 @@ impl MessagePlace {
     /// Whether the part and the counters are the same.
     fn has_counters_of(&self, other: &MessagePlace) -> bool
         ensures { IsTrue result ↔
-            (self.now.part ≡ other.now.part) × (self.now.counter ≡ other.now.counter) × (self.now.flag ≡ other.now.flag) }
+            (self.now.part ≡ other.now.part) × (self.now.counter ≡ other.now.counter)
+            × (self.now.flag ≡ other.now.flag) }
     {
         self.part == other.part && self.counter == other.counter && self.flag == other.flag
     }

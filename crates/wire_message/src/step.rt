@@ -4,7 +4,7 @@ ghost use Rattle.std.specs.Prelude.{◌≡◌, ◌<◌, ◌&&◌, ◌==◌, nat_
 ghost use Rattle.iim_dataset.specs.Format.Characters.{sp};
 ghost use Rattle.wire_message.specs.Format.Fields.{is_filler_octet};
 ghost use Rattle.iim_dataset.specs.Format.Octets.{is_digit};
-ghost use Rattle.wire_message.specs.Format.SoFar.{IsPlace};
+ghost use Rattle.wire_message.specs.States.SoFar.{IsPlace};
 ghost use Rattle.wire_message.specs.Parts.{EndsPart};
 ghost use Rattle.wire_message.specs.Steps.{DiesWith, TakesSome};
 

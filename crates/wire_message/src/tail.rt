@@ -2,7 +2,7 @@
 
 ghost use Rattle.std.specs.Prelude.{◌≡◌, ◌<◌, ◌&&◌, ◌==◌, IfSome, IfNone, length, slice_index};
 ghost use Rattle.iim_dataset.specs.Format.Characters.{stx};
-ghost use Rattle.wire_message.specs.Format.SoFar.{IsPlace};
+ghost use Rattle.wire_message.specs.States.SoFar.{IsPlace};
 ghost use Rattle.wire_message.specs.Parts.{EndsPart};
 ghost use Rattle.wire_message.specs.Steps.{DiesWith, TakesSome};
 

@@ -6,7 +6,7 @@ use Rattle.std.proofs.lemmas.List.Splits.{slice_split-cons_yes, slice_split-cons
 use Rattle.std.proofs.lemmas.List.Folds.{list_all-append}
 use Rattle.wire_story.specs.Format.Texts.{is_line_octet, IsLine, IsText, MakeText, packed_text}
 use Rattle.wire_story.specs.Format.Delivery.{LineOctet, LineEnd, delivered, events_of_lines}
-use Rattle.wire_story.specs.Format.Collecting.{add_octet, collect}
+use Rattle.wire_story.specs.States.Collecting.{add_octet, collect}
 use Rattle.wire_story.specs.Joining.{lines_in}
 use Rattle.wire_story.specs.CollectingLaws.{collect-append}
 use Rattle.wire_story.proofs.Spans.{Are-head, Are-tail, Are-append}

@@ -3,7 +3,7 @@ use Rattle.std.proofs.Common.{ℕ, ◌+◌, ◌<◌, List, [], ◌∷◌, ◌++�
 use Rattle.std.proofs.lemmas.List.{take_rest, take_more}
 use Rattle.std.specs.List.{slice_range}
 use Rattle.wire_story.specs.Format.Delivery.{StoryEvent, delivered}
-use Rattle.wire_story.specs.Format.Reading.{CountsCause, TakesPiece, RefusesOne}
+use Rattle.wire_story.specs.States.Reading.{CountsCause, TakesPiece, RefusesOne}
 use Rattle.wire_story.specs.declared.fault.TextFault.{TextFault}
 use Rattle.wire_story.specs.declared.fault.TextCause.{TextCause}
 use Rattle.wire_story.proofs.Pieces.{leads_on_front, refuses_front}

@@ -5,8 +5,9 @@ use Rattle.std.proofs.lemmas.Bool.{and_from}
 use Rattle.std.proofs.lemmas.List.Folds.{list_all-append}
 use Rattle.wire_story.specs.Format.Texts.{is_line_octet, line_end, packed_text, MakeText}
 use Rattle.wire_story.specs.Format.Delivery.{StoryEvent, LineOctet, LineEnd, events_of_lines}
-use Rattle.wire_story.specs.Format.Collecting.{add_octet, collect}
-use Rattle.wire_story.specs.Format.Packing.{packed_event, packed_events, AreEvents, LinesArePackedAsTheirEvents, EventsArePackedAsLines}
+use Rattle.wire_story.specs.States.Collecting.{add_octet, collect}
+use Rattle.wire_story.specs.Format.Packing.{packed_event, packed_events, AreEvents}
+use Rattle.wire_story.specs.Laws.Packing.{LinesArePackedAsTheirEvents, EventsArePackedAsLines}
 use Rattle.wire_story.proofs.Collected.{octet_made}
 
 line_packed : (line : List ℕ) → packed_events (map LineOctet line) ≡ line

@@ -7,7 +7,7 @@ use Rattle.std.proofs.lemmas.Bool.{true≢false}
 use Rattle.std.proofs.lemmas.Bool.Decides.{nat_tests}
 use Rattle.wire_story.specs.Format.Texts.{is_line_octet, IsLine, Holds}
 use Rattle.wire_story.specs.Format.Tokens.{LivesWith}
-use Rattle.wire_story.specs.Format.Reading.{StandsAt, LeadsOn, IsLoneReturn, IsControl, HasCause, Refuses}
+use Rattle.wire_story.specs.States.Reading.{StandsAt, LeadsOn, IsLoneReturn, IsControl, HasCause, Refuses}
 use Rattle.wire_story.specs.declared.fault.TextCause.{TextCause}
 use Rattle.wire_story.specs.declared.fault.TextCause.TheVariants.{LoneReturn, ControlOctet, Sink}
 use Rattle.wire_story.proofs.HeldReturns.{held_after, after_octet, chosen, some_is, held_line, line_octet_step}

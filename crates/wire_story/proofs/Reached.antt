@@ -1,7 +1,7 @@
 -- Octets lead to each place of a reader, and to one place each; from one place they lead on alike.
 use Rattle.std.proofs.Common.{◌≡◌, ℕ, ◌≤◌, List, [], ◌∷◌, ◌++◌, replicate, Some, refl, sym, ap, subst, ◌∙◌}
 use Rattle.wire_story.specs.Format.Texts.{IsTextSoFar}
-use Rattle.wire_story.specs.Format.Laws.{PlacesAreReached, OctetsLeadToOnePlace, OctetsLeadOnAlike}
+use Rattle.wire_story.specs.Laws.Texts.{PlacesAreReached, OctetsLeadToOnePlace, OctetsLeadOnAlike}
 use Rattle.wire_story.proofs.HeldReturns.{held_after, some_is}
 use Rattle.wire_story.proofs.Lives.{held_of, holds, held_parts, held_joined}
 

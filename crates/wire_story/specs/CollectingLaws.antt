@@ -1,7 +1,7 @@
 -- The laws of collected lines, handed in by their impl.
 use Rattle.std.proofs.Common.{◌≡◌, ℕ, List, [], ◌∷◌, ◌++◌, refl, ap, ◌∙◌}
 use Rattle.wire_story.specs.Format.Delivery.{StoryEvent, LineOctet, LineEnd}
-use Rattle.wire_story.specs.Format.Collecting.{add_octet, collect}
+use Rattle.wire_story.specs.States.Collecting.{add_octet, collect}
 
 pub collect-append : (lines : List (List ℕ)) (xs ys : List StoryEvent) → collect lines (xs ++ ys) ≡ collect (collect lines xs) ys
 collect-append lines [] ys = refl

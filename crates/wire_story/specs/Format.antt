@@ -1,11 +1,5 @@
 pub mod Texts
 pub mod Delivery
 pub mod Tokens
-pub mod Reading
-pub mod Writing
-pub mod Collecting
 pub mod Packing
-pub mod Laws
 pub mod Words
-pub mod Trials
-pub mod WordLaws

@@ -2,9 +2,9 @@
 use Rattle.std.proofs.Common.{◌≡◌, ℕ, ◌≤◌, inl, inr, List, [], ◌∷◌, ◌++◌, map, Option, Some, None, refl, sym, ap, subst, ◌∙◌, arith, append-nil, append_assoc}
 use Rattle.std.proofs.lemmas.Bool.{cases_lt}
 use Rattle.std.specs.Io.KnownBytes.{Appends}
-use Rattle.iim_dataset.specs.Format.Devices.{Device, RoseAtLeast, max_interruptions}
+use Rattle.iim_dataset.specs.States.Devices.{Device, RoseAtLeast, max_interruptions}
 use Rattle.wire_story.specs.Format.Delivery.{StoryEvent, octet_for}
-use Rattle.wire_story.specs.Format.Writing.{HasBroken, WritesOn}
+use Rattle.wire_story.specs.States.Writing.{HasBroken, WritesOn}
 
 appends_nothing : (known : Option (List ℕ)) → Appends known known []
 appends_nothing None = tt

@@ -2,9 +2,9 @@
 
 ghost use Rattle.std.specs.Prelude.{◌≡◌};
 ghost use Rattle.wire_story.specs.Format.Texts.{line_end};
-ghost use Rattle.wire_story.specs.Format.Packing.{LinesArePackedAsTheirEvents, EventsArePackedAsLines};
-ghost use Rattle.wire_story.specs.Format.Laws.{TextsHaveOneReading, TextsSoFarHaveOneReading, TextsAreDeliveredAsLines, TextsSoFarAreDeliveredAsLines, DeliveryMayBeCut, StoriesLiveAsTextsSoFar, StoriesEndAsTexts, TextsEndInNoReturn, PackedLinesAreAText, LinesOfATextMakeOne, LinesAreJoinedByLineFeeds, TextsAreCollectedAsLines, PlacesAreReached, OctetsLeadToOnePlace, OctetsLeadOnAlike};
-ghost use Rattle.wire_story.specs.Format.WordLaws.{WordsAreLongestRuns, TextsAreCountedAsLines};
+ghost use Rattle.wire_story.specs.Laws.Packing.{LinesArePackedAsTheirEvents, EventsArePackedAsLines};
+ghost use Rattle.wire_story.specs.Laws.Texts.{TextsHaveOneReading, TextsSoFarHaveOneReading, TextsAreDeliveredAsLines, TextsSoFarAreDeliveredAsLines, DeliveryMayBeCut, StoriesLiveAsTextsSoFar, StoriesEndAsTexts, TextsEndInNoReturn, PackedLinesAreAText, LinesOfATextMakeOne, LinesAreJoinedByLineFeeds, TextsAreCollectedAsLines, PlacesAreReached, OctetsLeadToOnePlace, OctetsLeadOnAlike};
+ghost use Rattle.wire_story.specs.Laws.Words.{WordsAreLongestRuns, TextsAreCountedAsLines};
 
 use crate::line::LINE_END;
 

@@ -1,10 +1,10 @@
 //! A sink that collects the lines.
 
 ghost use Rattle.std.specs.Prelude.{◌≡◌, ◌<◌, [], ◌∷◌, length, map, take, refl, IfErr, OnOk, OnErr};
-ghost use Rattle.iim_dataset.specs.Format.Devices.{Rose};
+ghost use Rattle.iim_dataset.specs.Format.Counts.{Rose};
 ghost use Rattle.wire_story.specs.Format.Texts.{IsLine, MakeText};
 ghost use Rattle.wire_story.specs.Format.Delivery.{LineOctet};
-ghost use Rattle.wire_story.specs.Format.Collecting.{Collected, collect};
+ghost use Rattle.wire_story.specs.States.Collecting.{Collected, collect};
 ghost use Rattle.wire_story.specs.Joining.{lines_in};
 
 use crate::line_iter::LineIter;

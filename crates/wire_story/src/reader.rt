@@ -4,12 +4,12 @@ ghost use Rattle.std.specs.Prelude.{◌≡◌, ◌≤◌, [], List, ℕ, Option,
 ghost use Rattle.std.specs.Option.{ForSome};
 ghost use Rattle.wire_story.specs.Format.Texts.{AreLines, max_returns};
 ghost use Rattle.wire_story.specs.Format.Tokens.{End, StoryDiesAt};
-ghost use Rattle.wire_story.specs.Format.Reading.{StandsAt, TakesPiece, RefusesOne};
+ghost use Rattle.wire_story.specs.States.Reading.{StandsAt, TakesPiece, RefusesOne};
 
 use crate::fault::{TextCause, TextFault};
 use crate::laws::places_are_reached;
+use crate::piece::take_piece;
 use crate::sink::StorySink;
-use crate::step::take_piece;
 use std::marker::Model;
 
 /// The most CR that a reader holds: a third one is refused.

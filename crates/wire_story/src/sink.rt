@@ -1,7 +1,7 @@
 //! Where the text of a story goes.
 
 ghost use Rattle.std.specs.Prelude.{◌≡◌, ◌<◌, ◌++◌, [], ◌∷◌, List, ℕ, length, map, take, IfErr, OnOk, OnErr};
-ghost use Rattle.iim_dataset.specs.Format.Devices.{Rose};
+ghost use Rattle.iim_dataset.specs.Format.Counts.{Rose};
 ghost use Rattle.wire_story.specs.Format.Texts.{IsLine};
 ghost use Rattle.wire_story.specs.Format.Delivery.{StoryEvent, LineOctet, LineEnd};
 

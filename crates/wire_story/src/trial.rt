@@ -1,7 +1,7 @@
 //! A sink that stops at a chosen call, for tests.
 
 ghost use Rattle.std.specs.Prelude.{◌≡◌, ◌<◌, [], ◌∷◌, length, map, take, IsErr, IfErr, OnOk, OnErr};
-ghost use Rattle.iim_dataset.specs.Format.Devices.{Rose};
+ghost use Rattle.iim_dataset.specs.Format.Counts.{Rose};
 ghost use Rattle.wire_story.specs.Format.Texts.{IsLine};
 ghost use Rattle.wire_story.specs.Format.Delivery.{LineOctet, LineEnd};
 
@@ -20,7 +20,7 @@ pub struct TrialSink<S> {
 }
 
 impl<S: StorySink> TrialSink<S> {
-    ghost use Rattle.wire_story.specs.Format.Trials.{sink_of, good_of, front_of, failures_of, PassesOn, UsesCall, StopsByPlan};
+    ghost use Rattle.wire_story.specs.States.Trials.{sink_of, good_of, front_of, failures_of, PassesOn, UsesCall, StopsByPlan};
 
     /// A sink with `good` good calls, which stops then after `front` octets of a run, or after all but its last.
     pub fn new(sink: S, good: u64, front: usize) -> TrialSink<S>
@@ -90,7 +90,7 @@ impl<S: StorySink> TrialSink<S> {
 }
 
 impl<S: StorySink> StorySink for TrialSink<S> {
-    ghost use Rattle.wire_story.specs.Format.Trials.{sink_of, good_of, failures_of, PassesOn, UsesCall, StopsByPlan};
+    ghost use Rattle.wire_story.specs.States.Trials.{sink_of, good_of, failures_of, PassesOn, UsesCall, StopsByPlan};
 
     ghost goes = { PassesOn S.goes };
 

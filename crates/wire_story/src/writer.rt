@@ -2,7 +2,8 @@
 
 ghost use Rattle.std.specs.Prelude.{◌≡◌, ◌<◌, [], ◌∷◌, length, map, take, IfErr, OnOk, OnErr};
 ghost use Rattle.iim_dataset.specs.Format.Characters.{lf};
-ghost use Rattle.iim_dataset.specs.Format.Devices.{Rose, Wrote, Stopped};
+ghost use Rattle.iim_dataset.specs.Format.Counts.{Rose};
+ghost use Rattle.iim_dataset.specs.States.Devices.{Wrote, Stopped};
 ghost use Rattle.wire_story.specs.Format.Texts.{IsLine};
 ghost use Rattle.wire_story.specs.Format.Delivery.{LineOctet, LineEnd};
 
@@ -18,7 +19,7 @@ pub struct LineWriter<W> {
 }
 
 impl<W: Target> LineWriter<W> {
-    ghost use Rattle.wire_story.specs.Format.Writing.{writer_of, device_of, stops_of, WritesOctets};
+    ghost use Rattle.wire_story.specs.States.Writing.{writer_of, device_of, stops_of, WritesOctets};
 
     /// A sink that writes lines to this target.
     pub fn new(writer: W) -> LineWriter<W>
@@ -58,7 +59,7 @@ impl<W: Target> LineWriter<W> {
 }
 
 impl<W: Target> StorySink for LineWriter<W> {
-    ghost use Rattle.wire_story.specs.Format.Writing.{device_of, stops_of, WritesLines};
+    ghost use Rattle.wire_story.specs.States.Writing.{device_of, stops_of, WritesLines};
 
     ghost goes = { WritesLines W.state };
 

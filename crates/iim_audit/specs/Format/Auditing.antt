@@ -1,14 +1,13 @@
 -- What an audit answers, by the octets that its intake has next in line.
 use Rattle.std.specs.Prelude.{◌≡◌, ℕ, ◌+◌, ◌<◌, ◌⊎◌, ℤ, List, [], ◌∷◌, length, Option, Some, None}
 use Rattle.std.specs.Io.KnownBytes.{IsAtEnd}
-use Rattle.iim_dataset.specs.Format.Devices.{Device}
-use Rattle.iim_dataset.specs.Format.DeviceLaws.{HasGiven, MissedAfter}
+use Rattle.iim_dataset.specs.States.Devices.{Device, HasGiven, MissedAfter}
 use Rattle.iim_dataset.specs.declared.device.IoFault.{IoFault}
 use Rattle.iim_dataset.specs.declared.device.IoFault.TheVariants as io
 use Rattle.iim_fields.specs.declared.limits.Limits.{Limits}
 use Rattle.iim_unpack.specs.Format.Listing.{Listed, Divides, IsListing, Whole, RefusedBy, TooMany, values_of}
 use Rattle.iim_unpack.specs.Format.Open.{IsOpen}
-use Rattle.iim_unpack.specs.Format.Unpacking.{failed_at, raised}
+use Rattle.iim_unpack.specs.States.Unpacking.{failed_at, raised}
 use Rattle.iim_unpack.specs.declared.refusal.Refusal.{Refusal}
 use Rattle.iim_audit.specs.Format.Rows.{report_of}
 use Rattle.iim_audit.specs.declared.fault.AuditCause.{AuditCause}

@@ -1,7 +1,6 @@
 -- What `audit` leaves.
 use Rattle.std.specs.Prelude.{◌≡◌, ℕ, ℤ, ◌⊎◌, List}
-use Rattle.iim_dataset.specs.Format.Devices.{Device, Wrote, Stopped}
-use Rattle.iim_dataset.specs.Format.DeviceLaws.{HasGiven}
+use Rattle.iim_dataset.specs.States.Devices.{Device, Wrote, Stopped, HasGiven}
 use Rattle.iim_audit.specs.Format.Auditing.{IsAudited, FailsAt}
 use Rattle.iim_audit.specs.Format.Texts.{printed_report}
 use Rattle.iim_audit.specs.declared.fault.AuditCause.{AuditCause}

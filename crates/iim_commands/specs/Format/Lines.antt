@@ -42,8 +42,8 @@ ending_line count (RefusedBy refusal) = refused_line (count + 1) refusal
 ending_line count TooMany = too_many_line
 
 -- what is written of a listing
-abbrev pub report : (ℕ → Listed → List ℕ) → List Listed → InputEnding → List ℕ
-report text envelopes ending = texts_from text 1 envelopes ++ ending_line (length envelopes) ending
+abbrev pub listing : (ℕ → Listed → List ℕ) → List Listed → InputEnding → List ℕ
+listing text envelopes ending = texts_from text 1 envelopes ++ ending_line (length envelopes) ending
 
 -- the status of a listing: 0 where the whole input is accepted, else 1
 abbrev pub status_of : InputEnding → ℕ

@@ -4,7 +4,7 @@ use Rattle.iim_fields.specs.Format.WireLimits.{wire_limits}
 use Rattle.iim_fields.specs.declared.limits.Limits.{Limits}
 use Rattle.wire_story.specs.Format.Delivery.{StoryEvent, delivered}
 use Rattle.iim_unpack.specs.Format.Open.{IsTextOf}
-use Rattle.iim_unpack.specs.Format.Unpacking.{raised}
+use Rattle.iim_unpack.specs.States.Unpacking.{raised}
 
 -- what the records 1 and 2 of an envelope may have: the limits of wire copy
 abbrev pub limits : Limits

@@ -3,17 +3,15 @@ use Rattle.std.specs.Prelude.{◌≡◌, ℕ, ◌≤◌, ◌⊎◌, List, [], �
 use Rattle.std.specs.Io.KnownBytes.{Appends}
 use Rattle.std.specs.List.{join_with_byte}
 use Rattle.iim_dataset.specs.Format.Characters.{lf}
-use Rattle.iim_dataset.specs.Format.Devices.{Device, Wrote, Stopped, Unfailed}
-use Rattle.iim_dataset.specs.Format.DeviceLaws.{HasGiven, MissedAfter}
+use Rattle.iim_dataset.specs.States.Devices.{Device, Wrote, Stopped, Unfailed, HasGiven, MissedAfter}
 use Rattle.iim_dataset.specs.declared.device.IoFault.{IoFault}
-use Rattle.wire_story.specs.Format.Delivery.{StoryEvent, events_of_lines, octet_for}
-use Rattle.wire_story.specs.Format.Writing.{HasBroken}
-use Rattle.iim_unpack.specs.Format.Admitted.{Value, Admits}
+use Rattle.wire_story.specs.Format.Delivery.{StoryEvent, octet_for}
+use Rattle.wire_story.specs.States.Writing.{HasBroken}
 use Rattle.iim_unpack.specs.Format.Open.{IsOpen}
 use Rattle.iim_commands.specs.declared.fault.CommandFault.{CommandFault}
 use Rattle.iim_commands.specs.declared.fault.CommandFault.TheVariants.{CannotRead, CannotWrite, OutOfMemory}
-use Rattle.iim_commands.specs.Format.Devices.{HasOctets}
-use Rattle.iim_commands.specs.Format.Lines.{line_of, report, status_of, texts_from}
+use Rattle.iim_commands.specs.States.Devices.{HasOctets}
+use Rattle.iim_commands.specs.Format.Lines.{line_of, listing, status_of, texts_from}
 use Rattle.iim_commands.specs.Format.Listings.{limits, IsDelivered}
 use Rattle.iim_unpack.specs.Format.Listing.{Divides, InputEnding, Whole, RefusedBy, TooMany, EndsBy, Listed, IsListed, IsListing, IsRefusedAfter}
 
@@ -51,7 +49,7 @@ abbrev pub Narrated : Device → Device → Device → Device → Device → Dev
 Narrated source rest old new errors_old errors_new status =
     (input : List ℕ) × (envelopes : List Listed) × (ending : InputEnding) × (words : List ℕ) × HasOctets source.octets input × Unfailed source rest
     × IsNarration input envelopes ending words × (status ≡ status_of ending) × Wrote old new (stories envelopes ++ words)
-    × Wrote errors_old errors_new (report line_of envelopes ending)
+    × Wrote errors_old errors_new (listing line_of envelopes ending)
 
 -- ---- where a fault comes
 
@@ -68,7 +66,7 @@ BreaksInText old new envelopes octets = (k : ℕ) × (words : List ℕ) × (rest
 -- The errors broke inside these lines, after these words.
 abbrev pub AreToldWith : List Listed → List ℕ → List ℕ → List ℕ → Type 0
 AreToldWith envelopes rest told words = ((told ≡ texts_from line_of 1 envelopes) × (words ≡ []))
-    ⊎ ((ending : InputEnding) × EndsBy limits (length envelopes) rest ending × LeavesText rest ending words × (told ≡ report line_of envelopes ending))
+    ⊎ ((ending : InputEnding) × EndsBy limits (length envelopes) rest ending × LeavesText rest ending words × (told ≡ listing line_of envelopes ending))
 
 abbrev pub BreaksInLines : Device → Device → Device → Device → List Listed → List ℕ → Type 0
 BreaksInLines old new errors_old errors_new envelopes rest = (told : List ℕ) × (words : List ℕ) × (n : ℕ) × AreToldWith envelopes rest told words
@@ -90,9 +88,3 @@ IsUnnarrated source rest old new errors_old errors_new OutOfMemory =
     (input : List ℕ) × (envelopes : List Listed) × (begun : List ℕ) × (k : ℕ) × (words : List ℕ)
     × Divides limits input envelopes begun × HasGiven source rest input × IsTextIn (take k begun) words
     × Wrote old new (stories envelopes ++ words) × Wrote errors_old errors_new (texts_from line_of 1 envelopes)
-
--- ---- a law
-
--- What is delivered of the text in an envelope is its lines.
-abbrev pub EnvelopesAreDeliveredAsLines : Type 0
-EnvelopesAreDeliveredAsLines = (octets : List ℕ) (v : Value) (more : List StoryEvent) → Admits octets v → IsDelivered octets more → more ≡ events_of_lines v.lines

@@ -1,16 +1,16 @@
 -- What a run leaves.
 use Rattle.std.specs.Prelude.{◌≡◌, ℕ, ℤ, ◌⊎◌, List, Result, Ok, Err}
-use Rattle.iim_dataset.specs.Format.Devices.{Device, Wrote, Stopped}
+use Rattle.iim_dataset.specs.States.Devices.{Device, Wrote, Stopped}
 use Rattle.iim_commands.specs.declared.request.Job.{Job}
 use Rattle.iim_commands.specs.declared.request.Job.TheVariants.{Check, Show, Story, Pack, Audit}
 use Rattle.iim_commands.specs.declared.fault.CommandFault.{CommandFault}
 use Rattle.iim_commands.specs.Format.Audits.{Audited, IsUnaudited}
-use Rattle.iim_commands.specs.Format.Devices.{Devices}
+use Rattle.iim_commands.specs.States.Devices.{Devices}
 use Rattle.iim_unpack.specs.Format.Listing.{Listed}
 use Rattle.iim_commands.specs.Format.Lines.{fault_line, line_of}
 use Rattle.iim_commands.specs.Format.Narration.{IsUnnarrated, Narrated}
 use Rattle.iim_commands.specs.Format.Packing.{Answered, Asked, IsUnanswered, asked}
-use Rattle.iim_commands.specs.Format.Reports.{Reported, IsUnreported}
+use Rattle.iim_commands.specs.Format.WrittenListings.{WritesListing, FailsListing}
 use Rattle.iim_commands.specs.Format.Texts.{shown_of}
 use Rattle.iim_commands.specs.Format.Statuses.{status_failed}
 
@@ -24,9 +24,9 @@ EndsRun old new (Ok want) status = (status ≡ want) × (new ≡ old)
 EndsRun old new (Err fault) status = (status ≡ status_failed) × Complained old new fault
 
 -- The input was reported, without a word on the errors; or a fault came and was told there, and the status is 3.
-abbrev pub EndsReport : (ℕ → Listed → List ℕ) → Devices → Devices → ℕ → Type 0
-EndsReport text old new status = (Reported text old.input new.input old.output new.output status × (new.errors ≡ old.errors))
-    ⊎ ((fault : CommandFault) × IsUnreported text old.input new.input old.output new.output fault × Complained old.errors new.errors fault × (status ≡ status_failed))
+abbrev pub EndsListing : (ℕ → Listed → List ℕ) → Devices → Devices → ℕ → Type 0
+EndsListing text old new status = (WritesListing text old.input new.input old.output new.output status × (new.errors ≡ old.errors))
+    ⊎ ((fault : CommandFault) × FailsListing text old.input new.input old.output new.output fault × Complained old.errors new.errors fault × (status ≡ status_failed))
 
 -- The stories of the input were told, with the lines of `check` on the errors; or a fault came and was told there after them, and the
 -- status is 3.
@@ -47,8 +47,8 @@ EndsPacking asked old new status = Answered asked old new status
 
 -- What each job leaves.
 abbrev pub Ran : Job → Devices → Devices → ℕ → Type 0
-Ran Check old new status = EndsReport line_of old new status
-Ran Show old new status = EndsReport shown_of old new status
+Ran Check old new status = EndsListing line_of old new status
+Ran Show old new status = EndsListing shown_of old new status
 Ran Story old new status = ToldAsStory old new status
 Ran (Pack request) old new status = EndsPacking (asked request.subfile request.unknown request.max) old new status
 Ran (Audit now) old new status = Reviewed now.nanosecond old new status

@@ -3,13 +3,12 @@ use Rattle.std.specs.Prelude.{◌≡◌, ◌≢◌, ℕ, min, ◌+◌, ◌<◌, 
 use Rattle.std.specs.Io.KnownBytes.{IsAtEnd}
 use Rattle.iim_dataset.specs.Format.Octets.{greatest_size}
 use Rattle.iim_dataset.specs.Format.Datasets.{Dataset}
-use Rattle.iim_dataset.specs.Format.Devices.{Device, Wrote}
-use Rattle.iim_dataset.specs.Format.DeviceLaws.{BrokeAfter, HasGiven, MissedAfter}
+use Rattle.iim_dataset.specs.States.Devices.{Device, Wrote, BrokeAfter, HasGiven, MissedAfter}
 use Rattle.iim_dataset.specs.declared.device.IoFault.{IoFault}
 use Rattle.iim_object.specs.Format.Plans.{most_in}
 use Rattle.iim_object.specs.Format.PackCauses.{pack_number}
-use Rattle.iim_object.specs.Format.Writing.{Begins}
-use Rattle.iim_object.specs.declared.cause.PackCause.TheVariants as causes
+use Rattle.iim_object.specs.States.Writing.{Begins}
+use Rattle.iim_object.specs.declared.writing.cause.PackCause.TheVariants as causes
 use Rattle.iim_object.specs.declared.plan.Plan.{Plan}
 use Rattle.iim_object.specs.declared.size.Size.{Size}
 use Rattle.iim_object.specs.declared.size.Size.TheVariants.{Known, Unknown}
@@ -23,9 +22,9 @@ use Rattle.iim_script.specs.declared.fault.ScriptCause.{ScriptCause}
 use Rattle.iim_script.specs.declared.fault.ScriptCause.TheVariants as script
 use Rattle.iim_commands.specs.declared.fault.CommandFault.{CommandFault}
 use Rattle.iim_commands.specs.declared.fault.CommandFault.TheVariants.{CannotRead, CannotWrite, OutOfMemory}
-use Rattle.iim_commands.specs.Format.Devices.{Devices}
+use Rattle.iim_commands.specs.States.Devices.{Devices}
 use Rattle.iim_commands.specs.Format.Listings.{limits}
-use Rattle.iim_commands.specs.Format.Reports.{IsTold}
+use Rattle.iim_commands.specs.Format.WrittenListings.{IsSaid}
 use Rattle.iim_commands.specs.Format.Statuses.{status_accepted, status_refused}
 
 -- how an envelope is to be packed: the octets of a full subfile; whether the size is to be left unknown, and then the most octets of
@@ -104,8 +103,8 @@ IsPastLine a octets text = (t : ScriptContent) × IsScriptOf octets t × IsPast 
     × (text ≡ refusal_line t.text_line (pack_number causes.PastAnnounced) (codes "PastAnnounced"))
 
 -- Why the octets are not packed, and the line that tells it.
-abbrev pub IsRefusal : Asked → List ℕ → List ℕ → Type 0
-IsRefusal a octets text = IsFaultLine octets text ⊎ IsPastLine a octets text
+abbrev pub IsScriptRefusal : Asked → List ℕ → List ℕ → Type 0
+IsScriptRefusal a octets text = IsFaultLine octets text ⊎ IsPastLine a octets text
 
 -- ---- the input
 
@@ -138,7 +137,7 @@ IsBrokenOff a octets old new = (t : ScriptContent) × (plan : Plan) × (out : Li
 abbrev pub Answered : Asked → Devices → Devices → ℕ → Type 0
 Answered a old new status = (octets : List ℕ) × IsRead old.input new.input octets
     × ((IsPacked a octets old.output new.output × (new.errors ≡ old.errors) × (status ≡ status_accepted))
-    ⊎ ((text : List ℕ) × IsRefusal a octets text × (new.output ≡ old.output) × IsTold old.errors new.errors text status_refused status))
+    ⊎ ((text : List ℕ) × IsScriptRefusal a octets text × (new.output ≡ old.output) × IsSaid old.errors new.errors text status_refused status))
 
 -- Why there is no answer: the input was not read; or memory was short; or the output broke. Only in the last case anything is written.
 abbrev pub IsUnanswered : Asked → Devices → Devices → CommandFault → Type 0

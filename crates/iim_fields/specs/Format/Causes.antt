@@ -8,7 +8,7 @@ use Rattle.iim_dataset.specs.declared.head.Head.{Head}
 use Rattle.iim_tables.specs.Format.Rows.{row_of, Meets}
 use Rattle.iim_fields.specs.Format.Records.{after}
 use Rattle.iim_tables.specs.Format.Records.{mandatory, repeats, occurs}
-use Rattle.iim_fields.specs.Format.Faults.{present_record, present_run, is_kept, kept, kept_octets}
+use Rattle.iim_fields.specs.Format.Faults.{section_after, section_run, is_kept, kept, kept_octets}
 use Rattle.iim_fields.specs.declared.limits.Limits.{Limits}
 use Rattle.iim_fields.specs.declared.fault.FieldFault.{FieldFault}
 use Rattle.iim_fields.specs.declared.fault.FieldCause.{FieldCause}
@@ -23,11 +23,11 @@ pub data Token : Type 0 where
 
 -- the head's record is the present one, that of the last dataset
 abbrev pub IsInPresent : List Dataset → Head → Type 0
-IsInPresent ds h = (h.rec ≢ 0) × (h.rec ≡ present_record ds)
+IsInPresent ds h = (h.rec ≢ 0) × (h.rec ≡ section_after ds)
 
 -- the head begins the record that comes next, which is record 1 at the beginning
 abbrev pub BeginsNext : List Dataset → Head → Type 0
-BeginsNext ds h = (later : List ℕ) × (after (present_record ds) ≡ h.rec ∷ later)
+BeginsNext ds h = (later : List ℕ) × (after (section_after ds) ≡ h.rec ∷ later)
 
 -- The head's record is neither the present one nor the next.
 abbrev pub IsOutOfOrder : List Dataset → Head → Type 0
@@ -39,7 +39,7 @@ HasNoRow h = row_of h.rec h.set ≡ None
 
 -- The dataset does not repeat, and has occurred in the present record.
 abbrev pub IsRepeated : List Dataset → Head → Type 0
-IsRepeated ds h = (repeats h.rec h.set ≡ false) × (h.rec ≡ present_record ds) × (occurs h.set (present_run ds) ≡ true)
+IsRepeated ds h = (repeats h.rec h.set ≡ false) × (h.rec ≡ section_after ds) × (occurs h.set (section_run ds) ≡ true)
 
 -- The count is below the row's least, or above its greatest.
 abbrev pub IsOutOfRange : Head → Type 0
@@ -47,8 +47,8 @@ IsOutOfRange h = IsSomeAnd (row_of h.rec h.set) (λ row. (h.count < row.min) ⊎
 
 -- the present record must have a dataset of this number, and has none
 pub record IsAbsent (ds : List Dataset) (n : ℕ) : Type 0 where
-  pub mandatory : list_any (λ m. m == n) (mandatory (present_record ds)) ≡ true
-  pub absent : occurs n (present_run ds) ≡ false
+  pub mandatory : list_any (λ m. m == n) (mandatory (section_after ds)) ≡ true
+  pub absent : occurs n (section_run ds) ≡ false
 
 -- The head begins the next record, and a mandatory dataset of the present one is absent.
 abbrev pub EndsTooEarly : List Dataset → Head → Type 0
@@ -113,7 +113,7 @@ head_at (AtValue d) = head_of d
 
 -- The dataset that is named: where one is missing, the missing one of the lowest number; else the token's own.
 abbrev pub Names : FieldCause → List Dataset → Token → ℕ → ℕ → Type 0
-Names Missing ds t rec set = (rec ≡ present_record ds) × IsAbsent ds set × ((n : ℕ) → IsAbsent ds n → set ≤ n)
+Names Missing ds t rec set = (rec ≡ section_after ds) × IsAbsent ds set × ((n : ℕ) → IsAbsent ds n → set ≤ n)
 Names _ ds t rec set = (rec ≡ (head_at t).rec) × (set ≡ (head_at t).set)
 
 -- The fault of a token: the condition of its cause holds, and that of no cause of a lower number.

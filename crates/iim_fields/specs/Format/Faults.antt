@@ -22,12 +22,12 @@ last_record r [] = r
 last_record r (d ∷ ds) = last_record d.rec ds
 
 -- the present record: that of the last dataset, 0 at the beginning
-abbrev pub present_record : List Dataset → ℕ
-present_record ds = last_record 0 ds
+abbrev pub section_after : List Dataset → ℕ
+section_after ds = last_record 0 ds
 
 -- the datasets of the present record
-abbrev pub present_run : List Dataset → List Dataset
-present_run ds = of_record (present_record ds) ds
+abbrev pub section_run : List Dataset → List Dataset
+section_run ds = of_record (section_after ds) ds
 
 -- the record is the first of those to come
 abbrev pub is_first : ℕ → List ℕ → Bool
@@ -70,7 +70,7 @@ head_fault present has h =
 
 -- the first fault of a head after datasets
 abbrev pub record_fault : List Dataset → Head → Option FieldFault
-record_fault ds h = head_fault (present_record ds) (λ n. occurs n (present_run ds)) h
+record_fault ds h = head_fault (section_after ds) (λ n. occurs n (section_run ds)) h
 
 -- The octets are not as the row says; a file format is not 2.
 abbrev pub fault_by_row : Option Row → Dataset → Option FieldFault

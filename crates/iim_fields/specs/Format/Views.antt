@@ -4,7 +4,7 @@ use Rattle.std.specs.List.{filter}
 use Rattle.std.specs.Option.{option_and_then, option_or}
 use Rattle.iim_tables.specs.Format.Instants.{instant_in}
 use Rattle.iim_dataset.specs.Format.Datasets.{Dataset}
-use Rattle.iim_fields.specs.Format.Builders.{IsEnvelope}
+use Rattle.iim_fields.specs.Format.Envelopes.{IsEnvelope}
 
 -- the dataset has the numbers
 abbrev pub has_names : ℕ → ℕ → Dataset → Bool

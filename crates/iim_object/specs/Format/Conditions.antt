@@ -1,15 +1,11 @@
 -- Why a token is refused: the causes, each with its number and the condition in which it stands. The lowest number is told.
-use Rattle.std.specs.Prelude.{◌≡◌, ◌↔◌, ◌⊎◌, ℕ, ◌+◌, ◌<◌, ◌≤◌, List, [], ◌∷◌, ◌++◌, sum, Option, Some, None}
-use Rattle.iim_dataset.specs.Format.Languages.{DiesAt}
+use Rattle.std.specs.Prelude.{◌≡◌, ◌⊎◌, ℕ, ◌+◌, ◌<◌, List, [], ◌∷◌, ◌++◌, sum, Some, None}
 use Rattle.iim_dataset.specs.Format.Octets.{greatest_size}
-use Rattle.iim_object.specs.Format.Sizes.{Stated, AreStated, number_at}
-use Rattle.iim_object.specs.Format.Objects.{ObjectToken, NumberRead, SubfileBegun, ObjectEnded, Confirmed, ObjectLanguage}
-use Rattle.iim_object.specs.Format.Places.{Place, MayFollow, tokens_of}
-use Rattle.iim_object.specs.Format.Causes.{cause_at}
-use Rattle.iim_object.specs.Format.Reading.{StandsAt}
-use Rattle.iim_object.specs.declared.state.State.{State}
-use Rattle.iim_object.specs.declared.fault.SizeCause.{SizeCause}
-use Rattle.iim_object.specs.declared.fault.SizeCause.TheVariants.{ModeClash, SizeClash, SubfileTooLong, PastSize, Short, ConfirmedWrong}
+use Rattle.iim_object.specs.Format.Sizes.{Stated, number_at}
+use Rattle.iim_object.specs.Format.Objects.{ObjectToken, NumberRead, SubfileBegun, ObjectEnded, Confirmed}
+use Rattle.iim_object.specs.Format.Places.{Place}
+use Rattle.iim_object.specs.declared.reading.fault.SizeCause.{SizeCause}
+use Rattle.iim_object.specs.declared.reading.fault.SizeCause.TheVariants.{ModeClash, SizeClash, SubfileTooLong, PastSize, Short, ConfirmedWrong}
 
 abbrev pub number_of : SizeCause → ℕ
 number_of ModeClash = 20
@@ -47,19 +43,3 @@ HasCause SubfileTooLong p token = (count : ℕ) × (token ≡ SubfileBegun count
 HasCause PastSize p token = (count : ℕ) × (token ≡ SubfileBegun count) × PassesBound p.stated (sum p.lengths + count)
 HasCause Short p token = (announced : ℕ) × (token ≡ ObjectEnded) × (number_at 90 p.stated ≡ Some announced) × (sum p.lengths < announced)
 HasCause ConfirmedWrong p token = (n : ℕ) × (token ≡ Confirmed n) × (n ≡ sum p.lengths → ⊥)
-
--- The cause is the one of the lowest number whose condition holds.
-pub record IsFirstCause (p : Place) (token : ObjectToken) (cause : SizeCause) : Type 0 where
-  pub holds : HasCause cause p token
-  pub lowest : (other : SizeCause) → HasCause other p token → number_of cause ≤ number_of other
-
--- Of a token that the record layer admits, the cause that is told is this one.
-abbrev pub CausesAreTheFirst : Type 0
-CausesAreTheFirst = (p : Place) (token : ObjectToken) (cause : SizeCause) → AreStated p.stated → MayFollow p token
-    → (cause_at p token ≡ Some cause) ↔ IsFirstCause p token cause
-
--- Where a reader stands, the object layer dies with a token that the record layer admits exactly where the condition of a cause
--- holds.
-abbrev pub ObjectsDieForCauses : Type 0
-ObjectsDieForCauses = (reader : Option State) (p : Place) (token : ObjectToken) → StandsAt reader p → MayFollow p token
-    → DiesAt ObjectLanguage (tokens_of p) token ↔ ((cause : SizeCause) × HasCause cause p token)

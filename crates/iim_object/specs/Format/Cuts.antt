@@ -19,8 +19,3 @@ pub record IsCut (size : ℕ) (object : List ℕ) (parts : List (List ℕ)) : Ty
   pub some : last ≡ [] → object ≡ []
   pub joined : object ≡ joined_parts full ++ last
   pub parts_are : parts ≡ full ++ last ∷ []
-
--- An object is cut in one way.
-abbrev pub ObjectsAreCutOneWay : Type 0
-ObjectsAreCutOneWay = (size : ℕ) (object : List ℕ) (parts others : List (List ℕ)) → 1 ≤ size → IsCut size object parts → IsCut size object others
-    → parts ≡ others

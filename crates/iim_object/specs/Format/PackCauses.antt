@@ -1,7 +1,7 @@
 -- The causes of a packer, each with its number.
 use Rattle.std.specs.Prelude.{ℕ}
-use Rattle.iim_object.specs.declared.cause.PackCause.{PackCause}
-use Rattle.iim_object.specs.declared.cause.PackCause.TheVariants.{OutOfMemory, PastAnnounced, ShortOfAnnounced, BadTextOctet, BadTrailer, Write, Failed}
+use Rattle.iim_object.specs.declared.writing.cause.PackCause.{PackCause}
+use Rattle.iim_object.specs.declared.writing.cause.PackCause.TheVariants.{OutOfMemory, PastAnnounced, ShortOfAnnounced, BadTextOctet, BadTrailer, Write, Failed}
 
 abbrev pub pack_number : PackCause → ℕ
 pack_number OutOfMemory = 70

@@ -39,13 +39,3 @@ pub record HaveSizes (r7 r8 r9 : List Dataset) (s : Sizes) : Type 0 where
   pub confirmed : ℕ
   pub is_confirmed : number_at 10 (numbers_of r9) ≡ Some confirmed
   pub agree : Agree s (lengths_of r8) confirmed
-
--- The records of the datasets have sizes.
-pub record AreSized (ds : List Dataset) : Type 0 where
-  pub records : AreObjectRecords ds
-  pub sizes : Sizes
-  pub have : HaveSizes records.r7 records.r8 records.r9 sizes
-
--- The sizes that records state are determined.
-abbrev pub SizesAreDetermined : Type 0
-SizesAreDetermined = (r7 r8 r9 : List Dataset) (s t : Sizes) → HaveSizes r7 r8 r9 s → HaveSizes r7 r8 r9 t → s ≡ t

@@ -1,9 +1,6 @@
 -- The object layer by smaller sizes.
-use Rattle.std.specs.Prelude.{ℕ, ◌≤◌, List, [], ◌∷◌, sum}
-use Rattle.iim_dataset.specs.Format.Languages.{IsAlive}
+use Rattle.std.specs.Prelude.{ℕ, ◌≤◌, List, [], ◌∷◌}
 use Rattle.iim_object.specs.Format.Objects.{ObjectToken, NumberRead, SubfileBegun, ObjectEnded, Confirmed, ObjectLanguage}
-use Rattle.iim_object.specs.Format.Places.{Place, tokens_of}
-use Rattle.iim_object.specs.Format.Saved.{IsPossible}
 
 -- The numbers of record 7, and the one that is confirmed, are at most `most`.
 abbrev pub TokensWithin : ℕ → List ObjectToken → Type 0
@@ -17,7 +14,3 @@ TokensWithin most (Confirmed n ∷ tokens) = (n ≤ most) × TokensWithin most t
 -- is the number that is confirmed.
 abbrev pub LanguageWithin : ℕ → List ObjectToken → Type 0
 LanguageWithin most tokens = ObjectLanguage tokens × TokensWithin most tokens
-
--- From a possible place the layer can continue by each greatest size, of at least 1, that the place keeps to.
-abbrev pub PlacesLiveWithin : Type 0
-PlacesLiveWithin = (most : ℕ) (p : Place) → 1 ≤ most → IsPossible p → TokensWithin most (tokens_of p) → sum p.lengths ≤ most → IsAlive (LanguageWithin most) (tokens_of p)

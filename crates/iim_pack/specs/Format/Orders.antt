@@ -1,15 +1,15 @@
 -- Why a packer refuses a call: what each cause says, and the order in which they are asked.
 use Rattle.std.specs.Prelude.{◌≡◌, ℕ, ◌+◌, ◌<◌, IsTrue, List, ◌∷◌, ◌++◌, length, Option, Some, None}
 use Rattle.std.specs.List.{AllByRecursion}
-use Rattle.iim_object.specs.Format.Writing.{most_of, total_of}
+use Rattle.iim_object.specs.States.Writing.{most_of, total_of}
 use Rattle.iim_object.specs.declared.plan.Plan.{Plan}
 use Rattle.iim_object.specs.declared.size.Size.TheVariants.{Known}
-use Rattle.iim_object.specs.declared.cause.PackCause.{PackCause}
-use Rattle.iim_object.specs.declared.cause.PackCause.TheVariants.{PastAnnounced, ShortOfAnnounced, BadTextOctet, BadTrailer, Failed}
+use Rattle.iim_object.specs.declared.writing.cause.PackCause.{PackCause}
+use Rattle.iim_object.specs.declared.writing.cause.PackCause.TheVariants.{PastAnnounced, ShortOfAnnounced, BadTextOctet, BadTrailer, Failed}
 use Rattle.wire_story.specs.Format.Texts.{IsLine}
 use Rattle.wire_message.specs.Format.Messages.{Header, IsTrailer}
 use Rattle.wire_message.specs.Format.Canonical.{packed_head, canonical}
-use Rattle.iim_pack.specs.Format.Packing.{Packing, least_ending}
+use Rattle.iim_pack.specs.States.Packing.{Packing, least_ending}
 
 -- The cause is one of the order; what it says holds, and nothing holds that a cause before it says.
 pub record IsFirst (Says : PackCause → Type 0) (order : List PackCause) (cause : PackCause) : Type 0 where

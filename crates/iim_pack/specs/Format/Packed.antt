@@ -1,7 +1,7 @@
 -- What is packed: the canonical form of an envelope, a message and a story, by a plan.
 use Rattle.std.specs.Prelude.{◌≡◌, ℕ, List, ◌++◌}
 use Rattle.iim_dataset.specs.Format.Datasets.{Dataset, canonical_stream}
-use Rattle.iim_fields.specs.Format.Builders.{IsEnvelope}
+use Rattle.iim_fields.specs.Format.Envelopes.{IsEnvelope}
 use Rattle.iim_object.specs.Format.Packing.{IsWritten, Suits}
 use Rattle.iim_object.specs.declared.plan.Plan.{Plan}
 use Rattle.wire_message.specs.Format.Messages.{Header, IsMessage}

@@ -1,6 +1,6 @@
 -- What any stream is answered, of limits and pieces alone.
 use Rattle.std.specs.Prelude.{◌≡◌, ◌≢◌, ℕ, List, Result, Ok, Err}
-use Rattle.iim_dataset.specs.Format.Devices.{Rose}
+use Rattle.iim_dataset.specs.Format.Counts.{Rose}
 use Rattle.iim_fields.specs.declared.limits.Limits.{Limits}
 use Rattle.wire_story.specs.Format.Delivery as story
 use Rattle.iim_unpack.specs.Format.Pieces as pieces

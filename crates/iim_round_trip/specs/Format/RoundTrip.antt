@@ -1,31 +1,25 @@
 -- What was packed, unpacked.
-use Rattle.std.specs.Prelude.{◌≡◌, ℕ, List, ◌++◌, length}
+use Rattle.std.specs.Prelude.{ℕ, List, ◌≡◌, ◌++◌, length}
 use Rattle.iim_dataset.specs.Format.Datasets.{Dataset}
-use Rattle.iim_fields.specs.Format.Faults.{joined}
-use Rattle.iim_fields.specs.Format.Standing.{IsWithin}
-use Rattle.iim_fields.specs.declared.limits.Limits.{Limits}
+use Rattle.iim_object.specs.Format.Packing.{packed_sizes}
 use Rattle.iim_object.specs.declared.plan.Plan.{Plan}
-use Rattle.wire_story.specs.Format.Delivery as story
 use Rattle.wire_message.specs.Format.Messages.{Header}
-use Rattle.iim_pack.specs.Format.Packed.{Packed}
+use Rattle.wire_message.specs.Format.Canonical.{canonical}
 use Rattle.iim_unpack.specs.Format.Admitted.{Value}
+use Rattle.iim_fields.specs.Format.Faults.{joined}
+use Rattle.iim_fields.specs.Format.Bounds.{IsWithin}
+use Rattle.iim_fields.specs.declared.limits.Limits.{Limits}
+use Rattle.wire_story.specs.Format.Delivery as story
+use Rattle.iim_pack.specs.Format.Packed.{Packed}
 use Rattle.iim_unpack.specs.Format.Value.{HasParts}
 use Rattle.iim_unpack.specs.declared.refusal.Cause.TheVariants.{Sink}
 use Rattle.iim_unpack.specs.declared.unpacker.Unpacked.{Unpacked}
-use Rattle.iim_unpack.specs.Format.Streams.{IsEnvelopeWithin, Answer, Answers, Finished}
-use Rattle.iim_round_trip.specs.Format.Laws.{packed_value}
 use Rattle.iim_round_trip.specs.declared.unpacking.UnpackFault.{UnpackFault}
 use Rattle.iim_round_trip.specs.declared.unpacking.UnpackFault.TheVariants.{OutOfMemory, Refused}
 
 -- The fields have no more octets than the limits allow, and are no more.
 abbrev pub FieldsAreWithin : Limits → List Dataset → Type 0
 FieldsAreWithin limits fields = IsWithin limits (length (joined fields)) (length fields)
-
--- Packed octets are an envelope within each limits that its fields are within.
-abbrev pub PackedOctetsAreWithin : Type 0
-PackedOctetsAreWithin = (limits : Limits) (fields : List Dataset) (head : Header) (lines : List (List ℕ)) (trailer : List ℕ) (plan : Plan) (octets : List ℕ)
-    → (p : Packed fields head lines trailer plan octets) → FieldsAreWithin limits fields
-    → IsEnvelopeWithin limits octets (packed_value fields head lines trailer plan p.written.parts)
 
 -- The stream begins with what was packed, within the limits. Anything may follow.
 pub record BeginsPacked (limits : Limits) (stream : List ℕ) (fields : List Dataset) (head : Header) (lines : List (List ℕ)) (trailer : List ℕ) (plan : Plan) : Type 0 where
@@ -35,21 +29,6 @@ pub record BeginsPacked (limits : Limits) (stream : List ℕ) (fields : List Dat
   pub rest : List ℕ
   pub parts : stream ≡ octets ++ rest
 
--- the answer to such a stream: an envelope of just the packed octets, with the value that was packed
-abbrev pub packed_answer : {limits : Limits} → {stream : List ℕ} → {fields : List Dataset} → {head : Header} → {lines : List (List ℕ)} → {trailer : List ℕ} → {plan : Plan}
-    → BeginsPacked limits stream fields head lines trailer plan → Answer
-packed_answer {limits} {stream} {fields} {head} {lines} {trailer} {plan} b =
-    Finished (length b.octets) (packed_value fields head lines trailer plan b.packed.written.parts)
-
--- A stream that begins with what was packed has this answer, and no other.
-pub record IsAnsweredSo (limits : Limits) (stream : List ℕ) (answer : Answer) : Type 0 where
-  pub answers : Answers limits stream answer
-  pub only : (other : Answer) → Answers limits stream other → other ≡ answer
-
-abbrev pub PackedStreamsHaveTheirAnswer : Type 0
-PackedStreamsHaveTheirAnswer = (limits : Limits) (stream : List ℕ) (fields : List Dataset) (head : Header) (lines : List (List ℕ)) (trailer : List ℕ) (plan : Plan)
-    → (b : BeginsPacked limits stream fields head lines trailer plan) → IsAnsweredSo limits stream (packed_answer b)
-
 -- ---- a stream that was unpacked
 
 -- The envelope, the header, the trailer and the sizes are those that were packed; just the packed octets were used, and the sink was
@@ -58,6 +37,16 @@ pub record IsGivenBack {S : Type 0} (goes : S → List story.StoryEvent → S �
   pub used_is : used ≡ length octets
   pub parts : HasParts got value
   pub told : goes a (story.events_of_lines value.lines) b
+
+-- the value that was packed, in these parts
+abbrev pub packed_value : List Dataset → Header → List (List ℕ) → List ℕ → Plan → List (List ℕ) → Value
+packed_value fields head lines trailer plan parts = record {
+  fields = fields;
+  head = head;
+  lines = lines;
+  trailer = trailer;
+  sizes = packed_sizes plan.subfile plan.size (canonical head lines trailer) parts;
+}
 
 -- If the stream begins with what was packed, within the limits, then this is given back.
 abbrev pub GivesBack : {S : Type 0} → (S → List story.StoryEvent → S → Type 0) → Limits → List ℕ → S → S → Unpacked → ℕ → Type 0

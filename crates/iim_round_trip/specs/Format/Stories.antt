@@ -10,8 +10,7 @@ use Rattle.iim_unpack.specs.Format.Pieces.{IsTurnedDown}
 use Rattle.iim_unpack.specs.Format.Streams.{Answer, Finished, Truncated, IsFinished}
 use Rattle.iim_unpack.specs.Format.Streams as answers
 use Rattle.iim_unpack.specs.Format.Value.{HasParts}
-use Rattle.iim_round_trip.specs.Format.Laws.{packed_value}
-use Rattle.iim_round_trip.specs.Format.RoundTrip.{BeginsPacked}
+use Rattle.iim_round_trip.specs.Format.RoundTrip.{packed_value, BeginsPacked}
 use Rattle.iim_round_trip.specs.declared.unpacking.Story.{Story}
 use Rattle.iim_round_trip.specs.declared.unpacking.UnpackFault.{UnpackFault}
 use Rattle.iim_round_trip.specs.declared.unpacking.UnpackFault.TheVariants.{OutOfMemory, Refused}

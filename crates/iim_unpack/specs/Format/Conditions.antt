@@ -1,16 +1,13 @@
 -- Why a token is refused: the causes, each with its number, its layer and the condition in which it stands. Of the causes of one
 -- layer the one of the lowest number is told.
-use Rattle.std.specs.Prelude.{◌≡◌, ◌≢◌, ℕ, ◌<◌, ◌≤◌, ◌⊎◌, ◌==◌, false, List, [], ◌∷◌, ◌++◌, length, get_or, IsTrue}
+use Rattle.std.specs.Prelude.{◌≡◌, ◌≢◌, ℕ, ◌<◌, ◌≤◌, ◌⊎◌, ◌==◌, false, List, [], length, get_or, IsTrue}
 use Rattle.std.specs.List.{list_any}
 use Rattle.iim_dataset.specs.Format.Characters.{soh, stx, etx, eot}
-use Rattle.iim_dataset.specs.Format.Octets.{IsOctet, number}
-use Rattle.iim_dataset.specs.Format.Datasets.{Dataset, SpellsTag, head_of, of_record, count_octets, tag_marker, extended}
-use Rattle.iim_dataset.specs.Format.Splits.{InTag, InData, Reads}
-use Rattle.iim_dataset.specs.Format.Completing.{CompletesData}
+use Rattle.iim_dataset.specs.Format.Octets.{number}
+use Rattle.iim_dataset.specs.Format.Datasets.{Dataset, head_of, of_record, count_octets, tag_marker, extended}
 use Rattle.iim_dataset.specs.declared.head.Head.{Head}
 use Rattle.iim_fields.specs.Format.Causes as records
 use Rattle.iim_fields.specs.Format.Causes.Token.{AtHead as HeadToken, AtValue as ValueToken}
-use Rattle.iim_fields.specs.Format.Values.{data_of}
 use Rattle.iim_fields.specs.declared.limits.Limits.{Limits}
 use Rattle.iim_fields.specs.declared.fault.FieldCause.{FieldCause}
 use Rattle.iim_fields.specs.declared.fault.FieldCause.TheVariants as fields
@@ -18,18 +15,16 @@ use Rattle.iim_object.specs.Format.Conditions as objects
 use Rattle.iim_object.specs.Format.Plans.{max_subfiles}
 use Rattle.iim_object.specs.Format.Places.{head_token, value_token}
 use Rattle.iim_object.specs.Format.Numbers.{place_after_datasets}
-use Rattle.iim_object.specs.declared.fault.SizeCause.{SizeCause}
-use Rattle.iim_object.specs.declared.fault.SizeCause.TheVariants as sizes
+use Rattle.iim_object.specs.declared.reading.fault.SizeCause.{SizeCause}
+use Rattle.iim_object.specs.declared.reading.fault.SizeCause.TheVariants as sizes
 use Rattle.wire_story.specs.Format.Texts.{Holds}
 use Rattle.wire_story.specs.Format.Tokens.{Octet, End}
-use Rattle.wire_story.specs.Format.Reading.{IsLoneReturn}
+use Rattle.wire_story.specs.States.Reading.{IsLoneReturn}
 use Rattle.wire_message.specs.Format.Layers.{MessageDiesAt, after_stx, text_so_far}
-use Rattle.wire_message.specs.Format.Reading as wire
+use Rattle.wire_message.specs.Format.Causes as wire
 use Rattle.wire_message.specs.declared.fault.MessageCause.TheVariants as messages
 use Rattle.iim_unpack.specs.Format.Admitted.{object_of}
-use Rattle.iim_unpack.specs.Format.Open.{RefusesNext}
 use Rattle.iim_unpack.specs.Format.Tokens.{place_at}
-use Rattle.iim_unpack.specs.declared.fault.TokenFault.{TokenFault}
 use Rattle.iim_unpack.specs.declared.refusal.Layer.{Layer}
 use Rattle.iim_unpack.specs.declared.refusal.Layer.TheVariants as layers
 use Rattle.iim_unpack.specs.declared.refusal.Cause.{Cause}
@@ -44,15 +39,6 @@ pub data Token : Type 0 where
   AtHead : Head → Token
   AtValue : Dataset → Token
   SubfileOctet : List ℕ → ℕ → Token
-
--- The next octet completes the token: a head with the last octet of its tag; a value, which is no subfile's, with its last octet,
--- or with its head where it has none.
-abbrev pub CompletesToken : List ℕ → ℕ → List Dataset → Token → Type 0
-CompletesToken octets next ds (TagOctet held octet) = Reads count_octets octets ds (InTag held) × (octet ≡ next)
-CompletesToken octets next ds (AtHead h) = (held : List ℕ) × Reads count_octets octets ds (InTag held) × SpellsTag count_octets h (held ++ next ∷ [])
-CompletesToken octets next ds (AtValue d) = (h : Head) × (h.rec ≡ 8 → ⊥) × CompletesData octets next ds h d.octets × (d ≡ data_of h d.octets)
-CompletesToken octets next ds (SubfileOctet before octet) = (h : Head) × (taken : List ℕ) × Reads count_octets octets ds (InData h taken)
-    × (h.rec ≡ 8) × (before ≡ object_of ds ++ taken) × (octet ≡ next)
 
 -- ---- the conditions
 
@@ -155,17 +141,3 @@ rule_of TooManyFields = record { number = 51; layer = layers.Limits; holds = OfF
 rule_of TooManySubfiles = record { number = 52; layer = layers.Limits; holds = λ limits. IsOneTooMany }
 rule_of Sink = record { number = 60; layer = layers.Outside; holds = λ limits ds. OfOctet IsTold }
 rule_of Failed = record { number = 61; layer = layers.Outside; holds = OfNone }
-
--- ---- the law
-
--- The fault names the layer of its cause; the condition of the cause holds, and in this layer that of no cause of a lower number.
-pub record TellsTheLowest (limits : Limits) (ds : List Dataset) (token : Token) (fault : TokenFault) : Type 0 where
-  pub layer : (rule_of fault.cause).layer ≡ fault.layer
-  pub holds : (rule_of fault.cause).holds limits ds token
-  pub lowest : (other : Cause) → (rule_of other).layer ≡ fault.layer → (rule_of other).number < (rule_of fault.cause).number
-      → (rule_of other).holds limits ds token → ⊥
-
--- An octet that is refused completes a token, and the cause is the one of the lowest number in its layer whose condition holds there.
-abbrev pub RefusalsTellTheLowestCause : Type 0
-RefusalsTellTheLowestCause = (limits : Limits) (octets : List ℕ) (next : ℕ) (fault : TokenFault) → IsOctet next → RefusesNext limits octets next fault
-    → (ds : List Dataset) × (token : Token) × CompletesToken octets next ds token × TellsTheLowest limits ds token fault

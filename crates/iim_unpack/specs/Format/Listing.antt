@@ -1,13 +1,13 @@
 -- The envelopes that an input begins with, and what stands after them.
-use Rattle.std.specs.Prelude.{◌≡◌, ◌≢◌, ℕ, ◌^◌, ◌<◌, ◌≤◌, ◌⊎◌, List, [], ◌∷◌, ◌++◌, length, map, take, slice_index}
+use Rattle.std.specs.Prelude.{◌≡◌, ◌≢◌, ℕ, ◌<◌, ◌≤◌, ◌⊎◌, List, [], ◌∷◌, ◌++◌, length, map, take, slice_index}
 use Rattle.std.specs.List.{AllByRecursion}
 use Rattle.iim_fields.specs.declared.limits.Limits.{Limits}
 use Rattle.iim_unpack.specs.Format.Admitted.{Value}
 use Rattle.iim_unpack.specs.Format.Refusals.{refusal_at}
 use Rattle.iim_unpack.specs.Format.Streams.{IsEnvelopeWithin, Kills}
 use Rattle.iim_unpack.specs.Format.Open.{IsOpen, IsTruncatedAt}
-use Rattle.iim_unpack.specs.Format.Unpacking.{raised}
-use Rattle.iim_unpack.specs.declared.fault.TokenFault.{TokenFault}
+use Rattle.iim_unpack.specs.States.Unpacking.{raised}
+use Rattle.iim_unpack.specs.declared.parts.fault.TokenFault.{TokenFault}
 use Rattle.iim_unpack.specs.declared.refusal.Refusal.{Refusal}
 
 -- how many envelopes are listed at most
@@ -47,14 +47,14 @@ pub record IsDeadAfter (limits : Limits) (rest : List ℕ) (k : ℕ) (e : Refusa
   pub kills : Kills limits (take k rest) (slice_index rest k) fault
 
 -- Every layer can continue from the octets, which are some, and which end there.
-pub record IsTruncated (limits : Limits) (rest : List ℕ) (e : Refusal) : Type 0 where
+pub record EndsTruncated (limits : Limits) (rest : List ℕ) (e : Refusal) : Type 0 where
   pub some : rest ≢ []
   pub is_open : IsOpen limits rest
   pub truncated : IsTruncatedAt rest (raised 0 (length rest)) e
 
 -- The octets are refused after the first k of them: by the next one, or since they end there.
 abbrev pub IsRefusedAfter : Limits → List ℕ → ℕ → Refusal → Type 0
-IsRefusedAfter limits rest k e = (IsTruncated limits rest e × (k ≡ length rest)) ⊎ IsDeadAfter limits rest k e
+IsRefusedAfter limits rest k e = (EndsTruncated limits rest e × (k ≡ length rest)) ⊎ IsDeadAfter limits rest k e
 
 -- What stands after the envelopes: nothing, octets that are refused, or one envelope too many.
 pub data InputEnding : Type 0 where
@@ -73,15 +73,3 @@ pub record IsListing (limits : Limits) (input : List ℕ) (envelopes : List List
   pub rest : List ℕ
   pub divides : Divides limits input envelopes rest
   pub ends : EndsBy limits (length envelopes) rest ending
-
--- ---- laws
-
--- An input has one listing: its envelopes, and what stands after them. (The limits are numbers of 32 bits.)
-abbrev pub InputsHaveOneListing : Type 0
-InputsHaveOneListing = (limits : Limits) (input : List ℕ) (es fs : List Listed) (x y : InputEnding) → limits.octets < 2 ^ 32 → limits.fields < 2 ^ 32
-    → IsListing limits input es x → IsListing limits input fs y → (es ≡ fs) × (x ≡ y)
-
--- No longer list of envelopes that is listed at all begins the input.
-abbrev pub ListingsAreLongest : Type 0
-ListingsAreLongest = (limits : Limits) (input : List ℕ) (es others : List Listed) (x : InputEnding) (rest : List ℕ) → limits.octets < 2 ^ 32 → limits.fields < 2 ^ 32
-    → IsListing limits input es x → Divides limits input others rest → length others ≤ length es

@@ -5,19 +5,19 @@ use Rattle.iim_dataset.specs.Format.Splits.{Begun, InTag, InData, Reads}
 use Rattle.iim_dataset.specs.Format.Languages as languages
 use Rattle.iim_dataset.specs.declared.head.Head.{Head}
 use Rattle.iim_fields.specs.Format.Records.{AreSections}
-use Rattle.iim_fields.specs.Format.Faults.{present_record}
+use Rattle.iim_fields.specs.Format.Faults.{section_after}
 use Rattle.iim_fields.specs.Format.Values.{data_of}
 use Rattle.iim_fields.specs.declared.limits.Limits.{Limits}
 use Rattle.wire_story.specs.Format.Delivery as story
 use Rattle.wire_story.specs.Format.Tokens.{OctetOrEnd, End, Octet}
 use Rattle.wire_message.specs.Format.Layers.{MessageLanguage, MessageDiesAt, text_so_far, StoryLivesIn}
-use Rattle.wire_message.specs.Format.Reading as wire
+use Rattle.wire_message.specs.Format.Causes as wire
 use Rattle.wire_message.specs.declared.fault.MessageCause.{MessageCause}
 use Rattle.wire_message.specs.declared.fault.MessageCause.TheVariants.{Unfinished}
-use Rattle.iim_unpack.specs.Format.Admitted.{object_of, Value, Admits}
+use Rattle.iim_unpack.specs.Format.Admitted.{object_of}
 use Rattle.iim_unpack.specs.Format.Tokens.{CanContinueAt, IsRefusedHead, IsRefusedValue, MayContinue}
 use Rattle.iim_unpack.specs.Format.Refusals.{message_on, begun_record, begun_number, tag_cause}
-use Rattle.iim_unpack.specs.declared.fault.TokenFault.{TokenFault}
+use Rattle.iim_unpack.specs.declared.parts.fault.TokenFault.{TokenFault}
 use Rattle.iim_unpack.specs.declared.refusal.Cause.TheVariants.{Truncated}
 use Rattle.iim_dataset.specs.Format.Tags.{BeginsNoTag}
 use Rattle.iim_dataset.specs.Format.Completing.{CompletesData}
@@ -33,7 +33,7 @@ object_so_far ds (InData h taken) = object_of ds ++ (if h.rec == 8 then taken el
 
 -- the record of the last head
 abbrev pub section : List Dataset → Begun → ℕ
-section ds (InTag held) = present_record ds
+section ds (InTag held) = section_after ds
 section ds (InData h taken) = h.rec
 
 -- the tokens of the message: the octets of the object, and its end with the head of 9:10
@@ -132,12 +132,3 @@ pub record IsTruncatedAt (p : List ℕ) (a : ℕ) (e : Refusal) : Type 0 where
   pub begun : Begun
   pub reads : Reads count_octets p whole begun
   pub refusal : e ≡ truncated_in a (begun_record begun, begun_number begun)
-
--- Open octets begin with no admitted ones (the third condition of open octets).
-abbrev pub OpenOctetsBeginWithNoEnvelope : Type 0
-OpenOctetsBeginWithNoEnvelope = (limits : Limits) (octets front rest : List ℕ) (v : Value) → IsOpen limits octets → octets ≡ front ++ rest → Admits front v → ⊥
-
--- Octets from which every layer can continue, within the limits, are open, where no envelope stands at their front.
-abbrev pub LivingOctetsAreOpen : Type 0
-LivingOctetsAreOpen = (limits : Limits) (octets : List ℕ) (whole : List Dataset) (begun : Begun) → Reads count_octets octets whole begun → AllCanContinue limits whole begun
-    → ((front rest : List ℕ) (v : Value) → octets ≡ front ++ rest → Admits front v → ⊥) → IsOpen limits octets

@@ -8,7 +8,7 @@ use Rattle.iim_unpack.specs.Format.Refusals.{refusal_at}
 use Rattle.iim_unpack.specs.Format.Streams.{Answer, Finished, Refused, Truncated, IsFinished, IsTruncated}
 use Rattle.iim_unpack.specs.Format.Open.{Delivers, RefusesNext}
 use Rattle.iim_unpack.specs.Format.Value.{HasParts}
-use Rattle.iim_unpack.specs.declared.fault.TokenFault.{TokenFault}
+use Rattle.iim_unpack.specs.declared.parts.fault.TokenFault.{TokenFault}
 use Rattle.iim_unpack.specs.declared.refusal.Refusal.{Refusal}
 use Rattle.iim_unpack.specs.declared.unpacker.Unpacked.{Unpacked}
 
@@ -17,8 +17,8 @@ abbrev pub stream_of : List (Bor (List ℕ)) → List ℕ
 stream_of pieces = flat_map (λ piece. piece.now) pieces
 
 -- From a to b the sink was told exactly what is delivered of the octets.
-abbrev pub IsToldOf : {S : Type 0} → (S → List story.StoryEvent → S → Type 0) → S → List ℕ → S → Type 0
-IsToldOf {S} goes a octets b = (more : List story.StoryEvent) × goes a more b × Delivers [] octets more
+abbrev pub TellsText : {S : Type 0} → (S → List story.StoryEvent → S → Type 0) → S → List ℕ → S → Type 0
+TellsText {S} goes a octets b = (more : List story.StoryEvent) × goes a more b × Delivers [] octets more
 
 -- The stream begins with an envelope of `used` octets; its parts are these, and the sink was told its lines.
 pub record IsUnpacked {S : Type 0} (goes : S → List story.StoryEvent → S → Type 0) (limits : Limits) (stream : List ℕ) (a b : S) (got : Unpacked) (used : ℕ) : Type 0 where
@@ -33,12 +33,12 @@ pub record IsStopped {S : Type 0} (goes : S → List story.StoryEvent → S → 
   pub fault : TokenFault
   pub refusal : e ≡ refusal_at e.octet fault
   pub refuses : RefusesNext limits (take e.octet stream) (slice_index stream e.octet) fault
-  pub told : IsToldOf goes a (take e.octet stream) b
+  pub told : TellsText goes a (take e.octet stream) b
 
 -- All octets are open and there are no more; the sink was told what is delivered of them.
 pub record IsCutShort {S : Type 0} (goes : S → List story.StoryEvent → S → Type 0) (limits : Limits) (stream : List ℕ) (a b : S) (e : Refusal) : Type 0 where
   pub truncated : IsTruncated limits stream e
-  pub told : IsToldOf goes a stream b
+  pub told : TellsText goes a stream b
 
 -- why a stream has no envelope at its front
 abbrev pub IsTurnedDown : {S : Type 0} → (S → List story.StoryEvent → S → Type 0) → Limits → List ℕ → S → S → Refusal → Type 0

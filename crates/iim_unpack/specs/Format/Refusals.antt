@@ -1,20 +1,18 @@
 -- How the faults of the layers are told.
 use Rattle.std.specs.Prelude.{◌≡◌, ℕ, List, [], ◌∷◌, get_or, Option}
 use Rattle.iim_dataset.specs.Format.Splits.{Begun, InTag, InData}
-use Rattle.iim_dataset.specs.declared.head.HeadCause.{HeadCause}
-use Rattle.iim_dataset.specs.declared.head.HeadCause.TheVariants as heads
 use Rattle.iim_dataset.specs.declared.head.Head.{Head}
 use Rattle.iim_fields.specs.declared.fault.FieldFault.{FieldFault}
 use Rattle.iim_fields.specs.declared.fault.FieldCause.{FieldCause}
 use Rattle.iim_fields.specs.declared.fault.FieldCause.TheVariants as fields
 use Rattle.iim_object.specs.Format.Objects.{ObjectToken}
-use Rattle.iim_object.specs.Format.Reading.{Refuses}
-use Rattle.iim_object.specs.declared.state.State.{State}
-use Rattle.iim_object.specs.declared.fault.SizeCause.{SizeCause}
-use Rattle.iim_object.specs.declared.fault.SizeCause.TheVariants as sizes
+use Rattle.iim_object.specs.States.Reading.{Refuses}
+use Rattle.iim_object.specs.declared.reading.state.State.{State}
+use Rattle.iim_object.specs.declared.reading.fault.SizeCause.{SizeCause}
+use Rattle.iim_object.specs.declared.reading.fault.SizeCause.TheVariants as sizes
 use Rattle.wire_message.specs.declared.fault.MessageCause.{MessageCause}
 use Rattle.wire_message.specs.declared.fault.MessageCause.TheVariants as messages
-use Rattle.iim_unpack.specs.declared.fault.TokenFault.{TokenFault}
+use Rattle.iim_unpack.specs.declared.parts.fault.TokenFault.{TokenFault}
 use Rattle.iim_unpack.specs.declared.refusal.Refusal.{Refusal}
 use Rattle.iim_unpack.specs.declared.refusal.Layer.{Layer}
 use Rattle.iim_unpack.specs.declared.refusal.Layer.TheVariants as layers
@@ -102,11 +100,6 @@ begun_number (InData h taken) = h.set
 abbrev pub tag_cause : List ℕ → Cause
 tag_cause [] = causes.Marker
 tag_cause (x ∷ xs) = causes.CountForm
-
--- a fault of a tag
-abbrev pub cause_of_tag : HeadCause → Cause
-cause_of_tag heads.Marker = causes.Marker
-cause_of_tag heads.CountForm = causes.CountForm
 
 -- ---- the object
 

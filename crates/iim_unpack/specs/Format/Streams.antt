@@ -1,11 +1,11 @@
 -- What a whole stream is answered: one answer, whatever the cut.
-use Rattle.std.specs.Prelude.{◌≡◌, ◌≢◌, ℕ, ◌-◌, ◌^◌, ◌<◌, ◌≤◌, List, ◌∷◌, ◌++◌, length, take, slice_index}
+use Rattle.std.specs.Prelude.{◌≡◌, ◌≢◌, ℕ, ◌<◌, ◌≤◌, List, length, take, slice_index}
 use Rattle.iim_fields.specs.declared.limits.Limits.{Limits}
 use Rattle.iim_unpack.specs.Format.Admitted.{Value, Admits}
 use Rattle.iim_unpack.specs.Format.Framed.{AreWithin}
 use Rattle.iim_unpack.specs.Format.Refusals.{refusal_at}
 use Rattle.iim_unpack.specs.Format.Open.{IsOpen, RefusesNext, IsTruncatedAt}
-use Rattle.iim_unpack.specs.declared.fault.TokenFault.{TokenFault}
+use Rattle.iim_unpack.specs.declared.parts.fault.TokenFault.{TokenFault}
 use Rattle.iim_unpack.specs.declared.refusal.Refusal.{Refusal}
 use Rattle.iim_unpack.specs.declared.refusal.Cause.TheVariants.{Sink}
 
@@ -47,26 +47,3 @@ abbrev pub Answers : Limits → List ℕ → Answer → Type 0
 Answers limits stream (Finished used value) = IsFinished limits stream used value
 Answers limits stream (Refused e) = IsRefused limits stream e
 Answers limits stream (Truncated e) = IsTruncated limits stream e
-
--- ---- laws
-
--- Octets of which the next one is refused are open: every layer can continue from them, and they are no envelope.
-abbrev pub RefusedOctetsWereOpen : Type 0
-RefusedOctetsWereOpen = (limits : Limits) (octets : List ℕ) (next : ℕ) (fault : TokenFault) → RefusesNext limits octets next fault → IsOpen limits octets
-
--- With a refused octet, and whatever follows it, octets are not open and no envelope within the limits.
-abbrev pub NothingContinuesFromRefusedOctets : Type 0
-NothingContinuesFromRefusedOctets = (limits : Limits) (octets more : List ℕ) (next : ℕ) (fault : TokenFault) → Kills limits octets next fault
-    → (IsOpen limits (octets ++ next ∷ more) → ⊥) × ((value : Value) → IsEnvelopeWithin limits (octets ++ next ∷ more) value → ⊥)
-
--- The refusal of an octet after others is determined: its layer, its dataset and its cause.
-abbrev pub RefusalsAreDetermined : Type 0
-RefusalsAreDetermined = (limits : Limits) (octets : List ℕ) (next : ℕ) (fault other : TokenFault) → RefusesNext limits octets next fault → RefusesNext limits octets next other → fault ≡ other
-
--- A stream has one answer at most.
-abbrev pub StreamsHaveOneAnswer : Type 0
-StreamsHaveOneAnswer = (limits : Limits) (stream : List ℕ) (answer other : Answer) → Answers limits stream answer → Answers limits stream other → answer ≡ other
-
--- Envelopes within limits of 32 bits are shorter than a count of 64 bits tells.
-abbrev pub EnvelopesAreBounded : Type 0
-EnvelopesAreBounded = (limits : Limits) (octets : List ℕ) (value : Value) → limits.octets < 2 ^ 32 → limits.fields < 2 ^ 32 → IsEnvelopeWithin limits octets value → length octets < 2 ^ 64 - 1

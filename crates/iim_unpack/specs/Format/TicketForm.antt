@@ -3,9 +3,9 @@ use Rattle.std.specs.Prelude.{◌≡◌, ℕ, ◌-◌, ◌^◌, ◌<◌, ◌≤�
 use Rattle.std.specs.List.{flat_map}
 use Rattle.iim_dataset.specs.Format.Datasets.{Dataset}
 use Rattle.iim_unpack.specs.Format.Tickets.{Phase, TagBegun, DataBegun, AllEnded, first_version, second_version, width, layout, text_octets}
-use Rattle.iim_unpack.specs.Format.Begins.{IsWide, AreFields, AreNumbersIn, AreTexts}
-use Rattle.iim_unpack.specs.declared.ticket_fault.TicketFault.{TicketFault}
-use Rattle.iim_unpack.specs.declared.ticket_fault.TicketFault.TheVariants.{Form, Version}
+use Rattle.iim_unpack.specs.States.Begins.{IsWide, AreFields, AreNumbersIn, AreTexts}
+use Rattle.iim_unpack.specs.declared.ticket.fault.TicketFault.{TicketFault}
+use Rattle.iim_unpack.specs.declared.ticket.fault.TicketFault.TheVariants.{Form, Version}
 
 -- ---- parts
 
@@ -64,10 +64,6 @@ pub record HasOtherVersion (ticket : List ℕ) : Type 0 where
   pub rest : List ℕ
   pub named : ticket ≡ codes "IIMT" ++ version ∷ rest
   pub other : IsVersion version → ⊥
-
--- A ticket has one split.
-abbrev pub TicketsHaveOneSplit : Type 0
-TicketsHaveOneSplit = (ticket : List ℕ) (s t : Split) → SplitsTicket ticket s → SplitsTicket ticket t → s ≡ t
 
 -- The version is told exactly where a ticket's name is followed by another one. The form is told exactly of all else without parts.
 abbrev pub IsFaultOf : List ℕ → TicketFault → Type 0

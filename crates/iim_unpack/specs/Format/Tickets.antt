@@ -4,10 +4,10 @@ use Rattle.std.specs.List.{flat_map}
 use Rattle.std.specs.Int.{w32, w64, to_be_bytes}
 use Rattle.iim_dataset.specs.Format.Datasets.{Dataset, of_record, count_octets}
 use Rattle.iim_dataset.specs.Format.Splits.{Begun, InTag, InData, Reads}
-use Rattle.iim_fields.specs.Format.Faults.{kept, present_record}
+use Rattle.iim_fields.specs.Format.Faults.{kept, section_after}
 use Rattle.iim_object.specs.Format.Records.{numbers_of}
-use Rattle.iim_object.specs.Format.Saved.{stated_numbers}
-use Rattle.wire_message.specs.Format.Saved.{LeadToSaved}
+use Rattle.iim_object.specs.States.Saved.{stated_numbers}
+use Rattle.wire_message.specs.States.Saved.{LeadsToSaved}
 use Rattle.wire_message.specs.declared.saved.MessagePart.{MessagePart}
 use Rattle.wire_message.specs.declared.saved.MessagePart.TheVariants as part
 use Rattle.wire_message.specs.declared.saved.MessagePlace.{MessagePlace}
@@ -34,7 +34,7 @@ pub record Place : Type 0 where
   pub message : MessagePlace
 
 abbrev pub phase_of : List Dataset → Begun → Phase
-phase_of ds (InTag held) = if present_record ds == 9 then AllEnded else TagBegun held
+phase_of ds (InTag held) = if section_after ds == 9 then AllEnded else TagBegun held
 phase_of ds (InData h taken) = DataBegun h.set h.count (h.count - length taken) (if h.rec == 8 then [] else taken)
 
 -- the heads of 8:10, that of a begun subfile among them
@@ -61,7 +61,7 @@ pub record IsPlaceOf (octets : List ℕ) (place : Place) : Type 0 where
   pub reads : Reads count_octets octets whole begun
   pub text : List ℕ
   pub message : MessagePlace
-  pub leads : LeadToSaved (object_so_far whole begun) text message
+  pub leads : LeadsToSaved (object_so_far whole begun) text message
   pub is_place : place ≡ place_of whole begun message
 
 -- ---- the octets of a place
@@ -158,7 +158,3 @@ pub record IsTicketOf (octets ticket : List ℕ) : Type 0 where
   pub place : Place
   pub is_place : IsPlaceOf octets place
   pub spelled : ticket ≡ ticket_of place
-
--- Octets have one ticket.
-abbrev pub OctetsHaveOneTicket : Type 0
-OctetsHaveOneTicket = (octets ticket other : List ℕ) → IsTicketOf octets ticket → IsTicketOf octets other → ticket ≡ other

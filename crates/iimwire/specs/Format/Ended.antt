@@ -1,6 +1,6 @@
 -- The status that the program ends with. What its streams hold is not known.
 use Rattle.std.specs.Prelude.{◌≡◌, ℕ, ◌⊎◌}
-use Rattle.iim_commands.specs.Format.Devices.{Devices}
+use Rattle.iim_commands.specs.States.Devices.{Devices}
 use Rattle.iim_commands.specs.Format.Outcomes.{Ran}
 use Rattle.iim_commands.specs.declared.request.Job.{Job}
 use Rattle.iim_commands.specs.Format.Statuses.{status_failed}

@@ -1,11 +1,11 @@
 -- Why a run can't begin, and what is left of it then.
 use Rattle.std.specs.Prelude.{◌≡◌, ℕ, ◌⊎◌, ⊤, List, ◌++◌, codes}
-use Rattle.iim_dataset.specs.Format.Devices.{Device}
+use Rattle.iim_dataset.specs.States.Devices.{Device}
 use Rattle.iim_commands.specs.declared.request.UsageFault.{UsageFault}
 use Rattle.iim_commands.specs.declared.request.UsageFault.TheVariants as usage
 use Rattle.iimwire.specs.declared.start.RunFault.{RunFault}
 use Rattle.iimwire.specs.declared.start.RunFault.TheVariants.{Usage, NoText, CannotOpen, OutOfMemory}
-use Rattle.iim_commands.specs.Format.Reports.{IsTold}
+use Rattle.iim_commands.specs.Format.WrittenListings.{IsSaid}
 use Rattle.iim_commands.specs.Format.Shown.{shown_name}
 use Rattle.iim_commands.specs.Format.Statuses.{status_usage, status_failed}
 
@@ -42,5 +42,5 @@ status_of_start OutOfMemory = status_failed
 
 -- It was told why the run can't begin, or that there is no memory for that.
 abbrev pub IsHindered : RunFault → Device → Device → ℕ → Type 0
-IsHindered fault old new status = ((text : List ℕ) × TellsRunFault fault text × IsTold old new text (status_of_start fault) status)
-    ⊎ IsTold old new no_memory_line status_failed status
+IsHindered fault old new status = ((text : List ℕ) × TellsRunFault fault text × IsSaid old new text (status_of_start fault) status)
+    ⊎ IsSaid old new no_memory_line status_failed status

@@ -1,7 +1,7 @@
 //! Sinks of datasets that stop, and octets after the dataset that a sink called the last.
 
 ghost use Rattle.std.specs.Prelude.{◌≡◌, ◌≢◌, ⊤};
-ghost use Rattle.iim_dataset.specs.Format.Reading.{TakesCalls};
+ghost use Rattle.iim_dataset.specs.States.Reading.{TakesCalls};
 
 use arrayvec::ArrayVec;
 use iim_dataset::{DatasetSink, Fault, FaultCause, Head, HeadReader, Step, Stop};

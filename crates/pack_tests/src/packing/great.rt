@@ -1,7 +1,7 @@
 //! A packer of an object of more than 4,294,967,295 octets, into a writer that counts octets and keeps none.
 
 ghost use Rattle.std.specs.Prelude.{None};
-ghost use Rattle.iim_dataset.specs.Format.Devices.{unbroken};
+ghost use Rattle.iim_dataset.specs.States.Devices.{unbroken};
 
 use super::{STORY, envelope, plan, story_head};
 use iim_dataset::{IoFault, Target};

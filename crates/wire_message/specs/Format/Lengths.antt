@@ -3,7 +3,7 @@ use Rattle.std.specs.Prelude.{◌≡◌, ℕ, ◌+◌, ◌≤◌, List, length, 
 use Rattle.wire_message.specs.Format.Fields.{max_filler}
 use Rattle.wire_message.specs.Format.Messages.{Header, fixed_header}
 use Rattle.wire_message.specs.Format.Canonical.{packed_info}
-use Rattle.wire_message.specs.Format.Reading.{StandsAt}
+use Rattle.wire_message.specs.States.Reading.{StandsAt}
 use Rattle.wire_message.specs.declared.place.Place.{Place}
 use Rattle.wire_message.specs.declared.place.Place.TheVariants.{Filler, Source, Number, Priority, PriorityRead, Category, Words, Info, Gap, Text, Trailer, AfterEnd}
 

@@ -2,8 +2,8 @@
 use Rattle.std.specs.Prelude.{◌≡◌, ℕ, List, [], ◌∷◌, flat_map, IsTrue}
 use Rattle.std.specs.List.{AllByRecursion}
 use Rattle.wire_story.specs.Format.Texts.{is_line_octet, line_end, packed_text, MakeText}
-use Rattle.wire_story.specs.Format.Delivery.{StoryEvent, LineOctet, LineEnd, events_of_lines}
-use Rattle.wire_story.specs.Format.Collecting.{collect}
+use Rattle.wire_story.specs.Format.Delivery.{StoryEvent, LineOctet, LineEnd}
+use Rattle.wire_story.specs.States.Collecting.{collect}
 
 -- an octet of a line as itself, the end of a line as CR LF
 abbrev pub packed_event : StoryEvent → List ℕ
@@ -26,14 +26,7 @@ AreEvents events = AllByRecursion IsEvent events
 abbrev pub lines_of : List StoryEvent → List (List ℕ)
 lines_of events = collect ([] ∷ []) events
 
--- Lines are packed as their events.
-abbrev pub LinesArePackedAsTheirEvents : Type 0
-LinesArePackedAsTheirEvents = (lines : List (List ℕ)) → packed_text lines ≡ packed_events (events_of_lines lines)
-
 -- Events are packed as the lines that they are, and these make a text.
 pub record IsPackedAsLines (events : List StoryEvent) : Type 0 where
   pub text : packed_text (lines_of events) ≡ packed_events events
   pub make : MakeText (lines_of events)
-
-abbrev pub EventsArePackedAsLines : Type 0
-EventsArePackedAsLines = (events : List StoryEvent) → AreEvents events → IsPackedAsLines events

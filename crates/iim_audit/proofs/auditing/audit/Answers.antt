@@ -1,6 +1,6 @@
 use Rattle.std.proofs.Common.{◌≡◌, ◌∙◌, ℕ, None, Some, Option, List, [], length, ap, subst, arith, refl, Result, Ok, ◌+◌, IsErrAnd, sym, IsSome}
-use Rattle.iim_dataset.specs.Format.Devices.{Device}
-use Rattle.iim_unpack.specs.Format.Intakes.{line}
+use Rattle.iim_dataset.specs.States.Devices.{Device}
+use Rattle.iim_unpack.specs.States.Intakes.{in_line}
 use Rattle.iim_unpack.specs.declared.intake.Intake.{Intake}
 use Rattle.iim_audit.specs.Format.Auditing.{FailsLeaving, IsToldAgain}
 use Rattle.iim_audit.specs.declared.fault.AuditCause.{AuditCause}
@@ -35,7 +35,7 @@ left_as old now new same left = subst (λ (i : Intake _). new ≡ record i { oct
 
 pub envelopes-init : goal.envelopes-init
 envelopes-init g c =
-    let here : Device = line g.R.Source.state c.args.intake.now in
+    let here : Device = in_line g.R.Source.state c.args.intake.now in
     let none : length c.new-ledger.result.rows.items ≡ 0 = ap length c.new-ledger.ensures.empty in
     record {
       auditing = record {
@@ -61,9 +61,9 @@ returns-in-Ok-None-clause-audited g c = λ alive.
     let st = g.R.Source.state in
     let read = c.envelopes.invariant.auditing.reads alive in
     let now = c.args.now.nanosecond in
-    let old : Device = line st c.args.intake.now in
-    let mid : Device = line st c.envelopes.intake in
-    let new : Device = line st c.take_envelope.new.intake in
+    let old : Device = in_line st c.args.intake.now in
+    let mid : Device = in_line st c.envelopes.intake in
+    let new : Device = in_line st c.take_envelope.new.intake in
     let used = c.take_envelope.new.intake.octets in
     let u = c.envelopes.unpacker in
     let v = c.take_envelope.new.unpacker in
@@ -75,24 +75,24 @@ pub returns-in-Err-clause-fails : goal.returns-in-Err-clause-fails
 returns-in-Err-clause-fails g c = λ alive.
     let st = g.R.Source.state in
     let read = c.envelopes.invariant.auditing.reads alive in
-    of_fault (λ n cause. FailsLeaving c.args.limits (line g.R.Source.state c.args.intake.now) (line g.R.Source.state c.take_envelope.new.intake) c.args.intake.now.octets c.take_envelope.new.intake.failed c.take_envelope.new.intake.octets n cause) c.fault_at-in-Err.result c.next_number-number.result c.in-Err.cause c.fault_at-in-Err.ensures
-    (fails c.args.limits c.args.now.nanosecond (line st c.args.intake.now) (line st c.envelopes.intake) (line st c.take_envelope.new.intake)
+    of_fault (λ n cause. FailsLeaving c.args.limits (in_line g.R.Source.state c.args.intake.now) (in_line g.R.Source.state c.take_envelope.new.intake) c.args.intake.now.octets c.take_envelope.new.intake.failed c.take_envelope.new.intake.octets n cause) c.fault_at-in-Err.result c.next_number-number.result c.in-Err.cause c.fault_at-in-Err.ensures
+    (fails c.args.limits c.args.now.nanosecond (in_line st c.args.intake.now) (in_line st c.envelopes.intake) (in_line st c.take_envelope.new.intake)
     c.envelopes.ledger c.args.intake.now.octets c.envelopes.intake.failed c.envelopes.intake.octets c.next_number-number.result
     c.take_envelope.new.intake.failed c.take_envelope.new.intake.octets c.in-Err.cause c.gifts_join.ensures
-    c.envelopes.invariant.auditing.few c.next_number-number.ensures read (none_within c.args.limits (line st c.envelopes.intake) (line st c.take_envelope.new.intake) c.envelopes.unpacker c.envelopes.intake.octets c.take_envelope.new.intake.failed c.take_envelope.new.intake.octets c.in-Err.cause c.envelopes.invariant.same (c.in-Err.ensures.none read.lives)))
+    c.envelopes.invariant.auditing.few c.next_number-number.ensures read (none_within c.args.limits (in_line st c.envelopes.intake) (in_line st c.take_envelope.new.intake) c.envelopes.unpacker c.envelopes.intake.octets c.take_envelope.new.intake.failed c.take_envelope.new.intake.octets c.in-Err.cause c.envelopes.invariant.same (c.in-Err.ensures.none read.lives)))
 
 pub returns-then-number-gt-MAX_ENVELOPES-clause-fails :
     goal.returns-then-number-gt-MAX_ENVELOPES-clause-fails
 returns-then-number-gt-MAX_ENVELOPES-clause-fails g c = λ alive.
     let st = g.R.Source.state in
     let read = c.envelopes.invariant.auditing.reads alive in
-    let mid : Device = line st c.envelopes.intake in
-    let new : Device = line st c.take_envelope.new.intake in
+    let mid : Device = in_line st c.envelopes.intake in
+    let new : Device = in_line st c.take_envelope.new.intake in
     let used = c.take_envelope.new.intake.octets in
     let u = c.envelopes.unpacker in
     let v = c.take_envelope.new.unpacker in
-    of_fault (λ n cause. FailsLeaving c.args.limits (line g.R.Source.state c.args.intake.now) (line g.R.Source.state c.take_envelope.new.intake) c.args.intake.now.octets c.take_envelope.new.intake.failed c.take_envelope.new.intake.octets n cause) c.fault_at-then-number-gt-MAX_ENVELOPES.result c.next_number-number.result causes.TooManyEnvelopes c.fault_at-then-number-gt-MAX_ENVELOPES.ensures
-    (one_too_many c.args.limits c.args.now.nanosecond (line st c.args.intake.now) mid new
+    of_fault (λ n cause. FailsLeaving c.args.limits (in_line g.R.Source.state c.args.intake.now) (in_line g.R.Source.state c.take_envelope.new.intake) c.args.intake.now.octets c.take_envelope.new.intake.failed c.take_envelope.new.intake.octets n cause) c.fault_at-then-number-gt-MAX_ENVELOPES.result c.next_number-number.result causes.TooManyEnvelopes c.fault_at-then-number-gt-MAX_ENVELOPES.ensures
+    (one_too_many c.args.limits c.args.now.nanosecond (in_line st c.args.intake.now) mid new
     c.envelopes.ledger c.args.intake.now.octets c.envelopes.intake.failed c.envelopes.intake.octets c.next_number-number.result
     c.take_envelope.new.intake.failed used v c.in-Ok-Some.words c.gifts_join.ensures
     c.envelopes.invariant.auditing.few c.next_number-number.ensures (omega arith) c.in-Ok-Some.ensures.lives read
@@ -102,13 +102,13 @@ pub returns-in_default-enter-clause-fails : goal.returns-in_default-enter-clause
 returns-in_default-enter-clause-fails g c = λ alive.
     let st = g.R.Source.state in
     let read = c.envelopes.invariant.auditing.reads alive in
-    let mid : Device = line st c.envelopes.intake in
-    let new : Device = line st c.take_envelope.new.intake in
+    let mid : Device = in_line st c.envelopes.intake in
+    let new : Device = in_line st c.take_envelope.new.intake in
     let used = c.take_envelope.new.intake.octets in
     let u = c.envelopes.unpacker in
     let v = c.take_envelope.new.unpacker in
-    of_fault (λ n cause. FailsLeaving c.args.limits (line g.R.Source.state c.args.intake.now) (line g.R.Source.state c.take_envelope.new.intake) c.args.intake.now.octets c.take_envelope.new.intake.failed c.take_envelope.new.intake.octets n cause) c.fault_at-in_default-enter.result c.next_number-number.result causes.OutOfMemory c.fault_at-in_default-enter.ensures
-    (short_after c.args.limits c.args.now.nanosecond (line st c.args.intake.now) mid new
+    of_fault (λ n cause. FailsLeaving c.args.limits (in_line g.R.Source.state c.args.intake.now) (in_line g.R.Source.state c.take_envelope.new.intake) c.args.intake.now.octets c.take_envelope.new.intake.failed c.take_envelope.new.intake.octets n cause) c.fault_at-in_default-enter.result c.next_number-number.result causes.OutOfMemory c.fault_at-in_default-enter.ensures
+    (short_after c.args.limits c.args.now.nanosecond (in_line st c.args.intake.now) mid new
     c.envelopes.ledger c.args.intake.now.octets c.envelopes.intake.failed c.envelopes.intake.octets c.next_number-number.result
     c.take_envelope.new.intake.failed used v c.in-Ok-Some.words c.gifts_join.ensures
     (omega arith) c.next_number-number.ensures c.in-Ok-Some.ensures.lives read
@@ -118,8 +118,8 @@ pub envelopes-preserved : goal.envelopes-preserved
 envelopes-preserved g c =
     let st = g.R.Source.state in
     let before = c.envelopes.invariant.auditing in
-    let mid : Device = line st c.envelopes.intake in
-    let new : Device = line st c.take_envelope.new.intake in
+    let mid : Device = in_line st c.envelopes.intake in
+    let new : Device = in_line st c.take_envelope.new.intake in
     let used = c.take_envelope.new.intake.octets in
     let u = c.envelopes.unpacker in
     let v = c.take_envelope.new.unpacker in
@@ -133,7 +133,7 @@ envelopes-preserved g c =
         few = omega arith;
         reads = λ alive.
             let read = before.reads alive in
-            read_one c.args.limits c.args.now.nanosecond (line st c.args.intake.now) mid new c.envelopes.ledger c.enter.new.self
+            read_one c.args.limits c.args.now.nanosecond (in_line st c.args.intake.now) mid new c.envelopes.ledger c.enter.new.self
             c.args.intake.now.octets c.envelopes.intake.failed c.envelopes.intake.octets c.take_envelope.new.intake.failed used v c.in-Ok-Some.words (record { unpacked = c.in-Some.unpacked; words = c.in-Ok-Some.words }) c.gifts_join.ensures
             c.in-Ok-Some.ensures.lives c.in-Ok-enter.ensures.keeps read one (taken_of c.args.limits mid new v used c.in-Ok-Some.words c.in-Some.unpacked one c.in-Some.ensures.value);
         again = λ octet e. absurd (spent octet e);
@@ -191,14 +191,14 @@ returns-in_default-enter-clause-as_it_was g c = λ octet e.
     (c.take_envelope.ensures.again octet (still c.args.intake.now c.envelopes.intake octet (c.envelopes.invariant.as_it_was octet e) e)))
 
 pub returns-in_default-clause-fails : goal.returns-in_default-clause-fails
-returns-in_default-clause-fails g c = λ alive. of_fault (λ n cause. FailsLeaving c.args.limits (line g.R.Source.state c.args.intake.now) (line g.R.Source.state c.args.intake.now) c.args.intake.now.octets c.args.intake.now.failed c.args.intake.now.octets n cause) c.fault_at.result 1 causes.OutOfMemory c.fault_at.ensures
-    (short_first c.args.limits (line g.R.Source.state c.args.intake.now) c.args.intake.now.octets c.args.intake.now.failed c.gifts_join.ensures alive)
+returns-in_default-clause-fails g c = λ alive. of_fault (λ n cause. FailsLeaving c.args.limits (in_line g.R.Source.state c.args.intake.now) (in_line g.R.Source.state c.args.intake.now) c.args.intake.now.octets c.args.intake.now.failed c.args.intake.now.octets n cause) c.fault_at.result 1 causes.OutOfMemory c.fault_at.ensures
+    (short_first c.args.limits (in_line g.R.Source.state c.args.intake.now) c.args.intake.now.octets c.args.intake.now.failed c.gifts_join.ensures alive)
 
 pub unreachable-requires : goal.unreachable-requires
 unreachable-requires g c =
     let st = g.R.Source.state in
-    let mid : Device = line st c.envelopes.intake in
-    let new : Device = line st c.take_envelope.new.intake in
+    let mid : Device = in_line st c.envelopes.intake in
+    let new : Device = in_line st c.take_envelope.new.intake in
     let one = took_within c.args.limits mid new c.envelopes.unpacker c.take_envelope.new.unpacker c.take_envelope.new.intake.octets c.in-Ok-Some.field-0 (Some c.in-Ok-Some.words) c.in-Ok-Some.field-0-is c.envelopes.invariant.same c.in-Ok-Some.ensures.took in
     none_is_none c.unpacked.result c.in_default-unpacked.is (c.unpacked.ensures.done.1 (one.done.taking, one.done.ended))
 

@@ -1,15 +1,15 @@
 use Rattle.std.proofs.Common.{◌≡◌, ◌+◌, ◌-◌, ◌<◌, ℕ, length, Some}
 use Rattle.std.specs.List.{All}
-use Rattle.iim_unpack.specs.Format.Intakes.{line}
+use Rattle.iim_unpack.specs.States.Intakes.{in_line}
 use Rattle.iim_unpack.specs.Format.Listing.{max_envelopes}
 use Rattle.iim_audit.specs.Lines.{HaveShortIds}
-use Rattle.iim_unpack.specs.Format.Unpacking.{limits_in}
+use Rattle.iim_unpack.specs.States.Unpacking.{limits_in}
 use Rattle.iim_audit.proofs.Reading.{IsAuditing}
 use Rattle.iim_audit.proofs.auditing.audit.Given as goal
 
 abbrev pub invariant-envelopes : goal.invariant-envelopes
 invariant-envelopes g l = record {
-  auditing : IsAuditing l.fn.limits l.now.nanosecond l.fn.intake.failed (line g.R.Source.state l.fn.intake) (line g.R.Source.state l.intake) l.ledger l.fn.intake.octets l.intake.failed l.intake.octets;
+  auditing : IsAuditing l.fn.limits l.now.nanosecond l.fn.intake.failed (in_line g.R.Source.state l.fn.intake) (in_line g.R.Source.state l.intake) l.ledger l.fn.intake.octets l.intake.failed l.intake.octets;
   same : limits_in l.unpacker ≡ l.fn.limits;
   below : All (λ i. i < length l.ledger.rows.items) l.ledger.order.items;
   short : HaveShortIds l.ledger.rows.items;

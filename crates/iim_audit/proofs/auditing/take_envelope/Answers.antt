@@ -1,7 +1,7 @@
 use Rattle.std.proofs.Common.{sym, subst, refl}
 use Rattle.wire_story.specs.Format.Words.{WordsSoFar, CountsWords}
-use Rattle.iim_unpack.specs.Format.Intakes.{line}
-use Rattle.iim_unpack.specs.Format.Unpacking.{limits_in}
+use Rattle.iim_unpack.specs.States.Intakes.{in_line}
+use Rattle.iim_unpack.specs.States.Unpacking.{limits_in}
 use Rattle.iim_audit.specs.Taking.{TookNone}
 use Rattle.iim_audit.specs.declared.fault.AuditCause.{AuditCause}
 use Rattle.iim_audit.proofs.Taking.{took_end, took_one, none}
@@ -10,8 +10,8 @@ use Rattle.iim_audit.proofs.auditing.take_envelope.Goals as goal
 
 pub returns-in-Ok-true-clause-took : goal.returns-in-Ok-true-clause-took
 returns-in-Ok-true-clause-took g c =
-    let old = line g.R.Source.state c.args.intake.now in
-    let new = line g.R.Source.state c.feed_envelope.new.self in
+    let old = in_line g.R.Source.state c.args.intake.now in
+    let new = in_line g.R.Source.state c.feed_envelope.new.self in
     let laws : TextLaws = record {
       way = c.octets_are_handed_on_one_way.ensures;
       tell = c.events_tell_the_datasets.ensures;
@@ -23,15 +23,15 @@ returns-in-Ok-true-clause-took g c =
 
 pub returns-in-Ok-false-clause-took : goal.returns-in-Ok-false-clause-took
 returns-in-Ok-false-clause-took g c =
-    let old = line g.R.Source.state c.args.intake.now in
-    let new = line g.R.Source.state c.feed_envelope.new.self in
+    let old = in_line g.R.Source.state c.args.intake.now in
+    let new = in_line g.R.Source.state c.feed_envelope.new.self in
     took_end (limits_in c.args.unpacker.now) old new c.again.new.self c.feed_envelope.new.unpacker c.new-count.result c.feed_envelope.new.sink c.feed_envelope.new.self.octets
     c.in-Ok-false.field-0 c.in-Ok-false.field-0-test c.in-Ok-false.ensures.fed
 
 pub returns-in-Err-clause-none : goal.returns-in-Err-clause-none
 returns-in-Err-clause-none g c = λ alive.
-    let old = line g.R.Source.state c.args.intake.now in
-    let new = line g.R.Source.state c.feed_envelope.new.self in
+    let old = in_line g.R.Source.state c.args.intake.now in
+    let new = in_line g.R.Source.state c.feed_envelope.new.self in
     let faults = c.in-Err.ensures.faults alive in
     let left = c.feed_envelope.new.self in
     let P : AuditCause → Type 0 = λ cause. TookNone (limits_in c.args.unpacker.now) old new c.args.intake.now.octets left.failed left.octets cause in

@@ -1,9 +1,9 @@
 use Rattle.std.proofs.Common.{rules, refl, inl, inr}
 use Rattle.iim_audit.specs.Format.Auditing.{FailsAt, IsAudited}
 use Rattle.iim_audit.specs.Format.Texts.{printed_report}
-use Rattle.iim_unpack.specs.Format.Intakes.{line}
+use Rattle.iim_unpack.specs.States.Intakes.{in_line}
 use Rattle.iim_commands.specs.Format.Audits.{IsUnaudited}
-use Rattle.iim_commands.specs.Format.Holding.{device_of}
+use Rattle.iim_commands.specs.States.Holding.{device_of}
 use Rattle.iim_commands.specs.Format.Listings.{limits}
 use Rattle.iim_commands.proofs.Audits.{unsaid, unsaid_in, untold}
 use Rattle.iim_commands.proofs.Holding.{all_out}
@@ -14,8 +14,8 @@ pub returns-in_err-add_report-in-Ok-clause-err : goal.returns-in_err-add_report-
 returns-in_err-add_report-in-Ok-clause-err g c =
     let state = g.W.Target.state in
     let now = c.args.now.nanosecond in
-    let source = line g.R.Source.state c.args.intake.now in
-    let rest = line g.R.Source.state c.audit.new.intake in
+    let source = in_line g.R.Source.state c.args.intake.now in
+    let rest = in_line g.R.Source.state c.audit.new.intake in
     let old = c.args.output.now in
     let new = c.add_report.new.output in
     let fault = c.in_err-add_report-in-Ok.field-0.0 in
@@ -28,8 +28,8 @@ pub returns-in_ok-add_report-in-Ok-clause-ok : goal.returns-in_ok-add_report-in-
 returns-in_ok-add_report-in-Ok-clause-ok g c =
     let state = g.W.Target.state in
     let now = c.args.now.nanosecond in
-    let source = line g.R.Source.state c.args.intake.now in
-    let rest = line g.R.Source.state c.audit.new.intake in
+    let source = in_line g.R.Source.state c.args.intake.now in
+    let rest = in_line g.R.Source.state c.audit.new.intake in
     let words = printed_report c.in-Ok.report in
     let whole : IsAudited limits now source rest c.in-Ok.report = c.in-Ok.ensures.audited c.requires.alive in (
       words,
@@ -40,8 +40,8 @@ returns-in_ok-add_report-in-Ok-clause-ok g c =
 pub returns-in_err-line-in-Err-clause-err : goal.returns-in_err-line-in-Err-clause-err
 returns-in_err-line-in-Err-clause-err g c =
     let now = c.args.now.nanosecond in
-    let source = line g.R.Source.state c.args.intake.now in
-    let rest = line g.R.Source.state c.audit.new.intake in
+    let source = in_line g.R.Source.state c.args.intake.now in
+    let rest = in_line g.R.Source.state c.audit.new.intake in
     let old = device_of g.W.Target.state c.args.output.now in
     let fault = c.in_err-line-in-Err.field-0.0 in
     let why : FailsAt limits source rest c.in-Err.fault.envelope c.in-Err.fault.cause = (c.in-Err.ensures.fails c.requires.alive).0 in
@@ -52,8 +52,8 @@ pub returns-in_err-add_last-in-Err-clause-err : goal.returns-in_err-add_last-in-
 returns-in_err-add_last-in-Err-clause-err g c =
     let state = g.W.Target.state in
     let now = c.args.now.nanosecond in
-    let source = line g.R.Source.state c.args.intake.now in
-    let rest = line g.R.Source.state c.audit.new.intake in
+    let source = in_line g.R.Source.state c.args.intake.now in
+    let rest = in_line g.R.Source.state c.audit.new.intake in
     let old = c.args.output.now in
     let new = c.add_last.new.output in
     let words = c.as_slice.result.now in
@@ -66,8 +66,8 @@ returns-in_err-add_last-in-Err-clause-err g c =
 pub returns-in_ok-add_last-in-Err-clause-ok : goal.returns-in_ok-add_last-in-Err-clause-ok
 returns-in_ok-add_last-in-Err-clause-ok g c =
     let state = g.W.Target.state in
-    let source = line g.R.Source.state c.args.intake.now in
-    let rest = line g.R.Source.state c.audit.new.intake in
+    let source = in_line g.R.Source.state c.args.intake.now in
+    let rest = in_line g.R.Source.state c.audit.new.intake in
     let words = c.as_slice.result.now in
     let why : FailsAt limits source rest c.in-Err.fault.envelope c.in-Err.fault.cause = (c.in-Err.ensures.fails c.requires.alive).0 in (
       words,

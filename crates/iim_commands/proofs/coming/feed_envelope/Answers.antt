@@ -1,6 +1,6 @@
 use Rattle.std.proofs.Common.{◌∙◌, [], refl, arith}
-use Rattle.iim_unpack.specs.Format.Intakes.{line}
-use Rattle.iim_unpack.specs.Format.Unpacking.{raised}
+use Rattle.iim_unpack.specs.States.Intakes.{in_line}
+use Rattle.iim_unpack.specs.States.Unpacking.{raised}
 use Rattle.iim_unpack.proofs.Intakes.{fed_none, fed_and_done, fed_and_faults, more_of, done_of, end_of}
 use Rattle.iim_commands.proofs.Feeding.{ends_whole, fed_more, fed_out, fewer_left, settled_by}
 use Rattle.iim_commands.proofs.coming.feed_envelope.Goals as goal
@@ -8,7 +8,7 @@ use Rattle.iim_commands.proofs.coming.feed_envelope.Goals as goal
 pub feeding-init : goal.feeding-init
 feeding-init g c =
     let goes = g.S.StorySink.goes in
-    let old = line g.R.Source.state c.args.intake.now in
+    let old = in_line g.R.Source.state c.args.intake.now in
     let nothing = g.met.S.StorySink.nothing c.args.sink.now in
     record {
       alive = c.requires.alive;
@@ -30,9 +30,9 @@ feeding-smaller g c =
     let joined = g.met.S.StorySink.joined in
     let goes = g.S.StorySink.goes in
     let failures = g.S.StorySink.failures in
-    let old = line st c.args.intake.now in
-    let mid = line st c.feeding.intake in
-    let new = line st c.next_piece.new.self in
+    let old = in_line st c.args.intake.now in
+    let mid = in_line st c.feeding.intake in
+    let new = in_line st c.next_piece.new.self in
     let u = c.args.unpacker.now in
     let v = c.feeding.unpacker in
     let w = c.next_piece.new.unpacker in
@@ -54,9 +54,9 @@ feeding-preserved g c =
     let joined = g.met.S.StorySink.joined in
     let goes = g.S.StorySink.goes in
     let failures = g.S.StorySink.failures in
-    let old = line st c.args.intake.now in
-    let mid = line st c.feeding.intake in
-    let new = line st c.next_piece.new.self in
+    let old = in_line st c.args.intake.now in
+    let mid = in_line st c.feeding.intake in
+    let new = in_line st c.next_piece.new.self in
     let u = c.args.unpacker.now in
     let v = c.feeding.unpacker in
     let w = c.next_piece.new.unpacker in
@@ -83,9 +83,9 @@ returns-in-Ok-Done-clause-fed g c =
     let joined = g.met.S.StorySink.joined in
     let goes = g.S.StorySink.goes in
     let failures = g.S.StorySink.failures in
-    let old = line st c.args.intake.now in
-    let mid = line st c.feeding.intake in
-    let new = line st c.next_piece.new.self in
+    let old = in_line st c.args.intake.now in
+    let mid = in_line st c.feeding.intake in
+    let new = in_line st c.next_piece.new.self in
     let u = c.args.unpacker.now in
     let v = c.feeding.unpacker in
     let w = c.next_piece.new.unpacker in
@@ -107,9 +107,9 @@ returns-in-Ok-End-clause-fed g c =
     let joined = g.met.S.StorySink.joined in
     let goes = g.S.StorySink.goes in
     let failures = g.S.StorySink.failures in
-    let old = line st c.args.intake.now in
-    let mid = line st c.feeding.intake in
-    let new = line st c.next_piece.new.self in
+    let old = in_line st c.args.intake.now in
+    let mid = in_line st c.feeding.intake in
+    let new = in_line st c.next_piece.new.self in
     let u = c.args.unpacker.now in
     let v = c.feeding.unpacker in
     let w = c.next_piece.new.unpacker in
@@ -134,9 +134,9 @@ returns-in-Err-next_piece-clause-halts g c =
     let joined = g.met.S.StorySink.joined in
     let goes = g.S.StorySink.goes in
     let failures = g.S.StorySink.failures in
-    let old = line st c.args.intake.now in
-    let mid = line st c.feeding.intake in
-    let new = line st c.next_piece.new.self in
+    let old = in_line st c.args.intake.now in
+    let mid = in_line st c.feeding.intake in
+    let new = in_line st c.next_piece.new.self in
     let u = c.args.unpacker.now in
     let v = c.feeding.unpacker in
     let w = c.next_piece.new.unpacker in

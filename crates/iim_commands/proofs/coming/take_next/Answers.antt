@@ -1,13 +1,13 @@
 use Rattle.std.proofs.Common.{◌∙◌}
-use Rattle.iim_unpack.specs.Format.Intakes.{line}
+use Rattle.iim_unpack.specs.States.Intakes.{in_line}
 use Rattle.iim_commands.proofs.Taken.{come_whole, ended_whole, halt_calm, halt_lives, halt_next}
 use Rattle.iim_commands.proofs.coming.take_next.Goals as goal
 
 pub returns-in-Ok-true-clause-next : goal.returns-in-Ok-true-clause-next
 returns-in-Ok-true-clause-next g c =
     let st = g.R.Source.state in
-    let old = line st c.args.intake.now in
-    let new = line st c.feed_envelope.new.intake in
+    let old = in_line st c.args.intake.now in
+    let new = in_line st c.feed_envelope.new.intake in
     let u = c.again.new.self in
     let v = c.feed_envelope.new.unpacker in
     let a = c.args.sink.now in
@@ -17,8 +17,8 @@ returns-in-Ok-true-clause-next g c =
 pub returns-in-Ok-false-clause-next : goal.returns-in-Ok-false-clause-next
 returns-in-Ok-false-clause-next g c =
     let st = g.R.Source.state in
-    let old = line st c.args.intake.now in
-    let new = line st c.feed_envelope.new.intake in
+    let old = in_line st c.args.intake.now in
+    let new = in_line st c.feed_envelope.new.intake in
     let u = c.again.new.self in
     let v = c.feed_envelope.new.unpacker in
     let a = c.args.sink.now in
@@ -28,8 +28,8 @@ returns-in-Ok-false-clause-next g c =
 pub returns-in-Err-clause-next : goal.returns-in-Err-clause-next
 returns-in-Err-clause-next g c =
     let st = g.R.Source.state in
-    let old = line st c.args.intake.now in
-    let new = line st c.feed_envelope.new.intake in
+    let old = in_line st c.args.intake.now in
+    let new = in_line st c.feed_envelope.new.intake in
     let u = c.again.new.self in
     let v = c.feed_envelope.new.unpacker in
     let a = c.args.sink.now in
@@ -39,8 +39,8 @@ returns-in-Err-clause-next g c =
 pub returns-in-Err-clause-calm : goal.returns-in-Err-clause-calm
 returns-in-Err-clause-calm g c =
     let st = g.R.Source.state in
-    let old = line st c.args.intake.now in
-    let new = line st c.feed_envelope.new.intake in
+    let old = in_line st c.args.intake.now in
+    let new = in_line st c.feed_envelope.new.intake in
     let u = c.again.new.self in
     let v = c.feed_envelope.new.unpacker in
     let a = c.args.sink.now in

@@ -1,8 +1,8 @@
 use Rattle.std.proofs.Common.{rules, ◌≡◌, ◌+◌, Option, None, Some, IsSome, [], refl, sym, append-nil}
-use Rattle.iim_unpack.specs.Format.Intakes.{line}
+use Rattle.iim_unpack.specs.States.Intakes.{in_line}
 use Rattle.iim_commands.specs.Format.Lines.{refused_line, too_many_line}
 use Rattle.iim_unpack.specs.Format.Listing.{max_envelopes, Whole, RefusedBy, TooMany}
-use Rattle.iim_commands.specs.Format.Silence.{IsSettled, IsStuck, PassesOver, refuses_never}
+use Rattle.iim_commands.specs.States.Silence.{IsSettled, IsStuck, PassesOver, refuses_never}
 use Rattle.iim_commands.specs.Listing.{IsUnlisted}
 use Rattle.iim_commands.specs.declared.fault.CommandFault.TheVariants.{OutOfMemory}
 use Rattle.iim_commands.proofs.Reports.{ends_refused, failed, left_of, none_left, none_reported, reported, reported_more, reported_out, starved, unended, unsaid_of}
@@ -15,14 +15,14 @@ pub listing-init : goal.listing-init
 listing-init g c = record {
   alive = c.requires.alive;
   same = c.in_ok-unpacker.ensures.limits;
-  reported = none_reported g.W.Target.state c.gifts_join.ensures g.P.EnvelopeReport.written (line g.R.Source.state c.args.intake.now) c.args.silent.now.output;
+  reported = none_reported g.W.Target.state c.gifts_join.ensures g.P.EnvelopeLines.written (in_line g.R.Source.state c.args.intake.now) c.args.silent.now.output;
   leads = λ last h. h;
 }
 
 pub returns-in_err-unpacker-clause-err : goal.returns-in_err-unpacker-clause-err
 returns-in_err-unpacker-clause-err g c =
-    let text = g.P.EnvelopeReport.written in
-    let source = line g.R.Source.state c.args.intake.now in
+    let text = g.P.EnvelopeLines.written in
+    let source = in_line g.R.Source.state c.args.intake.now in
     let state = g.W.Target.state in
     let old = c.args.silent.now.output in
     handed_on (IsUnlisted state text source source old old) c.from_residual.result OutOfMemory c.from_residual.ensures.1
@@ -30,10 +30,10 @@ returns-in_err-unpacker-clause-err g c =
 
 pub returns-in_err-octets-clause-err : goal.returns-in_err-octets-clause-err
 returns-in_err-octets-clause-err g c =
-    let text = g.P.EnvelopeReport.written in
-    let source = line g.R.Source.state c.args.intake.now in
-    let mid = line g.R.Source.state c.listing.intake in
-    let rest = line g.R.Source.state c.take_next.new.intake in
+    let text = g.P.EnvelopeLines.written in
+    let source = in_line g.R.Source.state c.args.intake.now in
+    let mid = in_line g.R.Source.state c.listing.intake in
+    let rest = in_line g.R.Source.state c.take_next.new.intake in
     let state = g.W.Target.state in
     let old = c.args.silent.now.output in
     let a = c.listing.silent in
@@ -46,10 +46,10 @@ returns-in_err-octets-clause-err g c =
 
 pub returns-in_err-add_last-in-Envelope-clause-err : goal.returns-in_err-add_last-in-Envelope-clause-err
 returns-in_err-add_last-in-Envelope-clause-err g c =
-    let text = g.P.EnvelopeReport.written in
-    let source = line g.R.Source.state c.args.intake.now in
-    let mid = line g.R.Source.state c.listing.intake in
-    let rest = line g.R.Source.state c.take_next.new.intake in
+    let text = g.P.EnvelopeLines.written in
+    let source = in_line g.R.Source.state c.args.intake.now in
+    let mid = in_line g.R.Source.state c.listing.intake in
+    let rest = in_line g.R.Source.state c.take_next.new.intake in
     let state = g.W.Target.state in
     let old = c.args.silent.now.output in
     let a = c.listing.silent in
@@ -68,10 +68,10 @@ returns-in_err-add_last-in-Envelope-clause-err g c =
 
 pub returns-then-count-eq-MAX_ENVELOPES-clause-ok : goal.returns-then-count-eq-MAX_ENVELOPES-clause-ok
 returns-then-count-eq-MAX_ENVELOPES-clause-ok g c =
-    let text = g.P.EnvelopeReport.written in
-    let source = line g.R.Source.state c.args.intake.now in
-    let mid = line g.R.Source.state c.listing.intake in
-    let rest = line g.R.Source.state c.take_next.new.intake in
+    let text = g.P.EnvelopeLines.written in
+    let source = in_line g.R.Source.state c.args.intake.now in
+    let mid = in_line g.R.Source.state c.listing.intake in
+    let rest = in_line g.R.Source.state c.take_next.new.intake in
     let state = g.W.Target.state in
     let old = c.args.silent.now.output in
     let a = c.listing.silent in
@@ -89,10 +89,10 @@ returns-then-count-eq-MAX_ENVELOPES-clause-ok g c =
 
 pub returns-in_err-push_text-in-Envelope-clause-err : goal.returns-in_err-push_text-in-Envelope-clause-err
 returns-in_err-push_text-in-Envelope-clause-err g c =
-    let text = g.P.EnvelopeReport.written in
-    let source = line g.R.Source.state c.args.intake.now in
-    let mid = line g.R.Source.state c.listing.intake in
-    let rest = line g.R.Source.state c.take_next.new.intake in
+    let text = g.P.EnvelopeLines.written in
+    let source = in_line g.R.Source.state c.args.intake.now in
+    let mid = in_line g.R.Source.state c.listing.intake in
+    let rest = in_line g.R.Source.state c.take_next.new.intake in
     let state = g.W.Target.state in
     let old = c.args.silent.now.output in
     let a = c.listing.silent in
@@ -106,10 +106,10 @@ returns-in_err-push_text-in-Envelope-clause-err g c =
 
 pub returns-in_err-add-in-Envelope-clause-err : goal.returns-in_err-add-in-Envelope-clause-err
 returns-in_err-add-in-Envelope-clause-err g c =
-    let text = g.P.EnvelopeReport.written in
-    let source = line g.R.Source.state c.args.intake.now in
-    let mid = line g.R.Source.state c.listing.intake in
-    let rest = line g.R.Source.state c.take_next.new.intake in
+    let text = g.P.EnvelopeLines.written in
+    let source = in_line g.R.Source.state c.args.intake.now in
+    let mid = in_line g.R.Source.state c.listing.intake in
+    let rest = in_line g.R.Source.state c.take_next.new.intake in
     let state = g.W.Target.state in
     let old = c.args.silent.now.output in
     let a = c.listing.silent in
@@ -129,10 +129,10 @@ returns-in_err-add-in-Envelope-clause-err g c =
 
 pub listing-preserved : goal.listing-preserved
 listing-preserved g c =
-    let text = g.P.EnvelopeReport.written in
-    let source = line g.R.Source.state c.args.intake.now in
-    let mid = line g.R.Source.state c.listing.intake in
-    let rest = line g.R.Source.state c.take_next.new.intake in
+    let text = g.P.EnvelopeLines.written in
+    let source = in_line g.R.Source.state c.args.intake.now in
+    let mid = in_line g.R.Source.state c.listing.intake in
+    let rest = in_line g.R.Source.state c.take_next.new.intake in
     let state = g.W.Target.state in
     let old = c.args.silent.now.output in
     let a = c.listing.silent in
@@ -156,10 +156,10 @@ listing-preserved g c =
 
 pub returns-in-End-clause-ok : goal.returns-in-End-clause-ok
 returns-in-End-clause-ok g c =
-    let text = g.P.EnvelopeReport.written in
-    let source = line g.R.Source.state c.args.intake.now in
-    let mid = line g.R.Source.state c.listing.intake in
-    let rest = line g.R.Source.state c.take_next.new.intake in
+    let text = g.P.EnvelopeLines.written in
+    let source = in_line g.R.Source.state c.args.intake.now in
+    let mid = in_line g.R.Source.state c.listing.intake in
+    let rest = in_line g.R.Source.state c.take_next.new.intake in
     let state = g.W.Target.state in
     let old = c.args.silent.now.output in
     let a = c.listing.silent in
@@ -173,10 +173,10 @@ returns-in-End-clause-ok g c =
 
 pub returns-in_err-push_refused-in-Refused-clause-err : goal.returns-in_err-push_refused-in-Refused-clause-err
 returns-in_err-push_refused-in-Refused-clause-err g c =
-    let text = g.P.EnvelopeReport.written in
-    let source = line g.R.Source.state c.args.intake.now in
-    let mid = line g.R.Source.state c.listing.intake in
-    let rest = line g.R.Source.state c.take_next.new.intake in
+    let text = g.P.EnvelopeLines.written in
+    let source = in_line g.R.Source.state c.args.intake.now in
+    let mid = in_line g.R.Source.state c.listing.intake in
+    let rest = in_line g.R.Source.state c.take_next.new.intake in
     let state = g.W.Target.state in
     let old = c.args.silent.now.output in
     let a = c.listing.silent in
@@ -190,10 +190,10 @@ returns-in_err-push_refused-in-Refused-clause-err g c =
 
 pub returns-in_err-add_last-in-Refused-clause-err : goal.returns-in_err-add_last-in-Refused-clause-err
 returns-in_err-add_last-in-Refused-clause-err g c =
-    let text = g.P.EnvelopeReport.written in
-    let source = line g.R.Source.state c.args.intake.now in
-    let mid = line g.R.Source.state c.listing.intake in
-    let rest = line g.R.Source.state c.take_next.new.intake in
+    let text = g.P.EnvelopeLines.written in
+    let source = in_line g.R.Source.state c.args.intake.now in
+    let mid = in_line g.R.Source.state c.listing.intake in
+    let rest = in_line g.R.Source.state c.take_next.new.intake in
     let state = g.W.Target.state in
     let old = c.args.silent.now.output in
     let a = c.listing.silent in
@@ -211,10 +211,10 @@ returns-in_err-add_last-in-Refused-clause-err g c =
 
 pub returns-in-Refused-clause-ok : goal.returns-in-Refused-clause-ok
 returns-in-Refused-clause-ok g c =
-    let text = g.P.EnvelopeReport.written in
-    let source = line g.R.Source.state c.args.intake.now in
-    let mid = line g.R.Source.state c.listing.intake in
-    let rest = line g.R.Source.state c.take_next.new.intake in
+    let text = g.P.EnvelopeLines.written in
+    let source = in_line g.R.Source.state c.args.intake.now in
+    let mid = in_line g.R.Source.state c.listing.intake in
+    let rest = in_line g.R.Source.state c.take_next.new.intake in
     let state = g.W.Target.state in
     let old = c.args.silent.now.output in
     let a = c.listing.silent in
@@ -262,8 +262,8 @@ none_is_none None none some = absurd cc
 
 pub unreachable-requires : goal.unreachable-requires
 unreachable-requires g c =
-    let mid = line g.R.Source.state c.listing.intake in
-    let rest = line g.R.Source.state c.take_next.new.intake in
+    let mid = in_line g.R.Source.state c.listing.intake in
+    let rest = in_line g.R.Source.state c.take_next.new.intake in
     let state = g.W.Target.state in
     let a = c.listing.silent in
     let b = c.take_next.new.sink in

@@ -1,5 +1,5 @@
 use Rattle.std.proofs.Common.{◌≤◌, ◌+◌, ◌-◌, length}
-use Rattle.iim_dataset.specs.Format.DeviceLaws.{HasGiven}
+use Rattle.iim_dataset.specs.States.Devices.{HasGiven}
 use Rattle.iim_script.specs.Format.Scripts.{max_script}
 use Rattle.iim_commands.proofs.packing.read_input.Given as goal
 

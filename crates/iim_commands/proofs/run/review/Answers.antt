@@ -1,8 +1,8 @@
 use Rattle.std.proofs.Common.{◌≡◌, ℕ, ℤ, Result, Ok, Err, IfOk, IfErr, ap, sym, ◌∙◌, inl, inr, subst}
-use Rattle.iim_dataset.specs.Format.Devices.{Device}
-use Rattle.iim_unpack.specs.Format.Intakes.{line}
+use Rattle.iim_dataset.specs.States.Devices.{Device}
+use Rattle.iim_unpack.specs.States.Intakes.{in_line}
 use Rattle.iim_commands.specs.Format.Audits.{Audited, IsUnaudited}
-use Rattle.iim_commands.specs.Format.Devices.{devices}
+use Rattle.iim_commands.specs.States.Devices.{devices}
 use Rattle.iim_commands.specs.Format.Outcomes.{EndsRun, Reviewed}
 use Rattle.iim_commands.specs.declared.fault.CommandFault.{CommandFault}
 use Rattle.iim_commands.proofs.Runs.{with_none_held}
@@ -19,11 +19,11 @@ reviewed now same source rest old new errors_old errors_new (Err fault) status e
 pub returns : goal.returns
 returns g c =
     let intake = c.write_audit-answer.new.intake in
-    let rest = line g.R.Source.state intake in
+    let rest = in_line g.R.Source.state intake in
     let old = g.W.Target.state c.args.output in
     let new = g.W.Target.state c.write_audit-answer.result.1 in
     let now = c.timestamp.result.nanosecond in
-    let start : line g.R.Source.state c.new-intake.result ≡ g.R.Source.state c.args.reader =
+    let start : in_line g.R.Source.state c.new-intake.result ≡ g.R.Source.state c.args.reader =
     with_none_held c.new-intake.result.block (g.R.Source.state c.new-intake.result.reader) c.new-intake.ensures.block ∙ ap g.R.Source.state c.new-intake.ensures.reader in (
       intake.reader,
       intake.block,

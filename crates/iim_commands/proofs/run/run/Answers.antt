@@ -1,7 +1,7 @@
 use Rattle.std.proofs.Common.{[], refl, sym, subst}
-use Rattle.iim_dataset.specs.Format.Devices.{Device}
-use Rattle.iim_unpack.specs.Format.Blocks.{with_held}
-use Rattle.iim_commands.specs.Format.Devices.{Devices, devices}
+use Rattle.iim_dataset.specs.States.Devices.{Device}
+use Rattle.iim_unpack.specs.States.Blocks.{with_held}
+use Rattle.iim_commands.specs.States.Devices.{Devices, devices}
 use Rattle.iim_commands.specs.Format.Outcomes.{Ran}
 use Rattle.iim_commands.specs.declared.request.Job.{Job}
 use Rattle.iim_commands.proofs.Runs.{with_none_held}

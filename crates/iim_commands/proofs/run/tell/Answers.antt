@@ -1,7 +1,7 @@
 use Rattle.std.proofs.Common.{◌≡◌, ℕ, Result, Ok, Err, IfOk, IfErr, ap, sym, ◌∙◌, inl, inr, subst}
-use Rattle.iim_dataset.specs.Format.Devices.{Device}
-use Rattle.iim_unpack.specs.Format.Intakes.{line}
-use Rattle.iim_commands.specs.Format.Devices.{devices}
+use Rattle.iim_dataset.specs.States.Devices.{Device}
+use Rattle.iim_unpack.specs.States.Intakes.{in_line}
+use Rattle.iim_commands.specs.States.Devices.{devices}
 use Rattle.iim_commands.specs.Format.Narration.{IsUnnarrated, Narrated}
 use Rattle.iim_commands.specs.Format.Outcomes.{EndsRun, ToldAsStory}
 use Rattle.iim_commands.specs.declared.fault.CommandFault.{CommandFault}
@@ -19,13 +19,13 @@ told source rest old new errors_old errors errors_new (Err fault) status ok err 
 pub returns : goal.returns
 returns g c =
     let intake = c.narrate-answer.new.intake in
-    let rest = line g.R.Source.state intake in
+    let rest = in_line g.R.Source.state intake in
     let old = g.W.Target.state c.args.output in
     let new = g.W.Target.state c.narrate-answer.result.1 in
     let errors_old = g.E.Target.state c.args.errors in
     let errors = g.E.Target.state c.narrate-answer.new.errors in
     let answer = c.narrate-answer.result.0 in
-    let source : line g.R.Source.state c.new-intake.result ≡ g.R.Source.state c.args.reader =
+    let source : in_line g.R.Source.state c.new-intake.result ≡ g.R.Source.state c.args.reader =
     with_none_held c.new-intake.result.block (g.R.Source.state c.new-intake.result.reader) c.new-intake.ensures.block ∙ ap g.R.Source.state c.new-intake.ensures.reader in (
       intake.reader,
       intake.block,

@@ -2,7 +2,7 @@ use Rattle.std.proofs.Common.{◌≡◌, ℕ, List, [], ◌∷◌, ◌++◌, sym
 use Rattle.std.specs.List.{flat_map}
 use Rattle.std.proofs.lemmas.List.{append-nil}
 use Rattle.iim_dataset.specs.Format.Datasets.{Dataset}
-use Rattle.iim_fields.specs.Format.Walks.{rest_of}
+use Rattle.iim_fields.specs.States.Walks.{rest_of}
 use Rattle.iim_script.specs.Format.Printed.{field_line}
 use Rattle.iim_commands.proofs.show.push_fields.Goals as goal
 

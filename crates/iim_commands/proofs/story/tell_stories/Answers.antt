@@ -1,8 +1,8 @@
 use Rattle.std.proofs.Common.{rules, ◌≡◌, ◌+◌, [], length, map, refl, sym, ap, ◌∙◌, append-nil, arith}
-use Rattle.iim_dataset.specs.Format.Devices.{Wrote}
-use Rattle.iim_unpack.specs.Format.Intakes.{line}
+use Rattle.iim_dataset.specs.States.Devices.{Wrote}
+use Rattle.iim_unpack.specs.States.Intakes.{in_line}
 use Rattle.wire_story.specs.Format.Delivery.{octet_for}
-use Rattle.iim_commands.specs.Format.Holding.{HoldsNothing, PutsLines, StaysStuck, stops_of}
+use Rattle.iim_commands.specs.States.Holding.{HoldsNothing, PutsLines, StaysStuck, stops_of}
 use Rattle.iim_commands.specs.Format.Lines.{accepted_line, refused_line, too_many_line}
 use Rattle.iim_unpack.specs.Format.Listing.{max_envelopes, Whole, RefusedBy, TooMany}
 use Rattle.iim_commands.specs.Format.Narration.{IsUnnarrated, text_of}
@@ -20,14 +20,14 @@ telling-init g c = record {
   held = c.requires.held;
   unbroken = c.requires.unbroken;
   narrated =
-      none_narrated c.gifts_join.ensures c.texts_join.ensures (line g.R.Source.state c.args.intake.now) (g.W.Target.state c.args.output.now.writer)
+      none_narrated c.gifts_join.ensures c.texts_join.ensures (in_line g.R.Source.state c.args.intake.now) (g.W.Target.state c.args.output.now.writer)
       (g.E.Target.state c.args.errors.now);
   leads = λ last h. h;
 }
 
 pub returns-in_err-unpacker-clause-err : goal.returns-in_err-unpacker-clause-err
 returns-in_err-unpacker-clause-err g c =
-    let source = line g.R.Source.state c.args.intake.now in
+    let source = in_line g.R.Source.state c.args.intake.now in
     let old = g.W.Target.state c.args.output.now.writer in
     let errors_old = g.E.Target.state c.args.errors.now in
     handed_on (IsUnnarrated source source old old errors_old errors_old) c.from_residual.result OutOfMemory c.from_residual.ensures.1
@@ -35,9 +35,9 @@ returns-in_err-unpacker-clause-err g c =
 
 pub returns-in_err-octets-clause-err : goal.returns-in_err-octets-clause-err
 returns-in_err-octets-clause-err g c =
-    let source = line g.R.Source.state c.args.intake.now in
-    let mid = line g.R.Source.state c.telling.intake in
-    let rest = line g.R.Source.state c.take_next.new.intake in
+    let source = in_line g.R.Source.state c.args.intake.now in
+    let mid = in_line g.R.Source.state c.telling.intake in
+    let rest = in_line g.R.Source.state c.take_next.new.intake in
     let state = g.W.Target.state in
     let a = c.telling.output in
     let b = c.take_next.new.sink in
@@ -55,9 +55,9 @@ returns-in_err-octets-clause-err g c =
 
 pub returns-in_err-say-in-Envelope-clause-err : goal.returns-in_err-say-in-Envelope-clause-err
 returns-in_err-say-in-Envelope-clause-err g c =
-    let source = line g.R.Source.state c.args.intake.now in
-    let mid = line g.R.Source.state c.telling.intake in
-    let rest = line g.R.Source.state c.take_next.new.intake in
+    let source = in_line g.R.Source.state c.args.intake.now in
+    let mid = in_line g.R.Source.state c.telling.intake in
+    let rest = in_line g.R.Source.state c.take_next.new.intake in
     let state = g.W.Target.state in
     let a = c.telling.output in
     let b = c.take_next.new.sink in
@@ -84,9 +84,9 @@ returns-in_err-say-in-Envelope-clause-err g c =
 
 pub returns-then-count-eq-MAX_ENVELOPES-clause-ok : goal.returns-then-count-eq-MAX_ENVELOPES-clause-ok
 returns-then-count-eq-MAX_ENVELOPES-clause-ok g c =
-    let source = line g.R.Source.state c.args.intake.now in
-    let mid = line g.R.Source.state c.telling.intake in
-    let rest = line g.R.Source.state c.take_next.new.intake in
+    let source = in_line g.R.Source.state c.args.intake.now in
+    let mid = in_line g.R.Source.state c.telling.intake in
+    let rest = in_line g.R.Source.state c.take_next.new.intake in
     let state = g.W.Target.state in
     let a = c.telling.output in
     let b = c.take_next.new.sink in
@@ -112,9 +112,9 @@ returns-then-count-eq-MAX_ENVELOPES-clause-ok g c =
 
 pub returns-then-is_err-clause-err : goal.returns-then-is_err-clause-err
 returns-then-is_err-clause-err g c =
-    let source = line g.R.Source.state c.args.intake.now in
-    let mid = line g.R.Source.state c.telling.intake in
-    let rest = line g.R.Source.state c.take_next.new.intake in
+    let source = in_line g.R.Source.state c.args.intake.now in
+    let mid = in_line g.R.Source.state c.telling.intake in
+    let rest = in_line g.R.Source.state c.take_next.new.intake in
     let state = g.W.Target.state in
     let a = c.telling.output in
     let b = c.take_next.new.sink in
@@ -135,9 +135,9 @@ returns-then-is_err-clause-err g c =
 
 pub returns-in_err-end_story-in-Envelope-clause-err : goal.returns-in_err-end_story-in-Envelope-clause-err
 returns-in_err-end_story-in-Envelope-clause-err g c =
-    let source = line g.R.Source.state c.args.intake.now in
-    let mid = line g.R.Source.state c.telling.intake in
-    let rest = line g.R.Source.state c.take_next.new.intake in
+    let source = in_line g.R.Source.state c.args.intake.now in
+    let mid = in_line g.R.Source.state c.telling.intake in
+    let rest = in_line g.R.Source.state c.take_next.new.intake in
     let state = g.W.Target.state in
     let a = c.telling.output in
     let b = c.take_next.new.sink in
@@ -159,9 +159,9 @@ returns-in_err-end_story-in-Envelope-clause-err g c =
 
 pub returns-in_err-say-in-Envelope-2-clause-err : goal.returns-in_err-say-in-Envelope-2-clause-err
 returns-in_err-say-in-Envelope-2-clause-err g c =
-    let source = line g.R.Source.state c.args.intake.now in
-    let mid = line g.R.Source.state c.telling.intake in
-    let rest = line g.R.Source.state c.take_next.new.intake in
+    let source = in_line g.R.Source.state c.args.intake.now in
+    let mid = in_line g.R.Source.state c.telling.intake in
+    let rest = in_line g.R.Source.state c.take_next.new.intake in
     let state = g.W.Target.state in
     let a = c.telling.output in
     let b = c.take_next.new.sink in
@@ -189,9 +189,9 @@ returns-in_err-say-in-Envelope-2-clause-err g c =
 
 pub returns-in-End-clause-ok : goal.returns-in-End-clause-ok
 returns-in-End-clause-ok g c =
-    let source = line g.R.Source.state c.args.intake.now in
-    let mid = line g.R.Source.state c.telling.intake in
-    let rest = line g.R.Source.state c.take_next.new.intake in
+    let source = in_line g.R.Source.state c.args.intake.now in
+    let mid = in_line g.R.Source.state c.telling.intake in
+    let rest = in_line g.R.Source.state c.take_next.new.intake in
     let state = g.W.Target.state in
     let a = c.telling.output in
     let b = c.take_next.new.sink in
@@ -210,9 +210,9 @@ returns-in-End-clause-ok g c =
 
 pub returns-in_err-push_refused-in-Refused-clause-err : goal.returns-in_err-push_refused-in-Refused-clause-err
 returns-in_err-push_refused-in-Refused-clause-err g c =
-    let source = line g.R.Source.state c.args.intake.now in
-    let mid = line g.R.Source.state c.telling.intake in
-    let rest = line g.R.Source.state c.take_next.new.intake in
+    let source = in_line g.R.Source.state c.args.intake.now in
+    let mid = in_line g.R.Source.state c.telling.intake in
+    let rest = in_line g.R.Source.state c.take_next.new.intake in
     let state = g.W.Target.state in
     let a = c.telling.output in
     let b = c.take_next.new.sink in
@@ -233,9 +233,9 @@ returns-in_err-push_refused-in-Refused-clause-err g c =
 
 pub returns-in_err-say-in-Refused-clause-err : goal.returns-in_err-say-in-Refused-clause-err
 returns-in_err-say-in-Refused-clause-err g c =
-    let source = line g.R.Source.state c.args.intake.now in
-    let mid = line g.R.Source.state c.telling.intake in
-    let rest = line g.R.Source.state c.take_next.new.intake in
+    let source = in_line g.R.Source.state c.args.intake.now in
+    let mid = in_line g.R.Source.state c.telling.intake in
+    let rest = in_line g.R.Source.state c.take_next.new.intake in
     let state = g.W.Target.state in
     let a = c.telling.output in
     let b = c.take_next.new.sink in
@@ -260,9 +260,9 @@ returns-in_err-say-in-Refused-clause-err g c =
 
 pub returns-in-Refused-clause-ok : goal.returns-in-Refused-clause-ok
 returns-in-Refused-clause-ok g c =
-    let source = line g.R.Source.state c.args.intake.now in
-    let mid = line g.R.Source.state c.telling.intake in
-    let rest = line g.R.Source.state c.take_next.new.intake in
+    let source = in_line g.R.Source.state c.args.intake.now in
+    let mid = in_line g.R.Source.state c.telling.intake in
+    let rest = in_line g.R.Source.state c.take_next.new.intake in
     let state = g.W.Target.state in
     let a = c.telling.output in
     let b = c.take_next.new.sink in
@@ -286,9 +286,9 @@ returns-in-Refused-clause-ok g c =
 
 pub telling-preserved : goal.telling-preserved
 telling-preserved g c =
-    let source = line g.R.Source.state c.args.intake.now in
-    let mid = line g.R.Source.state c.telling.intake in
-    let rest = line g.R.Source.state c.take_next.new.intake in
+    let source = in_line g.R.Source.state c.args.intake.now in
+    let mid = in_line g.R.Source.state c.telling.intake in
+    let rest = in_line g.R.Source.state c.take_next.new.intake in
     let state = g.W.Target.state in
     let a = c.telling.output in
     let b = c.take_next.new.sink in
@@ -352,9 +352,9 @@ returns-in-Refused-clause-leads g c = c.telling.invariant.leads c.take_next.new.
 
 pub returns-in_err-let_out-in-Envelope-clause-err : goal.returns-in_err-let_out-in-Envelope-clause-err
 returns-in_err-let_out-in-Envelope-clause-err g c =
-    let source = line g.R.Source.state c.args.intake.now in
-    let mid = line g.R.Source.state c.telling.intake in
-    let rest = line g.R.Source.state c.take_next.new.intake in
+    let source = in_line g.R.Source.state c.args.intake.now in
+    let mid = in_line g.R.Source.state c.telling.intake in
+    let rest = in_line g.R.Source.state c.take_next.new.intake in
     let state = g.W.Target.state in
     let a = c.telling.output in
     let b = c.take_next.new.sink in
@@ -375,9 +375,9 @@ returns-in_err-let_out-in-Envelope-clause-err g c =
 
 pub returns-in_err-let_out-in-Envelope-2-clause-err : goal.returns-in_err-let_out-in-Envelope-2-clause-err
 returns-in_err-let_out-in-Envelope-2-clause-err g c =
-    let source = line g.R.Source.state c.args.intake.now in
-    let mid = line g.R.Source.state c.telling.intake in
-    let rest = line g.R.Source.state c.take_next.new.intake in
+    let source = in_line g.R.Source.state c.args.intake.now in
+    let mid = in_line g.R.Source.state c.telling.intake in
+    let rest = in_line g.R.Source.state c.take_next.new.intake in
     let state = g.W.Target.state in
     let a = c.telling.output in
     let b = c.take_next.new.sink in
@@ -398,9 +398,9 @@ returns-in_err-let_out-in-Envelope-2-clause-err g c =
 
 pub returns-in_err-let_out-in-Refused-clause-err : goal.returns-in_err-let_out-in-Refused-clause-err
 returns-in_err-let_out-in-Refused-clause-err g c =
-    let source = line g.R.Source.state c.args.intake.now in
-    let mid = line g.R.Source.state c.telling.intake in
-    let rest = line g.R.Source.state c.take_next.new.intake in
+    let source = in_line g.R.Source.state c.args.intake.now in
+    let mid = in_line g.R.Source.state c.telling.intake in
+    let rest = in_line g.R.Source.state c.take_next.new.intake in
     let state = g.W.Target.state in
     let a = c.telling.output in
     let b = c.take_next.new.sink in

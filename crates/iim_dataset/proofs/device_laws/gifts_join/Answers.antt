@@ -1,7 +1,7 @@
 use Rattle.std.proofs.Common.{[], List, ℕ, ◌++◌, inl, inr, arith}
 use Rattle.std.proofs.lemmas.List.{append-nil}
-use Rattle.iim_dataset.specs.Format.Devices.{Device, Missed}
-use Rattle.iim_dataset.specs.Format.DeviceLaws.{HasGiven, BrokeAfterReads, MissedAfter}
+use Rattle.iim_dataset.specs.States.Devices.{Device, Missed, HasGiven, MissedAfter}
+use Rattle.iim_dataset.specs.Laws.Devices.{BrokeAfterReads}
 use Rattle.iim_dataset.specs.Later.{consumes_consumes, consumes_none}
 use Rattle.iim_dataset.specs.declared.device.IoFault.{IoFault}
 use Rattle.iim_dataset.specs.declared.device.IoFault.TheVariants.{Interrupted, Failed}

@@ -1,6 +1,6 @@
 use Rattle.std.proofs.Common.{ℕ, ◌+◌, List, ◌++◌, length, arith, length-append}
 use Rattle.std.proofs.Math.Seq.{take-append-add}
-use Rattle.iim_dataset.specs.Format.Devices.{Device, Wrote, Stopped}
+use Rattle.iim_dataset.specs.States.Devices.{Device, Wrote, Stopped}
 use Rattle.iim_dataset.proofs.Devices.{appends_appends, appends_none}
 use Rattle.iim_dataset.proofs.DeviceLaws.{broke_later}
 use Rattle.iim_dataset.proofs.device_laws.texts_join.Goals as goal

@@ -1,5 +1,5 @@
 use Rattle.std.proofs.Common.{◌+◌, ◌≤◌}
-use Rattle.iim_dataset.specs.Format.Devices.{Interrupts}
+use Rattle.iim_dataset.specs.States.Devices.{Interrupts}
 use Rattle.iim_dataset.proofs.source.take.Given as goal
 
 abbrev pub invariant-loop : goal.invariant-loop

@@ -1,5 +1,5 @@
 use Rattle.std.proofs.Common.{length, take, ◌-◌, ◌≤◌}
-use Rattle.iim_dataset.specs.Format.Devices.{Wrote, WithinInterruptionLimit}
+use Rattle.iim_dataset.specs.States.Devices.{Wrote, WithinInterruptionLimit}
 use Rattle.iim_dataset.proofs.target.put.Given as goal
 
 abbrev pub invariant-loop-at : goal.invariant-loop-at

@@ -1,5 +1,5 @@
 use Rattle.std.proofs.Common.{length}
-use Rattle.iim_object.specs.Format.Writing.{BreaksOff, IsTheWhole, Finishes, write_cause, finish_cause}
+use Rattle.iim_object.specs.States.Writing.{BreaksOff, IsTheWhole, Finishes, write_cause, finish_cause}
 use Rattle.iim_pack.specs.Ending.{Ends, EndsWithTail}
 use Rattle.iim_pack.proofs.Goings.{of_none}
 use Rattle.iim_pack.proofs.Endings.{ends, tail_broke, end_broke, may_write, may_finish, if_ok, if_err}

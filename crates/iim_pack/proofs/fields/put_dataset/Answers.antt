@@ -1,5 +1,5 @@
 use Rattle.std.proofs.Common.{List, ℕ, ◌+◌, ◌++◌, length, subst}
-use Rattle.iim_dataset.specs.Format.Devices.{Device, Stopped}
+use Rattle.iim_dataset.specs.States.Devices.{Device, Stopped}
 use Rattle.iim_pack.proofs.FieldsOut.{stopped_more}
 use Rattle.iim_pack.proofs.fields.put_dataset.Goals as goal
 

@@ -1,10 +1,10 @@
 use Rattle.std.proofs.Common.{◌≡◌, ℕ, ◌+◌, ◌≤◌, Bool, true, false, List, [], ◌∷◌, length, map, sym, ap, subst, ◌∙◌, arith}
-use Rattle.iim_object.specs.Format.Writing.{most_of, total_of}
+use Rattle.iim_object.specs.States.Writing.{most_of, total_of}
 use Rattle.iim_object.specs.declared.plan.Plan.{Plan}
 use Rattle.wire_story.specs.Format.Delivery.{LineOctet, LineEnd}
 use Rattle.wire_story.specs.Format.Packing.{packed_events}
-use Rattle.iim_pack.specs.Format.Packing.{Lengthens, BreaksOff, ContinuesWith, text_cause, line_end_cause}
-use Rattle.iim_pack.specs.Format.Whole.{line_events}
+use Rattle.iim_pack.specs.States.Packing.{Lengthens, BreaksOff, ContinuesWith, text_cause, line_end_cause}
+use Rattle.iim_pack.specs.States.Whole.{line_events}
 use Rattle.iim_pack.proofs.Goings.{on_ok, on_err, of_none, line_packed}
 use Rattle.iim_pack.proofs.LinesOut.{leads_on, breaks_later, breaks_before, may_text, may_end_line}
 use Rattle.iim_pack.proofs.lines.put_line.Goals as goal

@@ -1,5 +1,5 @@
 use Rattle.std.proofs.Common.{length}
-use Rattle.iim_object.specs.Format.Writing.{write_cause}
+use Rattle.iim_object.specs.States.Writing.{write_cause}
 use Rattle.iim_pack.proofs.Goings.{of_none}
 use Rattle.iim_pack.proofs.Openings.{not_begun, opened, opening_broke, may_open}
 use Rattle.iim_pack.proofs.opening.open_object.Goals as goal

@@ -1,5 +1,5 @@
 use Rattle.iim_unpack.specs.Format.Pieces.{stream_of}
-use Rattle.iim_unpack.specs.Format.Unpacking.{limits_in}
+use Rattle.iim_unpack.specs.States.Unpacking.{limits_in}
 use Rattle.iim_round_trip.proofs.Given.{given, fails, counts}
 use Rattle.iim_round_trip.proofs.unpacking.unpack_packed.Goals as goal
 

@@ -1,7 +1,7 @@
 use Rattle.std.proofs.Common.{List, ap, subst, sym}
 use Rattle.std.proofs.lemmas.Result.{err_from_is_err_and}
 use Rattle.iim_dataset.specs.Format.Datasets.{Dataset}
-use Rattle.iim_fields.specs.Format.Builders.{Building}
+use Rattle.iim_fields.specs.States.Builders.{Building}
 use Rattle.iim_fields.specs.declared.limits.Limits.{Limits}
 use Rattle.iim_script.specs.Format.Faults.{Stands, InFields}
 use Rattle.iim_script.proofs.Fronts.{FrontAnd, stands_head, past_trailer, is_front, head_fault, trailer_fault, text_fault, end_fault}

@@ -1,7 +1,7 @@
 use Rattle.std.proofs.Common.{◌<◌, ◌∙◌, refl, subst, sym}
-use Rattle.iim_dataset.specs.Format.Devices.{Device}
+use Rattle.iim_dataset.specs.States.Devices.{Device}
 use Rattle.iim_fields.specs.declared.limits.Limits.{Limits}
-use Rattle.iim_unpack.specs.Format.Blocks.{with_held}
+use Rattle.iim_unpack.specs.States.Blocks.{with_held}
 use Rattle.iim_unpack.proofs.Intakes.{fed_none, fed_then, fed_and_done, fed_and_ended, fed_and_faults, fed_few, raised_on, some_came, more_of, done_of, end_of, somewhere, smaller}
 use Rattle.iim_unpack.proofs.intake.feed_line.Goals as goal
 

@@ -1,6 +1,6 @@
 use Rattle.std.proofs.Common.{◌≡◌, ◌-◌, ◌^◌, []}
-use Rattle.iim_unpack.specs.Format.Blocks.{with_held}
-use Rattle.iim_unpack.specs.Format.Intakes.{HasFed, IsReady}
+use Rattle.iim_unpack.specs.States.Blocks.{with_held}
+use Rattle.iim_unpack.specs.States.Intakes.{HasFed, IsReady}
 use Rattle.iim_unpack.proofs.intake.feed_line.Given as goal
 
 abbrev pub invariant-feeding : goal.invariant-feeding

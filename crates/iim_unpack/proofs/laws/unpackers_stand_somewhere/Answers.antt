@@ -1,6 +1,6 @@
 use Rattle.std.proofs.Common.{ℕ, List, inl, inr}
-use Rattle.iim_unpack.specs.Format.Unpacking.{Unpacking, IsDone, Stands}
-use Rattle.iim_unpack.specs.Unpacking.{Stood}
+use Rattle.iim_unpack.specs.States.Unpacking.{Unpacking, IsDone, Stands}
+use Rattle.iim_unpack.specs.UnpackerInside.{Stood}
 use Rattle.iim_unpack.proofs.Feeding.{stood_done}
 use Rattle.iim_unpack.proofs.Held.{holds_few}
 use Rattle.iim_unpack.proofs.laws.unpackers_stand_somewhere.Goals as goal

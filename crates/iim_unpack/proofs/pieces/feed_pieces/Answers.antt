@@ -1,8 +1,8 @@
 use Rattle.std.proofs.Common.{◌+◌, ℕ, [], List, Bor, get_or, take, drop, refl, sym, subst, ◌∙◌}
-use Rattle.iim_unpack.specs.Pieces.{HasFed}
+use Rattle.iim_unpack.specs.PiecesSoFar.{HasFedPieces}
 use Rattle.iim_unpack.specs.Format.Pieces.{IsTurnedDown, stream_of}
-use Rattle.iim_unpack.specs.Format.Unpacking.{limits_in}
-use Rattle.iim_unpack.proofs.PieceLemmas.{CountLaws, AreLow, begin_fed, went_on, turned_down, still_taking, stream_step, stream_rest}
+use Rattle.iim_unpack.specs.States.Unpacking.{limits_in}
+use Rattle.iim_unpack.proofs.PieceLemmas.{CountLaws, AreLow, begin_fed, tells_parts_on, turned_down, still_taking, stream_step, stream_rest}
 use Rattle.iim_unpack.proofs.Results.{handed_on}
 use Rattle.iim_unpack.proofs.pieces.feed_pieces.Goals as goal
 
@@ -37,9 +37,9 @@ loop-piece-preserved g c =
     let u = c.loop-piece.unpacker in
     let fed = c.loop-piece.invariant.fed in
     let same = c.in_ok-feed.ensures.limits (still_taking goes limits u c.args.sink.now c.loop-piece.sink (stream_of (take k ps)) fed) in
-    let on = went_on goes g.met.S.StorySink.joined laws limits low u c.feed.new.self c.args.sink.now c.loop-piece.sink c.feed.new.sink (stream_of (take k ps)) (get_or ps k none).now c.in_ok-feed.field-0 fed (same ∙ fed.limits_are)
+    let on = tells_parts_on goes g.met.S.StorySink.joined laws limits low u c.feed.new.self c.args.sink.now c.loop-piece.sink c.feed.new.sink (stream_of (take k ps)) (get_or ps k none).now c.in_ok-feed.field-0 fed (same ∙ fed.limits_are)
     c.in_ok-feed.ensures.goes.1 (λ used fits at. (c.feed.ensures.done (at.taking, at.ended)).1) in
     record {
-      fed = subst (λ (o : List ℕ). HasFed goes limits c.feed.new.self c.args.sink.now c.feed.new.sink o) (sym (stream_step ps k none c.loop-piece-test.true)) on;
+      fed = subst (λ (o : List ℕ). HasFedPieces goes limits c.feed.new.self c.args.sink.now c.feed.new.sink o) (sym (stream_step ps k none c.loop-piece-test.true)) on;
       calm = c.in_ok-feed.ensures.goes.0 ∙ c.loop-piece.invariant.calm;
     }

@@ -1,11 +1,11 @@
 use Rattle.std.proofs.Common.{◌≡◌, take}
-use Rattle.iim_unpack.specs.Pieces.{HasFed}
+use Rattle.iim_unpack.specs.PiecesSoFar.{HasFedPieces}
 use Rattle.iim_unpack.specs.Format.Pieces.{stream_of}
-use Rattle.iim_unpack.specs.Format.Unpacking.{limits_in}
+use Rattle.iim_unpack.specs.States.Unpacking.{limits_in}
 use Rattle.iim_unpack.proofs.pieces.feed_pieces.Given as goal
 
 abbrev pub invariant-loop-piece : goal.invariant-loop-piece
 invariant-loop-piece g l = record {
-  fed : HasFed g.S.StorySink.goes (limits_in l.fn.unpacker) l.unpacker l.fn.sink l.sink (stream_of (take l.piece-index l.pieces));
+  fed : HasFedPieces g.S.StorySink.goes (limits_in l.fn.unpacker) l.unpacker l.fn.sink l.sink (stream_of (take l.piece-index l.pieces));
   calm : g.S.StorySink.failures l.sink ≡ g.S.StorySink.failures l.fn.sink;
 }

@@ -1,4 +1,4 @@
-use Rattle.iim_fields.specs.Format.Standing.{IsBetween}
+use Rattle.iim_fields.specs.States.Standing.{IsBetween}
 use Rattle.refusals.proofs.records.fields.Given as goal
 
 abbrev pub invariant-loop-rec : goal.invariant-loop-rec

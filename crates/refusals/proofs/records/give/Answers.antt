@@ -1,5 +1,5 @@
 use Rattle.std.proofs.Common.{◌≡◌, ℕ, ◌-◌, length, subst, arith}
-use Rattle.iim_fields.specs.Format.Standing.{IsInside}
+use Rattle.iim_fields.specs.States.Standing.{IsInside}
 use Rattle.refusals.proofs.records.give.Goals as goal
 
 pub returns : goal.returns

@@ -1,5 +1,5 @@
 use Rattle.std.proofs.Common.{◌≡◌, ℕ, ◌+◌, ◌-◌, length, subst, arith}
-use Rattle.iim_fields.specs.Format.Standing.{IsInside}
+use Rattle.iim_fields.specs.States.Standing.{IsInside}
 use Rattle.vectors.proofs.records.give.Goals as goal
 
 pub returns-then-not-one_by_one : goal.returns-then-not-one_by_one

@@ -1,5 +1,5 @@
 use Rattle.std.proofs.Common.{◌-◌, length}
-use Rattle.iim_fields.specs.Format.Standing.{IsInside}
+use Rattle.iim_fields.specs.States.Standing.{IsInside}
 use Rattle.vectors.proofs.records.give.Given as goal
 
 abbrev pub invariant-loop-octet : goal.invariant-loop-octet

@@ -1,4 +1,4 @@
-use Rattle.iim_fields.specs.Format.Standing.{IsBetween}
+use Rattle.iim_fields.specs.States.Standing.{IsBetween}
 use Rattle.vectors.proofs.records.pass_datasets.Given as goal
 
 abbrev pub invariant-loop : goal.invariant-loop

@@ -4,7 +4,7 @@ use Rattle.wire_message.specs.Steps.{DiesWith}
 use Rattle.wire_message.specs.declared.place.Place.{Place}
 use Rattle.wire_message.specs.declared.place.Place.TheVariants.{AfterEnd}
 use Rattle.wire_message.specs.Parts.{EndsPart}
-use Rattle.wire_message.specs.Format.SoFar.{IsPlace}
+use Rattle.wire_message.specs.States.SoFar.{IsPlace}
 use Rattle.wire_message.proofs.Stops.{dies, end_stops}
 use Rattle.wire_message.proofs.next.next_part.Goals as goal
 

@@ -1,7 +1,7 @@
 use Rattle.std.proofs.Common.{ℕ, List, ◌++◌, Some, subst, ◌∙◌, arith, ap, length, length-drop}
 use Rattle.std.proofs.lemmas.List.{take_all, take_rest}
 use Rattle.wire_story.specs.Format.Delivery.{StoryEvent}
-use Rattle.wire_message.specs.Format.Reading.{Told, CountsCause}
+use Rattle.wire_message.specs.States.Reading.{TellsStory, CountsCause}
 use Rattle.std.proofs.Common.{[], refl}
 use Rattle.wire_message.proofs.Readings.{stays_standing, leads_on_front, somewhere_front, refuses_front, delivered_both}
 use Rattle.wire_message.proofs.piece.take_piece.Goals as goal
@@ -54,7 +54,7 @@ returns-clause-takes g c =
     let i = c.loop-at.invariant in
     record {
       is_place = i.is_place;
-      told = subst (λ (xs : List ℕ). Told g.S.StorySink.goes c.args.sink.now (Some c.args.place.now) xs (Some c.loop-at.place) c.loop-at.sink) (take_all c.loop-at.at c.args.piece.now (omega arith)) i.told;
+      told = subst (λ (xs : List ℕ). TellsStory g.S.StorySink.goes c.args.sink.now (Some c.args.place.now) xs (Some c.loop-at.place) c.loop-at.sink) (take_all c.loop-at.at c.args.piece.now (omega arith)) i.told;
       calm = i.calm;
     }
 

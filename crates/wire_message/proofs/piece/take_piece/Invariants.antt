@@ -1,6 +1,6 @@
 use Rattle.std.proofs.Common.{◌≡◌, ◌≤◌, ◌-◌, take, length, Some}
-use Rattle.wire_message.specs.Format.SoFar.{IsPlace}
-use Rattle.wire_message.specs.Format.Reading.{Told}
+use Rattle.wire_message.specs.States.SoFar.{IsPlace}
+use Rattle.wire_message.specs.States.Reading.{TellsStory}
 use Rattle.wire_message.proofs.piece.take_piece.Given as goal
 
 -- the octets so far have led here, and the sink was told what they deliver
@@ -8,7 +8,7 @@ abbrev pub invariant-loop-at : goal.invariant-loop-at
 invariant-loop-at g l = record {
   is_place : IsPlace l.place;
   within : l.at ≤ length l.piece;
-  told : Told g.S.StorySink.goes l.initial.sink (Some l.initial.place) (take l.at l.piece) (Some l.place) l.sink;
+  told : TellsStory g.S.StorySink.goes l.initial.sink (Some l.initial.place) (take l.at l.piece) (Some l.place) l.sink;
   nothing : length l.piece ≡ 0 → (l.place ≡ l.initial.place) × (l.sink ≡ l.initial.sink);
   calm : g.S.StorySink.failures l.sink ≡ g.S.StorySink.failures l.initial.sink;
 }

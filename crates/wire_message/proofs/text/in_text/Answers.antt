@@ -2,9 +2,9 @@ use Rattle.std.proofs.Common.{◌≡◌, List, ◌++◌, ℕ, take, slice_index,
 use Rattle.std.proofs.Math.Seq.{take-length}
 use Rattle.wire_story.specs.declared.fault.TextCause.{TextCause}
 use Rattle.wire_story.specs.declared.fault.TextCause.TheVariants as text_cause
-use Rattle.wire_story.specs.Format.Reading as story
+use Rattle.wire_story.specs.States.Reading as story
 use Rattle.wire_message.specs.Format.Messages.{IsTrailer}
-use Rattle.wire_message.specs.Format.Reading.{Refuses, LeadsOn, CountsCause}
+use Rattle.wire_message.specs.States.Reading.{Refuses, LeadsOn, CountsCause}
 use Rattle.wire_message.specs.Steps.{cause_of}
 use Rattle.wire_message.specs.declared.fault.MessageCause.{MessageCause}
 use Rattle.wire_message.specs.declared.place.Place.TheVariants.{Text}

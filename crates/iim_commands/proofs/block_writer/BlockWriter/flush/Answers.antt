@@ -1,5 +1,5 @@
 use Rattle.std.proofs.Common.{rules, [], refl}
-use Rattle.iim_dataset.specs.Format.Devices.{Rose}
+use Rattle.iim_dataset.specs.Format.Counts.{Rose}
 use Rattle.iim_commands.proofs.Holding.{lets_out, puts_of_put, puts_of_stuck, stays_stuck}
 use Rattle.iim_commands.proofs.block_writer.BlockWriter.flush.Goals as goal
 

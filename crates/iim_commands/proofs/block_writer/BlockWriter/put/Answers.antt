@@ -1,5 +1,5 @@
 use Rattle.std.proofs.Common.{[], take, sym, subst}
-use Rattle.iim_commands.specs.Format.Holding.{HasStuck, PutsOn}
+use Rattle.iim_commands.specs.States.Holding.{HasStuck, PutsOn}
 use Rattle.iim_commands.specs.HoldingLaws.{put_on, puts_on}
 use Rattle.iim_commands.proofs.Holding.{if_err, on_ok, stuck_on}
 use Rattle.iim_commands.proofs.block_writer.BlockWriter.put.Goals as goal

@@ -1,4 +1,4 @@
-use Rattle.iim_commands.specs.Format.Holding.{PutsOn}
+use Rattle.iim_commands.specs.States.Holding.{PutsOn}
 use Rattle.iim_commands.proofs.Holding.{none_of_one, taken_none}
 use Rattle.iim_commands.proofs.block_writer.BlockWriterStorySink.line_end.Goals as goal
 

@@ -1,5 +1,5 @@
 use Rattle.std.proofs.Common.{◌≤◌, ◌+◌, ap, arith}
-use Rattle.iim_commands.specs.Format.Held.{Holding}
+use Rattle.iim_commands.specs.States.Held.{Holding}
 use Rattle.iim_commands.proofs.HeldOctets.{few_out, passes}
 use Rattle.iim_commands.proofs.held.Held.pass.Goals as goal
 

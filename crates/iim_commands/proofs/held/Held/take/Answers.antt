@@ -1,5 +1,5 @@
 use Rattle.std.proofs.Common.{ap}
-use Rattle.iim_commands.specs.Format.Held.{Holding}
+use Rattle.iim_commands.specs.States.Held.{Holding}
 use Rattle.iim_commands.proofs.HeldOctets.{takes}
 use Rattle.iim_commands.proofs.held.Held.take.Goals as goal
 

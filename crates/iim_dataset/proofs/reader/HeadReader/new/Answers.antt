@@ -1,6 +1,6 @@
 use Rattle.std.proofs.Common.{[], subst, sym}
 use Rattle.iim_dataset.specs.Format.Datasets.{count_octets}
-use Rattle.iim_dataset.specs.Format.Places.{LeadsTo}
+use Rattle.iim_dataset.specs.States.Places.{LeadsTo}
 use Rattle.iim_dataset.specs.declared.place.DatasetPlace.{DatasetPlace}
 use Rattle.iim_dataset.proofs.Places.{begins}
 use Rattle.iim_dataset.proofs.reader.HeadReader.new.Goals as goal

@@ -2,9 +2,9 @@ use Rattle.std.proofs.Common.{◌≡◌, List, ℕ, length-append, ◌∷◌, �
 use Rattle.std.specs.Prelude.{vec_capacity}
 use Rattle.iim_dataset.specs.Format.Datasets.{Dataset}
 use Rattle.iim_fields.specs.Format.Faults.{room_fault}
-use Rattle.iim_fields.specs.Format.Checks.{HasChecked}
-use Rattle.iim_fields.specs.Stores.{fields_of}
-use Rattle.iim_fields.specs.Format.Builders.{Building, add_fault}
+use Rattle.iim_fields.specs.States.Checks.{HasChecked}
+use Rattle.iim_fields.specs.StoreLayout.{fields_of}
+use Rattle.iim_fields.specs.States.Builders.{Building, add_fault}
 use Rattle.iim_fields.specs.declared.check.RecordPlace.{RecordPlace}
 use Rattle.iim_fields.proofs.Handed.{handed_on}
 use Rattle.iim_fields.proofs.Build.{Stored, added_room_fault, added_value_fault, added_fine, fields_more, building_more}

@@ -1,5 +1,5 @@
 use Rattle.std.proofs.Common.{◌≡◌, sym, ◌∙◌, subst, arith, Option, Some}
-use Rattle.iim_fields.specs.Format.Checks.{TakesHead, HasChecked}
+use Rattle.iim_fields.specs.States.Checks.{TakesHead, HasChecked}
 use Rattle.iim_fields.specs.Checking.{IsRecordPlace}
 use Rattle.iim_fields.specs.declared.check.RecordPlace.{RecordPlace}
 use Rattle.iim_fields.proofs.Checking.{taken_by, record_fault_by, place_headed, same_place}

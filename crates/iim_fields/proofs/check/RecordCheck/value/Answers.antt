@@ -1,5 +1,5 @@
 use Rattle.std.proofs.Common.{◌≡◌, sym, ◌∙◌, subst, arith, refl, Option, Some}
-use Rattle.iim_fields.specs.Format.Checks.{IsIn, IsChecking}
+use Rattle.iim_fields.specs.States.Checks.{IsIn, IsChecking}
 use Rattle.iim_fields.specs.declared.check.RecordPlace.{RecordPlace}
 use Rattle.iim_fields.proofs.Checking.{checked_value, value_fault_by, awaited_count}
 use Rattle.iim_fields.proofs.check.RecordCheck.value.Goals as goal

@@ -1,5 +1,5 @@
 use Rattle.std.proofs.Common.{◌≡◌, sym, ◌∙◌, subst, arith, true, Option, Some}
-use Rattle.iim_fields.specs.Format.Checks.{IsBetween, HasChecked}
+use Rattle.iim_fields.specs.States.Checks.{AwaitsHead, HasChecked}
 use Rattle.iim_fields.specs.Checking.{IsRecordPlace, TookWhole}
 use Rattle.iim_fields.specs.declared.check.RecordPlace.{RecordPlace}
 use Rattle.iim_fields.proofs.Checking.{same_place}
@@ -7,8 +7,8 @@ use Rattle.iim_fields.proofs.Wholes.{exactly_by, took_by, place_either}
 use Rattle.iim_fields.proofs.check.RecordCheck.whole.Goals as goal
 
 -- it was between datasets at this place
-between : (c : goal.After-whole) → IsBetween (Some c.in-Some.place)
-between c = subst IsBetween (sym (sym c.in-Some.is ∙ c.self.view_is)) c.requires.between
+between : (c : goal.After-whole) → AwaitsHead (Some c.in-Some.place)
+between c = subst AwaitsHead (sym (sym c.in-Some.is ∙ c.self.view_is)) c.requires.between
 
 took : (c : goal.After-whole) → c.whole.result ≡ true → TookWhole (Some c.in-Some.place) (Some c.whole.new.self) c.args.head c.args.octets.now
 took c is =

@@ -1,5 +1,5 @@
 use Rattle.std.proofs.Common.{◌≡◌, sym, ◌∙◌, subst, arith, true, Option, Some}
-use Rattle.iim_fields.specs.Format.Checks.{IsBetween, HasChecked}
+use Rattle.iim_fields.specs.States.Checks.{AwaitsHead, HasChecked}
 use Rattle.iim_fields.specs.Checking.{IsRecordPlace, TookSubfile}
 use Rattle.iim_fields.specs.declared.check.RecordPlace.{RecordPlace}
 use Rattle.iim_fields.proofs.Checking.{same_place}
@@ -7,8 +7,8 @@ use Rattle.iim_fields.proofs.Subfiles.{subfile_exactly, subfile_took, place_subf
 use Rattle.iim_fields.proofs.check.RecordCheck.whole_subfile.Goals as goal
 
 -- it was between datasets at this place
-between : (c : goal.After-whole_subfile) → IsBetween (Some c.in-Some.place)
-between c = subst IsBetween (sym (sym c.in-Some.is ∙ c.self.view_is)) c.requires.between
+between : (c : goal.After-whole_subfile) → AwaitsHead (Some c.in-Some.place)
+between c = subst AwaitsHead (sym (sym c.in-Some.is ∙ c.self.view_is)) c.requires.between
 
 took : (c : goal.After-whole_subfile) → c.whole_subfile.result ≡ true → TookSubfile (Some c.in-Some.place) (Some c.whole_subfile.new.self) c.args.head
 took c is = subfile_took c.each_row_has_values.ensures c.in-Some.place c.whole_subfile.new.self c.args.head (omega arith) (between c) (c.whole_subfile.ensures.took is)

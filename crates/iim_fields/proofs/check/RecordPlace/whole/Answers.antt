@@ -1,6 +1,6 @@
 use Rattle.std.proofs.Common.{refl, sym, ◌∙◌}
 use Rattle.iim_fields.specs.Format.Faults.{head_fault, value_fault}
-use Rattle.iim_fields.specs.Format.Orders.{has_seen}
+use Rattle.iim_fields.specs.States.Orders.{has_seen}
 use Rattle.iim_fields.specs.Format.Values.{data_of}
 use Rattle.iim_fields.proofs.Wholes.{none_where, first_fails, second_fails, neither_fails}
 use Rattle.iim_fields.proofs.check.RecordPlace.whole.Goals as goal

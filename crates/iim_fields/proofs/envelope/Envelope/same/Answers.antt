@@ -1,8 +1,8 @@
 use Rattle.std.proofs.Common.{◌≡◌, Bool, true, ◌&&◌, nat_eq, refl, sym, ap, ◌∙◌, subst}
 use lib.Pointwise.{pointwise_decides, bytes_decides}
 use Rattle.std.proofs.lemmas.Bool.{and_parts, and_from, eqb-true}
-use Rattle.iim_fields.specs.Format.Stores.{fields_from}
-use Rattle.iim_fields.specs.Stores.{entries_of}
+use Rattle.iim_fields.specs.States.Stores.{fields_from}
+use Rattle.iim_fields.specs.StoreLayout.{entries_of}
 use Rattle.iim_fields.specs.declared.store.Entry.{Entry}
 use Rattle.iim_fields.specs.contracts.store.EntryPartialEq.TheImpl.{eq-value}
 use Rattle.iim_fields.proofs.Runs.{eq_itself}

@@ -1,5 +1,5 @@
 use Rattle.std.proofs.Common.{length, ◌∙◌}
-use Rattle.iim_fields.specs.Stores.{is_sound}
+use Rattle.iim_fields.specs.StoreLayout.{is_sound}
 use Rattle.iim_fields.proofs.Sound.{sound}
 use Rattle.iim_fields.proofs.envelope_ref.EnvelopeRef.fields.Goals as goal
 

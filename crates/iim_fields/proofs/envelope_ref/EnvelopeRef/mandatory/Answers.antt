@@ -2,7 +2,7 @@ use Rattle.std.proofs.Common.{◌≡◌, true, subst, List}
 use Rattle.std.specs.Prelude.{is_some}
 use Rattle.iim_dataset.specs.Format.Datasets.{Dataset}
 use Rattle.iim_fields.specs.Format.Views.{first_data}
-use Rattle.iim_fields.specs.Stores.{fields_of}
+use Rattle.iim_fields.specs.StoreLayout.{fields_of}
 use Rattle.iim_fields.proofs.Mandatory.{found}
 use Rattle.iim_fields.proofs.envelope_ref.EnvelopeRef.mandatory.Goals as goal
 

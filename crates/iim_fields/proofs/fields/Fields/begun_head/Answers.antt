@@ -1,5 +1,5 @@
 use Rattle.std.proofs.Common.{ap, ◌∙◌}
-use Rattle.iim_fields.specs.Format.Standing.{FieldsPlace, begun_head_of}
+use Rattle.iim_fields.specs.States.Standing.{FieldsPlace, begun_head_of}
 use Rattle.iim_fields.proofs.Stand.{begun_after, begun_in}
 use Rattle.iim_fields.proofs.fields.Fields.begun_head.Goals as goal
 

@@ -1,7 +1,7 @@
 use Rattle.std.proofs.Common.{◌≡◌, List, ℕ, length, ◌++◌, ◌-◌, sym, subst, refl, ◌∙◌, arith, OnOk}
 use Rattle.iim_dataset.specs.Format.Datasets.{Dataset}
 use Rattle.iim_dataset.specs.declared.head.Head.{Head}
-use Rattle.iim_fields.specs.Format.Standing.{FieldsPlace, CanTake, IsInside, StandsIn}
+use Rattle.iim_fields.specs.States.Standing.{FieldsPlace, CanTake, IsInside, StandsIn}
 use Rattle.iim_fields.specs.Reading.{place_of}
 use Rattle.iim_fields.proofs.Stand.{stands_more, inside_more, reading_stored, reading_sized, taken_in_store, taken_in_size, size_room}
 use Rattle.iim_fields.proofs.fields.Fields.bytes.Goals as goal

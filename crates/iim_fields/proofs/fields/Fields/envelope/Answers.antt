@@ -1,5 +1,5 @@
 use Rattle.std.proofs.Common.{◌≡◌, false, true, sym, subst, ◌∙◌, refl}
-use Rattle.iim_fields.specs.Format.Standing.{IsEnded}
+use Rattle.iim_fields.specs.States.Standing.{IsEnded}
 use Rattle.iim_fields.proofs.Keeping.{whole_where_ended, ended_where_whole, ended_store}
 use Rattle.iim_fields.proofs.fields.Fields.envelope.Goals as goal
 

@@ -1,6 +1,5 @@
 use Rattle.std.proofs.Common.{length, ◌∙◌}
-use Rattle.iim_fields.specs.Stores.{fields_of, begun_octets}
-use Rattle.iim_fields.specs.Stores.{is_sound}
+use Rattle.iim_fields.specs.StoreLayout.{fields_of, begun_octets, is_sound}
 use Rattle.iim_fields.proofs.Sound.{sound_holding}
 use Rattle.iim_fields.proofs.fields.Fields.kept.Goals as goal
 

@@ -1,5 +1,5 @@
 use Rattle.std.proofs.Common.{ap, ◌∙◌}
-use Rattle.iim_fields.specs.Format.Standing.{FieldsPlace, section_of}
+use Rattle.iim_fields.specs.States.Standing.{FieldsPlace, section_of}
 use Rattle.iim_fields.proofs.Stand.{section_in}
 use Rattle.iim_fields.proofs.fields.Fields.section.Goals as goal
 

@@ -4,7 +4,7 @@ use Rattle.std.specs.Option.{option_or}
 use Rattle.iim_dataset.specs.Format.Datasets.{Dataset}
 use Rattle.iim_fields.specs.Format.Values.{data_of}
 use Rattle.iim_fields.specs.Format.Faults.{first_fault, value_fault}
-use Rattle.iim_fields.specs.Format.Standing.{FieldsPlace, IsBetween, StandsAfter, limits_of}
+use Rattle.iim_fields.specs.States.Standing.{FieldsPlace, IsBetween, StandsAfter, limits_of}
 use Rattle.iim_fields.specs.Reading.{place_of}
 use Rattle.iim_fields.proofs.Wholes.{number_exactly, number_stands, number_reading}
 use Rattle.iim_fields.proofs.fields.Fields.whole_number.Goals as goal

@@ -2,7 +2,7 @@ use Rattle.std.proofs.Common.{◌≡◌, List, sym, subst}
 use Rattle.std.specs.Prelude.{is_none}
 use Rattle.iim_dataset.specs.Format.Datasets.{Dataset}
 use Rattle.iim_fields.specs.Format.Faults.{first_fault}
-use Rattle.iim_fields.specs.Format.Standing.{FieldsPlace, IsBetween, PassesSubfile, StandsAfter, limits_of}
+use Rattle.iim_fields.specs.States.Standing.{FieldsPlace, IsBetween, PassesSubfile, StandsAfter, limits_of}
 use Rattle.iim_fields.specs.Reading.{place_of}
 use Rattle.iim_fields.proofs.Subfiles.{fields_exactly, fields_pass, fields_reading}
 use Rattle.iim_fields.proofs.fields.Fields.whole_subfile.Goals as goal

@@ -1,6 +1,6 @@
 use Rattle.std.proofs.Common.{Bool, ◌&&◌, ap, sym, ◌∙◌}
-use Rattle.iim_fields.specs.Format.Orders.{has_seen}
-use Rattle.iim_fields.specs.Orders.{takes_subfile}
+use Rattle.iim_fields.specs.States.Orders.{has_seen}
+use Rattle.iim_fields.specs.OrderChanges.{takes_subfile}
 use Rattle.iim_fields.proofs.Subfiles.{subfile_admitted}
 use Rattle.iim_fields.proofs.order.Order.admits_subfile.Goals as goal
 

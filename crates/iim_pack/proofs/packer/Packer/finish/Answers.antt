@@ -1,9 +1,9 @@
 use Rattle.std.proofs.Common.{◌≡◌, ℕ, List, sym, subst, ◌∙◌}
 use Rattle.std.specs.Prelude.{IfSome}
-use Rattle.iim_object.specs.Format.Writing as object
-use Rattle.iim_object.specs.Format.Writing.{total_of}
+use Rattle.iim_object.specs.States.Writing as object
+use Rattle.iim_object.specs.States.Writing.{total_of}
 use Rattle.wire_message.specs.Format.Canonical.{packed_tail}
-use Rattle.iim_pack.specs.Format.Packing.{Finishes, BreaksOff, EndsIn, finish_cause}
+use Rattle.iim_pack.specs.States.Packing.{Finishes, BreaksOff, EndsIn, finish_cause}
 use Rattle.iim_pack.specs.Ending.{Ends, EndsWithTail}
 use Rattle.iim_pack.proofs.Goings.{if_none}
 use Rattle.iim_pack.proofs.Finishings.{may_end, finished, unfinished}

@@ -1,10 +1,10 @@
 use Rattle.std.proofs.Common.{List, [], ◌∷◌, sym, subst, ◌∙◌}
 use Rattle.std.specs.Prelude.{OnOk, OnErr}
-use Rattle.iim_object.specs.Format.Writing as object
-use Rattle.iim_object.specs.Format.Writing.{write_cause}
+use Rattle.iim_object.specs.States.Writing as object
+use Rattle.iim_object.specs.States.Writing.{write_cause}
 use Rattle.wire_story.specs.Format.Delivery.{StoryEvent, LineEnd}
 use Rattle.wire_story.specs.Format.Packing.{packed_events}
-use Rattle.iim_pack.specs.Format.Packing.{Lengthens, BreaksOff, ContinuesWith, line_end_cause}
+use Rattle.iim_pack.specs.States.Packing.{Lengthens, BreaksOff, ContinuesWith, line_end_cause}
 use Rattle.iim_pack.proofs.Goings.{on_ok, on_err, if_none, of_none, lengthened, broken, may_write}
 use Rattle.iim_pack.proofs.Beginnings.{begun_on}
 use Rattle.iim_pack.proofs.Orders.{line_end_order}

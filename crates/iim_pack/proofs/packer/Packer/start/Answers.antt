@@ -1,8 +1,8 @@
 use Rattle.std.proofs.Common.{List, ℕ, ◌+◌, inr, refl, subst, ◌∙◌}
 use Rattle.iim_object.specs.declared.plan.Plan.{Plan}
-use Rattle.iim_pack.specs.Starting.{Opens, IsWrittenFrom}
-use Rattle.iim_pack.specs.Format.Starting.{Halts}
-use Rattle.iim_pack.specs.Format.Packing.{start_cause}
+use Rattle.iim_pack.specs.Opening.{Opens, IsWrittenFrom}
+use Rattle.iim_pack.specs.States.Starting.{StartBreaksOff}
+use Rattle.iim_pack.specs.States.Packing.{start_cause}
 use Rattle.iim_pack.proofs.Goings.{if_none}
 use Rattle.iim_pack.proofs.Startings.{fields_broke, object_broke, started}
 use Rattle.iim_pack.proofs.Beginnings.{begun_at_start}
@@ -28,8 +28,8 @@ returns-in-Err-open_object-clause-fault g c =
     let state = g.W.Target.state in
     let fault = c.in-Err-open_object.fault in
     let front = c.as_slice-front.ensures.value ∙ c.head_text-text.ensures.octets in
-    let planned = subst (λ (p : Plan). Halts state (IsWrittenFrom p c.as_slice-front.result.now) c.put_fields.new.writer fault) c.in-Ok.ensures c.in-Err-open_object.ensures.err in
-    let halts = subst (λ (t : List ℕ). Halts state (IsWrittenFrom c.args.plan t) c.put_fields.new.writer fault) front planned in
+    let planned = subst (λ (p : Plan). StartBreaksOff state (IsWrittenFrom p c.as_slice-front.result.now) c.put_fields.new.writer fault) c.in-Ok.ensures c.in-Err-open_object.ensures.err in
+    let halts = subst (λ (t : List ℕ). StartBreaksOff state (IsWrittenFrom c.args.plan t) c.put_fields.new.writer fault) front planned in
     if_none (start_cause c.args.head.now c.args.plan) _
     (inr (object_broke state c.args.writer c.put_fields.new.writer c.args.envelope.now c.args.head.now c.args.plan c.in-Ok-put_fields.before fault
     (record { cause = fault.cause; writer = fault.writer; written = c.in-Ok-put_fields.before + fault.written }) c.texts_join.ensures c.in-Ok-put_fields.ensures.ok c.in-Ok-put_fields.ensures.all halts refl refl refl))

@@ -1,10 +1,10 @@
 use Rattle.std.proofs.Common.{ℕ, List, length, map, sym, subst, ◌∙◌}
 use Rattle.std.specs.Prelude.{OnOk, OnErr}
-use Rattle.iim_object.specs.Format.Writing as object
-use Rattle.iim_object.specs.Format.Writing.{write_cause}
+use Rattle.iim_object.specs.States.Writing as object
+use Rattle.iim_object.specs.States.Writing.{write_cause}
 use Rattle.wire_story.specs.Format.Delivery.{StoryEvent, LineOctet}
 use Rattle.wire_story.specs.Format.Packing.{AreEvents}
-use Rattle.iim_pack.specs.Format.Packing.{Lengthens, BreaksOff, ContinuesWith, text_cause}
+use Rattle.iim_pack.specs.States.Packing.{Lengthens, BreaksOff, ContinuesWith, text_cause}
 use Rattle.iim_pack.proofs.Goings.{on_ok, on_err, if_none, of_none, line_packed, line_events, lengthened, broken, may_write}
 use Rattle.iim_pack.proofs.Beginnings.{begun_on}
 use Rattle.iim_pack.proofs.Orders.{text_order}

@@ -1,5 +1,5 @@
-use Rattle.iim_dataset.specs.Format.Devices.{Device}
-use Rattle.iim_unpack.specs.Format.Blocks.{with_held}
+use Rattle.iim_dataset.specs.States.Devices.{Device}
+use Rattle.iim_unpack.specs.States.Blocks.{with_held}
 use Rattle.iim_unpack.proofs.Intakes.{somewhere, fed_envelope, given_by}
 use Rattle.iim_unpack.proofs.intake.Intake.next_envelope.Goals as goal
 

@@ -1,6 +1,6 @@
 use Rattle.std.proofs.Common.{ℕ, refl, ap, subst}
-use Rattle.iim_object.specs.Format.Reading.{EndsAs}
-use Rattle.iim_fields.specs.Format.Standing.{FieldsPlace}
+use Rattle.iim_object.specs.States.Reading.{EndsAs}
+use Rattle.iim_fields.specs.States.Standing.{FieldsPlace}
 use Rattle.iim_unpack.specs.declared.parts.Parts.{Parts}
 use Rattle.iim_unpack.proofs.Wholes.{end_went, end_ends}
 use Rattle.iim_unpack.proofs.parts.Parts.whole_end.Goals as goal

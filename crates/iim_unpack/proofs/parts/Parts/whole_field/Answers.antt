@@ -1,5 +1,5 @@
 use Rattle.std.proofs.Common.{ap, refl}
-use Rattle.iim_fields.specs.Format.Standing.{FieldsPlace}
+use Rattle.iim_fields.specs.States.Standing.{FieldsPlace}
 use Rattle.iim_unpack.specs.declared.parts.Parts.{Parts}
 use Rattle.iim_unpack.proofs.Wholes.{whole_went, takes_either}
 use Rattle.iim_unpack.proofs.parts.Parts.whole_field.Goals as goal

@@ -1,8 +1,8 @@
 use Rattle.std.proofs.Common.{ℕ, refl, ap, sym, subst}
 use Rattle.iim_object.specs.Format.Objects.{NumberRead}
-use Rattle.iim_object.specs.Format.Reading.{LeadsOn}
-use Rattle.iim_fields.specs.Format.Standing.{FieldsPlace}
-use Rattle.iim_unpack.specs.Parts.{TakesHead}
+use Rattle.iim_object.specs.States.Reading.{LeadsOn}
+use Rattle.iim_fields.specs.States.Standing.{FieldsPlace}
+use Rattle.iim_unpack.specs.PartSteps.{TakesHead}
 use Rattle.iim_unpack.specs.declared.parts.Parts.{Parts}
 use Rattle.iim_unpack.proofs.Wholes.{number_went, number_takes}
 use Rattle.iim_unpack.proofs.parts.Parts.whole_number.Goals as goal

@@ -1,6 +1,6 @@
 use Rattle.std.proofs.Common.{Option, take, slice_index, sym, subst, arith}
 use Rattle.std.specs.Prelude.{IsSome}
-use Rattle.iim_object.specs.declared.state.State.{State}
+use Rattle.iim_object.specs.declared.reading.state.State.{State}
 use Rattle.iim_unpack.proofs.Octets.{are_octets}
 use Rattle.iim_unpack.proofs.WholeSubfiles.{subfile_went, subfile_stopped, subfile_takes}
 use Rattle.iim_unpack.proofs.parts.Parts.whole_subfile.Goals as goal

@@ -1,9 +1,9 @@
 use Rattle.std.proofs.Common.{◌≡◌, ℕ, [], true, false, refl, ap, sym, subst, ◌∙◌}
 use Rattle.iim_unpack.specs.Format.Refusals.{refusal_at}
-use Rattle.iim_unpack.specs.Format.Unpacking.{Unpacking, Stands, IsRefusedIn, limits_in}
-use Rattle.iim_unpack.specs.Format.Parts.{has_ended}
+use Rattle.iim_unpack.specs.States.Unpacking.{Unpacking, Stands, IsRefusedIn, limits_in}
+use Rattle.iim_unpack.specs.States.Parts.{has_ended}
 use Rattle.wire_story.specs.Format.Delivery as story
-use Rattle.iim_unpack.specs.Format.Held.{HoldsFew}
+use Rattle.iim_unpack.specs.States.Held.{HoldsFew}
 use Rattle.iim_unpack.proofs.Held.{holds_few}
 use Rattle.iim_unpack.proofs.Feeding.{goes_more, goes_done, refused_in, sound_more, sound_done}
 use Rattle.iim_unpack.proofs.unpacker.Unpacker.feed.Goals as goal

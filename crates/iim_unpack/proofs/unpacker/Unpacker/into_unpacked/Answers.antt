@@ -1,6 +1,6 @@
 use Rattle.std.proofs.Common.{◌≡◌, ℕ, true, false, Some, List, ◌++◌, length, ap, sym, subst, ◌∙◌, arith}
 use Rattle.std.specs.Option.{option_map}
-use Rattle.iim_unpack.specs.Format.Unpacking.{Unpacking, IsDone, IsDoneWith}
+use Rattle.iim_unpack.specs.States.Unpacking.{Unpacking, IsDone, IsDoneWith}
 use Rattle.iim_unpack.proofs.Feeding.{hands_over, some_head, short_trailer, all_sections}
 use Rattle.iim_unpack.proofs.unpacker.Unpacker.into_unpacked.Goals as goal
 

@@ -1,6 +1,6 @@
 use Rattle.std.proofs.Common.{◌≡◌, ℕ, ◌+◌, ◌*◌, ◌≤◌, length, Option, Some, None, is_some, false, refl, ◌⊎◌, sym, subst, ◌∙◌}
-use Rattle.iim_unpack.specs.Format.Unpacking.{Unpacking, Stands, IsDoneWith, limits_in}
-use Rattle.iim_unpack.specs.Unpacking.{Stood}
+use Rattle.iim_unpack.specs.States.Unpacking.{Unpacking, Stands, IsDoneWith, limits_in}
+use Rattle.iim_unpack.specs.UnpackerInside.{Stood}
 use Rattle.iim_unpack.proofs.Tickets.{ticket_by}
 use Rattle.iim_unpack.proofs.TicketLengths.{short_ticket}
 use Rattle.iim_unpack.proofs.unpacker.Unpacker.save.Goals as goal

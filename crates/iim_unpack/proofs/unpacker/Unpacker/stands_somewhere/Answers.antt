@@ -1,6 +1,6 @@
 use Rattle.std.proofs.Common.{ap, subst, ◌∙◌}
-use Rattle.iim_unpack.specs.Format.Unpacking.{Unpacking}
-use Rattle.iim_unpack.specs.Unpacking.{Stood}
+use Rattle.iim_unpack.specs.States.Unpacking.{Unpacking}
+use Rattle.iim_unpack.specs.UnpackerInside.{Stood}
 use Rattle.iim_unpack.proofs.unpacker.Unpacker.stands_somewhere.Goals as goal
 
 pub returns-clause-stood : goal.returns-clause-stood

@@ -1,6 +1,6 @@
 use Rattle.std.proofs.Common.{◌≡◌, Option, None, Some, IsSome, sym, ap, subst, ◌∙◌}
 use Rattle.std.specs.Option.{option_map}
-use Rattle.iim_unpack.specs.Format.Unpacking.{Unpacking, IsDone, IsDoneWith}
+use Rattle.iim_unpack.specs.States.Unpacking.{Unpacking, IsDone, IsDoneWith}
 use Rattle.iim_unpack.proofs.Feeding.{shows, some_head, all_sections}
 use Rattle.iim_unpack.proofs.unpacker.Unpacker.unpacked.Goals as goal
 

@@ -1,5 +1,5 @@
 use Rattle.std.proofs.Common.{◌≡◌, sym, subst, ◌∙◌, false}
-use Rattle.wire_message.specs.Format.Reading.{IsWhole, is_ended}
+use Rattle.wire_message.specs.States.Reading.{IsWhole, is_ended}
 use Rattle.wire_message.proofs.Readings.{is_whole, is_unfinished}
 use Rattle.wire_message.proofs.reader.MessageReader.close.Goals as goal
 

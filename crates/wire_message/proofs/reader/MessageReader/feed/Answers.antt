@@ -1,5 +1,5 @@
 use Rattle.std.proofs.Common.{take, Some, sym, subst, ◌∙◌}
-use Rattle.wire_message.specs.Format.Reading.{LivesOn, Refuses, Told, ToldFront}
+use Rattle.wire_message.specs.States.Reading.{LivesOn, Refuses, TellsStory, TellsFront}
 use Rattle.wire_message.proofs.Standing.{lives_on, lives_somewhere}
 use Rattle.wire_message.proofs.reader.MessageReader.feed.Goals as goal
 
@@ -10,7 +10,7 @@ returns-in-Ok-clause-taken g c =
       lives =
           subst (λ reader. LivesOn reader c.args.piece.now) (sym same)
           (lives_on c.readers_stand_at_living_octets.ensures _ _ c.args.piece.now takes.told.0 takes.told.2);
-      told = subst (λ reader. Told g.S.StorySink.goes c.args.sink.now reader c.args.piece.now (Some c.take_piece.new.place) c.take_piece.new.sink) (sym same) takes.told;
+      told = subst (λ reader. TellsStory g.S.StorySink.goes c.args.sink.now reader c.args.piece.now (Some c.take_piece.new.place) c.take_piece.new.sink) (sym same) takes.told;
       calm = takes.calm;
     }
 
@@ -24,6 +24,6 @@ returns-in-Err-clause-refused g c =
           subst (λ reader. LivesOn reader front) (sym same)
           (lives_somewhere c.readers_stand_at_living_octets.ensures _ front stops.told.0 stops.told.2);
       refused = subst (λ reader. Refuses reader c.args.piece.now c.in-Err.fault) (sym same) stops.refused;
-      told = subst (λ reader. ToldFront g.S.StorySink.goes c.args.sink.now reader front c.take_piece.new.sink) (sym same) stops.told;
+      told = subst (λ reader. TellsFront g.S.StorySink.goes c.args.sink.now reader front c.take_piece.new.sink) (sym same) stops.told;
       counted = stops.counted;
     }

@@ -1,6 +1,6 @@
 use Rattle.std.proofs.Common.{ap, sym, ◌∙◌}
 use Rattle.wire_message.proofs.Readings.{is_unfinished}
-use Rattle.wire_message.specs.Format.Reading.{is_ended}
+use Rattle.wire_message.specs.States.Reading.{is_ended}
 use Rattle.wire_message.proofs.reader.MessageReader.is_whole.Goals as goal
 
 pub returns-clause-unfinished : goal.returns-clause-unfinished

@@ -1,6 +1,6 @@
 use Rattle.std.proofs.Common.{ℕ, List, [], ◌∷◌, ◌++◌, ap, subst, sym, ◌∙◌}
 use Rattle.wire_story.specs.Format.Texts.{MakeText}
-use Rattle.wire_story.specs.Format.Collecting.{Collected}
+use Rattle.wire_story.specs.States.Collecting.{Collected}
 use Rattle.wire_story.specs.Joining.{lines_in}
 use Rattle.wire_story.proofs.Collected.{push_end, end_made}
 use Rattle.wire_story.proofs.lines.LinesStorySink.line_end.Goals as goal

@@ -1,7 +1,7 @@
 use Rattle.std.proofs.Common.{ℕ, List, map, ap, subst, sym, ◌∙◌}
 use Rattle.wire_story.specs.Format.Texts.{MakeText}
 use Rattle.wire_story.specs.Format.Delivery.{LineOctet}
-use Rattle.wire_story.specs.Format.Collecting.{Collected, collect}
+use Rattle.wire_story.specs.States.Collecting.{Collected, collect}
 use Rattle.wire_story.specs.Joining.{lines_in}
 use Rattle.wire_story.proofs.Collected.{push_run, text_made}
 use Rattle.wire_story.proofs.lines.LinesStorySink.text.Goals as goal

@@ -1,5 +1,5 @@
 use Rattle.std.proofs.Common.{ℕ, List, take, Result, Ok, Err, OnOk, IfErr, subst, sym}
-use Rattle.wire_story.specs.Format.Writing.{WritesOctets}
+use Rattle.wire_story.specs.States.Writing.{WritesOctets}
 use Rattle.wire_story.proofs.MadeTexts.{octets_of_line}
 use Rattle.wire_story.proofs.writer.LineWriterStorySink.text.Goals as goal
 

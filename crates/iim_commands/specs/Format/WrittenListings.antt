@@ -1,0 +1,40 @@
+-- Reports of inputs: `check` and `show`, each with its text of an envelope.
+use Rattle.std.specs.Prelude.{◌≡◌, ℕ, ◌⊎◌, List, length}
+use Rattle.iim_dataset.specs.States.Devices.{Device, Wrote, Stopped, Unfailed, HasGiven, MissedAfter}
+use Rattle.iim_dataset.specs.declared.device.IoFault.{IoFault}
+use Rattle.iim_unpack.specs.Format.Open.{IsOpen}
+use Rattle.iim_commands.specs.declared.fault.CommandFault.{CommandFault}
+use Rattle.iim_commands.specs.declared.fault.CommandFault.TheVariants.{CannotRead, CannotWrite, OutOfMemory}
+use Rattle.iim_commands.specs.States.Devices.{HasOctets}
+use Rattle.iim_commands.specs.Format.Listings.{limits}
+use Rattle.iim_unpack.specs.Format.Listing.{Divides, InputEnding, EndsBy, Listed, IsListing}
+use Rattle.iim_commands.specs.Format.Lines.{listing, status_of, texts_from}
+use Rattle.iim_commands.specs.Format.Statuses.{status_failed}
+
+-- The listing of the whole input is reported, and the status is the one for it. (The input before and after, then the output.)
+abbrev pub WritesListing : (ℕ → Listed → List ℕ) → Device → Device → Device → Device → ℕ → Type 0
+WritesListing text source rest old new status = (input : List ℕ) × (envelopes : List Listed) × (ending : InputEnding) × HasOctets source.octets input × Unfailed source rest
+    × IsListing limits input envelopes ending × (status ≡ status_of ending) × Wrote old new (listing text envelopes ending)
+
+-- The text is what is written of the envelopes, and perhaps the last line too.
+abbrev pub IsListingText : (ℕ → Listed → List ℕ) → List Listed → List ℕ → List ℕ → Type 0
+IsListingText text envelopes rest words = (words ≡ texts_from text 1 envelopes)
+    ⊎ ((ending : InputEnding) × EndsBy limits (length envelopes) rest ending × (words ≡ listing text envelopes ending))
+
+-- Why the listing isn't out. A read failed after envelopes and octets that every layer can continue from: all these envelopes are
+-- reported. Or the output broke inside the listing. Or memory was short: some of the envelopes that came are reported.
+abbrev pub FailsListing : (ℕ → Listed → List ℕ) → Device → Device → Device → Device → CommandFault → Type 0
+FailsListing text source rest old new CannotRead = (input : List ℕ) × (envelopes : List Listed) × (begun : List ℕ) × (fault : IoFault)
+    × Divides limits input envelopes begun × IsOpen limits begun × MissedAfter source rest input fault × Wrote old new (texts_from text 1 envelopes)
+FailsListing text source rest old new CannotWrite = (input : List ℕ) × (envelopes : List Listed) × (begun : List ℕ) × (words : List ℕ) × (n : ℕ)
+    × Divides limits input envelopes begun × HasGiven source rest input × IsListingText text envelopes begun words × Stopped old new words n
+FailsListing text source rest old new OutOfMemory = (input : List ℕ) × (envelopes : List Listed) × (begun : List ℕ)
+    × Divides limits input envelopes begun × HasGiven source rest input × Wrote old new (texts_from text 1 envelopes)
+
+-- The text is out, and the status is the wanted one; or the device broke inside it, and the status is 3.
+abbrev pub IsSaid : Device → Device → List ℕ → ℕ → ℕ → Type 0
+IsSaid old new text want status = (Wrote old new text × (status ≡ want)) ⊎ ((n : ℕ) × Stopped old new text n × (status ≡ status_failed))
+
+-- The output broke inside the text.
+abbrev pub IsUnsaid : Device → Device → List ℕ → CommandFault → Type 0
+IsUnsaid old new text fault = (fault ≡ CannotWrite) × (n : ℕ) × Stopped old new text n

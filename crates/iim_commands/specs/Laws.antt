@@ -1,0 +1,2 @@
+pub mod Narration
+pub mod Scripts

@@ -1,0 +1,5 @@
+pub mod Coming
+pub mod Devices
+pub mod Held
+pub mod Holding
+pub mod Silence

@@ -1,0 +1,15 @@
+use Rattle.std.proofs.Common.{◌-◌, ◌≤◌, length, take}
+use Rattle.iim_dataset.specs.States.Places.{IsPlace, TellsSink, to_come}
+use Rattle.iim_dataset.proofs.piece.take_piece.Given as goal
+
+-- the octets so far have led here, and the sink was told what they completed
+abbrev pub invariant-loop-at : goal.invariant-loop-at
+invariant-loop-at g l = record {
+  is_place : IsPlace l.now;
+  within : l.at ≤ length l.octets;
+  told : TellsSink g.D.DatasetSink.goes l.fn.place (take l.at l.octets) l.now l.initial.sink l.sink;
+  stands : g.D.DatasetSink.stands l.sink (to_come l.now);
+}
+
+abbrev pub decreases-loop-at : goal.decreases-loop-at
+decreases-loop-at g l = length l.octets - l.at

@@ -1,0 +1,15 @@
+use Rattle.std.proofs.Common.{◌≡◌, ◌-◌, ◌≤◌, length, take, None}
+use Rattle.iim_dataset.specs.States.Places.{TellsSink, between}
+use Rattle.iim_dataset.proofs.piece.take_wholes.Given as goal
+
+-- whole datasets so far, of which the sink was told
+abbrev pub invariant-loop-head : goal.invariant-loop-head
+invariant-loop-head g l = record {
+  within : l.at ≤ length l.rest;
+  told : TellsSink g.D.DatasetSink.goes between (take l.at l.rest) between l.initial.sink l.sink;
+  stands : g.D.DatasetSink.stands l.sink None;
+  none : l.at ≡ 0 → l.sink ≡ l.initial.sink;
+}
+
+abbrev pub decreases-loop-head : goal.decreases-loop-head
+decreases-loop-head g l = length l.rest - l.at

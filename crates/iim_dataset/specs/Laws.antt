@@ -1,0 +1,3 @@
+pub mod Completing
+pub mod Devices
+pub mod Datasets

@@ -1,0 +1,108 @@
+-- How octets are refused, and where a reader of datasets stands.
+use Rattle.std.specs.Prelude.{◌≡◌, ℕ, ◌⊎◌, List, [], ◌∷◌, ◌++◌, length, take, slice_index, Option, Some, None, Bool, true, false, ◌<◌, ◌≤◌}
+use Rattle.iim_dataset.specs.Format.Datasets.{count_octets}
+use Rattle.iim_dataset.specs.Format.Splits.{Begun}
+use Rattle.iim_dataset.specs.Format.Tags.{BeginsNoTag, Concerns}
+use Rattle.iim_dataset.specs.States.Events.{DatasetEvent}
+use Rattle.iim_dataset.specs.States.Places.{between, to_come, HandsOn, LeadsTo, TellsSink, IsPlace}
+use Rattle.iim_dataset.specs.declared.head.HeadCause.{HeadCause}
+use Rattle.iim_dataset.specs.declared.head.HeadCause.TheVariants as tags
+use Rattle.iim_dataset.specs.declared.place.DatasetPlace.{DatasetPlace}
+use Rattle.iim_dataset.specs.declared.place.DatasetPlace.TheVariants.{Tag}
+use Rattle.iim_dataset.specs.declared.sink.Step.{Step}
+use Rattle.iim_dataset.specs.declared.sink.Step.TheVariants.{More, Last}
+use Rattle.iim_dataset.specs.declared.fault.Fault.{Fault}
+use Rattle.iim_dataset.specs.declared.fault.FaultCause.{FaultCause}
+use Rattle.iim_dataset.specs.declared.fault.FaultCause.TheVariants.{Marker, CountForm, Stopped}
+
+-- ---- refusals
+
+-- why no tag can continue
+abbrev pub tag_cause_of : FaultCause → Option HeadCause
+tag_cause_of Marker = Some tags.Marker
+tag_cause_of CountForm = Some tags.CountForm
+tag_cause_of Stopped = None
+
+-- A tag is held at the place, and no tag begins with it and the next octet.
+pub record TagDies (place : DatasetPlace) (next : ℕ) (cause : HeadCause) : Type 0 where
+  pub held : List ℕ
+  pub tag : place ≡ Tag (record { items = held })
+  pub dead : BeginsNoTag count_octets (held ++ next ∷ [])
+  pub concerns : Concerns cause (length held)
+
+-- The next octet completes this event, after these: those that the octets completed, and some that the next one completes
+-- before this one. It may complete others after it.
+pub record Completes (octets : List ℕ) (next : ℕ) (events : List DatasetEvent) (event : DatasetEvent) : Type 0 where
+  pub before : List DatasetEvent
+  pub begun : Begun
+  pub after : HandsOn count_octets octets before begun
+  pub since : List DatasetEvent
+  pub parts : events ≡ before ++ since
+  pub later : List DatasetEvent
+  pub next_begun : Begun
+  pub with_next : HandsOn count_octets (octets ++ next ∷ []) (events ++ event ∷ later) next_begun
+
+-- The sink refused an event that octet k of the piece completes.
+pub record Stops {D : Type 0} (stops : D → List DatasetEvent → DatasetEvent → D → Type 0) (place : DatasetPlace) (piece : List ℕ) (k : ℕ) (a b : D) : Type 0 where
+  pub more : List DatasetEvent
+  pub event : DatasetEvent
+  pub stopped : stops a more event b
+  pub completes : (octets : List ℕ) (events : List DatasetEvent) → LeadsTo count_octets octets events place
+      → Completes (octets ++ take k piece) (slice_index piece k) (events ++ more) event
+
+-- Octet k of the piece is refused: the octets before it lead to a place where no tag can continue with it, or the sink stopped, and
+-- then the place tells nothing.
+abbrev pub RefusesFor : {D : Type 0} → (D → List DatasetEvent → D → Type 0) → (D → List DatasetEvent → DatasetEvent → D → Type 0) → Option HeadCause → DatasetPlace → List ℕ → ℕ → DatasetPlace → D → D → Type 0
+RefusesFor goes stops None old piece k new a b = Stops stops old piece k a b × (new ≡ between)
+RefusesFor goes stops (Some cause) old piece k new a b = TellsSink goes old (take k piece) new a b × TagDies new (slice_index piece k) cause
+
+abbrev pub Refuses : {D : Type 0} → (D → List DatasetEvent → D → Type 0) → (D → List DatasetEvent → DatasetEvent → D → Type 0) → DatasetPlace → List ℕ → Fault → DatasetPlace → D → D → Type 0
+Refuses goes stops old piece fault new a b = RefusesFor goes stops (tag_cause_of fault.cause) old piece fault.used new a b
+
+-- Where no tag can continue with the refused octet, the sink takes what comes next: it has not ended.
+abbrev pub StillStands : {D : Type 0} → (D → Option ℕ → Type 0) → Option HeadCause → DatasetPlace → D → Type 0
+StillStands stands None place sink = Unit {0}
+StillStands stands (Some cause) place sink = stands sink (to_come place)
+
+-- ---- sinks
+
+-- After this answer to the end of a dataset the sink takes a head, or it has ended.
+abbrev pub AfterStep : {D : Type 0} → (D → Option ℕ → Type 0) → (D → Type 0) → D → Step → Type 0
+AfterStep stands ends sink More = stands sink None
+AfterStep stands ends sink Last = ends sink
+
+-- All of the octets were used, or the sink has ended after a whole dataset.
+abbrev pub TookAll : {D : Type 0} → (D → Option ℕ → Type 0) → (D → Type 0) → DatasetPlace → D → ℕ → ℕ → Type 0
+TookAll stands ends place sink all used = ((used ≡ all) × stands sink (to_come place)) ⊎ (ends sink × (place ≡ between))
+
+-- ---- the reader
+
+-- A reader is seen as its place, and whether a call was refused.
+pub record Reader : Type 0 where
+  pub place : DatasetPlace
+  pub failed : Bool
+
+-- No call was refused.
+abbrev pub TakesCalls : Reader → Type 0
+TakesCalls reader = reader.failed ≡ false
+
+abbrev pub IsFailed : Reader → Type 0
+IsFailed reader = reader.failed ≡ true
+
+-- The octets so far led here, and these events were handed on.
+abbrev pub StandsAt : Reader → List ℕ → List DatasetEvent → Type 0
+StandsAt reader octets events = LeadsTo count_octets octets events reader.place
+
+-- All of the octets were taken, or those up to the end of the last dataset.
+pub record TakesPiece {D : Type 0} (goes : D → List DatasetEvent → D → Type 0) (stands : D → Option ℕ → Type 0) (ends : D → Type 0) (old : DatasetPlace) (octets : List ℕ) (new : DatasetPlace) (used : ℕ) (a b : D) : Type 0 where
+  pub is_place : IsPlace new
+  pub within : used ≤ length octets
+  pub told : TellsSink goes old (take used octets) new a b
+  pub onward : TookAll stands ends new b (length octets) used
+
+-- One of the octets was refused: no tag can continue with it, or the sink stopped at what it completes.
+pub record RefusesOne {D : Type 0} (goes : D → List DatasetEvent → D → Type 0) (stops : D → List DatasetEvent → DatasetEvent → D → Type 0) (stands : D → Option ℕ → Type 0) (old : DatasetPlace) (octets : List ℕ) (fault : Fault) (new : DatasetPlace) (a b : D) : Type 0 where
+  pub is_place : IsPlace new
+  pub before : fault.used < length octets
+  pub refused : Refuses goes stops old octets fault new a b
+  pub onward : StillStands stands (tag_cause_of fault.cause) new b

@@ -1,0 +1,286 @@
+//! How octets are read from a place on: by whole tags, and by the longest runs that lie in one dataset.
+
+ghost use Rattle.std.specs.Prelude.{◌≡◌, ◌<◌, ◌≤◌, [], length, take, Some, None, IfSome, IfOk, IfErr, OnOk, OnErr};
+ghost use Rattle.iim_dataset.specs.Format.Datasets.{count_octets};
+ghost use Rattle.iim_dataset.specs.Format.Tags.{BeginsTag};
+ghost use Rattle.iim_dataset.specs.States.Places.{IsPlace, between, to_come};
+ghost use Rattle.iim_dataset.specs.Fronts.{TakesOnward, TakesFront, TakesWholes, WholeFront};
+ghost use Rattle.iim_dataset.specs.States.Reading.{TakesPiece, RefusesOne, Stops};
+ghost use Rattle.iim_dataset.specs.TagEnds.{StopsAmong, head_events, place_after_head};
+
+use crate::fault::{Fault, FaultCause, tag_fault};
+use crate::head::{Head, read_head};
+use crate::place::{DatasetPlace, HELD_OCTETS, lengthen, read_tag};
+use crate::sink::{DatasetSink, Step};
+use crate::stop::Stop;
+use arrayvec::ArrayVec;
+
+/// Where a front of some octets leads, and how many it has.
+#[derive(Drop)]
+pub(crate) struct Front {
+    pub(crate) place: DatasetPlace,
+    pub(crate) step: Step,
+    pub(crate) used: usize,
+}
+
+/// An octet is refused. Where no tag can continue with it, the octets before it lead to the place; after a stop of the sink it is
+/// the one between datasets.
+#[derive(Drop)]
+pub(crate) struct Refused {
+    pub(crate) place: DatasetPlace,
+    pub(crate) fault: Fault,
+}
+
+/// Between datasets.
+#[tactic(auto, using(crate::proofs::Fronts::begun_none))]
+pub(crate) fn start() -> DatasetPlace
+    ensures place { result ≡ between }
+    ensures is_place { IsPlace result }
+{
+    DatasetPlace::Tag(ArrayVec::new())
+}
+
+/// The sink stopped after `used` octets.
+fn stopped(used: usize) -> Refused
+    ensures place { result.place ≡ between }
+    ensures is_place { IsPlace result.place }
+    ensures fault { result.fault ≡ record { cause = FaultCause.Stopped; used = used } }
+{
+    let cause = FaultCause::Stopped;
+    Refused {
+        place: start(),
+        fault: Fault { cause, used },
+    }
+}
+
+/// Hands on what the last octet of a tag completes.
+fn begin<D: DatasetSink>(head: Head, sink: &mut D) -> Result<(DatasetPlace, Step), Stop>
+    requires { D.stands sink.old None }
+    ensures place { IfOk result (λ next. next.0 ≡ place_after_head head) }
+    ensures told { OnOk result (D.goes sink.old (head_events head) sink.new) }
+    ensures onward { IfOk result (λ next. TakesOnward D.stands D.ends next.1 next.0 sink.new) }
+    ensures stopped { OnErr result (StopsAmong D.stops (head_events head) sink.old sink.new) }
+{
+    sink.head(head)?;
+    if head.count > 0 {
+        let left = head.count;
+        return Ok((DatasetPlace::Inside { head, left }, Step::More));
+    }
+    let step = sink.close()?;
+    Ok((start(), step))
+}
+
+/// Takes octets of a tag of which some are held: up to its end, or all of them.
+fn take_tag<D: DatasetSink>(
+    held: ArrayVec<u8, HELD_OCTETS>,
+    rest: &[u8],
+    sink: &mut D,
+) -> Result<Front, Refused>
+    requires held { BeginsTag count_octets held.items }
+    requires stands { D.stands sink.old None }
+    requires some { 0 < length rest.now }
+    ensures front { IfOk result (λ front.
+        TakesFront D.goes D.stands D.ends (DatasetPlace.Tag held) rest.now front sink.old sink.new) }
+    ensures refused { IfErr result (λ given.
+        RefusesOne D.goes D.stops D.stands (DatasetPlace.Tag held) rest.now given.fault given.place sink.old sink.new) }
+{
+    let mut held = held;
+    match read_tag(held.as_slice(), rest) {
+        Ok(Some((head, length))) => {
+            let used = length - held.len();
+            match begin(head, sink) {
+                Ok((place, step)) => Ok(Front { place, step, used }),
+                Err(_) => Err(stopped(used - 1)),
+            }
+        }
+        Ok(None) => {
+            lengthen(&mut held, rest);
+            Ok(Front {
+                place: DatasetPlace::Tag(held),
+                step: Step::More,
+                used: rest.len(),
+            })
+        }
+        Err(fault) => {
+            let used = fault.at - held.len();
+            let cause = tag_fault(fault.cause);
+            lengthen(&mut held, &rest[..used]);
+            Err(Refused {
+                place: DatasetPlace::Tag(held),
+                fault: Fault { cause, used },
+            })
+        }
+    }
+}
+
+/// Takes octets of data of which `left` are to come: up to their end, or all of them.
+fn take_data<D: DatasetSink>(
+    head: Head,
+    left: u64,
+    rest: &[u8],
+    sink: &mut D,
+) -> Result<Front, Refused>
+    requires place { IsPlace (DatasetPlace.Inside head left) }
+    requires stands { D.stands sink.old (Some left) }
+    requires some { 0 < length rest.now }
+    ensures front { IfOk result (λ front.
+        TakesFront D.goes D.stands D.ends (DatasetPlace.Inside head left) rest.now front sink.old sink.new) }
+    ensures refused { IfErr result (λ given.
+        RefusesOne D.goes D.stops D.stands (DatasetPlace.Inside head left) rest.now given.fault given.place sink.old
+        sink.new) }
+{
+    if (rest.len() as u64) < left {
+        let left = left - rest.len() as u64;
+        return match sink.run(rest) {
+            Ok(()) => Ok(Front {
+                place: DatasetPlace::Inside { head, left },
+                step: Step::More,
+                used: rest.len(),
+            }),
+            Err(stop) => Err(stopped(stop.taken)),
+        };
+    }
+    let used = left as usize;
+    match sink.run(&rest[..used]) {
+        Ok(()) => match sink.close() {
+            Ok(step) => Ok(Front {
+                place: start(),
+                step,
+                used,
+            }),
+            Err(_) => Err(stopped(used - 1)),
+        },
+        Err(stop) => Err(stopped(stop.taken)),
+    }
+}
+
+/// The dataset that lies at the front whole: its head, its data, and how many octets it has.
+#[inline(always)]
+fn whole_dataset(rest: &[u8]) -> Option<(Head, &[u8], usize)>
+    ensures { IfSome result (λ front. WholeFront rest.now front.0 front.1.now front.2) }
+{
+    match read_head(rest) {
+        Ok(Some((head, length))) => {
+            let (tag, after) = rest.split_at(length);
+            if (after.len() as u64) < head.count {
+                return None;
+            }
+            let (data, _) = after.split_at(head.count as usize);
+            Some((head, data, tag.len() + data.len()))
+        }
+        _ => None,
+    }
+}
+
+/// Takes whole datasets at the front, as long as the sink takes them at once: up to the one that it called the last, and answers
+/// its last answer and how many octets they have; or up to the octet that it refuses.
+#[inline(always)]
+fn take_wholes<D: DatasetSink>(rest: &[u8], sink: &mut D) -> Result<(Step, usize), usize>
+    requires stands { D.stands sink.old None }
+    ensures wholes { IfOk result (λ front.
+        TakesWholes D.goes D.stands D.ends rest.now front.0 front.1 sink.old sink.new) }
+    ensures before { IfErr result (λ used. used < length rest.now) }
+    ensures stopped { IfErr result (λ used. Stops D.stops between rest.now used sink.old sink.new) }
+{
+    let mut at = 0;
+    while let Some((head, data, used)) = whole_dataset(&rest[at..]) {
+        match sink.whole(head, data) {
+            Ok(None) => return Ok((Step::More, at)),
+            Ok(Some(Step::More)) => at += used,
+            Ok(Some(Step::Last)) => return Ok((Step::Last, at + used)),
+            Err(stop) => return Err(at + (used - data.len()) + stop.taken),
+        }
+    }
+    Ok((Step::More, at))
+}
+
+/// Takes whole datasets where no tag is begun, as long as the sink takes them at once.
+#[inline(always)]
+fn take_wholes_after<D: DatasetSink>(
+    held: &ArrayVec<u8, HELD_OCTETS>,
+    rest: &[u8],
+    sink: &mut D,
+) -> Result<(Step, usize), usize>
+    requires stands { D.stands sink.old None }
+    ensures wholes { IfOk result (λ front.
+        TakesWholes D.goes D.stands D.ends rest.now front.0 front.1 sink.old sink.new) }
+    ensures between { IfOk result (λ front. 0 < front.1 → held.now.items ≡ []) }
+    ensures before { IfErr result (λ used. used < length rest.now) }
+    ensures stopped { IfErr result (λ used. (held.now.items ≡ [])
+        × Stops D.stops between rest.now used sink.old sink.new) }
+{
+    if !held.is_empty() || !sink.wants_whole() {
+        return Ok((Step::More, 0));
+    }
+    take_wholes(rest, sink)
+}
+
+/// Takes a front of the octets that are left: whole datasets, or else the longest that lies in one tag, or in the data of one dataset.
+fn take_front<D: DatasetSink>(
+    place: DatasetPlace,
+    rest: &[u8],
+    sink: &mut D,
+) -> Result<Front, Refused>
+    requires place { IsPlace place }
+    requires stands { D.stands sink.old (to_come place) }
+    requires some { 0 < length rest.now }
+    ensures front { IfOk result (λ front. TakesFront D.goes D.stands D.ends place rest.now front sink.old sink.new) }
+    ensures refused { IfErr result (λ given.
+        RefusesOne D.goes D.stops D.stands place rest.now given.fault given.place sink.old sink.new) }
+{
+    match place {
+        DatasetPlace::Tag(held) => match take_wholes_after(&held, rest, sink) {
+            Ok((step, used)) => {
+                if used > 0 {
+                    return Ok(Front {
+                        place: start(),
+                        step,
+                        used,
+                    });
+                }
+                take_tag(held, rest, sink)
+            }
+            Err(used) => Err(stopped(used)),
+        },
+        DatasetPlace::Inside { head, left } => take_data(head, left, rest, sink),
+    }
+}
+
+/// Takes octets from a place on, all of them or up to the end of the dataset that the sink called the last, and answers the
+/// place after them and how many they are.
+pub(crate) fn take_piece<D: DatasetSink>(
+    place: DatasetPlace,
+    octets: &[u8],
+    sink: &mut D,
+) -> Result<(DatasetPlace, usize), Refused>
+    requires place { IsPlace place }
+    requires stands { D.stands sink.old (to_come place) }
+    ensures piece { IfOk result (λ front.
+        TakesPiece D.goes D.stands D.ends place octets.now front.0 front.1 sink.old sink.new) }
+    ensures refused { IfErr result (λ given.
+        RefusesOne D.goes D.stops D.stands place octets.now given.fault given.place sink.old sink.new) }
+{
+    let mut now = place;
+    let mut at = 0;
+    while at < octets.len() {
+        match take_front(now, &octets[at..], sink) {
+            Ok(front) => {
+                now = front.place;
+                at += front.used;
+                match front.step {
+                    Step::More => {}
+                    Step::Last => return Ok((now, at)),
+                }
+            }
+            Err(refused) => {
+                let used = at + refused.fault.used;
+                let cause = refused.fault.cause;
+                return Err(Refused {
+                    place: refused.place,
+                    fault: Fault { cause, used },
+                });
+            }
+        }
+    }
+    Ok((now, at))
+}

@@ -1,0 +1,15 @@
+-- What a walk over an envelope has left.
+use Rattle.std.specs.Prelude.{ℕ, List}
+use Rattle.iim_fields.specs.Format.Views.{all_data}
+use Rattle.iim_fields.specs.declared.walk.DataIter.{DataIter}
+use Rattle.iim_dataset.specs.Format.Datasets.{Dataset}
+use Rattle.iim_fields.specs.States.Stores.{fields_from}
+use Rattle.iim_fields.specs.declared.walk.FieldIter.{FieldIter}
+
+-- the datasets that are left
+abbrev pub rest_of : FieldIter → List Dataset
+rest_of walk = fields_from walk.from walk.entries.now walk.octets.now
+
+-- the data that are left
+abbrev pub data_left : DataIter → List (List ℕ)
+data_left walk = all_data walk.rec walk.set (rest_of walk.fields)

@@ -1,0 +1,15 @@
+use Rattle.std.proofs.Common.{◌≡◌, ◌≤◌, ◌-◌, length, take}
+use Rattle.iim_object.specs.States.Writing.{Lengthens}
+use Rattle.iim_object.specs.Cutting.{HasRoom, writing_of}
+use Rattle.iim_object.proofs.writing.cutter.Cutter.write.Given as goal
+
+abbrev pub invariant-loop-at : goal.invariant-loop-at
+invariant-loop-at g l = record {
+  within : l.at ≤ length l.octets;
+  room : HasRoom l.self;
+  same_room : l.self.held.room ≡ l.fn.self.held.room;
+  lengthened : Lengthens (g.W.Target.state) (writing_of l.fn.self) (writing_of l.self) (take l.at l.octets);
+}
+
+abbrev pub decreases-loop-at : goal.decreases-loop-at
+decreases-loop-at g l = length l.octets - l.at

@@ -1,0 +1,54 @@
+use Rattle.std.proofs.Common.{◌≡◌, ℕ, [], refl, sym, ap, subst, ◌∙◌, arith, append-nil, length}
+use Rattle.iim_dataset.specs.Format.Datasets.{canonical_stream}
+use Rattle.iim_dataset.specs.States.Devices.{Stopped}
+use Rattle.iim_object.specs.Format.Packing.{plan_datasets}
+use Rattle.iim_object.specs.States.Writing.{plan_octets, octets_out}
+use Rattle.iim_object.specs.Outputs.{Cuts}
+use Rattle.iim_object.specs.declared.plan.Plan.{Plan}
+use Rattle.iim_object.proofs.PlanLengths.{plan_length}
+use Rattle.iim_object.proofs.writing.writer.SubfileWriter.start.Goals as goal
+
+-- nothing but record 7 is out
+only_plan : (plan : Plan) → plan_octets plan ≡ octets_out plan []
+only_plan plan = ap canonical_stream (sym (append-nil (plan_datasets plan.subfile plan.size)))
+
+pub invariant_of-result : goal.invariant_of-result
+invariant_of-result g c =
+    let plan = c.buffer.inside.plan in
+    let puts = c.in-Ok.ensures.ok in
+    let long = plan_length plan.subfile plan.size in
+    let none : length c.buffer.inside.octets.items ≡ 0 = ap length c.buffer.invariant.empty in
+    record {
+      capacity = omega (arith, c.buffer.invariant.room);
+      within = omega (arith, none);
+      bound = omega (arith, none);
+      parts = 0;
+      sent = omega arith;
+      count = λ e. omega (arith, puts.counted, long);
+      small = omega (arith, puts.counted, long);
+    }
+
+pub returns-in-Ok-clause-stands : goal.returns-in-Ok-clause-stands
+returns-in-Ok-clause-stands g c =
+    let plan = c.buffer.inside.plan in
+    let puts = c.in-Ok.ensures.ok in
+    let count : c.put_plan.new.self.written ≡ length (plan_octets plan) = omega (arith, puts.counted) in
+    record {
+      unfailed = refl;
+      parts = [];
+      are_full = tt;
+      object_is = sym c.buffer.invariant.empty;
+      some = λ empty. refl;
+      sent = refl;
+      within = omega (arith, ap length c.buffer.invariant.empty);
+      out_is = ap plan_octets (sym c.buffer.view_is) ∙ only_plan plan;
+      written = count ∙ ap (λ (p : Plan). length (plan_octets p)) c.buffer.view_is;
+    }
+
+pub returns-in-Err-clause-stopped : goal.returns-in-Err-clause-stopped
+returns-in-Err-clause-stopped g c =
+    let state = g.W.Target.state in
+    let q : Cuts state (record { writer = c.args.writer; written = 0 }) c.put_plan.new.self (plan_octets c.args.buffer) =
+    subst (λ (p : Plan). Cuts state (record { writer = c.args.writer; written = 0 }) c.put_plan.new.self (plan_octets p)) c.buffer.view_is c.in-Err.ensures.err in
+    let count : q.out ≡ c.put_plan.new.self.written = omega (arith, q.counted) in
+    subst (λ (n : ℕ). Stopped (state c.args.writer) (state c.put_plan.new.self.writer) (plan_octets c.args.buffer) n) count q.stopped

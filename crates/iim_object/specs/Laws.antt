@@ -1,0 +1,9 @@
+pub mod Living
+pub mod Records
+pub mod Numbers
+pub mod Places
+pub mod Within
+pub mod Conditions
+pub mod Reading
+pub mod Cuts
+pub mod Packing

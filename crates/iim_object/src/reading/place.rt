@@ -1,0 +1,65 @@
+//! The states of places that are given by numbers.
+
+ghost use Rattle.std.specs.Prelude.{◌≡◌, ◌↔◌, ◌≤◌, ◌+◌, IsTrue, IsSome, IfSome, Some, None};
+ghost use Rattle.iim_object.specs.States.KeptNumbers.{IsState, state_numbers};
+ghost use Rattle.iim_object.specs.States.Saved.{IsAt};
+ghost use Rattle.iim_object.specs.Finding.{Finds};
+
+use crate::reading::state::State;
+use crate::reading::step::take_subfile;
+
+/// The state where these numbers of record 7 have come, and `subfiles` subfiles, of `total` octets together. None where no
+/// tokens lead there.
+fn between(numbers: State, subfiles: u64, total: u64) -> Option<State>
+    ensures exactly { IsSome result ↔ IsState (record numbers { subfiles = subfiles; total = total }) }
+    ensures value { IfSome result (λ state. state ≡ record numbers { subfiles = subfiles; total = total }) }
+{
+    let state = State {
+        subfiles,
+        total,
+        ..numbers
+    };
+    if state.is_state() { Some(state) } else { None }
+}
+
+/// Whether a subfile may have begun: `left` of its `count` octets are to come, `taken` octets have come of all, and `heads`
+/// heads.
+fn may_have_begun(taken: u64, count: u64, left: u64, heads: u64) -> bool
+    ensures { IsTrue result ↔ ((1 ≤ left) × (left ≤ count) × (1 ≤ heads) × (count ≤ taken + left)) }
+{
+    0 < left && left <= count && 0 < heads && count - left <= taken
+}
+
+/// The state with a begun subfile of `count` octets, of which `left` are to come: that of the subfiles before it, and then
+/// its head. None where no tokens lead there.
+fn within(numbers: State, taken: u64, count: u64, left: u64, heads: u64) -> Option<State>
+    ensures is_state { IfSome result IsState }
+    ensures finds { Finds (IsAt (state_numbers numbers) taken (Some (count, left)) heads) result }
+{
+    if !may_have_begun(taken, count, left, heads) {
+        return None;
+    }
+    let before = between(numbers, heads - 1, taken - (count - left))?;
+    if !before.takes_subfile() {
+        return None;
+    }
+    take_subfile(before, count).ok()
+}
+
+/// The state where these numbers have come, 7:10, 7:20, 7:90 and 7:95, then `heads` heads of subfiles, and `taken` octets.
+/// None where no tokens lead there.
+pub(crate) fn state_at(
+    numbers: [Option<u64>; 4],
+    taken: u64,
+    begun: Option<(u64, u64)>,
+    heads: u64,
+) -> Option<State>
+    ensures is_state { IfSome result IsState }
+    ensures finds { Finds (IsAt numbers taken begun heads) result }
+{
+    let numbers = State::of_numbers(numbers);
+    match begun {
+        None => between(numbers, heads, taken),
+        Some((count, left)) => within(numbers, taken, count, left, heads),
+    }
+}

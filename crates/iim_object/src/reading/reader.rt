@@ -1,0 +1,278 @@
+//! The reader of an object.
+
+ghost use Rattle.std.specs.Prelude.{◌≡◌, ◌↔◌, [], ◌∷◌, ℕ, List, Option, is_none, length, map, sum, Some, None, IsSome, IfSome, IfNone, IfErr, OnOk, OnErr};
+ghost use Rattle.std.specs.Option.{ForSome};
+ghost use Rattle.iim_dataset.specs.Format.Datasets.{Dataset};
+ghost use Rattle.iim_object.specs.declared.reading.state.State.{State};
+ghost use Rattle.iim_object.specs.States.KeptNumbers.{IsState, state_numbers};
+ghost use Rattle.iim_object.specs.Format.Events.{ObjectOctet, ObjectEnd};
+ghost use Rattle.iim_object.specs.Format.Objects.{NumberRead, SubfileBegun, ObjectEnded};
+ghost use Rattle.iim_object.specs.Format.Places.{Place, ConfirmedAs, place_start, value_token, head_token};
+ghost use Rattle.iim_object.specs.Format.Records.{AreObjectRecords, HaveSizes};
+ghost use Rattle.iim_object.specs.Format.Numbers.{place_after_datasets};
+ghost use Rattle.iim_object.specs.States.Saved.{IsAt, IsPossible, stated_numbers};
+ghost use Rattle.iim_object.specs.declared.reading.fault.SizeCause.{SizeCause};
+ghost use Rattle.iim_object.specs.States.Reading.{StandsAt, LeadsOn, Refuses, EndsAs, RefusesToEnd, RefusesValue, RefusesHead, RefusesRun, IsSizes, events_at};
+
+use crate::reading::fault::ObjectFault;
+use crate::reading::place::state_at;
+use crate::reading::state::{KNOWN, State, is_given};
+use crate::reading::step::{take_confirmed, take_end, take_number, take_subfile};
+use crate::sink::ObjectSink;
+use crate::size::Sizes;
+use iim_tables::records::POST_OBJECT;
+use std::marker::Model;
+
+/// A reader of an object: the numbers of record 7, the heads of its subfiles, its octets, its end, and the size that
+/// record 9 confirms. It holds a few numbers, and no octet.
+///
+/// What its contracts say holds of tokens that the record layer and the limits have admitted: wherever the reader stands,
+/// a token leads it on, or the object layer dies with it and the fault is the first cause. After datasets that is the
+/// place of `datasets_lead_from_place_to_place`. Contracts see the reader as the numbers that it keeps, and as None after
+/// a refusal. Whatever a caller hands in, they are numbers to which some tokens lead (`places_are_reached`).
+#[derive(Debug, Drop)]
+pub struct ObjectReader {
+    /// None after a refusal.
+    state: Option<State>,
+}
+
+impl Model for ObjectReader {
+    ghost Value = { Option State };
+
+    ghost view = { λ reader. reader.state };
+
+    ghost invariant = { λ reader. ForSome reader.state IsState };
+}
+
+impl ObjectReader {
+    /// The reader of an object of which nothing has come.
+    pub fn new() -> ObjectReader
+        ensures takes_calls { IsSome result }
+        ensures stands { StandsAt result place_start }
+    {
+        let state = Some(State::new());
+        ObjectReader { state }
+    }
+
+    /// The reader that stands where these numbers of record 7 have come, 7:10, 7:20, 7:90 and 7:95, then `heads` heads of
+    /// subfiles, and `taken` octets of the object. `begun` is the count of a begun subfile, and how many octets of it are still
+    /// to come. The object has not ended. None exactly where no tokens lead there.
+    pub fn at(
+        numbers: [Option<u64>; 4],
+        taken: u64,
+        begun: Option<(u64, u64)>,
+        heads: u64,
+    ) -> Option<ObjectReader>
+        ensures exactly { IsSome result ↔ ((p : Place) × IsAt numbers taken begun heads p × IsPossible p) }
+        ensures stands { IfSome result (λ reader. (p : Place) → IsAt numbers taken begun heads p → IsPossible p
+            → StandsAt reader p) }
+        ensures takes_calls { IfSome result IsSome }
+    {
+        let state = Some(state_at(numbers, taken, begun, heads)?);
+        Some(ObjectReader { state })
+    }
+
+    /// Whether a call was refused.
+    pub fn is_failed(&self) -> bool
+        ensures { result ≡ is_none self.now }
+    {
+        self.state.is_none()
+    }
+
+    /// Takes the state out: until one is put in again, the reader has failed.
+    fn take_state(&mut self) -> State
+        requires { IsSome self.old }
+        ensures seen { self.old ≡ Some result }
+        ensures is_state { IsState result }
+        ensures failed { self.new ≡ None }
+    {
+        self.state.take().unwrap()
+    }
+
+    /// Takes the number of a complete value: of dataset 7:`set`, or of 9:10, the confirmed size. The reader has not
+    /// failed; after a refusal it has.
+    #[inline(always)]
+    pub fn value(&mut self, rec: u8, set: u8, number: u64) -> Result<(), ObjectFault>
+        requires { IsSome self.old }
+        ensures takes_calls { OnOk result (IsSome self.new) }
+        ensures leads_on { OnOk result (LeadsOn self.old (value_token rec set number) self.new) }
+        ensures failed { OnErr result (self.new ≡ None) }
+        ensures refused { IfErr result (RefusesValue self.old (value_token rec set number)) }
+    {
+        let state = self.take_state();
+        let next = if rec == POST_OBJECT {
+            take_confirmed(state, number)?
+        } else {
+            take_number(state, set, number)?
+        };
+        self.state = Some(next);
+        Ok(())
+    }
+
+    /// The reader that a number of dataset 7:`set` leads to, or None where the object layer dies with it. This one has not failed, and
+    /// stays what it is.
+    #[inline(always)]
+    pub fn with_number(&self, set: u8, number: u64) -> Option<ObjectReader>
+        requires { IsSome self.now }
+        ensures takes_calls { IfSome result IsSome }
+        ensures leads_on { IfSome result (λ reader. LeadsOn self.now (NumberRead set number) reader) }
+        ensures refused { IfNone result ((cause : SizeCause) × Refuses self.now (NumberRead set number) cause) }
+    {
+        match take_number(self.state.unwrap(), set, number) {
+            Ok(state) => Some(ObjectReader { state: Some(state) }),
+            Err(_cause) => None,
+        }
+    }
+
+    /// The reader that the head of a subfile of `count` octets leads to, or None where the object layer dies with it. This one has
+    /// not failed, and stays what it is.
+    #[inline(always)]
+    pub fn with_subfile(&self, count: u64) -> Option<ObjectReader>
+        requires { IsSome self.now }
+        ensures takes_calls { IfSome result IsSome }
+        ensures leads_on { IfSome result (λ reader. LeadsOn self.now (SubfileBegun count) reader) }
+        ensures refused { IfNone result ((cause : SizeCause) × Refuses self.now (SubfileBegun count) cause) }
+    {
+        match take_subfile(self.state.unwrap(), count) {
+            Ok(state) => Some(ObjectReader { state: Some(state) }),
+            Err(_cause) => None,
+        }
+    }
+
+    /// The reader that the end of the object leads to, and this number of 9:10 after it, the confirmed size; or None where the
+    /// object layer dies with one of them. This one has not failed, and stays what it is.
+    pub fn with_end(&self, number: u64) -> Option<ObjectReader>
+        requires { IsSome self.now }
+        ensures takes_calls { IfSome result IsSome }
+        ensures leads_on { IfSome result (λ reader. EndsAs self.now number reader) }
+        ensures refused { IfNone result (RefusesToEnd self.now number) }
+    {
+        let Ok(ended) = take_end(self.state.unwrap()) else {
+            return None;
+        };
+        match take_confirmed(ended, number) {
+            Ok(state) => Some(ObjectReader { state: Some(state) }),
+            Err(_cause) => None,
+        }
+    }
+
+    /// Takes a complete head: of a subfile, 8:10, with `count` octets; or of 9:10, where the object ends and the sink is
+    /// told so. The reader has not failed, and the sink takes calls; after a refusal the reader has failed.
+    #[inline(always)]
+    pub fn head<S: ObjectSink>(
+        &mut self,
+        rec: u8,
+        _set: u8,
+        count: u64,
+        sink: &mut S,
+    ) -> Result<(), ObjectFault>
+        requires takes_calls { IsSome self.old }
+        requires stands { S.stands sink.old }
+        ensures takes_calls { OnOk result (IsSome self.new) }
+        ensures leads_on { OnOk result (LeadsOn self.old (head_token rec count) self.new) }
+        ensures told { OnOk result (S.goes sink.old (events_at rec) sink.new) }
+        ensures untold { (rec ≡ 9 → ⊥) → sink.new ≡ sink.old }
+        ensures failed { OnErr result (self.new ≡ None) }
+        ensures refused { IfErr result (RefusesHead S.goes S.stops self.old (head_token rec count) sink.old sink.new) }
+    {
+        if rec == POST_OBJECT {
+            return self.end(sink);
+        }
+        match &mut self.state {
+            Some(state) => match take_subfile(*state, count) {
+                Ok(next) => {
+                    *state = next;
+                    Ok(())
+                }
+                Err(cause) => {
+                    self.state = None;
+                    Err(ObjectFault::Size { cause })
+                }
+            },
+            None => unreachable!(),
+        }
+    }
+
+    /// Takes the end of the object.
+    #[inline(always)]
+    fn end<S: ObjectSink>(&mut self, sink: &mut S) -> Result<(), ObjectFault>
+        requires takes_calls { IsSome self.old }
+        requires stands { S.stands sink.old }
+        ensures takes_calls { OnOk result (IsSome self.new) }
+        ensures leads_on { OnOk result (LeadsOn self.old ObjectEnded self.new) }
+        ensures told { OnOk result (S.goes sink.old (ObjectEnd ∷ []) sink.new) }
+        ensures failed { OnErr result (self.new ≡ None) }
+        ensures refused { IfErr result (RefusesHead S.goes S.stops self.old ObjectEnded sink.old sink.new) }
+    {
+        let state = self.take_state();
+        let ended = take_end(state)?;
+        sink.close()?;
+        self.state = Some(ended);
+        Ok(())
+    }
+
+    /// Hands octets of the object on to the sink. They are those after the heads of subfiles, in any cut.
+    /// The reader has not failed, and the sink takes calls, afterwards too; after a refusal the reader has failed.
+    #[inline(always)]
+    pub fn run<S: ObjectSink>(&mut self, run: &[u8], sink: &mut S) -> Result<(), ObjectFault>
+        requires takes_calls { IsSome self.old }
+        requires stands { S.stands sink.old }
+        ensures same { OnOk result (self.new ≡ self.old) }
+        ensures told { OnOk result (S.goes sink.old (map ObjectOctet run.now) sink.new) }
+        ensures stands { OnOk result (S.stands sink.new) }
+        ensures failed { OnErr result (self.new ≡ None) }
+        ensures refused { IfErr result (RefusesRun S.stops run.now sink.old sink.new) }
+    {
+        match sink.run(run) {
+            Ok(()) => Ok(()),
+            Err(stop) => {
+                self.state = None;
+                Err(ObjectFault::Stopped(stop))
+            }
+        }
+    }
+
+    /// How many octets the subfiles so far count together. The reader has not failed.
+    pub fn total(&self) -> u64
+        requires { IsSome self.now }
+        ensures { (p : Place) → StandsAt self.now p → result ≡ sum p.lengths }
+    {
+        self.state.unwrap().total
+    }
+
+    /// How many subfiles came. The reader has not failed.
+    pub fn subfiles(&self) -> u64
+        requires { IsSome self.now }
+        ensures place { (p : Place) → StandsAt self.now p → result ≡ length p.lengths }
+        ensures seen { (state : State) → self.now ≡ Some state → result ≡ state.subfiles }
+    {
+        self.state.unwrap().subfiles
+    }
+
+    /// The numbers of record 7 that have come: of 7:10, 7:20, 7:90 and 7:95. The reader has not failed.
+    pub fn numbers(&self) -> [Option<u64>; 4]
+        requires { IsSome self.now }
+        ensures place { (p : Place) → StandsAt self.now p → result ≡ stated_numbers p.stated }
+        ensures seen { (state : State) → self.now ≡ Some state → result ≡ state_numbers state }
+    {
+        self.state.unwrap().numbers()
+    }
+
+    /// What records 7 to 9 have said of the object, once its size is confirmed. The reader has not failed.
+    pub fn sizes(&self) -> Sizes
+        requires { IsSome self.now }
+        ensures place { (p : Place) (n : ℕ) → StandsAt self.now p → p.ending ≡ ConfirmedAs n → IsSizes p result }
+        ensures records { (ds : List Dataset) (r : AreObjectRecords ds) → StandsAt self.now (place_after_datasets ds)
+            → HaveSizes r.r7 r.r8 r.r9 result }
+    {
+        let state = self.state.unwrap();
+        Sizes {
+            known: is_given(state.mode, KNOWN),
+            subfile: state.subfile.unwrap_or(0),
+            announced: state.announced,
+            maximum: state.maximum,
+            subfiles: state.subfiles,
+            total: state.total,
+        }
+    }
+}

@@ -1,0 +1,280 @@
+//! What records 7 to 9 have told of an object so far.
+
+ghost use Rattle.std.specs.Prelude.{◌≡◌, ◌↔◌, ◌+◌, ◌^◌, ◌<◌, ◌≤◌, IsTrue, IfSome, is_some};
+ghost use Rattle.iim_dataset.specs.Format.Octets.{greatest_u64};
+ghost use Rattle.iim_object.specs.Format.Sizes.{mode_number};
+ghost use Rattle.iim_object.specs.States.KeptNumbers.{HasNumbers, HasSubfiles, IsState, state_numbers};
+ghost use Rattle.iim_object.specs.StateChanges.{TakesNumber, TakesSubfile, state_start, state_with};
+ghost use Rattle.iim_object.specs.Format.Causes.{is_given, is_above, number_cause, bound, is_past, subfile_cause, end_cause, confirmed_cause};
+
+use crate::plan::MAX_SUBFILES;
+use crate::reading::fault::SizeCause;
+use iim_dataset::GREATEST_SIZE;
+use iim_tables::records::{ANNOUNCED_SIZE, MAX_SUBFILE_SIZE, MAXIMUM_SIZE, SIZE_MODE};
+
+/// The size mode of an object whose size is not known at the start.
+const UNKNOWN: u64 = 0;
+
+/// The size mode of an object whose size is known at the start.
+pub(crate) const KNOWN: u64 = 1;
+
+/// The numbers of record 7, how many subfiles came, and how many octets they count together.
+#[derive(Clone, Copy, Debug, PartialEq, Eq)]
+pub(crate) struct State {
+    /// 7:10 Size Mode.
+    pub mode: Option<u64>,
+    /// 7:20 Max Subfile Size.
+    pub subfile: Option<u64>,
+    /// 7:90 ObjectData Size Announced.
+    pub announced: Option<u64>,
+    /// 7:95 Maximum ObjectData Size.
+    pub maximum: Option<u64>,
+    /// How many subfiles came.
+    pub subfiles: u64,
+    /// How many octets they count together.
+    pub total: u64,
+}
+
+/// Whether a number is given, and is this one.
+#[inline(always)]
+pub(crate) fn is_given(number: Option<u64>, wanted: u64) -> bool
+    ensures { result ≡ is_given number wanted }
+{
+    match number {
+        Some(number) => number == wanted,
+        None => false,
+    }
+}
+
+/// Whether a number, if it is given, lies in these bounds.
+fn is_within(number: Option<u64>, least: u64, most: u64) -> bool
+    ensures { IsTrue result ↔ IfSome number (λ n. (least ≤ n) × (n ≤ most)) }
+{
+    match number {
+        Some(number) => (least..=most).contains(&number),
+        None => true,
+    }
+}
+
+#[inline(always)]
+fn is_above(announced: Option<u64>, maximum: Option<u64>) -> bool
+    ensures { result ≡ is_above announced maximum }
+{
+    match (announced, maximum) {
+        (Some(announced), Some(maximum)) => announced > maximum,
+        _ => false,
+    }
+}
+
+/// The most octets that the object may have.
+#[inline(always)]
+fn bound(announced: Option<u64>, maximum: Option<u64>) -> u64
+    ensures { result ≡ bound announced maximum }
+{
+    announced
+        .unwrap_or(GREATEST_SIZE)
+        .min(maximum.unwrap_or(GREATEST_SIZE))
+}
+
+impl State {
+    /// Where nothing has been read.
+    pub(crate) fn new() -> State
+        ensures { result ≡ state_start }
+    {
+        State {
+            mode: None,
+            subfile: None,
+            announced: None,
+            maximum: None,
+            subfiles: 0,
+            total: 0,
+        }
+    }
+
+    /// With these numbers of 7:10, 7:20, 7:90 and 7:95, and no subfile.
+    pub(crate) fn of_numbers(numbers: [Option<u64>; 4]) -> State
+        ensures { state_numbers result ≡ numbers }
+    {
+        let [mode, subfile, announced, maximum] = numbers;
+        State {
+            mode,
+            subfile,
+            announced,
+            maximum,
+            ..State::new()
+        }
+    }
+
+    /// The numbers of 7:10, 7:20, 7:90 and 7:95.
+    pub(crate) fn numbers(&self) -> [Option<u64>; 4]
+        ensures { result ≡ state_numbers self.now }
+    {
+        [self.mode, self.subfile, self.announced, self.maximum]
+    }
+
+    /// Whether the numbers of record 7 are ones that may have come together.
+    fn has_numbers(&self) -> bool
+        ensures { IsTrue result ↔ HasNumbers self.now }
+    {
+        is_within(self.mode, UNKNOWN, KNOWN)
+            && is_within(self.subfile, 1, GREATEST_SIZE)
+            && is_within(self.announced, 0, GREATEST_SIZE)
+            && is_within(self.maximum, 0, GREATEST_SIZE)
+            && self.number_cause().is_none()
+    }
+
+    /// Whether the mode is given, and the size is announced exactly where it is known.
+    fn is_announced_by_mode(&self) -> bool
+        ensures { result ≡ is_given self.now.mode (mode_number (is_some self.now.announced)) }
+    {
+        match self.announced {
+            Some(_) => is_given(self.mode, KNOWN),
+            None => is_given(self.mode, UNKNOWN),
+        }
+    }
+
+    /// Whether `subfiles` subfiles may have come, and hold `total` octets together.
+    fn has_subfiles(&self) -> bool
+        requires { HasNumbers self.now }
+        ensures { IsTrue result ↔ HasSubfiles self.now }
+    {
+        let Some(subfile) = self.subfile else {
+            return false;
+        };
+        self.is_announced_by_mode()
+            && self.subfiles <= MAX_SUBFILES
+            && self.total <= self.subfiles.saturating_mul(subfile)
+            && self.total <= bound(self.announced, self.maximum)
+    }
+
+    /// Whether some tokens lead to it.
+    pub(crate) fn is_state(&self) -> bool
+        ensures { IsTrue result ↔ IsState self.now }
+    {
+        if !self.has_numbers() {
+            return false;
+        }
+        if self.subfiles == 0 {
+            return self.total == 0;
+        }
+        self.has_subfiles()
+    }
+
+    /// With the number of a dataset of record 7.
+    #[inline(always)]
+    pub(crate) fn with_number(self, set: u8, number: u64) -> State
+        ensures { result ≡ state_with self set number }
+    {
+        let mut new = self;
+        match set {
+            SIZE_MODE => new.mode = Some(number),
+            MAX_SUBFILE_SIZE => new.subfile = Some(number),
+            ANNOUNCED_SIZE => new.announced = Some(number),
+            MAXIMUM_SIZE => new.maximum = Some(number),
+            _ => {}
+        }
+        new
+    }
+
+    /// With a subfile of `count` octets.
+    #[inline(always)]
+    pub(crate) fn with_subfile(self, count: u64) -> State
+        requires subfiles { self.subfiles < greatest_u64 }
+        requires total { self.total + count < 2 ^ 64 }
+        ensures { result ≡ record self { subfiles = self.subfiles + 1; total = self.total + count } }
+    {
+        State {
+            subfiles: self.subfiles + 1,
+            total: self.total + count,
+            ..self
+        }
+    }
+
+    /// Whether a number of record 7 may come: no subfile has come, and its row allows the number.
+    #[inline(always)]
+    pub(crate) fn takes_number(&self, set: u8, number: u64) -> bool
+        ensures { IsTrue result ↔ TakesNumber self.now set number }
+    {
+        let in_row = match set {
+            SIZE_MODE => number <= KNOWN,
+            MAX_SUBFILE_SIZE => (1..=GREATEST_SIZE).contains(&number),
+            ANNOUNCED_SIZE | MAXIMUM_SIZE => number <= GREATEST_SIZE,
+            _ => false,
+        };
+        self.subfiles == 0 && in_row
+    }
+
+    /// Whether a subfile may come: mode and largest subfile are given, and one more is not too many.
+    #[inline(always)]
+    pub(crate) fn takes_subfile(&self) -> bool
+        ensures { IsTrue result ↔ TakesSubfile self.now }
+    {
+        self.mode.is_some() && self.subfile.is_some() && self.subfiles < MAX_SUBFILES
+    }
+
+    /// What is wrong with the numbers of record 7.
+    #[inline(always)]
+    pub(crate) fn number_cause(&self) -> Option<SizeCause>
+        ensures { result ≡ number_cause self.now.mode self.now.announced self.now.maximum }
+    {
+        if is_given(self.mode, UNKNOWN) && self.announced.is_some() {
+            return Some(SizeCause::ModeClash);
+        }
+        if is_above(self.announced, self.maximum) {
+            return Some(SizeCause::SizeClash);
+        }
+        None
+    }
+
+    /// Whether the object has more octets than it may, with `count` more.
+    #[inline(always)]
+    fn is_past(&self, count: u64) -> bool
+        ensures { result ≡ is_past (bound self.now.announced self.now.maximum) self.now.total count }
+    {
+        let most = bound(self.announced, self.maximum);
+        match self.total.checked_add(count) {
+            Some(total) => total > most,
+            None => true,
+        }
+    }
+
+    /// What is wrong with a subfile of `count` octets.
+    #[inline(always)]
+    pub(crate) fn subfile_cause(&self, count: u64) -> Option<SizeCause>
+        ensures { result ≡ subfile_cause self.now.mode self.now.subfile self.now.announced self.now.maximum
+            self.now.total count }
+    {
+        if is_given(self.mode, KNOWN) && self.announced.is_none() {
+            return Some(SizeCause::ModeClash);
+        }
+        if count > self.subfile.unwrap_or(0) {
+            return Some(SizeCause::SubfileTooLong);
+        }
+        if self.is_past(count) {
+            return Some(SizeCause::PastSize);
+        }
+        None
+    }
+
+    /// What is wrong with the end of the object.
+    #[inline(always)]
+    pub(crate) fn end_cause(&self) -> Option<SizeCause>
+        ensures { result ≡ end_cause self.now.announced self.now.total }
+    {
+        if self.total < self.announced.unwrap_or(0) {
+            return Some(SizeCause::Short);
+        }
+        None
+    }
+
+    /// What is wrong with the confirmed size.
+    #[inline(always)]
+    pub(crate) fn confirmed_cause(&self, number: u64) -> Option<SizeCause>
+        ensures { result ≡ confirmed_cause self.now.total number }
+    {
+        if number == self.total {
+            return None;
+        }
+        Some(SizeCause::ConfirmedWrong)
+    }
+}

@@ -1,0 +1,72 @@
+//! How each token leads on.
+
+ghost use Rattle.std.specs.Prelude.{Some, IfOk, IfErr, OnOk};
+ghost use Rattle.iim_object.specs.Format.Objects.{NumberRead, SubfileBegun, ObjectEnded, Confirmed};
+ghost use Rattle.iim_object.specs.States.Reading.{LeadsOn, LivesWith, Refuses};
+ghost use Rattle.iim_object.specs.States.KeptNumbers.{IsState};
+
+use crate::reading::fault::SizeCause;
+use crate::reading::state::State;
+
+/// Takes a number of record 7. Where it may not come, it changes nothing.
+#[inline(always)]
+pub(crate) fn take_number(state: State, set: u8, number: u64) -> Result<State, SizeCause>
+    requires { IsState state }
+    ensures is_state { IfOk result IsState }
+    ensures leads_on { IfOk result (λ new. LeadsOn (Some state) (NumberRead set number) (Some new)) }
+    ensures refused { IfErr result (Refuses (Some state) (NumberRead set number)) }
+{
+    if !state.takes_number(set, number) {
+        return Ok(state);
+    }
+    let new = state.with_number(set, number);
+    match new.number_cause() {
+        Some(cause) => Err(cause),
+        None => Ok(new),
+    }
+}
+
+/// Takes the head of a subfile of `count` octets. Where none may come, it changes nothing.
+#[inline(always)]
+pub(crate) fn take_subfile(state: State, count: u64) -> Result<State, SizeCause>
+    requires { IsState state }
+    ensures is_state { IfOk result IsState }
+    ensures leads_on { IfOk result (λ new. LeadsOn (Some state) (SubfileBegun count) (Some new)) }
+    ensures refused { IfErr result (Refuses (Some state) (SubfileBegun count)) }
+{
+    if !state.takes_subfile() {
+        return Ok(state);
+    }
+    match state.subfile_cause(count) {
+        Some(cause) => Err(cause),
+        None => Ok(state.with_subfile(count)),
+    }
+}
+
+/// Takes the end of the object.
+pub(crate) fn take_end(state: State) -> Result<State, SizeCause>
+    requires { IsState state }
+    ensures is_state { IfOk result IsState }
+    ensures leads_on { IfOk result (λ new. LeadsOn (Some state) ObjectEnded (Some new)) }
+    ensures lives { OnOk result (LivesWith (Some state) ObjectEnded) }
+    ensures refused { IfErr result (Refuses (Some state) ObjectEnded) }
+{
+    match state.end_cause() {
+        Some(cause) => Err(cause),
+        None => Ok(state),
+    }
+}
+
+/// Takes the confirmed size.
+#[inline(always)]
+pub(crate) fn take_confirmed(state: State, number: u64) -> Result<State, SizeCause>
+    requires { IsState state }
+    ensures is_state { IfOk result IsState }
+    ensures leads_on { IfOk result (λ new. LeadsOn (Some state) (Confirmed number) (Some new)) }
+    ensures refused { IfErr result (Refuses (Some state) (Confirmed number)) }
+{
+    match state.confirmed_cause(number) {
+        Some(cause) => Err(cause),
+        None => Ok(state),
+    }
+}

@@ -1,0 +1,214 @@
+//! An object, cut into subfiles as it comes.
+
+ghost use Rattle.std.specs.Prelude.{◌≡◌, ◌+◌, ◌-◌, ◌^◌, ◌<◌, ◌≤◌, length, take, true, false, IfOk, IfErr, OnOk, OnErr, IfSome, IfNone, Err};
+ghost use Rattle.iim_dataset.specs.Format.Datasets.{canonical_dataset};
+ghost use Rattle.iim_object.specs.Format.Packing.{subfile_dataset};
+ghost use Rattle.iim_object.specs.States.Writing.{most_of, total_of, Lengthens, BreaksOff, ContinuesWith, IsTheWhole, Finishes, write_cause, finish_cause, is_short};
+ghost use Rattle.iim_object.specs.Cutting.{writing_of, HasRoom, MayTake, Fills, Flushes, Halts};
+ghost use Rattle.iim_object.specs.declared.writing.cause.PackCause.TheVariants as causes;
+
+use crate::laws::objects_are_cut_one_way;
+use crate::plan::Plan;
+use crate::size::Size;
+use crate::writing::cause::PackCause;
+use crate::writing::output::Output;
+use iim_dataset::device_laws::texts_join;
+use iim_dataset::{ReservedOctets, Target};
+use iim_tables::records::{CONFIRMED_SIZE, OBJECT, POST_OBJECT, SUBFILE};
+
+/// The octets of an object that are not out, and how many are.
+#[derive(Drop)]
+pub(crate) struct Cutter<W> {
+    /// How the object is cut.
+    pub plan: Plan,
+    /// The octets that are not out.
+    pub held: ReservedOctets,
+    /// How many octets of the object are out.
+    pub sent: u64,
+    /// Where the object goes.
+    pub output: Output<W>,
+    /// Whether a write failed.
+    pub failed: bool,
+}
+
+/// Whether an object of `total` octets is below a known size.
+fn is_short(size: Size, total: u64) -> bool
+    ensures { result ≡ is_short size total }
+{
+    match size {
+        Size::Known(octets) => total < octets,
+        Size::Unknown(_) => false,
+    }
+}
+
+impl<W: Target> Cutter<W> {
+    /// How many octets of the object have come.
+    pub(crate) fn total(&self) -> u64
+        requires { HasRoom self.now }
+        ensures { result ≡ total_of (writing_of self.now) }
+    {
+        self.sent + self.held.len() as u64
+    }
+
+    /// Writes the octets that are held as a subfile.
+    fn flush(&mut self) -> Result<(), PackCause>
+        requires room { HasRoom self.old }
+        requires unfailed { self.old.failed ≡ false }
+        requires full { length self.old.held.items ≡ self.old.plan.subfile }
+        ensures ok { OnOk result (Flushes W.state self.old self.new) }
+        ensures room { HasRoom self.new }
+        ensures same_room { self.new.held.room ≡ self.old.held.room }
+        ensures err { OnErr result (Halts W.state self.old self.new
+            (canonical_dataset (subfile_dataset self.old.held.items))) }
+        ensures cause { IfErr result (λ cause. cause ≡ causes.Write) }
+    {
+        match self
+            .output
+            .put_dataset(OBJECT, SUBFILE, self.held.as_slice())
+        {
+            Ok(()) => {
+                self.sent += self.held.len() as u64;
+                self.held.clear();
+                Ok(())
+            }
+            Err(cause) => {
+                self.failed = true;
+                Err(cause)
+            }
+        }
+    }
+
+    /// Holds octets from the front, as many as the subfile has room for, and answers how many.
+    fn fill(&mut self, rest: &[u8]) -> usize
+        requires room { HasRoom self.old }
+        requires fits { total_of (writing_of self.old) + length rest.now ≤ most_of self.old.plan }
+        requires short { length self.old.held.items < self.old.plan.subfile }
+        ensures within { result ≤ length rest.now }
+        ensures some { 0 < length rest.now → 0 < result }
+        ensures fills { Fills self.old self.new (take result rest.now) }
+        ensures room { HasRoom self.new }
+    {
+        let room = (self.plan.subfile - self.held.len() as u64) as usize;
+        let taken = room.min(rest.len());
+        self.held.take(&rest[..taken]);
+        taken
+    }
+
+    /// Takes octets from the front, one at least, and answers how many.
+    fn take_front(&mut self, rest: &[u8]) -> Result<usize, PackCause>
+        requires room { HasRoom self.old }
+        requires may { MayTake self.old rest.now }
+        ensures room { HasRoom self.new }
+        ensures same_room { self.new.held.room ≡ self.old.held.room }
+        ensures within { IfOk result (λ taken. taken ≤ length rest.now) }
+        ensures some { IfOk result (λ taken. 0 < taken) }
+        ensures ok { IfOk result (λ taken.
+            Lengthens W.state (writing_of self.old) (writing_of self.new) (take taken rest.now)) }
+        ensures err { OnErr result (BreaksOff W.state (ContinuesWith self.old.plan rest.now) (writing_of self.old)
+            (writing_of self.new)) }
+        ensures cause { IfErr result (λ cause. cause ≡ causes.Write) }
+    {
+        texts_join();
+        if self.held.len() as u64 == self.plan.subfile {
+            return match self.flush() {
+                Ok(()) => Ok(self.fill(rest)),
+                Err(cause) => Err(cause),
+            };
+        }
+        Ok(self.fill(rest))
+    }
+
+    /// Why `octets` more octets are refused.
+    pub(crate) fn write_cause(&self, octets: usize) -> Option<PackCause>
+        requires room { HasRoom self.now }
+        requires small { octets < 2 ^ 63 }
+        ensures { result ≡ write_cause (writing_of self.now) octets }
+    {
+        if self.failed {
+            return Some(PackCause::Failed);
+        }
+        if self.total() + octets as u64 > self.plan.bound() {
+            return Some(PackCause::PastAnnounced);
+        }
+        None
+    }
+
+    /// Why the object may not end.
+    pub(crate) fn finish_cause(&self) -> Option<PackCause>
+        requires { HasRoom self.now }
+        ensures { result ≡ finish_cause (writing_of self.now) }
+    {
+        if self.failed {
+            return Some(PackCause::Failed);
+        }
+        if is_short(self.plan.size, self.total()) {
+            return Some(PackCause::ShortOfAnnounced);
+        }
+        None
+    }
+
+    /// As [`crate::SubfileWriter::write`] says.
+    pub(crate) fn write(&mut self, octets: &[u8]) -> Result<(), PackCause>
+        requires { HasRoom self.old }
+        ensures room { HasRoom self.new }
+        ensures same_room { self.new.held.room ≡ self.old.held.room }
+        ensures refused { IfSome (write_cause (writing_of self.old) (length octets.now))
+            (λ cause. (result ≡ Err cause) × (self.new ≡ self.old)) }
+        ensures ok { OnOk result (Lengthens W.state (writing_of self.old) (writing_of self.new) octets.now) }
+        ensures broke { IfNone (write_cause (writing_of self.old) (length octets.now))
+            (OnErr result (BreaksOff W.state (ContinuesWith self.old.plan octets.now) (writing_of self.old)
+            (writing_of self.new))) }
+        ensures cause { IfNone (write_cause (writing_of self.old) (length octets.now))
+            (IfErr result (λ cause. cause ≡ causes.Write)) }
+    {
+        texts_join();
+        if let Some(cause) = self.write_cause(octets.len()) {
+            return Err(cause);
+        }
+        let mut at = 0;
+        while at < octets.len() {
+            match self.take_front(&octets[at..]) {
+                Ok(taken) => at += taken,
+                Err(cause) => return Err(cause),
+            }
+        }
+        Ok(())
+    }
+
+    /// As [`crate::SubfileWriter::finish`] says.
+    pub(crate) fn finish(&mut self) -> Result<(), PackCause>
+        requires { HasRoom self.old }
+        ensures room { OnErr result (HasRoom self.new) }
+        ensures same_room { self.new.held.room ≡ self.old.held.room }
+        ensures refused { IfSome (finish_cause (writing_of self.old))
+            (λ cause. (result ≡ Err cause) × (self.new ≡ self.old)) }
+        ensures ok { OnOk result (Finishes W.state (writing_of self.old) self.new.output.writer) }
+        ensures broke { IfNone (finish_cause (writing_of self.old))
+            (OnErr result (BreaksOff W.state (IsTheWhole self.old.plan) (writing_of self.old) (writing_of self.new))) }
+        ensures cause { IfNone (finish_cause (writing_of self.old)) (IfErr result (λ cause. cause ≡ causes.Write)) }
+    {
+        texts_join();
+        objects_are_cut_one_way();
+        if let Some(cause) = self.finish_cause() {
+            return Err(cause);
+        }
+        let total = self.total();
+        match self
+            .output
+            .put_dataset(OBJECT, SUBFILE, self.held.as_slice())
+        {
+            Ok(()) => {}
+            Err(cause) => {
+                self.failed = true;
+                return Err(cause);
+            }
+        }
+        match self.output.put_number(POST_OBJECT, CONFIRMED_SIZE, total) {
+            Ok(()) => Ok(()),
+            Err(cause) => {
+                self.failed = true;
+                Err(cause)
+            }
+        }
+    }
+}

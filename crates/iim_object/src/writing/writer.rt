@@ -1,0 +1,164 @@
+//! A writer of an object in subfiles.
+
+ghost use Rattle.std.specs.Prelude.{◌≡◌, ◌⊎◌, ◌+◌, ◌<◌, ◌≤◌, ◌^◌, [], length, IfOk, IfErr, OnOk, OnErr, IfSome, IfNone, Err};
+ghost use Rattle.iim_dataset.specs.States.Devices.{Wrote, Stopped};
+ghost use Rattle.iim_object.specs.Format.Plans.{most_out};
+ghost use Rattle.iim_object.specs.States.Writing.{HasWritten, Lengthens, BreaksOff, ContinuesWith, IsTheWhole, Finishes, write_cause, finish_cause, RefusesOctets, RefusesEnd, plan_octets, total_of, most_of, room_of};
+ghost use Rattle.iim_object.specs.declared.writing.cause.PackCause.{PackCause as PackCauseValue};
+ghost use Rattle.iim_object.specs.declared.writing.cause.PackCause.TheVariants as causes;
+
+use crate::plan::Plan;
+use crate::writing::buffer::SubfileBuffer;
+use crate::writing::cause::{PackCause, StartFault};
+use crate::writing::cutter::Cutter;
+use crate::writing::output::Output;
+use iim_dataset::Target;
+use iim_dataset::device_laws::texts_join;
+use std::marker::Model;
+
+/// Writes an object by a plan: record 7, subfiles and record 9. It has no store beside its buffer, and holds at most the
+/// lesser of a subfile and the plan's bound, in octets. No call takes memory: the room was made by [`SubfileBuffer::reserve`].
+///
+/// What its contracts say holds of every object so far. Contracts see it as its plan, the octets that it holds, how many it has
+/// room for, how many octets of the object are out, how many octets are out in all, whether a write failed, and what it writes to.
+#[derive(Drop)]
+pub struct SubfileWriter<W> {
+    cutter: Cutter<W>,
+}
+
+impl<W> Model for SubfileWriter<W> {
+    ghost use Rattle.iim_object.specs.States.Writing.{Writing};
+    ghost use Rattle.iim_object.specs.Cutting.{writing_of, HasRoom};
+
+    ghost Value = { Writing W };
+
+    ghost view = { λ w. writing_of w.cutter };
+
+    ghost invariant = { λ w. HasRoom w.cutter };
+}
+
+impl<W: Target> SubfileWriter<W> {
+    /// Writes record 7 of the buffer's plan. The object is empty so far. Where the writer fails it is handed back, with as many
+    /// octets of record 7 out as the fault says.
+    pub fn start(buffer: SubfileBuffer, writer: W) -> Result<SubfileWriter<W>, StartFault<W>>
+        ensures plan { IfOk result (λ w. w.plan ≡ buffer) }
+        ensures room { IfOk result (λ w. w.room ≡ room_of buffer) }
+        ensures stands { IfOk result (λ w. HasWritten w [] (plan_octets buffer)) }
+        ensures wrote { IfOk result (λ w. Wrote (W.state writer) (W.state w.writer) (plan_octets buffer)) }
+        ensures cause { IfErr result (λ fault. fault.cause ≡ causes.Write) }
+        ensures stopped { IfErr result (λ fault.
+            Stopped (W.state writer) (W.state fault.writer) (plan_octets buffer) fault.written) }
+    {
+        let SubfileBuffer { plan, octets } = buffer;
+        let mut output = Output { writer, written: 0 };
+        match output.put_plan(plan) {
+            Ok(()) => {
+                let cutter = Cutter {
+                    plan,
+                    held: octets,
+                    sent: 0,
+                    output,
+                    failed: false,
+                };
+                Ok(SubfileWriter { cutter })
+            }
+            Err(cause) => {
+                let Output { writer, written } = output;
+                Err(StartFault {
+                    cause,
+                    writer,
+                    written,
+                })
+            }
+        }
+    }
+
+    /// Takes octets of the object. A cause is answered where it stands, and then nothing changes: after a failed write, or where
+    /// the object would pass the plan's bound. Else the octets are taken, or a write failed: what is out then begins all that
+    /// the plan's form may be of an object that begins so.
+    pub fn write(&mut self, octets: &[u8]) -> Result<(), PackCause>
+        // A cause is answered exactly where it stands, and then nothing changes.
+        ensures causes { (cause : PackCauseValue) → RefusesOctets self.old (length octets.now) cause
+            → (result ≡ Err cause) × (self.new ≡ self.old) }
+        ensures only { IfErr result (λ cause. (cause ≡ causes.Write)
+            ⊎ RefusesOctets self.old (length octets.now) cause) }
+        ensures refused { IfSome (write_cause self.old (length octets.now))
+            (λ cause. (result ≡ Err cause) × (self.new ≡ self.old)) }
+
+        // Else the octets are taken, or a write failed.
+        ensures ok { OnOk result (Lengthens W.state self.old self.new octets.now) }
+        ensures cause { IfNone (write_cause self.old (length octets.now))
+            (IfErr result (λ cause. cause ≡ causes.Write)) }
+        ensures broke { IfNone (write_cause self.old (length octets.now))
+            (OnErr result (BreaksOff W.state (ContinuesWith self.old.plan octets.now) self.old self.new)) }
+
+        // It asks for no memory.
+        ensures room { self.new.room ≡ self.old.room }
+    {
+        self.cutter.write(octets)
+    }
+
+    /// Writes the last subfile and record 9, and hands back what was written to. A cause is answered where it stands, and then
+    /// the writer is handed back unchanged: after a failed write, or where the object is below a known size. Where a write
+    /// fails, what is out begins the plan's form of the object.
+    pub fn finish(self) -> Result<W, (SubfileWriter<W>, PackCause)>
+        // A cause is answered exactly where it stands, and then nothing changes.
+        ensures causes { (cause : PackCauseValue) → RefusesEnd self cause → result ≡ Err (self, cause) }
+        ensures only { IfErr result (λ refused. (refused.1 ≡ causes.Write) ⊎ RefusesEnd self refused.1) }
+        ensures refused { IfSome (finish_cause self) (λ cause. result ≡ Err (self, cause)) }
+
+        // Else the object is out, or a write failed.
+        ensures ok { IfOk result (λ writer. Finishes W.state self writer) }
+        ensures cause { IfNone (finish_cause self) (IfErr result (λ refused. refused.1 ≡ causes.Write)) }
+        ensures broke { IfNone (finish_cause self)
+            (IfErr result (λ refused. BreaksOff W.state (IsTheWhole self.plan) self refused.0)) }
+
+        // It asks for no memory.
+        ensures room { IfErr result (λ refused. refused.0.room ≡ self.room) }
+    {
+        let mut cutter = self.cutter;
+        match cutter.finish() {
+            Ok(()) => Ok(cutter.output.writer),
+            Err(cause) => Err((SubfileWriter { cutter }, cause)),
+        }
+    }
+
+    /// How many octets of the object have come: never more than the plan's bound. Those that are held are at most the lesser of a
+    /// subfile and the bound.
+    pub fn total(&self) -> u64
+        ensures total { result ≡ total_of self.now }
+        ensures fits { result ≤ most_of self.now.plan }
+        ensures holds { length self.now.held ≤ room_of self.now.plan }
+    {
+        self.cutter.total()
+    }
+
+    /// Whether a write failed.
+    pub fn is_failed(&self) -> bool
+        ensures { result ≡ self.now.failed }
+    {
+        self.cutter.failed
+    }
+
+    /// The plan.
+    pub fn plan(&self) -> Plan
+        ensures { result ≡ self.now.plan }
+    {
+        self.cutter.plan
+    }
+
+    /// How many octets are out.
+    pub fn written(&self) -> u64
+        ensures count { result ≡ self.now.written }
+        ensures small { result < most_out }
+    {
+        self.cutter.output.written
+    }
+
+    /// What was written to, as it is.
+    pub fn into_writer(self) -> W
+        ensures { result ≡ self.writer }
+    {
+        self.cutter.output.writer
+    }
+}

@@ -1,0 +1,4 @@
+pub mod Begun
+pub mod Whole
+pub mod Starting
+pub mod Packing

@@ -1,0 +1,108 @@
+//! A whole envelope, packed in one call.
+
+ghost use Rattle.std.specs.Prelude.{◌≡◌, [], ◌∷◌, IfOk, IfErr, IfSome, IfNone, MatchResult};
+ghost use Rattle.iim_pack.specs.States.Packing.{written_of};
+ghost use Rattle.iim_pack.specs.States.Packing as words;
+ghost use Rattle.iim_object.specs.declared.writing.cause.PackCause.TheVariants as causes;
+ghost use Rattle.iim_pack.specs.Format.Orders.{IsFirstOf, AgainstPack};
+ghost use Rattle.iim_pack.specs.States.Starting.{StartIsRefused};
+ghost use Rattle.iim_pack.specs.States.Whole.{Packs, IsPackFault};
+
+use crate::cause::is_short;
+use crate::lines::put_lines;
+use crate::packer::Packer;
+use crate::size::packed_size;
+use iim_dataset::Target;
+use iim_dataset::device_laws::texts_join;
+use iim_fields::Envelope;
+use iim_object::{PackCause, Plan, StartFault};
+use std::alloc::Global;
+use wire_message::{MessageHead, is_trailer};
+use wire_story::Lines;
+use wire_story::laws::{
+    lines_are_packed_as_their_events, packed_lines_are_a_text, texts_are_collected_as_lines,
+    texts_are_delivered_as_lines,
+};
+
+/// Why an envelope may not be packed by a plan.
+fn pack_cause(head: &MessageHead, lines: &Lines, trailer: &[u8], plan: Plan) -> Option<PackCause>
+    ensures { result ≡ words.pack_cause head.now lines.now.lines trailer.now plan }
+{
+    if !is_trailer(trailer) {
+        return Some(PackCause::BadTrailer);
+    }
+    let Some(size) = packed_size(head, lines, trailer) else {
+        return Some(PackCause::PastAnnounced);
+    };
+    if size > plan.bound() {
+        return Some(PackCause::PastAnnounced);
+    }
+    if is_short(plan.size, size) {
+        return Some(PackCause::ShortOfAnnounced);
+    }
+    None
+}
+
+/// A packer that a write has broken, as a fault.
+fn given_back<W: Target>(packer: Packer<W>, cause: PackCause) -> StartFault<W>
+    ensures cause { result.cause ≡ cause }
+    ensures writer { result.writer ≡ packer.object.writer }
+    ensures written { result.written ≡ written_of packer }
+{
+    let written = packer.written();
+    let writer = packer.into_writer();
+    StartFault {
+        cause,
+        writer,
+        written,
+    }
+}
+
+/// Packs an envelope, a header, lines and a trailer by a plan, and hands back what was written to: the packed form is out.
+///
+/// Refuses, in this order: `BadTrailer` where the octets may be no trailer; `PastAnnounced` where the object passes the plan's bound;
+/// `ShortOfAnnounced` where it is below a known size; `OutOfMemory` where memory was refused; `Write` where a write failed. Nothing is
+/// written but for the last: then what is out, `written` octets, begins the packed form. The writer is handed back each time.
+pub fn pack<W: Target>(
+    alloc: Global,
+    envelope: &Envelope,
+    head: &MessageHead,
+    lines: &Lines,
+    trailer: &[u8],
+    plan: Plan,
+    writer: W,
+) -> Result<W, StartFault<W>>
+    ensures refused { IfSome (words.pack_cause head.now lines.now.lines trailer.now plan)
+        (λ cause. MatchResult result (λ _. ⊥) (StartIsRefused cause writer)) }
+    ensures order { IsFirstOf (AgainstPack head.now lines.now.lines trailer.now plan)
+        (causes.BadTrailer ∷ causes.PastAnnounced ∷ causes.ShortOfAnnounced ∷ [])
+        (words.pack_cause head.now lines.now.lines trailer.now plan) }
+    ensures ok { IfOk result (Packs W.state writer envelope.now head.now lines.now.lines trailer.now plan) }
+    ensures fault { IfNone (words.pack_cause head.now lines.now.lines trailer.now plan)
+        (IfErr result (IsPackFault W.state envelope.now head.now lines.now.lines trailer.now plan writer)) }
+{
+    texts_join();
+    lines_are_packed_as_their_events();
+    packed_lines_are_a_text();
+    texts_are_delivered_as_lines();
+    texts_are_collected_as_lines();
+    if let Some(cause) = pack_cause(head, lines, trailer, plan) {
+        return Err(StartFault {
+            cause,
+            writer,
+            written: 0,
+        });
+    }
+    let mut packer = match Packer::start(alloc, envelope, head, plan, writer) {
+        Ok(packer) => packer,
+        Err(fault) => return Err(fault),
+    };
+    match put_lines(&mut packer, lines) {
+        Ok(()) => {}
+        Err(cause) => return Err(given_back(packer, cause)),
+    }
+    match packer.finish(trailer) {
+        Ok(writer) => Ok(writer),
+        Err((packer, cause)) => Err(given_back(packer, cause)),
+    }
+}

@@ -1,0 +1,37 @@
+use Rattle.std.proofs.Common.{◌≡◌, ℕ, List, [], ◌∷◌, ◌++◌, length, sym, ap, ◌∙◌, append_assoc}
+use Rattle.std.specs.List.{flat_map}
+use Rattle.std.proofs.lemmas.List.{append-nil}
+use Rattle.iim_dataset.specs.Format.Datasets.{Dataset}
+use Rattle.iim_fields.specs.States.Walks.{rest_of}
+use Rattle.iim_unpack.specs.Format.Tickets.{four, field_octets}
+use Rattle.iim_unpack.proofs.ticket.spelling.push_fields.Goals as goal
+
+one_more : (done : List Dataset) (d : Dataset) → flat_map field_octets (done ++ d ∷ []) ≡ flat_map field_octets done ++ field_octets d
+one_more [] d = append-nil (field_octets d)
+one_more (x ∷ done) d =
+    ap (λ (l : List ℕ). field_octets x ++ l) (one_more done d) ∙ sym (append_assoc (field_octets x) (flat_map field_octets done) (field_octets d))
+
+pub loop-rec-init : goal.loop-rec-init
+loop-rec-init c = record { done = []; parts = sym c.kept-kept.ensures; spelled = c.in_ok-push_number.ensures ∙ ap (λ (n : ℕ). c.args.ticket.now.items ++ four n) c.kept_count.ensures ∙ sym (append-nil (c.args.ticket.now.items ++ four (length c.args.fields.now.kept))) }
+
+pub loop-rec-preserved : goal.loop-rec-preserved
+loop-rec-preserved c =
+    let done : List Dataset = c.loop-rec.invariant.done in
+    let d : Dataset = record { rec = c.in-Some.rec; set = c.in-Some.set; octets = c.in-Some.octets.now } in
+    let rest : List Dataset = rest_of c.next.new.self in
+    let front : List ℕ = c.args.ticket.now.items ++ four (length c.args.fields.now.kept) in
+    record {
+      done = done ++ d ∷ [];
+      parts = c.loop-rec.invariant.parts ∙ (ap (λ (t : List Dataset). done ++ t) c.in-Some.ensures.steps ∙ sym (append_assoc done (d ∷ []) rest));
+      spelled = c.in_ok-push_field.ensures ∙ (ap (λ (l : List ℕ). l ++ field_octets d) c.loop-rec.invariant.spelled
+          ∙ (append_assoc front (flat_map field_octets done) (field_octets d) ∙ ap (λ (l : List ℕ). front ++ l) (sym (one_more done d))));
+    }
+
+pub returns : goal.returns
+returns c =
+    let done : List Dataset = c.loop-rec.invariant.done in
+    let kept : List Dataset = c.args.fields.now.kept in
+    let front : List ℕ = c.args.ticket.now.items ++ four (length kept) in
+    c.loop-rec.invariant.spelled
+    ∙ ap (λ (ds : List Dataset). front ++ flat_map field_octets ds) (sym (c.loop-rec.invariant.parts ∙ (ap (λ (t : List Dataset). done ++ t) c.in_default.ensures.steps.0 ∙ append-nil done)))
+    ∙ append_assoc c.args.ticket.now.items (four (length kept)) (flat_map field_octets kept)

@@ -1,0 +1,17 @@
+use Rattle.std.proofs.Common.{◌≡◌, List, ◌++◌, length}
+use Rattle.std.specs.List.{flat_map}
+use Rattle.iim_dataset.specs.Format.Datasets.{Dataset}
+use Rattle.iim_fields.specs.States.Walks.{rest_of}
+use Rattle.iim_unpack.specs.Format.Tickets.{four, field_octets}
+use Rattle.iim_unpack.proofs.ticket.spelling.push_fields.Given as goal
+
+-- some datasets are there
+abbrev pub invariant-loop-rec : goal.invariant-loop-rec
+invariant-loop-rec l = record {
+  done : List Dataset;
+  parts : l.fn.fields.kept ≡ done ++ rest_of l.kept;
+  spelled : l.ticket.items ≡ (l.fn.ticket.items ++ four (length l.fn.fields.kept)) ++ flat_map field_octets done;
+}
+
+abbrev pub decreases-loop-rec : goal.decreases-loop-rec
+decreases-loop-rec l = length (rest_of l.kept)

@@ -1,0 +1,154 @@
+-- What an intake has next in line.
+use Rattle.std.specs.Prelude.{◌≡◌, ℕ, ◌<◌, ◌⊎◌, ⊤, false, List, [], ◌++◌, length, take, slice_index, Option, None, Some, Bool, true}
+use Rattle.std.specs.Io.KnownBytes.{IsAtEnd}
+use Rattle.iim_dataset.specs.States.Devices.{Device, HasGiven, MissedAfter}
+use Rattle.iim_dataset.specs.declared.device.IoFault.{IoFault}
+use Rattle.iim_dataset.specs.declared.device.IoFault.TheVariants as io
+use Rattle.iim_fields.specs.declared.limits.Limits.{Limits}
+use Rattle.wire_story.specs.Format.Delivery as story
+use Rattle.iim_unpack.specs.Format.Admitted.{Value, Admits}
+use Rattle.iim_unpack.specs.States.Blocks.{with_held}
+use Rattle.iim_unpack.specs.Format.Framed.{AreWithin}
+use Rattle.iim_unpack.specs.States.Parts.{CountsFor, has_ended}
+use Rattle.iim_unpack.specs.Format.Refusals.{refusal_at}
+use Rattle.iim_unpack.specs.States.Unpacking.{Unpacking, Stands, IsDoneWith, limits_in, raised}
+use Rattle.iim_unpack.specs.Format.Open.{IsOpen, Delivers, RefusesNext, IsTruncatedAt}
+use Rattle.iim_unpack.specs.Format.Value.{HasParts}
+use Rattle.iim_unpack.specs.declared.parts.fault.TokenFault.{TokenFault}
+use Rattle.iim_unpack.specs.declared.intake.Fed.{Fed}
+use Rattle.iim_unpack.specs.declared.intake.Fed.TheVariants as piece
+use Rattle.iim_unpack.specs.declared.intake.Intake.{Intake}
+use Rattle.iim_unpack.specs.declared.intake.IntakeFault.{IntakeFault}
+use Rattle.iim_unpack.specs.declared.intake.IntakeFault.TheVariants.{Refused, Read, Interrupted}
+use Rattle.iim_unpack.specs.declared.refusal.Refusal.{Refusal}
+use Rattle.iim_unpack.specs.declared.unpacker.Unpacked.{Unpacked}
+
+-- an intake's reader as a device, with the octets of the block put before its own: what is next in line
+abbrev pub in_line : {R : Type 0} → (R → Device) → Intake R → Device
+in_line state i = with_held i.block (state i.reader)
+
+-- The unpacker is neither done nor failed.
+abbrev pub IsReady : Unpacking → Type 0
+IsReady u = (u.refused ≡ None) × (has_ended u.parts ≡ false)
+
+-- Just these octets came from the line, and the sink was told this.
+pub record Came {S : Type 0} (goes : S → List story.StoryEvent → S → Type 0) (old new : Device) (a b : S) (octets : List ℕ) (more : List story.StoryEvent) : Type 0 where
+  pub given : HasGiven old new octets
+  pub told : goes a more b
+
+-- Nothing came, nothing is next in line, and the unpacker stands on no octets.
+pub record WasEnded {S : Type 0} (old new : Device) (u : Unpacking) (a b : S) : Type 0 where
+  pub given : HasGiven old new []
+  pub at_end : IsAtEnd new.octets
+  pub still : b ≡ a
+  pub none : (p : List ℕ) (n : ℕ) → Stands u p n → p ≡ []
+
+-- The unpacker stands on what it stood on and these octets, of which this is delivered.
+abbrev pub StandsOn : Unpacking → Unpacking → List ℕ → List story.StoryEvent → Type 0
+StandsOn u v octets more = (p : List ℕ) (a : ℕ) → Stands u p a → Stands v (p ++ octets) (raised a (length octets)) × Delivers p octets more
+
+-- Octets came, on which the unpacker stands now; `used` tells how many.
+pub record HasFed {S : Type 0} (goes : S → List story.StoryEvent → S → Type 0) (old new : Device) (u v : Unpacking) (a b : S) (used : ℕ) : Type 0 where
+  pub octets : List ℕ
+  pub more : List story.StoryEvent
+  pub came : Came goes old new a b octets more
+  pub counts : used ≡ raised 0 (length octets)
+  pub limits : limits_in v ≡ limits_in u
+  pub stands : StandsOn u v octets more
+
+-- Octets came, with which the unpacker is done; `used` tells how many.
+pub record WasDone {S : Type 0} (goes : S → List story.StoryEvent → S → Type 0) (old new : Device) (u v : Unpacking) (a b : S) (used : ℕ) : Type 0 where
+  pub octets : List ℕ
+  pub more : List story.StoryEvent
+  pub came : Came goes old new a b octets more
+  pub limits : limits_in v ≡ limits_in u
+  pub counts : used ≡ raised 0 (length octets)
+  pub done : (p : List ℕ) (n : ℕ) → Stands u p n → IsDoneWith v (p ++ octets) (raised n (length octets)) × Delivers p octets more
+
+-- What one piece came to: octets came, some, and the unpacker takes more; or it is done with them; or there are none, and it stands
+-- on none.
+abbrev pub FedPiece : {S : Type 0} → (S → List story.StoryEvent → S → Type 0) → Device → Device → Unpacking → Unpacking → S → S → Fed → Type 0
+FedPiece goes old new u v a b (piece.More used) = (0 < used) × IsReady v × HasFed goes old new u v a b used
+FedPiece goes old new u v a b (piece.Done used) = WasDone goes old new u v a b used
+FedPiece goes old new u v a b piece.End = WasEnded old new u a b
+
+-- What feeding up to the end of an envelope came to: the unpacker is done with the octets that came, or there are none, and it stands
+-- on none. (At the end, how many octets were used.)
+abbrev pub FedEnvelope : {S : Type 0} → (S → List story.StoryEvent → S → Type 0) → Device → Device → Unpacking → Unpacking → S → S → ℕ → Bool → Type 0
+FedEnvelope goes old new u v a b used true = WasDone goes old new u v a b used
+FedEnvelope goes old new u v a b used false = (used ≡ 0) × WasEnded old new u a b
+
+-- Octet k of those that came is refused, and of the octets before it this is delivered.
+pub record IsRefusedOf (limits : Limits) (p : List ℕ) (a : ℕ) (octets : List ℕ) (more : List story.StoryEvent) (e : Refusal) : Type 0 where
+  pub k : ℕ
+  pub within : k < length octets
+  pub fault : TokenFault
+  pub refusal : e ≡ refusal_at (raised a k) fault
+  pub adds : Delivers p (take k octets) more
+  pub refuses : RefusesNext limits (p ++ take k octets) (slice_index octets k) fault
+
+-- Octets came, of which one is refused.
+pub record WasRefused {S : Type 0} (goes : S → List story.StoryEvent → S → Type 0) (failures : S → ℕ) (old new : Device) (u : Unpacking) (a b : S) (e : Refusal) : Type 0 where
+  pub octets : List ℕ
+  pub more : List story.StoryEvent
+  pub came : Came goes old new a b octets more
+  pub counts : CountsFor e.cause (failures a) (failures b)
+  pub refuses : (p : List ℕ) (n : ℕ) → Stands u p n → IsRefusedOf (limits_in u) p n octets more e
+
+-- Octets that are open and not none, and that are told to be truncated.
+pub record IsTruncatedIn (limits : Limits) (p : List ℕ) (a : ℕ) (octets : List ℕ) (more : List story.StoryEvent) (e : Refusal) : Type 0 where
+  pub is_open : IsOpen limits (p ++ octets)
+  pub some : p ++ octets ≡ [] → ⊥
+  pub adds : Delivers p octets more
+  pub truncated : IsTruncatedAt (p ++ octets) (raised a (length octets)) e
+
+-- Octets came, nothing is next in line, and they are truncated.
+pub record WasTruncated {S : Type 0} (goes : S → List story.StoryEvent → S → Type 0) (failures : S → ℕ) (old new : Device) (u : Unpacking) (a b : S) (e : Refusal) : Type 0 where
+  pub octets : List ℕ
+  pub more : List story.StoryEvent
+  pub came : Came goes old new a b octets more
+  pub at_end : IsAtEnd new.octets
+  pub calm : failures b ≡ failures a
+  pub truncated : (p : List ℕ) (n : ℕ) → Stands u p n → IsTruncatedIn (limits_in u) p n octets more e
+
+-- Octets came, which are open, and then this fault; the number is what the unpacker counts then.
+pub record WasMissed {S : Type 0} (goes : S → List story.StoryEvent → S → Type 0) (failures : S → ℕ) (old new : Device) (u : Unpacking) (a b : S) (kept : ℕ) (fault : IoFault) : Type 0 where
+  pub octets : List ℕ
+  pub more : List story.StoryEvent
+  pub missed : MissedAfter old new octets fault
+  pub told : goes a more b
+  pub calm : failures b ≡ failures a
+  pub is_open : (p : List ℕ) (n : ℕ) → Stands u p n → IsOpen (limits_in u) (p ++ octets) × Delivers p octets more × (kept ≡ raised n (length octets))
+
+-- why an intake gives nothing, and the octet that it keeps for later calls
+abbrev pub Faults : {S : Type 0} → (S → List story.StoryEvent → S → Type 0) → (S → ℕ) → Device → Device → Unpacking → S → S → ℕ → IntakeFault → Type 0
+Faults goes failures old new u a b kept (Refused e) = (kept ≡ e.octet) × (WasRefused goes failures old new u a b e ⊎ WasTruncated goes failures old new u a b e)
+Faults goes failures old new u a b kept Read = WasMissed goes failures old new u a b kept io.Failed
+Faults goes failures old new u a b kept Interrupted = WasMissed goes failures old new u a b kept io.Interrupted
+
+-- It is a fault of the reader.
+abbrev pub IsOfReader : IntakeFault → Type 0
+IsOfReader (Refused e) = ⊥
+IsOfReader Read = ⊤
+IsOfReader Interrupted = ⊤
+
+-- The octets, after those on which an unpacker stood, are an envelope with this value.
+pub record ComesNext (limits : Limits) (p octets : List ℕ) (more : List story.StoryEvent) (got : Unpacked) : Type 0 where
+  pub value : Value
+  pub admits : Admits (p ++ octets) value
+  pub within : AreWithin limits admits.datasets
+  pub parts : HasParts got value
+  pub adds : Delivers p octets more
+
+-- Octets came, with which the envelope ends; `used` tells how many.
+pub record WasGiven {S : Type 0} (goes : S → List story.StoryEvent → S → Type 0) (old new : Device) (u : Unpacking) (a b : S) (used : ℕ) (got : Unpacked) : Type 0 where
+  pub octets : List ℕ
+  pub more : List story.StoryEvent
+  pub came : Came goes old new a b octets more
+  pub counts : used ≡ raised 0 (length octets)
+  pub envelope : (p : List ℕ) (n : ℕ) → Stands u p n → ComesNext (limits_in u) p octets more got
+
+-- what an intake gives, and how many octets it tells
+abbrev pub Gives : {S : Type 0} → (S → List story.StoryEvent → S → Type 0) → Device → Device → Unpacking → S → S → ℕ → Option Unpacked → Type 0
+Gives goes old new u a b used (Some got) = WasGiven goes old new u a b used got
+Gives goes old new u a b used None = (used ≡ 0) × WasEnded old new u a b

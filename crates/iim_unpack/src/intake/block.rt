@@ -1,0 +1,75 @@
+//! Octets that were read and not used yet.
+
+ghost use Rattle.std.specs.Prelude.{◌≡◌, ◌≤◌, [], ℕ, length, drop, IfOk, IfErr, OnErr};
+ghost use Rattle.std.specs.Io.KnownBytes.{IsAtEnd};
+ghost use Rattle.iim_dataset.specs.States.Devices.{Missed, HasGiven};
+
+use iim_dataset::{BLOCK, IoFault, Source, take};
+use std::marker::Model;
+
+/// Octets that were read and not used yet, in room for a read.
+#[derive(Drop)]
+pub(crate) struct Block {
+    octets: [u8; BLOCK],
+    from: usize,
+    to: usize,
+}
+
+impl Model for Block {
+    ghost use Rattle.std.specs.Prelude.{ℕ, List, ◌≤◌};
+    ghost use Rattle.iim_unpack.specs.HeldOctets.{held_in};
+
+    ghost Value = { List ℕ };
+
+    ghost view = { λ b. held_in b.octets b.from b.to };
+
+    ghost invariant = { λ b. (b.from ≤ b.to) × (b.to ≤ 4096) };
+}
+
+impl Block {
+    /// A block without octets.
+    pub(crate) fn new() -> Block
+        ensures { result ≡ [] }
+    {
+        Block {
+            octets: [0u8; BLOCK],
+            from: 0,
+            to: 0,
+        }
+    }
+
+    /// The octets.
+    pub(crate) fn held(&self) -> &[u8]
+        ensures { result.now ≡ self.now }
+    {
+        &self.octets[self.from..self.to]
+    }
+
+    /// Continues after the first `used` of the octets.
+    pub(crate) fn pass(&mut self, used: usize)
+        requires { used ≤ length self.old }
+        ensures { self.new ≡ drop used self.old }
+    {
+        self.from += used;
+    }
+
+    /// Reads once, past interruptions, in place of the octets; answers how many came: none only at the end.
+    pub(crate) fn fill<R: Source>(&mut self, reader: &mut R) -> Result<usize, IoFault>
+        ensures given { IfOk result (λ count. HasGiven (R.state reader.old) (R.state reader.new) self.new) }
+        ensures length { IfOk result (λ count. length self.new ≡ count) }
+        ensures end { IfOk result (λ count. count ≡ 0 → IsAtEnd (R.state reader.new).octets) }
+        ensures missed { IfErr result (Missed (R.state reader.old) (R.state reader.new)) }
+        ensures empty { OnErr result (self.new ≡ []) }
+        ensures leads { R.leads reader.old reader.new }
+    {
+        self.from = 0;
+        self.to = 0;
+        match take(reader, &mut self.octets) {
+            Ok(count) => {
+                self.to = count;
+                Ok(count)
+            }
+            Err(fault) => Err(fault),
+        }
+    }
+}

@@ -1,0 +1,199 @@
+//! The way of an object's octets to the message, and of its text to the caller's sink.
+
+ghost use Rattle.std.specs.Prelude.{◌≡◌, ◌<◌, length, map, take, slice_index, Some, IsSome, IfErr, OnOk, refl};
+ghost use Rattle.std.proofs.Common.{◌∙◌};
+ghost use Rattle.iim_object.specs.Format.Events.{ObjectOctet};
+ghost use Rattle.iim_object.specs.Format.Places.{head_token};
+ghost use Rattle.iim_object.specs.States.Reading.{LeadsOn, events_at};
+ghost use Rattle.iim_unpack.specs.Passed.{TellsMessage, MessageRefuses, PassesTo, HaltsAt, RefusesOctet, RefusesEnd, RefusesObject};
+ghost use Rattle.iim_unpack.specs.Passing.{tells_message_nothing, tells_message_joined, message_refuses_joined};
+
+use crate::parts::fault::{TokenFault, message_on, size_on};
+use iim_dataset::{Head, Stop};
+use iim_object::{ObjectFault, ObjectReader, ObjectSink};
+use wire_message::{MessageCause, MessageFault, MessageReader};
+use wire_story::StorySink;
+
+/// A sink of objects: the octets go to a reader of messages, and what is delivered of the text to a sink of stories.
+pub(crate) struct ToMessage<'m, 's, S> {
+    message: &'m mut MessageReader,
+    sink: &'s mut S,
+    cause: Option<MessageCause>,
+}
+
+impl<'m, 's, S: StorySink> ObjectSink for ToMessage<'m, 's, S> {
+    ghost goes = { PassesTo S.goes S.failures };
+
+    ghost stops = { HaltsAt S.goes S.failures };
+
+    ghost stands = { λ a. IsSome a.message.now };
+
+    ghost nothing = { λ a. (
+      refl,
+      refl,
+      λ some.
+          tells_message_nothing S.goes S.failures a.message.now a.sink.now some (S.nothing a.sink.now),
+    ) };
+
+    ghost joined = { λ a b c xs ys h k. (
+      h.0 ∙ k.0,
+      h.1 ∙ k.1,
+      λ some. let p = h.2 some in
+          tells_message_joined S.goes S.failures S.joined a.message.now b.message.now c.message.now a.sink.now
+          b.sink.now c.sink.now xs ys p (k.2 p.takes_calls),
+    ) };
+
+    ghost joined_stop = { λ a b c xs ys refused h k. (
+      h.0 ∙ k.0,
+      h.1 ∙ k.1,
+      λ some. let p = h.2 some in
+          message_refuses_joined S.goes S.failures S.joined a.message.now b.message.now a.sink.now b.sink.now c.sink.now
+          xs ys refused c.cause p (k.2 p.takes_calls),
+    ) };
+
+    fn run(&mut self, run: &[u8]) -> Result<(), Stop> {
+        if run.is_empty() {
+            return Ok(());
+        }
+        match self.message.feed(run, &mut *self.sink) {
+            Ok(()) => Ok(()),
+            Err(fault) => {
+                self.cause = Some(fault.cause);
+                Err(Stop { taken: fault.taken })
+            }
+        }
+    }
+
+    fn close(&mut self) -> Result<(), Stop> {
+        match self.message.close() {
+            Ok(()) => Ok(()),
+            Err(fault) => {
+                self.cause = Some(fault.cause);
+                Err(Stop { taken: 0 })
+            }
+        }
+    }
+}
+
+/// The end of a loan: what it is used on stays as it is.
+pub(crate) fn give_back<T>(lent: &mut T)
+    ensures { lent.new ≡ lent.old }
+{}
+
+/// Hands octets to the object, whose sink's references stay what they are.
+fn run_object<'m, 's, S: StorySink>(
+    object: &mut ObjectReader,
+    run: &[u8],
+    to: &mut ToMessage<'m, 's, S>,
+) -> Result<(), ObjectFault>
+    requires object { IsSome object.old }
+    requires message { IsSome to.old.message.now }
+    ensures same { OnOk result (object.new ≡ object.old) }
+    ensures message { to.new.message.ghost_name ≡ to.old.message.ghost_name }
+    ensures sink { to.new.sink.ghost_name ≡ to.old.sink.ghost_name }
+    ensures told { OnOk result (TellsMessage S.goes S.failures to.old.message.now to.old.sink.now
+        (map ObjectOctet run.now) to.new.message.now to.new.sink.now) }
+    ensures refused { IfErr result (RefusesOctet S.goes S.failures to.old.message.now to.old.sink.now run.now
+        to.new.cause to.new.sink.now) }
+{
+    object.run(run, to)
+}
+
+/// Hands the end of the object to the object reader.
+fn end_object<'m, 's, S: StorySink>(
+    object: &mut ObjectReader,
+    head: Head,
+    to: &mut ToMessage<'m, 's, S>,
+) -> Result<(), ObjectFault>
+    requires object { IsSome object.old }
+    requires message { IsSome to.old.message.now }
+    ensures message { to.new.message.ghost_name ≡ to.old.message.ghost_name }
+    ensures sink { to.new.sink.ghost_name ≡ to.old.sink.ghost_name }
+    ensures takes_calls { OnOk result (IsSome object.new) }
+    ensures leads_on { OnOk result (LeadsOn object.old (head_token head.rec head.count) object.new) }
+    ensures told { OnOk result (TellsMessage S.goes S.failures to.old.message.now to.old.sink.now (events_at head.rec)
+        to.new.message.now to.new.sink.now) }
+    ensures refused { IfErr result (RefusesEnd S.goes S.failures object.old (head_token head.rec head.count)
+        to.old.message.now to.old.sink.now to.new.cause to.new.sink.now) }
+{
+    object.head(head.rec, head.set, head.count, to)
+}
+
+/// Takes octets of the object.
+pub(crate) fn pass_octets<S: StorySink>(
+    object: &mut ObjectReader,
+    message: &mut MessageReader,
+    run: &[u8],
+    sink: &mut S,
+) -> Result<(), MessageFault>
+    requires object { IsSome object.old }
+    requires message { IsSome message.old }
+    ensures same { OnOk result (object.new ≡ object.old) }
+    ensures told { OnOk result (TellsMessage S.goes S.failures message.old sink.old (map ObjectOctet run.now)
+        message.new sink.new) }
+    ensures before { IfErr result (λ fault. fault.taken < length run.now) }
+    ensures refused { IfErr result (λ fault.
+        MessageRefuses S.goes S.failures message.old sink.old (map ObjectOctet (take fault.taken run.now))
+        (ObjectOctet (slice_index run.now fault.taken)) (Some fault.cause) sink.new) }
+{
+    let mut to = ToMessage {
+        message,
+        sink,
+        cause: None,
+    };
+    let answer = run_object(object, run, &mut to);
+    let ToMessage {
+        message: _message,
+        sink: same,
+        cause,
+    } = to;
+    give_back(same);
+    match answer {
+        Ok(()) => Ok(()),
+        Err(ObjectFault::Size { cause: _ }) => unreachable!(),
+        Err(ObjectFault::Stopped(stop)) => match cause {
+            Some(cause) => Err(MessageFault {
+                taken: stop.taken,
+                cause,
+            }),
+            None => unreachable!(),
+        },
+    }
+}
+
+/// Takes the head of a subfile, or of 9:10: the end of the object.
+pub(crate) fn pass_head<S: StorySink>(
+    object: &mut ObjectReader,
+    message: &mut MessageReader,
+    head: Head,
+    sink: &mut S,
+) -> Result<(), TokenFault>
+    requires object { IsSome object.old }
+    requires message { IsSome message.old }
+    ensures takes_calls { OnOk result (IsSome object.new) }
+    ensures leads_on { OnOk result (LeadsOn object.old (head_token head.rec head.count) object.new) }
+    ensures told { OnOk result (TellsMessage S.goes S.failures message.old sink.old (events_at head.rec) message.new
+        sink.new) }
+    ensures refused { IfErr result (RefusesObject S.goes S.failures object.old message.old head sink.old sink.new) }
+{
+    let mut to = ToMessage {
+        message,
+        sink,
+        cause: None,
+    };
+    let answer = end_object(object, head, &mut to);
+    let ToMessage {
+        message: _message,
+        sink: same,
+        cause,
+    } = to;
+    give_back(same);
+    match answer {
+        Ok(()) => Ok(()),
+        Err(ObjectFault::Size { cause }) => Err(size_on(head, cause)),
+        Err(ObjectFault::Stopped(_)) => match cause {
+            Some(cause) => Err(message_on(head, cause)),
+            None => unreachable!(),
+        },
+    }
+}

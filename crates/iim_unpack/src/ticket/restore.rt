@@ -1,0 +1,212 @@
+//! An unpacker, made again from a ticket.
+
+ghost use Rattle.std.specs.Prelude.{◌≡◌, ◌+◌, ℕ, List, length, IfSome, IfNone, IfOk, IfErr};
+ghost use Rattle.iim_dataset.specs.Format.Datasets.{Dataset};
+ghost use Rattle.iim_fields.specs.Format.Faults.{joined};
+ghost use Rattle.iim_fields.specs.Format.Bounds.{IsWithin};
+ghost use Rattle.iim_fields.specs.States.Standing.{StandsAfter, StandsIn, limits_of, room_for, room_of};
+ghost use Rattle.iim_unpack.specs.States.Begins.{AreNumbers};
+ghost use Rattle.iim_unpack.specs.ByLayers.{TagsLead, RecordsLive, are_ended};
+ghost use Rattle.iim_unpack.specs.States.Possible.{begun_count, begun_fields};
+ghost use Rattle.iim_unpack.specs.Restoring.{AreAtIn, RecordsStand, MayBegin, AreWithinWith, HasFew, IsLimitFault, has_come};
+ghost use Rattle.iim_unpack.specs.States.Restored.{IsRestored, IsRestoreFault};
+ghost use Rattle.iim_unpack.specs.Taking.{AreKept, told_datasets};
+ghost use Rattle.iim_unpack.specs.Format.TicketForm.{HasForm, SplitsTicket};
+ghost use Rattle.iim_unpack.specs.States.TicketsTold.{phase_told, split_told};
+ghost use Rattle.iim_unpack.specs.States.Unpacking.{room_in};
+
+use crate::laws::{
+    places_are_possible_by_layers, readers_make_unpackers, small_places_were_possible,
+    tickets_have_one_split, tickets_of_places_are_split,
+};
+use crate::parts::Parts;
+use crate::ticket::fault::TicketFault;
+use crate::ticket::fields::TicketFields;
+use crate::ticket::possible::{Readers, readers_at, some_ended};
+use crate::ticket::readers::has_ended;
+use crate::ticket::split::{TicketParts, TicketPhase, split_ticket};
+use crate::ticket::taker::take_told;
+use crate::unpacker::Unpacker;
+use iim_dataset::Head;
+use iim_fields::{FieldCause, Fields, Limits};
+use iim_tables::records::OBJECT;
+use std::alloc::{AllocError, Global};
+
+/// Takes the head and the data so far of a begun dataset. It has none of a subfile.
+fn take_begun(records: &mut Fields, head: Head, taken: &[u8])
+    requires stands { (ds : List Dataset) × StandsAfter records.old ds × MayBegin (limits_of records.old) ds head }
+    requires few { HasFew head taken.now }
+    ensures stands { (ds : List Dataset) → StandsAfter records.old ds → MayBegin (limits_of records.old) ds head
+        → StandsIn records.new ds head taken.now }
+    ensures limits { limits_of records.new ≡ limits_of records.old }
+    ensures room { room_of records.new ≡ room_of records.old }
+{
+    match records.begin(head) {
+        Ok(()) if head.rec == OBJECT => {}
+        Ok(()) => records.bytes(taken),
+        Err(_) => unreachable!(),
+    }
+}
+
+/// Takes what is begun after a head of the section.
+fn take_phase(records: &mut Fields, section: u8, phase: &TicketPhase<'_>)
+    requires stands { (ds : List Dataset) × StandsAfter records.old ds × RecordsLive section (phase_told phase.now) ds
+        × AreWithinWith (limits_of records.old) section (phase_told phase.now) ds }
+    requires tags { TagsLead section (phase_told phase.now) }
+    ensures stands { (ds : List Dataset) → StandsAfter records.old ds → RecordsLive section (phase_told phase.now) ds
+        → AreWithinWith (limits_of records.old) section (phase_told phase.now) ds
+        → RecordsStand records.new section (phase_told phase.now) ds }
+    ensures limits { limits_of records.new ≡ limits_of records.old }
+    ensures room { room_of records.new ≡ room_of records.old }
+{
+    if let TicketPhase::Data {
+        set,
+        count,
+        taken,
+        ..
+    } = phase
+    {
+        let head = Head {
+            rec: section,
+            set: *set,
+            count: *count,
+        };
+        take_begun(records, head, taken);
+    }
+}
+
+/// The reader of records at a ticket's place, with memory for just what the limits allow. An error says that memory was refused.
+fn records_at(
+    alloc: Global,
+    limits: Limits,
+    section: u8,
+    phase: &TicketPhase<'_>,
+    fields: TicketFields<'_>,
+    numbers: [Option<u64>; 4],
+    some: bool,
+) -> Result<Fields, AllocError>
+    requires fits { AreNumbers numbers }
+    requires kept { AreKept fields }
+    requires tags { TagsLead section (phase_told phase.now) }
+    requires lives { RecordsLive section (phase_told phase.now)
+        (told_datasets fields numbers some (are_ended (phase_told phase.now))) }
+    requires within { IsWithin limits (length (joined fields) + begun_count section (phase_told phase.now))
+        (length fields + begun_fields section (phase_told phase.now)) }
+    ensures stands { IfOk result (λ records.
+        RecordsStand records section (phase_told phase.now)
+        (told_datasets fields.entry numbers some (are_ended (phase_told phase.now)))) }
+    ensures limits { IfOk result (λ records. limits_of records ≡ limits) }
+    ensures room { IfOk result (λ records. room_of records ≡ room_for limits) }
+{
+    let mut records = Fields::new(alloc, limits)?;
+    if !take_told(&mut records, fields, numbers, some, has_ended(phase)) {
+        unreachable!()
+    }
+    take_phase(&mut records, section, phase);
+    Ok(records)
+}
+
+/// Whether an octet has come.
+fn has_come(section: u8, phase: &TicketPhase<'_>) -> bool
+    ensures { result ≡ has_come section (phase_told phase.now) }
+{
+    match phase {
+        TicketPhase::Tag(held) if section == 0 => !held.is_empty(),
+        _ => true,
+    }
+}
+
+/// Which limit `octets` octets and `fields` datasets pass, None where they pass none.
+fn limit_fault(limits: Limits, octets: u32, fields: u32) -> Option<TicketFault>
+    ensures some { IfSome result (λ fault. IsLimitFault limits octets fields fault) }
+    ensures none { IfNone result (IsWithin limits octets fields) }
+{
+    match limits.passed(u64::from(octets), u64::from(fields)) {
+        Some(FieldCause::HeaderFull) => Some(TicketFault::HeaderFull),
+        Some(FieldCause::TooManyFields) => Some(TicketFault::TooManyFields),
+        Some(_) => unreachable!(),
+        None => None,
+    }
+}
+
+/// The unpacker that these readers and the kept datasets of the ticket make, with memory for just what the limits allow. An error
+/// says that memory was refused.
+fn unpacker_at(
+    alloc: Global,
+    limits: Limits,
+    parts: &TicketParts<'_>,
+    readers: Readers,
+    at: u64,
+) -> Result<Unpacker, AllocError>
+    requires form { HasForm (split_told parts.now) }
+    requires readers { AreAtIn (split_told parts.now) readers }
+    requires within { IsWithin limits readers.octets readers.fields }
+    ensures restored { IfOk result (λ u. (ticket : List ℕ) → SplitsTicket ticket (split_told parts.now)
+        → IsRestored limits ticket at u) }
+    ensures room { IfOk result (λ u. room_in u ≡ room_for limits) }
+{
+    readers_make_unpackers();
+    places_are_possible_by_layers();
+    small_places_were_possible();
+    let fields = records_at(
+        alloc,
+        limits,
+        parts.section,
+        &parts.phase,
+        parts.fields.again(),
+        parts.numbers,
+        some_ended(parts.section, &parts.phase, parts.heads),
+    )?;
+    let begun = has_come(parts.section, &parts.phase);
+    let Readers {
+        tags,
+        object,
+        message,
+        ..
+    } = readers;
+    let parts = Parts {
+        fields,
+        object,
+        message,
+    };
+    Ok(Unpacker::at_place(tags, parts, at, begun))
+}
+
+impl Unpacker {
+    /// An unpacker at the place that a ticket tells, which has taken `at` octets. It continues as the saved one would under the
+    /// same limits, if its `octets()` are handed in as `at`: the same answers to all pieces, and the same lines. It has memory
+    /// for just what the limits allow, and no later call takes any.
+    ///
+    /// A ticket is of version 1 or 2. One of version 1 tells a place where an envelope can be by the sizes that there were when that
+    /// version was made; the unpacker goes on by those that there are.
+    ///
+    /// Refused are, in this order: octets that begin with no name of a ticket (`Form`); another version (`Version`); what else has
+    /// not the form of a ticket (`Form`); a place where no envelope can be (`Impossible`); one that passes a limit (`HeaderFull`,
+    /// else `TooManyFields`); and memory (`OutOfMemory`). Before that no memory is asked for.
+    pub fn restore(
+        alloc: Global,
+        limits: Limits,
+        ticket: &[u8],
+        at: u64,
+    ) -> Result<Unpacker, TicketFault>
+        ensures restored { IfOk result (IsRestored limits ticket.now at) }
+        ensures room { IfOk result (λ u. room_in u ≡ room_for limits) }
+        ensures fault { IfErr result (IsRestoreFault limits ticket.now) }
+    {
+        places_are_possible_by_layers();
+        small_places_were_possible();
+        tickets_of_places_are_split();
+        tickets_have_one_split();
+        let parts = split_ticket(ticket)?;
+        let Some(readers) = readers_at(&parts) else {
+            return Err(TicketFault::Impossible);
+        };
+        if let Some(fault) = limit_fault(limits, readers.octets, readers.fields) {
+            return Err(fault);
+        }
+        match unpacker_at(alloc, limits, &parts, readers, at) {
+            Ok(unpacker) => Ok(unpacker),
+            Err(_) => Err(TicketFault::OutOfMemory),
+        }
+    }
+}

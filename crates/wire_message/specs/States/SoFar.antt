@@ -1,0 +1,66 @@
+-- What octets so far are, where a message can continue from them.
+use Rattle.std.specs.Prelude.{◌≡◌, ℕ, ◌≤◌, ◌||◌, nat_lt, IsTrue, List, [], ◌∷◌, ◌++◌, length}
+use Rattle.iim_dataset.specs.Format.Characters.{soh, stx, etx, sp}
+use Rattle.wire_story.specs.Format.Texts.{AreLines}
+use Rattle.wire_story.specs.States.Reading as story
+use Rattle.wire_message.specs.Format.Fields.{Are, IsField, is_alphanumeric, is_filler_octet, is_text_octet, max_filler, max_source, max_number, max_priority, max_category, max_words}
+use Rattle.iim_dataset.specs.Format.Octets.{is_digit, is_letter}
+use Rattle.wire_message.specs.Format.Messages.{IsHeader, IsTrailer, IsFiller, IsGap, IsMessage, SpellsInfo, fixed_header, has_feed}
+use Rattle.wire_message.specs.declared.place.Place.{Place}
+use Rattle.wire_message.specs.declared.place.Place.TheVariants.{Filler, Source, Number, Priority, PriorityRead, Category, Words, Info, Gap, Text, Trailer, AfterEnd}
+
+-- What was read has lengths and octets with which a message can continue.
+abbrev pub IsPlace : Place → Type 0
+IsPlace (Filler count) = count ≤ max_filler
+IsPlace (Source s) = IsField is_letter 0 max_source s.items
+IsPlace (Number s n) = IsField is_letter 1 max_source s.items × IsField is_digit 1 max_number n.items
+IsPlace (Priority s n) = IsField is_letter 1 max_source s.items × IsField is_digit 1 max_number n.items
+IsPlace (PriorityRead s n p) = IsField is_letter 1 max_source s.items × IsField is_digit 1 max_number n.items × IsField is_digit 1 max_priority p.items
+IsPlace (Category s n p c) = IsField is_letter 1 max_source s.items × IsField is_digit 1 max_number n.items × IsField is_digit 1 max_priority p.items
+    × IsField is_alphanumeric 0 max_category c.items
+IsPlace (Words s n p c w) = IsField is_letter 1 max_source s.items × IsField is_digit 1 max_number n.items × IsField is_digit 1 max_priority p.items
+    × IsField is_alphanumeric 1 max_category c.items × IsField is_digit 0 max_words w.items
+IsPlace (Info h) = IsHeader h
+IsPlace (Gap h count feed) = IsHeader h × (1 ≤ count) × (count ≤ max_filler) × IsTrue (feed || nat_lt count max_filler)
+IsPlace (Text h reader) = IsHeader h × story.IsPlace reader
+IsPlace (Trailer h t) = IsHeader h × IsTrailer t.items
+IsPlace (AfterEnd h t count) = IsHeader h × IsTrailer t.items × (count ≤ max_filler)
+
+-- The octets are what was read, in order, with this text so far.
+abbrev pub Spells : List ℕ → List ℕ → Place → Type 0
+Spells octets text (Filler count) = IsFiller octets × (length octets ≡ count) × (text ≡ [])
+Spells octets text (Source s) = (before : List ℕ) × IsFiller before × (octets ≡ before ++ (soh ∷ s.items)) × (text ≡ [])
+Spells octets text (Number s n) = (before : List ℕ) × IsFiller before × (octets ≡ before ++ (soh ∷ (s.items ++ n.items))) × (text ≡ [])
+Spells octets text (Priority s n) = (before : List ℕ) × IsFiller before
+    × (octets ≡ before ++ (soh ∷ (s.items ++ (n.items ++ (sp ∷ []))))) × (text ≡ [])
+Spells octets text (PriorityRead s n p) = (before : List ℕ) × IsFiller before
+    × (octets ≡ before ++ (soh ∷ (s.items ++ (n.items ++ (sp ∷ p.items))))) × (text ≡ [])
+Spells octets text (Category s n p c) = (before : List ℕ) × IsFiller before
+    × (octets ≡ before ++ (soh ∷ (s.items ++ (n.items ++ (sp ∷ (p.items ++ (sp ∷ c.items))))))) × (text ≡ [])
+Spells octets text (Words s n p c w) = (before : List ℕ) × IsFiller before
+    × (octets ≡ before ++ (soh ∷ (s.items ++ (n.items ++ (sp ∷ (p.items ++ (sp ∷ (c.items ++ (sp ∷ w.items))))))))) × (text ≡ [])
+Spells octets text (Info h) = (before : List ℕ) × IsFiller before
+    × (octets ≡ before ++ (soh ∷ (fixed_header h ++ (sp ∷ h.info)))) × (text ≡ [])
+Spells octets text (Gap h count feed) = (before : List ℕ) × (info : List ℕ) × (gap : List ℕ) × IsFiller before × SpellsInfo h.info info
+    × Are is_filler_octet gap × (length gap ≡ count) × (has_feed gap ≡ feed)
+    × (octets ≡ before ++ (soh ∷ (fixed_header h ++ (info ++ gap)))) × (text ≡ [])
+Spells octets text (Text h reader) = (before : List ℕ) × (info : List ℕ) × (gap : List ℕ) × IsFiller before × SpellsInfo h.info info
+    × IsGap gap × Are is_text_octet text
+    × (octets ≡ before ++ (soh ∷ (fixed_header h ++ (info ++ (gap ++ (stx ∷ text))))))
+Spells octets text (Trailer h t) = (before : List ℕ) × (info : List ℕ) × (gap : List ℕ) × IsFiller before × SpellsInfo h.info info
+    × IsGap gap × Are is_text_octet text
+    × (octets ≡ before ++ (soh ∷ (fixed_header h ++ (info ++ (gap ++ (stx ∷ (text ++ (etx ∷ t.items))))))))
+Spells octets text (AfterEnd h t count) = (message : IsMessage octets h text t.items) × (length message.after ≡ count)
+
+-- The text so far is one of the story: a reader stands where it has taken it, and from ETX on it is whole.
+abbrev pub StoryStands : List ℕ → Place → Type 0
+StoryStands text (Text h reader) = story.StandsAt reader text
+StoryStands text (Trailer h t) = AreLines text
+StoryStands text (AfterEnd h t count) = AreLines text
+StoryStands text _ = text ≡ []
+
+-- The octets so far, with this text among them, have led to the place.
+pub record LeadsTo (octets text : List ℕ) (place : Place) : Type 0 where
+  pub is_place : IsPlace place
+  pub spelled : Spells octets text place
+  pub story : StoryStands text place

@@ -1,0 +1,41 @@
+use Rattle.std.proofs.Common.{ℕ, List, Some, refl, sym, subst, ◌∙◌, arith, drop, ap, length, length-drop}
+use Rattle.std.proofs.lemmas.List.{take_all, take_rest, drop-drop}
+use Rattle.wire_story.specs.Marking.{AreMarks}
+use Rattle.wire_story.specs.States.Reading.{TakesPiece}
+use Rattle.wire_story.proofs.Pieces.{leads_on_none}
+use Rattle.wire_story.proofs.Marked.{no_marks}
+use Rattle.wire_story.proofs.Fronts.{takes_both, refuses_later}
+use Rattle.wire_story.proofs.piece.take_piece.Goals as goal
+
+pub loop-at-init : goal.loop-at-init
+loop-at-init g c = record {
+  few = c.requires;
+  within = omega arith;
+  marks = subst (AreMarks c.args.piece.now) (sym c.new-marks.ensures) (no_marks c.args.piece.now);
+  taken = record { leads_on = leads_on_none (Some c.args.held); told = g.met.S.StorySink.nothing c.args.sink.now; calm = refl };
+}
+
+pub loop-at-preserved : goal.loop-at-preserved
+loop-at-preserved g c =
+    let piece = c.args.piece.now in
+    let at = c.loop-at.at in
+    let front = c.in-Ok.ensures.front in
+    let k = c.in-Ok.used in
+    record {
+      few = front.few;
+      within = omega (arith, front.within, ap length (take_rest piece at), length-drop at piece);
+      marks = subst (λ (xs : List ℕ). AreMarks xs c.in-Ok.after) (ap (drop k) (take_rest piece at) ∙ drop-drop k at piece) front.next;
+      taken =
+          takes_both g.S.StorySink.goes g.S.StorySink.failures g.met.S.StorySink.joined (Some c.args.held) (Some c.loop-at.now) (Some c.in-Ok.next) piece at k
+          c.args.sink.now c.loop-at.sink c.take_front.new.sink c.loop-at.invariant.taken c.in-Ok.ensures.taken;
+    }
+
+pub returns-in-Err-clause-refused : goal.returns-in-Err-clause-refused
+returns-in-Err-clause-refused g c =
+    refuses_later g.S.StorySink.goes g.S.StorySink.failures g.met.S.StorySink.joined (Some c.args.held) (Some c.loop-at.now) c.args.piece.now c.loop-at.at c.in-Err.fault
+    c.args.sink.now c.loop-at.sink c.take_front.new.sink c.loop-at.invariant.taken c.in-Err.ensures.refused
+
+pub returns-clause-taken : goal.returns-clause-taken
+returns-clause-taken g c =
+    subst (λ (xs : List ℕ). TakesPiece g.S.StorySink.goes g.S.StorySink.failures (Some c.args.held) xs (Some c.loop-at.now) c.args.sink.now c.loop-at.sink)
+    (take_all c.loop-at.at c.args.piece.now (omega arith)) c.loop-at.invariant.taken

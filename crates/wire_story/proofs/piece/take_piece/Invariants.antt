@@ -1,0 +1,16 @@
+use Rattle.std.proofs.Common.{◌≤◌, ◌-◌, take, drop, length, Some}
+use Rattle.wire_story.specs.States.Reading.{TakesPiece}
+use Rattle.wire_story.specs.Marking.{AreMarks}
+use Rattle.wire_story.proofs.piece.take_piece.Given as goal
+
+-- the octets so far were taken
+abbrev pub invariant-loop-at : goal.invariant-loop-at
+invariant-loop-at g l = record {
+  few : l.now ≤ 2;
+  within : l.at ≤ length l.piece;
+  marks : AreMarks (drop l.at l.piece) l.marks;
+  taken : TakesPiece g.S.StorySink.goes g.S.StorySink.failures (Some l.held) (take l.at l.piece) (Some l.now) l.initial.sink l.sink;
+}
+
+abbrev pub decreases-loop-at : goal.decreases-loop-at
+decreases-loop-at g l = length l.piece - l.at

@@ -1,0 +1,3 @@
+pub mod Packing
+pub mod Texts
+pub mod Words

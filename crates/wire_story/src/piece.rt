@@ -1,0 +1,211 @@
+//! How a piece of a text is read after some held CR or none: by the longest runs that lie in one line, and else octet by octet.
+
+ghost use Rattle.std.specs.Prelude.{◌≡◌, ◌<◌, ◌≤◌, false, length, drop, slice_index, take, Some, IfErr, IfOk, IsTrue, OnOk};
+ghost use Rattle.iim_dataset.specs.Format.Characters.{lf, cr};
+ghost use Rattle.wire_story.specs.Format.Texts.{is_line_octet, IsLine, max_returns};
+ghost use Rattle.wire_story.specs.States.Reading.{TakesPiece, RefusesOne};
+ghost use Rattle.wire_story.specs.Marking.{AreMarks, IsTextFront};
+
+use crate::fault::{TextCause, TextFault};
+use crate::marks::Marks;
+use crate::sink::StorySink;
+use iim_dataset::octets::{CR, LF};
+
+/// The most CR that may stand before an LF.
+const MAX_RETURNS: u8 = 2;
+
+/// The length of the longest front that lies in one line, after `held` CR, and the marks after it.
+#[inline(always)]
+fn run_len(held: u8, marks: Marks, octets: &[u8]) -> (usize, Marks)
+    requires { AreMarks octets.now marks }
+    ensures within { result.0 ≤ length octets.now }
+    ensures line { IsLine (take result.0 octets.now) }
+    ensures held { 0 < result.0 → held ≡ 0 }
+    ensures longest { held ≡ 0 → result.0 < length octets.now →
+        is_line_octet (slice_index octets.now result.0) ≡ false }
+    ensures marks { AreMarks (drop result.0 octets.now) result.1 }
+{
+    if held > 0 {
+        return (0, marks);
+    }
+    marks.run_len(octets)
+}
+
+/// Whether CR LF stands first, and no CR is held.
+#[inline(always)]
+fn has_line_end(held: u8, octets: &[u8]) -> bool
+    ensures none { IsTrue result → held ≡ 0 }
+    ensures two { IsTrue result → 2 ≤ length octets.now }
+    ensures first { IsTrue result → slice_index octets.now 0 ≡ cr }
+    ensures second { IsTrue result → slice_index octets.now 1 ≡ lf }
+{
+    held == 0 && octets.len() >= 2 && octets[0] == CR && octets[1] == LF
+}
+
+/// Takes the CR that stands first, or CR LF at once where no CR is held, and answers how many are held then and how many
+/// octets it took.
+#[inline(always)]
+fn take_return<S: StorySink>(held: u8, rest: &[u8], sink: &mut S) -> Result<(u8, usize), TextFault>
+    requires few { held ≤ max_returns }
+    requires some { 0 < length rest.now }
+    requires first { slice_index rest.now 0 ≡ cr }
+    ensures few { IfOk result (λ front. front.0 ≤ max_returns) }
+    ensures some { IfOk result (λ front. 0 < front.1) }
+    ensures within { IfOk result (λ front. front.1 ≤ length rest.now) }
+    ensures short { IfOk result (λ front. front.1 ≤ 2) }
+    ensures taken { IfOk result (λ front.
+        TakesPiece S.goes S.failures (Some held) (take front.1 rest.now) (Some front.0) sink.old sink.new) }
+    ensures refused { IfErr result (λ fault.
+        RefusesOne S.goes S.failures (Some held) rest.now fault sink.old sink.new) }
+{
+    if has_line_end(held, rest) {
+        return match sink.line_end() {
+            Ok(()) => Ok((0, 2)),
+            Err(_) => Err(TextFault {
+                taken: 1,
+                cause: TextCause::Sink,
+            }),
+        };
+    }
+    if held < MAX_RETURNS {
+        return Ok((held + 1, 1));
+    }
+    Err(TextFault {
+        taken: 0,
+        cause: TextCause::LoneReturn,
+    })
+}
+
+/// Takes what stands first, which is none of a line or stands after held CR, and answers how many are held then and how
+/// many octets it took.
+#[inline(always)]
+fn take_mark<S: StorySink>(held: u8, rest: &[u8], sink: &mut S) -> Result<(u8, usize), TextFault>
+    requires few { held ≤ max_returns }
+    requires some { 0 < length rest.now }
+    requires mark { held ≡ 0 → is_line_octet (slice_index rest.now 0) ≡ false }
+    ensures few { IfOk result (λ front. front.0 ≤ max_returns) }
+    ensures some { IfOk result (λ front. 0 < front.1) }
+    ensures within { IfOk result (λ front. front.1 ≤ length rest.now) }
+    ensures short { IfOk result (λ front. front.1 ≤ 2) }
+    ensures taken { IfOk result (λ front.
+        TakesPiece S.goes S.failures (Some held) (take front.1 rest.now) (Some front.0) sink.old sink.new) }
+    ensures refused { IfErr result (λ fault.
+        RefusesOne S.goes S.failures (Some held) rest.now fault sink.old sink.new) }
+{
+    let octet = rest[0];
+    if octet == LF {
+        return match sink.line_end() {
+            Ok(()) => Ok((0, 1)),
+            Err(_) => Err(TextFault {
+                taken: 0,
+                cause: TextCause::Sink,
+            }),
+        };
+    }
+    if octet == CR {
+        return take_return(held, rest, sink);
+    }
+    if held > 0 {
+        return Err(TextFault {
+            taken: 0,
+            cause: TextCause::LoneReturn,
+        });
+    }
+    Err(TextFault {
+        taken: 0,
+        cause: TextCause::ControlOctet,
+    })
+}
+
+/// Tells a run of a line at the front of the octets that are left, where there is one.
+#[inline(always)]
+fn take_run<S: StorySink>(held: u8, run: usize, rest: &[u8], sink: &mut S) -> Result<(), TextFault>
+    requires within { run ≤ length rest.now }
+    requires line { IsLine (take run rest.now) }
+    requires held { 0 < run → held ≡ 0 }
+    ensures taken { OnOk result (
+        TakesPiece S.goes S.failures (Some held) (take run rest.now) (Some held) sink.old sink.new) }
+    ensures refused { IfErr result (λ fault.
+        RefusesOne S.goes S.failures (Some held) rest.now fault sink.old sink.new) }
+{
+    if run == 0 {
+        return Ok(());
+    }
+    match sink.text(&rest[..run]) {
+        Ok(()) => Ok(()),
+        Err(stop) => Err(TextFault {
+            taken: stop.taken,
+            cause: TextCause::Sink,
+        }),
+    }
+}
+
+/// Takes a front of the octets that are left, the longest that lies in one line, and answers how many CR are held then
+/// and how many octets it took.
+#[inline(always)]
+fn take_front<S: StorySink>(
+    held: u8,
+    rest: &[u8],
+    marks: Marks,
+    sink: &mut S,
+) -> Result<(u8, usize, Marks), TextFault>
+    requires few { held ≤ max_returns }
+    requires some { 0 < length rest.now }
+    requires marks { AreMarks rest.now marks }
+    ensures front { IfOk result (λ front. IsTextFront rest.now front.0 front.1 front.2) }
+    ensures taken { IfOk result (λ front.
+        TakesPiece S.goes S.failures (Some held) (take front.1 rest.now) (Some front.0) sink.old sink.new) }
+    ensures refused { IfErr result (λ fault.
+        RefusesOne S.goes S.failures (Some held) rest.now fault sink.old sink.new) }
+{
+    let (run, here) = run_len(held, marks, rest);
+    match take_run(held, run, rest, sink) {
+        Ok(()) => {
+            if run == rest.len() {
+                return Ok((held, run, here));
+            }
+            match take_mark(held, &rest[run..], sink) {
+                Ok((now, used)) => Ok((now, run + used, here.after(used, &rest[run..]))),
+                Err(fault) => Err(TextFault {
+                    taken: run + fault.taken,
+                    cause: fault.cause,
+                }),
+            }
+        }
+        Err(fault) => Err(fault),
+    }
+}
+
+/// Takes a piece after `held` CR, and answers how many are held then.
+pub(crate) fn take_piece<S: StorySink>(
+    held: u8,
+    piece: &[u8],
+    sink: &mut S,
+) -> Result<u8, TextFault>
+    requires { held ≤ max_returns }
+    ensures few { IfOk result (λ now. now ≤ max_returns) }
+    ensures taken { IfOk result (λ now.
+        TakesPiece S.goes S.failures (Some held) piece.now (Some now) sink.old sink.new) }
+    ensures refused { IfErr result (λ fault.
+        RefusesOne S.goes S.failures (Some held) piece.now fault sink.old sink.new) }
+{
+    let mut now = held;
+    let mut at = 0;
+    let mut marks = Marks::new();
+    while at < piece.len() {
+        match take_front(now, &piece[at..], marks, sink) {
+            Ok((next, used, after)) => {
+                now = next;
+                marks = after;
+                at += used;
+            }
+            Err(fault) => {
+                return Err(TextFault {
+                    taken: at + fault.taken,
+                    cause: fault.cause,
+                });
+            }
+        }
+    }
+    Ok(now)
+}
