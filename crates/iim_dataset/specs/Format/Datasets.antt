@@ -42,9 +42,8 @@ IsExtendedCount limit count high low more =
 
 -- The octets spell the count of a tag.
 abbrev pub SpellsCount : ℕ → ℕ → List ℕ → Type 0
-SpellsCount limit count [] = ⊥
-SpellsCount limit count (high ∷ []) = ⊥
 SpellsCount limit count (high ∷ low ∷ more) = IsStandardCount count high low more ⊎ IsExtendedCount limit count high low more
+SpellsCount limit count fewer = ⊥
 
 -- A tag: the tag marker 1Ch, the record number, the dataset number and the count.
 pub record SpellsTag (limit : ℕ) (h : Head) (tag : List ℕ) : Type 0 where

@@ -1,7 +1,7 @@
 -- The first fault of a head after datasets, and of a value.
 use Rattle.std.specs.Prelude.{ℕ, Bool, false, not, ◌&&◌, ◌||◌, ◌==◌, ◌+◌, nat_le, if◌then◌else◌, List, [], ◌∷◌, length, flat_map, Option, Some, None}
 use Rattle.std.specs.List.{find, filter}
-use Rattle.std.specs.Option.{option_or}
+use Rattle.std.specs.Option.{option_or, option_map}
 use Rattle.iim_dataset.specs.Format.Datasets.{Dataset, head_of, of_record}
 use Rattle.iim_dataset.specs.declared.head.Head.{Head}
 use Rattle.iim_dataset.specs.Format.Octets.{within}
@@ -52,8 +52,7 @@ row_fault again (Some r) h =
 
 -- the lowest number that is missing, where one is
 abbrev pub missing_fault : ℕ → Option ℕ → Option FieldFault
-missing_fault present None = None
-missing_fault present (Some n) = Some (record { rec = present; set = n; cause = Missing })
+missing_fault present number = option_map (λ n. record { rec = present; set = n; cause = Missing }) number
 
 -- the lowest mandatory number that did not occur
 abbrev pub missing_of : ℕ → (ℕ → Bool) → Option ℕ

@@ -14,9 +14,8 @@ is_given (Some m) n = m == n
 
 -- both are given, and the first is above the second
 abbrev pub is_above : Option ℕ → Option ℕ → Bool
-is_above None maximum = false
-is_above (Some a) None = false
 is_above (Some a) (Some m) = nat_lt m a
+is_above announced maximum = false
 
 -- of a number of record 7: mode 0 with an announced size; an announced size above the maximum
 abbrev pub number_cause : Option ℕ → Option ℕ → Option ℕ → Option SizeCause

@@ -68,11 +68,5 @@ pub record Suits (subfile : ℕ) (size : Size) (object : List ℕ) : Type 0 wher
 
 -- the sizes of the plan, and of the object and its parts
 abbrev pub packed_sizes : ℕ → Size → List ℕ → List (List ℕ) → Sizes
-packed_sizes subfile size object parts = record {
-  known = is_known size;
-  subfile = subfile;
-  announced = announced_of size;
-  maximum = maximum_of size;
-  subfiles = length parts;
-  total = length object;
-}
+packed_sizes subfile size object parts =
+    record { known = is_known size; subfile = subfile; announced = announced_of size; maximum = maximum_of size; subfiles = length parts; total = length object }

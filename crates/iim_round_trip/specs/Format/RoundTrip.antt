@@ -40,13 +40,9 @@ pub record IsGivenBack {S : Type 0} (goes : S → List story.StoryEvent → S �
 
 -- the value that was packed, in these parts
 abbrev pub packed_value : List Dataset → Header → List (List ℕ) → List ℕ → Plan → List (List ℕ) → Value
-packed_value fields head lines trailer plan parts = record {
-  fields = fields;
-  head = head;
-  lines = lines;
-  trailer = trailer;
-  sizes = packed_sizes plan.subfile plan.size (canonical head lines trailer) parts;
-}
+packed_value fields head lines trailer plan parts =
+    let sizes = packed_sizes plan.subfile plan.size (canonical head lines trailer) parts in
+    record { fields = fields; head = head; lines = lines; trailer = trailer; sizes = sizes }
 
 -- If the stream begins with what was packed, within the limits, then this is given back.
 abbrev pub GivesBack : {S : Type 0} → (S → List story.StoryEvent → S → Type 0) → Limits → List ℕ → S → S → Unpacked → ℕ → Type 0

@@ -12,8 +12,7 @@ use Rattle.iim_tables.specs.declared.shape.Duty.TheVariants.{Mandatory, Optional
 -- 7:90 has to occur by the mode: that is a matter of sizes
 abbrev pub has_to_occur : Duty → Bool
 has_to_occur Mandatory = true
-has_to_occur Optional = false
-has_to_occur ByMode = false
+has_to_occur other = false
 
 -- the numbers of the datasets that the record must have, in the order of the table: lowest first
 abbrev pub mandatory : ℕ → List ℕ

@@ -70,8 +70,7 @@ table =
     ∷ entry 7 90 1 size_octets Size ByMode false  -- ObjectData Size Announced
     ∷ entry 7 95 1 size_octets Size Optional false  -- Maximum ObjectData Size
     ∷ entry 8 10 0 greatest_size Octets Mandatory true  -- Subfile
-    ∷ entry 9 10 1 size_octets Size Mandatory false  -- Confirmed ObjectData Size
-    ∷ []
+    ∷ entry 9 10 1 size_octets Size Mandatory false ∷ []  -- Confirmed ObjectData Size
 
 -- the line is that of the record and number
 abbrev pub is_for : ℕ → ℕ → Entry → Bool

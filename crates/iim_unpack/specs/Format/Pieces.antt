@@ -47,8 +47,6 @@ IsTurnedDown goes limits stream a b e = IsStopped goes limits stream a b e ⊎ I
 -- The result is the answer.
 abbrev pub IsAnswer : Result (Unpacked × ℕ) Refusal → Answer → Type 0
 IsAnswer (Ok got) (Finished used value) = HasParts got.0 value × (got.1 ≡ used)
-IsAnswer (Ok got) (Refused e) = ⊥
-IsAnswer (Ok got) (Truncated e) = ⊥
-IsAnswer (Err e) (Finished used value) = ⊥
 IsAnswer (Err e) (Refused f) = e ≡ f
 IsAnswer (Err e) (Truncated f) = e ≡ f
+IsAnswer result answer = ⊥

@@ -32,15 +32,9 @@ cause_of fields.TooManyFields = causes.TooManyFields
 
 -- the layer that refuses for it: the limits, or the record layer
 abbrev pub layer_of : FieldCause → Layer
-layer_of fields.RecordOrder = layers.Record
-layer_of fields.UnknownDataset = layers.Record
-layer_of fields.Repeated = layers.Record
-layer_of fields.CountRange = layers.Record
-layer_of fields.Missing = layers.Record
-layer_of fields.BadValue = layers.Record
-layer_of fields.FileFormat = layers.Record
 layer_of fields.HeaderFull = layers.Limits
 layer_of fields.TooManyFields = layers.Limits
+layer_of other = layers.Record
 
 abbrev pub cause_of_size : SizeCause → Cause
 cause_of_size sizes.ModeClash = causes.ModeClash
@@ -68,11 +62,10 @@ refusal_at octet fault = record { layer = fault.layer; rec = fault.rec; set = fa
 
 -- the layer that refuses for a cause of the message
 abbrev pub layer_of_message : MessageCause → Layer
-layer_of_message messages.BadOctet = layers.Message
-layer_of_message messages.Unfinished = layers.Message
 layer_of_message messages.LoneReturn = layers.Story
 layer_of_message messages.ControlOctet = layers.Story
 layer_of_message messages.Sink = layers.Outside
+layer_of_message other = layers.Message
 
 abbrev pub cause_of_message : MessageCause → Cause
 cause_of_message messages.BadOctet = causes.BadOctet

@@ -59,23 +59,16 @@ MayContinue limits whole (InData h taken) = CanContinueAt limits whole h
 -- With the head the layer is dead, and those that are asked before are alive: first the record layer, then the limits, then
 -- the object layer.
 abbrev pub DiesAtHead : Layer → Limits → List Dataset → Head → Type 0
-DiesAtHead layers.Dataset limits ds h = ⊥
 DiesAtHead layers.Record limits ds h = SectionsLiveAt ds h → ⊥
 DiesAtHead layers.Limits limits ds h = SectionsLiveAt ds h × (HaveRoom limits ds h → ⊥)
 DiesAtHead layers.Object limits ds h = SectionsLiveAt ds h × HaveRoom limits ds h × (ObjectLives (place_at ds h) → ⊥)
-DiesAtHead layers.Message limits ds h = ⊥
-DiesAtHead layers.Story limits ds h = ⊥
-DiesAtHead layers.Outside limits ds h = ⊥
+DiesAtHead other limits ds h = ⊥
 
 -- With the value the layer is dead, and those that are asked before are alive.
 abbrev pub DiesAtValue : Layer → List Dataset → Dataset → Type 0
-DiesAtValue layers.Dataset ds d = ⊥
 DiesAtValue layers.Record ds d = SectionsLive (ds ++ d ∷ []) → ⊥
-DiesAtValue layers.Limits ds d = ⊥
 DiesAtValue layers.Object ds d = SectionsLive (ds ++ d ∷ []) × (ObjectLives (place_after_datasets (ds ++ d ∷ [])) → ⊥)
-DiesAtValue layers.Message ds d = ⊥
-DiesAtValue layers.Story ds d = ⊥
-DiesAtValue layers.Outside ds d = ⊥
+DiesAtValue other ds d = ⊥
 
 -- ---- first faults
 
