@@ -14,15 +14,12 @@ use iim_dataset::Source;
 use iim_dataset::device_laws::gifts_join;
 use iim_dataset::laws::{events_tell_the_datasets, octets_are_handed_on_one_way};
 use iim_fields::Limits;
-use iim_unpack::{Intake, Unpacker};
+use iim_unpack::{Intake, MAX_ENVELOPES, Unpacker};
 use jiff::Timestamp;
 use std::alloc::Global;
 use wire_message::laws::texts_stand_between_stx_and_etx;
 use wire_story::WordCount;
 use wire_story::laws::texts_are_counted_as_lines;
-
-/// The most envelopes that one audit lists.
-pub const MAX_ENVELOPES: u64 = 1_000_000;
 
 /// Begins an unpacker again and feeds it the next envelope of an intake: answers how many words its lines have, or None at the end of
 /// the input.

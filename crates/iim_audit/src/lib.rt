@@ -8,7 +8,6 @@
 mod age;
 mod auditing;
 mod copy;
-mod dash;
 mod fault;
 mod ledger;
 mod line;
@@ -18,9 +17,8 @@ mod row;
 mod text;
 
 pub use age::whole_seconds_are_floors;
-pub use auditing::{MAX_ENVELOPES, audit};
+pub use auditing::audit;
 pub use copy::CopyState;
-pub use dash::NumberOrDash;
 pub use fault::{AuditCause, AuditFault};
 pub use line::ReportLine;
 pub use report::Report;

@@ -1,9 +1,10 @@
 //! Lines of a report, in a fixed room.
 
 ghost use Rattle.std.specs.Prelude.{◌≡◌, ◌+◌, ◌*◌, ◌≤◌, ◌<◌, [], ◌++◌, length};
-ghost use Rattle.iim_dataset.specs.Format.Shown.{hex_digit, is_plain, shown, shown_octet};
+ghost use Rattle.iim_dataset.specs.Format.Shown.{shown, shown_octet};
 
 use arrayvec::ArrayVec;
+use iim_dataset::{escaped, is_plain};
 use itoa::{Buffer, Integer};
 use std::marker::Model;
 
@@ -22,25 +23,6 @@ impl Model for ReportLine {
     ghost Value = { List ℕ };
 
     ghost view = { λ line. line.octets.items };
-}
-
-/// The digit of a number below 16: `0` to `9`, `A` to `F`.
-fn hex_digit(number: u8) -> u8
-    requires { number < 16 }
-    ensures { result ≡ hex_digit number }
-{
-    if number < 10 {
-        b'0' + number
-    } else {
-        b'A' - 10 + number
-    }
-}
-
-/// Whether an octet stands for itself where octets are shown.
-fn is_plain(octet: u8) -> bool
-    ensures { result ≡ is_plain octet }
-{
-    octet >= b' ' && octet <= b'~' && octet != b'\\'
 }
 
 impl ReportLine {
@@ -88,7 +70,7 @@ impl ReportLine {
         if is_plain(octet) {
             self.push(&[octet]);
         } else {
-            self.push(&[b'\\', b'x', hex_digit(octet / 16), hex_digit(octet % 16)]);
+            self.push(&escaped(octet));
         }
     }
 

@@ -1,7 +1,8 @@
 //! The text of a report.
 
 ghost use Rattle.std.specs.Prelude.{◌≡◌, ◌+◌, ◌≤◌, [], ◌++◌, length, IfOk};
-ghost use Rattle.iim_audit.specs.Format.Texts.{ages_of, held_rows, is_held, known_by, number_or_dash, repeated_rows, row_line, seconds_or_dash, sizes_of, sums_line, printed_report};
+ghost use Rattle.iim_audit.specs.Format.Texts.{ages_of, held_rows, is_held, known_by, repeated_rows, row_line, seconds_or_dash, sizes_of, sums_line, printed_report};
+ghost use Rattle.iim_dataset.specs.Format.Shown.{number_or_dash};
 ghost use Rattle.iim_audit.specs.Lines.{IsShort};
 
 use crate::copy::CopyState;

@@ -15,10 +15,9 @@ use crate::fault::CommandFault;
 use crate::lines::{TOO_MANY, add, add_last, push_refused};
 use crate::silent::Silent;
 use crate::status::{ACCEPTED, REFUSED};
-use iim_audit::MAX_ENVELOPES;
 use iim_dataset::device_laws::{gifts_join, texts_join};
 use iim_dataset::{Source, Target};
-use iim_unpack::{Intake, UnpackedRef, Unpacker};
+use iim_unpack::{Intake, MAX_ENVELOPES, UnpackedRef, Unpacker};
 use std::alloc::{AllocError, Global};
 
 /// Reports the envelopes of an input. Where memory is short, some of the report may be held.

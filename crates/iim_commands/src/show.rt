@@ -1,7 +1,7 @@
 //! `show`: all parts of each envelope but its story.
 
 ghost use Rattle.std.specs.Prelude.{◌≡◌, ◌++◌, ◌∷◌, OnOk, codes, decimal};
-ghost use Rattle.iim_audit.specs.Format.Texts.{number_or_dash};
+ghost use Rattle.iim_dataset.specs.Format.Shown.{number_or_dash};
 ghost use Rattle.iim_script.specs.Format.Printed.{after_space, field_line, message_line, trailer_line};
 ghost use Rattle.iim_commands.specs.Format.Texts.{mode_of, number_line, shown_of, sizes_line};
 ghost use Rattle.std.specs.List.{flat_map};
@@ -10,8 +10,7 @@ ghost use Rattle.iim_dataset.specs.Format.Characters.{sp};
 use crate::lines::push_printed;
 use crate::list::EnvelopeLines;
 use crate::shown::push_after_space;
-use iim_audit::NumberOrDash;
-use iim_dataset::DatasetName;
+use iim_dataset::{DatasetName, NumberOrDash};
 use iim_fields::EnvelopeRef;
 use iim_object::Sizes;
 use iim_unpack::UnpackedRef;

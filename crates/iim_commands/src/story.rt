@@ -13,11 +13,10 @@ use crate::fault::CommandFault;
 use crate::laws::envelopes_are_delivered_as_lines;
 use crate::lines::{TOO_MANY, push_accepted, push_refused, say};
 use crate::status::{ACCEPTED, REFUSED};
-use iim_audit::MAX_ENVELOPES;
 use iim_dataset::device_laws::{gifts_join, texts_join};
 use iim_dataset::octets::LF;
 use iim_dataset::{Source, Target};
-use iim_unpack::{Intake, Unpacker};
+use iim_unpack::{Intake, MAX_ENVELOPES, Unpacker};
 use std::alloc::Global;
 use wire_story::laws::lines_are_joined_by_line_feeds;
 

@@ -8,6 +8,7 @@
 //! [`take`] and [`put`] alone.
 #![tactic(auto)]
 
+mod dash;
 mod device;
 pub mod device_laws;
 mod fault;
@@ -28,6 +29,7 @@ mod stop;
 mod target;
 mod trial;
 
+pub use dash::NumberOrDash;
 pub use device::IoFault;
 pub use fault::{Fault, FaultCause};
 pub use head::{EXTENDED, Head, HeadCause, HeadFault, TAG_MARKER, TAG_OCTETS, head_bytes};
@@ -36,7 +38,7 @@ pub use number::{NUMBER_OCTETS, number_bytes};
 pub use place::{DatasetPlace, HELD_OCTETS};
 pub use reader::HeadReader;
 pub use reserved::ReservedOctets;
-pub use shown::{push_escape, push_shown};
+pub use shown::{escaped, is_plain, push_escape, push_shown};
 pub use sink::{DatasetSink, Step};
 pub use size::{COUNT_OCTETS, GREATEST_SIZE};
 pub use source::{BLOCK, FromRead, Source, take};

@@ -17,16 +17,22 @@ fn hex_digit(number: u8) -> u8
     }
 }
 
+/// `\x` and the two digits of an octet.
+pub fn escaped(octet: u8) -> [u8; 4]
+    ensures { result ≡ escape octet }
+{
+    [b'\\', b'x', hex_digit(octet / 16), hex_digit(octet % 16)]
+}
+
 /// Adds `\x` and the two digits of an octet. An error says that memory was refused.
 pub fn push_escape(text: &mut Vec<u8>, octet: u8) -> Result<(), AllocError>
     ensures { OnOk result (text.new.items ≡ text.old.items ++ escape octet) }
 {
-    let digits = [b'\\', b'x', hex_digit(octet / 16), hex_digit(octet % 16)];
-    text.extend_from_slice(&digits)
+    text.extend_from_slice(&escaped(octet))
 }
 
-/// Whether an octet stands for itself where octets are shown.
-fn is_plain(octet: u8) -> bool
+/// Whether an octet stands for itself where octets are shown: from 20 to 7E hexadecimal, but for the backslash.
+pub fn is_plain(octet: u8) -> bool
     ensures { result ≡ is_plain octet }
 {
     octet >= b' ' && octet <= b'~' && octet != b'\\'

@@ -10,6 +10,7 @@
 
 mod intake;
 pub mod laws;
+mod listing;
 mod parts;
 mod pieces;
 mod refusal;
@@ -17,6 +18,7 @@ mod ticket;
 mod unpacker;
 
 pub use intake::{Fed, Intake, IntakeFault};
+pub use listing::MAX_ENVELOPES;
 pub use pieces::unpack_pieces;
 pub use refusal::{Cause, Layer, Refusal};
 pub use ticket::fault::TicketFault;

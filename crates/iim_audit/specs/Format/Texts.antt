@@ -3,7 +3,7 @@ use Rattle.std.specs.Prelude.{ℕ, ◌+◌, ℤ, Bool, true, false, List, [], �
 use Rattle.std.specs.Fmt.{signed_decimal}
 use Rattle.std.specs.Option.{unwrap_or}
 use Rattle.iim_dataset.specs.Format.Characters.{minus}
-use Rattle.iim_dataset.specs.Format.Shown.{shown}
+use Rattle.iim_dataset.specs.Format.Shown.{shown, number_or_dash}
 use Rattle.iim_audit.specs.declared.copy.CopyState.{CopyState}
 use Rattle.iim_audit.specs.declared.copy.CopyState.TheVariants.{Held, Expired, Free}
 use Rattle.iim_audit.specs.declared.row.AuditRow.{AuditRow}
@@ -11,11 +11,6 @@ use Rattle.iim_audit.specs.declared.row.AuditRow.{AuditRow}
 -- a digit, or `-` where there is none
 abbrev pub digit_or_dash : Option ℕ → ℕ
 digit_or_dash digit = unwrap_or digit minus
-
--- a number, or `-` where there is none
-abbrev pub number_or_dash : Option ℕ → List ℕ
-number_or_dash None = codes "-"
-number_or_dash (Some n) = decimal n
 
 -- a number of seconds, with `-` before one below zero, or `-` alone where there is none
 abbrev pub seconds_or_dash : Option ℤ → List ℕ

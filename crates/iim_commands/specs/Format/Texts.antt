@@ -4,7 +4,7 @@ use Rattle.std.specs.List.{flat_map}
 use Rattle.iim_object.specs.declared.size.Sizes.{Sizes}
 use Rattle.iim_unpack.specs.Format.Admitted.{Value}
 use Rattle.iim_script.specs.Format.Printed.{field_line, message_line, trailer_line}
-use Rattle.iim_audit.specs.Format.Texts.{number_or_dash}
+use Rattle.iim_dataset.specs.Format.Shown.{number_or_dash}
 use Rattle.iim_unpack.specs.Format.Listing.{Listed}
 
 -- the first line

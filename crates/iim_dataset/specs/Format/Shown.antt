@@ -1,5 +1,5 @@
 -- Octets and names of datasets as text that can be printed.
-use Rattle.std.specs.Prelude.{ℕ, ◌+◌, ◌-◌, ◌/◌, ◌%◌, ◌==◌, ◌&&◌, not, Bool, if◌then◌else◌, nat_le, nat_lt, List, [], ◌∷◌, ◌++◌, codes, decimal}
+use Rattle.std.specs.Prelude.{ℕ, ◌+◌, ◌-◌, ◌/◌, ◌%◌, ◌==◌, ◌&&◌, not, Bool, if◌then◌else◌, nat_le, nat_lt, List, [], ◌∷◌, ◌++◌, codes, decimal, Option, Some, None}
 use Rattle.std.specs.List.{flat_map}
 use Rattle.iim_dataset.specs.Format.Characters.{sp, digit_zero, capital_a, backslash, small_x}
 
@@ -29,3 +29,8 @@ padding n = if nat_lt n 10 then codes "0" else []
 -- a dataset's name: its record, and its number with two digits at least, as 1:00 or 2:105
 abbrev pub dataset_name : ℕ → ℕ → List ℕ
 dataset_name rec set = decimal rec ++ (codes ":" ++ (padding set ++ decimal set))
+
+-- a number in decimal digits, or - where there is none
+abbrev pub number_or_dash : Option ℕ → List ℕ
+number_or_dash None = codes "-"
+number_or_dash (Some n) = decimal n
