@@ -12,4 +12,5 @@ pub mod Marked
 pub mod Words
 pub mod Calm
 pub mod Fronts
+pub mod LineEnds
 pub mod Counted

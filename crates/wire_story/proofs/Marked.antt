@@ -200,3 +200,7 @@ calm_after xs fits at left le front h more stands s next is digits =
     let e : at + 1 + s ≡ at + (1 + s) = omega arith in
     subst (λ (k : ℕ). (k ≤ length xs) × (list_all is_line_octet (take k xs) ≡ true) × AreMarks (drop k xs) (record { left = next })) e
     (calm_to xs fits (at + 1) (left / 2 ^ 1) (omega (arith, within)) line marks s next is digits)
+
+-- they tell of no more octets than are tested at once
+pub calm_few : (xs : List ℕ) (m : Marks) (h : AreMarks xs m) → count_trailing_zeros 64 m.left ≤ 16
+calm_few xs m h = omega (arith, (lowest_low xs m h).0, h.few)

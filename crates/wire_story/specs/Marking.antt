@@ -1,8 +1,8 @@
 -- Masks of octets: which of those that come next may be marks.
-use Rattle.std.specs.Prelude.{◌≡◌, ℕ, ◌+◌, ◌^◌, ◌<◌, ◌≤◌, Bool, nat_lt, List, length, take, drop, map}
+use Rattle.std.specs.Prelude.{◌≡◌, ℕ, ◌+◌, ◌-◌, ◌^◌, ◌<◌, ◌≤◌, Bool, nat_lt, List, length, take, drop, map}
 use Rattle.std.specs.Simd.Lanes.{mask_l}
 use Rattle.wire_story.specs.declared.marks.Marks.{Marks}
-use Rattle.wire_story.specs.Format.Texts.{max_returns}
+use Rattle.wire_story.specs.Format.Texts.{max_returns, line_end}
 
 -- It is below the octets that are surely no marks.
 abbrev pub is_low : ℕ → Bool
@@ -21,3 +21,10 @@ pub record IsTextFront (rest : List ℕ) (held used : ℕ) (marks : Marks) : Typ
   pub some : 0 < used
   pub within : used ≤ length rest
   pub next : AreMarks (drop used rest) marks
+
+-- A line end of so many octets stands first: LF alone, or with one CR before it.
+pub record StartsLineEnd (rest : List ℕ) (end : ℕ) : Type 0 where
+  pub some : 0 < end
+  pub few : end ≤ 2
+  pub within : end ≤ length rest
+  pub is : take end rest ≡ line_end (end - 1)

@@ -1,6 +1,6 @@
 //! Where the next mark of a text stands: sixteen octets give one mask, and each mark of it is taken before the next is made.
 
-ghost use Rattle.std.specs.Prelude.{◌≡◌, ◌<◌, ◌≤◌, ◌+◌, ◌/◌, ◌^◌, false, length, drop, map, slice_index, take};
+ghost use Rattle.std.specs.Prelude.{◌≡◌, ◌<◌, ◌≤◌, ◌+◌, ◌/◌, ◌^◌, nat_lt, count_ones, false, length, drop, map, slice_index, take};
 ghost use Rattle.std.specs.Int.Count.{count_trailing_zeros};
 ghost use Rattle.std.specs.Simd.Lanes.{mask_l};
 ghost use Rattle.wire_story.specs.Format.Texts.{is_line_octet, IsLine};
@@ -10,7 +10,7 @@ use crate::line::may_stand;
 use std::simd::prelude::*;
 
 /// How many octets are tested at once.
-const BLOCK: usize = 16;
+pub(crate) const BLOCK: usize = 16;
 
 /// The marks are below this octet, and so are few other octets.
 const LEAST_CALM: u8 = 14;
@@ -100,7 +100,7 @@ impl Marks {
     pub(crate) fn after(self, used: usize, octets: &[u8]) -> Marks
         requires marks { AreMarks octets.now self }
         requires within { used ≤ length octets.now }
-        requires short { used ≤ 2 }
+        requires short { used < 64 }
         ensures { AreMarks (drop used octets.now) result }
     {
         let _ = octets;
@@ -109,6 +109,26 @@ impl Marks {
             return Marks { left: 1 };
         }
         Marks { left }
+    }
+
+    /// Whether an octet that they tell of is below the least calm one.
+    #[inline(always)]
+    pub(crate) fn has_some(self) -> bool
+        ensures { result ≡ nat_lt 1 (count_ones self.left) }
+    {
+        self.left.count_ones() > 1
+    }
+
+    /// How many octets that lie in one line stand before the first that is below the least calm one, or that they don't tell of.
+    #[inline(always)]
+    pub(crate) fn calm_len(self, octets: &[u8]) -> usize
+        requires { AreMarks octets.now self }
+        ensures within { result ≤ length octets.now }
+        ensures line { IsLine (take result octets.now) }
+        ensures short { result ≤ 16 }
+    {
+        let _ = octets;
+        calm_before(self.left).0
     }
 
     /// The length of the longest front that lies in one line, and the marks after it.

@@ -4,10 +4,10 @@ ghost use Rattle.std.specs.Prelude.{◌≡◌, ◌<◌, ◌≤◌, false, length
 ghost use Rattle.iim_dataset.specs.Format.Characters.{lf, cr};
 ghost use Rattle.wire_story.specs.Format.Texts.{is_line_octet, IsLine, max_returns};
 ghost use Rattle.wire_story.specs.States.Reading.{TakesPiece, RefusesOne};
-ghost use Rattle.wire_story.specs.Marking.{AreMarks, IsTextFront};
+ghost use Rattle.wire_story.specs.Marking.{AreMarks, IsTextFront, StartsLineEnd};
 
 use crate::fault::{TextCause, TextFault};
-use crate::marks::Marks;
+use crate::marks::{BLOCK, Marks};
 use crate::sink::StorySink;
 use iim_dataset::octets::{CR, LF};
 
@@ -176,6 +176,140 @@ fn take_front<S: StorySink>(
     }
 }
 
+/// How many octets the line end has that stands after so many octets, where no CR is held: 0 where none stands there.
+#[inline(always)]
+fn end_len(run: usize, octets: &[u8]) -> usize
+    requires { run ≤ length octets.now }
+    ensures { 0 < result → StartsLineEnd (drop run octets.now) result }
+{
+    if run == octets.len() {
+        return 0;
+    }
+    if octets[run] == LF {
+        return 1;
+    }
+    if has_line_end(0, &octets[run..]) {
+        return 2;
+    }
+    0
+}
+
+/// Tells the line end of so many octets that stands first, where no CR is held.
+#[inline(always)]
+fn take_end<S: StorySink>(end: usize, rest: &[u8], sink: &mut S) -> Result<(), TextFault>
+    requires { StartsLineEnd rest.now end }
+    ensures taken { OnOk result (
+        TakesPiece S.goes S.failures (Some 0) (take end rest.now) (Some 0) sink.old sink.new) }
+    ensures refused { IfErr result (λ fault.
+        RefusesOne S.goes S.failures (Some 0) rest.now fault sink.old sink.new) }
+{
+    let _ = rest;
+    match sink.line_end() {
+        Ok(()) => Ok(()),
+        Err(_) => Err(TextFault {
+            taken: end - 1,
+            cause: TextCause::Sink,
+        }),
+    }
+}
+
+/// Takes the line at the front where no CR is held, with its end, if that stands at the first mark or right after what the marks tell
+/// of; and answers how many octets it took: none where it stands elsewhere.
+#[inline(always)]
+fn take_line<S: StorySink>(rest: &[u8], marks: Marks, sink: &mut S) -> Result<usize, TextFault>
+    requires marks { AreMarks rest.now marks }
+    ensures within { IfOk result (λ used. used ≤ length rest.now) }
+    ensures short { IfOk result (λ used. used ≤ 18) }
+    ensures taken { IfOk result (λ used.
+        TakesPiece S.goes S.failures (Some 0) (take used rest.now) (Some 0) sink.old sink.new) }
+    ensures refused { IfErr result (λ fault.
+        RefusesOne S.goes S.failures (Some 0) rest.now fault sink.old sink.new) }
+{
+    let run = marks.calm_len(rest);
+    let end = end_len(run, rest);
+    if end == 0 {
+        return Ok(0);
+    }
+    match take_run(0, run, rest, sink) {
+        Ok(()) => match take_end(end, &rest[run..], sink) {
+            Ok(()) => Ok(run + end),
+            Err(fault) => Err(TextFault {
+                taken: run + fault.taken,
+                cause: fault.cause,
+            }),
+        },
+        Err(fault) => Err(fault),
+    }
+}
+
+/// Takes lines at the front where no CR is held, as long as a mark stands among the octets that the marks tell of; and answers how
+/// many octets, and the marks after them.
+#[inline(always)]
+fn take_lines<S: StorySink>(
+    rest: &[u8],
+    marks: Marks,
+    sink: &mut S,
+) -> Result<(usize, Marks), TextFault>
+    requires marks { AreMarks rest.now marks }
+    ensures within { IfOk result (λ lines. lines.0 ≤ length rest.now) }
+    ensures marks { IfOk result (λ lines. AreMarks (drop lines.0 rest.now) lines.1) }
+    ensures taken { IfOk result (λ lines.
+        TakesPiece S.goes S.failures (Some 0) (take lines.0 rest.now) (Some 0) sink.old sink.new) }
+    ensures refused { IfErr result (λ fault.
+        RefusesOne S.goes S.failures (Some 0) rest.now fault sink.old sink.new) }
+{
+    let mut at = 0;
+    let mut here = marks;
+    while here.has_some() {
+        match take_line(&rest[at..], here, sink) {
+            Ok(used) => {
+                if used == 0 {
+                    return Ok((at, here));
+                }
+                here = here.after(used, &rest[at..]);
+                at += used;
+            }
+            Err(fault) => {
+                return Err(TextFault {
+                    taken: at + fault.taken,
+                    cause: fault.cause,
+                });
+            }
+        }
+    }
+    Ok((at, here))
+}
+
+/// Takes a front of the octets that are left, and after a short one the lines that the marks tell of.
+#[inline(always)]
+fn take_fronts<S: StorySink>(
+    held: u8,
+    rest: &[u8],
+    marks: Marks,
+    sink: &mut S,
+) -> Result<(u8, usize, Marks), TextFault>
+    requires few { held ≤ max_returns }
+    requires some { 0 < length rest.now }
+    requires marks { AreMarks rest.now marks }
+    ensures front { IfOk result (λ front. IsTextFront rest.now front.0 front.1 front.2) }
+    ensures taken { IfOk result (λ front.
+        TakesPiece S.goes S.failures (Some held) (take front.1 rest.now) (Some front.0) sink.old sink.new) }
+    ensures refused { IfErr result (λ fault.
+        RefusesOne S.goes S.failures (Some held) rest.now fault sink.old sink.new) }
+{
+    let (now, used, after) = take_front(held, rest, marks, sink)?;
+    if used >= BLOCK || now > 0 {
+        return Ok((now, used, after));
+    }
+    match take_lines(&rest[used..], after, sink) {
+        Ok((more, last)) => Ok((0, used + more, last)),
+        Err(fault) => Err(TextFault {
+            taken: used + fault.taken,
+            cause: fault.cause,
+        }),
+    }
+}
+
 /// Takes a piece after `held` CR, and answers how many are held then.
 pub(crate) fn take_piece<S: StorySink>(
     held: u8,
@@ -193,7 +327,7 @@ pub(crate) fn take_piece<S: StorySink>(
     let mut at = 0;
     let mut marks = Marks::new();
     while at < piece.len() {
-        match take_front(now, &piece[at..], marks, sink) {
+        match take_fronts(now, &piece[at..], marks, sink) {
             Ok((next, used, after)) => {
                 now = next;
                 marks = after;

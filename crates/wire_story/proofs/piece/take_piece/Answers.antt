@@ -27,13 +27,13 @@ loop-at-preserved g c =
       marks = subst (λ (xs : List ℕ). AreMarks xs c.in-Ok.after) (ap (drop k) (take_rest piece at) ∙ drop-drop k at piece) front.next;
       taken =
           takes_both g.S.StorySink.goes g.S.StorySink.failures g.met.S.StorySink.joined (Some c.args.held) (Some c.loop-at.now) (Some c.in-Ok.next) piece at k
-          c.args.sink.now c.loop-at.sink c.take_front.new.sink c.loop-at.invariant.taken c.in-Ok.ensures.taken;
+          c.args.sink.now c.loop-at.sink c.take_fronts.new.sink c.loop-at.invariant.taken c.in-Ok.ensures.taken;
     }
 
 pub returns-in-Err-clause-refused : goal.returns-in-Err-clause-refused
 returns-in-Err-clause-refused g c =
     refuses_later g.S.StorySink.goes g.S.StorySink.failures g.met.S.StorySink.joined (Some c.args.held) (Some c.loop-at.now) c.args.piece.now c.loop-at.at c.in-Err.fault
-    c.args.sink.now c.loop-at.sink c.take_front.new.sink c.loop-at.invariant.taken c.in-Err.ensures.refused
+    c.args.sink.now c.loop-at.sink c.take_fronts.new.sink c.loop-at.invariant.taken c.in-Err.ensures.refused
 
 pub returns-clause-taken : goal.returns-clause-taken
 returns-clause-taken g c =

@@ -1,0 +1,18 @@
+use Rattle.std.proofs.Common.{ℕ, List, Some, sym, subst, arith}
+use Rattle.std.proofs.lemmas.List.{take_rest}
+use Rattle.wire_story.specs.Marking.{StartsLineEnd}
+use Rattle.wire_story.proofs.Fronts.{takes_both, refuses_later}
+use Rattle.wire_story.proofs.piece.take_line.Goals as goal
+
+pub take_end-requires : goal.take_end-requires
+take_end-requires g c = subst (λ (xs : List ℕ). StartsLineEnd xs c.end_len-end.result) (sym (take_rest c.args.rest.now c.calm_len-run.result)) (c.end_len-end.ensures (omega arith))
+
+pub returns-in-Ok-take_end-clause-taken : goal.returns-in-Ok-take_end-clause-taken
+returns-in-Ok-take_end-clause-taken g c =
+    takes_both g.S.StorySink.goes g.S.StorySink.failures g.met.S.StorySink.joined (Some 0) (Some 0) (Some 0) c.args.rest.now c.calm_len-run.result c.end_len-end.result
+    c.args.sink.now c.take_run.new.sink c.take_end.new.sink c.in-Ok.ensures.taken c.in-Ok-take_end.ensures.taken
+
+pub returns-in-Err-take_end-clause-refused : goal.returns-in-Err-take_end-clause-refused
+returns-in-Err-take_end-clause-refused g c =
+    refuses_later g.S.StorySink.goes g.S.StorySink.failures g.met.S.StorySink.joined (Some 0) (Some 0) c.args.rest.now c.calm_len-run.result c.in-Err-take_end.fault
+    c.args.sink.now c.take_run.new.sink c.take_end.new.sink c.in-Ok.ensures.taken c.in-Err-take_end.ensures.refused

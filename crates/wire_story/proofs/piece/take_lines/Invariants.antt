@@ -1,0 +1,15 @@
+use Rattle.std.proofs.Common.{◌≤◌, ◌-◌, take, drop, length, Some}
+use Rattle.wire_story.specs.States.Reading.{TakesPiece}
+use Rattle.wire_story.specs.Marking.{AreMarks}
+use Rattle.wire_story.proofs.piece.take_lines.Given as goal
+
+-- the lines so far were taken
+abbrev pub invariant-loop-sink : goal.invariant-loop-sink
+invariant-loop-sink g l = record {
+  within : l.at ≤ length l.rest;
+  marks : AreMarks (drop l.at l.rest) l.here;
+  taken : TakesPiece g.S.StorySink.goes g.S.StorySink.failures (Some 0) (take l.at l.rest) (Some 0) l.initial.sink l.sink;
+}
+
+abbrev pub decreases-loop-sink : goal.decreases-loop-sink
+decreases-loop-sink g l = length l.rest - l.at
