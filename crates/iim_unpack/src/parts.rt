@@ -1,10 +1,13 @@
 //! The readers of an unpacker after that of the tags, as one.
 
-ghost use Rattle.std.specs.Prelude.{◌≡◌, true, false, IsTrue, ◌<◌, ◌≤◌, ◌-◌, ℕ, [], ◌∷◌, length, map, take, slice_index, Some, None, IsSome, IfOk, IfErr, OnOk};
+ghost use Rattle.std.specs.Prelude.{◌≡◌, true, false, IsTrue, ◌<◌, ◌≤◌, ◌-◌, ℕ, nat_lt, [], ◌∷◌, length, map, take, slice_index, Some, None, IsSome, IfSome, IfOk, IfErr, OnOk};
 ghost use Rattle.iim_dataset.specs.States.Events.{HeadRead, DataOctet};
 ghost use Rattle.iim_fields.specs.States.Standing.{room_of, IsBetween};
 ghost use Rattle.iim_object.specs.Format.Places.{head_token, value_token};
-ghost use Rattle.iim_object.specs.States.Reading.{LeadsOn, events_at};
+ghost use Rattle.iim_dataset.specs.Format.Octets.{number};
+ghost use Rattle.iim_object.specs.Format.Plans.{max_subfiles};
+ghost use Rattle.iim_object.specs.States.Reading.{EndsAs, LeadsOn, events_at};
+ghost use Rattle.wire_message.specs.States.Reading.{IsWhole};
 ghost use Rattle.iim_unpack.specs.Format.Refusals.{IsObjectFault, message_on, too_many_on};
 ghost use Rattle.iim_unpack.specs.Passed.{TellsMessage, HasFewSubfiles, RefusesSubfile};
 ghost use Rattle.iim_unpack.specs.PartSteps.{TakesHead, TakesData, TellsParts, TellsWhole, PartsRefuse, Closed, NotClosed};
@@ -57,6 +60,14 @@ fn halt_on(head: Head, fault: MessageFault) -> Halt
     }
 }
 
+/// Whether one subfile more may come after so many.
+#[inline(always)]
+fn may_begin(subfiles: u64) -> bool
+    ensures { result ≡ nat_lt subfiles max_subfiles }
+{
+    subfiles < MAX_SUBFILES
+}
+
 /// Takes the head of a subfile.
 #[inline(always)]
 fn subfile<S: StorySink>(
@@ -74,7 +85,7 @@ fn subfile<S: StorySink>(
     ensures few { OnOk result (HasFewSubfiles object.old) }
     ensures refused { IfErr result (RefusesSubfile S.goes S.failures object.old message.old head sink.old sink.new) }
 {
-    if object.subfiles() >= MAX_SUBFILES {
+    if !may_begin(object.subfiles()) {
         return Err(too_many_on(head));
     }
     pass_head(object, message, head, sink)
@@ -102,6 +113,21 @@ fn answer(taken: bool, step: Step) -> Option<Step>
     ensures left { taken ≡ false → result ≡ None }
 {
     if taken { Some(step) } else { None }
+}
+
+/// The object after its end and the number of 9:10 that these octets spell; or None where the message isn't whole, or the object layer
+/// dies with one of them, or they spell no number.
+#[inline(always)]
+fn ended(object: &ObjectReader, message: &MessageReader, octets: &[u8]) -> Option<ObjectReader>
+    requires { IsSome object.now }
+    ensures whole { IfSome result (λ reader. IsWhole message.now) }
+    ensures takes_calls { IfSome result IsSome }
+    ensures ends { IfSome result (λ reader. EndsAs object.now (number octets.now) reader) }
+{
+    if !message.is_whole() {
+        return None;
+    }
+    object.with_end(number_of(octets)?)
 }
 
 impl Parts {
@@ -171,13 +197,7 @@ impl Parts {
         ensures room { room_of self.new.fields ≡ room_of self.old.fields }
     {
         close_laws();
-        if !self.message.is_whole() {
-            return false;
-        }
-        let Some(number) = number_of(octets) else {
-            return false;
-        };
-        let Some(object) = self.object.with_end(number) else {
+        let Some(object) = ended(&self.object, &self.message, octets) else {
             return false;
         };
         if !self.fields.whole_number(head, octets) {
@@ -221,7 +241,7 @@ impl Parts {
         head_laws();
         message_laws();
         close_laws();
-        if self.object.subfiles() >= MAX_SUBFILES {
+        if !may_begin(self.object.subfiles()) {
             return Ok(None);
         }
         let Some(object) = self.object.with_subfile(head.count) else {

@@ -10,11 +10,10 @@ returns-then-not-whole_number-clause-left c _ = ap (λ (f : FieldsPlace). let p 
 
 pub returns-clause-ended : goal.returns-clause-ended
 returns-clause-ended c is =
-    end_ends c.args.self.now _ c.args.head c.requires.takes c.requires.number c.whole_number.ensures.between (c.whole_number.ensures.section c.if-not-whole_number.false) c.in-Some-with_end.ensures.takes_calls refl
+    end_ends c.args.self.now _ c.args.head c.requires.takes c.requires.number c.whole_number.ensures.between (c.whole_number.ensures.section c.if-not-whole_number.false) c.in-Some.ensures.takes_calls refl
 
 pub returns-clause-whole : goal.returns-clause-whole
 returns-clause-whole c is =
     end_went c.close_laws.ensures c.args.self.now _ c.args.head c.args.octets.now c.requires.takes.fields c.requires.number c.requires.count c.whole_number.ensures.limits
     (c.whole_number.ensures.stands c.if-not-whole_number.false)
-    (subst (λ (n : ℕ). EndsAs c.args.self.now.object n c.in-Some-with_end.object) c.in-Some.ensures.value c.in-Some-with_end.ensures.leads_on)
-    (c.is_whole.ensures.whole c.if-not-is_whole.false) refl
+    c.in-Some.ensures.ends c.in-Some.ensures.whole refl

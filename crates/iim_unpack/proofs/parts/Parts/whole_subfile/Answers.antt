@@ -1,9 +1,14 @@
-use Rattle.std.proofs.Common.{Option, take, slice_index, sym, subst, arith}
+use Rattle.std.proofs.Common.{◌≡◌, ℕ, ◌<◌, Bool, true, nat_lt, Option, take, slice_index, sym, subst, ◌∙◌, arith}
+use Rattle.std.proofs.lemmas.Bool.Decides.{nat_tests}
 use Rattle.std.specs.Prelude.{IsSome}
+use Rattle.iim_object.specs.Format.Plans.{max_subfiles}
 use Rattle.iim_object.specs.declared.reading.state.State.{State}
 use Rattle.iim_unpack.proofs.Octets.{are_octets}
 use Rattle.iim_unpack.proofs.WholeSubfiles.{subfile_went, subfile_stopped, subfile_takes}
 use Rattle.iim_unpack.proofs.parts.Parts.whole_subfile.Goals as goal
+
+few_of : (n m : ℕ) (b : Bool) → b ≡ nat_lt n m → b ≡ true → n < m
+few_of n m b e t = let h : nat_lt n m ≡ true = sym e ∙ t in grind (arith, nat_tests)
 
 pub returns-in-Ok-clause-taken : goal.returns-in-Ok-clause-taken
 returns-in-Ok-clause-taken g c =
@@ -16,7 +21,7 @@ returns-in-Ok-clause-taken g c =
             takes = c.requires.takes;
             passes = c.whole_subfile.ensures.passes c.if-not-whole_subfile.false;
             leads = c.in-Some.ensures.leads_on;
-            few = λ q at. omega (arith, c.subfiles.ensures.place q at, c.if-subfiles-ge-MAX_SUBFILES.false);
+            few = λ q at. omega (arith, c.subfiles.ensures.place q at, few_of c.subfiles.result max_subfiles c.may_begin.result c.may_begin.ensures c.if-not-may_begin.false);
           }) (are_octets run (λ i. omega (arith, c.type_inv.octets i))) c.whole_subfile.ensures.limits c.in-Ok.ensures.told),
       subfile_takes p _ c.args.head c.requires.takes c.requires.subfile c.whole_subfile.ensures.between (c.whole_subfile.ensures.section c.if-not-whole_subfile.false) some c.in-Ok.ensures.told.takes_calls,
     )
@@ -31,5 +36,5 @@ returns-in-Err-clause-stopped g c =
       takes = c.requires.takes;
       passes = c.whole_subfile.ensures.passes c.if-not-whole_subfile.false;
       leads = c.in-Some.ensures.leads_on;
-      few = λ q at. omega (arith, c.subfiles.ensures.place q at, c.if-subfiles-ge-MAX_SUBFILES.false);
+      few = λ q at. omega (arith, c.subfiles.ensures.place q at, few_of c.subfiles.result max_subfiles c.may_begin.result c.may_begin.ensures c.if-not-may_begin.false);
     }) c.in-Err.ensures.refused)
