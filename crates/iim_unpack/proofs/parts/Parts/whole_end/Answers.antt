@@ -1,5 +1,4 @@
-use Rattle.std.proofs.Common.{ℕ, refl, ap, subst}
-use Rattle.iim_object.specs.States.Reading.{EndsAs}
+use Rattle.std.proofs.Common.{refl, ap}
 use Rattle.iim_fields.specs.States.Standing.{FieldsPlace}
 use Rattle.iim_unpack.specs.declared.parts.Parts.{Parts}
 use Rattle.iim_unpack.proofs.Wholes.{end_went, end_ends}
