@@ -11,15 +11,94 @@ use iim_dataset::GREATEST_SIZE;
 use std::alloc::{AllocError, Global};
 
 /// What help says of the file.
-const FILE_HELP: &str = "The file to read, or else standard input";
+const FILE_HELP: &str =
+    "The file to read, or else standard input, which is /dev/stdin, too; - is a file of that name";
 
-/// A command that takes a FILE.
-fn with_file<'a>(alloc: Global, name: &'a str, about: &'a str) -> Result<Command<'a>, AllocError>
+/// What help says at the end of `check`.
+const CHECK_HELP: &str = "\
+Example:
+  iimwire check samples/smallest.iim
+prints: 1 accepted 114 octets
+
+Status: 0 all accepted, 1 refused, 2 a mistake in the words, 3 a file, output or memory fault.
+The causes of a refusal stand in the manual page, iimwire(1), and in docs/CAUSES.md.
+An input of no octets is accepted, and prints nothing.";
+
+/// What help says at the end of `show`.
+const SHOW_HELP: &str = "\
+Example:
+  iimwire show samples/smallest.iim
+prints: envelope 1, the datasets as 1:30 TST, the lines message and trailer, and the sizes.
+Octets other than 20 to 7E, and the backslash, are shown as \\x and two digits.
+
+Status: 0 all accepted, 1 refused, 2 a mistake in the words, 3 a file, output or memory fault.
+The causes of a refusal stand in the manual page, iimwire(1), and in docs/CAUSES.md.";
+
+/// What help says at the end of `story`.
+const STORY_HELP: &str = "\
+Example:
+  iimwire story samples/story.iim 2>/dev/null
+prints the lines of the story, each ended by LF. The lines of check go to standard error.
+The octets of a line are those of the copy: on a terminal read them through cat -v.
+
+Status: 0 all accepted, 1 refused, 2 a mistake in the words, 3 a file, output or memory fault.
+The causes of a refusal stand in the manual page, iimwire(1), and in docs/CAUSES.md.";
+
+/// What help says at the end of `pack`.
+const PACK_HELP: &str = "\
+FILE is a script: what show prints between its first and its last line, then a line text, and the story.
+  1:00 \\x00\\x04
+  1:20 \\x00\\x02
+  1:22 \\x00\\x01
+  1:30 TST
+  1:40 00000001
+  1:70 20240301
+  2:00 \\x00\\x04
+  2:105 Rates held
+  message TST 0007 4 ECO 2 rates
+  text
+  Rates stay.
+The line message has the source, number, priority, category, words and info of the message.
+
+Example:
+  iimwire pack samples/story.script > story.iim
+
+Status: 0 packed, 1 the script is refused, 2 a mistake in the words, 3 a file, output or memory fault.
+The causes of a refusal stand in the manual page, iimwire(1), and in docs/CAUSES.md.";
+
+/// What help says at the end of `audit`.
+const AUDIT_HELP: &str = "\
+INSTANT is a date, T, a time, and Z or an offset: 2024-03-01T12:00:00Z, 2024-03-01T13:00:00.5+01:00.
+One with no Z or offset is none. The present instant is that of date -u:
+  iimwire audit --now \"$(date -u +%FT%TZ)\" samples/audit.iim
+prints a row for each envelope, and a last line: 3 envelopes, 1 repeated, 0 held
+
+Status: 0 all accepted, 1 refused, 2 a mistake in the words, 3 a file, output or memory fault.
+The causes of a refusal stand in the manual page, iimwire(1), and in docs/CAUSES.md.";
+
+/// What help says at the end of the program.
+const PROGRAM_HELP: &str = "\
+Example:
+  iimwire check samples/smallest.iim
+prints: 1 accepted 114 octets
+
+Status: 0 all accepted, 1 refused, 2 a mistake in the words, 3 a file, output or memory fault.
+The causes of a refusal stand in the manual page, iimwire(1), and in docs/CAUSES.md.
+iimwire COMMAND --help has an example of each command.";
+
+/// A command that takes a FILE, with what help says at its top and at its end.
+fn with_file<'a>(
+    alloc: Global,
+    name: &'a str,
+    about: &'a str,
+    after: &'a str,
+) -> Result<Command<'a>, AllocError>
     ensures app { IfOk result (λ command. app_of command ≡ file_command name.entry.now) }
     ensures local { IfOk result (λ command. (fields_of command).has_globals ≡ false) }
 {
     Command::new(alloc, name)
         .about(about)
+        .after_help(after)
         .arg(Arg::new(alloc, "FILE").help(FILE_HELP))
 }
 
@@ -74,10 +153,15 @@ fn pack<'a>(alloc: Global) -> Result<Command<'a>, AllocError>
         "M",
         "The most octets of an object of unknown size",
     );
-    with_file(alloc, "pack", "Packs the envelope that a script tells")?
-        .arg(subfile)?
-        .arg(unknown)?
-        .arg(max)
+    with_file(
+        alloc,
+        "pack",
+        "Packs the envelope that a script tells",
+        PACK_HELP,
+    )?
+    .arg(subfile)?
+    .arg(unknown)?
+    .arg(max)
 }
 
 /// The command that audits.
@@ -89,11 +173,12 @@ fn audit<'a>(alloc: Global) -> Result<Command<'a>, AllocError>
         .long("now")
         .value_name("INSTANT")
         .required(true)
-        .help("The present instant, as 2024-03-01T12:00:00Z");
+        .help("The present instant, as 2024-03-01T12:00:00Z; its forms stand below");
     with_file(
         alloc,
         "audit",
         "Tells id, sizes, words and age of each envelope, which of them repeat others, and whether their copy is held",
+        AUDIT_HELP,
     )?
     .arg(now)
 }
@@ -104,6 +189,7 @@ fn bare<'a>(alloc: Global) -> Command<'a>
 {
     Command::new(alloc, "iimwire")
         .about("Reads and packs envelopes of the IPTC-NAA Information Interchange Model")
+        .after_help(PROGRAM_HELP)
         .subcommand_required(true)
         .disable_help_subcommand(true)
 }
@@ -116,13 +202,20 @@ pub fn command<'a>(alloc: Global) -> Result<Command<'a>, AllocError>
         alloc,
         "check",
         "Lists the envelopes, up to the first refusal",
+        CHECK_HELP,
     )?;
     let show = with_file(
         alloc,
         "show",
         "Shows the fields, the message's header and the sizes of each envelope",
+        SHOW_HELP,
     )?;
-    let story = with_file(alloc, "story", "Writes the story of each envelope")?;
+    let story = with_file(
+        alloc,
+        "story",
+        "Writes the story of each envelope",
+        STORY_HELP,
+    )?;
     bare(alloc)
         .subcommand(check)?
         .subcommand(show)?

@@ -113,7 +113,7 @@ fn fault_for(cause: PackCause, text_line: u64) -> PackFault
         PackCause::PastAnnounced => PackFault::Refused {
             line: text_line,
             number: cause.number(),
-            name: "PastAnnounced",
+            name: cause.name(),
         },
         PackCause::OutOfMemory => PackFault::Around(CommandFault::OutOfMemory),
         PackCause::Write => PackFault::Around(CommandFault::CannotWrite),

@@ -6,4 +6,5 @@ pub mod Languages
 pub mod Tags
 pub mod Completing
 pub mod Counts
+pub mod DeviceNames
 pub mod Shown

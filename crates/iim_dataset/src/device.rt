@@ -1,11 +1,14 @@
 //! What sources and targets have in common.
 
-ghost use Rattle.std.specs.Prelude.{◌≡◌, ◌≢◌, ◌↔◌};
+ghost use Rattle.std.specs.Prelude.{◌≡◌, ◌≢◌, ◌↔◌, Some};
 ghost use Rattle.std.specs.IoError.{error_kind};
 ghost use Rattle.iim_dataset.specs.States.Devices.{CountedFailure, Faulted};
+ghost use Rattle.iim_dataset.specs.Format.DeviceNames.{text_of_fault};
 ghost use Rattle.iim_dataset.specs.Calls.{counted, no_faults};
 
+use std::fmt::{Display, Formatter};
 use std::io::{Error, ErrorKind};
+use std::{error, fmt};
 
 /// Why a read or a write moved no octet.
 #[derive(Clone, Copy, Debug, PartialEq, Eq)]
@@ -15,6 +18,28 @@ pub enum IoFault {
     /// The device failed.
     Failed,
 }
+
+impl IoFault {
+    /// What is printed of it.
+    pub fn text(self) -> &'static str
+        ensures { result.now ≡ text_of_fault self }
+    {
+        match self {
+            IoFault::Interrupted => "the device was interrupted",
+            IoFault::Failed => "the device failed",
+        }
+    }
+}
+
+impl Display for IoFault {
+    ghost output = { λ fault. Some (text_of_fault fault) };
+
+    fn fmt<W: fmt::Write>(&self, f: &mut Formatter<W>) -> fmt::Result {
+        f.write_str(self.text())
+    }
+}
+
+impl error::Error for IoFault {}
 
 /// The interruptions in a row that are answered as a fault.
 pub(crate) const MAX_INTERRUPTIONS: u32 = 1_000_000;

@@ -13,6 +13,7 @@ pub mod Endings
 pub mod RowsMet
 pub mod Telling
 pub mod Build
+pub mod Copying
 pub mod Finish
 pub mod Keeping
 pub mod OnePlace

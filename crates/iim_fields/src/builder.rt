@@ -1,13 +1,14 @@
 //! Envelopes, built dataset by dataset.
 
 ghost use Rattle.std.specs.Prelude.{◌≡◌, [], ◌∷◌, ◌++◌, Some, None, IfOk, IfErr, OnOk, OnErr};
-ghost use Rattle.iim_fields.specs.States.Builders.{add_fault, finish_fault};
+ghost use Rattle.iim_fields.specs.States.Builders.{add_fault, finish_fault, passed_by, IsCopyFault};
 ghost use Rattle.iim_fields.specs.States.Standing.{room_for};
 
 use crate::check::RecordCheck;
 use crate::envelope::Envelope;
-use crate::fault::{FieldCause, FieldFault};
+use crate::fault::{CopyFault, FieldCause, FieldFault};
 use crate::fields::room_fault;
+use crate::laws::datasets_of_envelopes_are_added;
 use crate::limits::Limits;
 use crate::order::fault_on;
 use crate::records::is_kept;
@@ -49,6 +50,31 @@ impl EnvelopeBuilder {
             limits,
             store,
         })
+    }
+
+    /// The datasets of an envelope, to which others of record 2 can be added, with memory for just what the limits allow, which may be
+    /// other limits than those under which it came. An error says that the envelope passes them, or that memory was refused.
+    pub fn from(
+        alloc: Global,
+        limits: Limits,
+        envelope: &Envelope,
+    ) -> Result<EnvelopeBuilder, CopyFault>
+        ensures copied { IfOk result (λ builder. builder
+            ≡ record { limits = limits; fields = envelope.now; room = room_for limits }) }
+        ensures within { OnOk result (passed_by limits envelope.now ≡ None) }
+        ensures refused { IfErr result (λ fault. IsCopyFault limits envelope.now fault) }
+    {
+        datasets_of_envelopes_are_added();
+        let (octets, fields) = envelope.totals();
+        if let Some(cause) = limits.passed(octets, fields) {
+            return Err(CopyFault::Passed(cause));
+        }
+        let mut builder = EnvelopeBuilder::new(alloc, limits)?;
+        let mut rest = envelope.fields();
+        while let Some((rec, set, octets)) = rest.next() {
+            builder.add(rec, set, octets).unwrap();
+        }
+        Ok(builder)
     }
 
     /// Adds a dataset, or answers its first fault and changes nothing: that of its head after the datasets so far, or

@@ -37,6 +37,7 @@ impl Envelope {
     ghost use Rattle.iim_fields.specs.States.Walks.{rest_of, data_left};
     ghost use Rattle.iim_fields.specs.Format.Envelopes.{IsEnvelope};
     ghost use Rattle.iim_fields.specs.States.Builders.{AreFew};
+    ghost use Rattle.iim_fields.specs.Format.Faults.{joined};
     ghost use Rattle.iim_fields.specs.Format.Views.{first_data, all_data, instant_sent, instant_of_pair, instant_of_release, instant_of_expiration, IsInEach};
     ghost use Rattle.iim_tables.specs.Format.Rows.{Meets};
 
@@ -45,6 +46,14 @@ impl Envelope {
         ensures { result ≡ self.now }
     {
         EnvelopeRef { store: &self.store }
+    }
+
+    /// How many octets the datasets have together, and how many they are.
+    pub(crate) fn totals(&self) -> (u64, u64)
+        ensures { result ≡ (length (joined self.now), length self.now) }
+    {
+        let octets = self.store.octets.len() as u64;
+        (octets, self.store.entries.len() as u64)
     }
 
     /// All datasets, in order: record, number and data of each.

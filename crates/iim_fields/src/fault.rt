@@ -2,8 +2,11 @@
 
 ghost use Rattle.std.specs.Prelude.{◌≡◌, Some};
 ghost use Rattle.iim_fields.specs.Format.Causes.{number_of_cause};
-ghost use Rattle.iim_fields.specs.Format.Names.{name_of_cause, text_of_cause};
+ghost use Rattle.iim_fields.specs.Format.Names.{name_of_cause, name_of_copy, number_of_copy, text_of_cause, text_of_copy, text_of_field};
 
+use iim_dataset::DatasetName;
+use std::alloc::AllocError;
+use std::error::Error;
 use std::fmt;
 use std::fmt::{Display, Formatter};
 
@@ -68,6 +71,8 @@ impl Display for FieldCause {
     }
 }
 
+impl Error for FieldCause {}
+
 /// A dataset that is refused, and why. For [`FieldCause::Missing`] it is the missing dataset of the lowest number.
 #[derive(Clone, Copy, Debug, PartialEq, Eq)]
 pub struct FieldFault {
@@ -77,4 +82,74 @@ pub struct FieldFault {
     pub set: u8,
     /// What was wrong.
     pub cause: FieldCause,
+}
+
+/// As `refused on 1:70, cause 14 Missing`.
+impl Display for FieldFault {
+    ghost output = { λ fault. Some (text_of_field fault) };
+
+    fn fmt<W: fmt::Write>(&self, f: &mut Formatter<W>) -> fmt::Result {
+        let dataset = DatasetName {
+            rec: self.rec,
+            set: self.set,
+        };
+        let cause = self.cause;
+        write!(f, "refused on {dataset}, cause {cause}")
+    }
+}
+
+impl Error for FieldFault {}
+
+/// Why an envelope is not copied into a builder.
+#[derive(Clone, Copy, Debug, PartialEq, Eq)]
+pub enum CopyFault {
+    /// Its datasets pass a limit: `HeaderFull`, or else `TooManyFields`.
+    Passed(FieldCause),
+    /// Memory was refused.
+    OutOfMemory,
+}
+
+impl CopyFault {
+    /// The number, as it is printed: of refused memory it is 70.
+    pub fn number(self) -> u8
+        ensures { result ≡ number_of_copy self }
+    {
+        match self {
+            CopyFault::Passed(cause) => cause.number(),
+            CopyFault::OutOfMemory => 70,
+        }
+    }
+
+    /// The name, as it is printed.
+    pub fn name(self) -> &'static str
+        ensures { result.now ≡ name_of_copy self }
+    {
+        match self {
+            CopyFault::Passed(cause) => cause.name(),
+            CopyFault::OutOfMemory => "OutOfMemory",
+        }
+    }
+}
+
+/// The number and the name, as `50 HeaderFull`.
+impl Display for CopyFault {
+    ghost output = { λ fault. Some (text_of_copy fault) };
+
+    fn fmt<W: fmt::Write>(&self, f: &mut Formatter<W>) -> fmt::Result {
+        let number = self.number();
+        let name = self.name();
+        write!(f, "{number} {name}")
+    }
+}
+
+impl Error for CopyFault {}
+
+impl From<AllocError> for CopyFault {
+    ghost use Rattle.iim_fields.specs.declared.fault.CopyFault.TheVariants.{OutOfMemory};
+
+    ghost from_gives = { λ _ fault. fault ≡ OutOfMemory };
+
+    fn from(_error: AllocError) -> CopyFault {
+        CopyFault::OutOfMemory
+    }
 }

@@ -2,7 +2,7 @@
 
 ghost use Rattle.std.specs.Prelude.{◌≡◌};
 ghost use Rattle.iim_fields.specs.Format.WireLimits.{wire_limits};
-ghost use Rattle.iim_fields.specs.Laws.Records.{HeadsDieWithTheirFault, ValuesDieWithTheirFault, EnvelopesEndWithTheLastRecord, NoSectionsBeginOthers, HeadsTellTheLowestCause, ValuesTellTheLowestCause, DatasetsLeadToOnePlace};
+ghost use Rattle.iim_fields.specs.Laws.Records.{HeadsDieWithTheirFault, ValuesDieWithTheirFault, EnvelopesEndWithTheLastRecord, NoSectionsBeginOthers, HeadsTellTheLowestCause, ValuesTellTheLowestCause, DatasetsLeadToOnePlace, DatasetsOfEnvelopesAreAdded};
 
 use crate::limits::Limits;
 use iim_tables::laws::each_row_has_values;
@@ -47,6 +47,14 @@ pub fn values_tell_the_lowest_cause()
 pub fn datasets_lead_to_one_place()
     ensures { DatasetsLeadToOnePlace }
 {}
+
+/// A builder takes the datasets of an envelope that is within its limits, one after the other.
+pub fn datasets_of_envelopes_are_added()
+    ensures { DatasetsOfEnvelopesAreAdded }
+{
+    heads_die_with_their_fault();
+    values_die_with_their_fault();
+}
 
 /// [`Limits::WIRE`] are 65,536 octets in 512 datasets.
 pub fn wire_limits_are_told()

@@ -26,7 +26,7 @@ pub use builder::EnvelopeBuilder;
 pub use check::RecordCheck;
 pub use envelope::Envelope;
 pub use envelope_ref::EnvelopeRef;
-pub use fault::{FieldCause, FieldFault};
+pub use fault::{CopyFault, FieldCause, FieldFault};
 pub use fields::Fields;
 pub use id::EnvelopeId;
 pub use limits::Limits;

@@ -8,6 +8,7 @@ pub mod Numbers
 pub mod Causes
 pub mod Within
 pub mod Conditions
+pub mod Names
 pub mod Cuts
 pub mod Packing
 pub mod PackCauses

@@ -14,7 +14,7 @@ use Rattle.iim_fields.specs.Format.Alive.{SectionsLive, SectionsLiveAt}
 use Rattle.iim_fields.specs.Format.Envelopes.{IsEnvelope}
 use Rattle.iim_fields.specs.States.Builders.{absent, finish_fault}
 use Rattle.iim_fields.specs.Format.Faults.{joined, kept, kept_octets, is_kept, limits_fault, record_fault, value_fault, missing_fault, fault_on}
-use Rattle.iim_fields.specs.Laws.Records.{HeadsDieWithTheirFault, ValuesDieWithTheirFault}
+use Rattle.iim_fields.specs.Laws.Records.{DatasetsOfEnvelopesAreAdded}
 use Rattle.iim_fields.specs.Format.Records.{AreRecords, AreSections}
 use Rattle.iim_tables.specs.Format.Records.{IsGoodDataset, IsGoodRecord, mandatory, occurs}
 use Rattle.iim_fields.specs.Format.Bounds.{IsWithin}
@@ -24,81 +24,7 @@ use Rattle.iim_fields.specs.declared.limits.Limits.{Limits}
 use Rattle.iim_script.specs.Format.Scripts.{AreTaken}
 use Rattle.iim_script.proofs.Printing.{IsPrintable}
 
--- ---- records that can follow
-
-abbrev mode : Dataset
-mode = record { rec = 7; set = 10; octets = 0 ∷ [] }
-
-abbrev subfile_size : Dataset
-subfile_size = record { rec = 7; set = 20; octets = 1 ∷ [] }
-
-abbrev subfile : Dataset
-subfile = record { rec = 8; set = 10; octets = [] }
-
-abbrev size : Dataset
-size = record { rec = 9; set = 10; octets = 0 ∷ [] }
-
-one_at_most : (a : Bool) → 0 + cond a 1 0 ≤ 1
-one_at_most true = omega arith
-one_at_most false = omega arith
-
-one_of_two : (a b : Bool) → (a ≡ true → b ≡ false) → 0 + cond a 1 0 + cond b 1 0 ≤ 1
-one_of_two true true h = absurd (let no = h refl in cc)
-one_of_two true false h = omega arith
-one_of_two false true h = omega arith
-one_of_two false false h = omega arith
-
-ten_or_twenty : (n : ℕ) → nat_eq 10 n ≡ true → nat_eq 20 n ≡ false
-ten_or_twenty n h = grind (arith, nat_tests)
-
-seven : IsGoodRecord 7 (mode ∷ subfile_size ∷ [])
-unfolding row_of table
-seven = record {
-  each = (
-    (refl, record { numbered = omega arith; octets = (omega arith, tt); meets = refl; file_format = refl }),
-    ((refl, record { numbered = omega arith; octets = (omega arith, tt); meets = refl; file_format = refl }), tt),
-  );
-  mandatory = (refl, (refl, tt));
-  once = λ n h. one_of_two (nat_eq 10 n) (nat_eq 20 n) (ten_or_twenty n);
-}
-
-eight : IsGoodRecord 8 (subfile ∷ [])
-unfolding row_of table
-eight = record {
-  each = ((refl, record { numbered = omega arith; octets = tt; meets = refl; file_format = refl }), tt);
-  mandatory = (refl, tt);
-  once = λ n h. one_at_most (nat_eq 10 n);
-}
-
-nine : IsGoodRecord 9 (size ∷ [])
-unfolding row_of table
-nine = record {
-  each = ((refl, record { numbered = omega arith; octets = (omega arith, tt); meets = refl; file_format = refl }), tt);
-  mandatory = (refl, tt);
-  once = λ n h. one_at_most (nat_eq 10 n);
-}
-
-abbrev object_records : List Dataset
-object_records = mode ∷ subfile_size ∷ subfile ∷ size ∷ []
-
-object_follows : AreRecords (7 ∷ 8 ∷ 9 ∷ []) object_records
-object_follows = (mode ∷ subfile_size ∷ [], subfile ∷ size ∷ [], refl, seven, (subfile ∷ [], size ∷ [], refl, eight, (size ∷ [], [], refl, nine, refl)))
-
--- the datasets of an envelope can be followed by those of an object
-sections_of : (ds : List Dataset) → IsEnvelope ds → AreSections (ds ++ object_records)
-sections_of ds e = (
-  e.r1,
-  e.r2 ++ object_records,
-  ap (λ (l : List Dataset). l ++ object_records) e.parts ∙ append_assoc e.r1 e.r2 object_records,
-  e.envelope,
-  (e.r2, object_records, refl, e.application, object_follows),
-)
-
 -- ---- what holds of each dataset
-
-record IsTakeable (d : Dataset) : Type 0 where
-  is_kept : is_kept d.rec ≡ true
-  octets : Octets d.octets
 
 abbrev OfRecord : ℕ → Dataset → Type 0
 OfRecord r d = (d.rec ≡ r) × IsGoodDataset d
@@ -120,65 +46,21 @@ all_of P ds f e =
 pub all_printable : (ds : List Dataset) → IsEnvelope ds → AllByRecursion IsPrintable ds
 all_printable ds e = all_of IsPrintable ds (λ r is small d rec good. record { rec = omega (arith, rec, small); set = good.numbered; octets = good.octets }) e
 
-all_takeable : (ds : List Dataset) → IsEnvelope ds → AllByRecursion IsTakeable ds
-all_takeable ds e = all_of IsTakeable ds (λ r is small d rec good. record { is_kept = ap is_kept rec ∙ is; octets = good.octets }) e
-
 -- ---- no fault
 
-none_at_all : (b : Bool) (f : FieldFault) (r l v : Option FieldFault) → b ≡ true → r ≡ None → l ≡ None → v ≡ None
-    → cond (not b) (Some f) (option_or (option_or r l) v) ≡ None
-none_at_all true f None None v h i j k = k
-none_at_all true f None (Some x) v h i j k = absurd cc
-none_at_all true f (Some x) l v h i j k = absurd cc
-none_at_all false f r l v h i j k = absurd cc
-
-room_by : (k a b : Bool) (f g : FieldFault) → a ≡ true → b ≡ true → cond (not k) None (cond (not a) (Some f) (cond (not b) (Some g) None)) ≡ None
-room_by true true true f g h i = refl
-room_by true true false f g h i = absurd cc
-room_by true false b f g h i = absurd cc
-room_by false a b f g h i = refl
-
-joined_more : (before : List Dataset) (d : Dataset) (ds : List Dataset) → length (joined (before ++ d ∷ ds)) ≡ length (joined before) + (length d.octets + length (joined ds))
-joined_more before d ds =
-    ap length (flat_map-append (λ (x : Dataset). x.octets) before (d ∷ ds))
-    ∙ (length-append (joined before) (joined (d ∷ ds)) ∙ ap (λ (n : ℕ). length (joined before) + n) (length-append d.octets (joined ds)))
-
-has_room : (limits : Limits) (before ds : List Dataset) (d : Dataset) → kept before ≡ before → IsWithin limits (length (joined (before ++ d ∷ ds))) (length (before ++ d ∷ ds))
-    → limits_fault limits before (head_of d) ≡ None
-has_room limits before ds d all within =
-    let octets : kept_octets before ≡ length (joined before) = ap (λ (l : List Dataset). length (joined l)) all in
-    let fields : length (kept before) ≡ length before = ap (λ (l : List Dataset). length l) all in
-    let fits = within.octets_in in
-    let few = within.fields_in in
-    let more = joined_more before d ds in
-    let longer = length-append before (d ∷ ds) in
-    room_by (is_kept d.rec) (nat_le (kept_octets before + length d.octets) limits.octets) (nat_le (length (kept before) + 1) limits.fields) _ _
-    (le-leb _ _ (omega (arith, octets, fits, more))) (le-leb _ _ (omega (arith, fields, few, longer)))
-
-one_kept : (before : List Dataset) (d : Dataset) → kept before ≡ before → is_kept d.rec ≡ true → kept (before ++ d ∷ []) ≡ before ++ d ∷ []
-one_kept before d all is =
-    filter-append (λ (x : Dataset). is_kept x.rec) before (d ∷ [])
-    ∙ (ap (λ (l : List Dataset). l ++ kept (d ∷ [])) all ∙ ap (λ (b : Bool). before ++ cond b (d ∷ []) []) is)
-
--- datasets that others complete to those of an envelope, after those before them
-taken_from : HeadsDieWithTheirFault → ValuesDieWithTheirFault → (limits : Limits) (before ds rest : List Dataset) → AreSections ((before ++ ds) ++ rest) → AllByRecursion IsTakeable ds
-    → kept before ≡ before → IsWithin limits (length (joined (before ++ ds))) (length (before ++ ds)) → AreTaken limits before ds
-taken_from heads values limits before [] rest sections each all within = tt
-taken_from heads values limits before (d ∷ ds) rest sections each all within =
-    let parts : (before ++ d ∷ []) ++ ds ≡ before ++ d ∷ ds = append_assoc before (d ∷ []) ds in
-    let more : AreSections (((before ++ d ∷ []) ++ ds) ++ rest) = subst (λ (l : List Dataset). AreSections (l ++ rest)) (sym parts) sections in
-    let alive : SectionsLive before = (d ∷ ds ++ rest, subst AreSections (append_assoc before (d ∷ ds) rest) sections) in
-    let alive_more : SectionsLive (before ++ d ∷ []) = (ds ++ rest, subst AreSections (append_assoc (before ++ d ∷ []) ds rest) more) in
-    let at : SectionsLiveAt before (head_of d) = (d, refl, alive_more) in (
-      none_at_all (is_kept d.rec) (fault_on (head_of d) RecordOrder) (record_fault before (head_of d)) (limits_fault limits before (head_of d)) (value_fault d)
-          each.0.is_kept ((heads before (head_of d) alive).1 at).0 (has_room limits before ds d all within) ((values before d at each.0.octets).1 alive_more),
-      taken_from heads values limits (before ++ d ∷ []) ds rest more each.1 (one_kept before d all each.0.is_kept)
+-- the datasets of an envelope that are left, after those before them
+taken_from : DatasetsOfEnvelopesAreAdded → (limits : Limits) (before ds : List Dataset) → IsEnvelope (before ++ ds) → IsWithin limits (length (joined (before ++ ds))) (length (before ++ ds))
+    → AreTaken limits before ds
+taken_from added limits before [] e within = tt
+taken_from added limits before (d ∷ ds) e within =
+    let parts : (before ++ d ∷ []) ++ ds ≡ before ++ d ∷ ds = append_assoc before (d ∷ []) ds in (
+      added limits before ds d e within,
+      taken_from added limits (before ++ d ∷ []) ds (subst IsEnvelope (sym parts) e)
           (subst (λ (l : List Dataset). IsWithin limits (length (joined l)) (length l)) (sym parts) within),
     )
 
-pub taken : HeadsDieWithTheirFault → ValuesDieWithTheirFault → (limits : Limits) (ds : List Dataset) → IsEnvelope ds → IsWithin limits (length (joined ds)) (length ds)
-    → AreTaken limits [] ds
-taken heads values limits ds e within = taken_from heads values limits [] ds object_records (sections_of ds e) (all_takeable ds e) refl within
+pub taken : DatasetsOfEnvelopesAreAdded → (limits : Limits) (ds : List Dataset) → IsEnvelope ds → IsWithin limits (length (joined ds)) (length ds) → AreTaken limits [] ds
+taken added limits ds e within = taken_from added limits [] ds e within
 
 -- ---- nothing is missing
 

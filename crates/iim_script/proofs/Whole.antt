@@ -3,7 +3,7 @@ use Rattle.std.proofs.Common.{◌≡◌, ℕ, ◌+◌, List, [], ◌∷◌, ◌+
 use Rattle.std.specs.Prelude.{codes}
 use Rattle.std.specs.List.{flat_map}
 use Rattle.iim_dataset.specs.Format.Datasets.{Dataset}
-use Rattle.iim_fields.specs.Laws.Records.{HeadsDieWithTheirFault, ValuesDieWithTheirFault}
+use Rattle.iim_fields.specs.Laws.Records.{DatasetsOfEnvelopesAreAdded}
 use Rattle.wire_message.specs.Format.Messages.{Header, IsHeader}
 use Rattle.iim_script.specs.Format.Forms.{text_word}
 use Rattle.iim_script.specs.Laws.Scripts.{PrintedValuesAreScripts}
@@ -40,8 +40,8 @@ count_lines : (fields : List Dataset) → length fields + 3 ≡ length (map fiel
 count_lines [] = refl
 count_lines (d ∷ ds) = omega (arith, count_lines ds)
 
-pub is_script : HeadsDieWithTheirFault → ValuesDieWithTheirFault → PrintedValuesAreScripts
-is_script heads values limits fields head trailer lines story envelope within is_header is_trailer some texts printed short = record {
+pub is_script : DatasetsOfEnvelopesAreAdded → PrintedValuesAreScripts
+is_script added limits fields head trailer lines story envelope within is_header is_trailer some texts printed short = record {
   front = front_of fields head trailer;
   story = story;
   parts = script_parts fields head trailer story;
@@ -51,7 +51,7 @@ is_script heads values limits fields head trailer lines story envelope within is
     message = message_words head;
     trailers = trailer_words trailer ∷ [];
     lined = fields_end fields (message_words head ∷ trailer_words trailer ∷ text_word ∷ []) _ (all_printable fields envelope) (last_lines head trailer is_header);
-    are_fields = record { told = fields_told fields (all_printable fields envelope); taken = taken heads values limits fields envelope within };
+    are_fields = record { told = fields_told fields (all_printable fields envelope); taken = taken added limits fields envelope within };
     whole = whole fields envelope;
     is_head = head_told head is_header;
     is_trailer = (trailer_told trailer is_trailer.0, is_trailer);

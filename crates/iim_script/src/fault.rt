@@ -58,7 +58,7 @@ impl ScriptCause {
 
 /// A line of a script, counted from 1, and what is wrong with it.
 #[derive(Clone, Copy, Debug, PartialEq, Eq, Error, Drop)]
-#[error("script line {line}: {cause:?}")]
+#[error("script line {line} cause {} {}", .cause.number(), .cause.name())]
 pub struct ScriptFault {
     /// The line's number; 0 where no line is at fault.
     pub line: u64,

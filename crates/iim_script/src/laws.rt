@@ -2,7 +2,7 @@
 
 ghost use Rattle.iim_script.specs.Laws.Scripts.{OctetsHaveOneNextLine, LinesTellOneThing, FormsExcludeOneAnother, ScriptsTellOneThing, ScriptsHaveNoFault, OctetsHaveOneFault, PrintedValuesAreScripts};
 
-use iim_fields::laws::{heads_die_with_their_fault, values_die_with_their_fault};
+use iim_fields::laws::datasets_of_envelopes_are_added;
 
 /// Octets have one next line, and one thing follows it.
 pub fn octets_have_one_next_line()
@@ -39,6 +39,5 @@ pub fn octets_have_one_fault()
 pub fn printed_values_are_scripts()
     ensures { PrintedValuesAreScripts }
 {
-    heads_die_with_their_fault();
-    values_die_with_their_fault();
+    datasets_of_envelopes_are_added();
 }

@@ -6,8 +6,11 @@ ghost use Rattle.iim_unpack.specs.Format.Names.{layer_name, cause_number, cause_
 
 use iim_dataset::DatasetName;
 use iim_fields::FieldCause;
+use iim_object::SizeCause;
+use std::error::Error;
 use std::fmt;
 use std::fmt::{Display, Formatter};
+use wire_message::MessageCause;
 
 /// The layer that refused, in the order in which the layers look at a token.
 #[derive(Clone, Copy, Debug, PartialEq, Eq)]
@@ -124,17 +127,17 @@ impl Cause {
             Cause::Missing => FieldCause::Missing.name(),
             Cause::BadValue => FieldCause::BadValue.name(),
             Cause::FileFormat => FieldCause::FileFormat.name(),
-            Cause::ModeClash => "ModeClash",
-            Cause::SizeClash => "SizeClash",
-            Cause::SubfileTooLong => "SubfileTooLong",
-            Cause::PastSize => "PastSize",
-            Cause::Short => "Short",
-            Cause::ConfirmedWrong => "ConfirmedWrong",
-            Cause::BadOctet => "BadOctet",
-            Cause::Unfinished => "Unfinished",
-            Cause::LoneReturn => "LoneReturn",
-            Cause::ControlOctet => "ControlOctet",
-            Cause::Sink => "Sink",
+            Cause::ModeClash => SizeCause::ModeClash.name(),
+            Cause::SizeClash => SizeCause::SizeClash.name(),
+            Cause::SubfileTooLong => SizeCause::SubfileTooLong.name(),
+            Cause::PastSize => SizeCause::PastSize.name(),
+            Cause::Short => SizeCause::Short.name(),
+            Cause::ConfirmedWrong => SizeCause::ConfirmedWrong.name(),
+            Cause::BadOctet => MessageCause::BadOctet.name(),
+            Cause::Unfinished => MessageCause::Unfinished.name(),
+            Cause::LoneReturn => MessageCause::LoneReturn.name(),
+            Cause::ControlOctet => MessageCause::ControlOctet.name(),
+            Cause::Sink => MessageCause::Sink.name(),
             Cause::Failed => "Failed",
             Cause::HeaderFull => FieldCause::HeaderFull.name(),
             Cause::TooManyFields => FieldCause::TooManyFields.name(),
@@ -181,6 +184,8 @@ impl Display for Cause {
     }
 }
 
+impl Error for Cause {}
+
 /// As `refused at octet 46 by layer record on 1:70, cause 14 Missing`.
 impl Display for Refusal {
     ghost output = { λ refusal. Some (refusal_text refusal) };
@@ -199,3 +204,5 @@ impl Display for Refusal {
         )
     }
 }
+
+impl Error for Refusal {}

@@ -8,6 +8,7 @@
 
 mod serve;
 mod start;
+mod words;
 
 ghost use Rattle.std.specs.Prelude.{◌≡◌, ◌≢◌, ◌⊎◌, IfSome, None};
 ghost use Rattle.std.specs.IoError.{error_kind};
@@ -23,20 +24,25 @@ use std::fs::File;
 use std::io::{ErrorKind, Read, Stdin};
 use std::process::ExitCode;
 use std::{env, io};
+use words::printed_fault;
 
 fn main(rt: HostRuntime) -> ExitCode {
-    let words = match words(&rt) {
+    let words = match given_words(&rt) {
         Ok(words) => words,
         Err(error) => return give_up(&rt, fault_of(&error, RunFault::NoText)),
     };
-    match parse(rt.alloc(), words.as_slice()) {
+    let words = words.as_slice();
+    match parse(rt.alloc(), words) {
         Ok(request) => begin(&rt, request),
-        Err(fault) => give_up(&rt, RunFault::Usage(fault)),
+        Err(fault) => give_up(
+            &rt,
+            RunFault::Usage(printed_fault(rt.alloc(), words, fault)),
+        ),
     }
 }
 
 /// The words of the command line.
-fn words(rt: &HostRuntime) -> io::Result<Vec<String>> {
+fn given_words(rt: &HostRuntime) -> io::Result<Vec<String>> {
     Ok(env::args(rt)?.collect(rt.alloc())?)
 }
 

@@ -166,19 +166,17 @@ const PACK_CAUSES: [PackCause; 7] = [
     PackCause::Failed,
 ];
 
-/// Prints each cause of the sizes of an object with its number.
+/// Prints each cause of the sizes of an object: its number and its name.
 fn print_size_causes(out: &mut Answers) {
     for cause in SIZE_CAUSES {
-        let number = cause.number();
-        out.tell(&format_args!("{number} {cause:?}"));
+        out.tell(&format_args!("{cause}"));
     }
 }
 
-/// Prints each cause of a packer with its number.
+/// Prints each cause of a packer: its number and its name.
 fn print_pack_causes(out: &mut Answers) {
     for cause in PACK_CAUSES {
-        let number = cause.number();
-        out.tell(&format_args!("{number} {cause:?}"));
+        out.tell(&format_args!("{cause}"));
     }
 }
 

@@ -1,4 +1,5 @@
 pub mod Texts
+pub mod Causes
 pub mod Delivery
 pub mod Tokens
 pub mod Packing

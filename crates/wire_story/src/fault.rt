@@ -1,15 +1,55 @@
 //! Why a text is refused.
 
-/// Why a reader of a text refused an octet, or the end.
+ghost use Rattle.std.specs.Prelude.{◌≡◌, Some};
+ghost use Rattle.wire_story.specs.Format.Causes.{number_of_text, name_of_text, print_of_text};
+
+use std::error::Error;
+use std::fmt;
+use std::fmt::{Display, Formatter};
+
+/// Why a reader of a text refused an octet, or the end, each with its number.
 #[derive(Clone, Copy, Debug, PartialEq, Eq)]
 pub enum TextCause {
     /// CR came before it that no LF has followed.
-    LoneReturn,
+    LoneReturn = 40,
     /// SOH, STX, ETX or EOT stands in the text.
-    ControlOctet,
+    ControlOctet = 41,
     /// The sink stopped.
-    Sink,
+    Sink = 60,
 }
+
+impl TextCause {
+    /// The number, as it is printed.
+    pub fn number(self) -> u8
+        ensures { result ≡ number_of_text self }
+    {
+        self as u8
+    }
+
+    /// The name, as it is printed.
+    pub fn name(self) -> &'static str
+        ensures { result.now ≡ name_of_text self }
+    {
+        match self {
+            TextCause::LoneReturn => "LoneReturn",
+            TextCause::ControlOctet => "ControlOctet",
+            TextCause::Sink => "Sink",
+        }
+    }
+}
+
+/// The number and the name, as `40 LoneReturn`.
+impl Display for TextCause {
+    ghost output = { λ cause. Some (print_of_text cause) };
+
+    fn fmt<W: fmt::Write>(&self, f: &mut Formatter<W>) -> fmt::Result {
+        let number = self.number();
+        let name = self.name();
+        write!(f, "{number} {name}")
+    }
+}
+
+impl Error for TextCause {}
 
 /// A reader of a text refused an octet, or the end.
 #[derive(Clone, Copy, Debug, PartialEq, Eq)]

@@ -1,11 +1,14 @@
 -- Faults stand exactly where the record layer dies, and are those of the lowest number.
-use Rattle.std.specs.Prelude.{◌≡◌, ◌↔◌, List, [], ◌∷◌, ◌++◌, Option, Some, None}
+use Rattle.std.specs.Prelude.{◌≡◌, ◌↔◌, List, [], ◌∷◌, ◌++◌, length, Option, Some, None}
 use Rattle.iim_dataset.specs.Format.Octets.{IsOctet, Octets}
 use Rattle.iim_dataset.specs.Format.Datasets.{Dataset, head_of}
 use Rattle.iim_dataset.specs.declared.head.Head.{Head}
 use Rattle.iim_fields.specs.Format.Records.{AreSections}
 use Rattle.iim_fields.specs.Format.Alive.{SectionsLive, SectionsLiveAt}
-use Rattle.iim_fields.specs.Format.Faults.{record_fault, value_fault, first_fault}
+use Rattle.iim_fields.specs.Format.Faults.{record_fault, value_fault, first_fault, joined}
+use Rattle.iim_fields.specs.States.Builders.{add_fault}
+use Rattle.iim_fields.specs.Format.Envelopes.{IsEnvelope}
+use Rattle.iim_fields.specs.Format.Bounds.{IsWithin}
 use Rattle.iim_fields.specs.States.Checks.{AwaitsHead, HasChecked, IsChecking}
 use Rattle.iim_fields.specs.Format.Causes.{Token, IsFault, HasNoFault}
 use Rattle.iim_fields.specs.Format.Causes.Token.{AtHead, AtValue}
@@ -46,3 +49,8 @@ abbrev pub DatasetsLeadToOnePlace : Type 0
 DatasetsLeadToOnePlace =
     ((a b : Option RecordPlace) (ds : List Dataset) → AwaitsHead a → AwaitsHead b → HasChecked a ds → HasChecked b ds → a ≡ b)
     × ((a b : Option RecordPlace) (ds : List Dataset) (h : Head) → IsChecking a ds h → IsChecking b ds h → a ≡ b)
+
+-- A dataset of an envelope is added after those before it, where the whole envelope is within the limits.
+abbrev pub DatasetsOfEnvelopesAreAdded : Type 0
+DatasetsOfEnvelopesAreAdded = (limits : Limits) (before ds : List Dataset) (d : Dataset) → IsEnvelope (before ++ d ∷ ds)
+    → IsWithin limits (length (joined (before ++ d ∷ ds))) (length (before ++ d ∷ ds)) → add_fault limits before d ≡ None

@@ -1,13 +1,16 @@
 -- What a builder of envelopes is told is wrong, and what an envelope is.
-use Rattle.std.specs.Prelude.{ℕ, ◌^◌, ◌<◌, length, not, if◌then◌else◌, List, Option, Some}
+use Rattle.std.specs.Prelude.{◌≡◌, ℕ, ◌^◌, ◌<◌, length, not, if◌then◌else◌, List, Option, Some, None}
 use Rattle.std.specs.Option.{option_or}
 use Rattle.iim_dataset.specs.Format.Datasets.{Dataset, head_of, of_record}
 use Rattle.iim_tables.specs.Format.Records.{occurs}
-use Rattle.iim_fields.specs.Format.Faults.{joined, first_fault, value_fault, missing_fault, missing_of, is_kept, fault_on}
+use Rattle.iim_fields.specs.Format.Faults.{joined, first_fault, value_fault, missing_fault, missing_of, is_kept, fault_on, limit_passed}
 use Rattle.iim_fields.specs.States.Stores.{Room}
 use Rattle.iim_fields.specs.declared.limits.Limits.{Limits}
 use Rattle.iim_fields.specs.declared.fault.FieldFault.{FieldFault}
+use Rattle.iim_fields.specs.declared.fault.FieldCause.{FieldCause}
 use Rattle.iim_fields.specs.declared.fault.FieldCause.TheVariants.{RecordOrder}
+use Rattle.iim_fields.specs.declared.fault.CopyFault.{CopyFault}
+use Rattle.iim_fields.specs.declared.fault.CopyFault.TheVariants.{Passed, OutOfMemory}
 
 -- A builder is seen as its limits, the datasets so far, and what it has room for.
 pub record Building : Type 0 where
@@ -33,3 +36,12 @@ finish_fault ds = option_or (absent 1 ds) (absent 2 ds)
 pub record AreFew (ds : List Dataset) : Type 0 where
   pub datasets : length ds < 2 ^ 32
   pub octets : length (joined ds) < 2 ^ 32
+
+-- the first limit that all these datasets pass: that on octets, or else that on their number
+abbrev pub passed_by : Limits → List Dataset → Option FieldCause
+passed_by limits ds = limit_passed limits (length (joined ds)) (length ds)
+
+-- Why an envelope of these datasets is not copied: it passes a limit; or else memory was refused.
+abbrev pub IsCopyFault : Limits → List Dataset → CopyFault → Type 0
+IsCopyFault limits ds (Passed cause) = passed_by limits ds ≡ Some cause
+IsCopyFault limits ds OutOfMemory = passed_by limits ds ≡ None

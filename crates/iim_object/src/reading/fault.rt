@@ -1,10 +1,14 @@
 //! Why an object is refused.
 
-ghost use Rattle.std.specs.Prelude.{◌≡◌};
+ghost use Rattle.std.specs.Prelude.{◌≡◌, Some};
 ghost use Rattle.iim_object.specs.Format.Conditions.{number_of};
+ghost use Rattle.iim_object.specs.Format.Names.{name_of, text_of, fault_number, fault_name, fault_text};
 ghost use Rattle.iim_object.specs.declared.reading.fault.ObjectFault.TheVariants.{Size, Stopped};
 
 use iim_dataset::Stop;
+use std::error::Error;
+use std::fmt;
+use std::fmt::{Display, Formatter};
 
 /// What is wrong with the sizes of an object, each with its number. Of several the one of the lowest number is told.
 #[derive(Clone, Copy, Debug, PartialEq, Eq)]
@@ -24,13 +28,40 @@ pub enum SizeCause {
 }
 
 impl SizeCause {
-    /// The number.
+    /// The number, as it is printed.
     pub fn number(self) -> u8
         ensures { result ≡ number_of self }
     {
         self as u8
     }
+
+    /// The name, as it is printed.
+    pub fn name(self) -> &'static str
+        ensures { result.now ≡ name_of self }
+    {
+        match self {
+            SizeCause::ModeClash => "ModeClash",
+            SizeCause::SizeClash => "SizeClash",
+            SizeCause::SubfileTooLong => "SubfileTooLong",
+            SizeCause::PastSize => "PastSize",
+            SizeCause::Short => "Short",
+            SizeCause::ConfirmedWrong => "ConfirmedWrong",
+        }
+    }
 }
+
+/// The number and the name, as `20 ModeClash`.
+impl Display for SizeCause {
+    ghost output = { λ cause. Some (text_of cause) };
+
+    fn fmt<W: fmt::Write>(&self, f: &mut Formatter<W>) -> fmt::Result {
+        let number = self.number();
+        let name = self.name();
+        write!(f, "{number} {name}")
+    }
+}
+
+impl Error for SizeCause {}
 
 /// A reader of objects refused a token.
 #[derive(Clone, Copy, Debug, PartialEq, Eq)]
@@ -43,6 +74,41 @@ pub enum ObjectFault {
     /// The sink stopped, after the octets of the run that it took, or, with none taken, at the end of the object.
     Stopped(Stop),
 }
+
+impl ObjectFault {
+    /// The number, as it is printed: of a stop it is 60.
+    pub fn number(self) -> u8
+        ensures { result ≡ fault_number self }
+    {
+        match self {
+            ObjectFault::Size { cause } => cause.number(),
+            ObjectFault::Stopped(_) => 60,
+        }
+    }
+
+    /// The name, as it is printed: of a stop it is `Sink`.
+    pub fn name(self) -> &'static str
+        ensures { result.now ≡ fault_name self }
+    {
+        match self {
+            ObjectFault::Size { cause } => cause.name(),
+            ObjectFault::Stopped(_) => "Sink",
+        }
+    }
+}
+
+/// The number and the name, as `20 ModeClash` or `60 Sink`.
+impl Display for ObjectFault {
+    ghost output = { λ fault. Some (fault_text fault) };
+
+    fn fmt<W: fmt::Write>(&self, f: &mut Formatter<W>) -> fmt::Result {
+        let number = self.number();
+        let name = self.name();
+        write!(f, "{number} {name}")
+    }
+}
+
+impl Error for ObjectFault {}
 
 impl From<SizeCause> for ObjectFault {
     ghost from_gives = { λ cause fault. fault ≡ Size cause };

@@ -1,7 +1,11 @@
 //! Why a packer refuses a call.
 
-ghost use Rattle.std.specs.Prelude.{◌≡◌};
-ghost use Rattle.iim_object.specs.Format.PackCauses.{pack_number};
+ghost use Rattle.std.specs.Prelude.{◌≡◌, Some};
+ghost use Rattle.iim_object.specs.Format.PackCauses.{pack_number, pack_name, pack_text};
+
+use std::error::Error;
+use std::fmt;
+use std::fmt::{Display, Formatter};
 
 /// Why a packer refuses a call, each with its number.
 #[derive(Clone, Copy, Debug, PartialEq, Eq)]
@@ -29,7 +33,35 @@ impl PackCause {
     {
         self as u8
     }
+
+    /// The name, as it is printed.
+    pub fn name(self) -> &'static str
+        ensures { result.now ≡ pack_name self }
+    {
+        match self {
+            PackCause::OutOfMemory => "OutOfMemory",
+            PackCause::PastAnnounced => "PastAnnounced",
+            PackCause::ShortOfAnnounced => "ShortOfAnnounced",
+            PackCause::BadTextOctet => "BadTextOctet",
+            PackCause::BadTrailer => "BadTrailer",
+            PackCause::Write => "Write",
+            PackCause::Failed => "Failed",
+        }
+    }
 }
+
+/// The number and the name, as `80 PastAnnounced`.
+impl Display for PackCause {
+    ghost output = { λ cause. Some (pack_text cause) };
+
+    fn fmt<W: fmt::Write>(&self, f: &mut Formatter<W>) -> fmt::Result {
+        let number = self.number();
+        let name = self.name();
+        write!(f, "{number} {name}")
+    }
+}
+
+impl Error for PackCause {}
 
 /// Nothing was begun, and the writer is handed back.
 #[derive(Debug, Drop)]

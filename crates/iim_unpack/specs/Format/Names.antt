@@ -4,6 +4,11 @@ use Rattle.iim_dataset.specs.Format.Shown.{dataset_name}
 use Rattle.iim_fields.specs.Format.Causes.{number_of_cause}
 use Rattle.iim_fields.specs.Format.Names.{name_of_cause}
 use Rattle.iim_fields.specs.declared.fault.FieldCause.TheVariants as fields
+use Rattle.iim_object.specs.Format.Conditions.{number_of}
+use Rattle.iim_object.specs.Format.Names.{name_of}
+use Rattle.iim_object.specs.declared.reading.fault.SizeCause.TheVariants as sizes
+use Rattle.wire_message.specs.Format.Causes.{number_of_message, name_of_message}
+use Rattle.wire_message.specs.declared.fault.MessageCause.TheVariants as messages
 use Rattle.iim_unpack.specs.declared.refusal.Refusal.{Refusal}
 use Rattle.iim_unpack.specs.declared.refusal.Layer.{Layer}
 use Rattle.iim_unpack.specs.declared.refusal.Layer.TheVariants.{Dataset, Record, Limits, Object, Message, Story, Outside}
@@ -30,17 +35,17 @@ cause_number CountRange = number_of_cause fields.CountRange
 cause_number Missing = number_of_cause fields.Missing
 cause_number BadValue = number_of_cause fields.BadValue
 cause_number FileFormat = number_of_cause fields.FileFormat
-cause_number ModeClash = 20
-cause_number SizeClash = 21
-cause_number SubfileTooLong = 22
-cause_number PastSize = 23
-cause_number Short = 24
-cause_number ConfirmedWrong = 25
-cause_number BadOctet = 30
-cause_number Unfinished = 32
-cause_number LoneReturn = 40
-cause_number ControlOctet = 41
-cause_number Sink = 60
+cause_number ModeClash = number_of sizes.ModeClash
+cause_number SizeClash = number_of sizes.SizeClash
+cause_number SubfileTooLong = number_of sizes.SubfileTooLong
+cause_number PastSize = number_of sizes.PastSize
+cause_number Short = number_of sizes.Short
+cause_number ConfirmedWrong = number_of sizes.ConfirmedWrong
+cause_number BadOctet = number_of_message messages.BadOctet
+cause_number Unfinished = number_of_message messages.Unfinished
+cause_number LoneReturn = number_of_message messages.LoneReturn
+cause_number ControlOctet = number_of_message messages.ControlOctet
+cause_number Sink = number_of_message messages.Sink
 cause_number Failed = 61
 cause_number HeaderFull = number_of_cause fields.HeaderFull
 cause_number TooManyFields = number_of_cause fields.TooManyFields
@@ -57,17 +62,17 @@ cause_name CountRange = name_of_cause fields.CountRange
 cause_name Missing = name_of_cause fields.Missing
 cause_name BadValue = name_of_cause fields.BadValue
 cause_name FileFormat = name_of_cause fields.FileFormat
-cause_name ModeClash = codes "ModeClash"
-cause_name SizeClash = codes "SizeClash"
-cause_name SubfileTooLong = codes "SubfileTooLong"
-cause_name PastSize = codes "PastSize"
-cause_name Short = codes "Short"
-cause_name ConfirmedWrong = codes "ConfirmedWrong"
-cause_name BadOctet = codes "BadOctet"
-cause_name Unfinished = codes "Unfinished"
-cause_name LoneReturn = codes "LoneReturn"
-cause_name ControlOctet = codes "ControlOctet"
-cause_name Sink = codes "Sink"
+cause_name ModeClash = name_of sizes.ModeClash
+cause_name SizeClash = name_of sizes.SizeClash
+cause_name SubfileTooLong = name_of sizes.SubfileTooLong
+cause_name PastSize = name_of sizes.PastSize
+cause_name Short = name_of sizes.Short
+cause_name ConfirmedWrong = name_of sizes.ConfirmedWrong
+cause_name BadOctet = name_of_message messages.BadOctet
+cause_name Unfinished = name_of_message messages.Unfinished
+cause_name LoneReturn = name_of_message messages.LoneReturn
+cause_name ControlOctet = name_of_message messages.ControlOctet
+cause_name Sink = name_of_message messages.Sink
 cause_name Failed = codes "Failed"
 cause_name HeaderFull = name_of_cause fields.HeaderFull
 cause_name TooManyFields = name_of_cause fields.TooManyFields

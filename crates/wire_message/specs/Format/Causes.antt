@@ -1,11 +1,31 @@
 -- Why an octet of a message is refused.
-use Rattle.std.specs.Prelude.{◌≡◌, ◌≢◌, ℕ, ◌<◌, List, [], ◌∷◌, ◌++◌}
+use Rattle.std.specs.Prelude.{List, ℕ, ◌++◌, codes, decimal, ◌≡◌, ◌≢◌, ◌<◌, [], ◌∷◌}
+use Rattle.wire_story.specs.Format.Causes.{number_of_text, name_of_text}
+use Rattle.wire_story.specs.declared.fault.TextCause.TheVariants as texts
+use Rattle.wire_message.specs.declared.fault.MessageCause.{MessageCause}
+use Rattle.wire_message.specs.declared.fault.MessageCause.TheVariants.{BadOctet, Unfinished, LoneReturn, ControlOctet, Sink}
 use Rattle.iim_dataset.specs.Format.Characters.{cr}
 use Rattle.wire_story.specs.Format.Texts.{Holds}
 use Rattle.wire_story.specs.Format.Tokens.{Octet}
 use Rattle.wire_message.specs.Format.Layers.{MessageLivesWith, MessageDiesAt, text_so_far, StoryLivesIn}
-use Rattle.wire_message.specs.declared.fault.MessageCause.{MessageCause}
-use Rattle.wire_message.specs.declared.fault.MessageCause.TheVariants.{BadOctet, Unfinished, LoneReturn, ControlOctet, Sink}
+
+abbrev pub number_of_message : MessageCause → ℕ
+number_of_message BadOctet = 30
+number_of_message Unfinished = 32
+number_of_message LoneReturn = number_of_text texts.LoneReturn
+number_of_message ControlOctet = number_of_text texts.ControlOctet
+number_of_message Sink = number_of_text texts.Sink
+
+abbrev pub name_of_message : MessageCause → List ℕ
+name_of_message BadOctet = codes "BadOctet"
+name_of_message Unfinished = codes "Unfinished"
+name_of_message LoneReturn = name_of_text texts.LoneReturn
+name_of_message ControlOctet = name_of_text texts.ControlOctet
+name_of_message Sink = name_of_text texts.Sink
+
+-- a cause's number and name, as they are printed
+abbrev pub print_of_message : MessageCause → List ℕ
+print_of_message cause = decimal (number_of_message cause) ++ (codes " " ++ name_of_message cause)
 
 -- The story can continue from the octets, and not from them with one more.
 abbrev pub StoryDiesWith : List ℕ → ℕ → Type 0

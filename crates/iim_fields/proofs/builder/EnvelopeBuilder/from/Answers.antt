@@ -1,0 +1,17 @@
+use Rattle.std.proofs.Common.{◌≡◌, ◌++◌, List, ap, sym, ◌∙◌, subst}
+use Rattle.iim_dataset.specs.Format.Datasets.{Dataset}
+use Rattle.iim_fields.specs.States.Builders.{Building, passed_by}
+use Rattle.iim_fields.specs.Format.Faults.{limit_passed}
+use Rattle.iim_fields.specs.States.Walks.{rest_of}
+use Rattle.iim_fields.proofs.Copying.{takes}
+use Rattle.iim_fields.proofs.builder.EnvelopeBuilder.from.Goals as goal
+
+pub unwrap-requires : goal.unwrap-requires
+unwrap-requires c =
+    let d : Dataset = record { rec = c.in-Some-next.rec; set = c.in-Some-next.set; octets = c.in-Some-next.octets.now } in
+    let same : limit_passed c.args.limits c.totals-octets.result.0 c.totals-octets.result.1 ≡ passed_by c.args.limits c.args.envelope.now =
+    λ i. limit_passed c.args.limits (c.totals-octets.ensures i).0 (c.totals-octets.ensures i).1 in
+    takes c.datasets_of_envelopes_are_added.ensures c.args.limits c.loop-rec.builder.limits c.args.envelope.now c.loop-rec.builder.fields (rest_of c.next.new.self) d c.add.result
+    c.fields-rest.ensures.envelope (sym same ∙ (sym c.passed.ensures ∙ c.in_default.is)) (c.loop-rec.invariant.limits ∙ ap (λ (b : Building). b.limits) c.in_ok-builder.ensures.empty)
+    (ap (λ (ds : List Dataset). c.loop-rec.builder.fields ++ ds) (sym c.in-Some-next.ensures.steps) ∙ (c.loop-rec.invariant.parts ∙ c.fields-rest.ensures.fields))
+    c.add.ensures.fault

@@ -1,0 +1,11 @@
+use Rattle.std.proofs.Common.{◌≡◌, ◌++◌}
+use Rattle.iim_fields.specs.States.Walks.{rest_of}
+use Rattle.iim_fields.proofs.builder.EnvelopeBuilder.from.Given as goal
+
+-- what was added, and what is left, are the envelope
+abbrev pub invariant-loop-rec : goal.invariant-loop-rec
+invariant-loop-rec l = record {
+  limits : l.builder.limits ≡ l.initial.builder.limits;
+  room : l.builder.room ≡ l.initial.builder.room;
+  parts : l.builder.fields ++ rest_of l.rest ≡ rest_of l.initial.rest;
+}
