@@ -173,7 +173,7 @@ fn audit<'a>(alloc: Global) -> Result<Command<'a>, AllocError>
         .long("now")
         .value_name("INSTANT")
         .required(true)
-        .help("The present instant, as 2024-03-01T12:00:00Z; its forms stand below");
+        .help("The present instant, as 2024-03-01T12:00:00Z");
     with_file(
         alloc,
         "audit",
