@@ -5,9 +5,7 @@ use std::alloc::Global;
 use std::process::Abort;
 use wire_message::{MessageCause, MessageReader};
 use wire_story::{LineWriter, Lines, StorySink};
-
-/// A story of two lines.
-const RATES: &[u8] = b"\x01TST0007 4 ECO 5 rates\r\n\x02Rates stay.\r\nNo change.\x03\x04";
+use worked::STORY_OBJECT;
 
 /// What a sink was told: octets of a line, of which the number is kept, or the end of a line.
 #[derive(Clone, Copy, Debug, PartialEq, Eq)]
@@ -102,7 +100,7 @@ fn runs_are_passed_on_whole(rt: HostRuntime) {
     let mut calls = Calls {
         first: arrayvec::ArrayVec::new(),
     };
-    assert_eq!(rt; read(RATES, false, &mut calls), None);
+    assert_eq!(rt; read(STORY_OBJECT, false, &mut calls), None);
     assert_eq!(rt;
         calls.first.as_slice(),
         [Call::Text(11), Call::LineEnd, Call::Text(10)].as_slice()
@@ -147,6 +145,6 @@ fn sinks_that_stop(rt: HostRuntime) {
     ];
     for (lines, taken) in written {
         let fault = Some((taken, MessageCause::Sink));
-        expect_lines(&rt, RATES, lines.len() as u64, lines, fault);
+        expect_lines(&rt, STORY_OBJECT, lines.len() as u64, lines, fault);
     }
 }

@@ -18,42 +18,6 @@ use wire_story::{Lines, StorySink};
 /// Those of the program.
 const LIMITS: Limits = Limits::WIRE;
 
-/// The fields of an envelope with by-lines and keywords.
-static STORY: [(u8, u8, &[u8]); 16] = [
-    (1, 0, b"\0\x04"),
-    (1, 20, b"\0\x02"),
-    (1, 22, b"\0\x01"),
-    (1, 30, b"TST"),
-    (1, 40, b"00000002"),
-    (1, 70, b"20240301"),
-    (2, 0, b"\0\x04"),
-    (2, 105, b"Rates held"),
-    (2, 80, b"A. Moor"),
-    (2, 85, b"Editor"),
-    (2, 80, b"B. Lund"),
-    (2, 85, b"Writer"),
-    (2, 25, b"rates"),
-    (2, 25, b"bank"),
-    (2, 25, b"euro"),
-    (2, 250, b"\0\xff"),
-];
-
-/// That envelope, up to the end of its fields.
-const STORY_FRONT: &[u8] =
-    b"\x1c\x01\x00\x00\x02\x00\x04\x1c\x01\x14\x00\x02\x00\x02\x1c\x01\x16\x00\x02\x00\x01\
-\x1c\x01\x1e\x00\x03TST\x1c\x01\x28\x00\x0800000002\x1c\x01\x46\x00\x0820240301\x1c\x02\x00\x00\x02\x00\x04\
-\x1c\x02\x69\x00\x0aRates held\x1c\x02\x50\x00\x07A. Moor\x1c\x02\x55\x00\x06Editor\
-\x1c\x02\x50\x00\x07B. Lund\x1c\x02\x55\x00\x06Writer\x1c\x02\x19\x00\x05rates\x1c\x02\x19\x00\x04bank\
-\x1c\x02\x19\x00\x04euro\x1c\x02\xfa\x00\x02\x00\xff";
-
-/// Its object: a story of two lines.
-const STORY_OBJECT: &[u8] = b"\x01TST0007 4 ECO 5 rates\r\n\x02Rates stay.\r\nNo change.\x03\x04";
-
-/// All of it, with a known size and one subfile of at most 1024 octets.
-const STORY_REST: &[u8] =
-    b"\x1c\x07\x0a\0\x01\x01\x1c\x07\x14\0\x04\0\0\x04\0\x1c\x07\x5a\0\x04\0\0\0\x32\
-\x1c\x08\x0a\0\x32\x01TST0007 4 ECO 5 rates\r\n\x02Rates stay.\r\nNo change.\x03\x04\x1c\x09\x0a\0\x04\0\0\0\x32";
-
 fn envelope(rt: &impl Abort, alloc: Global, fields: &[(u8, u8, &[u8])]) -> Envelope {
     let Ok(mut builder) = EnvelopeBuilder::new(alloc, LIMITS) else {
         panic!(rt; "memory");

@@ -1,7 +1,7 @@
 //! Calls of the audit.
 
+use crate::given::{LIMITS, STREAM};
 use crate::outcome::{Trouble, right};
-use crate::worked::{LIMITS, STREAM};
 use iim_audit::{AuditCause, AuditFault, Report, audit, report_text};
 use iim_dataset::{FromRead, Source};
 use iim_unpack::{Intake, Unpacker};

@@ -1,9 +1,9 @@
 //! Calls of lines: octets and line ends taken.
 
 use crate::outcome::{Trouble, right};
-use crate::worked::FIRST_LINE;
 use std::alloc::Global;
 use wire_story::{Lines, StorySink, is_text};
+use worked::FIRST_LINE;
 
 /// How often a line and its end are told.
 const TIMES: usize = 50;

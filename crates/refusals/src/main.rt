@@ -5,6 +5,7 @@
 #![tactic(auto)]
 
 mod auditing;
+mod given;
 mod lines;
 mod objects;
 mod outcome;
@@ -12,7 +13,6 @@ mod packing;
 mod records;
 mod scripts;
 mod unpacking;
-mod worked;
 
 use outcome::{End, tell};
 use std::process::ExitCode;

@@ -1,10 +1,10 @@
 //! Calls of the object: subfiles written.
 
 use crate::outcome::{Trouble, right};
-use crate::worked::{CONFIRMED, OBJECT, STORY};
 use iim_dataset::{TrialWriter, Trouble as DeviceTrouble};
 use iim_object::{Plan, Size, SubfileBuffer, SubfileWriter};
 use std::alloc::Global;
+use worked::{STORY, STORY_CONFIRMED, STORY_OBJECT};
 
 /// A writer that takes no memory, and never fails.
 pub(crate) fn writer() -> TrialWriter<512> {
@@ -26,7 +26,7 @@ pub(crate) fn one_subfile(alloc: Global) -> Result<(), Trouble> {
 /// was made for the first.
 pub(crate) fn subfiles(alloc: Global, subfile: u64, octets: usize) -> Result<(), Trouble> {
     let writer = written(alloc, subfile)?;
-    right(writer.octets().len() == octets && writer.octets().ends_with(CONFIRMED))
+    right(writer.octets().len() == octets && writer.octets().ends_with(STORY_CONFIRMED))
 }
 
 /// What the worked object is written to.
@@ -35,7 +35,7 @@ fn written(alloc: Global, subfile: u64) -> Result<TrialWriter<512>, Trouble> {
     let Ok(mut subfiles) = SubfileWriter::start(buffer, writer()) else {
         return Err(Trouble::Wrong);
     };
-    right(subfiles.write(OBJECT).is_ok())?;
+    right(subfiles.write(STORY_OBJECT).is_ok())?;
     let Ok(writer) = subfiles.finish() else {
         return Err(Trouble::Wrong);
     };

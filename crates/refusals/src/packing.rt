@@ -1,14 +1,15 @@
 //! Calls that pack envelopes.
 
+use crate::given::head;
 use crate::objects::{plan, writer};
 use crate::outcome::{Trouble, right};
-use crate::worked::{CONFIRMED, FIRST_LINE, LAST_LINE, STORY, head};
 use iim_dataset::TrialWriter;
 use iim_fields::Envelope;
 use iim_object::{PackCause, StartFault};
 use iim_pack::{Packer, pack};
 use std::alloc::Global;
 use wire_story::Lines;
+use worked::{FIRST_LINE, LAST_LINE, STORY, STORY_CONFIRMED};
 
 /// What a fault comes to: where memory was refused, nothing is written.
 fn trouble_of(fault: &StartFault<TrialWriter<512>>) -> Trouble {
@@ -34,7 +35,7 @@ pub(crate) fn in_subfiles(
     octets: usize,
 ) -> Result<(), Trouble> {
     let writer = packed(alloc, envelope, subfile)?;
-    right(writer.octets().len() == octets && writer.octets().ends_with(CONFIRMED))
+    right(writer.octets().len() == octets && writer.octets().ends_with(STORY_CONFIRMED))
 }
 
 /// What the worked envelope is packed to, call by call.

@@ -3,11 +3,12 @@
 ghost use Rattle.std.specs.Prelude.{◌≢◌, length, OnOk};
 ghost use Rattle.iim_fields.specs.States.Standing.{IsBetween, IsInside};
 
+use crate::given::LIMITS;
 use crate::outcome::{Trouble, right};
-use crate::worked::{FIELDS, LIMITS};
 use iim_dataset::Head;
 use iim_fields::{Envelope, EnvelopeBuilder, FieldFault, Fields};
 use std::alloc::Global;
+use worked::STORY_FIELDS;
 
 /// Gives all octets of the begun dataset.
 fn give(fields: &mut Fields, head: Head, octets: &[u8])
@@ -44,7 +45,7 @@ fn pass(fields: &mut Fields, rec: u8, set: u8, octets: &[u8]) -> Result<(), Fiel
 /// Checks the worked fields: after `new` nothing takes memory.
 pub(crate) fn fields(alloc: Global) -> Result<(), Trouble> {
     let mut fields = Fields::new(alloc, LIMITS)?;
-    for (rec, set, octets) in FIELDS {
+    for (rec, set, octets) in STORY_FIELDS {
         if rec == 8 || pass(&mut fields, rec, set, octets).is_err() {
             return Err(Trouble::Wrong);
         }
@@ -54,7 +55,7 @@ pub(crate) fn fields(alloc: Global) -> Result<(), Trouble> {
 
 /// Adds the worked fields, and whether each was taken.
 fn add_all(builder: &mut EnvelopeBuilder) -> bool {
-    for (rec, set, octets) in FIELDS {
+    for (rec, set, octets) in STORY_FIELDS {
         if builder.add(rec, set, octets).is_err() {
             return false;
         }
@@ -64,12 +65,12 @@ fn add_all(builder: &mut EnvelopeBuilder) -> bool {
 
 /// Whether an envelope has the worked fields.
 pub(crate) fn is_worked(envelope: &Envelope) -> bool {
-    for ((rec, set, octets), want) in envelope.fields().zip(FIELDS) {
+    for ((rec, set, octets), want) in envelope.fields().zip(STORY_FIELDS) {
         if (rec, set) != (want.0, want.1) || octets != want.2 {
             return false;
         }
     }
-    envelope.fields().count() == FIELDS.len()
+    envelope.fields().count() == STORY_FIELDS.len()
 }
 
 /// Builds the worked envelope: after `new` nothing takes memory.

@@ -1,12 +1,13 @@
 //! Calls of scripts.
 
+use crate::given::LIMITS;
 use crate::lines::size_of;
 use crate::outcome::{Trouble, right};
-use crate::worked::{FIRST_LINE, LAST_LINE, LIMITS};
 use iim_fields::Envelope;
 use iim_script::{ScriptCause, ScriptFault, read_script};
 use std::alloc::Global;
 use wire_story::Lines;
+use worked::{FIRST_LINE, LAST_LINE};
 
 /// The script of the worked envelope.
 const SCRIPT: &[u8] = b"1:00 \\x00\\x04

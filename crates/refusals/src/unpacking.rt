@@ -1,14 +1,15 @@
 //! Calls that take envelopes apart.
 
+use crate::given::{IMPOSSIBLE, LIMITS};
 use crate::lines::size_of;
 use crate::outcome::{Trouble, right};
 use crate::records::is_worked;
-use crate::worked::{IMPOSSIBLE, LIMITS, STORY};
 use iim_dataset::FromRead;
 use iim_fields::Limits;
 use iim_unpack::{Cause, Intake, Progress, SaveFault, TicketFault, Unpacker};
 use std::alloc::Global;
 use wire_story::{Discard, Lines};
+use worked::STORY;
 
 /// Feeds the worked envelope: after `new` nothing takes memory.
 pub(crate) fn fed(alloc: Global) -> Result<(), Trouble> {

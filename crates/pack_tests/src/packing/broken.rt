@@ -1,6 +1,6 @@
 //! A writer that fails within each call of a packer, and within a whole `pack`.
 
-use super::{STORY, STORY_FRONT, STORY_OBJECT, envelope, expected, lines, plan, story_head};
+use super::{envelope, expected, lines, plan, story_head};
 use iim_dataset::{Target, TrialWriter, Trouble};
 use iim_fields::Envelope;
 use iim_object::{PackCause, Plan, Size, StartFault};
@@ -8,6 +8,7 @@ use iim_pack::{Packer, pack};
 use std::alloc::Global;
 use std::process::Abort;
 use std::test::Fail;
+use worked::{STORY_FIELDS, STORY_FRONT, STORY_OBJECT};
 
 /// The calls of a packer that pack the worked story.
 #[derive(Clone, Copy, PartialEq, Eq)]
@@ -87,7 +88,7 @@ fn target(good: usize) -> TrialWriter<512> {
 #[test]
 fn each_call_fails_where_its_subfile_is_full(rt: HostRuntime) -> Result<(), Fail> {
     let alloc = rt.alloc();
-    let story = envelope(&rt, alloc, &STORY);
+    let story = envelope(&rt, alloc, &STORY_FIELDS);
     let plan = plan(&rt, 9, Size::Known(50));
     let whole = expected(alloc, STORY_FRONT, STORY_OBJECT, plan)?;
     assert_eq!(rt; whole.len(), 271);
@@ -123,7 +124,7 @@ fn each_call_fails_where_its_subfile_is_full(rt: HostRuntime) -> Result<(), Fail
 #[test]
 fn a_whole_pack_fails_at_each_call(rt: HostRuntime) -> Result<(), Fail> {
     let alloc = rt.alloc();
-    let story = envelope(&rt, alloc, &STORY);
+    let story = envelope(&rt, alloc, &STORY_FIELDS);
     let head = story_head(&rt);
     let two = lines(&rt, alloc, &[b"Rates stay.", b"No change."]);
     for subfile in [1, 9, 1024] {

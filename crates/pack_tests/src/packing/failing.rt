@@ -1,11 +1,12 @@
 //! A packer whose writer fails.
 
-use super::{STORY, STORY_FRONT, STORY_REST, envelope, plan, story_head};
+use super::{envelope, plan, story_head};
 use iim_dataset::{TrialWriter, Trouble};
 use iim_object::{PackCause, Size};
 use iim_pack::Packer;
 use std::alloc::Global;
 use std::process::Abort;
+use worked::{STORY_FIELDS, STORY_FRONT, STORY_REST};
 
 /// Whether these octets begin the worked envelope.
 fn begins_the_story(octets: &[u8]) -> bool {
@@ -31,7 +32,7 @@ enum End {
 
 /// Packs the worked envelope. After a failed write, later calls are asked too.
 fn pack_story<const N: usize>(rt: &impl Abort, alloc: Global, writer: TrialWriter<N>) -> End {
-    let envelope = envelope(rt, alloc, &STORY);
+    let envelope = envelope(rt, alloc, &STORY_FIELDS);
     let plan = plan(rt, 1024, Size::Known(50));
     let mut packer = match Packer::start(alloc, &envelope, &story_head(rt), plan, writer) {
         Ok(packer) => packer,

@@ -3,11 +3,12 @@
 ghost use Rattle.std.specs.Prelude.{None};
 ghost use Rattle.iim_dataset.specs.States.Devices.{unbroken};
 
-use super::{STORY, envelope, plan, story_head};
+use super::{envelope, plan, story_head};
 use iim_dataset::{IoFault, Target};
 use iim_object::{PackCause, Size};
 use iim_pack::Packer;
 use std::test::Fail;
+use worked::STORY_FIELDS;
 
 /// A target that counts octets.
 #[derive(Drop)]
@@ -33,7 +34,7 @@ fn front(piece: &[u8], count: usize) -> &[u8] {
 /// record 7 has 28, since 7:90 has eight octets of data; the tag of a full subfile has 9; the last subfile has 4 octets.
 #[test]
 fn an_object_above_four_octets_of_size(rt: HostRuntime) -> Result<(), Fail> {
-    let envelope = envelope(&rt, rt.alloc(), &STORY);
+    let envelope = envelope(&rt, rt.alloc(), &STORY_FIELDS);
     let plan = plan(&rt, 65_536, Size::Known(4_294_967_300));
     let piece = vec![in rt.alloc(); b'a'; 65_536]?;
     let piece = piece.as_slice();

@@ -1,11 +1,12 @@
 //! The calls that a sink gets.
 
-use super::{LIMITS, SMALLEST, joined, refusal, story};
+use super::{LIMITS, joined, refusal};
 use iim_dataset::Stop;
 use iim_unpack::{Cause, Layer, Progress, Unpacker};
 use std::alloc::{AllocError, Global};
 use std::test::Fail;
 use wire_story::{Lines, StorySink, TrialSink};
+use worked::{SMALLEST, STORY};
 
 /// How many calls came, and what the first four of them were: how many octets of text, or 0 for the end of a line.
 #[derive(Clone, Copy, Debug, PartialEq, Eq)]
@@ -50,10 +51,9 @@ const NONE: Calls = Calls {
 
 #[test]
 fn two_lines(rt: HostRuntime) -> Result<(), Fail> {
-    let octets = story(rt.alloc())?;
     let mut calls = NONE;
     let mut unpacker = Unpacker::new(rt.alloc(), LIMITS)?;
-    let answer = unpacker.feed(octets.as_slice(), &mut calls);
+    let answer = unpacker.feed(STORY, &mut calls);
     assert_eq!(rt; answer, Ok(Progress::Done { used: 246 }));
     assert_eq!(rt; calls.count, 3);
     assert_eq!(rt; calls.first, [11, 0, 10, 0]);
@@ -94,7 +94,6 @@ fn text_of(alloc: Global, lines: &Lines) -> Result<Vec<u8>, AllocError> {
 /// At the first octet of the text, within a line, at the end of one, and before and within the next.
 #[test]
 fn sinks_that_stop(rt: HostRuntime) -> Result<(), Fail> {
-    let octets = story(rt.alloc())?;
     let rows: [(u64, usize, usize, &[u8]); 5] = [
         (0, 0, 212, b"\n"),
         (0, 4, 216, b"Rate\n"),
@@ -106,10 +105,10 @@ fn sinks_that_stop(rt: HostRuntime) -> Result<(), Fail> {
         let mut sink = TrialSink::new(Lines::new(rt.alloc()), good, front);
         let mut unpacker = Unpacker::new(rt.alloc(), LIMITS)?;
         let stopped = refusal(Layer::Outside, (8, 10), octet, Cause::Sink);
-        let answer = unpacker.feed(octets.as_slice(), &mut sink);
+        let answer = unpacker.feed(STORY, &mut sink);
         assert_eq!(rt; answer, Err(stopped));
         let failed = refusal(Layer::Outside, (0, 0), octet, Cause::Failed);
-        let answer = unpacker.feed(octets.as_slice(), &mut sink);
+        let answer = unpacker.feed(STORY, &mut sink);
         assert_eq!(rt; answer, Err(failed));
         assert_eq!(rt; sink.failures(), 1);
         let text = text_of(rt.alloc(), &sink.into_sink())?;

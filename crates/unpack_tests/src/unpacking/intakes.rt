@@ -1,12 +1,13 @@
 //! Envelopes from a source of one octet a call, which fails.
 
-use super::{LIMITS, SMALLEST, refusal, story};
+use super::{LIMITS, refusal};
 use iim_dataset::{TrialReader, Trouble};
 use iim_unpack::{Cause, Intake, IntakeFault, Layer, Unpacker};
 use std::alloc::{AllocError, Global};
 use std::process::Abort;
 use std::test::Fail;
 use wire_story::Discard;
+use worked::{SMALLEST, STORY};
 
 /// What an intake answers to a new unpacker: the object's octets of an envelope and how many were used for it, or why there is none.
 fn next(
@@ -45,9 +46,8 @@ fn expect_fault(
 
 #[test]
 fn a_reader_that_fails_at_each_call(rt: HostRuntime) -> Result<(), Fail> {
-    let octets = story(rt.alloc())?;
     for good in 0..246usize {
-        let reader = TrialReader::new(octets.as_slice(), good as u64, Trouble::Failure);
+        let reader = TrialReader::new(STORY, good as u64, Trouble::Failure);
         expect_fault(&rt, rt.alloc(), reader, IntakeFault::Read, good)?;
     }
     Ok(())
@@ -56,11 +56,11 @@ fn a_reader_that_fails_at_each_call(rt: HostRuntime) -> Result<(), Fail> {
 #[test]
 fn a_failing_reader(rt: HostRuntime) -> Result<(), Fail> {
     for good in [0usize, 1, 60, 113] {
-        let reader = TrialReader::new(&SMALLEST, good as u64, Trouble::Failure);
+        let reader = TrialReader::new(SMALLEST, good as u64, Trouble::Failure);
         expect_fault(&rt, rt.alloc(), reader, IntakeFault::Read, good)?;
-        let reader = TrialReader::new(&SMALLEST, good as u64, Trouble::Interruptions(1_000_000));
+        let reader = TrialReader::new(SMALLEST, good as u64, Trouble::Interruptions(1_000_000));
         expect_fault(&rt, rt.alloc(), reader, IntakeFault::Interrupted, good)?;
-        let reader = TrialReader::new(&SMALLEST, good as u64, Trouble::Interruptions(999_999));
+        let reader = TrialReader::new(SMALLEST, good as u64, Trouble::Interruptions(999_999));
         let mut intake = Intake::new(reader);
         assert_eq!(rt; next(rt.alloc(), &mut intake)?, Ok(Some((14, 114))));
     }
