@@ -136,9 +136,9 @@ impl Display for CopyFault {
     ghost output = { λ fault. Some (text_of_copy fault) };
 
     fn fmt<W: fmt::Write>(&self, f: &mut Formatter<W>) -> fmt::Result {
-        let number = self.number();
+        let code = self.number();
         let name = self.name();
-        write!(f, "{number} {name}")
+        write!(f, "{code} {name}")
     }
 }
 

@@ -1,9 +1,8 @@
 //! The words of the command line, as what `clap` says of them is printed.
 
-ghost use Rattle.std.specs.Prelude.{◌≡◌, ◌⊎◌, IfOk, IsUtf8, string_bytes};
+ghost use Rattle.std.specs.Prelude.{◌≡◌, IfOk, IsUtf8, string_bytes};
 ghost use Rattle.iim_commands.specs.Format.Shown.{shown_name};
-ghost use Rattle.iim_commands.specs.declared.request.UsageFault.TheVariants.{OutOfMemory};
-ghost use Rattle.iimwire.specs.Format.Starts.{status_of_usage};
+ghost use Rattle.iimwire.specs.Format.Starts.{IsPrintedAs};
 
 use iim_commands::request::{UsageFault, parse};
 use iim_commands::shown::push_name;
@@ -32,7 +31,7 @@ fn shown_words(alloc: Global, words: &[String]) -> Result<Vec<String>, AllocErro
 
 /// The fault of the words as it is printed: what `clap` says of them, it says of the words as they are shown.
 pub fn printed_fault(alloc: Global, words: &[String], fault: UsageFault) -> UsageFault
-    ensures { (result ≡ OutOfMemory) ⊎ (status_of_usage result ≡ status_of_usage fault) }
+    ensures { IsPrintedAs fault.entry result }
 {
     let UsageFault::Words(_) = &fault else {
         return fault;

@@ -4,7 +4,7 @@ ghost use Rattle.std.specs.Prelude.{◌≢◌, length, OnOk};
 ghost use Rattle.iim_fields.specs.States.Standing.{IsBetween, IsInside};
 
 use iim_dataset::Head;
-use iim_fields::{Envelope, EnvelopeBuilder, FieldFault, Fields, Limits};
+use iim_fields::{CopyFault, Envelope, EnvelopeBuilder, FieldCause, FieldFault, Fields, Limits};
 use std::process::Abort;
 use std::rt::HostRuntime;
 use std::test::Fail;
@@ -232,4 +232,70 @@ fn expect_titles(rt: &impl Abort, envelope: &Envelope) {
     }
     assert!(rt; titles.next().is_none());
     assert!(rt; titles.next().is_none());
+}
+
+/// The longer worked envelope, built.
+fn worked<R: Abort + AllocGlobal>(rt: &R) -> Result<Envelope, Fail> {
+    let mut builder = EnvelopeBuilder::new(rt.alloc(), LIMITS)?;
+    for (rec, set, octets) in FIELDS {
+        expect(rt, builder.add(rec, set, octets).ok());
+    }
+    Ok(expect(rt, builder.finish().ok()))
+}
+
+/// The value that is there.
+fn expect<T: Drop, R: Abort>(rt: &R, value: Option<T>) -> T {
+    value.expect(rt, "a value")
+}
+
+/// Why the envelope is not copied into a builder of these limits.
+fn fault_of_copy<R: Abort + AllocGlobal>(
+    rt: &R,
+    octets: u32,
+    fields: u32,
+) -> Result<Option<CopyFault>, Fail> {
+    let limits = Limits { octets, fields };
+    Ok(EnvelopeBuilder::from(rt.alloc(), limits, &worked(rt)?).err())
+}
+
+#[test]
+fn envelopes_are_copied_within_other_limits(rt: HostRuntime) -> Result<(), Fail> {
+    // It has 78 octets in 16 datasets.
+    assert_eq!(rt; fault_of_copy(&rt, 78, 16)?, None);
+    let full = Some(CopyFault::Passed(FieldCause::HeaderFull));
+    assert_eq!(rt; fault_of_copy(&rt, 77, 16)?, full);
+    assert_eq!(rt; fault_of_copy(&rt, 77, 15)?, full);
+    let many = Some(CopyFault::Passed(FieldCause::TooManyFields));
+    assert_eq!(rt; fault_of_copy(&rt, 78, 15)?, many);
+    Ok(())
+}
+
+#[test]
+fn copied_envelopes_take_a_dataset_more(rt: HostRuntime) -> Result<(), Fail> {
+    let envelope = worked(&rt)?;
+    let limits = Limits {
+        octets: 83,
+        fields: 17,
+    };
+    let mut builder = expect(
+        &rt,
+        EnvelopeBuilder::from(rt.alloc(), limits, &envelope).ok(),
+    );
+    let headline = builder.add(2, 105, b"Rates held").err();
+    assert_eq!(rt;
+        headline.map(|fault| fault.cause),
+        Some(FieldCause::Repeated)
+    );
+    let desk = builder.add(2, 122, b"RELAYS").err();
+    assert_eq!(rt; desk.map(|fault| fault.cause), Some(FieldCause::HeaderFull));
+    assert_eq!(rt; builder.add(2, 122, b"RELAY").err(), None);
+    let sent = expect(&rt, builder.finish().ok());
+    assert_eq!(rt; sent.fields().count(), 17);
+    assert_eq!(rt; sent.first(2, 122), Some(b"RELAY".as_slice()));
+    let same = envelope
+        .fields()
+        .zip(sent.fields())
+        .all(|(one, other)| one == other);
+    assert!(rt; same);
+    Ok(())
 }

@@ -72,6 +72,9 @@ fn writes<R: Print + AllocGlobal>(rt: &R) -> Result<(), End> {
     let envelope = tell(rt, "EnvelopeBuilder::new", || {
         records::built(rt.alloc())
     })?;
+    tell(rt, "EnvelopeBuilder::from", || {
+        records::copied(rt.alloc(), &envelope)
+    })?;
     let text = tell(rt, "read_script", || {
         scripts::told(rt.alloc(), &envelope)
     })?;

@@ -6,7 +6,7 @@ ghost use Rattle.iim_fields.specs.States.Standing.{IsBetween, IsInside};
 use crate::given::LIMITS;
 use crate::outcome::{Trouble, right};
 use iim_dataset::Head;
-use iim_fields::{Envelope, EnvelopeBuilder, FieldFault, Fields};
+use iim_fields::{CopyFault, Envelope, EnvelopeBuilder, FieldFault, Fields};
 use std::alloc::Global;
 use worked::STORY_FIELDS;
 
@@ -82,4 +82,17 @@ pub(crate) fn built(alloc: Global) -> Result<Envelope, Trouble> {
     };
     right(is_worked(&envelope))?;
     Ok(envelope)
+}
+
+/// Copies the worked envelope: after `from` nothing takes memory.
+pub(crate) fn copied(alloc: Global, envelope: &Envelope) -> Result<(), Trouble> {
+    let builder = match EnvelopeBuilder::from(alloc, LIMITS, envelope) {
+        Ok(builder) => builder,
+        Err(CopyFault::OutOfMemory) => return Err(Trouble::OutOfMemory),
+        Err(CopyFault::Passed(_)) => return Err(Trouble::Wrong),
+    };
+    match builder.finish() {
+        Ok(copy) => right(is_worked(&copy)),
+        Err(_) => Err(Trouble::Wrong),
+    }
 }

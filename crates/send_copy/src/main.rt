@@ -3,13 +3,12 @@
 
 ghost use Rattle.std.specs.Prelude.{◌≡◌, map, IfOk};
 
-use anyhow::{Context, Error, Result, anyhow};
+use anyhow::{Context, Result};
 use iim_dataset::{FromWrite, Target};
 use iim_fields::{Envelope, EnvelopeBuilder, Limits};
 use iim_object::{Plan, Size};
 use iim_pack::Packer;
 use std::alloc::Global;
-use std::fmt::Debug;
 use wire_message::MessageHead;
 
 /// The most that the envelope's datasets may have together. Memory for just this is taken before the first is added.
@@ -43,10 +42,10 @@ fn main(rt: HostRuntime) -> Result<()> {
     let plan = Plan::new(1_024, Size::Unknown(None)).context("bad plan")?;
     let output = FromWrite::new(rt.stdout());
     let started = Packer::start(rt.alloc(), &envelope, &head, plan, output);
-    let mut packer = started.map_err(|fault| refused(fault.cause))?;
+    let mut packer = started.map_err(|fault| fault.cause)?;
     pack_lines(&rt, &mut packer)?;
     // The message ends without a trailer. After an error, what is out is no envelope.
-    packer.finish(b"").map_err(|(_, cause)| refused(cause))?;
+    packer.finish(b"").map_err(|(_, cause)| cause)?;
     Ok(())
 }
 
@@ -56,23 +55,18 @@ fn build(alloc: Global) -> Result<Envelope>
 {
     let mut builder = EnvelopeBuilder::new(alloc, LIMITS)?;
     for (rec, set, octets) in FIELDS {
-        builder.add(rec, set, octets).map_err(refused)?;
+        builder.add(rec, set, octets)?;
     }
-    builder.finish().map_err(|(_, fault)| refused(fault))
+    Ok(builder.finish().map_err(|(_, fault)| fault)?)
 }
 
 /// Packs the lines of the input as they come, with a line end between each two. A packer holds one subfile at most.
 fn pack_lines<R: Input + Alloc, W: Target>(rt: &R, packer: &mut Packer<W>) -> Result<()> {
     for (at, line) in rt.lines(rt.alloc()).enumerate() {
         if at > 0 {
-            packer.line_end().map_err(refused)?;
+            packer.line_end()?;
         }
-        packer.text(line?.as_bytes()).map_err(refused)?;
+        packer.text(line?.as_bytes())?;
     }
     Ok(())
-}
-
-/// What the library refused, as an error.
-fn refused<C: Debug + Drop>(cause: C) -> Error {
-    anyhow!("refused: {cause:?}")
 }

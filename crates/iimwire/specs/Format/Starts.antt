@@ -1,5 +1,5 @@
 -- Why a run can't begin, and what is left of it then.
-use Rattle.std.specs.Prelude.{◌≡◌, ℕ, ◌⊎◌, ⊤, List, ◌++◌, codes}
+use Rattle.std.specs.Prelude.{◌≡◌, ℕ, ◌⊎◌, ⊤, ⊥, List, ◌++◌, codes}
 use Rattle.iim_dataset.specs.States.Devices.{Device}
 use Rattle.iim_commands.specs.declared.request.UsageFault.{UsageFault}
 use Rattle.iim_commands.specs.declared.request.UsageFault.TheVariants as usage
@@ -19,6 +19,14 @@ IsUsageText (usage.Words error) text = ⊤
 IsUsageText usage.MaxNeedsUnknown text = text ≡ codes "--max needs --unknown\n"
 IsUsageText usage.BadNow text = text ≡ codes "bad --now\n"
 IsUsageText usage.OutOfMemory text = text ≡ no_memory_line
+
+-- The fault is printed as the other: what clap says of the words, by what it says of the words as they are shown, if there is memory
+-- for these; any other fault as it is.
+abbrev pub IsPrintedAs : UsageFault → UsageFault → Type 0
+IsPrintedAs (usage.Words error) (usage.Words other) = ⊤
+IsPrintedAs (usage.Words error) usage.OutOfMemory = ⊤
+IsPrintedAs (usage.Words error) _ = ⊥
+IsPrintedAs fault other = other ≡ fault
 
 -- The text tells why the run can't begin.
 abbrev pub TellsRunFault : RunFault → List ℕ → Type 0

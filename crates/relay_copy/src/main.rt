@@ -1,0 +1,87 @@
+//! Relays copy: sends each envelope of standard input on to standard output, with one dataset more.
+#![tactic(auto)]
+
+ghost use Rattle.std.specs.Prelude.{◌≡◌, ◌++◌, ◌∷◌, [], None, IfOk};
+ghost use Rattle.std.specs.Io.KnownBytes.{IsAtEnd};
+ghost use Rattle.iim_unpack.specs.States.Intakes.{in_line};
+
+use anyhow::{Context, Result, bail};
+use iim_dataset::{FromRead, FromWrite, Source, Target};
+use iim_fields::{Envelope, EnvelopeBuilder, Limits};
+use iim_object::{Plan, Size};
+use iim_pack::{pack, packed_size};
+use iim_unpack::{Intake, Unpacked, Unpacker};
+use std::alloc::Global;
+use wire_story::Lines;
+
+/// The most that records 1 and 2 of a received envelope may have.
+const RECEIVED: Limits = Limits::WIRE;
+
+/// The most that they may have of one that is sent: there is room for the dataset that is added.
+const SENT: Limits = Limits {
+    octets: 65_536 + 32,
+    fields: 512 + 1,
+};
+
+/// The dataset that is added: 2:122 Writer/Editor, which may occur again. It tells which desk has sent the copy on.
+const DESK: (u8, u8, &[u8]) = (2, 122, b"RELAY");
+
+fn main(rt: HostRuntime) -> Result<()> {
+    let mut intake = Intake::new(FromRead::new(rt.stdin()));
+    relay(rt.alloc(), &mut intake, FromWrite::new(rt.stdout()))
+}
+
+/// Relays each envelope. It succeeds only at the end of the input, and where nothing of it was refused.
+fn relay<R: Source, W: Target + Drop>(
+    alloc: Global,
+    intake: &mut Intake<R>,
+    output: W,
+) -> Result<()>
+    requires { intake.old.failed ≡ None }
+    ensures { IfOk result (λ _. IsAtEnd (in_line R.state intake.new).octets × (intake.new.failed ≡ None)) }
+{
+    let mut output = output;
+    'receiving: for number in 1..u64::MAX {
+        let unpacker = Unpacker::new(alloc, RECEIVED)?;
+        let mut lines = Lines::new(alloc);
+        match intake.next_envelope(unpacker, &mut lines) {
+            Ok(Some(unpacked)) => output = send(alloc, &unpacked, &lines, output)?,
+            Ok(None) => return Ok(()),
+            // What was received before it is sent; nothing of this envelope is.
+            Err(fault) => bail!("envelope {number}: {fault}"),
+        }
+    }
+    bail!("too many envelopes")
+}
+
+/// Sends an envelope with one dataset more. Its message goes on as it came, in subfiles of 1,024 octets.
+fn send<W: Target + Drop>(
+    alloc: Global,
+    unpacked: &Unpacked,
+    lines: &Lines,
+    output: W,
+) -> Result<W> {
+    let envelope = with_desk(alloc, &unpacked.envelope)?;
+    let head = &unpacked.head;
+    let trailer = unpacked.trailer.as_slice();
+    let size = packed_size(head, lines, trailer).context("the story is too long")?;
+    let plan = Plan::new(1_024, Size::Known(size)).context("the story is too long")?;
+    match pack(alloc, &envelope, head, lines, trailer, plan, output) {
+        Ok(output) => Ok(output),
+        Err(fault) => Err(fault.cause.into()),
+    }
+}
+
+/// The envelope with one dataset more, at the end of record 2.
+fn with_desk(alloc: Global, envelope: &Envelope) -> Result<Envelope>
+    ensures { IfOk result (λ sent. sent ≡ envelope.now ++ record { rec = DESK.0; set = DESK.1; octets = DESK.2.now }
+        ∷ []) }
+{
+    let mut builder = EnvelopeBuilder::from(alloc, SENT, envelope)?;
+    let (rec, set, octets) = DESK;
+    builder.add(rec, set, octets)?;
+    match builder.finish() {
+        Ok(envelope) => Ok(envelope),
+        Err((_, fault)) => Err(fault.into()),
+    }
+}
