@@ -37,7 +37,7 @@ fn take_head(place: &mut Place, rest: &[u8]) -> Option<usize>
 }
 
 /// Takes octets outside the text where the place lies, and answers how many, or None where the first dies.
-#[inline(always)]
+#[inline(never)]
 fn outside_text(place: &mut Place, rest: &[u8]) -> Option<usize>
     requires place { IsPlace place.old }
     requires outside { IsNoText place.old }

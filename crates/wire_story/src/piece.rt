@@ -298,7 +298,7 @@ fn take_fronts<S: StorySink>(
         RefusesOne S.goes S.failures (Some held) rest.now fault sink.old sink.new) }
 {
     let (now, used, after) = take_front(held, rest, marks, sink)?;
-    if used >= BLOCK || now > 0 {
+    if used == rest.len() || used >= BLOCK || now > 0 {
         return Ok((now, used, after));
     }
     match take_lines(&rest[used..], after, sink) {
