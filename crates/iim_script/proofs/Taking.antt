@@ -1,25 +1,18 @@
 -- A builder takes the datasets of an envelope.
-use Rattle.std.proofs.Common.{◌≡◌, ℕ, ◌+◌, ◌<◌, ◌≤◌, ◌||◌, nat_le, nat_eq, Bool, true, false, not, cond, List, [], ◌∷◌, ◌++◌, append_assoc, length, length-append, refl, ap, sym, ◌∙◌, subst, arith, Option, Some, None}
+use Rattle.std.proofs.Common.{◌≡◌, ℕ, ◌<◌, ◌||◌, nat_eq, Bool, true, false, not, cond, List, [], ◌∷◌, ◌++◌, append_assoc, length, refl, ap, sym, ◌∙◌, subst, arith, Option, Some, None}
 use Rattle.std.specs.List.{AllByRecursion, find}
 use Rattle.std.specs.Option.{option_or}
-use Rattle.std.proofs.lemmas.Bool.{le-leb}
 use Rattle.std.proofs.lemmas.Bool.Decides.{nat_tests}
 use Rattle.std.proofs.lemmas.List.Elements.{filter-append}
 use Rattle.std.proofs.lemmas.List.Folds.{list_any-append}
-use Rattle.std.proofs.lemmas.List.Concat.{flat_map-append}
-use Rattle.iim_dataset.specs.Format.Octets.{Octets}
-use Rattle.iim_dataset.specs.Format.Datasets.{Dataset, head_of, of_record}
-use Rattle.iim_tables.specs.Format.Rows.{table, row_of}
-use Rattle.iim_fields.specs.Format.Alive.{SectionsLive, SectionsLiveAt}
+use Rattle.iim_dataset.specs.Format.Datasets.{Dataset, of_record}
 use Rattle.iim_fields.specs.Format.Envelopes.{IsEnvelope}
 use Rattle.iim_fields.specs.States.Builders.{absent, finish_fault}
-use Rattle.iim_fields.specs.Format.Faults.{joined, kept, kept_octets, is_kept, limits_fault, record_fault, value_fault, missing_fault, fault_on}
+use Rattle.iim_fields.specs.Format.Faults.{joined, is_kept, missing_fault}
 use Rattle.iim_fields.specs.Laws.Records.{DatasetsOfEnvelopesAreAdded}
-use Rattle.iim_fields.specs.Format.Records.{AreRecords, AreSections}
-use Rattle.iim_tables.specs.Format.Records.{IsGoodDataset, IsGoodRecord, mandatory, occurs}
+use Rattle.iim_tables.specs.Format.Records.{IsGoodDataset, mandatory, occurs}
 use Rattle.iim_fields.specs.Format.Bounds.{IsWithin}
 use Rattle.iim_fields.specs.declared.fault.FieldFault.{FieldFault}
-use Rattle.iim_fields.specs.declared.fault.FieldCause.TheVariants.{RecordOrder}
 use Rattle.iim_fields.specs.declared.limits.Limits.{Limits}
 use Rattle.iim_script.specs.Format.Scripts.{AreTaken}
 use Rattle.iim_script.proofs.Printing.{IsPrintable}
