@@ -31,7 +31,7 @@ fn shown_words(alloc: Global, words: &[String]) -> Result<Vec<String>, AllocErro
 
 /// The fault of the words as it is printed: what `clap` says of them, it says of the words as they are shown.
 pub fn printed_fault(alloc: Global, words: &[String], fault: UsageFault) -> UsageFault
-    ensures { IsPrintedAs fault.entry result }
+    ensures { IsPrintedAs fault result }
 {
     let UsageFault::Words(_) = &fault else {
         return fault;

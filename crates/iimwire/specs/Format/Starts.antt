@@ -1,5 +1,5 @@
 -- Why a run can't begin, and what is left of it then.
-use Rattle.std.specs.Prelude.{◌≡◌, ℕ, ◌⊎◌, ⊤, ⊥, List, ◌++◌, codes}
+use Rattle.std.specs.Prelude.{◌≡◌, ℕ, ◌⊎◌, ⊤, List, ◌++◌, codes}
 use Rattle.iim_dataset.specs.States.Devices.{Device}
 use Rattle.iim_commands.specs.declared.request.UsageFault.{UsageFault}
 use Rattle.iim_commands.specs.declared.request.UsageFault.TheVariants as usage
