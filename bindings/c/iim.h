@@ -1,0 +1,377 @@
+/*
+ * Envelopes of the Information Interchange Model, from C.
+ *
+ * Link with libiim.a or libiim.so, which bindings/build makes.
+ *
+ * How it is used. Octets of a stream are handed to iim_feed in pieces of any
+ * length. The state between two calls is a ticket: octets in a buffer of the
+ * caller's, which the caller may keep for as long as it likes, write to a file
+ * or send to another machine. An envelope in memory is checked by iim_check in
+ * one call. What stands in records 1 and 2, in the header of the message and in
+ * record 7 is asked of a ticket, at any time, and never copied: an answer is an
+ * offset and a count within the ticket.
+ *
+ * What holds of every function here:
+ *
+ *  - It returns, whatever the octets are, and never calls back.
+ *  - It is reentrant: there is no global state, and nothing lasts from one call
+ *    to the next. Any number of threads may call at the same time, each with
+ *    answers and buffers of its own. It is not to be called from a signal
+ *    handler, since it may take memory.
+ *  - It owns nothing of the caller's, and keeps no pointer. All buffers are the
+ *    caller's before, during and after the call. What it takes of memory, by
+ *    malloc, it has freed when it returns. Where malloc refuses, the status is
+ *    IIM_NO_MEMORY, and the call may be made again.
+ *  - A pointer with a length is a buffer of that many octets. It may be null
+ *    where the length is 0. A pointer without a length is never null.
+ *  - What is written to must not overlap anything else that is handed in. So a
+ *    ticket and the next one need a buffer each.
+ *  - A call answers by *answer, all of whose members it writes: a member that
+ *    no word below speaks of is 0.
+ *  - Where a buffer is too short the status is IIM_SHORT, and the answer tells
+ *    the lengths that are needed. Nothing is lost: the ticket that was handed
+ *    in is as it was, and the same call with longer buffers answers all.
+ *    After any other status than IIM_DONE and IIM_MORE, and after IIM_SHORT,
+ *    what stands in the buffers that could be written to has no meaning,
+ *    unless a word below gives it one.
+ *
+ * All structs are those that a C compiler lays out by its own rules, members in
+ * the order in which they stand here. uint8_t and bool have one octet.
+ */
+#ifndef IIM_H
+#define IIM_H
+
+#include <stdbool.h>
+#include <stddef.h>
+#include <stdint.h>
+
+#ifdef __cplusplus
+extern "C" {
+#endif
+
+/* The version of this interface. */
+#define IIM_VERSION 1
+
+/* ---- Answers */
+
+/* What a call came to. */
+enum {
+    IIM_DONE = 0,       /* all is done: an envelope has ended, or what was asked for is there */
+    IIM_MORE = 1,       /* all octets were used, and the envelope can continue */
+    IIM_REFUSED = 2,    /* an octet is refused, or a line of a script */
+    IIM_TRUNCATED = 3,  /* the octets end inside an envelope */
+    IIM_NONE = 4,       /* there is none: no dataset of that number */
+    IIM_SHORT = 5,      /* a buffer is too short: the answer tells what is needed */
+    IIM_NO_MEMORY = 6,  /* malloc refused */
+    IIM_BAD_TICKET = 7, /* the octets are no ticket from which the call can go on: the cause tells why */
+    IIM_BAD_PACKING = 8 /* the members of an iim_packing ask for nothing that can be */
+};
+
+/* The layer that refuses an octet. 0 where none does. */
+enum {
+    IIM_LAYER_DATASET = 1, /* tags, octet by octet */
+    IIM_LAYER_RECORD = 2,  /* heads, and the values of records 1, 2, 7 and 9 */
+    IIM_LAYER_LIMITS = 3,  /* heads: how much records 1 and 2 have, and how many subfiles there are */
+    IIM_LAYER_OBJECT = 4,  /* the sizes of the object */
+    IIM_LAYER_MESSAGE = 5, /* the octets of the object, and its end */
+    IIM_LAYER_STORY = 6,   /* the octets of the text, and its end */
+    IIM_LAYER_OUTSIDE = 7  /* not the octets: what stands around them */
+};
+
+/*
+ * The answer of a call. The causes are the numbers of docs/CAUSES.md; their
+ * names are told by iim_cause_name.
+ */
+typedef struct iim_answer {
+    uint8_t status;  /* IIM_DONE, IIM_MORE, .. */
+    uint8_t layer;   /* IIM_REFUSED, IIM_TRUNCATED: IIM_LAYER_DATASET, .. */
+    uint8_t cause;   /* IIM_REFUSED, IIM_TRUNCATED, IIM_BAD_TICKET: the number of the cause */
+    uint8_t rec;     /* IIM_REFUSED, IIM_TRUNCATED: the record of the dataset that is named, or 0 */
+    uint8_t set;     /* and its number in that record, or 0 */
+    uint64_t octet;  /* how many octets the envelope has so far; IIM_REFUSED: the offset of the octet, or a script's line */
+    size_t used;     /* how many octets of the piece were used */
+    size_t written;  /* how many octets of text or of a packed form were written; IIM_SHORT: how many there are */
+    size_t ticket;   /* how many octets of a ticket were written; IIM_SHORT: how many there are */
+} iim_answer;
+
+/*
+ * The most that records 1 and 2 of an envelope may have together. A member that
+ * is 0 stands for the limit of wire copy: 65,536 octets, 512 datasets. So
+ * `(iim_limits){0, 0}` are the limits of the command.
+ */
+typedef struct iim_limits {
+    uint32_t octets; /* octets of data */
+    uint32_t fields; /* datasets */
+} iim_limits;
+
+/* ---- Taking envelopes apart */
+
+/*
+ * Tells what the octets, which all lie in memory, begin with.
+ *
+ *   limits   the limits under which they are read
+ *   octets   the octets, len of them
+ *   answer   is written
+ *
+ * IIM_DONE: an envelope of answer->octet octets; used is the same number.
+ * What follows it was not looked at.
+ * IIM_REFUSED: the octet at the offset answer->octet is refused, with layer,
+ * cause, rec and set.
+ * IIM_TRUNCATED: there are too few octets: answer->octet of them, all fitting.
+ * The cause is 3, and rec and set name the begun dataset. No octets at all are
+ * truncated, too.
+ * IIM_NO_MEMORY.
+ */
+void iim_check(iim_limits limits, const uint8_t *octets, size_t len, iim_answer *answer);
+
+/*
+ * Takes the next octets of an envelope.
+ *
+ *   limits      the limits under which they are read: for each piece of an
+ *               envelope the same
+ *   ticket      the ticket of the place that the octets so far have led to,
+ *               ticket_len octets; none (length 0) begins a new envelope
+ *   at          how many octets came before: 0 with no ticket, and else
+ *               the octet of the answer that the ticket came with
+ *   piece       the next octets, piece_len of them; they may be none
+ *   text_out    where the octets of the story in this piece go, its lines
+ *               joined by LF; there are never more of them than the piece has
+ *   ticket_out  where the next ticket goes: at most limits.octets +
+ *               6 * limits.fields + 256 octets
+ *   answer      is written
+ *
+ * IIM_MORE: all octets of the piece were used; written octets of the story
+ * stand in text_out, the next ticket of answer->ticket octets stands in
+ * ticket_out, and the envelope has octet octets so far.
+ * IIM_DONE: the same, but that the envelope ends after used octets of the
+ * piece. Those after them are the next envelope's, or another's. The ticket is
+ * that of the whole envelope: iim_field, iim_header and iim_sizes tell of it;
+ * feeding it again uses no octet and is IIM_DONE again. The next envelope begins
+ * with no ticket.
+ * IIM_REFUSED: octet tells the offset of the refused one, counted by at from the
+ * envelope's first, with layer, cause, rec and set. written octets of the story,
+ * from before it, stand in text_out. There is no next ticket.
+ * IIM_SHORT: a buffer is too short. written tells how many octets of the story
+ * there are, and ticket how many of the next ticket (0 where an octet is
+ * refused, once its text has room).
+ * IIM_BAD_TICKET: cause 100 (no ticket), 101 (of another version), 102 (of a
+ * place where no envelope can be), 50 or 51 (it passes the limits).
+ * IIM_NO_MEMORY: nothing of the piece counts as used.
+ */
+void iim_feed(iim_limits limits, const uint8_t *ticket, size_t ticket_len, uint64_t at,
+              const uint8_t *piece, size_t piece_len, uint8_t *text_out, size_t text_len,
+              uint8_t *ticket_out, size_t ticket_out_len, iim_answer *answer);
+
+/*
+ * Tells what it means that the input ends after the octets that have led to a
+ * ticket. Arguments as in iim_feed.
+ *
+ * IIM_DONE: the envelope has ended.
+ * IIM_TRUNCATED: it has not; octet is at, the cause 3, and rec and set name the
+ * begun dataset. So it is with no ticket, too: a caller that has begun nothing
+ * need not ask.
+ * IIM_BAD_TICKET, with the cause. IIM_NO_MEMORY.
+ */
+void iim_end(iim_limits limits, const uint8_t *ticket, size_t ticket_len, uint64_t at,
+             iim_answer *answer);
+
+/* ---- What a ticket tells */
+
+/* So many octets of a ticket, from this offset on. */
+typedef struct iim_span {
+    size_t offset;
+    size_t count;
+} iim_span;
+
+/* A dataset of records 1 and 2: its record, its number and its data. */
+typedef struct iim_dataset {
+    uint8_t rec;
+    uint8_t set;
+    iim_span data;
+} iim_dataset;
+
+/*
+ * Tells the dataset with the index n (0 is the first) of those of records 1 and
+ * 2 that have ended, in the order in which they came. The data are the octets
+ * ticket[dataset->data.offset] and so on. A caller that wants all of them asks
+ * for 0, 1, 2 and so on, up to IIM_NONE.
+ *
+ * IIM_DONE: *dataset is written.
+ * IIM_NONE: there are no more than n; all members of *dataset are 0.
+ * IIM_BAD_TICKET: cause 100 or 101; all members of *dataset are 0. No memory is
+ * taken, and it is not asked whether an envelope can be at the ticket's place.
+ */
+void iim_field(const uint8_t *ticket, size_t ticket_len, size_t n, iim_dataset *dataset,
+               iim_answer *answer);
+
+/* The parts of a message, as iim_message counts them. */
+enum {
+    IIM_PART_FILLER = 0,
+    IIM_PART_SOURCE = 1,
+    IIM_PART_NUMBER = 2,
+    IIM_PART_PRIORITY = 3,
+    IIM_PART_PRIORITY_READ = 4,
+    IIM_PART_CATEGORY = 5,
+    IIM_PART_WORDS = 6,
+    IIM_PART_INFO = 7,
+    IIM_PART_GAP = 8,
+    IIM_PART_TEXT = 9,      /* from here on the header is whole */
+    IIM_PART_TRAILER = 10,
+    IIM_PART_AFTER_END = 11 /* here the trailer is whole */
+};
+
+/* The header and the trailer of a message, as far as they have come. */
+typedef struct iim_message {
+    uint8_t part; /* the part that the octets so far have led to: IIM_PART_TEXT, .. */
+    iim_span source;
+    iim_span number;
+    iim_span priority;
+    iim_span category;
+    iim_span words;
+    iim_span info;
+    iim_span trailer;
+} iim_message;
+
+/*
+ * Tells the header and the trailer of the message, as far as they have come:
+ * what has not come has no octets.
+ *
+ * IIM_DONE: *message is written.
+ * IIM_BAD_TICKET: cause 100 or 101; all members of *message are 0.
+ */
+void iim_header(const uint8_t *ticket, size_t ticket_len, iim_message *message, iim_answer *answer);
+
+/* The sizes of an object, as far as they have come. A number that has not come is 0. */
+typedef struct iim_object {
+    bool has_mode;      /* 7:10 has come */
+    bool has_subfile;   /* 7:20 */
+    bool has_announced; /* 7:90 */
+    bool has_maximum;   /* 7:95 */
+    uint64_t mode;      /* 7:10: 1 where the size is known at the start, else 0 */
+    uint64_t subfile;   /* 7:20: the largest size of a subfile */
+    uint64_t announced; /* 7:90: the size that is announced */
+    uint64_t maximum;   /* 7:95: the greatest size that is allowed */
+    uint64_t subfiles;  /* how many subfiles have begun */
+    uint64_t octets;    /* how many octets of the object have come */
+} iim_object;
+
+/*
+ * Tells the sizes of the object, as far as they have come.
+ *
+ * IIM_DONE: *object is written.
+ * IIM_BAD_TICKET: cause 100 or 101; all members of *object are 0.
+ */
+void iim_sizes(const uint8_t *ticket, size_t ticket_len, iim_object *object, iim_answer *answer);
+
+/* ---- Packing */
+
+/* How an envelope is packed. `(iim_packing){0}` is what the command does where it is told nothing. */
+typedef struct iim_packing {
+    uint64_t subfile; /* octets of a full subfile; 0 stands for 1,024 */
+    bool unknown;     /* whether the size of the object is left unknown */
+    bool has_max;     /* whether a maximum is told of it, which only an unknown size has */
+    uint64_t max;     /* the maximum */
+} iim_packing;
+
+/*
+ * Packs the envelope that a script tells, as `iimwire pack` does: the script is
+ * a text of up to 16,777,216 octets in the form of docs/FORMAT.md.
+ *
+ *   packing  how it is packed
+ *   script   the script, script_len octets
+ *   out      where the envelope goes, out_len octets
+ *   answer   is written
+ *
+ * IIM_DONE: the envelope, of answer->written octets, stands in out.
+ * IIM_SHORT: it has answer->written octets, more than out_len; out is as it was.
+ * IIM_REFUSED: the line answer->octet of the script is wrong (counted from 1; 0:
+ * the script is too long), by its cause; 80 PastAnnounced: the object has more octets than
+ * are asked for. out is as it was.
+ * IIM_BAD_PACKING: subfile or max is above 9,223,372,036,854,775,807, or a
+ * maximum is told of a known size. out is as it was.
+ * IIM_NO_MEMORY: out is as it was. About as many octets as script and envelope
+ * have together are taken at most a few times over.
+ */
+void iim_pack(iim_packing packing, const uint8_t *script, size_t script_len, uint8_t *out,
+              size_t out_len, iim_answer *answer);
+
+/*
+ * Tells how many octets iim_pack would write: IIM_DONE with answer->written, or
+ * any other of its statuses but IIM_SHORT.
+ */
+void iim_pack_size(iim_packing packing, const uint8_t *script, size_t script_len,
+                   iim_answer *answer);
+
+/* ---- The tables */
+
+/* Which octets a dataset may have. docs/FORMAT.md tells of each kind which these are. */
+enum {
+    IIM_KIND_GRAPHIC = 1,
+    IIM_KIND_SPACED = 2,
+    IIM_KIND_SPACED_LINES = 3,
+    IIM_KIND_LETTERS = 4,
+    IIM_KIND_DIGITS = 5,
+    IIM_KIND_DATE = 6,
+    IIM_KIND_PART_DATE = 7,
+    IIM_KIND_TIME = 8,
+    IIM_KIND_BINARY = 9,
+    IIM_KIND_OCTETS = 10,
+    IIM_KIND_MODE = 11,
+    IIM_KIND_SIZE = 12,
+    IIM_KIND_SIZE_FROM_ONE = 13
+};
+
+/* Whether a dataset has to occur in its record. */
+enum {
+    IIM_DUTY_MANDATORY = 1,
+    IIM_DUTY_OPTIONAL = 2,
+    IIM_DUTY_BY_MODE = 3 /* exactly where 7:10 says that the size is known at the start */
+};
+
+/* What the tables say of a dataset. */
+typedef struct iim_rule {
+    uint64_t min; /* the least number of octets */
+    uint64_t max; /* the greatest number of octets */
+    uint8_t kind; /* IIM_KIND_GRAPHIC, .. */
+    uint8_t duty; /* IIM_DUTY_MANDATORY, .. */
+    bool repeats; /* whether it may occur more than once */
+} iim_rule;
+
+/*
+ * Tells the row of the dataset rec:set. True where it has one: *rule is written.
+ * Else false, and all members of *rule are 0. Takes no memory.
+ */
+bool iim_row(uint8_t rec, uint8_t set, iim_rule *rule);
+
+/*
+ * True exactly where the dataset rec:set has a row and the len octets are as it
+ * says. Takes no memory.
+ */
+bool iim_admits(uint8_t rec, uint8_t set, const uint8_t *octets, size_t len);
+
+/* ---- Names */
+
+/*
+ * The functions below write a name of ASCII characters with a NUL after it into
+ * out, where it has room for both, and else leave out as it was. They return how
+ * many characters the name has, without the NUL; 0 where there is no such name.
+ * 64 octets are enough for each. They take no memory.
+ */
+
+/* The name of a cause by its number, as `CountRange` for 13. */
+size_t iim_cause_name(uint8_t cause, char *out, size_t len);
+
+/* The name of a layer by its number, as `dataset` for IIM_LAYER_DATASET. */
+size_t iim_layer_name(uint8_t layer, char *out, size_t len);
+
+/* The name of a dataset that stands in the tables of the standard, as `Headline` for 2:105. */
+size_t iim_dataset_name(uint8_t rec, uint8_t set, char *out, size_t len);
+
+/* The version of the interface that the library has: IIM_VERSION. Takes no memory. */
+uint32_t iim_version(void);
+
+#ifdef __cplusplus
+}
+#endif
+
+#endif
