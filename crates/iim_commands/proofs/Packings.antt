@@ -22,8 +22,8 @@ use Rattle.iim_pack.specs.States.Whole.{IsPackFault, Packs}
 use Rattle.iim_script.specs.Format.Scripts.{max_script}
 use Rattle.iim_commands.specs.States.Devices.{devices}
 use Rattle.iim_commands.specs.Format.WrittenListings.{IsSaid}
-use Rattle.iim_commands.specs.Format.Packing.{Answered, Asked, FitsAsked, IsBrokenOff, IsPast, IsPlanOf, IsRead, IsScriptRefusal, IsUnanswered, IsUnread, IsScriptOf, ScriptContent, most_asked, most_for, object_of, refusal_line, said_size}
-use Rattle.iim_commands.specs.PackSteps.{ComesTo, IsFailedRead, IsNotPacked, PacksTold, UnpacksTold}
+use Rattle.iim_commands.specs.Format.Packing.{Answered, Asked, FitsAsked, IsBrokenOff, IsNotPacked, IsPast, IsPlanOf, IsRead, IsScriptRefusal, IsScriptOf, IsUnanswered, IsUnread, ScriptContent, most_asked, most_for, object_of, refusal_line, said_size}
+use Rattle.iim_commands.specs.PackSteps.{ComesTo, IsFailedRead, PacksTold, UnpacksTold}
 use Rattle.iim_commands.specs.declared.fault.CommandFault.{CommandFault}
 use Rattle.iim_commands.specs.declared.fault.CommandFault.TheVariants.{CannotRead, CannotWrite, OutOfMemory}
 use Rattle.iim_commands.specs.declared.packing.PackFault.{PackFault}

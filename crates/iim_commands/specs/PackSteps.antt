@@ -17,7 +17,7 @@ use Rattle.iim_commands.specs.declared.fault.CommandFault.{CommandFault}
 use Rattle.iim_commands.specs.declared.fault.CommandFault.TheVariants.{CannotRead, CannotWrite, OutOfMemory}
 use Rattle.iim_commands.specs.declared.packing.PackFault.{PackFault}
 use Rattle.iim_commands.specs.declared.packing.PackFault.TheVariants.{Refused, Around}
-use Rattle.iim_commands.specs.Format.Packing.{Asked, FitsAsked, IsBrokenOff, IsFormOf, IsPast, IsPlanOf, IsScriptRefusal, ScriptContent, object_of, refusal_line}
+use Rattle.iim_commands.specs.Format.Packing.{Asked, FitsAsked, IsFormOf, IsPast, IsPlanOf, ScriptContent, object_of}
 
 -- One read, past interruptions, added `count` octets: none only at the end.
 pub record GotSome (old new : Device) (before after : List ℕ) (count : ℕ) : Type 0 where
@@ -69,10 +69,3 @@ UnpacksTold a t old new (Around CannotRead) = ⊥
 UnpacksTold a t old new (Around CannotWrite) = (plan : Plan) × (out : List ℕ) × FitsAsked a t × IsPlanOf a (object_of t) plan × BrokeAfter old new out
     × ((form : List ℕ) → Packed t.fields t.head t.lines t.trailer plan form → Begins out form)
 UnpacksTold a t old new (Around OutOfMemory) = new ≡ old
-
--- Why octets are not packed.
-abbrev pub IsNotPacked : Asked → List ℕ → Device → Device → PackFault → Type 0
-IsNotPacked a octets old new (Refused line number name) = (new ≡ old) × IsScriptRefusal a octets (refusal_line line number name.now)
-IsNotPacked a octets old new (Around CannotRead) = ⊥
-IsNotPacked a octets old new (Around CannotWrite) = IsBrokenOff a octets old new
-IsNotPacked a octets old new (Around OutOfMemory) = new ≡ old

@@ -29,18 +29,22 @@ pub struct PackRequest {
 
 ghost use Rattle.wire_message.specs.Format.Messages.{IsTrailer};
 ghost use Rattle.iim_commands.specs.States.Devices.{devices};
-ghost use Rattle.iim_commands.specs.Format.Packing.{Answered, IsPacked, IsPast, IsPlanOf, IsRead, IsUnanswered, IsUnread, asked, object_of, refusal_line};
-ghost use Rattle.iim_commands.specs.PackSteps.{ComesTo, GotSome, IsFailedRead, IsNotPacked, MayComeOf, PacksTold, TellsFault, UnpacksTold, told_by};
+ghost use Rattle.iim_commands.specs.Format.Packing.{Answered, IsNotPacked, IsPacked, IsPast, IsPlanOf, IsRead, IsUnanswered, IsUnread, asked, object_of, refusal_line};
+ghost use Rattle.iim_commands.specs.PackSteps.{ComesTo, GotSome, IsFailedRead, MayComeOf, PacksTold, TellsFault, UnpacksTold, told_by};
 ghost use Rattle.iim_commands.specs.Format.WrittenListings.{IsSaid};
 ghost use Rattle.iim_commands.specs.declared.fault.CommandFault.TheVariants.{OutOfMemory};
 ghost use Rattle.iim_commands.specs.Format.Statuses.{status_refused};
 
 /// What keeps an envelope from being packed.
-enum PackFault {
-    /// The script is refused: the number of the line that is told, and the cause's number and name.
+#[derive(Drop)]
+pub enum PackFault {
+    /// The script is refused.
     Refused {
+        /// The number of the line that is told, from 1; 0 where the script is too long.
         line: u64,
+        /// The cause's number.
         number: u8,
+        /// The cause's name.
         name: &'static str,
     },
     /// Something went wrong around it.
@@ -167,8 +171,11 @@ fn fault_of(fault: ScriptFault) -> PackFault
     }
 }
 
-/// Packs the envelope that the octets tell, where they are a script, and hands back the output.
-fn pack_octets<W: Target>(
+/// Packs the envelope that the octets tell, where they are a script, and hands back the output: the packed form is out.
+///
+/// A fault is told with the output as it is: a refusal of the script by its first fault, or by `80 PastAnnounced` at the line `text`;
+/// `CannotWrite` where a write failed, and then a front of the packed form is out; `OutOfMemory`. Else nothing is written.
+pub fn pack_octets<W: Target>(
     alloc: Global,
     request: PackRequest,
     octets: &[u8],

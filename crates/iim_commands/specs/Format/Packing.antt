@@ -22,6 +22,8 @@ use Rattle.iim_script.specs.declared.fault.ScriptCause.{ScriptCause}
 use Rattle.iim_script.specs.declared.fault.ScriptCause.TheVariants as script
 use Rattle.iim_commands.specs.declared.fault.CommandFault.{CommandFault}
 use Rattle.iim_commands.specs.declared.fault.CommandFault.TheVariants.{CannotRead, CannotWrite, OutOfMemory}
+use Rattle.iim_commands.specs.declared.packing.PackFault.{PackFault}
+use Rattle.iim_commands.specs.declared.packing.PackFault.TheVariants.{Refused, Around}
 use Rattle.iim_commands.specs.States.Devices.{Devices}
 use Rattle.iim_commands.specs.Format.Listings.{limits}
 use Rattle.iim_commands.specs.Format.WrittenListings.{IsSaid}
@@ -129,6 +131,16 @@ IsPacked a octets old new = (t : ScriptContent) × (form : List ℕ) × IsScript
 abbrev pub IsBrokenOff : Asked → List ℕ → Device → Device → Type 0
 IsBrokenOff a octets old new = (t : ScriptContent) × (plan : Plan) × (out : List ℕ) × IsScriptOf octets t × FitsAsked a t × IsPlanOf a (object_of t) plan × BrokeAfter old new out
     × ((form : List ℕ) → Packed t.fields t.head t.lines t.trailer plan form → Begins out form)
+
+-- ---- octets
+
+-- Why the octets are not packed: they are refused, by the line that tells it; or the output broke; or memory was short. Only where the
+-- output broke anything is written.
+abbrev pub IsNotPacked : Asked → List ℕ → Device → Device → PackFault → Type 0
+IsNotPacked a octets old new (Refused line number name) = (new ≡ old) × IsScriptRefusal a octets (refusal_line line number name.now)
+IsNotPacked a octets old new (Around CannotRead) = ⊥
+IsNotPacked a octets old new (Around CannotWrite) = IsBrokenOff a octets old new
+IsNotPacked a octets old new (Around OutOfMemory) = new ≡ old
 
 -- ---- what is left
 

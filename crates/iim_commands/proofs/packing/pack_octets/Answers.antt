@@ -1,5 +1,5 @@
-use Rattle.iim_commands.specs.Format.Packing.{asked}
-use Rattle.iim_commands.specs.PackSteps.{IsNotPacked, UnpacksTold, told_by}
+use Rattle.iim_commands.specs.Format.Packing.{IsNotPacked, asked}
+use Rattle.iim_commands.specs.PackSteps.{UnpacksTold, told_by}
 use Rattle.iim_commands.proofs.Packings.{if_err_map, unpacked_of}
 use Rattle.iim_commands.proofs.packing.pack_octets.Goals as goal
 

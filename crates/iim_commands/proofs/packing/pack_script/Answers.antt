@@ -1,6 +1,5 @@
 use Rattle.std.proofs.Common.{subst}
-use Rattle.iim_commands.specs.Format.Packing.{asked, refusal_line}
-use Rattle.iim_commands.specs.PackSteps.{IsNotPacked}
+use Rattle.iim_commands.specs.Format.Packing.{IsNotPacked, asked, refusal_line}
 use Rattle.iim_commands.specs.declared.packing.PackFault.{PackFault}
 use Rattle.iim_commands.proofs.Packings.{told_refused, unanswered_as}
 use Rattle.iim_commands.proofs.packing.pack_script.Goals as goal

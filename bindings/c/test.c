@@ -1,0 +1,568 @@
+/*
+ * The C half of bindings/test: a caller of every function of iim.h.
+ *
+ *   test check OCTETS FIELDS     answers of iim_check to the octets on standard input: batches, see below
+ *   test feed OCTETS FIELDS      the same by iim_feed, octet by octet, and iim_end
+ *   test list PIECE FILE         what `iimwire check FILE` prints, by pieces of PIECE octets
+ *   test show PIECE FILE         what `iimwire show FILE` prints
+ *   test story PIECE FILE        what `iimwire story FILE` prints
+ *   test pack S U H M FILE       what `iimwire pack` writes, by these members of an iim_packing
+ *   test admits                  answers of iim_admits to batches: record, number and octets
+ *   test tables                  rows and names by their numbers
+ *   test buffers FILE            tries buffers that are too short, tickets that are none, and memory that is refused
+ *
+ * A batch is a number of four octets, low octet first, and so many octets.
+ */
+#include "iim.h"
+
+#include <inttypes.h>
+#include <stdio.h>
+#include <stdlib.h>
+#include <string.h>
+
+enum { TICKET = 65536 + 6 * 512 + 256 };
+
+static const iim_limits DEFAULTS = {0, 0};
+
+/* ---- Memory that is refused: malloc and realloc of the library are these */
+
+static long allowed = -1;
+
+void *__real_malloc(size_t size);
+void *__wrap_malloc(size_t size);
+void *__real_realloc(void *old, size_t size);
+void *__wrap_realloc(void *old, size_t size);
+
+static bool is_refused(void) {
+    if (allowed < 0)
+        return false;
+    if (allowed == 0)
+        return true;
+    allowed--;
+    return false;
+}
+
+void *__wrap_malloc(size_t size) { return is_refused() ? NULL : __real_malloc(size); }
+
+void *__wrap_realloc(void *old, size_t size) { return is_refused() ? NULL : __real_realloc(old, size); }
+
+/* ---- Files */
+
+typedef struct {
+    uint8_t *octets;
+    size_t count;
+} octets;
+
+/* Octets in a buffer of just their number: a sanitizer sees each one that is read beyond. */
+static octets room_for(size_t count) {
+    octets made = {malloc(count ? count : 1), count};
+    if (made.octets == NULL)
+        exit(3);
+    return made;
+}
+
+static octets file_of(const char *path) {
+    FILE *file = fopen(path, "rb");
+    if (file == NULL || fseek(file, 0, SEEK_END) != 0)
+        exit(3);
+    octets read = room_for((size_t)ftell(file));
+    rewind(file);
+    if (fread(read.octets, 1, read.count, file) != read.count)
+        exit(3);
+    fclose(file);
+    return read;
+}
+
+static bool next_batch(octets *batch) {
+    uint8_t count[4];
+    if (fread(count, 1, 4, stdin) != 4)
+        return false;
+    *batch = room_for(count[0] | (size_t)count[1] << 8 | (size_t)count[2] << 16 | (size_t)count[3] << 24);
+    return fread(batch->octets, 1, batch->count, stdin) == batch->count;
+}
+
+static void print_answer(const iim_answer *a) {
+    printf("%d %d %d %d %d %" PRIu64 " %zu %zu %zu\n", a->status, a->layer, a->cause, a->rec, a->set, a->octet, a->used,
+           a->written, a->ticket);
+}
+
+static void print_refusal(FILE *to, long number, const iim_answer *a) {
+    char layer[64], cause[64];
+    iim_layer_name(a->layer, layer, sizeof layer);
+    iim_cause_name(a->cause, cause, sizeof cause);
+    fprintf(to, "%ld refused at octet %" PRIu64 " by layer %s on %d:%02d, cause %d %s\n", number, a->octet, layer, a->rec,
+            a->set, a->cause, cause);
+}
+
+/* ---- Streams */
+
+typedef struct {
+    uint8_t tickets[2][TICKET];
+    int now;
+    size_t ticket;
+    uint64_t at;
+    uint64_t text;
+} receiver;
+
+static receiver *new_receiver(void) {
+    receiver *r = malloc(sizeof *r);
+    if (r == NULL)
+        exit(3);
+    memset(r, 0, sizeof *r);
+    return r;
+}
+
+/* Feeds a piece; text goes to `to`, where that is a file. Buffers have just the room that they need. */
+static iim_answer feed(receiver *r, iim_limits limits, const uint8_t *piece, size_t count, FILE *to) {
+    octets before = room_for(r->ticket), fed = room_for(count), text = room_for(count);
+    iim_answer answer;
+    memcpy(before.octets, r->tickets[r->now], r->ticket);
+    if (count > 0)
+        memcpy(fed.octets, piece, count);
+    memset(&answer, 0xAA, sizeof answer);
+    iim_feed(limits, before.octets, before.count, r->at, fed.octets, fed.count, text.octets, text.count, r->tickets[!r->now],
+             TICKET, &answer);
+    if (answer.written > 0 && to != NULL)
+        fwrite(text.octets, 1, answer.written, to);
+    if (answer.status == IIM_MORE || answer.status == IIM_DONE) {
+        r->now = !r->now;
+        r->ticket = answer.ticket;
+        r->at = answer.octet;
+        r->text += answer.written;
+    }
+    free(before.octets);
+    free(fed.octets);
+    free(text.octets);
+    return answer;
+}
+
+static void print_shown(const uint8_t *octets, size_t count) {
+    for (size_t i = 0; i < count; i++) {
+        if (octets[i] == '\\')
+            printf("\\\\");
+        else if (octets[i] >= 0x20 && octets[i] <= 0x7E)
+            putchar(octets[i]);
+        else
+            printf("\\x%02X", octets[i]);
+    }
+}
+
+static void print_span(const uint8_t *ticket, const char *before, iim_span span) {
+    fputs(before, stdout);
+    print_shown(ticket + span.offset, span.count);
+}
+
+static void print_number(bool has, uint64_t number) {
+    if (has)
+        printf("%" PRIu64, number);
+    else
+        printf("-");
+}
+
+/* What `iimwire show` prints of an envelope. */
+static void print_envelope(const receiver *r, long number) {
+    const uint8_t *ticket = r->tickets[r->now];
+    iim_answer answer;
+    iim_dataset d;
+    iim_message m;
+    iim_object o;
+    printf("envelope %ld\n", number);
+    for (size_t n = 0; iim_field(ticket, r->ticket, n, &d, &answer), answer.status == IIM_DONE; n++) {
+        printf("%d:%02d%s", d.rec, d.set, d.data.count > 0 ? " " : "");
+        print_span(ticket, "", d.data);
+        putchar('\n');
+    }
+    iim_header(ticket, r->ticket, &m, &answer);
+    print_span(ticket, "message ", m.source);
+    print_span(ticket, " ", m.number);
+    print_span(ticket, " ", m.priority);
+    print_span(ticket, " ", m.category);
+    print_span(ticket, " ", m.words);
+    print_span(ticket, m.info.count > 0 ? " " : "", m.info);
+    print_span(ticket, m.trailer.count > 0 ? "\ntrailer " : "\ntrailer", m.trailer);
+    iim_sizes(ticket, r->ticket, &o, &answer);
+    printf("\nobject %" PRIu64 " octets, %" PRIu64 " subfiles, mode %" PRIu64 ", limit %" PRIu64 ", announced ", o.octets,
+           o.subfiles, o.mode, o.subfile);
+    print_number(o.has_announced, o.announced);
+    printf(", maximum ");
+    print_number(o.has_maximum, o.maximum);
+    putchar('\n');
+}
+
+/* Goes through a file as the command does, and answers its status. */
+static int stream(const char *how, size_t piece, const char *path) {
+    octets file = file_of(path);
+    receiver *r = new_receiver();
+    FILE *text = strcmp(how, "story") == 0 ? stdout : NULL, *lines = text != NULL ? stderr : stdout;
+    long number = 1;
+    size_t at = 0;
+    iim_answer answer = {0};
+    while (at < file.count) {
+        size_t count = file.count - at < piece ? file.count - at : piece;
+        answer = feed(r, DEFAULTS, file.octets + at, count, text);
+        if (answer.status == IIM_MORE) {
+            at += count;
+        } else if (answer.status == IIM_DONE) {
+            at += answer.used;
+            if (strcmp(how, "show") == 0)
+                print_envelope(r, number);
+            else
+                fprintf(lines, "%ld accepted %" PRIu64 " octets\n", number, answer.octet);
+            if (text != NULL)
+                putchar('\n');
+            number++;
+            r->ticket = 0;
+            r->at = 0;
+        } else {
+            break;
+        }
+    }
+    if (answer.status == IIM_MORE)
+        iim_end(DEFAULTS, r->tickets[r->now], r->ticket, r->at, &answer);
+    if (answer.status == IIM_REFUSED || answer.status == IIM_TRUNCATED)
+        print_refusal(lines, number, &answer);
+    free(r);
+    free(file.octets);
+    return answer.status == IIM_DONE || file.count == 0 ? 0 : 1;
+}
+
+/* ---- Batches */
+
+static int check_batches(iim_limits limits) {
+    octets batch;
+    while (next_batch(&batch)) {
+        iim_answer answer;
+        memset(&answer, 0xAA, sizeof answer);
+        iim_check(limits, batch.octets, batch.count, &answer);
+        print_answer(&answer);
+        free(batch.octets);
+    }
+    return 0;
+}
+
+/* The same answer, of octets that come one by one. */
+static int feed_batches(iim_limits limits) {
+    octets batch;
+    while (next_batch(&batch)) {
+        receiver *r = new_receiver();
+        iim_answer answer = {0};
+        size_t at = 0;
+        answer.status = IIM_MORE;
+        while (at < batch.count && answer.status == IIM_MORE)
+            answer = feed(r, limits, batch.octets + at++, 1, NULL);
+        if (answer.status == IIM_MORE)
+            iim_end(limits, r->tickets[r->now], r->ticket, r->at, &answer);
+        answer.used = answer.status == IIM_DONE ? answer.octet : 0;
+        answer.written = answer.ticket = 0;
+        print_answer(&answer);
+        free(r);
+        free(batch.octets);
+    }
+    return 0;
+}
+
+static int admit_batches(void) {
+    octets batch;
+    while (next_batch(&batch)) {
+        octets data = room_for(batch.count - 2);
+        memcpy(data.octets, batch.octets + 2, data.count);
+        printf("%d\n", iim_admits(batch.octets[0], batch.octets[1], data.octets, data.count));
+        free(data.octets);
+        free(batch.octets);
+    }
+    return 0;
+}
+
+static int print_tables(void) {
+    char name[64];
+    for (int rec = 0; rec < 256; rec++) {
+        for (int set = 0; set < 256; set++) {
+            iim_rule rule;
+            memset(&rule, 0xAA, sizeof rule);
+            if (!iim_row((uint8_t)rec, (uint8_t)set, &rule))
+                continue;
+            iim_dataset_name((uint8_t)rec, (uint8_t)set, name, sizeof name);
+            printf("row %d:%02d %" PRIu64 " %" PRIu64 " %d %d %d %s\n", rec, set, rule.min, rule.max, rule.kind, rule.duty,
+                   rule.repeats, name);
+        }
+    }
+    for (int number = 0; number < 256; number++) {
+        if (iim_cause_name((uint8_t)number, name, sizeof name) > 0)
+            printf("cause %d %s\n", number, name);
+        if (iim_layer_name((uint8_t)number, name, sizeof name) > 0)
+            printf("layer %d %s\n", number, name);
+    }
+    printf("version %" PRIu32 " %d\n", iim_version(), IIM_VERSION);
+    return 0;
+}
+
+/* ---- Packing */
+
+static int pack(char **words) {
+    iim_packing packing = {strtoull(words[0], NULL, 10), words[1][0] == '1', words[2][0] == '1', strtoull(words[3], NULL, 10)};
+    octets script = file_of(words[4]);
+    iim_answer size, answer;
+    iim_pack_size(packing, script.octets, script.count, &size);
+    octets out = room_for(size.status == IIM_DONE ? size.written : 0);
+    iim_pack(packing, script.octets, script.count, out.octets, out.count, &answer);
+    if (answer.status != size.status || answer.written != size.written || answer.octet != size.octet)
+        return 9;
+    if (answer.status == IIM_DONE) {
+        fwrite(out.octets, 1, out.count, stdout);
+    } else if (answer.status == IIM_REFUSED) {
+        char cause[64];
+        iim_cause_name(answer.cause, cause, sizeof cause);
+        fprintf(stderr, "refused: script line %" PRIu64 " cause %d %s\n", answer.octet, answer.cause, cause);
+    } else {
+        fprintf(stderr, "status %d\n", answer.status);
+    }
+    free(out.octets);
+    free(script.octets);
+    return answer.status;
+}
+
+/* ---- Buffers, tickets, memory */
+
+static int passed, failed;
+
+static void expect(bool holds, const char *what) {
+    if (holds) {
+        passed++;
+    } else {
+        failed++;
+        printf("FAILED %s\n", what);
+    }
+}
+
+static bool is_all(const uint8_t *octets, size_t count, uint8_t octet) {
+    for (size_t i = 0; i < count; i++)
+        if (octets[i] != octet)
+            return false;
+    return true;
+}
+
+/* Whether the answer has this status and this cause, and 0 in all else but the members that are passed over. */
+static bool is_plain(const iim_answer *a, uint8_t status, uint8_t cause) {
+    return a->status == status && a->cause == cause && a->layer == 0 && a->rec == 0 && a->set == 0 && a->octet == 0 && a->used == 0;
+}
+
+/* Each buffer one octet too short: the answer tells what is needed, and the same call with it answers as ever. */
+static void try_short_buffers(octets file, size_t first) {
+    receiver *r = new_receiver();
+    feed(r, DEFAULTS, file.octets, first, NULL);
+    const uint8_t *rest = file.octets + first;
+    size_t count = file.count - first;
+    octets text = room_for(count), next = room_for(TICKET), ticket = room_for(r->ticket);
+    memcpy(ticket.octets, r->tickets[r->now], r->ticket);
+    iim_answer full, answer;
+    iim_feed(DEFAULTS, ticket.octets, ticket.count, r->at, rest, count, text.octets, count, next.octets, TICKET, &full);
+    expect(full.status == IIM_DONE && full.octet == file.count && full.used == count, "the rest ends the envelope");
+    octets short_text = room_for(full.written > 0 ? full.written - 1 : 0), short_next = room_for(full.ticket - 1);
+    if (full.written > 0) {
+        iim_feed(DEFAULTS, ticket.octets, ticket.count, r->at, rest, count, short_text.octets, short_text.count, next.octets, TICKET,
+                 &answer);
+        expect(is_plain(&answer, IIM_SHORT, 0) && answer.written == full.written && answer.ticket == full.ticket,
+               "a text buffer that is one octet too short");
+    }
+    iim_feed(DEFAULTS, ticket.octets, ticket.count, r->at, rest, count, text.octets, count, short_next.octets, short_next.count, &answer);
+    expect(is_plain(&answer, IIM_SHORT, 0) && answer.written == full.written && answer.ticket == full.ticket,
+           "a ticket buffer that is one octet too short");
+    iim_feed(DEFAULTS, ticket.octets, ticket.count, r->at, rest, count, NULL, 0, NULL, 0, &answer);
+    expect(is_plain(&answer, IIM_SHORT, 0) && answer.written == full.written && answer.ticket == full.ticket, "no buffers");
+    octets exact_text = room_for(full.written), exact_next = room_for(full.ticket);
+    iim_feed(DEFAULTS, ticket.octets, ticket.count, r->at, rest, count, exact_text.octets, exact_text.count, exact_next.octets,
+             exact_next.count, &answer);
+    expect(memcmp(&answer, &full, sizeof full) == 0 && memcmp(exact_text.octets, text.octets, full.written) == 0
+               && memcmp(exact_next.octets, next.octets, full.ticket) == 0,
+           "buffers of just the length that is needed");
+    free(exact_text.octets), free(exact_next.octets), free(short_text.octets), free(short_next.octets);
+    free(text.octets), free(next.octets), free(ticket.octets), free(r);
+}
+
+/* Text before a refused octet: with too little room the text is not lost. */
+static void try_short_refusal(octets file) {
+    octets bad = room_for(file.count), text = room_for(file.count), next = room_for(TICKET);
+    memcpy(bad.octets, file.octets, file.count);
+    size_t etx = file.count;
+    while (etx > 0 && bad.octets[etx - 1] != 3)
+        etx--;
+    bad.octets[etx - 1] = 4;
+    iim_answer full, answer;
+    iim_feed(DEFAULTS, NULL, 0, 0, bad.octets, bad.count, text.octets, text.count, next.octets, TICKET, &full);
+    expect(full.status == IIM_REFUSED && full.octet == etx - 1 && full.cause == 41 && full.layer == IIM_LAYER_STORY && full.rec == 8
+               && full.set == 10 && full.ticket == 0,
+           "EOT in the text is refused");
+    if (full.written > 0) {
+        octets little = room_for(full.written - 1);
+        iim_feed(DEFAULTS, NULL, 0, 0, bad.octets, bad.count, little.octets, little.count, next.octets, TICKET, &answer);
+        expect(is_plain(&answer, IIM_SHORT, 0) && answer.written == full.written && answer.ticket == 0, "text before a refusal has no room");
+        free(little.octets);
+    }
+    free(bad.octets), free(text.octets), free(next.octets);
+}
+
+/* A ticket of an envelope that has ended, of none, of another version and of a place that can't be. */
+static void try_tickets(octets file) {
+    receiver *r = new_receiver();
+    iim_answer answer = feed(r, DEFAULTS, file.octets, file.count, NULL);
+    octets ended = room_for(r->ticket), next = room_for(TICKET);
+    memcpy(ended.octets, r->tickets[r->now], r->ticket);
+    iim_feed(DEFAULTS, ended.octets, ended.count, r->at, file.octets, file.count, NULL, 0, next.octets, TICKET, &answer);
+    expect(answer.status == IIM_DONE && answer.used == 0 && answer.octet == file.count && answer.ticket == ended.count
+               && memcmp(next.octets, ended.octets, ended.count) == 0,
+           "an ended envelope uses no octet");
+    iim_end(DEFAULTS, ended.octets, ended.count, r->at, &answer);
+    expect(answer.status == IIM_DONE && answer.octet == file.count && answer.cause == 0, "the end after an envelope");
+    iim_end(DEFAULTS, NULL, 0, 7, &answer);
+    expect(answer.status == IIM_TRUNCATED && answer.cause == 3 && answer.layer == IIM_LAYER_DATASET && answer.octet == 0, "the end of nothing");
+    iim_limits few = {1, 512}, none = {65536, 1};
+    iim_feed(few, ended.octets, ended.count, r->at, NULL, 0, NULL, 0, next.octets, TICKET, &answer);
+    expect(is_plain(&answer, IIM_BAD_TICKET, 50), "a ticket that passes the limit on octets");
+    iim_end(none, ended.octets, ended.count, r->at, &answer);
+    expect(is_plain(&answer, IIM_BAD_TICKET, 51), "a ticket that passes the limit on datasets");
+    iim_dataset d;
+    iim_message m;
+    iim_object o;
+    iim_field(ended.octets, ended.count, 100000, &d, &answer);
+    expect(is_plain(&answer, IIM_NONE, 0) && d.rec == 0 && d.set == 0 && d.data.count == 0 && d.data.offset == 0, "no more datasets");
+    for (size_t count = 0; count < ended.count; count++) {
+        octets front = room_for(count);
+        memcpy(front.octets, ended.octets, count);
+        iim_field(front.octets, count, 0, &d, &answer);
+        bool bad = is_plain(&answer, IIM_BAD_TICKET, 100) && d.rec == 0;
+        iim_header(front.octets, count, &m, &answer);
+        bad = bad && is_plain(&answer, IIM_BAD_TICKET, 100) && m.part == 0 && m.trailer.offset == 0;
+        iim_sizes(front.octets, count, &o, &answer);
+        bad = bad && is_plain(&answer, IIM_BAD_TICKET, 100) && !o.has_mode && o.octets == 0;
+        if (count > 0) {
+            iim_end(DEFAULTS, front.octets, count, 0, &answer);
+            bad = bad && is_plain(&answer, IIM_BAD_TICKET, 100);
+            iim_feed(DEFAULTS, front.octets, count, 0, NULL, 0, NULL, 0, NULL, 0, &answer);
+            bad = bad && is_plain(&answer, IIM_BAD_TICKET, 100);
+        }
+        expect(bad, "a ticket that is cut short");
+        free(front.octets);
+    }
+    ended.octets[4] = 9;
+    iim_field(ended.octets, ended.count, 0, &d, &answer);
+    expect(is_plain(&answer, IIM_BAD_TICKET, 101), "a ticket of another version");
+    ended.octets[4] = 2;
+    ended.octets[5] = 7;
+    iim_end(DEFAULTS, ended.octets, ended.count, r->at, &answer);
+    expect(is_plain(&answer, IIM_BAD_TICKET, 102), "a ticket of a place where no envelope can be");
+    free(ended.octets), free(next.octets), free(r);
+}
+
+/* Each request for memory refused in turn: a status, and then the same call answers as ever. */
+static void try_memory(octets file) {
+    octets text = room_for(file.count), next = room_for(TICKET);
+    iim_answer answer;
+    long refused[3] = {0, 0, 0};
+    for (int call = 0; call < 3; call++) {
+        for (long n = 0;; n++) {
+            allowed = n;
+            if (call == 0)
+                iim_check(DEFAULTS, file.octets, file.count, &answer);
+            else if (call == 1)
+                iim_feed(DEFAULTS, NULL, 0, 0, file.octets, file.count, text.octets, text.count, next.octets, TICKET, &answer);
+            else
+                iim_end(DEFAULTS, next.octets, answer.ticket, file.count, &answer);
+            allowed = -1;
+            if (answer.status != IIM_NO_MEMORY)
+                break;
+            refused[call]++;
+            expect(is_plain(&answer, IIM_NO_MEMORY, 0) && answer.written == 0 && answer.ticket == 0, "memory is refused");
+            if (call == 2)
+                iim_feed(DEFAULTS, NULL, 0, 0, file.octets, file.count, text.octets, text.count, next.octets, TICKET, &answer);
+        }
+        expect(answer.status == IIM_DONE && answer.octet == file.count && refused[call] > 0, "with all memory the call is done");
+    }
+    free(text.octets), free(next.octets);
+}
+
+/* Names in buffers of each length. */
+static void try_names(void) {
+    char name[64];
+    for (size_t len = 0; len < 12; len++) {
+        memset(name, '*', sizeof name);
+        expect(iim_dataset_name(2, 105, name, len) == 8
+                   && (len > 8 ? strcmp(name, "Headline") == 0 && is_all((uint8_t *)name + 9, 55, '*') : is_all((uint8_t *)name, 64, '*')),
+               "the name of a dataset");
+        memset(name, '*', sizeof name);
+        expect(iim_cause_name(14, name, len) == 7
+                   && (len > 7 ? strcmp(name, "Missing") == 0 && is_all((uint8_t *)name + 8, 56, '*') : is_all((uint8_t *)name, 64, '*')),
+               "the name of a cause");
+        memset(name, '*', sizeof name);
+        expect(iim_layer_name(IIM_LAYER_STORY, name, len) == 5
+                   && (len > 5 ? strcmp(name, "story") == 0 && is_all((uint8_t *)name + 6, 58, '*') : is_all((uint8_t *)name, 64, '*')),
+               "the name of a layer");
+    }
+    expect(iim_dataset_name(3, 1, name, sizeof name) == 0 && name[0] == 0, "a dataset without a name");
+    expect(iim_cause_name(0, NULL, 0) == 0 && iim_layer_name(0, NULL, 0) == 0 && iim_dataset_name(1, 1, NULL, 0) == 0, "no buffer for no name");
+    expect(iim_version() == IIM_VERSION, "the version");
+}
+
+/* The script, packed into buffers that are too short and under memory that is refused. */
+static void try_packing(octets script, octets packed) {
+    iim_packing packing = {0, false, false, 0}, wrong[4] = {{UINT64_MAX, false, false, 0}, {0, false, true, 5}, {0, true, true, UINT64_MAX}, {1ull << 63, false, false, 0}};
+    octets out = room_for(packed.count);
+    iim_answer answer;
+    iim_pack(packing, script.octets, script.count, out.octets, out.count, &answer);
+    expect(is_plain(&answer, IIM_DONE, 0) && answer.written == packed.count && memcmp(out.octets, packed.octets, packed.count) == 0, "the packed form");
+    memset(out.octets, '*', out.count);
+    iim_pack(packing, script.octets, script.count, out.octets, out.count - 1, &answer);
+    expect(is_plain(&answer, IIM_SHORT, 0) && answer.written == packed.count && is_all(out.octets, out.count, '*'), "a form that has no room");
+    for (int i = 0; i < 4; i++) {
+        iim_pack(wrong[i], script.octets, script.count, out.octets, out.count, &answer);
+        expect(is_plain(&answer, IIM_BAD_PACKING, 0) && answer.written == 0 && is_all(out.octets, out.count, '*'), "a packing that can't be");
+        iim_pack_size(wrong[i], script.octets, script.count, &answer);
+        expect(is_plain(&answer, IIM_BAD_PACKING, 0) && answer.written == 0, "the size of a packing that can't be");
+    }
+    long refused = 0;
+    for (long n = 0;; n++) {
+        allowed = n;
+        iim_pack(packing, script.octets, script.count, out.octets, out.count, &answer);
+        allowed = -1;
+        if (answer.status != IIM_NO_MEMORY)
+            break;
+        refused++;
+        expect(is_plain(&answer, IIM_NO_MEMORY, 0) && answer.written == 0 && is_all(out.octets, out.count, '*'), "memory is refused to a packer");
+    }
+    expect(answer.status == IIM_DONE && refused > 0, "with all memory it packs");
+    free(out.octets);
+}
+
+static int try_buffers(char **words) {
+    octets smallest = file_of(words[0]), story = file_of(words[1]), script = file_of(words[2]), packed = file_of(words[3]);
+    for (size_t first = 0; first < story.count; first++)
+        try_short_buffers(story, first);
+    for (size_t first = 0; first < smallest.count; first++)
+        try_short_buffers(smallest, first);
+    try_short_refusal(story);
+    try_tickets(smallest);
+    try_tickets(story);
+    try_memory(story);
+    try_names();
+    try_packing(script, packed);
+    free(smallest.octets), free(story.octets), free(script.octets), free(packed.octets);
+    printf("%d passed, %d failed\n", passed, failed);
+    return failed > 0;
+}
+
+int main(int count, char **words) {
+    if (count == 4 && strcmp(words[1], "check") == 0)
+        return check_batches((iim_limits){(uint32_t)atol(words[2]), (uint32_t)atol(words[3])});
+    if (count == 4 && strcmp(words[1], "feed") == 0)
+        return feed_batches((iim_limits){(uint32_t)atol(words[2]), (uint32_t)atol(words[3])});
+    if (count == 4 && (strcmp(words[1], "list") == 0 || strcmp(words[1], "show") == 0 || strcmp(words[1], "story") == 0))
+        return stream(words[1], (size_t)atol(words[2]), words[3]);
+    if (count == 7 && strcmp(words[1], "pack") == 0)
+        return pack(words + 2);
+    if (count == 2 && strcmp(words[1], "admits") == 0)
+        return admit_batches();
+    if (count == 2 && strcmp(words[1], "tables") == 0)
+        return print_tables();
+    if (count == 6 && strcmp(words[1], "buffers") == 0)
+        return try_buffers(words + 2);
+    return 2;
+}

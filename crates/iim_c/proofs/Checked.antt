@@ -1,0 +1,70 @@
+-- What octets in memory are answered.
+use Rattle.std.proofs.Common.{◌≡◌, ◌≢◌, ℕ, ◌+◌, ◌<◌, ◌≤◌, ◌^◌, List, [], ◌++◌, ◌⊎◌, inl, inr, length, take, slice_index, refl, sym, ap, subst, ◌∙◌, arith, Option, Some}
+use Rattle.iim_fields.specs.declared.limits.Limits.{Limits}
+use Rattle.wire_story.specs.Format.Delivery.{StoryEvent}
+use Rattle.iim_unpack.specs.Format.Open.{IsOpen, IsTruncatedAt, RefusesNext}
+use Rattle.iim_unpack.specs.Format.Refusals.{refusal_at}
+use Rattle.iim_unpack.specs.Format.Streams.{Answer, Answers, Finished, Refused, Truncated, IsEnvelopeWithin, IsFinished, IsRefused}
+use Rattle.iim_unpack.specs.Laws.Streams.{StreamsHaveOneAnswer}
+use Rattle.iim_unpack.specs.States.Unpacking.{Unpacking, Stands, IsDoneWith, Goes, IsRefusedIn, limits_in, raised}
+use Rattle.iim_unpack.specs.declared.unpacker.Progress.TheVariants.{More, Done}
+use Rattle.iim_unpack.specs.declared.refusal.Refusal.{Refusal}
+use Rattle.iim_unpack.specs.declared.refusal.Cause.TheVariants.{Sink}
+use Rattle.iim_c.specs.declared.answer.IimAnswer.{IimAnswer}
+use Rattle.iim_c.specs.Format.Answers.{status_answer, refusal_answer}
+use Rattle.iim_c.specs.Format.Checking.{IsChecked, IsOnly, answer_for, finished}
+use Rattle.iim_c.specs.Format.Statuses as status
+
+-- both clauses follow from an answer of the stream
+pub record Answered (limits : Limits) (octets : List ℕ) (told : IimAnswer) : Type 0 where
+  pub answer : IsChecked limits octets told
+  pub only : IsOnly limits octets told
+
+pub answered : StreamsHaveOneAnswer → (limits : Limits) (octets : List ℕ) (told : IimAnswer) (a : Answer) → Answers limits octets a → told ≡ answer_for a → Answered limits octets told
+answered law limits octets told a holds is = record {
+  answer = inl (a, holds, is);
+  only = λ b other. inl (is ∙ ap answer_for (law limits octets a b holds other));
+}
+
+pub without_memory : (limits : Limits) (octets : List ℕ) → Answered limits octets (status_answer status.no_memory)
+without_memory limits octets = record { answer = inr refl; only = λ b other. inr refl }
+
+exact : (k : ℕ) → k < 2 ^ 63 → raised 0 k ≡ k
+exact k few = omega (arith, few)
+
+pub finished_for : StreamsHaveOneAnswer → (limits : Limits) (octets : List ℕ) (v : Unpacking) (more : List StoryEvent) (used : ℕ) (told : IimAnswer) → limits_in v ≡ limits
+    → Goes v [] 0 octets more (Done used) → told ≡ finished used → Answered limits octets told
+finished_for law limits octets v more used told same goes is =
+    let done = goes.1 in
+    answered law limits octets told (Finished used done.value)
+    (record { fits = goes.0; envelope = subst (λ (l : Limits). IsEnvelopeWithin l (take used octets) done.value) same (record { admits = done.admits; within = done.within }) })
+    is
+
+pub truncated_for : StreamsHaveOneAnswer → (limits : Limits) (octets : List ℕ) (v : Unpacking) (more : List StoryEvent) (e : Refusal) (told : IimAnswer) → length octets < 2 ^ 63 → limits_in v ≡ limits
+    → Goes v [] 0 octets more More → ((p : List ℕ) (a : ℕ) → Stands v p a → (f : Refusal) × (Some e ≡ Some f) × IsTruncatedAt p a f) → told ≡ refusal_answer status.truncated e → Answered limits octets told
+truncated_for law limits octets v more e told few same goes short is =
+    let t = short octets (raised 0 (length octets)) goes.0 in
+    let is_e : t.0 ≡ e = (let h = t.1 in cc) in
+    answered law limits octets told (Truncated e)
+    (record {
+      is_open = subst (λ (l : Limits). IsOpen l octets) same goes.0.is_open;
+      refusal = subst (IsTruncatedAt octets (length octets)) is_e (subst (λ (n : ℕ). IsTruncatedAt octets n t.0) (exact (length octets) few) t.2);
+    })
+    is
+
+pub refused_for : StreamsHaveOneAnswer → (limits : Limits) (octets : List ℕ) (more : List StoryEvent) (e : Refusal) (told : IimAnswer) → length octets < 2 ^ 63
+    → IsRefusedIn limits [] 0 octets more e → e.cause ≢ Sink → told ≡ refusal_answer status.refused e → Answered limits octets told
+refused_for law limits octets more e told few r by_octets is =
+    let at : raised 0 r.k ≡ r.k = exact r.k (let w = r.within in omega (arith, w, few)) in
+    let octet : e.octet ≡ r.k = ap (λ (f : Refusal). f.octet) r.refusal ∙ at in
+    answered law limits octets told (Refused e)
+    (record {
+      fits = (let w = r.within in omega (arith, octet, w));
+      fault = r.fault;
+      refusal = r.refusal ∙ ap (λ (n : ℕ). refusal_at n r.fault) (at ∙ sym octet);
+      kills = record {
+        refuses = subst (λ (n : ℕ). RefusesNext limits (take n octets) (slice_index octets n) r.fault) (sym octet) r.refuses;
+        by_octets = λ sink. by_octets (ap (λ (f : Refusal). f.cause) r.refusal ∙ sink);
+      };
+    })
+    is

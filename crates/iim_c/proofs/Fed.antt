@@ -1,0 +1,260 @@
+-- What a piece comes to that is fed from the place of a ticket.
+use Rattle.std.proofs.Common.{◌≡◌, ◌≢◌, ℕ, ◌+◌, ◌<◌, ◌≤◌, ◌^◌, min, List, [], ◌∷◌, ◌++◌, ◌⊎◌, inl, inr, length, take, map, Bool, true, false, nat_lt, Option, Some, None, refl, sym, ap, subst, ◌∙◌, arith}
+use Rattle.std.proofs.lemmas.Bool.{ltb-true, ltb-false}
+use Rattle.iim_fields.specs.declared.limits.Limits.{Limits}
+use Rattle.wire_story.specs.Format.Delivery.{StoryEvent}
+use Rattle.iim_unpack.specs.Format.Open.{IsOpen, IsTruncatedAt}
+use Rattle.iim_unpack.specs.States.Restored.{IsRestoreFault}
+use Rattle.iim_unpack.specs.Format.Streams.{IsEnvelopeWithin}
+use Rattle.iim_unpack.specs.Format.Tickets.{IsTicketOf}
+use Rattle.iim_unpack.specs.States.Unpacking.{Unpacking, Stands, IsDone, IsDoneWith, IsRefusedIn, limits_in}
+use Rattle.iim_unpack.specs.declared.unpacker.Progress.{Progress}
+use Rattle.iim_unpack.specs.declared.unpacker.Progress.TheVariants as progress
+use Rattle.iim_unpack.specs.declared.refusal.Refusal.{Refusal}
+use Rattle.iim_unpack.specs.declared.ticket.fault.TicketFault.{TicketFault}
+use Rattle.iim_c.specs.declared.answer.IimAnswer.{IimAnswer}
+use Rattle.iim_c.specs.Beginning.{IsBegun, IsNotBegun}
+use Rattle.iim_c.specs.Steps.{HasFedText, HasRefusedText, HasSaved, IsSaved, saved_with, short_with, refused_with, used_in}
+use Rattle.iim_c.specs.Format.Answers.{status_answer, refusal_answer, ticket_answer}
+use Rattle.iim_c.specs.Format.Statuses as status
+use Rattle.iim_c.specs.Format.Feeding.{StandsAt, EndsAt, IsSaid, GoesOn, Finishes, HasEnded, Refuses, Outcome, More, Done, Refused, BadTicket, NoMemory, IsOutcome, IsAnswered, IsTold, IsShort, IsFed, IsEnd, text_for, text_of, next_of, answer_of, short_answer}
+use Rattle.iim_c.specs.Format.Writing.{HasTaken, StandIn, counted}
+use Rattle.iim_c.proofs.Places.{PlaceLaws, stands_at, ends_at, place_of, begun_limits}
+
+-- ---- what it comes to
+
+pub record Begun (limits : Limits) (ticket : List ℕ) (at : ℕ) (u : Unpacking) : Type 0 where
+  pub laws : PlaceLaws
+  pub is_begun : IsBegun limits ticket at u
+
+is_done : (u : Unpacking) (p : List ℕ) (a : ℕ) → IsDoneWith u p a → IsDone u
+is_done u p a d = (d.taking, d.ended)
+
+more_outcome : (limits : Limits) (ticket : List ℕ) (at : ℕ) (u v : Unpacking) (piece out next : List ℕ) (count : ℕ) → Begun limits ticket at u → (fed : HasFedText u v piece out count progress.More)
+    → limits_in v ≡ limits_in u → (IsDone u → ⊥) → ((p : List ℕ) (a : ℕ) → Stands v p a ⊎ IsDoneWith v p a → IsTicketOf p next)
+    → IsOutcome limits ticket at piece (More v.octets (length piece) (text_for fed.more) next)
+more_outcome limits ticket at u v piece out next count b fed same open_yet is_ticket = (
+  record {
+    some = place_of limits ticket at u b.is_begun;
+    open_octets = λ p a stands.
+        let goes = fed.goes p a (stands_at b.laws.one_place limits ticket at u p a b.is_begun stands) in
+        record {
+          is_open = subst (λ (l : Limits). IsOpen l (p ++ piece)) (same ∙ begun_limits limits ticket at u b.is_begun) goes.0.is_open;
+          delivers = (fed.more, goes.1, refl);
+          ticket = is_ticket _ _ (inl goes.0);
+          counts = goes.0.counts;
+        };
+    envelopes = λ p a ends. open_yet (is_done u p a (ends_at b.laws limits ticket at u p a b.is_begun ends));
+  },
+  refl,
+)
+
+no_text : (text : List ℕ) → counted text ≡ 0 → text ≡ []
+no_text [] h = refl
+no_text (x ∷ xs) h = absurd (omega (arith, h))
+
+done_outcome : (limits : Limits) (ticket : List ℕ) (at : ℕ) (u v : Unpacking) (piece out next : List ℕ) (count used : ℕ) → Begun limits ticket at u → (fed : HasFedText u v piece out count (progress.Done used))
+    → limits_in v ≡ limits_in u → (IsDone u → (used ≡ 0) × (v ≡ u) × (count ≡ 0)) → ((p : List ℕ) (a : ℕ) → Stands v p a ⊎ IsDoneWith v p a → IsTicketOf p next)
+    → IsOutcome limits ticket at piece (Done v.octets used (text_for fed.more) next)
+done_outcome limits ticket at u v piece out next count used b fed same again is_ticket = record {
+  some = place_of limits ticket at u b.is_begun;
+  open_octets = λ p a stands.
+      let goes = fed.goes p a (stands_at b.laws.one_place limits ticket at u p a b.is_begun stands) in
+      record {
+        fits = goes.0;
+        value = goes.1.value;
+        envelope =
+            subst (λ (l : Limits). IsEnvelopeWithin l (p ++ take used piece) goes.1.value) (same ∙ begun_limits limits ticket at u b.is_begun)
+            (record { admits = goes.1.admits; within = goes.1.within });
+        delivers = (fed.more, goes.2, refl);
+        ticket = is_ticket _ _ (inr goes.1);
+        counts = goes.1.counts;
+      };
+  envelopes = λ p a ends.
+      let done = ends_at b.laws limits ticket at u p a b.is_begun ends in
+      let left = again (is_done u p a done) in
+      record {
+        unused = left.0;
+        no_text = no_text (text_for fed.more) (sym fed.taken.0 ∙ left.2);
+        ticket = is_ticket p a (inr (subst (λ (w : Unpacking). IsDoneWith w p a) (sym left.1) done));
+        counts = ap (λ (w : Unpacking). w.octets) left.1 ∙ done.counts;
+      };
+}
+
+refused_outcome : (limits : Limits) (ticket : List ℕ) (at : ℕ) (u : Unpacking) (piece out : List ℕ) (count : ℕ) (e : Refusal) → Begun limits ticket at u → (fed : HasRefusedText u piece out count e)
+    → (IsDone u → ⊥) → IsOutcome limits ticket at piece (Refused e (text_for fed.more))
+refused_outcome limits ticket at u piece out count e b fed open_yet = record {
+  some = place_of limits ticket at u b.is_begun;
+  open_octets = λ p a stands. record {
+    more = fed.more;
+    refused =
+        subst (λ (l : Limits). IsRefusedIn l p a piece fed.more e) (begun_limits limits ticket at u b.is_begun)
+        (fed.refuses p a (stands_at b.laws.one_place limits ticket at u p a b.is_begun stands));
+    text_is = refl;
+    by_octets = fed.by_octets;
+  };
+  envelopes = λ p a ends. open_yet (is_done u p a (ends_at b.laws limits ticket at u p a b.is_begun ends));
+}
+
+-- ---- how it is answered
+
+all_counted : (text out : List ℕ) (written room : ℕ) → written ≡ counted text → room ≡ length out → room < 2 ^ 63 → written ≤ room → written ≡ length text
+all_counted text out written room is of_out few fits = omega (arith, is, few, fits)
+
+lacks_text : (text out : List ℕ) (written room : ℕ) → written ≡ counted text → room ≡ length out → room < written → length out < length text
+lacks_text text out written room is of_out more = omega (arith, is, of_out, more)
+
+-- the answer for a number of octets that is that of a text
+saved_answer : (u : Unpacking) (status used : ℕ) (written : ℕ) (text next : List ℕ) → written ≡ length text
+    → saved_with u (status, used) written (length next) ≡ record (status_answer status) { octet = u.octets; used = used; written = length text; ticket = length next }
+saved_answer u status used written text next is = ap (λ (n : ℕ). saved_with u (status, used) n (length next)) is
+
+short_told : (written : ℕ) (text next : List ℕ) → written ≡ counted text → short_with written (length next) ≡ short_answer text next
+short_told written text next is = ap (λ (n : ℕ). short_with n (length next)) is
+
+told_for : (o : Outcome) (u : Unpacking) (status used written room : ℕ) (text_out ticket_out : List ℕ) (told : IimAnswer) → HasTaken text_out written (text_of o) → room ≡ length text_out → room < 2 ^ 63
+    → answer_of o ≡ record (status_answer status) { octet = u.octets; used = used; written = length (text_of o); ticket = length (next_of o) }
+    → StandIn ticket_out (next_of o)
+    → ((written ≤ room) × (length (next_of o) ≤ length ticket_out) × (told ≡ saved_with u (status, used) written (length (next_of o))))
+    ⊎ (((room < written) ⊎ (length ticket_out < length (next_of o))) × (told ≡ short_with written (length (next_of o))))
+    → IsAnswered o text_out ticket_out told
+told_for o u status used written room text_out ticket_out told taken of_out few is stands (inl h) =
+    let all : written ≡ length (text_of o) = all_counted (text_of o) text_out written room taken.0 of_out few h.0 in
+    let fits : length (text_of o) ≤ length text_out = omega (arith, all, of_out, h.0) in
+    inl (record {
+      text_fits = fits;
+      ticket_fits = h.1;
+      answer = h.2 ∙ (saved_answer u status used written (text_of o) (next_of o) all ∙ sym is);
+      text = taken.1 fits;
+      ticket = stands h.1;
+    })
+told_for o u status used written room text_out ticket_out told taken of_out few is stands (inr h) =
+    inr (record {
+      lacks = elim h.0 as (λ _. (length text_out < length (text_of o)) ⊎ (length ticket_out < length (next_of o))) [
+        | inl more ↦ inl (lacks_text (text_of o) text_out written room taken.0 of_out more)
+        | inr more ↦ inr more
+      ];
+      answer = h.1 ∙ short_told written (text_of o) (next_of o) taken.0;
+    })
+
+fed_nothing : (limits : Limits) (ticket : List ℕ) (at : ℕ) (piece text_out ticket_out : List ℕ) (told : IimAnswer) → told ≡ status_answer status.no_memory
+    → IsFed limits ticket at piece text_out ticket_out told
+fed_nothing limits ticket at piece text_out ticket_out told is =
+    (NoMemory, tt, inl (record { text_fits = omega arith; ticket_fits = omega arith; answer = is; text = refl; ticket = refl }))
+
+pub fed_more : (limits : Limits) (ticket : List ℕ) (at : ℕ) (u v : Unpacking) (piece text_out ticket_out : List ℕ) (count room : ℕ) (told : IimAnswer) → Begun limits ticket at u
+    → HasFedText u v piece text_out count progress.More → limits_in v ≡ limits_in u → (IsDone u → ⊥) → room ≡ length text_out → room < 2 ^ 63
+    → IsSaved v (used_in progress.More (length piece)) count room ticket_out told → IsFed limits ticket at piece text_out ticket_out told
+fed_more limits ticket at u v piece text_out ticket_out count room told b fed same open_yet of_out few (inl s) =
+    let o = More v.octets (length piece) (text_for fed.more) s.next in (
+      o,
+      more_outcome limits ticket at u v piece text_out s.next count b fed same open_yet s.is_ticket,
+      told_for o v status.more (length piece) count room text_out ticket_out told fed.taken of_out few refl s.stands s.fits,
+    )
+fed_more limits ticket at u v piece text_out ticket_out count room told b fed same open_yet of_out few (inr e) = fed_nothing limits ticket at piece text_out ticket_out told e
+
+pub fed_done : (limits : Limits) (ticket : List ℕ) (at : ℕ) (u v : Unpacking) (piece text_out ticket_out : List ℕ) (count room used : ℕ) (told : IimAnswer) → Begun limits ticket at u
+    → HasFedText u v piece text_out count (progress.Done used) → limits_in v ≡ limits_in u → (IsDone u → (used ≡ 0) × (v ≡ u) × (count ≡ 0)) → room ≡ length text_out → room < 2 ^ 63
+    → IsSaved v (used_in (progress.Done used) (length piece)) count room ticket_out told → IsFed limits ticket at piece text_out ticket_out told
+fed_done limits ticket at u v piece text_out ticket_out count room used told b fed same again of_out few (inl s) =
+    let o = Done v.octets used (text_for fed.more) s.next in (
+      o,
+      done_outcome limits ticket at u v piece text_out s.next count used b fed same again s.is_ticket,
+      told_for o v status.done used count room text_out ticket_out told fed.taken of_out few refl s.stands s.fits,
+    )
+fed_done limits ticket at u v piece text_out ticket_out count room used told b fed same again of_out few (inr e) = fed_nothing limits ticket at piece text_out ticket_out told e
+
+refused_told : (e : Refusal) (text text_out ticket_out : List ℕ) (written room : ℕ) (told : IimAnswer) → HasTaken text_out written text → room ≡ length text_out → room < 2 ^ 63
+    → told ≡ refused_with e written room → IsAnswered (Refused e text) text_out ticket_out told
+refused_told e text text_out ticket_out written room told taken of_out few is = by (nat_lt room written) refl
+  where
+    by : (b : Bool) → nat_lt room written ≡ b → IsAnswered (Refused e text) text_out ticket_out told
+    by true over =
+        let more : room < written = ltb-true room written over in
+        inr (record {
+          lacks = inl (lacks_text text text_out written room taken.0 of_out more);
+          answer = is ∙ rw over (short_told written text [] taken.0);
+        })
+    by false within =
+        let fits : written ≤ room = ltb-false room written within in
+        let all : written ≡ length text = all_counted text text_out written room taken.0 of_out few fits in
+        let holds : length text ≤ length text_out = omega (arith, all, of_out, fits) in
+        inl (record {
+          text_fits = holds;
+          ticket_fits = omega arith;
+          answer = is ∙ rw within (ap (λ (n : ℕ). record (refusal_answer status.refused e) { written = n }) all);
+          text = taken.1 holds;
+          ticket = refl;
+        })
+
+pub fed_refused : (limits : Limits) (ticket : List ℕ) (at : ℕ) (u : Unpacking) (piece text_out ticket_out : List ℕ) (count room : ℕ) (e : Refusal) (told : IimAnswer) → Begun limits ticket at u
+    → HasRefusedText u piece text_out count e → (IsDone u → ⊥) → room ≡ length text_out → room < 2 ^ 63
+    → told ≡ refused_with e count room → IsFed limits ticket at piece text_out ticket_out told
+fed_refused limits ticket at u piece text_out ticket_out count room e told b fed open_yet of_out few is = (
+  Refused e (text_for fed.more),
+  refused_outcome limits ticket at u piece text_out count e b fed open_yet,
+  refused_told e (text_for fed.more) text_out ticket_out count room told fed.taken of_out few is,
+)
+
+alive_by : (q : Progress) (u v : Unpacking) (piece out : List ℕ) (count : ℕ) (p : List ℕ) (a : ℕ) → HasFedText u v piece out count q → Stands u p a → v.refused ≡ None
+alive_by progress.More u v piece out count p a fed stands = (fed.goes p a stands).0.taking
+alive_by (progress.Done used) u v piece out count p a fed stands = (fed.goes p a stands).1.taking
+
+pub alive_after : (q : Progress) (limits : Limits) (ticket : List ℕ) (at : ℕ) (u v : Unpacking) (piece out : List ℕ) (count : ℕ) → Begun limits ticket at u → HasFedText u v piece out count q
+    → (IsDone u → v ≡ u) → v.refused ≡ None
+alive_after q limits ticket at u v piece out count b fed same =
+    let place = place_of limits ticket at u b.is_begun in
+    elim place.2 as (λ _. v.refused ≡ None) [
+      | inl stands ↦ alive_by q u v piece out count place.0 place.1 fed (stands_at b.laws.one_place limits ticket at u place.0 place.1 b.is_begun stands)
+      | inr ends ↦
+          (let done = ends_at b.laws limits ticket at u place.0 place.1 b.is_begun ends in
+          ap (λ (w : Unpacking). w.refused) (same (is_done u place.0 place.1 done)) ∙ done.taking)
+    ]
+
+pub fed_ok : (q : Progress) (limits : Limits) (ticket : List ℕ) (at : ℕ) (u v : Unpacking) (piece text_out ticket_out : List ℕ) (count room : ℕ) (pair : ℕ × ℕ) (told : IimAnswer) → Begun limits ticket at u
+    → HasFedText u v piece text_out count q → limits_in v ≡ limits_in u → (IsDone u → (q ≡ progress.Done 0) × (v ≡ u) × (count ≡ 0)) → room ≡ length text_out → room < 2 ^ 63
+    → pair ≡ used_in q (length piece) → IsSaved v pair count room ticket_out told → IsFed limits ticket at piece text_out ticket_out told
+fed_ok progress.More limits ticket at u v piece text_out ticket_out count room pair told b fed same again of_out few is saved =
+    fed_more limits ticket at u v piece text_out ticket_out count room told b fed same (λ done. let h = (again done).0 in cc) of_out few
+    (subst (λ (x : ℕ × ℕ). IsSaved v x count room ticket_out told) is saved)
+fed_ok (progress.Done used) limits ticket at u v piece text_out ticket_out count room pair told b fed same again of_out few is saved =
+    fed_done limits ticket at u v piece text_out ticket_out count room used told b fed same (λ done. let h = again done in ((let e = h.0 in cc), h.1, h.2)) of_out few
+    (subst (λ (x : ℕ × ℕ). IsSaved v x count room ticket_out told) is saved)
+
+-- ---- no unpacker
+
+bad_ticket : (limits : Limits) (ticket : List ℕ) (at : ℕ) (piece text_out ticket_out : List ℕ) (fault : TicketFault) (told : IimAnswer) → (ticket ≢ []) → IsRestoreFault limits ticket fault
+    → told ≡ ticket_answer fault → IsFed limits ticket at piece text_out ticket_out told
+bad_ticket limits ticket at piece text_out ticket_out fault told some why is =
+    (BadTicket fault, (some, why), inl (record { text_fits = omega arith; ticket_fits = omega arith; answer = is; text = refl; ticket = refl }))
+
+pub fed_not_begun : (limits : Limits) (ticket : List ℕ) (at : ℕ) (piece text_out ticket_out : List ℕ) (fault : TicketFault) (told : IimAnswer) → IsNotBegun limits ticket fault
+    → told ≡ ticket_answer fault → IsFed limits ticket at piece text_out ticket_out told
+fed_not_begun limits ticket at piece text_out ticket_out fault told (inl memory) is = fed_nothing limits ticket at piece text_out ticket_out told (is ∙ ap ticket_answer memory)
+fed_not_begun limits ticket at piece text_out ticket_out fault told (inr why) is = bad_ticket limits ticket at piece text_out ticket_out fault told why.0 why.1 is
+
+-- ---- the end of the input
+
+pub ended_short : (limits : Limits) (ticket : List ℕ) (at : ℕ) (u : Unpacking) (e : Refusal) (told : IimAnswer) → Begun limits ticket at u
+    → ((p : List ℕ) (a : ℕ) → Stands u p a → (f : Refusal) × (Some e ≡ Some f) × IsTruncatedAt p a f) → (IsDone u → ⊥) → told ≡ refusal_answer status.truncated e → IsEnd limits ticket at told
+ended_short limits ticket at u e told b short open_yet is = inl (record {
+  some = place_of limits ticket at u b.is_begun;
+  open_octets = λ p a stands.
+      let t = short p a (stands_at b.laws.one_place limits ticket at u p a b.is_begun stands) in
+      let same : e ≡ t.0 = (let h = t.1 in cc) in
+      (t.0, t.2, is ∙ ap (refusal_answer status.truncated) same);
+  envelopes = λ p a ends. absurd (open_yet (is_done u p a (ends_at b.laws limits ticket at u p a b.is_begun ends)));
+})
+
+pub ended_whole : (limits : Limits) (ticket : List ℕ) (at : ℕ) (u : Unpacking) (told : IimAnswer) → Begun limits ticket at u
+    → ((p : List ℕ) (a : ℕ) → Stands u p a → ⊥) → told ≡ record (status_answer status.done) { octet = u.octets } → IsEnd limits ticket at told
+ended_whole limits ticket at u told b not_open is = inl (record {
+  some = place_of limits ticket at u b.is_begun;
+  open_octets = λ p a stands. absurd (not_open p a (stands_at b.laws.one_place limits ticket at u p a b.is_begun stands));
+  envelopes = λ p a ends.
+      is ∙ ap (λ (n : ℕ). record (status_answer status.done) { octet = n }) (ends_at b.laws limits ticket at u p a b.is_begun ends).counts;
+})
+
+pub ended_not_begun : (limits : Limits) (ticket : List ℕ) (at : ℕ) (fault : TicketFault) (told : IimAnswer) → IsNotBegun limits ticket fault → told ≡ ticket_answer fault → IsEnd limits ticket at told
+ended_not_begun limits ticket at fault told (inl memory) is = inr (inr (is ∙ ap ticket_answer memory))
+ended_not_begun limits ticket at fault told (inr why) is = inr (inl (fault, why.0, why.1, is))

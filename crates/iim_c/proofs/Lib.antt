@@ -1,0 +1,9 @@
+pub mod Checked
+pub mod Fed
+pub mod Headers
+pub mod Packs
+pub mod Places
+pub mod TextOuts
+pub mod TicketFields
+pub mod TicketNumbers
+pub mod TicketTexts

@@ -1,0 +1,9 @@
+pub mod Answers
+pub mod Checking
+pub mod Feeding
+pub mod Names
+pub mod Packing
+pub mod Statuses
+pub mod Tables
+pub mod TicketAnswers
+pub mod Writing

@@ -1,0 +1,58 @@
+-- What a call answers.
+use Rattle.std.specs.Prelude.{ℕ}
+use Rattle.iim_unpack.specs.Format.Names.{cause_number}
+use Rattle.iim_unpack.specs.declared.refusal.Refusal.{Refusal}
+use Rattle.iim_unpack.specs.declared.refusal.Layer.{Layer}
+use Rattle.iim_unpack.specs.declared.refusal.Layer.TheVariants.{Dataset, Record, Limits, Object, Message, Story, Outside}
+use Rattle.iim_unpack.specs.declared.ticket.fault.TicketFault.{TicketFault}
+use Rattle.iim_unpack.specs.declared.ticket.fault.TicketFault.TheVariants.{Form, Version, Impossible, HeaderFull, TooManyFields, OutOfMemory}
+use Rattle.iim_c.specs.declared.answer.IimAnswer.{IimAnswer}
+use Rattle.iim_c.specs.Format.Statuses as status
+
+-- the answer that has a status alone
+abbrev pub status_answer : ℕ → IimAnswer
+status_answer status = record {
+  status = status;
+  layer = 0;
+  cause = 0;
+  rec = 0;
+  set = 0;
+  octet = 0;
+  used = 0;
+  written = 0;
+  ticket = 0;
+}
+
+-- the layers by their numbers
+abbrev pub layer_number : Layer → ℕ
+layer_number Dataset = 1
+layer_number Record = 2
+layer_number Limits = 3
+layer_number Object = 4
+layer_number Message = 5
+layer_number Story = 6
+layer_number Outside = 7
+
+-- the answer for a refusal
+abbrev pub refusal_answer : ℕ → Refusal → IimAnswer
+refusal_answer status e = record (status_answer status) {
+  layer = layer_number e.layer;
+  cause = cause_number e.cause;
+  rec = e.rec;
+  set = e.set;
+  octet = e.octet;
+}
+
+-- the numbers of the causes for which a ticket is refused
+abbrev pub ticket_number : TicketFault → ℕ
+ticket_number Form = 100
+ticket_number Version = 101
+ticket_number Impossible = 102
+ticket_number HeaderFull = 50
+ticket_number TooManyFields = 51
+ticket_number OutOfMemory = 70
+
+-- the answer for a ticket that is refused; refused memory has a status of its own
+abbrev pub ticket_answer : TicketFault → IimAnswer
+ticket_answer OutOfMemory = status_answer status.no_memory
+ticket_answer fault = record (status_answer status.bad_ticket) { cause = ticket_number fault }

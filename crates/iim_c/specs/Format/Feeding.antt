@@ -1,0 +1,166 @@
+-- What a piece comes to that is fed from the place of a ticket.
+use Rattle.std.specs.Prelude.{◌≡◌, ◌≢◌, ℕ, ◌<◌, ◌≤◌, ◌⊎◌, List, [], ◌∷◌, ◌++◌, length, take, map}
+use Rattle.iim_fields.specs.declared.limits.Limits.{Limits}
+use Rattle.wire_story.specs.Format.Delivery.{StoryEvent, octet_for}
+use Rattle.iim_unpack.specs.Format.Admitted.{Value}
+use Rattle.iim_unpack.specs.Format.Open.{IsOpen, Delivers, IsTruncatedAt}
+use Rattle.iim_unpack.specs.States.Restored.{IsTicketAt, IsRestoreFault}
+use Rattle.iim_unpack.specs.Format.Streams.{IsEnvelopeWithin}
+use Rattle.iim_unpack.specs.Format.Tickets.{Place, IsPlaceOf, IsTicketOf}
+use Rattle.iim_unpack.specs.States.Unpacking.{IsRefusedIn, raised}
+use Rattle.iim_unpack.specs.declared.refusal.Refusal.{Refusal}
+use Rattle.iim_unpack.specs.declared.refusal.Cause.TheVariants.{Sink}
+use Rattle.iim_unpack.specs.declared.ticket.fault.TicketFault.{TicketFault}
+use Rattle.iim_c.specs.declared.answer.IimAnswer.{IimAnswer}
+use Rattle.iim_c.specs.Format.Answers.{status_answer, refusal_answer, ticket_answer}
+use Rattle.iim_c.specs.Format.Statuses as status
+use Rattle.iim_c.specs.Format.Writing.{counted}
+
+-- ---- the place of a ticket
+
+-- Octets have led to the ticket, and `a` of them are counted: none to no ticket, and else those that lead to the place that it tells.
+abbrev pub LedTo : List ℕ → ℕ → List ℕ → ℕ → Type 0
+LedTo [] at p a = (p ≡ []) × (a ≡ 0)
+LedTo (x ∷ xs) at p a = ((place : Place) × IsTicketAt (x ∷ xs) place × IsPlaceOf p place) × (a ≡ at)
+
+-- And every layer can continue from them.
+pub record StandsAt (limits : Limits) (ticket : List ℕ) (at : ℕ) (p : List ℕ) (a : ℕ) : Type 0 where
+  pub led : LedTo ticket at p a
+  pub is_open : IsOpen limits p
+
+-- And they are an envelope.
+pub record EndsAt (limits : Limits) (ticket : List ℕ) (at : ℕ) (p : List ℕ) (a : ℕ) : Type 0 where
+  pub led : LedTo ticket at p a
+  pub value : Value
+  pub envelope : IsEnvelopeWithin limits p value
+
+-- Some octets have led there.
+abbrev pub IsPlace : Limits → List ℕ → ℕ → Type 0
+IsPlace limits ticket at = (p : List ℕ) × (a : ℕ) × (StandsAt limits ticket at p a ⊎ EndsAt limits ticket at p a)
+
+-- Some octets have led there, and this is said of all of them that are no envelope, and of those that are one.
+pub record IsSaid (limits : Limits) (ticket : List ℕ) (at : ℕ) (stands ends : List ℕ → ℕ → Type 0) : Type 0 where
+  pub some : IsPlace limits ticket at
+  pub open_octets : (p : List ℕ) (a : ℕ) → StandsAt limits ticket at p a → stands p a
+  pub envelopes : (p : List ℕ) (a : ℕ) → EndsAt limits ticket at p a → ends p a
+
+-- ---- what a piece comes to
+
+-- the text of events, its lines joined by LF
+abbrev pub text_for : List StoryEvent → List ℕ
+text_for more = map octet_for more
+
+-- Of these octets, after those, this text is delivered.
+abbrev pub DeliversText : List ℕ → List ℕ → List ℕ → Type 0
+DeliversText p octets text = (more : List StoryEvent) × Delivers p octets more × (text ≡ text_for more)
+
+-- Every layer can continue after the piece; the text is what is delivered of it, and the ticket that of all octets.
+pub record GoesOn (limits : Limits) (piece : List ℕ) (octet : ℕ) (text next : List ℕ) (p : List ℕ) (a : ℕ) : Type 0 where
+  pub is_open : IsOpen limits (p ++ piece)
+  pub delivers : DeliversText p piece text
+  pub ticket : IsTicketOf (p ++ piece) next
+  pub counts : octet ≡ raised a (length piece)
+
+-- An envelope ends after `used` octets of the piece.
+pub record Finishes (limits : Limits) (piece : List ℕ) (octet used : ℕ) (text next : List ℕ) (p : List ℕ) (a : ℕ) : Type 0 where
+  pub fits : used ≤ length piece
+  pub value : Value
+  pub envelope : IsEnvelopeWithin limits (p ++ take used piece) value
+  pub delivers : DeliversText p (take used piece) text
+  pub ticket : IsTicketOf (p ++ take used piece) next
+  pub counts : octet ≡ raised a used
+
+-- An envelope has ended before: no octet is used.
+pub record HasEnded (octet used : ℕ) (text next : List ℕ) (p : List ℕ) (a : ℕ) : Type 0 where
+  pub unused : used ≡ 0
+  pub no_text : text ≡ []
+  pub ticket : IsTicketOf p next
+  pub counts : octet ≡ a
+
+-- An octet of the piece is refused; the text is what is delivered of those before it.
+pub record Refuses (limits : Limits) (piece : List ℕ) (e : Refusal) (text : List ℕ) (p : List ℕ) (a : ℕ) : Type 0 where
+  pub more : List StoryEvent
+  pub refused : IsRefusedIn limits p a piece more e
+  pub text_is : text ≡ text_for more
+  pub by_octets : e.cause ≢ Sink
+
+-- what a piece comes to: it was used, or up to the end of an envelope, or one of its octets is refused; or the ticket is refused, or
+-- memory
+pub data Outcome : Type 0 where
+  More : (octet used : ℕ) → (text next : List ℕ) → Outcome
+  Done : (octet used : ℕ) → (text next : List ℕ) → Outcome
+  Refused : (refusal : Refusal) → (text : List ℕ) → Outcome
+  BadTicket : (fault : TicketFault) → Outcome
+  NoMemory : Outcome
+
+-- It comes to this of the piece, from the place of the ticket on.
+abbrev pub IsOutcome : Limits → List ℕ → ℕ → List ℕ → Outcome → Type 0
+IsOutcome limits ticket at piece (More octet used text next) =
+    IsSaid limits ticket at (GoesOn limits piece octet text next) (λ p a. ⊥) × (used ≡ length piece)
+IsOutcome limits ticket at piece (Done octet used text next) =
+    IsSaid limits ticket at (Finishes limits piece octet used text next) (HasEnded octet used text next)
+IsOutcome limits ticket at piece (Refused e text) = IsSaid limits ticket at (Refuses limits piece e text) (λ p a. ⊥)
+IsOutcome limits ticket at piece (BadTicket fault) = (ticket ≢ []) × IsRestoreFault limits ticket fault
+IsOutcome limits ticket at piece NoMemory = Unit {0}
+
+-- ---- the answer
+
+-- the octets for the two buffers
+abbrev pub text_of : Outcome → List ℕ
+text_of (More octet used text next) = text
+text_of (Done octet used text next) = text
+text_of (Refused e text) = text
+text_of (BadTicket fault) = []
+text_of NoMemory = []
+
+abbrev pub next_of : Outcome → List ℕ
+next_of (More octet used text next) = next
+next_of (Done octet used text next) = next
+next_of (Refused e text) = []
+next_of (BadTicket fault) = []
+next_of NoMemory = []
+
+-- the answer that tells it
+abbrev pub answer_of : Outcome → IimAnswer
+answer_of (More octet used text next) = record (status_answer status.more) { octet = octet; used = used; written = length text; ticket = length next }
+answer_of (Done octet used text next) = record (status_answer status.done) { octet = octet; used = used; written = length text; ticket = length next }
+answer_of (Refused e text) = record (refusal_answer status.refused e) { written = length text }
+answer_of (BadTicket fault) = ticket_answer fault
+answer_of NoMemory = status_answer status.no_memory
+
+-- the answer where a buffer is too short
+abbrev pub short_answer : List ℕ → List ℕ → IimAnswer
+short_answer text next = record (status_answer status.short) { written = counted text; ticket = length next }
+
+-- Both buffers have room, the octets stand in them, and the answer tells the outcome.
+pub record IsTold (o : Outcome) (text_out ticket_out : List ℕ) (told : IimAnswer) : Type 0 where
+  pub text_fits : length (text_of o) ≤ length text_out
+  pub ticket_fits : length (next_of o) ≤ length ticket_out
+  pub answer : told ≡ answer_of o
+  pub text : take (length (text_of o)) text_out ≡ text_of o
+  pub ticket : take (length (next_of o)) ticket_out ≡ next_of o
+
+-- One of them has not.
+pub record IsShort (o : Outcome) (text_out ticket_out : List ℕ) (told : IimAnswer) : Type 0 where
+  pub lacks : (length text_out < length (text_of o)) ⊎ (length ticket_out < length (next_of o))
+  pub answer : told ≡ short_answer (text_of o) (next_of o)
+
+abbrev pub IsAnswered : Outcome → List ℕ → List ℕ → IimAnswer → Type 0
+IsAnswered o text_out ticket_out told = IsTold o text_out ticket_out told ⊎ IsShort o text_out ticket_out told
+
+-- The piece is fed from the place of the ticket on, and what it comes to is answered.
+abbrev pub IsFed : Limits → List ℕ → ℕ → List ℕ → List ℕ → List ℕ → IimAnswer → Type 0
+IsFed limits ticket at piece text_out ticket_out told = (o : Outcome) × IsOutcome limits ticket at piece o × IsAnswered o text_out ticket_out told
+
+-- ---- the end of the input
+
+-- The octets are truncated.
+abbrev pub IsCutShort : IimAnswer → List ℕ → ℕ → Type 0
+IsCutShort told p a = (e : Refusal) × IsTruncatedAt p a e × (told ≡ refusal_answer status.truncated e)
+
+-- what it comes to that the input ends at the place of the ticket
+abbrev pub IsEnd : Limits → List ℕ → ℕ → IimAnswer → Type 0
+IsEnd limits ticket at told =
+    IsSaid limits ticket at (IsCutShort told) (λ p a. told ≡ record (status_answer status.done) { octet = a })
+    ⊎ ((fault : TicketFault) × (ticket ≢ []) × IsRestoreFault limits ticket fault × (told ≡ ticket_answer fault))
+    ⊎ (told ≡ status_answer status.no_memory)

@@ -1,0 +1,174 @@
+-- The names that are told by numbers.
+use Rattle.std.specs.Prelude.{◌≡◌, ℕ, ◌+◌, ◌<◌, ◌≤◌, ◌==◌, ◌&&◌, ◌⊎◌, Bool, List, [], ◌∷◌, ◌++◌, length, drop, codes, Option, Some, None}
+use Rattle.std.specs.List.{find}
+use Rattle.std.specs.Option.{option_map}
+use Rattle.iim_unpack.specs.Format.Names.{cause_name, cause_number, layer_name}
+use Rattle.iim_unpack.specs.declared.refusal.Cause.TheVariants as causes
+use Rattle.iim_unpack.specs.declared.refusal.Cause.{Cause}
+use Rattle.iim_unpack.specs.declared.refusal.Layer.TheVariants as layers
+use Rattle.iim_unpack.specs.declared.refusal.Layer.{Layer}
+use Rattle.iim_script.specs.Format.Causes as script_words
+use Rattle.iim_script.specs.declared.fault.ScriptCause.{ScriptCause}
+use Rattle.iim_script.specs.declared.fault.ScriptCause.TheVariants as script
+use Rattle.iim_object.specs.Format.PackCauses.{pack_number}
+use Rattle.iim_object.specs.declared.writing.cause.PackCause.TheVariants as packs
+use Rattle.iim_unpack.specs.declared.ticket.fault.TicketFault.TheVariants as tickets
+use Rattle.iim_c.specs.Format.Answers.{layer_number, ticket_number}
+
+-- ---- tables
+
+-- a name and its number
+pub record Named : Type 0 where
+  pub number : ℕ
+  pub name : List ℕ
+
+abbrev pub named : ℕ → List ℕ → Named
+named number name = record { number = number; name = name }
+
+-- the name of the first entry with that number
+abbrev pub name_in : List Named → ℕ → Option (List ℕ)
+name_in names number = option_map (λ e. e.name) (find (λ e. e.number == number) names)
+
+-- a cause of octets, of a script
+abbrev pub of_octets : Cause → Named
+of_octets cause = named (cause_number cause) (cause_name cause)
+
+abbrev pub of_script : ScriptCause → Named
+of_script cause = named (script_words.cause_number cause) (script_words.cause_name cause)
+
+abbrev pub of_layer : Layer → Named
+of_layer layer = named (layer_number layer) (layer_name layer)
+
+-- the causes of octets, of packing, of scripts and of tickets
+unfoldable pub cause_names : List Named
+cause_names =
+    of_octets causes.Marker
+    ∷ of_octets causes.CountForm
+    ∷ of_octets causes.Truncated
+    ∷ of_octets causes.RecordOrder
+    ∷ of_octets causes.UnknownDataset
+    ∷ of_octets causes.Repeated
+    ∷ of_octets causes.CountRange
+    ∷ of_octets causes.Missing
+    ∷ of_octets causes.BadValue
+    ∷ of_octets causes.FileFormat
+    ∷ of_octets causes.ModeClash
+    ∷ of_octets causes.SizeClash
+    ∷ of_octets causes.SubfileTooLong
+    ∷ of_octets causes.PastSize
+    ∷ of_octets causes.Short
+    ∷ of_octets causes.ConfirmedWrong
+    ∷ of_octets causes.BadOctet
+    ∷ of_octets causes.Unfinished
+    ∷ of_octets causes.LoneReturn
+    ∷ of_octets causes.ControlOctet
+    ∷ of_octets causes.HeaderFull
+    ∷ of_octets causes.TooManyFields
+    ∷ of_octets causes.TooManySubfiles
+    ∷ of_octets causes.Sink
+    ∷ of_octets causes.Failed
+    ∷ of_script script.OutOfMemory
+    ∷ named (pack_number packs.PastAnnounced) (codes "PastAnnounced")
+    ∷ named (pack_number packs.ShortOfAnnounced) (codes "ShortOfAnnounced")
+    ∷ of_script script.BadTextOctet
+    ∷ of_script script.BadTrailer
+    ∷ named (pack_number packs.Write) (codes "Write")
+    ∷ named (pack_number packs.Failed) (codes "Failed")
+    ∷ of_script script.ScriptLine
+    ∷ of_script script.ScriptTooLong
+    ∷ named (ticket_number tickets.Form) (codes "Form")
+    ∷ named (ticket_number tickets.Version) (codes "Version")
+    ∷ named (ticket_number tickets.Impossible) (codes "Impossible")
+    ∷ []
+
+unfoldable pub cause_named : ℕ → Option (List ℕ)
+cause_named number = name_in cause_names number
+
+-- the layers
+unfoldable pub layer_names : List Named
+layer_names =
+    of_layer layers.Dataset ∷ of_layer layers.Record ∷ of_layer layers.Limits ∷ of_layer layers.Object ∷ of_layer layers.Message
+    ∷ of_layer layers.Story ∷ of_layer layers.Outside ∷ []
+
+unfoldable pub layer_named : ℕ → Option (List ℕ)
+layer_named number = name_in layer_names number
+
+-- a dataset and its name
+pub record NamedDataset : Type 0 where
+  pub rec : ℕ
+  pub set : ℕ
+  pub name : List ℕ
+
+abbrev pub entry : ℕ → ℕ → List ℕ → NamedDataset
+entry rec set name = record { rec = rec; set = set; name = name }
+
+-- the entry is that of the record and number
+abbrev pub is_for : ℕ → ℕ → NamedDataset → Bool
+is_for rec set e = (e.rec == rec) && (e.set == set)
+
+-- the datasets of the tables by the names of the standard
+unfoldable pub dataset_names : List NamedDataset
+dataset_names =
+    entry 1 0 (codes "Model Version")
+    ∷ entry 1 5 (codes "Destination")
+    ∷ entry 1 20 (codes "File Format")
+    ∷ entry 1 22 (codes "File Format Version")
+    ∷ entry 1 30 (codes "Service Identifier")
+    ∷ entry 1 40 (codes "Envelope Number")
+    ∷ entry 1 50 (codes "Product I.D.")
+    ∷ entry 1 60 (codes "Envelope Priority")
+    ∷ entry 1 70 (codes "Date Sent")
+    ∷ entry 1 80 (codes "Time Sent")
+    ∷ entry 1 90 (codes "Coded Character Set")
+    ∷ entry 1 100 (codes "Unique Name of Object")
+    ∷ entry 2 0 (codes "Record Version")
+    ∷ entry 2 5 (codes "Object Name")
+    ∷ entry 2 7 (codes "Edit Status")
+    ∷ entry 2 10 (codes "Urgency")
+    ∷ entry 2 15 (codes "Category")
+    ∷ entry 2 20 (codes "Supplemental Category")
+    ∷ entry 2 22 (codes "Fixture Identifier")
+    ∷ entry 2 25 (codes "Keywords")
+    ∷ entry 2 30 (codes "Release Date")
+    ∷ entry 2 35 (codes "Release Time")
+    ∷ entry 2 37 (codes "Expiration Date")
+    ∷ entry 2 38 (codes "Expiration Time")
+    ∷ entry 2 40 (codes "Special Instructions")
+    ∷ entry 2 55 (codes "Date Created")
+    ∷ entry 2 60 (codes "Time Created")
+    ∷ entry 2 80 (codes "By-line")
+    ∷ entry 2 85 (codes "By-line Title")
+    ∷ entry 2 90 (codes "City")
+    ∷ entry 2 95 (codes "Province/State")
+    ∷ entry 2 100 (codes "Country Code")
+    ∷ entry 2 101 (codes "Country Name")
+    ∷ entry 2 103 (codes "Original Transmission Reference")
+    ∷ entry 2 105 (codes "Headline")
+    ∷ entry 2 110 (codes "Credit")
+    ∷ entry 2 115 (codes "Source")
+    ∷ entry 2 116 (codes "Copyright Notice")
+    ∷ entry 2 120 (codes "Caption/Abstract")
+    ∷ entry 2 122 (codes "Writer/Editor")
+    ∷ entry 7 10 (codes "Size Mode")
+    ∷ entry 7 20 (codes "Max Subfile Size")
+    ∷ entry 7 90 (codes "ObjectData Size Announced")
+    ∷ entry 7 95 (codes "Maximum ObjectData Size")
+    ∷ entry 8 10 (codes "Subfile")
+    ∷ entry 9 10 (codes "Confirmed ObjectData Size")
+    ∷ []
+
+unfoldable pub dataset_named : ℕ → ℕ → Option (List ℕ)
+dataset_named rec set = option_map (λ e. e.name) (find (is_for rec set) dataset_names)
+
+-- ---- what is written
+
+-- the name, or no octets
+abbrev pub name_or_none : Option (List ℕ) → List ℕ
+name_or_none (Some name) = name
+name_or_none None = []
+
+-- The name with a NUL after it stands at the front of the buffer, where that has room for both, and the rest is as it was; the number
+-- is that of its octets.
+abbrev pub IsNamed : List ℕ → List ℕ → List ℕ → ℕ → Type 0
+IsNamed name old new count = (count ≡ length name)
+    × (((length name < length old) × (new ≡ (name ++ 0 ∷ []) ++ drop (length name + 1) old)) ⊎ ((length old ≤ length name) × (new ≡ old)))

@@ -1,0 +1,111 @@
+-- What a ticket tells, and where in it.
+use Rattle.std.specs.Prelude.{◌≡◌, ℕ, ◌+◌, ◌≤◌, ◌⊎◌, Bool, true, false, List, [], ◌∷◌, length, take, drop, Option, Some, None}
+use Rattle.iim_dataset.specs.Format.Datasets.{Dataset}
+use Rattle.iim_unpack.specs.Format.TicketForm.{Split, SplitsTicket, IsFaultOf}
+use Rattle.iim_unpack.specs.declared.ticket.fault.TicketFault.{TicketFault}
+use Rattle.iim_c.specs.declared.answer.IimAnswer.{IimAnswer}
+use Rattle.iim_c.specs.declared.field.IimDataset.{IimDataset}
+use Rattle.iim_c.specs.declared.header.IimMessage.{IimMessage}
+use Rattle.iim_c.specs.declared.sizes.IimObject.{IimObject}
+use Rattle.iim_c.specs.declared.span.IimSpan.{IimSpan}
+use Rattle.iim_c.specs.Format.Answers.{status_answer, ticket_answer}
+use Rattle.iim_c.specs.Format.Statuses as status
+
+-- ---- places in a ticket
+
+-- The octets stand there.
+pub record StandAt (ticket : List ℕ) (span : IimSpan) (octets : List ℕ) : Type 0 where
+  pub within : span.offset + span.count ≤ length ticket
+  pub octets_are : take span.count (drop span.offset ticket) ≡ octets
+
+abbrev pub no_span : IimSpan
+no_span = record { offset = 0; count = 0 }
+
+-- The octets are no ticket, and the answer tells why.
+abbrev pub IsNoTicket : List ℕ → IimAnswer → Type 0
+IsNoTicket ticket told = (fault : TicketFault) × IsFaultOf ticket fault × (told ≡ ticket_answer fault)
+
+-- ---- datasets
+
+-- The dataset that comes after the first n, and where its data stand.
+pub record IsFieldAt (ticket : List ℕ) (s : Split) (n : ℕ) (found : IimDataset) : Type 0 where
+  pub field : Dataset
+  pub after : List Dataset
+  pub is_next : drop n s.fields ≡ field ∷ after
+  pub rec_is : found.rec ≡ field.rec
+  pub set_is : found.set ≡ field.set
+  pub stands : StandAt ticket found.data field.octets
+
+abbrev pub no_dataset : IimDataset
+no_dataset = record { rec = 0; set = 0; «data» = no_span }
+
+-- The ticket tells more than n datasets, and this is the next one; or it tells no more; or it is none.
+abbrev pub IsField : List ℕ → ℕ → IimDataset → IimAnswer → Type 0
+IsField ticket n found told =
+    ((s : Split) × SplitsTicket ticket s × IsFieldAt ticket s n found × (told ≡ status_answer status.done))
+    ⊎ ((s : Split) × SplitsTicket ticket s × (length s.fields ≤ n) × (found ≡ no_dataset) × (told ≡ status_answer status.none))
+    ⊎ (IsNoTicket ticket told × (found ≡ no_dataset))
+
+-- ---- header and trailer
+
+-- The texts stand where the message says.
+abbrev pub TextsStand : List ℕ → List (List ℕ) → IimMessage → Type 0
+TextsStand ticket (source ∷ number ∷ priority ∷ category ∷ words ∷ info ∷ trailer ∷ []) m =
+    StandAt ticket m.source source × StandAt ticket m.number number × StandAt ticket m.priority priority × StandAt ticket m.category category
+    × StandAt ticket m.words words × StandAt ticket m.info info × StandAt ticket m.trailer trailer
+TextsStand ticket _ m = ⊥
+
+abbrev pub IsMessageOf : List ℕ → Split → IimMessage → Type 0
+IsMessageOf ticket s m = (m.part ≡ s.part) × TextsStand ticket s.texts m
+
+abbrev pub no_message : IimMessage
+no_message = record {
+  part = 0;
+  source = no_span;
+  number = no_span;
+  priority = no_span;
+  category = no_span;
+  words = no_span;
+  info = no_span;
+  trailer = no_span;
+}
+
+-- The ticket tells this of the message; or it is none.
+abbrev pub IsHeader : List ℕ → IimMessage → IimAnswer → Type 0
+IsHeader ticket m told =
+    ((s : Split) × SplitsTicket ticket s × IsMessageOf ticket s m × (told ≡ status_answer status.done)) ⊎ (IsNoTicket ticket told × (m ≡ no_message))
+
+-- ---- sizes
+
+-- The number is this, or has not come and is 0.
+abbrev pub IsNumber : Option ℕ → Bool → ℕ → Type 0
+IsNumber (Some n) has number = (has ≡ true) × (number ≡ n)
+IsNumber None has number = (has ≡ false) × (number ≡ 0)
+
+abbrev pub AreNumbers : List (Option ℕ) → IimObject → Type 0
+AreNumbers (mode ∷ subfile ∷ announced ∷ maximum ∷ []) o =
+    IsNumber mode o.has_mode o.mode × IsNumber subfile o.has_subfile o.subfile × IsNumber announced o.has_announced o.announced
+    × IsNumber maximum o.has_maximum o.maximum
+AreNumbers _ o = ⊥
+
+abbrev pub IsObjectOf : Split → IimObject → Type 0
+IsObjectOf s o = AreNumbers s.numbers o × (o.subfiles ≡ s.heads) × (o.octets ≡ s.taken)
+
+abbrev pub no_object : IimObject
+no_object = record {
+  has_mode = false;
+  has_subfile = false;
+  has_announced = false;
+  has_maximum = false;
+  mode = 0;
+  subfile = 0;
+  announced = 0;
+  maximum = 0;
+  subfiles = 0;
+  octets = 0;
+}
+
+-- The ticket tells these sizes; or it is none.
+abbrev pub AreSizes : List ℕ → IimObject → IimAnswer → Type 0
+AreSizes ticket o told =
+    ((s : Split) × SplitsTicket ticket s × IsObjectOf s o × (told ≡ status_answer status.done)) ⊎ (IsNoTicket ticket told × (o ≡ no_object))

@@ -1,0 +1,26 @@
+-- The steps of a call that packs.
+use Rattle.std.specs.Prelude.{◌≡◌, ℕ, List, []}
+use Rattle.iim_commands.specs.declared.packing.PackFault.{PackFault}
+use Rattle.iim_commands.specs.declared.packing.PackFault.TheVariants.{Refused, Around}
+use Rattle.iim_c.specs.declared.answer.IimAnswer.{IimAnswer}
+use Rattle.iim_c.specs.declared.packing.IimPacking.{IimPacking}
+use Rattle.iim_c.specs.Format.Answers.{status_answer}
+use Rattle.iim_c.specs.Format.Packing.{PackOutcome, IsPackOutcome, form_of, pack_answer}
+use Rattle.iim_c.specs.Format.Packing as packing
+use Rattle.iim_c.specs.Format.Statuses as status
+
+-- The answer is that for the fault.
+abbrev pub IsUnpackedFault : PackFault → IimAnswer → Type 0
+IsUnpackedFault (Refused line number name) told = told ≡ pack_answer (packing.Refused line number)
+IsUnpackedFault (Around fault) told = told ≡ status_answer status.no_memory
+
+-- There is no form, and the answer tells why.
+pub record IsUnpacked (p : IimPacking) (octets : List ℕ) (told : IimAnswer) : Type 0 where
+  pub outcome : PackOutcome
+  pub is_outcome : IsPackOutcome p octets outcome
+  pub no_form : form_of outcome ≡ []
+  pub answer : told ≡ pack_answer outcome
+
+-- the answer for a packed form of so many octets
+abbrev pub sized : ℕ → ℕ → IimAnswer
+sized status written = record (status_answer status) { written = written }

@@ -1,0 +1,26 @@
+-- The laws of a sink that writes into a buffer, handed in by its impl.
+use Rattle.std.proofs.Common.{◌≡◌, ℕ, List, [], ◌∷◌, ◌++◌, map, refl, sym, ap, subst, ◌∙◌, append-nil, append_assoc}
+use Rattle.wire_story.specs.Format.Delivery.{StoryEvent, octet_for}
+use Rattle.iim_c.specs.declared.text_out.TextOut.{TextOut}
+use Rattle.iim_c.specs.Format.Writing.{HasTaken, WritesOctets, WritesLines}
+
+map-append : (xs ys : List StoryEvent) → map octet_for (xs ++ ys) ≡ map octet_for xs ++ map octet_for ys
+map-append [] ys = refl
+map-append (x ∷ xs) ys = ap (λ (t : List ℕ). octet_for x ∷ t) (map-append xs ys)
+
+pub writes_nothing : (sink : TextOut) → WritesLines sink [] sink
+writes_nothing sink = record {
+  same = refl;
+  room = refl;
+  taken = λ before taken. subst (HasTaken sink.out.now sink.count) (sym (append-nil before)) taken;
+}
+
+pub writes_joined : (a b c : TextOut) (xs ys : List StoryEvent) → WritesLines a xs b → WritesLines b ys c → WritesLines a (xs ++ ys) c
+writes_joined a b c xs ys first then = record {
+  same = then.same ∙ first.same;
+  room = then.room ∙ first.room;
+  taken = λ before taken.
+      subst (HasTaken c.out.now c.count)
+      (append_assoc before (map octet_for xs) (map octet_for ys) ∙ ap (λ (t : List ℕ). before ++ t) (sym (map-append xs ys)))
+      (then.taken (before ++ map octet_for xs) (first.taken before taken));
+}

@@ -1,0 +1,52 @@
+//! An envelope that lies in memory.
+
+ghost use Rattle.std.specs.Prelude.{◌≡◌};
+ghost use Rattle.iim_c.specs.Format.Checking.{IsChecked, IsOnly, limits_for, finished};
+
+use crate::answer::{IimAnswer, refusal_answer, status_answer};
+use crate::limits::IimLimits;
+use crate::status::{DONE, NO_MEMORY, REFUSED, TRUNCATED};
+use iim_fields::Limits;
+use iim_unpack::laws::streams_have_one_answer;
+use iim_unpack::{Progress, Unpacker};
+use std::alloc::Global;
+use wire_story::Discard;
+
+/// The answer for an envelope of so many octets.
+fn finished(used: usize) -> IimAnswer
+    ensures { result ≡ finished used }
+{
+    IimAnswer {
+        octet: used as u64,
+        used,
+        ..status_answer(DONE)
+    }
+}
+
+/// What the octets begin with.
+fn checked(alloc: Global, limits: Limits, octets: &[u8]) -> IimAnswer
+    ensures answer { IsChecked limits octets.now result }
+    ensures only { IsOnly limits octets.now result }
+{
+    streams_have_one_answer();
+    let Ok(mut unpacker) = Unpacker::new(alloc, limits) else {
+        return status_answer(NO_MEMORY);
+    };
+    match unpacker.feed(octets, &mut Discard) {
+        Ok(Progress::Done { used }) => finished(used),
+        Ok(Progress::More) => match unpacker.end_of_input() {
+            Some(refusal) => refusal_answer(TRUNCATED, refusal),
+            None => unreachable!(),
+        },
+        Err(refusal) => refusal_answer(REFUSED, refusal),
+    }
+}
+
+/// Tells what the octets begin with: an envelope, or why there is none.
+#[unsafe(no_mangle)]
+pub extern "C" fn iim_check(alloc: Global, limits: IimLimits, octets: &[u8], answer: &mut IimAnswer)
+    ensures answer { IsChecked (limits_for limits) octets.now answer.new }
+    ensures only { IsOnly (limits_for limits) octets.now answer.new }
+{
+    *answer = checked(alloc, limits.told(), octets);
+}

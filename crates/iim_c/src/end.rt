@@ -1,0 +1,46 @@
+//! The end of the input, at the place of a ticket.
+
+ghost use Rattle.iim_c.specs.Format.Checking.{limits_for};
+ghost use Rattle.iim_c.specs.Format.Feeding.{IsEnd};
+
+use crate::answer::{IimAnswer, refusal_answer, status_answer, ticket_answer};
+use crate::begin::begin;
+use crate::limits::IimLimits;
+use crate::status::{DONE, TRUNCATED};
+use iim_fields::Limits;
+use iim_unpack::laws::{admitted_octets_are_framed, no_envelope_is_empty, tickets_tell_one_place};
+use std::alloc::Global;
+
+/// What it means that the input ends here.
+fn ended(alloc: Global, limits: Limits, ticket: &[u8], at: u64) -> IimAnswer
+    ensures { IsEnd limits ticket.now at result }
+{
+    tickets_tell_one_place();
+    no_envelope_is_empty();
+    admitted_octets_are_framed();
+    let unpacker = match begin(alloc, limits, ticket, at) {
+        Ok(unpacker) => unpacker,
+        Err(fault) => return ticket_answer(fault),
+    };
+    match unpacker.end_of_input() {
+        Some(refusal) => refusal_answer(TRUNCATED, refusal),
+        None => IimAnswer {
+            octet: unpacker.octets(),
+            ..status_answer(DONE)
+        },
+    }
+}
+
+/// Tells what it means that the input ends after the octets that have led to a ticket: the envelope has ended, or is truncated.
+#[unsafe(no_mangle)]
+pub extern "C" fn iim_end(
+    alloc: Global,
+    limits: IimLimits,
+    ticket: &[u8],
+    at: u64,
+    answer: &mut IimAnswer,
+)
+    ensures { IsEnd (limits_for limits) ticket.now at answer.new }
+{
+    *answer = ended(alloc, limits.told(), ticket, at);
+}

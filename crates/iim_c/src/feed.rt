@@ -1,0 +1,192 @@
+//! A piece of an envelope, from the place of a ticket on.
+
+ghost use Rattle.std.specs.Prelude.{◌≡◌, ◌≤◌, ◌↔◌, length, None, Ok, IsTrue, IfOk, IfErr, OnOk};
+ghost use Rattle.iim_unpack.specs.States.Unpacking.{IsDone, limits_in};
+ghost use Rattle.iim_c.specs.Format.Checking.{limits_for};
+ghost use Rattle.iim_c.specs.Format.Feeding.{IsFed};
+ghost use Rattle.iim_c.specs.Format.Writing.{StandIn};
+ghost use Rattle.iim_c.specs.Steps.{HasFedText, HasRefusedText, IsSaved, refused_with, short_with, used_in};
+
+use crate::answer::{IimAnswer, refusal_answer, status_answer, ticket_answer};
+use crate::begin::begin;
+use crate::limits::IimLimits;
+use crate::status::{DONE, MORE, NO_MEMORY, REFUSED, SHORT};
+use crate::text_out::TextOut;
+use iim_fields::Limits;
+use iim_unpack::laws::{admitted_octets_are_framed, no_envelope_is_empty, tickets_tell_one_place};
+use iim_unpack::{Progress, Refusal, Unpacker};
+use std::alloc::Global;
+
+/// The end of a loan: what it is used on stays as it is.
+fn give_back(lent: &mut [u8])
+    ensures { lent.new ≡ lent.old }
+{}
+
+/// `feed` to a buffer of which nothing is used, whose reference stays what it is.
+fn feed_sink(
+    unpacker: &mut Unpacker,
+    piece: &[u8],
+    sink: &mut TextOut<'_>,
+) -> Result<Progress, Refusal>
+    requires { sink.old.count ≡ 0 }
+    ensures same { sink.new.out.ghost_name ≡ sink.old.out.ghost_name }
+    ensures goes { IfOk result (HasFedText unpacker.old unpacker.new piece.now sink.new.out.now sink.new.count) }
+    ensures refused { IfErr result (HasRefusedText unpacker.old piece.now sink.new.out.now sink.new.count) }
+    ensures done { IsDone unpacker.old → (result ≡ Ok (Progress.Done 0)) × (unpacker.new ≡ unpacker.old)
+        × (sink.new.count ≡ 0) }
+    ensures limits { unpacker.old.refused ≡ None → OnOk result (limits_in unpacker.new ≡ limits_in unpacker.old) }
+{
+    unpacker.feed(piece, sink)
+}
+
+/// Feeds a piece, and writes what is delivered of its text: answers also how many octets that has.
+fn feed_text(
+    unpacker: &mut Unpacker,
+    piece: &[u8],
+    out: &mut [u8],
+) -> (Result<Progress, Refusal>, usize)
+    ensures goes { IfOk result.0 (HasFedText unpacker.old unpacker.new piece.now out.new result.1) }
+    ensures refused { IfErr result.0 (HasRefusedText unpacker.old piece.now out.new result.1) }
+    ensures done { IsDone unpacker.old → (result.0 ≡ Ok (Progress.Done 0)) × (unpacker.new ≡ unpacker.old)
+        × (result.1 ≡ 0) }
+    ensures limits { unpacker.old.refused ≡ None → OnOk result.0 (limits_in unpacker.new ≡ limits_in unpacker.old) }
+{
+    let mut sink = TextOut { out, count: 0 };
+    let answer = feed_sink(unpacker, piece, &mut sink);
+    let TextOut { out: same, count } = sink;
+    give_back(same);
+    (answer, count)
+}
+
+/// The answer where a buffer is too short.
+fn short_answer(written: usize, ticket: usize) -> IimAnswer
+    ensures { result ≡ short_with written ticket }
+{
+    IimAnswer {
+        written,
+        ticket,
+        ..status_answer(SHORT)
+    }
+}
+
+/// The answer for a refusal, of whose piece so many octets of text are delivered.
+fn refused(refusal: Refusal, written: usize, room: usize) -> IimAnswer
+    ensures { result ≡ refused_with refusal written room }
+{
+    if written > room {
+        return short_answer(written, 0);
+    }
+    IimAnswer {
+        written,
+        ..refusal_answer(REFUSED, refusal)
+    }
+}
+
+/// The status for progress, and how many octets of the piece were used.
+fn used_of(progress: Progress, piece: usize) -> (u8, usize)
+    ensures { result ≡ used_in progress piece }
+{
+    match progress {
+        Progress::More => (MORE, piece),
+        Progress::Done { used } => (DONE, used),
+    }
+}
+
+/// Writes a ticket into a buffer, where it has room.
+fn put_ticket(ticket: &[u8], out: &mut [u8]) -> bool
+    ensures fits { IsTrue result ↔ (length ticket.now ≤ length out.old) }
+    ensures stands { StandIn out.new ticket.now }
+{
+    if ticket.len() > out.len() {
+        return false;
+    }
+    out[..ticket.len()].copy_from_slice(ticket);
+    true
+}
+
+/// The answer for progress: writes the ticket of the place that the unpacker has come to.
+fn saved(
+    alloc: Global,
+    unpacker: &Unpacker,
+    told: (u8, usize),
+    written: usize,
+    room: usize,
+    out: &mut [u8],
+) -> IimAnswer
+    requires { unpacker.now.refused ≡ None }
+    ensures { IsSaved unpacker.now told written room out.new result }
+{
+    let Ok(ticket) = unpacker.save(alloc) else {
+        return status_answer(NO_MEMORY);
+    };
+    let ticket = ticket.as_slice();
+    let fits = put_ticket(ticket, out);
+    if !fits || written > room {
+        return short_answer(written, ticket.len());
+    }
+    let (status, used) = told;
+    IimAnswer {
+        octet: unpacker.octets(),
+        used,
+        written,
+        ticket: ticket.len(),
+        ..status_answer(status)
+    }
+}
+
+/// The answer for a piece that is fed from the place of a ticket on.
+fn fed(
+    alloc: Global,
+    limits: Limits,
+    ticket: &[u8],
+    at: u64,
+    piece: &[u8],
+    text_out: &mut [u8],
+    ticket_out: &mut [u8],
+) -> IimAnswer
+    ensures { IsFed limits ticket.now at piece.now text_out.new ticket_out.new result }
+{
+    tickets_tell_one_place();
+    no_envelope_is_empty();
+    admitted_octets_are_framed();
+    let mut unpacker = match begin(alloc, limits, ticket, at) {
+        Ok(unpacker) => unpacker,
+        Err(fault) => return ticket_answer(fault),
+    };
+    let room = text_out.len();
+    let (answer, written) = feed_text(&mut unpacker, piece, text_out);
+    match answer {
+        Ok(progress) => {
+            let told = used_of(progress, piece.len());
+            saved(alloc, &unpacker, told, written, room, ticket_out)
+        }
+        Err(refusal) => refused(refusal, written, room),
+    }
+}
+
+/// Takes the next octets of an envelope, from the place of a ticket on, or of a new one where there is none: writes what is delivered
+/// of the text among them and the ticket of the place that they lead to, and tells how many were used. A ticket of an ended envelope
+/// tells its fields. Where a buffer is too short the answer tells the lengths that are needed, and the same call can be made again.
+#[unsafe(no_mangle)]
+pub extern "C" fn iim_feed(
+    alloc: Global,
+    limits: IimLimits,
+    ticket: &[u8],
+    at: u64,
+    piece: &[u8],
+    text_out: &mut [u8],
+    ticket_out: &mut [u8],
+    answer: &mut IimAnswer,
+)
+    ensures { IsFed (limits_for limits) ticket.now at piece.now text_out.new ticket_out.new answer.new }
+{
+    *answer = fed(
+        alloc,
+        limits.told(),
+        ticket,
+        at,
+        piece,
+        text_out,
+        ticket_out,
+    );
+}

@@ -1,0 +1,100 @@
+//! The datasets that a ticket tells.
+
+ghost use Rattle.std.specs.Prelude.{◌≡◌, ◌+◌, ◌^◌, ◌<◌, IfSome, IfNone};
+ghost use Rattle.iim_unpack.specs.Format.TicketForm.{SplitsTicket};
+ghost use Rattle.iim_unpack.specs.States.TicketsTold.{phase_told, split_told};
+ghost use Rattle.iim_c.specs.Format.TicketAnswers.{IsField};
+ghost use Rattle.iim_c.specs.TicketSteps.{IsFieldOf, HasFewer, begun_octets, fields_start};
+
+use crate::answer::{IimAnswer, status_answer, ticket_answer};
+use crate::span::{IimSpan, NO_SPAN};
+use crate::status::{DONE, NONE};
+use iim_unpack::{TicketFault, TicketParts, TicketPhase, split_ticket};
+
+/// A dataset of records 1 and 2.
+#[repr(C)]
+#[derive(Clone, Copy, Debug, PartialEq, Eq)]
+pub struct IimDataset {
+    /// Its record.
+    pub rec: u8,
+    /// Its number in that record.
+    pub set: u8,
+    /// Where its data stand in the ticket.
+    pub data: IimSpan,
+}
+
+/// No dataset.
+const NO_DATASET: IimDataset = IimDataset {
+    rec: 0,
+    set: 0,
+    data: NO_SPAN,
+};
+
+/// The octets of a dataset in a ticket that stand before its data: record, number and count.
+const HEAD_OCTETS: usize = 6;
+
+/// How many octets tell what is begun.
+fn begun_octets(version: u8, phase: &TicketPhase<'_>) -> usize
+    ensures count { result ≡ begun_octets version (phase_told phase.now) }
+    ensures few { result < 2 ^ 63 + 32 }
+{
+    let wide = if version == 1 { 4 } else { 8 };
+    match phase {
+        TicketPhase::Tag(held) => 2 + held.len(),
+        TicketPhase::Data { taken, .. } => 2 + 2 * wide + taken.len(),
+        TicketPhase::Ended => 1,
+    }
+}
+
+/// How many octets stand before the first dataset: name and version, the section, what is begun, and how many datasets there are.
+fn fields_start(parts: &TicketParts<'_>) -> usize
+    ensures { result ≡ fields_start (split_told parts.now) }
+{
+    5 + 1 + begun_octets(parts.version, &parts.phase) + 4
+}
+
+/// The dataset with the index `n`; None where there are no more.
+fn field_in(ticket: &[u8], parts: TicketParts<'_>, n: usize) -> Option<IimDataset>
+    requires { SplitsTicket ticket.now (split_told parts) }
+    ensures some { IfSome result (IsFieldOf ticket.now (split_told parts.entry) n) }
+    ensures none { IfNone result (HasFewer (split_told parts.entry) n) }
+{
+    let mut offset = fields_start(&parts);
+    let mut left = n;
+    let mut fields = parts.fields;
+    'walking: while let Some((rec, set, data)) = fields.next() {
+        offset += HEAD_OCTETS;
+        let count = data.len();
+        if left == 0 {
+            return Some(IimDataset {
+                rec,
+                set,
+                data: IimSpan { offset, count },
+            });
+        }
+        left -= 1;
+        offset += count;
+    }
+    None
+}
+
+/// Tells the dataset with the index `n` of those of records 1 and 2 that a ticket tells.
+#[unsafe(no_mangle)]
+pub extern "C" fn iim_field(
+    ticket: &[u8],
+    n: usize,
+    dataset: &mut IimDataset,
+    answer: &mut IimAnswer,
+)
+    ensures { IsField ticket.now n dataset.new answer.new }
+{
+    let (found, told) = match split_ticket(ticket) {
+        Ok(parts) => match field_in(ticket, parts, n) {
+            Some(found) => (found, status_answer(DONE)),
+            None => (NO_DATASET, status_answer(NONE)),
+        },
+        Err(fault) => (NO_DATASET, ticket_answer(fault)),
+    };
+    *dataset = found;
+    *answer = told;
+}

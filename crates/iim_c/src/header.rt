@@ -1,0 +1,95 @@
+//! The header and the trailer that a ticket tells.
+
+ghost use Rattle.std.specs.Prelude.{◌≡◌, ◌≤◌, length};
+ghost use Rattle.iim_unpack.specs.Format.TicketForm.{SplitsTicket};
+ghost use Rattle.iim_unpack.specs.States.TicketsTold.{split_told};
+ghost use Rattle.iim_c.specs.Format.TicketAnswers.{IsHeader, IsMessageOf};
+ghost use Rattle.iim_c.specs.TicketSteps.{span_before};
+
+use crate::answer::{IimAnswer, status_answer, ticket_answer};
+use crate::span::{IimSpan, NO_SPAN};
+use crate::status::DONE;
+use iim_unpack::{TicketParts, split_ticket};
+
+/// The header and the trailer of a message, as far as they have come.
+#[repr(C)]
+#[derive(Clone, Copy, Debug, PartialEq, Eq)]
+pub struct IimMessage {
+    /// The number of the part that the octets so far have led to.
+    pub part: u8,
+    /// The source.
+    pub source: IimSpan,
+    /// The number.
+    pub number: IimSpan,
+    /// The priority.
+    pub priority: IimSpan,
+    /// The category.
+    pub category: IimSpan,
+    /// The announced number of words.
+    pub words: IimSpan,
+    /// The info.
+    pub info: IimSpan,
+    /// The trailer.
+    pub trailer: IimSpan,
+}
+
+/// No message.
+const NO_MESSAGE: IimMessage = IimMessage {
+    part: 0,
+    source: NO_SPAN,
+    number: NO_SPAN,
+    priority: NO_SPAN,
+    category: NO_SPAN,
+    words: NO_SPAN,
+    info: NO_SPAN,
+    trailer: NO_SPAN,
+};
+
+/// Where a text stands that ends before the octet at `end`.
+fn span_before(end: usize, text: &[u8]) -> IimSpan
+    requires { length text.now ≤ end }
+    ensures { result ≡ span_before end text.now }
+{
+    IimSpan {
+        offset: end - text.len(),
+        count: text.len(),
+    }
+}
+
+/// The header and the trailer in a ticket of these parts. They end it, and before each text stands its length in one octet.
+fn message_in(ticket: &[u8], parts: &TicketParts<'_>) -> IimMessage
+    requires { SplitsTicket ticket.now (split_told parts.now) }
+    ensures { IsMessageOf ticket.now (split_told parts.now) result }
+{
+    let [source, number, priority, category, words, info, trailer] = parts.texts;
+    let trailer = span_before(ticket.len(), trailer);
+    let info = span_before(trailer.offset - 1, info);
+    let words = span_before(info.offset - 1, words);
+    let category = span_before(words.offset - 1, category);
+    let priority = span_before(category.offset - 1, priority);
+    let number = span_before(priority.offset - 1, number);
+    let source = span_before(number.offset - 1, source);
+    IimMessage {
+        part: parts.part,
+        source,
+        number,
+        priority,
+        category,
+        words,
+        info,
+        trailer,
+    }
+}
+
+/// Tells the header and the trailer of the message, as far as they have come.
+#[unsafe(no_mangle)]
+pub extern "C" fn iim_header(ticket: &[u8], message: &mut IimMessage, answer: &mut IimAnswer)
+    ensures { IsHeader ticket.now message.new answer.new }
+{
+    let (found, told) = match split_ticket(ticket) {
+        Ok(parts) => (message_in(ticket, &parts), status_answer(DONE)),
+        Err(fault) => (NO_MESSAGE, ticket_answer(fault)),
+    };
+    *message = found;
+    *answer = told;
+}

@@ -1,0 +1,89 @@
+//! Scripts, packed.
+
+ghost use Rattle.std.specs.Prelude.{◌≡◌, IfOk, IfErr};
+ghost use Rattle.iim_c.specs.Format.Packing.{IsPacked, IsSized, IsFormFor, asked_for};
+ghost use Rattle.iim_c.specs.PackSteps.{IsUnpacked, IsUnpackedFault, sized};
+
+use crate::answer::{IimAnswer, status_answer};
+use crate::bytes::put_front;
+use crate::packing::{IimPacking, request_for};
+use crate::status::{BAD_PACKING, DONE, NO_MEMORY, REFUSED, SHORT};
+use iim_commands::packing::{PackFault, pack_octets};
+use iim_dataset::FromWrite;
+use std::alloc::Global;
+
+/// The answer for what keeps an envelope from being packed. A write into memory fails for want of memory alone.
+fn fault_answer(fault: PackFault) -> IimAnswer
+    ensures { IsUnpackedFault fault result }
+{
+    match fault {
+        PackFault::Refused { line, number, .. } => IimAnswer {
+            octet: line,
+            cause: number,
+            ..status_answer(REFUSED)
+        },
+        PackFault::Around(_) => status_answer(NO_MEMORY),
+    }
+}
+
+/// The packed form of what a script tells; or the answer why there is none.
+fn packed(alloc: Global, packing: IimPacking, script: &[u8]) -> Result<Vec<u8>, IimAnswer>
+    ensures packed { IfOk result (λ form. IsFormFor (asked_for packing) script.now form.items) }
+    ensures unpacked { IfErr result (IsUnpacked packing script.now) }
+{
+    let Some(request) = request_for(packing) else {
+        return Err(status_answer(BAD_PACKING));
+    };
+    let output = FromWrite::new(Vec::new(alloc));
+    match pack_octets(alloc, request, script, output) {
+        Ok(output) => Ok(output.into_inner()),
+        Err((fault, _)) => Err(fault_answer(fault)),
+    }
+}
+
+/// The answer for a packed form of so many octets.
+fn sized(status: u8, written: usize) -> IimAnswer
+    ensures { result ≡ sized status written }
+{
+    IimAnswer {
+        written,
+        ..status_answer(status)
+    }
+}
+
+/// Writes the packed form of what a script tells into a buffer, where it has room for it.
+#[unsafe(no_mangle)]
+pub extern "C" fn iim_pack(
+    alloc: Global,
+    packing: IimPacking,
+    script: &[u8],
+    out: &mut [u8],
+    answer: &mut IimAnswer,
+)
+    ensures { IsPacked packing script.now out.old out.new answer.new }
+{
+    match packed(alloc, packing, script) {
+        Ok(form) if form.len() <= out.len() => {
+            put_front(out, form.as_slice());
+            *answer = sized(DONE, form.len());
+        }
+        Ok(form) => *answer = sized(SHORT, form.len()),
+        Err(told) => *answer = told,
+    }
+}
+
+/// Tells how many octets the packed form of what a script tells has.
+#[unsafe(no_mangle)]
+pub extern "C" fn iim_pack_size(
+    alloc: Global,
+    packing: IimPacking,
+    script: &[u8],
+    answer: &mut IimAnswer,
+)
+    ensures { IsSized packing script.now answer.new }
+{
+    match packed(alloc, packing, script) {
+        Ok(form) => *answer = sized(DONE, form.len()),
+        Err(told) => *answer = told,
+    }
+}

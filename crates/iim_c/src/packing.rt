@@ -1,0 +1,50 @@
+//! How an envelope is packed.
+
+ghost use Rattle.std.specs.Prelude.{IfSome, IfNone};
+ghost use Rattle.iim_c.specs.Format.Packing.{Asks, AsksNothing};
+
+use iim_commands::packing::PackRequest;
+use iim_object::{Plan, Size};
+
+/// The octets of a full subfile where no number is given.
+const DEFAULT_SUBFILE: u64 = 1_024;
+
+/// How an envelope is packed. A subfile of 0 octets stands for one of 1,024.
+#[repr(C)]
+#[derive(Clone, Copy, Debug, PartialEq, Eq)]
+pub struct IimPacking {
+    /// The octets of a full subfile, or 0.
+    pub subfile: u64,
+    /// Whether the size of the object is left unknown.
+    pub unknown: bool,
+    /// Whether a maximum is told of it.
+    pub has_max: bool,
+    /// The maximum.
+    pub max: u64,
+}
+
+/// The request for these. None where a maximum is told of a known size, or where a number is above the greatest size.
+pub fn request_for(packing: IimPacking) -> Option<PackRequest>
+    ensures request { IfSome result (Asks packing) }
+    ensures none { IfNone result (AsksNothing packing) }
+{
+    if packing.has_max && !packing.unknown {
+        return None;
+    }
+    let subfile = if packing.subfile == 0 {
+        DEFAULT_SUBFILE
+    } else {
+        packing.subfile
+    };
+    let max = if packing.has_max {
+        Some(packing.max)
+    } else {
+        None
+    };
+    Plan::new(subfile, Size::Unknown(max))?;
+    Some(PackRequest {
+        subfile,
+        unknown: packing.unknown,
+        max,
+    })
+}

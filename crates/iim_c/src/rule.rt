@@ -1,0 +1,106 @@
+//! What the tables say of a dataset.
+
+ghost use Rattle.std.specs.Prelude.{◌≡◌, ◌↔◌, IsTrue, is_some};
+ghost use Rattle.iim_tables.specs.Format.Rows.{Meets, row_of};
+ghost use Rattle.iim_c.specs.Format.Tables.{kind_number, duty_number, rule_of, rule_for};
+
+use iim_tables::{Duty, Kind, Row, admits, row};
+
+/// The row of a dataset.
+#[repr(C)]
+#[derive(Clone, Copy, Debug, PartialEq, Eq)]
+pub struct IimRule {
+    /// The least number of octets.
+    pub min: u64,
+    /// The greatest number of octets.
+    pub max: u64,
+    /// The number of the kind that the octets are of.
+    pub kind: u8,
+    /// The number of the duty.
+    pub duty: u8,
+    /// Whether the dataset may occur more than once.
+    pub repeats: bool,
+}
+
+/// No row.
+const NO_RULE: IimRule = IimRule {
+    min: 0,
+    max: 0,
+    kind: 0,
+    duty: 0,
+    repeats: false,
+};
+
+/// The number of a kind.
+fn kind_number(kind: Kind) -> u8
+    ensures { result ≡ kind_number kind }
+{
+    match kind {
+        Kind::Graphic => 1,
+        Kind::Spaced => 2,
+        Kind::SpacedLines => 3,
+        Kind::Letters => 4,
+        Kind::Digits => 5,
+        Kind::Date => 6,
+        Kind::PartDate => 7,
+        Kind::Time => 8,
+        Kind::Binary => 9,
+        Kind::Octets => 10,
+        Kind::Mode => 11,
+        Kind::Size => 12,
+        Kind::SizeFromOne => 13,
+    }
+}
+
+/// The number of a duty.
+fn duty_number(duty: Duty) -> u8
+    ensures { result ≡ duty_number duty }
+{
+    match duty {
+        Duty::Mandatory => 1,
+        Duty::Optional => 2,
+        Duty::ByMode => 3,
+    }
+}
+
+/// A row as C sees it.
+fn rule_of(row: Row) -> IimRule
+    ensures { result ≡ rule_of row }
+{
+    IimRule {
+        min: row.min,
+        max: row.max,
+        kind: kind_number(row.kind),
+        duty: duty_number(row.duty),
+        repeats: row.repeats,
+    }
+}
+
+/// Tells the row of a dataset: true where it has one.
+#[unsafe(no_mangle)]
+pub extern "C" fn iim_row(rec: u8, set: u8, rule: &mut IimRule) -> bool
+    ensures has { result ≡ is_some (row_of rec set) }
+    ensures rule { rule.new ≡ rule_for (row_of rec set) }
+{
+    match row(rec, set) {
+        Some(row) => {
+            *rule = rule_of(row);
+            true
+        }
+        None => {
+            *rule = NO_RULE;
+            false
+        }
+    }
+}
+
+/// Whether the octets may be those of a dataset: it has a row, and they are as that says.
+#[unsafe(no_mangle)]
+pub extern "C" fn iim_admits(rec: u8, set: u8, octets: &[u8]) -> bool
+    ensures { IsTrue result ↔ Meets rec set octets.now }
+{
+    match row(rec, set) {
+        Some(row) => admits(&row, octets),
+        None => false,
+    }
+}

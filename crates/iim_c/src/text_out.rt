@@ -1,0 +1,52 @@
+//! Where the text of a piece goes: a buffer of the caller's.
+
+use iim_dataset::Stop;
+use iim_dataset::octets::LF;
+use wire_story::StorySink;
+
+/// A sink that writes lines joined by LF into a buffer, as long as they have room, and counts all octets of them. It never stops.
+pub struct TextOut<'t> {
+    /// The buffer.
+    pub out: &'t mut [u8],
+    /// How many octets came; the greatest number of 64 bits stands for more.
+    pub count: usize,
+}
+
+impl<'t> TextOut<'t> {
+    ghost use Rattle.iim_c.specs.Format.Writing.{WritesOctets};
+
+    /// Takes octets.
+    fn put(&mut self, octets: &[u8])
+        ensures { WritesOctets self.old octets.now self.new }
+    {
+        let from = self.count;
+        self.count = from.saturating_add(octets.len());
+        if self.count <= self.out.len() {
+            self.out[from..self.count].copy_from_slice(octets);
+        }
+    }
+}
+
+impl<'t> StorySink for TextOut<'t> {
+    ghost use Rattle.iim_c.specs.Format.Writing.{WritesLines};
+
+    ghost goes = { WritesLines };
+
+    ghost failures = { λ sink. 0 };
+
+    ghost use Rattle.iim_c.specs.TextOutLaws.{writes_nothing, writes_joined};
+
+    ghost nothing = { writes_nothing };
+
+    ghost joined = { writes_joined };
+
+    fn text(&mut self, run: &[u8]) -> Result<(), Stop> {
+        self.put(run);
+        Ok(())
+    }
+
+    fn line_end(&mut self) -> Result<(), Stop> {
+        self.put(&[LF]);
+        Ok(())
+    }
+}
