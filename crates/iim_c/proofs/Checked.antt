@@ -1,12 +1,12 @@
 -- What octets in memory are answered.
-use Rattle.std.proofs.Common.{◌≡◌, ◌≢◌, ℕ, ◌+◌, ◌<◌, ◌≤◌, ◌^◌, List, [], ◌++◌, ◌⊎◌, inl, inr, length, take, slice_index, refl, sym, ap, subst, ◌∙◌, arith, Option, Some}
+use Rattle.std.proofs.Common.{◌≡◌, ◌≢◌, ℕ, ◌<◌, ◌^◌, List, [], inl, inr, length, take, slice_index, refl, sym, ap, subst, ◌∙◌, arith, Some}
 use Rattle.iim_fields.specs.declared.limits.Limits.{Limits}
 use Rattle.wire_story.specs.Format.Delivery.{StoryEvent}
 use Rattle.iim_unpack.specs.Format.Open.{IsOpen, IsTruncatedAt, RefusesNext}
 use Rattle.iim_unpack.specs.Format.Refusals.{refusal_at}
-use Rattle.iim_unpack.specs.Format.Streams.{Answer, Answers, Finished, Refused, Truncated, IsEnvelopeWithin, IsFinished, IsRefused}
+use Rattle.iim_unpack.specs.Format.Streams.{Answer, Answers, Finished, Refused, Truncated, IsEnvelopeWithin}
 use Rattle.iim_unpack.specs.Laws.Streams.{StreamsHaveOneAnswer}
-use Rattle.iim_unpack.specs.States.Unpacking.{Unpacking, Stands, IsDoneWith, Goes, IsRefusedIn, limits_in, raised}
+use Rattle.iim_unpack.specs.States.Unpacking.{Unpacking, Stands, Goes, IsRefusedIn, limits_in, raised}
 use Rattle.iim_unpack.specs.declared.unpacker.Progress.TheVariants.{More, Done}
 use Rattle.iim_unpack.specs.declared.refusal.Refusal.{Refusal}
 use Rattle.iim_unpack.specs.declared.refusal.Cause.TheVariants.{Sink}

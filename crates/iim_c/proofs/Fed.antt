@@ -1,8 +1,7 @@
 -- What a piece comes to that is fed from the place of a ticket.
-use Rattle.std.proofs.Common.{◌≡◌, ◌≢◌, ℕ, ◌+◌, ◌<◌, ◌≤◌, ◌^◌, min, List, [], ◌∷◌, ◌++◌, ◌⊎◌, inl, inr, length, take, map, Bool, true, false, nat_lt, Option, Some, None, refl, sym, ap, subst, ◌∙◌, arith}
+use Rattle.std.proofs.Common.{◌≡◌, ◌≢◌, ℕ, ◌<◌, ◌≤◌, ◌^◌, List, [], ◌∷◌, ◌++◌, ◌⊎◌, inl, inr, length, take, Bool, true, false, nat_lt, Some, None, refl, sym, ap, subst, ◌∙◌, arith}
 use Rattle.std.proofs.lemmas.Bool.{ltb-true, ltb-false}
 use Rattle.iim_fields.specs.declared.limits.Limits.{Limits}
-use Rattle.wire_story.specs.Format.Delivery.{StoryEvent}
 use Rattle.iim_unpack.specs.Format.Open.{IsOpen, IsTruncatedAt}
 use Rattle.iim_unpack.specs.States.Restored.{IsRestoreFault}
 use Rattle.iim_unpack.specs.Format.Streams.{IsEnvelopeWithin}
@@ -14,10 +13,10 @@ use Rattle.iim_unpack.specs.declared.refusal.Refusal.{Refusal}
 use Rattle.iim_unpack.specs.declared.ticket.fault.TicketFault.{TicketFault}
 use Rattle.iim_c.specs.declared.answer.IimAnswer.{IimAnswer}
 use Rattle.iim_c.specs.Beginning.{IsBegun, IsNotBegun}
-use Rattle.iim_c.specs.Steps.{HasFedText, HasRefusedText, HasSaved, IsSaved, saved_with, short_with, refused_with, used_in}
+use Rattle.iim_c.specs.Steps.{HasFedText, HasRefusedText, IsSaved, saved_with, short_with, refused_with, used_in}
 use Rattle.iim_c.specs.Format.Answers.{status_answer, refusal_answer, ticket_answer}
 use Rattle.iim_c.specs.Format.Statuses as status
-use Rattle.iim_c.specs.Format.Feeding.{StandsAt, EndsAt, IsSaid, GoesOn, Finishes, HasEnded, Refuses, Outcome, More, Done, Refused, BadTicket, NoMemory, IsOutcome, IsAnswered, IsTold, IsShort, IsFed, IsEnd, text_for, text_of, next_of, answer_of, short_answer}
+use Rattle.iim_c.specs.Format.Feeding.{Outcome, More, Done, Refused, BadTicket, NoMemory, IsOutcome, IsAnswered, IsFed, IsEnd, text_for, text_of, next_of, answer_of, short_answer}
 use Rattle.iim_c.specs.Format.Writing.{HasTaken, StandIn, counted}
 use Rattle.iim_c.proofs.Places.{PlaceLaws, stands_at, ends_at, place_of, begun_limits}
 

@@ -1,5 +1,5 @@
 -- The texts of a ticket's parts.
-use Rattle.std.proofs.Common.{◌≡◌, ℕ, List, [], ◌∷◌, length, map, get_or, slice_index_or, Bor, refl, sym, subst, arith, ap, ◌∙◌}
+use Rattle.std.proofs.Common.{◌≡◌, ℕ, List, [], ◌∷◌, length, map, get_or, Bor, refl, sym, subst, arith}
 use Rattle.iim_unpack.specs.Format.TicketForm.{SplitsTicket}
 use Rattle.iim_unpack.specs.States.TicketsTold.{split_told}
 use Rattle.iim_unpack.specs.declared.ticket.split.TicketParts.{TicketParts}

@@ -1,11 +1,11 @@
 -- The place of a ticket, and the unpacker that stands there.
-use Rattle.std.proofs.Common.{◌≡◌, ◌==◌, ℕ, true, length, arith, List, [], ◌∷◌, ◌⊎◌, inl, inr, refl, sym, ap, subst, ◌∙◌, get_or, Option, None}
+use Rattle.std.proofs.Common.{◌≡◌, ◌==◌, ℕ, true, length, arith, List, [], ◌∷◌, inl, inr, refl, sym, ap, subst, ◌∙◌, get_or, None}
 use Rattle.std.proofs.lemmas.Bool.{eqb-true}
 use Rattle.iim_fields.specs.declared.limits.Limits.{Limits}
 use Rattle.iim_unpack.specs.Format.Framed.{Framed}
 use Rattle.iim_unpack.specs.Laws.Admitted.{NoEnvelopeIsEmpty, AdmittedOctetsAreFramed}
 use Rattle.iim_unpack.specs.Format.Open.{IsOpen}
-use Rattle.iim_unpack.specs.States.Restored.{IsTicketAt, IsRestored}
+use Rattle.iim_unpack.specs.States.Restored.{IsTicketAt}
 use Rattle.iim_unpack.specs.Laws.Places.{TicketsTellOnePlace}
 use Rattle.iim_unpack.specs.States.Scales.{IsPossibleIn}
 use Rattle.iim_unpack.specs.Format.Streams.{IsEnvelopeWithin}

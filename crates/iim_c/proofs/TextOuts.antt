@@ -1,5 +1,5 @@
 -- A buffer for text.
-use Rattle.std.proofs.Common.{◌≡◌, ◌≢◌, ℕ, List, [], ◌∷◌, ◌⊎◌, inl, inr, map, refl, ap, subst, arith, Result, Ok, Err, IfOk, IfErr}
+use Rattle.std.proofs.Common.{◌≡◌, ◌≢◌, ℕ, List, [], ◌∷◌, inl, inr, map, refl, ap, subst, arith, Result, Ok, Err, IfOk, IfErr}
 use Rattle.iim_dataset.specs.Format.Counts.{Rose}
 use Rattle.wire_story.specs.Format.Delivery.{StoryEvent, LineOctet, octet_for}
 use Rattle.iim_unpack.specs.States.Parts.{CountsFor}

@@ -1,5 +1,5 @@
 -- The numbers of a ticket.
-use Rattle.std.proofs.Common.{◌≡◌, ℕ, Bool, true, false, List, [], ◌∷◌, length, get_or, Option, Some, None, refl, arith, is_some}
+use Rattle.std.proofs.Common.{◌≡◌, ℕ, Bool, List, [], ◌∷◌, length, get_or, Option, Some, None, arith, is_some}
 use Rattle.std.specs.Option.{unwrap_or}
 use Rattle.iim_c.specs.declared.sizes.IimObject.{IimObject}
 use Rattle.iim_c.specs.Format.TicketAnswers.{IsNumber, AreNumbers}

@@ -1,5 +1,5 @@
 -- The steps of a call that packs.
-use Rattle.std.specs.Prelude.{◌≡◌, ℕ, List, []}
+use Rattle.std.specs.Prelude.{◌≡◌, ℕ, ◌<◌, ◌≤◌, ◌⊎◌, List, [], ◌++◌, length, drop}
 use Rattle.iim_commands.specs.declared.packing.PackFault.{PackFault}
 use Rattle.iim_commands.specs.declared.packing.PackFault.TheVariants.{Refused, Around}
 use Rattle.iim_c.specs.declared.answer.IimAnswer.{IimAnswer}
@@ -24,3 +24,8 @@ pub record IsUnpacked (p : IimPacking) (octets : List ℕ) (told : IimAnswer) : 
 -- the answer for a packed form of so many octets
 abbrev pub sized : ℕ → ℕ → IimAnswer
 sized status written = record (status_answer status) { written = written }
+
+-- The form stands in the buffer, or has no room.
+abbrev pub IsPut : List ℕ → List ℕ → List ℕ → IimAnswer → Type 0
+IsPut form old new told = ((length form ≤ length old) × (new ≡ form ++ drop (length form) old) × (told ≡ sized status.done (length form)))
+    ⊎ ((length old < length form) × (new ≡ old) × (told ≡ sized status.short (length form)))

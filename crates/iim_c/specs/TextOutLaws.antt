@@ -2,7 +2,7 @@
 use Rattle.std.proofs.Common.{◌≡◌, ℕ, List, [], ◌∷◌, ◌++◌, map, refl, sym, ap, subst, ◌∙◌, append-nil, append_assoc}
 use Rattle.wire_story.specs.Format.Delivery.{StoryEvent, octet_for}
 use Rattle.iim_c.specs.declared.text_out.TextOut.{TextOut}
-use Rattle.iim_c.specs.Format.Writing.{HasTaken, WritesOctets, WritesLines}
+use Rattle.iim_c.specs.Format.Writing.{HasTaken, WritesLines}
 
 map-append : (xs ys : List StoryEvent) → map octet_for (xs ++ ys) ≡ map octet_for xs ++ map octet_for ys
 map-append [] ys = refl

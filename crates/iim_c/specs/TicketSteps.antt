@@ -1,10 +1,8 @@
 -- The steps of the calls that tell of a ticket.
-use Rattle.std.specs.Prelude.{◌≡◌, ℕ, ◌+◌, ◌-◌, ◌*◌, ◌≤◌, List, length}
+use Rattle.std.specs.Prelude.{ℕ, ◌+◌, ◌-◌, ◌*◌, ◌≤◌, List, length}
 use Rattle.iim_unpack.specs.Format.Tickets.{Phase, TagBegun, DataBegun, AllEnded, width}
 use Rattle.iim_unpack.specs.Format.TicketForm.{Split}
-use Rattle.iim_c.specs.declared.field.IimDataset.{IimDataset}
 use Rattle.iim_c.specs.declared.span.IimSpan.{IimSpan}
-use Rattle.iim_c.specs.Format.TicketAnswers.{IsFieldAt}
 
 -- how many octets tell what is begun
 abbrev pub begun_octets : ℕ → Phase → ℕ
@@ -16,9 +14,7 @@ begun_octets version AllEnded = 1
 abbrev pub fields_start : Split → ℕ
 fields_start s = 10 + begun_octets s.version s.phase
 
-abbrev pub IsFieldOf : List ℕ → Split → ℕ → IimDataset → Type 0
-IsFieldOf ticket s n found = IsFieldAt ticket s n found
-
+-- The ticket tells no more than n datasets.
 abbrev pub HasFewer : Split → ℕ → Type 0
 HasFewer s n = length s.fields ≤ n
 

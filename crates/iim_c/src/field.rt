@@ -3,8 +3,8 @@
 ghost use Rattle.std.specs.Prelude.{◌≡◌, ◌+◌, ◌^◌, ◌<◌, IfSome, IfNone};
 ghost use Rattle.iim_unpack.specs.Format.TicketForm.{SplitsTicket};
 ghost use Rattle.iim_unpack.specs.States.TicketsTold.{phase_told, split_told};
-ghost use Rattle.iim_c.specs.Format.TicketAnswers.{IsField};
-ghost use Rattle.iim_c.specs.TicketSteps.{IsFieldOf, HasFewer, begun_octets, fields_start};
+ghost use Rattle.iim_c.specs.Format.TicketAnswers.{IsField, IsFieldAt};
+ghost use Rattle.iim_c.specs.TicketSteps.{HasFewer, begun_octets, fields_start};
 
 use crate::answer::{IimAnswer, status_answer, ticket_answer};
 use crate::span::{IimSpan, NO_SPAN};
@@ -56,7 +56,7 @@ fn fields_start(parts: &TicketParts<'_>) -> usize
 /// The dataset with the index `n`; None where there are no more.
 fn field_in(ticket: &[u8], parts: TicketParts<'_>, n: usize) -> Option<IimDataset>
     requires { SplitsTicket ticket.now (split_told parts) }
-    ensures some { IfSome result (IsFieldOf ticket.now (split_told parts.entry) n) }
+    ensures some { IfSome result (IsFieldAt ticket.now (split_told parts.entry) n) }
     ensures none { IfNone result (HasFewer (split_told parts.entry) n) }
 {
     let mut offset = fields_start(&parts);

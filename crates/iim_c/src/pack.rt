@@ -2,7 +2,7 @@
 
 ghost use Rattle.std.specs.Prelude.{◌≡◌, IfOk, IfErr};
 ghost use Rattle.iim_c.specs.Format.Packing.{IsPacked, IsSized, IsFormFor, asked_for};
-ghost use Rattle.iim_c.specs.PackSteps.{IsUnpacked, IsUnpackedFault, sized};
+ghost use Rattle.iim_c.specs.PackSteps.{IsPut, IsUnpacked, IsUnpackedFault, sized};
 
 use crate::answer::{IimAnswer, status_answer};
 use crate::bytes::put_front;
@@ -51,6 +51,17 @@ fn sized(status: u8, written: usize) -> IimAnswer
     }
 }
 
+/// Writes a packed form into a buffer, where it has room for it.
+fn put_form(form: &[u8], out: &mut [u8]) -> IimAnswer
+    ensures { IsPut form.now out.old out.new result }
+{
+    if form.len() > out.len() {
+        return sized(SHORT, form.len());
+    }
+    put_front(out, form);
+    sized(DONE, form.len())
+}
+
 /// Writes the packed form of what a script tells into a buffer, where it has room for it.
 #[unsafe(no_mangle)]
 pub extern "C" fn iim_pack(
@@ -63,11 +74,7 @@ pub extern "C" fn iim_pack(
     ensures { IsPacked packing script.now out.old out.new answer.new }
 {
     match packed(alloc, packing, script) {
-        Ok(form) if form.len() <= out.len() => {
-            put_front(out, form.as_slice());
-            *answer = sized(DONE, form.len());
-        }
-        Ok(form) => *answer = sized(SHORT, form.len()),
+        Ok(form) => *answer = put_form(form.as_slice(), out),
         Err(told) => *answer = told,
     }
 }
@@ -83,7 +90,10 @@ pub extern "C" fn iim_pack_size(
     ensures { IsSized packing script.now answer.new }
 {
     match packed(alloc, packing, script) {
-        Ok(form) => *answer = sized(DONE, form.len()),
+        Ok(form) => {
+            let form = form.as_slice();
+            *answer = sized(DONE, form.len());
+        }
         Err(told) => *answer = told,
     }
 }

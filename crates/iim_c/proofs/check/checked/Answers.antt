@@ -1,4 +1,4 @@
-use Rattle.std.proofs.Common.{ℕ, ◌<◌, ◌^◌, [], length, subst, ◌∙◌, arith}
+use Rattle.std.proofs.Common.{◌<◌, ◌^◌, [], length, subst, ◌∙◌, arith}
 use Rattle.iim_unpack.specs.States.Unpacking.{Goes, IsRefusedIn, raised}
 use Rattle.iim_fields.specs.declared.limits.Limits.{Limits}
 use Rattle.iim_unpack.specs.declared.unpacker.Progress.{Progress}

@@ -1,8 +1,8 @@
-use Rattle.std.proofs.Common.{◌≡◌, ℕ, ap, ◌∙◌}
+use Rattle.std.proofs.Common.{ℕ, ap, ◌∙◌}
 use Rattle.iim_c.specs.declared.answer.IimAnswer.{IimAnswer}
 use Rattle.iim_c.specs.Format.Answers.{status_answer}
 use Rattle.iim_c.specs.Format.Statuses as status
-use Rattle.iim_c.proofs.Fed.{Begun, ended_short, ended_whole, ended_not_begun}
+use Rattle.iim_c.proofs.Fed.{Begun, ended_short, ended_whole}
 use Rattle.iim_c.proofs.end.ended.Goals as goal
 
 pub returns-in-Some : goal.returns-in-Some

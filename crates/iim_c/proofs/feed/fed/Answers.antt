@@ -1,4 +1,4 @@
-use Rattle.std.proofs.Common.{◌≡◌, ℕ, ◌<◌, ◌^◌, List, length, Result, Ok, Err, IfOk, IfErr, OnOk, subst, arith, sym, ◌∙◌}
+use Rattle.std.proofs.Common.{◌≡◌, ◌<◌, ◌^◌, length, Result, IfOk, IfErr, OnOk, subst, arith, sym, ◌∙◌}
 use Rattle.iim_unpack.specs.States.Unpacking.{limits_in}
 use Rattle.iim_unpack.specs.declared.unpacker.Progress.{Progress}
 use Rattle.iim_unpack.specs.declared.refusal.Refusal.{Refusal}

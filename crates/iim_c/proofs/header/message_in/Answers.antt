@@ -1,4 +1,4 @@
-use Rattle.std.proofs.Common.{◌≡◌, ℕ, ◌-◌, ◌+◌, length, ap, sym, subst, arith, refl}
+use Rattle.std.proofs.Common.{◌≡◌, ◌-◌, ◌+◌, length, ap, sym, subst, arith, refl}
 use Rattle.iim_c.specs.declared.span.IimSpan.{IimSpan}
 use Rattle.iim_c.specs.Format.TicketAnswers.{StandAt}
 use Rattle.iim_c.proofs.Headers.{seven, text, texts_stand}
