@@ -1,0 +1,319 @@
+#!/usr/bin/env python3
+"""Compares what the C program c/test.c tells by the library with what the command prints, with the rules a second time
+(tests/rules.py), and the header with the sources.
+
+  bindings/c/compare.py PROGRAM..    each PROGRAM: c/test.c, built in some way
+
+The command is crates/iimwire/out/iimwire, which the gate and the first run of ./iimwire make. Prints each failure, and then
+'N passed, M failed'. The status is 1 where something failed.
+"""
+import glob
+import os
+import re
+import subprocess
+import sys
+
+TOP = os.path.dirname(os.path.dirname(os.path.dirname(os.path.realpath(__file__))))
+sys.path.insert(0, f"{TOP}/tests")
+import rules  # noqa: E402
+
+COMMAND = f"{TOP}/crates/iimwire/out/iimwire"
+HEADER = f"{TOP}/bindings/c/iim.h"
+SAMPLES = f"{TOP}/samples"
+ALL = sorted(glob.glob(f"{SAMPLES}/*.iim") + glob.glob(f"{SAMPLES}/damaged/*.iim"))
+SECONDS = 300
+# The statuses of the header, by their names.
+STATUSES = dict(re.findall(r"IIM_(\w+) = (\d+)", open(HEADER).read()))
+DONE, REFUSED, TRUNCATED = (int(STATUSES[name]) for name in ("DONE", "REFUSED", "TRUNCATED"))
+TESTS = []
+
+
+def test(function):
+    TESTS.append(function)
+    return function
+
+
+def same(got, want):
+    if got != want:
+        raise AssertionError(f"got {got!r}\n    want {want!r}")
+
+
+def octets_of(path):
+    with open(path, "rb") as file:
+        return file.read()
+
+
+def run(*words, octets=b""):
+    """The status of a program, what it writes, and its errors."""
+    done = subprocess.run(words, input=octets, capture_output=True, timeout=SECONDS)
+    return done.returncode, done.stdout, done.stderr
+
+
+def batches(parts):
+    return b"".join(len(part).to_bytes(4, "little") + part for part in parts)
+
+
+def told(program, how, limits, parts):
+    """The answer to each of the octets: status, layer, cause, record, number, octet, used, written and ticket."""
+    status, out, errors = run(program, how, *map(str, limits), octets=batches(parts))
+    same((status, errors), (0, b""))
+    return [tuple(map(int, line.split())) for line in out.split(b"\n")[:-1]]
+
+
+def by_rules(octets, limits):
+    """The same answer, by the rules."""
+    read = rules.read(octets, limits)
+    refusal = read.refusal
+    if read.is_done:
+        return DONE, 0, 0, 0, 0, read.at, read.at, 0, 0
+    if refusal:
+        layer = rules.LAYERS.index(refusal.layer) + 1
+        return REFUSED, layer, refusal.cause, refusal.record, refusal.dataset, refusal.octet, 0, 0, 0
+    record, dataset = re.search(r" on (\d+):(\d+), cause 3 ", read.end()).groups()
+    return TRUNCATED, 1, 3, int(record), int(dataset), len(octets), 0, 0, 0
+
+
+def checked(parts, limits=rules.LIMITS, asked=(0, 0)):
+    """Holds the answers of `iim_check` and of `iim_feed` to the rules."""
+    for program in PROGRAMS:
+        want = [by_rules(part, limits) for part in parts]
+        same(told(program, "check", asked, parts), want)
+        same(told(program, "feed", asked, parts), want)
+
+
+def lines_of(octets):
+    """What the command prints of octets."""
+    return run(COMMAND, "check", octets=octets)
+
+
+@test
+def lists_the_samples_as_the_command_does():
+    for path in ALL:
+        want = run(COMMAND, "check", path)
+        for program in PROGRAMS:
+            for piece in [*range(1, 65), 4096]:
+                same((path, piece, run(program, "list", str(piece), path)), (path, piece, want))
+
+
+@test
+def shows_the_samples_as_the_command_does():
+    for path in ALL:
+        want = run(COMMAND, "show", path)
+        for program in PROGRAMS:
+            for piece in (1, 7, 64, 4096):
+                status, out, errors = run(program, "show", str(piece), path)
+                # (the command tells a refusal as `check` does)
+                same((path, piece, status, out, errors), (path, piece, *want))
+
+
+@test
+def tells_the_stories_of_the_samples_as_the_command_does():
+    for path in ALL:
+        want = run(COMMAND, "story", path)
+        for program in PROGRAMS:
+            for piece in [*range(1, 65), 4096]:
+                same((path, piece, run(program, "story", str(piece), path)), (path, piece, want))
+
+
+@test
+def checks_each_prefix_of_both_worked_envelopes():
+    for name in ("smallest.iim", "story.iim"):
+        whole = octets_of(f"{SAMPLES}/{name}")
+        checked([whole[:count] for count in range(len(whole) + 1)] + [whole + b"\x1c", whole + whole])
+        for count in range(1, len(whole)):
+            status, out, errors = lines_of(whole[:count])
+            answer = told(PROGRAMS[0], "check", (0, 0), [whole[:count]])[0]
+            cause = f"{answer[2]} {rules.CAUSES[answer[2]]}"
+            line = f"1 refused at octet {answer[5]} by layer dataset on {answer[3]}:{answer[4]:02}, cause {cause}\n"
+            same((status, out.decode(), errors), (1, line, b""))
+
+
+@test
+def checks_each_changed_octet_of_the_smallest_envelope():
+    whole = octets_of(f"{SAMPLES}/smallest.iim")
+    changed = [whole[:at] + bytes([octet]) + whole[at + 1 :] for at in range(len(whole)) for octet in range(256)]
+    checked(changed)
+
+
+@test
+def keeps_to_the_limits_that_are_given():
+    whole = octets_of(f"{SAMPLES}/story.iim")
+    for limits in [(1, 512), (26, 512), (27, 512), (65536, 1), (65536, 7), (200, 15), (80, 3)]:
+        checked([whole, whole[:100]], limits, limits)
+    checked([whole], (65536, 3), (0, 3))
+    checked([whole], (40, 512), (40, 0))
+
+
+@test
+def packs_as_the_command_does():
+    ways = [
+        ((0, 0, 0, 0), []),
+        ((7, 0, 0, 0), ["--subfile", "7"]),
+        ((1024, 1, 0, 0), ["--unknown"]),
+        ((0, 1, 1, 4000), ["--unknown", "--max", "4000"]),
+        ((0, 1, 1, 3), ["--unknown", "--max", "3"]),
+    ]
+    script = octets_of(f"{SAMPLES}/story.script")
+    wrong = [b"", b"text\n", script.replace(b"1:40 ", b"1:41 "), script.replace(b"message", b"massage"), script + b"\x01", script[:30]]
+    paths = [f"{SAMPLES}/smallest.script", f"{SAMPLES}/story.script"]
+    for number, octets in enumerate(wrong):
+        paths.append(f"{TOP}/bindings/out/wrong_{number}.script")
+        with open(paths[-1], "wb") as file:
+            file.write(octets)
+    for path in paths:
+        for members, words in ways:
+            status, out, errors = run(COMMAND, "pack", *words, path)
+            for program in PROGRAMS:
+                got = run(program, "pack", *map(str, members), path)
+                same((path, members, *got), (path, members, REFUSED if status == 1 else status, out, errors))
+
+
+@test
+def tells_the_tables():
+    kinds = "Graphic Spaced SpacedLines Letters Digits Date PartDate Time Binary Octets Mode Size SizeFromOne".split()
+    page = open(f"{TOP}/docs/FORMAT.md").read()
+    names = {(int(a), int(b)): name for a, b, name in re.findall(r"^\| (\d):(\d+) \| ([^|]+?) \| [^|]+ \| [^|]+ \| [a-z ]+ \| (?:yes|no) \|$", page, re.M)}
+    same(len(names), len(rules.ROWS))
+    want = []
+    for record in range(256):
+        for number in range(256):
+            row = rules.row_of(record, number)
+            if row:
+                # (7:90 alone is by the mode)
+                duty = 3 if (record, number) == (7, 90) else 1 if row.is_mandatory else 2
+                kind = kinds.index(row.kind) + 1
+                name = names.get((record, number), "")
+                want.append(f"row {record}:{number:02} {row.least} {row.most} {kind} {duty} {int(row.repeats)} {name}")
+    causes = {**rules.CAUSES, **rules.OTHER_CAUSES, 100: "Form", 101: "Version", 102: "Impossible"}
+    listed = [f"cause {number} {causes[number]}" for number in sorted(causes)]
+    for program in PROGRAMS:
+        status, out, errors = run(program, "tables")
+        lines = out.decode().split("\n")[:-1]
+        same((status, errors), (0, b""))
+        same([line for line in lines if line.startswith("row")], want)
+        same([line for line in lines if line.startswith("cause")], listed)
+        same([line for line in lines if line.startswith("layer")], [f"layer {n + 1} {name}" for n, name in enumerate(rules.LAYERS)])
+        same([line for line in lines if line.startswith("version")], ["version 1 1"])
+
+
+@test
+def names_the_kinds_and_duties_as_the_header_does():
+    text = open(HEADER).read()
+    words = dict(re.findall(r"IIM_((?:KIND|DUTY|LAYER|PART)_\w+) = (\d+)", text))
+    source = open(f"{TOP}/crates/iim_tables/src/shape.rt").read()
+    upper = lambda name: re.sub(r"(?<!^)(?=[A-Z])", "_", name).upper()
+    for kind in ("Kind", "Duty"):
+        body = re.search(rf"pub enum {kind} \{{\n(.*?)^\}}", source, re.M | re.S)[1]
+        variants = re.findall(r"^    (\w+),", body, re.M)
+        same({f"{kind.upper()}_{upper(name)}": str(n + 1) for n, name in enumerate(variants)}, {w: n for w, n in words.items() if w.startswith(kind.upper())})
+    same({f"LAYER_{name.upper()}": str(n + 1) for n, name in enumerate(rules.LAYERS)}, {w: n for w, n in words.items() if w.startswith("LAYER")})
+    saved = open(f"{TOP}/crates/wire_message/src/saved.rt").read()
+    parts = re.findall(r"^    (\w+),", re.search(r"pub enum MessagePart \{\n(.*?)^\}", saved, re.M | re.S)[1], re.M)
+    same({f"PART_{upper(name)}": str(n) for n, name in enumerate(parts)}, {w: n for w, n in words.items() if w.startswith("PART")})
+    status = open(f"{TOP}/crates/iim_c/src/status.rt").read()
+    same({name: number for name, number in re.findall(r"pub const (\w+): u8 = (\d+);", status)}, {w: n for w, n in STATUSES.items() if "_" not in w or w in ("NO_MEMORY", "BAD_TICKET", "BAD_PACKING")})
+
+
+@test
+def admits_as_the_rules_do():
+    data = [b"", b"A", b"AB", b"12345678", b"20240301", b"20240001", b"120000+0100", b"250000+0100", b"\0", b"\1", b"\2", b"\0\2", b"a b\r\n", b"\x7f", b"\xff" * 8]
+    data += [b"x" * count for count in (10, 11, 32, 33, 64, 65, 256, 257, 1024, 1025, 2000, 2001, 8192, 8193)] + [b"\x7f" + b"\xff" * 7, b"\0" * 9]
+    asked = [(record, number, octets) for record in (0, 1, 2, 3, 7, 8, 9, 10) for number in (*range(0, 131, 5), 7, 22, 37, 38, 101, 103, 116, 122) for octets in data]
+    want = [bool((row := rules.row_of(record, number)) and rules.admits(row, octets)) for record, number, octets in asked]
+    for program in PROGRAMS:
+        status, out, errors = run(program, "admits", octets=batches(bytes([record, number]) + octets for record, number, octets in asked))
+        same((status, errors, [line == b"1" for line in out.split()]), (0, b"", want))
+
+
+# --- The header and the sources ---
+
+# A number or a struct of the sources, as C has it.
+WORDS = {"u8": "uint8_t", "u32": "uint32_t", "u64": "uint64_t", "usize": "size_t", "bool": "bool"}
+
+
+def plain(text):
+    return re.sub(r"\s+", " ", text).strip()
+
+
+def of_c(kind):
+    """A type of the sources as the header has it: what stands before the name, for each argument of C."""
+    if kind == "Global":
+        return []
+    if slice_of := re.fullmatch(r"&(mut )?\[u8\]", kind):
+        return ["uint8_t *" if slice_of[1] else "const uint8_t *", "size_t "]
+    if struct := re.fullmatch(r"&mut (\w+)", kind):
+        return [f"{struct_of(struct[1])} *"]
+    return [f"{WORDS.get(kind) or struct_of(kind)} "]
+
+
+def struct_of(name):
+    return re.sub(r"(?<!^)(?=[A-Z])", "_", name).lower()
+
+
+def exports():
+    """The exports of the crate: of each its name, its result, and what C hands in."""
+    for path in sorted(glob.glob(f"{TOP}/crates/iim_c/src/*.rt")):
+        for name, words, result in re.findall(r'#\[unsafe\(no_mangle\)\]\npub extern "C" fn (\w+)\((.*?)\)(?: -> (\w+))?\s', open(path).read(), re.S):
+            kinds = [plain(each).partition(": ")[2] for each in words.split(",") if each.strip()]
+            yield name, WORDS[result] if result else "void", [part for kind in kinds for part in of_c(kind)]
+
+
+def declared():
+    """The functions of the header: of each its name, its result, and the types of its arguments."""
+    code = re.sub(r"/\*.*?\*/", "", open(HEADER).read(), flags=re.S)
+    for result, name, words in re.findall(r"^(\w+) (iim_\w+)\(([^)]*)\);", code, re.M):
+        words = [] if words.strip() == "void" else [plain(each) for each in words.split(",")]
+        yield name, result, [re.sub(r"\w+$", "", each) for each in words]
+
+
+@test
+def declares_each_export_with_its_arguments():
+    # (a name is text for C, whose octets are `char`)
+    as_text = lambda name, words: [word.replace("uint8_t *", "char *") if name.endswith("_name") else word for word in words]
+    want = sorted((name, result, as_text(name, words)) for name, result, words in exports())
+    same(sorted(declared()), want)
+    same(len(want) >= 14, True)
+
+
+@test
+def declares_each_struct_with_its_members():
+    code = re.sub(r"/\*.*?\*/", "", open(HEADER).read(), flags=re.S)
+    found = {name: [tuple(plain(each).rsplit(" ", 1)) for each in body.split(";") if each.strip()] for body, name in re.findall(r"typedef struct iim_\w+ \{(.*?)\} (iim_\w+);", code, re.S)}
+    want = {}
+    for path in sorted(glob.glob(f"{TOP}/crates/iim_c/src/*.rt")):
+        for name, body in re.findall(r"#\[repr\(C\)\]\n#\[derive\([^)]*\)\]\npub struct (\w+) \{\n(.*?)^\}", open(path).read(), re.M | re.S):
+            want[struct_of(name)] = [(WORDS.get(kind) or struct_of(kind), member) for member, kind in re.findall(r"^    pub (\w+): (\w+),", body, re.M)]
+    same(found, want)
+
+
+@test
+def hands_out_the_exports_alone():
+    words = subprocess.run(["nm", "-D", "--defined-only", f"{TOP}/bindings/out/libiim.so"], capture_output=True, text=True, check=True).stdout.split("\n")
+    same(sorted(line.split()[-1] for line in words if line), sorted(name for name, *_ in exports()))
+
+
+@test
+def prints_a_headline():
+    program = f"{TOP}/bindings/out/headline"
+    same(run(program, f"{SAMPLES}/story.iim"), (0, b"Rates held\n", b""))
+    status, out, errors = run(program, f"{SAMPLES}/damaged/release_date.iim")
+    same((status, out), (1, b""))
+    same(errors.decode().strip(), run(COMMAND, "check", f"{SAMPLES}/damaged/release_date.iim")[1].decode().strip().partition(" ")[2])
+
+
+def main():
+    passed = failed = 0
+    for each in TESTS:
+        try:
+            each()
+            passed += 1
+        except (AssertionError, OSError, subprocess.SubprocessError, KeyError, TypeError, ValueError, IndexError) as why:
+            failed += 1
+            print(f"FAILED {each.__name__}: {str(why)[:2000]}")
+    print(f"{passed} passed, {failed} failed")
+    return 1 if failed else 0
+
+
+if __name__ == "__main__":
+    PROGRAMS = [os.path.abspath(path) for path in sys.argv[1:]]
+    sys.exit(main())
