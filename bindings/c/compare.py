@@ -63,14 +63,12 @@ def told(program, how, limits, parts):
 def by_rules(octets, limits):
     """The same answer, by the rules."""
     read = rules.read(octets, limits)
-    refusal = read.refusal
     if read.is_done:
         return DONE, 0, 0, 0, 0, read.at, read.at, 0, 0
-    if refusal:
-        layer = rules.LAYERS.index(refusal.layer) + 1
-        return REFUSED, layer, refusal.cause, refusal.record, refusal.dataset, refusal.octet, 0, 0, 0
-    record, dataset = re.search(r" on (\d+):(\d+), cause 3 ", read.end()).groups()
-    return TRUNCATED, 1, 3, int(record), int(dataset), len(octets), 0, 0, 0
+    text = str(read.refusal or read.end())
+    octet, layer, record, dataset, cause = re.fullmatch(r"refused at octet (\d+) by layer (\w+) on (\d+):(\d+), cause (\d+) \w+", text).groups()
+    status = REFUSED if read.refusal else TRUNCATED
+    return status, rules.LAYERS.index(layer) + 1, int(cause), int(record), int(dataset), int(octet), 0, 0, 0
 
 
 def checked(parts, limits=rules.LIMITS, asked=(0, 0)):
