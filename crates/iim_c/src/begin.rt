@@ -8,7 +8,12 @@ use iim_unpack::{TicketFault, Unpacker};
 use std::alloc::Global;
 
 /// The unpacker at the place of a ticket, or of none: at the beginning of an envelope.
-pub fn begin(alloc: Global, limits: Limits, ticket: &[u8], at: u64) -> Result<Unpacker, TicketFault>
+pub(crate) fn begin(
+    alloc: Global,
+    limits: Limits,
+    ticket: &[u8],
+    at: u64,
+) -> Result<Unpacker, TicketFault>
     ensures begun { IfOk result (IsBegun limits ticket.now at) }
     ensures fault { IfErr result (IsNotBegun limits ticket.now) }
 {

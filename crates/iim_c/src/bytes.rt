@@ -3,7 +3,7 @@
 ghost use Rattle.std.specs.Prelude.{◌≡◌, ◌+◌, ◌<◌, ◌≤◌, ◌++◌, [], ◌∷◌, length, drop};
 
 /// Writes octets at the front of a buffer, which has room for them.
-pub fn put_front(out: &mut [u8], octets: &[u8])
+pub(crate) fn put_front(out: &mut [u8], octets: &[u8])
     requires { length octets.now ≤ length out.old }
     ensures { out.new ≡ octets.now ++ drop (length octets.now) out.old }
 {
@@ -11,7 +11,7 @@ pub fn put_front(out: &mut [u8], octets: &[u8])
 }
 
 /// Writes octets and a NUL at the front of a buffer, which has room for them.
-pub fn put_text(out: &mut [u8], octets: &[u8])
+pub(crate) fn put_text(out: &mut [u8], octets: &[u8])
     requires { length octets.now < length out.old }
     ensures { out.new ≡ (octets.now ++ 0 ∷ []) ++ drop (length octets.now + 1) out.old }
 {

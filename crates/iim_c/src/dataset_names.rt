@@ -5,60 +5,85 @@ ghost use Rattle.iim_c.specs.Format.Names.{IsNamed, dataset_named, name_or_none}
 
 use crate::names::put_name;
 
+/// A match on a dataset's record and number, with each line as an arm: dataset and name.
+macro_rules! name_by {
+    ($dataset:expr; $($rec:literal:$set:literal $name:literal)*) => {
+        match $dataset {
+            $(($rec, $set) => Some($name),)*
+            _ => None,
+        }
+    };
+}
+
+/// The datasets of the tables, in the order and by the names of the standard.
+macro_rules! name_in_table {
+    ($dataset:expr) => {
+        name_by! { $dataset;
+            // Envelope Record
+            1:00 "Model Version"
+            1:05 "Destination"
+            1:20 "File Format"
+            1:22 "File Format Version"
+            1:30 "Service Identifier"
+            1:40 "Envelope Number"
+            1:50 "Product I.D."
+            1:60 "Envelope Priority"
+            1:70 "Date Sent"
+            1:80 "Time Sent"
+            1:90 "Coded Character Set"
+            1:100 "Unique Name of Object"
+
+            // Application Record
+            2:00 "Record Version"
+            2:05 "Object Name"
+            2:07 "Edit Status"
+            2:10 "Urgency"
+            2:15 "Category"
+            2:20 "Supplemental Category"
+            2:22 "Fixture Identifier"
+            2:25 "Keywords"
+            2:30 "Release Date"
+            2:35 "Release Time"
+            2:37 "Expiration Date"
+            2:38 "Expiration Time"
+            2:40 "Special Instructions"
+            2:55 "Date Created"
+            2:60 "Time Created"
+            2:80 "By-line"
+            2:85 "By-line Title"
+            2:90 "City"
+            2:95 "Province/State"
+            2:100 "Country Code"
+            2:101 "Country Name"
+            2:103 "Original Transmission Reference"
+            2:105 "Headline"
+            2:110 "Credit"
+            2:115 "Source"
+            2:116 "Copyright Notice"
+            2:120 "Caption/Abstract"
+            2:122 "Writer/Editor"
+
+            // pre-ObjectData Descriptor Record
+            7:10 "Size Mode"
+            7:20 "Max Subfile Size"
+            7:90 "ObjectData Size Announced"
+            7:95 "Maximum ObjectData Size"
+
+            // ObjectData Record
+            8:10 "Subfile"
+
+            // post-ObjectData Descriptor Record
+            9:10 "Confirmed ObjectData Size"
+        }
+    };
+}
+
 /// The name of a dataset of the tables, as the standard has it.
 #[tactic(auto, unfolding(crate::specs::Format::Names::dataset_named, crate::specs::Format::Names::dataset_names))]
 fn dataset_named(rec: u8, set: u8) -> Option<&'static str>
     ensures { MatchOption result (dataset_named rec set ≡ None) (λ name. dataset_named rec set ≡ Some name.now) }
 {
-    match (rec, set) {
-        (1, 0) => Some("Model Version"),
-        (1, 5) => Some("Destination"),
-        (1, 20) => Some("File Format"),
-        (1, 22) => Some("File Format Version"),
-        (1, 30) => Some("Service Identifier"),
-        (1, 40) => Some("Envelope Number"),
-        (1, 50) => Some("Product I.D."),
-        (1, 60) => Some("Envelope Priority"),
-        (1, 70) => Some("Date Sent"),
-        (1, 80) => Some("Time Sent"),
-        (1, 90) => Some("Coded Character Set"),
-        (1, 100) => Some("Unique Name of Object"),
-        (2, 0) => Some("Record Version"),
-        (2, 5) => Some("Object Name"),
-        (2, 7) => Some("Edit Status"),
-        (2, 10) => Some("Urgency"),
-        (2, 15) => Some("Category"),
-        (2, 20) => Some("Supplemental Category"),
-        (2, 22) => Some("Fixture Identifier"),
-        (2, 25) => Some("Keywords"),
-        (2, 30) => Some("Release Date"),
-        (2, 35) => Some("Release Time"),
-        (2, 37) => Some("Expiration Date"),
-        (2, 38) => Some("Expiration Time"),
-        (2, 40) => Some("Special Instructions"),
-        (2, 55) => Some("Date Created"),
-        (2, 60) => Some("Time Created"),
-        (2, 80) => Some("By-line"),
-        (2, 85) => Some("By-line Title"),
-        (2, 90) => Some("City"),
-        (2, 95) => Some("Province/State"),
-        (2, 100) => Some("Country Code"),
-        (2, 101) => Some("Country Name"),
-        (2, 103) => Some("Original Transmission Reference"),
-        (2, 105) => Some("Headline"),
-        (2, 110) => Some("Credit"),
-        (2, 115) => Some("Source"),
-        (2, 116) => Some("Copyright Notice"),
-        (2, 120) => Some("Caption/Abstract"),
-        (2, 122) => Some("Writer/Editor"),
-        (7, 10) => Some("Size Mode"),
-        (7, 20) => Some("Max Subfile Size"),
-        (7, 90) => Some("ObjectData Size Announced"),
-        (7, 95) => Some("Maximum ObjectData Size"),
-        (8, 10) => Some("Subfile"),
-        (9, 10) => Some("Confirmed ObjectData Size"),
-        _ => None,
-    }
+    name_in_table!((rec, set))
 }
 
 /// Writes the name of a dataset of the tables with a NUL after it, where there is room for both, and answers how many octets it has.

@@ -6,51 +6,72 @@ ghost use Rattle.iim_c.specs.NameSteps.{name_told};
 
 use crate::bytes::put_text;
 
+/// A match on a number, with each line as an arm: number and name.
+macro_rules! name_by {
+    ($number:expr; $($of:literal $name:literal)*) => {
+        match $number {
+            $($of => Some($name),)*
+            _ => None,
+        }
+    };
+}
+
+/// The causes by their numbers.
+macro_rules! cause_in_table {
+    ($number:expr) => {
+        name_by! { $number;
+            // Causes of octets
+            1 "Marker"
+            2 "CountForm"
+            3 "Truncated"
+            10 "RecordOrder"
+            11 "UnknownDataset"
+            12 "Repeated"
+            13 "CountRange"
+            14 "Missing"
+            15 "BadValue"
+            16 "FileFormat"
+            20 "ModeClash"
+            21 "SizeClash"
+            22 "SubfileTooLong"
+            23 "PastSize"
+            24 "Short"
+            25 "ConfirmedWrong"
+            30 "BadOctet"
+            32 "Unfinished"
+            40 "LoneReturn"
+            41 "ControlOctet"
+            50 "HeaderFull"
+            51 "TooManyFields"
+            52 "TooManySubfiles"
+            60 "Sink"
+            61 "Failed"
+
+            // Memory, packing and scripts
+            70 "OutOfMemory"
+            80 "PastAnnounced"
+            81 "ShortOfAnnounced"
+            82 "BadTextOctet"
+            83 "BadTrailer"
+            84 "Write"
+            85 "Failed"
+            91 "ScriptLine"
+            92 "ScriptTooLong"
+
+            // Tickets
+            100 "Form"
+            101 "Version"
+            102 "Impossible"
+        }
+    };
+}
+
 /// The name of a cause by its number: those of octets, of packing, of scripts and of tickets.
 #[tactic(auto, unfolding(crate::specs::Format::Names::cause_named, crate::specs::Format::Names::cause_names))]
 fn cause_named(number: u8) -> Option<&'static str>
     ensures { MatchOption result (cause_named number ≡ None) (λ name. cause_named number ≡ Some name.now) }
 {
-    match number {
-        1 => Some("Marker"),
-        2 => Some("CountForm"),
-        3 => Some("Truncated"),
-        10 => Some("RecordOrder"),
-        11 => Some("UnknownDataset"),
-        12 => Some("Repeated"),
-        13 => Some("CountRange"),
-        14 => Some("Missing"),
-        15 => Some("BadValue"),
-        16 => Some("FileFormat"),
-        20 => Some("ModeClash"),
-        21 => Some("SizeClash"),
-        22 => Some("SubfileTooLong"),
-        23 => Some("PastSize"),
-        24 => Some("Short"),
-        25 => Some("ConfirmedWrong"),
-        30 => Some("BadOctet"),
-        32 => Some("Unfinished"),
-        40 => Some("LoneReturn"),
-        41 => Some("ControlOctet"),
-        50 => Some("HeaderFull"),
-        51 => Some("TooManyFields"),
-        52 => Some("TooManySubfiles"),
-        60 => Some("Sink"),
-        61 => Some("Failed"),
-        70 => Some("OutOfMemory"),
-        80 => Some("PastAnnounced"),
-        81 => Some("ShortOfAnnounced"),
-        82 => Some("BadTextOctet"),
-        83 => Some("BadTrailer"),
-        84 => Some("Write"),
-        85 => Some("Failed"),
-        91 => Some("ScriptLine"),
-        92 => Some("ScriptTooLong"),
-        100 => Some("Form"),
-        101 => Some("Version"),
-        102 => Some("Impossible"),
-        _ => None,
-    }
+    cause_in_table!(number)
 }
 
 /// The name of a layer by its number.
@@ -71,7 +92,7 @@ fn layer_named(number: u8) -> Option<&'static str>
 }
 
 /// Writes a name with a NUL after it, where there is room for both, and answers how many octets it has: 0 where there is none.
-pub fn put_name(name: Option<&str>, out: &mut [u8]) -> usize
+pub(crate) fn put_name(name: Option<&str>, out: &mut [u8]) -> usize
     ensures { IsNamed (name_told name.entry) out.old out.new result }
 {
     let name = name.unwrap_or("").as_bytes();

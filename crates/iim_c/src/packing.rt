@@ -24,7 +24,7 @@ pub struct IimPacking {
 }
 
 /// The request for these. None where a maximum is told of a known size, or where a number is above the greatest size.
-pub fn request_for(packing: IimPacking) -> Option<PackRequest>
+pub(crate) fn request_for(packing: IimPacking) -> Option<PackRequest>
     ensures request { IfSome result (Asks packing) }
     ensures none { IfNone result (AsksNothing packing) }
 {
