@@ -157,6 +157,10 @@ void iim_check(iim_limits limits, const uint8_t *octets, size_t len, iim_answer 
  * IIM_BAD_TICKET: cause 100 (no ticket), 101 (of another version), 102 (of a
  * place where no envelope can be), 50 or 51 (it passes the limits).
  * IIM_NO_MEMORY: nothing of the piece counts as used.
+ *
+ * Each call takes memory for what the limits allow and for the next ticket, and
+ * frees it. So small pieces cost more than large ones: blocks of 4,096 octets
+ * and more are good.
  */
 void iim_feed(iim_limits limits, const uint8_t *ticket, size_t ticket_len, uint64_t at,
               const uint8_t *piece, size_t piece_len, uint8_t *text_out, size_t text_len,
@@ -289,8 +293,8 @@ typedef struct iim_packing {
  * are asked for. out is as it was.
  * IIM_BAD_PACKING: subfile or max is above 9,223,372,036,854,775,807, or a
  * maximum is told of a known size. out is as it was.
- * IIM_NO_MEMORY: out is as it was. About as many octets as script and envelope
- * have together are taken at most a few times over.
+ * IIM_NO_MEMORY: out is as it was. Memory is taken for the datasets, the lines
+ * and the envelope itself.
  */
 void iim_pack(iim_packing packing, const uint8_t *script, size_t script_len, uint8_t *out,
               size_t out_len, iim_answer *answer);
@@ -354,8 +358,9 @@ bool iim_admits(uint8_t rec, uint8_t set, const uint8_t *octets, size_t len);
 /*
  * The functions below write a name of ASCII characters with a NUL after it into
  * out, where it has room for both, and else leave out as it was. They return how
- * many characters the name has, without the NUL; 0 where there is no such name.
- * 64 octets are enough for each. They take no memory.
+ * many characters the name has, without the NUL. Where there is no such name that
+ * is 0, and the NUL alone is written. 64 octets are enough for each name. They
+ * take no memory.
  */
 
 /* The name of a cause by its number, as `CountRange` for 13. */
