@@ -1,0 +1,783 @@
+"""Envelopes of the Information Interchange Model, version 4, with wire copy: read, checked and packed by the library libiim.so.
+
+    import iim
+
+    for envelope in iim.read("copy.iim"):
+        print(envelope.id.service, envelope.headline, envelope.bylines, envelope.lines)
+
+    $ python3 -m iim FILE..        prints a line of JSON for each envelope
+
+What is read is handed to the library block by block, and never held as a whole. Octets are `Octets`, which are `bytes`: no character
+set is known here, so their `text(encoding)` has to be told one. Octets that are refused raise `Refused`, which names the layer, the
+dataset, the octet and the cause; where the input ends too early that is `Truncated`.
+
+The library is the one that IIM_LIBRARY names, or else that beside this file, or where bindings/build puts it, or where the system
+looks. docs/CAUSES.md has the causes, docs/FORMAT.md the format, docs/USE.md a whole program.
+"""
+from __future__ import annotations
+
+import argparse
+import ctypes
+import functools
+import json
+import os
+import re
+import sys
+from typing import Any, BinaryIO, Callable, Dict, Iterable, Iterator, List, NamedTuple, Optional, Tuple, Union
+
+__all__ = [
+    "Envelope", "Fed", "Field", "Header", "Id", "Limits", "Octets", "Receiver", "Refused", "Rule", "ScriptRefused", "Sizes",
+    "TicketRefused", "Truncated", "WIRE", "admits", "cause_name", "check", "dataset_name", "layer_name", "pack", "read", "row", "script",
+]  # fmt: skip
+
+# How many octets of an input are read at a time.
+BLOCK = 65_536
+
+# The greatest size of an object, and the greatest limit.
+GREATEST = 2**63 - 1
+GREATEST_LIMIT = 2**32 - 1
+
+
+# --- The library: iim.h in Python ---
+
+
+class _Limits(ctypes.Structure):
+    _fields_ = [("octets", ctypes.c_uint32), ("fields", ctypes.c_uint32)]
+
+
+class _Answer(ctypes.Structure):
+    _fields_ = [
+        *((name, ctypes.c_uint8) for name in ("status", "layer", "cause", "rec", "set")),
+        ("octet", ctypes.c_uint64),
+        *((name, ctypes.c_size_t) for name in ("used", "written", "ticket")),
+    ]
+
+
+class _Span(ctypes.Structure):
+    _fields_ = [("offset", ctypes.c_size_t), ("count", ctypes.c_size_t)]
+
+
+class _Dataset(ctypes.Structure):
+    _fields_ = [("rec", ctypes.c_uint8), ("set", ctypes.c_uint8), ("data", _Span)]
+
+
+class _Message(ctypes.Structure):
+    TEXTS = "source", "number", "priority", "category", "words", "info", "trailer"
+    _fields_ = [("part", ctypes.c_uint8), *((name, _Span) for name in TEXTS)]
+
+
+class _Object(ctypes.Structure):
+    _fields_ = [
+        *((f"has_{name}", ctypes.c_bool) for name in ("mode", "subfile", "announced", "maximum")),
+        *((name, ctypes.c_uint64) for name in ("mode", "subfile", "announced", "maximum", "subfiles", "octets")),
+    ]
+
+
+class _Packing(ctypes.Structure):
+    _fields_ = [("subfile", ctypes.c_uint64), ("unknown", ctypes.c_bool), ("has_max", ctypes.c_bool), ("max", ctypes.c_uint64)]
+
+
+class _Rule(ctypes.Structure):
+    _fields_ = [
+        *((name, ctypes.c_uint64) for name in ("min", "max")),
+        *((name, ctypes.c_uint8) for name in ("kind", "duty")),
+        ("repeats", ctypes.c_bool),
+    ]
+
+
+_DONE, _MORE, _REFUSED, _TRUNCATED, _NONE, _SHORT, _NO_MEMORY, _BAD_TICKET, _BAD_PACKING = range(9)
+
+_VERSION = 1
+
+# Each function of iim.h: what it answers, and what it takes. Octets come as a pointer and a length.
+_OCTETS = [ctypes.c_void_p, ctypes.c_size_t]
+_TO_ANSWER = ctypes.POINTER(_Answer)
+_FUNCTIONS: Dict[str, Tuple[Any, List[Any]]] = {
+    "iim_check": (None, [_Limits, *_OCTETS, _TO_ANSWER]),
+    "iim_feed": (None, [_Limits, *_OCTETS, ctypes.c_uint64, *_OCTETS, *_OCTETS, *_OCTETS, _TO_ANSWER]),
+    "iim_end": (None, [_Limits, *_OCTETS, ctypes.c_uint64, _TO_ANSWER]),
+    "iim_field": (None, [*_OCTETS, ctypes.c_size_t, ctypes.POINTER(_Dataset), _TO_ANSWER]),
+    "iim_header": (None, [*_OCTETS, ctypes.POINTER(_Message), _TO_ANSWER]),
+    "iim_sizes": (None, [*_OCTETS, ctypes.POINTER(_Object), _TO_ANSWER]),
+    "iim_pack": (None, [_Packing, *_OCTETS, *_OCTETS, _TO_ANSWER]),
+    "iim_pack_size": (None, [_Packing, *_OCTETS, _TO_ANSWER]),
+    "iim_row": (ctypes.c_bool, [ctypes.c_uint8, ctypes.c_uint8, ctypes.POINTER(_Rule)]),
+    "iim_admits": (ctypes.c_bool, [ctypes.c_uint8, ctypes.c_uint8, *_OCTETS]),
+    "iim_cause_name": (ctypes.c_size_t, [ctypes.c_uint8, *_OCTETS]),
+    "iim_layer_name": (ctypes.c_size_t, [ctypes.c_uint8, *_OCTETS]),
+    "iim_dataset_name": (ctypes.c_size_t, [ctypes.c_uint8, ctypes.c_uint8, *_OCTETS]),
+    "iim_version": (ctypes.c_uint32, []),
+}
+
+
+def _load() -> ctypes.CDLL:
+    """The library, from the first place that has it."""
+    here = os.path.dirname(os.path.realpath(__file__))
+    built = [f"{here}/libiim.so", f"{os.path.dirname(here)}/out/libiim.so"]
+    place = os.environ.get("IIM_LIBRARY") or next(filter(os.path.exists, built), "libiim.so")
+    try:
+        library = ctypes.CDLL(place)
+        for name, (answers, takes) in _FUNCTIONS.items():
+            function = getattr(library, name)
+            function.restype, function.argtypes = answers, takes
+    except (OSError, AttributeError) as fault:
+        raise ImportError(f"no libiim.so: bindings/build makes it, and IIM_LIBRARY may name it ({fault})") from None
+    if library.iim_version() != _VERSION:
+        raise ImportError(f"{place} is of version {library.iim_version()}, and this module is for version {_VERSION}")
+    return library
+
+
+_library = _load()
+
+
+def _name(function: Callable[..., int], *numbers: int) -> Optional[str]:
+    """A name that the library tells of some numbers, or None."""
+    out = ctypes.create_string_buffer(64)
+    return out.value.decode("ascii") if function(*numbers, out, len(out)) else None
+
+
+@functools.lru_cache(maxsize=None)
+def dataset_name(record: int, number: int) -> Optional[str]:
+    """The name of a dataset that stands in the tables, as "Headline" for 2:105, else None."""
+    return _name(_library.iim_dataset_name, *_numbers_of(record, number))
+
+
+@functools.lru_cache(maxsize=None)
+def cause_name(cause: int) -> Optional[str]:
+    """The name of a cause, as "CountRange" for 13, or None."""
+    return _name(_library.iim_cause_name, *_numbers_of(cause))
+
+
+@functools.lru_cache(maxsize=None)
+def layer_name(layer: int) -> Optional[str]:
+    """The name of a layer, as "dataset" for 1, or None."""
+    return _name(_library.iim_layer_name, *_numbers_of(layer))
+
+
+def _numbers_of(*numbers: int) -> Tuple[int, ...]:
+    """The numbers, each of which has to be one of an octet."""
+    for number in numbers:
+        if not 0 <= number <= 255:
+            raise ValueError(f"{number} is not from 0 to 255")
+    return numbers
+
+
+# --- Values ---
+
+
+class Octets(bytes):
+    """Octets as they were sent: `bytes`, which can be told as text."""
+
+    def text(self, encoding: str, errors: str = "strict") -> str:
+        """The octets as text of an encoding. The format doesn't tell which: the sender has to."""
+        return self.decode(encoding, errors)
+
+
+class Limits(NamedTuple):
+    """The most that records 1 and 2 of an envelope may have together."""
+
+    octets: int = 65_536
+    fields: int = 512
+
+
+# The limits of the command.
+WIRE = Limits()
+
+
+class Rule(NamedTuple):
+    """What the tables say of a dataset: the least and the greatest number of octets, and whether it may occur more than once. `kind`
+    and `duty` are the numbers of iim.h."""
+
+    least: int
+    greatest: int
+    kind: int
+    duty: int
+    repeats: bool
+
+
+class Field(NamedTuple):
+    """A dataset of record 1 or 2."""
+
+    record: int
+    number: int
+    octets: Octets
+
+    @property
+    def dataset(self) -> str:
+        """Both numbers, as "2:105"."""
+        return f"{self.record}:{self.number:02}"
+
+    @property
+    def name(self) -> Optional[str]:
+        """Its name in the standard, as "Headline", or None."""
+        return dataset_name(self.record, self.number)
+
+
+class Id(NamedTuple):
+    """What an envelope is known by. Two of the same id are the same envelope, sent again."""
+
+    service: Octets
+    number: Octets
+    date_sent: Octets
+
+
+class Header(NamedTuple):
+    """The header of a message."""
+
+    source: Octets
+    number: Octets
+    priority: Octets
+    category: Octets
+    words: Octets
+    info: Octets
+
+
+class Sizes(NamedTuple):
+    """What records 7 to 9 say of the object: the mode (7:10), the largest size of a subfile (7:20), the announced size (7:90) and the
+    maximum (7:95), or None; and how many subfiles and octets the object has."""
+
+    mode: int
+    subfile: int
+    announced: Optional[int]
+    maximum: Optional[int]
+    subfiles: int
+    total: int
+
+
+def row(record: int, number: int) -> Optional[Rule]:
+    """What the tables say of a dataset, or None where it has no row."""
+    rule = _Rule()
+    if not _library.iim_row(*_numbers_of(record, number), rule):
+        return None
+    return Rule(rule.min, rule.max, rule.kind, rule.duty, rule.repeats)
+
+
+def admits(record: int, number: int, octets: bytes) -> bool:
+    """Whether the dataset has a row, and the octets are as it says."""
+    return _library.iim_admits(*_numbers_of(record, number), octets, len(octets))
+
+
+@functools.lru_cache(maxsize=None)
+def _plain_names() -> Dict[str, Tuple[int, int, bool]]:
+    """Each dataset of records 1 and 2 that has a name, by its plain one: its record, its number, and whether it repeats.
+
+    The plain name is the standard's in small letters, without hyphens and points, with `_` for all else that is no letter. Where the
+    dataset repeats it is in the plural: `headline`, `date_sent`, `bylines`, `byline_titles`, `supplemental_categories`.
+    """
+    names = {}
+    for record in (1, 2):
+        for number in range(256):
+            name = dataset_name(record, number)
+            if name is not None:
+                repeats = row(record, number).repeats
+                plain = re.sub("[^a-z0-9]+", "_", re.sub("[-.]", "", name.lower())).strip("_")
+                names[_plural(plain) if repeats else plain] = record, number, repeats
+    return names
+
+
+def _plural(name: str) -> str:
+    """The plural of a name."""
+    if name.endswith("s"):
+        return name
+    return name[:-1] + "ies" if name.endswith("y") else name + "s"
+
+
+# --- What is refused ---
+
+
+class Refused(Exception):
+    """Octets are refused: by which layer, on which dataset, at which octet, and why."""
+
+    def __init__(self, nth: int, at: int, layer: str, record: int, number: int, octet: int, cause: int, story: bytes = b"") -> None:
+        super().__init__(nth, at, layer, record, number, octet, cause, story)
+        # Which envelope of the input it is, from 1, and where its first octet stands there.
+        self.nth, self.at = nth, at
+        self.layer, self.record, self.number = layer, record, number
+        # The offset from the envelope's first octet of the one that completes what is refused.
+        self.octet, self.cause = octet, cause
+        # What came of the story before it: of `Receiver.feed` in the last piece, else of the whole envelope.
+        self.story = Octets(story)
+
+    @property
+    def dataset(self) -> str:
+        """The numbers of the dataset that is named, as "8:10"."""
+        return f"{self.record}:{self.number:02}"
+
+    @property
+    def octet_in_file(self) -> int:
+        """The offset of that octet from the first one of the input."""
+        return self.at + self.octet
+
+    @property
+    def cause_name(self) -> str:
+        """The name of the cause."""
+        return cause_name(self.cause) or ""
+
+    def __str__(self) -> str:
+        """The line of `iimwire check`."""
+        return f"{self.nth} refused at octet {self.octet} by layer {self.layer} on {self.dataset}, cause {self.cause} {self.cause_name}"
+
+    def as_json(self) -> Dict[str, Any]:
+        """What is told of it as a value of JSON."""
+        told = {name: getattr(self, name) for name in ("layer", "dataset", "octet", "octet_in_file", "cause", "cause_name")}
+        return {"envelope": self.nth, "at": self.at, "refused": {**told, "name": dataset_name(self.record, self.number)}}
+
+
+class Truncated(Refused):
+    """The input ends inside an envelope. More octets may complete it."""
+
+
+class TicketRefused(Exception):
+    """Octets are no ticket from which a receiver can go on."""
+
+    def __init__(self, cause: int) -> None:
+        super().__init__(cause)
+        self.cause = cause
+
+    def __str__(self) -> str:
+        return f"no ticket: cause {self.cause} {cause_name(self.cause)}"
+
+
+class ScriptRefused(Exception):
+    """A script can't be packed: which line of it, from 1, is at fault, and why."""
+
+    def __init__(self, line: int, cause: int) -> None:
+        super().__init__(line, cause)
+        self.line, self.cause = line, cause
+
+    def __str__(self) -> str:
+        """The line of `iimwire pack`."""
+        return f"refused: script line {self.line} cause {self.cause} {cause_name(self.cause)}"
+
+
+# --- Envelopes ---
+
+
+class Envelope:
+    """An envelope that is whole.
+
+    Each dataset of records 1 and 2 that has a name in the standard is an attribute: `headline`, `date_sent`, `urgency` are its octets,
+    or None where there is none; those that may repeat are in the plural, as `bylines`, `keywords` and `supplemental_categories`, and
+    are lists. `dir(envelope)` has all of them. `all` and `first` take numbers.
+    """
+
+    def __init__(self, ticket: bytes, nth: int, at: int, length: int, story: Optional[bytes]) -> None:
+        # The ticket of the ended envelope, which has all of it but the story.
+        self._ticket = ticket
+        # Which envelope of the input it is, from 1; where its first octet stands there; how many octets it has.
+        self.nth, self.at, self.length = nth, at, length
+        # The lines joined by LF; or None where they were handed on as they came.
+        self.story: Optional[Octets] = None if story is None else Octets(story)
+
+    def _octets(self, span: _Span) -> Octets:
+        return Octets(self._ticket[span.offset : span.offset + span.count])
+
+    @functools.cached_property
+    def fields(self) -> List[Field]:
+        """All datasets of records 1 and 2, in the order in which they were sent."""
+        fields: List[Field] = []
+        dataset, answer, ticket = _Dataset(), _Answer(), self._ticket
+        while True:
+            _library.iim_field(ticket, len(ticket), len(fields), dataset, answer)
+            if answer.status != _DONE:
+                return fields
+            fields.append(Field(dataset.rec, dataset.set, self._octets(dataset.data)))
+
+    @functools.cached_property
+    def _by_number(self) -> Dict[Tuple[int, int], List[Octets]]:
+        found: Dict[Tuple[int, int], List[Octets]] = {}
+        for record, number, octets in self.fields:
+            found.setdefault((record, number), []).append(octets)
+        return found
+
+    def all(self, record: int, number: int) -> List[Octets]:
+        """The octets of each such dataset, in order."""
+        return list(self._by_number.get((record, number), ()))
+
+    def first(self, record: int, number: int) -> Optional[Octets]:
+        """The octets of the first such dataset, or None."""
+        return next(iter(self._by_number.get((record, number), ())), None)
+
+    def __getattr__(self, name: str) -> Any:
+        if name.startswith("_") or name not in _plain_names():
+            raise AttributeError(f"an envelope has no {name!r}")
+        record, number, repeats = _plain_names()[name]
+        return self.all(record, number) if repeats else self.first(record, number)
+
+    def __dir__(self) -> Iterable[str]:
+        return [*super().__dir__(), *_plain_names()]
+
+    def __repr__(self) -> str:
+        return f"<envelope {self.nth} {' '.join(part.text('latin-1') for part in self.id)}, {self.length} octets>"
+
+    @property
+    def id(self) -> Id:
+        """What it is known by: the service, the number and the date sent."""
+        return Id(self.service_identifier, self.envelope_number, self.date_sent)
+
+    @functools.cached_property
+    def _message(self) -> _Message:
+        message = _Message()
+        _library.iim_header(self._ticket, len(self._ticket), message, _Answer())
+        return message
+
+    @property
+    def header(self) -> Header:
+        """The header of the message."""
+        return Header(*(self._octets(getattr(self._message, name)) for name in Header._fields))
+
+    @property
+    def trailer(self) -> Octets:
+        """What stands after the story in the message."""
+        return self._octets(self._message.trailer)
+
+    @functools.cached_property
+    def sizes(self) -> Sizes:
+        """What records 7 to 9 say of the object."""
+        told = _Object()
+        _library.iim_sizes(self._ticket, len(self._ticket), told, _Answer())
+        announced = told.announced if told.has_announced else None
+        maximum = told.maximum if told.has_maximum else None
+        return Sizes(told.mode, told.subfile, announced, maximum, told.subfiles, told.octets)
+
+    @property
+    def lines(self) -> List[Octets]:
+        """The lines of the story."""
+        if self.story is None:
+            raise ValueError("the story was handed on as it came")
+        return [Octets(line) for line in self.story.split(b"\n")]
+
+    def text(self, encoding: str, errors: str = "strict") -> str:
+        """The story as text of an encoding, with a line feed between two lines."""
+        return "\n".join(line.text(encoding, errors) for line in self.lines)
+
+    def as_json(self) -> Dict[str, Any]:
+        """All of it as a value of JSON; octets are told as Latin-1, each as the character of its number."""
+        named = {}
+        for name, (*dataset, repeats) in _plain_names().items():
+            found = self._by_number.get(tuple(dataset))
+            if found:
+                named[name] = [_latin(octets) for octets in found] if repeats else _latin(found[0])
+        return {
+            "envelope": self.nth,
+            "at": self.at,
+            "length": self.length,
+            "named": named,
+            "fields": [{"dataset": field.dataset, "name": field.name, "octets": _latin(field.octets)} for field in self.fields],
+            "header": {name: _latin(octets) for name, octets in self.header._asdict().items()},
+            "trailer": _latin(self.trailer),
+            "sizes": self.sizes._asdict(),
+            "lines": None if self.story is None else [_latin(line) for line in self.lines],
+        }
+
+
+def _latin(octets: bytes) -> str:
+    return octets.decode("latin-1")
+
+
+# --- Receiving ---
+
+
+class Fed(NamedTuple):
+    """What a piece of an input came to: how many octets of it were used; what they have of the story, its lines joined by LF; and the
+    envelope that ends with them, or None. That envelope has no `story`, since it has gone through here."""
+
+    used: int
+    story: Octets
+    envelope: Optional[Envelope]
+
+
+class _Room:
+    """A buffer that grows."""
+
+    def __init__(self, size: int) -> None:
+        self.grow(size)
+
+    def grow(self, size: int) -> None:
+        self.size = size
+        self.octets = ctypes.create_string_buffer(max(1, size))
+
+    def take(self, count: int) -> bytes:
+        return ctypes.string_at(self.octets, count)
+
+
+class Receiver:
+    """Takes one envelope after another, from pieces of any length.
+
+    `ticket` is the place that the octets of the present envelope have led to, and `octets` how many they are. Both may be kept, and
+    `Receiver.resume` goes on from them, in another process or on another machine. After a refusal all calls raise `Refused` of
+    cause 61.
+    """
+
+    def __init__(self, limits: Limits = WIRE) -> None:
+        for limit in limits:
+            if not 1 <= limit <= GREATEST_LIMIT:
+                raise ValueError(f"the limit {limit} is not from 1 to {GREATEST_LIMIT}")
+        self._limits = _Limits(*limits)
+        self._ticket, self._refusal = b"", None
+        self._answer, self._text, self._next = _Answer(), _Room(1_024), _Room(1_024)
+        # How many octets of the present envelope have come; which one of the input it is, from 1; where it begins there.
+        self.octets, self.nth, self.at = 0, 1, 0
+
+    @classmethod
+    def resume(cls, ticket: bytes, octets: int, limits: Limits = WIRE, *, nth: int = 1, at: int = 0) -> Receiver:
+        """A receiver at the place that a ticket tells, after so many octets of its envelope. `nth` and `at` are those of the receiver
+        that gave the ticket: they are told again, and change nothing else."""
+        receiver = cls(limits)
+        if not 0 <= octets < 2**64:
+            raise ValueError(f"{octets} octets")
+        receiver._ticket, receiver.octets, receiver.nth, receiver.at = bytes(ticket), octets, nth, at
+        receiver._ask_end()
+        return receiver
+
+    @property
+    def ticket(self) -> bytes:
+        """The ticket of the place after the octets so far."""
+        self._stand()
+        if not self._ticket:
+            self._feed(b"", 0)
+            return self._next.take(self._answer.ticket)
+        return self._ticket
+
+    def feed(self, piece: Union[bytes, bytearray, memoryview], start: int = 0) -> Fed:
+        """Takes the octets of a piece, from `start` on, up to the end of the present envelope."""
+        self._stand()
+        piece = bytes(piece)
+        if not 0 <= start <= len(piece):
+            raise ValueError(f"the piece has no octet {start}")
+        self._feed(piece, start)
+        answer = self._answer
+        story = Octets(self._text.take(answer.written))
+        if answer.status == _REFUSED:
+            raise self._refused(Refused, story)
+        ticket, self.octets = self._next.take(answer.ticket), answer.octet
+        if answer.status == _MORE:
+            self._ticket = ticket
+            return Fed(answer.used, story, None)
+        envelope = Envelope(ticket, self.nth, self.at, self.octets, None)
+        self._ticket, self.octets, self.nth, self.at = b"", 0, self.nth + 1, self.at + self.octets
+        return Fed(answer.used, story, envelope)
+
+    def end(self) -> None:
+        """Tells that the input ends here. Raises `Truncated` where that is inside an envelope."""
+        self._stand()
+        if self.octets and self._ask_end() == _TRUNCATED:
+            raise self._refused(Truncated, b"", keep=False)
+
+    def _feed(self, piece: bytes, start: int) -> None:
+        """Asks the library, with more room where there is too little."""
+        count = len(piece) - start
+        begin = ctypes.cast(piece, ctypes.c_void_p).value + start
+        while True:
+            text, room, answer = self._text, self._next, self._answer
+            place = self._limits, self._ticket, len(self._ticket), self.octets
+            _library.iim_feed(*place, begin, count, text.octets, text.size, room.octets, room.size, answer)
+            if answer.status != _SHORT:
+                return self._expect(_DONE, _MORE, _REFUSED)
+            if answer.written <= text.size and answer.ticket <= room.size:
+                raise RuntimeError("the library asks for no more room than it has")
+            for short, wanted in (text, answer.written), (room, answer.ticket):
+                if wanted > short.size:
+                    short.grow(2 * wanted)
+
+    def _ask_end(self) -> int:
+        """What the library says of the end of the input here."""
+        _library.iim_end(self._limits, self._ticket, len(self._ticket), self.octets, self._answer)
+        self._expect(_DONE, _TRUNCATED)
+        return self._answer.status
+
+    def _expect(self, *statuses: int) -> None:
+        """Raises what a status says that is none of these."""
+        status = self._answer.status
+        if status == _NO_MEMORY:
+            raise MemoryError
+        if status == _BAD_TICKET:
+            raise TicketRefused(self._answer.cause)
+        if status not in statuses:
+            raise RuntimeError(f"the library answers {status}")
+
+    def _refused(self, kind: type, story: bytes, keep: bool = True) -> Refused:
+        """The refusal that the library has answered."""
+        answer = self._answer
+        place = layer_name(answer.layer) or "", answer.rec, answer.set, answer.octet, answer.cause
+        refusal = kind(self.nth, self.at, *place, story)
+        if keep:
+            self._refusal = refusal
+        return refusal
+
+    def _stand(self) -> None:
+        """Raises cause 61 where something was refused before."""
+        if self._refusal is not None:
+            raise Refused(self.nth, self.at, "outside", 0, 0, self._refusal.octet, 61)
+
+
+def read(
+    file: Union[str, bytes, os.PathLike, BinaryIO], limits: Limits = WIRE, *, on_text: Optional[Callable[[bytes], Any]] = None
+) -> Iterator[Envelope]:
+    """Gives the envelopes of a file one after another: of a path, or of anything that has `read` and gives octets.
+
+    It reads a block at a time, and gives each envelope when its last octet has come. It raises `Refused` at the first octet that is
+    refused, and `Truncated` where the file ends inside an envelope. The story of the envelope in hand is kept in memory; where `on_text`
+    is given, its octets go there as they come, and the envelope has no `story`.
+    """
+    if isinstance(file, (str, bytes, os.PathLike)):
+        with open(file, "rb", buffering=0) as opened:
+            yield from read(opened, limits, on_text=on_text)
+        return
+    receiver, take = Receiver(limits), getattr(file, "read1", file.read)
+    parts: List[bytes] = []
+    add = parts.append if on_text is None else on_text
+    try:
+        while True:
+            piece = take(BLOCK)
+            if piece is None:
+                raise BlockingIOError("the file has no octets now")
+            if not piece:
+                return receiver.end()
+            start = 0
+            while start < len(piece):
+                fed = receiver.feed(piece, start)
+                start += fed.used
+                if fed.story:
+                    add(fed.story)
+                if fed.envelope is not None:
+                    if on_text is None:
+                        fed.envelope.story = Octets(b"".join(parts))
+                        parts.clear()
+                    yield fed.envelope
+    except Refused as refusal:
+        if on_text is None:
+            refusal.story = Octets(b"".join(parts) + refusal.story)
+        elif refusal.story:
+            on_text(refusal.story)
+        raise
+
+
+def check(octets: bytes, limits: Limits = WIRE) -> int:
+    """How many octets the envelope has that these octets begin with. Raises `Refused` or `Truncated` where they begin with none."""
+    receiver = Receiver(limits)
+    answer = receiver._answer
+    _library.iim_check(receiver._limits, octets, len(octets), answer)
+    receiver._expect(_DONE, _REFUSED, _TRUNCATED)
+    if answer.status == _DONE:
+        return answer.octet
+    raise receiver._refused(Refused if answer.status == _REFUSED else Truncated, b"")
+
+
+# --- Packing ---
+
+
+def script(
+    fields: Iterable[Tuple[int, int, bytes]], header: Iterable[bytes], lines: Iterable[bytes], trailer: bytes = b""
+) -> bytes:
+    """The script of an envelope, which `pack` takes: its datasets of records 1 and 2, each with its record and number; the source,
+    number, priority, category, words and info of its message; its lines; and its trailer."""
+    made = [b"%d:%d %s" % (record, number, _shown(octets)) if octets else b"%d:%d" % (record, number) for record, number, octets in fields]
+    *parts, info = header
+    made.append(b" ".join([b"message", *parts, *([_shown(info)] if info else [])]))
+    if trailer:
+        made.append(b"trailer " + _shown(trailer))
+    made.append(b"text")
+    for line in lines:
+        if b"\n" in line or b"\r" in line:
+            raise ValueError("a line has no line end in it")
+        made.append(line)
+    return b"\n".join([*made, b""])
+
+
+def _shown(octets: bytes) -> bytes:
+    """Octets as a script has them."""
+    return b"".join(bytes([octet]) if 0x20 <= octet <= 0x7E and octet != 0x5C else b"\\x%02X" % octet for octet in octets)
+
+
+def pack(script: bytes, *, subfile: int = 1_024, unknown: bool = False, maximum: Optional[int] = None) -> bytes:
+    """The envelope that a script tells, in subfiles of at most so many octets; its size is announced, unless it is to be unknown, when
+    a maximum may be told. Raises `ScriptRefused`. docs/FORMAT.md has the form of a script, `script` makes one."""
+    if not 1 <= subfile <= GREATEST or maximum is not None and not 0 <= maximum <= GREATEST:
+        raise ValueError(f"a subfile has 1 to {GREATEST} octets, a maximum 0 to {GREATEST}")
+    if maximum is not None and not unknown:
+        raise ValueError("a maximum is told of an unknown size")
+    packing = _Packing(subfile, unknown, maximum is not None, maximum or 0)
+    out, answer = _Room(len(script) + 256), _Answer()
+    while True:
+        _library.iim_pack(packing, script, len(script), out.octets, out.size, answer)
+        if answer.status != _SHORT:
+            break
+        if answer.written <= out.size:
+            raise RuntimeError("the library asks for no more room than it has")
+        out.grow(answer.written)
+    if answer.status == _NO_MEMORY:
+        raise MemoryError
+    if answer.status == _REFUSED:
+        raise ScriptRefused(answer.octet, answer.cause)
+    if answer.status != _DONE:
+        raise RuntimeError(f"the library answers {answer.status}")
+    return out.take(answer.written)
+
+
+# --- The command ---
+
+
+class CannotWrite(Exception):
+    """Standard output takes no more."""
+
+
+def print_line(value: Dict[str, Any]) -> None:
+    """Prints a value as a line of JSON, at once. Raises `CannotWrite`, and then nothing more is written."""
+    try:
+        sys.stdout.write(json.dumps(value) + "\n")
+        sys.stdout.flush()
+    except OSError:
+        # (so that Python doesn't try it once more at its end)
+        os.dup2(os.open(os.devnull, os.O_WRONLY), sys.stdout.fileno())
+        raise CannotWrite from None
+
+
+def _print_file(named: Dict[str, str], file: Any, limits: Limits) -> int:
+    """Prints the lines of a file, and answers the status."""
+    try:
+        for envelope in read(file, limits):
+            print_line({**named, **envelope.as_json()})
+    except Refused as refusal:
+        print_line({**named, **refusal.as_json()})
+        return 1
+    except OSError as fault:
+        print_line({**named, "failed": f"cannot read: {fault.strerror}"})
+        return 3
+    return 0
+
+
+def _print_named(name: str, limits: Limits) -> int:
+    """Opens a file and prints its lines, each with the file's name; answers the status."""
+    try:
+        file = open(name, "rb", buffering=0)
+    except OSError as fault:
+        print_line({"file": name, "failed": f"cannot open: {fault.strerror}"})
+        return 3
+    with file:
+        return _print_file({"file": name}, file, limits)
+
+
+def main(words: Optional[List[str]] = None) -> int:
+    """Prints a line of JSON for each envelope of the files, or else of standard input, and one for each refusal. Answers the status: 0
+    all accepted, 1 refused, 2 a mistake in the words, 3 a file, output or memory fault."""
+    parser = argparse.ArgumentParser("python3 -m iim", description="Prints a line of JSON for each envelope. Octets are told as Latin-1.")
+    parser.add_argument("files", metavar="FILE", nargs="*", help="a file to read, or else standard input")
+    parser.add_argument("--limits", metavar=("OCTETS", "FIELDS"), type=int, nargs=2, default=WIRE, help="of records 1 and 2 together")
+    asked = parser.parse_args(words)
+    limits = Limits(*asked.limits)
+    if not all(1 <= limit <= GREATEST_LIMIT for limit in limits):
+        parser.error(f"a limit is from 1 to {GREATEST_LIMIT}")
+    try:
+        if asked.files:
+            return max([_print_named(name, limits) for name in asked.files])
+        return _print_file({}, sys.stdin.buffer, limits)
+    except MemoryError:
+        sys.stderr.write("out of memory\n")
+    except CannotWrite:
+        sys.stderr.write("cannot write\n")
+    return 3
+
+
+if __name__ == "__main__":
+    sys.exit(main())
