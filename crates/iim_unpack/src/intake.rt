@@ -90,9 +90,8 @@ fn feed_piece<R: Source, S: StorySink>(
     ensures fed { IfOk result (FedPiece S.goes (with_held block.old (R.state reader.old))
         (with_held block.new (R.state reader.new)) unpacker.old unpacker.new sink.old sink.new) }
     ensures calm { OnOk result (S.failures sink.new ≡ S.failures sink.old) }
-    ensures faults { IfErr result (λ halt.
-        Faults S.goes S.failures (with_held block.old (R.state reader.old)) (with_held block.new (R.state reader.new))
-        unpacker.old sink.old sink.new halt.1 halt.0) }
+    ensures faults { IfErr result (λ halt. Faults S.goes S.failures (with_held block.old (R.state reader.old))
+        (with_held block.new (R.state reader.new)) unpacker.old sink.old sink.new halt.1 halt.0) }
     ensures unread { IfErr result (λ halt. IsOfReader halt.0 → (sink.new ≡ sink.old) × (block.old ≡ [])) }
     ensures ended { IfOk result (λ fed. fed ≡ Fed.End → block.old ≡ []) }
     ensures held { 0 < length block.old → reader.new ≡ reader.old }
