@@ -3,7 +3,7 @@
 
   bindings/python/measure.py [TURNS]    3 turns where no number is given
 
-There are two trees: 4,000 files of one envelope, and 40 files of 200 envelopes. Each envelope has 22 datasets and a story of 4 KB. A
+There are two trees: 4,000 files of one envelope, and 40 files of 200 envelopes, which are a task each. Each envelope has 22 datasets and a story of 4 KB. A
 turn is a run of archive.py, its start and its output counted. The line has the best turn, and the fewest processor seconds that a turn
 took, of all its processes together: they tell what it costs where a machine has other work too. `processes` is how GNU parallel would
 do it: one `iimwire check` for each file, four at a time (of crates/iimwire/out/iimwire, where that is built).
@@ -60,10 +60,11 @@ def main():
     turns = int(sys.argv[1]) if len(sys.argv) > 1 else 3
     ways = [("this process", []), *((f"--workers {count}", ["--workers", str(count)]) for count in WORKERS)]
     print(f"{'files':>6} {'envelopes':>9} {'way':<14} {'seconds':>8} {'processor':>9} {'files/s':>8} {'envelopes/s':>12}")
-    for files, envelopes in (4_000, 1), (40, 200):
+    for files, envelopes, batch in (4_000, 1, 32), (40, 200, 1):
         with tempfile.TemporaryDirectory() as folder:
             make(folder, files, envelopes)
-            runs = [(way, [sys.executable, f"{HERE}/archive.py", "--now", "2024-03-01T12:00:00Z", *words, folder]) for way, words in ways]
+            archive = [sys.executable, f"{HERE}/archive.py", "--now", "2024-03-01T12:00:00Z", "--batch", str(batch)]
+            runs = [(way, [*archive, *words, folder]) for way, words in ways]
             if os.access(COMMAND, os.X_OK):
                 runs.append(("processes", ["sh", "-c", f"find {folder} -type f -print0 | xargs -0 -n 1 -P 4 {COMMAND} check"]))
             for way, words in runs:
