@@ -24,7 +24,7 @@ fn trouble_of(fault: &StartFault<TrialWriter<512>>) -> Trouble {
 /// Packs the worked envelope call by call: after `start` nothing takes memory.
 pub(crate) fn call_by_call(alloc: Global, envelope: &Envelope) -> Result<(), Trouble> {
     let writer = packed(alloc, envelope, 1024)?;
-    right(writer.octets() == STORY)
+    right(writer.octets() == STORY.as_slice())
 }
 
 /// Packs it so in subfiles of up to so many octets, into so many octets.
@@ -56,7 +56,7 @@ fn packed(alloc: Global, envelope: &Envelope, subfile: u64) -> Result<TrialWrite
 /// Packs the worked envelope in one call.
 pub(crate) fn at_once(alloc: Global, envelope: &Envelope, lines: &Lines) -> Result<(), Trouble> {
     match pack(alloc, envelope, &head()?, lines, b"", plan(1024)?, writer()) {
-        Ok(writer) => right(writer.octets() == STORY),
+        Ok(writer) => right(writer.octets() == STORY.as_slice()),
         Err(fault) => Err(trouble_of(&fault)),
     }
 }

@@ -107,7 +107,7 @@ pub(crate) fn restored(alloc: Global) -> Result<(), Trouble> {
 /// Takes the worked envelope from a reader: after `new` nothing takes memory.
 pub(crate) fn taken_in(alloc: Global) -> Result<(), Trouble> {
     let unpacker = Unpacker::new(alloc, LIMITS)?;
-    let mut intake = Intake::new(FromRead::new(STORY));
+    let mut intake = Intake::new(FromRead::new(STORY.as_slice()));
     match intake.next_envelope(unpacker, &mut Discard) {
         Ok(Some(got)) => { right(intake.octets() == 246 && is_worked(&got.envelope)) }
         _ => Err(Trouble::Wrong),
