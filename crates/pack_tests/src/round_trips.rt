@@ -95,9 +95,10 @@ fn every_small_plan_comes_back(rt: HostRuntime) {
 #[test]
 fn a_packed_front_alone_is_truncated(rt: HostRuntime) {
     let alloc = rt.alloc();
-    for length in 0..STORY.len() {
+    let story = *STORY;
+    for length in 0..story.len() {
         let mut lines = Lines::new(alloc);
-        match unpack_packed(alloc, LIMITS, &[&STORY[..length]], &mut lines) {
+        match unpack_packed(alloc, LIMITS, &[&story[..length]], &mut lines) {
             Err(UnpackFault::Refused(refusal)) => {
                 assert!(rt; refusal.cause == Cause::Truncated);
                 assert_eq!(rt; refusal.octet, length as u64);
@@ -110,7 +111,8 @@ fn a_packed_front_alone_is_truncated(rt: HostRuntime) {
 #[test]
 fn a_story_comes_back_before_others(rt: HostRuntime) {
     let alloc = rt.alloc();
-    let (front, back) = STORY.split_at(200);
+    let octets = *STORY;
+    let (front, back) = octets.split_at(200);
     let Ok(story) = unpack_story(alloc, LIMITS, &[front, b"", back, SMALLEST]) else {
         panic!(rt; "no story");
     };
@@ -131,15 +133,16 @@ fn a_story_comes_back_before_others(rt: HostRuntime) {
 #[test]
 fn a_story_is_refused_at_its_octet(rt: HostRuntime) {
     let alloc = rt.alloc();
+    let story = *STORY;
     // The last octet says 49 in place of 50.
-    match unpack_story(alloc, LIMITS, &[&STORY[..245], b"\x31"]) {
+    match unpack_story(alloc, LIMITS, &[&story[..245], b"\x31"]) {
         Err(UnpackFault::Refused(refusal)) => {
             assert!(rt; refusal.cause == Cause::ConfirmedWrong);
             assert_eq!(rt; refusal.octet, 245);
         }
         _ => panic!(rt; "another total is confirmed"),
     }
-    match unpack_story(alloc, LIMITS, &[&STORY[..200]]) {
+    match unpack_story(alloc, LIMITS, &[&story[..200]]) {
         Err(UnpackFault::Refused(refusal)) => {
             assert!(rt; refusal.cause == Cause::Truncated);
             assert_eq!(rt; refusal.octet, 200);

@@ -63,8 +63,9 @@ fn two_lines(rt: HostRuntime) -> Result<(), Fail> {
 #[test]
 fn one_long_line(rt: HostRuntime) -> Result<(), Fail> {
     let line = vec![in rt.alloc(); b'a'; 32_754]?;
+    let smallest = *SMALLEST;
     let pieces: [&[u8]; 6] = [
-        &SMALLEST[..73],
+        &smallest[..73],
         b"\x00\x00\x80\x00\x1c\x07\x5a\x00\x04\x00\x00\x80\x00",
         b"\x1c\x08\x0a\x80\x04\x00\x00\x80\x00\x01X1 4 N 0\r\n\x02",
         line.as_slice(),
