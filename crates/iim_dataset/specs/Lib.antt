@@ -7,6 +7,6 @@ pub mod Laws
 -- What only proofs and private clauses cite.
 pub mod Fronts
 pub mod TagEnds
-pub mod Later
-pub mod TrialLaws
 pub mod Calls
+-- What impls of a source hand in.
+pub mod Later

@@ -2,5 +2,4 @@ pub mod Events
 pub mod Places
 pub mod Reading
 pub mod Devices
-pub mod Trials
 pub mod Reserved

@@ -27,7 +27,6 @@ mod size;
 mod source;
 mod stop;
 mod target;
-mod trial;
 
 pub use dash::NumberOrDash;
 pub use device::IoFault;
@@ -44,4 +43,3 @@ pub use size::{COUNT_OCTETS, GREATEST_SIZE};
 pub use source::{BLOCK, FromRead, Source, take};
 pub use stop::Stop;
 pub use target::{FromWrite, Target, put};
-pub use trial::{TrialReader, TrialWriter, Trouble};

@@ -3,7 +3,8 @@
 mod halting;
 mod reading;
 
-use iim_dataset::{FromRead, IoFault, Source, TrialReader, TrialWriter, Trouble, put, take};
+use iim_dataset::{FromRead, IoFault, Source, put, take};
+use trials::{TrialReader, TrialWriter, Trouble};
 
 #[test]
 fn writer_at_a_million_interruptions(rt: HostRuntime) {

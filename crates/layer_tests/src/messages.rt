@@ -1,8 +1,9 @@
 //! Sinks of messages that count calls and stop, and a long line.
 
-use iim_dataset::{Stop, TrialWriter, Trouble};
+use iim_dataset::Stop;
 use std::alloc::Global;
 use std::process::Abort;
+use trials::{TrialWriter, Trouble};
 use wire_message::{MessageCause, MessageReader};
 use wire_story::{LineWriter, Lines, StorySink};
 use worked::STORY_OBJECT;

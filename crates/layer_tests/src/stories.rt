@@ -4,11 +4,12 @@ ghost use Rattle.std.specs.Prelude.{◌≡◌, ◌++◌, OnOk};
 ghost use Rattle.wire_story.specs.Format.Texts.{AreLines};
 ghost use Rattle.wire_story.specs.Format.Delivery.{delivered};
 
-use iim_dataset::{Stop, TrialWriter, Trouble};
+use iim_dataset::Stop;
 use std::alloc::Global;
 use std::process::Abort;
+use trials::{TrialSink, TrialWriter, Trouble};
 use wire_story::{
-    LineWriter, Lines, StorySink, TextCause, TextFault, TextReader, TrialSink, is_text, text_len,
+    LineWriter, Lines, StorySink, TextCause, TextFault, TextReader, is_text, text_len,
 };
 
 /// A story of two lines.

@@ -6,10 +6,10 @@ use iim_commands::list::list;
 use iim_commands::packing::{PackRequest, pack_script};
 use iim_commands::status::ACCEPTED;
 use iim_commands::story::narrate;
-use iim_dataset::{TrialReader, TrialWriter, Trouble};
 use iim_unpack::Intake;
 use std::alloc::Global;
 use std::test::Fail;
+use trials::{TrialReader, TrialWriter, Trouble};
 use worked::STORY;
 
 /// The script of the smallest envelope, which has 114 octets.

@@ -3,11 +3,11 @@
 use crate::given::head;
 use crate::objects::{plan, writer};
 use crate::outcome::{Trouble, right};
-use iim_dataset::TrialWriter;
 use iim_fields::Envelope;
 use iim_object::{PackCause, StartFault};
 use iim_pack::{Packer, pack};
 use std::alloc::Global;
+use trials::TrialWriter;
 use wire_story::Lines;
 use worked::{FIRST_LINE, LAST_LINE, STORY, STORY_CONFIRMED};
 

@@ -4,7 +4,7 @@ ghost use Rattle.std.specs.Prelude.{◌<◌};
 
 use crate::unpacking::joined;
 use iim_audit::{AuditCause, AuditFault, CopyState, Report, audit};
-use iim_dataset::{FromRead, TrialReader, Trouble};
+use iim_dataset::FromRead;
 use iim_fields::Limits;
 use iim_unpack::Intake;
 use jiff::Timestamp;
@@ -13,6 +13,7 @@ use std::io;
 use std::io::Read;
 use std::process::Abort;
 use std::test::Fail;
+use trials::{TrialReader, Trouble};
 
 /// What the command allows.
 const LIMITS: Limits = Limits::WIRE;

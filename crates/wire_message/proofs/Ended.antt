@@ -20,7 +20,7 @@ use Rattle.wire_message.specs.Steps.{cause_of}
 use Rattle.wire_message.specs.declared.fault.MessageCause.TheVariants.{LoneReturn}
 use Rattle.wire_message.specs.declared.place.Place.TheVariants.{Text, Trailer}
 use Rattle.wire_message.proofs.Machine.{of}
-use Rattle.wire_message.proofs.Spans.{Are-tail, Are-head, Are-cons, Are-append}
+use Rattle.wire_story.proofs.Spans.{Are-tail, Are-head, Are-cons, Are-append}
 use Rattle.wire_message.proofs.TextSoFar.{each}
 use Rattle.wire_message.proofs.Transitions.{text_more}
 use Rattle.wire_message.proofs.Held.{holds_two, holds_none}

@@ -7,7 +7,7 @@ use Rattle.iim_dataset.specs.Format.Octets.{is_digit, is_letter}
 use Rattle.wire_message.specs.Format.Messages.{Header, header_of, IsFiller}
 use Rattle.wire_message.specs.declared.place.Place.{Place}
 use Rattle.wire_message.specs.declared.place.Place.TheVariants.{Filler, Source, Number, Priority, PriorityRead, Category, Words, Info, Gap, Text, Trailer, AfterEnd}
-use Rattle.wire_message.proofs.Spans.{Are-head, Are-tail}
+use Rattle.wire_story.proofs.Spans.{Are-head, Are-tail}
 use Rattle.wire_message.proofs.OneReading.{digit_no_letter}
 
 abbrev pub of : List ℕ → ArrayVec ℕ

@@ -4,7 +4,7 @@ use Rattle.std.proofs.lemmas.Bool.{and_parts, or_cases, both_ways, eqb-true, leb
 use Rattle.wire_message.specs.Format.Fields.{Are, IsField, is_alphanumeric, is_info_octet, is_trailer_octet, is_filler_octet, is_text_octet, max_filler, max_number}
 use Rattle.iim_dataset.specs.Format.Octets.{is_digit, is_letter}
 use Rattle.wire_message.specs.Format.Messages.{Header, IsHeader, IsMessage, BeginsWithHeader, IsGap, SpellsInfo, fixed_header}
-use Rattle.wire_message.proofs.Spans.{span_by, Are-head}
+use Rattle.wire_story.proofs.Spans.{span_by, Are-head}
 
 -- the four filler octets
 pub filler_cases : (P : ℕ → Type 0) (b : ℕ) → is_filler_octet b ≡ true → P 0 → P 10 → P 13 → P 22 → P b

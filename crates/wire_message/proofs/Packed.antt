@@ -4,7 +4,7 @@ use Rattle.wire_story.specs.Format.Texts.{IsLine, IsText, is_line_octet, line_en
 use Rattle.wire_message.specs.Format.Fields.{Are, is_text_octet}
 use Rattle.wire_message.specs.Format.Messages.{Header, IsHeader, IsMessage, IsTrailer, SpellsInfo, fixed_header}
 use Rattle.wire_message.specs.Format.Canonical.{canonical, packed_info}
-use Rattle.wire_message.proofs.Spans.{Are-append, Are-head, Are-tail, Are-cons}
+use Rattle.wire_story.proofs.Spans.{Are-append, Are-head, Are-tail, Are-cons}
 use Rattle.std.proofs.lemmas.Bool.Decides.{nat_tests}
 
 line_octet_text : (b : ℕ) → is_line_octet b ≡ true → is_text_octet b ≡ true

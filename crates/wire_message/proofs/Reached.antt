@@ -13,7 +13,7 @@ use Rattle.wire_message.specs.Format.Lengths.{IsOneOf, fixed_octets, least_head,
 use Rattle.wire_message.specs.Laws.Messages.{PlacesAreReached}
 use Rattle.wire_message.specs.declared.place.Place.{Place}
 use Rattle.wire_message.specs.declared.place.Place.TheVariants.{Filler, Source, Number, Priority, PriorityRead, Category, Words, Info, Gap, Text, Trailer, AfterEnd}
-use Rattle.wire_message.proofs.Spans.{Are-cons, Are-append}
+use Rattle.wire_story.proofs.Spans.{Are-cons, Are-append}
 use Rattle.wire_message.proofs.Transitions.{field_none}
 use Rattle.wire_message.proofs.Ended.{returns_text}
 

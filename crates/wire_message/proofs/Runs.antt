@@ -7,7 +7,7 @@ use Rattle.wire_message.specs.Format.Messages.{Header, header_of, IsHeader, IsMe
 use Rattle.wire_message.specs.States.SoFar.{IsPlace, Spells}
 use Rattle.wire_message.specs.declared.place.Place.{Place}
 use Rattle.wire_message.specs.declared.place.Place.TheVariants.{Filler, Source, Number, Priority, PriorityRead, Category, Words, Info, Gap, Text, Trailer, AfterEnd}
-use Rattle.wire_message.proofs.Spans.{Are-head, Are-tail}
+use Rattle.wire_story.proofs.Spans.{Are-head, Are-tail}
 use Rattle.wire_message.proofs.OneReading.{filler_cases, regroup}
 use Rattle.wire_message.proofs.Machine.{of, gap_leads_on, run, guard_yes, guard_no, step_to, field_run, count_run, extends, fill, reads_filler, reads_soh, reads_number, reads_priority, reads_category, category_ends, reads_words}
 

@@ -14,7 +14,7 @@ use Rattle.wire_message.specs.States.SoFar.{IsPlace, Spells}
 use Rattle.wire_message.specs.States.Reading.{head_read}
 use Rattle.wire_message.specs.declared.place.Place.{Place}
 use Rattle.wire_message.specs.declared.place.Place.TheVariants.{Filler, Source, Number, Priority, PriorityRead, Category, Words, Info, Gap, Text, Trailer, AfterEnd}
-use Rattle.wire_message.proofs.Spans.{Are-append, Are-head, Are-tail, Are-cons}
+use Rattle.wire_story.proofs.Spans.{Are-append, Are-head, Are-tail, Are-cons}
 use Rattle.wire_message.proofs.Transitions.{join2, join3}
 
 -- ---- what stands before and after the first octet of a kind

@@ -6,7 +6,7 @@ use Rattle.wire_message.specs.Format.Fields.{Are, IsField, is_filler_octet, is_t
 use Rattle.wire_message.specs.Format.Messages.{Header, IsHeader, IsTrailer, fixed_header, has_feed}
 use Rattle.wire_message.specs.States.SoFar.{Spells}
 use Rattle.wire_message.specs.declared.place.Place.TheVariants.{Filler, Source, Number, Priority, PriorityRead, Category, Words, Info, Gap, Text, Trailer, AfterEnd}
-use Rattle.wire_message.proofs.Spans.{Are-append}
+use Rattle.wire_story.proofs.Spans.{Are-append}
 use Rattle.wire_message.proofs.Machine.{of, begun}
 use Rattle.wire_story.specs.declared.reader.TextReader.{TextReader}
 

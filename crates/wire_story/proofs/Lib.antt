@@ -1,4 +1,3 @@
-pub mod Spans
 pub mod HeldReturns
 pub mod Lives
 pub mod Told
@@ -14,3 +13,5 @@ pub mod Calm
 pub mod Fronts
 pub mod LineEnds
 pub mod Counted
+-- What proofs of other crates cite.
+pub mod Spans

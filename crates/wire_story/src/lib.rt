@@ -15,7 +15,6 @@ mod piece;
 mod reader;
 mod sink;
 mod size;
-mod trial;
 mod word_count;
 mod writer;
 
@@ -27,6 +26,5 @@ pub use lines::Lines;
 pub use reader::TextReader;
 pub use sink::StorySink;
 pub use size::text_len;
-pub use trial::TrialSink;
 pub use word_count::WordCount;
 pub use writer::LineWriter;

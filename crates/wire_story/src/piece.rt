@@ -50,9 +50,7 @@ fn take_return<S: StorySink>(held: u8, rest: &[u8], sink: &mut S) -> Result<(u8,
     requires some { 0 < length rest.now }
     requires first { slice_index rest.now 0 ≡ cr }
     ensures few { IfOk result (λ front. front.0 ≤ max_returns) }
-    ensures some { IfOk result (λ front. 0 < front.1) }
-    ensures within { IfOk result (λ front. front.1 ≤ length rest.now) }
-    ensures short { IfOk result (λ front. front.1 ≤ 2) }
+    ensures short { IfOk result (λ front. (0 < front.1) × (front.1 ≤ 2) × (front.1 ≤ length rest.now)) }
     ensures taken { IfOk result (λ front.
         TakesPiece S.goes S.failures (Some held) (take front.1 rest.now) (Some front.0) sink.old sink.new) }
     ensures refused { IfErr result (λ fault.
@@ -84,9 +82,7 @@ fn take_mark<S: StorySink>(held: u8, rest: &[u8], sink: &mut S) -> Result<(u8, u
     requires some { 0 < length rest.now }
     requires mark { held ≡ 0 → is_line_octet (slice_index rest.now 0) ≡ false }
     ensures few { IfOk result (λ front. front.0 ≤ max_returns) }
-    ensures some { IfOk result (λ front. 0 < front.1) }
-    ensures within { IfOk result (λ front. front.1 ≤ length rest.now) }
-    ensures short { IfOk result (λ front. front.1 ≤ 2) }
+    ensures short { IfOk result (λ front. (0 < front.1) × (front.1 ≤ 2) × (front.1 ≤ length rest.now)) }
     ensures taken { IfOk result (λ front.
         TakesPiece S.goes S.failures (Some held) (take front.1 rest.now) (Some front.0) sink.old sink.new) }
     ensures refused { IfErr result (λ fault.

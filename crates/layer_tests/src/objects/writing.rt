@@ -1,9 +1,10 @@
 //! Objects written at worked sizes, and to a target that fails at each call.
 
-use iim_dataset::{Target, TrialWriter, Trouble};
+use iim_dataset::Target;
 use iim_object::{PackCause, Plan, Size, SubfileBuffer, SubfileWriter};
 use std::alloc::Global;
 use std::process::Abort;
+use trials::{TrialWriter, Trouble};
 
 /// Three octets in subfiles of two, where no size is known but a maximum.
 const SMALL_OUT: &[u8] = b"\x1C\x07\x0A\x00\x01\x00\

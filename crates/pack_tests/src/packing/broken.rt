@@ -1,13 +1,14 @@
 //! A writer that fails within each call of a packer, and within a whole `pack`.
 
 use super::{envelope, expected, lines, plan, story_head};
-use iim_dataset::{Target, TrialWriter, Trouble};
+use iim_dataset::Target;
 use iim_fields::Envelope;
 use iim_object::{PackCause, Plan, Size, StartFault};
 use iim_pack::{Packer, pack};
 use std::alloc::Global;
 use std::process::Abort;
 use std::test::Fail;
+use trials::{TrialWriter, Trouble};
 use worked::{STORY_FIELDS, STORY_FRONT, STORY_OBJECT};
 
 /// The calls of a packer that pack the worked story.

@@ -1,11 +1,11 @@
 //! A packer whose writer fails.
 
 use super::{envelope, plan, story_head};
-use iim_dataset::{TrialWriter, Trouble};
 use iim_object::{PackCause, Size};
 use iim_pack::Packer;
 use std::alloc::Global;
 use std::process::Abort;
+use trials::{TrialWriter, Trouble};
 use worked::{STORY_FIELDS, STORY_FRONT, STORY_REST};
 
 /// Whether these octets begin the worked envelope.

@@ -5,7 +5,8 @@ use iim_dataset::Stop;
 use iim_unpack::{Cause, Layer, Progress, Unpacker};
 use std::alloc::{AllocError, Global};
 use std::test::Fail;
-use wire_story::{Lines, StorySink, TrialSink};
+use trials::TrialSink;
+use wire_story::{Lines, StorySink};
 use worked::{SMALLEST, STORY};
 
 /// How many calls came, and what the first four of them were: how many octets of text, or 0 for the end of a line.

@@ -1,11 +1,11 @@
 //! Envelopes from a source of one octet a call, which fails.
 
 use super::{LIMITS, refusal};
-use iim_dataset::{TrialReader, Trouble};
 use iim_unpack::{Cause, Intake, IntakeFault, Layer, Unpacker};
 use std::alloc::{AllocError, Global};
 use std::process::Abort;
 use std::test::Fail;
+use trials::{TrialReader, Trouble};
 use wire_story::Discard;
 use worked::{SMALLEST, STORY};
 

@@ -2,8 +2,9 @@
 
 use crate::octets::Words;
 use anyhow::{Result, bail};
-use iim_dataset::{FromWrite, Target, TrialWriter, Trouble};
+use iim_dataset::{FromWrite, Target};
 use std::alloc::Global;
+use trials::{TrialWriter, Trouble};
 
 /// Memory.
 pub type Memory = FromWrite<Vec<u8>>;

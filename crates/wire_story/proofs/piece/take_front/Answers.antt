@@ -23,8 +23,8 @@ returns-in-Ok-take_mark-clause-front g c =
     let used = c.in-Ok-take_mark.used in
     let h = c.in-Ok-take_mark.ensures in record {
       few = h.few;
-      some = omega (arith, h.some);
-      within = omega (arith, h.within, ap length (take_rest rest run), length-drop run rest);
+      some = omega (arith, h.short.0);
+      within = omega (arith, h.short.2, ap length (take_rest rest run), length-drop run rest);
       next = subst (λ (xs : List ℕ). AreMarks xs c.after.result) (ap (drop used) (take_rest rest run) ∙ drop-drop used run rest) c.after.ensures;
     }
 

@@ -1,11 +1,11 @@
 -- The laws of the test reader, handed in by its impl.
 use Rattle.std.proofs.Common.{ℕ, None, refl, ◌<◌, ◌∙◌, arith}
-use Rattle.iim_dataset.specs.declared.trial.Plan.{Plan}
-use Rattle.iim_dataset.specs.declared.trial.Trouble.{Trouble}
-use Rattle.iim_dataset.specs.declared.trial.Trouble.TheVariants.{Failure, Interruptions}
-use Rattle.iim_dataset.specs.declared.trial.TrialReader.{TrialReader}
+use Rattle.trials.specs.declared.device.Plan.{Plan}
+use Rattle.trials.specs.declared.device.Trouble.{Trouble}
+use Rattle.trials.specs.declared.device.Trouble.TheVariants.{Failure, Interruptions}
+use Rattle.trials.specs.declared.device.TrialReader.{TrialReader}
 use Rattle.iim_dataset.specs.States.Devices.{Calm}
-use Rattle.iim_dataset.specs.States.Trials.{planned, SameTrouble, KeepsFailures, GoesByPlan, ReadsOn, trial_device}
+use Rattle.trials.specs.States.Devices.{planned, SameTrouble, KeepsFailures, GoesByPlan, ReadsOn, trial_device}
 use Rattle.iim_dataset.specs.Later.{later_stays, later_leads_on}
 
 same_stays : (t : Trouble) → SameTrouble t t

@@ -2,7 +2,7 @@
 use Rattle.std.specs.Prelude.{◌≡◌, ℕ, ◌+◌, ◌-◌, ◌⊎◌, min, List}
 use Rattle.iim_dataset.specs.Format.Counts.{Rose}
 use Rattle.wire_story.specs.Format.Delivery.{StoryEvent}
-use Rattle.wire_story.specs.declared.trial.TrialSink.{TrialSink}
+use Rattle.trials.specs.declared.sink.TrialSink.{TrialSink}
 
 -- the sink that it stands before
 abbrev pub sink_of : {S : Type 0} → TrialSink S → S

@@ -1,6 +1,6 @@
 use Rattle.std.proofs.Common.{◌≡◌, ◌<◌, ◌+◌, ℕ, List, [], ◌∷◌, ◌++◌, length, take, drop, slice_index_or, slice_set, arith, rules}
 use Rattle.std.proofs.lemmas.List.{drop_more, length-set}
-use Rattle.iim_dataset.proofs.trial.TrialReaderSource.read.Goals as goal
+use Rattle.trials.proofs.device.TrialReaderSource.read.Goals as goal
 
 -- the octet that was stored is the next
 moved : (xs buffer : List ℕ) (at : ℕ) → at < length xs → 0 < length buffer → drop at xs ≡ take 1 (slice_set buffer 0 (slice_index_or xs at 0)) ++ drop (at + 1) xs

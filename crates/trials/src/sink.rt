@@ -5,8 +5,8 @@ ghost use Rattle.iim_dataset.specs.Format.Counts.{Rose};
 ghost use Rattle.wire_story.specs.Format.Texts.{IsLine};
 ghost use Rattle.wire_story.specs.Format.Delivery.{LineOctet, LineEnd};
 
-use crate::sink::StorySink;
 use iim_dataset::Stop;
+use wire_story::StorySink;
 
 /// A sink that passes `good` calls on to another sink, and stops at each later one: at a run after some of its octets,
 /// which it passes on, and at a line end at once. A run of no octets is never refused. It counts its stops, and those of the
@@ -20,7 +20,7 @@ pub struct TrialSink<S> {
 }
 
 impl<S: StorySink> TrialSink<S> {
-    ghost use Rattle.wire_story.specs.States.Trials.{sink_of, good_of, front_of, failures_of, PassesOn, UsesCall, StopsByPlan};
+    ghost use Rattle.trials.specs.States.Sinks.{sink_of, good_of, front_of, failures_of, PassesOn, UsesCall, StopsByPlan};
 
     /// A sink with `good` good calls, which stops then after `front` octets of a run, or after all but its last.
     pub fn new(sink: S, good: u64, front: usize) -> TrialSink<S>
@@ -78,8 +78,7 @@ impl<S: StorySink> TrialSink<S> {
         ensures passed { IfErr result (λ stop.
             PassesOn S.goes self.old (map LineOctet (take stop.taken run.now)) self.new) }
         ensures counted { OnErr result (Rose (failures_of self.old) (failures_of self.new)) }
-        ensures good { good_of self.new ≡ good_of self.old }
-        ensures front { front_of self.new ≡ front_of self.old }
+        ensures plan { (good_of self.new ≡ good_of self.old) × (front_of self.new ≡ front_of self.old) }
         ensures stopped { OnErr result (Rose (S.failures (sink_of self.old)) (S.failures (sink_of self.new))) }
     {
         match self.sink.text(run) {
@@ -90,7 +89,7 @@ impl<S: StorySink> TrialSink<S> {
 }
 
 impl<S: StorySink> StorySink for TrialSink<S> {
-    ghost use Rattle.wire_story.specs.States.Trials.{sink_of, good_of, failures_of, PassesOn, UsesCall, StopsByPlan};
+    ghost use Rattle.trials.specs.States.Sinks.{sink_of, good_of, failures_of, PassesOn, UsesCall, StopsByPlan};
 
     ghost goes = { PassesOn S.goes };
 
@@ -108,8 +107,7 @@ impl<S: StorySink> StorySink for TrialSink<S> {
         ensures front { IfErr result (λ stop.
             PassesOn S.goes self.old (map LineOctet (take stop.taken run.now)) self.new) }
         ensures counted { OnErr result (Rose (failures_of self.old) (failures_of self.new)) }
-        ensures call { UsesCall self.old self.new }
-        ensures stops { good_of self.old ≡ 0 → 0 < length run.now → IsErr result }
+        ensures call { UsesCall self.old self.new × (good_of self.old ≡ 0 → 0 < length run.now → IsErr result) }
         ensures plan { IfErr result (λ stop. StopsByPlan S.failures self.old (length run.now) stop.taken self.new) }
     {
         if self.good > 0 {
@@ -130,8 +128,7 @@ impl<S: StorySink> StorySink for TrialSink<S> {
         ensures refused { IfErr result (λ stop. stop.taken ≡ 0) }
         ensures front { OnErr result (PassesOn S.goes self.old [] self.new) }
         ensures counted { OnErr result (Rose (failures_of self.old) (failures_of self.new)) }
-        ensures call { UsesCall self.old self.new }
-        ensures stops { good_of self.old ≡ 0 → IsErr result }
+        ensures call { UsesCall self.old self.new × (good_of self.old ≡ 0 → IsErr result) }
         ensures plan { IfErr result (λ stop. StopsByPlan S.failures self.old 1 stop.taken self.new) }
     {
         if self.good == 0 {

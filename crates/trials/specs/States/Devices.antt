@@ -3,11 +3,11 @@ use Rattle.std.specs.Prelude.{◌≡◌, ℕ, ◌+◌, ◌<◌, ◌≤◌, ◌�
 use Rattle.iim_dataset.specs.States.Devices.{Device, Calm, LaterThan}
 use Rattle.iim_dataset.specs.declared.device.IoFault.{IoFault}
 use Rattle.iim_dataset.specs.declared.device.IoFault.TheVariants.{Interrupted, Failed}
-use Rattle.iim_dataset.specs.declared.trial.Plan.{Plan}
-use Rattle.iim_dataset.specs.declared.trial.Trouble.{Trouble}
-use Rattle.iim_dataset.specs.declared.trial.Trouble.TheVariants.{Failure, Interruptions}
-use Rattle.iim_dataset.specs.declared.trial.TrialReader.{TrialReader}
-use Rattle.iim_dataset.specs.declared.trial.TrialWriter.{TrialWriter}
+use Rattle.trials.specs.declared.device.Plan.{Plan}
+use Rattle.trials.specs.declared.device.Trouble.{Trouble}
+use Rattle.trials.specs.declared.device.Trouble.TheVariants.{Failure, Interruptions}
+use Rattle.trials.specs.declared.device.TrialReader.{TrialReader}
+use Rattle.trials.specs.declared.device.TrialWriter.{TrialWriter}
 
 -- this number of good calls and then the trouble, and no fault so far
 abbrev pub new_plan : ℕ → Trouble → Plan

@@ -2,12 +2,10 @@
 
 ghost use Rattle.std.specs.Prelude.{◌≡◌, ◌≤◌, [], Some, None, IfOk, IfErr, OnOk};
 ghost use Rattle.iim_dataset.specs.States.Devices.{Gave, Accepted, Calm, Faulted, CountedFailure, unbroken};
-ghost use Rattle.iim_dataset.specs.States.Trials.{planned, new_plan, trial_device, reader_plan, writer_plan, taken_octets, trial_target, TakesOne, WentWell, MetTrouble, GoesByPlan, ReadsOn};
+ghost use Rattle.trials.specs.States.Devices.{planned, new_plan, trial_device, reader_plan, writer_plan, taken_octets, trial_target, TakesOne, WentWell, MetTrouble, GoesByPlan, ReadsOn};
 
-use crate::device::IoFault;
-use crate::source::Source;
-use crate::target::Target;
 use arrayvec::ArrayVec;
+use iim_dataset::{IoFault, Source, Target};
 
 /// What goes wrong at a call.
 #[derive(Clone, Copy, Debug, PartialEq, Eq)]
@@ -101,7 +99,7 @@ impl Source for TrialReader<'_> {
 
     ghost leads = { ReadsOn };
 
-    ghost use Rattle.iim_dataset.specs.TrialLaws.{reads_on_stays, reads_on_leads_on};
+    ghost use Rattle.trials.specs.DeviceLaws.{reads_on_stays, reads_on_leads_on};
 
     ghost stays = { reads_on_stays };
 
