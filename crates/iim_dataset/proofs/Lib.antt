@@ -16,3 +16,4 @@ pub mod Counts
 pub mod Wholes
 -- What proofs of other crates cite.
 pub mod WrittenNumbers
+pub mod Agreeing

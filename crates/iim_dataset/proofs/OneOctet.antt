@@ -8,6 +8,7 @@ use Rattle.iim_dataset.specs.Laws.Completing.{CompletesNow}
 use Rattle.iim_dataset.specs.Laws.Datasets.{WhatAnOctetCompletes}
 use Rattle.iim_dataset.specs.declared.head.Head.{Head}
 use Rattle.iim_dataset.proofs.Spellings.{one_tag, one_dataset}
+use Rattle.iim_dataset.proofs.Agreeing.{Next, compare}
 
 -- ---- lists
 
@@ -42,56 +43,6 @@ two_of [] later event a b e = inl (refl, first_of' e)
 two_of (x ∷ since) later event a b e =
     let first : x ≡ a = first_of' e in
     let rest = one_of since later event b (tail_of e) in inr ((λ i. first i ∷ rest.0 i), rest.1)
-
--- ---- two streams that agree
-
--- The one stream is the other and further datasets.
-abbrev Longer : List Dataset → List Dataset → List ℕ → List ℕ → Type 0
-Longer whole ds z y = (more : List Dataset) × (r : List ℕ) × (ds ++ more ≡ whole) × SpellsStream count_octets more r × (r ++ z ≡ y)
-
--- The other is the one, a next dataset, and further ones.
-record Next (whole ds : List Dataset) (z y : List ℕ) : Type 0 where
-  pub dataset : Dataset
-  pub more : List Dataset
-  pub p : List ℕ
-  pub q : List ℕ
-  pub parts : ds ≡ whole ++ dataset ∷ more
-  pub spelled : SpellsDataset count_octets dataset p
-  pub later : SpellsStream count_octets more q
-  pub agree : z ≡ p ++ (q ++ y)
-
-compare : (whole ds : List Dataset) (front f z y : List ℕ) → SpellsStream count_octets whole front → SpellsStream count_octets ds f → front ++ z ≡ f ++ y
-    → Longer whole ds z y ⊎ Next whole ds z y
-compare [] [] front f z y sw sf e =
-    inl ([], [], refl, refl, ap (λ l. l ++ z) (sym sw) ∙ e ∙ ap (λ l. l ++ y) sf)
-compare [] (d ∷ ds) front f z y sw (p, q, first, later, joined) e =
-    inr (record {
-      dataset = d;
-      more = ds;
-      p = p;
-      q = q;
-      parts = refl;
-      spelled = first;
-      later = later;
-      agree = ap (λ l. l ++ z) (sym sw) ∙ e ∙ ap (λ l. l ++ y) joined ∙ append_assoc p q y;
-    })
-compare (c ∷ whole) [] front f z y sw sf e = inl (c ∷ whole, front, refl, sw, e ∙ ap (λ l. l ++ y) sf)
-compare (c ∷ whole) (d ∷ ds) front f z y (p, q, first, later, joined) (v, w, other, others, parts) e =
-    let agree : p ++ (q ++ z) ≡ v ++ (w ++ y) = sym (append_assoc p q z) ∙ ap (λ l. l ++ z) (sym joined) ∙ e ∙ ap (λ l. l ++ y) parts ∙ append_assoc v w y in
-    let same = one_dataset count_octets c d p v (q ++ z) (w ++ y) first other agree in
-    elim (compare whole ds q w z y later others same.2) [
-      | inl (more, r, is, stream, rest) ↦ inl (more, r, (λ i. sym same.0 i ∷ is i), stream, rest)
-      | inr next ↦ inr (record {
-        dataset = next.dataset;
-        more = next.more;
-        p = next.p;
-        q = next.q;
-        parts = λ i. sym same.0 i ∷ next.parts i;
-        spelled = next.spelled;
-        later = next.later;
-        agree = next.agree;
-      })
-    ]
 
 -- ---- begun datasets
 
@@ -302,7 +253,7 @@ what_an_octet_completes octets next events event c =
     let z : List ℕ = r0.rest ++ next ∷ [] in
     let agree : r0.front ++ z ≡ r1.front ++ r1.rest = sym (append_assoc r0.front r0.rest (next ∷ [])) ∙ ap (λ l. l ++ next ∷ []) (sym r0.parts) ∙ r1.parts in
     let parts : events ≡ handed_on whole c.begun ++ c.since = c.parts ∙ ap (λ (es : List DatasetEvent). es ++ c.since) c.after.handed in
-    elim (compare whole W r0.front r1.front z r1.rest r0.is_front r1.is_front agree) [
+    elim (compare one_dataset whole W r0.front r1.front z r1.rest r0.is_front r1.is_front agree) [
       | inl longer ↦
           let (more, r, is, stream, tail) = longer in
           let none : more ≡ [] = no_longer_stream c.next_begun r1.rest z r more r1.is_rest stream tail in

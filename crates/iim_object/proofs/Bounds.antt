@@ -7,7 +7,8 @@ use Rattle.iim_object.specs.Laws.Packing.{SubfilesAreFew}
 use Rattle.iim_object.specs.declared.size.Size.{Size}
 use Rattle.iim_object.specs.declared.size.Size.TheVariants.{Known, Unknown}
 use Rattle.iim_object.proofs.Cutting.{few_parts, held_in_few}
-use Rattle.iim_object.proofs.PackedSizes.{plan_parts, below_limit}
+use Rattle.iim_object.proofs.PackedSizes.{below_limit}
+use Rattle.iim_object.proofs.PlanParts.{plan_parts}
 
 -- what is within the limit keeps to the announced size and to the maximum
 announced_kept : (n : ℕ) (size : Size) → n ≤ limit_of size → IfSome (announced_of size) (λ most. n ≤ most)

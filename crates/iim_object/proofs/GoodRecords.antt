@@ -18,7 +18,7 @@ use Rattle.iim_object.specs.Format.Packing.{number_dataset, is_known, plan_datas
 use Rattle.iim_object.specs.Laws.Packing.{NumberDatasetsAreGood, PackedRecordsAreGood}
 use Rattle.iim_object.specs.declared.size.Size.{Size}
 use Rattle.iim_object.specs.declared.size.Size.TheVariants.{Known, Unknown}
-use Rattle.iim_object.proofs.PackedSizes.{plan_parts}
+use Rattle.iim_object.proofs.PlanParts.{plan_parts}
 
 -- ---- numbers
 

@@ -22,3 +22,4 @@ pub mod Alike
 pub mod Within
 -- What proofs of other crates cite.
 pub mod PlanLengths
+pub mod PlanParts

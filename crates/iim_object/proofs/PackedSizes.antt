@@ -1,36 +1,20 @@
 -- What is written of an object by a plan has the sizes of the plan.
-use Rattle.std.proofs.Common.{◌≡◌, ℕ, ◌+◌, ◌≤◌, ◌&&◌, true, IsTrue, nat_le, List, [], ◌∷◌, ◌++◌, length, map, sum, Some, None, refl, sym, ap, subst, ◌∙◌, arith, append_assoc, length-append}
+use Rattle.std.proofs.Common.{◌≡◌, ℕ, ◌+◌, ◌≤◌, List, [], ◌∷◌, ◌++◌, length, map, sum, Some, None, refl, sym, ap, subst, ◌∙◌, arith, append_assoc, length-append}
 use Rattle.std.specs.List.{AllByRecursion}
-use Rattle.std.proofs.lemmas.Bool.{and_parts, leb-true}
 use Rattle.std.proofs.lemmas.List.Sums.{sum_by-cons}
 use Rattle.iim_dataset.proofs.WrittenNumbers.{number_back}
 use Rattle.iim_dataset.specs.Format.Octets.{number, greatest_size}
 use Rattle.iim_object.specs.Format.Sizes.{Agree, number_at, mode_number}
-use Rattle.iim_object.specs.Format.Plans.{is_plan, fits, limit_of, bound_of}
+use Rattle.iim_object.specs.Format.Plans.{fits, limit_of, bound_of}
 use Rattle.iim_object.specs.Format.Records.{numbers_of, lengths_of}
 use Rattle.iim_object.specs.Format.Cuts.{joined_parts, AreFull, IsCut}
 use Rattle.iim_object.specs.Format.Packing.{is_known, announced_of, maximum_of, plan_datasets, subfile_datasets, IsAsKnown, packed_sizes}
 use Rattle.iim_object.specs.Laws.Packing.{PackedObjectsHaveSizes}
 use Rattle.iim_object.specs.declared.size.Size.{Size}
 use Rattle.iim_object.specs.declared.size.Size.TheVariants.{Known, Unknown}
+use Rattle.iim_object.proofs.PlanParts.{plan_parts}
 
 -- ---- plans
-
-pub record IsPlan (subfile : ℕ) (size : Size) : Type 0 where
-  pub least : 1 ≤ subfile
-  pub most : subfile ≤ greatest_size
-  pub limit : limit_of size ≤ greatest_size
-
-limit_fits : (subfile : ℕ) (size : Size) → fits subfile size ≡ true → limit_of size ≤ greatest_size
-limit_fits subfile (Known n) h = leb-true n greatest_size (and_parts (nat_le n greatest_size) _ h).0
-limit_fits subfile (Unknown (Some m)) h = leb-true m greatest_size h
-limit_fits subfile (Unknown None) h = omega arith
-
-pub plan_parts : (subfile : ℕ) (size : Size) → IsTrue (is_plan subfile size) → IsPlan subfile size
-plan_parts subfile size h =
-    let outer = and_parts (nat_le 1 subfile && nat_le subfile greatest_size) (fits subfile size) h in
-    let inner = and_parts (nat_le 1 subfile) (nat_le subfile greatest_size) outer.0 in
-    record { least = leb-true 1 subfile inner.0; most = leb-true subfile greatest_size inner.1; limit = limit_fits subfile size outer.1 }
 
 pub below_limit : (subfile n : ℕ) (size : Size) → n ≤ bound_of subfile size → n ≤ limit_of size
 below_limit subfile n size h = omega (arith, h)

@@ -12,7 +12,7 @@ use Rattle.iim_object.specs.Format.Plans.{max_subfiles}
 use Rattle.iim_object.specs.Cutting.{most_written, HasRoom, Flushes, Halts}
 use Rattle.iim_object.specs.declared.plan.Plan.{Plan}
 use Rattle.iim_object.specs.declared.writing.cutter.Cutter.{Cutter}
-use Rattle.iim_object.proofs.PackedSizes.{plan_parts}
+use Rattle.iim_object.proofs.PlanParts.{plan_parts}
 
 -- no more full parts than there may be
 few_parts : (size count most : ℕ) → 1 ≤ size → size * count ≤ size * most → count ≤ most

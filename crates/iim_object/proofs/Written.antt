@@ -14,7 +14,7 @@ use Rattle.iim_object.specs.Cutting.{writing_of, HasRoom, Fills, Flushes, Halts}
 use Rattle.iim_object.specs.declared.plan.Plan.{Plan}
 use Rattle.iim_object.specs.declared.writing.output.Output.{Output}
 use Rattle.iim_object.specs.declared.writing.cutter.Cutter.{Cutter}
-use Rattle.iim_object.proofs.PackedSizes.{plan_parts}
+use Rattle.iim_object.proofs.PlanParts.{plan_parts}
 use Rattle.iim_object.proofs.Cutting.{same_front, some_octet, too_short, at_least}
 
 -- ---- streams

@@ -22,7 +22,7 @@ use Rattle.iim_unpack.specs.Format.Admitted.{object_of}
 use Rattle.iim_unpack.specs.Format.Tokens.{MayContinue, CanContinueAt, ObjectLives, place_at}
 use Rattle.iim_unpack.specs.Format.Framed.{AreWithin}
 use Rattle.iim_unpack.specs.Format.Open.{object_so_far, section, message_tokens, AllCanContinue}
-use Rattle.iim_unpack.proofs.Frames.{compare}
+use Rattle.iim_dataset.proofs.Agreeing.{compare}
 use Rattle.iim_unpack.proofs.Fronts.{no_longer, begun_none}
 use Rattle.iim_unpack.proofs.Lasts.{present_last, not_all}
 use Rattle.iim_unpack.proofs.Limits.{leaves_room, within_front}

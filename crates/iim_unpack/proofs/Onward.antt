@@ -31,7 +31,7 @@ use Rattle.iim_unpack.proofs.Answering.{nothing_held}
 use Rattle.iim_unpack.proofs.Closing.{object_of_more}
 use Rattle.iim_unpack.proofs.Fitting.{each_octets}
 use Rattle.iim_unpack.proofs.Following.{alive_of, follows, in_front, longer_front, message_of, object_lives_after, objects_append, same_data, story_of, within_of}
-use Rattle.iim_unpack.proofs.Frames.{compare}
+use Rattle.iim_dataset.proofs.Agreeing.{compare}
 use Rattle.iim_unpack.proofs.Fronts.{begun_none}
 use Rattle.iim_unpack.proofs.Lasts.{present_last}
 use Rattle.iim_unpack.proofs.Limits.{within_front}

@@ -8,7 +8,7 @@ use Rattle.iim_fields.specs.Laws.Records.{NoSectionsBeginOthers}
 use Rattle.iim_fields.specs.declared.limits.Limits.{Limits}
 use Rattle.iim_unpack.specs.Format.Tokens.{MayContinue}
 use Rattle.iim_unpack.specs.Laws.Streams.{OpenOctetsBeginWithNoEnvelope}
-use Rattle.iim_unpack.proofs.Frames.{compare}
+use Rattle.iim_dataset.proofs.Agreeing.{compare}
 use Rattle.iim_unpack.proofs.Fronts.{begun_none}
 
 no_more : (xs ys : List Dataset) → xs ++ ys ≡ [] → xs ≡ []

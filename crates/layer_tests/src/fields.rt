@@ -8,29 +8,10 @@ use iim_fields::{CopyFault, Envelope, EnvelopeBuilder, FieldCause, FieldFault, F
 use std::process::Abort;
 use std::rt::HostRuntime;
 use std::test::Fail;
+use worked::STORY_FIELDS;
 
 /// What the command allows.
 const LIMITS: Limits = Limits::WIRE;
-
-/// The datasets of records 1 and 2 of the longer worked envelope, in the order sent.
-const FIELDS: [(u8, u8, &[u8]); 16] = [
-    (1, 0, b"\0\x04"),
-    (1, 20, b"\0\x02"),
-    (1, 22, b"\0\x01"),
-    (1, 30, b"TST"),
-    (1, 40, b"00000002"),
-    (1, 70, b"20240301"),
-    (2, 0, b"\0\x04"),
-    (2, 105, b"Rates held"),
-    (2, 80, b"A. Moor"),
-    (2, 85, b"Editor"),
-    (2, 80, b"B. Lund"),
-    (2, 85, b"Writer"),
-    (2, 25, b"rates"),
-    (2, 25, b"bank"),
-    (2, 25, b"euro"),
-    (2, 250, b"\0\xff"),
-];
 
 /// Those of records 7, 8 and 9, and the number that each tells.
 const SIZES: [(u8, u8, &[u8], Option<u64>); 5] = [
@@ -88,7 +69,7 @@ fn pass_fields(fields: &mut Fields, one_by_one: bool) -> Result<(), FieldFault>
     requires { IsBetween fields.old }
     ensures { OnOk result (IsBetween fields.new) }
 {
-    for (rec, set, octets) in FIELDS {
+    for (rec, set, octets) in STORY_FIELDS {
         if let Err(fault) = pass(fields, rec, set, octets, one_by_one) {
             return Err(fault);
         }
@@ -187,7 +168,7 @@ fn the_reader_continues_where_nothing_is_handed_over(rt: HostRuntime) -> Result<
 
 /// Adds the fields, and answers the first fault.
 fn add_fields(builder: &mut EnvelopeBuilder) -> Result<(), FieldFault> {
-    for (rec, set, octets) in FIELDS {
+    for (rec, set, octets) in STORY_FIELDS {
         if let Err(fault) = builder.add(rec, set, octets) {
             return Err(fault);
         }
@@ -209,7 +190,7 @@ fn finished(rt: &impl Abort, builder: EnvelopeBuilder) -> Option<Envelope> {
 /// The envelope has all fields of the longer worked one, in order.
 fn expect_fields(rt: &impl Abort, envelope: &Envelope) {
     let mut fields = envelope.fields();
-    for (want_rec, want_set, want) in FIELDS {
+    for (want_rec, want_set, want) in STORY_FIELDS {
         match fields.next() {
             Some((rec, set, octets)) => {
                 assert_eq!(rt; (rec, set), (want_rec, want_set));
@@ -237,7 +218,7 @@ fn expect_titles(rt: &impl Abort, envelope: &Envelope) {
 /// The longer worked envelope, built.
 fn worked<R: Abort + AllocGlobal>(rt: &R) -> Result<Envelope, Fail> {
     let mut builder = EnvelopeBuilder::new(rt.alloc(), LIMITS)?;
-    for (rec, set, octets) in FIELDS {
+    for (rec, set, octets) in STORY_FIELDS {
         expect(rt, builder.add(rec, set, octets).ok());
     }
     Ok(expect(rt, builder.finish().ok()))
