@@ -1,21 +1,17 @@
 -- What is packed carries the fields, the object and the sizes of the plan.
-use Rattle.std.proofs.Common.{◌≡◌, ℕ, ◌≤◌, ◌&&◌, true, nat_le, IsTrue, List, [], ◌∷◌, ◌++◌, length, Some, None, refl, sym, ap, subst, ◌∙◌, arith, append_assoc, append-nil}
+use Rattle.std.proofs.Common.{◌≡◌, ℕ, ◌≤◌, List, [], ◌∷◌, ◌++◌, length, refl, sym, ap, subst, ◌∙◌, arith, append_assoc, append-nil}
 use Rattle.std.specs.List.{AllByRecursion}
-use Rattle.std.proofs.lemmas.Bool.{and_parts, leb-true}
-use Rattle.iim_dataset.specs.Format.Octets.{IsOctet, Octets, greatest_size}
+use Rattle.iim_dataset.specs.Format.Octets.{Octets, greatest_size}
 use Rattle.iim_dataset.specs.Format.Datasets.{Dataset, SpellsStream, canonical_dataset, canonical_stream, count_octets, of_record}
 use Rattle.iim_dataset.specs.Laws.Datasets.{HasSpellings, CanonicalStreamsAreSpelled}
 use Rattle.iim_fields.specs.Format.Records.{AreSections}
 use Rattle.iim_tables.specs.Format.Records.{IsGoodDataset, IsGoodRecord}
 use Rattle.iim_fields.specs.Format.Faults.{kept, joined}
 use Rattle.iim_object.specs.Format.Records.{HaveSizes}
-use Rattle.iim_object.specs.Format.Plans.{is_plan, fits, limit_of, bound_of}
-use Rattle.iim_object.specs.Format.Cuts.{AreFull, joined_parts}
+use Rattle.iim_object.specs.Format.Plans.{bound_of}
 use Rattle.iim_object.specs.Format.Packing.{plan_datasets, subfile_datasets, confirmed_datasets, packed_sizes}
 use Rattle.iim_object.specs.Laws.Packing.{PackedObjectsHaveSizes, PackedRecordsAreGood}
-use Rattle.iim_object.specs.declared.size.Size.{Size}
-use Rattle.iim_object.specs.declared.size.Size.TheVariants.{Known, Unknown}
-use Rattle.iim_object.proofs.PlanParts.{IsPlan, plan_parts}
+use Rattle.iim_object.proofs.PlanParts.{plan_parts}
 use Rattle.wire_message.specs.Format.Canonical.{canonical}
 use Rattle.iim_pack.specs.Laws.Packed.{PackedOctetsCarryTheValue}
 use Rattle.iim_pack.proofs.Octets.{all_append, message_octets}

@@ -1,5 +1,5 @@
 -- How long a packed form is.
-use Rattle.std.proofs.Common.{◌≡◌, ℕ, ◌+◌, ◌*◌, ◌≤◌, List, [], ◌++◌, length, refl, sym, ap, ◌∙◌, arith, length-append}
+use Rattle.std.proofs.Common.{◌≡◌, ℕ, ◌+◌, ◌*◌, ◌≤◌, List, [], ◌++◌, length, sym, ap, ◌∙◌, arith, length-append}
 use Rattle.std.proofs.lemmas.List.{length-map}
 use Rattle.iim_dataset.specs.Format.Datasets.{canonical_dataset, canonical_stream, tag_octets}
 use Rattle.iim_dataset.specs.Format.Octets.{greatest_size}
@@ -12,7 +12,7 @@ use Rattle.iim_object.proofs.PlanLengths.{number_length}
 use Rattle.iim_object.specs.declared.plan.Plan.{Plan}
 use Rattle.wire_message.specs.Format.Canonical.{canonical}
 use Rattle.iim_pack.specs.Laws.Packed.{PackedOctetsAreFew}
-use Rattle.iim_pack.proofs.Carrying.{plan_parts}
+use Rattle.iim_object.proofs.PlanParts.{plan_parts}
 use Rattle.iim_pack.proofs.FieldsOut.{stream_append, stream_length}
 use Rattle.iim_pack.proofs.Ones.{few_subfiles}
 use Rattle.iim_pack.proofs.Openings.{plan_small}

@@ -1,10 +1,9 @@
 -- There is one packed form, and it has few subfiles.
-use Rattle.std.proofs.Common.{◌≡◌, ℕ, ◌+◌, ◌*◌, ◌≤◌, ◌⊎◌, inl, inr, ◌&&◌, nat_le, IsTrue, List, [], ◌∷◌, ◌++◌, length, refl, sym, ap, ◌∙◌, arith, length-append, mul-le-mul_left}
-use Rattle.std.proofs.lemmas.Bool.{and_parts, leb-true, cases_lt}
+use Rattle.std.proofs.Common.{◌≡◌, ℕ, ◌≤◌, ◌&&◌, nat_le, IsTrue, List, ◌++◌, sym, ap, ◌∙◌}
+use Rattle.std.proofs.lemmas.Bool.{and_parts, leb-true}
 use Rattle.iim_dataset.specs.Format.Datasets.{canonical_stream}
 use Rattle.iim_dataset.specs.Format.Octets.{greatest_size}
-use Rattle.iim_object.specs.Format.Plans.{is_plan, fits, bound_of, max_subfiles}
-use Rattle.iim_object.specs.Format.Cuts.{AreFull, IsCut, joined_parts}
+use Rattle.iim_object.specs.Format.Plans.{is_plan, fits}
 use Rattle.iim_object.specs.Laws.Cuts.{ObjectsAreCutOneWay}
 use Rattle.iim_object.specs.Format.Packing.{object_datasets}
 use Rattle.iim_object.specs.Laws.Packing.{SubfilesAreFew}

@@ -1,7 +1,7 @@
 -- Framed octets.
-use Rattle.std.proofs.Common.{◌≡◌, ℕ, ◌⊎◌, true, false, List, [], ◌∷◌, ◌++◌, refl, ap, sym, subst, ◌∙◌, inl, inr, append_assoc}
+use Rattle.std.proofs.Common.{◌≡◌, ℕ, true, false, List, [], ◌∷◌, ◌++◌, ap, sym, subst, ◌∙◌, inl, inr}
 use Rattle.std.proofs.lemmas.List.{append-nil}
-use Rattle.iim_dataset.specs.Format.Datasets.{Dataset, SpellsDataset, SpellsStream, count_octets}
+use Rattle.iim_dataset.specs.Format.Datasets.{Dataset, SpellsStream, count_octets}
 use Rattle.iim_dataset.specs.Laws.Datasets.{NoDatasetBeginsAnother}
 use Rattle.iim_dataset.proofs.Agreeing.{compare}
 use Rattle.iim_tables.specs.Format.Rows.{table}

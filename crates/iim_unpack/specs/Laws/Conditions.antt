@@ -1,7 +1,7 @@
 -- Why a token is refused: the causes, each with its number, its layer and the condition in which it stands. Of the causes of one
 -- layer the one of the lowest number is told.
 use Rattle.std.specs.Prelude.{◌≡◌, ℕ, ◌<◌, List, [], ◌∷◌, ◌++◌}
-use Rattle.iim_dataset.specs.Format.Octets.{IsOctet, number}
+use Rattle.iim_dataset.specs.Format.Octets.{IsOctet}
 use Rattle.iim_dataset.specs.Format.Datasets.{Dataset, SpellsTag, count_octets}
 use Rattle.iim_dataset.specs.Format.Splits.{InTag, InData, Reads}
 use Rattle.iim_dataset.specs.Format.Completing.{CompletesData}
