@@ -5,17 +5,7 @@ ghost use Rattle.speed.specs.Shapes.{message_of};
 
 use crate::datasets::{push_dataset, push_subfiles, repeated};
 use std::alloc::{AllocError, Global};
-
-/// Records 1 and 2 of the smallest envelope: 7 datasets in 62 octets.
-const SMALLEST: &[u8; 62] =
-    b"\x1c\x01\x00\x00\x02\x00\x04\x1c\x01\x14\x00\x02\x00\x02\x1c\x01\x16\x00\x02\x00\x01\x1c\x01\x1e\x00\x03TST\
-\x1c\x01\x28\x00\x0800000001\x1c\x01\x46\x00\x0820240301\x1c\x02\x00\x00\x02\x00\x04";
-
-/// A headline, two by-lines with their titles, three keywords and a dataset without a row: 9 datasets in 96 octets.
-const NAMES: &[u8; 96] =
-    b"\x1c\x02\x69\x00\x0aRates held\x1c\x02\x50\x00\x07A. Moor\x1c\x02\x55\x00\x06Editor\
-\x1c\x02\x50\x00\x07B. Lund\x1c\x02\x55\x00\x06Writer\x1c\x02\x19\x00\x05rates\x1c\x02\x19\x00\x04bank\
-\x1c\x02\x19\x00\x04euro\x1c\x02\xfa\x00\x02\x00\xff";
+use worked::{SMALLEST, SMALLEST_FRONT, SMALLEST_OBJECT, STORY, STORY_FRONT};
 
 /// Object name, category, city, country, credit and caption: 6 datasets in 68 octets.
 const PLACES: &[u8; 68] =
@@ -28,9 +18,6 @@ const KEYWORD: &[u8; 13] = b"\x1c\x02\x19\x00\x08interest";
 /// A keyword of 64 octets: a dataset of 69.
 const LONG_KEYWORD: &[u8; 69] =
     b"\x1c\x02\x19\x00\x40the interest rates of the European Central Bank and of all banks";
-
-/// A message of 14 octets, whose text is one empty line.
-const LEAST_MESSAGE: &[u8; 14] = b"\x01X1 4 N 0\r\n\x02\x03\x04";
 
 /// The octets of a message before its text: 25.
 const OPENING: &[u8; 25] = b"\x01TST0007 4 ECO 5 rates\r\n\x02";
@@ -121,23 +108,17 @@ fn envelope(
 
 /// 9,000 times the smallest envelope, of 114 octets.
 pub(crate) fn small_envelopes(alloc: Global) -> Result<Vec<u8>, AllocError> {
-    let one = envelope(alloc, SMALLEST, LEAST_MESSAGE, 1024)?;
-    repeated(alloc, &one, 9000)
+    repeated(alloc, SMALLEST, 9000)
 }
 
 /// 4,000 envelopes of 246 octets: a header of 16 datasets, and a story of two lines.
 pub(crate) fn story_envelopes(alloc: Global) -> Result<Vec<u8>, AllocError> {
-    let mut records = Vec::from_slice(alloc, SMALLEST)?;
-    records.extend_from_slice(NAMES)?;
-    let object = message_of(alloc, b"Rates stay.\r\nNo change.")?;
-    let one = envelope(alloc, &records, &object, 1024)?;
-    repeated(alloc, &one, 4000)
+    repeated(alloc, STORY, 4000)
 }
 
 /// 240 envelopes of 4,387 octets: a header of 22 datasets, and a story of 64 lines of prose in one subfile.
 pub(crate) fn stories(alloc: Global) -> Result<Vec<u8>, AllocError> {
-    let mut records = Vec::from_slice(alloc, SMALLEST)?;
-    records.extend_from_slice(NAMES)?;
+    let mut records = Vec::from_slice(alloc, STORY_FRONT)?;
     records.extend_from_slice(PLACES)?;
     let object = message_of(alloc, &repeated(alloc, LINE, 64)?)?;
     let one = envelope(alloc, &records, &object, SUBFILE)?;
@@ -148,9 +129,9 @@ pub(crate) fn stories(alloc: Global) -> Result<Vec<u8>, AllocError> {
 fn with_keywords(alloc: Global, keyword: &[u8]) -> Result<Vec<u8>, AllocError>
     requires { length keyword.now < 2 ^ 16 }
 {
-    let mut records = Vec::from_slice(alloc, SMALLEST)?;
+    let mut records = Vec::from_slice(alloc, SMALLEST_FRONT)?;
     records.extend_from_slice(&repeated(alloc, keyword, 400)?)?;
-    envelope(alloc, &records, LEAST_MESSAGE, 1024)
+    envelope(alloc, &records, SMALLEST_OBJECT, 1024)
 }
 
 /// 190 envelopes of 5,314 octets, each with 400 keywords of 8 octets.
@@ -167,24 +148,23 @@ pub(crate) fn long_keywords(alloc: Global) -> Result<Vec<u8>, AllocError> {
 pub(crate) fn long_text(alloc: Global, text: &[u8]) -> Result<Vec<u8>, AllocError>
     requires { length text.now < 2 ^ 31 }
 {
-    envelope(alloc, SMALLEST, &message_of(alloc, text)?, SUBFILE)
+    envelope(alloc, SMALLEST_FRONT, &message_of(alloc, text)?, SUBFILE)
 }
 
 /// One envelope with 2,560 lines of prose, in 163,867 subfiles of one octet.
 pub(crate) fn single_subfiles(alloc: Global) -> Result<Vec<u8>, AllocError> {
     let object = message_of(alloc, &repeated(alloc, LINE, 2560)?)?;
-    envelope(alloc, SMALLEST, &object, 1)
+    envelope(alloc, SMALLEST_FRONT, &object, 1)
 }
 
 /// 9,000 envelopes of 114 octets, each with a number of its own, from 0 on.
 pub(crate) fn numbered_envelopes(alloc: Global) -> Result<Vec<u8>, AllocError> {
-    let one = envelope(alloc, SMALLEST, LEAST_MESSAGE, 1024)?;
     let mut all = Vec::new(alloc);
     for number in 0..9000u32 {
         let digits = format!(in alloc; "{number:08}")?;
-        all.extend_from_slice(one.get(..34).unwrap_or(&[]))?;
+        all.extend_from_slice(SMALLEST.get(..34).unwrap_or(&[]))?;
         all.extend_from_slice(digits.as_bytes())?;
-        all.extend_from_slice(one.get(42..).unwrap_or(&[]))?;
+        all.extend_from_slice(SMALLEST.get(42..).unwrap_or(&[]))?;
     }
     Ok(all)
 }

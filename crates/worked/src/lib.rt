@@ -6,7 +6,7 @@
 mod least;
 mod rates;
 
-pub use least::SMALLEST;
+pub use least::{SMALLEST, SMALLEST_FRONT, SMALLEST_OBJECT};
 pub use rates::{
     FIRST_LINE, LAST_LINE, STORY, STORY_CONFIRMED, STORY_FIELDS, STORY_FRONT, STORY_OBJECT,
     STORY_REST,
