@@ -15,4 +15,5 @@ pub mod Reached
 pub mod Counts
 pub mod Wholes
 -- What proofs of other crates cite.
+pub mod StoppedTexts
 pub mod WrittenNumbers
