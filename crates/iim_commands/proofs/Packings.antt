@@ -5,7 +5,7 @@ use Rattle.iim_dataset.specs.Format.Octets.{greatest_size}
 use Rattle.iim_dataset.specs.States.Devices.{Device, BrokeAfter, HasGiven}
 use Rattle.iim_dataset.specs.Laws.Devices.{GiftsJoin}
 use Rattle.iim_object.specs.Format.Plans.{bound_of, fits, is_plan, most_in}
-use Rattle.iim_object.specs.States.Writing.{Begins, most_of}
+use Rattle.iim_object.specs.States.Writing.{Begins, most_of, IsBelowKnown}
 use Rattle.iim_object.specs.declared.writing.cause.PackCause.{PackCause}
 use Rattle.iim_object.specs.declared.writing.cause.PackCause.TheVariants as causes
 use Rattle.iim_object.specs.declared.writing.cause.StartFault.{StartFault}
@@ -15,7 +15,7 @@ use Rattle.iim_object.specs.declared.size.Size.TheVariants.{Known}
 use Rattle.wire_message.specs.Format.Messages.{IsTrailer}
 use Rattle.iim_object.proofs.PackedSizes.{plan_parts}
 use Rattle.iim_pack.specs.States.Packing.{pack_cause}
-use Rattle.iim_pack.specs.Format.Orders.{IsBelowKnown, IsFirstOf, AgainstPack}
+use Rattle.iim_pack.specs.Format.Orders.{IsFirstOf, AgainstPack}
 use Rattle.iim_pack.specs.Format.Packed.{Packed}
 use Rattle.iim_pack.specs.States.Starting.{StartIsRefused, StartBreaksOff}
 use Rattle.iim_pack.specs.States.Whole.{IsPackFault, Packs}

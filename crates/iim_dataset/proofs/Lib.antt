@@ -15,5 +15,6 @@ pub mod Reached
 pub mod Counts
 pub mod Wholes
 -- What proofs of other crates cite.
+pub mod StoppedTexts
 pub mod WrittenNumbers
 pub mod Agreeing

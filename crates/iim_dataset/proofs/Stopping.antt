@@ -17,7 +17,6 @@ use Rattle.iim_dataset.specs.declared.head.Head.{Head}
 use Rattle.iim_dataset.specs.declared.head.HeadCause.{HeadCause}
 use Rattle.iim_dataset.specs.declared.fault.Fault.{Fault}
 use Rattle.iim_dataset.specs.declared.fault.FaultCause.TheVariants.{Stopped}
-use Rattle.iim_dataset.specs.declared.piece.Refused.{Refused}
 use Rattle.iim_dataset.specs.declared.sink.Step.{Step}
 use Rattle.iim_dataset.specs.declared.sink.Step.TheVariants.{More, Last}
 use Rattle.iim_dataset.specs.declared.place.DatasetPlace.{DatasetPlace}
@@ -111,13 +110,13 @@ refuses_front goes stops joined joined_stop (Some cause) p q r piece i k a b c t
 )
 
 -- The sink stopped: nothing is begun then, and the fault says so.
-pub stopped_at : {D : Type 0} (goes : D → List DatasetEvent → D → Type 0) (stops : D → List DatasetEvent → DatasetEvent → D → Type 0) (stands : D → Option ℕ → Type 0) (old : DatasetPlace) (octets : List ℕ) (k : ℕ) (given : Refused) (a b : D)
-    → IsPlace given.place → given.place ≡ between → given.fault ≡ record { cause = Stopped; used = k } → k < length octets → Stops stops old octets k a b → RefusesOne goes stops stands old octets given.fault given.place a b
+pub stopped_at : {D : Type 0} (goes : D → List DatasetEvent → D → Type 0) (stops : D → List DatasetEvent → DatasetEvent → D → Type 0) (stands : D → Option ℕ → Type 0) (old : DatasetPlace) (octets : List ℕ) (k : ℕ) (given : DatasetPlace × Fault) (a b : D)
+    → IsPlace given.0 → given.0 ≡ between → given.1 ≡ record { cause = Stopped; used = k } → k < length octets → Stops stops old octets k a b → RefusesOne goes stops stands old octets given.1 given.0 a b
 stopped_at goes stops stands old octets k given a b is_place none is lt s = record {
   is_place = is_place;
   before = subst (λ (f : Fault). f.used < length octets) (sym is) lt;
-  refused = subst (λ (f : Fault). Refuses goes stops old octets f given.place a b) (sym is) (s, none);
-  onward = subst (λ (f : Fault). StillStands stands (tag_cause_of f.cause) given.place b) (sym is) tt;
+  refused = subst (λ (f : Fault). Refuses goes stops old octets f given.0 a b) (sym is) (s, none);
+  onward = subst (λ (f : Fault). StillStands stands (tag_cause_of f.cause) given.0 b) (sym is) tt;
 }
 
 -- After a tag the reader is between datasets or inside one.

@@ -3,7 +3,7 @@
 //!
 //! Stands on `byteorder` and `arrayvec`. Every crate stands on it, at least for its definitions. The unpacker
 //! feeds [`HeadReader`] with a sink of its own, and relies on the contract of [`HeadReader::feed`] and on
-//! [`laws::what_an_octet_completes`]. Writers of objects and envelopes spell tags by [`head_bytes`], and sizes by
+//! [`laws::what_an_octet_completes`]. Writers of objects and envelopes write each dataset by [`put_dataset`], and spell sizes by
 //! [`number_bytes`]. Sources and targets are reached by
 //! [`take`] and [`put`] alone.
 #![tactic(auto)]
@@ -42,4 +42,4 @@ pub use sink::{DatasetSink, Step};
 pub use size::{COUNT_OCTETS, GREATEST_SIZE};
 pub use source::{BLOCK, FromRead, Source, take};
 pub use stop::Stop;
-pub use target::{FromWrite, Target, put};
+pub use target::{FromWrite, Target, put, put_dataset};

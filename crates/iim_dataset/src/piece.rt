@@ -1,4 +1,7 @@
 //! How octets are read from a place on: by whole tags, and by the longest runs that lie in one dataset.
+//!
+//! A fault comes with the place before its octet, where no tag can continue with that; and with the one between datasets, where the
+//! sink stopped.
 
 ghost use Rattle.std.specs.Prelude.{◌≡◌, ◌<◌, ◌≤◌, [], length, take, Some, None, IfSome, IfOk, IfErr, OnOk, OnErr};
 ghost use Rattle.iim_dataset.specs.Format.Datasets.{count_octets};
@@ -23,14 +26,6 @@ pub(crate) struct Front {
     pub(crate) used: usize,
 }
 
-/// An octet is refused. Where no tag can continue with it, the octets before it lead to the place; after a stop of the sink it is
-/// the one between datasets.
-#[derive(Drop)]
-pub(crate) struct Refused {
-    pub(crate) place: DatasetPlace,
-    pub(crate) fault: Fault,
-}
-
 /// Between datasets.
 #[tactic(auto, using(crate::proofs::Fronts::begun_none))]
 pub(crate) fn start() -> DatasetPlace
@@ -41,16 +36,13 @@ pub(crate) fn start() -> DatasetPlace
 }
 
 /// The sink stopped after `used` octets.
-fn stopped(used: usize) -> Refused
-    ensures place { result.place ≡ between }
-    ensures is_place { IsPlace result.place }
-    ensures fault { result.fault ≡ record { cause = FaultCause.Stopped; used = used } }
+fn stopped(used: usize) -> (DatasetPlace, Fault)
+    ensures place { result.0 ≡ between }
+    ensures is_place { IsPlace result.0 }
+    ensures fault { result.1 ≡ record { cause = FaultCause.Stopped; used = used } }
 {
     let cause = FaultCause::Stopped;
-    Refused {
-        place: start(),
-        fault: Fault { cause, used },
-    }
+    (start(), Fault { cause, used })
 }
 
 /// Hands on what the last octet of a tag completes.
@@ -75,14 +67,14 @@ fn take_tag<D: DatasetSink>(
     held: ArrayVec<u8, HELD_OCTETS>,
     rest: &[u8],
     sink: &mut D,
-) -> Result<Front, Refused>
+) -> Result<Front, (DatasetPlace, Fault)>
     requires held { BeginsTag count_octets held.items }
     requires stands { D.stands sink.old None }
     requires some { 0 < length rest.now }
     ensures front { IfOk result (λ front.
         TakesFront D.goes D.stands D.ends (DatasetPlace.Tag held) rest.now front sink.old sink.new) }
     ensures refused { IfErr result (λ given.
-        RefusesOne D.goes D.stops D.stands (DatasetPlace.Tag held) rest.now given.fault given.place sink.old sink.new) }
+        RefusesOne D.goes D.stops D.stands (DatasetPlace.Tag held) rest.now given.1 given.0 sink.old sink.new) }
 {
     let mut held = held;
     match read_tag(held.as_slice(), rest) {
@@ -105,10 +97,7 @@ fn take_tag<D: DatasetSink>(
             let used = fault.at - held.len();
             let cause = tag_fault(fault.cause);
             lengthen(&mut held, &rest[..used]);
-            Err(Refused {
-                place: DatasetPlace::Tag(held),
-                fault: Fault { cause, used },
-            })
+            Err((DatasetPlace::Tag(held), Fault { cause, used }))
         }
     }
 }
@@ -119,14 +108,14 @@ fn take_data<D: DatasetSink>(
     left: u64,
     rest: &[u8],
     sink: &mut D,
-) -> Result<Front, Refused>
+) -> Result<Front, (DatasetPlace, Fault)>
     requires place { IsPlace (DatasetPlace.Inside head left) }
     requires stands { D.stands sink.old (Some left) }
     requires some { 0 < length rest.now }
     ensures front { IfOk result (λ front.
         TakesFront D.goes D.stands D.ends (DatasetPlace.Inside head left) rest.now front sink.old sink.new) }
     ensures refused { IfErr result (λ given.
-        RefusesOne D.goes D.stops D.stands (DatasetPlace.Inside head left) rest.now given.fault given.place sink.old
+        RefusesOne D.goes D.stops D.stands (DatasetPlace.Inside head left) rest.now given.1 given.0 sink.old
         sink.new) }
 {
     if (rest.len() as u64) < left {
@@ -220,13 +209,13 @@ fn take_front<D: DatasetSink>(
     place: DatasetPlace,
     rest: &[u8],
     sink: &mut D,
-) -> Result<Front, Refused>
+) -> Result<Front, (DatasetPlace, Fault)>
     requires place { IsPlace place }
     requires stands { D.stands sink.old (to_come place) }
     requires some { 0 < length rest.now }
     ensures front { IfOk result (λ front. TakesFront D.goes D.stands D.ends place rest.now front sink.old sink.new) }
     ensures refused { IfErr result (λ given.
-        RefusesOne D.goes D.stops D.stands place rest.now given.fault given.place sink.old sink.new) }
+        RefusesOne D.goes D.stops D.stands place rest.now given.1 given.0 sink.old sink.new) }
 {
     match place {
         DatasetPlace::Tag(held) => match take_wholes_after(&held, rest, sink) {
@@ -252,13 +241,13 @@ pub(crate) fn take_piece<D: DatasetSink>(
     place: DatasetPlace,
     octets: &[u8],
     sink: &mut D,
-) -> Result<(DatasetPlace, usize), Refused>
+) -> Result<(DatasetPlace, usize), (DatasetPlace, Fault)>
     requires place { IsPlace place }
     requires stands { D.stands sink.old (to_come place) }
     ensures piece { IfOk result (λ front.
         TakesPiece D.goes D.stands D.ends place octets.now front.0 front.1 sink.old sink.new) }
     ensures refused { IfErr result (λ given.
-        RefusesOne D.goes D.stops D.stands place octets.now given.fault given.place sink.old sink.new) }
+        RefusesOne D.goes D.stops D.stands place octets.now given.1 given.0 sink.old sink.new) }
 {
     let mut now = place;
     let mut at = 0;
@@ -272,13 +261,10 @@ pub(crate) fn take_piece<D: DatasetSink>(
                     Step::Last => return Ok((now, at)),
                 }
             }
-            Err(refused) => {
-                let used = at + refused.fault.used;
-                let cause = refused.fault.cause;
-                return Err(Refused {
-                    place: refused.place,
-                    fault: Fault { cause, used },
-                });
+            Err((place, fault)) => {
+                let used = at + fault.used;
+                let cause = fault.cause;
+                return Err((place, Fault { cause, used }));
             }
         }
     }

@@ -117,12 +117,10 @@ impl HeadReader {
                 self.place = place;
                 Ok(used)
             }
-            Err(refused) => {
-                *self = HeadReader {
-                    place: refused.place,
-                    failed: true,
-                };
-                Err(refused.fault)
+            Err((place, fault)) => {
+                let failed = true;
+                *self = HeadReader { place, failed };
+                Err(fault)
             }
         }
     }

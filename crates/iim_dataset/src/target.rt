@@ -1,10 +1,13 @@
 //! Where octets go.
 
 ghost use Rattle.std.specs.Prelude.{◌≡◌, ◌<◌, length, IfOk, IfErr, OnOk, OnErr};
+ghost use Rattle.iim_dataset.specs.Format.Datasets.{canonical_dataset};
 ghost use Rattle.iim_dataset.specs.States.Devices.{Device, Accepted, Faulted, Wrote, Stopped, WithinInterruptionLimit, unbroken, writer_device};
 ghost use Rattle.iim_dataset.specs.Calls.{Sent};
 
 use crate::device::{Faults, IoFault, MAX_INTERRUPTIONS};
+use crate::device_laws::texts_join;
+use crate::head::{Head, head_bytes};
 use std::io::Write;
 
 /// Where octets go. Contracts see it as a device: the octets that it took, where they are known, and its faults so far.
@@ -49,6 +52,33 @@ pub fn put<W: Target>(writer: &mut W, piece: &[u8]) -> Result<(), usize>
         }
     }
     Ok(())
+}
+
+/// Writes a dataset in its canonical spelling: its tag, and then its octets. It fails where [`put`] does. Both answers tell how many
+/// octets are out.
+pub fn put_dataset<W: Target>(writer: &mut W, rec: u8, set: u8, octets: &[u8]) -> Result<u64, u64>
+    ensures ok { OnOk result (Wrote (W.state writer.old) (W.state writer.new)
+        (canonical_dataset record { rec = rec; set = set; octets = octets.now })) }
+    ensures all { IfOk result (λ out. out
+        ≡ length (canonical_dataset record { rec = rec; set = set; octets = octets.now })) }
+    ensures err { IfErr result (Stopped (W.state writer.old) (W.state writer.new)
+        (canonical_dataset record { rec = rec; set = set; octets = octets.now })) }
+    ensures patience { WithinInterruptionLimit
+        (length (canonical_dataset record { rec = rec; set = set; octets = octets.now })) (W.state writer.old)
+        (W.state writer.new) }
+{
+    texts_join();
+    let count = octets.len() as u64;
+    let tag = head_bytes(Head { rec, set, count });
+    let front = tag.as_slice();
+    match put(writer, front) {
+        Ok(()) => {}
+        Err(out) => return Err(out as u64),
+    }
+    match put(writer, octets) {
+        Ok(()) => Ok(front.len() as u64 + count),
+        Err(out) => Err(front.len() as u64 + out as u64),
+    }
 }
 
 /// A writer of std's as a target. It counts its faults up to the greatest number of 64 bits.

@@ -75,7 +75,7 @@ impl Model for Fields {
 impl Fields {
     ghost use Rattle.iim_fields.specs.Format.Faults.{section_after};
     ghost use Rattle.iim_fields.specs.States.Walks.{rest_of};
-    ghost use Rattle.iim_fields.specs.States.Standing.{limits_of, room_of, section_of, begun_head_of, room_for, IsEnough, IsFailed, IsBetween, IsInside, CanTake, CanClose, StandsAfter, StandsIn, PassesSubfile, IsHeadFault, IsOf, IsEnded};
+    ghost use Rattle.iim_fields.specs.States.Standing.{limits_of, room_of, section_of, begun_head_of, room_for, IsEnough, IsFailed, IsBetween, IsInside, CanTake, CanClose, StandsAfter, StandsIn, TookDataset, PassesSubfile, SameBounds, IsHeadFault, IsOf, IsEnded};
     ghost use Rattle.iim_fields.specs.States.Builders.{add_fault};
     ghost use Rattle.iim_fields.specs.StoreLayout.{store_room};
     ghost use Rattle.std.specs.Prelude.{vec_capacity};
@@ -130,8 +130,7 @@ impl Fields {
     /// envelope. It takes no memory.
     pub fn again(&mut self)
         ensures stands { StandsAfter self.new [] }
-        ensures limits { limits_of self.new ≡ limits_of self.old }
-        ensures room { room_of self.new ≡ room_of self.old }
+        ensures bounds { SameBounds self.old self.new }
     {
         self.store.empty();
         self.size.clear();
@@ -206,8 +205,7 @@ impl Fields {
         ensures failed { OnErr result (IsFailed self.new) }
         ensures fault { IfErr result (λ fault. (ds : List Dataset) → StandsAfter self.old ds
             → IsHeadFault (limits_of self.old) ds head fault) }
-        ensures limits { limits_of self.new ≡ limits_of self.old }
-        ensures room { room_of self.new ≡ room_of self.old }
+        ensures bounds { SameBounds self.old self.new }
     {
         self.check.head(head)?;
         let octets = self.store.octets.len();
@@ -228,13 +226,10 @@ impl Fields {
         ensures exactly { (ds : List Dataset) → StandsAfter self.old ds
             → result ≡ is_none (add_fault (limits_of self.old) ds (data_of head octets.now)) }
         ensures kept { IsTrue result → IsTrue (is_kept head.rec) }
-        ensures section { IsTrue result → section_of self.new ≡ head.rec }
-        ensures stands { IsTrue result → (ds : List Dataset) → StandsAfter self.old ds
-            → StandsAfter self.new (ds ++ data_of head octets.now ∷ []) }
+        ensures took { IsTrue result → TookDataset self.old head octets.now self.new }
         ensures between { IsBetween self.new }
         ensures left { result ≡ false → self.new ≡ self.old }
-        ensures limits { limits_of self.new ≡ limits_of self.old }
-        ensures room { room_of self.new ≡ room_of self.old }
+        ensures bounds { SameBounds self.old self.new }
     {
         if !is_kept(head.rec) {
             return false;
@@ -261,13 +256,10 @@ impl Fields {
         ensures exactly { (ds : List Dataset) → StandsAfter self.old ds
             → result ≡ is_none (option_or (first_fault (limits_of self.old) ds head)
             (value_fault (data_of head octets.now))) }
-        ensures section { IsTrue result → section_of self.new ≡ head.rec }
-        ensures stands { IsTrue result → (ds : List Dataset) → StandsAfter self.old ds
-            → StandsAfter self.new (ds ++ data_of head octets.now ∷ []) }
+        ensures took { IsTrue result → TookDataset self.old head octets.now self.new }
         ensures between { IsBetween self.new }
         ensures left { result ≡ false → self.new ≡ self.old }
-        ensures limits { limits_of self.new ≡ limits_of self.old }
-        ensures room { room_of self.new ≡ room_of self.old }
+        ensures bounds { SameBounds self.old self.new }
     {
         self.check.whole(head, octets)
     }
@@ -284,8 +276,7 @@ impl Fields {
         ensures passes { IsTrue result → PassesSubfile self.old head self.new }
         ensures between { IsBetween self.new }
         ensures left { result ≡ false → self.new ≡ self.old }
-        ensures limits { limits_of self.new ≡ limits_of self.old }
-        ensures room { room_of self.new ≡ room_of self.old }
+        ensures bounds { SameBounds self.old self.new }
     {
         self.check.whole_subfile(head)
     }
@@ -298,8 +289,7 @@ impl Fields {
         ensures inside { (h : HeadValue) (n : ℕ) → IsInside self.old h n → IsInside self.new h (n - length octets.now) }
         ensures stands { (ds : List Dataset) (h : HeadValue) (taken : List ℕ) → StandsIn self.old ds h taken
             → StandsIn self.new ds h (taken ++ octets.now) }
-        ensures limits { limits_of self.new ≡ limits_of self.old }
-        ensures room { room_of self.new ≡ room_of self.old }
+        ensures bounds { SameBounds self.old self.new }
     {
         each_row_has_values();
         let Some(head) = self.check.begun() else {
@@ -325,8 +315,7 @@ impl Fields {
         ensures fault { IfErr result (λ fault. (ds : List Dataset) (h : HeadValue) (taken : List ℕ)
             → StandsIn self.old ds h taken
             → IsValueFault ds (data_of h taken) fault) }
-        ensures limits { limits_of self.new ≡ limits_of self.old }
-        ensures room { room_of self.new ≡ room_of self.old }
+        ensures bounds { SameBounds self.old self.new }
     {
         let Some(head) = self.check.begun() else {
             unreachable!()

@@ -30,8 +30,9 @@ pub record HasRoom {W : Type 0} (c : Cutter W) : Type 0 where
   pub count : c.failed ≡ false → c.output.written ≤ most_written c.sent parts
   pub small : c.output.written < most_out
 
--- It may take these octets: no write failed, there are some, and with them the object is within the bound.
+-- It may take these octets: it has room, no write failed, there are some, and with them the object is within the bound.
 pub record MayTake {W : Type 0} (c : Cutter W) (octets : List ℕ) : Type 0 where
+  pub room : HasRoom c
   pub unfailed : c.failed ≡ false
   pub some : 0 < length octets
   pub within : total_of (writing_of c) + length octets ≤ most_of c.plan

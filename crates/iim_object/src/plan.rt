@@ -2,7 +2,7 @@
 
 ghost use Rattle.std.specs.Prelude.{◌≡◌, ◌≤◌, ◌↔◌, IsTrue, IsSome, IfSome};
 ghost use Rattle.iim_dataset.specs.Format.Octets.{greatest_size};
-ghost use Rattle.iim_object.specs.Format.Plans.{is_plan, bound_of, limit_of, fits};
+ghost use Rattle.iim_object.specs.Format.Plans.{is_plan, bound_of, limit_of, fits, is_short};
 
 use crate::size::Size;
 use iim_dataset::GREATEST_SIZE;
@@ -63,5 +63,15 @@ impl Plan {
         ensures { result ≡ bound_of self.now.subfile self.now.size }
     {
         limit_of(self.size).min(self.subfile.saturating_mul(MAX_SUBFILES))
+    }
+
+    /// Whether an object of `total` octets is below a known size.
+    pub fn is_short(&self, total: u64) -> bool
+        ensures { result ≡ is_short self.now.size total }
+    {
+        match self.size {
+            Size::Known(octets) => total < octets,
+            Size::Unknown(_) => false,
+        }
     }
 }

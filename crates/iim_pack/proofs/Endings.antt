@@ -4,8 +4,9 @@ use Rattle.std.specs.Prelude.{Result, Ok, Err, IfOk, IfErr}
 use Rattle.std.proofs.lemmas.Bool.{le-leb}
 use Rattle.iim_dataset.specs.States.Devices.{Device}
 use Rattle.iim_dataset.specs.Laws.Devices.{TextsJoin}
+use Rattle.iim_object.specs.Format.Plans.{is_short}
 use Rattle.iim_object.specs.Format.Packing.{IsWritten}
-use Rattle.iim_object.specs.States.Writing.{Writing, Lengthens, BreaksOff, ContinuesWith, IsTheWhole, Finishes, Begins, most_of, total_of, write_cause, finish_cause, is_short}
+use Rattle.iim_object.specs.States.Writing.{Writing, Lengthens, BreaksOff, ContinuesWith, IsTheWhole, Finishes, Begins, most_of, total_of, write_cause, finish_cause}
 use Rattle.iim_object.specs.declared.plan.Plan.{Plan}
 use Rattle.iim_pack.specs.Ending.{Ends, EndsWithTail}
 

@@ -1,11 +1,13 @@
 -- Records 1 and 2 written one dataset after another.
-use Rattle.std.proofs.Common.{◌≡◌, ℕ, ◌+◌, ◌*◌, ◌^◌, ◌<◌, ◌≤◌, List, [], ◌∷◌, ◌++◌, length, take, refl, sym, ap, subst, ◌∙◌, arith, append_assoc, append-nil, length-append}
+use Rattle.std.proofs.Common.{◌≡◌, ℕ, ◌+◌, ◌*◌, ◌^◌, ◌<◌, ◌≤◌, List, [], ◌∷◌, ◌++◌, length, take, refl, sym, ap, subst, ◌∙◌, arith, append_assoc, append-nil, length-append, inl, inr}
 use Rattle.std.specs.List.{AllByRecursion}
 use Rattle.std.proofs.lemmas.List.{take-append-le}
 use Rattle.std.specs.Io.KnownBytes.{Appends}
+use Rattle.std.proofs.lemmas.Bool.{lt-ltb, le-ltb, cases_lt}
 use Rattle.iim_dataset.specs.States.Devices.{Device, Wrote, Stopped}
 use Rattle.iim_dataset.specs.Laws.Devices.{TextsJoin}
 use Rattle.iim_dataset.specs.Format.Datasets.{Dataset, canonical_dataset, canonical_stream, count_octets, tag_octets}
+use Rattle.iim_dataset.proofs.StoppedTexts.{stopped_more}
 use Rattle.iim_dataset.proofs.WrittenNumbers.{dataset_length}
 use Rattle.iim_fields.specs.Format.Faults.{joined}
 use Rattle.iim_tables.specs.Format.Records.{IsGoodDataset}
@@ -13,12 +15,6 @@ use Rattle.iim_fields.specs.Format.Envelopes.{IsEnvelope}
 use Rattle.iim_fields.specs.States.Builders.{AreFew}
 use Rattle.iim_pack.proofs.Octets.{all_append}
 use Rattle.iim_pack.proofs.Spelling.{few}
-
--- a front of a text stopped within it
-pub stopped_more : (a b : Device) (xs ys : List ℕ) (n : ℕ) → Stopped a b xs n → Stopped a b (xs ++ ys) n
-stopped_more a b xs ys n s =
-    let front : take n (xs ++ ys) ≡ take n xs = take-append-le n xs ys (omega (arith, s.0)) in
-    (omega (arith, s.0, length-append xs ys), subst (Appends a.octets b.octets) (sym front) s.1, s.2)
 
 -- ---- how long datasets are
 

@@ -4,11 +4,11 @@ use Rattle.std.specs.List.{list_all}
 use Rattle.std.proofs.lemmas.Bool.{and_parts, leb-true, ltb-false}
 use Rattle.iim_dataset.specs.States.Devices.{Device}
 use Rattle.iim_dataset.specs.Format.Datasets.{canonical_stream}
-use Rattle.iim_object.specs.Format.Plans.{bound_of}
+use Rattle.iim_object.specs.Format.Plans.{bound_of, is_short}
 use Rattle.iim_object.specs.Format.Packing.{IsWritten, IsAsKnown}
 use Rattle.iim_object.specs.Format.Cuts.{joined_parts}
 use Rattle.iim_object.specs.States.Writing as object
-use Rattle.iim_object.specs.States.Writing.{Writing, most_of, total_of, is_short, Begins}
+use Rattle.iim_object.specs.States.Writing.{Writing, most_of, total_of, passes_plan, Begins}
 use Rattle.iim_object.specs.declared.plan.Plan.{Plan}
 use Rattle.iim_object.specs.declared.size.Size.{Size}
 use Rattle.iim_object.specs.declared.size.Size.TheVariants.{Known, Unknown}
@@ -20,7 +20,7 @@ use Rattle.wire_message.specs.Format.Fields.{is_trailer_octet}
 use Rattle.wire_message.specs.Format.Messages.{Header, IsTrailer}
 use Rattle.wire_message.specs.Format.Canonical.{packed_head, packed_tail, canonical}
 use Rattle.wire_message.specs.Laws.Messages.{CanonicalObjectsAreMessages}
-use Rattle.iim_pack.specs.States.Packing.{BreaksOff, EndsIn, Finishes, is_trailer, is_past, ending_cause}
+use Rattle.iim_pack.specs.States.Packing.{BreaksOff, EndsIn, Finishes, is_trailer, ending_cause}
 use Rattle.iim_pack.specs.Ending.{Ends, EndsWithTail}
 use Rattle.iim_pack.proofs.Goings.{begins_after}
 
@@ -42,7 +42,7 @@ pub record MayEnd (plan : Plan) (total : ℕ) (trailer : List ℕ) : Type 0 wher
 pub may_end : (plan : Plan) (total : ℕ) (trailer : List ℕ) → ending_cause plan total trailer ≡ None → MayEnd plan total trailer
 may_end plan total trailer e =
     let a = first_none (not (is_trailer trailer)) _ _ e in
-    let b = first_none (is_past plan total (length (packed_tail trailer))) _ _ a.1 in
+    let b = first_none (passes_plan plan (total + length (packed_tail trailer))) _ _ a.1 in
     let d = first_none (is_short plan.size (total + length (packed_tail trailer))) _ _ b.1 in
     let t = and_parts (list_all is_trailer_octet trailer) (nat_le (length trailer) 64) (not_false (is_trailer trailer) a.0) in
     record {

@@ -10,11 +10,11 @@ use Rattle.iim_object.specs.Format.Packing.{IsWritten, plan_datasets, subfile_da
 use Rattle.iim_object.specs.Format.Plans.{most_sizes}
 use Rattle.iim_object.proofs.PlanLengths.{plan_length}
 use Rattle.iim_object.specs.Format.Cuts.{joined_parts}
-use Rattle.iim_object.specs.States.Writing.{Writing, HasWritten, Lengthens, BreaksOff, ContinuesWith, Begins, most_of, total_of, plan_octets, write_cause}
+use Rattle.iim_object.specs.States.Writing.{Writing, IsWrittenFrom, HasWritten, Lengthens, BreaksOff, ContinuesWith, Begins, most_of, total_of, plan_octets, write_cause}
 use Rattle.iim_object.specs.declared.plan.Plan.{Plan}
 use Rattle.iim_object.specs.declared.writing.cause.StartFault.{StartFault}
 use Rattle.iim_object.specs.declared.writing.cause.PackCause.TheVariants as causes
-use Rattle.iim_pack.specs.Opening.{Opens, IsWrittenFrom}
+use Rattle.iim_pack.specs.Opening.{Opens}
 use Rattle.iim_pack.specs.States.Starting.{StartBreaksOff}
 use Rattle.iim_pack.proofs.FieldsOut.{stream_append}
 

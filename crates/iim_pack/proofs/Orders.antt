@@ -1,8 +1,9 @@
 -- The first cause of an order.
-use Rattle.std.proofs.Common.{◌≡◌, ℕ, ◌+◌, Bool, true, false, not, nat_le, cond, IsTrue, Option, Some, None, List, [], ◌∷◌, length, refl, sym, ap, subst, ◌∙◌, arith, length-append, zero-add}
+use Rattle.std.proofs.Common.{◌≡◌, ℕ, ◌+◌, Bool, true, false, not, nat_le, cond, IsTrue, Option, Some, None, List, [], ◌∷◌, length, refl, sym, ap, subst, ◌∙◌, arith, length-append}
 use Rattle.std.specs.List.{list_all}
 use Rattle.std.proofs.lemmas.Bool.{and_from, and_parts, leb-false, leb-true, le-leb, ltb-true, ltb-false, not-true, not-false}
-use Rattle.iim_object.specs.States.Writing.{is_short, most_of, total_of}
+use Rattle.iim_object.specs.Format.Plans.{is_short}
+use Rattle.iim_object.specs.States.Writing.{most_of, total_of, passes_plan, PassesPlan, IsBelowKnown}
 use Rattle.iim_object.specs.declared.plan.Plan.{Plan}
 use Rattle.iim_object.specs.declared.size.Size.{Size}
 use Rattle.iim_object.specs.declared.size.Size.TheVariants.{Known, Unknown}
@@ -12,8 +13,8 @@ use Rattle.wire_story.specs.Format.Texts.{is_line_octet}
 use Rattle.wire_message.specs.Format.Fields.{is_trailer_octet}
 use Rattle.wire_message.specs.Format.Messages.{Header, IsTrailer}
 use Rattle.wire_message.specs.Format.Canonical.{packed_head, packed_tail, canonical}
-use Rattle.iim_pack.specs.States.Packing.{Packing, is_past, is_trailer, start_cause, text_cause, line_end_cause, finish_cause, pack_cause}
-use Rattle.iim_pack.specs.Format.Orders.{IsFirstOf, PassesBound, IsBelowKnown, AgainstStart, AgainstText, AgainstLineEnd, AgainstFinish, AgainstPack}
+use Rattle.iim_pack.specs.States.Packing.{Packing, is_trailer, start_cause, text_cause, line_end_cause, finish_cause, pack_cause}
+use Rattle.iim_pack.specs.Format.Orders.{IsFirstOf, AgainstStart, AgainstText, AgainstLineEnd, AgainstFinish, AgainstPack}
 
 -- a test that tells what its cause says
 record Tells (b : Bool) (P : Type 0) : Type 0 where
@@ -44,15 +45,15 @@ not_tells : (b : Bool) → Tells (not b) (IsTrue b → ⊥)
 not_tells true = record { yes = λ e h. let bad : false ≡ true = e in cc; no = λ e h. h refl }
 not_tells false = record { yes = λ e h. let bad : false ≡ true = h in cc; no = λ e h. let bad : true ≡ false = e in cc }
 
-past_tells : (plan : Plan) (total n : ℕ) → Tells (is_past plan total n) (PassesBound plan (total + n))
-past_tells plan total n = record {
-  yes = λ e. leb-false (total + n) (most_of plan) (not-true (nat_le (total + n) (most_of plan)) e);
-  no = λ e h. let le = leb-true (total + n) (most_of plan) (not-false (nat_le (total + n) (most_of plan)) e) in omega (arith, le, h);
+past_tells : (plan : Plan) (n : ℕ) → Tells (passes_plan plan n) (PassesPlan plan n)
+past_tells plan n = record {
+  yes = λ e. leb-false n (most_of plan) (not-true (nat_le n (most_of plan)) e);
+  no = λ e h. let le = leb-true n (most_of plan) (not-false (nat_le n (most_of plan)) e) in omega (arith, le, h);
 }
 
 -- the same of as many octets, counted otherwise
-past_as : (plan : Plan) (total n m : ℕ) → n ≡ m → Tells (is_past plan total n) (PassesBound plan (total + m))
-past_as plan total n m e = subst (λ (k : ℕ). Tells (is_past plan total n) (PassesBound plan (total + k))) e (past_tells plan total n)
+past_as : (plan : Plan) (total n m : ℕ) → n ≡ m → Tells (passes_plan plan (total + n)) (PassesPlan plan (total + m))
+past_as plan total n m e = subst (λ (k : ℕ). Tells (passes_plan plan (total + n)) (PassesPlan plan (total + k))) e (past_tells plan (total + n))
 
 short_of : (plan : Plan) (size : Size) (n : ℕ) → plan.size ≡ size → Tells (is_short size n) (IsBelowKnown plan n)
 short_of plan (Known m) n e = record {
@@ -91,18 +92,18 @@ tail_length trailer = omega (arith, length-append trailer (4 ∷ []))
 -- ---- calls
 
 pub start_order : (head : Header) (plan : Plan) → IsFirstOf (AgainstStart head plan) (PastAnnounced ∷ []) (start_cause head plan)
-start_order head plan = step (AgainstStart head plan) (is_past plan (length (packed_head head)) 2) PastAnnounced [] None (past_tells plan (length (packed_head head)) 2) tt
+start_order head plan = step (AgainstStart head plan) (passes_plan plan (length (packed_head head) + 2)) PastAnnounced [] None (past_tells plan (length (packed_head head) + 2)) tt
 
 pub text_order : {W : Type 0} (k : Packing W) (octets : List ℕ) → IsFirstOf (AgainstText k octets) (Failed ∷ BadTextOctet ∷ PastAnnounced ∷ []) (text_cause k octets)
 text_order k octets =
     step (AgainstText k octets) k.object.failed Failed (BadTextOctet ∷ PastAnnounced ∷ []) _ (failed_tells k.object.failed)
     (step (AgainstText k octets) (not (list_all is_line_octet octets)) BadTextOctet (PastAnnounced ∷ []) _ (not_tells (list_all is_line_octet octets))
-    (step (AgainstText k octets) (is_past k.object.plan (total_of k.object) (length octets + 2)) PastAnnounced [] None (past_tells k.object.plan (total_of k.object) (length octets + 2)) tt))
+    (step (AgainstText k octets) (passes_plan k.object.plan (total_of k.object + (length octets + 2))) PastAnnounced [] None (past_tells k.object.plan (total_of k.object + (length octets + 2))) tt))
 
 pub line_end_order : {W : Type 0} (k : Packing W) → IsFirstOf (AgainstLineEnd k) (Failed ∷ PastAnnounced ∷ []) (line_end_cause k)
 line_end_order k =
     step (AgainstLineEnd k) k.object.failed Failed (PastAnnounced ∷ []) _ (failed_tells k.object.failed)
-    (step (AgainstLineEnd k) (is_past k.object.plan (total_of k.object) (2 + 2)) PastAnnounced [] None (past_tells k.object.plan (total_of k.object) (2 + 2)) tt)
+    (step (AgainstLineEnd k) (passes_plan k.object.plan (total_of k.object + (2 + 2))) PastAnnounced [] None (past_tells k.object.plan (total_of k.object + (2 + 2))) tt)
 
 pub finish_order : {W : Type 0} (k : Packing W) (trailer : List ℕ) → IsFirstOf (AgainstFinish k trailer) (Failed ∷ BadTrailer ∷ PastAnnounced ∷ ShortOfAnnounced ∷ []) (finish_cause k trailer)
 finish_order k trailer =
@@ -111,7 +112,7 @@ finish_order k trailer =
     let long = length (packed_tail trailer) in
     step (AgainstFinish k trailer) k.object.failed Failed (BadTrailer ∷ PastAnnounced ∷ ShortOfAnnounced ∷ []) _ (failed_tells k.object.failed)
     (step (AgainstFinish k trailer) (not (is_trailer trailer)) BadTrailer (PastAnnounced ∷ ShortOfAnnounced ∷ []) _ (trailer_tells trailer)
-    (step (AgainstFinish k trailer) (is_past plan total long) PastAnnounced (ShortOfAnnounced ∷ []) _ (past_as plan total long (length trailer + 2) (tail_length trailer))
+    (step (AgainstFinish k trailer) (passes_plan plan (total + long)) PastAnnounced (ShortOfAnnounced ∷ []) _ (past_as plan total long (length trailer + 2) (tail_length trailer))
     (step (AgainstFinish k trailer) (is_short plan.size (total + long)) ShortOfAnnounced [] None (short_as plan (total + long) (total + (length trailer + 2)) (ap (λ (n : ℕ). total + n) (tail_length trailer))) tt)))
 
 pub pack_order : (head : Header) (lines : List (List ℕ)) (trailer : List ℕ) (plan : Plan)
@@ -119,5 +120,5 @@ pub pack_order : (head : Header) (lines : List (List ℕ)) (trailer : List ℕ) 
 pack_order head lines trailer plan =
     let size = length (canonical head lines trailer) in
     step (AgainstPack head lines trailer plan) (not (is_trailer trailer)) BadTrailer (PastAnnounced ∷ ShortOfAnnounced ∷ []) _ (trailer_tells trailer)
-    (step (AgainstPack head lines trailer plan) (is_past plan 0 size) PastAnnounced (ShortOfAnnounced ∷ []) _ (subst (λ (n : ℕ). Tells (is_past plan 0 size) (PassesBound plan n)) (zero-add size) (past_tells plan 0 size))
+    (step (AgainstPack head lines trailer plan) (passes_plan plan size) PastAnnounced (ShortOfAnnounced ∷ []) _ (past_tells plan size)
     (step (AgainstPack head lines trailer plan) (is_short plan.size size) ShortOfAnnounced [] None (short_tells plan size) tt))

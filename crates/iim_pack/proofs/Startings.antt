@@ -6,7 +6,7 @@ use Rattle.iim_dataset.specs.Laws.Devices.{TextsJoin}
 use Rattle.iim_dataset.specs.Format.Datasets.{Dataset, canonical_stream}
 use Rattle.iim_fields.specs.Format.Envelopes.{IsEnvelope}
 use Rattle.iim_object.specs.States.Writing as object
-use Rattle.iim_object.specs.States.Writing.{Writing, Begins}
+use Rattle.iim_object.specs.States.Writing.{Writing, IsWrittenFrom, Begins}
 use Rattle.iim_object.specs.declared.plan.Plan.{Plan}
 use Rattle.iim_object.specs.declared.writing.cause.StartFault.{StartFault}
 use Rattle.iim_object.specs.declared.writing.cause.PackCause.TheVariants as causes
@@ -14,7 +14,7 @@ use Rattle.wire_story.specs.Format.Texts.{packed_text}
 use Rattle.wire_message.specs.Format.Messages.{Header, IsHeader}
 use Rattle.wire_message.specs.Format.Canonical.{packed_head, packed_tail}
 use Rattle.iim_pack.specs.States.Packing.{FormWith}
-use Rattle.iim_pack.specs.Opening.{Opens, IsWrittenFrom}
+use Rattle.iim_pack.specs.Opening.{Opens}
 use Rattle.iim_pack.specs.States.Starting.{StartBreaksOff, Starts}
 use Rattle.iim_pack.proofs.Goings.{begins_after}
 use Rattle.iim_pack.proofs.Openings.{begins_by}

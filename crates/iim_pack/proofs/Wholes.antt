@@ -4,7 +4,8 @@ use Rattle.std.proofs.lemmas.Bool.{leb-true, le-leb}
 use Rattle.iim_dataset.specs.States.Devices.{Device, Wrote, BrokeAfter}
 use Rattle.iim_dataset.specs.Laws.Devices.{TextsJoin}
 use Rattle.iim_dataset.specs.Format.Datasets.{Dataset}
-use Rattle.iim_object.specs.States.Writing.{Begins, most_of, total_of, is_short}
+use Rattle.iim_object.specs.Format.Plans.{is_short}
+use Rattle.iim_object.specs.States.Writing.{Begins, most_of, total_of, passes_plan}
 use Rattle.iim_object.specs.declared.plan.Plan.{Plan}
 use Rattle.iim_object.specs.declared.writing.cause.StartFault.{StartFault}
 use Rattle.iim_object.specs.declared.writing.cause.PackCause.TheVariants as causes
@@ -17,7 +18,7 @@ use Rattle.wire_story.specs.Laws.Packing.{LinesArePackedAsTheirEvents}
 use Rattle.wire_message.specs.Format.Messages.{Header}
 use Rattle.wire_message.specs.Format.Canonical.{packed_head, packed_tail, canonical}
 use Rattle.iim_pack.specs.Format.Packed.{Packed}
-use Rattle.iim_pack.specs.States.Packing.{Packing, Lengthens, BreaksOff, ContinuesWith, EndsIn, Finishes, is_trailer, is_past, pack_cause, start_cause, finish_cause, least_ending, written_of}
+use Rattle.iim_pack.specs.States.Packing.{Packing, Lengthens, BreaksOff, ContinuesWith, EndsIn, Finishes, is_trailer, pack_cause, start_cause, finish_cause, least_ending, written_of}
 use Rattle.iim_pack.specs.States.Starting.{Starts, StartBreaksOff, IsStartFault}
 use Rattle.iim_pack.specs.States.Whole.{Packs, IsPackFault}
 use Rattle.iim_pack.proofs.Finishings.{first_none, not_false}
@@ -93,12 +94,11 @@ pub may_pack : LinesArePackedAsTheirEvents → (head : Header) (lines : List (Li
 may_pack law head lines trailer plan e =
     let size : ℕ = length (canonical head lines trailer) in
     let a = first_none (not (is_trailer trailer)) _ _ e in
-    let b = first_none (is_past plan 0 size) _ _ a.1 in
+    let b = first_none (passes_plan plan size) _ _ a.1 in
     let d = first_none (is_short plan.size size) _ _ b.1 in
-    let le : 0 + size ≤ most_of plan = leb-true (0 + size) (most_of plan) (not_false (nat_le (0 + size) (most_of plan)) b.0) in
     record {
       trailer_is = not_false (is_trailer trailer) a.0;
-      fits = omega (arith, le);
+      fits = leb-true size (most_of plan) (not_false (nat_le size (most_of plan)) b.0);
       whole = d.0;
       parts = omega (arith, length-append (packed_head head) (packed_text lines ++ packed_tail trailer), length-append (packed_text lines) (packed_tail trailer), ap length (law lines));
     }

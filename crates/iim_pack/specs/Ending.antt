@@ -1,16 +1,15 @@
 -- The end of an object: its last octets, and what follows them.
 use Rattle.std.specs.Prelude.{ℕ, List, ◌++◌}
 use Rattle.iim_dataset.specs.States.Devices.{Device, Wrote}
-use Rattle.iim_object.specs.Format.Packing.{IsWritten}
-use Rattle.iim_object.specs.States.Writing.{Writing, HasWritten}
+use Rattle.iim_object.specs.States.Writing.{Writing, HasWritten, IsTheWhole}
 use Rattle.iim_object.specs.declared.plan.Plan.{Plan}
 
 -- what is written of the object with its last octets
 abbrev pub EndsWithTail : Plan → List ℕ → List ℕ → List ℕ → Type 0
-EndsWithTail plan tail object whole = IsWritten plan.subfile plan.size (object ++ tail) whole
+EndsWithTail plan tail object whole = IsTheWhole plan (object ++ tail) whole
 
 -- The object is out, with its last octets.
 pub record Ends {W : Type 0} (state : W → Device) (old : Writing W) (tail : List ℕ) (writer : W) : Type 0 where
   pub more : List ℕ
   pub wrote : Wrote (state old.writer) (state writer) more
-  pub whole : (object out : List ℕ) → HasWritten old object out → IsWritten old.plan.subfile old.plan.size (object ++ tail) (out ++ more)
+  pub whole : (object out : List ℕ) → HasWritten old object out → EndsWithTail old.plan tail object (out ++ more)

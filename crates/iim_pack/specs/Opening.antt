@@ -1,7 +1,6 @@
 -- How a packer opens.
-use Rattle.std.specs.Prelude.{◌≡◌, ℕ, List, ◌++◌, length}
+use Rattle.std.specs.Prelude.{◌≡◌, ℕ, List, length}
 use Rattle.iim_dataset.specs.States.Devices.{Device, Wrote}
-use Rattle.iim_object.specs.Format.Packing.{IsWritten}
 use Rattle.iim_object.specs.States.Writing as object
 use Rattle.iim_object.specs.States.Writing.{Writing, total_of}
 use Rattle.iim_object.specs.declared.plan.Plan.{Plan}
@@ -14,7 +13,3 @@ pub record Opens {W : Type 0} (state : W → Device) (writer : W) (plan : Plan) 
   pub stands : object.HasWritten w front out
   pub counted : w.written ≡ length out
   pub total : total_of w ≡ length front
-
--- what is written of an object that begins so
-abbrev pub IsWrittenFrom : Plan → List ℕ → List ℕ → Type 0
-IsWrittenFrom plan front whole = (rest : List ℕ) × IsWritten plan.subfile plan.size (front ++ rest) whole

@@ -1,32 +1,22 @@
 //! Why a packer refuses a call, by numbers alone.
 
-ghost use Rattle.std.specs.Prelude.{◌≡◌, ◌≤◌};
+ghost use Rattle.std.specs.Prelude.{◌≡◌, ◌+◌, ◌≤◌};
 ghost use Rattle.iim_dataset.specs.Format.Octets.{greatest_size};
-ghost use Rattle.iim_object.specs.States.Writing.{is_short};
-ghost use Rattle.iim_pack.specs.States.Packing.{is_past, ending_cause};
+ghost use Rattle.iim_object.specs.States.Writing as object;
+ghost use Rattle.iim_pack.specs.States.Packing.{ending_cause};
 ghost use Rattle.iim_pack.specs.States.Packing as words;
 
-use iim_object::{PackCause, Plan, Size};
+use iim_object::{PackCause, Plan};
 use wire_message::is_trailer;
 
 /// ETX and EOT.
 pub(crate) const LEAST_ENDING: u64 = 2;
 
 /// Whether `octets` octets after the first `total` pass the plan's bound.
-pub(crate) fn is_past(plan: Plan, total: u64, octets: u64) -> bool
-    ensures { result ≡ words.is_past plan total octets }
+pub(crate) fn passes_plan(plan: Plan, total: u64, octets: u64) -> bool
+    ensures { result ≡ object.passes_plan plan (total + octets) }
 {
     total.saturating_add(octets) > plan.bound()
-}
-
-/// Whether an object of `total` octets is below a known size.
-pub(crate) fn is_short(size: Size, total: u64) -> bool
-    ensures { result ≡ is_short size total }
-{
-    match size {
-        Size::Known(octets) => total < octets,
-        Size::Unknown(_) => false,
-    }
 }
 
 /// Why an object may not end with the trailer after `total` octets.
@@ -38,10 +28,10 @@ pub(crate) fn ending_cause(plan: Plan, total: u64, trailer: &[u8]) -> Option<Pac
         return Some(PackCause::BadTrailer);
     }
     let tail = trailer.len() as u64 + LEAST_ENDING;
-    if is_past(plan, total, tail) {
+    if passes_plan(plan, total, tail) {
         return Some(PackCause::PastAnnounced);
     }
-    if is_short(plan.size, total + tail) {
+    if plan.is_short(total + tail) {
         return Some(PackCause::ShortOfAnnounced);
     }
     None

@@ -1,7 +1,8 @@
 //! The end of an object.
 
 ghost use Rattle.std.specs.Prelude.{◌≡◌, ◌+◌, ◌≤◌, false, length, IfOk, IfErr};
-ghost use Rattle.iim_object.specs.States.Writing.{BreaksOff, most_of, total_of, is_short};
+ghost use Rattle.iim_object.specs.Format.Plans.{is_short};
+ghost use Rattle.iim_object.specs.States.Writing.{BreaksOff, most_of, total_of};
 ghost use Rattle.iim_object.specs.declared.writing.cause.PackCause.TheVariants as causes;
 ghost use Rattle.iim_pack.specs.Ending.{Ends, EndsWithTail};
 

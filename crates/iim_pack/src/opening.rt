@@ -2,8 +2,8 @@
 
 ghost use Rattle.std.specs.Prelude.{◌≡◌, ◌+◌, ◌<◌, ◌≤◌, ◌^◌, length, IfOk, IfErr};
 ghost use Rattle.iim_object.specs.Format.Plans.{most_out};
-ghost use Rattle.iim_object.specs.States.Writing.{most_of, room_of};
-ghost use Rattle.iim_pack.specs.Opening.{Opens, IsWrittenFrom};
+ghost use Rattle.iim_object.specs.States.Writing.{most_of, room_of, IsWrittenFrom};
+ghost use Rattle.iim_pack.specs.Opening.{Opens};
 ghost use Rattle.iim_pack.specs.States.Starting.{StartBreaksOff};
 
 use iim_dataset::Target;

@@ -9,7 +9,7 @@ ghost use Rattle.iim_pack.specs.Format.Orders.{IsFirstOf, AgainstStart, AgainstT
 ghost use Rattle.iim_object.specs.States.Writing.{room_of};
 ghost use Rattle.iim_object.specs.declared.writing.cause.PackCause.TheVariants as causes;
 
-use crate::cause::{LEAST_ENDING, ending_cause, is_past};
+use crate::cause::{LEAST_ENDING, ending_cause, passes_plan};
 use crate::ending::end_object;
 use crate::fields::put_fields;
 use crate::opening::open_object;
@@ -52,6 +52,17 @@ impl<W> Model for Packer<W> {
     ghost invariant = { λ k. k.before < 2 ^ 40 };
 }
 
+/// Why no packer was begun, with what was to be written to, and how many octets are out.
+fn unbegun<W>(cause: PackCause, writer: W, written: u64) -> StartFault<W>
+    ensures { result ≡ record { cause = cause; writer = writer; written = written } }
+{
+    StartFault {
+        cause,
+        writer,
+        written,
+    }
+}
+
 impl<W: Target> Packer<W> {
     /// Writes records 1, 2 and 7, and begins the object with the header.
     ///
@@ -78,40 +89,20 @@ impl<W: Target> Packer<W> {
         texts_join();
         let text = head_text(head);
         let front = text.as_slice();
-        if is_past(plan, front.len() as u64, LEAST_ENDING) {
-            return Err(StartFault {
-                cause: PackCause::PastAnnounced,
-                writer,
-                written: 0,
-            });
+        if passes_plan(plan, front.len() as u64, LEAST_ENDING) {
+            return Err(unbegun(PackCause::PastAnnounced, writer, 0));
         }
         let buffer = match SubfileBuffer::reserve(alloc, plan) {
             Ok(buffer) => buffer,
-            Err(_) => {
-                return Err(StartFault {
-                    cause: PackCause::OutOfMemory,
-                    writer,
-                    written: 0,
-                });
-            }
+            Err(_) => return Err(unbegun(PackCause::OutOfMemory, writer, 0)),
         };
         let before = match put_fields(&mut writer, envelope) {
             Ok(before) => before,
-            Err(written) => {
-                return Err(StartFault {
-                    cause: PackCause::Write,
-                    writer,
-                    written,
-                });
-            }
+            Err(written) => return Err(unbegun(PackCause::Write, writer, written)),
         };
         match open_object(buffer, front, writer) {
             Ok(object) => Ok(Packer { before, object }),
-            Err(fault) => Err(StartFault {
-                cause: fault.cause,
-                writer: fault.writer,
-                written: before + fault.written,
-            }),
+            Err(fault) => Err(unbegun(fault.cause, fault.writer, before + fault.written)),
         }
     }
 
@@ -140,7 +131,7 @@ impl<W: Target> Packer<W> {
         if !is_text(octets) {
             return Err(PackCause::BadTextOctet);
         }
-        if is_past(
+        if passes_plan(
             self.object.plan(),
             self.object.total(),
             octets.len() as u64 + LEAST_ENDING,
@@ -171,7 +162,7 @@ impl<W: Target> Packer<W> {
         if self.object.is_failed() {
             return Err(PackCause::Failed);
         }
-        if is_past(self.object.plan(), self.object.total(), 2 + LEAST_ENDING) {
+        if passes_plan(self.object.plan(), self.object.total(), 2 + LEAST_ENDING) {
             return Err(PackCause::PastAnnounced);
         }
         self.object.write(&LINE_END)

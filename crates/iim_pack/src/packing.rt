@@ -8,7 +8,6 @@ ghost use Rattle.iim_pack.specs.Format.Orders.{IsFirstOf, AgainstPack};
 ghost use Rattle.iim_pack.specs.States.Starting.{StartIsRefused};
 ghost use Rattle.iim_pack.specs.States.Whole.{Packs, IsPackFault};
 
-use crate::cause::is_short;
 use crate::lines::put_lines;
 use crate::packer::Packer;
 use crate::size::packed_size;
@@ -37,7 +36,7 @@ fn pack_cause(head: &MessageHead, lines: &Lines, trailer: &[u8], plan: Plan) -> 
     if size > plan.bound() {
         return Some(PackCause::PastAnnounced);
     }
-    if is_short(plan.size, size) {
+    if plan.is_short(size) {
         return Some(PackCause::ShortOfAnnounced);
     }
     None

@@ -10,7 +10,7 @@ use Rattle.iim_fields.specs.Format.Causes.Token.{AtHead}
 use Rattle.iim_fields.specs.States.Checks.{IsIn, HasChecked, HasTaken, HasEnded, begun_head, section_at}
 use Rattle.iim_fields.specs.States.Checks as checks
 use Rattle.iim_fields.specs.States.Stores.{Room}
-use Rattle.iim_fields.specs.Format.Values.{number_told}
+use Rattle.iim_fields.specs.Format.Values.{number_told, data_of}
 use Rattle.iim_fields.specs.declared.limits.Limits.{Limits}
 use Rattle.iim_fields.specs.declared.fault.FieldFault.{FieldFault}
 use Rattle.iim_fields.specs.declared.check.RecordPlace.{RecordPlace}
@@ -40,6 +40,11 @@ room_for limits = record { octets = limits.octets; entries = limits.fields }
 -- The room is enough for the limits.
 abbrev pub IsEnough : Room → Limits → Type 0
 IsEnough room limits = (limits.octets ≤ room.octets) × (limits.fields ≤ room.entries)
+
+-- What a reader may hold stays as it was.
+pub record SameBounds (old new : FieldsPlace) : Type 0 where
+  pub limits : limits_of new ≡ limits_of old
+  pub room : room_of new ≡ room_of old
 
 -- the record of the last head, 0 at the beginning
 abbrev pub section_of : FieldsPlace → ℕ
@@ -106,6 +111,11 @@ pub record IsOf (h : Head) (taken : List ℕ) (d : Dataset) : Type 0 where
   pub head : head_of d ≡ h
   pub octets : Octets d.octets
   pub given : h.rec ≢ 8 → d.octets ≡ taken
+
+-- From one to the other by a whole dataset of this head and these data.
+pub record TookDataset (old : FieldsPlace) (h : Head) (octets : List ℕ) (new : FieldsPlace) : Type 0 where
+  pub section : section_of new ≡ h.rec
+  pub stands : (ds : List Dataset) → StandsAfter old ds → StandsAfter new (ds ++ data_of h octets ∷ [])
 
 -- From one to the other by a whole subfile of this head: by a reader that stands in it, whatever data the subfile has.
 pub record PassesSubfile (old : FieldsPlace) (h : Head) (new : FieldsPlace) : Type 0 where

@@ -1,5 +1,5 @@
 -- Plans of objects.
-use Rattle.std.specs.Prelude.{ℕ, ◌+◌, ◌*◌, ◌^◌, Bool, true, ◌&&◌, nat_le, min, Some, None}
+use Rattle.std.specs.Prelude.{ℕ, ◌+◌, ◌*◌, ◌^◌, Bool, true, false, ◌&&◌, nat_le, nat_lt, min, Some, None}
 use Rattle.iim_dataset.specs.Format.Datasets.{tag_octets}
 use Rattle.iim_dataset.specs.Format.Octets.{greatest_size, greatest_u32}
 use Rattle.iim_object.specs.declared.size.Size.{Size}
@@ -40,3 +40,8 @@ limit_of (Unknown None) = greatest_size
 -- the most octets of the object: never more than full subfiles hold
 abbrev pub bound_of : ℕ → Size → ℕ
 bound_of subfile size = min (limit_of size) (most_in subfile)
+
+-- the object is below a known size
+abbrev pub is_short : Size → ℕ → Bool
+is_short (Known n) total = nat_lt total n
+is_short (Unknown most) total = false

@@ -1,14 +1,13 @@
 -- A writer of subfiles: what it has taken, what is out, and how a call ends.
-use Rattle.std.specs.Prelude.{◌≡◌, ℕ, ◌+◌, ◌<◌, ◌≤◌, ◌⊎◌, min, nat_le, nat_lt, not, Bool, true, false, if◌then◌else◌, List, [], ◌++◌, length, Option, Some, None}
+use Rattle.std.specs.Prelude.{◌≡◌, ℕ, ◌+◌, ◌<◌, ◌≤◌, ◌⊎◌, min, nat_le, not, Bool, true, false, if◌then◌else◌, List, [], ◌++◌, length, Option, Some, None}
 use Rattle.iim_dataset.specs.States.Devices.{Device, Wrote, Broke}
 use Rattle.std.specs.Io.KnownBytes.{Appends}
 use Rattle.iim_dataset.specs.Format.Datasets.{canonical_stream}
-use Rattle.iim_object.specs.Format.Plans.{bound_of}
+use Rattle.iim_object.specs.Format.Plans.{bound_of, is_short}
 use Rattle.iim_object.specs.Format.Cuts.{AreFull, joined_parts}
 use Rattle.iim_object.specs.Format.Packing.{plan_datasets, subfile_datasets, IsWritten}
 use Rattle.iim_object.specs.declared.plan.Plan.{Plan}
-use Rattle.iim_object.specs.declared.size.Size.{Size}
-use Rattle.iim_object.specs.declared.size.Size.TheVariants.{Known, Unknown}
+use Rattle.iim_object.specs.declared.size.Size.TheVariants.{Known}
 use Rattle.iim_object.specs.declared.writing.cause.PackCause.{PackCause}
 use Rattle.iim_object.specs.declared.writing.cause.PackCause.TheVariants as causes
 
@@ -81,9 +80,13 @@ pub record BreaksOff {W : Type 0} (state : W → Device) (May : List ℕ → Lis
   pub counted : new.written ≡ old.written + length more
   pub begins : (object out whole : List ℕ) → HasWritten old object out → May object whole → Begins (out ++ more) whole
 
+-- what is written of an object that begins with these octets
+abbrev pub IsWrittenFrom : Plan → List ℕ → List ℕ → Type 0
+IsWrittenFrom plan front whole = (rest : List ℕ) × IsWritten plan.subfile plan.size (front ++ rest) whole
+
 -- what is written of an object that begins with this one and these octets
 abbrev pub ContinuesWith : Plan → List ℕ → List ℕ → List ℕ → Type 0
-ContinuesWith plan octets object whole = (rest : List ℕ) × IsWritten plan.subfile plan.size ((object ++ octets) ++ rest) whole
+ContinuesWith plan octets object whole = IsWrittenFrom plan (object ++ octets) whole
 
 -- what is written of the object
 abbrev pub IsTheWhole : Plan → List ℕ → List ℕ → Type 0
@@ -97,17 +100,24 @@ pub record Finishes {W : Type 0} (state : W → Device) (old : Writing W) (write
 
 -- ---- causes
 
+-- an object of so many octets passes the plan's bound
+abbrev pub passes_plan : Plan → ℕ → Bool
+passes_plan plan octets = not (nat_le octets (most_of plan))
+
+-- An object of so many octets passes the plan's bound.
+abbrev pub PassesPlan : Plan → ℕ → Type 0
+PassesPlan plan octets = most_of plan < octets
+
+-- An object of so many octets is below a known size.
+abbrev pub IsBelowKnown : Plan → ℕ → Type 0
+IsBelowKnown plan octets = (n : ℕ) × (plan.size ≡ Known n) × (octets < n)
+
 -- The first cause against n octets more: a write failed before, or the object would pass the bound.
 abbrev pub write_cause : {W : Type 0} → Writing W → ℕ → Option PackCause
 write_cause w n =
     if w.failed then Some causes.Failed
-    else if not (nat_le (total_of w + n) (most_of w.plan)) then Some causes.PastAnnounced
+    else if passes_plan w.plan (total_of w + n) then Some causes.PastAnnounced
     else None
-
--- the object is below a known size
-abbrev pub is_short : Size → ℕ → Bool
-is_short (Known n) total = nat_lt total n
-is_short (Unknown most) total = false
 
 -- The first cause against the end: a write failed before, or the object is below the known size.
 abbrev pub finish_cause : {W : Type 0} → Writing W → Option PackCause
@@ -120,9 +130,9 @@ finish_cause w =
 -- end takes nothing.
 abbrev pub RefusesOctets : {W : Type 0} → Writing W → ℕ → PackCause → Type 0
 RefusesOctets w n cause = ((w.failed ≡ true) × (cause ≡ causes.Failed))
-    ⊎ ((w.failed ≡ false) × (most_of w.plan < total_of w + n) × (cause ≡ causes.PastAnnounced))
+    ⊎ ((w.failed ≡ false) × PassesPlan w.plan (total_of w + n) × (cause ≡ causes.PastAnnounced))
 
 -- Why the end is refused, in this order: a write failed before; the object is below the known size.
 abbrev pub RefusesEnd : {W : Type 0} → Writing W → PackCause → Type 0
 RefusesEnd w cause = ((w.failed ≡ true) × (cause ≡ causes.Failed))
-    ⊎ ((w.failed ≡ false) × ((known : ℕ) × (w.plan.size ≡ Known known) × (total_of w < known)) × (cause ≡ causes.ShortOfAnnounced))
+    ⊎ ((w.failed ≡ false) × IsBelowKnown w.plan (total_of w) × (cause ≡ causes.ShortOfAnnounced))

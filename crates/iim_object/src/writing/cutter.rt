@@ -1,15 +1,14 @@
 //! An object, cut into subfiles as it comes.
 
-ghost use Rattle.std.specs.Prelude.{◌≡◌, ◌+◌, ◌-◌, ◌^◌, ◌<◌, ◌≤◌, length, take, true, false, IfOk, IfErr, OnOk, OnErr, IfSome, IfNone, Err};
+ghost use Rattle.std.specs.Prelude.{◌≡◌, ◌+◌, ◌-◌, ◌^◌, ◌<◌, ◌≤◌, length, take, false, IfOk, IfErr, OnOk, OnErr, IfSome, IfNone, Err};
 ghost use Rattle.iim_dataset.specs.Format.Datasets.{canonical_dataset};
 ghost use Rattle.iim_object.specs.Format.Packing.{subfile_dataset};
-ghost use Rattle.iim_object.specs.States.Writing.{most_of, total_of, Lengthens, BreaksOff, ContinuesWith, IsTheWhole, Finishes, write_cause, finish_cause, is_short};
+ghost use Rattle.iim_object.specs.States.Writing.{most_of, total_of, Lengthens, BreaksOff, ContinuesWith, IsTheWhole, Finishes, write_cause, finish_cause};
 ghost use Rattle.iim_object.specs.Cutting.{writing_of, HasRoom, MayTake, Fills, Flushes, Halts};
 ghost use Rattle.iim_object.specs.declared.writing.cause.PackCause.TheVariants as causes;
 
 use crate::laws::objects_are_cut_one_way;
 use crate::plan::Plan;
-use crate::size::Size;
 use crate::writing::cause::PackCause;
 use crate::writing::output::Output;
 use iim_dataset::device_laws::texts_join;
@@ -29,16 +28,6 @@ pub(crate) struct Cutter<W> {
     pub output: Output<W>,
     /// Whether a write failed.
     pub failed: bool,
-}
-
-/// Whether an object of `total` octets is below a known size.
-fn is_short(size: Size, total: u64) -> bool
-    ensures { result ≡ is_short size total }
-{
-    match size {
-        Size::Known(octets) => total < octets,
-        Size::Unknown(_) => false,
-    }
 }
 
 impl<W: Target> Cutter<W> {
@@ -96,8 +85,7 @@ impl<W: Target> Cutter<W> {
 
     /// Takes octets from the front, one at least, and answers how many.
     fn take_front(&mut self, rest: &[u8]) -> Result<usize, PackCause>
-        requires room { HasRoom self.old }
-        requires may { MayTake self.old rest.now }
+        requires { MayTake self.old rest.now }
         ensures room { HasRoom self.new }
         ensures same_room { self.new.held.room ≡ self.old.held.room }
         ensures within { IfOk result (λ taken. taken ≤ length rest.now) }
@@ -141,7 +129,7 @@ impl<W: Target> Cutter<W> {
         if self.failed {
             return Some(PackCause::Failed);
         }
-        if is_short(self.plan.size, self.total()) {
+        if self.plan.is_short(self.total()) {
             return Some(PackCause::ShortOfAnnounced);
         }
         None

@@ -13,7 +13,7 @@ use crate::plan::Plan;
 use crate::size::Size;
 use crate::writing::cause::PackCause;
 use iim_dataset::device_laws::texts_join;
-use iim_dataset::{Head, Target, head_bytes, number_bytes, put};
+use iim_dataset::{Target, number_bytes, put_dataset};
 use iim_tables::records::{ANNOUNCED_SIZE, MAX_SUBFILE_SIZE, MAXIMUM_SIZE, PRE_OBJECT, SIZE_MODE};
 
 /// A target, and how many octets are out.
@@ -26,25 +26,6 @@ pub(crate) struct Output<W> {
 }
 
 impl<W: Target> Output<W> {
-    /// Writes a piece.
-    pub(crate) fn put(&mut self, piece: &[u8]) -> Result<(), PackCause>
-        requires { self.old.written + length piece.now < 2 ^ 64 }
-        ensures ok { OnOk result (Puts W.state self.old self.new piece.now) }
-        ensures err { OnErr result (Cuts W.state self.old self.new piece.now) }
-        ensures cause { IfErr result (λ cause. cause ≡ causes.Write) }
-    {
-        match put(&mut self.writer, piece) {
-            Ok(()) => {
-                self.written += piece.len() as u64;
-                Ok(())
-            }
-            Err(out) => {
-                self.written += out as u64;
-                Err(PackCause::Write)
-            }
-        }
-    }
-
     /// Writes a dataset in its canonical spelling.
     pub(crate) fn put_dataset(&mut self, rec: u8, set: u8, octets: &[u8]) -> Result<(), PackCause>
         requires room { self.old.written + tag_octets + length octets.now < 2 ^ 64 }
@@ -54,12 +35,15 @@ impl<W: Target> Output<W> {
             (canonical_dataset record { rec = rec; set = set; octets = octets.now })) }
         ensures cause { IfErr result (λ cause. cause ≡ causes.Write) }
     {
-        texts_join();
-        let count = octets.len() as u64;
-        let tag = head_bytes(Head { rec, set, count });
-        match self.put(tag.as_slice()) {
-            Ok(()) => self.put(octets),
-            Err(cause) => Err(cause),
+        match put_dataset(&mut self.writer, rec, set, octets) {
+            Ok(out) => {
+                self.written += out;
+                Ok(())
+            }
+            Err(out) => {
+                self.written += out;
+                Err(PackCause::Write)
+            }
         }
     }
 

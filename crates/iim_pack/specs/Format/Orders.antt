@@ -1,9 +1,8 @@
 -- Why a packer refuses a call: what each cause says, and the order in which they are asked.
-use Rattle.std.specs.Prelude.{◌≡◌, ℕ, ◌+◌, ◌<◌, IsTrue, List, ◌∷◌, ◌++◌, length, Option, Some, None}
+use Rattle.std.specs.Prelude.{◌≡◌, ℕ, ◌+◌, IsTrue, List, ◌∷◌, ◌++◌, length, Option, Some, None}
 use Rattle.std.specs.List.{AllByRecursion}
-use Rattle.iim_object.specs.States.Writing.{most_of, total_of}
+use Rattle.iim_object.specs.States.Writing.{total_of, PassesPlan, IsBelowKnown}
 use Rattle.iim_object.specs.declared.plan.Plan.{Plan}
-use Rattle.iim_object.specs.declared.size.Size.TheVariants.{Known}
 use Rattle.iim_object.specs.declared.writing.cause.PackCause.{PackCause}
 use Rattle.iim_object.specs.declared.writing.cause.PackCause.TheVariants.{PastAnnounced, ShortOfAnnounced, BadTextOctet, BadTrailer, Failed}
 use Rattle.wire_story.specs.Format.Texts.{IsLine}
@@ -24,43 +23,35 @@ abbrev pub IsFirstOf : (PackCause → Type 0) → List PackCause → Option Pack
 IsFirstOf Says order (Some cause) = IsFirst Says order cause
 IsFirstOf Says order None = AllByRecursion (λ cause. Says cause → ⊥) order
 
--- An object of `octets` octets passes the plan's bound.
-abbrev pub PassesBound : Plan → ℕ → Type 0
-PassesBound plan octets = most_of plan < octets
-
--- An object of `octets` octets is below a known size.
-abbrev pub IsBelowKnown : Plan → ℕ → Type 0
-IsBelowKnown plan octets = (n : ℕ) × (plan.size ≡ Known n) × (octets < n)
-
 -- what the causes say of `start`: of the header, the two octets ETX and EOT follow at least
 abbrev pub AgainstStart : Header → Plan → PackCause → Type 0
-AgainstStart head plan PastAnnounced = PassesBound plan (length (packed_head head) + least_ending)
+AgainstStart head plan PastAnnounced = PassesPlan plan (length (packed_head head) + least_ending)
 AgainstStart head plan _ = ⊥
 
 -- of `text`
 abbrev pub AgainstText : {W : Type 0} → Packing W → List ℕ → PackCause → Type 0
 AgainstText k octets Failed = IsTrue k.object.failed
 AgainstText k octets BadTextOctet = IsLine octets → ⊥
-AgainstText k octets PastAnnounced = PassesBound k.object.plan (total_of k.object + (length octets + least_ending))
+AgainstText k octets PastAnnounced = PassesPlan k.object.plan (total_of k.object + (length octets + least_ending))
 AgainstText k octets _ = ⊥
 
 -- of `line_end`, which adds CR and LF
 abbrev pub AgainstLineEnd : {W : Type 0} → Packing W → PackCause → Type 0
 AgainstLineEnd k Failed = IsTrue k.object.failed
-AgainstLineEnd k PastAnnounced = PassesBound k.object.plan (total_of k.object + (2 + least_ending))
+AgainstLineEnd k PastAnnounced = PassesPlan k.object.plan (total_of k.object + (2 + least_ending))
 AgainstLineEnd k _ = ⊥
 
 -- of `finish`, which adds ETX, the trailer and EOT
 abbrev pub AgainstFinish : {W : Type 0} → Packing W → List ℕ → PackCause → Type 0
 AgainstFinish k trailer Failed = IsTrue k.object.failed
 AgainstFinish k trailer BadTrailer = IsTrailer trailer → ⊥
-AgainstFinish k trailer PastAnnounced = PassesBound k.object.plan (total_of k.object + (length trailer + least_ending))
+AgainstFinish k trailer PastAnnounced = PassesPlan k.object.plan (total_of k.object + (length trailer + least_ending))
 AgainstFinish k trailer ShortOfAnnounced = IsBelowKnown k.object.plan (total_of k.object + (length trailer + least_ending))
 AgainstFinish k trailer _ = ⊥
 
 -- of `pack`
 abbrev pub AgainstPack : Header → List (List ℕ) → List ℕ → Plan → PackCause → Type 0
 AgainstPack head lines trailer plan BadTrailer = IsTrailer trailer → ⊥
-AgainstPack head lines trailer plan PastAnnounced = PassesBound plan (length (canonical head lines trailer))
+AgainstPack head lines trailer plan PastAnnounced = PassesPlan plan (length (canonical head lines trailer))
 AgainstPack head lines trailer plan ShortOfAnnounced = IsBelowKnown plan (length (canonical head lines trailer))
 AgainstPack head lines trailer plan _ = ⊥

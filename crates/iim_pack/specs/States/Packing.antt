@@ -5,8 +5,9 @@ use Rattle.std.specs.Io.KnownBytes.{Appends}
 use Rattle.iim_dataset.specs.States.Devices.{Device, Wrote, Broke}
 use Rattle.iim_dataset.specs.Format.Datasets.{Dataset, canonical_stream}
 use Rattle.iim_fields.specs.Format.Envelopes.{IsEnvelope}
+use Rattle.iim_object.specs.Format.Plans.{is_short}
 use Rattle.iim_object.specs.States.Writing as object
-use Rattle.iim_object.specs.States.Writing.{Writing, most_of, total_of, is_short}
+use Rattle.iim_object.specs.States.Writing.{Writing, total_of, passes_plan}
 use Rattle.iim_object.specs.declared.plan.Plan.{Plan}
 use Rattle.iim_object.specs.declared.writing.cause.PackCause.{PackCause}
 use Rattle.iim_object.specs.declared.writing.cause.PackCause.TheVariants as causes
@@ -90,24 +91,20 @@ pub record Finishes {W : Type 0} (state : W → Device) (old : Packing W) (trail
 
 -- ---- causes
 
--- n octets after the first `total` pass the plan's bound
-abbrev pub is_past : Plan → ℕ → ℕ → Bool
-is_past plan total n = not (nat_le (total + n) (most_of plan))
-
 abbrev pub start_cause : Header → Plan → Option PackCause
-start_cause head plan = if is_past plan (length (packed_head head)) least_ending then Some causes.PastAnnounced else None
+start_cause head plan = if passes_plan plan (length (packed_head head) + least_ending) then Some causes.PastAnnounced else None
 
 abbrev pub text_cause : {W : Type 0} → Packing W → List ℕ → Option PackCause
 text_cause k octets =
     if k.object.failed then Some causes.Failed
     else if not (list_all is_line_octet octets) then Some causes.BadTextOctet
-    else if is_past k.object.plan (total_of k.object) (length octets + least_ending) then Some causes.PastAnnounced
+    else if passes_plan k.object.plan (total_of k.object + (length octets + least_ending)) then Some causes.PastAnnounced
     else None
 
 abbrev pub line_end_cause : {W : Type 0} → Packing W → Option PackCause
 line_end_cause k =
     if k.object.failed then Some causes.Failed
-    else if is_past k.object.plan (total_of k.object) (2 + least_ending) then Some causes.PastAnnounced
+    else if passes_plan k.object.plan (total_of k.object + (2 + least_ending)) then Some causes.PastAnnounced
     else None
 
 abbrev pub is_trailer : List ℕ → Bool
@@ -117,7 +114,7 @@ is_trailer trailer = list_all is_trailer_octet trailer && nat_le (length trailer
 abbrev pub ending_cause : Plan → ℕ → List ℕ → Option PackCause
 ending_cause plan total trailer =
     if not (is_trailer trailer) then Some causes.BadTrailer
-    else if is_past plan total (length (packed_tail trailer)) then Some causes.PastAnnounced
+    else if passes_plan plan (total + length (packed_tail trailer)) then Some causes.PastAnnounced
     else if is_short plan.size (total + length (packed_tail trailer)) then Some causes.ShortOfAnnounced
     else None
 
@@ -130,6 +127,6 @@ finish_cause k trailer =
 abbrev pub pack_cause : Header → List (List ℕ) → List ℕ → Plan → Option PackCause
 pack_cause head lines trailer plan =
     if not (is_trailer trailer) then Some causes.BadTrailer
-    else if is_past plan 0 (length (canonical head lines trailer)) then Some causes.PastAnnounced
+    else if passes_plan plan (length (canonical head lines trailer)) then Some causes.PastAnnounced
     else if is_short plan.size (length (canonical head lines trailer)) then Some causes.ShortOfAnnounced
     else None

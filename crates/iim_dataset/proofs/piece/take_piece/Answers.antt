@@ -43,12 +43,12 @@ loop-at-preserved g c = record {
 
 pub returns-in-Err-clause-refused : goal.returns-in-Err-clause-refused
 returns-in-Err-clause-refused g c =
-    let given = c.in-Err.refused in
+    let fault = c.in-Err.fault in
     let front = c.in-Err.ensures.refused in record {
       is_place = front.is_place;
       before = omega (arith, front.before, ap length (take_rest c.args.octets.now c.loop-at.at), length-drop c.loop-at.at c.args.octets.now);
       refused =
-          refuses_front g.D.DatasetSink.goes g.D.DatasetSink.stops g.met.D.DatasetSink.joined g.met.D.DatasetSink.joined_stop (tag_cause_of given.fault.cause) c.args.place c.loop-at.now given.place
-          c.args.octets.now c.loop-at.at given.fault.used c.args.sink.now c.loop-at.sink c.take_front.new.sink c.loop-at.invariant.told front.refused;
+          refuses_front g.D.DatasetSink.goes g.D.DatasetSink.stops g.met.D.DatasetSink.joined g.met.D.DatasetSink.joined_stop (tag_cause_of fault.cause) c.args.place c.loop-at.now c.in-Err.place
+          c.args.octets.now c.loop-at.at fault.used c.args.sink.now c.loop-at.sink c.take_front.new.sink c.loop-at.invariant.told front.refused;
       onward = front.onward;
     }

@@ -45,12 +45,14 @@ whole c = record {
   small = λ i. omega (arith, c.type_inv.octets i);
 }
 
-pub returns-clause-stands : goal.returns-clause-stands
-returns-clause-stands c =
-    λ _. subst (λ (f : FieldsPlace). (ds : List Dataset) → StandsAfter f ds → StandsAfter (place_of c.whole.new.self c.self.inside.limits c.keep.new.self c.self.inside.size.items) (ds ++ data_of c.args.head c.args.octets.now ∷ []))
-    c.self.view_is
-    (whole_stands c.self.inside.check c.whole.new.self c.self.inside.limits c.self.inside.store c.take.new.self c.keep.new.self c.self.inside.size.items c.args.head c.args.octets.now (whole c)
-    c.take.ensures.octets c.take.ensures.entries c.take.ensures.capacity c.keep.ensures.octets c.keep.ensures.entries)
+pub returns-clause-took : goal.returns-clause-took
+returns-clause-took c = λ _. record {
+  section = c.whole.ensures.section c.if-not-whole.false;
+  stands = subst (λ (f : FieldsPlace). (ds : List Dataset) → StandsAfter f ds → StandsAfter (place_of c.whole.new.self c.self.inside.limits c.keep.new.self c.self.inside.size.items) (ds ++ data_of c.args.head c.args.octets.now ∷ []))
+      c.self.view_is
+      (whole_stands c.self.inside.check c.whole.new.self c.self.inside.limits c.self.inside.store c.take.new.self c.keep.new.self c.self.inside.size.items c.args.head c.args.octets.now (whole c)
+      c.take.ensures.octets c.take.ensures.entries c.take.ensures.capacity c.keep.ensures.octets c.keep.ensures.entries);
+}
 
 pub invariant_of-self-2 : goal.invariant_of-self-2
 invariant_of-self-2 c =

@@ -29,7 +29,7 @@ returns-clause-broke g c =
     (subst (λ k. OnErr c.write.result (BreaksOff state (ContinuesWith events) k (record { before = c.self.inside.before; object = new }))) c.self.view_is
     (on_err c.write.result _ _ (λ (k : object.BreaksOff state (object.ContinuesWith old.plan (packed_events events)) old new).
     broken state c.self.inside.before old new events c.lines_are_packed_as_their_events.ensures k)
-    (of_none (write_cause old 2) _ (may_write old 2 2 (sym c.is_failed.ensures ∙ c.if-is_failed.false) (rw (c.plan.ensures, c.total.ensures.total) at (sym c.is_past.ensures ∙ c.if-is_past.false)))
+    (of_none (write_cause old 2) _ (may_write old 2 2 (sym c.is_failed.ensures ∙ c.if-is_failed.false) (rw (c.plan.ensures, c.total.ensures.total) at (sym c.passes_plan.ensures ∙ c.if-passes_plan.false)))
     c.write.ensures.broke)))
 
 pub returns-clause-begun : goal.returns-clause-begun
@@ -39,8 +39,8 @@ returns-clause-begun g c =
 pub returns-then-is_failed-clause-order : goal.returns-then-is_failed-clause-order
 returns-then-is_failed-clause-order g c = line_end_order c.args.self.now
 
-pub returns-then-is_past-clause-order : goal.returns-then-is_past-clause-order
-returns-then-is_past-clause-order g c = line_end_order c.args.self.now
+pub returns-then-passes_plan-clause-order : goal.returns-then-passes_plan-clause-order
+returns-then-passes_plan-clause-order g c = line_end_order c.args.self.now
 
 pub returns-clause-order : goal.returns-clause-order
 returns-clause-order g c = line_end_order c.args.self.now

@@ -1,6 +1,8 @@
 use Rattle.std.proofs.Common.{List, ℕ, ◌+◌, inr, refl, subst, ◌∙◌}
 use Rattle.iim_object.specs.declared.plan.Plan.{Plan}
-use Rattle.iim_pack.specs.Opening.{Opens, IsWrittenFrom}
+use Rattle.iim_object.specs.declared.writing.cause.PackCause.TheVariants as causes
+use Rattle.iim_object.specs.States.Writing.{IsWrittenFrom}
+use Rattle.iim_pack.specs.Opening.{Opens}
 use Rattle.iim_pack.specs.States.Starting.{StartBreaksOff}
 use Rattle.iim_pack.specs.States.Packing.{start_cause}
 use Rattle.iim_pack.proofs.Goings.{if_none}
@@ -12,7 +14,8 @@ use Rattle.iim_pack.proofs.packer.Packer.start.Goals as goal
 pub returns-in-Err-put_fields-clause-fault : goal.returns-in-Err-put_fields-clause-fault
 returns-in-Err-put_fields-clause-fault g c =
     if_none (start_cause c.args.head.now c.args.plan) _
-    (inr (fields_broke g.W.Target.state c.args.writer c.args.envelope.now c.args.head.now c.args.plan (record { cause = _; writer = c.put_fields.new.writer; written = c.in-Err-put_fields.written }) refl c.in-Err-put_fields.ensures.err))
+    (rw c.unbegun-in-Err-put_fields.ensures
+    (inr (fields_broke g.W.Target.state c.args.writer c.args.envelope.now c.args.head.now c.args.plan (record { cause = causes.Write; writer = c.put_fields.new.writer; written = c.in-Err-put_fields.written }) refl c.in-Err-put_fields.ensures.err)))
 
 pub returns-in-Ok-open_object-clause-ok : goal.returns-in-Ok-open_object-clause-ok
 returns-in-Ok-open_object-clause-ok g c =
@@ -31,15 +34,16 @@ returns-in-Err-open_object-clause-fault g c =
     let planned = subst (λ (p : Plan). StartBreaksOff state (IsWrittenFrom p c.as_slice-front.result.now) c.put_fields.new.writer fault) c.in-Ok.ensures c.in-Err-open_object.ensures.err in
     let halts = subst (λ (t : List ℕ). StartBreaksOff state (IsWrittenFrom c.args.plan t) c.put_fields.new.writer fault) front planned in
     if_none (start_cause c.args.head.now c.args.plan) _
+    (rw c.unbegun-in-Err-open_object.ensures
     (inr (object_broke state c.args.writer c.put_fields.new.writer c.args.envelope.now c.args.head.now c.args.plan c.in-Ok-put_fields.before fault
-    (record { cause = fault.cause; writer = fault.writer; written = c.in-Ok-put_fields.before + fault.written }) c.texts_join.ensures c.in-Ok-put_fields.ensures.ok c.in-Ok-put_fields.ensures.all halts refl refl refl))
+    (record { cause = fault.cause; writer = fault.writer; written = c.in-Ok-put_fields.before + fault.written }) c.texts_join.ensures c.in-Ok-put_fields.ensures.ok c.in-Ok-put_fields.ensures.all halts refl refl refl)))
 
 pub returns-in-Ok-open_object-clause-begun : goal.returns-in-Ok-open_object-clause-begun
 returns-in-Ok-open_object-clause-begun g c =
     begun_at_start g.W.Target.state c.args.writer c.args.envelope.now c.args.head.now c.args.plan _ (returns-in-Ok-open_object-clause-ok g c)
 
-pub returns-then-is_past-clause-order : goal.returns-then-is_past-clause-order
-returns-then-is_past-clause-order g c = start_order c.args.head.now c.args.plan
+pub returns-then-passes_plan-clause-order : goal.returns-then-passes_plan-clause-order
+returns-then-passes_plan-clause-order g c = start_order c.args.head.now c.args.plan
 
 pub returns-in-Ok-open_object-clause-order : goal.returns-in-Ok-open_object-clause-order
 returns-in-Ok-open_object-clause-order g c = start_order c.args.head.now c.args.plan

@@ -32,7 +32,7 @@ returns-clause-broke g c =
     (subst (λ k. OnErr c.write.result (BreaksOff state (ContinuesWith events) k (record { before = c.self.inside.before; object = new }))) c.self.view_is
     (on_err c.write.result _ _ (λ (k : object.BreaksOff state (object.ContinuesWith old.plan xs) old new).
     broken state c.self.inside.before old new events c.lines_are_packed_as_their_events.ensures (subst (λ (t : List ℕ). object.BreaksOff state (object.ContinuesWith old.plan t) old new) (sym (line_packed xs)) k))
-    (of_none (write_cause old (length xs)) _ (may_write old (length xs) 2 (sym c.is_failed.ensures ∙ c.if-is_failed.false) (rw (c.plan.ensures, c.total.ensures.total) at (sym c.is_past.ensures ∙ c.if-is_past.false)))
+    (of_none (write_cause old (length xs)) _ (may_write old (length xs) 2 (sym c.is_failed.ensures ∙ c.if-is_failed.false) (rw (c.plan.ensures, c.total.ensures.total) at (sym c.passes_plan.ensures ∙ c.if-passes_plan.false)))
     c.write.ensures.broke)))
 
 pub returns-clause-begun : goal.returns-clause-begun
@@ -45,8 +45,8 @@ returns-then-is_failed-clause-order g c = text_order c.args.self.now c.args.octe
 pub returns-then-not-is_text-clause-order : goal.returns-then-not-is_text-clause-order
 returns-then-not-is_text-clause-order g c = text_order c.args.self.now c.args.octets.now
 
-pub returns-then-is_past-clause-order : goal.returns-then-is_past-clause-order
-returns-then-is_past-clause-order g c = text_order c.args.self.now c.args.octets.now
+pub returns-then-passes_plan-clause-order : goal.returns-then-passes_plan-clause-order
+returns-then-passes_plan-clause-order g c = text_order c.args.self.now c.args.octets.now
 
 pub returns-clause-order : goal.returns-clause-order
 returns-clause-order g c = text_order c.args.self.now c.args.octets.now

@@ -7,7 +7,7 @@ pub returns-in-Ok-Some-clause-closed : goal.returns-in-Ok-Some-clause-closed
 returns-in-Ok-Some-clause-closed c =
     let laws = c.close_laws.ensures in
     on_ok _ _ c.tell_number.result
-    (λ goes. closed_number laws c.args.self.now _ c.in-Ok-Some.number c.in-Some.head (sym c.begun_head.ensures.head ∙ c.in-Some.is) c.close.ensures.limits
+    (λ goes. closed_number laws c.args.self.now _ c.in-Ok-Some.number c.in-Some.head (sym c.begun_head.ensures.head ∙ c.in-Some.is) c.close.ensures.bounds.limits
     (λ ds h taken stands d is. let both = c.in-Ok-Some.ensures.stands ds h taken stands d is in (both.0, sym c.in-Ok-Some.field-0-is ∙ both.1)) goes refl)
     c.tell_number.ensures.leads_on
 
@@ -21,7 +21,7 @@ returns-in-Ok-Some-clause-refused c =
 pub returns-in-Ok-None-clause-closed : goal.returns-in-Ok-None-clause-closed
 returns-in-Ok-None-clause-closed c =
     let laws = c.close_laws.ensures in
-    closed_silent laws c.args.self.now c.close.new.self c.in-Some.head (sym c.begun_head.ensures.head ∙ c.in-Some.is) c.close.ensures.limits
+    closed_silent laws c.args.self.now c.close.new.self c.in-Some.head (sym c.begun_head.ensures.head ∙ c.in-Some.is) c.close.ensures.bounds.limits
     (λ ds h taken stands d is. let both = c.in-Ok-None.ensures.stands ds h taken stands d is in (both.0, sym c.in-Ok-None.field-0-is ∙ both.1))
 
 pub returns-in-Err-clause-refused : goal.returns-in-Err-clause-refused

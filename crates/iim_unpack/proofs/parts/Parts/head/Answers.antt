@@ -15,7 +15,7 @@ returns-then-head-eq-OBJECT-clause-went g c =
     let laws = c.head_laws.ensures in
     let p = c.args.self.now in
     on_ok _ _ c.subfile.result
-    (λ h. tells_parts_head g.S.StorySink.goes g.S.StorySink.failures p _ c.args.sink.now c.subfile.new.sink c.args.head h.1.0.more c.requires.fields c.in_default.ensures.limits h.1.0.told h.1.0.calm
+    (λ h. tells_parts_head g.S.StorySink.goes g.S.StorySink.failures p _ c.args.sink.now c.subfile.new.sink c.args.head h.1.0.more c.requires.fields c.begin.ensures.bounds.limits h.1.0.told h.1.0.calm
     (λ ds at. begins_subfile g.S.StorySink.goes g.S.StorySink.failures laws p c.args.sink.now c.subfile.new.sink ds c.args.head c.begin.new.self c.subfile.new.object c.subfile.new.message
     (omega (arith, c.if-head-eq-OBJECT.true)) at (c.in_default.ensures.stands ds at.fields) h.0 h.1.0 h.1.1))
     (on_both _ _ c.subfile.result c.subfile.ensures.leads_on (on_both _ _ c.subfile.result c.subfile.ensures.told c.subfile.ensures.few))
@@ -31,7 +31,7 @@ returns-then-head-eq-POST_OBJECT-clause-went g c =
     let laws = c.head_laws.ensures in
     let p = c.args.self.now in
     on_ok _ _ c.pass_head.result
-    (λ h. tells_parts_head g.S.StorySink.goes g.S.StorySink.failures p _ c.args.sink.now c.pass_head.new.sink c.args.head h.1.more c.requires.fields c.in_default.ensures.limits h.1.told h.1.calm
+    (λ h. tells_parts_head g.S.StorySink.goes g.S.StorySink.failures p _ c.args.sink.now c.pass_head.new.sink c.args.head h.1.more c.requires.fields c.begin.ensures.bounds.limits h.1.told h.1.calm
     (λ ds at. begins_end g.S.StorySink.goes g.S.StorySink.failures laws p c.args.sink.now c.pass_head.new.sink ds c.args.head c.begin.new.self c.pass_head.new.object c.pass_head.new.message
     (omega (arith, c.if-head-eq-POST_OBJECT.true)) at (c.in_default.ensures.stands ds at.fields) h.0 h.1))
     (on_both _ _ c.pass_head.result c.pass_head.ensures.leads_on c.pass_head.ensures.told)
@@ -46,5 +46,5 @@ pub returns-clause-went : goal.returns-clause-went
 returns-clause-went g c =
     let p = c.args.self.now in
     let a = c.args.sink.now in
-    tells_parts_head g.S.StorySink.goes g.S.StorySink.failures p _ a a c.args.head [] c.requires.fields c.in_default.ensures.limits (g.met.S.StorySink.nothing a) refl
+    tells_parts_head g.S.StorySink.goes g.S.StorySink.failures p _ a a c.args.head [] c.requires.fields c.begin.ensures.bounds.limits (g.met.S.StorySink.nothing a) refl
     (λ ds at. (begins_other p ds c.args.head c.begin.new.self (λ is. omega (arith, is, c.if-head-eq-OBJECT.false)) (λ is. omega (arith, is, c.if-head-eq-POST_OBJECT.false)) at (c.in_default.ensures.stands ds at.fields), append-nil (text_so_far (object_of ds))))

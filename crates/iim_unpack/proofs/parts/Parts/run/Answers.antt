@@ -10,7 +10,7 @@ pub returns-then-head-ne-OBJECT-clause-went : goal.returns-then-head-ne-OBJECT-c
 returns-then-head-ne-OBJECT-clause-went g c =
     let run = c.args.run.now in
     tells_parts_other g.S.StorySink.goes g.S.StorySink.failures c.args.self.now c.args.sink.now run c.bytes.new.self c.in-Some.head (sym c.begun_head.ensures.head ∙ c.in-Some.is) c.if-head-ne-OBJECT.true
-    (are_octets run (λ i. omega (arith, c.type_inv.run i))) (g.met.S.StorySink.nothing c.args.sink.now) c.bytes.ensures.limits c.bytes.ensures.stands
+    (are_octets run (λ i. omega (arith, c.type_inv.run i))) (g.met.S.StorySink.nothing c.args.sink.now) c.bytes.ensures.bounds.limits c.bytes.ensures.stands
 
 pub returns-in-Ok-clause-went : goal.returns-in-Ok-clause-went
 returns-in-Ok-clause-went g c =

@@ -9,10 +9,10 @@ returns-then-not-whole_number-clause-left c _ = ap (λ (f : FieldsPlace). let p 
 
 pub returns-clause-ended : goal.returns-clause-ended
 returns-clause-ended c is =
-    end_ends c.args.self.now _ c.args.head c.requires.takes c.requires.number c.whole_number.ensures.between (c.whole_number.ensures.section c.if-not-whole_number.false) c.in-Some.ensures.takes_calls refl
+    end_ends c.args.self.now _ c.args.head c.requires.takes c.requires.number c.whole_number.ensures.between (c.whole_number.ensures.took c.if-not-whole_number.false).section c.in-Some.ensures.takes_calls refl
 
 pub returns-clause-whole : goal.returns-clause-whole
 returns-clause-whole c is =
-    end_went c.close_laws.ensures c.args.self.now _ c.args.head c.args.octets.now c.requires.takes.fields c.requires.number c.requires.count c.whole_number.ensures.limits
-    (c.whole_number.ensures.stands c.if-not-whole_number.false)
+    end_went c.close_laws.ensures c.args.self.now _ c.args.head c.args.octets.now c.requires.takes.fields c.requires.number c.requires.count c.whole_number.ensures.bounds.limits
+    (c.whole_number.ensures.took c.if-not-whole_number.false).stands
     c.in-Some.ensures.ends c.in-Some.ensures.whole refl

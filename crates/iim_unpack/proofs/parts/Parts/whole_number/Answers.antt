@@ -16,10 +16,10 @@ returns-then-not-whole_number-clause-left c _ = ap (λ (f : FieldsPlace). let p 
 
 pub returns-clause-takes : goal.returns-clause-takes
 returns-clause-takes c =
-    number_takes c.args.self.now _ c.args.head c.requires.takes c.requires.number c.whole_number.ensures.between (c.whole_number.ensures.section c.if-not-whole_number.false) c.in-Some-with_number.ensures.takes_calls refl
+    number_takes c.args.self.now _ c.args.head c.requires.takes c.requires.number c.whole_number.ensures.between (c.whole_number.ensures.took c.if-not-whole_number.false).section c.in-Some-with_number.ensures.takes_calls refl
 
 pub returns-clause-whole : goal.returns-clause-whole
 returns-clause-whole c is =
-    number_went c.close_laws.ensures c.args.self.now _ c.args.head c.args.octets.now c.requires.takes.fields c.requires.number c.requires.count c.whole_number.ensures.limits
-    (c.whole_number.ensures.stands c.if-not-whole_number.false)
+    number_went c.close_laws.ensures c.args.self.now _ c.args.head c.args.octets.now c.requires.takes.fields c.requires.number c.requires.count c.whole_number.ensures.bounds.limits
+    (c.whole_number.ensures.took c.if-not-whole_number.false).stands
     (subst (λ (n : ℕ). LeadsOn c.args.self.now.object (NumberRead c.args.head.set n) c.in-Some-with_number.object) c.in-Some.ensures.value c.in-Some-with_number.ensures.leads_on) refl

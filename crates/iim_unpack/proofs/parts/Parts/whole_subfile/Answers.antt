@@ -22,7 +22,7 @@ returns-in-Ok-clause-taken g c =
             passes = c.whole_subfile.ensures.passes c.if-not-whole_subfile.false;
             leads = c.in-Some.ensures.leads_on;
             few = λ q at. omega (arith, c.subfiles.ensures.place q at, few_of c.subfiles.result max_subfiles c.may_begin.result c.may_begin.ensures c.if-not-may_begin.false);
-          }) (are_octets run (λ i. omega (arith, c.type_inv.octets i))) c.whole_subfile.ensures.limits c.in-Ok.ensures.told),
+          }) (are_octets run (λ i. omega (arith, c.type_inv.octets i))) c.whole_subfile.ensures.bounds.limits c.in-Ok.ensures.told),
       subfile_takes p _ c.args.head c.requires.takes c.requires.subfile c.whole_subfile.ensures.between (c.whole_subfile.ensures.section c.if-not-whole_subfile.false) some c.in-Ok.ensures.told.takes_calls,
     )
 

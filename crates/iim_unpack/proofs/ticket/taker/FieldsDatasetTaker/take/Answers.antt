@@ -22,7 +22,7 @@ returns-in-Ok-clause-took c =
     subst (λ (b : Bool). TookDatasets IsBetween StandsAfter limits_of c.args.self.now (d ∷ []) c.close.new.self b) (sym c.is_ok.ensures.value)
     (closed_took c.args.self.now c.begin.new.self c.close.new.self d [] c.close.result c.in-Ok.ensures.stands
     (record { head = refl; octets = are_octets c.args.octets.now (λ i. omega (arith, c.type_inv.octets i)); given = λ other. absurd (other c.if-rec-eq-OBJECT.true) })
-    c.close.ensures.between (c.close.ensures.limits ∙ c.begin.ensures.limits) c.close.ensures.stands c.close.ensures.fault)
+    c.close.ensures.between (c.close.ensures.bounds.limits ∙ c.begin.ensures.bounds.limits) c.close.ensures.stands c.close.ensures.fault)
 
 pub returns-in-Ok-2-clause-took : goal.returns-in-Ok-2-clause-took
 returns-in-Ok-2-clause-took c =
@@ -32,4 +32,4 @@ returns-in-Ok-2-clause-took c =
     (closed_took c.args.self.now c.bytes.new.self c.close-in-Ok-2.new.self d c.args.octets.now c.close-in-Ok-2.result
     (λ ds s. c.bytes.ensures.stands ds h [] (c.in-Ok.ensures.stands ds s))
     (record { head = refl; octets = are_octets c.args.octets.now (λ i. omega (arith, c.type_inv.octets i)); given = λ other. refl })
-    c.close-in-Ok-2.ensures.between (c.close-in-Ok-2.ensures.limits ∙ (c.bytes.ensures.limits ∙ c.begin.ensures.limits)) c.close-in-Ok-2.ensures.stands c.close-in-Ok-2.ensures.fault)
+    c.close-in-Ok-2.ensures.between (c.close-in-Ok-2.ensures.bounds.limits ∙ (c.bytes.ensures.bounds.limits ∙ c.begin.ensures.bounds.limits)) c.close-in-Ok-2.ensures.stands c.close-in-Ok-2.ensures.fault)

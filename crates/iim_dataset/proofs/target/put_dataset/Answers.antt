@@ -1,7 +1,7 @@
 use Rattle.std.proofs.Common.{List, ℕ, ◌+◌, ◌++◌, length, subst}
 use Rattle.iim_dataset.specs.States.Devices.{Device, Stopped}
-use Rattle.iim_pack.proofs.FieldsOut.{stopped_more}
-use Rattle.iim_pack.proofs.fields.put_dataset.Goals as goal
+use Rattle.iim_dataset.proofs.StoppedTexts.{stopped_more}
+use Rattle.iim_dataset.proofs.target.put_dataset.Goals as goal
 
 pub returns-in-Err-clause-err : goal.returns-in-Err-clause-err
 returns-in-Err-clause-err g c =
