@@ -9,12 +9,13 @@ use Rattle.iim_dataset.specs.Laws.Devices.{GiftsJoin}
 use Rattle.iim_dataset.specs.declared.device.IoFault.{IoFault}
 use Rattle.iim_dataset.specs.declared.device.IoFault.TheVariants as io
 use Rattle.iim_fields.specs.declared.limits.Limits.{Limits}
-use Rattle.iim_unpack.specs.Format.Admitted.{Value, Admits}
-use Rattle.iim_unpack.specs.Format.Listing.{Listed, Divides, IsListed, joined, values_of, max_envelopes}
-use Rattle.iim_unpack.specs.States.Unpacking.{Unpacking, IsDoneWith, limits_in, raised}
+use Rattle.iim_places.specs.Format.Admitted.{Value, Admits}
+use Rattle.iim_places.specs.Format.Listing.{Listed, Divides, IsListed, joined, values_of, max_envelopes}
+use Rattle.iim_unpack.specs.States.Unpacking.{Unpacking, IsDoneWith, limits_in}
+use Rattle.iim_places.specs.States.Counts.{raised}
 use Rattle.iim_unpack.specs.Format.Value.{ShowsParts}
 use Rattle.iim_unpack.specs.declared.unpacker.UnpackedRef.{UnpackedRef}
-use Rattle.iim_unpack.proofs.Listings.{admitted_more, joined_more}
+use Rattle.iim_places.proofs.Listings.{admitted_more, joined_more}
 use Rattle.iim_audit.specs.Format.Auditing.{IsAudited, IsMissedAt, IsToldAgain, FailsLeaving, told_after}
 use Rattle.iim_audit.specs.Ledgers.{Keeps}
 use Rattle.iim_audit.specs.Taking.{IsCutOff, IsTaken, TookEnvelope, TookOne, TookNone}

@@ -10,7 +10,7 @@ use Rattle.std.proofs.lemmas.List.Sorted.{All-permutation, Contains-permutation}
 use Rattle.iim_dataset.specs.Format.Datasets.{Dataset}
 use Rattle.iim_fields.specs.Format.Ids.{Identity}
 use Rattle.iim_fields.specs.Format.Views.{first_data}
-use Rattle.iim_unpack.specs.Format.Admitted.{Value}
+use Rattle.iim_places.specs.Format.Admitted.{Value}
 use Rattle.iim_audit.specs.Format.Rows.{id_of, first_same, row_with, rows_after, report_of}
 use Rattle.iim_audit.specs.Repeats.{AreFilled, AreFresh, IsOrder, ids_of, place_cmp}
 use Rattle.iim_audit.specs.declared.row.AuditRow.{AuditRow}

@@ -15,8 +15,8 @@ use Rattle.wire_message.specs.Laws.Messages.{TextsStandBetweenStxAndEtx}
 use Rattle.wire_message.specs.Format.Layers.{text_so_far}
 use Rattle.wire_message.specs.Format.Messages.{Header, IsMessage}
 use Rattle.wire_message.specs.declared.place.Place.TheVariants.{AfterEnd}
-use Rattle.iim_unpack.specs.Format.Admitted.{Value, Admits, object_of}
-use Rattle.iim_unpack.specs.Format.Open.{object_so_far, IsTextOf, Delivers}
+use Rattle.iim_places.specs.Format.Admitted.{Value, Admits, object_of}
+use Rattle.iim_places.specs.Format.Open.{object_so_far, IsTextOf, Delivers}
 
 pub record TextLaws : Type 0 where
   pub way : OctetsAreHandedOnOneWay

@@ -1,7 +1,7 @@
 -- What an audit keeps while it reads.
 use Rattle.std.specs.Prelude.{◌≡◌, ℕ, ◌<◌, ℤ, List, None, length, map}
 use Rattle.std.specs.List.{Contains}
-use Rattle.iim_unpack.specs.Format.Admitted.{Value}
+use Rattle.iim_places.specs.Format.Admitted.{Value}
 use Rattle.iim_audit.specs.Format.Rows.{row_with}
 use Rattle.iim_audit.specs.declared.ledger.Ledger.{Ledger}
 

@@ -5,12 +5,13 @@ use Rattle.iim_dataset.specs.States.Devices.{Device, HasGiven, MissedAfter}
 use Rattle.iim_dataset.specs.declared.device.IoFault.{IoFault}
 use Rattle.iim_dataset.specs.declared.device.IoFault.TheVariants as io
 use Rattle.iim_fields.specs.declared.limits.Limits.{Limits}
-use Rattle.iim_unpack.specs.Format.Admitted.{Value}
-use Rattle.iim_unpack.specs.Format.Listing.{Listed, IsListed, IsRefusedAfter}
-use Rattle.iim_unpack.specs.Format.Open.{IsOpen}
-use Rattle.iim_unpack.specs.States.Unpacking.{Unpacking, IsDoneWith, limits_in, raised}
+use Rattle.iim_places.specs.Format.Admitted.{Value}
+use Rattle.iim_places.specs.Format.Listing.{Listed, IsListed, IsRefusedAfter}
+use Rattle.iim_places.specs.Format.Open.{IsOpen}
+use Rattle.iim_unpack.specs.States.Unpacking.{Unpacking, IsDoneWith, limits_in}
+use Rattle.iim_places.specs.States.Counts.{raised}
 use Rattle.iim_unpack.specs.Format.Value.{ShowsParts}
-use Rattle.iim_unpack.specs.declared.refusal.Refusal.{Refusal}
+use Rattle.iim_places.specs.declared.refusal.Refusal.{Refusal}
 use Rattle.iim_audit.specs.Format.Rows.{counted_words}
 use Rattle.iim_audit.specs.declared.row.Taken.{Taken}
 use Rattle.iim_audit.specs.declared.fault.AuditCause.{AuditCause}

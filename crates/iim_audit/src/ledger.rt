@@ -2,7 +2,7 @@
 
 ghost use Rattle.std.specs.Prelude.{◌≡◌, ◌+◌, ◌<◌, ◌^◌, ◌++◌, ◌∷◌, [], ℤ, List, length, OnOk};
 ghost use Rattle.std.specs.List.{All};
-ghost use Rattle.iim_unpack.specs.Format.Admitted.{Value};
+ghost use Rattle.iim_places.specs.Format.Admitted.{Value};
 ghost use Rattle.iim_audit.specs.Format.Rows.{report_of};
 ghost use Rattle.iim_audit.specs.Taking.{IsTaken};
 

@@ -2,15 +2,15 @@
 use Rattle.std.proofs.Common.{◌≡◌, ◌≢◌, ℕ, ◌<◌, ◌≤◌, ◌^◌, List, [], ◌∷◌, ◌++◌, ◌⊎◌, inl, inr, length, take, Bool, true, false, nat_lt, Some, None, refl, sym, ap, subst, ◌∙◌, arith}
 use Rattle.std.proofs.lemmas.Bool.{ltb-true, ltb-false}
 use Rattle.iim_fields.specs.declared.limits.Limits.{Limits}
-use Rattle.iim_unpack.specs.Format.Open.{IsOpen, IsTruncatedAt}
-use Rattle.iim_unpack.specs.States.Restored.{IsRestoreFault}
-use Rattle.iim_unpack.specs.Format.Streams.{IsEnvelopeWithin}
-use Rattle.iim_unpack.specs.Format.Tickets.{IsTicketOf}
+use Rattle.iim_places.specs.Format.Open.{IsOpen, IsTruncatedAt}
+use Rattle.iim_places.specs.States.Restored.{IsRestoreFault}
+use Rattle.iim_places.specs.Format.Streams.{IsEnvelopeWithin}
+use Rattle.iim_places.specs.Format.Tickets.{IsTicketOf}
 use Rattle.iim_unpack.specs.States.Unpacking.{Unpacking, Stands, IsDone, IsDoneWith, IsRefusedIn, limits_in}
 use Rattle.iim_unpack.specs.declared.unpacker.Progress.{Progress}
 use Rattle.iim_unpack.specs.declared.unpacker.Progress.TheVariants as progress
-use Rattle.iim_unpack.specs.declared.refusal.Refusal.{Refusal}
-use Rattle.iim_unpack.specs.declared.ticket.fault.TicketFault.{TicketFault}
+use Rattle.iim_places.specs.declared.refusal.Refusal.{Refusal}
+use Rattle.iim_places.specs.declared.ticket.fault.TicketFault.{TicketFault}
 use Rattle.iim_c.specs.declared.answer.IimAnswer.{IimAnswer}
 use Rattle.iim_c.specs.Beginning.{IsBegun, IsNotBegun}
 use Rattle.iim_c.specs.Steps.{HasFedText, HasRefusedText, IsSaved, saved_with, short_with, refused_with, used_in}

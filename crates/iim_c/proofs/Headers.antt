@@ -1,8 +1,8 @@
 -- The texts of a ticket's parts.
 use Rattle.std.proofs.Common.{◌≡◌, ℕ, List, [], ◌∷◌, length, map, get_or, Bor, refl, sym, subst, arith}
-use Rattle.iim_unpack.specs.Format.TicketForm.{SplitsTicket}
-use Rattle.iim_unpack.specs.States.TicketsTold.{split_told}
-use Rattle.iim_unpack.specs.declared.ticket.split.TicketParts.{TicketParts}
+use Rattle.iim_places.specs.Format.TicketForm.{SplitsTicket}
+use Rattle.iim_places.specs.States.TicketsTold.{split_told}
+use Rattle.iim_places.specs.declared.ticket.split.TicketParts.{TicketParts}
 use Rattle.iim_c.specs.declared.header.IimMessage.{IimMessage}
 use Rattle.iim_c.specs.Format.TicketAnswers.{TextsStand}
 use Rattle.iim_c.proofs.TicketTexts.{SevenAt, seven_at}

@@ -2,15 +2,15 @@
 use Rattle.std.proofs.Common.{◌≡◌, ◌==◌, ℕ, true, length, arith, List, [], ◌∷◌, inl, inr, refl, sym, ap, subst, ◌∙◌, get_or, None}
 use Rattle.std.proofs.lemmas.Bool.{eqb-true}
 use Rattle.iim_fields.specs.declared.limits.Limits.{Limits}
-use Rattle.iim_unpack.specs.Format.Framed.{Framed}
-use Rattle.iim_unpack.specs.Laws.Admitted.{NoEnvelopeIsEmpty, AdmittedOctetsAreFramed}
-use Rattle.iim_unpack.specs.Format.Open.{IsOpen}
-use Rattle.iim_unpack.specs.States.Restored.{IsTicketAt}
-use Rattle.iim_unpack.specs.Laws.Places.{TicketsTellOnePlace}
-use Rattle.iim_unpack.specs.States.Scales.{IsPossibleIn}
-use Rattle.iim_unpack.specs.Format.Streams.{IsEnvelopeWithin}
-use Rattle.iim_unpack.specs.Format.TicketForm.{IsVersion}
-use Rattle.iim_unpack.specs.Format.Tickets.{Place, IsPlaceOf, ticket_in}
+use Rattle.iim_places.specs.Format.Framed.{Framed}
+use Rattle.iim_places.specs.Laws.Admitted.{NoEnvelopeIsEmpty, AdmittedOctetsAreFramed}
+use Rattle.iim_places.specs.Format.Open.{IsOpen}
+use Rattle.iim_places.specs.States.Restored.{IsTicketAt}
+use Rattle.iim_places.specs.Laws.Places.{TicketsTellOnePlace}
+use Rattle.iim_places.specs.States.Scales.{IsPossibleIn}
+use Rattle.iim_places.specs.Format.Streams.{IsEnvelopeWithin}
+use Rattle.iim_places.specs.Format.TicketForm.{IsVersion}
+use Rattle.iim_places.specs.Format.Tickets.{Place, IsPlaceOf, ticket_in}
 use Rattle.iim_unpack.specs.States.Unpacking.{Unpacking, Stands, IsDoneWith, limits_in}
 use Rattle.iim_c.specs.Beginning.{IsBegun}
 use Rattle.iim_c.specs.Format.Feeding.{LedTo, StandsAt, EndsAt, IsPlace}

@@ -4,8 +4,8 @@ use Rattle.std.specs.Int.{w64, to_be_bytes}
 use Rattle.std.specs.List.{flat_map}
 use Rattle.std.proofs.lemmas.List.{drop_at, take_at, drop-drop}
 use Rattle.iim_dataset.specs.Format.Datasets.{Dataset}
-use Rattle.iim_unpack.specs.Format.TicketForm.{Split, SplitsTicket, split_octets}
-use Rattle.iim_unpack.specs.Format.Tickets.{Phase, TagBegun, DataBegun, AllEnded, width, wide, four, ticket_name, phase_octets, field_octets, number_octets, text_octets}
+use Rattle.iim_places.specs.Format.TicketForm.{Split, SplitsTicket, split_octets}
+use Rattle.iim_places.specs.Format.Tickets.{Phase, TagBegun, DataBegun, AllEnded, width, wide, four, ticket_name, phase_octets, field_octets, number_octets, text_octets}
 use Rattle.iim_c.specs.Format.TicketAnswers.{StandAt}
 use Rattle.iim_c.specs.TicketSteps.{begun_octets, fields_start}
 

@@ -2,8 +2,8 @@
 use Rattle.std.proofs.Common.{◌≡◌, ℕ, ◌+◌, List, [], ◌∷◌, ◌++◌, length, take, drop, refl, ap, subst, ◌∙◌, arith, append_assoc, length-append}
 use Rattle.std.specs.List.{flat_map}
 use Rattle.std.proofs.lemmas.List.{drop_at, take_at}
-use Rattle.iim_unpack.specs.Format.TicketForm.{Split, SplitsTicket}
-use Rattle.iim_unpack.specs.Format.Tickets.{four, wide, ticket_name, phase_octets, fields_octets, number_octets, text_octets}
+use Rattle.iim_places.specs.Format.TicketForm.{Split, SplitsTicket}
+use Rattle.iim_places.specs.Format.Tickets.{four, wide, ticket_name, phase_octets, fields_octets, number_octets, text_octets}
 use Rattle.iim_c.specs.Format.TicketAnswers.{StandAt}
 use Rattle.iim_c.specs.TicketSteps.{span_before}
 

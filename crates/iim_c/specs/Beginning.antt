@@ -1,10 +1,11 @@
 -- An unpacker at the place of a ticket.
 use Rattle.std.specs.Prelude.{◌≡◌, ◌≢◌, ℕ, ◌⊎◌, List, [], ◌∷◌}
 use Rattle.iim_fields.specs.declared.limits.Limits.{Limits}
-use Rattle.iim_unpack.specs.States.Restored.{IsRestored, IsRestoreFault}
+use Rattle.iim_unpack.specs.States.Restored.{IsRestored}
+use Rattle.iim_places.specs.States.Restored.{IsRestoreFault}
 use Rattle.iim_unpack.specs.States.Unpacking.{Unpacking, Stands, limits_in}
-use Rattle.iim_unpack.specs.declared.ticket.fault.TicketFault.{TicketFault}
-use Rattle.iim_unpack.specs.declared.ticket.fault.TicketFault.TheVariants.{OutOfMemory}
+use Rattle.iim_places.specs.declared.ticket.fault.TicketFault.{TicketFault}
+use Rattle.iim_places.specs.declared.ticket.fault.TicketFault.TheVariants.{OutOfMemory}
 
 -- It stands on no octets, or is restored from the ticket.
 abbrev pub IsBegun : Limits → List ℕ → ℕ → Unpacking → Type 0

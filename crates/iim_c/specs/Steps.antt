@@ -3,10 +3,10 @@ use Rattle.std.specs.Prelude.{◌≡◌, ◌≢◌, ℕ, ◌<◌, ◌≤◌, ◌
 use Rattle.wire_story.specs.Format.Delivery.{StoryEvent, octet_for}
 use Rattle.iim_unpack.specs.States.Unpacking.{Unpacking, Stands, Goes, IsRefusedIn, limits_in, IsDoneWith}
 use Rattle.iim_unpack.specs.declared.unpacker.Progress.{Progress}
-use Rattle.iim_unpack.specs.declared.refusal.Refusal.{Refusal}
-use Rattle.iim_unpack.specs.declared.refusal.Cause.TheVariants.{Sink}
+use Rattle.iim_places.specs.declared.refusal.Refusal.{Refusal}
+use Rattle.iim_places.specs.declared.refusal.Cause.TheVariants.{Sink}
 use Rattle.iim_unpack.specs.declared.unpacker.Progress.TheVariants.{More, Done}
-use Rattle.iim_unpack.specs.Format.Tickets.{IsTicketOf}
+use Rattle.iim_places.specs.Format.Tickets.{IsTicketOf}
 use Rattle.iim_c.specs.declared.answer.IimAnswer.{IimAnswer}
 use Rattle.iim_c.specs.Format.Answers.{status_answer, refusal_answer}
 use Rattle.iim_c.specs.Format.Statuses as status

@@ -1,7 +1,7 @@
 -- The steps of the calls that tell of a ticket.
 use Rattle.std.specs.Prelude.{ℕ, ◌+◌, ◌-◌, ◌*◌, ◌≤◌, List, length}
-use Rattle.iim_unpack.specs.Format.Tickets.{Phase, TagBegun, DataBegun, AllEnded, width}
-use Rattle.iim_unpack.specs.Format.TicketForm.{Split}
+use Rattle.iim_places.specs.Format.Tickets.{Phase, TagBegun, DataBegun, AllEnded, width}
+use Rattle.iim_places.specs.Format.TicketForm.{Split}
 use Rattle.iim_c.specs.declared.span.IimSpan.{IimSpan}
 
 -- how many octets tell what is begun

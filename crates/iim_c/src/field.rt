@@ -1,8 +1,8 @@
 //! The datasets that a ticket tells.
 
 ghost use Rattle.std.specs.Prelude.{◌≡◌, ◌+◌, ◌^◌, ◌<◌, IfSome, IfNone};
-ghost use Rattle.iim_unpack.specs.Format.TicketForm.{SplitsTicket};
-ghost use Rattle.iim_unpack.specs.States.TicketsTold.{phase_told, split_told};
+ghost use Rattle.iim_places.specs.Format.TicketForm.{SplitsTicket};
+ghost use Rattle.iim_places.specs.States.TicketsTold.{phase_told, split_told};
 ghost use Rattle.iim_c.specs.Format.TicketAnswers.{IsField, IsFieldAt};
 ghost use Rattle.iim_c.specs.TicketSteps.{HasFewer, begun_octets, fields_start};
 

@@ -1,8 +1,8 @@
 //! The header and the trailer that a ticket tells.
 
 ghost use Rattle.std.specs.Prelude.{◌≡◌, ◌≤◌, length};
-ghost use Rattle.iim_unpack.specs.Format.TicketForm.{SplitsTicket};
-ghost use Rattle.iim_unpack.specs.States.TicketsTold.{split_told};
+ghost use Rattle.iim_places.specs.Format.TicketForm.{SplitsTicket};
+ghost use Rattle.iim_places.specs.States.TicketsTold.{split_told};
 ghost use Rattle.iim_c.specs.Format.TicketAnswers.{IsHeader, IsMessageOf};
 ghost use Rattle.iim_c.specs.TicketSteps.{span_before};
 

@@ -1,7 +1,7 @@
 //! The sizes of an object that a ticket tells.
 
-ghost use Rattle.iim_unpack.specs.Format.TicketForm.{HasForm};
-ghost use Rattle.iim_unpack.specs.States.TicketsTold.{split_told};
+ghost use Rattle.iim_places.specs.Format.TicketForm.{HasForm};
+ghost use Rattle.iim_places.specs.States.TicketsTold.{split_told};
 ghost use Rattle.iim_c.specs.Format.TicketAnswers.{IsObjectOf, AreSizes};
 
 use crate::answer::{IimAnswer, status_answer, ticket_answer};

@@ -7,8 +7,9 @@ use Rattle.iim_fields.specs.declared.limits.Limits.{Limits}
 use Rattle.wire_story.specs.Format.Delivery.{StoryEvent}
 use Rattle.wire_story.specs.Laws.Texts.{DeliveryMayBeCut}
 use Rattle.iim_unpack.specs.States.Intakes.{HasFed, WasEnded}
-use Rattle.iim_unpack.specs.Laws.Streams.{OpenOctetsAreBounded}
-use Rattle.iim_unpack.specs.States.Unpacking.{Stands, Unpacking, limits_in, raised}
+use Rattle.iim_places.specs.Laws.Streams.{OpenOctetsAreBounded}
+use Rattle.iim_unpack.specs.States.Unpacking.{Stands, Unpacking, limits_in}
+use Rattle.iim_places.specs.States.Counts.{raised}
 use Rattle.iim_unpack.proofs.Intakes.{Joined, fed_few, fed_nothing, fed_on, fed_then, raised_on, some_came}
 use Rattle.iim_commands.specs.Format.Listings.{limits}
 

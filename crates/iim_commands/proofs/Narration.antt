@@ -21,16 +21,16 @@ use Rattle.iim_commands.specs.States.Holding.{HoldsNothing, PutsLines, PutsOn, S
 use Rattle.iim_commands.specs.HoldingLaws.{puts_on}
 use Rattle.iim_commands.proofs.Holding.{puts_of_stuck}
 use Rattle.iim_commands.specs.declared.block_writer.BlockWriter.{BlockWriter}
-use Rattle.iim_unpack.specs.Format.Admitted.{object_of}
-use Rattle.iim_unpack.specs.Format.Open.{object_so_far}
-use Rattle.iim_unpack.specs.declared.refusal.Refusal.{Refusal}
+use Rattle.iim_places.specs.Format.Admitted.{object_of}
+use Rattle.iim_places.specs.Format.Open.{object_so_far}
+use Rattle.iim_places.specs.declared.refusal.Refusal.{Refusal}
 use Rattle.iim_unpack.specs.States.Unpacking.{Unpacking}
-use Rattle.iim_unpack.proofs.Answering.{leads_to, reads_envelope}
+use Rattle.iim_places.proofs.Answering.{leads_to, reads_envelope}
 use Rattle.iim_commands.specs.States.Coming.{EnvelopeHasCome, IsCalm, IsNext, IsRefusal}
 use Rattle.iim_commands.specs.States.Devices.{HasOctets}
 use Rattle.iim_commands.specs.Format.Lines.{ending_line, line_of, status_of, texts_from}
 use Rattle.iim_commands.specs.Format.Listings.{limits, IsDelivered}
-use Rattle.iim_unpack.specs.Format.Listing.{joined, max_envelopes, InputEnding, EndsBy, Listed, IsListed, IsRefusedAfter, RefusedBy}
+use Rattle.iim_places.specs.Format.Listing.{joined, max_envelopes, InputEnding, EndsBy, Listed, IsListed, IsRefusedAfter, RefusedBy}
 use Rattle.iim_commands.specs.Laws.Narration.{EnvelopesAreDeliveredAsLines}
 use Rattle.iim_commands.specs.Format.Narration.{IsTextIn, IsUnnarrated, LeavesText, Narrated, stories, story_of, text_of}
 use Rattle.iim_commands.specs.NarrationEnds.{IsHeldBack, IsUnended}

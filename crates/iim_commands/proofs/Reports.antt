@@ -10,10 +10,10 @@ use Rattle.iim_dataset.specs.Laws.Devices.{GiftsJoin, TextsJoin}
 use Rattle.iim_dataset.specs.declared.device.IoFault.{IoFault}
 use Rattle.iim_dataset.proofs.DeviceLaws.{broke_for_later}
 use Rattle.wire_story.specs.Format.Delivery.{StoryEvent}
-use Rattle.iim_unpack.specs.Format.Streams.{Kills}
-use Rattle.iim_unpack.proofs.Listings.{admitted_more, joined_more}
+use Rattle.iim_places.specs.Format.Streams.{Kills}
+use Rattle.iim_places.proofs.Listings.{admitted_more, joined_more}
 use Rattle.iim_unpack.specs.States.Unpacking.{Unpacking}
-use Rattle.iim_unpack.specs.declared.refusal.Refusal.{Refusal}
+use Rattle.iim_places.specs.declared.refusal.Refusal.{Refusal}
 use Rattle.iim_commands.specs.States.Coming.{IsNext, IsRefusal}
 use Rattle.iim_commands.specs.States.Holding.{HasPut, HoldsNothing, device_of}
 use Rattle.iim_commands.specs.States.Silence.{IsSettled, IsStuck, PassesOver, refuses_never}
@@ -25,7 +25,7 @@ use Rattle.iim_commands.proofs.Holding.{all_out, cut_by_stuck, cut_on, stopped_i
 use Rattle.iim_commands.specs.States.Devices.{HasOctets}
 use Rattle.iim_commands.specs.Format.Lines.{ending_line, status_of, texts_from}
 use Rattle.iim_commands.specs.Format.Listings.{limits}
-use Rattle.iim_unpack.specs.Format.Listing.{joined, max_envelopes, Divides, InputEnding, EndsBy, Listed, IsDeadAfter, IsListed, IsRefusedAfter}
+use Rattle.iim_places.specs.Format.Listing.{joined, max_envelopes, Divides, InputEnding, EndsBy, Listed, IsDeadAfter, IsListed, IsRefusedAfter}
 use Rattle.iim_commands.specs.Format.WrittenListings.{FailsListing, WritesListing}
 use Rattle.iim_commands.specs.declared.fault.CommandFault.{CommandFault}
 use Rattle.iim_commands.specs.declared.fault.CommandFault.TheVariants.{CannotRead, CannotWrite, OutOfMemory}

@@ -14,7 +14,7 @@ use Rattle.iim_script.specs.Laws.Scripts.{PrintedValuesAreScripts, ScriptsTellOn
 use Rattle.iim_script.specs.Format.Printed.{field_line, message_line, trailer_line, value_lines}
 use Rattle.iim_script.specs.Format.Scripts.{max_script}
 use Rattle.iim_commands.specs.Format.Listings.{limits}
-use Rattle.iim_unpack.specs.Format.Listing.{Listed, IsListed}
+use Rattle.iim_places.specs.Format.Listing.{Listed, IsListed}
 use Rattle.iim_commands.specs.Format.Narration.{story_of}
 use Rattle.iim_commands.specs.Format.Packing.{ScriptContent, IsScriptOf}
 use Rattle.iim_commands.specs.Laws.Scripts.{told_of, TellsJust, ShownEnvelopesAreScripts}

@@ -12,16 +12,16 @@ use Rattle.iim_commands.specs.declared.coming.Next.TheVariants as next
 use Rattle.iim_commands.specs.declared.coming.Next.TheVariants.{Envelope}
 use Rattle.iim_fields.specs.declared.limits.Limits.{Limits}
 use Rattle.wire_story.specs.Format.Delivery.{StoryEvent}
-use Rattle.iim_unpack.specs.Format.Framed.{AreWithin}
+use Rattle.iim_places.specs.Format.Framed.{AreWithin}
 use Rattle.iim_unpack.specs.declared.intake.IntakeFault.{IntakeFault}
 use Rattle.iim_unpack.specs.declared.intake.IntakeFault.TheVariants.{Refused, Read, Interrupted}
 use Rattle.iim_unpack.specs.States.Intakes.{Faults, HasFed, IsOfReader, IsRefusedOf, IsTruncatedIn, WasDone, WasMissed, WasRefused, WasTruncated}
 use Rattle.iim_unpack.specs.States.Parts.{CountsFor}
-use Rattle.iim_unpack.specs.Format.Open.{Delivers, IsOpen, IsTextOf}
+use Rattle.iim_places.specs.Format.Open.{Delivers, IsOpen, IsTextOf}
 use Rattle.iim_unpack.specs.States.Unpacking.{IsDoneWith, Stands, Unpacking, limits_in}
-use Rattle.iim_unpack.specs.declared.refusal.Refusal.{Refusal}
-use Rattle.iim_unpack.specs.declared.refusal.Cause.{Cause}
-use Rattle.iim_unpack.specs.declared.refusal.Cause.TheVariants.{Sink, Truncated}
+use Rattle.iim_places.specs.declared.refusal.Refusal.{Refusal}
+use Rattle.iim_places.specs.declared.refusal.Cause.{Cause}
+use Rattle.iim_places.specs.declared.refusal.Cause.TheVariants.{Sink, Truncated}
 use Rattle.iim_commands.specs.Feeding.{FedAsWhole, HaltsBy, IsOfFault, IsOfHalt}
 use Rattle.iim_commands.specs.declared.fault.CommandFault.{CommandFault}
 use Rattle.iim_commands.specs.States.Coming.{CanAskForMore, EnvelopeHasCome, IsCalm, IsCutOff, IsHeldUp, IsNext, IsRefusal, IsUnheard}

@@ -7,8 +7,8 @@ use Rattle.iim_unpack.specs.States.Intakes.{Faults, HasFed, IsOfReader, WasDone}
 use Rattle.iim_unpack.specs.States.Unpacking.{Unpacking}
 use Rattle.iim_unpack.specs.declared.intake.IntakeFault.{IntakeFault}
 use Rattle.iim_unpack.specs.declared.intake.IntakeFault.TheVariants.{Refused, Read, Interrupted}
-use Rattle.iim_unpack.specs.declared.refusal.Refusal.{Refusal}
-use Rattle.iim_unpack.specs.declared.refusal.Cause.TheVariants.{Sink}
+use Rattle.iim_places.specs.declared.refusal.Refusal.{Refusal}
+use Rattle.iim_places.specs.declared.refusal.Cause.TheVariants.{Sink}
 use Rattle.iim_commands.specs.declared.coming.Next.{Next}
 use Rattle.iim_commands.specs.declared.coming.Next.TheVariants as next
 use Rattle.iim_commands.specs.declared.fault.CommandFault.{CommandFault}

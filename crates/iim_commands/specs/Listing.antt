@@ -3,7 +3,7 @@ use Rattle.std.specs.Prelude.{◌≡◌, ℕ, ◌<◌, List, ◌++◌, length, �
 use Rattle.iim_dataset.specs.States.Devices.{Device, BrokeAfter, HasGiven}
 use Rattle.iim_commands.specs.declared.block_writer.BlockWriter.{BlockWriter}
 use Rattle.iim_commands.specs.States.Holding.{held_of, device_of, HasPut, HoldsNothing, StaysStuck}
-use Rattle.iim_unpack.specs.Format.Listing.{Divides, Listed}
+use Rattle.iim_places.specs.Format.Listing.{Divides, Listed}
 use Rattle.iim_commands.specs.Format.Lines.{texts_from}
 use Rattle.iim_commands.specs.Format.Listings.{limits}
 use Rattle.iim_commands.specs.Format.WrittenListings.{FailsListing}

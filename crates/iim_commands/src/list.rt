@@ -3,7 +3,7 @@
 ghost use Rattle.std.specs.Prelude.{◌≡◌, ◌++◌, ℕ, List, length, None, IfOk, IfErr, OnOk};
 ghost use Rattle.iim_unpack.specs.States.Intakes.{in_line};
 ghost use Rattle.iim_unpack.specs.Format.Value.{ShowsParts};
-ghost use Rattle.iim_unpack.specs.Format.Listing.{Listed};
+ghost use Rattle.iim_places.specs.Format.Listing.{Listed};
 ghost use Rattle.iim_commands.specs.Format.Listings.{told};
 ghost use Rattle.iim_commands.specs.Format.WrittenListings.{WritesListing, FailsListing};
 ghost use Rattle.iim_commands.specs.States.Holding.{HoldsNothing, device_of};

@@ -3,13 +3,13 @@ use Rattle.std.proofs.Common.{◌≡◌, ◌≢◌, ℕ, ◌⊎◌, inl, inr, Li
 use Rattle.std.specs.Prelude.{Ok, Err}
 use Rattle.iim_fields.specs.declared.limits.Limits.{Limits}
 use Rattle.wire_story.specs.Format.Delivery as story
-use Rattle.iim_unpack.specs.Format.Admitted.{Value}
+use Rattle.iim_places.specs.Format.Admitted.{Value}
 use Rattle.iim_unpack.specs.States.Parts as parts
 use Rattle.iim_unpack.specs.Format.Pieces as pieces
-use Rattle.iim_unpack.specs.Format.Streams.{Answer, Answers, Finished}
-use Rattle.iim_unpack.specs.declared.refusal.Cause.{Cause}
-use Rattle.iim_unpack.specs.declared.refusal.Cause.TheVariants as causes
-use Rattle.iim_unpack.specs.declared.refusal.Refusal.{Refusal}
+use Rattle.iim_places.specs.Format.Streams.{Answer, Answers, Finished}
+use Rattle.iim_places.specs.declared.refusal.Cause.{Cause}
+use Rattle.iim_places.specs.declared.refusal.Cause.TheVariants as causes
+use Rattle.iim_places.specs.declared.refusal.Refusal.{Refusal}
 use Rattle.iim_unpack.specs.declared.unpacker.Unpacked.{Unpacked}
 use Rattle.iim_round_trip.specs.Format.RoundTrip.{packed_value, GivesBack, FailsOutside}
 use Rattle.iim_round_trip.specs.Format.Results.{CountsCause}

@@ -2,8 +2,8 @@
 use Rattle.std.proofs.Common.{◌≡◌, ℕ, ◌⊎◌, inl, inr, List, [], ◌∷◌, ◌++◌, refl, sym, ap, subst, ◌∙◌, append-nil}
 use Rattle.wire_message.specs.Format.Messages.{IsMessage}
 use Rattle.iim_pack.specs.Laws.Packed.{datasets_of, PackedOctetsCarryTheValue}
-use Rattle.iim_unpack.specs.Format.Admitted.{Value, Admits}
-use Rattle.iim_unpack.specs.Laws.Admitted.{AdmittedOctetsHaveOneValue, NoAdmittedOctetsBeginOthers}
+use Rattle.iim_places.specs.Format.Admitted.{Value, Admits}
+use Rattle.iim_places.specs.Laws.Admitted.{AdmittedOctetsHaveOneValue, NoAdmittedOctetsBeginOthers}
 use Rattle.iim_round_trip.specs.Format.RoundTrip.{packed_value}
 use Rattle.iim_round_trip.specs.Laws.Packed.{PackedOctetsAreAdmitted, PackedEnvelopesAreFound}
 

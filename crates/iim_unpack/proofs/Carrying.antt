@@ -23,18 +23,19 @@ use Rattle.wire_message.specs.States.SoFar.{LeadsTo}
 use Rattle.wire_message.specs.declared.place.Place.{Place}
 use Rattle.wire_message.specs.declared.fault.MessageCause.{MessageCause}
 use Rattle.wire_message.specs.declared.fault.MessageCause.TheVariants as messages
-use Rattle.iim_unpack.specs.Format.Admitted.{object_of}
-use Rattle.iim_unpack.specs.Format.Tokens.{MayContinue, CanContinue, CanContinueAt}
+use Rattle.iim_places.specs.Format.Admitted.{object_of}
+use Rattle.iim_places.specs.Format.Tokens.{MayContinue, CanContinue, CanContinueAt}
 use Rattle.iim_unpack.specs.Passed.{TellsMessage, MessageRefuses}
 use Rattle.iim_unpack.specs.Passing.{octets_in-octets}
-use Rattle.iim_unpack.specs.Format.Refusals.{message_on, cause_of_message}
-use Rattle.iim_unpack.specs.Format.Open.{object_so_far, section, AllCanContinue}
+use Rattle.iim_places.specs.Format.Refusals.{message_on, cause_of_message}
+use Rattle.iim_places.specs.Format.Open.{object_so_far, section, AllCanContinue}
 use Rattle.iim_unpack.specs.States.Parts.{AreAfter, Within, StandsFor, AreLed, CountsFor}
 use Rattle.iim_unpack.specs.PartSteps.{TellsParts, PartsRefuse}
 use Rattle.iim_unpack.specs.declared.parts.Parts.{Parts}
-use Rattle.iim_unpack.specs.LowerLaws.{MessageLaws}
-use Rattle.iim_unpack.proofs.Lasts.{not_all}
+use Rattle.iim_places.specs.Laws.Lower.{MessageLaws}
+use Rattle.iim_places.proofs.Lasts.{not_all}
 use Rattle.iim_unpack.proofs.Sequences.{data_more}
+use Rattle.iim_places.proofs.ObjectOctets.{lives_whole}
 
 -- ---- lists
 
@@ -115,11 +116,6 @@ goes_within p ds h taken at = record {
 lives_on : (o : List ℕ) (b : Bool) → b ≡ false → MessageLivesWith o → languages.IsAlive MessageLanguage (map Octet o ++ (if b then End ∷ [] else []))
 lives_on o true is lives = absurd (let bad : true ≡ false = is in cc)
 lives_on o false is lives = subst (languages.IsAlive MessageLanguage) (sym (append-nil (map Octet o))) lives
-
--- a whole message, with or without its end
-pub lives_whole : (o : List ℕ) (b : Bool) → MessageLivesWith o → (b ≡ true → MessageLanguage (with_end o)) → languages.IsAlive MessageLanguage (map Octet o ++ (if b then End ∷ [] else []))
-lives_whole o true lives whole = ([], subst MessageLanguage (sym (append-nil (map Octet o ++ End ∷ []))) (whole refl))
-lives_whole o false lives whole = subst (languages.IsAlive MessageLanguage) (sym (append-nil (map Octet o))) lives
 
 is_language : (reader : Option Place) (o text : List ℕ) → wire.IsWhole reader → wire.StandsAt reader o text → MessageLanguage (with_end o)
 is_language reader o text whole at =

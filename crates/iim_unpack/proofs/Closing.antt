@@ -1,54 +1,41 @@
 -- Where the end of a dataset leads the parts of an unpacker, and why it is refused.
-use Rattle.std.proofs.Common.{◌≡◌, ℕ, ◌<◌, ◌≤◌, ◌⊎◌, Bool, true, false, cond, if◌then◌else◌, nat_eq, List, [], ◌∷◌, ◌++◌, length, Option, Some, None, refl, ap, sym, subst, ◌∙◌, inl, inr, arith, append-nil}
-use Rattle.std.proofs.lemmas.List.Concat.{flat_map-append}
-use Rattle.std.proofs.lemmas.List.Elements.{filter-append}
+use Rattle.std.proofs.Common.{◌≡◌, ℕ, ◌⊎◌, Bool, true, false, cond, if◌then◌else◌, nat_eq, List, [], ◌∷◌, ◌++◌, length, Option, Some, None, refl, ap, sym, subst, ◌∙◌, inl, inr}
 use Rattle.std.proofs.lemmas.Bool.Decides.{eqb_tells}
 use Rattle.iim_dataset.specs.Format.Octets.{number}
-use Rattle.iim_dataset.specs.Format.Datasets.{Dataset, head_of, of_record}
+use Rattle.iim_dataset.specs.Format.Datasets.{Dataset, head_of}
 use Rattle.iim_dataset.specs.Format.Splits.{InTag, InData}
 use Rattle.iim_dataset.specs.States.Events.{DatasetEvent, DatasetEnd}
 use Rattle.iim_dataset.specs.declared.head.Head.{Head}
 use Rattle.iim_fields.specs.Format.Alive.{SectionsLiveAt}
-use Rattle.iim_fields.specs.Format.Faults.{section_after, joined}
+use Rattle.iim_fields.specs.Format.Faults.{section_after}
 use Rattle.iim_fields.specs.States.Standing as records
 use Rattle.iim_fields.specs.States.Checks.{IsValueFault}
 use Rattle.iim_fields.specs.States.Standing.{IsOf, limits_of, FieldsPlace}
 use Rattle.iim_fields.specs.Format.Values.{data_of, tells_number, number_told}
 use Rattle.iim_fields.specs.Laws.Records.{NoSectionsBeginOthers}
 use Rattle.iim_fields.specs.declared.fault.FieldFault.{FieldFault}
-use Rattle.iim_object.specs.Format.Plans.{max_subfiles}
 use Rattle.iim_object.specs.Format.Places.{value_token}
 use Rattle.iim_object.specs.States.Reading as objects
 use Rattle.iim_object.specs.Format.Numbers.{place_after_datasets}
 use Rattle.wire_message.specs.Format.Layers.{text_so_far}
 use Rattle.wire_message.specs.Laws.Messages.{ReadersStandAtLivingOctets}
 use Rattle.wire_message.specs.States.Reading as wire
-use Rattle.iim_unpack.specs.Format.Admitted.{object_of}
-use Rattle.iim_unpack.specs.Format.Tokens.{place_at, IsRefusedValue}
-use Rattle.iim_unpack.specs.Format.Refusals.{of_field, IsObjectFault}
-use Rattle.iim_unpack.specs.Format.Open.{object_so_far}
+use Rattle.iim_places.specs.Format.Admitted.{object_of}
+use Rattle.iim_places.specs.Format.Tokens.{place_at, IsRefusedValue}
+use Rattle.iim_places.specs.Format.Refusals.{of_field, IsObjectFault}
+use Rattle.iim_places.specs.Format.Open.{object_so_far}
 use Rattle.iim_unpack.specs.States.Parts.{AreAfter, Within, CountsFor}
 use Rattle.iim_unpack.specs.PartSteps.{Closed, NotClosed}
 use Rattle.iim_unpack.specs.declared.parts.Parts.{Parts}
-use Rattle.iim_unpack.specs.declared.parts.fault.TokenFault.{TokenFault}
+use Rattle.iim_places.specs.declared.fault.TokenFault.{TokenFault}
 use Rattle.iim_unpack.proofs.Faults.{field_value, object_value}
-use Rattle.iim_unpack.proofs.Places.{number_leads, silent_leads, one_more}
+use Rattle.iim_places.proofs.Places.{number_leads, silent_leads}
 use Rattle.iim_unpack.proofs.Carrying.{HasBegun, in_one, same_head, all_within}
 use Rattle.iim_unpack.proofs.Sequences.{end_told, all_came}
 use Rattle.iim_unpack.proofs.Heading.{quiet_field, counts_size}
-use Rattle.iim_unpack.proofs.Lasts.{present_last, not_all}
-use Rattle.iim_unpack.specs.LowerLaws.{CloseLaws}
-
--- ---- lists
-
-object_one : (d : Dataset) (b : Bool) → joined (cond b (d ∷ []) []) ≡ cond b d.octets []
-object_one d true = append-nil d.octets
-object_one d false = refl
-
-pub object_of_more : (ds : List Dataset) (d : Dataset) → object_of (ds ++ d ∷ []) ≡ object_of ds ++ cond (nat_eq d.rec 8) d.octets []
-object_of_more ds d =
-    ap joined (filter-append (λ (x : Dataset). nat_eq x.rec 8) ds (d ∷ [])) ∙ flat_map-append (λ (x : Dataset). x.octets) (of_record 8 ds) (of_record 8 (d ∷ []))
-    ∙ ap (λ xs. object_of ds ++ xs) (object_one d (nat_eq d.rec 8))
+use Rattle.iim_places.proofs.Lasts.{present_last, not_all}
+use Rattle.iim_places.specs.Laws.Lower.{CloseLaws}
+use Rattle.iim_places.proofs.ObjectOctets.{object_of_more, few_more}
 
 -- ---- numbers
 
@@ -61,16 +48,6 @@ number_tells d n told = tells_by (tells_number d.rec) refl told
     tells_by false is e = absurd cc
 
 -- ---- where the end leads
-
-abbrev pick : Bool → ℕ
-pick b = if b then 1 else 0
-
-pub few_more : (ds : List Dataset) (d : Dataset) → length (of_record 8 ds) ≤ max_subfiles → (d.rec ≡ 8 → length (of_record 8 ds) < max_subfiles)
-    → length (of_record 8 (ds ++ d ∷ [])) ≤ max_subfiles
-few_more ds d few room = elim (eqb_tells d.rec 8) [
-  | inl same ↦ let sum = one_more ds d in let one : pick (nat_eq d.rec 8) ≡ 1 = ap pick same.0 in let less = room same.1 in omega (arith, sum, one, less)
-  | inr other ↦ let sum = one_more ds d in let none : pick (nat_eq d.rec 8) ≡ 0 = ap pick other.0 in omega (arith, sum, none, few)
-]
 
 -- The end of the dataset was taken by the records and by the object.
 pub record Ends (new : Parts) (ds : List Dataset) (d : Dataset) : Type 0 where

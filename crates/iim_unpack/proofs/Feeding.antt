@@ -1,8 +1,7 @@
 -- Where an unpacker stands after a piece.
-use Rattle.std.proofs.Common.{◌≡◌, ℕ, ◌<◌, ◌≤◌, ◌⊎◌, Bool, true, false, nat_eq, if◌then◌else◌, get_or, List, [], ◌∷◌, ◌++◌, length, take, slice_index, Option, Some, None, IsSome, refl, ap, sym, subst, ◌∙◌, inl, inr, arith, append-nil, append_assoc}
+use Rattle.std.proofs.Common.{◌≡◌, ℕ, ◌<◌, ◌≤◌, ◌⊎◌, Bool, true, false, nat_eq, get_or, List, [], ◌∷◌, ◌++◌, length, take, slice_index, Option, Some, None, IsSome, refl, ap, sym, subst, ◌∙◌, inl, inr, arith, append-nil, append_assoc}
 use Rattle.std.proofs.lemmas.List.{take_all}
 use Rattle.std.proofs.lemmas.Bool.{eqb-true, true≢false}
-use Rattle.std.proofs.lemmas.Bool.Decides.{eqb_tells}
 use Rattle.iim_dataset.specs.Format.Datasets.{Dataset, SpellsStream, count_octets, of_record}
 use Rattle.iim_dataset.specs.Format.Splits.{Begun, InTag, InData, Reads}
 use Rattle.iim_dataset.specs.Format.Tags.{Concerns}
@@ -31,32 +30,34 @@ use Rattle.wire_message.specs.States.Reading as wire
 use Rattle.wire_message.specs.Format.Causes as wire_format
 use Rattle.wire_story.specs.Format.Texts.{IsText}
 use Rattle.wire_message.specs.Format.Messages.{Header, IsMessage}
-use Rattle.iim_unpack.specs.Laws.Admitted.{AdmittedOctetsHaveOneValue}
+use Rattle.iim_places.specs.Laws.Admitted.{AdmittedOctetsHaveOneValue}
 use Rattle.iim_unpack.specs.Format.Value.{HasParts, ShowsParts}
 use Rattle.iim_unpack.specs.declared.unpacker.Unpacked.{Unpacked}
 use Rattle.iim_unpack.specs.declared.unpacker.UnpackedRef.{UnpackedRef}
-use Rattle.iim_unpack.specs.Format.Admitted.{Value, Admits, object_of}
-use Rattle.iim_unpack.specs.Format.Refusals.{begun_record, begun_number, tag_cause, refusal_at, message_on}
-use Rattle.iim_unpack.specs.Format.Tokens.{IsRefusedHead, IsRefusedValue}
+use Rattle.iim_places.specs.Format.Admitted.{Value, Admits, object_of}
+use Rattle.iim_places.specs.Format.Refusals.{begun_record, begun_number, tag_cause, refusal_at, message_on}
+use Rattle.iim_places.specs.Format.Tokens.{IsRefusedHead, IsRefusedValue}
 use Rattle.iim_fields.specs.Format.Values.{data_of}
 use Rattle.iim_unpack.specs.UnpackerInside.{cause_of_tag, Advanced, FailsAs, IsOnward, tag_fault, begins, Stood, IsUnpacking}
-use Rattle.iim_unpack.specs.Format.Open.{object_so_far, AllCanContinue, IsUnfinished, IsTextOf, Delivers, IsOpen, IsBadTagAt, RefusesNext, IsTruncatedAt, truncated_in}
+use Rattle.iim_places.specs.Format.Open.{object_so_far, AllCanContinue, IsUnfinished, IsTextOf, Delivers, IsOpen, IsBadTagAt, RefusesNext, IsTruncatedAt, truncated_in}
 use Rattle.iim_unpack.specs.States.Parts.{AreAfter, StandsFor, AreLed, Refused, RefusesAt, has_ended}
 use Rattle.iim_unpack.specs.Sequence.{AreInOrder}
 use Rattle.iim_unpack.specs.Going.{front_in_order}
 use Rattle.iim_unpack.specs.Routing.{Takes, HasEnded}
-use Rattle.iim_unpack.specs.States.Unpacking.{Unpacking, raised, are_some, limits_in, IsLed, Stands, IsDoneWith, IsRefusedIn}
+use Rattle.iim_unpack.specs.States.Unpacking.{Unpacking, limits_in, IsLed, Stands, IsDoneWith, IsRefusedIn}
+use Rattle.iim_places.specs.States.Counts.{raised, are_some}
 use Rattle.iim_unpack.specs.declared.parts.Parts.{Parts}
-use Rattle.iim_unpack.specs.declared.parts.fault.TokenFault.{TokenFault}
-use Rattle.iim_unpack.specs.declared.refusal.Refusal.{Refusal}
-use Rattle.iim_unpack.specs.declared.refusal.Cause.{Cause}
-use Rattle.iim_unpack.specs.declared.refusal.Layer.TheVariants as layers
-use Rattle.iim_unpack.proofs.Objects.{are_records}
+use Rattle.iim_places.specs.declared.fault.TokenFault.{TokenFault}
+use Rattle.iim_places.specs.declared.refusal.Refusal.{Refusal}
+use Rattle.iim_places.specs.declared.refusal.Cause.{Cause}
+use Rattle.iim_places.specs.declared.refusal.Layer.TheVariants as layers
+use Rattle.iim_places.proofs.Objects.{are_records}
 use Rattle.iim_unpack.proofs.Carrying.{all_after, all_within}
-use Rattle.iim_unpack.proofs.Lasts.{sections_last, last_sections, not_all}
+use Rattle.iim_places.proofs.Lasts.{sections_last, last_sections, not_all}
 use Rattle.iim_unpack.proofs.Ended.{ended_by_record, unended_inside}
 use Rattle.iim_unpack.proofs.Sequences.{handed_in_order}
-use Rattle.iim_unpack.specs.LowerLaws.{FeedLaws}
+use Rattle.iim_places.specs.Laws.Lower.{FeedLaws}
+use Rattle.iim_places.proofs.ObjectOctets.{no_object}
 
 -- ---- begun datasets that are told alike
 
@@ -80,8 +81,6 @@ object_as ds (InData h taken) (InData k other) same =
   where
     some-same : {x y : Head × List ℕ} → Some x ≡ Some y → x ≡ y
     some-same e = cc
-
--- ---- the last record
 
 -- ---- the octets and the parts
 
@@ -433,14 +432,6 @@ octet_refused laws limits octets next events text fault c r = by r.begun r.refus
             is_fault = is_fault ∙ ap (λ (x : Head). message_on x cause) head;
           })));
         }
-
--- data of another record than 8 are no part of the object
-pub no_object : (ds : List Dataset) (h : Head) (taken : List ℕ) → (h.rec ≡ 8 → ⊥) → object_so_far ds (InData h taken) ≡ object_of ds
-no_object ds h taken other = ap (λ (b : Bool). object_of ds ++ (if b then taken else [])) (apart (eqb_tells h.rec 8)) ∙ append-nil (object_of ds)
-  where
-    apart : ((nat_eq h.rec 8 ≡ true) × (h.rec ≡ 8)) ⊎ ((nat_eq h.rec 8 ≡ false) × (h.rec ≡ 8 → ⊥)) → nat_eq h.rec 8 ≡ false
-    apart (inl same) = absurd (other same.1)
-    apart (inr is) = is.0
 
 end_text : (octets : List ℕ) (next : ℕ) (ds : List Dataset) (h : Head) (given text : List ℕ) → (h.rec ≡ 8 → ⊥) → text ≡ text_so_far (object_of ds) → CompletesData octets next ds h given → IsTextOf octets text
 end_text octets next ds h given text other is (inl (taken, reads, parts, count)) = (ds, InData h taken, reads, is ∙ ap text_so_far (sym (no_object ds h taken other)))

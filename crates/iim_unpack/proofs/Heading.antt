@@ -28,24 +28,24 @@ use Rattle.wire_message.specs.Format.Layers.{text_so_far, MessageDiesAt}
 use Rattle.wire_message.specs.Laws.Messages.{TextsStandBetweenStxAndEtx}
 use Rattle.wire_message.specs.States.Reading as wire
 use Rattle.wire_message.specs.declared.place.Place.{Place}
-use Rattle.iim_unpack.specs.Format.Admitted.{object_of}
-use Rattle.iim_unpack.specs.Format.Tokens.{place_at, ObjectLives, IsRefusedHead}
+use Rattle.iim_places.specs.Format.Admitted.{object_of}
+use Rattle.iim_places.specs.Format.Tokens.{place_at, ObjectLives, IsRefusedHead}
 use Rattle.iim_unpack.specs.Passed.{TellsMessage, HasFewSubfiles, IsFullOfSubfiles, RefusesBySize, RefusesAtEnd, RefusesObject, RefusesSubfile, octets_in, end_is_last}
-use Rattle.iim_unpack.specs.Format.Refusals.{of_field, too_many_on, message_on, cause_of, cause_of_size}
-use Rattle.iim_unpack.specs.Format.Open.{object_so_far, IsUnfinished}
+use Rattle.iim_places.specs.Format.Refusals.{of_field, too_many_on, message_on, cause_of, cause_of_size}
+use Rattle.iim_places.specs.Format.Open.{object_so_far, IsUnfinished}
 use Rattle.iim_unpack.specs.States.Parts.{AreAfter, Within, CountsFor, has_ended}
 use Rattle.iim_unpack.specs.PartSteps.{TellsParts, PartsRefuse}
 use Rattle.iim_unpack.specs.declared.parts.Parts.{Parts}
-use Rattle.iim_unpack.specs.declared.parts.fault.TokenFault.{TokenFault}
+use Rattle.iim_places.specs.declared.fault.TokenFault.{TokenFault}
 use Rattle.wire_message.specs.declared.fault.MessageCause.{MessageCause}
-use Rattle.iim_unpack.proofs.Places.{HeadLeads, subfile_leads, end_leads}
+use Rattle.iim_places.proofs.Places.{HeadLeads, subfile_leads, end_leads}
 use Rattle.iim_unpack.proofs.Faults.{field_head, too_many_head, object_head, have_room}
 use Rattle.std.proofs.lemmas.Bool.{true≢false}
 use Rattle.std.proofs.lemmas.List.{length-map}
-use Rattle.iim_unpack.proofs.Lasts.{sections_last}
+use Rattle.iim_places.proofs.Lasts.{sections_last}
 use Rattle.iim_unpack.proofs.Ended.{ended_by_record}
 use Rattle.iim_unpack.proofs.Carrying.{counts_for, passes_on, after_all, all_after}
-use Rattle.iim_unpack.specs.LowerLaws.{HeadLaws}
+use Rattle.iim_places.specs.Laws.Lower.{HeadLaws}
 
 -- What stands after a head.
 pub record Begins (new : Parts) (ds : List Dataset) (h : Head) : Type 0 where

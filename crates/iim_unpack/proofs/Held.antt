@@ -20,8 +20,8 @@ use Rattle.iim_unpack.specs.States.Parts.{StandsFor}
 use Rattle.iim_unpack.specs.States.Unpacking.{Unpacking, IsLed}
 use Rattle.iim_unpack.specs.UnpackerInside.{Stood}
 use Rattle.iim_unpack.specs.declared.parts.Parts.{Parts}
-use Rattle.iim_unpack.proofs.Bounds.{is_one}
-use Rattle.iim_unpack.proofs.TicketLengths.{AreShortIn, texts_at, held_length}
+use Rattle.iim_places.proofs.Bounds.{is_one}
+use Rattle.iim_places.proofs.TicketLengths.{AreShortIn, texts_at, held_length}
 use Rattle.iim_unpack.proofs.SamePlace.{told_by}
 
 -- ---- the message

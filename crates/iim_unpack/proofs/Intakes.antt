@@ -12,21 +12,22 @@ use Rattle.iim_fields.specs.declared.limits.Limits.{Limits}
 use Rattle.wire_story.specs.Format.Delivery as story
 use Rattle.wire_story.specs.Laws.Texts.{DeliveryMayBeCut}
 use Rattle.iim_unpack.specs.States.Parts.{CountsFor}
-use Rattle.iim_unpack.specs.Format.Refusals.{refusal_at}
-use Rattle.iim_unpack.specs.States.Unpacking.{Unpacking, Stands, IsDoneWith, Goes, IsRefusedIn, limits_in, raised}
+use Rattle.iim_places.specs.Format.Refusals.{refusal_at}
+use Rattle.iim_unpack.specs.States.Unpacking.{Unpacking, Stands, IsDoneWith, Goes, IsRefusedIn, limits_in}
+use Rattle.iim_places.specs.States.Counts.{raised}
 use Rattle.iim_unpack.specs.UnpackerInside.{Stood}
-use Rattle.iim_unpack.specs.Format.Open.{IsOpen, IsTextOf, Delivers, IsTruncatedAt, RefusesNext}
+use Rattle.iim_places.specs.Format.Open.{IsOpen, IsTextOf, Delivers, IsTruncatedAt, RefusesNext}
 use Rattle.iim_unpack.specs.IntakeSteps.{WentOn, FedAs, read_fault}
 use Rattle.iim_unpack.specs.States.Intakes.{FedEnvelope, FedPiece, HasFed, WasDone, WasEnded, IsRefusedOf, IsTruncatedIn, WasRefused, WasTruncated, WasMissed, WasGiven, IsReady, Faults}
-use Rattle.iim_unpack.specs.Laws.Streams.{OpenOctetsAreBounded}
+use Rattle.iim_places.specs.Laws.Streams.{OpenOctetsAreBounded}
 use Rattle.iim_unpack.specs.declared.intake.Fed.{Fed}
 use Rattle.iim_unpack.specs.declared.intake.Fed.TheVariants as piece
 use Rattle.iim_unpack.specs.declared.intake.IntakeFault.{IntakeFault}
 use Rattle.iim_unpack.specs.declared.intake.IntakeFault.TheVariants.{Refused, Read, Interrupted}
 use Rattle.iim_unpack.proofs.Feeding.{stood_stands}
-use Rattle.iim_unpack.specs.declared.refusal.Refusal.{Refusal}
-use Rattle.iim_unpack.specs.Format.Admitted.{Value, Admits}
-use Rattle.iim_unpack.specs.Format.Framed.{AreWithin}
+use Rattle.iim_places.specs.declared.refusal.Refusal.{Refusal}
+use Rattle.iim_places.specs.Format.Admitted.{Value, Admits}
+use Rattle.iim_places.specs.Format.Framed.{AreWithin}
 use Rattle.iim_unpack.specs.Format.Value.{HasParts}
 use Rattle.iim_unpack.specs.declared.unpacker.Unpacked.{Unpacked}
 use Rattle.iim_unpack.specs.declared.unpacker.Progress.{Progress}

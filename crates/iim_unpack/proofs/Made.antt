@@ -9,14 +9,14 @@ use Rattle.iim_dataset.specs.declared.place.DatasetPlace.TheVariants.{Tag, Insid
 use Rattle.iim_fields.specs.declared.limits.Limits.{Limits}
 use Rattle.iim_object.specs.Laws.Reading.{ReadersTellSizes}
 use Rattle.iim_unpack.specs.States.Parts.{StandsFor, has_ended}
-use Rattle.iim_unpack.specs.States.Possible.{AreOpenOrWhole}
-use Rattle.iim_unpack.specs.Laws.Places.{LimitsAreToldByPlace}
+use Rattle.iim_places.specs.States.Possible.{AreOpenOrWhole}
+use Rattle.iim_places.specs.Laws.Places.{LimitsAreToldByPlace}
 use Rattle.iim_unpack.specs.Restoring.{ReadersMakeUnpackers}
 use Rattle.iim_unpack.specs.Routing.{Takes, HasEnded}
-use Rattle.iim_unpack.specs.Format.Tickets.{Place, IsPlaceOf}
+use Rattle.iim_places.specs.Format.Tickets.{Place, IsPlaceOf}
 use Rattle.iim_unpack.specs.States.Unpacking.{Unpacking, Stands, IsDoneWith}
 use Rattle.iim_unpack.specs.UnpackerInside.{IsUnpacking}
-use Rattle.iim_unpack.specs.Format.Open.{IsOpen}
+use Rattle.iim_places.specs.Format.Open.{IsOpen}
 use Rattle.iim_unpack.specs.declared.parts.Parts.{Parts}
 use Rattle.iim_unpack.proofs.Ended.{unended_inside}
 use Rattle.iim_unpack.proofs.Restored.{RestoreLaws, AreMadeFor, made_open, made_stands, made_done}

@@ -11,24 +11,25 @@ use Rattle.wire_story.specs.Laws.Texts.{DeliveryMayBeCut, TextsAreDeliveredAsLin
 use Rattle.wire_message.specs.Format.Layers.{text_so_far}
 use Rattle.wire_message.specs.Laws.Messages.{TextsStandBetweenStxAndEtx}
 use Rattle.wire_message.specs.declared.place.Place.TheVariants.{AfterEnd}
-use Rattle.iim_unpack.specs.Format.Admitted.{Value, Admits, object_of}
-use Rattle.iim_unpack.specs.Laws.Streams.{OpenOctetsAreBounded, EnvelopesAreBounded, RefusedOctetsWereOpen, StreamsHaveOneAnswer}
-use Rattle.iim_unpack.specs.LowerLaws.{FeedLaws}
+use Rattle.iim_places.specs.Format.Admitted.{Value, Admits, object_of}
+use Rattle.iim_places.specs.Laws.Streams.{OpenOctetsAreBounded, EnvelopesAreBounded, RefusedOctetsWereOpen, StreamsHaveOneAnswer}
+use Rattle.iim_places.specs.Laws.Lower.{FeedLaws}
 use Rattle.iim_unpack.specs.Format.Pieces.{stream_of, IsUnpacked, IsTurnedDown, IsAnswer}
 use Rattle.iim_unpack.specs.PiecesSoFar.{DoneIn, HasFedPieces}
-use Rattle.iim_unpack.specs.Format.Refusals.{refusal_at}
-use Rattle.iim_unpack.specs.Format.Streams.{Answer, Answers, Finished, Refused, Truncated, IsEnvelopeWithin, IsFinished, IsRefused}
-use Rattle.iim_unpack.specs.States.Unpacking.{Unpacking, Stands, IsDone, IsDoneWith, Goes, IsRefusedIn, limits_in, raised}
-use Rattle.iim_unpack.specs.Format.Open.{IsOpen, IsTextOf, Delivers, IsTruncatedAt, RefusesNext}
+use Rattle.iim_places.specs.Format.Refusals.{refusal_at}
+use Rattle.iim_places.specs.Format.Streams.{Answer, Answers, Finished, Refused, Truncated, IsEnvelopeWithin, IsFinished, IsRefused}
+use Rattle.iim_unpack.specs.States.Unpacking.{Unpacking, Stands, IsDone, IsDoneWith, Goes, IsRefusedIn, limits_in}
+use Rattle.iim_places.specs.States.Counts.{raised}
+use Rattle.iim_places.specs.Format.Open.{IsOpen, IsTextOf, Delivers, IsTruncatedAt, RefusesNext}
 use Rattle.iim_unpack.specs.Format.Value.{HasParts}
-use Rattle.iim_unpack.specs.declared.refusal.Refusal.{Refusal}
+use Rattle.iim_places.specs.declared.refusal.Refusal.{Refusal}
 use Rattle.iim_unpack.specs.States.Parts.{CountsFor}
-use Rattle.iim_unpack.specs.declared.refusal.Cause.{Cause}
-use Rattle.iim_unpack.specs.declared.refusal.Cause.TheVariants.{Sink}
+use Rattle.iim_places.specs.declared.refusal.Cause.{Cause}
+use Rattle.iim_places.specs.declared.refusal.Cause.TheVariants.{Sink}
 use Rattle.iim_unpack.specs.declared.unpacker.Progress.{Progress}
 use Rattle.iim_unpack.specs.declared.unpacker.Progress.TheVariants.{More, Done}
 use Rattle.iim_unpack.specs.declared.unpacker.Unpacked.{Unpacked}
-use Rattle.iim_unpack.proofs.Answering.{reads_envelope, leads_to, nothing_held}
+use Rattle.iim_places.proofs.Answering.{reads_envelope, leads_to, nothing_held}
 use Rattle.iim_unpack.proofs.Feeding.{one_text}
 use Rattle.iim_unpack.proofs.Intakes.{Joined, adds_none, adds_more, told_truncated, not_told}
 

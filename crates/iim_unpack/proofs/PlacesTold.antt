@@ -13,23 +13,23 @@ use Rattle.wire_message.specs.States.Reading as wire
 use Rattle.wire_message.specs.States.Saved.{LeadsToSaved}
 use Rattle.wire_message.specs.declared.saved.MessagePart.TheVariants.{AfterEnd}
 use Rattle.wire_message.specs.declared.saved.MessagePlace.{MessagePlace}
-use Rattle.iim_unpack.specs.ByLayers.{LeadsByLayers, PlacesArePossibleByLayers, TagsLead, RecordsLive, are_ended, begun_of_object, begun_subfiles, object_after, one_of_some, record_datasets}
-use Rattle.iim_unpack.specs.Plain.{Numbers, number_list, plain}
-use Rattle.iim_unpack.specs.Laws.Tickets.{TicketsOfPlacesAreSplit, split_of, TicketsHaveOneSplit}
-use Rattle.iim_unpack.specs.States.Possible.{IsSmall, IsSmallPhase, IsSmallPlace, greatest_size_before, AreHeadsWithin, begun_count, begun_fields, widest}
-use Rattle.iim_unpack.specs.Laws.Places.{SmallPlacesWerePossible}
+use Rattle.iim_places.specs.States.ByLayers.{LeadsByLayers, PlacesArePossibleByLayers, TagsLead, RecordsLive, are_ended, begun_of_object, begun_subfiles, object_after, one_of_some, record_datasets}
+use Rattle.iim_places.specs.Plain.{Numbers, number_list, plain}
+use Rattle.iim_places.specs.Laws.Tickets.{TicketsOfPlacesAreSplit, split_of, TicketsHaveOneSplit}
+use Rattle.iim_places.specs.States.Possible.{IsSmall, IsSmallPhase, IsSmallPlace, greatest_size_before, AreHeadsWithin, begun_count, begun_fields, widest}
+use Rattle.iim_places.specs.Laws.Places.{SmallPlacesWerePossible}
 use Rattle.iim_unpack.specs.Restoring.{AreAt, IsLimitFault, IsMadeFor, LeadsNowhere, LeadsNowhereIn, ObjectStands, MessageStands, RecordsStand, has_come}
-use Rattle.iim_unpack.specs.States.Restored.{octets_told, IsRestoreFault, IsTicketAt}
-use Rattle.iim_unpack.specs.Taking.{AreKept, IsMessageOf, numbers_told, tag_place, told_datasets}
-use Rattle.iim_unpack.specs.States.Begins.{IsSizeIn, IsWide}
-use Rattle.iim_unpack.specs.Format.TicketForm.{HasForm, Split, SplitsTicket, split_octets}
-use Rattle.iim_unpack.specs.Format.Tickets.{Place, part_number}
+use Rattle.iim_places.specs.States.Restored.{octets_told, IsRestoreFault, IsTicketAt}
+use Rattle.iim_places.specs.Taking.{AreKept, IsMessageOf, numbers_told, tag_place, told_datasets}
+use Rattle.iim_places.specs.States.Begins.{IsSizeIn, IsWide}
+use Rattle.iim_places.specs.Format.TicketForm.{HasForm, Split, SplitsTicket, split_octets}
+use Rattle.iim_places.specs.Format.Tickets.{Place, part_number}
 use Rattle.iim_unpack.specs.States.Unpacking.{Unpacking, limits_in}
 use Rattle.iim_unpack.specs.declared.ticket.possible.Readers.{Readers}
-use Rattle.iim_unpack.specs.declared.ticket.fault.TicketFault.{TicketFault}
-use Rattle.iim_unpack.specs.declared.ticket.fault.TicketFault.TheVariants.{Form, Version, Impossible, HeaderFull, TooManyFields, OutOfMemory}
-use Rattle.iim_unpack.proofs.Fitting.{part_told, spelled}
-use Rattle.iim_unpack.proofs.Plain.{kept_fields}
+use Rattle.iim_places.specs.declared.ticket.fault.TicketFault.{TicketFault}
+use Rattle.iim_places.specs.declared.ticket.fault.TicketFault.TheVariants.{Form, Version, Impossible, HeaderFull, TooManyFields, OutOfMemory}
+use Rattle.iim_places.proofs.Fitting.{part_told, spelled}
+use Rattle.iim_places.proofs.Plain.{kept_fields}
 
 -- what a ticket's parts count together
 abbrev pub OctetsIn : Split → ℕ

@@ -34,32 +34,33 @@ use Rattle.wire_message.specs.declared.place.Place.{Place as Message}
 use Rattle.wire_message.specs.declared.place.Place.TheVariants as at_message
 use Rattle.wire_message.specs.declared.saved.MessagePart.TheVariants as part
 use Rattle.wire_message.specs.declared.saved.MessagePlace.{MessagePlace}
-use Rattle.iim_unpack.specs.Format.Admitted.{Value, object_of}
-use Rattle.iim_unpack.specs.States.Begins.{IsSize}
-use Rattle.iim_unpack.specs.ByLayers.{LeadsByLayers, RecordsLive, record_datasets, begun_of_object, object_after, one_of_some, are_ended, begun_subfiles}
-use Rattle.iim_unpack.specs.LowerLaws.{ByLayersLaws, PlaceLaws, FeedLaws}
-use Rattle.iim_unpack.specs.Format.Open.{object_so_far, section, IsOpen}
+use Rattle.iim_places.specs.Format.Admitted.{Value, object_of}
+use Rattle.iim_places.specs.States.Begins.{IsSize}
+use Rattle.iim_places.specs.States.ByLayers.{LeadsByLayers, RecordsLive, record_datasets, begun_of_object, object_after, one_of_some, are_ended, begun_subfiles}
+use Rattle.iim_places.specs.Laws.Lower.{ByLayersLaws, PlaceLaws, FeedLaws}
+use Rattle.iim_places.specs.Format.Open.{object_so_far, section, IsOpen}
 use Rattle.iim_unpack.specs.States.Parts.{AreAfter, Within, StandsFor, has_ended}
-use Rattle.iim_unpack.specs.Plain.{Numbers, number_list, plain}
+use Rattle.iim_places.specs.Plain.{Numbers, number_list, plain}
 use Rattle.iim_unpack.specs.Restoring.{IsMadeFor, RecordsStand, MessageStands, has_come}
-use Rattle.iim_unpack.specs.Format.Streams.{IsEnvelopeWithin}
-use Rattle.iim_unpack.specs.Taking.{tag_place}
-use Rattle.iim_unpack.specs.Format.Tickets.{Place, Phase, TagBegun, AllEnded, IsPlaceOf, phase_of, place_of}
-use Rattle.iim_unpack.specs.Format.Tokens.{place_at, ObjectLives, CanContinue, CanContinueAt, MayContinue}
-use Rattle.iim_unpack.specs.States.Unpacking.{Unpacking, Stands, IsDoneWith, are_some}
+use Rattle.iim_places.specs.Format.Streams.{IsEnvelopeWithin}
+use Rattle.iim_places.specs.Taking.{tag_place}
+use Rattle.iim_places.specs.Format.Tickets.{Place, Phase, TagBegun, AllEnded, IsPlaceOf, phase_of, place_of}
+use Rattle.iim_places.specs.Format.Tokens.{place_at, ObjectLives, CanContinue, CanContinueAt, MayContinue}
+use Rattle.iim_unpack.specs.States.Unpacking.{Unpacking, Stands, IsDoneWith}
+use Rattle.iim_places.specs.States.Counts.{are_some}
 use Rattle.iim_unpack.specs.declared.parts.Parts.{Parts}
-use Rattle.iim_unpack.proofs.Alike.{Fits, told_by}
-use Rattle.iim_unpack.proofs.Answering.{one_reading, reads_envelope, goes_envelope}
+use Rattle.iim_places.proofs.Alike.{Fits, told_by}
+use Rattle.iim_places.proofs.Answering.{one_reading, reads_envelope, goes_envelope}
 use Rattle.iim_unpack.proofs.Ended.{ended_by_record, unended_inside}
 use Rattle.iim_unpack.proofs.Feeding.{TellsSizes, done_by}
-use Rattle.iim_unpack.proofs.Following.{alive_of}
-use Rattle.iim_unpack.proofs.Lasts.{sections_last}
-use Rattle.iim_unpack.proofs.LayersLead.{same_stated, present_ended, front_alive}
-use Rattle.iim_unpack.proofs.LeadsByLayers.{whole_at, subfile_at, opened_at, confirmed_at, few_heads, few_with_head, nine_ended, one_same}
-use Rattle.iim_unpack.proofs.PlainOpens.{fit_in_rows, possible_of}
-use Rattle.iim_unpack.proofs.SamePlace.{opened, fields_after, fields_in, some_read, has_begun, none_present, less_alive}
-use Rattle.iim_unpack.proofs.SameRecords.{IsStated, SameRecords, same_shape, stated_after_all, stated_at}
-use Rattle.iim_unpack.proofs.Tickets.{count_of}
+use Rattle.iim_places.proofs.Following.{alive_of}
+use Rattle.iim_places.proofs.Lasts.{sections_last}
+use Rattle.iim_places.proofs.LayersLead.{same_stated, present_ended, front_alive}
+use Rattle.iim_places.proofs.LeadsByLayers.{whole_at, subfile_at, opened_at, confirmed_at, few_heads, few_with_head, nine_ended, one_same}
+use Rattle.iim_places.proofs.PlainOpens.{fit_in_rows, possible_of}
+use Rattle.iim_places.proofs.SamePlace.{opened, fields_after, fields_in, some_read, has_begun, none_present, less_alive}
+use Rattle.iim_places.proofs.SameRecords.{IsStated, SameRecords, same_shape, stated_after_all, stated_at}
+use Rattle.iim_places.proofs.Tickets.{count_of}
 
 -- by which an unpacker is made of readers
 pub record RestoreLaws : Type 0 where

@@ -4,14 +4,14 @@ use Rattle.iim_dataset.specs.Format.Datasets.{Dataset}
 use Rattle.iim_fields.specs.Format.Faults.{kept, kept_octets, joined}
 use Rattle.iim_fields.specs.Format.Bounds.{IsWithin}
 use Rattle.iim_fields.specs.declared.limits.Limits.{Limits}
-use Rattle.iim_unpack.specs.States.Begins.{AreNumbers}
-use Rattle.iim_unpack.specs.ByLayers.{TagsLead, RecordsLive, head_of_numbers}
-use Rattle.iim_unpack.specs.States.Possible.{begun_count, begun_fields}
+use Rattle.iim_places.specs.States.Begins.{AreNumbers}
+use Rattle.iim_places.specs.States.ByLayers.{TagsLead, RecordsLive, head_of_numbers}
+use Rattle.iim_places.specs.States.Possible.{begun_count, begun_fields}
 use Rattle.iim_unpack.specs.Restoring.{HasFew, MayBegin, AreWithinWith}
-use Rattle.iim_unpack.specs.Taking.{AreKept, CanContinueWithin, numbers_told, told_datasets}
-use Rattle.iim_unpack.specs.Format.Tickets.{Phase, DataBegun}
-use Rattle.iim_unpack.proofs.AtPlaces.{fits_told, live_alive}
-use Rattle.iim_unpack.proofs.Plain.{plain_told}
+use Rattle.iim_places.specs.Taking.{AreKept, CanContinueWithin, numbers_told, told_datasets}
+use Rattle.iim_places.specs.Format.Tickets.{Phase, DataBegun}
+use Rattle.iim_places.proofs.AtPlaces.{fits_told, live_alive}
+use Rattle.iim_places.proofs.Plain.{plain_told}
 
 none_fits : (n : ℕ) → length {A = ℕ} [] ≤ n
 none_fits n = omega arith

@@ -1,180 +1,20 @@
--- How long a ticket is at most.
-use Rattle.std.proofs.Common.{◌≡◌, ℕ, ◌+◌, ◌*◌, ◌-◌, ◌<◌, ◌≤◌, nat_eq, Bool, true, false, if◌then◌else◌, List, [], ◌∷◌, ◌++◌, length, Option, Some, None, refl, ap, sym, subst, ◌∙◌, inl, inr, arith, length-append}
-use Rattle.std.specs.List.{flat_map}
-use Rattle.iim_dataset.specs.Format.Datasets.{Dataset, SpellsTag, SpellsCount, count_octets, tag_octets}
+-- How long the ticket of an unpacker is.
+use Rattle.std.proofs.Common.{◌≡◌, ℕ, ◌+◌, ◌*◌, ◌-◌, ◌<◌, ◌≤◌, nat_eq, if◌then◌else◌, List, [], length, ap, inl, inr, arith}
+use Rattle.iim_dataset.specs.Format.Datasets.{Dataset, count_octets}
 use Rattle.iim_dataset.specs.Format.Splits.{Begun, InTag, InData, Reads}
-use Rattle.iim_dataset.specs.declared.head.Head.{Head}
 use Rattle.iim_fields.specs.Format.Faults.{joined, kept, section_after}
-use Rattle.wire_message.specs.States.Saved.{saved, LeadsToSaved}
-use Rattle.wire_message.specs.States.SoFar.{IsPlace}
-use Rattle.wire_message.specs.declared.place.Place.{Place as Message}
-use Rattle.wire_message.specs.declared.place.Place.TheVariants as at
-use Rattle.wire_message.specs.declared.saved.MessagePlace.{MessagePlace}
 use Rattle.iim_unpack.specs.States.Parts.{StandsFor}
-use Rattle.iim_unpack.specs.Format.Tickets.{TagBegun, DataBegun, AllEnded, Place, phase_of, place_of, four, wide, present_version, phase_octets, field_octets, fields_octets, number_octets, text_octets, texts_octets, part_number, message_octets, ticket_name, ticket_of}
+use Rattle.iim_places.specs.Format.Tickets.{phase_of, place_of, present_version, phase_octets}
 use Rattle.iim_dataset.specs.Laws.Datasets.{EventsTellTheDatasets}
 use Rattle.iim_unpack.specs.TicketReading.{IsSpelled}
 use Rattle.iim_unpack.specs.States.Unpacking.{Unpacking, IsLed, limits_in}
 use Rattle.iim_unpack.specs.UnpackerInside.{Stood}
-use Rattle.iim_unpack.proofs.Bounds.{is_one}
+use Rattle.iim_places.proofs.Bounds.{is_one}
 use Rattle.iim_unpack.proofs.Tickets.{placed}
 use Rattle.iim_unpack.specs.declared.parts.Parts.{Parts}
-
--- ---- joined lists
-
-len3 : (a b c : List ℕ) → length (a ++ b ++ c) ≡ length a + length b + length c
-len3 a b c = length-append (a ++ b) c ∙ ap (λ n. n + length c) (length-append a b)
-
-len4 : (a b c d : List ℕ) → length (a ++ b ++ c ++ d) ≡ length a + length b + length c + length d
-len4 a b c d = length-append (a ++ b ++ c) d ∙ ap (λ n. n + length d) (len3 a b c)
-
-len7 : (a b c d e f g : List ℕ) → length (a ++ b ++ c ++ d ++ e ++ f ++ g) ≡ length a + length b + length c + length d + length e + length f + length g
-len7 a b c d e f g =
-    length-append (a ++ b ++ c ++ d ++ e ++ f) g
-    ∙ ap (λ n. n + length g) (length-append (a ++ b ++ c ++ d ++ e) f ∙ ap (λ n. n + length f) (length-append (a ++ b ++ c ++ d) e ∙ ap (λ n. n + length e) (len4 a b c d)))
-
-len8 : (a b c d e f g h : List ℕ) → length (a ++ b ++ c ++ d ++ e ++ f ++ g ++ h) ≡ length a + length b + length c + length d + length e + length f + length g + length h
-len8 a b c d e f g h = length-append (a ++ b ++ c ++ d ++ e ++ f ++ g) h ∙ ap (λ n. n + length h) (len7 a b c d e f g)
-
--- ---- fields and numbers
-
-field_length : (d : Dataset) → length (field_octets d) ≡ 6 + length d.octets
-field_length d = len3 (d.rec ∷ d.set ∷ []) (four (length d.octets)) d.octets
-
-fields_length : (ds : List Dataset) → length (flat_map field_octets ds) ≡ 6 * length ds + length (joined ds)
-fields_length [] = refl
-fields_length (d ∷ ds) =
-    let all = length-append (field_octets d) (flat_map field_octets ds) in
-    let one = field_length d in
-    let rest = fields_length ds in
-    let data_all = length-append d.octets (joined ds) in
-    by (length (flat_map field_octets (d ∷ ds))) (length (field_octets d)) (length (flat_map field_octets ds)) (length d.octets) (length (joined (d ∷ ds))) (length (joined ds)) (length ds) (length (d ∷ ds)) all one rest data_all (length-append (d ∷ []) ds)
-  where
-    by : (whole first more size both left n k : ℕ) → whole ≡ first + more → first ≡ 6 + size → more ≡ 6 * n + left → both ≡ size + left → k ≡ 1 + n → whole ≡ 6 * k + both
-    by whole first more size both left n k a b c d e = omega (arith, a, b, c, d, e)
-
-number_length : (n : Option ℕ) → length (number_octets present_version n) ≤ 9
-number_length None = omega arith
-number_length (Some n) = omega arith
-
-numbers_length : (a b c d : Option ℕ) → length (flat_map (number_octets present_version) (a ∷ b ∷ c ∷ d ∷ [])) ≤ 36
-numbers_length a b c d =
-    let p = length-append (number_octets present_version a) (number_octets present_version b ++ (number_octets present_version c ++ (number_octets present_version d ++ []))) in
-    let q = length-append (number_octets present_version b) (number_octets present_version c ++ (number_octets present_version d ++ [])) in
-    let r = length-append (number_octets present_version c) (number_octets present_version d ++ []) in
-    let s = length-append (number_octets present_version d) [] in
-    by (length (number_octets present_version a)) (length (number_octets present_version b)) (length (number_octets present_version c)) (length (number_octets present_version d)) _ _ _ _ p q r s (number_length a) (number_length b) (number_length c) (number_length d)
-  where
-    by : (a b c d w x y z : ℕ) → w ≡ a + x → x ≡ b + y → y ≡ c + z → z ≡ d + 0 → a ≤ 9 → b ≤ 9 → c ≤ 9 → d ≤ 9 → w ≤ 36
-    by a b c d w x y z p q r s h i j k = omega (arith, p, q, r, s, h, i, j, k)
-
--- ---- the message
-
-text_length : (xs : List ℕ) → length (text_octets xs) ≡ 1 + length xs
-text_length xs = length-append (length xs ∷ []) xs
-
--- how long the texts of a message are at most
-pub record AreShort (a b c d e f g : List ℕ) : Type 0 where
-  pub source : length a ≤ 8
-  pub number : length b ≤ 8
-  pub priority : length c ≤ 1
-  pub category : length d ≤ 8
-  pub words : length e ≤ 6
-  pub info : length f ≤ 64
-  pub trailer : length g ≤ 64
-
-seven : (a b c d e f g : List ℕ) → length a ≤ 8 → length b ≤ 8 → length c ≤ 1 → length d ≤ 8 → length e ≤ 6 → length f ≤ 64 → length g ≤ 64 → AreShort a b c d e f g
-seven a b c d e f g ha hb hc hd he hf hg = record { source = ha; number = hb; priority = hc; category = hd; words = he; info = hf; trailer = hg }
-
-seven_length : (a b c d e f g : List ℕ) → AreShort a b c d e f g → length (text_octets a ++ text_octets b ++ text_octets c ++ text_octets d ++ text_octets e ++ text_octets f ++ text_octets g) ≤ 166
-seven_length a b c d e f g short =
-    let all = len7 (text_octets a) (text_octets b) (text_octets c) (text_octets d) (text_octets e) (text_octets f) (text_octets g) in
-    by _ (length (text_octets a)) (length (text_octets b)) (length (text_octets c)) (length (text_octets d)) (length (text_octets e)) (length (text_octets f)) (length (text_octets g)) all
-    (less a 8 short.source) (less b 8 short.number) (less c 1 short.priority) (less d 8 short.category) (less e 6 short.words) (less f 64 short.info) (less g 64 short.trailer)
-  where
-    less : (xs : List ℕ) (n : ℕ) → length xs ≤ n → length (text_octets xs) ≤ 1 + n
-    less xs n h = let is = text_length xs in omega (arith, is, h)
-
-    by : (w a b c d e f g : ℕ) → w ≡ a + b + c + d + e + f + g → a ≤ 1 + 8 → b ≤ 1 + 8 → c ≤ 1 + 1 → d ≤ 1 + 8 → e ≤ 1 + 6 → f ≤ 1 + 64 → g ≤ 1 + 64 → w ≤ 166
-    by w a b c d e f g is ha hb hc hd he hf hg = omega (arith, is, ha, hb, hc, hd, he, hf, hg)
-
-none : (n : ℕ) → length {A = ℕ} [] ≤ n
-none n = omega arith
-
--- The texts of a saved place are short.
-abbrev pub AreShortIn : MessagePlace → Type 0
-AreShortIn m = AreShort m.source.items m.number.items m.priority.items m.category.items m.words.items m.info.items m.trailer.items
-
-pub texts_at : (place : Message) → IsPlace place → AreShortIn (saved place)
-texts_at (at.Filler count) h = seven [] [] [] [] [] [] [] (none 8) (none 8) (none 1) (none 8) (none 6) (none 64) (none 64)
-texts_at (at.Source s) h = seven s.items [] [] [] [] [] [] h.2 (none 8) (none 1) (none 8) (none 6) (none 64) (none 64)
-texts_at (at.Number s n) h = seven s.items n.items [] [] [] [] [] h.0.2 h.1.2 (none 1) (none 8) (none 6) (none 64) (none 64)
-texts_at (at.Priority s n) h = seven s.items n.items [] [] [] [] [] h.0.2 h.1.2 (none 1) (none 8) (none 6) (none 64) (none 64)
-texts_at (at.PriorityRead s n p) (hs, hn, hp) = seven s.items n.items p.items [] [] [] [] hs.2 hn.2 hp.2 (none 8) (none 6) (none 64) (none 64)
-texts_at (at.Category s n p c) (hs, hn, hp, hc) = seven s.items n.items p.items c.items [] [] [] hs.2 hn.2 hp.2 hc.2 (none 6) (none 64) (none 64)
-texts_at (at.Words s n p c w) (hs, hn, hp, hc, hw) = seven s.items n.items p.items c.items w.items [] [] hs.2 hn.2 hp.2 hc.2 hw.2 (none 64) (none 64)
-texts_at (at.Info h) k = seven h.source h.number h.priority h.category h.words h.info [] k.source.2 k.number.2 k.priority.2 k.category.2 k.words.2 k.info.2 (none 64)
-texts_at (at.Gap h count feed) (k, some, few, feeds) = seven h.source h.number h.priority h.category h.words h.info [] k.source.2 k.number.2 k.priority.2 k.category.2 k.words.2 k.info.2 (none 64)
-texts_at (at.Text h (Some held)) (k, more) = seven h.source h.number h.priority h.category h.words h.info [] k.source.2 k.number.2 k.priority.2 k.category.2 k.words.2 k.info.2 (none 64)
-texts_at (at.Text h None) (k, more) = seven h.source h.number h.priority h.category h.words h.info [] k.source.2 k.number.2 k.priority.2 k.category.2 k.words.2 k.info.2 (none 64)
-texts_at (at.Trailer h t) (k, more) = seven h.source h.number h.priority h.category h.words h.info t.items k.source.2 k.number.2 k.priority.2 k.category.2 k.words.2 k.info.2 more.2
-texts_at (at.AfterEnd h t count) (k, more, few) = seven h.source h.number h.priority h.category h.words h.info t.items k.source.2 k.number.2 k.priority.2 k.category.2 k.words.2 k.info.2 more.2
-
-message_length : (m : MessagePlace) → length (texts_octets m) ≤ 166 → length (message_octets m) ≤ 169
-message_length m h = let is = length-append (part_number m.part ∷ m.counter ∷ m.flag ∷ []) (texts_octets m) in omega (arith, is, h)
-
--- ---- what is begun
-
-count_length : (limit count : ℕ) (xs : List ℕ) → SpellsCount limit count xs → length xs ≤ 2 + limit
-count_length limit count [] h = absurd h
-count_length limit count (x ∷ []) h = absurd h
-count_length limit count (high ∷ low ∷ more) (inl h) = let is = ap length h.2 in omega (arith, is)
-count_length limit count (high ∷ low ∷ more) (inr h) = omega (arith, h.1, h.3)
-
-pub tag_length_in : (limit : ℕ) (h : Head) (tag : List ℕ) → SpellsTag limit h tag → length tag ≤ 5 + limit
-tag_length_in limit h tag s = let is = ap length s.parts in let most = count_length limit h.count s.count s.is_count in omega (arith, is, most)
-
-tag_length : (h : Head) (tag : List ℕ) → SpellsTag count_octets h tag → length tag ≤ tag_octets
-tag_length h tag s = tag_length_in count_octets h tag s
-
-pub held_length : (p : List ℕ) (ds : List Dataset) (held : List ℕ) → Reads count_octets p ds (InTag held) → length held ≤ 12
-held_length p ds held r =
-    let (same, h, tag, spells, (rest, some, is)) = r.is_rest in
-    let most = tag_length h tag spells in
-    let all = sym (length-append held rest) ∙ ap length is in
-    omega (arith, most, all, some)
+use Rattle.iim_places.proofs.TicketLengths.{held_length, data_length, tag_begun_length, some_taken, none_taken, rest_length, texts_short, numbers_length}
 
 -- ---- a ticket
-
--- all but what is begun and the kept datasets
-rest_length : (p : Place) → length (flat_map (number_octets present_version) p.numbers) ≤ 36 → length (texts_octets p.message) ≤ 166
-    → length (ticket_of p) ≤ 227 + length (phase_octets present_version p.phase) + (6 * length p.fields + length (joined p.fields))
-rest_length p few texts =
-    let all = len8 (ticket_name present_version) (p.section ∷ []) (phase_octets present_version p.phase) (fields_octets p.fields) (flat_map (number_octets present_version) p.numbers) (wide present_version p.taken) (four p.heads) (message_octets p.message) in
-    let message = message_length p.message texts in
-    let fields = length-append (four (length p.fields)) (flat_map field_octets p.fields) in
-    let each = fields_length p.fields in
-    by _ (length (phase_octets present_version p.phase)) (length (fields_octets p.fields)) (length (flat_map (number_octets present_version) p.numbers)) (length (message_octets p.message)) _ _ all few message fields each
-  where
-    by : (w phase fields numbers message each kept : ℕ) → w ≡ 5 + 1 + phase + fields + numbers + 8 + 4 + message → numbers ≤ 36 → message ≤ 169 → fields ≡ 4 + each → each ≡ kept → w ≤ 227 + phase + kept
-    by w phase fields numbers message each kept a b c d e = omega (arith, a, b, c, d, e)
-
-data_length : (set count left : ℕ) (taken : List ℕ) → length (phase_octets present_version (DataBegun set count left taken)) ≡ 18 + length taken
-data_length set count left taken =
-    let both = length-append (wide present_version left) taken in
-    let all = length-append (wide present_version count) (wide present_version left ++ taken) in
-    omega (arith, both, all)
-
-tag_begun_length : (b : Bool) (held : List ℕ) → length held ≤ 12 → length (phase_octets present_version (if b then AllEnded else TagBegun held)) ≤ 14
-tag_begun_length true held h = omega arith
-tag_begun_length false held h = let is = length-append (0 ∷ length held ∷ []) held in omega (arith, is, h)
-
-some_taken : (b : Bool) (taken : List ℕ) → length (if b then [] else taken) ≤ length taken
-some_taken true taken = omega arith
-some_taken false taken = omega arith
-
-none_taken : (rec : ℕ) (taken : List ℕ) → rec ≡ 8 → length (if nat_eq rec 8 then [] else taken) ≡ 0
-none_taken rec taken is = ap (λ (r : ℕ). length (if nat_eq r 8 then [] else taken)) is
 
 -- with the kept datasets, what is begun is within the limits and some octets
 begun_length : (parts : Parts) (p : List ℕ) (ds : List Dataset) (b : Begun) → Reads count_octets p ds b → StandsFor parts ds b
@@ -207,13 +47,6 @@ begun_length parts p ds (InData h taken) reads stands =
 
     in_other : (phase some n data_all octets fields : ℕ) → phase ≡ 18 + some → some ≤ 8 → data_all ≤ octets → n ≤ fields → phase + (6 * n + data_all) ≤ 26 + (octets + 6 * fields)
     in_other phase some n data_all octets fields a b c d = omega (arith, a, b, c, d)
-
-pub texts_led : (octets text : List ℕ) (m : MessagePlace) → LeadsToSaved octets text m → AreShortIn m
-texts_led octets text m (place, leads, is) = subst AreShortIn is (texts_at place leads.is_place)
-
-texts_short : (octets text : List ℕ) (m : MessagePlace) → LeadsToSaved octets text m → length (texts_octets m) ≤ 166
-texts_short octets text m leads =
-    seven_length m.source.items m.number.items m.priority.items m.category.items m.words.items m.info.items m.trailer.items (texts_led octets text m leads)
 
 short_led : EventsTellTheDatasets → (u : Unpacking) (p ticket : List ℕ) → IsSpelled u.reader.place u.parts ticket → IsLed u p → length ticket ≤ (limits_in u).octets + 6 * (limits_in u).fields + 256
 short_led tell u p ticket s led =

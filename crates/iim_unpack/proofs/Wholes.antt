@@ -18,18 +18,18 @@ use Rattle.iim_object.specs.States.Reading as objects
 use Rattle.iim_object.specs.Format.Numbers.{place_after_datasets, place_ended}
 use Rattle.wire_message.specs.Format.Layers.{text_so_far}
 use Rattle.wire_message.specs.States.Reading as wire
-use Rattle.iim_unpack.specs.Format.Admitted.{object_of}
-use Rattle.iim_unpack.specs.Format.Tokens.{place_at}
+use Rattle.iim_places.specs.Format.Admitted.{object_of}
+use Rattle.iim_places.specs.Format.Tokens.{place_at}
 use Rattle.iim_unpack.specs.States.Parts.{AreAfter, has_ended}
 use Rattle.iim_unpack.specs.PartSteps.{TakesHead, TellsWhole}
 use Rattle.iim_unpack.specs.Routing.{HasEnded}
-use Rattle.iim_unpack.specs.LowerLaws.{CloseLaws}
+use Rattle.iim_places.specs.Laws.Lower.{CloseLaws}
 use Rattle.iim_unpack.specs.declared.parts.Parts.{Parts}
-use Rattle.iim_unpack.proofs.Objects.{records_alive}
-use Rattle.iim_unpack.proofs.Places.{silent_leads}
+use Rattle.iim_places.proofs.Objects.{records_alive}
+use Rattle.iim_places.proofs.Places.{silent_leads}
 use Rattle.iim_unpack.proofs.Carrying.{after_all}
-use Rattle.iim_unpack.proofs.Closing.{object_of_more, few_more}
-use Rattle.iim_unpack.proofs.Lasts.{present_last}
+use Rattle.iim_places.proofs.ObjectOctets.{object_of_more, few_more}
+use Rattle.iim_places.proofs.Lasts.{present_last}
 
 -- ---- the kept records
 

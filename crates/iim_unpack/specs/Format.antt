@@ -1,13 +1,2 @@
-pub mod Admitted
-pub mod Framed
-pub mod Refusals
-pub mod Conditions
-pub mod Names
-pub mod Tokens
-pub mod Listing
-pub mod Streams
 pub mod Value
-pub mod Open
-pub mod Tickets
-pub mod TicketForm
 pub mod Pieces

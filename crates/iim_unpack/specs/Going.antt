@@ -12,7 +12,7 @@ use Rattle.iim_unpack.specs.PartSteps.{TellsParts, TellsWhole, PartsRefuse, Clos
 use Rattle.iim_unpack.specs.Routing.{Takes, HasEnded}
 use Rattle.iim_unpack.specs.Sequence.{AreInOrder}
 use Rattle.iim_unpack.specs.declared.parts.Parts.{Parts}
-use Rattle.iim_unpack.specs.declared.parts.fault.TokenFault.{TokenFault}
+use Rattle.iim_places.specs.declared.fault.TokenFault.{TokenFault}
 
 delivered-append : (x y : List ℕ) → story.delivered (x ++ y) ≡ story.delivered x ++ story.delivered y
 delivered-append x y = flat_map-append story.events_of x y

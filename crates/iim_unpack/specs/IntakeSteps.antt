@@ -4,7 +4,8 @@ use Rattle.iim_dataset.specs.States.Devices.{Device}
 use Rattle.iim_dataset.specs.declared.device.IoFault.{IoFault}
 use Rattle.iim_dataset.specs.declared.device.IoFault.TheVariants as io
 use Rattle.wire_story.specs.Format.Delivery as story
-use Rattle.iim_unpack.specs.States.Unpacking.{Unpacking, limits_in, raised}
+use Rattle.iim_unpack.specs.States.Unpacking.{Unpacking, limits_in}
+use Rattle.iim_places.specs.States.Counts.{raised}
 use Rattle.iim_unpack.specs.declared.intake.IntakeFault.{IntakeFault}
 use Rattle.iim_unpack.specs.declared.intake.IntakeFault.TheVariants.{Read, Interrupted}
 use Rattle.iim_unpack.specs.States.Intakes.{Came, StandsOn, WasDone, WasEnded}

@@ -1,6 +1,2 @@
-pub mod Conditions
-pub mod Listing
-pub mod Streams
 pub mod Places
-pub mod Admitted
 pub mod Tickets

@@ -14,15 +14,7 @@ pub mod Sequence
 pub mod PartSteps
 pub mod Going
 pub mod Routing
-pub mod LowerLaws
 pub mod TicketReading
-pub mod Shortfalls
-pub mod TicketFields
-pub mod FieldLaws
-pub mod TicketParts
-pub mod Plain
-pub mod ByLayers
-pub mod Taking
 pub mod Restoring
 pub mod Nowhere
 pub mod PiecesSoFar

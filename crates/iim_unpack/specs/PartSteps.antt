@@ -5,7 +5,7 @@ use Rattle.iim_dataset.specs.declared.head.Head.{Head}
 use Rattle.iim_fields.specs.States.Standing as records
 use Rattle.wire_story.specs.Format.Delivery as story
 use Rattle.iim_unpack.specs.Sequence.{AreInOrder}
-use Rattle.iim_unpack.specs.declared.parts.fault.TokenFault.{TokenFault}
+use Rattle.iim_places.specs.declared.fault.TokenFault.{TokenFault}
 use Rattle.iim_unpack.specs.declared.parts.Parts.{Parts}
 use Rattle.iim_unpack.specs.States.Parts.{AreLed, has_ended, CountsFor, Refused}
 

@@ -3,7 +3,7 @@ use Rattle.std.specs.Prelude.{◌≡◌, ℕ, ◌≤◌, ◌⊎◌, List, [], le
 use Rattle.iim_fields.specs.declared.limits.Limits.{Limits}
 use Rattle.wire_story.specs.Format.Delivery as story
 use Rattle.iim_unpack.specs.States.Unpacking.{Unpacking, Stands, IsDoneWith, limits_in}
-use Rattle.iim_unpack.specs.Format.Open.{Delivers}
+use Rattle.iim_places.specs.Format.Open.{Delivers}
 
 -- ---- between two pieces
 

@@ -16,19 +16,21 @@ use Rattle.iim_object.specs.declared.reading.state.State.{State}
 use Rattle.wire_message.specs.States.Reading as wire
 use Rattle.wire_message.specs.States.Saved.{LeadsToSaved}
 use Rattle.wire_message.specs.declared.place.Place.{Place as Message}
-use Rattle.iim_unpack.specs.ByLayers.{LeadsByLayers, head_of_numbers, record_datasets, begun_of_object, object_after}
-use Rattle.iim_unpack.specs.Plain.{Numbers}
-use Rattle.iim_unpack.specs.States.Possible.{IsSmallPlace, AreHeadsWithin, begun_count, begun_fields}
-use Rattle.iim_unpack.specs.Laws.Tickets.{split_of}
-use Rattle.iim_unpack.specs.Taking.{tag_place}
-use Rattle.iim_unpack.specs.Format.TicketForm.{Split}
-use Rattle.iim_unpack.specs.Format.Tickets.{Place, Phase, TagBegun, DataBegun, AllEnded}
-use Rattle.iim_unpack.specs.States.Unpacking.{Unpacking, limits_in, are_some}
+use Rattle.iim_places.specs.States.ByLayers.{LeadsByLayers, head_of_numbers, record_datasets, begun_of_object, object_after}
+use Rattle.iim_places.specs.Plain.{Numbers}
+use Rattle.iim_places.specs.States.Possible.{IsSmallPlace, AreHeadsWithin, begun_count, begun_fields}
+use Rattle.iim_places.specs.Laws.Tickets.{split_of}
+use Rattle.iim_places.specs.Taking.{tag_place}
+use Rattle.iim_places.specs.Format.TicketForm.{Split}
+use Rattle.iim_places.specs.Format.Tickets.{Place, Phase, TagBegun, DataBegun, AllEnded}
+use Rattle.iim_unpack.specs.States.Unpacking.{Unpacking, limits_in}
+use Rattle.iim_places.specs.States.Counts.{are_some}
 use Rattle.iim_unpack.specs.UnpackerInside.{IsUnpacking}
 use Rattle.iim_unpack.specs.declared.ticket.possible.Readers.{Readers}
-use Rattle.iim_unpack.specs.declared.ticket.fault.TicketFault.{TicketFault}
-use Rattle.iim_unpack.specs.declared.ticket.fault.TicketFault.TheVariants.{HeaderFull, TooManyFields}
-use Rattle.iim_unpack.specs.States.Restored.{IsTicketAt, IsRestored, octets_told, fields_told}
+use Rattle.iim_places.specs.declared.ticket.fault.TicketFault.{TicketFault}
+use Rattle.iim_places.specs.declared.ticket.fault.TicketFault.TheVariants.{HeaderFull, TooManyFields}
+use Rattle.iim_places.specs.States.Restored.{IsTicketAt, octets_told, fields_told}
+use Rattle.iim_unpack.specs.States.Restored.{IsRestored}
 
 -- which limit `octets` octets and `fields` datasets pass
 abbrev pub IsLimitFault : Limits → (octets fields : ℕ) → TicketFault → Type 0

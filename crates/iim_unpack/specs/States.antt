@@ -1,10 +1,6 @@
-pub mod Possible
-pub mod Scales
-pub mod TicketsTold
 pub mod Restored
 pub mod Blocks
 pub mod Parts
 pub mod Intakes
 pub mod Unpacking
 pub mod Held
-pub mod Begins

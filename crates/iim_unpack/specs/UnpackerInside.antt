@@ -1,8 +1,8 @@
 -- How the faults of the layers are told.
 use Rattle.iim_dataset.specs.declared.head.HeadCause.{HeadCause}
 use Rattle.iim_dataset.specs.declared.head.HeadCause.TheVariants as heads
-use Rattle.iim_unpack.specs.declared.refusal.Cause.{Cause}
-use Rattle.iim_unpack.specs.declared.refusal.Cause.TheVariants as causes
+use Rattle.iim_places.specs.declared.refusal.Cause.{Cause}
+use Rattle.iim_places.specs.declared.refusal.Cause.TheVariants as causes
 use Rattle.std.specs.Prelude.{◌≡◌, ℕ, ◌≤◌, ◌⊎◌, true, false, List, ◌++◌, length, take, slice_index, Option, Some, None, Bool}
 use Rattle.iim_dataset.specs.Format.Datasets.{count_octets}
 use Rattle.iim_dataset.specs.States.Events.{DatasetEvent}
@@ -14,9 +14,10 @@ use Rattle.iim_unpack.specs.States.Parts.{has_ended}
 use Rattle.iim_unpack.specs.PartSteps.{TellsParts, PartsRefuse}
 use Rattle.iim_unpack.specs.Routing.{Takes, HasEnded}
 use Rattle.iim_unpack.specs.declared.parts.Parts.{Parts}
-use Rattle.iim_unpack.specs.declared.parts.fault.TokenFault.{TokenFault}
-use Rattle.iim_unpack.specs.declared.refusal.Layer.TheVariants as layers
-use Rattle.iim_unpack.specs.States.Unpacking.{Unpacking, are_some, Stands, IsDoneWith}
+use Rattle.iim_places.specs.declared.fault.TokenFault.{TokenFault}
+use Rattle.iim_places.specs.declared.refusal.Layer.TheVariants as layers
+use Rattle.iim_unpack.specs.States.Unpacking.{Unpacking, Stands, IsDoneWith}
+use Rattle.iim_places.specs.States.Counts.{are_some}
 
 -- a fault of a tag
 abbrev pub cause_of_tag : HeadCause → Cause

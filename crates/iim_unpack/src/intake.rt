@@ -6,17 +6,18 @@ ghost use Rattle.iim_dataset.specs.States.Devices.{HasGiven, MissedAfter};
 ghost use Rattle.iim_unpack.specs.States.Blocks.{with_held};
 ghost use Rattle.iim_unpack.specs.States.Intakes.{in_line, IsReady, IsOfReader, Faults, FedEnvelope, FedPiece, Gives};
 ghost use Rattle.iim_unpack.specs.IntakeSteps.{FedAs, read_fault};
-ghost use Rattle.iim_unpack.specs.States.Unpacking.{failed_at, raised};
+ghost use Rattle.iim_unpack.specs.States.Unpacking.{failed_at};
+ghost use Rattle.iim_places.specs.States.Counts.{raised};
 ghost use Rattle.iim_unpack.specs.declared.intake.IntakeFault.TheVariants.{Refused as RefusedFault};
 
 pub(crate) mod block;
 
 use crate::intake::block::Block;
-use crate::laws::open_octets_are_bounded;
-use crate::refusal::Refusal;
 use crate::unpacker::{Progress, Unpacked, Unpacker, failed_at, raised};
 use iim_dataset::device_laws::gifts_join;
 use iim_dataset::{IoFault, Source};
+use iim_places::Refusal;
+use iim_places::laws::open_octets_are_bounded;
 use thiserror::Error;
 use wire_story::StorySink;
 use wire_story::laws::delivery_may_be_cut;

@@ -8,22 +8,21 @@ ghost use Rattle.iim_dataset.specs.Format.Octets.{number};
 ghost use Rattle.iim_object.specs.Format.Plans.{max_subfiles};
 ghost use Rattle.iim_object.specs.States.Reading.{EndsAs, LeadsOn, events_at};
 ghost use Rattle.wire_message.specs.States.Reading.{IsWhole};
-ghost use Rattle.iim_unpack.specs.Format.Refusals.{IsObjectFault, message_on, too_many_on};
+ghost use Rattle.iim_places.specs.Format.Refusals.{IsObjectFault, message_on, too_many_on};
 ghost use Rattle.iim_unpack.specs.Passed.{TellsMessage, HasFewSubfiles, RefusesSubfile};
 ghost use Rattle.iim_unpack.specs.PartSteps.{TakesHead, TakesData, TellsParts, TellsWhole, PartsRefuse, Closed, NotClosed};
 ghost use Rattle.iim_unpack.specs.States.Parts.{has_ended};
 ghost use Rattle.iim_unpack.specs.Routing.{HasEnded, TookWhole};
 
-pub(crate) mod fault;
 pub(crate) mod message;
 pub(crate) mod router;
 
 use crate::laws::{close_laws, head_laws, message_laws};
-use crate::parts::fault::{TokenFault, message_on, of_field, size_on, too_many_on};
 use crate::parts::message::{pass_head, pass_octets};
 use iim_dataset::{Head, Step};
 use iim_fields::Fields;
 use iim_object::{MAX_SUBFILES, ObjectFault, ObjectReader};
+use iim_places::{TokenFault, message_on, of_field, size_on, too_many_on};
 use iim_tables::number_of;
 use iim_tables::records::{OBJECT, POST_OBJECT, PRE_OBJECT};
 use wire_message::{MessageFault, MessageReader};

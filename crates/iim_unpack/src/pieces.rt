@@ -4,16 +4,16 @@ ghost use Rattle.std.specs.Prelude.{◌≡◌, ◌≢◌, [], IfOk, IfErr, OnOk}
 ghost use Rattle.iim_unpack.specs.States.Parts.{CountsFor};
 ghost use Rattle.iim_unpack.specs.PiecesSoFar.{HasFedPieces};
 ghost use Rattle.iim_unpack.specs.Format.Pieces.{IsAnswer, IsTurnedDown, IsUnpacked, stream_of};
-ghost use Rattle.iim_unpack.specs.Format.Streams.{Answer, Answers};
+ghost use Rattle.iim_places.specs.Format.Streams.{Answer, Answers};
 ghost use Rattle.iim_unpack.specs.States.Unpacking.{Stands, limits_in};
-ghost use Rattle.iim_unpack.specs.declared.refusal.Cause.TheVariants.{Sink};
+ghost use Rattle.iim_places.specs.declared.refusal.Cause.TheVariants.{Sink};
 
-use crate::laws::{
+use crate::unpacker::{Unpacked, Unpacker};
+use iim_places::Refusal;
+use iim_places::laws::{
     envelopes_are_bounded, feed_laws, open_octets_are_bounded, refused_octets_were_open,
     streams_have_one_answer,
 };
-use crate::refusal::Refusal;
-use crate::unpacker::{Unpacked, Unpacker};
 use wire_message::laws::texts_stand_between_stx_and_etx;
 use wire_story::StorySink;
 use wire_story::laws::{delivery_may_be_cut, texts_are_delivered_as_lines};

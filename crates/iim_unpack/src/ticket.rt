@@ -1,12 +1,8 @@
 //! Tickets: the place of an unpacker as octets, and the unpacker made again from them.
 
-pub(crate) mod fault;
-pub(crate) mod fields;
-pub(crate) mod front;
 pub(crate) mod object;
 pub(crate) mod possible;
 pub(crate) mod readers;
 pub(crate) mod restore;
 pub(crate) mod spelling;
-pub(crate) mod split;
 pub(crate) mod taker;

@@ -5,7 +5,7 @@ use Rattle.std.specs.Str.Parse.{digits_value}
 use Rattle.iim_fields.specs.Format.Ids.{Identity, id_eq}
 use Rattle.iim_fields.specs.Format.Views.{first_data}
 use Rattle.wire_story.specs.Format.Words.{words, capped}
-use Rattle.iim_unpack.specs.Format.Admitted.{Value}
+use Rattle.iim_places.specs.Format.Admitted.{Value}
 use Rattle.iim_audit.specs.Format.Ages.{age_at}
 use Rattle.iim_audit.specs.Format.Copies.{copy_at}
 use Rattle.iim_audit.specs.declared.row.AuditRow.{AuditRow}

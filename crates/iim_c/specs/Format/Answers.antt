@@ -1,11 +1,11 @@
 -- What a call answers.
 use Rattle.std.specs.Prelude.{ℕ}
-use Rattle.iim_unpack.specs.Format.Names.{cause_number}
-use Rattle.iim_unpack.specs.declared.refusal.Refusal.{Refusal}
-use Rattle.iim_unpack.specs.declared.refusal.Layer.{Layer}
-use Rattle.iim_unpack.specs.declared.refusal.Layer.TheVariants.{Dataset, Record, Limits, Object, Message, Story, Outside}
-use Rattle.iim_unpack.specs.declared.ticket.fault.TicketFault.{TicketFault}
-use Rattle.iim_unpack.specs.declared.ticket.fault.TicketFault.TheVariants.{Form, Version, Impossible, HeaderFull, TooManyFields, OutOfMemory}
+use Rattle.iim_places.specs.Format.Names.{cause_number}
+use Rattle.iim_places.specs.declared.refusal.Refusal.{Refusal}
+use Rattle.iim_places.specs.declared.refusal.Layer.{Layer}
+use Rattle.iim_places.specs.declared.refusal.Layer.TheVariants.{Dataset, Record, Limits, Object, Message, Story, Outside}
+use Rattle.iim_places.specs.declared.ticket.fault.TicketFault.{TicketFault}
+use Rattle.iim_places.specs.declared.ticket.fault.TicketFault.TheVariants.{Form, Version, Impossible, HeaderFull, TooManyFields, OutOfMemory}
 use Rattle.iim_c.specs.declared.answer.IimAnswer.{IimAnswer}
 use Rattle.iim_c.specs.Format.Statuses as status
 

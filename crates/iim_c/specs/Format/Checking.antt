@@ -2,7 +2,7 @@
 use Rattle.std.specs.Prelude.{◌≡◌, ℕ, ◌==◌, ◌⊎◌, if◌then◌else◌, List}
 use Rattle.iim_fields.specs.Format.WireLimits.{wire_limits}
 use Rattle.iim_fields.specs.declared.limits.Limits.{Limits}
-use Rattle.iim_unpack.specs.Format.Streams.{Answer, Finished, Refused, Truncated, Answers}
+use Rattle.iim_places.specs.Format.Streams.{Answer, Finished, Refused, Truncated, Answers}
 use Rattle.iim_c.specs.declared.answer.IimAnswer.{IimAnswer}
 use Rattle.iim_c.specs.declared.limits.IimLimits.{IimLimits}
 use Rattle.iim_c.specs.Format.Answers.{status_answer, refusal_answer}

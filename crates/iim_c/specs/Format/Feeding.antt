@@ -2,15 +2,16 @@
 use Rattle.std.specs.Prelude.{◌≡◌, ◌≢◌, ℕ, ◌<◌, ◌≤◌, ◌⊎◌, List, [], ◌∷◌, ◌++◌, length, take, map}
 use Rattle.iim_fields.specs.declared.limits.Limits.{Limits}
 use Rattle.wire_story.specs.Format.Delivery.{StoryEvent, octet_for}
-use Rattle.iim_unpack.specs.Format.Admitted.{Value}
-use Rattle.iim_unpack.specs.Format.Open.{IsOpen, Delivers, IsTruncatedAt}
-use Rattle.iim_unpack.specs.States.Restored.{IsTicketAt, IsRestoreFault}
-use Rattle.iim_unpack.specs.Format.Streams.{IsEnvelopeWithin}
-use Rattle.iim_unpack.specs.Format.Tickets.{Place, IsPlaceOf, IsTicketOf}
-use Rattle.iim_unpack.specs.States.Unpacking.{IsRefusedIn, raised}
-use Rattle.iim_unpack.specs.declared.refusal.Refusal.{Refusal}
-use Rattle.iim_unpack.specs.declared.refusal.Cause.TheVariants.{Sink}
-use Rattle.iim_unpack.specs.declared.ticket.fault.TicketFault.{TicketFault}
+use Rattle.iim_places.specs.Format.Admitted.{Value}
+use Rattle.iim_places.specs.Format.Open.{IsOpen, Delivers, IsTruncatedAt}
+use Rattle.iim_places.specs.States.Restored.{IsTicketAt, IsRestoreFault}
+use Rattle.iim_places.specs.Format.Streams.{IsEnvelopeWithin}
+use Rattle.iim_places.specs.Format.Tickets.{Place, IsPlaceOf, IsTicketOf}
+use Rattle.iim_unpack.specs.States.Unpacking.{IsRefusedIn}
+use Rattle.iim_places.specs.States.Counts.{raised}
+use Rattle.iim_places.specs.declared.refusal.Refusal.{Refusal}
+use Rattle.iim_places.specs.declared.refusal.Cause.TheVariants.{Sink}
+use Rattle.iim_places.specs.declared.ticket.fault.TicketFault.{TicketFault}
 use Rattle.iim_c.specs.declared.answer.IimAnswer.{IimAnswer}
 use Rattle.iim_c.specs.Format.Answers.{status_answer, refusal_answer, ticket_answer}
 use Rattle.iim_c.specs.Format.Statuses as status

@@ -2,17 +2,17 @@
 use Rattle.std.specs.Prelude.{◌≡◌, ℕ, ◌+◌, ◌<◌, ◌≤◌, ◌==◌, ◌&&◌, ◌⊎◌, Bool, List, [], ◌∷◌, ◌++◌, length, drop, codes, Option, Some, None}
 use Rattle.std.specs.List.{find}
 use Rattle.std.specs.Option.{option_map}
-use Rattle.iim_unpack.specs.Format.Names.{cause_name, cause_number, layer_name}
-use Rattle.iim_unpack.specs.declared.refusal.Cause.TheVariants as causes
-use Rattle.iim_unpack.specs.declared.refusal.Cause.{Cause}
-use Rattle.iim_unpack.specs.declared.refusal.Layer.TheVariants as layers
-use Rattle.iim_unpack.specs.declared.refusal.Layer.{Layer}
+use Rattle.iim_places.specs.Format.Names.{cause_name, cause_number, layer_name}
+use Rattle.iim_places.specs.declared.refusal.Cause.TheVariants as causes
+use Rattle.iim_places.specs.declared.refusal.Cause.{Cause}
+use Rattle.iim_places.specs.declared.refusal.Layer.TheVariants as layers
+use Rattle.iim_places.specs.declared.refusal.Layer.{Layer}
 use Rattle.iim_script.specs.Format.Causes as script_words
 use Rattle.iim_script.specs.declared.fault.ScriptCause.{ScriptCause}
 use Rattle.iim_script.specs.declared.fault.ScriptCause.TheVariants as script
 use Rattle.iim_object.specs.Format.PackCauses.{pack_number}
 use Rattle.iim_object.specs.declared.writing.cause.PackCause.TheVariants as packs
-use Rattle.iim_unpack.specs.declared.ticket.fault.TicketFault.TheVariants as tickets
+use Rattle.iim_places.specs.declared.ticket.fault.TicketFault.TheVariants as tickets
 use Rattle.iim_c.specs.Format.Answers.{layer_number, ticket_number}
 
 -- ---- tables

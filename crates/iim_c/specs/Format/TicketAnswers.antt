@@ -1,8 +1,8 @@
 -- What a ticket tells, and where in it.
 use Rattle.std.specs.Prelude.{◌≡◌, ℕ, ◌+◌, ◌≤◌, ◌⊎◌, Bool, true, false, List, [], ◌∷◌, length, take, drop, Option, Some, None}
 use Rattle.iim_dataset.specs.Format.Datasets.{Dataset}
-use Rattle.iim_unpack.specs.Format.TicketForm.{Split, SplitsTicket, IsFaultOf}
-use Rattle.iim_unpack.specs.declared.ticket.fault.TicketFault.{TicketFault}
+use Rattle.iim_places.specs.Format.TicketForm.{Split, SplitsTicket, IsFaultOf}
+use Rattle.iim_places.specs.declared.ticket.fault.TicketFault.{TicketFault}
 use Rattle.iim_c.specs.declared.answer.IimAnswer.{IimAnswer}
 use Rattle.iim_c.specs.declared.field.IimDataset.{IimDataset}
 use Rattle.iim_c.specs.declared.header.IimMessage.{IimMessage}

@@ -1,7 +1,7 @@
 -- A buffer that octets are written into, as long as they have room.
 use Rattle.std.specs.Prelude.{◌≡◌, ℕ, ◌≤◌, List, ◌++◌, length, take, map}
 use Rattle.wire_story.specs.Format.Delivery.{StoryEvent, octet_for}
-use Rattle.iim_unpack.specs.States.Unpacking.{raised}
+use Rattle.iim_places.specs.States.Counts.{raised}
 use Rattle.iim_c.specs.declared.text_out.TextOut.{TextOut}
 
 -- a count of octets as it is told: it stays at the greatest number of 64 bits

@@ -1,12 +1,12 @@
 -- The lines of the commands.
 use Rattle.std.specs.Prelude.{ℕ, ◌+◌, length, List, [], ◌∷◌, ◌++◌, codes, decimal}
-use Rattle.iim_unpack.specs.Format.Names.{refusal_text}
-use Rattle.iim_unpack.specs.declared.refusal.Refusal.{Refusal}
+use Rattle.iim_places.specs.Format.Names.{refusal_text}
+use Rattle.iim_places.specs.declared.refusal.Refusal.{Refusal}
 use Rattle.iim_commands.specs.declared.fault.CommandFault.{CommandFault}
 use Rattle.iim_commands.specs.declared.fault.CommandFault.TheVariants.{CannotRead, CannotWrite, OutOfMemory}
 use Rattle.iim_commands.specs.Format.Listings.{told}
 use Rattle.iim_commands.specs.Format.Statuses.{status_accepted, status_refused}
-use Rattle.iim_unpack.specs.Format.Listing.{InputEnding, Listed, Whole, RefusedBy, TooMany}
+use Rattle.iim_places.specs.Format.Listing.{InputEnding, Listed, Whole, RefusedBy, TooMany}
 
 -- the line of an accepted envelope: its number, and how many octets it has
 abbrev pub accepted_line : ℕ → ℕ → List ℕ

@@ -3,8 +3,8 @@ use Rattle.std.specs.Prelude.{◌≡◌, ℕ, List}
 use Rattle.iim_fields.specs.Format.WireLimits.{wire_limits}
 use Rattle.iim_fields.specs.declared.limits.Limits.{Limits}
 use Rattle.wire_story.specs.Format.Delivery.{StoryEvent, delivered}
-use Rattle.iim_unpack.specs.Format.Open.{IsTextOf}
-use Rattle.iim_unpack.specs.States.Unpacking.{raised}
+use Rattle.iim_places.specs.Format.Open.{IsTextOf}
+use Rattle.iim_places.specs.States.Counts.{raised}
 
 -- what the records 1 and 2 of an envelope may have: the limits of wire copy
 abbrev pub limits : Limits

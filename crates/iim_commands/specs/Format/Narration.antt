@@ -7,13 +7,13 @@ use Rattle.iim_dataset.specs.States.Devices.{Device, Wrote, Stopped, Unfailed, H
 use Rattle.iim_dataset.specs.declared.device.IoFault.{IoFault}
 use Rattle.wire_story.specs.Format.Delivery.{StoryEvent, octet_for}
 use Rattle.wire_story.specs.States.Writing.{HasBroken}
-use Rattle.iim_unpack.specs.Format.Open.{IsOpen}
+use Rattle.iim_places.specs.Format.Open.{IsOpen}
 use Rattle.iim_commands.specs.declared.fault.CommandFault.{CommandFault}
 use Rattle.iim_commands.specs.declared.fault.CommandFault.TheVariants.{CannotRead, CannotWrite, OutOfMemory}
 use Rattle.iim_commands.specs.States.Devices.{HasOctets}
 use Rattle.iim_commands.specs.Format.Lines.{line_of, listing, status_of, texts_from}
 use Rattle.iim_commands.specs.Format.Listings.{limits, IsDelivered}
-use Rattle.iim_unpack.specs.Format.Listing.{Divides, InputEnding, Whole, RefusedBy, TooMany, EndsBy, Listed, IsListed, IsListing, IsRefusedAfter}
+use Rattle.iim_places.specs.Format.Listing.{Divides, InputEnding, Whole, RefusedBy, TooMany, EndsBy, Listed, IsListed, IsListing, IsRefusedAfter}
 
 -- the text of an envelope: its lines, joined by LF
 abbrev pub text_of : Listed → List ℕ

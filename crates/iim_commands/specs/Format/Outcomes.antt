@@ -6,7 +6,7 @@ use Rattle.iim_commands.specs.declared.request.Job.TheVariants.{Check, Show, Sto
 use Rattle.iim_commands.specs.declared.fault.CommandFault.{CommandFault}
 use Rattle.iim_commands.specs.Format.Audits.{Audited, IsUnaudited}
 use Rattle.iim_commands.specs.States.Devices.{Devices}
-use Rattle.iim_unpack.specs.Format.Listing.{Listed}
+use Rattle.iim_places.specs.Format.Listing.{Listed}
 use Rattle.iim_commands.specs.Format.Lines.{fault_line, line_of}
 use Rattle.iim_commands.specs.Format.Narration.{IsUnnarrated, Narrated}
 use Rattle.iim_commands.specs.Format.Packing.{Answered, Asked, IsUnanswered, asked}

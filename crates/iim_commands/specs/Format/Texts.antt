@@ -2,10 +2,10 @@
 use Rattle.std.specs.Prelude.{ℕ, List, ◌++◌, codes, decimal, Bool, true, false}
 use Rattle.std.specs.List.{flat_map}
 use Rattle.iim_object.specs.declared.size.Sizes.{Sizes}
-use Rattle.iim_unpack.specs.Format.Admitted.{Value}
+use Rattle.iim_places.specs.Format.Admitted.{Value}
 use Rattle.iim_script.specs.Format.Printed.{field_line, message_line, trailer_line}
 use Rattle.iim_dataset.specs.Format.Shown.{number_or_dash}
-use Rattle.iim_unpack.specs.Format.Listing.{Listed}
+use Rattle.iim_places.specs.Format.Listing.{Listed}
 
 -- the first line
 abbrev pub number_line : ℕ → List ℕ

@@ -2,12 +2,12 @@
 use Rattle.std.specs.Prelude.{◌≡◌, ℕ, ◌⊎◌, List, length}
 use Rattle.iim_dataset.specs.States.Devices.{Device, Wrote, Stopped, Unfailed, HasGiven, MissedAfter}
 use Rattle.iim_dataset.specs.declared.device.IoFault.{IoFault}
-use Rattle.iim_unpack.specs.Format.Open.{IsOpen}
+use Rattle.iim_places.specs.Format.Open.{IsOpen}
 use Rattle.iim_commands.specs.declared.fault.CommandFault.{CommandFault}
 use Rattle.iim_commands.specs.declared.fault.CommandFault.TheVariants.{CannotRead, CannotWrite, OutOfMemory}
 use Rattle.iim_commands.specs.States.Devices.{HasOctets}
 use Rattle.iim_commands.specs.Format.Listings.{limits}
-use Rattle.iim_unpack.specs.Format.Listing.{Divides, InputEnding, EndsBy, Listed, IsListing}
+use Rattle.iim_places.specs.Format.Listing.{Divides, InputEnding, EndsBy, Listed, IsListing}
 use Rattle.iim_commands.specs.Format.Lines.{listing, status_of, texts_from}
 use Rattle.iim_commands.specs.Format.Statuses.{status_failed}
 

@@ -1,7 +1,7 @@
 -- What `story` leaves: the text of each envelope on the output, and the lines of `check` on the errors.
 use Rattle.std.specs.Prelude.{◌≡◌, ℕ, List}
 use Rattle.wire_story.specs.Format.Delivery.{StoryEvent, events_of_lines}
-use Rattle.iim_unpack.specs.Format.Admitted.{Value, Admits}
+use Rattle.iim_places.specs.Format.Admitted.{Value, Admits}
 use Rattle.iim_commands.specs.Format.Listings.{IsDelivered}
 
 -- ---- a law

@@ -4,9 +4,9 @@ use Rattle.iim_script.specs.Format.Faults.{IsScriptFault}
 use Rattle.iim_script.specs.Format.Scripts.{max_script}
 use Rattle.iim_script.specs.declared.fault.ScriptCause.{ScriptCause}
 use Rattle.iim_script.specs.declared.fault.ScriptCause.TheVariants.{OutOfMemory}
-use Rattle.iim_unpack.specs.Format.Admitted.{Value}
+use Rattle.iim_places.specs.Format.Admitted.{Value}
 use Rattle.iim_commands.specs.Format.Listings.{limits}
-use Rattle.iim_unpack.specs.Format.Listing.{Listed, IsListed}
+use Rattle.iim_places.specs.Format.Listing.{Listed, IsListed}
 use Rattle.iim_commands.specs.Format.Narration.{story_of}
 use Rattle.iim_commands.specs.Format.Packing.{ScriptContent, IsScriptOf}
 use Rattle.iim_commands.specs.Format.Texts.{number_line, sizes_line, shown_of}

@@ -6,11 +6,11 @@ use Rattle.iim_dataset.specs.Format.Counts.{Rose}
 use Rattle.iim_dataset.specs.declared.device.IoFault.{IoFault}
 use Rattle.wire_story.specs.Format.Delivery.{StoryEvent}
 use Rattle.iim_unpack.specs.States.Intakes.{Came}
-use Rattle.iim_unpack.specs.Format.Open.{IsOpen}
+use Rattle.iim_places.specs.Format.Open.{IsOpen}
 use Rattle.iim_unpack.specs.States.Unpacking.{Unpacking, IsDoneWith, limits_in}
-use Rattle.iim_unpack.specs.declared.refusal.Refusal.{Refusal}
+use Rattle.iim_places.specs.declared.refusal.Refusal.{Refusal}
 use Rattle.iim_commands.specs.Format.Listings.{limits, told, IsDelivered}
-use Rattle.iim_unpack.specs.Format.Listing.{Listed, IsListed, IsRefusedAfter}
+use Rattle.iim_places.specs.Format.Listing.{Listed, IsListed, IsRefusedAfter}
 use Rattle.iim_commands.specs.declared.fault.CommandFault.{CommandFault}
 use Rattle.iim_commands.specs.declared.fault.CommandFault.TheVariants.{CannotRead, CannotWrite, OutOfMemory}
 use Rattle.iim_commands.specs.declared.coming.Next.{Next}

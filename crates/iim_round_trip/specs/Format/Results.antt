@@ -4,9 +4,9 @@ use Rattle.iim_dataset.specs.Format.Counts.{Rose}
 use Rattle.iim_fields.specs.declared.limits.Limits.{Limits}
 use Rattle.wire_story.specs.Format.Delivery as story
 use Rattle.iim_unpack.specs.Format.Pieces as pieces
-use Rattle.iim_unpack.specs.Format.Streams.{Answer}
-use Rattle.iim_unpack.specs.declared.refusal.Cause.{Cause}
-use Rattle.iim_unpack.specs.declared.refusal.Cause.TheVariants.{Sink}
+use Rattle.iim_places.specs.Format.Streams.{Answer}
+use Rattle.iim_places.specs.declared.refusal.Cause.{Cause}
+use Rattle.iim_places.specs.declared.refusal.Cause.TheVariants.{Sink}
 use Rattle.iim_unpack.specs.declared.unpacker.Unpacked.{Unpacked}
 use Rattle.iim_round_trip.specs.declared.unpacking.UnpackFault.{UnpackFault}
 use Rattle.iim_round_trip.specs.declared.unpacking.UnpackFault.TheVariants.{OutOfMemory, Refused}

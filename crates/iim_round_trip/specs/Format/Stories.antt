@@ -5,10 +5,10 @@ use Rattle.iim_fields.specs.declared.limits.Limits.{Limits}
 use Rattle.iim_object.specs.declared.plan.Plan.{Plan}
 use Rattle.wire_message.specs.Format.Messages.{Header}
 use Rattle.wire_story.specs.Format.Delivery.{StoryEvent}
-use Rattle.iim_unpack.specs.Format.Admitted.{Value}
+use Rattle.iim_places.specs.Format.Admitted.{Value}
 use Rattle.iim_unpack.specs.Format.Pieces.{IsTurnedDown}
-use Rattle.iim_unpack.specs.Format.Streams.{Answer, Finished, Truncated, IsFinished}
-use Rattle.iim_unpack.specs.Format.Streams as answers
+use Rattle.iim_places.specs.Format.Streams.{Answer, Finished, Truncated, IsFinished}
+use Rattle.iim_places.specs.Format.Streams as answers
 use Rattle.iim_unpack.specs.Format.Value.{HasParts}
 use Rattle.iim_round_trip.specs.Format.RoundTrip.{packed_value, BeginsPacked}
 use Rattle.iim_round_trip.specs.declared.unpacking.Story.{Story}

@@ -4,10 +4,10 @@ use Rattle.iim_dataset.specs.Format.Datasets.{Dataset}
 use Rattle.iim_object.specs.declared.plan.Plan.{Plan}
 use Rattle.wire_message.specs.Format.Messages.{Header}
 use Rattle.iim_pack.specs.Format.Packed.{Packed}
-use Rattle.iim_unpack.specs.Format.Admitted.{Value, Admits}
+use Rattle.iim_places.specs.Format.Admitted.{Value, Admits}
 use Rattle.iim_round_trip.specs.Format.RoundTrip.{packed_value, FieldsAreWithin, BeginsPacked}
 use Rattle.iim_fields.specs.declared.limits.Limits.{Limits}
-use Rattle.iim_unpack.specs.Format.Streams.{IsEnvelopeWithin, Answer, Answers, Finished}
+use Rattle.iim_places.specs.Format.Streams.{IsEnvelopeWithin, Answer, Answers, Finished}
 
 -- Packed octets are admitted, with the value that was packed and the sizes of the plan.
 abbrev pub PackedOctetsAreAdmitted : Type 0

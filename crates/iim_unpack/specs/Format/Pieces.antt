@@ -3,13 +3,13 @@ use Rattle.std.specs.Prelude.{◌≡◌, ℕ, ◌<◌, ◌⊎◌, List, [], leng
 use Rattle.std.specs.Borrow.{Bor}
 use Rattle.iim_fields.specs.declared.limits.Limits.{Limits}
 use Rattle.wire_story.specs.Format.Delivery as story
-use Rattle.iim_unpack.specs.Format.Admitted.{Value}
-use Rattle.iim_unpack.specs.Format.Refusals.{refusal_at}
-use Rattle.iim_unpack.specs.Format.Streams.{Answer, Finished, Refused, Truncated, IsFinished, IsTruncated}
-use Rattle.iim_unpack.specs.Format.Open.{Delivers, RefusesNext}
+use Rattle.iim_places.specs.Format.Admitted.{Value}
+use Rattle.iim_places.specs.Format.Refusals.{refusal_at}
+use Rattle.iim_places.specs.Format.Streams.{Answer, Finished, Refused, Truncated, IsFinished, IsTruncated}
+use Rattle.iim_places.specs.Format.Open.{Delivers, RefusesNext}
 use Rattle.iim_unpack.specs.Format.Value.{HasParts}
-use Rattle.iim_unpack.specs.declared.parts.fault.TokenFault.{TokenFault}
-use Rattle.iim_unpack.specs.declared.refusal.Refusal.{Refusal}
+use Rattle.iim_places.specs.declared.fault.TokenFault.{TokenFault}
+use Rattle.iim_places.specs.declared.refusal.Refusal.{Refusal}
 use Rattle.iim_unpack.specs.declared.unpacker.Unpacked.{Unpacked}
 
 -- the stream of which these are the pieces

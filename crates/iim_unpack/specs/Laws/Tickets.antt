@@ -1,46 +1,9 @@
--- The place that octets lead to, and its ticket.
-use Rattle.std.specs.Prelude.{◌≡◌, ℕ, List, [], ◌∷◌}
-use Rattle.iim_unpack.specs.Format.TicketForm.{Split, SplitsTicket, IsVersion}
-use Rattle.iim_unpack.specs.Format.Tickets.{IsTicketOf, Place, IsPlaceOf, part_number, ticket_in}
+-- Where unpackers stand is told by the place.
+use Rattle.std.specs.Prelude.{ℕ, List}
+use Rattle.iim_places.specs.Format.Tickets.{Place, IsPlaceOf}
 use Rattle.iim_unpack.specs.States.Unpacking.{Unpacking, Stands, limits_in}
-use Rattle.iim_unpack.specs.Format.Open.{IsOpen}
-use Rattle.wire_message.specs.declared.saved.MessagePlace.{MessagePlace}
-use Rattle.iim_unpack.specs.States.Scales.{IsPossibleIn}
-
--- Octets have one ticket.
-abbrev pub OctetsHaveOneTicket : Type 0
-OctetsHaveOneTicket = (octets ticket other : List ℕ) → IsTicketOf octets ticket → IsTicketOf octets other → ticket ≡ other
-
--- A ticket has one split.
-abbrev pub TicketsHaveOneSplit : Type 0
-TicketsHaveOneSplit = (ticket : List ℕ) (s t : Split) → SplitsTicket ticket s → SplitsTicket ticket t → s ≡ t
+use Rattle.iim_places.specs.Format.Open.{IsOpen}
 
 -- An unpacker stands by the place alone: on all octets that lead there and are open under its limits, if on some.
 abbrev pub UnpackersStandByPlace : Type 0
 UnpackersStandByPlace = (u : Unpacking) (p q : List ℕ) (a : ℕ) (place : Place) → IsPlaceOf p place → IsPlaceOf q place → Stands u p a → IsOpen (limits_in u) q → Stands u q a
-
--- ---- the tickets of places
-
--- source, number, priority, category, words, info and trailer so far
-abbrev pub texts_of : MessagePlace → List (List ℕ)
-texts_of m = m.source.items ∷ m.number.items ∷ m.priority.items ∷ m.category.items ∷ m.words.items ∷ m.info.items ∷ m.trailer.items ∷ []
-
--- the parts of a place's ticket in the version
-abbrev pub split_of : ℕ → Place → Split
-split_of version p = record {
-  version = version;
-  section = p.section;
-  phase = p.phase;
-  fields = p.fields;
-  numbers = p.numbers;
-  taken = p.taken;
-  heads = p.heads;
-  part = part_number p.message.part;
-  counter = p.message.counter;
-  flag = p.message.flag;
-  texts = texts_of p.message;
-}
-
--- The ticket of a place that is possible in the version has the form of a ticket, with the parts of the place.
-abbrev pub TicketsOfPlacesAreSplit : Type 0
-TicketsOfPlacesAreSplit = (version : ℕ) (place : Place) → IsVersion version → IsPossibleIn version place → SplitsTicket (ticket_in version place) (split_of version place)

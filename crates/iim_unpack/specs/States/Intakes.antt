@@ -6,21 +6,22 @@ use Rattle.iim_dataset.specs.declared.device.IoFault.{IoFault}
 use Rattle.iim_dataset.specs.declared.device.IoFault.TheVariants as io
 use Rattle.iim_fields.specs.declared.limits.Limits.{Limits}
 use Rattle.wire_story.specs.Format.Delivery as story
-use Rattle.iim_unpack.specs.Format.Admitted.{Value, Admits}
+use Rattle.iim_places.specs.Format.Admitted.{Value, Admits}
 use Rattle.iim_unpack.specs.States.Blocks.{with_held}
-use Rattle.iim_unpack.specs.Format.Framed.{AreWithin}
+use Rattle.iim_places.specs.Format.Framed.{AreWithin}
 use Rattle.iim_unpack.specs.States.Parts.{CountsFor, has_ended}
-use Rattle.iim_unpack.specs.Format.Refusals.{refusal_at}
-use Rattle.iim_unpack.specs.States.Unpacking.{Unpacking, Stands, IsDoneWith, limits_in, raised}
-use Rattle.iim_unpack.specs.Format.Open.{IsOpen, Delivers, RefusesNext, IsTruncatedAt}
+use Rattle.iim_places.specs.Format.Refusals.{refusal_at}
+use Rattle.iim_unpack.specs.States.Unpacking.{Unpacking, Stands, IsDoneWith, limits_in}
+use Rattle.iim_places.specs.States.Counts.{raised}
+use Rattle.iim_places.specs.Format.Open.{IsOpen, Delivers, RefusesNext, IsTruncatedAt}
 use Rattle.iim_unpack.specs.Format.Value.{HasParts}
-use Rattle.iim_unpack.specs.declared.parts.fault.TokenFault.{TokenFault}
+use Rattle.iim_places.specs.declared.fault.TokenFault.{TokenFault}
 use Rattle.iim_unpack.specs.declared.intake.Fed.{Fed}
 use Rattle.iim_unpack.specs.declared.intake.Fed.TheVariants as piece
 use Rattle.iim_unpack.specs.declared.intake.Intake.{Intake}
 use Rattle.iim_unpack.specs.declared.intake.IntakeFault.{IntakeFault}
 use Rattle.iim_unpack.specs.declared.intake.IntakeFault.TheVariants.{Refused, Read, Interrupted}
-use Rattle.iim_unpack.specs.declared.refusal.Refusal.{Refusal}
+use Rattle.iim_places.specs.declared.refusal.Refusal.{Refusal}
 use Rattle.iim_unpack.specs.declared.unpacker.Unpacked.{Unpacked}
 
 -- an intake's reader as a device, with the octets of the block put before its own: what is next in line

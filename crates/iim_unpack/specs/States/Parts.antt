@@ -18,14 +18,14 @@ use Rattle.wire_message.specs.Format.Layers.{text_so_far}
 use Rattle.wire_message.specs.States.Reading as wire
 use Rattle.wire_message.specs.Format.Causes as wire_format
 use Rattle.wire_message.specs.declared.fault.MessageCause.{MessageCause}
-use Rattle.iim_unpack.specs.Format.Admitted.{object_of}
-use Rattle.iim_unpack.specs.Format.Tokens.{place_at, IsRefusedHead, IsRefusedValue}
-use Rattle.iim_unpack.specs.Format.Refusals.{message_on}
-use Rattle.iim_unpack.specs.declared.parts.fault.TokenFault.{TokenFault}
+use Rattle.iim_places.specs.Format.Admitted.{object_of}
+use Rattle.iim_places.specs.Format.Tokens.{place_at, IsRefusedHead, IsRefusedValue}
+use Rattle.iim_places.specs.Format.Refusals.{message_on}
+use Rattle.iim_places.specs.declared.fault.TokenFault.{TokenFault}
 use Rattle.iim_unpack.specs.declared.parts.Parts.{Parts}
-use Rattle.iim_unpack.specs.declared.refusal.Cause.{Cause}
-use Rattle.iim_unpack.specs.declared.refusal.Cause.TheVariants.{Sink}
-use Rattle.iim_unpack.specs.Format.Open.{object_so_far, AllCanContinue, IsUnfinished}
+use Rattle.iim_places.specs.declared.refusal.Cause.{Cause}
+use Rattle.iim_places.specs.declared.refusal.Cause.TheVariants.{Sink}
+use Rattle.iim_places.specs.Format.Open.{object_so_far, AllCanContinue, IsUnfinished}
 
 -- ---- where the parts stand
 

@@ -1,24 +1,13 @@
--- What a ticket is restored to, and why one is refused.
-use Rattle.std.specs.Prelude.{◌≡◌, ℕ, ◌+◌, ◌<◌, ◌≤◌, ◌⊎◌, List, length}
-use Rattle.iim_fields.specs.Format.Faults.{joined}
+-- What a ticket is restored to.
+use Rattle.std.specs.Prelude.{◌≡◌, ℕ, ◌⊎◌, List}
 use Rattle.iim_fields.specs.declared.limits.Limits.{Limits}
-use Rattle.iim_unpack.specs.Format.Admitted.{Value}
-use Rattle.iim_unpack.specs.States.Scales.{IsPossibleIn}
-use Rattle.iim_unpack.specs.States.Possible.{AreHeadsWithin, begun_count, begun_fields}
-use Rattle.iim_unpack.specs.Format.Streams.{IsEnvelopeWithin}
-use Rattle.iim_unpack.specs.Format.TicketForm.{Split, IsVersion, SplitsTicket, IsFaultOf}
-use Rattle.iim_unpack.specs.Format.Tickets.{Place, IsPlaceOf, ticket_in}
+use Rattle.iim_places.specs.Format.Admitted.{Value}
+use Rattle.iim_places.specs.States.Possible.{AreHeadsWithin}
+use Rattle.iim_places.specs.Format.Streams.{IsEnvelopeWithin}
+use Rattle.iim_places.specs.Format.Tickets.{Place, IsPlaceOf}
 use Rattle.iim_unpack.specs.States.Unpacking.{Unpacking, Stands, IsDoneWith, limits_in}
-use Rattle.iim_unpack.specs.Format.Open.{IsOpen}
-use Rattle.iim_unpack.specs.declared.ticket.fault.TicketFault.{TicketFault}
-use Rattle.iim_unpack.specs.declared.ticket.fault.TicketFault.TheVariants.{Form, Version, Impossible, HeaderFull, TooManyFields, OutOfMemory}
-
--- The octets are the ticket of this place in a version in which it is possible.
-pub record IsTicketAt (ticket : List ℕ) (place : Place) : Type 0 where
-  pub version : ℕ
-  pub is_version : IsVersion version
-  pub possible : IsPossibleIn version place
-  pub spelled : ticket ≡ ticket_in version place
+use Rattle.iim_places.specs.Format.Open.{IsOpen}
+use Rattle.iim_places.specs.States.Restored.{IsTicketAt}
 
 -- The octets are the ticket of a possible place, whose heads are within the limits. The unpacker reads under these: it stands on all
 -- octets that lead to the place and are open, it is done with all that are an envelope, and there are some of the one or the other. It
@@ -31,21 +20,3 @@ pub record IsRestored (limits : Limits) (ticket : List ℕ) (at : ℕ) (u : Unpa
   pub stands : (p : List ℕ) → IsPlaceOf p place → IsOpen limits p → Stands u p at
   pub done : (p : List ℕ) (v : Value) → IsPlaceOf p place → IsEnvelopeWithin limits p v → IsDoneWith u p at
   pub some : (p : List ℕ) × IsPlaceOf p place × (Stands u p at ⊎ IsDoneWith u p at)
-
--- how many octets the heads of records 1 and 2 that the place tells count together, a begun one among them, and how many they are
-abbrev pub octets_told : Place → ℕ
-octets_told p = length (joined p.fields) + begun_count p.section p.phase
-
-abbrev pub fields_told : Place → ℕ
-fields_told p = length p.fields + begun_fields p.section p.phase
-
--- Why no unpacker is made from the octets: they have not the form of a ticket, or are one of another version. Or they have the form,
--- and are the ticket of no possible place. Or they are that of one, whose heads of records 1 and 2 count more octets than the limits
--- allow, or else are more datasets. Or all is well but for memory.
-abbrev pub IsRestoreFault : Limits → List ℕ → TicketFault → Type 0
-IsRestoreFault limits ticket Form = IsFaultOf ticket Form
-IsRestoreFault limits ticket Version = IsFaultOf ticket Version
-IsRestoreFault limits ticket Impossible = ((s : Split) × SplitsTicket ticket s) × ((place : Place) → IsTicketAt ticket place → ⊥)
-IsRestoreFault limits ticket HeaderFull = (place : Place) × IsTicketAt ticket place × (limits.octets < octets_told place)
-IsRestoreFault limits ticket TooManyFields = (place : Place) × IsTicketAt ticket place × (octets_told place ≤ limits.octets) × (limits.fields < fields_told place)
-IsRestoreFault limits ticket OutOfMemory = (place : Place) × IsTicketAt ticket place × AreHeadsWithin limits place

@@ -1,6 +1,5 @@
 -- Where an unpacker stands, and what it answers.
-use Rattle.std.specs.Prelude.{◌≡◌, ℕ, ◌+◌, ◌<◌, ◌≤◌, min, true, false, List, [], ◌∷◌, ◌++◌, length, take, slice_index, Option, None, Bool}
-use Rattle.iim_dataset.specs.Format.Octets.{greatest_u64}
+use Rattle.std.specs.Prelude.{◌≡◌, ℕ, ◌<◌, ◌≤◌, true, false, List, ◌++◌, length, take, slice_index, Option, None, Bool}
 use Rattle.iim_dataset.specs.Format.Datasets.{count_octets}
 use Rattle.iim_dataset.specs.States.Events.{DatasetEvent}
 use Rattle.iim_dataset.specs.States.Places.{LeadsTo, between}
@@ -9,18 +8,19 @@ use Rattle.iim_fields.specs.States.Standing.{limits_of, room_of}
 use Rattle.iim_fields.specs.States.Stores.{Room}
 use Rattle.iim_fields.specs.declared.limits.Limits.{Limits}
 use Rattle.wire_story.specs.Format.Delivery as story
-use Rattle.iim_unpack.specs.Format.Refusals.{refusal_at}
-use Rattle.iim_unpack.specs.Format.Open.{IsTextOf, Delivers, IsOpen, RefusesNext}
+use Rattle.iim_places.specs.Format.Refusals.{refusal_at}
+use Rattle.iim_places.specs.Format.Open.{IsTextOf, Delivers, IsOpen, RefusesNext}
 use Rattle.iim_unpack.specs.States.Parts.{AreLed, has_ended}
-use Rattle.iim_unpack.specs.Format.Admitted.{Value, Admits}
-use Rattle.iim_unpack.specs.Format.Framed.{AreWithin}
+use Rattle.iim_places.specs.Format.Admitted.{Value, Admits}
+use Rattle.iim_places.specs.Format.Framed.{AreWithin}
 use Rattle.iim_unpack.specs.declared.unpacker.Progress.{Progress}
 use Rattle.iim_unpack.specs.declared.unpacker.Progress.TheVariants.{More, Done}
-use Rattle.iim_unpack.specs.declared.refusal.Cause.TheVariants.{Failed}
+use Rattle.iim_places.specs.declared.refusal.Cause.TheVariants.{Failed}
 use Rattle.iim_unpack.specs.declared.parts.Parts.{Parts}
-use Rattle.iim_unpack.specs.declared.parts.fault.TokenFault.{TokenFault}
-use Rattle.iim_unpack.specs.declared.refusal.Refusal.{Refusal}
-use Rattle.iim_unpack.specs.declared.refusal.Layer.TheVariants as layers
+use Rattle.iim_places.specs.declared.fault.TokenFault.{TokenFault}
+use Rattle.iim_places.specs.declared.refusal.Refusal.{Refusal}
+use Rattle.iim_places.specs.declared.refusal.Layer.TheVariants as layers
+use Rattle.iim_places.specs.States.Counts.{are_some, raised}
 
 -- ---- the unpacker
 
@@ -30,15 +30,6 @@ pub record Unpacking : Type 0 where
   pub octets : ℕ
   pub begun : Bool
   pub refused : Option ℕ
-
--- a count, raised by n; it stays at the greatest number of 64 bits
-abbrev pub raised : ℕ → ℕ → ℕ
-raised a n = min (a + n) greatest_u64
-
--- there is an octet
-abbrev pub are_some : List ℕ → Bool
-are_some [] = false
-are_some (x ∷ xs) = true
 
 abbrev pub limits_in : Unpacking → Limits
 limits_in u = limits_of u.parts.fields

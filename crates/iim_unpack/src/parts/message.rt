@@ -8,9 +8,9 @@ ghost use Rattle.iim_object.specs.States.Reading.{LeadsOn, events_at};
 ghost use Rattle.iim_unpack.specs.Passed.{TellsMessage, MessageRefuses, PassesTo, HaltsAt, RefusesOctet, RefusesEnd, RefusesObject};
 ghost use Rattle.iim_unpack.specs.Passing.{tells_message_nothing, tells_message_joined, message_refuses_joined};
 
-use crate::parts::fault::{TokenFault, message_on, size_on};
 use iim_dataset::{Head, Stop};
 use iim_object::{ObjectFault, ObjectReader, ObjectSink};
+use iim_places::{TokenFault, message_on, size_on};
 use wire_message::{MessageCause, MessageFault, MessageReader};
 use wire_story::StorySink;
 

@@ -6,8 +6,8 @@ ghost use Rattle.iim_unpack.specs.Going.{tells_parts_nothing, tells_parts_joined
 ghost use Rattle.iim_unpack.specs.Routing.{Routes, RefusesRoute, TakesNext, IsOver};
 
 use crate::parts::Parts;
-use crate::parts::fault::TokenFault;
 use iim_dataset::{DatasetSink, Head, Step, Stop};
+use iim_places::TokenFault;
 use wire_story::StorySink;
 
 /// A sink of datasets: they go to the parts of an unpacker, and what is delivered of the text to a sink of stories. A refusal

@@ -5,14 +5,14 @@ ghost use Rattle.iim_object.specs.Format.Objects.{ObjectEnded, Confirmed};
 ghost use Rattle.iim_object.specs.Format.Places.{Place, MayFollow, place_after};
 ghost use Rattle.iim_object.specs.States.Reading.{StandsAt};
 ghost use Rattle.iim_object.specs.States.Saved.{IsAt, IsPossible};
-ghost use Rattle.iim_unpack.specs.ByLayers.{begun_of_object, object_after};
+ghost use Rattle.iim_places.specs.States.ByLayers.{begun_of_object, object_after};
 ghost use Rattle.iim_unpack.specs.Nowhere.{goes_nowhere, stops_nowhere, joins_nowhere, joins_stop_nowhere};
-ghost use Rattle.iim_unpack.specs.States.TicketsTold.{phase_told};
+ghost use Rattle.iim_places.specs.States.TicketsTold.{phase_told};
 
-use crate::laws::object_laws;
-use crate::ticket::split::TicketPhase;
 use iim_dataset::Stop;
 use iim_object::{ObjectReader, ObjectSink};
+use iim_places::TicketPhase;
+use iim_places::laws::object_laws;
 use iim_tables::records::{CONFIRMED_SIZE, OBJECT, POST_OBJECT};
 
 /// A sink of objects that takes all of it, and keeps nothing.

@@ -6,20 +6,20 @@ ghost use Rattle.iim_fields.specs.Format.Values.{tells_number};
 ghost use Rattle.std.specs.Prelude.{◌≡◌, ◌↔◌, ◌≤◌, true, ◌+◌, ◌-◌, cond, length, false, IsTrue, IfSome, IfNone};
 ghost use Rattle.iim_fields.specs.Format.Faults.{joined};
 ghost use Rattle.iim_fields.specs.Format.Bounds.{IsWithin};
-ghost use Rattle.iim_unpack.specs.ByLayers.{begun_subfiles, one_of_some, TagsLead};
-ghost use Rattle.iim_unpack.specs.States.Possible.{widest, begun_count, begun_fields, count_octets_before, greatest_size_before, IsSmallPhase};
+ghost use Rattle.iim_places.specs.States.ByLayers.{begun_subfiles, one_of_some, TagsLead};
+ghost use Rattle.iim_places.specs.States.Possible.{widest, begun_count, begun_fields, count_octets_before, greatest_size_before, IsSmallPhase};
 ghost use Rattle.iim_unpack.specs.Restoring.{AreAt, AreAtIn, LeadsNowhere, LeadsNowhereIn};
-ghost use Rattle.iim_unpack.specs.Format.TicketForm.{HasForm};
-ghost use Rattle.iim_unpack.specs.States.TicketsTold.{phase_told, split_told};
+ghost use Rattle.iim_places.specs.Format.TicketForm.{HasForm};
+ghost use Rattle.iim_places.specs.States.TicketsTold.{phase_told, split_told};
 
-use crate::ticket::fields::TicketFields;
 use crate::ticket::object::object_at;
 use crate::ticket::readers::{message_at, records_lead, tags_at};
-use crate::ticket::spelling::{FIRST_VERSION, part_number};
-use crate::ticket::split::{TicketParts, TicketPhase};
+use crate::ticket::spelling::part_number;
 use crate::ticket::taker::is_kept;
 use iim_dataset::{EXTENDED, HeadReader};
 use iim_object::ObjectReader;
+use iim_places::form::FIRST_VERSION;
+use iim_places::{TicketFields, TicketParts, TicketPhase};
 use iim_tables::records::{OBJECT, POST_OBJECT, PRE_OBJECT};
 use wire_message::{MessagePart, MessageReader};
 

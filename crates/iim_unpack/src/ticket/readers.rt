@@ -12,21 +12,20 @@ ghost use Rattle.wire_message.specs.States.Reading.{StandsAt};
 ghost use Rattle.wire_message.specs.States.Saved.{LeadsToSaved};
 ghost use Rattle.wire_message.specs.declared.saved.MessagePart.{MessagePart as MessagePartValue};
 ghost use Rattle.wire_message.specs.declared.saved.MessagePlace.{MessagePlace as MessagePlaceValue};
-ghost use Rattle.iim_unpack.specs.States.Begins.{AreNumbers};
-ghost use Rattle.iim_unpack.specs.ByLayers.{TagsLead, RecordsLive, are_ended};
-ghost use Rattle.iim_unpack.specs.States.Possible.{widest};
-ghost use Rattle.iim_unpack.specs.Taking.{AreKept, IsMessageOf, tag_place, told_datasets};
-ghost use Rattle.iim_unpack.specs.Format.TicketForm.{IsPhase};
-ghost use Rattle.iim_unpack.specs.States.TicketsTold.{phase_told};
-ghost use Rattle.iim_unpack.specs.Format.Tickets.{part_number, present_version};
+ghost use Rattle.iim_places.specs.States.Begins.{AreNumbers};
+ghost use Rattle.iim_places.specs.States.ByLayers.{TagsLead, RecordsLive, are_ended};
+ghost use Rattle.iim_places.specs.States.Possible.{widest};
+ghost use Rattle.iim_places.specs.Taking.{AreKept, IsMessageOf, tag_place, told_datasets};
+ghost use Rattle.iim_places.specs.Format.TicketForm.{IsPhase};
+ghost use Rattle.iim_places.specs.States.TicketsTold.{phase_told};
+ghost use Rattle.iim_places.specs.Format.Tickets.{part_number, present_version};
 
-use crate::ticket::fields::TicketFields;
-use crate::ticket::split::TicketPhase;
 use crate::ticket::taker::take_told;
 use arrayvec::ArrayVec;
 use iim_dataset::laws::places_are_reached;
 use iim_dataset::{DatasetPlace, Head, HeadReader};
 use iim_fields::RecordCheck;
+use iim_places::{TicketFields, TicketPhase};
 use wire_message::{MessagePart, MessagePlace, MessageReader};
 
 /// What a slice of octets holds are octets.

@@ -5,30 +5,30 @@ ghost use Rattle.iim_dataset.specs.Format.Datasets.{Dataset};
 ghost use Rattle.iim_fields.specs.Format.Faults.{joined};
 ghost use Rattle.iim_fields.specs.Format.Bounds.{IsWithin};
 ghost use Rattle.iim_fields.specs.States.Standing.{StandsAfter, StandsIn, limits_of, room_for, room_of};
-ghost use Rattle.iim_unpack.specs.States.Begins.{AreNumbers};
-ghost use Rattle.iim_unpack.specs.ByLayers.{TagsLead, RecordsLive, are_ended};
-ghost use Rattle.iim_unpack.specs.States.Possible.{begun_count, begun_fields};
+ghost use Rattle.iim_places.specs.States.Begins.{AreNumbers};
+ghost use Rattle.iim_places.specs.States.ByLayers.{TagsLead, RecordsLive, are_ended};
+ghost use Rattle.iim_places.specs.States.Possible.{begun_count, begun_fields};
 ghost use Rattle.iim_unpack.specs.Restoring.{AreAtIn, RecordsStand, MayBegin, AreWithinWith, HasFew, IsLimitFault, has_come};
-ghost use Rattle.iim_unpack.specs.States.Restored.{IsRestored, IsRestoreFault};
-ghost use Rattle.iim_unpack.specs.Taking.{AreKept, told_datasets};
-ghost use Rattle.iim_unpack.specs.Format.TicketForm.{HasForm, SplitsTicket};
-ghost use Rattle.iim_unpack.specs.States.TicketsTold.{phase_told, split_told};
+ghost use Rattle.iim_unpack.specs.States.Restored.{IsRestored};
+ghost use Rattle.iim_places.specs.States.Restored.{IsRestoreFault};
+ghost use Rattle.iim_places.specs.Taking.{AreKept, told_datasets};
+ghost use Rattle.iim_places.specs.Format.TicketForm.{HasForm, SplitsTicket};
+ghost use Rattle.iim_places.specs.States.TicketsTold.{phase_told, split_told};
 ghost use Rattle.iim_unpack.specs.States.Unpacking.{room_in};
 
-use crate::laws::{
-    places_are_possible_by_layers, readers_make_unpackers, small_places_were_possible,
-    tickets_have_one_split, tickets_of_places_are_split,
-};
+use crate::laws::readers_make_unpackers;
 use crate::parts::Parts;
-use crate::ticket::fault::TicketFault;
-use crate::ticket::fields::TicketFields;
 use crate::ticket::possible::{Readers, readers_at, some_ended};
 use crate::ticket::readers::has_ended;
-use crate::ticket::split::{TicketParts, TicketPhase, split_ticket};
 use crate::ticket::taker::take_told;
 use crate::unpacker::Unpacker;
 use iim_dataset::Head;
 use iim_fields::{FieldCause, Fields, Limits};
+use iim_places::laws::{
+    places_are_possible_by_layers, small_places_were_possible, tickets_have_one_split,
+    tickets_of_places_are_split,
+};
+use iim_places::{TicketFault, TicketFields, TicketParts, TicketPhase, split_ticket};
 use iim_tables::records::OBJECT;
 use std::alloc::{AllocError, Global};
 

@@ -6,13 +6,14 @@ ghost use Rattle.iim_dataset.specs.States.Reading.{TakesCalls};
 ghost use Rattle.iim_fields.specs.States.Standing.{IsFailed};
 ghost use Rattle.iim_object.specs.Format.Places as object_places;
 ghost use Rattle.iim_object.specs.States.Reading as objects;
-ghost use Rattle.iim_unpack.specs.Format.Tickets.{four, wide, present_version, field_octets, fields_octets, number_octets, text_octets, part_number, texts_octets, message_octets, phase_octets, DataBegun, TagBegun};
+ghost use Rattle.iim_places.specs.Format.Tickets.{four, wide, present_version, field_octets, fields_octets, number_octets, text_octets, part_number, texts_octets, message_octets, phase_octets, DataBegun, TagBegun};
 ghost use Rattle.iim_unpack.specs.TicketReading.{phase_in, left_in, IsSpelled};
 
 use crate::parts::Parts;
 use iim_dataset::{DatasetPlace, Head, HeadReader};
 use iim_fields::Fields;
 use iim_object::ObjectReader;
+use iim_places::form::{ENDED, IN_DATA, IN_TAG, PRESENT_VERSION};
 use iim_tables::records::OBJECT;
 use std::alloc::{AllocError, Global};
 use thiserror::Error;
@@ -29,23 +30,8 @@ pub enum SaveFault {
     OutOfMemory,
 }
 
-/// The first version of tickets: counts and sizes have four octets.
-pub(crate) const FIRST_VERSION: u8 = 1;
-
-/// The version of the tickets that are made: counts and sizes have eight octets.
-pub(crate) const PRESENT_VERSION: u8 = 2;
-
 /// What each ticket begins with: its name, and the version.
 const NAME: [u8; 5] = [b'I', b'I', b'M', b'T', PRESENT_VERSION];
-
-/// Between datasets, or in a tag.
-pub(crate) const IN_TAG: u8 = 0;
-
-/// In the data of a dataset.
-pub(crate) const IN_DATA: u8 = 1;
-
-/// The last dataset has ended.
-pub(crate) const ENDED: u8 = 2;
 
 /// Adds a number in four octets, high octet first: none of these needs more.
 fn push_number(ticket: &mut Vec<u8>, number: u64) -> Result<(), AllocError>

@@ -8,14 +8,14 @@ ghost use Rattle.iim_fields.specs.States.Standing.{IsBetween, StandsAfter, limit
 ghost use Rattle.iim_fields.specs.States.Stores.{Room};
 ghost use Rattle.iim_fields.specs.declared.limits.Limits.{Limits as LimitsValue};
 ghost use Rattle.iim_object.specs.Format.Packing.{number_dataset};
-ghost use Rattle.iim_unpack.specs.States.Begins.{dataset, AreNumbers, IsSize};
-ghost use Rattle.iim_unpack.specs.Plain.{mode_dataset, one_dataset, plain_end, plain_numbers};
-ghost use Rattle.iim_unpack.specs.States.Possible.{widest};
-ghost use Rattle.iim_unpack.specs.Taking.{AreKept, TookDatasets, no_room, numbers_told, told_datasets};
+ghost use Rattle.iim_places.specs.States.Begins.{dataset, AreNumbers, IsSize};
+ghost use Rattle.iim_places.specs.Plain.{mode_dataset, one_dataset, plain_end, plain_numbers};
+ghost use Rattle.iim_places.specs.States.Possible.{widest};
+ghost use Rattle.iim_places.specs.Taking.{AreKept, TookDatasets, no_room, numbers_told, told_datasets};
 
-use crate::ticket::fields::TicketFields;
 use iim_dataset::{Head, number_bytes};
 use iim_fields::{Fields, RecordCheck};
+use iim_places::TicketFields;
 use iim_tables::records::{
     ANNOUNCED_SIZE, CONFIRMED_SIZE, MAX_SUBFILE_SIZE, MAXIMUM_SIZE, OBJECT, POST_OBJECT,
     PRE_OBJECT, SIZE_MODE, SUBFILE,

@@ -1,7 +1,7 @@
 use Rattle.std.proofs.Common.{◌≡◌, ◌+◌, ◌-◌, ◌<◌, ℕ, length, Some}
 use Rattle.std.specs.List.{All}
 use Rattle.iim_unpack.specs.States.Intakes.{in_line}
-use Rattle.iim_unpack.specs.Format.Listing.{max_envelopes}
+use Rattle.iim_places.specs.Format.Listing.{max_envelopes}
 use Rattle.iim_audit.specs.Lines.{HaveShortIds}
 use Rattle.iim_unpack.specs.States.Unpacking.{limits_in}
 use Rattle.iim_audit.proofs.Reading.{IsAuditing}

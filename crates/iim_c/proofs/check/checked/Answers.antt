@@ -1,5 +1,6 @@
 use Rattle.std.proofs.Common.{◌<◌, ◌^◌, [], length, subst, ◌∙◌, arith}
-use Rattle.iim_unpack.specs.States.Unpacking.{Goes, IsRefusedIn, raised}
+use Rattle.iim_unpack.specs.States.Unpacking.{Goes, IsRefusedIn}
+use Rattle.iim_places.specs.States.Counts.{raised}
 use Rattle.iim_fields.specs.declared.limits.Limits.{Limits}
 use Rattle.iim_unpack.specs.declared.unpacker.Progress.{Progress}
 use Rattle.iim_c.proofs.Checked.{finished_for, truncated_for, refused_for}

@@ -1,7 +1,7 @@
 use Rattle.std.proofs.Common.{◌≡◌, ◌<◌, ◌^◌, length, Result, IfOk, IfErr, OnOk, subst, arith, sym, ◌∙◌}
 use Rattle.iim_unpack.specs.States.Unpacking.{limits_in}
 use Rattle.iim_unpack.specs.declared.unpacker.Progress.{Progress}
-use Rattle.iim_unpack.specs.declared.refusal.Refusal.{Refusal}
+use Rattle.iim_places.specs.declared.refusal.Refusal.{Refusal}
 use Rattle.iim_c.specs.Steps.{HasFedText, HasRefusedText}
 use Rattle.iim_c.proofs.Fed.{Begun, alive_after, fed_ok, fed_refused, fed_not_begun}
 use Rattle.iim_c.proofs.Places.{begun_alive}

@@ -1,6 +1,6 @@
 use Rattle.std.proofs.Common.{◌∙◌, [], refl, arith}
 use Rattle.iim_unpack.specs.States.Intakes.{in_line}
-use Rattle.iim_unpack.specs.States.Unpacking.{raised}
+use Rattle.iim_places.specs.States.Counts.{raised}
 use Rattle.iim_unpack.proofs.Intakes.{fed_none, fed_and_done, fed_and_faults, more_of, done_of, end_of}
 use Rattle.iim_commands.proofs.Feeding.{ends_whole, fed_more, fed_out, fewer_left, settled_by}
 use Rattle.iim_commands.proofs.coming.feed_envelope.Goals as goal

@@ -1,5 +1,5 @@
 use Rattle.std.proofs.Common.{rules, ◌≡◌, inl, inr, refl}
-use Rattle.iim_unpack.specs.declared.refusal.Cause.TheVariants.{Sink}
+use Rattle.iim_places.specs.declared.refusal.Cause.TheVariants.{Sink}
 use Rattle.iim_commands.proofs.coming.next_of_refusal.Goals as goal
 
 pub returns-then-eq : goal.returns-then-eq

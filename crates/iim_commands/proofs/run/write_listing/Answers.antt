@@ -2,7 +2,7 @@ use Rattle.std.proofs.Common.{◌≡◌, ℕ, List, Result, Ok, Err, IfOk, IfErr
 use Rattle.iim_dataset.specs.States.Devices.{Device}
 use Rattle.iim_unpack.specs.States.Intakes.{in_line}
 use Rattle.iim_commands.specs.States.Devices.{devices}
-use Rattle.iim_unpack.specs.Format.Listing.{Listed}
+use Rattle.iim_places.specs.Format.Listing.{Listed}
 use Rattle.iim_commands.specs.Format.Outcomes.{EndsRun, EndsListing}
 use Rattle.iim_commands.specs.Format.WrittenListings.{WritesListing, FailsListing}
 use Rattle.iim_commands.specs.declared.fault.CommandFault.{CommandFault}

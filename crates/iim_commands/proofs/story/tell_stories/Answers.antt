@@ -4,7 +4,7 @@ use Rattle.iim_unpack.specs.States.Intakes.{in_line}
 use Rattle.wire_story.specs.Format.Delivery.{octet_for}
 use Rattle.iim_commands.specs.States.Holding.{HoldsNothing, PutsLines, StaysStuck, stops_of}
 use Rattle.iim_commands.specs.Format.Lines.{accepted_line, refused_line, too_many_line}
-use Rattle.iim_unpack.specs.Format.Listing.{max_envelopes, Whole, RefusedBy, TooMany}
+use Rattle.iim_places.specs.Format.Listing.{max_envelopes, Whole, RefusedBy, TooMany}
 use Rattle.iim_commands.specs.Format.Narration.{IsUnnarrated, text_of}
 use Rattle.iim_commands.specs.declared.fault.CommandFault.TheVariants.{OutOfMemory}
 use Rattle.iim_commands.proofs.Narration.{broke_in_line, broke_in_lines, held_back_as, narrated, narrated_more, pushed, refused_within, story_out, text_out, text_refused, text_taken, unended_text, none_narrated, nothing_told, unfed, unfed_for_memory, wrote_by}

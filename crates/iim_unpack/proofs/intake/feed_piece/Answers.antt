@@ -1,7 +1,7 @@
 use Rattle.std.proofs.Common.{◌≡◌, ◌<◌, ◌≤◌, ℕ, List, length, refl, ap, sym, subst, ◌∙◌, inl, inr}
 use Rattle.iim_dataset.specs.States.Devices.{Device}
 use Rattle.iim_unpack.specs.States.Blocks.{with_held}
-use Rattle.iim_unpack.specs.States.Unpacking.{raised}
+use Rattle.iim_places.specs.States.Counts.{raised}
 use Rattle.iim_unpack.specs.IntakeSteps.{WentOn}
 use Rattle.iim_unpack.proofs.Blocks.{line_used, line_front}
 use Rattle.iim_unpack.proofs.Intakes.{begin_on, fed_of, tells_parts_more, tells_parts_done, tells_parts_refused, tells_parts_ended, tells_parts_truncated, tells_parts_missed, somewhere, faulted, told_truncated, not_told, was_fresh, not_fresh, used_within, raised_some}

@@ -1,5 +1,5 @@
 use Rattle.iim_dataset.specs.States.Reading.{tag_cause_of}
-use Rattle.iim_unpack.proofs.Results.{err_then}
+use Rattle.iim_places.proofs.Results.{err_then}
 use Rattle.iim_unpack.proofs.Routed.{fails_for, has_advanced, same_room}
 use Rattle.iim_unpack.proofs.unpacker.feed_router.Goals as goal
 

@@ -4,7 +4,7 @@ use Rattle.std.proofs.lemmas.Result.{on_ok_weaker}
 use Rattle.iim_dataset.specs.Format.Datasets.{Dataset}
 use Rattle.iim_object.specs.declared.size.Sizes.{Sizes}
 use Rattle.wire_message.specs.Format.Messages.{Header}
-use Rattle.iim_unpack.specs.Format.Admitted.{Value}
+use Rattle.iim_places.specs.Format.Admitted.{Value}
 use Rattle.iim_unpack.specs.Format.Value.{ShowsParts}
 use Rattle.iim_unpack.specs.declared.unpacker.UnpackedRef.{UnpackedRef}
 use Rattle.iim_script.specs.Format.Printed.{field_line, message_line, trailer_line}

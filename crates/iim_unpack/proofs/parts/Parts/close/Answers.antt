@@ -1,6 +1,6 @@
 use Rattle.std.proofs.Common.{refl, sym, ◌∙◌}
 use Rattle.iim_unpack.proofs.Closing.{closed_number, closed_silent, not_closed_field, not_closed_number}
-use Rattle.iim_unpack.proofs.Results.{on_ok, err_then}
+use Rattle.iim_places.proofs.Results.{on_ok, err_then}
 use Rattle.iim_unpack.proofs.parts.Parts.close.Goals as goal
 
 pub returns-in-Ok-Some-clause-closed : goal.returns-in-Ok-Some-clause-closed

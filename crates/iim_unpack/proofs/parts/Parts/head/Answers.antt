@@ -1,8 +1,8 @@
 use Rattle.std.proofs.Common.{[], refl, arith, append-nil}
-use Rattle.iim_unpack.specs.Format.Admitted.{object_of}
+use Rattle.iim_places.specs.Format.Admitted.{object_of}
 use Rattle.wire_message.specs.Format.Layers.{text_so_far}
 use Rattle.iim_unpack.proofs.Heading.{tells_parts_head, begins_subfile, begins_end, begins_other, stopped_field, stopped_subfile, stopped_last}
-use Rattle.iim_unpack.proofs.Results.{on_ok, on_both, err_then}
+use Rattle.iim_places.proofs.Results.{on_ok, on_both, err_then}
 use Rattle.iim_unpack.proofs.parts.Parts.head.Goals as goal
 
 pub returns-in-Err-clause-stopped : goal.returns-in-Err-clause-stopped

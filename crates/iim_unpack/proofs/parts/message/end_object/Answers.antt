@@ -1,5 +1,5 @@
 use Rattle.iim_object.specs.Format.Places.{head_token}
-use Rattle.iim_unpack.proofs.Results.{err_then}
+use Rattle.iim_places.proofs.Results.{err_then}
 use Rattle.iim_unpack.proofs.Ends.{by_fault}
 use Rattle.iim_unpack.proofs.parts.message.end_object.Goals as goal
 

@@ -7,7 +7,7 @@ use Rattle.iim_object.specs.States.Saved.{IsPossible}
 use Rattle.iim_object.specs.declared.reading.state.State.{State}
 use Rattle.iim_object.specs.declared.reading.fault.ObjectFault.{ObjectFault}
 use Rattle.iim_object.specs.declared.reading.fault.ObjectFault.TheVariants.{Size, Stopped}
-use Rattle.iim_unpack.proofs.ObjectPlaces.{not_possible}
+use Rattle.iim_places.proofs.ObjectPlaces.{not_possible}
 use Rattle.iim_unpack.proofs.ticket.object.confirmed.Goals as goal
 
 refused : (law : TokensFollow) (object : Option State) (token : ObjectToken) (fault : ObjectFault) → RefusesValue object token fault → (p : Place) → StandsAt object p → MayFollow p token → IsPossible (place_after p token) → ⊥

@@ -1,8 +1,8 @@
 use Rattle.std.proofs.Common.{refl}
 use Rattle.iim_object.specs.Format.Objects.{ObjectEnded}
 use Rattle.iim_object.specs.Format.Places.{place_after}
-use Rattle.iim_unpack.proofs.ObjectPlaces.{before_size}
-use Rattle.iim_unpack.proofs.Results.{if_none}
+use Rattle.iim_places.proofs.ObjectPlaces.{before_size}
+use Rattle.iim_places.proofs.Results.{if_none}
 use Rattle.iim_unpack.proofs.ticket.object.confirmed_at.Goals as goal
 
 pub returns-in_err-object-clause-none : goal.returns-in_err-object-clause-none

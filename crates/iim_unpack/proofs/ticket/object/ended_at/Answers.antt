@@ -1,5 +1,5 @@
-use Rattle.iim_unpack.proofs.ObjectPlaces.{may_end, before_end}
-use Rattle.iim_unpack.proofs.Results.{if_none}
+use Rattle.iim_places.proofs.ObjectPlaces.{may_end, before_end}
+use Rattle.iim_places.proofs.Results.{if_none}
 use Rattle.iim_unpack.proofs.ticket.object.ended_at.Goals as goal
 
 pub returns-in_err-object-clause-none : goal.returns-in_err-object-clause-none

@@ -1,6 +1,6 @@
 use Rattle.std.proofs.Common.{get_or, refl, inl, inr, arith}
 use Rattle.std.proofs.lemmas.Bool.{cases_lt, leb-true, le-leb}
-use Rattle.iim_unpack.proofs.SmallTags.{small_tag, no_small_tag}
+use Rattle.iim_places.proofs.SmallTags.{small_tag, no_small_tag}
 use Rattle.iim_unpack.proofs.ticket.possible.is_small_tag.Goals as goal
 
 pub returns-then-held-lt5 : goal.returns-then-held-lt5

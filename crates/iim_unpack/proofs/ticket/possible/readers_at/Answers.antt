@@ -1,6 +1,6 @@
 use Rattle.iim_unpack.specs.Restoring.{AreAt}
-use Rattle.iim_unpack.specs.Format.TicketForm.{Split}
-use Rattle.iim_unpack.specs.States.TicketsTold.{split_told}
+use Rattle.iim_places.specs.Format.TicketForm.{Split}
+use Rattle.iim_places.specs.States.TicketsTold.{split_told}
 use Rattle.iim_unpack.proofs.PlacesTold.{small_told}
 use Rattle.iim_unpack.proofs.ticket.possible.readers_at.Goals.{else-parts-eq-FIRST_VERSION-via-then-parts-eq-FIRST_VERSION+else-not-is_small, else-parts-eq-FIRST_VERSION-via-else-parts-eq-FIRST_VERSION}
 use Rattle.iim_unpack.proofs.ticket.possible.readers_at.Goals as goal

@@ -1,8 +1,8 @@
 use Rattle.std.proofs.Common.{sym, subst, ◌∙◌}
-use Rattle.iim_unpack.specs.ByLayers.{RecordsLive, head_of_numbers}
-use Rattle.iim_unpack.specs.States.TicketsTold.{phase_told}
-use Rattle.iim_unpack.specs.declared.ticket.split.TicketPhase.{TicketPhase}
-use Rattle.iim_unpack.proofs.AtPlaces.{lives_at}
+use Rattle.iim_places.specs.States.ByLayers.{RecordsLive, head_of_numbers}
+use Rattle.iim_places.specs.States.TicketsTold.{phase_told}
+use Rattle.iim_places.specs.declared.ticket.split.TicketPhase.{TicketPhase}
+use Rattle.iim_places.proofs.AtPlaces.{lives_at}
 use Rattle.iim_unpack.proofs.ticket.readers.can_continue.Goals as goal
 
 pub returns-in-Data-clause-lives : goal.returns-in-Data-clause-lives

@@ -1,6 +1,6 @@
 use Rattle.std.proofs.Common.{◌≡◌, true, false, sym, subst, ◌∙◌}
 use Rattle.wire_message.specs.States.Saved.{LeadsToSaved}
-use Rattle.iim_unpack.proofs.AtPlaces.{same_message, leads_saved}
+use Rattle.iim_places.proofs.AtPlaces.{same_message, leads_saved}
 use Rattle.iim_unpack.proofs.ticket.readers.message_at.Goals as goal
 
 pub returns-in_err-message_place-clause-none : goal.returns-in_err-message_place-clause-none

@@ -1,5 +1,5 @@
 use Rattle.std.proofs.Common.{ℕ, List, [], ◌∷◌, refl, ◌∙◌, Bor}
-use Rattle.iim_unpack.proofs.AtPlaces.{texts_seven}
+use Rattle.iim_places.proofs.AtPlaces.{texts_seven}
 use Rattle.iim_unpack.proofs.ticket.readers.message_place.Goals as goal
 
 pub returns-clause-some : goal.returns-clause-some

@@ -2,12 +2,12 @@ use Rattle.std.proofs.Common.{sym, subst}
 use Rattle.iim_dataset.specs.Format.Datasets.{count_octets}
 use Rattle.iim_dataset.specs.Format.Tags.{BeginsTag}
 use Rattle.iim_dataset.specs.declared.place.DatasetPlace.TheVariants.{Tag, Inside}
-use Rattle.iim_unpack.specs.ByLayers.{TagsLead, head_of_numbers}
-use Rattle.iim_unpack.specs.Format.TicketForm.{IsPhase}
-use Rattle.iim_unpack.specs.Format.Tickets.{present_version}
-use Rattle.iim_unpack.specs.States.TicketsTold.{phase_told}
-use Rattle.iim_unpack.specs.declared.ticket.split.TicketPhase.{TicketPhase}
-use Rattle.iim_unpack.proofs.AtPlaces.{some_place, no_place}
+use Rattle.iim_places.specs.States.ByLayers.{TagsLead, head_of_numbers}
+use Rattle.iim_places.specs.Format.TicketForm.{IsPhase}
+use Rattle.iim_places.specs.Format.Tickets.{present_version}
+use Rattle.iim_places.specs.States.TicketsTold.{phase_told}
+use Rattle.iim_places.specs.declared.ticket.split.TicketPhase.{TicketPhase}
+use Rattle.iim_places.proofs.AtPlaces.{some_place, no_place}
 use Rattle.iim_unpack.proofs.ticket.readers.tags_at.Goals as goal
 
 pub returns-in-Data-clause-leads : goal.returns-in-Data-clause-leads

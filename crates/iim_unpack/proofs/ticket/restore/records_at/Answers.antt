@@ -2,12 +2,12 @@ use Rattle.std.proofs.Common.{Bool, true, false, List, [], sym, ap, subst, â—Œâˆ
 use Rattle.iim_dataset.specs.Format.Datasets.{Dataset}
 use Rattle.iim_fields.specs.States.Standing.{IsBetween, StandsAfter, limits_of}
 use Rattle.iim_fields.specs.declared.limits.Limits.{Limits}
-use Rattle.iim_unpack.specs.ByLayers.{are_ended}
+use Rattle.iim_places.specs.States.ByLayers.{are_ended}
 use Rattle.iim_unpack.specs.Restoring.{AreWithinWith}
-use Rattle.iim_unpack.specs.Taking.{CanContinueWithin, TookDatasets, told_datasets}
-use Rattle.iim_unpack.specs.States.TicketsTold.{phase_told}
+use Rattle.iim_places.specs.Taking.{CanContinueWithin, TookDatasets, told_datasets}
+use Rattle.iim_places.specs.States.TicketsTold.{phase_told}
 use Rattle.iim_unpack.proofs.Restoring.{with_told, goes_told}
-use Rattle.iim_unpack.proofs.Taking.{took_as}
+use Rattle.iim_places.proofs.Taking.{took_as}
 use Rattle.iim_unpack.proofs.ticket.restore.records_at.Goals as goal
 
 pub unreachable-requires : goal.unreachable-requires

@@ -1,9 +1,9 @@
 use Rattle.std.proofs.Common.{◌≡◌, sym, ap, subst}
 use Rattle.iim_fields.specs.States.Standing.{limits_of}
-use Rattle.iim_unpack.specs.ByLayers.{TagsLead, RecordsLive}
+use Rattle.iim_places.specs.States.ByLayers.{TagsLead, RecordsLive}
 use Rattle.iim_unpack.specs.Restoring.{AreWithinWith, RecordsStand}
-use Rattle.iim_unpack.specs.Format.Tickets.{Phase, DataBegun}
-use Rattle.iim_unpack.specs.States.TicketsTold.{phase_told}
+use Rattle.iim_places.specs.Format.Tickets.{Phase, DataBegun}
+use Rattle.iim_places.specs.States.TicketsTold.{phase_told}
 use Rattle.iim_unpack.proofs.Restoring.{few_in, may_begin}
 use Rattle.iim_unpack.proofs.ticket.restore.take_phase.Goals as goal
 

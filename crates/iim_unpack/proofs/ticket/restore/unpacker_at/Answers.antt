@@ -1,14 +1,14 @@
 use Rattle.std.proofs.Common.{List, None, refl, sym, subst}
 use Rattle.iim_dataset.specs.Format.Datasets.{Dataset}
-use Rattle.iim_unpack.specs.ByLayers.{are_ended}
+use Rattle.iim_places.specs.States.ByLayers.{are_ended}
 use Rattle.iim_unpack.specs.Restoring.{IsMadeFor, RecordsStand}
 use Rattle.iim_unpack.specs.States.Restored.{IsRestored}
-use Rattle.iim_unpack.specs.Taking.{told_datasets}
-use Rattle.iim_unpack.specs.Format.TicketForm.{Split, split_octets}
-use Rattle.iim_unpack.specs.States.TicketsTold.{split_told}
+use Rattle.iim_places.specs.Taking.{told_datasets}
+use Rattle.iim_places.specs.Format.TicketForm.{Split, split_octets}
+use Rattle.iim_places.specs.States.TicketsTold.{split_told}
 use Rattle.iim_unpack.specs.States.Unpacking.{Unpacking}
 use Rattle.iim_unpack.proofs.PlacesTold.{heads_within, made_for, ticket_at}
-use Rattle.iim_unpack.proofs.Splitting.{wider_numbers}
+use Rattle.iim_places.proofs.Splitting.{wider_numbers}
 use Rattle.iim_unpack.proofs.ticket.restore.unpacker_at.Goals as goal
 
 pub records_at-requires-clause-fits : goal.records_at-requires-clause-fits

@@ -1,7 +1,7 @@
 use Rattle.std.proofs.Common.{◌≡◌, ℕ, List, [], ◌∷◌, ◌++◌, ap, ◌∙◌}
-use Rattle.iim_unpack.specs.Format.Tickets.{wide, present_version}
-use Rattle.iim_unpack.proofs.Results.{on_ok, grown}
-use Rattle.iim_unpack.proofs.Splitting.{four_pieces}
+use Rattle.iim_places.specs.Format.Tickets.{wide, present_version}
+use Rattle.iim_places.proofs.Results.{on_ok, grown}
+use Rattle.iim_places.proofs.Splitting.{four_pieces}
 use Rattle.iim_unpack.proofs.ticket.spelling.push_data.Goals as goal
 
 pub returns : goal.returns

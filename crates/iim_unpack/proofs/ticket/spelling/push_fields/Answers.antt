@@ -3,7 +3,7 @@ use Rattle.std.specs.List.{flat_map}
 use Rattle.std.proofs.lemmas.List.{append-nil}
 use Rattle.iim_dataset.specs.Format.Datasets.{Dataset}
 use Rattle.iim_fields.specs.States.Walks.{rest_of}
-use Rattle.iim_unpack.specs.Format.Tickets.{four, field_octets}
+use Rattle.iim_places.specs.Format.Tickets.{four, field_octets}
 use Rattle.iim_unpack.proofs.ticket.spelling.push_fields.Goals as goal
 
 one_more : (done : List Dataset) (d : Dataset) → flat_map field_octets (done ++ d ∷ []) ≡ flat_map field_octets done ++ field_octets d

@@ -1,10 +1,10 @@
 use Rattle.std.proofs.Common.{◌≡◌, Bool, true, false, List, [], ◌∷◌, ◌++◌, sym, ap, subst, ◌∙◌, append_assoc}
 use Rattle.iim_dataset.specs.Format.Datasets.{Dataset}
 use Rattle.iim_fields.specs.Format.Faults.{is_kept}
-use Rattle.iim_unpack.specs.States.Begins.{dataset}
-use Rattle.iim_unpack.specs.Taking.{AreKept, CanContinueWithin, TookDatasets}
-use Rattle.iim_unpack.proofs.Taking.{took_more, took_none}
-use Rattle.iim_unpack.proofs.Bounds.{all_join}
+use Rattle.iim_places.specs.States.Begins.{dataset}
+use Rattle.iim_places.specs.Taking.{AreKept, CanContinueWithin, TookDatasets}
+use Rattle.iim_places.proofs.Taking.{took_more, took_none}
+use Rattle.iim_places.proofs.Bounds.{all_join}
 use Rattle.iim_unpack.proofs.ticket.taker.take_fields.Goals as goal
 
 -- one of these is not kept

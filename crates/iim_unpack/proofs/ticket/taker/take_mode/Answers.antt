@@ -1,7 +1,7 @@
 use Rattle.std.proofs.Common.{ℕ, ◌++◌, Option, subst}
-use Rattle.iim_unpack.specs.Plain.{mode_dataset, one_dataset}
-use Rattle.iim_unpack.specs.Taking.{CanContinueWithin}
-use Rattle.iim_unpack.proofs.Taking.{no_wide_mode}
+use Rattle.iim_places.specs.Plain.{mode_dataset, one_dataset}
+use Rattle.iim_places.specs.Taking.{CanContinueWithin}
+use Rattle.iim_places.proofs.Taking.{no_wide_mode}
 use Rattle.iim_unpack.proofs.ticket.taker.take_mode.Goals as goal
 
 pub returns-in-Some-2-clause-took : goal.returns-in-Some-2-clause-took

@@ -1,8 +1,8 @@
 use Rattle.std.proofs.Common.{[], ◌∷◌, List, cond, refl}
 use Rattle.iim_dataset.specs.Format.Datasets.{Dataset}
-use Rattle.iim_unpack.specs.States.Begins.{dataset}
-use Rattle.iim_unpack.specs.Plain.{plain_end}
-use Rattle.iim_unpack.proofs.Taking.{took_else, took_then}
+use Rattle.iim_places.specs.States.Begins.{dataset}
+use Rattle.iim_places.specs.Plain.{plain_end}
+use Rattle.iim_places.proofs.Taking.{took_else, took_then}
 use Rattle.iim_unpack.proofs.ticket.taker.take_object.Goals as goal
 
 pub returns-then-take_subfile-clause-took : goal.returns-then-take_subfile-clause-took

@@ -1,7 +1,7 @@
 use Rattle.std.proofs.Common.{refl}
-use Rattle.iim_unpack.specs.Plain.{plain_numbers}
-use Rattle.iim_unpack.specs.Taking.{numbers_told}
-use Rattle.iim_unpack.proofs.Taking.{took_else, took_then}
+use Rattle.iim_places.specs.Plain.{plain_numbers}
+use Rattle.iim_places.specs.Taking.{numbers_told}
+use Rattle.iim_places.proofs.Taking.{took_else, took_then}
 use Rattle.iim_unpack.proofs.ticket.taker.take_records.Goals as goal
 
 pub returns-then-take_fields-clause-all : goal.returns-then-take_fields-clause-all

@@ -3,10 +3,10 @@ use Rattle.std.proofs.Math.Seq.{take-nil}
 use Rattle.std.specs.Option.{unwrap_or}
 use Rattle.iim_dataset.specs.Format.Datasets.{Dataset}
 use Rattle.iim_object.specs.Format.Packing.{subfile_dataset, subfile_datasets}
-use Rattle.iim_unpack.specs.States.Begins.{dataset}
-use Rattle.iim_unpack.specs.Plain.{Numbers, filled, plain, plain_end, plain_numbers}
-use Rattle.iim_unpack.specs.Taking.{TookDatasets, numbers_told}
-use Rattle.iim_unpack.proofs.Taking.{took_else, took_then}
+use Rattle.iim_places.specs.States.Begins.{dataset}
+use Rattle.iim_places.specs.Plain.{Numbers, filled, plain, plain_end, plain_numbers}
+use Rattle.iim_places.specs.Taking.{TookDatasets, numbers_told}
+use Rattle.iim_places.proofs.Taking.{took_else, took_then}
 use Rattle.iim_unpack.proofs.ticket.taker.take_told.Goals as goal
 
 -- one subfile without octets, or none

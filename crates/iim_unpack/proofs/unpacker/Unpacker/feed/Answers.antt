@@ -1,5 +1,5 @@
 use Rattle.std.proofs.Common.{◌≡◌, ℕ, [], true, false, refl, ap, sym, subst, ◌∙◌}
-use Rattle.iim_unpack.specs.Format.Refusals.{refusal_at}
+use Rattle.iim_places.specs.Format.Refusals.{refusal_at}
 use Rattle.iim_unpack.specs.States.Unpacking.{Unpacking, Stands, IsRefusedIn, limits_in}
 use Rattle.iim_unpack.specs.States.Parts.{has_ended}
 use Rattle.wire_story.specs.Format.Delivery as story

@@ -1,5 +1,5 @@
-use Rattle.iim_unpack.specs.Format.TicketForm.{Split}
-use Rattle.iim_unpack.specs.States.TicketsTold.{split_told}
+use Rattle.iim_places.specs.Format.TicketForm.{Split}
+use Rattle.iim_places.specs.States.TicketsTold.{split_told}
 use Rattle.iim_unpack.proofs.PlacesTold.{heads_within, limit_told, no_ticket, ticket_at}
 use Rattle.iim_unpack.proofs.unpacker.Unpacker.restore.Goals as goal
 

@@ -1,10 +1,10 @@
 use Rattle.std.proofs.Common.{◌≡◌, ℕ, ◌-◌, Bool, [], ◌∷◌, length, refl, sym, subst, ◌∙◌, inr, arith}
 use Rattle.iim_dataset.specs.declared.head.Head.{Head}
 use Rattle.iim_fields.specs.States.Standing.{IsBetween, StandsAfter, limits_of}
-use Rattle.iim_unpack.specs.States.Begins.{dataset}
-use Rattle.iim_unpack.specs.Taking.{TookDatasets}
+use Rattle.iim_places.specs.States.Begins.{dataset}
+use Rattle.iim_places.specs.Taking.{TookDatasets}
 use Rattle.iim_unpack.proofs.Octets.{are_octets}
-use Rattle.iim_unpack.proofs.Taking.{closed_took}
+use Rattle.iim_places.proofs.Taking.{closed_took}
 use Rattle.iim_unpack.proofs.ticket.taker.FieldsDatasetTaker.take.Goals as goal
 
 nothing_left : (n : ℕ) → n - n ≡ 0

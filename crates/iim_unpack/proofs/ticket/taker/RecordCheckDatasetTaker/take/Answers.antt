@@ -1,9 +1,9 @@
 use Rattle.std.proofs.Common.{Bool, [], ◌∷◌, subst, sym}
 use Rattle.iim_fields.specs.States.Checks.{TakesHead, HasChecked}
-use Rattle.iim_unpack.specs.States.Begins.{dataset}
-use Rattle.iim_unpack.specs.States.Possible.{widest}
-use Rattle.iim_unpack.specs.Taking.{TookDatasets}
-use Rattle.iim_unpack.proofs.Taking.{value_took}
+use Rattle.iim_places.specs.States.Begins.{dataset}
+use Rattle.iim_places.specs.States.Possible.{widest}
+use Rattle.iim_places.specs.Taking.{TookDatasets}
+use Rattle.iim_places.proofs.Taking.{value_took}
 use Rattle.iim_unpack.proofs.ticket.taker.RecordCheckDatasetTaker.take.Goals as goal
 
 pub returns-in-Ok-2-clause-took : goal.returns-in-Ok-2-clause-took

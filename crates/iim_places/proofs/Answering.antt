@@ -1,0 +1,543 @@
+-- A stream has one answer: what is refused, what is open and what is an envelope exclude one another.
+use Rattle.std.proofs.Common.{◌≡◌, ◌≢◌, ℕ, zero, suc, ◌-◌, ◌^◌, ◌<◌, ◌≤◌, ◌⊎◌, Bool, false, nat_eq, if◌then◌else◌, List, [], ◌∷◌, ◌++◌, length, take, drop, slice_index, map, Some, refl, ap, sym, subst, ◌∙◌, inl, inr, arith, append-nil, append_assoc, length-append}
+use Rattle.std.proofs.lemmas.Bool.{cases_lt}
+use Rattle.std.proofs.lemmas.Bool.Decides.{eqb_tells}
+use Rattle.std.proofs.lemmas.List.{map-append, take-append-drop, take-take}
+use Rattle.iim_dataset.specs.Format.Datasets.{Dataset, SpellsTag, SpellsDataset, SpellsStream, head_of, count_octets}
+use Rattle.iim_dataset.specs.Format.Splits.{Begun, InTag, InData, IsBegun, Reads}
+use Rattle.iim_dataset.specs.Format.Tags.{BeginsNoTag}
+use Rattle.iim_dataset.specs.Format.Completing.{CompletesData}
+use Rattle.iim_dataset.specs.States.Events.{handed_on}
+use Rattle.iim_dataset.specs.Format.Languages as languages
+use Rattle.iim_dataset.specs.declared.head.Head.{Head}
+use Rattle.iim_fields.specs.Format.Records.{AreSections}
+use Rattle.iim_fields.specs.Format.Alive.{SectionsLive}
+use Rattle.iim_fields.specs.Format.Faults.{section_after}
+use Rattle.iim_fields.specs.Format.Values.{data_of}
+use Rattle.iim_fields.specs.declared.limits.Limits.{Limits}
+use Rattle.iim_object.specs.Laws.Records.{AreSized}
+use Rattle.wire_story.specs.Format.Texts.{Holds}
+use Rattle.wire_story.specs.Format.Tokens.{Octet, End}
+use Rattle.wire_message.specs.Format.Layers.{MessageLanguage, MessageLivesWith, MessageDiesAt, StoryLivesIn, text_so_far}
+use Rattle.wire_message.specs.Format.Causes.{HasCause}
+use Rattle.wire_message.specs.States.SoFar.{LeadsTo}
+use Rattle.wire_message.specs.declared.place.Place.TheVariants.{AfterEnd}
+use Rattle.wire_message.specs.declared.fault.MessageCause.{MessageCause}
+use Rattle.wire_message.specs.declared.fault.MessageCause.TheVariants as messages
+use Rattle.iim_places.specs.Format.Admitted.{Value, Admits, object_of}
+use Rattle.iim_places.specs.Format.Refusals.{begun_record, begun_number, tag_cause, refusal_at, message_on}
+use Rattle.iim_places.specs.Laws.Admitted.{AdmittedOctetsHaveOneValue, NoAdmittedOctetsBeginOthers}
+use Rattle.iim_places.specs.Format.Open.{object_so_far, AllCanContinue, IsUnfinished, IsOpen, IsBadTagAt, IsBadHeadAt, IsBadOctetAt, IsBadValueAt, RefusesNext, truncated_in}
+use Rattle.iim_places.specs.Format.Tokens.{IsRefusedHead, IsRefusedValue}
+use Rattle.iim_places.specs.Laws.Streams.{OpenOctetsBeginWithNoEnvelope, EnvelopesAreBounded, RefusedOctetsWereOpen, NothingContinuesFromRefusedOctets, RefusalsAreDetermined, StreamsHaveOneAnswer}
+use Rattle.iim_places.specs.Format.Streams.{IsEnvelopeWithin, Finished, Refused, Truncated, IsFinished, IsRefused, IsTruncated}
+use Rattle.iim_places.specs.declared.fault.TokenFault.{TokenFault}
+use Rattle.iim_places.specs.declared.refusal.Refusal.{Refusal}
+use Rattle.iim_places.specs.declared.refusal.Layer.TheVariants as layers
+use Rattle.iim_places.specs.declared.refusal.Cause.TheVariants as causes
+use Rattle.iim_places.proofs.ObjectOctets.{lives_whole}
+use Rattle.iim_places.proofs.Following.{Follows, in_front, follows, alive_of, within_of, head_lives, value_lives, object_lives_after, object_on, message_of, story_of, message_ends, ends_tokens}
+use Rattle.iim_places.proofs.Bounds.{head_fits, tag_fits}
+use Rattle.iim_places.proofs.Frames.{no_sections}
+use Rattle.iim_places.proofs.Lasts.{SplitLast, split_last, last_sections}
+use Rattle.iim_places.proofs.Places.{lives_after}
+use Rattle.iim_places.proofs.Refused.{no_dead_head, no_dead_value}
+use Rattle.iim_places.proofs.Admitted.{sized_by}
+use Rattle.iim_places.specs.Laws.Lower.{AnswerLaws}
+
+-- Every layer can continue from the octets, within the limits.
+pub record Lives (limits : Limits) (octets : List ℕ) : Type 0 where
+  pub whole : List Dataset
+  pub begun : Begun
+  pub reads : Reads count_octets octets whole begun
+  pub leads_on : AllCanContinue limits whole begun
+
+-- ---- open octets and envelopes live
+
+pub lives_open : (limits : Limits) (octets : List ℕ) → IsOpen limits octets → Lives limits octets
+lives_open limits octets is = record { whole = is.whole; begun = is.begun; reads = is.reads; leads_on = is.leads_on }
+
+-- an envelope's object leads to the end of its message
+pub leads_to : (octets : List ℕ) (v : Value) → (a : Admits octets v) → LeadsTo (object_of a.datasets) a.text (AfterEnd v.head (record { items = v.trailer }) (length a.message.after))
+leads_to octets v a = record { is_place = (a.message.is_header, a.message.is_trailer, a.message.is_after.2); spelled = (a.message, refl); story = (v.lines, a.lines) }
+
+pub nothing_held : IsBegun count_octets (InTag []) []
+nothing_held = (
+  refl,
+  record { rec = 0; set = 0; count = 0 },
+  28 ∷ 0 ∷ 0 ∷ 0 ∷ 0 ∷ [],
+  record { rec = omega arith; set = omega arith; count = 0 ∷ 0 ∷ []; is_count = inl (omega arith, omega arith, refl, refl); parts = refl },
+  (28 ∷ 0 ∷ 0 ∷ 0 ∷ 0 ∷ [], omega arith, refl),
+)
+
+-- every layer can continue from whole datasets of an envelope
+pub goes_envelope : AnswerLaws → (limits : Limits) (octets : List ℕ) (v : Value) → (is : IsEnvelopeWithin limits octets v) → AllCanContinue limits is.admits.datasets (InTag [])
+goes_envelope laws limits octets v is =
+    let a = is.admits in
+    let ds = a.datasets in
+    let o : List ℕ = object_of ds in
+    let m = a.message in
+    let alive : SectionsLive ds = ([], subst AreSections (sym (append-nil ds)) a.sections) in
+    let sized : languages.IsAlive AreSized ds = ([], subst AreSized (sym (append-nil ds)) (sized_by laws.numbers octets v a)) in
+    let both = laws.living o a.text (AfterEnd v.head (record { items = v.trailer }) (length m.after)) (leads_to octets v a) in
+    record {
+      sizes = record { records = alive; within = is.within; object = lives_after laws.follow.live ds alive sized };
+      message = lives_whole o (nat_eq (section_after ds) 9) both.0 (λ is'. record { object = o; head = v.head; text = a.text; trailer = v.trailer; message = m; tokens_are = refl });
+      story = both.1;
+    }
+
+-- what an envelope's octets read
+pub reads_envelope : (octets : List ℕ) (v : Value) → (a : Admits octets v) → Reads count_octets octets a.datasets (InTag [])
+reads_envelope octets v a = record { front = octets; rest = []; is_front = a.spelled; is_rest = nothing_held; parts = sym (append-nil octets) }
+
+pub lives_envelope : AnswerLaws → (limits : Limits) (octets : List ℕ) (v : Value) → IsEnvelopeWithin limits octets v → Lives limits octets
+lives_envelope laws limits octets v is =
+    record { whole = is.admits.datasets; begun = InTag []; reads = reads_envelope octets v is.admits; leads_on = goes_envelope laws limits octets v is }
+
+-- ---- with a refused octet nothing lives
+
+message_dead : (o : List ℕ) (next : ℕ) → MessageLivesWith (o ++ next ∷ []) → MessageDiesAt o (Octet next) → ⊥
+message_dead o next lives dies = dies.1 (subst (languages.IsAlive MessageLanguage) (map-append Octet o (next ∷ [])) lives)
+
+octet_dead : (cause : MessageCause) (o : List ℕ) (next : ℕ) → cause ≢ messages.Sink → HasCause cause o next → MessageLivesWith (o ++ next ∷ []) → StoryLivesIn (o ++ next ∷ []) → ⊥
+octet_dead messages.BadOctet o next other has message story = message_dead o next message has
+octet_dead messages.Unfinished o next other has message story = has
+octet_dead messages.LoneReturn o next other has message story = has.1.1 story
+octet_dead messages.ControlOctet o next other has message story = has.1.1 story
+octet_dead messages.Sink o next other has message story = other refl
+
+-- what was read, and a next octet in a tag or in data
+tag_on : (octets more : List ℕ) (next : ℕ) (whole : List Dataset) (held : List ℕ) → (r : Reads count_octets octets whole (InTag held)) → octets ++ next ∷ more ≡ r.front ++ ((held ++ next ∷ []) ++ more)
+tag_on octets more next whole held r =
+    ap (λ (l : List ℕ). l ++ next ∷ more) (r.parts ∙ ap (λ (l : List ℕ). r.front ++ l) r.is_rest.0) ∙ append_assoc r.front held (next ∷ more) ∙ ap (λ (l : List ℕ). r.front ++ l) (sym (append_assoc held (next ∷ []) more))
+
+data_on : (octets more : List ℕ) (next : ℕ) (whole : List Dataset) (h : Head) (taken : List ℕ) → (r : Reads count_octets octets whole (InData h taken)) → octets ++ next ∷ more ≡ r.front ++ (r.is_rest.0 ++ (taken ++ next ∷ more))
+data_on octets more next whole h taken r =
+    ap (λ (l : List ℕ). l ++ next ∷ more) (r.parts ∙ ap (λ (l : List ℕ). r.front ++ l) r.is_rest.4) ∙ append_assoc r.front (r.is_rest.0 ++ taken) (next ∷ more) ∙ ap (λ (l : List ℕ). r.front ++ l) (append_assoc r.is_rest.0 taken (next ∷ more))
+
+tag_follows : AnswerLaws → (octets more : List ℕ) (next : ℕ) (W : List Dataset) (c : Begun) → Reads count_octets (octets ++ next ∷ more) W c → (whole : List Dataset) (held : List ℕ) (h : Head) → Reads count_octets octets whole (InTag held)
+    → SpellsTag count_octets h (held ++ next ∷ []) → Follows whole h more W c
+tag_follows laws octets more next W c r whole held h reads tag =
+    follows laws.follow (octets ++ next ∷ more) W c r whole reads.front (held ++ next ∷ []) more h reads.is_front tag (tag_on octets more next whole held reads)
+
+data_follows : AnswerLaws → (octets more : List ℕ) (next : ℕ) (W : List Dataset) (c : Begun) → Reads count_octets (octets ++ next ∷ more) W c → (whole : List Dataset) (h : Head) (taken : List ℕ) → Reads count_octets octets whole (InData h taken)
+    → Follows whole h (taken ++ next ∷ more) W c
+data_follows laws octets more next W c r whole h taken reads =
+    follows laws.follow (octets ++ next ∷ more) W c r whole reads.front reads.is_rest.0 (taken ++ next ∷ more) h reads.is_front reads.is_rest.1 (data_on octets more next whole h taken reads)
+
+no_value : AnswerLaws → (limits : Limits) (W : List Dataset) (c : Begun) → AllCanContinue limits W c → (whole : List Dataset) (h : Head) (z given y : List ℕ) (fault : TokenFault) → Follows whole h z W c → z ≡ given ++ y
+    → length given ≡ h.count → IsRefusedValue whole (data_of h given) fault → ⊥
+no_value laws limits W c all whole h z given y fault f parts many refused =
+    let lives = value_lives laws.follow limits W c all whole h z given y f parts many in
+    no_dead_value laws.follow.live fault.layer whole (data_of h given) lives.0 lives.1 refused.dead
+
+head_dead : AnswerLaws → (limits : Limits) (W : List Dataset) (c : Begun) → AllCanContinue limits W c → (whole : List Dataset) (h : Head) (z : List ℕ) (fault : TokenFault) → Follows whole h z W c
+    → IsRefusedHead limits whole h fault ⊎ IsUnfinished limits whole h fault → ⊥
+head_dead laws limits W c all whole h z fault f (inl refused) = no_dead_head fault.layer limits whole h (head_lives laws.follow limits W c all whole h z f) refused.dead
+head_dead laws limits W c all whole h z fault f (inr unfinished) = unfinished.dies.1 (message_ends laws.follow limits W c all whole h z f unfinished.last)
+
+value_dead : AnswerLaws → (limits : Limits) (octets more : List ℕ) (next : ℕ) (W : List Dataset) (c : Begun) → Reads count_octets (octets ++ next ∷ more) W c → AllCanContinue limits W c → (whole : List Dataset) (h : Head) (given : List ℕ) (fault : TokenFault)
+    → CompletesData octets next whole h given → IsRefusedValue whole (data_of h given) fault → ⊥
+value_dead laws limits octets more next W c r all whole h given fault (inl (taken, reads, parts, many)) refused =
+    no_value laws limits W c all whole h (taken ++ next ∷ more) given more fault (data_follows laws octets more next W c r whole h taken reads)
+    (sym (append_assoc taken (next ∷ []) more) ∙ ap (λ (l : List ℕ). l ++ more) (sym parts)) many refused
+value_dead laws limits octets more next W c r all whole h given fault (inr (held, reads, tag, none, is)) refused =
+    no_value laws limits W c all whole h more given more fault (tag_follows laws octets more next W c r whole held h reads tag)
+    (ap (λ (l : List ℕ). l ++ more) (sym is)) (ap length is ∙ sym none) refused
+
+none_lives : AnswerLaws → (limits : Limits) (octets more : List ℕ) (next : ℕ) (fault : TokenFault) → RefusesNext limits octets next fault → fault.cause ≢ causes.Sink → Lives limits (octets ++ next ∷ more) → ⊥
+none_lives laws limits octets more next fault (inl bad) other lives =
+    laws.stuck octets more next bad.whole bad.held lives.whole lives.begun bad.reads bad.dead lives.reads
+none_lives laws limits octets more next fault (inr (inl bad)) other lives =
+    head_dead laws limits lives.whole lives.begun lives.leads_on bad.whole bad.head more fault (tag_follows laws octets more next lives.whole lives.begun lives.reads bad.whole bad.held bad.head bad.reads bad.tag) bad.refuses
+none_lives laws limits octets more next fault (inr (inr (inl bad))) other lives =
+    let f = data_follows laws octets more next lives.whole lives.begun lives.reads bad.whole bad.head bad.taken bad.reads in
+    let (tail, is) = object_on lives.whole lives.begun bad.whole bad.head bad.taken more next bad.subfile bad.reads.is_rest.2 f in
+    let o : List ℕ = object_of bad.whole ++ bad.taken in
+    octet_dead bad.cause o next (λ sink. other (ap (λ (x : TokenFault). x.cause) bad.is_fault ∙ ap (λ (x : MessageCause). (message_on bad.head x).cause) sink)) bad.has_cause
+    (message_of limits lives.whole lives.begun lives.leads_on (o ++ next ∷ []) tail is) (story_of limits lives.whole lives.begun lives.leads_on (o ++ next ∷ []) tail is)
+none_lives laws limits octets more next fault (inr (inr (inr bad))) other lives =
+    value_dead laws limits octets more next lives.whole lives.begun lives.reads lives.leads_on bad.whole bad.head bad.given fault bad.completes bad.refuses
+
+pub nothing_continues : AnswerLaws → NothingContinuesFromRefusedOctets
+nothing_continues laws limits octets more next fault kills = (
+  λ is. none_lives laws limits octets more next fault kills.refuses kills.by_octets (lives_open limits (octets ++ next ∷ more) is),
+  λ v is. none_lives laws limits octets more next fault kills.refuses kills.by_octets (lives_envelope laws limits (octets ++ next ∷ more) v is),
+)
+
+-- ---- an envelope is bounded
+
+-- the last of some datasets, and what it is spelled by
+record LastOne (ds : List Dataset) (d : Dataset) (octets : List ℕ) : Type 0 where
+  pub front : List ℕ
+  pub last : List ℕ
+  pub is_front : SpellsStream count_octets ds front
+  pub is_last : SpellsDataset count_octets d last
+  pub parts : octets ≡ front ++ last
+
+last_one : (ds : List Dataset) (d : Dataset) (octets : List ℕ) → SpellsStream count_octets (ds ++ d ∷ []) octets → LastOne ds d octets
+last_one [] d octets (first, rest, one, more, parts) =
+    record { front = []; last = first; is_front = refl; is_last = one; parts = parts ∙ ap (λ (l : List ℕ). first ++ l) more ∙ append-nil first }
+last_one (c ∷ ds) d octets (first, rest, one, more, parts) =
+    let later = last_one ds d rest more in
+    record {
+      front = first ++ later.front;
+      last = later.last;
+      is_front = (first, later.front, one, later.is_front, refl);
+      is_last = later.is_last;
+      parts = parts ∙ ap (λ (l : List ℕ). first ++ l) later.parts ∙ sym (append_assoc first later.front later.last);
+    }
+
+pub envelope_bounded : AnswerLaws → EnvelopesAreBounded
+envelope_bounded laws limits octets v low few is = by (split_last is.admits.datasets)
+  where
+    by : SplitLast is.admits.datasets → length octets < 2 ^ 64 - 1
+    by (inl none) = absurd (no_sections (subst AreSections none is.admits.sections))
+    by (inr (ds, d, parts)) =
+        let one = last_one ds d octets (subst (λ (xs : List Dataset). SpellsStream count_octets xs octets) parts is.admits.spelled) in
+        let goes = (in_front laws.follow limits is.admits.datasets (InTag []) (goes_envelope laws limits octets v is).sizes ds [] d parts).goes_at in
+        let unfinished : AreSections ds → ⊥ = λ sections.
+        let bad : d ∷ [] ≡ [] = laws.follow.sections ds (d ∷ []) sections (subst AreSections parts is.admits.sections) in absurd cc in
+        let front = head_fits laws.follow.sections laws.follow.ends limits low few ds (head_of d) one.front one.is_front goes unfinished in
+        let s = one.is_last in
+        omega (arith, front, ap length one.parts, length-append one.front one.last, ap length s.parts, length-append s.tag d.octets, tag_fits (head_of d) s.tag s.is_tag)
+
+-- ---- refused octets were open
+
+not_eight : (r : ℕ) → (r ≡ 8 → ⊥) → nat_eq r 8 ≡ false
+not_eight r other = elim (eqb_tells r 8) [ inl same ↦ absurd (other same.1) | inr apart ↦ apart.0 ]
+
+no_object : (ds : List Dataset) (h : Head) (x y : List ℕ) → (h.rec ≡ 8 → ⊥) → object_so_far ds (InData h x) ≡ object_so_far ds (InData h y)
+no_object ds h x y other = ap (λ (b : Bool). object_of ds ++ (if b then x else [])) (not_eight h.rec other) ∙ sym (ap (λ (b : Bool). object_of ds ++ (if b then y else [])) (not_eight h.rec other))
+
+-- data that are no subfile's change no layer
+pub fewer_data : (limits : Limits) (ds : List Dataset) (h : Head) (x y : List ℕ) → (h.rec ≡ 8 → ⊥) → AllCanContinue limits ds (InData h x) → AllCanContinue limits ds (InData h y)
+fewer_data limits ds h x y other all = record {
+  sizes = all.sizes;
+  message = subst (λ (o : List ℕ). languages.IsAlive MessageLanguage (map Octet o ++ (if nat_eq h.rec 9 then End ∷ [] else []))) (no_object ds h x y other) all.message;
+  story = subst StoryLivesIn (no_object ds h x y other) all.story;
+}
+
+-- before a head
+pub before_it : AnswerLaws → (limits : Limits) (ds : List Dataset) (h : Head) (held : List ℕ) → (h.rec ≡ 8 → ⊥) → (AreSections ds → ⊥) → AllCanContinue limits ds (InData h []) → AllCanContinue limits ds (InTag held)
+before_it laws limits ds h held other unfinished all =
+    let alive = alive_of limits ds (InData h []) all.sizes in
+    let object : object_so_far ds (InData h []) ≡ object_of ds = ap (λ (b : Bool). object_of ds ++ (if b then [] else [])) (not_eight h.rec other) ∙ append-nil (object_of ds) in
+    let not_nine : nat_eq (section_after ds) 9 ≡ false =
+    elim (eqb_tells (section_after ds) 9) [ inl same ↦ absurd (unfinished (last_sections laws.follow.ends ds alive same.1)) | inr apart ↦ apart.0 ] in
+    let message : MessageLivesWith (object_of ds) = message_of limits ds (InData h []) all (object_of ds) [] (object ∙ sym (append-nil (object_of ds))) in
+    record {
+      sizes = record { records = alive; within = within_of limits ds (InData h []) all.sizes; object = object_lives_after laws.follow.objects limits ds (InData h []) all.sizes };
+      message = subst (λ (b : Bool). languages.IsAlive MessageLanguage (map Octet (object_of ds) ++ (if b then End ∷ [] else []))) (sym not_nine)
+          (subst (languages.IsAlive MessageLanguage) (sym (append-nil (map Octet (object_of ds)))) message);
+      story = subst StoryLivesIn object all.story;
+    }
+
+pub was_open : AnswerLaws → RefusedOctetsWereOpen
+was_open laws limits octets next fault (inl bad) = record { whole = bad.whole; begun = InTag bad.held; reads = bad.reads; leads_on = bad.leads_on; unfinished = bad.unfinished }
+was_open laws limits octets next fault (inr (inl bad)) = record { whole = bad.whole; begun = InTag bad.held; reads = bad.reads; leads_on = bad.leads_on; unfinished = bad.unfinished }
+was_open laws limits octets next fault (inr (inr (inl bad))) = record { whole = bad.whole; begun = InData bad.head bad.taken; reads = bad.reads; leads_on = bad.leads_on; unfinished = bad.unfinished }
+was_open laws limits octets next fault (inr (inr (inr bad))) = by bad.completes
+  where
+    by : CompletesData octets next bad.whole bad.head bad.given → IsOpen limits octets
+    by (inl (taken, reads, parts, many)) = record {
+      whole = bad.whole;
+      begun = InData bad.head taken;
+      reads = reads;
+      leads_on = fewer_data limits bad.whole bad.head bad.given taken bad.is_value bad.leads_on;
+      unfinished = bad.unfinished;
+    }
+    by (inr (held, reads, tag, none, is)) = record {
+      whole = bad.whole;
+      begun = InTag held;
+      reads = reads;
+      leads_on = before_it laws limits bad.whole bad.head held bad.is_value bad.unfinished (fewer_data limits bad.whole bad.head bad.given [] bad.is_value bad.leads_on);
+      unfinished = bad.unfinished;
+    }
+
+-- ---- the refusal is determined
+
+-- octets split in one way into whole datasets and a begun one
+pub record SameReading (whole other : List Dataset) (b c : Begun) : Type 0 where
+  pub whole_is : whole ≡ other
+  pub begun_is : b ≡ c
+
+pub one_reading : AnswerLaws → (octets : List ℕ) (whole other : List Dataset) (b c : Begun) → Reads count_octets octets whole b → Reads count_octets octets other c → SameReading whole other b c
+one_reading laws octets whole other b c r s =
+    let way = laws.way octets (handed_on whole b) (handed_on other c) b c (record { whole = whole; reads = r; handed = refl }) (record { whole = other; reads = s; handed = refl }) in
+    record { whole_is = (laws.tell whole other b c way.0).0; begun_is = way.1 }
+
+tag_is : {x y : List ℕ} → InTag x ≡ InTag y → x ≡ y
+tag_is e = cc
+
+head_is : {h k : Head} {x y : List ℕ} → InData h x ≡ InData k y → h ≡ k
+head_is e = cc
+
+data_is : {h k : Head} {x y : List ℕ} → InData h x ≡ InData k y → x ≡ y
+data_is e = cc
+
+not_data : {A : Type 0} {h : Head} {x y : List ℕ} → InTag x ≡ InData h y → A
+not_data e = absurd cc
+
+some_is : {x y : TokenFault} → Some x ≡ Some y → x ≡ y
+some_is e = cc
+
+not_in_tag : AnswerLaws → {A : Type 0} → (octets : List ℕ) (whole other : List Dataset) (held taken : List ℕ) (h : Head) → Reads count_octets octets whole (InTag held) → Reads count_octets octets other (InData h taken) → A
+not_in_tag laws octets whole other held taken h r s = not_data (one_reading laws octets whole other (InTag held) (InData h taken) r s).begun_is
+
+same_tag : AnswerLaws → (octets : List ℕ) (whole other : List Dataset) (held tag : List ℕ) → Reads count_octets octets whole (InTag held) → Reads count_octets octets other (InTag tag) → (whole ≡ other) × (held ≡ tag)
+same_tag laws octets whole other held tag r s =
+    let same = one_reading laws octets whole other (InTag held) (InTag tag) r s in (same.whole_is, tag_is same.begun_is)
+
+same_data : AnswerLaws → (octets : List ℕ) (whole other : List Dataset) (h k : Head) (x y : List ℕ) → Reads count_octets octets whole (InData h x) → Reads count_octets octets other (InData k y) → (whole ≡ other) × (h ≡ k) × (x ≡ y)
+same_data laws octets whole other h k x y r s =
+    let same = one_reading laws octets whole other (InData h x) (InData k y) r s in (same.whole_is, head_is same.begun_is, data_is same.begun_is)
+
+same_head : AnswerLaws → (h k : Head) (held tag : List ℕ) (next : ℕ) → held ≡ tag → SpellsTag count_octets h (held ++ next ∷ []) → SpellsTag count_octets k (tag ++ next ∷ []) → h ≡ k
+same_head laws h k held tag next same s t =
+    (laws.follow.one_tag count_octets h k (held ++ next ∷ []) (tag ++ next ∷ []) [] [] s t (ap (λ (l : List ℕ). (l ++ next ∷ []) ++ []) same)).0
+
+-- a tag that dies is none
+not_tag : {A : Type 0} → (held tag : List ℕ) (next : ℕ) (h : Head) → held ≡ tag → BeginsNoTag count_octets (held ++ next ∷ []) → SpellsTag count_octets h (tag ++ next ∷ []) → A
+not_tag held tag next h same dead spelled =
+    absurd (dead h [] (subst (SpellsTag count_octets h) (sym (append-nil (held ++ next ∷ []) ∙ ap (λ (l : List ℕ). l ++ next ∷ []) same)) spelled))
+
+-- a head that is refused, and one with which all continues
+not_both : AnswerLaws → {A : Type 0} → (limits : Limits) (whole : List Dataset) (h : Head) (given : List ℕ) (fault : TokenFault) → AllCanContinue limits whole (InData h given) → IsRefusedHead limits whole h fault ⊎ IsUnfinished limits whole h fault → A
+not_both laws limits whole h given fault all (inl refused) = absurd (no_dead_head fault.layer limits whole h all.sizes refused.dead)
+not_both laws limits whole h given fault all (inr unfinished) =
+    absurd (unfinished.dies.1 (subst (languages.IsAlive MessageLanguage) (ends_tokens whole h given unfinished.last) all.message))
+
+one_head_fault : (limits : Limits) (whole : List Dataset) (h : Head) (f g : TokenFault) → IsRefusedHead limits whole h f ⊎ IsUnfinished limits whole h f → IsRefusedHead limits whole h g ⊎ IsUnfinished limits whole h g → f ≡ g
+one_head_fault limits whole h f g (inl a) (inl b) = some_is (sym a.first ∙ b.first)
+one_head_fault limits whole h f g (inl a) (inr b) = absurd (no_dead_head f.layer limits whole h b.leads_on a.dead)
+one_head_fault limits whole h f g (inr a) (inl b) = absurd (no_dead_head g.layer limits whole h a.leads_on b.dead)
+one_head_fault limits whole h f g (inr a) (inr b) = a.is_fault ∙ sym b.is_fault
+
+-- ---- one cause of an octet
+
+pub not_held : AnswerLaws → {A : Type 0} → (text : List ℕ) (held : ℕ) → 0 < held → Holds text held → Holds text 0 → A
+not_held laws text held some (lines, line, so_far) (others, other, none) =
+    absurd (let same = (laws.texts text lines others line other held 0 so_far none).2 in omega (arith, some, same))
+
+one_cause : AnswerLaws → (a b : MessageCause) (o : List ℕ) (next : ℕ) → HasCause a o next → HasCause b o next → a ≡ b
+one_cause laws messages.BadOctet messages.BadOctet o next h k = refl
+one_cause laws messages.BadOctet messages.Unfinished o next h k = absurd k
+one_cause laws messages.BadOctet messages.LoneReturn o next h k = absurd (message_dead o next k.0 h)
+one_cause laws messages.BadOctet messages.ControlOctet o next h k = absurd (message_dead o next k.0 h)
+one_cause laws messages.BadOctet messages.Sink o next h k = absurd (message_dead o next k.0 h)
+one_cause laws messages.Unfinished b o next h k = absurd h
+one_cause laws messages.LoneReturn messages.BadOctet o next h k = absurd (message_dead o next h.0 k)
+one_cause laws messages.LoneReturn messages.Unfinished o next h k = absurd k
+one_cause laws messages.LoneReturn messages.LoneReturn o next h k = refl
+one_cause laws messages.LoneReturn messages.ControlOctet o next h k = not_held laws (text_so_far o) h.2.0 h.2.1 h.2.2 k.2
+one_cause laws messages.LoneReturn messages.Sink o next h k = absurd (h.1.1 k.1)
+one_cause laws messages.ControlOctet messages.BadOctet o next h k = absurd (message_dead o next h.0 k)
+one_cause laws messages.ControlOctet messages.Unfinished o next h k = absurd k
+one_cause laws messages.ControlOctet messages.LoneReturn o next h k = not_held laws (text_so_far o) k.2.0 k.2.1 k.2.2 h.2
+one_cause laws messages.ControlOctet messages.ControlOctet o next h k = refl
+one_cause laws messages.ControlOctet messages.Sink o next h k = absurd (h.1.1 k.1)
+one_cause laws messages.Sink messages.BadOctet o next h k = absurd (message_dead o next h.0 k)
+one_cause laws messages.Sink messages.Unfinished o next h k = absurd k
+one_cause laws messages.Sink messages.LoneReturn o next h k = absurd (k.1.1 h.1)
+one_cause laws messages.Sink messages.ControlOctet o next h k = absurd (k.1.1 h.1)
+one_cause laws messages.Sink messages.Sink o next h k = refl
+
+-- ---- each two refusals
+
+tags_agree : AnswerLaws → (limits : Limits) (octets : List ℕ) (next : ℕ) (f g : TokenFault) → IsBadTagAt limits octets next f → IsBadTagAt limits octets next g → f ≡ g
+tags_agree laws limits octets next f g a b =
+    let same = (same_tag laws octets a.whole b.whole a.held b.held a.reads b.reads).1 in
+    a.is_fault ∙ ap (λ (held : List ℕ). record { layer = layers.Dataset; rec = begun_record (InTag held); set = begun_number (InTag held); cause = tag_cause held }) same
+    ∙ sym b.is_fault
+
+tag_not_head : AnswerLaws → {A : Type 0} → (limits : Limits) (octets : List ℕ) (next : ℕ) (f g : TokenFault) → IsBadTagAt limits octets next f → IsBadHeadAt limits octets next g → A
+tag_not_head laws limits octets next f g a b =
+    not_tag a.held b.held next b.head (same_tag laws octets a.whole b.whole a.held b.held a.reads b.reads).1 a.dead b.tag
+
+tag_not_octet : AnswerLaws → {A : Type 0} → (limits : Limits) (octets : List ℕ) (next : ℕ) (f g : TokenFault) → IsBadTagAt limits octets next f → IsBadOctetAt limits octets next g → A
+tag_not_octet laws limits octets next f g a b = not_in_tag laws octets a.whole b.whole a.held b.taken b.head a.reads b.reads
+
+tag_not_value : AnswerLaws → {A : Type 0} → (limits : Limits) (octets : List ℕ) (next : ℕ) (f g : TokenFault) → IsBadTagAt limits octets next f → IsBadValueAt limits octets next g → A
+tag_not_value laws {A} limits octets next f g a b = by b.completes
+  where
+    by : CompletesData octets next b.whole b.head b.given → A
+    by (inl (taken, reads, parts, many)) = not_in_tag laws octets a.whole b.whole a.held taken b.head a.reads reads
+    by (inr (held, reads, tag, none, is)) = not_tag a.held held next b.head (same_tag laws octets a.whole b.whole a.held held a.reads reads).1 a.dead tag
+
+heads_agree : AnswerLaws → (limits : Limits) (octets : List ℕ) (next : ℕ) (f g : TokenFault) → IsBadHeadAt limits octets next f → IsBadHeadAt limits octets next g → f ≡ g
+heads_agree laws limits octets next f g a b =
+    let same = same_tag laws octets a.whole b.whole a.held b.held a.reads b.reads in
+    let head = same_head laws a.head b.head a.held b.held next same.1 a.tag b.tag in
+    one_head_fault limits b.whole b.head f g
+    (subst (λ (h : Head). IsRefusedHead limits b.whole h f ⊎ IsUnfinished limits b.whole h f) head (subst (λ (ds : List Dataset). IsRefusedHead limits ds a.head f ⊎ IsUnfinished limits ds a.head f) same.0 a.refuses)) b.refuses
+
+head_not_octet : AnswerLaws → {A : Type 0} → (limits : Limits) (octets : List ℕ) (next : ℕ) (f g : TokenFault) → IsBadHeadAt limits octets next f → IsBadOctetAt limits octets next g → A
+head_not_octet laws limits octets next f g a b = not_in_tag laws octets a.whole b.whole a.held b.taken b.head a.reads b.reads
+
+head_not_value : AnswerLaws → {A : Type 0} → (limits : Limits) (octets : List ℕ) (next : ℕ) (f g : TokenFault) → IsBadHeadAt limits octets next f → IsBadValueAt limits octets next g → A
+head_not_value laws {A} limits octets next f g a b = by b.completes
+  where
+    by : CompletesData octets next b.whole b.head b.given → A
+    by (inl (taken, reads, parts, many)) = not_in_tag laws octets a.whole b.whole a.held taken b.head a.reads reads
+    by (inr (held, reads, tag, none, is)) =
+        let same = same_tag laws octets a.whole b.whole a.held held a.reads reads in
+        let head = same_head laws a.head b.head a.held held next same.1 a.tag tag in
+        not_both laws limits b.whole b.head b.given f b.leads_on
+        (subst (λ (h : Head). IsRefusedHead limits b.whole h f ⊎ IsUnfinished limits b.whole h f) head (subst (λ (ds : List Dataset). IsRefusedHead limits ds a.head f ⊎ IsUnfinished limits ds a.head f) same.0 a.refuses))
+
+octets_agree : AnswerLaws → (limits : Limits) (octets : List ℕ) (next : ℕ) (f g : TokenFault) → IsBadOctetAt limits octets next f → IsBadOctetAt limits octets next g → f ≡ g
+octets_agree laws limits octets next f g a b =
+    let same = same_data laws octets a.whole b.whole a.head b.head a.taken b.taken a.reads b.reads in
+    let has : HasCause a.cause (object_of b.whole ++ b.taken) next =
+    subst (λ (xs : List ℕ). HasCause a.cause (object_of b.whole ++ xs) next) same.2 (subst (λ (ds : List Dataset). HasCause a.cause (object_of ds ++ a.taken) next) same.0 a.has_cause) in
+    let cause = one_cause laws a.cause b.cause (object_of b.whole ++ b.taken) next has b.has_cause in
+    a.is_fault ∙ ap (λ (h : Head). message_on h a.cause) same.1 ∙ ap (message_on b.head) cause ∙ sym b.is_fault
+
+octet_not_value : AnswerLaws → {A : Type 0} → (limits : Limits) (octets : List ℕ) (next : ℕ) (f g : TokenFault) → IsBadOctetAt limits octets next f → IsBadValueAt limits octets next g → A
+octet_not_value laws {A} limits octets next f g a b = by b.completes
+  where
+    by : CompletesData octets next b.whole b.head b.given → A
+    by (inl (taken, reads, parts, many)) =
+        let same = same_data laws octets a.whole b.whole a.head b.head a.taken taken a.reads reads in
+        absurd (b.is_value (sym (ap (λ (h : Head). h.rec) same.1) ∙ a.subfile))
+    by (inr (held, reads, tag, none, is)) = not_in_tag laws octets b.whole a.whole held a.taken a.head reads a.reads
+
+record SameValue (a b : List Dataset) (h k : Head) (x y : List ℕ) : Type 0 where
+  pub whole_is : a ≡ b
+  pub head_is : h ≡ k
+  pub given_is : x ≡ y
+
+one_value : AnswerLaws → (octets : List ℕ) (next : ℕ) (whole other : List Dataset) (h k : Head) (x y : List ℕ) → CompletesData octets next whole h x → CompletesData octets next other k y → SameValue whole other h k x y
+one_value laws octets next whole other h k x y (inl (taken, reads, parts, many)) (inl (took, are, pieces, count)) =
+    let same = same_data laws octets whole other h k taken took reads are in
+    record { whole_is = same.0; head_is = same.1; given_is = parts ∙ ap (λ (l : List ℕ). l ++ next ∷ []) same.2 ∙ sym pieces }
+one_value laws octets next whole other h k x y (inl (taken, reads, parts, many)) (inr (held, are, tag, none, is)) = not_in_tag laws octets other whole held taken h are reads
+one_value laws octets next whole other h k x y (inr (held, reads, tag, none, is)) (inl (took, are, pieces, count)) = not_in_tag laws octets whole other held took k reads are
+one_value laws octets next whole other h k x y (inr (held, reads, tag, none, is)) (inr (holds, are, that, zero', empty)) =
+    let same = same_tag laws octets whole other held holds reads are in
+    record { whole_is = same.0; head_is = same_head laws h k held holds next same.1 tag that; given_is = is ∙ sym empty }
+
+values_agree : AnswerLaws → (limits : Limits) (octets : List ℕ) (next : ℕ) (f g : TokenFault) → IsBadValueAt limits octets next f → IsBadValueAt limits octets next g → f ≡ g
+values_agree laws limits octets next f g a b =
+    let same = one_value laws octets next a.whole b.whole a.head b.head a.given b.given a.completes b.completes in
+    let refused : IsRefusedValue b.whole (data_of b.head b.given) f =
+    subst (λ (x : List ℕ). IsRefusedValue b.whole (data_of b.head x) f) same.given_is
+    (subst (λ (h : Head). IsRefusedValue b.whole (data_of h a.given) f) same.head_is (subst (λ (ds : List Dataset). IsRefusedValue ds (data_of a.head a.given) f) same.whole_is a.refuses)) in
+    some_is (sym refused.first ∙ b.refuses.first)
+
+pub one_refusal : AnswerLaws → RefusalsAreDetermined
+one_refusal laws limits octets next f g (inl a) (inl b) = tags_agree laws limits octets next f g a b
+one_refusal laws limits octets next f g (inl a) (inr (inl b)) = tag_not_head laws limits octets next f g a b
+one_refusal laws limits octets next f g (inl a) (inr (inr (inl b))) = tag_not_octet laws limits octets next f g a b
+one_refusal laws limits octets next f g (inl a) (inr (inr (inr b))) = tag_not_value laws limits octets next f g a b
+one_refusal laws limits octets next f g (inr (inl a)) (inl b) = tag_not_head laws limits octets next g f b a
+one_refusal laws limits octets next f g (inr (inl a)) (inr (inl b)) = heads_agree laws limits octets next f g a b
+one_refusal laws limits octets next f g (inr (inl a)) (inr (inr (inl b))) = head_not_octet laws limits octets next f g a b
+one_refusal laws limits octets next f g (inr (inl a)) (inr (inr (inr b))) = head_not_value laws limits octets next f g a b
+one_refusal laws limits octets next f g (inr (inr (inl a))) (inl b) = tag_not_octet laws limits octets next g f b a
+one_refusal laws limits octets next f g (inr (inr (inl a))) (inr (inl b)) = head_not_octet laws limits octets next g f b a
+one_refusal laws limits octets next f g (inr (inr (inl a))) (inr (inr (inl b))) = octets_agree laws limits octets next f g a b
+one_refusal laws limits octets next f g (inr (inr (inl a))) (inr (inr (inr b))) = octet_not_value laws limits octets next f g a b
+one_refusal laws limits octets next f g (inr (inr (inr a))) (inl b) = tag_not_value laws limits octets next g f b a
+one_refusal laws limits octets next f g (inr (inr (inr a))) (inr (inl b)) = head_not_value laws limits octets next g f b a
+one_refusal laws limits octets next f g (inr (inr (inr a))) (inr (inr (inl b))) = octet_not_value laws limits octets next g f b a
+one_refusal laws limits octets next f g (inr (inr (inr a))) (inr (inr (inr b))) = values_agree laws limits octets next f g a b
+
+-- ---- one answer
+
+-- a stream, cut before one of its octets
+cut_at : (stream : List ℕ) (k : ℕ) → k < length stream → (more : List ℕ) × (stream ≡ take k stream ++ slice_index stream k ∷ more)
+cut_at [] k fits = absurd (omega (arith, fits))
+cut_at (b ∷ stream) zero fits = (stream, refl)
+cut_at (b ∷ stream) (suc k) fits =
+    let (more, is) = cut_at stream k (omega (arith, fits)) in (more, λ i. b ∷ is i)
+
+-- a front of it that has the octet
+front_at : (stream : List ℕ) (k n : ℕ) → k < n → n ≤ length stream → (more : List ℕ) × (take n stream ≡ take k stream ++ slice_index stream k ∷ more)
+front_at [] k n less fits = absurd (omega (arith, less, fits))
+front_at (b ∷ stream) k zero less fits = absurd (omega (arith, less))
+front_at (b ∷ stream) zero (suc n) less fits = (take n stream, refl)
+front_at (b ∷ stream) (suc k) (suc n) less fits =
+    let (more, is) = front_at stream k n (omega (arith, less)) (omega (arith, fits)) in (more, λ i. b ∷ is i)
+
+-- what the laws say of one stream
+pub record StreamLaws : Type 0 where
+  pub answer : AnswerLaws
+  pub value : AdmittedOctetsHaveOneValue
+  pub others : NoAdmittedOctetsBeginOthers
+  pub none : OpenOctetsBeginWithNoEnvelope
+
+same_length : StreamLaws → (stream : List ℕ) (n m : ℕ) (v w : Value) → n ≤ length stream → m ≤ length stream → Admits (take n stream) v → Admits (take m stream) w → n < m → ⊥
+same_length laws stream n m v w short long a b less =
+    let (more, is) = front_at stream n m less long in
+    let bad : slice_index stream n ∷ more ≡ [] = laws.others (take n stream) (slice_index stream n ∷ more) v w a (subst (λ (o : List ℕ). Admits o w) is b) in absurd cc
+
+-- an envelope, and a refusal
+ends_or_dies : {A : Type 0} → StreamLaws → (limits : Limits) (stream : List ℕ) (used : ℕ) (v : Value) (e : Refusal) → IsFinished limits stream used v → IsRefused limits stream e → A
+ends_or_dies laws limits stream used v e a b = elim (cases_lt e.octet used) [
+  | inl later ↦
+      let (more, is) = front_at stream e.octet used later a.fits in
+      absurd ((nothing_continues laws.answer limits (take e.octet stream) more (slice_index stream e.octet) b.fault b.kills).1 v (subst (λ (o : List ℕ). IsEnvelopeWithin limits o v) is a.envelope))
+  | inr earlier ↦
+      absurd (laws.none limits (take e.octet stream) (take used stream) (drop used (take e.octet stream)) v
+      (was_open laws.answer limits (take e.octet stream) (slice_index stream e.octet) b.fault b.kills.refuses)
+      (sym (take-append-drop used (take e.octet stream)) ∙ ap (λ (l : List ℕ). l ++ drop used (take e.octet stream)) (take-take used e.octet stream (omega (arith, earlier)))) a.envelope.admits)
+]
+
+ends_or_breaks : {A : Type 0} → StreamLaws → (limits : Limits) (stream : List ℕ) (used : ℕ) (v : Value) (e : Refusal) → IsFinished limits stream used v → IsTruncated limits stream e → A
+ends_or_breaks laws limits stream used v e a b = absurd (laws.none limits stream (take used stream) (drop used stream) v b.is_open (sym (take-append-drop used stream)) a.envelope.admits)
+
+dies_or_breaks : {A : Type 0} → StreamLaws → (limits : Limits) (stream : List ℕ) (e f : Refusal) → IsRefused limits stream e → IsTruncated limits stream f → A
+dies_or_breaks laws limits stream e f a b =
+    let (more, is) = cut_at stream e.octet a.fits in
+    absurd ((nothing_continues laws.answer limits (take e.octet stream) more (slice_index stream e.octet) a.fault a.kills).0 (subst (IsOpen limits) is b.is_open))
+
+dies_before : StreamLaws → (limits : Limits) (stream : List ℕ) (e f : Refusal) → IsRefused limits stream e → IsRefused limits stream f → e.octet < f.octet → ⊥
+dies_before laws limits stream e f a b less =
+    let fits = b.fits in
+    let (more, is) = front_at stream e.octet f.octet less (omega (arith, fits)) in
+    (nothing_continues laws.answer limits (take e.octet stream) more (slice_index stream e.octet) a.fault a.kills).0
+    (subst (IsOpen limits) is (was_open laws.answer limits (take f.octet stream) (slice_index stream f.octet) b.fault b.kills.refuses))
+
+same_death : StreamLaws → (limits : Limits) (stream : List ℕ) (e f : Refusal) → IsRefused limits stream e → IsRefused limits stream f → e.octet ≡ f.octet → e ≡ f
+same_death laws limits stream e f a b same =
+    let refuses : RefusesNext limits (take f.octet stream) (slice_index stream f.octet) a.fault =
+    subst (λ (k : ℕ). RefusesNext limits (take k stream) (slice_index stream k) a.fault) same a.kills.refuses in
+    let fault = one_refusal laws.answer limits (take f.octet stream) (slice_index stream f.octet) a.fault b.fault refuses b.kills.refuses in
+    a.refusal ∙ ap (λ (k : ℕ). refusal_at k a.fault) same ∙ ap (refusal_at f.octet) fault ∙ sym b.refusal
+
+one_end : StreamLaws → (limits : Limits) (stream : List ℕ) (n m : ℕ) (v w : Value) → IsFinished limits stream n v → IsFinished limits stream m w → n ≡ m → Finished n v ≡ Finished m w
+one_end laws limits stream n m v w a b same =
+    let value : v ≡ w = laws.value (take m stream) v w (subst (λ (k : ℕ). Admits (take k stream) v) same a.envelope.admits) b.envelope.admits in
+    λ i. Finished (same i) (value i)
+
+one_break : StreamLaws → (limits : Limits) (stream : List ℕ) (e f : Refusal) → IsTruncated limits stream e → IsTruncated limits stream f → e ≡ f
+one_break laws limits stream e f a b =
+    let s = a.refusal in
+    let t = b.refusal in
+    let same = (one_reading laws.answer stream s.whole t.whole s.begun t.begun s.reads t.reads).begun_is in
+    s.refusal ∙ ap (λ (x : Begun). truncated_in (length stream) (begun_record x, begun_number x)) same ∙ sym t.refusal
+
+pub one_answer : StreamLaws → StreamsHaveOneAnswer
+one_answer laws limits stream (Finished n v) (Finished m w) a b = elim (cases_lt n m) [
+  | inl less ↦ absurd (same_length laws stream n m v w a.fits b.fits a.envelope.admits b.envelope.admits less)
+  | inr ge ↦ elim (cases_lt m n) [
+    | inl less ↦ absurd (same_length laws stream m n w v b.fits a.fits b.envelope.admits a.envelope.admits less)
+    | inr le ↦ one_end laws limits stream n m v w a b (omega (arith, ge, le))
+  ]
+]
+one_answer laws limits stream (Finished n v) (Refused e) a b = ends_or_dies laws limits stream n v e a b
+one_answer laws limits stream (Finished n v) (Truncated e) a b = ends_or_breaks laws limits stream n v e a b
+one_answer laws limits stream (Refused e) (Finished n v) a b = ends_or_dies laws limits stream n v e b a
+one_answer laws limits stream (Refused e) (Refused f) a b = elim (cases_lt e.octet f.octet) [
+  | inl less ↦ absurd (dies_before laws limits stream e f a b less)
+  | inr ge ↦ elim (cases_lt f.octet e.octet) [
+    | inl less ↦ absurd (dies_before laws limits stream f e b a less)
+    | inr le ↦ ap Refused (same_death laws limits stream e f a b (omega (arith, ge, le)))
+  ]
+]
+one_answer laws limits stream (Refused e) (Truncated f) a b = dies_or_breaks laws limits stream e f a b
+one_answer laws limits stream (Truncated e) (Finished n v) a b = ends_or_breaks laws limits stream n v e b a
+one_answer laws limits stream (Truncated e) (Refused f) a b = dies_or_breaks laws limits stream f e b a
+one_answer laws limits stream (Truncated e) (Truncated f) a b = ap Truncated (one_break laws limits stream e f a b)

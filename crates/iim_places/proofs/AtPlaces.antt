@@ -1,0 +1,149 @@
+-- Readers at a place: the message that a ticket tells, and what the record layer can continue with.
+use Rattle.std.proofs.Common.{◌≡◌, ℕ, zero, suc, ◌≤◌, ◌↔◌, Bool, true, false, cond, IsTrue, IsSome, IfSome, IfNone, OnOk, IfErr, Option, Some, None, Result, Ok, Err, is_ok, List, [], ◌∷◌, length, map, get_or, replicate, refl, ap, sym, subst, ◌∙◌, inl, inr, arith, Bor}
+use Rattle.std.proofs.lemmas.Bool.Decides.{eqb_tells}
+use Rattle.std.proofs.lemmas.List.{length-replicate}
+use Rattle.std.specs.List.{AllByRecursion}
+use Rattle.iim_dataset.specs.Format.Octets.{Octets}
+use Rattle.iim_dataset.specs.Format.Datasets.{Dataset, head_of, count_octets}
+use Rattle.iim_dataset.specs.States.Events.{DatasetEvent}
+use Rattle.iim_dataset.specs.States.Places.{IsPlace, LeadsTo}
+use Rattle.iim_dataset.specs.declared.head.Head.{Head}
+use Rattle.iim_dataset.specs.declared.place.DatasetPlace.{DatasetPlace}
+use Rattle.iim_fields.specs.Format.Alive.{SectionsLive, SectionsLiveAt}
+use Rattle.iim_fields.specs.States.Checks.{HasChecked, HasTaken, IsRecordFault}
+use Rattle.iim_fields.specs.Format.Faults.{joined, kept, kept_octets}
+use Rattle.iim_fields.specs.Format.Bounds.{IsWithin}
+use Rattle.iim_fields.specs.declared.check.RecordPlace.{RecordPlace}
+use Rattle.iim_fields.specs.declared.fault.FieldFault.{FieldFault}
+use Rattle.wire_message.specs.States.Reading.{StandsAt}
+use Rattle.wire_message.specs.States.SoFar.{LeadsTo as LeadTo}
+use Rattle.wire_message.specs.States.Saved.{IsAt, LeadsToSaved}
+use Rattle.wire_message.specs.declared.place.Place.{Place as Message}
+use Rattle.wire_message.specs.declared.saved.MessagePlace.{MessagePlace}
+use Rattle.iim_places.specs.States.Begins.{AreNumbers, IsSize}
+use Rattle.iim_places.specs.States.ByLayers.{RecordsLive, head_of_numbers}
+use Rattle.iim_places.specs.Plain.{number_list}
+use Rattle.iim_places.specs.Laws.Tickets.{texts_of}
+use Rattle.iim_places.specs.States.Possible.{widest}
+use Rattle.iim_places.specs.Taking.{AreKept, CanContinueWithin, IsMessageOf, numbers_told, told_datasets}
+use Rattle.iim_places.specs.Format.Tickets.{Phase, TagBegun, DataBegun, AllEnded}
+use Rattle.iim_places.proofs.Fitting.{part_told}
+use Rattle.iim_places.proofs.Plain.{kept_fields, plain_told}
+use Rattle.iim_places.proofs.Taking.{head_alive}
+
+-- ---- tags
+
+-- A reader is made exactly at a place that octets lead to.
+pub some_place : {X : Type 0} (result : Option X) (place : DatasetPlace) → IsSome result ↔ ((octets : List ℕ) × (events : List DatasetEvent) × LeadsTo count_octets octets events place)
+    → IsPlace place ↔ ((octets : List ℕ) × (events : List DatasetEvent) × LeadsTo count_octets octets events place) → (P : Type 0) → (IsPlace place → P) → IfSome result (λ r. P)
+some_place (Some r) place exactly law P by = by (law.1 (exactly.0 refl))
+some_place None place exactly law P by = tt
+
+pub no_place : {X : Type 0} (result : Option X) (place : DatasetPlace) → IsSome result ↔ ((octets : List ℕ) × (events : List DatasetEvent) × LeadsTo count_octets octets events place)
+    → IsPlace place ↔ ((octets : List ℕ) × (events : List DatasetEvent) × LeadsTo count_octets octets events place) → (P : Type 0) → (P → IsPlace place) → IfNone result (P → ⊥)
+no_place (Some r) place exactly law P by = tt
+no_place None place exactly law P by = λ p. let bad : false ≡ true = exactly.1 (law.0 (by p)) in cc
+
+-- ---- records
+
+zeros : (n : ℕ) → Octets (replicate n 0)
+zeros zero = tt
+zeros (suc n) = (omega arith, zeros n)
+
+-- After a head that was taken datasets can continue.
+pub taken_alive : (check : Option RecordPlace) (ds : List Dataset) (h : Head) → HasTaken check ds h → SectionsLiveAt ds h
+taken_alive check ds h taken = elim (eqb_tells h.rec 8) [
+  | inl eight ↦
+      let d : Dataset = record { rec = h.rec; set = h.set; octets = replicate h.count 0 } in
+      let is : head_of d ≡ h = ap (λ (n : ℕ). head_of_numbers h.rec h.set n) (length-replicate h.count 0) in
+      (d, is, (taken.subfile eight.1 d is (zeros h.count)).alive)
+  | inr other ↦ (taken.checking other.1).alive
+]
+
+pub lives_at : (old new : Option RecordPlace) (h : Head) (r : Result (Unit {0}) FieldFault) → OnOk r ((ds : List Dataset) → HasChecked old ds → HasTaken new ds h) → IsTrue (is_ok r)
+    → (ds : List Dataset) → HasChecked old ds → SectionsLiveAt ds h
+lives_at old new h (Ok u) stands yes' ds s = taken_alive new ds h (stands ds s)
+lives_at old new h (Err e) stands yes' ds s = let bad : false ≡ true = yes' in cc
+
+pub dies_at : (old : Option RecordPlace) (h : Head) (r : Result (Unit {0}) FieldFault) → IfErr r (λ fault. (ds : List Dataset) → HasChecked old ds → IsRecordFault ds h fault) → is_ok r ≡ false
+    → (ds : List Dataset) → HasChecked old ds → SectionsLiveAt ds h → ⊥
+dies_at old h (Ok u) fault no' ds s alive = let bad : true ≡ false = no' in cc
+dies_at old h (Err e) fault no' ds s alive = (fault ds s).dead alive
+
+pub live_alive : (section : ℕ) (phase : Phase) (ds : List Dataset) → RecordsLive section phase ds → SectionsLive ds
+live_alive section (TagBegun held) ds lives = lives.1
+live_alive section (DataBegun set count left taken) ds lives = head_alive ds (head_of_numbers section set count) lives
+live_alive section AllEnded ds lives = lives.1
+
+pub fits_told : (numbers : List (Option ℕ)) → AreNumbers numbers → AllByRecursion IsSize (number_list (numbers_told numbers))
+fits_told [] fit = absurd (let bad = fit.four in omega (arith, bad))
+fits_told (a ∷ []) fit = absurd (let bad = fit.four in omega (arith, bad))
+fits_told (a ∷ b ∷ []) fit = absurd (let bad = fit.four in omega (arith, bad))
+fits_told (a ∷ b ∷ c ∷ []) fit = absurd (let bad = fit.four in omega (arith, bad))
+fits_told (a ∷ b ∷ c ∷ d ∷ []) fit = fit.each
+fits_told (a ∷ b ∷ c ∷ d ∷ e ∷ more) fit = absurd (let bad = fit.four in omega (arith, bad))
+
+none_fits : (n : ℕ) → length {A = ℕ} [] ≤ n
+none_fits n = omega arith
+
+pub leads_on_told : (section : ℕ) (phase : Phase) (fields : List Dataset) (numbers : List (Option ℕ)) (some ended : Bool) → AreNumbers numbers → AreKept fields → IsWithin widest (kept_octets fields) (length fields)
+    → RecordsLive section phase (told_datasets fields numbers some ended) → CanContinueWithin widest (told_datasets fields numbers some ended)
+leads_on_told section phase fields numbers some ended fit each within lives =
+    let told = told_datasets fields numbers some ended in
+    let are : kept told ≡ fields = (plain_told fields (numbers_told numbers) (cond some 1 0) [] ended each (fits_told numbers fit) (none_fits _)).kept_are in
+    let octets : kept_octets told ≡ kept_octets fields = ap (λ (ds : List Dataset). length (joined ds)) (are ∙ sym (kept_fields fields each)) in
+    let many : length (kept told) ≡ length fields = ap length are in
+    record { alive = live_alive section phase told lives; within = record { octets_in = omega (arith, octets, within.octets_in); fields_in = omega (arith, many, within.fields_in) } }
+
+-- ---- the message
+
+pub texts_seven : (texts : List (Bor (List ℕ))) (z : Bor (List ℕ)) → length texts ≡ 7
+    → (get_or texts 0 z).now ∷ (get_or texts 1 z).now ∷ (get_or texts 2 z).now ∷ (get_or texts 3 z).now ∷ (get_or texts 4 z).now ∷ (get_or texts 5 z).now ∷ (get_or texts 6 z).now ∷ [] ≡ map (λ t. t.now) texts
+texts_seven [] z is = absurd (omega (arith, is))
+texts_seven (a ∷ []) z is = absurd (omega (arith, is))
+texts_seven (a ∷ b ∷ []) z is = absurd (omega (arith, is))
+texts_seven (a ∷ b ∷ c ∷ []) z is = absurd (omega (arith, is))
+texts_seven (a ∷ b ∷ c ∷ d ∷ []) z is = absurd (omega (arith, is))
+texts_seven (a ∷ b ∷ c ∷ d ∷ e ∷ []) z is = absurd (omega (arith, is))
+texts_seven (a ∷ b ∷ c ∷ d ∷ e ∷ f ∷ []) z is = absurd (omega (arith, is))
+texts_seven (a ∷ b ∷ c ∷ d ∷ e ∷ f ∷ g ∷ []) z is = refl
+texts_seven (a ∷ b ∷ c ∷ d ∷ e ∷ f ∷ g ∷ h ∷ more) z is = absurd (omega (arith, is))
+
+first_text : {x y : List ℕ} {a b : List (List ℕ)} → x ∷ a ≡ y ∷ b → x ≡ y
+first_text e = cc
+
+other_texts : {x y : List ℕ} {a b : List (List ℕ)} → x ∷ a ≡ y ∷ b → a ≡ b
+other_texts e = cc
+
+-- What a ticket tells of a message is one place.
+pub same_message : (part counter flag : ℕ) (texts : List (List ℕ)) (m n : MessagePlace) → IsMessageOf part counter flag texts m → IsMessageOf part counter flag texts n → m ≡ n
+same_message part counter flag texts m n is are =
+    let at = part_told m.part n.part (is.part_is ∙ sym are.part_is) in
+    let counters : m.counter ≡ n.counter = is.counter_is ∙ sym are.counter_is in
+    let flags : m.flag ≡ n.flag = is.flag_is ∙ sym are.flag_is in
+    let t0 : texts_of m ≡ texts_of n = is.texts_are ∙ sym are.texts_are in
+    let t1 = other_texts t0 in
+    let t2 = other_texts t1 in
+    let t3 = other_texts t2 in
+    let t4 = other_texts t3 in
+    let t5 = other_texts t4 in
+    let t6 = other_texts t5 in
+    λ i. record {
+      part = at i;
+      counter = counters i;
+      flag = flags i;
+      source = record { items = first_text t0 i };
+      number = record { items = first_text t1 i };
+      priority = record { items = first_text t2 i };
+      category = record { items = first_text t3 i };
+      words = record { items = first_text t4 i };
+      info = record { items = first_text t5 i };
+      trailer = record { items = first_text t6 i };
+    }
+
+some_same : {X : Type 0} {x y : X} → Some x ≡ Some y → x ≡ y
+some_same e = cc
+
+-- Octets that lead to where the reader stands lead to its place as it is saved.
+pub leads_saved : (reader : Option Message) (octets text : List ℕ) (m : MessagePlace) → IsAt reader m → StandsAt reader octets text → LeadsToSaved octets text m
+leads_saved reader octets text m at stands = (at.0, subst (LeadTo octets text) (some_same (sym stands.1 ∙ at.1)) stands.2, at.2)

@@ -1,0 +1,807 @@
+-- A place where each layer alone can be is possible: its plain octets lead there.
+use Rattle.std.proofs.Common.{IsTrue, ◌≡◌, ℕ, ◌+◌, ◌*◌, ◌-◌, ◌<◌, ◌≤◌, ◌^◌, nat_eq, if◌then◌else◌, Bool, true, false, List, [], ◌∷◌, ◌++◌, length, map, sum, take, drop, Option, Some, None, IfSome, refl, ap, sym, subst, ◌∙◌, inl, inr, arith, append_assoc, append-nil, length-append, length-drop}
+use Rattle.std.specs.List.{AllByRecursion}
+use Rattle.std.specs.Option.{unwrap_or}
+use Rattle.std.proofs.lemmas.Bool.{eqb-true}
+use Rattle.std.proofs.lemmas.Bool.Decides.{eqb_tells}
+use Rattle.std.proofs.lemmas.List.{length-take, take-append-drop}
+use Rattle.iim_dataset.specs.Format.Octets.{IsOctet, Octets, number, greatest_size}
+use Rattle.iim_dataset.specs.Format.Datasets.{Dataset, SpellsTag, SpellsStream, canonical_stream, count_octets, of_record}
+use Rattle.iim_dataset.specs.Format.Languages as languages
+use Rattle.iim_dataset.specs.Laws.Datasets.{HasSpellings}
+use Rattle.iim_dataset.specs.Format.Splits.{Begun, InTag, InData, IsBegun}
+use Rattle.iim_dataset.specs.Format.Tags.{BeginsTag}
+use Rattle.iim_dataset.specs.declared.head.Head.{Head}
+use Rattle.iim_fields.specs.Format.Alive.{SectionsLive, SectionsLiveAt}
+use Rattle.iim_fields.specs.Format.Faults.{is_kept, kept, joined, section_after, last_record}
+use Rattle.iim_fields.specs.Format.Records.{AreSections, AreRecords, records}
+use Rattle.iim_tables.specs.Format.Records.{IsGoodDataset}
+use Rattle.iim_fields.specs.Format.Bounds.{IsWithin}
+use Rattle.iim_object.specs.Format.Numbers.{place_after_datasets, place_ended, ending_of}
+use Rattle.iim_object.specs.Format.Objects.{ObjectEnded, Confirmed, SubfileBegun, ObjectLanguage, number_tokens}
+use Rattle.iim_object.specs.Laws.Packing.{NumberDatasetsAreGood}
+use Rattle.iim_object.specs.Format.Packing.{number_dataset, subfile_datasets}
+use Rattle.iim_object.specs.Format.Places.{Ending, NotEnded, Ended, ConfirmedAs, ending_tokens, place_after}
+use Rattle.iim_object.specs.Format.Places as objects
+use Rattle.iim_object.specs.Format.Plans.{max_subfiles}
+use Rattle.iim_object.specs.Format.Records.{HaveSizes, lengths_of, numbers_of}
+use Rattle.iim_object.specs.States.Saved.{IsAt, IsPossible, LastIsBegun, stated_numbers}
+use Rattle.iim_object.specs.Format.Sizes.{Stated, AreStated, number_at}
+use Rattle.iim_object.specs.declared.size.Sizes.{Sizes}
+use Rattle.wire_story.specs.Format.Texts.{IsText}
+use Rattle.wire_story.specs.Format.Tokens.{Octet, End}
+use Rattle.wire_message.specs.Format.Layers.{MessageLanguage}
+use Rattle.wire_message.specs.Format.Messages.{Header, IsMessage}
+use Rattle.wire_message.specs.States.Reading.{is_ended}
+use Rattle.wire_message.specs.States.Saved.{LeadsToSaved, saved}
+use Rattle.wire_message.specs.States.SoFar.{LeadsTo}
+use Rattle.wire_message.specs.declared.place.Place.{Place as Message}
+use Rattle.wire_message.specs.declared.place.Place.TheVariants as at_message
+use Rattle.wire_message.specs.declared.saved.MessagePart.TheVariants as part
+use Rattle.wire_message.specs.declared.saved.MessagePlace.{MessagePlace}
+use Rattle.iim_places.specs.Format.Admitted.{object_of}
+use Rattle.iim_places.specs.States.Begins.{IsSize}
+use Rattle.iim_places.specs.States.ByLayers.{LeadsByLayers, record_datasets, one_of_some, head_of_numbers}
+use Rattle.iim_places.specs.Format.Framed.{AreWithin}
+use Rattle.iim_places.specs.Format.Open.{object_so_far, section, AllCanContinue}
+use Rattle.iim_places.specs.Plain.{Numbers, number_list, plain_numbers, filled, plain_end, plain, AreSpellable, begun_object, plain_place}
+use Rattle.iim_places.specs.States.Possible.{Possible, AreOpenOrWhole, widest}
+use Rattle.iim_places.specs.Format.Tickets.{Place, Phase, TagBegun, DataBegun, AllEnded, IsPlaceOf}
+use Rattle.iim_places.specs.Format.Tokens.{place_at, ObjectLives, MayContinue, CanContinue}
+use Rattle.iim_places.specs.Laws.Lower.{ByLayersLaws, SizeLaws}
+use Rattle.iim_places.proofs.Alike.{Fits, alike, told_by, present_alike}
+use Rattle.iim_places.proofs.Answering.{nothing_held}
+use Rattle.iim_places.proofs.Bounds.{object_fits}
+use Rattle.iim_places.proofs.Following.{alive_of}
+use Rattle.iim_places.proofs.Lasts.{sections_last, last_sections}
+use Rattle.iim_places.proofs.LeadsByLayers.{one_same}
+use Rattle.iim_places.proofs.MessageOctets.{living_octets}
+use Rattle.iim_places.proofs.Plain.{Tell, taken_told, plain_led, plain_spelled, front_octets, back_octets}
+use Rattle.iim_places.proofs.PlainContinues.{fields_low, two_at_most, low_number}
+use Rattle.iim_places.proofs.PlainOpens.{fit_in_rows, part_small, join_small}
+use Rattle.iim_places.proofs.PlainPlaces.{pick, picks_plain, numbers_in, alive_front, low_mode, mode_octet, sum_most}
+use Rattle.iim_places.proofs.Places.{at_end}
+use Rattle.iim_places.proofs.PlainSizes.{duties_of, possible_like}
+use Rattle.iim_places.proofs.SameRecords.{stated_after_all}
+use Rattle.iim_places.proofs.Tickets.{total_of, count_of, sum_more, sum_one}
+
+-- ---- the message
+
+ended_after : (at : Message) → (saved at).part ≡ part.AfterEnd → IsTrue (is_ended (Some at))
+ended_after (at_message.AfterEnd h t count) e = refl
+ended_after (at_message.Filler count) e = absurd cc
+ended_after (at_message.Source s) e = absurd cc
+ended_after (at_message.Number s n) e = absurd cc
+ended_after (at_message.Priority s n) e = absurd cc
+ended_after (at_message.PriorityRead s n p) e = absurd cc
+ended_after (at_message.Category s n p c) e = absurd cc
+ended_after (at_message.Words s n p c w) e = absurd cc
+ended_after (at_message.Info h) e = absurd cc
+ended_after (at_message.Gap h count feed) e = absurd cc
+ended_after (at_message.Text h (Some held)) e = absurd cc
+ended_after (at_message.Text h None) e = absurd cc
+ended_after (at_message.Trailer h t) e = absurd cc
+
+-- octets that are a message, and the lines of its text
+record WholeMessage (o : List ℕ) : Type 0 where
+  head : Header
+  text : List ℕ
+  trailer : List ℕ
+  message : IsMessage o head text trailer
+  lines : List (List ℕ)
+  lined : IsText text lines
+
+whole_message : (o text : List ℕ) (at : Message) → LeadsTo o text at → (saved at).part ≡ part.AfterEnd → WholeMessage o
+whole_message o text (at_message.AfterEnd h t count) leads e = record { head = h; text = text; trailer = t.items; message = leads.spelled.0; lines = leads.story.0; lined = leads.story.1 }
+whole_message o text (at_message.Filler count) leads e = absurd cc
+whole_message o text (at_message.Source s) leads e = absurd cc
+whole_message o text (at_message.Number s n) leads e = absurd cc
+whole_message o text (at_message.Priority s n) leads e = absurd cc
+whole_message o text (at_message.PriorityRead s n p) leads e = absurd cc
+whole_message o text (at_message.Category s n p c) leads e = absurd cc
+whole_message o text (at_message.Words s n p c w) leads e = absurd cc
+whole_message o text (at_message.Info h) leads e = absurd cc
+whole_message o text (at_message.Gap h count feed) leads e = absurd cc
+whole_message o text (at_message.Text h (Some held)) leads e = absurd cc
+whole_message o text (at_message.Text h None) leads e = absurd cc
+whole_message o text (at_message.Trailer h t) leads e = absurd cc
+
+whole_saved : (o text : List ℕ) (m : MessagePlace) → LeadsToSaved o text m → m.part ≡ part.AfterEnd → WholeMessage o
+whole_saved o text m (at, leads, saves) e = whole_message o text at leads (ap (λ (x : MessagePlace). x.part) saves ∙ e)
+
+message_lives : ByLayersLaws → (o text : List ℕ) (m : MessagePlace) → LeadsToSaved o text m → (s : ℕ) → (s ≡ 9 → m.part ≡ part.AfterEnd)
+    → languages.IsAlive MessageLanguage (map Octet o ++ (if nat_eq s 9 then End ∷ [] else []))
+message_lives laws o text m (at, leads, saves) s last = by (nat_eq s 9) refl
+  where
+    by : (b : Bool) → nat_eq s 9 ≡ b → languages.IsAlive MessageLanguage (map Octet o ++ (if b then End ∷ [] else []))
+    by true nine = (laws.ends o text at leads).1 (ended_after at (ap (λ (x : MessagePlace). x.part) saves ∙ last (eqb-true s 9 nine)))
+    by false other = subst (languages.IsAlive MessageLanguage) (sym (append-nil (map Octet o))) (laws.opens.answer.living o text at leads).0
+
+-- ---- the present record
+
+pick_low : {A : Type 0} (xs : List A) (r other : ℕ) → r ≤ 8 → other ≤ 8 → pick xs r other ≤ 8
+pick_low [] r other a b = b
+pick_low (x ∷ xs) r other a b = a
+
+not_nine : (n : ℕ) → n ≤ 8 → nat_eq n 9 ≡ false
+not_nine n le = elim (eqb_tells n 9) [
+  | inl same ↦ absurd (let e = same.1 in omega (arith, e, le))
+  | inr other ↦ other.0
+]
+
+pub present_ended : (fields : List Dataset) (numbers : Numbers) (heads : ℕ) (object : List ℕ) (ended : Bool) → AllByRecursion (λ (d : Dataset). is_kept d.rec ≡ true) fields
+    → nat_eq (section_after (plain fields numbers heads object ended)) 9 ≡ ended
+present_ended fields numbers heads object true keeps = ap (λ (n : ℕ). nat_eq n 9) (picks_plain fields numbers heads object true)
+present_ended fields numbers heads object false keeps =
+    let low = fields_low 0 fields (omega arith) keeps in
+    let few : last_record 0 fields ≤ 8 = omega (arith, low) in
+    let eights = subfile_datasets (filled (unwrap_or numbers.largest 0) heads object) in
+    let sevens = plain_numbers numbers in
+    ap (λ (n : ℕ). nat_eq n 9) (picks_plain fields numbers heads object false)
+    ∙ not_nine (pick eights 8 (pick sevens 7 (last_record 0 fields))) (pick_low eights 8 (pick sevens 7 (last_record 0 fields)) (omega arith) (pick_low sevens 7 (last_record 0 fields) (omega arith) few))
+
+-- ---- an envelope
+
+pub sizes_of : SizeLaws → (ps : List Stated) (r7 r8 r9 : List Dataset) (n : ℕ) → ps ≡ numbers_of r7 → AreStated ps → (0 < length (lengths_of r8) → objects.HasBoth ps) → (lengths_of r8 ≡ [] → ConfirmedAs n ≡ NotEnded)
+    → languages.IsAlive ObjectLanguage (number_tokens ps ++ (map SubfileBegun (lengths_of r8) ++ ending_tokens (ConfirmedAs n))) → number_at 10 (numbers_of r9) ≡ Some n → (s : Sizes) × HaveSizes r7 r8 r9 s
+sizes_of laws ps r7 [] r9 n is are both none lives last = absurd (let bad : ConfirmedAs n ≡ NotEnded = none refl in cc)
+sizes_of laws ps r7 (r ∷ r8) r9 n is are both none lives last =
+    let ls = lengths_of (r ∷ r8) in
+    let some : 0 < length ls = omega arith in
+    let d = duties_of ps are (both some) in
+    let (fit, whole, same) = (laws.confirmed d.known d.size ps ls n (record { stated = are; mode = d.mode; largest = d.largest }) some).0 lives in (
+      record { known = d.known; subfile = d.size; announced = number_at 90 ps; maximum = number_at 95 ps; subfiles = length (r ∷ r8); total = sum ls },
+      record {
+        mode = ap (number_at 10) (sym is) ∙ d.mode;
+        largest = ap (number_at 20) (sym is) ∙ d.largest;
+        announced = ap (number_at 90) (sym is);
+        maximum = ap (number_at 95) (sym is);
+        subfiles = refl;
+        total = refl;
+        confirmed = n;
+        is_confirmed = last;
+        agree = record {
+          by_mode = fit.by_mode;
+          announced_fits = clash (number_at 90 ps) (number_at 95 ps) (λ a m e f. fit.clash.sizes a m e f);
+          each_subfile = fit.each;
+          total_fits = fit.total;
+          within_maximum = fit.maximum;
+          as_announced = whole;
+          as_confirmed = same;
+        };
+      },
+    )
+  where
+    clash : (x y : Option ℕ) → ((a m : ℕ) → x ≡ Some a → y ≡ Some m → a ≤ m) → IfSome x (λ a. IfSome y (λ m. a ≤ m))
+    clash None y h = tt
+    clash (Some a) None h = tt
+    clash (Some a) (Some m) h = h a m refl refl
+
+-- ---- all of it
+
+-- Plain octets from which each layer can continue, or with which the envelope ends, make their place possible.
+finish : ByLayersLaws → (place : Place) (numbers : Numbers) (heads : ℕ) (object : List ℕ) (ended : Bool) (begun : Begun) (rest text : List ℕ) → AreSpellable place.fields numbers heads object → IsBegun count_octets begun rest
+    → LeadsToSaved (object ++ begun_object begun) text place.message → (place.section ≡ 9 → place.message.part ≡ part.AfterEnd) → MayContinue widest (plain place.fields numbers heads object ended) begun
+    → (ended ≡ true → (begun ≡ InTag []) × (rest ≡ [])) → place ≡ plain_place place.fields numbers heads object ended begun place.message → Possible place
+finish laws place numbers heads object ended begun rest text spellable is_begun leads last goes nothing same = record {
+  octets = canonical_stream ds ++ rest;
+  leads = subst (IsPlaceOf (canonical_stream ds ++ rest)) (sym same) (plain_led laws.opens.spelled place.fields numbers heads object ended begun rest text place.message spellable is_begun leads);
+  comes = by ended refl;
+}
+  where
+    ds : List Dataset
+    ds = plain place.fields numbers heads object ended
+
+    fits : Fits place.fields numbers heads object
+    fits = record { kept = spellable.kept; fit = spellable.fit; room = spellable.room }
+
+    tell : Tell ds place.fields numbers heads object ended
+    tell = told_by place.fields numbers heads object ended fits
+
+    so_far : object_so_far ds begun ≡ object ++ begun_object begun
+    so_far = taken_told ds object begun tell.object_is
+
+    here : LeadsToSaved (object_so_far ds begun) text place.message
+    here = subst (λ (o : List ℕ). LeadsToSaved o text place.message) (sym so_far) leads
+
+    section_is : place.section ≡ section ds begun
+    section_is = ap (λ (x : Place). x.section) same
+
+    all : AllCanContinue widest ds begun
+    all = record {
+      sizes = goes;
+      message = message_lives laws (object_so_far ds begun) text place.message here (section ds begun) (λ nine. last (section_is ∙ nine));
+      story = (laws.opens.answer.living (object_so_far ds begun) text here.0 here.1).1;
+    }
+
+    alive : SectionsLive ds
+    alive = alive_of widest ds begun goes
+
+    spelled : SpellsStream count_octets ds (canonical_stream ds)
+    spelled = laws.opens.spelled ds (plain_spelled place.fields numbers heads object ended spellable)
+
+    open' : ended ≡ false → AreOpenOrWhole widest (canonical_stream ds ++ rest)
+    open' more = inl (record {
+      whole = ds;
+      begun = begun;
+      reads = record { front = canonical_stream ds; rest = rest; is_front = spelled; is_rest = is_begun; parts = refl };
+      leads_on = all;
+      unfinished = λ sections.
+          let nine = sections_last laws.opens.answer.follow.ends ds alive sections in
+          let bad : true ≡ false = sym (ap (λ (n : ℕ). nat_eq n 9) nine) ∙ present_ended place.fields numbers heads object ended spellable.kept ∙ more in
+          absurd cc;
+    })
+
+    whole : ended ≡ true → AreOpenOrWhole widest (canonical_stream ds ++ rest)
+    whole is =
+        let no_more = nothing is in
+        let nine = eqb-true (section_after ds) 9 (present_ended place.fields numbers heads object ended spellable.kept ∙ is) in
+        let section9 : place.section ≡ 9 = section_is ∙ ap (section ds) no_more.0 ∙ nine in
+        let o_is : object_so_far ds begun ≡ object_of ds = ap (object_so_far ds) no_more.0 in
+        let m = whole_saved (object_of ds) text place.message (subst (λ (o : List ℕ). LeadsToSaved o text place.message) o_is here) (last section9) in
+        let tag : CanContinue widest ds = subst (MayContinue widest ds) no_more.0 goes in
+        let stated = stated_after_all laws.opens.answer.follow.objects ds alive tag.within.subfiles in
+        let ends : of_record 9 ds ≡ plain_end true object = tell.nines_are ∙ ap (λ (b : Bool). plain_end b object) is in
+        let n = number (number_dataset 9 10 (length object)).octets in
+        let ending : ending_of (of_record 9 ds) ≡ ConfirmedAs n = ap ending_of ends in
+        let (s, have) = sizes_of laws.opens.sizes (numbers_of (of_record 7 ds)) (of_record 7 ds) (of_record 8 ds) (of_record 9 ds) n refl stated.stated stated.duties (λ none. sym ending ∙ stated.subfiles none)
+        (subst (λ (e : Ending). languages.IsAlive ObjectLanguage (number_tokens (numbers_of (of_record 7 ds)) ++ (map SubfileBegun (lengths_of (of_record 8 ds)) ++ ending_tokens e))) ending tag.object)
+        (ap (λ (rs : List Dataset). number_at 10 (numbers_of rs)) ends) in
+        subst (λ (r : List ℕ). AreOpenOrWhole widest (canonical_stream ds ++ r)) (sym no_more.1)
+        (inr (
+          record { fields = kept ds; head = m.head; lines = m.lines; trailer = m.trailer; sizes = s },
+          record {
+            admits = record {
+              datasets = ds;
+              spelled = subst (SpellsStream count_octets ds) (sym (append-nil (canonical_stream ds))) spelled;
+              sections = last_sections laws.opens.answer.follow.ends ds alive nine;
+              fields = refl;
+              text = m.text;
+              message = m.message;
+              lines = m.lined;
+              sizes = have;
+            };
+            within = tag.within;
+          },
+        ))
+
+    by : (b : Bool) → ended ≡ b → AreOpenOrWhole widest (canonical_stream ds ++ rest)
+    by true is = whole is
+    by false is = open' is
+
+-- ---- what the layers say of the plain datasets
+
+-- the fields of sections can be spelled, where they have few octets
+goods : (rs : List ℕ) (ds : List Dataset) → AreRecords rs ds → AllByRecursion IsGoodDataset ds
+goods [] ds none = subst (AllByRecursion IsGoodDataset) (sym none) tt
+goods (r ∷ rs) ds (run, rest, parts, good, later) = subst (AllByRecursion IsGoodDataset) (sym parts) (join run rest (each run good.each) (goods rs rest later))
+  where
+    join : (xs ys : List Dataset) → AllByRecursion IsGoodDataset xs → AllByRecursion IsGoodDataset ys → AllByRecursion IsGoodDataset (xs ++ ys)
+    join [] ys a b = b
+    join (x ∷ xs) ys a b = (a.0, join xs ys a.1 b)
+
+    each : (xs : List Dataset) → AllByRecursion (λ d. (d.rec ≡ r) × IsGoodDataset d) xs → AllByRecursion IsGoodDataset xs
+    each [] all = tt
+    each (x ∷ xs) all = (all.0.1, each xs all.1)
+
+front_goods : (xs ys : List Dataset) → AllByRecursion IsGoodDataset (xs ++ ys) → AllByRecursion IsGoodDataset xs
+front_goods [] ys all = tt
+front_goods (x ∷ xs) ys all = (all.0, front_goods xs ys all.1)
+
+have_spellings : (ds : List Dataset) → AllByRecursion (λ (d : Dataset). is_kept d.rec ≡ true) ds → AllByRecursion IsGoodDataset ds → length (joined ds) < 2 ^ 32 → AllByRecursion HasSpellings ds
+have_spellings [] keeps good few = tt
+have_spellings (d ∷ ds) keeps good few =
+    let both = length-append d.octets (joined ds) in
+    let low = two_at_most d.rec keeps.0 in (
+      record { rec = omega (arith, low); set = good.0.numbered; octets = good.0.octets; few = omega (arith, both, few) },
+      have_spellings ds keeps.1 good.1 (omega (arith, both, few)),
+    )
+
+fields_spelled : (fields : List Dataset) (numbers : Numbers) (heads : ℕ) (object : List ℕ) (ended : Bool) (more : List Dataset) → AllByRecursion (λ (d : Dataset). is_kept d.rec ≡ true) fields
+    → AreSections (plain fields numbers heads object ended ++ more) → length (joined fields) < 2 ^ 32 → AllByRecursion HasSpellings fields
+fields_spelled fields numbers heads object ended more keeps sections few =
+    have_spellings fields keeps (front_goods fields _ (front_goods (plain fields numbers heads object ended) more (goods records (plain fields numbers heads object ended ++ more) sections))) few
+
+-- the numbers of record 7 are those that a place of the object has
+pub record SameStated (numbers : Numbers) (ps : List Stated) : Type 0 where
+  pub mode : numbers.mode ≡ number_at 10 ps
+  pub largest : numbers.largest ≡ number_at 20 ps
+  pub are : numbers ≡ numbers_in ps
+
+pub same_stated : (numbers : Numbers) (ps : List Stated) → number_list numbers ≡ stated_numbers ps → SameStated numbers ps
+same_stated numbers ps e =
+    let mode : numbers.mode ≡ number_at 10 ps = cc in
+    let largest : numbers.largest ≡ number_at 20 ps = cc in
+    let announced : numbers.announced ≡ number_at 90 ps = cc in
+    let maximum : numbers.maximum ≡ number_at 95 ps = cc in
+    record { mode = mode; largest = largest; are = λ i. record { mode = mode i; largest = largest i; announced = announced i; maximum = maximum i } }
+
+-- subfiles of a possible place are no longer than 7:20
+pub each_small : SizeLaws → (p : objects.Place) → IsPossible p → (size : ℕ) → number_at 20 p.stated ≡ Some size → 0 < length p.lengths → AllByRecursion (λ n. n ≤ size) p.lengths
+each_small laws p is size largest some =
+    let d = duties_of p.stated is.stated (is.duties some) in
+    let alive : languages.IsAlive ObjectLanguage (number_tokens p.stated ++ map SubfileBegun p.lengths) =
+    alive_front (number_tokens p.stated ++ map SubfileBegun p.lengths) (ending_tokens p.ending)
+    (subst (languages.IsAlive ObjectLanguage) (sym (append_assoc (number_tokens p.stated) (map SubfileBegun p.lengths) (ending_tokens p.ending))) is.alive) in
+    ((laws.fit d.known size p.stated p.lengths (record { stated = is.stated; mode = d.mode; largest = largest }) some).0 alive).each
+
+front_small : (size : ℕ) (xs ys : List ℕ) → AllByRecursion (λ n. n ≤ size) (xs ++ ys) → AllByRecursion (λ n. n ≤ size) xs
+front_small size [] ys all = tt
+front_small size (x ∷ xs) ys all = (all.0, front_small size xs ys all.1)
+
+-- the first subfiles of a possible place have room for their octets
+room_in : SizeLaws → (p : objects.Place) → IsPossible p → (ls ks : List ℕ) → p.lengths ≡ ls ++ ks → sum ls ≤ length ls * unwrap_or (number_at 20 p.stated) 0
+room_in laws p is [] ks parts = omega arith
+room_in laws p is (l ∷ ls) ks parts =
+    let many = ap length parts in
+    let some : 0 < length p.lengths = omega (arith, many) in
+    let d = duties_of p.stated is.stated (is.duties some) in
+    let each = front_small d.size (l ∷ ls) ks (subst (AllByRecursion (λ n. n ≤ d.size)) parts (each_small laws p is d.size d.largest some)) in
+    subst (λ (o : Option ℕ). sum (l ∷ ls) ≤ length (l ∷ ls) * unwrap_or o 0) (sym d.largest) (sum_most d.size (l ∷ ls) each)
+
+-- ---- the data of a place, phase by phase
+
+-- what all phases have: numbers as the object's place has them, fields that are kept, and octets of the message
+record Given (fields : List Dataset) (numbers : Numbers) (p : objects.Place) : Type 0 where
+  kept : AllByRecursion (λ (d : Dataset). is_kept d.rec ≡ true) fields
+  same : SameStated numbers p.stated
+  stated : AreStated p.stated
+
+spellable_by : (fields : List Dataset) (numbers : Numbers) (p : objects.Place) → Given fields numbers p → (heads : ℕ) (object : List ℕ) → Fits fields numbers heads object → AllByRecursion HasSpellings fields → Octets object
+    → length object ≤ greatest_size → AreSpellable fields numbers heads object
+spellable_by fields numbers p g heads object fits spelled octets few = record {
+  kept = g.kept;
+  spelled = spelled;
+  mode = subst (λ (o : Option ℕ). IfSome o IsOctet) (sym g.same.mode) (mode_octet (number_at 10 p.stated) (low_mode p.stated g.stated.each));
+  fit = fits.fit;
+  octets = octets;
+  few = few;
+  room = fits.room;
+}
+
+small_in : (fields : List Dataset) (numbers : Numbers) (heads : ℕ) (object : List ℕ) (ended : Bool) → Tell (plain fields numbers heads object ended) fields numbers heads object ended
+    → (size : ℕ) → number_at 20 (numbers_of (of_record 7 (plain fields numbers heads object ended))) ≡ Some size
+    → AllByRecursion (λ n. n ≤ size) (lengths_of (of_record 8 (plain fields numbers heads object ended)))
+small_in fields numbers heads object ended tell size e =
+    let told = tell.numbers_are in
+    let largest : number_at 20 (numbers_of (of_record 7 (plain fields numbers heads object ended))) ≡ numbers.largest = cc in
+    subst (λ (xs : List Dataset). AllByRecursion (λ n. n ≤ size) (lengths_of xs)) (sym tell.eights_are)
+    (subst (λ (o : Option ℕ). AllByRecursion (λ n. n ≤ size) (lengths_of (subfile_datasets (filled (unwrap_or o 0) heads object)))) (sym (sym largest ∙ e)) (part_small size heads object))
+
+-- the object lives after plain datasets as at the place
+after_plain : SizeLaws → (fields : List Dataset) (numbers : Numbers) (heads : ℕ) (object : List ℕ) (ended : Bool) (p : objects.Place) (e : Ending) → Tell (plain fields numbers heads object ended) fields numbers heads object ended
+    → number_list numbers ≡ stated_numbers p.stated → IsPossible p → AreStated (numbers_of (of_record 7 (plain fields numbers heads object ended))) → heads ≡ length p.lengths → sum p.lengths ≡ length object → p.ending ≡ e
+    → ObjectLives (record (place_after_datasets (plain fields numbers heads object ended)) { ending = e })
+after_plain laws fields numbers heads object ended p e tell same is stated many total end' =
+    let ds = plain fields numbers heads object ended in
+    let count = count_of (of_record 8 ds) in
+    let heads_are = tell.heads_are in
+    (possible_like laws p (record (place_after_datasets ds) { ending = e }) is stated (sym same ∙ sym tell.numbers_are) (omega (arith, count, heads_are, many)) (total ∙ sym (ap length tell.object_is) ∙ sym (total_of (of_record 8 ds)))
+    (small_in fields numbers heads object ended tell) end').alive
+
+-- alive with plain datasets, as with those that tell the record layer
+alive_with : NumberDatasetsAreGood → (fields : List Dataset) (numbers : Numbers) (heads : ℕ) (object : List ℕ) (ended : Bool) → Fits fields numbers heads object → Octets object → length object ≤ greatest_size → (more : List Dataset)
+    → AreSections (plain fields numbers (one_of_some heads) [] ended ++ more) → AreSections (plain fields numbers heads object ended ++ more)
+alive_with rows fields numbers heads object ended fits octets few more sections =
+    alike rows fields numbers (one_of_some heads) heads [] object ended more (record { kept = fits.kept; fit = fits.fit; room = omega arith }) fits (sym (one_same heads)) octets few sections
+
+within_plain : (fields : List Dataset) (numbers : Numbers) (heads : ℕ) (object : List ℕ) (ended : Bool) → Tell (plain fields numbers heads object ended) fields numbers heads object ended → IsWithin widest (length (joined fields)) (length fields)
+    → heads ≤ max_subfiles → AreWithin widest (plain fields numbers heads object ended)
+within_plain fields numbers heads object ended tell within few = record {
+  kept = subst (λ (ks : List Dataset). IsWithin widest (length (joined ks)) (length ks)) (sym tell.kept_are) within;
+  subfiles = let heads_are = tell.heads_are in omega (arith, heads_are, few);
+}
+
+-- The first subfiles of a possible place have these octets, which plain subfiles can have, too.
+record Filling (fields : List Dataset) (numbers : Numbers) (p : objects.Place) (heads : ℕ) (object : List ℕ) : Type 0 where
+  given : Given fields numbers p
+  few : length object ≤ greatest_size
+  fits : Fits fields numbers heads object
+
+filling : ByLayersLaws → (fields : List Dataset) (numbers : Numbers) (p : objects.Place) (heads : ℕ) (object : List ℕ) → AllByRecursion (λ (d : Dataset). is_kept d.rec ≡ true) fields → number_list numbers ≡ stated_numbers p.stated
+    → IsPossible p → (ls ks : List ℕ) → p.lengths ≡ ls ++ ks → heads ≡ length ls → sum ls ≡ length object → Filling fields numbers p heads object
+filling laws fields numbers p heads object keeps same is ls ks parts many total =
+    let most = object_fits p is.alive in
+    let sums : sum p.lengths ≡ sum ls + sum ks = ap sum parts ∙ sum_more ls ks in
+    let stated = same_stated numbers p.stated same in
+    let room : length object ≤ heads * unwrap_or (number_at 20 p.stated) 0 =
+    subst (λ (n : ℕ). n ≤ heads * unwrap_or (number_at 20 p.stated) 0) total (subst (λ (k : ℕ). sum ls ≤ k * unwrap_or (number_at 20 p.stated) 0) (sym many) (room_in laws.opens.sizes p is ls ks parts)) in
+    record {
+      given = record { kept = keeps; same = stated; stated = is.stated };
+      few = omega (arith, most, sums, total);
+      fits = record {
+        kept = keeps;
+        fit = subst (λ (n : Numbers). AllByRecursion IsSize (number_list n)) (sym stated.are) (fit_in_rows p.stated is.stated.each);
+        room = subst (λ (o : Option ℕ). length object ≤ heads * unwrap_or o 0) (sym stated.largest) room;
+      };
+    }
+
+-- ---- between datasets, or in a tag, or at the end
+
+ending_plain : (ended : Bool) (o : List ℕ) → length o ≤ greatest_size → (if ended then ConfirmedAs (length o) else NotEnded) ≡ ending_of (plain_end ended o)
+ending_plain true o few = ap ConfirmedAs (sym (low_number (length o) few))
+ending_plain false o few = refl
+
+lead_whole : ByLayersLaws → (place : Place) (numbers : Numbers) (p : objects.Place) (ended : Bool) (held o text : List ℕ) → place.numbers ≡ number_list numbers → AllByRecursion (λ (d : Dataset). is_kept d.rec ≡ true) place.fields
+    → number_list numbers ≡ stated_numbers p.stated → IsPossible p → p.ending ≡ (if ended then ConfirmedAs (length o) else NotEnded) → place.heads ≡ length p.lengths → sum p.lengths ≡ length o → length o ≡ place.taken
+    → LeadsToSaved o text place.message → (place.section ≡ 9 → place.message.part ≡ part.AfterEnd) → SectionsLive (plain place.fields numbers (one_of_some place.heads) [] ended)
+    → section_after (plain place.fields numbers (one_of_some place.heads) [] ended) ≡ place.section → IsBegun count_octets (InTag held) held → (ended ≡ true → held ≡ []) → place.phase ≡ (if ended then AllEnded else TagBegun held)
+    → IsWithin widest (length (joined place.fields)) (length place.fields) → Possible place
+lead_whole laws place numbers p ended held o text numbers_are keeps same is end' many total taken leads last (more, sections) present is_begun none phase within =
+    finish laws place numbers heads o ended (InTag held) held text (spellable_by fields numbers p base.given heads o base.fits spelled octets (let low = base.few in omega (arith, low)))
+    is_begun (subst (λ (x : List ℕ). LeadsToSaved x text place.message) (sym (append-nil o)) leads) last
+    (record { records = alive; within = inside; object = subst (λ (e : Ending). ObjectLives (record (place_after_datasets ds) { ending = e })) (ending_plain ended o base.few ∙ sym (ap ending_of tell.nines_are)) lives })
+    (λ e. let nil = none e in (ap InTag nil, nil)) place_is
+  where
+    fields : List Dataset
+    fields = place.fields
+
+    heads : ℕ
+    heads = place.heads
+
+    base : Filling fields numbers p heads o
+    base = filling laws fields numbers p heads o keeps same is p.lengths [] (sym (append-nil p.lengths)) many total
+
+    octets : Octets o
+    octets = living_octets o (laws.opens.answer.living o text leads.0 leads.1).0
+
+    ds : List Dataset
+    ds = plain fields numbers heads o ended
+
+    tell : Tell ds fields numbers heads o ended
+    tell = told_by fields numbers heads o ended base.fits
+
+    spelled : AllByRecursion HasSpellings fields
+    spelled = fields_spelled fields numbers (one_of_some heads) [] ended more keeps sections (let low = within.octets_in in omega (arith, low))
+
+    alive : SectionsLive ds
+    alive = (more, alive_with laws.opens.answer.rows fields numbers heads o ended base.fits octets base.few more sections)
+
+    inside : AreWithin widest ds
+    inside = within_plain fields numbers heads o ended tell within (let most = is.few in omega (arith, many, most))
+
+    lives : ObjectLives (record (place_after_datasets ds) { ending = if ended then ConfirmedAs (length o) else NotEnded })
+    lives = after_plain laws.opens.sizes fields numbers heads o ended p (if ended then ConfirmedAs (length o) else NotEnded) tell same is (stated_after_all laws.opens.answer.follow.objects ds alive inside.subfiles).stated many total end'
+
+    present_is : place.section ≡ section_after ds
+    present_is = sym present ∙ present_alike fields numbers (one_of_some heads) heads [] o ended (sym (one_same heads))
+
+    place_is : place ≡ plain_place fields numbers heads o ended (InTag held) place.message
+    place_is =
+        let ended_is = present_ended fields numbers heads o ended keeps in
+        let phase_is : place.phase ≡ (if nat_eq (section_after ds) 9 then AllEnded else TagBegun held) = phase ∙ sym (ap (λ (b : Bool). if b then AllEnded else TagBegun held) ended_is) in
+        let taken_is : place.taken ≡ length (o ++ []) = sym taken ∙ sym (ap length (append-nil o)) in
+        let heads_are : place.heads ≡ heads + 0 = omega arith in
+        λ i. record { section = present_is i; phase = phase_is i; fields = fields; numbers = numbers_are i; taken = taken_is i; heads = heads_are i; message = place.message }
+
+held_begun : (held : List ℕ) → BeginsTag count_octets held → IsBegun count_octets (InTag held) held
+held_begun held b = (refl, b.head, held ++ b.more, b.whole, (b.more, b.some_more, refl))
+
+less_none : (n : ℕ) → n - 0 ≡ n
+less_none n = omega arith
+
+lead_tag : ByLayersLaws → (section : ℕ) (held : List ℕ) (fields : List Dataset) (nums : List (Option ℕ)) (taken heads : ℕ) (m : MessagePlace)
+    → LeadsByLayers (record { section = section; phase = TagBegun held; fields = fields; numbers = nums; taken = taken; heads = heads; message = m })
+    → Possible (record { section = section; phase = TagBegun held; fields = fields; numbers = nums; taken = taken; heads = heads; message = m })
+lead_tag laws section held fields nums taken heads m l =
+    let at = l.object.1 in
+    let octets = at.octets in
+    let (o, text, leads, many, last) = l.message in
+    let base : List Dataset = plain fields l.numbers (one_of_some heads) [] false in
+    let is : record_datasets (record { section = section; phase = TagBegun held; fields = fields; numbers = nums; taken = taken; heads = heads; message = m }) l.numbers ≡ base =
+    λ i. plain fields l.numbers (one_of_some (less_none heads i)) [] false in
+    let within = l.within in
+    lead_whole laws (record { section = section; phase = TagBegun held; fields = fields; numbers = nums; taken = taken; heads = heads; message = m }) l.numbers l.object.0 false held o text l.numbers_are l.kept
+    (sym l.numbers_are ∙ at.numbers_are) l.object.2 at.not_ended at.subfiles (octets ∙ sym many) many leads last (subst SectionsLive is l.records.1) (ap section_after (sym is) ∙ l.records.0)
+    (held_begun held l.tags) (λ bad. absurd (let no' : false ≡ true = bad in cc)) refl
+    (record { octets_in = let low = within.octets_in in omega (arith, low); fields_in = let low = within.fields_in in omega (arith, low) })
+
+lead_ended : ByLayersLaws → (section : ℕ) (fields : List Dataset) (nums : List (Option ℕ)) (taken heads : ℕ) (m : MessagePlace)
+    → LeadsByLayers (record { section = section; phase = AllEnded; fields = fields; numbers = nums; taken = taken; heads = heads; message = m })
+    → Possible (record { section = section; phase = AllEnded; fields = fields; numbers = nums; taken = taken; heads = heads; message = m })
+lead_ended laws section fields nums taken heads m l =
+    let p = l.object.0 in
+    let at = l.object.1 in
+    let octets = at.octets in
+    let (o, text, leads, many, last) = l.message in
+    let base : List Dataset = plain fields l.numbers (one_of_some heads) [] true in
+    let is : record_datasets (record { section = section; phase = AllEnded; fields = fields; numbers = nums; taken = taken; heads = heads; message = m }) l.numbers ≡ base =
+    λ i. plain fields l.numbers (one_of_some (less_none heads i)) [] true in
+    let within = l.within in
+    let nine : section_after base ≡ 9 = eqb-true (section_after base) 9 (present_ended fields l.numbers (one_of_some heads) [] true l.kept) in
+    lead_whole laws (record { section = section; phase = AllEnded; fields = fields; numbers = nums; taken = taken; heads = heads; message = m }) l.numbers
+    (place_after (place_after p ObjectEnded) (Confirmed taken)) true [] o text l.numbers_are l.kept
+    (sym l.numbers_are ∙ at.numbers_are) l.object.2 (ap ConfirmedAs (sym many)) at.subfiles (octets ∙ sym many) many leads last (subst SectionsLive is l.records.1) (nine ∙ sym l.records.0)
+    nothing_held (λ yes'. refl) refl
+    (record { octets_in = let low = within.octets_in in omega (arith, low); fields_in = let low = within.fields_in in omega (arith, low) })
+
+-- ---- in data
+
+-- the heads of records 1 and 2, a begun one among them, are within the limits
+within_whole : (fields : List Dataset) (more one : ℕ) → IsWithin widest (length (joined fields) + more) (length fields + one) → IsWithin widest (length (joined fields)) (length fields)
+within_whole fields more one within = record { octets_in = let low = within.octets_in in omega (arith, low); fields_in = let low = within.fields_in in omega (arith, low) }
+
+room_kept : (fields ks : List Dataset) (h : Head) → ks ≡ fields → IsWithin widest (length (joined fields) + (if is_kept h.rec then h.count else 0)) (length fields + (if is_kept h.rec then 1 else 0))
+    → IsTrue (is_kept h.rec) → IsWithin widest (length (joined ks) + h.count) (length ks + 1)
+room_kept fields ks h same within is =
+    subst (λ (xs : List Dataset). IsWithin widest (length (joined xs) + h.count) (length xs + 1)) (sym same)
+    (subst (λ (b : Bool). IsWithin widest (length (joined fields) + (if b then h.count else 0)) (length fields + (if b then 1 else 0))) is within)
+
+-- the head that stands after the datasets by which the record layer is told stands after the plain ones
+at_with : NumberDatasetsAreGood → (fields : List Dataset) (numbers : Numbers) (heads : ℕ) (object : List ℕ) → Fits fields numbers heads object → Octets object → length object ≤ greatest_size → (h : Head)
+    → SectionsLiveAt (plain fields numbers (one_of_some heads) [] false) h → SectionsLiveAt (plain fields numbers heads object false) h
+at_with rows fields numbers heads object fits octets few h (d, is, (more, sections)) =
+    let base = plain fields numbers (one_of_some heads) [] false in
+    let ds = plain fields numbers heads object false in
+    (d, is, (more, subst AreSections (sym (append_assoc ds (d ∷ []) more)) (alive_with rows fields numbers heads object false fits octets few ((d ∷ []) ++ more) (subst AreSections (append_assoc base (d ∷ []) more) sections))))
+
+pub front_alive : (ds : List Dataset) (h : Head) → SectionsLiveAt ds h → SectionsLive ds
+front_alive ds h (d, is, (more, sections)) = ((d ∷ []) ++ more, subst AreSections (append_assoc ds (d ∷ []) more) sections)
+
+-- in data that are no subfile's
+lead_other : ByLayersLaws → (place : Place) (numbers : Numbers) (p : objects.Place) (e : Ending) (h : Head) (left : ℕ) (taken o text tag : List ℕ) → place.numbers ≡ number_list numbers
+    → AllByRecursion (λ (d : Dataset). is_kept d.rec ≡ true) place.fields → number_list numbers ≡ stated_numbers p.stated → IsPossible p → p.ending ≡ e → place.heads ≡ length p.lengths → sum p.lengths ≡ length o → length o ≡ place.taken
+    → LeadsToSaved o text place.message → (place.section ≡ 9 → place.message.part ≡ part.AfterEnd) → SectionsLiveAt (plain place.fields numbers (one_of_some place.heads) [] false) h → place.section ≡ h.rec → nat_eq h.rec 8 ≡ false
+    → SpellsTag count_octets h tag → Octets taken → length taken + left ≡ h.count → 0 < left → place.phase ≡ DataBegun h.set h.count left taken
+    → ((ds : List Dataset) → ending_of (of_record 9 ds) ≡ NotEnded → ObjectLives (record (place_after_datasets ds) { ending = e }) → ObjectLives (place_at ds h))
+    → IsWithin widest (length (joined place.fields) + (if is_kept h.rec then h.count else 0)) (length place.fields + (if is_kept h.rec then 1 else 0)) → Possible place
+lead_other laws place numbers p e h left taken o text tag numbers_are keeps same is end' many total come leads last at section_is not8 spells data_octets counts some phase lives_at within =
+    finish laws place numbers heads o false (InData h taken) (tag ++ taken) text (spellable_by fields numbers p base.given heads o base.fits spelled octets (let low = base.few in omega (arith, low)))
+    (tag, spells, omega (arith, counts, some), data_octets, refl)
+    (subst (λ (x : List ℕ). LeadsToSaved x text place.message) (sym (append-nil o) ∙ ap (λ (b : Bool). o ++ (if b then taken else [])) (sym not8)) leads) last
+    (record {
+      records = alive_at;
+      within = inside;
+      room = record {
+        kept = room_kept fields (kept ds) h tell.kept_are within;
+        subfiles = λ eight. absurd (let bad : true ≡ false = ap (λ (n : ℕ). nat_eq n 8) (sym eight) ∙ not8 in cc);
+      };
+      object = lives_at ds (ap ending_of tell.nines_are) lives;
+    })
+    (λ bad. absurd (let no' : false ≡ true = bad in cc)) place_is
+  where
+    fields : List Dataset
+    fields = place.fields
+
+    heads : ℕ
+    heads = place.heads
+
+    base : Filling fields numbers p heads o
+    base = filling laws fields numbers p heads o keeps same is p.lengths [] (sym (append-nil p.lengths)) many total
+
+    octets : Octets o
+    octets = living_octets o (laws.opens.answer.living o text leads.0 leads.1).0
+
+    ds : List Dataset
+    ds = plain fields numbers heads o false
+
+    tell : Tell ds fields numbers heads o false
+    tell = told_by fields numbers heads o false base.fits
+
+    base_alive : SectionsLive (plain fields numbers (one_of_some heads) [] false)
+    base_alive = front_alive (plain fields numbers (one_of_some heads) [] false) h at
+
+    spelled : AllByRecursion HasSpellings fields
+    spelled = fields_spelled fields numbers (one_of_some heads) [] false base_alive.0 keeps base_alive.1 (let low = within.octets_in in omega (arith, low))
+
+    alive_at : SectionsLiveAt ds h
+    alive_at = at_with laws.opens.answer.rows fields numbers heads o base.fits octets base.few h at
+
+    inside : AreWithin widest ds
+    inside = within_plain fields numbers heads o false tell (within_whole fields _ _ within) (let most = is.few in omega (arith, many, most))
+
+    lives : ObjectLives (record (place_after_datasets ds) { ending = e })
+    lives = after_plain laws.opens.sizes fields numbers heads o false p e tell same is (stated_after_all laws.opens.answer.follow.objects ds (front_alive ds h alive_at) inside.subfiles).stated many total end'
+
+    place_is : place ≡ plain_place fields numbers heads o false (InData h taken) place.message
+    place_is =
+        let left_is : left ≡ h.count - length taken = omega (arith, counts) in
+        let phase_is : place.phase ≡ DataBegun h.set h.count (h.count - length taken) (if nat_eq h.rec 8 then [] else taken) =
+        phase ∙ (λ i. DataBegun h.set h.count (left_is i) taken) ∙ sym (ap (λ (b : Bool). DataBegun h.set h.count (h.count - length taken) (if b then [] else taken)) not8) in
+        let taken_is : place.taken ≡ length (o ++ (if nat_eq h.rec 8 then taken else [])) = sym come ∙ sym (ap length (append-nil o)) ∙ sym (ap (λ (b : Bool). length (o ++ (if b then taken else []))) not8) in
+        let heads_are : place.heads ≡ heads + (if nat_eq h.rec 8 then 1 else 0) = sym (less_more heads) ∙ sym (ap (λ (b : Bool). heads + (if b then 1 else 0)) not8) in
+        λ i. record { section = section_is i; phase = phase_is i; fields = fields; numbers = numbers_are i; taken = taken_is i; heads = heads_are i; message = place.message }
+      where
+        less_more : (n : ℕ) → n + 0 ≡ n
+        less_more n = omega arith
+
+-- in a subfile
+lead_subfile : ByLayersLaws → (place : Place) (numbers : Numbers) (p : objects.Place) (set count left : ℕ) (o text tag : List ℕ) → place.numbers ≡ number_list numbers
+    → AllByRecursion (λ (d : Dataset). is_kept d.rec ≡ true) place.fields → number_list numbers ≡ stated_numbers p.stated → IsPossible p → p.ending ≡ NotEnded → place.heads ≡ length p.lengths → (last : LastIsBegun p.lengths place.taken count left)
+    → length o ≡ place.taken → LeadsToSaved o text place.message → SectionsLiveAt (plain place.fields numbers (one_of_some (place.heads - 1)) [] false) (head_of_numbers 8 set count) → place.section ≡ 8
+    → SpellsTag count_octets (head_of_numbers 8 set count) tag → place.phase ≡ DataBegun set count left [] → IsWithin widest (length (joined place.fields)) (length place.fields) → Possible place
+lead_subfile laws place numbers p set count left o text tag numbers_are keeps same is end' many last come leads at section_is spells phase within =
+    finish laws place numbers heads object false (InData h begun) (tag ++ begun) text (spellable_by fields numbers p base.given heads object base.fits spelled object_octets (let low = base.few in omega (arith, low)))
+    (tag, spells, omega (arith, begun_length, more), back_octets cut o octets, refl)
+    (subst (λ (x : List ℕ). LeadsToSaved x text place.message) (sym (take-append-drop cut o)) leads) (λ nine. absurd (omega (arith, nine, section_is)))
+    (record {
+      records = alive_at;
+      within = inside;
+      room = record { kept = λ bad. absurd (let no' : false ≡ true = bad in cc); subfiles = λ eight. let few' = is.few in let told = tell.heads_are in omega (arith, few', many, lengths_many, told) };
+      object = lives;
+    })
+    (λ bad. absurd (let no' : false ≡ true = bad in cc)) place_is
+  where
+    h : Head
+    h = head_of_numbers 8 set count
+
+    fields : List Dataset
+    fields = place.fields
+
+    heads : ℕ
+    heads = place.heads - 1
+
+    cut : ℕ
+    cut = place.taken - (count - left)
+
+    object : List ℕ
+    object = take cut o
+
+    begun : List ℕ
+    begun = drop cut o
+
+    more : 1 ≤ left
+    more = last.some
+
+    sums : sum p.lengths ≡ sum last.finished + count
+    sums = ap sum last.lengths_are ∙ sum_more last.finished (count ∷ []) ∙ ap (λ (n : ℕ). sum last.finished + n) (sum_one count)
+
+    finished_is : sum last.finished ≡ cut
+    finished_is = let all = last.octets in let fits = last.fits in omega (arith, sums, all, fits)
+
+    cut_fits : cut + (count - left) ≡ place.taken
+    cut_fits = let all = last.octets in let fits = last.fits in omega (arith, sums, all, fits)
+
+    object_length : length object ≡ cut
+    object_length = let long = length-take cut o in omega (arith, long, come, cut_fits)
+
+    begun_length : length begun + left ≡ count
+    begun_length = let long = length-drop cut o in let fits = last.fits in omega (arith, long, come, cut_fits, fits)
+
+    lengths_many : length p.lengths ≡ length last.finished + 1
+    lengths_many = ap length last.lengths_are ∙ length-append last.finished (count ∷ [])
+
+    heads_are : heads ≡ length last.finished
+    heads_are = omega (arith, many, lengths_many)
+
+    base : Filling fields numbers p heads object
+    base = filling laws fields numbers p heads object keeps same is last.finished (count ∷ []) last.lengths_are heads_are (finished_is ∙ sym object_length)
+
+    octets : Octets o
+    octets = living_octets o (laws.opens.answer.living o text leads.0 leads.1).0
+
+    object_octets : Octets object
+    object_octets = front_octets cut o octets
+
+    ds : List Dataset
+    ds = plain fields numbers heads object false
+
+    tell : Tell ds fields numbers heads object false
+    tell = told_by fields numbers heads object false base.fits
+
+    base_alive : SectionsLive (plain fields numbers (one_of_some heads) [] false)
+    base_alive = front_alive (plain fields numbers (one_of_some heads) [] false) h at
+
+    spelled : AllByRecursion HasSpellings fields
+    spelled = fields_spelled fields numbers (one_of_some heads) [] false base_alive.0 keeps base_alive.1 (let low = within.octets_in in omega (arith, low))
+
+    alive_at : SectionsLiveAt ds h
+    alive_at = at_with laws.opens.answer.rows fields numbers heads object base.fits object_octets base.few h at
+
+    inside : AreWithin widest ds
+    inside = within_plain fields numbers heads object false tell within (let most = is.few in omega (arith, many, most))
+
+    stated : AreStated (numbers_of (of_record 7 ds))
+    stated = (stated_after_all laws.opens.answer.follow.objects ds (front_alive ds h alive_at) inside.subfiles).stated
+
+    small : (size : ℕ) → number_at 20 (numbers_of (of_record 7 ds)) ≡ Some size → count ≤ size
+    small size e =
+        let told = tell.numbers_are in
+        let largest : number_at 20 p.stated ≡ Some size = let here : number_at 20 (numbers_of (of_record 7 ds)) ≡ numbers.largest = cc in sym base.given.same.largest ∙ sym here ∙ e in
+        last_small size last.finished count (subst (AllByRecursion (λ n. n ≤ size)) last.lengths_are (each_small laws.opens.sizes p is size largest (omega (arith, lengths_many))))
+      where
+        last_small : (size : ℕ) (ls : List ℕ) (c : ℕ) → AllByRecursion (λ n. n ≤ size) (ls ++ c ∷ []) → c ≤ size
+        last_small size [] c all = all.0
+        last_small size (l ∷ ls) c all = last_small size ls c all.1
+
+    lives : ObjectLives (place_after (place_after_datasets ds) (SubfileBegun count))
+    lives =
+        let q = place_after (place_after_datasets ds) (SubfileBegun count) in
+        let ls = lengths_of (of_record 8 ds) in
+        let count_is = count_of (of_record 8 ds) in
+        let told = tell.heads_are in
+        let longer = length-append ls (count ∷ []) in
+        let total = total_of (of_record 8 ds) in
+        let object_is = ap length tell.object_is in
+        let added : sum (ls ++ count ∷ []) ≡ sum ls + count = sum_more ls (count ∷ []) ∙ ap (λ (n : ℕ). sum ls + n) (sum_one count) in
+        (possible_like laws.opens.sizes p q is stated (sym same ∙ sym tell.numbers_are) (omega (arith, count_is, told, longer, heads_are, lengths_many)) (omega (arith, sums, added, total, object_is, object_length, finished_is))
+        (λ size e. join_small size ls (count ∷ []) (small_in fields numbers heads object false tell size e) (small size e, tt)) (end' ∙ sym (ap ending_of tell.nines_are))).alive
+
+    place_is : place ≡ plain_place fields numbers heads object false (InData h begun) place.message
+    place_is =
+        let left_is : left ≡ count - length begun = omega (arith, begun_length) in
+        let phase_is : place.phase ≡ DataBegun set count (count - length begun) [] = phase ∙ (λ i. DataBegun set count (left_is i) []) in
+        let taken_is : place.taken ≡ length (object ++ begun) = sym come ∙ sym (ap length (take-append-drop cut o)) in
+        let all : place.heads ≡ heads + 1 = omega (arith, many, lengths_many) in
+        λ i. record { section = section_is i; phase = phase_is i; fields = fields; numbers = numbers_are i; taken = taken_is i; heads = all i; message = place.message }
+
+-- ---- every phase
+
+abbrev DataPlace : (section set count left : ℕ) (given : List ℕ) (fields : List Dataset) (nums : List (Option ℕ)) (taken heads : ℕ) (m : MessagePlace) → Place
+DataPlace section set count left given fields nums taken heads m = record { section = section; phase = DataBegun set count left given; fields = fields; numbers = nums; taken = taken; heads = heads; message = m }
+
+nothing_given : (given : List ℕ) → length given ≡ 0 → given ≡ []
+nothing_given [] e = refl
+nothing_given (x ∷ given) e = absurd (omega (arith, e))
+
+lead_eight : ByLayersLaws → (set count left : ℕ) (given : List ℕ) (fields : List Dataset) (nums : List (Option ℕ)) (taken heads : ℕ) (m : MessagePlace) → LeadsByLayers (DataPlace 8 set count left given fields nums taken heads m)
+    → Possible (DataPlace 8 set count left given fields nums taken heads m)
+lead_eight laws set count left given fields nums taken heads m l =
+    let at = l.object.1 in
+    let (o, text, leads, many, last) = l.message in
+    let nil = nothing_given given l.tags.1 in
+    lead_subfile laws (DataPlace 8 set count left given fields nums taken heads m) l.numbers l.object.0 set count left o text l.tags.0.2 l.numbers_are l.kept (sym l.numbers_are ∙ at.numbers_are) l.object.2 at.not_ended at.subfiles at.octets many
+    leads l.records refl l.tags.0.3 (ap (DataBegun set count left) nil) (within_whole fields 0 0 l.within)
+
+-- where the object stands at a head of another record
+abbrev LivesAt : Ending → Head → Type 0
+LivesAt e h = (ds : List Dataset) → ending_of (of_record 9 ds) ≡ NotEnded → ObjectLives (record (place_after_datasets ds) { ending = e }) → ObjectLives (place_at ds h)
+
+at_nine : (h : Head) → nat_eq h.rec 9 ≡ true → LivesAt Ended h
+at_nine h nine ds none lives = subst ObjectLives (sym (at_end ds h (eqb-true h.rec 9 nine))) lives
+
+at_others : (h : Head) → nat_eq h.rec 8 ≡ false → nat_eq h.rec 9 ≡ false → LivesAt NotEnded h
+at_others h not8 not9 ds none lives =
+    let is : place_at ds h ≡ place_after_datasets ds =
+    ap (λ (b : Bool). if b then place_after (place_after_datasets ds) (SubfileBegun h.count) else if nat_eq h.rec 9 then place_ended ds else place_after_datasets ds) not8 ∙ ap (λ (c : Bool). if c then place_ended ds else place_after_datasets ds) not9 in
+    subst ObjectLives (sym is) (subst (λ (e : Ending). ObjectLives (record (place_after_datasets ds) { ending = e })) (sym none) lives)
+
+lead_not_eight : ByLayersLaws → (section set count left : ℕ) (given : List ℕ) (fields : List Dataset) (nums : List (Option ℕ)) (taken heads : ℕ) (m : MessagePlace) → nat_eq section 8 ≡ false
+    → LeadsByLayers (DataPlace section set count left given fields nums taken heads m) → Possible (DataPlace section set count left given fields nums taken heads m)
+lead_not_eight laws section set count left given fields nums taken heads m not8 l =
+    let h : Head = head_of_numbers section set count in
+    let p = l.object.0 in
+    let at : IsAt nums taken None heads p = subst (λ (b : Bool). IsAt nums taken (if b then Some (count, left) else None) heads p) not8 l.object.1 in
+    let octets = at.octets in
+    let (o, text, leads, many, last) = l.message in
+    let come : length given ≡ count - left = subst (λ (b : Bool). length given ≡ (if b then 0 else count - left)) not8 l.tags.1 in
+    let some : 0 < left = l.tags.0.0 in
+    let fits : left ≤ count = l.tags.0.1 in
+    let alive : SectionsLiveAt (plain fields l.numbers (one_of_some heads) [] false) h =
+    subst (λ (n : ℕ). SectionsLiveAt (plain fields l.numbers (one_of_some n) [] false) h) (less_none heads)
+    (subst (λ (b : Bool). SectionsLiveAt (plain fields l.numbers (one_of_some (heads - (if b then 1 else 0))) [] false) h) not8 l.records) in
+    let lead : (q : objects.Place) (e : Ending) → number_list l.numbers ≡ stated_numbers q.stated → IsPossible q → q.ending ≡ e → heads ≡ length q.lengths → sum q.lengths ≡ length o → LivesAt e h
+    → Possible (DataPlace section set count left given fields nums taken heads m) =
+    λ q e same is end' count_is total lives.
+    lead_other laws (DataPlace section set count left given fields nums taken heads m) l.numbers q e h left given o text l.tags.0.2 l.numbers_are l.kept same is end' count_is total many leads last alive refl not8
+    l.tags.0.3 l.tags.2 (omega (arith, come, fits)) some refl lives l.within in
+    by (nat_eq section 9) refl p lead (sym l.numbers_are ∙ at.numbers_are) at.not_ended at.subfiles (octets ∙ sym many) l.object.2
+  where
+    Leads : Type 0
+    Leads = Possible (DataPlace section set count left given fields nums taken heads m)
+
+    by : (c : Bool) → nat_eq section 9 ≡ c → (p : objects.Place)
+        → ((q : objects.Place) (e : Ending) → number_list l.numbers ≡ stated_numbers q.stated → IsPossible q → q.ending ≡ e → heads ≡ length q.lengths → sum q.lengths ≡ length l.message.0 → LivesAt e (head_of_numbers section set count) → Leads)
+        → number_list l.numbers ≡ stated_numbers p.stated → p.ending ≡ NotEnded → heads ≡ length p.lengths → sum p.lengths ≡ length l.message.0 → IsPossible (if c then place_after p ObjectEnded else p) → Leads
+    by true nine p lead same end' count_is total is = lead (place_after p ObjectEnded) Ended same is refl count_is total (at_nine (head_of_numbers section set count) nine)
+    by false other p lead same end' count_is total is = lead p NotEnded same is end' count_is total (at_others (head_of_numbers section set count) not8 other)
+
+lead_data : ByLayersLaws → (section set count left : ℕ) (given : List ℕ) (fields : List Dataset) (nums : List (Option ℕ)) (taken heads : ℕ) (m : MessagePlace) → LeadsByLayers (DataPlace section set count left given fields nums taken heads m)
+    → Possible (DataPlace section set count left given fields nums taken heads m)
+lead_data laws section set count left given fields nums taken heads m l = elim (eqb_tells section 8) [
+  | inl eight ↦
+      subst (λ (s : ℕ). LeadsByLayers (DataPlace s set count left given fields nums taken heads m) → Possible (DataPlace s set count left given fields nums taken heads m)) (sym eight.1)
+      (lead_eight laws set count left given fields nums taken heads m) l
+  | inr other ↦ lead_not_eight laws section set count left given fields nums taken heads m other.0 l
+]
+
+lead_by : ByLayersLaws → (section : ℕ) (phase : Phase) (fields : List Dataset) (nums : List (Option ℕ)) (taken heads : ℕ) (m : MessagePlace)
+    → LeadsByLayers (record { section = section; phase = phase; fields = fields; numbers = nums; taken = taken; heads = heads; message = m })
+    → Possible (record { section = section; phase = phase; fields = fields; numbers = nums; taken = taken; heads = heads; message = m })
+lead_by laws section (TagBegun held) fields nums taken heads m l = lead_tag laws section held fields nums taken heads m l
+lead_by laws section (DataBegun set count left given) fields nums taken heads m l = lead_data laws section set count left given fields nums taken heads m l
+lead_by laws section AllEnded fields nums taken heads m l = lead_ended laws section fields nums taken heads m l
+
+-- A place where each layer can be is possible.
+pub layers_lead : ByLayersLaws → (place : Place) → LeadsByLayers place → Possible place
+layers_lead laws place l = lead_by laws place.section place.phase place.fields place.numbers place.taken place.heads place.message l

@@ -1,0 +1,341 @@
+-- At a possible place each layer alone can be.
+use Rattle.std.proofs.Common.{IsTrue, ◌≡◌, ℕ, zero, suc, ◌+◌, ◌-◌, ◌<◌, ◌≤◌, nat_eq, cond, if◌then◌else◌, Bool, true, false, List, [], ◌∷◌, ◌++◌, length, map, Some, None, refl, ap, sym, subst, ◌∙◌, inl, inr, arith, append_assoc, append-nil, length-append}
+use Rattle.std.proofs.lemmas.Bool.{eqb-true}
+use Rattle.std.proofs.lemmas.Bool.Decides.{eqb_tells}
+use Rattle.iim_dataset.specs.Format.Octets.{Octets, greatest_size}
+use Rattle.iim_dataset.specs.Format.Datasets.{Dataset, SpellsTag, count_octets, of_record}
+use Rattle.iim_dataset.specs.Format.Languages as languages
+use Rattle.iim_dataset.specs.Format.Splits.{Begun, InTag, InData, Reads}
+use Rattle.iim_dataset.specs.Format.Tags.{BeginsTag}
+use Rattle.iim_dataset.specs.declared.head.Head.{Head}
+use Rattle.iim_fields.specs.Format.Alive.{SectionsLive, SectionsLiveAt}
+use Rattle.iim_fields.specs.Format.Faults.{kept, section_after}
+use Rattle.iim_fields.specs.Format.Records.{AreSections}
+use Rattle.iim_fields.specs.declared.limits.Limits.{Limits}
+use Rattle.iim_object.specs.Format.Numbers.{place_after_datasets, place_ended, ending_of}
+use Rattle.iim_object.specs.Format.Objects.{ObjectEnded, SubfileBegun}
+use Rattle.iim_object.specs.Format.Places.{NotEnded, ConfirmedAs, place_after}
+use Rattle.iim_object.specs.Format.Places as objects
+use Rattle.iim_object.specs.Format.Plans.{max_subfiles}
+use Rattle.iim_object.specs.Format.Records.{lengths_of, numbers_of}
+use Rattle.iim_object.specs.States.Saved.{IsAt, IsPossible, stated_numbers}
+use Rattle.wire_story.specs.Format.Tokens.{OctetOrEnd, Octet, End, with_end}
+use Rattle.wire_message.specs.Format.Layers.{MessageLanguage}
+use Rattle.wire_message.specs.Laws.Messages.{MessagesEndAfterEot}
+use Rattle.wire_message.specs.States.Reading.{is_ended}
+use Rattle.wire_message.specs.States.Saved.{LeadsToSaved, saved}
+use Rattle.wire_message.specs.declared.place.Place.{Place as Message}
+use Rattle.wire_message.specs.declared.place.Place.TheVariants as at_message
+use Rattle.wire_message.specs.declared.saved.MessagePart.TheVariants as part
+use Rattle.wire_message.specs.declared.saved.MessagePlace.{MessagePlace}
+use Rattle.iim_places.specs.Format.Admitted.{object_of}
+use Rattle.iim_places.specs.States.ByLayers.{LeadsByLayers, TagsLead, RecordsLive, ObjectLeads, MessageLeads, record_datasets, begun_subfiles, begun_of_object, object_after, one_of_some, are_ended}
+use Rattle.iim_places.specs.Format.Open.{object_so_far, section, AllCanContinue}
+use Rattle.iim_places.specs.Plain.{plain}
+use Rattle.iim_places.specs.States.Possible.{Possible, widest}
+use Rattle.iim_places.specs.Format.Tickets.{Place, Phase, TagBegun, AllEnded, phase_of, place_of}
+use Rattle.iim_places.specs.Format.Tokens.{ObjectLives, CanContinueAt, MayContinue}
+use Rattle.iim_places.specs.Laws.Lower.{ByLayersLaws, OpenLaws}
+use Rattle.iim_places.proofs.Alike.{Fits, alike, present_alike}
+use Rattle.iim_places.proofs.Bounds.{object_fits}
+use Rattle.iim_places.proofs.Fitting.{Lived, lived}
+use Rattle.iim_places.proofs.Following.{alive_of, object_lives_after}
+use Rattle.iim_places.proofs.HeadsWithin.{told_by}
+use Rattle.iim_places.proofs.Lasts.{last_sections, not_all}
+use Rattle.iim_places.proofs.PlainContinues.{plain_on, low_number}
+use Rattle.iim_places.proofs.PlainOpens.{ending_like, possible_of, fit_in_rows}
+use Rattle.iim_places.proofs.PlainPlaces.{numbers_in, all_kept, room_for, present_same}
+use Rattle.iim_places.proofs.SameRecords.{IsStated, nines, stated_after_all, stated_at}
+use Rattle.iim_places.proofs.Tickets.{total_of, count_of, sum_more, sum_one}
+
+-- ---- the dataset layer
+
+tags_tag : (octets : List ℕ) (ds : List Dataset) (held : List ℕ) → Reads count_octets octets ds (InTag held) → BeginsTag count_octets held
+tags_tag octets ds held reads =
+    let part = reads.is_rest.4 in
+    record { head = reads.is_rest.1; more = part.0; some_more = part.1; whole = subst (SpellsTag count_octets reads.is_rest.1) (sym part.2) reads.is_rest.3 }
+
+tags_lead : (octets : List ℕ) (ds : List Dataset) (b : Begun) → Reads count_octets octets ds b → TagsLead (section ds b) (phase_of ds b)
+tags_lead octets ds (InTag held) reads = by (nat_eq (section_after ds) 9)
+  where
+    by : (b : Bool) → TagsLead (section_after ds) (if b then AllEnded else TagBegun held)
+    by true = tt
+    by false = tags_tag octets ds held reads
+tags_lead octets ds (InData h taken) reads =
+    ((omega (arith, less), omega arith, reads.is_rest.0, reads.is_rest.1), many (nat_eq h.rec 8), octets_by (nat_eq h.rec 8))
+  where
+    less : length taken < h.count
+    less = reads.is_rest.2
+
+    many : (b : Bool) → length (if b then [] else taken) ≡ (if b then 0 else h.count - (h.count - length taken))
+    many true = refl
+    many false = omega (arith, less)
+
+    octets_by : (b : Bool) → Octets (if b then [] else taken)
+    octets_by true = tt
+    octets_by false = reads.is_rest.3
+
+-- ---- the record layer
+
+-- the datasets by which the layer is told
+abbrev few_of : List Dataset → Bool → List Dataset
+few_of ds ended = plain (kept ds) (numbers_in (numbers_of (of_record 7 ds))) (one_of_some (length (of_record 8 ds))) [] ended
+
+pub one_same : (n : ℕ) → one_of_some n ≡ one_of_some (one_of_some n)
+one_same zero = refl
+one_same (suc n) = refl
+
+fits_of : OpenLaws → (ds : List Dataset) → IsStated (place_after_datasets ds) → ObjectLives (place_after_datasets ds) → Fits (kept ds) (numbers_in (numbers_of (of_record 7 ds))) (length (of_record 8 ds)) (object_of ds)
+fits_of laws ds stated lives =
+    record { kept = all_kept ds; fit = fit_in_rows (numbers_of (of_record 7 ds)) stated.stated.each; room = room_for laws.sizes.fit ds stated lives }
+
+few_fit : (ds : List Dataset) → IsStated (place_after_datasets ds) → Fits (kept ds) (numbers_in (numbers_of (of_record 7 ds))) (one_of_some (length (of_record 8 ds))) []
+few_fit ds stated = record { kept = all_kept ds; fit = fit_in_rows (numbers_of (of_record 7 ds)) stated.stated.each; room = omega arith }
+
+-- What the layer says after datasets it says after these.
+record FewOf (ds : List Dataset) (ended : Bool) : Type 0 where
+  present : section_after ds ≡ section_after (few_of ds ended)
+  on : (more : List Dataset) → AreSections (ds ++ more) → AreSections (few_of ds ended ++ more)
+
+fewer : OpenLaws → (ds : List Dataset) → SectionsLive ds → length (of_record 8 ds) ≤ max_subfiles → ObjectLives (place_after_datasets ds) → FewOf ds (nat_eq (section_after ds) 9)
+fewer laws ds alive few lives =
+    let stated = stated_after_all laws.answer.follow.objects ds alive few in
+    let ps = numbers_of (of_record 7 ds) in
+    let heads = length (of_record 8 ds) in
+    let object = object_of ds in
+    let ended = nat_eq (section_after ds) 9 in
+    let total = total_of (of_record 8 ds) in
+    let most = object_fits (place_after_datasets ds) lives in
+    let fits : length object ≤ greatest_size = omega (arith, total, most) in
+    record {
+      present = present_same laws.answer ds alive stated ∙ present_alike (kept ds) (numbers_in ps) heads (one_of_some heads) object [] ended (one_same heads);
+      on = λ more sections.
+          alike laws.answer.rows (kept ds) (numbers_in ps) heads (one_of_some heads) object [] ended more (fits_of laws ds stated lives) (few_fit ds stated) (one_same heads) tt (omega arith) (plain_on laws.answer ds more sections few fits);
+    }
+
+begun_same : (n : ℕ) (b : Bool) → (n + (if b then 1 else 0)) - (if b then 1 else 0) ≡ n
+begun_same n true = omega arith
+begun_same n false = omega arith
+
+abbrev TagPhase : Bool → List ℕ → Phase
+TagPhase b held = if b then AllEnded else TagBegun held
+
+none_begun : (s : ℕ) (b : Bool) (held : List ℕ) → begun_subfiles s (TagPhase b held) ≡ 0
+none_begun s true held = refl
+none_begun s false held = refl
+
+ended_by : (b : Bool) (held : List ℕ) → are_ended (TagPhase b held) ≡ b
+ended_by true held = refl
+ended_by false held = refl
+
+records_tag : (ds es : List Dataset) (held : List ℕ) → section_after ds ≡ section_after es → SectionsLive es → RecordsLive (section_after ds) (TagPhase (nat_eq (section_after ds) 9) held) es
+records_tag ds es held present alive = by (nat_eq (section_after ds) 9) refl
+  where
+    by : (b : Bool) → nat_eq (section_after ds) 9 ≡ b → RecordsLive (section_after ds) (TagPhase b held) es
+    by true is = (eqb-true (section_after ds) 9 is, alive)
+    by false is = (sym present, alive)
+
+records_lead : OpenLaws → (ds : List Dataset) (b : Begun) (m : MessagePlace) → MayContinue widest ds b
+    → RecordsLive (section ds b) (phase_of ds b) (record_datasets (place_of ds b m) (numbers_in (numbers_of (of_record 7 ds))))
+records_lead laws ds (InTag held) m goes =
+    let f = fewer laws ds goes.records goes.within.subfiles goes.object in
+    let (more, are) = goes.records in
+    let ended = nat_eq (section_after ds) 9 in
+    let none : length (of_record 8 ds) - begun_subfiles (section_after ds) (TagPhase ended held) ≡ length (of_record 8 ds) = let none = none_begun (section_after ds) ended held in omega (arith, none) in
+    let is : few_of ds ended ≡ record_datasets (place_of ds (InTag held) m) (numbers_in (numbers_of (of_record 7 ds))) =
+    λ i. plain (kept ds) (numbers_in (numbers_of (of_record 7 ds))) (one_of_some (sym none i)) [] (sym (ended_by ended held) i) in
+    subst (RecordsLive (section_after ds) (TagPhase ended held)) is (records_tag ds (few_of ds ended) held f.present (more, f.on more are))
+records_lead laws ds (InData h taken) m goes =
+    let alive = alive_of widest ds (InData h taken) goes in
+    let (d, head, (more, are)) = goes.records in
+    let f = fewer laws ds alive goes.within.subfiles (object_lives_after laws.answer.follow.objects widest ds (InData h taken) goes) in
+    let open' : nat_eq (section_after ds) 9 ≡ false = elim (eqb_tells (section_after ds) 9) [
+      | inl nine ↦ absurd (not_all laws.answer.follow.sections ds h goes.records (last_sections laws.answer.follow.ends ds alive nine.1))
+      | inr other ↦ other.0
+    ] in
+    let is : few_of ds (nat_eq (section_after ds) 9) ≡ record_datasets (place_of ds (InData h taken) m) (numbers_in (numbers_of (of_record 7 ds))) =
+    λ i. plain (kept ds) (numbers_in (numbers_of (of_record 7 ds))) (one_of_some (sym (begun_same (length (of_record 8 ds)) (nat_eq h.rec 8)) i)) [] (open' i) in
+    subst (λ (es : List Dataset). SectionsLiveAt es h) is
+    (d, head, (more, subst AreSections (sym (append_assoc (few_of ds (nat_eq (section_after ds) 9)) (d ∷ []) more)) (f.on ((d ∷ []) ++ more) (subst AreSections (append_assoc ds (d ∷ []) more) are))))
+
+-- ---- the object layer
+
+-- the place where the subfiles have come, and not the end
+abbrev pub opened : List Dataset → objects.Place
+opened ds = record (place_after_datasets ds) { ending = NotEnded }
+
+none_ended : (rs : List Dataset) → length rs ≡ 0 → ending_of rs ≡ NotEnded
+none_ended [] e = refl
+none_ended (r ∷ rs) e = absurd (omega (arith, e))
+
+pub nine_ended : OpenLaws → (ds : List Dataset) → SectionsLive ds → nat_eq (section_after ds) 9 ≡ false → ending_of (of_record 9 ds) ≡ NotEnded
+nine_ended laws ds alive open' = none_ended (of_record 9 ds) (nines laws.answer.follow ds alive ∙ ap (λ (b : Bool). cond b 1 0) open')
+
+pub opened_at : (ds : List Dataset) → ending_of (of_record 9 ds) ≡ NotEnded → record (place_after_datasets ds) { ending = NotEnded } ≡ place_after_datasets ds
+opened_at ds none = λ i. record { stated = numbers_of (of_record 7 ds); lengths = lengths_of (of_record 8 ds); ending = sym none i }
+
+-- with no subfile begun, all octets of the object have come
+pub whole_at : (ds : List Dataset) (taken heads : ℕ) → taken ≡ length (object_of ds) → heads ≡ length (of_record 8 ds) → IsAt (stated_numbers (numbers_of (of_record 7 ds))) taken None heads (opened ds)
+whole_at ds taken heads octets many = record { numbers_are = refl; octets = total_of (of_record 8 ds) ∙ sym octets; subfiles = many ∙ sym (count_of (of_record 8 ds)); not_ended = refl }
+
+-- at the end the size of the object is confirmed
+pub confirmed_at : OpenLaws → (ds : List Dataset) → SectionsLive ds → length (of_record 8 ds) ≤ max_subfiles → ObjectLives (place_after_datasets ds) → nat_eq (section_after ds) 9 ≡ true → ending_of (of_record 9 ds) ≡ ConfirmedAs (length (object_of ds))
+confirmed_at laws ds alive few lives ended =
+    let stated = stated_after_all laws.answer.follow.objects ds alive few in
+    let total = total_of (of_record 8 ds) in
+    let most = object_fits (place_after_datasets ds) lives in
+    ending_like laws.sizes (numbers_of (of_record 7 ds)) (lengths_of (of_record 8 ds)) (of_record 9 ds) true (object_of ds) stated.stated stated.duties stated.subfiles lives
+    (nines laws.answer.follow ds alive ∙ ap (λ (b : Bool). cond b 1 0) ended) total (omega (arith, total, most))
+    ∙ ap ConfirmedAs (low_number (length (object_of ds)) (omega (arith, total, most)))
+
+object_tag : OpenLaws → (ds : List Dataset) (held : List ℕ) (m : MessagePlace) → MayContinue widest ds (InTag held) → ObjectLeads (place_of ds (InTag held) m)
+object_tag laws ds held m goes = by (nat_eq (section_after ds) 9) refl
+  where
+    stated : IsStated (place_after_datasets ds)
+    stated = stated_after_all laws.answer.follow.objects ds goes.records goes.within.subfiles
+
+    possible : IsPossible (place_after_datasets ds)
+    possible = possible_of (place_after_datasets ds) stated (let count = count_of (of_record 8 ds) in let few = goes.within.subfiles in omega (arith, count, few)) goes.object
+
+    taken : ℕ
+    taken = length (object_of ds)
+
+    by : (b : Bool) → nat_eq (section_after ds) 9 ≡ b
+        → (p : objects.Place) × IsAt (stated_numbers (numbers_of (of_record 7 ds))) taken (begun_of_object (section_after ds) (TagPhase b held)) (length (of_record 8 ds)) p
+        × IsPossible (object_after (section_after ds) (TagPhase b held) taken p)
+    by true ended =
+        (opened ds, whole_at ds taken (length (of_record 8 ds)) refl refl, subst (λ (e : objects.Ending). IsPossible (record (place_after_datasets ds) { ending = e })) (confirmed_at laws ds goes.records goes.within.subfiles goes.object ended) possible)
+    by false open' =
+        (opened ds, whole_at ds taken (length (of_record 8 ds)) refl refl, subst (λ (e : objects.Ending). IsPossible (record (place_after_datasets ds) { ending = e })) (nine_ended laws ds goes.records open') possible)
+
+-- the octets of a begun subfile
+pub subfile_at : (ds : List Dataset) (h : Head) (taken : List ℕ) → length taken < h.count
+    → IsAt (stated_numbers (numbers_of (of_record 7 ds))) (length (object_of ds ++ taken)) (Some (h.count, h.count - length taken)) (length (of_record 8 ds) + 1) (place_after (opened ds) (SubfileBegun h.count))
+subfile_at ds h taken less =
+    let ls = lengths_of (of_record 8 ds) in
+    let total = total_of (of_record 8 ds) in
+    let both = length-append (object_of ds) taken in
+    let sums = sum_more ls (h.count ∷ []) in
+    let one = sum_one h.count in
+    let count = count_of (of_record 8 ds) in
+    let more = length-append ls (h.count ∷ []) in
+    record {
+      numbers_are = refl;
+      octets = record { finished = ls; lengths_are = refl; some = omega (arith, less); fits = omega arith; octets = omega (arith, total, both, sums, one, less) };
+      subfiles = omega (arith, count, more);
+      not_ended = refl;
+    }
+
+pub few_heads : (limits : Limits) (ds : List Dataset) (h : Head) → CanContinueAt limits ds h → length (lengths_of (of_record 8 ds)) ≤ max_subfiles
+few_heads limits ds h goes = let count = count_of (of_record 8 ds) in let few = goes.within.subfiles in omega (arith, count, few)
+
+pub few_with_head : (limits : Limits) (ds : List Dataset) (h : Head) → CanContinueAt limits ds h → nat_eq h.rec 8 ≡ true
+    → length (lengths_of (of_record 8 ds) ++ h.count ∷ []) ≤ max_subfiles
+few_with_head limits ds h goes eight =
+    let count = count_of (of_record 8 ds) in
+    let one = length-append (lengths_of (of_record 8 ds)) (h.count ∷ []) in
+    let room = goes.room.subfiles (eqb-true h.rec 8 eight) in
+    omega (arith, count, one, room)
+
+object_data : OpenLaws → (ds : List Dataset) (h : Head) (taken : List ℕ) (m : MessagePlace) → MayContinue widest ds (InData h taken) → length taken < h.count → ObjectLeads (place_of ds (InData h taken) m)
+object_data laws ds h taken m goes less = by (nat_eq h.rec 8) (nat_eq h.rec 9) refl refl
+    (stated_at laws.answer.follow.objects ds h goes.records goes.within.subfiles goes.room.subfiles) goes.object
+  where
+    alive : SectionsLive ds
+    alive = alive_of widest ds (InData h taken) goes
+
+    open' : ending_of (of_record 9 ds) ≡ NotEnded
+    open' = elim (eqb_tells (section_after ds) 9) [
+      | inl nine ↦ absurd (not_all laws.answer.follow.sections ds h goes.records (last_sections laws.answer.follow.ends ds alive nine.1))
+      | inr other ↦ nine_ended laws ds alive other.0
+    ]
+
+    at : Bool → Bool → objects.Place
+    at b c = if b then place_after (place_after_datasets ds) (SubfileBegun h.count) else if c then place_ended ds else place_after_datasets ds
+
+    Leads : Bool → Bool → Type 0
+    Leads b c =
+        (p : objects.Place)
+        × IsAt (stated_numbers (numbers_of (of_record 7 ds))) (length (object_of ds ++ (if b then taken else []))) (if b then Some (h.count, h.count - length taken) else None) (length (of_record 8 ds) + (if b then 1 else 0)) p
+        × IsPossible (if c then place_after p ObjectEnded else p)
+
+    by : (b c : Bool) → nat_eq h.rec 8 ≡ b → nat_eq h.rec 9 ≡ c → IsStated (at b c) → ObjectLives (at b c) → Leads b c
+    by true true eight nine stated lives = absurd (let e = eqb-true h.rec 8 eight in let f = eqb-true h.rec 9 nine in omega (arith, e, f))
+    by true false eight nine stated lives = (
+      place_after (opened ds) (SubfileBegun h.count),
+      subfile_at ds h taken less,
+      subst (λ (e : objects.Ending). IsPossible (place_after (record (place_after_datasets ds) { ending = e }) (SubfileBegun h.count))) open'
+          (possible_of (place_after (place_after_datasets ds) (SubfileBegun h.count)) stated (few_with_head widest ds h goes eight) lives),
+    )
+    by false true eight nine stated lives =
+        (opened ds, whole_at ds (length (object_of ds ++ [])) (length (of_record 8 ds) + 0) (ap length (append-nil (object_of ds))) (omega arith), possible_of (place_ended ds) stated (few_heads widest ds h goes) lives)
+    by false false eight nine stated lives = (
+      opened ds,
+      whole_at ds (length (object_of ds ++ [])) (length (of_record 8 ds) + 0) (ap length (append-nil (object_of ds))) (omega arith),
+      subst (λ (e : objects.Ending). IsPossible (record (place_after_datasets ds) { ending = e })) open' (possible_of (place_after_datasets ds) stated (few_heads widest ds h goes) lives),
+    )
+
+object_leads : OpenLaws → (octets : List ℕ) (ds : List Dataset) (b : Begun) (m : MessagePlace) → Reads count_octets octets ds b → MayContinue widest ds b → ObjectLeads (place_of ds b m)
+object_leads laws octets ds (InTag held) m reads goes = object_tag laws ds held m goes
+object_leads laws octets ds (InData h taken) m reads goes = object_data laws ds h taken m goes reads.is_rest.2
+
+-- ---- the message
+
+octets_of_end : (o : List ℕ) (rest : List OctetOrEnd) (other : List ℕ) → (map Octet o ++ End ∷ []) ++ rest ≡ with_end other → o ≡ other
+octets_of_end [] rest [] e = refl
+octets_of_end [] rest (y ∷ other) e = absurd (let bad : End ∷ rest ≡ Octet y ∷ with_end other = e in cc)
+octets_of_end (x ∷ o) rest [] e = absurd (let bad : Octet x ∷ ((map Octet o ++ End ∷ []) ++ rest) ≡ End ∷ [] = e in cc)
+octets_of_end (x ∷ o) rest (y ∷ other) e =
+    let same : Octet x ∷ ((map Octet o ++ End ∷ []) ++ rest) ≡ Octet y ∷ with_end other = e in
+    let first : x ≡ y = cc in
+    let later : (map Octet o ++ End ∷ []) ++ rest ≡ with_end other = cc in
+    let more = octets_of_end o rest other later in
+    λ i. first i ∷ more i
+
+after_end : (at : Message) → IsTrue (is_ended (Some at)) → (saved at).part ≡ part.AfterEnd
+after_end (at_message.AfterEnd h t count) e = refl
+after_end (at_message.Filler count) e = absurd cc
+after_end (at_message.Source s) e = absurd cc
+after_end (at_message.Number s n) e = absurd cc
+after_end (at_message.Priority s n) e = absurd cc
+after_end (at_message.PriorityRead s n p) e = absurd cc
+after_end (at_message.Category s n p c) e = absurd cc
+after_end (at_message.Words s n p c w) e = absurd cc
+after_end (at_message.Info h) e = absurd cc
+after_end (at_message.Gap h count feed) e = absurd cc
+after_end (at_message.Text h r) e = absurd cc
+after_end (at_message.Trailer h t) e = absurd cc
+
+ended_message : MessagesEndAfterEot → (o text : List ℕ) (m : MessagePlace) → LeadsToSaved o text m → languages.IsAlive MessageLanguage (map Octet o ++ End ∷ []) → m.part ≡ part.AfterEnd
+ended_message law o text m (at, leads, saves) alive = sym (ap (λ (x : MessagePlace). x.part) saves) ∙ after_end at ((law o text at leads).0 alive)
+
+message_leads : ByLayersLaws → (ds : List Dataset) (b : Begun) (text : List ℕ) (m : MessagePlace) → AllCanContinue widest ds b → LeadsToSaved (object_so_far ds b) text m → MessageLeads (place_of ds b m)
+message_leads laws ds b text m goes leads = (
+  object_so_far ds b,
+  text,
+  leads,
+  refl,
+  (λ nine. ended_message laws.ends (object_so_far ds b) text m leads
+      (subst (λ (c : Bool). languages.IsAlive MessageLanguage (map Octet (object_so_far ds b) ++ (if c then End ∷ [] else []))) (ap (λ (r : ℕ). nat_eq r 9) nine) goes.message)),
+)
+
+-- ---- all of them
+
+leads_of : ByLayersLaws → (place : Place) (l : Lived place) → LeadsByLayers (place_of l.whole l.begun l.message)
+leads_of laws place l =
+    let ds = l.whole in
+    let goes = l.leads_on.sizes in
+    record {
+      numbers = numbers_in (numbers_of (of_record 7 ds));
+      numbers_are = refl;
+      kept = all_kept ds;
+      tags = tags_lead l.octets ds l.begun l.reads;
+      records = records_lead laws.opens ds l.begun l.message goes;
+      object = object_leads laws.opens l.octets ds l.begun l.message l.reads goes;
+      message = message_leads laws ds l.begun l.text l.message l.leads_on l.leads;
+      within = told_by widest ds l.begun l.message goes;
+    }
+
+-- At a possible place each layer can be.
+pub leads_by_layers : ByLayersLaws → (place : Place) → Possible place → LeadsByLayers place
+leads_by_layers laws place p = let l = lived laws.opens.answer place p in subst LeadsByLayers (sym l.is_place) (leads_of laws place l)

@@ -1,0 +1,477 @@
+-- The cause of a refusal is the one of the lowest number in its layer whose condition holds.
+use Rattle.std.proofs.Common.{◌≡◌, ◌≢◌, ℕ, zero, suc, ◌<◌, ◌≤◌, ◌⊎◌, Bool, true, false, not, ◌&&◌, ◌||◌, nat_eq, nat_lt, if◌then◌else◌, List, [], ◌∷◌, ◌++◌, length, replicate, Option, Some, None, refl, ap, sym, subst, ◌∙◌, inl, inr, arith, length-append}
+use Rattle.std.specs.Option.{option_or, option_map}
+use Rattle.std.proofs.lemmas.Bool.{cases_lt, eqb-true, lt-ltb, or_cases}
+use Rattle.std.proofs.lemmas.List.{length-replicate}
+use Rattle.iim_dataset.specs.Format.Octets.{IsOctet, Octets, IsProperPrefix, number}
+use Rattle.iim_dataset.specs.Format.Datasets.{Dataset, SpellsTag, SpellsCount, head_of, of_record, count_octets}
+use Rattle.iim_dataset.specs.Format.Splits.{InTag}
+use Rattle.iim_dataset.specs.Format.Tags.{BeginsNoTag}
+use Rattle.iim_dataset.specs.declared.head.Head.{Head}
+use Rattle.iim_fields.specs.Format.Alive.{SectionsLive, SectionsLiveAt}
+use Rattle.iim_fields.specs.Format.Causes.{number_of_cause}
+use Rattle.iim_fields.specs.Format.Faults.{first_fault, value_fault}
+use Rattle.iim_fields.specs.Laws.Records.{HeadsTellTheLowestCause, ValuesTellTheLowestCause}
+use Rattle.iim_fields.specs.Format.Values.{data_of, tells_number}
+use Rattle.iim_fields.specs.declared.limits.Limits.{Limits}
+use Rattle.iim_fields.specs.declared.fault.FieldFault.{FieldFault}
+use Rattle.iim_fields.specs.declared.fault.FieldCause.{FieldCause}
+use Rattle.iim_fields.specs.declared.fault.FieldCause.TheVariants as fields
+use Rattle.iim_object.specs.Laws.Conditions as objects
+use Rattle.iim_object.specs.Format.Conditions as objects_format
+use Rattle.iim_object.specs.Format.Causes.{cause_at}
+use Rattle.iim_object.specs.Format.Numbers.{place_after_datasets}
+use Rattle.iim_object.specs.Format.Objects.{ObjectToken}
+use Rattle.iim_object.specs.Format.Places.{Place, head_token, value_token}
+use Rattle.iim_object.specs.Format.Plans.{max_subfiles}
+use Rattle.iim_object.specs.declared.reading.fault.SizeCause.{SizeCause}
+use Rattle.iim_object.specs.declared.reading.fault.SizeCause.TheVariants as sizes
+use Rattle.wire_story.specs.Format.Texts.{Holds}
+use Rattle.wire_message.specs.Format.Layers.{text_so_far}
+use Rattle.wire_message.specs.Format.Causes.{HasCause}
+use Rattle.wire_message.specs.declared.fault.MessageCause.{MessageCause}
+use Rattle.wire_message.specs.declared.fault.MessageCause.TheVariants as messages
+use Rattle.iim_places.specs.Format.Admitted.{object_of}
+use Rattle.iim_places.specs.Format.Conditions.{Token, TagOctet, AtHead, AtValue, SubfileOctet, IsNoCount, OfField, OfSize, rule_of}
+use Rattle.iim_places.specs.Laws.Conditions.{TellsTheLowest, RefusalsTellTheLowestCause}
+use Rattle.iim_places.specs.Format.Framed.{AreWithin}
+use Rattle.iim_places.specs.Format.Open.{IsUnfinished}
+use Rattle.iim_places.specs.Format.Refusals.{cause_of, layer_of, cause_of_size, of_field, size_on, too_many_on, message_on, tag_cause, begun_record, begun_number}
+use Rattle.iim_places.specs.Format.Tokens.{DiesAtHead, DiesAtValue, IsRefusedHead, IsRefusedValue, place_at, subfile_fault, object_fault, number_fault}
+use Rattle.iim_places.specs.Laws.Lower.{AnswerLaws}
+use Rattle.iim_places.specs.declared.fault.TokenFault.{TokenFault}
+use Rattle.iim_places.specs.declared.refusal.Layer.{Layer}
+use Rattle.iim_places.specs.declared.refusal.Layer.TheVariants as layers
+use Rattle.iim_places.specs.declared.refusal.Cause.{Cause}
+use Rattle.iim_places.specs.declared.refusal.Cause.TheVariants as causes
+use Rattle.iim_places.proofs.Answering.{not_held}
+use Rattle.iim_places.proofs.Places.{HeadLeads, subfile_leads, end_leads, number_leads}
+use Rattle.iim_places.proofs.SameRecords.{stated_after_all, stated_at}
+use Rattle.iim_places.proofs.StoryDies.{StoryLaws, in_text, lone_return, control}
+
+-- the laws by which a refusal tells the lowest cause
+pub record LowestLaws : Type 0 where
+  pub answer : AnswerLaws
+  pub heads : HeadsTellTheLowestCause
+  pub values : ValuesTellTheLowestCause
+  pub objects : objects.CausesAreTheFirst
+  pub story : StoryLaws
+
+-- ---- the causes of a layer
+
+abbrev InLayer : Layer → Cause → Type 0
+InLayer layers.Dataset c = (c ≡ causes.Marker) ⊎ ((c ≡ causes.CountForm) ⊎ (c ≡ causes.Truncated))
+InLayer layers.Record c = (f : FieldCause) × (c ≡ cause_of f)
+InLayer layers.Limits c = ((f : FieldCause) × (c ≡ cause_of f)) ⊎ (c ≡ causes.TooManySubfiles)
+InLayer layers.Object c = (s : SizeCause) × (c ≡ cause_of_size s)
+InLayer layers.Message c = (c ≡ causes.BadOctet) ⊎ (c ≡ causes.Unfinished)
+InLayer layers.Story c = (c ≡ causes.LoneReturn) ⊎ (c ≡ causes.ControlOctet)
+InLayer layers.Outside c = (c ≡ causes.Sink) ⊎ (c ≡ causes.Failed)
+
+in_layer : (c : Cause) → InLayer (rule_of c).layer c
+in_layer causes.Marker = inl refl
+in_layer causes.CountForm = inr (inl refl)
+in_layer causes.Truncated = inr (inr refl)
+in_layer causes.RecordOrder = (fields.RecordOrder, refl)
+in_layer causes.UnknownDataset = (fields.UnknownDataset, refl)
+in_layer causes.Repeated = (fields.Repeated, refl)
+in_layer causes.CountRange = (fields.CountRange, refl)
+in_layer causes.Missing = (fields.Missing, refl)
+in_layer causes.BadValue = (fields.BadValue, refl)
+in_layer causes.FileFormat = (fields.FileFormat, refl)
+in_layer causes.ModeClash = (sizes.ModeClash, refl)
+in_layer causes.SizeClash = (sizes.SizeClash, refl)
+in_layer causes.SubfileTooLong = (sizes.SubfileTooLong, refl)
+in_layer causes.PastSize = (sizes.PastSize, refl)
+in_layer causes.Short = (sizes.Short, refl)
+in_layer causes.ConfirmedWrong = (sizes.ConfirmedWrong, refl)
+in_layer causes.BadOctet = inl refl
+in_layer causes.Unfinished = inr refl
+in_layer causes.LoneReturn = inl refl
+in_layer causes.ControlOctet = inr refl
+in_layer causes.HeaderFull = inl (fields.HeaderFull, refl)
+in_layer causes.TooManyFields = inl (fields.TooManyFields, refl)
+in_layer causes.TooManySubfiles = inr refl
+in_layer causes.Sink = inl refl
+in_layer causes.Failed = inr refl
+
+one_of : (l : Layer) (c : Cause) → (rule_of c).layer ≡ l → InLayer l c
+one_of l c same = subst (λ (k : Layer). InLayer k c) same (in_layer c)
+
+numbered : (c d : Cause) → c ≡ d → (rule_of c).number ≡ (rule_of d).number
+numbered c d is = ap (λ (x : Cause). (rule_of x).number) is
+
+-- the condition of a cause, at a token
+abbrev Holds' : Limits → List Dataset → Token → Cause → Type 0
+Holds' limits ds token c = (rule_of c).holds limits ds token
+
+some_is : {A : Type 0} {x y : A} → Some x ≡ Some y → x ≡ y
+some_is e = cc
+
+-- ---- the record layer and the limits
+
+field_layer : (f : FieldCause) → (rule_of (cause_of f)).layer ≡ layer_of f
+field_layer fields.RecordOrder = refl
+field_layer fields.UnknownDataset = refl
+field_layer fields.Repeated = refl
+field_layer fields.CountRange = refl
+field_layer fields.Missing = refl
+field_layer fields.BadValue = refl
+field_layer fields.FileFormat = refl
+field_layer fields.HeaderFull = refl
+field_layer fields.TooManyFields = refl
+
+field_number : (f : FieldCause) → (rule_of (cause_of f)).number ≡ number_of_cause f
+field_number fields.RecordOrder = refl
+field_number fields.UnknownDataset = refl
+field_number fields.Repeated = refl
+field_number fields.CountRange = refl
+field_number fields.Missing = refl
+field_number fields.BadValue = refl
+field_number fields.FileFormat = refl
+field_number fields.HeaderFull = refl
+field_number fields.TooManyFields = refl
+
+field_holds : (f : FieldCause) (limits : Limits) (ds : List Dataset) (token : Token) → (Holds' limits ds token (cause_of f) → OfField f limits ds token) × (OfField f limits ds token → Holds' limits ds token (cause_of f))
+field_holds fields.RecordOrder limits ds token = (λ h. h, λ h. h)
+field_holds fields.UnknownDataset limits ds token = (λ h. h, λ h. h)
+field_holds fields.Repeated limits ds token = (λ h. h, λ h. h)
+field_holds fields.CountRange limits ds token = (λ h. h, λ h. h)
+field_holds fields.Missing limits ds token = (λ h. h, λ h. h)
+field_holds fields.BadValue limits ds token = (λ h. h, λ h. h)
+field_holds fields.FileFormat limits ds token = (λ h. h, λ h. h)
+field_holds fields.HeaderFull limits ds token = (λ h. h, λ h. h)
+field_holds fields.TooManyFields limits ds token = (λ h. h, λ h. h)
+
+-- of the limits a lower number than 52 is a cause of fields
+few_limits : (c : Cause) (n : ℕ) → InLayer layers.Limits c → (rule_of c).number < n → n ≤ 52 → (g : FieldCause) × (c ≡ cause_of g)
+few_limits c n (inl field) less low = field
+few_limits c n (inr last) less low = absurd (let is = numbered c causes.TooManySubfiles last in omega (arith, less, low, is))
+
+lower_field : (f : FieldCause) (c : Cause) → (rule_of c).layer ≡ layer_of f → (rule_of c).number < number_of_cause f → (g : FieldCause) × (c ≡ cause_of g)
+lower_field fields.RecordOrder c same less = one_of layers.Record c same
+lower_field fields.UnknownDataset c same less = one_of layers.Record c same
+lower_field fields.Repeated c same less = one_of layers.Record c same
+lower_field fields.CountRange c same less = one_of layers.Record c same
+lower_field fields.Missing c same less = one_of layers.Record c same
+lower_field fields.BadValue c same less = one_of layers.Record c same
+lower_field fields.FileFormat c same less = one_of layers.Record c same
+lower_field fields.HeaderFull c same less = few_limits c 50 (one_of layers.Limits c same) less (omega arith)
+lower_field fields.TooManyFields c same less = few_limits c 51 (one_of layers.Limits c same) less (omega arith)
+
+field_lowest : (limits : Limits) (ds : List Dataset) (token : Token) (f : FieldFault) → OfField f.cause limits ds token
+    → ((g : FieldCause) → number_of_cause g < number_of_cause f.cause → OfField g limits ds token → ⊥) → TellsTheLowest limits ds token (of_field f)
+field_lowest limits ds token f holds lowest = record {
+  layer = field_layer f.cause;
+  holds = (field_holds f.cause limits ds token).1 holds;
+  lowest = λ other same less has.
+      let number_is = field_number f.cause in
+      let (g, is) = lower_field f.cause other same (omega (arith, less, number_is)) in
+      let other_is = numbered other (cause_of g) is in
+      let g_is = field_number g in
+      lowest g (omega (arith, less, number_is, other_is, g_is)) ((field_holds g limits ds token).0 (subst (Holds' limits ds token) is has));
+}
+
+-- ---- the object layer
+
+size_layer : (s : SizeCause) → (rule_of (cause_of_size s)).layer ≡ layers.Object
+size_layer sizes.ModeClash = refl
+size_layer sizes.SizeClash = refl
+size_layer sizes.SubfileTooLong = refl
+size_layer sizes.PastSize = refl
+size_layer sizes.Short = refl
+size_layer sizes.ConfirmedWrong = refl
+
+size_number : (s : SizeCause) → (rule_of (cause_of_size s)).number ≡ objects_format.number_of s
+size_number sizes.ModeClash = refl
+size_number sizes.SizeClash = refl
+size_number sizes.SubfileTooLong = refl
+size_number sizes.PastSize = refl
+size_number sizes.Short = refl
+size_number sizes.ConfirmedWrong = refl
+
+size_holds : (s : SizeCause) (limits : Limits) (ds : List Dataset) (token : Token) → (Holds' limits ds token (cause_of_size s) → OfSize s ds token) × (OfSize s ds token → Holds' limits ds token (cause_of_size s))
+size_holds sizes.ModeClash limits ds token = (λ h. h, λ h. h)
+size_holds sizes.SizeClash limits ds token = (λ h. h, λ h. h)
+size_holds sizes.SubfileTooLong limits ds token = (λ h. h, λ h. h)
+size_holds sizes.PastSize limits ds token = (λ h. h, λ h. h)
+size_holds sizes.Short limits ds token = (λ h. h, λ h. h)
+size_holds sizes.ConfirmedWrong limits ds token = (λ h. h, λ h. h)
+
+size_lowest : (limits : Limits) (ds : List Dataset) (token : Token) (h : Head) (p : Place) (t : ObjectToken) (s : SizeCause) → objects.IsFirstCause p t s
+    → OfSize s ds token → ((r : SizeCause) → OfSize r ds token → objects_format.HasCause r p t) → TellsTheLowest limits ds token (size_on h s)
+size_lowest limits ds token h p t s first holds back = record {
+  layer = size_layer s;
+  holds = (size_holds s limits ds token).1 holds;
+  lowest = λ other same less has.
+      let (r, is) = one_of layers.Object other same in
+      let low = first.lowest r (back r ((size_holds r limits ds token).0 (subst (Holds' limits ds token) is has))) in
+      let number_is = size_number s in
+      let other_is = numbered other (cause_of_size r) is in
+      let r_is = size_number r in
+      omega (arith, less, low, number_is, other_is, r_is);
+}
+
+-- ---- heads
+
+taken_if : (b c : Bool) (x s : TokenFault) → (if b && not c then Some x else None) ≡ Some s → (x ≡ s) × (b ≡ true) × (c ≡ false)
+taken_if true true x s e = absurd cc
+taken_if true false x s e = (some_is e, refl, refl)
+taken_if false c x s e = absurd cc
+
+-- the cause and the fault that a test lets through
+pub record Mapped (b : Bool) (o : Option SizeCause) (f : SizeCause → TokenFault) (s : TokenFault) : Type 0 where
+  pub on : b ≡ true
+  pub cause : SizeCause
+  pub is : o ≡ Some cause
+  pub fault : f cause ≡ s
+
+mapped_if : (b : Bool) (o : Option SizeCause) (f : SizeCause → TokenFault) (s : TokenFault) → (if b then option_map f o else None) ≡ Some s → Mapped b o f s
+mapped_if true (Some c) f s e = record { on = refl; cause = c; is = refl; fault = some_is e }
+mapped_if true None f s e = absurd cc
+mapped_if false o f s e = absurd cc
+
+not_less : (a b : ℕ) → nat_lt a b ≡ false → b ≤ a
+not_less a b is = elim (cases_lt a b) [ inl less ↦ absurd (let bad : true ≡ false = sym (lt-ltb a b less) ∙ is in cc) | inr more ↦ more ]
+
+either : (r a b : ℕ) → (nat_eq r a || nat_eq r b) ≡ true → (r ≡ a) ⊎ (r ≡ b)
+either r a b is = elim (or_cases (nat_eq r a) (nat_eq r b) is) [ inl same ↦ inl (eqb-true r a same) | inr same ↦ inr (eqb-true r b same) ]
+
+too_many_lowest : (limits : Limits) (ds : List Dataset) (h : Head) → h.rec ≡ 8 → max_subfiles ≤ length (of_record 8 ds)
+    → ((f : FieldCause) → OfField f limits ds (AtHead h) → ⊥) → TellsTheLowest limits ds (AtHead h) (too_many_on h)
+too_many_lowest limits ds h eight many none = record {
+  layer = refl;
+  holds = (eight, many);
+  lowest = λ other same less has.
+      let (g, is) = few_limits other 52 (one_of layers.Limits other same) less (omega arith) in
+      none g ((field_holds g limits ds (AtHead h)).0 (subst (Holds' limits ds (AtHead h)) is has));
+}
+
+leads_at : LowestLaws → (ds : List Dataset) (h : Head) → SectionsLiveAt ds h → (h.rec ≡ 8 → length (of_record 8 ds) < max_subfiles) → (h.rec ≡ 8) ⊎ (h.rec ≡ 9) → HeadLeads ds h
+leads_at laws ds h at room (inl eight) = subfile_leads laws.answer.follow.objects ds h at eight (room eight)
+leads_at laws ds h at room (inr nine) = end_leads laws.answer.follow.objects ds h at nine
+
+head_lowest : LowestLaws → (limits : Limits) (ds : List Dataset) (h : Head) (fault : TokenFault) → SectionsLive ds → AreWithin limits ds → IsRefusedHead limits ds h fault → TellsTheLowest limits ds (AtHead h) fault
+head_lowest laws limits ds h fault alive within refused = by (first_fault limits ds h) (subfile_fault ds h) (object_fault ds h) refl refl refl refused.first
+  where
+    by_object : Mapped (nat_eq h.rec 8 || nat_eq h.rec 9) (cause_at (place_after_datasets ds) (head_token h.rec h.count)) (size_on h) fault → TellsTheLowest limits ds (AtHead h) fault
+    by_object m =
+        let dead = subst (λ (f : TokenFault). DiesAtHead f.layer limits ds h) (sym m.fault) refused.dead in
+        let is = either h.rec 8 9 m.on in
+        let leads = leads_at laws ds h dead.0 dead.1.subfiles is in
+        let stated = (stated_after_all laws.answer.follow.objects ds alive within.subfiles).stated in
+        let first = (laws.objects (place_after_datasets ds) (head_token h.rec h.count) m.cause stated leads.0).0 m.is in
+        subst (TellsTheLowest limits ds (AtHead h)) m.fault (size_lowest limits ds (AtHead h) h (place_after_datasets ds) (head_token h.rec h.count) m.cause first (is, first.holds) (λ r has. has.1))
+
+    by : (o : Option FieldFault) (p q : Option TokenFault) → first_fault limits ds h ≡ o → subfile_fault ds h ≡ p → object_fault ds h ≡ q
+        → option_or (option_map of_field o) (option_or p q) ≡ Some fault → TellsTheLowest limits ds (AtHead h) fault
+    by (Some f) p q first second third e =
+        let is = ((laws.heads limits ds h).0 f).0 first in
+        subst (TellsTheLowest limits ds (AtHead h)) (some_is e) (field_lowest limits ds (AtHead h) f is.holds is.lowest)
+    by None (Some s) q first second third e =
+        let many = taken_if (nat_eq h.rec 8) (nat_lt (length (of_record 8 ds)) max_subfiles) (too_many_on h) s second in
+        subst (TellsTheLowest limits ds (AtHead h)) (many.0 ∙ some_is e)
+        (too_many_lowest limits ds h (eqb-true h.rec 8 many.1) (not_less (length (of_record 8 ds)) max_subfiles many.2) ((laws.heads limits ds h).1.0 first))
+    by None None (Some s) first second third e =
+        by_object (mapped_if (nat_eq h.rec 8 || nat_eq h.rec 9) (cause_at (place_after_datasets ds) (head_token h.rec h.count)) (size_on h) fault (third ∙ e))
+    by None None None first second third e = absurd cc
+
+-- ---- values
+
+value_lowest : LowestLaws → (limits : Limits) (ds : List Dataset) (d : Dataset) (fault : TokenFault) → AreWithin limits ds → IsRefusedValue ds d fault → TellsTheLowest limits ds (AtValue d) fault
+value_lowest laws limits ds d fault within refused = by (value_fault d) (number_fault ds d) refl refl refused.first
+  where
+    not_eight : (d.rec ≡ 7) ⊎ (d.rec ≡ 9) → d.rec ≡ 8 → length (of_record 8 ds) < max_subfiles
+    not_eight (inl seven) eight = absurd (omega (arith, seven, eight))
+    not_eight (inr nine) eight = absurd (omega (arith, nine, eight))
+
+    by_object : Mapped (tells_number d.rec) (cause_at (place_at ds (head_of d)) (value_token d.rec d.set (number d.octets))) (size_on (head_of d)) fault → TellsTheLowest limits ds (AtValue d) fault
+    by_object m =
+        let dead = subst (λ (f : TokenFault). DiesAtValue f.layer ds d) (sym m.fault) refused.dead in
+        let is = either d.rec 7 9 m.on in
+        let leads = number_leads laws.answer.follow.objects ds d dead.0 m.on in
+        let stated = (stated_at laws.answer.follow.objects ds (head_of d) (d, refl, dead.0) within.subfiles (not_eight is)).stated in
+        let first = (laws.objects (place_at ds (head_of d)) (value_token d.rec d.set (number d.octets)) m.cause stated leads.0).0 m.is in
+        subst (TellsTheLowest limits ds (AtValue d)) m.fault (size_lowest limits ds (AtValue d) (head_of d) (place_at ds (head_of d)) (value_token d.rec d.set (number d.octets)) m.cause first (is, first.holds) (λ r has. has.1))
+
+    by : (o : Option FieldFault) (q : Option TokenFault) → value_fault d ≡ o → number_fault ds d ≡ q → option_or (option_map of_field o) q ≡ Some fault → TellsTheLowest limits ds (AtValue d) fault
+    by (Some f) q first second e =
+        let is = ((laws.values limits ds d).0 f).0 first in
+        subst (TellsTheLowest limits ds (AtValue d)) (some_is e) (field_lowest limits ds (AtValue d) f is.holds is.lowest)
+    by None q first second e = by_object (mapped_if (tells_number d.rec) (cause_at (place_at ds (head_of d)) (value_token d.rec d.set (number d.octets))) (size_on (head_of d)) fault (second ∙ e))
+
+-- ---- octets of the object, and its end
+
+end_lowest : (limits : Limits) (ds : List Dataset) (h : Head) (fault : TokenFault) → IsUnfinished limits ds h fault → TellsTheLowest limits ds (AtHead h) fault
+end_lowest limits ds h fault is = subst (TellsTheLowest limits ds (AtHead h)) (sym is.is_fault) (record { layer = refl; holds = (is.last, is.dies); lowest = λ other same less has. by other (one_of layers.Message other same) less has })
+  where
+    by : (other : Cause) → InLayer layers.Message other → (rule_of other).number < 32 → Holds' limits ds (AtHead h) other → ⊥
+    by other (inl bad) less has = subst (Holds' limits ds (AtHead h)) bad has
+    by other (inr same) less has = let is = numbered other causes.Unfinished same in omega (arith, less, is)
+
+-- the first of two causes of a layer is the lowest
+first_of_two : (other c d : Cause) → (other ≡ c) ⊎ (other ≡ d) → (rule_of c).number ≤ (rule_of d).number → (rule_of other).number < (rule_of c).number → ⊥
+first_of_two other c d (inl is) order less = let n = numbered other c is in omega (arith, n, less)
+first_of_two other c d (inr is) order less = let n = numbered other d is in omega (arith, n, order, less)
+
+-- where no CR is held, the octet is no lone return
+no_return : LowestLaws → (limits : Limits) (ds : List Dataset) (o : List ℕ) (b : ℕ) → Holds (text_so_far o) 0 → (other : Cause) → InLayer layers.Story other → (rule_of other).number < 41 → Holds' limits ds (SubfileOctet o b) other → ⊥
+no_return laws limits ds o b none other (inl is) less it =
+    let (text, (held, holds, lone)) = subst (Holds' limits ds (SubfileOctet o b)) is it in not_held laws.answer (text_so_far o) held lone.0 holds none
+no_return laws limits ds o b none other (inr is) less it = let n = numbered other causes.ControlOctet is in omega (arith, n, less)
+
+octet_lowest : LowestLaws → (limits : Limits) (ds : List Dataset) (h : Head) (o : List ℕ) (b : ℕ) → IsOctet b → (cause : MessageCause) → HasCause cause o b → TellsTheLowest limits ds (SubfileOctet o b) (message_on h cause)
+octet_lowest laws limits ds h o b low messages.BadOctet has =
+    record { layer = refl; holds = has; lowest = λ other same less it. first_of_two other causes.BadOctet causes.Unfinished (one_of layers.Message other same) (omega arith) less }
+octet_lowest laws limits ds h o b low messages.Unfinished has = absurd has
+octet_lowest laws limits ds h o b low messages.LoneReturn (lives, dies, (held, some, holds)) = record {
+  layer = refl;
+  holds = (in_text o b dies, (held, holds, lone_return laws.story o b held dies some holds));
+  lowest = λ other same less it. first_of_two other causes.LoneReturn causes.ControlOctet (one_of layers.Story other same) (omega arith) less;
+}
+octet_lowest laws limits ds h o b low messages.ControlOctet (lives, dies, none) = record {
+  layer = refl;
+  holds = (in_text o b dies, control laws.story o b low dies none);
+  lowest = λ other same less it. no_return laws limits ds o b none other (one_of layers.Story other same) less it;
+}
+octet_lowest laws limits ds h o b low messages.Sink has =
+    record { layer = refl; holds = has; lowest = λ other same less it. first_of_two other causes.Sink causes.Failed (one_of layers.Outside other same) (omega arith) less }
+
+-- ---- tags
+
+spelled : (a r s n : ℕ) (count : List ℕ) → a ≡ 28 → IsOctet r → IsOctet s → SpellsCount count_octets n count → SpellsTag count_octets (record { rec = r; set = s; count = n }) (a ∷ r ∷ s ∷ count)
+spelled a r s n count first hr hs is = record { rec = hr; set = hs; count = count; is_count = is; parts = λ i. first i ∷ r ∷ s ∷ count }
+
+no_marker : (next : ℕ) → BeginsNoTag count_octets (next ∷ []) → next ≢ 28
+no_marker next dead is = dead (record { rec = 0; set = 0; count = 0 }) (0 ∷ 0 ∷ 0 ∷ 0 ∷ []) (spelled next 0 0 0 (0 ∷ 0 ∷ []) is (omega arith) (omega arith) (inl (omega arith, omega arith, refl, refl)))
+
+zeros : (n : ℕ) → Octets (replicate n 0)
+zeros zero = tt
+zeros (suc n) = (omega arith, zeros n)
+
+other_octet : (xs ys : List ℕ) (a b : ℕ) → IsOctet b → Octets (xs ++ a ∷ ys) → Octets ((xs ++ b ∷ []) ++ ys)
+other_octet [] ys a b low h = (low, h.1)
+other_octet (x ∷ xs) ys a b low h = (h.0, other_octet xs ys a b low h.1)
+
+-- the fifth octet, after 80
+fifth : (a r s d next : ℕ) → a ≡ 28 → IsOctet r → IsOctet s → d ≡ 128 → BeginsNoTag count_octets (a ∷ r ∷ s ∷ d ∷ next ∷ []) → (next ≡ 0) ⊎ (count_octets < next)
+fifth a r s d zero first hr hs is dead = inl refl
+fifth a r s d (suc n) first hr hs is dead = elim (cases_lt count_octets (suc n)) [
+  | inl more ↦ inr more
+  | inr few ↦
+      let zs : List ℕ = replicate (suc n) 0 in
+      let long : suc n ≡ length zs = sym (length-replicate (suc n) 0) in
+      absurd (dead (record { rec = r; set = s; count = number zs }) zs (spelled a r s (number zs) (d ∷ suc n ∷ zs) first hr hs (inr (is, long, omega arith, few, zeros (suc n), refl))))
+]
+
+-- the fourth octet and those after it
+count_dies : (a r s d next n : ℕ) (held rest count : List ℕ) → a ≡ 28 → IsOctet r → IsOctet s → IsOctet next → SpellsCount count_octets n count → (d ∷ held) ++ rest ≡ count → 0 < length rest
+    → BeginsNoTag count_octets ((a ∷ r ∷ s ∷ d ∷ held) ++ next ∷ []) → IsNoCount (a ∷ r ∷ s ∷ d ∷ held) next
+count_dies a r s d next n held rest [] first hr hs low bad is some dead = absurd bad
+count_dies a r s d next n held rest (high ∷ []) first hr hs low bad is some dead = absurd bad
+count_dies a r s d next n [] rest (high ∷ second ∷ more) first hr hs low (inl standard) is some dead =
+    let same : d ≡ high = cc in
+    let small = standard.0 in
+    absurd (dead (record { rec = r; set = s; count = number (d ∷ next ∷ []) }) [] (spelled a r s (number (d ∷ next ∷ [])) (d ∷ next ∷ []) first hr hs (inl (omega (arith, same, small), low, refl, refl))))
+count_dies a r s d next n [] rest (high ∷ second ∷ more) first hr hs low (inr extended) is some dead =
+    let same : d ≡ high = cc in
+    let eighty : d ≡ 128 = same ∙ extended.0 in inr (omega arith, eighty, fifth a r s d next first hr hs eighty dead)
+count_dies a r s d next n (e ∷ held) [] (high ∷ second ∷ more) first hr hs low count is some dead = absurd (omega (arith, some))
+count_dies a r s d next n (e ∷ held) (x ∷ rest) (high ∷ second ∷ more) first hr hs low (inl standard) is some dead =
+    let tail : held ++ x ∷ rest ≡ more = cc in
+    absurd (omega (arith, ap length (tail ∙ standard.2), length-append held (x ∷ rest)))
+count_dies a r s d next n (e ∷ held) (x ∷ rest) (high ∷ second ∷ more) first hr hs low (inr extended) is some dead =
+    let same : d ≡ high = cc in
+    let five : e ≡ second = cc in
+    let tail : held ++ x ∷ rest ≡ more = cc in
+    let all : List ℕ = (held ++ next ∷ []) ++ rest in
+    let long : e ≡ length all = let told = extended.1 in omega (arith, five, told, ap length tail, length-append held (x ∷ rest), length-append (held ++ next ∷ []) rest, length-append held (next ∷ [])) in
+    let octets : Octets all = other_octet held rest x next low (subst Octets (sym tail) extended.4) in
+    let least = extended.2 in
+    let most = extended.3 in
+    absurd (dead (record { rec = r; set = s; count = number all }) rest (spelled a r s (number all) (d ∷ e ∷ all) first hr hs (inr (same ∙ extended.0, long, omega (arith, five, least), omega (arith, five, most), octets, refl))))
+
+no_count : (a next : ℕ) (held : List ℕ) → IsOctet next → (h : Head) (tag : List ℕ) → SpellsTag count_octets h tag → IsProperPrefix (a ∷ held) tag → BeginsNoTag count_octets ((a ∷ held) ++ next ∷ []) → IsNoCount (a ∷ held) next
+no_count a next [] low h tag s (rest, some, is) dead =
+    let whole : a ∷ rest ≡ 28 ∷ h.rec ∷ h.set ∷ s.count = is ∙ s.parts in
+    let first : a ≡ 28 = cc in
+    absurd (dead (record { rec = next; set = 0; count = 0 }) (0 ∷ 0 ∷ 0 ∷ []) (spelled a next 0 0 (0 ∷ 0 ∷ []) first low (omega arith) (inl (omega arith, omega arith, refl, refl))))
+no_count a next (b ∷ []) low h tag s (rest, some, is) dead =
+    let whole : a ∷ b ∷ rest ≡ 28 ∷ h.rec ∷ h.set ∷ s.count = is ∙ s.parts in
+    let first : a ≡ 28 = cc in
+    let second : h.rec ≡ b = cc in
+    absurd (dead (record { rec = b; set = next; count = 0 }) (0 ∷ 0 ∷ []) (spelled a b next 0 (0 ∷ 0 ∷ []) first (subst IsOctet second s.rec) low (inl (omega arith, omega arith, refl, refl))))
+no_count a next (b ∷ c ∷ []) low h tag s (rest, some, is) dead =
+    let whole : a ∷ b ∷ c ∷ rest ≡ 28 ∷ h.rec ∷ h.set ∷ s.count = is ∙ s.parts in
+    let first : a ≡ 28 = cc in
+    let second : h.rec ≡ b = cc in
+    let third : h.set ≡ c = cc in
+    let hb : IsOctet b = subst IsOctet second s.rec in
+    let hc : IsOctet c = subst IsOctet third s.set in
+    inl (
+      omega arith,
+      elim (cases_lt 128 next) [
+        | inl more ↦ more
+        | inr few ↦
+            elim (cases_lt next 128) [
+              | inl less ↦
+                  absurd (dead (record { rec = b; set = c; count = number (next ∷ 0 ∷ []) }) (0 ∷ [])
+                  (spelled a b c (number (next ∷ 0 ∷ [])) (next ∷ 0 ∷ []) first hb hc (inl (less, omega arith, refl, refl))))
+              | inr full ↦
+                  absurd (dead (record { rec = b; set = c; count = 0 }) (1 ∷ 0 ∷ [])
+                  (spelled a b c 0 (next ∷ 1 ∷ 0 ∷ []) first hb hc (inr (omega (arith, few, full), omega arith, omega arith, omega arith, (omega arith, tt), refl))))
+            ]
+      ],
+    )
+no_count a next (b ∷ c ∷ d ∷ held) low h tag s (rest, some, is) dead =
+    let whole : a ∷ b ∷ c ∷ d ∷ (held ++ rest) ≡ 28 ∷ h.rec ∷ h.set ∷ s.count = is ∙ s.parts in
+    let first : a ≡ 28 = cc in
+    let second : h.rec ≡ b = cc in
+    let third : h.set ≡ c = cc in
+    let count : d ∷ (held ++ rest) ≡ s.count = cc in
+    count_dies a b c d next h.count held rest s.count first (subst IsOctet second s.rec) (subst IsOctet third s.set) low s.is_count count some dead
+
+below_marker : (other : Cause) → InLayer layers.Dataset other → (rule_of other).number < 1 → ⊥
+below_marker other (inl is) less = let n = numbered other causes.Marker is in omega (arith, n, less)
+below_marker other (inr (inl is)) less = let n = numbered other causes.CountForm is in omega (arith, n, less)
+below_marker other (inr (inr is)) less = let n = numbered other causes.Truncated is in omega (arith, n, less)
+
+below_count : (limits : Limits) (ds : List Dataset) (a : ℕ) (held : List ℕ) (next : ℕ) (other : Cause) → InLayer layers.Dataset other → (rule_of other).number < 2 → Holds' limits ds (TagOctet (a ∷ held) next) other → ⊥
+below_count limits ds a held next other (inl is) less has =
+    let both = subst (Holds' limits ds (TagOctet (a ∷ held) next)) is has in let none = ap length both.0 in omega (arith, none)
+below_count limits ds a held next other (inr (inl is)) less has = let n = numbered other causes.CountForm is in omega (arith, n, less)
+below_count limits ds a held next other (inr (inr is)) less has = let n = numbered other causes.Truncated is in omega (arith, n, less)
+
+tag_lowest : (limits : Limits) (ds : List Dataset) (held : List ℕ) (next : ℕ) → IsOctet next → (h : Head) (tag : List ℕ) → SpellsTag count_octets h tag → IsProperPrefix held tag → BeginsNoTag count_octets (held ++ next ∷ [])
+    → TellsTheLowest limits ds (TagOctet held next) (record { layer = layers.Dataset; rec = begun_record (InTag held); set = begun_number (InTag held); cause = tag_cause held })
+tag_lowest limits ds [] next low h tag s part dead = record { layer = refl; holds = (refl, no_marker next dead); lowest = λ other same less has. below_marker other (one_of layers.Dataset other same) less }
+tag_lowest limits ds (a ∷ held) next low h tag s part dead = record { layer = refl; holds = no_count a next held low h tag s part dead; lowest = λ other same less has. below_count limits ds a held next other (one_of layers.Dataset other same) less has }
+
+-- ---- the law
+
+pub lowest_cause : LowestLaws → RefusalsTellTheLowestCause
+lowest_cause laws limits octets next fault low (inl bad) =
+    let (rest_is, h, tag, s, part) = bad.reads.is_rest in (
+      bad.whole,
+      TagOctet bad.held next,
+      (bad.reads, refl),
+      subst (TellsTheLowest limits bad.whole (TagOctet bad.held next)) (sym bad.is_fault) (tag_lowest limits bad.whole bad.held next low h tag s part bad.dead),
+    )
+lowest_cause laws limits octets next fault low (inr (inl bad)) = (bad.whole, AtHead bad.head, (bad.held, bad.reads, bad.tag), by bad.refuses)
+  where
+    by : IsRefusedHead limits bad.whole bad.head fault ⊎ IsUnfinished limits bad.whole bad.head fault → TellsTheLowest limits bad.whole (AtHead bad.head) fault
+    by (inl refused) = head_lowest laws limits bad.whole bad.head fault bad.leads_on.sizes.records bad.leads_on.sizes.within refused
+    by (inr unfinished) = end_lowest limits bad.whole bad.head fault unfinished
+lowest_cause laws limits octets next fault low (inr (inr (inl bad))) =
+    let o : List ℕ = object_of bad.whole ++ bad.taken in (
+      bad.whole,
+      SubfileOctet o next,
+      (bad.head, bad.taken, bad.reads, bad.subfile, refl, refl),
+      subst (TellsTheLowest limits bad.whole (SubfileOctet o next)) (sym bad.is_fault) (octet_lowest laws limits bad.whole bad.head o next low bad.cause bad.has_cause),
+    )
+lowest_cause laws limits octets next fault low (inr (inr (inr bad))) = (
+  bad.whole,
+  AtValue (data_of bad.head bad.given),
+  (bad.head, bad.is_value, bad.completes, refl),
+  value_lowest laws limits bad.whole (data_of bad.head bad.given) fault bad.leads_on.sizes.within bad.refuses,
+)

@@ -1,0 +1,45 @@
+-- Places of the object at its end, and before it.
+use Rattle.std.proofs.Common.{◌≡◌, ℕ, ◌<◌, ◌≤◌, List, [], ◌∷◌, ◌++◌, length, Option, refl, subst, arith}
+use Rattle.iim_dataset.specs.Format.Languages.{IsAlive}
+use Rattle.iim_object.specs.Laws.Numbers.{TokensFollow}
+use Rattle.iim_object.specs.Format.Objects.{ObjectToken, ObjectEnded, Confirmed, ObjectLanguage}
+use Rattle.iim_object.specs.Format.Places.{Place, NotEnded, Ended, ConfirmedAs, MayFollow, place_after, tokens_of}
+use Rattle.iim_object.specs.Format.Plans.{max_subfiles}
+use Rattle.iim_object.specs.States.Reading.{StandsAt}
+use Rattle.iim_object.specs.States.Saved.{IsPossible}
+use Rattle.iim_object.specs.declared.reading.state.State.{State}
+use Rattle.iim_places.proofs.PlainPlaces.{alive_front}
+
+some_lengths : (p : Place) → (p.lengths ≡ [] → Ended ≡ NotEnded) → 0 < length p.lengths
+some_lengths p none = by p.lengths none
+  where
+    by : (ls : List ℕ) → (ls ≡ [] → Ended ≡ NotEnded) → 0 < length ls
+    by [] none = absurd (let bad : Ended ≡ NotEnded = none refl in cc)
+    by (l ∷ ls) none = omega arith
+
+-- the end may follow at a place after which it is possible
+pub may_end : (p : Place) → p.ending ≡ NotEnded → IsPossible (place_after p ObjectEnded) → MayFollow p ObjectEnded
+may_end p open' is = (open', some_lengths p is.subfiles)
+
+before : TokensFollow → (p : Place) (token : ObjectToken) → MayFollow p token → IsAlive ObjectLanguage (tokens_of (place_after p token)) → IsAlive ObjectLanguage (tokens_of p)
+before law p token may alive = alive_front (tokens_of p) (token ∷ []) (subst (IsAlive ObjectLanguage) (law p token may) alive)
+
+pub before_end : TokensFollow → (p : Place) → p.ending ≡ NotEnded → IsPossible (place_after p ObjectEnded) → IsPossible p
+before_end law p open' is =
+    record { stated = is.stated; subfiles = λ none. open'; duties = is.duties; few = is.few; alive = before law p ObjectEnded (may_end p open' is) is.alive }
+
+pub before_size : TokensFollow → (p : Place) (n : ℕ) → IsPossible (place_after (place_after p ObjectEnded) (Confirmed n)) → IsPossible (place_after p ObjectEnded)
+before_size law p n is = record {
+  stated = is.stated;
+  subfiles = λ none. absurd (let bad : ConfirmedAs n ≡ NotEnded = is.subfiles none in cc);
+  duties = is.duties;
+  few = is.few;
+  alive = before law (place_after p ObjectEnded) (Confirmed n) refl is.alive;
+}
+
+pub stands_possible : (reader : Option State) (p : Place) → StandsAt reader p → length p.lengths ≤ max_subfiles → IsPossible p
+stands_possible reader p at few = record { stated = at.stated; subfiles = at.subfiles; duties = at.duties; few = few; alive = at.alive }
+
+-- what dies with a token is not possible with it
+pub not_possible : TokensFollow → (p : Place) (token : ObjectToken) → MayFollow p token → (IsAlive ObjectLanguage (tokens_of p ++ token ∷ []) → ⊥) → IsPossible (place_after p token) → ⊥
+not_possible law p token may dead is = dead (subst (IsAlive ObjectLanguage) (law p token may) is.alive)

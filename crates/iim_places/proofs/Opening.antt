@@ -1,0 +1,65 @@
+-- Octets from which every layer can continue are open, where no envelope stands at their front.
+use Rattle.std.proofs.Common.{◌≡◌, ℕ, true, false, nat_eq, if◌then◌else◌, IsTrue, List, [], ◌∷◌, ◌++◌, Some, map, refl, subst}
+use Rattle.iim_dataset.specs.Format.Datasets.{count_octets}
+use Rattle.iim_dataset.specs.Format.Splits.{Begun, InTag, InData, Reads}
+use Rattle.iim_dataset.specs.Format.Languages as languages
+use Rattle.iim_fields.specs.Format.Faults.{kept}
+use Rattle.iim_fields.specs.Format.Records.{AreSections}
+use Rattle.wire_story.specs.Format.Texts.{AreLines}
+use Rattle.wire_story.specs.Format.Tokens.{Octet, End, with_end}
+use Rattle.wire_message.specs.Format.Layers.{MessageLanguage, MessageLivesWith}
+use Rattle.wire_message.specs.Format.Messages.{Header, IsMessage}
+use Rattle.wire_message.specs.States.Reading.{is_ended}
+use Rattle.wire_message.specs.States.SoFar.{LeadsTo}
+use Rattle.wire_message.specs.declared.place.Place.{Place}
+use Rattle.wire_message.specs.declared.place.Place.TheVariants as at
+use Rattle.iim_places.specs.Format.Admitted.{object_of}
+use Rattle.iim_places.specs.Format.Open.{AllCanContinue}
+use Rattle.iim_places.specs.Laws.Streams.{LivingOctetsAreOpen}
+use Rattle.iim_places.specs.Laws.Lower.{OnwardLaws}
+use Rattle.iim_places.proofs.Continuing.{sized}
+use Rattle.iim_places.proofs.Lasts.{not_all, sections_last}
+use Rattle.iim_places.proofs.Living.{alive_front}
+
+-- a message with its text
+record Ended (octets : List ℕ) : Type 0 where
+  head : Header
+  text : List ℕ
+  trailer : List ℕ
+  message : IsMessage octets head text trailer
+  lined : AreLines text
+
+not_ended : {A : Type 0} → false ≡ true → A
+not_ended e = absurd cc
+
+-- after EOT the octets are a message
+ended_at : (octets text : List ℕ) (place : Place) → LeadsTo octets text place → IsTrue (is_ended (Some place)) → Ended octets
+ended_at octets text (at.Filler count) leads e = not_ended e
+ended_at octets text (at.Source s) leads e = not_ended e
+ended_at octets text (at.Number s n) leads e = not_ended e
+ended_at octets text (at.Priority s n) leads e = not_ended e
+ended_at octets text (at.PriorityRead s n p) leads e = not_ended e
+ended_at octets text (at.Category s n p c) leads e = not_ended e
+ended_at octets text (at.Words s n p c w) leads e = not_ended e
+ended_at octets text (at.Info h) leads e = not_ended e
+ended_at octets text (at.Gap h count feed) leads e = not_ended e
+ended_at octets text (at.Text h reader) leads e = not_ended e
+ended_at octets text (at.Trailer h t) leads e = not_ended e
+ended_at octets text (at.AfterEnd h t count) leads e = record { head = h; text = text; trailer = t.items; message = leads.spelled.0; lined = leads.story }
+
+pub open_where_none : OnwardLaws → (start : Place) → LeadsTo [] [] start → LivingOctetsAreOpen
+open_where_none laws start begins limits octets whole begun reads all none =
+    record { whole = whole; begun = begun; reads = reads; leads_on = all; unfinished = by begun reads all }
+  where
+    by : (b : Begun) → Reads count_octets octets whole b → AllCanContinue limits whole b → AreSections whole → ⊥
+    by (InData h taken) reads all sections = not_all laws.opens.answer.follow.sections whole h all.sizes.records sections
+    by (InTag held) reads all sections =
+        let nine = sections_last laws.opens.answer.follow.ends whole all.sizes.records sections in
+        let size = sized laws limits whole all.sizes nine in
+        let ends : languages.IsAlive MessageLanguage (with_end (object_of whole)) =
+        subst (λ (n : ℕ). languages.IsAlive MessageLanguage (map Octet (object_of whole) ++ (if nat_eq n 9 then End ∷ [] else []))) nine all.message in
+        let lives : MessageLivesWith (object_of whole) = alive_front MessageLanguage (map Octet (object_of whole)) (End ∷ []) ends in
+        let (text, place, leads) = laws.on [] (object_of whole) [] start begins lives all.story in
+        let e = ended_at (object_of whole) text place leads ((laws.ends (object_of whole) text place leads).0 ends) in
+        none reads.front reads.rest (record { fields = kept whole; head = e.head; lines = e.lined.0; trailer = e.trailer; sizes = size.sizes }) reads.parts
+        (record { datasets = whole; spelled = reads.is_front; sections = sections; fields = refl; text = e.text; message = e.message; lines = e.lined.1; sizes = size.have })

@@ -1,0 +1,167 @@
+-- Where heads and values lead the object.
+use Rattle.std.proofs.Common.{◌≡◌, ℕ, ◌+◌, ◌<◌, ◌⊎◌, Bool, true, false, cond, if◌then◌else◌, nat_eq, List, [], ◌∷◌, ◌++◌, length, refl, ap, sym, subst, ◌∙◌, inl, inr, arith, append_assoc, length-append}
+use Rattle.std.specs.List.{AllByRecursion}
+use Rattle.std.proofs.lemmas.List.Elements.{filter-append}
+use Rattle.std.proofs.lemmas.Bool.{or_cases, eqb-true}
+use Rattle.std.proofs.lemmas.Bool.Decides.{eqb_tells}
+use Rattle.iim_dataset.specs.Format.Octets.{number}
+use Rattle.iim_dataset.specs.Format.Datasets.{Dataset, head_of, of_record}
+use Rattle.iim_dataset.specs.Format.Languages as languages
+use Rattle.iim_dataset.specs.declared.head.Head.{Head}
+use Rattle.iim_fields.specs.Format.Alive.{SectionsLive, SectionsLiveAt}
+use Rattle.iim_fields.specs.Format.Values.{tells_number}
+use Rattle.iim_object.specs.Format.Plans.{max_subfiles}
+use Rattle.iim_object.specs.Format.Objects.{ObjectToken, NumberRead, SubfileBegun, ObjectEnded, Confirmed}
+use Rattle.iim_object.specs.Format.Places.{Place, MayFollow, place_after, head_token, value_token}
+use Rattle.iim_object.specs.Format.Records.{AreObjectRecords}
+use Rattle.iim_object.specs.Laws.Records.{AreSized}
+use Rattle.iim_object.specs.Format.Numbers.{place_after_datasets, place_ended}
+use Rattle.iim_object.specs.Laws.Numbers.{DatasetsLiveWithTheirTokens, DatasetsEndWithTheirTokens}
+use Rattle.iim_places.specs.Format.Tokens.{place_at, ObjectLives}
+use Rattle.iim_places.proofs.Objects.{records_alive}
+use Rattle.iim_places.specs.Laws.Lower.{ObjectLaws}
+
+-- ---- the records of datasets that are alive
+
+-- the record is one before 7, or 7, 8 or 9
+abbrev IsOne : ℕ → Type 0
+IsOne r = (r < 7) ⊎ ((r ≡ 7) ⊎ ((r ≡ 8) ⊎ (r ≡ 9)))
+
+all_join : {X : Type 0} (P : X → Type 0) (xs ys : List X) → AllByRecursion P xs → AllByRecursion P ys → AllByRecursion P (xs ++ ys)
+all_join P [] ys h k = k
+all_join P (x ∷ xs) ys h k = (h.0, all_join P xs ys h.1 k)
+
+all_weaker : {X : Type 0} (P Q : X → Type 0) → ((x : X) → P x → Q x) → (xs : List X) → AllByRecursion P xs → AllByRecursion Q xs
+all_weaker P Q f [] h = tt
+all_weaker P Q f (x ∷ xs) h = (f x h.0, all_weaker P Q f xs h.1)
+
+all_at : (ds : List Dataset) (d : Dataset) (more : List Dataset) → AllByRecursion (λ x. IsOne x.rec) ((ds ++ d ∷ []) ++ more) → IsOne d.rec
+all_at [] d more h = h.0
+all_at (x ∷ ds) d more h = all_at ds d more h.1
+
+all_ones : (ds : List Dataset) → AreObjectRecords ds → AllByRecursion (λ x. IsOne x.rec) ds
+all_ones ds r =
+    subst (AllByRecursion (λ (x : Dataset). IsOne x.rec)) (sym r.parts)
+    (all_join _ r.before (r.r7 ++ (r.r8 ++ r.r9)) (all_weaker _ _ (λ x h. inl h) r.before r.others)
+    (all_join _ r.r7 (r.r8 ++ r.r9) (all_weaker _ _ (λ x h. inr (inl h.0)) r.r7 r.descriptor.each)
+    (all_join _ r.r8 r.r9 (all_weaker _ _ (λ x h. inr (inr (inl h.0))) r.r8 r.object.each) (all_weaker _ _ (λ x h. inr (inr (inr h.0))) r.r9 r.confirmation.each))))
+
+pub is_one : (ds : List Dataset) (d : Dataset) → SectionsLive (ds ++ d ∷ []) → IsOne d.rec
+is_one ds d alive = let r = records_alive (ds ++ d ∷ []) alive in all_at ds d r.0 (all_ones ((ds ++ d ∷ []) ++ r.0) r.1)
+
+-- ---- the place at a head
+
+pub at_subfile : (ds : List Dataset) (h : Head) → h.rec ≡ 8 → place_at ds h ≡ place_after (place_after_datasets ds) (SubfileBegun h.count)
+at_subfile ds h is = ap (λ (r : ℕ). if nat_eq r 8 then place_after (place_after_datasets ds) (SubfileBegun h.count) else if nat_eq r 9 then place_ended ds else place_after_datasets ds) is
+
+pub at_end : (ds : List Dataset) (h : Head) → h.rec ≡ 9 → place_at ds h ≡ place_ended ds
+at_end ds h is = ap (λ (r : ℕ). if nat_eq r 8 then place_after (place_after_datasets ds) (SubfileBegun h.count) else if nat_eq r 9 then place_ended ds else place_after_datasets ds) is
+
+pub at_number : (ds : List Dataset) (h : Head) → h.rec ≡ 7 → place_at ds h ≡ place_after_datasets ds
+at_number ds h is = ap (λ (r : ℕ). if nat_eq r 8 then place_after (place_after_datasets ds) (SubfileBegun h.count) else if nat_eq r 9 then place_ended ds else place_after_datasets ds) is
+
+not_equal : (r s : ℕ) → (r ≡ s → ⊥) → nat_eq r s ≡ false
+not_equal r s other = elim (eqb_tells r s) [ inl same ↦ absurd (other same.1) | inr apart ↦ apart.0 ]
+
+pub at_other : (ds : List Dataset) (h : Head) → h.rec < 7 → place_at ds h ≡ place_after_datasets ds
+at_other ds h less =
+    let not8 : nat_eq h.rec 8 ≡ false = not_equal h.rec 8 (λ e. omega (arith, e, less)) in
+    let not9 : nat_eq h.rec 9 ≡ false = not_equal h.rec 9 (λ e. omega (arith, e, less)) in
+    rw (not8, not9) refl
+
+-- ---- heads
+
+-- what a head leads to
+abbrev pub HeadLeads : List Dataset → Head → Type 0
+HeadLeads ds h = MayFollow (place_after_datasets ds) (head_token h.rec h.count) × (place_after (place_after_datasets ds) (head_token h.rec h.count) ≡ place_at ds h)
+
+pub subfile_leads : ObjectLaws → (ds : List Dataset) (h : Head) → SectionsLiveAt ds h → h.rec ≡ 8 → length (of_record 8 ds) < max_subfiles → HeadLeads ds h
+subfile_leads laws ds h (d, is, alive) eight few =
+    let rec : d.rec ≡ 8 = ap (λ (k : Head). k.rec) is ∙ eight in
+    let leads = laws.subfiles ds d (records_alive (ds ++ d ∷ []) alive) rec few in
+    let token : head_token h.rec h.count ≡ SubfileBegun h.count = ap (λ (r : ℕ). head_token r h.count) eight in (
+      subst (MayFollow (place_after_datasets ds)) (sym token) leads.0,
+      ap (place_after (place_after_datasets ds)) token ∙ sym (at_subfile ds h eight),
+    )
+
+pub end_leads : ObjectLaws → (ds : List Dataset) (h : Head) → SectionsLiveAt ds h → h.rec ≡ 9 → HeadLeads ds h
+end_leads laws ds h (d, is, alive) nine =
+    let rec : d.rec ≡ 9 = ap (λ (k : Head). k.rec) is ∙ nine in
+    let leads = (laws.ends ds d (records_alive (ds ++ d ∷ []) alive) rec).0 in
+    let token : head_token h.rec h.count ≡ ObjectEnded = ap (λ (r : ℕ). head_token r h.count) nine in (
+      subst (MayFollow (place_after_datasets ds)) (sym token) leads.0,
+      ap (place_after (place_after_datasets ds)) token ∙ leads.1 ∙ sym (at_end ds h nine),
+    )
+
+-- ---- values
+
+-- what the number of a value leads to
+abbrev pub ValueLeads : List Dataset → Dataset → Type 0
+ValueLeads ds d = MayFollow (place_at ds (head_of d)) (value_token d.rec d.set (number d.octets))
+    × (place_after (place_at ds (head_of d)) (value_token d.rec d.set (number d.octets)) ≡ place_after_datasets (ds ++ d ∷ []))
+
+leads_as : (p q r : Place) (t u : ObjectToken) → p ≡ q → t ≡ u → MayFollow q u × (place_after q u ≡ r) → MayFollow p t × (place_after p t ≡ r)
+leads_as p q r t u is same leads =
+    subst (λ (x : Place). MayFollow x t × (place_after x t ≡ r)) (sym is) (subst (λ (x : ObjectToken). MayFollow q x × (place_after q x ≡ r)) (sym same) leads)
+
+pub number_leads : ObjectLaws → (ds : List Dataset) (d : Dataset) → SectionsLive (ds ++ d ∷ []) → tells_number d.rec ≡ true → ValueLeads ds d
+number_leads laws ds d alive tells = elim (or_cases (nat_eq d.rec 7) (nat_eq d.rec 9) tells) [
+  | inl seven ↦
+      let is = eqb-true d.rec 7 seven in
+      leads_as _ (place_after_datasets ds) _ _ (NumberRead d.set (number d.octets)) (at_number ds (head_of d) is) (ap (λ (r : ℕ). value_token r d.set (number d.octets)) is)
+      (laws.numbers ds d (records_alive (ds ++ d ∷ []) alive) is)
+  | inr nine ↦
+      let is = eqb-true d.rec 9 nine in
+      leads_as _ (place_ended ds) _ _ (Confirmed (number d.octets)) (at_end ds (head_of d) is) (ap (λ (r : ℕ). value_token r d.set (number d.octets)) is)
+      (laws.ends ds d (records_alive (ds ++ d ∷ []) alive) is).1
+]
+
+not_told : (r : ℕ) → r ≡ 7 ⊎ r ≡ 9 → tells_number r ≡ false → ⊥
+not_told r (inl seven) none = let bad : true ≡ false = sym (ap tells_number seven) ∙ none in cc
+not_told r (inr nine) none = let bad : true ≡ false = sym (ap tells_number nine) ∙ none in cc
+
+-- a value that tells no number leads nowhere else than its head
+pub silent_leads : ObjectLaws → (ds : List Dataset) (d : Dataset) → SectionsLive (ds ++ d ∷ []) → tells_number d.rec ≡ false → (d.rec ≡ 8 → length (of_record 8 ds) < max_subfiles)
+    → place_at ds (head_of d) ≡ place_after_datasets (ds ++ d ∷ [])
+silent_leads laws ds d alive none few = elim (is_one ds d alive) [
+  | inl less ↦ at_other ds (head_of d) less ∙ sym (laws.others ds d less)
+  | inr (inl seven) ↦ absurd (not_told d.rec (inl seven) none)
+  | inr (inr (inl eight)) ↦ at_subfile ds (head_of d) eight ∙ (laws.subfiles ds d (records_alive (ds ++ d ∷ []) alive) eight (few eight)).1
+  | inr (inr (inr nine)) ↦ absurd (not_told d.rec (inr nine) none)
+]
+
+-- ---- how many subfiles
+
+pub one_more : (ds : List Dataset) (d : Dataset) → length (of_record 8 (ds ++ d ∷ [])) ≡ length (of_record 8 ds) + (if nat_eq d.rec 8 then 1 else 0)
+one_more ds d =
+    ap length (filter-append (λ (x : Dataset). nat_eq x.rec 8) ds (d ∷ [])) ∙ length-append (of_record 8 ds) (of_record 8 (d ∷ []))
+    ∙ ap (λ n. length (of_record 8 ds) + n) (one_by (nat_eq d.rec 8))
+  where
+    one_by : (b : Bool) → length (cond b (d ∷ []) []) ≡ cond b 1 0
+    one_by true = refl
+    one_by false = refl
+
+-- ---- what continues to sized datasets
+
+pub lives_after : DatasetsLiveWithTheirTokens → (ds : List Dataset) → SectionsLive ds → languages.IsAlive AreSized ds → ObjectLives (place_after_datasets ds)
+lives_after live ds alive sized = (live ds (records_alive ds alive)).0 sized
+
+less_alive : (ds : List Dataset) (d : Dataset) → languages.IsAlive AreSized (ds ++ d ∷ []) → languages.IsAlive AreSized ds
+less_alive ds d sized = (d ∷ sized.0, subst AreSized (append_assoc ds (d ∷ []) sized.0) sized.1)
+
+less_records : (ds : List Dataset) (d : Dataset) → SectionsLive (ds ++ d ∷ []) → languages.IsAlive AreObjectRecords ds
+less_records ds d alive = let r = records_alive (ds ++ d ∷ []) alive in (d ∷ r.0, subst AreObjectRecords (append_assoc ds (d ∷ []) r.0) r.1)
+
+-- the object layer can continue with the head of a dataset that continues to sized ones
+pub lives_at : ObjectLaws → DatasetsLiveWithTheirTokens → DatasetsEndWithTheirTokens → (ds : List Dataset) (d : Dataset) → SectionsLive (ds ++ d ∷ [])
+    → languages.IsAlive AreSized (ds ++ d ∷ []) → (d.rec ≡ 8 → length (of_record 8 ds) < max_subfiles) → ObjectLives (place_at ds (head_of d))
+lives_at laws live ended ds d alive sized few =
+    let before : ObjectLives (place_after_datasets ds) = (live ds (less_records ds d alive)).0 (less_alive ds d sized) in
+    elim (is_one ds d alive) [
+      | inl less ↦ subst ObjectLives (sym (at_other ds (head_of d) less)) before
+      | inr (inl seven) ↦ subst ObjectLives (sym (at_number ds (head_of d) seven)) before
+      | inr (inr (inl eight)) ↦
+          subst ObjectLives (sym (at_subfile ds (head_of d) eight ∙ (laws.subfiles ds d (records_alive (ds ++ d ∷ []) alive) eight (few eight)).1)) (lives_after live (ds ++ d ∷ []) alive sized)
+      | inr (inr (inr nine)) ↦
+          subst ObjectLives (sym (at_end ds (head_of d) nine)) ((ended ds d (records_alive (ds ++ d ∷ []) alive) nine).0 (d, nine, sized))
+    ]

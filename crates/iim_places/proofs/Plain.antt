@@ -1,0 +1,284 @@
+-- Plain datasets tell their place.
+use Rattle.std.proofs.Common.{◌≡◌, ℕ, zero, suc, ◌+◌, ◌*◌, ◌<◌, ◌≤◌, nat_eq, cond, Bool, true, false, List, [], ◌∷◌, ◌++◌, length, take, drop, Option, Some, None, refl, ap, sym, ◌∙◌, arith, append-nil, length-drop, subst, IfSome}
+use Rattle.std.specs.List.{AllByRecursion, filter}
+use Rattle.std.specs.Option.{unwrap_or}
+use Rattle.std.proofs.lemmas.Bool.{eqb-true}
+use Rattle.std.proofs.lemmas.List.{take-append-drop, length-take}
+use Rattle.std.proofs.lemmas.List.Elements.{filter-append}
+use Rattle.iim_dataset.proofs.WrittenNumbers.{few_octets, number_back, number_octets}
+use Rattle.iim_dataset.specs.Format.Octets.{IsOctet, Octets, number, greatest_size}
+use Rattle.iim_dataset.specs.Format.Datasets.{Dataset, canonical_stream, of_record}
+use Rattle.iim_dataset.specs.Format.Splits.{Begun, InTag, InData}
+use Rattle.iim_dataset.specs.Laws.Datasets.{HasSpellings, CanonicalStreamsAreSpelled}
+use Rattle.iim_fields.specs.Format.Faults.{kept, is_kept, joined}
+use Rattle.iim_object.specs.Format.Records.{numbers_of}
+use Rattle.iim_object.specs.Format.Packing.{number_dataset, subfile_datasets}
+use Rattle.iim_object.specs.States.Saved.{stated_numbers}
+use Rattle.iim_object.specs.Format.Sizes.{Stated, number_at}
+use Rattle.wire_message.specs.States.Saved.{LeadsToSaved}
+use Rattle.iim_places.specs.Format.Admitted.{object_of}
+use Rattle.iim_places.specs.States.Begins.{IsSize}
+use Rattle.iim_places.specs.Format.Open.{object_so_far, section}
+use Rattle.iim_places.specs.Format.Tickets.{phase_of, heads_of}
+use Rattle.iim_places.specs.Plain.{Numbers, number_list, mode_dataset, one_dataset, plain_numbers, filled, plain_end, plain, AreSpellable, begun_object, begun_heads, PlainOctetsLeadToTheirPlace}
+
+-- The datasets tell these fields, numbers, object octets and heads.
+pub record Tell (ds fields : List Dataset) (numbers : Numbers) (heads : ℕ) (object : List ℕ) (ended : Bool) : Type 0 where
+  pub kept_are : kept ds ≡ fields
+  pub numbers_are : stated_numbers (numbers_of (of_record 7 ds)) ≡ number_list numbers
+  pub object_is : object_of ds ≡ object
+  pub heads_are : length (of_record 8 ds) ≡ heads
+  pub sevens_are : of_record 7 ds ≡ plain_numbers numbers
+  pub eights_are : of_record 8 ds ≡ subfile_datasets (filled (unwrap_or numbers.largest 0) heads object)
+  pub nines_are : of_record 9 ds ≡ plain_end ended object
+
+-- ---- which datasets are of which records
+
+abbrev pub AreOf : ℕ → List Dataset → Type 0
+AreOf r ds = AllByRecursion (λ (d : Dataset). d.rec ≡ r) ds
+
+pub kept_fields : (ds : List Dataset) → AllByRecursion (λ (d : Dataset). is_kept d.rec ≡ true) ds → kept ds ≡ ds
+kept_fields [] all = refl
+kept_fields (d ∷ ds) all = ap (λ (b : Bool). cond b (d ∷ kept ds) (kept ds)) all.0 ∙ ap (λ (xs : List Dataset). d ∷ xs) (kept_fields ds all.1)
+
+none_kept : (r : ℕ) (ds : List Dataset) → is_kept r ≡ false → AreOf r ds → kept ds ≡ []
+none_kept r [] is all = refl
+none_kept r (d ∷ ds) is all = ap (λ (b : Bool). cond b (d ∷ kept ds) (kept ds)) (ap is_kept all.0 ∙ is) ∙ none_kept r ds is all.1
+
+pub all_of : (r : ℕ) (ds : List Dataset) → nat_eq r r ≡ true → AreOf r ds → of_record r ds ≡ ds
+all_of r [] same all = refl
+all_of r (d ∷ ds) same all = ap (λ (b : Bool). cond b (d ∷ of_record r ds) (of_record r ds)) (ap (λ (n : ℕ). nat_eq n r) all.0 ∙ same) ∙ ap (λ (xs : List Dataset). d ∷ xs) (all_of r ds same all.1)
+
+pub none_of : (r s : ℕ) (ds : List Dataset) → nat_eq s r ≡ false → AreOf s ds → of_record r ds ≡ []
+none_of r s [] apart all = refl
+none_of r s (d ∷ ds) apart all = ap (λ (b : Bool). cond b (d ∷ of_record r ds) (of_record r ds)) (ap (λ (n : ℕ). nat_eq n r) all.0 ∙ apart) ∙ none_of r s ds apart all.1
+
+pub none_in_fields : (r : ℕ) (ds : List Dataset) → is_kept r ≡ false → AllByRecursion (λ (d : Dataset). is_kept d.rec ≡ true) ds → of_record r ds ≡ []
+none_in_fields r [] is all = refl
+none_in_fields r (d ∷ ds) is all = by (nat_eq d.rec r) refl (none_in_fields r ds is all.1)
+  where
+    by : (b : Bool) → nat_eq d.rec r ≡ b → of_record r ds ≡ [] → cond b (d ∷ of_record r ds) (of_record r ds) ≡ []
+    by true same more = absurd (let bad : true ≡ false = sym all.0 ∙ ap is_kept (eqb-true d.rec r same) ∙ is in cc)
+    by false same more = more
+
+-- ---- record 7
+
+are_one : (made : ℕ → Dataset) → ((n : ℕ) → (made n).rec ≡ 7) → (o : Option ℕ) → AreOf 7 (one_dataset made o)
+are_one made is None = tt
+are_one made is (Some n) = (is n, tt)
+
+are_both : (r : ℕ) (xs ys : List Dataset) → AreOf r xs → AreOf r ys → AreOf r (xs ++ ys)
+are_both r [] ys a b = b
+are_both r (x ∷ xs) ys a b = (a.0, are_both r xs ys a.1 b)
+
+pub are_sevens : (n : Numbers) → AreOf 7 (plain_numbers n)
+are_sevens n =
+    are_both 7 _ _ (are_one mode_dataset (λ k. refl) n.mode)
+    (are_both 7 _ _ (are_one (number_dataset 7 20) (λ k. refl) n.largest) (are_both 7 _ _ (are_one (number_dataset 7 90) (λ k. refl) n.announced) (are_one (number_dataset 7 95) (λ k. refl) n.maximum)))
+
+abbrev pub one_stated : ℕ → Option ℕ → List Stated
+one_stated set None = []
+one_stated set (Some n) = record { set = set; number = n } ∷ []
+
+mode_told : (o : Option ℕ) → numbers_of (one_dataset mode_dataset o) ≡ one_stated 10 o
+mode_told None = refl
+mode_told (Some n) = ap (λ (k : ℕ). record { set = 10; number = k } ∷ []) (let same : n * 1 + 0 ≡ n = omega arith in same)
+
+one_told : (set : ℕ) (o : Option ℕ) → IsSize o → numbers_of (one_dataset (number_dataset 7 set) o) ≡ one_stated set o
+one_told set None h = refl
+one_told set (Some n) h = ap (λ (k : ℕ). record { set = set; number = k } ∷ []) (number_back n (omega (arith, h)))
+
+abbrev pub all_stated : Numbers → List Stated
+all_stated n = one_stated 10 n.mode ++ (one_stated 20 n.largest ++ (one_stated 90 n.announced ++ one_stated 95 n.maximum))
+
+pub numbers_join : (xs ys : List Dataset) → numbers_of (xs ++ ys) ≡ numbers_of xs ++ numbers_of ys
+numbers_join [] ys = refl
+numbers_join (x ∷ xs) ys = ap (λ (ps : List Stated). record { set = x.set; number = number x.octets } ∷ ps) (numbers_join xs ys)
+
+both_lists : {a b c d : List Stated} → a ≡ c → b ≡ d → a ++ b ≡ c ++ d
+both_lists {b = b} {c = c} e f = ap (λ (xs : List Stated). xs ++ b) e ∙ ap (λ (xs : List Stated). c ++ xs) f
+
+pub are_told : (n : Numbers) → AllByRecursion IsSize (number_list n) → numbers_of (plain_numbers n) ≡ all_stated n
+are_told n fit =
+    let last = numbers_join (one_dataset (number_dataset 7 90) n.announced) (one_dataset (number_dataset 7 95) n.maximum) ∙ both_lists (one_told 90 n.announced fit.1.1.0) (one_told 95 n.maximum fit.1.1.1.0) in
+    let more = numbers_join (one_dataset (number_dataset 7 20) n.largest) (one_dataset (number_dataset 7 90) n.announced ++ one_dataset (number_dataset 7 95) n.maximum) ∙ both_lists (one_told 20 n.largest fit.1.0) last in
+    numbers_join (one_dataset mode_dataset n.mode) (one_dataset (number_dataset 7 20) n.largest ++ (one_dataset (number_dataset 7 90) n.announced ++ one_dataset (number_dataset 7 95) n.maximum)) ∙ both_lists (mode_told n.mode) more
+
+here : (set : ℕ) (o : Option ℕ) (ps : List Stated) → nat_eq set set ≡ true → number_at set ps ≡ None → number_at set (one_stated set o ++ ps) ≡ o
+here set None ps same none = none
+here set (Some n) ps same none = ap (λ (b : Bool). cond b (Some n) (number_at set ps)) same
+
+past : (set other : ℕ) (o : Option ℕ) (ps : List Stated) → nat_eq other set ≡ false → number_at set (one_stated other o ++ ps) ≡ number_at set ps
+past set other None ps apart = refl
+past set other (Some n) ps apart = ap (λ (b : Bool). cond b (Some n) (number_at set ps)) apart
+
+last_here : (set : ℕ) (o : Option ℕ) → nat_eq set set ≡ true → number_at set (one_stated set o) ≡ o
+last_here set None same = refl
+last_here set (Some n) same = ap (λ (b : Bool). cond b (Some n) None) same
+
+last_past : (set other : ℕ) (o : Option ℕ) → nat_eq other set ≡ false → number_at set (one_stated other o) ≡ None
+last_past set other None apart = refl
+last_past set other (Some n) apart = ap (λ (b : Bool). cond b (Some n) None) apart
+
+pub four_told : (n : Numbers) → stated_numbers (all_stated n) ≡ number_list n
+four_told n =
+    let from90 = one_stated 90 n.announced ++ one_stated 95 n.maximum in
+    let from20 = one_stated 20 n.largest ++ from90 in
+    let mode : number_at 10 (all_stated n) ≡ n.mode =
+    here 10 n.mode from20 refl (past 10 20 n.largest from90 refl ∙ past 10 90 n.announced (one_stated 95 n.maximum) refl ∙ last_past 10 95 n.maximum refl) in
+    let largest : number_at 20 (all_stated n) ≡ n.largest =
+    past 20 10 n.mode from20 refl ∙ here 20 n.largest from90 refl (past 20 90 n.announced (one_stated 95 n.maximum) refl ∙ last_past 20 95 n.maximum refl) in
+    let announced : number_at 90 (all_stated n) ≡ n.announced =
+    past 90 10 n.mode from20 refl ∙ past 90 20 n.largest from90 refl ∙ here 90 n.announced (one_stated 95 n.maximum) refl (last_past 90 95 n.maximum refl) in
+    let maximum : number_at 95 (all_stated n) ≡ n.maximum =
+    past 95 10 n.mode from20 refl ∙ past 95 20 n.largest from90 refl ∙ past 95 90 n.announced (one_stated 95 n.maximum) refl ∙ last_here 95 n.maximum refl in
+    λ i. mode i ∷ largest i ∷ announced i ∷ maximum i ∷ []
+
+-- ---- record 8
+
+pub are_eights : (parts : List (List ℕ)) → AreOf 8 (subfile_datasets parts)
+are_eights [] = tt
+are_eights (p ∷ parts) = (refl, are_eights parts)
+
+pub filled_count : (size count : ℕ) (xs : List ℕ) → length (subfile_datasets (filled size count xs)) ≡ count
+filled_count size zero xs = refl
+filled_count size (suc count) xs = let more = filled_count size count (drop size xs) in omega (arith, more)
+
+filled_all : (size count : ℕ) (xs : List ℕ) → length xs ≤ count * size → joined (subfile_datasets (filled size count xs)) ≡ xs
+filled_all size zero [] fits = refl
+filled_all size zero (x ∷ xs) fits = absurd (omega (arith, fits))
+filled_all size (suc count) xs fits =
+    let rest = length-drop size xs in
+    ap (λ (ys : List ℕ). take size xs ++ ys) (filled_all size count (drop size xs) (omega (arith, fits, rest))) ∙ take-append-drop size xs
+
+-- ---- record 9
+
+pub are_nines : (ended : Bool) (object : List ℕ) → AreOf 9 (plain_end ended object)
+are_nines true object = (refl, tt)
+are_nines false object = tt
+
+-- ---- all of it
+
+-- The plain datasets tell what they are made of.
+pub plain_told : (fields : List Dataset) (numbers : Numbers) (heads : ℕ) (object : List ℕ) (ended : Bool) → AllByRecursion (λ (d : Dataset). is_kept d.rec ≡ true) fields → AllByRecursion IsSize (number_list numbers)
+    → length object ≤ heads * unwrap_or numbers.largest 0 → Tell (plain fields numbers heads object ended) fields numbers heads object ended
+plain_told fields numbers heads object ended each fit room =
+    let parts = filled (unwrap_or numbers.largest 0) heads object in
+    let sevens = plain_numbers numbers in
+    let eights = subfile_datasets parts in
+    let nines = plain_end ended object in
+    let are7 = are_sevens numbers in
+    let are8 = are_eights parts in
+    let are9 = are_nines ended object in
+    let seven : of_record 7 (plain fields numbers heads object ended) ≡ sevens =
+    split (λ (d : Dataset). nat_eq d.rec 7) fields sevens eights nines
+    ∙ joins (none_in_fields 7 fields refl each) (all_of 7 sevens refl are7) (none_of 7 8 eights refl are8) (none_of 7 9 nines refl are9) ∙ append-nil sevens in
+    let eight : of_record 8 (plain fields numbers heads object ended) ≡ eights =
+    split (λ (d : Dataset). nat_eq d.rec 8) fields sevens eights nines
+    ∙ joins (none_in_fields 8 fields refl each) (none_of 8 7 sevens refl are7) (all_of 8 eights refl are8) (none_of 8 9 nines refl are9) ∙ append-nil eights in
+    record {
+      kept_are =
+          split (λ (d : Dataset). is_kept d.rec) fields sevens eights nines
+          ∙ joins (kept_fields fields each) (none_kept 7 sevens refl are7) (none_kept 8 eights refl are8) (none_kept 9 nines refl are9) ∙ append-nil fields;
+      numbers_are = ap (λ (xs : List Dataset). stated_numbers (numbers_of xs)) seven ∙ ap stated_numbers (are_told numbers fit) ∙ four_told numbers;
+      object_is = ap joined eight ∙ filled_all (unwrap_or numbers.largest 0) heads object room;
+      heads_are = ap length eight ∙ filled_count (unwrap_or numbers.largest 0) heads object;
+      sevens_are = seven;
+      eights_are = eight;
+      nines_are =
+          split (λ (d : Dataset). nat_eq d.rec 9) fields sevens eights nines
+          ∙ joins (none_in_fields 9 fields refl each) (none_of 9 7 sevens refl are7) (none_of 9 8 eights refl are8) (all_of 9 nines refl are9);
+    }
+  where
+    split : (test : Dataset → Bool) (a b c d : List Dataset) → filter test (a ++ (b ++ (c ++ d))) ≡ filter test a ++ (filter test b ++ (filter test c ++ filter test d))
+    split test a b c d =
+        filter-append test a (b ++ (c ++ d))
+        ∙ ap (λ (xs : List Dataset). filter test a ++ xs) (filter-append test b (c ++ d) ∙ ap (λ (xs : List Dataset). filter test b ++ xs) (filter-append test c d))
+
+    joins : {a b c d w x y z : List Dataset} → a ≡ w → b ≡ x → c ≡ y → d ≡ z → a ++ (b ++ (c ++ d)) ≡ w ++ (x ++ (y ++ z))
+    joins {b = b} {c = c} {d = d} {w = w} {x = x} {y = y} e f g h =
+        ap (λ (xs : List Dataset). xs ++ (b ++ (c ++ d))) e
+        ∙ ap (λ (xs : List Dataset). w ++ xs) (ap (λ (xs : List Dataset). xs ++ (c ++ d)) f ∙ ap (λ (xs : List Dataset). x ++ xs) (ap (λ (xs : List Dataset). xs ++ d) g ∙ ap (λ (xs : List Dataset). y ++ xs) h))
+
+-- ---- spellings
+
+pub all_both : (P : Dataset → Type 0) (xs ys : List Dataset) → AllByRecursion P xs → AllByRecursion P ys → AllByRecursion P (xs ++ ys)
+all_both P [] ys a b = b
+all_both P (x ∷ xs) ys a b = (a.0, all_both P xs ys a.1 b)
+
+mode_spelled : (o : Option ℕ) → IfSome o IsOctet → AllByRecursion HasSpellings (one_dataset mode_dataset o)
+mode_spelled None h = tt
+mode_spelled (Some n) h = (record { rec = omega arith; set = omega arith; octets = (h, tt); few = omega arith }, tt)
+
+one_spelled : (rec set n : ℕ) → rec < 256 → set < 256 → HasSpellings (number_dataset rec set n)
+one_spelled rec set n r s = record { rec = r; set = s; octets = number_octets n; few = let few = few_octets n in omega (arith, few) }
+
+number_spelled : (set : ℕ) → set < 256 → (o : Option ℕ) → AllByRecursion HasSpellings (one_dataset (number_dataset 7 set) o)
+number_spelled set small None = tt
+number_spelled set small (Some n) = (one_spelled 7 set n (omega arith) small, tt)
+
+end_spelled : (ended : Bool) (object : List ℕ) → AllByRecursion HasSpellings (plain_end ended object)
+end_spelled true object = (one_spelled 9 10 (length object) (omega arith) (omega arith), tt)
+end_spelled false object = tt
+
+numbers_spelled : (n : Numbers) → IfSome n.mode IsOctet → AllByRecursion HasSpellings (plain_numbers n)
+numbers_spelled n mode =
+    all_both HasSpellings _ _ (mode_spelled n.mode mode)
+    (all_both HasSpellings _ _ (number_spelled 20 (omega arith) n.largest) (all_both HasSpellings _ _ (number_spelled 90 (omega arith) n.announced) (number_spelled 95 (omega arith) n.maximum)))
+
+pub front_octets : (k : ℕ) (xs : List ℕ) → Octets xs → Octets (take k xs)
+front_octets zero xs all = tt
+front_octets (suc k) [] all = tt
+front_octets (suc k) (x ∷ xs) all = (all.0, front_octets k xs all.1)
+
+pub back_octets : (k : ℕ) (xs : List ℕ) → Octets xs → Octets (drop k xs)
+back_octets zero xs all = all
+back_octets (suc k) [] all = tt
+back_octets (suc k) (x ∷ xs) all = back_octets k xs all.1
+
+parts_spelled : (size count : ℕ) (xs : List ℕ) → Octets xs → length xs ≤ greatest_size → AllByRecursion HasSpellings (subfile_datasets (filled size count xs))
+parts_spelled size zero xs all few = tt
+parts_spelled size (suc count) xs all few =
+    let first = length-take size xs in
+    let rest = length-drop size xs in
+    (record { rec = omega arith; set = omega arith; octets = front_octets size xs all; few = omega (arith, few, first) }, parts_spelled size count (drop size xs) (back_octets size xs all) (omega (arith, few, rest)))
+
+pub plain_spelled : (fields : List Dataset) (numbers : Numbers) (heads : ℕ) (object : List ℕ) (ended : Bool) → AreSpellable fields numbers heads object → AllByRecursion HasSpellings (plain fields numbers heads object ended)
+plain_spelled fields numbers heads object ended are =
+    all_both HasSpellings fields _ are.spelled
+    (all_both HasSpellings _ _ (numbers_spelled numbers are.mode) (all_both HasSpellings _ _ (parts_spelled (unwrap_or numbers.largest 0) heads object are.octets are.few) (end_spelled ended object)))
+
+-- ---- the place
+
+pub taken_told : (ds : List Dataset) (object : List ℕ) (begun : Begun) → object_of ds ≡ object → object_so_far ds begun ≡ object ++ begun_object begun
+taken_told ds object (InTag held) is = is ∙ sym (append-nil object)
+taken_told ds object (InData h taken) is = ap (λ (xs : List ℕ). xs ++ begun_object (InData h taken)) is
+
+pub heads_told : (ds : List Dataset) (heads : ℕ) (begun : Begun) → length (of_record 8 ds) ≡ heads → heads_of ds begun ≡ heads + begun_heads begun
+heads_told ds heads (InTag held) is = omega (arith, is)
+heads_told ds heads (InData h taken) is = ap (λ (n : ℕ). n + begun_heads (InData h taken)) is
+
+-- Plain datasets and what is begun after them lead to the place that they tell.
+pub plain_led : CanonicalStreamsAreSpelled → PlainOctetsLeadToTheirPlace
+plain_led law fields numbers heads object ended begun rest text message are is leads =
+    let ds = plain fields numbers heads object ended in
+    let tell = plain_told fields numbers heads object ended are.kept are.fit are.room in
+    let taken : object_so_far ds begun ≡ object ++ begun_object begun = taken_told ds object begun tell.object_is in
+    let count : heads_of ds begun ≡ heads + begun_heads begun = heads_told ds heads begun tell.heads_are in
+    record {
+      whole = ds;
+      begun = begun;
+      reads = record { front = canonical_stream ds; rest = rest; is_front = law ds (plain_spelled fields numbers heads object ended are); is_rest = is; parts = refl };
+      text = text;
+      message = message;
+      leads = subst (λ (xs : List ℕ). LeadsToSaved xs text message) (sym taken) leads;
+      is_place = λ i. record {
+        section = section ds begun;
+        phase = phase_of ds begun;
+        fields = sym tell.kept_are i;
+        numbers = sym tell.numbers_are i;
+        taken = length (sym taken i);
+        heads = sym count i;
+        message = message;
+      };
+    }

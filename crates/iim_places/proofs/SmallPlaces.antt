@@ -1,0 +1,205 @@
+-- Places that were possible by the first sizes are possible, and keep to these sizes.
+use Rattle.std.proofs.Common.{◌≡◌, ℕ, ◌+◌, ◌-◌, ◌<◌, ◌≤◌, nat_eq, cond, if◌then◌else◌, Bool, true, false, List, [], ◌∷◌, ◌++◌, length, map, sum, Some, refl, ap, sym, subst, ◌∙◌, inl, inr, arith, append-nil, length-append}
+use Rattle.std.specs.List.{AllByRecursion}
+use Rattle.std.proofs.lemmas.Bool.{eqb-true, eq-eqb}
+use Rattle.iim_dataset.specs.Format.Octets.{number}
+use Rattle.iim_dataset.specs.Format.Datasets.{Dataset, SpellsTag, SpellsDataset, SpellsStream, count_octets, head_of, of_record}
+use Rattle.iim_dataset.specs.Format.Languages.{IsAlive}
+use Rattle.iim_dataset.specs.Format.Splits.{Begun, InTag, InData, IsBegun, Reads}
+use Rattle.iim_dataset.specs.Format.Tags.{BeginsTag}
+use Rattle.iim_dataset.specs.declared.head.Head.{Head}
+use Rattle.iim_fields.specs.Format.Faults.{section_after}
+use Rattle.iim_fields.specs.Format.Values.{tells_number}
+use Rattle.iim_object.specs.Format.Numbers.{place_after_datasets, place_ended}
+use Rattle.iim_object.specs.Format.Objects.{SubfileBegun, ObjectEnded, Confirmed, number_tokens}
+use Rattle.iim_object.specs.Format.Places as objects
+use Rattle.iim_object.specs.Format.Records.{lengths_of, numbers_of}
+use Rattle.iim_object.specs.States.Saved.{stated_numbers}
+use Rattle.iim_object.specs.Format.Sizes.{Stated, number_at}
+use Rattle.iim_object.specs.Format.Within.{TokensWithin, LanguageWithin}
+use Rattle.iim_places.specs.Laws.Lower.{AnswerLaws, OpenLaws}
+use Rattle.iim_places.specs.Format.Admitted.{object_of}
+use Rattle.iim_places.specs.Format.Framed.{AreWithin}
+use Rattle.iim_places.specs.Format.Open.{IsOpen, object_so_far, section}
+use Rattle.iim_places.specs.States.Possible.{Possible, IsSmall, IsSmallPhase, IsSmallPlace, greatest_size_before, widest}
+use Rattle.iim_places.specs.States.Scales.{Scale, FitsRow, SectionsLiveIn, HaveRoomIn, IsOpenIn, IsWholeIn, PossibleAt, place_in, first_scale}
+use Rattle.iim_places.specs.Format.Tickets.{Place, IsPlaceOf, TagBegun, AllEnded, phase_of, place_of}
+use Rattle.iim_places.specs.Format.Tokens.{MayContinue}
+use Rattle.iim_places.proofs.Answering.{one_reading, reads_envelope}
+use Rattle.iim_places.proofs.Bounds.{object_total}
+use Rattle.iim_places.proofs.SmallTags.{wider_tag}
+use Rattle.iim_places.proofs.Tickets.{total_of, sum_more, sum_one}
+
+-- ---- spellings with shorter counts
+
+wider_dataset : (d : Dataset) (xs : List ℕ) → SpellsDataset 4 d xs → SpellsDataset count_octets d xs
+wider_dataset d xs s = record { tag = s.tag; is_tag = wider_tag 4 count_octets (head_of d) s.tag (omega arith) s.is_tag; data_octets = s.data_octets; parts = s.parts }
+
+pub wider_stream : (ds : List Dataset) (xs : List ℕ) → SpellsStream 4 ds xs → SpellsStream count_octets ds xs
+wider_stream [] xs s = s
+wider_stream (d ∷ ds) xs (first, rest, one, more, parts) = (first, rest, wider_dataset d first one, wider_stream ds rest more, parts)
+
+pub wider_rest : (b : Begun) (xs : List ℕ) → IsBegun 4 b xs → IsBegun count_octets b xs
+wider_rest (InTag held) xs (same, h, tag, spelled, part) = (same, h, tag, wider_tag 4 count_octets h tag (omega arith) spelled, part)
+wider_rest (InData h taken) xs (tag, spelled, less, all, parts) = (tag, wider_tag 4 count_octets h tag (omega arith) spelled, less, all, parts)
+
+pub wider_reads : (xs : List ℕ) (ds : List Dataset) (b : Begun) → Reads 4 xs ds b → Reads count_octets xs ds b
+wider_reads xs ds b r = record { front = r.front; rest = r.rest; is_front = wider_stream ds r.front r.is_front; is_rest = wider_rest b r.rest r.is_rest; parts = r.parts }
+
+-- ---- what fits
+
+rows_front : (s : Scale) (xs ys : List Dataset) → AllByRecursion (FitsRow s) (xs ++ ys) → AllByRecursion (FitsRow s) xs
+rows_front s [] ys all = tt
+rows_front s (x ∷ xs) ys all = (all.0, rows_front s xs ys all.1)
+
+row_last : (xs : List Dataset) (d : Dataset) → AllByRecursion (FitsRow first_scale) (xs ++ d ∷ []) → FitsRow first_scale d
+row_last [] d all = all.0
+row_last (x ∷ xs) d all = row_last xs d all.1
+
+pub rows_of : (s : Scale) (ds : List Dataset) (b : Begun) → SectionsLiveIn s ds b → AllByRecursion (FitsRow s) ds
+rows_of s ds (InTag held) alive = rows_front s ds alive.0 alive.1.1
+rows_of s ds (InData h taken) (d, head, alive) = rows_front s ds (d ∷ []) (rows_front s (ds ++ d ∷ []) alive.0 alive.1.1)
+
+-- ---- open octets
+
+pub may_continue : (s : Scale) (ds : List Dataset) (b : Begun) → SectionsLiveIn s ds b → AreWithin widest ds → HaveRoomIn widest ds b → IsAlive (LanguageWithin s.greatest) (objects.tokens_of (place_in ds b)) → MayContinue widest ds b
+may_continue s ds (InTag held) alive within room object = record { records = (alive.0, alive.1.0); within = within; object = (object.0, object.1.0) }
+may_continue s ds (InData h taken) (d, head, alive) within room object = record { records = (d, head, (alive.0, alive.1.0)); within = within; room = room; object = (object.0, object.1.0) }
+
+pub open_now : (octets : List ℕ) → IsOpenIn first_scale widest octets → IsOpen widest octets
+open_now octets is = record {
+  whole = is.whole;
+  begun = is.begun;
+  reads = wider_reads octets is.whole is.begun is.reads;
+  leads_on = record { sizes = may_continue first_scale is.whole is.begun is.records is.within is.room is.object; message = is.message; story = is.story };
+  unfinished = λ sections. is.unfinished (sections, rows_of first_scale is.whole is.begun is.records);
+}
+
+-- ---- sizes of the place
+
+small_at : (set : ℕ) (ds : List Dataset) → AllByRecursion (FitsRow first_scale) ds → IsSmall (number_at set (numbers_of (of_record 7 ds)))
+small_at set [] all = tt
+small_at set (d ∷ ds) all = by (nat_eq d.rec 7) refl (nat_eq d.set set) (small_at set ds all.1)
+  where
+    by : (b : Bool) → nat_eq d.rec 7 ≡ b → (c : Bool) → IsSmall (number_at set (numbers_of (of_record 7 ds))) → IsSmall (number_at set (numbers_of (cond b (d ∷ of_record 7 ds) (of_record 7 ds))))
+    by true is c more = stated (nat_eq d.set set) more
+      where
+        stated : (c : Bool) → IsSmall (number_at set (numbers_of (of_record 7 ds))) → IsSmall (cond c (Some (number d.octets)) (number_at set (numbers_of (of_record 7 ds))))
+        stated true rest = (all.0.size (ap tells_number (eqb-true d.rec 7 is))).1
+        stated false rest = rest
+    by false is c more = more
+
+small_numbers : (ds : List Dataset) → AllByRecursion (FitsRow first_scale) ds → AllByRecursion IsSmall (stated_numbers (numbers_of (of_record 7 ds)))
+small_numbers ds all = (small_at 10 ds all, (small_at 20 ds all, (small_at 90 ds all, (small_at 95 ds all, tt))))
+
+-- the confirmed size is the last token
+confirmed_low : (most : ℕ) (ps : List Stated) (ls : List ℕ) (n : ℕ) → TokensWithin most (number_tokens ps ++ (map SubfileBegun ls ++ (ObjectEnded ∷ Confirmed n ∷ []))) → n ≤ most
+confirmed_low most [] [] n all = all.0
+confirmed_low most [] (l ∷ ls) n all = confirmed_low most [] ls n all
+confirmed_low most (p ∷ ps) ls n all = confirmed_low most ps ls n all.1
+
+-- so the subfiles have no more together
+pub total_low : (most : ℕ) (p : objects.Place) → IsAlive (LanguageWithin most) (objects.tokens_of p) → sum p.lengths ≤ most
+total_low most p (rest, (lang, within)) =
+    let all = confirmed_low most lang.stated lang.lengths lang.confirmed (subst (TokensWithin most) lang.tokens_are within) in
+    let fits = object_total p (rest, lang) in
+    let same = lang.agree.as_confirmed in
+    omega (arith, all, fits, same)
+
+taken_by : (b c : Bool) (ds : List Dataset) (count : ℕ) (taken : List ℕ) → length taken ≤ count
+    → sum (if b then objects.place_after (place_after_datasets ds) (SubfileBegun count) else if c then place_ended ds else place_after_datasets ds).lengths ≤ greatest_size_before
+    → length (object_of ds ++ (if b then taken else [])) ≤ greatest_size_before
+taken_by true c ds count taken few low =
+    let sums = sum_more (lengths_of (of_record 8 ds)) (count ∷ []) in
+    let one = sum_one count in
+    let total = total_of (of_record 8 ds) in
+    let both = length-append (object_of ds) taken in
+    omega (arith, sums, one, total, both, low, few)
+taken_by false true ds count taken few low = let total = total_of (of_record 8 ds) in let same = ap length (append-nil (object_of ds)) in omega (arith, total, same, low)
+taken_by false false ds count taken few low = let total = total_of (of_record 8 ds) in let same = ap length (append-nil (object_of ds)) in omega (arith, total, same, low)
+
+taken_low : (octets : List ℕ) (ds : List Dataset) (b : Begun) → Reads 4 octets ds b → sum (place_in ds b).lengths ≤ greatest_size_before → length (object_so_far ds b) ≤ greatest_size_before
+taken_low octets ds (InTag held) reads low = let total = total_of (of_record 8 ds) in omega (arith, total, low)
+taken_low octets ds (InData h taken) reads low = let less = reads.is_rest.2 in taken_by (nat_eq h.rec 8) (nat_eq h.rec 9) ds h.count taken (omega (arith, less)) low
+
+-- with what is to come of a begun subfile
+left_by : (ds : List Dataset) (count : ℕ) (taken : List ℕ) (b c : Bool) → b ≡ true → length taken < count
+    → sum (if b then objects.place_after (place_after_datasets ds) (SubfileBegun count) else if c then place_ended ds else place_after_datasets ds).lengths ≤ greatest_size_before
+    → length (object_of ds ++ (if b then taken else [])) + (count - length taken) ≤ greatest_size_before
+left_by ds count taken true c is few low =
+    let sums = sum_more (lengths_of (of_record 8 ds)) (count ∷ []) in
+    let one = sum_one count in
+    let total = total_of (of_record 8 ds) in
+    let both = length-append (object_of ds) taken in
+    omega (arith, sums, one, total, both, low, few)
+left_by ds count taken false c is few low = absurd cc
+
+tag_begins : (octets : List ℕ) (ds : List Dataset) (held : List ℕ) → Reads 4 octets ds (InTag held) → BeginsTag 4 held
+tag_begins octets ds held reads =
+    let (same, h, tag, spelled, (more, some, parts)) = reads.is_rest in
+    record { head = h; more = more; some_more = some; whole = subst (SpellsTag 4 h) (sym parts) spelled }
+
+small_phase : (octets : List ℕ) (ds : List Dataset) (b : Begun) → Reads 4 octets ds b → SectionsLiveIn first_scale ds b → sum (place_in ds b).lengths ≤ greatest_size_before
+    → IsSmallPhase (section ds b) (length (object_so_far ds b)) (phase_of ds b)
+small_phase octets ds (InTag held) reads alive low = by (nat_eq (section_after ds) 9)
+  where
+    by : (b : Bool) → IsSmallPhase (section_after ds) (length (object_of ds)) (if b then AllEnded else TagBegun held)
+    by true = tt
+    by false = tag_begins octets ds held reads
+small_phase octets ds (InData h taken) reads (d, head, alive) low =
+    let fits = row_last ds d (rows_front first_scale (ds ++ d ∷ []) alive.0 alive.1.1) in
+    let rec : d.rec ≡ h.rec = ap (λ (k : Head). k.rec) head in
+    let count : length d.octets ≡ h.count = ap (λ (k : Head). k.count) head in (
+      (λ told. let few = (fits.size (ap tells_number rec ∙ told)).0 in omega (arith, few, count)),
+      (λ eight.
+          let small = fits.subfile (rec ∙ eight) in
+          (omega (arith, small, count), left_by ds h.count taken (nat_eq h.rec 8) (nat_eq h.rec 9) (eq-eqb h.rec 8 eight) reads.is_rest.2 low)),
+    )
+
+-- ---- places
+
+-- What octets say keeps to the first sizes.
+record Keeps (ds : List Dataset) (b : Begun) : Type 0 where
+  numbers : AllByRecursion IsSmall (stated_numbers (numbers_of (of_record 7 ds)))
+  taken : length (object_so_far ds b) ≤ greatest_size_before
+  begun : IsSmallPhase (section ds b) (length (object_so_far ds b)) (phase_of ds b)
+
+keeps_open : (octets : List ℕ) → (is : IsOpenIn first_scale widest octets) → Keeps is.whole is.begun
+keeps_open octets is =
+    let low = total_low greatest_size_before (place_in is.whole is.begun) is.object in
+    record {
+      numbers = small_numbers is.whole (rows_of first_scale is.whole is.begun is.records);
+      taken = taken_low octets is.whole is.begun is.reads low;
+      begun = small_phase octets is.whole is.begun is.reads is.records low;
+    }
+
+keeps_whole : (octets : List ℕ) → (is : IsWholeIn first_scale widest octets) → Keeps is.admits.datasets (InTag [])
+keeps_whole octets is = record { numbers = small_numbers is.admits.datasets is.rows; taken = is.total; begun = by (nat_eq (section_after is.admits.datasets) 9) }
+  where
+    by : (b : Bool) → IsSmallPhase (section_after is.admits.datasets) (length (object_of is.admits.datasets)) (if b then AllEnded else TagBegun [])
+    by true = tt
+    by false = record {
+      head = record { rec = 0; set = 0; count = 0 };
+      more = 28 ∷ 0 ∷ 0 ∷ 0 ∷ 0 ∷ [];
+      some_more = omega arith;
+      whole = record { rec = omega arith; set = omega arith; count = 0 ∷ 0 ∷ []; is_count = inl (omega arith, omega arith, refl, refl); parts = refl };
+    }
+
+small_of : AnswerLaws → (place : Place) (octets : List ℕ) → (leads : IsPlaceOf octets place) → (ds : List Dataset) (b : Begun) → Reads count_octets octets ds b → Keeps ds b → IsSmallPlace place
+small_of laws place octets leads ds b reads keeps =
+    let one = one_reading laws octets leads.whole ds leads.begun b leads.reads reads in
+    let is : place ≡ place_of ds b leads.message = leads.is_place ∙ (λ i. place_of (one.whole_is i) (one.begun_is i) leads.message) in
+    subst IsSmallPlace (sym is) (record { numbers = keeps.numbers; taken = keeps.taken; begun = keeps.begun })
+
+-- What was possible is possible, and keeps to the first sizes.
+pub still_possible : OpenLaws → (place : Place) → PossibleAt first_scale place → Possible place × IsSmallPlace place
+still_possible laws place p = elim p.comes [
+  | inl open' ↦ (
+    record { octets = p.octets; leads = p.leads; comes = inl (open_now p.octets open') },
+    small_of laws.answer place p.octets p.leads open'.whole open'.begun (wider_reads p.octets open'.whole open'.begun open'.reads) (keeps_open p.octets open'),
+  )
+  | inr whole ↦ (
+    record { octets = p.octets; leads = p.leads; comes = inr (whole.value, record { admits = whole.admits; within = whole.within }) },
+    small_of laws.answer place p.octets p.leads whole.admits.datasets (InTag []) (reads_envelope p.octets whole.value whole.admits) (keeps_whole p.octets whole),
+  )
+]

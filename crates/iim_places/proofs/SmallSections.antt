@@ -1,0 +1,191 @@
+-- What the record layer can continue with by smaller sizes.
+use Rattle.std.proofs.Common.{◌≡◌, ℕ, ◌+◌, ◌<◌, ◌≤◌, ◌⊎◌, ◌&&◌, ◌||◌, ◌==◌, nat_eq, nat_le, not, cond, if◌then◌else◌, Bool, true, false, List, [], ◌∷◌, ◌++◌, length, map, None, refl, ap, sym, subst, ◌∙◌, inl, inr, arith}
+use Rattle.std.specs.List.{AllByRecursion, fold}
+use Rattle.std.proofs.lemmas.Bool.{or_cases, eqb-true, eq-eqb, leb-true, and_parts, le-leb}
+use Rattle.std.proofs.lemmas.Bool.Decides.{eqb_tells, nat_tests}
+use Rattle.std.proofs.lemmas.List.{map-append}
+use Rattle.iim_dataset.specs.Format.Octets.{Octets, IsOctet, number, within}
+use Rattle.iim_dataset.specs.Format.Datasets.{Dataset}
+use Rattle.iim_dataset.specs.Format.Languages.{IsAlive}
+use Rattle.iim_tables.specs.Format.Rows.{table, row_of, Meets}
+use Rattle.iim_tables.specs.Format.Records.{IsGoodDataset, IsGoodRecord, occurs, occurrences, mandatory}
+use Rattle.iim_fields.specs.Format.Records.{AreRecords, AreSections, records}
+use Rattle.iim_fields.specs.Format.Values.{tells_number}
+use Rattle.iim_places.specs.States.Scales.{FitsRow, SectionsIn, first_scale}
+
+-- ---- data that are too long, replaced by short ones
+
+abbrev short_number : List ℕ
+short_number = 0 ∷ 0 ∷ 0 ∷ 1 ∷ []
+
+abbrev shrunk_by : (tells few subfile small : Bool) → List ℕ → List ℕ
+shrunk_by tells few subfile small xs = if tells && not few then short_number else if subfile && not small then [] else xs
+
+abbrev shrunk : Dataset → List ℕ
+shrunk d = shrunk_by (tells_number d.rec) (nat_le (length d.octets) 4) (nat_eq d.rec 8) (nat_le (length d.octets) 4294967295) d.octets
+
+abbrev shrink : Dataset → Dataset
+shrink d = record { rec = d.rec; set = d.set; octets = shrunk d }
+
+-- records 7 and 9 tell numbers
+pub told_in : (r : ℕ) → tells_number r ≡ true → (r ≡ 7) ⊎ (r ≡ 9)
+told_in r is = elim (or_cases (nat_eq r 7) (nat_eq r 9) is) [ inl seven ↦ inl (eqb-true r 7 seven) | inr nine ↦ inr (eqb-true r 9 nine) ]
+
+above : (m n : ℕ) → nat_le m n ≡ false → n < m
+above m n is = grind (arith, nat_tests)
+
+-- the row of a number that is too long takes a short one
+pub most : (low high n : ℕ) (kind : Bool) → (within low high n && kind) ≡ true → n ≤ high
+most low high n kind h = leb-true n high (and_parts (nat_le low n) (nat_le n high) (and_parts (within low high n) kind h).0).1
+
+pub no_row : (rec set : ℕ) (xs : List ℕ) → row_of rec set ≡ None → Meets rec set xs → ⊥
+no_row rec set xs is h = rw is at h
+
+seven_takes : (set : ℕ) (xs : List ℕ) → Meets 7 set xs → 4 < length xs → Meets 7 set short_number
+unfolding row_of table
+seven_takes set xs = elim (eqb_tells 10 set) [
+  | inl is ↦ subst (λ (k : ℕ). Meets 7 k xs → 4 < length xs → Meets 7 k short_number) is.1 (λ h long. absurd (let one = most 1 1 (length xs) _ h in omega (arith, one, long)))
+  | inr not10 ↦ elim (eqb_tells 20 set) [
+    | inl is ↦ subst (λ (k : ℕ). Meets 7 k xs → 4 < length xs → Meets 7 k short_number) is.1 (λ h long. refl)
+    | inr not20 ↦ elim (eqb_tells 90 set) [
+      | inl is ↦ subst (λ (k : ℕ). Meets 7 k xs → 4 < length xs → Meets 7 k short_number) is.1 (λ h long. refl)
+      | inr not90 ↦ elim (eqb_tells 95 set) [
+        | inl is ↦ subst (λ (k : ℕ). Meets 7 k xs → 4 < length xs → Meets 7 k short_number) is.1 (λ h long. refl)
+        | inr not95 ↦ λ h long. absurd (no_row 7 set xs (rw (not10.0, not20.0, not90.0, not95.0) refl) h)
+      ]
+    ]
+  ]
+]
+
+nine_takes : (set : ℕ) (xs : List ℕ) → Meets 9 set xs → Meets 9 set short_number
+unfolding row_of table
+nine_takes set xs = elim (eqb_tells 10 set) [
+  | inl is ↦ subst (λ (k : ℕ). Meets 9 k xs → Meets 9 k short_number) is.1 (λ h. refl)
+  | inr not10 ↦ λ h. absurd (no_row 9 set xs (rw not10.0 refl) h)
+]
+
+eight_takes : (set : ℕ) (xs : List ℕ) → Meets 8 set xs → Meets 8 set []
+unfolding row_of table
+eight_takes set xs = elim (eqb_tells 10 set) [
+  | inl is ↦ subst (λ (k : ℕ). Meets 8 k xs → Meets 8 k []) is.1 (λ h. refl)
+  | inr not10 ↦ λ h. absurd (no_row 8 set xs (rw not10.0 refl) h)
+]
+
+low_four : (xs : List ℕ) → Octets xs → length xs ≤ 4 → number xs ≤ 4294967295
+low_four [] all fits = omega arith
+low_four (a ∷ []) all fits = omega (arith, all.0)
+low_four (a ∷ b ∷ []) all fits = omega (arith, all.0, all.1.0)
+low_four (a ∷ b ∷ c ∷ []) all fits = omega (arith, all.0, all.1.0, all.1.1.0)
+low_four (a ∷ b ∷ c ∷ d ∷ []) all fits = omega (arith, all.0, all.1.0, all.1.1.0, all.1.1.1.0)
+low_four (a ∷ b ∷ c ∷ d ∷ e ∷ xs) all fits = absurd (omega (arith, fits))
+
+same_format : (r s : ℕ) (xs ys : List ℕ) → (nat_eq r 1 ≡ false) → (not (nat_eq r 1 && nat_eq s 20) || (number ys == 2)) ≡ true
+same_format r s xs ys is = rw is refl
+
+-- The data of a good dataset may be replaced, and then fit.
+abbrev Fine : Dataset → List ℕ → Type 0
+Fine d xs = IsGoodDataset (record { rec = d.rec; set = d.set; octets = xs }) × FitsRow first_scale (record { rec = d.rec; set = d.set; octets = xs })
+
+short_good : (d : Dataset) (r : ℕ) → d.rec ≡ r → nat_eq r 1 ≡ false → nat_eq r 8 ≡ false → IsOctet d.set → Meets r d.set short_number → Fine d short_number
+short_good d r is one eight small meets = (
+  record { numbered = small; octets = (omega arith, (omega arith, (omega arith, (omega arith, tt)))); meets = subst (λ (k : ℕ). Meets k d.set short_number) (sym is) meets; file_format = rw (ap (λ (k : ℕ). nat_eq k 1) is ∙ one) refl },
+  record { size = λ told. (omega arith, omega arith); subfile = λ e. omega arith },
+)
+
+kept_fine : (d : Dataset) → IsGoodDataset d → (tells_number d.rec ≡ true → length d.octets ≤ 4) → (d.rec ≡ 8 → length d.octets ≤ 4294967295) → Fine d d.octets
+kept_fine d good few small = (good, record { size = λ told. (few told, low_four d.octets good.octets (few told)); subfile = small })
+
+empty_good : (d : Dataset) → d.rec ≡ 8 → IsGoodDataset d → Fine d []
+empty_good d is good = (
+  record { numbered = good.numbered; octets = tt; meets = subst (λ (k : ℕ). Meets k d.set []) (sym is) (eight_takes d.set d.octets (subst (λ (k : ℕ). Meets k d.set d.octets) is good.meets)); file_format = rw (ap (λ (k : ℕ). nat_eq k 1) is) refl },
+  record { size = λ told. (omega arith, omega arith); subfile = λ e. omega arith },
+)
+
+shrink_fine : (d : Dataset) → IsGoodDataset d → Fine d (shrunk d)
+shrink_fine d good = by (tells_number d.rec) (nat_le (length d.octets) 4) (nat_eq d.rec 8) (nat_le (length d.octets) 4294967295) refl refl refl refl
+  where
+    by : (tells few subfile small : Bool) → tells_number d.rec ≡ tells → nat_le (length d.octets) 4 ≡ few → nat_eq d.rec 8 ≡ subfile → nat_le (length d.octets) 4294967295 ≡ small
+        → Fine d (shrunk_by tells few subfile small d.octets)
+    by true false subfile small told long e f = elim (told_in d.rec told) [
+      | inl seven ↦ short_good d 7 seven refl refl good.numbered (seven_takes d.set d.octets (subst (λ (k : ℕ). Meets k d.set d.octets) seven good.meets) (above (length d.octets) 4 long))
+      | inr nine ↦ short_good d 9 nine refl refl good.numbered (nine_takes d.set d.octets (subst (λ (k : ℕ). Meets k d.set d.octets) nine good.meets))
+    ]
+    by true true true true told few e f = kept_fine d good (λ t. leb-true (length d.octets) 4 few) (λ eight. let low = leb-true (length d.octets) 4 few in omega (arith, low))
+    by true true true false told few e f = absurd (let low = leb-true (length d.octets) 4 few in let high = above (length d.octets) 4294967295 f in omega (arith, low, high))
+    by true true false small told few e f = kept_fine d good (λ t. leb-true (length d.octets) 4 few) (λ eight. let low = leb-true (length d.octets) 4 few in omega (arith, low))
+    by false few true false told g e f = empty_good d (eqb-true d.rec 8 e) good
+    by false few true true told g e f = kept_fine d good (λ t. absurd (let bad : true ≡ false = sym t ∙ told in cc)) (λ eight. leb-true (length d.octets) 4294967295 f)
+    by false few false small told g e f = kept_fine d good (λ t. absurd (let bad : true ≡ false = sym t ∙ told in cc)) (λ eight. absurd (let bad : true ≡ false = sym (eq-eqb d.rec 8 eight) ∙ e in cc))
+
+-- The data are short enough.
+abbrev pub Short : Dataset → Type 0
+Short d = (tells_number d.rec ≡ true → length d.octets ≤ 4) × (d.rec ≡ 8 → length d.octets ≤ 4294967295)
+
+-- what is short stays
+shrink_same : (d : Dataset) → Short d → shrink d ≡ d
+shrink_same d short = let same = by (tells_number d.rec) (nat_eq d.rec 8) refl refl in λ i. record { rec = d.rec; set = d.set; octets = same i }
+  where
+    by : (tells subfile : Bool) → tells_number d.rec ≡ tells → nat_eq d.rec 8 ≡ subfile → shrunk_by tells (nat_le (length d.octets) 4) subfile (nat_le (length d.octets) 4294967295) d.octets ≡ d.octets
+    by true true told eight = rw (le-leb (length d.octets) 4 (short.0 told), le-leb (length d.octets) 4294967295 (short.1 (eqb-true d.rec 8 eight))) refl
+    by true false told other = rw (le-leb (length d.octets) 4 (short.0 told)) refl
+    by false true told eight = rw (le-leb (length d.octets) 4294967295 (short.1 (eqb-true d.rec 8 eight))) refl
+    by false false told other = refl
+
+-- ---- records
+
+all_same : (ds : List Dataset) → AllByRecursion Short ds → map shrink ds ≡ ds
+all_same [] all = refl
+all_same (d ∷ ds) all = λ i. shrink_same d all.0 i ∷ all_same ds all.1 i
+
+occurs_same : (n : ℕ) (ds : List Dataset) → occurs n (map shrink ds) ≡ occurs n ds
+occurs_same n [] = refl
+occurs_same n (d ∷ ds) = ap (λ (b : Bool). nat_eq d.set n || b) (occurs_same n ds)
+
+count_on : (n a : ℕ) (ds : List Dataset) → fold (λ (k : ℕ) (d : Dataset). k + cond (nat_eq d.set n) 1 0) a (map shrink ds) ≡ fold (λ (k : ℕ) (d : Dataset). k + cond (nat_eq d.set n) 1 0) a ds
+count_on n a [] = refl
+count_on n a (d ∷ ds) = count_on n (a + cond (nat_eq d.set n) 1 0) ds
+
+count_same : (n : ℕ) (ds : List Dataset) → occurrences n (map shrink ds) ≡ occurrences n ds
+count_same n ds = count_on n 0 ds
+
+each_good : (r : ℕ) (ds : List Dataset) → AllByRecursion (λ d. (d.rec ≡ r) × IsGoodDataset d) ds → AllByRecursion (λ d. (d.rec ≡ r) × IsGoodDataset d) (map shrink ds)
+each_good r [] all = tt
+each_good r (d ∷ ds) all = ((all.0.0, (shrink_fine d all.0.1).0), each_good r ds all.1)
+
+each_fits : (r : ℕ) (ds : List Dataset) → AllByRecursion (λ d. (d.rec ≡ r) × IsGoodDataset d) ds → AllByRecursion (FitsRow first_scale) (map shrink ds)
+each_fits r [] all = tt
+each_fits r (d ∷ ds) all = ((shrink_fine d all.0.1).1, each_fits r ds all.1)
+
+each_must : (ds : List Dataset) (ns : List ℕ) → AllByRecursion (λ n. occurs n ds ≡ true) ns → AllByRecursion (λ n. occurs n (map shrink ds) ≡ true) ns
+each_must ds [] all = tt
+each_must ds (n ∷ ns) all = (occurs_same n ds ∙ all.0, each_must ds ns all.1)
+
+good_record : (r : ℕ) (ds : List Dataset) → IsGoodRecord r ds → IsGoodRecord r (map shrink ds)
+good_record r ds good = record {
+  each = each_good r ds good.each;
+  mandatory = each_must ds (mandatory r) good.mandatory;
+  once = λ n no'. let most' = good.once n no' in let same = count_same n ds in omega (arith, most', same);
+}
+
+both_fit : (xs ys : List Dataset) → AllByRecursion (FitsRow first_scale) xs → AllByRecursion (FitsRow first_scale) ys → AllByRecursion (FitsRow first_scale) (xs ++ ys)
+both_fit [] ys a b = b
+both_fit (x ∷ xs) ys a b = (a.0, both_fit xs ys a.1 b)
+
+good_records : (rs : List ℕ) (ds : List Dataset) → AreRecords rs ds → AreRecords rs (map shrink ds) × AllByRecursion (FitsRow first_scale) (map shrink ds)
+good_records [] ds none = (ap (map shrink) none, subst (λ (xs : List Dataset). AllByRecursion (FitsRow first_scale) (map shrink xs)) (sym none) tt)
+good_records (r ∷ rs) ds (run, rest, parts, good, more) =
+    let joined : map shrink ds ≡ map shrink run ++ map shrink rest = ap (map shrink) parts ∙ map-append shrink run rest in
+    let later = good_records rs rest more in (
+      (map shrink run, map shrink rest, joined, good_record r run good, later.0),
+      subst (AllByRecursion (FitsRow first_scale)) (sym joined) (both_fit (map shrink run) (map shrink rest) (each_fits r run good.each) later.1),
+    )
+
+-- Datasets that are short, and from which the record layer can continue, fit, and can continue to ones that fit.
+pub sections_live_small : (ds : List Dataset) → IsAlive AreSections ds → AllByRecursion Short ds → IsAlive (SectionsIn first_scale) ds
+sections_live_small ds (more, are) short =
+    let small = good_records records (ds ++ more) are in
+    let is : map shrink (ds ++ more) ≡ ds ++ map shrink more = map-append shrink ds more ∙ ap (λ (xs : List Dataset). xs ++ map shrink more) (all_same ds short) in
+    (map shrink more, subst (SectionsIn first_scale) is small)
+
+pub sections_small : (ds : List Dataset) → AreSections ds → AllByRecursion Short ds → SectionsIn first_scale ds
+sections_small ds are short = subst (SectionsIn first_scale) (all_same ds short) (good_records records ds are)

@@ -1,0 +1,125 @@
+-- What takes whole datasets one after another: takes joined, and datasets that can continue.
+use Rattle.std.proofs.Common.{◌≡◌, ℕ, ◌<◌, ◌≤◌, ◌≢◌, Bool, true, false, Option, Result, Ok, Err, OnOk, IfOk, IfErr, is_ok, List, [], ◌∷◌, ◌++◌, refl, sym, subst, ◌∙◌, arith, append_assoc, append-nil}
+use Rattle.std.specs.List.{AllByRecursion}
+use Rattle.iim_dataset.specs.Format.Datasets.{Dataset, head_of}
+use Rattle.iim_dataset.specs.declared.head.Head.{Head}
+use Rattle.iim_fields.specs.States.Checks.{TakesHead, HasChecked, HasTaken, IsChecking, IsValueFault}
+use Rattle.iim_fields.specs.Format.Alive.{SectionsLive, SectionsLiveAt}
+use Rattle.iim_fields.specs.Format.Faults.{is_kept}
+use Rattle.iim_fields.specs.Format.Records.{AreSections}
+use Rattle.iim_tables.specs.Format.Records.{IsGoodDataset}
+use Rattle.iim_fields.specs.States.Standing.{FieldsPlace, IsBetween, IsHeadFault, IsOf, StandsAfter, StandsIn, limits_of}
+use Rattle.iim_fields.specs.Format.Values.{data_of, number_told}
+use Rattle.iim_fields.specs.declared.check.RecordPlace.{RecordPlace}
+use Rattle.iim_fields.specs.declared.fault.FieldFault.{FieldFault}
+use Rattle.iim_fields.specs.declared.limits.Limits.{Limits}
+use Rattle.iim_places.specs.Plain.{mode_dataset}
+use Rattle.iim_places.specs.States.Possible.{widest}
+use Rattle.iim_places.specs.Taking.{CanContinueWithin, TookDatasets}
+use Rattle.iim_places.proofs.Limits.{kept_first, kept_octets_append, kept_length_append}
+use Rattle.iim_places.proofs.Bounds.{all_join, all_weaker}
+
+-- ---- datasets that can continue
+
+pub front_alive : (xs ys : List Dataset) → SectionsLive (xs ++ ys) → SectionsLive xs
+front_alive xs ys (more, are) = (ys ++ more, subst AreSections (append_assoc xs ys more) are)
+
+-- datasets can continue where they can with a head
+pub head_alive : (ds : List Dataset) (h : Head) → SectionsLiveAt ds h → SectionsLive ds
+head_alive ds h (d, is, alive) = front_alive ds (d ∷ []) alive
+
+pub front_leads_on : (limits : Limits) (xs ys : List Dataset) → CanContinueWithin limits (xs ++ ys) → CanContinueWithin limits xs
+front_leads_on limits xs ys goes =
+    let octets = kept_octets_append xs ys in
+    let fields = kept_length_append xs ys in
+    record { alive = front_alive xs ys goes.alive; within = record { octets_in = omega (arith, octets, goes.within.octets_in); fields_in = omega (arith, fields, goes.within.fields_in) } }
+
+-- ---- takes
+
+pub took_nothing : {T : Type 0} (ready : T → Type 0) (stands : T → List Dataset → Type 0) (limits : T → Limits) (a : T) → ready a → TookDatasets ready stands limits a [] a true
+took_nothing ready stands limits a is = (is, refl, λ ds s. subst (stands a) (sym (append-nil ds)) s)
+
+pub took_more : {T : Type 0} (ready : T → Type 0) (stands : T → List Dataset → Type 0) (limits : T → Limits) (a b c : T) (es fs : List Dataset) (all : Bool)
+    → TookDatasets ready stands limits a es b true → TookDatasets ready stands limits b fs c all → TookDatasets ready stands limits a (es ++ fs) c all
+took_more ready stands limits a b c es fs true h k = (k.0, k.1 ∙ h.1, λ ds s. subst (stands c) (append_assoc ds es fs) (k.2 (ds ++ es) (h.2 ds s)))
+took_more ready stands limits a b c es fs false h k = λ ds s goes.
+    k (ds ++ es) (h.2 ds s) (subst (λ (l : Limits). CanContinueWithin l ((ds ++ es) ++ fs)) (sym h.1) (subst (CanContinueWithin (limits a)) (sym (append_assoc ds es fs)) goes))
+
+-- where some are not taken, they are not taken with others after them
+pub took_none : {T : Type 0} (ready : T → Type 0) (stands : T → List Dataset → Type 0) (limits : T → Limits) (a b c : T) (es fs : List Dataset)
+    → TookDatasets ready stands limits a es b false → TookDatasets ready stands limits a (es ++ fs) c false
+took_none ready stands limits a b c es fs h = λ ds s goes. h ds s (front_leads_on (limits a) (ds ++ es) fs (subst (CanContinueWithin (limits a)) (sym (append_assoc ds es fs)) goes))
+
+-- a take after another, and their value
+pub took_then : {T : Type 0} (ready : T → Type 0) (stands : T → List Dataset → Type 0) (limits : T → Limits) (a b c d : T) (es fs : List Dataset) (first last all : Bool)
+    → TookDatasets ready stands limits a es b first → first ≡ true → TookDatasets ready stands limits b fs c last → d ≡ c → all ≡ last → TookDatasets ready stands limits a (es ++ fs) d all
+took_then {T} ready stands limits a b c d es fs first last all h one k same is =
+    subst (λ (x : T). TookDatasets ready stands limits a (es ++ fs) x all) (sym same)
+    (subst (λ (v : Bool). TookDatasets ready stands limits a (es ++ fs) c v) (sym is) (took_more ready stands limits a b c es fs last (subst (λ (v : Bool). TookDatasets ready stands limits a es b v) one h) k))
+
+pub took_else : {T : Type 0} (ready : T → Type 0) (stands : T → List Dataset → Type 0) (limits : T → Limits) (a b c : T) (es fs : List Dataset) (first all : Bool)
+    → TookDatasets ready stands limits a es b first → first ≡ false → all ≡ false → TookDatasets ready stands limits a (es ++ fs) c all
+took_else ready stands limits a b c es fs first all h none is =
+    subst (λ (v : Bool). TookDatasets ready stands limits a (es ++ fs) c v) (sym is) (took_none ready stands limits a b c es fs (subst (λ (v : Bool). TookDatasets ready stands limits a es b v) none h))
+
+-- the same of the datasets and the value told otherwise
+pub took_as : {T : Type 0} (ready : T → Type 0) (stands : T → List Dataset → Type 0) (limits : T → Limits) (a b : T) (es fs : List Dataset) (v w : Bool) → es ≡ fs → v ≡ w → TookDatasets ready stands limits a es b v → TookDatasets ready stands limits a fs b w
+took_as {T} ready stands limits a b es fs v w same is took = subst (λ (x : Bool). TookDatasets ready stands limits a fs b x) is (subst (λ (xs : List Dataset). TookDatasets ready stands limits a xs b v) same took)
+
+-- ---- what no datasets can continue with
+
+good_only : (r : ℕ) (d : Dataset) → (d.rec ≡ r) × IsGoodDataset d → IsGoodDataset d
+good_only r d h = h.1
+
+pub each_good : (ds : List Dataset) → AreSections ds → AllByRecursion IsGoodDataset ds
+each_good ds (r1, from2, one, good1, (r2, from7, two, good2, (r7, from8, seven, good7, (r8, from9, eight, good8, (r9, rest, nine, good9, end))))) =
+    let last : AllByRecursion IsGoodDataset rest = subst (AllByRecursion IsGoodDataset) (sym end) tt in
+    let a9 : AllByRecursion IsGoodDataset from9 = subst (AllByRecursion IsGoodDataset) (sym nine) (all_join IsGoodDataset r9 rest (all_weaker _ IsGoodDataset (good_only 9) r9 good9.each) last) in
+    let a8 : AllByRecursion IsGoodDataset from8 = subst (AllByRecursion IsGoodDataset) (sym eight) (all_join IsGoodDataset r8 from9 (all_weaker _ IsGoodDataset (good_only 8) r8 good8.each) a9) in
+    let a7 : AllByRecursion IsGoodDataset from7 = subst (AllByRecursion IsGoodDataset) (sym seven) (all_join IsGoodDataset r7 from8 (all_weaker _ IsGoodDataset (good_only 7) r7 good7.each) a8) in
+    let a2 : AllByRecursion IsGoodDataset from2 = subst (AllByRecursion IsGoodDataset) (sym two) (all_join IsGoodDataset r2 from7 (all_weaker _ IsGoodDataset (good_only 2) r2 good2.each) a7) in
+    subst (AllByRecursion IsGoodDataset) (sym one) (all_join IsGoodDataset r1 from2 (all_weaker _ IsGoodDataset (good_only 1) r1 good1.each) a2)
+
+pub good_at : (ds : List Dataset) (d : Dataset) (more : List Dataset) → AllByRecursion IsGoodDataset ((ds ++ d ∷ []) ++ more) → IsGoodDataset d
+good_at [] d more h = h.0
+good_at (x ∷ ds) d more h = good_at ds d more h.1
+
+-- a mode is an octet
+pub no_wide_mode : (limits : Limits) (ds : List Dataset) (n : ℕ) → 256 ≤ n → CanContinueWithin limits (ds ++ mode_dataset n ∷ []) → ⊥
+no_wide_mode limits ds n wide goes =
+    let good = good_at ds (mode_dataset n) goes.alive.0 (each_good ((ds ++ mode_dataset n ∷ []) ++ goes.alive.0) goes.alive.1) in
+    let low : n < 256 = good.octets.0 in
+    omega (arith, wide, low)
+
+-- ---- a check of records
+
+-- a value that was taken after its head, or not
+pub value_took : (a b c : Option RecordPlace) (d : Dataset) (r : Result (Option ℕ) FieldFault) → ((ds : List Dataset) → HasChecked a ds → HasTaken b ds (head_of d)) → d.rec ≢ 8
+    → OnOk r (TakesHead c) → IfOk r (λ number. (ds : List Dataset) (h : Head) → IsChecking b ds h → HasChecked c (ds ++ data_of h d.octets ∷ []) × (number ≡ number_told (data_of h d.octets)))
+    → IfErr r (λ fault. (ds : List Dataset) (h : Head) → IsChecking b ds h → IsValueFault ds (data_of h d.octets) fault)
+    → TookDatasets TakesHead HasChecked (λ (_ : Option RecordPlace). widest) a (d ∷ []) c (is_ok r)
+value_took a b c d (Ok number) taken other takes stands fault = (takes, refl, λ ds s. (stands ds (head_of d) ((taken ds s).checking other)).0)
+value_took a b c d (Err e) taken other takes stands fault = λ ds s goes. (fault ds (head_of d) ((taken ds s).checking other)).dead goes.alive
+
+-- ---- a reader of records
+
+-- with a head that is refused no datasets can continue
+pub head_dead : (limits : Limits) (ds : List Dataset) (d : Dataset) (fault : FieldFault) → IsHeadFault limits ds (head_of d) fault → CanContinueWithin limits (ds ++ d ∷ []) → ⊥
+head_dead limits ds d fault is goes =
+    let octets = kept_octets_append ds (d ∷ []) in
+    let fields = kept_length_append ds (d ∷ []) in
+    is.dead (d, refl, goes.alive)
+    (λ keeps.
+    let first = kept_first (is_kept d.rec) d [] keeps in
+    record { octets_in = omega (arith, octets, first, goes.within.octets_in); fields_in = omega (arith, fields, first, goes.within.fields_in) })
+
+-- a dataset that was taken after its head and its data, or not
+pub closed_took : (a b c : FieldsPlace) (d : Dataset) (taken : List ℕ) (r : Result (Option ℕ) FieldFault) → ((ds : List Dataset) → StandsAfter a ds → StandsIn b ds (head_of d) taken) → IsOf (head_of d) taken d
+    → OnOk r (IsBetween c) → limits_of c ≡ limits_of a
+    → IfOk r (λ number. (ds : List Dataset) (h : Head) (xs : List ℕ) → StandsIn b ds h xs → (e : Dataset) → IsOf h xs e → StandsAfter c (ds ++ e ∷ []) × (number ≡ number_told e))
+    → IfErr r (λ fault. (ds : List Dataset) (h : Head) (xs : List ℕ) → StandsIn b ds h xs → IsValueFault ds (data_of h xs) fault)
+    → TookDatasets IsBetween StandsAfter limits_of a (d ∷ []) c (is_ok r)
+closed_took a b c d taken (Ok number) stands is between same closes fault = (between, same, λ ds s. (closes ds (head_of d) taken (stands ds s) d is).0)
+closed_took a b c d taken (Err e) stands is between same closes fault = λ ds s goes.
+    let bad = fault ds (head_of d) taken (stands ds s) in
+    bad.dead (subst (λ (xs : List ℕ). SectionsLive (ds ++ data_of (head_of d) xs ∷ [])) (is.given bad.value) goes.alive)

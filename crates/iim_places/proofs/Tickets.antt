@@ -1,0 +1,96 @@
+-- The ticket that an unpacker spells is that of the octets on which it stands.
+use Rattle.std.proofs.Common.{◌≡◌, ℕ, ◌+◌, ◌-◌, Bool, true, false, if◌then◌else◌, List, [], ◌∷◌, ◌++◌, length, sum, Option, Some, refl, ap, sym, subst, ◌∙◌, arith, append-nil, length-append}
+use Rattle.std.proofs.lemmas.List.Sums.{sum_by-cons}
+use Rattle.std.proofs.lemmas.List.{length-map}
+use Rattle.iim_dataset.specs.Format.Datasets.{Dataset, of_record}
+use Rattle.iim_dataset.specs.Format.Splits.{Begun}
+use Rattle.iim_dataset.specs.States.Events.{handed_on}
+use Rattle.iim_dataset.specs.Laws.Datasets.{OctetsAreHandedOnOneWay, EventsTellTheDatasets}
+use Rattle.iim_fields.specs.Format.Faults.{joined}
+use Rattle.iim_object.specs.Format.Objects.{SubfileBegun}
+use Rattle.iim_object.specs.Format.Places as objects
+use Rattle.iim_object.specs.Format.Records.{lengths_of, numbers_of}
+use Rattle.iim_object.specs.Format.Numbers.{place_after_datasets, place_ended}
+use Rattle.wire_message.specs.Laws.Messages.{OctetsLeadToOnePlace}
+use Rattle.wire_message.specs.States.Reading as wire
+use Rattle.wire_message.specs.States.SoFar.{LeadsTo}
+use Rattle.wire_message.specs.States.Saved.{saved, IsAt, LeadsToSaved}
+use Rattle.wire_message.specs.declared.place.Place.{Place as Message}
+use Rattle.wire_message.specs.declared.saved.MessagePlace.{MessagePlace}
+use Rattle.iim_places.specs.Format.Admitted.{object_of}
+use Rattle.iim_places.specs.Format.Open.{object_so_far}
+use Rattle.iim_places.specs.Format.Tickets.{place_of, ticket_of}
+use Rattle.iim_places.specs.Laws.Tickets.{OctetsHaveOneTicket}
+
+-- ---- lengths
+
+sum_cons : (x : ℕ) (xs : List ℕ) → sum (x ∷ xs) ≡ x + sum xs
+sum_cons x xs = sum_by-cons (λ (n : ℕ). n) x xs
+
+pub total_of : (ds : List Dataset) → sum (lengths_of ds) ≡ length (joined ds)
+total_of [] = refl
+total_of (d ∷ ds) = sum_cons (length d.octets) (lengths_of ds) ∙ (ap (λ n. length d.octets + n) (total_of ds) ∙ sym (length-append d.octets (joined ds)))
+
+pub count_of : (ds : List Dataset) → length (lengths_of ds) ≡ length ds
+count_of ds = length-map ds (λ (d : Dataset). length d.octets)
+
+pub sum_more : (xs ys : List ℕ) → sum (xs ++ ys) ≡ sum xs + sum ys
+sum_more [] ys = let none : sum [] ≡ 0 = refl in omega (arith, none)
+sum_more (x ∷ xs) ys = sum_cons x (xs ++ ys) ∙ (let more = sum_more xs ys in let first = sum_cons x xs in omega (arith, more, first))
+
+pub sum_one : (x : ℕ) → sum (x ∷ []) ≡ x
+sum_one x = sum_cons x [] ∙ (let none : sum [] ≡ 0 = refl in omega (arith, none))
+
+-- ---- the object at a head
+
+-- the place at a head, by the tests of its record
+abbrev at_by : Bool → Bool → List Dataset → ℕ → objects.Place
+at_by b c ds count = if b then objects.place_after (place_after_datasets ds) (SubfileBegun count) else if c then place_ended ds else place_after_datasets ds
+
+pub stated_by : (b c : Bool) (ds : List Dataset) (count : ℕ) → (at_by b c ds count).stated ≡ numbers_of (of_record 7 ds)
+stated_by true c ds count = refl
+stated_by false true ds count = refl
+stated_by false false ds count = refl
+
+pub heads_by : (b c : Bool) (ds : List Dataset) (count : ℕ) → length (at_by b c ds count).lengths ≡ length (of_record 8 ds) + (if b then 1 else 0)
+heads_by true c ds count = length-append (lengths_of (of_record 8 ds)) (count ∷ []) ∙ ap (λ n. n + 1) (count_of (of_record 8 ds))
+heads_by false true ds count = let same = count_of (of_record 8 ds) in omega (arith, same)
+heads_by false false ds count = let same = count_of (of_record 8 ds) in omega (arith, same)
+
+pub taken_by : (b c : Bool) (ds : List Dataset) (taken : List ℕ) (count left : ℕ) → length taken + left ≡ count
+    → sum (at_by b c ds count).lengths - (if b then left else 0) ≡ length (object_of ds ++ (if b then taken else []))
+taken_by true c ds taken count left e =
+    let sums = sum_more (lengths_of (of_record 8 ds)) (count ∷ []) in
+    let one = sum_one count in
+    let total = total_of (of_record 8 ds) in
+    let both = length-append (object_of ds) taken in
+    omega (arith, sums, one, total, both, e)
+taken_by false true ds taken count left e = let total = total_of (of_record 8 ds) in let same = ap length (append-nil (object_of ds)) in omega (arith, total, same)
+taken_by false false ds taken count left e = let total = total_of (of_record 8 ds) in let same = ap length (append-nil (object_of ds)) in omega (arith, total, same)
+
+-- ---- the message
+
+pub message_at : (reader : Option Message) (octets text : List ℕ) (m : MessagePlace) → wire.StandsAt reader octets text → IsAt reader m → LeadsToSaved octets text m
+message_at reader octets text m (at, is, leads) (place, has, same) =
+    let one : at ≡ place = some-same (sym is ∙ has) in (at, leads, ap saved one ∙ same)
+  where
+    some-same : {x y : Message} → Some x ≡ Some y → x ≡ y
+    some-same e = cc
+
+-- ---- one ticket
+
+pub same_place : OctetsLeadToOnePlace → (whole es : List Dataset) (b c : Begun) (m n : MessagePlace) (t v : List ℕ) → whole ≡ es → b ≡ c
+    → LeadsToSaved (object_so_far whole b) t m → LeadsToSaved (object_so_far es c) v n → place_of whole b m ≡ place_of es c n
+same_place one whole es b c m n t v is same (at, leads, saves) (other, goes, keeps) =
+    let octets : object_so_far es c ≡ object_so_far whole b = ap (λ (ds : List Dataset). object_so_far ds c) (sym is) ∙ ap (object_so_far whole) (sym same) in
+    let met : at ≡ other = (one (object_so_far whole b) t v at other leads (subst (λ (xs : List ℕ). LeadsTo xs v other) octets goes)).1 in
+    let message : m ≡ n = sym saves ∙ ap saved met ∙ keeps in
+    ap (λ (ds : List Dataset). place_of ds b m) is ∙ ap (λ (x : Begun). place_of es x m) same ∙ ap (place_of es c) message
+
+pub one_ticket : OctetsAreHandedOnOneWay → EventsTellTheDatasets → OctetsLeadToOnePlace → OctetsHaveOneTicket
+one_ticket way tell one octets ticket other x y =
+    let a = x.is_place in
+    let b = y.is_place in
+    let told = way octets (handed_on a.whole a.begun) (handed_on b.whole b.begun) a.begun b.begun (record { whole = a.whole; reads = a.reads; handed = refl }) (record { whole = b.whole; reads = b.reads; handed = refl }) in
+    let whole = (tell a.whole b.whole a.begun b.begun told.0).0 in
+    x.spelled ∙ ap ticket_of (a.is_place ∙ same_place one a.whole b.whole a.begun b.begun a.message b.message a.text b.text whole told.1 a.leads b.leads ∙ sym b.is_place) ∙ sym y.spelled

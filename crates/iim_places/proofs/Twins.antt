@@ -1,0 +1,323 @@
+-- Datasets that tell the same, and what follows them.
+use Rattle.std.proofs.Common.{◌≡◌, ℕ, ◌+◌, ◌<◌, ◌≤◌, ◌||◌, ◌⊎◌, Bool, true, false, cond, nat_eq, if◌then◌else◌, List, [], ◌∷◌, ◌++◌, length, sum, Option, Some, refl, ap, sym, subst, ◌∙◌, inl, inr, arith, append-nil, length-append}
+use Rattle.std.specs.List.{AllByRecursion}
+use Rattle.std.specs.Option.{option_or}
+use Rattle.std.proofs.lemmas.List.Elements.{filter-append}
+use Rattle.std.proofs.lemmas.List.Folds.{list_any-append}
+use Rattle.std.proofs.lemmas.Bool.{eqb-true}
+use Rattle.iim_dataset.specs.Format.Datasets.{Dataset, of_record}
+use Rattle.iim_dataset.specs.declared.head.Head.{Head}
+use Rattle.iim_fields.specs.Format.Alive.{SectionsLive, SectionsLiveAt}
+use Rattle.iim_fields.specs.Format.Faults.{is_kept, joined, kept, last_record, section_after}
+use Rattle.iim_fields.specs.Format.Records.{AreSections}
+use Rattle.iim_tables.specs.Format.Records.{IsGoodRecord, occurs}
+use Rattle.iim_fields.specs.Format.Bounds.{IsWithin}
+use Rattle.iim_fields.specs.declared.limits.Limits.{Limits}
+use Rattle.iim_object.specs.Format.Numbers.{ending_of, place_after_datasets, place_ended}
+use Rattle.iim_object.specs.Format.Objects.{SubfileBegun}
+use Rattle.iim_object.specs.Format.Places as objects
+use Rattle.iim_object.specs.Format.Plans.{max_subfiles}
+use Rattle.iim_object.specs.Format.Records.{lengths_of, numbers_of}
+use Rattle.iim_object.specs.States.Saved.{IsPossible, stated_numbers}
+use Rattle.iim_object.specs.Format.Sizes.{Stated, number_at}
+use Rattle.iim_places.specs.Format.Framed.{AreWithin}
+use Rattle.iim_places.specs.Laws.Lower.{ObjectLaws, OpenLaws, SizeLaws}
+use Rattle.iim_places.specs.Format.Tokens.{place_at, ObjectLives, HaveRoom, CanContinue, CanContinueAt}
+use Rattle.iim_places.proofs.Bounds.{alive_five}
+use Rattle.iim_places.proofs.LayersLead.{each_small}
+use Rattle.iim_places.proofs.Plain.{numbers_join}
+use Rattle.iim_places.proofs.PlainContinues.{AreGood, MayReplace, all_good, back_ordered, count_join, fewer_by, five_both, five_back, good_with, join_ordered, ordered_sorted, rebuilt}
+use Rattle.iim_places.proofs.PlainOpens.{possible_of}
+use Rattle.iim_places.proofs.PlainPlaces.{IsOrdered, front_ordered, sections_ordered}
+use Rattle.iim_places.proofs.PlainSizes.{duties_of, possible_like}
+use Rattle.iim_places.proofs.SameRecords.{IsStated, SameNumbers, SameRecords, stated_at, stated_after_all}
+use Rattle.iim_places.proofs.Tickets.{count_of, sum_more}
+
+-- ---- what follows datasets to the sections of an envelope
+
+of_both : (r : ℕ) (xs ys : List Dataset) → of_record r (xs ++ ys) ≡ of_record r xs ++ of_record r ys
+of_both r xs ys = filter-append (λ (d : Dataset). nat_eq d.rec r) xs ys
+
+good_front : (r : ℕ) (xs ys : List Dataset) → AreGood r (xs ++ ys) → AreGood r xs
+good_front r [] ys all = tt
+good_front r (x ∷ xs) ys all = (all.0, good_front r xs ys all.1)
+
+-- a record of datasets that can continue may stand for that of others with the same numbers
+may_replace : (r : ℕ) (xs ys later : List Dataset) → ((n : ℕ) → occurs n xs ≡ occurs n ys) → IsGoodRecord r (ys ++ later) → MayReplace r xs ys
+may_replace r xs ys later seen good = record {
+  each = good_front r ys later good.each;
+  seen = seen;
+  fewer = λ n no'. fewer_by n xs ys (seen n) (let one = good.once n no' in let both = count_join n ys later in omega (arith, one, both));
+}
+
+replaced : (r : ℕ) (ds es later more : List Dataset) → SameRecords ds es → IsGoodRecord r (of_record r (es ++ later)) → IsGoodRecord r (of_record r (ds ++ more)) → IsGoodRecord r (of_record r (es ++ more))
+replaced r ds es later more same there here =
+    subst (IsGoodRecord r) (sym (of_both r es more))
+    (good_with r (of_record r ds) (of_record r es) (of_record r more) (may_replace r (of_record r ds) (of_record r es) (of_record r later) (same.seen r) (subst (IsGoodRecord r) (of_both r es later) there))
+    (subst (IsGoodRecord r) (of_both r ds more) here))
+
+pub follows_as : (ds es : List Dataset) → SectionsLive es → section_after ds ≡ section_after es → SameRecords ds es → (more : List Dataset) → AreSections (ds ++ more) → AreSections (es ++ more)
+follows_as ds es (later, alive) present same more sections =
+    let here = all_good (ds ++ more) sections in
+    let there = all_good (es ++ later) alive in
+    let order = subst (λ (r : ℕ). IsOrdered r more) present (back_ordered 0 ds more (sections_ordered (ds ++ more) sections)) in
+    let ordered = join_ordered 0 es more (front_ordered 0 es later (sections_ordered (es ++ later) alive)) order in
+    let fives = five_both es more (alive_five es (later, alive)) (five_back ds more (alive_five (ds ++ more) ([], subst AreSections (sym (append-nil (ds ++ more))) sections))) in
+    rebuilt (es ++ more) (ordered_sorted 0 (es ++ more) ordered fives) (record {
+      one = replaced 1 ds es later more same there.one here.one;
+      two = replaced 2 ds es later more same there.two here.two;
+      seven = replaced 7 ds es later more same there.seven here.seven;
+      eight = replaced 8 ds es later more same there.eight here.eight;
+      nine = replaced 9 ds es later more same there.nine here.nine;
+    })
+
+-- ---- datasets joined
+
+last_on : (r : ℕ) (xs ys : List Dataset) → last_record r (xs ++ ys) ≡ last_record (last_record r xs) ys
+last_on r [] ys = refl
+last_on r (x ∷ xs) ys = last_on x.rec xs ys
+
+kept_both : (xs ys : List Dataset) → kept (xs ++ ys) ≡ kept xs ++ kept ys
+kept_both xs ys = filter-append (λ (d : Dataset). is_kept d.rec) xs ys
+
+seen_both : (n r : ℕ) (xs ys : List Dataset) → occurs n (of_record r (xs ++ ys)) ≡ (occurs n (of_record r xs) || occurs n (of_record r ys))
+seen_both n r xs ys = ap (occurs n) (of_both r xs ys) ∙ list_any-append (λ (d : Dataset). nat_eq d.set n) (of_record r xs) (of_record r ys)
+
+at_both : (set : ℕ) (ps qs : List Stated) → number_at set (ps ++ qs) ≡ option_or (number_at set ps) (number_at set qs)
+at_both set [] qs = refl
+at_both set (p ∷ ps) qs = by (nat_eq p.set set) (at_both set ps qs)
+  where
+    by : (b : Bool) → number_at set (ps ++ qs) ≡ option_or (number_at set ps) (number_at set qs)
+        → cond b (Some p.number) (number_at set (ps ++ qs)) ≡ option_or (cond b (Some p.number) (number_at set ps)) (number_at set qs)
+    by true more = refl
+    by false more = more
+
+-- the numbers of record 7
+abbrev pub sevens : List Dataset → List Stated
+sevens ds = numbers_of (of_record 7 ds)
+
+sevens_both : (xs ys : List Dataset) → sevens (xs ++ ys) ≡ sevens xs ++ sevens ys
+sevens_both xs ys = ap numbers_of (of_both 7 xs ys) ∙ numbers_join (of_record 7 xs) (of_record 7 ys)
+
+pub numbers_on : (ps qs rs : List Stated) → SameNumbers ps qs → SameNumbers (ps ++ rs) (qs ++ rs)
+numbers_on ps qs rs same = record { mode = on 10 same.mode; largest = on 20 same.largest; announced = on 90 same.announced; maximum = on 95 same.maximum }
+  where
+    on : (set : ℕ) → number_at set ps ≡ number_at set qs → number_at set (ps ++ rs) ≡ number_at set (qs ++ rs)
+    on set e = at_both set ps rs ∙ ap (λ (o : Option ℕ). option_or o (number_at set rs)) e ∙ sym (at_both set qs rs)
+
+-- the lengths of the subfiles
+abbrev pub eights : List Dataset → List ℕ
+eights ds = lengths_of (of_record 8 ds)
+
+lengths_join : (xs ys : List Dataset) → lengths_of (xs ++ ys) ≡ lengths_of xs ++ lengths_of ys
+lengths_join [] ys = refl
+lengths_join (x ∷ xs) ys = ap (λ (ns : List ℕ). length x.octets ∷ ns) (lengths_join xs ys)
+
+eights_both : (xs ys : List Dataset) → eights (xs ++ ys) ≡ eights xs ++ eights ys
+eights_both xs ys = ap lengths_of (of_both 8 xs ys) ∙ lengths_join (of_record 8 xs) (of_record 8 ys)
+
+-- ---- no subfile is longer than 7:20
+
+-- 7:20 is stated, and no subfile is longer
+pub record HasLargest (ps : List Stated) (ls : List ℕ) : Type 0 where
+  pub size : ℕ
+  pub stated : number_at 20 ps ≡ Some size
+  pub each : AllByRecursion (λ n. n ≤ size) ls
+
+abbrev pub AreBounded : List Stated → List ℕ → Type 0
+AreBounded ps ls = ls ≡ [] ⊎ HasLargest ps ls
+
+pub bounded_at : SizeLaws → (p : objects.Place) → IsPossible p → AreBounded p.stated p.lengths
+bounded_at laws p is = by p.lengths refl
+  where
+    by : (ls : List ℕ) → p.lengths ≡ ls → AreBounded p.stated p.lengths
+    by [] none = inl none
+    by (l ∷ ls) some =
+        let many : 0 < length p.lengths = (let e = ap length some in omega (arith, e)) in
+        let d = duties_of p.stated is.stated (is.duties many) in
+        inr (record { size = d.size; stated = d.largest; each = each_small laws p is d.size d.largest many })
+
+small_back : (size : ℕ) (xs ys : List ℕ) → AllByRecursion (λ n. n ≤ size) (xs ++ ys) → AllByRecursion (λ n. n ≤ size) ys
+small_back size [] ys all = all
+small_back size (x ∷ xs) ys all = small_back size xs ys all.1
+
+small_both : (size : ℕ) (xs ys : List ℕ) → AllByRecursion (λ n. n ≤ size) xs → AllByRecursion (λ n. n ≤ size) ys → AllByRecursion (λ n. n ≤ size) (xs ++ ys)
+small_both size [] ys a b = b
+small_both size (x ∷ xs) ys a b = (a.0, small_both size xs ys a.1 b)
+
+empty_both : (xs ys : List ℕ) → xs ++ ys ≡ [] → (xs ≡ []) × (ys ≡ [])
+empty_both [] ys e = (refl, e)
+empty_both (x ∷ xs) ys e = absurd cc
+
+none_too : (ls ks : List ℕ) → length ls ≡ length ks → ls ≡ [] → ks ≡ []
+none_too ls [] many e = refl
+none_too ls (k ∷ ks) many e = absurd (let none = ap length e in omega (arith, none, many))
+
+some_is : {x y : ℕ} → Some x ≡ Some y → x ≡ y
+some_is e = cc
+
+-- Bounds of two joined lists, of which the second stands after another first.
+bounded_on : (ps qs rs : List Stated) (ls ks ms : List ℕ) → SameNumbers ps qs → length ls ≡ length ks → AreBounded qs ks → AreBounded (ps ++ rs) (ls ++ ms) → AreBounded (qs ++ rs) (ks ++ ms)
+bounded_on ps qs rs ls ks ms same many own (inl none) =
+    let (first, last) = empty_both ls ms none in
+    inl (ap (λ (ns : List ℕ). ns ++ ms) (none_too ls ks many first) ∙ last)
+bounded_on ps qs rs ls ks ms same many (inl none) (inr all) =
+    inr (record {
+      size = all.size;
+      stated = sym (numbers_on ps qs rs same).largest ∙ all.stated;
+      each = subst (λ (ns : List ℕ). AllByRecursion (λ n. n ≤ all.size) (ns ++ ms)) (sym none) (small_back all.size ls ms all.each);
+    })
+bounded_on ps qs rs ls ks ms same many (inr own) (inr all) =
+    let here : number_at 20 (qs ++ rs) ≡ Some own.size = at_both 20 qs rs ∙ ap (λ (o : Option ℕ). option_or o (number_at 20 rs)) own.stated in
+    let size : own.size ≡ all.size = some_is (sym here ∙ sym (numbers_on ps qs rs same).largest ∙ all.stated) in
+    inr (record {
+      size = own.size;
+      stated = here;
+      each = small_both own.size ks ms own.each (subst (λ (n : ℕ). AllByRecursion (λ m. m ≤ n) ms) (sym size) (small_back all.size ls ms all.each));
+    })
+
+-- ---- datasets that tell the same
+
+pub record Twins (ds es : List Dataset) : Type 0 where
+  pub fields : kept ds ≡ kept es
+  pub numbers : SameNumbers (sevens ds) (sevens es)
+  pub heads : length (eights ds) ≡ length (eights es)
+  pub octets : sum (eights ds) ≡ sum (eights es)
+  pub nines : of_record 9 ds ≡ of_record 9 es
+  pub seen : SameRecords ds es
+  pub bounded : AreBounded (sevens es) (eights es)
+
+-- the same, which may follow them
+pub record SameTail (xs ys : List Dataset) : Type 0 where
+  pub fields : kept xs ≡ kept ys
+  pub numbers : sevens xs ≡ sevens ys
+  pub lengths : eights xs ≡ eights ys
+  pub nines : of_record 9 xs ≡ of_record 9 ys
+  pub seen : SameRecords xs ys
+
+pub same_tail : (xs : List Dataset) → SameTail xs xs
+same_tail xs = record { fields = refl; numbers = refl; lengths = refl; nines = refl; seen = record { seen = λ r n. refl } }
+
+pub twins_on : (ds es xs ys : List Dataset) → Twins ds es → SameTail xs ys → AreBounded (sevens (ds ++ xs)) (eights (ds ++ xs)) → Twins (ds ++ xs) (es ++ ys)
+twins_on ds es xs ys twins tail bounded = record {
+  fields = kept_both ds xs ∙ (λ i. twins.fields i ++ tail.fields i) ∙ sym (kept_both es ys);
+  numbers = subst (SameNumbers (sevens (ds ++ xs))) (sym (sevens_both es ys)) (subst (λ (ps : List Stated). SameNumbers ps (sevens es ++ sevens ys)) (sym (sevens_both ds xs)) (subst (λ (rs : List Stated). SameNumbers (sevens ds ++ sevens xs) (sevens es ++ rs)) tail.numbers (numbers_on (sevens ds) (sevens es) (sevens xs) twins.numbers)));
+  heads = ap length (eights_both ds xs) ∙ length-append (eights ds) (eights xs) ∙ (λ i. twins.heads i + length (tail.lengths i)) ∙ sym (length-append (eights es) (eights ys)) ∙ sym (ap length (eights_both es ys));
+  octets = ap sum (eights_both ds xs) ∙ sum_more (eights ds) (eights xs) ∙ (λ i. twins.octets i + sum (tail.lengths i)) ∙ sym (sum_more (eights es) (eights ys)) ∙ sym (ap sum (eights_both es ys));
+  nines = of_both 9 ds xs ∙ (λ i. twins.nines i ++ tail.nines i) ∙ sym (of_both 9 es ys);
+  seen = record { seen = λ r n. seen_both n r ds xs ∙ (λ i. twins.seen.seen r n i || tail.seen.seen r n i) ∙ sym (seen_both n r es ys) };
+  bounded =
+      subst (λ (ps : List Stated). AreBounded ps (eights (es ++ ys))) (sym (sevens_both es ys)) (subst (AreBounded (sevens es ++ sevens ys)) (sym (eights_both es ys))
+      (subst (λ (ns : List ℕ). AreBounded (sevens es ++ sevens ys) (eights es ++ ns)) tail.lengths (subst (λ (rs : List Stated). AreBounded (sevens es ++ rs) (eights es ++ eights xs)) tail.numbers
+      (bounded_on (sevens ds) (sevens es) (sevens xs) (eights ds) (eights es) (eights xs) twins.numbers twins.heads twins.bounded
+      (subst (λ (ps : List Stated). AreBounded ps (eights ds ++ eights xs)) (sevens_both ds xs) (subst (AreBounded (sevens (ds ++ xs))) (eights_both ds xs) bounded))))));
+}
+
+pub present_on : (ds es xs : List Dataset) → section_after ds ≡ section_after es → section_after (ds ++ xs) ≡ section_after (es ++ xs)
+present_on ds es xs same = last_on 0 ds xs ∙ ap (λ (r : ℕ). last_record r xs) same ∙ sym (last_on 0 es xs)
+
+-- ---- the object, after them
+
+stated_as : (ps qs : List Stated) → SameNumbers ps qs → stated_numbers ps ≡ stated_numbers qs
+stated_as ps qs same = λ i. same.mode i ∷ same.largest i ∷ same.announced i ∷ same.maximum i ∷ []
+
+each_by : (ps : List Stated) (ls : List ℕ) → AreBounded ps ls → (size : ℕ) → number_at 20 ps ≡ Some size → AllByRecursion (λ n. n ≤ size) ls
+each_by ps ls (inl none) size is = subst (AllByRecursion (λ n. n ≤ size)) (sym none) tt
+each_by ps ls (inr all) size is = subst (λ (n : ℕ). AllByRecursion (λ m. m ≤ n) ls) (some_is (sym all.stated ∙ is)) all.each
+
+-- one place of the object for another
+pub place_as : SizeLaws → (p q : objects.Place) → IsStated p → length p.lengths ≤ max_subfiles → IsStated q → SameNumbers p.stated q.stated → length p.lengths ≡ length q.lengths → sum p.lengths ≡ sum q.lengths → AreBounded q.stated q.lengths
+    → p.ending ≡ q.ending → ObjectLives p → ObjectLives q
+place_as laws p q was few is same many total bounded ending lives =
+    (possible_like laws p q (possible_of p was few lives) is.stated (stated_as p.stated q.stated same) many total (each_by q.stated q.lengths bounded) ending).alive
+
+pub after_as : OpenLaws → (ds es : List Dataset) → SectionsLive ds → SectionsLive es → length (of_record 8 ds) ≤ max_subfiles → Twins ds es → ObjectLives (place_after_datasets ds) → ObjectLives (place_after_datasets es)
+after_as laws ds es alive there few twins lives =
+    let objects = laws.answer.follow.objects in
+    let count = count_of (of_record 8 ds) in
+    let count' = count_of (of_record 8 es) in
+    let heads = twins.heads in
+    place_as laws.sizes (place_after_datasets ds) (place_after_datasets es) (stated_after_all objects ds alive few) (omega (arith, count, few)) (stated_after_all objects es there (omega (arith, few, heads, count, count')))
+    twins.numbers twins.heads twins.octets twins.bounded (ap ending_of twins.nines) lives
+
+nil_bounded : (ps : List Stated) (ls : List ℕ) → AreBounded (ps ++ []) ls → AreBounded ps ls
+nil_bounded ps ls bounded = subst (λ (qs : List Stated). AreBounded qs ls) (append-nil ps) bounded
+
+one_more : (ls : List ℕ) (n most : ℕ) → length ls < most → length (ls ++ n ∷ []) ≤ most
+one_more ls n most less = let more = length-append ls (n ∷ []) in omega (arith, less, more)
+
+pub at_as : OpenLaws → (ds es : List Dataset) (h : Head) → SectionsLiveAt ds h → SectionsLiveAt es h → length (of_record 8 ds) ≤ max_subfiles → (h.rec ≡ 8 → length (of_record 8 ds) < max_subfiles) → Twins ds es
+    → ObjectLives (place_at ds h) → ObjectLives (place_at es h)
+at_as laws ds es h alive there few room twins =
+    by (nat_eq h.rec 8) (nat_eq h.rec 9) refl (stated_at layer ds h alive few room) (stated_at layer es h there (omega (arith, few, heads, count, count')) (λ eight. let less = room eight in omega (arith, less, heads, count, count')))
+  where
+    layer : ObjectLaws
+    layer = laws.answer.follow.objects
+
+    heads : length (eights ds) ≡ length (eights es)
+    heads = twins.heads
+
+    count : length (eights ds) ≡ length (of_record 8 ds)
+    count = count_of (of_record 8 ds)
+
+    count' : length (eights es) ≡ length (of_record 8 es)
+    count' = count_of (of_record 8 es)
+
+    at : Bool → Bool → List Dataset → objects.Place
+    at b c xs = if b then objects.place_after (place_after_datasets xs) (SubfileBegun h.count) else if c then place_ended xs else place_after_datasets xs
+
+    by : (b c : Bool) → nat_eq h.rec 8 ≡ b → IsStated (at b c ds) → IsStated (at b c es) → ObjectLives (at b c ds) → ObjectLives (at b c es)
+    by true c eight was is lives =
+        let p = objects.place_after (place_after_datasets ds) (SubfileBegun h.count) in
+        let q = objects.place_after (place_after_datasets es) (SubfileBegun h.count) in
+        let less = room (eqb-true h.rec 8 eight) in
+        let room' : length p.lengths ≤ max_subfiles = one_more (eights ds) h.count max_subfiles (omega (arith, less, count)) in
+        let here : AreBounded (sevens ds) (eights ds ++ h.count ∷ []) = bounded_at laws.sizes p (possible_of p was room' lives) in
+        let bounded : AreBounded (sevens es) (eights es ++ h.count ∷ []) =
+        nil_bounded (sevens es) (eights es ++ h.count ∷ []) (bounded_on (sevens ds) (sevens es) [] (eights ds) (eights es) (h.count ∷ []) twins.numbers twins.heads twins.bounded
+        (subst (λ (ps : List Stated). AreBounded ps (eights ds ++ h.count ∷ [])) (sym (append-nil (sevens ds))) here)) in
+        place_as laws.sizes p q was room' is twins.numbers
+        (length-append (eights ds) (h.count ∷ []) ∙ ap (λ (n : ℕ). n + 1) twins.heads ∙ sym (length-append (eights es) (h.count ∷ [])))
+        (sum_more (eights ds) (h.count ∷ []) ∙ ap (λ (n : ℕ). n + sum (h.count ∷ [])) twins.octets ∙ sym (sum_more (eights es) (h.count ∷ []))) bounded (ap ending_of twins.nines) lives
+    by false true eight was is lives = place_as laws.sizes (place_ended ds) (place_ended es) was (omega (arith, few, count)) is twins.numbers twins.heads twins.octets twins.bounded refl lives
+    by false false eight was is lives = place_as laws.sizes (place_after_datasets ds) (place_after_datasets es) was (omega (arith, few, count)) is twins.numbers twins.heads twins.octets twins.bounded (ap ending_of twins.nines) lives
+
+-- ---- every layer but the message
+
+few_as : (ds es : List Dataset) (most : ℕ) → Twins ds es → length (of_record 8 ds) ≤ most → length (of_record 8 es) ≤ most
+few_as ds es most twins few =
+    let count = count_of (of_record 8 ds) in
+    let count' = count_of (of_record 8 es) in
+    let heads = twins.heads in
+    omega (arith, few, heads, count, count')
+
+less_as : (ds es : List Dataset) (most : ℕ) → Twins ds es → length (of_record 8 ds) < most → length (of_record 8 es) < most
+less_as ds es most twins less =
+    let count = count_of (of_record 8 ds) in
+    let count' = count_of (of_record 8 es) in
+    let heads = twins.heads in
+    omega (arith, less, heads, count, count')
+
+within_as : (limits : Limits) (ds es : List Dataset) → Twins ds es → AreWithin limits ds → AreWithin limits es
+within_as limits ds es twins within = record {
+  kept = subst (λ (ks : List Dataset). IsWithin limits (length (joined ks)) (length ks)) twins.fields within.kept;
+  subfiles = few_as ds es max_subfiles twins within.subfiles;
+}
+
+pub room_as : (limits : Limits) (ds es : List Dataset) (h : Head) → Twins ds es → HaveRoom limits ds h → HaveRoom limits es h
+room_as limits ds es h twins room = record {
+  kept = λ is. subst (λ (ks : List Dataset). IsWithin limits (length (joined ks) + h.count) (length ks + 1)) twins.fields (room.kept is);
+  subfiles = λ eight. less_as ds es max_subfiles twins (room.subfiles eight);
+}
+
+pub goes_as : OpenLaws → (limits : Limits) (ds es : List Dataset) → SectionsLive es → Twins ds es → CanContinue limits ds → CanContinue limits es
+goes_as laws limits ds es there twins goes =
+    record { records = there; within = within_as limits ds es twins goes.within; object = after_as laws ds es goes.records there goes.within.subfiles twins goes.object }
+
+pub goes_at_as : OpenLaws → (limits : Limits) (ds es : List Dataset) (h : Head) → SectionsLiveAt es h → Twins ds es → CanContinueAt limits ds h → CanContinueAt limits es h
+goes_at_as laws limits ds es h there twins goes = record {
+  records = there;
+  within = within_as limits ds es twins goes.within;
+  room = room_as limits ds es h twins goes.room;
+  object = at_as laws ds es h goes.records there goes.within.subfiles goes.room.subfiles twins goes.object;
+}

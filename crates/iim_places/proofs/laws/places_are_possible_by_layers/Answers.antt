@@ -1,0 +1,6 @@
+use Rattle.iim_places.proofs.LeadsByLayers.{leads_by_layers}
+use Rattle.iim_places.proofs.LayersLead.{layers_lead}
+use Rattle.iim_places.proofs.laws.places_are_possible_by_layers.Goals as goal
+
+pub returns : goal.returns
+returns c place = (leads_by_layers c.by_layers_laws.ensures place, layers_lead c.by_layers_laws.ensures place)

@@ -1,0 +1,5 @@
+use Rattle.iim_places.proofs.Answering.{one_refusal}
+use Rattle.iim_places.proofs.laws.refusals_are_determined.Goals as goal
+
+pub returns : goal.returns
+returns c = one_refusal c.answer_laws.ensures

@@ -1,0 +1,11 @@
+pub mod Admitted
+pub mod Framed
+pub mod Refusals
+pub mod Conditions
+pub mod Names
+pub mod Tokens
+pub mod Listing
+pub mod Streams
+pub mod Open
+pub mod Tickets
+pub mod TicketForm

@@ -1,0 +1,101 @@
+-- How the faults of the layers are told.
+use Rattle.std.specs.Prelude.{◌≡◌, ℕ, List, [], ◌∷◌, get_or, Option}
+use Rattle.iim_dataset.specs.Format.Splits.{Begun, InTag, InData}
+use Rattle.iim_dataset.specs.declared.head.Head.{Head}
+use Rattle.iim_fields.specs.declared.fault.FieldFault.{FieldFault}
+use Rattle.iim_fields.specs.declared.fault.FieldCause.{FieldCause}
+use Rattle.iim_fields.specs.declared.fault.FieldCause.TheVariants as fields
+use Rattle.iim_object.specs.Format.Objects.{ObjectToken}
+use Rattle.iim_object.specs.States.Reading.{Refuses}
+use Rattle.iim_object.specs.declared.reading.state.State.{State}
+use Rattle.iim_object.specs.declared.reading.fault.SizeCause.{SizeCause}
+use Rattle.iim_object.specs.declared.reading.fault.SizeCause.TheVariants as sizes
+use Rattle.wire_message.specs.declared.fault.MessageCause.{MessageCause}
+use Rattle.wire_message.specs.declared.fault.MessageCause.TheVariants as messages
+use Rattle.iim_places.specs.declared.fault.TokenFault.{TokenFault}
+use Rattle.iim_places.specs.declared.refusal.Refusal.{Refusal}
+use Rattle.iim_places.specs.declared.refusal.Layer.{Layer}
+use Rattle.iim_places.specs.declared.refusal.Layer.TheVariants as layers
+use Rattle.iim_places.specs.declared.refusal.Cause.{Cause}
+use Rattle.iim_places.specs.declared.refusal.Cause.TheVariants as causes
+
+abbrev pub cause_of : FieldCause → Cause
+cause_of fields.RecordOrder = causes.RecordOrder
+cause_of fields.UnknownDataset = causes.UnknownDataset
+cause_of fields.Repeated = causes.Repeated
+cause_of fields.CountRange = causes.CountRange
+cause_of fields.Missing = causes.Missing
+cause_of fields.BadValue = causes.BadValue
+cause_of fields.FileFormat = causes.FileFormat
+cause_of fields.HeaderFull = causes.HeaderFull
+cause_of fields.TooManyFields = causes.TooManyFields
+
+-- the layer that refuses for it: the limits, or the record layer
+abbrev pub layer_of : FieldCause → Layer
+layer_of fields.HeaderFull = layers.Limits
+layer_of fields.TooManyFields = layers.Limits
+layer_of other = layers.Record
+
+abbrev pub cause_of_size : SizeCause → Cause
+cause_of_size sizes.ModeClash = causes.ModeClash
+cause_of_size sizes.SizeClash = causes.SizeClash
+cause_of_size sizes.SubfileTooLong = causes.SubfileTooLong
+cause_of_size sizes.PastSize = causes.PastSize
+cause_of_size sizes.Short = causes.Short
+cause_of_size sizes.ConfirmedWrong = causes.ConfirmedWrong
+
+-- a fault of the record layer or the limits
+abbrev pub of_field : FieldFault → TokenFault
+of_field f = record { layer = layer_of f.cause; rec = f.rec; set = f.set; cause = cause_of f.cause }
+
+-- a fault of the object layer, on the dataset of the head
+abbrev pub size_on : Head → SizeCause → TokenFault
+size_on h cause = record { layer = layers.Object; rec = h.rec; set = h.set; cause = cause_of_size cause }
+
+-- the head of a subfile too many
+abbrev pub too_many_on : Head → TokenFault
+too_many_on h = record { layer = layers.Limits; rec = h.rec; set = h.set; cause = causes.TooManySubfiles }
+
+-- the refusal for a fault, at this octet
+abbrev pub refusal_at : ℕ → TokenFault → Refusal
+refusal_at octet fault = record { layer = fault.layer; rec = fault.rec; set = fault.set; octet = octet; cause = fault.cause }
+
+-- the layer that refuses for a cause of the message
+abbrev pub layer_of_message : MessageCause → Layer
+layer_of_message messages.LoneReturn = layers.Story
+layer_of_message messages.ControlOctet = layers.Story
+layer_of_message messages.Sink = layers.Outside
+layer_of_message other = layers.Message
+
+abbrev pub cause_of_message : MessageCause → Cause
+cause_of_message messages.BadOctet = causes.BadOctet
+cause_of_message messages.Unfinished = causes.Unfinished
+cause_of_message messages.LoneReturn = causes.LoneReturn
+cause_of_message messages.ControlOctet = causes.ControlOctet
+cause_of_message messages.Sink = causes.Sink
+
+-- a fault of the message, the story or the sink, on the dataset of the head
+abbrev pub message_on : Head → MessageCause → TokenFault
+message_on h cause = record { layer = layer_of_message cause; rec = h.rec; set = h.set; cause = cause_of_message cause }
+
+-- ---- begun datasets
+
+-- the numbers of the begun dataset: of a begun tag its second and third octets, each 0 while it isn't read
+abbrev pub begun_record : Begun → ℕ
+begun_record (InTag held) = get_or held 1 0
+begun_record (InData h taken) = h.rec
+
+abbrev pub begun_number : Begun → ℕ
+begun_number (InTag held) = get_or held 2 0
+begun_number (InData h taken) = h.set
+
+-- A tag's first octet has to be the marker; what can be wrong after it is the count.
+abbrev pub tag_cause : List ℕ → Cause
+tag_cause [] = causes.Marker
+tag_cause (x ∷ xs) = causes.CountForm
+
+-- ---- the object
+
+-- The object refused the token: the layer dies with it wherever the reader stands, and the fault tells the first cause.
+abbrev pub IsObjectFault : Option State → ObjectToken → Head → TokenFault → Type 0
+IsObjectFault old token h fault = (cause : SizeCause) × Refuses old token cause × (fault ≡ size_on h cause)

@@ -1,0 +1,160 @@
+-- The place that octets lead to, and its ticket.
+use Rattle.std.specs.Prelude.{◌≡◌, ℕ, ◌+◌, ◌-◌, ◌==◌, if◌then◌else◌, List, [], ◌∷◌, ◌++◌, length, codes, Option, Some, None}
+use Rattle.std.specs.List.{flat_map}
+use Rattle.std.specs.Int.{w32, w64, to_be_bytes}
+use Rattle.iim_dataset.specs.Format.Datasets.{Dataset, of_record, count_octets}
+use Rattle.iim_dataset.specs.Format.Splits.{Begun, InTag, InData, Reads}
+use Rattle.iim_fields.specs.Format.Faults.{kept, section_after}
+use Rattle.iim_object.specs.Format.Records.{numbers_of}
+use Rattle.iim_object.specs.States.Saved.{stated_numbers}
+use Rattle.wire_message.specs.States.Saved.{LeadsToSaved}
+use Rattle.wire_message.specs.declared.saved.MessagePart.{MessagePart}
+use Rattle.wire_message.specs.declared.saved.MessagePart.TheVariants as part
+use Rattle.wire_message.specs.declared.saved.MessagePlace.{MessagePlace}
+use Rattle.iim_places.specs.Format.Open.{object_so_far, section}
+
+-- ---- places
+
+-- What is begun: some octets of a tag, none of them between datasets; or data, of which the dataset's number, the count, how many
+-- octets are to come, and those that have come are kept (of a subfile none of these); or nothing, since the last dataset has ended.
+pub data Phase : Type 0 where
+  TagBegun : List ℕ → Phase
+  DataBegun : (set count left : ℕ) → List ℕ → Phase
+  AllEnded : Phase
+
+-- The record of the last head; what is begun; the datasets of records 1 and 2; the numbers of 7:10, 7:20, 7:90 and 7:95; how many
+-- octets of the object, and how many heads of 8:10, have come; and the place of the message.
+pub record Place : Type 0 where
+  pub section : ℕ
+  pub phase : Phase
+  pub fields : List Dataset
+  pub numbers : List (Option ℕ)
+  pub taken : ℕ
+  pub heads : ℕ
+  pub message : MessagePlace
+
+abbrev pub phase_of : List Dataset → Begun → Phase
+phase_of ds (InTag held) = if section_after ds == 9 then AllEnded else TagBegun held
+phase_of ds (InData h taken) = DataBegun h.set h.count (h.count - length taken) (if h.rec == 8 then [] else taken)
+
+-- the heads of 8:10, that of a begun subfile among them
+abbrev pub heads_of : List Dataset → Begun → ℕ
+heads_of ds (InTag held) = length (of_record 8 ds)
+heads_of ds (InData h taken) = length (of_record 8 ds) + (if h.rec == 8 then 1 else 0)
+
+-- the place of whole datasets and a begun one, whose object has led the message there
+abbrev pub place_of : List Dataset → Begun → MessagePlace → Place
+place_of whole begun message = record {
+  section = section whole begun;
+  phase = phase_of whole begun;
+  fields = kept whole;
+  numbers = stated_numbers (numbers_of (of_record 7 whole));
+  taken = length (object_so_far whole begun);
+  heads = heads_of whole begun;
+  message = message;
+}
+
+-- The octets so far have led to this place.
+pub record IsPlaceOf (octets : List ℕ) (place : Place) : Type 0 where
+  pub whole : List Dataset
+  pub begun : Begun
+  pub reads : Reads count_octets octets whole begun
+  pub text : List ℕ
+  pub message : MessagePlace
+  pub leads : LeadsToSaved (object_so_far whole begun) text message
+  pub is_place : place ≡ place_of whole begun message
+
+-- ---- the octets of a place
+
+-- A version of tickets: its number, and how many octets a count, a size or a number of octets of the object has in its tickets.
+pub record TicketVersion : Type 0 where
+  pub number : ℕ
+  pub width : ℕ
+
+abbrev pub first_version : TicketVersion
+first_version = record { number = 1; width = 4 }
+
+abbrev pub second_version : TicketVersion
+second_version = record { number = 2; width = 8 }
+
+-- the version of the tickets that are made
+abbrev pub present_version : ℕ
+present_version = second_version.number
+
+-- the width of a version
+abbrev pub width : ℕ → ℕ
+width version = if version == first_version.number then first_version.width else second_version.width
+
+-- a number in four octets, high octet first
+abbrev pub four : ℕ → List ℕ
+four n = to_be_bytes w32 n
+
+-- a number in as many octets as the version has
+abbrev pub wide : ℕ → ℕ → List ℕ
+wide version n = if version == first_version.number then four n else to_be_bytes w64 n
+
+abbrev pub phase_octets : ℕ → Phase → List ℕ
+phase_octets version (TagBegun held) = 0 ∷ length held ∷ held
+phase_octets version (DataBegun set count left taken) = 1 ∷ set ∷ (wide version count ++ (wide version left ++ taken))
+phase_octets version AllEnded = 2 ∷ []
+
+abbrev pub field_octets : Dataset → List ℕ
+field_octets d = (d.rec ∷ d.set ∷ []) ++ four (length d.octets) ++ d.octets
+
+abbrev pub fields_octets : List Dataset → List ℕ
+fields_octets ds = four (length ds) ++ flat_map field_octets ds
+
+abbrev pub number_octets : ℕ → Option ℕ → List ℕ
+number_octets version None = 0 ∷ []
+number_octets version (Some n) = 1 ∷ wide version n
+
+abbrev pub text_octets : List ℕ → List ℕ
+text_octets xs = length xs ∷ xs
+
+-- the parts of a message are told by their number
+abbrev pub part_number : MessagePart → ℕ
+part_number part.Filler = 0
+part_number part.Source = 1
+part_number part.Number = 2
+part_number part.Priority = 3
+part_number part.PriorityRead = 4
+part_number part.Category = 5
+part_number part.Words = 6
+part_number part.Info = 7
+part_number part.Gap = 8
+part_number part.Text = 9
+part_number part.Trailer = 10
+part_number part.AfterEnd = 11
+
+-- the texts of the header so far, in its order, and the trailer so far
+abbrev pub texts_octets : MessagePlace → List ℕ
+texts_octets m =
+    text_octets m.source.items ++ text_octets m.number.items ++ text_octets m.priority.items ++ text_octets m.category.items
+    ++ text_octets m.words.items ++ text_octets m.info.items ++ text_octets m.trailer.items
+
+abbrev pub message_octets : MessagePlace → List ℕ
+message_octets m = (part_number m.part ∷ m.counter ∷ m.flag ∷ []) ++ texts_octets m
+
+-- what each ticket begins with: a name, and the version
+abbrev pub ticket_name : ℕ → List ℕ
+ticket_name version = codes "IIMT" ++ version ∷ []
+
+-- the order of what follows: the section, what is begun, the datasets, the numbers of record 7, the octets and heads of the object,
+-- and the octets of the message
+abbrev pub layout : ℕ → ℕ → Phase → List Dataset → List (Option ℕ) → ℕ → ℕ → List ℕ → List ℕ
+layout version section phase fields numbers taken heads message =
+    ticket_name version ++ (section ∷ []) ++ phase_octets version phase ++ fields_octets fields ++ flat_map (number_octets version) numbers
+    ++ wide version taken ++ four heads ++ message
+
+-- the ticket of the place, in a version
+abbrev pub ticket_in : ℕ → Place → List ℕ
+ticket_in version p = layout version p.section p.phase p.fields p.numbers p.taken p.heads (message_octets p.message)
+
+abbrev pub ticket_of : Place → List ℕ
+ticket_of p = ticket_in present_version p
+
+-- The octets of the ticket are those of the place that the octets so far have led to.
+pub record IsTicketOf (octets ticket : List ℕ) : Type 0 where
+  pub place : Place
+  pub is_place : IsPlaceOf octets place
+  pub spelled : ticket ≡ ticket_of place

@@ -1,0 +1,7 @@
+pub mod Conditions
+pub mod Listing
+pub mod Streams
+pub mod Places
+pub mod Admitted
+pub mod Tickets
+pub mod Lower

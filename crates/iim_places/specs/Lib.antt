@@ -1,0 +1,13 @@
+-- What octets are, and what is said of them.
+pub mod Format
+-- Where readers and writers stand.
+pub mod States
+-- What holds of these: statements, each the contract of a law.
+pub mod Laws
+-- What only proofs and private clauses cite.
+pub mod Shortfalls
+pub mod TicketFields
+pub mod FieldLaws
+pub mod TicketParts
+pub mod Plain
+pub mod Taking

@@ -1,0 +1,151 @@
+-- The plain datasets of a place: those that tell it, and no others.
+use Rattle.std.specs.Prelude.{◌≡◌, ℕ, zero, suc, ◌+◌, ◌*◌, ◌≤◌, ◌==◌, if◌then◌else◌, Bool, true, List, [], ◌∷◌, ◌++◌, length, sum, take, drop, Option, Some, None, IfSome}
+use Rattle.std.specs.List.{AllByRecursion}
+use Rattle.std.specs.Option.{unwrap_or}
+use Rattle.iim_dataset.specs.Format.Octets.{IsOctet, Octets, greatest_size}
+use Rattle.iim_dataset.specs.Format.Datasets.{Dataset, canonical_stream, count_octets, of_record}
+use Rattle.iim_dataset.specs.Format.Splits.{Begun, InTag, InData, IsBegun}
+use Rattle.iim_dataset.specs.Laws.Datasets.{HasSpellings}
+use Rattle.iim_fields.specs.Format.Faults.{is_kept, kept, section_after}
+use Rattle.iim_fields.specs.Format.Records.{AreSections}
+use Rattle.iim_object.specs.Format.Plans.{max_subfiles}
+use Rattle.iim_object.specs.Format.Records.{numbers_of}
+use Rattle.iim_object.specs.Format.Places as objects
+use Rattle.iim_object.specs.States.Saved.{IsPossible, stated_numbers}
+use Rattle.iim_object.specs.Format.Sizes.{AreStated, number_at}
+use Rattle.iim_places.specs.Format.Admitted.{object_of}
+use Rattle.iim_object.specs.Format.Packing.{number_dataset, subfile_datasets, confirmed_datasets}
+use Rattle.wire_message.specs.States.Saved.{LeadsToSaved}
+use Rattle.wire_message.specs.declared.saved.MessagePlace.{MessagePlace}
+use Rattle.iim_places.specs.States.Begins.{IsSize}
+use Rattle.iim_places.specs.Format.Open.{section}
+use Rattle.iim_places.specs.States.Possible.{Possible, AreOpenOrWhole, widest}
+use Rattle.iim_places.specs.Format.Tickets.{Place, phase_of, IsPlaceOf}
+
+-- what a ticket tells of record 7: the numbers of 7:10, 7:20, 7:90 and 7:95
+pub record Numbers : Type 0 where
+  pub mode : Option ℕ
+  pub largest : Option ℕ
+  pub announced : Option ℕ
+  pub maximum : Option ℕ
+
+abbrev pub number_list : Numbers → List (Option ℕ)
+number_list n = n.mode ∷ n.largest ∷ n.announced ∷ n.maximum ∷ []
+
+-- Size Mode, in one octet
+abbrev pub mode_dataset : ℕ → Dataset
+mode_dataset n = record { rec = 7; set = 10; octets = n ∷ [] }
+
+-- a dataset where there is a number
+abbrev pub one_dataset : (ℕ → Dataset) → Option ℕ → List Dataset
+one_dataset made None = []
+one_dataset made (Some n) = made n ∷ []
+
+-- record 7: its numbers in their order
+abbrev pub plain_numbers : Numbers → List Dataset
+plain_numbers n =
+    one_dataset mode_dataset n.mode ++ (one_dataset (number_dataset 7 20) n.largest ++ (one_dataset (number_dataset 7 90) n.announced ++ one_dataset (number_dataset 7 95) n.maximum))
+
+-- the octets cut into `count` parts of at most `size` octets, each filled before the next
+abbrev pub filled : (size count : ℕ) → List ℕ → List (List ℕ)
+filled size zero xs = []
+filled size (suc count) xs = take size xs ∷ filled size count (drop size xs)
+
+-- 9:10, where the object has ended
+abbrev pub plain_end : Bool → List ℕ → List Dataset
+plain_end ended object = if ended then confirmed_datasets object else []
+
+-- records 1 and 2, the numbers of record 7, `heads` subfiles of the object, each filled before the next, and its end where it has
+-- come
+abbrev pub plain : List Dataset → Numbers → ℕ → List ℕ → Bool → List Dataset
+plain fields numbers heads object ended = fields ++ (plain_numbers numbers ++ (subfile_datasets (filled (unwrap_or numbers.largest 0) heads object) ++ plain_end ended object))
+
+-- ---- their place
+
+-- The plain datasets can be spelled: the fields are datasets of records 1 and 2, each number fits its octets, and the subfiles have
+-- room for the object.
+pub record AreSpellable (fields : List Dataset) (numbers : Numbers) (heads : ℕ) (object : List ℕ) : Type 0 where
+  pub kept : AllByRecursion (λ d. is_kept d.rec ≡ true) fields
+  pub spelled : AllByRecursion HasSpellings fields
+  pub mode : IfSome numbers.mode IsOctet
+  pub fit : AllByRecursion IsSize (number_list numbers)
+  pub octets : Octets object
+  pub few : length object ≤ greatest_size
+  pub room : length object ≤ heads * unwrap_or numbers.largest 0
+
+-- the octets of the object in a begun subfile
+abbrev pub begun_object : Begun → List ℕ
+begun_object (InTag held) = []
+begun_object (InData h taken) = if h.rec == 8 then taken else []
+
+-- a begun subfile has a head too
+abbrev pub begun_heads : Begun → ℕ
+begun_heads (InTag held) = 0
+begun_heads (InData h taken) = if h.rec == 8 then 1 else 0
+
+-- the place of plain datasets and a begun one
+abbrev pub plain_place : List Dataset → Numbers → ℕ → List ℕ → Bool → Begun → MessagePlace → Place
+plain_place fields numbers heads object ended begun message = record {
+  section = section (plain fields numbers heads object ended) begun;
+  phase = phase_of (plain fields numbers heads object ended) begun;
+  fields = fields;
+  numbers = number_list numbers;
+  taken = length (object ++ begun_object begun);
+  heads = heads + begun_heads begun;
+  message = message;
+}
+
+-- The plain datasets, spelled canonically, and what is begun after them lead to the place that they tell.
+abbrev pub PlainOctetsLeadToTheirPlace : Type 0
+PlainOctetsLeadToTheirPlace = (fields : List Dataset) (numbers : Numbers) (heads : ℕ) (object : List ℕ) (ended : Bool) (begun : Begun) (rest text : List ℕ) (message : MessagePlace)
+    → AreSpellable fields numbers heads object → IsBegun count_octets begun rest → LeadsToSaved (object ++ begun_object begun) text message
+    → IsPlaceOf (canonical_stream (plain fields numbers heads object ended) ++ rest) (plain_place fields numbers heads object ended begun message)
+
+-- The place is led to by plain octets.
+pub record IsPlain (place : Place) : Type 0 where
+  pub numbers : Numbers
+  pub heads : ℕ
+  pub object : List ℕ
+  pub ended : Bool
+  pub begun : Begun
+  pub rest : List ℕ
+  pub text : List ℕ
+  pub message : MessagePlace
+  pub spellable : AreSpellable place.fields numbers heads object
+  pub is_begun : IsBegun count_octets begun rest
+  pub leads : LeadsToSaved (object ++ begun_object begun) text message
+  pub is_place : place ≡ plain_place place.fields numbers heads object ended begun message
+
+-- Each possible place is led to by plain octets.
+abbrev pub PossiblePlacesArePlain : Type 0
+PossiblePlacesArePlain = (place : Place) → Possible place → IsPlain place
+
+-- its plain octets
+abbrev pub plain_octets : (place : Place) → IsPlain place → List ℕ
+plain_octets place p = canonical_stream (plain place.fields p.numbers p.heads p.object p.ended) ++ p.rest
+
+-- Each possible place is led to by plain octets that are open, or an envelope, under the widest limits.
+abbrev pub PlainOctetsAreOpenOrWhole : Type 0
+PlainOctetsAreOpenOrWhole = (place : Place) → Possible place → (p : IsPlain place) × AreOpenOrWhole widest (plain_octets place p)
+
+-- the plain datasets of datasets
+abbrev pub plain_of : List Dataset → List Dataset
+plain_of ds =
+    plain (kept ds)
+    (record {
+      mode = number_at 10 (numbers_of (of_record 7 ds));
+      largest = number_at 20 (numbers_of (of_record 7 ds));
+      announced = number_at 90 (numbers_of (of_record 7 ds));
+      maximum = number_at 95 (numbers_of (of_record 7 ds));
+    })
+    (length (of_record 8 ds)) (object_of ds) (section_after ds == 9)
+
+-- What follows datasets to the sections of an envelope follows their plain ones to such too.
+abbrev pub PlainDatasetsContinueAlike : Type 0
+PlainDatasetsContinueAlike = (ds more : List Dataset) → AreSections (ds ++ more) → length (of_record 8 ds) ≤ max_subfiles → length (object_of ds) ≤ greatest_size → AreSections (plain_of ds ++ more)
+
+-- Places of an object whose numbers, whose ends and whose subfiles in number and in octets are the same are possible alike, where no
+-- subfile is longer than 7:20.
+abbrev pub ObjectsArePossibleAlike : Type 0
+ObjectsArePossibleAlike = (p q : objects.Place) → IsPossible p → AreStated q.stated → stated_numbers p.stated ≡ stated_numbers q.stated → length p.lengths ≡ length q.lengths → sum p.lengths ≡ sum q.lengths
+    → ((size : ℕ) → number_at 20 q.stated ≡ Some size → AllByRecursion (λ n. n ≤ size) q.lengths) → p.ending ≡ q.ending → IsPossible q

@@ -1,0 +1,7 @@
+pub mod Possible
+pub mod Scales
+pub mod TicketsTold
+pub mod Restored
+pub mod Begins
+pub mod ByLayers
+pub mod Counts

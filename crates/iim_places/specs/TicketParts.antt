@@ -1,0 +1,43 @@
+-- The parts of a ticket, one by one.
+use Rattle.std.specs.Prelude.{◌≡◌, ℕ, ◌+◌, ◌<◌, List, ◌∷◌, ◌++◌, length, codes}
+use Rattle.std.specs.List.{flat_map}
+use Rattle.iim_places.specs.Format.Tickets.{DataBegun, four, wide, width, phase_octets, fields_octets, number_octets, text_octets}
+use Rattle.iim_places.specs.States.Begins.{AreTexts}
+use Rattle.iim_places.specs.declared.ticket.fault.TicketFault.{TicketFault}
+use Rattle.iim_places.specs.declared.ticket.fault.TicketFault.TheVariants.{Form, Version}
+use Rattle.iim_places.specs.Format.TicketForm.{Split, IsPhase, HasForm, HasOtherVersion}
+
+-- ---- part by part
+
+-- the octets of the message
+abbrev pub message_parts : (part counter flag : ℕ) → List (List ℕ) → List ℕ
+message_parts part counter flag texts = part ∷ counter ∷ flag ∷ flat_map text_octets texts
+
+-- the octets after the name and the version
+abbrev pub body_octets : Split → List ℕ
+body_octets s =
+    s.section ∷ (phase_octets s.version s.phase ++ (fields_octets s.fields ++ (flat_map (number_octets s.version) s.numbers
+    ++ (wide s.version s.taken ++ (four s.heads ++ message_parts s.part s.counter s.flag s.texts)))))
+
+-- None of these octets are a message's.
+abbrev pub AreNoMessage : List ℕ → Type 0
+AreNoMessage octets = (part counter flag : ℕ) (texts : List (List ℕ)) → AreTexts texts → octets ≡ message_parts part counter flag texts → ⊥
+
+-- None of these octets follow a name and this version.
+abbrev pub AreNoBody : ℕ → List ℕ → Type 0
+AreNoBody version octets = (s : Split) → s.version ≡ version → HasForm s → octets ≡ body_octets s → ⊥
+
+-- No begun data stand first in these octets.
+abbrev pub BeginsWithNoData : ℕ → ℕ → List ℕ → Type 0
+BeginsWithNoData version section octets = (set count left : ℕ) (taken rest : List ℕ) → IsPhase version section (DataBegun set count left taken)
+    → 1 ∷ octets ≡ phase_octets version (DataBegun set count left taken) ++ rest → ⊥
+
+-- octets of a tag that are held
+abbrev pub IsHeld : ℕ → List ℕ → Type 0
+IsHeld version held = length held < 5 + width version
+
+-- Why what follows a name has no version that is taken.
+abbrev pub IsNameFault : List ℕ → TicketFault → Type 0
+IsNameFault ticket Version = HasOtherVersion ticket
+IsNameFault ticket Form = (version : ℕ) (rest : List ℕ) → ticket ≡ codes "IIMT" ++ version ∷ rest → ⊥
+IsNameFault ticket _ = ⊥

@@ -1,0 +1,19 @@
+//! Where octets of an envelope lead: what is open, admitted or refused, places, and their tickets.
+//!
+//! Stands on the layers `iim_dataset`, `iim_fields`, `iim_object`, `wire_message` and `wire_story`, and knows no unpacker. What octets
+//! are is said here ([`laws::streams_have_one_answer`]), how the fault of each layer is told ([`Refusal`]), that octets lead to one
+//! place ([`laws::octets_have_one_place`]) from which they continue alike ([`laws::places_continue_alike`]), and what the octets of a
+//! ticket tell ([`split_ticket`]). Its lemmas may be cited by the crates above.
+#![tactic(auto)]
+
+mod fault;
+pub mod form;
+pub mod laws;
+mod refusal;
+mod ticket;
+
+pub use fault::{TokenFault, message_on, of_field, size_on, too_many_on};
+pub use refusal::{Cause, Layer, Refusal};
+pub use ticket::fault::TicketFault;
+pub use ticket::fields::TicketFields;
+pub use ticket::split::{TicketParts, TicketPhase, split_ticket};

@@ -1,0 +1,64 @@
+//! A walk over the datasets of a ticket.
+
+ghost use Rattle.std.specs.Prelude.{◌≡◌};
+ghost use Rattle.std.specs.List.{AllByRecursion, flat_map};
+ghost use Rattle.iim_places.specs.Format.Tickets.{field_octets};
+ghost use Rattle.iim_places.specs.States.Begins.{IsLongField};
+ghost use Rattle.iim_places.specs.TicketFields.{HoldsFields};
+ghost use Rattle.iim_places.specs.FieldLaws.{held_once};
+
+use crate::ticket::front::take_field;
+use std::marker::Model;
+
+/// The datasets of records 1 and 2 that stand in a ticket, in order: record, number and data of each. Contracts see it as the list
+/// of those that are left.
+#[derive(Drop)]
+pub struct TicketFields<'a> {
+    /// Those that are left, as they stand in the ticket.
+    pub(crate) octets: &'a [u8],
+    ghost holds: { HoldsFields octets.now } by { held_once octets.now },
+}
+
+impl<'a> Model for TicketFields<'a> {
+    ghost use Rattle.std.specs.Prelude.{List};
+    ghost use Rattle.iim_dataset.specs.Format.Datasets.{Dataset};
+
+    ghost Value = { List Dataset };
+
+    ghost view = { λ fields. fields.holds.0 };
+}
+
+/// A walk over all datasets that octets hold.
+pub(crate) fn walk_over(octets: &[u8]) -> TicketFields<'_>
+    requires { HoldsFields octets.now }
+    ensures each { AllByRecursion IsLongField result }
+    ensures spelled { octets.now ≡ flat_map field_octets result }
+{
+    TicketFields { octets }
+}
+
+impl<'a> TicketFields<'a> {
+    /// Another walk over those that are left.
+    pub fn again(&self) -> TicketFields<'a>
+        ensures { result ≡ self.now }
+    {
+        walk_over(self.octets)
+    }
+}
+
+impl<'a> Iterator for TicketFields<'a> {
+    ghost use Rattle.std.specs.Iterator.{YieldsFirstBy, item_count};
+    ghost use Rattle.iim_places.specs.States.Begins.{those_left};
+
+    type Item = (u8, u8, &'a [u8]);
+
+    ghost next_gives = { YieldsFirstBy (λ t. record { rec = t.0; set = t.1; octets = t.2.now }) those_left };
+
+    ghost remaining = { item_count those_left };
+
+    fn next(&mut self) -> Option<(u8, u8, &'a [u8])> {
+        let (field, octets) = take_field(self.octets)?;
+        *self = walk_over(octets);
+        Some(field)
+    }
+}

@@ -1,0 +1,121 @@
+//! What octets begin with: a number, a text, a dataset.
+
+ghost use Rattle.std.specs.Prelude.{◌≡◌, ◌^◌, ◌<◌, ◌++◌, ◌∷◌, [], length, IfSome, IfNone};
+ghost use Rattle.iim_places.specs.Format.Tickets.{four, wide, field_octets, number_octets, text_octets};
+ghost use Rattle.iim_places.specs.States.Begins.{IsLongField, IsSizeIn, IsShort, IsWide, dataset};
+ghost use Rattle.std.specs.Int.{w64, to_be_bytes};
+ghost use Rattle.iim_places.specs.Shortfalls.{BeginsWithNone, IsFour};
+
+use crate::form::FIRST_VERSION;
+
+/// The first `count` octets, and those that follow.
+pub(crate) fn take_front(octets: &[u8], count: u64) -> Option<(&[u8], &[u8])>
+    ensures parts { IfSome result (λ r. octets.now ≡ r.0.now ++ r.1.now) }
+    ensures len { IfSome result (λ r. length r.0.now ≡ count) }
+    ensures none { IfNone result (length octets.now < count) }
+{
+    if (octets.len() as u64) < count {
+        return None;
+    }
+    Some(octets.split_at(count as usize))
+}
+
+/// An octet, and those that follow.
+pub(crate) fn take_octet(octets: &[u8]) -> Option<(u8, &[u8])>
+    ensures parts { IfSome result (λ r. octets.now ≡ r.0 ∷ r.1.now) }
+    ensures none { IfNone result (octets.now ≡ []) }
+{
+    let (octet, rest) = octets.split_first()?;
+    Some((*octet, rest))
+}
+
+/// The number that four octets tell, high octet first.
+fn number_of(octets: &[u8]) -> u64
+    requires { length octets.now ≡ 4 }
+    ensures is { four result ≡ octets.now }
+    ensures fits { result < 2 ^ 32 }
+{
+    let number = u32::from_be_bytes([octets[0], octets[1], octets[2], octets[3]]);
+    u64::from(number)
+}
+
+/// A number in four octets, high octet first, and what follows it.
+pub(crate) fn take_number(octets: &[u8]) -> Option<(u64, &[u8])>
+    ensures parts { IfSome result (λ r. octets.now ≡ four r.0 ++ r.1.now) }
+    ensures fits { IfSome result (λ r. r.0 < 2 ^ 32) }
+    ensures none { IfNone result (BeginsWithNone IsFour four octets.now) }
+{
+    let (number, rest) = take_front(octets, 4)?;
+    Some((number_of(number), rest))
+}
+
+/// The number that eight octets tell, high octet first.
+fn wide_number_of(octets: &[u8]) -> u64
+    requires { length octets.now ≡ 8 }
+    ensures is { to_be_bytes w64 result ≡ octets.now }
+{
+    u64::from_be_bytes([
+        octets[0], octets[1], octets[2], octets[3], octets[4], octets[5], octets[6], octets[7],
+    ])
+}
+
+/// A number in eight octets, high octet first, and what follows it.
+fn take_eight(octets: &[u8]) -> Option<(u64, &[u8])>
+    ensures parts { IfSome result (λ r. octets.now ≡ to_be_bytes w64 r.0 ++ r.1.now) }
+    ensures none { IfNone result (length octets.now < 8) }
+{
+    let (number, rest) = take_front(octets, 8)?;
+    Some((wide_number_of(number), rest))
+}
+
+/// A number in as many octets as the version has, high octet first, and what follows it.
+pub(crate) fn take_wide(version: u8, octets: &[u8]) -> Option<(u64, &[u8])>
+    ensures parts { IfSome result (λ r. octets.now ≡ wide version r.0 ++ r.1.now) }
+    ensures fits { IfSome result (λ r. IsWide version r.0) }
+    ensures none { IfNone result (BeginsWithNone (IsWide version) (wide version) octets.now) }
+{
+    if version == FIRST_VERSION {
+        return take_number(octets);
+    }
+    take_eight(octets)
+}
+
+/// A text after its length in one octet, and what follows it.
+pub(crate) fn take_text(octets: &[u8]) -> Option<(&[u8], &[u8])>
+    ensures parts { IfSome result (λ r. octets.now ≡ text_octets r.0.now ++ r.1.now) }
+    ensures fits { IfSome result (λ r. IsShort r.0.now) }
+    ensures none { IfNone result (BeginsWithNone IsShort text_octets octets.now) }
+{
+    let (length, rest) = take_octet(octets)?;
+    take_front(rest, u64::from(length))
+}
+
+/// A number that may be absent, and what follows it.
+pub(crate) fn take_option(version: u8, octets: &[u8]) -> Option<(Option<u64>, &[u8])>
+    ensures parts { IfSome result (λ r. octets.now ≡ number_octets version r.0 ++ r.1.now) }
+    ensures fits { IfSome result (λ r. IsSizeIn version r.0) }
+    ensures none { IfNone result (BeginsWithNone (IsSizeIn version) (number_octets version) octets.now) }
+{
+    let (mark, rest) = take_octet(octets)?;
+    match mark {
+        0 => Some((None, rest)),
+        1 => {
+            let (number, rest) = take_wide(version, rest)?;
+            Some((Some(number), rest))
+        }
+        _ => None,
+    }
+}
+
+/// A dataset, and what follows it.
+pub(crate) fn take_field(octets: &[u8]) -> Option<((u8, u8, &[u8]), &[u8])>
+    ensures parts { IfSome result (λ r. octets.now ≡ field_octets (dataset r.0.0 r.0.1 r.0.2.now) ++ r.1.now) }
+    ensures fits { IfSome result (λ r. length r.0.2.now < 2 ^ 32) }
+    ensures none { IfNone result (BeginsWithNone IsLongField field_octets octets.now) }
+{
+    let (rec, rest) = take_octet(octets)?;
+    let (set, rest) = take_octet(rest)?;
+    let (count, rest) = take_number(rest)?;
+    let (data, rest) = take_front(rest, count)?;
+    Some(((rec, set, data), rest))
+}

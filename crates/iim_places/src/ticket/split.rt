@@ -1,0 +1,276 @@
+//! The parts of a ticket, as they stand in it.
+
+ghost use Rattle.std.specs.Prelude.{◌≡◌, ◌+◌, ◌++◌, ◌∷◌, map, IfSome, IfNone, IfOk, IfErr};
+ghost use Rattle.std.specs.List.{flat_map};
+ghost use Rattle.iim_places.specs.Format.Tickets.{ticket_name, width, phase_octets, field_octets, fields_octets, number_octets, text_octets};
+ghost use Rattle.iim_places.specs.States.Begins.{IsLongField, AreFields, AreNumbersIn, AreTexts};
+ghost use Rattle.iim_places.specs.Shortfalls.{BeginsWithNone, BeginsWithFewer, FieldsBefore};
+ghost use Rattle.iim_places.specs.TicketParts.{IsHeld, IsNameFault, BeginsWithNoData, AreNoMessage, AreNoBody, message_parts, body_octets};
+ghost use Rattle.iim_places.specs.States.TicketsTold.{phase_told, split_told};
+ghost use Rattle.iim_places.specs.Format.TicketForm.{IsVersion, IsPhase, IsFaultOf, HasForm, SplitsTicket};
+
+use crate::form::{ENDED, FIRST_VERSION, IN_DATA, IN_TAG, PRESENT_VERSION};
+use crate::ticket::fault::TicketFault;
+use crate::ticket::fields::{TicketFields, walk_over};
+use crate::ticket::front::{
+    take_field, take_front, take_number, take_octet, take_option, take_text, take_wide,
+};
+use iim_tables::records::OBJECT;
+
+/// What each ticket begins with.
+const NAME: &[u8] = b"IIMT";
+
+/// What is begun where a ticket was made.
+#[derive(Drop)]
+pub enum TicketPhase<'a> {
+    /// A tag. These octets of it have come; none between datasets.
+    Tag(&'a [u8]),
+    /// The data of a dataset.
+    Data {
+        /// The number of the dataset.
+        set: u8,
+        /// How many octets it has.
+        count: u64,
+        /// How many of them are to come.
+        left: u64,
+        /// Those that have come. None of a subfile.
+        taken: &'a [u8],
+    },
+    /// Nothing: the last dataset has ended.
+    Ended,
+}
+
+/// The parts of a ticket, whether or not some octets lead to such a place.
+#[derive(Drop)]
+pub struct TicketParts<'a> {
+    /// The version.
+    pub version: u8,
+    /// The record of the last head.
+    pub section: u8,
+    /// What is begun.
+    pub phase: TicketPhase<'a>,
+    /// The datasets of records 1 and 2.
+    pub fields: TicketFields<'a>,
+    /// The numbers of 7:10, 7:20, 7:90 and 7:95.
+    pub numbers: [Option<u64>; 4],
+    /// How many octets of the object have come.
+    pub taken: u64,
+    /// How many heads of 8:10 have come.
+    pub heads: u64,
+    /// The number of the message's part.
+    pub part: u8,
+    /// Its counter.
+    pub counter: u8,
+    /// Its flag.
+    pub flag: u8,
+    /// Source, number, priority, category, words, info and trailer, as far as they have come.
+    pub texts: [&'a [u8]; 7],
+}
+
+/// What a ticket tells of the message.
+#[derive(Drop)]
+struct MessageParts<'a> {
+    part: u8,
+    counter: u8,
+    flag: u8,
+    texts: [&'a [u8]; 7],
+}
+
+/// The version, and what follows the name and the version.
+fn after_name(ticket: &[u8]) -> Result<(u8, &[u8]), TicketFault>
+    ensures named { IfOk result (λ r. ticket.now ≡ ticket_name r.0 ++ r.1.now) }
+    ensures version { IfOk result (λ r. IsVersion r.0) }
+    ensures fault { IfErr result (λ fault. IsNameFault ticket.now fault) }
+{
+    let Some(rest) = ticket.strip_prefix(NAME) else {
+        return Err(TicketFault::Form);
+    };
+    match rest.split_first() {
+        Some((version, rest)) if [FIRST_VERSION, PRESENT_VERSION].contains(version) => Ok((
+            *version, rest,
+        )),
+        Some(_) => Err(TicketFault::Version),
+        None => Err(TicketFault::Form),
+    }
+}
+
+/// How many octets of a tag are held at most.
+fn most_held(version: u8) -> usize
+    ensures { result + 1 ≡ 5 + width version }
+{
+    if version == FIRST_VERSION { 8 } else { 12 }
+}
+
+/// The octets of a tag that are held, and what follows them.
+fn take_held(version: u8, octets: &[u8]) -> Option<(&[u8], &[u8])>
+    ensures parts { IfSome result (λ r. octets.now ≡ text_octets r.0.now ++ r.1.now) }
+    ensures fits { IfSome result (λ r. IsHeld version r.0.now) }
+    ensures none { IfNone result (BeginsWithNone (IsHeld version) text_octets octets.now) }
+{
+    let (held, rest) = take_text(octets)?;
+    if held.len() > most_held(version) {
+        return None;
+    }
+    Some((held, rest))
+}
+
+/// Begun data, and what follows them.
+fn take_data(version: u8, section: u8, octets: &[u8]) -> Option<(TicketPhase<'_>, &[u8])>
+    ensures parts { IfSome result (λ r. 1 ∷ octets.now ≡ phase_octets version (phase_told r.0) ++ r.1.now) }
+    ensures fits { IfSome result (λ r. IsPhase version section (phase_told r.0)) }
+    ensures none { IfNone result (BeginsWithNoData version section octets.now) }
+{
+    let (set, rest) = take_octet(octets)?;
+    let (count, rest) = take_wide(version, rest)?;
+    let (left, rest) = take_wide(version, rest)?;
+    if left > count {
+        return None;
+    }
+    let came = if section == OBJECT { 0 } else { count - left };
+    let (taken, rest) = take_front(rest, came)?;
+    let phase = TicketPhase::Data {
+        set,
+        count,
+        left,
+        taken,
+    };
+    Some((phase, rest))
+}
+
+/// What is begun, and what follows it.
+fn take_phase(version: u8, section: u8, octets: &[u8]) -> Option<(TicketPhase<'_>, &[u8])>
+    ensures parts { IfSome result (λ r. octets.now ≡ phase_octets version (phase_told r.0) ++ r.1.now) }
+    ensures fits { IfSome result (λ r. IsPhase version section (phase_told r.0)) }
+    ensures none { IfNone result (BeginsWithNone (IsPhase version section) (phase_octets version) octets.now) }
+{
+    let (kind, rest) = take_octet(octets)?;
+    match kind {
+        IN_TAG => {
+            let (held, rest) = take_held(version, rest)?;
+            Some((TicketPhase::Tag(held), rest))
+        }
+        IN_DATA => take_data(version, section, rest),
+        ENDED => Some((TicketPhase::Ended, rest)),
+        _ => None,
+    }
+}
+
+/// What follows the first `count` datasets.
+fn after_fields(octets: &[u8], count: u64) -> Option<&[u8]>
+    ensures parts { IfSome result (λ rest. FieldsBefore count octets.now rest.now) }
+    ensures none { IfNone result (BeginsWithFewer IsLongField field_octets count octets.now) }
+{
+    let mut rest = octets;
+    for _ in 0..count {
+        (_, rest) = take_field(rest)?;
+    }
+    Some(rest)
+}
+
+/// The datasets after their number, and what follows them.
+fn take_fields(octets: &[u8]) -> Option<(TicketFields<'_>, &[u8])>
+    ensures parts { IfSome result (λ r. octets.now ≡ fields_octets r.0 ++ r.1.now) }
+    ensures fits { IfSome result (λ r. AreFields r.0) }
+    ensures none { IfNone result (BeginsWithNone AreFields fields_octets octets.now) }
+{
+    let (count, start) = take_number(octets)?;
+    let rest = after_fields(start, count)?;
+    let (fields, rest) = start.split_at(start.len() - rest.len());
+    Some((walk_over(fields), rest))
+}
+
+/// The numbers of record 7, and what follows them.
+fn take_numbers(version: u8, octets: &[u8]) -> Option<([Option<u64>; 4], &[u8])>
+    ensures parts { IfSome result (λ r. octets.now ≡ flat_map (number_octets version) r.0 ++ r.1.now) }
+    ensures fits { IfSome result (λ r. AreNumbersIn version r.0) }
+    ensures none { IfNone result (BeginsWithNone (AreNumbersIn version) (flat_map (number_octets version)) octets.now) }
+{
+    let (mode, rest) = take_option(version, octets)?;
+    let (limit, rest) = take_option(version, rest)?;
+    let (announced, rest) = take_option(version, rest)?;
+    let (maximum, rest) = take_option(version, rest)?;
+    Some(([mode, limit, announced, maximum], rest))
+}
+
+/// The texts of the message, and what follows them.
+fn take_texts(octets: &[u8]) -> Option<([&[u8]; 7], &[u8])>
+    ensures parts { IfSome result (λ r. octets.now ≡ flat_map text_octets (map (λ t. t.now) r.0) ++ r.1.now) }
+    ensures fits { IfSome result (λ r. AreTexts (map (λ t. t.now) r.0)) }
+    ensures none { IfNone result (BeginsWithNone AreTexts (flat_map text_octets) octets.now) }
+{
+    let (source, rest) = take_text(octets)?;
+    let (number, rest) = take_text(rest)?;
+    let (priority, rest) = take_text(rest)?;
+    let (category, rest) = take_text(rest)?;
+    let (words, rest) = take_text(rest)?;
+    let (info, rest) = take_text(rest)?;
+    let (trailer, rest) = take_text(rest)?;
+    let texts = [source, number, priority, category, words, info, trailer];
+    Some((texts, rest))
+}
+
+/// What a ticket tells of the message, with which it ends.
+fn read_message(octets: &[u8]) -> Option<MessageParts<'_>>
+    ensures parts { IfSome result (λ m. octets.now ≡ message_parts m.part m.counter m.flag (map (λ t. t.now) m.texts)) }
+    ensures fits { IfSome result (λ m. AreTexts (map (λ t. t.now) m.texts)) }
+    ensures none { IfNone result (AreNoMessage octets.now) }
+{
+    let (part, rest) = take_octet(octets)?;
+    let (counter, rest) = take_octet(rest)?;
+    let (flag, rest) = take_octet(rest)?;
+    let (texts, rest) = take_texts(rest)?;
+    if !rest.is_empty() {
+        return None;
+    }
+    Some(MessageParts {
+        part,
+        counter,
+        flag,
+        texts,
+    })
+}
+
+/// What follows the name and the version of a ticket.
+fn read_body(version: u8, octets: &[u8]) -> Option<TicketParts<'_>>
+    requires { IsVersion version }
+    ensures version { IfSome result (λ parts. (split_told parts).version ≡ version) }
+    ensures parts { IfSome result (λ parts. octets.now ≡ body_octets (split_told parts)) }
+    ensures fits { IfSome result (λ parts. HasForm (split_told parts)) }
+    ensures none { IfNone result (AreNoBody version octets.now) }
+{
+    let (section, rest) = take_octet(octets)?;
+    let (phase, rest) = take_phase(version, section, rest)?;
+    let (fields, rest) = take_fields(rest)?;
+    let (numbers, rest) = take_numbers(version, rest)?;
+    let (taken, rest) = take_wide(version, rest)?;
+    let (heads, rest) = take_number(rest)?;
+    let message = read_message(rest)?;
+    Some(TicketParts {
+        version,
+        section,
+        phase,
+        fields,
+        numbers,
+        taken,
+        heads,
+        part: message.part,
+        counter: message.counter,
+        flag: message.flag,
+        texts: message.texts,
+    })
+}
+
+/// Takes a ticket's octets apart. Whether some octets lead to the place that they tell is not asked, and no memory is taken.
+/// Octets that begin with a ticket's name and another version are refused by [`TicketFault::Version`], and all others that have
+/// not the form of a ticket by [`TicketFault::Form`]: a part cut short or octets left over; what is begun other than 0, 1 or 2;
+/// more octets of a tag than the version has room for; more octets of data to come than their count; and a number of record 7 marked other than by 0 or 1.
+pub fn split_ticket(ticket: &[u8]) -> Result<TicketParts<'_>, TicketFault>
+    ensures parts { IfOk result (λ parts. SplitsTicket ticket.now (split_told parts)) }
+    ensures fault { IfErr result (λ fault. IsFaultOf ticket.now fault) }
+{
+    let (version, body) = after_name(ticket)?;
+    match read_body(version, body) {
+        Some(parts) => Ok(parts),
+        None => Err(TicketFault::Form),
+    }
+}

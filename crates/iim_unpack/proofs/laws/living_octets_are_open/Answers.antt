@@ -1,5 +1,0 @@
-use Rattle.iim_unpack.proofs.Opening.{open_where_none}
-use Rattle.iim_unpack.proofs.laws.living_octets_are_open.Goals as goal
-
-pub returns : goal.returns
-returns c = open_where_none c.onward_laws.ensures c.new-start.ensures.stands.0 c.new-start.ensures.stands.2

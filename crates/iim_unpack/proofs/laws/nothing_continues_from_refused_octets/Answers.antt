@@ -1,5 +1,0 @@
-use Rattle.iim_unpack.proofs.Answering.{nothing_continues}
-use Rattle.iim_unpack.proofs.laws.nothing_continues_from_refused_octets.Goals as goal
-
-pub returns : goal.returns
-returns c = nothing_continues c.answer_laws.ensures

@@ -1,6 +1,0 @@
-use Rattle.iim_unpack.proofs.LeadsByLayers.{leads_by_layers}
-use Rattle.iim_unpack.proofs.LayersLead.{layers_lead}
-use Rattle.iim_unpack.proofs.laws.places_are_possible_by_layers.Goals as goal
-
-pub returns : goal.returns
-returns c place = (leads_by_layers c.by_layers_laws.ensures place, layers_lead c.by_layers_laws.ensures place)

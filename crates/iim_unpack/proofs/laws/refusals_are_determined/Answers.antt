@@ -1,5 +1,0 @@
-use Rattle.iim_unpack.proofs.Answering.{one_refusal}
-use Rattle.iim_unpack.proofs.laws.refusals_are_determined.Goals as goal
-
-pub returns : goal.returns
-returns c = one_refusal c.answer_laws.ensures

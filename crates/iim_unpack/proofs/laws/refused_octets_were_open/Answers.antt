@@ -1,5 +1,0 @@
-use Rattle.iim_unpack.proofs.Answering.{was_open}
-use Rattle.iim_unpack.proofs.laws.refused_octets_were_open.Goals as goal
-
-pub returns : goal.returns
-returns c = was_open c.answer_laws.ensures

@@ -1,5 +1,0 @@
-use Rattle.iim_unpack.proofs.WerePossible.{small_places}
-use Rattle.iim_unpack.proofs.laws.small_places_were_possible.Goals as goal
-
-pub returns : goal.returns
-returns c = small_places c.open_laws.ensures c.places_live_within.ensures c.limits_are_told_by_place.ensures

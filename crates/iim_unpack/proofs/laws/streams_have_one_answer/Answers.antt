@@ -1,5 +1,0 @@
-use Rattle.iim_unpack.proofs.Answering.{one_answer}
-use Rattle.iim_unpack.proofs.laws.streams_have_one_answer.Goals as goal
-
-pub returns : goal.returns
-returns c = one_answer (record { answer = c.answer_laws.ensures; value = c.admitted_octets_have_one_value.ensures; others = c.no_admitted_octets_begin_others.ensures; none = c.open_octets_begin_with_no_envelope.ensures })
