@@ -2,8 +2,9 @@
 
 ghost use Rattle.std.specs.Prelude.{◌≡◌, ◌++◌, ◌∷◌, OnOk, codes, decimal};
 ghost use Rattle.iim_dataset.specs.Format.Shown.{number_or_dash};
+ghost use Rattle.iim_object.specs.Format.Sizes.{mode_number};
 ghost use Rattle.iim_script.specs.Format.Printed.{after_space, field_line, message_line, trailer_line};
-ghost use Rattle.iim_commands.specs.Format.Texts.{mode_of, number_line, shown_of, sizes_line};
+ghost use Rattle.iim_commands.specs.Format.Texts.{number_line, shown_of, sizes_line};
 ghost use Rattle.std.specs.List.{flat_map};
 ghost use Rattle.iim_dataset.specs.Format.Characters.{sp};
 
@@ -119,7 +120,7 @@ fn push_trailer(text: &mut Vec<u8>, trailer: &[u8]) -> Result<(), AllocError>
 
 /// The size mode: 1 where the size is known at the start.
 fn mode(known: bool) -> u8
-    ensures { result ≡ mode_of known }
+    ensures { result ≡ mode_number known }
 {
     if known { 1 } else { 0 }
 }
@@ -129,7 +130,7 @@ fn push_counts(text: &mut Vec<u8>, sizes: Sizes) -> Result<(), AllocError>
     ensures { OnOk result (text.new.items ≡ text.old.items
         ++ (codes "object " ++ (decimal sizes.total
         ++ (codes " octets, " ++ (decimal sizes.subfiles
-        ++ (codes " subfiles, mode " ++ decimal (mode_of sizes.known))))))) }
+        ++ (codes " subfiles, mode " ++ decimal (mode_number sizes.known))))))) }
 {
     let total = sizes.total;
     let subfiles = sizes.subfiles;

@@ -1,6 +1,7 @@
 -- What `show` writes of an envelope.
-use Rattle.std.specs.Prelude.{ℕ, List, ◌++◌, codes, decimal, Bool, true, false}
+use Rattle.std.specs.Prelude.{ℕ, List, ◌++◌, codes, decimal}
 use Rattle.std.specs.List.{flat_map}
+use Rattle.iim_object.specs.Format.Sizes.{mode_number}
 use Rattle.iim_object.specs.declared.size.Sizes.{Sizes}
 use Rattle.iim_places.specs.Format.Admitted.{Value}
 use Rattle.iim_script.specs.Format.Printed.{field_line, message_line, trailer_line}
@@ -11,14 +12,9 @@ use Rattle.iim_places.specs.Format.Listing.{Listed}
 abbrev pub number_line : ℕ → List ℕ
 number_line number = codes "envelope " ++ (decimal number ++ codes "\n")
 
--- the size mode: 1 where the size is known at the start
-abbrev pub mode_of : Bool → ℕ
-mode_of true = 1
-mode_of false = 0
-
 abbrev pub sizes_line : Sizes → List ℕ
 sizes_line s =
-    codes "object " ++ (decimal s.total ++ (codes " octets, " ++ (decimal s.subfiles ++ (codes " subfiles, mode " ++ (decimal (mode_of s.known)
+    codes "object " ++ (decimal s.total ++ (codes " octets, " ++ (decimal s.subfiles ++ (codes " subfiles, mode " ++ (decimal (mode_number s.known)
     ++ (codes ", limit " ++ (decimal s.subfile ++ (codes ", announced " ++ (number_or_dash s.announced ++ (codes ", maximum "
     ++ (number_or_dash s.maximum ++ codes "\n")))))))))))
 
