@@ -7,6 +7,7 @@ use Rattle.iim_fields.specs.declared.limits.Limits.{Limits}
 use Rattle.wire_story.specs.Format.Delivery.{StoryEvent}
 use Rattle.wire_story.specs.Format.Words.{WordsSoFar, CountsWords}
 use Rattle.iim_places.specs.Format.Framed.{AreWithin}
+use Rattle.iim_unpack.proofs.Intakes.{missed_open}
 use Rattle.iim_unpack.specs.States.Intakes.{FedEnvelope, Faults, WasMissed, WasRefused, WasTruncated}
 use Rattle.iim_unpack.specs.States.Parts.{CountsFor}
 use Rattle.iim_unpack.specs.States.Unpacking.{Unpacking, IsDoneWith, Stands, limits_in}
@@ -82,26 +83,26 @@ refused_fresh goes failures old new u a b e before after stands (inr was) =
       at_end = λ all. was.at_end;
     }
 
-cut_off : {S : Type 0} (goes : S → List StoryEvent → S → Type 0) (failures : S → ℕ) (old new : Device) (u : Unpacking) (a b : S) (octet : ℕ) (kept : Option ℕ) (fault : IoFault)
-    → kept ≡ Some octet → Stands u [] 0 → WasMissed goes failures old new u a b octet fault → IsCutOff (limits_in u) old new kept fault
-cut_off goes failures old new u a b octet kept fault keeps stands was =
-    let here = was.is_open [] 0 stands in
+cut_off : {S : Type 0} (goes : S → List StoryEvent → S → Type 0) (failures : S → ℕ) (old new : Device) (u v : Unpacking) (a b : S) (octet : ℕ) (kept : Option ℕ) (fault : IoFault)
+    → kept ≡ Some octet → Stands u [] 0 → WasMissed goes failures old new u v a b octet fault → IsCutOff (limits_in u) old new kept fault
+cut_off goes failures old new u v a b octet kept fault keeps stands was =
+    let here = missed_open goes failures old new u v a b octet fault was [] 0 stands in
     record { rest = was.octets; missed = was.missed; is_open = here.0; keeps = keeps ∙ ap Some here.2 }
 
-none_fresh : {S : Type 0} (goes : S → List StoryEvent → S → Type 0) (failures : S → ℕ) (old new : Device) (u : Unpacking) (a b : S) (octet before : ℕ) (kept : Option ℕ) (told : ℕ) (fault : IntakeFault)
-    → failures a ≡ 0 → failures b ≡ 0 → kept ≡ Some octet → told ≡ 0 → Stands u [] 0 → Faults goes failures old new u a b octet fault
+none_fresh : {S : Type 0} (goes : S → List StoryEvent → S → Type 0) (failures : S → ℕ) (old new : Device) (u v : Unpacking) (a b : S) (octet before : ℕ) (kept : Option ℕ) (told : ℕ) (fault : IntakeFault)
+    → failures a ≡ 0 → failures b ≡ 0 → kept ≡ Some octet → told ≡ 0 → Stands u [] 0 → Faults goes failures old new u v a b octet fault
     → TookNone (limits_in u) old new before kept told (cause_of fault)
-none_fresh goes failures old new u a b octet before kept told (intakes.Refused e) at_first at_last keeps none stands faults =
+none_fresh goes failures old new u v a b octet before kept told (intakes.Refused e) at_first at_last keeps none stands faults =
     (refused_fresh goes failures old new u a b e at_first at_last stands faults.1, keeps ∙ ap Some faults.0, none)
-none_fresh goes failures old new u a b octet before kept told intakes.Read at_first at_last keeps none stands faults =
-    (cut_off goes failures old new u a b octet kept io.Failed keeps stands faults, none)
-none_fresh goes failures old new u a b octet before kept told intakes.Interrupted at_first at_last keeps none stands faults =
-    (cut_off goes failures old new u a b octet kept io.Interrupted keeps stands faults, none)
+none_fresh goes failures old new u v a b octet before kept told intakes.Read at_first at_last keeps none stands faults =
+    (cut_off goes failures old new u v a b octet kept io.Failed keeps stands faults, none)
+none_fresh goes failures old new u v a b octet before kept told intakes.Interrupted at_first at_last keeps none stands faults =
+    (cut_off goes failures old new u v a b octet kept io.Interrupted keeps stands faults, none)
 
 -- why an intake gives nothing to an unpacker that stands on no octets
-pub none : {S : Type 0} (goes : S → List StoryEvent → S → Type 0) (failures : S → ℕ) (limits : Limits) (old new : Device) (u : Unpacking) (a b : S) (octet before : ℕ) (kept : Option ℕ) (told : ℕ) (fault : IntakeFault)
-    → failures a ≡ 0 → failures b ≡ 0 → kept ≡ Some octet → told ≡ 0 → limits_in u ≡ limits → Stands u [] 0 → Faults goes failures old new u a b octet fault
+pub none : {S : Type 0} (goes : S → List StoryEvent → S → Type 0) (failures : S → ℕ) (limits : Limits) (old new : Device) (u v : Unpacking) (a b : S) (octet before : ℕ) (kept : Option ℕ) (told : ℕ) (fault : IntakeFault)
+    → failures a ≡ 0 → failures b ≡ 0 → kept ≡ Some octet → told ≡ 0 → limits_in u ≡ limits → Stands u [] 0 → Faults goes failures old new u v a b octet fault
     → TookNone limits old new before kept told (cause_of fault)
-none goes failures limits old new u a b octet before kept told fault at_first at_last keeps zero same stands faults =
+none goes failures limits old new u v a b octet before kept told fault at_first at_last keeps zero same stands faults =
     let P : Limits → Type 0 = λ l. TookNone l old new before kept told (cause_of fault) in
-    subst P same (none_fresh goes failures old new u a b octet before kept told fault at_first at_last keeps zero stands faults)
+    subst P same (none_fresh goes failures old new u v a b octet before kept told fault at_first at_last keeps zero stands faults)

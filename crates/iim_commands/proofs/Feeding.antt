@@ -6,48 +6,73 @@ use Rattle.iim_dataset.specs.Laws.Devices.{GiftsJoin}
 use Rattle.iim_fields.specs.declared.limits.Limits.{Limits}
 use Rattle.wire_story.specs.Format.Delivery.{StoryEvent}
 use Rattle.wire_story.specs.Laws.Texts.{DeliveryMayBeCut}
-use Rattle.iim_unpack.specs.States.Intakes.{HasFed, WasEnded}
+use Rattle.iim_unpack.specs.States.Intakes.{HasFed, IsReady, WasEnded}
 use Rattle.iim_places.specs.Laws.Streams.{OpenOctetsAreBounded}
 use Rattle.iim_unpack.specs.States.Unpacking.{Stands, Unpacking, limits_in}
 use Rattle.iim_places.specs.States.Counts.{raised}
-use Rattle.iim_unpack.proofs.Intakes.{Joined, fed_few, fed_nothing, fed_on, fed_then, raised_on, some_came}
+use Rattle.iim_unpack.proofs.Intakes.{Joined, fed_few, fed_none, fed_nothing, fed_on, fed_then, raised_on, some_came}
 use Rattle.iim_commands.specs.Format.Listings.{limits}
 
 empty_too : (used : ℕ) (xs ys : List ℕ) → used ≡ raised 0 (length xs) → used ≡ raised 0 (length ys) → xs ≡ [] → ys ≡ []
 empty_too used xs [] one two none = refl
 empty_too used xs (y ∷ ys) one two none = absurd (omega (arith, one, two, ap length none))
 
--- What was fed, and that the sink was told nothing where there is none.
-abbrev pub HasFedTo : {S : Type 0} → (S → List StoryEvent → S → Type 0) → Device → Device → Unpacking → Unpacking → S → S → ℕ → Type 0
-HasFedTo goes old new u v a b used = (fed : HasFed goes old new u v a b used) × (fed.octets ≡ [] → goes a [] b)
+-- What an unpacker was fed that stood on no octets, within the limits; and the sink was told nothing where there is none.
+pub record HasTaken {S : Type 0} (goes : S → List StoryEvent → S → Type 0) (old new : Device) (v : Unpacking) (a b : S) : Type 0 where
+  pub first : Unpacking
+  pub stood : Stands first [] 0
+  pub within : limits_in first ≡ limits
+  pub used : ℕ
+  pub fed : HasFed goes old new first v a b used
+  pub still : fed.octets ≡ [] → goes a [] b
+
+pub take_none : {S : Type 0} (goes : S → List StoryEvent → S → Type 0) → GiftsJoin → (d : Device) (u : Unpacking) (a : S) → Stands u [] 0 → limits_in u ≡ limits → goes a [] a → HasTaken goes d d u a a
+take_none goes joins d u a at same nothing = record { first = u; stood = at; within = same; used = 0; fed = fed_none goes joins d u a (omega (arith, at.counts)) nothing; still = λ none. nothing }
 
 -- the sink let out what it held
-pub fed_out : {S : Type 0} (goes : S → List StoryEvent → S → Type 0) → Joined goes → (old mid : Device) (u v : Unpacking) (a b d : S) (used : ℕ) → HasFedTo goes old mid u v a b used → goes b [] d
-    → HasFedTo goes old mid u v a d used
-fed_out goes joined old mid u v a b d used (one, still) told =
-    let out = fed_on goes joined old mid u v a b d used one told in
-    (out, λ none. joined a b d [] [] (still (empty_too used out.octets one.octets out.counts one.counts none)) told)
+pub take_out : {S : Type 0} {goes : S → List StoryEvent → S → Type 0} {old mid : Device} {v : Unpacking} {a b d : S} → Joined goes → HasTaken goes old mid v a b → goes b [] d → HasTaken goes old mid v a d
+take_out {a = a} {b = b} {d = d} joined h told =
+    let out = fed_on joined h.fed told in
+    record {
+      first = h.first;
+      stood = h.stood;
+      within = h.within;
+      used = h.used;
+      fed = out;
+      still = λ none. joined a b d [] [] (h.still (empty_too h.used out.octets h.fed.octets out.counts h.fed.counts none)) told;
+    }
 
 -- one piece more
-pub fed_more : {S : Type 0} (goes : S → List StoryEvent → S → Type 0) → Joined goes → GiftsJoin → DeliveryMayBeCut → (old mid new : Device) (u v w : Unpacking) (a d e : S) (used k : ℕ) → 0 < k
-    → HasFedTo goes old mid u v a d used → HasFed goes mid new v w d e k → HasFedTo goes old new u w a e (raised used k)
-fed_more goes joined joins cut old mid new u v w a d e used k some one two =
-    let fed = fed_then goes joined joins cut old mid new u v w a d e used k (raised used k) one.0 two refl in
-    (fed, λ none. absurd (some_came goes old new u w a e (raised used k) (raised_on used k (raised used k) some refl) fed none))
+pub take_more : {S : Type 0} {goes : S → List StoryEvent → S → Type 0} {old mid new : Device} {v w : Unpacking} {a d e : S} {k : ℕ} → Joined goes → GiftsJoin → DeliveryMayBeCut → HasTaken goes old mid v a d → (0 < k) × IsReady w × HasFed goes mid new v w d e k
+    → HasTaken goes old new w a e
+take_more {k = k} joined joins cut h (some, ready, two) =
+    let used = raised h.used k in
+    let fed = fed_then joined joins cut h.fed two refl in
+    record {
+      first = h.first;
+      stood = h.stood;
+      within = h.within;
+      used = used;
+      fed = fed;
+      still = λ none. absurd (some_came (raised_on h.used k used some refl) fed none);
+    }
 
 -- nothing came, and nothing is next in line
-pub ends_whole : {S : Type 0} (goes : S → List StoryEvent → S → Type 0) (settled : S → Type 0) → GiftsJoin → (old mid new : Device) (u v : Unpacking) (a d e : S) (used : ℕ) (fed : HasFedTo goes old mid u v a d used)
-    → WasEnded mid new v d e → Stands u [] 0 → settled d → HasGiven old new [] × IsAtEnd new.octets × goes a [] e × settled e
-ends_whole goes settled joins old mid new u v a d e used (fed, still) ended at rests =
-    let empty : fed.octets ≡ [] = fed_nothing goes old mid new u v a d e used fed [] 0 at ended in (
-      subst (λ (ys : List ℕ). HasGiven old new ys) (append-nil fed.octets ∙ empty) (joins.more old mid new fed.octets [] fed.came.given ended.given),
+pub take_ended : {S : Type 0} {goes : S → List StoryEvent → S → Type 0} {old mid new : Device} {v : Unpacking} {a d e : S} (settled : S → Type 0) → GiftsJoin → HasTaken goes old mid v a d → WasEnded mid new v d e → settled d
+    → HasGiven old new [] × IsAtEnd new.octets × goes a [] e × settled e
+take_ended {goes = goes} {old = old} {mid = mid} {new = new} {a = a} settled joins h ended rests =
+    let octets = h.fed.octets in
+    let empty : octets ≡ [] = fed_nothing h.fed [] 0 h.stood ended in (
+      subst (λ (ys : List ℕ). HasGiven old new ys) (append-nil octets ∙ empty) (joins.more old mid new octets [] h.fed.came.given ended.given),
       ended.at_end,
-      subst (goes a []) (sym ended.still) (still empty),
+      subst (goes a []) (sym ended.still) (h.still empty),
       subst settled (sym ended.still) rests,
     )
 
-pub settled_by : {S : Type 0} (settled : S → Type 0) (d e : S) (block : List ℕ) → (block ≡ [] → settled d) → (e ≡ d) × (block ≡ []) → settled e
-settled_by settled d e block is (same, none) = subst settled (sym same) (is none)
+pub is_ready : {S : Type 0} {goes : S → List StoryEvent → S → Type 0} {old mid : Device} {v : Unpacking} {a d : S} → HasTaken goes old mid v a d → IsReady v
+is_ready h =
+    let there = (h.fed.stands [] 0 h.stood).0 in
+    (there.taking, there.unended)
 
 low_octets : limits.octets < 2 ^ 32
 low_octets = omega arith
@@ -55,18 +80,19 @@ low_octets = omega arith
 low_fields : limits.fields < 2 ^ 32
 low_fields = omega arith
 
-pub fewer_left : {S : Type 0} (goes : S → List StoryEvent → S → Type 0) → OpenOctetsAreBounded → Joined goes → GiftsJoin → DeliveryMayBeCut → (old mid new : Device) (u v w : Unpacking) (a d e : S) (used k : ℕ) → 0 < k
-    → HasFed goes old mid u v a d used → HasFed goes mid new v w d e k → limits_in u ≡ limits → Stands u [] 0 → 2 ^ 64 - 1 - w.octets < 2 ^ 64 - 1 - v.octets
-fewer_left goes law joined joins cut old mid new u v w a d e used k some one two same at =
-    let both = fed_then goes joined joins cut old mid new u v w a d e used k (raised used k) one two refl in
-    let within : limits_in v ≡ limits = one.limits ∙ same in
+pub fewer_left : {S : Type 0} {goes : S → List StoryEvent → S → Type 0} {old mid new : Device} {v w : Unpacking} {a d e : S} {k : ℕ} → OpenOctetsAreBounded → Joined goes → GiftsJoin → DeliveryMayBeCut → HasTaken goes old mid v a d
+    → (0 < k) × IsReady w × HasFed goes mid new v w d e k → 2 ^ 64 - 1 - w.octets < 2 ^ 64 - 1 - v.octets
+fewer_left {v = v} {k = k} law joined joins cut h (some, ready, two) =
+    let one = h.fed in
+    let both = fed_then {now = raised h.used k} joined joins cut one two refl in
+    let within : limits_in v ≡ limits = one.limits ∙ h.within in
     omega (
       arith,
       some,
       one.counts,
       two.counts,
-      (one.stands [] 0 at).0.counts,
-      (both.stands [] 0 at).0.counts,
+      (one.stands [] 0 h.stood).0.counts,
+      (both.stands [] 0 h.stood).0.counts,
       length-append one.octets two.octets,
-      fed_few goes law old mid u v a d used one (subst (λ (l : Limits). l.octets < 4294967296) (sym within) low_octets) (subst (λ (l : Limits). l.fields < 4294967296) (sym within) low_fields) [] 0 at,
+      fed_few law one (subst (λ (l : Limits). l.octets < 4294967296) (sym within) low_octets) (subst (λ (l : Limits). l.fields < 4294967296) (sym within) low_fields) [] 0 h.stood,
     )

@@ -1,5 +1,5 @@
 -- What an intake gives, of an unpacker that stands on no octets.
-use Rattle.std.proofs.Common.{◌≡◌, ◌≢◌, ◌⊎◌, ℕ, inl, inr, refl, sym, ap, subst, ◌∙◌, arith, Bool, true, false, List, [], ◌∷◌, length, take, Option, None, Result, Ok}
+use Rattle.std.proofs.Common.{◌≡◌, ◌≢◌, ◌⊎◌, ℕ, inl, inr, refl, sym, ap, subst, ◌∙◌, arith, Bool, true, false, List, [], ◌∷◌, length, take, Option, None, Some, Result, Ok}
 use Rattle.std.proofs.Math.Seq.{take-length}
 use Rattle.iim_dataset.specs.Format.Datasets.{count_octets}
 use Rattle.iim_dataset.specs.States.Devices.{Device, HasGiven}
@@ -15,18 +15,21 @@ use Rattle.wire_story.specs.Format.Delivery.{StoryEvent}
 use Rattle.iim_places.specs.Format.Framed.{AreWithin}
 use Rattle.iim_unpack.specs.declared.intake.IntakeFault.{IntakeFault}
 use Rattle.iim_unpack.specs.declared.intake.IntakeFault.TheVariants.{Refused, Read, Interrupted}
-use Rattle.iim_unpack.specs.States.Intakes.{Faults, HasFed, IsOfReader, IsRefusedOf, IsTruncatedIn, WasDone, WasMissed, WasRefused, WasTruncated}
+use Rattle.iim_unpack.specs.States.Intakes.{Faults, IsOfReader, IsRefusedOf, IsTruncatedIn, WasDone, WasMissed, WasRefused, WasTruncated}
 use Rattle.iim_unpack.specs.States.Parts.{CountsFor}
 use Rattle.iim_places.specs.Format.Open.{Delivers, IsOpen, IsTextOf}
-use Rattle.iim_unpack.specs.States.Unpacking.{IsDoneWith, Stands, Unpacking, limits_in}
+use Rattle.iim_unpack.specs.States.Unpacking.{IsDoneWith, LeftAs, Stands, Unpacking, limits_in}
+use Rattle.iim_places.specs.States.Counts.{raised}
+use Rattle.iim_unpack.proofs.Intakes.{Joined, fed_and_done, fed_and_faults, missed_open}
+use Rattle.iim_dataset.specs.Laws.Devices.{GiftsJoin}
+use Rattle.wire_story.specs.Laws.Texts.{DeliveryMayBeCut}
+use Rattle.iim_commands.proofs.Feeding.{HasTaken}
 use Rattle.iim_places.specs.declared.refusal.Refusal.{Refusal}
 use Rattle.iim_places.specs.declared.refusal.Cause.{Cause}
 use Rattle.iim_places.specs.declared.refusal.Cause.TheVariants.{Sink, Truncated}
-use Rattle.iim_commands.specs.Feeding.{FedAsWhole, HaltsBy, IsOfFault, IsOfHalt}
+use Rattle.iim_commands.specs.Feeding.{IsOfFault}
 use Rattle.iim_commands.specs.declared.fault.CommandFault.{CommandFault}
 use Rattle.iim_commands.specs.States.Coming.{CanAskForMore, EnvelopeHasCome, IsCalm, IsCutOff, IsHeldUp, IsNext, IsRefusal, IsUnheard}
-use Rattle.iim_commands.specs.declared.coming.Halt.{Halt}
-use Rattle.iim_commands.specs.declared.coming.Halt.TheVariants as halt
 use Rattle.iim_commands.specs.Format.Listings.{limits, IsDelivered}
 
 -- no octets are no datasets, and the beginning of a tag
@@ -134,10 +137,10 @@ pub calm_counts : (cause : Cause) (before now : ℕ) → cause ≢ Sink → Coun
 calm_counts Sink before now other counts = absurd (other refl)
 calm_counts _ before now other counts = counts
 
-pub is_cut_off : {S : Type 0} (goes : S → List StoryEvent → S → Type 0) (failures : S → ℕ) (old new : Device) (u : Unpacking) (a b : S) (kept : ℕ) (fault : IoFault)
-    → limits_in u ≡ limits → Stands u [] 0 → WasMissed goes failures old new u a b kept fault → IsCutOff goes old new a b
-is_cut_off goes failures old new u a b kept fault same at w =
-    let is = w.is_open [] 0 at in
+pub is_cut_off : {S : Type 0} (goes : S → List StoryEvent → S → Type 0) (failures : S → ℕ) (old new : Device) (u v : Unpacking) (a b : S) (kept : ℕ) (fault : IoFault)
+    → limits_in u ≡ limits → Stands u [] 0 → WasMissed goes failures old new u v a b kept fault → IsCutOff goes old new a b
+is_cut_off goes failures old new u v a b kept fault same at w =
+    let is = missed_open goes failures old new u v a b kept fault w [] 0 at in
     record {
       octets = w.octets;
       more = w.more;
@@ -150,22 +153,11 @@ is_cut_off goes failures old new u a b kept fault same at w =
 
 -- ---- of answers
 
-pub refused_by : {S : Type 0} (goes : S → List StoryEvent → S → Type 0) (failures : S → ℕ) (old new : Device) (u : Unpacking) (a b : S) (kept : ℕ) (fault : IntakeFault) (e : Refusal)
-    → fault ≡ Refused e → Faults goes failures old new u a b kept fault → WasRefused goes failures old new u a b e ⊎ WasTruncated goes failures old new u a b e
-refused_by goes failures old new u a b kept fault e is f = (subst (λ (x : IntakeFault). Faults goes failures old new u a b kept x) is f).1
-
 -- the count of a sink that refused nothing
 pub calm_of : {S : Type 0} (goes : S → List StoryEvent → S → Type 0) (failures : S → ℕ) (old new : Device) (u : Unpacking) (a b : S) (e : Refusal)
     → e.cause ≢ Sink → WasRefused goes failures old new u a b e ⊎ WasTruncated goes failures old new u a b e → failures b ≡ failures a
 calm_of goes failures old new u a b e other (inl w) = calm_counts e.cause (failures a) (failures b) other w.counts
 calm_of goes failures old new u a b e other (inr w) = w.calm
-
-pub cut_off_by : {S : Type 0} (goes : S → List StoryEvent → S → Type 0) (failures : S → ℕ) (old new : Device) (u : Unpacking) (a b : S) (kept : ℕ) (fault : IntakeFault)
-    → (fault ≡ Read) ⊎ (fault ≡ Interrupted) → limits_in u ≡ limits → Stands u [] 0 → Faults goes failures old new u a b kept fault → IsCutOff goes old new a b
-cut_off_by goes failures old new u a b kept fault (inl is) same at f =
-    is_cut_off goes failures old new u a b kept io.Failed same at (subst (λ (x : IntakeFault). Faults goes failures old new u a b kept x) is f)
-cut_off_by goes failures old new u a b kept fault (inr is) same at f =
-    is_cut_off goes failures old new u a b kept io.Interrupted same at (subst (λ (x : IntakeFault). Faults goes failures old new u a b kept x) is f)
 
 -- an envelope came
 pub come_as : {S : Type 0} (goes : S → List StoryEvent → S → Type 0) (failures : S → ℕ) (settled : S → Type 0) (stuck : S → S → Type 0) (old new : Device) (u : Unpacking) (a b : S) (x : Next) (octets : ℕ)
@@ -186,73 +178,63 @@ end_as goes failures settled stuck old new u a b x is n = subst (λ (y : Next). 
 -- ---- of an unpacker that was fed
 
 -- an unpacker is done
-pub come_whole : {S : Type 0} (goes : S → List StoryEvent → S → Type 0) (settled : S → Type 0) (old new : Device) (u v : Unpacking) (a b : S) (whole : Bool) (octets : ℕ) → whole ≡ true
-    → limits_in u ≡ limits → Stands u [] 0 → FedAsWhole goes settled old new u v a b whole → octets ≡ v.octets → EnvelopeHasCome goes old new v a b octets
-come_whole goes settled old new u v a b whole octets yes_ same at fed counts =
-    let f = subst (λ (x : Bool). FedAsWhole goes settled old new u v a b x) yes_ fed in
-    let told : octets ≡ f.0 = counts ∙ (f.1.done [] 0 at).0.counts ∙ sym f.1.counts in
-    subst (EnvelopeHasCome goes old new v a b) (sym told) (has_come goes old new u v a b f.0 same at f.1)
-
-pub ended_whole : {S : Type 0} (goes : S → List StoryEvent → S → Type 0) (settled : S → Type 0) (old new : Device) (u v : Unpacking) (a b : S) (whole : Bool) → whole ≡ false → FedAsWhole goes settled old new u v a b whole
-    → HasGiven old new [] × IsAtEnd new.octets × goes a [] b × settled b
-ended_whole goes settled old new u v a b whole is fed = subst (λ (x : Bool). FedAsWhole goes settled old new u v a b x) is fed
+pub taken_whole : {S : Type 0} {goes : S → List StoryEvent → S → Type 0} {old mid new : Device} {v w : Unpacking} {a d e : S} {k octets : ℕ} → Joined goes → GiftsJoin → DeliveryMayBeCut → HasTaken goes old mid v a d → WasDone goes mid new v w d e k → octets ≡ w.octets
+    → EnvelopeHasCome goes old new w a e octets
+taken_whole {goes = goes} {old = old} {new = new} {w = w} {a = a} {e = e} {k = k} {octets = octets} joined joins cut h done' counts =
+    let used = raised h.used k in
+    let whole = fed_and_done joined joins cut h.fed done' refl in
+    let told : octets ≡ used = counts ∙ (whole.done [] 0 h.stood).0.counts ∙ sym whole.counts in
+    subst (EnvelopeHasCome goes old new w a e) (sym told) (has_come goes old new h.first w a e used h.within h.stood whole)
 
 -- the sink was held up
-pub held_up : {S : Type 0} (goes : S → List StoryEvent → S → Type 0) (failures : S → ℕ) (stuck : S → S → Type 0) (old new : Device) (u v : Unpacking) (a b : S) → limits_in u ≡ limits → Stands u [] 0
-    → ((c : S) × (used : ℕ) × HasFed goes old new u v a c used × (failures c ≡ failures a) × stuck c b) → IsHeldUp goes failures stuck old new a b
-held_up goes failures stuck old new u v a b same at (c, used, fed, calm, is) =
-    let (there, adds) = fed.stands [] 0 at in
+pub held_up : {S : Type 0} {goes : S → List StoryEvent → S → Type 0} {old mid : Device} {v : Unpacking} {a b : S} (failures : S → ℕ) (stuck : S → S → Type 0) (d : S) → HasTaken goes old mid v a b → failures b ≡ failures a → stuck b d → IsHeldUp goes failures stuck old mid a d
+held_up {b = b} failures stuck d h calm is =
+    let (there, adds) = h.fed.stands [] 0 h.stood in
     record {
-      octets = fed.octets;
-      more = fed.more;
-      told = c;
-      came = fed.came;
+      octets = h.fed.octets;
+      more = h.fed.more;
+      told = b;
+      came = h.fed.came;
       calm = calm;
-      is_open = subst (λ (l : Limits). IsOpen l fed.octets) (fed.limits ∙ same) there.is_open;
-      delivered = delivered_of fed.octets fed.more adds;
+      is_open = subst (λ (l : Limits). IsOpen l h.fed.octets) (h.fed.limits ∙ h.within) there.is_open;
+      delivered = delivered_of h.fed.octets h.fed.more adds;
       holds_back = is;
     }
+
+-- the intake gives nothing, and where its reader failed the sink holds nothing
+pub taken_faults : {S : Type 0} {goes : S → List StoryEvent → S → Type 0} {old mid : Device} {v : Unpacking} {a d : S} (failures : S → ℕ) (settled : S → Type 0) → Joined goes → GiftsJoin → DeliveryMayBeCut → (new : Device) (w : Unpacking) (e : S) (block : List ℕ) (failed : Option ℕ) (fault : IntakeFault)
+    → (h : HasTaken goes old mid v a d) → failures d ≡ failures a → (block ≡ [] → settled d) → ((kept : ℕ) × (failed ≡ Some kept) × Faults goes failures mid new v w d e kept fault) → (IsOfReader fault → (block ≡ []) × LeftAs v d w e)
+    → ((kept : ℕ) × Faults goes failures old new h.first w a e kept fault) × (IsOfReader fault → settled e)
+taken_faults failures settled joined joins cut new w e block failed fault h calm rests (kept, keeps, f) unread = (
+  (kept, fed_and_faults failures joined joins cut new w e kept fault h.fed calm f),
+  λ of_reader.
+      let (empty, (unpacker, same)) = unread of_reader in
+      subst settled (sym same) (rests empty),
+)
 
 -- ---- of faults
 
 pub fault_next : {S : Type 0} (goes : S → List StoryEvent → S → Type 0) (failures : S → ℕ) (settled : S → Type 0) (stuck : S → S → Type 0) (old new : Device) (u v : Unpacking) (a b : S) (fault : IntakeFault) (result : Result Next CommandFault) → limits_in u ≡ limits → Stands u [] 0
-    → ((kept : ℕ) × Faults goes failures old new u a b kept fault) × (IsOfReader fault → settled b) → IsOfFault fault result → IsNext goes failures settled stuck old new v a b result
+    → ((kept : ℕ) × Faults goes failures old new u v a b kept fault) × (IsOfReader fault → settled b) → IsOfFault fault result → IsNext goes failures settled stuck old new v a b result
 fault_next goes failures settled stuck old new u v a b (Refused e) result same at ((kept, f), rests) (inl (sink, is)) =
     subst (IsNext goes failures settled stuck old new v a b) (sym is) (inl (is_unheard goes failures old new u a b e at sink f.1))
 fault_next goes failures settled stuck old new u v a b (Refused e) result same at ((kept, f), rests) (inr (other, is)) =
     subst (IsNext goes failures settled stuck old new v a b) (sym is) (is_refusal goes failures old new u a b e same at other f.1)
 fault_next goes failures settled stuck old new u v a b Read result same at ((kept, f), rests) is =
-    subst (IsNext goes failures settled stuck old new v a b) (sym is) (is_cut_off goes failures old new u a b kept io.Failed same at f, rests tt)
+    subst (IsNext goes failures settled stuck old new v a b) (sym is) (is_cut_off goes failures old new u v a b kept io.Failed same at f, rests tt)
 fault_next goes failures settled stuck old new u v a b Interrupted result same at ((kept, f), rests) is =
-    subst (IsNext goes failures settled stuck old new v a b) (sym is) (is_cut_off goes failures old new u a b kept io.Interrupted same at f, rests tt)
+    subst (IsNext goes failures settled stuck old new v a b) (sym is) (is_cut_off goes failures old new u v a b kept io.Interrupted same at f, rests tt)
 
-pub fault_calm : {S : Type 0} (goes : S → List StoryEvent → S → Type 0) (failures : S → ℕ) (settled : S → Type 0) (stuck : S → S → Type 0) (old new : Device) (u : Unpacking) (a b : S) (fault : IntakeFault) (result : Result Next CommandFault)
-    → ((kept : ℕ) × Faults goes failures old new u a b kept fault) × (IsOfReader fault → settled b) → IsOfFault fault result → IsCalm (failures a) (failures b) result
-fault_calm goes failures settled stuck old new u a b (Refused e) result ((kept, f), rests) (inl (sink, is)) = subst (IsCalm (failures a) (failures b)) (sym is) tt
-fault_calm goes failures settled stuck old new u a b (Refused e) result ((kept, f), rests) (inr (other, is)) =
+pub fault_calm : {S : Type 0} (goes : S → List StoryEvent → S → Type 0) (failures : S → ℕ) (settled : S → Type 0) (stuck : S → S → Type 0) (old new : Device) (u v : Unpacking) (a b : S) (fault : IntakeFault) (result : Result Next CommandFault)
+    → ((kept : ℕ) × Faults goes failures old new u v a b kept fault) × (IsOfReader fault → settled b) → IsOfFault fault result → IsCalm (failures a) (failures b) result
+fault_calm goes failures settled stuck old new u v a b (Refused e) result ((kept, f), rests) (inl (sink, is)) = subst (IsCalm (failures a) (failures b)) (sym is) tt
+fault_calm goes failures settled stuck old new u v a b (Refused e) result ((kept, f), rests) (inr (other, is)) =
     subst (IsCalm (failures a) (failures b)) (sym is) (calm_of goes failures old new u a b e other f.1)
-fault_calm goes failures settled stuck old new u a b Read result ((kept, f), rests) is = subst (IsCalm (failures a) (failures b)) (sym is) f.calm
-fault_calm goes failures settled stuck old new u a b Interrupted result ((kept, f), rests) is = subst (IsCalm (failures a) (failures b)) (sym is) f.calm
+fault_calm goes failures settled stuck old new u v a b Read result ((kept, f), rests) is = subst (IsCalm (failures a) (failures b)) (sym is) f.calm
+fault_calm goes failures settled stuck old new u v a b Interrupted result ((kept, f), rests) is = subst (IsCalm (failures a) (failures b)) (sym is) f.calm
 
 pub fault_lives : (failed : Option ℕ) (fault : IntakeFault) (result : Result Next CommandFault) → IsOfFault fault result → CanAskForMore failed result
 fault_lives failed (Refused e) result (inl (sink, is)) = subst (CanAskForMore failed) (sym is) tt
 fault_lives failed (Refused e) result (inr (other, is)) = subst (CanAskForMore failed) (sym is) tt
 fault_lives failed Read result is = subst (CanAskForMore failed) (sym is) tt
 fault_lives failed Interrupted result is = subst (CanAskForMore failed) (sym is) tt
-
--- ---- of what halted it
-
-pub halt_next : {S : Type 0} (goes : S → List StoryEvent → S → Type 0) (failures : S → ℕ) (settled : S → Type 0) (stuck : S → S → Type 0) (old new : Device) (u v : Unpacking) (a b : S) (x : Halt) (result : Result Next CommandFault) → limits_in u ≡ limits → Stands u [] 0
-    → HaltsBy goes failures settled stuck old new u v a b x → IsOfHalt x result → IsNext goes failures settled stuck old new v a b result
-halt_next goes failures settled stuck old new u v a b halt.Outlet result same at h is =
-    subst (IsNext goes failures settled stuck old new v a b) (sym is) (inr (held_up goes failures stuck old new u v a b same at h))
-halt_next goes failures settled stuck old new u v a b (halt.Intake fault) result same at h is = fault_next goes failures settled stuck old new u v a b fault result same at h is
-
-pub halt_calm : {S : Type 0} (goes : S → List StoryEvent → S → Type 0) (failures : S → ℕ) (settled : S → Type 0) (stuck : S → S → Type 0) (old new : Device) (u v : Unpacking) (a b : S) (x : Halt) (result : Result Next CommandFault)
-    → HaltsBy goes failures settled stuck old new u v a b x → IsOfHalt x result → IsCalm (failures a) (failures b) result
-halt_calm goes failures settled stuck old new u v a b halt.Outlet result h is = subst (IsCalm (failures a) (failures b)) (sym is) tt
-halt_calm goes failures settled stuck old new u v a b (halt.Intake fault) result h is = fault_calm goes failures settled stuck old new u a b fault result h is
-
-pub halt_lives : (failed : Option ℕ) (x : Halt) (result : Result Next CommandFault) → IsOfHalt x result → CanAskForMore failed result
-halt_lives failed halt.Outlet result is = subst (CanAskForMore failed) (sym is) tt
-halt_lives failed (halt.Intake fault) result is = fault_lives failed fault result is

@@ -1,6 +1,6 @@
 //! What comes next of an input.
 
-ghost use Rattle.std.specs.Prelude.{◌≡◌, [], None, IfOk, IfErr, OnOk, OnErr};
+ghost use Rattle.std.specs.Prelude.{◌≡◌, [], None, OnOk, OnErr};
 ghost use Rattle.iim_unpack.specs.States.Intakes.{in_line};
 ghost use Rattle.iim_commands.specs.States.Coming.{IsNext, IsCalm, CanAskForMore};
 
@@ -27,16 +27,8 @@ pub enum Next {
     Refused(Refusal),
 }
 
-/// What stopped an unpacker from being fed.
-enum Halt {
-    /// The sink could not let out what it held.
-    Outlet,
-    /// The intake gave nothing.
-    Intake(IntakeFault),
-}
-
-ghost use Rattle.iim_unpack.specs.States.Unpacking.{Stands, limits_in};
-ghost use Rattle.iim_commands.specs.Feeding.{FedAsWhole, HaltsBy, IsOfFault, IsOfHalt, IsOfRefusal};
+ghost use Rattle.iim_unpack.specs.States.Unpacking.{limits_in};
+ghost use Rattle.iim_commands.specs.Feeding.{IsOfFault, IsOfRefusal};
 ghost use Rattle.iim_commands.specs.Format.Listings.{limits};
 
 /// Lets out what the sink holds, where the intake holds no octets and so has to read.
@@ -50,41 +42,6 @@ fn let_out_before_read<R: Source, S: Outlet>(intake: &Intake<R>, sink: &mut S) -
         return Ok(());
     }
     sink.let_out()
-}
-
-/// Feeds an unpacker up to the end of an envelope: answers whether there was one. Before the intake reads, the sink lets out what it
-/// holds.
-fn feed_envelope<R: Source, S: Outlet>(
-    intake: &mut Intake<R>,
-    unpacker: &mut Unpacker,
-    sink: &mut S,
-) -> Result<bool, Halt>
-    requires alive { intake.old.failed ≡ None }
-    requires fresh { Stands unpacker.old [] 0 }
-    requires limits { limits_in unpacker.old ≡ limits }
-    ensures fed { IfOk result (FedAsWhole S.goes S.settled (in_line R.state intake.old) (in_line R.state intake.new)
-        unpacker.old unpacker.new sink.old sink.new) }
-    ensures calm { OnOk result (S.failures sink.new ≡ S.failures sink.old) }
-    ensures halts { IfErr result (HaltsBy S.goes S.failures S.settled S.stuck (in_line R.state intake.old)
-        (in_line R.state intake.new) unpacker.old unpacker.new sink.old sink.new) }
-    ensures lives { OnOk result (intake.new.failed ≡ None) }
-    ensures leads { R.leads intake.old.reader intake.new.reader }
-{
-    gifts_join();
-    delivery_may_be_cut();
-    open_octets_are_bounded();
-    'feeding: loop {
-        match let_out_before_read(intake, sink) {
-            Ok(()) => {}
-            Err(_) => return Err(Halt::Outlet),
-        }
-        match intake.next_piece(unpacker, sink) {
-            Ok(Fed::More(_)) => {}
-            Ok(Fed::Done(_)) => return Ok(true),
-            Ok(Fed::End) => return Ok(false),
-            Err(fault) => return Err(Halt::Intake(fault)),
-        }
-    }
 }
 
 /// What octets that are refused come to, which may be a fault of the sink.
@@ -108,16 +65,6 @@ fn next_of_fault(fault: IntakeFault) -> Result<Next, CommandFault>
     }
 }
 
-/// What it comes to that an unpacker stopped being fed.
-fn next_of_halt(halt: Halt) -> Result<Next, CommandFault>
-    ensures { IsOfHalt halt result }
-{
-    match halt {
-        Halt::Outlet => Err(CommandFault::CannotWrite),
-        Halt::Intake(fault) => next_of_fault(fault),
-    }
-}
-
 /// Begins an unpacker again, feeds it what comes next, and tells the sink the text of it. Before the input is read, the sink lets out
 /// what it holds.
 pub fn take_next<R: Source, S: Outlet>(
@@ -133,10 +80,20 @@ pub fn take_next<R: Source, S: Outlet>(
     ensures lives { CanAskForMore intake.new.failed result }
     ensures leads { R.leads intake.old.reader intake.new.reader }
 {
+    gifts_join();
+    delivery_may_be_cut();
+    open_octets_are_bounded();
     unpacker.again();
-    match feed_envelope(intake, unpacker, sink) {
-        Ok(true) => Ok(Next::Envelope(unpacker.octets())),
-        Ok(false) => Ok(Next::End),
-        Err(halt) => next_of_halt(halt),
+    'feeding: loop {
+        match let_out_before_read(intake, sink) {
+            Ok(()) => {}
+            Err(_) => return Err(CommandFault::CannotWrite),
+        }
+        match intake.next_piece(unpacker, sink) {
+            Ok(Fed::More(_)) => {}
+            Ok(Fed::Done(_)) => return Ok(Next::Envelope(unpacker.octets())),
+            Ok(Fed::End) => return Ok(Next::End),
+            Err(fault) => return next_of_fault(fault),
+        }
     }
 }

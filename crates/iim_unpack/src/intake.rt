@@ -1,12 +1,13 @@
 //! Envelopes, one after another, from a source.
 
-ghost use Rattle.std.specs.Prelude.{◌≡◌, ◌<◌, [], ℕ, Option, Some, None, Ok, Err, true, false, length, IfOk, IfErr, IsTrue, OnOk, OnErr, ◌↔◌};
+ghost use Rattle.std.specs.Prelude.{◌≡◌, ◌<◌, [], ℕ, List, Option, Some, None, Ok, Err, true, false, length, IfSome, IfNone, IfOk, IfErr, IsTrue, OnOk, OnErr, ◌↔◌};
 ghost use Rattle.std.specs.Io.KnownBytes.{IsAtEnd};
 ghost use Rattle.iim_dataset.specs.States.Devices.{HasGiven, MissedAfter};
 ghost use Rattle.iim_unpack.specs.States.Blocks.{with_held};
-ghost use Rattle.iim_unpack.specs.States.Intakes.{in_line, IsReady, IsOfReader, Faults, FedEnvelope, FedPiece, Gives};
-ghost use Rattle.iim_unpack.specs.IntakeSteps.{FedAs, read_fault};
-ghost use Rattle.iim_unpack.specs.States.Unpacking.{failed_at};
+ghost use Rattle.iim_unpack.specs.States.Intakes.{in_line, IsReady, FailsFor, FedEnvelope, FedPiece, Gives, ReadsWhereEmpty};
+ghost use Rattle.iim_unpack.specs.IntakeSteps.{IsRefusedPiece, read_fault};
+ghost use Rattle.iim_places.specs.Format.Open.{IsTruncatedAt};
+ghost use Rattle.iim_unpack.specs.States.Unpacking.{Unpacking, Stands, failed_at};
 ghost use Rattle.iim_places.specs.States.Counts.{raised};
 ghost use Rattle.iim_unpack.specs.declared.intake.IntakeFault.TheVariants.{Refused as RefusedFault};
 
@@ -79,56 +80,16 @@ pub enum Fed {
     End,
 }
 
-/// Feeds an unpacker once: from a block, or where this has no octets from one read of the reader. With a fault comes the octet that
-/// is to be told from then on.
-fn feed_piece<R: Source, S: StorySink>(
-    block: &mut Block,
-    reader: &mut R,
-    unpacker: &mut Unpacker,
-    sink: &mut S,
-) -> Result<Fed, (IntakeFault, u64)>
-    requires ready { IsReady unpacker.old }
-    ensures fed { IfOk result (FedPiece S.goes (with_held block.old (R.state reader.old))
-        (with_held block.new (R.state reader.new)) unpacker.old unpacker.new sink.old sink.new) }
-    ensures calm { OnOk result (S.failures sink.new ≡ S.failures sink.old) }
-    ensures faults { IfErr result (λ halt. Faults S.goes S.failures (with_held block.old (R.state reader.old))
-        (with_held block.new (R.state reader.new)) unpacker.old sink.old sink.new halt.1 halt.0) }
-    ensures unread { IfErr result (λ halt. IsOfReader halt.0 → (sink.new ≡ sink.old) × (block.old ≡ [])) }
-    ensures ended { IfOk result (λ fed. fed ≡ Fed.End → block.old ≡ []) }
-    ensures held { 0 < length block.old → reader.new ≡ reader.old }
-    ensures leads { R.leads reader.old reader.new }
+/// What is missing where nothing is next in line: None where the unpacker stands on no octets.
+fn missing_at_end(unpacker: &Unpacker) -> Option<Refusal>
+    ensures none { IfNone result ((p : List ℕ) (n : ℕ) → Stands unpacker.now p n → p ≡ []) }
+    ensures truncated { IfSome result (λ e. (p : List ℕ) (n : ℕ) → Stands unpacker.now p n
+        → (p ≡ [] → ⊥) × IsTruncatedAt p n e) }
 {
-    gifts_join();
-    delivery_may_be_cut();
-    unpacker.stands_somewhere();
-    match next_piece(block, reader) {
-        Ok(true) => {}
-        Ok(false) => {
-            if unpacker.is_fresh() {
-                return Ok(Fed::End);
-            }
-            match unpacker.end_of_input() {
-                Some(refusal) => return Err((IntakeFault::Refused(refusal), refusal.octet)),
-                None => unreachable!(),
-            }
-        }
-        Err(fault) => return Err((read_fault(fault), unpacker.octets())),
+    if unpacker.is_fresh() {
+        return None;
     }
-    let count = block.held().len();
-    match unpacker.feed(block.held(), sink) {
-        Ok(Progress::More) => {
-            block.pass(count);
-            Ok(Fed::More(raised(0, count)))
-        }
-        Ok(Progress::Done { used: last }) => {
-            block.pass(last);
-            Ok(Fed::Done(raised(0, last)))
-        }
-        Err(refusal) => {
-            block.pass(count);
-            Err((IntakeFault::Refused(refusal), refusal.octet))
-        }
-    }
+    unpacker.end_of_input()
 }
 
 /// A count of octets, and so many more; it stays at the greatest number of 64 bits.
@@ -136,39 +97,6 @@ fn summed(used: u64, more: u64) -> u64
     ensures { result ≡ raised used more }
 {
     used.saturating_add(more)
-}
-
-/// Feeds an unpacker from a block, and then from the reader after it, up to the end of an envelope: answers how many octets
-/// it used, or None where nothing is next in line and the unpacker stands on no octets. With a fault comes the octet that is
-/// to be told from then on.
-fn feed_line<R: Source, S: StorySink>(
-    block: &mut Block,
-    reader: &mut R,
-    unpacker: &mut Unpacker,
-    sink: &mut S,
-) -> Result<Option<u64>, (IntakeFault, u64)>
-    requires ready { IsReady unpacker.old }
-    ensures fed { IfOk result (FedAs S.goes (with_held block.old (R.state reader.old))
-        (with_held block.new (R.state reader.new)) unpacker.old unpacker.new sink.old sink.new) }
-    ensures calm { OnOk result (S.failures sink.new ≡ S.failures sink.old) }
-    ensures faults { IfErr result (λ halt.
-        Faults S.goes S.failures (with_held block.old (R.state reader.old)) (with_held block.new (R.state reader.new))
-        unpacker.old sink.old sink.new halt.1 halt.0) }
-    ensures leads { R.leads reader.old reader.new }
-{
-    gifts_join();
-    delivery_may_be_cut();
-    open_octets_are_bounded();
-    unpacker.stands_somewhere();
-    let mut used: u64 = 0;
-    'feeding: loop {
-        match feed_piece(block, reader, unpacker, sink) {
-            Ok(Fed::More(more)) => used = summed(used, more),
-            Ok(Fed::Done(last)) => return Ok(Some(summed(used, last))),
-            Ok(Fed::End) => return Ok(None),
-            Err(halt) => return Err(halt),
-        }
-    }
 }
 
 /// The octets of a source, from which envelopes are taken one after another.
@@ -210,6 +138,41 @@ impl<R: Source> Intake<R> {
         !self.block.held().is_empty()
     }
 
+    /// Feeds an unpacker the octets that are held.
+    fn feed_held<S: StorySink>(
+        &mut self,
+        unpacker: &mut Unpacker,
+        sink: &mut S,
+    ) -> Result<Fed, IntakeFault>
+        requires ready { IsReady unpacker.old }
+        requires some { 0 < length self.old.block }
+        ensures fed { IfOk result (FedPiece S.goes (in_line R.state self.old) (in_line R.state self.new) unpacker.old
+            unpacker.new sink.old sink.new) }
+        ensures not_end { IfOk result (λ fed. fed ≡ Fed.End → ⊥) }
+        ensures calm { OnOk result ((self.new.failed ≡ self.old.failed) × (S.failures sink.new ≡ S.failures sink.old)) }
+        ensures refused { IfErr result (IsRefusedPiece S.goes S.failures R.state self.old self.new unpacker.old sink.old
+            sink.new) }
+        ensures keeps { (self.new.reader ≡ self.old.reader) × (self.new.octets ≡ self.old.octets) }
+    {
+        unpacker.stands_somewhere();
+        let count = self.block.held().len();
+        match unpacker.feed(self.block.held(), sink) {
+            Ok(Progress::More) => {
+                self.block.pass(count);
+                Ok(Fed::More(raised(0, count)))
+            }
+            Ok(Progress::Done { used: last }) => {
+                self.block.pass(last);
+                Ok(Fed::Done(raised(0, last)))
+            }
+            Err(refusal) => {
+                self.block.pass(count);
+                self.failed = Some(refusal.octet);
+                Err(IntakeFault::Refused(refusal))
+            }
+        }
+    }
+
     /// Feeds an unpacker the octets that were read and not used yet; where there are none, reads once, past interruptions, and feeds
     /// it what came. After a fault each call answers it as a refusal, as [`Intake::next_envelope`] does.
     pub fn next_piece<S: StorySink>(
@@ -218,21 +181,14 @@ impl<R: Source> Intake<R> {
         sink: &mut S,
     ) -> Result<Fed, IntakeFault>
         requires ready { IsReady unpacker.old }
-        ensures fed { self.old.failed ≡ None
-            → IfOk result (FedPiece S.goes (in_line R.state self.old) (in_line R.state self.new) unpacker.old
-            unpacker.new sink.old sink.new) }
-        ensures calm { OnOk result (S.failures sink.new ≡ S.failures sink.old) }
-        ensures faults { self.old.failed ≡ None
-            → IfErr result (λ fault. (kept : ℕ) × (self.new.failed ≡ Some kept)
-            × Faults S.goes S.failures (in_line R.state self.old) (in_line R.state self.new) unpacker.old sink.old
-            sink.new kept fault) }
-        // Where octets were held, nothing is read: so no fault of the reader comes, and no end. A fault of the reader tells the sink nothing.
-        ensures unread { self.old.failed ≡ None
-            → IfErr result (λ fault. IsOfReader fault → (sink.new ≡ sink.old) × (self.old.block ≡ [])) }
-        ensures ended { self.old.failed ≡ None → IfOk result (λ fed. fed ≡ Fed.End → self.old.block ≡ []) }
-        ensures held { 0 < length self.old.block → self.new.reader ≡ self.old.reader }
+        ensures fed { self.old.failed ≡ None → IfOk result (FedPiece S.goes (in_line R.state self.old)
+            (in_line R.state self.new) unpacker.old unpacker.new sink.old sink.new) }
+        ensures calm { OnOk result ((self.new.failed ≡ None) × (S.failures sink.new ≡ S.failures sink.old)) }
+        ensures faults { self.old.failed ≡ None → IfErr result (FailsFor S.goes S.failures R.state self.old self.new
+            unpacker.old unpacker.new sink.old sink.new) }
+        // Where octets were held, nothing is read: so no fault of the reader comes, and no end. At such a fault nothing was fed.
+        ensures reads { ReadsWhereEmpty self.old self.new unpacker.old unpacker.new sink.old sink.new result }
         ensures octets { self.new.octets ≡ self.old.octets }
-        ensures lives { OnOk result (self.new.failed ≡ None) }
         ensures again { (octet : ℕ) → self.old.failed ≡ Some octet → (result ≡ Err (RefusedFault (failed_at octet)))
             × (unpacker.new ≡ unpacker.old) × (sink.new ≡ sink.old) × (self.new ≡ self.old) }
         ensures leads { R.leads self.old.reader self.new.reader }
@@ -240,17 +196,28 @@ impl<R: Source> Intake<R> {
         if let Some(octet) = self.failed {
             return Err(IntakeFault::Refused(failed_at(octet)));
         }
-        match feed_piece(&mut self.block, &mut self.reader, unpacker, sink) {
-            Ok(fed) => Ok(fed),
-            Err((fault, kept)) => {
-                self.failed = Some(kept);
-                Err(fault)
+        gifts_join();
+        unpacker.stands_somewhere();
+        match next_piece(&mut self.block, &mut self.reader) {
+            Ok(true) => self.feed_held(unpacker, sink),
+            Ok(false) => match missing_at_end(unpacker) {
+                None => Ok(Fed::End),
+                Some(refusal) => {
+                    self.failed = Some(refusal.octet);
+                    Err(IntakeFault::Refused(refusal))
+                }
+            },
+            Err(fault) => {
+                self.failed = Some(unpacker.octets());
+                Err(read_fault(fault))
             }
         }
     }
 
     /// Feeds an unpacker up to the end of the next envelope, whose first octets it may have been fed: answers whether there was one,
     /// false where the input ends and the unpacker stands on no octets. The octets after the envelope stay next in line.
+    ///
+    /// After a fault of the reader the unpacker stands on the octets that came, and may be fed more by another intake.
     pub fn feed_envelope<S: StorySink>(
         &mut self,
         unpacker: &mut Unpacker,
@@ -259,30 +226,32 @@ impl<R: Source> Intake<R> {
         requires ready { IsReady unpacker.old }
         ensures fed { IfOk result (FedEnvelope S.goes (in_line R.state self.old) (in_line R.state self.new) unpacker.old
             unpacker.new sink.old sink.new self.new.octets) }
-        ensures calm { OnOk result (S.failures sink.new ≡ S.failures sink.old) }
-        ensures faults { self.old.failed ≡ None
-            → IfErr result (λ fault. (kept : ℕ) × (self.new.failed ≡ Some kept)
-            × Faults S.goes S.failures (in_line R.state self.old) (in_line R.state self.new) unpacker.old sink.old
-            sink.new kept fault) }
+        ensures calm { OnOk result ((self.new.failed ≡ None) × (S.failures sink.new ≡ S.failures sink.old)) }
+        ensures faults { self.old.failed ≡ None → IfErr result (FailsFor S.goes S.failures R.state self.old self.new
+            unpacker.old unpacker.new sink.old sink.new) }
         ensures none { OnErr result (self.new.octets ≡ 0) }
-        ensures lives { OnOk result (self.new.failed ≡ None) }
         ensures again { (octet : ℕ) → self.old.failed ≡ Some octet → (result ≡ Err (RefusedFault (failed_at octet)))
             × (unpacker.new ≡ unpacker.old) × (sink.new ≡ sink.old) × (self.new ≡ record (self.old) { octets = 0 }) }
         ensures leads { R.leads self.old.reader self.new.reader }
     {
+        gifts_join();
+        delivery_may_be_cut();
+        open_octets_are_bounded();
+        unpacker.stands_somewhere();
         self.octets = 0;
         if let Some(octet) = self.failed {
             return Err(IntakeFault::Refused(failed_at(octet)));
         }
-        match feed_line(&mut self.block, &mut self.reader, unpacker, sink) {
-            Ok(Some(used)) => {
-                self.octets = used;
-                Ok(true)
-            }
-            Ok(None) => Ok(false),
-            Err((fault, octet)) => {
-                self.failed = Some(octet);
-                Err(fault)
+        let mut used: u64 = 0;
+        'feeding: loop {
+            match self.next_piece(unpacker, sink) {
+                Ok(Fed::More(more)) => used = summed(used, more),
+                Ok(Fed::Done(last)) => {
+                    self.octets = summed(used, last);
+                    return Ok(true);
+                }
+                Ok(Fed::End) => return Ok(false),
+                Err(fault) => return Err(fault),
             }
         }
     }
@@ -298,13 +267,10 @@ impl<R: Source> Intake<R> {
         ensures gives { self.old.failed ≡ None
             → IfOk result (Gives S.goes (in_line R.state self.old) (in_line R.state self.new) unpacker sink.old sink.new
             self.new.octets) }
-        ensures calm { OnOk result (S.failures sink.new ≡ S.failures sink.old) }
-        ensures faults { self.old.failed ≡ None
-            → IfErr result (λ fault. (kept : ℕ) × (self.new.failed ≡ Some kept)
-            × Faults S.goes S.failures (in_line R.state self.old) (in_line R.state self.new) unpacker sink.old sink.new
-            kept fault) }
+        ensures calm { OnOk result ((self.new.failed ≡ None) × (S.failures sink.new ≡ S.failures sink.old)) }
+        ensures faults { self.old.failed ≡ None → IfErr result (λ fault. (left : Unpacking) × FailsFor S.goes S.failures
+            R.state self.old self.new unpacker left sink.old sink.new fault) }
         ensures none { OnErr result (self.new.octets ≡ 0) }
-        ensures lives { OnOk result (self.new.failed ≡ None) }
         ensures again { (octet : ℕ) → self.old.failed ≡ Some octet → (result ≡ Err (RefusedFault (failed_at octet)))
             × (sink.new ≡ sink.old) × (self.new ≡ record (self.old) { octets = 0 }) }
         ensures leads { R.leads self.old.reader self.new.reader }

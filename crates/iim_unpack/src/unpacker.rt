@@ -384,8 +384,7 @@ impl Unpacker {
             × LeftAs self.old sink.old self.new sink.new }
         ensures limits { self.old.refused ≡ None → OnOk result (limits_in self.new ≡ limits_in self.old) }
         // It holds what the limits allow, and 256 octets at most beside that; and whatever it answers, it takes no memory.
-        ensures held { self.new.refused ≡ None → HoldsFew self.new }
-        ensures room { room_in self.new ≡ room_in self.old }
+        ensures memory { (room_in self.new ≡ room_in self.old) × (self.new.refused ≡ None → HoldsFew self.new) }
     {
         feed_laws();
         readers_tell_sizes();

@@ -1,5 +1,5 @@
 -- What an intake has next in line.
-use Rattle.std.specs.Prelude.{◌≡◌, ℕ, ◌<◌, ◌⊎◌, ⊤, false, List, [], ◌++◌, length, take, slice_index, Option, None, Some, Bool, true}
+use Rattle.std.specs.Prelude.{◌≡◌, ℕ, ◌<◌, ◌⊎◌, ⊤, false, List, [], ◌++◌, length, take, slice_index, Option, None, Some, Bool, true, Result, IfOk, IfErr}
 use Rattle.std.specs.Io.KnownBytes.{IsAtEnd}
 use Rattle.iim_dataset.specs.States.Devices.{Device, HasGiven, MissedAfter}
 use Rattle.iim_dataset.specs.declared.device.IoFault.{IoFault}
@@ -11,7 +11,7 @@ use Rattle.iim_unpack.specs.States.Blocks.{with_held}
 use Rattle.iim_places.specs.Format.Framed.{AreWithin}
 use Rattle.iim_unpack.specs.States.Parts.{CountsFor, has_ended}
 use Rattle.iim_places.specs.Format.Refusals.{refusal_at}
-use Rattle.iim_unpack.specs.States.Unpacking.{Unpacking, Stands, IsDoneWith, limits_in}
+use Rattle.iim_unpack.specs.States.Unpacking.{Unpacking, Stands, IsDoneWith, LeftAs, limits_in}
 use Rattle.iim_places.specs.States.Counts.{raised}
 use Rattle.iim_places.specs.Format.Open.{IsOpen, Delivers, RefusesNext, IsTruncatedAt}
 use Rattle.iim_unpack.specs.Format.Value.{HasParts}
@@ -112,26 +112,41 @@ pub record WasTruncated {S : Type 0} (goes : S → List story.StoryEvent → S �
   pub calm : failures b ≡ failures a
   pub truncated : (p : List ℕ) (n : ℕ) → Stands u p n → IsTruncatedIn (limits_in u) p n octets more e
 
--- Octets came, which are open, and then this fault; the number is what the unpacker counts then.
-pub record WasMissed {S : Type 0} (goes : S → List story.StoryEvent → S → Type 0) (failures : S → ℕ) (old new : Device) (u : Unpacking) (a b : S) (kept : ℕ) (fault : IoFault) : Type 0 where
+-- Octets came, on which the unpacker stands now, and then this fault; the number is what the unpacker counts.
+pub record WasMissed {S : Type 0} (goes : S → List story.StoryEvent → S → Type 0) (failures : S → ℕ) (old new : Device) (u v : Unpacking) (a b : S) (kept : ℕ) (fault : IoFault) : Type 0 where
   pub octets : List ℕ
   pub more : List story.StoryEvent
   pub missed : MissedAfter old new octets fault
   pub told : goes a more b
   pub calm : failures b ≡ failures a
-  pub is_open : (p : List ℕ) (n : ℕ) → Stands u p n → IsOpen (limits_in u) (p ++ octets) × Delivers p octets more × (kept ≡ raised n (length octets))
+  pub counts : kept ≡ v.octets
+  pub limits : limits_in v ≡ limits_in u
+  pub stands : StandsOn u v octets more
 
--- why an intake gives nothing, and the octet that it keeps for later calls
-abbrev pub Faults : {S : Type 0} → (S → List story.StoryEvent → S → Type 0) → (S → ℕ) → Device → Device → Unpacking → S → S → ℕ → IntakeFault → Type 0
-Faults goes failures old new u a b kept (Refused e) = (kept ≡ e.octet) × (WasRefused goes failures old new u a b e ⊎ WasTruncated goes failures old new u a b e)
-Faults goes failures old new u a b kept Read = WasMissed goes failures old new u a b kept io.Failed
-Faults goes failures old new u a b kept Interrupted = WasMissed goes failures old new u a b kept io.Interrupted
+-- why an intake gives nothing, and the octet that it keeps for later calls (of the unpacker before and after)
+abbrev pub Faults : {S : Type 0} → (S → List story.StoryEvent → S → Type 0) → (S → ℕ) → Device → Device → Unpacking → Unpacking → S → S → ℕ → IntakeFault → Type 0
+Faults goes failures old new u v a b kept (Refused e) = (kept ≡ e.octet) × (WasRefused goes failures old new u a b e ⊎ WasTruncated goes failures old new u a b e)
+Faults goes failures old new u v a b kept Read = WasMissed goes failures old new u v a b kept io.Failed
+Faults goes failures old new u v a b kept Interrupted = WasMissed goes failures old new u v a b kept io.Interrupted
+
+-- The intake keeps an octet for later calls, and this is why it gives nothing.
+abbrev pub FailsFor : {R S : Type 0} → (S → List story.StoryEvent → S → Type 0) → (S → ℕ) → (R → Device) → Intake R → Intake R → Unpacking → Unpacking → S → S → IntakeFault → Type 0
+FailsFor goes failures state old new u v a b fault = (kept : ℕ) × (new.failed ≡ Some kept) × Faults goes failures (in_line state old) (in_line state new) u v a b kept fault
 
 -- It is a fault of the reader.
 abbrev pub IsOfReader : IntakeFault → Type 0
 IsOfReader (Refused e) = ⊥
 IsOfReader Read = ⊤
 IsOfReader Interrupted = ⊤
+
+-- Nothing is read where octets are held.
+pub record ReadsWhereEmpty {R S : Type 0} (old new : Intake R) (u v : Unpacking) (a b : S) (result : Result Fed IntakeFault) : Type 0 where
+  -- Where octets were held, the reader is as before.
+  pub held : 0 < length old.block → new.reader ≡ old.reader
+  -- There is an end only where none were held.
+  pub ended : IfOk result (λ fed. fed ≡ piece.End → old.block ≡ [])
+  -- The reader has a fault only where none were held, and then nothing was fed: unpacker and sink are as before.
+  pub unread : IfErr result (λ fault. IsOfReader fault → (old.block ≡ []) × LeftAs u a v b)
 
 -- The octets, after those on which an unpacker stood, are an envelope with this value.
 pub record ComesNext (limits : Limits) (p octets : List ℕ) (more : List story.StoryEvent) (got : Unpacked) : Type 0 where

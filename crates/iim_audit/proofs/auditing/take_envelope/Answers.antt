@@ -36,5 +36,5 @@ returns-in-Err-clause-none g c = λ alive.
     let left = c.feed_envelope.new.self in
     let P : AuditCause → Type 0 = λ cause. TookNone (limits_in c.args.unpacker.now) old new c.args.intake.now.octets left.failed left.octets cause in
     subst P (sym c.cause_of.ensures)
-    (none CountsWords (λ (sink : WordsSoFar). 0) (limits_in c.args.unpacker.now) old new c.again.new.self c.new-count.result c.feed_envelope.new.sink faults.0 c.args.intake.now.octets
+    (none CountsWords (λ (sink : WordsSoFar). 0) (limits_in c.args.unpacker.now) old new c.again.new.self c.feed_envelope.new.unpacker c.new-count.result c.feed_envelope.new.sink faults.0 c.args.intake.now.octets
     left.failed left.octets c.in-Err.fault refl refl faults.1 c.in-Err.ensures.none c.again.ensures.limits c.again.ensures.stands faults.2)

@@ -21,3 +21,6 @@ returns-in-Ok-clause-gives g c =
     λ none. given_by g.S.StorySink.goes old new c.args.unpacker c.feed_envelope.new.unpacker c.args.sink.now c.feed_envelope.new.sink c.feed_envelope.new.self.octets c.in-Ok.got
     (fed_envelope g.S.StorySink.goes old new c.args.unpacker c.feed_envelope.new.unpacker c.args.sink.now c.feed_envelope.new.sink c.feed_envelope.new.self.octets c.in-Ok-true.field-0 c.in-Ok-true.field-0-test c.in-Ok-true.ensures.fed)
     c.in-Ok.ensures.value
+
+pub returns-in-Err-clause-faults : goal.returns-in-Err-clause-faults
+returns-in-Err-clause-faults g c = λ none. (c.feed_envelope.new.unpacker, c.in-Err.ensures.faults none)

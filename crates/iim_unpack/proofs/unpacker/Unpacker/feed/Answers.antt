@@ -1,11 +1,14 @@
-use Rattle.std.proofs.Common.{◌≡◌, ℕ, [], true, false, refl, ap, sym, subst, ◌∙◌}
+use Rattle.std.proofs.Common.{◌≡◌, ℕ, [], true, false, None, refl, ap, sym, subst, ◌∙◌}
 use Rattle.iim_places.specs.Format.Refusals.{refusal_at}
-use Rattle.iim_unpack.specs.States.Unpacking.{Unpacking, Stands, IsRefusedIn, limits_in}
+use Rattle.iim_unpack.specs.States.Unpacking.{Unpacking, Stands, IsRefusedIn, limits_in, room_in}
 use Rattle.iim_unpack.specs.States.Parts.{has_ended}
 use Rattle.wire_story.specs.Format.Delivery as story
 use Rattle.iim_unpack.specs.States.Held.{HoldsFew}
 use Rattle.iim_unpack.proofs.Held.{holds_few}
 use Rattle.iim_unpack.proofs.Feeding.{goes_more, goes_done, refused_in, sound_more, sound_done}
+use Rattle.iim_unpack.specs.UnpackerInside.{IsUnpacking}
+use Rattle.iim_unpack.proofs.unpacker.Unpacker.feed.Given.{Over}
+use Rattle.iim_unpack.proofs.unpacker.Unpacker.feed.Goals.{Then-has_ended-2, Else-has_ended-2}
 use Rattle.iim_unpack.proofs.unpacker.Unpacker.feed.Goals as goal
 
 pub returns-then-has_ended-clause-goes : goal.returns-then-has_ended-clause-goes
@@ -66,52 +69,51 @@ returns-in-Err-clause-refused g c =
     (c.refusal_at.ensures ∙ ap (λ (n : ℕ). refusal_at n halt.fault) c.raised-octet.ensures) h.fails in
     (r.0, r.1, λ p a at. subst (λ (w : Unpacking). IsRefusedIn (limits_in w) p a c.args.piece.now r.0 c.refusal_at.result) c.self.view_is (r.2 p a (subst (λ (w : Unpacking). Stands w p a) (sym c.self.view_is) at)))
 
-pub invariant_of-self : goal.invariant_of-self
-invariant_of-self g c =
+-- after the end of an envelope, and within one
+sound_ended : (g : Over) (c : Then-has_ended-2 g) → c.self.inside.refused ≡ None
+    → IsUnpacking (record { reader = c.advance.new.reader; parts = c.advance.new.parts; octets = c.raised-self-inside.result; begun = c.begins-self-inside.result; refused = c.self.inside.refused })
+sound_ended g c none =
     let laws = c.feed_laws.ensures in
     let i = c.self.inside in
     let n = c.advance.new in
     let u : Unpacking = record { reader = i.reader; parts = i.parts; octets = i.octets; begun = i.begun; refused = i.refused } in
     let v : Unpacking = record { reader = n.reader; parts = n.parts; octets = c.raised-self-inside.result; begun = c.begins-self-inside.result; refused = i.refused } in
     let h = c.in-Ok.ensures.taken in
-    λ none. sound_done g.S.StorySink.goes g.S.StorySink.failures laws u v c.args.piece.now c.in-Ok.used c.args.sink.now n.sink (c.readers_tell_sizes.ensures n.parts.object).0 h.advanced h.onward h.takes_calls refl (sym c.if-has_ended-2.ensures) c.raised-self-inside.ensures h.within (c.readers_tell_sizes.ensures n.parts.object).1
+    sound_done g.S.StorySink.goes g.S.StorySink.failures laws u v c.args.piece.now c.in-Ok.used c.args.sink.now n.sink (c.readers_tell_sizes.ensures n.parts.object).0 h.advanced h.onward h.takes_calls refl (sym c.if-has_ended-2.ensures) c.raised-self-inside.ensures h.within (c.readers_tell_sizes.ensures n.parts.object).1
     (c.self.invariant none) (sym c.if-has_ended.ensures)
+
+sound_within : (g : Over) (c : Else-has_ended-2 g) → c.self.inside.refused ≡ None
+    → IsUnpacking (record { reader = c.advance.new.reader; parts = c.advance.new.parts; octets = c.raised-self-inside.result; begun = c.begins-self-inside.result; refused = c.self.inside.refused })
+sound_within g c none =
+    let laws = c.feed_laws.ensures in
+    let i = c.self.inside in
+    let n = c.advance.new in
+    let u : Unpacking = record { reader = i.reader; parts = i.parts; octets = i.octets; begun = i.begun; refused = i.refused } in
+    let v : Unpacking = record { reader = n.reader; parts = n.parts; octets = c.raised-self-inside.result; begun = c.begins-self-inside.result; refused = i.refused } in
+    let h = c.in-Ok.ensures.taken in
+    sound_more g.S.StorySink.goes g.S.StorySink.failures laws u v c.args.piece.now c.in-Ok.used c.args.sink.now n.sink h.advanced h.onward h.takes_calls refl (sym c.if-has_ended-2.ensures) c.raised-self-inside.ensures c.begins-self-inside.ensures
+    (c.self.invariant none) (sym c.if-has_ended.ensures)
+
+pub invariant_of-self : goal.invariant_of-self
+invariant_of-self g c = sound_ended g (goal.at.invariant_of-self g c).Then-has_ended-2
 
 pub invariant_of-self-in-Ok : goal.invariant_of-self-in-Ok
-invariant_of-self-in-Ok g c =
-    let laws = c.feed_laws.ensures in
-    let i = c.self.inside in
-    let n = c.advance.new in
-    let u : Unpacking = record { reader = i.reader; parts = i.parts; octets = i.octets; begun = i.begun; refused = i.refused } in
-    let v : Unpacking = record { reader = n.reader; parts = n.parts; octets = c.raised-self-inside.result; begun = c.begins-self-inside.result; refused = i.refused } in
-    let h = c.in-Ok.ensures.taken in
-    λ none. sound_more g.S.StorySink.goes g.S.StorySink.failures laws u v c.args.piece.now c.in-Ok.used c.args.sink.now n.sink h.advanced h.onward h.takes_calls refl (sym c.if-has_ended-2.ensures) c.raised-self-inside.ensures c.begins-self-inside.ensures
-    (c.self.invariant none) (sym c.if-has_ended.ensures)
+invariant_of-self-in-Ok g c = sound_within g (goal.at.invariant_of-self-in-Ok g c).Else-has_ended-2
 
-pub returns-then-has_ended-clause-held : goal.returns-then-has_ended-clause-held
-returns-then-has_ended-clause-held g c =
+pub returns-then-has_ended-clause-memory : goal.returns-then-has_ended-clause-memory
+returns-then-has_ended-clause-memory g c =
     let i = c.self.inside in
     let u : Unpacking = record { reader = i.reader; parts = i.parts; octets = i.octets; begun = i.begun; refused = i.refused } in
-    λ none. subst HoldsFew c.self.view_is (holds_few c.feed_laws.ensures.tell u (c.self.invariant (ap (λ (w : Unpacking). w.refused) c.self.view_is ∙ none)).stood)
+    (refl, λ none. subst HoldsFew c.self.view_is (holds_few c.feed_laws.ensures.tell u (c.self.invariant (ap (λ (w : Unpacking). w.refused) c.self.view_is ∙ none)).stood))
 
-pub returns-then-has_ended-2-clause-held : goal.returns-then-has_ended-2-clause-held
-returns-then-has_ended-2-clause-held g c =
-    let laws = c.feed_laws.ensures in
-    let i = c.self.inside in
-    let n = c.advance.new in
-    let u : Unpacking = record { reader = i.reader; parts = i.parts; octets = i.octets; begun = i.begun; refused = i.refused } in
-    let v : Unpacking = record { reader = n.reader; parts = n.parts; octets = c.raised-self-inside.result; begun = c.begins-self-inside.result; refused = i.refused } in
-    let h = c.in-Ok.ensures.taken in
-    λ none. holds_few laws.tell v (sound_done g.S.StorySink.goes g.S.StorySink.failures laws u v c.args.piece.now c.in-Ok.used c.args.sink.now n.sink (c.readers_tell_sizes.ensures n.parts.object).0 h.advanced h.onward h.takes_calls refl (sym c.if-has_ended-2.ensures) c.raised-self-inside.ensures h.within (c.readers_tell_sizes.ensures n.parts.object).1
-    (c.self.invariant none) (sym c.if-has_ended.ensures)).stood
+pub returns-then-has_ended-2-clause-memory : goal.returns-then-has_ended-2-clause-memory
+returns-then-has_ended-2-clause-memory g c = (
+  c.advance.ensures.room ∙ ap room_in c.self.view_is,
+  λ none. holds_few c.feed_laws.ensures.tell _ (sound_ended g (goal.at.returns-then-has_ended-2-clause-memory g c).Then-has_ended-2 none).stood,
+)
 
-pub returns-else-has_ended-2-clause-held : goal.returns-else-has_ended-2-clause-held
-returns-else-has_ended-2-clause-held g c =
-    let laws = c.feed_laws.ensures in
-    let i = c.self.inside in
-    let n = c.advance.new in
-    let u : Unpacking = record { reader = i.reader; parts = i.parts; octets = i.octets; begun = i.begun; refused = i.refused } in
-    let v : Unpacking = record { reader = n.reader; parts = n.parts; octets = c.raised-self-inside.result; begun = c.begins-self-inside.result; refused = i.refused } in
-    let h = c.in-Ok.ensures.taken in
-    λ none. holds_few laws.tell v (sound_more g.S.StorySink.goes g.S.StorySink.failures laws u v c.args.piece.now c.in-Ok.used c.args.sink.now n.sink h.advanced h.onward h.takes_calls refl (sym c.if-has_ended-2.ensures) c.raised-self-inside.ensures c.begins-self-inside.ensures
-    (c.self.invariant none) (sym c.if-has_ended.ensures)).stood
+pub returns-else-has_ended-2-clause-memory : goal.returns-else-has_ended-2-clause-memory
+returns-else-has_ended-2-clause-memory g c = (
+  c.advance.ensures.room ∙ ap room_in c.self.view_is,
+  λ none. holds_few c.feed_laws.ensures.tell _ (sound_within g (goal.at.returns-else-has_ended-2-clause-memory g c).Else-has_ended-2 none).stood,
+)

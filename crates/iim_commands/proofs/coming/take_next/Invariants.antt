@@ -1,12 +1,12 @@
-use Rattle.std.proofs.Common.{◌≡◌, ◌-◌, ◌^◌, None, ℕ}
+use Rattle.std.proofs.Common.{◌≡◌, ◌-◌, ◌^◌, None}
 use Rattle.iim_unpack.specs.States.Intakes.{in_line}
-use Rattle.iim_commands.proofs.Feeding.{HasFedTo}
-use Rattle.iim_commands.proofs.coming.feed_envelope.Given as goal
+use Rattle.iim_commands.proofs.Feeding.{HasTaken}
+use Rattle.iim_commands.proofs.coming.take_next.Given as goal
 
 abbrev pub invariant-feeding : goal.invariant-feeding
 invariant-feeding g l = record {
   alive : l.intake.failed ≡ None;
-  fed : (used : ℕ) × HasFedTo g.S.StorySink.goes (in_line g.R.Source.state l.fn.intake) (in_line g.R.Source.state l.intake) l.fn.unpacker l.unpacker l.fn.sink l.sink used;
+  taken : HasTaken g.S.StorySink.goes (in_line g.R.Source.state l.fn.intake) (in_line g.R.Source.state l.intake) l.unpacker l.fn.sink l.sink;
   calm : g.S.StorySink.failures l.sink ≡ g.S.StorySink.failures l.fn.sink;
   leads : g.R.Source.leads l.fn.intake.reader l.intake.reader;
 }

@@ -1,0 +1,64 @@
+use Rattle.std.proofs.Common.{◌<◌, ◌∙◌, refl, subst, sym}
+use Rattle.iim_fields.specs.declared.limits.Limits.{Limits}
+use Rattle.iim_unpack.specs.States.Intakes.{in_line}
+use Rattle.iim_unpack.proofs.Intakes.{fed_none, fed_then, fed_and_done, fed_and_ended, fed_and_faults, fed_few, raised_on, some_came, more_of, done_of, end_of, somewhere, smaller}
+use Rattle.iim_unpack.proofs.intake.Intake.feed_envelope.Goals as goal
+
+pub feeding-init : goal.feeding-init
+feeding-init g c =
+    let a = c.args.sink.now in
+    record {
+      alive = c.in_default.is;
+      octets = refl;
+      fed = (
+        fed_none g.S.StorySink.goes c.gifts_join.ensures (in_line g.R.Source.state c.args.self.now) c.args.unpacker.now a c.stands_somewhere.ensures.counts (g.met.S.StorySink.nothing a),
+        λ none. refl,
+      );
+      ready = c.requires.ready;
+      calm = refl;
+      leads = g.met.R.Source.stays c.args.self.now.reader;
+    }
+
+pub feeding-smaller : goal.feeding-smaller
+feeding-smaller g c =
+    let on = c.feeding.invariant.fed.0 in
+    let here = somewhere c.args.unpacker.now c.requires.ready c.stands_somewhere.ensures.stood in
+    let more = more_of c.in-Ok-More.field-0-is (c.in-Ok-More.ensures.fed c.feeding.invariant.alive) in
+    smaller c.feeding.used c.summed-used.result c.in-Ok-More.more c.summed-used.ensures more.0
+    (fed_few c.open_octets_are_bounded.ensures on
+    (subst (λ (l : Limits). l.octets < 4294967296) (sym on.limits) c.stands_somewhere.ensures.octets) (subst (λ (l : Limits). l.fields < 4294967296) (sym on.limits) c.stands_somewhere.ensures.fields) here.0 here.1 here.2)
+
+pub feeding-preserved : goal.feeding-preserved
+feeding-preserved g c =
+    let more = more_of c.in-Ok-More.field-0-is (c.in-Ok-More.ensures.fed c.feeding.invariant.alive) in
+    let fed = fed_then g.met.S.StorySink.joined c.gifts_join.ensures c.delivery_may_be_cut.ensures c.feeding.invariant.fed.0 more.2 c.summed-used.ensures in
+    let some : 0 < c.summed-used.result = raised_on c.feeding.used c.in-Ok-More.more c.summed-used.result more.0 c.summed-used.ensures in
+    record {
+      alive = c.in-Ok-More.ensures.calm.0;
+      octets = c.next_piece.ensures.octets ∙ c.feeding.invariant.octets;
+      fed = (fed, λ none. absurd (some_came some fed none));
+      ready = more.1;
+      calm = c.in-Ok-More.ensures.calm.1 ∙ c.feeding.invariant.calm;
+      leads = g.met.R.Source.leads_on c.args.self.now.reader c.feeding.self.reader c.next_piece.new.self.reader c.feeding.invariant.leads c.next_piece.ensures.leads;
+    }
+
+pub returns-in-Ok-Done-clause-fed : goal.returns-in-Ok-Done-clause-fed
+returns-in-Ok-Done-clause-fed g c =
+    let done = done_of c.in-Ok-Done.field-0-is (c.in-Ok-Done.ensures.fed c.feeding.invariant.alive) in
+    fed_and_done g.met.S.StorySink.joined c.gifts_join.ensures c.delivery_may_be_cut.ensures c.feeding.invariant.fed.0 done c.summed-self.ensures
+
+pub returns-in-Ok-End-clause-fed : goal.returns-in-Ok-End-clause-fed
+returns-in-Ok-End-clause-fed g c =
+    let here = somewhere c.args.unpacker.now c.requires.ready c.stands_somewhere.ensures.stood in
+    let ended = end_of g.S.StorySink.goes c.next_piece.new.unpacker c.in-Ok-End.field-0-is (c.in-Ok-End.ensures.fed c.feeding.invariant.alive) in
+    (c.next_piece.ensures.octets ∙ c.feeding.invariant.octets, fed_and_ended c.gifts_join.ensures c.feeding.invariant.fed.0 c.feeding.invariant.fed.1 ended here.0 here.1 here.2)
+
+pub returns-in-Err-clause-faults : goal.returns-in-Err-clause-faults
+returns-in-Err-clause-faults g c =
+    let faults = c.in-Err.ensures.faults c.feeding.invariant.alive in
+    λ none. (
+      faults.0,
+      faults.1,
+      fed_and_faults g.S.StorySink.failures g.met.S.StorySink.joined c.gifts_join.ensures c.delivery_may_be_cut.ensures (in_line g.R.Source.state c.next_piece.new.self) c.next_piece.new.unpacker
+          c.next_piece.new.sink faults.0 c.in-Err.fault c.feeding.invariant.fed.0 c.feeding.invariant.calm faults.2,
+    )
