@@ -116,11 +116,11 @@ none_narrated joins texts source old errors = record { envelopes = []; taken = n
 story_after : (es : List Listed) (e : Listed) (count : ℕ) → count ≡ length es → stories es ++ (text_of e ++ (10 ∷ [])) ≡ stories (es ++ e ∷ [])
 story_after es e count is = text_after story_of es e count is
 
-pub narrated_more : GiftsJoin → TextsJoin → (source mid rest old now new errors_old errors_now errors_new : Device) (count : ℕ) (line : List ℕ) (e : Listed)
+pub narrated_more : {source mid old now errors_old errors_now : Device} {count : ℕ} → GiftsJoin → TextsJoin → (rest new errors_new : Device) (line : List ℕ) (e : Listed)
     → AreNarrated source mid old now errors_old errors_now count → IsListed limits e → HasGiven mid rest e.octets → (count ≡ max_envelopes → ⊥)
     → Wrote now new (text_of e ++ (10 ∷ [])) → line ≡ line_of (count + 1) e → Wrote errors_now errors_new line
     → AreNarrated source rest old new errors_old errors_new (count + 1)
-narrated_more joins texts source mid rest old now new errors_old errors_now errors_new count line e r is given below out words told = record {
+narrated_more {source = source} {mid = mid} {old = old} {now = now} {errors_old = errors_old} {errors_now = errors_now} {count = count} joins texts rest new errors_new line e r is given below out words told = record {
   envelopes = r.envelopes ++ e ∷ [];
   taken = taken_more joins source mid rest count r.envelopes e r.taken is given below;
   out =
@@ -133,11 +133,11 @@ narrated_more joins texts source mid rest old now new errors_old errors_now erro
 
 -- ---- all is told
 
-pub narrated : GiftsJoin → TextsJoin → (source mid rest old now new errors_old errors_now errors_new : Device) (count status : ℕ) (begun more words line : List ℕ) (ending : InputEnding)
+pub narrated : {source mid old now errors_old errors_now : Device} {count : ℕ} → GiftsJoin → TextsJoin → (rest new errors_new : Device) (status : ℕ) (begun more words line : List ℕ) (ending : InputEnding)
     → AreNarrated source mid old now errors_old errors_now count → HasGiven mid rest begun → HasOctets rest.octets more → EndsBy limits count (begun ++ more) ending
     → LeavesText (begun ++ more) ending words → status ≡ status_of ending → Wrote now new words → line ≡ ending_line count ending → Wrote errors_now errors_new line
     → Narrated source rest old new errors_old errors_new status
-narrated joins texts source mid rest old now new errors_old errors_now errors_new count status begun more words line ending r given holds ends leaves is out same told =
+narrated {source = source} {mid = mid} {old = old} {now = now} {errors_old = errors_old} {errors_now = errors_now} {count = count} joins texts rest new errors_new status begun more words line ending r given holds ends leaves is out same told =
     let es = r.envelopes in
     let all = given_then joins source mid rest count es begun r.taken given in (
       joined es ++ (begun ++ more),
@@ -162,10 +162,10 @@ narrated joins texts source mid rest old now new errors_old errors_now errors_ne
 
 -- ---- memory was short
 
-pub unfed_for_memory : GiftsJoin → TextsJoin → (source mid rest old now new errors_old errors_new : Device) (count : ℕ) (begun : List ℕ) (k : ℕ) (words : List ℕ)
+pub unfed_for_memory : {source mid old now errors_old errors_new : Device} {count : ℕ} → GiftsJoin → TextsJoin → (rest new : Device) (begun : List ℕ) (k : ℕ) (words : List ℕ)
     → AreNarrated source mid old now errors_old errors_new count → HasGiven mid rest begun → IsTextIn (take k begun) words → Wrote now new words
     → IsUnnarrated source rest old new errors_old errors_new OutOfMemory
-unfed_for_memory joins texts source mid rest old now new errors_old errors_new count begun k words r given is out = (
+unfed_for_memory {source = source} {mid = mid} {old = old} {now = now} {count = count} joins texts rest new begun k words r given is out = (
   joined r.envelopes ++ begun,
   r.envelopes,
   begun,
@@ -240,10 +240,10 @@ held_back state joins source mid rest old errors_old errors_new a b d count begu
 
 -- ---- the errors broke
 
-pub broke_in_lines : GiftsJoin → TextsJoin → (source mid rest old now new errors_old errors_now errors_new : Device) (count : ℕ) (begun words line : List ℕ) (ending : InputEnding) (fault : CommandFault)
+pub broke_in_lines : {source mid old now errors_old errors_now : Device} {count : ℕ} → GiftsJoin → TextsJoin → (rest new errors_new : Device) (begun words line : List ℕ) (ending : InputEnding) (fault : CommandFault)
     → AreNarrated source mid old now errors_old errors_now count → HasGiven mid rest begun → EndsBy limits count begun ending → LeavesText begun ending words
     → Wrote now new words → line ≡ ending_line count ending → IsUnsaid errors_now errors_new line fault → IsUnnarrated source rest old new errors_old errors_new fault
-broke_in_lines joins texts source mid rest old now new errors_old errors_now errors_new count begun words line ending fault r given ends leaves out same unsaid =
+broke_in_lines {source = source} {mid = mid} {old = old} {now = now} {errors_old = errors_old} {errors_now = errors_now} {count = count} joins texts rest new errors_new begun words line ending fault r given ends leaves out same unsaid =
     let es = r.envelopes in
     let lines = texts_from line_of 1 es in
     let is : line ≡ ending_line (length es) ending = same ∙ ap (λ (n : ℕ). ending_line n ending) r.taken.counted in
@@ -264,11 +264,11 @@ broke_in_lines joins texts source mid rest old now new errors_old errors_now err
     )
 
 -- inside the line of an envelope whose story is out
-pub broke_in_line : GiftsJoin → TextsJoin → (source mid rest old now new errors_old errors_now errors_new : Device) (count : ℕ) (line : List ℕ) (e : Listed) (fault : CommandFault)
+pub broke_in_line : {source mid old now errors_old errors_now : Device} {count : ℕ} → GiftsJoin → TextsJoin → (rest new errors_new : Device) (line : List ℕ) (e : Listed) (fault : CommandFault)
     → AreNarrated source mid old now errors_old errors_now count → IsListed limits e → HasGiven mid rest e.octets → (count ≡ max_envelopes → ⊥)
     → Wrote now new (text_of e ++ (10 ∷ [])) → line ≡ line_of (count + 1) e → IsUnsaid errors_now errors_new line fault
     → IsUnnarrated source rest old new errors_old errors_new fault
-broke_in_line joins texts source mid rest old now new errors_old errors_now errors_new count line e fault r is given below out words unsaid =
+broke_in_line {source = source} {mid = mid} {old = old} {now = now} {errors_old = errors_old} {errors_now = errors_now} {count = count} joins texts rest new errors_new line e fault r is given below out words unsaid =
     let es = r.envelopes ++ e ∷ [] in
     let lines = texts_from line_of 1 r.envelopes in
     let t = taken_more joins source mid rest count r.envelopes e r.taken is given below in
@@ -291,10 +291,10 @@ broke_in_line joins texts source mid rest old now new errors_old errors_now erro
 
 -- ---- nothing comes next
 
-pub unfed : {W : Type 0} (state : W → Device) → GiftsJoin → TextsJoin → (source mid rest old errors_old errors_new : Device) (v : Unpacking) (a b : BlockWriter W) (count : ℕ) (fault : CommandFault)
+pub unfed : {W : Type 0} {source mid old errors_old errors_new : Device} {count : ℕ} (state : W → Device) → GiftsJoin → TextsJoin → (rest : Device) (v : Unpacking) (a b : BlockWriter W) (fault : CommandFault)
     → AreNarrated source mid old (device_of state a) errors_old errors_new count → HoldsNothing a → stops_of a ≡ 0 → IsCalm (stops_of a) (stops_of b) (Err fault)
     → IsNext (PutsLines state) stops_of HoldsNothing (StaysStuck state) mid rest v a b (Err fault) → IsUnnarrated source rest old (device_of state b) errors_old errors_new fault
-unfed state joins texts source mid rest old errors_old errors_new v a b count CannotRead r empty none calm (c, settled) = (
+unfed {source = source} {mid = mid} {old = old} {errors_old = errors_old} {errors_new = errors_new} {count = count} state joins texts rest v a b CannotRead r empty none calm (c, settled) = (
   joined r.envelopes ++ c.octets,
   r.envelopes,
   c.octets,
@@ -307,17 +307,17 @@ unfed state joins texts source mid rest old errors_old errors_new v a b count Ca
   texts.more old (device_of state a) (device_of state b) (stories r.envelopes) (map octet_for c.more) r.out (wrote_by state a b (map octet_for c.more) empty settled none calm c.told),
   r.told,
 )
-unfed state joins texts source mid rest old errors_old errors_new v a b count CannotWrite r empty none calm (inl u) =
+unfed {source = source} {mid = mid} {old = old} {errors_old = errors_old} {errors_new = errors_new} {count = count} state joins texts rest v a b CannotWrite r empty none calm (inl u) =
     broke_in_text state joins source mid rest old errors_old errors_new a b count u.octets u.k (map octet_for u.more) (map octet_for u.more) (held_of b)
     r u.came.given (omega (arith, u.within)) (λ all nothing. absurd (omega (arith, all, u.within))) (u.more, u.delivered, refl) u.came.told (front_of state a b (map octet_for u.more) empty u.came.told) none u.rose
-unfed state joins texts source mid rest old errors_old errors_new v a b count CannotWrite r empty none calm (inr u) =
+unfed {source = source} {mid = mid} {old = old} {errors_old = errors_old} {errors_new = errors_new} {count = count} state joins texts rest v a b CannotWrite r empty none calm (inr u) =
     let w : PutsOn state a b (map octet_for u.more) =
     subst (PutsOn state a b) (append-nil (map octet_for u.more)) (puts_on state a u.told b (map octet_for u.more) [] u.came.told (puts_of_stuck state u.told b [] u.holds_back.0 u.holds_back.2)) in
     broke_in_text state joins source mid rest old errors_old errors_new a b count u.octets (length u.octets) (map octet_for u.more) (map octet_for u.more) (held_of b)
     r u.came.given (omega arith) (λ all nothing. absurd (no_more (held_of b) u.holds_back.1 nothing))
     (subst (λ (octets : List ℕ). IsTextIn octets (map octet_for u.more)) (sym (take-length u.octets)) (u.more, u.delivered, refl)) w (front_of state a b (map octet_for u.more) empty w) none
     (rose_from (stops_of a) (stops_of u.told) (stops_of b) u.calm u.holds_back.2)
-unfed state joins texts source mid rest old errors_old errors_new v a b count OutOfMemory r empty none calm c = absurd c
+unfed {source = source} {mid = mid} {old = old} {errors_old = errors_old} {errors_new = errors_new} {count = count} state joins texts rest v a b OutOfMemory r empty none calm c = absurd c
 
 -- ---- refused octets
 
@@ -355,6 +355,11 @@ pub text_out : {W : Type 0} (state : W → Device) (a b d : BlockWriter W) (text
 text_out state a b d text empty none calm w out nothing same =
     wrote_by state a d text empty nothing none (same ∙ calm) (subst (PutsOn state a d) (append-nil text) (puts_on state a b d text [] w out))
 
+-- the same of the text of an envelope
+pub taken_out : {W : Type 0} {state : W → Device} {mid rest : Device} {v : Unpacking} {a b : BlockWriter W} {octets : ℕ} (d : BlockWriter W) (h : TextIsTaken state mid rest v a b octets) → HoldsNothing a → stops_of a ≡ 0 → stops_of b ≡ stops_of a
+    → PutsOn state b d [] → HoldsNothing d → stops_of d ≡ stops_of b → Wrote (device_of state a) (device_of state d) (text_of h.come.envelope)
+taken_out {state = state} {a = a} {b = b} d h empty none calm = text_out state a b d (text_of h.come.envelope) empty none calm h.text
+
 -- with an LF after it
 pub story_out : {W : Type 0} (state : W → Device) (a b d : BlockWriter W) (text : List ℕ) → HoldsNothing a → stops_of a ≡ 0 → stops_of b ≡ stops_of a → PutsOn state a b text
     → PutsOn state b d (10 ∷ []) → HoldsNothing d → stops_of d ≡ stops_of b → Wrote (device_of state a) (device_of state d) (text ++ (10 ∷ []))
@@ -373,15 +378,15 @@ but_last (y ∷ xs) (o ∷ out) rest x is some =
     (less.0, (let head : y ≡ o = cc in ap (λ (z : ℕ). z ∷ xs) head ∙ ap (λ (t : List ℕ). o ∷ t) less.1))
 
 -- the LF after the text of an envelope is not out
-pub unended_text : {W : Type 0} (state : W → Device) → GiftsJoin → (source mid rest old errors_old errors_new : Device) (v : Unpacking) (a b d : BlockWriter W) (count octets : ℕ) (fault : CommandFault)
+pub unended_text : {W : Type 0} {state : W → Device} {source mid rest old errors_old errors_new : Device} {v : Unpacking} {a b : BlockWriter W} {count octets : ℕ} → GiftsJoin → (d : BlockWriter W) (fault : CommandFault)
     → AreNarrated source mid old (device_of state a) errors_old errors_new count → HoldsNothing a → stops_of a ≡ 0 → stops_of b ≡ stops_of a → TextIsTaken state mid rest v a b octets → IsUnended state b d fault
     → IsUnnarrated source rest old (device_of state d) errors_old errors_new fault
-unended_text state joins source mid rest old errors_old errors_new v a b d count octets fault r empty none calm t (is, rose, inl u) =
+unended_text {state = state} {source = source} {mid = mid} {rest = rest} {old = old} {errors_old = errors_old} {errors_new = errors_new} {a = a} {b = b} {count = count} joins d fault r empty none calm t (is, rose, inl u) =
     let e = t.come.envelope in
     let w : PutsOn state a d (text_of e) = subst (PutsOn state a d) (append-nil (text_of e)) (puts_on state a b d (text_of e) [] t.text u) in
     rw is (broke_in_text state joins source mid rest old errors_old errors_new a d count e.octets (length e.octets) (text_of e) (text_of e) (held_of d)
     r t.come.came.given (omega arith) (λ all nothing. (e, t.come.is, refl)) t.whole w (front_of state a d (text_of e) empty w) none (rose_from (stops_of a) (stops_of b) (stops_of d) calm rose))
-unended_text state joins source mid rest old errors_old errors_new v a b d count octets fault r empty none calm t (is, rose, inr u) =
+unended_text {state = state} {source = source} {mid = mid} {rest = rest} {old = old} {errors_old = errors_old} {errors_new = errors_new} {a = a} {b = b} {count = count} joins d fault r empty none calm t (is, rose, inr u) =
     let e = t.come.envelope in
     let w : PutsOn state a d (text_of e ++ (10 ∷ [])) = puts_on state a b d (text_of e) (10 ∷ []) t.text u.0 in
     let less = but_last (text_of e) w.out (held_of d) 10 (front_of state a d (text_of e ++ (10 ∷ [])) empty w) u.1 in
@@ -409,8 +414,8 @@ nothing_told joins texts source old new errors same = (
 )
 
 -- what was held could not be let out, as it is answered
-pub held_back_as : {W : Type 0} (state : W → Device) → GiftsJoin → (source mid rest old errors_old errors_new : Device) (a b d : BlockWriter W) (count : ℕ) (begun : List ℕ) (k : ℕ) (text : List ℕ) (fault : CommandFault)
+pub held_back_as : {W : Type 0} {source mid old errors_old errors_new : Device} {count : ℕ} (state : W → Device) → GiftsJoin → (rest : Device) (a b d : BlockWriter W) (begun : List ℕ) (k : ℕ) (text : List ℕ) (fault : CommandFault)
     → AreNarrated source mid old (device_of state a) errors_old errors_new count → HasGiven mid rest begun → k ≤ length begun → IsTextIn (take k begun) text
     → HoldsNothing a → stops_of a ≡ 0 → stops_of b ≡ stops_of a → PutsOn state a b text → IsHeldBack state b d fault → IsUnnarrated source rest old (device_of state d) errors_old errors_new fault
-held_back_as state joins source mid rest old errors_old errors_new a b d count begun k text fault r given within is empty none same w back =
+held_back_as {source = source} {mid = mid} {old = old} {errors_old = errors_old} {errors_new = errors_new} {count = count} state joins rest a b d begun k text fault r given within is empty none same w back =
     rw back.0 (held_back state joins source mid rest old errors_old errors_new a b d count begun k text r given within is empty none same w back.1)

@@ -137,10 +137,10 @@ ends_refused goes mid rest a b e r = by_kind r.refused
 
 -- ---- the report is out
 
-pub reported : {W : Type 0} (state : W → Device) → GiftsJoin → (text : ℕ → Listed → List ℕ) (source mid rest : Device) (old now new : BlockWriter W) (count status : ℕ) (begun more line : List ℕ) (ending : InputEnding)
+pub reported : {W : Type 0} {state : W → Device} {text : ℕ → Listed → List ℕ} {source mid : Device} {old now : BlockWriter W} {count : ℕ} → GiftsJoin → (rest : Device) (new : BlockWriter W) (status : ℕ) (begun more line : List ℕ) (ending : InputEnding)
     → AreReported state text source mid old now count → HasGiven mid rest begun → HasOctets rest.octets more → EndsBy limits count (begun ++ more) ending
     → status ≡ status_of ending → line ≡ ending_line count ending → HoldsNothing old → HasPut state now new line → HoldsNothing new → WritesListing text source rest (device_of state old) (device_of state new) status
-reported state joins text source mid rest old now new count status begun more line ending r given holds ends is words before put after =
+reported {state = state} {text = text} {source = source} {mid = mid} {old = old} {now = now} {count = count} joins rest new status begun more line ending r given holds ends is words before put after =
     let es = r.envelopes in
     let all = given_then joins source mid rest count es begun r.taken given in (
       joined es ++ (begun ++ more),
@@ -159,10 +159,10 @@ reported state joins text source mid rest old now new count status begun more li
     )
 
 -- an envelope more is reported
-pub reported_more : {W : Type 0} (state : W → Device) → GiftsJoin → (text : ℕ → Listed → List ℕ) (source mid rest : Device) (old now new : BlockWriter W) (count : ℕ) (line : List ℕ) (e : Listed)
+pub reported_more : {W : Type 0} {state : W → Device} {text : ℕ → Listed → List ℕ} {source mid : Device} {old now : BlockWriter W} {count : ℕ} → GiftsJoin → (rest : Device) (new : BlockWriter W) (line : List ℕ) (e : Listed)
     → AreReported state text source mid old now count → IsListed limits e → HasGiven mid rest e.octets → (count ≡ max_envelopes → ⊥) → line ≡ text (count + 1) e
     → HasPut state now new line → AreReported state text source rest old new (count + 1)
-reported_more state joins text source mid rest old now new count line e r is given below words put = record {
+reported_more {state = state} {text = text} {source = source} {mid = mid} {old = old} {now = now} {count = count} joins rest new line e r is given below words put = record {
   envelopes = r.envelopes ++ e ∷ [];
   taken = taken_more joins source mid rest count r.envelopes e r.taken is given below;
   put =
@@ -182,9 +182,9 @@ pub missed_then : (a b c : Device) (xs ys : List ℕ) (fault : IoFault) → HasG
 missed_then a b c xs ys fault given missed =
     (consumes_on a.octets b.octets c.octets xs ys given.0 missed.0, broke_for_later a b c fault given.1 missed.1)
 
-pub starved : {W : Type 0} (state : W → Device) → GiftsJoin → (text : ℕ → Listed → List ℕ) (source mid rest : Device) (old new : BlockWriter W) (count : ℕ) (begun : List ℕ)
+pub starved : {W : Type 0} {state : W → Device} {text : ℕ → Listed → List ℕ} {source mid : Device} {old new : BlockWriter W} {count : ℕ} → GiftsJoin → (rest : Device) (begun : List ℕ)
     → AreReported state text source mid old new count → HasGiven mid rest begun → IsUnlisted state text source rest old new OutOfMemory
-starved state joins text source mid rest old new count begun r given = (
+starved {source = source} {mid = mid} {count = count} joins rest begun r given = (
   joined r.envelopes ++ begun,
   r.envelopes,
   begun,
@@ -231,10 +231,10 @@ failed state joins texts text source mid rest old v a b count CannotWrite r empt
 failed state joins texts text source mid rest old v a b count OutOfMemory r empty c = absurd c
 
 -- the output broke inside the last line
-pub unended : {W : Type 0} (state : W → Device) → GiftsJoin → TextsJoin → (text : ℕ → Listed → List ℕ) (source mid rest : Device) (old now new : BlockWriter W) (count : ℕ) (begun line : List ℕ) (ending : InputEnding) (fault : CommandFault)
+pub unended : {W : Type 0} {state : W → Device} {text : ℕ → Listed → List ℕ} {source mid : Device} {old now : BlockWriter W} {count : ℕ} → GiftsJoin → TextsJoin → (rest : Device) (new : BlockWriter W) (begun line : List ℕ) (ending : InputEnding) (fault : CommandFault)
     → AreReported state text source mid old now count → HoldsNothing old → HasGiven mid rest begun → EndsBy limits count begun ending → line ≡ ending_line count ending → IsUnadded state now new line fault
     → IsUnlisted state text source rest old new fault
-unended state joins texts text source mid rest old now new count begun line ending fault r empty given ends words unsaid =
+unended {state = state} {text = text} {source = source} {mid = mid} {old = old} {now = now} {count = count} joins texts rest new begun line ending fault r empty given ends words unsaid =
     let es = r.envelopes in
     let is : line ≡ ending_line (length es) ending = words ∙ ap (λ (n : ℕ). ending_line n ending) r.taken.counted in
     let cut = cut_on state texts old now new (texts_from text 1 es) line r.put unsaid.1 in
@@ -251,10 +251,10 @@ unended state joins texts text source mid rest old now new count begun line endi
     )
 
 -- the output broke inside the text of an envelope
-pub unsaid_of : {W : Type 0} (state : W → Device) → GiftsJoin → TextsJoin → (text : ℕ → Listed → List ℕ) (source mid rest : Device) (old now new : BlockWriter W) (count : ℕ) (line : List ℕ) (e : Listed) (fault : CommandFault)
+pub unsaid_of : {W : Type 0} {state : W → Device} {text : ℕ → Listed → List ℕ} {source mid : Device} {old now : BlockWriter W} {count : ℕ} → GiftsJoin → TextsJoin → (rest : Device) (new : BlockWriter W) (line : List ℕ) (e : Listed) (fault : CommandFault)
     → AreReported state text source mid old now count → HoldsNothing old → IsListed limits e → HasGiven mid rest e.octets → (count ≡ max_envelopes → ⊥) → line ≡ text (count + 1) e
     → IsUnadded state now new line fault → IsUnlisted state text source rest old new fault
-unsaid_of state joins texts text source mid rest old now new count line e fault r empty is given below words unsaid =
+unsaid_of {state = state} {text = text} {source = source} {mid = mid} {old = old} {now = now} {count = count} joins texts rest new line e fault r empty is given below words unsaid =
     let es = r.envelopes ++ e ∷ [] in
     let t = taken_more joins source mid rest count r.envelopes e r.taken is given below in
     let cut = cut_on state texts old now new (texts_from text 1 r.envelopes) line r.put unsaid.1 in

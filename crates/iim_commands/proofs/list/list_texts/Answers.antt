@@ -5,11 +5,37 @@ use Rattle.iim_places.specs.Format.Listing.{max_envelopes, Whole, RefusedBy, Too
 use Rattle.iim_commands.specs.States.Silence.{IsSettled, IsStuck, PassesOver, refuses_never}
 use Rattle.iim_commands.specs.Listing.{IsUnlisted}
 use Rattle.iim_commands.specs.declared.fault.CommandFault.TheVariants.{OutOfMemory}
-use Rattle.iim_commands.proofs.Reports.{ends_refused, failed, left_of, none_left, none_reported, reported, reported_more, reported_out, starved, unended, unsaid_of}
+use Rattle.iim_commands.proofs.Reports.{AreReported, ends_refused, failed, left_of, none_left, none_reported, reported, reported_more, reported_out, starved, unended, unsaid_of}
 use Rattle.iim_commands.specs.HoldingLaws.{put_nothing}
 use Rattle.iim_commands.proofs.Taken.{come_as, end_as, lives_as, refusal_as}
 use Rattle.iim_commands.proofs.Told.{added, handed_on}
+use Rattle.iim_commands.specs.States.Coming.{EnvelopeHasCome, IsRefusal}
+use Rattle.iim_commands.proofs.list.list_texts.Given.{Over}
+use Rattle.iim_commands.proofs.list.list_texts.Goals.{In-Envelope, In-Refused}
 use Rattle.iim_commands.proofs.list.list_texts.Goals as goal
+
+-- what came of an envelope, or of refused octets
+envelope : (g : Over) (c : In-Envelope g) → EnvelopeHasCome (PassesOver g.W.Target.state) (in_line g.R.Source.state c.listing.intake) (in_line g.R.Source.state c.take_next.new.intake) c.take_next.new.unpacker c.listing.silent c.take_next.new.sink
+    c.in-Envelope.octets
+envelope g c =
+    let state = g.W.Target.state in
+    come_as (PassesOver state) refuses_never IsSettled (IsStuck state) (in_line g.R.Source.state c.listing.intake) (in_line g.R.Source.state c.take_next.new.intake) c.take_next.new.unpacker c.listing.silent c.take_next.new.sink c.in_ok-octets.field-0
+    c.in-Envelope.octets c.in-Envelope.is c.in_ok-octets.ensures.next
+
+refusal : (g : Over) (c : In-Refused g) → IsRefusal (PassesOver g.W.Target.state) (in_line g.R.Source.state c.listing.intake) (in_line g.R.Source.state c.take_next.new.intake) c.listing.silent c.take_next.new.sink c.in-Refused.refusal
+refusal g c =
+    let state = g.W.Target.state in
+    refusal_as (PassesOver state) refuses_never IsSettled (IsStuck state) (in_line g.R.Source.state c.listing.intake) (in_line g.R.Source.state c.take_next.new.intake) c.take_next.new.unpacker c.listing.silent c.take_next.new.sink c.in_ok-octets.field-0
+    c.in-Refused.refusal c.in-Refused.is c.in_ok-octets.ensures.next
+
+-- what was reported before
+so_far : (g : Over) (c : In-Envelope g)
+    → AreReported g.W.Target.state g.P.EnvelopeLines.written (in_line g.R.Source.state c.args.intake.now) (in_line g.R.Source.state c.listing.intake) c.args.silent.now.output c.take_next.new.sink.output c.listing.count
+so_far g c = reported_out _ _ _ _ _ _ _ _ c.listing.invariant.reported (envelope g c).came.told
+
+so_far_refused : (g : Over) (c : In-Refused g)
+    → AreReported g.W.Target.state g.P.EnvelopeLines.written (in_line g.R.Source.state c.args.intake.now) (in_line g.R.Source.state c.listing.intake) c.args.silent.now.output c.take_next.new.sink.output c.listing.count
+so_far_refused g c = reported_out _ _ _ _ _ _ _ _ c.listing.invariant.reported (refusal g c).came.told
 
 pub listing-init : goal.listing-init
 listing-init g c = record {
@@ -26,7 +52,7 @@ returns-in_err-unpacker-clause-err g c =
     let state = g.W.Target.state in
     let old = c.args.silent.now.output in
     handed_on (IsUnlisted state text source source old old) c.from_residual.result OutOfMemory c.from_residual.ensures.1
-    (starved state c.gifts_join.ensures text source source source old old 0 [] (none_reported state c.gifts_join.ensures text source old) (c.gifts_join.ensures.none source))
+    (starved c.gifts_join.ensures source [] (none_reported state c.gifts_join.ensures text source old) (c.gifts_join.ensures.none source))
 
 pub returns-in_err-octets-clause-err : goal.returns-in_err-octets-clause-err
 returns-in_err-octets-clause-err g c =
@@ -46,102 +72,62 @@ returns-in_err-octets-clause-err g c =
 
 pub returns-in_err-add_last-in-Envelope-clause-err : goal.returns-in_err-add_last-in-Envelope-clause-err
 returns-in_err-add_last-in-Envelope-clause-err g c =
-    let text = g.P.EnvelopeLines.written in
-    let source = in_line g.R.Source.state c.args.intake.now in
-    let mid = in_line g.R.Source.state c.listing.intake in
     let rest = in_line g.R.Source.state c.take_next.new.intake in
-    let state = g.W.Target.state in
-    let old = c.args.silent.now.output in
-    let a = c.listing.silent in
-    let b = c.take_next.new.sink in
-    let now = b.output in
-    let empty = c.requires.held in
-    let h = come_as (PassesOver state) refuses_never IsSettled (IsStuck state) mid rest c.take_next.new.unpacker a b c.in_ok-octets.field-0 c.in-Envelope.octets c.in-Envelope.is c.in_ok-octets.ensures.next in
-    let r = reported_out state text source mid old a.output now c.listing.count c.listing.invariant.reported h.came.told in
+    let at = (goal.at.returns-in_err-add_last-in-Envelope-clause-err g c).In-Envelope in
+    let h = envelope g at in
+    let r = so_far g at in
     let full : c.listing.count ≡ max_envelopes = search rules in
     let new = c.add_last.new.output in
     let fault = c.in_err-add_last-in-Envelope.field-0.0 in
     let words : c.as_bytes.result.now ≡ too_many_line = search rules in
-    handed_on (IsUnlisted state text source rest old new) c.from_residual-in_err-add_last-in-Envelope.result fault c.from_residual-in_err-add_last-in-Envelope.ensures.1
-    (unended state c.gifts_join.ensures c.texts_join.ensures text source mid rest old now new c.listing.count h.envelope.octets c.as_bytes.result.now TooMany fault r empty
+    handed_on _ c.from_residual-in_err-add_last-in-Envelope.result fault c.from_residual-in_err-add_last-in-Envelope.ensures.1
+    (unended c.gifts_join.ensures c.texts_join.ensures rest new h.envelope.octets c.as_bytes.result.now TooMany fault r c.requires.held
     h.came.given (full, h.envelope, h.is, [], sym (append-nil h.envelope.octets)) words c.in_err-add_last-in-Envelope.ensures.err)
 
 pub returns-then-count-eq-MAX_ENVELOPES-clause-ok : goal.returns-then-count-eq-MAX_ENVELOPES-clause-ok
 returns-then-count-eq-MAX_ENVELOPES-clause-ok g c =
-    let text = g.P.EnvelopeLines.written in
-    let source = in_line g.R.Source.state c.args.intake.now in
-    let mid = in_line g.R.Source.state c.listing.intake in
     let rest = in_line g.R.Source.state c.take_next.new.intake in
-    let state = g.W.Target.state in
-    let old = c.args.silent.now.output in
-    let a = c.listing.silent in
-    let b = c.take_next.new.sink in
-    let now = b.output in
-    let empty = c.requires.held in
-    let h = come_as (PassesOver state) refuses_never IsSettled (IsStuck state) mid rest c.take_next.new.unpacker a b c.in_ok-octets.field-0 c.in-Envelope.octets c.in-Envelope.is c.in_ok-octets.ensures.next in
-    let r = reported_out state text source mid old a.output now c.listing.count c.listing.invariant.reported h.came.told in
+    let at = (goal.at.returns-then-count-eq-MAX_ENVELOPES-clause-ok g c).In-Envelope in
+    let h = envelope g at in
+    let r = so_far g at in
     let full : c.listing.count ≡ max_envelopes = search rules in
     let new = c.add_last.new.output in
     let words : c.as_bytes.result.now ≡ too_many_line = search rules in
     let more = left_of rest.octets in
-    reported state c.gifts_join.ensures text source mid rest old now new c.listing.count 1 h.envelope.octets more.0 c.as_bytes.result.now TooMany r
-    h.came.given more.1 (full, h.envelope, h.is, more.0, refl) refl words empty c.in_ok-add_last-in-Envelope.ensures.ok c.in_ok-add_last-in-Envelope.ensures.held
+    reported c.gifts_join.ensures rest new 1 h.envelope.octets more.0 c.as_bytes.result.now TooMany r
+    h.came.given more.1 (full, h.envelope, h.is, more.0, refl) refl words c.requires.held c.in_ok-add_last-in-Envelope.ensures.ok c.in_ok-add_last-in-Envelope.ensures.held
 
 pub returns-in_err-push_text-in-Envelope-clause-err : goal.returns-in_err-push_text-in-Envelope-clause-err
 returns-in_err-push_text-in-Envelope-clause-err g c =
-    let text = g.P.EnvelopeLines.written in
-    let source = in_line g.R.Source.state c.args.intake.now in
-    let mid = in_line g.R.Source.state c.listing.intake in
     let rest = in_line g.R.Source.state c.take_next.new.intake in
-    let state = g.W.Target.state in
-    let old = c.args.silent.now.output in
-    let a = c.listing.silent in
-    let b = c.take_next.new.sink in
-    let now = b.output in
-    let empty = c.requires.held in
-    let h = come_as (PassesOver state) refuses_never IsSettled (IsStuck state) mid rest c.take_next.new.unpacker a b c.in_ok-octets.field-0 c.in-Envelope.octets c.in-Envelope.is c.in_ok-octets.ensures.next in
-    let r = reported_out state text source mid old a.output now c.listing.count c.listing.invariant.reported h.came.told in
-    handed_on (IsUnlisted state text source rest old now) c.from_residual-in_err-push_text-in-Envelope.result OutOfMemory c.from_residual-in_err-push_text-in-Envelope.ensures.1
-    (starved state c.gifts_join.ensures text source mid rest old now c.listing.count h.envelope.octets r h.came.given)
+    let at = (goal.at.returns-in_err-push_text-in-Envelope-clause-err g c).In-Envelope in
+    let h = envelope g at in
+    let r = so_far g at in
+    handed_on _ c.from_residual-in_err-push_text-in-Envelope.result OutOfMemory c.from_residual-in_err-push_text-in-Envelope.ensures.1
+    (starved c.gifts_join.ensures rest h.envelope.octets r h.came.given)
 
 pub returns-in_err-add-in-Envelope-clause-err : goal.returns-in_err-add-in-Envelope-clause-err
 returns-in_err-add-in-Envelope-clause-err g c =
-    let text = g.P.EnvelopeLines.written in
-    let source = in_line g.R.Source.state c.args.intake.now in
-    let mid = in_line g.R.Source.state c.listing.intake in
     let rest = in_line g.R.Source.state c.take_next.new.intake in
-    let state = g.W.Target.state in
-    let old = c.args.silent.now.output in
-    let a = c.listing.silent in
-    let b = c.take_next.new.sink in
-    let now = b.output in
-    let empty = c.requires.held in
-    let h = come_as (PassesOver state) refuses_never IsSettled (IsStuck state) mid rest c.take_next.new.unpacker a b c.in_ok-octets.field-0 c.in-Envelope.octets c.in-Envelope.is c.in_ok-octets.ensures.next in
-    let r = reported_out state text source mid old a.output now c.listing.count c.listing.invariant.reported h.came.told in
-    let words = added c.clear.new.self.items c.push_text.new.text.items (text (c.listing.count + 1) h.envelope) c.as_slice.result.now c.clear.ensures.items
+    let at = (goal.at.returns-in_err-add-in-Envelope-clause-err g c).In-Envelope in
+    let h = envelope g at in
+    let r = so_far g at in
+    let words = added c.clear.new.self.items c.push_text.new.text.items (g.P.EnvelopeLines.written (c.listing.count + 1) h.envelope) c.as_slice.result.now c.clear.ensures.items
     (c.in_ok-push_text-in-Envelope.ensures h.envelope h.counts (c.in-Some.ensures.value h.envelope.octets c.in-Envelope.octets h.done h.envelope.value h.is.admits)) c.as_slice.ensures.value in
     let below : c.listing.count ≡ max_envelopes → ⊥ = search rules in
     let new = c.add.new.output in
     let fault = c.in_err-add-in-Envelope.field-0.0 in
-    handed_on (IsUnlisted state text source rest old new) c.from_residual-in_err-add-in-Envelope.result fault c.from_residual-in_err-add-in-Envelope.ensures.1
-    (unsaid_of state c.gifts_join.ensures c.texts_join.ensures text source mid rest old now new c.listing.count c.as_slice.result.now h.envelope fault r empty h.is h.came.given
+    handed_on _ c.from_residual-in_err-add-in-Envelope.result fault c.from_residual-in_err-add-in-Envelope.ensures.1
+    (unsaid_of c.gifts_join.ensures c.texts_join.ensures rest new c.as_slice.result.now h.envelope fault r c.requires.held h.is h.came.given
     below words c.in_err-add-in-Envelope.ensures.err)
 
 pub listing-preserved : goal.listing-preserved
 listing-preserved g c =
-    let text = g.P.EnvelopeLines.written in
-    let source = in_line g.R.Source.state c.args.intake.now in
-    let mid = in_line g.R.Source.state c.listing.intake in
     let rest = in_line g.R.Source.state c.take_next.new.intake in
-    let state = g.W.Target.state in
-    let old = c.args.silent.now.output in
-    let a = c.listing.silent in
-    let b = c.take_next.new.sink in
-    let now = b.output in
-    let empty = c.requires.held in
-    let h = come_as (PassesOver state) refuses_never IsSettled (IsStuck state) mid rest c.take_next.new.unpacker a b c.in_ok-octets.field-0 c.in-Envelope.octets c.in-Envelope.is c.in_ok-octets.ensures.next in
-    let r = reported_out state text source mid old a.output now c.listing.count c.listing.invariant.reported h.came.told in
-    let words = added c.clear.new.self.items c.push_text.new.text.items (text (c.listing.count + 1) h.envelope) c.as_slice.result.now c.clear.ensures.items
+    let at = (goal.at.listing-preserved g c).In-Envelope in
+    let h = envelope g at in
+    let r = so_far g at in
+    let words = added c.clear.new.self.items c.push_text.new.text.items (g.P.EnvelopeLines.written (c.listing.count + 1) h.envelope) c.as_slice.result.now c.clear.ensures.items
     (c.in_ok-push_text-in-Envelope.ensures h.envelope h.counts (c.in-Some.ensures.value h.envelope.octets c.in-Envelope.octets h.done h.envelope.value h.is.admits)) c.as_slice.ensures.value in
     let below : c.listing.count ≡ max_envelopes → ⊥ = search rules in
     let new = c.add.new.output in
@@ -149,7 +135,7 @@ listing-preserved g c =
       alive = lives_as c.take_next.new.intake.failed c.in_ok-octets.field-0 c.in-Envelope.octets c.in-Envelope.is c.in_ok-octets.ensures.lives;
       same = h.same;
       reported =
-          reported_more state c.gifts_join.ensures text source mid rest old now new c.listing.count c.as_slice.result.now h.envelope r h.is h.came.given
+          reported_more c.gifts_join.ensures rest new c.as_slice.result.now h.envelope r h.is h.came.given
           below words c.in_ok-add-in-Envelope.ensures.ok;
       leads = λ last h. c.listing.invariant.leads last (g.met.R.Source.leads_on c.listing.intake.reader c.take_next.new.intake.reader last c.take_next.ensures.leads h);
     }
@@ -168,66 +154,42 @@ returns-in-End-clause-ok g c =
     let empty = c.requires.held in
     let h = end_as (PassesOver state) refuses_never IsSettled (IsStuck state) mid rest c.take_next.new.unpacker a b c.in_ok-octets.field-0 c.in-End.is c.in_ok-octets.ensures.next in
     let r = reported_out state text source mid old a.output now c.listing.count c.listing.invariant.reported h.2 in
-    reported state c.gifts_join.ensures text source mid rest old now now c.listing.count 0 [] [] [] Whole r h.0 (none_left rest.octets h.1) refl refl refl
+    reported c.gifts_join.ensures rest now 0 [] [] [] Whole r h.0 (none_left rest.octets h.1) refl refl refl
     empty (put_nothing state now) h.3
 
 pub returns-in_err-push_refused-in-Refused-clause-err : goal.returns-in_err-push_refused-in-Refused-clause-err
 returns-in_err-push_refused-in-Refused-clause-err g c =
-    let text = g.P.EnvelopeLines.written in
-    let source = in_line g.R.Source.state c.args.intake.now in
-    let mid = in_line g.R.Source.state c.listing.intake in
     let rest = in_line g.R.Source.state c.take_next.new.intake in
-    let state = g.W.Target.state in
-    let old = c.args.silent.now.output in
-    let a = c.listing.silent in
-    let b = c.take_next.new.sink in
-    let now = b.output in
-    let empty = c.requires.held in
-    let h = refusal_as (PassesOver state) refuses_never IsSettled (IsStuck state) mid rest c.take_next.new.unpacker a b c.in_ok-octets.field-0 c.in-Refused.refusal c.in-Refused.is c.in_ok-octets.ensures.next in
-    let r = reported_out state text source mid old a.output now c.listing.count c.listing.invariant.reported h.came.told in
-    handed_on (IsUnlisted state text source rest old now) c.from_residual-in_err-push_refused-in-Refused.result OutOfMemory c.from_residual-in_err-push_refused-in-Refused.ensures.1
-    (starved state c.gifts_join.ensures text source mid rest old now c.listing.count h.octets r h.came.given)
+    let at = (goal.at.returns-in_err-push_refused-in-Refused-clause-err g c).In-Refused in
+    let h = refusal g at in
+    let r = so_far_refused g at in
+    handed_on _ c.from_residual-in_err-push_refused-in-Refused.result OutOfMemory c.from_residual-in_err-push_refused-in-Refused.ensures.1
+    (starved c.gifts_join.ensures rest h.octets r h.came.given)
 
 pub returns-in_err-add_last-in-Refused-clause-err : goal.returns-in_err-add_last-in-Refused-clause-err
 returns-in_err-add_last-in-Refused-clause-err g c =
-    let text = g.P.EnvelopeLines.written in
-    let source = in_line g.R.Source.state c.args.intake.now in
-    let mid = in_line g.R.Source.state c.listing.intake in
     let rest = in_line g.R.Source.state c.take_next.new.intake in
-    let state = g.W.Target.state in
-    let old = c.args.silent.now.output in
-    let a = c.listing.silent in
-    let b = c.take_next.new.sink in
-    let now = b.output in
-    let empty = c.requires.held in
-    let h = refusal_as (PassesOver state) refuses_never IsSettled (IsStuck state) mid rest c.take_next.new.unpacker a b c.in_ok-octets.field-0 c.in-Refused.refusal c.in-Refused.is c.in_ok-octets.ensures.next in
-    let r = reported_out state text source mid old a.output now c.listing.count c.listing.invariant.reported h.came.told in
+    let at = (goal.at.returns-in_err-add_last-in-Refused-clause-err g c).In-Refused in
+    let h = refusal g at in
+    let r = so_far_refused g at in
     let new = c.add_last-in-Refused.new.output in
     let words : c.as_slice-in-Refused.result.now ≡ refused_line (c.listing.count + 1) c.in-Refused.refusal = search rules in
     let fault = c.in_err-add_last-in-Refused.field-0.0 in
-    handed_on (IsUnlisted state text source rest old new) c.from_residual-in_err-add_last-in-Refused.result fault c.from_residual-in_err-add_last-in-Refused.ensures.1
-    (unended state c.gifts_join.ensures c.texts_join.ensures text source mid rest old now new c.listing.count h.octets c.as_slice-in-Refused.result.now (RefusedBy c.in-Refused.refusal) fault r empty
+    handed_on _ c.from_residual-in_err-add_last-in-Refused.result fault c.from_residual-in_err-add_last-in-Refused.ensures.1
+    (unended c.gifts_join.ensures c.texts_join.ensures rest new h.octets c.as_slice-in-Refused.result.now (RefusedBy c.in-Refused.refusal) fault r c.requires.held
     h.came.given (h.k, h.refused) words c.in_err-add_last-in-Refused.ensures.err)
 
 pub returns-in-Refused-clause-ok : goal.returns-in-Refused-clause-ok
 returns-in-Refused-clause-ok g c =
-    let text = g.P.EnvelopeLines.written in
-    let source = in_line g.R.Source.state c.args.intake.now in
-    let mid = in_line g.R.Source.state c.listing.intake in
     let rest = in_line g.R.Source.state c.take_next.new.intake in
-    let state = g.W.Target.state in
-    let old = c.args.silent.now.output in
-    let a = c.listing.silent in
-    let b = c.take_next.new.sink in
-    let now = b.output in
-    let empty = c.requires.held in
-    let h = refusal_as (PassesOver state) refuses_never IsSettled (IsStuck state) mid rest c.take_next.new.unpacker a b c.in_ok-octets.field-0 c.in-Refused.refusal c.in-Refused.is c.in_ok-octets.ensures.next in
-    let r = reported_out state text source mid old a.output now c.listing.count c.listing.invariant.reported h.came.told in
+    let at = (goal.at.returns-in-Refused-clause-ok g c).In-Refused in
+    let h = refusal g at in
+    let r = so_far_refused g at in
     let new = c.add_last-in-Refused.new.output in
     let words : c.as_slice-in-Refused.result.now ≡ refused_line (c.listing.count + 1) c.in-Refused.refusal = search rules in
-    let more = ends_refused (PassesOver state) mid rest a b c.in-Refused.refusal h in
-    reported state c.gifts_join.ensures text source mid rest old now new c.listing.count 1 h.octets more.0 c.as_slice-in-Refused.result.now (RefusedBy c.in-Refused.refusal) r
-    h.came.given more.1 (h.k, more.2) refl words empty c.in_ok-add_last-in-Refused.ensures.ok c.in_ok-add_last-in-Refused.ensures.held
+    let more = ends_refused (PassesOver g.W.Target.state) (in_line g.R.Source.state c.listing.intake) rest c.listing.silent c.take_next.new.sink c.in-Refused.refusal h in
+    reported c.gifts_join.ensures rest new 1 h.octets more.0 c.as_slice-in-Refused.result.now (RefusedBy c.in-Refused.refusal) r
+    h.came.given more.1 (h.k, more.2) refl words c.requires.held c.in_ok-add_last-in-Refused.ensures.ok c.in_ok-add_last-in-Refused.ensures.held
 
 pub returns-in_err-octets-clause-leads : goal.returns-in_err-octets-clause-leads
 returns-in_err-octets-clause-leads g c = c.listing.invariant.leads c.take_next.new.intake.reader c.take_next.ensures.leads
@@ -262,10 +224,5 @@ none_is_none None none some = absurd cc
 
 pub unreachable-requires : goal.unreachable-requires
 unreachable-requires g c =
-    let mid = in_line g.R.Source.state c.listing.intake in
-    let rest = in_line g.R.Source.state c.take_next.new.intake in
-    let state = g.W.Target.state in
-    let a = c.listing.silent in
-    let b = c.take_next.new.sink in
-    let h = come_as (PassesOver state) refuses_never IsSettled (IsStuck state) mid rest c.take_next.new.unpacker a b c.in_ok-octets.field-0 c.in-Envelope.octets c.in-Envelope.is c.in_ok-octets.ensures.next in
+    let h = envelope g (goal.at.unreachable-requires g c).In-Envelope in
     none_is_none c.unpacked.result c.in_default.is (c.unpacked.ensures.done.1 (h.done.taking, h.done.ended))

@@ -7,11 +7,26 @@ use Rattle.iim_commands.specs.Format.Lines.{accepted_line, refused_line, too_man
 use Rattle.iim_places.specs.Format.Listing.{max_envelopes, Whole, RefusedBy, TooMany}
 use Rattle.iim_commands.specs.Format.Narration.{IsUnnarrated, text_of}
 use Rattle.iim_commands.specs.declared.fault.CommandFault.TheVariants.{OutOfMemory}
-use Rattle.iim_commands.proofs.Narration.{broke_in_line, broke_in_lines, held_back_as, narrated, narrated_more, pushed, refused_within, story_out, text_out, text_refused, text_taken, unended_text, none_narrated, nothing_told, unfed, unfed_for_memory, wrote_by}
+use Rattle.iim_commands.proofs.Narration.{TextIsTaken, taken_out, broke_in_line, broke_in_lines, held_back_as, narrated, narrated_more, pushed, refused_within, story_out, text_out, text_refused, text_taken, unended_text, none_narrated, nothing_told, unfed, unfed_for_memory, wrote_by}
 use Rattle.iim_commands.proofs.Reports.{ends_refused, left_of, none_left}
 use Rattle.iim_commands.proofs.Taken.{end_as, lives_as, refusal_as}
 use Rattle.iim_commands.proofs.Told.{added, handed_on}
+use Rattle.iim_commands.specs.States.Coming.{IsRefusal}
+use Rattle.iim_commands.proofs.story.tell_stories.Given.{Over}
+use Rattle.iim_commands.proofs.story.tell_stories.Goals.{In-Envelope, In-Refused}
 use Rattle.iim_commands.proofs.story.tell_stories.Goals as goal
+
+-- what came of an envelope, or of refused octets
+taken : (g : Over) (c : In-Envelope g) → TextIsTaken g.W.Target.state (in_line g.R.Source.state c.telling.intake) (in_line g.R.Source.state c.take_next.new.intake) c.take_next.new.unpacker c.telling.output c.take_next.new.sink c.in-Envelope.octets
+taken g c =
+    text_taken g.W.Target.state c.envelopes_are_delivered_as_lines.ensures c.lines_are_joined_by_line_feeds.ensures (in_line g.R.Source.state c.telling.intake) (in_line g.R.Source.state c.take_next.new.intake) c.take_next.new.unpacker c.telling.output c.take_next.new.sink
+    c.in_ok-octets.field-0 c.in-Envelope.octets c.in-Envelope.is c.in_ok-octets.ensures.next
+
+refusal : (g : Over) (c : In-Refused g) → IsRefusal (PutsLines g.W.Target.state) (in_line g.R.Source.state c.telling.intake) (in_line g.R.Source.state c.take_next.new.intake) c.telling.output c.take_next.new.sink c.in-Refused.refusal
+refusal g c =
+    let state = g.W.Target.state in
+    refusal_as (PutsLines state) stops_of HoldsNothing (StaysStuck state) (in_line g.R.Source.state c.telling.intake) (in_line g.R.Source.state c.take_next.new.intake) c.take_next.new.unpacker c.telling.output c.take_next.new.sink c.in_ok-octets.field-0 c.in-Refused.refusal
+    c.in-Refused.is c.in_ok-octets.ensures.next
 
 pub telling-init : goal.telling-init
 telling-init g c = record {
@@ -35,146 +50,88 @@ returns-in_err-unpacker-clause-err g c =
 
 pub returns-in_err-octets-clause-err : goal.returns-in_err-octets-clause-err
 returns-in_err-octets-clause-err g c =
-    let source = in_line g.R.Source.state c.args.intake.now in
-    let mid = in_line g.R.Source.state c.telling.intake in
     let rest = in_line g.R.Source.state c.take_next.new.intake in
     let state = g.W.Target.state in
     let a = c.telling.output in
     let b = c.take_next.new.sink in
-    let old = state c.args.output.now.writer in
-    let errors_old = g.E.Target.state c.args.errors.now in
-    let errors_now = g.E.Target.state c.telling.errors in
     let r = c.telling.invariant.narrated in
-    let joins = c.gifts_join.ensures in
-    let texts = c.texts_join.ensures in
     let empty = c.telling.invariant.held in
     let none = c.telling.invariant.unbroken in
     let fault = c.in_err-octets.field-0.0 in
-    handed_on (IsUnnarrated source rest old (state b.writer) errors_old errors_now) c.from_residual-in_err-octets.result fault c.from_residual-in_err-octets.ensures.1
-    (unfed state joins texts source mid rest old errors_old errors_now c.take_next.new.unpacker a b c.telling.count fault r empty none c.in_err-octets.ensures.calm c.in_err-octets.ensures.next)
+    handed_on _ c.from_residual-in_err-octets.result fault c.from_residual-in_err-octets.ensures.1
+    (unfed state c.gifts_join.ensures c.texts_join.ensures rest c.take_next.new.unpacker a b fault r empty none c.in_err-octets.ensures.calm c.in_err-octets.ensures.next)
 
 pub returns-in_err-say-in-Envelope-clause-err : goal.returns-in_err-say-in-Envelope-clause-err
 returns-in_err-say-in-Envelope-clause-err g c =
-    let source = in_line g.R.Source.state c.args.intake.now in
-    let mid = in_line g.R.Source.state c.telling.intake in
     let rest = in_line g.R.Source.state c.take_next.new.intake in
     let state = g.W.Target.state in
-    let a = c.telling.output in
-    let b = c.take_next.new.sink in
-    let old = state c.args.output.now.writer in
-    let errors_old = g.E.Target.state c.args.errors.now in
-    let errors_now = g.E.Target.state c.telling.errors in
     let r = c.telling.invariant.narrated in
-    let joins = c.gifts_join.ensures in
-    let texts = c.texts_join.ensures in
     let empty = c.telling.invariant.held in
     let none = c.telling.invariant.unbroken in
-    let h = text_taken state c.envelopes_are_delivered_as_lines.ensures c.lines_are_joined_by_line_feeds.ensures mid rest c.take_next.new.unpacker a b c.in_ok-octets.field-0 c.in-Envelope.octets
-    c.in-Envelope.is c.in_ok-octets.ensures.next in
+    let h = taken g (goal.at.returns-in_err-say-in-Envelope-clause-err g c).In-Envelope in
     let e = h.come.envelope in
     let d = c.let_out.new.output in
-    let out = text_out state a b d (text_of e) empty none c.in_ok-octets.ensures.calm h.text c.in_ok-let_out-in-Envelope.ensures.ok c.in_ok-let_out-in-Envelope.ensures.held c.in_ok-let_out-in-Envelope.ensures.calm in
+    let out = taken_out d h empty none c.in_ok-octets.ensures.calm c.in_ok-let_out-in-Envelope.ensures.ok c.in_ok-let_out-in-Envelope.ensures.held c.in_ok-let_out-in-Envelope.ensures.calm in
     let full : c.telling.count ≡ max_envelopes = search rules in
     let errors_new = g.E.Target.state c.say.new.output in
     let fault = c.in_err-say-in-Envelope.field-0.0 in
     let same : c.as_bytes.result.now ≡ too_many_line = search rules in
-    handed_on (IsUnnarrated source rest old (state d.writer) errors_old errors_new) c.from_residual-in_err-say-in-Envelope.result fault c.from_residual-in_err-say-in-Envelope.ensures.1
-    (broke_in_lines joins texts source mid rest old (state a.writer) (state d.writer) errors_old errors_now errors_new c.telling.count e.octets (text_of e) c.as_bytes.result.now TooMany fault r
+    handed_on _ c.from_residual-in_err-say-in-Envelope.result fault c.from_residual-in_err-say-in-Envelope.ensures.1
+    (broke_in_lines c.gifts_join.ensures c.texts_join.ensures rest (state d.writer) errors_new e.octets (text_of e) c.as_bytes.result.now TooMany fault r
     h.come.came.given (full, e, h.come.is, [], sym (append-nil e.octets)) (e, h.come.is, [], sym (append-nil e.octets), refl) out same c.in_err-say-in-Envelope.ensures.err)
 
 pub returns-then-count-eq-MAX_ENVELOPES-clause-ok : goal.returns-then-count-eq-MAX_ENVELOPES-clause-ok
 returns-then-count-eq-MAX_ENVELOPES-clause-ok g c =
-    let source = in_line g.R.Source.state c.args.intake.now in
-    let mid = in_line g.R.Source.state c.telling.intake in
     let rest = in_line g.R.Source.state c.take_next.new.intake in
     let state = g.W.Target.state in
-    let a = c.telling.output in
-    let b = c.take_next.new.sink in
-    let old = state c.args.output.now.writer in
-    let errors_old = g.E.Target.state c.args.errors.now in
-    let errors_now = g.E.Target.state c.telling.errors in
     let r = c.telling.invariant.narrated in
-    let joins = c.gifts_join.ensures in
-    let texts = c.texts_join.ensures in
     let empty = c.telling.invariant.held in
     let none = c.telling.invariant.unbroken in
-    let h = text_taken state c.envelopes_are_delivered_as_lines.ensures c.lines_are_joined_by_line_feeds.ensures mid rest c.take_next.new.unpacker a b c.in_ok-octets.field-0 c.in-Envelope.octets
-    c.in-Envelope.is c.in_ok-octets.ensures.next in
+    let h = taken g (goal.at.returns-then-count-eq-MAX_ENVELOPES-clause-ok g c).In-Envelope in
     let e = h.come.envelope in
     let d = c.let_out.new.output in
-    let out = text_out state a b d (text_of e) empty none c.in_ok-octets.ensures.calm h.text c.in_ok-let_out-in-Envelope.ensures.ok c.in_ok-let_out-in-Envelope.ensures.held c.in_ok-let_out-in-Envelope.ensures.calm in
+    let out = taken_out d h empty none c.in_ok-octets.ensures.calm c.in_ok-let_out-in-Envelope.ensures.ok c.in_ok-let_out-in-Envelope.ensures.held c.in_ok-let_out-in-Envelope.ensures.calm in
     let full : c.telling.count ≡ max_envelopes = search rules in
     let errors_new = g.E.Target.state c.say.new.output in
     let same : c.as_bytes.result.now ≡ too_many_line = search rules in
     let more = left_of rest.octets in
-    narrated joins texts source mid rest old (state a.writer) (state d.writer) errors_old errors_now errors_new c.telling.count 1 e.octets more.0 (text_of e) c.as_bytes.result.now TooMany r
+    narrated c.gifts_join.ensures c.texts_join.ensures rest (state d.writer) errors_new 1 e.octets more.0 (text_of e) c.as_bytes.result.now TooMany r
     h.come.came.given more.1 (full, e, h.come.is, more.0, refl) (e, h.come.is, more.0, refl, refl) refl out same c.in_ok-say-in-Envelope.ensures.ok
 
 pub returns-then-is_err-clause-err : goal.returns-then-is_err-clause-err
 returns-then-is_err-clause-err g c =
-    let source = in_line g.R.Source.state c.args.intake.now in
-    let mid = in_line g.R.Source.state c.telling.intake in
     let rest = in_line g.R.Source.state c.take_next.new.intake in
     let state = g.W.Target.state in
-    let a = c.telling.output in
-    let b = c.take_next.new.sink in
-    let old = state c.args.output.now.writer in
-    let errors_old = g.E.Target.state c.args.errors.now in
-    let errors_now = g.E.Target.state c.telling.errors in
     let r = c.telling.invariant.narrated in
-    let joins = c.gifts_join.ensures in
-    let texts = c.texts_join.ensures in
     let empty = c.telling.invariant.held in
     let none = c.telling.invariant.unbroken in
-    let h = text_taken state c.envelopes_are_delivered_as_lines.ensures c.lines_are_joined_by_line_feeds.ensures mid rest c.take_next.new.unpacker a b c.in_ok-octets.field-0 c.in-Envelope.octets
-    c.in-Envelope.is c.in_ok-octets.ensures.next in
+    let h = taken g (goal.at.returns-then-is_err-clause-err g c).In-Envelope in
     let e = h.come.envelope in
     let d = c.let_out-then-is_err.new.output in
-    let out = text_out state a b d (text_of e) empty none c.in_ok-octets.ensures.calm h.text c.in_ok-let_out-in-Envelope-2.ensures.ok c.in_ok-let_out-in-Envelope-2.ensures.held c.in_ok-let_out-in-Envelope-2.ensures.calm in
-    unfed_for_memory joins texts source mid rest old (state a.writer) (state d.writer) errors_old errors_now c.telling.count e.octets (length e.octets) (text_of e) r h.come.came.given h.whole out
+    let out = taken_out d h empty none c.in_ok-octets.ensures.calm c.in_ok-let_out-in-Envelope-2.ensures.ok c.in_ok-let_out-in-Envelope-2.ensures.held c.in_ok-let_out-in-Envelope-2.ensures.calm in
+    unfed_for_memory c.gifts_join.ensures c.texts_join.ensures rest (state d.writer) e.octets (length e.octets) (text_of e) r h.come.came.given h.whole out
 
 pub returns-in_err-end_story-in-Envelope-clause-err : goal.returns-in_err-end_story-in-Envelope-clause-err
 returns-in_err-end_story-in-Envelope-clause-err g c =
-    let source = in_line g.R.Source.state c.args.intake.now in
-    let mid = in_line g.R.Source.state c.telling.intake in
-    let rest = in_line g.R.Source.state c.take_next.new.intake in
-    let state = g.W.Target.state in
-    let a = c.telling.output in
-    let b = c.take_next.new.sink in
-    let old = state c.args.output.now.writer in
-    let errors_old = g.E.Target.state c.args.errors.now in
-    let errors_now = g.E.Target.state c.telling.errors in
     let r = c.telling.invariant.narrated in
-    let joins = c.gifts_join.ensures in
-    let texts = c.texts_join.ensures in
     let empty = c.telling.invariant.held in
     let none = c.telling.invariant.unbroken in
-    let h = text_taken state c.envelopes_are_delivered_as_lines.ensures c.lines_are_joined_by_line_feeds.ensures mid rest c.take_next.new.unpacker a b c.in_ok-octets.field-0 c.in-Envelope.octets
-    c.in-Envelope.is c.in_ok-octets.ensures.next in
-    let e = h.come.envelope in
+    let h = taken g (goal.at.returns-in_err-end_story-in-Envelope-clause-err g c).In-Envelope in
     let d = c.end_story.new.output in
     let fault = c.in_err-end_story-in-Envelope.field-0.0 in
-    handed_on (IsUnnarrated source rest old (state d.writer) errors_old errors_now) c.from_residual-in_err-end_story-in-Envelope.result fault c.from_residual-in_err-end_story-in-Envelope.ensures.1
-    (unended_text state joins source mid rest old errors_old errors_now c.take_next.new.unpacker a b d c.telling.count c.in-Envelope.octets fault r empty none c.in_ok-octets.ensures.calm h c.in_err-end_story-in-Envelope.ensures.err)
+    handed_on _ c.from_residual-in_err-end_story-in-Envelope.result fault c.from_residual-in_err-end_story-in-Envelope.ensures.1
+    (unended_text c.gifts_join.ensures d fault r empty none c.in_ok-octets.ensures.calm h c.in_err-end_story-in-Envelope.ensures.err)
 
 pub returns-in_err-say-in-Envelope-2-clause-err : goal.returns-in_err-say-in-Envelope-2-clause-err
 returns-in_err-say-in-Envelope-2-clause-err g c =
-    let source = in_line g.R.Source.state c.args.intake.now in
-    let mid = in_line g.R.Source.state c.telling.intake in
     let rest = in_line g.R.Source.state c.take_next.new.intake in
     let state = g.W.Target.state in
     let a = c.telling.output in
     let b = c.take_next.new.sink in
-    let old = state c.args.output.now.writer in
-    let errors_old = g.E.Target.state c.args.errors.now in
-    let errors_now = g.E.Target.state c.telling.errors in
     let r = c.telling.invariant.narrated in
-    let joins = c.gifts_join.ensures in
-    let texts = c.texts_join.ensures in
     let empty = c.telling.invariant.held in
     let none = c.telling.invariant.unbroken in
-    let h = text_taken state c.envelopes_are_delivered_as_lines.ensures c.lines_are_joined_by_line_feeds.ensures mid rest c.take_next.new.unpacker a b c.in_ok-octets.field-0 c.in-Envelope.octets
-    c.in-Envelope.is c.in_ok-octets.ensures.next in
+    let h = taken g (goal.at.returns-in_err-say-in-Envelope-2-clause-err g c).In-Envelope in
     let e = h.come.envelope in
     let words = added c.clear.new.self.items c.push_accepted.new.text.items (accepted_line (c.telling.count + 1) c.in-Envelope.octets) c.as_slice.result.now c.clear.ensures.items
     (pushed c.push_accepted.result _ (sym c.is_err.ensures.value ∙ c.if-is_err.false) c.push_accepted.ensures) c.as_slice.ensures.value ∙ ap (accepted_line (c.telling.count + 1)) h.come.counts in
@@ -183,125 +140,93 @@ returns-in_err-say-in-Envelope-2-clause-err g c =
     let out = story_out state a b d (text_of e) empty none c.in_ok-octets.ensures.calm h.text c.in_ok-end_story-in-Envelope.ensures.ok c.in_ok-end_story-in-Envelope.ensures.held c.in_ok-end_story-in-Envelope.ensures.calm in
     let errors_new = g.E.Target.state c.say-in-Envelope.new.output in
     let fault = c.in_err-say-in-Envelope-2.field-0.0 in
-    handed_on (IsUnnarrated source rest old (state d.writer) errors_old errors_new) c.from_residual-in_err-say-in-Envelope-2.result fault c.from_residual-in_err-say-in-Envelope-2.ensures.1
-    (broke_in_line joins texts source mid rest old (state a.writer) (state d.writer) errors_old errors_now errors_new c.telling.count c.as_slice.result.now e fault r
+    handed_on _ c.from_residual-in_err-say-in-Envelope-2.result fault c.from_residual-in_err-say-in-Envelope-2.ensures.1
+    (broke_in_line c.gifts_join.ensures c.texts_join.ensures rest (state d.writer) errors_new c.as_slice.result.now e fault r
     h.come.is h.come.came.given below out words c.in_err-say-in-Envelope-2.ensures.err)
 
 pub returns-in-End-clause-ok : goal.returns-in-End-clause-ok
 returns-in-End-clause-ok g c =
-    let source = in_line g.R.Source.state c.args.intake.now in
     let mid = in_line g.R.Source.state c.telling.intake in
     let rest = in_line g.R.Source.state c.take_next.new.intake in
     let state = g.W.Target.state in
     let a = c.telling.output in
     let b = c.take_next.new.sink in
-    let old = state c.args.output.now.writer in
-    let errors_old = g.E.Target.state c.args.errors.now in
     let errors_now = g.E.Target.state c.telling.errors in
     let r = c.telling.invariant.narrated in
-    let joins = c.gifts_join.ensures in
     let texts = c.texts_join.ensures in
     let empty = c.telling.invariant.held in
     let none = c.telling.invariant.unbroken in
     let h = end_as (PutsLines state) stops_of HoldsNothing (StaysStuck state) mid rest c.take_next.new.unpacker a b c.in_ok-octets.field-0 c.in-End.is c.in_ok-octets.ensures.next in
     let still : Wrote (state a.writer) (state b.writer) [] = wrote_by state a b [] empty h.3 none c.in_ok-octets.ensures.calm h.2 in
-    narrated joins texts source mid rest old (state a.writer) (state b.writer) errors_old errors_now errors_now c.telling.count 0 [] [] [] [] Whole r h.0 (none_left rest.octets h.1) refl refl refl
+    narrated c.gifts_join.ensures c.texts_join.ensures rest (state b.writer) errors_now 0 [] [] [] [] Whole r h.0 (none_left rest.octets h.1) refl refl refl
     still refl (texts.none errors_now)
 
 pub returns-in_err-push_refused-in-Refused-clause-err : goal.returns-in_err-push_refused-in-Refused-clause-err
 returns-in_err-push_refused-in-Refused-clause-err g c =
-    let source = in_line g.R.Source.state c.args.intake.now in
-    let mid = in_line g.R.Source.state c.telling.intake in
     let rest = in_line g.R.Source.state c.take_next.new.intake in
     let state = g.W.Target.state in
     let a = c.telling.output in
     let b = c.take_next.new.sink in
-    let old = state c.args.output.now.writer in
-    let errors_old = g.E.Target.state c.args.errors.now in
-    let errors_now = g.E.Target.state c.telling.errors in
     let r = c.telling.invariant.narrated in
-    let joins = c.gifts_join.ensures in
-    let texts = c.texts_join.ensures in
     let empty = c.telling.invariant.held in
     let none = c.telling.invariant.unbroken in
-    let f = refusal_as (PutsLines state) stops_of HoldsNothing (StaysStuck state) mid rest c.take_next.new.unpacker a b c.in_ok-octets.field-0 c.in-Refused.refusal c.in-Refused.is c.in_ok-octets.ensures.next in
+    let f = refusal g (goal.at.returns-in_err-push_refused-in-Refused-clause-err g c).In-Refused in
     let d = c.let_out-in-Refused.new.output in
     let out = text_out state a b d (map octet_for f.more) empty none c.in_ok-octets.ensures.calm f.came.told c.in_ok-let_out-in-Refused.ensures.ok c.in_ok-let_out-in-Refused.ensures.held c.in_ok-let_out-in-Refused.ensures.calm in
     let words = map octet_for f.more in
-    handed_on (IsUnnarrated source rest old (state d.writer) errors_old errors_now) c.from_residual-in_err-push_refused-in-Refused.result OutOfMemory c.from_residual-in_err-push_refused-in-Refused.ensures.1
-    (unfed_for_memory joins texts source mid rest old (state a.writer) (state d.writer) errors_old errors_now c.telling.count f.octets f.k words r f.came.given (f.more, f.delivered, refl) out)
+    handed_on _ c.from_residual-in_err-push_refused-in-Refused.result OutOfMemory c.from_residual-in_err-push_refused-in-Refused.ensures.1
+    (unfed_for_memory c.gifts_join.ensures c.texts_join.ensures rest (state d.writer) f.octets f.k words r f.came.given (f.more, f.delivered, refl) out)
 
 pub returns-in_err-say-in-Refused-clause-err : goal.returns-in_err-say-in-Refused-clause-err
 returns-in_err-say-in-Refused-clause-err g c =
-    let source = in_line g.R.Source.state c.args.intake.now in
-    let mid = in_line g.R.Source.state c.telling.intake in
     let rest = in_line g.R.Source.state c.take_next.new.intake in
     let state = g.W.Target.state in
     let a = c.telling.output in
     let b = c.take_next.new.sink in
-    let old = state c.args.output.now.writer in
-    let errors_old = g.E.Target.state c.args.errors.now in
-    let errors_now = g.E.Target.state c.telling.errors in
     let r = c.telling.invariant.narrated in
-    let joins = c.gifts_join.ensures in
-    let texts = c.texts_join.ensures in
     let empty = c.telling.invariant.held in
     let none = c.telling.invariant.unbroken in
-    let f = refusal_as (PutsLines state) stops_of HoldsNothing (StaysStuck state) mid rest c.take_next.new.unpacker a b c.in_ok-octets.field-0 c.in-Refused.refusal c.in-Refused.is c.in_ok-octets.ensures.next in
+    let f = refusal g (goal.at.returns-in_err-say-in-Refused-clause-err g c).In-Refused in
     let d = c.let_out-in-Refused.new.output in
     let out = text_out state a b d (map octet_for f.more) empty none c.in_ok-octets.ensures.calm f.came.told c.in_ok-let_out-in-Refused.ensures.ok c.in_ok-let_out-in-Refused.ensures.held c.in_ok-let_out-in-Refused.ensures.calm in
     let words = map octet_for f.more in
     let errors_new = g.E.Target.state c.say-in-Refused.new.output in
     let same : c.as_slice-in-Refused.result.now ≡ refused_line (c.telling.count + 1) c.in-Refused.refusal = search rules in
     let fault = c.in_err-say-in-Refused.field-0.0 in
-    handed_on (IsUnnarrated source rest old (state d.writer) errors_old errors_new) c.from_residual-in_err-say-in-Refused.result fault c.from_residual-in_err-say-in-Refused.ensures.1
-    (broke_in_lines joins texts source mid rest old (state a.writer) (state d.writer) errors_old errors_now errors_new c.telling.count f.octets words c.as_slice-in-Refused.result.now
+    handed_on _ c.from_residual-in_err-say-in-Refused.result fault c.from_residual-in_err-say-in-Refused.ensures.1
+    (broke_in_lines c.gifts_join.ensures c.texts_join.ensures rest (state d.writer) errors_new f.octets words c.as_slice-in-Refused.result.now
     (RefusedBy c.in-Refused.refusal) fault r f.came.given (f.k, f.refused) (f.k, f.refused, (f.more, f.delivered, refl)) out same c.in_err-say-in-Refused.ensures.err)
 
 pub returns-in-Refused-clause-ok : goal.returns-in-Refused-clause-ok
 returns-in-Refused-clause-ok g c =
-    let source = in_line g.R.Source.state c.args.intake.now in
     let mid = in_line g.R.Source.state c.telling.intake in
     let rest = in_line g.R.Source.state c.take_next.new.intake in
     let state = g.W.Target.state in
     let a = c.telling.output in
     let b = c.take_next.new.sink in
-    let old = state c.args.output.now.writer in
-    let errors_old = g.E.Target.state c.args.errors.now in
-    let errors_now = g.E.Target.state c.telling.errors in
     let r = c.telling.invariant.narrated in
-    let joins = c.gifts_join.ensures in
-    let texts = c.texts_join.ensures in
     let empty = c.telling.invariant.held in
     let none = c.telling.invariant.unbroken in
-    let f = refusal_as (PutsLines state) stops_of HoldsNothing (StaysStuck state) mid rest c.take_next.new.unpacker a b c.in_ok-octets.field-0 c.in-Refused.refusal c.in-Refused.is c.in_ok-octets.ensures.next in
+    let f = refusal g (goal.at.returns-in-Refused-clause-ok g c).In-Refused in
     let d = c.let_out-in-Refused.new.output in
     let out = text_out state a b d (map octet_for f.more) empty none c.in_ok-octets.ensures.calm f.came.told c.in_ok-let_out-in-Refused.ensures.ok c.in_ok-let_out-in-Refused.ensures.held c.in_ok-let_out-in-Refused.ensures.calm in
     let words = map octet_for f.more in
     let errors_new = g.E.Target.state c.say-in-Refused.new.output in
     let same : c.as_slice-in-Refused.result.now ≡ refused_line (c.telling.count + 1) c.in-Refused.refusal = search rules in
     let more = ends_refused (PutsLines state) mid rest a b c.in-Refused.refusal f in
-    narrated joins texts source mid rest old (state a.writer) (state d.writer) errors_old errors_now errors_new c.telling.count 1 f.octets more.0 words c.as_slice-in-Refused.result.now
+    narrated c.gifts_join.ensures c.texts_join.ensures rest (state d.writer) errors_new 1 f.octets more.0 words c.as_slice-in-Refused.result.now
     (RefusedBy c.in-Refused.refusal) r f.came.given more.1 (f.k, more.2) (text_refused state mid rest a b c.in-Refused.refusal f more.0 more.2) refl out same c.in_ok-say-in-Refused.ensures.ok
 
 pub telling-preserved : goal.telling-preserved
 telling-preserved g c =
-    let source = in_line g.R.Source.state c.args.intake.now in
-    let mid = in_line g.R.Source.state c.telling.intake in
     let rest = in_line g.R.Source.state c.take_next.new.intake in
     let state = g.W.Target.state in
     let a = c.telling.output in
     let b = c.take_next.new.sink in
-    let old = state c.args.output.now.writer in
-    let errors_old = g.E.Target.state c.args.errors.now in
-    let errors_now = g.E.Target.state c.telling.errors in
     let r = c.telling.invariant.narrated in
-    let joins = c.gifts_join.ensures in
-    let texts = c.texts_join.ensures in
     let empty = c.telling.invariant.held in
     let none = c.telling.invariant.unbroken in
-    let h = text_taken state c.envelopes_are_delivered_as_lines.ensures c.lines_are_joined_by_line_feeds.ensures mid rest c.take_next.new.unpacker a b c.in_ok-octets.field-0 c.in-Envelope.octets
-    c.in-Envelope.is c.in_ok-octets.ensures.next in
+    let h = taken g (goal.at.telling-preserved g c).In-Envelope in
     let e = h.come.envelope in
     let words = added c.clear.new.self.items c.push_accepted.new.text.items (accepted_line (c.telling.count + 1) c.in-Envelope.octets) c.as_slice.result.now c.clear.ensures.items
     (pushed c.push_accepted.result _ (sym c.is_err.ensures.value ∙ c.if-is_err.false) c.push_accepted.ensures) c.as_slice.ensures.value ∙ ap (accepted_line (c.telling.count + 1)) h.come.counts in
@@ -315,7 +240,7 @@ telling-preserved g c =
       held = c.in_ok-end_story-in-Envelope.ensures.held;
       unbroken = c.in_ok-end_story-in-Envelope.ensures.calm ∙ c.in_ok-octets.ensures.calm ∙ none;
       narrated =
-          narrated_more joins texts source mid rest old (state a.writer) (state d.writer) errors_old errors_now errors_new c.telling.count c.as_slice.result.now e r
+          narrated_more c.gifts_join.ensures c.texts_join.ensures rest (state d.writer) errors_new c.as_slice.result.now e r
           h.come.is h.come.came.given below out words c.in_ok-say-in-Envelope-2.ensures.ok;
       leads = λ last h. c.telling.invariant.leads last (g.met.R.Source.leads_on c.telling.intake.reader c.take_next.new.intake.reader last c.take_next.ensures.leads h);
     }
@@ -352,70 +277,50 @@ returns-in-Refused-clause-leads g c = c.telling.invariant.leads c.take_next.new.
 
 pub returns-in_err-let_out-in-Envelope-clause-err : goal.returns-in_err-let_out-in-Envelope-clause-err
 returns-in_err-let_out-in-Envelope-clause-err g c =
-    let source = in_line g.R.Source.state c.args.intake.now in
-    let mid = in_line g.R.Source.state c.telling.intake in
     let rest = in_line g.R.Source.state c.take_next.new.intake in
     let state = g.W.Target.state in
     let a = c.telling.output in
     let b = c.take_next.new.sink in
-    let old = state c.args.output.now.writer in
-    let errors_old = g.E.Target.state c.args.errors.now in
-    let errors_now = g.E.Target.state c.telling.errors in
     let r = c.telling.invariant.narrated in
-    let joins = c.gifts_join.ensures in
     let empty = c.telling.invariant.held in
     let none = c.telling.invariant.unbroken in
-    let h = text_taken state c.envelopes_are_delivered_as_lines.ensures c.lines_are_joined_by_line_feeds.ensures mid rest c.take_next.new.unpacker a b c.in_ok-octets.field-0 c.in-Envelope.octets
-    c.in-Envelope.is c.in_ok-octets.ensures.next in
+    let h = taken g (goal.at.returns-in_err-let_out-in-Envelope-clause-err g c).In-Envelope in
     let e = h.come.envelope in
     let d = c.let_out.new.output in
     let fault = c.in_err-let_out-in-Envelope.field-0.0 in
-    handed_on (IsUnnarrated source rest old (state d.writer) errors_old errors_now) c.from_residual-in_err-let_out-in-Envelope.result fault c.from_residual-in_err-let_out-in-Envelope.ensures.1
-    (held_back_as state joins source mid rest old errors_old errors_now a b d c.telling.count e.octets (length e.octets) (text_of e) fault r h.come.came.given (omega arith) h.whole empty none c.in_ok-octets.ensures.calm h.text c.in_err-let_out-in-Envelope.ensures.err)
+    handed_on _ c.from_residual-in_err-let_out-in-Envelope.result fault c.from_residual-in_err-let_out-in-Envelope.ensures.1
+    (held_back_as state c.gifts_join.ensures rest a b d e.octets (length e.octets) (text_of e) fault r h.come.came.given (omega arith) h.whole empty none c.in_ok-octets.ensures.calm h.text c.in_err-let_out-in-Envelope.ensures.err)
 
 pub returns-in_err-let_out-in-Envelope-2-clause-err : goal.returns-in_err-let_out-in-Envelope-2-clause-err
 returns-in_err-let_out-in-Envelope-2-clause-err g c =
-    let source = in_line g.R.Source.state c.args.intake.now in
-    let mid = in_line g.R.Source.state c.telling.intake in
     let rest = in_line g.R.Source.state c.take_next.new.intake in
     let state = g.W.Target.state in
     let a = c.telling.output in
     let b = c.take_next.new.sink in
-    let old = state c.args.output.now.writer in
-    let errors_old = g.E.Target.state c.args.errors.now in
-    let errors_now = g.E.Target.state c.telling.errors in
     let r = c.telling.invariant.narrated in
-    let joins = c.gifts_join.ensures in
     let empty = c.telling.invariant.held in
     let none = c.telling.invariant.unbroken in
-    let h = text_taken state c.envelopes_are_delivered_as_lines.ensures c.lines_are_joined_by_line_feeds.ensures mid rest c.take_next.new.unpacker a b c.in_ok-octets.field-0 c.in-Envelope.octets
-    c.in-Envelope.is c.in_ok-octets.ensures.next in
+    let h = taken g (goal.at.returns-in_err-let_out-in-Envelope-2-clause-err g c).In-Envelope in
     let e = h.come.envelope in
     let d = c.let_out-then-is_err.new.output in
     let fault = c.in_err-let_out-in-Envelope-2.field-0.0 in
-    handed_on (IsUnnarrated source rest old (state d.writer) errors_old errors_now) c.from_residual-in_err-let_out-in-Envelope-2.result fault c.from_residual-in_err-let_out-in-Envelope-2.ensures.1
-    (held_back_as state joins source mid rest old errors_old errors_now a b d c.telling.count e.octets (length e.octets) (text_of e) fault r h.come.came.given (omega arith) h.whole empty none c.in_ok-octets.ensures.calm h.text c.in_err-let_out-in-Envelope-2.ensures.err)
+    handed_on _ c.from_residual-in_err-let_out-in-Envelope-2.result fault c.from_residual-in_err-let_out-in-Envelope-2.ensures.1
+    (held_back_as state c.gifts_join.ensures rest a b d e.octets (length e.octets) (text_of e) fault r h.come.came.given (omega arith) h.whole empty none c.in_ok-octets.ensures.calm h.text c.in_err-let_out-in-Envelope-2.ensures.err)
 
 pub returns-in_err-let_out-in-Refused-clause-err : goal.returns-in_err-let_out-in-Refused-clause-err
 returns-in_err-let_out-in-Refused-clause-err g c =
-    let source = in_line g.R.Source.state c.args.intake.now in
-    let mid = in_line g.R.Source.state c.telling.intake in
     let rest = in_line g.R.Source.state c.take_next.new.intake in
     let state = g.W.Target.state in
     let a = c.telling.output in
     let b = c.take_next.new.sink in
-    let old = state c.args.output.now.writer in
-    let errors_old = g.E.Target.state c.args.errors.now in
-    let errors_now = g.E.Target.state c.telling.errors in
     let r = c.telling.invariant.narrated in
-    let joins = c.gifts_join.ensures in
     let empty = c.telling.invariant.held in
     let none = c.telling.invariant.unbroken in
-    let f = refusal_as (PutsLines state) stops_of HoldsNothing (StaysStuck state) mid rest c.take_next.new.unpacker a b c.in_ok-octets.field-0 c.in-Refused.refusal c.in-Refused.is c.in_ok-octets.ensures.next in
+    let f = refusal g (goal.at.returns-in_err-let_out-in-Refused-clause-err g c).In-Refused in
     let d = c.let_out-in-Refused.new.output in
     let fault = c.in_err-let_out-in-Refused.field-0.0 in
-    handed_on (IsUnnarrated source rest old (state d.writer) errors_old errors_now) c.from_residual-in_err-let_out-in-Refused.result fault c.from_residual-in_err-let_out-in-Refused.ensures.1
-    (held_back_as state joins source mid rest old errors_old errors_now a b d c.telling.count f.octets f.k (map octet_for f.more) fault r f.came.given (refused_within f.octets f.k c.in-Refused.refusal f.refused) (f.more, f.delivered, refl) empty none c.in_ok-octets.ensures.calm f.came.told c.in_err-let_out-in-Refused.ensures.err)
+    handed_on _ c.from_residual-in_err-let_out-in-Refused.result fault c.from_residual-in_err-let_out-in-Refused.ensures.1
+    (held_back_as state c.gifts_join.ensures rest a b d f.octets f.k (map octet_for f.more) fault r f.came.given (refused_within f.octets f.k c.in-Refused.refusal f.refused) (f.more, f.delivered, refl) empty none c.in_ok-octets.ensures.calm f.came.told c.in_err-let_out-in-Refused.ensures.err)
 
 pub returns-in_err-let_out-in-Envelope-clause-leads : goal.returns-in_err-let_out-in-Envelope-clause-leads
 returns-in_err-let_out-in-Envelope-clause-leads g c = c.telling.invariant.leads c.take_next.new.intake.reader c.take_next.ensures.leads
