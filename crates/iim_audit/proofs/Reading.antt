@@ -130,7 +130,7 @@ missed_at limits now old mid new ledger before failed told number kept fault few
 -- at a fault
 pub fails : (limits : Limits) (now : ℤ) (old mid new : Device) (ledger : Ledger) (before : ℕ) (failed : Option ℕ) (told number : ℕ) (kept : Option ℕ) (used : ℕ) (cause : AuditCause) → GiftsJoin
     → length ledger.rows.items ≤ max_envelopes → number ≡ length ledger.rows.items + 1
-    → HasRead limits now old mid ledger before failed told → TookNone limits mid new told kept used cause → FailsLeaving limits old new before kept used number cause
+    → HasRead limits now old mid ledger before failed told → TookNone limits mid new told kept used cause → FailsLeaving limits (old, before) (new, kept, used) number cause
 fails limits now old mid new ledger before failed told number kept used (causes.Refused e) joins few in_hand read took =
     let es = read.envelopes in
     let count : length ledger.rows.items ≡ length es = count_of now ledger es read.keeps in (
@@ -160,7 +160,7 @@ fails limits now old mid new ledger before failed told number kept used causes.T
 -- with one envelope more than are listed
 pub one_too_many : (limits : Limits) (now : ℤ) (old mid new : Device) (ledger : Ledger) (before : ℕ) (failed : Option ℕ) (told number : ℕ) (left : Option ℕ) (used : ℕ) (u : Unpacking) (words : ℕ) → GiftsJoin
     → length ledger.rows.items ≤ max_envelopes → number ≡ length ledger.rows.items + 1 → max_envelopes < number → left ≡ None
-    → HasRead limits now old mid ledger before failed told → TookOne limits mid new u used words → FailsLeaving limits old new before left used number causes.TooManyEnvelopes
+    → HasRead limits now old mid ledger before failed told → TookOne limits mid new u used words → FailsLeaving limits (old, before) (new, left, used) number causes.TooManyEnvelopes
 one_too_many limits now old mid new ledger before failed told number left used u words joins few in_hand many lives read one =
     let es = read.envelopes in
     let e = one.envelope in
@@ -184,7 +184,7 @@ one_too_many limits now old mid new ledger before failed told number left used u
 -- without memory for the row of an envelope
 pub short_after : (limits : Limits) (now : ℤ) (old mid new : Device) (ledger : Ledger) (before : ℕ) (failed : Option ℕ) (told number : ℕ) (left : Option ℕ) (used : ℕ) (u : Unpacking) (words : ℕ) → GiftsJoin
     → number ≤ max_envelopes → number ≡ length ledger.rows.items + 1 → left ≡ None
-    → HasRead limits now old mid ledger before failed told → TookOne limits mid new u used words → FailsLeaving limits old new before left used number causes.OutOfMemory
+    → HasRead limits now old mid ledger before failed told → TookOne limits mid new u used words → FailsLeaving limits (old, before) (new, left, used) number causes.OutOfMemory
 short_after limits now old mid new ledger before failed told number left used u words joins few in_hand lives read one =
     let es = read.envelopes ++ one.envelope ∷ [] in
     let count : length ledger.rows.items ≡ length read.envelopes = count_of now ledger read.envelopes read.keeps in
@@ -201,7 +201,7 @@ short_after limits now old mid new ledger before failed told number left used u 
     )
 
 -- without memory for the unpacker
-pub short_first : (limits : Limits) (old : Device) (before : ℕ) (left : Option ℕ) → GiftsJoin → left ≡ None → FailsLeaving limits old old before left before 1 causes.OutOfMemory
+pub short_first : (limits : Limits) (old : Device) (before : ℕ) (left : Option ℕ) → GiftsJoin → left ≡ None → FailsLeaving limits (old, before) (old, left, before) 1 causes.OutOfMemory
 short_first limits old before left joins lives = (
   record {
     input = [];

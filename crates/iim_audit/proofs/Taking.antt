@@ -22,10 +22,10 @@ use Rattle.iim_audit.proofs.Texts.{TextLaws, words_of_value}
 
 -- an unpacker that stood on no octets was fed an envelope, and a count of no words its lines
 pub took_one : TextLaws → (limits : Limits) (old new : Device) (u v : Unpacking) (a b : WordsSoFar) (used n : ℕ) (whole : Bool) → whole ≡ true
-    → limits_in u ≡ limits → Stands u [] 0 → a.words ≡ 0 → a.inside ≡ false → n ≡ b.words → FedEnvelope CountsWords old new u v a b used whole
+    → limits_in u ≡ limits → Stands u [] 0 → a.words ≡ 0 → a.inside ≡ false → n ≡ b.words → FedEnvelope CountsWords (old, u, a) (new, v, b) used whole
     → TookOne limits old new v used n
 took_one laws limits old new u v a b used n whole is_whole same stands none outside is fed =
-    let was = subst (λ (x : Bool). FedEnvelope CountsWords old new u v a b used x) is_whole fed in
+    let was = subst (λ (x : Bool). FedEnvelope CountsWords (old, u, a) (new, v, b) used x) is_whole fed in
     let (end, adds) = was.done [] 0 stands in
     let within : limits_in v ≡ limits = was.limits ∙ same in
     record {
@@ -39,10 +39,10 @@ took_one laws limits old new u v a b used n whole is_whole same stands none outs
     }
 
 -- the input has ended
-pub took_end : (limits : Limits) (old new : Device) (u v : Unpacking) (a b : WordsSoFar) (used : ℕ) (whole : Bool) → whole ≡ false → FedEnvelope CountsWords old new u v a b used whole
+pub took_end : (limits : Limits) (old new : Device) (u v : Unpacking) (a b : WordsSoFar) (used : ℕ) (whole : Bool) → whole ≡ false → FedEnvelope CountsWords (old, u, a) (new, v, b) used whole
     → TookEnvelope limits old new v used None
 took_end limits old new u v a b used whole is fed =
-    let (none, was) = subst (λ (x : Bool). FedEnvelope CountsWords old new u v a b used x) is fed in
+    let (none, was) = subst (λ (x : Bool). FedEnvelope CountsWords (old, u, a) (new, v, b) used x) is fed in
     (was.given, was.at_end, none)
 
 -- A sink that counts no failure refused nothing.

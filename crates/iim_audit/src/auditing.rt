@@ -66,8 +66,8 @@ pub fn audit<R: Source>(
     ensures audited { intake.old.failed ≡ None
         → IfOk result (IsAudited limits now.nanosecond (in_line R.state intake.old) (in_line R.state intake.new)) }
     ensures fails { intake.old.failed ≡ None
-        → IfErr result (λ fault. FailsLeaving limits (in_line R.state intake.old) (in_line R.state intake.new)
-        intake.old.octets intake.new.failed intake.new.octets fault.envelope fault.cause) }
+        → IfErr result (λ fault. FailsLeaving limits (in_line R.state intake.old, intake.old.octets)
+        (in_line R.state intake.new, intake.new.failed, intake.new.octets) fault.envelope fault.cause) }
 
     // After a report the intake has answered no fault, and tells no octets.
     ensures lives { OnOk result (intake.new.failed ≡ None) }

@@ -293,7 +293,7 @@ broke_in_line {source = source} {mid = mid} {old = old} {now = now} {errors_old 
 
 pub unfed : {W : Type 0} {source mid old errors_old errors_new : Device} {count : ℕ} (state : W → Device) → GiftsJoin → TextsJoin → (rest : Device) (v : Unpacking) (a b : BlockWriter W) (fault : CommandFault)
     → AreNarrated source mid old (device_of state a) errors_old errors_new count → HoldsNothing a → stops_of a ≡ 0 → IsCalm (stops_of a) (stops_of b) (Err fault)
-    → IsNext (PutsLines state) stops_of HoldsNothing (StaysStuck state) mid rest v a b (Err fault) → IsUnnarrated source rest old (device_of state b) errors_old errors_new fault
+    → IsNext (PutsLines state) stops_of HoldsNothing (StaysStuck state) (mid, a) (rest, v, b) (Err fault) → IsUnnarrated source rest old (device_of state b) errors_old errors_new fault
 unfed {source = source} {mid = mid} {old = old} {errors_old = errors_old} {errors_new = errors_new} {count = count} state joins texts rest v a b CannotRead r empty none calm (c, settled) = (
   joined r.envelopes ++ c.octets,
   r.envelopes,
@@ -340,7 +340,7 @@ pub record TextIsTaken {W : Type 0} (state : W → Device) (mid rest : Device) (
   pub whole : IsTextIn (take (length come.envelope.octets) come.envelope.octets) (text_of come.envelope)
 
 pub text_taken : {W : Type 0} (state : W → Device) → EnvelopesAreDeliveredAsLines → LinesAreJoinedByLineFeeds → (mid rest : Device) (v : Unpacking) (a b : BlockWriter W) (x : Next) (octets : ℕ)
-    → x ≡ next.Envelope octets → IsNext (PutsLines state) stops_of HoldsNothing (StaysStuck state) mid rest v a b (Ok x) → TextIsTaken state mid rest v a b octets
+    → x ≡ next.Envelope octets → IsNext (PutsLines state) stops_of HoldsNothing (StaysStuck state) (mid, a) (rest, v, b) (Ok x) → TextIsTaken state mid rest v a b octets
 text_taken state law joins mid rest v a b x octets is n =
     let h = come_as (PutsLines state) stops_of HoldsNothing (StaysStuck state) mid rest v a b x octets is n in
     record {

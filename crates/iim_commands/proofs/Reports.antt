@@ -199,7 +199,7 @@ rises (inr h) = omega (arith, h.0)
 
 -- nothing comes next
 pub failed : {W : Type 0} (state : W → Device) → GiftsJoin → TextsJoin → (text : ℕ → Listed → List ℕ) (source mid rest : Device) (old : BlockWriter W) (v : Unpacking) (a b : Silent W) (count : ℕ) (fault : CommandFault)
-    → AreReported state text source mid old a.output count → HoldsNothing old → IsNext (PassesOver state) refuses_never IsSettled (IsStuck state) mid rest v a b (Err fault)
+    → AreReported state text source mid old a.output count → HoldsNothing old → IsNext (PassesOver state) refuses_never IsSettled (IsStuck state) (mid, a) (rest, v, b) (Err fault)
     → IsUnlisted state text source rest old b.output fault
 failed state joins texts text source mid rest old v a b count CannotRead r empty (c, settled) =
     let out = reported_out state text source mid old a.output b.output count r c.told in (

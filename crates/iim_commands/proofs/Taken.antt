@@ -161,19 +161,19 @@ calm_of goes failures old new u a b e other (inr w) = w.calm
 
 -- an envelope came
 pub come_as : {S : Type 0} (goes : S → List StoryEvent → S → Type 0) (failures : S → ℕ) (settled : S → Type 0) (stuck : S → S → Type 0) (old new : Device) (u : Unpacking) (a b : S) (x : Next) (octets : ℕ)
-    → x ≡ Envelope octets → IsNext goes failures settled stuck old new u a b (Ok x) → EnvelopeHasCome goes old new u a b octets
-come_as goes failures settled stuck old new u a b x octets is n = subst (λ (y : Next). IsNext goes failures settled stuck old new u a b (Ok y)) is n
+    → x ≡ Envelope octets → IsNext goes failures settled stuck (old, a) (new, u, b) (Ok x) → EnvelopeHasCome goes old new u a b octets
+come_as goes failures settled stuck old new u a b x octets is n = subst (λ (y : Next). IsNext goes failures settled stuck (old, a) (new, u, b) (Ok y)) is n
 
 pub lives_as : (failed : Option ℕ) (x : Next) (octets : ℕ) → x ≡ Envelope octets → CanAskForMore failed (Ok x) → failed ≡ None
 lives_as failed x octets is n = subst (λ (y : Next). CanAskForMore failed (Ok y)) is n
 
 pub refusal_as : {S : Type 0} (goes : S → List StoryEvent → S → Type 0) (failures : S → ℕ) (settled : S → Type 0) (stuck : S → S → Type 0) (old new : Device) (u : Unpacking) (a b : S) (x : Next) (e : Refusal)
-    → x ≡ next.Refused e → IsNext goes failures settled stuck old new u a b (Ok x) → IsRefusal goes old new a b e
-refusal_as goes failures settled stuck old new u a b x e is n = subst (λ (y : Next). IsNext goes failures settled stuck old new u a b (Ok y)) is n
+    → x ≡ next.Refused e → IsNext goes failures settled stuck (old, a) (new, u, b) (Ok x) → IsRefusal goes old new a b e
+refusal_as goes failures settled stuck old new u a b x e is n = subst (λ (y : Next). IsNext goes failures settled stuck (old, a) (new, u, b) (Ok y)) is n
 
 pub end_as : {S : Type 0} (goes : S → List StoryEvent → S → Type 0) (failures : S → ℕ) (settled : S → Type 0) (stuck : S → S → Type 0) (old new : Device) (u : Unpacking) (a b : S) (x : Next)
-    → x ≡ next.End → IsNext goes failures settled stuck old new u a b (Ok x) → HasGiven old new [] × IsAtEnd new.octets × goes a [] b × settled b
-end_as goes failures settled stuck old new u a b x is n = subst (λ (y : Next). IsNext goes failures settled stuck old new u a b (Ok y)) is n
+    → x ≡ next.End → IsNext goes failures settled stuck (old, a) (new, u, b) (Ok x) → HasGiven old new [] × IsAtEnd new.octets × goes a [] b × settled b
+end_as goes failures settled stuck old new u a b x is n = subst (λ (y : Next). IsNext goes failures settled stuck (old, a) (new, u, b) (Ok y)) is n
 
 -- ---- of an unpacker that was fed
 
@@ -215,15 +215,15 @@ taken_faults failures settled joined joins cut new w e block failed fault h calm
 -- ---- of faults
 
 pub fault_next : {S : Type 0} (goes : S → List StoryEvent → S → Type 0) (failures : S → ℕ) (settled : S → Type 0) (stuck : S → S → Type 0) (old new : Device) (u v : Unpacking) (a b : S) (fault : IntakeFault) (result : Result Next CommandFault) → limits_in u ≡ limits → Stands u [] 0
-    → ((kept : ℕ) × Faults goes failures old new u v a b kept fault) × (IsOfReader fault → settled b) → IsOfFault fault result → IsNext goes failures settled stuck old new v a b result
+    → ((kept : ℕ) × Faults goes failures old new u v a b kept fault) × (IsOfReader fault → settled b) → IsOfFault fault result → IsNext goes failures settled stuck (old, a) (new, v, b) result
 fault_next goes failures settled stuck old new u v a b (Refused e) result same at ((kept, f), rests) (inl (sink, is)) =
-    subst (IsNext goes failures settled stuck old new v a b) (sym is) (inl (is_unheard goes failures old new u a b e at sink f.1))
+    subst (IsNext goes failures settled stuck (old, a) (new, v, b)) (sym is) (inl (is_unheard goes failures old new u a b e at sink f.1))
 fault_next goes failures settled stuck old new u v a b (Refused e) result same at ((kept, f), rests) (inr (other, is)) =
-    subst (IsNext goes failures settled stuck old new v a b) (sym is) (is_refusal goes failures old new u a b e same at other f.1)
+    subst (IsNext goes failures settled stuck (old, a) (new, v, b)) (sym is) (is_refusal goes failures old new u a b e same at other f.1)
 fault_next goes failures settled stuck old new u v a b Read result same at ((kept, f), rests) is =
-    subst (IsNext goes failures settled stuck old new v a b) (sym is) (is_cut_off goes failures old new u v a b kept io.Failed same at f, rests tt)
+    subst (IsNext goes failures settled stuck (old, a) (new, v, b)) (sym is) (is_cut_off goes failures old new u v a b kept io.Failed same at f, rests tt)
 fault_next goes failures settled stuck old new u v a b Interrupted result same at ((kept, f), rests) is =
-    subst (IsNext goes failures settled stuck old new v a b) (sym is) (is_cut_off goes failures old new u v a b kept io.Interrupted same at f, rests tt)
+    subst (IsNext goes failures settled stuck (old, a) (new, v, b)) (sym is) (is_cut_off goes failures old new u v a b kept io.Interrupted same at f, rests tt)
 
 pub fault_calm : {S : Type 0} (goes : S → List StoryEvent → S → Type 0) (failures : S → ℕ) (settled : S → Type 0) (stuck : S → S → Type 0) (old new : Device) (u v : Unpacking) (a b : S) (fault : IntakeFault) (result : Result Next CommandFault)
     → ((kept : ℕ) × Faults goes failures old new u v a b kept fault) × (IsOfReader fault → settled b) → IsOfFault fault result → IsCalm (failures a) (failures b) result

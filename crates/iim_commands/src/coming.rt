@@ -74,8 +74,8 @@ pub fn take_next<R: Source, S: Outlet>(
 ) -> Result<Next, CommandFault>
     requires alive { intake.old.failed ≡ None }
     requires limits { limits_in unpacker.old ≡ limits }
-    ensures next { IsNext S.goes S.failures S.settled S.stuck (in_line R.state intake.old) (in_line R.state intake.new)
-        unpacker.new sink.old sink.new result }
+    ensures next { IsNext S.goes S.failures S.settled S.stuck (in_line R.state intake.old, sink.old)
+        (in_line R.state intake.new, unpacker.new, sink.new) result }
     ensures calm { IsCalm (S.failures sink.old) (S.failures sink.new) result }
     ensures lives { CanAskForMore intake.new.failed result }
     ensures leads { R.leads intake.old.reader intake.new.reader }

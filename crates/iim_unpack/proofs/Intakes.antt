@@ -190,9 +190,9 @@ some_missing (Some e) u fresh stale begun told = λ p n at. (not_fresh fresh p s
 
 -- ---- what is given
 
-pub fed_envelope : {S : Type 0} (goes : S → List story.StoryEvent → S → Type 0) (old new : Device) (u v : Unpacking) (a b : S) (used : ℕ) (whole : Bool) → whole ≡ true → FedEnvelope goes old new u v a b used whole
+pub fed_envelope : {S : Type 0} (goes : S → List story.StoryEvent → S → Type 0) (old new : Device) (u v : Unpacking) (a b : S) (used : ℕ) (whole : Bool) → whole ≡ true → FedEnvelope goes (old, u, a) (new, v, b) used whole
     → WasDone goes old new u v a b used
-fed_envelope goes old new u v a b used whole is fed = subst (λ (x : Bool). FedEnvelope goes old new u v a b used x) is fed
+fed_envelope goes old new u v a b used whole is fed = subst (λ (x : Bool). FedEnvelope goes (old, u, a) (new, v, b) used x) is fed
 
 pub given_by : {S : Type 0} (goes : S → List story.StoryEvent → S → Type 0) (old new : Device) (u v : Unpacking) (a b : S) (used : ℕ) (got : Unpacked) → WasDone goes old new u v a b used
     → ((p : List ℕ) (n : ℕ) → IsDoneWith v p n → (w : Value) → Admits p w → HasParts got w) → WasGiven goes old new u a b used got
@@ -376,15 +376,15 @@ fed_few {v = v} law fed low few p n at =
     omega (arith, fed.counts, length-append p fed.octets, law (limits_in v) (p ++ fed.octets) low few (fed.stands p n at).0.is_open)
 
 -- what the answer of a piece says
-pub more_of : {S : Type 0} {goes : S → List story.StoryEvent → S → Type 0} {old new : Device} {u v : Unpacking} {a b : S} {used : ℕ} {fed : Fed} → fed ≡ piece.More used → FedPiece goes old new u v a b fed
+pub more_of : {S : Type 0} {goes : S → List story.StoryEvent → S → Type 0} {old new : Device} {u v : Unpacking} {a b : S} {used : ℕ} {fed : Fed} → fed ≡ piece.More used → FedPiece goes (old, u, a) (new, v, b) fed
     → (0 < used) × IsReady v × HasFed goes old new u v a b used
-more_of {goes = goes} {old = old} {new = new} {u = u} {v = v} {a = a} {b = b} is f = subst (λ (x : Fed). FedPiece goes old new u v a b x) is f
+more_of {goes = goes} {old = old} {new = new} {u = u} {v = v} {a = a} {b = b} is f = subst (λ (x : Fed). FedPiece goes (old, u, a) (new, v, b) x) is f
 
-pub done_of : {S : Type 0} {goes : S → List story.StoryEvent → S → Type 0} {old new : Device} {u v : Unpacking} {a b : S} {used : ℕ} {fed : Fed} → fed ≡ piece.Done used → FedPiece goes old new u v a b fed → WasDone goes old new u v a b used
-done_of {goes = goes} {old = old} {new = new} {u = u} {v = v} {a = a} {b = b} is f = subst (λ (x : Fed). FedPiece goes old new u v a b x) is f
+pub done_of : {S : Type 0} {goes : S → List story.StoryEvent → S → Type 0} {old new : Device} {u v : Unpacking} {a b : S} {used : ℕ} {fed : Fed} → fed ≡ piece.Done used → FedPiece goes (old, u, a) (new, v, b) fed → WasDone goes old new u v a b used
+done_of {goes = goes} {old = old} {new = new} {u = u} {v = v} {a = a} {b = b} is f = subst (λ (x : Fed). FedPiece goes (old, u, a) (new, v, b) x) is f
 
-pub end_of : {S : Type 0} (goes : S → List story.StoryEvent → S → Type 0) {old new : Device} {u : Unpacking} (v : Unpacking) {a b : S} {fed : Fed} → fed ≡ piece.End → FedPiece goes old new u v a b fed → WasEnded old new u a b
-end_of goes {old = old} {new = new} {u = u} v {a = a} {b = b} is f = subst (λ (x : Fed). FedPiece goes old new u v a b x) is f
+pub end_of : {S : Type 0} (goes : S → List story.StoryEvent → S → Type 0) {old new : Device} {u : Unpacking} (v : Unpacking) {a b : S} {fed : Fed} → fed ≡ piece.End → FedPiece goes (old, u, a) (new, v, b) fed → WasEnded old new u a b
+end_of goes {old = old} {new = new} {u = u} v {a = a} {b = b} is f = subst (λ (x : Fed). FedPiece goes (old, u, a) (new, v, b) x) is f
 
 pub raised_some : (now k : ℕ) → now ≡ raised 0 k → 0 < k → 0 < now
 raised_some now k is some = omega (arith, is, some)

@@ -4,7 +4,7 @@ ghost use Rattle.std.specs.Prelude.{◌≡◌, ◌<◌, [], ℕ, List, Option, S
 ghost use Rattle.std.specs.Io.KnownBytes.{IsAtEnd};
 ghost use Rattle.iim_dataset.specs.States.Devices.{HasGiven, MissedAfter};
 ghost use Rattle.iim_unpack.specs.States.Blocks.{with_held};
-ghost use Rattle.iim_unpack.specs.States.Intakes.{in_line, IsReady, FailsFor, FedEnvelope, FedPiece, Gives, ReadsWhereEmpty};
+ghost use Rattle.iim_unpack.specs.States.Intakes.{in_line, IsReady, GivesNothing, FedEnvelope, FedPiece, Gives, ReadsWhereEmpty};
 ghost use Rattle.iim_unpack.specs.IntakeSteps.{IsRefusedPiece, read_fault};
 ghost use Rattle.iim_places.specs.Format.Open.{IsTruncatedAt};
 ghost use Rattle.iim_unpack.specs.States.Unpacking.{Unpacking, Stands, failed_at};
@@ -146,12 +146,12 @@ impl<R: Source> Intake<R> {
     ) -> Result<Fed, IntakeFault>
         requires ready { IsReady unpacker.old }
         requires some { 0 < length self.old.block }
-        ensures fed { IfOk result (FedPiece S.goes (in_line R.state self.old) (in_line R.state self.new) unpacker.old
-            unpacker.new sink.old sink.new) }
+        ensures fed { IfOk result (FedPiece S.goes (in_line R.state self.old, unpacker.old, sink.old)
+            (in_line R.state self.new, unpacker.new, sink.new)) }
         ensures not_end { IfOk result (λ fed. fed ≡ Fed.End → ⊥) }
         ensures calm { OnOk result ((self.new.failed ≡ self.old.failed) × (S.failures sink.new ≡ S.failures sink.old)) }
-        ensures refused { IfErr result (IsRefusedPiece S.goes S.failures R.state self.old self.new unpacker.old sink.old
-            sink.new) }
+        ensures refused { IfErr result (IsRefusedPiece S.goes S.failures R.state (self.old, unpacker.old, sink.old)
+            (self.new, sink.new)) }
         ensures keeps { (self.new.reader ≡ self.old.reader) × (self.new.octets ≡ self.old.octets) }
     {
         unpacker.stands_somewhere();
@@ -181,11 +181,11 @@ impl<R: Source> Intake<R> {
         sink: &mut S,
     ) -> Result<Fed, IntakeFault>
         requires ready { IsReady unpacker.old }
-        ensures fed { self.old.failed ≡ None → IfOk result (FedPiece S.goes (in_line R.state self.old)
-            (in_line R.state self.new) unpacker.old unpacker.new sink.old sink.new) }
+        ensures fed { self.old.failed ≡ None → IfOk result (FedPiece S.goes
+            (in_line R.state self.old, unpacker.old, sink.old) (in_line R.state self.new, unpacker.new, sink.new)) }
         ensures calm { OnOk result ((self.new.failed ≡ None) × (S.failures sink.new ≡ S.failures sink.old)) }
-        ensures faults { self.old.failed ≡ None → IfErr result (FailsFor S.goes S.failures R.state self.old self.new
-            unpacker.old unpacker.new sink.old sink.new) }
+        ensures faults { self.old.failed ≡ None → IfErr result (GivesNothing S.goes S.failures R.state
+            (self.old, unpacker.old, sink.old) (self.new, unpacker.new, sink.new)) }
         // Where octets were held, nothing is read: so no fault of the reader comes, and no end. At such a fault nothing was fed.
         ensures reads { ReadsWhereEmpty self.old self.new unpacker.old unpacker.new sink.old sink.new result }
         ensures octets { self.new.octets ≡ self.old.octets }
@@ -224,11 +224,11 @@ impl<R: Source> Intake<R> {
         sink: &mut S,
     ) -> Result<bool, IntakeFault>
         requires ready { IsReady unpacker.old }
-        ensures fed { IfOk result (FedEnvelope S.goes (in_line R.state self.old) (in_line R.state self.new) unpacker.old
-            unpacker.new sink.old sink.new self.new.octets) }
+        ensures fed { IfOk result (FedEnvelope S.goes (in_line R.state self.old, unpacker.old, sink.old)
+            (in_line R.state self.new, unpacker.new, sink.new) self.new.octets) }
         ensures calm { OnOk result ((self.new.failed ≡ None) × (S.failures sink.new ≡ S.failures sink.old)) }
-        ensures faults { self.old.failed ≡ None → IfErr result (FailsFor S.goes S.failures R.state self.old self.new
-            unpacker.old unpacker.new sink.old sink.new) }
+        ensures faults { self.old.failed ≡ None → IfErr result (GivesNothing S.goes S.failures R.state
+            (self.old, unpacker.old, sink.old) (self.new, unpacker.new, sink.new)) }
         ensures none { OnErr result (self.new.octets ≡ 0) }
         ensures again { (octet : ℕ) → self.old.failed ≡ Some octet → (result ≡ Err (RefusedFault (failed_at octet)))
             × (unpacker.new ≡ unpacker.old) × (sink.new ≡ sink.old) × (self.new ≡ record (self.old) { octets = 0 }) }
@@ -264,12 +264,11 @@ impl<R: Source> Intake<R> {
         sink: &mut S,
     ) -> Result<Option<Unpacked>, IntakeFault>
         requires ready { IsReady unpacker }
-        ensures gives { self.old.failed ≡ None
-            → IfOk result (Gives S.goes (in_line R.state self.old) (in_line R.state self.new) unpacker sink.old sink.new
-            self.new.octets) }
+        ensures gives { self.old.failed ≡ None → IfOk result (Gives S.goes (in_line R.state self.old, unpacker, sink.old)
+            (in_line R.state self.new, sink.new) self.new.octets) }
         ensures calm { OnOk result ((self.new.failed ≡ None) × (S.failures sink.new ≡ S.failures sink.old)) }
-        ensures faults { self.old.failed ≡ None → IfErr result (λ fault. (left : Unpacking) × FailsFor S.goes S.failures
-            R.state self.old self.new unpacker left sink.old sink.new fault) }
+        ensures faults { self.old.failed ≡ None → IfErr result (λ fault. (left : Unpacking)
+            × GivesNothing S.goes S.failures R.state (self.old, unpacker, sink.old) (self.new, left, sink.new) fault) }
         ensures none { OnErr result (self.new.octets ≡ 0) }
         ensures again { (octet : ℕ) → self.old.failed ≡ Some octet → (result ≡ Err (RefusedFault (failed_at octet)))
             × (sink.new ≡ sink.old) × (self.new ≡ record (self.old) { octets = 0 }) }

@@ -15,7 +15,7 @@ pub fn serve<R: Source + Drop, W: Target, E: Target>(
     output: W,
     errors: E,
 ) -> (u8, W, E)
-    ensures { Served R.state R.leads begun.entry (W.state output) (W.state result.1) (E.state errors) (E.state result.2)
+    ensures { Served R.state R.leads begun.entry (W.state output, E.state errors) (W.state result.1, E.state result.2)
         result.0 }
 {
     match begun {

@@ -82,9 +82,10 @@ Leaves limits old new number causes.Interrupted why before kept told = (kept ≡
 Leaves limits old new number causes.OutOfMemory why before kept told = (kept ≡ None) × (told ≡ told_after before why.envelopes)
 Leaves limits old new number causes.TooManyEnvelopes why before kept told = (kept ≡ None) × (told ≡ raised 0 (length why.listing.ends.1.octets))
 
--- why there is no report, and what of the intake is left
-abbrev pub FailsLeaving : Limits → Device → Device → ℕ → Option ℕ → ℕ → ℕ → AuditCause → Type 0
-FailsLeaving limits old new before kept told number cause = (why : FailsAt limits old new number cause) × Leaves limits old new number cause why before kept told
+-- why there is no report, and what of the intake is left (what is next in line and the octets that it tells, before and after; after,
+-- also the octet that it keeps)
+abbrev pub FailsLeaving : Limits → Device × ℕ → Device × Option ℕ × ℕ → ℕ → AuditCause → Type 0
+FailsLeaving limits (old, before) (new, kept, told) number cause = (why : FailsAt limits old new number cause) × Leaves limits old new number cause why before kept told
 
 -- The intake had answered a fault before, which is told with envelope 1; or there was no memory, and it was not asked.
 abbrev pub IsToldAgain : ℕ → ℕ → ℕ → ℕ → AuditCause → Type 0

@@ -69,14 +69,15 @@ pub record IsHeldUp {S : Type 0} (goes : S → List StoryEvent → S → Type 0)
   pub holds_back : stuck told b
 
 -- What comes next, or why nothing does; it takes no memory. (What it is for a sink to hold nothing, and to fail to let out what it
--- holds; the input before and after, the unpacker after, and the sink.)
-abbrev pub IsNext : {S : Type 0} → (S → List StoryEvent → S → Type 0) → (S → ℕ) → (S → Type 0) → (S → S → Type 0) → Device → Device → Unpacking → S → S → Result Next CommandFault → Type 0
-IsNext goes failures settled stuck old new u a b (Ok (next.Envelope octets)) = EnvelopeHasCome goes old new u a b octets
-IsNext goes failures settled stuck old new u a b (Ok next.End) = HasGiven old new [] × IsAtEnd new.octets × goes a [] b × settled b
-IsNext goes failures settled stuck old new u a b (Ok (next.Refused refusal)) = IsRefusal goes old new a b refusal
-IsNext goes failures settled stuck old new u a b (Err CannotRead) = IsCutOff goes old new a b × settled b
-IsNext goes failures settled stuck old new u a b (Err CannotWrite) = IsUnheard goes failures old new a b ⊎ IsHeldUp goes failures stuck old new a b
-IsNext goes failures settled stuck old new u a b (Err OutOfMemory) = ⊥
+-- holds; the input and the sink, before and after; after, the unpacker.)
+abbrev pub IsNext : {S : Type 0} → (S → List StoryEvent → S → Type 0) → (S → ℕ) → (S → Type 0) → (S → S → Type 0) → Device × S
+    → Device × Unpacking × S → Result Next CommandFault → Type 0
+IsNext goes failures settled stuck (old, a) (new, u, b) (Ok (next.Envelope octets)) = EnvelopeHasCome goes old new u a b octets
+IsNext goes failures settled stuck (old, a) (new, u, b) (Ok next.End) = HasGiven old new [] × IsAtEnd new.octets × goes a [] b × settled b
+IsNext goes failures settled stuck (old, a) (new, u, b) (Ok (next.Refused refusal)) = IsRefusal goes old new a b refusal
+IsNext goes failures settled stuck (old, a) (new, u, b) (Err CannotRead) = IsCutOff goes old new a b × settled b
+IsNext goes failures settled stuck (old, a) (new, u, b) (Err CannotWrite) = IsUnheard goes failures old new a b ⊎ IsHeldUp goes failures stuck old new a b
+IsNext goes failures settled stuck (old, a) (new, u, b) (Err OutOfMemory) = ⊥
 
 -- The sink counted a failure only where it refused.
 abbrev pub IsCalm : ℕ → ℕ → Result Next CommandFault → Type 0

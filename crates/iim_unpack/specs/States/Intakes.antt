@@ -67,17 +67,19 @@ pub record WasDone {S : Type 0} (goes : S → List story.StoryEvent → S → Ty
   pub done : (p : List ℕ) (n : ℕ) → Stands u p n → IsDoneWith v (p ++ octets) (raised n (length octets)) × Delivers p octets more
 
 -- What one piece came to: octets came, some, and the unpacker takes more; or it is done with them; or there are none, and it stands
--- on none.
-abbrev pub FedPiece : {S : Type 0} → (S → List story.StoryEvent → S → Type 0) → Device → Device → Unpacking → Unpacking → S → S → Fed → Type 0
-FedPiece goes old new u v a b (piece.More used) = (0 < used) × IsReady v × HasFed goes old new u v a b used
-FedPiece goes old new u v a b (piece.Done used) = WasDone goes old new u v a b used
-FedPiece goes old new u v a b piece.End = WasEnded old new u a b
+-- on none. (What is next in line, the unpacker and the sink, before and after.)
+abbrev pub FedPiece : {S : Type 0} → (S → List story.StoryEvent → S → Type 0) → Device × Unpacking × S → Device × Unpacking × S
+    → Fed → Type 0
+FedPiece goes (old, u, a) (new, v, b) (piece.More used) = (0 < used) × IsReady v × HasFed goes old new u v a b used
+FedPiece goes (old, u, a) (new, v, b) (piece.Done used) = WasDone goes old new u v a b used
+FedPiece goes (old, u, a) (new, v, b) piece.End = WasEnded old new u a b
 
 -- What feeding up to the end of an envelope came to: the unpacker is done with the octets that came, or there are none, and it stands
--- on none. (At the end, how many octets were used.)
-abbrev pub FedEnvelope : {S : Type 0} → (S → List story.StoryEvent → S → Type 0) → Device → Device → Unpacking → Unpacking → S → S → ℕ → Bool → Type 0
-FedEnvelope goes old new u v a b used true = WasDone goes old new u v a b used
-FedEnvelope goes old new u v a b used false = (used ≡ 0) × WasEnded old new u a b
+-- on none. (What is next in line, the unpacker and the sink, before and after; and how many octets were used.)
+abbrev pub FedEnvelope : {S : Type 0} → (S → List story.StoryEvent → S → Type 0) → Device × Unpacking × S → Device × Unpacking × S
+    → ℕ → Bool → Type 0
+FedEnvelope goes (old, u, a) (new, v, b) used true = WasDone goes old new u v a b used
+FedEnvelope goes (old, u, a) (new, v, b) used false = (used ≡ 0) × WasEnded old new u a b
 
 -- Octet k of those that came is refused, and of the octets before it this is delivered.
 pub record IsRefusedOf (limits : Limits) (p : List ℕ) (a : ℕ) (octets : List ℕ) (more : List story.StoryEvent) (e : Refusal) : Type 0 where
@@ -129,9 +131,11 @@ Faults goes failures old new u v a b kept (Refused e) = (kept ≡ e.octet) × (W
 Faults goes failures old new u v a b kept Read = WasMissed goes failures old new u v a b kept io.Failed
 Faults goes failures old new u v a b kept Interrupted = WasMissed goes failures old new u v a b kept io.Interrupted
 
--- The intake keeps an octet for later calls, and this is why it gives nothing.
-abbrev pub FailsFor : {R S : Type 0} → (S → List story.StoryEvent → S → Type 0) → (S → ℕ) → (R → Device) → Intake R → Intake R → Unpacking → Unpacking → S → S → IntakeFault → Type 0
-FailsFor goes failures state old new u v a b fault = (kept : ℕ) × (new.failed ≡ Some kept) × Faults goes failures (in_line state old) (in_line state new) u v a b kept fault
+-- The intake keeps an octet for later calls, and this is why it gives nothing. (The intake, the unpacker and the sink, before and after.)
+abbrev pub GivesNothing : {R S : Type 0} → (S → List story.StoryEvent → S → Type 0) → (S → ℕ) → (R → Device) → Intake R × Unpacking × S
+    → Intake R × Unpacking × S → IntakeFault → Type 0
+GivesNothing goes failures state (old, u, a) (new, v, b) fault = (kept : ℕ) × (new.failed ≡ Some kept)
+    × Faults goes failures (in_line state old) (in_line state new) u v a b kept fault
 
 -- It is a fault of the reader.
 abbrev pub IsOfReader : IntakeFault → Type 0
@@ -164,7 +168,8 @@ pub record WasGiven {S : Type 0} (goes : S → List story.StoryEvent → S → T
   pub counts : used ≡ raised 0 (length octets)
   pub envelope : (p : List ℕ) (n : ℕ) → Stands u p n → ComesNext (limits_in u) p octets more got
 
--- what an intake gives, and how many octets it tells
-abbrev pub Gives : {S : Type 0} → (S → List story.StoryEvent → S → Type 0) → Device → Device → Unpacking → S → S → ℕ → Option Unpacked → Type 0
-Gives goes old new u a b used (Some got) = WasGiven goes old new u a b used got
-Gives goes old new u a b used None = (used ≡ 0) × WasEnded old new u a b
+-- what an intake gives (what is next in line and the sink, before and after; before, the unpacker; and how many octets it tells)
+abbrev pub Gives : {S : Type 0} → (S → List story.StoryEvent → S → Type 0) → Device × Unpacking × S → Device × S → ℕ → Option Unpacked
+    → Type 0
+Gives goes (old, u, a) (new, b) used (Some got) = WasGiven goes old new u a b used got
+Gives goes (old, u, a) (new, b) used None = (used ≡ 0) × WasEnded old new u a b

@@ -75,7 +75,7 @@ pub returns-in-Err-clause-fails : goal.returns-in-Err-clause-fails
 returns-in-Err-clause-fails g c = λ alive.
     let st = g.R.Source.state in
     let read = c.envelopes.invariant.auditing.reads alive in
-    of_fault (λ n cause. FailsLeaving c.args.limits (in_line g.R.Source.state c.args.intake.now) (in_line g.R.Source.state c.take_envelope.new.intake) c.args.intake.now.octets c.take_envelope.new.intake.failed c.take_envelope.new.intake.octets n cause) c.fault_at-in-Err.result c.next_number-number.result c.in-Err.cause c.fault_at-in-Err.ensures
+    of_fault (λ n cause. FailsLeaving c.args.limits ((in_line g.R.Source.state c.args.intake.now), c.args.intake.now.octets) ((in_line g.R.Source.state c.take_envelope.new.intake), c.take_envelope.new.intake.failed, c.take_envelope.new.intake.octets) n cause) c.fault_at-in-Err.result c.next_number-number.result c.in-Err.cause c.fault_at-in-Err.ensures
     (fails c.args.limits c.args.now.nanosecond (in_line st c.args.intake.now) (in_line st c.envelopes.intake) (in_line st c.take_envelope.new.intake)
     c.envelopes.ledger c.args.intake.now.octets c.envelopes.intake.failed c.envelopes.intake.octets c.next_number-number.result
     c.take_envelope.new.intake.failed c.take_envelope.new.intake.octets c.in-Err.cause c.gifts_join.ensures
@@ -91,7 +91,7 @@ returns-then-number-gt-MAX_ENVELOPES-clause-fails g c = λ alive.
     let used = c.take_envelope.new.intake.octets in
     let u = c.envelopes.unpacker in
     let v = c.take_envelope.new.unpacker in
-    of_fault (λ n cause. FailsLeaving c.args.limits (in_line g.R.Source.state c.args.intake.now) (in_line g.R.Source.state c.take_envelope.new.intake) c.args.intake.now.octets c.take_envelope.new.intake.failed c.take_envelope.new.intake.octets n cause) c.fault_at-then-number-gt-MAX_ENVELOPES.result c.next_number-number.result causes.TooManyEnvelopes c.fault_at-then-number-gt-MAX_ENVELOPES.ensures
+    of_fault (λ n cause. FailsLeaving c.args.limits ((in_line g.R.Source.state c.args.intake.now), c.args.intake.now.octets) ((in_line g.R.Source.state c.take_envelope.new.intake), c.take_envelope.new.intake.failed, c.take_envelope.new.intake.octets) n cause) c.fault_at-then-number-gt-MAX_ENVELOPES.result c.next_number-number.result causes.TooManyEnvelopes c.fault_at-then-number-gt-MAX_ENVELOPES.ensures
     (one_too_many c.args.limits c.args.now.nanosecond (in_line st c.args.intake.now) mid new
     c.envelopes.ledger c.args.intake.now.octets c.envelopes.intake.failed c.envelopes.intake.octets c.next_number-number.result
     c.take_envelope.new.intake.failed used v c.in-Ok-Some.words c.gifts_join.ensures
@@ -107,7 +107,7 @@ returns-in_default-enter-clause-fails g c = λ alive.
     let used = c.take_envelope.new.intake.octets in
     let u = c.envelopes.unpacker in
     let v = c.take_envelope.new.unpacker in
-    of_fault (λ n cause. FailsLeaving c.args.limits (in_line g.R.Source.state c.args.intake.now) (in_line g.R.Source.state c.take_envelope.new.intake) c.args.intake.now.octets c.take_envelope.new.intake.failed c.take_envelope.new.intake.octets n cause) c.fault_at-in_default-enter.result c.next_number-number.result causes.OutOfMemory c.fault_at-in_default-enter.ensures
+    of_fault (λ n cause. FailsLeaving c.args.limits ((in_line g.R.Source.state c.args.intake.now), c.args.intake.now.octets) ((in_line g.R.Source.state c.take_envelope.new.intake), c.take_envelope.new.intake.failed, c.take_envelope.new.intake.octets) n cause) c.fault_at-in_default-enter.result c.next_number-number.result causes.OutOfMemory c.fault_at-in_default-enter.ensures
     (short_after c.args.limits c.args.now.nanosecond (in_line st c.args.intake.now) mid new
     c.envelopes.ledger c.args.intake.now.octets c.envelopes.intake.failed c.envelopes.intake.octets c.next_number-number.result
     c.take_envelope.new.intake.failed used v c.in-Ok-Some.words c.gifts_join.ensures
@@ -191,7 +191,7 @@ returns-in_default-enter-clause-as_it_was g c = λ octet e.
     (c.take_envelope.ensures.again octet (still c.args.intake.now c.envelopes.intake octet (c.envelopes.invariant.as_it_was octet e) e)))
 
 pub returns-in_default-clause-fails : goal.returns-in_default-clause-fails
-returns-in_default-clause-fails g c = λ alive. of_fault (λ n cause. FailsLeaving c.args.limits (in_line g.R.Source.state c.args.intake.now) (in_line g.R.Source.state c.args.intake.now) c.args.intake.now.octets c.args.intake.now.failed c.args.intake.now.octets n cause) c.fault_at.result 1 causes.OutOfMemory c.fault_at.ensures
+returns-in_default-clause-fails g c = λ alive. of_fault (λ n cause. FailsLeaving c.args.limits ((in_line g.R.Source.state c.args.intake.now), c.args.intake.now.octets) ((in_line g.R.Source.state c.args.intake.now), c.args.intake.now.failed, c.args.intake.now.octets) n cause) c.fault_at.result 1 causes.OutOfMemory c.fault_at.ensures
     (short_first c.args.limits (in_line g.R.Source.state c.args.intake.now) c.args.intake.now.octets c.args.intake.now.failed c.gifts_join.ensures alive)
 
 pub unreachable-requires : goal.unreachable-requires

@@ -61,8 +61,8 @@ returns-in-Err-clause-next g c =
 
 -- why the intake gave nothing
 after_fault : (g : Over) (c : In-Err-next_piece g) (result : Result Next CommandFault) → IsOfFault c.in-Err-next_piece.fault result
-    → IsNext g.S.StorySink.goes g.S.StorySink.failures g.S.Outlet.settled g.S.Outlet.stuck (in_line g.R.Source.state c.args.intake.now) (in_line g.R.Source.state c.next_piece.new.self)
-    c.next_piece.new.unpacker c.args.sink.now c.next_piece.new.sink result
+    → IsNext g.S.StorySink.goes g.S.StorySink.failures g.S.Outlet.settled g.S.Outlet.stuck (in_line g.R.Source.state c.args.intake.now, c.args.sink.now)
+    (in_line g.R.Source.state c.next_piece.new.self, c.next_piece.new.unpacker, c.next_piece.new.sink) result
     × IsCalm (g.S.StorySink.failures c.args.sink.now) (g.S.StorySink.failures c.next_piece.new.sink) result
 after_fault g c result is =
     let goes = g.S.StorySink.goes in
