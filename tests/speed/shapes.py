@@ -67,7 +67,9 @@ def write_numbered(path, envelopes):
 
 
 def command(words):
-    """The program that the words of a command line name: this repository's own where they name none."""
+    """The program that the words of a command line name: this repository's own where they name none. An option tells how it is used."""
+    if len(words) > 1 and words[1].startswith("-"):
+        sys.exit(sys.modules["__main__"].__doc__)
     return os.path.abspath(words[1]) if len(words) > 1 else f"{TOP}/iimwire"
 
 

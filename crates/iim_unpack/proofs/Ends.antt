@@ -12,7 +12,7 @@ use Rattle.iim_unpack.specs.declared.parts.message.ToMessage.{ToMessage}
 pub by_fault : {S : Type 0} (goes : S → List story.StoryEvent → S → Type 0) (failures : S → ℕ)
     (object : Option State) (token : ObjectToken) (a b : ToMessage S) → IsSome a.message.now
     → (fault : ObjectFault) → RefusesHead (PassesTo goes failures) (HaltsAt goes failures) object token a b fault
-    → RefusesEnd goes failures object token a.message.now a.sink.now b.cause b.sink.now fault
+    → RefusesEnd goes failures object token (a.message.now, a.sink.now) (b.cause, b.sink.now) fault
 by_fault goes failures object token a b some (Size why) h =
     let p = h.1.2 some in
     (h.0, (p.more, p.told, p.calm, λ octets text at. let next = p.stands octets text at in (next.0, next.2)))

@@ -481,7 +481,7 @@ token_refused laws limits octets next events text DatasetEnd fault c r = end_ref
 
 -- the sink's answer at a refusal
 pub refused_in : {S : Type 0} (goes : S → List story.StoryEvent → S → Type 0) (failures : S → ℕ) → FeedLaws → (u : Unpacking) (piece : List ℕ) (k : ℕ) (fault : TokenFault) (a b : S) (e : Refusal)
-    → k < length piece → e ≡ refusal_at (raised u.octets k) fault → FailsAs goes failures u.reader.place piece k fault u.parts a b
+    → k < length piece → e ≡ refusal_at (raised u.octets k) fault → FailsAs goes failures (u.reader.place, u.parts, a) piece k fault b
     → (more : List story.StoryEvent) × goes a more b × ((p : List ℕ) (n : ℕ) → Stands u p n → IsRefusedIn (limits_in u) p n piece more e)
 refused_in goes failures laws u piece k fault a b e within is (inl (cause, new, stuck, is_fault)) =
     let w = stuck.advanced.went in (

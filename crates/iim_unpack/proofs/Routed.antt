@@ -12,7 +12,7 @@ use Rattle.iim_unpack.specs.UnpackerInside.{FailsFor, HasAdvanced}
 use Rattle.iim_unpack.specs.declared.parts.router.Router.{Router}
 
 pub fails_for : {S : Type 0} (goes : S → List story.StoryEvent → S → Type 0) (failures : S → ℕ) (cause : Option HeadCause) (old : Place) (octets : List ℕ) (k : ℕ) (new : Place) (a b : Router S)
-    → RefusesFor (Routes goes failures) (RefusesRoute goes failures) cause old octets k new a b → StillStands TakesNext cause new b → FailsFor goes failures cause old octets k new a.parts.now a.sink.now b.refused b.sink.now
+    → RefusesFor (Routes goes failures) (RefusesRoute goes failures) cause old octets k new a b → StillStands TakesNext cause new b → FailsFor goes failures cause (old, a.parts.now, a.sink.now) octets k (new, b.refused, b.sink.now)
 fails_for goes failures None old octets k new a b h open' = record { more = h.0.more; event = h.0.event; stopped = h.0.stopped.2; completes = h.0.completes }
 fails_for goes failures (Some cause) old octets k new a b h open' =
     record { parts = b.parts.now; takes = open'; advanced = record { more = h.0.more; went = h.0.told.2; brings = h.0.brings }; dies = h.1 }
@@ -20,7 +20,7 @@ fails_for goes failures (Some cause) old octets k new a b h open' =
 -- what the reader of tags says of the octets that it used, of the parts
 pub has_advanced : {S : Type 0} (goes : S → List story.StoryEvent → S → Type 0) (failures : S → ℕ) (r : Result ℕ Fault) (old : Place) (piece : List ℕ) (new : Reader) (a b : Router S)
     → OnOk r (TakesCalls new) → IfOk r (λ used. TakesPiece (Routes goes failures) TakesNext IsOver old piece new.place used a b)
-    → IfOk r (HasAdvanced goes failures old piece a.parts.now a.sink.now new b.parts.now b.sink.now)
+    → IfOk r (HasAdvanced goes failures (old, a.parts.now, a.sink.now) piece (new, b.parts.now, b.sink.now))
 has_advanced goes failures (Ok used) old piece new a b calls taken =
     record { takes_calls = calls; within = taken.within; advanced = record { more = taken.told.more; went = taken.told.told.2; brings = taken.told.brings }; onward = taken.onward }
 has_advanced goes failures (Err fault) old piece new a b calls taken = tt

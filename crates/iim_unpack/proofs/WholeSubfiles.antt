@@ -93,7 +93,7 @@ subfile_takes p new h t eight between section object message = record {
 
 -- a dataset that was taken, or left
 pub answered : {S : Type 0} (goes : S → List story.StoryEvent → S → Type 0) (failures : S → ℕ) → ((a : S) → goes a [] a) → (old new : Parts) (a : S) (h : Head) (xs : List ℕ) (b : Bool) (step : Step) (o : Option Step)
-    → (b ≡ true → o ≡ Some step) → (b ≡ false → o ≡ None) → (b ≡ true → TellsWhole old h xs new) → (b ≡ false → new ≡ old) → (b ≡ true → AfterStep Takes HasEnded new step) → TookWhole goes failures old a h xs new a o
+    → (b ≡ true → o ≡ Some step) → (b ≡ false → o ≡ None) → (b ≡ true → TellsWhole old h xs new) → (b ≡ false → new ≡ old) → (b ≡ true → AfterStep Takes HasEnded new step) → TookWhole goes failures (old, a) h xs (new, a) o
 answered goes failures nothing old new a h xs true step o some none went left after =
-    subst (TookWhole goes failures old a h xs new a) (sym (some refl)) (tells_parts_whole goes failures old new h xs a (nothing a) (went refl), after refl)
-answered goes failures nothing old new a h xs false step o some none went left after = subst (TookWhole goes failures old a h xs new a) (sym (none refl)) (left refl, refl)
+    subst (TookWhole goes failures (old, a) h xs (new, a)) (sym (some refl)) (tells_parts_whole goes failures old new h xs a (nothing a) (went refl), after refl)
+answered goes failures nothing old new a h xs false step o some none went left after = subst (TookWhole goes failures (old, a) h xs (new, a)) (sym (none refl)) (left refl, refl)

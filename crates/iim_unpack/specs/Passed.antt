@@ -65,10 +65,12 @@ RefusesOctet goes failures old a run cause b (Size why) = ⊥
 RefusesOctet goes failures old a run cause b (Stopped stop) = (stop.taken < length run)
     × MessageRefuses goes failures old a (map ObjectOctet (take stop.taken run)) (ObjectOctet (slice_index run stop.taken)) cause b
 
--- The object refused a token of a head; or it took the end, and the message refused it.
-abbrev pub RefusesEnd : {S : Type 0} → (S → List story.StoryEvent → S → Type 0) → (S → ℕ) → Option State → ObjectToken → Option Place → S → Option MessageCause → S → ObjectFault → Type 0
-RefusesEnd goes failures object token old a cause b (Size why) = Refuses object token why × ((more : List ℕ) × goes a (story.delivered more) b × (failures b ≡ failures a) × GoesSomewhere old [] more)
-RefusesEnd goes failures object token old a cause b (Stopped stop) = (token ≡ ObjectEnded) × LivesWith object token × MessageRefuses goes failures old a [] ObjectEnd cause b
+-- The object refused a token of a head; or it took the end, and the message refused it. (The message and the sink before; why the message
+-- refused, and the sink, after.)
+abbrev pub RefusesEnd : {S : Type 0} → (S → List story.StoryEvent → S → Type 0) → (S → ℕ) → Option State → ObjectToken → Option Place × S
+    → Option MessageCause × S → ObjectFault → Type 0
+RefusesEnd goes failures object token (old, a) (cause, b) (Size why) = Refuses object token why × ((more : List ℕ) × goes a (story.delivered more) b × (failures b ≡ failures a) × GoesSomewhere old [] more)
+RefusesEnd goes failures object token (old, a) (cause, b) (Stopped stop) = (token ≡ ObjectEnded) × LivesWith object token × MessageRefuses goes failures old a [] ObjectEnd cause b
 
 -- The fault is the object's, and the sink was told nothing; or it is the message's at the end of the object.
 pub record RefusesBySize {S : Type 0} (goes : S → List story.StoryEvent → S → Type 0) (failures : S → ℕ) (object : Option State) (message : Option Place) (h : Head) (a b : S) (fault : TokenFault) : Type 0 where

@@ -32,10 +32,10 @@ pub record HasEnded (parts : Parts) : Type 0 where
   pub object : IsSome parts.object
   pub message : IsSome parts.message
 
--- The parts took a whole dataset, and take a head or have ended after it; or nothing was taken.
-abbrev pub TookWhole : {S : Type 0} → (S → List story.StoryEvent → S → Type 0) → (S → ℕ) → Parts → S → Head → List ℕ → Parts → S → Option Step → Type 0
-TookWhole goes failures old a h xs new b None = (new ≡ old) × (b ≡ a)
-TookWhole goes failures old a h xs new b (Some step) = TellsParts goes failures old a (HeadRead h ∷ (map DataOctet xs ++ DatasetEnd ∷ [])) new b × AfterStep Takes HasEnded new step
+-- The parts took a whole dataset, and take a head or have ended after it; or nothing was taken. (Parts and sink, before and after.)
+abbrev pub TookWhole : {S : Type 0} → (S → List story.StoryEvent → S → Type 0) → (S → ℕ) → Parts × S → Head → List ℕ → Parts × S → Option Step → Type 0
+TookWhole goes failures (old, a) h xs (new, b) None = (new ≡ old) × (b ≡ a)
+TookWhole goes failures (old, a) h xs (new, b) (Some step) = TellsParts goes failures old a (HeadRead h ∷ (map DataOctet xs ++ DatasetEnd ∷ [])) new b × AfterStep Takes HasEnded new step
 
 abbrev pub TakesNext : {S : Type 0} → Router S → Option ℕ → Type 0
 TakesNext router left = Takes router.parts.now left

@@ -46,17 +46,20 @@ pub record StoppedAt {S : Type 0} (goes : S → List story.StoryEvent → S → 
   pub stopped : PartsRefuse goes failures p a more event refused b
   pub completes : (before : List ℕ) (events : List DatasetEvent) → LeadsTo count_octets before events old → Completes (before ++ take k octets) (slice_index octets k) (events ++ more) event
 
-abbrev pub FailsFor : {S : Type 0} → (S → List story.StoryEvent → S → Type 0) → (S → ℕ) → Option HeadCause → Place → List ℕ → ℕ → Place → Parts → S → Option TokenFault → S → Type 0
-FailsFor goes failures None old octets k new p a refused b = StoppedAt goes failures old octets k p a refused b
-FailsFor goes failures (Some cause) old octets k new p a refused b = StuckInTag goes failures old octets k cause new p a b
+-- Why octet k is refused: no tag continues with it, or the parts refused what it completes. (The place, the parts and the sink before;
+-- the place, what was refused and the sink after.)
+abbrev pub FailsFor : {S : Type 0} → (S → List story.StoryEvent → S → Type 0) → (S → ℕ) → Option HeadCause → Place × Parts × S → List ℕ → ℕ
+    → Place × Option TokenFault × S → Type 0
+FailsFor goes failures None (old, p, a) octets k (new, refused, b) = StoppedAt goes failures old octets k p a refused b
+FailsFor goes failures (Some cause) (old, p, a) octets k (new, refused, b) = StuckInTag goes failures old octets k cause new p a b
 
 -- the fault of a begun tag, of which these numbers are named
 abbrev pub tag_fault : ℕ × ℕ → HeadCause → TokenFault
 tag_fault names cause = record { layer = layers.Dataset; rec = names.0; set = names.1; cause = cause_of_tag cause }
 
--- why octet `taken` of a piece is refused
-abbrev pub FailsAs : {S : Type 0} → (S → List story.StoryEvent → S → Type 0) → (S → ℕ) → Place → List ℕ → ℕ → TokenFault → Parts → S → S → Type 0
-FailsAs goes failures old octets k fault p a b =
+-- why octet k of a piece is refused (the place, the parts and the sink before; the sink after)
+abbrev pub FailsAs : {S : Type 0} → (S → List story.StoryEvent → S → Type 0) → (S → ℕ) → Place × Parts × S → List ℕ → ℕ → TokenFault → S → Type 0
+FailsAs goes failures (old, p, a) octets k fault b =
     ((cause : HeadCause) × (new : Place) × StuckInTag goes failures old octets k cause new p a b × (fault ≡ tag_fault (named_by new) cause))
     ⊎ StoppedAt goes failures old octets k p a (Some fault) b
 
@@ -65,12 +68,12 @@ abbrev pub IsOnward : Place → Parts → ℕ → ℕ → Type 0
 IsOnward place parts all used = ((used ≡ all) × Takes parts (to_come place)) ⊎ (HasEnded parts × (place ≡ between))
 
 -- The first `used` octets of the piece were used, and parts and sink went by what these complete: all of the piece, or those up to
--- the end of the last dataset.
-pub record HasAdvanced {S : Type 0} (goes : S → List story.StoryEvent → S → Type 0) (failures : S → ℕ) (old : Place) (piece : List ℕ) (p : Parts) (a : S) (new : Reader) (q : Parts) (b : S) (used : ℕ) : Type 0 where
-  pub takes_calls : TakesCalls new
+-- the end of the last dataset. (The place, the parts and the sink before; the reader, the parts and the sink after.)
+pub record HasAdvanced {S : Type 0} (goes : S → List story.StoryEvent → S → Type 0) (failures : S → ℕ) (old : Place × Parts × S) (piece : List ℕ) (new : Reader × Parts × S) (used : ℕ) : Type 0 where
+  pub takes_calls : TakesCalls new.0
   pub within : used ≤ length piece
-  pub advanced : Advanced goes failures old (take used piece) new.place p a q b
-  pub onward : IsOnward new.place q (length piece) used
+  pub advanced : Advanced goes failures old.0 (take used piece) new.0.place old.1 old.2 new.1 new.2
+  pub onward : IsOnward new.0.place new.1 (length piece) used
 
 -- an octet had come, or comes with these
 abbrev pub begins : Bool → List ℕ → Bool

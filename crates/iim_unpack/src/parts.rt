@@ -230,7 +230,7 @@ impl Parts {
     ) -> Result<Option<Step>, Halt>
         requires takes { TakesHead self.old }
         requires subfile { head.rec ≡ 8 }
-        ensures taken { IfOk result (TookWhole S.goes S.failures self.old sink.old head octets.now self.new sink.new) }
+        ensures taken { IfOk result (TookWhole S.goes S.failures (self.old, sink.old) head octets.now (self.new, sink.new)) }
         ensures before { IfErr result (λ halt. halt.taken < length octets.now) }
         ensures stopped { IfErr result (λ halt.
             PartsRefuse S.goes S.failures self.old sink.old (HeadRead head ∷ map DataOctet (take halt.taken octets.now))
@@ -267,7 +267,7 @@ impl Parts {
     ) -> Result<Option<Step>, Halt>
         requires takes { TakesHead self.old }
         requires count { head.count ≡ length octets.now }
-        ensures taken { IfOk result (TookWhole S.goes S.failures self.old sink.old head octets.now self.new sink.new) }
+        ensures taken { IfOk result (TookWhole S.goes S.failures (self.old, sink.old) head octets.now (self.new, sink.new)) }
         ensures before { IfErr result (λ halt. halt.taken < length octets.now) }
         ensures stopped { IfErr result (λ halt.
             PartsRefuse S.goes S.failures self.old sink.old (HeadRead head ∷ map DataOctet (take halt.taken octets.now))

@@ -53,12 +53,14 @@ fn feed_router<'p, 's, S: StorySink>(
     requires stands { Takes router.old.parts.now (to_come reader.old.place) }
     ensures parts { router.new.parts.ghost_name ≡ router.old.parts.ghost_name }
     ensures sink { router.new.sink.ghost_name ≡ router.old.sink.ghost_name }
-    ensures taken { IfOk result (HasAdvanced S.goes S.failures reader.old.place piece.now router.old.parts.now
-        router.old.sink.now reader.new router.new.parts.now router.new.sink.now) }
+    ensures taken { IfOk result (HasAdvanced S.goes S.failures
+        (reader.old.place, router.old.parts.now, router.old.sink.now) piece.now
+        (reader.new, router.new.parts.now, router.new.sink.now)) }
     ensures before { IfErr result (λ fault. fault.used < length piece.now) }
     ensures fails { IfErr result (λ fault.
-        FailsFor S.goes S.failures (tag_cause_of fault.cause) reader.old.place piece.now fault.used reader.new.place
-        router.old.parts.now router.old.sink.now router.new.refused router.new.sink.now) }
+        FailsFor S.goes S.failures (tag_cause_of fault.cause)
+        (reader.old.place, router.old.parts.now, router.old.sink.now) piece.now fault.used
+        (reader.new.place, router.new.refused, router.new.sink.now)) }
     ensures room { room_of router.new.parts.now.fields ≡ room_of router.old.parts.now.fields }
 {
     reader.feed(piece, router)
@@ -84,11 +86,11 @@ fn advance<S: StorySink>(
 ) -> Result<usize, Halt>
     requires takes_calls { TakesCalls reader.old }
     requires stands { Takes parts.old (to_come reader.old.place) }
-    ensures taken { IfOk result (HasAdvanced S.goes S.failures reader.old.place piece.now parts.old sink.old reader.new
-        parts.new sink.new) }
+    ensures taken { IfOk result (HasAdvanced S.goes S.failures (reader.old.place, parts.old, sink.old) piece.now
+        (reader.new, parts.new, sink.new)) }
     ensures before { IfErr result (λ halt. halt.taken < length piece.now) }
     ensures fails { IfErr result (λ halt.
-        FailsAs S.goes S.failures reader.old.place piece.now halt.taken halt.fault parts.old sink.old sink.new) }
+        FailsAs S.goes S.failures (reader.old.place, parts.old, sink.old) piece.now halt.taken halt.fault sink.new) }
     ensures room { room_of parts.new.fields ≡ room_of parts.old.fields }
 {
     let mut router = Router {

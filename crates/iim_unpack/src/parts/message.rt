@@ -114,7 +114,7 @@ fn end_object<'m, 's, S: StorySink>(
     ensures told { OnOk result (TellsMessage S.goes S.failures to.old.message.now to.old.sink.now (events_at head.rec)
         to.new.message.now to.new.sink.now) }
     ensures refused { IfErr result (RefusesEnd S.goes S.failures object.old (head_token head.rec head.count)
-        to.old.message.now to.old.sink.now to.new.cause to.new.sink.now) }
+        (to.old.message.now, to.old.sink.now) (to.new.cause, to.new.sink.now)) }
 {
     object.head(head.rec, head.set, head.count, to)
 }
