@@ -13,7 +13,7 @@ use Rattle.iim_object.specs.declared.plan.Plan.{Plan}
 use Rattle.iim_object.specs.declared.size.Size.{Size}
 use Rattle.iim_object.specs.declared.size.Size.TheVariants.{Known}
 use Rattle.wire_message.specs.Format.Messages.{IsTrailer}
-use Rattle.iim_object.proofs.PackedSizes.{plan_parts}
+use Rattle.iim_object.proofs.PlanParts.{plan_parts}
 use Rattle.iim_pack.specs.States.Packing.{pack_cause}
 use Rattle.iim_pack.specs.Format.Orders.{IsFirstOf, AgainstPack}
 use Rattle.iim_pack.specs.Format.Packed.{Packed}
