@@ -58,7 +58,7 @@ canonical_reads head more r s c =
           let same = one_tag count_octets h head (take n (tag ++ more)) tag (drop n (tag ++ more)) more found.tag spelled (take-append-drop n (tag ++ more)) in
           (same.0, omega (arith, found.within, length-take n (tag ++ more), ap length same.1));
       is_whole = λ begun. no_longer count_octets head begun.head tag more begun.more spelled begun.some_more begun.whole;
-      no_fault = λ fault found. no_fault count_octets fault.at head tag more spelled found.begun found.dead;
+      no_fault = λ fault found. no_fault count_octets fault.taken head tag more spelled found.begun found.dead;
     }
 
 -- ---- streams

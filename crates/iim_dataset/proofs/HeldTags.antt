@@ -42,8 +42,8 @@ first_refuse xs f t =
     let few : length (take tag_octets xs) ≤ tag_octets = omega (arith, length-take tag_octets xs) in
     record {
       within = omega (arith, t.within, length-take tag_octets xs);
-      begun = subst (BeginsTag count_octets) (take-take f.at tag_octets xs (omega (arith, t.within, few))) t.begun;
-      dead = λ h more s. t.dead h more (subst (λ (u : List ℕ). SpellsTag count_octets h (u ++ more)) (sym (take-take (f.at + 1) tag_octets xs (omega (arith, t.within, few)))) s);
+      begun = subst (BeginsTag count_octets) (take-take f.taken tag_octets xs (omega (arith, t.within, few))) t.begun;
+      dead = λ h more s. t.dead h more (subst (λ (u : List ℕ). SpellsTag count_octets h (u ++ more)) (sym (take-take (f.taken + 1) tag_octets xs (omega (arith, t.within, few)))) s);
       cause = t.cause;
     }
 
@@ -62,10 +62,10 @@ longer held rest h n b t = elim (cases_lt (length held) n) [
 ]
 
 -- no tag continues with an octet after the held ones
-pub after_held : (held rest : List ℕ) (f : HeadFault) → BeginsTag count_octets held → HasNoTag (held ++ rest) f → length held ≤ f.at
-after_held held rest f b t = elim (cases_lt f.at (length held)) [
+pub after_held : (held rest : List ℕ) (f : HeadFault) → BeginsTag count_octets held → HasNoTag (held ++ rest) f → length held ≤ f.taken
+after_held held rest f b t = elim (cases_lt f.taken (length held)) [
   | inl lt ↦
-      let n = f.at + 1 in
+      let n = f.taken + 1 in
       let front : take n (held ++ rest) ≡ take n held = take-append-le n held rest (omega (arith, lt)) in
       let whole : take n (held ++ rest) ++ (drop n held ++ b.more) ≡ held ++ b.more =
       ap (λ u. u ++ (drop n held ++ b.more)) front ∙ (sym (append_assoc (take n held) (drop n held) b.more) ∙ ap (λ u. u ++ b.more) (take-append-drop n held)) in
@@ -96,14 +96,14 @@ unfinished held rest h k lt s = record {
 }
 
 -- where no tag continues
-pub refused_at : (held rest : List ℕ) (f : HeadFault) (k : ℕ) → BeginsTag count_octets held → HasNoTag (held ++ rest) f → k ≡ f.at - length held
-    → (k < length rest) × BeginsTag count_octets (held ++ take k rest) × BeginsNoTag count_octets ((held ++ take k rest) ++ slice_index rest k ∷ []) × (f.at ≡ length (held ++ take k rest))
+pub refused_at : (held rest : List ℕ) (f : HeadFault) (k : ℕ) → BeginsTag count_octets held → HasNoTag (held ++ rest) f → k ≡ f.taken - length held
+    → (k < length rest) × BeginsTag count_octets (held ++ take k rest) × BeginsNoTag count_octets ((held ++ take k rest) ++ slice_index rest k ∷ []) × (f.taken ≡ length (held ++ take k rest))
 refused_at held rest f k b t e =
-    let all : f.at ≡ length held + k = omega (arith, after_held held rest f b t, e) in
+    let all : f.taken ≡ length held + k = omega (arith, after_held held rest f b t, e) in
     let lt : k < length rest = omega (arith, t.within, length-append held rest, all) in
-    let more : f.at + 1 ≡ length held + (k + 1) = omega (arith, all) in (
+    let more : f.taken + 1 ≡ length held + (k + 1) = omega (arith, all) in (
       lt,
-      subst (BeginsTag count_octets) (front_is held rest f.at k all) t.begun,
-      subst (BeginsNoTag count_octets) (front_is held rest (f.at + 1) (k + 1) more ∙ one_more held rest k lt) t.dead,
+      subst (BeginsTag count_octets) (front_is held rest f.taken k all) t.begun,
+      subst (BeginsNoTag count_octets) (front_is held rest (f.taken + 1) (k + 1) more ∙ one_more held rest k lt) t.dead,
       omega (arith, all, length-append held (take k rest), length-take-le k rest (omega (arith, lt))),
     )

@@ -22,7 +22,7 @@ pub struct Fault {
     /// Why the octet was refused.
     pub cause: FaultCause,
     /// How many octets of the piece stand before it.
-    pub used: usize,
+    pub taken: usize,
 }
 
 /// Why no tag can continue, as the cause of a fault.

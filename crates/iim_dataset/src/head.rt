@@ -36,8 +36,8 @@ pub enum HeadCause {
 pub struct HeadFault {
     /// What was wrong with the octet there.
     pub cause: HeadCause,
-    /// The offset, in octets, of the first octet with which no tag can continue.
-    pub at: usize,
+    /// How many octets stand before the first with which no tag can continue.
+    pub taken: usize,
 }
 
 /// The octet that each tag begins with.
@@ -85,10 +85,10 @@ pub(crate) fn read_head(octets: &[u8]) -> Result<Option<(Head, usize)>, HeadFaul
     }
 }
 
-fn fault(cause: HeadCause, at: usize) -> HeadFault
-    ensures { result ≡ record { cause = cause; at = at } }
+fn fault(cause: HeadCause, taken: usize) -> HeadFault
+    ensures { result ≡ record { cause = cause; taken = taken } }
 {
-    HeadFault { cause, at }
+    HeadFault { cause, taken }
 }
 
 /// The canonical tag of a head: a standard count up to 32,767, above that an extended count of four octets up to

@@ -39,10 +39,10 @@ pub(crate) fn start() -> DatasetPlace
 fn stopped(used: usize) -> (DatasetPlace, Fault)
     ensures place { result.0 ≡ between }
     ensures is_place { IsPlace result.0 }
-    ensures fault { result.1 ≡ record { cause = FaultCause.Stopped; used = used } }
+    ensures fault { result.1 ≡ record { cause = FaultCause.Stopped; taken = used } }
 {
     let cause = FaultCause::Stopped;
-    (start(), Fault { cause, used })
+    (start(), Fault { cause, taken: used })
 }
 
 /// Hands on what the last octet of a tag completes.
@@ -94,10 +94,10 @@ fn take_tag<D: DatasetSink>(
             })
         }
         Err(fault) => {
-            let used = fault.at - held.len();
+            let used = fault.taken - held.len();
             let cause = tag_fault(fault.cause);
             lengthen(&mut held, &rest[..used]);
-            Err((DatasetPlace::Tag(held), Fault { cause, used }))
+            Err((DatasetPlace::Tag(held), Fault { cause, taken: used }))
         }
     }
 }
@@ -262,9 +262,9 @@ pub(crate) fn take_piece<D: DatasetSink>(
                 }
             }
             Err((place, fault)) => {
-                let used = at + fault.used;
+                let used = at + fault.taken;
                 let cause = fault.cause;
-                return Err((place, Fault { cause, used }));
+                return Err((place, Fault { cause, taken: used }));
             }
         }
     }

@@ -56,10 +56,10 @@ fn feed_router<'p, 's, S: StorySink>(
     ensures taken { IfOk result (HasAdvanced S.goes S.failures
         (reader.old.place, router.old.parts.now, router.old.sink.now) piece.now
         (reader.new, router.new.parts.now, router.new.sink.now)) }
-    ensures before { IfErr result (λ fault. fault.used < length piece.now) }
+    ensures before { IfErr result (λ fault. fault.taken < length piece.now) }
     ensures fails { IfErr result (λ fault.
         FailsFor S.goes S.failures (tag_cause_of fault.cause)
-        (reader.old.place, router.old.parts.now, router.old.sink.now) piece.now fault.used
+        (reader.old.place, router.old.parts.now, router.old.sink.now) piece.now fault.taken
         (reader.new.place, router.new.refused, router.new.sink.now)) }
     ensures room { room_of router.new.parts.now.fields ≡ room_of router.old.parts.now.fields }
 {
@@ -117,7 +117,7 @@ fn advance<S: StorySink>(
                 },
             };
             Err(Halt {
-                taken: fault.used,
+                taken: fault.taken,
                 fault: why,
             })
         }

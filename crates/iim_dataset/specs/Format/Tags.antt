@@ -30,7 +30,7 @@ pub record HasTag (octets : List ℕ) (head : Head) (used : ℕ) : Type 0 where
 
 -- The octets before the one at `at` begin a tag, and with that one no tag does.
 pub record HasNoTag (octets : List ℕ) (fault : HeadFault) : Type 0 where
-  pub within : fault.at < length octets
-  pub begun : BeginsTag count_octets (take fault.at octets)
-  pub dead : BeginsNoTag count_octets (take (fault.at + 1) octets)
-  pub cause : Concerns fault.cause fault.at
+  pub within : fault.taken < length octets
+  pub begun : BeginsTag count_octets (take fault.taken octets)
+  pub dead : BeginsNoTag count_octets (take (fault.taken + 1) octets)
+  pub cause : Concerns fault.cause fault.taken

@@ -128,10 +128,10 @@ fn feed_by_octets(
         match reader.feed(&[*octet], sink) {
             Ok(used) => assert_eq!(rt; used, 1),
             Err(fault) => {
-                assert_eq!(rt; fault.used, 0);
+                assert_eq!(rt; fault.taken, 0);
                 return Err(Fault {
                     cause: fault.cause,
-                    used: at,
+                    taken: at,
                 });
             }
         }
@@ -161,7 +161,7 @@ fn read(
 const fn no_tag_after(used: usize) -> Result<usize, Fault> {
     Err(Fault {
         cause: FaultCause::Marker,
-        used,
+        taken: used,
     })
 }
 
@@ -199,7 +199,7 @@ fn octets_after_the_last_dataset(rt: HostRuntime) {
 fn expect_stop(rt: &impl Abort, event: usize, used: usize, recorded: usize) {
     let stop = Err(Fault {
         cause: FaultCause::Stopped,
-        used,
+        taken: used,
     });
     let (front, _) = RECORD.split_at(recorded.min(RECORD.len()));
     for one_by_one in [false, true] {

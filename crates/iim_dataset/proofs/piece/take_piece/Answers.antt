@@ -49,6 +49,6 @@ returns-in-Err-clause-refused g c =
       before = omega (arith, front.before, ap length (take_rest c.args.octets.now c.loop-at.at), length-drop c.loop-at.at c.args.octets.now);
       refused =
           refuses_front g.D.DatasetSink.goes g.D.DatasetSink.stops g.met.D.DatasetSink.joined g.met.D.DatasetSink.joined_stop (tag_cause_of fault.cause) c.args.place c.loop-at.now c.in-Err.place
-          c.args.octets.now c.loop-at.at fault.used c.args.sink.now c.loop-at.sink c.take_front.new.sink c.loop-at.invariant.told front.refused;
+          c.args.octets.now c.loop-at.at fault.taken c.args.sink.now c.loop-at.sink c.take_front.new.sink c.loop-at.invariant.told front.refused;
       onward = front.onward;
     }

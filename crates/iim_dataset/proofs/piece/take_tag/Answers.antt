@@ -53,7 +53,7 @@ pub lengthen-requires-in-Err : goal.lengthen-requires-in-Err
 lengthen-requires-in-Err g c =
     let held = c.args.held.items in
     let rest = c.args.rest.now in
-    let k = c.in-Err.fault.at - c.len-in-Err.result in
+    let k = c.in-Err.fault.taken - c.len-in-Err.result in
     let t = subst (λ (ys : List ℕ). HasNoTag (ys ++ rest) c.in-Err.fault) c.as_slice.ensures.value c.in-Err.ensures.fault in
     let r = refused_at held rest c.in-Err.fault k c.requires.held t (omega (arith, c.len-in-Err.ensures.value)) in
     (omega arith, omega (arith, begun_length (held ++ take k rest) r.1, length-append held (take k rest)))
@@ -112,7 +112,7 @@ pub returns-in-Err-clause-refused : goal.returns-in-Err-clause-refused
 returns-in-Err-clause-refused g c =
     let held = c.args.held.items in
     let rest = c.args.rest.now in
-    let k = c.in-Err.fault.at - c.len-in-Err.result in
+    let k = c.in-Err.fault.taken - c.len-in-Err.result in
     let sink = c.args.sink.now in
     let new = c.lengthen-in-Err.new.held in
     let t = subst (λ (ys : List ℕ). HasNoTag (ys ++ rest) c.in-Err.fault) c.as_slice.ensures.value c.in-Err.ensures.fault in

@@ -13,7 +13,7 @@ returns-clause-before g c = err_then _ _ c.feed.result c.feed.ensures.refused (�
 pub returns-clause-fails : goal.returns-clause-fails
 returns-clause-fails g c =
     err_then _ _ c.feed.result c.feed.ensures.refused
-    (λ fault h. fails_for g.S.StorySink.goes g.S.StorySink.failures (tag_cause_of fault.cause) c.args.reader.now.place c.args.piece.now fault.used c.feed.new.self.place c.args.router.now c.feed.new.sink h.refused h.onward)
+    (λ fault h. fails_for g.S.StorySink.goes g.S.StorySink.failures (tag_cause_of fault.cause) c.args.reader.now.place c.args.piece.now fault.taken c.feed.new.self.place c.args.router.now c.feed.new.sink h.refused h.onward)
 
 pub returns-clause-room : goal.returns-clause-room
 returns-clause-room g c =
