@@ -1,12 +1,9 @@
 -- The laws of a sink that writes into a buffer, handed in by its impl.
 use Rattle.std.proofs.Common.{◌≡◌, ℕ, List, [], ◌∷◌, ◌++◌, map, refl, sym, ap, subst, ◌∙◌, append-nil, append_assoc}
+use Rattle.std.proofs.lemmas.List.{map-append}
 use Rattle.wire_story.specs.Format.Delivery.{StoryEvent, octet_for}
 use Rattle.iim_c.specs.declared.text_out.TextOut.{TextOut}
 use Rattle.iim_c.specs.Format.Writing.{HasTaken, WritesLines}
-
-map-append : (xs ys : List StoryEvent) → map octet_for (xs ++ ys) ≡ map octet_for xs ++ map octet_for ys
-map-append [] ys = refl
-map-append (x ∷ xs) ys = ap (λ (t : List ℕ). octet_for x ∷ t) (map-append xs ys)
 
 pub writes_nothing : (sink : TextOut) → WritesLines sink [] sink
 writes_nothing sink = record {
@@ -21,6 +18,6 @@ writes_joined a b c xs ys first then = record {
   room = then.room ∙ first.room;
   taken = λ before taken.
       subst (HasTaken c.out.now c.count)
-      (append_assoc before (map octet_for xs) (map octet_for ys) ∙ ap (λ (t : List ℕ). before ++ t) (sym (map-append xs ys)))
+      (append_assoc before (map octet_for xs) (map octet_for ys) ∙ ap (λ (t : List ℕ). before ++ t) (sym (map-append octet_for xs ys)))
       (then.taken (before ++ map octet_for xs) (first.taken before taken));
 }

@@ -1,7 +1,9 @@
 -- The laws of writers of blocks, handed in by their impls.
 use Rattle.std.proofs.Common.{◌≡◌, ℕ, List, [], ◌∷◌, ◌++◌, map, refl, sym, ap, subst, ◌∙◌, append-nil, append_assoc, Option, None, Some, arith}
 use Rattle.std.specs.Io.KnownBytes.{Appends}
+use Rattle.std.proofs.lemmas.List.{map-append}
 use Rattle.iim_dataset.specs.States.Devices.{Device}
+use Rattle.iim_dataset.specs.Appending.{appends_nothing, appends_joined}
 use Rattle.wire_story.specs.Format.Delivery.{StoryEvent, octet_for, LineOctet}
 use Rattle.wire_story.specs.States.Writing.{WritesOn}
 use Rattle.wire_story.specs.WritingLaws.{writes_nothing, writes_joined}
@@ -12,13 +14,9 @@ same_octets : (xs : List ℕ) → map octet_for (map LineOctet xs) ≡ xs
 same_octets [] = refl
 same_octets (x ∷ xs) = ap (λ (t : List ℕ). x ∷ t) (same_octets xs)
 
-map-append : (xs ys : List StoryEvent) → map octet_for (xs ++ ys) ≡ map octet_for xs ++ map octet_for ys
-map-append [] ys = refl
-map-append (x ∷ xs) ys = ap (λ (t : List ℕ). octet_for x ∷ t) (map-append xs ys)
-
 writes_on : (a b c : Device) (i j k : ℕ) (xs ys : List ℕ) → WritesOn a b i j xs → WritesOn b c j k ys → WritesOn a c i k (xs ++ ys)
 writes_on a b c i j k xs ys h l =
-    subst (λ (t : List ℕ). WritesOn a c i k t) (map-append (map LineOctet xs) (map LineOctet ys) ∙ ap (λ (t : List ℕ). t ++ map octet_for (map LineOctet ys)) (same_octets xs) ∙ ap (λ (t : List ℕ). xs ++ t) (same_octets ys))
+    subst (λ (t : List ℕ). WritesOn a c i k t) (map-append octet_for (map LineOctet xs) (map LineOctet ys) ∙ ap (λ (t : List ℕ). t ++ map octet_for (map LineOctet ys)) (same_octets xs) ∙ ap (λ (t : List ℕ). xs ++ t) (same_octets ys))
     (writes_joined a b c i j k (map LineOctet xs) (map LineOctet ys) (subst (λ (t : List ℕ). WritesOn a b i j t) (sym (same_octets xs)) h)
     (subst (λ (t : List ℕ). WritesOn b c j k t) (sym (same_octets ys)) l))
 
@@ -39,19 +37,9 @@ puts_on state a b c xs ys first then = record {
 
 pub puts_joined : {W : Type 0} (state : W → Device) (a b c : BlockWriter W) (xs ys : List StoryEvent) → PutsLines state a xs b → PutsLines state b ys c → PutsLines state a (xs ++ ys) c
 puts_joined state a b c xs ys first then =
-    subst (λ (t : List ℕ). PutsOn state a c t) (sym (map-append xs ys)) (puts_on state a b c (map octet_for xs) (map octet_for ys) first then)
+    subst (λ (t : List ℕ). PutsOn state a c t) (sym (map-append octet_for xs ys)) (puts_on state a b c (map octet_for xs) (map octet_for ys) first then)
 
 -- ---- where no write failed
-
-appends_nothing : (known : Option (List ℕ)) → Appends known known []
-appends_nothing None = tt
-appends_nothing (Some xs) = sym (append-nil xs)
-
-appends_joined : (a b c : Option (List ℕ)) (xs ys : List ℕ) → Appends a b xs → Appends b c ys → Appends a c (xs ++ ys)
-appends_joined None b c xs ys h k = tt
-appends_joined (Some x) None c xs ys h k = absurd h
-appends_joined (Some x) (Some y) None xs ys h k = absurd k
-appends_joined (Some x) (Some y) (Some z) xs ys h k = k ∙ (ap (λ (t : List ℕ). t ++ ys) h ∙ append_assoc x xs ys)
 
 pub put_nothing : {W : Type 0} (state : W → Device) (b : BlockWriter W) → HasPut state b b []
 put_nothing state b = record { out = []; parts = append-nil (held_of b); wrote = (appends_nothing (device_of state b).octets, (refl, omega arith)) }

@@ -18,3 +18,4 @@ pub mod Wholes
 pub mod StoppedTexts
 pub mod WrittenNumbers
 pub mod Agreeing
+pub mod Each

@@ -8,5 +8,6 @@ pub mod Laws
 pub mod Fronts
 pub mod TagEnds
 pub mod Calls
--- What impls of a source hand in.
+-- What impls of sources, targets and sinks hand in.
 pub mod Later
+pub mod Appending

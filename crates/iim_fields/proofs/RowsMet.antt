@@ -6,12 +6,12 @@ use Rattle.std.proofs.lemmas.Bool.{and_parts, eqb-true, leb-true}
 use Rattle.iim_dataset.specs.Format.Datasets.{Dataset}
 use Rattle.iim_tables.specs.Format.Octets.{is_graphic}
 use Rattle.iim_dataset.specs.Format.Octets.{within, is_digit}
+use Rattle.iim_dataset.proofs.Each.{all_append}
 use Rattle.iim_tables.specs.Format.Dates.{is_date}
 use Rattle.iim_tables.specs.Format.Rows.{table, row_of, Meets}
 use Rattle.iim_tables.specs.Format.Records.{IsGoodDataset}
 use Rattle.iim_fields.specs.Format.Envelopes.{IsEnvelope}
 use Rattle.iim_fields.specs.Format.Views.{has_names, first_data}
-use Rattle.iim_fields.proofs.Runs.{all_append}
 
 abbrev MeetsItsRow : Dataset → Type 0
 MeetsItsRow d = Meets d.rec d.set d.octets

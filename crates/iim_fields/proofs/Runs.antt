@@ -6,21 +6,10 @@ use Rattle.std.proofs.lemmas.List.Sums.{sum_by-append}
 use Rattle.std.proofs.lemmas.Bool.{or_left, or_parts, or_right}
 use Rattle.std.proofs.lemmas.Bool.Decides.{eqb_tells}
 use Rattle.iim_dataset.specs.Format.Datasets.{Dataset}
+use Rattle.iim_dataset.proofs.Each.{all_append, all_front}
 use Rattle.iim_fields.specs.Format.Records.{AreRecords}
 use Rattle.iim_tables.specs.Format.Records.{mandatory, IsGoodDataset, IsGoodRecord, occurs, occurrences, repeats}
 use Rattle.iim_fields.proofs.Table.{EachRowHasValues, HasSample, samples}
-
-pub all_append : {X : Type 0} (P : X → Type 0) (xs ys : List X) → AllByRecursion P xs → AllByRecursion P ys → AllByRecursion P (xs ++ ys)
-all_append P [] ys h k = k
-all_append P (x ∷ xs) ys h k = (h.0, all_append P xs ys h.1 k)
-
-pub all_front : {X : Type 0} (P : X → Type 0) (xs ys : List X) → AllByRecursion P (xs ++ ys) → AllByRecursion P xs
-all_front P [] ys h = tt
-all_front P (x ∷ xs) ys h = (h.0, all_front P xs ys h.1)
-
-pub all_back : {X : Type 0} (P : X → Type 0) (xs ys : List X) → AllByRecursion P (xs ++ ys) → AllByRecursion P ys
-all_back P [] ys h = h
-all_back P (x ∷ xs) ys h = all_back P xs ys h.1
 
 pub occurrences_append : (n : ℕ) (xs ys : List Dataset) → occurrences n (xs ++ ys) ≡ occurrences n xs + occurrences n ys
 occurrences_append n xs ys = sum_by-append (λ (d : Dataset). cond (nat_eq d.set n) 1 0) xs ys

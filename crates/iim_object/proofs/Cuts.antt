@@ -4,12 +4,13 @@ use Rattle.std.specs.List.{AllByRecursion}
 use Rattle.std.proofs.lemmas.Bool.{eq-eqb, ne_eqb}
 use Rattle.std.proofs.lemmas.List.Elements.{filter-append}
 use Rattle.iim_dataset.specs.Format.Datasets.{Dataset, of_record}
+use Rattle.iim_dataset.proofs.Each.{all_front, all_back, all_map}
 use Rattle.iim_object.specs.Format.Places.{Place}
 use Rattle.iim_object.specs.Format.Records.{AreObjectRecords, numbers_of, lengths_of}
 use Rattle.iim_tables.specs.Format.Records.{IsGoodRecord}
 use Rattle.iim_object.specs.Format.Numbers.{ending_of, place_after_datasets}
 use Rattle.iim_object.specs.Laws.Numbers.{RecordsAreByNumber}
-use Rattle.iim_object.proofs.Members.{IsMember, all_front, all_back, all_map, one_confirmation, some_subfile}
+use Rattle.iim_object.proofs.Members.{IsMember, one_confirmation, some_subfile}
 
 -- ---- the datasets of a record
 

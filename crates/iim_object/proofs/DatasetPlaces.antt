@@ -6,6 +6,7 @@ use Rattle.std.proofs.lemmas.Bool.{eq-eqb}
 use Rattle.iim_dataset.specs.Format.Octets.{number, greatest_size}
 use Rattle.iim_dataset.specs.Format.Datasets.{Dataset}
 use Rattle.iim_dataset.specs.Format.Languages.{IsAlive}
+use Rattle.iim_dataset.proofs.Each.{all_append, all_front, all_back, all_map}
 use Rattle.iim_object.specs.declared.size.Sizes.{Sizes}
 use Rattle.iim_object.specs.Format.Sizes.{Stated, InRow, AreOnce, Agree, number_at, mode_number, sizes_at}
 use Rattle.iim_object.specs.Format.Objects.{ObjectToken, SubfileBegun, ObjectEnded, Confirmed, ObjectLanguage, number_tokens}
@@ -16,7 +17,7 @@ use Rattle.iim_object.specs.Format.Numbers.{ending_of, place_after_datasets, pla
 use Rattle.iim_object.specs.Laws.Numbers.{object_tokens, TokensAreOfSizedDatasets, DatasetsLiveWithTheirTokens, DatasetsEndWithTheirTokens}
 use Rattle.iim_object.proofs.Numbers.{read-append, read_front, in_row_at}
 use Rattle.iim_object.proofs.Subfiles.{numbers_end, subfiles_front, subfiles_end}
-use Rattle.iim_object.proofs.Members.{IsMember, all_append, all_front, all_back, all_map, are_stated, descriptor_of, object_of, confirmation_of, one_confirmation, some_subfile, ten_of, stating, subfiles, confirmation}
+use Rattle.iim_object.proofs.Members.{IsMember, are_stated, descriptor_of, object_of, confirmation_of, one_confirmation, some_subfile, ten_of, stating, subfiles, confirmation}
 use Rattle.iim_object.proofs.Cuts.{AreSorted, cut, next_end, sorted, place_is, place_with}
 
 -- ---- parts that are joined

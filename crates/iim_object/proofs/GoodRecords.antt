@@ -8,6 +8,7 @@ use Rattle.iim_tables.specs.Format.Kinds.{is_size_from}
 use Rattle.iim_dataset.proofs.WrittenNumbers.{number_back, number_octets, some_octets, few_octets}
 use Rattle.iim_dataset.specs.Format.Octets.{IsOctet, Octets, greatest_size, number, within}
 use Rattle.iim_dataset.specs.Format.Datasets.{Dataset, written_number}
+use Rattle.iim_dataset.proofs.Each.{all_front, all_back}
 use Rattle.iim_tables.specs.Format.Numbers.{size_octets}
 use Rattle.iim_tables.specs.Format.Rows.{table, row_of, Meets}
 use Rattle.iim_tables.specs.Format.Records.{IsGoodDataset, IsGoodRecord, occurs, occurrences, repeats, mandatory}
@@ -219,14 +220,6 @@ good_nine object le = record {
 }
 
 -- ---- parts
-
-all_front : {X : Type 0} (P : X → Type 0) (xs ys : List X) → AllByRecursion P (xs ++ ys) → AllByRecursion P xs
-all_front P [] ys h = tt
-all_front P (x ∷ xs) ys h = (h.0, all_front P xs ys h.1)
-
-all_back : {X : Type 0} (P : X → Type 0) (xs ys : List X) → AllByRecursion P (xs ++ ys) → AllByRecursion P ys
-all_back P [] ys h = h
-all_back P (x ∷ xs) ys h = all_back P xs ys h.1
 
 parts_are : (size : ℕ) (full : List (List ℕ)) (last : List ℕ) → size ≤ greatest_size → AreFull size full → length last ≤ size → Octets (joined_parts full ++ last)
     → AllByRecursion (λ p. (length p ≤ greatest_size) × Octets p) (full ++ last ∷ [])

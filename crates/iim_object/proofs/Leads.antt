@@ -4,6 +4,7 @@ use Rattle.std.specs.List.{AllByRecursion}
 use Rattle.std.proofs.lemmas.List.{map-append, length-map}
 use Rattle.iim_dataset.specs.Format.Octets.{number}
 use Rattle.iim_dataset.specs.Format.Datasets.{Dataset, of_record}
+use Rattle.iim_dataset.proofs.Each.{all_front}
 use Rattle.iim_object.specs.Format.Sizes.{Stated, InRow, AreOnce, AreStated, number_at}
 use Rattle.iim_object.specs.Format.Objects.{NumberRead, ObjectEnded}
 use Rattle.iim_object.specs.Format.Places.{Place, MayFollow, HasBoth}
@@ -11,7 +12,7 @@ use Rattle.iim_object.specs.Format.Records.{AreObjectRecords, numbers_of, length
 use Rattle.iim_object.specs.Format.Numbers.{ending_of, place_after_datasets}
 use Rattle.iim_object.specs.Laws.Numbers.{OthersLeadNowhere, NumbersLead, SubfilesLead, EndsLead}
 use Rattle.iim_object.proofs.Numbers.{at-append}
-use Rattle.iim_object.proofs.Members.{all_front, are_stated, have_both, some_subfile, stated_of}
+use Rattle.iim_object.proofs.Members.{are_stated, have_both, some_subfile, stated_of}
 use Rattle.iim_object.proofs.Cuts.{AreSorted, more_of, same_of, place_is, place_with, nines_in, next_number, next_subfile, next_end, sorted}
 
 pub others_lead : OthersLeadNowhere

@@ -4,6 +4,7 @@ use Rattle.std.specs.List.{AllByRecursion}
 use Rattle.iim_dataset.specs.Format.Octets.{Octets, greatest_size}
 use Rattle.iim_dataset.specs.Format.Datasets.{Dataset, SpellsStream, canonical_dataset, canonical_stream, count_octets, of_record}
 use Rattle.iim_dataset.specs.Laws.Datasets.{HasSpellings, CanonicalStreamsAreSpelled}
+use Rattle.iim_dataset.proofs.Each.{all_append, all_map}
 use Rattle.iim_fields.specs.Format.Records.{AreSections}
 use Rattle.iim_tables.specs.Format.Records.{IsGoodDataset, IsGoodRecord}
 use Rattle.iim_fields.specs.Format.Faults.{kept, joined}
@@ -14,9 +15,9 @@ use Rattle.iim_object.specs.Laws.Packing.{PackedObjectsHaveSizes, PackedRecordsA
 use Rattle.iim_object.proofs.PlanParts.{plan_parts}
 use Rattle.wire_message.specs.Format.Canonical.{canonical}
 use Rattle.iim_pack.specs.Laws.Packed.{PackedOctetsCarryTheValue}
-use Rattle.iim_pack.proofs.Octets.{all_append, message_octets}
+use Rattle.iim_pack.proofs.Octets.{message_octets}
 use Rattle.iim_pack.proofs.Spelling.{record_spelled}
-use Rattle.iim_pack.proofs.Sorting.{AreInOrder, AreOf, all_map, kept_are, sevens_are, eights_are, nines_are, object_joined}
+use Rattle.iim_pack.proofs.Sorting.{AreInOrder, AreOf, kept_are, sevens_are, eights_are, nines_are, object_joined}
 
 -- ---- records
 

@@ -6,11 +6,11 @@ use Rattle.iim_dataset.specs.Laws.Devices.{TextsJoin}
 use Rattle.iim_dataset.specs.Format.Datasets.{Dataset, canonical_dataset, canonical_stream, count_octets, tag_octets}
 use Rattle.iim_dataset.proofs.StoppedTexts.{stopped_more}
 use Rattle.iim_dataset.proofs.WrittenNumbers.{dataset_length}
+use Rattle.iim_dataset.proofs.Each.{all_append, all_back}
 use Rattle.iim_fields.specs.Format.Faults.{joined}
 use Rattle.iim_tables.specs.Format.Records.{IsGoodDataset}
 use Rattle.iim_fields.specs.Format.Envelopes.{IsEnvelope}
 use Rattle.iim_fields.specs.States.Builders.{AreFew}
-use Rattle.iim_pack.proofs.Octets.{all_append}
 use Rattle.iim_pack.proofs.Spelling.{few}
 
 -- ---- how long datasets are
@@ -33,10 +33,6 @@ pub stream_one : (xs : List Dataset) (d : Dataset) → canonical_stream (xs ++ d
 stream_one xs d = stream_append xs (d ∷ []) ∙ ap (λ (t : List ℕ). canonical_stream xs ++ t) (append-nil (canonical_dataset d))
 
 -- ---- the datasets of an envelope
-
-all_back : {X : Type 0} (P : X → Type 0) (xs ys : List X) → AllByRecursion P (xs ++ ys) → AllByRecursion P ys
-all_back P [] ys h = h
-all_back P (x ∷ xs) ys h = all_back P xs ys h.1
 
 good_each : (rec : ℕ) (ds : List Dataset) → AllByRecursion (λ d. (d.rec ≡ rec) × IsGoodDataset d) ds → AllByRecursion (λ d. length d.octets < 256 ^ count_octets) ds
 good_each rec [] h = tt

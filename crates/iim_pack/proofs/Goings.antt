@@ -5,6 +5,7 @@ use Rattle.std.proofs.lemmas.Bool.{and_parts, le-leb, leb-true}
 use Rattle.std.specs.List.{list_all}
 use Rattle.iim_dataset.specs.States.Devices.{Device}
 use Rattle.iim_dataset.specs.Format.Datasets.{canonical_stream}
+use Rattle.iim_dataset.proofs.Each.{all_append}
 use Rattle.iim_object.specs.Format.Packing.{IsWritten}
 use Rattle.iim_object.specs.States.Writing as object
 use Rattle.iim_object.specs.States.Writing.{Writing, most_of, total_of, write_cause, Begins}
@@ -16,7 +17,6 @@ use Rattle.wire_story.specs.Laws.Packing.{LinesArePackedAsTheirEvents}
 use Rattle.wire_message.specs.Format.Messages.{Header}
 use Rattle.wire_message.specs.Format.Canonical.{packed_head, packed_tail, canonical}
 use Rattle.iim_pack.specs.States.Packing.{Lengthens, BreaksOff, ContinuesWith}
-use Rattle.iim_pack.proofs.Octets.{all_append}
 
 -- ---- results
 

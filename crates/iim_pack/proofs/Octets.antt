@@ -1,15 +1,12 @@
 -- The octets of a message are octets.
 use Rattle.std.proofs.Common.{◌≡◌, ℕ, ◌<◌, Bool, true, List, [], ◌∷◌, ◌++◌, sym, subst, arith, inl, inr}
-use Rattle.std.specs.List.{AllByRecursion, list_all}
+use Rattle.std.specs.List.{list_all}
 use Rattle.std.proofs.lemmas.Bool.{and_parts}
 use Rattle.std.proofs.lemmas.Bool.Decides.{nat_tests}
 use Rattle.iim_dataset.specs.Format.Octets.{IsOctet, Octets, is_digit, is_letter}
+use Rattle.iim_dataset.proofs.Each.{all_append}
 use Rattle.wire_message.specs.Format.Fields.{Are, is_alphanumeric, is_info_octet, is_trailer_octet, is_filler_octet, is_text_octet}
 use Rattle.wire_message.specs.Format.Messages.{Header, IsHeader, IsMessage, SpellsInfo, fixed_header}
-
-pub all_append : {A : Type 0} (P : A → Type 0) (xs ys : List A) → AllByRecursion P xs → AllByRecursion P ys → AllByRecursion P (xs ++ ys)
-all_append P [] ys h k = k
-all_append P (x ∷ xs) ys h k = (h.0, all_append P xs ys h.1 k)
 
 octets_append : (xs ys : List ℕ) → Octets xs → Octets ys → Octets (xs ++ ys)
 octets_append xs ys h k = all_append IsOctet xs ys h k

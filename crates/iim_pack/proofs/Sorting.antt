@@ -3,6 +3,7 @@ use Rattle.std.proofs.Common.{◌≡◌, ℕ, Bool, true, false, nat_eq, List, [
 use Rattle.std.specs.List.{AllByRecursion, filter}
 use Rattle.std.proofs.lemmas.List.Elements.{filter-append}
 use Rattle.iim_dataset.specs.Format.Datasets.{Dataset, of_record}
+use Rattle.iim_dataset.proofs.Each.{all_map}
 use Rattle.iim_fields.specs.Format.Faults.{kept, is_kept, joined}
 use Rattle.iim_object.specs.Format.Cuts.{joined_parts}
 use Rattle.iim_object.specs.Format.Packing.{subfile_datasets}
@@ -16,10 +17,6 @@ all_pass p (d ∷ ds) h = rw h.0 (ap (λ (xs : List Dataset). d ∷ xs) (all_pas
 none_pass : (p : Dataset → Bool) (ds : List Dataset) → AllByRecursion (λ d. p d ≡ false) ds → filter p ds ≡ []
 none_pass p [] h = refl
 none_pass p (d ∷ ds) h = rw h.0 (none_pass p ds h.1)
-
-pub all_map : {A : Type 0} (P Q : A → Type 0) (xs : List A) → ((x : A) → P x → Q x) → AllByRecursion P xs → AllByRecursion Q xs
-all_map P Q [] f h = tt
-all_map P Q (x ∷ xs) f h = (f x h.0, all_map P Q xs f h.1)
 
 -- each is of the record
 abbrev pub AreOf : ℕ → List Dataset → Type 0

@@ -8,6 +8,7 @@ use Rattle.std.proofs.lemmas.List.Folds.{list_any-append}
 use Rattle.iim_dataset.specs.Format.Octets.{number}
 use Rattle.iim_dataset.specs.Format.Datasets.{Dataset, head_of, of_record}
 use Rattle.iim_dataset.specs.declared.head.Head.{Head}
+use Rattle.iim_dataset.proofs.Each.{all_front}
 use Rattle.iim_tables.specs.Format.Rows.{table, row_of, Meets}
 use Rattle.iim_fields.specs.Format.Records.{AreSections, AreRecords, records}
 use Rattle.iim_tables.specs.Format.Records.{IsGoodDataset, occurs}
@@ -207,10 +208,6 @@ tens_of r none (d ∷ ds) all = (ten, tens_of r none ds all.1)
       | inl is ↦ sym is.1
       | inr other ↦ absurd (no_row r d.set d.octets (none d.set other.0) (subst (λ (k : ℕ). Meets k d.set d.octets) all.0.0 all.0.1.meets))
     ]
-
-all_front : (P : Dataset → Type 0) (xs ys : List Dataset) → AllByRecursion P (xs ++ ys) → AllByRecursion P xs
-all_front P [] ys all = tt
-all_front P (x ∷ xs) ys all = (all.0, all_front P xs ys all.1)
 
 tens_front : (r : ℕ) (xs ys zs : List Dataset) → of_record r (xs ++ ys) ≡ zs → AreTens zs → AreTens (of_record r xs)
 tens_front r xs ys zs is tens =

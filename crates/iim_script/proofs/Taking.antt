@@ -6,6 +6,7 @@ use Rattle.std.proofs.lemmas.Bool.Decides.{nat_tests}
 use Rattle.std.proofs.lemmas.List.Elements.{filter-append}
 use Rattle.std.proofs.lemmas.List.Folds.{list_any-append}
 use Rattle.iim_dataset.specs.Format.Datasets.{Dataset, of_record}
+use Rattle.iim_dataset.proofs.Each.{all_append}
 use Rattle.iim_fields.specs.Format.Envelopes.{IsEnvelope}
 use Rattle.iim_fields.specs.States.Builders.{absent, finish_fault}
 use Rattle.iim_fields.specs.Format.Faults.{joined, is_kept, missing_fault}
@@ -21,10 +22,6 @@ use Rattle.iim_script.proofs.Printing.{IsPrintable}
 
 abbrev OfRecord : ℕ → Dataset → Type 0
 OfRecord r d = (d.rec ≡ r) × IsGoodDataset d
-
-all_append : (P : Dataset → Type 0) (xs ys : List Dataset) → AllByRecursion P xs → AllByRecursion P ys → AllByRecursion P (xs ++ ys)
-all_append P [] ys h k = k
-all_append P (x ∷ xs) ys h k = (h.0, all_append P xs ys h.1 k)
 
 each_of : (P : Dataset → Type 0) (r : ℕ) (ds : List Dataset) → ((d : Dataset) → d.rec ≡ r → IsGoodDataset d → P d) → AllByRecursion (OfRecord r) ds → AllByRecursion P ds
 each_of P r [] f h = tt

@@ -9,13 +9,11 @@ use Rattle.iim_fields.specs.declared.limits.Limits.{Limits}
 use Rattle.wire_story.specs.Format.Delivery as story
 use Rattle.iim_unpack.specs.States.Parts.{AreLed, Refused, CountsFor}
 use Rattle.iim_unpack.specs.PartSteps.{TellsParts, TellsWhole, PartsRefuse, Closed, NotClosed}
+use Rattle.iim_unpack.specs.Passing.{delivered-append}
 use Rattle.iim_unpack.specs.Routing.{Takes, HasEnded}
 use Rattle.iim_unpack.specs.Sequence.{AreInOrder}
 use Rattle.iim_unpack.specs.declared.parts.Parts.{Parts}
 use Rattle.iim_places.specs.declared.fault.TokenFault.{TokenFault}
-
-delivered-append : (x y : List ℕ) → story.delivered (x ++ y) ≡ story.delivered x ++ story.delivered y
-delivered-append x y = flat_map-append story.events_of x y
 
 -- the events before others
 pub front_in_order : (xs ys : List DatasetEvent) → AreInOrder (xs ++ ys) → AreInOrder xs

@@ -32,7 +32,7 @@ not_ended : (xs : List ℕ) → end_is_last false (map ObjectOctet xs) ≡ false
 not_ended [] = refl
 not_ended (x ∷ xs) = not_ended xs
 
-delivered-append : (x y : List ℕ) → story.delivered (x ++ y) ≡ story.delivered x ++ story.delivered y
+pub delivered-append : (x y : List ℕ) → story.delivered (x ++ y) ≡ story.delivered x ++ story.delivered y
 delivered-append x y = flat_map-append story.events_of x y
 
 goes_nowhere : (old : Option Place) → LeadsOn old [] [] old

@@ -1,20 +1,12 @@
 -- The laws of writers of lines, handed in by their impl.
-use Rattle.std.proofs.Common.{◌≡◌, ℕ, ◌≤◌, inl, inr, List, [], ◌∷◌, ◌++◌, map, Option, Some, None, refl, sym, ap, subst, ◌∙◌, arith, append-nil, append_assoc}
+use Rattle.std.proofs.Common.{◌≡◌, ℕ, ◌≤◌, inl, inr, List, [], ◌++◌, map, refl, sym, subst, ◌∙◌, arith}
 use Rattle.std.proofs.lemmas.Bool.{cases_lt}
 use Rattle.std.specs.Io.KnownBytes.{Appends}
+use Rattle.std.proofs.lemmas.List.{map-append}
 use Rattle.iim_dataset.specs.States.Devices.{Device, RoseAtLeast, max_interruptions}
+use Rattle.iim_dataset.specs.Appending.{appends_nothing, appends_joined}
 use Rattle.wire_story.specs.Format.Delivery.{StoryEvent, octet_for}
 use Rattle.wire_story.specs.States.Writing.{HasBroken, WritesOn}
-
-appends_nothing : (known : Option (List ℕ)) → Appends known known []
-appends_nothing None = tt
-appends_nothing (Some xs) = sym (append-nil xs)
-
-appends_joined : (a b c : Option (List ℕ)) (xs ys : List ℕ) → Appends a b xs → Appends b c ys → Appends a c (xs ++ ys)
-appends_joined None b c xs ys h k = tt
-appends_joined (Some x) None c xs ys h k = absurd h
-appends_joined (Some x) (Some y) None xs ys h k = absurd k
-appends_joined (Some x) (Some y) (Some z) xs ys h k = k ∙ (ap (λ (t : List ℕ). t ++ ys) h ∙ append_assoc x xs ys)
 
 pub writes_nothing : (device : Device) (stops : ℕ) → WritesOn device device stops stops []
 writes_nothing device stops = record {
@@ -43,14 +35,10 @@ broken_after : (a b c : Device) → a.failures ≤ b.failures → a.interruption
 broken_after a b c f i (inl h) = inl (rose_after 1 a.failures b.failures c.failures f h)
 broken_after a b c f i (inr h) = inr (rose_after max_interruptions a.interruptions b.interruptions c.interruptions i h)
 
-map-append : (xs ys : List StoryEvent) → map octet_for (xs ++ ys) ≡ map octet_for xs ++ map octet_for ys
-map-append [] ys = refl
-map-append (x ∷ xs) ys = ap (λ (t : List ℕ). octet_for x ∷ t) (map-append xs ys)
-
 pub writes_joined : (a b c : Device) (i j k : ℕ) (xs ys : List StoryEvent) → WritesOn a b i j (map octet_for xs) → WritesOn b c j k (map octet_for ys)
     → WritesOn a c i k (map octet_for (xs ++ ys))
 writes_joined a b c i j k xs ys h l = record {
-  octets = subst (Appends a.octets c.octets) (sym (map-append xs ys)) (appends_joined a.octets b.octets c.octets (map octet_for xs) (map octet_for ys) h.octets l.octets);
+  octets = subst (Appends a.octets c.octets) (sym (map-append octet_for xs ys)) (appends_joined a.octets b.octets c.octets (map octet_for xs) (map octet_for ys) h.octets l.octets);
   failures = omega (arith, h.failures, l.failures);
   interruptions = omega (arith, h.interruptions, l.interruptions);
   stops = omega (arith, h.stops, l.stops);
