@@ -111,7 +111,7 @@ refuses_front goes stops joined joined_stop (Some cause) p q r piece i k a b c t
 
 -- The sink stopped: nothing is begun then, and the fault says so.
 pub stopped_at : {D : Type 0} (goes : D → List DatasetEvent → D → Type 0) (stops : D → List DatasetEvent → DatasetEvent → D → Type 0) (stands : D → Option ℕ → Type 0) (old : DatasetPlace) (octets : List ℕ) (k : ℕ) (given : DatasetPlace × Fault) (a b : D)
-    → IsPlace given.0 → given.0 ≡ between → given.1 ≡ record { cause = Stopped; taken = k } → k < length octets → Stops stops old octets k a b → RefusesOne goes stops stands old octets given.1 given.0 a b
+    → IsPlace given.0 → given.0 ≡ between → given.1 ≡ record { cause = Stopped; taken = k } → k < length octets → Stops stops old octets k a b → RefusesOne goes stops stands (old, a) octets given.1 (given.0, b)
 stopped_at goes stops stands old octets k given a b is_place none is lt s = record {
   is_place = is_place;
   before = subst (λ (f : Fault). f.taken < length octets) (sym is) lt;

@@ -15,20 +15,22 @@ abbrev pub TakesOnward : {D : Type 0} → (D → Option ℕ → Type 0) → (D �
 TakesOnward stands ends More place sink = stands sink (to_come place)
 TakesOnward stands ends Last place sink = ends sink × (place ≡ between)
 
--- Some of the octets, one at least, were taken: the sink was told what they complete, and takes what comes next or has ended.
-pub record TakesFront {D : Type 0} (goes : D → List DatasetEvent → D → Type 0) (stands : D → Option ℕ → Type 0) (ends : D → Type 0) (old : DatasetPlace) (rest : List ℕ) (front : Front) (a b : D) : Type 0 where
+-- Some of the octets, one at least, were taken: the sink was told what they complete, and takes what comes next or has ended. (Place and
+-- sink before, the front, and the sink after.)
+pub record TakesFront {D : Type 0} (goes : D → List DatasetEvent → D → Type 0) (stands : D → Option ℕ → Type 0) (ends : D → Type 0) (old : DatasetPlace × D) (rest : List ℕ) (front : Front) (b : D) : Type 0 where
   pub is_place : IsPlace front.place
   pub some : 0 < front.used
   pub within : front.used ≤ length rest
-  pub told : TellsSink goes old (take front.used rest) front.place a b
+  pub told : TellsSink goes old.0 (take front.used rest) front.place old.1 b
   pub onward : TakesOnward stands ends front.step front.place b
 
--- Whole datasets were taken, or none: the sink was told of them, and takes what comes next or has ended.
-pub record TakesWholes {D : Type 0} (goes : D → List DatasetEvent → D → Type 0) (stands : D → Option ℕ → Type 0) (ends : D → Type 0) (rest : List ℕ) (step : Step) (used : ℕ) (a b : D) : Type 0 where
-  pub within : used ≤ length rest
-  pub told : TellsSink goes between (take used rest) between a b
-  pub onward : TakesOnward stands ends step between b
-  pub none : used ≡ 0 → b ≡ a
+-- Whole datasets were taken, or none: the sink was told of them, and takes what comes next or has ended. (What the sink answered to the
+-- last, and how many octets were used.)
+pub record TakesWholes {D : Type 0} (goes : D → List DatasetEvent → D → Type 0) (stands : D → Option ℕ → Type 0) (ends : D → Type 0) (rest : List ℕ) (front : Step × ℕ) (a b : D) : Type 0 where
+  pub within : front.1 ≤ length rest
+  pub told : TellsSink goes between (take front.1 rest) between a b
+  pub onward : TakesOnward stands ends front.0 between b
+  pub none : front.1 ≡ 0 → b ≡ a
 
 -- The first `used` octets are a tag of this head, and then these data, all of them.
 pub record WholeFront (rest : List ℕ) (h : Head) (xs : List ℕ) (used : ℕ) : Type 0 where

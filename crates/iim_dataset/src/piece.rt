@@ -72,9 +72,9 @@ fn take_tag<D: DatasetSink>(
     requires stands { D.stands sink.old None }
     requires some { 0 < length rest.now }
     ensures front { IfOk result (λ front.
-        TakesFront D.goes D.stands D.ends (DatasetPlace.Tag held) rest.now front sink.old sink.new) }
+        TakesFront D.goes D.stands D.ends (DatasetPlace.Tag held, sink.old) rest.now front sink.new) }
     ensures refused { IfErr result (λ given.
-        RefusesOne D.goes D.stops D.stands (DatasetPlace.Tag held) rest.now given.1 given.0 sink.old sink.new) }
+        RefusesOne D.goes D.stops D.stands (DatasetPlace.Tag held, sink.old) rest.now given.1 (given.0, sink.new)) }
 {
     let mut held = held;
     match read_tag(held.as_slice(), rest) {
@@ -113,10 +113,10 @@ fn take_data<D: DatasetSink>(
     requires stands { D.stands sink.old (Some left) }
     requires some { 0 < length rest.now }
     ensures front { IfOk result (λ front.
-        TakesFront D.goes D.stands D.ends (DatasetPlace.Inside head left) rest.now front sink.old sink.new) }
+        TakesFront D.goes D.stands D.ends (DatasetPlace.Inside head left, sink.old) rest.now front sink.new) }
     ensures refused { IfErr result (λ given.
-        RefusesOne D.goes D.stops D.stands (DatasetPlace.Inside head left) rest.now given.1 given.0 sink.old
-        sink.new) }
+        RefusesOne D.goes D.stops D.stands (DatasetPlace.Inside head left, sink.old) rest.now given.1
+        (given.0, sink.new)) }
 {
     if (rest.len() as u64) < left {
         let left = left - rest.len() as u64;
@@ -167,7 +167,7 @@ fn whole_dataset(rest: &[u8]) -> Option<(Head, &[u8], usize)>
 fn take_wholes<D: DatasetSink>(rest: &[u8], sink: &mut D) -> Result<(Step, usize), usize>
     requires stands { D.stands sink.old None }
     ensures wholes { IfOk result (λ front.
-        TakesWholes D.goes D.stands D.ends rest.now front.0 front.1 sink.old sink.new) }
+        TakesWholes D.goes D.stands D.ends rest.now front sink.old sink.new) }
     ensures before { IfErr result (λ used. used < length rest.now) }
     ensures stopped { IfErr result (λ used. Stops D.stops between rest.now used sink.old sink.new) }
 {
@@ -192,7 +192,7 @@ fn take_wholes_after<D: DatasetSink>(
 ) -> Result<(Step, usize), usize>
     requires stands { D.stands sink.old None }
     ensures wholes { IfOk result (λ front.
-        TakesWholes D.goes D.stands D.ends rest.now front.0 front.1 sink.old sink.new) }
+        TakesWholes D.goes D.stands D.ends rest.now front sink.old sink.new) }
     ensures between { IfOk result (λ front. 0 < front.1 → held.now.items ≡ []) }
     ensures before { IfErr result (λ used. used < length rest.now) }
     ensures stopped { IfErr result (λ used. (held.now.items ≡ [])
@@ -213,9 +213,10 @@ fn take_front<D: DatasetSink>(
     requires place { IsPlace place }
     requires stands { D.stands sink.old (to_come place) }
     requires some { 0 < length rest.now }
-    ensures front { IfOk result (λ front. TakesFront D.goes D.stands D.ends place rest.now front sink.old sink.new) }
+    ensures front { IfOk result (λ front.
+        TakesFront D.goes D.stands D.ends (place, sink.old) rest.now front sink.new) }
     ensures refused { IfErr result (λ given.
-        RefusesOne D.goes D.stops D.stands place rest.now given.1 given.0 sink.old sink.new) }
+        RefusesOne D.goes D.stops D.stands (place, sink.old) rest.now given.1 (given.0, sink.new)) }
 {
     match place {
         DatasetPlace::Tag(held) => match take_wholes_after(&held, rest, sink) {
@@ -245,9 +246,9 @@ pub(crate) fn take_piece<D: DatasetSink>(
     requires place { IsPlace place }
     requires stands { D.stands sink.old (to_come place) }
     ensures piece { IfOk result (λ front.
-        TakesPiece D.goes D.stands D.ends place octets.now front.0 front.1 sink.old sink.new) }
+        TakesPiece D.goes D.stands D.ends (place, sink.old) octets.now (front.0, sink.new) front.1) }
     ensures refused { IfErr result (λ given.
-        RefusesOne D.goes D.stops D.stands place octets.now given.1 given.0 sink.old sink.new) }
+        RefusesOne D.goes D.stops D.stands (place, sink.old) octets.now given.1 (given.0, sink.new)) }
 {
     let mut now = place;
     let mut at = 0;

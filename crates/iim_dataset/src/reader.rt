@@ -104,12 +104,12 @@ impl HeadReader {
         // The used octets lead on, and the sink was told what they complete. It takes what comes next, or has ended.
         ensures takes_calls { OnOk result (TakesCalls self.new) }
         ensures taken { IfOk result (λ used.
-            TakesPiece D.goes D.stands D.ends self.old.place octets.now self.new.place used sink.old sink.new) }
+            TakesPiece D.goes D.stands D.ends (self.old.place, sink.old) octets.now (self.new.place, sink.new) used) }
 
         // With the refused octet no tag can continue, or the sink stopped at what it completes.
         ensures failed { OnErr result (IsFailed self.new) }
         ensures refused { IfErr result (λ fault.
-            RefusesOne D.goes D.stops D.stands self.old.place octets.now fault self.new.place sink.old sink.new) }
+            RefusesOne D.goes D.stops D.stands (self.old.place, sink.old) octets.now fault (self.new.place, sink.new)) }
     {
         let place = mem::replace(&mut self.place, start());
         match take_piece(place, octets, sink) {

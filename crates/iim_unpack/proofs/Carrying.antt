@@ -236,8 +236,8 @@ counts_for messages.ControlOctet m n h = h
 counts_for messages.Sink m n h = h
 
 pub stopped_object : {S : Type 0} (goes : S → List story.StoryEvent → S → Type 0) (failures : S → ℕ) (p : Parts) (a b : S) (front : List ℕ) (octet : ℕ) (cause : MessageCause) → MessageLaws → (k : Head) → HasBegun p k → k.rec ≡ 8
-    → MessageRefuses goes failures p.message a (map object_events.ObjectOctet front) (object_events.ObjectOctet octet) (Some cause) b
-    → PartsRefuse goes failures p a (map DataOctet front) (DataOctet octet) (Some (message_on k cause)) b
+    → MessageRefuses goes failures (p.message, a) (map object_events.ObjectOctet front) (object_events.ObjectOctet octet) (Some cause, b)
+    → PartsRefuse goes failures (p, a) (map DataOctet front) (DataOctet octet) (Some (message_on k cause), b)
 stopped_object goes failures p a b front octet cause laws k begun eight halted =
     let same : halted.why ≡ cause = sym (some-same halted.is_cause) in
     record {

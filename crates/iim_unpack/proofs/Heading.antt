@@ -209,7 +209,7 @@ counts_size sizes.ConfirmedWrong m n e = e
 stopped_head : {S : Type 0} (goes : S → List story.StoryEvent → S → Type 0) (failures : S → ℕ) (p : Parts) (a b : S) (h : Head) (fault : TokenFault) (more : List ℕ) → HeadLaws → has_ended p ≡ false → IsBetween p.fields
     → goes a (story.delivered more) b → CountsFor fault.cause (failures a) (failures b)
     → ((ds : List Dataset) → AreAfter p ds → (IsRefusedHead (limits_of p.fields) ds h fault ⊎ IsUnfinished (limits_of p.fields) ds h fault) × (text_so_far (object_of ds) ++ more ≡ text_so_far (object_of ds)))
-    → PartsRefuse goes failures p a [] (HeadRead h) (Some fault) b
+    → PartsRefuse goes failures (p, a) [] (HeadRead h) (Some fault, b)
 stopped_head goes failures p a b h fault more laws last between told counts refuses = record {
   fault = fault;
   is_fault = refl;
@@ -231,14 +231,14 @@ stopped_head goes failures p a b h fault more laws last between told counts refu
 }
 
 pub stopped_field : {S : Type 0} (goes : S → List story.StoryEvent → S → Type 0) (failures : S → ℕ) (p : Parts) (a : S) (h : Head) (f : FieldFault) → h.set < 256 → HeadLaws → has_ended p ≡ false → IsBetween p.fields → goes a [] a
-    → ((ds : List Dataset) → records.StandsAfter p.fields ds → IsHeadFault (limits_of p.fields) ds h f) → PartsRefuse goes failures p a [] (HeadRead h) (Some (of_field f)) a
+    → ((ds : List Dataset) → records.StandsAfter p.fields ds → IsHeadFault (limits_of p.fields) ds h f) → PartsRefuse goes failures (p, a) [] (HeadRead h) (Some (of_field f), a)
 stopped_field goes failures p a h f small laws last between g is =
     stopped_head goes failures p a a h (of_field f) [] laws last between g (quiet_field f.cause (failures a))
     (λ ds at. (inl (field_head laws.heads (limits_of p.fields) ds h f small at.fields.alive (is ds at.fields)), append-nil (text_so_far (object_of ds))))
 
 pub stopped_many : {S : Type 0} (goes : S → List story.StoryEvent → S → Type 0) (failures : S → ℕ) (p : Parts) (a : S) (h : Head) (checker : FieldsPlace) → HeadLaws → has_ended p ≡ false → IsBetween p.fields → goes a [] a
     → ((ds : List Dataset) → records.StandsAfter p.fields ds → records.StandsIn checker ds h []) → h.rec ≡ 8 → IsFullOfSubfiles p.object
-    → PartsRefuse goes failures p a [] (HeadRead h) (Some (too_many_on h)) a
+    → PartsRefuse goes failures (p, a) [] (HeadRead h) (Some (too_many_on h), a)
 stopped_many goes failures p a h checker laws last between g inside eight many =
     stopped_head goes failures p a a h (too_many_on h) [] laws last between g refl
     (λ ds at.
@@ -247,7 +247,7 @@ stopped_many goes failures p a h checker laws last between g inside eight many =
 
 pub stopped_size : {S : Type 0} (goes : S → List story.StoryEvent → S → Type 0) (failures : S → ℕ) (p : Parts) (a b : S) (h : Head) (checker : FieldsPlace) (fault : TokenFault) → HeadLaws → has_ended p ≡ false → IsBetween p.fields
     → ((ds : List Dataset) → records.StandsAfter p.fields ds → records.StandsIn checker ds h []) → (h.rec ≡ 8) ⊎ (h.rec ≡ 9) → (h.rec ≡ 8 → HasFewSubfiles p.object)
-    → RefusesBySize goes failures p.object p.message h a b fault → PartsRefuse goes failures p a [] (HeadRead h) (Some fault) b
+    → RefusesBySize goes failures p.object p.message h a b fault → PartsRefuse goes failures (p, a) [] (HeadRead h) (Some fault, b)
 stopped_size goes failures p a b h checker fault laws last between inside is few r =
     stopped_head goes failures p a b h fault r.more laws last between r.told
     (subst (λ (f : TokenFault). CountsFor f.cause (failures a) (failures b)) (sym r.is_fault) (counts_size r.cause (failures a) (failures b) r.calm))
@@ -264,7 +264,7 @@ stopped_size goes failures p a b h checker fault laws last between inside is few
 
 pub stopped_end : {S : Type 0} (goes : S → List story.StoryEvent → S → Type 0) (failures : S → ℕ) (p : Parts) (a b : S) (h : Head) (checker : FieldsPlace) (fault : TokenFault) → HeadLaws → has_ended p ≡ false → IsBetween p.fields
     → ((ds : List Dataset) → records.StandsAfter p.fields ds → records.StandsIn checker ds h []) → h.rec ≡ 9
-    → RefusesAtEnd goes failures p.object p.message h a b fault → PartsRefuse goes failures p a [] (HeadRead h) (Some fault) b
+    → RefusesAtEnd goes failures p.object p.message h a b fault → PartsRefuse goes failures (p, a) [] (HeadRead h) (Some fault, b)
 stopped_end goes failures p a b h checker fault laws last between inside nine r =
     let same : r.halted.why ≡ r.cause = sym (some-same r.halted.is_cause) in
     stopped_head goes failures p a b h fault r.halted.more laws last between r.halted.told
@@ -296,10 +296,10 @@ stopped_end goes failures p a b h checker fault laws last between inside nine r 
 pub stopped_subfile : {S : Type 0} (goes : S → List story.StoryEvent → S → Type 0) (failures : S → ℕ) (p : Parts) (a b : S) (h : Head) (checker : FieldsPlace) → HeadLaws → has_ended p ≡ false → IsBetween p.fields → goes a [] a
     → ((ds : List Dataset) → records.StandsAfter p.fields ds → records.StandsIn checker ds h []) → h.rec ≡ 8 → (fault : TokenFault)
     → RefusesSubfile goes failures p.object p.message h a b fault
-    → PartsRefuse goes failures p a [] (HeadRead h) (Some fault) b
+    → PartsRefuse goes failures (p, a) [] (HeadRead h) (Some fault, b)
 stopped_subfile goes failures p a b h checker laws last between g inside eight fault (inl (many, is, same)) =
-    subst (λ (s : _). PartsRefuse goes failures p a [] (HeadRead h) (Some fault) s) (sym same)
-    (subst (λ (f : TokenFault). PartsRefuse goes failures p a [] (HeadRead h) (Some f) a) (sym is) (stopped_many goes failures p a h checker laws last between g inside eight many))
+    subst (λ (s : _). PartsRefuse goes failures (p, a) [] (HeadRead h) (Some fault, s)) (sym same)
+    (subst (λ (f : TokenFault). PartsRefuse goes failures (p, a) [] (HeadRead h) (Some f, a)) (sym is) (stopped_many goes failures p a h checker laws last between g inside eight many))
 stopped_subfile goes failures p a b h checker laws last between g inside eight fault (inr (few, inl r)) =
     stopped_size goes failures p a b h checker fault laws last between inside (inl eight) (λ is. few) r
 stopped_subfile goes failures p a b h checker laws last between g inside eight fault (inr (few, inr r)) =
@@ -307,7 +307,7 @@ stopped_subfile goes failures p a b h checker laws last between g inside eight f
 
 pub stopped_last : {S : Type 0} (goes : S → List story.StoryEvent → S → Type 0) (failures : S → ℕ) (p : Parts) (a b : S) (h : Head) (checker : FieldsPlace) → HeadLaws → has_ended p ≡ false → IsBetween p.fields
     → ((ds : List Dataset) → records.StandsAfter p.fields ds → records.StandsIn checker ds h []) → h.rec ≡ 9 → (fault : TokenFault)
-    → RefusesObject goes failures p.object p.message h a b fault → PartsRefuse goes failures p a [] (HeadRead h) (Some fault) b
+    → RefusesObject goes failures p.object p.message h a b fault → PartsRefuse goes failures (p, a) [] (HeadRead h) (Some fault, b)
 stopped_last goes failures p a b h checker laws last between inside nine fault (inl r) =
     stopped_size goes failures p a b h checker fault laws last between inside (inr nine) (λ eight. absurd (let bad : 8 ≡ 9 = sym eight ∙ nine in omega (arith, bad))) r
 stopped_last goes failures p a b h checker laws last between inside nine fault (inr r) = stopped_end goes failures p a b h checker fault laws last between inside nine r

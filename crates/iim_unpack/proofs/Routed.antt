@@ -19,7 +19,7 @@ fails_for goes failures (Some cause) old octets k new a b h open' =
 
 -- what the reader of tags says of the octets that it used, of the parts
 pub has_advanced : {S : Type 0} (goes : S → List story.StoryEvent → S → Type 0) (failures : S → ℕ) (r : Result ℕ Fault) (old : Place) (piece : List ℕ) (new : Reader) (a b : Router S)
-    → OnOk r (TakesCalls new) → IfOk r (λ used. TakesPiece (Routes goes failures) TakesNext IsOver old piece new.place used a b)
+    → OnOk r (TakesCalls new) → IfOk r (λ used. TakesPiece (Routes goes failures) TakesNext IsOver (old, a) piece (new.place, b) used)
     → IfOk r (HasAdvanced goes failures (old, a.parts.now, a.sink.now) piece (new, b.parts.now, b.sink.now))
 has_advanced goes failures (Ok used) old piece new a b calls taken =
     record { takes_calls = calls; within = taken.within; advanced = record { more = taken.told.more; went = taken.told.told.2; brings = taken.told.brings }; onward = taken.onward }
@@ -27,7 +27,7 @@ has_advanced goes failures (Err fault) old piece new a b calls taken = tt
 
 -- whatever the reader of tags answers, the header has the room that it had
 pub same_room : {S : Type 0} (goes : S → List story.StoryEvent → S → Type 0) (failures : S → ℕ) (r : Result ℕ Fault) (old : Place) (octets : List ℕ) (new : Place) (a b : Router S)
-    → IfOk r (λ used. TakesPiece (Routes goes failures) TakesNext IsOver old octets new used a b) → IfErr r (λ fault. RefusesOne (Routes goes failures) (RefusesRoute goes failures) TakesNext old octets fault new a b)
+    → IfOk r (λ used. TakesPiece (Routes goes failures) TakesNext IsOver (old, a) octets (new, b) used) → IfErr r (λ fault. RefusesOne (Routes goes failures) (RefusesRoute goes failures) TakesNext (old, a) octets fault (new, b))
     → room_of b.parts.now.fields ≡ room_of a.parts.now.fields
 same_room goes failures (Ok used) old octets new a b taken bad = taken.told.told.3
 same_room goes failures (Err fault) old octets new a b taken bad = by (tag_cause_of fault.cause) bad.refused

@@ -72,8 +72,8 @@ subfile_went goes failures nothing joined heads messages closes p a b h xs field
 pub subfile_stopped : {S : Type 0} (goes : S → List story.StoryEvent → S → Type 0) (failures : S → ℕ) → ((a : S) → goes a [] a)
     → ((a b c : S) (xs ys : List story.StoryEvent) → goes a xs b → goes b ys c → goes a (xs ++ ys) c)
     → HeadLaws → MessageLaws → (p : Parts) (a b : S) (h : Head) (front : List ℕ) (octet : ℕ) (cause : MessageCause) (fields : FieldsPlace) (object : Option State) → Entered p h fields object
-    → MessageRefuses goes failures p.message a (map object_events.ObjectOctet front) (object_events.ObjectOctet octet) (Some cause) b
-    → PartsRefuse goes failures p a (HeadRead h ∷ map DataOctet front) (DataOctet octet) (Some (message_on h cause)) b
+    → MessageRefuses goes failures (p.message, a) (map object_events.ObjectOctet front) (object_events.ObjectOctet octet) (Some cause, b)
+    → PartsRefuse goes failures (p, a) (HeadRead h ∷ map DataOctet front) (DataOctet octet) (Some (message_on h cause), b)
 subfile_stopped goes failures nothing joined heads messages p a b h front octet cause fields object e halted =
     let p1 : Parts = inside_of p h fields object e in
     stopped_joined goes failures joined p p1 a a b (HeadRead h ∷ []) (map DataOctet front) (DataOctet octet) (Some (message_on h cause)) (tells_parts_in goes failures heads p a h fields object (nothing a) e)

@@ -46,8 +46,8 @@ tells_parts_joined goes failures joined p q r a b c xs ys h k = record {
 
 pub stopped_joined : {S : Type 0} (goes : S → List story.StoryEvent → S → Type 0) (failures : S → ℕ)
     → ((a b c : S) (xs ys : List story.StoryEvent) → goes a xs b → goes b ys c → goes a (xs ++ ys) c)
-    → (p q : Parts) (a b c : S) (xs ys : List DatasetEvent) (event : DatasetEvent) (refused : Option TokenFault) → TellsParts goes failures p a xs q b → PartsRefuse goes failures q b ys event refused c
-    → PartsRefuse goes failures p a (xs ++ ys) event refused c
+    → (p q : Parts) (a b c : S) (xs ys : List DatasetEvent) (event : DatasetEvent) (refused : Option TokenFault) → TellsParts goes failures p a xs q b → PartsRefuse goes failures (q, b) ys event (refused, c)
+    → PartsRefuse goes failures (p, a) (xs ++ ys) event (refused, c)
 stopped_joined goes failures joined p q a b c xs ys event refused h k = record {
   fault = k.fault;
   is_fault = k.is_fault;
@@ -85,7 +85,7 @@ tells_parts_whole goes failures old new h xs a nothing whole = record {
 
 -- the end of a dataset, of which no sink is told
 pub stopped_closed : {S : Type 0} (goes : S → List story.StoryEvent → S → Type 0) (failures : S → ℕ) (p : Parts) (a : S) (fault : TokenFault) → goes a [] a → NotClosed p fault
-    → PartsRefuse goes failures p a [] DatasetEnd (Some fault) a
+    → PartsRefuse goes failures (p, a) [] DatasetEnd (Some fault, a)
 stopped_closed goes failures p a fault g bad = record {
   fault = fault;
   is_fault = refl;

@@ -46,11 +46,12 @@ pub record NotClosed (old : Parts) (fault : TokenFault) : Type 0 where
   pub quiet : (n : ℕ) → CountsFor fault.cause n n
   pub why : (before : List DatasetEvent) (text : List ℕ) → AreInOrder (before ++ DatasetEnd ∷ []) → AreLed old before text → Refused (records.limits_of old.fields) before text DatasetEnd fault
 
--- The parts took the events and refused the next one, if they come in order.
-pub record PartsRefuse {S : Type 0} (goes : S → List story.StoryEvent → S → Type 0) (failures : S → ℕ) (old : Parts) (a : S) (events : List DatasetEvent) (event : DatasetEvent) (refused : Option TokenFault) (b : S) : Type 0 where
+-- The parts took the events and refused the next one, if they come in order. (Parts and sink before; what was refused, and the sink,
+-- after.)
+pub record PartsRefuse {S : Type 0} (goes : S → List story.StoryEvent → S → Type 0) (failures : S → ℕ) (old : Parts × S) (events : List DatasetEvent) (event : DatasetEvent) (new : Option TokenFault × S) : Type 0 where
   pub fault : TokenFault
-  pub is_fault : refused ≡ Some fault
+  pub is_fault : new.0 ≡ Some fault
   pub more : List ℕ
-  pub told : goes a (story.delivered more) b
-  pub counts : CountsFor fault.cause (failures a) (failures b)
-  pub why : (before : List DatasetEvent) (text : List ℕ) → AreInOrder ((before ++ events) ++ event ∷ []) → AreLed old before text → Refused (records.limits_of old.fields) (before ++ events) (text ++ more) event fault
+  pub told : goes old.1 (story.delivered more) new.1
+  pub counts : CountsFor fault.cause (failures old.1) (failures new.1)
+  pub why : (before : List DatasetEvent) (text : List ℕ) → AreInOrder ((before ++ events) ++ event ∷ []) → AreLed old.0 before text → Refused (records.limits_of old.0.fields) (before ++ events) (text ++ more) event fault

@@ -49,28 +49,29 @@ abbrev pub HasCauseAt : MessageCause → List ℕ → ObjectEvent → Type 0
 HasCauseAt cause octets (ObjectOctet b) = HasCause cause octets b
 HasCauseAt cause octets ObjectEnd = (cause ≡ Unfinished) × MessageDiesAt octets End
 
--- The reader took the events and refused the next one for this cause; the sink was told what is delivered of those.
-pub record MessageRefuses {S : Type 0} (goes : S → List story.StoryEvent → S → Type 0) (failures : S → ℕ) (old : Option Place) (a : S) (events : List ObjectEvent) (refused : ObjectEvent) (cause : Option MessageCause) (b : S) : Type 0 where
+-- The reader took the events and refused the next one for this cause; the sink was told what is delivered of those. (Message and sink
+-- before; the cause, and the sink, after.)
+pub record MessageRefuses {S : Type 0} (goes : S → List story.StoryEvent → S → Type 0) (failures : S → ℕ) (old : Option Place × S) (events : List ObjectEvent) (refused : ObjectEvent) (new : Option MessageCause × S) : Type 0 where
   pub why : MessageCause
-  pub is_cause : cause ≡ Some why
+  pub is_cause : new.0 ≡ Some why
   pub more : List ℕ
-  pub told : goes a (story.delivered more) b
-  pub counts : CountsCause (failures a) (failures b) why
-  pub leads : GoesSomewhere old (octets_in events) more
-  pub has_cause : (octets text : List ℕ) → StandsAt old octets text → HasCauseAt why (octets ++ octets_in events) refused
+  pub told : goes old.1 (story.delivered more) new.1
+  pub counts : CountsCause (failures old.1) (failures new.1) why
+  pub leads : GoesSomewhere old.0 (octets_in events) more
+  pub has_cause : (octets text : List ℕ) → StandsAt old.0 octets text → HasCauseAt why (octets ++ octets_in events) refused
 
 -- The message refused an octet of the run.
 abbrev pub RefusesOctet : {S : Type 0} → (S → List story.StoryEvent → S → Type 0) → (S → ℕ) → Option Place → S → List ℕ → Option MessageCause → S → ObjectFault → Type 0
 RefusesOctet goes failures old a run cause b (Size why) = ⊥
 RefusesOctet goes failures old a run cause b (Stopped stop) = (stop.taken < length run)
-    × MessageRefuses goes failures old a (map ObjectOctet (take stop.taken run)) (ObjectOctet (slice_index run stop.taken)) cause b
+    × MessageRefuses goes failures (old, a) (map ObjectOctet (take stop.taken run)) (ObjectOctet (slice_index run stop.taken)) (cause, b)
 
 -- The object refused a token of a head; or it took the end, and the message refused it. (The message and the sink before; why the message
 -- refused, and the sink, after.)
 abbrev pub RefusesEnd : {S : Type 0} → (S → List story.StoryEvent → S → Type 0) → (S → ℕ) → Option State → ObjectToken → Option Place × S
     → Option MessageCause × S → ObjectFault → Type 0
 RefusesEnd goes failures object token (old, a) (cause, b) (Size why) = Refuses object token why × ((more : List ℕ) × goes a (story.delivered more) b × (failures b ≡ failures a) × GoesSomewhere old [] more)
-RefusesEnd goes failures object token (old, a) (cause, b) (Stopped stop) = (token ≡ ObjectEnded) × LivesWith object token × MessageRefuses goes failures old a [] ObjectEnd cause b
+RefusesEnd goes failures object token (old, a) (cause, b) (Stopped stop) = (token ≡ ObjectEnded) × LivesWith object token × MessageRefuses goes failures (old, a) [] ObjectEnd (cause, b)
 
 -- The fault is the object's, and the sink was told nothing; or it is the message's at the end of the object.
 pub record RefusesBySize {S : Type 0} (goes : S → List story.StoryEvent → S → Type 0) (failures : S → ℕ) (object : Option State) (message : Option Place) (h : Head) (a b : S) (fault : TokenFault) : Type 0 where
@@ -86,7 +87,7 @@ pub record RefusesAtEnd {S : Type 0} (goes : S → List story.StoryEvent → S �
   pub token : head_token h.rec h.count ≡ ObjectEnded
   pub lives : LivesWith object (head_token h.rec h.count)
   pub cause : MessageCause
-  pub halted : MessageRefuses goes failures message a [] ObjectEnd (Some cause) b
+  pub halted : MessageRefuses goes failures (message, a) [] ObjectEnd (Some cause, b)
   pub is_fault : fault ≡ message_on h cause
 
 abbrev pub RefusesObject : {S : Type 0} → (S → List story.StoryEvent → S → Type 0) → (S → ℕ) → Option State → Option Place → Head → S → S → TokenFault → Type 0
@@ -112,4 +113,4 @@ PassesTo goes failures a events b = (a.message.ghost_name ≡ b.message.ghost_na
 
 abbrev pub HaltsAt : {S : Type 0} → (S → List story.StoryEvent → S → Type 0) → (S → ℕ) → ToMessage S → List ObjectEvent → ObjectEvent → ToMessage S → Type 0
 HaltsAt goes failures a events refused b = (a.message.ghost_name ≡ b.message.ghost_name) × (a.sink.ghost_name ≡ b.sink.ghost_name)
-    × (IsSome a.message.now → MessageRefuses goes failures a.message.now a.sink.now events refused b.cause b.sink.now)
+    × (IsSome a.message.now → MessageRefuses goes failures (a.message.now, a.sink.now) events refused (b.cause, b.sink.now))

@@ -65,8 +65,8 @@ tells_message_joined goes failures joined p q r a b c xs ys h k = record {
 
 pub message_refuses_joined : {S : Type 0} (goes : S → List story.StoryEvent → S → Type 0) (failures : S → ℕ)
     → ((a b c : S) (xs ys : List story.StoryEvent) → goes a xs b → goes b ys c → goes a (xs ++ ys) c)
-    → (p q : Option Place) (a b c : S) (xs ys : List ObjectEvent) (refused : ObjectEvent) (cause : Option MessageCause) → TellsMessage goes failures p a xs q b → MessageRefuses goes failures q b ys refused cause c
-    → MessageRefuses goes failures p a (xs ++ ys) refused cause c
+    → (p q : Option Place) (a b c : S) (xs ys : List ObjectEvent) (refused : ObjectEvent) (cause : Option MessageCause) → TellsMessage goes failures p a xs q b → MessageRefuses goes failures (q, b) ys refused (cause, c)
+    → MessageRefuses goes failures (p, a) (xs ++ ys) refused (cause, c)
 message_refuses_joined goes failures joined p q a b c xs ys refused cause h k = record {
   why = k.why;
   is_cause = k.is_cause;
@@ -110,7 +110,7 @@ tells_message_end goes failures old a some g whole = record {
 
 pub message_refuses_octet : {S : Type 0} (goes : S → List story.StoryEvent → S → Type 0) (failures : S → ℕ) (old : Option Place) (a b : S) (front : List ℕ) (octet : ℕ) (why : MessageCause) (more : List ℕ)
     → goes a (story.delivered more) b → CountsCause (failures a) (failures b) why → GoesSomewhere old front more
-    → ((octets text : List ℕ) → StandsAt old octets text → HasCause why (octets ++ front) octet) → MessageRefuses goes failures old a (map ObjectOctet front) (ObjectOctet octet) (Some why) b
+    → ((octets text : List ℕ) → StandsAt old octets text → HasCause why (octets ++ front) octet) → MessageRefuses goes failures (old, a) (map ObjectOctet front) (ObjectOctet octet) (Some why, b)
 message_refuses_octet goes failures old a b front octet why more told counts leads has = record {
   why = why;
   is_cause = refl;
@@ -127,7 +127,7 @@ leads_nowhere old octets text (place, is, leads) =
     (place, subst (λ (t : List ℕ). LeadsTo (octets ++ []) t place) (sym (append-nil text)) (subst (λ (o : List ℕ). LeadsTo o text place) (sym (append-nil octets)) leads))
 
 pub message_refuses_end : {S : Type 0} (goes : S → List story.StoryEvent → S → Type 0) (failures : S → ℕ) (old : Option Place) (a : S) (why : MessageCause) → IsSome old → why ≡ Unfinished → goes a [] a
-    → ((octets text : List ℕ) → StandsAt old octets text → MessageDiesAt octets End) → MessageRefuses goes failures old a [] ObjectEnd (Some why) a
+    → ((octets text : List ℕ) → StandsAt old octets text → MessageDiesAt octets End) → MessageRefuses goes failures (old, a) [] ObjectEnd (Some why, a)
 message_refuses_end goes failures old a why some is g dies = record {
   why = why;
   is_cause = refl;

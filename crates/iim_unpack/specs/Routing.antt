@@ -18,7 +18,7 @@ Routes goes failures a events b = (a.parts.ghost_name ≡ b.parts.ghost_name) ×
 
 abbrev pub RefusesRoute : {S : Type 0} → (S → List story.StoryEvent → S → Type 0) → (S → ℕ) → Router S → List DatasetEvent → DatasetEvent → Router S → Type 0
 RefusesRoute goes failures a events event b = (a.parts.ghost_name ≡ b.parts.ghost_name) × (a.sink.ghost_name ≡ b.sink.ghost_name)
-    × PartsRefuse goes failures a.parts.now a.sink.now events event b.refused b.sink.now × (room_of b.parts.now.fields ≡ room_of a.parts.now.fields)
+    × PartsRefuse goes failures (a.parts.now, a.sink.now) events event (b.refused, b.sink.now) × (room_of b.parts.now.fields ≡ room_of a.parts.now.fields)
 
 -- The parts take a head, or `left` octets.
 abbrev pub Takes : Parts → Option ℕ → Type 0

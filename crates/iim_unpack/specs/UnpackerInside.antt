@@ -43,7 +43,7 @@ pub record StuckInTag {S : Type 0} (goes : S → List story.StoryEvent → S →
 pub record StoppedAt {S : Type 0} (goes : S → List story.StoryEvent → S → Type 0) (failures : S → ℕ) (old : Place) (octets : List ℕ) (k : ℕ) (p : Parts) (a : S) (refused : Option TokenFault) (b : S) : Type 0 where
   pub more : List DatasetEvent
   pub event : DatasetEvent
-  pub stopped : PartsRefuse goes failures p a more event refused b
+  pub stopped : PartsRefuse goes failures (p, a) more event (refused, b)
   pub completes : (before : List ℕ) (events : List DatasetEvent) → LeadsTo count_octets before events old → Completes (before ++ take k octets) (slice_index octets k) (events ++ more) event
 
 -- Why octet k is refused: no tag continues with it, or the parts refused what it completes. (The place, the parts and the sink before;

@@ -10,6 +10,7 @@ ghost use Rattle.iim_object.specs.States.Reading.{EndsAs, LeadsOn, events_at};
 ghost use Rattle.wire_message.specs.States.Reading.{IsWhole};
 ghost use Rattle.iim_places.specs.Format.Refusals.{IsObjectFault, message_on, too_many_on};
 ghost use Rattle.iim_unpack.specs.Passed.{TellsMessage, HasFewSubfiles, RefusesSubfile};
+ghost use Rattle.iim_unpack.specs.PartSteps.{TakesHead, TakesData, TellsParts, TellsWhole, PartsRefuse, Closed, NotClosed}
 ghost use Rattle.iim_unpack.specs.PartSteps.{TakesHead, TakesData, TellsParts, TellsWhole, PartsRefuse, Closed, NotClosed};
 ghost use Rattle.iim_unpack.specs.States.Parts.{has_ended};
 ghost use Rattle.iim_unpack.specs.Routing.{HasEnded, TookWhole};
@@ -145,7 +146,7 @@ impl Parts {
         ensures went { OnOk result (TellsParts S.goes S.failures self.old sink.old (HeadRead head ∷ []) self.new
             sink.new) }
         ensures stopped { IfErr result (λ fault.
-            PartsRefuse S.goes S.failures self.old sink.old [] (HeadRead head) (Some fault) sink.new) }
+            PartsRefuse S.goes S.failures (self.old, sink.old) [] (HeadRead head) (Some fault, sink.new)) }
         ensures room { room_of self.new.fields ≡ room_of self.old.fields }
     {
         head_laws();
@@ -230,11 +231,12 @@ impl Parts {
     ) -> Result<Option<Step>, Halt>
         requires takes { TakesHead self.old }
         requires subfile { head.rec ≡ 8 }
-        ensures taken { IfOk result (TookWhole S.goes S.failures (self.old, sink.old) head octets.now (self.new, sink.new)) }
+        ensures taken { IfOk result (TookWhole S.goes S.failures (self.old, sink.old) head octets.now
+            (self.new, sink.new)) }
         ensures before { IfErr result (λ halt. halt.taken < length octets.now) }
         ensures stopped { IfErr result (λ halt.
-            PartsRefuse S.goes S.failures self.old sink.old (HeadRead head ∷ map DataOctet (take halt.taken octets.now))
-            (DataOctet (slice_index octets.now halt.taken)) (Some halt.fault) sink.new) }
+            PartsRefuse S.goes S.failures (self.old, sink.old) (HeadRead head ∷ map DataOctet (take halt.taken octets.now))
+            (DataOctet (slice_index octets.now halt.taken)) (Some halt.fault, sink.new)) }
         ensures room { room_of self.new.fields ≡ room_of self.old.fields }
     {
         head_laws();
@@ -267,11 +269,12 @@ impl Parts {
     ) -> Result<Option<Step>, Halt>
         requires takes { TakesHead self.old }
         requires count { head.count ≡ length octets.now }
-        ensures taken { IfOk result (TookWhole S.goes S.failures (self.old, sink.old) head octets.now (self.new, sink.new)) }
+        ensures taken { IfOk result (TookWhole S.goes S.failures (self.old, sink.old) head octets.now
+            (self.new, sink.new)) }
         ensures before { IfErr result (λ halt. halt.taken < length octets.now) }
         ensures stopped { IfErr result (λ halt.
-            PartsRefuse S.goes S.failures self.old sink.old (HeadRead head ∷ map DataOctet (take halt.taken octets.now))
-            (DataOctet (slice_index octets.now halt.taken)) (Some halt.fault) sink.new) }
+            PartsRefuse S.goes S.failures (self.old, sink.old) (HeadRead head ∷ map DataOctet (take halt.taken octets.now))
+            (DataOctet (slice_index octets.now halt.taken)) (Some halt.fault, sink.new)) }
         ensures room { room_of self.new.fields ≡ room_of self.old.fields }
     {
         match head.rec {
@@ -291,8 +294,8 @@ impl Parts {
             sink.new) }
         ensures before { IfErr result (λ halt. halt.taken < length run.now) }
         ensures stopped { IfErr result (λ halt.
-            PartsRefuse S.goes S.failures self.old sink.old (map DataOctet (take halt.taken run.now))
-            (DataOctet (slice_index run.now halt.taken)) (Some halt.fault) sink.new) }
+            PartsRefuse S.goes S.failures (self.old, sink.old) (map DataOctet (take halt.taken run.now))
+            (DataOctet (slice_index run.now halt.taken)) (Some halt.fault, sink.new)) }
         ensures room { room_of self.new.fields ≡ room_of self.old.fields }
     {
         message_laws();

@@ -93,16 +93,17 @@ IsFailed reader = reader.failed ≡ true
 abbrev pub StandsAt : Reader → List ℕ → List DatasetEvent → Type 0
 StandsAt reader octets events = LeadsTo count_octets octets events reader.place
 
--- All of the octets were taken, or those up to the end of the last dataset.
-pub record TakesPiece {D : Type 0} (goes : D → List DatasetEvent → D → Type 0) (stands : D → Option ℕ → Type 0) (ends : D → Type 0) (old : DatasetPlace) (octets : List ℕ) (new : DatasetPlace) (used : ℕ) (a b : D) : Type 0 where
-  pub is_place : IsPlace new
+-- All of the octets were taken, or those up to the end of the last dataset. (Place and sink, before and after.)
+pub record TakesPiece {D : Type 0} (goes : D → List DatasetEvent → D → Type 0) (stands : D → Option ℕ → Type 0) (ends : D → Type 0) (old : DatasetPlace × D) (octets : List ℕ) (new : DatasetPlace × D) (used : ℕ) : Type 0 where
+  pub is_place : IsPlace new.0
   pub within : used ≤ length octets
-  pub told : TellsSink goes old (take used octets) new a b
-  pub onward : TookAll stands ends new b (length octets) used
+  pub told : TellsSink goes old.0 (take used octets) new.0 old.1 new.1
+  pub onward : TookAll stands ends new.0 new.1 (length octets) used
 
--- One of the octets was refused: no tag can continue with it, or the sink stopped at what it completes.
-pub record RefusesOne {D : Type 0} (goes : D → List DatasetEvent → D → Type 0) (stops : D → List DatasetEvent → DatasetEvent → D → Type 0) (stands : D → Option ℕ → Type 0) (old : DatasetPlace) (octets : List ℕ) (fault : Fault) (new : DatasetPlace) (a b : D) : Type 0 where
-  pub is_place : IsPlace new
+-- One of the octets was refused: no tag can continue with it, or the sink stopped at what it completes. (Place and sink, before and
+-- after.)
+pub record RefusesOne {D : Type 0} (goes : D → List DatasetEvent → D → Type 0) (stops : D → List DatasetEvent → DatasetEvent → D → Type 0) (stands : D → Option ℕ → Type 0) (old : DatasetPlace × D) (octets : List ℕ) (fault : Fault) (new : DatasetPlace × D) : Type 0 where
+  pub is_place : IsPlace new.0
   pub before : fault.taken < length octets
-  pub refused : Refuses goes stops old octets fault new a b
-  pub onward : StillStands stands (tag_cause_of fault.cause) new b
+  pub refused : Refuses goes stops old.0 octets fault new.0 old.1 new.1
+  pub onward : StillStands stands (tag_cause_of fault.cause) new.0 new.1

@@ -5,6 +5,7 @@ ghost use Rattle.std.proofs.Common.{◌∙◌};
 ghost use Rattle.iim_object.specs.Format.Events.{ObjectOctet};
 ghost use Rattle.iim_object.specs.Format.Places.{head_token};
 ghost use Rattle.iim_object.specs.States.Reading.{LeadsOn, events_at};
+ghost use Rattle.iim_unpack.specs.Passed.{TellsMessage, MessageRefuses, PassesTo, HaltsAt, RefusesOctet, RefusesEnd, RefusesObject}
 ghost use Rattle.iim_unpack.specs.Passed.{TellsMessage, MessageRefuses, PassesTo, HaltsAt, RefusesOctet, RefusesEnd, RefusesObject};
 ghost use Rattle.iim_unpack.specs.Passing.{tells_message_nothing, tells_message_joined, message_refuses_joined};
 
@@ -133,8 +134,8 @@ pub(crate) fn pass_octets<S: StorySink>(
         message.new sink.new) }
     ensures before { IfErr result (λ fault. fault.taken < length run.now) }
     ensures refused { IfErr result (λ fault.
-        MessageRefuses S.goes S.failures message.old sink.old (map ObjectOctet (take fault.taken run.now))
-        (ObjectOctet (slice_index run.now fault.taken)) (Some fault.cause) sink.new) }
+        MessageRefuses S.goes S.failures (message.old, sink.old) (map ObjectOctet (take fault.taken run.now))
+        (ObjectOctet (slice_index run.now fault.taken)) (Some fault.cause, sink.new)) }
 {
     let mut to = ToMessage {
         message,
