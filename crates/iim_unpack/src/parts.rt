@@ -10,7 +10,6 @@ ghost use Rattle.iim_object.specs.States.Reading.{EndsAs, LeadsOn, events_at};
 ghost use Rattle.wire_message.specs.States.Reading.{IsWhole};
 ghost use Rattle.iim_places.specs.Format.Refusals.{IsObjectFault, message_on, too_many_on};
 ghost use Rattle.iim_unpack.specs.Passed.{TellsMessage, HasFewSubfiles, RefusesSubfile};
-ghost use Rattle.iim_unpack.specs.PartSteps.{TakesHead, TakesData, TellsParts, TellsWhole, PartsRefuse, Closed, NotClosed}
 ghost use Rattle.iim_unpack.specs.PartSteps.{TakesHead, TakesData, TellsParts, TellsWhole, PartsRefuse, Closed, NotClosed};
 ghost use Rattle.iim_unpack.specs.States.Parts.{has_ended};
 ghost use Rattle.iim_unpack.specs.Routing.{HasEnded, TookWhole};

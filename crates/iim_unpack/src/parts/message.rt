@@ -5,7 +5,6 @@ ghost use Rattle.std.proofs.Common.{◌∙◌};
 ghost use Rattle.iim_object.specs.Format.Events.{ObjectOctet};
 ghost use Rattle.iim_object.specs.Format.Places.{head_token};
 ghost use Rattle.iim_object.specs.States.Reading.{LeadsOn, events_at};
-ghost use Rattle.iim_unpack.specs.Passed.{TellsMessage, MessageRefuses, PassesTo, HaltsAt, RefusesOctet, RefusesEnd, RefusesObject}
 ghost use Rattle.iim_unpack.specs.Passed.{TellsMessage, MessageRefuses, PassesTo, HaltsAt, RefusesOctet, RefusesEnd, RefusesObject};
 ghost use Rattle.iim_unpack.specs.Passing.{tells_message_nothing, tells_message_joined, message_refuses_joined};
 
