@@ -1,6 +1,6 @@
 //! The lines of `check`.
 
-ghost use Rattle.std.specs.Prelude.{◌≡◌, ◌++◌, IfErr, IfSome, OnOk};
+ghost use Rattle.std.specs.Prelude.{◌≡◌, ◌++◌, IfErr, OnOk};
 ghost use Rattle.iim_dataset.specs.States.Devices.{Wrote};
 ghost use Rattle.iim_commands.specs.Format.WrittenListings.{IsSaid, IsUnsaid};
 ghost use Rattle.iim_commands.specs.States.Holding.{HasPut, HoldsNothing};
@@ -12,10 +12,9 @@ use crate::fault::CommandFault;
 use crate::status::FAILED;
 use iim_dataset::device_laws::texts_join;
 use iim_dataset::{Target, put};
+use iim_script::push_printed;
 use iim_unpack::Refusal;
 use std::alloc::AllocError;
-use std::fmt::Display;
-use std::io::Write;
 
 /// The line in place of that of one envelope too many.
 pub const TOO_MANY: &str = "too many envelopes\n";
@@ -66,16 +65,6 @@ pub fn tell<E: Target>(errors: &mut E, text: &[u8], status: u8) -> u8
     match put(errors, text) {
         Ok(()) => status,
         Err(_) => FAILED,
-    }
-}
-
-/// Adds what a value is printed as.
-pub fn push_printed<D: Display + Drop>(text: &mut Vec<u8>, value: D) -> Result<(), AllocError>
-    ensures { OnOk result (IfSome (D.output value) (λ words. text.new.items ≡ text.old.items ++ words)) }
-{
-    match text.write_fmt(value) {
-        Ok(()) => Ok(()),
-        Err(_) => Err(AllocError),
     }
 }
 

@@ -2,10 +2,9 @@
 
 ghost use Rattle.std.specs.Prelude.{◌≡◌, ◌++◌, [], ◌∷◌, if◌then◌else◌, OnOk};
 ghost use Rattle.iim_dataset.specs.Format.Shown.{escape};
-ghost use Rattle.iim_script.specs.Format.Printed.{after_space};
 ghost use Rattle.iim_commands.specs.Format.Shown.{is_hidden, next_of, shown_name, spell_control};
 
-use iim_dataset::{push_escape, push_shown};
+use iim_dataset::push_escape;
 use std::alloc::AllocError;
 
 /// Whether these two octets are a control character from U+0080 to U+009F.
@@ -58,15 +57,4 @@ pub fn push_name(text: &mut Vec<u8>, name: &str) -> Result<(), AllocError>
         rest = after;
     }
     Ok(())
-}
-
-/// Adds a space and the octets as they are shown, or nothing where there are none.
-pub fn push_after_space(text: &mut Vec<u8>, octets: &[u8]) -> Result<(), AllocError>
-    ensures { OnOk result (text.new.items ≡ text.old.items ++ after_space octets.now) }
-{
-    if octets.is_empty() {
-        return Ok(());
-    }
-    text.push(b' ')?;
-    push_shown(text, octets)
 }

@@ -9,10 +9,12 @@
 mod fault;
 pub mod form;
 pub mod laws;
+mod listing;
 mod refusal;
 mod ticket;
 
 pub use fault::{TokenFault, message_on, of_field, size_on, too_many_on};
+pub use listing::MAX_ENVELOPES;
 pub use refusal::{Cause, Layer, Refusal};
 pub use ticket::fault::TicketFault;
 pub use ticket::fields::TicketFields;

@@ -2,7 +2,8 @@
 //! and the story.
 //!
 //! Stands on `iim_fields`, `wire_message` and `wire_story`, which check what the lines tell. The crate above uses
-//! [`read_script`]: it answers what a script tells, or the first fault by line.
+//! [`read_script`]: it answers what a script tells, or the first fault by line; and [`push_fields`], [`push_message`] and
+//! [`push_trailer`], which print the lines of one.
 #![tactic(auto)]
 
 mod fault;
@@ -11,6 +12,7 @@ pub mod laws;
 mod line;
 mod message;
 mod number;
+mod printer;
 mod reading;
 mod rest;
 mod script;
@@ -18,5 +20,6 @@ mod shown;
 mod story;
 
 pub use fault::{ScriptCause, ScriptFault};
+pub use printer::{push_fields, push_message, push_printed, push_trailer};
 pub use reading::{MAX_SCRIPT, read_script};
 pub use script::Script;

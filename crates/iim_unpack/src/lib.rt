@@ -11,17 +11,16 @@
 
 mod intake;
 pub mod laws;
-mod listing;
 mod parts;
 mod pieces;
 mod ticket;
 mod unpacker;
 
 pub use iim_places::{
-    Cause, Layer, Refusal, TicketFault, TicketFields, TicketParts, TicketPhase, split_ticket,
+    Cause, Layer, MAX_ENVELOPES, Refusal, TicketFault, TicketFields, TicketParts, TicketPhase,
+    split_ticket,
 };
 pub use intake::{Fed, Intake, IntakeFault};
-pub use listing::MAX_ENVELOPES;
 pub use pieces::unpack_pieces;
 pub use ticket::spelling::SaveFault;
 pub use unpacker::{Progress, Unpacked, UnpackedRef, Unpacker};

@@ -3,7 +3,7 @@ use Rattle.std.specs.List.{flat_map}
 use Rattle.iim_dataset.specs.Format.Datasets.{Dataset}
 use Rattle.iim_fields.specs.States.Walks.{rest_of}
 use Rattle.iim_script.specs.Format.Printed.{field_line}
-use Rattle.iim_commands.proofs.show.push_fields.Given as goal
+use Rattle.iim_script.proofs.printer.push_fields.Given as goal
 
 -- some datasets are shown
 abbrev pub invariant-loop-rec : goal.invariant-loop-rec

@@ -4,7 +4,7 @@ use Rattle.std.proofs.lemmas.List.{append-nil}
 use Rattle.iim_dataset.specs.Format.Datasets.{Dataset}
 use Rattle.iim_fields.specs.States.Walks.{rest_of}
 use Rattle.iim_script.specs.Format.Printed.{field_line}
-use Rattle.iim_commands.proofs.show.push_fields.Goals as goal
+use Rattle.iim_script.proofs.printer.push_fields.Goals as goal
 
 shown_one : (done : List Dataset) (d : Dataset) → flat_map field_line (done ++ d ∷ []) ≡ flat_map field_line done ++ field_line d
 shown_one [] d = append-nil (field_line d)

@@ -1,0 +1,105 @@
+//! The lines of a script, printed: those that `show` prints.
+
+ghost use Rattle.std.specs.Prelude.{◌≡◌, ◌++◌, ◌∷◌, IfSome, OnOk, codes};
+ghost use Rattle.std.specs.List.{flat_map};
+ghost use Rattle.iim_dataset.specs.Format.Characters.{sp};
+ghost use Rattle.iim_script.specs.Format.Printed.{after_space, field_line, message_line, trailer_line};
+
+use iim_dataset::{DatasetName, push_shown};
+use iim_fields::EnvelopeRef;
+use std::alloc::AllocError;
+use std::fmt::Display;
+use std::io::Write;
+use wire_message::MessageHead;
+
+/// Adds what a value is printed as. An error says that memory was refused.
+pub fn push_printed<D: Display + Drop>(text: &mut Vec<u8>, value: D) -> Result<(), AllocError>
+    ensures { OnOk result (IfSome (D.output value) (λ words. text.new.items ≡ text.old.items ++ words)) }
+{
+    match text.write_fmt(value) {
+        Ok(()) => Ok(()),
+        Err(_) => Err(AllocError),
+    }
+}
+
+/// Adds a space and the octets as they are shown, or nothing where there are none.
+fn push_after_space(text: &mut Vec<u8>, octets: &[u8]) -> Result<(), AllocError>
+    ensures { OnOk result (text.new.items ≡ text.old.items ++ after_space octets.now) }
+{
+    if octets.is_empty() {
+        return Ok(());
+    }
+    text.push(b' ')?;
+    push_shown(text, octets)
+}
+
+/// Adds the line of a dataset.
+fn push_field(text: &mut Vec<u8>, name: DatasetName, octets: &[u8]) -> Result<(), AllocError>
+    ensures { OnOk result (text.new.items ≡ text.old.items
+        ++ field_line (record { rec = name.rec; set = name.set; octets = octets.now })) }
+{
+    push_printed(text, name)?;
+    push_after_space(text, octets)?;
+    text.push(b'\n')?;
+    Ok(())
+}
+
+/// Adds the lines of all datasets of an envelope. An error says that memory was refused.
+pub fn push_fields(text: &mut Vec<u8>, envelope: &EnvelopeRef<'_>) -> Result<(), AllocError>
+    ensures { OnOk result (text.new.items ≡ text.old.items ++ flat_map field_line envelope.now) }
+{
+    let mut fields = envelope.fields();
+    while let Some((rec, set, octets)) = fields.next() {
+        push_field(text, DatasetName { rec, set }, octets)?;
+    }
+    Ok(())
+}
+
+/// Adds a space and a word of the header.
+fn push_word(text: &mut Vec<u8>, word: &[u8]) -> Result<(), AllocError>
+    ensures { OnOk result (text.new.items ≡ text.old.items ++ sp ∷ word.now) }
+{
+    text.push(b' ')?;
+    text.extend_from_slice(word)
+}
+
+/// Adds the first words of the message's header.
+fn push_first_words(text: &mut Vec<u8>, head: &MessageHead) -> Result<(), AllocError>
+    ensures { OnOk result (text.new.items ≡ text.old.items
+        ++ (codes "message" ++ (sp ∷ head.now.source ++ (sp ∷ head.now.number ++ sp ∷ head.now.priority)))) }
+{
+    text.extend_from_slice(b"message")?;
+    push_word(text, head.source())?;
+    push_word(text, head.number())?;
+    push_word(text, head.priority())
+}
+
+/// Adds the last words of the message's header, its info, and the end of the line.
+fn push_last_words(text: &mut Vec<u8>, head: &MessageHead) -> Result<(), AllocError>
+    ensures { OnOk result (text.new.items ≡ text.old.items
+        ++ (sp ∷ head.now.category ++ (sp ∷ head.now.words ++ (after_space head.now.info ++ codes "\n")))) }
+{
+    push_word(text, head.category())?;
+    push_word(text, head.words())?;
+    push_after_space(text, head.info())?;
+    text.push(b'\n')?;
+    Ok(())
+}
+
+/// Adds the line of the message's header. An error says that memory was refused.
+pub fn push_message(text: &mut Vec<u8>, head: &MessageHead) -> Result<(), AllocError>
+    ensures { OnOk result (text.new.items ≡ text.old.items ++ message_line head.now) }
+{
+    push_first_words(text, head)?;
+    push_last_words(text, head)
+}
+
+/// Adds the line of the message's trailer. An error says that memory was refused.
+pub fn push_trailer(text: &mut Vec<u8>, trailer: &[u8]) -> Result<(), AllocError>
+    ensures { OnOk result (text.new.items ≡ text.old.items ++ trailer_line trailer.now) }
+{
+    text.extend_from_slice(b"trailer")?;
+    push_after_space(text, trailer)?;
+    text.push(b'\n')?;
+    Ok(())
+}
