@@ -1,10 +1,9 @@
 //! Calls of the object: subfiles written.
 
 use crate::outcome::{Trouble, right};
-use iim_dataset::Trouble as DeviceTrouble;
 use iim_object::{Plan, Size, SubfileBuffer, SubfileWriter};
 use std::alloc::Global;
-use trials::TrialWriter;
+use trials::{TrialWriter, Trouble as DeviceTrouble};
 use worked::{STORY, STORY_CONFIRMED, STORY_OBJECT};
 
 /// A writer that takes no memory, and never fails.
