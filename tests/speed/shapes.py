@@ -67,10 +67,14 @@ def write_numbered(path, envelopes):
 
 
 def command(words):
-    """The program that the words of a command line name: this repository's own where they name none. An option tells how it is used."""
+    """The program that the words of a command line name: this repository's own, built, where they name none. An option tells how it is used."""
     if len(words) > 1 and words[1].startswith("-"):
         sys.exit(sys.modules["__main__"].__doc__)
-    return os.path.abspath(words[1]) if len(words) > 1 else f"{TOP}/iimwire"
+    if len(words) > 1:
+        return os.path.abspath(words[1])
+    # (`./iimwire` is a script, which builds the program where it is not there or is of older sources)
+    subprocess.run([f"{TOP}/iimwire", "check"], stdin=subprocess.DEVNULL, check=True)
+    return f"{TOP}/crates/iimwire/out/iimwire"
 
 
 def reader(folder):

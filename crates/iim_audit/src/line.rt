@@ -9,7 +9,7 @@ use itoa::{Buffer, Integer};
 use std::marker::Model;
 
 /// The most octets of a line, or more.
-const ROOM: usize = 272;
+pub(crate) const ROOM: usize = 272;
 
 /// A line of a report, as it is printed. It takes no memory. Contracts see it as the list of its octets.
 #[derive(Drop)]
@@ -44,7 +44,7 @@ impl ReportLine {
 
     /// Adds octets.
     pub(crate) fn push(&mut self, octets: &[u8])
-        requires { length self.old + length octets.now ≤ 272 }
+        requires { length self.old + length octets.now ≤ ROOM }
         ensures octets { self.new ≡ self.old ++ octets.now }
         ensures len { length self.new ≡ length self.old + length octets.now }
     {
@@ -53,7 +53,7 @@ impl ReportLine {
 
     /// Adds a number.
     pub(crate) fn push_number<I: Integer>(&mut self, number: I)
-        requires { length self.old + I.MAX_STR_LEN ≤ 272 }
+        requires { length self.old + I.MAX_STR_LEN ≤ ROOM }
         ensures octets { self.new ≡ self.old ++ I.text number }
         ensures len { length self.new ≤ length self.old + I.MAX_STR_LEN }
     {
@@ -63,7 +63,7 @@ impl ReportLine {
 
     /// Adds an octet as it is shown.
     fn push_shown_octet(&mut self, octet: u8)
-        requires { length self.old + 4 ≤ 272 }
+        requires { length self.old + 4 ≤ ROOM }
         ensures octets { self.new ≡ self.old ++ shown_octet octet }
         ensures len { length self.new ≤ length self.old + 4 }
     {
@@ -76,7 +76,7 @@ impl ReportLine {
 
     /// Adds octets as they are shown.
     pub(crate) fn push_shown(&mut self, octets: &[u8])
-        requires { length self.old + 4 * length octets.now ≤ 272 }
+        requires { length self.old + 4 * length octets.now ≤ ROOM }
         ensures octets { self.new ≡ self.old ++ shown octets.now }
         ensures len { length self.new ≤ length self.old + 4 * length octets.now }
     {

@@ -6,14 +6,14 @@ ghost use Rattle.iim_dataset.specs.Format.Shown.{number_or_dash};
 ghost use Rattle.iim_audit.specs.Lines.{IsShort};
 
 use crate::copy::CopyState;
-use crate::line::ReportLine;
+use crate::line::{ROOM, ReportLine};
 use crate::report::Report;
 use crate::row::AuditRow;
 use std::alloc::{AllocError, Global};
 
 /// Adds a number of seconds, or `-` where there is none.
 fn push_seconds(line: &mut ReportLine, seconds: Option<i64>)
-    requires { length line.old + 20 ≤ 272 }
+    requires { length line.old + 20 ≤ ROOM }
     ensures octets { line.new ≡ line.old ++ seconds_or_dash seconds }
     ensures len { length line.new ≤ length line.old + 20 }
 {
@@ -25,7 +25,7 @@ fn push_seconds(line: &mut ReportLine, seconds: Option<i64>)
 
 /// Adds a number, or `-` where there is none.
 fn push_number_or_dash(line: &mut ReportLine, number: Option<u64>)
-    requires { length line.old + 20 ≤ 272 }
+    requires { length line.old + 20 ≤ ROOM }
     ensures octets { line.new ≡ line.old ++ number_or_dash number }
     ensures len { length line.new ≤ length line.old + 20 }
 {

@@ -65,6 +65,10 @@ capital_a = 0x41
 abbrev pub backslash : ℕ
 backslash = 0x5c
 
+-- a
+abbrev pub small_a : ℕ
+small_a = 0x61
+
 -- x
 abbrev pub small_x : ℕ
 small_x = 0x78

@@ -1,12 +1,14 @@
 -- Octets as text: printable ones as they are, and the others by escapes.
-use Rattle.std.specs.Prelude.{◌≡◌, ◌≢◌, ℕ, ◌+◌, ◌*◌, ◌≤◌, ◌⊎◌, List, [], ◌∷◌, ◌++◌}
-use Rattle.iim_dataset.specs.Format.Characters.{sp, backslash, small_x}
+use Rattle.std.specs.Prelude.{◌≡◌, ◌≢◌, ℕ, ◌+◌, ◌*◌, ◌<◌, ◌≤◌, ◌⊎◌, List, [], ◌∷◌, ◌++◌}
+use Rattle.iim_dataset.specs.Format.Characters.{sp, digit_zero, capital_a, small_a, backslash, small_x}
 
--- The digit has this value in hexadecimal, in either case.
+-- The digit is one of so many from `first` on, of which the first has the value `least`, and the digit this value.
+abbrev pub IsDigitFrom : ℕ → ℕ → ℕ → ℕ → ℕ → Type 0
+IsDigitFrom first least many digit value = (first ≤ digit) × (digit < first + many) × (digit + least ≡ first + value)
+
+-- The digit has this value in hexadecimal: ten octets from 0 on, six from A on, or six from a on.
 abbrev pub IsHexDigit : ℕ → ℕ → Type 0
-IsHexDigit digit value =
-    ((48 ≤ digit) × (digit ≤ 57) × (digit ≡ value + 48))
-    ⊎ (((65 ≤ digit) × (digit ≤ 70) × (digit ≡ value + 55)) ⊎ ((97 ≤ digit) × (digit ≤ 102) × (digit ≡ value + 87)))
+IsHexDigit digit value = IsDigitFrom digit_zero 0 10 digit value ⊎ (IsDigitFrom capital_a 10 6 digit value ⊎ IsDigitFrom small_a 10 6 digit value)
 
 -- The octet has these two hexadecimal digits.
 abbrev pub IsOfDigits : ℕ → ℕ → ℕ → Type 0
